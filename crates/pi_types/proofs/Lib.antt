@@ -1,0 +1,13 @@
+pub mod GoalCells
+pub mod GoalPlaces
+pub mod TermLemmas
+pub mod TraceLemmas
+pub mod BelowLemmas
+pub mod CutLemmas
+pub mod OrderLemmas
+pub mod VariableLemmas
+pub mod CopyLemmas
+pub mod MatchLemmas
+pub mod ValueLemmas
+pub mod BindingLemmas
+pub mod NameLemmas

@@ -1,0 +1,146 @@
+-- The variables of a term as a list, and what a substitution does to a term.
+use Rattle.std.proofs.Common.{◌≡◌, ◌⊎◌, ℕ, ◌==◌, Bool, true, not, List, [], ◌∷◌, ◌++◌, filter, refl, ap, sym, ◌∙◌, subst, inl, inr}
+use Rattle.std.proofs.lemmas.Bool.{cases_Bool, eqb-true}
+use Rattle.pi_types.specs.Tree.{Tree, var, int, atom, comp, Trees, no_trees, tree}
+use Rattle.pi_types.specs.Variables.{occurrences, occurrences_all, firsts, IsGround, Occurs, OccursInAny}
+use Rattle.pi_types.specs.Substitution.{instance, instances, after, SubstitutionComposes, GroundStays, OnlyItsVariablesCount}
+
+-- ---- numbers in a list
+
+abbrev pub Has : List ℕ → ℕ → Type 0
+Has [] n = ⊥
+Has (m ∷ ms) n = (m ≡ n) ⊎ Has ms n
+
+pub Has-append_left : (xs ys : List ℕ) (n : ℕ) → Has xs n → Has (xs ++ ys) n
+Has-append_left [] ys n h = absurd h
+Has-append_left (x ∷ xs) ys n (inl e) = inl e
+Has-append_left (x ∷ xs) ys n (inr h) = inr (Has-append_left xs ys n h)
+
+pub Has-append_right : (xs ys : List ℕ) (n : ℕ) → Has ys n → Has (xs ++ ys) n
+Has-append_right [] ys n h = h
+Has-append_right (x ∷ xs) ys n h = inr (Has-append_right xs ys n h)
+
+pub Has-append_cases : (xs ys : List ℕ) (n : ℕ) → Has (xs ++ ys) n → Has xs n ⊎ Has ys n
+Has-append_cases [] ys n h = inr h
+Has-append_cases (x ∷ xs) ys n (inl e) = inl (inl e)
+Has-append_cases (x ∷ xs) ys n (inr h) = elim (Has-append_cases xs ys n h) [ inl k ↦ inl (inr k) | inr k ↦ inr k ]
+
+pub Has-filter : (p : ℕ → Bool) (xs : List ℕ) (n : ℕ) → p n ≡ true → Has xs n → Has (filter p xs) n
+Has-filter p [] n e h = absurd h
+Has-filter p (x ∷ xs) n e (inl same) = rw (ap p same ∙ e) (inl same)
+Has-filter p (x ∷ xs) n e (inr h) = elim (cases_Bool (p x)) [ inl hit ↦ rw hit (inr (Has-filter p xs n e h)) | inr miss ↦ rw miss (Has-filter p xs n e h) ]
+
+pub Has-from_filter : (p : ℕ → Bool) (xs : List ℕ) (n : ℕ) → Has (filter p xs) n → Has xs n × (p n ≡ true)
+Has-from_filter p [] n h = absurd h
+Has-from_filter p (x ∷ xs) n h = elim (cases_Bool (p x)) [
+  | inl hit ↦
+      let k : (x ≡ n) ⊎ Has (filter p xs) n = rw hit at h in
+      elim k [
+        | inl same ↦ (inl same, ap p (sym same) ∙ hit)
+        | inr rest ↦ let r : Has xs n × (p n ≡ true) = Has-from_filter p xs n rest in (inr r.0, r.1)
+      ]
+  | inr miss ↦
+      let k : Has (filter p xs) n = rw miss at h in
+      let r : Has xs n × (p n ≡ true) = Has-from_filter p xs n k in (inr r.0, r.1)
+]
+
+pub Has-firsts : (xs : List ℕ) (n : ℕ) → Has xs n → Has (firsts xs) n
+unfolding firsts
+Has-firsts [] n h = absurd h
+Has-firsts (x ∷ xs) n (inl e) = inl e
+Has-firsts (x ∷ xs) n (inr h) = elim (cases_Bool (n == x)) [
+  | inl hit ↦ inl (sym (eqb-true n x hit))
+  | inr miss ↦ inr (Has-filter (λ m. not (m == x)) (firsts xs) n (ap not miss) (Has-firsts xs n h))
+]
+
+pub Has-from_firsts : (xs : List ℕ) (n : ℕ) → Has (firsts xs) n → Has xs n
+unfolding firsts
+Has-from_firsts [] n h = absurd h
+Has-from_firsts (x ∷ xs) n (inl e) = inl e
+Has-from_firsts (x ∷ xs) n (inr h) = inr (Has-from_firsts xs n (Has-from_filter (λ m. not (m == x)) (firsts xs) n h).0)
+
+-- ---- variables that occur in a term
+
+mutual
+  unfolding occurrences Occurs
+
+  pub Has-from_occurs : (t : Tree) (n : ℕ) → Occurs n t → Has (occurrences t) n
+  Has-from_occurs (var m) n h = inl h
+  Has-from_occurs (int m) n h = absurd h
+  Has-from_occurs (atom name) n h = absurd h
+  Has-from_occurs (comp name ts) n h = Has-from_occurs_any ts n h
+
+  Has-from_occurs_any : (ts : Trees) (n : ℕ) → OccursInAny n ts → Has (occurrences_all ts) n
+  Has-from_occurs_any no_trees n h = absurd h
+  Has-from_occurs_any (tree t ts) n (inl h) = Has-append_left (occurrences t) (occurrences_all ts) n (Has-from_occurs t n h)
+  Has-from_occurs_any (tree t ts) n (inr h) = Has-append_right (occurrences t) (occurrences_all ts) n (Has-from_occurs_any ts n h)
+
+mutual
+  unfolding occurrences Occurs
+
+  pub occurs_from_Has : (t : Tree) (n : ℕ) → Has (occurrences t) n → Occurs n t
+  occurs_from_Has (var m) n (inl e) = e
+  occurs_from_Has (var m) n (inr h) = absurd h
+  occurs_from_Has (int m) n h = absurd h
+  occurs_from_Has (atom name) n h = absurd h
+  occurs_from_Has (comp name ts) n h = occurs_any_from_Has ts n h
+
+  occurs_any_from_Has : (ts : Trees) (n : ℕ) → Has (occurrences_all ts) n → OccursInAny n ts
+  occurs_any_from_Has no_trees n h = absurd h
+  occurs_any_from_Has (tree t ts) n h = elim (Has-append_cases (occurrences t) (occurrences_all ts) n h) [
+    | inl k ↦ inl (occurs_from_Has t n k)
+    | inr k ↦ inr (occurs_any_from_Has ts n k)
+  ]
+
+pub none_occurs : (t : Tree) (n : ℕ) → IsGround t → Occurs n t → ⊥
+none_occurs t n ground h = let P : List ℕ → Type 0 = λ ns. Has ns n in subst P ground (Has-firsts (occurrences t) n (Has-from_occurs t n h))
+
+-- ---- substitution
+
+mutual
+  unfolding instance Occurs
+
+  pub only_its_variables_count : OnlyItsVariablesCount
+  only_its_variables_count r s (var n) same = same n refl
+  only_its_variables_count r s (int n) same = refl
+  only_its_variables_count r s (atom name) same = refl
+  only_its_variables_count r s (comp name ts) same = ap (comp name) (only_their_variables_count r s ts same)
+
+  only_their_variables_count : (r s : ℕ → Tree) (ts : Trees) → ((n : ℕ) → OccursInAny n ts → r n ≡ s n) → instances r ts ≡ instances s ts
+  only_their_variables_count r s no_trees same = refl
+  only_their_variables_count r s (tree t ts) same =
+      let this : instance r t ≡ instance s t = only_its_variables_count r s t (λ n h. same n (inl h)) in
+      let rest : instances r ts ≡ instances s ts = only_their_variables_count r s ts (λ n h. same n (inr h)) in
+      cc
+
+mutual
+  unfolding instance
+
+  pub instance-var : (t : Tree) → instance var t ≡ t
+  instance-var (var n) = refl
+  instance-var (int n) = refl
+  instance-var (atom name) = refl
+  instance-var (comp name ts) = ap (comp name) (instances-var ts)
+
+  instances-var : (ts : Trees) → instances var ts ≡ ts
+  instances-var no_trees = refl
+  instances-var (tree t ts) = let this : instance var t ≡ t = instance-var t in let rest : instances var ts ≡ ts = instances-var ts in cc
+
+mutual
+  unfolding instance
+
+  pub substitution : SubstitutionComposes
+  substitution r s (var n) = refl
+  substitution r s (int n) = refl
+  substitution r s (atom name) = refl
+  substitution r s (comp name ts) = ap (comp name) (substitutions r s ts)
+
+  substitutions : (r s : ℕ → Tree) (ts : Trees) → instances r (instances s ts) ≡ instances (after r s) ts
+  substitutions r s no_trees = refl
+  substitutions r s (tree t ts) =
+      let this : instance r (instance s t) ≡ instance (after r s) t = substitution r s t in
+      let rest : instances r (instances s ts) ≡ instances (after r s) ts = substitutions r s ts in
+      cc
+
+pub ground_stays : GroundStays
+ground_stays s t ground = only_its_variables_count s var t (λ n h. absurd (none_occurs t n ground h)) ∙ instance-var t

@@ -1,0 +1,17 @@
+pub mod Tree
+pub mod Domain
+pub mod TermCells
+pub mod GoalTree
+pub mod GoalCells
+pub mod Trace
+pub mod Control
+pub mod Depth
+pub mod TraceLaws
+pub mod Order
+pub mod Variables
+pub mod Substitution
+pub mod Copy
+pub mod Places
+pub mod Value
+pub mod PatternTree
+pub mod Match

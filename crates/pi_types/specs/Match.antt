@@ -1,0 +1,87 @@
+-- One-way matching: the slots under which a pattern is a given term (A User's Guide to Picat, 'Predicates and
+-- Functions': a call matches a head if it is an instance of it). Its variables are never bound, so a variable of the
+-- term matches only a slot. A slot that occurs twice, or is filled before, takes an identical term alone.
+use Rattle.std.specs.Prelude.{◌≡◌, ◌↔◌, ℕ, nat_lt, cond, Option, Some, None, length, slice_set, option_and_then}
+use Rattle.std.specs.Ordering.{is_eq}
+use Rattle.pi_types.specs.Tree.{Tree, var, int, atom, comp, Trees, no_trees, tree}
+use Rattle.pi_types.specs.Places.{Places, held}
+use Rattle.pi_types.specs.Order.{name_order, identical}
+use Rattle.pi_types.specs.PatternTree.{PatternTree, slot, exact_int, exact_atom, compound, named, PatternTrees, no_patterns, pattern, HasSlot}
+
+abbrev pub Slots : Type 0
+Slots = Places
+
+-- a slot takes a term, where it held the first one or nothing
+abbrev pub taken : Option Tree → Slots → ℕ → Tree → Option Slots
+taken (Some u) s k t = cond (identical u t) (Some s) None
+taken None s k t = cond (nat_lt k (length s)) (Some (slice_set s k (Some t))) None
+
+abbrev pub filled : ℕ → Tree → Slots → Option Slots
+filled k t s = taken (held s k) s k t
+
+-- the slots after the pattern is matched against the term, from the left
+unfoldable mutual
+  pub matched : PatternTree → Tree → Slots → Option Slots
+  matched (slot k) t s = filled k t s
+  matched (exact_int n) t s = cond (identical (int n) t) (Some s) None
+  matched (exact_atom name) t s = cond (identical (atom name) t) (Some s) None
+  matched (compound f ps) (comp g ts) s = cond (is_eq (name_order f g)) (matched_all ps ts s) None
+  matched (compound f ps) t s = None
+  matched (named k p) t s = option_and_then (matched p t) (filled k t s)
+
+  pub matched_all : PatternTrees → Trees → Slots → Option Slots
+  matched_all no_patterns no_trees s = Some s
+  matched_all no_patterns (tree t ts) s = None
+  matched_all (pattern p ps) no_trees s = None
+  matched_all (pattern p ps) (tree t ts) s = option_and_then (matched_all ps ts) (matched p t s)
+
+-- under these slots the pattern is the term
+unfoldable mutual
+  pub IsUnder : Slots → PatternTree → Tree → Type 0
+  IsUnder s (slot k) t = held s k ≡ Some t
+  IsUnder s (exact_int n) t = t ≡ int n
+  IsUnder s (exact_atom name) t = t ≡ atom name
+  IsUnder s (compound name ps) t = (ts : Trees) × (t ≡ comp name ts) × AreUnder s ps ts
+  IsUnder s (named k p) t = (held s k ≡ Some t) × IsUnder s p t
+
+  pub AreUnder : Slots → PatternTrees → Trees → Type 0
+  AreUnder s no_patterns no_trees = Unit {0}
+  AreUnder s no_patterns (tree t ts) = ⊥
+  AreUnder s (pattern p ps) no_trees = ⊥
+  AreUnder s (pattern p ps) (tree t ts) = IsUnder s p t × AreUnder s ps ts
+
+-- r has the same slots as s, and holds in them what s does, and maybe more
+pub record Extends (s r : Slots) : Type 0 where
+  pub as_many : length r ≡ length s
+  pub keeps : (k : ℕ) (t : Tree) → held s k ≡ Some t → held r k ≡ Some t
+
+-- r differs from s in slots of the pattern alone
+abbrev pub FillsOnly : PatternTree → Slots → Slots → Type 0
+FillsOnly p s r = (k : ℕ) → (HasSlot p k → ⊥) → held r k ≡ held s k
+
+-- r is s with just the pattern's slots filled so that the pattern is the term
+pub record IsMatch (p : PatternTree) (t : Tree) (s r : Slots) : Type 0 where
+  pub extends : Extends s r
+  pub only : FillsOnly p s r
+  pub under : IsUnder r p t
+
+-- a pattern that is a slot, or one by another name too
+abbrev pub IsSlot : PatternTree → Type 0
+IsSlot (slot k) = Unit {0}
+IsSlot (exact_int n) = ⊥
+IsSlot (exact_atom name) = ⊥
+IsSlot (compound name ps) = ⊥
+IsSlot (named k p) = IsSlot p
+
+abbrev pub MatchFills : Type 0
+MatchFills = (p : PatternTree) (t : Tree) (s r : Slots) → (matched p t s ≡ Some r) ↔ IsMatch p t s r
+
+-- whatever extends the slots and makes the pattern the term, extends the match
+abbrev pub MatchIsLeast : Type 0
+MatchIsLeast = (p : PatternTree) (t : Tree) (s r q : Slots) → matched p t s ≡ Some r → Extends s q → IsUnder q p t → Extends r q
+
+abbrev pub MatchFails : Type 0
+MatchFails = (p : PatternTree) (t : Tree) (s : Slots) → (matched p t s ≡ None) ↔ ((r : Slots) → Extends s r → IsUnder r p t → ⊥)
+
+abbrev pub VariableWantsSlot : Type 0
+VariableWantsSlot = (p : PatternTree) (n : ℕ) (s r : Slots) → matched p (var n) s ≡ Some r → IsSlot p

@@ -1,0 +1,28 @@
+//! Laws of the standard order, of substitution and of copies.
+ghost use Rattle.pi_types.specs.Order.{NamesByCodePoints, OrderIsTotal, EqualIsIdentity};
+ghost use Rattle.pi_types.specs.Substitution.{SubstitutionComposes, GroundStays, OnlyItsVariablesCount};
+ghost use Rattle.pi_types.specs.Copy.{CopyRenames, CopyIsUnique, CopyKeepsCells, GroundIsItsOwnCopy};
+
+/// The standard order is a total order, in which a term is equal to itself alone, and names stand in the order of their
+/// code points.
+pub fn terms_are_ordered()
+    ensures total { OrderIsTotal }
+    ensures identity { EqualIsIdentity }
+    ensures names { NamesByCodePoints }
+{}
+
+/// Substitutions compose, leave ground terms as they are, and go by the variables of a term alone.
+pub fn substitutions_compose()
+    ensures composes { SubstitutionComposes }
+    ensures ground { GroundStays }
+    ensures variables { OnlyItsVariablesCount }
+{}
+
+/// A copy is the term under the one renaming of its variables to new ones, in the order of their first occurrences. It
+/// has as many cells, and a ground term is its own copy.
+pub fn copies_are_renamings()
+    ensures renaming { CopyRenames }
+    ensures unique { CopyIsUnique }
+    ensures cells { CopyKeepsCells }
+    ensures ground { GroundIsItsOwnCopy }
+{}
