@@ -1,0 +1,5 @@
+pub mod Faults
+pub mod Given
+pub mod Held
+mod Memory
+pub mod Taken

@@ -1,0 +1,9 @@
+pub mod Calls
+pub mod Faults
+pub mod Given
+pub mod Held
+pub mod Memory
+pub mod MemoryFiles
+pub mod Named
+pub mod SureFiles
+pub mod Taken

@@ -1,0 +1,61 @@
+-- What the objects in memory are seen as.
+use Rattle.std.specs.Prelude.{◌≡◌, ℕ, ◌+◌, ◌≤◌, min, Bool, ◌||◌, List, ◌++◌, length, take, drop, Vec, vec_len, vec_capacity, nat_lt, Option, None, Some, if◌then◌else◌}
+use Rattle.std.specs.declared.alloc.Global.{Global}
+use Rattle.pi_outside.specs.Calls.{Calls}
+
+-- a sink that takes up to `room` bytes
+pub record SinkOfRoom : Type 0 where
+  pub taken : List ℕ
+  pub room : ℕ
+  pub calls : Calls
+
+-- a sink that keeps the first `room` bytes of all that it takes, and whether those are more
+pub record SinkOfFirst : Type 0 where
+  pub kept : List ℕ
+  pub room : ℕ
+  pub is_over : Bool
+
+-- the sink after one more piece
+abbrev pub after_piece : SinkOfFirst → List ℕ → SinkOfFirst
+after_piece sink piece = record sink {
+  kept = take sink.room (sink.kept ++ piece);
+  is_over = sink.is_over || nat_lt sink.room (length sink.kept + length piece);
+}
+
+-- what it has taken, told while that is at most `room` bytes
+abbrev pub told_bytes : SinkOfFirst → Option (List ℕ)
+told_bytes sink = if sink.is_over then None else Some sink.kept
+
+-- The sink has taken these bytes: it keeps the first `room` of them, knows whether they are more, and tells them
+-- exactly while they aren't.
+pub record HasTaken (all : List ℕ) (sink : SinkOfFirst) : Type 0 where
+  pub kept : sink.kept ≡ take sink.room all
+  pub over : sink.is_over ≡ nat_lt sink.room (length all)
+  pub told : told_bytes sink ≡ (if nat_lt sink.room (length all) then None else Some all)
+
+-- the buffer keeps to its room, which is reserved
+pub record IsReserved (kept : Vec ℕ Global) (room : ℕ) : Type 0 where
+  pub within : vec_len kept ≤ room
+  pub reserved : room ≤ vec_capacity kept
+
+-- bytes that are given in turn, at most `most` of them at once
+pub record Supply : Type 0 where
+  pub given : List ℕ
+  pub rest : List ℕ
+  pub most : ℕ
+
+-- how many bytes are given next to one who has room for so many
+abbrev pub next_count : Supply → ℕ → ℕ
+next_count supply room = min supply.most (min (length supply.rest) room)
+
+-- the supply after its next bytes, so many, were given
+abbrev pub after_giving : Supply → ℕ → Supply
+after_giving supply count = record supply {
+  given = supply.given ++ take count supply.rest;
+  rest = drop count supply.rest;
+}
+
+-- a source whose calls may be made to fail
+pub record SourceOfCalls : Type 0 where
+  pub supply : Supply
+  pub calls : Calls

@@ -1,0 +1,3 @@
+/// A read or a write failed. The object that answers it has counted a fault.
+#[derive(Clone, Copy, Debug, PartialEq, Eq)]
+pub struct Failed;

@@ -1,0 +1,34 @@
+//! What the interpreter asks of the outside: files, a source of input and a sink for output.
+//!
+//! Each trait tells two things in its contracts: the bytes, where they are known, and a count of faults.
+#![tactic(auto)]
+
+mod copy;
+mod failed;
+mod files;
+mod memory_files;
+mod memory_sink;
+mod memory_source;
+mod named;
+mod real;
+mod schedule;
+mod sink;
+mod source;
+mod supply;
+mod sure_files;
+mod sure_sink;
+mod sure_source;
+#[cfg(test)]
+mod tests;
+
+pub use failed::Failed;
+pub use files::Files;
+pub use memory_files::MemoryFiles;
+pub use memory_sink::MemorySink;
+pub use memory_source::MemorySource;
+pub use real::{RealFiles, RealSink, RealSource};
+pub use sink::Sink;
+pub use source::Source;
+pub use sure_files::SureFiles;
+pub use sure_sink::SureSink;
+pub use sure_source::SureSource;
