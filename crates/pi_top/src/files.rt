@@ -1,0 +1,45 @@
+ghost use Rattle.std.specs.Prelude.{◌≡◌, IfErr};
+ghost use Rattle.pi_outside.specs.Faults.{Rose};
+ghost use Rattle.pi_top.specs.declared.files.FileStop.TheVariants.{Fault, Memory};
+
+use pi_outside::Files;
+use std::alloc::{AllocError, Global};
+
+/// The most bytes of a program's text.
+pub const MAX_TEXT: usize = 16_777_216;
+
+const PIECE: usize = 65_536;
+
+/// Why a file wasn't read.
+#[derive(Clone, Copy, Debug, PartialEq, Eq)]
+pub enum FileStop {
+    Fault,
+    Memory,
+}
+
+impl From<AllocError> for FileStop {
+    ghost from_gives = { λ _ e. e ≡ Memory };
+
+    fn from(_e: AllocError) -> FileStop {
+        FileStop::Memory
+    }
+}
+
+/// A file's bytes. No more is read once they are more than a text may have.
+pub fn read_file<F: Files>(alloc: Global, files: &mut F, name: &str) -> Result<Vec<u8>, FileStop>
+    ensures { IfErr result (λ e. e ≡ Fault → Rose (F.faults files.old) (F.faults files.new)) }
+{
+    let mut piece = [0u8; PIECE];
+    let mut bytes = Vec::new(alloc);
+    for _turn in 0..=MAX_TEXT {
+        let at = bytes.len() as u64;
+        let Ok(count) = files.read_at(name, at, &mut piece) else {
+            return Err(FileStop::Fault);
+        };
+        if count == 0 || bytes.len() > MAX_TEXT {
+            break;
+        }
+        bytes.extend_from_slice(&piece[..count])?;
+    }
+    Ok(bytes)
+}

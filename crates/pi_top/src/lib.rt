@@ -1,0 +1,12 @@
+//! The top call of picatq: from the words of a command line to the bytes that are written and the status.
+#![tactic(auto)]
+
+mod files;
+mod lines;
+mod outcome;
+mod query;
+mod top;
+mod words;
+
+pub use outcome::{Outcome, Queries, QueryRun};
+pub use top::picatq;
