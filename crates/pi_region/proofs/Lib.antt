@@ -1,0 +1,6 @@
+mod Lists
+mod Memory
+mod Sharing
+mod Values
+mod Walks
+mod WordsLemmas

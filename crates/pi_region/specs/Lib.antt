@@ -1,0 +1,5 @@
+pub mod Blocks
+pub mod Ownership
+pub mod Pool
+pub mod Views
+pub mod Words
