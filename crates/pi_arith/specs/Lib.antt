@@ -1,0 +1,5 @@
+pub mod Bits
+pub mod Power
+pub mod Quotients
+pub mod Range
+pub mod Value
