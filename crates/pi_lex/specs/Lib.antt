@@ -1,0 +1,6 @@
+pub mod Forms
+pub mod Items
+pub mod Kinds
+pub mod Spans
+pub mod Store
+pub mod Tokens
