@@ -12,12 +12,4 @@ pub use happening::{Budget, Happening, Mode, PlanCall};
 pub use machine::Machine;
 
 #[cfg(test)]
-mod tests {
-    use super::*;
-    use std::test::Fail;
-
-    #[test]
-    fn halves(rt: HostRuntime) -> Result<(), Fail> {
-        Ok(())
-    }
-}
+mod tests;
