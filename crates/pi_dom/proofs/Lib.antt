@@ -1,0 +1,6 @@
+pub mod SpanLemmas
+pub mod ExtremeLemmas
+pub mod SizeLemmas
+pub mod MeetLemmas
+pub mod JoinLemmas
+pub mod ClipLemmas
