@@ -1,7 +1,7 @@
 -- Lemmas on more depth, which only adds.
 use Rattle.std.proofs.Common.{◌≡◌, ℕ, zero, suc, ◌+◌, List, [], ◌∷◌, refl, ap, subst, arith}
 use Rattle.pi_types.specs.Tree.{Tree}
-use Rattle.pi_types.specs.Trace.{Trace, end, note, ans, Done, Raise, Note, Event, noted, answered, one, alt, then, first, end_of, WithoutDeep, emit}
+use Rattle.pi_types.specs.Trace.{Trace, end, note, ans, Done, Raise, Note, Emitted, noted, answered, one, alt, then, first, end_of, WithoutDeep, emit}
 use Rattle.pi_types.specs.Control.{negated, chosen, collected, counted, caught}
 use Rattle.pi_types.specs.Depth.{Below, deeper, same_end, same_note, same_answer, BelowAfter, DepthOnlyAdds}
 
@@ -99,14 +99,14 @@ below-caught _ _ f f' (same_end e) b = same_end e
 below-caught _ _ f f' (same_note n {t = t} {u = t'} a) b = same_note n (below-caught t t' f f' a b)
 below-caught _ _ f f' (same_answer x {t = t} {u = t'} a) b = same_answer x (below-caught t t' f f' a b)
 
-pub below-emit : {A : Type 0} (events : List (Event A)) (t t' : Trace A) → Below t t' → Below (emit events t) (emit events t')
+pub below-emit : {A : Type 0} (events : List (Emitted A)) (t t' : Trace A) → Below t t' → Below (emit events t) (emit events t')
 unfolding emit
 below-emit [] t t' a = a
 below-emit (noted n ∷ events) t t' a = same_note n (below-emit events t t' a)
 below-emit (answered x ∷ events) t t' a = same_answer x (below-emit events t t' a)
 
 -- what begins with events goes on with them
-pub below-events : {A : Type 0} (events : List (Event A)) (t u : Trace A) → Below (emit events t) u → (rest : Trace A) × (u ≡ emit events rest) × Below t rest
+pub below-events : {A : Type 0} (events : List (Emitted A)) (t u : Trace A) → Below (emit events t) u → (rest : Trace A) × (u ≡ emit events rest) × Below t rest
 unfolding emit
 below-events [] t u a = (u, refl, a)
 below-events (noted n ∷ events) t _ (same_note _ {u = u} a) = let r = below-events events t u a in (r.0, ap (note n) r.1, r.2)

@@ -6,7 +6,7 @@ use Rattle.pi_types.specs.Tree.{Tree, var}
 use Rattle.pi_types.specs.Places.{held}
 use Rattle.pi_types.specs.Variables.{occurrences, Occurs}
 use Rattle.pi_types.specs.Substitution.{instance}
-use Rattle.pi_types.specs.Value.{Bindings, value, IsAcyclic, one, MayBind, BindingStaysAcyclic, BindingReplaces, NewVariableChangesNoValue, NewVariableStaysAcyclic}
+use Rattle.pi_types.specs.Value.{Bindings, value, IsAcyclic, only_at, MayBind, BindingStaysAcyclic, BindingReplaces, NewVariableChangesNoValue, NewVariableStaysAcyclic}
 use Rattle.pi_types.proofs.VariableLemmas.{Has, Has-from_occurs, occurs_from_Has, only_its_variables_count, instance-var, substitution}
 use Rattle.pi_types.proofs.ValueLemmas.{occurs_through, value_from_equations, value_goes_by_variables, unbound_is_its_own_value, bound_has_value_of_its_term}
 
@@ -143,31 +143,31 @@ binding_stays_acyclic b n u m = record {
 
 -- ---- the values under a new binding
 
-one_here : (n : ℕ) (u : Tree) → one n u n ≡ u
+one_here : (n : ℕ) (u : Tree) → only_at n u n ≡ u
 one_here n u = rw (eq-eqb n n refl) refl
 
-one_elsewhere : (n : ℕ) (u : Tree) (m : ℕ) → (m == n) ≡ false → one n u m ≡ var m
+one_elsewhere : (n : ℕ) (u : Tree) (m : ℕ) → (m == n) ≡ false → only_at n u m ≡ var m
 one_elsewhere n u m e = rw e refl
 
 -- a term without the variable stays
-one_stays : (n : ℕ) (u t : Tree) → (Occurs n t → ⊥) → instance (one n u) t ≡ t
-one_stays n u t out = only_its_variables_count (one n u) var t (λ m h. elim (cases_Bool (m == n)) [
+one_stays : (n : ℕ) (u t : Tree) → (Occurs n t → ⊥) → instance (only_at n u) t ≡ t
+one_stays n u t out = only_its_variables_count (only_at n u) var t (λ m h. elim (cases_Bool (m == n)) [
   | inl here ↦ let P : ℕ → Type 0 = λ k. Occurs k t in absurd (out (subst P (eqb-true m n here) h))
   | inr there ↦ one_elsewhere n u m there
 ]) ∙ instance-var t
 
 then_one : Bindings → ℕ → Tree → Tree → Tree
-then_one b n u t = instance (one n (value b u)) (value b t)
+then_one b n u t = instance (only_at n (value b u)) (value b t)
 
 then_one_goes : (b : Bindings) (n : ℕ) (u t : Tree) → then_one b n u t ≡ instance (λ m. then_one b n u (var m)) t
 unfolding then_one
-then_one_goes b n u t = ap (instance (one n (value b u))) (value_goes_by_variables b t) ∙ substitution (one n (value b u)) (λ m. value b (var m)) t
+then_one_goes b n u t = ap (instance (only_at n (value b u))) (value_goes_by_variables b t) ∙ substitution (only_at n (value b u)) (λ m. value b (var m)) t
 
 -- at the variable itself
 then_one_here : (b : Bindings) (n : ℕ) (u : Tree) → MayBind b n u → then_one b n u (var n) ≡ then_one b n u u
 unfolding then_one instance
 then_one_here b n u m =
-    ap (instance (one n (value b u))) (unbound_is_its_own_value b n m.unbound) ∙ (one_here n (value b u) ∙ sym (one_stays n (value b u) (value b u) m.apart))
+    ap (instance (only_at n (value b u))) (unbound_is_its_own_value b n m.unbound) ∙ (one_here n (value b u) ∙ sym (one_stays n (value b u) (value b u) m.apart))
 
 then_one_unbound : (b : Bindings) (n : ℕ) (u : Tree) → MayBind b n u → (i : ℕ) → held (bound_to b n u) i ≡ None → then_one b n u (var i) ≡ var i
 unfolding then_one instance
@@ -176,12 +176,12 @@ then_one_unbound b n u m i none = elim (cases_Bool (i == n)) [
       let now : held (bound_to b n u) i ≡ held (bound_to b n u) n = ap (held (bound_to b n u)) (eqb-true i n here) in
       absurd (cc (held_here b n u m.made))
   | inr there ↦
-      ap (instance (one n (value b u))) (unbound_is_its_own_value b i (sym (held_elsewhere b n u i there) ∙ none)) ∙ one_elsewhere n (value b u) i there
+      ap (instance (only_at n (value b u))) (unbound_is_its_own_value b i (sym (held_elsewhere b n u i there) ∙ none)) ∙ one_elsewhere n (value b u) i there
 ]
 
 then_one_from_value : (b : Bindings) (n : ℕ) (u t v : Tree) → value b t ≡ value b v → then_one b n u t ≡ then_one b n u v
 unfolding then_one
-then_one_from_value b n u t v e = ap (instance (one n (value b u))) e
+then_one_from_value b n u t v e = ap (instance (only_at n (value b u))) e
 
 then_one_bound : (b : Bindings) (n : ℕ) (u : Tree) → MayBind b n u → (i : ℕ) (w : Tree) → held (bound_to b n u) i ≡ Some w → then_one b n u (var i) ≡ then_one b n u w
 then_one_bound b n u m i w is = elim (cases_Bool (i == n)) [

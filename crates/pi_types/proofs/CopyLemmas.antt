@@ -1,5 +1,5 @@
 -- A copy is the one renaming of a term's variables to new ones in the order of their first occurrences.
-use Rattle.std.proofs.Common.{◌++◌, ◌⊎◌, ◌≡◌, ℕ, ◌==◌, ◌+◌, suc, Bool, true, false, not, List, [], ◌∷◌, map, length, filter, refl, ap, sym, ◌∙◌, subst, inl, inr, arith, eq-eqb}
+use Rattle.std.proofs.Common.{◌++◌, ◌⊎◌, ◌≡◌, ℕ, ◌==◌, ◌+◌, ◌<◌, suc, Bool, true, false, not, List, [], ◌∷◌, map, length, filter, refl, ap, sym, ◌∙◌, subst, inl, inr, arith, eq-eqb}
 use Rattle.std.proofs.lemmas.Bool.{cases_Bool, eqb-true}
 use Rattle.std.proofs.lemmas.List.{map-append}
 use Rattle.std.specs.List.{range_with_len}
@@ -20,6 +20,17 @@ place_behind k n ks e = rw e
 has_behind : (k n : ℕ) (ks : List ℕ) → (k == n) ≡ false → Has (k ∷ ks) n → Has ks n
 has_behind k n ks e (inl same) = cc (eq-eqb k n same)
 has_behind k n ks e (inr h) = h
+
+-- a number that stands in the list has its place within
+pub place_in-within : (ks : List ℕ) (n : ℕ) → Has ks n → place_in ks n < length ks
+place_in-within [] n h = absurd h
+place_in-within (k ∷ ks) n h = elim (cases_Bool (k == n)) [
+  | inl here ↦ let at : place_in (k ∷ ks) n ≡ 0 = place_here k n ks here in omega arith
+  | inr there ↦
+      let at : place_in (k ∷ ks) n ≡ 1 + place_in ks n = place_behind k n ks there in
+      let rest : place_in ks n < length ks = place_in-within ks n (has_behind k n ks there h) in
+      omega arith
+]
 
 first_is : (k n : ℕ) (ks : List ℕ) → (Has ks n → ⊥) → Has (k ∷ ks) n → k ≡ n
 first_is k n ks out (inl same) = same
@@ -197,7 +208,7 @@ variables-renamed r t apart =
 
 -- ---- the laws
 
-Has-variables : (t : Tree) (n : ℕ) → Occurs n t → Has (variables t) n
+pub Has-variables : (t : Tree) (n : ℕ) → Occurs n t → Has (variables t) n
 Has-variables t n h = Has-firsts (occurrences t) n (Has-from_occurs t n h)
 
 pub copy_renames : CopyRenames
@@ -224,13 +235,13 @@ copy_is_unique next t u c =
 mutual
   unfolding cells instance
 
-  cells-renamed : (r : ℕ → ℕ) (t : Tree) → cells (renamed r t) ≡ cells t
+  pub cells-renamed : (r : ℕ → ℕ) (t : Tree) → cells (renamed r t) ≡ cells t
   cells-renamed r (var n) = refl
   cells-renamed r (int n) = refl
   cells-renamed r (atom name) = refl
   cells-renamed r (comp name ts) = ap suc (cells_all-renamed r ts)
 
-  cells_all-renamed : (r : ℕ → ℕ) (ts : Trees) → cells_all (instances (λ n. var (r n)) ts) ≡ cells_all ts
+  pub cells_all-renamed : (r : ℕ → ℕ) (ts : Trees) → cells_all (instances (λ n. var (r n)) ts) ≡ cells_all ts
   cells_all-renamed r no_trees = refl
   cells_all-renamed r (tree t ts) = omega (arith, cells-renamed r t, cells_all-renamed r ts)
 

@@ -2,7 +2,7 @@
 use Rattle.std.proofs.Common.{◌≡◌, ◌<◌, ◌≤◌, ◌+◌, ◌-◌, ℕ, zero, suc, List, [], ◌∷◌, ◌++◌, length, get_or, drop, refl, ap, sym, subst, ◌∙◌, append_assoc, add-one, arith, length-append, length-drop}
 use Rattle.std.proofs.Math.Seq.{get_or-append_right}
 use Rattle.std.proofs.lemmas.List.{append-nil, get_or-drop, get_or-map, length-map}
-use Rattle.pi_types.specs.GoalTree.{GoalTree, truth, fail, tick, call, apply, seq, alt, if_else, not, once, collect, count, catch, GoalTrees, no_goals, goal, count_goals, goal_at, take_goals, drop_goals, children, child, child_count, subgoals, subgoals_all, subgoal, nodes, nodes_all, ShowsNode, child_goals}
+use Rattle.pi_types.specs.GoalTree.{GoalTree, truth, fail, tick, call, apply, seq, alternatives, if_else, not, once, collect, count, catch, GoalTrees, no_goals, goal, count_goals, goal_at, take_goals, drop_goals, children, child, child_count, subgoals, subgoals_all, subgoal, nodes, nodes_all, ShowsNode, child_goals}
 use Rattle.pi_types.specs.GoalCells.{kind_of, kind_shown, arity, over, cell_of, flat, over-kind_of, arity-kind_of, subgoals-children}
 use Rattle.pi_types.specs.declared.goal_node.GoalCell.{GoalCell}
 use Rattle.pi_types.specs.declared.goal_node.GoalKind.{GoalKind}
@@ -36,7 +36,7 @@ mutual
   each (call name args) gs h = each-root (call name args) gs (each-none gs h)
   each (apply name args slot) gs h = each-root (apply name args slot) gs (each-none gs h)
   each (seq cs) gs h = each-root (seq cs) gs (each_all cs gs h)
-  each (alt cs) gs h = each-root (alt cs) gs (each_all cs gs h)
+  each (alternatives cs) gs h = each-root (alternatives cs) gs (each_all cs gs h)
   each (if_else test then other) gs h =
       each-root (if_else test then other) gs
       (each-front test (goal then (goal other no_goals)) gs (each test)

@@ -11,7 +11,7 @@ use Rattle.pi_types.specs.Tree.{Tree, var, int, atom, comp, Trees, no_trees, tre
 use Rattle.pi_types.specs.Order.{name_order, order, identical}
 use Rattle.pi_types.specs.PatternTree.{PatternTree, slot, exact_int, exact_atom, compound, named, PatternTrees, no_patterns, pattern, HasSlot, HaveSlot}
 use Rattle.pi_types.specs.Places.{held}
-use Rattle.pi_types.specs.Match.{Slots, taken, filled, matched, matched_all, IsUnder, AreUnder, Extends, IsMatch, MatchFills, MatchIsLeast, MatchFails, IsSlot, VariableWantsSlot}
+use Rattle.pi_types.specs.Match.{Slots, taken, filled, matched, matched_all, IsUnder, AreUnder, Extends, IsMatch, AreMatch, MatchFills, MatchIsLeast, MatchFails, IsSlot, VariableWantsSlot, HeadMatchFills, HeadMatchIsLeast, HeadMatchFails}
 use Rattle.pi_types.proofs.OrderLemmas.{equal_is_identity, names_same}
 
 -- ---- terms and names that are the same
@@ -19,13 +19,16 @@ use Rattle.pi_types.proofs.OrderLemmas.{equal_is_identity, names_same}
 pub same_from_identical : (t u : Tree) → identical t u ≡ true → t ≡ u
 same_from_identical t u e = (equal_is_identity t u).0 ((Equal-is (order t u)).0 e)
 
+pub differs : (t u : Tree) → (t ≡ u → ⊥) → identical t u ≡ false
+differs t u apart = elim (cases_Bool (identical t u)) [ inl hit ↦ absurd (apart (same_from_identical t u hit)) | inr miss ↦ miss ]
+
 pub identical_from_same : (t u : Tree) → t ≡ u → identical t u ≡ true
 identical_from_same t u e = ap is_eq ((equal_is_identity t u).1 e)
 
-same_name : (f g : List ℕ) → is_eq (name_order f g) ≡ true → f ≡ g
+pub same_name : (f g : List ℕ) → is_eq (name_order f g) ≡ true → f ≡ g
 same_name f g e = names_same f g ((Equal-is (name_order f g)).0 e)
 
-name_itself : (f : List ℕ) → is_eq (name_order f f) ≡ true
+pub name_itself : (f : List ℕ) → is_eq (name_order f f) ≡ true
 name_itself f = ap is_eq (tied_itself nat_list_cmp_total f)
 
 -- a test passed where there is an answer
@@ -283,3 +286,46 @@ slot_from_under (named k p) n s h = slot_from_under p n s h.1
 
 pub variable_wants_slot : VariableWantsSlot
 variable_wants_slot p n s r e = slot_from_under p n r (match_from_matched p (var n) s r e).under
+
+-- ---- the laws of a head's patterns
+
+heads_both_hold : (ps : PatternTrees) (ts : Trees) (s r q : Slots) → AreMatch ps ts s r → AreMatch ps ts s q → Extends r q → (k : ℕ) (a b : Option Tree) → held r k ≡ a → held q k ≡ b → a ≡ b
+heads_both_hold ps ts s r q m n x k (Some u) b e f = sym (x.keeps k u e) ∙ f
+heads_both_hold ps ts s r q m n x k None None e f = refl
+heads_both_hold ps ts s r q m n x k None (Some v) e f =
+    let other : HaveSlot ps k → ⊥ = λ h. let l : (u : Tree) × (held r k ≡ Some u) = some_slot_holds ps ts r k m.under h in cc (e, l.1) in
+    sym e ∙ (m.only k other ∙ (sym (n.only k other) ∙ f))
+
+head_match_from_matched : (ps : PatternTrees) (ts : Trees) (s r : Slots) → matched_all ps ts s ≡ Some r → AreMatch ps ts s r
+head_match_from_matched ps ts s r e =
+    let m : Matched (AreUnder r ps ts) (HaveSlot ps) s r = matched_all_is ps ts s r e in record { extends = m.extends; only = m.only; under = m.under }
+
+one_head_match : (ps : PatternTrees) (ts : Trees) (s r q : Slots) → AreMatch ps ts s r → AreMatch ps ts s q → Extends r q → r ≡ q
+one_head_match ps ts s r q m n x = same_lists r q (sym x.as_many) (λ k d below.
+    get_or_default r k d None below ∙ (heads_both_hold ps ts s r q m n x k (held r k) (held q k) refl refl
+    ∙ get_or_default q k None d (omega (arith, x.as_many))))
+
+pub head_match_fills : HeadMatchFills
+head_match_fills ps ts s r = (
+  head_match_from_matched ps ts s r,
+  λ m.
+      let f : Found (matched_all ps ts s) r = matched_all_found ps ts s r m.extends m.under in
+      f.is ∙ ap Some (one_head_match ps ts s f.slots r (head_match_from_matched ps ts s f.slots f.is) m f.within),
+)
+
+pub head_match_is_least : HeadMatchIsLeast
+head_match_is_least ps ts s r q e x h =
+    let f : Found (matched_all ps ts s) q = matched_all_found ps ts s q x h in
+    let same : f.slots ≡ r = cc (f.is, e) in
+    let P : Slots → Type 0 = λ v. Extends v q in
+    subst P same f.within
+
+no_head_matches : (ps : PatternTrees) (ts : Trees) (s : Slots) (o : Option Slots) → matched_all ps ts s ≡ o → ((r : Slots) → Extends s r → AreUnder r ps ts → ⊥) → matched_all ps ts s ≡ None
+no_head_matches ps ts s None e h = e
+no_head_matches ps ts s (Some r) e h = let m : AreMatch ps ts s r = head_match_from_matched ps ts s r e in absurd (h r m.extends m.under)
+
+pub head_match_fails : HeadMatchFails
+head_match_fails ps ts s = (
+  λ e r x h. let f : Found (matched_all ps ts s) r = matched_all_found ps ts s r x h in cc (f.is, e),
+  no_head_matches ps ts s (matched_all ps ts s) refl,
+)

@@ -6,7 +6,7 @@ use Rattle.std.specs.Ordering.{nat_cmp, int_cmp, ordering_then, ordering_reverse
 use Rattle.std.specs.Cmp.{IsTotalOrder}
 use Rattle.std.specs.declared.cmp.Ordering.{Ordering}
 use Rattle.std.specs.declared.cmp.Ordering.TheVariants.{Less, Equal, Greater}
-use Rattle.pi_types.specs.Tree.{Tree, var, int, atom, comp, Trees, no_trees, tree, count}
+use Rattle.pi_types.specs.Tree.{Tree, var, int, atom, comp, Trees, no_trees, tree, tree_count}
 use Rattle.pi_types.specs.Order.{name_order, order, order_all, OrderIsTotal, EqualIsIdentity}
 
 -- ---- comparisons one after another
@@ -72,7 +72,7 @@ mutual
   order_reverse (int m) (int n) = int_cmp_total.antisymm m n
   order_reverse (atom a) (atom b) = nat_list_cmp_total.antisymm a b
   order_reverse (comp f ts) (comp g us) =
-      reverse_then (nat_cmp (count ts) (count us)) (nat_cmp (count us) (count ts)) _ _ (nat_cmp_total.antisymm (count ts) (count us))
+      reverse_then (nat_cmp (tree_count ts) (tree_count us)) (nat_cmp (tree_count us) (tree_count ts)) _ _ (nat_cmp_total.antisymm (tree_count ts) (tree_count us))
       (reverse_then (name_order f g) (name_order g f) _ _ (nat_list_cmp_total.antisymm f g) (order_all_reverse ts us))
   order_reverse t u = refl
 
@@ -90,7 +90,7 @@ mutual
   same_from_order (int m) (int n) e = ap int (integers_same m n e)
   same_from_order (atom a) (atom b) e = ap atom (names_same a b e)
   same_from_order (comp f ts) (comp g us) e =
-      let h : (nat_cmp (count ts) (count us) ≡ Equal) × (ordering_then (name_order f g) (order_all ts us) ≡ Equal) = then_equal _ _ e in
+      let h : (nat_cmp (tree_count ts) (tree_count us) ≡ Equal) × (ordering_then (name_order f g) (order_all ts us) ≡ Equal) = then_equal _ _ e in
       let k : (name_order f g ≡ Equal) × (order_all ts us ≡ Equal) = then_equal _ _ h.1 in
       let name : f ≡ g = names_same f g k.0 in
       let rest : ts ≡ us = same_from_order_all ts us k.1 in
@@ -114,7 +114,7 @@ mutual
   order_itself (var n) = tied_itself nat_cmp_total n
   order_itself (int n) = tied_itself int_cmp_total n
   order_itself (atom a) = tied_itself nat_list_cmp_total a
-  order_itself (comp f ts) = rw (tied_itself nat_cmp_total (count ts), tied_itself nat_list_cmp_total f) (order_all_itself ts)
+  order_itself (comp f ts) = rw (tied_itself nat_cmp_total (tree_count ts), tied_itself nat_list_cmp_total f) (order_all_itself ts)
 
   order_all_itself : (ts : Trees) → order_all ts ts ≡ Equal
   order_all_itself no_trees = refl
@@ -128,7 +128,7 @@ mutual
   order_chained (int l) (int m) (int n) = chained int_cmp_total integers_same l m n
   order_chained (atom a) (atom b) (atom c) = chained nat_list_cmp_total names_same a b c
   order_chained (comp f ts) (comp g us) (comp h vs) =
-      chained_then _ _ _ _ _ _ (chained nat_cmp_total numbers_same (count ts) (count us) (count vs))
+      chained_then _ _ _ _ _ _ (chained nat_cmp_total numbers_same (tree_count ts) (tree_count us) (tree_count vs))
       (chained_then _ _ _ _ _ _ (chained nat_list_cmp_total names_same f g h) (order_all_chained ts us vs))
   order_chained t u (var n) = record { less = λ h k. cc; first_equal = λ h. cc; second_equal = λ h. cc }
   order_chained t u v = record { less = λ h k. cc; first_equal = λ h. cc; second_equal = λ h. cc }

@@ -1,9 +1,9 @@
 -- Lemmas on the cells of terms.
-use Rattle.std.proofs.Common.{map, slice_get, IfSome, ℤ, Option, Some, None, IsSomeAnd, add-one, length-drop, ◌≡◌, ℕ, zero, suc, ◌+◌, ◌<◌, ◌≤◌, List, [], ◌∷◌, ◌++◌, length, drop, take, get_or, refl, ap, sym, ◌∙◌, append_assoc, arith, length-append}
-use Rattle.std.proofs.lemmas.List.{map-append, append-nil, get_or-drop, take_more, drop-drop, drop_at, take_at}
+use Rattle.std.proofs.Common.{map, slice_get, ℤ, Option, Some, None, IsSomeAnd, add-one, length-drop, ◌≡◌, ℕ, zero, suc, ◌+◌, ◌<◌, ◌≤◌, List, [], ◌∷◌, ◌++◌, length, drop, take, get_or, refl, ap, sym, ◌∙◌, append_assoc, arith, length-append}
+use Rattle.std.proofs.lemmas.List.{length-map, map-append, append-nil, get_or-drop, take_more, drop-drop, drop_at, take_at}
 use Rattle.pi_types.specs.declared.term.TermCell.{TermCell}
 use Rattle.pi_types.specs.declared.term.TermCell.TheVariants.{Var, Int, Atom, Comp}
-use Rattle.pi_types.specs.Tree.{Tree, var, int, atom, comp, Trees, no_trees, tree, count, cells, cells_all, args, drop_trees, subterms, subterms_all, tree_at, trees_of, arity, ShowsHead}
+use Rattle.pi_types.specs.Tree.{Tree, var, int, atom, comp, Trees, no_trees, tree, tree_count, cells, cells_all, args, drop_trees, subterms, subterms_all, tree_at, trees_of, arity, SubtermForEachCell, ShowsHead}
 use Rattle.pi_types.specs.declared.term.TermHead.{TermHead}
 use Rattle.pi_types.specs.TermCells.{flat, flat_all, tree_of, tree_of-flat, size_of, CellShows}
 
@@ -46,10 +46,10 @@ unfolding cells
 cells_all-more [] u = omega arith
 cells_all-more (t ∷ ts) u = omega (arith, cells_all-more ts u)
 
-pub count-trees_of : (ts : List Tree) → count (trees_of ts) ≡ length ts
-unfolding count
-count-trees_of [] = refl
-count-trees_of (t ∷ ts) = ap suc (count-trees_of ts)
+pub tree_count-trees_of : (ts : List Tree) → tree_count (trees_of ts) ≡ length ts
+unfolding tree_count
+tree_count-trees_of [] = refl
+tree_count-trees_of (t ∷ ts) = ap suc (tree_count-trees_of ts)
 
 -- the tree with a number, in front of those behind it
 pub record TreeAt (ts : Trees) (k : ℕ) : Type 0 where
@@ -57,8 +57,8 @@ pub record TreeAt (ts : Trees) (k : ℕ) : Type 0 where
   pub is : tree_at ts k ≡ Some it
   pub front : drop_trees k ts ≡ tree it (drop_trees (suc k) ts)
 
-pub tree_at-below : (ts : Trees) (k : ℕ) → k < count ts → TreeAt ts k
-unfolding count tree_at
+pub tree_at-below : (ts : Trees) (k : ℕ) → k < tree_count ts → TreeAt ts k
+unfolding tree_count tree_at
 tree_at-below no_trees k h = absurd (omega arith)
 tree_at-below (tree t ts) zero h = record { it = t; is = refl; front = refl }
 tree_at-below (tree t ts) (suc k) h =
@@ -77,7 +77,7 @@ place_next : (cs : List TermCell) (at : ℕ) (t : Tree) (us : List TermCell) →
 place_next cs at t us e d =
     ap size_of (ap (λ n. get_or cs n d) (omega arith) ∙ sym (get_or-drop at cs 0 d)) ∙ (ap (λ r. size_of (get_or r 0 d)) e ∙ size_of-flat t us d)
 
-pub arg_place : (cs : List TermCell) (at k : ℕ) (ts : Trees) → drop at cs ≡ flat_all (drop_trees k ts) → k < count ts → ArgPlace cs at k ts
+pub arg_place : (cs : List TermCell) (at k : ℕ) (ts : Trees) → drop at cs ≡ flat_all (drop_trees k ts) → k < tree_count ts → ArgPlace cs at k ts
 unfolding flat
 arg_place cs at k ts e h =
     let r : TreeAt ts k = tree_at-below ts k h in
@@ -105,14 +105,14 @@ pub record Behind (cs : List TermCell) (t : Tree) : Type 0 where
   pub args_at : drop 1 cs ≡ flat_all (args t)
   pub some : 1 ≤ length cs
 
-behind_flat : (t : Tree) (i : ℕ) → i < count (args t) → drop 1 (flat t) ≡ flat_all (args t)
-unfolding flat count
+behind_flat : (t : Tree) (i : ℕ) → i < tree_count (args t) → drop 1 (flat t) ≡ flat_all (args t)
+unfolding flat tree_count
 behind_flat (var n) i h = absurd (omega arith)
 behind_flat (int n) i h = absurd (omega arith)
 behind_flat (atom name) i h = absurd (omega arith)
 behind_flat (comp name ts) i h = refl
 
-pub args_behind : (cs : List TermCell) (t : Tree) (i : ℕ) → cs ≡ flat t → i < count (args t) → Behind cs t
+pub args_behind : (cs : List TermCell) (t : Tree) (i : ℕ) → cs ≡ flat t → i < tree_count (args t) → Behind cs t
 args_behind cs t i e h = record {
   args_at = ap (drop 1) e ∙ behind_flat t i h;
   some = omega (arith, ap length e, length_flat t, cells-positive t);
@@ -122,15 +122,15 @@ args_behind cs t i e h = record {
 pub flat-comp : (name : List ℕ) (ts : List Tree) (size : ℕ) → size ≡ cells_all (trees_of ts) + 1 → Comp name (length ts) size ∷ flat_all (trees_of ts) ≡ flat (comp name (trees_of ts))
 unfolding flat
 flat-comp name ts size e =
-    ap (λ k. Comp name k size ∷ flat_all (trees_of ts)) (sym (count-trees_of ts))
-    ∙ ap (λ n. Comp name (count (trees_of ts)) n ∷ flat_all (trees_of ts)) (e ∙ add-one (cells_all (trees_of ts)))
+    ap (λ k. Comp name k size ∷ flat_all (trees_of ts)) (sym (tree_count-trees_of ts))
+    ∙ ap (λ n. Comp name (tree_count (trees_of ts)) n ∷ flat_all (trees_of ts)) (e ∙ add-one (cells_all (trees_of ts)))
 
 -- a term's first cell, and what it shows
 pub first_cell : Tree → TermCell
 first_cell (var n) = Var n
 first_cell (int n) = Int n
 first_cell (atom name) = Atom name
-first_cell (comp name ts) = Comp name (count ts) (suc (cells_all ts))
+first_cell (comp name ts) = Comp name (tree_count ts) (suc (cells_all ts))
 
 get_or-flat : (t : Tree) (d : TermCell) → get_or (flat t) 0 d ≡ first_cell t
 unfolding flat first_cell
@@ -185,6 +185,12 @@ cells_all-take ts i t h e =
     ap (λ r. cells_all (trees_of r)) (take_more ts i t h)
     ∙ (cells_all-more (take i ts) (get_or ts i t) ∙ ap (λ u. cells_all (trees_of (take i ts)) + cells u) (sym e))
 
+pub cells_all-take_bound : (ts : List Tree) (k : ℕ) → cells_all (trees_of (take k ts)) ≤ cells_all (trees_of ts)
+unfolding cells
+cells_all-take_bound ts zero = omega arith
+cells_all-take_bound [] (suc k) = omega arith
+cells_all-take_bound (t ∷ ts) (suc k) = let rest = cells_all-take_bound ts k in omega arith
+
 pub flat_all-take : (ts : List Tree) (i : ℕ) (t : Tree) → i < length ts → t ≡ get_or ts i t → flat_all (trees_of (take (i + 1) ts)) ≡ flat_all (trees_of (take i ts)) ++ flat t
 flat_all-take ts i t h e =
     ap (λ r. flat_all (trees_of r)) (take_more ts i t h)
@@ -207,19 +213,22 @@ mutual
   flat-subterms (var n) = refl
   flat-subterms (int n) = refl
   flat-subterms (atom name) = refl
-  flat-subterms (comp name ts) = ap (λ cs. Comp name (count ts) (suc (cells_all ts)) ∷ cs) (flat_all-subterms ts)
+  flat-subterms (comp name ts) = ap (λ cs. Comp name (tree_count ts) (suc (cells_all ts)) ∷ cs) (flat_all-subterms ts)
 
   pub flat_all-subterms : (ts : Trees) → flat_all ts ≡ map first_cell (subterms_all ts)
   flat_all-subterms no_trees = refl
   flat_all-subterms (tree t ts) =
       ap (λ cs. cs ++ flat_all ts) (flat-subterms t) ∙ (ap (λ cs. map first_cell (subterms t) ++ cs) (flat_all-subterms ts) ∙ sym (map-append first_cell (subterms t) (subterms_all ts)))
 
--- what a cell shows, the term with its number shows
-cell_shows : (us : List Tree) (i : ℕ) (c : TermCell) (h : TermHead) → CellShows c h → c ≡ get_or (map first_cell us) i c → IfSome (slice_get us i) (λ u. ShowsHead u h)
-cell_shows [] i c h e at = tt
-cell_shows (u ∷ us) zero c h e at = first_shows u c h at e
-cell_shows (u ∷ us) (suc i) c h e at = cell_shows us i c h e at
+pub subterm_for_each_cell : SubtermForEachCell
+subterm_for_each_cell t = sym (length-map (subterms t) first_cell) ∙ (ap length (sym (flat-subterms t)) ∙ length_flat t)
 
-pub subterm_shows : (cs : List TermCell) (t : Tree) (i : ℕ) (c : TermCell) (h : TermHead) → cs ≡ flat (tree_of cs) → tree_of cs ≡ t → c ≡ get_or cs i c → CellShows c h → IfSome (slice_get (subterms t) i) (λ u. ShowsHead u h)
-subterm_shows cs t i c h whole is at e =
-    cell_shows (subterms t) i c h e (at ∙ ap (λ r. get_or r i c) (whole ∙ (ap flat is ∙ flat-subterms t)))
+-- what a cell shows, the term with its number shows
+cell_shows : (us : List Tree) (i : ℕ) (c : TermCell) (h : TermHead) → CellShows c h → c ≡ get_or (map first_cell us) i c → i < length us → IsSomeAnd (slice_get us i) (λ u. ShowsHead u h)
+cell_shows [] i c h e at within = absurd (omega arith)
+cell_shows (u ∷ us) zero c h e at within = first_shows u c h at e
+cell_shows (u ∷ us) (suc i) c h e at within = cell_shows us i c h e at (omega arith)
+
+pub subterm_shows : (cs : List TermCell) (t : Tree) (i : ℕ) (c : TermCell) (h : TermHead) → cs ≡ flat (tree_of cs) → tree_of cs ≡ t → c ≡ get_or cs i c → CellShows c h → i < cells t → IsSomeAnd (slice_get (subterms t) i) (λ u. ShowsHead u h)
+subterm_shows cs t i c h whole is at e within =
+    cell_shows (subterms t) i c h e (at ∙ ap (λ r. get_or r i c) (whole ∙ (ap flat is ∙ flat-subterms t))) (omega (arith, subterm_for_each_cell t))

@@ -1,7 +1,7 @@
 -- Lemmas on traces and control forms.
 use Rattle.std.proofs.Common.{◌≡◌, ◌≢◌, ℕ, suc, List, [], ◌∷◌, ◌++◌, map, length, refl, ap, sym, ◌∙◌, ◌+◌, arith}
 use Rattle.pi_types.specs.Tree.{Tree}
-use Rattle.pi_types.specs.Trace.{Trace, end, note, ans, Done, Raise, Note, Event, noted, answered, done, one, alt, then, first, end_of, answers, emit, events_of}
+use Rattle.pi_types.specs.Trace.{Trace, end, note, ans, End, Done, Raise, Note, Emitted, noted, answered, done, one, alt, then, first, end_of, answers, emit, events_of}
 use Rattle.pi_types.specs.Control.{negated, chosen, collected, counted, caught}
 
 pub events-and-end : {A : Type 0} (t : Trace A) → t ≡ emit (events_of t) (end (end_of t))
@@ -57,6 +57,26 @@ then-assoc (end e) f g = refl
 then-assoc (note n t) f g = ap (note n) (then-assoc t f g)
 then-assoc (ans x t) f g = then-alt (f x) (then t f) g ∙ ap (alt (then (f x) g)) (then-assoc t f g)
 
+-- ---- events in front
+
+pub alt-emit : {A : Type 0} (events : List (Emitted A)) (t u : Trace A) → alt (emit events t) u ≡ emit events (alt t u)
+unfolding alt emit
+alt-emit [] t u = refl
+alt-emit (noted n ∷ events) t u = ap (note n) (alt-emit events t u)
+alt-emit (answered x ∷ events) t u = ap (ans x) (alt-emit events t u)
+
+emit-alt : {A : Type 0} (events : List (Emitted A)) (t : Trace A) → emit events t ≡ alt (emit events done) t
+unfolding alt
+emit-alt events t = sym (alt-emit events done t)
+
+pub then-notes : {A B : Type 0} (notes : List Note) (t : Trace A) (f : A → Trace B) → then (emit (map noted notes) t) f ≡ emit (map noted notes) (then t f)
+unfolding then emit
+then-notes [] t f = refl
+then-notes (n ∷ notes) t f = ap (note n) (then-notes notes t f)
+
+pub then-emit : {A B : Type 0} (events : List (Emitted A)) (t : Trace A) (f : A → Trace B) → then (emit events t) f ≡ alt (then (emit events done) f) (then t f)
+then-emit events t f = ap (λ v. then v f) (emit-alt events t) ∙ then-alt (emit events done) t f
+
 pub first-first : {A : Type 0} (t : Trace A) → first (first t) ≡ first t
 unfolding first
 first-first (end e) = refl
@@ -109,7 +129,7 @@ counted-length (end e) f = refl
 counted-length (note n t) f = ap (note n) (counted-length t f)
 counted-length (ans x t) f = counted-length t (λ k. f (suc k))
 
-pub caught-raise : {A : Type 0} (events : List (Event A)) (ball : Tree) (f : Tree → Trace A) → caught (emit events (end (Raise ball))) f ≡ emit events (f ball)
+pub caught-raise : {A : Type 0} (events : List (Emitted A)) (ball : Tree) (f : Tree → Trace A) → caught (emit events (end (Raise ball))) f ≡ emit events (f ball)
 unfolding emit caught
 caught-raise [] ball f = refl
 caught-raise (noted n ∷ events) ball f = ap (note n) (caught-raise events ball f)
@@ -122,7 +142,7 @@ caught-rest (end e) f h = refl
 caught-rest (note n t) f h = ap (note n) (caught-rest t f h)
 caught-rest (ans x t) f h = ap (ans x) (caught-rest t f h)
 
-pub emit-append : {A : Type 0} (front back : List (Event A)) (t : Trace A) → emit (front ++ back) t ≡ emit front (emit back t)
+pub emit-append : {A : Type 0} (front back : List (Emitted A)) (t : Trace A) → emit (front ++ back) t ≡ emit front (emit back t)
 unfolding emit
 emit-append [] back t = refl
 emit-append (noted n ∷ front) back t = ap (note n) (emit-append front back t)
@@ -177,3 +197,29 @@ caught-alt (end Done) u f h = refl
 caught-alt (end e) u f h = absurd cc
 caught-alt (note n t) u f h = ap (note n) (caught-alt t u f h)
 caught-alt (ans x t) u f h = ap (ans x) (caught-alt t u f h)
+
+-- ---- what follows a `catch`
+
+pub caught-emit : {A : Type 0} (events : List (Emitted A)) (t : Trace A) (f : Tree → Trace A) → caught (emit events t) f ≡ emit events (caught t f)
+unfolding emit caught
+caught-emit [] t f = refl
+caught-emit (noted n ∷ events) t f = ap (note n) (caught-emit events t f)
+caught-emit (answered x ∷ events) t f = ap (ans x) (caught-emit events t f)
+
+raise_not_done : (e : End) (ball : Tree) → e ≡ Raise ball → e ≢ Done
+raise_not_done e ball h d = absurd cc
+
+pub caught-behind : {A B : Type 0} (events : List (Emitted A)) (x : A) (t : Trace A) (handler : Tree → Trace A) (f : A → Trace B) (ball : Tree) → end_of (then (emit events done) f) ≡ Done → end_of (f x) ≡ Raise ball
+    → then (caught (emit events (ans x t)) handler) f ≡ emit (events_of (then (emit events done) f)) (f x)
+unfolding then caught
+caught-behind events x t handler f ball d r =
+    ap (λ v. then v f) (caught-emit events (ans x t) handler)
+    ∙ (then-emit events (ans x (caught t handler)) f
+    ∙ (ap (alt (then (emit events done) f)) (alt-first (f x) (then (caught t handler) f) (raise_not_done (end_of (f x)) ball r))
+    ∙ alt-goes_on (then (emit events done) f) (f x) d))
+
+pub caught-none : {A B : Type 0} (t : Trace A) (handler : Tree → Trace A) (f : A → Trace B) → ((ball : Tree) → end_of t ≢ Raise ball) → then (caught t handler) f ≡ then t f
+caught-none t handler f h = ap (λ v. then v f) (caught-rest t handler h)
+
+pub caught-followed : {A B : Type 0} (events : List (Emitted A)) (ball : Tree) (handler : Tree → Trace A) (f : A → Trace B) → then (caught (emit events (end (Raise ball))) handler) f ≡ alt (then (emit events done) f) (then (handler ball) f)
+caught-followed events ball handler f = ap (λ v. then v f) (caught-raise events ball handler) ∙ then-emit events (handler ball) f

@@ -43,7 +43,7 @@ mutual
 
 -- ---- rounds
 
-abbrev once : Bindings → ℕ → Tree
+abbrev pub once : Bindings → ℕ → Tree
 once b n = unwrap_or (held b n) (var n)
 
 rounds_go : (k : ℕ) (b : Bindings) (t : Tree) → rounds k b t ≡ instance (λ n. rounds k b (var n)) t
@@ -106,7 +106,7 @@ passing_more p q (y ∷ xs) x weaker (inr h) fails passes = elim (cases_Bool (p 
   | inr miss ↦ rw miss (omega (arith, passing_more p q xs x weaker h fails passes))
 ]
 
-none_from : (o : Option Tree) → ((u : Tree) → o ≡ Some u → ⊥) → o ≡ None
+pub none_from : (o : Option Tree) → ((u : Tree) → o ≡ Some u → ⊥) → o ≡ None
 none_from None h = refl
 none_from (Some u) h = absurd (h u refl)
 
@@ -117,7 +117,7 @@ made b n u e = elim (cases_Bool (nat_lt n (length b))) [
 ]
 
 -- ranks of the bound variables, below their number
-record Ranked (b : Bindings) : Type 0 where
+pub record Ranked (b : Bindings) : Type 0 where
   pub rank : ℕ → ℕ
   pub falls : (n m : ℕ) (u w : Tree) → held b n ≡ Some u → Occurs m u → held b m ≡ Some w → rank m < rank n
   pub below : (n : ℕ) (u : Tree) → held b n ≡ Some u → rank n < length b
@@ -137,7 +137,7 @@ lower_weaker : (r : ℕ → ℕ) (n m : ℕ) → r m < r n → (x : ℕ) → low
 unfolding lower
 lower_weaker r n m h x e = let l : r x < r m = ltb-true (r x) (r m) e in grind (arith, nat_tests)
 
-ranked : (b : Bindings) → IsAcyclic b → Ranked b
+pub ranked : (b : Bindings) → IsAcyclic b → Ranked b
 ranked b a = record {
   rank = λ n. passing (lower a.rank n) (numbers (length b));
   falls = λ n m u w is occurs bound.

@@ -1,8 +1,12 @@
 -- The variables of a term as a list, and what a substitution does to a term.
-use Rattle.std.proofs.Common.{◌≡◌, ◌⊎◌, ℕ, ◌==◌, Bool, true, not, List, [], ◌∷◌, ◌++◌, filter, refl, ap, sym, ◌∙◌, subst, inl, inr}
-use Rattle.std.proofs.lemmas.Bool.{cases_Bool, eqb-true}
+use Rattle.std.proofs.Common.{◌≡◌, ◌≢◌, ◌⊎◌, ℕ, zero, suc, get_or, arith, false, ◌==◌, Bool, true, not, List, [], ◌∷◌, ◌++◌, filter, refl, ap, sym, ◌∙◌, subst, inl, inr}
+use Rattle.std.specs.Prelude.{Contains, All, AllPairs}
+use Rattle.std.proofs.lemmas.Bool.{cases_Bool, eqb-true, not-true}
+use Rattle.std.proofs.lemmas.Bool.Decides.{nat_tests}
+use Rattle.std.proofs.lemmas.List.Elements.{Contains-get_or}
+use Rattle.std.proofs.lemmas.List.Kept.{AllPairs-cons, AllPairs-filter}
 use Rattle.pi_types.specs.Tree.{Tree, var, int, atom, comp, Trees, no_trees, tree}
-use Rattle.pi_types.specs.Variables.{occurrences, occurrences_all, firsts, IsGround, Occurs, OccursInAny}
+use Rattle.pi_types.specs.Variables.{occurrences, occurrences_all, firsts, variables, IsGround, Occurs, OccursInAny, VariablesAreThoseThatOccur, VariablesStandOnce, GroundHasNoVariable}
 use Rattle.pi_types.specs.Substitution.{instance, instances, after, SubstitutionComposes, GroundStays, OnlyItsVariablesCount}
 
 -- ---- numbers in a list
@@ -59,6 +63,37 @@ Has-from_firsts [] n h = absurd h
 Has-from_firsts (x ∷ xs) n (inl e) = inl e
 Has-from_firsts (x ∷ xs) n (inr h) = inr (Has-from_firsts xs n (Has-from_filter (λ m. not (m == x)) (firsts xs) n h).0)
 
+no_firsts : (xs : List ℕ) → ((n : ℕ) → Has xs n → ⊥) → firsts xs ≡ []
+unfolding firsts
+no_firsts [] none = refl
+no_firsts (x ∷ xs) none = absurd (none x (inl refl))
+
+Has-from_contains : (xs : List ℕ) (n : ℕ) → Contains xs n → Has xs n
+Has-from_contains [] n (k, within, e) = absurd (omega arith)
+Has-from_contains (x ∷ xs) n (zero, within, e) = inl e
+Has-from_contains (x ∷ xs) n (suc k, within, e) = inr (Has-from_contains xs n (k, omega arith, e))
+
+contains-from_Has : (xs : List ℕ) (n : ℕ) → Has xs n → Contains xs n
+contains-from_Has [] n h = absurd h
+contains-from_Has (x ∷ xs) n (inl e) = (0, omega arith, e)
+contains-from_Has (x ∷ xs) n (inr h) = let r : Contains xs n = contains-from_Has xs n h in let within = r.1 in (suc r.0, omega arith, r.2)
+
+-- what is left of numbers without one differs from it
+others : (x : ℕ) (xs : List ℕ) → All (λ n. x ≢ n) (filter (λ m. not (m == x)) xs)
+others x xs k d within same =
+    let kept : List ℕ = filter (λ m. not (m == x)) xs in
+    let n : ℕ = get_or kept k d in
+    let passes : not (n == x) ≡ true = (Has-from_filter (λ m. not (m == x)) xs n (Has-from_contains kept n (Contains-get_or kept k d within))).1 in
+    let differs : (n == x) ≡ false = not-true (n == x) passes in
+    absurd (grind (arith, nat_tests))
+
+firsts_once : (xs : List ℕ) → AllPairs (λ m n. m ≢ n) (firsts xs)
+unfolding firsts
+firsts_once [] = λ i j d below within. absurd (omega arith)
+firsts_once (x ∷ xs) =
+    AllPairs-cons (λ m n. m ≢ n) x (filter (λ m. not (m == x)) (firsts xs)) (others x (firsts xs))
+    (AllPairs-filter (λ m n. m ≢ n) (λ m. not (m == x)) (firsts xs) (firsts_once xs))
+
 -- ---- variables that occur in a term
 
 mutual
@@ -94,6 +129,18 @@ mutual
 
 pub none_occurs : (t : Tree) (n : ℕ) → IsGround t → Occurs n t → ⊥
 none_occurs t n ground h = let P : List ℕ → Type 0 = λ ns. Has ns n in subst P ground (Has-firsts (occurrences t) n (Has-from_occurs t n h))
+
+pub ground_has_no_variable : GroundHasNoVariable
+ground_has_no_variable t = (λ ground n h. none_occurs t n ground h, λ none. no_firsts (occurrences t) (λ n h. none n (occurs_from_Has t n h)))
+
+pub variables_are_those_that_occur : VariablesAreThoseThatOccur
+variables_are_those_that_occur t n = (
+  λ h. occurs_from_Has t n (Has-from_firsts (occurrences t) n (Has-from_contains (variables t) n h)),
+  λ h. contains-from_Has (variables t) n (Has-firsts (occurrences t) n (Has-from_occurs t n h)),
+)
+
+pub variables_stand_once : VariablesStandOnce
+variables_stand_once t = firsts_once (occurrences t)
 
 -- ---- substitution
 

@@ -1,6 +1,6 @@
 -- More depth only adds, and traces that are cut before a Tick.
-use Rattle.std.specs.Prelude.{◌≢◌, ℕ, zero, suc, List, [], ◌∷◌}
-use Rattle.pi_types.specs.Trace.{Trace, end, note, ans, End, Deep, Note, Tick, Load, Out, Event, noted, answered}
+use Rattle.std.specs.Prelude.{◌≢◌, ℕ, zero, suc, List, [], ◌∷◌, ◌++◌}
+use Rattle.pi_types.specs.Trace.{Trace, end, note, ans, End, Deep, Note, Tick, Load, Out, Emitted, noted, answered}
 
 -- the second trace is the first one, save that where the first ends in Deep the second may go on
 pub data Below {A : Type 0} : Trace A → Trace A → Type 0 where
@@ -24,21 +24,25 @@ pub data Stop : Type 0 where
 
 -- the events before a cut, and what stands there
 pub record Cut (A : Type 0) : Type 0 where
-  pub events : List (Event A)
+  pub events : List (Emitted A)
   pub stop : Stop
 
 -- one more event in front
-abbrev pub after : {A : Type 0} → Event A → Cut A → Cut A
-after event c = record { events = event ∷ c.events; stop = c.stop }
+abbrev pub with_event : {A : Type 0} → Emitted A → Cut A → Cut A
+with_event event c = record { events = event ∷ c.events; stop = c.stop }
+
+-- more events in front
+abbrev pub with_events : {A : Type 0} → List (Emitted A) → Cut A → Cut A
+with_events events c = record { events = events ++ c.events; stop = c.stop }
 
 -- a trace cut just before its Tick number n + 1
 unfoldable pub cut : {A : Type 0} → ℕ → Trace A → Cut A
 cut n (end e) = record { events = []; stop = Ended e }
 cut zero (note Tick t) = record { events = []; stop = Spent }
-cut (suc n) (note Tick t) = after (noted Tick) (cut n t)
-cut n (note (Load k) t) = after (noted (Load k)) (cut n t)
-cut n (note (Out text) t) = after (noted (Out text)) (cut n t)
-cut n (ans x t) = after (answered x) (cut n t)
+cut (suc n) (note Tick t) = with_event (noted Tick) (cut n t)
+cut n (note (Load k) t) = with_event (noted (Load k)) (cut n t)
+cut n (note (Out text) t) = with_event (noted (Out text)) (cut n t)
+cut n (ans x t) = with_event (answered x) (cut n t)
 
 -- the depth reaches to the cut
 abbrev pub CutWithoutDeep : {A : Type 0} → ℕ → Trace A → Type 0

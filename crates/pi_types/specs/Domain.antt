@@ -1,6 +1,6 @@
 -- Domains: finite sets of whole numbers, each as the spans that it consists of. The definitions are own.
-use Rattle.std.specs.Prelude.{ℕ, zero, suc, Bool, false, ◌&&◌, ◌||◌, List, [], ◌∷◌, ◌++◌, ℤ, pos, ◌+ℤ◌, neg_ℤ, ◌≤ℤ◌, int_le, length}
-use Rattle.std.specs.Int.{int_gap}
+use Rattle.std.specs.Prelude.{◌≡◌, ◌↔◌, ℕ, zero, suc, Bool, false, ◌&&◌, ◌||◌, List, [], ◌∷◌, ◌++◌, ℤ, pos, ◌+ℤ◌, neg_ℤ, ◌≤ℤ◌, ◌<ℤ◌, int_le, length, IsTrue, Contains, AllPairs, if◌then◌else◌}
+use Rattle.std.specs.Int.{int_gap, int_max, int_min}
 use Rattle.pi_types.specs.declared.domain.TheConstants.{MAX_VALUE}
 use Rattle.pi_types.specs.declared.domain.Span.{Span}
 
@@ -40,3 +40,58 @@ values_of (s ∷ ss) = numbers_from s.lo (suc (int_gap s.lo s.hi)) ++ values_of 
 -- how many values a domain has
 abbrev pub size_of : List Span → ℕ
 size_of ss = length (values_of ss)
+
+-- what two spans share, as a list of at most one span: from the greater start to the lesser end, where that end isn't
+-- below that start
+unfoldable pub overlap : Span → Span → List Span
+overlap a b =
+    let lo = int_max a.lo b.lo in
+    let hi = int_min a.hi b.hi in
+    if int_le lo hi then (record { lo = lo; hi = hi }) ∷ [] else []
+
+-- what a span shares with each span of a domain
+unfoldable pub shared : Span → List Span → List Span
+shared a [] = []
+shared a (b ∷ bs) = overlap a b ++ shared a bs
+
+-- the values that two domains have in common
+unfoldable pub common : List Span → List Span → List Span
+common [] e = []
+common (a ∷ d) e = shared a e ++ common d e
+
+-- n is a value of the domain, and no value is below it
+pub record IsLeastValue (ss : List Span) (n : ℤ) : Type 0 where
+  pub is_value : IsTrue (has_value ss n)
+  pub none_below : (m : ℤ) → IsTrue (has_value ss m) → n ≤ℤ m
+
+-- n is a value of the domain, and no value is above it
+pub record IsGreatestValue (ss : List Span) (n : ℤ) : Type 0 where
+  pub is_value : IsTrue (has_value ss n)
+  pub none_above : (m : ℤ) → IsTrue (has_value ss m) → m ≤ℤ n
+
+-- the list of values has just the numbers that lie in the spans, ascending, and so each once
+abbrev pub ValuesLieInSpans : Type 0
+ValuesLieInSpans = (ss : List Span) → IsDomain ss → (n : ℤ) → IsTrue (has_value ss n) ↔ Contains (values_of ss) n
+
+abbrev pub ValuesAscend : Type 0
+ValuesAscend = (ss : List Span) → IsDomain ss → AllPairs (λ m n. m <ℤ n) (values_of ss)
+
+abbrev pub ValuesAreWithinBounds : Type 0
+ValuesAreWithinBounds = (ss : List Span) (n : ℤ) → IsDomain ss → IsTrue (has_value ss n) → IsWithinBounds n
+
+-- a domain is the set of its values: one set has one list of spans
+abbrev pub SameValuesSameDomain : Type 0
+SameValuesSameDomain = (ss ts : List Span) → IsDomain ss → IsDomain ts → ((n : ℤ) → has_value ss n ≡ has_value ts n) → ss ≡ ts
+
+abbrev pub FirstSpanHasLeast : Type 0
+FirstSpanHasLeast = (s : Span) (ss : List Span) → IsDomain (s ∷ ss) → IsLeastValue (s ∷ ss) s.lo
+
+abbrev pub LastSpanHasGreatest : Type 0
+LastSpanHasGreatest = (ss : List Span) (s : Span) → IsDomain (ss ++ s ∷ []) → IsGreatestValue (ss ++ s ∷ []) s.hi
+
+-- what two domains have in common is a domain, and has the values of both
+abbrev pub CommonIsADomain : Type 0
+CommonIsADomain = (d e : List Span) → IsDomain d → IsDomain e → IsDomain (common d e)
+
+abbrev pub CommonHasTheValuesOfBoth : Type 0
+CommonHasTheValuesOfBoth = (d e : List Span) (n : ℤ) → has_value (common d e) n ≡ (has_value d n && has_value e n)

@@ -6,7 +6,7 @@ use Rattle.std.proofs.Common.{ap, sym, append_assoc, ◌∙◌}
 use Rattle.std.proofs.lemmas.List.{append-nil, map-append}
 use Rattle.pi_types.specs.Tree.{Tree, atom}
 use Rattle.pi_types.specs.TermCells.{tree_code}
-use Rattle.pi_types.specs.GoalTree.{GoalTree, truth, fail, tick, call, apply, seq, alt, if_else, not, once, collect, count, catch, GoalTrees, no_goals, goal, goal_at, count_goals, take_goals, drop_goals, children, subgoals, subgoals_all, nodes}
+use Rattle.pi_types.specs.GoalTree.{GoalTree, truth, fail, tick, call, apply, seq, alternatives, if_else, not, once, collect, count, catch, GoalTrees, no_goals, goal, goal_at, count_goals, take_goals, drop_goals, children, subgoals, subgoals_all, nodes}
 use Rattle.pi_types.specs.declared.goal_node.GoalCell.{GoalCell}
 use Rattle.pi_types.specs.declared.goal_node.GoalKind.{GoalKind}
 use Rattle.pi_types.specs.declared.goal_node.GoalNode.{GoalNode}
@@ -20,7 +20,7 @@ kind_of tick = Tick
 kind_of (call name args) = Call name args
 kind_of (apply name args slot) = Apply name args slot
 kind_of (seq gs) = Seq (count_goals gs)
-kind_of (alt gs) = Alt (count_goals gs)
+kind_of (alternatives gs) = Alt (count_goals gs)
 kind_of (if_else test then other) = If
 kind_of (not g) = Not
 kind_of (once g) = Once
@@ -68,7 +68,7 @@ over Tick gs = tick
 over (Call name args) gs = call name args
 over (Apply name args slot) gs = apply name args slot
 over (Seq k) gs = seq gs
-over (Alt k) gs = alt gs
+over (Alt k) gs = alternatives gs
 over If gs = if_else (goal_at gs 0) (goal_at gs 1) (goal_at gs 2)
 over Not gs = not (goal_at gs 0)
 over Once gs = once (goal_at gs 0)
@@ -125,7 +125,7 @@ over-kind_of tick = refl
 over-kind_of (call name args) = refl
 over-kind_of (apply name args slot) = refl
 over-kind_of (seq gs) = refl
-over-kind_of (alt gs) = refl
+over-kind_of (alternatives gs) = refl
 over-kind_of (if_else test then other) = refl
 over-kind_of (not g) = refl
 over-kind_of (once g) = refl
@@ -141,7 +141,7 @@ arity-kind_of tick = refl
 arity-kind_of (call name args) = refl
 arity-kind_of (apply name args slot) = refl
 arity-kind_of (seq gs) = refl
-arity-kind_of (alt gs) = refl
+arity-kind_of (alternatives gs) = refl
 arity-kind_of (if_else test then other) = refl
 arity-kind_of (not g) = refl
 arity-kind_of (once g) = refl
@@ -158,7 +158,7 @@ subgoals-children tick = refl
 subgoals-children (call name args) = refl
 subgoals-children (apply name args slot) = refl
 subgoals-children (seq gs) = refl
-subgoals-children (alt gs) = refl
+subgoals-children (alternatives gs) = refl
 subgoals-children (if_else test then other) =
     ap (λ r. if_else test then other ∷ (subgoals test ++ (subgoals then ++ r))) (sym (append-nil (subgoals other)))
 subgoals-children (not g) = ap (λ r. not g ∷ r) (sym (append-nil (subgoals g)))
@@ -200,7 +200,7 @@ mutual
   spelled-flat (call name args) cs = spelled-root (call name args) cs (spelled-none cs)
   spelled-flat (apply name args slot) cs = spelled-root (apply name args slot) cs (spelled-none cs)
   spelled-flat (seq gs) cs = spelled-root (seq gs) cs (spelled-flat_all gs cs)
-  spelled-flat (alt gs) cs = spelled-root (alt gs) cs (spelled-flat_all gs cs)
+  spelled-flat (alternatives gs) cs = spelled-root (alternatives gs) cs (spelled-flat_all gs cs)
   spelled-flat (if_else test then other) cs =
       spelled-root (if_else test then other) cs
       (spelled-front test (goal then (goal other no_goals)) cs (spelled-flat test)

@@ -13,7 +13,7 @@ mutual
     call : List ℕ → List Tree → GoalTree
     apply : List ℕ → List Tree → ℕ → GoalTree
     seq : GoalTrees → GoalTree
-    alt : GoalTrees → GoalTree
+    alternatives : GoalTrees → GoalTree
     if_else : GoalTree → GoalTree → GoalTree → GoalTree
     not : GoalTree → GoalTree
     once : GoalTree → GoalTree
@@ -62,7 +62,7 @@ children tick = no_goals
 children (call name args) = no_goals
 children (apply name args slot) = no_goals
 children (seq gs) = gs
-children (alt gs) = gs
+children (alternatives gs) = gs
 children (if_else test then other) = goal test (goal then (goal other no_goals))
 children (not g) = goal g no_goals
 children (once g) = goal g no_goals
@@ -86,7 +86,7 @@ unfoldable mutual
   subgoals (call name args) = call name args ∷ []
   subgoals (apply name args slot) = apply name args slot ∷ []
   subgoals (seq gs) = seq gs ∷ subgoals_all gs
-  subgoals (alt gs) = alt gs ∷ subgoals_all gs
+  subgoals (alternatives gs) = alternatives gs ∷ subgoals_all gs
   subgoals (if_else test then other) = if_else test then other ∷ (subgoals test ++ (subgoals then ++ subgoals other))
   subgoals (not g) = not g ∷ subgoals g
   subgoals (once g) = once g ∷ subgoals g
@@ -117,7 +117,7 @@ ShowsNode g GoalNode.Tick = g ≡ tick
 ShowsNode g (GoalNode.Call name args) = g ≡ call name.now args.now
 ShowsNode g (GoalNode.Apply name args slot) = g ≡ apply name.now args.now slot
 ShowsNode g (GoalNode.Seq k) = (g ≡ seq (children g)) × (k ≡ child_count g)
-ShowsNode g (GoalNode.Alt k) = (g ≡ alt (children g)) × (k ≡ child_count g)
+ShowsNode g (GoalNode.Alt k) = (g ≡ alternatives (children g)) × (k ≡ child_count g)
 ShowsNode g GoalNode.If = g ≡ if_else (child g 0) (child g 1) (child g 2)
 ShowsNode g GoalNode.Not = g ≡ not (child g 0)
 ShowsNode g GoalNode.Once = g ≡ once (child g 0)

@@ -6,7 +6,7 @@ use Rattle.std.specs.Ordering.{is_eq}
 use Rattle.pi_types.specs.Tree.{Tree, var, int, atom, comp, Trees, no_trees, tree}
 use Rattle.pi_types.specs.Places.{Places, held}
 use Rattle.pi_types.specs.Order.{name_order, identical}
-use Rattle.pi_types.specs.PatternTree.{PatternTree, slot, exact_int, exact_atom, compound, named, PatternTrees, no_patterns, pattern, HasSlot}
+use Rattle.pi_types.specs.PatternTree.{PatternTree, slot, exact_int, exact_atom, compound, named, PatternTrees, no_patterns, pattern, HasSlot, HaveSlot}
 
 abbrev pub Slots : Type 0
 Slots = Places
@@ -65,6 +65,16 @@ pub record IsMatch (p : PatternTree) (t : Tree) (s r : Slots) : Type 0 where
   pub only : FillsOnly p s r
   pub under : IsUnder r p t
 
+-- r differs from s in slots of these patterns alone
+abbrev pub FillOnly : PatternTrees → Slots → Slots → Type 0
+FillOnly ps s r = (k : ℕ) → (HaveSlot ps k → ⊥) → held r k ≡ held s k
+
+-- r is s with just the slots of a head's patterns filled so that each of them is its argument
+pub record AreMatch (ps : PatternTrees) (ts : Trees) (s r : Slots) : Type 0 where
+  pub extends : Extends s r
+  pub only : FillOnly ps s r
+  pub under : AreUnder r ps ts
+
 -- a pattern that is a slot, or one by another name too
 abbrev pub IsSlot : PatternTree → Type 0
 IsSlot (slot k) = Unit {0}
@@ -85,3 +95,13 @@ MatchFails = (p : PatternTree) (t : Tree) (s : Slots) → (matched p t s ≡ Non
 
 abbrev pub VariableWantsSlot : Type 0
 VariableWantsSlot = (p : PatternTree) (n : ℕ) (s r : Slots) → matched p (var n) s ≡ Some r → IsSlot p
+
+-- the same of the patterns of a head, from the left
+abbrev pub HeadMatchFills : Type 0
+HeadMatchFills = (ps : PatternTrees) (ts : Trees) (s r : Slots) → (matched_all ps ts s ≡ Some r) ↔ AreMatch ps ts s r
+
+abbrev pub HeadMatchIsLeast : Type 0
+HeadMatchIsLeast = (ps : PatternTrees) (ts : Trees) (s r q : Slots) → matched_all ps ts s ≡ Some r → Extends s q → AreUnder q ps ts → Extends r q
+
+abbrev pub HeadMatchFails : Type 0
+HeadMatchFails = (ps : PatternTrees) (ts : Trees) (s : Slots) → (matched_all ps ts s ≡ None) ↔ ((r : Slots) → Extends s r → AreUnder r ps ts → ⊥)

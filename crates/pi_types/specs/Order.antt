@@ -8,7 +8,7 @@ use Rattle.std.specs.Cmp.{IsTotalOrder}
 use Rattle.std.specs.Cmp.Lexicographic.{slice_cmp}
 use Rattle.std.specs.declared.cmp.Ordering.{Ordering}
 use Rattle.std.specs.declared.cmp.Ordering.TheVariants.{Less, Equal, Greater}
-use Rattle.pi_types.specs.Tree.{Tree, var, int, atom, comp, Trees, no_trees, tree, count}
+use Rattle.pi_types.specs.Tree.{Tree, var, int, atom, comp, Trees, no_trees, tree, tree_count}
 
 abbrev pub name_order : List ℕ → List ℕ → Ordering
 name_order f g = slice_cmp nat_cmp f g
@@ -35,7 +35,7 @@ unfoldable mutual
   order (comp f ts) (int n) = Greater
   order (comp f ts) (atom b) = Greater
   order (comp f ts) (comp g us) =
-      ordering_then (nat_cmp (count ts) (count us)) (ordering_then (name_order f g) (order_all ts us))
+      ordering_then (nat_cmp (tree_count ts) (tree_count us)) (ordering_then (name_order f g) (order_all ts us))
 
   -- arguments from the left; where one list ends first, it comes first
   pub order_all : Trees → Trees → Ordering

@@ -4,7 +4,7 @@ use Rattle.std.specs.Prelude.{◌≡◌, ℕ, zero, suc, ◌==◌, cond, ℤ, po
 use Rattle.std.specs.Coded.{Coded, code_by, coded×, coded_list, coded_ℕ, coded_ℤ}
 use Rattle.std.proofs.Common.{ap, sym, append_assoc, ◌∙◌}
 use Rattle.std.proofs.lemmas.List.{append-nil}
-use Rattle.pi_types.specs.Tree.{Tree, var, int, atom, comp, Trees, no_trees, tree, count, cells_all, drop_trees}
+use Rattle.pi_types.specs.Tree.{Tree, var, int, atom, comp, Trees, no_trees, tree, tree_count, cells_all, drop_trees}
 use Rattle.pi_types.specs.declared.term.TermCell.{TermCell}
 use Rattle.pi_types.specs.declared.term.TermCell.TheVariants.{Var, Int, Atom, Comp}
 use Rattle.pi_types.specs.declared.term.TermHead.{TermHead}
@@ -29,7 +29,7 @@ unfoldable mutual
   flat (var n) = Var n ∷ []
   flat (int n) = Int n ∷ []
   flat (atom name) = Atom name ∷ []
-  flat (comp name ts) = Comp name (count ts) (suc (cells_all ts)) ∷ flat_all ts
+  flat (comp name ts) = Comp name (tree_count ts) (suc (cells_all ts)) ∷ flat_all ts
 
   pub flat_all : Trees → List TermCell
   flat_all no_trees = []
@@ -65,13 +65,13 @@ abbrev pub append_trees : Trees → Trees → Trees
 append_trees no_trees us = us
 append_trees (tree t ts) us = tree t (append_trees ts us)
 
-pub take_trees-append : (ts us : Trees) → take_trees (count ts) (append_trees ts us) ≡ ts
-unfolding count
+pub take_trees-append : (ts us : Trees) → take_trees (tree_count ts) (append_trees ts us) ≡ ts
+unfolding tree_count
 take_trees-append no_trees us = refl
 take_trees-append (tree t ts) us = ap (λ r. tree t r) (take_trees-append ts us)
 
-pub drop_trees-append : (ts us : Trees) → drop_trees (count ts) (append_trees ts us) ≡ us
-unfolding count
+pub drop_trees-append : (ts us : Trees) → drop_trees (tree_count ts) (append_trees ts us) ≡ us
+unfolding tree_count
 drop_trees-append no_trees us = refl
 drop_trees-append (tree t ts) us = drop_trees-append ts us
 
@@ -83,8 +83,8 @@ mutual
   spelled-flat (int n) cs = refl
   spelled-flat (atom name) cs = refl
   spelled-flat (comp name ts) cs =
-      ap (λ r. tree (comp name (take_trees (count ts) r)) (drop_trees (count ts) r)) (spelled-flat_all ts cs)
-      ∙ (ap (λ r. tree (comp name r) (drop_trees (count ts) (append_trees ts (spelled cs)))) (take_trees-append ts (spelled cs))
+      ap (λ r. tree (comp name (take_trees (tree_count ts) r)) (drop_trees (tree_count ts) r)) (spelled-flat_all ts cs)
+      ∙ (ap (λ r. tree (comp name r) (drop_trees (tree_count ts) (append_trees ts (spelled cs)))) (take_trees-append ts (spelled cs))
       ∙ ap (λ r. tree (comp name ts) r) (drop_trees-append ts (spelled cs)))
 
   pub spelled-flat_all : (ts : Trees) (cs : List TermCell) → spelled (flat_all ts ++ cs) ≡ append_trees ts (spelled cs)

@@ -74,24 +74,24 @@ answers (note n t) = answers t
 answers (ans x t) = x ∷ answers t
 
 -- a note or an answer
-pub data Event (A : Type 0) : Type 0 where
-  noted : Note → Event A
-  answered : A → Event A
+pub data Emitted (A : Type 0) : Type 0 where
+  noted : Note → Emitted A
+  answered : A → Emitted A
 
 -- events, and a trace after them
-unfoldable pub emit : {A : Type 0} → List (Event A) → Trace A → Trace A
+unfoldable pub emit : {A : Type 0} → List (Emitted A) → Trace A → Trace A
 emit [] t = t
 emit (noted n ∷ events) t = note n (emit events t)
 emit (answered x ∷ events) t = ans x (emit events t)
 
 -- a trace's events
-unfoldable pub events_of : {A : Type 0} → Trace A → List (Event A)
+unfoldable pub events_of : {A : Type 0} → Trace A → List (Emitted A)
 events_of (end e) = []
 events_of (note n t) = noted n ∷ events_of t
 events_of (ans x t) = answered x ∷ events_of t
 
 -- how many of them are Ticks
-unfoldable pub count_ticks : {A : Type 0} → List (Event A) → ℕ
+unfoldable pub count_ticks : {A : Type 0} → List (Emitted A) → ℕ
 count_ticks [] = 0
 count_ticks (noted Tick ∷ events) = suc (count_ticks events)
 count_ticks (event ∷ events) = count_ticks events

@@ -1,9 +1,9 @@
 -- The laws of traces, each for every type of answers.
 use Rattle.std.specs.Prelude.{◌≡◌, ◌≢◌, ◌≤◌, ℕ, List, [], ◌++◌, ◌+◌, map, length}
 use Rattle.pi_types.specs.Tree.{Tree}
-use Rattle.pi_types.specs.Trace.{Trace, end, note, ans, Done, Raise, Note, Tick, Event, noted, done, one, alt, then, first, end_of, WithoutDeep, answers, emit, events_of, count_ticks, ticks}
+use Rattle.pi_types.specs.Trace.{Trace, end, note, ans, End, Done, Raise, Note, Tick, Emitted, noted, done, one, alt, then, first, end_of, WithoutDeep, answers, emit, events_of, count_ticks, ticks}
 use Rattle.pi_types.specs.Control.{negated, chosen, collected, counted, caught}
-use Rattle.pi_types.specs.Depth.{Below, BelowAfter, DepthOnlyAdds, Stop, Ended, Spent, cut, CutWithoutDeep}
+use Rattle.pi_types.specs.Depth.{Below, BelowAfter, DepthOnlyAdds, Stop, Ended, Spent, with_events, cut, CutWithoutDeep}
 
 -- A trace is a list of events and an end, and alternatives go on behind the end.
 
@@ -39,6 +39,26 @@ ThenIsAssociative A B C = (t : Trace A) (f : A → Trace B) (g : B → Trace C) 
 abbrev pub ThenGoesOverAlt : Type 0 → Type 0 → Type 0
 ThenGoesOverAlt A B = (t u : Trace A) (f : A → Trace B) → then (alt t u) f ≡ alt (then t f) (then u f)
 
+-- What follows, at each thing that a trace can begin with: an end stays, a note stays in front, and in place of an answer
+-- stands what follows it.
+
+abbrev pub ThenAtAnEnd : Type 0 → Type 0 → Type 0
+ThenAtAnEnd A B = (e : End) (f : A → Trace B) → then (end e) f ≡ end e
+
+abbrev pub ThenAtANote : Type 0 → Type 0 → Type 0
+ThenAtANote A B = (n : Note) (t : Trace A) (f : A → Trace B) → then (note n t) f ≡ note n (then t f)
+
+abbrev pub ThenAtAnAnswer : Type 0 → Type 0 → Type 0
+ThenAtAnAnswer A B = (x : A) (t : Trace A) (f : A → Trace B) → then (ans x t) f ≡ alt (f x) (then t f)
+
+-- what stands in front stays there: notes, and before an alternative answers too
+abbrev pub ThenKeepsNotes : Type 0 → Type 0 → Type 0
+ThenKeepsNotes A B = (notes : List Note) (t : Trace A) (f : A → Trace B) →
+    then (emit (map noted notes) t) f ≡ emit (map noted notes) (then t f)
+
+abbrev pub AltKeepsEvents : Type 0 → Type 0
+AltKeepsEvents A = (events : List (Emitted A)) (t u : Trace A) → alt (emit events t) u ≡ emit events (alt t u)
+
 -- What the control forms are.
 
 abbrev pub FirstHasNoOther : Type 0 → Type 0
@@ -72,10 +92,31 @@ CountedIsTheLength A B = (t : Trace A) (f : ℕ → Trace B) → counted t f ≡
 
 -- `catch` goes on after an exception, and leaves a trace that ends in another way as it is
 abbrev pub CaughtGoesOn : Type 0 → Type 0
-CaughtGoesOn A = (events : List (Event A)) (ball : Tree) (f : Tree → Trace A) → caught (emit events (end (Raise ball))) f ≡ emit events (f ball)
+CaughtGoesOn A = (events : List (Emitted A)) (ball : Tree) (f : Tree → Trace A) → caught (emit events (end (Raise ball))) f ≡ emit events (f ball)
 
 abbrev pub CaughtIsTheRest : Type 0 → Type 0
 CaughtIsTheRest A = (t : Trace A) (f : Tree → Trace A) → ((ball : Tree) → end_of t ≢ Raise ball) → caught t f ≡ t
+
+abbrev pub CaughtKeepsEvents : Type 0 → Type 0
+CaughtKeepsEvents A = (events : List (Emitted A)) (t : Trace A) (f : Tree → Trace A) → caught (emit events t) f ≡ emit events (caught t f)
+
+-- What follows a `catch` stands outside of it. Where what follows one of its answers raises, and what follows the answers
+-- before that one is done, the whole ends there: with the events so far, and in that exception, which the handler never
+-- sees.
+abbrev pub RaiseBehindIsNotCaught : Type 0 → Type 0 → Type 0
+RaiseBehindIsNotCaught A B = (events : List (Emitted A)) (x : A) (t : Trace A) (handler : Tree → Trace A) (f : A → Trace B) (ball : Tree) →
+    end_of (then (emit events done) f) ≡ Done → end_of (f x) ≡ Raise ball →
+    then (caught (emit events (ans x t)) handler) f ≡ emit (events_of (then (emit events done) f)) (f x)
+
+-- where the trace in it doesn't raise, a `catch` is as if it were not there, whatever raises behind it
+abbrev pub CatchWithoutRaiseIsNone : Type 0 → Type 0 → Type 0
+CatchWithoutRaiseIsNone A B = (t : Trace A) (handler : Tree → Trace A) (f : A → Trace B) → ((ball : Tree) → end_of t ≢ Raise ball) →
+    then (caught t handler) f ≡ then t f
+
+-- where it does, what follows its answers comes first, and then what follows those of the handler
+abbrev pub CaughtRaiseIsFollowed : Type 0 → Type 0 → Type 0
+CaughtRaiseIsFollowed A B = (events : List (Emitted A)) (ball : Tree) (handler : Tree → Trace A) (f : A → Trace B) →
+    then (caught (emit events (end (Raise ball))) handler) f ≡ alt (then (emit events done) f) (then (handler ball) f)
 
 -- What the control forms make of alternatives: `first`, `not` and `if` go on with the second trace where the first one has
 -- no answer, `find_all` and `count_all` go on with what they have so far.
@@ -145,17 +186,17 @@ abbrev pub CaughtKeepsBelow : Type 0 → Type 0
 CaughtKeepsBelow A = (t t' : Trace A) (f f' : Tree → Trace A) → Below t t' → BelowAfter f f' → Below (caught t f) (caught t' f')
 
 abbrev pub EmitKeepsBelow : Type 0 → Type 0
-EmitKeepsBelow A = (events : List (Event A)) (t t' : Trace A) → Below t t' → Below (emit events t) (emit events t')
+EmitKeepsBelow A = (events : List (Emitted A)) (t t' : Trace A) → Below t t' → Below (emit events t) (emit events t')
 
 -- events that are known stay
 abbrev pub BelowKeepsEvents : Type 0 → Type 0
-BelowKeepsEvents A = (events : List (Event A)) (t u : Trace A) → Below (emit events t) u →
+BelowKeepsEvents A = (events : List (Emitted A)) (t u : Trace A) → Below (emit events t) u →
     (rest : Trace A) × (u ≡ emit events rest) × Below t rest
 
 -- Events in front of a trace, and cuts.
 
 abbrev pub EmitIsAssociative : Type 0 → Type 0
-EmitIsAssociative A = (front back : List (Event A)) (t : Trace A) → emit (front ++ back) t ≡ emit front (emit back t)
+EmitIsAssociative A = (front back : List (Emitted A)) (t : Trace A) → emit (front ++ back) t ≡ emit front (emit back t)
 
 -- what stands where a cut stops: the trace's end, or a Tick
 abbrev pub StandsAt : {A : Type 0} → Stop → Trace A → Type 0
@@ -166,9 +207,14 @@ StandsAt {A = A} Spent rest = (after : Trace A) × (rest ≡ note Tick after)
 abbrev pub CutIsAPrefix : Type 0 → Type 0
 CutIsAPrefix A = (n : ℕ) (t : Trace A) → (rest : Trace A) × (t ≡ emit (cut n t).events rest) × StandsAt (cut n t).stop rest
 
+-- a cut goes on behind events, with the Ticks that they leave
+abbrev pub CutGoesOverEvents : Type 0 → Type 0
+CutGoesOverEvents A = (events : List (Emitted A)) (n : ℕ) (t : Trace A) →
+    cut (count_ticks events + n) (emit events t) ≡ with_events events (cut n t)
+
 -- a cut at number n + 1 leaves n Ticks where there are more, and all where there aren't
 abbrev pub CutStopsAtATick : Type 0 → Type 0
-CutStopsAtATick A = (events : List (Event A)) (t : Trace A) →
+CutStopsAtATick A = (events : List (Emitted A)) (t : Trace A) →
     cut (count_ticks events) (emit events (note Tick t)) ≡ record { events = events; stop = Spent }
 
 abbrev pub CutLeavesFewerTicks : Type 0 → Type 0

@@ -1,6 +1,6 @@
 -- Terms as trees. A term is a variable, an integer, an atom, or a compound with a name and arguments (A User's
 -- Guide to Picat, 'Data Types, Operators, and Built-ins'). A name is the list of its bytes in UTF-8.
-use Rattle.std.specs.Prelude.{◌≡◌, ℕ, zero, suc, ◌+◌, ℤ, List, [], ◌∷◌, ◌++◌, Option, Some, None}
+use Rattle.std.specs.Prelude.{◌≡◌, ℕ, zero, suc, ◌+◌, ℤ, List, [], ◌∷◌, ◌++◌, length, Option, Some, None}
 use Rattle.pi_types.specs.declared.term.TermHead.{TermHead}
 
 mutual
@@ -21,9 +21,9 @@ trees_of [] = no_trees
 trees_of (t ∷ ts) = tree t (trees_of ts)
 
 -- how many they are
-unfoldable pub count : Trees → ℕ
-count no_trees = 0
-count (tree t ts) = suc (count ts)
+unfoldable pub tree_count : Trees → ℕ
+tree_count no_trees = 0
+tree_count (tree t ts) = suc (tree_count ts)
 
 -- the one with this number, counted from 0
 unfoldable pub tree_at : Trees → ℕ → Option Tree
@@ -43,6 +43,10 @@ unfoldable mutual
   cells_all no_trees = 0
   cells_all (tree t ts) = cells t + cells_all ts
 
+-- the most cells of a term that is copied, raised, read out of a store or printed (own)
+abbrev pub most_cells : ℕ
+most_cells = 16777216
+
 -- the terms in a term in prefix order: itself, then those in its arguments from the left
 unfoldable mutual
   pub subterms : Tree → List Tree
@@ -55,6 +59,10 @@ unfoldable mutual
   subterms_all no_trees = []
   subterms_all (tree t ts) = subterms t ++ subterms_all ts
 
+-- there is one for each cell
+abbrev pub SubtermForEachCell : Type 0
+SubtermForEachCell = (t : Tree) → length (subterms t) ≡ cells t
+
 -- its arguments; a variable, an integer and an atom have none
 abbrev pub args : Tree → Trees
 args (var n) = no_trees
@@ -63,7 +71,7 @@ args (atom name) = no_trees
 args (comp name ts) = ts
 
 abbrev pub arity : Tree → ℕ
-arity t = count (args t)
+arity t = tree_count (args t)
 
 -- the argument with this number, counted from 0
 abbrev pub arg_at : Tree → ℕ → Option Tree

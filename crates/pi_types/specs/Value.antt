@@ -32,8 +32,8 @@ pub record IsAcyclic (b : Bindings) : Type 0 where
   pub falls : (n m : ℕ) (u : Tree) → held b n ≡ Some u → Occurs m u → rank m < rank n
 
 -- a term in place of one variable
-abbrev pub one : ℕ → Tree → ℕ → Tree
-one n u m = cond (m == n) u (var m)
+abbrev pub only_at : ℕ → Tree → ℕ → Tree
+only_at n u m = cond (m == n) u (var m)
 
 -- a variable of the state is bound to a term, where it was not bound, and does not occur in the term's value
 pub record MayBind (b : Bindings) (n : ℕ) (u : Tree) : Type 0 where
@@ -70,7 +70,7 @@ BindingStaysAcyclic = (b : Bindings) (n : ℕ) (u : Tree) → MayBind b n u → 
 
 -- a new binding puts the term's value in place of the variable, in the values before
 abbrev pub BindingReplaces : Type 0
-BindingReplaces = (b : Bindings) (n : ℕ) (u t : Tree) → MayBind b n u → value (slice_set b n (Some u)) t ≡ instance (one n (value b u)) (value b t)
+BindingReplaces = (b : Bindings) (n : ℕ) (u t : Tree) → MayBind b n u → value (slice_set b n (Some u)) t ≡ instance (only_at n (value b u)) (value b t)
 
 abbrev pub NewVariableChangesNoValue : Type 0
 NewVariableChangesNoValue = (b : Bindings) (t : Tree) → IsAcyclic b → value (b ++ None ∷ []) t ≡ value b t

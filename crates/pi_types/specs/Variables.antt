@@ -1,5 +1,5 @@
 -- The variables of a term, each once, in the order of their first occurrences from the left.
-use Rattle.std.specs.Prelude.{◌≡◌, ◌⊎◌, ℕ, ◌==◌, not, List, [], ◌∷◌, ◌++◌, filter}
+use Rattle.std.specs.Prelude.{◌≡◌, ◌≢◌, ◌⊎◌, ◌↔◌, ℕ, ◌==◌, not, List, [], ◌∷◌, ◌++◌, filter, Contains, AllPairs}
 use Rattle.pi_types.specs.Tree.{Tree, var, int, atom, comp, Trees, no_trees, tree}
 
 -- the variables at all places of a term, from the left
@@ -37,3 +37,13 @@ unfoldable mutual
   pub OccursInAny : ℕ → Trees → Type 0
   OccursInAny n no_trees = ⊥
   OccursInAny n (tree t ts) = Occurs n t ⊎ OccursInAny n ts
+
+-- the variables of a term are just those that occur in it, and each stands once
+abbrev pub VariablesAreThoseThatOccur : Type 0
+VariablesAreThoseThatOccur = (t : Tree) (n : ℕ) → Contains (variables t) n ↔ Occurs n t
+
+abbrev pub VariablesStandOnce : Type 0
+VariablesStandOnce = (t : Tree) → AllPairs (λ m n. m ≢ n) (variables t)
+
+abbrev pub GroundHasNoVariable : Type 0
+GroundHasNoVariable = (t : Tree) → IsGround t ↔ ((n : ℕ) → Occurs n t → ⊥)

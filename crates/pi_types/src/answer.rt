@@ -20,7 +20,8 @@ pub struct VarDomain {
     pub domain: Domain,
 }
 
-/// Variables with their domains.
+/// Variables with their domains, each variable once: by their first occurrences in the answer's values from the left, as
+/// `_1`, `_2` are printed.
 pub type VarDomains = Series<VarDomain>;
 
 /// An answer of a query: the value of each named variable in the order of the goal, and the domain of each unbound

@@ -1,5 +1,5 @@
 ghost use Rattle.std.specs.Prelude.{◌≡◌, ◌<◌, ◌+◌, ◌++◌, ◌∷◌, [], length, IfOk};
-ghost use Rattle.pi_types.specs.GoalTree.{truth, fail, tick, call, apply, seq, alt, if_else, not, once, collect, count, catch, goals_of, no_goals, nodes, nodes_all, subgoal, children, child, child_count, child_goals, count_goals, take_goals, ShowsNode};
+ghost use Rattle.pi_types.specs.GoalTree.{truth, fail, tick, call, apply, seq, alternatives, if_else, not, once, collect, count, catch, goals_of, no_goals, nodes, nodes_all, subgoal, children, child, child_count, child_goals, count_goals, take_goals, ShowsNode};
 ghost use Rattle.pi_types.specs.GoalCells.{arity, over, flat, flat_all, spelled};
 
 use crate::args::Args;
@@ -45,7 +45,7 @@ impl CoreGoal {
         leaf(alloc, GoalKind::Fail)
     }
 
-    /// The goal that counts one Tick.
+    /// The goal that counts one Tick and has one answer.
     pub fn tick(alloc: Global) -> Result<CoreGoal, AllocError>
         ensures ok { IfOk result (λ made. made ≡ tick) }
     {
@@ -82,7 +82,7 @@ impl CoreGoal {
 
     /// The goals as alternatives, in order.
     pub fn alt(alloc: Global, goals: &[CoreGoal]) -> Result<CoreGoal, AllocError>
-        ensures ok { IfOk result (λ made. made ≡ alt (goals_of goals.now)) }
+        ensures ok { IfOk result (λ made. made ≡ alternatives (goals_of goals.now)) }
     {
         many(alloc, GoalKind::Alt(goals.len()), goals)
     }
@@ -139,7 +139,9 @@ impl CoreGoal {
         unary(alloc, GoalKind::Count(into), goal)
     }
 
-    /// The goal; where it raises a term that unifies with `ball`, the handler from the state of the entry.
+    /// `goal`, with its answers. Where it ends in an exception, the state is again that of the entry, a copy of the
+    /// exception's term is unified with `ball`, and `handler` runs; where they don't unify, the exception goes on. One in
+    /// what follows the catch isn't caught.
     pub fn catch(
         alloc: Global,
         goal: CoreGoal,

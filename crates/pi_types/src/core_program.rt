@@ -36,8 +36,11 @@ pub type SlotWatches = Series<SlotWatch>;
 #[derive(Debug, Drop)]
 pub struct CoreClause {
     pub head: Patterns,
+    /// The condition; `truth` stands for none. A condition that is written `true` is a `seq` of `truth` alone: what waits
+    /// is run before a condition's answer counts, and a clause without a condition runs it first in its body.
     pub guard: CoreGoal,
-    /// Later clauses stay as alternatives where this one applies.
+    /// Later clauses stay as alternatives where this one applies. It counts for no action rule and for no function's
+    /// rule, which are committed.
     pub back: bool,
     pub watches: SlotWatches,
     pub body: CoreGoal,

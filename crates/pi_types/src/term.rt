@@ -1,6 +1,9 @@
-ghost use Rattle.std.specs.Prelude.{◌≡◌, ◌≤◌, ◌+◌, ◌<◌, ◌++◌, List, ℕ, Some, IfOk, IfSome, IsSomeAnd, slice_get, length, drop};
+ghost use Rattle.std.specs.Prelude.{◌≡◌, ◌≤◌, ◌+◌, ◌<◌, ◌++◌, List, ℕ, Some, IfOk, IfSome, IsNone, IsSomeAnd, ◌^◌, slice_get, length, drop};
 ghost use Rattle.pi_types.specs.Tree.{Tree, var, int, atom, comp, trees_of, cells, cells_all, arity, args, arg_at, drop_trees, subterms, ShowsHead};
 ghost use Rattle.pi_types.specs.TermCells.{flat, flat_all, tree_of, size_of, CellShows};
+
+mod bare;
+mod renumbered;
 
 use crate::text::Text;
 use std::alloc::{AllocError, Global};
@@ -142,7 +145,7 @@ impl Term {
     #[tactic(auto, using(crate::proofs::TermLemmas::length_flat))]
     pub fn head_at(&self, i: usize) -> TermHead<'_>
         requires { i < cells self.now }
-        ensures { IfSome (slice_get (subterms self.now) i) (λ u. ShowsHead u result) }
+        ensures { IsSomeAnd (slice_get (subterms self.now) i) (λ u. ShowsHead u result) }
     {
         self.cells[i].head()
     }
@@ -177,7 +180,8 @@ impl Term {
 
 /// The cells of a compound with these arguments; None where no vector can have as many.
 fn size_with(args: &[Term]) -> Option<usize>
-    ensures { IfSome result (λ size. size ≡ cells_all (trees_of args.now) + 1) }
+    ensures some { IfSome result (λ size. size ≡ cells_all (trees_of args.now) + 1) }
+    ensures none { IsNone result → 2 ^ 64 ≤ cells_all (trees_of args.now) + 1 }
 {
     let mut size = 1usize;
     for arg in args {
@@ -236,7 +240,7 @@ mod tests {
     use std::test::Fail;
 
     #[test]
-    #[tactic(auto, unfolding(crate::specs::Tree::count, crate::specs::Tree::tree_at))]
+    #[tactic(auto, unfolding(crate::specs::Tree::tree_count, crate::specs::Tree::tree_at))]
     fn a_compound_shows_its_parts(rt: HostRuntime) -> Result<(), Fail> {
         let alloc = rt.alloc();
         let inner = Term::comp(alloc, "g", &[Term::atom(alloc, "a")?])?;

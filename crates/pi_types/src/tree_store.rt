@@ -1,172 +1,289 @@
-ghost use Rattle.std.specs.Prelude.{◌≡◌, OnErr, OnOk};
-ghost use Rattle.pi_types.specs.declared.tree_store.TreeState.{TreeState};
+ghost use Rattle.std.specs.Prelude.{◌≡◌, ℕ, Some, length, IfOk, OnErr, slice_index_or};
+ghost use Rattle.pi_types.specs.Store.{Keeps, Changes, Stays};
+ghost use Rattle.pi_types.specs.State.{empty_state, with_variable};
+ghost use Rattle.pi_types.specs.TreeStore.{store_view, trees_of, state_of, known_of};
+ghost use Rattle.pi_types.specs.TreeStoreWalks.{changed, unbound_in};
+ghost use Rattle.pi_types.specs.TreeStoreProps.{sound_prop};
+ghost use Rattle.pi_types.specs.TreeStoreSound.{IsSound, IsSoundState, IsSoundTerm, IsMadeBelow, IsKnownBelow, IsAdvanced, IsSame};
 
-use crate::store::{Cell, ReadStop, Ref, StateStore};
+mod atoms;
+mod copied;
+mod places;
+mod queue;
+mod read;
+mod state;
+mod terms;
+#[cfg(test)]
+mod tests;
+
+use crate::constraint::Constraint;
+use crate::domain::Domain;
+use crate::event::{Activation, AgentView, Watches};
+use crate::series::Series;
+use crate::store::{Cell, Places, ReadStop, Ref, StateStore};
 use crate::term::Term;
-use indexmap::IndexSet;
+use crate::tree_store::atoms::Atoms;
+use crate::tree_store::copied::Copied;
+use crate::tree_store::state::{Change, Known, StoredAgent, StoredTerm, StoredVariable, TreeState};
 use std::alloc::{AllocError, Global};
-
-/// A term of a state, at its own number.
-#[derive(Clone, Copy, Debug)]
-enum StoredTerm {
-    /// An unbound variable, with its number.
-    Free(u64),
-    /// A variable that is bound to this term.
-    Bound(Ref),
-    Int(i128),
-    Atom(u64),
-}
-
-/// One whole state.
-#[derive(Debug, Drop)]
-struct TreeState {
-    terms: Vec<StoredTerm>,
-    vars: u64,
-}
+use std::mem;
 
 /// A store as a list of whole states. A mark is the number of the present state, which is kept from then on; a kept
 /// state is copied before it is changed, and `undo` copies nothing.
 #[derive(Drop)]
 pub struct TreeStore {
     alloc: Global,
-    /// Names of atoms, in the order of their first use; they are not undone.
-    atoms: IndexSet<String>,
+    /// They are not undone.
+    atoms: Atoms,
     /// The kept states before the present one.
-    earlier: Vec<TreeState>,
+    earlier: Series<TreeState>,
     present: TreeState,
     /// Whether the present state is kept.
     is_kept: bool,
-}
-
-impl TreeState {
-    fn copy(&self, alloc: Global) -> Result<TreeState, AllocError> {
-        let terms = Vec::from_slice(alloc, self.terms.as_slice())?;
-        Ok(TreeState {
-            terms,
-            vars: self.vars,
-        })
-    }
-
-    fn push(&mut self, term: StoredTerm) -> Result<Ref, AllocError>
-        ensures err { OnErr result (self.new.terms.items ≡ self.old.terms.items) }
-        ensures vars { self.new.vars ≡ self.old.vars }
-    {
-        let number = self.terms.len() as u64;
-        self.terms.push(term)?;
-        Ok(Ref { number })
-    }
-
-    /// The term itself, or what it is bound to, directly or through others.
-    fn followed(&self, r: Ref) -> Ref {
-        let mut at = r;
-        for _ in 0..self.terms.len() {
-            match self.terms.get(at.number as usize) {
-                Some(StoredTerm::Bound(next)) => at = *next,
-                _ => return at,
-            }
-        }
-        at
-    }
+    ghost sound: { IsSound atoms earlier present } by { sound_prop atoms earlier present },
 }
 
 impl TreeStore {
     /// The empty state.
-    pub fn new(alloc: Global) -> Result<TreeStore, AllocError> {
-        let present = TreeState {
-            terms: Vec::new(alloc),
-            vars: 0,
-        };
+    pub fn new(alloc: Global) -> Result<TreeStore, AllocError>
+        ensures { IfOk result (λ made. (⟦<TreeStore as StateStore>⟧.seen made).now.state ≡ empty_state) }
+    {
         Ok(TreeStore {
             alloc,
-            atoms: IndexSet::new(alloc),
-            earlier: Vec::new(alloc),
-            present,
+            atoms: Atoms::new(alloc),
+            earlier: Series::new(alloc),
+            present: TreeState::new(alloc),
             is_kept: false,
         })
     }
 
-    /// Makes the present state one that may be changed.
-    fn own(&mut self) -> Result<(), AllocError>
-        ensures present { self.new.present ≡ self.old.present }
+    /// Changes the present state, or a copy of it where it is kept; a refused change changes nothing.
+    fn change(&mut self, change: Change) -> Result<(), AllocError>
+        requires { IsSoundState self.old.atoms (changed self.old.present change) }
+        ensures ok { IfOk result (λ _. IsAdvanced self.old.atoms self.new.atoms self.old.earlier self.new.earlier self.old.present self.new.present self.old.is_kept self.new.is_kept (changed self.old.present change)) }
+        ensures err { OnErr result (IsSame self.old.atoms self.new.atoms self.old.earlier self.new.earlier self.old.present self.new.present self.old.is_kept self.new.is_kept) }
     {
-        if self.is_kept {
-            let copy = self.present.copy(self.alloc)?;
-            self.earlier.push(copy)?;
-            self.is_kept = false;
+        if !self.is_kept {
+            self.present.change(change)?;
+            return Ok(());
         }
+        let mut next = self.present.copied(self.alloc)?;
+        next.change(change)?;
+        let kept = mem::replace(&mut self.present, next);
+        if let Err(refused) = self.earlier.push(kept) {
+            self.present = refused.value;
+            return Err(AllocError);
+        }
+        self.is_kept = false;
         Ok(())
     }
 
-    fn push(&mut self, term: StoredTerm) -> Result<Ref, AllocError>
-        ensures err { OnErr result (self.new.present.terms.items ≡ self.old.present.terms.items) }
-        ensures vars { self.new.present.vars ≡ self.old.present.vars }
+    /// One more term.
+    fn add(&mut self, term: StoredTerm) -> Result<Ref, AllocError>
+        requires { IsSoundTerm self.old.atoms (trees_of self.old.atoms self.old.present) (length self.old.present.terms) term × IsMadeBelow (length self.old.present.variables) term }
+        ensures ok { IfOk result (λ made. IsAdvanced self.old.atoms self.new.atoms self.old.earlier self.new.earlier self.old.present self.new.present self.old.is_kept self.new.is_kept (changed self.old.present (Change.Term term))) }
+        ensures number { IfOk result (λ made. made ≡ record { number = length self.old.present.terms }) }
+        ensures err { OnErr result (IsSame self.old.atoms self.new.atoms self.old.earlier self.new.earlier self.old.present self.new.present self.old.is_kept self.new.is_kept) }
     {
-        self.own()?;
-        self.present.push(term)
+        let number = self.present.terms.len() as u64;
+        self.change(Change::Term(term))?;
+        Ok(Ref { number })
+    }
+
+    /// Makes something else known of an unbound variable; nothing where the term is none.
+    fn know(&mut self, v: Ref, known: Known) -> Result<(), AllocError>
+        requires { IsKnownBelow (length self.old.present.terms) known }
+        ensures keeps { Keeps (store_view self.old.atoms self.old.earlier self.old.present self.old.is_kept) (store_view self.new.atoms self.new.earlier self.new.present self.new.is_kept) }
+        ensures ok { IfOk result (λ _. (n : ℕ) → unbound_in self.old.present v ≡ Some n → Changes (store_view self.old.atoms self.old.earlier self.old.present self.old.is_kept) (store_view self.new.atoms self.new.earlier self.new.present self.new.is_kept) (with_variable (state_of (trees_of self.old.atoms self.old.present) self.old.present) n (known_of (trees_of self.old.atoms self.old.present) known))) }
+        ensures err { OnErr result (Stays (store_view self.old.atoms self.old.earlier self.old.present self.old.is_kept) (store_view self.new.atoms self.new.earlier self.new.present self.new.is_kept)) }
+    {
+        let Some(n) = self.present.unbound(v) else {
+            return Ok(());
+        };
+        let term = self.present.var_ref(n);
+        self.change(Change::SetVariable(n, StoredVariable { term, known }))?;
+        Ok(())
+    }
+
+    /// The state that a mark brings back.
+    fn marked(&self, m: u64) -> &TreeState
+        ensures { result.now ≡ slice_index_or self.now.earlier m self.now.present }
+    {
+        match self.earlier.get(m as usize) {
+            Some(state) => state,
+            None => &self.present,
+        }
     }
 }
 
 impl StateStore for TreeStore {
     type Mark = u64;
 
-    ghost unchanged = { λ s t. (t.present.terms.items ≡ s.present.terms.items) × (t.present.vars ≡ s.present.vars) };
+    ghost seen = { λ s. store_view s.atoms s.earlier s.present s.is_kept };
+
+    ghost order = { λ m. m };
 
     fn new_var(&mut self) -> Result<Ref, AllocError> {
-        let n = self.present.vars;
-        if n == u64::MAX {
-            return Err(AllocError);
-        }
-        let made = self.push(StoredTerm::Free(n))?;
-        self.present.vars = n + 1;
-        Ok(made)
+        let number = self.present.terms.len() as u64;
+        self.change(Change::NewVariable)?;
+        Ok(Ref { number })
     }
 
     fn put_int(&mut self, n: i128) -> Result<Ref, AllocError> {
-        self.push(StoredTerm::Int(n))
+        let made = self.add(StoredTerm::Int(n))?;
+        Ok(made)
     }
 
     fn put_atom(&mut self, name: &str) -> Result<Ref, AllocError> {
-        let number = match self.atoms.get_index_of(name) {
-            Some(number) => number,
-            None => self
-                .atoms
-                .insert_full(String::from_str(self.alloc, name)?)?
-                .0,
-        };
-        self.push(StoredTerm::Atom(number as u64))
+        let number = self.atoms.number(self.alloc, name)?;
+        let made = self.add(StoredTerm::Atom(number))?;
+        Ok(made)
+    }
+
+    fn put_comp(&mut self, name: &str, args: &[Ref]) -> Result<Ref, AllocError> {
+        let number = self.atoms.number(self.alloc, name)?;
+        let term = self.present.compound(self.alloc, number, args)?;
+        let made = self.add(term)?;
+        Ok(made)
+    }
+
+    fn var_ref(&self, n: u64) -> Ref {
+        self.present.var_ref(n)
     }
 
     fn look(&self, r: Ref) -> Cell {
-        let last = self.present.followed(r);
-        match self.present.terms.get(last.number as usize) {
-            Some(StoredTerm::Free(n)) => Cell::Var(*n),
-            Some(StoredTerm::Int(n)) => Cell::Int(*n),
-            Some(StoredTerm::Atom(number)) => Cell::Atom(*number),
-            _ => Cell::Var(self.present.vars),
-        }
+        self.present.cell(self.present.followed(r))
+    }
+
+    fn arg(&self, r: Ref, i: u64) -> Ref {
+        self.present.arg(self.present.followed(r), i)
     }
 
     fn name(&self, atom: u64) -> &str {
-        match self.atoms.get_index(atom as usize) {
-            Some(name) => name.as_str(),
-            None => "",
-        }
+        self.atoms.name(atom)
     }
 
     fn vars(&self) -> u64 {
-        self.present.vars
+        self.present.variables.len() as u64
+    }
+
+    fn is_ground(&self, r: Ref) -> bool {
+        self.present.is_ground(r)
+    }
+
+    fn leads_to(&self, r: Ref, v: u64) -> bool {
+        self.present.leads_to(r, v)
     }
 
     fn bind(&mut self, v: Ref, t: Ref) -> Result<(), AllocError> {
-        let last = self.present.followed(v).number as usize;
-        if !matches!(self.present.terms.get(last), Some(StoredTerm::Free(_))) {
+        if !self.present.has(t) {
             return Ok(());
         }
-        self.own()?;
-        if last < self.present.terms.len() {
-            self.present.terms[last] = StoredTerm::Bound(t);
-        }
+        let to = self.present.followed(t);
+        self.know(v, Known::Bound(to))?;
         Ok(())
+    }
+
+    fn domain(&self, alloc: Global, v: Ref) -> Result<Option<Domain>, AllocError> {
+        let Cell::Var(n) = self.look(v) else {
+            return Ok(None);
+        };
+        let found = self.present.domain(alloc, n)?;
+        Ok(found)
+    }
+
+    fn set_domain(&mut self, v: Ref, d: &Domain) -> Result<(), AllocError> {
+        let domain = d.copy(self.alloc)?;
+        self.know(v, Known::Within(domain))?;
+        Ok(())
+    }
+
+    fn post(&mut self, c: &Constraint) -> Result<(), AllocError> {
+        let constraint = c.copy(self.alloc)?;
+        self.change(Change::Post(constraint))?;
+        Ok(())
+    }
+
+    fn constraints(&self) -> u64 {
+        self.present.constraints.len() as u64
+    }
+
+    fn constraint(&self, alloc: Global, i: u64) -> Result<Constraint, AllocError> {
+        match self.present.constraints.get(i as usize) {
+            Some(constraint) => constraint.copy(alloc),
+            None => Ok(Constraint::Different(Series::new(alloc))),
+        }
+    }
+
+    fn posted_on(&self, alloc: Global, v: u64) -> Result<Places, AllocError> {
+        let found = self.present.posted_on(alloc, v)?;
+        Ok(found)
+    }
+
+    fn suspend(&mut self, call: Ref, rule: u64, watches: &Watches) -> Result<u64, AllocError> {
+        let number = self.present.agents.len() as u64;
+        if !self.present.has(call) {
+            return Ok(number);
+        }
+        if !self.present.has_watched(watches) {
+            return Ok(number);
+        }
+        let watches = watches.copy(self.alloc)?;
+        self.change(Change::Suspend(StoredAgent {
+            call,
+            rule,
+            watches,
+            is_alive: true,
+        }))?;
+        Ok(number)
+    }
+
+    fn agents(&self) -> u64 {
+        self.present.agents.len() as u64
+    }
+
+    fn agent(&self, n: u64) -> Option<AgentView> {
+        let agent = self.present.agents.get(n as usize)?;
+        if !agent.is_alive {
+            return None;
+        }
+        Some(AgentView {
+            call: agent.call,
+            rule: agent.rule,
+        })
+    }
+
+    fn watches(&self, alloc: Global, n: u64) -> Result<Watches, AllocError> {
+        let Some(agent) = self.present.agents.get(n as usize) else {
+            return Ok(Series::new(alloc));
+        };
+        let watches = agent.watches.copy(alloc)?;
+        Ok(watches)
+    }
+
+    fn retire(&mut self, n: u64) -> Result<(), AllocError> {
+        let Some(agent) = self.present.agents.get(n as usize) else {
+            return Ok(());
+        };
+        let mut ended = agent.copied(self.alloc)?;
+        ended.is_alive = false;
+        self.change(Change::SetAgent(n, ended))?;
+        Ok(())
+    }
+
+    fn wait(&mut self, a: &Activation) -> Result<(), AllocError> {
+        let activation = a.copy(self.alloc)?;
+        self.change(Change::Wait(activation))?;
+        Ok(())
+    }
+
+    fn take_waiting(&mut self) -> Result<Option<Activation>, AllocError> {
+        let Some(first) = self.present.waiting.get(0) else {
+            return Ok(None);
+        };
+        let taken = first.copy(self.alloc)?;
+        self.change(Change::DropWaiting)?;
+        Ok(Some(taken))
     }
 
     fn mark(&mut self) -> Result<u64, AllocError> {
@@ -185,12 +302,17 @@ impl StateStore for TreeStore {
         }
     }
 
+    fn changed_since(&self, alloc: Global, m: &u64) -> Result<Places, AllocError> {
+        let found = self.marked(*m).changed_to(alloc, &self.present)?;
+        Ok(found)
+    }
+
+    fn domain_at(&self, alloc: Global, m: &u64, v: u64) -> Result<Option<Domain>, AllocError> {
+        let found = self.marked(*m).domain(alloc, v)?;
+        Ok(found)
+    }
+
     fn read_term(&self, alloc: Global, r: Ref) -> Result<Term, ReadStop> {
-        let read = match self.look(r) {
-            Cell::Var(n) => Term::var(alloc, n),
-            Cell::Int(n) => Term::int(alloc, n),
-            Cell::Atom(number) | Cell::Comp(number, _) => Term::atom(alloc, self.name(number)),
-        };
-        read.map_err(|_| ReadStop::Memory)
+        self.present.read(alloc, &self.atoms, r)
     }
 }

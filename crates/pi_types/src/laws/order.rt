@@ -1,5 +1,6 @@
 //! Laws of the standard order, of substitution and of copies.
 ghost use Rattle.pi_types.specs.Order.{NamesByCodePoints, OrderIsTotal, EqualIsIdentity};
+ghost use Rattle.pi_types.specs.OrderLaws.{KindsAreInOrder, FewerArgumentsComeFirst, NamesCountNext, ArgumentsCountLast};
 ghost use Rattle.pi_types.specs.Substitution.{SubstitutionComposes, GroundStays, OnlyItsVariablesCount};
 ghost use Rattle.pi_types.specs.Copy.{CopyRenames, CopyIsUnique, CopyKeepsCells, GroundIsItsOwnCopy};
 
@@ -9,6 +10,15 @@ pub fn terms_are_ordered()
     ensures total { OrderIsTotal }
     ensures identity { EqualIsIdentity }
     ensures names { NamesByCodePoints }
+{}
+
+/// What counts in the standard order: first of what kind the terms are, and in compounds the number of arguments, then the
+/// name, and then the arguments from the left.
+pub fn kinds_and_arities_come_first()
+    ensures kinds { KindsAreInOrder }
+    ensures arities { FewerArgumentsComeFirst }
+    ensures names { NamesCountNext }
+    ensures arguments { ArgumentsCountLast }
 {}
 
 /// Substitutions compose, leave ground terms as they are, and go by the variables of a term alone.

@@ -1,9 +1,9 @@
 //! Laws of traces.
-ghost use Rattle.pi_types.specs.TraceLaws.{TraceIsEventsAndEnd, AltGoesOnWhereDone, AltIsTheFirstElse, DoneBeforeAddsNothing, DoneAfterAddsNothing, AltIsAssociative, ThenOfOneIsWhatFollows, ThenOneAddsNothing, ThenIsAssociative, ThenGoesOverAlt};
-ghost use Rattle.pi_types.specs.TraceLaws.{FirstHasNoOther, FirstStopsAtAnAnswer, FirstIsAllWithoutAnswers, ChosenIsThen, ChosenIsElse, NegatedIsChosen, CollectedIsTheList, CountedIsTheLength, CaughtGoesOn, CaughtIsTheRest};
+ghost use Rattle.pi_types.specs.TraceLaws.{TraceIsEventsAndEnd, AltGoesOnWhereDone, AltIsTheFirstElse, DoneBeforeAddsNothing, DoneAfterAddsNothing, AltIsAssociative, ThenOfOneIsWhatFollows, ThenOneAddsNothing, ThenIsAssociative, ThenGoesOverAlt, ThenAtAnEnd, ThenAtANote, ThenAtAnAnswer, ThenKeepsNotes, AltKeepsEvents};
+ghost use Rattle.pi_types.specs.TraceLaws.{FirstHasNoOther, FirstStopsAtAnAnswer, FirstIsAllWithoutAnswers, ChosenIsThen, ChosenIsElse, NegatedIsChosen, CollectedIsTheList, CountedIsTheLength, CaughtGoesOn, CaughtIsTheRest, CaughtKeepsEvents, RaiseBehindIsNotCaught, CatchWithoutRaiseIsNone, CaughtRaiseIsFollowed};
 ghost use Rattle.pi_types.specs.TraceLaws.{FirstOverAlt, NegatedOverAlt, ChosenOverAlt, CollectedOverAlt, CountedOverAlt, CaughtOverAlt};
 ghost use Rattle.pi_types.specs.TraceLaws.{BelowIsReflexive, BelowIsTransitive, BelowIsAntisymmetric, WithoutDeepNothingIsAdded, DepthIsEnough, AltKeepsBelow, ThenKeepsBelow, FirstKeepsBelow, NegatedKeepsBelow, ChosenKeepsBelow, CollectedKeepsBelow, CountedKeepsBelow, CaughtKeepsBelow, EmitKeepsBelow, BelowKeepsEvents};
-ghost use Rattle.pi_types.specs.TraceLaws.{EmitIsAssociative, CutIsAPrefix, CutStopsAtATick, CutLeavesFewerTicks, CutsTellTraces, BelowLeavesCuts, DepthsAgree};
+ghost use Rattle.pi_types.specs.TraceLaws.{EmitIsAssociative, CutIsAPrefix, CutGoesOverEvents, CutStopsAtATick, CutLeavesFewerTicks, CutsTellTraces, BelowLeavesCuts, DepthsAgree};
 
 /// A trace is a list of events and an end, and an alternative goes on where the end is Done.
 pub fn ends<A>()
@@ -23,6 +23,15 @@ pub fn sequences<A, B, C>()
     ensures over_alternatives { ThenGoesOverAlt A B }
 {}
 
+/// What follows, step by step: an end stays, a note stays in front, and what follows an answer stands in its place.
+pub fn steps<A, B>()
+    ensures end { ThenAtAnEnd A B }
+    ensures note { ThenAtANote A B }
+    ensures answer { ThenAtAnAnswer A B }
+    ensures notes { ThenKeepsNotes A B }
+    ensures events { AltKeepsEvents A }
+{}
+
 /// What each control form is, by sequences of traces alone.
 pub fn control_forms<A, B, C>()
     ensures first { FirstHasNoOther A }
@@ -35,6 +44,14 @@ pub fn control_forms<A, B, C>()
     ensures counted { CountedIsTheLength A B }
     ensures caught { CaughtGoesOn A }
     ensures not_caught { CaughtIsTheRest A }
+{}
+
+/// A `catch` sees the exceptions of its own goal alone: one in what follows it ends the whole, and isn't caught.
+pub fn catches<A, B>()
+    ensures events { CaughtKeepsEvents A }
+    ensures behind { RaiseBehindIsNotCaught A B }
+    ensures none { CatchWithoutRaiseIsNone A B }
+    ensures followed { CaughtRaiseIsFollowed A B }
 {}
 
 /// What each control form makes of alternatives.
@@ -70,6 +87,7 @@ pub fn more_depth<A, B, C>()
 pub fn cuts<A>()
     ensures emitted { EmitIsAssociative A }
     ensures prefix { CutIsAPrefix A }
+    ensures over_events { CutGoesOverEvents A }
     ensures at_tick { CutStopsAtATick A }
     ensures all { CutLeavesFewerTicks A }
     ensures known { CutsTellTraces A }

@@ -1,5 +1,5 @@
 use Rattle.pi_types.proofs.TraceLemmas.{emit-append}
-use Rattle.pi_types.proofs.CutLemmas.{cut-prefix, cut-at_tick, cut-all, cuts-tell, cut-below, depths-agree}
+use Rattle.pi_types.proofs.CutLemmas.{cut-prefix, cut-emit, cut-at_tick, cut-all, cuts-tell, cut-below, depths-agree}
 use Rattle.pi_types.proofs.laws.traces.cuts.Goals as goal
 
 pub returns-clause-emitted : goal.returns-clause-emitted
@@ -7,6 +7,9 @@ returns-clause-emitted g c = emit-append
 
 pub returns-clause-prefix : goal.returns-clause-prefix
 returns-clause-prefix g c = cut-prefix
+
+pub returns-clause-over_events : goal.returns-clause-over_events
+returns-clause-over_events g c = cut-emit
 
 pub returns-clause-at_tick : goal.returns-clause-at_tick
 returns-clause-at_tick g c = cut-at_tick

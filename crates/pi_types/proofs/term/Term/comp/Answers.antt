@@ -8,7 +8,7 @@ use Rattle.pi_types.proofs.term.Term.comp.Goals as goal
 spelt : (c : goal.In_ok-push_args) → c.push_args.new.cells.items ≡ flat (comp c.args.name.now (trees_of c.args.args.now))
 spelt c =
     rw (c.in_ok-push_args.ensures.ok, c.in_ok-push.ensures.items, c.new-cells.ensures.items, c.in_ok-new.ensures.ok)
-    (flat-comp c.args.name.now c.args.args.now c.in-Some.size c.in-Some.ensures)
+    (flat-comp c.args.name.now c.args.args.now c.in-Some.size c.in-Some.ensures.some)
 
 pub invariant_of-result : goal.invariant_of-result
 invariant_of-result c = flat-spelt _ _ (spelt c)

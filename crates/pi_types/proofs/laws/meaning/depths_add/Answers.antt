@@ -1,0 +1,19 @@
+use Rattle.pi_types.proofs.MeaningLemmas.{meaning-below}
+use Rattle.pi_types.proofs.LevelLemmas.{level-itself, level-further}
+use Rattle.pi_types.proofs.RuleLemmas.{level-below, quiet-deeper, query-deeper}
+use Rattle.pi_types.proofs.laws.meaning.depths_add.Goals as goal
+
+pub returns-clause-goals : goal.returns-clause-goals
+returns-clause-goals c = meaning-below
+
+pub returns-clause-order : goal.returns-clause-order
+returns-clause-order c = (level-itself, level-further)
+
+pub returns-clause-levels : goal.returns-clause-levels
+returns-clause-levels c = level-below
+
+pub returns-clause-quiet : goal.returns-clause-quiet
+returns-clause-quiet c = quiet-deeper
+
+pub returns-clause-queries : goal.returns-clause-queries
+returns-clause-queries c = query-deeper

@@ -1,0 +1,24 @@
+-- What counts in the standard order, and what counts first.
+use Rattle.std.specs.Prelude.{◌≡◌, ℕ, ◌<◌, ℤ, List, ◌∷◌, ◌++◌, length}
+use Rattle.std.specs.declared.cmp.Ordering.TheVariants.{Less}
+use Rattle.pi_types.specs.Tree.{Tree, var, int, atom, comp, Trees, trees_of, tree_count}
+use Rattle.pi_types.specs.Order.{name_order, order}
+
+-- the kinds of terms stand in this order
+abbrev pub KindsAreInOrder : Type 0
+KindsAreInOrder = (m : ℕ) (n : ℤ) (a f : List ℕ) (ts : Trees) →
+    (order (var m) (int n) ≡ Less) × (order (int n) (atom a) ≡ Less) × (order (atom a) (comp f ts) ≡ Less)
+
+-- of two compounds the one with fewer arguments comes first, whatever their names and arguments are
+abbrev pub FewerArgumentsComeFirst : Type 0
+FewerArgumentsComeFirst = (f g : List ℕ) (ts us : Trees) → tree_count ts < tree_count us → order (comp f ts) (comp g us) ≡ Less
+
+-- with as many arguments names count, whatever the arguments are
+abbrev pub NamesCountNext : Type 0
+NamesCountNext = (f g : List ℕ) (ts us : Trees) → tree_count ts ≡ tree_count us → name_order f g ≡ Less →
+    order (comp f ts) (comp g us) ≡ Less
+
+-- with the same name too the first arguments from the left count that aren't the same
+abbrev pub ArgumentsCountLast : Type 0
+ArgumentsCountLast = (f : List ℕ) (front : List Tree) (t u : Tree) (ts us : List Tree) → length ts ≡ length us → order t u ≡ Less →
+    order (comp f (trees_of (front ++ t ∷ ts))) (comp f (trees_of (front ++ u ∷ us))) ≡ Less

@@ -1,0 +1,41 @@
+//! Laws of the core meaning.
+ghost use Rattle.pi_types.specs.MeaningLaws.{GoalsDoMore, LevelsAreOrdered, LevelsAscend, QuietCallsStayAbove, QueriesDoMore, WholeTracesStay, RunIsOne, DeeperRunsAreTheRun, DepthReachesTicks, EachQueryRuns, SoundQueriesRun, RunsKeepStates};
+ghost use Rattle.pi_types.specs.Builtin.{BuiltInHasEffect, BuiltInFunctionHasEffect};
+
+/// A goal does the same and maybe more where calls do, and calls do so at each greater depth, which is an order. A quiet call takes nothing
+/// from the depth that one depth less has.
+pub fn depths_add()
+    ensures goals { GoalsDoMore }
+    ensures order { LevelsAreOrdered }
+    ensures levels { LevelsAscend }
+    ensures quiet { QuietCallsStayAbove }
+    ensures queries { QueriesDoMore }
+{}
+
+/// A query's trace is the same at each depth that reaches to its end, and its run before a Tick at each depth that reaches
+/// to that.
+pub fn runs_are_one()
+    ensures whole { WholeTracesStay }
+    ensures run { RunIsOne }
+    ensures deeper { DeeperRunsAreTheRun }
+{}
+
+/// Where Ticks stand between the calls of quiet predicates, there is a depth that reaches to each Tick of a query's trace,
+/// and so each query has its run.
+pub fn queries_run()
+    ensures reaches { DepthReachesTicks }
+    ensures runs { EachQueryRuns }
+    ensures sound { SoundQueriesRun }
+{}
+
+/// Where no plan of the log holds a variable, each answer of a sound query is a state, and its slots hold terms of variables
+/// that were made.
+pub fn runs_keep_states()
+    ensures { RunsKeepStates }
+{}
+
+/// Just the predicates and the functions that are built in have an effect.
+pub fn built_ins_have_effects()
+    ensures predicates { BuiltInHasEffect }
+    ensures functions { BuiltInFunctionHasEffect }
+{}
