@@ -1,5 +1,5 @@
 -- The spans within the bounds of domains.
-use Rattle.std.specs.Prelude.{◌≡◌, Bool, true, false, not, ◌&&◌, ◌||◌, IsTrue, List, [], ◌∷◌, ◌++◌, ℤ, pos, ◌+ℤ◌, ◌-ℤ◌, neg_ℤ, ◌≤ℤ◌, ◌<ℤ◌, int_le, refl, cond, ◌⊎◌}
+use Rattle.std.specs.Prelude.{◌≡◌, Bool, true, false, not, ◌&&◌, ◌||◌, List, [], ◌∷◌, ◌++◌, ℤ, pos, ◌+ℤ◌, ◌-ℤ◌, neg_ℤ, ◌≤ℤ◌, ◌<ℤ◌, int_le, refl, cond, ◌⊎◌}
 use Rattle.std.specs.Int.{int_max, int_min}
 use Rattle.std.specs.Ordering.{int_eq}
 use Rattle.std.proofs.Common.{arith, ◌∙◌, ap, subst, rules, inl, inr}
@@ -8,9 +8,11 @@ use Rattle.std.proofs.lemmas.Bool.Decides.{Decides-int_eq}
 use Rattle.pi_types.specs.declared.domain.TheConstants.{MAX_VALUE}
 use Rattle.pi_types.specs.declared.domain.Span.{Span}
 use Rattle.pi_types.specs.Domain.{AscendFrom, IsDomain, IsWithinBounds, span_has, has_value}
-use Rattle.pi_dom.specs.Overlap.{overlap}
-use Rattle.pi_dom.proofs.SpanLemmas.{AscendFrom-append, has_value-append, has_value-below, has_value-above, next_start}
-use Rattle.pi_dom.proofs.MeetLemmas.{AscendFrom-overlap, has_value-overlap, overlap-exchange}
+use Rattle.pi_types.proofs.DomainLemmas.{values_are_within_bounds}
+use Rattle.pi_types.specs.Domain.{overlap}
+use Rattle.pi_types.proofs.CommonLemmas.{AscendFrom-overlap, has_value-overlap}
+use Rattle.pi_types.proofs.SpanLemmas.{AscendFrom-append, has_value-append, next_start}
+use Rattle.pi_dom.proofs.MeetLemmas.{overlap-exchange}
 
 -- all that a domain can have
 abbrev pub whole : Span
@@ -85,24 +87,13 @@ has_value-clips n m h =
     ∙ (ap (λ (x : Bool). span_has below m || x) (has_value-clip above m h)
     ∙ beside n m (int_eq m n) h (int_eq_is m n)))
 
-not_both : (b : Bool) → IsTrue b → b ≡ false → ⊥
-not_both true t f = cc
-not_both false t f = absurd (search rules)
-
--- past the bounds a domain has no value
-pub no_value_past : (d : List Span) (n : ℤ) → IsDomain d → IsTrue (has_value d n) → IsWithinBounds n
-no_value_past d n up h = (
-  by_lt_z n (neg_ℤ MAX_VALUE) (λ b. absurd (not_both _ h (has_value-below (neg_ℤ MAX_VALUE) d n up b))) (λ b. b),
-  by_lt_z MAX_VALUE n (λ b. absurd (not_both _ h (has_value-above (neg_ℤ MAX_VALUE) d n up b))) (λ b. b),
-)
-
 kept_where : (b k t : Bool) → (b ≡ true → k ≡ t) → (b && k) ≡ (b && t)
 kept_where true k t h = h refl
 kept_where false k t h = refl
 
 -- what is kept of a domain hangs on the values within the bounds alone
 pub has_value-kept : (d kept : List Span) (test : ℤ → Bool) → IsDomain d → ((m : ℤ) → IsWithinBounds m → has_value kept m ≡ test m) → (m : ℤ) → (has_value d m && has_value kept m) ≡ (has_value d m && test m)
-has_value-kept d kept test up h m = kept_where (has_value d m) (has_value kept m) (test m) (λ e. h m (no_value_past d m up (search rules)))
+has_value-kept d kept test up h m = kept_where (has_value d m) (has_value kept m) (test m) (λ e. h m (values_are_within_bounds d m up (search rules)))
 
 both_true : (b : Bool) → (b && true) ≡ b
 both_true true = refl
@@ -142,4 +133,4 @@ same_bool false false h g = refl
 pub has_value-span : (made : List Span) (lo hi : ℤ) → IsDomain made → ((n : ℤ) → IsWithinBounds n → has_value made n ≡ (int_le lo n && int_le n hi)) → (lo ≤ℤ hi → IsWithinBounds lo × IsWithinBounds hi)
     → (n : ℤ) → has_value made n ≡ (int_le lo n && int_le n hi)
 has_value-span made lo hi up says ends n =
-    same_bool (has_value made n) (int_le lo n && int_le n hi) (λ e. says n (no_value_past made n up (search rules))) (λ e. says n (span_within lo hi n ends e))
+    same_bool (has_value made n) (int_le lo n && int_le n hi) (λ e. says n (values_are_within_bounds made n up (search rules))) (λ e. says n (span_within lo hi n ends e))

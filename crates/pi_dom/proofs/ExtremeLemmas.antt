@@ -1,42 +1,15 @@
 -- The least and the greatest value, and where a value is found.
-use Rattle.std.specs.Prelude.{◌≡◌, ℕ, zero, suc, ◌<◌, ◌≤◌, ◌+◌, ◌-◌, take, Bool, true, false, ◌||◌, IsTrue, List, [], ◌∷◌, ◌++◌, length, ℤ, pos, ◌+ℤ◌, neg_ℤ, ◌≤ℤ◌, ◌<ℤ◌, int_le, int_lt, refl, Some, slice_get}
-use Rattle.std.proofs.Common.{arith, sym, ◌∙◌, ap, subst, rules, get_or}
-use Rattle.std.proofs.lemmas.Int.{ints, by_lt_z}
+use Rattle.std.specs.Prelude.{◌≡◌, ℕ, zero, suc, ◌<◌, ◌≤◌, ◌+◌, ◌-◌, take, Bool, true, false, List, [], ◌∷◌, ◌++◌, length, ℤ, pos, ◌+ℤ◌, neg_ℤ, ◌≤ℤ◌, ◌<ℤ◌, int_le, int_lt, refl, Some, slice_get}
+use Rattle.std.proofs.Common.{arith, sym, ◌∙◌, ap, subst, get_or}
+use Rattle.std.proofs.lemmas.Int.{ints}
 use Rattle.std.proofs.lemmas.List.{take_more, take_all}
 use Rattle.std.proofs.lemmas.Option.{slice_get_within, get_or_from_slice_get}
 use Rattle.std.specs.List.Sorted.{IsPartitionedBy, IsPartitionPoint}
 use Rattle.pi_types.specs.declared.domain.TheConstants.{MAX_VALUE}
 use Rattle.pi_types.specs.declared.domain.Span.{Span}
-use Rattle.pi_types.specs.Domain.{AscendFrom, IsDomain, span_has, has_value}
-use Rattle.pi_dom.specs.Extremes.{IsLeastValue, IsGreatestValue}
-use Rattle.pi_dom.proofs.SpanLemmas.{has_value-below, has_value-past, has_value-append, AscendFrom-first, AscendFrom-last}
-
-not_both : (b : Bool) → IsTrue b → b ≡ false → ⊥
-not_both true t f = cc
-not_both false t f = absurd (search rules)
-
-pub has_value-from : (least : ℤ) (ss : List Span) (n : ℤ) → AscendFrom least ss → IsTrue (has_value ss n) → least ≤ℤ n
-has_value-from least ss n up h = by_lt_z n least (λ b. absurd (not_both _ h (has_value-below least ss n up b))) (λ b. b)
-
-pub IsLeastValue-first : (s : Span) (ss : List Span) → IsDomain (s ∷ ss) → IsLeastValue (s ∷ ss) s.lo
-unfolding AscendFrom has_value
-IsLeastValue-first s ss up = record {
-  is_value = grind (arith, ints);
-  none_below = λ m h. has_value-from s.lo (s ∷ ss) m (omega (arith, ints), up.1, up.2, up.3) h;
-}
-
-pub IsGreatestValue-last : (ss : List Span) (s : Span) → IsDomain (ss ++ s ∷ []) → IsGreatestValue (ss ++ s ∷ []) s.hi
-unfolding AscendFrom has_value
-IsGreatestValue-last ss s up =
-    let tail = AscendFrom-last (neg_ℤ MAX_VALUE) ss (s ∷ []) up in
-    let joined : (n : ℤ) → has_value (ss ++ s ∷ []) n ≡ (has_value ss n || has_value (s ∷ []) n) = has_value-append ss (s ∷ []) in
-    record {
-      is_value = rw (joined s.hi) (grind (arith, ints, tail));
-      none_above = λ m h. by_lt_z s.hi m (λ b.
-          let before : has_value ss m ≡ false = has_value-past (neg_ℤ MAX_VALUE) ss m (AscendFrom-first (neg_ℤ MAX_VALUE) ss (s ∷ []) up) (omega (arith, ints, tail)) in
-          let here : has_value (s ∷ []) m ≡ false = grind (arith, ints) in
-          absurd (not_both _ h (joined m ∙ grind (arith, before, here)))) (λ b. b);
-    }
+use Rattle.pi_types.specs.Domain.{AscendFrom, IsDomain, span_has, has_value, IsLeastValue, IsGreatestValue}
+use Rattle.pi_types.proofs.DomainLemmas.{IsLeastValue-first, IsGreatestValue-last}
+use Rattle.pi_types.proofs.SpanLemmas.{has_value-below}
 
 -- the first span, and the last
 pub IsLeastValue-at : (d : List Span) (s : Span) (n : ℤ) → IsDomain d → slice_get d 0 ≡ Some s → n ≡ s.lo → IsLeastValue d n

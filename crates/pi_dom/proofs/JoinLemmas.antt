@@ -13,7 +13,7 @@ use Rattle.pi_types.specs.declared.domain.TheConstants.{MAX_VALUE}
 use Rattle.pi_types.specs.declared.domain.Span.{Span}
 use Rattle.pi_types.specs.Domain.{AscendFrom, IsDomain, IsWithinBounds, span_has, has_value}
 use Rattle.pi_dom.proofs.ClipLemmas.{int_eq_is}
-use Rattle.pi_dom.proofs.SpanLemmas.{AscendFrom-append, AscendFrom-first, AscendFrom-last, has_value-append, next_start-push}
+use Rattle.pi_types.proofs.SpanLemmas.{AscendFrom-append, AscendFrom-first, AscendFrom-last, has_value-append, next_start-push}
 
 -- the spans of some integers, of which the last is the end of the last span
 pub record Joins (numbers : List ℤ) (done : List Span) (last : Span) : Type 0 where

@@ -1,4 +1,3 @@
-pub mod SpanLemmas
 pub mod ExtremeLemmas
 pub mod SizeLemmas
 pub mod MeetLemmas

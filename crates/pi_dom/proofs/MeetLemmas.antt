@@ -7,28 +7,11 @@ use Rattle.std.proofs.lemmas.List.{drop_all}
 use Rattle.pi_types.specs.declared.domain.TheConstants.{MAX_VALUE}
 use Rattle.pi_types.specs.declared.domain.Span.{Span}
 use Rattle.pi_types.specs.Domain.{AscendFrom, IsDomain, span_has, has_value}
-use Rattle.pi_dom.specs.Overlap.{overlap}
-use Rattle.pi_dom.proofs.SpanLemmas.{AscendFrom-lower, AscendFrom-tail, AscendFrom-append, AscendFrom-drop, has_value-below, has_value-append, next_start, next_start-append}
-
-greater_start : (x y n : ℤ) (b : Bool) → int_lt y x ≡ b → int_le (cond b x y) n ≡ (int_le x n && int_le y n)
-greater_start x y n true e = grind (arith, ints)
-greater_start x y n false e = grind (arith, ints)
-
-lesser_end : (x y n : ℤ) (b : Bool) → int_lt y x ≡ b → int_le n (cond b y x) ≡ (int_le n x && int_le n y)
-lesser_end x y n true e = grind (arith, ints)
-lesser_end x y n false e = grind (arith, ints)
-
-both : (p q r s : Bool) → ((p && q) && (r && s)) ≡ ((p && r) && (q && s))
-both true q true s = refl
-both true true false s = refl
-both true false false s = refl
-both false q r s = refl
-
--- a span as a list, and no span where its end is below its start
-has_value-cond : (s : Span) (n : ℤ) (b : Bool) → int_le s.lo s.hi ≡ b → has_value (cond b (s ∷ []) []) n ≡ span_has s n
-unfolding has_value
-has_value-cond s n true e = grind arith
-has_value-cond s n false e = grind (arith, ints)
+use Rattle.std.specs.Prelude.{Result, Ok, Err, IfOk}
+use Rattle.pi_types.specs.Domain.{overlap, common}
+use Rattle.pi_types.proofs.DomainLemmas.{same_values_same_domain}
+use Rattle.pi_types.proofs.CommonLemmas.{AscendFrom-overlap, has_value-overlap, IsDomain-common, has_value-common}
+use Rattle.pi_types.proofs.SpanLemmas.{AscendFrom-lower, AscendFrom-tail, AscendFrom-append, AscendFrom-drop, has_value-below, has_value-append, next_start, next_start-append}
 
 -- what a body makes of a start and an end
 span_or_none : ℤ → ℤ → List Span
@@ -49,30 +32,6 @@ unfolding span_or_none
 overlap-none a b lo hi l h e =
     let t : int_le lo hi ≡ false = grind (arith, ints) in
     sym (ap (λ (x : Bool). cond {A = List Span} x ((record { lo = lo; hi = hi }) ∷ []) []) t) ∙ made a b lo hi l h
-
--- two spans share the numbers from the greater start to the lesser end
-pub has_value-overlap : (a b : Span) (n : ℤ) → has_value (overlap a b) n ≡ (span_has a n && span_has b n)
-unfolding overlap
-has_value-overlap a b n =
-    let l = greater_start a.lo b.lo n (int_lt b.lo a.lo) refl in
-    let h = lesser_end a.hi b.hi n (int_lt b.hi a.hi) refl in
-    has_value-cond (record { lo = int_max a.lo b.lo; hi = int_min a.hi b.hi }) n (int_le (int_max a.lo b.lo) (int_min a.hi b.hi)) refl
-    ∙ (ap (λ (x : Bool). x && int_le n (int_min a.hi b.hi)) l
-    ∙ (ap (λ (x : Bool). (int_le a.lo n && int_le b.lo n) && x) h
-    ∙ both (int_le a.lo n) (int_le b.lo n) (int_le n a.hi) (int_le n b.hi)))
-
-ascends : (least : ℤ) (s : Span) (b : Bool) → int_le s.lo s.hi ≡ b → least ≤ℤ s.lo → s.hi ≤ℤ MAX_VALUE → AscendFrom least (cond b (s ∷ []) [])
-unfolding AscendFrom
-ascends least s true e low high = (low, grind (arith, ints), high, tt)
-ascends least s false e low high = tt
-
--- spans from where one of the two starts on
-pub AscendFrom-overlap : (least : ℤ) (a b : Span) → (least ≤ℤ a.lo) ⊎ (least ≤ℤ b.lo) → (a.hi ≤ℤ MAX_VALUE) → AscendFrom least (overlap a b)
-unfolding overlap
-AscendFrom-overlap least a b (inl h) top =
-    ascends least (record { lo = int_max a.lo b.lo; hi = int_min a.hi b.hi }) (int_le (int_max a.lo b.lo) (int_min a.hi b.hi)) refl (omega (arith, ints, clamps)) (omega (arith, ints, clamps))
-AscendFrom-overlap least a b (inr h) top =
-    ascends least (record { lo = int_max a.lo b.lo; hi = int_min a.hi b.hi }) (int_le (int_max a.lo b.lo) (int_min a.hi b.hi)) refl (omega (arith, ints, clamps)) (omega (arith, ints, clamps))
 
 -- what is shared so far, and what of the two domains is still to be looked at
 pub record Shares (d e shared ds es : List Span) : Type 0 where
@@ -203,3 +162,7 @@ Shares-next_other d e shared new i j z up vp hi hj h le is =
 pub Shares-over : (d e shared : List Span) (i j : ℕ) → (length d ≤ i) ⊎ (length e ≤ j) → Shares d e shared (drop i d) (drop j e) → (n : ℤ) → has_value shared n ≡ (has_value d n && has_value e n)
 Shares-over d e shared i j (inl h) all = Shares-end d e shared (drop j e) (subst (λ (x : List Span). Shares d e shared x (drop j e)) (drop_all i d h) all)
 Shares-over d e shared i j (inr h) all = Shares-end_other d e shared (drop i d) (subst (λ (x : List Span). Shares d e shared (drop i d) x) (drop_all j e h) all)
+
+pub is_common : {E : Type 0} (d e : List Span) (made : Result (List Span) E) → IsDomain d → IsDomain e → IfOk made (λ m. IsDomain m) → IfOk made (λ m. (n : ℤ) → has_value m n ≡ (has_value d n && has_value e n)) → IfOk made (λ m. m ≡ common d e)
+is_common d e (Ok m) up is good values = same_values_same_domain m (common d e) good (IsDomain-common d e up is) (λ n. values n ∙ sym (has_value-common d e n))
+is_common d e (Err x) up is good values = tt

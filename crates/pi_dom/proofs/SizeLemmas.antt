@@ -1,5 +1,5 @@
 -- How many values spans have.
-use Rattle.std.specs.Prelude.{◌≡◌, ℕ, zero, suc, ◌<◌, ◌+◌, ◌^◌, List, [], ◌∷◌, ◌++◌, length, take, drop, ℤ, pos, negsuc, ◌+ℤ◌, neg_ℤ, ◌≤ℤ◌, refl}
+use Rattle.std.specs.Prelude.{◌≡◌, ℕ, suc, ◌<◌, ◌+◌, ◌^◌, List, [], ◌∷◌, ◌++◌, length, take, drop, ℤ, pos, ◌+ℤ◌, neg_ℤ, ◌≤ℤ◌}
 use Rattle.std.specs.Int.{int_gap}
 use Rattle.std.proofs.Common.{arith, sym, ◌∙◌, ap, subst, get_or, length-append, take-append-drop}
 use Rattle.std.proofs.lemmas.Int.{ints}
@@ -7,16 +7,9 @@ use Rattle.std.proofs.lemmas.List.{take_more}
 use Rattle.pi_types.specs.declared.domain.TheConstants.{MAX_VALUE}
 use Rattle.pi_types.specs.declared.domain.Span.{Span}
 use Rattle.pi_types.specs.Domain.{AscendFrom, IsDomain, numbers_from, values_of, size_of}
-use Rattle.pi_dom.proofs.SpanLemmas.{AscendFrom-first}
-
-pub length-numbers_from : (n : ℤ) (count : ℕ) → length (numbers_from n count) ≡ count
-unfolding numbers_from
-length-numbers_from n zero = refl
-length-numbers_from n (suc count) = ap suc (length-numbers_from (n +ℤ pos 1) count)
-
-pub size_of-cons : (s : Span) (ss : List Span) → size_of (s ∷ ss) ≡ suc (int_gap s.lo s.hi) + size_of ss
-unfolding values_of
-size_of-cons s ss = length-append (numbers_from s.lo (suc (int_gap s.lo s.hi))) (values_of ss) ∙ ap (λ (k : ℕ). k + size_of ss) (length-numbers_from s.lo (suc (int_gap s.lo s.hi)))
+use Rattle.pi_types.proofs.SpanLemmas.{AscendFrom-first}
+use Rattle.pi_types.proofs.DomainLemmas.{gap_is}
+use Rattle.pi_types.proofs.CommonLemmas.{size_of-cons}
 
 pub size_of-push : (ss : List Span) (s : Span) → size_of (ss ++ s ∷ []) ≡ size_of ss + suc (int_gap s.lo s.hi)
 size_of-push [] s = size_of-cons s [] ∙ omega arith
@@ -27,12 +20,6 @@ size_of-push (t ∷ ss) s =
 
 pub size_of-take_more : (ss : List Span) (k : ℕ) (e : Span) → k < length ss → size_of (take (k + 1) ss) ≡ size_of (take k ss) + suc (int_gap (get_or ss k e).lo (get_or ss k e).hi)
 size_of-take_more ss k e h = ap size_of (take_more ss k e h) ∙ size_of-push (take k ss) (get_or ss k e)
-
-gap_is : (lo hi : ℤ) → lo ≤ℤ hi → lo +ℤ pos (int_gap lo hi) ≡ hi
-gap_is (pos a) (pos b) h = omega (arith, ints)
-gap_is (pos a) (negsuc b) h = omega (arith, ints)
-gap_is (negsuc a) (pos b) h = omega (arith, ints)
-gap_is (negsuc a) (negsuc b) h = omega (arith, ints)
 
 -- spans that ascend from a number on have no more values than there are from it to the greatest
 pub size_of_bound : (least : ℤ) (ss : List Span) → least ≤ℤ (MAX_VALUE +ℤ pos 2) → AscendFrom least ss → (pos (size_of ss) +ℤ least) ≤ℤ (MAX_VALUE +ℤ pos 2)

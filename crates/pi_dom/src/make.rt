@@ -4,7 +4,7 @@ ghost use Rattle.std.specs.List.{list_any};
 ghost use Rattle.std.specs.Option.{option_to_list};
 ghost use Rattle.std.specs.List.Sorted.{IsSorted};
 ghost use Rattle.pi_types.specs.Domain.{IsWithinBounds, IsDomain, has_value};
-ghost use Rattle.pi_dom.specs.Overlap.{overlap};
+ghost use Rattle.pi_types.specs.Domain.{overlap};
 ghost use Rattle.pi_dom.specs.declared.fault.DomFault.TheVariants.{TooWide};
 
 use crate::fault::DomFault;

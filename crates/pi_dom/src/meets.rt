@@ -1,6 +1,5 @@
 ghost use Rattle.std.specs.Prelude.{◌≡◌, ◌++◌, ◌&&◌, ℤ, IfOk, is_ok, if◌then◌else◌};
-ghost use Rattle.pi_types.specs.Domain.{IsDomain, has_value};
-ghost use Rattle.pi_dom.specs.Overlap.{overlap};
+ghost use Rattle.pi_types.specs.Domain.{IsDomain, has_value, overlap, common};
 
 use pi_types::{Domain, Span};
 use std::alloc::{AllocError, Global};
@@ -8,6 +7,7 @@ use std::alloc::{AllocError, Global};
 /// The values that two domains share. It looks once at each span.
 pub fn meet(alloc: Global, d: &Domain, e: &Domain) -> Result<Domain, AllocError>
     ensures values { IfOk result (λ made. (n : ℤ) → has_value made n ≡ (has_value d.now n && has_value e.now n)) }
+    ensures common { IfOk result (λ made. made ≡ common d.now e.now) }
 {
     kept_values(alloc, d, e)
 }
@@ -15,6 +15,8 @@ pub fn meet(alloc: Global, d: &Domain, e: &Domain) -> Result<Domain, AllocError>
 /// The values of `d` that are kept.
 pub(crate) fn kept_values(alloc: Global, d: &Domain, kept: &Domain) -> Result<Domain, AllocError>
     ensures domain { IsDomain d.now }
+    ensures kept { IsDomain kept.now }
+    ensures made { IfOk result (λ made. IsDomain made) }
     ensures values { IfOk result (λ made. (n : ℤ) → has_value made n ≡ (has_value d.now n && has_value kept.now n)) }
 {
     let spans = shared_spans(alloc, d.spans(), kept.spans())?;

@@ -1,7 +1,6 @@
 ghost use Rattle.std.specs.Prelude.{◌≡◌, ◌↔◌, [], IfSome, IsNone, suc, ◌≤ℤ◌};
-ghost use Rattle.pi_types.specs.Domain.{IsWithinBounds, has_value, size_of};
+ghost use Rattle.pi_types.specs.Domain.{IsWithinBounds, has_value, size_of, IsLeastValue, IsGreatestValue};
 ghost use Rattle.std.specs.Int.{int_gap};
-ghost use Rattle.pi_dom.specs.Extremes.{IsLeastValue, IsGreatestValue};
 
 use pi_types::{Domain, Span};
 

@@ -5,7 +5,7 @@ use Rattle.std.proofs.lemmas.Int.{ints}
 use Rattle.pi_types.specs.declared.domain.TheConstants.{MAX_VALUE}
 use Rattle.pi_types.specs.declared.domain.Span.{Span}
 use Rattle.pi_types.specs.Domain.{IsDomain, IsWithinBounds, has_value}
-use Rattle.pi_dom.specs.Overlap.{overlap}
+use Rattle.pi_types.specs.Domain.{overlap}
 use Rattle.pi_dom.proofs.ClipLemmas.{whole, first_clip, clip_at, IsDomain-clips, has_value-clips}
 use Rattle.pi_dom.proofs.make.all_but.Goals as goal
 
