@@ -4,3 +4,4 @@ pub mod ReaderLemmas
 pub mod SignsLemmas
 pub mod StoreLemmas
 pub mod TotalLemmas
+pub mod NaturalLemmas

@@ -1,10 +1,8 @@
 -- What stands between quotes, and what digits and signs are: `closing_place`, `unescaped`, `digits_end` and `sign_len` of
 -- the definition find exactly these.
 use Rattle.std.specs.Prelude.{◌≡◌, ◌≢◌, ℕ, ◌+◌, ◌<◌, ◌≤◌, Bool, true, false, ◌||◌, List, [], ◌∷◌, length, take, drop, slice_index, Some}
-use Rattle.std.specs.List.{list_any}
 use Rattle.std.specs.Char.{is_digit}
-use Rattle.std.specs.Str.{bytes_eq}
-use Rattle.pi_lex.specs.Tokens.{line_feed, backslash, underscore, escaped, unescaped, goes_on, signs_of_four, signs_of_three, signs_of_two, signs_of_one}
+use Rattle.pi_types.specs.Tokens.{is_one_of, line_feed, backslash, underscore, escaped, unescaped, goes_on, signs_of_four, signs_of_three, signs_of_two, signs_of_one}
 
 -- Between quotes of this kind the characters stand for these: each for itself, save the quote, the backslash and the
 -- line feed, and a backslash and an escape for what is meant.
@@ -31,10 +29,6 @@ IsClosed quote place text found =
 abbrev pub EndsDigits : ℕ → ℕ → List ℕ → ℕ → Type 0
 EndsDigits radix place text found =
     (n : ℕ) × (found ≡ place + n) × IsDigits radix (take n text) × (goes_on radix (drop n text) ≡ false) × (n ≤ length text)
-
--- the sign is one of these
-abbrev pub is_one_of : List (List ℕ) → List ℕ → Bool
-is_one_of signs sign = list_any (bytes_eq sign) signs
 
 abbrev pub is_sign : List ℕ → Bool
 is_sign sign =

@@ -1,10 +1,10 @@
 -- What a `TokenKind` and a `LexFault` say.
-use Rattle.std.specs.Prelude.{ℕ, List, map, Option, Some, None}
+use Rattle.std.specs.Prelude.{ℕ, ℤ, pos, ◌≤ℤ◌, List, [], ◌∷◌, map, Option, Some, None}
 use Rattle.pi_lex.specs.declared.token_list.TokenKind.{TokenKind}
 use Rattle.pi_lex.specs.declared.token_list.TokenKind.TheVariants as kind
 use Rattle.pi_lex.specs.declared.fault.LexFault.{LexFault}
 use Rattle.pi_lex.specs.declared.fault.LexFault.TheVariants as lex_fault
-use Rattle.pi_lex.specs.Tokens.{Token, Located, Fault, TooLong, NotUtf8, BadToken, WideInteger, Var, Atom, Word, Int, Str, Sign, End}
+use Rattle.pi_types.specs.Tokens.{Token, Located, Fault, TooLong, NotUtf8, BadToken, WideInteger, Var, Atom, Word, Int, Str, Sign, End}
 
 -- the token of the definition
 abbrev pub token_shown : TokenKind → Token
@@ -23,6 +23,15 @@ fault_shown (lex_fault.NotUtf8 at) = Some (NotUtf8 at)
 fault_shown (lex_fault.BadToken line) = Some (BadToken line)
 fault_shown (lex_fault.WideInteger line) = Some (WideInteger line)
 fault_shown lex_fault.Memory = None
+
+-- an integer isn't negative
+abbrev pub IsNatural : Token → Type 0
+IsNatural (Int value) = pos 0 ≤ℤ value
+IsNatural _ = Unit {0}
+
+abbrev pub AreNatural : List Located → Type 0
+AreNatural [] = Unit {0}
+AreNatural (located ∷ tokens) = IsNatural located.0 × AreNatural tokens
 
 -- the tokens without their lines, and the lines
 abbrev pub kinds : List Located → List Token

@@ -3,4 +3,3 @@ pub mod Items
 pub mod Kinds
 pub mod Spans
 pub mod Store
-pub mod Tokens

@@ -37,25 +37,27 @@ pub struct Tokens {
 
 impl Model for Tokens {
     ghost use Rattle.std.specs.Prelude.{List};
-    ghost use Rattle.pi_lex.specs.Tokens.{Located};
+    ghost use Rattle.pi_types.specs.Tokens.{Located};
 
     ghost Value = { List Located };
 
+    ghost use Rattle.pi_lex.specs.Kinds.{AreNatural};
     ghost use Rattle.pi_lex.specs.Store.{listed, IsSound};
 
     ghost view = { λ tokens. listed tokens.store };
 
-    ghost invariant = { λ tokens. IsSound tokens.store };
+    ghost invariant = { λ tokens. IsSound tokens.store × AreNatural (listed tokens.store) };
 }
 
 impl Tokens {
     ghost use Rattle.std.specs.Prelude.{◌≡◌, ◌<◌, ◌==◌, length, slice_get, Some};
-    ghost use Rattle.pi_lex.specs.Kinds.{token_shown, kinds, lines};
+    ghost use Rattle.pi_lex.specs.Kinds.{token_shown, kinds, lines, IsNatural, AreNatural};
     ghost use Rattle.pi_lex.specs.Store.{listed, IsSound};
 
     /// The tokens of a store.
     pub(crate) fn of(store: Store) -> Self
-        requires { IsSound store }
+        requires sound { IsSound store }
+        requires natural { AreNatural (listed store) }
         ensures { result ≡ listed store }
     {
         Tokens { store }
@@ -78,7 +80,8 @@ impl Tokens {
     /// What the token at a place says, where the first place is 0.
     pub fn kind(&self, i: usize) -> TokenKind<'_>
         requires { i < length self.now }
-        ensures { slice_get (kinds self.now) i ≡ Some (token_shown result) }
+        ensures token { slice_get (kinds self.now) i ≡ Some (token_shown result) }
+        ensures natural { IsNatural (token_shown result) }
     {
         self.store.kind(i)
     }

@@ -1,7 +1,8 @@
+use Rattle.pi_lex.proofs.NaturalLemmas.{read_natural}
 use Rattle.std.proofs.Common.{[], ◌∙◌, ap, arith}
 use Rattle.std.proofs.lemmas.Result.{err_from_is_err_and}
 use Rattle.std.specs.Str.{chars}
-use Rattle.pi_lex.specs.Tokens.{too_long, not_utf8}
+use Rattle.pi_types.specs.Tokens.{too_long, not_utf8}
 use Rattle.pi_lex.proofs.ReaderLemmas.{HasFault-characters, HasTokens-characters, length-chars-le}
 use Rattle.pi_lex.proofs.reader.lex.Goals as goal
 
@@ -28,3 +29,6 @@ pub returns-clause-tokens : goal.returns-clause-tokens
 returns-clause-tokens c =
     let same = c.deref.ensures.value ∙ c.in_ok-chars.ensures ∙ ap chars c.in-Ok.ensures.cases.0 in
     rw c.of.ensures (HasTokens-characters _ _ _ c.if-text-gt-MAX_LEN.false c.in-Ok.ensures.cases.1 same c.in_ok-store.ensures.tokens)
+
+pub of-requires-clause-natural : goal.of-requires-clause-natural
+of-requires-clause-natural c = read_natural c.in_ok-store.ensures.tokens
