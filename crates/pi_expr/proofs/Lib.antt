@@ -1,0 +1,14 @@
+pub mod Steps
+pub mod Complete
+pub mod Lift
+pub mod Sound
+pub mod SoundSteps
+pub mod Exact
+pub mod TreeLemmas
+pub mod TurnLemmas
+pub mod StepLemmas
+pub mod SizeLemmas
+pub mod ReaderLemmas
+pub mod CrowdLemmas
+pub mod RowLemmas
+pub mod ExpLemmas

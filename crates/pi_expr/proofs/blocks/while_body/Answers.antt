@@ -1,0 +1,6 @@
+use Rattle.std.proofs.Common.{refl, sym, ap, ◌∙◌, subst, ◌≡◌}
+use Rattle.pi_types.specs.ExpTree as tree
+use Rattle.pi_expr.proofs.blocks.while_body.Goals as goal
+
+pub returns : goal.returns
+returns c = λ fs a e h i. c.found_behind.ensures fs (tree.while_do a e) (c.in_ok-block.ensures a e h i)

@@ -1,0 +1,5 @@
+use Rattle.std.proofs.Common.{refl, sym, ap, ◌∙◌, subst, ◌≡◌}
+use Rattle.pi_expr.proofs.frame.found.Goals as goal
+
+pub returns : goal.returns
+returns c = λ fs e h. (e, (refl, h))

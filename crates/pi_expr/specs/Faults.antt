@@ -1,0 +1,16 @@
+-- What the faults of a reader say of its tokens.
+use Rattle.std.specs.Prelude.{ℕ, ◌-◌, List, take, drop}
+use Rattle.pi_types.specs.Tokens.{Token}
+use Rattle.pi_types.specs.Crowding.{IsTooDeep, HasNoExp}
+use Rattle.pi_expr.specs.declared.fault.ExpFault.{ExpFault}
+use Rattle.pi_expr.specs.declared.fault.ExpFault.TheVariants as fault
+
+-- the tokens from one place up to another
+abbrev pub stretch : List Token → ℕ → ℕ → List Token
+stretch tokens from to = take (to - from) (drop from tokens)
+
+-- want of memory says nothing of the tokens
+abbrev pub IsFault : List Token → ExpFault → Type 0
+IsFault tokens fault.NoExpression = HasNoExp tokens
+IsFault tokens fault.TooDeep = IsTooDeep tokens
+IsFault tokens fault.Memory = Unit {0}

@@ -1,0 +1,9 @@
+pub mod Machine
+pub mod Shown
+pub mod Trees
+pub mod Turns
+pub mod Faults
+pub mod Sizes
+pub mod States
+pub mod Crowds
+pub mod Rows

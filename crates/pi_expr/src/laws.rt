@@ -1,0 +1,13 @@
+//! Laws of the reader's steps.
+ghost use Rattle.std.specs.Prelude.{List, map};
+ghost use Rattle.pi_types.specs.ExpTree.{ExpTree};
+ghost use Rattle.pi_types.specs.Grammar.{HasExp};
+ghost use Rattle.pi_types.specs.Terminals.{terminal};
+ghost use Rattle.pi_types.specs.Tokens.{Token};
+ghost use Rattle.pi_expr.specs.Machine.{begin, Runs};
+
+/// The steps of the reader, taken on trees, end with a tree exactly where the grammar gives it to the tokens.
+pub fn steps_follow_the_grammar()
+    ensures all { (tokens : List Token) → (e : ExpTree) → HasExp tokens e → Runs (begin (map terminal tokens)) e }
+    ensures only { (tokens : List Token) → (e : ExpTree) → Runs (begin (map terminal tokens)) e → HasExp tokens e }
+{}
