@@ -1,0 +1,15 @@
+use Rattle.std.proofs.Common.{rules}
+use Rattle.pi_types.specs.Store.{Binds}
+use Rattle.pi_unify.proofs.BindLemmas.{on_ok, fix_is}
+use Rattle.pi_unify.proofs.variables.fix.Goals as goal
+
+pub returns-clause-ok : goal.returns-clause-ok
+returns-clause-ok g c =
+    let v = g.S.StateStore.seen c.args.s.now in
+    let w = g.S.StateStore.seen c.bind.new.self in
+    let y = g.S.StateStore.seen c.put_int.new.self in
+    let z = g.S.StateStore.seen c.bind-2.new.self in
+    let a = c.args in
+    let r = c.in_ok-value.value in
+    on_ok c.bind-2.result (λ _. Binds y z a.low.at r) _ c.bind-2.ensures.ok
+    (λ _ fixes p. fix_is v w y z a.low a.high r _ a.n p.state p.low p.high p.less c.in_ok-bind.ensures.keeps c.in_ok-bind.ensures.ok c.in_ok-value.ensures.ok fixes (search rules))

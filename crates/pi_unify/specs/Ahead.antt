@@ -1,0 +1,75 @@
+-- What a stack leaves to be looked at: the arguments of compounds, each from one on. The newest stands last.
+use Rattle.std.specs.Prelude.{◌≡◌, ℕ, ◌+◌, ◌<◌, Bool, List, [], ◌∷◌, ◌++◌, ⊤}
+use Rattle.std.specs.List.{list_any}
+use Rattle.pi_types.specs.Tree.{Tree, cells, Trees, no_trees, tree, arity}
+use Rattle.pi_types.specs.Value.{Bindings, value}
+use Rattle.pi_types.specs.Store.{StoreView}
+use Rattle.pi_types.specs.Unify.{Pair, in_pairs, does_occur}
+use Rattle.pi_types.specs.declared.store.Ref.{Ref}
+use Rattle.pi_unify.specs.Refs.{IsRef, term_of, root_of, args_from}
+use Rattle.pi_unify.specs.declared.pairs.PairsAhead.{PairsAhead}
+use Rattle.pi_unify.specs.declared.occurs.ArgsAhead.{ArgsAhead}
+
+-- Pairs of arguments
+
+abbrev pub pairs_in : {M : Type 0} → StoreView M → PairsAhead → List Pair
+pairs_in v f = in_pairs (args_from v f.a f.next) (args_from v f.b f.next)
+
+-- in front of others
+unfoldable pub pairs_on : {M : Type 0} → StoreView M → List PairsAhead → List Pair → List Pair
+pairs_on v [] ps = ps
+pairs_on v (f ∷ fs) ps = pairs_on v fs (pairs_in v f ++ ps)
+
+-- two terms with as many arguments, some of which are left
+pub record IsPairs {M : Type 0} (v : StoreView M) (f : PairsAhead) : Type 0 where
+  pub a : IsRef v f.a
+  pub b : IsRef v f.b
+  pub some : f.next < f.count
+  pub of_a : arity (root_of v f.a) ≡ f.count
+  pub of_b : arity (root_of v f.b) ≡ f.count
+
+unfoldable pub ArePairs : {M : Type 0} → StoreView M → List PairsAhead → Type 0
+ArePairs v [] = ⊤
+ArePairs v (f ∷ fs) = IsPairs v f × ArePairs v fs
+
+-- a pair, and what the stack leaves behind it
+abbrev pub pair_and : {M : Type 0} → StoreView M → Ref → Ref → List PairsAhead → List Pair
+pair_and v a b fs = (term_of v a, term_of v b) ∷ pairs_on v fs []
+
+-- a pair that comes next
+pub record IsNextPair {M : Type 0} (v : StoreView M) (a b : Ref) (fs : List PairsAhead) : Type 0 where
+  pub left : IsRef v a
+  pub right : IsRef v b
+  pub ahead : ArePairs v fs
+
+-- Arguments
+
+unfoldable pub in_list : Trees → List Tree
+in_list no_trees = []
+in_list (tree t ts) = t ∷ in_list ts
+
+unfoldable pub args_on : {M : Type 0} → StoreView M → List ArgsAhead → List Tree → List Tree
+args_on v [] ts = ts
+args_on v (f ∷ fs) ts = args_on v fs (in_list (args_from v f.of f.next) ++ ts)
+
+pub record IsArgs {M : Type 0} (v : StoreView M) (f : ArgsAhead) : Type 0 where
+  pub of : IsRef v f.of
+  pub some : f.next < f.count
+  pub count : arity (root_of v f.of) ≡ f.count
+
+unfoldable pub AreArgs : {M : Type 0} → StoreView M → List ArgsAhead → Type 0
+AreArgs v [] = ⊤
+AreArgs v (f ∷ fs) = IsArgs v f × AreArgs v fs
+
+-- a term, and what the stack leaves behind it
+abbrev pub term_and : {M : Type 0} → StoreView M → Ref → List ArgsAhead → List Tree
+term_and v r fs = term_of v r ∷ args_on v fs []
+
+-- a variable occurs in the value of one of the terms
+abbrev pub some_hold : Bindings → ℕ → List Tree → Bool
+some_hold b n ts = list_any (λ t. does_occur n (value b t)) ts
+
+-- the cells of their values
+unfoldable pub cells_of_values : Bindings → List Tree → ℕ
+cells_of_values b [] = 0
+cells_of_values b (t ∷ ts) = cells (value b t) + cells_of_values b ts

@@ -1,0 +1,244 @@
+//! One-way matching of a pattern and a term.
+ghost use Rattle.std.specs.Prelude.{◌≡◌, ◌<◌, ◌≤◌, ◌+◌, MatchOption, ℕ, List, IfOk, length, slice_index_or};
+ghost use Rattle.std.specs.Ordering.{is_eq, int_eq};
+ghost use Rattle.pi_types.specs.Tree.{Tree, int, atom, arity};
+ghost use Rattle.pi_types.specs.Order.{identical, name_order};
+ghost use Rattle.pi_types.specs.Value.{value};
+ghost use Rattle.pi_types.specs.State.{bindings, followed};
+ghost use Rattle.pi_types.specs.Store.{IsTerm, IsName, ShowsCell};
+ghost use Rattle.pi_types.specs.Match.{matched};
+ghost use Rattle.pi_types.specs.HeadMatch.{matched_in, filled_in, slot_values};
+ghost use Rattle.pi_types.specs.CoreTree.{pattern_tree};
+ghost use Rattle.pi_unify.specs.Terms.{IsGiven, HoldsNoCycle, term_of};
+ghost use Rattle.pi_unify.specs.Matching.{slot_terms, HoldAllGiven, FillsEmpty, TellsMatch, root_match, is_compound_of, AreLeft, TakesPending, ComesBehind, Pushes, FitsRoot, is_int_in};
+
+use crate::order::compare;
+use crate::slots::Slots;
+use pi_types::{Cell, Pattern, Ref, StateStore};
+use std::alloc::{AllocError, Global};
+
+/// A pattern, and the term that it is to match.
+#[derive(Clone, Copy)]
+struct Pending<'p> {
+    pattern: &'p Pattern,
+    term: Ref,
+}
+
+/// The patterns of a compound from one number on, for the arguments of a term with as many. At least one is left.
+#[derive(Clone, Copy)]
+struct Arguments<'p> {
+    patterns: &'p [Pattern],
+    of: Ref,
+    next: usize,
+    count: usize,
+}
+
+/// Whether a term is an instance of a pattern. The pattern's slots are then filled, each with the term that stands in its
+/// place; a slot that was filled takes a term of the same value alone, and a number past the last slot takes none. No
+/// variable is bound. After false or a refusal some of the empty slots may be filled.
+pub fn match_head<S: StateStore>(
+    alloc: Global,
+    s: &S,
+    p: &Pattern,
+    r: Ref,
+    slots: &mut Slots,
+) -> Result<bool, AllocError>
+    requires acyclic { HoldsNoCycle (S.seen s.now) }
+    requires term { IsGiven (S.seen s.now) r }
+    requires slots { HoldAllGiven (S.seen s.now) slots.old }
+    ensures fills { FillsEmpty (S.seen s.now) slots.old slots.new }
+    ensures terms { IfOk result (λ found. (t : Tree) → IsTerm (S.seen s.now) r t → TellsMatch found (matched_in (bindings (S.seen s.now).now.state) (pattern_tree p.now) t (slot_terms (S.seen s.now) slots.old)) (slot_terms (S.seen s.now) slots.new)) }
+    ensures values { IfOk result (λ found. (t : Tree) → IsTerm (S.seen s.now) r t → let b = bindings (S.seen s.now).now.state in TellsMatch found (matched (pattern_tree p.now) (value b t) (slot_values b (slot_terms (S.seen s.now) slots.old))) (slot_values b (slot_terms (S.seen s.now) slots.new))) }
+{
+    let mut left = Vec::new(alloc);
+    let mut at = Pending {
+        pattern: p,
+        term: r,
+    };
+    loop {
+        if !matches_at_root(alloc, s, at.pattern, at.term, slots)? {
+            return Ok(false);
+        }
+        match after_root(s, at.pattern, at.term, &mut left)? {
+            Some(next) => at = next,
+            None => return Ok(true),
+        }
+    }
+}
+
+/// Whether a term is at its root what a pattern says. The pattern's own slot takes the term.
+fn matches_at_root<S: StateStore>(
+    alloc: Global,
+    s: &S,
+    pattern: &Pattern,
+    term: Ref,
+    slots: &mut Slots,
+) -> Result<bool, AllocError>
+    requires acyclic { HoldsNoCycle (S.seen s.now) }
+    requires term { IsGiven (S.seen s.now) term }
+    requires slots { HoldAllGiven (S.seen s.now) slots.old }
+    ensures fills { FillsEmpty (S.seen s.now) slots.old slots.new }
+    ensures found { IfOk result (λ found. TellsMatch found (root_match (bindings (S.seen s.now).now.state) (pattern_tree pattern.now) (term_of (S.seen s.now) term) (slot_terms (S.seen s.now) slots.old)) (slot_terms (S.seen s.now) slots.new)) }
+{
+    match pattern {
+        Pattern::Slot(k) => fill(alloc, s, slots, *k, term),
+        Pattern::Named(k, _) => fill(alloc, s, slots, *k, term),
+        Pattern::Int(n) => Ok(is_int(s.look(term), *n)),
+        Pattern::Atom(name) => Ok(is_atom(s, s.look(term), name.as_str())),
+        Pattern::Comp(name, patterns) => Ok(is_compound(
+            s,
+            s.look(term),
+            name.as_str(),
+            patterns.len(),
+        )),
+    }
+}
+
+/// Whether a term that shows this at its root is this integer.
+fn is_int(cell: Cell, n: i128) -> bool
+    ensures { result ≡ is_int_in n cell }
+{
+    match cell {
+        Cell::Int(m) => m == n,
+        _ => false,
+    }
+}
+
+/// Whether a term that shows this at its root is the atom with this name.
+fn is_atom<S: StateStore>(s: &S, cell: Cell, name: &str) -> bool
+    ensures { (t : Tree) → ShowsCell (S.seen s.now) t cell → result ≡ identical (atom name.now) t }
+{
+    match cell {
+        Cell::Atom(k) => has_name(s, k, name),
+        _ => false,
+    }
+}
+
+/// Whether a term that shows this at its root is a compound with this name and so many arguments.
+fn is_compound<S: StateStore>(s: &S, cell: Cell, name: &str, count: usize) -> bool
+    ensures { (t : Tree) → ShowsCell (S.seen s.now) t cell → result ≡ is_compound_of name.now count t }
+{
+    match cell {
+        Cell::Comp(k, n) => n == count as u64 && has_name(s, k, name),
+        _ => false,
+    }
+}
+
+/// Whether this is the name of an atom.
+fn has_name<S: StateStore>(s: &S, k: u64, name: &str) -> bool
+    ensures { (f : List ℕ) → IsName (S.seen s.now) k f → result ≡ is_eq (name_order name.now f) }
+{
+    name.cmp(s.name(k)).is_eq()
+}
+
+/// Whether a slot takes a term: an empty one does, and a filled one where the terms have one value.
+fn fill<S: StateStore>(
+    alloc: Global,
+    s: &S,
+    slots: &mut Slots,
+    k: u32,
+    term: Ref,
+) -> Result<bool, AllocError>
+    requires acyclic { HoldsNoCycle (S.seen s.now) }
+    requires term { IsGiven (S.seen s.now) term }
+    requires slots { HoldAllGiven (S.seen s.now) slots.old }
+    ensures fills { FillsEmpty (S.seen s.now) slots.old slots.new }
+    ensures found { IfOk result (λ found. TellsMatch found (filled_in (bindings (S.seen s.now).now.state) k (term_of (S.seen s.now) term) (slot_terms (S.seen s.now) slots.old)) (slot_terms (S.seen s.now) slots.new)) }
+{
+    let k = k as usize;
+    if k >= slots.len() {
+        return Ok(false);
+    }
+    match slots.get(k) {
+        Some(held) => Ok(compare(alloc, s, held, term)?.is_eq()),
+        None => {
+            slots.set(k, term);
+            Ok(true)
+        }
+    }
+}
+
+/// What is to be matched next, once a term was found at its root to be what a pattern says; None exactly where nothing is.
+fn after_root<'p, S: StateStore>(
+    s: &S,
+    pattern: &'p Pattern,
+    term: Ref,
+    left: &mut Vec<Arguments<'p>>,
+) -> Result<Option<Pending<'p>>, AllocError>
+    requires acyclic { HoldsNoCycle (S.seen s.now) }
+    requires term { IsGiven (S.seen s.now) term }
+    requires left { AreLeft (S.seen s.now) left.old.items }
+    requires fits { FitsRoot (bindings (S.seen s.now).now.state) (pattern_tree pattern.now) (term_of (S.seen s.now) term) }
+    ensures { IfOk result (ComesBehind (S.seen s.now) (pattern_tree pattern.now) (term_of (S.seen s.now) term) left.old.items left.new.items) }
+{
+    match pattern {
+        Pattern::Named(_, inner) => Ok(Some(Pending {
+            pattern: inner,
+            term,
+        })),
+        Pattern::Comp(_, patterns) => {
+            push_arguments(left, patterns.as_slice(), term)?;
+            next_argument(s, left)
+        }
+        Pattern::Slot(_) | Pattern::Int(_) | Pattern::Atom(_) => next_argument(s, left),
+    }
+}
+
+/// Leaves all patterns of a compound to be matched, where it has any.
+fn push_arguments<'p>(
+    left: &mut Vec<Arguments<'p>>,
+    patterns: &'p [Pattern],
+    of: Ref,
+) -> Result<(), AllocError>
+    ensures { IfOk result (λ _. Pushes left.old.items left.new.items patterns.now of) }
+{
+    if !patterns.is_empty() {
+        left.push(Arguments {
+            patterns,
+            of,
+            next: 0,
+            count: patterns.len(),
+        })?;
+    }
+    Ok(())
+}
+
+/// Takes the next pattern with its argument; a compound's last one leaves nothing behind. None exactly where none is left.
+fn next_argument<'p, S: StateStore>(
+    s: &S,
+    left: &mut Vec<Arguments<'p>>,
+) -> Result<Option<Pending<'p>>, AllocError>
+    requires acyclic { HoldsNoCycle (S.seen s.now) }
+    requires left { AreLeft (S.seen s.now) left.old.items }
+    ensures { IfOk result (TakesPending (S.seen s.now) left.old.items left.new.items) }
+{
+    let Some(first) = left.pop() else {
+        return Ok(None);
+    };
+    if let Some(next) = following(first.next, first.count) {
+        left.push(Arguments { next, ..first })?;
+    }
+    Ok(Some(Pending {
+        pattern: pattern_at(first.patterns, first.next),
+        term: s.arg(first.of, first.next as u64),
+    }))
+}
+
+/// The number behind this one, where it is below the count too.
+fn following(next: usize, count: usize) -> Option<usize>
+    requires { next < count }
+    ensures { MatchOption result (count ≤ next + 1) (λ k. (k ≡ next + 1) × (k < count)) }
+{
+    if next + 1 < count {
+        Some(next + 1)
+    } else {
+        None
+    }
+}
+
+fn pattern_at(patterns: &[Pattern], i: usize) -> &Pattern
+    requires { i < length patterns.now }
+    ensures { result.now ≡ slice_index_or patterns.now i result.now }
+{
+    &patterns[i]
+}

@@ -1,0 +1,132 @@
+//! The standard order.
+ghost use Rattle.std.specs.Prelude.{◌≡◌, ℕ, List, IfOk};
+ghost use Rattle.pi_types.specs.Tree.{Tree};
+ghost use Rattle.pi_types.specs.Order.{order, name_order};
+ghost use Rattle.pi_types.specs.Value.{value};
+ghost use Rattle.pi_types.specs.State.{bindings};
+ghost use Rattle.pi_types.specs.Store.{IsTerm, IsName};
+ghost use Rattle.pi_unify.specs.Terms.{IsGiven, HoldsNoCycle};
+ghost use Rattle.pi_unify.specs.Comparison.{cell_arity, AreRests, Begins, TakesPair, with_arguments};
+
+use pi_types::{Cell, Ref, StateStore};
+use std::alloc::{AllocError, Global};
+use std::cmp::Ordering;
+
+/// Two terms that are to be compared.
+#[derive(Clone, Copy, Debug)]
+struct Pair {
+    left: Ref,
+    right: Ref,
+}
+
+/// The arguments of two compounds from one number on, to be compared once what stands before them was found equal. Both
+/// have the same number of arguments, and at least one of them is left.
+#[derive(Clone, Copy, Debug)]
+struct Rest {
+    of: Pair,
+    next: u64,
+    count: u64,
+}
+
+/// How the values of two terms stand in the standard order. Its stack lies on the heap, and the last argument of a
+/// compound leaves nothing on it.
+pub fn compare<S: StateStore>(alloc: Global, s: &S, a: Ref, b: Ref) -> Result<Ordering, AllocError>
+    requires acyclic { HoldsNoCycle (S.seen s.now) }
+    requires left { IsGiven (S.seen s.now) a }
+    requires right { IsGiven (S.seen s.now) b }
+    ensures { IfOk result (λ found. (t u : Tree) → IsTerm (S.seen s.now) a t → IsTerm (S.seen s.now) b u → found ≡ order (value (bindings (S.seen s.now).now.state) t) (value (bindings (S.seen s.now).now.state) u)) }
+{
+    let mut rests = Vec::new(alloc);
+    let mut pair = Pair { left: a, right: b };
+    loop {
+        let cell = s.look(pair.left);
+        let order = order_at_root(s, cell, s.look(pair.right));
+        if order.is_ne() {
+            return Ok(order);
+        }
+        push_arguments(&mut rests, pair, argument_count(cell))?;
+        match next_pair(s, &mut rests)? {
+            Some(next) => pair = next,
+            None => return Ok(Ordering::Equal),
+        }
+    }
+}
+
+/// How two terms compare at their roots: by kind, then by what they are there. Compounds of one name and one number of
+/// arguments are equal there.
+fn order_at_root<S: StateStore>(s: &S, left: Cell, right: Cell) -> Ordering
+    ensures { Begins (S.seen s.now) left right result }
+{
+    match left {
+        Cell::Var(m) => match right {
+            Cell::Var(n) => m.cmp(&n),
+            _ => Ordering::Less,
+        },
+        Cell::Int(m) => match right {
+            Cell::Var(_) => Ordering::Greater,
+            Cell::Int(n) => m.cmp(&n),
+            _ => Ordering::Less,
+        },
+        Cell::Atom(j) => match right {
+            Cell::Atom(k) => order_of_names(s, j, k),
+            Cell::Comp(_, _) => Ordering::Less,
+            _ => Ordering::Greater,
+        },
+        Cell::Comp(j, m) => match right {
+            Cell::Comp(k, n) => m.cmp(&n).then(order_of_names(s, j, k)),
+            _ => Ordering::Greater,
+        },
+    }
+}
+
+/// How two names of atoms stand in the order of their code points.
+fn order_of_names<S: StateStore>(s: &S, j: u64, k: u64) -> Ordering
+    ensures { (f g : List ℕ) → IsName (S.seen s.now) j f → IsName (S.seen s.now) k g → result ≡ name_order f g }
+{
+    if j == k {
+        Ordering::Equal
+    } else {
+        s.name(j).cmp(s.name(k))
+    }
+}
+
+/// How many arguments a term has that shows this at its root.
+pub fn argument_count(cell: Cell) -> u64
+    ensures { result ≡ cell_arity cell }
+{
+    match cell {
+        Cell::Comp(_, count) => count,
+        _ => 0,
+    }
+}
+
+/// Leaves all arguments of two terms to be compared, where they have any.
+fn push_arguments(rests: &mut Vec<Rest>, of: Pair, count: u64) -> Result<(), AllocError>
+    ensures { IfOk result (λ _. rests.new.items ≡ with_arguments rests.old.items of count) }
+{
+    if count > 0 {
+        rests.push(Rest { of, next: 0, count })?;
+    }
+    Ok(())
+}
+
+/// Takes the next two arguments; None exactly where none are left.
+fn next_pair<S: StateStore>(s: &S, rests: &mut Vec<Rest>) -> Result<Option<Pair>, AllocError>
+    requires acyclic { HoldsNoCycle (S.seen s.now) }
+    requires rests { AreRests (S.seen s.now) rests.old.items }
+    ensures { IfOk result (TakesPair (S.seen s.now) rests.old.items rests.new.items) }
+{
+    let Some(rest) = rests.pop() else {
+        return Ok(None);
+    };
+    if rest.next + 1 < rest.count {
+        rests.push(Rest {
+            next: rest.next + 1,
+            ..rest
+        })?;
+    }
+    Ok(Some(Pair {
+        left: s.arg(rest.of.left, rest.next),
+        right: s.arg(rest.of.right, rest.next),
+    }))
+}
