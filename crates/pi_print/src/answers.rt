@@ -1,82 +1,145 @@
 //! The lines of an answer.
+ghost use Rattle.std.specs.Prelude.{◌≡◌, ◌++◌, ◌∷◌, [], map, true, IfOk, option_copied};
+ghost use Rattle.std.specs.String.{string_bytes};
+ghost use Rattle.pi_types.specs.PrintAnswer as spec;
+ghost use Rattle.pi_print.specs.Answers.{HasDomains};
+
 use crate::Lines;
+use crate::numbers::Numbers;
 use crate::printer::Printer;
 use pi_types::{Answer, Domain, NamedTerm, Span, Text, VarDomain};
 use std::alloc::{AllocError, Global};
 use std::collections::HashMap;
 
-/// The lines of an answer: `Name = T` for each named variable, with T in quoted form; then `_k :: D` for each unbound
-/// variable in them that has a domain, where D lists its ranges; then `yes`.
-pub fn answer_text(alloc: Global, a: &Answer) -> Result<Lines, AllocError> {
-    let mut printer = Printer::new(alloc, true);
+/// The lines of an answer: `Name = T` for each named variable, with T in quoted form; then `_k :: D` for each variable in
+/// them that has a domain, where D lists its ranges; then `yes`.
+#[tactic(auto, unfolding(pi_types::specs::PrintAnswer::answer_lines))]
+pub fn answer_text(alloc: Global, a: &Answer) -> Result<Lines, AllocError>
+    ensures ok { IfOk result (λ lines. lines ≡ spec.answer_lines a.now) }
+{
+    let values = a.values.as_slice();
+    let printer = Printer {
+        alloc,
+        is_quoted: true,
+        numbers: numbers_of(alloc, values)?,
+    };
     let mut lines = Lines::new(alloc);
-    write_values(&mut lines, &mut printer, a.values.as_slice())?;
-    write_domains(alloc, &mut lines, &mut printer, a.domains.as_slice())?;
+    write_values(&printer, values, &mut lines)?;
+    write_domains(&printer, a.domains.as_slice(), &mut lines)?;
     lines.push(Text::new(alloc, "yes\n")?)?;
     Ok(lines)
 }
 
-fn write_values(
-    lines: &mut Lines,
-    printer: &mut Printer,
-    values: &[NamedTerm],
-) -> Result<(), AllocError> {
+/// The numbers of the variables in the values.
+fn numbers_of(alloc: Global, values: &[NamedTerm]) -> Result<Numbers, AllocError>
+    ensures ok { IfOk result (λ numbers. numbers ≡ spec.answer_variables values.now) }
+{
+    let mut numbers = Numbers::new(alloc);
     for named in values {
-        printer.text(named.name.as_str())?;
-        printer.text(" = ")?;
-        printer.term(&named.value)?;
-        printer.text("\n")?;
-        lines.push(printer.take())?;
+        numbers.note_term(&named.value)?;
+    }
+    Ok(numbers)
+}
+
+fn write_values(
+    printer: &Printer,
+    values: &[NamedTerm],
+    lines: &mut Lines,
+) -> Result<(), AllocError>
+    requires { printer.now.is_quoted ≡ true }
+    ensures ok { IfOk result (λ _. lines.new ≡ lines.old ++ map (spec.value_line printer.now.numbers) values.now) }
+{
+    for named in values {
+        lines.push(value_line(printer, named)?)?;
     }
     Ok(())
+}
+
+/// The line of a named variable.
+fn value_line(printer: &Printer, named: &NamedTerm) -> Result<Text, AllocError>
+    requires { printer.now.is_quoted ≡ true }
+    ensures ok { IfOk result (λ line. line ≡ spec.value_line printer.now.numbers named.now) }
+{
+    let mut line = String::from_str(printer.alloc, named.name.as_str())?;
+    line.push_str(" = ")?;
+    printer.term(&named.value, &mut line)?;
+    line.push('\n')?;
+    Ok(Text::from_string(line))
 }
 
 fn write_domains(
-    alloc: Global,
-    lines: &mut Lines,
-    printer: &mut Printer,
+    printer: &Printer,
     domains: &[VarDomain],
-) -> Result<(), AllocError> {
-    let by_var = domains_by_var(alloc, domains)?;
-    let vars = printer.numbers().vars().to_vec(alloc)?;
-    for var in &vars {
-        if let Some(domain) = by_var.get(var) {
-            printer.var(*var)?;
-            lines.push(domain_line(printer, domain)?)?;
-        }
+    lines: &mut Lines,
+) -> Result<(), AllocError>
+    ensures ok { IfOk result (λ _. lines.new ≡ lines.old ++ spec.domain_lines printer.now.numbers domains.now) }
+{
+    let by_var = domains_by_var(printer.alloc, domains)?;
+    for var in printer.numbers.vars() {
+        write_domain(printer, *var, by_var.get(var).copied(), lines)?;
     }
     Ok(())
 }
 
-fn domains_by_var(
-    alloc: Global,
-    domains: &[VarDomain],
-) -> Result<HashMap<u64, &Domain>, AllocError> {
+fn write_domain(
+    printer: &Printer,
+    var: u64,
+    domain: Option<&Domain>,
+    lines: &mut Lines,
+) -> Result<(), AllocError>
+    ensures ok { IfOk result (λ _. lines.new ≡ lines.old ++ spec.domain_line_if printer.now.numbers var (option_copied domain.entry)) }
+{
+    if let Some(domain) = domain {
+        lines.push(domain_line(printer, var, domain)?)?;
+    }
+    Ok(())
+}
+
+/// The domains by their variables. Where two are of one variable, the first counts.
+fn domains_by_var(alloc: Global, domains: &[VarDomain]) -> Result<HashMap<u64, &Domain>, AllocError>
+    ensures ok { IfOk result (λ by_var. HasDomains domains.now by_var) }
+{
     let mut by_var = HashMap::new(alloc);
-    for VarDomain { var, domain } in domains {
+    for at in (0..domains.len()).rev() {
+        let VarDomain { var, domain } = &domains[at];
         by_var.insert(*var, domain)?;
     }
     Ok(by_var)
 }
 
-/// The line of a domain, behind its variable.
-fn domain_line(printer: &mut Printer, domain: &Domain) -> Result<Text, AllocError> {
-    let mut before = " :: ";
-    for span in domain.spans() {
-        printer.text(before)?;
-        write_span(printer, *span)?;
-        before = ",";
-    }
-    printer.text("\n")?;
-    Ok(printer.take())
+/// The line of a variable's domain.
+fn domain_line(printer: &Printer, var: u64, domain: &Domain) -> Result<Text, AllocError>
+    ensures ok { IfOk result (λ line. line ≡ spec.domain_line printer.now.numbers var domain.now) }
+{
+    let mut line = String::new(printer.alloc);
+    printer.var(var, &mut line)?;
+    line.push_str(" :: ")?;
+    write_spans(domain.spans(), &mut line)?;
+    line.push('\n')?;
+    Ok(Text::from_string(line))
 }
 
-fn write_span(printer: &mut Printer, span: Span) -> Result<(), AllocError> {
-    let Span { lo, hi } = span;
-    printer.integer(lo)?;
-    if lo == hi {
+fn write_spans(spans: &[Span], line: &mut String) -> Result<(), AllocError>
+    ensures ok { IfOk result (λ _. string_bytes line.new ≡ string_bytes line.old ++ spec.spans_text spans.now) }
+{
+    let Some((first, rest)) = spans.split_first() else {
         return Ok(());
+    };
+    write_span(*first, line)?;
+    for span in rest {
+        line.push(',')?;
+        write_span(*span, line)?;
     }
-    printer.text("..")?;
-    printer.integer(hi)
+    Ok(())
+}
+
+fn write_span(span: Span, line: &mut String) -> Result<(), AllocError>
+    ensures ok { IfOk result (λ _. string_bytes line.new ≡ string_bytes line.old ++ spec.span_text span) }
+{
+    let Span { lo, hi } = span;
+    write!(line, "{lo}")?;
+    if hi > lo {
+        write!(line, "..{hi}")?;
+    }
+    Ok(())
 }

@@ -1,210 +1,287 @@
 //! Terms, written node by node in prefix order.
-ghost use Rattle.std.specs.Prelude.{◌<◌};
-ghost use Rattle.pi_types.specs.Tree.{cells};
+ghost use Rattle.std.specs.Prelude.{◌≡◌, ◌++◌, ◌+◌, ◌≤◌, ◌&&◌, not, false, List, ℕ, IfOk, OnOk, MatchOption, vec_len};
+ghost use Rattle.std.specs.Char.{encode_utf8};
+ghost use Rattle.std.specs.String.{string_bytes};
+ghost use Rattle.pi_types.specs.Tree.{comp, tree_count, drop_trees, cells_all};
+ghost use Rattle.pi_types.specs.TermCells.{take_trees};
+ghost use Rattle.pi_types.specs.PrintAtom.{atom_text};
+ghost use Rattle.pi_types.specs.PrintTerm.{written, variable_text, compound_text, arguments_text, cell_is_characters};
+ghost use Rattle.pi_print.specs.Ahead.{built, behind, count_of};
+ghost use Rattle.pi_print.specs.Roots.{AreCharacters};
+ghost use Rattle.pi_print.specs.Tasks.{task_text, task_left, list_text, to_do, Begins};
+ghost use Rattle.pi_print.specs.declared.printer.Task.TheVariants.{Value, Rest, Arguments};
 
 use crate::atoms::write_quoted;
+use crate::characters::{Characters, is_cell, is_nil, read_characters};
+use crate::nodes::Nodes;
 use crate::numbers::Numbers;
-use pi_types::{Term, TermHead, Text};
+use pi_types::{Term, TermHead};
 use std::alloc::{AllocError, Global};
-use std::mem;
 
-/// A compound that is being written, inside the one below it.
+/// What is still to be written of a term.
 #[derive(Clone, Copy, Debug, PartialEq, Eq)]
-enum Open {
-    /// A list whose next node begins an item.
-    Item,
-    /// A list whose next node begins what follows the last item.
-    Tail,
-    /// A list that is written as its characters.
-    Characters,
-    /// Another compound, with the number of arguments that are left, one or more, and the sign that closes it.
+pub enum Task {
+    /// The next term.
+    Value,
+    /// What follows an item of a list, where the next term is the rest of the list.
+    Rest,
+    /// What follows an argument: so many more, the next terms, and the sign that closes the compound.
     Arguments(usize, char),
 }
 
-impl Open {
-    /// Goes on behind a value in the compound; None where that closes it.
-    fn go_on(self, out: &mut String) -> Result<Option<Open>, AllocError> {
-        match self {
-            Open::Item => return Ok(Some(Open::Tail)),
-            Open::Tail => out.push(']')?,
-            Open::Characters => {}
-            Open::Arguments(count, close) => {
-                if count > 1 {
-                    out.push(',')?;
-                    return Ok(Some(Open::Arguments(count - 1, close)));
-                }
-                out.push(close)?;
-            }
-        }
-        Ok(None)
-    }
+/// All that is still to be written: the last task comes first.
+#[derive(Drop)]
+pub struct Todo<'t> {
+    pub ahead: Nodes<'t>,
+    pub tasks: Vec<Task>,
 }
 
-/// A printer of terms, with one numbering of their variables.
+/// A printer of terms whose variables have numbers, in quoted or in plain form.
 #[derive(Drop)]
-pub(crate) struct Printer {
-    alloc: Global,
-    quoted: bool,
-    numbers: Numbers,
-    open: Vec<Open>,
-    out: String,
+pub struct Printer {
+    pub alloc: Global,
+    pub is_quoted: bool,
+    pub numbers: Numbers,
 }
 
 impl Printer {
-    pub(crate) fn new(alloc: Global, quoted: bool) -> Printer {
-        Printer {
-            alloc,
-            quoted,
-            numbers: Numbers::new(alloc),
-            open: Vec::new(alloc),
-            out: String::new(alloc),
-        }
-    }
-
-    /// The numbering of the variables so far.
-    pub(crate) fn numbers(&self) -> &Numbers {
-        &self.numbers
-    }
-
-    /// What was written, which is taken.
-    pub(crate) fn take(&mut self) -> Text {
-        Text::from_string(mem::replace(&mut self.out, String::new(self.alloc)))
-    }
-
-    /// Writes a text as it is.
-    pub(crate) fn text(&mut self, text: &str) -> Result<(), AllocError> {
-        self.out.push_str(text)
-    }
-
     /// Writes a term.
-    pub(crate) fn term(&mut self, term: &Term) -> Result<(), AllocError> {
-        for at in 0..term.cells() {
-            self.node(term, at)?;
+    pub fn term(&self, term: &Term, out: &mut String) -> Result<(), AllocError>
+        ensures ok { IfOk result (λ _. string_bytes out.new ≡ string_bytes out.old ++ written self.now.is_quoted self.now.numbers term.now) }
+    {
+        let mut todo = Todo {
+            ahead: Nodes::new(term),
+            tasks: Vec::new(self.alloc),
+        };
+        todo.tasks.push(Task::Value)?;
+        while let Some(task) = todo.tasks.pop() {
+            self.step(task, &mut todo, out)?;
         }
         Ok(())
+    }
+
+    /// Writes what a task begins with, and leaves the rest of it to be done.
+    fn step(&self, task: Task, todo: &mut Todo<'_>, out: &mut String) -> Result<(), AllocError>
+        ensures ok { IfOk result (λ _. Begins self.now (string_bytes out.old)
+            (task_text self.now.is_quoted self.now.numbers task todo.old.ahead) todo.old.tasks.items (task_left task todo.old.ahead)
+            (string_bytes out.new) todo.new) }
+        ensures less { OnOk result (to_do todo.new ≤ to_do todo.old) }
+    {
+        match task {
+            Task::Value => self.next_value(todo, out),
+            Task::Rest => self.rest(todo, out),
+            Task::Arguments(count, close) => self.arguments(count, close, todo, out),
+        }
+    }
+
+    /// Writes the beginning of the next term.
+    fn next_value(&self, todo: &mut Todo<'_>, out: &mut String) -> Result<(), AllocError>
+        ensures ok { IfOk result (λ _. Begins self.now (string_bytes out.old)
+            (task_text self.now.is_quoted self.now.numbers Value todo.old.ahead) todo.old.tasks.items (drop_trees 1 todo.old.ahead)
+            (string_bytes out.new) todo.new) }
+        ensures less { OnOk result (to_do todo.new ≤ to_do todo.old) }
+    {
+        let Some(head) = todo.ahead.next() else {
+            return Ok(());
+        };
+        self.value(head, todo, out)?;
+        Ok(())
+    }
+
+    /// Writes what follows an item of a list.
+    fn rest(&self, todo: &mut Todo<'_>, out: &mut String) -> Result<(), AllocError>
+        ensures ok { IfOk result (λ _. Begins self.now (string_bytes out.old)
+            (task_text self.now.is_quoted self.now.numbers Rest todo.old.ahead) todo.old.tasks.items (drop_trees 1 todo.old.ahead)
+            (string_bytes out.new) todo.new) }
+        ensures less { OnOk result (to_do todo.new ≤ to_do todo.old) }
+    {
+        let Some(head) = todo.ahead.next() else {
+            return Ok(());
+        };
+        if is_nil(head) {
+            out.push(']')?;
+            return Ok(());
+        }
+        if is_cell(head) {
+            out.push(',')?;
+            todo.tasks.push(Task::Rest)?;
+            todo.tasks.push(Task::Value)?;
+            return Ok(());
+        }
+        out.push('|')?;
+        todo.tasks.push(Task::Arguments(0, ']'))?;
+        self.value(head, todo, out)?;
+        Ok(())
+    }
+
+    /// Writes what follows an argument of a compound.
+    fn arguments(
+        &self,
+        count: usize,
+        close: char,
+        todo: &mut Todo<'_>,
+        out: &mut String,
+    ) -> Result<(), AllocError>
+        ensures ok { IfOk result (λ _. Begins self.now (string_bytes out.old)
+            (task_text self.now.is_quoted self.now.numbers (Arguments count close) todo.old.ahead) todo.old.tasks.items (drop_trees count todo.old.ahead)
+            (string_bytes out.new) todo.new) }
+        ensures less { OnOk result (to_do todo.new ≤ to_do todo.old) }
+    {
+        if count == 0 {
+            out.push(close)?;
+            return Ok(());
+        }
+        let Some(head) = todo.ahead.next() else {
+            out.push(close)?;
+            return Ok(());
+        };
+        out.push(',')?;
+        todo.tasks.push(Task::Arguments(count - 1, close))?;
+        self.value(head, todo, out)?;
+        Ok(())
+    }
+
+    /// Writes the beginning of a term, whose root was read.
+    fn value(
+        &self,
+        head: TermHead<'_>,
+        todo: &mut Todo<'_>,
+        out: &mut String,
+    ) -> Result<(), AllocError>
+        requires { count_of head ≤ tree_count todo.old.ahead }
+        ensures ok { IfOk result (λ _. Begins self.now (string_bytes out.old)
+            (written self.now.is_quoted self.now.numbers (built head.entry todo.old.ahead)) todo.old.tasks.items (behind head.entry todo.old.ahead)
+            (string_bytes out.new) todo.new) }
+        ensures fewer { OnOk result (cells_all todo.new.ahead ≤ cells_all todo.old.ahead) }
+        ensures tasks { OnOk result (vec_len todo.new.tasks ≤ vec_len todo.old.tasks + 2) }
+    {
+        match head {
+            TermHead::Var(n) => {
+                self.var(n, out)?;
+                Ok(())
+            }
+            TermHead::Int(n) => {
+                write!(out, "{n}")?;
+                Ok(())
+            }
+            TermHead::Atom(name) => {
+                self.atom(name, out)?;
+                Ok(())
+            }
+            TermHead::Comp(name, count) => self.compound(name, count, todo, out),
+        }
+    }
+
+    /// Writes the beginning of a compound, whose root was read.
+    fn compound(
+        &self,
+        name: &str,
+        count: usize,
+        todo: &mut Todo<'_>,
+        out: &mut String,
+    ) -> Result<(), AllocError>
+        requires { count ≤ tree_count todo.old.ahead }
+        ensures ok { IfOk result (λ _. Begins self.now (string_bytes out.old)
+            (written self.now.is_quoted self.now.numbers (comp name.now (take_trees count todo.old.ahead)))
+            todo.old.tasks.items (drop_trees count todo.old.ahead) (string_bytes out.new) todo.new) }
+        ensures fewer { OnOk result (cells_all todo.new.ahead ≤ cells_all todo.old.ahead) }
+        ensures tasks { OnOk result (vec_len todo.new.tasks ≤ vec_len todo.old.tasks + 2) }
+    {
+        if is_cell(TermHead::Comp(name, count)) {
+            self.list(todo, out)?;
+            return Ok(());
+        }
+        self.structure(name, count, todo, out)?;
+        Ok(())
+    }
+
+    /// Writes the beginning of a compound that is no list cell, and whose root was read.
+    fn structure(
+        &self,
+        name: &str,
+        count: usize,
+        todo: &mut Todo<'_>,
+        out: &mut String,
+    ) -> Result<(), AllocError>
+        requires { count ≤ tree_count todo.old.ahead }
+        ensures ok { IfOk result (λ _. Begins self.now (string_bytes out.old)
+            (compound_text self.now.is_quoted name.now (arguments_text self.now.is_quoted self.now.numbers (take_trees count todo.old.ahead)))
+            todo.old.tasks.items (drop_trees count todo.old.ahead) (string_bytes out.new) todo.new) }
+        ensures fewer { OnOk result (cells_all todo.new.ahead ≤ cells_all todo.old.ahead) }
+        ensures tasks { OnOk result (vec_len todo.new.tasks ≤ vec_len todo.old.tasks + 2) }
+    {
+        let close = self.open(name, out)?;
+        if count == 0 {
+            out.push(close)?;
+            return Ok(());
+        }
+        todo.tasks.push(Task::Arguments(count - 1, close))?;
+        todo.tasks.push(Task::Value)?;
+        Ok(())
+    }
+
+    /// Writes the beginning of a list, whose first cell was read.
+    fn list(&self, todo: &mut Todo<'_>, out: &mut String) -> Result<(), AllocError>
+        requires { 2 ≤ tree_count todo.old.ahead }
+        ensures ok { IfOk result (λ _. Begins self.now (string_bytes out.old)
+            (list_text self.now.is_quoted self.now.numbers (take_trees 2 todo.old.ahead)) todo.old.tasks.items (drop_trees 2 todo.old.ahead)
+            (string_bytes out.new) todo.new) }
+        ensures fewer { OnOk result (cells_all todo.new.ahead ≤ cells_all todo.old.ahead) }
+        ensures tasks { OnOk result (vec_len todo.new.tasks ≤ vec_len todo.old.tasks + 2) }
+    {
+        if let Some(found) = self.characters(&todo.ahead)? {
+            todo.ahead = found.behind;
+            out.push_str(found.text.as_str())?;
+            return Ok(());
+        }
+        out.push('[')?;
+        todo.tasks.push(Task::Rest)?;
+        todo.tasks.push(Task::Value)?;
+        Ok(())
+    }
+
+    /// The characters of the list whose first cell was read, where it is written as these.
+    fn characters<'t>(&self, ahead: &Nodes<'t>) -> Result<Option<Characters<'t>>, AllocError>
+        requires { 2 ≤ tree_count ahead.now }
+        ensures ok { IfOk result (λ found. MatchOption found
+            ((not self.now.is_quoted && cell_is_characters (take_trees 2 ahead.now)) ≡ false)
+            (λ f. (self.now.is_quoted ≡ false) × AreCharacters ahead.now f)) }
+    {
+        if self.is_quoted {
+            return Ok(None);
+        }
+        read_characters(self.alloc, ahead)
+    }
+
+    /// Writes the name of a compound that is no list cell and the sign that opens it; gives the sign that closes it.
+    fn open(&self, name: &str, out: &mut String) -> Result<char, AllocError>
+        ensures ok { IfOk result (λ close. (inner : List ℕ) → string_bytes out.new ++ (inner ++ encode_utf8 close) ≡ string_bytes out.old ++ compound_text self.now.is_quoted name.now inner) }
+    {
+        if name == "{}" {
+            out.push('{')?;
+            return Ok('}');
+        }
+        self.atom(name, out)?;
+        out.push('(')?;
+        Ok(')')
     }
 
     /// Writes a variable.
-    pub(crate) fn var(&mut self, var: u64) -> Result<(), AllocError> {
-        let number = self.numbers.number_of(var)?;
-        write!(self.out, "_{number}")
-    }
-
-    /// Writes an integer.
-    pub(crate) fn integer(&mut self, value: i64) -> Result<(), AllocError> {
-        write!(self.out, "{value}")
-    }
-
-    fn node(&mut self, term: &Term, at: usize) -> Result<(), AllocError>
-        requires { at < cells term.now }
+    pub fn var(&self, var: u64, out: &mut String) -> Result<(), AllocError>
+        ensures ok { IfOk result (λ _. string_bytes out.new ≡ string_bytes out.old ++ variable_text self.now.numbers var) }
     {
-        let head = term.head_at(at);
-        match self.open.last() {
-            Some(Open::Tail) => self.tail(term, at),
-            Some(Open::Characters) => self.character(head),
-            _ => self.value(term, at),
-        }
+        let number = self.numbers.number_of(var);
+        write!(out, "_{number}")
     }
 
-    /// Writes the node that begins what follows a list's last item.
-    fn tail(&mut self, term: &Term, at: usize) -> Result<(), AllocError>
-        requires { at < cells term.now }
+    #[tactic(auto, unfolding(pi_types::specs::PrintAtom::atom_text))]
+    fn atom(&self, name: &str, out: &mut String) -> Result<(), AllocError>
+        ensures ok { IfOk result (λ _. string_bytes out.new ≡ string_bytes out.old ++ atom_text self.now.is_quoted name.now) }
     {
-        match term.head_at(at) {
-            TermHead::Comp("[|]", 2) => {
-                self.open.pop();
-                self.open.push(Open::Item)?;
-                self.out.push(',')
-            }
-            TermHead::Atom("[]") => self.end_value(),
-            _ => {
-                self.out.push('|')?;
-                self.value(term, at)
-            }
-        }
-    }
-
-    /// Writes a node of a list that is written as its characters.
-    fn character(&mut self, head: TermHead) -> Result<(), AllocError> {
-        match head {
-            TermHead::Atom("[]") => self.end_value(),
-            TermHead::Atom(name) => self.out.push_str(name),
-            _ => Ok(()),
-        }
-    }
-
-    /// Writes the node that begins a value: a term, an item or an argument.
-    fn value(&mut self, term: &Term, at: usize) -> Result<(), AllocError>
-        requires { at < cells term.now }
-    {
-        match term.head_at(at) {
-            TermHead::Var(n) => self.var(n)?,
-            TermHead::Int(n) => write!(self.out, "{n}")?,
-            TermHead::Atom(name) => self.atom(name)?,
-            TermHead::Comp("[|]", 2) => return self.begin_list(term, at),
-            TermHead::Comp("{}", count) => return self.begin("{", count, '}'),
-            TermHead::Comp(name, count) => {
-                self.atom(name)?;
-                return self.begin("(", count, ')');
-            }
-        }
-        self.end_value()
-    }
-
-    fn atom(&mut self, name: &str) -> Result<(), AllocError> {
-        if self.quoted {
-            write_quoted(&mut self.out, name)
+        if self.is_quoted {
+            write_quoted(self.alloc, name, out)
         } else {
-            self.out.push_str(name)
+            out.push_str(name)
         }
     }
-
-    fn begin_list(&mut self, term: &Term, at: usize) -> Result<(), AllocError> {
-        if !self.quoted && is_characters(term, at) {
-            self.open.push(Open::Characters)?;
-            return Ok(());
-        }
-        self.open.push(Open::Item)?;
-        self.out.push('[')
-    }
-
-    /// Begins a compound with this number of arguments.
-    fn begin(&mut self, sign: &str, count: usize, close: char) -> Result<(), AllocError> {
-        self.out.push_str(sign)?;
-        if count == 0 {
-            self.out.push(close)?;
-            return self.end_value();
-        }
-        self.open.push(Open::Arguments(count, close))?;
-        Ok(())
-    }
-
-    /// Ends a value, and the compounds that end with it.
-    fn end_value(&mut self) -> Result<(), AllocError> {
-        while let Some(open) = self.open.pop() {
-            if let Some(open) = open.go_on(&mut self.out)? {
-                self.open.push(open)?;
-                break;
-            }
-        }
-        Ok(())
-    }
-}
-
-/// Whether the list that begins at a node is proper and has one-character atoms alone.
-fn is_characters(term: &Term, at: usize) -> bool {
-    let mut in_item = false;
-    for i in at..term.cells() {
-        match (in_item, term.head_at(i)) {
-            (false, TermHead::Comp("[|]", 2)) => in_item = true,
-            (false, TermHead::Atom("[]")) => return true,
-            (true, TermHead::Atom(name)) if is_one_character(name) => in_item = false,
-            _ => return false,
-        }
-    }
-    false
-}
-
-fn is_one_character(text: &str) -> bool {
-    text.chars().take(2).count() == 1
 }

@@ -1,0 +1,5 @@
+pub mod Ahead
+pub mod Numbers
+pub mod Tasks
+pub mod Roots
+pub mod Answers
