@@ -1,7 +1,7 @@
 -- A run's budget over several steps.
-use Rattle.std.proofs.Common.{◌≡◌, ◌≤◌, refl, ◌∙◌, arith}
+use Rattle.std.proofs.Common.{refl, ◌∙◌, arith}
 use Rattle.pi_engine.specs.declared.happening.Budget.{Budget}
-use Rattle.pi_engine.specs.Budget.{Counts, IsWithin}
+use Rattle.pi_engine.specs.Budget.{Counts}
 
 pub counts_none : (b : Budget) → Counts b b
 counts_none b =

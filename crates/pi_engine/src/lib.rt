@@ -2,11 +2,17 @@
 #![tactic(auto)]
 
 mod arenas;
+mod blocks;
 mod build;
 mod code;
+mod frames;
 mod happening;
+pub mod laws;
 mod machine;
+mod run;
+mod steps;
 mod unify;
+mod values;
 
 pub use happening::{Budget, Happening, Mode, PlanCall};
 pub use machine::Machine;

@@ -1,0 +1,11 @@
+use Rattle.std.proofs.Common.{rules, ◌≡◌, ℕ, ◌+◌, ◌++◌, ◌∷◌, [], ◌≤◌, Option, Some, None, length, take, drop, refl, sym, ◌∙◌, ap, arith}
+use Rattle.pi_engine.specs.Blocks.{KeepsBlocks, IsKept, IsOlder, brought_back, slots_before}
+use Rattle.pi_engine.proofs.BlocksLemmas.{keeps_noted, keeps_free, keeps_more, keeps_then, keeps_same, cut_keeps, taken_back, one_more, one_more_filled}
+use Rattle.pi_engine.proofs.blocks.Blocks.push_slots.Goals as goal
+
+pub loop-slot-preserved : goal.loop-slot-preserved
+loop-slot-preserved c = (
+  one_more c.args.self.now.slots c.loop-slot.self.slots c.push.new.self.slots c.args.slots.now c.loop-slot.slot-index None c.loop-slot-test.true c.loop-slot.invariant.0 c.in_ok-push.ensures.ok,
+  search rules,
+  keeps_then c.args.self.now c.loop-slot.self c.push.new.self (search rules) c.push.ensures.keeps,
+)

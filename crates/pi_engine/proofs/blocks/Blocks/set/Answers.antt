@@ -1,0 +1,12 @@
+use Rattle.std.proofs.Common.{rules, ◌≡◌, ℕ, ◌+◌, ◌++◌, ◌∷◌, [], ◌≤◌, Option, Some, None, length, take, drop, refl, sym, ◌∙◌, ap, arith}
+use Rattle.pi_engine.specs.Blocks.{KeepsBlocks, IsKept, IsOlder, brought_back, slots_before}
+use Rattle.pi_engine.proofs.BlocksLemmas.{keeps_noted, keeps_free, keeps_more, keeps_then, keeps_same, cut_keeps, taken_back}
+use Rattle.pi_engine.proofs.blocks.Blocks.set.Goals as goal
+use Rattle.pi_engine.proofs.blocks.Blocks.set.Goals.{then-slot-self+in_ok-push, else-slot-self}
+
+pub returns-clause-keeps : goal.returns-clause-keeps
+returns-clause-keeps c =
+    elim c.if-slot-self.branch [
+      | then-slot-self+in_ok-push w ↦ keeps_noted _ _ c.args.slot (Some c.args.term) (record { slot = c.args.slot; old = w.index-old.result.now }) refl (search rules) (search rules) (search rules) (search rules)
+      | else-slot-self w ↦ keeps_free _ _ c.args.slot (Some c.args.term) (search rules) (search rules) (search rules) (search rules)
+    ]

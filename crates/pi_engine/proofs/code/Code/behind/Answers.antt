@@ -1,0 +1,11 @@
+use Rattle.std.proofs.Common.{rules, ◌≡◌, ℕ, ◌+◌, ◌<◌, ◌≤◌, ◌^◌, refl, sym, ◌∙◌, ap, arith}
+use Rattle.pi_types.specs.GoalTree.{nodes}
+use Rattle.pi_engine.specs.Code.{tables_of, StandsAt}
+use Rattle.pi_engine.proofs.CodeLemmas.{size-shown}
+use Rattle.pi_engine.proofs.code.Code.behind.Goals as goal
+
+pub returns : goal.returns
+returns c = λ terms g at.
+    let size : c.step.result.size ≡ nodes g = size-shown (tables_of terms c.args.self.now) c.step.result g (c.step.ensures.shows terms g at) in
+    let fits : c.args.place + nodes g < 2 ^ 32 = at.fits in
+    omega arith

@@ -1,0 +1,8 @@
+//! The steps of a run: each answers what comes next.
+pub mod answers;
+pub mod calls;
+pub mod choices;
+pub mod levels;
+pub mod lists;
+pub mod raises;
+pub mod rules;

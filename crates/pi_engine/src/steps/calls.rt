@@ -1,0 +1,158 @@
+//! Unification, and calls of predicates and functions.
+ghost use Rattle.std.specs.Prelude.{◌≡◌, IfOk};
+ghost use Rattle.pi_engine.specs.declared.code.Node.TheVariants.{Unify};
+ghost use Rattle.pi_engine.specs.Arenas.{view_of};
+ghost use Rattle.pi_types.specs.Tree.{trees_of};
+ghost use Rattle.pi_types.specs.Places.{Places};
+ghost use Rattle.pi_types.specs.Store.{Terms};
+ghost use Rattle.pi_types.specs.Evaluation.{evaluated_all};
+ghost use Rattle.pi_engine.specs.Code.{tables_of};
+ghost use Rattle.pi_engine.specs.Here.{Block, Holds, AreReadable};
+ghost use Rattle.pi_engine.specs.Evaluates.{slot_number, operand_trees, EvaluatesAll};
+ghost use Rattle.pi_engine.specs.Stands.{Loaded, Extend, world};
+ghost use Rattle.pi_engine.specs.Makes.{RunsGoal};
+
+use super::choices::push_entry;
+use super::rules::{Call, try_rules};
+use crate::arenas::{Back, Kind, Strict, behind};
+use crate::code::{Code, Node, Operand, Step};
+use crate::frames::Point;
+use crate::run::{Now, Run};
+use crate::values::{slot_at, value};
+use pi_types::StateStore;
+use pi_unify::unify;
+use std::alloc::AllocError;
+
+/// Makes two terms equal, or fails.
+pub fn make_equal<S: StateStore>(
+    code: &Code<'_>,
+    run: &mut Run<S>,
+    point: Point,
+    step: Step,
+    left: Operand,
+    right: Operand,
+) -> Result<(), AllocError>
+    ensures { IfOk result (λ _. step.node ≡ Unify left right → (l : Loaded) → l.code ≡ code.now → RunsGoal (world l (S.seen run.old.store) S.order (view_of run.old.arenas)) (world l (S.seen run.new.store) S.order (view_of run.new.arenas)) point step run.new.now) }
+{
+    let first = point.first_slot(step);
+    let a = value(code, run, left, first)?;
+    let b = value(code, run, right, first)?;
+    // What a look says of all terms: they speak of variables that were made.
+    let _root = run.store.look(a);
+    let one = unify(run.alloc, &mut run.store, a, b)?;
+    let next = if one {
+        Now::Going(behind(point, step))
+    } else {
+        Now::Failing
+    };
+    run.now = next;
+    Ok(())
+}
+
+/// Calls a predicate, whose arguments begin at an operand. A last call gives the slots of its body back first.
+pub fn call<S: StateStore>(
+    code: &Code<'_>,
+    run: &mut Run<S>,
+    point: Point,
+    step: Step,
+    predicate: u32,
+    operands: u32,
+) -> Result<(), AllocError> {
+    let called = code.predicate(predicate);
+    take_arguments(code, run, point.first_slot(step), operands, called.arity)?;
+    let frame = run.arenas.frame_behind(point, step)?;
+    if step.is_last {
+        run.arenas.blocks.truncate(point.base);
+    }
+    let base = run.arenas.blocks.count();
+    run.arenas.blocks.push_terms(&run.terms)?;
+    let call = Call {
+        predicate,
+        base,
+        frame,
+    };
+    try_rules(code, run, call, called.first, false)
+}
+
+/// Calls a function: a level that takes the first value. The level keeps the arguments, so that the call can be told where
+/// it has no value.
+pub fn apply<S: StateStore>(
+    code: &Code<'_>,
+    run: &mut Run<S>,
+    point: Point,
+    step: Step,
+    predicate: u32,
+    operands: u32,
+) -> Result<(), AllocError> {
+    let called = code.predicate(predicate);
+    take_arguments(code, run, point.first_slot(step), operands, called.arity)?;
+    let frame = run.arenas.frame_behind(point, step)?;
+    let base = run.arenas.blocks.count();
+    run.arenas.blocks.push_terms(&run.terms)?;
+    let kind = Kind::Strict(Strict::Apply(point.place));
+    push_entry(run, point.base, frame, kind)?;
+    run.arenas.open();
+    let call = Call {
+        predicate,
+        base,
+        frame: 0,
+    };
+    try_rules(code, run, call, called.first, false)
+}
+
+/// The arguments of a call, into the room for them.
+fn take_arguments<S: StateStore>(
+    code: &Code<'_>,
+    run: &mut Run<S>,
+    first: usize,
+    operands: u32,
+    arity: u32,
+) -> Result<(), AllocError>
+    ensures ok { IfOk result (λ _. (t : Terms) (b : Block) (e : Places) → first ≡ slot_number b.base b.first → AreReadable (tables_of t code.now) b operands arity → Extend t (S.seen run.old.store).now.terms → Holds (S.seen run.old.store).now.terms run.old.arenas.blocks.slots b e → EvaluatesAll b (S.seen run.old.store) (S.seen run.new.store) (view_of run.old.arenas) (view_of run.new.arenas) (evaluated_all (trees_of (operand_trees (tables_of t code.now) operands arity)) e (S.seen run.old.store).now.state) run.new.terms.items) }
+{
+    run.terms.clear();
+    let start = operands as usize;
+    for i in 0..arity {
+        if let Some(operand) = code.operand(start.saturating_add(i as usize)) {
+            let term = value(code, run, operand, first)?;
+            run.terms.push(term)?;
+        }
+    }
+    Ok(())
+}
+
+/// The value of a function's clause: it ends the call, which is the newest open level, and goes into the call's slot.
+pub fn give_value<S: StateStore>(
+    code: &Code<'_>,
+    run: &mut Run<S>,
+    point: Point,
+    step: Step,
+    operand: Operand,
+) -> Result<(), AllocError> {
+    let term = value(code, run, operand, point.first_slot(step))?;
+    run.now = Now::Failing;
+    let level = run.arenas.level;
+    let Some(entry) = run.arenas.entry(level) else {
+        return Ok(());
+    };
+    let back = entry.back;
+    let Kind::Strict(Strict::Apply(place)) = back.kind else {
+        return Ok(());
+    };
+    let called = code.step(place);
+    let Node::Apply(predicate, _, slot) = called.node else {
+        return Ok(());
+    };
+    let next = run.arenas.leave(level, back);
+    let first = first_argument(back, code.predicate(predicate).arity);
+    run.arenas.blocks.truncate(first);
+    let slot = slot_at(next.first_slot(called), slot);
+    run.arenas.blocks.set(slot, term)?;
+    run.now = Now::Going(next);
+    Ok(())
+}
+
+/// The slot of the first argument of a function call.
+pub fn first_argument(back: Back, arity: u32) -> usize {
+    back.blocks.slots.saturating_sub(arity as usize)
+}
