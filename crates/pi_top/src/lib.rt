@@ -5,8 +5,12 @@ mod files;
 mod lines;
 mod outcome;
 mod query;
+mod run_mode;
+mod settings;
 mod top;
 mod words;
 
 pub use outcome::{Outcome, Queries, QueryRun};
+pub use run_mode::RunMode;
 pub use top::picatq;
+pub use words::{Options, WordsFault, read_words};

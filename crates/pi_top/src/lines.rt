@@ -1,5 +1,6 @@
 ghost use Rattle.std.specs.Prelude.{◌≡◌, OnErr, OnOk};
 ghost use Rattle.pi_outside.specs.Faults.{NeverFalls, Rose};
+ghost use Rattle.pi_outside.specs.Taken.{Takes};
 
 use pi_outside::{Failed, Sink};
 
@@ -7,18 +8,28 @@ use pi_outside::{Failed, Sink};
 pub const USAGE: &str =
     "usage: picatq [--answers N] [--steps N] [--work N] [--mode query|run|session|print|demo] FILE [GOAL]\n";
 
+/// What is written where the mode isn't `query`.
+pub const MODE_NOT_BUILT: &str = "mode: NotBuilt\n";
+
+/// What is written where the program isn't in the language so far.
+pub const PROGRAM_NOT_BUILT: &str = "program: NotBuilt\n";
+
+/// What is written where the goal isn't in the language so far.
+pub const GOAL_NOT_BUILT: &str = "goal: NotBuilt\n";
+
+/// What is written where a read failed.
+pub const READ_FAULT: &str = "read fault\n";
+
 /// Hands a text to the sink as one piece, and what the sink leaves of it as the next.
 pub fn write_text<O: Sink>(out: &mut O, text: &str) -> Result<(), Failed>
+    ensures takes { OnOk result (Takes (O.taken out.old) text.now (O.taken out.new)) }
     ensures never_falls { NeverFalls (O.faults out.old) (O.faults out.new) }
     ensures rose { OnErr result (Rose (O.faults out.old) (O.faults out.new)) }
     ensures no_fault { OnOk result (O.faults out.new ≡ O.faults out.old) }
 {
     let bytes = text.as_bytes();
     let mut at = 0usize;
-    for _turn in 0..bytes.len() {
-        if at >= bytes.len() {
-            return Ok(());
-        }
+    while at < bytes.len() {
         at += out.write(&bytes[at..])?;
     }
     Ok(())

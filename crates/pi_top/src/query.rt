@@ -1,23 +1,19 @@
-ghost use Rattle.std.specs.Prelude.{◌≡◌, ◌<◌, IfOk};
+ghost use Rattle.std.specs.Prelude.{◌≡◌, IfOk, OnOk};
+ghost use Rattle.pi_engine.specs.Budget.{IsWithin};
+ghost use Rattle.pi_outside.specs.Taken.{Takes};
 ghost use Rattle.pi_top.specs.declared.query.Stop.TheVariants.{Memory, Write};
 ghost use Rattle.pi_top.specs.Faults.{TellsWrites};
+ghost use Rattle.pi_top.specs.Runs.{AllWithin};
+ghost use Rattle.pi_top.specs.Statuses.{IsRun};
 
 use crate::lines::write_text;
 use crate::outcome::{Queries, QueryRun};
+use crate::words::Options;
 use pi_engine::{Budget, Happening, Machine, Mode};
 use pi_outside::{Failed, Sink};
 use pi_print::{answer_text, term_text};
 use pi_types::{Answer, CoreProgram, CoreQuery, Term, TreeStore, Work};
 use std::alloc::{AllocError, Global};
-
-/// How many answers are asked for.
-const ANSWERS: u64 = 1_000_000_000;
-
-/// How many Ticks a query may take.
-const STEPS: u64 = 100_000_000;
-
-/// How much work a query may take.
-const WORK: u64 = 100_000_000;
 
 /// What ends a run without a line of its own.
 #[derive(Clone, Copy, Debug, PartialEq, Eq)]
@@ -47,26 +43,67 @@ pub fn run_query<O: Sink>(
     alloc: Global,
     core: &CoreProgram,
     query: CoreQuery,
+    asked: &Options,
     out: &mut O,
     queries: &mut Queries,
 ) -> Result<u8, Stop>
     ensures writes { TellsWrites (O.faults out.old) (O.faults out.new) result }
-    ensures status { IfOk result (λ status. status < 7) }
+    ensures status { IfOk result IsRun }
+    ensures ran { AllWithin asked.now.steps queries.old → AllWithin asked.now.steps queries.new }
 {
     let mut budget = Budget {
         ticks: 0,
-        steps: STEPS,
+        steps: asked.steps,
         work: Work::NONE,
-        limit: WORK,
+        limit: asked.work,
     };
+    let mut machine = begin(alloc, core, query, &budget, queries)?;
+    write_answers(
+        alloc,
+        &mut machine,
+        &mut budget,
+        asked.answers,
+        out,
+        queries,
+    )
+}
+
+/// A machine that is to run a query, which is listed with those that were run.
+fn begin<'p>(
+    alloc: Global,
+    core: &'p CoreProgram,
+    query: CoreQuery,
+    budget: &Budget,
+    queries: &mut Queries,
+) -> Result<Machine<'p, TreeStore>, AllocError>
+    requires { IsWithin budget.now }
+    ensures ran { AllWithin budget.now.steps queries.old → AllWithin budget.now.steps queries.new }
+{
     let store = TreeStore::new(alloc)?;
-    let Ok(mut machine) = Machine::new(alloc, core, query, store, Mode::Top) else {
-        return Err(Stop::Memory);
+    let Ok(machine) = Machine::new(alloc, core, query, store, Mode::Top) else {
+        return Err(AllocError);
     };
-    queries.push(run_of(&budget)).map_err(AllocError::from)?;
-    for given in 0..ANSWERS {
-        let happening = machine.next(&mut budget);
-        queries.set_last(run_of(&budget));
+    queries.push(run_of(budget)).map_err(AllocError::from)?;
+    Ok(machine)
+}
+
+/// Writes the answers that a machine gives, as many as are asked for at most, and the line of the end.
+fn write_answers<O: Sink>(
+    alloc: Global,
+    machine: &mut Machine<'_, TreeStore>,
+    budget: &mut Budget,
+    answers: u64,
+    out: &mut O,
+    queries: &mut Queries,
+) -> Result<u8, Stop>
+    requires { IsWithin budget.old }
+    ensures writes { TellsWrites (O.faults out.old) (O.faults out.new) result }
+    ensures status { IfOk result IsRun }
+    ensures ran { AllWithin budget.old.steps queries.old → AllWithin budget.old.steps queries.new }
+{
+    for given in 0..answers {
+        let happening = machine.next(budget);
+        queries.set_last(run_of(budget));
         match happening {
             Happening::Answer(answer) => write_answer(alloc, out, &answer)?,
             end => return write_end(alloc, out, end, given > 0),
@@ -75,7 +112,9 @@ pub fn run_query<O: Sink>(
     ended(out, "stopped\n", 0)
 }
 
-fn run_of(budget: &Budget) -> QueryRun {
+fn run_of(budget: &Budget) -> QueryRun
+    ensures { result.ticks ≡ budget.now.ticks }
+{
     QueryRun {
         ticks: budget.ticks,
         work: budget.work,
@@ -102,7 +141,7 @@ fn write_end<O: Sink>(
     has_answers: bool,
 ) -> Result<u8, Stop>
     ensures writes { TellsWrites (O.faults out.old) (O.faults out.new) result }
-    ensures status { IfOk result (λ status. status < 7) }
+    ensures status { IfOk result IsRun }
 {
     match end {
         Happening::Done if has_answers => ended(out, "no more\n", 0),
@@ -118,6 +157,7 @@ fn write_end<O: Sink>(
 pub fn ended<O: Sink>(out: &mut O, line: &str, status: u8) -> Result<u8, Stop>
     ensures writes { TellsWrites (O.faults out.old) (O.faults out.new) result }
     ensures status { IfOk result (λ given. given ≡ status) }
+    ensures written { OnOk result (Takes (O.taken out.old) line.now (O.taken out.new)) }
 {
     write_text(out, line)?;
     Ok(status)
@@ -125,7 +165,7 @@ pub fn ended<O: Sink>(out: &mut O, line: &str, status: u8) -> Result<u8, Stop>
 
 fn write_raised<O: Sink>(alloc: Global, out: &mut O, ball: &Term) -> Result<u8, Stop>
     ensures writes { TellsWrites (O.faults out.old) (O.faults out.new) result }
-    ensures status { IfOk result (λ status. status < 7) }
+    ensures status { IfOk result IsRun }
 {
     let term = term_text(alloc, ball, true)?;
     let line = format!(in alloc; "exception: {}\n", term.as_str())?;

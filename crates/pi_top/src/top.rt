@@ -1,12 +1,19 @@
-ghost use Rattle.std.specs.Prelude.{◌≡◌, ◌<◌, ◌≤◌, IfOk};
+ghost use Rattle.std.specs.Prelude.{◌≡◌, ◌<◌, ◌≤◌, map, IfOk, Some};
+ghost use Rattle.std.specs.String.{string_bytes};
 ghost use Rattle.pi_outside.specs.Faults.{NeverFalls, Rose};
 ghost use Rattle.pi_top.specs.Faults.{TellsWrites};
+ghost use Rattle.pi_top.specs.Runs.{AllWithin};
+ghost use Rattle.pi_top.specs.Statuses.{Ends, EndsBy, EndsQuery};
+ghost use Rattle.pi_top.specs.Words.{options};
+ghost use Rattle.pi_top.specs.declared.words.Options.{Options};
 
 use crate::files::{FileStop, read_file};
-use crate::lines::{USAGE, write_text};
+use crate::lines::{
+    GOAL_NOT_BUILT, MODE_NOT_BUILT, PROGRAM_NOT_BUILT, READ_FAULT, USAGE, write_text,
+};
 use crate::outcome::{Outcome, Queries};
 use crate::query::{Stop, ended, run_query};
-use crate::words::{Asked, read_words};
+use crate::words::{Options, WordsFault, read_words};
 use pi_outside::{Files, Sink, Source};
 use pi_prog::{SmallFault, read_small, read_small_goal};
 use pi_rewrite::{lower, lower_goal};
@@ -26,6 +33,8 @@ pub fn picatq<F: Files, I: Source, O: Sink>(
     ensures read_fault { result.status ≡ 7 → Rose (F.faults files.old) (F.faults files.new) }
     ensures write_fault { result.status ≡ 8 → Rose (O.faults out.old) (O.faults out.new) }
     ensures never_falls { NeverFalls (O.faults out.old) (O.faults out.new) }
+    ensures ends { Ends (map string_bytes words.now) result.status (O.taken out.old) (O.taken out.new) }
+    ensures ran { (asked : Options) → options (map string_bytes words.now) ≡ Some asked → AllWithin asked.steps result.queries }
 {
     let _ = &*input;
     let mut queries = Series::new(alloc);
@@ -55,40 +64,69 @@ fn answered<F: Files, O: Sink>(
     ensures writes { TellsWrites (O.faults out.old) (O.faults out.new) result }
     ensures reads { IfOk result (λ status. status ≡ 7 → Rose (F.faults files.old) (F.faults files.new)) }
     ensures status { IfOk result (λ status. status < 8) }
+    ensures ends { IfOk result (λ status. EndsBy (options (map string_bytes words.now)) status (O.taken out.old) (O.taken out.new)) }
+    ensures ran { (asked : Options) → options (map string_bytes words.now) ≡ Some asked → AllWithin asked.steps queries.old → AllWithin asked.steps queries.new }
 {
-    let Some(asked) = read_words(words) else {
-        return ended(out, USAGE, 2);
+    let asked = match read_words(alloc, words) {
+        Ok(asked) => asked,
+        Err(WordsFault::NoRecord) => return ended(out, USAGE, 2),
+        Err(WordsFault::Memory) => return Err(Stop::Memory),
     };
-    let text = match read_file(alloc, files, asked.file) {
-        Ok(text) => text,
-        Err(FileStop::Fault) => return ended(out, "read fault\n", 7),
-        Err(FileStop::Memory) => return Err(Stop::Memory),
-    };
-    asked_of(alloc, text.as_slice(), asked, out, queries)
+    // A goal stands in the words exactly in the mode `query`.
+    match &asked.goal {
+        Some(goal) => asked_of_file(alloc, &asked, goal.as_str(), files, out, queries),
+        None => ended(out, MODE_NOT_BUILT, 3),
+    }
 }
 
-/// Asks the goal of the program that a text is.
-fn asked_of<O: Sink>(
+/// Asks a goal of the program in a file.
+fn asked_of_file<F: Files, O: Sink>(
     alloc: Global,
-    text: &[u8],
-    asked: Asked<'_>,
+    asked: &Options,
+    goal: &str,
+    files: &mut F,
     out: &mut O,
     queries: &mut Queries,
 ) -> Result<u8, Stop>
     ensures writes { TellsWrites (O.faults out.old) (O.faults out.new) result }
-    ensures status { IfOk result (λ status. status < 7) }
+    ensures reads { IfOk result (λ status. status ≡ 7 → Rose (F.faults files.old) (F.faults files.new)) }
+    ensures status { IfOk result (λ status. status < 8) }
+    ensures ends { IfOk result (λ status. EndsQuery status (O.taken out.old) (O.taken out.new)) }
+    ensures ran { AllWithin asked.now.steps queries.old → AllWithin asked.now.steps queries.new }
+{
+    let text = match read_file(alloc, files, asked.file.as_str()) {
+        Ok(text) => text,
+        Err(FileStop::Fault) => return ended(out, READ_FAULT, 7),
+        Err(FileStop::Memory) => return Err(Stop::Memory),
+    };
+    asked_of_text(alloc, text.as_slice(), asked, goal, out, queries)
+}
+
+/// Asks a goal of the program that a text is.
+fn asked_of_text<O: Sink>(
+    alloc: Global,
+    text: &[u8],
+    asked: &Options,
+    goal: &str,
+    out: &mut O,
+    queries: &mut Queries,
+) -> Result<u8, Stop>
+    ensures writes { TellsWrites (O.faults out.old) (O.faults out.new) result }
+    ensures no_read { IfOk result (λ status. status < 7) }
+    ensures ends { IfOk result (λ status. EndsQuery status (O.taken out.old) (O.taken out.new)) }
+    ensures ran { AllWithin asked.now.steps queries.old → AllWithin asked.now.steps queries.new }
 {
     let program = match read_small(alloc, text) {
         Ok(program) => program,
-        Err(SmallFault::NotBuilt) => return ended(out, "program: NotBuilt\n", 3),
+        Err(SmallFault::NotBuilt) => return ended(out, PROGRAM_NOT_BUILT, 3),
         Err(SmallFault::Memory) => return Err(Stop::Memory),
     };
-    let goal = match read_small_goal(alloc, asked.goal.as_bytes(), &program) {
+    let goal = match read_small_goal(alloc, goal.as_bytes(), &program) {
         Ok(goal) => goal,
-        Err(SmallFault::NotBuilt) => return ended(out, "goal: NotBuilt\n", 3),
+        Err(SmallFault::NotBuilt) => return ended(out, GOAL_NOT_BUILT, 3),
         Err(SmallFault::Memory) => return Err(Stop::Memory),
     };
     let core = lower(alloc, &program)?;
     let query = lower_goal(alloc, &goal, &core)?;
-    run_query(alloc, &core, query, out, queries)
+    run_query(alloc, &core, query, asked, out, queries)
 }

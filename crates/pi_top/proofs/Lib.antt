@@ -1,0 +1,4 @@
+pub mod Asking
+pub mod Endings
+pub mod Modes
+pub mod Runs

@@ -1,0 +1,16 @@
+use Rattle.std.proofs.Common.{◌≡◌, ◌-◌, ℕ, List, arith, take, drop, length}
+use Rattle.std.proofs.Math.Seq.{take-add}
+use Rattle.std.proofs.lemmas.Grind.{common_steps}
+use Rattle.pi_outside.proofs.Taken.{Takes-then}
+use Rattle.pi_top.proofs.lines.write_text.Goals as goal
+
+whole : (at : ℕ) (bytes : List ℕ) → take (length bytes - at) (drop at bytes) ≡ drop at bytes
+whole at bytes = grind (arith, common_steps)
+
+pub loop-at-preserved : goal.loop-at-preserved
+loop-at-preserved g c = record {
+  within = grind (arith, common_steps);
+  takes = rw (take-add c.loop-at.at c.in_ok-at.field-0 c.as_bytes-bytes.result.now)
+      (Takes-then c.loop-at.invariant.takes (rw (whole c.loop-at.at c.as_bytes-bytes.result.now) at c.in_ok-at.ensures.takes));
+  no_fault = grind (arith, common_steps);
+}
