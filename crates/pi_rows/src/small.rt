@@ -1,30 +1,17 @@
-/// A run: the program's text (none: the file is absent), the words, the number of the write that fails (0: none does),
-/// the bytes that are written, and the status.
-#[derive(Debug)]
-pub struct Row {
-    pub program: Option<&'static str>,
-    pub words: &'static [&'static str],
-    pub failing_write: u64,
-    pub output: &'static str,
-    pub status: u8,
-}
-
-const OPEN: &str = "p(X) ?=> X=1. p(X) => X=2.";
+use crate::row::{OPEN, Row};
 
 /// Runs of the small language.
-pub static ROWS: [Row; 15] = [
+pub static ROWS: [Row<'static>; 13] = [
     // A backtrackable rule leaves the later ones as alternatives, a committed one doesn't.
     Row {
         program: Some(OPEN),
         words: &["FILE", "p(X)"],
-        failing_write: 0,
         output: "X = 1\nyes\nX = 2\nyes\nno more\n",
         status: 0,
     },
     Row {
         program: Some("p(X) => X=1. p(X) => X=2."),
         words: &["FILE", "p(X)"],
-        failing_write: 0,
         output: "X = 1\nyes\nno more\n",
         status: 0,
     },
@@ -32,14 +19,12 @@ pub static ROWS: [Row; 15] = [
     Row {
         program: Some("q(1) => true."),
         words: &["FILE", "q(X)"],
-        failing_write: 0,
         output: "no\n",
         status: 1,
     },
     Row {
         program: Some("q(1) => true."),
         words: &["FILE", "q(1)"],
-        failing_write: 0,
         output: "yes\nno more\n",
         status: 0,
     },
@@ -47,7 +32,6 @@ pub static ROWS: [Row; 15] = [
     Row {
         program: Some("p(X,Y) => X = Y."),
         words: &["FILE", "p(A,B)"],
-        failing_write: 0,
         output: "A = _1\nB = _1\nyes\nno more\n",
         status: 0,
     },
@@ -55,7 +39,6 @@ pub static ROWS: [Row; 15] = [
     Row {
         program: Some("d(X,X) => true."),
         words: &["FILE", "d(A,B)"],
-        failing_write: 0,
         output: "no\n",
         status: 1,
     },
@@ -63,7 +46,6 @@ pub static ROWS: [Row; 15] = [
     Row {
         program: Some("p(X) ?=> X=1, fail. p(X) => true."),
         words: &["FILE", "p(X)"],
-        failing_write: 0,
         output: "X = _1\nyes\nno more\n",
         status: 0,
     },
@@ -71,7 +53,6 @@ pub static ROWS: [Row; 15] = [
     Row {
         program: Some("p(_,_,Y) => Y = 2."),
         words: &["FILE", "p(b,X,Z)"],
-        failing_write: 0,
         output: "X = _1\nZ = 2\nyes\nno more\n",
         status: 0,
     },
@@ -79,7 +60,6 @@ pub static ROWS: [Row; 15] = [
     Row {
         program: Some("a(X) ?=> X = 1. a(X) => X = 2. b(X,Y) => a(X), a(Y)."),
         words: &["FILE", "b(P,Q)"],
-        failing_write: 0,
         output: "P = 1\nQ = 1\nyes\nP = 1\nQ = 2\nyes\nP = 2\nQ = 1\nyes\nP = 2\nQ = 2\nyes\nno more\n",
         status: 0,
     },
@@ -87,44 +67,25 @@ pub static ROWS: [Row; 15] = [
     Row {
         program: Some("p(X) => q(Y), r(Y,X). q(Y) ?=> Y = 1. q(Y) => Y = 2. r(2,X) => X = a."),
         words: &["FILE", "p(X), p(_Y)"],
-        failing_write: 0,
         output: "X = a\nyes\nno more\n",
         status: 0,
     },
-    // A write fails.
-    Row {
-        program: Some(OPEN),
-        words: &["FILE", "p(X)"],
-        failing_write: 3,
-        output: "X = 1\nyes\n",
-        status: 8,
-    },
-    // An empty file, an absent one, no words, and a text that isn't in the language so far.
+    // An empty file, an absent one, and a text that isn't in the language so far.
     Row {
         program: Some(""),
         words: &["FILE", "true"],
-        failing_write: 0,
         output: "yes\nno more\n",
         status: 0,
     },
     Row {
         program: None,
         words: &["FILE", "true"],
-        failing_write: 0,
         output: "read fault\n",
         status: 7,
     },
     Row {
-        program: None,
-        words: &[],
-        failing_write: 0,
-        output: "usage: picatq [--answers N] [--steps N] [--work N] [--mode query|run|session|print|demo] FILE [GOAL]\n",
-        status: 2,
-    },
-    Row {
         program: Some("p => q."),
         words: &["FILE", "true"],
-        failing_write: 0,
         output: "program: NotBuilt\n",
         status: 3,
     },
