@@ -2,6 +2,9 @@ ghost use Rattle.std.specs.Prelude.{◌≡◌, ◌<◌, ◌+◌, ◌++◌, ◌�
 ghost use Rattle.pi_types.specs.GoalTree.{truth, fail, tick, call, apply, seq, alternatives, if_else, not, once, collect, count, catch, goals_of, no_goals, nodes, nodes_all, subgoal, children, child, child_count, child_goals, count_goals, take_goals, ShowsNode};
 ghost use Rattle.pi_types.specs.GoalCells.{arity, over, flat, flat_all, spelled};
 
+#[cfg(test)]
+mod tests;
+
 use crate::args::Args;
 use crate::goal_node::{GoalCell, GoalKind, GoalNode};
 use crate::term::Term;
@@ -267,39 +270,4 @@ fn push_cells(cells: &mut Vec<GoalCell>, more: &[GoalCell]) -> Result<(), AllocE
         cells.push(cell.copy(alloc)?)?;
     }
     Ok(())
-}
-
-#[cfg(test)]
-mod tests {
-    use super::*;
-    use std::test::Fail;
-
-    #[test]
-    #[tactic(auto, unfolding(crate::specs::GoalTree::subgoals, crate::specs::GoalTree::subgoals_all, crate::specs::GoalTree::children, crate::specs::GoalTree::count_goals))]
-    fn a_goal_shows_its_nodes(rt: HostRuntime) -> Result<(), Fail> {
-        let alloc = rt.alloc();
-        let args = [Term::int(alloc, 4)?];
-        let call = CoreGoal::call(alloc, "p", &args)?;
-        assert!(rt;
-            matches!(call.node(0), GoalNode::Call(name, args) if name.as_str() == "p" && args.as_slice().len() == 1)
-        );
-        let apply = CoreGoal::apply(alloc, "f", &args, 3)?;
-        assert!(rt; matches!(apply.node(0), GoalNode::Apply(_, _, 3)));
-        let seq = CoreGoal::seq(alloc, &[call, apply])?;
-        assert!(rt; matches!(seq.node(0), GoalNode::Seq(2)));
-        let alt = CoreGoal::alt(alloc, &[seq.copy(alloc)?, CoreGoal::tick(alloc)?])?;
-        assert_eq!(rt; (alt.nodes(), alt.child(0, 0), alt.child(0, 1)), (5, 1, 4));
-        let collect = CoreGoal::collect(alloc, seq, 1, 2)?;
-        assert!(rt; matches!(collect.node(0), GoalNode::Collect(1, 2)));
-        let not = CoreGoal::not(alloc, CoreGoal::once(alloc, CoreGoal::fail(alloc)?)?)?;
-        let count = CoreGoal::count(alloc, CoreGoal::truth(alloc)?, 5)?;
-        let goal = CoreGoal::if_else(alloc, not, count, CoreGoal::tick(alloc)?)?;
-        assert_eq!(rt;
-            (goal.nodes(), goal.child(0, 1), goal.child(0, 2)),
-            (7, 4, 6)
-        );
-        let catch = CoreGoal::catch(alloc, goal, &args[0], collect)?;
-        assert_eq!(rt; (catch.nodes(), catch.child(0, 1)), (12, 8));
-        Ok(())
-    }
 }

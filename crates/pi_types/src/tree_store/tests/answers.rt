@@ -3,10 +3,8 @@ use crate::constraint::{Constraint, Item};
 use crate::domain::{Domain, Span};
 use crate::store::{Cell, ReadStop, Ref, StateStore};
 use crate::term::TermHead;
-use crate::tree_store::TreeStore;
 use crate::tree_store::tests::one_to_five;
 use std::alloc::{AllocError, Global};
-use std::test::Fail;
 
 /// `1 = |n|`
 fn on(n: u64) -> Constraint {
@@ -84,7 +82,7 @@ fn finds_variables<S: StateStore>(store: &S) -> bool {
     store.leads_to(y, 0) && !store.leads_to(x, 1) && !store.leads_to(store.var_ref(2), 0)
 }
 
-fn finds<S: StateStore>(store: &mut S, alloc: Global) -> Result<bool, AllocError> {
+pub fn finds<S: StateStore>(store: &mut S, alloc: Global) -> Result<bool, AllocError> {
     start(store, alloc)?;
     let mark = store.mark()?;
     go_on(store, alloc)?;
@@ -103,7 +101,7 @@ fn compound<S: StateStore>(store: &mut S) -> Result<Ref, AllocError> {
 }
 
 /// Whether a store shows a compound with its name and its arguments.
-fn shows<S: StateStore>(store: &mut S) -> Result<bool, AllocError> {
+pub fn shows<S: StateStore>(store: &mut S) -> Result<bool, AllocError> {
     let r = compound(store)?;
     let a = store.arg(r, 0);
     Ok(
@@ -116,7 +114,7 @@ fn shows<S: StateStore>(store: &mut S) -> Result<bool, AllocError> {
 }
 
 /// Whether a store reads it with the binding replaced.
-fn reads<S: StateStore>(store: &mut S, alloc: Global) -> Result<bool, ReadStop> {
+pub fn reads<S: StateStore>(store: &mut S, alloc: Global) -> Result<bool, ReadStop> {
     let Ok(r) = compound(store) else {
         return Err(ReadStop::Memory);
     };
@@ -126,13 +124,4 @@ fn reads<S: StateStore>(store: &mut S, alloc: Global) -> Result<bool, ReadStop> 
             && matches!(term.head_at(2), TermHead::Atom("a"))
             && matches!(term.head_at(3), TermHead::Atom("b")),
     )
-}
-
-#[test]
-fn a_store_answers_by_bindings(rt: HostRuntime) -> Result<(), Fail> {
-    let alloc = rt.alloc();
-    assert!(rt; finds(&mut TreeStore::new(alloc)?, alloc)?);
-    assert!(rt; shows(&mut TreeStore::new(alloc)?)?);
-    assert!(rt; reads(&mut TreeStore::new(alloc)?, alloc)?);
-    Ok(())
 }
