@@ -1,12 +1,12 @@
 -- A stretch of tokens, and what a walk over it finds.
-use Rattle.std.proofs.Common.{◌≡◌, ℕ, ◌+◌, ◌-◌, ◌<◌, ◌≤◌, ◌↔◌, ◌⊎◌, inl, inr, zero, suc, Bool, true, false, cond, nat_lt, if◌then◌else◌, List, [], ◌∷◌, take, drop, length, slice_get, Some, refl, ap, sym, ◌∙◌, subst, arith, get_or, drop-cons, lit≤}
+use Rattle.std.proofs.Common.{◌≡◌, ℕ, ◌+◌, ◌-◌, ◌<◌, ◌≤◌, ◌↔◌, inl, inr, zero, suc, Bool, true, false, cond, nat_lt, List, [], ◌∷◌, take, drop, slice_get, Some, refl, ap, sym, ◌∙◌, arith, drop-cons, lit≤}
 use Rattle.std.specs.Prelude.{count_by}
 use Rattle.std.proofs.lemmas.Bool.{cases_Bool, false≢true}
 use Rattle.std.proofs.lemmas.Bool.Decides.{nat_tests}
 use Rattle.std.proofs.lemmas.Option.{slice_get_within, get_or_from_slice_get}
 use Rattle.std.proofs.lemmas.List.Sums.{sum_by-cons}
 use Rattle.pi_types.specs.Tokens.{Token}
-use Rattle.pi_types.specs.Crowding.{most_open, most_block_words, is_opening, is_closing, is_block_word, OpensTooMany, IsCrowded}
+use Rattle.pi_types.specs.Crowding.{most_open, most_block_words, is_opening, is_closing, is_block_word, IsCrowded}
 use Rattle.pi_expr.specs.Crowds.{one_if, is_too_open}
 use Rattle.pi_expr.specs.Faults.{stretch}
 

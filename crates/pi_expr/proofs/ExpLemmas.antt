@@ -1,13 +1,13 @@
 -- What the whole reader answers, against the definition.
-use Rattle.std.proofs.Common.{◌≡◌, ◌↔◌, ◌<◌, ◌≤◌, List, map, refl, subst, sym, Result, Ok, Err, inl, inr, IfOk, IfErr, Bool, true, false, ◌∙◌}
+use Rattle.std.proofs.Common.{◌≡◌, ◌↔◌, List, map, subst, sym, Result, Ok, Err, inr, IfOk, IfErr, Bool, true, false, ◌∙◌}
 use Rattle.std.proofs.lemmas.Bool.{false≢true}
 use Rattle.pi_types.specs.declared.exp.Exp.{Exp}
-use Rattle.pi_types.specs.ExpTree.{ExpTree, exp_tree}
+use Rattle.pi_types.specs.ExpTree.{exp_tree}
 use Rattle.pi_types.specs.Tokens.{Token}
 use Rattle.pi_types.specs.Terminals as t
 use Rattle.pi_types.specs.Crowding.{IsCrowded, IsRead}
 use Rattle.pi_expr.specs.Faults.{IsFault}
-use Rattle.pi_expr.specs.Machine.{State, Runs, begin}
+use Rattle.pi_expr.specs.Machine.{begin}
 use Rattle.pi_expr.specs.States.{EndsAs}
 use Rattle.pi_expr.specs.declared.fault.ExpFault.{ExpFault}
 use Rattle.pi_expr.specs.declared.fault.ExpFault.TheVariants as fault

@@ -1,22 +1,16 @@
 -- The loop of the reader against the steps of the machine.
-use Rattle.std.proofs.Common.{◌≡◌, ℕ, ◌+◌, ◌*◌, ◌<◌, ◌≤◌, suc, Bool, List, [], ◌∷◌, ◌++◌, length, refl, ap, subst, sym, ◌∙◌, arith, Result, Ok, Err}
-use Rattle.pi_types.specs.ExpTree.{ExpTree, levels, exp_tree}
-use Rattle.pi_types.specs.Terminals.{Terminal}
-use Rattle.pi_types.specs.Ranks.{reach_of}
-use Rattle.pi_types.specs.Grammar.{Phrase}
+use Rattle.std.proofs.Common.{◌≡◌, ℕ, ◌+◌, ◌*◌, ◌<◌, suc, List, [], ◌∷◌, ◌++◌, length, refl, ap, subst, sym, ◌∙◌, arith}
+use Rattle.pi_types.specs.ExpTree.{ExpTree}
 use Rattle.pi_expr.specs.Machine as m
 use Rattle.pi_expr.specs.Machine.{Runs, stop, go, step}
 use Rattle.pi_expr.specs.Shown.{terminals}
 use Rattle.pi_expr.specs.Sizes.{size}
-use Rattle.pi_expr.specs.Trees.{Shows}
 use Rattle.pi_expr.specs.Turns.{ShowsFrame}
-use Rattle.pi_expr.specs.States.{ShowsStack, ShowsState, ShowsOutcome, ShowsResult, EndsAs}
-use Rattle.pi_expr.specs.declared.fault.ExpFault.TheVariants as fault
+use Rattle.pi_expr.specs.States.{ShowsStack, ShowsState}
 use Rattle.pi_expr.specs.declared.frame.Frame.{Frame}
 use Rattle.pi_expr.specs.declared.terminal.Terminal as code
 use Rattle.pi_expr.specs.declared.reader.State.{State}
 use Rattle.pi_expr.specs.declared.reader.State.TheVariants as state
-use Rattle.pi_expr.specs.declared.reader.Outcome.TheVariants as outcome
 use Rattle.pi_expr.proofs.SizeLemmas.{next_down}
 
 -- the machine ends from both with the same trees

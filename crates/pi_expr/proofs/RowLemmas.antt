@@ -1,5 +1,5 @@
 -- Tables of spellings, and the terminals of tokens.
-use Rattle.std.proofs.Common.{◌≡◌, ℕ, List, [], ◌∷◌, ◌++◌, map, refl, ap, sym, ◌∙◌, append_assoc}
+use Rattle.std.proofs.Common.{◌≡◌, List, [], ◌∷◌, ◌++◌, map, ap, sym, ◌∙◌, append_assoc}
 use Rattle.std.proofs.lemmas.List.{map_push, append-nil}
 use Rattle.pi_types.specs.Tokens.{Token}
 use Rattle.pi_types.specs.Terminals as t

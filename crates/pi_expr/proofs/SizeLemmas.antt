@@ -1,5 +1,5 @@
 -- Each step of the machine leaves less to do: it reads a terminal, or closes an open phrase.
-use Rattle.std.proofs.Common.{◌≡◌, ℕ, ◌+◌, ◌*◌, ◌<◌, suc, Bool, true, false, List, [], ◌∷◌, length, refl, subst, arith, nat_le, nat_lt, ◌==◌, ◌&&◌, not, if◌then◌else◌, codes}
+use Rattle.std.proofs.Common.{◌≡◌, ℕ, ◌+◌, ◌*◌, ◌<◌, suc, Bool, true, false, List, [], ◌∷◌, length, subst, arith, nat_le, nat_lt, ◌==◌, ◌&&◌, not, if◌then◌else◌, codes}
 use Rattle.pi_types.specs.ExpTree.{ExpTree, ExpTrees, no_exps, exp as exp_before, one_exp}
 use Rattle.pi_types.specs.ExpTree as tree
 use Rattle.pi_types.specs.Terminals as t

@@ -1,5 +1,5 @@
 -- Steps that the machine doesn't take.
-use Rattle.std.proofs.Common.{◌≡◌, ℕ, Bool, true, List, [], ◌∷◌, Option, None, refl, subst, sym}
+use Rattle.std.proofs.Common.{◌≡◌, Bool, true, List, ◌∷◌, None, refl}
 use Rattle.pi_types.specs.ExpTree.{ExpTree, ExpTrees, no_exps, exp as exp_before, and, or}
 use Rattle.pi_types.specs.Grammar as g
 use Rattle.pi_types.specs.Terminals as t

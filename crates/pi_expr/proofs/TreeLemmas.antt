@@ -1,5 +1,5 @@
 -- The trees of expressions that are made of parts.
-use Rattle.std.proofs.Common.{◌≡◌, ℕ, ◌≤◌, ◌<◌, suc, max, Bool, List, [], ◌∷◌, ◌++◌, Option, None, Some, refl, ap, ◌∙◌, sym, arith, lit≤, ℤ, true, false, length, ◌==◌}
+use Rattle.std.proofs.Common.{◌≡◌, ℕ, ◌≤◌, ◌<◌, suc, max, Bool, List, [], ◌∷◌, ◌++◌, None, Some, refl, ap, ◌∙◌, sym, arith, lit≤, ℤ, true, false, length, ◌==◌}
 use Rattle.std.proofs.lemmas.Bool.Decides.{nat_tests}
 use Rattle.std.specs.Prelude.{Vec}
 use Rattle.std.specs.declared.alloc.Global.{Global}

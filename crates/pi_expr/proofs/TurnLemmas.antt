@@ -1,5 +1,5 @@
 -- Steps of the machine as the code takes them.
-use Rattle.std.proofs.Common.{◌≡◌, ℕ, Bool, true, false, List, [], ◌∷◌, refl, ap, ◌∙◌, sym}
+use Rattle.std.proofs.Common.{◌≡◌, Bool, true, false, List, refl, ◌∙◌, sym}
 use Rattle.pi_types.specs.ExpTree.{ExpTree, ExpTrees, no_exps, exp as exp_before}
 use Rattle.pi_types.specs.Terminals as t
 use Rattle.pi_expr.specs.Machine as m

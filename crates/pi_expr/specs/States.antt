@@ -1,5 +1,5 @@
 -- States of the reader, and how much is left to do in one of the machine.
-use Rattle.std.specs.Prelude.{◌≡◌, ℕ, ◌+◌, ◌*◌, ◌<◌, ◌≤◌, List, [], ◌∷◌, ◌++◌, length, Result, Ok, Err}
+use Rattle.std.specs.Prelude.{◌≡◌, ◌<◌, ◌≤◌, List, [], ◌∷◌, ◌++◌, Result, Ok, Err}
 use Rattle.std.specs.declared.alloc.AllocError.{AllocError}
 use Rattle.pi_types.specs.ExpTree.{ExpTree, levels, exp_tree}
 use Rattle.pi_types.specs.Crowding.{most_levels}
@@ -9,7 +9,6 @@ use Rattle.pi_expr.specs.Shown.{phrase_shown, terminals}
 use Rattle.pi_expr.specs.Trees.{Shows}
 use Rattle.pi_expr.specs.Turns.{ShowsFrame}
 use Rattle.pi_expr.specs.declared.frame.Frame.{Frame}
-use Rattle.pi_expr.specs.declared.terminal.Terminal.{Terminal}
 use Rattle.pi_expr.specs.declared.fault.ExpFault.{ExpFault}
 use Rattle.pi_expr.specs.declared.fault.ExpFault.TheVariants as fault
 use Rattle.pi_expr.specs.declared.reader.State.{State}

@@ -1,10 +1,9 @@
 -- What open phrases and steps show.
-use Rattle.std.specs.Prelude.{◌≡◌, ℕ, Bool, List, [], ◌∷◌, reverse, Result, Ok, Err}
+use Rattle.std.specs.Prelude.{◌≡◌, List, ◌∷◌, Result, Ok, Err}
 use Rattle.std.specs.declared.alloc.AllocError.{AllocError}
 use Rattle.pi_types.specs.ExpTree.{ExpTree, ExpTrees, exp as exp_before, ExpBranches}
-use Rattle.pi_types.specs.Terminals as t
 use Rattle.pi_expr.specs.Machine as m
-use Rattle.pi_expr.specs.Shown.{line_shown, phrase_shown, terminal_shown, terminals}
+use Rattle.pi_expr.specs.Shown.{line_shown, phrase_shown, terminals}
 use Rattle.pi_expr.specs.Trees.{Shows, ShowsItems, ShowsChoices}
 use Rattle.pi_expr.specs.declared.items.Items.{Items}
 use Rattle.pi_expr.specs.declared.frame.Closing.{Closing}

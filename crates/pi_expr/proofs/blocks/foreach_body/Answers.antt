@@ -1,4 +1,3 @@
-use Rattle.std.proofs.Common.{refl, sym, ap, ◌∙◌, subst, ◌≡◌}
 use Rattle.pi_types.specs.ExpTree as tree
 use Rattle.pi_expr.proofs.blocks.foreach_body.Goals as goal
 

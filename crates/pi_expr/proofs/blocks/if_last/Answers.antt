@@ -1,4 +1,3 @@
-use Rattle.std.proofs.Common.{refl, sym, ap, ◌∙◌, subst, ◌≡◌}
 use Rattle.pi_types.specs.ExpTree as tree
 use Rattle.pi_expr.proofs.blocks.if_last.Goals as goal
 

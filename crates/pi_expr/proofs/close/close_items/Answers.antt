@@ -1,4 +1,4 @@
-use Rattle.std.proofs.Common.{refl, sym, ap, ◌∙◌, subst, ◌≡◌}
+use Rattle.std.proofs.Common.{refl}
 use Rattle.pi_expr.specs.Machine as m
 use Rattle.pi_expr.proofs.close.close_items.Goals as goal
 

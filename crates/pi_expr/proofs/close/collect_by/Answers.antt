@@ -1,6 +1,6 @@
-use Rattle.std.proofs.Common.{refl, sym, ap, ◌∙◌, subst, ◌≡◌}
+use Rattle.std.proofs.Common.{refl}
 use Rattle.pi_expr.specs.Machine as m
-use Rattle.pi_expr.proofs.TurnLemmas.{units_with, collects, collects_no, none_is}
+use Rattle.pi_expr.proofs.TurnLemmas.{collects, collects_no, none_is}
 use Rattle.pi_types.specs.ExpTree.{no_exps}
 use Rattle.pi_expr.proofs.close.collect_by.Goals as goal
 

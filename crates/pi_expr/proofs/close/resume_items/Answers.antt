@@ -1,6 +1,6 @@
-use Rattle.std.proofs.Common.{refl, sym, ap, ◌∙◌, subst, ◌≡◌}
+use Rattle.std.proofs.Common.{refl}
 use Rattle.pi_expr.specs.Machine as m
-use Rattle.pi_expr.proofs.TurnLemmas.{units_with, collects, collects_no, none_is}
+use Rattle.pi_expr.proofs.TurnLemmas.{units_with}
 use Rattle.pi_expr.proofs.close.resume_items.Goals as goal
 
 pub returns-in_ok-more-in-Some : goal.returns-in_ok-more-in-Some

@@ -1,4 +1,4 @@
-use Rattle.std.proofs.Common.{refl, sym, ap, ◌∙◌, subst, ◌≡◌, ◌+◌, arith}
+use Rattle.std.proofs.Common.{refl, sym, ◌∙◌}
 use Rattle.pi_expr.proofs.CrowdLemmas.{crowded_open, crowded_by_words}
 use Rattle.pi_expr.proofs.crowding.is_crowded.Goals as goal
 

@@ -1,6 +1,6 @@
-use Rattle.std.proofs.Common.{refl, sym, ap, ◌∙◌, subst, ◌≡◌, ◌+◌, arith}
+use Rattle.std.proofs.Common.{refl, sym, ap, ◌∙◌, ◌+◌, arith}
 use Rattle.pi_lex.specs.Kinds.{kinds}
-use Rattle.pi_expr.proofs.CrowdLemmas.{stretch_step, stretch_none, open_on, open_over, one_if-le}
+use Rattle.pi_expr.proofs.CrowdLemmas.{stretch_step, open_on, open_over, one_if-le}
 use Rattle.pi_expr.specs.Crowds.{one_if}
 use Rattle.pi_expr.proofs.crowding.opens_too_many.Goals as goal
 

@@ -1,4 +1,4 @@
-use Rattle.std.proofs.Common.{◌≡◌, ◌+◌, ◌≤◌}
+use Rattle.std.proofs.Common.{◌≡◌, ◌≤◌}
 use Rattle.pi_lex.specs.Kinds.{kinds}
 use Rattle.pi_expr.specs.Crowds.{is_too_open}
 use Rattle.pi_expr.specs.Faults.{stretch}

@@ -1,4 +1,4 @@
-use Rattle.std.proofs.Common.{refl, sym, ap, ◌∙◌, subst, ◌≡◌}
+use Rattle.std.proofs.Common.{refl, subst}
 use Rattle.pi_types.specs.ExpTree.{int, str}
 use Rattle.std.proofs.Common.{ℤ, rules}
 use Rattle.pi_expr.specs.Trees.{Shows}

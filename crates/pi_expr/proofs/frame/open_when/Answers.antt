@@ -1,4 +1,4 @@
-use Rattle.std.proofs.Common.{refl, sym, ap, ◌∙◌, subst, ◌≡◌}
+use Rattle.std.proofs.Common.{refl}
 use Rattle.pi_expr.proofs.frame.open_when.Goals as goal
 
 pub returns-then-holds : goal.returns-then-holds

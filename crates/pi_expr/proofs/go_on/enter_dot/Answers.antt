@@ -1,5 +1,3 @@
-use Rattle.std.proofs.Common.{refl, sym, ap, ◌∙◌, subst, ◌≡◌}
-use Rattle.pi_expr.specs.Machine as m
 use Rattle.pi_expr.proofs.StepLemmas.{dots_no}
 use Rattle.pi_expr.proofs.go_on.enter_dot.Goals as goal
 

@@ -1,4 +1,3 @@
-use Rattle.std.proofs.Common.{refl, sym, ap, ◌∙◌, subst, ◌≡◌}
 use Rattle.pi_expr.proofs.go_on.go_on.Goals as goal
 
 pub returns-in-Next : goal.returns-in-Next

@@ -1,4 +1,3 @@
-use Rattle.std.proofs.Common.{refl, sym, ap, ◌∙◌, subst, ◌≡◌}
 use Rattle.pi_expr.proofs.go_on.go_on_by.Goals as goal
 
 pub returns-in-Joint : goal.returns-in-Joint

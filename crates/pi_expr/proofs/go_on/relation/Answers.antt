@@ -1,4 +1,4 @@
-use Rattle.std.proofs.Common.{refl, sym, ap, ◌∙◌, subst, ◌≡◌}
+use Rattle.std.proofs.Common.{refl, sym}
 use Rattle.pi_expr.specs.Machine as m
 use Rattle.pi_expr.proofs.go_on.relation.Goals as goal
 

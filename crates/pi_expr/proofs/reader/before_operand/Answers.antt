@@ -1,4 +1,4 @@
-use Rattle.std.proofs.Common.{refl, sym, ap, ◌∙◌, subst, ◌≡◌, ◌+◌, arith}
+use Rattle.std.proofs.Common.{sym}
 use Rattle.pi_expr.proofs.reader.before_operand.Goals as goal
 
 pub returns : goal.returns

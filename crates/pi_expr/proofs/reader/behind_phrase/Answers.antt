@@ -1,5 +1,4 @@
-use Rattle.std.proofs.Common.{refl, sym, ap, ◌∙◌, subst, ◌≡◌, ◌+◌, arith}
-use Rattle.pi_expr.proofs.Steps.{entered, resumed_last, continued}
+use Rattle.pi_expr.proofs.Steps.{resumed_last, continued}
 use Rattle.pi_expr.proofs.reader.behind_phrase.Goals as goal
 
 pub returns-then-reach-wanted : goal.returns-then-reach-wanted

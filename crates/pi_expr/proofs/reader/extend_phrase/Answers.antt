@@ -1,4 +1,3 @@
-use Rattle.std.proofs.Common.{refl, sym, ap, ◌∙◌, subst, ◌≡◌, ◌+◌, arith}
 use Rattle.pi_expr.proofs.reader.extend_phrase.Goals as goal
 
 pub returns : goal.returns

@@ -1,7 +1,7 @@
-use Rattle.std.proofs.Common.{refl, sym, ap, ◌∙◌, subst, ◌≡◌, ◌+◌, arith}
+use Rattle.std.proofs.Common.{refl}
 use Rattle.pi_expr.specs.Machine as m
 use Rattle.std.proofs.Common.{[]}
-use Rattle.pi_expr.proofs.ReaderLemmas.{Same, same_start, same_step, ends_none, steps_smaller}
+use Rattle.pi_expr.proofs.ReaderLemmas.{same_start, same_step, ends_none, steps_smaller}
 use Rattle.pi_expr.proofs.reader.read.Goals as goal
 
 pub steps-init : goal.steps-init

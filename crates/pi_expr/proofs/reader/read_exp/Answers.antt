@@ -1,6 +1,5 @@
-use Rattle.std.proofs.Common.{refl, sym, ap, ◌∙◌, subst, ◌≡◌, inl}
+use Rattle.std.proofs.Common.{inl}
 use Rattle.pi_expr.proofs.ExpLemmas.{read_is}
-use Rattle.std.proofs.lemmas.Result.{err_from_is_err_and}
 use Rattle.pi_expr.proofs.reader.read_exp.Goals as goal
 
 pub returns-then-is_crowded-clause-fault : goal.returns-then-is_crowded-clause-fault

@@ -1,5 +1,4 @@
-use Rattle.std.proofs.Common.{refl, sym, ap, ◌∙◌, subst, ◌≡◌, ◌+◌, arith}
-use Rattle.pi_expr.proofs.Steps.{entered, resumed_last, continued}
+use Rattle.pi_expr.proofs.Steps.{entered}
 use Rattle.pi_expr.proofs.reader.step.Goals as goal
 
 pub returns-in-Operand : goal.returns-in-Operand

@@ -1,4 +1,4 @@
-use Rattle.std.proofs.Common.{refl, sym, ap, ◌∙◌, subst, ◌≡◌, ◌+◌, arith}
+use Rattle.std.proofs.Common.{refl}
 use Rattle.std.proofs.Common.{◌∷◌}
 use Rattle.pi_expr.specs.Machine as m
 use Rattle.pi_expr.proofs.ReaderLemmas.{push_stack}

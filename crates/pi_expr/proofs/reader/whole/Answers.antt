@@ -1,4 +1,4 @@
-use Rattle.std.proofs.Common.{refl, sym, ap, ◌∙◌, subst, ◌≡◌, ◌+◌, arith}
+use Rattle.std.proofs.Common.{sym, subst}
 use Rattle.pi_expr.specs.Machine as m
 use Rattle.pi_types.specs.ExpTree.{ExpTree, levels}
 use Rattle.pi_types.specs.Crowding.{most_levels}

@@ -1,4 +1,3 @@
-use Rattle.std.proofs.Common.{refl, sym, ap, ◌∙◌, subst, ◌≡◌}
 use Rattle.pi_expr.proofs.resume.resume.Goals as goal
 
 pub returns-in-Signed : goal.returns-in-Signed

@@ -1,4 +1,4 @@
-use Rattle.std.proofs.Common.{refl, sym, ap, ◌∙◌, subst, ◌≡◌, ◌+◌, arith}
+use Rattle.std.proofs.Common.{refl, ◌+◌}
 use Rattle.pi_lex.specs.Kinds.{kinds}
 use Rattle.pi_expr.proofs.CrowdLemmas.{stretch_step, stretch_none}
 use Rattle.pi_expr.proofs.RowLemmas.{terminals_on, terminals_all}

@@ -1,4 +1,4 @@
-use Rattle.std.proofs.Common.{refl, sym, ap, ◌∙◌, subst, ◌≡◌}
+use Rattle.std.proofs.Common.{refl}
 use Rattle.pi_expr.proofs.frame.Closing.closer.Goals as goal
 
 pub returns-in-Call : goal.returns-in-Call

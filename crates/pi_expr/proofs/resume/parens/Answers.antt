@@ -1,5 +1,0 @@
-use Rattle.std.proofs.Common.{refl, sym, ap, ◌∙◌, subst, ◌≡◌}
-use Rattle.pi_expr.proofs.resume.parens.Goals as goal
-
-pub returns : goal.returns
-returns c = λ fs e h. c.found_behind.ensures fs _ (c.in_ok-inner.ensures e h)

@@ -1,6 +1,0 @@
-use Rattle.std.proofs.Common.{refl, sym, ap, ◌∙◌, subst, ◌≡◌}
-use Rattle.pi_types.specs.ExpTree as tree
-use Rattle.pi_expr.proofs.resume.pattern.Goals as goal
-
-pub returns : goal.returns
-returns c = λ fs e h. c.found.ensures fs (tree.at c.args.name.now e) (c.in_ok-pattern.ensures e h)

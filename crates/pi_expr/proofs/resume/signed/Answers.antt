@@ -1,6 +1,0 @@
-use Rattle.std.proofs.Common.{refl, sym, ap, ◌∙◌, subst, ◌≡◌}
-use Rattle.pi_types.specs.Grammar.{call_one, call_two}
-use Rattle.pi_expr.proofs.resume.signed.Goals as goal
-
-pub returns : goal.returns
-returns c = λ fs e h. (call_one c.args.name.now e, (refl, c.in_ok-call.ensures e h))
