@@ -1,23 +1,25 @@
 -- A term read from its last node to its first.
-use Rattle.std.proofs.Common.{◌≡◌, ◌⊎◌, ℕ, ℤ, zero, suc, ◌+◌, ◌-◌, ◌<◌, ◌≤◌, List, [], ◌∷◌, ◌++◌, length, get_or, take, drop, reverse, Option, Some, None, Result, Ok, Err, inl, inr, refl, ap, sym, ◌∙◌, subst, arith, drop-cons, add-one, length-append, length-drop, append_assoc}
-use Rattle.std.specs.Prelude.{Contains, IsSomeAnd, OnErr, slice_get}
+use Rattle.std.proofs.Common.{◌≡◌, nat_lt, ◌⊎◌, ℕ, zero, suc, ◌+◌, ◌-◌, ◌<◌, ◌≤◌, List, [], ◌∷◌, ◌++◌, length, take, drop, reverse, Option, Some, None, inl, inr, refl, ap, sym, ◌∙◌, subst, arith, add-one, length-drop, append_assoc}
+use Rattle.std.specs.Prelude.{Contains, IsSomeAnd, slice_get}
+use Rattle.std.proofs.lemmas.Bool.{cases_Bool, ltb-true, ltb-false}
 use Rattle.std.proofs.lemmas.List.{reverse-append, reverse-reverse, length-reverse, append-nil}
-use Rattle.pi_types.specs.Tree.{Tree, var, int, atom, comp, Trees, no_trees, tree, tree_count, args, arity, drop_trees, cells, cells_all, subterms, subterms_all, ShowsHead}
+use Rattle.pi_types.specs.Tree.{Tree, var, int, atom, comp, Trees, no_trees, tree, tree_count, args, arity, drop_trees, cells, subterms, subterms_all, ShowsHead}
 use Rattle.pi_types.specs.TermCells.{take_trees, append_trees, take_trees-append, drop_trees-append}
 use Rattle.pi_types.specs.Variables.{occurrences, occurrences_all, firsts, variables}
 use Rattle.pi_types.specs.Substitution.{instance, instances}
-use Rattle.pi_types.specs.Copy.{place_in, renamed, copy, new_variables}
-use Rattle.pi_types.specs.State.{State, free, next, with_new}
-use Rattle.pi_types.specs.Store.{StoreView, IsTerm, AreTerms, Keeps, Changes, Gives, Stays}
+use Rattle.pi_types.specs.Copy.{renamed}
+use Rattle.pi_types.specs.State.{State}
+use Rattle.pi_types.specs.Store.{StoreView, IsTerm, AreTerms, Keeps, Stays}
 use Rattle.pi_types.specs.declared.store.Ref.{Ref}
 use Rattle.pi_types.specs.declared.term.TermHead.{TermHead}
 use Rattle.pi_types.proofs.TermLemmas.{subterm_for_each_cell}
 use Rattle.pi_types.proofs.RootLemmas.{tree_count-instances}
 use Rattle.pi_types.specs.Numbers.{noted}
 use Rattle.pi_types.proofs.NumberLemmas.{noted-firsts}
-use Rattle.pi_types.proofs.VariableLemmas.{Has, Has-append_right, occurs_from_Has, variables_are_those_that_occur, only_its_variables_count}
-use Rattle.pi_unify.specs.Copying.{with_variables, Makes, MakesSome, renumbered, AreBuilt, with_built, IsReady, PutsNode, forest, Nested, root_variables}
+use Rattle.pi_types.proofs.VariableLemmas.{Has, Has-append_right, occurs_from_Has, variables_are_those_that_occur}
+use Rattle.pi_unify.specs.Copying.{renumbered, AreBuilt, with_built, IsReady, PutsNode, forest, Nested, root_variables}
 use Rattle.pi_unify.proofs.KeepsLemmas.{terms_kept, stays_then, keeps_none}
+use Rattle.pi_unify.proofs.RefLemmas.{drop_all}
 
 -- ---- the trees of nodes in prefix order, from the right
 
@@ -154,6 +156,39 @@ pub rest_left : {M : Type 0} (v w : StoreView M) (k m : ℕ) (built new : List R
 rest_left v w k m built new ts e is kept h =
     terms_kept v w (reverse new) (drop_trees k ts) kept
     (subst (λ (rs : List Ref). AreTerms v rs (drop_trees k ts)) (sym (ap reverse is ∙ last_dropped k m built e)) (are_dropped v k (reverse built) ts h))
+
+-- the arguments are so many of the last terms, or all where there are fewer
+abbrev pub TakesLast : ℕ → ℕ → List Ref → Type 0
+TakesLast k m built = (m + k ≡ length built) ⊎ ((m ≡ 0) × (length built < k))
+
+pub taken_last : (k m : ℕ) (built : List Ref) → m ≡ length built - k → TakesLast k m built
+taken_last k m built e = elim (cases_Bool (nat_lt (length built) k)) [
+  | inl hit ↦ let few : length built < k = ltb-true (length built) k hit in inr (omega arith, few)
+  | inr miss ↦ inl (omega (arith, ltb-false (length built) k miss))
+]
+
+take_all : (k : ℕ) (ts : Trees) → tree_count ts < k → take_trees k ts ≡ ts
+unfolding tree_count
+take_all zero ts h = absurd (omega arith)
+take_all (suc k) no_trees h = refl
+take_all (suc k) (tree t ts) h = ap (tree t) (take_all k ts (omega arith))
+
+fewer_trees : {M : Type 0} (v : StoreView M) (k : ℕ) (built : List Ref) (ts : Trees) → length built < k → AreBuilt v built ts → tree_count ts < k
+fewer_trees v k built ts h put = omega (arith, are_as_many v (reverse built) ts put, length-reverse built)
+
+pub last_args : {M : Type 0} (v : StoreView M) (k m : ℕ) (built args : List Ref) (ts : Trees) → TakesLast k m built → args ≡ reverse (drop m built) → AreBuilt v built ts → AreTerms v args (take_trees k ts)
+last_args v k m built args ts (inl e) is h = args_taken v k m built args ts e is h
+last_args v k m built args ts (inr (none, few)) is h =
+    let all : args ≡ reverse built = is ∙ ap (λ j. reverse (drop j built)) none in
+    subst (λ (us : Trees). AreTerms v args us) (sym (take_all k ts (fewer_trees v k built ts few h))) (subst (λ (rs : List Ref). AreTerms v rs ts) (sym all) h)
+
+pub last_left : {M : Type 0} (v w : StoreView M) (k m : ℕ) (built new : List Ref) (ts : Trees) → TakesLast k m built → new ≡ take m built → Keeps v w → AreBuilt v built ts → AreBuilt w new (drop_trees k ts)
+unfolding AreTerms
+last_left v w k m built new ts (inl e) is kept h = rest_left v w k m built new ts e is kept h
+last_left v w k m built new ts (inr (none, few)) is kept h =
+    let few_trees : tree_count ts < k = fewer_trees v k built ts few h in
+    let empty : new ≡ [] = is ∙ ap (λ j. take j built) none in
+    subst (λ (us : Trees). AreBuilt w new us) (sym (drop_all ts k (omega arith))) (subst (λ (rs : List Ref). AreTerms w (reverse rs) no_trees) (sym empty) tt)
 
 -- ---- instances of trees in front and behind
 

@@ -1,10 +1,10 @@
 -- What is left to compare.
-use Rattle.std.proofs.Common.{◌≡◌, ℕ, ℤ, zero, suc, ◌+◌, ◌<◌, ◌≤◌, ◌==◌, Bool, true, false, cond, nat_lt, List, [], ◌∷◌, ◌++◌, refl, ap, sym, ◌∙◌, subst, inl, inr, ◌⊎◌, add-one, arith}
+use Rattle.std.proofs.Common.{◌≡◌, ℕ, ℤ, zero, suc, ◌+◌, ◌<◌, ◌≤◌, true, false, nat_lt, List, [], ◌∷◌, ◌++◌, refl, ap, sym, ◌∙◌, subst, inl, inr, ◌⊎◌, add-one, arith}
 use Rattle.std.proofs.lemmas.Bool.{cases_Bool, ltb-false}
 use Rattle.std.specs.Ordering.{ordering_then, is_ne, nat_cmp, int_cmp}
 use Rattle.std.specs.declared.cmp.Ordering.{Ordering}
 use Rattle.std.specs.declared.cmp.Ordering.TheVariants.{Less, Equal, Greater}
-use Rattle.pi_types.specs.Tree.{Tree, var, int, atom, comp, Trees, no_trees, tree, tree_count, cells, cells_all, args, arity, drop_trees}
+use Rattle.pi_types.specs.Tree.{Tree, var, int, atom, comp, Trees, no_trees, tree, tree_count, args, arity, drop_trees}
 use Rattle.pi_types.specs.Order.{name_order, order, order_all}
 use Rattle.pi_types.specs.Value.{IsAcyclic, value}
 use Rattle.pi_types.specs.State.{bindings, followed}
@@ -12,7 +12,7 @@ use Rattle.pi_types.specs.Store.{StoreView, IsTerm, IsName, ShowsCell}
 use Rattle.pi_types.specs.declared.store.Cell.{Cell}
 use Rattle.pi_types.specs.declared.store.Ref.{Ref}
 use Rattle.pi_unify.specs.Terms.{IsGiven, HoldsNoCycle, term_of, value_of}
-use Rattle.pi_unify.specs.Comparison.{cell_arity, Begins, pair_order, IsPair, IsRest, AreRests, rest_order, order_with, cells_left, with_arguments, Takes}
+use Rattle.pi_unify.specs.Comparison.{cell_arity, Begins, pair_order, IsPair, IsRest, AreRests, rest_order, order_with, with_arguments, Takes}
 use Rattle.pi_unify.specs.declared.order.Pair.{Pair}
 use Rattle.pi_unify.specs.declared.order.Rest.{Rest}
 use Rattle.std.proofs.lemmas.Cmp.{ranked, by_ranked}
@@ -51,14 +51,6 @@ pub order_with-decided : {M : Type 0} (v : StoreView M) (fs : List Rest) (o : Or
 unfolding order_with
 order_with-decided v [] o h = refl
 order_with-decided v (f ∷ fs) o h = ap (λ p. ordering_then p (rest_order v f)) (order_with-decided v fs o h) ∙ then_decided o (rest_order v f) h
-
-abbrev rest_cells : {M : Type 0} → StoreView M → Rest → ℕ
-rest_cells v f = cells_all (drop_trees f.next (args (value_of v f.of.left)))
-
-pub cells_left-more : {M : Type 0} (v : StoreView M) (fs : List Rest) (f : Rest) → cells_left v (fs ++ f ∷ []) ≡ cells_left v fs + rest_cells v f
-unfolding cells_left
-cells_left-more v [] f = omega arith
-cells_left-more v (g ∷ fs) f = omega (arith, cells_left-more v fs f)
 
 pub rests_more : {M : Type 0} (v : StoreView M) (fs : List Rest) (f : Rest) → AreRests v fs → IsRest v f → AreRests v (fs ++ f ∷ [])
 unfolding AreRests
@@ -224,18 +216,11 @@ rest_from_front : {M : Type 0} (v : StoreView M) (f : Rest) (p : Pair) → IsArg
 unfolding order
 rest_from_front v f p left right = ap (λ ts. order_all ts (drop_trees f.next (args (value_of v f.of.right)))) left.front ∙ ap (λ us. order_all (tree (value_of v p.left) (behind_left v f)) us) right.front
 
-cells_from_front : {M : Type 0} (v : StoreView M) (f : Rest) (p : Pair) → IsArgument v p.left (value_of v f.of.left) f.next → rest_cells v f ≡ cells (value_of v p.left) + cells_all (behind_left v f)
-unfolding cells
-cells_from_front v f p left = ap cells_all left.front
-
 abbrev after : Rest → Rest
 after f = record { of = f.of; next = f.next + 1; count = f.count }
 
 after_order : {M : Type 0} (v : StoreView M) (f : Rest) → rest_order v (after f) ≡ order_all (behind_left v f) (behind_right v f)
 after_order v f = ap (λ k. order_all (drop_trees k (args (value_of v f.of.left))) (drop_trees k (args (value_of v f.of.right)))) (add-one f.next)
-
-after_cells : {M : Type 0} (v : StoreView M) (f : Rest) → rest_cells v (after f) ≡ cells_all (behind_left v f)
-after_cells v f = ap (λ k. cells_all (drop_trees k (args (value_of v f.of.left)))) (add-one f.next)
 
 -- more arguments are left behind the pair
 pub takes_more : {M : Type 0} (v : StoreView M) (old fs new : List Rest) (f : Rest) (p : Pair) → old ≡ fs ++ f ∷ [] → new ≡ fs ++ after f ∷ [] → AreRests v old → f.next + 1 < f.count → IsArgument v p.left (value_of v f.of.left) f.next → IsArgument v p.right (value_of v f.of.right) f.next → Takes v old new p
@@ -249,7 +234,6 @@ takes_more v old fs new f p was is all more left right =
           ap (λ rs. order_with v rs Equal) was ∙ (order_with-more v fs f Equal
           ∙ (ap (order_with v fs) (rest_from_front v f p left right ∙ ap (ordering_then (pair_order v p)) (sym (after_order v f)))
           ∙ (sym (order_with-more v fs (after f) (pair_order v p)) ∙ ap (λ rs. order_with v rs (pair_order v p)) (sym is))));
-      cells = omega (arith, ap (cells_left v) was, ap (cells_left v) is, cells_left-more v fs f, cells_left-more v fs (after f), cells_from_front v f p left, after_cells v f);
     }
 
 none_behind : {M : Type 0} (v : StoreView M) (f : Rest) → IsRest v f → f.count ≤ f.next + 1 → (behind_left v f ≡ no_trees) × (behind_right v f ≡ no_trees)
@@ -261,19 +245,17 @@ none_behind v f here last =
 
 -- the pair was the last one of its compounds
 pub takes_last : {M : Type 0} (v : StoreView M) (old new : List Rest) (f : Rest) (p : Pair) → old ≡ new ++ f ∷ [] → AreRests v old → f.count ≤ f.next + 1 → IsArgument v p.left (value_of v f.of.left) f.next → IsArgument v p.right (value_of v f.of.right) f.next → Takes v old new p
-unfolding order cells
+unfolding order
 takes_last v old new f p was all last left right =
     let parts : AreRests v new × IsRest v f = rests_but_last v new f (subst (AreRests v) was all) in
     let none : (behind_left v f ≡ no_trees) × (behind_right v f ≡ no_trees) = none_behind v f parts.1 last in
     let equal : order_all (behind_left v f) (behind_right v f) ≡ Equal = ap (λ ts. order_all ts (behind_right v f)) none.0 ∙ ap (order_all no_trees) none.1 in
-    let empty : cells_all (behind_left v f) ≡ 0 = ap cells_all none.0 in
     record {
       pair = (left.given, right.given);
       rests = parts.0;
       order =
           ap (λ rs. order_with v rs Equal) was ∙ (order_with-more v new f Equal
           ∙ ap (order_with v new) (rest_from_front v f p left right ∙ (ap (ordering_then (pair_order v p)) equal ∙ then_equal (pair_order v p))));
-      cells = omega (arith, ap (cells_left v) was, cells_left-more v new f, cells_from_front v f p left, empty);
     }
 
 -- ---- all arguments of a pair that is equal at its roots
@@ -286,7 +268,6 @@ zero_or_more (suc n) = inr (omega arith)
 pub record Pushed {M : Type 0} (v : StoreView M) (fs new : List Rest) (p : Pair) : Type 0 where
   pub rests : AreRests v new
   pub order : order_with v new Equal ≡ order_with v fs (pair_order v p)
-  pub cells : suc (cells_left v new) ≡ cells (value_of v p.left) + cells_left v fs
 
 none_pushed : {M : Type 0} (v : StoreView M) (fs : List Rest) (p : Pair) (count : ℕ) → count ≡ 0 → with_arguments fs p count ≡ fs
 none_pushed v fs p count e = ap (with_arguments fs p) e
@@ -297,26 +278,17 @@ some_pushed v fs p count h = elim (cases_Bool (nat_lt 0 count)) [
   | inr miss ↦ absurd (omega (arith, ltb-false 0 count miss))
 ]
 
-cells_of_args : (t : Tree) → cells t ≡ suc (cells_all (args t))
-unfolding cells
-cells_of_args (var n) = refl
-cells_of_args (int n) = refl
-cells_of_args (atom name) = refl
-cells_of_args (comp name ts) = refl
-
 pub pushed : {M : Type 0} (v : StoreView M) (fs new : List Rest) (p : Pair) (count : ℕ) → AreRests v fs → IsPair v p → pair_order v p ≡ order_all (args (value_of v p.left)) (args (value_of v p.right)) → count ≡ arity (value_of v p.left) → arity (value_of v p.left) ≡ arity (value_of v p.right) → new ≡ with_arguments fs p count → Pushed v fs new p
-unfolding order cells
+unfolding order
 pushed v fs new p count all is roots many same e = elim (zero_or_more count) [
   | inl none ↦
       let is_new : new ≡ fs = e ∙ none_pushed v fs p count none in
       let left : args (value_of v p.left) ≡ no_trees = no_arguments (args (value_of v p.left)) (sym many ∙ none) in
       let right : args (value_of v p.right) ≡ no_trees = no_arguments (args (value_of v p.right)) (sym same ∙ (sym many ∙ none)) in
       let equal : pair_order v p ≡ Equal = roots ∙ (ap (λ ts. order_all ts (args (value_of v p.right))) left ∙ ap (order_all no_trees) right) in
-      let empty : cells_all (args (value_of v p.left)) ≡ 0 = ap cells_all left in
       record {
         rests = subst (AreRests v) (sym is_new) all;
         order = ap (λ rs. order_with v rs Equal) is_new ∙ ap (order_with v fs) (sym equal);
-        cells = omega (arith, ap (cells_left v) is_new, cells_of_args (value_of v p.left), empty);
       }
   | inr some ↦
       let f : Rest = record { of = p; next = 0; count = count } in
@@ -325,7 +297,6 @@ pushed v fs new p count all is roots many same e = elim (zero_or_more count) [
       record {
         rests = subst (AreRests v) (sym is_new) (rests_more v fs f all here);
         order = ap (λ rs. order_with v rs Equal) is_new ∙ (order_with-more v fs f Equal ∙ ap (order_with v fs) (sym roots));
-        cells = omega (arith, ap (cells_left v) is_new, cells_left-more v fs f, cells_of_args (value_of v p.left));
       }
 ]
 
@@ -386,3 +357,7 @@ order_of_terms v whole t u left right = ap (λ w. order w (value_of v whole.righ
 -- all that the loop knows when it has looked at a pair
 pub looked : {M : Type 0} (v : StoreView M) (fs : List Rest) (p whole : Pair) (c d : Cell) (o : Ordering) (count : ℕ) → HoldsNoCycle v → Goes v fs p whole → ShownBy v p.left c → ShownBy v p.right d → Begins v c d o → count ≡ cell_arity c → Roots v p o count
 looked v fs p whole c d o count a goes left right begins many = roots v p c d o count a goes.pair left right begins many
+
+-- and when it has put what is in the pair on the stack
+pub looked_equal : {M : Type 0} (v : StoreView M) (fs new : List Rest) (p whole : Pair) (c d : Cell) (o : Ordering) (count : ℕ) → HoldsNoCycle v → Goes v fs p whole → ShownBy v p.left c → ShownBy v p.right d → Begins v c d o → count ≡ cell_arity c → is_ne o ≡ false → new ≡ with_arguments fs p count → Pushed v fs new p
+looked_equal v fs new p whole c d o count a goes left right begins many ne e = pushed_equal v fs new p whole o count goes (looked v fs p whole c d o count a goes left right begins many) ne e

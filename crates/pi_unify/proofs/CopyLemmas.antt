@@ -1,21 +1,20 @@
 -- A listed value once new variables were made, and its copy.
-use Rattle.std.proofs.Common.{◌≡◌, ℕ, zero, suc, ◌+◌, ◌<◌, ◌≤◌, List, [], ◌∷◌, ◌++◌, length, Option, Some, None, Ok, Err, refl, ap, sym, ◌∙◌, subst}
+use Rattle.std.proofs.Common.{◌≡◌, ℕ, zero, suc, List, [], ◌∷◌, ◌++◌, length, None, Ok, refl, ap, sym, ◌∙◌, subst}
 use Rattle.std.proofs.lemmas.List.{map-append}
-use Rattle.pi_types.specs.Tree.{Tree, Trees, no_trees, tree, cells, subterms}
-use Rattle.pi_types.specs.Variables.{firsts, variables}
-use Rattle.pi_types.specs.Value.{Bindings, IsAcyclic, value}
+use Rattle.pi_types.specs.Tree.{Tree, no_trees, tree, subterms}
+use Rattle.pi_types.specs.Variables.{firsts}
+use Rattle.pi_types.specs.Value.{IsAcyclic, value}
 use Rattle.pi_types.specs.Copy.{renamed}
 use Rattle.pi_types.specs.State.{State, free, binding, bindings, with_new}
 use Rattle.pi_types.specs.Store.{StoreView, IsTerm, Keeps, Stays}
-use Rattle.pi_types.specs.Tree.{most_cells}
 use Rattle.pi_types.specs.declared.store.Ref.{Ref}
 use Rattle.pi_types.proofs.BindingLemmas.{new_variable_stays_acyclic, new_variable_changes_no_value}
-use Rattle.pi_unify.specs.Terms.{IsGiven, HoldsNoCycle, term_of, value_of}
-use Rattle.pi_unify.specs.Copying.{with_variables, Makes, renumbered, AreGiven, values_of, ListsNodes, ShowsCopy, forest, Nested, root_variables}
+use Rattle.pi_unify.specs.Terms.{HoldsNoCycle, term_of, value_of}
+use Rattle.pi_unify.specs.Copying.{with_variables, Makes, renumbered, AreGiven, values_of, ListsNodes, ShowsCopy, forest, Nested, root_variables, AreListed}
 use Rattle.pi_unify.specs.declared.copying.Nodes.{Nodes}
 use Rattle.pi_unify.proofs.TermValues.{given_term, term_given, term_is}
 use Rattle.pi_unify.proofs.BuildLemmas.{all_nested, whole_forest, root_variables-subterms}
-use Rattle.pi_unify.proofs.PlaceLemmas.{placed}
+use Rattle.pi_unify.proofs.PlaceLemmas.{made_enough, placed}
 
 bindings_more : (s : State) → bindings (with_new s) ≡ bindings s ++ None ∷ []
 bindings_more s = map-append binding s.variables (free ∷ [])
@@ -55,25 +54,25 @@ values_still v w (r ∷ refs) kept same all =
 
 -- what the copies are put by
 pub record Ready {M : Type 0} (w : StoreView M) (refs : List Ref) (ns : List ℕ) (u : Tree) : Type 0 where
-  pub acyclic : HoldsNoCycle w
-  pub given : AreGiven w refs
-  pub nested : Nested (values_of w refs)
-  pub known : ns ≡ firsts (root_variables (values_of w refs))
+  pub listed : AreListed w ns refs
   pub one : forest (values_of w refs) ≡ tree u no_trees
 
-pub ready_to_copy : {M : Type 0} (v w : StoreView M) (k : ℕ) (u : Tree) (nodes : Nodes) → HoldsNoCycle v → Makes v w k → ListsNodes v u nodes → Ready w nodes.refs.items nodes.numbers u
-ready_to_copy v w k u nodes a makes lists =
+pub ready_to_copy : {M : Type 0} (v w : StoreView M) (k : ℕ) (u : Tree) (nodes : Nodes) → HoldsNoCycle v → Makes v w k → k ≡ length nodes.numbers → ListsNodes v u nodes → Ready w nodes.refs.items nodes.numbers u
+ready_to_copy v w k u nodes a makes e lists =
     let same : Same v.now.state w.now.state = same_made v w k makes a in
     let listed : values_of w nodes.refs.items ≡ subterms u = values_still v w nodes.refs.items makes.keeps same lists.given ∙ lists.listed in
     record {
-      acyclic = same.acyclic;
-      given = given_still v w nodes.refs.items makes.keeps lists.given;
-      nested = subst Nested (sym listed) (all_nested u);
-      known = lists.numbers ∙ ap firsts (sym (ap root_variables listed ∙ root_variables-subterms u));
+      listed = record {
+        acyclic = same.acyclic;
+        given = given_still v w nodes.refs.items makes.keeps lists.given;
+        nested = subst Nested (sym listed) (all_nested u);
+        known = lists.numbers ∙ ap firsts (sym (ap root_variables listed ∙ root_variables-subterms u));
+        made = made_enough v w k nodes.numbers makes e;
+      };
       one = ap forest listed ∙ whole_forest u;
     }
 
 pub copied : {M : Type 0} (v w x : StoreView M) (k : ℕ) (u : Tree) (nodes : Nodes) (made : Ref) → HoldsNoCycle v → Makes v w k → k ≡ length nodes.numbers → ListsNodes v u nodes → Stays w x → ((t : Tree) → forest (values_of w nodes.refs.items) ≡ tree t no_trees → IsTerm x made (renamed (renumbered w.now.state nodes.numbers) t)) → ShowsCopy v x u (Ok made)
 copied v w x k u nodes made a makes e lists stays term =
-    let ready : Ready w nodes.refs.items nodes.numbers u = ready_to_copy v w k u nodes a makes lists in
+    let ready : Ready w nodes.refs.items nodes.numbers u = ready_to_copy v w k u nodes a makes e lists in
     (placed v w x k nodes.numbers u made makes e lists.numbers stays (term u ready.one), lists.few)

@@ -1,25 +1,39 @@
 -- Copies of listed terms, put from the last to the first.
-use Rattle.std.proofs.Common.{◌≡◌, ℕ, ℤ, zero, suc, ◌+◌, ◌-◌, ◌<◌, ◌≤◌, List, [], ◌∷◌, ◌++◌, length, get_or, take, drop, map, reverse, Some, inl, inr, refl, ap, sym, ◌∙◌, subst, arith}
-use Rattle.std.specs.Prelude.{Contains}
+use Rattle.std.proofs.Common.{◌≡◌, ℕ, ℤ, zero, suc, ◌+◌, ◌<◌, ◌≤◌, List, [], ◌∷◌, ◌++◌, length, get_or, take, drop, reverse, Some, inl, inr, refl, ap, sym, ◌∙◌, subst, arith}
+use Rattle.std.specs.Prelude.{Contains, nat_eq}
+use Rattle.std.specs.List.{list_any}
+use Rattle.std.proofs.lemmas.Bool.{cases_Bool, eqb-true}
 use Rattle.std.proofs.lemmas.List.{reverse-append, reverse-reverse, length-reverse}
-use Rattle.pi_types.specs.Tree.{Tree, var, int, atom, comp, Trees, no_trees, tree, tree_count, args, arity, drop_trees, cells}
+use Rattle.std.proofs.lemmas.List.Elements.{Contains-append_right}
+use Rattle.std.proofs.lemmas.Map.Views.{Contains-from_any}
+use Rattle.pi_types.specs.Tree.{Tree, var, int, atom, comp, Trees, no_trees, tree, tree_count, args, arity, drop_trees}
 use Rattle.pi_types.specs.TermCells.{take_trees}
-use Rattle.pi_types.specs.Variables.{firsts, variables, IsGround}
+use Rattle.pi_types.specs.Variables.{firsts, IsGround}
 use Rattle.pi_types.specs.Substitution.{instance, instances}
-use Rattle.pi_types.specs.Value.{Bindings, IsAcyclic, value}
-use Rattle.pi_types.specs.Copy.{renamed, copy, new_variables}
+use Rattle.pi_types.specs.Value.{IsAcyclic, value}
+use Rattle.pi_types.specs.Copy.{renamed}
 use Rattle.pi_types.specs.State.{State, next, bindings}
-use Rattle.pi_types.specs.Store.{StoreView, IsTerm, AreTerms, Keeps, Changes, Gives, Stays}
+use Rattle.pi_types.specs.Store.{StoreView, IsTerm, AreTerms, Keeps, Stays}
 use Rattle.pi_types.specs.declared.store.Ref.{Ref}
-use Rattle.pi_types.proofs.VariableLemmas.{Has, Has-firsts, Has-append_right, ground_stays}
-use Rattle.pi_types.proofs.NumberLemmas.{contains_from}
+use Rattle.pi_types.proofs.VariableLemmas.{Has, ground_stays}
+use Rattle.pi_types.specs.Numbers.{noted}
+use Rattle.pi_types.proofs.NumberLemmas.{noted-firsts, contains_from}
+use Rattle.pi_types.proofs.CopyLemmas.{firsts-known}
 use Rattle.pi_types.proofs.ValueLemmas.{ground_is_its_own_value}
 use Rattle.pi_types.proofs.RootLemmas.{tree_count-instances}
 use Rattle.pi_unify.specs.Terms.{IsGiven, HoldsNoCycle, term_of, value_of}
-use Rattle.pi_unify.specs.Copying.{renumbered, AreBuilt, AreGiven, values_of, forest, Nested, root_variables, IsReadyFor, PutsCopy}
+use Rattle.pi_unify.specs.Copying.{renumbered, AreBuilt, AreGiven, values_of, forest, Nested, root_variables, IsReadyFor, AreListed, MayCopy, PutsCopy}
 use Rattle.pi_unify.proofs.TermValues.{given_term, term_given, term_is}
 use Rattle.pi_unify.proofs.KeepsLemmas.{keeps_none, stays_then, terms_kept}
 use Rattle.pi_unify.proofs.BuildLemmas.{rest_left, are_as_many, count_taken, take_trees-instances, drop_trees-instances, nested-drop, one_only, has_node}
+
+-- ---- numbers that were met
+
+pub noted_contains : (ns : List ℕ) (n : ℕ) → Contains (noted ns n) n
+noted_contains ns n = elim (cases_Bool (list_any (nat_eq n) ns)) [
+  | inl hit ↦ rw hit (Contains-from_any eqb-true n ns hit)
+  | inr miss ↦ rw miss (Contains-append_right ns (n ∷ []) n (contains_from (n ∷ []) n (inl refl)))
+]
 
 -- ---- a copy by its kind
 
@@ -125,8 +139,18 @@ copy_ready v w ns refs i r built known nested all put is =
     record {
       known = λ n e.
           let has : Has (root_variables (values_of v refs)) n = has_node (values_of v refs) i n us (front ∙ ap (λ u. u ∷ us) (sym same ∙ e)) in
-          subst (λ (ms : List ℕ). Contains ms n) (sym known) (contains_from (firsts (root_variables (values_of v refs))) n (Has-firsts (root_variables (values_of v refs)) n has));
+          subst (λ (ms : List ℕ). noted ms n ≡ ms) (sym known) (noted-firsts (root_variables (values_of v refs)) n ∙ firsts-known (root_variables (values_of v refs)) n has);
       enough = omega (arith, ap arity same, count_taken (arity (value_of v r)) (forest us), tree_count-instances rename (forest us), length-reverse built);
+    }
+
+pub may_copy : {M : Type 0} (v w : StoreView M) (ns : List ℕ) (refs : List Ref) (i : ℕ) (r : Ref) (built : List Ref) → AreListed v ns refs → Copying v w ns refs (suc i) built → r ≡ get_or refs i r → MayCopy w ns built r
+may_copy v w ns refs i r built listed put is =
+    let within : i < length refs = put.within in
+    record {
+      acyclic = still_acyclic v w put.stays listed.acyclic;
+      given = (kept v w r put.stays (given_of v refs i r listed.given within is)).given;
+      ready = copy_ready v w ns refs i r built listed.known listed.nested listed.given put is;
+      made = subst (λ (s : State). length ns ≤ next s) (sym put.stays.state) listed.made;
     }
 
 args-renamed : (rename : ℕ → ℕ) (u : Tree) → args (renamed rename u) ≡ instances (λ n. var (rename n)) (args u)
@@ -136,8 +160,13 @@ args-renamed rename (int n) = refl
 args-renamed rename (atom name) = refl
 args-renamed rename (comp name ts) = refl
 
+-- what putting a copy comes to
+abbrev pub PutsNext : {M : Type 0} → StoreView M → StoreView M → List ℕ → Ref → List Ref → List Ref → Ref → Type 0
+PutsNext w x ns r built middle made =
+    (ts : Trees) → AreBuilt w built ts → take_trees (arity (value_of w r)) ts ≡ args (renamed (renumbered w.now.state ns) (value_of w r)) → PutsCopy x (renumbered w.now.state ns) (value_of w r) middle made ts
+
 -- one more copy was put
-pub one_copied : {M : Type 0} (v w x : StoreView M) (ns : List ℕ) (refs : List Ref) (i : ℕ) (r : Ref) (built middle new : List Ref) (made : Ref) → Nested (values_of v refs) → AreGiven v refs → Copying v w ns refs (suc i) built → r ≡ get_or refs i r → Stays w x → ((ts : Trees) → AreBuilt w built ts → take_trees (arity (value_of w r)) ts ≡ args (renamed (renumbered w.now.state ns) (value_of w r)) → PutsCopy x (renumbered w.now.state ns) (value_of w r) middle made ts) → new ≡ middle ++ made ∷ [] → Copying v x ns refs i new
+pub one_copied : {M : Type 0} (v w x : StoreView M) (ns : List ℕ) (refs : List Ref) (i : ℕ) (r : Ref) (built middle new : List Ref) (made : Ref) → Nested (values_of v refs) → AreGiven v refs → Copying v w ns refs (suc i) built → r ≡ get_or refs i r → Stays w x → PutsNext w x ns r built middle made → new ≡ middle ++ made ∷ [] → Copying v x ns refs i new
 unfolding Nested forest instance AreTerms
 one_copied v w x ns refs i r built middle new made nested all put is stays puts e =
     let here : i < length refs = put.within in

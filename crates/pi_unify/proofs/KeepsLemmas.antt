@@ -1,8 +1,8 @@
 -- Calls of a store one after another.
-use Rattle.std.proofs.Common.{◌≡◌, ℕ, zero, suc, List, [], ◌∷◌, refl, ap, sym, ◌∙◌, subst}
-use Rattle.pi_types.specs.Tree.{Tree, Trees, no_trees, tree}
+use Rattle.std.proofs.Common.{ℕ, suc, List, [], ◌∷◌, refl, ap, ◌∙◌}
+use Rattle.pi_types.specs.Tree.{Trees, no_trees, tree}
 use Rattle.pi_types.specs.State.{State, with_new}
-use Rattle.pi_types.specs.Store.{StoreView, IsTerm, AreTerms, Keeps, Changes, Stays}
+use Rattle.pi_types.specs.Store.{StoreView, AreTerms, Keeps, Changes, Stays}
 use Rattle.pi_types.specs.declared.store.Ref.{Ref}
 use Rattle.pi_unify.specs.Copying.{with_variables, Makes, MakesSome}
 

@@ -16,4 +16,3 @@ pub mod PlaceLemmas
 pub mod ListingLemmas
 pub mod CopyingLemmas
 pub mod CopyLemmas
-pub mod FixtureLemmas

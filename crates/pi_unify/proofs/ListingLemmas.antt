@@ -1,17 +1,16 @@
 -- The terms in a value, listed from a store.
-use Rattle.std.proofs.Common.{◌≡◌, ◌⊎◌, ℕ, zero, suc, ◌+◌, ◌<◌, ◌≤◌, Bool, true, false, cond, nat_lt, List, [], ◌∷◌, ◌++◌, length, map, Option, Some, None, inl, inr, refl, ap, sym, ◌∙◌, subst, arith, add-one, append_assoc, length-append}
+use Rattle.std.proofs.Common.{◌≡◌, ◌⊎◌, ℕ, zero, suc, ◌+◌, ◌<◌, ◌≤◌, nat_lt, List, [], ◌∷◌, ◌++◌, length, inl, inr, refl, ap, sym, ◌∙◌, subst, arith, add-one, append_assoc, length-append}
 use Rattle.std.proofs.lemmas.Bool.{cases_Bool, ltb-false}
 use Rattle.std.proofs.lemmas.List.{map-append, append-nil}
 use Rattle.pi_types.specs.Tree.{Tree, var, int, atom, comp, Trees, no_trees, tree, tree_count, args, arity, drop_trees, cells, subterms, subterms_all}
 use Rattle.pi_types.specs.Variables.{firsts, variables}
 use Rattle.pi_types.specs.Store.{StoreView, ShowsCell}
-use Rattle.pi_types.specs.Tree.{most_cells}
 use Rattle.pi_types.specs.declared.store.Ref.{Ref}
 use Rattle.pi_types.specs.declared.store.Cell.{Cell}
 use Rattle.pi_types.proofs.TermLemmas.{subterm_for_each_cell}
 use Rattle.pi_unify.specs.Terms.{IsGiven, HoldsNoCycle, value_of}
 use Rattle.pi_unify.specs.Comparison.{cell_arity}
-use Rattle.pi_unify.specs.Copying.{AreGiven, values_of, noted_cell, IsWalk, AreWalks, left_terms, with_children, Enters, EntersNext, root_variables}
+use Rattle.pi_unify.specs.Copying.{AreGiven, values_of, noted_cell, IsWalk, AreWalks, left_terms, with_children, Enters, root_variables}
 use Rattle.pi_unify.specs.declared.copying.Walk.{Walk}
 use Rattle.pi_unify.proofs.TermValues.{IsArgument}
 use Rattle.pi_unify.proofs.ComparisonLemmas.{ShownBy, shown, arity_shown}

@@ -1,30 +1,22 @@
 -- The loop of a match: where the match of a pair stands in that of the whole.
-use Rattle.std.proofs.Common.{◌≡◌, ℕ, ℤ, zero, suc, ◌+◌, ◌<◌, ◌≤◌, ◌==◌, ◌&&◌, Bool, true, false, cond, List, [], ◌∷◌, ◌++◌, length, get_or, drop, ◌⊎◌, Option, Some, None, Result, Ok, Err, inl, inr, refl, ap, sym, ◌∙◌, subst, arith, add-one, drop-cons, eq-eqb, eqb-true}
-use Rattle.std.specs.Prelude.{MatchOption, IfOk}
-use Rattle.std.specs.Option.{option_and_then, option_map}
-use Rattle.std.specs.Ordering.{is_eq}
-use Rattle.std.proofs.lemmas.Bool.{cases_Bool}
-use Rattle.pi_types.specs.Tree.{Tree, var, int, atom, comp, Trees, no_trees, tree, tree_count, args, arity, arg_at, drop_trees}
+use Rattle.std.proofs.Common.{◌≡◌, Bool, true, false, List, [], Option, Some, None, ap, sym, ◌∙◌, subst}
+use Rattle.std.specs.Option.{option_map}
+use Rattle.pi_types.specs.Tree.{Tree}
 use Rattle.pi_types.specs.Places.{Places}
-use Rattle.pi_types.specs.Order.{name_order}
-use Rattle.pi_types.specs.PatternTree.{PatternTree, slot, exact_int, exact_atom, compound, named, PatternTrees, no_patterns, pattern}
+use Rattle.pi_types.specs.PatternTree.{PatternTree}
 use Rattle.pi_types.specs.Value.{Bindings, IsAcyclic, value}
-use Rattle.pi_types.specs.State.{bindings, followed}
+use Rattle.pi_types.specs.State.{bindings}
 use Rattle.pi_types.specs.Store.{StoreView, IsTerm}
 use Rattle.pi_types.specs.Match.{matched}
-use Rattle.pi_types.specs.HeadMatch.{filled_in, compound_in, matched_in, matched_all_in, slot_values}
-use Rattle.pi_types.specs.CoreTree.{pattern_tree, pattern_trees}
+use Rattle.pi_types.specs.HeadMatch.{matched_in, slot_values}
+use Rattle.pi_types.specs.CoreTree.{pattern_tree}
 use Rattle.pi_types.specs.declared.store.Ref.{Ref}
-use Rattle.pi_types.specs.declared.core_program.Pattern.{Pattern, Slot, Int, Atom}
-use Rattle.pi_types.proofs.TermLemmas.{TreeAt, tree_at-below}
 use Rattle.pi_types.proofs.HeadMatchLemmas.{matches-by_value}
 use Rattle.pi_unify.specs.Terms.{IsGiven, HoldsNoCycle, term_of}
-use Rattle.pi_unify.specs.Matching.{pattern_count, is_compound_of, root_match, FitsRoot, IsLeft, AreLeft, left_match, match_with, nodes, nodes_of_all, nodes_left, pending_match, TakesNext, TakesPending, GoesBehind, ComesBehind, EndsBehind, Pushes, slot_terms, HoldAllGiven, FillsEmpty, TellsMatch}
+use Rattle.pi_unify.specs.Matching.{root_match, FitsRoot, AreLeft, match_with, pending_match, GoesBehind, EndsBehind, slot_terms, HoldAllGiven, TellsMatch}
 use Rattle.pi_unify.specs.declared.matching.Pending.{Pending}
 use Rattle.pi_unify.specs.declared.matching.Arguments.{Arguments}
-use Rattle.pi_unify.proofs.TermValues.{given_term, term_given, term_is}
-use Rattle.pi_unify.proofs.SlotLemmas.{fills_none, fills_then}
-use Rattle.pi_unify.proofs.PatternLemmas.{count-trees, pattern_tree-slot, pattern_tree-int, pattern_tree-atom}
+use Rattle.pi_unify.proofs.TermValues.{term_is}
 use Rattle.pi_unify.proofs.MatchingLemmas.{match_with-none, fits_from_match, none_from_root}
 
 -- ---- the loop
@@ -33,7 +25,7 @@ use Rattle.pi_unify.proofs.MatchingLemmas.{match_with-none, fits_from_match, non
 pub record Goes {M : Type 0} (v : StoreView M) (fs : List Arguments) (p : Pending) (q : PatternTree) (w : Tree) (old slots : List (Option Ref)) : Type 0 where
   pub given : IsGiven v p.term
   pub left : AreLeft v fs
-  pub fills : FillsEmpty v old slots
+  pub slots_given : HoldAllGiven v slots
   pub match_is : match_with v fs (pending_match v p (slot_terms v slots)) ≡ matched_in (bindings v.now.state) q w (slot_terms v old)
 
 pub started : {M : Type 0} (v : StoreView M) (fs : List Arguments) (p : Pending) (slots : List (Option Ref)) → fs ≡ [] → IsGiven v p.term → HoldAllGiven v slots → Goes v fs p (pattern_tree p.pattern.now) (term_of v p.term) slots slots
@@ -41,13 +33,13 @@ unfolding match_with AreLeft
 started v fs p slots e given all = record {
   given = given;
   left = subst (AreLeft v) (sym e) tt;
-  fills = fills_none v slots all;
+  slots_given = all;
   match_is = ap (λ rs. match_with v rs (pending_match v p (slot_terms v slots))) e;
 }
 
 -- what the root of the pair came to
 pub record Rooted {M : Type 0} (v : StoreView M) (p : Pending) (slots new : List (Option Ref)) (found : Bool) : Type 0 where
-  pub fills : FillsEmpty v slots new
+  pub given : HoldAllGiven v new
   pub tells : TellsMatch found (root_match (bindings v.now.state) (pattern_tree p.pattern.now) (term_of v p.term) (slot_terms v slots)) (slot_terms v new)
 
 true_told : (found : Bool) (o : Option Places) (after : Places) → found ≡ true → TellsMatch found o after → o ≡ Some after
@@ -72,7 +64,7 @@ pub goes_on : {M : Type 0} (v : StoreView M) (fs rest : List Arguments) (p next 
 goes_on v fs rest p next q w old slots new found goes e rooted behind = record {
   given = behind.given;
   left = behind.left;
-  fills = fills_then v old slots new goes.fills rooted.fills;
+  slots_given = rooted.given;
   match_is = sym (behind.match_is (slot_terms v slots) (slot_terms v new) (true_told found _ (slot_terms v new) e rooted.tells)) ∙ goes.match_is;
 }
 

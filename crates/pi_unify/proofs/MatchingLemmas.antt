@@ -1,29 +1,26 @@
 -- What is left to match.
 use Rattle.std.proofs.Common.{◌≡◌, ℕ, ℤ, zero, suc, ◌+◌, ◌<◌, ◌≤◌, ◌==◌, ◌&&◌, Bool, true, false, cond, List, [], ◌∷◌, ◌++◌, length, get_or, drop, ◌⊎◌, Option, Some, None, Result, Ok, Err, inl, inr, refl, ap, sym, ◌∙◌, subst, arith, add-one, drop-cons, eq-eqb, eqb-true}
 use Rattle.std.specs.Prelude.{MatchOption, IfOk}
-use Rattle.std.specs.Option.{option_and_then, option_map}
+use Rattle.std.specs.Option.{option_and_then}
 use Rattle.std.specs.Ordering.{is_eq}
 use Rattle.std.proofs.lemmas.Bool.{cases_Bool}
 use Rattle.pi_types.specs.Tree.{Tree, var, int, atom, comp, Trees, no_trees, tree, tree_count, args, arity, arg_at, drop_trees}
 use Rattle.pi_types.specs.Places.{Places}
 use Rattle.pi_types.specs.Order.{name_order}
 use Rattle.pi_types.specs.PatternTree.{PatternTree, slot, exact_int, exact_atom, compound, named, PatternTrees, no_patterns, pattern}
-use Rattle.pi_types.specs.Value.{Bindings, IsAcyclic, value}
+use Rattle.pi_types.specs.Value.{Bindings, IsAcyclic}
 use Rattle.pi_types.specs.State.{bindings, followed}
 use Rattle.pi_types.specs.Store.{StoreView, IsTerm}
-use Rattle.pi_types.specs.Match.{matched}
-use Rattle.pi_types.specs.HeadMatch.{filled_in, compound_in, matched_in, matched_all_in, slot_values}
+use Rattle.pi_types.specs.HeadMatch.{compound_in, matched_in, matched_all_in}
 use Rattle.pi_types.specs.CoreTree.{pattern_tree, pattern_trees}
 use Rattle.pi_types.specs.declared.store.Ref.{Ref}
 use Rattle.pi_types.specs.declared.core_program.Pattern.{Pattern, Slot, Int, Atom}
 use Rattle.pi_types.proofs.TermLemmas.{TreeAt, tree_at-below}
-use Rattle.pi_types.proofs.HeadMatchLemmas.{matches-by_value}
 use Rattle.pi_unify.specs.Terms.{IsGiven, HoldsNoCycle, term_of}
-use Rattle.pi_unify.specs.Matching.{pattern_count, is_compound_of, root_match, FitsRoot, IsLeft, AreLeft, left_match, match_with, nodes, nodes_of_all, nodes_left, pending_match, TakesNext, TakesPending, GoesBehind, ComesBehind, EndsBehind, Pushes, slot_terms, HoldAllGiven, FillsEmpty, TellsMatch}
+use Rattle.pi_unify.specs.Matching.{pattern_count, is_compound_of, root_match, FitsRoot, IsWithin, AreWithin, IsLeft, AreLeft, left_match, match_with, nodes, nodes_of_all, nodes_left, pending_match, HasNodes, LeavesNodes, HasFewer, LeavesFewer, TakesNext, TakesPending, GoesBehind, ComesBehind, Pushes}
 use Rattle.pi_unify.specs.declared.matching.Pending.{Pending}
 use Rattle.pi_unify.specs.declared.matching.Arguments.{Arguments}
 use Rattle.pi_unify.proofs.TermValues.{given_term, term_given, term_is}
-use Rattle.pi_unify.proofs.SlotLemmas.{fills_none, fills_then}
 use Rattle.pi_unify.proofs.PatternLemmas.{count-trees, pattern_tree-slot, pattern_tree-int, pattern_tree-atom}
 
 -- ---- one after another
@@ -56,6 +53,20 @@ unfolding AreLeft
 left_but_last v [] f all = (tt, all.0)
 left_but_last v (g ∷ fs) f all = let r : AreLeft v fs × IsLeft v f = left_but_last v fs f all.1 in ((all.0, r.0), r.1)
 
+within_more : (fs : List Arguments) (f : Arguments) → AreWithin fs → IsWithin f → AreWithin (fs ++ f ∷ [])
+unfolding AreWithin
+within_more [] f all is = (is, tt)
+within_more (g ∷ fs) f all is = (all.0, within_more fs f all.1 is)
+
+pub none_within : (fs : List Arguments) → fs ≡ [] → AreWithin fs
+unfolding AreWithin
+none_within fs e = subst AreWithin (sym e) tt
+
+pub within_but_last : (fs : List Arguments) (f : Arguments) → AreWithin (fs ++ f ∷ []) → AreWithin fs × IsWithin f
+unfolding AreWithin
+within_but_last [] f all = (tt, all.0)
+within_but_last (g ∷ fs) f all = let r : AreWithin fs × IsWithin f = within_but_last fs f all.1 in ((all.0, r.0), r.1)
+
 abbrev own_nodes : Arguments → ℕ
 own_nodes f = nodes_of_all (pattern_trees (drop f.next f.patterns.now))
 
@@ -72,20 +83,30 @@ pub record IsNext {M : Type 0} (v : StoreView M) (f : Arguments) (p : Pending) :
   pub terms : drop_trees f.next (args (followed (bindings v.now.state) (term_of v f.of))) ≡ tree (term_of v p.term) (drop_trees (suc f.next) (args (followed (bindings v.now.state) (term_of v f.of))))
   pub patterns : drop f.next f.patterns.now ≡ p.pattern.now ∷ drop (suc f.next) f.patterns.now
 
-pub next_is : {M : Type 0} (v : StoreView M) (f : Arguments) (p : Pending) → HoldsNoCycle v → IsLeft v f → p.pattern.now ≡ get_or f.patterns.now f.next p.pattern.now → ((t u : Tree) → IsTerm v f.of t → IsAcyclic (bindings v.now.state) → arg_at (followed (bindings v.now.state) t) f.next ≡ Some u → IsTerm v p.term u) → IsNext v f p
-next_is v f p a left is answers =
+-- the pattern stands in front of those behind it
+abbrev pub IsPattern : Arguments → Pending → Type 0
+IsPattern f p = drop f.next f.patterns.now ≡ p.pattern.now ∷ drop (suc f.next) f.patterns.now
+
+pub pattern_is : (f : Arguments) (p : Pending) → IsWithin f → p.pattern.now ≡ get_or f.patterns.now f.next p.pattern.now → IsPattern f p
+pattern_is f p own is =
+    let count : f.count ≡ length f.patterns.now = own.count in
+    let below : f.next < f.count = own.within in
+    let within : f.next < length f.patterns.now = omega arith in
+    drop-cons f.patterns.now f.next p.pattern.now within ∙ ap (λ q. q ∷ drop (suc f.next) f.patterns.now) (sym is)
+
+pub next_is : {M : Type 0} (v : StoreView M) (f : Arguments) (p : Pending) → HoldsNoCycle v → IsWithin f → IsLeft v f → p.pattern.now ≡ get_or f.patterns.now f.next p.pattern.now → ((t u : Tree) → IsTerm v f.of t → IsAcyclic (bindings v.now.state) → arg_at (followed (bindings v.now.state) t) f.next ≡ Some u → IsTerm v p.term u) → IsNext v f p
+next_is v f p a own left is answers =
     let b : Bindings = bindings v.now.state in
     let t : Tree = term_of v f.of in
-    let count : f.count ≡ length f.patterns.now = left.count in
-    let below : f.next < f.count = left.within in
-    let within : f.next < length f.patterns.now = omega arith in
+    let count : f.count ≡ length f.patterns.now = own.count in
+    let below : f.next < f.count = own.within in
     let many : arity (followed b t) ≡ length f.patterns.now = left.many in
-    let own : TreeAt (args (followed b t)) f.next = tree_at-below (args (followed b t)) f.next (omega arith) in
-    let term : IsTerm v p.term own.it = answers t own.it (given_term v f.of left.given) a own.is in
+    let at : TreeAt (args (followed b t)) f.next = tree_at-below (args (followed b t)) f.next (omega arith) in
+    let term : IsTerm v p.term at.it = answers t at.it (given_term v f.of left.given) a at.is in
     record {
-      given = term_given v p.term own.it term;
-      terms = own.front ∙ ap (λ u. tree u (drop_trees (suc f.next) (args (followed b t)))) (sym (term_is v p.term own.it term));
-      patterns = drop-cons f.patterns.now f.next p.pattern.now within ∙ ap (λ q. q ∷ drop (suc f.next) f.patterns.now) (sym is);
+      given = term_given v p.term at.it term;
+      terms = at.front ∙ ap (λ u. tree u (drop_trees (suc f.next) (args (followed b t)))) (sym (term_is v p.term at.it term));
+      patterns = pattern_is f p own is;
     }
 
 abbrev behind_match : {M : Type 0} → StoreView M → Arguments → Places → Option Places
@@ -100,9 +121,9 @@ left_from_next v f p e next =
     ap (λ ps. matched_all_in b (pattern_trees ps) (drop_trees f.next ts) e) next.patterns
     ∙ ap (λ us. matched_all_in b (pattern_trees (p.pattern.now ∷ drop (suc f.next) f.patterns.now)) us e) next.terms
 
-nodes_from_next : {M : Type 0} (v : StoreView M) (f : Arguments) (p : Pending) → IsNext v f p → own_nodes f ≡ nodes (pattern_tree p.pattern.now) + nodes_of_all (pattern_trees (drop (suc f.next) f.patterns.now))
+nodes_from_next : (f : Arguments) (p : Pending) → IsPattern f p → own_nodes f ≡ nodes (pattern_tree p.pattern.now) + nodes_of_all (pattern_trees (drop (suc f.next) f.patterns.now))
 unfolding nodes pattern_trees
-nodes_from_next v f p next = ap (λ ps. nodes_of_all (pattern_trees ps)) next.patterns
+nodes_from_next f p is = ap (λ ps. nodes_of_all (pattern_trees ps)) is
 
 abbrev pub after : Arguments → Arguments
 after f = record { patterns = f.patterns; of = f.of; next = f.next + 1; count = f.count }
@@ -118,18 +139,25 @@ same_then f g None same = refl
 same_then f g (Some e) same = same e
 
 -- more patterns are left behind it
-pub takes_more : {M : Type 0} (v : StoreView M) (old fs new : List Arguments) (f : Arguments) (p : Pending) → old ≡ fs ++ f ∷ [] → new ≡ fs ++ after f ∷ [] → AreLeft v old → f.next + 1 < f.count → IsNext v f p → TakesNext v old new p
-takes_more v old fs new f p was is all more next =
+pub takes_more : {M : Type 0} (v : StoreView M) (old fs new : List Arguments) (f : Arguments) (p : Pending) → old ≡ fs ++ f ∷ [] → new ≡ fs ++ after f ∷ [] → AreLeft v old → IsNext v f p → TakesNext v old new p
+takes_more v old fs new f p was is all next =
     let parts : AreLeft v fs × IsLeft v f = left_but_last v fs f (subst (AreLeft v) was all) in
     let here : IsLeft v f = parts.1 in
     record {
       given = next.given;
-      left = subst (AreLeft v) (sym is) (left_more v fs (after f) parts.0 (record { given = here.given; many = here.many; count = here.count; within = more }));
+      left = subst (AreLeft v) (sym is) (left_more v fs (after f) parts.0 (record { given = here.given; many = here.many }));
       match_is = λ e.
           ap (λ rs. match_with v rs (Some e)) was ∙ (match_with-more v fs f (Some e)
           ∙ (ap (match_with v fs) (left_from_next v f p e next ∙ same_then (behind_match v f) (left_match v (after f)) (pending_match v p e) (λ d. sym (after_match v f d)))
           ∙ (sym (match_with-more v fs (after f) (pending_match v p e)) ∙ ap (λ rs. match_with v rs (pending_match v p e)) (sym is))));
-      nodes = omega (arith, ap nodes_left was, ap nodes_left is, nodes_left-more fs f, nodes_left-more fs (after f), nodes_from_next v f p next, after_nodes f);
+    }
+
+pub leaves_more : (old fs new : List Arguments) (f : Arguments) (p : Pending) → old ≡ fs ++ f ∷ [] → new ≡ fs ++ after f ∷ [] → AreWithin old → f.next + 1 < f.count → IsPattern f p → HasNodes (nodes_left old) new p
+leaves_more old fs new f p was is all more at =
+    let parts : AreWithin fs × IsWithin f = within_but_last fs f (subst AreWithin was all) in
+    record {
+      within = subst AreWithin (sym is) (within_more fs (after f) parts.0 (record { count = parts.1.count; within = more }));
+      nodes = omega (arith, ap nodes_left was, ap nodes_left is, nodes_left-more fs f, nodes_left-more fs (after f), nodes_from_next f p at, after_nodes f);
     }
 
 drop_all_trees : (ts : Trees) (k : ℕ) → tree_count ts ≡ k → drop_trees k ts ≡ no_trees
@@ -145,35 +173,43 @@ drop_all [] (suc k) e = refl
 drop_all (p ∷ ps) zero e = cc
 drop_all (p ∷ ps) (suc k) e = drop_all ps k (omega arith)
 
-none_behind : {M : Type 0} (v : StoreView M) (f : Arguments) → IsLeft v f → f.count ≤ f.next + 1 → (drop (suc f.next) f.patterns.now ≡ []) × (drop_trees (suc f.next) (args (followed (bindings v.now.state) (term_of v f.of))) ≡ no_trees)
-none_behind v f here last =
-    let within : f.next < f.count = here.within in
-    let count : f.count ≡ length f.patterns.now = here.count in
-    let many : length f.patterns.now ≡ suc f.next = omega arith in
+last_count : (f : Arguments) → IsWithin f → f.count ≤ f.next + 1 → length f.patterns.now ≡ suc f.next
+last_count f own last =
+    let within : f.next < f.count = own.within in
+    let count : f.count ≡ length f.patterns.now = own.count in
+    omega arith
+
+none_behind : {M : Type 0} (v : StoreView M) (f : Arguments) → IsWithin f → IsLeft v f → f.count ≤ f.next + 1 → (drop (suc f.next) f.patterns.now ≡ []) × (drop_trees (suc f.next) (args (followed (bindings v.now.state) (term_of v f.of))) ≡ no_trees)
+none_behind v f own here last =
+    let many : length f.patterns.now ≡ suc f.next = last_count f own last in
     (drop_all f.patterns.now (suc f.next) many, drop_all_trees (args (followed (bindings v.now.state) (term_of v f.of))) (suc f.next) (here.many ∙ many))
 
-ends : {M : Type 0} (v : StoreView M) (f : Arguments) (e : Places) → IsLeft v f → f.count ≤ f.next + 1 → behind_match v f e ≡ Some e
+ends : {M : Type 0} (v : StoreView M) (f : Arguments) (e : Places) → IsWithin f → IsLeft v f → f.count ≤ f.next + 1 → behind_match v f e ≡ Some e
 unfolding matched_in pattern_trees
-ends v f e here last =
-    let none : (drop (suc f.next) f.patterns.now ≡ []) × (drop_trees (suc f.next) (args (followed (bindings v.now.state) (term_of v f.of))) ≡ no_trees) = none_behind v f here last in
+ends v f e own here last =
+    let none : (drop (suc f.next) f.patterns.now ≡ []) × (drop_trees (suc f.next) (args (followed (bindings v.now.state) (term_of v f.of))) ≡ no_trees) = none_behind v f own here last in
     ap (λ ps. matched_all_in (bindings v.now.state) (pattern_trees ps) (drop_trees (suc f.next) (args (followed (bindings v.now.state) (term_of v f.of)))) e) none.0
     ∙ ap (λ ts. matched_all_in (bindings v.now.state) no_patterns ts e) none.1
 
 -- it was the last one of its compound
-pub takes_last : {M : Type 0} (v : StoreView M) (old new : List Arguments) (f : Arguments) (p : Pending) → old ≡ new ++ f ∷ [] → AreLeft v old → f.count ≤ f.next + 1 → IsNext v f p → TakesNext v old new p
-unfolding nodes pattern_trees
-takes_last v old new f p was all last next =
+pub takes_last : {M : Type 0} (v : StoreView M) (old new : List Arguments) (f : Arguments) (p : Pending) → old ≡ new ++ f ∷ [] → IsWithin f → AreLeft v old → f.count ≤ f.next + 1 → IsNext v f p → TakesNext v old new p
+takes_last v old new f p was own all last next =
     let parts : AreLeft v new × IsLeft v f = left_but_last v new f (subst (AreLeft v) was all) in
-    let none : (drop (suc f.next) f.patterns.now ≡ []) × (drop_trees (suc f.next) (args (followed (bindings v.now.state) (term_of v f.of))) ≡ no_trees) = none_behind v f parts.1 last in
-    let empty : nodes_of_all (pattern_trees (drop (suc f.next) f.patterns.now)) ≡ 0 = ap (λ ps. nodes_of_all (pattern_trees ps)) none.0 in
     record {
       given = next.given;
       left = parts.0;
       match_is = λ e.
           ap (λ rs. match_with v rs (Some e)) was ∙ (match_with-more v new f (Some e)
-          ∙ ap (match_with v new) (left_from_next v f p e next ∙ then_some (behind_match v f) (pending_match v p e) (λ d. ends v f d parts.1 last)));
-      nodes = omega (arith, ap nodes_left was, nodes_left-more new f, nodes_from_next v f p next, empty);
+          ∙ ap (match_with v new) (left_from_next v f p e next ∙ then_some (behind_match v f) (pending_match v p e) (λ d. ends v f d own parts.1 last)));
     }
+
+pub leaves_last : (old new : List Arguments) (f : Arguments) (p : Pending) → old ≡ new ++ f ∷ [] → AreWithin old → f.count ≤ f.next + 1 → IsPattern f p → HasNodes (nodes_left old) new p
+unfolding nodes pattern_trees
+leaves_last old new f p was all last at =
+    let parts : AreWithin new × IsWithin f = within_but_last new f (subst AreWithin was all) in
+    let none : drop (suc f.next) f.patterns.now ≡ [] = drop_all f.patterns.now (suc f.next) (last_count f parts.1 last) in
+    let empty : nodes_of_all (pattern_trees (drop (suc f.next) f.patterns.now)) ≡ 0 = ap (λ ps. nodes_of_all (pattern_trees ps)) none in
+    record { within = parts.0; nodes = omega (arith, ap nodes_left was, nodes_left-more new f, nodes_from_next f p at, empty) }
 
 -- the number behind another, where there is none
 pub none_following : (o : Option ℕ) (next count : ℕ) → MatchOption o (count ≤ next + 1) (λ k. (k ≡ next + 1) × (k < count)) → ((k : ℕ) → o ≡ Some k → ⊥) → count ≤ next + 1
@@ -266,7 +302,6 @@ none_from_root b (named k p) t e h = ap (option_and_then (matched_in b p t)) h
 pub record Behind {M : Type 0} (v : StoreView M) (p : PatternTree) (t : Tree) (old new : List Arguments) : Type 0 where
   pub left : AreLeft v new
   pub match_is : (e after : Places) → root_match (bindings v.now.state) p t e ≡ Some after → match_with v old (matched_in (bindings v.now.state) p t e) ≡ match_with v new (Some after)
-  pub nodes : nodes_left new < nodes p + nodes_left old
 
 -- a pattern without parts
 abbrev IsBare : PatternTree → Type 0
@@ -284,19 +319,10 @@ bare_match b (exact_atom name) t e bare = refl
 bare_match b (compound f ps) t e bare = absurd bare
 bare_match b (named k p) t e bare = absurd bare
 
-some_nodes : (p : PatternTree) → IsBare p → nodes p ≡ 1
-unfolding nodes
-some_nodes (slot k) bare = refl
-some_nodes (exact_int n) bare = refl
-some_nodes (exact_atom name) bare = refl
-some_nodes (compound f ps) bare = absurd bare
-some_nodes (named k p) bare = absurd bare
-
 pub behind_bare : {M : Type 0} (v : StoreView M) (p : PatternTree) (t : Tree) (fs : List Arguments) → IsBare p → AreLeft v fs → Behind v p t fs fs
 behind_bare v p t fs bare all = record {
   left = all;
   match_is = λ e after h. ap (match_with v fs) (bare_match (bindings v.now.state) p t e bare ∙ h);
-  nodes = omega (arith, some_nodes p bare);
 }
 
 -- a pattern that is a slot, an integer or an atom
@@ -347,20 +373,15 @@ pushed_compound v f ps r old new given all fit many some (g, patterns, of, next,
     let here : IsLeft v g = record {
       given = subst (IsGiven v) (sym of) given;
       many = ap (λ q. arity (followed b (term_of v q))) of ∙ (many ∙ ap length (sym patterns));
-      count = count ∙ ap length (sym patterns);
-      within = omega arith;
     } in
     let own : (e : Places) → left_match v g e ≡ matched_all_in b (pattern_trees ps) (args (followed b t)) e = λ e.
     ap (λ qs. own_match v g.of qs g.next e) patterns ∙ (ap (λ q. own_match v q ps g.next e) of ∙ ap (λ k. own_match v r ps k e) next) in
-    let own_size : own_nodes g ≡ nodes_of_all (pattern_trees ps) =
-    ap (λ qs. nodes_of_all (pattern_trees (drop g.next qs))) patterns ∙ ap (λ k. nodes_of_all (pattern_trees (drop k ps))) next in
     record {
       left = subst (AreLeft v) (sym is_new) (left_more v old g all here);
       match_is = λ e after h.
           let same : e ≡ after = (passed (is_compound_of f (pattern_count (pattern_trees ps)) (followed b t)) e after h).1 in
           ap (match_with v old) (fit.inside e ∙ sym (own e))
           ∙ (sym (match_with-more v old g (Some e)) ∙ (ap (λ fs. match_with v fs (Some e)) (sym is_new) ∙ ap (λ d. match_with v new (Some d)) same));
-      nodes = omega (arith, ap nodes_left is_new, nodes_left-more old g, own_size, compound_nodes f (pattern_trees ps));
     }
 
 pub behind_compound : {M : Type 0} (v : StoreView M) (f : List ℕ) (ps : List Pattern) (r : Ref) (old new : List Arguments) → IsGiven v r → AreLeft v old → FitsRoot (bindings v.now.state) (compound f (pattern_trees ps)) (term_of v r) → Pushes old new ps r → Behind v (compound f (pattern_trees ps)) (term_of v r) old new
@@ -381,23 +402,67 @@ behind_compound v f ps r old new given all fits pushes =
                 let inside : matched_in b (compound f (pattern_trees ps)) t e ≡ Some after =
                 fit.inside e ∙ (ap (λ qs. matched_all_in b qs (args (followed b t)) e) no_ps ∙ (ap (λ ts. matched_all_in b no_patterns ts e) no_ts ∙ (nothing_inside b e ∙ ap Some same))) in
                 ap (match_with v old) inside ∙ ap (λ fs. match_with v fs (Some after)) (sym is_new);
-            nodes = omega (arith, ap nodes_left is_new, compound_nodes f (pattern_trees ps));
           }
       | inr some ↦ pushed_compound v f ps r old new given all fit many some (pushes.some some)
     ]
 
+-- ---- the nodes that are left behind the root
+
+-- what is left when the root of a pattern was found
+pub record Shrinks (p : PatternTree) (old new : List Arguments) : Type 0 where
+  pub within : AreWithin new
+  pub nodes : nodes_left new < nodes p + nodes_left old
+
+some_nodes : (p : PatternTree) → 0 < nodes p
+unfolding nodes
+some_nodes (slot k) = omega arith
+some_nodes (exact_int n) = omega arith
+some_nodes (exact_atom name) = omega arith
+some_nodes (compound f ps) = omega arith
+some_nodes (named k p) = omega arith
+
+pub shrinks_bare : (p : PatternTree) (fs : List Arguments) → AreWithin fs → Shrinks p fs fs
+shrinks_bare p fs all = record { within = all; nodes = omega (arith, some_nodes p) }
+
+pub shrinks_compound : (f : List ℕ) (ps : List Pattern) (r : Ref) (old new : List Arguments) → AreWithin old → Pushes old new ps r → Shrinks (compound f (pattern_trees ps)) old new
+shrinks_compound f ps r old new all pushes = elim (zero_or_more (length ps)) [
+  | inl none ↦
+      let is_new : new ≡ old = pushes.none none in
+      record { within = subst AreWithin (sym is_new) all; nodes = omega (arith, ap nodes_left is_new, compound_nodes f (pattern_trees ps)) }
+  | inr some ↦
+      let pushed : (g : Arguments) × (g.patterns.now ≡ ps) × (g.of ≡ r) × (g.next ≡ 0) × (g.count ≡ length ps) × (new ≡ old ++ g ∷ []) = pushes.some some in
+      let g : Arguments = pushed.0 in
+      let patterns : g.patterns.now ≡ ps = pushed.1 in
+      let next : g.next ≡ 0 = pushed.3 in
+      let count : g.count ≡ length ps = pushed.4 in
+      let is_new : new ≡ old ++ g ∷ [] = pushed.5 in
+      let own : IsWithin g = record { count = count ∙ ap length (sym patterns); within = omega arith } in
+      let size : own_nodes g ≡ nodes_of_all (pattern_trees ps) = ap (λ qs. nodes_of_all (pattern_trees (drop g.next qs))) patterns ∙ ap (λ k. nodes_of_all (pattern_trees (drop k ps))) next in
+      record {
+        within = subst AreWithin (sym is_new) (within_more old g all own);
+        nodes = omega (arith, ap nodes_left is_new, nodes_left-more old g, size, compound_nodes f (pattern_trees ps));
+      }
+]
+
+pub leaves_fewer : (p : PatternTree) (old middle new : List Arguments) (next : Option Pending) → Shrinks p old middle → LeavesNodes (nodes_left middle) new next → LeavesFewer (nodes p + nodes_left old) new next
+leaves_fewer p old middle new None shrinks leaves = tt
+leaves_fewer p old middle new (Some q) shrinks leaves =
+    let fewer : nodes_left middle < nodes p + nodes_left old = shrinks.nodes in
+    let same : nodes (pattern_tree q.pattern.now) + nodes_left new ≡ nodes_left middle = leaves.nodes in
+    record { within = leaves.within; nodes = omega arith }
+
+pub named_fewer : (k : ℕ) (p : PatternTree) (old : List Arguments) (next : Pending) → AreWithin old → pattern_tree next.pattern.now ≡ p → HasFewer (nodes (named k p) + nodes_left old) old next
+unfolding nodes
+named_fewer k p old next all is = record { within = all; nodes = omega (arith, ap nodes is) }
+
 -- ---- what is to be matched next
 
 pub goes_behind : {M : Type 0} (v : StoreView M) (p : PatternTree) (t : Tree) (old middle new : List Arguments) (next : Pending) → Behind v p t old middle → TakesNext v middle new next → GoesBehind v p t old new next
-goes_behind v p t old middle new next behind taken =
-    let fewer : nodes_left middle < nodes p + nodes_left old = behind.nodes in
-    let same : nodes (pattern_tree next.pattern.now) + nodes_left new ≡ nodes_left middle = taken.nodes in
-    record {
-      given = taken.given;
-      left = taken.left;
-      match_is = λ e after h. behind.match_is e after h ∙ taken.match_is after;
-      nodes = omega arith;
-    }
+goes_behind v p t old middle new next behind taken = record {
+  given = taken.given;
+  left = taken.left;
+  match_is = λ e after h. behind.match_is e after h ∙ taken.match_is after;
+}
 
 pub comes_behind : {M : Type 0} (v : StoreView M) (p : PatternTree) (t : Tree) (old middle new : List Arguments) (next : Option Pending) → Behind v p t old middle → TakesPending v middle new next → ComesBehind v p t old new next
 unfolding match_with
@@ -406,12 +471,11 @@ comes_behind v p t old middle new (Some next) behind taken = goes_behind v p t o
 
 -- a named pattern goes on with what it names
 pub named_behind : {M : Type 0} (v : StoreView M) (k : ℕ) (p : PatternTree) (r : Ref) (old : List Arguments) (next : Pending) → IsGiven v r → AreLeft v old → next.term ≡ r → pattern_tree next.pattern.now ≡ p → GoesBehind v (named k p) (term_of v r) old old next
-unfolding matched_in nodes
+unfolding matched_in
 named_behind v k p r old next given all term is = record {
   given = subst (IsGiven v) (sym term) given;
   left = all;
   match_is = λ e after h.
       ap (match_with v old) (ap (option_and_then (matched_in (bindings v.now.state) p (term_of v r))) h
       ∙ (ap (λ q. matched_in (bindings v.now.state) q (term_of v r) after) (sym is) ∙ ap (λ q. matched_in (bindings v.now.state) (pattern_tree next.pattern.now) (term_of v q) after) (sym term)));
-  nodes = omega (arith, ap nodes is);
 }

@@ -1,23 +1,17 @@
 -- A node that is put by its kind, and the whole term.
-use Rattle.std.proofs.Common.{◌≡◌, ◌⊎◌, ℕ, ℤ, zero, suc, ◌+◌, ◌-◌, ◌<◌, ◌≤◌, Bool, true, false, ◌||◌, cond, List, [], ◌∷◌, ◌++◌, length, get_or, take, drop, reverse, Option, Some, None, Result, Ok, Err, inl, inr, refl, ap, sym, ◌∙◌, subst, arith, drop-cons, add-one, length-append, length-drop, append_assoc, eqb-true, eq-eqb}
-use Rattle.std.specs.Prelude.{Contains, IsSomeAnd, OnErr, slice_get, nat_eq}
-use Rattle.std.specs.List.{list_any}
-use Rattle.std.proofs.lemmas.Bool.{cases_Bool}
-use Rattle.std.proofs.lemmas.List.{reverse-append, reverse-reverse, length-reverse, append-nil}
-use Rattle.pi_types.specs.Tree.{Tree, var, int, atom, comp, Trees, no_trees, tree, tree_count, args, arity, drop_trees, cells, cells_all, subterms, subterms_all, ShowsHead}
-use Rattle.pi_types.specs.TermCells.{take_trees, append_trees, take_trees-append, drop_trees-append}
-use Rattle.pi_types.specs.Variables.{occurrences, occurrences_all, firsts, variables}
-use Rattle.pi_types.specs.Substitution.{instance, instances}
+use Rattle.std.proofs.Common.{◌≡◌, ℕ, ℤ, zero, suc, ◌+◌, ◌≤◌, List, [], ◌∷◌, length, reverse, Result, Ok, Err, ap, sym, ◌∙◌, subst, arith, length-append}
+use Rattle.std.specs.Prelude.{OnErr}
+use Rattle.pi_types.specs.Tree.{Tree, var, int, atom, comp, Trees, tree_count, args, arity, drop_trees, ShowsHead}
+use Rattle.pi_types.specs.TermCells.{take_trees}
+use Rattle.pi_types.specs.Variables.{variables}
 use Rattle.pi_types.specs.Copy.{place_in, renamed, copy, new_variables}
 use Rattle.pi_types.specs.State.{State, free, next, with_new}
-use Rattle.pi_types.specs.Store.{StoreView, IsTerm, AreTerms, Keeps, Changes, Gives, Stays}
+use Rattle.pi_types.specs.Store.{StoreView, IsTerm, Keeps, Changes, Gives, Stays}
 use Rattle.pi_types.specs.declared.store.Ref.{Ref}
 use Rattle.pi_types.specs.declared.term.TermHead.{TermHead}
-use Rattle.pi_types.proofs.TermLemmas.{subterm_for_each_cell}
-use Rattle.pi_types.proofs.RootLemmas.{tree_count-instances}
-use Rattle.pi_types.proofs.VariableLemmas.{Has, Has-firsts, Has-from_firsts, Has-append_right, occurs_from_Has, variables_are_those_that_occur, only_its_variables_count}
-use Rattle.pi_unify.specs.Copying.{with_variables, Makes, MakesSome, renumbered, AreBuilt, with_built, IsReady, PutsNode, forest, Nested, root_variables}
-use Rattle.pi_unify.proofs.KeepsLemmas.{terms_kept, stays_then, keeps_none}
+use Rattle.pi_types.proofs.VariableLemmas.{only_its_variables_count}
+use Rattle.pi_unify.specs.Copying.{with_variables, Makes, renumbered, AreBuilt, PutsNode}
+use Rattle.pi_unify.proofs.KeepsLemmas.{terms_kept, stays_then}
 
 -- ---- a node by its kind
 

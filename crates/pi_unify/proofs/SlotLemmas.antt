@@ -1,21 +1,19 @@
 -- Slots of a store's terms, and the root of a pattern.
-use Rattle.std.proofs.Common.{◌≡◌, ◌≢◌, ℕ, ℤ, zero, suc, ◌<◌, ◌≤◌, Bool, true, false, cond, List, [], ◌∷◌, length, set, get_or, map, nat_lt, Option, Some, None, inl, inr, refl, ap, sym, ◌∙◌, subst, arith, length-set}
+use Rattle.std.proofs.Common.{◌≡◌, ℕ, ℤ, zero, suc, ◌<◌, Bool, true, false, cond, List, [], ◌∷◌, length, set, get_or, nat_lt, Option, Some, None, inl, inr, refl, ap, sym, ◌∙◌, subst, arith, length-set}
 use Rattle.std.specs.Prelude.{slice_get}
-use Rattle.std.specs.Option.{is_some}
 use Rattle.std.specs.Ordering.{is_eq, int_eq}
 use Rattle.std.specs.declared.cmp.Ordering.{Ordering}
-use Rattle.std.proofs.lemmas.Bool.{cases_Bool, ltb-true, ltb-false}
-use Rattle.pi_types.specs.Tree.{Tree, var, int, atom, comp, args}
+use Rattle.std.proofs.lemmas.Bool.{cases_Bool, ltb-false}
+use Rattle.pi_types.specs.Tree.{Tree, int, atom}
 use Rattle.pi_types.specs.Places.{Places, held}
 use Rattle.pi_types.specs.Order.{order, name_order, identical}
 use Rattle.pi_types.specs.Value.{Bindings, value}
-use Rattle.pi_types.specs.State.{bindings, followed}
+use Rattle.pi_types.specs.State.{bindings}
 use Rattle.pi_types.specs.Store.{StoreView, IsTerm, IsName, ShowsCell}
 use Rattle.pi_types.specs.HeadMatch.{taken_in, filled_in}
 use Rattle.pi_types.specs.declared.store.Ref.{Ref}
 use Rattle.pi_types.specs.declared.store.Cell.{Cell}
 use Rattle.pi_types.proofs.MatchLemmas.{same_from_identical, identical_from_same}
-use Rattle.pi_types.proofs.MatchLemmas.{differs}
 use Rattle.pi_unify.specs.Terms.{IsGiven, term_of}
 use Rattle.pi_unify.specs.Matching.{slot_term, slot_terms, HoldsGiven, HoldAllGiven, FillsEmpty, TellsMatch, is_int_in}
 use Rattle.pi_unify.proofs.TermValues.{given_term}
@@ -42,7 +40,7 @@ given_at v [] k r all e = cc
 given_at v (o ∷ slots) zero r all e = subst (HoldsGiven v) e all.0
 given_at v (o ∷ slots) (suc k) r all e = given_at v slots k r all.1 e
 
-given_set : {M : Type 0} (v : StoreView M) (slots : List (Option Ref)) (k : ℕ) (r : Ref) → HoldAllGiven v slots → IsGiven v r → HoldAllGiven v (set slots k (Some r))
+pub given_set : {M : Type 0} (v : StoreView M) (slots : List (Option Ref)) (k : ℕ) (r : Ref) → HoldAllGiven v slots → IsGiven v r → HoldAllGiven v (set slots k (Some r))
 unfolding HoldAllGiven
 given_set v [] k r all given = tt
 given_set v (o ∷ slots) zero r all given = (given, all.1)
@@ -57,16 +55,14 @@ kept_set (o ∷ slots) (suc k) r empty (suc j) q h = kept_set slots k r empty j 
 
 -- ---- filling
 
-pub fills_none : {M : Type 0} (v : StoreView M) (slots : List (Option Ref)) → HoldAllGiven v slots → FillsEmpty v slots slots
-fills_none v slots all = record { as_many = refl; keeps = λ k r h. h; given = all }
+pub fills_none : (slots : List (Option Ref)) → FillsEmpty slots slots
+fills_none slots = record { as_many = refl; keeps = λ k r h. h }
 
-pub fills_then : {M : Type 0} (v : StoreView M) (old middle new : List (Option Ref)) → FillsEmpty v old middle → FillsEmpty v middle new → FillsEmpty v old new
-fills_then v old middle new a b = record { as_many = b.as_many ∙ a.as_many; keeps = λ k r h. b.keeps k r (a.keeps k r h); given = b.given }
+pub fills_then : (old middle new : List (Option Ref)) → FillsEmpty old middle → FillsEmpty middle new → FillsEmpty old new
+fills_then old middle new a b = record { as_many = b.as_many ∙ a.as_many; keeps = λ k r h. b.keeps k r (a.keeps k r h) }
 
-pub fills_one : {M : Type 0} (v : StoreView M) (old new : List (Option Ref)) (k : ℕ) (r : Ref) → new ≡ set old k (Some r) → get_or old k None ≡ None → HoldAllGiven v old → IsGiven v r → FillsEmpty v old new
-fills_one v old new k r e empty all given =
-    let P : List (Option Ref) → Type 0 = λ slots. FillsEmpty v old slots in
-    subst P (sym e) (record { as_many = length-set old k (Some r); keeps = kept_set old k r empty; given = given_set v old k r all given })
+pub fills_one : (old new : List (Option Ref)) (k : ℕ) (r : Ref) → new ≡ set old k (Some r) → get_or old k None ≡ None → FillsEmpty old new
+fills_one old new k r e empty = subst (FillsEmpty old) (sym e) (record { as_many = length-set old k (Some r); keeps = kept_set old k r empty })
 
 tells_cond : (c : Bool) (e : Places) → TellsMatch c (cond c (Some e) None) e
 tells_cond true e = refl

@@ -1,7 +1,7 @@
 -- What a store shows of a term is what its value is at the root; an argument's value is the value's argument.
-use Rattle.std.proofs.Common.{◌≡◌, ℕ, ℤ, zero, suc, ◌<◌, true, List, [], Option, Some, None, refl, ap, sym, ◌∙◌, arith}
+use Rattle.std.proofs.Common.{◌≡◌, ℕ, suc, ◌<◌, true, List, [], Option, Some, None, refl, ap, sym, ◌∙◌, arith}
 use Rattle.std.specs.Option.{is_some, unwrap_or}
-use Rattle.pi_types.specs.Tree.{Tree, var, int, atom, comp, Trees, no_trees, tree, tree_count, tree_at, args, arity, arg_at, drop_trees}
+use Rattle.pi_types.specs.Tree.{Tree, var, int, atom, comp, Trees, tree, tree_count, tree_at, args, arity, arg_at, drop_trees}
 use Rattle.pi_types.specs.Value.{Bindings, IsAcyclic, value}
 use Rattle.pi_types.specs.State.{bindings, followed}
 use Rattle.pi_types.specs.Store.{StoreView, IsTerm, IsName, ShowsCell}

@@ -1,9 +1,9 @@
 -- What is left to compare of two terms, as the loop of `compare` keeps it.
-use Rattle.std.specs.Prelude.{◌≡◌, ℕ, suc, ◌+◌, ◌<◌, nat_lt, cond, List, [], ◌∷◌, ◌++◌, Option, Some, None}
+use Rattle.std.specs.Prelude.{◌≡◌, ℕ, ◌<◌, nat_lt, cond, List, [], ◌∷◌, ◌++◌, Option, Some, None}
 use Rattle.std.specs.Ordering.{ordering_then}
 use Rattle.std.specs.declared.cmp.Ordering.{Ordering}
 use Rattle.std.specs.declared.cmp.Ordering.TheVariants.{Equal}
-use Rattle.pi_types.specs.Tree.{Tree, cells, cells_all, args, arity, drop_trees}
+use Rattle.pi_types.specs.Tree.{Tree, args, arity, drop_trees}
 use Rattle.pi_types.specs.Order.{order, order_all}
 use Rattle.pi_types.specs.Store.{StoreView, ShowsCell}
 use Rattle.pi_types.specs.declared.store.Cell.{Cell}
@@ -48,11 +48,6 @@ unfoldable pub order_with : {M : Type 0} → StoreView M → List Rest → Order
 order_with v [] o = o
 order_with v (f ∷ fs) o = ordering_then (order_with v fs o) (rest_order v f)
 
--- the cells on the left that are left
-unfoldable pub cells_left : {M : Type 0} → StoreView M → List Rest → ℕ
-cells_left v [] = 0
-cells_left v (f ∷ fs) = cells_all (drop_trees f.next (args (value_of v f.of.left))) + cells_left v fs
-
 -- the rests when all arguments of a pair are left too
 abbrev pub with_arguments : List Rest → Pair → ℕ → List Rest
 with_arguments fs p count = cond (nat_lt 0 count) (fs ++ record { of = p; next = 0; count = count } ∷ []) fs
@@ -62,7 +57,6 @@ pub record Takes {M : Type 0} (v : StoreView M) (old new : List Rest) (p : Pair)
   pub pair : IsPair v p
   pub rests : AreRests v new
   pub order : order_with v old Equal ≡ order_with v new (pair_order v p)
-  pub cells : cells (value_of v p.left) + cells_left v new ≡ cells_left v old
 
 abbrev pub TakesPair : {M : Type 0} → StoreView M → List Rest → List Rest → Option Pair → Type 0
 TakesPair v old new None = old ≡ []

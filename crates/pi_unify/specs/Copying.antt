@@ -2,7 +2,7 @@
 use Rattle.std.specs.Prelude.{◌≡◌, ℕ, zero, suc, ◌+◌, ◌-◌, ◌<◌, ◌≤◌, nat_lt, List, [], ◌∷◌, ◌++◌, length, map, reverse, cond, Contains, Option, Some, None, Result, Ok, Err}
 use Rattle.pi_types.specs.Tree.{Tree, var, int, atom, comp, Trees, no_trees, tree, tree_count, args, arity, drop_trees, cells, subterms, subterms_all}
 use Rattle.pi_types.specs.TermCells.{take_trees}
-use Rattle.pi_types.specs.Variables.{variables}
+use Rattle.pi_types.specs.Variables.{firsts, variables}
 use Rattle.pi_types.specs.Copy.{place_in, renamed, copy, new_variables}
 use Rattle.pi_types.specs.Numbers.{noted}
 use Rattle.pi_types.specs.State.{State, with_new, next}
@@ -12,7 +12,7 @@ use Rattle.pi_types.specs.declared.store.Ref.{Ref}
 use Rattle.pi_types.specs.declared.store.Cell.{Cell}
 use Rattle.pi_types.specs.declared.store.ReadStop.{ReadStop}
 use Rattle.pi_types.specs.declared.term.TermHead.{TermHead}
-use Rattle.pi_unify.specs.Terms.{IsGiven, value_of}
+use Rattle.pi_unify.specs.Terms.{IsGiven, HoldsNoCycle, value_of}
 use Rattle.pi_unify.specs.declared.copying.Nodes.{Nodes}
 use Rattle.pi_unify.specs.declared.copying.Walk.{Walk}
 
@@ -133,8 +133,23 @@ root_variables (comp name ts ∷ us) = root_variables us
 
 -- all that the copy of a value needs was put
 pub record IsReadyFor (ns : List ℕ) (built : List Ref) (u : Tree) : Type 0 where
-  pub known : (n : ℕ) → u ≡ var n → Contains ns n
+  pub known : (n : ℕ) → u ≡ var n → noted ns n ≡ ns
   pub enough : arity u ≤ length built
+
+-- all terms in a value are listed, with the variables among them, in a state where as many new ones stand for these
+pub record AreListed {M : Type 0} (v : StoreView M) (ns : List ℕ) (refs : List Ref) : Type 0 where
+  pub acyclic : HoldsNoCycle v
+  pub given : AreGiven v refs
+  pub nested : Nested (values_of v refs)
+  pub known : ns ≡ firsts (root_variables (values_of v refs))
+  pub made : length ns ≤ next v.now.state
+
+-- a term that was given can be copied, where all that its copy needs was put
+pub record MayCopy {M : Type 0} (v : StoreView M) (ns : List ℕ) (built : List Ref) (node : Ref) : Type 0 where
+  pub acyclic : HoldsNoCycle v
+  pub given : IsGiven v node
+  pub ready : IsReadyFor ns built (value_of v node)
+  pub made : length ns ≤ next v.now.state
 
 -- a copy was put in place of its arguments
 pub record PutsCopy {M : Type 0} (w : StoreView M) (rename : ℕ → ℕ) (u : Tree) (new : List Ref) (made : Ref) (ts : Trees) : Type 0 where

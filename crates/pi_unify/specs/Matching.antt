@@ -1,7 +1,7 @@
 -- Slots of a store's terms, and what is left to match, as the loop of `match_head` keeps it.
-use Rattle.std.specs.Prelude.{◌≡◌, ℕ, ℤ, suc, ◌+◌, ◌<◌, ◌==◌, ◌&&◌, Bool, true, false, cond, List, [], ◌∷◌, ◌++◌, length, map, drop, nat_lt, Option, Some, None, slice_get, option_and_then}
+use Rattle.std.specs.Prelude.{◌≡◌, ℕ, ℤ, suc, ◌+◌, ◌<◌, ◌==◌, ◌&&◌, Bool, true, false, cond, List, [], ◌∷◌, ◌++◌, length, map, drop, Option, Some, None, slice_get, option_and_then}
 use Rattle.std.specs.Ordering.{is_eq, int_eq}
-use Rattle.pi_types.specs.Tree.{Tree, var, int, atom, comp, Trees, tree_count, args, arity, drop_trees}
+use Rattle.pi_types.specs.Tree.{Tree, var, int, atom, comp, tree_count, args, arity, drop_trees}
 use Rattle.pi_types.specs.Places.{Places}
 use Rattle.pi_types.specs.Order.{name_order, identical}
 use Rattle.pi_types.specs.PatternTree.{PatternTree, slot, exact_int, exact_atom, compound, named, PatternTrees, no_patterns, pattern}
@@ -34,11 +34,10 @@ unfoldable pub HoldAllGiven : {M : Type 0} → StoreView M → List (Option Ref)
 HoldAllGiven v [] = Unit {0}
 HoldAllGiven v (o ∷ slots) = HoldsGiven v o × HoldAllGiven v slots
 
--- only empty slots were filled, with Refs that were given
-pub record FillsEmpty {M : Type 0} (v : StoreView M) (old new : List (Option Ref)) : Type 0 where
+-- only empty slots were filled
+pub record FillsEmpty (old new : List (Option Ref)) : Type 0 where
   pub as_many : length new ≡ length old
   pub keeps : (k : ℕ) (r : Ref) → slice_get old k ≡ Some (Some r) → slice_get new k ≡ Some (Some r)
-  pub given : HoldAllGiven v new
 
 -- whether there is a match, and that these are the slots that it leaves
 abbrev pub TellsMatch : Bool → Option Places → Places → Type 0
@@ -85,12 +84,19 @@ pub record Pushes (old new : List Arguments) (ps : List Pattern) (of : Ref) : Ty
   pub none : length ps ≡ 0 → new ≡ old
   pub some : 0 < length ps → (f : Arguments) × (f.patterns.now ≡ ps) × (f.of ≡ of) × (f.next ≡ 0) × (f.count ≡ length ps) × (new ≡ old ++ f ∷ [])
 
--- the patterns that are left, for the arguments that are left
+-- patterns are left, so many of all
+pub record IsWithin (f : Arguments) : Type 0 where
+  pub count : f.count ≡ length f.patterns.now
+  pub within : f.next < f.count
+
+unfoldable pub AreWithin : List Arguments → Type 0
+AreWithin [] = Unit {0}
+AreWithin (f ∷ fs) = IsWithin f × AreWithin fs
+
+-- they are for the arguments of a term that was given and has as many
 pub record IsLeft {M : Type 0} (v : StoreView M) (f : Arguments) : Type 0 where
   pub given : IsGiven v f.of
   pub many : arity (followed (bindings v.now.state) (term_of v f.of)) ≡ length f.patterns.now
-  pub count : f.count ≡ length f.patterns.now
-  pub within : f.next < f.count
 
 unfoldable pub AreLeft : {M : Type 0} → StoreView M → List Arguments → Type 0
 AreLeft v [] = Unit {0}
@@ -126,12 +132,29 @@ nodes_left (f ∷ fs) = nodes_of_all (pattern_trees (drop f.next f.patterns.now)
 abbrev pub pending_match : {M : Type 0} → StoreView M → Pending → Places → Option Places
 pending_match v p e = matched_in (bindings v.now.state) (pattern_tree p.pattern.now) (term_of v p.term) e
 
+-- the nodes of the next pattern and of those behind it are so many
+pub record HasNodes (total : ℕ) (new : List Arguments) (p : Pending) : Type 0 where
+  pub within : AreWithin new
+  pub nodes : nodes (pattern_tree p.pattern.now) + nodes_left new ≡ total
+
+abbrev pub LeavesNodes : ℕ → List Arguments → Option Pending → Type 0
+LeavesNodes total new None = Unit {0}
+LeavesNodes total new (Some p) = HasNodes total new p
+
+-- or fewer
+pub record HasFewer (total : ℕ) (new : List Arguments) (p : Pending) : Type 0 where
+  pub within : AreWithin new
+  pub nodes : nodes (pattern_tree p.pattern.now) + nodes_left new < total
+
+abbrev pub LeavesFewer : ℕ → List Arguments → Option Pending → Type 0
+LeavesFewer total new None = Unit {0}
+LeavesFewer total new (Some p) = HasFewer total new p
+
 -- the next pair stands before what is left
 pub record TakesNext {M : Type 0} (v : StoreView M) (old new : List Arguments) (p : Pending) : Type 0 where
   pub given : IsGiven v p.term
   pub left : AreLeft v new
   pub match_is : (e : Places) → match_with v old (Some e) ≡ match_with v new (pending_match v p e)
-  pub nodes : nodes (pattern_tree p.pattern.now) + nodes_left new ≡ nodes_left old
 
 abbrev pub TakesPending : {M : Type 0} → StoreView M → List Arguments → List Arguments → Option Pending → Type 0
 TakesPending v old new None = old ≡ []
@@ -142,7 +165,6 @@ pub record GoesBehind {M : Type 0} (v : StoreView M) (p : PatternTree) (t : Tree
   pub given : IsGiven v next.term
   pub left : AreLeft v new
   pub match_is : (e after : Places) → root_match (bindings v.now.state) p t e ≡ Some after → match_with v old (matched_in (bindings v.now.state) p t e) ≡ match_with v new (pending_match v next after)
-  pub nodes : nodes (pattern_tree next.pattern.now) + nodes_left new < nodes p + nodes_left old
 
 -- or nothing is left at all
 abbrev pub EndsBehind : {M : Type 0} → StoreView M → PatternTree → Tree → List Arguments → Type 0

@@ -1,5 +1,5 @@
 //! Terms that are put into a store from their last node to their first.
-ghost use Rattle.std.specs.Prelude.{◌≡◌, ◌≤◌, IfOk, vec_len, length, reverse, drop};
+ghost use Rattle.std.specs.Prelude.{◌≡◌, ◌≤◌, IfOk, length, reverse, drop};
 ghost use Rattle.pi_types.specs.Tree.{Trees, comp, drop_trees};
 ghost use Rattle.pi_types.specs.TermCells.{take_trees};
 ghost use Rattle.pi_types.specs.Store.{IsTerm, Stays};
@@ -16,11 +16,10 @@ pub fn put_compound<S: StateStore>(
     count: usize,
     built: &mut Vec<Ref>,
 ) -> Result<Ref, AllocError>
-    requires { count ≤ vec_len built.old }
     ensures stays { Stays (S.seen s.old) (S.seen s.new) }
     ensures ok { IfOk result (λ made. (ts : Trees) → AreBuilt (S.seen s.old) built.old.items ts → IsTerm (S.seen s.new) made (comp name.now (take_trees count ts)) × AreBuilt (S.seen s.new) built.new.items (drop_trees count ts)) }
 {
-    let from = built.len() - count;
+    let from = built.len().saturating_sub(count);
     let args = from_behind(alloc, built, from)?;
     let made = s.put_comp(name, &args)?;
     built.truncate(from);

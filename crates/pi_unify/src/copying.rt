@@ -1,14 +1,13 @@
 //! Copies of terms of a store.
-ghost use Rattle.std.specs.Prelude.{◌≡◌, ◌≤◌, IfOk, length};
+ghost use Rattle.std.specs.Prelude.{◌≡◌, ◌<◌, IfOk, IfSome, length};
 ghost use Rattle.pi_types.specs.Tree.{Tree, Trees, args, arity, tree, no_trees};
 ghost use Rattle.pi_types.specs.TermCells.{take_trees};
-ghost use Rattle.pi_types.specs.Variables.{firsts};
 ghost use Rattle.pi_types.specs.Value.{value};
 ghost use Rattle.pi_types.specs.Copy.{renamed};
-ghost use Rattle.pi_types.specs.State.{bindings, next};
+ghost use Rattle.pi_types.specs.State.{bindings};
 ghost use Rattle.pi_types.specs.Store.{IsTerm, Stays};
 ghost use Rattle.pi_unify.specs.Terms.{IsGiven, HoldsNoCycle, value_of};
-ghost use Rattle.pi_unify.specs.Copying.{ShowsNodes, noted_cell, AreWalks, with_children, EntersNext, ShowsCopy, AreGiven, values_of, Nested, forest, root_variables, renumbered, IsReadyFor, PutsCopy, AreBuilt};
+ghost use Rattle.pi_unify.specs.Copying.{ShowsNodes, noted_cell, AreWalks, with_children, EntersNext, MakesSome, ShowsCopy, values_of, forest, renumbered, AreListed, MayCopy, PutsCopy, AreBuilt};
 
 use crate::building::put_compound;
 use crate::numbers::{make_variables, new_variable};
@@ -38,11 +37,10 @@ struct Walk {
 /// bindings are replaced throughout. Parts without variables are shared. `TooLarge` exactly where the copy would have
 /// more than 16,777,216 cells; then nothing is changed. After want of memory some of the new variables may be made.
 pub fn copy_term<S: StateStore>(alloc: Global, s: &mut S, r: Ref) -> Result<Ref, ReadStop>
-    requires acyclic { HoldsNoCycle (S.seen s.old) }
-    requires given { IsGiven (S.seen s.old) r }
-    ensures { (t : Tree) → IsTerm (S.seen s.old) r t → ShowsCopy (S.seen s.old) (S.seen s.new) (value (bindings (S.seen s.old).now.state) t) result }
+    ensures makes { MakesSome (S.seen s.old) (S.seen s.new) }
+    ensures copies { (t : Tree) → IsTerm (S.seen s.old) r t → HoldsNoCycle (S.seen s.old) → ShowsCopy (S.seen s.old) (S.seen s.new) (value (bindings (S.seen s.old).now.state) t) result }
 {
-    let nodes = match nodes_of(alloc, s, r) {
+    let mut nodes = match nodes_of(alloc, s, r) {
         Ok(Some(nodes)) => nodes,
         Ok(None) => return Err(ReadStop::TooLarge),
         Err(AllocError) => return Err(ReadStop::Memory),
@@ -51,7 +49,7 @@ pub fn copy_term<S: StateStore>(alloc: Global, s: &mut S, r: Ref) -> Result<Ref,
         Ok(()) => {}
         Err(AllocError) => return Err(ReadStop::Memory),
     }
-    match put_copies(alloc, s, &nodes.refs, &nodes.numbers) {
+    match put_copies(alloc, s, &nodes.refs, &mut nodes.numbers) {
         Ok(made) => Ok(made),
         Err(AllocError) => Err(ReadStop::Memory),
     }
@@ -59,9 +57,8 @@ pub fn copy_term<S: StateStore>(alloc: Global, s: &mut S, r: Ref) -> Result<Ref,
 
 /// The terms in a value; None exactly where it has more than 16,777,216 cells.
 fn nodes_of<S: StateStore>(alloc: Global, s: &S, r: Ref) -> Result<Option<Nodes>, AllocError>
-    requires acyclic { HoldsNoCycle (S.seen s.now) }
-    requires given { IsGiven (S.seen s.now) r }
-    ensures { IfOk result (ShowsNodes (S.seen s.now) (value_of (S.seen s.now) r)) }
+    ensures some { IfOk result (λ found. IfSome found (λ nodes. 0 < length nodes.refs.items)) }
+    ensures shows { IfOk result (λ found. IsGiven (S.seen s.now) r → HoldsNoCycle (S.seen s.now) → ShowsNodes (S.seen s.now) (value_of (S.seen s.now) r) found) }
 {
     let mut refs = Vec::new(alloc);
     let mut numbers = Numbers::new(alloc);
@@ -104,18 +101,14 @@ fn push_children(walks: &mut Vec<Walk>, of: Ref, count: u64) -> Result<(), Alloc
 
 /// Takes the next argument; a term's last one leaves nothing behind. None exactly where none is left.
 fn next_node<S: StateStore>(s: &S, walks: &mut Vec<Walk>) -> Result<Option<Ref>, AllocError>
-    requires acyclic { HoldsNoCycle (S.seen s.now) }
-    requires walks { AreWalks (S.seen s.now) walks.old.items }
-    ensures { IfOk result (EntersNext (S.seen s.now) walks.old.items walks.new.items) }
+    ensures { IfOk result (λ next. HoldsNoCycle (S.seen s.now) → AreWalks (S.seen s.now) walks.old.items → EntersNext (S.seen s.now) walks.old.items walks.new.items next) }
 {
     let Some(walk) = walks.pop() else {
         return Ok(None);
     };
-    if walk.next + 1 < walk.count {
-        walks.push(Walk {
-            next: walk.next + 1,
-            ..walk
-        })?;
+    let next = walk.next.saturating_add(1);
+    if next < walk.count {
+        walks.push(Walk { next, ..walk })?;
     }
     Ok(Some(s.arg(walk.of, walk.next)))
 }
@@ -125,16 +118,11 @@ fn put_copies<S: StateStore>(
     alloc: Global,
     s: &mut S,
     refs: &[Ref],
-    numbers: &Numbers,
+    numbers: &mut Numbers,
 ) -> Result<Ref, AllocError>
-    requires acyclic { HoldsNoCycle (S.seen s.old) }
-    requires given { AreGiven (S.seen s.old) refs.now }
-    requires nested { Nested (values_of (S.seen s.old) refs.now) }
-    requires known { numbers.now ≡ firsts (root_variables (values_of (S.seen s.old) refs.now)) }
-    requires made { length numbers.now ≤ next (S.seen s.old).now.state }
-    requires one { (u : Tree) × (forest (values_of (S.seen s.old) refs.now) ≡ tree u no_trees) }
+    requires some { 0 < length refs.now }
     ensures stays { Stays (S.seen s.old) (S.seen s.new) }
-    ensures ok { IfOk result (λ made. (u : Tree) → forest (values_of (S.seen s.old) refs.now) ≡ tree u no_trees → IsTerm (S.seen s.new) made (renamed (renumbered (S.seen s.old).now.state numbers.now) u)) }
+    ensures ok { IfOk result (λ made. (u : Tree) → AreListed (S.seen s.old) numbers.old refs.now → forest (values_of (S.seen s.old) refs.now) ≡ tree u no_trees → IsTerm (S.seen s.new) made (renamed (renumbered (S.seen s.old).now.state numbers.old) u)) }
 {
     let mut built = Vec::new(alloc);
     let mut i = refs.len();
@@ -152,18 +140,19 @@ fn put_copy<S: StateStore>(
     alloc: Global,
     s: &mut S,
     node: Ref,
-    numbers: &Numbers,
+    numbers: &mut Numbers,
     built: &mut Vec<Ref>,
 ) -> Result<Ref, AllocError>
-    requires acyclic { HoldsNoCycle (S.seen s.old) }
-    requires given { IsGiven (S.seen s.old) node }
-    requires ready { IsReadyFor numbers.now built.old.items (value_of (S.seen s.old) node) }
-    requires made { length numbers.now ≤ next (S.seen s.old).now.state }
     ensures stays { Stays (S.seen s.old) (S.seen s.new) }
-    ensures ok { IfOk result (λ made. (ts : Trees) → let u = value_of (S.seen s.old) node in let rename = renumbered (S.seen s.old).now.state numbers.now in AreBuilt (S.seen s.old) built.old.items ts → take_trees (arity u) ts ≡ args (renamed rename u) → PutsCopy (S.seen s.new) rename u built.new.items made ts) }
+    ensures known { IfOk result (λ _. MayCopy (S.seen s.old) numbers.old built.old.items node → numbers.new ≡ numbers.old) }
+    ensures ok { IfOk result (λ made. (ts : Trees) → MayCopy (S.seen s.old) numbers.old built.old.items node → let u = value_of (S.seen s.old) node in let rename = renumbered (S.seen s.old).now.state numbers.old in AreBuilt (S.seen s.old) built.old.items ts → take_trees (arity u) ts ≡ args (renamed rename u) → PutsCopy (S.seen s.new) rename u built.new.items made ts) }
 {
     match s.look(node) {
-        Cell::Var(n) => Ok(new_variable(s, numbers, n)),
+        Cell::Var(n) => {
+            // It was met when the terms were listed, so this adds no number.
+            numbers.meet(n)?;
+            Ok(new_variable(s, numbers, n))
+        }
         Cell::Int(n) => Ok(s.put_int(n)?),
         Cell::Atom(k) => {
             let name = Text::new(alloc, s.name(k))?;
@@ -171,7 +160,7 @@ fn put_copy<S: StateStore>(
         }
         Cell::Comp(k, count) => {
             if s.is_ground(node) {
-                built.truncate(built.len() - count as usize);
+                built.truncate(built.len().saturating_sub(count as usize));
                 return Ok(node);
             }
             let name = Text::new(alloc, s.name(k))?;

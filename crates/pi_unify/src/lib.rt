@@ -10,15 +10,13 @@ mod order;
 mod pairs;
 mod placing;
 mod roots;
-mod slots;
 #[cfg(test)]
 mod tests;
 mod unifier;
 mod variables;
 
 pub use copying::copy_term;
-pub use matching::match_head;
+pub use matching::{Slots, match_head};
 pub use order::compare;
 pub use placing::place;
-pub use slots::Slots;
 pub use unifier::unify;

@@ -1,21 +1,23 @@
 //! One-way matching of a pattern and a term.
 ghost use Rattle.std.specs.Prelude.{◌≡◌, ◌<◌, ◌≤◌, ◌+◌, MatchOption, ℕ, List, IfOk, length, slice_index_or};
-ghost use Rattle.std.specs.Ordering.{is_eq, int_eq};
-ghost use Rattle.pi_types.specs.Tree.{Tree, int, atom, arity};
+ghost use Rattle.std.specs.Ordering.{is_eq};
+ghost use Rattle.pi_types.specs.Tree.{Tree, atom};
 ghost use Rattle.pi_types.specs.Order.{identical, name_order};
 ghost use Rattle.pi_types.specs.Value.{value};
-ghost use Rattle.pi_types.specs.State.{bindings, followed};
+ghost use Rattle.pi_types.specs.State.{bindings};
 ghost use Rattle.pi_types.specs.Store.{IsTerm, IsName, ShowsCell};
 ghost use Rattle.pi_types.specs.Match.{matched};
 ghost use Rattle.pi_types.specs.HeadMatch.{matched_in, filled_in, slot_values};
 ghost use Rattle.pi_types.specs.CoreTree.{pattern_tree};
 ghost use Rattle.pi_unify.specs.Terms.{IsGiven, HoldsNoCycle, term_of};
-ghost use Rattle.pi_unify.specs.Matching.{slot_terms, HoldAllGiven, FillsEmpty, TellsMatch, root_match, is_compound_of, AreLeft, TakesPending, ComesBehind, Pushes, FitsRoot, is_int_in};
+ghost use Rattle.pi_unify.specs.Matching.{slot_terms, HoldAllGiven, FillsEmpty, TellsMatch, root_match, is_compound_of, AreWithin, AreLeft, nodes, nodes_left, LeavesNodes, LeavesFewer, TakesPending, ComesBehind, Pushes, FitsRoot, is_int_in};
 
 use crate::order::compare;
-use crate::slots::Slots;
 use pi_types::{Cell, Pattern, Ref, StateStore};
 use std::alloc::{AllocError, Global};
+
+/// The slots of a clause by their numbers: what each holds, or nothing.
+pub type Slots = Vec<Option<Ref>>;
 
 /// A pattern, and the term that it is to match.
 #[derive(Clone, Copy)]
@@ -43,12 +45,10 @@ pub fn match_head<S: StateStore>(
     r: Ref,
     slots: &mut Slots,
 ) -> Result<bool, AllocError>
-    requires acyclic { HoldsNoCycle (S.seen s.now) }
-    requires term { IsGiven (S.seen s.now) r }
-    requires slots { HoldAllGiven (S.seen s.now) slots.old }
-    ensures fills { FillsEmpty (S.seen s.now) slots.old slots.new }
-    ensures terms { IfOk result (λ found. (t : Tree) → IsTerm (S.seen s.now) r t → TellsMatch found (matched_in (bindings (S.seen s.now).now.state) (pattern_tree p.now) t (slot_terms (S.seen s.now) slots.old)) (slot_terms (S.seen s.now) slots.new)) }
-    ensures values { IfOk result (λ found. (t : Tree) → IsTerm (S.seen s.now) r t → let b = bindings (S.seen s.now).now.state in TellsMatch found (matched (pattern_tree p.now) (value b t) (slot_values b (slot_terms (S.seen s.now) slots.old))) (slot_values b (slot_terms (S.seen s.now) slots.new))) }
+    ensures fills { FillsEmpty slots.old.items slots.new.items }
+    ensures given { IsGiven (S.seen s.now) r → HoldsNoCycle (S.seen s.now) → HoldAllGiven (S.seen s.now) slots.old.items → HoldAllGiven (S.seen s.now) slots.new.items }
+    ensures terms { IfOk result (λ found. (t : Tree) → IsTerm (S.seen s.now) r t → HoldsNoCycle (S.seen s.now) → HoldAllGiven (S.seen s.now) slots.old.items → TellsMatch found (matched_in (bindings (S.seen s.now).now.state) (pattern_tree p.now) t (slot_terms (S.seen s.now) slots.old.items)) (slot_terms (S.seen s.now) slots.new.items)) }
+    ensures values { IfOk result (λ found. (t : Tree) → IsTerm (S.seen s.now) r t → HoldsNoCycle (S.seen s.now) → HoldAllGiven (S.seen s.now) slots.old.items → let b = bindings (S.seen s.now).now.state in TellsMatch found (matched (pattern_tree p.now) (value b t) (slot_values b (slot_terms (S.seen s.now) slots.old.items))) (slot_values b (slot_terms (S.seen s.now) slots.new.items))) }
 {
     let mut left = Vec::new(alloc);
     let mut at = Pending {
@@ -74,11 +74,9 @@ fn matches_at_root<S: StateStore>(
     term: Ref,
     slots: &mut Slots,
 ) -> Result<bool, AllocError>
-    requires acyclic { HoldsNoCycle (S.seen s.now) }
-    requires term { IsGiven (S.seen s.now) term }
-    requires slots { HoldAllGiven (S.seen s.now) slots.old }
-    ensures fills { FillsEmpty (S.seen s.now) slots.old slots.new }
-    ensures found { IfOk result (λ found. TellsMatch found (root_match (bindings (S.seen s.now).now.state) (pattern_tree pattern.now) (term_of (S.seen s.now) term) (slot_terms (S.seen s.now) slots.old)) (slot_terms (S.seen s.now) slots.new)) }
+    ensures fills { FillsEmpty slots.old.items slots.new.items }
+    ensures given { IsGiven (S.seen s.now) term → HoldAllGiven (S.seen s.now) slots.old.items → HoldAllGiven (S.seen s.now) slots.new.items }
+    ensures found { IfOk result (λ found. IsGiven (S.seen s.now) term → HoldsNoCycle (S.seen s.now) → HoldAllGiven (S.seen s.now) slots.old.items → TellsMatch found (root_match (bindings (S.seen s.now).now.state) (pattern_tree pattern.now) (term_of (S.seen s.now) term) (slot_terms (S.seen s.now) slots.old.items)) (slot_terms (S.seen s.now) slots.new.items)) }
 {
     match pattern {
         Pattern::Slot(k) => fill(alloc, s, slots, *k, term),
@@ -139,20 +137,18 @@ fn fill<S: StateStore>(
     k: u32,
     term: Ref,
 ) -> Result<bool, AllocError>
-    requires acyclic { HoldsNoCycle (S.seen s.now) }
-    requires term { IsGiven (S.seen s.now) term }
-    requires slots { HoldAllGiven (S.seen s.now) slots.old }
-    ensures fills { FillsEmpty (S.seen s.now) slots.old slots.new }
-    ensures found { IfOk result (λ found. TellsMatch found (filled_in (bindings (S.seen s.now).now.state) k (term_of (S.seen s.now) term) (slot_terms (S.seen s.now) slots.old)) (slot_terms (S.seen s.now) slots.new)) }
+    ensures fills { FillsEmpty slots.old.items slots.new.items }
+    ensures given { IsGiven (S.seen s.now) term → HoldAllGiven (S.seen s.now) slots.old.items → HoldAllGiven (S.seen s.now) slots.new.items }
+    ensures found { IfOk result (λ found. IsGiven (S.seen s.now) term → HoldsNoCycle (S.seen s.now) → HoldAllGiven (S.seen s.now) slots.old.items → TellsMatch found (filled_in (bindings (S.seen s.now).now.state) k (term_of (S.seen s.now) term) (slot_terms (S.seen s.now) slots.old.items)) (slot_terms (S.seen s.now) slots.new.items)) }
 {
     let k = k as usize;
     if k >= slots.len() {
         return Ok(false);
     }
-    match slots.get(k) {
+    match slots[k] {
         Some(held) => Ok(compare(alloc, s, held, term)?.is_eq()),
         None => {
-            slots.set(k, term);
+            slots[k] = Some(term);
             Ok(true)
         }
     }
@@ -165,11 +161,9 @@ fn after_root<'p, S: StateStore>(
     term: Ref,
     left: &mut Vec<Arguments<'p>>,
 ) -> Result<Option<Pending<'p>>, AllocError>
-    requires acyclic { HoldsNoCycle (S.seen s.now) }
-    requires term { IsGiven (S.seen s.now) term }
-    requires left { AreLeft (S.seen s.now) left.old.items }
-    requires fits { FitsRoot (bindings (S.seen s.now).now.state) (pattern_tree pattern.now) (term_of (S.seen s.now) term) }
-    ensures { IfOk result (ComesBehind (S.seen s.now) (pattern_tree pattern.now) (term_of (S.seen s.now) term) left.old.items left.new.items) }
+    requires within { AreWithin left.old.items }
+    ensures fewer { IfOk result (LeavesFewer (nodes (pattern_tree pattern.now) + nodes_left left.old.items) left.new.items) }
+    ensures comes { IfOk result (λ next. IsGiven (S.seen s.now) term → HoldsNoCycle (S.seen s.now) → AreLeft (S.seen s.now) left.old.items → FitsRoot (bindings (S.seen s.now).now.state) (pattern_tree pattern.now) (term_of (S.seen s.now) term) → ComesBehind (S.seen s.now) (pattern_tree pattern.now) (term_of (S.seen s.now) term) left.old.items left.new.items next) }
 {
     match pattern {
         Pattern::Named(_, inner) => Ok(Some(Pending {
@@ -208,9 +202,9 @@ fn next_argument<'p, S: StateStore>(
     s: &S,
     left: &mut Vec<Arguments<'p>>,
 ) -> Result<Option<Pending<'p>>, AllocError>
-    requires acyclic { HoldsNoCycle (S.seen s.now) }
-    requires left { AreLeft (S.seen s.now) left.old.items }
-    ensures { IfOk result (TakesPending (S.seen s.now) left.old.items left.new.items) }
+    requires within { AreWithin left.old.items }
+    ensures nodes { IfOk result (LeavesNodes (nodes_left left.old.items) left.new.items) }
+    ensures takes { IfOk result (λ next. HoldsNoCycle (S.seen s.now) → AreLeft (S.seen s.now) left.old.items → TakesPending (S.seen s.now) left.old.items left.new.items next) }
 {
     let Some(first) = left.pop() else {
         return Ok(None);

@@ -5,7 +5,7 @@ ghost use Rattle.pi_types.specs.Order.{order, name_order};
 ghost use Rattle.pi_types.specs.Value.{value};
 ghost use Rattle.pi_types.specs.State.{bindings};
 ghost use Rattle.pi_types.specs.Store.{IsTerm, IsName};
-ghost use Rattle.pi_unify.specs.Terms.{IsGiven, HoldsNoCycle};
+ghost use Rattle.pi_unify.specs.Terms.{HoldsNoCycle};
 ghost use Rattle.pi_unify.specs.Comparison.{cell_arity, AreRests, Begins, TakesPair, with_arguments};
 
 use pi_types::{Cell, Ref, StateStore};
@@ -31,14 +31,11 @@ struct Rest {
 /// How the values of two terms stand in the standard order. Its stack lies on the heap, and the last argument of a
 /// compound leaves nothing on it.
 pub fn compare<S: StateStore>(alloc: Global, s: &S, a: Ref, b: Ref) -> Result<Ordering, AllocError>
-    requires acyclic { HoldsNoCycle (S.seen s.now) }
-    requires left { IsGiven (S.seen s.now) a }
-    requires right { IsGiven (S.seen s.now) b }
-    ensures { IfOk result (λ found. (t u : Tree) → IsTerm (S.seen s.now) a t → IsTerm (S.seen s.now) b u → found ≡ order (value (bindings (S.seen s.now).now.state) t) (value (bindings (S.seen s.now).now.state) u)) }
+    ensures { IfOk result (λ found. (t u : Tree) → IsTerm (S.seen s.now) a t → IsTerm (S.seen s.now) b u → HoldsNoCycle (S.seen s.now) → found ≡ order (value (bindings (S.seen s.now).now.state) t) (value (bindings (S.seen s.now).now.state) u)) }
 {
     let mut rests = Vec::new(alloc);
     let mut pair = Pair { left: a, right: b };
-    loop {
+    for _ in 0..u64::MAX {
         let cell = s.look(pair.left);
         let order = order_at_root(s, cell, s.look(pair.right));
         if order.is_ne() {
@@ -50,6 +47,7 @@ pub fn compare<S: StateStore>(alloc: Global, s: &S, a: Ref, b: Ref) -> Result<Or
             None => return Ok(Ordering::Equal),
         }
     }
+    Err(AllocError)
 }
 
 /// How two terms compare at their roots: by kind, then by what they are there. Compounds of one name and one number of
@@ -112,18 +110,14 @@ fn push_arguments(rests: &mut Vec<Rest>, of: Pair, count: u64) -> Result<(), All
 
 /// Takes the next two arguments; None exactly where none are left.
 fn next_pair<S: StateStore>(s: &S, rests: &mut Vec<Rest>) -> Result<Option<Pair>, AllocError>
-    requires acyclic { HoldsNoCycle (S.seen s.now) }
-    requires rests { AreRests (S.seen s.now) rests.old.items }
-    ensures { IfOk result (TakesPair (S.seen s.now) rests.old.items rests.new.items) }
+    ensures { IfOk result (λ next. HoldsNoCycle (S.seen s.now) → AreRests (S.seen s.now) rests.old.items → TakesPair (S.seen s.now) rests.old.items rests.new.items next) }
 {
     let Some(rest) = rests.pop() else {
         return Ok(None);
     };
-    if rest.next + 1 < rest.count {
-        rests.push(Rest {
-            next: rest.next + 1,
-            ..rest
-        })?;
+    let next = rest.next.saturating_add(1);
+    if next < rest.count {
+        rests.push(Rest { next, ..rest })?;
     }
     Ok(Some(Pair {
         left: s.arg(rest.of.left, rest.next),

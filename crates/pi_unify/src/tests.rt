@@ -1,14 +1,13 @@
 //! Terms of tables as their nodes in prefix order, and stores that hold them. The expected answers were worked out by hand.
-ghost use Rattle.std.specs.Prelude.{◌≡◌, IfOk};
-ghost use Rattle.pi_types.specs.State.{IsState, empty_state};
-ghost use Rattle.pi_unify.specs.Terms.{IsGiven, HoldsNoCycle};
-ghost use Rattle.pi_unify.specs.Refs.{IsRef};
-
+mod copies;
+mod lists;
+mod matches;
 mod order;
+mod unification;
 
-use crate::{place, unify};
-use pi_dom::{of_list, size};
-use pi_types::{Cell, Ref, StateStore, Term, TermHead};
+use crate::{copy_term, place, unify};
+use pi_dom::of_list;
+use pi_types::{Ref, StateStore, Term, TermHead};
 use std::alloc::Global;
 use std::test::Fail;
 
@@ -22,6 +21,8 @@ const Y: TermHead<'static> = TermHead::Var(1);
 const Z: TermHead<'static> = TermHead::Var(2);
 
 const ONE: TermHead<'static> = TermHead::Int(1);
+
+const TWO: TermHead<'static> = TermHead::Int(2);
 
 const A: TermHead<'static> = TermHead::Atom("a");
 
@@ -82,64 +83,18 @@ fn row_of(alloc: Global, terms: &[Nodes]) -> Result<Term, Fail> {
     Ok(Term::comp(alloc, "row", &all)?)
 }
 
-/// Puts a row into an empty store.
-fn placed<S: StateStore>(alloc: Global, s: &mut S, row: &Term) -> Result<Ref, Fail>
-    requires empty { (S.seen s.old).now.state ≡ empty_state }
-    ensures state { IfOk result (λ _. IsState (S.seen s.new).now.state) }
-    ensures given { IfOk result (λ made. IsGiven (S.seen s.new) made) }
-{
-    let made = place(alloc, s, row)?;
-    Ok(made)
-}
-
 /// Puts terms into an empty store whose three variables can have these values.
 fn ready<S: StateStore>(
     alloc: Global,
     s: &mut S,
     domains: &Domains,
     terms: &[Nodes],
-) -> Result<Ref, Fail>
-    requires empty { (S.seen s.old).now.state ≡ empty_state }
-    ensures state { IfOk result (λ _. IsState (S.seen s.new).now.state) }
-    ensures given { IfOk result (λ made. IsGiven (S.seen s.new) made) }
-{
-    let row = placed(alloc, s, &row_of(alloc, terms)?)?;
+) -> Result<Ref, Fail> {
+    let row = place(alloc, s, &row_of(alloc, terms)?)?;
     confined(alloc, s, row, 0, domains[0])?;
     confined(alloc, s, row, 1, domains[1])?;
     confined(alloc, s, row, 2, domains[2])?;
     Ok(row)
-}
-
-/// An argument of a compound.
-fn part<S: StateStore>(s: &S, r: Ref, i: u64) -> Result<Ref, Fail>
-    requires state { IsState (S.seen s.now).now.state }
-    requires given { IsGiven (S.seen s.now) r }
-    ensures acyclic { HoldsNoCycle (S.seen s.now) }
-    ensures given { IfOk result (λ q. IsGiven (S.seen s.now) q) }
-    ensures made { IfOk result (λ q. IsRef (S.seen s.now) q) }
-{
-    if let Cell::Comp(_, count) = s.look(r) {
-        if i < count {
-            return Ok(s.arg(r, i));
-        }
-    }
-    Err("a term lacks an argument".into())
-}
-
-/// Makes the first two terms of a row equal.
-fn made_equal<S: StateStore>(alloc: Global, s: &mut S, row: Ref) -> Result<(), Fail>
-    requires state { IsState (S.seen s.old).now.state }
-    requires given { IsGiven (S.seen s.old) row }
-    ensures state { IfOk result (λ _. IsState (S.seen s.new).now.state) }
-    ensures given { IfOk result (λ _. IsGiven (S.seen s.new) row) }
-{
-    let a = part(s, row, 1)?;
-    let b = part(s, row, 2)?;
-    let one = unify(alloc, s, a, b)?;
-    if one {
-        return Ok(());
-    }
-    Err("two terms can't be equal".into())
 }
 
 /// Gives a variable of a row these values, where there are any.
@@ -149,24 +104,69 @@ fn confined<S: StateStore>(
     row: Ref,
     n: u64,
     values: &[i128],
-) -> Result<(), Fail>
-    requires state { IsState (S.seen s.old).now.state }
-    requires given { IsGiven (S.seen s.old) row }
-    ensures state { IfOk result (λ _. IsState (S.seen s.new).now.state) }
-    ensures given { IfOk result (λ _. IsGiven (S.seen s.new) row) }
-{
-    let d = of_list(alloc, values)?;
-    if d.spans().is_empty() {
+) -> Result<(), Fail> {
+    if !values.is_empty() {
+        let variable = s.arg(s.arg(row, 0), n);
+        s.set_domain(variable, &of_list(alloc, values)?)?;
+    }
+    Ok(())
+}
+
+/// A term of a row, counted from 1.
+fn part<S: StateStore>(s: &S, row: Ref, i: u64) -> Ref {
+    s.arg(row, i)
+}
+
+/// Makes the first two terms of a row equal.
+fn made_equal<S: StateStore>(alloc: Global, s: &mut S, row: Ref) -> Result<(), Fail> {
+    let (a, b) = (part(s, row, 1), part(s, row, 2));
+    let one = unify(alloc, s, a, b)?;
+    if one {
         return Ok(());
     }
-    let variables = part(s, row, 0)?;
-    let x = part(s, variables, n)?;
-    if size(&d) < 2 {
-        return Err("a domain has two values or more".into());
+    Err("two terms can't be equal".into())
+}
+
+/// Whether a value has just these nodes.
+fn has_nodes<S: StateStore>(
+    alloc: Global,
+    s: &S,
+    r: Ref,
+    nodes: &[TermHead<'_>],
+) -> Result<bool, Fail> {
+    let read = read_of(alloc, s, r)?;
+    Ok(!nodes.is_empty() && are_same(&read, &term(alloc, nodes)?))
+}
+
+/// A value as it is written down.
+fn read_of<S: StateStore>(alloc: Global, s: &S, r: Ref) -> Result<Term, Fail> {
+    Ok(s.read_term(alloc, r).map_err(|_| "a term wasn't read")?)
+}
+
+/// The copy of a term.
+fn copied<S: StateStore>(alloc: Global, s: &mut S, r: Ref) -> Result<Ref, Fail> {
+    Ok(copy_term(alloc, s, r).map_err(|_| "a term wasn't copied")?)
+}
+
+/// Whether two terms have the same nodes.
+fn are_same(one: &Term, other: &Term) -> bool {
+    if one.cells() != other.cells() {
+        return false;
     }
-    let Cell::Var(_) = s.look(x) else {
-        return Err("a bound variable has no domain".into());
-    };
-    s.set_domain(x, &d)?;
-    Ok(())
+    for i in 0..one.cells() {
+        if !is_same(one.head_at(i), other.head_at(i)) {
+            return false;
+        }
+    }
+    true
+}
+
+fn is_same(one: TermHead<'_>, other: TermHead<'_>) -> bool {
+    match (one, other) {
+        (TermHead::Var(m), TermHead::Var(n)) => m == n,
+        (TermHead::Int(m), TermHead::Int(n)) => m == n,
+        (TermHead::Atom(f), TermHead::Atom(g)) => f == g,
+        (TermHead::Comp(f, m), TermHead::Comp(g, n)) => f == g && m == n,
+        _ => false,
+    }
 }

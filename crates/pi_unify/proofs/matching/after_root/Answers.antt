@@ -1,39 +1,58 @@
-use Rattle.std.proofs.Common.{◌≡◌, List, ap, sym, ◌∙◌, refl, subst}
+use Rattle.std.proofs.Common.{◌≡◌, ◌+◌, List, ap, sym, ◌∙◌, refl, subst}
 use Rattle.pi_types.specs.State.{bindings}
-use Rattle.pi_types.specs.PatternTree.{PatternTree, named, compound}
+use Rattle.pi_types.specs.PatternTree.{PatternTree, compound}
 use Rattle.pi_types.specs.CoreTree.{pattern_tree, pattern_trees}
-use Rattle.pi_unify.specs.Terms.{term_of}
+use Rattle.pi_unify.specs.Terms.{IsGiven, HoldsNoCycle, term_of}
 use Rattle.pi_types.specs.declared.core_program.Pattern.{Pattern}
-use Rattle.pi_unify.specs.Matching.{GoesBehind, ComesBehind, TakesPending, FitsRoot, Pushes}
+use Rattle.pi_unify.specs.Matching.{nodes, nodes_left, AreLeft, HasFewer, LeavesNodes, LeavesFewer, GoesBehind, ComesBehind, TakesPending, FitsRoot, Pushes}
 use Rattle.pi_unify.specs.declared.matching.Pending.{Pending}
 use Rattle.pi_unify.proofs.PatternLemmas.{pattern_tree-comp, pattern_tree-named}
-use Rattle.pi_unify.proofs.MatchingLemmas.{if_ok, Behind, behind_leaf, behind_compound, comes_behind, named_behind}
+use Rattle.pi_unify.proofs.MatchingLemmas.{if_ok, Behind, behind_leaf, behind_compound, comes_behind, named_behind, Shrinks, shrinks_bare, shrinks_compound, leaves_fewer, named_fewer}
 use Rattle.pi_unify.proofs.matching.after_root.Goals as goal
 
-pub returns-in-Named : goal.returns-in-Named
-returns-in-Named g c =
+pub returns-in-Named-clause-fewer : goal.returns-in-Named-clause-fewer
+returns-in-Named-clause-fewer g c =
+    let next : Pending = record { pattern = c.deref.result; term = c.args.term } in
+    let p = pattern_tree c.in-Named.inner.value in
+    let k = c.in-Named.field-0 in
+    let old = c.args.left.now.items in
+    let P : PatternTree → Type 0 = λ q. HasFewer (nodes q + nodes_left old) old next in
+    subst P (sym (ap pattern_tree c.in-Named.is ∙ pattern_tree-named k c.in-Named.inner)) (named_fewer k p old next c.requires.within (ap pattern_tree c.deref.ensures))
+
+pub returns-in-Named-clause-comes : goal.returns-in-Named-clause-comes
+returns-in-Named-clause-comes g c = λ given a all fits.
     let v = g.S.StateStore.seen c.args.s.now in
     let next : Pending = record { pattern = c.deref.result; term = c.args.term } in
     let p = pattern_tree c.in-Named.inner.value in
     let k = c.in-Named.field-0 in
-    let P : PatternTree → Type 0 = λ q. GoesBehind v q (term_of v c.args.term) c.args.left.now.items c.args.left.now.items next in
+    let old = c.args.left.now.items in
+    let P : PatternTree → Type 0 = λ q. GoesBehind v q (term_of v c.args.term) old old next in
     subst P (sym (ap pattern_tree c.in-Named.is ∙ pattern_tree-named k c.in-Named.inner))
-    (named_behind v k p c.args.term c.args.left.now.items next c.requires.term c.requires.left refl (ap pattern_tree c.deref.ensures))
+    (named_behind v k p c.args.term old next given all refl (ap pattern_tree c.deref.ensures))
 
-pub next_argument-requires-clause-left : goal.next_argument-requires-clause-left
-next_argument-requires-clause-left g c =
-    let v = g.S.StateStore.seen c.args.s.now in
-    let b = bindings v.now.state in
+pub next_argument-requires : goal.next_argument-requires
+next_argument-requires g c =
     let f = c.in-Comp.field-0 in
     let ps = c.in-Comp.patterns.items in
-    let is : pattern_tree c.args.pattern.now ≡ compound f (pattern_trees ps) = ap pattern_tree c.in-Comp.is ∙ pattern_tree-comp f c.in-Comp.patterns in
-    let fits : FitsRoot b (compound f (pattern_trees ps)) (term_of v c.args.term) = subst (λ (p : PatternTree). FitsRoot b p (term_of v c.args.term)) is c.requires.fits in
     let pushes : Pushes c.args.left.now.items c.push_arguments.new.left.items ps c.args.term =
     subst (λ (qs : List Pattern). Pushes c.args.left.now.items c.push_arguments.new.left.items qs c.args.term) c.as_slice.ensures.value c.in_ok-push_arguments-in-Comp.ensures in
-    (behind_compound v f ps c.args.term c.args.left.now.items c.push_arguments.new.left.items c.requires.term c.requires.left fits pushes).left
+    record { within = (shrinks_compound f ps c.args.term c.args.left.now.items c.push_arguments.new.left.items c.requires.within pushes).within }
 
-pub returns-in_ok-push_arguments-in-Comp : goal.returns-in_ok-push_arguments-in-Comp
-returns-in_ok-push_arguments-in-Comp g c =
+pub returns-in_ok-push_arguments-in-Comp-clause-fewer : goal.returns-in_ok-push_arguments-in-Comp-clause-fewer
+returns-in_ok-push_arguments-in-Comp-clause-fewer g c =
+    let f = c.in-Comp.field-0 in
+    let ps = c.in-Comp.patterns.items in
+    let old = c.args.left.now.items in
+    let middle = c.push_arguments.new.left.items in
+    let new = c.next_argument.new.left.items in
+    let p = pattern_tree c.args.pattern.now in
+    let is : p ≡ compound f (pattern_trees ps) = ap pattern_tree c.in-Comp.is ∙ pattern_tree-comp f c.in-Comp.patterns in
+    let pushes : Pushes old middle ps c.args.term = subst (λ (qs : List Pattern). Pushes old middle qs c.args.term) c.as_slice.ensures.value c.in_ok-push_arguments-in-Comp.ensures in
+    let shrinks : Shrinks p old middle = subst (λ (q : PatternTree). Shrinks q old middle) (sym is) (shrinks_compound f ps c.args.term old middle c.requires.within pushes) in
+    if_ok c.next_argument.result (LeavesNodes (nodes_left middle) new) (LeavesFewer (nodes p + nodes_left old) new) (λ next. leaves_fewer p old middle new next shrinks) c.next_argument.ensures.nodes
+
+pub returns-in_ok-push_arguments-in-Comp-clause-comes : goal.returns-in_ok-push_arguments-in-Comp-clause-comes
+returns-in_ok-push_arguments-in-Comp-clause-comes g c =
     let v = g.S.StateStore.seen c.args.s.now in
     let b = bindings v.now.state in
     let t = term_of v c.args.term in
@@ -42,18 +61,29 @@ returns-in_ok-push_arguments-in-Comp g c =
     let old = c.args.left.now.items in
     let middle = c.push_arguments.new.left.items in
     let new = c.next_argument.new.left.items in
-    let is : pattern_tree c.args.pattern.now ≡ compound f (pattern_trees ps) = ap pattern_tree c.in-Comp.is ∙ pattern_tree-comp f c.in-Comp.patterns in
-    let fits : FitsRoot b (compound f (pattern_trees ps)) t = subst (λ (p : PatternTree). FitsRoot b p t) is c.requires.fits in
+    let p = pattern_tree c.args.pattern.now in
+    let is : p ≡ compound f (pattern_trees ps) = ap pattern_tree c.in-Comp.is ∙ pattern_tree-comp f c.in-Comp.patterns in
     let pushes : Pushes old middle ps c.args.term = subst (λ (qs : List Pattern). Pushes old middle qs c.args.term) c.as_slice.ensures.value c.in_ok-push_arguments-in-Comp.ensures in
-    let behind : Behind v (pattern_tree c.args.pattern.now) t old middle =
-    subst (λ (p : PatternTree). Behind v p t old middle) (sym is) (behind_compound v f ps c.args.term old middle c.requires.term c.requires.left fits pushes) in
-    if_ok c.next_argument.result (TakesPending v middle new) (ComesBehind v (pattern_tree c.args.pattern.now) t old new) (λ next. comes_behind v (pattern_tree c.args.pattern.now) t old middle new next behind) c.next_argument.ensures
+    if_ok c.next_argument.result (λ next. HoldsNoCycle v → AreLeft v middle → TakesPending v middle new next) (λ next. IsGiven v c.args.term → HoldsNoCycle v → AreLeft v old → FitsRoot b p t → ComesBehind v p t old new next)
+    (λ next taken given a all fits.
+    let own : FitsRoot b (compound f (pattern_trees ps)) t = subst (λ (q : PatternTree). FitsRoot b q t) is fits in
+    let behind : Behind v p t old middle = subst (λ (q : PatternTree). Behind v q t old middle) (sym is) (behind_compound v f ps c.args.term old middle given all own pushes) in
+    comes_behind v p t old middle new next behind (taken a behind.left)) c.next_argument.ensures.takes
 
-pub returns-in-Slot : goal.returns-in-Slot
-returns-in-Slot g c =
+pub returns-in-Slot-clause-fewer : goal.returns-in-Slot-clause-fewer
+returns-in-Slot-clause-fewer g c =
+    let old = c.args.left.now.items in
+    let new = c.next_argument-in-Slot.new.left.items in
+    let p = pattern_tree c.args.pattern.now in
+    if_ok c.next_argument-in-Slot.result (LeavesNodes (nodes_left old) new) (LeavesFewer (nodes p + nodes_left old) new) (λ next. leaves_fewer p old old new next (shrinks_bare p old c.requires.within)) c.next_argument-in-Slot.ensures.nodes
+
+pub returns-in-Slot-clause-comes : goal.returns-in-Slot-clause-comes
+returns-in-Slot-clause-comes g c =
     let v = g.S.StateStore.seen c.args.s.now in
+    let b = bindings v.now.state in
     let t = term_of v c.args.term in
     let old = c.args.left.now.items in
     let new = c.next_argument-in-Slot.new.left.items in
-    let behind : Behind v (pattern_tree c.args.pattern.now) t old old = behind_leaf v c.args.pattern.now t old c.in-Slot.is c.requires.left in
-    if_ok c.next_argument-in-Slot.result (TakesPending v old new) (ComesBehind v (pattern_tree c.args.pattern.now) t old new) (λ next. comes_behind v (pattern_tree c.args.pattern.now) t old old new next behind) c.next_argument-in-Slot.ensures
+    let p = pattern_tree c.args.pattern.now in
+    if_ok c.next_argument-in-Slot.result (λ next. HoldsNoCycle v → AreLeft v old → TakesPending v old new next) (λ next. IsGiven v c.args.term → HoldsNoCycle v → AreLeft v old → FitsRoot b p t → ComesBehind v p t old new next)
+    (λ next taken given a all fits. comes_behind v p t old old new next (behind_leaf v c.args.pattern.now t old c.in-Slot.is all) (taken a all)) c.next_argument-in-Slot.ensures.takes

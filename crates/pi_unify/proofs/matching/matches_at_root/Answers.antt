@@ -1,9 +1,9 @@
-use Rattle.std.proofs.Common.{◌≡◌, Bool, cond, Some, None, ap, sym, ◌∙◌, subst, rules}
+use Rattle.std.proofs.Common.{◌≡◌, ap, sym, ◌∙◌, subst, rules}
 use Rattle.pi_types.specs.Tree.{int}
 use Rattle.pi_types.specs.State.{bindings, followed}
 use Rattle.pi_types.specs.Store.{ShowsCell}
 use Rattle.pi_types.specs.Order.{identical}
-use Rattle.pi_types.specs.PatternTree.{PatternTree, exact_int, exact_atom, compound}
+use Rattle.pi_types.specs.PatternTree.{PatternTree, exact_atom}
 use Rattle.pi_types.specs.CoreTree.{pattern_tree, pattern_trees}
 use Rattle.pi_unify.specs.Terms.{term_of}
 use Rattle.pi_unify.specs.Matching.{slot_terms, root_match, TellsMatch, is_compound_of, is_int_in, pattern_count}
@@ -19,36 +19,36 @@ pub returns-in-Named-clause-found : goal.returns-in-Named-clause-found
 returns-in-Named-clause-found g c = rw (ap pattern_tree c.in-Named.is ∙ pattern_tree-named c.in-Named.k c.in-Named.field-1) c.fill-in-Named.ensures.found
 
 pub returns-in-Int-clause-found : goal.returns-in-Int-clause-found
-returns-in-Int-clause-found g c =
+returns-in-Int-clause-found g c = λ given a held.
     let v = g.S.StateStore.seen c.args.s.now in
     let b = bindings v.now.state in
     let t = term_of v c.args.term in
-    let e = slot_terms v c.args.slots.now in
+    let e = slot_terms v c.args.slots.now.items in
     let n = c.in-Int.n in
-    let shown : ShowsCell v (followed b t) c.look.result = c.look.ensures.shows t (given_term v c.args.term c.requires.term) c.requires.acyclic in
+    let shown : ShowsCell v (followed b t) c.look.result = c.look.ensures.shows t (given_term v c.args.term given) a in
     let test : c.is_int.result ≡ is_int_in n c.look.result = search rules in
     rw (ap pattern_tree c.in-Int.is ∙ pattern_tree-int n) (tells_test c.is_int.result (identical (int n) (followed b t)) e (test ∙ int_told v (followed b t) c.look.result n shown))
 
 pub returns-in-Atom-clause-found : goal.returns-in-Atom-clause-found
-returns-in-Atom-clause-found g c =
+returns-in-Atom-clause-found g c = λ given a held.
     let v = g.S.StateStore.seen c.args.s.now in
     let b = bindings v.now.state in
     let t = term_of v c.args.term in
-    let e = slot_terms v c.args.slots.now in
-    let shown : ShowsCell v (followed b t) c.look-in-Atom.result = c.look-in-Atom.ensures.shows t (given_term v c.args.term c.requires.term) c.requires.acyclic in
+    let e = slot_terms v c.args.slots.now.items in
+    let shown : ShowsCell v (followed b t) c.look-in-Atom.result = c.look-in-Atom.ensures.shows t (given_term v c.args.term given) a in
     let P : PatternTree → Type 0 = λ p. TellsMatch c.is_atom.result (root_match b p t e) e in
     let name = ap exact_atom c.as_str.ensures in
     subst P (sym (ap pattern_tree c.in-Atom.is ∙ (pattern_tree-atom c.in-Atom.name ∙ sym name))) (tells_test c.is_atom.result _ e (c.is_atom.ensures (followed b t) shown))
 
 pub returns-in-Comp-clause-found : goal.returns-in-Comp-clause-found
-returns-in-Comp-clause-found g c =
+returns-in-Comp-clause-found g c = λ given a held.
     let v = g.S.StateStore.seen c.args.s.now in
     let b = bindings v.now.state in
     let t = term_of v c.args.term in
-    let e = slot_terms v c.args.slots.now in
+    let e = slot_terms v c.args.slots.now.items in
     let f = c.in-Comp.name in
     let ps = c.in-Comp.patterns in
-    let shown : ShowsCell v (followed b t) c.look-in-Comp.result = c.look-in-Comp.ensures.shows t (given_term v c.args.term c.requires.term) c.requires.acyclic in
+    let shown : ShowsCell v (followed b t) c.look-in-Comp.result = c.look-in-Comp.ensures.shows t (given_term v c.args.term given) a in
     let many : c.len.result ≡ pattern_count (pattern_trees ps.items) = c.len.ensures ∙ (ps.ok.0 ∙ sym (count-trees ps.items)) in
     let told : c.is_compound.result ≡ is_compound_of f (pattern_count (pattern_trees ps.items)) (followed b t) =
     c.is_compound.ensures (followed b t) shown ∙ (ap (λ h. is_compound_of h c.len.result (followed b t)) c.as_str-in-Comp.ensures ∙ ap (λ k. is_compound_of f k (followed b t)) many) in

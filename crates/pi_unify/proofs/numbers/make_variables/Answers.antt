@@ -1,4 +1,4 @@
-use Rattle.std.proofs.Common.{◌≡◌, ◌+◌, ℕ, suc, sym, subst, add-one}
+use Rattle.std.proofs.Common.{ℕ, sym, subst, add-one}
 use Rattle.pi_unify.specs.Copying.{Makes}
 use Rattle.pi_unify.proofs.KeepsLemmas.{makes_none, makes_one_more}
 use Rattle.pi_unify.proofs.numbers.make_variables.Goals as goal

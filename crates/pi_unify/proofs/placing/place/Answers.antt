@@ -1,4 +1,3 @@
-use Rattle.std.proofs.Common.{◌≡◌, ◌∙◌}
 use Rattle.pi_types.specs.Copy.{renamed, copy, new_variables}
 use Rattle.pi_types.specs.State.{next}
 use Rattle.pi_types.specs.Store.{IsTerm, Gives}

@@ -1,14 +1,14 @@
-use Rattle.std.proofs.Common.{◌≡◌, ℕ, ap, sym, ◌∙◌, subst, Some, rules}
-use Rattle.pi_types.specs.Tree.{Tree, int, atom, comp, ShowsHead}
+use Rattle.std.proofs.Common.{◌≡◌, ap, ◌∙◌, subst, Some, rules}
+use Rattle.pi_types.specs.Tree.{int, atom, ShowsHead}
 use Rattle.pi_types.specs.Store.{IsTerm}
 use Rattle.pi_unify.specs.Copying.{renumbered}
-use Rattle.pi_unify.proofs.PlaceLemmas.{puts_variable, puts_integer, puts_atom, puts_compound}
+use Rattle.pi_unify.proofs.PlaceLemmas.{puts_variable, puts_integer, puts_atom}
 use Rattle.pi_unify.proofs.placing.put_node.Goals as goal
 
 pub returns-in-Var-clause-ok : goal.returns-in-Var-clause-ok
 returns-in-Var-clause-ok g c = λ u ts shown put.
     let v = g.S.StateStore.seen c.args.s.now in
-    puts_variable v (renumbered v.now.state c.args.numbers.now) u c.args.head c.in-Var.n c.args.built.now.items c.new_variable.result ts c.in-Var.is shown c.new_variable.ensures put
+    puts_variable v (renumbered v.now.state c.args.numbers.now) u c.args.head c.in-Var.n c.args.built.now.items c.new_variable.result ts c.in-Var.is shown (c.new_variable.ensures c.requires.made) put
 
 pub returns-in_ok-put_int-in-Int-clause-ok : goal.returns-in_ok-put_int-in-Int-clause-ok
 returns-in_ok-put_int-in-Int-clause-ok g c = λ u ts shown put.
