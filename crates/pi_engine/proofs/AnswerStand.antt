@@ -23,15 +23,6 @@ use Rattle.pi_engine.specs.Makes.{SilentlyTo, already, one_more}
 use Rattle.pi_engine.proofs.FramesStand.{going-of}
 use Rattle.pi_engine.proofs.FollowStand.{no-value}
 
--- the blocks in front of which a level was entered lie in front of those in it
-pub behind-base : (t : Tables) (steps : List Step) (h : Here) (b : Block) (leaves : Bool) (n : ℕ) (k : List Frame) → GoesOn t steps h b leaves n k → ends_base h.ends ≤ b.base
-behind-base t steps h b leaves n k (answers is) = omega (arith, ap ends_base is)
-behind-base t steps h b leaves n k (gives base is lies) = omega (arith, ap ends_base is, lies)
-behind-base t steps h b leaves n k (returns_to_end d is lies holds) = omega (arith, ap ends_base is, lies)
-behind-base t steps h b leaves n k (more_of_block p gs value last out k' at same earlier some here and_leaves rest) = behind-base t steps h b out p.frame k' rest
-behind-base t steps h b leaves n k (returns_to p d gs value last out k' at same lies earlier some holds here and_leaves rest) =
-    omega (arith, behind-base t steps h d out p.frame k' rest, lies)
-
 -- an answer, with what the slots of the level's block hold
 pub record Arrives {M : Type 0} (w : World M) (view : View) (names : List NameSlot) (d : Block) (e : Places) (k : List Frame) (es : List EntryData) : Type 0 where
   pub slots : Places

@@ -22,7 +22,7 @@ use Rattle.pi_engine.proofs.SlotsStand.{writes-none, writes-then}
 up-one : (m j : ℕ) → suc (m + j) ≡ suc m + j
 up-one m j = omega arith
 
-behind-first : {A : Type 0} (xs : List A) (n i : ℕ) → slice_get (drop n xs) i ≡ slice_get xs (n + i)
+pub behind-first : {A : Type 0} (xs : List A) (n i : ℕ) → slice_get (drop n xs) i ≡ slice_get xs (n + i)
 behind-first xs zero i = ap (slice_get xs) (omega arith)
 behind-first [] (suc n) i = refl
 behind-first (x ∷ xs) (suc n) i = behind-first xs n i ∙ ap (slice_get (x ∷ xs)) (up-one n i)
@@ -37,7 +37,7 @@ one-more (x ∷ xs) t e s =
     let z : Evaluated = evaluated x e s in
     ap (λ (r : EvaluatedAll). record { trees = tree z.tree r.trees; slots = r.slots; state = r.state }) (one-more xs t z.slots z.state)
 
-terms-more : {M : Type 0} (v : StoreView M) (rs : List Ref) (ts : Trees) (r : Ref) (x : Tree) → AreTerms v rs ts → IsTerm v r x → AreTerms v (rs ++ r ∷ []) (append_trees ts (tree x no_trees))
+pub terms-more : {M : Type 0} (v : StoreView M) (rs : List Ref) (ts : Trees) (r : Ref) (x : Tree) → AreTerms v rs ts → IsTerm v r x → AreTerms v (rs ++ r ∷ []) (append_trees ts (tree x no_trees))
 unfolding AreTerms
 terms-more v [] no_trees r x h is = (is, tt)
 terms-more v [] (tree t ts) r x h is = absurd h

@@ -47,7 +47,7 @@ get-set [] n x y at = absurd cc
 get-set (z ∷ xs) zero x y at = refl
 get-set (z ∷ xs) (suc n) x y at = get-set xs n x y at
 
-above-kind : {M : Type 0} (w : World M) (r : Option (Entry M)) (x : Entry M) (kind : Kind) → IsAbove w r x → IsAbove w r (with_kind x kind)
+pub above-kind : {M : Type 0} (w : World M) (r : Option (Entry M)) (x : Entry M) (kind : Kind) → IsAbove w r x → IsAbove w r (with_kind x kind)
 above-kind w None x kind h = tt
 above-kind w (Some y) x kind h = h
 

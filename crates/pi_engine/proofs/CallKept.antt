@@ -39,7 +39,7 @@ Makes w p base frame from called cs s k kind y =
     (h : Here) (slots : ℕ) → (stands : CallStands w.loaded h base frame p from called cs k) → slots ≤ base + stands.call.pred.arity →
     KindIs w.loaded w.arenas.collected h s base frame slots (length w.arenas.collected) (length w.arenas.collected) kind y
 
-newest-last : {M : Type 0} (xs : List (Entry M)) (x : Entry M) → newest (xs ++ x ∷ []) ≡ Some x
+pub newest-last : {M : Type 0} (xs : List (Entry M)) (x : Entry M) → newest (xs ++ x ∷ []) ≡ Some x
 newest-last xs x =
     let more : length (xs ++ x ∷ []) ≡ suc (length xs) = length-append xs (x ∷ []) ∙ omega arith in
     ap (entry_at (xs ++ x ∷ [])) more ∙ get_append_last xs x

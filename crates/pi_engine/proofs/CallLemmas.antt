@@ -24,6 +24,22 @@ use Rattle.pi_types.specs.Places.{held}
 use Rattle.pi_engine.specs.Configuration.{Frame, Entry, Now, going, failed, raising, config}
 use Rattle.pi_engine.specs.Step.{silently, after_effect, goal_step}
 
+pub apply-of : (g : GoalTree) (name : List ℕ) (ts : List Tree) (into : ℕ) → GoalKind.Apply name ts into ≡ kind_of g → g ≡ apply name ts into
+unfolding kind_of
+apply-of truth n ts x h = absurd cc
+apply-of fail n ts x h = absurd cc
+apply-of tick n ts x h = absurd cc
+apply-of (call name args) n ts x h = absurd cc
+apply-of (apply name args slot) n ts x h = cc
+apply-of (seq gs) n ts x h = absurd cc
+apply-of (alternatives gs) n ts x h = absurd cc
+apply-of (if_else test g other) n ts x h = absurd cc
+apply-of (not g) n ts x h = absurd cc
+apply-of (once g) n ts x h = absurd cc
+apply-of (collect g value into) n ts x h = absurd cc
+apply-of (count g into) n ts x h = absurd cc
+apply-of (catch g ball handler) n ts x h = absurd cc
+
 pub call-of : (g : GoalTree) (name : List ℕ) (ts : List Tree) → GoalKind.Call name ts ≡ kind_of g → g ≡ call name ts
 unfolding kind_of
 call-of truth n ts h = absurd cc

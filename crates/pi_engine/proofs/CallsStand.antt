@@ -1,5 +1,5 @@
 -- A call whose rules are tried, where the store and the arenas change.
-use Rattle.std.proofs.Common.{◌≡◌, ℕ, zero, suc, ◌+◌, ◌-◌, ◌≤◌, ◌<◌, Bool, true, false, List, [], ◌∷◌, ◌++◌, Option, Some, None, length, take, drop, refl, sym, ◌∙◌, ap, subst, arith}
+use Rattle.std.proofs.Common.{◌≡◌, ◌≢◌, ℕ, zero, suc, ◌+◌, ◌-◌, ◌≤◌, ◌<◌, Bool, true, false, List, [], ◌∷◌, ◌++◌, Option, Some, None, length, take, drop, refl, sym, ◌∙◌, ap, subst, arith}
 use Rattle.std.specs.Prelude.{slice_get, slice_set, IsTrue, IsSome, ◌↔◌}
 use Rattle.std.proofs.lemmas.List.{take-set, length-set, take-append-le, length-append, take_all}
 use Rattle.pi_types.specs.Tree.{Tree, Trees}
@@ -59,6 +59,8 @@ call-moves l h g base frame p r limit m called cs k is in_front below moves ends
         rules = is.call.rules;
       };
       frames = goes_on-moves (tables_in l) (steps_of l) h g (record { base = base; first = is.call.pred.arity; count = 0 }) true frame k limit m (omega (arith, in_front)) below moves ends is.frames;
+      returns = is.returns;
+      alone = is.alone;
     }
 
 -- ---- the value behind a rule's body
@@ -74,6 +76,24 @@ valued-after true c None k is has = none-some (has.0 refl)
 valued-after true c (Some t) k is has = ap (λ v. give v ∷ k) is
 valued-after false c None k is has = refl
 valued-after false c (Some t) k is has = false-true (has.1 refl)
+
+no-value : (own : Bool) (value : Option Tree) → (IsTrue own ↔ IsSome value) → value ≡ None → own ≡ false
+no-value true None has none = none-some (has.0 refl)
+no-value true (Some t) has none = absurd cc
+no-value false value has none = refl
+
+-- a rule without a value is no function's
+without-value : (function own : Bool) (value : Option Tree) → function ≡ own → (IsTrue own ↔ IsSome value) → value ≡ None → function ≡ false
+without-value function own value same has none = same ∙ no-value own value has none
+
+own-value : (own : Bool) (value : Option Tree) (t : Tree) → (IsTrue own ↔ IsSome value) → value ≡ Some t → own ≡ true
+own-value true value t has some = refl
+own-value false None t has some = absurd cc
+own-value false (Some u) t has some = false-true (has.1 refl)
+
+-- one with a value is a function's
+with-value : (function own : Bool) (value : Option Tree) (t : Tree) → function ≡ own → (IsTrue own ↔ IsSome value) → value ≡ Some t → function ≡ true
+with-value function own value t same has some = same ∙ own-value own value t has some
 
 -- ---- what stays of a call
 
@@ -121,10 +141,10 @@ agrees-pass w v a m es passes stack within agrees =
 -- a rule's body, in the call's block
 pub body-goes : {M : Type 0} (w : World M) (v : StoreView M) (a : ArenasView M) (m base frame : ℕ) (es : List EntryData) (pred : PredTree) (c : ClauseTree) (rule : Rule) (called : Called) (e : Places) (k : List Frame) →
     Passes w v a m → StackIs w m (length w.arenas.collected) es → w.arenas.level ≡ open_level 0 es →
-    GoesOn (tables_in w.loaded) (steps_of w.loaded) (now_here w) (record { base = base; first = pred.arity; count = 0 }) true frame k → Agrees w w.arenas.level (now_here w) →
+    GoesOn (tables_in w.loaded) (steps_of w.loaded) (now_here w) (record { base = base; first = pred.arity; count = 0 }) true frame k → (called.function ≡ false → k ≢ []) → (called.function ≡ true → k ≡ []) → Agrees w w.arenas.level (now_here w) →
     IsRuleOf w.loaded.code (tables_in w.loaded) w.store.names pred c rule → called.function ≡ pred.function → Holds w.store.now.terms w.arenas.blocks.slots (clause_block base pred c) e →
     GoingIs (moved w v a) (record { place = rule.body; count = rule.goals; base = base; frame = frame }) (goal c.body no_goals) e (after_body called.function c k)
-body-goes w v a m base frame es pred c rule called e k passes stack level frames agrees is same slots =
+body-goes w v a m base frame es pred c rule called e k passes stack level frames returns alone agrees is same slots =
     let within : w.arenas.level ≤ m = omega (arith, level, open_level-within zero es, stack-length w m (length w.arenas.collected) es stack) in
     let here : Here = now_here (moved w v a) in
     let moves : Moves (now_here w) here base frame = moves-pass w v a m base frame passes (omega (arith, slots.within)) in
@@ -143,7 +163,7 @@ body-goes w v a m base frame es pred c rule called e k passes stack level frames
             (goes_on-moves (tables_in w.loaded) (steps_of w.loaded) (now_here w) here (record { base = base; first = pred.arity; count = 0 }) true frame k base frame (omega arith) (omega arith) moves
             (ends-pass w v a m passes within) frames);
       };
-      leaves = λ h. refl;
+      leaves = record { is_last = λ h. refl; is_given = λ none out. returns (without-value called.function pred.function c.value same is.value none); is_value = λ t h. (refl, alone (with-value called.function pred.function c.value t same is.value h)) };
       frames = valued-after called.function c c.value k refl (subst (λ f. IsTrue f ↔ IsSome c.value) (sym same) is.value);
       agrees = agrees-pass w v a m es passes stack within agrees;
     }

@@ -124,6 +124,8 @@ call-tried w b p base frame number limit called cs s k es again is at keeps =
         fits = omega (arith, at, keeps.long);
         frames = goes_on-moves (tables_in w.loaded) (steps_of w.loaded) (now_here w) (now_here after) (record { base = base; first = is.call.call.pred.arity; count = 0 }) true frame k limit frame
             (omega (arith, at)) (omega arith) (below-moves w b limit frame keeps) (below-ends w b limit keeps) is.call.frames;
+        returns = is.call.returns;
+        alone = is.call.alone;
       };
       agrees = below-agrees w b limit (entry_at b.entries b.level) keeps (λ z found. omega (arith, inside z found, at))
           (subst (λ n. agrees_from after (entry_at b.entries n) (now_here w)) (sym keeps.level)
@@ -169,6 +171,8 @@ call-passed w p base frame number called c cs s k es again is =
         call = record { pred = is.call.call.pred; predicate = is.call.call.predicate; is_pred = is.call.call.is_pred; is_predicate = is.call.call.is_predicate; function = is.call.call.function; from = omega (arith, is.call.call.from); rules = rules-next w.loaded p number called c cs is.call.call };
         fits = is.call.fits;
         frames = is.call.frames;
+        returns = is.call.returns;
+        alone = is.call.alone;
       };
       agrees = is.agrees;
       over = is.over;

@@ -121,7 +121,7 @@ guard-entered w v a p base frame number slots guard called c cs s k es again pre
               leaves = false;
               frames = answers ends;
             };
-            leaves = λ h. h;
+            leaves = record { is_last = λ h. h; is_given = λ none out. absurd cc; is_value = λ t h. absurd cc };
             frames = refl;
             agrees = subst (λ r. agrees_from after r (now_here after)) (sym kept.is_newest) kept.agrees;
           }));

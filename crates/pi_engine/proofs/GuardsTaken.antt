@@ -68,6 +68,8 @@ call-back w m p number called c cs s k below back predicate rule e is level kept
           fits = omega (arith, holds.within);
           frames = goes_on-moves (tables_in w.loaded) (steps_of w.loaded) (back_here w x) (now_here w) (record { base = x.back.base; first = left.pred.arity; count = 0 }) true x.back.frame k x.back.base x.back.frame
               (omega arith) (omega arith) moves (ap (level_ends w) (sym opens)) is.own.call.frames;
+          returns = is.own.call.returns;
+          alone = is.own.call.alone;
         };
         agrees = subst (λ n. Agrees w n (now_here w)) (sym opens)
             (agrees-through w (entry_at (entries_of w) x.back.level) (back_here w x) (now_here w) x.back.base

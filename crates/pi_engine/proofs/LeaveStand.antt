@@ -5,27 +5,23 @@ use Rattle.std.proofs.lemmas.List.{length-take}
 use Rattle.pi_types.specs.Tree.{Tree}
 use Rattle.pi_types.specs.Places.{Places}
 use Rattle.pi_types.specs.State.{State}
+use Rattle.pi_types.specs.Store.{StoreView}
 use Rattle.pi_types.specs.GoalTree.{GoalTree, GoalTrees, no_goals, goal}
 use Rattle.pi_engine.specs.declared.frames.Point.{Point}
 use Rattle.pi_engine.specs.declared.arenas.Back.{Back}
 use Rattle.pi_engine.specs.declared.run.Now.{Now}
-use Rattle.pi_engine.specs.declared.arenas.Kind.{Kind}
-use Rattle.pi_engine.specs.declared.arenas.Strict.{Strict}
-use Rattle.pi_engine.specs.declared.code.Step.{Step}
-use Rattle.pi_engine.specs.declared.code.Rule.{Rule}
-use Rattle.pi_engine.specs.declared.code.Predicate.{Predicate}
 use Rattle.pi_engine.specs.Frames.{frame_at}
 use Rattle.pi_engine.specs.Blocks.{BlocksView, IsKept, brought_back}
 use Rattle.pi_engine.specs.Arenas.{Entry, ArenasView, entry_at, newest, slots_kept_by, frames_kept_by, noted_by, Drops, LeavesLevel}
 use Rattle.pi_engine.specs.Configuration.{Frame, Entry as EntryData, Config, config, going}
 use Rattle.pi_engine.specs.Shape.{open_level}
 use Rattle.pi_engine.specs.Here.{Block, block_end, none_here, Holds, Here, Ends, ends_base, GoesOn}
-use Rattle.pi_engine.specs.Stands.{tables_in, World, Loaded, Extend, steps_of, entries_of, shape_of, rule_shape, ends_of, IsAbove, entry_ends, level_ends, now_here, back_here, Agrees, agrees_from, StandsBehind, EntryIs, StackIs, no_entries, entry_above, StackStands, Stands, GoingIs, NowIs, going_now}
+use Rattle.pi_engine.specs.Stands.{tables_in, World, Loaded, Extend, steps_of, entries_of, IsAbove, entry_ends, level_ends, now_here, back_here, Agrees, agrees_from, StandsBehind, EntryIs, StackIs, no_entries, entry_above, StackStands, Stands, GoingIs, NowIs, going_now}
 use Rattle.pi_engine.proofs.ListLemmas.{take-take}
 use Rattle.pi_engine.proofs.HereLemmas.{FramesStay, Moves, goes_on-moves, holds-moves, take-agrees}
 use Rattle.pi_engine.proofs.StandsLemmas.{moved, slice-take, last-or-below, Leaves, stack-moves, stack-length, open_level-within, entry-facts, EntryFacts, back-stays, entry_at-take}
 use Rattle.pi_engine.proofs.OlderStand.{kept-by-newest, KeptBy}
-use Rattle.pi_engine.proofs.AnswerStand.{behind-base}
+use Rattle.pi_engine.proofs.BasesStand.{ends-begin, block-above}
 
 last-or-below-eq : (i m : ℕ) → i ≤ suc m → (i ≤ m) ⊎ (i ≡ suc m)
 last-or-below-eq zero m h = inl (omega arith)
@@ -38,7 +34,7 @@ newest-of-first xs n fit =
     let long : length (take n xs) ≡ n = length-take n xs ∙ omega (arith, fit) in
     ap (entry_at (take n xs)) long ∙ entry_at-take (take n xs) xs n n (omega arith) (take-take n n xs (omega arith))
 
-below-kept : {M : Type 0} (w : World M) (i n top : ℕ) (es : List EntryData) (j : ℕ) (x : Entry M) → StackIs w n top es → i ≤ n → j < i → slice_get (entries_of w) j ≡ Some x →
+pub below-kept : {M : Type 0} (w : World M) (i n top : ℕ) (es : List EntryData) (j : ℕ) (x : Entry M) → StackIs w n top es → i ≤ n → j < i → slice_get (entries_of w) j ≡ Some x →
     KeptBy w (entry_at (entries_of w) i) x
 below-kept w i n top es j x no_entries fit within at = absurd (omega (arith, fit, within))
 below-kept w i n top es j x (entry_above m from fs z y here is below) fit within at =
@@ -69,57 +65,43 @@ drops-leave w b i n top frames es fs stack drops fit within kept some =
 
 -- ---- a level that is left
 
-shape-at-base : (r : Option Step) (base : ℕ) → (shape_of r base).base ≡ base
-shape-at-base None base = refl
-shape-at-base (Some s) base = refl
-
-rule-at-base : (p : Option Predicate) (r : Option Rule) (base : ℕ) → (rule_shape p r base).base ≡ base
-rule-at-base (Some p) (Some r) base = refl
-rule-at-base (Some p) None base = refl
-rule-at-base None r base = refl
-
-pub ends-at-base : (l : Loaded) (kind : Kind) (base : ℕ) → ends_base (ends_of l kind base) ≡ base
-ends-at-base l (Kind.Strict (Strict.Once place)) base = shape-at-base (slice_get (steps_of l) place) base
-ends-at-base l (Kind.Strict (Strict.Not place)) base = shape-at-base (slice_get (steps_of l) place) base
-ends-at-base l (Kind.Strict (Strict.If place)) base = shape-at-base (slice_get (steps_of l) place) base
-ends-at-base l (Kind.Strict (Strict.Guard p r)) base = rule-at-base (slice_get l.code.predicates.items p) (slice_get l.code.rules.items r) base
-ends-at-base l (Kind.Strict (Strict.Apply place)) base = refl
-ends-at-base l (Kind.Strict (Strict.Collect place first)) base = shape-at-base (slice_get (steps_of l) place) base
-ends-at-base l (Kind.Strict (Strict.Count place n)) base = shape-at-base (slice_get (steps_of l) place) base
-ends-at-base l (Kind.Catch place) base = shape-at-base (slice_get (steps_of l) place) base
-ends-at-base l (Kind.Rules p r) base = refl
-ends-at-base l (Kind.Branches place n) base = refl
-ends-at-base l Kind.Exit base = refl
-
 -- the level outside of one that is left: what is there agrees with it
-left-agrees : {M : Type 0} (w : World M) (b : ArenasView M) (i : ℕ) (x : Entry M) (limit : ℕ) (r : Option (Entry M)) → Extend (back_here w x).terms w.store.now.terms →
-    take limit (back_here w x).slots ≡ take limit b.blocks.slots → limit ≤ length b.blocks.slots → b.frames ≡ (back_here w x).frames → ((z : Entry M) → r ≡ Some z → z.back.base ≤ limit) →
-    ((z : Entry M) → r ≡ Some z → back_here (moved w w.store b) z ≡ back_here w z) → agrees_from w r (back_here w x) → agrees_from (moved w w.store b) r (now_here (moved w w.store b))
-left-agrees w b i x limit None terms slots long frames bases stay agrees = tt
-left-agrees w b i x limit (Some z) terms slots long frames bases stay agrees =
-    subst (λ h. Extend h.terms w.store.now.terms × (take z.back.base h.slots ≡ take z.back.base b.blocks.slots) × (z.back.base ≤ length b.blocks.slots) × (take z.back.frames b.frames ≡ h.frames)) (sym (stay z refl)) (
+pub outer-agrees : {M : Type 0} (w : World M) (v : StoreView M) (b : ArenasView M) (x : Entry M) (limit : ℕ) (r : Option (Entry M)) → Extend (back_here w x).terms v.now.terms →
+    take limit (back_here w x).slots ≡ take limit b.blocks.slots → limit ≤ length b.blocks.slots → ((z : Entry M) → r ≡ Some z → take z.back.frames b.frames ≡ take z.back.frames (back_here w x).frames) →
+    ((z : Entry M) → r ≡ Some z → z.back.base ≤ limit) → ((z : Entry M) → r ≡ Some z → back_here (moved w v b) z ≡ back_here w z) → agrees_from w r (back_here w x) →
+    agrees_from (moved w v b) r (now_here (moved w v b))
+outer-agrees w v b x limit None terms slots long frames bases stay agrees = tt
+outer-agrees w v b x limit (Some z) terms slots long frames bases stay agrees =
+    subst (λ h. Extend h.terms v.now.terms × (take z.back.base h.slots ≡ take z.back.base b.blocks.slots) × (z.back.base ≤ length b.blocks.slots) × (take z.back.frames b.frames ≡ h.frames)) (sym (stay z refl)) (
       λ n t is. terms n t (agrees.0 n t is),
       agrees.1 ∙ take-agrees z.back.base limit (back_here w x).slots b.blocks.slots (bases z refl) slots,
       omega (arith, bases z refl, long),
-      ap (take z.back.frames) frames ∙ agrees.3,
+      frames z refl ∙ agrees.3,
     )
 
-above-frames : {M : Type 0} (w : World M) (r : Option (Entry M)) (x : Entry M) → IsAbove w r x → frames_kept_by r ≤ x.back.frames
+pub above-frames : {M : Type 0} (w : World M) (r : Option (Entry M)) (x : Entry M) → IsAbove w r x → frames_kept_by r ≤ x.back.frames
 above-frames w None x above = omega arith
 above-frames w (Some z) x above = above.1
 
-outer-stays : {M : Type 0} (w : World M) (b : ArenasView M) (i from : ℕ) (fs : List EntryData) → Leaves w w.store b i from → StackIs w i from fs → (level : ℕ) (z : Entry M) → level ≤ i → entry_at (entries_of w) level ≡ Some z →
+pub outer-stays : {M : Type 0} (w : World M) (b : ArenasView M) (i from : ℕ) (fs : List EntryData) → Leaves w w.store b i from → StackIs w i from fs → (level : ℕ) (z : Entry M) → level ≤ i → entry_at (entries_of w) level ≡ Some z →
     back_here (moved w w.store b) z ≡ back_here w z
 outer-stays w b i from fs leave below zero z fit found = absurd cc
 outer-stays w b i from fs leave below (suc j) z fit found =
     back-stays w w.store b i from j z leave (omega (arith, fit)) found (entry-facts w i from fs j z below (omega (arith, fit)) found)
 
-pub level-left : {M : Type 0} (w : World M) (b : ArenasView M) (i from to top n : ℕ) (x : Entry M) (y : EntryData) (es fs : List EntryData) (block : Block) (leaves : Bool) (e : Places) (k : List Frame) →
+-- what is there once the level is left: the entries below stand for the rest of the stack, and the level's block goes on
+pub record LeftBy {M : Type 0} (w : World M) (b : ArenasView M) (block : Block) (leaves : Bool) (frame : ℕ) (e : Places) (k : List Frame) (fs : List EntryData) : Type 0 where
+  pub entries : StackStands (moved w w.store b) fs
+  pub slots : Holds w.store.now.terms b.blocks.slots block e
+  pub frames : GoesOn (tables_in w.loaded) (steps_of w.loaded) (now_here (moved w w.store b)) block leaves frame k
+  pub agrees : Agrees (moved w w.store b) b.level (now_here (moved w w.store b))
+
+pub level-behind : {M : Type 0} (w : World M) (b : ArenasView M) (i from to top n : ℕ) (x : Entry M) (y : EntryData) (es fs : List EntryData) (block : Block) (leaves : Bool) (e : Places) (k : List Frame) →
     StackStands w es → StackIs w n top es → suc i ≤ n → n ≤ length (entries_of w) → top ≤ length w.arenas.collected → slice_get (entries_of w) i ≡ Some x → EntryIs w fs (entry_at (entries_of w) i) from to x y → StackIs w i from fs →
     from ≡ length w.arenas.collected → agrees_from w (Some x) (now_here w) → LeavesLevel w.arenas b i x.back →
     block.base ≡ x.back.base → block_end block ≤ x.back.blocks.slots → Holds w.store.now.terms w.arenas.blocks.slots block e → GoesOn (tables_in w.loaded) (steps_of w.loaded) (back_here w x) block leaves x.back.frame k →
-    Stands (moved w w.store b) (Now.Going (record { place = 0; count = 0; base = x.back.base; frame = x.back.frame })) (config (going no_goals e w.store.now.state k) fs)
-level-left w b i from to top n x y es fs block leaves e k stands all fit within some at is below none agrees left base block_fits holds goes =
+    LeftBy w b block leaves x.back.frame e k fs
+level-behind w b i from to top n x y es fs block leaves e k stands all fit within some at is below none agrees left base block_fits holds goes =
     let l : Loaded = w.loaded in
     let frames_kept : frames_kept_by (entry_at (entries_of w) i) ≤ x.back.frames = above-frames w (entry_at (entries_of w) i) x is.older in
     let leave : Leaves w w.store b i from = drops-leave w b i i from x.back.frames fs fs below left.drops (omega arith) (omega (arith, fit, within)) frames_kept (omega (arith, none)) in
@@ -144,32 +126,19 @@ level-left w b i from to top n x y es fs block leaves e k stands all fit within 
         stack = subst (λ m. StackIs (moved w w.store b) m (length b.collected) fs) (sym long)
             (subst (λ m. StackIs (moved w w.store b) i m fs) (none ∙ ap length (sym left.drops.collected)) (stack-moves w w.store b i from i from fs leave (omega arith) (omega arith) below));
       };
-      runs = going_now (record {
-        block = block;
-        base = base;
-        value = None;
-        last = false;
-        rest = k;
-        goals = none_here;
-        behind = record {
-          slots = holds-moves w.store.now.terms w.store.now.terms w.arenas.blocks.slots b.blocks.slots block e (block_end block) (omega arith) fits same (λ m t h. h) holds;
-          leaves = leaves;
-          frames = goes_on-moves (tables_in l) (steps_of l) (back_here w x) (now_here (moved w w.store b)) block leaves x.back.frame k block.base x.back.frame (omega arith) (omega arith)
-              (record {
-                long = omega (arith, fits);
-                slots = front;
-                terms = agrees.0;
-                frames = λ m q few found. subst (λ r. frame_at r m ≡ Some q) (sym left.drops.frames_are) found;
-              })
-              ends goes;
-        };
-        leaves = λ h. absurd cc;
-        frames = refl;
-        agrees = subst (λ m. Agrees (moved w w.store b) m (now_here (moved w w.store b))) (sym left.level)
-            (subst (λ r. agrees_from (moved w w.store b) r (now_here (moved w w.store b))) (entry_at-take (entries_of w) b.entries i x.back.level level leave.entries)
-            (left-agrees w b i x block.base (entry_at (entries_of w) x.back.level) agrees.0 front (omega (arith, fits)) left.drops.frames_are
-            (λ z found. omega (arith, sym (ap (λ r. ends_base (entry_ends l r)) found), ends-at-base l z.back.kind z.back.base, behind-base (tables_in l) (steps_of l) (back_here w x) block leaves x.back.frame k goes))
-            (λ z found. outer-stays w b i from fs leave below x.back.level z level found)
-            is.agrees));
-      });
+      slots = holds-moves w.store.now.terms w.store.now.terms w.arenas.blocks.slots b.blocks.slots block e (block_end block) (omega arith) fits same (λ m t h. h) holds;
+      frames = goes_on-moves (tables_in l) (steps_of l) (back_here w x) (now_here (moved w w.store b)) block leaves x.back.frame k block.base x.back.frame (omega arith) (omega arith)
+          (record {
+            long = omega (arith, fits);
+            slots = front;
+            terms = agrees.0;
+            frames = λ m q few found. subst (λ r. frame_at r m ≡ Some q) (sym left.drops.frames_are) found;
+          })
+          ends goes;
+      agrees = subst (λ m. Agrees (moved w w.store b) m (now_here (moved w w.store b))) (sym left.level)
+          (subst (λ r. agrees_from (moved w w.store b) r (now_here (moved w w.store b))) (entry_at-take (entries_of w) b.entries i x.back.level level leave.entries)
+          (outer-agrees w w.store b x block.base (entry_at (entries_of w) x.back.level) agrees.0 front (omega (arith, fits)) (λ z found. ap (take z.back.frames) left.drops.frames_are)
+          (λ z found. omega (arith, sym (ap (λ r. ends_base (entry_ends l r)) found), ends-begin l z.back.kind z.back.base, block-above (tables_in l) (steps_of l) (back_here w x) block leaves x.back.frame k goes))
+          (λ z found. outer-stays w b i from fs leave below x.back.level z level found)
+          is.agrees));
     }

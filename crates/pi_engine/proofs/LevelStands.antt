@@ -89,11 +89,11 @@ stack-opened w v mark slots base frame kind m to es some is =
     })
     (omega arith) (omega arith) is
 
-base-fits-in : {M : Type 0} (w : World M) (r : Option (Entry M)) → agrees_from w r (now_here w) → (x : Entry M) → r ≡ Some x → x.back.base ≤ length w.arenas.blocks.slots
+pub base-fits-in : {M : Type 0} (w : World M) (r : Option (Entry M)) → agrees_from w r (now_here w) → (x : Entry M) → r ≡ Some x → x.back.base ≤ length w.arenas.blocks.slots
 base-fits-in w r agrees x is = (subst (λ o. agrees_from w o (now_here w)) is agrees).2
 
 -- the newest entry says how its level ends
-level-of-new : {M : Type 0} (w : World M) (v : StoreView M) (mark : M) (base frame : ℕ) (kind : Kind) →
+pub level-of-new : {M : Type 0} (w : World M) (v : StoreView M) (mark : M) (base frame : ℕ) (kind : Kind) →
     level_ends (entered_level w v mark base frame kind) (length (entries_of w ++ new_entry w.arenas mark (length w.arenas.blocks.slots) base frame kind ∷ [])) ≡ ends_of w.loaded kind base
 level-of-new w v mark base frame kind =
     let x : Entry _ = new_entry w.arenas mark (length w.arenas.blocks.slots) base frame kind in
@@ -102,7 +102,7 @@ level-of-new w v mark base frame kind =
     ∙ ap (entry_ends w.loaded) (get_append_last (entries_of w) x)
 
 -- what is there agrees with a level that is entered just now
-agrees-with-new : {M : Type 0} (w : World M) (v : StoreView M) (mark : M) (base frame : ℕ) (kind : Kind) → w.arenas.level ≤ length (entries_of w) → base ≤ length w.arenas.blocks.slots →
+pub agrees-with-new : {M : Type 0} (w : World M) (v : StoreView M) (mark : M) (base frame : ℕ) (kind : Kind) → w.arenas.level ≤ length (entries_of w) → base ≤ length w.arenas.blocks.slots →
     Marks w.order w.store v mark →
     Agrees (entered_level w v mark base frame kind) (length (entries_of w ++ new_entry w.arenas mark (length w.arenas.blocks.slots) base frame kind ∷ []))
     (now_here (entered_level w v mark base frame kind))
@@ -116,6 +116,27 @@ agrees-with-new w v mark base frame kind within fit marks =
     (subst (λ h. Extend h.terms v.now.terms × (take base h.slots ≡ take base w.arenas.blocks.slots) × (base ≤ length w.arenas.blocks.slots) × (take (length w.arenas.frames) w.arenas.frames ≡ h.frames)) (sym back)
     (λ n t is. marks.stays.keeps.terms (record { number = n }) t is, refl, fit, take_all (length w.arenas.frames) w.arenas.frames (omega arith))))
 
+-- the entries where a level is entered, which stands for what it is told to
+pub stack-entered : {M : Type 0} (w : World M) (v : StoreView M) (mark : M) (base n from : ℕ) (kind : Kind) (y : EntryData) (es : List EntryData) → StackStands w es → Marks w.order w.store v mark → Agrees w w.arenas.level (now_here w) →
+    open_level zero (y ∷ es) ≡ suc (length es) → w.arenas.blocks.kept ≤ length w.arenas.blocks.slots → from ≤ length w.arenas.collected → StackIs w (length (entries_of w)) from es →
+    KindIs w.loaded w.arenas.collected (now_here w) w.store.now.state base n (length w.arenas.blocks.slots) from (length w.arenas.collected) kind y → StackStands (entered_level w v mark base n kind) (y ∷ es)
+stack-entered w v mark base n from kind y es stands marks agrees opens kept some below kind_is =
+    let slots : ℕ = length w.arenas.blocks.slots in
+    let x : Entry _ = new_entry w.arenas mark slots base n kind in
+    let after : World _ = entered_level w v mark base n kind in
+    let long : length es ≡ length (entries_of w) = stack-length w (length (entries_of w)) from es below in
+    let more : length (entries_of w ++ x ∷ []) ≡ suc (length (entries_of w)) = length-append (entries_of w) (x ∷ []) ∙ omega arith in
+    record {
+      code = code-keeps w.loaded.code (tables_in w.loaded) w.store.names v.names w.loaded.preds (λ i name has. marks.stays.keeps.names i name has) stands.code;
+      state = subst IsState (sym marks.stays.state) stands.state;
+      tables = λ i t has. marks.stays.keeps.terms (record { number = i }) t (stands.tables i t has);
+      level = more ∙ ap suc (sym long) ∙ sym opens;
+      kept = sym (ap slots_kept_by (ap (entry_at (entries_of w ++ x ∷ [])) more ∙ get_append_last (entries_of w) x));
+      stack = subst (λ m. StackIs after m (length w.arenas.collected) (y ∷ es)) (sym more) (stack-opened w v mark slots base n kind (suc (length (entries_of w))) (length w.arenas.collected) (y ∷ es) (omega arith)
+          (stack-pushed w v mark slots base n from kind y es stands marks kept (omega arith) some (base-fits-in w (entry_at (entries_of w) w.arenas.level) agrees) agrees
+          (subst (λ h. KindIs w.loaded w.arenas.collected h w.store.now.state base n slots from (length w.arenas.collected) kind y) (sym (marked-all w)) kind_is) below));
+    }
+
 -- A level is entered: its goal is the first in it, and what is left behind it the frame says.
 pub level-entered : {M : Type 0} (w : World M) (v : StoreView M) (mark : M) (p : Point) (n from : ℕ) (kind : Kind) (y : EntryData) (s : Step) (g c : GoalTree) (cs : GoalTrees) (e : Places) (k : List Frame) (es : List EntryData) →
     StackStands w es → Marks w.order w.store v mark → slice_get (steps_of w.loaded) p.place ≡ Some s → (in_it : Entered w p n g e k) →
@@ -125,25 +146,11 @@ pub level-entered : {M : Type 0} (w : World M) (v : StoreView M) (mark : M) (p :
     KindIs w.loaded w.arenas.collected (now_here w) w.store.now.state p.base n (length w.arenas.blocks.slots) from (length w.arenas.collected) kind y →
     Stands (entered_level w v mark p.base n kind) (Now.Going (record { place = p.place + 1; count = 1; base = p.base; frame = 0 })) (config (run_goal c e v.now.state []) (y ∷ es))
 level-entered w v mark p n from kind y s g c cs e k es stands marks at in_it is says ends opens kept some below kind_is =
-    let slots : ℕ = length w.arenas.blocks.slots in
-    let x : Entry _ = new_entry w.arenas mark slots p.base n kind in
-    let after : World _ = entered_level w v mark p.base n kind in
     let long : length es ≡ length (entries_of w) = stack-length w (length (entries_of w)) from es below in
     let level : w.arenas.level ≤ length (entries_of w) = omega (arith, stands.level, open_level-within zero es, long) in
     let block : block_at w.loaded p.place p.base ≡ in_it.block = block-of-step w.loaded in_it.block p.place p.base g in_it.at.own s in_it.at.here in_it.base at in
-    let state : v.now.state ≡ w.store.now.state = marks.stays.state in
-    let more : length (entries_of w ++ x ∷ []) ≡ suc (length (entries_of w)) = length-append (entries_of w) (x ∷ []) ∙ omega arith in
     record {
-      entries = record {
-        code = code-keeps w.loaded.code (tables_in w.loaded) w.store.names v.names w.loaded.preds (λ i name has. marks.stays.keeps.names i name has) stands.code;
-        state = subst IsState (sym state) stands.state;
-        tables = λ i t has. marks.stays.keeps.terms (record { number = i }) t (stands.tables i t has);
-        level = more ∙ ap suc (sym long) ∙ sym opens;
-        kept = sym (ap slots_kept_by (ap (entry_at (entries_of w ++ x ∷ [])) more ∙ get_append_last (entries_of w) x));
-        stack = subst (λ m. StackIs after m (length w.arenas.collected) (y ∷ es)) (sym more) (stack-opened w v mark slots p.base n kind (suc (length (entries_of w))) (length w.arenas.collected) (y ∷ es) (omega arith)
-            (stack-pushed w v mark slots p.base n from kind y es stands marks kept (omega arith) some (base-fits-in w (entry_at (entries_of w) w.arenas.level) in_it.agrees) in_it.agrees
-            (subst (λ h. KindIs w.loaded w.arenas.collected h w.store.now.state p.base n slots from (length w.arenas.collected) kind y) (sym (marked-all w)) kind_is) below));
-      };
+      entries = stack-entered w v mark p.base n from kind y es stands marks in_it.agrees opens kept some below kind_is;
       runs = going_now (record {
         block = in_it.block;
         base = in_it.base;
@@ -156,7 +163,7 @@ level-entered w v mark p n from kind y s g c cs e k es stands marks at in_it is 
           leaves = false;
           frames = answers (level-of-new w v mark p.base n kind ∙ ends ∙ ap in_block block);
         };
-        leaves = λ h. h;
+        leaves = record { is_last = λ h. h; is_given = λ none out. absurd cc; is_value = λ t h. absurd cc };
         frames = refl;
         agrees = agrees-with-new w v mark p.base n kind level (omega (arith, in_it.slots.within, in_it.base)) marks;
       });

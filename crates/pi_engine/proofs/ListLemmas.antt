@@ -1,5 +1,5 @@
 -- Lists: the first few of the first few, and elements that are put in.
-use Rattle.std.proofs.Common.{◌≡◌, ℕ, zero, suc, ◌+◌, ◌≤◌, List, [], ◌∷◌, None, length, take, set, refl, ap, arith}
+use Rattle.std.proofs.Common.{◌≡◌, ℕ, zero, suc, ◌≤◌, List, [], ◌∷◌, None, length, take, set, refl, ap, arith}
 use Rattle.std.specs.Prelude.{slice_get}
 use Rattle.std.proofs.lemmas.Grind.{common_steps}
 use Rattle.std.proofs.lemmas.Option.{gets}
@@ -24,3 +24,9 @@ take-take (suc n) (suc k) (x ∷ s) h = ap (λ r. x ∷ r) (take-take n k s (ome
 -- where there is no element
 pub none-past : {X : Type 0} → (s : List X) (i : ℕ) → slice_get s i ≡ None → length s ≤ i
 none-past s i h = grind (arith, common_steps, gets)
+
+pub length-taken : {X : Type 0} → (s : List X) (n : ℕ) → n ≤ length s → length (take n s) ≡ n
+length-taken [] zero h = refl
+length-taken [] (suc n) h = absurd (omega arith)
+length-taken (y ∷ s) zero h = refl
+length-taken (y ∷ s) (suc n) h = ap suc (length-taken s n (omega arith))

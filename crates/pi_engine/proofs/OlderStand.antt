@@ -11,6 +11,7 @@ use Rattle.pi_engine.specs.Configuration.{Entry as EntryData}
 use Rattle.pi_engine.specs.Here.{Here}
 use Rattle.pi_engine.specs.Stands.{World, Loaded, entries_of, EntryIs, IsAbove, StackIs, no_entries, entry_above}
 use Rattle.pi_engine.proofs.StandsLemmas.{last-or-below}
+use Rattle.pi_engine.proofs.OptionLemmas.{same-some}
 
 -- what the newest of the first n entries keeps is what each of them keeps, or more
 pub record KeptBy {M : Type 0} (w : World M) (r : Option (Entry M)) (x : Entry M) : Type 0 where
@@ -18,9 +19,6 @@ pub record KeptBy {M : Type 0} (w : World M) (r : Option (Entry M)) (x : Entry M
   pub slots : x.back.blocks.slots ≤ slots_kept_by r
   pub trail : x.back.blocks.trail ≤ noted_by r
   pub order : (y : Entry M) → r ≡ Some y → w.order x.mark ≤ w.order y.mark
-
-same-some : {A : Type 0} {x y : A} → Some x ≡ Some y → x ≡ y
-same-some h = cc
 
 -- there is an entry where one more stands
 stack-some : {M : Type 0} (w : World M) (n top : ℕ) (es : List EntryData) (i : ℕ) → StackIs w n top es → i < n → entry_at (entries_of w) n ≡ None → ⊥

@@ -16,6 +16,7 @@ use Rattle.pi_engine.specs.Here.{Here, block_end}
 use Rattle.pi_engine.specs.Stands.{World, Loaded, steps_of, entries_of, back_here, KindIs, rules_kind, branches_kind, once_kind, not_kind, if_kind, guard_kind, apply_kind, collect_kind, count_kind, catch_kind, exit_kind, block_at, shape_of, EntryIs, IsAbove, StackIs, no_entries, entry_above, StackStands}
 use Rattle.pi_engine.proofs.BlocksLemmas.{length-slots_before, brought_back-is}
 use Rattle.pi_engine.proofs.StandsLemmas.{stack-length, open_level-within}
+use Rattle.pi_engine.proofs.BasesStand.{shape-base}
 use Rattle.pi_engine.proofs.OlderStand.{kept-by-newest, KeptBy}
 
 -- the newest open level of a stack, with the entry that it is
@@ -49,12 +50,8 @@ open-is w n top k es (entry_above m from fs x y at is below) = open-above w k m 
 
 -- ---- where the blocks of levels begin
 
-shape-base : (r : Option Step) (base n : ℕ) → block_end (shape_of r base) ≤ n → base ≤ n
-shape-base None base n h = omega (arith, h)
-shape-base (Some s) base n h = omega (arith, h)
-
 at-base : (l : Loaded) (place base n : ℕ) → block_end (block_at l place base) ≤ n → base ≤ n
-at-base l place base n h = shape-base (slice_get (steps_of l) place) base n h
+at-base l place base n h = omega (arith, h, shape-base (slice_get (steps_of l) place) base)
 
 strict-base : (l : Loaded) (c : List Tree) (h : Here) (t : State) (base frame slots from to : ℕ) (kind : Kind) (s : Strict) (b : Back) → KindIs l c h t base frame slots from to kind (strict s b) → base ≤ length h.slots
 strict-base l c h t base frame slots from to kind s b (once_kind {place = place} is one) = at-base l place base (length h.slots) is.behind.slots.within

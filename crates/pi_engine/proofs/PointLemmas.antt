@@ -1,5 +1,5 @@
 -- The goals at a point, and what is left behind the first of them.
-use Rattle.std.proofs.Common.{◌≡◌, ◌⊎◌, inl, inr, ℕ, zero, suc, ◌+◌, ◌-◌, ◌^◌, ◌≤◌, ◌<◌, Bool, true, false, List, [], ◌∷◌, ◌++◌, Option, Some, None, length, take, drop, refl, sym, ◌∙◌, ap, subst, arith}
+use Rattle.std.proofs.Common.{◌≡◌, ◌≢◌, ◌⊎◌, inl, inr, ℕ, zero, suc, ◌+◌, ◌-◌, ◌^◌, ◌≤◌, ◌<◌, Bool, true, false, List, [], ◌∷◌, ◌++◌, Option, Some, None, length, take, drop, refl, sym, ◌∙◌, ap, subst, arith}
 use Rattle.std.specs.Prelude.{slice_get}
 use Rattle.pi_types.specs.Tree.{Tree}
 use Rattle.pi_types.specs.GoalTree.{GoalTree, GoalTrees, no_goals, goal, nodes}
@@ -10,7 +10,7 @@ use Rattle.pi_engine.specs.declared.frames.Point.{Point}
 use Rattle.pi_types.proofs.GetLemmas.{get_append_left, get_append_last}
 use Rattle.pi_engine.specs.Frames.{frame_at, point_behind, PushesBehind}
 use Rattle.pi_engine.specs.Configuration.{Frame, behind}
-use Rattle.pi_engine.specs.Here.{Block, IsHere, AreHere, none_here, value_here, last_here, more_here, Here, valued, GoesOn, answers, gives, returns_to_end, more_of_block, returns_to}
+use Rattle.pi_engine.specs.Here.{Block, IsHere, AreHere, none_here, value_here, last_here, more_here, Here, valued, LeftBehind, GoesOn, answers, gives, returns_to_end, more_of_block, returns_to}
 use Rattle.pi_engine.proofs.HereLemmas.{FramesStay, Moves, goes_on-moves}
 use Rattle.pi_engine.proofs.CodeLemmas.{size-shown, stands-first}
 
@@ -81,11 +81,19 @@ pub record GoalAtPoint (t : Tables) (steps : List Step) (h : Here) (b : Block) (
   pub leaves : Bool
   pub here : IsHere t steps b place g own
   pub frames : GoesOn t steps h b leaves n k
-  pub own_leaves : own ≡ true → leaves ≡ true
+  pub own_leaves : LeftBehind None own leaves k
+
+left-alone : (gs : GoalTrees) (value : Option Tree) (last own leaves : Bool) (rest : List Frame) → gs ≡ no_goals → value ≡ None → own ≡ last → LeftBehind value last leaves rest → LeftBehind None own leaves (behind gs (valued value rest))
+left-alone gs value last own leaves rest no_more none same left =
+    record {
+      is_last = λ is. left.is_last (sym same ∙ is);
+      is_given = λ h out. subst (λ k. k ≢ []) (sym (ap (λ x. behind x (valued value rest)) no_more ∙ ap (λ v. valued v rest) none)) (left.is_given none out);
+      is_value = λ t h. absurd cc;
+    }
 
 pub frame-behind : (t : Tables) (steps : List Step) (h : Here) (b : Block) (p : Point) (s : Step) (g : GoalTree) (gs : GoalTrees) (value : Option Tree) (last leaves : Bool) (rest : List Frame) (fs : List Point) (n : ℕ) →
     slice_get steps p.place ≡ Some s → b.base ≡ p.base → b.base ≤ length h.slots → AreHere t steps b p.place p.count (goal g gs) value last →
-    GoesOn t steps h b leaves p.frame rest → (last ≡ true → leaves ≡ true) → PushesBehind p s h.frames fs n →
+    GoesOn t steps h b leaves p.frame rest → LeftBehind value last leaves rest → PushesBehind p s h.frames fs n →
     GoalAtPoint t steps (with_frames h fs) b p.place n g (behind gs (valued value rest))
 frame-behind t steps h b p s g gs value last leaves rest fs n at base within here goes last_leaves pushes =
     let first : FirstOf t steps b p.place p.count g gs value last = first-of t steps b p.place p.count g gs value last here in
@@ -100,7 +108,7 @@ frame-behind t steps h b p s g gs value last leaves rest fs n at base within her
             here = first.here;
             frames = subst (λ k. GoesOn t steps (with_frames h fs) b leaves n k) (sym (ap (λ x. behind x (valued value rest)) alone.0 ∙ ap (λ v. valued v rest) alone.1))
                 (subst (λ i. GoesOn t steps (with_frames h fs) b leaves i rest) (sym none.0) (subst (λ x. GoesOn t steps (with_frames h x) b leaves p.frame rest) (sym none.1) goes));
-            own_leaves = λ is. last_leaves (sym alone.2 ∙ is);
+            own_leaves = left-alone gs value last first.own leaves rest alone.0 alone.1 alone.2 last_leaves;
           })
       | inr many ↦
           (let one : (n ≡ suc (length h.frames)) × (fs ≡ h.frames ++ point_behind p s ∷ []) = pushes.some many (omega (arith, size.0, size.1)) in
@@ -114,6 +122,6 @@ frame-behind t steps h b p s g gs value last leaves rest fs n at base within her
                 (omega (arith, many))
                 (subst (λ m. AreHere t steps b m (p.count - 1) gs value last) (ap (λ m. p.place + m) (sym size.0)) first.behind)
                 last_leaves (goes_on-pushed t steps h b leaves p.frame rest (point_behind p s) within goes)));
-            own_leaves = λ is. absurd (not-both first.own (first.not_last many) is);
+            own_leaves = record { is_last = λ is. absurd (not-both first.own (first.not_last many) is); is_given = λ none out. absurd cc; is_value = λ t h. absurd cc };
           })
     ]

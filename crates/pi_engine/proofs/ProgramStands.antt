@@ -1,5 +1,5 @@
 -- A program in tables, where atoms get more names.
-use Rattle.std.proofs.Common.{◌≡◌, ℕ, ◌+◌, List, [], ◌∷◌, Option, Some, length, drop, take}
+use Rattle.std.proofs.Common.{◌≡◌, ℕ, List, [], ◌∷◌, Some, drop}
 use Rattle.std.specs.Prelude.{slice_get}
 use Rattle.pi_types.specs.PatternTree.{PatternTree, PatternTrees, no_patterns, pattern}
 use Rattle.pi_types.specs.CoreTree.{ClauseTree, PredTree}
@@ -13,7 +13,7 @@ use Rattle.pi_engine.specs.Stands.{IsTestOf, AreTestsOf, IsRuleOf, IsPredicateOf
 abbrev pub MoreNames : List (List ℕ) → List (List ℕ) → Type 0
 MoreNames names others = (k : ℕ) (name : List ℕ) → slice_get names k ≡ Some name → slice_get others k ≡ Some name
 
-test-keeps : (names others : List (List ℕ)) (p : PatternTree) (t : HeadTest) → MoreNames names others → IsTestOf names p t → IsTestOf others p t
+pub test-keeps : (names others : List (List ℕ)) (p : PatternTree) (t : HeadTest) → MoreNames names others → IsTestOf names p t → IsTestOf others p t
 test-keeps names others p HeadTest.Deep more is = is
 test-keeps names others p (HeadTest.Slot k) more is = is
 test-keeps names others p (HeadTest.Int n) more is = is
@@ -30,6 +30,7 @@ rule-keeps code t names others pred c r more is =
     record {
       slots = is.slots;
       leaves_others = is.leaves_others;
+      patterns = is.patterns;
       tests = tests-keep names others c.head (drop r.tests code.tests.items) more is.tests;
       shallow = is.shallow;
       value = is.value;
@@ -50,6 +51,7 @@ pred-keeps code t names others pred p more is =
 pub code-keeps : (code : Code) (t : Tables) (names others : List (List ℕ)) (preds : List PredTree) → MoreNames names others → IsCodeOf code t names preds → IsCodeOf code t others preds
 code-keeps code t names others preds more is =
     record {
+      source = is.source;
       apart = is.apart;
       predicates = λ n pred at. ((is.predicates n pred at).0, (is.predicates n pred at).1, pred-keeps code t names others pred (is.predicates n pred at).0 more (is.predicates n pred at).2);
       numbers = is.numbers;

@@ -54,6 +54,8 @@ call-next l h base frame p r called c cs k is =
         rules = rules-next l p r called c cs (left-of l h base p r called (c ∷ cs) is.call);
       };
       frames = is.frames;
+      returns = is.returns;
+      alone = is.alone;
     }
 
 -- ---- what a rule's body goes on from
@@ -117,7 +119,7 @@ rule-stands w v a p base frame number called c cs s k es all again predicate rul
         stack = after.stack;
       };
       runs = subst (λ r. NowIs (moved w v a) (Now.Going point) (going (goal c.body no_goals) e r (after_body called.function c k))) after.passes.stays.state
-          (going_now (body-goes w v a after.below base frame es is.call.call.pred c rule called e k after.passes after.under is.level is.call.frames is.agrees applies.is_rule is.call.call.function applies.slots));
+          (going_now (body-goes w v a after.below base frame es is.call.call.pred c rule called e k after.passes after.under is.level is.call.frames is.call.returns is.call.alone is.agrees applies.is_rule is.call.call.function applies.slots));
     }
 
 -- ---- which entries are left

@@ -6,66 +6,18 @@ use Rattle.pi_types.specs.State.{State, IsState}
 use Rattle.pi_types.specs.Store.{StoreView}
 use Rattle.pi_types.specs.GoalTree.{GoalTrees}
 use Rattle.pi_engine.specs.declared.frames.Point.{Point}
-use Rattle.pi_engine.specs.declared.arenas.Kind.{Kind}
-use Rattle.pi_engine.specs.declared.arenas.Strict.{Strict}
-use Rattle.pi_engine.specs.declared.code.Step.{Step}
-use Rattle.pi_engine.specs.declared.code.Predicate.{Predicate}
-use Rattle.pi_engine.specs.declared.code.Rule.{Rule}
-use Rattle.pi_engine.specs.Code.{Tables}
 use Rattle.pi_engine.specs.Blocks.{BlocksView}
 use Rattle.pi_engine.specs.Arenas.{Entry, entry_at}
 use Rattle.pi_engine.specs.Configuration.{Frame, Entry as EntryData}
-use Rattle.pi_engine.specs.Here.{Block, Here, Ends, in_block, with_value, GoesOn, answers, gives, returns_to_end, more_of_block, returns_to}
-use Rattle.pi_engine.specs.Stands.{tables_in, World, Loaded, steps_of, entries_of, ends_of, entry_ends, level_ends, now_here, back_here, shape_of, rule_shape, Agrees, agrees_from, Extend, StackStands, GoingIs}
+use Rattle.pi_engine.specs.Here.{Block, Here, ends_base, GoesOn}
+use Rattle.pi_engine.specs.Stands.{tables_in, World, Loaded, steps_of, entries_of, level_ends, now_here, back_here, Agrees, agrees_from, Extend, StackStands, GoingIs}
 use Rattle.pi_engine.specs.Evaluates.{with_blocks, Writes}
 use Rattle.pi_engine.proofs.HereLemmas.{take-agrees, goes_on-moves}
 use Rattle.pi_engine.proofs.PointLemmas.{goes_on-within}
 use Rattle.pi_engine.proofs.ProgramStands.{code-keeps}
 use Rattle.pi_engine.proofs.StandsLemmas.{moved, Leaves, stack-moves, stack-length, open_level-within, entry-below}
 use Rattle.pi_engine.proofs.SlotsStand.{extends}
-
--- ---- where the blocks of a level begin
-
-abbrev ends_base : Ends → ℕ
-ends_base (in_block d) = d.base
-ends_base (with_value base) = base
-
-shape-base : (o : Option Step) (base : ℕ) → (shape_of o base).base ≡ base
-shape-base None base = refl
-shape-base (Some s) base = refl
-
-rule-base : (p : Option Predicate) (r : Option Rule) (base : ℕ) → (rule_shape p r base).base ≡ base
-rule-base None None base = refl
-rule-base None (Some r) base = refl
-rule-base (Some p) None base = refl
-rule-base (Some p) (Some r) base = refl
-
-ends-begin : (l : Loaded) (kind : Kind) (base : ℕ) → ends_base (ends_of l kind base) ≡ base
-ends-begin l (Kind.Strict (Strict.Once place)) base = shape-base (slice_get (steps_of l) place) base
-ends-begin l (Kind.Strict (Strict.Not place)) base = shape-base (slice_get (steps_of l) place) base
-ends-begin l (Kind.Strict (Strict.If place)) base = shape-base (slice_get (steps_of l) place) base
-ends-begin l (Kind.Strict (Strict.Guard p r)) base = rule-base (slice_get l.code.predicates.items p) (slice_get l.code.rules.items r) base
-ends-begin l (Kind.Strict (Strict.Apply place)) base = refl
-ends-begin l (Kind.Strict (Strict.Collect place first)) base = shape-base (slice_get (steps_of l) place) base
-ends-begin l (Kind.Strict (Strict.Count place n)) base = shape-base (slice_get (steps_of l) place) base
-ends-begin l (Kind.Catch place) base = shape-base (slice_get (steps_of l) place) base
-ends-begin l (Kind.Rules p r) base = refl
-ends-begin l (Kind.Branches place n) base = refl
-ends-begin l Kind.Exit base = refl
-
-ends-of-in : (h : Here) (b d : Block) → h.ends ≡ in_block b → b.base ≤ d.base → ends_base h.ends ≤ d.base
-ends-of-in h b d is lies = subst (λ r. ends_base r ≤ d.base) (sym is) lies
-
--- a block lies at or behind that to which its level comes back
-pub block-above : (t : Tables) (steps : List Step) (h : Here) (b : Block) (leaves : Bool) (n : ℕ) (k : List Frame) → GoesOn t steps h b leaves n k → ends_base h.ends ≤ b.base
-block-above t steps h b leaves n k (answers is) = ends-of-in h b b is (omega arith)
-block-above t steps h b leaves n k (gives base is lies) = subst (λ r. ends_base r ≤ b.base) (sym is) lies
-block-above t steps h b leaves n k (returns_to_end d is lies holds) = ends-of-in h d b is (omega (arith, lies))
-block-above t steps h b leaves n k (more_of_block p gs value last out k' at same earlier some here and_leaves rest) = block-above t steps h b out p.frame k' rest
-block-above t steps h b leaves n k (returns_to p d gs value last out k' at same lies earlier some holds here and_leaves rest) = omega (arith, lies, block-above t steps h d out p.frame k' rest)
-
-level-begins : (l : Loaded) {M : Type 0} (x : Entry M) (o : Option (Entry M)) (n : ℕ) → o ≡ Some x → ends_base (entry_ends l o) ≤ n → x.back.base ≤ n
-level-begins l x o n is lies = omega (arith, subst (λ r. ends_base (entry_ends l r) ≤ n) is lies, ends-begin l x.back.kind x.back.base)
+use Rattle.pi_engine.proofs.BasesStand.{block-above, level-begins}
 
 -- ---- a block that is written
 

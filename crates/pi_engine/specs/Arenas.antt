@@ -53,6 +53,10 @@ with_kind e kind = record {
 
 -- ---- changes
 
+-- the arenas with these values collected
+abbrev pub with_collected : {M : Type 0} → ArenasView M → List Tree → ArenasView M
+with_collected a c = record { frames = a.frames; blocks = a.blocks; entries = a.entries; level = a.level; collected = c }
+
 -- the entry that comes back to what is there now, but for the slots from one on
 abbrev pub new_back : {M : Type 0} → ArenasView M → ℕ → ℕ → ℕ → Kind → Back
 new_back a slots base frame kind =
@@ -116,21 +120,27 @@ pub record IsLevel {M : Type 0} (a : ArenasView M) (level : ℕ) (back : Back) :
   pub back_is : entry.back ≡ back
   pub is_open : a.level ≡ level
 
--- The arenas after the newest entry is come back to and dropped: they have what it brings back.
+-- The arenas after the newest entry is come back to, which stays: they have what it brings back.
 pub record ComesBack {M : Type 0} (a b : ArenasView M) (back : Back) : Type 0 where
-  pub entries : b.entries ≡ take (length a.entries - 1) a.entries
+  pub entries : b.entries ≡ a.entries
   pub frames : b.frames ≡ take back.frames a.frames
   pub slots : IsKept a.blocks back.blocks → b.blocks.slots ≡ brought_back back.blocks a.blocks
-  pub kept : b.blocks.kept ≡ slots_kept_by (newest (take (length a.entries - 1) a.entries))
-  pub keeps : (m : BlocksMark) → IsKept a.blocks back.blocks → IsKept a.blocks m → IsOlder m back.blocks → m.slots ≤ b.blocks.kept →
-      m.trail ≤ noted_by (newest (take (length a.entries - 1) a.entries)) → IsKept b.blocks m × (brought_back m b.blocks ≡ brought_back m a.blocks)
+  pub kept : b.blocks.kept ≡ a.blocks.kept
+  pub keeps : (m : BlocksMark) → IsKept a.blocks back.blocks → IsKept a.blocks m → IsOlder m back.blocks → IsKept b.blocks m × (brought_back m b.blocks ≡ brought_back m a.blocks)
   pub level : b.level ≡ back.level
   pub collected : b.collected ≡ a.collected
 
--- A store and arenas after the newest entry is come back to and dropped.
-pub record TakesNewest {M : Type 0} (order : M → ℕ) (v w : StoreView M) (a b : ArenasView M) (back : Back) : Type 0 where
+-- A store and arenas after the newest entry is come back to.
+pub record ReturnsToNewest {M : Type 0} (order : M → ℕ) (v w : StoreView M) (a b : ArenasView M) (back : Back) : Type 0 where
   pub entry : Entry M
   pub newest_is : newest a.entries ≡ Some entry
   pub back_is : entry.back ≡ back
   pub comes : ComesBack a b back
   pub returns : IsGood v entry.mark → Returns order v w entry.mark
+
+-- The arenas without the newest entry. What is there stays, but for what the entries below don't keep of the writes that were
+-- noted.
+pub record DropsNewest {M : Type 0} (a b : ArenasView M) : Type 0 where
+  pub drops : Drops a b (length a.entries - 1) (length a.frames)
+  pub slots : b.blocks.slots ≡ a.blocks.slots
+  pub level : b.level ≡ a.level

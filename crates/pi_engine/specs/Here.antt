@@ -1,6 +1,6 @@
 -- What a run's arenas stand for, at one moment: the slots of a block, the goals at a place of the tables, what the frames
 -- say. Nothing here speaks of the store but for the terms that Refs stand for.
-use Rattle.std.specs.Prelude.{◌≡◌, ℕ, zero, suc, ◌+◌, ◌-◌, ◌≤◌, ◌<◌, Bool, true, false, List, [], ◌∷◌, Option, Some, None, length, map, take, drop, slice_get, slice_index_or, IfSome, ⊤}
+use Rattle.std.specs.Prelude.{◌≡◌, ◌≢◌, ℕ, zero, suc, ◌+◌, ◌-◌, ◌≤◌, ◌<◌, Bool, true, false, List, [], ◌∷◌, Option, Some, None, length, map, take, drop, slice_get, slice_index_or, IfSome, ⊤}
 use Rattle.pi_types.specs.Tree.{Tree, Trees, no_trees, tree, trees_of}
 use Rattle.pi_types.specs.Places.{Places}
 use Rattle.pi_types.specs.Variables.{IsGround}
@@ -180,6 +180,13 @@ pub record Here : Type 0 where
   pub frames : List Point
   pub ends : Ends
 
+-- What is left to do behind goals that are maybe followed by a function's value: behind a last goal of a body nothing of it goes
+-- on with the block, an answer of a level that waits for a value has one, and nothing is left behind the value.
+pub record LeftBehind (value : Option Tree) (last leaves : Bool) (k : List Frame) : Type 0 where
+  pub is_last : last ≡ true → leaves ≡ true
+  pub is_given : value ≡ None → leaves ≡ true → k ≢ []
+  pub is_value : (t : Tree) → value ≡ Some t → (leaves ≡ true) × (k ≡ [])
+
 -- What is left to do behind the goals of a block, by the number of a frame. `leaves` says that nothing of it goes on with
 -- the block itself.
 pub data GoesOn (t : Tables) (steps : List Step) (h : Here) : Block → Bool → ℕ → List Frame → Type 0 where
@@ -189,9 +196,9 @@ pub data GoesOn (t : Tables) (steps : List Step) (h : Here) : Block → Bool →
       GoesOn t steps h b true 0 (return e ∷ [])
   more_of_block : {b : Block} {n : ℕ} (p : Point) (gs : GoalTrees) (value : Option Tree) (last leaves : Bool) (k : List Frame) →
       frame_at h.frames n ≡ Some p → p.base ≡ b.base → p.frame < n → 0 < p.count →
-      AreHere t steps b p.place p.count gs value last → (last ≡ true → leaves ≡ true) → GoesOn t steps h b leaves p.frame k →
+      AreHere t steps b p.place p.count gs value last → LeftBehind value last leaves k → GoesOn t steps h b leaves p.frame k →
       GoesOn t steps h b false n (behind gs (valued value k))
   returns_to : {b : Block} {e : Places} {n : ℕ} (p : Point) (d : Block) (gs : GoalTrees) (value : Option Tree) (last leaves : Bool) (k : List Frame) →
       frame_at h.frames n ≡ Some p → p.base ≡ d.base → block_end d ≤ b.base → p.frame < n → 0 < p.count → Holds h.terms h.slots d e →
-      AreHere t steps d p.place p.count gs value last → (last ≡ true → leaves ≡ true) → GoesOn t steps h d leaves p.frame k →
+      AreHere t steps d p.place p.count gs value last → LeftBehind value last leaves k → GoesOn t steps h d leaves p.frame k →
       GoesOn t steps h b true n (return e ∷ behind gs (valued value k))

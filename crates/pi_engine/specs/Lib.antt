@@ -16,4 +16,13 @@ pub mod Here
 pub mod Evaluates
 pub mod Stands
 pub mod Makes
+pub mod Fails
+pub mod Raises
+pub mod Lists
+pub mod Answers
 pub mod Tries
+pub mod Laid
+pub mod Numbers
+pub mod LaidRules
+pub mod Begins
+pub mod Goes

@@ -2,7 +2,7 @@
 use Rattle.std.specs.Prelude.{◌≡◌, ℕ, zero, Option, Some, None, List, slice_get, ⊤, ◌<◌, ◌≤◌, nat_lt, cond, codes}
 use Rattle.pi_types.specs.Places.{Places}
 use Rattle.pi_types.specs.GoalTree.{GoalTree, GoalTrees, no_goals, goal, catch}
-use Rattle.pi_types.specs.Tree.{Tree, atom, cells, most_cells}
+use Rattle.pi_types.specs.Tree.{Tree, atom, comp, no_trees, tree, cells, most_cells}
 use Rattle.pi_types.specs.Copy.{copy}
 use Rattle.pi_types.specs.Evaluation.{evaluated}
 use Rattle.pi_types.specs.View.{View}
@@ -56,18 +56,31 @@ AnswersLevel before after now =
     StandsGoing before p no_goals e k es → p.count ≡ 0 → p.frame ≡ 0 → IsBalanced zero es →
     (c : Config) × SilentlyTo view before.loaded.preds names (config (going no_goals e before.store.now.state k) es) c × Stands after now c
 
--- the entries of a `once` and a `not` at a place
+-- the same where there is an open level
+abbrev pub AnswersOpen : {M : Type 0} → World M → World M → Now → Type 0
+AnswersOpen before after now = 0 < before.arenas.level → AnswersLevel before after now
+
+-- the entries of levels at a place
 abbrev pub once_at : ℕ → Kind
 once_at place = Kind.Strict (Strict.Once place)
 
 abbrev pub not_at : ℕ → Kind
 not_at place = Kind.Strict (Strict.Not place)
 
--- goals have no further answer, and the newest entry is next
-abbrev pub FailsTo : {M : Type 0} → World M → World M → Now → Type 0
-FailsTo before after now =
-    (view : View) (names : List NameSlot) (es : List Entry) → StackStands before es →
-    (c : Config) × SilentlyTo view before.loaded.preds names (config failed es) c × Stands after now c
+abbrev pub if_at : ℕ → Kind
+if_at place = Kind.Strict (Strict.If place)
+
+abbrev pub guard_at : ℕ → ℕ → Kind
+guard_at predicate rule = Kind.Strict (Strict.Guard predicate rule)
+
+abbrev pub apply_at : ℕ → Kind
+apply_at place = Kind.Strict (Strict.Apply place)
+
+abbrev pub count_at : ℕ → ℕ → Kind
+count_at place n = Kind.Strict (Strict.Count place n)
+
+abbrev pub collect_at : ℕ → ℕ → Kind
+collect_at place first = Kind.Strict (Strict.Collect place first)
 
 -- entries that are passed over where there is no further answer: of a `once`, of a `catch`, and of an exit
 abbrev pub IsPassed : Kind → Type 0
@@ -79,6 +92,15 @@ IsPassed kind = ⊥
 -- what is raised for a term with this value: a copy of it, where it isn't too large
 abbrev pub raised_for : Tree → Tree
 raised_for u = cond (nat_lt most_cells (cells u)) (atom (codes "term_too_large")) (copy 0 u)
+
+-- what is raised for a call with this value that has none: it says the call, where that isn't too large
+abbrev pub unresolved_for : Tree → Tree
+unresolved_for u = cond (nat_lt most_cells (cells u)) (atom (codes "term_too_large")) (comp (codes "unresolved_function_call") (tree (copy 0 u) no_trees))
+
+-- a term with this value, as it is written down, or none where it is too large
+abbrev pub IsRead : Tree → Option Tree → Type 0
+IsRead u (Some x) = (x ≡ u) × (cells u ≤ most_cells)
+IsRead u None = most_cells < cells u
 
 -- a copy of a term with this value, or none where it is too large
 abbrev pub IsCopied : Tree → Option Tree → Type 0

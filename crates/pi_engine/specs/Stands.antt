@@ -6,9 +6,10 @@ use Rattle.pi_types.specs.State.{State, IsState}
 use Rattle.pi_types.specs.Store.{Terms, Moment, StoreView, IsGood, IsName}
 use Rattle.pi_types.specs.GoalTree.{GoalTree, GoalTrees, count_goals, truth, apply, if_else, not, once, collect, count, catch, goal, no_goals}
 use Rattle.pi_types.specs.PatternTree.{PatternTree, slot, exact_int, exact_atom, compound, named, PatternTrees, no_patterns, pattern}
-use Rattle.pi_types.specs.CoreTree.{ClauseTree, PredTree}
+use Rattle.pi_types.specs.CoreTree.{ClauseTree, PredTree, pred_tree}
 use Rattle.pi_types.specs.Evaluation.{Evaluated, evaluated}
-use Rattle.pi_types.specs.Sound.{IsAnother}
+use Rattle.pi_types.specs.Builtin.{is_built_in}
+use Rattle.pi_types.specs.Sound.{IsAnother, pattern_count}
 use Rattle.pi_engine.specs.declared.code.Node.{Node}
 use Rattle.pi_engine.specs.declared.code.Step.{Step}
 use Rattle.pi_engine.specs.declared.code.HeadTest.{HeadTest}
@@ -20,10 +21,10 @@ use Rattle.pi_engine.specs.declared.arenas.Kind.{Kind}
 use Rattle.pi_engine.specs.declared.arenas.Strict.{Strict}
 use Rattle.pi_engine.specs.declared.arenas.Back.{Back}
 use Rattle.pi_engine.specs.declared.run.Now.{Now}
-use Rattle.pi_engine.specs.Code.{Tables, tables_of}
+use Rattle.pi_engine.specs.Code.{Tables, tables_of, preds_of}
 use Rattle.pi_engine.specs.Blocks.{IsKept, IsOlder, brought_back}
 use Rattle.pi_engine.specs.Arenas.{Entry, ArenasView, entry_at, newest, slots_kept_by}
-use Rattle.pi_engine.specs.Here.{Block, Holds, HoldsArguments, IsHere, AreHere, AreBranches, valued, Ends, in_block, with_value, Here, GoesOn}
+use Rattle.pi_engine.specs.Here.{Block, Holds, HoldsArguments, IsHere, AreHere, AreBranches, valued, Ends, in_block, with_value, Here, LeftBehind, GoesOn}
 use Rattle.pi_engine.specs.Shape.{open_level}
 use Rattle.pi_engine.specs.Configuration.{Called, Back as BackData, Choice, rules_left, branches_left, Strict as Level, once_level, not_level, if_level, guard_level, value_level, list_level, number_level, Frame, Entry as EntryData, choice, strict, catch_level, left, Now as NowData, going, failed, raising, Config, config, leaves_others}
 
@@ -57,6 +58,7 @@ IsGuardHere t steps b (Some place) g = (g ≢ truth) × IsHere t steps b place g
 pub record IsRuleOf (code : Code) (t : Tables) (names : List (List ℕ)) (pred : PredTree) (c : ClauseTree) (r : Rule) : Type 0 where
   pub slots : r.slots ≡ c.slots
   pub leaves_others : r.leaves_others ≡ leaves_others pred.function c
+  pub patterns : pattern_count c.head ≡ pred.arity
   pub tests : AreTestsOf names c.head (drop r.tests code.tests.items)
   pub shallow : r.is_deep ≡ false → NoneIsDeep (take pred.arity (drop r.tests code.tests.items))
   pub value : IsTrue pred.function ↔ IsSome c.value
@@ -70,9 +72,9 @@ pub record IsPredicateOf (code : Code) (t : Tables) (names : List (List ℕ)) (p
   pub rules : p.end ≡ p.first + length pred.clauses
   pub each : (i : ℕ) (c : ClauseTree) → slice_get pred.clauses i ≡ Some c → (r : Rule) × (slice_get code.rules.items (p.first + i) ≡ Some r) × IsRuleOf code t names pred c r
 
--- a call's number is that of a predicate, a function call's that of a function
+-- a call's number is that of a predicate that isn't built in, a function call's that of such a function
 abbrev pub IsNumberOf : List PredTree → Bool → ℕ → Type 0
-IsNumberOf preds function n = (pred : PredTree) × (slice_get preds n ≡ Some pred) × (pred.function ≡ function)
+IsNumberOf preds function n = (pred : PredTree) × (slice_get preds n ≡ Some pred) × (pred.function ≡ function) × (is_built_in function pred.name pred.arity ≡ false)
 
 abbrev pub HasNumber : List PredTree → Node → Type 0
 HasNumber preds (Node.Call p first) = IsNumberOf preds false p
@@ -81,6 +83,7 @@ HasNumber preds node = ⊤
 
 -- the predicates of a program and a query's own stand in the tables
 pub record IsCodeOf (code : Code) (t : Tables) (names : List (List ℕ)) (preds : List PredTree) : Type 0 where
+  pub source : preds ≡ map pred_tree (preds_of code)
   pub apart : AllPairs IsAnother preds
   pub predicates : (n : ℕ) (pred : PredTree) → slice_get preds n ≡ Some pred → (p : Predicate) × (slice_get code.predicates.items n ≡ Some p) × IsPredicateOf code t names pred p
   pub numbers : (i : ℕ) (s : Step) → slice_get code.steps.items i ≡ Some s → HasNumber preds s.node
@@ -204,13 +207,15 @@ pub record IsCall (l : Loaded) (h : Here) (base p r : ℕ) (called : Called) (cs
 pub record CallStands (l : Loaded) (h : Here) (base frame p r : ℕ) (called : Called) (cs : List ClauseTree) (k : List Frame) : Type 0 where
   pub call : IsCall l h base p r called cs
   pub frames : GoesOn (tables_in l) (steps_of l) h (record { base = base; first = call.pred.arity; count = 0 }) true frame k
+  pub returns : called.function ≡ false → k ≢ []
+  pub alone : called.function ≡ true → k ≡ []
 
 -- a goal stands at a place, where it says that it is last only where nothing behind it goes on with its block
 pub record GoalStands (l : Loaded) (h : Here) (base place frame : ℕ) (g : GoalTree) (e : Places) (k : List Frame) : Type 0 where
   pub last : Bool
   pub goal : IsHere (tables_in l) (steps_of l) (block_at l place base) place g last
   pub behind : StandsBehind l h (block_at l place base) frame e k
-  pub leaves : last ≡ true → behind.leaves ≡ true
+  pub leaves : LeftBehind None last behind.leaves k
 
 -- What an entry stands for, by its kind and what it comes back to. Of the values that are collected, those from `from` to
 -- before `to` are the entry's.
@@ -218,9 +223,9 @@ pub data KindIs (l : Loaded) (collected : List Tree) (h : Here) (s : State) (bas
   rules_kind : {p r : ℕ} {called : Called} {cs : List ClauseTree} {k : List Frame} →
       (stands : CallStands l h base frame p r called cs k) → slots ≤ base + stands.call.pred.arity → from ≡ to →
       KindIs l collected h s base frame slots from to (Kind.Rules p r) (choice (rules_left called cs) (record { slots = []; state = s; frames = k }))
-  branches_kind : {place n : ℕ} {b : Block} {gs : GoalTrees} {last : Bool} {e : Places} {k : List Frame} → (behind : StandsBehind l h b frame e k) →
-      b.base ≡ base → AreBranches (tables_in l) (steps_of l) b place gs last → (last ≡ true → behind.leaves ≡ true) → count_goals gs ≡ n → from ≡ to →
-      KindIs l collected h s base frame slots from to (Kind.Branches place n) (choice (branches_left gs) (record { slots = e; state = s; frames = k }))
+  branches_kind : {place n : ℕ} {b : Block} {g : GoalTree} {gs : GoalTrees} {last : Bool} {e : Places} {k : List Frame} → (behind : StandsBehind l h b frame e k) →
+      b.base ≡ base → AreBranches (tables_in l) (steps_of l) b place (goal g gs) last → LeftBehind None last behind.leaves k → count_goals (goal g gs) ≡ n → from ≡ to →
+      KindIs l collected h s base frame slots from to (Kind.Branches place n) (choice (branches_left (goal g gs)) (record { slots = e; state = s; frames = k }))
   once_kind : {place : ℕ} {g : GoalTree} {e : Places} {k : List Frame} → GoalStands l h base place frame (once g) e k → from ≡ to →
       KindIs l collected h s base frame slots from to (Kind.Strict (Strict.Once place)) (strict once_level (record { slots = e; state = s; frames = k }))
   not_kind : {place : ℕ} {g : GoalTree} {e : Places} {k : List Frame} → GoalStands l h base place frame (not g) e k → from ≡ to →
@@ -276,7 +281,7 @@ pub record GoingIs {M : Type 0} (w : World M) (p : Point) (gs : GoalTrees) (e : 
   pub rest : List Frame
   pub goals : AreHere (tables_in w.loaded) (steps_of w.loaded) block p.place p.count gs value last
   pub behind : StandsBehind w.loaded (now_here w) block p.frame e rest
-  pub leaves : last ≡ true → behind.leaves ≡ true
+  pub leaves : LeftBehind value last behind.leaves rest
   pub frames : k ≡ valued value rest
   pub agrees : Agrees w w.arenas.level (now_here w)
 

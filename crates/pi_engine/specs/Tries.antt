@@ -1,23 +1,24 @@
 -- The rules of a call that are tried: what a run has for them.
-use Rattle.std.specs.Prelude.{◌≡◌, ℕ, suc, ◌+◌, ◌-◌, ◌≤◌, Bool, true, false, List, [], ◌∷◌, Option, Some, None, length, take, drop, max, slice_get, slice_set, replicate, ⊤}
+use Rattle.std.specs.Prelude.{◌≡◌, ℕ, suc, ◌+◌, ◌-◌, ◌≤◌, ◌==◌, ◌≢◌, Bool, true, false, List, [], ◌∷◌, Option, Some, None, length, take, drop, max, slice_get, slice_set, replicate, ⊤}
 use Rattle.pi_types.specs.Places.{Places}
 use Rattle.pi_types.specs.State.{State, IsState, bindings}
 use Rattle.pi_types.specs.HeadMatch.{matched_all_in}
 use Rattle.pi_types.specs.declared.store.Ref.{Ref}
+use Rattle.pi_types.specs.declared.store.Cell.{Cell}
 use Rattle.pi_types.specs.Store.{StoreView, Terms, Marks}
 use Rattle.pi_types.specs.CoreTree.{ClauseTree, PredTree}
 use Rattle.pi_engine.specs.declared.arenas.Kind.{Kind}
 use Rattle.pi_engine.specs.declared.arenas.Strict.{Strict}
 use Rattle.pi_engine.specs.declared.arenas.Back.{Back}
 use Rattle.pi_engine.specs.declared.blocks.BlocksMark.{BlocksMark}
-use Rattle.pi_engine.specs.Blocks.{IsKept, KeepsBlocks, brought_back}
+use Rattle.pi_engine.specs.Blocks.{BlocksView, IsKept, KeepsBlocks, brought_back}
 use Rattle.pi_engine.specs.declared.code.Predicate.{Predicate}
 use Rattle.pi_engine.specs.declared.code.Rule.{Rule}
 use Rattle.pi_engine.specs.declared.run.Now.{Now}
 use Rattle.pi_engine.specs.Arenas.{Entry, ArenasView, entry_at, newest, slots_kept_by, noted_by, with_kind, PushesEntry}
 use Rattle.pi_engine.specs.Configuration.{Frame, Called, strict, guard_level, Entry as EntryData}
 use Rattle.pi_engine.specs.Shape.{open_level}
-use Rattle.pi_engine.specs.Here.{Block, Here, Holds, HoldsArguments, GoesOn}
+use Rattle.pi_engine.specs.Here.{Block, block_end, Here, Holds, HoldsArguments, GoesOn}
 use Rattle.pi_engine.specs.Stands.{Loaded, World, tables_in, steps_of, entries_of, back_here, now_here, Agrees, agrees_from, Extend, IsCodeOf, IsRuleOf, clause_block, rule_block, CallStands, EntryIs, StackIs, Stands}
 use Rattle.pi_engine.specs.Step.{taken, guarding, try_rules, back_to}
 
@@ -36,6 +37,8 @@ pub record CallGoes (l : Loaded) (h : Here) (base frame p r : ℕ) (called : Cal
   pub call : RulesLeft l p r called cs
   pub fits : base + call.pred.arity ≤ length h.slots
   pub frames : GoesOn (tables_in l) (steps_of l) h (record { base = base; first = call.pred.arity; count = 0 }) true frame k
+  pub returns : called.function ≡ false → k ≢ []
+  pub alone : called.function ≡ true → k ≡ []
 
 -- the newest entry is the call's own: it comes back to the call as it was made, in this state, whatever it waits for
 pub record OwnEntry {M : Type 0} (w : World M) (p base frame from : ℕ) (called : Called) (cs : List ClauseTree) (s : State) (k : List Frame) (es : List EntryData) : Type 0 where
@@ -147,12 +150,43 @@ pub record KeepsBelow {M : Type 0} (a b : ArenasView M) (limit : ℕ) : Type 0 w
   pub level : b.level ≡ a.level
   pub collected : b.collected ≡ a.collected
 
+-- blocks are the same but for the slots from one on
+pub record KeepsFront (a b : BlocksView) (limit : ℕ) : Type 0 where
+  pub long : limit ≤ length b.slots
+  pub front : take limit b.slots ≡ take limit a.slots
+  pub keeps : KeepsBlocks a b
+  pub kept : b.kept ≡ a.kept
+
+-- the slots of a rule behind the arguments of its call, which are the last slots
+pub record RuleSlots {M : Type 0} (v : StoreView M) (a : BlocksView) (b : Block) (e : Places) : Type 0 where
+  pub state : IsState v.now.state
+  pub last : length a.slots ≡ block_end b
+  pub over : a.kept ≤ b.base + b.first
+  pub holds : Holds v.now.terms a.slots b e
+
 -- whether a head matches, and that the block then holds its slots
 abbrev pub TellsHead : Terms → List (Option Ref) → Block → Bool → Option Places → Type 0
 TellsHead t slots b true (Some e) = Holds t slots b e
 TellsHead t slots b true None = ⊥
 TellsHead t slots b false (Some e) = ⊥
 TellsHead t slots b false None = ⊤
+
+-- the same of what was done to the blocks: none of the arguments is changed
+pub record FillsHead (t : Terms) (a b : BlocksView) (block : Block) (found : Bool) (m : Option Places) : Type 0 where
+  pub keeps : KeepsFront a b (block.base + block.first)
+  pub tells : TellsHead t b.slots block found m
+
+-- nor is the number of slots
+pub record FillsSlots (t : Terms) (a b : BlocksView) (block : Block) (found : Bool) (m : Option Places) : Type 0 where
+  pub as_many : length b.slots ≡ length a.slots
+  pub head : FillsHead t a b block found m
+
+-- whether a term that shows this at its root is the atom with this number
+abbrev pub is_atom_cell : ℕ → Cell → Bool
+is_atom_cell k (Cell.Var m) = false
+is_atom_cell k (Cell.Int m) = false
+is_atom_cell k (Cell.Atom j) = j == k
+is_atom_cell k (Cell.Comp j count) = false
 
 -- a call's arguments are there
 abbrev pub HasArguments : {M : Type 0} → World M → ℕ → ℕ → Called → Type 0

@@ -1,6 +1,7 @@
 ghost use Rattle.std.specs.Prelude.{◌≡◌, ◌++◌, ◌∷◌, [], ◌+◌, ◌-◌, ◌^◌, Some, ◌≤◌, ◌<◌, length, take, max, slice_set, None, IfOk, IfSome, IfNone, OnOk};
 ghost use Rattle.pi_engine.specs.Blocks.{IsKept, IsOlder, brought_back};
 ghost use Rattle.pi_engine.specs.Frames.{point_behind, PushesBehind};
+ghost use Rattle.pi_engine.specs.Begins.{no_arenas};
 ghost use Rattle.pi_engine.specs.Arenas.{Entry, entry_at, FollowsFrame, LeavesLevel, Drops, view_of, newest, slots_kept_by, noted_by, with_kind};
 
 use crate::blocks::{Blocks, BlocksMark};
@@ -75,7 +76,9 @@ pub struct Arenas<M> {
 }
 
 impl<M: Drop> Arenas<M> {
-    pub fn new(alloc: Global) -> Arenas<M> {
+    pub fn new(alloc: Global) -> Arenas<M>
+        ensures { view_of result ≡ no_arenas }
+    {
         Arenas {
             frames: Frames::new(alloc),
             blocks: Blocks::new(alloc),
@@ -102,7 +105,8 @@ impl<M: Drop> Arenas<M> {
 
     /// The entry with this number; None for 0.
     pub fn entry(&self, number: usize) -> Option<&Entry<M>>
-        ensures { IfSome result (λ e. entry_at self.now.entries.items number ≡ Some e.now) }
+        ensures some { IfSome result (λ e. entry_at self.now.entries.items number ≡ Some e.now) }
+        ensures none { IfNone result (entry_at self.now.entries.items number ≡ None) }
     {
         match number.checked_sub(1) {
             None => None,

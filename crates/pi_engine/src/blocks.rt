@@ -1,4 +1,4 @@
-ghost use Rattle.std.specs.Prelude.{◌≡◌, ℕ, ◌+◌, ◌-◌, ◌<◌, ◌++◌, ◌∷◌, [], ◌≤◌, Option, Some, None, false, cond, length, map, max, replicate, take, drop, slice_set, slice_index_or, IfOk, OnErr};
+ghost use Rattle.std.specs.Prelude.{◌≡◌, ℕ, ◌+◌, ◌-◌, ◌<◌, ◌++◌, ◌∷◌, [], ◌≤◌, Option, Some, None, false, cond, length, map, max, replicate, take, drop, slice_set, slice_index_or, slice_get, IfOk, OnErr};
 ghost use Rattle.pi_engine.specs.Blocks.{KeepsBlocks, IsKept, IsOlder, brought_back, slots_before};
 
 use pi_types::Ref;
@@ -38,7 +38,9 @@ impl Model for Blocks {
 }
 
 impl Blocks {
-    pub fn new(alloc: Global) -> Blocks {
+    pub fn new(alloc: Global) -> Blocks
+        ensures { result ≡ record { slots = []; trail = []; kept = 0 } }
+    {
         Blocks {
             slots: Vec::new(alloc),
             trail: Vec::new(alloc),
@@ -61,6 +63,14 @@ impl Blocks {
         self.slots.get(slot).copied().flatten()
     }
 
+    /// What a slot holds; None past the last slot.
+    pub fn held(&self, slot: usize) -> Option<Option<Ref>>
+        ensures is { result ≡ slice_get self.now.slots slot }
+        ensures most { length self.now.slots ≤ 18446744073709551615 }
+    {
+        self.slots.get(slot).copied()
+    }
+
     /// Puts a term into a slot, where there is one.
     #[tactic(auto, using(crate::proofs::BlocksLemmas::keeps_noted, crate::proofs::BlocksLemmas::keeps_free, crate::proofs::BlocksLemmas::keeps_same))]
     pub fn set(&mut self, slot: usize, term: Ref) -> Result<(), AllocError>
@@ -68,6 +78,7 @@ impl Blocks {
         ensures kept { self.new.kept ≡ self.old.kept }
         ensures keeps { KeepsBlocks self.old self.new }
         ensures err { OnErr result (self.new ≡ self.old) }
+        ensures most { length self.old.slots ≤ 18446744073709551615 }
     {
         if slot >= self.slots.len() {
             return Ok(());

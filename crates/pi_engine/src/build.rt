@@ -1,21 +1,22 @@
 //! A program and a goal resolved into flat tables, once.
-ghost use Rattle.std.specs.Prelude.{◌≡◌};
-ghost use Rattle.pi_types.specs.CoreTree.{clause_tree};
-ghost use Rattle.pi_engine.specs.Configuration.{leaves_others};
+ghost use Rattle.std.specs.Prelude.{◌≡◌, ◌++◌, [], IfOk};
+ghost use Rattle.pi_types.specs.State.{bindings};
+ghost use Rattle.pi_types.specs.Value.{IsAcyclic};
+ghost use Rattle.pi_types.specs.Store.{Keeps, Stays};
+ghost use Rattle.pi_engine.specs.Code.{preds_of, tables_of};
+ghost use Rattle.pi_engine.specs.Laid.{tables_for};
+ghost use Rattle.pi_engine.specs.LaidRules.{IsFilled};
 
 mod goals;
+mod numbers;
+mod rules;
+mod sizes;
 mod terms;
 
-use crate::code::{Code, HeadTest, Predicate, Rule};
-use pi_types::{
-    Cell, CoreClause, CoreGoal, CorePred, CorePreds, CoreProgram, GoalNode, Pattern, StateStore,
-    Text,
-};
+use crate::code::Code;
+use numbers::Numbers;
+use pi_types::{CoreGoal, CorePred, CorePreds, CoreProgram, StateStore};
 use std::alloc::{AllocError, Global};
-use std::collections::HashMap;
-
-/// The numbers of predicates, by their name and arity.
-type Numbers = HashMap<String, u32>;
 
 /// A program and a goal, whose place is answered too: each call knows the number of its predicate, and each ground term is
 /// a term of the store.
@@ -26,61 +27,71 @@ pub fn build<'p, S: StateStore>(
     goal: &CoreGoal,
     slots: u32,
     store: &mut S,
-) -> Result<(Code<'p>, u32), AllocError> {
-    let mut numbers = HashMap::new(alloc);
-    add_numbers(alloc, core.preds.as_slice(), &mut numbers)?;
-    add_numbers(alloc, helpers.as_slice(), &mut numbers)?;
-    let mut builder = Builder {
-        alloc,
-        store,
-        numbers,
-        code: Code {
-            core,
-            helpers: CorePreds::new(alloc),
-            steps: Vec::new(alloc),
-            operands: Vec::new(alloc),
-            parts: Vec::new(alloc),
-            names: Vec::new(alloc),
-            tests: Vec::new(alloc),
-            rules: Vec::new(alloc),
-            predicates: Vec::new(alloc),
-        },
-    };
-    builder.add_predicates(core.preds.as_slice())?;
-    builder.add_predicates(helpers.as_slice())?;
-    let shape = Shape {
-        first_slot: 0,
-        slots,
-    };
-    let place = builder.add_goal(goal, shape, false)?;
-    let Builder { mut code, .. } = builder;
+) -> Result<(Code<'p>, u32), AllocError>
+    ensures keeps { Keeps (S.seen store.old) (S.seen store.new) }
+    ensures stays { IfOk result (λ _. Stays (S.seen store.old) (S.seen store.new)) }
+    ensures source { IfOk result (λ built. preds_of built.0 ≡ core.now.preds ++ helpers) }
+    ensures filled { IfOk result (λ built. IsAcyclic (bindings (S.seen store.old).now.state) → IsFilled (preds_of built.0) (tables_of (S.seen store.new).now.terms built.0) (S.seen store.new).names built.0 goal.now slots built.1) }
+{
+    let (mut code, place) = fill(alloc, core, helpers.as_slice(), goal, slots, store)?;
     code.helpers = helpers;
     Ok((code, place))
 }
 
-/// A predicate's key among the numbers.
-fn key_of(alloc: Global, name: &Text, arity: u32) -> Result<String, AllocError> {
-    format!(in alloc; "{}/{arity}", name.as_str())
+/// The tables of the predicates of a program, of a goal's own ones and of the goal, whose place is answered too.
+fn fill<'p, S: StateStore>(
+    alloc: Global,
+    core: &'p CoreProgram,
+    helpers: &[CorePred],
+    goal: &CoreGoal,
+    slots: u32,
+    store: &mut S,
+) -> Result<(Code<'p>, u32), AllocError>
+    ensures keeps { Keeps (S.seen store.old) (S.seen store.new) }
+    ensures stays { IfOk result (λ _. Stays (S.seen store.old) (S.seen store.new)) }
+    ensures core { IfOk result (λ made. made.0.core.now ≡ core.now) }
+    ensures filled { IfOk result (λ made. IsAcyclic (bindings (S.seen store.old).now.state) → IsFilled (core.now.preds ++ helpers.now) (tables_for (core.now.preds ++ helpers.now) (S.seen store.new).now.terms made.0) (S.seen store.new).names made.0 goal.now slots made.1) }
+{
+    let preds = core.preds.as_slice();
+    let mut numbers = Numbers::new(alloc);
+    numbers.add(preds)?;
+    numbers.add(helpers)?;
+    let builder = Builder { alloc, numbers };
+    let mut code = no_code(alloc, core);
+    builder.add_predicates(&mut code, store, preds)?;
+    builder.add_predicates(&mut code, store, helpers)?;
+    let shape = Shape {
+        first_slot: 0,
+        slots,
+    };
+    let place = builder.add_goal(&mut code, store, goal, shape, false)?;
+    Ok((code, place))
 }
 
-fn add_numbers(alloc: Global, preds: &[CorePred], numbers: &mut Numbers) -> Result<(), AllocError> {
-    for pred in preds {
-        let number = short(numbers.len())?;
-        numbers.insert(key_of(alloc, &pred.name, pred.arity)?, number)?;
+/// Empty tables.
+fn no_code(alloc: Global, core: &CoreProgram) -> Code<'_>
+    ensures core { result.core.now ≡ core.now }
+    ensures steps { result.steps.items ≡ [] }
+    ensures predicates { result.predicates.items ≡ [] }
+{
+    Code {
+        core,
+        helpers: CorePreds::new(alloc),
+        steps: Vec::new(alloc),
+        operands: Vec::new(alloc),
+        parts: Vec::new(alloc),
+        names: Vec::new(alloc),
+        tests: Vec::new(alloc),
+        rules: Vec::new(alloc),
+        predicates: Vec::new(alloc),
     }
-    Ok(())
 }
 
 /// A place in a table, which has 32 bits: a longer table is more than memory is asked for.
-fn short(n: usize) -> Result<u32, AllocError> {
-    u32::try_from(n).map_err(|_| AllocError)
-}
-
-/// Whether the rules behind one that applies stay as alternatives: those of an action rule and of a function's rule don't.
-fn leaves_others(clause: &CoreClause, pred: &CorePred) -> bool
-    ensures { result ≡ leaves_others pred.now.function (clause_tree clause.now) }
+fn short(n: usize) -> Result<u32, AllocError>
+    ensures { IfOk result (λ made. made ≡ n) }
 {
-    clause.back && !pred.function && clause.watches.as_slice().is_empty()
+    u32::try_from(n).map_err(|_| AllocError)
 }
 
 /// The slots of a clause in its blocks: where they begin, and how many they are.
@@ -90,91 +101,9 @@ struct Shape {
     slots: u32,
 }
 
+/// What goals are resolved by.
 #[derive(Drop)]
-struct Builder<'p, 's, S: StateStore> {
+struct Builder<'n> {
     alloc: Global,
-    store: &'s mut S,
-    numbers: Numbers,
-    code: Code<'p>,
-}
-
-impl<S: StateStore> Builder<'_, '_, S> {
-    fn add_predicates(&mut self, preds: &[CorePred]) -> Result<(), AllocError> {
-        for pred in preds {
-            let first = short(self.code.rules.len())?;
-            for clause in pred.clauses.as_slice() {
-                let rule = self.rule_of(clause, pred)?;
-                self.code.rules.push(rule)?;
-            }
-            let end = short(self.code.rules.len())?;
-            self.code.predicates.push(Predicate {
-                arity: pred.arity,
-                first,
-                end,
-                is_quiet: pred.quiet,
-            })?;
-        }
-        Ok(())
-    }
-
-    fn rule_of(&mut self, clause: &CoreClause, pred: &CorePred) -> Result<Rule, AllocError> {
-        let shape = Shape {
-            first_slot: pred.arity,
-            slots: clause.slots,
-        };
-        let tests = short(self.code.tests.len())?;
-        let is_deep = self.add_tests(&clause.head)?;
-        let guard = self.guard_of(&clause.guard, shape)?;
-        let body = self.add_goal(&clause.body, shape, clause.value.is_none())?;
-        let goals = match &clause.value {
-            None => 1,
-            Some(value) => {
-                self.add_value(value, shape)?;
-                2
-            }
-        };
-        Ok(Rule {
-            tests,
-            is_deep,
-            slots: clause.slots,
-            leaves_others: leaves_others(clause, pred),
-            guard,
-            body,
-            goals,
-        })
-    }
-
-    /// Adds the tests of a head, and answers whether there is a deep one.
-    fn add_tests(&mut self, head: &[Pattern]) -> Result<bool, AllocError> {
-        let mut is_deep = false;
-        for pattern in head {
-            let test = self.test_of(pattern)?;
-            is_deep = is_deep || matches!(test, HeadTest::Deep);
-            self.code.tests.push(test)?;
-        }
-        Ok(is_deep)
-    }
-
-    fn test_of(&mut self, pattern: &Pattern) -> Result<HeadTest, AllocError> {
-        match pattern {
-            Pattern::Slot(k) => Ok(HeadTest::Slot(*k)),
-            Pattern::Int(n) => Ok(HeadTest::Int(*n)),
-            Pattern::Atom(name) => {
-                let atom = self.store.put_atom(name.as_str())?;
-                match self.store.look(atom) {
-                    Cell::Atom(number) => Ok(HeadTest::Atom(number)),
-                    _ => Ok(HeadTest::Deep),
-                }
-            }
-            Pattern::Comp(_, _) | Pattern::Named(_, _) => Ok(HeadTest::Deep),
-        }
-    }
-
-    /// The place of a condition; None for one that is `true`.
-    fn guard_of(&mut self, guard: &CoreGoal, shape: Shape) -> Result<Option<u32>, AllocError> {
-        if guard.nodes() > 0 && matches!(guard.node(0), GoalNode::True) {
-            return Ok(None);
-        }
-        Ok(Some(self.add_goal(guard, shape, false)?))
-    }
+    numbers: Numbers<'n>,
 }

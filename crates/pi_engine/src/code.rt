@@ -1,7 +1,8 @@
-ghost use Rattle.std.specs.Prelude.{◌≡◌, ℕ, ◌+◌, ◌<◌, [], Option, Some, slice_get, slice_index_or};
+ghost use Rattle.std.specs.Prelude.{◌≡◌, ℕ, ◌+◌, ◌-◌, ◌<◌, ◌≤◌, take, drop, length, [], Option, Some, map, slice_get, slice_index_or, option_copied};
 ghost use Rattle.pi_types.specs.Tree.{Tree};
 ghost use Rattle.pi_types.specs.GoalTree.{GoalTree, nodes, child_count};
 ghost use Rattle.pi_types.specs.GoalCells.{cell_of};
+ghost use Rattle.pi_types.specs.CoreTree.{ClauseTree, PredTree, pattern_trees, pred_tree};
 ghost use Rattle.pi_engine.specs.Code.{tables_of, preds_of, step_cell, StandsAt, child_place};
 
 use pi_types::{CorePred, CorePreds, CoreProgram, Pattern, Ref, Text};
@@ -196,20 +197,28 @@ impl Code<'_> {
         }
     }
 
-    pub fn rule(&self, number: u32) -> Option<Rule>
-        ensures { result ≡ slice_get self.now.rules.items number }
+    /// The rule with this number.
+    pub fn rule(&self, number: u32) -> Option<&Rule>
+        ensures { option_copied result ≡ slice_get self.now.rules.items number }
     {
-        self.rules.get(number as usize).copied()
+        self.rules.get(number as usize)
     }
 
-    pub fn test(&self, i: u32) -> Option<HeadTest>
-        ensures { result ≡ slice_get self.now.tests.items i }
+    /// So many tests from one on: those of a rule's head.
+    pub fn tests_of(&self, first: u32, count: u32) -> &[HeadTest]
+        ensures within { first + count ≤ length self.now.tests.items → result.now ≡ take count (drop first self.now.tests.items) }
+        ensures none { count ≡ 0 → result.now ≡ [] }
     {
-        self.tests.get(i as usize).copied()
+        let first = first as usize;
+        self.tests
+            .get(first..first.saturating_add(count as usize))
+            .unwrap_or(&[])
     }
 
     /// The predicate with this number as it stands in the program or among the goal's own.
-    pub fn source(&self, number: u32) -> Option<&CorePred> {
+    pub fn source(&self, number: u32) -> Option<&CorePred>
+        ensures { option_copied result ≡ slice_get (preds_of self.now) number }
+    {
         let preds = self.core.preds.as_slice();
         let number = number as usize;
         match number.checked_sub(preds.len()) {
@@ -219,7 +228,9 @@ impl Code<'_> {
     }
 
     /// The patterns of the head of a predicate's rule.
-    pub fn head(&self, predicate: u32, rule: u32) -> &[Pattern] {
+    pub fn head(&self, predicate: u32, rule: u32) -> &[Pattern]
+        ensures { (p : Predicate) (pred : PredTree) (c : ClauseTree) → slice_get self.now.predicates.items predicate ≡ Some p → slice_get (map pred_tree (preds_of self.now)) predicate ≡ Some pred → slice_get pred.clauses (rule - p.first) ≡ Some c → pattern_trees result.now ≡ c.head }
+    {
         let clause = rule.saturating_sub(self.predicate(predicate).first);
         match self.source(predicate) {
             None => &[],

@@ -2,6 +2,7 @@
 #![tactic(auto)]
 
 mod arenas;
+mod begin;
 mod blocks;
 mod build;
 mod code;
@@ -11,7 +12,7 @@ pub mod laws;
 mod machine;
 mod run;
 mod steps;
-mod unify;
+mod ticks;
 mod values;
 
 pub use happening::{Budget, Happening, Mode, PlanCall};

@@ -1,22 +1,24 @@
-ghost use Rattle.std.specs.Prelude.{◌≡◌, Some};
-ghost use Rattle.pi_engine.specs.declared.code.Node.TheVariants.{True};
+ghost use Rattle.std.specs.Prelude.{◌≡◌, Some, IfOk, IfErr};
+ghost use Rattle.pi_types.specs.State.{empty_state};
+ghost use Rattle.pi_types.specs.Store.{Stays};
+ghost use Rattle.pi_types.specs.CoreTree.{program_tree, query_tree};
+ghost use Rattle.pi_types.specs.Sound.{IsSoundQuery};
 ghost use Rattle.pi_engine.specs.Budget.{Counts, IsWithin};
 ghost use Rattle.pi_engine.specs.Frames.{frame_at};
 ghost use Rattle.pi_engine.specs.Arenas.{view_of};
+ghost use Rattle.pi_engine.specs.Begins.{Begins};
 ghost use Rattle.pi_engine.specs.Stands.{Loaded, world};
-ghost use Rattle.pi_engine.specs.Makes.{RunsGoal, GoesFrom};
+ghost use Rattle.pi_engine.specs.Makes.{GoesFrom};
 
-use crate::arenas::{Kind, Strict, behind};
-use crate::build::build;
-use crate::code::{Code, Node, Step};
+use crate::begin::begin;
+use crate::code::Code;
 use crate::frames::Point;
 use crate::happening::{Budget, Happening, Mode};
 use crate::run::{End, Now, Run};
 use crate::steps::answers::answer;
-use crate::steps::calls::{apply, call, give_value, make_equal};
-use crate::steps::choices::{enter_alternatives, enter_sequence, one_goal};
-use crate::steps::levels::{answer_level, enter_level, fail};
-use crate::steps::raises::{enter_catch, throw, unwind};
+use crate::steps::goals::run_goal;
+use crate::steps::levels::{answer_level, fail};
+use crate::steps::raises::unwind;
 use pi_types::{Answer, CoreProgram, CoreQuery, NameSlots, StateStore};
 use std::alloc::{AllocError, Global};
 
@@ -44,7 +46,10 @@ impl<'p, S: StateStore> Machine<'p, S> {
         query: CoreQuery,
         store: S,
         mode: Mode,
-    ) -> Result<Machine<'p, S>, S> {
+    ) -> Result<Machine<'p, S>, S>
+        ensures begins { IfOk result (λ machine. (S.seen store).now.state ≡ empty_state → IsSoundQuery (program_tree core.now) (query_tree query) → Begins S.order machine.code (S.seen machine.run.store) (view_of machine.run.arenas) machine.run.now (program_tree core.now) (query_tree query)) }
+        ensures err { IfErr result (λ given. Stays (S.seen store) (S.seen given)) }
+    {
         let mut run = Run::new(alloc, store);
         let Ok(start) = run.store.mark() else {
             return Err(run.into_store());
@@ -55,18 +60,18 @@ impl<'p, S: StateStore> Machine<'p, S> {
             names,
             slots,
         } = query;
-        let built = build(alloc, core, helpers, &goal, slots, &mut run.store);
-        let (Ok((code, place)), Ok(())) = (built, run.arenas.blocks.push_empty(slots)) else {
-            run.store.undo(&start);
-            return Err(run.into_store());
-        };
-        run.now = one_goal(place, 0, 0);
-        Ok(Machine {
-            names,
-            code,
-            mode,
-            run,
-        })
+        match begin(alloc, core, &goal, helpers, slots, &mut run) {
+            Ok(code) => Ok(Machine {
+                names,
+                code,
+                mode,
+                run,
+            }),
+            Err(AllocError) => {
+                run.store.undo(&start);
+                Err(run.into_store())
+            }
+        }
     }
 }
 
@@ -100,9 +105,20 @@ impl<S: StateStore> Machine<'_, S> {
     fn step(&mut self, budget: &mut Budget) -> Result<Outcome, AllocError>
         ensures { Counts budget.old budget.new }
     {
-        match self.run.now {
-            Now::Going(point) if point.count == 0 => return self.go_on(point),
-            Now::Going(point) => self.first_goal(point, budget)?,
+        match &self.run.now {
+            Now::Going(at) => {
+                // Part by part: to copy it whole is to wait for the writes of all its parts.
+                let point = Point {
+                    place: at.place,
+                    count: at.count,
+                    base: at.base,
+                    frame: at.frame,
+                };
+                if point.count == 0 {
+                    return self.go_on(point);
+                }
+                run_goal(&self.code, self.mode, &mut self.run, point, budget)?;
+            }
             Now::Failing => fail(&self.code, &mut self.run)?,
             Now::Raising(_) => unwind(&self.code, &mut self.run)?,
             Now::Ended(_) => {}
@@ -131,36 +147,6 @@ impl<S: StateStore> Machine<'_, S> {
             }
         }
     }
-
-    /// Runs the first goal of a point.
-    fn first_goal(&mut self, point: Point, budget: &mut Budget) -> Result<(), AllocError>
-        ensures { Counts budget.old budget.new }
-    {
-        let code = &self.code;
-        let run = &mut self.run;
-        let step = code.step(point.place);
-        match step.node {
-            Node::Tick => {
-                if tick(self.mode, &mut run.now, budget) {
-                    run.now = Now::Going(behind(point, step));
-                }
-                Ok(())
-            }
-            Node::Call(predicate, operands) => {
-                if tick_call(code, self.mode, predicate, &mut run.now, budget) {
-                    call(code, run, point, step, predicate, operands)?;
-                }
-                Ok(())
-            }
-            Node::Apply(predicate, operands, _) => {
-                if tick_call(code, self.mode, predicate, &mut run.now, budget) {
-                    apply(code, run, point, step, predicate, operands)?;
-                }
-                Ok(())
-            }
-            _ => silent_goal(code, run, point, step),
-        }
-    }
 }
 
 /// Goes on with a point's frame, whose goals are done.
@@ -168,97 +154,6 @@ fn follow<S: StateStore>(run: &mut Run<S>, point: Point, next: Point)
     ensures { (l : Loaded) → point.count ≡ 0 → frame_at run.old.arenas.frames point.frame ≡ Some next → GoesFrom (world l (S.seen run.old.store) S.order (view_of run.old.arenas)) (world l (S.seen run.new.store) S.order (view_of run.new.arenas)) point run.new.now }
 {
     run.now = Now::Going(run.arenas.go_on(point, next));
-}
-
-/// Passes a goal that is `true`.
-fn pass<S: StateStore>(run: &mut Run<S>, point: Point, step: Step)
-    ensures { step.node ≡ True → (l : Loaded) → RunsGoal (world l (S.seen run.old.store) S.order (view_of run.old.arenas)) (world l (S.seen run.new.store) S.order (view_of run.new.arenas)) point step run.new.now }
-{
-    run.now = Now::Going(behind(point, step));
-}
-
-/// Runs the first goal of a point, which counts no Tick.
-fn silent_goal<S: StateStore>(
-    code: &Code<'_>,
-    run: &mut Run<S>,
-    point: Point,
-    step: Step,
-) -> Result<(), AllocError> {
-    match step.node {
-        Node::True => {
-            pass(run, point, step);
-            Ok(())
-        }
-        Node::Seq(count) => enter_sequence(run, point, step, count),
-        Node::Alt(count) => enter_alternatives(code, run, point, step, count),
-        Node::Unify(left, right) => make_equal(code, run, point, step, left, right),
-        Node::Throw(ball) => throw(code, run, point, step, ball),
-        Node::Value(operand) => give_value(code, run, point, step, operand),
-        Node::If => enter_strict(code, run, point, step, Strict::If(point.place)),
-        Node::Not => enter_strict(code, run, point, step, Strict::Not(point.place)),
-        Node::Once => enter_strict(code, run, point, step, Strict::Once(point.place)),
-        Node::Count(_) => enter_strict(code, run, point, step, Strict::Count(point.place, 0)),
-        Node::Collect(_, _) => {
-            let first = run.arenas.collected.len();
-            enter_strict(code, run, point, step, Strict::Collect(point.place, first))
-        }
-        Node::Catch(ball) => enter_catch(code, run, point, step, ball),
-        Node::Fail | Node::Tick | Node::Call(_, _) | Node::Apply(_, _, _) => {
-            run.now = Now::Failing;
-            Ok(())
-        }
-    }
-}
-
-fn enter_strict<S: StateStore>(
-    code: &Code<'_>,
-    run: &mut Run<S>,
-    point: Point,
-    step: Step,
-    strict: Strict,
-) -> Result<(), AllocError> {
-    enter_level(code, run, point, step, Kind::Strict(strict))
-}
-
-/// Counts the Tick of a call, unless it is a quiet one; false where the budget has none left, which ends the run.
-fn tick_call(
-    code: &Code<'_>,
-    mode: Mode,
-    predicate: u32,
-    now: &mut Now,
-    budget: &mut Budget,
-) -> bool
-    ensures { Counts budget.old budget.new }
-{
-    code.predicate(predicate).is_quiet || tick(mode, now, budget)
-}
-
-/// Counts a Tick; false where the budget has none left, which ends the run.
-fn tick(mode: Mode, now: &mut Now, budget: &mut Budget) -> bool
-    ensures { Counts budget.old budget.new }
-{
-    match mode {
-        Mode::Top => {
-            if budget.ticks >= budget.steps {
-                *now = Now::Ended(End::StepsSpent);
-                return false;
-            }
-            budget.ticks += 1;
-        }
-        Mode::Inner => {
-            let work = budget.work;
-            let spent = work
-                .goals
-                .saturating_add(work.runs)
-                .saturating_add(work.expansions);
-            if spent >= budget.limit {
-                *now = Now::Ended(End::WorkSpent);
-                return false;
-            }
-            budget.work.goals += 1;
-        }
-    }
-    true
 }
 
 /// An end, answered again.

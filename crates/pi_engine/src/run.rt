@@ -1,6 +1,11 @@
+ghost use Rattle.std.specs.Prelude.{◌≡◌};
+ghost use Rattle.pi_engine.specs.Arenas.{view_of};
+ghost use Rattle.pi_engine.specs.Begins.{no_arenas};
+
 use crate::arenas::Arenas;
 use crate::frames::Point;
 use pi_types::{Ref, StateStore, Term};
+use pi_unify::Slots;
 use std::alloc::Global;
 
 /// How a run ended.
@@ -38,12 +43,15 @@ pub struct Run<S: StateStore> {
     pub made: Vec<Ref>,
     pub parts: Vec<Ref>,
     /// The slots of the rule that is being matched.
-    pub slots: Vec<Option<Ref>>,
+    pub slots: Slots,
 }
 
 impl<S: StateStore> Run<S> {
     /// A run of nothing, which has no answer.
-    pub fn new(alloc: Global, store: S) -> Run<S> {
+    pub fn new(alloc: Global, store: S) -> Run<S>
+        ensures store { result.store ≡ store }
+        ensures arenas { view_of result.arenas ≡ no_arenas }
+    {
         Run {
             alloc,
             store,
@@ -57,7 +65,9 @@ impl<S: StateStore> Run<S> {
     }
 
     /// Gives the store back.
-    pub fn into_store(self) -> S {
+    pub fn into_store(self) -> S
+        ensures { result ≡ self.store }
+    {
         let Run { store, .. } = self;
         store
     }

@@ -2,6 +2,8 @@
 pub mod answers;
 pub mod calls;
 pub mod choices;
+pub mod goals;
+pub mod heads;
 pub mod levels;
 pub mod lists;
 pub mod raises;

@@ -18,6 +18,7 @@ use std::alloc::AllocError;
 
 /// What an operand is where the slots of the clause begin at `first`. A slot that is empty takes a new variable at its
 /// first occurrence from the left.
+#[inline(always)]
 pub fn value<S: StateStore>(
     code: &Code<'_>,
     run: &mut Run<S>,
@@ -45,6 +46,7 @@ pub fn slot_at(first: usize, slot: u32) -> usize
 }
 
 /// What a slot holds, which is a new variable where it was empty.
+#[inline(always)]
 pub fn slot_value<S: StateStore>(run: &mut Run<S>, slot: usize) -> Result<Ref, AllocError>
     ensures ok { IfOk result (λ r. (b : Block) (k : ℕ) (e : Places) → slot ≡ slot_number (slot_number b.base b.first) k → k < b.count → Holds (S.seen run.old.store).now.terms run.old.arenas.blocks.slots b e → Evaluates b (S.seen run.old.store) (S.seen run.new.store) (view_of run.old.arenas) (view_of run.new.arenas) (slot_term (held e k) k e (S.seen run.old.store).now.state) r) }
     ensures made { run.new.made ≡ run.old.made }
@@ -61,6 +63,7 @@ pub fn slot_value<S: StateStore>(run: &mut Run<S>, slot: usize) -> Result<Ref, A
 }
 
 /// Fills the empty slots of a compound, from the left.
+#[inline(never)]
 fn fill_slots<S: StateStore>(
     code: &Code<'_>,
     run: &mut Run<S>,
@@ -94,6 +97,7 @@ fn fill_part<S: StateStore>(run: &mut Run<S>, part: Part, first: usize) -> Resul
 }
 
 /// Puts a compound together from its cells, from the right: what is made last is the first argument of what comes next.
+#[inline(never)]
 fn put_together<S: StateStore>(
     code: &Code<'_>,
     run: &mut Run<S>,

@@ -1,39 +1,105 @@
 //! Goals as steps.
-use super::{Builder, Shape, key_of, short};
-use crate::code::{Node, Step};
+ghost use Rattle.std.specs.Prelude.{◌≡◌, ◌+◌, ◌-◌, ◌++◌, ℕ, List, false, true, replicate, IfOk, length};
+ghost use Rattle.pi_types.specs.GoalTree.{nodes, child_goals};
+ghost use Rattle.pi_types.specs.GoalCells.{kind_shown};
+ghost use Rattle.pi_types.specs.Store.{Keeps};
+ghost use Rattle.pi_types.specs.declared.core_program.CorePred.{CorePred};
+ghost use Rattle.pi_types.specs.declared.goal_node.GoalKind.TheVariants.{Call as CallKind, Apply as ApplyKind};
+ghost use Rattle.pi_engine.specs.Numbers.{IsNumbering};
+ghost use Rattle.pi_engine.specs.Laid.{tables_for, AddsOperands, AddsSteps, OperandsAt, IsNodeOf, StepsAt, IsLaid, IsValueLaid, AreResolved, marked, before_last, Sized};
+
+use super::sizes::{child_count, sizes_of};
+use super::terms::operand_of;
+use super::{Builder, Shape, short};
+use crate::code::{Code, Node, Step};
 use pi_types::{Args, CoreGoal, GoalNode, StateStore, Term, Text};
 use std::alloc::AllocError;
 
-impl<S: StateStore> Builder<'_, '_, S> {
-    /// Adds a goal's nodes in their order, and answers the place of the first. Behind a body's last goal its slots are
-    /// done with, where `is_body` says so.
-    pub(super) fn add_goal(
-        &mut self,
+impl Builder<'_> {
+    /// Adds the steps of a goal, and answers the place of the first. Where it is a body's last goal, so are those in it
+    /// behind which nothing is left to do in the body.
+    pub(super) fn add_goal<S: StateStore>(
+        &self,
+        code: &mut Code<'_>,
+        store: &mut S,
         goal: &CoreGoal,
         shape: Shape,
-        is_body: bool,
-    ) -> Result<u32, AllocError> {
-        let start = self.code.steps.len();
+        is_last: bool,
+    ) -> Result<u32, AllocError>
+        ensures keeps { Keeps (S.seen store.old) (S.seen store.new) }
+        ensures adds { IfOk result (λ _. AddsSteps (S.seen store.old) (S.seen store.new) code.old code.new) }
+        ensures place { IfOk result (λ place. place ≡ length code.old.steps.items) }
+        ensures long { IfOk result (λ _. length code.new.steps.items ≡ length code.old.steps.items + nodes goal.now) }
+        ensures laid { IfOk result (λ place. (preds : List CorePred) → IsNumbering self.now.numbers preds → IsLaid preds (tables_for preds (S.seen store.new).now.terms code.new) code.new.steps.items shape.first_slot shape.slots place goal.now is_last) }
+        ensures resolved { IfOk result (λ _. (preds : List CorePred) → IsNumbering self.now.numbers preds → AreResolved preds code.old.steps.items → AreResolved preds code.new.steps.items) }
+    {
+        let start = short(code.steps.len())?;
+        let sizes = sizes_of(self.alloc, goal)?;
+        self.add_steps(code, store, goal, &sizes, shape, is_last)?;
+        short(code.steps.len())?;
+        Ok(start)
+    }
+
+    /// Adds the steps of a goal, which has these sizes. Of the goals that are still ahead, those that aren't below another
+    /// one have a mark each, the next one's last.
+    fn add_steps<S: StateStore>(
+        &self,
+        code: &mut Code<'_>,
+        store: &mut S,
+        goal: &CoreGoal,
+        sizes: &[usize],
+        shape: Shape,
+        is_last: bool,
+    ) -> Result<(), AllocError>
+        requires { Sized goal.now sizes.now 0 }
+        ensures keeps { Keeps (S.seen store.old) (S.seen store.new) }
+        ensures adds { IfOk result (λ _. AddsSteps (S.seen store.old) (S.seen store.new) code.old code.new) }
+        ensures long { IfOk result (λ _. length code.new.steps.items ≡ length code.old.steps.items + nodes goal.now) }
+        ensures are { IfOk result (λ _. (preds : List CorePred) → IsNumbering self.now.numbers preds → StepsAt preds (tables_for preds (S.seen store.new).now.terms code.new) code.new.steps.items shape.first_slot shape.slots (length code.old.steps.items) (marked goal.now is_last)) }
+        ensures resolved { IfOk result (λ _. (preds : List CorePred) → IsNumbering self.now.numbers preds → AreResolved preds code.old.steps.items → AreResolved preds code.new.steps.items) }
+    {
+        let mut marks = Vec::new(self.alloc);
+        marks.push(is_last)?;
         for i in 0..goal.nodes() {
+            let is_last = marks.pop().unwrap_or(false);
             let shown = goal.node(i);
-            let node = self.node_of(shown)?;
-            let size = children_of(shown)?;
-            let is_last = is_body && i == 0;
-            self.code.steps.push(step_of(node, size, shape, is_last))?;
+            push_marks(&mut marks, shown, is_last)?;
+            let node = self.node_of(code, store, shown)?;
+            code.steps
+                .push(step_of(node, short(sizes[i])?, shape, is_last))?;
         }
-        link_from(&mut self.code.steps, start)?;
-        short(start)
+        Ok(())
     }
 
     /// Adds the step that gives the value of a function's clause.
-    pub(super) fn add_value(&mut self, value: &Term, shape: Shape) -> Result<(), AllocError> {
-        let node = Node::Value(self.operand_of(value)?);
-        self.code.steps.push(step_of(node, 1, shape, false))?;
+    pub(super) fn add_value<S: StateStore>(
+        &self,
+        code: &mut Code<'_>,
+        store: &mut S,
+        value: &Term,
+        shape: Shape,
+    ) -> Result<(), AllocError>
+        ensures keeps { Keeps (S.seen store.old) (S.seen store.new) }
+        ensures adds { IfOk result (λ _. AddsSteps (S.seen store.old) (S.seen store.new) code.old code.new) }
+        ensures laid { IfOk result (λ _. (preds : List CorePred) → IsValueLaid (tables_for preds (S.seen store.new).now.terms code.new) code.new.steps.items shape.first_slot shape.slots (length code.old.steps.items) value.now) }
+        ensures resolved { IfOk result (λ _. (preds : List CorePred) → AreResolved preds code.old.steps.items → AreResolved preds code.new.steps.items) }
+    {
+        let node = Node::Value(operand_of(self.alloc, code, store, value)?);
+        code.steps.push(step_of(node, 1, shape, false))?;
         Ok(())
     }
 
     /// A node with its names resolved.
-    fn node_of(&mut self, node: GoalNode<'_>) -> Result<Node, AllocError> {
+    fn node_of<S: StateStore>(
+        &self,
+        code: &mut Code<'_>,
+        store: &mut S,
+        node: GoalNode<'_>,
+    ) -> Result<Node, AllocError>
+        ensures keeps { Keeps (S.seen store.old) (S.seen store.new) }
+        ensures adds { IfOk result (λ _. AddsOperands (S.seen store.old) (S.seen store.new) code.old code.new) }
+        ensures is { IfOk result (λ made. (preds : List CorePred) → IsNumbering self.now.numbers preds → IsNodeOf preds (tables_for preds (S.seen store.new).now.terms code.new) (kind_shown node.entry) made) }
+    {
         match node {
             GoalNode::True => Ok(Node::True),
             GoalNode::Fail => Ok(Node::Fail),
@@ -45,50 +111,89 @@ impl<S: StateStore> Builder<'_, '_, S> {
             GoalNode::Once => Ok(Node::Once),
             GoalNode::Collect(value, into) => Ok(Node::Collect(value, into)),
             GoalNode::Count(into) => Ok(Node::Count(into)),
-            GoalNode::Catch(ball) => Ok(Node::Catch(self.operand_of(ball)?)),
-            GoalNode::Call(name, args) => self.call_of(name, args),
+            GoalNode::Catch(ball) => Ok(Node::Catch(operand_of(self.alloc, code, store, ball)?)),
+            GoalNode::Call(name, args) => self.call_of(code, store, name, args.as_slice()),
             GoalNode::Apply(name, args, slot) => {
-                let operands = self.add_operands(args.as_slice())?;
-                let number = self.number_of(name, args)?;
-                Ok(number.map_or(Node::Fail, |number| Node::Apply(number, operands, slot)))
+                self.apply_of(code, store, name, args.as_slice(), slot)
             }
         }
     }
 
     /// A call: of a built-in predicate, or of one that has a number. A name that is neither is no sound program's.
-    fn call_of(&mut self, name: &Text, args: &Args) -> Result<Node, AllocError> {
-        match (name.as_str(), args.as_slice()) {
-            ("=", [left, right]) => {
-                let left = self.operand_of(left)?;
-                let right = self.operand_of(right)?;
-                Ok(Node::Unify(left, right))
-            }
-            ("throw", [ball]) => Ok(Node::Throw(self.operand_of(ball)?)),
-            (_, terms) => {
-                let operands = self.add_operands(terms)?;
-                let number = self.number_of(name, args)?;
-                Ok(number.map_or(Node::Fail, |number| Node::Call(number, operands)))
-            }
+    fn call_of<S: StateStore>(
+        &self,
+        code: &mut Code<'_>,
+        store: &mut S,
+        name: &Text,
+        args: &[Term],
+    ) -> Result<Node, AllocError>
+        ensures keeps { Keeps (S.seen store.old) (S.seen store.new) }
+        ensures adds { IfOk result (λ _. AddsOperands (S.seen store.old) (S.seen store.new) code.old code.new) }
+        ensures is { IfOk result (λ made. (preds : List CorePred) → IsNumbering self.now.numbers preds → IsNodeOf preds (tables_for preds (S.seen store.new).now.terms code.new) (CallKind name.now args.now) made) }
+    {
+        if args.len() == 2 && name.as_str() == "=" {
+            let left = operand_of(self.alloc, code, store, &args[0])?;
+            let right = operand_of(self.alloc, code, store, &args[1])?;
+            return Ok(Node::Unify(left, right));
+        }
+        if args.len() == 1 && name.as_str() == "throw" {
+            let ball = operand_of(self.alloc, code, store, &args[0])?;
+            return Ok(Node::Throw(ball));
+        }
+        let operands = self.add_operands(code, store, args)?;
+        match self.numbers.get(false, name, args.len())? {
+            Some(number) => Ok(Node::Call(number, operands)),
+            None => Ok(Node::Fail),
         }
     }
 
-    fn number_of(&self, name: &Text, args: &Args) -> Result<Option<u32>, AllocError> {
-        let key = key_of(self.alloc, name, short(args.as_slice().len())?)?;
-        Ok(self.numbers.get(key.as_str()).copied())
+    /// A function's call, whose value a slot takes.
+    fn apply_of<S: StateStore>(
+        &self,
+        code: &mut Code<'_>,
+        store: &mut S,
+        name: &Text,
+        args: &[Term],
+        slot: u32,
+    ) -> Result<Node, AllocError>
+        ensures keeps { Keeps (S.seen store.old) (S.seen store.new) }
+        ensures adds { IfOk result (λ _. AddsOperands (S.seen store.old) (S.seen store.new) code.old code.new) }
+        ensures is { IfOk result (λ made. (preds : List CorePred) → IsNumbering self.now.numbers preds → IsNodeOf preds (tables_for preds (S.seen store.new).now.terms code.new) (ApplyKind name.now args.now slot) made) }
+    {
+        let operands = self.add_operands(code, store, args)?;
+        match self.numbers.get(true, name, args.len())? {
+            Some(number) => Ok(Node::Apply(number, operands, slot)),
+            None => Ok(Node::Fail),
+        }
     }
 
     /// Adds the operands of a call, and answers where the first one stands.
-    fn add_operands(&mut self, args: &[Term]) -> Result<u32, AllocError> {
-        let first = short(self.code.operands.len())?;
+    fn add_operands<S: StateStore>(
+        &self,
+        code: &mut Code<'_>,
+        store: &mut S,
+        args: &[Term],
+    ) -> Result<u32, AllocError>
+        ensures keeps { Keeps (S.seen store.old) (S.seen store.new) }
+        ensures adds { IfOk result (λ _. AddsOperands (S.seen store.old) (S.seen store.new) code.old code.new) }
+        ensures are { IfOk result (λ first. (preds : List CorePred) → OperandsAt (tables_for preds (S.seen store.new).now.terms code.new) first args.now) }
+    {
+        let first = short(code.operands.len())?;
         for arg in args {
-            let operand = self.operand_of(arg)?;
-            self.code.operands.push(operand)?;
+            let operand = operand_of(self.alloc, code, store, arg)?;
+            code.operands.push(operand)?;
         }
         Ok(first)
     }
 }
 
-fn step_of(node: Node, size: u32, shape: Shape, is_last: bool) -> Step {
+fn step_of(node: Node, size: u32, shape: Shape, is_last: bool) -> Step
+    ensures node { result.node ≡ node }
+    ensures size { result.size ≡ size }
+    ensures first { result.first_slot ≡ shape.first_slot }
+    ensures slots { result.slots ≡ shape.slots }
+    ensures last { result.is_last ≡ is_last }
+{
     Step {
         node,
         size,
@@ -98,73 +203,43 @@ fn step_of(node: Node, size: u32, shape: Shape, is_last: bool) -> Step {
     }
 }
 
-/// How many child goals a node has.
-fn children_of(node: GoalNode<'_>) -> Result<u32, AllocError> {
+/// Marks the child goals of a node, the first one's mark last: where the node's goal is last, its last ones are.
+fn push_marks(marks: &mut Vec<bool>, node: GoalNode<'_>, is_last: bool) -> Result<(), AllocError>
+    ensures { IfOk result (λ _. marks.new.items ≡ marks.old.items ++ (replicate (child_goals node.entry - before_last node.entry) is_last ++ replicate (before_last node.entry) false)) }
+{
+    let before = before_last(node);
+    push_times(marks, child_count(node).saturating_sub(before), is_last)?;
+    push_times(marks, before, false)?;
+    Ok(())
+}
+
+/// Pushes a mark so many times.
+fn push_times(marks: &mut Vec<bool>, times: usize, mark: bool) -> Result<(), AllocError>
+    ensures { IfOk result (λ _. marks.new.items ≡ marks.old.items ++ replicate times mark) }
+{
+    for _k in 0..times {
+        marks.push(mark)?;
+    }
+    Ok(())
+}
+
+/// How many child goals of a node stand before those behind which nothing of it is left to do.
+fn before_last(node: GoalNode<'_>) -> usize
+    ensures { result ≡ before_last node.entry }
+{
     match node {
-        GoalNode::Seq(count) | GoalNode::Alt(count) => short(count),
-        GoalNode::If => Ok(3),
-        GoalNode::Not | GoalNode::Once | GoalNode::Collect(_, _) | GoalNode::Count(_) => Ok(1),
-        GoalNode::Catch(_) => Ok(2),
-        GoalNode::True
+        GoalNode::Seq(count) => count.saturating_sub(1),
+        GoalNode::If
+        | GoalNode::Catch(_)
+        | GoalNode::Not
+        | GoalNode::Once
+        | GoalNode::Collect(_, _)
+        | GoalNode::Count(_) => 1,
+        GoalNode::Alt(_)
+        | GoalNode::True
         | GoalNode::Fail
         | GoalNode::Tick
         | GoalNode::Call(_, _)
-        | GoalNode::Apply(_, _, _) => Ok(0),
+        | GoalNode::Apply(_, _, _) => 0,
     }
-}
-
-fn link_from(steps: &mut Vec<Step>, start: usize) -> Result<(), AllocError> {
-    if start <= steps.len() {
-        set_sizes(&mut steps[start..])?;
-        set_last(&mut steps[start..]);
-    }
-    Ok(())
-}
-
-/// Makes sizes of the numbers of children.
-fn set_sizes(steps: &mut [Step]) -> Result<(), AllocError> {
-    for i in (0..steps.len()).rev() {
-        let end = end_of(steps, i + 1, steps[i].size);
-        steps[i].size = short(end.saturating_sub(i))?;
-    }
-    Ok(())
-}
-
-/// Marks the goals behind which nothing is left to do in the body, from those that hold them.
-fn set_last(steps: &mut [Step]) {
-    for i in 0..steps.len() {
-        let step = steps[i];
-        if step.is_last {
-            match step.node {
-                Node::Seq(count) if count > 0 => mark_children(steps, i, count - 1, count),
-                Node::Alt(count) => mark_children(steps, i, 0, count),
-                Node::If => mark_children(steps, i, 1, 3),
-                Node::Catch(_) => mark_children(steps, i, 1, 2),
-                _ => {}
-            }
-        }
-    }
-}
-
-/// Marks the child goals from one number to before another as last ones.
-fn mark_children(steps: &mut [Step], goal: usize, from: u32, to: u32) {
-    let mut at = end_of(steps, goal.saturating_add(1), from);
-    for _ in from..to {
-        if let Some(step) = steps.get_mut(at) {
-            step.is_last = true;
-        }
-        at = end_of(steps, at, 1);
-    }
-}
-
-/// Where so many goals end that begin at `from`, whose sizes are known.
-fn end_of(steps: &[Step], from: usize, count: u32) -> usize {
-    let mut at = from;
-    for _ in 0..count {
-        match steps.get(at) {
-            Some(step) => at = at.saturating_add(step.size as usize),
-            None => return at,
-        }
-    }
-    at
 }

@@ -1,49 +1,93 @@
 //! Terms of goals as operands.
-use super::{Builder, short};
-use crate::code::{Operand, Part};
+ghost use Rattle.std.specs.Prelude.{◌≡◌, ◌+◌, List, IfOk, IsTrue, length};
+ghost use Rattle.pi_types.specs.Tree.{Tree, cells, subterms, ShowsHead};
+ghost use Rattle.pi_types.specs.Variables.{IsGround};
+ghost use Rattle.pi_types.specs.Store.{Keeps, Stays};
+ghost use Rattle.pi_types.specs.declared.core_program.CorePred.{CorePred};
+ghost use Rattle.pi_engine.specs.Laid.{Longer, tables_for, AddsParts, IsPartOf, PartsAt, IsOperand};
+
+use super::short;
+use crate::code::{Code, Operand, Part};
 use pi_types::{StateStore, Term, TermHead, Text};
 use pi_unify::place;
-use std::alloc::AllocError;
+use std::alloc::{AllocError, Global};
 
-impl<S: StateStore> Builder<'_, '_, S> {
-    /// A term as an operand. A ground one is put into the store.
-    pub(super) fn operand_of(&mut self, term: &Term) -> Result<Operand, AllocError> {
-        if let TermHead::Var(k) = term.head() {
-            return Ok(Operand::Slot(slot_of(k)?));
-        }
-        if is_ground(term) {
-            return Ok(Operand::Known(place(self.alloc, self.store, term)?));
-        }
-        let first = short(self.code.parts.len())?;
-        for i in 0..term.cells() {
-            let part = self.part_of(term.head_at(i))?;
-            self.code.parts.push(part)?;
-        }
-        Ok(Operand::Made(first, short(self.code.parts.len())?))
+/// A term as an operand. A ground one is put into the store.
+pub fn operand_of<S: StateStore>(
+    alloc: Global,
+    code: &mut Code<'_>,
+    store: &mut S,
+    term: &Term,
+) -> Result<Operand, AllocError>
+    ensures keeps { Keeps (S.seen store.old) (S.seen store.new) }
+    ensures adds { IfOk result (λ _. AddsParts (S.seen store.old) (S.seen store.new) code.old code.new) }
+    ensures is { IfOk result (λ operand. (preds : List CorePred) → IsOperand (tables_for preds (S.seen store.new).now.terms code.new) term.now operand) }
+{
+    if let TermHead::Var(k) = term.head() {
+        return Ok(Operand::Slot(slot_of(k)?));
     }
+    if is_ground(term) {
+        return Ok(Operand::Known(place(alloc, store, term)?));
+    }
+    let first = short(code.parts.len())?;
+    add_parts(alloc, code, store, term)?;
+    Ok(Operand::Made(first, short(code.parts.len())?))
+}
 
-    fn part_of(&mut self, head: TermHead<'_>) -> Result<Part, AllocError> {
-        match head {
-            TermHead::Var(k) => Ok(Part::Slot(slot_of(k)?)),
-            TermHead::Int(n) => Ok(Part::Known(self.store.put_int(n)?)),
-            TermHead::Atom(name) => Ok(Part::Known(self.store.put_atom(name)?)),
-            TermHead::Comp(name, count) => {
-                let number = short(self.code.names.len())?;
-                self.code.names.push(Text::new(self.alloc, name)?)?;
-                Ok(Part::Compound(number, short(count)?))
-            }
+/// Adds the cells of a term as parts.
+fn add_parts<S: StateStore>(
+    alloc: Global,
+    code: &mut Code<'_>,
+    store: &mut S,
+    term: &Term,
+) -> Result<(), AllocError>
+    ensures keeps { Keeps (S.seen store.old) (S.seen store.new) }
+    ensures adds { IfOk result (λ _. AddsParts (S.seen store.old) (S.seen store.new) code.old code.new) }
+    ensures long { IfOk result (λ _. length code.new.parts.items ≡ length code.old.parts.items + cells term.now) }
+    ensures are { IfOk result (λ _. (preds : List CorePred) → PartsAt (tables_for preds (S.seen store.new).now.terms code.new) (length code.old.parts.items) (subterms term.now)) }
+{
+    for i in 0..term.cells() {
+        let part = part_of(alloc, &mut code.names, store, term.head_at(i))?;
+        code.parts.push(part)?;
+    }
+    Ok(())
+}
+
+fn part_of<S: StateStore>(
+    alloc: Global,
+    names: &mut Vec<Text>,
+    store: &mut S,
+    head: TermHead<'_>,
+) -> Result<Part, AllocError>
+    ensures stays { Stays (S.seen store.old) (S.seen store.new) }
+    ensures names { Longer names.old.items names.new.items }
+    ensures is { IfOk result (λ part. (u : Tree) → ShowsHead u head.entry → IsPartOf (S.seen store.new).now.terms names.new.items u part) }
+{
+    match head {
+        TermHead::Var(k) => Ok(Part::Slot(slot_of(k)?)),
+        TermHead::Int(n) => Ok(Part::Known(store.put_int(n)?)),
+        TermHead::Atom(name) => Ok(Part::Known(store.put_atom(name)?)),
+        TermHead::Comp(name, count) => {
+            let number = short(names.len())?;
+            names.push(Text::new(alloc, name)?)?;
+            Ok(Part::Compound(number, short(count)?))
         }
     }
 }
 
 /// A slot's number, which has 32 bits.
-fn slot_of(k: u64) -> Result<u32, AllocError> {
+fn slot_of(k: u64) -> Result<u32, AllocError>
+    ensures { IfOk result (λ slot. slot ≡ k) }
+{
     u32::try_from(k).map_err(|_| AllocError)
 }
 
-fn is_ground(term: &Term) -> bool {
+/// Whether a term holds no variable.
+fn is_ground(term: &Term) -> bool
+    ensures { IsTrue result → IsGround term.now }
+{
     for i in 0..term.cells() {
-        if matches!(term.head_at(i), TermHead::Var(_)) {
+        if let TermHead::Var(_) = term.head_at(i) {
             return false;
         }
     }

@@ -1,18 +1,33 @@
 //! The answers of a query.
+ghost use Rattle.std.specs.Prelude.{◌≡◌, ◌<◌, Some, IfOk};
+ghost use Rattle.pi_types.specs.Places.{Places};
+ghost use Rattle.pi_types.specs.State.{IsState};
+ghost use Rattle.pi_types.specs.Tree.{var};
+ghost use Rattle.pi_types.specs.Evaluation.{evaluated};
+ghost use Rattle.pi_engine.specs.Arenas.{view_of};
+ghost use Rattle.pi_engine.specs.Here.{Block, Holds};
+ghost use Rattle.pi_engine.specs.Stands.{Loaded, world};
+ghost use Rattle.pi_engine.specs.Answers.{NamesValue, AnswersQuery};
+
+use super::lists::read_value;
+use super::raises::too_large;
 use crate::run::Run;
-use crate::values::slot_value;
-use pi_types::{Answer, NameSlot, NamedTerm, ReadStop, Series, StateStore, Term};
+use crate::values::{slot_at, slot_value};
+use pi_types::{Answer, NameSlot, NamedTerm, Series, StateStore, Term};
 use std::alloc::AllocError;
 
 /// The answer that the present state is, or what is raised where the value of a name is too large.
+#[inline(never)]
 pub fn answer<S: StateStore>(
     run: &mut Run<S>,
     names: &[NameSlot],
-) -> Result<Result<Answer, Term>, AllocError> {
+) -> Result<Result<Answer, Term>, AllocError>
+    ensures { IfOk result (λ told. (l : Loaded) → AnswersQuery (world l (S.seen run.old.store) S.order (view_of run.old.arenas)) (world l (S.seen run.new.store) S.order (view_of run.new.arenas)) names.now told) }
+{
     let mut values = Series::new(run.alloc);
     for named in names {
         let Some(value) = named_value(run, named)? else {
-            return Ok(Err(Term::atom(run.alloc, "term_too_large")?));
+            return Ok(Err(too_large(run)?));
         };
         values.push(value)?;
     }
@@ -26,12 +41,13 @@ pub fn answer<S: StateStore>(
 fn named_value<S: StateStore>(
     run: &mut Run<S>,
     named: &NameSlot,
-) -> Result<Option<NamedTerm>, AllocError> {
+) -> Result<Option<NamedTerm>, AllocError>
+    ensures { IfOk result (λ found. (b : Block) (e : Places) → b.base ≡ 0 → b.first ≡ 0 → named.now.slot < b.count → Holds (S.seen run.old.store).now.terms run.old.arenas.blocks.slots b e → IsState (S.seen run.old.store).now.state → NamesValue b (S.seen run.old.store) (S.seen run.new.store) (view_of run.old.arenas) (view_of run.new.arenas) named.now (evaluated (var named.now.slot) e (S.seen run.old.store).now.state) found) }
+{
     let name = named.name.copy(run.alloc)?;
-    let term = slot_value(run, named.slot as usize)?;
-    match run.store.read_term(run.alloc, term) {
-        Ok(value) => Ok(Some(NamedTerm { name, value })),
-        Err(ReadStop::TooLarge) => Ok(None),
-        Err(ReadStop::Memory) => Err(AllocError),
-    }
+    let term = slot_value(run, slot_at(0, named.slot))?;
+    let Some(value) = read_value(run, term)? else {
+        return Ok(None);
+    };
+    Ok(Some(NamedTerm { name, value }))
 }

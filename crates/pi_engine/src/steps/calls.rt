@@ -1,5 +1,5 @@
 //! Unification, and calls of predicates and functions.
-ghost use Rattle.std.specs.Prelude.{◌≡◌, IfOk};
+ghost use Rattle.std.specs.Prelude.{◌≡◌, ℕ, IfOk};
 ghost use Rattle.pi_engine.specs.declared.code.Node.TheVariants.{Unify};
 ghost use Rattle.pi_engine.specs.Arenas.{view_of};
 ghost use Rattle.pi_types.specs.Tree.{trees_of};
@@ -24,6 +24,7 @@ use pi_unify::unify;
 use std::alloc::AllocError;
 
 /// Makes two terms equal, or fails.
+#[inline(never)]
 pub fn make_equal<S: StateStore>(
     code: &Code<'_>,
     run: &mut Run<S>,
@@ -57,7 +58,9 @@ pub fn call<S: StateStore>(
     step: Step,
     predicate: u32,
     operands: u32,
-) -> Result<(), AllocError> {
+) -> Result<(), AllocError>
+    ensures { IfOk result (λ _. step.node ≡ Node.Call predicate operands → (l : Loaded) → l.code ≡ code.now → RunsGoal (world l (S.seen run.old.store) S.order (view_of run.old.arenas)) (world l (S.seen run.new.store) S.order (view_of run.new.arenas)) point step run.new.now) }
+{
     let called = code.predicate(predicate);
     take_arguments(code, run, point.first_slot(step), operands, called.arity)?;
     let frame = run.arenas.frame_behind(point, step)?;
@@ -71,11 +74,13 @@ pub fn call<S: StateStore>(
         base,
         frame,
     };
-    try_rules(code, run, call, called.first, false)
+    try_rules(code, run, &call, called.first, false)?;
+    Ok(())
 }
 
 /// Calls a function: a level that takes the first value. The level keeps the arguments, so that the call can be told where
 /// it has no value.
+#[inline(never)]
 pub fn apply<S: StateStore>(
     code: &Code<'_>,
     run: &mut Run<S>,
@@ -83,7 +88,9 @@ pub fn apply<S: StateStore>(
     step: Step,
     predicate: u32,
     operands: u32,
-) -> Result<(), AllocError> {
+) -> Result<(), AllocError>
+    ensures { IfOk result (λ _. (into : ℕ) → step.node ≡ Node.Apply predicate operands into → (l : Loaded) → l.code ≡ code.now → RunsGoal (world l (S.seen run.old.store) S.order (view_of run.old.arenas)) (world l (S.seen run.new.store) S.order (view_of run.new.arenas)) point step run.new.now) }
+{
     let called = code.predicate(predicate);
     take_arguments(code, run, point.first_slot(step), operands, called.arity)?;
     let frame = run.arenas.frame_behind(point, step)?;
@@ -97,7 +104,8 @@ pub fn apply<S: StateStore>(
         base,
         frame: 0,
     };
-    try_rules(code, run, call, called.first, false)
+    try_rules(code, run, &call, called.first, false)?;
+    Ok(())
 }
 
 /// The arguments of a call, into the room for them.
@@ -122,6 +130,7 @@ fn take_arguments<S: StateStore>(
 }
 
 /// The value of a function's clause: it ends the call, which is the newest open level, and goes into the call's slot.
+#[inline(never)]
 pub fn give_value<S: StateStore>(
     code: &Code<'_>,
     run: &mut Run<S>,

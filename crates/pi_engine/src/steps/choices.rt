@@ -1,10 +1,12 @@
 //! Sequences, alternatives, and the return to the newest entry.
 ghost use Rattle.std.specs.Prelude.{◌≡◌, None, IfOk, IfSome, IfNone, length};
-ghost use Rattle.pi_engine.specs.declared.code.Node.TheVariants.{Seq};
+ghost use Rattle.pi_engine.specs.declared.code.Node.TheVariants.{Seq, Alt};
 ghost use Rattle.pi_engine.specs.declared.run.Now.TheVariants.{Going};
-ghost use Rattle.pi_engine.specs.Arenas.{view_of, newest, PushesEntry, TakesNewest};
+ghost use Rattle.pi_engine.specs.Arenas.{view_of, newest, PushesEntry, ReturnsToNewest};
 ghost use Rattle.pi_engine.specs.Stands.{Loaded, world};
+ghost use Rattle.pi_engine.specs.declared.arenas.Kind.TheVariants.{Branches};
 ghost use Rattle.pi_engine.specs.Makes.{RunsGoal};
+ghost use Rattle.pi_engine.specs.Fails.{GoesOnWithBranch};
 
 use crate::arenas::{Back, Kind};
 use crate::code::{Code, Step};
@@ -33,13 +35,16 @@ pub fn enter_sequence<S: StateStore>(
 }
 
 /// Enters alternatives, of which there are so many. The last one leaves no entry.
+#[inline(never)]
 pub fn enter_alternatives<S: StateStore>(
     code: &Code<'_>,
     run: &mut Run<S>,
     point: Point,
     step: Step,
     count: u32,
-) -> Result<(), AllocError> {
+) -> Result<(), AllocError>
+    ensures { IfOk result (λ _. step.node ≡ Alt count → (l : Loaded) → l.code ≡ code.now → RunsGoal (world l (S.seen run.old.store) S.order (view_of run.old.arenas)) (world l (S.seen run.new.store) S.order (view_of run.new.arenas)) point step run.new.now) }
+{
     if count == 0 {
         run.now = Now::Failing;
         return Ok(());
@@ -55,13 +60,16 @@ pub fn enter_alternatives<S: StateStore>(
 }
 
 /// Goes on with the branch at a place, of so many, for which the newest entry was kept.
+#[inline(never)]
 pub fn next_branch<S: StateStore>(
     code: &Code<'_>,
     run: &mut Run<S>,
     back: Back,
     place: u32,
     count: u32,
-) {
+)
+    ensures { (l : Loaded) → l.code ≡ code.now → back.kind ≡ Branches place count → GoesOnWithBranch (world l (S.seen run.old.store) S.order (view_of run.old.arenas)) (world l (S.seen run.new.store) S.order (view_of run.new.arenas)) back run.new.now }
+{
     if count > 1 {
         let kind = Kind::Branches(code.behind(place), count.saturating_sub(1));
         run.arenas.set_newest(kind);
@@ -111,21 +119,12 @@ pub fn push_entry_at<S: StateStore>(
     Ok(())
 }
 
-/// Brings back the state of the newest entry, and drops the entry; None where there is no entry.
-pub fn take_newest<S: StateStore>(run: &mut Run<S>) -> Option<Back>
-    ensures none { IfNone result (newest run.old.arenas.entries.items ≡ None) }
-    ensures some { IfSome result (λ back. TakesNewest S.order (S.seen run.old.store) (S.seen run.new.store) (view_of run.old.arenas) (view_of run.new.arenas) back) }
-{
-    let entry = run.arenas.newest()?;
-    run.store.undo(&entry.mark);
-    let back = entry.back;
-    run.arenas.come_back(back);
-    run.arenas.pop();
-    Some(back)
-}
-
 /// Brings back the state of the newest entry, which stays; None where there is no entry.
-pub fn come_back<S: StateStore>(run: &mut Run<S>) -> Option<Back> {
+pub fn come_back<S: StateStore>(run: &mut Run<S>) -> Option<Back>
+    ensures none { IfNone result (newest run.old.arenas.entries.items ≡ None) }
+    ensures some { IfSome result (λ back. ReturnsToNewest S.order (S.seen run.old.store) (S.seen run.new.store) (view_of run.old.arenas) (view_of run.new.arenas) back) }
+    ensures now { run.new.now ≡ run.old.now }
+{
     let entry = run.arenas.newest()?;
     run.store.undo(&entry.mark);
     let back = entry.back;

@@ -1,10 +1,13 @@
 //! Levels: how they are entered, what an answer of their goal does, and what it does that there is no further one.
-ghost use Rattle.std.specs.Prelude.{◌≡◌, ℕ, Some, IfOk, length};
-ghost use Rattle.pi_engine.specs.Arenas.{Entry, view_of, newest, IsLevel};
+ghost use Rattle.std.specs.Prelude.{◌≡◌, ℕ, Some, IfOk, length, slice_get};
+ghost use Rattle.pi_engine.specs.declared.code.Predicate.{Predicate};
+ghost use Rattle.pi_engine.specs.Arenas.{view_of, IsLevel};
 ghost use Rattle.pi_engine.specs.Stands.{Loaded, world};
-ghost use Rattle.pi_engine.specs.Makes.{RunsGoal, AnswersLevel, FailsTo, IsPassed, level_kind, once_at, not_at, EntersCatch};
+ghost use Rattle.pi_engine.specs.Makes.{RunsGoal, AnswersLevel, AnswersOpen, IsPassed, level_kind, once_at, not_at, if_at, count_at, guard_at, EntersCatch};
+ghost use Rattle.pi_engine.specs.declared.arenas.Back.{Back};
+ghost use Rattle.pi_engine.specs.Fails.{Fails, PassesOver, EndsLevel};
 
-use super::choices::{come_back, next_branch, one_goal, push_entry, take_newest};
+use super::choices::{come_back, next_branch, one_goal, push_entry};
 use super::lists::{add_value, give_list};
 use super::raises::no_value;
 use super::rules::{retry, take_guarded};
@@ -17,6 +20,7 @@ use pi_types::StateStore;
 use std::alloc::AllocError;
 
 /// Enters a level: its first child goal is run, behind which no frame says what follows.
+#[inline(never)]
 pub fn enter_level<S: StateStore>(
     code: &Code<'_>,
     run: &mut Run<S>,
@@ -35,45 +39,46 @@ pub fn enter_level<S: StateStore>(
 }
 
 /// The newest open level, which there is, has an answer.
-pub fn answer_level<S: StateStore>(code: &Code<'_>, run: &mut Run<S>) -> Result<(), AllocError> {
-    run.now = Now::Failing;
+#[inline(never)]
+pub fn answer_level<S: StateStore>(code: &Code<'_>, run: &mut Run<S>) -> Result<(), AllocError>
+    ensures { IfOk result (λ _. (l : Loaded) → l.code ≡ code.now → AnswersOpen (world l (S.seen run.old.store) S.order (view_of run.old.arenas)) (world l (S.seen run.new.store) S.order (view_of run.new.arenas)) run.new.now) }
+{
     let level = run.arenas.level;
     let Some(entry) = run.arenas.entry(level) else {
+        run.now = Now::Failing;
         return Ok(());
     };
     let back = entry.back;
     match back.kind {
-        Kind::Strict(strict) => answer_strict(code, run, level, back, strict),
-        Kind::Catch(_) => leave_catch(run, level, back),
-        Kind::Rules(_, _) | Kind::Branches(_, _) | Kind::Exit => Ok(()),
+        Kind::Strict(strict) => answer_strict(code, run, level, back, strict)?,
+        Kind::Catch(_) => leave_catch(run, level, back)?,
+        Kind::Rules(_, _) => run.now = Now::Failing,
+        Kind::Branches(_, _) => run.now = Now::Failing,
+        Kind::Exit => run.now = Now::Failing,
     }
+    Ok(())
 }
 
-/// What a strict level makes of an answer. Where nothing else is said, the next one is looked for.
+/// What a strict level makes of an answer. A function call has its answer by a value, and none here.
 fn answer_strict<S: StateStore>(
     code: &Code<'_>,
     run: &mut Run<S>,
     level: usize,
     back: Back,
     strict: Strict,
-) -> Result<(), AllocError> {
+) -> Result<(), AllocError>
+    ensures { IfOk result (λ _. (l : Loaded) → l.code ≡ code.now → IsLevel (view_of run.old.arenas) level back → back.kind ≡ Kind.Strict strict → AnswersOpen (world l (S.seen run.old.store) S.order (view_of run.old.arenas)) (world l (S.seen run.new.store) S.order (view_of run.new.arenas)) run.new.now) }
+{
     match strict {
         Strict::Once(_) => leave_once(run, level, back),
         Strict::Not(_) => leave_not(run, level, back),
-        Strict::If(place) => {
-            let next = run.arenas.leave(level, back);
-            run.now = one_goal(code.child(place, 1), next.base, next.frame);
-        }
+        Strict::If(place) => leave_if(code, run, level, back, place),
         Strict::Guard(predicate, rule) => {
             take_guarded(code, run, level, back, predicate, rule)?;
         }
         Strict::Collect(place, _) => add_value(code, run, back, place)?,
-        Strict::Count(place, count) => {
-            let count = count.checked_add(1).ok_or(AllocError)?;
-            let kind = Kind::Strict(Strict::Count(place, count));
-            run.arenas.set_kind(level, kind);
-        }
-        Strict::Apply(_) => {}
+        Strict::Count(place, count) => count_answer(run, level, place, count)?,
+        Strict::Apply(_) => run.now = Now::Failing,
     }
     Ok(())
 }
@@ -93,12 +98,36 @@ fn leave_not<S: StateStore>(run: &mut Run<S>, level: usize, back: Back)
     run.now = Now::Failing;
 }
 
-/// Leaves a `catch` by an answer. Where its goal has choices left, the level stays with them, below an exit.
-fn leave_catch<S: StateStore>(
+/// Leaves the condition of an `if` by its first answer: the goal for that case is next.
+fn leave_if<S: StateStore>(code: &Code<'_>, run: &mut Run<S>, level: usize, back: Back, place: u32)
+    ensures { (l : Loaded) → l.code ≡ code.now → IsLevel (view_of run.old.arenas) level back → back.kind ≡ if_at place → AnswersLevel (world l (S.seen run.old.store) S.order (view_of run.old.arenas)) (world l (S.seen run.new.store) S.order (view_of run.new.arenas)) run.new.now }
+{
+    let next = run.arenas.leave(level, back);
+    run.now = one_goal(code.child(place, 1), next.base, next.frame);
+}
+
+/// Counts an answer of a level's goal. The next one is looked for.
+fn count_answer<S: StateStore>(
     run: &mut Run<S>,
     level: usize,
-    back: Back,
-) -> Result<(), AllocError> {
+    place: u32,
+    count: u64,
+) -> Result<(), AllocError>
+    ensures { IfOk result (λ _. (l : Loaded) (back : Back) → IsLevel (view_of run.old.arenas) level back → back.kind ≡ count_at place count → AnswersLevel (world l (S.seen run.old.store) S.order (view_of run.old.arenas)) (world l (S.seen run.new.store) S.order (view_of run.new.arenas)) run.new.now) }
+{
+    let Some(more) = count.checked_add(1) else {
+        return Err(AllocError);
+    };
+    let kind = Kind::Strict(Strict::Count(place, more));
+    run.arenas.set_kind(level, kind);
+    run.now = Now::Failing;
+    Ok(())
+}
+
+/// Leaves a `catch` by an answer. Where its goal has choices left, the level stays with them, below an exit.
+fn leave_catch<S: StateStore>(run: &mut Run<S>, level: usize, back: Back) -> Result<(), AllocError>
+    ensures { IfOk result (λ _. (l : Loaded) (place : ℕ) → IsLevel (view_of run.old.arenas) level back → back.kind ≡ Kind.Catch place → AnswersLevel (world l (S.seen run.old.store) S.order (view_of run.old.arenas)) (world l (S.seen run.new.store) S.order (view_of run.new.arenas)) run.new.now) }
+{
     if run.arenas.count() == level {
         run.now = Now::Going(run.arenas.leave(level, back));
         return Ok(());
@@ -110,65 +139,90 @@ fn leave_catch<S: StateStore>(
 }
 
 /// Goes on with the newest entry where a goal has no further answer; without one the run is done.
-pub fn fail<S: StateStore>(code: &Code<'_>, run: &mut Run<S>) -> Result<(), AllocError> {
-    let Some(entry) = run.arenas.newest() else {
-        run.now = Now::Ended(End::Done);
-        return Ok(());
-    };
-    match entry.back.kind {
-        Kind::Rules(_, _) | Kind::Branches(_, _) | Kind::Strict(Strict::Guard(_, _)) => {
-            try_next(code, run)?;
-        }
-        Kind::Strict(Strict::Once(_)) | Kind::Catch(_) | Kind::Exit => pass_over(run),
-        Kind::Strict(strict) => {
-            if let Some(back) = take_newest(run) {
-                end_strict(code, run, back, strict)?;
-            }
-        }
-    }
-    Ok(())
-}
-
-/// Goes on with what is left of the newest entry, which is a choice or the condition of a rule.
-fn try_next<S: StateStore>(code: &Code<'_>, run: &mut Run<S>) -> Result<(), AllocError> {
+pub fn fail<S: StateStore>(code: &Code<'_>, run: &mut Run<S>) -> Result<(), AllocError>
+    ensures { IfOk result (λ _. (l : Loaded) → l.code ≡ code.now → Fails (world l (S.seen run.old.store) S.order (view_of run.old.arenas)) (world l (S.seen run.new.store) S.order (view_of run.new.arenas)) run.new.now) }
+{
     let Some(back) = come_back(run) else {
+        run.now = Now::Ended(End::Done);
         return Ok(());
     };
     match back.kind {
         Kind::Rules(predicate, next) => retry(code, run, back, predicate, next)?,
         Kind::Branches(place, count) => next_branch(code, run, back, place, count),
-        Kind::Strict(Strict::Guard(predicate, rule)) => {
-            retry(code, run, back, predicate, rule.saturating_add(1))?;
-        }
-        Kind::Strict(_) | Kind::Catch(_) | Kind::Exit => {}
+        Kind::Strict(strict) => end_strict(code, run, back, strict)?,
+        Kind::Catch(_) => pass_over(run, back),
+        Kind::Exit => pass_over(run, back),
     }
     Ok(())
 }
 
 /// Passes the newest entry over, which has no further answer either.
-fn pass_over<S: StateStore>(run: &mut Run<S>)
-    ensures { (l : Loaded) (x : Entry S.Mark) → newest run.old.arenas.entries.items ≡ Some x → IsPassed x.back.kind → FailsTo (world l (S.seen run.old.store) S.order (view_of run.old.arenas)) (world l (S.seen run.new.store) S.order (view_of run.new.arenas)) run.new.now }
+#[inline(never)]
+fn pass_over<S: StateStore>(run: &mut Run<S>, back: Back)
+    ensures { (l : Loaded) → IsPassed back.kind → PassesOver (world l (S.seen run.old.store) S.order (view_of run.old.arenas)) (world l (S.seen run.new.store) S.order (view_of run.new.arenas)) back run.new.now }
 {
-    let _ = take_newest(run);
+    run.arenas.pop();
     run.now = Now::Failing;
 }
 
-/// The goal of a level, whose entry is gone, has no further answer.
+/// The goal of a strict level, whose entry is the newest, has no further answer.
+#[inline(never)]
 fn end_strict<S: StateStore>(
     code: &Code<'_>,
     run: &mut Run<S>,
     back: Back,
     strict: Strict,
-) -> Result<(), AllocError> {
+) -> Result<(), AllocError>
+    ensures { IfOk result (λ _. (l : Loaded) → l.code ≡ code.now → back.kind ≡ Kind.Strict strict → EndsLevel (world l (S.seen run.old.store) S.order (view_of run.old.arenas)) (world l (S.seen run.new.store) S.order (view_of run.new.arenas)) back run.new.now) }
+{
     match strict {
-        Strict::Once(_) | Strict::Guard(_, _) => {}
-        Strict::Not(_) => run.now = Now::Going(behind_level(back)),
-        Strict::If(place) => run.now = one_goal(code.child(place, 2), back.base, back.frame),
+        Strict::Once(_) => pass_over(run, back),
+        Strict::Not(_) => end_not(run, back),
+        Strict::If(place) => end_if(code, run, back, place),
+        Strict::Guard(predicate, rule) => end_guard(code, run, back, predicate, rule)?,
         Strict::Apply(place) => no_value(code, run, back, place)?,
         Strict::Collect(place, first) => give_list(code, run, back, place, first)?,
         Strict::Count(place, count) => give_count(code, run, back, place, count)?,
     }
     Ok(())
+}
+
+/// Goes on with the rules behind one whose condition has no answer.
+fn end_guard<S: StateStore>(
+    code: &Code<'_>,
+    run: &mut Run<S>,
+    back: Back,
+    predicate: u32,
+    rule: u32,
+) -> Result<(), AllocError>
+    ensures { IfOk result (λ _. (l : Loaded) → l.code ≡ code.now → back.kind ≡ guard_at predicate rule → EndsLevel (world l (S.seen run.old.store) S.order (view_of run.old.arenas)) (world l (S.seen run.new.store) S.order (view_of run.new.arenas)) back run.new.now) }
+{
+    let next = rule.saturating_add(1).min(end_of_rules(code, predicate));
+    retry(code, run, back, predicate, next)?;
+    Ok(())
+}
+
+/// Where the rules of a predicate end.
+fn end_of_rules(code: &Code<'_>, predicate: u32) -> u32
+    ensures { (p : Predicate) → slice_get code.now.predicates.items predicate ≡ Some p → result ≡ p.end }
+{
+    code.predicate(predicate).end
+}
+
+/// Goes on behind a `not`, whose goal has no answer.
+fn end_not<S: StateStore>(run: &mut Run<S>, back: Back)
+    ensures { (l : Loaded) (place : ℕ) → back.kind ≡ not_at place → EndsLevel (world l (S.seen run.old.store) S.order (view_of run.old.arenas)) (world l (S.seen run.new.store) S.order (view_of run.new.arenas)) back run.new.now }
+{
+    run.arenas.pop();
+    run.now = Now::Going(behind_level(back));
+}
+
+/// Runs the goal of an `if` for the case that its condition has no answer.
+fn end_if<S: StateStore>(code: &Code<'_>, run: &mut Run<S>, back: Back, place: u32)
+    ensures { (l : Loaded) → l.code ≡ code.now → back.kind ≡ if_at place → EndsLevel (world l (S.seen run.old.store) S.order (view_of run.old.arenas)) (world l (S.seen run.new.store) S.order (view_of run.new.arenas)) back run.new.now }
+{
+    run.arenas.pop();
+    run.now = one_goal(code.child(place, 2), back.base, back.frame);
 }
 
 /// The number of answers goes into the slot for it.
@@ -178,11 +232,14 @@ fn give_count<S: StateStore>(
     back: Back,
     place: u32,
     count: u64,
-) -> Result<(), AllocError> {
+) -> Result<(), AllocError>
+    ensures { IfOk result (λ _. (l : Loaded) → l.code ≡ code.now → back.kind ≡ count_at place count → EndsLevel (world l (S.seen run.old.store) S.order (view_of run.old.arenas)) (world l (S.seen run.new.store) S.order (view_of run.new.arenas)) back run.new.now) }
+{
     let step = code.step(place);
     let Node::Count(into) = step.node else {
         return Ok(());
     };
+    run.arenas.pop();
     let number = run.store.put_int(i128::from(count))?;
     let next = behind_level(back);
     let slot = slot_at(next.first_slot(step), into);

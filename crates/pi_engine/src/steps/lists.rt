@@ -1,4 +1,16 @@
 //! The values that are collected.
+ghost use Rattle.std.specs.Prelude.{◌≡◌, ℕ, ◌≤◌, Some, None, length, slice_get, IfOk, IfSome, IfNone};
+ghost use Rattle.pi_engine.specs.Arenas.{view_of, IsLevel};
+ghost use Rattle.pi_engine.specs.Stands.{Loaded, world, values_between};
+ghost use Rattle.pi_engine.specs.Lists.{PlacesValues, list_of};
+ghost use Rattle.pi_engine.specs.Fails.{EndsLevel};
+ghost use Rattle.pi_engine.specs.Makes.{AnswersLevel, collect_at, IsRead};
+ghost use Rattle.pi_types.specs.Tree.{Tree, Trees};
+ghost use Rattle.pi_types.specs.Value.{IsAcyclic, value as value_of};
+ghost use Rattle.pi_types.specs.State.{bindings};
+ghost use Rattle.pi_types.specs.Store.{IsTerm, AreTerms, Stays};
+
+use super::raises::too_large;
 use crate::arenas::{Back, behind_level};
 use crate::code::{Code, Node};
 use crate::frames::Point;
@@ -6,7 +18,14 @@ use crate::run::{Now, Run};
 use crate::values::{slot_at, slot_value};
 use pi_types::{ReadStop, Ref, StateStore, Term};
 use pi_unify::place as place_term;
-use std::alloc::AllocError;
+use std::alloc::{AllocError, Global};
+
+/// How many values are collected.
+pub fn count_collected<S: StateStore>(run: &Run<S>) -> usize
+    ensures { result ≡ length run.exit.now.arenas.collected.items }
+{
+    run.arenas.collected.len()
+}
 
 /// Adds a copy of what the slot holds that is collected, and looks for the next answer.
 pub fn add_value<S: StateStore>(
@@ -14,21 +33,35 @@ pub fn add_value<S: StateStore>(
     run: &mut Run<S>,
     back: Back,
     place: u32,
-) -> Result<(), AllocError> {
+) -> Result<(), AllocError>
+    ensures { IfOk result (λ _. (l : Loaded) (first : ℕ) → l.code ≡ code.now → IsLevel (view_of run.old.arenas) run.old.arenas.level back → back.kind ≡ collect_at place first → AnswersLevel (world l (S.seen run.old.store) S.order (view_of run.old.arenas)) (world l (S.seen run.new.store) S.order (view_of run.new.arenas)) run.new.now) }
+{
     let step = code.step(place);
     let Node::Collect(value, _) = step.node else {
+        run.now = Now::Failing;
         return Ok(());
     };
     let slot = slot_at(behind_level(back).first_slot(step), value);
     let term = slot_value(run, slot)?;
-    match run.store.read_term(run.alloc, term) {
-        Ok(copy) => run.arenas.collected.push(copy)?,
-        Err(ReadStop::TooLarge) => {
-            run.now = Now::Raising(Term::atom(run.alloc, "term_too_large")?);
-        }
-        Err(ReadStop::Memory) => return Err(AllocError),
-    }
+    let Some(copy) = read_value(run, term)? else {
+        let ball = too_large(run)?;
+        run.now = Now::Raising(ball);
+        return Ok(());
+    };
+    run.arenas.collected.push(copy)?;
+    run.now = Now::Failing;
     Ok(())
+}
+
+/// A term as it is written down, with bindings replaced throughout; None where it is too large.
+pub fn read_value<S: StateStore>(run: &Run<S>, term: Ref) -> Result<Option<Term>, AllocError>
+    ensures { IfOk result (λ read. (t : Tree) → IsTerm (S.seen run.exit.now.store) term t → IsAcyclic (bindings (S.seen run.exit.now.store).now.state) → IsRead (value_of (bindings (S.seen run.exit.now.store).now.state) t) read) }
+{
+    match run.store.read_term(run.alloc, term) {
+        Ok(read) => Ok(Some(read)),
+        Err(ReadStop::TooLarge) => Ok(None),
+        Err(ReadStop::Memory) => Err(AllocError),
+    }
 }
 
 /// The list of the values that were collected, from the one with this number on, goes into the slot for it.
@@ -38,13 +71,23 @@ pub fn give_list<S: StateStore>(
     back: Back,
     place: u32,
     first: usize,
-) -> Result<(), AllocError> {
+) -> Result<(), AllocError>
+    ensures { IfOk result (λ _. (l : Loaded) → l.code ≡ code.now → back.kind ≡ collect_at place first → EndsLevel (world l (S.seen run.old.store) S.order (view_of run.old.arenas)) (world l (S.seen run.new.store) S.order (view_of run.new.arenas)) back run.new.now) }
+{
     let step = code.step(place);
     let Node::Collect(_, into) = step.node else {
         return Ok(());
     };
-    place_values(run, first)?;
-    let list = list_of_terms(run)?;
+    run.arenas.pop();
+    place_values(
+        run.alloc,
+        &mut run.store,
+        &run.arenas.collected,
+        first,
+        &mut run.terms,
+    )?;
+    run.arenas.collected.truncate(first);
+    let list = list_of_terms(&mut run.store, &run.terms)?;
     let next = behind_level(back);
     let slot = slot_at(next.first_slot(step), into);
     run.arenas.blocks.set(slot, list)?;
@@ -52,24 +95,48 @@ pub fn give_list<S: StateStore>(
     Ok(())
 }
 
-/// Takes the values back from the arena, as terms of the store with new variables, from the first.
-fn place_values<S: StateStore>(run: &mut Run<S>, first: usize) -> Result<(), AllocError> {
-    run.terms.clear();
-    for i in first..run.arenas.collected.len() {
-        if let Some(value) = run.arenas.collected.get(i) {
-            let term = place_term(run.alloc, &mut run.store, value)?;
-            run.terms.push(term)?;
+/// Makes terms of the values from one on, with new variables, from the first.
+fn place_values<S: StateStore>(
+    alloc: Global,
+    store: &mut S,
+    values: &[Term],
+    first: usize,
+    terms: &mut Vec<Ref>,
+) -> Result<(), AllocError>
+    ensures { IfOk result (λ _. first ≤ length values.now → PlacesValues (S.seen store.old) (S.seen store.new) (values_between values.now first (length values.now)) terms.new.items) }
+{
+    terms.clear();
+    for i in first..values.len() {
+        if let Some(value) = value_at(values, i) {
+            let term = place_term(alloc, store, value)?;
+            terms.push(term)?;
         }
     }
-    run.arenas.collected.truncate(first);
     Ok(())
 }
 
-/// The list of the terms in the room for them. A User's Guide to Picat, 'Lists'; the name of a cell is own.
-fn list_of_terms<S: StateStore>(run: &mut Run<S>) -> Result<Ref, AllocError> {
-    let mut list = run.store.put_atom("[]")?;
-    for term in run.terms.iter().rev() {
-        list = run.store.put_comp("[|]", &[*term, list])?;
+/// The list of terms. A User's Guide to Picat, 'Lists'; the name of a cell is own.
+fn list_of_terms<S: StateStore>(store: &mut S, terms: &[Ref]) -> Result<Ref, AllocError>
+    ensures { IfOk result (λ list. (ts : Trees) → AreTerms (S.seen store.old) terms.now ts → Stays (S.seen store.old) (S.seen store.new) × IsTerm (S.seen store.new) list (list_of ts)) }
+{
+    let mut list = store.put_atom("[]")?;
+    for i in (0..terms.len()).rev() {
+        if let Some(term) = term_at(terms, i) {
+            list = store.put_comp("[|]", &[term, list])?;
+        }
     }
     Ok(list)
+}
+
+fn value_at(values: &[Term], i: usize) -> Option<&Term>
+    ensures some { IfSome result (λ value. slice_get values.now i ≡ Some value.now) }
+    ensures none { IfNone result (slice_get values.now i ≡ None) }
+{
+    values.get(i)
+}
+
+fn term_at(terms: &[Ref], i: usize) -> Option<Ref>
+    ensures { result ≡ slice_get terms.now i }
+{
+    terms.get(i).copied()
 }

@@ -1,29 +1,38 @@
 //! Exceptions: what raises them, and what catches them.
-ghost use Rattle.std.specs.Prelude.{◌≡◌, codes, IfOk};
-ghost use Rattle.pi_types.specs.Tree.{Tree, atom};
+ghost use Rattle.std.specs.Prelude.{◌≡◌, Some, codes, IfOk, map, take, drop};
+ghost use Rattle.pi_engine.specs.Here.{HoldsArguments};
+ghost use Rattle.pi_engine.specs.Fails.{EndsLevel};
+ghost use Rattle.pi_types.specs.Tree.{Tree, Trees, atom};
 ghost use Rattle.pi_types.specs.Value.{IsAcyclic, value as value_of};
 ghost use Rattle.pi_types.specs.State.{bindings};
-ghost use Rattle.pi_types.specs.Store.{IsTerm};
+ghost use Rattle.pi_types.specs.Store.{IsTerm, Terms};
 ghost use Rattle.pi_engine.specs.declared.code.Node.TheVariants.{Throw};
-ghost use Rattle.pi_engine.specs.Arenas.{view_of};
+ghost use Rattle.pi_engine.specs.declared.run.Now.TheVariants.{Raising, Ended};
+ghost use Rattle.pi_engine.specs.declared.run.End.TheVariants.{Raised};
+ghost use Rattle.pi_engine.specs.declared.arenas.Kind.TheVariants.{Catch, Exit};
+ghost use Rattle.pi_engine.specs.declared.arenas.Kind.{Kind};
+ghost use Rattle.pi_engine.specs.Arenas.{Entry, view_of, newest};
 ghost use Rattle.pi_engine.specs.Stands.{Loaded, world};
-ghost use Rattle.pi_engine.specs.Makes.{RunsGoal, IsCopied, raised_for};
+ghost use Rattle.pi_engine.specs.Makes.{RunsGoal, IsCopied, raised_for, apply_at, unresolved_for};
+ghost use Rattle.pi_engine.specs.Raises.{Raises, RaisesFrom, IsDropped, TellsCaught, collected_below};
 
-use super::calls::first_argument;
 use super::choices::{come_back, one_goal};
 use super::levels::enter_level;
+use super::lists::{count_collected, read_value};
 use crate::arenas::{Back, Kind, Strict, behind_level};
+use crate::blocks::Blocks;
 use crate::code::{Code, Node, Operand, Step};
 use crate::frames::Point;
 use crate::run::{End, Now, Run};
 use crate::values::value;
-use pi_types::{ReadStop, Ref, StateStore, Term};
+use pi_types::{Ref, StateStore, Term};
 use pi_unify::{place as place_term, unify};
 use std::alloc::AllocError;
 use std::mem;
 
 /// Enters a `catch`. What is to be caught is evaluated before the goal, so that its slots hold what they will be needed
 /// for.
+#[inline(never)]
 pub fn enter_catch<S: StateStore>(
     code: &Code<'_>,
     run: &mut Run<S>,
@@ -39,6 +48,7 @@ pub fn enter_catch<S: StateStore>(
 }
 
 /// Raises a copy of a term.
+#[inline(never)]
 pub fn throw<S: StateStore>(
     code: &Code<'_>,
     run: &mut Run<S>,
@@ -65,35 +75,57 @@ fn ball_of<S: StateStore>(run: &Run<S>, term: Ref) -> Result<Term, AllocError>
     }
 }
 
-/// Raises that a function call, whose entry is gone, has no value.
+/// Raises that a function call, whose entry is the newest, has no value.
+#[inline(never)]
 pub fn no_value<S: StateStore>(
     code: &Code<'_>,
     run: &mut Run<S>,
     back: Back,
     place: u32,
-) -> Result<(), AllocError> {
-    let Node::Apply(predicate, _, _) = code.step(place).node else {
+) -> Result<(), AllocError>
+    ensures { IfOk result (λ _. (l : Loaded) → l.code ≡ code.now → back.kind ≡ apply_at place → EndsLevel (world l (S.seen run.old.store) S.order (view_of run.old.arenas)) (world l (S.seen run.new.store) S.order (view_of run.new.arenas)) back run.new.now) }
+{
+    let step = code.step(place);
+    let Node::Apply(predicate, _, _) = step.node else {
         return Ok(());
     };
     let Some(source) = code.source(predicate) else {
         return Ok(());
     };
+    run.arenas.pop();
     let arity = code.predicate(predicate).arity;
-    take_block(run, first_argument(back, arity), arity)?;
+    let first = back.blocks.slots.saturating_sub(arity as usize);
+    take_block(&run.arenas.blocks, first, arity, &mut run.terms)?;
     let call = run.store.put_comp(source.name.as_str(), &run.terms)?;
-    run.now = Now::Raising(match copied(run, call)? {
-        Some(call) => Term::comp(run.alloc, "unresolved_function_call", &[call])?,
-        None => too_large(run)?,
-    });
+    let ball = unresolved(run, call)?;
+    run.now = Now::Raising(ball);
     Ok(())
 }
 
-/// What so many slots hold, into the room for terms.
-fn take_block<S: StateStore>(run: &mut Run<S>, first: usize, count: u32) -> Result<(), AllocError> {
-    run.terms.clear();
+/// What is raised for a function call that has no value.
+fn unresolved<S: StateStore>(run: &Run<S>, call: Ref) -> Result<Term, AllocError>
+    ensures { IfOk result (λ ball. (t : Tree) → IsTerm (S.seen run.exit.now.store) call t → IsAcyclic (bindings (S.seen run.exit.now.store).now.state) → ball ≡ unresolved_for (value_of (bindings (S.seen run.exit.now.store).now.state) t)) }
+{
+    let copy = copied(run, call)?;
+    match copy {
+        Some(copy) => Ok(Term::comp(run.alloc, "unresolved_function_call", &[copy])?),
+        None => Ok(too_large(run)?),
+    }
+}
+
+/// What so many slots from one on hold, into the room for terms.
+fn take_block(
+    blocks: &Blocks,
+    first: usize,
+    count: u32,
+    terms: &mut Vec<Ref>,
+) -> Result<(), AllocError>
+    ensures { IfOk result (λ _. (t : Terms) (ts : Trees) → HoldsArguments t blocks.now.slots first count ts → map (λ r. Some r) terms.new.items ≡ take count (drop first blocks.now.slots)) }
+{
+    terms.clear();
     for i in 0..count {
-        if let Some(term) = run.arenas.blocks.get(first.saturating_add(i as usize)) {
-            run.terms.push(term)?;
+        if let Some(term) = blocks.get(first.saturating_add(i as usize)) {
+            terms.push(term)?;
         }
     }
     Ok(())
@@ -103,24 +135,24 @@ fn take_block<S: StateStore>(run: &mut Run<S>, first: usize, count: u32) -> Resu
 fn copied<S: StateStore>(run: &Run<S>, term: Ref) -> Result<Option<Term>, AllocError>
     ensures { IfOk result (λ made. (t : Tree) → IsTerm (S.seen run.exit.now.store) term t → IsAcyclic (bindings (S.seen run.exit.now.store).now.state) → IsCopied (value_of (bindings (S.seen run.exit.now.store).now.state) t) made) }
 {
-    match run.store.read_term(run.alloc, term) {
-        Ok(read) => Ok(Some(read.renumbered(run.alloc)?)),
-        Err(ReadStop::TooLarge) => Ok(None),
-        Err(ReadStop::Memory) => Err(AllocError),
-    }
+    let Some(read) = read_value(run, term)? else {
+        return Ok(None);
+    };
+    Ok(Some(read.renumbered(run.alloc)?))
 }
 
 /// What is raised in place of a term that is too large.
-fn too_large<S: StateStore>(run: &Run<S>) -> Result<Term, AllocError>
+pub fn too_large<S: StateStore>(run: &Run<S>) -> Result<Term, AllocError>
     ensures { IfOk result (λ made. made ≡ atom (codes "term_too_large")) }
 {
     Ok(Term::atom(run.alloc, "term_too_large")?)
 }
 
-/// Hands an exception to the newest entry, which is taken from the stack; without one it ends the run. Behind an exit lies
-/// a `catch` that was left, and what lies between them belongs to its goal: the exception comes from behind it and passes
-/// it.
-pub fn unwind<S: StateStore>(code: &Code<'_>, run: &mut Run<S>) -> Result<(), AllocError> {
+/// Hands an exception to the newest entry, which is taken from the stack; without one it ends the run.
+#[inline(never)]
+pub fn unwind<S: StateStore>(code: &Code<'_>, run: &mut Run<S>) -> Result<(), AllocError>
+    ensures { IfOk result (λ _. (l : Loaded) → l.code ≡ code.now → Raises (world l (S.seen run.old.store) S.order (view_of run.old.arenas)) (world l (S.seen run.new.store) S.order (view_of run.new.arenas)) run.old.now run.new.now) }
+{
     let Some(entry) = run.arenas.newest() else {
         end_raised(run);
         return Ok(());
@@ -128,41 +160,106 @@ pub fn unwind<S: StateStore>(code: &Code<'_>, run: &mut Run<S>) -> Result<(), Al
     let back = entry.back;
     match back.kind {
         Kind::Catch(place) => try_catch(code, run, place)?,
-        Kind::Exit => run.arenas.truncate(back.level.saturating_sub(1)),
-        Kind::Strict(Strict::Collect(_, first)) => {
-            run.arenas.collected.truncate(first);
-            run.arenas.pop();
-        }
-        Kind::Rules(_, _) | Kind::Branches(_, _) | Kind::Strict(_) => run.arenas.pop(),
+        Kind::Exit => pass_left(run, back),
+        Kind::Rules(_, _) => drop_entry(run, back),
+        Kind::Branches(_, _) => drop_entry(run, back),
+        Kind::Strict(_) => drop_entry(run, back),
     }
     Ok(())
 }
 
 /// An exception that nothing catches ends the run.
-fn end_raised<S: StateStore>(run: &mut Run<S>) {
+fn end_raised<S: StateStore>(run: &mut Run<S>)
+    ensures { (ball : Tree) → run.old.now ≡ Raising ball → run.new.now ≡ Ended (Raised ball) }
+{
     if let Now::Raising(ball) = mem::replace(&mut run.now, Now::Failing) {
         run.now = Now::Ended(End::Raised(ball));
     }
 }
 
+/// Drops the newest entry, which catches nothing, with what was made since, and the values that were collected for it.
+fn drop_entry<S: StateStore>(run: &mut Run<S>, back: Back)
+    ensures { (l : Loaded) → IsDropped back.kind → RaisesFrom (world l (S.seen run.old.store) S.order (view_of run.old.arenas)) (world l (S.seen run.new.store) S.order (view_of run.new.arenas)) back run.old.now run.new.now }
+{
+    let first = collected_before(back.kind, count_collected(run));
+    run.arenas.collected.truncate(first);
+    let number = run.arenas.count();
+    run.arenas.leave(number, back);
+}
+
+/// How many values were collected before an entry of this kind, where there are so many now.
+fn collected_before(kind: Kind, count: usize) -> usize
+    ensures { result ≡ collected_below kind count }
+{
+    match kind {
+        Kind::Strict(strict) => collected_before_level(strict, count),
+        Kind::Rules(_, _) => count,
+        Kind::Branches(_, _) => count,
+        Kind::Catch(_) => count,
+        Kind::Exit => count,
+    }
+}
+
+fn collected_before_level(strict: Strict, count: usize) -> usize
+    ensures { result ≡ collected_below (Kind.Strict strict) count }
+{
+    match strict {
+        Strict::Collect(_, first) => first,
+        Strict::Once(_) => count,
+        Strict::Not(_) => count,
+        Strict::If(_) => count,
+        Strict::Guard(_, _) => count,
+        Strict::Apply(_) => count,
+        Strict::Count(_, _) => count,
+    }
+}
+
+/// Drops a `catch` that was left, with all above it: the newest entry says so, and what is raised comes from behind it.
+fn pass_left<S: StateStore>(run: &mut Run<S>, exit: Back)
+    ensures { (l : Loaded) → exit.kind ≡ Exit → RaisesFrom (world l (S.seen run.old.store) S.order (view_of run.old.arenas)) (world l (S.seen run.new.store) S.order (view_of run.new.arenas)) exit run.old.now run.new.now }
+{
+    if let Some(entry) = run.arenas.entry(exit.level) {
+        let back = entry.back;
+        run.arenas.leave(exit.level, back);
+    }
+}
+
 /// Runs the handler of a `catch` from the state of its entry, where its ball unifies with the one that was raised.
-fn try_catch<S: StateStore>(
-    code: &Code<'_>,
-    run: &mut Run<S>,
-    place: u32,
-) -> Result<(), AllocError> {
-    let step = code.step(place);
-    let (Some(back), Node::Catch(operand)) = (come_back(run), step.node) else {
+fn try_catch<S: StateStore>(code: &Code<'_>, run: &mut Run<S>, place: u32) -> Result<(), AllocError>
+    ensures { IfOk result (λ _. (l : Loaded) (x : Entry S.Mark) → l.code ≡ code.now → newest run.old.arenas.entries.items ≡ Some x → x.back.kind ≡ Catch place → Raises (world l (S.seen run.old.store) S.order (view_of run.old.arenas)) (world l (S.seen run.new.store) S.order (view_of run.new.arenas)) run.old.now run.new.now) }
+{
+    let Some(back) = come_back(run) else {
         return Ok(());
     };
     run.arenas.pop();
-    let wanted = value(code, run, operand, behind_level(back).first_slot(step))?;
-    let Now::Raising(ball) = &run.now else {
+    let Now::Raising(ball) = mem::replace(&mut run.now, Now::Failing) else {
         return Ok(());
     };
-    let raised = place_term(run.alloc, &mut run.store, ball)?;
-    if unify(run.alloc, &mut run.store, wanted, raised)? {
+    if is_caught(code, run, back, code.step(place), &ball)? {
         run.now = one_goal(code.child(place, 1), back.base, back.frame);
+        return Ok(());
     }
+    run.now = Now::Raising(ball);
     Ok(())
+}
+
+/// Whether the ball of a `catch` unifies with one that was raised.
+fn is_caught<S: StateStore>(
+    code: &Code<'_>,
+    run: &mut Run<S>,
+    back: Back,
+    step: Step,
+    ball: &Term,
+) -> Result<bool, AllocError>
+    ensures { IfOk result (λ found. (l : Loaded) → l.code ≡ code.now → TellsCaught (world l (S.seen run.old.store) S.order (view_of run.old.arenas)) (world l (S.seen run.new.store) S.order (view_of run.new.arenas)) back step ball.now found) }
+{
+    let Node::Catch(operand) = step.node else {
+        return Ok(false);
+    };
+    let wanted = value(code, run, operand, behind_level(back).first_slot(step))?;
+    let raised = place_term(run.alloc, &mut run.store, ball)?;
+    // What a look says of all terms: they speak of variables that were made.
+    let _root = run.store.look(wanted);
+    let is_one = unify(run.alloc, &mut run.store, wanted, raised)?;
+    Ok(is_one)
 }

@@ -2,17 +2,16 @@
 ghost use Rattle.std.specs.Prelude.{◌≡◌, ◌⊎◌, ℕ, ◌+◌, ◌≤◌, ◌<◌, true, false, IfOk, MatchOption, length};
 ghost use Rattle.pi_engine.specs.Arenas.{view_of};
 ghost use Rattle.pi_engine.specs.Stands.{Loaded, world};
-ghost use Rattle.pi_engine.specs.Tries.{KeepsCall, TakesRule, EntersGuard, AppliesRule, TakesGuarded};
+ghost use Rattle.pi_engine.specs.Tries.{KeepsCall, TakesRule, EntersGuard, AppliesRule, TakesGuarded, TriesRules};
 
 use super::choices::{one_goal, push_entry_at};
+use super::heads::matches;
 use crate::arenas::{Back, Kind, Strict};
 use crate::blocks::Blocks;
-use crate::code::{Code, HeadTest, Predicate, Rule};
+use crate::code::{Code, Predicate, Rule};
 use crate::frames::Point;
 use crate::run::{Now, Run};
-use crate::unify::{is_identical, match_head};
-use crate::values::slot_at;
-use pi_types::{Cell, Ref, StateStore};
+use pi_types::StateStore;
 use std::alloc::AllocError;
 
 /// A call that is made: its predicate, where its block begins, and the frame to go on with.
@@ -28,15 +27,17 @@ pub struct Call {
 pub fn try_rules<S: StateStore>(
     code: &Code<'_>,
     run: &mut Run<S>,
-    call: Call,
+    call: &Call,
     from: u32,
     is_again: bool,
-) -> Result<(), AllocError> {
+) -> Result<(), AllocError>
+    ensures { IfOk result (λ _. (l : Loaded) → l.code ≡ code.now → TriesRules (world l (S.seen run.old.store) S.order (view_of run.old.arenas)) (world l (S.seen run.new.store) S.order (view_of run.new.arenas)) call.now.predicate call.now.base call.now.frame from is_again run.new.now) }
+{
     let predicate = code.predicate(call.predicate);
     for number in from..predicate.end {
         if let Some(rule) = code.rule(number) {
             if matches(code, run, call, rule, number, predicate.arity)? {
-                apply(run, call, predicate, rule, number, is_again)?;
+                apply(run, call, &predicate, rule, number, is_again)?;
                 return Ok(());
             }
         }
@@ -55,8 +56,12 @@ pub fn retry<S: StateStore>(
     back: Back,
     predicate: u32,
     from: u32,
-) -> Result<(), AllocError> {
-    try_rules(code, run, call_of(back, predicate), from, true)
+) -> Result<(), AllocError>
+    ensures { IfOk result (λ _. (l : Loaded) → l.code ≡ code.now → TriesRules (world l (S.seen run.old.store) S.order (view_of run.old.arenas)) (world l (S.seen run.new.store) S.order (view_of run.new.arenas)) predicate back.base back.frame from true run.new.now) }
+{
+    let call = call_of(back, predicate);
+    try_rules(code, run, &call, from, true)?;
+    Ok(())
 }
 
 /// The call whose entry this is.
@@ -73,8 +78,8 @@ fn call_of(back: Back, predicate: u32) -> Call
 }
 
 /// Where the slots of the rules of a call begin: behind its arguments.
-fn first_slot(blocks: &Blocks, call: Call, arity: u32) -> usize
-    ensures { call.base + arity ≤ length blocks.now.slots → result ≡ call.base + arity }
+pub fn first_slot(blocks: &Blocks, call: &Call, arity: u32) -> usize
+    ensures { call.now.base + arity ≤ length blocks.now.slots → result ≡ call.now.base + arity }
 {
     let count = blocks.count();
     call.base.saturating_add(arity as usize).min(count)
@@ -83,13 +88,13 @@ fn first_slot(blocks: &Blocks, call: Call, arity: u32) -> usize
 /// Goes on with a rule whose head matches: with its condition, where it has one, else with its body.
 fn apply<S: StateStore>(
     run: &mut Run<S>,
-    call: Call,
-    predicate: Predicate,
-    rule: Rule,
+    call: &Call,
+    predicate: &Predicate,
+    rule: &Rule,
     number: u32,
     is_again: bool,
 ) -> Result<(), AllocError>
-    ensures { IfOk result (λ _. (l : Loaded) → AppliesRule (world l (S.seen run.old.store) S.order (view_of run.old.arenas)) (world l (S.seen run.new.store) S.order (view_of run.new.arenas)) call.predicate call.base call.frame number is_again predicate rule run.new.now) }
+    ensures { IfOk result (λ _. (l : Loaded) → AppliesRule (world l (S.seen run.old.store) S.order (view_of run.old.arenas)) (world l (S.seen run.new.store) S.order (view_of run.new.arenas)) call.now.predicate call.now.base call.now.frame number is_again predicate.now rule.now run.new.now) }
 {
     match rule.guard {
         None => take_rule(run, call, predicate, rule, number, is_again)?,
@@ -100,15 +105,16 @@ fn apply<S: StateStore>(
 
 /// Runs a rule's body, whose head matches and whose condition has an answer. An entry is left where a later rule may apply
 /// too.
+#[inline(always)]
 fn take_rule<S: StateStore>(
     run: &mut Run<S>,
-    call: Call,
-    predicate: Predicate,
-    rule: Rule,
+    call: &Call,
+    predicate: &Predicate,
+    rule: &Rule,
     number: u32,
     is_again: bool,
 ) -> Result<(), AllocError>
-    ensures { IfOk result (λ _. (l : Loaded) → TakesRule (world l (S.seen run.old.store) S.order (view_of run.old.arenas)) (world l (S.seen run.new.store) S.order (view_of run.new.arenas)) call.predicate call.base call.frame number is_again predicate rule run.new.now) }
+    ensures { IfOk result (λ _. (l : Loaded) → TakesRule (world l (S.seen run.old.store) S.order (view_of run.old.arenas)) (world l (S.seen run.new.store) S.order (view_of run.new.arenas)) call.now.predicate call.now.base call.now.frame number is_again predicate.now rule.now run.new.now) }
 {
     if let Some(next) = later_rule(rule, number, predicate.end) {
         let kind = Kind::Rules(call.predicate, next);
@@ -126,8 +132,8 @@ fn take_rule<S: StateStore>(
 }
 
 /// The rule behind one with this number, where it may apply too.
-fn later_rule(rule: Rule, number: u32, end: u32) -> Option<u32>
-    ensures { MatchOption result ((rule.leaves_others ≡ false) ⊎ (end ≤ number + 1)) (λ next. (rule.leaves_others ≡ true) × (next ≡ number + 1) × (next < end)) }
+fn later_rule(rule: &Rule, number: u32, end: u32) -> Option<u32>
+    ensures { MatchOption result ((rule.now.leaves_others ≡ false) ⊎ (end ≤ number + 1)) (λ next. (rule.now.leaves_others ≡ true) × (next ≡ number + 1) × (next < end)) }
 {
     let next = number.saturating_add(1);
     if rule.leaves_others && next < end {
@@ -138,15 +144,16 @@ fn later_rule(rule: Rule, number: u32, end: u32) -> Option<u32>
 }
 
 /// Runs a rule's condition: a level that comes back to the call as it was made.
+#[inline(never)]
 fn enter_guard<S: StateStore>(
     run: &mut Run<S>,
-    call: Call,
-    predicate: Predicate,
+    call: &Call,
+    predicate: &Predicate,
     guard: u32,
     number: u32,
     is_again: bool,
 ) -> Result<(), AllocError>
-    ensures { IfOk result (λ _. (l : Loaded) → EntersGuard (world l (S.seen run.old.store) S.order (view_of run.old.arenas)) (world l (S.seen run.new.store) S.order (view_of run.new.arenas)) call.predicate call.base call.frame number is_again predicate guard run.new.now) }
+    ensures { IfOk result (λ _. (l : Loaded) → EntersGuard (world l (S.seen run.old.store) S.order (view_of run.old.arenas)) (world l (S.seen run.new.store) S.order (view_of run.new.arenas)) call.now.predicate call.now.base call.now.frame number is_again predicate.now guard run.new.now) }
 {
     let kind = Kind::Strict(Strict::Guard(call.predicate, number));
     keep(run, call, predicate.arity, kind, is_again)?;
@@ -158,12 +165,12 @@ fn enter_guard<S: StateStore>(
 /// Keeps the call as it was made, its arguments alone, in the newest entry where that is the call's, else in one more.
 fn keep<S: StateStore>(
     run: &mut Run<S>,
-    call: Call,
+    call: &Call,
     arity: u32,
     kind: Kind,
     is_again: bool,
 ) -> Result<(), AllocError>
-    ensures { IfOk result (λ _. call.base + arity ≤ length run.old.arenas.blocks.slots → KeepsCall S.order (S.seen run.old.store) (S.seen run.new.store) (view_of run.old.arenas) (view_of run.new.arenas) (call.base + arity) call.base call.frame kind is_again) }
+    ensures { IfOk result (λ _. call.now.base + arity ≤ length run.old.arenas.blocks.slots → KeepsCall S.order (S.seen run.old.store) (S.seen run.new.store) (view_of run.old.arenas) (view_of run.new.arenas) (call.now.base + arity) call.now.base call.now.frame kind is_again) }
 {
     if is_again {
         run.arenas.set_newest(kind);
@@ -175,6 +182,7 @@ fn keep<S: StateStore>(
 }
 
 /// Takes a rule whose condition, the level with this number, has an answer.
+#[inline(never)]
 pub fn take_guarded<S: StateStore>(
     code: &Code<'_>,
     run: &mut Run<S>,
@@ -192,98 +200,15 @@ pub fn take_guarded<S: StateStore>(
     let slots = end_of_slots(&run.arenas.blocks, back, rule);
     run.arenas.return_to(level, back, slots);
     let called = code.predicate(predicate);
-    take_rule(run, call_of(back, predicate), called, rule, number, true)?;
+    take_rule(run, &call_of(back, predicate), &called, rule, number, true)?;
     Ok(())
 }
 
 /// Where the slots of a rule end, whose call was kept with its arguments alone.
-fn end_of_slots(blocks: &Blocks, back: Back, rule: Rule) -> usize
-    ensures { (n : ℕ) → n ≤ length blocks.now.slots → n ≤ back.blocks.slots + rule.slots → n ≤ result }
+fn end_of_slots(blocks: &Blocks, back: Back, rule: &Rule) -> usize
+    ensures { (n : ℕ) → n ≤ length blocks.now.slots → n ≤ back.blocks.slots + rule.now.slots → n ≤ result }
 {
     let count = blocks.count();
     let end = back.blocks.slots.saturating_add(rule.slots as usize);
     end.min(count)
-}
-
-/// Whether a rule's head matches the call's arguments; its slots are filled then.
-fn matches<S: StateStore>(
-    code: &Code<'_>,
-    run: &mut Run<S>,
-    call: Call,
-    rule: Rule,
-    number: u32,
-    arity: u32,
-) -> Result<bool, AllocError> {
-    let first = first_slot(&run.arenas.blocks, call, arity);
-    run.arenas.blocks.truncate(first);
-    if rule.is_deep {
-        return matches_deep(code, run, call, rule, number);
-    }
-    let first = run.arenas.blocks.count();
-    run.arenas.blocks.push_empty(rule.slots)?;
-    for i in 0..arity {
-        let arg = run.arenas.blocks.get(call.base.saturating_add(i as usize));
-        let test = code.test(rule.tests.saturating_add(i));
-        let (Some(arg), Some(test)) = (arg, test) else {
-            return Ok(false);
-        };
-        if !accepts(run, test, first, arg)? {
-            return Ok(false);
-        }
-    }
-    Ok(true)
-}
-
-/// Whether an argument passes a test.
-fn accepts<S: StateStore>(
-    run: &mut Run<S>,
-    test: HeadTest,
-    first: usize,
-    arg: Ref,
-) -> Result<bool, AllocError> {
-    match test {
-        HeadTest::Int(n) => Ok(run.store.look(arg) == Cell::Int(n)),
-        HeadTest::Atom(number) => Ok(run.store.look(arg) == Cell::Atom(number)),
-        HeadTest::Deep => Ok(false),
-        HeadTest::Slot(k) => {
-            let slot = slot_at(first, k);
-            match run.arenas.blocks.get(slot) {
-                Some(held) => is_identical(run.alloc, &run.store, held, arg),
-                None => {
-                    run.arenas.blocks.set(slot, arg)?;
-                    Ok(true)
-                }
-            }
-        }
-    }
-}
-
-/// The same for a head that has patterns with patterns in them.
-fn matches_deep<S: StateStore>(
-    code: &Code<'_>,
-    run: &mut Run<S>,
-    call: Call,
-    rule: Rule,
-    number: u32,
-) -> Result<bool, AllocError> {
-    empty(&mut run.slots, rule.slots)?;
-    for (i, pattern) in code.head(call.predicate, number).iter().enumerate() {
-        let Some(arg) = run.arenas.blocks.get(call.base.saturating_add(i)) else {
-            return Ok(false);
-        };
-        if !match_head(run.alloc, &run.store, pattern, arg, &mut run.slots)? {
-            return Ok(false);
-        }
-    }
-    run.arenas.blocks.push_slots(&run.slots)?;
-    Ok(true)
-}
-
-/// Makes so many empty slots of the list.
-fn empty(slots: &mut Vec<Option<Ref>>, count: u32) -> Result<(), AllocError> {
-    slots.clear();
-    for _ in 0..count {
-        slots.push(None)?;
-    }
-    Ok(())
 }

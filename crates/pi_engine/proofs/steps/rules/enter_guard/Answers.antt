@@ -14,10 +14,10 @@ returns g c = λ l rule called clause cs s k es e applies is_guard same.
     let seen = g.S.StateStore.seen in
     let order = g.S.StateStore.order in
     let run = c.args.run.now in
-    let call = c.args.call in
+    let call = c.args.call.now in
     let number = c.args.number in
     let again = c.args.is_again in
-    let predicate = c.args.predicate in
+    let predicate = c.args.predicate.now in
     let before : World _ = world l (seen run.store) order (view_of run.arenas) in
     let b = view_of c.keep.new.run.arenas in
     let point : Point = record { place = c.args.guard; count = 1; base = call.base; frame = 0 } in

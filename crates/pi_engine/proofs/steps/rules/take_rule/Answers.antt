@@ -12,11 +12,11 @@ returns g c = λ l called clause cs s k es e applies.
     let seen = g.S.StateStore.seen in
     let order = g.S.StateStore.order in
     let run = c.args.run.now in
-    let call = c.args.call in
+    let call = c.args.call.now in
     let number = c.args.number in
     let again = c.args.is_again in
-    let predicate = c.args.predicate in
-    let rule = c.args.rule in
+    let predicate = c.args.predicate.now in
+    let rule = c.args.rule.now in
     let before : World _ = world l (seen run.store) order (view_of run.arenas) in
     let now : Now = Now.Going (record { place = rule.body; count = rule.goals; base = call.base; frame = call.frame }) in
     elim c.match-later_rule.branch [

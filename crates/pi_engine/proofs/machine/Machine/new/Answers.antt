@@ -1,0 +1,15 @@
+use Rattle.std.proofs.Common.{sym, ◌∙◌, ap, subst}
+use Rattle.pi_types.specs.Store.{Stays}
+use Rattle.pi_engine.proofs.RunBegins.{undone-stays}
+use Rattle.pi_engine.proofs.machine.Machine.new.Goals as goal
+
+pub returns-in-Ok-begin-clause-begins : goal.returns-in-Ok-begin-clause-begins
+returns-in-Ok-begin-clause-begins g c = λ empty sound.
+    c.in-Ok-begin.ensures.begins c.args.query.names (c.in-Ok.ensures.ok.stays.state ∙ ap (λ s. (g.S.StateStore.seen s).now.state) c.new-run.ensures.store ∙ empty) c.new-run.ensures.arenas sound
+
+pub returns-clause-err : goal.returns-clause-err
+returns-clause-err g c =
+    subst (λ s. Stays (g.S.StateStore.seen c.args.store) (g.S.StateStore.seen s)) (sym c.into_store-in-Err.ensures)
+    (subst (λ s. Stays (g.S.StateStore.seen s) (g.S.StateStore.seen c.undo.new.self)) c.new-run.ensures.store
+    (undone-stays g.S.StateStore.order (g.S.StateStore.seen c.new-run.result.store) (g.S.StateStore.seen c.mark.new.self) (g.S.StateStore.seen c.begin.new.run.store) (g.S.StateStore.seen c.undo.new.self) c.in-Ok.start c.in-Ok.ensures.ok c.begin.ensures.keeps
+    (c.undo.ensures (c.begin.ensures.keeps.good c.in-Ok.start c.in-Ok.ensures.ok.good))))

@@ -1,0 +1,168 @@
+//! The first goal of a point, by its node.
+ghost use Rattle.std.specs.Prelude.{◌≡◌, Some, IfOk, length};
+ghost use Rattle.pi_engine.specs.declared.code.Node.TheVariants.{True};
+ghost use Rattle.pi_engine.specs.Budget.{Counts};
+ghost use Rattle.pi_engine.specs.Arenas.{view_of};
+ghost use Rattle.pi_engine.specs.Stands.{Loaded, world};
+ghost use Rattle.pi_engine.specs.Makes.{RunsGoal, level_kind};
+ghost use Rattle.pi_engine.specs.Goes.{counted, GoalGoes, IsSilent};
+
+use super::calls::{apply, call, give_value, make_equal};
+use super::choices::{enter_alternatives, enter_sequence};
+use super::levels::enter_level;
+use super::lists::count_collected;
+use super::raises::{enter_catch, throw};
+use crate::arenas::{Kind, Strict, behind};
+use crate::code::{Code, Node, Step};
+use crate::frames::Point;
+use crate::happening::{Budget, Mode};
+use crate::run::{Now, Run};
+use crate::ticks::{tick, tick_call};
+use pi_types::StateStore;
+use std::alloc::AllocError;
+
+/// Runs the first goal of a point, which has one, or the value behind a function's body.
+#[inline(always)]
+pub fn run_goal<S: StateStore>(
+    code: &Code<'_>,
+    mode: Mode,
+    run: &mut Run<S>,
+    point: Point,
+    budget: &mut Budget,
+) -> Result<(), AllocError>
+    ensures { Counts budget.old budget.new }
+{
+    let step = code.step(point.place);
+    match step.node {
+        Node::Tick => run_tick(mode, run, point, step, budget),
+        Node::Call(predicate, operands) => {
+            run_call(code, mode, run, point, step, predicate, operands, budget)?;
+        }
+        Node::Apply(predicate, operands, into) => {
+            run_apply(
+                code, mode, run, point, step, predicate, operands, into, budget,
+            )?;
+        }
+        Node::Value(operand) => give_value(code, run, point, step, operand)?,
+        _ => run_silent(code, run, point, step)?,
+    }
+    Ok(())
+}
+
+/// Counts a Tick, and passes its goal.
+#[inline(always)]
+fn run_tick<S: StateStore>(
+    mode: Mode,
+    run: &mut Run<S>,
+    point: Point,
+    step: Step,
+    budget: &mut Budget,
+)
+    ensures counts { Counts budget.old budget.new }
+    ensures goes { step.node ≡ Node.Tick → (l : Loaded) → GoalGoes (counted mode budget.old budget.new) (world l (S.seen run.old.store) S.order (view_of run.old.arenas)) (world l (S.seen run.new.store) S.order (view_of run.new.arenas)) point step run.new.now }
+{
+    if tick(mode, &mut run.now, budget) {
+        run.now = Now::Going(behind(point, step));
+    }
+}
+
+/// Counts the Tick of a call, where it has one, and makes the call.
+#[inline(always)]
+fn run_call<S: StateStore>(
+    code: &Code<'_>,
+    mode: Mode,
+    run: &mut Run<S>,
+    point: Point,
+    step: Step,
+    predicate: u32,
+    operands: u32,
+    budget: &mut Budget,
+) -> Result<(), AllocError>
+    ensures counts { Counts budget.old budget.new }
+    ensures goes { IfOk result (λ _. step.node ≡ Node.Call predicate operands → (l : Loaded) → l.code ≡ code.now → GoalGoes (counted mode budget.old budget.new) (world l (S.seen run.old.store) S.order (view_of run.old.arenas)) (world l (S.seen run.new.store) S.order (view_of run.new.arenas)) point step run.new.now) }
+{
+    if !tick_call(code, mode, predicate, &mut run.now, budget) {
+        return Ok(());
+    }
+    call(code, run, point, step, predicate, operands)?;
+    Ok(())
+}
+
+/// The same of a function's call.
+fn run_apply<S: StateStore>(
+    code: &Code<'_>,
+    mode: Mode,
+    run: &mut Run<S>,
+    point: Point,
+    step: Step,
+    predicate: u32,
+    operands: u32,
+    into: u32,
+    budget: &mut Budget,
+) -> Result<(), AllocError>
+    ensures counts { Counts budget.old budget.new }
+    ensures goes { IfOk result (λ _. step.node ≡ Node.Apply predicate operands into → (l : Loaded) → l.code ≡ code.now → GoalGoes (counted mode budget.old budget.new) (world l (S.seen run.old.store) S.order (view_of run.old.arenas)) (world l (S.seen run.new.store) S.order (view_of run.new.arenas)) point step run.new.now) }
+{
+    if !tick_call(code, mode, predicate, &mut run.now, budget) {
+        return Ok(());
+    }
+    apply(code, run, point, step, predicate, operands)?;
+    Ok(())
+}
+
+/// Passes a goal that is `true`.
+fn pass<S: StateStore>(run: &mut Run<S>, point: Point, step: Step)
+    ensures { step.node ≡ True → (l : Loaded) → RunsGoal (world l (S.seen run.old.store) S.order (view_of run.old.arenas)) (world l (S.seen run.new.store) S.order (view_of run.new.arenas)) point step run.new.now }
+{
+    run.now = Now::Going(behind(point, step));
+}
+
+/// Fails.
+fn fail_here<S: StateStore>(run: &mut Run<S>, point: Point, step: Step)
+    ensures { step.node ≡ Node.Fail → (l : Loaded) → RunsGoal (world l (S.seen run.old.store) S.order (view_of run.old.arenas)) (world l (S.seen run.new.store) S.order (view_of run.new.arenas)) point step run.new.now }
+{
+    run.now = Now::Failing;
+}
+
+/// Runs the first goal of a point, which counts no Tick.
+fn run_silent<S: StateStore>(
+    code: &Code<'_>,
+    run: &mut Run<S>,
+    point: Point,
+    step: Step,
+) -> Result<(), AllocError>
+    ensures { IfOk result (λ _. (l : Loaded) → l.code ≡ code.now → IsSilent step.node → RunsGoal (world l (S.seen run.old.store) S.order (view_of run.old.arenas)) (world l (S.seen run.new.store) S.order (view_of run.new.arenas)) point step run.new.now) }
+{
+    match step.node {
+        Node::True => pass(run, point, step),
+        Node::Fail => fail_here(run, point, step),
+        Node::Seq(count) => enter_sequence(run, point, step, count)?,
+        Node::Alt(count) => enter_alternatives(code, run, point, step, count)?,
+        Node::Unify(left, right) => make_equal(code, run, point, step, left, right)?,
+        Node::Throw(ball) => throw(code, run, point, step, ball)?,
+        Node::Catch(ball) => enter_catch(code, run, point, step, ball)?,
+        Node::If => enter_strict(code, run, point, step, Strict::If(point.place))?,
+        Node::Not => enter_strict(code, run, point, step, Strict::Not(point.place))?,
+        Node::Once => enter_strict(code, run, point, step, Strict::Once(point.place))?,
+        Node::Count(_) => enter_strict(code, run, point, step, Strict::Count(point.place, 0))?,
+        Node::Collect(_, _) => {
+            let first = count_collected(run);
+            enter_strict(code, run, point, step, Strict::Collect(point.place, first))?;
+        }
+        _ => {}
+    }
+    Ok(())
+}
+
+fn enter_strict<S: StateStore>(
+    code: &Code<'_>,
+    run: &mut Run<S>,
+    point: Point,
+    step: Step,
+    strict: Strict,
+) -> Result<(), AllocError>
+    ensures { IfOk result (λ _. level_kind point.place (length run.old.arenas.collected.items) step.node ≡ Some (Kind.Strict strict) → (l : Loaded) → l.code ≡ code.now → RunsGoal (world l (S.seen run.old.store) S.order (view_of run.old.arenas)) (world l (S.seen run.new.store) S.order (view_of run.new.arenas)) point step run.new.now) }
+{
+    enter_level(code, run, point, step, Kind::Strict(strict))?;
+    Ok(())
+}

@@ -1,0 +1,54 @@
+//! Ticks, as a machine counts them.
+ghost use Rattle.std.specs.Prelude.{◌≡◌, Some, slice_get};
+ghost use Rattle.pi_engine.specs.declared.code.Predicate.{Predicate};
+ghost use Rattle.pi_engine.specs.Budget.{Counts};
+ghost use Rattle.pi_engine.specs.Goes.{Ticks, TicksUnless};
+
+use crate::code::Code;
+use crate::happening::{Budget, Mode};
+use crate::run::{End, Now};
+
+/// Counts the Tick of a call, unless it is a quiet one; false where the budget has none left, which ends the run.
+#[inline(always)]
+pub fn tick_call(
+    code: &Code<'_>,
+    mode: Mode,
+    predicate: u32,
+    now: &mut Now,
+    budget: &mut Budget,
+) -> bool
+    ensures counts { Counts budget.old budget.new }
+    ensures ticks { (p : Predicate) → slice_get code.now.predicates.items predicate ≡ Some p → TicksUnless p.is_quiet mode budget.old budget.new now.old now.new result }
+{
+    code.predicate(predicate).is_quiet || tick(mode, now, budget)
+}
+
+/// Counts a Tick; false where the budget has none left, which ends the run.
+#[inline(always)]
+pub fn tick(mode: Mode, now: &mut Now, budget: &mut Budget) -> bool
+    ensures counts { Counts budget.old budget.new }
+    ensures ticks { Ticks mode budget.old budget.new now.old now.new result }
+{
+    match mode {
+        Mode::Top => {
+            if budget.ticks >= budget.steps {
+                *now = Now::Ended(End::StepsSpent);
+                return false;
+            }
+            budget.ticks += 1;
+        }
+        Mode::Inner => {
+            let work = budget.work;
+            let spent = work
+                .goals
+                .saturating_add(work.runs)
+                .saturating_add(work.expansions);
+            if spent >= budget.limit {
+                *now = Now::Ended(End::WorkSpent);
+                return false;
+            }
+            budget.work.goals += 1;
+        }
+    }
+    true
+}
