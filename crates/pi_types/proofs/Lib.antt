@@ -36,6 +36,7 @@ pub mod CoreExamples
 pub mod UnifyCells
 pub mod StateLemmas
 pub mod UnifyBindings
+pub mod StateLawLemmas
 pub mod UnifyOutcome
 pub mod UnifyAssigned
 pub mod UnifyJoined

@@ -18,6 +18,7 @@ pub mod PatternTree
 pub mod Match
 pub mod Constraint
 pub mod State
+pub mod StateLaws
 pub mod Store
 pub mod Tokens
 pub mod ExpTree

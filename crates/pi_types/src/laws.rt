@@ -4,6 +4,7 @@ pub mod grammar;
 pub mod matching;
 pub mod meaning;
 pub mod order;
+pub mod states;
 pub mod terms;
 pub mod traces;
 pub mod unification;
