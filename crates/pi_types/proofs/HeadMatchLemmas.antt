@@ -1,10 +1,10 @@
 -- Matching in a state is matching of values.
-use Rattle.std.proofs.Common.{◌≡◌, ℕ, ℤ, Bool, true, false, cond, List, Option, Some, None, length, nat_lt, refl, ap, sym, ◌∙◌}
+use Rattle.std.proofs.Common.{◌≡◌, ℕ, ℤ, Bool, true, false, cond, List, [], Option, Some, None, length, nat_lt, refl, ap, sym, ◌∙◌}
 use Rattle.std.proofs.Math.ListN.{get_or-map}
 use Rattle.std.proofs.lemmas.List.{map-set, length-map}
 use Rattle.std.specs.Prelude.{option_map, option_and_then, slice_set}
 use Rattle.std.specs.Ordering.{is_eq}
-use Rattle.pi_types.specs.Tree.{Tree, var, int, atom, comp, Trees, no_trees, tree}
+use Rattle.pi_types.specs.Tree.{Tree, var, int, atom, comp, Trees, no_trees, tree, args}
 use Rattle.pi_types.specs.Places.{Places, held}
 use Rattle.pi_types.specs.Order.{name_order, order, identical}
 use Rattle.pi_types.specs.Substitution.{instance, instances}
@@ -12,7 +12,7 @@ use Rattle.pi_types.specs.PatternTree.{slot, exact_int, exact_atom, compound, na
 use Rattle.pi_types.specs.Value.{Bindings, value, IsAcyclic}
 use Rattle.pi_types.specs.State.{followed}
 use Rattle.pi_types.specs.Match.{taken, filled, matched, matched_all}
-use Rattle.pi_types.specs.HeadMatch.{taken_in, filled_in, compound_in, matched_in, matched_all_in, slot_values, MatchesByValue}
+use Rattle.pi_types.specs.HeadMatch.{taken_in, filled_in, compound_in, matched_in, matched_all_in, slot_values, MatchesByValue, HeadMatchesByValue}
 use Rattle.pi_types.proofs.ValueLemmas.{value_goes_by_variables, unbound_is_its_own_value}
 use Rattle.pi_types.proofs.FollowLemmas.{followed_value, followed_unbound}
 
@@ -118,3 +118,8 @@ mutual
       then-mapped (slot_values b) (matched_all_in b ps ts) (matched_all ps (values b ts)) (λ x. all-by_value b ps ts x a) (matched_in b p t e)
       ∙ (ap (option_and_then (matched_all ps (values b ts))) (matches-by_value b p t e a)
       ∙ ap (λ u. option_and_then (matched_all ps (values b ts)) (matched p u (slot_values b e))) (value_goes_by_variables b t))
+
+pub head-matches-by_value : HeadMatchesByValue
+unfolding instance
+head-matches-by_value b ps ts e a =
+    all-by_value b ps ts e a ∙ ap (λ u. matched_all ps (args u) (slot_values b e)) (sym (value_goes_by_variables b (comp [] ts)))

@@ -11,7 +11,7 @@ use Rattle.pi_types.specs.Tree.{Tree, var, int, atom, comp, Trees, no_trees, tre
 use Rattle.pi_types.specs.Order.{name_order, order, identical}
 use Rattle.pi_types.specs.PatternTree.{PatternTree, slot, exact_int, exact_atom, compound, named, PatternTrees, no_patterns, pattern, HasSlot, HaveSlot}
 use Rattle.pi_types.specs.Places.{held}
-use Rattle.pi_types.specs.Match.{Slots, taken, filled, matched, matched_all, IsUnder, AreUnder, Extends, IsMatch, AreMatch, MatchFills, MatchIsLeast, MatchFails, IsSlot, VariableWantsSlot, HeadMatchFills, HeadMatchIsLeast, HeadMatchFails}
+use Rattle.pi_types.specs.Match.{Slots, taken, filled, matched, matched_all, IsUnder, AreUnder, Extends, IsMatch, AreMatch, MatchFills, MatchIsLeast, MatchFails, IsSlot, VariableWantsSlot, HeadMatchFills, HeadMatchIsLeast, HeadMatchFails, SlotTakesIdentical}
 use Rattle.pi_types.proofs.OrderLemmas.{equal_is_identity, names_same}
 
 -- ---- terms and names that are the same
@@ -329,3 +329,13 @@ head_match_fails ps ts s = (
   λ e r x h. let f : Found (matched_all ps ts s) r = matched_all_found ps ts s r x h in cc (f.is, e),
   no_head_matches ps ts s (matched_all ps ts s) refl,
 )
+
+pub slot_takes_identical : SlotTakesIdentical
+unfolding IsUnder
+slot_takes_identical k t u s r e =
+    let ps : PatternTrees = pattern (slot k) (pattern (slot k) no_patterns) in
+    let ts : Trees = tree t (tree u no_trees) in
+    let m : Matched (AreUnder r ps ts) (HaveSlot ps) s r = matched_all_is ps ts s r e in
+    let first : held r k ≡ Some t = m.under.0 in
+    let second : held r k ≡ Some u = m.under.1.0 in
+    cc

@@ -6,13 +6,17 @@ use Rattle.std.specs.Ordering.{nat_cmp}
 use Rattle.std.specs.declared.cmp.Ordering.TheVariants.{Less, Equal}
 use Rattle.pi_types.specs.Tree.{Tree, trees_of, tree_count}
 use Rattle.pi_types.specs.Order.{order, order_all}
-use Rattle.pi_types.specs.OrderLaws.{KindsAreInOrder, FewerArgumentsComeFirst, NamesCountNext, ArgumentsCountLast}
+use Rattle.pi_types.specs.OrderLaws.{KindsAreInOrder, KindsAreOrderedWithin, FewerArgumentsComeFirst, NamesCountNext, ArgumentsCountLast}
 use Rattle.pi_types.proofs.OrderLemmas.{equal_is_identity}
 use Rattle.pi_types.proofs.TermLemmas.{tree_count-trees_of}
 
 pub kinds_are_in_order : KindsAreInOrder
 unfolding order
 kinds_are_in_order m n a f ts = (refl, refl, refl)
+
+pub kinds_are_ordered_within : KindsAreOrderedWithin
+unfolding order
+kinds_are_ordered_within = (λ m n. refl, λ m n. refl, λ a b. refl)
 
 pub fewer_arguments_come_first : FewerArgumentsComeFirst
 unfolding order

@@ -1,15 +1,15 @@
 -- One-way matching in a state: a pattern against a term whose variables may be bound. It goes by the term's value, as
 -- `Match` says of values; a slot takes the part of the term as it stands, with bound variables in it, so that a later
 -- goal meets the same variables as the caller.
-use Rattle.std.specs.Prelude.{◌≡◌, ℕ, nat_lt, cond, List, map, Option, Some, None, length, slice_set, option_and_then, option_map}
+use Rattle.std.specs.Prelude.{◌≡◌, ℕ, nat_lt, cond, List, [], map, Option, Some, None, length, slice_set, option_and_then, option_map}
 use Rattle.std.specs.Ordering.{is_eq}
-use Rattle.pi_types.specs.Tree.{Tree, var, int, atom, comp, Trees, no_trees, tree}
+use Rattle.pi_types.specs.Tree.{Tree, var, int, atom, comp, Trees, no_trees, tree, args}
 use Rattle.pi_types.specs.Places.{Places, held}
 use Rattle.pi_types.specs.Order.{name_order, identical}
 use Rattle.pi_types.specs.PatternTree.{PatternTree, slot, exact_int, exact_atom, compound, named, PatternTrees, no_patterns, pattern}
 use Rattle.pi_types.specs.Value.{Bindings, value, IsAcyclic}
 use Rattle.pi_types.specs.State.{followed}
-use Rattle.pi_types.specs.Match.{matched}
+use Rattle.pi_types.specs.Match.{matched, matched_all}
 
 -- an empty slot takes the term; a filled one takes a term of the same value
 abbrev pub taken_in : Bindings → Option Tree → Places → ℕ → Tree → Option Places
@@ -49,3 +49,8 @@ slot_values b e = map (option_map (value b)) e
 abbrev pub MatchesByValue : Type 0
 MatchesByValue = (b : Bindings) (p : PatternTree) (t : Tree) (e : Places) → IsAcyclic b →
     option_map (slot_values b) (matched_in b p t e) ≡ matched p (value b t) (slot_values b e)
+
+-- so it is of the patterns of a head and the arguments of a call, whose values are the arguments of the call's value
+abbrev pub HeadMatchesByValue : Type 0
+HeadMatchesByValue = (b : Bindings) (ps : PatternTrees) (ts : Trees) (e : Places) → IsAcyclic b →
+    option_map (slot_values b) (matched_all_in b ps ts e) ≡ matched_all ps (args (value b (comp [] ts))) (slot_values b e)

@@ -1,6 +1,6 @@
 -- One-way matching: the slots under which a pattern is a given term (A User's Guide to Picat, 'Predicates and
--- Functions': a call matches a head if it is an instance of it). Its variables are never bound, so a variable of the
--- term matches only a slot. A slot that occurs twice, or is filled before, takes an identical term alone.
+-- Functions': a call matches a head if it is an instance of it). The term's variables are never bound, so one of them
+-- matches only a slot. A slot that occurs twice, or is filled before, takes an identical term alone.
 use Rattle.std.specs.Prelude.{◌≡◌, ◌↔◌, ℕ, nat_lt, cond, Option, Some, None, length, slice_set, option_and_then}
 use Rattle.std.specs.Ordering.{is_eq}
 use Rattle.pi_types.specs.Tree.{Tree, var, int, atom, comp, Trees, no_trees, tree}
@@ -105,3 +105,8 @@ HeadMatchIsLeast = (ps : PatternTrees) (ts : Trees) (s r q : Slots) → matched_
 
 abbrev pub HeadMatchFails : Type 0
 HeadMatchFails = (ps : PatternTrees) (ts : Trees) (s : Slots) → (matched_all ps ts s ≡ None) ↔ ((r : Slots) → Extends s r → AreUnder r ps ts → ⊥)
+
+-- a slot that occurs twice takes identical terms
+abbrev pub SlotTakesIdentical : Type 0
+SlotTakesIdentical = (k : ℕ) (t u : Tree) (s r : Slots) →
+    matched_all (pattern (slot k) (pattern (slot k) no_patterns)) (tree t (tree u no_trees)) s ≡ Some r → t ≡ u

@@ -1,5 +1,6 @@
 -- What counts in the standard order, and what counts first.
 use Rattle.std.specs.Prelude.{◌≡◌, ℕ, ◌<◌, ℤ, List, ◌∷◌, ◌++◌, length}
+use Rattle.std.specs.Ordering.{nat_cmp, int_cmp}
 use Rattle.std.specs.declared.cmp.Ordering.TheVariants.{Less}
 use Rattle.pi_types.specs.Tree.{Tree, var, int, atom, comp, Trees, trees_of, tree_count}
 use Rattle.pi_types.specs.Order.{name_order, order}
@@ -8,6 +9,11 @@ use Rattle.pi_types.specs.Order.{name_order, order}
 abbrev pub KindsAreInOrder : Type 0
 KindsAreInOrder = (m : ℕ) (n : ℤ) (a f : List ℕ) (ts : Trees) →
     (order (var m) (int n) ≡ Less) × (order (int n) (atom a) ≡ Less) × (order (atom a) (comp f ts) ≡ Less)
+
+-- variables go by number, integers by value, and atoms by name
+abbrev pub KindsAreOrderedWithin : Type 0
+KindsAreOrderedWithin = ((m n : ℕ) → order (var m) (var n) ≡ nat_cmp m n) × ((m n : ℤ) → order (int m) (int n) ≡ int_cmp m n)
+    × ((a b : List ℕ) → order (atom a) (atom b) ≡ name_order a b)
 
 -- of two compounds the one with fewer arguments comes first, whatever their names and arguments are
 abbrev pub FewerArgumentsComeFirst : Type 0

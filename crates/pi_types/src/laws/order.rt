@@ -1,6 +1,6 @@
 //! Laws of the standard order, of substitution and of copies.
 ghost use Rattle.pi_types.specs.Order.{NamesByCodePoints, OrderIsTotal, EqualIsIdentity};
-ghost use Rattle.pi_types.specs.OrderLaws.{KindsAreInOrder, FewerArgumentsComeFirst, NamesCountNext, ArgumentsCountLast};
+ghost use Rattle.pi_types.specs.OrderLaws.{KindsAreInOrder, KindsAreOrderedWithin, FewerArgumentsComeFirst, NamesCountNext, ArgumentsCountLast};
 ghost use Rattle.pi_types.specs.Substitution.{SubstitutionComposes, GroundStays, OnlyItsVariablesCount};
 ghost use Rattle.pi_types.specs.Copy.{CopyRenames, CopyIsUnique, CopyKeepsCells, GroundIsItsOwnCopy};
 
@@ -12,10 +12,11 @@ pub fn terms_are_ordered()
     ensures names { NamesByCodePoints }
 {}
 
-/// What counts in the standard order: first of what kind the terms are, and in compounds the number of arguments, then the
-/// name, and then the arguments from the left.
+/// What counts in the standard order: first of what kind the terms are. Variables go by number, integers by value and
+/// atoms by name. In compounds the number of arguments counts, then the name, and then the arguments from the left.
 pub fn kinds_and_arities_come_first()
     ensures kinds { KindsAreInOrder }
+    ensures within { KindsAreOrderedWithin }
     ensures arities { FewerArgumentsComeFirst }
     ensures names { NamesCountNext }
     ensures arguments { ArgumentsCountLast }
