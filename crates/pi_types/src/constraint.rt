@@ -91,3 +91,6 @@ impl Constraint {
         }
     }
 }
+
+/// Constraints, in order.
+pub type Constraints = Series<Constraint>;

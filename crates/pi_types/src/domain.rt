@@ -1,6 +1,7 @@
 ghost use Rattle.std.specs.Prelude.{◌≡◌, IfOk};
 ghost use Rattle.pi_types.specs.Domain.{IsDomain};
 
+use crate::series::Series;
 use std::alloc::{AllocError, Global};
 use std::marker::Model;
 
@@ -59,3 +60,6 @@ impl Domain {
         Ok(Domain::new(spans))
     }
 }
+
+/// Domains, in order.
+pub type Domains = Series<Domain>;

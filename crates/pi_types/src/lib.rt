@@ -22,13 +22,13 @@ mod tree_store;
 
 pub use answer::{Answer, NamedTerm, NamedTerms, VarDomain, VarDomains};
 pub use args::Args;
-pub use constraint::{Constraint, Item, Items, LinTerm, LinTerms, Rel};
+pub use constraint::{Constraint, Constraints, Item, Items, LinTerm, LinTerms, Rel};
 pub use core_goal::CoreGoal;
 pub use core_program::{
     CoreClause, CoreClauses, CorePred, CorePreds, CoreProgram, CoreQuery, NameSlot, NameSlots,
     Pattern, Patterns, SlotWatch, SlotWatches,
 };
-pub use domain::{Domain, MAX_VALUE, Span};
+pub use domain::{Domain, Domains, MAX_VALUE, Span};
 pub use event::{Activation, Activations, AgentView, Event, Events, Watch, Watches};
 pub use exp::{Branches, Exp, Exps};
 pub use goal_node::GoalNode;
