@@ -29,7 +29,7 @@ name_of (int n) = []
 name_of (atom name) = name
 name_of (comp name ts) = name
 
--- the term is a proper list that has atoms of one character alone
+-- the term is a proper list that has atoms of one character alone; the empty list too
 unfoldable mutual
   pub is_characters : Tree → Bool
   is_characters (var n) = false

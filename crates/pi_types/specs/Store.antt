@@ -15,7 +15,7 @@ use Rattle.pi_types.specs.declared.constraint.Constraint.{Constraint}
 use Rattle.pi_types.specs.declared.event.AgentView.{AgentView}
 use Rattle.pi_types.specs.declared.event.Activation.{Activation}
 
--- the terms that a store has, by the numbers of their Refs; None for a number that it did not give, or took back
+-- the terms that a store has, by the numbers of their Refs; None for a number that stands for no term now
 abbrev pub Terms : Type 0
 Terms = ℕ → Option Tree
 
@@ -32,7 +32,7 @@ pub record StoreView (Mark : Type 0) : Type 0 where
   pub is_good : Mark → Bool
   pub names : List (List ℕ)
 
--- a mark is good: it was made at or before the present state, and not undone past
+-- a mark is good, as one is that was made at or before the present state and not undone past
 abbrev pub IsGood : {M : Type 0} → StoreView M → M → Type 0
 IsGood v m = v.is_good m ≡ true
 

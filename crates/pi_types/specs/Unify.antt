@@ -157,7 +157,8 @@ abbrev pub UnifiedAreOne : Type 0
 UnifiedAreOne = (s r : State) (t u : Tree) → IsState s → SpeaksBelow (next s) t → SpeaksBelow (next s) u →
     unified s t u ≡ Some r → value (bindings r) t ≡ value (bindings r) u
 
--- r has the bindings of s and maybe more, and domains with no other values; all else is the same
+-- r has the bindings of s and maybe more, and its domains have no other values; a variable without a domain may get that
+-- of one that it is made equal to; constraints, agents and what waits are the same
 pub record Grows (s r : State) : Type 0 where
   pub as_many : next r ≡ next s
   pub keeps : (n : ℕ) (t : Tree) → held (bindings s) n ≡ Some t → held (bindings r) n ≡ Some t

@@ -26,7 +26,8 @@ pub enum Event {
     Ins(u64),
     /// The least or the greatest value of its domain is another one.
     Bound(u64),
-    /// Its domain lost this value, which lay strictly between the least and the greatest one where the last part is true.
+    /// Its domain lost this value, which lay strictly between the least and the greatest value before where the last part
+    /// is true.
     Excluded(u64, i64, bool),
     /// This term was posted.
     Posted(u64, Term),

@@ -17,7 +17,8 @@ pub fn unification_is_most_general()
 {}
 
 /// The state after a unification is a state, and has the bindings before and maybe more; its domains have no other
-/// values, and all else is the same. Of two variables the higher is bound to the lower.
+/// values; a variable without a domain may get that of one that it is made equal to; constraints, agents and what waits
+/// are the same. Of two variables the higher is bound to the lower.
 pub fn unification_grows_a_state()
     ensures state { UnifiedIsAState }
     ensures grows { UnifiedGrows }
