@@ -1,9 +1,9 @@
 -- Levels, the deeper above, are in order.
-use Rattle.std.proofs.Common.{◌≡◌, ℕ, zero, suc, ◌+◌, List, subst, arith}
+use Rattle.std.proofs.Common.{◌≡◌, ℕ, zero, suc, ◌+◌, List, Option, Some, None, refl, subst, arith}
 use Rattle.pi_types.specs.View.{View}
 use Rattle.pi_types.specs.CoreTree.{PredTree}
-use Rattle.pi_types.specs.Level.{Level, lowest, over, Calls, CallsBelow, LevelBelow, calls_at}
-use Rattle.pi_types.specs.Rules.{level_at}
+use Rattle.pi_types.specs.Level.{Level, lowest, over, lower, level_of, Calls, CallsBelow, LevelBelow, calls_at}
+use Rattle.pi_types.specs.Rules.{calls_of, quiet_level, level_at}
 use Rattle.pi_types.proofs.BelowLemmas.{below-refl, below-trans}
 use Rattle.pi_types.proofs.MeaningLemmas.{calls-below}
 use Rattle.pi_types.proofs.RuleLemmas.{level-below}
@@ -36,3 +36,14 @@ level-later v preds depth (suc more) =
     let last : suc near ≡ depth + suc more = omega arith in
     subst (λ d. LevelBelow (level_at v preds depth) (level_at v preds d)) last
     (level-further (level_at v preds depth) (level_at v preds near) (level_at v preds (suc near)) (level-later v preds depth more) (level-below v preds near))
+
+-- ---- where a Tick leads
+
+lower-of : (c : Calls) (below : Option Level) → lower (level_of c below) ≡ below
+lower-of c None = refl
+lower-of c (Some l) = refl
+
+pub quiet-keeps-depth : (v : View) (preds : List PredTree) (below : Option Level) (k : ℕ) → lower (quiet_level v preds below k) ≡ below
+unfolding quiet_level
+quiet-keeps-depth v preds below zero = lower-of (calls_of v preds None below) below
+quiet-keeps-depth v preds below (suc k) = lower-of (calls_of v preds (Some (quiet_level v preds below k)) below) below

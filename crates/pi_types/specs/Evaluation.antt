@@ -1,6 +1,6 @@
--- What a term of a goal comes to. Its variables are slots. Terms are read from the left, and a slot that is empty gets a
--- new variable at its first occurrence (own; A User's Guide to Picat, 'Variables', has variables that are new where they
--- first occur). Facts use `slot_term` for the slots of their heads.
+-- What a term of a clause or a goal comes to. Its variables are slots. Terms are read from the left, and a slot that is
+-- empty gets a new variable at its first occurrence (own; A User's Guide to Picat, 'Variables', has variables that are
+-- new where they first occur). Heads are matched, but for those of facts, which use `slot_term` for their slots.
 use Rattle.std.specs.Prelude.{ℕ, zero, suc, Option, Some, None, slice_set}
 use Rattle.pi_types.specs.Tree.{Tree, var, int, atom, comp, Trees, no_trees, tree}
 use Rattle.pi_types.specs.Places.{Places, held}

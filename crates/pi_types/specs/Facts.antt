@@ -1,9 +1,9 @@
--- Facts: the clauses of a predicate behind its `index` (A User's Guide to Picat, 'Predicates and Functions'; which mode
--- list a call takes is own).
+-- Facts: the clauses of a predicate behind its `index` (A User's Guide to Picat, 'Predicates and Functions'; that a call
+-- fails which no mode list fits is own).
 use Rattle.std.specs.Prelude.{ℕ, Bool, true, cond, ◌&&◌, ◌==◌, List, [], ◌∷◌, length, Option, Some, None, option_and_then, option_map, replicate}
 use Rattle.std.specs.List.{list_any}
 use Rattle.pi_types.specs.Tree.{Tree, int, atom, comp, Trees, no_trees, tree}
-use Rattle.pi_types.specs.Places.{Places}
+use Rattle.pi_types.specs.Places.{Places, held}
 use Rattle.pi_types.specs.Variables.{variables}
 use Rattle.pi_types.specs.PatternTree.{PatternTree, slot, exact_int, exact_atom, compound, named, PatternTrees, no_patterns, pattern}
 use Rattle.pi_types.specs.Value.{Bindings, value}
@@ -13,7 +13,6 @@ use Rattle.pi_types.specs.Trace.{Trace, done, alt}
 use Rattle.pi_types.specs.Evaluation.{Evaluated, EvaluatedAll, slot_term}
 use Rattle.pi_types.specs.Settle.{settled_from}
 use Rattle.pi_types.specs.CoreTree.{ClauseTree}
-use Rattle.pi_types.specs.Places.{held}
 use Rattle.pi_types.specs.declared.program.Mode.{Mode}
 
 -- an argument holds no unbound variable

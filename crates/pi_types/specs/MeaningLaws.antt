@@ -1,5 +1,5 @@
 -- The laws of the core meaning: more depth only adds, and so the run of a query is one.
-use Rattle.std.specs.Prelude.{◌≡◌, ℕ, suc, ◌+◌, List, ◌++◌, Some, length, Contains}
+use Rattle.std.specs.Prelude.{◌≡◌, ℕ, suc, ◌+◌, List, ◌++◌, Option, Some, length, Contains}
 use Rattle.pi_types.specs.State.{next, IsState, PlacesBelow}
 use Rattle.pi_types.specs.GoalTree.{GoalTree}
 use Rattle.pi_types.specs.Trace.{WithoutDeep, answers}
@@ -7,7 +7,7 @@ use Rattle.pi_types.specs.Depth.{DepthOnlyAdds, Cut, cut, CutWithoutDeep}
 use Rattle.pi_types.specs.Related.{BelowBy}
 use Rattle.pi_types.specs.View.{View, PlansAreGround}
 use Rattle.pi_types.specs.CoreTree.{PredTree, QueryTree}
-use Rattle.pi_types.specs.Level.{Level, Point, LevelBelow, PointBelow}
+use Rattle.pi_types.specs.Level.{Level, lower, Point, LevelBelow, PointBelow}
 use Rattle.pi_types.specs.Meaning.{meaning}
 use Rattle.pi_types.specs.Rules.{quiet_level, level_at}
 use Rattle.pi_types.specs.Quiet.{TicksBetween}
@@ -22,7 +22,7 @@ GoalsDoMore = (v : View) (g : GoalTree) (p q : Point) → PointBelow p q → Bel
 abbrev pub LevelsAscend : Type 0
 LevelsAscend = (v : View) (preds : List PredTree) (d : ℕ) → LevelBelow (level_at v preds d) (level_at v preds (suc d))
 
--- levels are in order
+-- that a level is below another is reflexive and transitive
 abbrev pub LevelsAreOrdered : Type 0
 LevelsAreOrdered = ((l : Level) → LevelBelow l l) × ((l m n : Level) → LevelBelow l m → LevelBelow m n → LevelBelow l n)
 
@@ -30,6 +30,10 @@ LevelsAreOrdered = ((l : Level) → LevelBelow l l) × ((l m n : Level) → Leve
 abbrev pub QuietCallsStayAbove : Type 0
 QuietCallsStayAbove = (v : View) (preds : List PredTree) (d : ℕ) →
     LevelBelow (level_at v preds d) (quiet_level v preds (Some (level_at v preds d)) (length preds + d))
+
+-- a quiet call takes nothing from the depth: at the level that it leads to, a Tick leads where it led before
+abbrev pub QuietCallsKeepTheDepth : Type 0
+QuietCallsKeepTheDepth = (v : View) (preds : List PredTree) (below : Option Level) (k : ℕ) → lower (quiet_level v preds below k) ≡ below
 
 -- each depth adds to a query's trace at the depth before
 abbrev pub QueriesDoMore : Type 0

@@ -73,7 +73,8 @@ read_entry v c wanted s None = unknown v c
 read_entry v c wanted s (Some (LogEntry.Planned best start limit result)) = answered_by result wanted s
 read_entry v c wanted s (Some (LogEntry.RaisedPlan best start limit ball)) = raised_by v.inside ball
 
--- what a planner call comes to: its plan and cost, unified; no answer; the exception that it ended in, which within a
--- planner call's body is not to be caught; the exception of a call that waits for itself; a missing answer
+-- what a planner call comes to whose start is ground and whose limit is an integer from 0: its plan and cost, unified; no
+-- answer; the exception that it ended in, which within a planner call's body is not to be caught; the exception of a call
+-- that waits for itself; a missing answer
 unfoldable pub reading : View → Call → Wanted → State → Trace State
 reading v c wanted s = read_entry v c wanted s (entry_for c v.log)

@@ -1,14 +1,15 @@
 //! Laws of the core meaning.
-ghost use Rattle.pi_types.specs.MeaningLaws.{GoalsDoMore, LevelsAreOrdered, LevelsAscend, QuietCallsStayAbove, QueriesDoMore, WholeTracesStay, RunIsOne, DeeperRunsAreTheRun, DepthReachesTicks, EachQueryRuns, SoundQueriesRun, RunsKeepStates};
+ghost use Rattle.pi_types.specs.MeaningLaws.{GoalsDoMore, LevelsAreOrdered, LevelsAscend, QuietCallsStayAbove, QuietCallsKeepTheDepth, QueriesDoMore, WholeTracesStay, RunIsOne, DeeperRunsAreTheRun, DepthReachesTicks, EachQueryRuns, SoundQueriesRun, RunsKeepStates};
 ghost use Rattle.pi_types.specs.Builtin.{BuiltInHasEffect, BuiltInFunctionHasEffect};
 
-/// A goal does the same and maybe more where calls do, and calls do so at each greater depth, which is an order. A quiet call takes nothing
-/// from the depth that one depth less has.
+/// A goal does the same and maybe more where calls do, which is reflexive and transitive, and calls do so at each greater
+/// depth. A quiet call leads to a level that is still above that of one depth less, and takes nothing from the depth.
 pub fn depths_add()
     ensures goals { GoalsDoMore }
     ensures order { LevelsAreOrdered }
     ensures levels { LevelsAscend }
     ensures quiet { QuietCallsStayAbove }
+    ensures quiet_depth { QuietCallsKeepTheDepth }
     ensures queries { QueriesDoMore }
 {}
 

@@ -1,5 +1,5 @@
 use Rattle.pi_types.proofs.MeaningLemmas.{meaning-below}
-use Rattle.pi_types.proofs.LevelLemmas.{level-itself, level-further}
+use Rattle.pi_types.proofs.LevelLemmas.{level-itself, level-further, quiet-keeps-depth}
 use Rattle.pi_types.proofs.RuleLemmas.{level-below, quiet-deeper, query-deeper}
 use Rattle.pi_types.proofs.laws.meaning.depths_add.Goals as goal
 
@@ -14,6 +14,9 @@ returns-clause-levels c = level-below
 
 pub returns-clause-quiet : goal.returns-clause-quiet
 returns-clause-quiet c = quiet-deeper
+
+pub returns-clause-quiet_depth : goal.returns-clause-quiet_depth
+returns-clause-quiet_depth c = quiet-keeps-depth
 
 pub returns-clause-queries : goal.returns-clause-queries
 returns-clause-queries c = query-deeper
