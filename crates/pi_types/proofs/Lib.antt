@@ -31,6 +31,8 @@ pub mod KeepsRules
 pub mod LastLemmas
 pub mod QuietGoals
 pub mod QuietRules
+pub mod NestGoals
+pub mod NestRules
 pub mod CoreTreeLemmas
 pub mod CoreExamples
 pub mod UnifyCells

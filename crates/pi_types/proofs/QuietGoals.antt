@@ -227,12 +227,12 @@ catching-deepens preds r a ball b R R' P P' x y f fits d p h l =
 
 -- Calls
 
-as-many : (ts : Trees) (e : Places) (s : State) → tree_count (evaluated_all ts e s).trees ≡ tree_count ts
+pub as-many : (ts : Trees) (e : Places) (s : State) → tree_count (evaluated_all ts e s).trees ≡ tree_count ts
 unfolding tree_count evaluated_all
 as-many no_trees e s = refl
 as-many (tree t ts) e s = let first : Evaluated = evaluated t e s in ap suc (as-many ts first.slots first.state)
 
-count-of : (ts : List Tree) → tree_count (trees_of ts) ≡ length ts
+pub count-of : (ts : List Tree) → tree_count (trees_of ts) ≡ length ts
 unfolding tree_count
 count-of [] = refl
 count-of (t ∷ ts) = ap suc (count-of ts)

@@ -46,7 +46,7 @@ after-body preds r v g f P fits k q o h a =
     (λ j x m n. a j x)
 
 -- the calls that a way from the clause leads to may be made
-abbrev ClauseFits : (preds : List PredTree) → TicksBetween preds → ℕ → ClauseTree → Type 0
+abbrev pub ClauseFits : (preds : List PredTree) → TicksBetween preds → ℕ → ClauseTree → Type 0
 ClauseFits preds r f clause = (c : Callee) → ReachesFrom c clause → Fits preds r f c
 
 -- what a rule that applies does lasts

@@ -35,7 +35,7 @@ guarded-below v g p q h = strict-below v g p q h
 pub DoesMore : {X : Type 0} → (ℕ → ClauseTree → Point → Trace X) → Type 0
 DoesMore does = (i : ℕ) (c : ClauseTree) (p q : Point) → PointBelow p q → BelowBy Same (does i c p) (does i c q)
 
-chosen-rule-below : {X : Type 0} (back : Bool) (t t' rest rest' : Trace X) → BelowBy Same t t' → BelowBy Same rest rest' →
+pub chosen-rule-below : {X : Type 0} (back : Bool) (t t' rest rest' : Trace X) → BelowBy Same t t' → BelowBy Same rest rest' →
     BelowBy Same (chosen_rule back t rest) (chosen_rule back t' rest')
 chosen-rule-below true t t' rest rest' a b = by-alt Same t t' rest rest' a b
 chosen-rule-below false t t' rest rest' a b = a
@@ -72,7 +72,7 @@ body-below : (v : View) (t : Tree) (i : ℕ) (c : ClauseTree) (ws : List SlotWat
 body-below v t i c [] p q r = by-then PointBelow Same (meaning v c.body p) (meaning v c.body q) (λ x. one x.state) (λ x. one x.state) (meaning-below v c.body p q r) same-state
 body-below v t i c (w ∷ ws) p q r = same-agent t i (w ∷ ws) p q r
 
-value-at-level : (t : Option Tree) (l m : Level) (e : Places) (s : State) → BelowBy Same (value_at t (place l e s)) (value_at t (place m e s))
+pub value-at-level : (t : Option Tree) (l m : Level) (e : Places) (s : State) → BelowBy Same (value_at t (place l e s)) (value_at t (place m e s))
 value-at-level None l m e s = end_by Done
 value-at-level (Some t) l m e s = by-same (value_at (Some t) (place l e s))
 

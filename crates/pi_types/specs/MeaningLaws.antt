@@ -1,6 +1,7 @@
 -- The laws of the core meaning: more depth only adds, and so the run of a query is one.
 use Rattle.std.specs.Prelude.{◌≡◌, ℕ, suc, ◌+◌, List, ◌++◌, Option, Some, length, Contains}
-use Rattle.pi_types.specs.State.{next, IsState, PlacesBelow}
+use Rattle.pi_types.specs.Places.{Places}
+use Rattle.pi_types.specs.State.{State, next, IsState, PlacesBelow}
 use Rattle.pi_types.specs.GoalTree.{GoalTree}
 use Rattle.pi_types.specs.Trace.{WithoutDeep, answers}
 use Rattle.pi_types.specs.Depth.{DepthOnlyAdds, Cut, cut, CutWithoutDeep}
@@ -34,6 +35,17 @@ QuietCallsStayAbove = (v : View) (preds : List PredTree) (d : ℕ) →
 -- a quiet call takes nothing from the depth: at the level that it leads to, a Tick leads where it led before
 abbrev pub QuietCallsKeepTheDepth : Type 0
 QuietCallsKeepTheDepth = (v : View) (preds : List PredTree) (below : Option Level) (k : ℕ) → lower (quiet_level v preds below k) ≡ below
+
+-- two places have the same slots and state, whatever their levels are
+abbrev pub SameButLevel : Point → Point → Type 0
+SameButLevel p q = (p.slots ≡ q.slots) × (p.state ≡ q.state)
+
+-- Where Ticks stand between the calls of quiet predicates, a goal does no more where any number of quiet calls may nest
+-- than where as many may nest as there are predicates. So that number is never felt.
+abbrev pub QuietCallsNestFreely : Type 0
+QuietCallsNestFreely = (v : View) (preds : List PredTree) → TicksBetween preds → (below : Option Level) (k : ℕ) (g : GoalTree) (e : Places) (s : State) →
+    BelowBy SameButLevel (meaning v g (record { level = quiet_level v preds below k; slots = e; state = s }))
+    (meaning v g (record { level = quiet_level v preds below (length preds); slots = e; state = s }))
 
 -- each depth adds to a query's trace at the depth before
 abbrev pub QueriesDoMore : Type 0

@@ -1,5 +1,5 @@
 //! Laws of the core meaning.
-ghost use Rattle.pi_types.specs.MeaningLaws.{GoalsDoMore, LevelsAreOrdered, LevelsAscend, QuietCallsStayAbove, QuietCallsKeepTheDepth, QueriesDoMore, WholeTracesStay, RunIsOne, DeeperRunsAreTheRun, DepthReachesTicks, EachQueryRuns, SoundQueriesRun, RunsKeepStates};
+ghost use Rattle.pi_types.specs.MeaningLaws.{GoalsDoMore, LevelsAreOrdered, LevelsAscend, QuietCallsStayAbove, QuietCallsKeepTheDepth, QuietCallsNestFreely, QueriesDoMore, WholeTracesStay, RunIsOne, DeeperRunsAreTheRun, DepthReachesTicks, EachQueryRuns, SoundQueriesRun, RunsKeepStates};
 ghost use Rattle.pi_types.specs.Builtin.{BuiltInHasEffect, BuiltInFunctionHasEffect};
 
 /// A goal does the same and maybe more where calls do, which is reflexive and transitive, and calls do so at each greater
@@ -11,6 +11,12 @@ pub fn depths_add()
     ensures quiet { QuietCallsStayAbove }
     ensures quiet_depth { QuietCallsKeepTheDepth }
     ensures queries { QueriesDoMore }
+{}
+
+/// Where Ticks stand between the calls of quiet predicates, a goal does no more where any number of quiet calls may nest
+/// than where as many may nest as there are predicates.
+pub fn quiet_calls_nest_freely()
+    ensures { QuietCallsNestFreely }
 {}
 
 /// A query's trace is the same at each depth that reaches to its end, and its run before a Tick at each depth that reaches
