@@ -1,4 +1,5 @@
 pub mod Tree
+pub mod ListNames
 pub mod Domain
 pub mod TermCells
 pub mod GoalTree

@@ -2,8 +2,9 @@
 -- again. What a call of the program does is told by the level of the place (`Level`), so that the trace of a goal goes by
 -- the goals in it alone. (A User's Guide to Picat, 'Predicates and Functions' and 'Exceptions'; slots, levels and strict
 -- goals are own.)
-use Rattle.std.specs.Prelude.{ℕ, ◌+◌, pos, List, [], ◌∷◌, Option, Some, None, codes, slice_set}
+use Rattle.std.specs.Prelude.{ℕ, ◌+◌, pos, List, [], ◌∷◌, Option, Some, None, slice_set}
 use Rattle.pi_types.specs.Tree.{Tree, var, int, atom, comp, no_trees, tree, trees_of}
+use Rattle.pi_types.specs.ListNames.{nil, cell_name}
 use Rattle.pi_types.specs.Copy.{copy, new_variables}
 use Rattle.pi_types.specs.Places.{Places}
 use Rattle.pi_types.specs.Value.{value}
@@ -87,10 +88,10 @@ abbrev pub copyable : Tree → Trace Tree
 copyable t = within_limit t (one t)
 
 abbrev pub list_cell : Tree → Tree → Tree
-list_cell t rest = comp (codes "[|]") (tree t (tree rest no_trees))
+list_cell t rest = comp cell_name (tree t (tree rest no_trees))
 
 unfoldable pub list_of_copies : ℕ → List Tree → Tree
-list_of_copies n [] = atom (codes "[]")
+list_of_copies n [] = atom nil
 list_of_copies n (t ∷ ts) = list_cell (copy n t) (list_of_copies (n + new_variables t) ts)
 
 unfoldable pub new_in_all : List Tree → ℕ

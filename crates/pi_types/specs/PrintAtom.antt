@@ -4,11 +4,8 @@ use Rattle.std.specs.Prelude.{ℕ, ◌==◌, Bool, not, ◌&&◌, ◌||◌, if�
 use Rattle.std.specs.Char.{encode_utf8}
 use Rattle.std.specs.List.{list_all, flat_map}
 use Rattle.std.specs.Str.{chars, bytes_eq}
+pub use Rattle.pi_types.specs.ListNames.{nil}
 use Rattle.pi_types.specs.Tokens.{tab, line_feed, apostrophe, backslash, first, is_atom_start, is_name_part, is_reserved}
-
--- the empty list is this atom
-abbrev pub nil : List ℕ
-nil = codes "[]"
 
 -- characters that have the form of an atom without quotes, and are no reserved word
 unfoldable pub is_unquoted_atom : List ℕ → Bool

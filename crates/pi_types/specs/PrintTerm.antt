@@ -5,12 +5,10 @@ use Rattle.std.specs.Str.{chars, bytes_eq}
 use Rattle.pi_types.specs.Tree.{Tree, var, int, atom, comp, Trees, no_trees, tree, tree_count}
 use Rattle.pi_types.specs.Variables.{variables}
 use Rattle.pi_types.specs.Copy.{place_in}
+pub use Rattle.pi_types.specs.ListNames.{cell_name}
 use Rattle.pi_types.specs.PrintAtom.{nil, atom_text}
 
--- a compound with this name and two arguments is a list cell: the first item and the list behind it
-abbrev pub cell_name : List ℕ
-cell_name = codes "[|]"
-
+-- a compound with this name and these arguments is a list cell
 abbrev pub is_cell : List ℕ → Trees → Bool
 is_cell name ts = bytes_eq name cell_name && (tree_count ts == 2)
 
