@@ -57,3 +57,5 @@ pub mod Numbers
 pub mod RenamedCells
 pub mod TreeStoreRead
 pub mod Ranks
+pub mod ProgramTree
+pub mod Small
