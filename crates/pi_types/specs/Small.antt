@@ -5,6 +5,7 @@
 use Rattle.std.specs.Prelude.{◌≡◌, ◌≢◌, ◌⊎◌, ℕ, suc, false, List, [], ◌∷◌, map, Option, Some, None, All, Contains, codes, ⊤}
 use Rattle.pi_types.specs.ExpTree.{ExpTree, var, int, atom, call, and, ExpTrees, no_exps, exp}
 use Rattle.pi_types.specs.Builtin.{is_built_in}
+use Rattle.pi_types.specs.Sound.{is_planner}
 use Rattle.pi_types.specs.ProgramTree.{RuleTree, WrittenClause, rule, function, fact, PartTree, ProgramTree}
 use Rattle.pi_types.specs.declared.program.Decl.{Decl}
 
@@ -50,9 +51,10 @@ unfoldable pub AreSmallTerms : ExpTrees → Type 0
 AreSmallTerms no_exps = ⊤
 AreSmallTerms (exp e es) = IsSmallTerm e × AreSmallTerms es
 
--- no program defines what is built in
+-- no program defines what is built in, or will be for planning
 pub record IsFree (name : List ℕ) (k : ℕ) : Type 0 where
   pub not_built_in : is_built_in false name k ≡ false
+  pub not_planner : is_planner name k ≡ false
   pub not_true : name ≡ codes "true" → k ≢ 0
   pub not_fail : name ≡ codes "fail" → k ≢ 0
 
