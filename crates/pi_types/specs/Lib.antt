@@ -52,6 +52,7 @@ pub mod TreeStoreProps
 pub mod PrintAtom
 pub mod PrintTerm
 pub mod PrintAnswer
+pub mod Told
 pub mod BareCells
 pub mod Numbers
 pub mod RenamedCells

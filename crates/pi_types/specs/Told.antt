@@ -1,0 +1,38 @@
+-- What an answer of a query tells: the value of each named variable, and the domain of each unbound variable in these
+-- values that has one (own). How it is printed stands in PrintAnswer.
+use Rattle.std.specs.Prelude.{ℕ, List, [], ◌∷◌, Option, Some, None}
+use Rattle.std.specs.List.{flat_map}
+use Rattle.pi_types.specs.Tree.{var}
+use Rattle.pi_types.specs.Places.{Places}
+use Rattle.pi_types.specs.Value.{value}
+use Rattle.pi_types.specs.State.{State, bindings, domain_of}
+use Rattle.pi_types.specs.Evaluation.{Evaluated, evaluated}
+use Rattle.pi_types.specs.Run.{Solution}
+use Rattle.pi_types.specs.PrintAnswer.{answer_variables}
+use Rattle.pi_types.specs.declared.core_program.NameSlot.{NameSlot}
+use Rattle.pi_types.specs.declared.domain.Span.{Span}
+use Rattle.pi_types.specs.declared.answer.NamedTerm.{NamedTerm}
+use Rattle.pi_types.specs.declared.answer.VarDomain.{VarDomain}
+use Rattle.pi_types.specs.declared.answer.Answer.{Answer}
+
+-- the named variables in order, each with its value; one whose slot is empty is a new variable
+unfoldable pub named_values : List NameSlot → Places → State → List NamedTerm
+named_values [] e s = []
+named_values (n ∷ names) e s =
+    let x : Evaluated = evaluated (var n.slot) e s in
+    record { name = n.name; value = value (bindings x.state) x.tree } ∷ named_values names x.slots x.state
+
+-- a variable with its domain, if it has one
+abbrev pub told_domain : ℕ → Option (List Span) → List VarDomain
+told_domain n None = []
+told_domain n (Some d) = record { var = n; domain = d } ∷ []
+
+-- the domains that variables have in a state, in the order of the variables
+unfoldable pub told_domains : State → List ℕ → List VarDomain
+told_domains s ns = flat_map (λ n. told_domain n (domain_of s n)) ns
+
+-- the values, and the domains of the variables in them, each once, by first occurrence; a variable that is new here has none
+unfoldable pub answer_of : List NameSlot → Solution → Answer
+answer_of names x =
+    let values : List NamedTerm = named_values names x.slots x.state in
+    record { values = values; domains = told_domains x.state (answer_variables values) }
