@@ -64,3 +64,4 @@ pub mod TreeStorePlaces
 pub mod BareLemmas
 pub mod TreeStoreReads
 pub mod RootLemmas
+pub mod ExpListLemmas

@@ -60,3 +60,4 @@ pub mod TreeStoreRead
 pub mod Ranks
 pub mod ProgramTree
 pub mod Small
+pub mod ExpLists
