@@ -1,4 +1,10 @@
 //! Bodies and goals.
+ghost use Rattle.std.specs.Prelude.{◌≡◌, IfOk};
+ghost use Rattle.pi_types.specs.ExpTree.{exp_tree};
+ghost use Rattle.pi_types.specs.GoalTree.{goals_of};
+ghost use Rattle.pi_rewrite.specs.Lowered.{SlotNames, slots_after, slots_after_all, lowered_term, lowered_terms, lowered_atom as atom_lowered, lowered_goal, lowered_goals, lowered_body};
+ghost use Rattle.pi_rewrite.specs.Built.{IsSlots, exps_of};
+
 use crate::slots::Slots;
 use pi_types::{CoreGoal, Exp, Exps, Term};
 use std::alloc::{AllocError, Global};
@@ -8,46 +14,88 @@ pub(crate) fn lower_body<'a>(
     alloc: Global,
     body: &'a Exp,
     slots: &mut Slots<'a>,
-) -> Result<CoreGoal, AllocError> {
-    let Exp::And(goals) = body else {
-        return lower_goal(alloc, body, slots);
-    };
+) -> Result<CoreGoal, AllocError>
+    ensures is { IfOk result (λ made. (ns : SlotNames) → IsSlots slots.old ns → made ≡ lowered_body (exp_tree body.now) ns) }
+    ensures slots { IfOk result (λ _. (ns : SlotNames) → IsSlots slots.old ns → IsSlots slots.new (slots_after (exp_tree body.now) ns)) }
+{
+    match body {
+        Exp::And(goals) => {
+            let lowered = lower_goals(alloc, goals, slots)?;
+            let made = CoreGoal::seq(alloc, &lowered)?;
+            Ok(made)
+        }
+        Exp::Atom(name) => {
+            let made = lower_atom(alloc, name.as_str())?;
+            Ok(made)
+        }
+        Exp::Call(name, args) => {
+            let terms = lower_args(alloc, args, slots)?;
+            let made = CoreGoal::call(alloc, name.as_str(), &terms)?;
+            Ok(made)
+        }
+        _ => Err(AllocError),
+    }
+}
+
+/// Goals of a body, in order.
+fn lower_goals<'a>(
+    alloc: Global,
+    goals: &'a Exps,
+    slots: &mut Slots<'a>,
+) -> Result<Vec<CoreGoal>, AllocError>
+    ensures are { IfOk result (λ made. (ns : SlotNames) → IsSlots slots.old ns → goals_of made.items ≡ lowered_goals (exps_of goals.now.items) ns) }
+    ensures slots { IfOk result (λ _. (ns : SlotNames) → IsSlots slots.old ns → IsSlots slots.new (slots_after_all (exps_of goals.now.items) ns)) }
+{
     let mut lowered = Vec::new(alloc);
     for goal in goals {
         lowered.push(lower_goal(alloc, goal, slots)?)?;
     }
-    CoreGoal::seq(alloc, &lowered)
+    Ok(lowered)
 }
 
 fn lower_goal<'a>(
     alloc: Global,
     goal: &'a Exp,
     slots: &mut Slots<'a>,
-) -> Result<CoreGoal, AllocError> {
+) -> Result<CoreGoal, AllocError>
+    ensures is { IfOk result (λ made. (ns : SlotNames) → IsSlots slots.old ns → made ≡ lowered_goal (exp_tree goal.now) ns) }
+    ensures slots { IfOk result (λ _. (ns : SlotNames) → IsSlots slots.old ns → IsSlots slots.new (slots_after (exp_tree goal.now) ns)) }
+{
     match goal {
-        Exp::Atom(name) => lower_atom(alloc, name.as_str()),
+        Exp::Atom(name) => {
+            let made = lower_atom(alloc, name.as_str())?;
+            Ok(made)
+        }
         Exp::Call(name, args) => {
             let terms = lower_args(alloc, args, slots)?;
-            CoreGoal::call(alloc, name.as_str(), &terms)
+            let made = CoreGoal::call(alloc, name.as_str(), &terms)?;
+            Ok(made)
         }
         _ => Err(AllocError),
     }
 }
 
 /// `true`, `fail` or the call of a predicate without arguments.
-fn lower_atom(alloc: Global, name: &str) -> Result<CoreGoal, AllocError> {
-    match name {
-        "true" => CoreGoal::truth(alloc),
-        "fail" => CoreGoal::fail(alloc),
-        _ => CoreGoal::call(alloc, name, &[]),
+fn lower_atom(alloc: Global, name: &str) -> Result<CoreGoal, AllocError>
+    ensures { IfOk result (λ made. made ≡ atom_lowered name.now) }
+{
+    if name == "true" {
+        return CoreGoal::truth(alloc);
     }
+    if name == "fail" {
+        return CoreGoal::fail(alloc);
+    }
+    CoreGoal::call(alloc, name, &[])
 }
 
 fn lower_args<'a>(
     alloc: Global,
     args: &'a Exps,
     slots: &mut Slots<'a>,
-) -> Result<Vec<Term>, AllocError> {
+) -> Result<Vec<Term>, AllocError>
+    ensures are { IfOk result (λ made. (ns : SlotNames) → IsSlots slots.old ns → made.items ≡ lowered_terms (exps_of args.now.items) ns) }
+    ensures slots { IfOk result (λ _. (ns : SlotNames) → IsSlots slots.old ns → IsSlots slots.new (slots_after_all (exps_of args.now.items) ns)) }
+{
     let mut terms = Vec::new(alloc);
     for arg in args {
         terms.push(lower_term(alloc, arg, slots)?)?;
@@ -55,11 +103,25 @@ fn lower_args<'a>(
     Ok(terms)
 }
 
-fn lower_term<'a>(alloc: Global, term: &'a Exp, slots: &mut Slots<'a>) -> Result<Term, AllocError> {
+#[tactic(auto, unfolding(pi_types::specs::ExpTree::exp_tree, crate::specs::Lowered::slots_after))]
+fn lower_term<'a>(alloc: Global, term: &'a Exp, slots: &mut Slots<'a>) -> Result<Term, AllocError>
+    ensures is { IfOk result (λ made. (ns : SlotNames) → IsSlots slots.old ns → made ≡ lowered_term (exp_tree term.now) ns) }
+    ensures slots { IfOk result (λ _. (ns : SlotNames) → IsSlots slots.old ns → IsSlots slots.new (slots_after (exp_tree term.now) ns)) }
+{
     match term {
-        Exp::Var(name) => Term::var(alloc, u64::from(slots.slot_of(name.as_str())?)),
-        Exp::Int(value) => Term::int(alloc, *value),
-        Exp::Atom(name) => Term::atom(alloc, name.as_str()),
+        Exp::Var(name) => {
+            let slot = slots.slot_of(name.as_str())?;
+            let made = Term::var(alloc, u64::from(slot))?;
+            Ok(made)
+        }
+        Exp::Int(value) => {
+            let made = Term::int(alloc, *value)?;
+            Ok(made)
+        }
+        Exp::Atom(name) => {
+            let made = Term::atom(alloc, name.as_str())?;
+            Ok(made)
+        }
         _ => Err(AllocError),
     }
 }
