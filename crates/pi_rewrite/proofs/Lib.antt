@@ -6,3 +6,10 @@ pub mod ExpLemmas
 pub mod ClauseLemmas
 pub mod FilledLemmas
 pub mod SameLemmas
+pub mod ValuedLemmas
+pub mod MatchedLemmas
+pub mod GoalLemmas
+pub mod RuleLemmas
+pub mod FindLemmas
+pub mod ProgramLemmas
+pub mod LevelLemmas

@@ -1,0 +1,66 @@
+-- Calls of a lowered program, at each depth.
+use Rattle.std.proofs.Common.{◌≡◌, ℕ, zero, suc, ◌+◌, Bool, false, List, [], ◌∷◌, length, map, refl, sym, ◌∙◌, ap, subst}
+use Rattle.std.specs.Prelude.{Option, Some, None, Contains}
+use Rattle.pi_types.specs.Tree.{Trees, comp, tree_count}
+use Rattle.pi_types.specs.State.{State}
+use Rattle.pi_types.specs.Trace.{Trace, note, Tick}
+use Rattle.pi_types.specs.View.{View}
+use Rattle.pi_types.specs.Drain.{drained}
+use Rattle.pi_types.specs.Level.{Level, calls_at, ticked}
+use Rattle.pi_types.specs.CoreTree.{PredTree}
+use Rattle.pi_types.specs.Rules.{pred_run, find_pred, entered, call_run, calls_of, quiet_level, level_at}
+use Rattle.pi_types.specs.ProgramTree.{ProgramTree}
+use Rattle.pi_types.specs.Small.{heads, Defines, IsSmallProgram}
+use Rattle.pi_rewrite.specs.Surface.{rules_of, rules_trace, called_at}
+use Rattle.pi_rewrite.specs.Lowered.{lowered_rule, lowered}
+use Rattle.pi_rewrite.proofs.GoalLemmas.{SameCalls}
+use Rattle.pi_rewrite.proofs.RuleLemmas.{same-rules}
+use Rattle.pi_rewrite.proofs.FindLemmas.{sign, signs, pred_of, chosen_rules, find-lowered}
+use Rattle.pi_rewrite.proofs.ProgramLemmas.{AreRules, program-rules, rules-together, small-chosen, defined-found}
+
+run-found : (v : View) (inner below : Option Level) (o : Option PredTree) (p : PredTree) (ts : Trees) (s : State) → o ≡ Some p → p.quiet ≡ false → call_run v inner below o ts s ≡ ticked below (λ l. pred_run v l p p.index ts s)
+run-found v inner below o p ts s is quiet = ap (λ o. call_run v inner below o ts s) is ∙ ap (λ q. entered q inner below (λ l. pred_run v l p p.index ts s)) quiet
+
+level-called : (v : View) (preds : List PredTree) (below : Option Level) (k : ℕ) (name : List ℕ) (ts : Trees) (s : State) (p : PredTree) → find_pred false name (tree_count ts) preds ≡ Some p → p.quiet ≡ false →
+    (calls_at (quiet_level v preds below k)).called name ts s ≡ ticked below (λ l. pred_run v l p p.index ts s)
+unfolding quiet_level calls_of
+level-called v preds None zero name ts s p is quiet = run-found v None None (find_pred false name (tree_count ts) preds) p ts s is quiet
+level-called v preds None (suc k) name ts s p is quiet = run-found v (Some (quiet_level v preds None k)) None (find_pred false name (tree_count ts) preds) p ts s is quiet
+level-called v preds (Some l) zero name ts s p is quiet = run-found v None (Some l) (find_pred false name (tree_count ts) preds) p ts s is quiet
+level-called v preds (Some l) (suc k) name ts s p is quiet = run-found v (Some (quiet_level v preds (Some l) k)) (Some l) (find_pred false name (tree_count ts) preds) p ts s is quiet
+
+level-drains : (v : View) (preds : List PredTree) (below : Option Level) (k : ℕ) (s : State) → (calls_at (quiet_level v preds below k)).drained s ≡ drained s
+unfolding quiet_level calls_of
+level-drains v preds None zero s = refl
+level-drains v preds None (suc k) s = refl
+level-drains v preds (Some l) zero s = refl
+level-drains v preds (Some l) (suc k) s = refl
+
+found : (program : ProgramTree) → IsSmallProgram program → (name : List ℕ) (k : ℕ) → Defines (heads program) name k →
+    find_pred false name k (lowered program) ≡ Some (pred_of (sign name k) (map lowered_rule (chosen_rules name k (rules_of program))))
+found program small name k known =
+    let are : AreRules (heads program) (heads program) (rules_of program) = program-rules program small in
+    find-lowered name k (rules_of program) (rules-together program small) are.named
+    ∙ defined-found name k (rules_of program) (subst (λ hs. Contains hs (Some (sign name k))) (sym are.heads) known)
+
+rules-run : (program : ProgramTree) → IsSmallProgram program → (v : View) (d : ℕ) (l : Level) → SameCalls (heads program) l (called_at v program d) → (name : List ℕ) (ts : Trees) (s : State) →
+    pred_run v l (pred_of (sign name (tree_count ts)) (map lowered_rule (chosen_rules name (tree_count ts) (rules_of program)))) None ts s
+    ≡ rules_trace v (called_at v program d) (chosen_rules name (tree_count ts) (rules_of program)) ts s
+unfolding pred_run
+rules-run program small v d l is name ts s =
+    same-rules (heads program) v l (called_at v program d) is (chosen_rules name (tree_count ts) (rules_of program))
+    (small-chosen (heads program) name (tree_count ts) (rules_of program) (program-rules program small).small) (comp name ts) 0 ts s
+
+pub same-calls : (program : ProgramTree) → IsSmallProgram program → (v : View) (d : ℕ) → SameCalls (heads program) (level_at v (lowered program) d) (called_at v program d)
+unfolding level_at called_at
+same-calls program small v zero = record {
+  called = λ name ts s known. level-called v (lowered program) None (length (lowered program)) name ts s _ (found program small name (tree_count ts) known) refl;
+  drains = level-drains v (lowered program) None (length (lowered program));
+}
+same-calls program small v (suc d) =
+    let l : Level = level_at v (lowered program) d in
+    record {
+      called = λ name ts s known. level-called v (lowered program) (Some l) (suc (length (lowered program) + d)) name ts s _ (found program small name (tree_count ts) known) refl
+          ∙ ap (note Tick) (rules-run program small v d l (same-calls program small v d) name ts s);
+      drains = level-drains v (lowered program) (Some l) (suc (length (lowered program) + d));
+    }
