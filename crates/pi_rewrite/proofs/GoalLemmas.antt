@@ -46,7 +46,7 @@ pub data AtPlace (l : Level) (n : ℕ) (after : SlotNames) : Point → Place →
   at_place : (e : Environment) (s : State) → names_of e ≡ after → AtPlace l n after (at_slots l n e s) (at_names e s)
 
 -- both first drain
-same-drained : (R : Point → Place → Type 0) (l : Level) (n : ℕ) (e : Environment) (s : State) (act : Action) (does : Doing) → ((s : State) → (calls_at l).drained s ≡ drained s) →
+pub same-drained : (R : Point → Place → Type 0) (l : Level) (n : ℕ) (e : Environment) (s : State) (act : Action) (does : Doing) → ((s : State) → (calls_at l).drained s ≡ drained s) →
     ((s : State) → SameBy R (act (at_slots l n e s)) (does (at_names e s))) → SameBy R (draining act (at_slots l n e s)) (draining_first does (at_names e s))
 unfolding draining
 same-drained R l n e s act does drains each =

@@ -13,3 +13,5 @@ pub mod RuleLemmas
 pub mod FindLemmas
 pub mod ProgramLemmas
 pub mod LevelLemmas
+pub mod ToldLemmas
+pub mod QueryLemmas

@@ -93,7 +93,7 @@ pub small-cons : (defined : Defined) (r : RuleTree) (rs : List RuleTree) → IsS
 unfolding SmallRules
 small-cons defined r rs h k = (h, k)
 
-all-empty : (n : ℕ) → slots_at n [] ≡ replicate n None
+pub all-empty : (n : ℕ) → slots_at n [] ≡ replicate n None
 all-empty n = ap (λ m. replicate {A = Option Tree} m None) (omega arith)
 
 head-tried : (b : Places) (r : RuleTree) → (small : AreSmallTerms (head_arguments r.head)) (ts : Trees) (n : ℕ) → length (slots_of_head r.head) ≤ n →

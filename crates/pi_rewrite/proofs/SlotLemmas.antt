@@ -12,7 +12,7 @@ use Rattle.pi_rewrite.specs.Built.{IsSlots}
 use Rattle.pi_rewrite.proofs.TextLemmas.{text_same, text_turned, text_itself}
 
 -- a slot where there was one, else that of the last name
-abbrev or_last : Option ℕ → Option ℕ → Option ℕ
+abbrev pub or_last : Option ℕ → Option ℕ → Option ℕ
 or_last (Some k) last = Some k
 or_last None last = last
 
@@ -41,7 +41,7 @@ abbrev one_name : Bool → List ℕ → ℕ → List NameSlot
 one_name true n k = []
 one_name false n k = record { name = n; slot = k } ∷ []
 
-abbrev one_before : Bool → NameSlot → List NameSlot → List NameSlot
+abbrev pub one_before : Bool → NameSlot → List NameSlot → List NameSlot
 one_before b m xs = cond b xs (m ∷ xs)
 
 last_name : (b : Bool) (n : List ℕ) (k : ℕ) → one_before b (record { name = n; slot = k }) [] ≡ one_name b n k
