@@ -12,7 +12,7 @@ use Rattle.pi_types.specs.declared.core_program.CoreClause.{CoreClause}
 use Rattle.pi_types.specs.declared.core_program.CorePred.{CorePred}
 use Rattle.pi_types.specs.declared.core_program.CoreQuery.{CoreQuery}
 use Rattle.pi_types.specs.declared.program.Part.{Part}
-use Rattle.pi_rewrite.specs.Surface.{head_arguments, rule_in, rules_of, is_signature}
+use Rattle.pi_types.specs.Surface.{head_arguments, rule_in, rules_of, is_signature}
 use Rattle.pi_rewrite.specs.Lowered.{slots_after, slots_of_head, lowered_patterns, lowered_body, lowered_clause, lowered_rule, head_signature, named_by, predicate, with_clause, grouped, lowered_rules, name_slots, lowered_query}
 use Rattle.pi_rewrite.specs.Built.{IsRule, Adds, lowered_behind}
 

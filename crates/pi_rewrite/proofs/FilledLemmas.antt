@@ -6,7 +6,7 @@ use Rattle.std.proofs.lemmas.Bool.{cases_Bool}
 use Rattle.std.proofs.lemmas.Bool.Decides.{Decides-ltb}
 use Rattle.pi_types.specs.Tree.{Tree}
 use Rattle.pi_types.specs.Places.{Places, held}
-use Rattle.pi_rewrite.specs.Environment.{Meant, Environment, meant, known, with_name}
+use Rattle.pi_types.specs.Environment.{Meant, Environment, meant, known, with_name}
 use Rattle.pi_rewrite.specs.Lowered.{SlotNames, slot_of, slot_known}
 
 abbrev pub names_of : Environment → SlotNames

@@ -15,7 +15,7 @@ use Rattle.pi_types.specs.CoreTree.{ClauseTree, PredTree}
 use Rattle.pi_types.specs.Rules.{is_pred, find_pred}
 use Rattle.pi_types.specs.ProgramTree.{RuleTree}
 use Rattle.pi_types.specs.Small.{Signature, signature, StandTogether, GoesOn}
-use Rattle.pi_rewrite.specs.Surface.{is_signature, is_rule_of}
+use Rattle.pi_types.specs.Surface.{is_signature, is_rule_of}
 use Rattle.pi_rewrite.specs.Lowered.{lowered_rule, named_by, head_signature, predicate, with_clause, grouped, lowered_rules}
 use Rattle.pi_rewrite.proofs.TextLemmas.{text_by_order}
 
@@ -44,6 +44,14 @@ have-none = tt
 pub have-more : (r : RuleTree) (rs : List RuleTree) → (s : Signature) × (signature r.head ≡ Some s) → HaveNames rs → HaveNames (r ∷ rs)
 unfolding HaveNames
 have-more r rs named rest = (named, rest)
+
+pub named-first : (r : RuleTree) (rs : List RuleTree) → HaveNames (r ∷ rs) → (s : Signature) × (signature r.head ≡ Some s)
+unfolding HaveNames
+named-first r rs h = h.0
+
+pub named-rest : (r : RuleTree) (rs : List RuleTree) → HaveNames (r ∷ rs) → HaveNames rs
+unfolding HaveNames
+named-rest r rs h = h.1
 
 sign-decides : (name : List ℕ) (k : ℕ) (s : Signature) → Decides (is_signature name k (Some s)) ((s.name ≡ name) × (s.arity ≡ k))
 sign-decides name k s = Decides-and (bytes_eq s.name name) (s.arity == k) (bytes_eq-Decides s.name name) (Decides-eqb s.arity k)
@@ -94,15 +102,15 @@ none-ahead s last before (r ∷ rs) other there together =
     go (inl same) e = other (sym same ∙ e)
     go (inr new) e = new (subst (λ (x : Option Signature). Contains (last ∷ before) x) (sym e) there)
 
-grouped-same : (s : Signature) (cs : List ClauseTree) (r : RuleTree) (rs : List RuleTree) → is_signature s.name s.arity (signature r.head) ≡ true → grouped (pred_of s cs) (r ∷ rs) ≡ grouped (pred_of s (cs ++ lowered_rule r ∷ [])) rs
+pub grouped-same : (s : Signature) (cs : List ClauseTree) (r : RuleTree) (rs : List RuleTree) → is_signature s.name s.arity (signature r.head) ≡ true → grouped (pred_of s cs) (r ∷ rs) ≡ grouped (pred_of s (cs ++ lowered_rule r ∷ [])) rs
 unfolding grouped
 grouped-same s cs r rs h = cond-true (is_signature s.name s.arity (signature r.head)) _ _ h
 
-grouped-other : (s : Signature) (cs : List ClauseTree) (r : RuleTree) (rs : List RuleTree) → is_signature s.name s.arity (signature r.head) ≡ false → grouped (pred_of s cs) (r ∷ rs) ≡ pred_of s cs ∷ grouped (pred_of (head_signature r.head) (lowered_rule r ∷ [])) rs
+pub grouped-other : (s : Signature) (cs : List ClauseTree) (r : RuleTree) (rs : List RuleTree) → is_signature s.name s.arity (signature r.head) ≡ false → grouped (pred_of s cs) (r ∷ rs) ≡ pred_of s cs ∷ grouped (pred_of (head_signature r.head) (lowered_rule r ∷ [])) rs
 unfolding grouped
 grouped-other s cs r rs h = cond-false (is_signature s.name s.arity (signature r.head)) _ _ h
 
-grouped-none : (s : Signature) (cs : List ClauseTree) → grouped (pred_of s cs) [] ≡ pred_of s cs ∷ []
+pub grouped-none : (s : Signature) (cs : List ClauseTree) → grouped (pred_of s cs) [] ≡ pred_of s cs ∷ []
 unfolding grouped
 grouped-none s cs = refl
 
@@ -152,7 +160,7 @@ find-begun name k r s is rs before together later true h =
     ∙ ap (pred_with name k) (sym (chosen-it name k r rs (ap (is_signature name k) is ∙ h)))
 find-begun name k r s is rs before together later false h = later h ∙ ap (pred_with name k) (sym (chosen-not name k r rs (ap (is_signature name k) is ∙ h)))
 
-head-is : (r : RuleTree) (s : Signature) → signature r.head ≡ Some s → head_signature r.head ≡ s
+pub head-is : (r : RuleTree) (s : Signature) → signature r.head ≡ Some s → head_signature r.head ≡ s
 head-is r s is = ap named_by is
 
 -- another predicate than the one that is being made

@@ -19,8 +19,8 @@ use Rattle.pi_types.specs.Meaning.{Action, in_state, draining, succeeding, faili
 use Rattle.pi_types.specs.Small.{Signature, Defines, AreSmallTerms, IsSmallAtom, IsSmallCall, IsSmallGoal, AreSmallGoals, IsSmallBody, exp_count}
 use Rattle.pi_types.proofs.RelatedLemmas.{Same, same}
 use Rattle.pi_types.proofs.TraceLemmas.{alt-done}
-use Rattle.pi_rewrite.specs.Environment.{Environment, ValuedAll, valued_all}
-use Rattle.pi_rewrite.specs.Surface.{Place, Doing, Calling, at_state, draining_first, built_in_or_called, call_trace, atom_trace, goal_trace, goals_trace, body_trace}
+use Rattle.pi_types.specs.Environment.{Environment, ValuedAll, valued_all}
+use Rattle.pi_types.specs.Surface.{Place, Doing, Calling, at_state, draining_first, built_in_or_called, call_trace, atom_trace, goal_trace, goals_trace, body_trace}
 use Rattle.pi_rewrite.specs.Lowered.{SlotNames, slots_after, slots_after_all, lowered_terms, lowered_atom, lowered_goal, lowered_goals, lowered_body}
 use Rattle.pi_rewrite.proofs.TextLemmas.{text_itself}
 use Rattle.pi_rewrite.proofs.FilledLemmas.{names_of, slots_at}
@@ -114,7 +114,7 @@ same-atom defined v l calls is name n e s room false true known = same-drained (
 same-atom defined v l calls is name n e s room false false known =
     same-drained (AtPlace l n (names_of e)) l n e s (calling v name []) (call_trace v calls name no_exps) is.drains (λ s. same-bare defined v l calls is name n e s room (known refl refl))
 
-atom-known : (defined : Defined) (name : List ℕ) → IsSmallAtom defined name → bytes_eq name (codes "true") ≡ false → bytes_eq name (codes "fail") ≡ false → Defines defined name 0
+pub atom-known : (defined : Defined) (name : List ℕ) → IsSmallAtom defined name → bytes_eq name (codes "true") ≡ false → bytes_eq name (codes "fail") ≡ false → Defines defined name 0
 atom-known defined name (inl (inl is)) h k = absurd (false≢true (sym h ∙ ap (λ n. bytes_eq n (codes "true")) is))
 atom-known defined name (inl (inr is)) h k = absurd (false≢true (sym k ∙ ap (λ n. bytes_eq n (codes "fail")) is))
 atom-known defined name (inr is) h k = is

@@ -11,7 +11,7 @@ use Rattle.pi_types.specs.CoreTree.{PredTree}
 use Rattle.pi_types.specs.Rules.{pred_run, find_pred, entered, call_run, calls_of, quiet_level, level_at}
 use Rattle.pi_types.specs.ProgramTree.{ProgramTree}
 use Rattle.pi_types.specs.Small.{heads, Defines, IsSmallProgram}
-use Rattle.pi_rewrite.specs.Surface.{rules_of, rules_trace, called_at}
+use Rattle.pi_types.specs.Surface.{rules_of, rules_trace, called_at}
 use Rattle.pi_rewrite.specs.Lowered.{lowered_rule, lowered}
 use Rattle.pi_rewrite.proofs.GoalLemmas.{SameCalls}
 use Rattle.pi_rewrite.proofs.RuleLemmas.{same-rules}
@@ -36,7 +36,7 @@ level-drains v preds None (suc k) s = refl
 level-drains v preds (Some l) zero s = refl
 level-drains v preds (Some l) (suc k) s = refl
 
-found : (program : ProgramTree) → IsSmallProgram program → (name : List ℕ) (k : ℕ) → Defines (heads program) name k →
+pub found : (program : ProgramTree) → IsSmallProgram program → (name : List ℕ) (k : ℕ) → Defines (heads program) name k →
     find_pred false name k (lowered program) ≡ Some (pred_of (sign name k) (map lowered_rule (chosen_rules name k (rules_of program))))
 found program small name k known =
     let are : AreRules (heads program) (heads program) (rules_of program) = program-rules program small in

@@ -15,3 +15,7 @@ pub mod ProgramLemmas
 pub mod LevelLemmas
 pub mod ToldLemmas
 pub mod QueryLemmas
+pub mod SoundGoals
+pub mod SoundPrograms
+pub mod SoundLemmas
+pub mod CutLemmas

@@ -10,7 +10,7 @@ use Rattle.pi_types.specs.State.{followed}
 use Rattle.pi_types.specs.ExpTree.{ExpTree, ExpTrees, no_exps, exp}
 use Rattle.pi_types.specs.HeadMatch.{taken_in, matched_in, matched_all_in}
 use Rattle.pi_types.specs.Small.{IsSmallTerm, AreSmallTerms}
-use Rattle.pi_rewrite.specs.Environment.{Environment, with_name, known, name_matched, argument_matched, head_matched}
+use Rattle.pi_types.specs.Environment.{Environment, with_name, known, name_matched, argument_matched, head_matched}
 use Rattle.pi_rewrite.specs.Lowered.{SlotNames, slot_known, slot_or_next, slots_with, slots_after, slots_after_all, lowered_pattern, lowered_patterns}
 use Rattle.pi_rewrite.proofs.FilledLemmas.{names_of, slots_at, names-length, names-more, next-empty, next-set, next-fits, Seen, new, there, seen-known}
 use Rattle.pi_rewrite.proofs.ValuedLemmas.{terms-grow}

@@ -7,7 +7,7 @@ use Rattle.std.proofs.lemmas.List.Elements.{recursion_from_All}
 use Rattle.pi_types.specs.ExpTree.{ExpTree}
 use Rattle.pi_types.specs.ProgramTree.{RuleTree, WrittenClause, rule, function, fact, PartTree, ProgramTree}
 use Rattle.pi_types.specs.Small.{Signature, signature, defined_by, heads, exp_count, IsSmallHead, IsSmallRule, IsSmallClause, IsSmallPart, IsSmallProgram, StandTogether}
-use Rattle.pi_rewrite.specs.Surface.{rule_in, rules_of, is_signature, is_rule_of}
+use Rattle.pi_types.specs.Surface.{rule_in, rules_of, is_signature, is_rule_of}
 use Rattle.pi_rewrite.specs.Lowered.{lowered_rule}
 use Rattle.pi_rewrite.proofs.GoalLemmas.{Defined}
 use Rattle.pi_rewrite.proofs.RuleLemmas.{SmallRules, small-none, small-cons, small-first, small-rest}
@@ -58,7 +58,7 @@ small-chosen defined name k (r ∷ rs) small = tested (is_rule_of name k r) (sma
     tested true h = small-cons defined r (chosen_rules name k rs) (small-first defined r rs small) h
     tested false h = h
 
-in-tail : (x : Option Signature) (xs : Defined) (y : Option Signature) → (x ≡ y → ⊥) → (j : ℕ) → j < length (x ∷ xs) → get_or (x ∷ xs) j y ≡ y → Contains xs y
+pub in-tail : (x : Option Signature) (xs : Defined) (y : Option Signature) → (x ≡ y → ⊥) → (j : ℕ) → j < length (x ∷ xs) → get_or (x ∷ xs) j y ≡ y → Contains xs y
 in-tail x xs y other zero h e = absurd (other e)
 in-tail x xs y other (suc j) h e = (j, omega arith, e)
 

@@ -21,10 +21,11 @@ use Rattle.pi_types.specs.Small.{heads, IsSmallProgram, IsSmallQuery}
 use Rattle.pi_types.specs.declared.core_program.NameSlot.{NameSlot}
 use Rattle.pi_types.specs.declared.answer.NamedTerm.{NamedTerm}
 use Rattle.pi_types.proofs.RelatedLemmas.{Same, same}
-use Rattle.pi_rewrite.specs.Environment.{Environment, Valued, known, name_valued, valued}
-use Rattle.pi_rewrite.specs.Surface.{Place, Calling, draining_first, body_trace, called_at, told_values, if_tellable, telling, told_names, beginning, surface_trace}
+use Rattle.pi_types.specs.Environment.{Environment, Valued, known, name_valued, valued}
+use Rattle.pi_types.specs.Surface.{Place, Calling, draining_first, body_trace, called_at, told_values, if_tellable, telling, told_names, beginning, surface_trace}
 use Rattle.pi_rewrite.specs.Lowered.{SlotNames, slot_known, slots_after, lowered_body, lowered, lowered_query, name_slots}
-use Rattle.pi_rewrite.specs.Told.{Told, slot_values, solution_told, place_told, told_trace, LoweringKeepsTheTrace}
+use Rattle.pi_types.specs.Told.{Told, slot_values, solution_told, place_told, told_trace}
+use Rattle.pi_rewrite.specs.Laws.{LoweringKeepsTheTrace}
 use Rattle.pi_rewrite.proofs.FilledLemmas.{names_of, slots_at, Seen, new, there, seen-known}
 use Rattle.pi_rewrite.proofs.SameLemmas.{SameBy, same_end, same-one, same-then, same-equal}
 use Rattle.pi_rewrite.proofs.GoalLemmas.{SameCalls, at_slots, at_names, AtPlace, at_place, same-drained}
@@ -126,7 +127,7 @@ core-trace v preds goal d =
 
 pub lowering-keeps-the-trace : LoweringKeepsTheTrace
 unfolding surface_trace
-lowering-keeps-the-trace v program goal small asked d =
+lowering-keeps-the-trace program goal small asked v d =
     let ns : SlotNames = slots_after goal [] in
     let n : ℕ = length ns in
     let xs : List NameSlot = name_slots 0 ns in

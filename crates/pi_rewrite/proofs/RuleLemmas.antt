@@ -18,8 +18,8 @@ use Rattle.pi_types.specs.ProgramTree.{RuleTree}
 use Rattle.pi_types.specs.Small.{AreSmallTerms, IsSmallHead, IsSmallBody, IsSmallRule}
 use Rattle.pi_types.proofs.RelatedLemmas.{Same, same}
 use Rattle.pi_types.proofs.TraceLemmas.{alt-done}
-use Rattle.pi_rewrite.specs.Environment.{Environment, head_matched}
-use Rattle.pi_rewrite.specs.Surface.{Place, Calling, goals_trace, body_trace, head_arguments, rule_or_later, rules_trace}
+use Rattle.pi_types.specs.Environment.{Environment, head_matched}
+use Rattle.pi_types.specs.Surface.{Place, Calling, goals_trace, body_trace, head_arguments, rule_or_later, rules_trace}
 use Rattle.pi_rewrite.specs.Lowered.{SlotNames, slots_after, slots_after_all, slots_of_head, lowered_goals, lowered_body, lowered_patterns, lowered_clause, lowered_rule}
 use Rattle.pi_rewrite.proofs.FilledLemmas.{names_of, slots_at}
 use Rattle.pi_rewrite.proofs.SameLemmas.{SameBy, same-one, same-then, same-equal}

@@ -7,7 +7,7 @@ use Rattle.pi_types.specs.State.{State}
 use Rattle.pi_types.specs.ExpTree.{ExpTree, ExpTrees, no_exps, exp}
 use Rattle.pi_types.specs.Evaluation.{Evaluated, EvaluatedAll, slot_term, evaluated, evaluated_all}
 use Rattle.pi_types.specs.Small.{IsSmallTerm, AreSmallTerms, exp_count}
-use Rattle.pi_rewrite.specs.Environment.{Environment, Valued, ValuedAll, known, name_valued, valued, valued_all}
+use Rattle.pi_types.specs.Environment.{Environment, Valued, ValuedAll, known, name_valued, valued, valued_all}
 use Rattle.pi_rewrite.specs.Lowered.{SlotNames, slot_known, slot_or_next, slots_with, slots_after, slots_after_all, lowered_term, lowered_terms}
 use Rattle.pi_rewrite.proofs.FilledLemmas.{names_of, slots_at, names-length, names-more, next-empty, next-set, Seen, new, there, seen-known}
 

@@ -7,7 +7,7 @@ use Rattle.pi_types.specs.CoreTree.{ClauseTree, PredTree}
 use Rattle.pi_types.specs.ProgramTree.{RuleTree, PartTree}
 use Rattle.pi_types.specs.declared.exp.Exp.{Exp}
 use Rattle.pi_rewrite.specs.declared.slots.Slots.{Slots}
-use Rattle.pi_rewrite.specs.Surface.{rule_in}
+use Rattle.pi_types.specs.Surface.{rule_in}
 use Rattle.pi_rewrite.specs.Lowered.{SlotNames, slot_of, name_slots, lowered_rule, grouped, lowered_rules}
 
 -- the expressions of a vector, in order

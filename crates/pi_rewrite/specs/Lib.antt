@@ -1,5 +1,3 @@
-pub mod Environment
-pub mod Surface
 pub mod Lowered
 pub mod Built
-pub mod Told
+pub mod Laws

@@ -10,7 +10,7 @@ use Rattle.pi_types.specs.CoreTree.{ClauseTree, PredTree, QueryTree}
 use Rattle.pi_types.specs.ProgramTree.{RuleTree, ProgramTree}
 use Rattle.pi_types.specs.Small.{Signature, signature, exp_count}
 use Rattle.pi_types.specs.declared.core_program.NameSlot.{NameSlot}
-use Rattle.pi_rewrite.specs.Surface.{rules_of, is_signature, head_arguments, is_hidden}
+use Rattle.pi_types.specs.Surface.{rules_of, is_signature, head_arguments, is_hidden}
 
 -- the name of each slot of a clause
 abbrev pub SlotNames : Type 0

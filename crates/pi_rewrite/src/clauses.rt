@@ -4,7 +4,7 @@ ghost use Rattle.pi_types.specs.ExpTree.{exp_tree};
 ghost use Rattle.pi_types.specs.CoreTree.{pattern_tree, pattern_trees, clause_tree, pred_tree};
 ghost use Rattle.pi_types.specs.ProgramTree.{part_tree};
 ghost use Rattle.pi_types.specs.Small.{signature as signature_of};
-ghost use Rattle.pi_rewrite.specs.Surface.{head_arguments, is_signature};
+ghost use Rattle.pi_types.specs.Surface.{head_arguments, is_signature};
 ghost use Rattle.pi_rewrite.specs.Lowered.{SlotNames, slots_after, slots_after_all, lowered_pattern, lowered_patterns, lowered_clause, lowered, predicate, with_clause};
 ghost use Rattle.pi_rewrite.specs.Built.{IsSlots, IsRule, Adds, exps_of};
 

@@ -61,3 +61,6 @@ pub mod Ranks
 pub mod ProgramTree
 pub mod Small
 pub mod ExpLists
+pub mod Environment
+pub mod Surface
+pub mod SurfaceRun

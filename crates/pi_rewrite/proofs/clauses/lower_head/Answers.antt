@@ -2,7 +2,7 @@
 use Rattle.std.proofs.Common.{◌≡◌, sym, ◌∙◌, ap, subst}
 use Rattle.pi_types.specs.ExpTree.{ExpTree, exp_tree}
 use Rattle.pi_types.specs.CoreTree.{pattern_trees}
-use Rattle.pi_rewrite.specs.Surface.{head_arguments}
+use Rattle.pi_types.specs.Surface.{head_arguments}
 use Rattle.pi_rewrite.specs.Lowered.{lowered_patterns, slots_after, slots_after_all}
 use Rattle.pi_rewrite.specs.Built.{IsSlots}
 use Rattle.pi_rewrite.proofs.ExpLemmas.{is-atom, is-call}

@@ -3,7 +3,7 @@ use Rattle.std.specs.Prelude.{Option, cond, Some}
 use Rattle.std.specs.HashMap.{get_by}
 use Rattle.std.specs.Str.{bytes_eq}
 use Rattle.pi_types.specs.declared.core_program.NameSlot.{NameSlot}
-use Rattle.pi_rewrite.specs.Surface.{is_hidden}
+use Rattle.pi_types.specs.Surface.{is_hidden}
 use Rattle.pi_rewrite.specs.Lowered.{name_slots}
 use Rattle.pi_rewrite.proofs.SlotLemmas.{slots-more, names-hidden, names-shown, shown}
 use Rattle.pi_rewrite.proofs.slots.Slots.named_slot.Goals as goal

@@ -18,7 +18,7 @@ use Rattle.pi_types.specs.ExpTree.{ExpTree, ExpTrees, no_exps, exp}
 use Rattle.pi_types.specs.ProgramTree.{RuleTree, WrittenClause, rule, function, fact, PartTree, ProgramTree}
 use Rattle.pi_types.specs.Small.{Signature, signature}
 use Rattle.pi_types.specs.declared.answer.NamedTerm.{NamedTerm}
-use Rattle.pi_rewrite.specs.Environment.{Environment, Valued, valued, ValuedAll, valued_all, head_matched}
+use Rattle.pi_types.specs.Environment.{Environment, Valued, valued, ValuedAll, valued_all, head_matched}
 
 -- a place in a run: what the names stand for, and the state
 pub record Place : Type 0 where
