@@ -19,3 +19,4 @@ pub mod SoundGoals
 pub mod SoundPrograms
 pub mod SoundLemmas
 pub mod CutLemmas
+pub mod LoweredLemmas

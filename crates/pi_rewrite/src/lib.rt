@@ -1,10 +1,13 @@
 //! Programs and goals of the small language in the core language.
 #![tactic(auto)]
 
-ghost use Rattle.std.specs.Prelude.{◌≡◌, [], IfOk};
+ghost use Rattle.std.specs.Prelude.{◌≡◌, [], IfOk, All};
 ghost use Rattle.pi_types.specs.CoreTree.{program_tree, query_tree};
-ghost use Rattle.pi_types.specs.ProgramTree.{source_tree, goal_source};
+ghost use Rattle.pi_types.specs.Sound.{IsSound};
+ghost use Rattle.pi_types.specs.ProgramTree.{ProgramTree, source_tree, goal_source};
+ghost use Rattle.pi_types.specs.Small.{IsSmallProgram, IsSmallQuery};
 ghost use Rattle.pi_rewrite.specs.Lowered.{lowered, lowered_query};
+ghost use Rattle.pi_rewrite.specs.Laws.{IsPlain, IsLowered};
 
 mod clauses;
 mod goals;
@@ -24,6 +27,8 @@ use std::alloc::{AllocError, Global};
 /// something else. Each call stays a call, whether or not a predicate is there for it.
 pub fn lower(alloc: Global, program: &Program) -> Result<CoreProgram, AllocError>
     ensures is { IfOk result (λ core. program_tree core ≡ lowered (source_tree program.now)) }
+    ensures sound { IfOk result (λ core. IsSmallProgram (source_tree program.now) → IsSound (program_tree core)) }
+    ensures plain { IfOk result (λ core. IsSmallProgram (source_tree program.now) → All IsPlain (program_tree core)) }
 {
     let preds = clauses::lower_parts(alloc, program.parts.as_slice())?;
     Ok(CoreProgram { preds })
@@ -32,10 +37,12 @@ pub fn lower(alloc: Global, program: &Program) -> Result<CoreProgram, AllocError
 /// The goal in the core language, asked of the program that `core` is. Its names are those of its variables that don't
 /// begin with `_`.
 ///
-/// For goals of the small language, which need nothing of `core`. Any other goal is refused as by `lower`.
+/// For goals of the small language. Where `core` is what their program is lowered to, the query means what the goal means
+/// over its names. Any other goal is refused as by `lower`.
 pub fn lower_goal(alloc: Global, goal: &Goal, _core: &CoreProgram) -> Result<CoreQuery, AllocError>
     ensures is { IfOk result (λ query. query_tree query ≡ lowered_query (goal_source goal.now)) }
     ensures helpers { IfOk result (λ query. query.helpers ≡ []) }
+    ensures lowered { IfOk result (λ query. (program : ProgramTree) → program_tree _core.now ≡ lowered program → IsSmallProgram program → IsSmallQuery program (goal_source goal.now) → IsLowered program (goal_source goal.now) (program_tree _core.now) (query_tree query)) }
 {
     let mut slots = Slots::new(alloc);
     let body = goals::lower_body(alloc, &goal.body, &mut slots)?;
