@@ -9,7 +9,7 @@ use Rattle.pi_types.specs.CoreTree.{pattern_tree, pattern_trees}
 use Rattle.pi_types.specs.declared.exp.Exp.{Exp}
 use Rattle.pi_types.specs.declared.core_program.Pattern.{Pattern}
 use Rattle.pi_rewrite.specs.Lowered.{SlotNames, slots_after, slots_after_all, lowered_term, lowered_terms, lowered_pattern, lowered_patterns, lowered_goal, lowered_goals}
-use Rattle.pi_rewrite.specs.Built.{exps_of}
+use Rattle.pi_types.specs.ExpLists.{exps_of}
 
 exps_pushed : ExpTrees → ExpTree → ExpTrees
 exps_pushed no_exps x = exp x no_exps

@@ -24,7 +24,8 @@ use Rattle.pi_types.proofs.RelatedLemmas.{Same, same}
 use Rattle.pi_types.specs.Environment.{Environment, Valued, known, name_valued, valued}
 use Rattle.pi_types.specs.Surface.{Place, Calling, draining_first, body_trace, called_at, told_values, if_tellable, telling, told_names, beginning, surface_trace}
 use Rattle.pi_rewrite.specs.Lowered.{SlotNames, slot_known, slots_after, lowered_body, lowered, lowered_query, name_slots}
-use Rattle.pi_types.specs.Told.{Told, slot_values, solution_told, place_told, told_trace}
+use Rattle.pi_types.specs.Told.{named_values}
+use Rattle.pi_types.specs.SurfaceRun.{Told, solution_told, place_told, told_trace}
 use Rattle.pi_rewrite.specs.Laws.{LoweringKeepsTheTrace}
 use Rattle.pi_rewrite.proofs.FilledLemmas.{names_of, slots_at, Seen, new, there, seen-known}
 use Rattle.pi_rewrite.proofs.SameLemmas.{SameBy, same_end, same-one, same-then, same-equal}
@@ -59,12 +60,12 @@ name-evaluated slots name k e s h = ap (λ t. name_valued t name e s) h.by_name
 abbrev value_before : List ℕ → Tree → State → List NamedTerm → List NamedTerm
 value_before name t s rest = record { name = name; value = value (bindings s) t } ∷ rest
 
-values-same : (n : ℕ) (ns : SlotNames) (e : Environment) (s : State) → names_of e ≡ ns → (xs : List NameSlot) → Placed ns xs → slot_values xs (slots_at n e) s ≡ told_values (shown_names xs) e s
-unfolding slot_values told_values
+values-same : (n : ℕ) (ns : SlotNames) (e : Environment) (s : State) → names_of e ≡ ns → (xs : List NameSlot) → Placed ns xs → named_values xs (slots_at n e) s ≡ told_values (shown_names xs) e s
+unfolding named_values told_values
 values-same n ns e s is [] placed = refl
 values-same n ns e s is (x ∷ xs) placed =
     let h : Stands (slots_at n e) x.name x.slot e = stands n ns e is x.name x.slot (placed-first ns x xs placed) in
-    ap (λ (r : Evaluated). value_before x.name r.tree r.state (slot_values xs r.slots r.state)) (slot-evaluated (slots_at n e) x.name x.slot e s h)
+    ap (λ (r : Evaluated). value_before x.name r.tree r.state (named_values xs r.slots r.state)) (slot-evaluated (slots_at n e) x.name x.slot e s h)
     ∙ ap (value_before x.name h.tree s) (values-same n ns e s is xs (placed-rest ns x xs placed))
     ∙ sym (ap (λ (r : Valued). value_before x.name r.tree r.state (told_values (shown_names xs) r.names r.state)) (name-evaluated (slots_at n e) x.name x.slot e s h))
 

@@ -2,18 +2,12 @@
 use Rattle.std.specs.Prelude.{◌≡◌, ℕ, Bool, false, List, [], ◌∷◌, length, IsSomeAnd, codes}
 use Rattle.std.specs.Str.{bytes_eq}
 use Rattle.std.specs.HashMap.{get_by}
-use Rattle.pi_types.specs.ExpTree.{ExpTree, ExpTrees, no_exps, exp, exp_tree}
+use Rattle.pi_types.specs.ExpTree.{ExpTree}
 use Rattle.pi_types.specs.CoreTree.{ClauseTree, PredTree}
 use Rattle.pi_types.specs.ProgramTree.{RuleTree, PartTree}
-use Rattle.pi_types.specs.declared.exp.Exp.{Exp}
 use Rattle.pi_rewrite.specs.declared.slots.Slots.{Slots}
 use Rattle.pi_types.specs.Surface.{rule_in}
 use Rattle.pi_rewrite.specs.Lowered.{SlotNames, slot_of, name_slots, lowered_rule, grouped, lowered_rules}
-
--- the expressions of a vector, in order
-abbrev pub exps_of : List Exp → ExpTrees
-exps_of [] = no_exps
-exps_of (e ∷ es) = exp (exp_tree e) (exps_of es)
 
 -- slots that stand for these names
 pub record IsSlots (m : Slots) (ns : SlotNames) : Type 0 where

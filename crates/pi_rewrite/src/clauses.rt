@@ -6,7 +6,8 @@ ghost use Rattle.pi_types.specs.ProgramTree.{part_tree};
 ghost use Rattle.pi_types.specs.Small.{signature as signature_of};
 ghost use Rattle.pi_types.specs.Surface.{head_arguments, is_signature};
 ghost use Rattle.pi_rewrite.specs.Lowered.{SlotNames, slots_after, slots_after_all, lowered_pattern, lowered_patterns, lowered_clause, lowered, predicate, with_clause};
-ghost use Rattle.pi_rewrite.specs.Built.{IsSlots, IsRule, Adds, exps_of};
+ghost use Rattle.pi_rewrite.specs.Built.{IsSlots, IsRule, Adds};
+ghost use Rattle.pi_types.specs.ExpLists.{exps_of};
 
 use crate::goals::lower_body;
 use crate::slots::Slots;

@@ -3,7 +3,8 @@ ghost use Rattle.std.specs.Prelude.{◌≡◌, IfOk};
 ghost use Rattle.pi_types.specs.ExpTree.{exp_tree};
 ghost use Rattle.pi_types.specs.GoalTree.{goals_of};
 ghost use Rattle.pi_rewrite.specs.Lowered.{SlotNames, slots_after, slots_after_all, lowered_term, lowered_terms, lowered_atom as atom_lowered, lowered_goal, lowered_goals, lowered_body};
-ghost use Rattle.pi_rewrite.specs.Built.{IsSlots, exps_of};
+ghost use Rattle.pi_rewrite.specs.Built.{IsSlots};
+ghost use Rattle.pi_types.specs.ExpLists.{exps_of};
 
 use crate::slots::Slots;
 use pi_types::{CoreGoal, Exp, Exps, Term};

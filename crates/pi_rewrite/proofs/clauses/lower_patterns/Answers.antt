@@ -5,7 +5,8 @@ use Rattle.pi_types.specs.ExpTree.{exp_tree}
 use Rattle.pi_types.specs.declared.exp.Exp.{Exp}
 use Rattle.pi_types.specs.CoreTree.{pattern_trees}
 use Rattle.pi_rewrite.specs.Lowered.{SlotNames, lowered_patterns, slots_after, slots_after_all}
-use Rattle.pi_rewrite.specs.Built.{IsSlots, exps_of}
+use Rattle.pi_rewrite.specs.Built.{IsSlots}
+use Rattle.pi_types.specs.ExpLists.{exps_of}
 use Rattle.pi_rewrite.proofs.ListLemmas.{patterns-push, after-push, one-more}
 use Rattle.pi_rewrite.proofs.clauses.lower_patterns.Goals as goal
 

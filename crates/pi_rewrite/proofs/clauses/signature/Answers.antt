@@ -2,9 +2,9 @@
 use Rattle.std.proofs.Common.{◌≡◌, ℕ, List, sym, ◌∙◌, ap}
 use Rattle.std.specs.Prelude.{Option, Some}
 use Rattle.pi_types.specs.Small.{Signature, signature, exp_count}
-use Rattle.pi_rewrite.specs.Built.{exps_of}
+use Rattle.pi_types.specs.ExpLists.{exps_of}
 use Rattle.pi_rewrite.proofs.ExpLemmas.{is-atom, is-call}
-use Rattle.pi_rewrite.proofs.RowLemmas.{exps-count}
+use Rattle.pi_types.proofs.ExpListLemmas.{exp_count-exps_of}
 use Rattle.pi_rewrite.proofs.clauses.signature.Goals as goal
 
 named : List ℕ → ℕ → Option Signature
@@ -17,7 +17,7 @@ returns-in-Atom c = ap signature (is-atom c.args.head.now c.in-Atom.name c.in-At
 pub returns-in_ok-arity-in-Call : goal.returns-in_ok-arity-in-Call
 unfolding named
 returns-in_ok-arity-in-Call c =
-    let count : exp_count (exps_of c.in-Call.args.items) ≡ c.in_ok-arity-in-Call.arity = exps-count c.in-Call.args.items ∙ sym c.in-Call.args.ok.0 ∙ sym (c.in_ok-arity-in-Call.ensures ∙ c.len.ensures) in
+    let count : exp_count (exps_of c.in-Call.args.items) ≡ c.in_ok-arity-in-Call.arity = exp_count-exps_of c.in-Call.args.items ∙ sym c.in-Call.args.ok.0 ∙ sym (c.in_ok-arity-in-Call.ensures ∙ c.len.ensures) in
     ap signature (is-call c.args.head.now c.in-Call.name c.in-Call.args c.in-Call.is)
     ∙ ap (λ name. named name (exp_count (exps_of c.in-Call.args.items))) (sym c.as_str-in-Call.ensures)
     ∙ ap (named c.as_str-in-Call.result.now) count

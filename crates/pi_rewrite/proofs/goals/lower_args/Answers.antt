@@ -4,7 +4,8 @@ use Rattle.std.proofs.lemmas.List.{take_all}
 use Rattle.pi_types.specs.ExpTree.{exp_tree}
 use Rattle.pi_types.specs.declared.exp.Exp.{Exp}
 use Rattle.pi_rewrite.specs.Lowered.{SlotNames, lowered_terms, slots_after, slots_after_all}
-use Rattle.pi_rewrite.specs.Built.{IsSlots, exps_of}
+use Rattle.pi_rewrite.specs.Built.{IsSlots}
+use Rattle.pi_types.specs.ExpLists.{exps_of}
 use Rattle.pi_rewrite.proofs.ListLemmas.{terms-push, after-push, one-more}
 use Rattle.pi_rewrite.proofs.goals.lower_args.Goals as goal
 

@@ -5,7 +5,8 @@ use Rattle.pi_types.specs.ExpTree.{exp_tree}
 use Rattle.pi_types.specs.declared.exp.Exp.{Exp}
 use Rattle.pi_types.specs.GoalTree.{goals_of}
 use Rattle.pi_rewrite.specs.Lowered.{SlotNames, lowered_goals, slots_after, slots_after_all}
-use Rattle.pi_rewrite.specs.Built.{IsSlots, exps_of}
+use Rattle.pi_rewrite.specs.Built.{IsSlots}
+use Rattle.pi_types.specs.ExpLists.{exps_of}
 use Rattle.pi_rewrite.proofs.ListLemmas.{goals-push, after-push, one-more}
 use Rattle.pi_rewrite.proofs.goals.lower_goals.Goals as goal
 
