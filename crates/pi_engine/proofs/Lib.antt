@@ -49,6 +49,9 @@ pub mod SlotsGiven
 pub mod CountsEnd
 pub mod CollectsStand
 pub mod ListsStand
+pub mod LaterStates
+pub mod ToldStand
+pub mod DomainsStand
 pub mod NamesStand
 pub mod LevelsAnswer
 pub mod BackStand

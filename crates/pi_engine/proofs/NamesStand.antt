@@ -2,10 +2,10 @@
 use Rattle.std.proofs.Common.{◌≡◌, ◌⊎◌, inl, inr, ℕ, zero, suc, ◌+◌, ◌≤◌, ◌<◌, Bool, true, false, nat_lt, List, [], ◌∷◌, ◌++◌, Option, Some, None, length, drop, set, refl, sym, ◌∙◌, ap, subst, arith}
 use Rattle.std.specs.Prelude.{slice_get, slice_set, codes, cond, Result, Ok, Err, ⊤}
 use Rattle.std.proofs.lemmas.Bool.{lt-ltb}
-use Rattle.std.proofs.lemmas.List.{length-append, length-map, map-append, append_assoc, append-nil, drop_all}
+use Rattle.std.proofs.lemmas.List.{append_assoc, append-nil, drop_all}
 use Rattle.pi_types.specs.Tree.{Tree, var, atom, cells, most_cells}
 use Rattle.pi_types.specs.Places.{Places, held}
-use Rattle.pi_types.specs.State.{State, IsState, bindings, binding, free, next, with_new}
+use Rattle.pi_types.specs.State.{State, IsState, bindings, next}
 use Rattle.pi_types.specs.Value.{IsAcyclic, value}
 use Rattle.pi_types.specs.Store.{StoreView, IsTerm}
 use Rattle.pi_types.specs.View.{View}
@@ -13,12 +13,12 @@ use Rattle.pi_types.specs.Evaluation.{Evaluated, evaluated, slot_term}
 use Rattle.pi_types.specs.Meaning.{slot_value}
 use Rattle.pi_types.specs.GoalTree.{no_goals}
 use Rattle.pi_types.specs.Run.{Solution}
+use Rattle.pi_types.specs.PrintAnswer.{answer_variables}
+use Rattle.pi_types.specs.Told.{named_values, told_domains}
 use Rattle.pi_types.specs.declared.store.Ref.{Ref}
 use Rattle.pi_types.specs.declared.core_program.NameSlot.{NameSlot}
 use Rattle.pi_types.specs.declared.answer.NamedTerm.{NamedTerm}
 use Rattle.pi_types.specs.declared.answer.Answer.{Answer}
-use Rattle.pi_types.proofs.ValueLemmas.{unbound_is_its_own_value}
-use Rattle.pi_types.proofs.BindingLemmas.{new_variable_changes_no_value, new_variable_stays_acyclic}
 use Rattle.pi_engine.specs.declared.frames.Point.{Point}
 use Rattle.pi_engine.specs.declared.run.Now.{Now}
 use Rattle.pi_engine.specs.Arenas.{Entry, ArenasView, entry_at}
@@ -29,8 +29,10 @@ use Rattle.pi_engine.specs.Here.{Block, in_block, Holds}
 use Rattle.pi_engine.specs.Stands.{World, entries_of, entry_ends, level_ends, StackStands, Stands, StandsGoing, failing_now}
 use Rattle.pi_engine.specs.Evaluates.{slot_number, Writes, Evaluates}
 use Rattle.pi_engine.specs.Makes.{SilentlyTo, IsRead}
-use Rattle.pi_engine.specs.Next.{Tells, named_values}
+use Rattle.pi_engine.specs.Domains.{AreUnbound}
 use Rattle.pi_engine.specs.Answers.{AreNames, IsNamed, NamesValue, IsTold}
+use Rattle.pi_engine.proofs.LaterStates.{IsLaterState, later-same-state, later-new, value-past, value-new}
+use Rattle.pi_engine.proofs.ToldStand.{slot-is, value_in, named-more, occurring, told-whole}
 use Rattle.pi_engine.proofs.StandsLemmas.{moved}
 use Rattle.pi_engine.proofs.StackLemmas.{number_of, newest-number}
 use Rattle.pi_engine.proofs.OptionLemmas.{none-some, same-some, not-less}
@@ -38,43 +40,6 @@ use Rattle.pi_engine.proofs.CallLemmas.{evaluated-state}
 use Rattle.pi_engine.proofs.SlotsStand.{writes-none, writes-then}
 use Rattle.pi_engine.proofs.EqualStands.{stack-moved}
 use Rattle.pi_engine.proofs.AnswerStand.{Arrives, arrives}
-
--- ---- values, and new variables
-
--- a later state has more variables, and gives each term the value that it had
-pub record IsLaterState (s r : State) : Type 0 where
-  pub acyclic : IsAcyclic (bindings r)
-  pub values : (t : Tree) → value (bindings r) t ≡ value (bindings s) t
-  pub more : next s ≤ next r
-
-bindings-new : (s : State) → bindings (with_new s) ≡ bindings s ++ None ∷ []
-bindings-new s = map-append binding s.variables (free ∷ [])
-
-new-next : (s : State) → next (with_new s) ≡ suc (next s)
-new-next s = length-append s.variables (free ∷ []) ∙ omega arith
-
-later-new : (s r : State) → IsLaterState s r → IsLaterState s (with_new r)
-later-new s r later =
-    record {
-      acyclic = subst IsAcyclic (sym (bindings-new r)) (new_variable_stays_acyclic (bindings r) later.acyclic);
-      values = λ t. ap (λ b. value b t) (bindings-new r) ∙ new_variable_changes_no_value (bindings r) t later.acyclic ∙ later.values t;
-      more = omega (arith, later.more, new-next r);
-    }
-
-held-past : (b : Places) (n : ℕ) → length b ≤ n → held b n ≡ None
-held-past [] zero h = refl
-held-past [] (suc n) h = refl
-held-past (o ∷ b) zero h = absurd (omega (arith, h))
-held-past (o ∷ b) (suc n) h = held-past b n (omega (arith, h))
-
--- a variable that isn't made yet is its own value
-value-past : (s : State) (m : ℕ) → next s ≤ m → value (bindings s) (var m) ≡ var m
-value-past s m past = unbound_is_its_own_value (bindings s) m (held-past (bindings s) m (omega (arith, past, length-map s.variables binding)))
-
--- so is a new one
-value-new : (s : State) → IsAcyclic (bindings s) → value (bindings (with_new s)) (var (next s)) ≡ var (next s)
-value-new s acyclic =
-    ap (λ b. value b (var (next s))) (bindings-new s) ∙ new_variable_changes_no_value (bindings s) (var (next s)) acyclic ∙ value-past s (next s) (omega arith)
 
 -- ---- slots that are read one after the other
 
@@ -122,22 +87,15 @@ pub record IsLater (s r : State) (e f : Places) : Type 0 where
   pub slots : AreLaterSlots s e f
 
 pub later-none : (s : State) (e : Places) → IsAcyclic (bindings s) → IsLater s s e e
-later-none s e acyclic = record { state = record { acyclic = acyclic; values = λ t. refl; more = omega arith }; slots = λ k. later-same s (held e k) }
+later-none s e acyclic = record { state = later-same-state s acyclic; slots = λ k. later-same s (held e k) }
 
 later-slot : (s r : State) (e f : Places) (j : ℕ) (o : Option Tree) → held f j ≡ o → IsLater s r e f → IsLater s (slot_term o j f r).state e (slot_term o j f r).slots
 later-slot s r e f j None is later = record { state = later-new s r later.state; slots = slots-filled s r e f j later.slots is later.state.more }
 later-slot s r e f j (Some t) is later = later
 
-slot-is : (k : ℕ) (e : Places) (s : State) → evaluated (var k) e s ≡ slot_term (held e k) k e s
-unfolding evaluated
-slot-is k e s = refl
-
 later-read : (s r : State) (e f : Places) (j : ℕ) → IsLater s r e f → IsLater s (evaluated (var j) f r).state e (evaluated (var j) f r).slots
 later-read s r e f j later =
     subst (λ (y : Evaluated). IsLater s y.state e y.slots) (sym (slot-is j f r)) (later-slot s r e f j (held f j) refl later)
-
-abbrev pub value_in : Evaluated → Tree
-value_in y = value (bindings y.state) y.tree
 
 one-cell : (m n : ℕ) → cells (var m) ≡ cells (var n)
 unfolding cells
@@ -197,11 +155,6 @@ fits-not : (n : NameSlot) (names : List NameSlot) (x : Solution) → most_cells 
 unfolding fits
 fits-not n names x many = ap (λ q. cond q false (fits names x)) (lt-ltb most_cells (cells (slot_value n.slot x.slots x.state)) many)
 
-named-more : (n : NameSlot) (names : List NameSlot) (e : Places) (s : State) →
-    named_values (n ∷ names) e s ≡ record { name = n.name; value = value_in (evaluated (var n.slot) e s) } ∷ named_values names (evaluated (var n.slot) e s).slots (evaluated (var n.slot) e s).state
-unfolding named_values
-named-more n names e s = refl
-
 -- one name more
 pub tells-more : {M : Type 0} (b : Block) (v w u : StoreView M) (a c d : ArenasView M) (names : List NameSlot) (e : Places) (i : ℕ) (values new : List NamedTerm) (n : NameSlot) (x : NamedTerm) → slice_get names i ≡ Some n → IsState v.now.state →
     (before : TellsFirst b v w a c names e i values) → NamesValue b w u c d n (evaluated (var n.slot) before.slots w.now.state) (Some x) → new ≡ values ++ x ∷ [] → TellsFirst b v u a d names e (i + 1) new
@@ -253,21 +206,24 @@ TellsSo v w a c names i values =
     (n : ℕ) (e : Places) → AreNames n names → Holds v.now.terms a.blocks.slots (query_block n) e → IsState v.now.state → TellsFirst (query_block n) v w a c names e i values
 
 pub query-told : {M : Type 0} (w : World M) (u : StoreView M) (c : ArenasView M) (names : List NameSlot) (i : ℕ) (answer : Answer) (p : Point) (view : View) (e : Places) (k : List Frame) (es : List EntryData) → TellsSo w.store u w.arenas c names i answer.values →
+    (IsAcyclic (bindings u.now.state) → AreUnbound u.now.state (occurring answer.values) → answer.domains ≡ told_domains u.now.state (answer_variables answer.values)) →
     length names ≤ i → StandsGoing w p no_goals e k es → p.count ≡ 0 → p.frame ≡ 0 → w.arenas.level ≡ 0 → AreNames w.loaded.query_slots names →
     (x : Solution) × SilentlyTo view w.loaded.preds names (config (going no_goals e w.store.now.state k) es) (config (going no_goals x.slots x.state []) es) × IsTold view w.loaded.preds names x es (moved w u c) (Ok answer)
 unfolding fits named_values
-query-told w u c names i answer p view e k es tells all stands none last level are =
+query-told w u c names i answer p view e k es tells domains all stands none last level are =
     let there : Arrives w view names (query_block w.loaded.query_slots) e k es = query-arrives w p view names e k es stands none last level in
     let f : Places = there.slots in
     let x : Solution = record { slots = f; state = w.store.now.state } in
     let done : TellsFirst (query_block w.loaded.query_slots) w.store u w.arenas c names f i answer.values = tells w.loaded.query_slots f are there.holds stands.entries.state in
     let nothing : drop i names ≡ [] = drop_all i names all in
+    let values : answer.values ≡ named_values names f w.store.now.state =
+    sym (append-nil answer.values) ∙ ap (λ ns. answer.values ++ named_values ns done.slots u.now.state) (sym nothing) ∙ done.all in
     let open_none : newest_open zero es ≡ none_open = no-open es (newest_open zero es) refl (newest-number zero es ∙ sym stands.entries.level ∙ level) in (
       x,
       there.silently,
       (
         query-answer w view names f w.store.now.state es open_none ∙ ap (λ q. told_step q x es) (done.fit ∙ ap (λ ns. fits ns x) nothing),
-        sym (append-nil answer.values) ∙ ap (λ ns. answer.values ++ named_values ns done.slots u.now.state) (sym nothing) ∙ done.all,
+        told-whole names x u.now.state answer stands.entries.state.acyclic done.later.state values domains,
         record { entries = stack-moved w u c (query_block w.loaded.query_slots) done.slots u.now.state es done.writes done.state stands.entries; runs = failing_now },
       ),
     )

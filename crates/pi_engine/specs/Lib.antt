@@ -19,6 +19,7 @@ pub mod Makes
 pub mod Fails
 pub mod Raises
 pub mod Lists
+pub mod Domains
 pub mod Answers
 pub mod Tries
 pub mod Laid

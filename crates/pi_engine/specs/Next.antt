@@ -1,31 +1,20 @@
 -- What a call of `next` does: what remained before it begins with the Ticks that it counts; then comes its answer or its
 -- end, and the rest is what remains after it.
 use Rattle.std.specs.Prelude.{◌≡◌, ℕ, List, [], ◌∷◌, ◌++◌, replicate, ⊤}
-use Rattle.pi_types.specs.Tree.{var}
-use Rattle.pi_types.specs.Places.{Places}
-use Rattle.pi_types.specs.Value.{value}
-use Rattle.pi_types.specs.State.{State, bindings}
 use Rattle.pi_types.specs.CoreTree.{PredTree}
 use Rattle.pi_types.specs.Trace.{Done, Raise, Tick, Emitted, noted, answered}
-use Rattle.pi_types.specs.Evaluation.{Evaluated, evaluated}
 use Rattle.pi_types.specs.View.{View}
 use Rattle.pi_types.specs.Run.{Solution}
+use Rattle.pi_types.specs.Told.{answer_of}
 use Rattle.pi_types.specs.declared.core_program.NameSlot.{NameSlot}
-use Rattle.pi_types.specs.declared.answer.NamedTerm.{NamedTerm}
 use Rattle.pi_types.specs.declared.answer.Answer.{Answer}
 use Rattle.pi_engine.specs.declared.happening.Happening.{Happening}
 use Rattle.pi_engine.specs.Configuration.{Config}
 use Rattle.pi_engine.specs.Leads.{Leads, IsAtTick, IsAtEnd}
 
--- the named variables in order, each with its value; one whose slot is empty is a new variable
-unfoldable pub named_values : List NameSlot → Places → State → List NamedTerm
-named_values [] e s = []
-named_values (n ∷ names) e s =
-    let x : Evaluated = evaluated (var n.slot) e s in
-    record { name = n.name; value = value (bindings x.state) x.tree } ∷ named_values names x.slots x.state
-
+-- it is told whole: the named values, and the domains of their variables
 abbrev pub Tells : List NameSlot → Solution → Answer → Type 0
-Tells names x a = a.values ≡ named_values names x.slots x.state
+Tells names x a = a ≡ answer_of names x
 
 abbrev pub some_ticks : ℕ → List (Emitted Solution)
 some_ticks k = replicate k (noted Tick)

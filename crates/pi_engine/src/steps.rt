@@ -2,6 +2,7 @@
 pub mod answers;
 pub mod calls;
 pub mod choices;
+pub mod domains;
 pub mod goals;
 pub mod heads;
 pub mod levels;

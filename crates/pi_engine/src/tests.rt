@@ -3,6 +3,7 @@ mod calls;
 mod catches;
 mod collecting;
 mod control;
+mod domains;
 mod exceptions;
 mod functions;
 mod guards;

@@ -251,7 +251,7 @@ more_variables us i head numbers new n at is known e =
     e ∙ (ap (λ ns. noted ns n) known ∙ (noted-firsts (root_variables (take i us)) n
     ∙ ap firsts (sym (ap root_variables (ap (λ k. take k us) (add-one i) ∙ at.more) ∙ (root_variables-append (take i us) (at.it ∷ []) ∙ ap (λ u. root_variables (take i us) ++ root_variables (u ∷ [])) here)))))
 
-no_root_variable : (u : Tree) (head : TermHead) → ShowsHead u head → ((n : ℕ) → head ≡ TermHead.Var n → ⊥) → root_variables (u ∷ []) ≡ []
+pub no_root_variable : (u : Tree) (head : TermHead) → ShowsHead u head → ((n : ℕ) → head ≡ TermHead.Var n → ⊥) → root_variables (u ∷ []) ≡ []
 no_root_variable u (TermHead.Var n) shown other = absurd (other n refl)
 no_root_variable u (TermHead.Int n) shown other = ap (λ w. root_variables (w ∷ [])) shown
 no_root_variable u (TermHead.Atom name) shown other = ap (λ w. root_variables (w ∷ [])) shown

@@ -9,6 +9,7 @@ ghost use Rattle.pi_engine.specs.Here.{Block, Holds};
 ghost use Rattle.pi_engine.specs.Stands.{Loaded, world};
 ghost use Rattle.pi_engine.specs.Answers.{NamesValue, AnswersQuery};
 
+use super::domains::domains_in;
 use super::lists::read_value;
 use super::raises::too_large;
 use crate::run::Run;
@@ -31,10 +32,8 @@ pub fn answer<S: StateStore>(
         };
         values.push(value)?;
     }
-    Ok(Ok(Answer {
-        values,
-        domains: Series::new(run.alloc),
-    }))
+    let domains = domains_in(run.alloc, &run.store, values.as_slice())?;
+    Ok(Ok(Answer { values, domains }))
 }
 
 /// A named variable with its value; None where that is too large. A name whose slot is empty is a new variable.

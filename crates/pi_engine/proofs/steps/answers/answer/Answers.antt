@@ -3,9 +3,15 @@ use Rattle.std.specs.Prelude.{slice_get}
 use Rattle.std.proofs.lemmas.Option.{slice_get_read}
 use Rattle.pi_types.specs.Evaluation.{evaluated}
 use Rattle.pi_types.specs.Tree.{var}
+use Rattle.pi_types.specs.State.{bindings}
+use Rattle.pi_types.specs.Value.{IsAcyclic}
+use Rattle.pi_types.specs.PrintAnswer.{answer_variables}
+use Rattle.pi_types.specs.Told.{told_domains}
 use Rattle.pi_engine.specs.Arenas.{view_of}
 use Rattle.pi_engine.specs.Stands.{world}
 use Rattle.pi_engine.specs.Answers.{NamesValue}
+use Rattle.pi_engine.specs.Domains.{AreUnbound}
+use Rattle.pi_engine.proofs.ToldStand.{occurring}
 use Rattle.pi_engine.proofs.NamesStand.{query_block, names-at, tells-none, tells-more, query-told, query-raises}
 use Rattle.pi_engine.proofs.steps.answers.answer.Goals as goal
 
@@ -51,4 +57,7 @@ returns g c = λ l view p e k es stands none last level are.
     let b = view_of c.loop-named.run.arenas in
     let w = world l (seen c.args.run.now.store) order (view_of c.args.run.now.arenas) in
     let all : length c.args.names.now ≡ c.loop-named.named-index = omega (arith, c.loop-named-test.false, c.loop-named.auto.named-index-end) in
-    query-told w u b c.args.names.now c.loop-named.named-index (record { values = c.loop-named.values; domains = c.new.result }) p view e k es c.loop-named.invariant (omega (arith, all)) stands none last level are
+    let s = u.now.state in
+    let domains =
+    subst (λ vs. IsAcyclic (bindings s) → AreUnbound s (occurring vs) → c.in_ok-domains.domains ≡ told_domains s (answer_variables vs)) c.as_slice.ensures c.in_ok-domains.ensures in
+    query-told w u b c.args.names.now c.loop-named.named-index (record { values = c.loop-named.values; domains = c.in_ok-domains.domains }) p view e k es c.loop-named.invariant domains (omega (arith, all)) stands none last level are
