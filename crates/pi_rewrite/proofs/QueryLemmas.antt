@@ -138,6 +138,6 @@ lowering-keeps-the-trace program goal small asked v d =
     let names : Trace Place = then (body_trace v calls goal beginning) (draining_first (λ p. one p)) in
     ap (told_trace (solution_told xs)) (core-trace v (lowered program) goal d)
     ∙ same-equal _ _ (same-then (TellSame xs) Same (then core (answered_with xs)) (then names (telling (shown_names xs))) (λ x. one (solution_told xs x)) (λ p. one (place_told (shown_names xs) p))
-      (same-then (AtPlace l n ns) (TellSame xs) core names (answered_with xs) (telling (shown_names xs)) (strictly-same program goal asked v l calls (same-calls program small v d) n refl) (answered-same l n ns xs (goal-placed goal)))
-      (told-one xs))
+    (same-then (AtPlace l n ns) (TellSame xs) core names (answered_with xs) (telling (shown_names xs)) (strictly-same program goal asked v l calls (same-calls program small v d) n refl) (answered-same l n ns xs (goal-placed goal)))
+    (told-one xs))
     ∙ ap (λ (told : List (List ℕ)). told_trace (place_told told) (then names (telling told))) (sym (told-names goal))

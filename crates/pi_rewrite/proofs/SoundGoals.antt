@@ -116,9 +116,10 @@ call-known defined preds knows name k (inr is) = (inl (knows.known name k is), k
 
 call-good : (defined : Defined) (preds : List PredTree) → Knows defined preds → (name : List ℕ) (es : ExpTrees) → IsSmallCall defined name (exp_count es) → AreSmallTerms es → (ns : SlotNames) (n : ℕ) → length (slots_after_all es ns) ≤ n →
     Good preds n (call name (lowered_terms es ns))
-call-good defined preds knows name es small flat ns n room =
-    ((λ t there. All-contains (SpeaksBelow n) (lowered_terms es ns) t (terms-speak es flat ns n room) there),
-     subst (λ k. IsKnown preds false name k × (is_planner name k ≡ false)) (sym (terms-length es ns)) (call-known defined preds knows name (exp_count es) small))
+call-good defined preds knows name es small flat ns n room = (
+  (λ t there. All-contains (SpeaksBelow n) (lowered_terms es ns) t (terms-speak es flat ns n room) there),
+  subst (λ k. IsKnown preds false name k × (is_planner name k ≡ false)) (sym (terms-length es ns)) (call-known defined preds knows name (exp_count es) small),
+)
 
 bare-good : (defined : Defined) (preds : List PredTree) → Knows defined preds → (name : List ℕ) (n : ℕ) → Defines defined name 0 → Good preds n (call name [])
 bare-good defined preds knows name n is = ((λ t there. absurd (omega (arith, there.1))), call-known defined preds knows name 0 (inr is))

@@ -136,8 +136,8 @@ grouped-apart s cs (r ∷ rs) before together named =
         subst (AllPairs IsAnother) (sym (grouped-other s cs r rs h))
         (subst (λ (u : Signature). AllPairs IsAnother (pred_of s cs ∷ grouped (pred_of u (lowered_rule r ∷ [])) rs)) (sym (head-is r n.0 n.1))
         (AllPairs-cons IsAnother (pred_of s cs) (grouped (pred_of n.0 (lowered_rule r ∷ [])) rs)
-          (others s cs n.0 (lowered_rule r ∷ []) rs apart (not-ahead s (signature r.head) (Some s ∷ before) rs other (1, omega arith, refl) together.1) (named-rest r rs named))
-          (next (subst (λ (x : Option Signature). StandTogether (x ∷ Some s ∷ before) (signs rs)) n.1 together.1))))
+        (others s cs n.0 (lowered_rule r ∷ []) rs apart (not-ahead s (signature r.head) (Some s ∷ before) rs other (1, omega arith, refl) together.1) (named-rest r rs named))
+        (next (subst (λ (x : Option Signature). StandTogether (x ∷ Some s ∷ before) (signs rs)) n.1 together.1))))
 
 pub rules-apart : (rs : List RuleTree) → StandTogether [] (signs rs) → HaveNames rs → AllPairs IsAnother (lowered_rules rs)
 unfolding StandTogether

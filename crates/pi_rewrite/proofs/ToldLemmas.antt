@@ -124,6 +124,7 @@ placed-with ns name h None e = tested (is_hidden name) refl
 
 mutual
   unfolding slots_after name_places told_behind
+
   told-after : (x : ExpTree) (ns : SlotNames) → told_behind (told_of ns) (name_places x) ≡ told_of (slots_after x ns)
   told-after (ExpTree.var name) ns = one-told ns name
   told-after (ExpTree.call name es) ns = told-after_all es ns
@@ -139,6 +140,7 @@ mutual
 
 mutual
   unfolding slots_after
+
   placed-after : (x : ExpTree) (ns : SlotNames) → AllPlaced ns → AllPlaced (slots_after x ns)
   placed-after (ExpTree.var name) ns h = placed-with ns name h (slot_known name ns) refl
   placed-after (ExpTree.call name es) ns h = placed-after_all es ns h

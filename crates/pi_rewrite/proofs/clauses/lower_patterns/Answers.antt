@@ -20,12 +20,13 @@ loop-arg-preserved c = λ ns is.
     let before = c.loop-arg.invariant ns is in
     let within : c.loop-arg.arg-index < length es = subst (λ n. c.loop-arg.arg-index < n) (ap length c.deref-arg-items.ensures.value) c.loop-arg-test.true in
     let e : take (c.loop-arg.arg-index + 1) es ≡ take c.loop-arg.arg-index es ++ c.arg-item.result ∷ [] =
-    one-more es c.loop-arg.arg-index c.arg-item.result within (c.arg-item.is ∙ ap (λ xs. get_or xs c.loop-arg.arg-index c.arg-item.result) c.deref-arg-items.ensures.value) in
-    (ap (λ xs. pattern_trees xs) c.in_ok-push.ensures.items
-     ∙ patterns-push (take c.loop-arg.arg-index es) c.arg-item.result ns c.loop-arg.patterns.items c.in_ok-lower_pattern.field-0 before.0 (c.in_ok-lower_pattern.ensures.is (slots_after_all (exps_of (take c.loop-arg.arg-index es)) ns) before.1)
-     ∙ ap (λ xs. lowered_patterns (exps_of xs) ns) (sym e),
-     subst (λ (after : SlotNames). IsSlots c.lower_pattern.new.slots after) (sym (ap (λ xs. slots_after_all (exps_of xs) ns) e ∙ after-push (take c.loop-arg.arg-index es) c.arg-item.result ns))
-     (c.in_ok-lower_pattern.ensures.slots (slots_after_all (exps_of (take c.loop-arg.arg-index es)) ns) before.1))
+    one-more es c.loop-arg.arg-index c.arg-item.result within (c.arg-item.is ∙ ap (λ xs. get_or xs c.loop-arg.arg-index c.arg-item.result) c.deref-arg-items.ensures.value) in (
+      ap (λ xs. pattern_trees xs) c.in_ok-push.ensures.items
+          ∙ patterns-push (take c.loop-arg.arg-index es) c.arg-item.result ns c.loop-arg.patterns.items c.in_ok-lower_pattern.field-0 before.0 (c.in_ok-lower_pattern.ensures.is (slots_after_all (exps_of (take c.loop-arg.arg-index es)) ns) before.1)
+          ∙ ap (λ xs. lowered_patterns (exps_of xs) ns) (sym e),
+      subst (λ (after : SlotNames). IsSlots c.lower_pattern.new.slots after) (sym (ap (λ xs. slots_after_all (exps_of xs) ns) e ∙ after-push (take c.loop-arg.arg-index es) c.arg-item.result ns))
+          (c.in_ok-lower_pattern.ensures.slots (slots_after_all (exps_of (take c.loop-arg.arg-index es)) ns) before.1),
+    )
 
 pub returns-clause-are : goal.returns-clause-are
 returns-clause-are c = λ ns is.

@@ -10,7 +10,7 @@ use Rattle.pi_rewrite.proofs.ListLemmas.{terms-push, after-push, one-more}
 use Rattle.pi_rewrite.proofs.goals.lower_args.Goals as goal
 
 pub loop-arg-init : goal.loop-arg-init
-unfolding lowered_terms slots_after 
+unfolding lowered_terms slots_after
 loop-arg-init c = λ ns is. (ap (λ xs. xs) c.new-terms.ensures.items, is)
 
 pub loop-arg-preserved : goal.loop-arg-preserved
@@ -19,12 +19,13 @@ loop-arg-preserved c = λ ns is.
     let before = c.loop-arg.invariant ns is in
     let within : c.loop-arg.arg-index < length es = subst (λ n. c.loop-arg.arg-index < n) (ap length c.deref-arg-items.ensures.value) c.loop-arg-test.true in
     let e : take (c.loop-arg.arg-index + 1) es ≡ take c.loop-arg.arg-index es ++ c.arg-item.result ∷ [] =
-    one-more es c.loop-arg.arg-index c.arg-item.result within (c.arg-item.is ∙ ap (λ xs. get_or xs c.loop-arg.arg-index c.arg-item.result) c.deref-arg-items.ensures.value) in
-    (ap (λ xs. xs) c.in_ok-push.ensures.items
-     ∙ terms-push (take c.loop-arg.arg-index es) c.arg-item.result ns c.loop-arg.terms.items c.in_ok-lower_term.field-0 before.0 (c.in_ok-lower_term.ensures.is (slots_after_all (exps_of (take c.loop-arg.arg-index es)) ns) before.1)
-     ∙ ap (λ xs. lowered_terms (exps_of xs) ns) (sym e),
-     subst (λ (after : SlotNames). IsSlots c.lower_term.new.slots after) (sym (ap (λ xs. slots_after_all (exps_of xs) ns) e ∙ after-push (take c.loop-arg.arg-index es) c.arg-item.result ns))
-     (c.in_ok-lower_term.ensures.slots (slots_after_all (exps_of (take c.loop-arg.arg-index es)) ns) before.1))
+    one-more es c.loop-arg.arg-index c.arg-item.result within (c.arg-item.is ∙ ap (λ xs. get_or xs c.loop-arg.arg-index c.arg-item.result) c.deref-arg-items.ensures.value) in (
+      ap (λ xs. xs) c.in_ok-push.ensures.items
+          ∙ terms-push (take c.loop-arg.arg-index es) c.arg-item.result ns c.loop-arg.terms.items c.in_ok-lower_term.field-0 before.0 (c.in_ok-lower_term.ensures.is (slots_after_all (exps_of (take c.loop-arg.arg-index es)) ns) before.1)
+          ∙ ap (λ xs. lowered_terms (exps_of xs) ns) (sym e),
+      subst (λ (after : SlotNames). IsSlots c.lower_term.new.slots after) (sym (ap (λ xs. slots_after_all (exps_of xs) ns) e ∙ after-push (take c.loop-arg.arg-index es) c.arg-item.result ns))
+          (c.in_ok-lower_term.ensures.slots (slots_after_all (exps_of (take c.loop-arg.arg-index es)) ns) before.1),
+    )
 
 pub returns-clause-are : goal.returns-clause-are
 returns-clause-are c = λ ns is.

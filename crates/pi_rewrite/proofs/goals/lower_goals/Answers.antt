@@ -11,7 +11,7 @@ use Rattle.pi_rewrite.proofs.ListLemmas.{goals-push, after-push, one-more}
 use Rattle.pi_rewrite.proofs.goals.lower_goals.Goals as goal
 
 pub loop-goal-init : goal.loop-goal-init
-unfolding lowered_goals slots_after 
+unfolding lowered_goals slots_after
 loop-goal-init c = λ ns is. (ap (λ xs. goals_of xs) c.new-lowered.ensures.items, is)
 
 pub loop-goal-preserved : goal.loop-goal-preserved
@@ -20,12 +20,13 @@ loop-goal-preserved c = λ ns is.
     let before = c.loop-goal.invariant ns is in
     let within : c.loop-goal.goal-index < length es = subst (λ n. c.loop-goal.goal-index < n) (ap length c.deref-goal-items.ensures.value) c.loop-goal-test.true in
     let e : take (c.loop-goal.goal-index + 1) es ≡ take c.loop-goal.goal-index es ++ c.goal-item.result ∷ [] =
-    one-more es c.loop-goal.goal-index c.goal-item.result within (c.goal-item.is ∙ ap (λ xs. get_or xs c.loop-goal.goal-index c.goal-item.result) c.deref-goal-items.ensures.value) in
-    (ap (λ xs. goals_of xs) c.in_ok-push.ensures.items
-     ∙ goals-push (take c.loop-goal.goal-index es) c.goal-item.result ns c.loop-goal.lowered.items c.in_ok-lower_goal.field-0 before.0 (c.in_ok-lower_goal.ensures.is (slots_after_all (exps_of (take c.loop-goal.goal-index es)) ns) before.1)
-     ∙ ap (λ xs. lowered_goals (exps_of xs) ns) (sym e),
-     subst (λ (after : SlotNames). IsSlots c.lower_goal.new.slots after) (sym (ap (λ xs. slots_after_all (exps_of xs) ns) e ∙ after-push (take c.loop-goal.goal-index es) c.goal-item.result ns))
-     (c.in_ok-lower_goal.ensures.slots (slots_after_all (exps_of (take c.loop-goal.goal-index es)) ns) before.1))
+    one-more es c.loop-goal.goal-index c.goal-item.result within (c.goal-item.is ∙ ap (λ xs. get_or xs c.loop-goal.goal-index c.goal-item.result) c.deref-goal-items.ensures.value) in (
+      ap (λ xs. goals_of xs) c.in_ok-push.ensures.items
+          ∙ goals-push (take c.loop-goal.goal-index es) c.goal-item.result ns c.loop-goal.lowered.items c.in_ok-lower_goal.field-0 before.0 (c.in_ok-lower_goal.ensures.is (slots_after_all (exps_of (take c.loop-goal.goal-index es)) ns) before.1)
+          ∙ ap (λ xs. lowered_goals (exps_of xs) ns) (sym e),
+      subst (λ (after : SlotNames). IsSlots c.lower_goal.new.slots after) (sym (ap (λ xs. slots_after_all (exps_of xs) ns) e ∙ after-push (take c.loop-goal.goal-index es) c.goal-item.result ns))
+          (c.in_ok-lower_goal.ensures.slots (slots_after_all (exps_of (take c.loop-goal.goal-index es)) ns) before.1),
+    )
 
 pub returns-clause-are : goal.returns-clause-are
 returns-clause-are c = λ ns is.
