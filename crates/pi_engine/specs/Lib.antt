@@ -26,3 +26,5 @@ pub mod Numbers
 pub mod LaidRules
 pub mod Begins
 pub mod Goes
+pub mod Turns
+pub mod Runs
