@@ -100,3 +100,7 @@ pub mod LaidTests
 pub mod KnownGoals
 pub mod MissingStand
 pub mod FailsStand
+pub mod PointsDone
+pub mod TurnsGo
+pub mod NextTurns
+pub mod RunsTold

@@ -28,3 +28,4 @@ pub mod Begins
 pub mod Goes
 pub mod Turns
 pub mod Runs
+pub mod Gives

@@ -2,7 +2,7 @@
 use Rattle.std.specs.Prelude.{◌≡◌, ℕ, ◌+◌, ◌≤◌, List, [], ◌∷◌, ◌++◌, ⊤}
 use Rattle.pi_types.specs.Store.{Terms, StoreView}
 use Rattle.pi_types.specs.Trace.{End, Done, Raise, Emitted, answered, count_ticks}
-use Rattle.pi_types.specs.Depth.{Ended, Spent}
+use Rattle.pi_types.specs.Depth.{Cut, Ended, Spent, with_events}
 use Rattle.pi_types.specs.View.{View}
 use Rattle.pi_types.specs.CoreTree.{PredTree, QueryTree}
 use Rattle.pi_types.specs.Run.{Solution, IsRunUnder}
@@ -12,7 +12,6 @@ use Rattle.pi_engine.specs.declared.happening.Budget.{Budget}
 use Rattle.pi_engine.specs.declared.happening.Happening.{Happening}
 use Rattle.pi_engine.specs.declared.happening.Mode.{Mode}
 use Rattle.pi_engine.specs.declared.machine.Machine.{Machine}
-use Rattle.pi_engine.specs.declared.run.End.{End as RunEnd}
 use Rattle.pi_engine.specs.declared.run.Now.{Now}
 use Rattle.pi_engine.specs.Arenas.{ArenasView, view_of}
 use Rattle.pi_engine.specs.Answers.{AreNames}
@@ -24,7 +23,7 @@ use Rattle.pi_engine.specs.Next.{Tells, some_ticks}
 use Rattle.pi_engine.specs.Shape.{IsGood}
 use Rattle.pi_engine.specs.Stands.{Loaded, World, world}
 use Rattle.pi_engine.specs.Step.{start}
-use Rattle.pi_engine.specs.Turns.{IsRunning}
+use Rattle.pi_engine.specs.Turns.{IsRunning, FitsMode}
 
 -- a machine at one moment: its tables and the names that its answers tell, what it counts, its store, its arenas and what
 -- comes next
@@ -48,12 +47,6 @@ loaded_as m terms program q = record { code = m.code; terms = terms; preds = pro
 
 abbrev pub run_of : {M : Type 0} → MachineView M → Loaded → World M
 run_of m l = world l m.store m.order m.arenas
-
--- an end for want of a Tick is that of what the machine counts in
-abbrev pub FitsMode : Mode → Now → Type 0
-FitsMode mode (Now.Ended RunEnd.StepsSpent) = mode ≡ Mode.Top
-FitsMode mode (Now.Ended RunEnd.WorkSpent) = mode ≡ Mode.Inner
-FitsMode mode now = ⊤
 
 -- Under a view, a machine's run of a query of a program has come so far: it stands for a configuration to which the query's
 -- beginning leads with these events.
@@ -93,3 +86,15 @@ ToldBy v program q events k after none Happening.Memory = ⊤
 abbrev pub Happens : {M : Type 0} → View → List PredTree → QueryTree → List (Emitted Solution) → MachineView M → MachineView M → Budget → Budget → Happening → Type 0
 Happens v program q events before after old new happening =
     ToldBy v program q events (counted before.mode old new) after (IsRunning before.now → HasNone before.mode new) happening
+
+-- ---- laws
+
+-- the events of a machine's run begin each run of its query
+abbrev pub RunsBegin : Type 0 → Type 0
+RunsBegin M =
+    (v : View) (m : MachineView M) (program : List PredTree) (q : QueryTree) (events : List (Emitted Solution)) (n : ℕ) (run : Cut Solution) →
+    RunsTo v m program q events → IsRunUnder v program q (count_ticks events + n) run → (rest : Cut Solution) × (run ≡ with_events events rest)
+
+-- Ticks behind events are counted as so many more
+abbrev pub TicksAdd : Type 0
+TicksAdd = (events : List (Emitted Solution)) (k : ℕ) → count_ticks (events ++ some_ticks k) ≡ count_ticks events + k

@@ -35,6 +35,12 @@ abbrev pub IsRunning : Now → Type 0
 IsRunning (Now.Ended e) = ⊥
 IsRunning now = ⊤
 
+-- an end for want of a Tick is that of what the machine counts in
+abbrev pub FitsMode : Mode → Now → Type 0
+FitsMode mode (Now.Ended RunEnd.StepsSpent) = mode ≡ Mode.Top
+FitsMode mode (Now.Ended RunEnd.WorkSpent) = mode ≡ Mode.Inner
+FitsMode mode now = ⊤
+
 -- from a configuration on: what happens, and where the run is then
 pub record NextComes {M : Type 0} (v : View) (names : List NameSlot) (mode : Mode) (old new : Budget) (after : World M) (before now : Now) (c : Config) (happening : Happening) : Type 0 where
   pub comes : Config
@@ -42,6 +48,7 @@ pub record NextComes {M : Type 0} (v : View) (names : List NameSlot) (mode : Mod
   pub good : IsGood comes
   pub at : IsAt v names after now comes
   pub spent : IsRunning before → IsSpent mode new now
+  pub fits : FitsMode mode before → FitsMode mode now
 
 -- the end of a run, as it is answered
 abbrev pub IsAnswered : RunEnd → Happening → Type 0

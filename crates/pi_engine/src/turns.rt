@@ -44,17 +44,19 @@ pub fn next_happening<S: StateStore>(
     ensures repeats { (e : End) → run.old.now ≡ Now.Ended e → IsRepeated e run.old run.new budget.old budget.new result }
     ensures lasts { Lasts result run.new.now }
 {
-    for _ in 0..u64::MAX {
+    for turn in 0..u64::MAX {
         if let Now::Ended(end) = &run.now {
             let Ok(happening) = repeated(run.alloc, end) else {
                 return memory_wanted(run);
             };
             return happening;
         }
-        match step(code, mode, names, run, budget) {
-            Ok(Outcome::More) => {}
-            Ok(Outcome::Answered(answer)) => return Happening::Answer(answer),
-            Err(AllocError) => return memory_wanted(run),
+        let Ok(outcome) = step(code, mode, names, run, budget) else {
+            return memory_wanted(run);
+        };
+        match outcome {
+            Outcome::More => {}
+            Outcome::Answered(answer) => return Happening::Answer(answer),
         }
     }
     memory_wanted(run)
@@ -78,7 +80,7 @@ fn step<S: StateStore>(
     budget: &mut Budget,
 ) -> Result<Outcome, AllocError>
     ensures counts { Counts budget.old budget.new }
-    ensures is { IfOk result (λ outcome. (l : Loaded) → l.code ≡ code.now → AreNames l.query_slots names.now → (v : View) (c : Config) → IsIn v names.now (world l (S.seen run.old.store) S.order (view_of run.old.arenas)) run.old.now c → StepIs v names.now mode budget.old budget.new (world l (S.seen run.new.store) S.order (view_of run.new.arenas)) run.new.now c outcome) }
+    ensures is { IfOk result (λ outcome. IsRunning run.old.now → (l : Loaded) → l.code ≡ code.now → AreNames l.query_slots names.now → (v : View) (c : Config) → IsIn v names.now (world l (S.seen run.old.store) S.order (view_of run.old.arenas)) run.old.now c → StepIs v names.now mode budget.old budget.new (world l (S.seen run.new.store) S.order (view_of run.new.arenas)) run.new.now c outcome) }
 {
     match &run.now {
         Now::Going(at) => {
@@ -90,15 +92,22 @@ fn step<S: StateStore>(
                 frame: at.frame,
             };
             if point.count == 0 {
-                return go_on(code, names, run, point);
+                let outcome = go_on(code, names, run, point)?;
+                return Ok(outcome);
             }
             run_goal(code, mode, run, point, budget)?;
+            Ok(Outcome::More)
         }
-        Now::Failing => fail(code, run)?,
-        Now::Raising(_) => unwind(code, run)?,
-        Now::Ended(_) => {}
+        Now::Failing => {
+            fail(code, run)?;
+            Ok(Outcome::More)
+        }
+        Now::Raising(_) => {
+            unwind(code, run)?;
+            Ok(Outcome::More)
+        }
+        Now::Ended(_) => Ok(Outcome::More),
     }
-    Ok(Outcome::More)
 }
 
 /// Goes on behind goals that are done: with a frame, or with an answer of the newest open level or of the query.

@@ -11,6 +11,7 @@ ghost use Rattle.pi_engine.specs.Here.{Block, Holds, AreReadable};
 ghost use Rattle.pi_engine.specs.Evaluates.{slot_number, operand_trees, EvaluatesAll};
 ghost use Rattle.pi_engine.specs.Stands.{Loaded, Extend, world};
 ghost use Rattle.pi_engine.specs.Makes.{RunsGoal};
+ghost use Rattle.pi_engine.specs.Gives.{GivesValue};
 
 use super::choices::push_entry;
 use super::rules::{Call, try_rules};
@@ -137,7 +138,9 @@ pub fn give_value<S: StateStore>(
     point: Point,
     step: Step,
     operand: Operand,
-) -> Result<(), AllocError> {
+) -> Result<(), AllocError>
+    ensures { IfOk result (λ _. step.node ≡ Node.Value operand → (l : Loaded) → l.code ≡ code.now → GivesValue (world l (S.seen run.old.store) S.order (view_of run.old.arenas)) (world l (S.seen run.new.store) S.order (view_of run.new.arenas)) point step run.new.now) }
+{
     let term = value(code, run, operand, point.first_slot(step))?;
     run.now = Now::Failing;
     let level = run.arenas.level;
