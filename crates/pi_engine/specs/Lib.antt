@@ -25,4 +25,5 @@ pub mod Laid
 pub mod Numbers
 pub mod LaidRules
 pub mod Begins
+pub mod Gives
 pub mod Goes
