@@ -29,7 +29,7 @@ use Rattle.pi_engine.specs.Configuration.{Frame, Called, Config, behind, strict,
 use Rattle.pi_engine.specs.Shape.{open_level}
 use Rattle.pi_engine.specs.Step.{call_step, value_step, function_step, try_rules, goal_step, back_to}
 use Rattle.pi_engine.specs.Here.{Block, block_end, Here, AreReadable, HoldsArguments, GoesOn, gives}
-use Rattle.pi_engine.specs.Stands.{World, tables_in, steps_of, entries_of, now_here, level_ends, Extend, HasNumber, IsCodeOf, GoalStands, KindIs, apply_kind, StackIs, StackStands, Stands, StandsGoing, GoingIs, CallStands}
+use Rattle.pi_engine.specs.Stands.{World, tables_in, steps_of, block_at, entries_of, now_here, level_ends, Extend, HasNumber, IsCodeOf, GoalStands, KindIs, apply_kind, StackIs, StackStands, Stands, StandsGoing, GoingIs, CallStands}
 use Rattle.pi_engine.specs.Evaluates.{with_blocks, operand_trees, EvaluatesAll}
 use Rattle.pi_engine.specs.Makes.{StandsAfter}
 use Rattle.pi_engine.specs.Tries.{RulesLeft, no_entry, KeepsFront, KeepsBelow}
@@ -37,7 +37,7 @@ use Rattle.pi_engine.proofs.HereLemmas.{goes_on-moves, holds-moves, held-extends
 use Rattle.pi_engine.proofs.StandsLemmas.{moved, open_level-within, stack-length}
 use Rattle.pi_engine.proofs.BasesStand.{block-above, level-begins}
 use Rattle.pi_engine.proofs.FramesStand.{MoreFrames, pushes-more, framed, with_new_frames, stack-framed, going-of, going-size, Entered, entered-behind}
-use Rattle.pi_engine.proofs.LevelStands.{entered_level, level-of-new, agrees-with-new, stack-entered}
+use Rattle.pi_engine.proofs.LevelStands.{entered_level, block-of-step, level-of-new, agrees-with-new, stack-entered}
 use Rattle.pi_engine.proofs.LevelSteps.{goal-stands, kept-within}
 use Rattle.pi_engine.proofs.EqualStands.{block_of, kind-of-node, stack-moved, going-moved}
 use Rattle.pi_engine.proofs.CallLemmas.{apply-of, evaluated-all-state}
@@ -79,21 +79,29 @@ block-level : {M : Type 0} (w : World M) (p : Point) (n : ℕ) (g : GoalTree) (e
 block-level w p n g e k limit in_it below z found =
     omega (arith, below, level-begins w.loaded z (entry_at (entries_of w) w.arenas.level) in_it.block.base found (block-above (tables_in w.loaded) (steps_of w.loaded) (now_here w) in_it.block in_it.at.leaves n k in_it.at.frames))
 
+-- with its block in front of a slot
+record EnteredWithin {M : Type 0} (w : World M) (p : Point) (n : ℕ) (g : GoalTree) (e : Places) (k : List Frame) (limit : ℕ) : Type 0 where
+  pub it : Entered w p n g e k
+  pub within : block_end it.block ≤ limit
+
 entered-below : {M : Type 0} (w : World M) (b : ArenasView M) (limit : ℕ) (p : Point) (n : ℕ) (g : GoalTree) (e : Places) (k : List Frame) (es : List EntryData) → KeepsBelow w.arenas b limit → StackStands w es → (in_it : Entered w p n g e k) →
-    block_end in_it.block ≤ limit → Entered (moved w w.store b) p n g e k
+    block_end in_it.block ≤ limit → EnteredWithin (moved w w.store b) p n g e k limit
 entered-below w b limit p n g e k es keeps stands in_it within =
     record {
-      block = in_it.block;
-      base = in_it.base;
-      slots = holds-moves w.store.now.terms w.store.now.terms w.arenas.blocks.slots b.blocks.slots in_it.block e limit within keeps.long (sym keeps.front) (λ i t is. is) in_it.slots;
-      at = record {
-        own = in_it.at.own;
-        leaves = in_it.at.leaves;
-        here = in_it.at.here;
-        frames = goes_on-moves (tables_in w.loaded) (steps_of w.loaded) (now_here w) (now_here (moved w w.store b)) in_it.block in_it.at.leaves n k limit n (omega (arith, within)) (omega arith) (below-moves w b limit n keeps) (below-ends w b limit keeps) in_it.at.frames;
-        own_leaves = in_it.at.own_leaves;
+      it = record {
+        block = in_it.block;
+        base = in_it.base;
+        slots = holds-moves w.store.now.terms w.store.now.terms w.arenas.blocks.slots b.blocks.slots in_it.block e limit within keeps.long (sym keeps.front) (λ i t is. is) in_it.slots;
+        at = record {
+          own = in_it.at.own;
+          leaves = in_it.at.leaves;
+          here = in_it.at.here;
+          frames = goes_on-moves (tables_in w.loaded) (steps_of w.loaded) (now_here w) (now_here (moved w w.store b)) in_it.block in_it.at.leaves n k limit n (omega (arith, within)) (omega arith) (below-moves w b limit n keeps) (below-ends w b limit keeps) in_it.at.frames;
+          own_leaves = in_it.at.own_leaves;
+        };
+        agrees = level-below w b limit es keeps stands (block-level w p n g e k limit in_it (omega (arith, within))) in_it.agrees;
       };
-      agrees = level-below w b limit es keeps stands (block-level w p n g e k limit in_it (omega (arith, within))) in_it.agrees;
+      within = within;
     }
 
 -- ---- the level, with the call in it
@@ -105,30 +113,29 @@ new-base : {M : Type 0} (es : List (Entry M)) (x z : Entry M) → entry_at (es +
 new-base es x z found = one-entry x z (sym (get_append_last es x) ∙ found)
 
 apply-made : {M : Type 0} (w : World M) (u : StoreView M) (mark : M) (p : Point) (s : Step) (n q base arity into : ℕ) (pred : PredTree) (predicate : Predicate) (args : List Tree) (ts : Trees) (e : Places) (k : List Frame) (es : List EntryData) →
-    StackStands w es → Marks w.order w.store u mark → Entered w p n (apply pred.name args into) e k → slice_get (steps_of w.loaded) p.place ≡ Some s → slice_get w.loaded.preds q ≡ Some pred → slice_get w.loaded.code.predicates.items q ≡ Some predicate →
-    pred.function ≡ true → length args ≡ pred.arity → length w.arenas.blocks.slots ≡ base + pred.arity → p.base ≤ base → HoldsArguments w.store.now.terms w.arenas.blocks.slots base pred.arity ts →
-    Made (entered_level w u mark p.base n (Kind.Strict (Strict.Apply p.place))) q base 0 (record { function = true; args = ts }) pred.clauses []
+    StackStands w es → Marks w.order w.store u mark → (in_it : Entered w p n (apply pred.name args into) e k) → slice_get (steps_of w.loaded) p.place ≡ Some s → slice_get w.loaded.preds q ≡ Some pred → slice_get w.loaded.code.predicates.items q ≡ Some predicate →
+    pred.function ≡ true → length args ≡ pred.arity → length w.arenas.blocks.slots ≡ base + pred.arity → block_end in_it.block ≤ base → HoldsArguments w.store.now.terms w.arenas.blocks.slots base pred.arity ts →
+    Made (entered_level w u mark base n (Kind.Strict (Strict.Apply p.place p.base))) q base 0 (record { function = true; args = ts }) pred.clauses []
     (strict (value_level (comp pred.name ts) into) (back_to e w.store.now.state k) ∷ es) predicate.first
 unfolding open_level
 apply-made w u mark p s n q base arity into pred predicate args ts e k es stands marks in_it at is_pred is_predicate function many long below holds =
-    let kind : Kind = Kind.Strict (Strict.Apply p.place) in
+    let kind : Kind = Kind.Strict (Strict.Apply p.place p.base) in
     let slots : ℕ = length w.arenas.blocks.slots in
-    let after : World _ = entered_level w u mark p.base n kind in
+    let after : World _ = entered_level w u mark base n kind in
     let y : EntryData = strict (value_level (comp pred.name ts) into) (back_to e w.store.now.state k) in
-    let x : Entry _ = new_entry w.arenas mark slots p.base n kind in
-    let held : HoldsArguments w.store.now.terms w.arenas.blocks.slots (slots - length args) (length args) ts =
-    subst (λ m. HoldsArguments w.store.now.terms w.arenas.blocks.slots m (length args) ts) (omega (arith, many, long))
-    (subst (λ m. HoldsArguments w.store.now.terms w.arenas.blocks.slots base m ts) (sym many) holds) in
-    let is : KindIs w.loaded w.arenas.collected (now_here w) w.store.now.state p.base n slots (length w.arenas.collected) (length w.arenas.collected) kind y =
-    apply_kind (goal-stands w p n s (apply pred.name args into) e k at in_it) held (omega (arith, many, long)) refl in
+    let x : Entry _ = new_entry w.arenas mark slots base n kind in
+    let held : HoldsArguments w.store.now.terms w.arenas.blocks.slots base (length args) ts = subst (λ m. HoldsArguments w.store.now.terms w.arenas.blocks.slots base m ts) (sym many) holds in
+    let block : block_at w.loaded p.place p.base ≡ in_it.block = block-of-step w.loaded in_it.block p.place p.base (apply pred.name args into) in_it.at.own s in_it.at.here in_it.base at in
+    let is : KindIs w.loaded w.arenas.collected (now_here w) w.store.now.state base n slots (length w.arenas.collected) (length w.arenas.collected) kind y =
+    apply_kind (goal-stands w p n s (apply pred.name args into) e k at in_it) held (subst (λ b. block_end b ≤ base) (sym block) below) refl in
     let entered : StackStands after (y ∷ es) =
-    stack-entered w u mark p.base n (length w.arenas.collected) kind y es stands marks in_it.agrees refl (kept-within w es stands) (omega arith) stands.stack is in
+    stack-entered w u mark base n (length w.arenas.collected) kind y es stands marks in_it.agrees refl (kept-within w es stands) (omega arith) stands.stack is in
     let level : w.arenas.level ≤ length (entries_of w) = omega (arith, stands.level, open_level-within zero es, stack-length w (length (entries_of w)) (length w.arenas.collected) es stands.stack) in
     let extends : Extend w.store.now.terms u.now.terms = λ i t has. marks.stays.keeps.terms (record { number = i }) t has in
     let own : HoldsArguments u.now.terms w.arenas.blocks.slots base pred.arity ts = record { within = holds.within; held = held-extends w.store.now.terms u.now.terms (take pred.arity (drop base w.arenas.blocks.slots)) _ extends holds.held } in
     let left : RulesLeft w.loaded q predicate.first (record { function = true; args = ts }) pred.clauses =
     record { pred = pred; predicate = predicate; is_pred = is_pred; is_predicate = is_predicate; function = sym function; from = omega arith; rules = all-left pred.clauses predicate.first } in
-    let goes : GoesOn (tables_in w.loaded) (steps_of w.loaded) (now_here after) (record { base = base; first = pred.arity; count = 0 }) true 0 [] = gives p.base (level-of-new w u mark p.base n kind) below in
+    let goes : GoesOn (tables_in w.loaded) (steps_of w.loaded) (now_here after) (record { base = base; first = pred.arity; count = 0 }) true 0 [] = gives base (level-of-new w u mark base n kind) (omega arith) in
     let more : length (entries_of w ++ x ∷ []) ≡ suc (length (entries_of w)) = length-append (entries_of w) (x ∷ []) ∙ omega arith in
     record {
       is = record {
@@ -138,9 +145,9 @@ apply-made w u mark p s n q base arity into pred predicate args ts e k es stands
         level = entered.level;
         kept = entered.kept;
         call = record { call = left; fits = holds.within; frames = goes; returns = λ not. absurd cc; alone = λ is. refl };
-        agrees = agrees-with-new w u mark p.base n kind level (omega (arith, below, holds.within)) marks;
+        agrees = agrees-with-new w u mark base n kind level (omega (arith, holds.within)) marks;
         over = omega (arith, long);
-        inside = λ z found. omega (arith, below, new-base (entries_of w) x z (ap (entry_at (entries_of w ++ x ∷ [])) (sym more) ∙ found));
+        inside = λ z found. omega (arith, new-base (entries_of w) x z (ap (entry_at (entries_of w ++ x ∷ [])) (sym more) ∙ found));
         entry = no_entry refl
             (record {
               call = record { pred = pred; predicate = predicate; is_pred = is_pred; is_predicate = is_predicate; function = sym function; args = own; from = omega arith; rules = left.rules };
@@ -166,7 +173,7 @@ pub apply-runs : {M : Type 0} (w : World M) (v u : StoreView M) (mark : M) (a : 
     Applies w g q operands into predicate → slice_get (steps_of w.loaded) p.place ≡ Some s → (stands : StandsGoing w p (goal g gs) e k es) → AreReadable (tables_in w.loaded) (block_of w p g gs e k es stands) operands predicate.arity →
     EvaluatesAll (block_of w p g gs e k es stands) w.store v w.arenas a (evaluated_all (trees_of (operand_trees (tables_in w.loaded) operands predicate.arity)) e w.store.now.state) rs →
     PushesBehind p s a.frames fs n → d.slots ≡ a.blocks.slots ++ map (λ r. Some r) rs → KeepsBlocks a.blocks d → d.kept ≡ a.blocks.kept → Marks w.order v u mark →
-    ApplyRuns w (entered_level (moved w v (with_blocks (framed a fs) d)) u mark p.base n (Kind.Strict (Strict.Apply p.place))) q (length a.blocks.slots) predicate view g gs e k es
+    ApplyRuns w (entered_level (moved w v (with_blocks (framed a fs) d)) u mark (length a.blocks.slots) n (Kind.Strict (Strict.Apply p.place p.base))) q (length a.blocks.slots) predicate view g gs e k es
 apply-runs w v u mark a fs d rs p s q operands into n predicate view g gs e k es applies at stands readable evaluates pushes new keeps kept marks =
     let T : Tables = tables_in w.loaded in
     let pred : PredTree = applies.it.pred in
@@ -190,16 +197,17 @@ apply-runs w v u mark a fs d rs p s q operands into n predicate view g gs e k es
     let holds : HoldsArguments v.now.terms d.slots limit pred.arity all.trees = arguments-added v a.blocks.slots d.slots rs pred.arity all.trees evaluates.terms (count ∙ applies.it.arity) new in
     let long : length d.slots ≡ limit + pred.arity = arguments-long v a.blocks.slots d.slots rs pred.arity all.trees evaluates.terms (count ∙ applies.it.arity) new in
     let w3 : World _ = moved w2 v (with_blocks w2.arenas d) in
-    let own : Entered w3 p n (apply pred.name args into) all.slots (behind gs k) =
-    subst (λ h. Entered w3 p n h all.slots (behind gs k)) applies.goal_is (entered-below w2 (with_blocks w2.arenas d) limit p n g all.slots (behind gs k) es below stack2 in_it (omega (arith, in_it.slots.within))) in
+    let own : EnteredWithin w3 p n (apply pred.name args into) all.slots (behind gs k) limit =
+    subst (λ h. EnteredWithin w3 p n h all.slots (behind gs k) limit) applies.goal_is
+    (entered-below w2 (with_blocks w2.arenas d) limit p n g all.slots (behind gs k) es below stack2 in_it (omega (arith, in_it.slots.within))) in
     let many : length args ≡ pred.arity = args-count T operands predicate.arity readable.0 ∙ applies.it.arity in
     let level : EntryData = strict (value_level (comp pred.name all.trees) into) (back_to all.slots v.now.state (behind gs k)) in
     record {
       pred = pred;
       called = called;
       level = level;
-      made = apply-made w3 u mark p s n q limit predicate.arity into pred predicate args all.trees all.slots (behind gs k) es (stack-below w2 (with_blocks w2.arenas d) limit es below stack2) marks own at
-          applies.it.is_pred applies.it.is_predicate applies.it.is_function many long (omega (arith, in_it.base, in_it.slots.within)) holds;
+      made = apply-made w3 u mark p s n q limit predicate.arity into pred predicate args all.trees all.slots (behind gs k) es (stack-below w2 (with_blocks w2.arenas d) limit es below stack2) marks own.it at
+          applies.it.is_pred applies.it.is_predicate applies.it.is_function many long own.within holds;
       step = λ now end ends.
           subst (StandsAfter end now)
           (sym (ap (λ h. goal_step view w.loaded.preds h gs e w.store.now.state k es) applies.goal_is

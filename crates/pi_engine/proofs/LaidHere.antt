@@ -272,11 +272,9 @@ value-here ps terms code b at value laid below =
       stands = laid.stands;
       node = laid.node;
       is_value = sym (operand-reads (tables_for ps terms code) value laid.operand laid.is_value);
-      of_block = record {
-        first = laid.first_is;
-        count = laid.slots_is;
-        readable = subst (NodeIsReadable (tables_for ps terms code) b) (sym laid.node) (operand-readable (tables_for ps terms code) b value laid.operand laid.is_value below);
-      };
+      first = laid.first_is;
+      count = laid.slots_is;
+      readable = operand-readable (tables_for ps terms code) b value laid.operand laid.is_value below;
     }
 
 -- ---- numbers

@@ -96,35 +96,35 @@ pub record LeftBy {M : Type 0} (w : World M) (b : ArenasView M) (block : Block) 
   pub frames : GoesOn (tables_in w.loaded) (steps_of w.loaded) (now_here (moved w w.store b)) block leaves frame k
   pub agrees : Agrees (moved w w.store b) b.level (now_here (moved w w.store b))
 
-pub level-behind : {M : Type 0} (w : World M) (b : ArenasView M) (i from to top n : ℕ) (x : Entry M) (y : EntryData) (es fs : List EntryData) (block : Block) (leaves : Bool) (e : Places) (k : List Frame) →
+pub level-behind : {M : Type 0} (w : World M) (b : ArenasView M) (i from to top n limit : ℕ) (x : Entry M) (y : EntryData) (es fs : List EntryData) (block : Block) (leaves : Bool) (e : Places) (k : List Frame) →
     StackStands w es → StackIs w n top es → suc i ≤ n → n ≤ length (entries_of w) → top ≤ length w.arenas.collected → slice_get (entries_of w) i ≡ Some x → EntryIs w fs (entry_at (entries_of w) i) from to x y → StackIs w i from fs →
-    from ≡ length w.arenas.collected → agrees_from w (Some x) (now_here w) → LeavesLevel w.arenas b i x.back →
-    block.base ≡ x.back.base → block_end block ≤ x.back.blocks.slots → Holds w.store.now.terms w.arenas.blocks.slots block e → GoesOn (tables_in w.loaded) (steps_of w.loaded) (back_here w x) block leaves x.back.frame k →
+    from ≡ length w.arenas.collected → agrees_from w (Some x) (now_here w) → Drops w.arenas b i x.back.frames → b.blocks.slots ≡ take (max limit b.blocks.kept) w.arenas.blocks.slots → b.level ≡ x.back.level →
+    block.base ≤ x.back.base → block_end block ≤ limit → Holds w.store.now.terms w.arenas.blocks.slots block e → GoesOn (tables_in w.loaded) (steps_of w.loaded) (back_here w x) block leaves x.back.frame k →
     LeftBy w b block leaves x.back.frame e k fs
-level-behind w b i from to top n x y es fs block leaves e k stands all fit within some at is below none agrees left base block_fits holds goes =
+level-behind w b i from to top n limit x y es fs block leaves e k stands all fit within some at is below none agrees drops cut level_is base block_fits holds goes =
     let l : Loaded = w.loaded in
     let frames_kept : frames_kept_by (entry_at (entries_of w) i) ≤ x.back.frames = above-frames w (entry_at (entries_of w) i) x is.older in
-    let leave : Leaves w w.store b i from = drops-leave w b i i from x.back.frames fs fs below left.drops (omega arith) (omega (arith, fit, within)) frames_kept (omega (arith, none)) in
-    let long : length b.entries ≡ i = ap length left.drops.entries ∙ length-take i (entries_of w) ∙ omega (arith, fit, within) in
+    let leave : Leaves w w.store b i from = drops-leave w b i i from x.back.frames fs fs below drops (omega arith) (omega (arith, fit, within)) frames_kept (omega (arith, none)) in
+    let long : length b.entries ≡ i = ap length drops.entries ∙ length-take i (entries_of w) ∙ omega (arith, fit, within) in
     let depth : length fs ≡ i = stack-length w i from fs below in
     let level : x.back.level ≤ i = omega (arith, is.level, open_level-within zero fs, depth) in
-    let long_slots : length b.blocks.slots ≡ min (max x.back.blocks.slots b.blocks.kept) (length w.arenas.blocks.slots) = ap length left.slots ∙ length-take (max x.back.blocks.slots b.blocks.kept) w.arenas.blocks.slots in
+    let long_slots : length b.blocks.slots ≡ min (max limit b.blocks.kept) (length w.arenas.blocks.slots) = ap length cut ∙ length-take (max limit b.blocks.kept) w.arenas.blocks.slots in
     let fits : block_end block ≤ length b.blocks.slots = omega (arith, long_slots, block_fits, holds.within) in
     let same : take (block_end block) w.arenas.blocks.slots ≡ take (block_end block) b.blocks.slots =
-    sym (ap (take (block_end block)) left.slots ∙ take-take (block_end block) (max x.back.blocks.slots b.blocks.kept) w.arenas.blocks.slots (omega (arith, block_fits))) in
+    sym (ap (take (block_end block)) cut ∙ take-take (block_end block) (max limit b.blocks.kept) w.arenas.blocks.slots (omega (arith, block_fits))) in
     let front : take block.base (back_here w x).slots ≡ take block.base b.blocks.slots =
-    subst (λ m. take m (back_here w x).slots ≡ take m w.arenas.blocks.slots) (sym base) agrees.1 ∙ take-agrees block.base (block_end block) w.arenas.blocks.slots b.blocks.slots (omega arith) same in
+    take-agrees block.base x.back.base (back_here w x).slots w.arenas.blocks.slots base agrees.1 ∙ take-agrees block.base (block_end block) w.arenas.blocks.slots b.blocks.slots (omega arith) same in
     let ends : level_ends w x.back.level ≡ level_ends (moved w w.store b) b.level =
-    ap (entry_ends l) (entry_at-take (entries_of w) b.entries i x.back.level level leave.entries) ∙ ap (λ m. entry_ends l (entry_at b.entries m)) (sym left.level) in
+    ap (entry_ends l) (entry_at-take (entries_of w) b.entries i x.back.level level leave.entries) ∙ ap (λ m. entry_ends l (entry_at b.entries m)) (sym level_is) in
     record {
       entries = record {
         code = stands.code;
         state = stands.state;
         tables = stands.tables;
-        level = left.level ∙ is.level;
-        kept = left.drops.kept ∙ ap (λ r. slots_kept_by (newest r)) (sym left.drops.entries);
+        level = level_is ∙ is.level;
+        kept = drops.kept ∙ ap (λ r. slots_kept_by (newest r)) (sym drops.entries);
         stack = subst (λ m. StackIs (moved w w.store b) m (length b.collected) fs) (sym long)
-            (subst (λ m. StackIs (moved w w.store b) i m fs) (none ∙ ap length (sym left.drops.collected)) (stack-moves w w.store b i from i from fs leave (omega arith) (omega arith) below));
+            (subst (λ m. StackIs (moved w w.store b) i m fs) (none ∙ ap length (sym drops.collected)) (stack-moves w w.store b i from i from fs leave (omega arith) (omega arith) below));
       };
       slots = holds-moves w.store.now.terms w.store.now.terms w.arenas.blocks.slots b.blocks.slots block e (block_end block) (omega arith) fits same (λ m t h. h) holds;
       frames = goes_on-moves (tables_in l) (steps_of l) (back_here w x) (now_here (moved w w.store b)) block leaves x.back.frame k block.base x.back.frame (omega arith) (omega arith)
@@ -132,12 +132,12 @@ level-behind w b i from to top n x y es fs block leaves e k stands all fit withi
             long = omega (arith, fits);
             slots = front;
             terms = agrees.0;
-            frames = λ m q few found. subst (λ r. frame_at r m ≡ Some q) (sym left.drops.frames_are) found;
+            frames = λ m q few found. subst (λ r. frame_at r m ≡ Some q) (sym drops.frames_are) found;
           })
           ends goes;
-      agrees = subst (λ m. Agrees (moved w w.store b) m (now_here (moved w w.store b))) (sym left.level)
+      agrees = subst (λ m. Agrees (moved w w.store b) m (now_here (moved w w.store b))) (sym level_is)
           (subst (λ r. agrees_from (moved w w.store b) r (now_here (moved w w.store b))) (entry_at-take (entries_of w) b.entries i x.back.level level leave.entries)
-          (outer-agrees w w.store b x block.base (entry_at (entries_of w) x.back.level) agrees.0 front (omega (arith, fits)) (λ z found. ap (take z.back.frames) left.drops.frames_are)
+          (outer-agrees w w.store b x block.base (entry_at (entries_of w) x.back.level) agrees.0 front (omega (arith, fits)) (λ z found. ap (take z.back.frames) drops.frames_are)
           (λ z found. omega (arith, sym (ap (λ r. ends_base (entry_ends l r)) found), ends-begin l z.back.kind z.back.base, block-above (tables_in l) (steps_of l) (back_here w x) block leaves x.back.frame k goes))
           (λ z found. outer-stays w b i from fs leave below x.back.level z level found)
           is.agrees));

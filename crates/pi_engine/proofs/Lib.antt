@@ -75,6 +75,8 @@ pub mod CatchStands
 pub mod ArgumentsStand
 pub mod TruthStand
 pub mod ValueHere
+pub mod ValueRuns
+pub mod ValueGiven
 pub mod RulesTried
 pub mod HeadsMatch
 pub mod HeadsTried

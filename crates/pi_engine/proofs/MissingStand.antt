@@ -26,7 +26,7 @@ use Rattle.pi_engine.specs.Code.{Tables, tables_of, preds_of, arguments, node_ki
 use Rattle.pi_engine.specs.Arenas.{ArenasView, DropsNewest}
 use Rattle.pi_engine.specs.Configuration.{Frame, Entry as EntryData, Strict, strict, value_level, Back as BackData, config, raising}
 use Rattle.pi_engine.specs.Step.{end_step, unresolved}
-use Rattle.pi_engine.specs.Here.{Block, Here, AreHeld, in_places, HoldsArguments, AreReadable, NodeIsReadable}
+use Rattle.pi_engine.specs.Here.{Block, block_end, Here, AreHeld, in_places, HoldsArguments, AreReadable, NodeIsReadable}
 use Rattle.pi_engine.specs.Stands.{World, Loaded, tables_in, steps_of, now_here, block_at, IsCodeOf, HasNumber, GoalStands, KindIs, once_kind, not_kind, if_kind, guard_kind, apply_kind, collect_kind, count_kind, StackStands, Stands, raising_now}
 use Rattle.pi_engine.specs.Makes.{unresolved_for}
 use Rattle.pi_engine.specs.Fails.{IsBack}
@@ -98,34 +98,49 @@ apply-node t (Node.Apply p first q) name args into h = (p, first, ap (Node.Apply
 apply-node t (Node.Value u) name args into h = absurd cc
 
 -- the level of the call
-record AppliesAt (l : Loaded) (h : Here) (t : State) (base place frame slots : ℕ) (s : Strict) (b : BackData) : Type 0 where
+pub record AppliesAt (l : Loaded) (h : Here) (t : State) (base caller place frame : ℕ) (s : Strict) (b : BackData) : Type 0 where
   pub name : List ℕ
   pub args : List Tree
   pub into : ℕ
   pub called : Trees
   pub places : Places
   pub frames : List Frame
-  pub own : GoalStands l h base place frame (apply name args into) places frames
-  pub holds : HoldsArguments h.terms h.slots (slots - length args) (length args) called
+  pub own : GoalStands l h caller place frame (apply name args into) places frames
+  pub holds : HoldsArguments h.terms h.slots base (length args) called
+  pub below : block_end (block_at l place caller) ≤ base
   pub level : s ≡ value_level (comp name called) into
   pub back_is : b ≡ record { slots = places; state = t; frames = frames }
 
-applies-at : (l : Loaded) (c : List Tree) (h : Here) (t : State) (base frame slots from to place : ℕ) (kind : Kind) (s : Strict) (b : BackData) → kind ≡ Kind.Strict (StrictKind.Apply place) → KindIs l c h t base frame slots from to kind (strict s b) →
-    AppliesAt l h t base place frame slots s b × (from ≡ to)
-applies-at l c h t base frame slots from to place kind s b named (once_kind own one) = absurd cc
-applies-at l c h t base frame slots from to place kind s b named (not_kind own one) = absurd cc
-applies-at l c h t base frame slots from to place kind s b named (if_kind own one) = absurd cc
-applies-at l c h t base frame slots from to place kind s b named (guard_kind call over one) = absurd cc
-applies-at l c h t base frame slots from to place kind s b named (apply_kind {place = at} {into = into} {name = name} {args = args} {ts = ts} {e = e} {k = k} own holds fit one) =
-    let same : at ≡ place = cc in (
-      record { name = name; args = args; into = into; called = ts; places = e; frames = k; own = subst (λ q. GoalStands l h base q frame (apply name args into) e k) same own; holds = holds; level = refl; back_is = refl },
+pub applies-at : (l : Loaded) (c : List Tree) (h : Here) (t : State) (base frame slots from to place caller : ℕ) (kind : Kind) (s : Strict) (b : BackData) → kind ≡ Kind.Strict (StrictKind.Apply place caller) → KindIs l c h t base frame slots from to kind (strict s b) →
+    AppliesAt l h t base caller place frame s b × (from ≡ to)
+applies-at l c h t base frame slots from to place caller kind s b named (once_kind own one) = absurd cc
+applies-at l c h t base frame slots from to place caller kind s b named (not_kind own one) = absurd cc
+applies-at l c h t base frame slots from to place caller kind s b named (if_kind own one) = absurd cc
+applies-at l c h t base frame slots from to place caller kind s b named (guard_kind call over one) = absurd cc
+applies-at l c h t base frame slots from to place caller kind s b named (apply_kind {place = at} {caller = outer} {into = into} {name = name} {args = args} {ts = ts} {e = e} {k = k} own holds fit one) =
+    let same : at ≡ place = cc in
+    let begins : outer ≡ caller = cc in (
+      record {
+        name = name;
+        args = args;
+        into = into;
+        called = ts;
+        places = e;
+        frames = k;
+        own = subst (λ q. GoalStands l h q place frame (apply name args into) e k) begins (subst (λ q. GoalStands l h outer q frame (apply name args into) e k) same own);
+        holds = holds;
+        below = subst (λ q. block_end (block_at l place q) ≤ base) begins (subst (λ q. block_end (block_at l q outer) ≤ base) same fit);
+        level = refl;
+        back_is = refl;
+      },
       one,
     )
-applies-at l c h t base frame slots from to place kind s b named (collect_kind own order some) = absurd cc
-applies-at l c h t base frame slots from to place kind s b named (count_kind own one) = absurd cc
+applies-at l c h t base frame slots from to place caller kind s b named (collect_kind own order some) = absurd cc
+applies-at l c h t base frame slots from to place caller kind s b named (count_kind own one) = absurd cc
 
 -- which predicate it calls
-record Applied {M : Type 0} (w : World M) (place : ℕ) (step : Step) (name : List ℕ) (args : List Tree) (into : ℕ) : Type 0 where
+pub record Applied {M : Type 0} (w : World M) (place caller : ℕ) (step : Step) (name : List ℕ) (args : List Tree) (into : ℕ) : Type 0 where
+  pub at : slice_get (steps_of w.loaded) place ≡ Some step
   pub number : ℕ
   pub first : ℕ
   pub node : step.node ≡ Node.Apply number first into
@@ -135,25 +150,27 @@ record Applied {M : Type 0} (w : World M) (place : ℕ) (step : Step) (name : Li
   pub source : slice_get (map pred_tree (preds_of w.loaded.code)) number ≡ Some pred
   pub name_is : name ≡ pred.name
   pub arity : length args ≡ predicate.arity
+  pub slot : into < (block_at w.loaded place caller).count
 
-applied : {M : Type 0} (w : World M) (back : Back) (place slots : ℕ) (code : Code) (step : Step) (s : Strict) (b : BackData) → IsCodeOf w.loaded.code (tables_in w.loaded) w.store.names w.loaded.preds →
-    (it : AppliesAt w.loaded (now_here w) w.store.now.state back.base place back.frame slots s b) → w.loaded.code ≡ code → ((r : Step) → slice_get code.steps.items place ≡ Some r → step ≡ r) → Applied w place step it.name it.args it.into
+pub applied : {M : Type 0} {h : Here} {t : State} (w : World M) (base caller place frame : ℕ) (code : Code) (step : Step) (s : Strict) (b : BackData) → IsCodeOf w.loaded.code (tables_in w.loaded) w.store.names w.loaded.preds →
+    (it : AppliesAt w.loaded h t base caller place frame s b) → w.loaded.code ≡ code → ((r : Step) → slice_get code.steps.items place ≡ Some r → step ≡ r) → Applied w place caller step it.name it.args it.into
 unfolding node_kind
-applied w back place slots code step s b is_code_of it is_code finds =
+applied w base caller place frame code step s b is_code_of it is_code finds =
     let g : GoalTree = apply it.name it.args it.into in
-    let there : (r : Step) × (slice_get (steps_of w.loaded) place ≡ Some r) = own-step w back.base place back.frame g it.places it.frames it.own in
+    let there : (r : Step) × (slice_get (steps_of w.loaded) place ≡ Some r) = own-step w caller place frame g it.places it.frames it.own in
     let at : slice_get (steps_of w.loaded) place ≡ Some step = there.1 ∙ ap Some (sym (finds there.0 (ap (λ q. slice_get q.steps.items place) (sym is_code) ∙ there.1))) in
-    let shown : _ = apply-node (tables_in w.loaded) step.node it.name it.args it.into (kind-here (tables_in w.loaded) (steps_of w.loaded) (block_at w.loaded place back.base) place g it.own.last step step.node it.own.goal at refl) in
+    let shown : _ = apply-node (tables_in w.loaded) step.node it.name it.args it.into (kind-here (tables_in w.loaded) (steps_of w.loaded) (block_at w.loaded place caller) place g it.own.last step step.node it.own.goal at refl) in
     let n : ℕ = shown.0 in
     let number : HasNumber w.loaded.preds (Node.Apply n shown.1 it.into) = subst (HasNumber w.loaded.preds) shown.2 (is_code_of.numbers place step at) in
     let found : _ = is_code_of.predicates n number.0 number.1 in
     let source : slice_get (map pred_tree (preds_of w.loaded.code)) n ≡ Some number.0 = ap (λ ps. slice_get ps n) (sym is_code_of.source) ∙ number.1 in
     let names : _ = name-at (preds_of w.loaded.code) n number.0 source in
-    let readable : NodeIsReadable (tables_in w.loaded) (block_at w.loaded place back.base) (Node.Apply n shown.1 it.into) =
-    subst (NodeIsReadable (tables_in w.loaded) (block_at w.loaded place back.base)) shown.2 (own-block w back.base place back.frame g it.places it.frames step it.own at).readable in
+    let readable : NodeIsReadable (tables_in w.loaded) (block_at w.loaded place caller) (Node.Apply n shown.1 it.into) =
+    subst (NodeIsReadable (tables_in w.loaded) (block_at w.loaded place caller)) shown.2 (own-block w caller place frame g it.places it.frames step it.own at).readable in
     let many : ℕ = slice_index_or (tables_in w.loaded).arities n 0 in
     let fits : shown.1 + many ≤ length (tables_in w.loaded).operands = readable.0.0 in
     record {
+      at = at;
       number = n;
       first = shown.1;
       node = shown.2;
@@ -164,6 +181,7 @@ applied w back place slots code step s b is_code_of it is_code finds =
       name_is = shown.3 ∙ names.0;
       arity = ap length shown.4 ∙ length-map (take many (drop shown.1 (tables_in w.loaded).operands)) (operand_tree (tables_in w.loaded))
           ∙ length-take-le many (drop shown.1 (tables_in w.loaded).operands) (omega (arith, fits, length-drop shown.1 (tables_in w.loaded).operands)) ∙ names.1 ∙ sym found.2.arity;
+      slot = readable.1;
     }
 
 same-number : (node : Node) (a b c d e f : ℕ) → node ≡ Node.Apply a b c → node ≡ Node.Apply d e f → a ≡ d
@@ -180,12 +198,12 @@ source-there (q ∷ ps) zero pred at none = absurd cc
 source-there (q ∷ ps) (suc n) pred at none = source-there ps n pred at none
 
 -- its node, and its predicate as it stands in the program
-pub no-other-node : {M : Type 0} (w : World M) (back : Back) (place : ℕ) (code : Code) (step : Step) (s : Strict) (b : BackData) (es : List EntryData) → back.kind ≡ Kind.Strict (StrictKind.Apply place) → w.loaded.code ≡ code →
+pub no-other-node : {M : Type 0} (w : World M) (back : Back) (place caller : ℕ) (code : Code) (step : Step) (s : Strict) (b : BackData) (es : List EntryData) → back.kind ≡ Kind.Strict (StrictKind.Apply place caller) → w.loaded.code ≡ code →
     ((r : Step) → slice_get code.steps.items place ≡ Some r → step ≡ r) → IsBack w back (strict s b) es →
     (n : ℕ) × (first : ℕ) × (into : ℕ) × (step.node ≡ Node.Apply n first into) × (slice_get (preds_of code) n ≡ None → ⊥)
-no-other-node w back place code step s b es named is_code finds it =
-    let at : _ = (applies-at w.loaded w.arenas.collected (now_here w) w.store.now.state back.base back.frame back.blocks.slots it.from (length w.arenas.collected) place back.kind s b named (back-kind w back (strict s b) es it)).0 in
-    let call : _ = applied w back place back.blocks.slots code step s b it.code at is_code finds in
+no-other-node w back place caller code step s b es named is_code finds it =
+    let at : _ = (applies-at w.loaded w.arenas.collected (now_here w) w.store.now.state back.base back.frame back.blocks.slots it.from (length w.arenas.collected) place caller back.kind s b named (back-kind w back (strict s b) es it)).0 in
+    let call : _ = applied w back.base caller place back.frame code step s b it.code at is_code finds in
     (call.number, call.first, at.into, call.node, λ none. source-there (preds_of w.loaded.code) call.number call.pred call.source (subst (λ c. slice_get (preds_of c) call.number ≡ None) (sym is_code) none))
 
 apply-step : (s : Strict) (called : Tree) (into : ℕ) (b : BackData) (e : Places) (t : State) (k : List Frame) (es : List EntryData) → s ≡ value_level called into → b ≡ record { slots = e; state = t; frames = k } →
@@ -213,23 +231,21 @@ store-changes w u es stands stays =
           }) (omega arith) (omega arith) stands.stack;
     }
 
-pub value-missing : {M : Type 0} (w : World M) (c : ArenasView M) (u : StoreView M) (back : Back) (place n operands into arity first : ℕ) (code : Code) (step : Step) (source : CorePred) (rs : List Ref) (call : Ref) (ball : Tree) (s : Strict) (b : BackData) (es : List EntryData) →
-    back.kind ≡ Kind.Strict (StrictKind.Apply place) → w.loaded.code ≡ code → ((q : Step) → slice_get code.steps.items place ≡ Some q → step ≡ q) → step.node ≡ Node.Apply n operands into → slice_get (preds_of code) n ≡ Some source → IsBack w back (strict s b) es → DropsNewest w.arenas c →
-    ((q : Predicate) → slice_get code.predicates.items n ≡ Some q → arity ≡ q.arity) → first ≡ back.blocks.slots - arity →
-    ((t : Terms) (ts : Trees) → HoldsArguments t c.blocks.slots first arity ts → map (λ r. Some r) rs ≡ take arity (drop first c.blocks.slots)) → Stays w.store u →
+pub value-missing : {M : Type 0} (w : World M) (c : ArenasView M) (u : StoreView M) (back : Back) (place caller n operands into arity : ℕ) (code : Code) (step : Step) (source : CorePred) (rs : List Ref) (call : Ref) (ball : Tree) (s : Strict) (b : BackData) (es : List EntryData) →
+    back.kind ≡ Kind.Strict (StrictKind.Apply place caller) → w.loaded.code ≡ code → ((q : Step) → slice_get code.steps.items place ≡ Some q → step ≡ q) → step.node ≡ Node.Apply n operands into → slice_get (preds_of code) n ≡ Some source → IsBack w back (strict s b) es → DropsNewest w.arenas c →
+    ((q : Predicate) → slice_get code.predicates.items n ≡ Some q → arity ≡ q.arity) →
+    ((t : Terms) (ts : Trees) → HoldsArguments t c.blocks.slots back.base arity ts → map (λ r. Some r) rs ≡ take arity (drop back.base c.blocks.slots)) → Stays w.store u →
     ((ts : Trees) → AreTerms w.store rs ts → IsTerm u call (comp source.name ts)) → ((t : Tree) → IsTerm u call t → IsAcyclic (bindings u.now.state) → ball ≡ unresolved_for (value_of (bindings u.now.state) t)) →
     Stands (moved w u c) (Now.Raising ball) (end_step s b es)
-value-missing w c u back place n operands into arity first code step source rs call ball s b es named is_code finds node at_source it drops arities begins takes stays puts tells =
+value-missing w c u back place caller n operands into arity code step source rs call ball s b es named is_code finds node at_source it drops arities takes stays puts tells =
     let after : World _ = moved w w.store c in
     let out : Popped after back w.arenas.collected it.from (strict s b) es = popped w c back (strict s b) es it drops in
-    let two : _ = applies-at after.loaded w.arenas.collected (now_here after) w.store.now.state back.base back.frame back.blocks.slots it.from (length w.arenas.collected) place back.kind s b named out.kind in
+    let two : _ = applies-at after.loaded w.arenas.collected (now_here after) w.store.now.state back.base back.frame back.blocks.slots it.from (length w.arenas.collected) place caller back.kind s b named out.kind in
     let at : _ = two.0 in
-    let own : _ = applied after back place back.blocks.slots code step s b out.code at is_code finds in
+    let own : _ = applied after back.base caller place back.frame code step s b out.code at is_code finds in
     let same : own.number ≡ n = same-number step.node own.number own.first at.into n operands into own.node node in
     let many : length at.args ≡ arity = own.arity ∙ sym (arities own.predicate (ap (λ q. slice_get q.predicates.items n) (sym is_code) ∙ ap (slice_get w.loaded.code.predicates.items) (sym same) ∙ own.is_predicate)) in
-    let start : back.blocks.slots - length at.args ≡ first = ap (λ m. back.blocks.slots - m) many ∙ sym begins in
-    let holds : HoldsArguments w.store.now.terms c.blocks.slots first arity at.called =
-    subst (λ m. HoldsArguments w.store.now.terms c.blocks.slots first m at.called) many (subst (λ m. HoldsArguments w.store.now.terms c.blocks.slots m (length at.args) at.called) start at.holds) in
+    let holds : HoldsArguments w.store.now.terms c.blocks.slots back.base arity at.called = subst (λ m. HoldsArguments w.store.now.terms c.blocks.slots back.base m at.called) many at.holds in
     let terms : AreTerms w.store rs at.called = terms-of-held w.store rs at.called (subst (λ xs. AreHeld w.store.now.terms xs (in_places at.called)) (sym (takes w.store.now.terms at.called holds)) holds.held) in
     let name : source.name ≡ at.name =
     source-name (preds_of w.loaded.code) n own.pred source (ap (slice_get (map pred_tree (preds_of w.loaded.code))) (sym same) ∙ own.source) (ap (λ q. slice_get (preds_of q) n) is_code ∙ at_source) ∙ sym own.name_is in

@@ -60,10 +60,10 @@ pub goal-left : {M : Type 0} (w : World M) (b : ArenasView M) (i from place : �
     GoalLeft w b x.back.base place x.back.frame g e k fs
 goal-left w b i from place x y g es fs f e k it fit is below none own holds =
     let left : LeftBy w b (block_at w.loaded place x.back.base) own.behind.leaves x.back.frame e k fs =
-    level-behind w b i from (length w.arenas.collected) (length w.arenas.collected) (length (entries_of w)) x y es fs (block_at w.loaded place x.back.base) own.behind.leaves e k
+    level-behind w b i from (length w.arenas.collected) (length w.arenas.collected) (length (entries_of w)) x.back.blocks.slots x y es fs (block_at w.loaded place x.back.base) own.behind.leaves e k
     it.stands it.stands.stack fit (omega arith) (omega arith) it.at is below none
     (subst (λ r. agrees_from w r (now_here w)) it.at (subst (λ n. agrees_from w (entry_at (entries_of w) n) (now_here w)) it.level it.agrees))
-    it.left (shape-base (slice_get (steps_of w.loaded) place) x.back.base) (omega (arith, own.behind.slots.within, back-length w x)) holds own.behind.frames in
+    it.left.drops it.left.slots it.left.level (omega (arith, shape-base (slice_get (steps_of w.loaded) place) x.back.base)) (omega (arith, own.behind.slots.within, back-length w x)) holds own.behind.frames in
     record {
       entries = left.entries;
       goal = record { last = own.last; goal = own.goal; behind = record { slots = left.slots; leaves = own.behind.leaves; frames = left.frames }; leaves = own.leaves };

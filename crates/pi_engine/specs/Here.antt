@@ -74,11 +74,12 @@ abbrev pub AreReadable : Tables → Block → ℕ → ℕ → Type 0
 AreReadable t b first arity =
     (first + arity ≤ length t.operands) × ((i : ℕ) (o : Operand) → i < arity → slice_get t.operands (first + i) ≡ Some o → IsReadable t b o)
 
+-- the same of all that a node reads; the value behind a function's body is no goal
 abbrev pub NodeIsReadable : Tables → Block → Node → Type 0
 NodeIsReadable t b (Node.Unify left right) = IsReadable t b left × IsReadable t b right
 NodeIsReadable t b (Node.Throw ball) = IsReadable t b ball
 NodeIsReadable t b (Node.Catch ball) = IsReadable t b ball
-NodeIsReadable t b (Node.Value value) = IsReadable t b value
+NodeIsReadable t b (Node.Value value) = ⊥
 NodeIsReadable t b (Node.Call p first) = AreReadable t b first (slice_index_or t.arities p 0)
 NodeIsReadable t b (Node.Apply p first slot) = AreReadable t b first (slice_index_or t.arities p 0) × (slot < b.count)
 NodeIsReadable t b (Node.Collect value into) = (value < b.count) × (into < b.count)
@@ -140,7 +141,9 @@ pub record IsValueHere (t : Tables) (steps : List Step) (b : Block) (place : ℕ
   pub stands : slice_get steps place ≡ Some step
   pub node : step.node ≡ Node.Value operand
   pub is_value : value ≡ operand_tree t operand
-  pub of_block : IsStepOf t b step
+  pub first : step.first_slot ≡ b.first
+  pub count : step.slots ≡ b.count
+  pub readable : IsReadable t b operand
 
 -- so many goals from a place on, one after the other, and behind them maybe a function's value, which counts as one more
 pub data AreHere (t : Tables) (steps : List Step) (b : Block) : ℕ → ℕ → GoalTrees → Option Tree → Bool → Type 0 where

@@ -25,7 +25,7 @@ pub mod Laid
 pub mod Numbers
 pub mod LaidRules
 pub mod Begins
+pub mod Gives
 pub mod Goes
 pub mod Turns
 pub mod Runs
-pub mod Gives

@@ -73,8 +73,8 @@ if_at place = Kind.Strict (Strict.If place)
 abbrev pub guard_at : ℕ → ℕ → Kind
 guard_at predicate rule = Kind.Strict (Strict.Guard predicate rule)
 
-abbrev pub apply_at : ℕ → Kind
-apply_at place = Kind.Strict (Strict.Apply place)
+abbrev pub apply_at : ℕ → ℕ → Kind
+apply_at place caller = Kind.Strict (Strict.Apply place caller)
 
 abbrev pub count_at : ℕ → ℕ → Kind
 count_at place n = Kind.Strict (Strict.Count place n)

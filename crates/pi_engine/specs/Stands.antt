@@ -24,7 +24,7 @@ use Rattle.pi_engine.specs.declared.run.Now.{Now}
 use Rattle.pi_engine.specs.Code.{Tables, tables_of, preds_of}
 use Rattle.pi_engine.specs.Blocks.{IsKept, IsOlder, brought_back}
 use Rattle.pi_engine.specs.Arenas.{Entry, ArenasView, entry_at, newest, slots_kept_by}
-use Rattle.pi_engine.specs.Here.{Block, Holds, HoldsArguments, IsHere, AreHere, AreBranches, valued, Ends, in_block, with_value, Here, LeftBehind, GoesOn}
+use Rattle.pi_engine.specs.Here.{Block, block_end, Holds, HoldsArguments, IsHere, AreHere, AreBranches, valued, Ends, in_block, with_value, Here, LeftBehind, GoesOn}
 use Rattle.pi_engine.specs.Shape.{open_level}
 use Rattle.pi_engine.specs.Configuration.{Called, Back as BackData, Choice, rules_left, branches_left, Strict as Level, once_level, not_level, if_level, guard_level, value_level, list_level, number_level, Frame, Entry as EntryData, choice, strict, catch_level, left, Now as NowData, going, failed, raising, Config, config, leaves_others}
 
@@ -139,7 +139,7 @@ ends_of l (Kind.Strict (Strict.Once place)) base = in_block (block_at l place ba
 ends_of l (Kind.Strict (Strict.Not place)) base = in_block (block_at l place base)
 ends_of l (Kind.Strict (Strict.If place)) base = in_block (block_at l place base)
 ends_of l (Kind.Strict (Strict.Guard p r)) base = in_block (rule_block l p r base)
-ends_of l (Kind.Strict (Strict.Apply place)) base = with_value base
+ends_of l (Kind.Strict (Strict.Apply place caller)) base = with_value base
 ends_of l (Kind.Strict (Strict.Collect place first)) base = in_block (block_at l place base)
 ends_of l (Kind.Strict (Strict.Count place n)) base = in_block (block_at l place base)
 ends_of l (Kind.Catch place) base = in_block (block_at l place base)
@@ -218,7 +218,7 @@ pub record GoalStands (l : Loaded) (h : Here) (base place frame : ℕ) (g : Goal
   pub leaves : LeftBehind None last behind.leaves k
 
 -- What an entry stands for, by its kind and what it comes back to. Of the values that are collected, those from `from` to
--- before `to` are the entry's.
+-- before `to` are the entry's. That of a function's call begins where the call's arguments do, behind the caller's block.
 pub data KindIs (l : Loaded) (collected : List Tree) (h : Here) (s : State) (base frame slots from to : ℕ) : Kind → EntryData → Type 0 where
   rules_kind : {p r : ℕ} {called : Called} {cs : List ClauseTree} {k : List Frame} →
       (stands : CallStands l h base frame p r called cs k) → slots ≤ base + stands.call.pred.arity → from ≡ to →
@@ -235,10 +235,10 @@ pub data KindIs (l : Loaded) (collected : List Tree) (h : Here) (s : State) (bas
   guard_kind : {p r : ℕ} {called : Called} {c : ClauseTree} {cs : List ClauseTree} {k : List Frame} →
       (stands : CallStands l h base frame p r called (c ∷ cs) k) → slots ≤ base + stands.call.pred.arity → from ≡ to →
       KindIs l collected h s base frame slots from to (Kind.Strict (Strict.Guard p r)) (strict (guard_level called c cs) (record { slots = []; state = s; frames = k }))
-  apply_kind : {place into : ℕ} {name : List ℕ} {args : List Tree} {ts : Trees} {e : Places} {k : List Frame} →
-      GoalStands l h base place frame (apply name args into) e k →
-      HoldsArguments h.terms h.slots (slots - length args) (length args) ts → length args ≤ slots → from ≡ to →
-      KindIs l collected h s base frame slots from to (Kind.Strict (Strict.Apply place)) (strict (value_level (comp name ts) into) (record { slots = e; state = s; frames = k }))
+  apply_kind : {place caller into : ℕ} {name : List ℕ} {args : List Tree} {ts : Trees} {e : Places} {k : List Frame} →
+      GoalStands l h caller place frame (apply name args into) e k →
+      HoldsArguments h.terms h.slots base (length args) ts → block_end (block_at l place caller) ≤ base → from ≡ to →
+      KindIs l collected h s base frame slots from to (Kind.Strict (Strict.Apply place caller)) (strict (value_level (comp name ts) into) (record { slots = e; state = s; frames = k }))
   collect_kind : {place value into : ℕ} {g : GoalTree} {e : Places} {k : List Frame} → GoalStands l h base place frame (collect g value into) e k →
       from ≤ to → to ≤ length collected →
       KindIs l collected h s base frame slots from to (Kind.Strict (Strict.Collect place from)) (strict (list_level value into (values_between collected from to)) (record { slots = e; state = s; frames = k }))

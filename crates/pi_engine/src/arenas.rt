@@ -34,8 +34,8 @@ pub enum Strict {
     If(u32),
     /// The condition of a rule, by the numbers of its predicate and of the rule.
     Guard(u32, u32),
-    /// A function call, by its place.
-    Apply(u32),
+    /// A function call, by its place, and where the caller's block begins. The entry's own block is the call's.
+    Apply(u32, usize),
     /// By its place, and where its values begin among those that are collected.
     Collect(u32, usize),
     /// By its place, and the number of answers so far.

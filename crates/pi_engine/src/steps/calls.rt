@@ -1,5 +1,5 @@
 //! Unification, and calls of predicates and functions.
-ghost use Rattle.std.specs.Prelude.{◌≡◌, ℕ, IfOk};
+ghost use Rattle.std.specs.Prelude.{◌≡◌, ℕ, Some, IfOk};
 ghost use Rattle.pi_engine.specs.declared.code.Node.TheVariants.{Unify};
 ghost use Rattle.pi_engine.specs.Arenas.{view_of};
 ghost use Rattle.pi_types.specs.Tree.{trees_of};
@@ -10,12 +10,14 @@ ghost use Rattle.pi_engine.specs.Code.{tables_of};
 ghost use Rattle.pi_engine.specs.Here.{Block, Holds, AreReadable};
 ghost use Rattle.pi_engine.specs.Evaluates.{slot_number, operand_trees, EvaluatesAll};
 ghost use Rattle.pi_engine.specs.Stands.{Loaded, Extend, world};
-ghost use Rattle.pi_engine.specs.Makes.{RunsGoal};
-ghost use Rattle.pi_engine.specs.Gives.{GivesValue};
+ghost use Rattle.pi_engine.specs.declared.arenas.Kind.{Kind};
+ghost use Rattle.pi_engine.specs.Makes.{RunsGoal, apply_at};
+ghost use Rattle.pi_engine.specs.Gives.{GivesValue, without_call};
 
 use super::choices::push_entry;
 use super::rules::{Call, try_rules};
 use crate::arenas::{Back, Kind, Strict, behind};
+use crate::blocks::BlocksMark;
 use crate::code::{Code, Node, Operand, Step};
 use crate::frames::Point;
 use crate::run::{Now, Run};
@@ -97,8 +99,8 @@ pub fn apply<S: StateStore>(
     let frame = run.arenas.frame_behind(point, step)?;
     let base = run.arenas.blocks.count();
     run.arenas.blocks.push_terms(&run.terms)?;
-    let kind = Kind::Strict(Strict::Apply(point.place));
-    push_entry(run, point.base, frame, kind)?;
+    let kind = Kind::Strict(Strict::Apply(point.place, point.base));
+    push_entry(run, base, frame, kind)?;
     run.arenas.open();
     let call = Call {
         predicate,
@@ -148,23 +150,68 @@ pub fn give_value<S: StateStore>(
         return Ok(());
     };
     let back = entry.back;
-    let Kind::Strict(Strict::Apply(place)) = back.kind else {
+    let Some(site) = call_site(back.kind) else {
         return Ok(());
     };
-    let called = code.step(place);
-    let Node::Apply(predicate, _, slot) = called.node else {
+    let called = code.step(site.place);
+    let Node::Apply(_, _, into) = called.node else {
         return Ok(());
     };
-    let next = run.arenas.leave(level, back);
-    let first = first_argument(back, code.predicate(predicate).arity);
-    run.arenas.blocks.truncate(first);
-    let slot = slot_at(next.first_slot(called), slot);
+    let next = run.arenas.leave(level, to_caller(back, site.base));
+    let slot = slot_at(next.first_slot(called), into);
     run.arenas.blocks.set(slot, term)?;
     run.now = Now::Going(next);
     Ok(())
 }
 
-/// The slot of the first argument of a function call.
-pub fn first_argument(back: Back, arity: u32) -> usize {
-    back.blocks.slots.saturating_sub(arity as usize)
+/// Where a function was called: the place of the goal, and where the caller's block begins.
+#[derive(Clone, Copy)]
+struct CallSite {
+    place: u32,
+    base: usize,
+}
+
+/// Where the function was called whose level is of this kind; None for all other kinds.
+fn call_site(kind: Kind) -> Option<CallSite>
+    ensures { (place caller : ℕ) → kind ≡ apply_at place caller → result ≡ Some (record { place = place; base = caller }) }
+{
+    match kind {
+        Kind::Strict(strict) => call_site_of_level(strict),
+        Kind::Rules(_, _) => None,
+        Kind::Branches(_, _) => None,
+        Kind::Catch(_) => None,
+        Kind::Exit => None,
+    }
+}
+
+fn call_site_of_level(strict: Strict) -> Option<CallSite>
+    ensures { (place caller : ℕ) → Kind.Strict strict ≡ apply_at place caller → result ≡ Some (record { place = place; base = caller }) }
+{
+    match strict {
+        Strict::Apply(place, base) => Some(CallSite { place, base }),
+        Strict::Once(_) => None,
+        Strict::Not(_) => None,
+        Strict::If(_) => None,
+        Strict::Guard(_, _) => None,
+        Strict::Collect(_, _) => None,
+        Strict::Count(_, _) => None,
+    }
+}
+
+/// What the level of a function call comes back to once it has its value: the caller's block, with nothing of the call's.
+fn to_caller(back: Back, caller: usize) -> Back
+    ensures { result ≡ without_call back caller }
+{
+    let blocks = BlocksMark {
+        slots: back.base,
+        trail: back.blocks.trail,
+    };
+    Back {
+        frames: back.frames,
+        blocks,
+        base: caller,
+        frame: back.frame,
+        level: back.level,
+        kind: back.kind,
+    }
 }

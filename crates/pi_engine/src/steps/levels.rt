@@ -78,7 +78,7 @@ fn answer_strict<S: StateStore>(
         }
         Strict::Collect(place, _) => add_value(code, run, back, place)?,
         Strict::Count(place, count) => count_answer(run, level, place, count)?,
-        Strict::Apply(_) => run.now = Now::Failing,
+        Strict::Apply(_, _) => run.now = Now::Failing,
     }
     Ok(())
 }
@@ -180,7 +180,7 @@ fn end_strict<S: StateStore>(
         Strict::Not(_) => end_not(run, back),
         Strict::If(place) => end_if(code, run, back, place),
         Strict::Guard(predicate, rule) => end_guard(code, run, back, predicate, rule)?,
-        Strict::Apply(place) => no_value(code, run, back, place)?,
+        Strict::Apply(place, _) => no_value(code, run, back, place)?,
         Strict::Collect(place, first) => give_list(code, run, back, place, first)?,
         Strict::Count(place, count) => give_count(code, run, back, place, count)?,
     }

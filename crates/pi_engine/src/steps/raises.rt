@@ -1,5 +1,5 @@
 //! Exceptions: what raises them, and what catches them.
-ghost use Rattle.std.specs.Prelude.{◌≡◌, Some, codes, IfOk, map, take, drop};
+ghost use Rattle.std.specs.Prelude.{◌≡◌, ℕ, Some, codes, IfOk, map, take, drop};
 ghost use Rattle.pi_engine.specs.Here.{HoldsArguments};
 ghost use Rattle.pi_engine.specs.Fails.{EndsLevel};
 ghost use Rattle.pi_types.specs.Tree.{Tree, Trees, atom};
@@ -83,7 +83,7 @@ pub fn no_value<S: StateStore>(
     back: Back,
     place: u32,
 ) -> Result<(), AllocError>
-    ensures { IfOk result (λ _. (l : Loaded) → l.code ≡ code.now → back.kind ≡ apply_at place → EndsLevel (world l (S.seen run.old.store) S.order (view_of run.old.arenas)) (world l (S.seen run.new.store) S.order (view_of run.new.arenas)) back run.new.now) }
+    ensures { IfOk result (λ _. (l : Loaded) (caller : ℕ) → l.code ≡ code.now → back.kind ≡ apply_at place caller → EndsLevel (world l (S.seen run.old.store) S.order (view_of run.old.arenas)) (world l (S.seen run.new.store) S.order (view_of run.new.arenas)) back run.new.now) }
 {
     let step = code.step(place);
     let Node::Apply(predicate, _, _) = step.node else {
@@ -94,8 +94,7 @@ pub fn no_value<S: StateStore>(
     };
     run.arenas.pop();
     let arity = code.predicate(predicate).arity;
-    let first = back.blocks.slots.saturating_sub(arity as usize);
-    take_block(&run.arenas.blocks, first, arity, &mut run.terms)?;
+    take_block(&run.arenas.blocks, back.base, arity, &mut run.terms)?;
     let call = run.store.put_comp(source.name.as_str(), &run.terms)?;
     let ball = unresolved(run, call)?;
     run.now = Now::Raising(ball);
@@ -209,7 +208,7 @@ fn collected_before_level(strict: Strict, count: usize) -> usize
         Strict::Not(_) => count,
         Strict::If(_) => count,
         Strict::Guard(_, _) => count,
-        Strict::Apply(_) => count,
+        Strict::Apply(_, _) => count,
         Strict::Count(_, _) => count,
     }
 }

@@ -48,7 +48,7 @@ returns g c = λ into node l is_code view goal gs e k es at stands.
     let fs = framed_run.frames in
     let d = c.push_terms.new.self in
     let push = c.in_ok-push_entry.ensures in
-    let kind : Kind = Kind.Strict (Strict.Apply p.place) in
+    let kind : Kind = Kind.Strict (Strict.Apply p.place p.base) in
     let same_blocks : framed_run.blocks ≡ b.blocks = c.frame_behind.ensures.blocks in
     let base : c.count-base.result ≡ length b.blocks.slots = c.count-base.ensures ∙ ap (λ r. length r.slots) same_blocks in
     let before : with_blocks (framed b fs) d ≡ with_blocks (view_of framed_run) d =
@@ -56,10 +56,11 @@ returns g c = λ into node l is_code view goal gs e k es at stands.
     let pushed_store = seen c.push_entry.new.run.store in
     let inner = view_of c.open.new.self in
     let n = c.in_ok-frame.frame in
-    let same_all : opened (pushed (with_blocks (framed b fs) d) push.mark (length d.slots) p.base n kind) ≡ inner =
-    ap (λ r. opened (pushed r push.mark (length d.slots) p.base n kind)) before ∙ ap opened (sym push.arenas)
+    let begins = length b.blocks.slots in
+    let same_all : opened (pushed (with_blocks (framed b fs) d) push.mark (length d.slots) begins n kind) ≡ inner =
+    ap (λ r. opened (pushed r push.mark (length d.slots) begins n kind)) before ∙ ap (λ m. opened (pushed (with_blocks (view_of framed_run) d) push.mark (length d.slots) m n kind)) (sym base) ∙ ap opened (sym push.arenas)
     ∙ arenas-opened (view_of c.push_entry.new.run.arenas) inner c.open.ensures.frames c.open.ensures.blocks c.open.ensures.entries c.open.ensures.level c.open.ensures.collected in
-    let there : ApplyRuns w (world l pushed_store order (opened (pushed (with_blocks (framed b fs) d) push.mark (length d.slots) p.base n kind))) q (length b.blocks.slots) predicate view goal gs e k es =
+    let there : ApplyRuns w (world l pushed_store order (opened (pushed (with_blocks (framed b fs) d) push.mark (length d.slots) begins n kind))) q begins predicate view goal gs e k es =
     apply-runs w u pushed_store push.mark b fs d c.take_arguments.new.run.terms.items p s q c.args.operands into n predicate view goal gs e k es it at stands readable evaluates c.in_ok-frame.ensures.ok
     (c.in_ok-push_terms.ensures.ok ∙ ap (λ r. r.slots ++ map (λ t. Some t) c.deref.result.now) same_blocks ∙ ap (λ rs. b.blocks.slots ++ map (λ r. Some r) rs) c.deref.ensures.value)
     (subst (λ r. KeepsBlocks r d) same_blocks c.push_terms.ensures.keeps) (c.push_terms.ensures.kept ∙ ap (λ r. r.kept) same_blocks) push.marks in

@@ -37,5 +37,5 @@ returns-in_ok-count_answer-in-Count g c = λ l is_code is named some. c.in_ok-co
 
 pub returns-in-Apply : goal.returns-in-Apply
 returns-in-Apply g c = λ l is_code is named some view names p e k es stands none last balanced.
-    absurd (no-value-answer (world l (g.S.StateStore.seen c.args.run.now.store) g.S.StateStore.order (view_of c.args.run.now.arenas)) c.args.level c.args.back (Kind.Strict (Strict.Apply c.in-Apply.field-0)) p e k es is
+    absurd (no-value-answer (world l (g.S.StateStore.seen c.args.run.now.store) g.S.StateStore.order (view_of c.args.run.now.arenas)) c.args.level c.args.back (Kind.Strict (Strict.Apply c.in-Apply.field-0 c.in-Apply.field-1)) p e k es is
     (named ∙ ap Kind.Strict c.in-Apply.is) (λ base. refl) stands none last)

@@ -23,7 +23,7 @@ pub returns-in_ok-end_guard-in-Guard : goal.returns-in_ok-end_guard-in-Guard
 returns-in_ok-end_guard-in-Guard g c = λ l is_code named. c.in_ok-end_guard-in-Guard.ensures l is_code (named ∙ ap Kind.Strict c.in-Guard.is)
 
 pub returns-in_ok-no_value-in-Apply : goal.returns-in_ok-no_value-in-Apply
-returns-in_ok-no_value-in-Apply g c = λ l is_code named. c.in_ok-no_value-in-Apply.ensures l is_code (named ∙ ap Kind.Strict c.in-Apply.is)
+returns-in_ok-no_value-in-Apply g c = λ l is_code named. c.in_ok-no_value-in-Apply.ensures l c.in-Apply.field-1 is_code (named ∙ ap Kind.Strict c.in-Apply.is)
 
 pub returns-in_ok-give_list-in-Collect : goal.returns-in_ok-give_list-in-Collect
 returns-in_ok-give_list-in-Collect g c = λ l is_code named. c.in_ok-give_list-in-Collect.ensures l is_code (named ∙ ap Kind.Strict c.in-Collect.is)

@@ -11,19 +11,19 @@ use Rattle.pi_engine.proofs.MissingStand.{no-other-node, source-missing, value-m
 use Rattle.pi_engine.proofs.steps.raises.no_value.Goals as goal
 
 pub returns-in_default : goal.returns-in_default
-returns-in_default g c = λ l is_code named s b es it.
+returns-in_default g c = λ l caller is_code named s b es it.
     let w = world l (g.S.StateStore.seen c.args.run.now.store) g.S.StateStore.order (view_of c.args.run.now.arenas) in
-    let node = no-other-node w c.args.back c.args.place c.args.code.now c.step-step.result s b es named is_code c.step-step.ensures.is it in
+    let node = no-other-node w c.args.back c.args.place caller c.args.code.now c.step-step.result s b es named is_code c.step-step.ensures.is it in
     absurd (c.in_default.not-Apply node.0 node.1 node.2 node.3)
 
 pub returns-in_default-source : goal.returns-in_default-source
-returns-in_default-source g c = λ l is_code named s b es it.
+returns-in_default-source g c = λ l caller is_code named s b es it.
     let w = world l (g.S.StateStore.seen c.args.run.now.store) g.S.StateStore.order (view_of c.args.run.now.arenas) in
-    let node = no-other-node w c.args.back c.args.place c.args.code.now c.step-step.result s b es named is_code c.step-step.ensures.is it in
+    let node = no-other-node w c.args.back c.args.place caller c.args.code.now c.step-step.result s b es named is_code c.step-step.ensures.is it in
     absurd (source-missing c.step-step.result.node node.0 node.1 node.2 c.in-Apply.predicate c.in-Apply.field-1 c.in-Apply.field-2 (preds_of c.args.code.now) node.3 c.in-Apply.is node.4 (sym c.source.ensures ∙ ap option_copied c.in_default-source.is))
 
 pub returns : goal.returns
-returns g c = λ l is_code named s b es it.
+returns g c = λ l caller is_code named s b es it.
     let seen = g.S.StateStore.seen in
     let v = seen c.args.run.now.store in
     let u = seen c.put_comp.new.self in
@@ -37,7 +37,7 @@ returns g c = λ l is_code named s b es it.
     let puts : (ts : Trees) → AreTerms v rs ts → IsTerm u c.in_ok-call.call (comp source.name ts) =
     subst (λ qs. (ts : Trees) → AreTerms v qs ts → IsTerm u c.in_ok-call.call (comp source.name ts)) c.deref.ensures.value
     (subst (λ m. (ts : Trees) → AreTerms v c.deref.result.now ts → IsTerm u c.in_ok-call.call (comp m ts)) c.as_str.ensures c.in_ok-call.ensures.ok) in
-    value-missing (world l v g.S.StateStore.order a) d u c.args.back c.args.place n c.in-Apply.field-1 c.in-Apply.field-2 arity c.saturating_sub-first.result c.args.code.now c.step-step.result source rs c.in_ok-call.call c.in_ok-ball.ball s b es
+    value-missing (world l v g.S.StateStore.order a) d u c.args.back c.args.place caller n c.in-Apply.field-1 c.in-Apply.field-2 arity c.args.code.now c.step-step.result source rs c.in_ok-call.call c.in_ok-ball.ball s b es
     named is_code c.step-step.ensures.is c.in-Apply.is at_source it
     (drops-newest a d c.pop.ensures.entries c.pop.ensures.kept c.pop.ensures.slots c.pop.ensures.keeps c.pop.ensures.collected c.pop.ensures.frames c.pop.ensures.level)
-    (λ (q : Predicate) found. ap (λ (p : Predicate). p.arity) (c.predicate-arity.ensures q found)) c.saturating_sub-first.ensures c.in_ok-take_block.ensures c.in_ok-call.ensures.stays puts c.in_ok-ball.ensures
+    (λ (q : Predicate) found. ap (λ (p : Predicate). p.arity) (c.predicate-arity.ensures q found)) c.in_ok-take_block.ensures c.in_ok-call.ensures.stays puts c.in_ok-ball.ensures
