@@ -50,6 +50,11 @@ pub record NextComes {M : Type 0} (v : View) (names : List NameSlot) (mode : Mod
   pub spent : IsRunning before → IsSpent mode new now
   pub fits : FitsMode mode before → FitsMode mode now
 
+-- a run that has an answer goes on
+abbrev pub RunsAfter : Outcome → Now → Type 0
+RunsAfter Outcome.More now = ⊤
+RunsAfter (Outcome.Answered a) now = IsRunning now
+
 -- the end of a run, as it is answered
 abbrev pub IsAnswered : RunEnd → Happening → Type 0
 IsAnswered RunEnd.Done happening = happening ≡ Happening.Done
@@ -58,9 +63,9 @@ IsAnswered RunEnd.StepsSpent happening = happening ≡ Happening.StepsSpent
 IsAnswered RunEnd.WorkSpent happening = happening ≡ Happening.WorkSpent
 IsAnswered RunEnd.Memory happening = happening ≡ Happening.Memory
 
--- what happens is what a run's end is answered by from then on
+-- what happens is what a run's end is answered by from then on; behind an answer it has not ended
 abbrev pub Lasts : Happening → Now → Type 0
-Lasts (Happening.Answer a) now = ⊤
+Lasts (Happening.Answer a) now = IsRunning now
 Lasts (Happening.Out text) now = ⊥
 Lasts (Happening.NeedPlan call) now = ⊥
 Lasts Happening.Done now = now ≡ Now.Ended RunEnd.Done

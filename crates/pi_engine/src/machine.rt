@@ -13,7 +13,7 @@ ghost use Rattle.pi_engine.specs.Built.{AreOfRules};
 ghost use Rattle.pi_engine.specs.Arenas.{view_of};
 ghost use Rattle.pi_engine.specs.Begins.{Begins};
 ghost use Rattle.pi_engine.specs.Runs.{machine_view, RunsTo, Happens};
-ghost use Rattle.pi_engine.specs.Turns.{IsRepeated, Lasts};
+ghost use Rattle.pi_engine.specs.Turns.{IsRunning, IsRepeated, Lasts};
 
 use crate::begin::begin;
 use crate::code::Code;
@@ -45,6 +45,7 @@ impl<'p, S: StateStore> Machine<'p, S> {
         ensures begins { IfOk result (λ machine. (S.seen store).now.state ≡ empty_state → IsSoundQuery (program_tree core.now) (query_tree query) → Begins S.order machine.code (S.seen machine.run.store) (view_of machine.run.arenas) machine.run.now (program_tree core.now) (query_tree query)) }
         ensures runs { IfOk result (λ machine. (S.seen store).now.state ≡ empty_state → IsSoundQuery (program_tree core.now) (query_tree query) → AreOfRules (program_tree core.now ++ (query_tree query).helpers) → (v : View) → RunsTo v (machine_view S.seen S.order machine) (program_tree core.now) (query_tree query) []) }
         ensures mode { IfOk result (λ machine. machine.mode ≡ mode) }
+        ensures running { IfOk result (λ machine. IsRunning machine.run.now) }
         ensures err { IfErr result (λ given. Stays (S.seen store) (S.seen given)) }
     {
         let mut run = Run::new(alloc, store);

@@ -12,7 +12,7 @@ ghost use Rattle.pi_engine.specs.Answers.{AreNames};
 ghost use Rattle.pi_engine.specs.Stands.{Loaded, world};
 ghost use Rattle.pi_engine.specs.Makes.{GoesFrom};
 ghost use Rattle.pi_engine.specs.Goes.{IsIn, IsSpent, PointIsDone};
-ghost use Rattle.pi_engine.specs.Turns.{StepIs, NextComes, IsRunning, IsAnswered, IsRepeated, Lasts, IsRaised};
+ghost use Rattle.pi_engine.specs.Turns.{StepIs, NextComes, IsRunning, RunsAfter, IsAnswered, IsRepeated, Lasts, IsRaised};
 
 use crate::code::Code;
 use crate::frames::Point;
@@ -80,6 +80,7 @@ fn step<S: StateStore>(
     budget: &mut Budget,
 ) -> Result<Outcome, AllocError>
     ensures counts { Counts budget.old budget.new }
+    ensures answered { IfOk result (λ outcome. RunsAfter outcome run.new.now) }
     ensures is { IfOk result (λ outcome. IsRunning run.old.now → (l : Loaded) → l.code ≡ code.now → AreNames l.query_slots names.now → (v : View) (c : Config) → IsIn v names.now (world l (S.seen run.old.store) S.order (view_of run.old.arenas)) run.old.now c → StepIs v names.now mode budget.old budget.new (world l (S.seen run.new.store) S.order (view_of run.new.arenas)) run.new.now c outcome) }
 {
     match &run.now {
@@ -117,7 +118,8 @@ fn go_on<S: StateStore>(
     run: &mut Run<S>,
     point: Point,
 ) -> Result<Outcome, AllocError>
-    ensures { IfOk result (λ outcome. (l : Loaded) → l.code ≡ code.now → AreNames l.query_slots names.now → (v : View) (c : Config) → PointIsDone (world l (S.seen run.old.store) S.order (view_of run.old.arenas)) point c → (mode : Mode) (b : Budget) → StepIs v names.now mode b b (world l (S.seen run.new.store) S.order (view_of run.new.arenas)) run.new.now c outcome) }
+    ensures answered { IfOk result (λ outcome. RunsAfter outcome run.new.now) }
+    ensures is { IfOk result (λ outcome. (l : Loaded) → l.code ≡ code.now → AreNames l.query_slots names.now → (v : View) (c : Config) → PointIsDone (world l (S.seen run.old.store) S.order (view_of run.old.arenas)) point c → (mode : Mode) (b : Budget) → StepIs v names.now mode b b (world l (S.seen run.new.store) S.order (view_of run.new.arenas)) run.new.now c outcome) }
 {
     if let Some(next) = run.arenas.frames.get(point.frame) {
         follow(run, point, next);

@@ -2,7 +2,7 @@ use Rattle.std.proofs.Common.{◌≡◌, ◌∙◌, refl, sym, ap, subst, arith}
 use Rattle.pi_engine.specs.Arenas.{view_of}
 use Rattle.pi_engine.specs.Stands.{world}
 use Rattle.pi_engine.proofs.BudgetLemmas.{counts_none, counts_then}
-use Rattle.pi_engine.specs.Turns.{StepIs}
+use Rattle.pi_engine.specs.Turns.{StepIs, RunsAfter}
 use Rattle.pi_engine.proofs.NextTurns.{running-of, no-turns, one-turn, end-comes, answer-comes}
 use Rattle.pi_engine.proofs.turns.next_happening.Goals as goal
 
@@ -56,5 +56,5 @@ returns-in-Answered g c =
           (λ at. subst (StepIs v c.args.names.now c.args.mode c.loop-turn.budget c.step.new.budget (world l (g.S.StateStore.seen next.store) g.S.StateStore.order (view_of next.arenas)) next.now it.goes.comes) c.in-Answered.is
           (c.in-Ok-step.ensures.is (running-of here.now c.in_default.not-Ended) l is_code are v it.goes.comes at)));
       repeats = λ e ended. absurd (c.in_default.not-Ended e (ap (λ r. r.now) (before.still e ended).0 ∙ ended));
-      lasts = tt;
+      lasts = subst (λ o. RunsAfter o next.now) c.in-Answered.is c.in-Ok-step.ensures.answered;
     }

@@ -12,7 +12,7 @@ returns-then-point-eq0-clause-is g c = λ running l is_code are v d is.
     let run = c.args.run.now in
     let w : World _ = world l (g.S.StateStore.seen run.store) g.S.StateStore.order (view_of run.arenas) in
     let stands : Stands w (Now.Going c.in-Going.at) d = subst (λ n. IsAt v c.args.names.now w n d) c.in-Going.is is.is in
-    c.in_ok-outcome-in-Going.ensures l is_code are v d (record { none = c.if-point-eq0.true; stands = stands; good = is.good; rules = is.rules }) c.args.mode c.args.budget.now
+    c.in_ok-outcome-in-Going.ensures.is l is_code are v d (record { none = c.if-point-eq0.true; stands = stands; good = is.good; rules = is.rules }) c.args.mode c.args.budget.now
 
 pub returns-in_ok-run_goal-in-Going-clause-is : goal.returns-in_ok-run_goal-in-Going-clause-is
 returns-in_ok-run_goal-in-Going-clause-is g c = λ running l is_code are v d is.
