@@ -31,7 +31,7 @@ use Rattle.pi_engine.specs.Next.{some_ticks}
 use Rattle.pi_engine.specs.Here.{Block, AreHere, none_here, value_here, last_here, more_here}
 use Rattle.pi_engine.specs.Stands.{IsNumberOf, HasNumber, IsCodeOf, tables_in, World, steps_of, NowIs, going_now, failing_now, raising_now, StackStands, Stands, StandsGoing, GoingIs}
 use Rattle.pi_engine.specs.Makes.{StandsAfter, RunsGoal}
-use Rattle.pi_engine.specs.Goes.{counted, spent, Ticks, TicksUnless, IsAt, Goes, AtGoal, GoalGoes, IsSilent}
+use Rattle.pi_engine.specs.Goes.{counted, spent, Ticks, TicksUnless, HasNone, IsAt, Goes, IsSpent, TicksOn, AtGoal, GoalGoes, IsSilent}
 use Rattle.pi_engine.proofs.FramesStand.{going-of, going-size}
 use Rattle.pi_engine.proofs.EqualStands.{kind-of-node, going-behind}
 use Rattle.pi_engine.specs.declared.code.Predicate.{Predicate}
@@ -51,7 +51,7 @@ ended-not w now e x X same (going_now is) = absurd cc
 ended-not w now e x X same failing_now = absurd cc
 ended-not w now e x X same raising_now = absurd cc
 
-no-end : {M : Type 0} (w : World M) (e : RunEnd) (x : NowData) (X : Type 0) → NowIs w (Now.Ended e) x → X
+pub no-end : {M : Type 0} (w : World M) (e : RunEnd) (x : NowData) (X : Type 0) → NowIs w (Now.Ended e) x → X
 no-end w e x X is = ended-not w (Now.Ended e) e x X refl is
 
 pub is-at : {M : Type 0} (v : View) (names : List NameSlot) (w : World M) (now : Now) (c : Config) → Stands w now c → IsAt v names w now c
@@ -59,6 +59,27 @@ is-at v names w (Now.Going p) c stands = stands
 is-at v names w Now.Failing c stands = stands
 is-at v names w (Now.Raising ball) c stands = stands
 is-at v names w (Now.Ended e) c stands = no-end w e c.now (IsAt v names w (Now.Ended e) c) stands.runs
+
+-- ---- Ticks that are counted, and ends before one
+
+pub none-counted : (mode : Mode) (old new : Budget) → new ≡ old → counted mode old new ≡ 0
+none-counted Mode.Top old new same = omega (arith, ap (λ b. b.ticks) same)
+none-counted Mode.Inner old new same = omega (arith, ap (λ b. b.work.goals) same)
+
+-- a run that stands for a configuration has not ended
+pub unspent : {M : Type 0} (w : World M) (mode : Mode) (b : Budget) (now : Now) (c : Config) → Stands w now c → IsSpent mode b now
+unspent w mode b (Now.Going p) c stands = tt
+unspent w mode b Now.Failing c stands = tt
+unspent w mode b (Now.Raising ball) c stands = tt
+unspent w mode b (Now.Ended e) c stands = no-end w e c.now (IsSpent mode b (Now.Ended e)) stands.runs
+
+spent-is : (mode : Mode) (old new : Budget) (now : Now) → new ≡ old → now ≡ Now.Ended (spent mode) → HasNone mode old → IsSpent mode new now
+spent-is Mode.Top old new now same ended none = subst (IsSpent Mode.Top new) (sym ended) (refl, subst (HasNone Mode.Top) (sym same) none)
+spent-is Mode.Inner old new now same ended none = subst (IsSpent Mode.Inner new) (sym ended) (refl, subst (HasNone Mode.Inner) (sym same) none)
+
+-- no Tick is counted
+pub silent-ticks : {M : Type 0} (v : View) (names : List NameSlot) (mode : Mode) (b : Budget) (after : World M) (now : Now) (c : Config) → Goes v names [] after now c → IsSpent mode b now → TicksOn v names mode b b after now c
+silent-ticks v names mode b after now c goes is = record { goes = subst (λ k. Goes v names (some_ticks k) after now c) (sym (none-counted mode b b refl)) goes; spent = is }
 
 -- ---- a goal at a point
 
@@ -188,16 +209,18 @@ not-silent : (n : Node) (o : Operand) → IsSilent n → n ≢ Node.Value o
 not-silent n o silent same = subst IsSilent same silent
 
 -- a silent goal is run
-pub runs-silent : {M : Type 0} (before after : World M) (p : Point) (s : Step) (now : Now) → before.loaded ≡ after.loaded → IsSilent s.node → RunsGoal before after p s now → GoalGoes 0 before after p s now
+pub runs-silent : {M : Type 0} (before after : World M) (p : Point) (s : Step) (now : Now) (mode : Mode) (b : Budget) → before.loaded ≡ after.loaded → IsSilent s.node → RunsGoal before after p s now → GoalGoes mode b b before after p s now
 unfolding step
-runs-silent before after p s now same silent runs v names c is =
+runs-silent before after p s now mode b same silent runs v names c is =
     let it : GoalThere before p c = goal-there before p s c is (λ o. not-silent s.node o silent) in
     let preds : List PredTree = before.loaded.preds in
     let x = silent-step v preds (tables_in before.loaded) s.node it.g it.gs it.e before.store.now.state it.k c.stack silent
     (kind-of-node before p s it.g it.gs it.e it.k s.node is.at (going-of before p _ it.e before.store.now.state it.k it.stands.runs) refl) in
     let stands : Stands after now x.0 = stands-silent after now _ x.0 x.1 (runs v it.g it.gs it.e it.k c.stack is.at it.stands) in
-    silent-goes v names after now c x.0 (subst (λ l. AreOfRules l.preds) same is.rules) is.good
-    (ap (λ l. step v l.preds names c) (sym same) ∙ ap (step v preds names) it.is ∙ x.1) (is-at v names after now x.0 stands)
+    silent-ticks v names mode b after now c
+    (silent-goes v names after now c x.0 (subst (λ l. AreOfRules l.preds) same is.rules) is.good
+    (ap (λ l. step v l.preds names c) (sym same) ∙ ap (step v preds names) it.is ∙ x.1) (is-at v names after now x.0 stands))
+    (unspent after mode b now x.0 stands)
 
 -- ---- Ticks
 
@@ -218,10 +241,6 @@ ticks-out v names Mode.Top after now c d rules good is ended =
     record { comes = c; leads = leads-none v after.loaded.preds names c; good = good; is = subst (λ n. IsAt v names after n c) (sym ended) (step-at_tick v after.loaded.preds names c d rules good is) }
 ticks-out v names Mode.Inner after now c d rules good is ended =
     record { comes = c; leads = leads-none v after.loaded.preds names c; good = good; is = subst (λ n. IsAt v names after n c) (sym ended) (step-at_tick v after.loaded.preds names c d rules good is) }
-
-none-counted : (mode : Mode) (old new : Budget) → new ≡ old → counted mode old new ≡ 0
-none-counted Mode.Top old new same = omega (arith, ap (λ b. b.ticks) same)
-none-counted Mode.Inner old new same = omega (arith, ap (λ b. b.work.goals) same)
 
 -- a `Tick` is counted and passed
 tick-of : (g : GoalTree) → GoalKind.Tick ≡ kind_of g → g ≡ tick
@@ -251,21 +270,27 @@ tick-form w p s c v names is node it =
     ∙ ap (λ g. goal_step v w.loaded.preds g it.gs it.e w.store.now.state it.k c.stack)
     (tick-of it.g (kind-of-node w p s it.g it.gs it.e it.k Node.Tick is.at (going-of w p _ it.e w.store.now.state it.k it.stands.runs) node))
 
-pub tick-passes : {M : Type 0} (w : World M) (p q : Point) (s : Step) (mode : Mode) (old new : Budget) → s.node ≡ Node.Tick → counted mode old new ≡ 1 → (p.place + s.size < 2 ^ 32 → q ≡ point_behind p s) → GoalGoes (counted mode old new) w w p s (Now.Going q)
+pub tick-passes : {M : Type 0} (w : World M) (p q : Point) (s : Step) (mode : Mode) (old new : Budget) → s.node ≡ Node.Tick → counted mode old new ≡ 1 → (p.place + s.size < 2 ^ 32 → q ≡ point_behind p s) → GoalGoes mode old new w w p s (Now.Going q)
 tick-passes w p q s mode old new node one next v names c is =
     let it : GoalThere w p c = goal-there w p s c is (λ o. no-value s.node Node.Tick o node (λ h. absurd cc)) in
     let runs : GoingIs w p (goal it.g it.gs) it.e it.k = going-of w p _ it.e w.store.now.state it.k it.stands.runs in
     let size : (s.size ≡ nodes it.g) × (p.place + nodes it.g < 2 ^ 32) = going-size w p s it.g it.gs it.e it.k is.at runs in
-    subst (λ k. Goes v names (some_ticks k) w (Now.Going q) c) (sym one)
-    (ticks-on v names w (Now.Going q) c (config (going it.gs it.e w.store.now.state it.k) c.stack) is.rules is.good (tick-form w p s c v names is node it)
-    (subst (λ r. Stands w (Now.Going r) (config (going it.gs it.e w.store.now.state it.k) c.stack)) (sym (next (omega (arith, size.0, size.1))))
-    (record { entries = it.stands.entries; runs = going_now (going-behind w p s it.g it.gs it.e it.k is.at runs) })))
+    record {
+      goes = subst (λ k. Goes v names (some_ticks k) w (Now.Going q) c) (sym one)
+          (ticks-on v names w (Now.Going q) c (config (going it.gs it.e w.store.now.state it.k) c.stack) is.rules is.good (tick-form w p s c v names is node it)
+          (subst (λ r. Stands w (Now.Going r) (config (going it.gs it.e w.store.now.state it.k) c.stack)) (sym (next (omega (arith, size.0, size.1))))
+          (record { entries = it.stands.entries; runs = going_now (going-behind w p s it.g it.gs it.e it.k is.at runs) })));
+      spent = tt;
+    }
 
-pub tick-refused : {M : Type 0} (w : World M) (p : Point) (s : Step) (mode : Mode) (old new : Budget) (now : Now) → s.node ≡ Node.Tick → new ≡ old → now ≡ Now.Ended (spent mode) → GoalGoes (counted mode old new) w w p s now
-tick-refused w p s mode old new now node same ended v names c is =
+pub tick-refused : {M : Type 0} (w : World M) (p : Point) (s : Step) (mode : Mode) (old new : Budget) (now : Now) → s.node ≡ Node.Tick → new ≡ old → now ≡ Now.Ended (spent mode) → HasNone mode old → GoalGoes mode old new w w p s now
+tick-refused w p s mode old new now node same ended none v names c is =
     let it : GoalThere w p c = goal-there w p s c is (λ o. no-value s.node Node.Tick o node (λ h. absurd cc)) in
-    subst (λ k. Goes v names (some_ticks k) w now c) (sym (none-counted mode old new same))
-    (ticks-out v names mode w now c (config (going it.gs it.e w.store.now.state it.k) c.stack) is.rules is.good (tick-form w p s c v names is node it) ended)
+    record {
+      goes = subst (λ k. Goes v names (some_ticks k) w now c) (sym (none-counted mode old new same))
+          (ticks-out v names mode w now c (config (going it.gs it.e w.store.now.state it.k) c.stack) is.rules is.good (tick-form w p s c v names is node it) ended);
+      spent = spent-is mode old new now same ended none;
+    }
 
 -- ---- calls, by what their step comes to
 
@@ -280,22 +305,31 @@ unfolding step
 by-goal w p c v names it = ap (step v w.loaded.preds names) it.is
 
 pub call-counted : {M : Type 0} (w after : World M) (p : Point) (s : Step) (now : Now) (c : Config) (v : View) (names : List NameSlot) (quiet : Bool) (mode : Mode) (old new : Budget) (x y : Now) → w.loaded ≡ after.loaded → AtGoal w p s c → CallThere w p c v names quiet →
-    RunsGoal w after p s now → TicksUnless quiet mode old new x y true → Goes v names (some_ticks (counted mode old new)) after now c
+    RunsGoal w after p s now → TicksUnless quiet mode old new x y true → TicksOn v names mode old new after now c
 call-counted w after p s now c v names true mode old new x y same is there_it runs ticks =
     let stands : Stands after now there_it.next = subst (StandsAfter after now) there_it.comes (runs v there_it.it.g there_it.it.gs there_it.it.e there_it.it.k c.stack is.at there_it.it.stands) in
-    subst (λ k. Goes v names (some_ticks k) after now c) (sym (none-counted mode old new ticks.1))
-    (quiet-on v names after now c there_it.next (subst (λ l. AreOfRules l.preds) same is.rules) is.good (ap (λ l. step v l.preds names c) (sym same) ∙ by-goal w p c v names there_it.it ∙ there_it.comes) stands)
+    record {
+      goes = subst (λ k. Goes v names (some_ticks k) after now c) (sym (none-counted mode old new ticks.1))
+          (quiet-on v names after now c there_it.next (subst (λ l. AreOfRules l.preds) same is.rules) is.good (ap (λ l. step v l.preds names c) (sym same) ∙ by-goal w p c v names there_it.it ∙ there_it.comes) stands);
+      spent = unspent after mode new now there_it.next stands;
+    }
 call-counted w after p s now c v names false mode old new x y same is there_it runs ticks =
     let stands : Stands after now there_it.next = subst (StandsAfter after now) there_it.comes (runs v there_it.it.g there_it.it.gs there_it.it.e there_it.it.k c.stack is.at there_it.it.stands) in
-    subst (λ k. Goes v names (some_ticks k) after now c) (sym ticks.0)
-    (ticks-on v names after now c there_it.next (subst (λ l. AreOfRules l.preds) same is.rules) is.good (ap (λ l. step v l.preds names c) (sym same) ∙ by-goal w p c v names there_it.it ∙ there_it.comes) stands)
+    record {
+      goes = subst (λ k. Goes v names (some_ticks k) after now c) (sym ticks.0)
+          (ticks-on v names after now c there_it.next (subst (λ l. AreOfRules l.preds) same is.rules) is.good (ap (λ l. step v l.preds names c) (sym same) ∙ by-goal w p c v names there_it.it ∙ there_it.comes) stands);
+      spent = unspent after mode new now there_it.next stands;
+    }
 
 pub call-refused : {M : Type 0} (w : World M) (p : Point) (s : Step) (now : Now) (c : Config) (v : View) (names : List NameSlot) (quiet : Bool) (mode : Mode) (old new : Budget) (x : Now) → AtGoal w p s c → CallThere w p c v names quiet →
-    TicksUnless quiet mode old new x now false → Goes v names (some_ticks (counted mode old new)) w now c
+    TicksUnless quiet mode old new x now false → TicksOn v names mode old new w now c
 call-refused w p s now c v names true mode old new x is there_it ticks = absurd cc
 call-refused w p s now c v names false mode old new x is there_it ticks =
-    subst (λ k. Goes v names (some_ticks k) w now c) (sym (none-counted mode old new ticks.0))
-    (ticks-out v names mode w now c there_it.next is.rules is.good (by-goal w p c v names there_it.it ∙ there_it.comes) ticks.1)
+    record {
+      goes = subst (λ k. Goes v names (some_ticks k) w now c) (sym (none-counted mode old new ticks.0))
+          (ticks-out v names mode w now c there_it.next is.rules is.good (by-goal w p c v names there_it.it ∙ there_it.comes) ticks.1);
+      spent = spent-is mode old new now ticks.0 ticks.1 ticks.2;
+    }
 
 pub call-there : {M : Type 0} (w : World M) (p : Point) (s : Step) (c : Config) (v : View) (names : List NameSlot) (q operands : ℕ) (predicate : Predicate) → AtGoal w p s c → s.node ≡ Node.Call q operands → IsFound w q predicate → CallThere w p c v names predicate.is_quiet
 call-there w p s c v names q operands predicate is node known =

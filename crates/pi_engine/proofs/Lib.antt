@@ -105,3 +105,7 @@ pub mod LaidTests
 pub mod KnownGoals
 pub mod MissingStand
 pub mod FailsStand
+pub mod PointsDone
+pub mod TurnsGo
+pub mod NextTurns
+pub mod RunsTold

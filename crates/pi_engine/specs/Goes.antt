@@ -63,6 +63,23 @@ pub record Goes {M : Type 0} (v : View) (names : List NameSlot) (events : List (
   pub good : IsGood comes
   pub is : IsAt v names after now comes
 
+-- where a run has ended before a Tick, the budget that this machine counts in has none left
+abbrev pub IsSpent : Mode → Budget → Now → Type 0
+IsSpent mode b (Now.Ended RunEnd.StepsSpent) = (mode ≡ Mode.Top) × HasNone mode b
+IsSpent mode b (Now.Ended RunEnd.WorkSpent) = (mode ≡ Mode.Inner) × HasNone mode b
+IsSpent mode b now = ⊤
+
+-- from a configuration on, with the Ticks that are counted
+pub record TicksOn {M : Type 0} (v : View) (names : List NameSlot) (mode : Mode) (old new : Budget) (after : World M) (now : Now) (c : Config) : Type 0 where
+  pub goes : Goes v names (some_ticks (counted mode old new)) after now c
+  pub spent : IsSpent mode new now
+
+-- a run at a configuration in shape, of a program of rules
+pub record IsIn {M : Type 0} (v : View) (names : List NameSlot) (w : World M) (now : Now) (c : Config) : Type 0 where
+  pub is : IsAt v names w now c
+  pub good : IsGood c
+  pub rules : AreOfRules w.loaded.preds
+
 -- a run at a point that has a goal, with this step
 pub record AtGoal {M : Type 0} (w : World M) (p : Point) (s : Step) (c : Config) : Type 0 where
   pub at : slice_get (steps_of w.loaded) p.place ≡ Some s
@@ -71,9 +88,21 @@ pub record AtGoal {M : Type 0} (w : World M) (p : Point) (s : Step) (c : Config)
   pub good : IsGood c
   pub rules : AreOfRules w.loaded.preds
 
--- from it on, with so many Ticks
-abbrev pub GoalGoes : {M : Type 0} → ℕ → World M → World M → Point → Step → Now → Type 0
-GoalGoes k before after p s now = (v : View) (names : List NameSlot) (c : Config) → AtGoal before p s c → Goes v names (some_ticks k) after now c
+-- from it on, with the Ticks that are counted
+abbrev pub GoalGoes : {M : Type 0} → Mode → Budget → Budget → World M → World M → Point → Step → Now → Type 0
+GoalGoes mode old new before after p s now = (v : View) (names : List NameSlot) (c : Config) → AtGoal before p s c → TicksOn v names mode old new after now c
+
+-- the same of a run at a point that has goals, or a function's value
+abbrev pub PointGoes : {M : Type 0} → Mode → Budget → Budget → World M → World M → Point → Now → Type 0
+PointGoes mode old new before after p now =
+    (v : View) (names : List NameSlot) (c : Config) → 0 < p.count → Stands before (Now.Going p) c → IsGood c → AreOfRules before.loaded.preds → TicksOn v names mode old new after now c
+
+-- a run at a point whose goals are done
+pub record PointIsDone {M : Type 0} (w : World M) (p : Point) (c : Config) : Type 0 where
+  pub none : p.count ≡ 0
+  pub stands : Stands w (Now.Going p) c
+  pub good : IsGood c
+  pub rules : AreOfRules w.loaded.preds
 
 -- goals that count no Tick: neither Ticks themselves nor calls, nor a value
 abbrev pub IsSilent : Node → Type 0

@@ -28,3 +28,5 @@ pub mod LaidRules
 pub mod Begins
 pub mod Gives
 pub mod Goes
+pub mod Turns
+pub mod Runs

@@ -7,6 +7,7 @@ ghost use Rattle.pi_types.specs.Sound.{IsSoundQuery};
 ghost use Rattle.pi_types.specs.declared.core_program.NameSlot.{NameSlot};
 ghost use Rattle.pi_engine.specs.Arenas.{view_of};
 ghost use Rattle.pi_engine.specs.Begins.{asked, no_arenas, Begins};
+ghost use Rattle.pi_engine.specs.Turns.{IsRunning};
 
 use crate::build::build;
 use crate::code::Code;
@@ -25,6 +26,7 @@ pub fn begin<'p, S: StateStore>(
     run: &mut Run<S>,
 ) -> Result<Code<'p>, AllocError>
     ensures keeps { Keeps (S.seen run.old.store) (S.seen run.new.store) }
+    ensures running { IfOk result (λ _. IsRunning run.new.now) }
     ensures begins { IfOk result (λ code. (names : List NameSlot) → (S.seen run.old.store).now.state ≡ empty_state → view_of run.old.arenas ≡ no_arenas → IsSoundQuery (program_tree core.now) (asked goal.now helpers names slots) → Begins S.order code (S.seen run.new.store) (view_of run.new.arenas) run.new.now (program_tree core.now) (asked goal.now helpers names slots)) }
 {
     let (code, place) = build(alloc, core, helpers, goal, slots, &mut run.store)?;

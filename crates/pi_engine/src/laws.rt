@@ -1,5 +1,6 @@
 //! Laws of the machine as data: what its steps do, and how a whole run stands to the meaning of its query.
 ghost use Rattle.pi_engine.specs.Leads.{RemainingDoesMore, StartsWithTheMeaning, LeadsOn, DepthSuffices, EndedRunIsAll, RunBeforeTickBegins, EndedRunIsTheRun, SpentRunIsTheRun, RunIsAPrefix};
+ghost use Rattle.pi_engine.specs.Runs.{RunsBegin, TicksAdd};
 ghost use Rattle.pi_engine.specs.StepLaws.{StepsAreRight, StepsStayGood, StepsGetLighter, LevelsLeaveNothing};
 
 /// What remains of a run before a step is the step's Tick or answer and what remains after it. A step keeps what is true of
@@ -28,4 +29,10 @@ pub fn runs_stop()
     ensures ended_run { EndedRunIsTheRun }
     ensures spent_run { SpentRunIsTheRun }
     ensures prefix { RunIsAPrefix }
+{}
+
+/// The events of a machine's run begin each run of its query.
+pub fn machines_run<M>()
+    ensures begin { RunsBegin M }
+    ensures ticks { TicksAdd }
 {}

@@ -13,6 +13,7 @@ mod machine;
 mod run;
 mod steps;
 mod ticks;
+mod turns;
 mod values;
 
 pub use happening::{Budget, Happening, Mode, PlanCall};

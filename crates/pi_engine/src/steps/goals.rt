@@ -5,7 +5,7 @@ ghost use Rattle.pi_engine.specs.Budget.{Counts};
 ghost use Rattle.pi_engine.specs.Arenas.{view_of};
 ghost use Rattle.pi_engine.specs.Stands.{Loaded, world};
 ghost use Rattle.pi_engine.specs.Makes.{RunsGoal, level_kind};
-ghost use Rattle.pi_engine.specs.Goes.{counted, GoalGoes, IsSilent};
+ghost use Rattle.pi_engine.specs.Goes.{GoalGoes, PointGoes, IsSilent};
 
 use super::calls::{apply, call, give_value, make_equal};
 use super::choices::{enter_alternatives, enter_sequence};
@@ -30,7 +30,8 @@ pub fn run_goal<S: StateStore>(
     point: Point,
     budget: &mut Budget,
 ) -> Result<(), AllocError>
-    ensures { Counts budget.old budget.new }
+    ensures counts { Counts budget.old budget.new }
+    ensures goes { IfOk result (λ _. (l : Loaded) → l.code ≡ code.now → PointGoes mode budget.old budget.new (world l (S.seen run.old.store) S.order (view_of run.old.arenas)) (world l (S.seen run.new.store) S.order (view_of run.new.arenas)) point run.new.now) }
 {
     let step = code.step(point.place);
     match step.node {
@@ -59,7 +60,7 @@ fn run_tick<S: StateStore>(
     budget: &mut Budget,
 )
     ensures counts { Counts budget.old budget.new }
-    ensures goes { step.node ≡ Node.Tick → (l : Loaded) → GoalGoes (counted mode budget.old budget.new) (world l (S.seen run.old.store) S.order (view_of run.old.arenas)) (world l (S.seen run.new.store) S.order (view_of run.new.arenas)) point step run.new.now }
+    ensures goes { step.node ≡ Node.Tick → (l : Loaded) → GoalGoes mode budget.old budget.new (world l (S.seen run.old.store) S.order (view_of run.old.arenas)) (world l (S.seen run.new.store) S.order (view_of run.new.arenas)) point step run.new.now }
 {
     if tick(mode, &mut run.now, budget) {
         run.now = Now::Going(behind(point, step));
@@ -79,7 +80,7 @@ fn run_call<S: StateStore>(
     budget: &mut Budget,
 ) -> Result<(), AllocError>
     ensures counts { Counts budget.old budget.new }
-    ensures goes { IfOk result (λ _. step.node ≡ Node.Call predicate operands → (l : Loaded) → l.code ≡ code.now → GoalGoes (counted mode budget.old budget.new) (world l (S.seen run.old.store) S.order (view_of run.old.arenas)) (world l (S.seen run.new.store) S.order (view_of run.new.arenas)) point step run.new.now) }
+    ensures goes { IfOk result (λ _. step.node ≡ Node.Call predicate operands → (l : Loaded) → l.code ≡ code.now → GoalGoes mode budget.old budget.new (world l (S.seen run.old.store) S.order (view_of run.old.arenas)) (world l (S.seen run.new.store) S.order (view_of run.new.arenas)) point step run.new.now) }
 {
     if !tick_call(code, mode, predicate, &mut run.now, budget) {
         return Ok(());
@@ -101,7 +102,7 @@ fn run_apply<S: StateStore>(
     budget: &mut Budget,
 ) -> Result<(), AllocError>
     ensures counts { Counts budget.old budget.new }
-    ensures goes { IfOk result (λ _. step.node ≡ Node.Apply predicate operands into → (l : Loaded) → l.code ≡ code.now → GoalGoes (counted mode budget.old budget.new) (world l (S.seen run.old.store) S.order (view_of run.old.arenas)) (world l (S.seen run.new.store) S.order (view_of run.new.arenas)) point step run.new.now) }
+    ensures goes { IfOk result (λ _. step.node ≡ Node.Apply predicate operands into → (l : Loaded) → l.code ≡ code.now → GoalGoes mode budget.old budget.new (world l (S.seen run.old.store) S.order (view_of run.old.arenas)) (world l (S.seen run.new.store) S.order (view_of run.new.arenas)) point step run.new.now) }
 {
     if !tick_call(code, mode, predicate, &mut run.now, budget) {
         return Ok(());

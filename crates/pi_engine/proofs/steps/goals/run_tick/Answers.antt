@@ -15,4 +15,4 @@ pub returns-else-tick-clause-goes : goal.returns-else-tick-clause-goes
 returns-else-tick-clause-goes g c = λ node l.
     let run = c.args.run.now in
     let told : Ticks c.args.mode c.args.budget.now c.tick.new.budget run.now c.tick.new.now false = subst (Ticks c.args.mode c.args.budget.now c.tick.new.budget run.now c.tick.new.now) c.if-tick.false c.tick.ensures.ticks in
-    tick-refused (world l (g.S.StateStore.seen run.store) g.S.StateStore.order (view_of run.arenas)) c.args.point c.args.step c.args.mode c.args.budget.now c.tick.new.budget c.tick.new.now node told.0 told.1
+    tick-refused (world l (g.S.StateStore.seen run.store) g.S.StateStore.order (view_of run.arenas)) c.args.point c.args.step c.args.mode c.args.budget.now c.tick.new.budget c.tick.new.now node told.0 told.1 told.2

@@ -4,7 +4,7 @@ use Rattle.pi_engine.specs.Arenas.{view_of}
 use Rattle.pi_engine.specs.Stands.{world}
 use Rattle.pi_engine.proofs.FollowStand.{frame-followed}
 use Rattle.pi_engine.proofs.OnceStand.{AnswersTo}
-use Rattle.pi_engine.proofs.machine.follow.Goals as goal
+use Rattle.pi_engine.proofs.turns.follow.Goals as goal
 
 pub returns : goal.returns
 returns g c = λ l done at view names e k es stands.

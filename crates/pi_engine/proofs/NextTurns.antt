@@ -1,0 +1,161 @@
+-- The turns of a call of `next`, and what the call comes to.
+use Rattle.std.proofs.Common.{◌≡◌, ◌≢◌, ◌⊎◌, inl, inr, ℕ, List, [], ◌∷◌, ◌++◌, refl, sym, ◌∙◌, ap, subst, arith}
+use Rattle.std.specs.Prelude.{⊤}
+use Rattle.pi_types.specs.Tree.{Tree}
+use Rattle.pi_types.specs.View.{View}
+use Rattle.pi_types.specs.Trace.{answered}
+use Rattle.pi_types.specs.Run.{Solution}
+use Rattle.pi_types.specs.declared.core_program.NameSlot.{NameSlot}
+use Rattle.pi_types.specs.declared.answer.Answer.{Answer}
+use Rattle.pi_engine.specs.declared.code.Code.{Code}
+use Rattle.pi_engine.specs.declared.happening.Budget.{Budget}
+use Rattle.pi_engine.specs.declared.happening.Happening.{Happening}
+use Rattle.pi_engine.specs.declared.happening.Mode.{Mode}
+use Rattle.pi_engine.specs.declared.run.End.{End as RunEnd}
+use Rattle.pi_engine.specs.declared.run.Now.{Now}
+use Rattle.pi_engine.specs.declared.turns.Outcome.{Outcome as CodeOutcome}
+use Rattle.pi_engine.specs.Answers.{AreNames}
+use Rattle.pi_engine.specs.Budget.{Counts}
+use Rattle.pi_engine.specs.Built.{AreOfRules}
+use Rattle.pi_engine.specs.Configuration.{Config}
+use Rattle.pi_engine.specs.Goes.{counted, IsAt, Goes, IsSpent, IsIn}
+use Rattle.pi_engine.specs.Next.{Tells, some_ticks, NextIs}
+use Rattle.pi_engine.specs.Shape.{IsGood}
+use Rattle.pi_engine.specs.Stands.{World, Loaded}
+use Rattle.pi_engine.specs.Turns.{StepIs, IsRunning, FitsMode, NextComes, IsAnswered, IsRepeated, IsRaised, Lasts}
+use Rattle.pi_engine.proofs.BudgetLemmas.{counts_none, counts_then}
+use Rattle.pi_engine.proofs.GoalsGo.{none-counted}
+use Rattle.pi_engine.proofs.LeadLemmas.{leads-none}
+use Rattle.pi_engine.proofs.TurnsGo.{is-in, more-goes, answer-goes}
+
+-- ---- where a run has ended
+
+pub running-unspent : (mode : Mode) (b : Budget) (now : Now) → IsRunning now → IsSpent mode b now
+running-unspent mode b (Now.Going p) running = tt
+running-unspent mode b Now.Failing running = tt
+running-unspent mode b (Now.Raising ball) running = tt
+running-unspent mode b (Now.Ended e) running = absurd running
+
+pub running-of : (now : Now) → ((e : RunEnd) → now ≢ Now.Ended e) → IsRunning now
+running-of (Now.Going p) other = tt
+running-of Now.Failing other = tt
+running-of (Now.Raising ball) other = tt
+running-of (Now.Ended e) other = other e refl
+
+spent-fits : (mode : Mode) (b : Budget) (now : Now) → IsSpent mode b now → FitsMode mode now
+spent-fits mode b (Now.Going p) spent = tt
+spent-fits mode b Now.Failing spent = tt
+spent-fits mode b (Now.Raising ball) spent = tt
+spent-fits mode b (Now.Ended RunEnd.Done) spent = tt
+spent-fits mode b (Now.Ended (RunEnd.Raised ball)) spent = tt
+spent-fits mode b (Now.Ended RunEnd.StepsSpent) spent = spent.0
+spent-fits mode b (Now.Ended RunEnd.WorkSpent) spent = spent.0
+spent-fits mode b (Now.Ended RunEnd.Memory) spent = tt
+
+pub lasts-ended : (e : RunEnd) (now : Now) (h : Happening) → now ≡ Now.Ended e → IsAnswered e h → Lasts h now
+lasts-ended RunEnd.Done now h ended told = subst (λ x. Lasts x now) (sym told) ended
+lasts-ended (RunEnd.Raised ball) now h ended told = subst (λ x. Lasts x now) (sym told) ended
+lasts-ended RunEnd.StepsSpent now h ended told = subst (λ x. Lasts x now) (sym told) ended
+lasts-ended RunEnd.WorkSpent now h ended told = subst (λ x. Lasts x now) (sym told) ended
+lasts-ended RunEnd.Memory now h ended told = subst (λ x. Lasts x now) (sym told) ended
+
+pub lasts-memory : (now : Now) (h : Happening) → now ≡ Now.Ended RunEnd.Memory → h ≡ Happening.Memory → Lasts h now
+lasts-memory now h ended told = subst (λ x. Lasts x now) (sym told) ended
+
+pub repeated-again : {R : Type 0} (e : RunEnd) (old new : R) (b c : Budget) (h : Happening) → IsAnswered e h → new ≡ old → c ≡ b → IsRepeated e old new b c h
+repeated-again RunEnd.Done old new b c h told same kept = (told, same, kept)
+repeated-again (RunEnd.Raised ball) old new b c h told same kept = (inl (told, same), kept)
+repeated-again RunEnd.StepsSpent old new b c h told same kept = (told, same, kept)
+repeated-again RunEnd.WorkSpent old new b c h told same kept = (told, same, kept)
+repeated-again RunEnd.Memory old new b c h told same kept = (told, same, kept)
+
+pub repeated-wanting : {R : Type 0} (e : RunEnd) (old new : R) (b c : Budget) (h : Happening) → IsRaised e → h ≡ Happening.Memory → c ≡ b → IsRepeated e old new b c h
+repeated-wanting RunEnd.Done old new b c h raised told kept = absurd raised
+repeated-wanting (RunEnd.Raised ball) old new b c h raised told kept = (inr told, kept)
+repeated-wanting RunEnd.StepsSpent old new b c h raised told kept = absurd raised
+repeated-wanting RunEnd.WorkSpent old new b c h raised told kept = absurd raised
+repeated-wanting RunEnd.Memory old new b c h raised told kept = absurd raised
+
+-- ---- the turns so far
+
+-- From what a call begins with, `first`, to what there is now: the Ticks that were counted and where the run is. Where it had
+-- ended, there was no turn.
+pub record Turned {M : Type 0} (v : View) (names : List NameSlot) (mode : Mode) (a b : Budget) (after : World M) (old now : Now) (c : Config) : Type 0 where
+  pub goes : Goes v names (some_ticks (counted mode a b)) after now c
+  pub spent : IsRunning old → IsSpent mode b now
+  pub fits : FitsMode mode old → FitsMode mode now
+
+pub record SoFar {R M : Type 0} (code : Code) (names : List NameSlot) (mode : Mode) (a b : Budget) (first present : R) (before after : Loaded → World M) (old now : Now) (turn : ℕ) : Type 0 where
+  pub counts : Counts a b
+  pub turns : (l : Loaded) → l.code ≡ code → AreNames l.query_slots names → (v : View) (c : Config) → IsIn v names (before l) old c → Turned v names mode a b (after l) old now c
+  pub still : (e : RunEnd) → old ≡ Now.Ended e → (present ≡ first) × (b ≡ a) × (turn ≡ 0)
+
+pub no-turns : {M : Type 0} (v : View) (names : List NameSlot) (mode : Mode) (b : Budget) (w : World M) (now : Now) (c : Config) → IsIn v names w now c → Turned v names mode b b w now now c
+no-turns v names mode b w now c is =
+    record {
+      goes = subst (λ k. Goes v names (some_ticks k) w now c) (sym (none-counted mode b b refl)) (record { comes = c; leads = leads-none v w.loaded.preds names c; good = is.good; is = is.is });
+      spent = λ running. running-unspent mode b now running;
+      fits = λ fit. fit;
+    }
+
+pub one-turn : {M : Type 0} (v : View) (names : List NameSlot) (mode : Mode) (a b d : Budget) (first w after : World M) (old now next : Now) (c : Config) → w.loaded ≡ first.loaded → w.loaded ≡ after.loaded → Counts a b → Counts b d → IsIn v names first old c →
+    (it : Turned v names mode a b w old now c) → (IsIn v names w now it.goes.comes → StepIs v names mode b d after next it.goes.comes CodeOutcome.More) → Turned v names mode a d after old next c
+one-turn v names mode a b d first w after old now next c from same one two is it steps =
+    let step = steps (record { is = it.goes.is; good = it.goes.good; rules = subst (λ l. AreOfRules l.preds) (sym from) is.rules }) in
+    record { goes = more-goes v names mode a b d w after now next c same one two it.goes step; spent = λ running. step.spent; fits = λ fit. spent-fits mode d next step.spent }
+
+-- ---- what the call comes to
+
+ended-is : {M : Type 0} (v : View) (names : List NameSlot) (k : ℕ) (after : World M) (e : RunEnd) (h : Happening) (c : Config) → IsAnswered e h → (it : Goes v names (some_ticks k) after (Now.Ended e) c) → NextIs v after.loaded.preds names k h c it.comes
+ended-is v names k after RunEnd.Done h c told it = subst (λ x. NextIs v after.loaded.preds names k x c it.comes) (sym told) (it.leads, it.is)
+ended-is v names k after (RunEnd.Raised ball) h c told it = subst (λ x. NextIs v after.loaded.preds names k x c it.comes) (sym told) (it.leads, it.is)
+ended-is v names k after RunEnd.StepsSpent h c told it = subst (λ x. NextIs v after.loaded.preds names k x c it.comes) (sym told) (it.leads, it.is)
+ended-is v names k after RunEnd.WorkSpent h c told it = subst (λ x. NextIs v after.loaded.preds names k x c it.comes) (sym told) (it.leads, it.is)
+ended-is v names k after RunEnd.Memory h c told it = subst (λ x. NextIs v after.loaded.preds names k x c it.comes) (sym told) tt
+
+-- an end
+pub end-comes : {M : Type 0} (v : View) (names : List NameSlot) (mode : Mode) (a b : Budget) (after : World M) (old now : Now) (e : RunEnd) (h : Happening) (c : Config) → now ≡ Now.Ended e → IsAnswered e h → Turned v names mode a b after old now c →
+    NextComes v names mode a b after old now c h
+end-comes v names mode a b after old now e h c ended told it =
+    let goes : Goes v names (some_ticks (counted mode a b)) after (Now.Ended e) c = subst (λ n. Goes v names (some_ticks (counted mode a b)) after n c) ended it.goes in
+    record {
+      comes = goes.comes;
+      is = ended-is v names (counted mode a b) after e h c told goes;
+      good = goes.good;
+      at = subst (λ n. IsAt v names after n goes.comes) (sym ended) goes.is;
+      spent = it.spent;
+      fits = it.fits;
+    }
+
+-- want of memory
+pub memory-comes : {M : Type 0} (v : View) (names : List NameSlot) (mode : Mode) (a b : Budget) (after : World M) (old now : Now) (h : Happening) (c : Config) → now ≡ Now.Ended RunEnd.Memory → h ≡ Happening.Memory → IsGood c → NextComes v names mode a b after old now c h
+memory-comes v names mode a b after old now h c ended told good =
+    record {
+      comes = c;
+      is = subst (λ x. NextIs v after.loaded.preds names (counted mode a b) x c c) (sym told) tt;
+      good = good;
+      at = subst (λ n. IsAt v names after n c) (sym ended) tt;
+      spent = λ running. subst (IsSpent mode b) (sym ended) tt;
+      fits = λ fit. subst (FitsMode mode) (sym ended) tt;
+    }
+
+-- an answer
+pub answer-comes : {M : Type 0} (v : View) (names : List NameSlot) (mode : Mode) (a b d : Budget) (first w after : World M) (old now next : Now) (c : Config) (told : Answer) → w.loaded ≡ first.loaded → w.loaded ≡ after.loaded → Counts a b → Counts b d → IsIn v names first old c →
+    (it : Turned v names mode a b w old now c) → (IsIn v names w now it.goes.comes → StepIs v names mode b d after next it.goes.comes (CodeOutcome.Answered told)) → NextComes v names mode a d after old next c (Happening.Answer told)
+answer-comes v names mode a b d first w after old now next c told from same one two is it steps =
+    let step = steps (record { is = it.goes.is; good = it.goes.good; rules = subst (λ l. AreOfRules l.preds) (sym from) is.rules }) in
+    let goes = answer-goes v names mode a b d w after now next c told same one two it.goes step in
+    record { comes = goes.2.comes; is = (goes.0, goes.1, goes.2.leads); good = goes.2.good; at = goes.2.is; spent = λ running. step.spent; fits = λ fit. spent-fits mode d next step.spent }
+
+-- ---- an end that is answered again, of what a run is part of
+
+raised-in : {R T : Type 0} (f : R → T) (ball : Tree) (old new : R) (h : Happening) → ((h ≡ Happening.Raised ball) × (new ≡ old)) ⊎ (h ≡ Happening.Memory) → ((h ≡ Happening.Raised ball) × (f new ≡ f old)) ⊎ (h ≡ Happening.Memory)
+raised-in f ball old new h (inl same) = inl (same.0, ap f same.1)
+raised-in f ball old new h (inr told) = inr told
+
+pub repeated-in : {R T : Type 0} (f : R → T) (e : RunEnd) (old new : R) (b c : Budget) (h : Happening) → IsRepeated e old new b c h → IsRepeated e (f old) (f new) b c h
+repeated-in f RunEnd.Done old new b c h is = (is.0, ap f is.1, is.2)
+repeated-in f (RunEnd.Raised ball) old new b c h is = (raised-in f ball old new h is.0, is.1)
+repeated-in f RunEnd.StepsSpent old new b c h is = (is.0, ap f is.1, is.2)
+repeated-in f RunEnd.WorkSpent old new b c h is = (is.0, ap f is.1, is.2)
+repeated-in f RunEnd.Memory old new b c h is = (is.0, ap f is.1, is.2)

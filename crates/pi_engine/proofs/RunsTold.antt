@@ -1,0 +1,157 @@
+-- What a call of `next` comes to, for those that use the machine.
+use Rattle.std.proofs.Common.{◌≡◌, ◌⊎◌, inl, inr, ℕ, zero, suc, ◌+◌, ◌≤◌, ◌<◌, List, [], ◌∷◌, ◌++◌, refl, sym, ◌∙◌, ap, subst, arith}
+use Rattle.std.specs.Prelude.{⊤, Contains}
+use Rattle.pi_types.specs.Store.{StoreView}
+use Rattle.pi_types.specs.View.{View}
+use Rattle.pi_types.specs.CoreTree.{PredTree, QueryTree}
+use Rattle.pi_types.specs.Depth.{Cut, Ended, Spent, with_events}
+use Rattle.pi_types.specs.Trace.{Trace, End, Done, Raise, Tick, Load, Out, Emitted, noted, answered, count_ticks}
+use Rattle.pi_types.specs.Run.{Solution, IsRunUnder}
+use Rattle.pi_types.specs.Sound.{IsSoundQuery}
+use Rattle.pi_types.specs.declared.core_program.NameSlot.{NameSlot}
+use Rattle.pi_engine.specs.declared.happening.Budget.{Budget}
+use Rattle.pi_engine.specs.declared.happening.Happening.{Happening}
+use Rattle.pi_engine.specs.declared.happening.Mode.{Mode}
+use Rattle.pi_engine.specs.declared.run.End.{End as RunEnd}
+use Rattle.pi_engine.specs.declared.run.Now.{Now}
+use Rattle.pi_engine.specs.Arenas.{ArenasView}
+use Rattle.pi_engine.specs.Answers.{AreNames}
+use Rattle.pi_engine.specs.Begins.{Begins}
+use Rattle.pi_engine.specs.Built.{AreOfRules}
+use Rattle.pi_engine.specs.Configuration.{Config}
+use Rattle.pi_engine.specs.Goes.{counted, HasNone, IsAt, IsSpent, IsIn}
+use Rattle.pi_engine.specs.Leads.{Leads, IsAtEnd, IsAtTick}
+use Rattle.pi_engine.specs.Next.{some_ticks, NextIs}
+use Rattle.pi_engine.specs.Runs.{MachineView, loaded_as, run_of, RunsTo, EndsWith, ToldBy, Happens}
+use Rattle.pi_engine.specs.Step.{start}
+use Rattle.pi_engine.specs.Turns.{IsRunning, FitsMode, NextComes, Lasts}
+use Rattle.pi_engine.specs.Stands.{World, Stands}
+use Rattle.pi_engine.proofs.GoalsGo.{no-end, is-at}
+use Rattle.pi_engine.proofs.LeadLemmas.{leads-none, leads-on, start-good}
+use Rattle.pi_engine.proofs.RunLaws.{ended-run, spent-run, run-prefix}
+
+-- ---- Ticks behind events
+
+count-some : (k : ℕ) → count_ticks (some_ticks k) ≡ k
+unfolding count_ticks
+count-some zero = refl
+count-some (suc k) = ap suc (count-some k)
+
+pub count-added : (events : List (Emitted Solution)) (k : ℕ) → count_ticks (events ++ some_ticks k) ≡ count_ticks events + k
+unfolding count_ticks
+count-added [] k = count-some k ∙ omega arith
+count-added (noted Tick ∷ events) k = ap suc (count-added events k) ∙ omega arith
+count-added (noted (Load n) ∷ events) k = count-added events k
+count-added (noted (Out text) ∷ events) k = count-added events k
+count-added (answered x ∷ events) k = count-added events k
+
+-- ---- a machine at two moments
+
+-- the machine with another store, other arenas, and what comes next
+abbrev pub later : {M : Type 0} → MachineView M → StoreView M → ArenasView M → Now → MachineView M
+later m store arenas now = record { code = m.code; names = m.names; mode = m.mode; store = store; order = m.order; arenas = arenas; now = now }
+
+-- where a run is, for what a call of `next` needs
+pub runs-in : {M : Type 0} (v : View) (m : MachineView M) (program : List PredTree) (q : QueryTree) (events : List (Emitted Solution)) → (r : RunsTo v m program q events) → IsIn v q.names (run_of m (loaded_as m r.terms program q)) m.now r.config
+runs-in v m program q events r = record { is = r.is; good = r.good; rules = r.rules }
+
+runs-on : {M : Type 0} (v : View) (m : MachineView M) (program : List PredTree) (q : QueryTree) (events more : List (Emitted Solution)) (store : StoreView M) (arenas : ArenasView M) (now : Now) (old new : Budget) (h : Happening) → (r : RunsTo v m program q events) →
+    (it : NextComes v q.names m.mode old new (run_of (later m store arenas now) (loaded_as m r.terms program q)) m.now now r.config h) → Leads v (program ++ q.helpers) q.names more r.config it.comes →
+    RunsTo v (later m store arenas now) program q (events ++ more)
+runs-on v m program q events more store arenas now old new h r it leads =
+    record {
+      terms = r.terms;
+      config = it.comes;
+      names = r.names;
+      slots = r.slots;
+      rules = r.rules;
+      leads = leads-on v (program ++ q.helpers) q.names events more (start q) r.config it.comes r.leads leads;
+      good = it.good;
+      is = it.at;
+      mode = it.fits r.mode;
+    }
+
+-- the whole run so far has ended
+ends-with : (v : View) (program : List PredTree) (q : QueryTree) (events more : List (Emitted Solution)) (c d : Config) (e : End) → Leads v (program ++ q.helpers) q.names events (start q) c → Leads v (program ++ q.helpers) q.names more c d →
+    IsAtEnd v (program ++ q.helpers) q.names e d → EndsWith v program q (events ++ more) e
+ends-with v program q events more c d e leads then ends n less =
+    ended-run v program q (events ++ more) d e n (leads-on v (program ++ q.helpers) q.names events more (start q) c d leads then) ends less
+
+-- it is about to count a Tick
+cut-off : (v : View) (program : List PredTree) (q : QueryTree) (events : List (Emitted Solution)) (k : ℕ) (c d : Config) → Leads v (program ++ q.helpers) q.names events (start q) c → Leads v (program ++ q.helpers) q.names (some_ticks k) c d →
+    IsAtTick v (program ++ q.helpers) q.names d → IsRunUnder v program q (count_ticks events + k) (record { events = events ++ some_ticks k; stop = Spent })
+cut-off v program q events k c d leads then at =
+    subst (λ n. IsRunUnder v program q n (record { events = events ++ some_ticks k; stop = Spent })) (count-added events k)
+    (spent-run v program q (events ++ some_ticks k) d (leads-on v (program ++ q.helpers) q.names events (some_ticks k) (start q) c d leads then) at)
+
+none-left : (mode : Mode) (b : Budget) (now : Now) → IsSpent mode b now → (now ≡ Now.Ended RunEnd.StepsSpent) ⊎ (now ≡ Now.Ended RunEnd.WorkSpent) → HasNone mode b
+none-left mode b now is (inl ended) = (subst (IsSpent mode b) ended is).1
+none-left mode b now is (inr ended) = (subst (IsSpent mode b) ended is).1
+
+pub told-by : {M : Type 0} (v : View) (m : MachineView M) (program : List PredTree) (q : QueryTree) (events : List (Emitted Solution)) (store : StoreView M) (arenas : ArenasView M) (now : Now) (old new : Budget) (h : Happening) → (r : RunsTo v m program q events) →
+    NextComes v q.names m.mode old new (run_of (later m store arenas now) (loaded_as m r.terms program q)) m.now now r.config h → Lasts h now → Happens v program q events m (later m store arenas now) old new h
+told-by v m program q events store arenas now old new (Happening.Answer a) r it lasts =
+    let x = it.is.0 in
+    (x, it.is.1, runs-on v m program q events (some_ticks (counted m.mode old new) ++ answered x ∷ []) store arenas now old new (Happening.Answer a) r it it.is.2)
+told-by v m program q events store arenas now old new (Happening.Out text) r it lasts = absurd lasts
+told-by v m program q events store arenas now old new (Happening.NeedPlan call) r it lasts = absurd lasts
+told-by v m program q events store arenas now old new Happening.Done r it lasts =
+    let k : ℕ = counted m.mode old new in
+    (ends-with v program q events (some_ticks k) r.config it.comes Done r.leads it.is.0 it.is.1, runs-on v m program q events (some_ticks k) store arenas now old new Happening.Done r it it.is.0)
+told-by v m program q events store arenas now old new (Happening.Raised ball) r it lasts =
+    let k : ℕ = counted m.mode old new in
+    (ends-with v program q events (some_ticks k) r.config it.comes (Raise ball) r.leads it.is.0 it.is.1, runs-on v m program q events (some_ticks k) store arenas now old new (Happening.Raised ball) r it it.is.0)
+told-by v m program q events store arenas now old new Happening.StepsSpent r it lasts =
+    let k : ℕ = counted m.mode old new in (
+      cut-off v program q events k r.config it.comes r.leads it.is.0 it.is.1,
+      runs-on v m program q events (some_ticks k) store arenas now old new Happening.StepsSpent r it it.is.0,
+      subst (FitsMode m.mode) lasts (it.fits r.mode),
+      λ running. none-left m.mode new now (it.spent running) (inl lasts),
+    )
+told-by v m program q events store arenas now old new Happening.WorkSpent r it lasts =
+    let k : ℕ = counted m.mode old new in (
+      cut-off v program q events k r.config it.comes r.leads it.is.0 it.is.1,
+      runs-on v m program q events (some_ticks k) store arenas now old new Happening.WorkSpent r it it.is.0,
+      subst (FitsMode m.mode) lasts (it.fits r.mode),
+      λ running. none-left m.mode new now (it.spent running) (inr lasts),
+    )
+told-by v m program q events store arenas now old new Happening.Memory r it lasts = tt
+
+-- ---- laws
+
+pub runs-begin : {M : Type 0} (v : View) (m : MachineView M) (program : List PredTree) (q : QueryTree) (events : List (Emitted Solution)) (n : ℕ) (run : Cut Solution) →
+    RunsTo v m program q events → IsRunUnder v program q (count_ticks events + n) run → (rest : Cut Solution) × (run ≡ with_events events rest)
+runs-begin v m program q events n run r is = run-prefix v program q events r.config n run r.leads is
+
+-- ---- a new machine
+
+contains-first : (x : NameSlot) (names : List NameSlot) → Contains (x ∷ names) x
+contains-first x names = (0, omega arith, refl)
+
+contains-more : (x : NameSlot) (names : List NameSlot) (y : NameSlot) → Contains names y → Contains (x ∷ names) y
+contains-more x names y has = (suc has.0, omega (arith, has.1), has.2)
+
+names-below : (n : ℕ) (names : List NameSlot) → ((x : NameSlot) → Contains names x → x.slot < n) → AreNames n names
+unfolding AreNames
+names-below n [] below = tt
+names-below n (x ∷ names) below = (below x (contains-first x names), names-below n names (λ y has. below y (contains-more x names y has)))
+
+going-fits : {M : Type 0} (mode : Mode) (w : World M) (now : Now) (c : Config) → Stands w now c → FitsMode mode now
+going-fits mode w (Now.Going p) c stands = tt
+going-fits mode w Now.Failing c stands = tt
+going-fits mode w (Now.Raising ball) c stands = tt
+going-fits mode w (Now.Ended e) c stands = no-end w e c.now (FitsMode mode (Now.Ended e)) stands.runs
+
+pub new-runs : {M : Type 0} (v : View) (m : MachineView M) (program : List PredTree) (q : QueryTree) → m.names ≡ q.names → IsSoundQuery program q → AreOfRules (program ++ q.helpers) → Begins m.order m.code m.store m.arenas m.now program q → RunsTo v m program q []
+new-runs v m program q names sound rules begins =
+    record {
+      terms = m.store.now.terms;
+      config = start q;
+      names = names;
+      slots = names-below q.slots q.names sound.names;
+      rules = rules;
+      leads = leads-none v (program ++ q.helpers) q.names (start q);
+      good = start-good q;
+      is = is-at v q.names (run_of m (loaded_as m m.store.now.terms program q)) m.now (start q) begins;
+      mode = going-fits m.mode (run_of m (loaded_as m m.store.now.terms program q)) m.now (start q) begins;
+    }

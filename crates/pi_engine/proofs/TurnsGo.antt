@@ -1,0 +1,160 @@
+-- What each step of the code is to a run: the Ticks that it counts, its answer, and where the run is then.
+use Rattle.std.proofs.Common.{◌≡◌, ◌≢◌, ℕ, ◌+◌, ◌-◌, ◌≤◌, List, [], ◌∷◌, ◌++◌, refl, sym, ◌∙◌, ap, subst, append_assoc, arith}
+use Rattle.std.specs.Prelude.{⊤}
+use Rattle.std.proofs.lemmas.List.{replicate-append-replicate}
+use Rattle.pi_types.specs.Tree.{Tree}
+use Rattle.pi_types.specs.View.{View}
+use Rattle.pi_types.specs.CoreTree.{PredTree}
+use Rattle.pi_types.specs.Trace.{End, Done, Raise, Abort, Miss, Deep, Tick, noted, Emitted, answered}
+use Rattle.pi_types.specs.Run.{Solution}
+use Rattle.pi_types.specs.declared.core_program.NameSlot.{NameSlot}
+use Rattle.pi_types.specs.declared.answer.Answer.{Answer}
+use Rattle.pi_engine.specs.declared.happening.Budget.{Budget}
+use Rattle.pi_engine.specs.declared.happening.Mode.{Mode}
+use Rattle.pi_engine.specs.declared.run.End.{End as RunEnd}
+use Rattle.pi_engine.specs.declared.run.Now.{Now}
+use Rattle.pi_engine.specs.declared.turns.Outcome.{Outcome as CodeOutcome}
+use Rattle.pi_engine.specs.Budget.{Counts}
+use Rattle.pi_engine.specs.Built.{AreOfRules}
+use Rattle.pi_engine.specs.Configuration.{Config, config, failed, raising, Now as NowData, Entry as EntryData}
+use Rattle.pi_engine.specs.Fails.{IsEnded, ComesTo, Fails}
+use Rattle.pi_engine.specs.Raises.{Raises}
+use Rattle.pi_engine.specs.Goes.{counted, IsAt, Goes, IsSpent, TicksOn, IsIn}
+use Rattle.pi_engine.specs.Leads.{Leads, IsAtEnd}
+use Rattle.pi_engine.specs.Next.{Tells, some_ticks}
+use Rattle.pi_engine.specs.Shape.{IsGood}
+use Rattle.pi_engine.specs.Stands.{World, NowIs, going_now, failing_now, raising_now, StackStands, Stands}
+use Rattle.pi_engine.specs.Step.{Outcome, silently, with_tick, quietly, answering, ending, fail_step, raise_step, step}
+use Rattle.pi_engine.specs.Turns.{OutcomeIs, StepIs}
+use Rattle.pi_engine.proofs.GoalsGo.{is-at, none-counted, unspent, silent-goes}
+use Rattle.pi_engine.proofs.LeadLemmas.{leads-none, leads-on, step-ends}
+use Rattle.pi_engine.proofs.PointsDone.{GoesSilently}
+
+-- ---- no further answer, and exceptions
+
+-- at its end
+at-end : {M : Type 0} (v : View) (names : List NameSlot) (after : World M) (now : Now) (c : Config) (e : RunEnd) (f : End) → IsGood c → now ≡ Now.Ended e → IsAt v names after (Now.Ended e) c → Goes v names [] after now c
+at-end v names after now c e f good ended is =
+    record { comes = c; leads = leads-none v after.loaded.preds names c; good = good; is = subst (λ n. IsAt v names after n c) (sym ended) is }
+
+ends-so : {M : Type 0} (v : View) (names : List NameSlot) (after : World M) (now : Now) (c : Config) (e : End) → AreOfRules after.loaded.preds → IsGood c → step v after.loaded.preds names c ≡ ending e → IsEnded now e → Goes v names [] after now c
+ends-so v names after now c Done rules good is ended = at-end v names after now c RunEnd.Done Done good ended (step-ends v after.loaded.preds names c Done rules good (λ h. cc) is)
+ends-so v names after now c (Raise ball) rules good is ended = at-end v names after now c (RunEnd.Raised ball) (Raise ball) good ended (step-ends v after.loaded.preds names c (Raise ball) rules good (λ h. cc) is)
+ends-so v names after now c (Abort ball) rules good is ended = absurd ended
+ends-so v names after now c (Miss call) rules good is ended = absurd ended
+ends-so v names after now c Deep rules good is ended = absurd ended
+
+comes-to-goes : {M : Type 0} (v : View) (names : List NameSlot) (after : World M) (now : Now) (c : Config) (o : Outcome) → AreOfRules after.loaded.preds → IsGood c → step v after.loaded.preds names c ≡ o → ComesTo after now o → Goes v names [] after now c
+comes-to-goes v names after now c (silently d) rules good is stands = silent-goes v names after now c d rules good is (is-at v names after now d stands)
+comes-to-goes v names after now c (with_tick d) rules good is never = absurd never
+comes-to-goes v names after now c (quietly d) rules good is never = absurd never
+comes-to-goes v names after now c (answering x d) rules good is never = absurd never
+comes-to-goes v names after now c (ending e) rules good is ended = ends-so v names after now c e rules good is ended
+
+ended-unspent : (mode : Mode) (b : Budget) (now : Now) (e : End) → IsEnded now e → IsSpent mode b now
+ended-unspent mode b now Done ended = subst (IsSpent mode b) (sym ended) tt
+ended-unspent mode b now (Raise ball) ended = subst (IsSpent mode b) (sym ended) tt
+ended-unspent mode b now (Abort ball) ended = absurd ended
+ended-unspent mode b now (Miss call) ended = absurd ended
+ended-unspent mode b now Deep ended = absurd ended
+
+comes-to-unspent : {M : Type 0} (after : World M) (mode : Mode) (b : Budget) (now : Now) (o : Outcome) → ComesTo after now o → IsSpent mode b now
+comes-to-unspent after mode b now (silently d) stands = unspent after mode b now d stands
+comes-to-unspent after mode b now (with_tick d) never = absurd never
+comes-to-unspent after mode b now (quietly d) never = absurd never
+comes-to-unspent after mode b now (answering x d) never = absurd never
+comes-to-unspent after mode b now (ending e) ended = ended-unspent mode b now e ended
+
+-- ---- one step
+
+-- a step that counts no Tick
+pub more-is : {M : Type 0} (v : View) (names : List NameSlot) (mode : Mode) (b : Budget) (after : World M) (now : Now) (c : Config) → Goes v names [] after now c → IsSpent mode b now → StepIs v names mode b b after now c CodeOutcome.More
+more-is v names mode b after now c goes is = record { is = subst (λ k. Goes v names (some_ticks k) after now c) (sym (none-counted mode b b refl)) goes; spent = is }
+
+pub silent-is : {M : Type 0} (v : View) (names : List NameSlot) (mode : Mode) (b : Budget) (after : World M) (now : Now) (c : Config) → GoesSilently v names after now c → StepIs v names mode b b after now c CodeOutcome.More
+silent-is v names mode b after now c it = more-is v names mode b after now c it.goes (it.unspent mode b)
+
+pub ticks-is : {M : Type 0} (v : View) (names : List NameSlot) (mode : Mode) (old new : Budget) (after : World M) (now : Now) (c : Config) → TicksOn v names mode old new after now c → StepIs v names mode old new after now c CodeOutcome.More
+ticks-is v names mode old new after now c it = record { is = it.goes; spent = it.spent }
+
+pub answer-is : {M : Type 0} (v : View) (names : List NameSlot) (mode : Mode) (b : Budget) (after : World M) (c : Config) (a : Answer) → (x : Solution) × Tells names x a × Goes v names (answered x ∷ []) after Now.Failing c →
+    StepIs v names mode b b after Now.Failing c (CodeOutcome.Answered a)
+answer-is v names mode b after c a it =
+    record { is = (it.0, it.1, subst (λ k. Goes v names (some_ticks k ++ answered it.0 ∷ []) after Now.Failing c) (sym (none-counted mode b b refl)) it.2); spent = tt }
+
+-- what fails
+failing-is : {M : Type 0} (w : World M) (x : NowData) (now : Now) → now ≡ Now.Failing → NowIs w now x → x ≡ failed
+failing-is w x now same (going_now is) = absurd cc
+failing-is w x now same failing_now = refl
+failing-is w x now same raising_now = absurd cc
+
+fails-step : (v : View) (preds : List PredTree) (names : List NameSlot) (c : Config) → c.now ≡ failed → step v preds names c ≡ fail_step c.stack
+unfolding step
+fails-step v preds names c is = ap (λ x. step v preds names (config x c.stack)) is
+
+pub fails-is : {M : Type 0} (w after : World M) (v : View) (names : List NameSlot) (mode : Mode) (b : Budget) (now : Now) (c : Config) → w.loaded ≡ after.loaded → IsIn v names w Now.Failing c → Fails w after now → StepIs v names mode b b after now c CodeOutcome.More
+fails-is w after v names mode b now c same is fails =
+    let to : ComesTo after now (fail_step c.stack) = fails c.stack is.is.entries in
+    more-is v names mode b after now c
+    (comes-to-goes v names after now c (fail_step c.stack) (subst (λ l. AreOfRules l.preds) same is.rules) is.good (fails-step v after.loaded.preds names c (failing-is w c.now Now.Failing refl is.is.runs)) to)
+    (comes-to-unspent after mode b now (fail_step c.stack) to)
+
+-- what raises
+raising-is : {M : Type 0} (w : World M) (x : NowData) (now : Now) (ball : Tree) → now ≡ Now.Raising ball → NowIs w now x → x ≡ raising ball
+raising-is w x now ball same (going_now is) = absurd cc
+raising-is w x now ball same failing_now = absurd cc
+raising-is w x now ball same raising_now = cc
+
+raises-step : (v : View) (preds : List PredTree) (names : List NameSlot) (c : Config) (ball : Tree) → c.now ≡ raising ball → step v preds names c ≡ raise_step ball c.stack
+unfolding step
+raises-step v preds names c ball is = ap (λ x. step v preds names (config x c.stack)) is
+
+pub raises-is : {M : Type 0} (w after : World M) (v : View) (names : List NameSlot) (mode : Mode) (b : Budget) (old now : Now) (ball : Tree) (c : Config) → w.loaded ≡ after.loaded → old ≡ Now.Raising ball → IsIn v names w old c → Raises w after old now → StepIs v names mode b b after now c CodeOutcome.More
+raises-is w after v names mode b old now ball c same raised is raises =
+    let stands : Stands w (Now.Raising ball) c = subst (λ n. IsAt v names w n c) raised is.is in
+    let to : ComesTo after now (raise_step ball c.stack) = raises ball c.stack raised stands.entries is.good.balanced in
+    more-is v names mode b after now c
+    (comes-to-goes v names after now c (raise_step ball c.stack) (subst (λ l. AreOfRules l.preds) same is.rules) is.good (raises-step v after.loaded.preds names c ball (raising-is w c.now (Now.Raising ball) ball refl stands.runs)) to)
+    (comes-to-unspent after mode b now (raise_step ball c.stack) to)
+
+-- ---- steps in a row
+
+pub counted-on : (mode : Mode) (a b c : Budget) → Counts a b → Counts b c → counted mode a b + counted mode b c ≡ counted mode a c
+counted-on Mode.Top a b c first second = omega (arith, first.ticks, second.ticks)
+counted-on Mode.Inner a b c first second = omega (arith, first.goals, second.goals)
+
+pub ticks-joined : (m n : ℕ) → some_ticks m ++ some_ticks n ≡ some_ticks (m + n)
+ticks-joined m n = replicate-append-replicate m n (noted Tick)
+
+-- a run, and what it does from where it is
+pub goes-on : {M : Type 0} (v : View) (names : List NameSlot) (front back : List (Emitted Solution)) (w after : World M) (old now : Now) (c : Config) → w.loaded ≡ after.loaded → (it : Goes v names front w old c) → Goes v names back after now it.comes → Goes v names (front ++ back) after now c
+goes-on v names front back w after old now c same it on =
+    record {
+      comes = on.comes;
+      leads = leads-on v after.loaded.preds names front back c it.comes on.comes (subst (λ l. Leads v l.preds names front c it.comes) same it.leads) on.leads;
+      good = on.good;
+      is = on.is;
+    }
+
+pub is-in : {M : Type 0} (v : View) (names : List NameSlot) (events : List (Emitted Solution)) (w : World M) (now : Now) (c : Config) → AreOfRules w.loaded.preds → (it : Goes v names events w now c) → IsIn v names w now it.comes
+is-in v names events w now c rules it = record { is = it.is; good = it.good; rules = rules }
+
+-- one step more
+pub more-goes : {M : Type 0} (v : View) (names : List NameSlot) (mode : Mode) (a b d : Budget) (w after : World M) (old now : Now) (c : Config) → w.loaded ≡ after.loaded → Counts a b → Counts b d → (it : Goes v names (some_ticks (counted mode a b)) w old c) →
+    StepIs v names mode b d after now it.comes CodeOutcome.More → Goes v names (some_ticks (counted mode a d)) after now c
+more-goes v names mode a b d w after old now c same first second it is =
+    subst (λ es. Goes v names es after now c) (ticks-joined (counted mode a b) (counted mode b d) ∙ ap some_ticks (counted-on mode a b d first second))
+    (goes-on v names (some_ticks (counted mode a b)) (some_ticks (counted mode b d)) w after old now c same it is.is)
+
+pub answer-goes : {M : Type 0} (v : View) (names : List NameSlot) (mode : Mode) (a b d : Budget) (w after : World M) (old now : Now) (c : Config) (told : Answer) → w.loaded ≡ after.loaded → Counts a b → Counts b d → (it : Goes v names (some_ticks (counted mode a b)) w old c) →
+    StepIs v names mode b d after now it.comes (CodeOutcome.Answered told) → (x : Solution) × Tells names x told × Goes v names (some_ticks (counted mode a d) ++ answered x ∷ []) after now c
+answer-goes v names mode a b d w after old now c told same first second it is =
+    let x : Solution = is.is.0 in
+    let m : ℕ = counted mode a b in
+    let n : ℕ = counted mode b d in (
+      x,
+      is.is.1,
+      subst (λ es. Goes v names es after now c)
+          (sym (append_assoc (some_ticks m) (some_ticks n) (answered x ∷ [])) ∙ ap (λ es. es ++ answered x ∷ []) (ticks-joined m n ∙ ap some_ticks (counted-on mode a b d first second)))
+          (goes-on v names (some_ticks m) (some_ticks n ++ answered x ∷ []) w after old now c same it is.is.2),
+    )

@@ -1,0 +1,60 @@
+use Rattle.std.proofs.Common.{◌≡◌, ◌∙◌, refl, sym, ap, subst, arith}
+use Rattle.pi_engine.specs.Arenas.{view_of}
+use Rattle.pi_engine.specs.Stands.{world}
+use Rattle.pi_engine.proofs.BudgetLemmas.{counts_none, counts_then}
+use Rattle.pi_engine.specs.Turns.{StepIs, RunsAfter}
+use Rattle.pi_engine.proofs.NextTurns.{running-of, no-turns, one-turn, end-comes, answer-comes}
+use Rattle.pi_engine.proofs.turns.next_happening.Goals as goal
+
+pub loop-turn-init : goal.loop-turn-init
+loop-turn-init g c =
+    let run = c.args.run.now in
+    record {
+      counts = counts_none c.args.budget.now;
+      turns = λ l is_code are v d is. no-turns v c.args.names.now c.args.mode c.args.budget.now (world l (g.S.StateStore.seen run.store) g.S.StateStore.order (view_of run.arenas)) run.now d is;
+      still = λ e ended. (refl, refl, refl);
+    }
+
+pub loop-turn-preserved : goal.loop-turn-preserved
+loop-turn-preserved g c =
+    let first = c.args.run.now in
+    let here = c.loop-turn.run in
+    let next = c.step.new.run in
+    let before = c.loop-turn.invariant in
+    record {
+      counts = counts_then c.args.budget.now c.loop-turn.budget c.step.new.budget before.counts c.step.ensures.counts;
+      turns = λ l is_code are v d is.
+          (let it = before.turns l is_code are v d is in
+          one-turn v c.args.names.now c.args.mode c.args.budget.now c.loop-turn.budget c.step.new.budget
+          (world l (g.S.StateStore.seen first.store) g.S.StateStore.order (view_of first.arenas)) (world l (g.S.StateStore.seen here.store) g.S.StateStore.order (view_of here.arenas))
+          (world l (g.S.StateStore.seen next.store) g.S.StateStore.order (view_of next.arenas)) first.now here.now next.now d refl refl before.counts c.step.ensures.counts is it
+          (λ at. subst (StepIs v c.args.names.now c.args.mode c.loop-turn.budget c.step.new.budget (world l (g.S.StateStore.seen next.store) g.S.StateStore.order (view_of next.arenas)) next.now it.goes.comes) c.in-More.is
+          (c.in-Ok-step.ensures.is (running-of here.now c.in_default.not-Ended) l is_code are v it.goes.comes at)));
+      still = λ e ended. absurd (c.in_default.not-Ended e (ap (λ r. r.now) (before.still e ended).0 ∙ ended));
+    }
+
+pub returns-in-Ended-clause-comes : goal.returns-in-Ended-clause-comes
+returns-in-Ended-clause-comes g c = λ l is_code are v d is.
+    let first = c.args.run.now in
+    let here = c.loop-turn.run in
+    end-comes v c.args.names.now c.args.mode c.args.budget.now c.loop-turn.budget (world l (g.S.StateStore.seen here.store) g.S.StateStore.order (view_of here.arenas)) first.now here.now c.in-Ended.end c.in-Ok.happening d
+    c.in-Ended.is c.in-Ok.ensures.ok (c.loop-turn.invariant.turns l is_code are v d is)
+
+pub returns-in-Answered : goal.returns-in-Answered
+returns-in-Answered g c =
+    let first = c.args.run.now in
+    let here = c.loop-turn.run in
+    let next = c.step.new.run in
+    let before = c.loop-turn.invariant in
+    record {
+      counts = counts_then c.args.budget.now c.loop-turn.budget c.step.new.budget before.counts c.step.ensures.counts;
+      comes = λ l is_code are v d is.
+          (let it = before.turns l is_code are v d is in
+          answer-comes v c.args.names.now c.args.mode c.args.budget.now c.loop-turn.budget c.step.new.budget
+          (world l (g.S.StateStore.seen first.store) g.S.StateStore.order (view_of first.arenas)) (world l (g.S.StateStore.seen here.store) g.S.StateStore.order (view_of here.arenas))
+          (world l (g.S.StateStore.seen next.store) g.S.StateStore.order (view_of next.arenas)) first.now here.now next.now d c.in-Answered.answer refl refl before.counts c.step.ensures.counts is it
+          (λ at. subst (StepIs v c.args.names.now c.args.mode c.loop-turn.budget c.step.new.budget (world l (g.S.StateStore.seen next.store) g.S.StateStore.order (view_of next.arenas)) next.now it.goes.comes) c.in-Answered.is
+          (c.in-Ok-step.ensures.is (running-of here.now c.in_default.not-Ended) l is_code are v it.goes.comes at)));
+      repeats = λ e ended. absurd (c.in_default.not-Ended e (ap (λ r. r.now) (before.still e ended).0 ∙ ended));
+      lasts = subst (λ o. RunsAfter o next.now) c.in-Answered.is c.in-Ok-step.ensures.answered;
+    }

@@ -1,0 +1,44 @@
+use Rattle.std.proofs.Common.{◌≡◌, ◌<◌, refl, sym, subst, arith}
+use Rattle.pi_engine.specs.declared.run.Now.{Now}
+use Rattle.pi_engine.specs.Arenas.{view_of}
+use Rattle.pi_engine.specs.Goes.{IsAt, IsIn}
+use Rattle.pi_engine.specs.Stands.{World, Stands, world}
+use Rattle.pi_engine.specs.Turns.{IsRunning}
+use Rattle.pi_engine.proofs.TurnsGo.{ticks-is, fails-is, raises-is}
+use Rattle.pi_engine.proofs.turns.step.Goals as goal
+
+pub returns-then-point-eq0-clause-is : goal.returns-then-point-eq0-clause-is
+returns-then-point-eq0-clause-is g c = λ running l is_code are v d is.
+    let run = c.args.run.now in
+    let w : World _ = world l (g.S.StateStore.seen run.store) g.S.StateStore.order (view_of run.arenas) in
+    let stands : Stands w (Now.Going c.in-Going.at) d = subst (λ n. IsAt v c.args.names.now w n d) c.in-Going.is is.is in
+    c.in_ok-outcome-in-Going.ensures.is l is_code are v d (record { none = c.if-point-eq0.true; stands = stands; good = is.good; rules = is.rules }) c.args.mode c.args.budget.now
+
+pub returns-in_ok-run_goal-in-Going-clause-is : goal.returns-in_ok-run_goal-in-Going-clause-is
+returns-in_ok-run_goal-in-Going-clause-is g c = λ running l is_code are v d is.
+    let run = c.args.run.now in
+    let end = c.run_goal.new.run in
+    let w : World _ = world l (g.S.StateStore.seen run.store) g.S.StateStore.order (view_of run.arenas) in
+    let after : World _ = world l (g.S.StateStore.seen end.store) g.S.StateStore.order (view_of end.arenas) in
+    let stands : Stands w (Now.Going c.in-Going.at) d = subst (λ n. IsAt v c.args.names.now w n d) c.in-Going.is is.is in
+    let some : 0 < c.in-Going.at.count = omega (arith, c.if-point-eq0.false) in
+    ticks-is v c.args.names.now c.args.mode c.args.budget.now c.run_goal.new.budget after end.now d (c.in_ok-run_goal-in-Going.ensures.goes l is_code v c.args.names.now d some stands is.good is.rules)
+
+pub returns-in_ok-fail-in-Failing-clause-is : goal.returns-in_ok-fail-in-Failing-clause-is
+returns-in_ok-fail-in-Failing-clause-is g c = λ running l is_code are v d is.
+    let run = c.args.run.now in
+    let end = c.fail.new.run in
+    let w : World _ = world l (g.S.StateStore.seen run.store) g.S.StateStore.order (view_of run.arenas) in
+    let after : World _ = world l (g.S.StateStore.seen end.store) g.S.StateStore.order (view_of end.arenas) in
+    fails-is w after v c.args.names.now c.args.mode c.args.budget.now end.now d refl (subst (λ n. IsIn v c.args.names.now w n d) c.in-Failing.is is) (c.in_ok-fail-in-Failing.ensures l is_code)
+
+pub returns-in_ok-unwind-in-Raising-clause-is : goal.returns-in_ok-unwind-in-Raising-clause-is
+returns-in_ok-unwind-in-Raising-clause-is g c = λ running l is_code are v d is.
+    let run = c.args.run.now in
+    let end = c.unwind.new.run in
+    let w : World _ = world l (g.S.StateStore.seen run.store) g.S.StateStore.order (view_of run.arenas) in
+    let after : World _ = world l (g.S.StateStore.seen end.store) g.S.StateStore.order (view_of end.arenas) in
+    raises-is w after v c.args.names.now c.args.mode c.args.budget.now run.now end.now c.in-Raising.field-0 d refl c.in-Raising.is is (c.in_ok-unwind-in-Raising.ensures l is_code)
+
+pub returns-in-Ended-clause-is : goal.returns-in-Ended-clause-is
+returns-in-Ended-clause-is g c = λ running l is_code are v d is. absurd (subst IsRunning c.in-Ended.is running)

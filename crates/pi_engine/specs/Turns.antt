@@ -1,0 +1,91 @@
+-- What a step of the machine's code does, and what a call of `next` comes to.
+use Rattle.std.specs.Prelude.{◌≡◌, ◌⊎◌, List, [], ◌∷◌, ◌++◌, ⊤}
+use Rattle.pi_types.specs.Trace.{Emitted, answered}
+use Rattle.pi_types.specs.View.{View}
+use Rattle.pi_types.specs.Run.{Solution}
+use Rattle.pi_types.specs.declared.core_program.NameSlot.{NameSlot}
+use Rattle.pi_engine.specs.declared.happening.Budget.{Budget}
+use Rattle.pi_engine.specs.declared.happening.Happening.{Happening}
+use Rattle.pi_engine.specs.declared.happening.Mode.{Mode}
+use Rattle.pi_engine.specs.declared.run.End.{End as RunEnd}
+use Rattle.pi_engine.specs.declared.run.Now.{Now}
+use Rattle.pi_engine.specs.declared.turns.Outcome.{Outcome}
+use Rattle.pi_engine.specs.Configuration.{Config}
+use Rattle.pi_engine.specs.Shape.{IsGood}
+use Rattle.pi_engine.specs.Stands.{World}
+use Rattle.pi_engine.specs.Next.{Tells, some_ticks, NextIs}
+use Rattle.pi_engine.specs.Goes.{counted, IsAt, Goes, IsSpent}
+
+-- ---- one step
+
+-- a step with these events, and then with its answer, where it has one
+abbrev pub OutcomeIs : {M : Type 0} → View → List NameSlot → List (Emitted Solution) → World M → Now → Config → Outcome → Type 0
+OutcomeIs v names events after now c Outcome.More = Goes v names events after now c
+OutcomeIs v names events after now c (Outcome.Answered a) = (x : Solution) × Tells names x a × Goes v names (events ++ answered x ∷ []) after now c
+
+-- a step, with the Ticks that it counts
+pub record StepIs {M : Type 0} (v : View) (names : List NameSlot) (mode : Mode) (old new : Budget) (after : World M) (now : Now) (c : Config) (outcome : Outcome) : Type 0 where
+  pub is : OutcomeIs v names (some_ticks (counted mode old new)) after now c outcome
+  pub spent : IsSpent mode new now
+
+-- ---- a call of `next`
+
+-- a run that has not ended
+abbrev pub IsRunning : Now → Type 0
+IsRunning (Now.Ended e) = ⊥
+IsRunning now = ⊤
+
+-- an end for want of a Tick is that of what the machine counts in
+abbrev pub FitsMode : Mode → Now → Type 0
+FitsMode mode (Now.Ended RunEnd.StepsSpent) = mode ≡ Mode.Top
+FitsMode mode (Now.Ended RunEnd.WorkSpent) = mode ≡ Mode.Inner
+FitsMode mode now = ⊤
+
+-- from a configuration on: what happens, and where the run is then
+pub record NextComes {M : Type 0} (v : View) (names : List NameSlot) (mode : Mode) (old new : Budget) (after : World M) (before now : Now) (c : Config) (happening : Happening) : Type 0 where
+  pub comes : Config
+  pub is : NextIs v after.loaded.preds names (counted mode old new) happening c comes
+  pub good : IsGood comes
+  pub at : IsAt v names after now comes
+  pub spent : IsRunning before → IsSpent mode new now
+  pub fits : FitsMode mode before → FitsMode mode now
+
+-- a run that has an answer goes on
+abbrev pub RunsAfter : Outcome → Now → Type 0
+RunsAfter Outcome.More now = ⊤
+RunsAfter (Outcome.Answered a) now = IsRunning now
+
+-- the end of a run, as it is answered
+abbrev pub IsAnswered : RunEnd → Happening → Type 0
+IsAnswered RunEnd.Done happening = happening ≡ Happening.Done
+IsAnswered (RunEnd.Raised ball) happening = happening ≡ Happening.Raised ball
+IsAnswered RunEnd.StepsSpent happening = happening ≡ Happening.StepsSpent
+IsAnswered RunEnd.WorkSpent happening = happening ≡ Happening.WorkSpent
+IsAnswered RunEnd.Memory happening = happening ≡ Happening.Memory
+
+-- what happens is what a run's end is answered by from then on; behind an answer it has not ended
+abbrev pub Lasts : Happening → Now → Type 0
+Lasts (Happening.Answer a) now = IsRunning now
+Lasts (Happening.Out text) now = ⊥
+Lasts (Happening.NeedPlan call) now = ⊥
+Lasts Happening.Done now = now ≡ Now.Ended RunEnd.Done
+Lasts (Happening.Raised ball) now = now ≡ Now.Ended (RunEnd.Raised ball)
+Lasts Happening.StepsSpent now = now ≡ Now.Ended RunEnd.StepsSpent
+Lasts Happening.WorkSpent now = now ≡ Now.Ended RunEnd.WorkSpent
+Lasts Happening.Memory now = now ≡ Now.Ended RunEnd.Memory
+
+-- An end is answered again, and nothing changes. A ball is copied, for which memory may be wanted.
+abbrev pub IsRepeated : {R : Type 0} → RunEnd → R → R → Budget → Budget → Happening → Type 0
+IsRepeated RunEnd.Done old new b c happening = (happening ≡ Happening.Done) × (new ≡ old) × (c ≡ b)
+IsRepeated (RunEnd.Raised ball) old new b c happening = (((happening ≡ Happening.Raised ball) × (new ≡ old)) ⊎ (happening ≡ Happening.Memory)) × (c ≡ b)
+IsRepeated RunEnd.StepsSpent old new b c happening = (happening ≡ Happening.StepsSpent) × (new ≡ old) × (c ≡ b)
+IsRepeated RunEnd.WorkSpent old new b c happening = (happening ≡ Happening.WorkSpent) × (new ≡ old) × (c ≡ b)
+IsRepeated RunEnd.Memory old new b c happening = (happening ≡ Happening.Memory) × (new ≡ old) × (c ≡ b)
+
+-- the ends for whose answer memory may be wanted
+abbrev pub IsRaised : RunEnd → Type 0
+IsRaised RunEnd.Done = ⊥
+IsRaised (RunEnd.Raised ball) = ⊤
+IsRaised RunEnd.StepsSpent = ⊥
+IsRaised RunEnd.WorkSpent = ⊥
+IsRaised RunEnd.Memory = ⊥

@@ -1,0 +1,166 @@
+//! The turns of a machine: one step after the other, until there is an answer or an end.
+ghost use Rattle.std.specs.Prelude.{◌≡◌, Some, IfOk, IfErr};
+ghost use Rattle.pi_types.specs.View.{View};
+ghost use Rattle.pi_engine.specs.declared.happening.Budget.{Budget};
+ghost use Rattle.pi_engine.specs.declared.happening.Mode.{Mode};
+ghost use Rattle.pi_engine.specs.declared.run.End.{End};
+ghost use Rattle.pi_engine.specs.Budget.{Counts};
+ghost use Rattle.pi_engine.specs.Frames.{frame_at};
+ghost use Rattle.pi_engine.specs.Arenas.{view_of};
+ghost use Rattle.pi_engine.specs.Configuration.{Config};
+ghost use Rattle.pi_engine.specs.Answers.{AreNames};
+ghost use Rattle.pi_engine.specs.Stands.{Loaded, world};
+ghost use Rattle.pi_engine.specs.Makes.{GoesFrom};
+ghost use Rattle.pi_engine.specs.Goes.{IsIn, IsSpent, PointIsDone};
+ghost use Rattle.pi_engine.specs.Turns.{StepIs, NextComes, IsRunning, RunsAfter, IsAnswered, IsRepeated, Lasts, IsRaised};
+
+use crate::code::Code;
+use crate::frames::Point;
+use crate::happening::{Budget, Happening, Mode};
+use crate::run::{End, Now, Run};
+use crate::steps::answers::answer;
+use crate::steps::goals::run_goal;
+use crate::steps::levels::{answer_level, fail};
+use crate::steps::raises::unwind;
+use pi_types::{Answer, NameSlot, StateStore};
+use std::alloc::{AllocError, Global};
+
+/// What a step comes to.
+pub enum Outcome {
+    More,
+    Answered(Answer),
+}
+
+/// What comes next in a run: an answer, or the end.
+pub fn next_happening<S: StateStore>(
+    code: &Code<'_>,
+    mode: Mode,
+    names: &[NameSlot],
+    run: &mut Run<S>,
+    budget: &mut Budget,
+) -> Happening
+    ensures counts { Counts budget.old budget.new }
+    ensures comes { (l : Loaded) → l.code ≡ code.now → AreNames l.query_slots names.now → (v : View) (c : Config) → IsIn v names.now (world l (S.seen run.old.store) S.order (view_of run.old.arenas)) run.old.now c → NextComes v names.now mode budget.old budget.new (world l (S.seen run.new.store) S.order (view_of run.new.arenas)) run.old.now run.new.now c result }
+    ensures repeats { (e : End) → run.old.now ≡ Now.Ended e → IsRepeated e run.old run.new budget.old budget.new result }
+    ensures lasts { Lasts result run.new.now }
+{
+    for turn in 0..u64::MAX {
+        if let Now::Ended(end) = &run.now {
+            let Ok(happening) = repeated(run.alloc, end) else {
+                return memory_wanted(run);
+            };
+            return happening;
+        }
+        let Ok(outcome) = step(code, mode, names, run, budget) else {
+            return memory_wanted(run);
+        };
+        match outcome {
+            Outcome::More => {}
+            Outcome::Answered(answer) => return Happening::Answer(answer),
+        }
+    }
+    memory_wanted(run)
+}
+
+/// Ends a run for want of memory.
+fn memory_wanted<S: StateStore>(run: &mut Run<S>) -> Happening
+    ensures result { result ≡ Happening.Memory }
+    ensures ended { run.new.now ≡ Now.Ended End.Memory }
+{
+    run.now = Now::Ended(End::Memory);
+    Happening::Memory
+}
+
+/// One step of a run. Where it has ended, nothing.
+fn step<S: StateStore>(
+    code: &Code<'_>,
+    mode: Mode,
+    names: &[NameSlot],
+    run: &mut Run<S>,
+    budget: &mut Budget,
+) -> Result<Outcome, AllocError>
+    ensures counts { Counts budget.old budget.new }
+    ensures answered { IfOk result (λ outcome. RunsAfter outcome run.new.now) }
+    ensures is { IfOk result (λ outcome. IsRunning run.old.now → (l : Loaded) → l.code ≡ code.now → AreNames l.query_slots names.now → (v : View) (c : Config) → IsIn v names.now (world l (S.seen run.old.store) S.order (view_of run.old.arenas)) run.old.now c → StepIs v names.now mode budget.old budget.new (world l (S.seen run.new.store) S.order (view_of run.new.arenas)) run.new.now c outcome) }
+{
+    match &run.now {
+        Now::Going(at) => {
+            // Part by part: to copy it whole is to wait for the writes of all its parts.
+            let point = Point {
+                place: at.place,
+                count: at.count,
+                base: at.base,
+                frame: at.frame,
+            };
+            if point.count == 0 {
+                let outcome = go_on(code, names, run, point)?;
+                return Ok(outcome);
+            }
+            run_goal(code, mode, run, point, budget)?;
+            Ok(Outcome::More)
+        }
+        Now::Failing => {
+            fail(code, run)?;
+            Ok(Outcome::More)
+        }
+        Now::Raising(_) => {
+            unwind(code, run)?;
+            Ok(Outcome::More)
+        }
+        Now::Ended(_) => Ok(Outcome::More),
+    }
+}
+
+/// Goes on behind goals that are done: with a frame, or with an answer of the newest open level or of the query.
+fn go_on<S: StateStore>(
+    code: &Code<'_>,
+    names: &[NameSlot],
+    run: &mut Run<S>,
+    point: Point,
+) -> Result<Outcome, AllocError>
+    ensures answered { IfOk result (λ outcome. RunsAfter outcome run.new.now) }
+    ensures is { IfOk result (λ outcome. (l : Loaded) → l.code ≡ code.now → AreNames l.query_slots names.now → (v : View) (c : Config) → PointIsDone (world l (S.seen run.old.store) S.order (view_of run.old.arenas)) point c → (mode : Mode) (b : Budget) → StepIs v names.now mode b b (world l (S.seen run.new.store) S.order (view_of run.new.arenas)) run.new.now c outcome) }
+{
+    if let Some(next) = run.arenas.frames.get(point.frame) {
+        follow(run, point, next);
+        return Ok(Outcome::More);
+    }
+    if run.arenas.level > 0 {
+        answer_level(code, run)?;
+        return Ok(Outcome::More);
+    }
+    match answer(run, names)? {
+        Ok(answer) => {
+            run.now = Now::Failing;
+            Ok(Outcome::Answered(answer))
+        }
+        Err(ball) => {
+            run.now = Now::Ended(End::Raised(ball));
+            Ok(Outcome::More)
+        }
+    }
+}
+
+/// Goes on with a point's frame, whose goals are done.
+fn follow<S: StateStore>(run: &mut Run<S>, point: Point, next: Point)
+    ensures { (l : Loaded) → point.count ≡ 0 → frame_at run.old.arenas.frames point.frame ≡ Some next → GoesFrom (world l (S.seen run.old.store) S.order (view_of run.old.arenas)) (world l (S.seen run.new.store) S.order (view_of run.new.arenas)) point run.new.now }
+{
+    run.now = Now::Going(run.arenas.go_on(point, next));
+}
+
+/// An end, answered again.
+fn repeated(alloc: Global, end: &End) -> Result<Happening, AllocError>
+    ensures ok { IfOk result (λ happening. IsAnswered end.now happening) }
+    ensures err { IfErr result (λ _. IsRaised end.now) }
+{
+    match end {
+        End::Done => Ok(Happening::Done),
+        End::Raised(ball) => {
+            let copied = ball.copy(alloc)?;
+            Ok(Happening::Raised(copied))
+        }
+        End::StepsSpent => Ok(Happening::StepsSpent),
+        End::WorkSpent => Ok(Happening::WorkSpent),
+        End::Memory => Ok(Happening::Memory),
+    }
+}
