@@ -1,8 +1,8 @@
 -- What an answer tells, from the state in which its names are read to the one behind it.
-use Rattle.std.proofs.Common.{◌≡◌, ◌⊎◌, inl, inr, ℕ, zero, suc, ◌≤◌, List, [], ◌∷◌, ◌++◌, Option, Some, None, length, refl, sym, ◌∙◌, ap, subst, arith}
+use Rattle.std.proofs.Common.{◌≡◌, inl, inr, ℕ, List, [], ◌∷◌, ◌++◌, Option, Some, None, refl, sym, ◌∙◌, ap, subst, arith}
 use Rattle.std.specs.List.{flat_map}
 use Rattle.pi_types.specs.Tree.{Tree, var}
-use Rattle.pi_types.specs.Variables.{occurrences, firsts}
+use Rattle.pi_types.specs.Variables.{occurrences}
 use Rattle.pi_types.specs.Places.{Places, held}
 use Rattle.pi_types.specs.Value.{IsAcyclic, value}
 use Rattle.pi_types.specs.State.{State, bindings, binding, domain_in, domain_of, next, with_new}
@@ -14,7 +14,7 @@ use Rattle.pi_types.specs.declared.core_program.NameSlot.{NameSlot}
 use Rattle.pi_types.specs.declared.answer.NamedTerm.{NamedTerm}
 use Rattle.pi_types.specs.declared.answer.VarDomain.{VarDomain}
 use Rattle.pi_types.specs.declared.answer.Answer.{Answer}
-use Rattle.pi_types.proofs.StateLemmas.{variable, held_is, as_many}
+use Rattle.pi_types.proofs.StateLemmas.{held_is, as_many}
 use Rattle.pi_types.proofs.VariableLemmas.{Has, Has-append_cases, occurs_from_Has}
 use Rattle.pi_types.proofs.ValueLemmas.{value_has_none_bound}
 use Rattle.pi_engine.specs.Domains.{AreUnbound}

@@ -1,5 +1,4 @@
 use Rattle.std.proofs.Common.{◌+◌, sym, subst, arith}
-use Rattle.std.proofs.lemmas.List.{append-nil}
 use Rattle.pi_types.specs.Tree.{subterms}
 use Rattle.pi_unify.proofs.BuildLemmas.{NodeAt, node_at}
 use Rattle.pi_engine.specs.Domains.{HasMet}
