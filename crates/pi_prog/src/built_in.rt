@@ -1,11 +1,15 @@
 //! The names that the whole language builds in.
+ghost use Rattle.std.specs.Prelude.{◌≡◌};
+ghost use Rattle.std.specs.List.{list_any};
+ghost use Rattle.pi_prog.specs.BuiltIn.{is_built_in_name, is_named_by, rows_shown};
 
 /// A name that is built in, with its least and its greatest number of arguments.
 type BuiltIn = (&'static str, usize, usize);
 
-/// Functions, predicates and the prelude. A User's Guide to Picat, 'Appendix: Predicates and Functions'; which of them
+/// Functions, predicates and the prelude, and of the signs `=`. A User's Guide to Picat, 'Appendix: Predicates and Functions'; which of them
 /// are there is own.
-const BUILT_IN: [BuiltIn; 68] = [
+const BUILT_IN: [BuiltIn; 69] = [
+    ("=", 2, 2),
     ("abs", 1, 1),
     ("sign", 1, 1),
     ("div", 2, 2),
@@ -76,9 +80,22 @@ const BUILT_IN: [BuiltIn; 68] = [
     ("between", 3, 3),
 ];
 
+/// Whether a table has the name with this number of arguments.
+fn is_listed(rows: &[BuiltIn], name: &str, arity: usize) -> bool
+    ensures { result ≡ list_any (is_named_by name.now arity) (rows_shown rows.now) }
+{
+    for row in rows {
+        if row.0 == name && row.1 <= arity && arity <= row.2 {
+            return true;
+        }
+    }
+    false
+}
+
 /// Whether the name is built in with this number of arguments.
-pub(crate) fn is_built_in(name: &str, arity: usize) -> bool {
-    BUILT_IN.iter().any(|(built_in, least, most)| *built_in == name
-        && *least <= arity
-        && arity <= *most)
+#[tactic(auto, unfolding(crate::specs::BuiltIn::built_in_names))]
+pub(crate) fn is_built_in(name: &str, arity: usize) -> bool
+    ensures { result ≡ is_built_in_name name.now arity }
+{
+    is_listed(&BUILT_IN, name, arity)
 }
