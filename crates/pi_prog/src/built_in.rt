@@ -6,8 +6,8 @@ ghost use Rattle.pi_prog.specs.BuiltIn.{is_built_in_name, is_named_by, rows_show
 /// A name that is built in, with its least and its greatest number of arguments.
 type BuiltIn = (&'static str, usize, usize);
 
-/// Functions, predicates and the prelude, and of the signs `=`. A User's Guide to Picat, 'Appendix: Predicates and Functions'; which of them
-/// are there is own.
+/// Functions, predicates and the prelude, and of the signs `=`. A User's Guide to Picat, 'Appendix: Predicates and
+/// Functions'; which of them are there is own.
 const BUILT_IN: [BuiltIn; 69] = [
     ("=", 2, 2),
     ("abs", 1, 1),
