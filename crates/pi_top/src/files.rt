@@ -1,5 +1,6 @@
-ghost use Rattle.std.specs.Prelude.{◌≡◌, IfErr};
+ghost use Rattle.std.specs.Prelude.{◌≡◌, IfOk, IfErr};
 ghost use Rattle.pi_outside.specs.Faults.{Rose};
+ghost use Rattle.pi_top.specs.Texts.{IsRead};
 ghost use Rattle.pi_top.specs.declared.files.FileStop.TheVariants.{Fault, Memory};
 
 use pi_outside::Files;
@@ -27,17 +28,18 @@ impl From<AllocError> for FileStop {
 
 /// A file's bytes. No more is read once they are more than a text may have.
 pub fn read_file<F: Files>(alloc: Global, files: &mut F, name: &str) -> Result<Vec<u8>, FileStop>
-    ensures { IfErr result (λ e. e ≡ Fault → Rose (F.faults files.old) (F.faults files.new)) }
+    ensures read { IfOk result (λ text. IsRead (F.held files.new) name.now text.items) }
+    ensures fault { IfErr result (λ e. e ≡ Fault → Rose (F.faults files.old) (F.faults files.new)) }
 {
     let mut piece = [0u8; PIECE];
     let mut bytes = Vec::new(alloc);
-    for _turn in 0..=MAX_TEXT {
+    while bytes.len() <= MAX_TEXT {
         let at = bytes.len() as u64;
         let Ok(count) = files.read_at(name, at, &mut piece) else {
             return Err(FileStop::Fault);
         };
-        if count == 0 || bytes.len() > MAX_TEXT {
-            break;
+        if count == 0 {
+            return Ok(bytes);
         }
         bytes.extend_from_slice(&piece[..count])?;
     }

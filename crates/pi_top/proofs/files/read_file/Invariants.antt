@@ -1,5 +1,14 @@
-use Rattle.std.proofs.Common.{◌≡◌}
+use Rattle.std.proofs.Common.{◌≡◌, ◌<◌, ◌-◌, length}
+use Rattle.pi_outside.specs.Held.{HasPiece, IsThere}
 use Rattle.pi_top.proofs.files.read_file.Given as goal
 
-abbrev pub invariant-loop-turn : goal.invariant-loop-turn
-invariant-loop-turn g l = g.F.Files.faults l.files ≡ g.F.Files.faults l.initial.files
+abbrev pub invariant-loop-piece : goal.invariant-loop-piece
+invariant-loop-piece g l = record {
+  no_fault : g.F.Files.faults l.files ≡ g.F.Files.faults l.initial.files;
+  has : HasPiece (g.F.Files.held l.files) l.name 0 l.bytes.items;
+  there : 0 < length l.bytes.items → IsThere (g.F.Files.held l.files) l.name;
+  room : 0 < length l.piece;
+}
+
+abbrev pub decreases-loop-piece : goal.decreases-loop-piece
+decreases-loop-piece g l = 16777217 - length l.bytes.items
