@@ -1,6 +1,6 @@
 -- A file that is read piece by piece.
 use Rattle.std.proofs.Common.{◌≡◌, ◌<◌, ℕ, ◌+◌, List, [], ◌++◌, length, Option, None, Some, inl, inr, refl, sym, subst, arith}
-use Rattle.std.specs.Prelude.{IsSome, unwrap_or, take}
+use Rattle.std.specs.Prelude.{IsSome, unwrap_or}
 use Rattle.pi_outside.specs.Held.{Holding, bytes_of, Keeps, IsThere, HasPiece, EndsBy}
 use Rattle.pi_outside.proofs.Held.{HasPiece-keeps, HasPiece-then, HasPiece-all}
 use Rattle.pi_top.specs.Prefix.{IsPrefix}

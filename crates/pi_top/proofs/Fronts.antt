@@ -1,5 +1,5 @@
 -- Fronts of lists, and what a sink has taken of them.
-use Rattle.std.proofs.Common.{◌≡◌, ℕ, List, [], ◌++◌, Option, take, drop, sym, ap, ◌∙◌, refl, append_assoc}
+use Rattle.std.proofs.Common.{ℕ, List, [], ◌++◌, Option, take, drop, sym, ap, ◌∙◌, refl, append_assoc}
 use Rattle.std.proofs.lemmas.List.{append-nil, take-append-drop}
 use Rattle.pi_outside.specs.Taken.{Takes}
 use Rattle.pi_outside.proofs.Taken.{Takes-none, Takes-then}

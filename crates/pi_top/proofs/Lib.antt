@@ -1,7 +1,14 @@
+pub mod AskedAnswers
 pub mod Asking
+pub mod Completing
+pub mod EndingLemmas
 pub mod Endings
+pub mod EventLemmas
 pub mod FileReads
 pub mod Fronts
+pub mod MachineRuns
 pub mod Modes
+pub mod QueryRuns
 pub mod Results
 pub mod Runs
+pub mod WrittenLines

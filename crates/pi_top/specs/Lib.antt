@@ -1,7 +1,15 @@
+pub mod Completeness
+pub mod CutOff
+pub mod Ends
 pub mod Faults
+pub mod Headline
 pub mod Prefix
+pub mod Printing
+pub mod QueryEnd
+pub mod Running
 pub mod Runs
 pub mod Settings
 pub mod Statuses
 pub mod Texts
 pub mod Words
+pub mod Writing

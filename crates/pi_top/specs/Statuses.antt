@@ -1,11 +1,18 @@
 -- What a run comes to: its status, and what the sink has taken with it, where that is told.
-use Rattle.std.specs.Prelude.{◌≡◌, ◌≢◌, ◌<◌, ◌⊎◌, ℕ, List, Option, None, Some}
+use Rattle.std.specs.Prelude.{◌≡◌, ◌≢◌, ◌<◌, ℕ, List, [], Option, None, Some}
 use lib.Chars.{codes}
+use Rattle.pi_outside.specs.Held.{Holding}
 use Rattle.pi_outside.specs.Taken.{Takes}
+use Rattle.pi_types.specs.CoreTree.{PredTree, QueryTree}
+use Rattle.pi_types.specs.declared.log.LogEntry.{LogEntry}
+use Rattle.pi_engine.specs.Built.{IsRunnable}
+use Rattle.pi_top.specs.declared.outcome.QueryRun.{QueryRun}
 use Rattle.pi_top.specs.declared.run_mode.RunMode.{RunMode}
 use Rattle.pi_top.specs.declared.run_mode.RunMode.TheVariants.{Query}
 use Rattle.pi_top.specs.declared.words.Options.{Options}
-use Rattle.pi_top.specs.Words.{options}
+use Rattle.pi_top.specs.Headline.{IsAsked}
+use Rattle.pi_top.specs.Running.{HasRan}
+use Rattle.pi_top.specs.Texts.{IsRead}
 
 abbrev pub usage_line : List ℕ
 usage_line = codes "usage: picatq [--answers N] [--steps N] [--work N] [--mode query|run|session|print|demo] FILE [GOAL]\n"
@@ -22,9 +29,13 @@ goal_line = codes "goal: NotBuilt\n"
 abbrev pub read_fault_line : List ℕ
 read_fault_line = codes "read fault\n"
 
--- this line alone was written, and this is its status
-pub record IsLine (line : List ℕ) (its status : ℕ) (before after : Option (List ℕ)) : Type 0 where
+abbrev pub memory_line : List ℕ
+memory_line = codes "want of memory\n"
+
+-- this line alone was written, this is its status, and no goal was run
+pub record IsLine (line : List ℕ) (its status : ℕ) (queries : List QueryRun) (before after : Option (List ℕ)) : Type 0 where
   pub is_its : status ≡ its
+  pub none_ran : queries ≡ []
   pub written : Takes before line after
 
 -- a goal was run: its end has none of the statuses of what comes before a run
@@ -33,23 +44,25 @@ pub record IsRun (status : ℕ) : Type 0 where
   pub no_usage : status ≢ 2
   pub no_fault : status ≢ 3
 
--- in the mode `query`
-pub record EndsQuery (status : ℕ) (before after : Option (List ℕ)) : Type 0 where
-  pub below : status < 8
-  pub no_usage : status ≢ 2
-  pub fault : status ≡ 3 → Takes before program_line after ⊎ Takes before goal_line after
-  pub read_fault : status ≡ 7 → Takes before read_fault_line after
+-- with a program's text and a goal's: the line of a fault, or the goal was run
+pub data EndsText (asked : Options) (text goal : List ℕ) (queries : List QueryRun) (log : List LogEntry) (status : ℕ) (before after : Option (List ℕ)) : Type 0 where
+  program_fault : IsLine program_line 3 status queries before after → EndsText asked text goal queries log status before after
+  goal_fault : IsLine goal_line 3 status queries before after → EndsText asked text goal queries log status before after
+  ran : (program : List PredTree) (q : QueryTree) → IsAsked text goal program q → IsRun status →
+      (IsRunnable program q → HasRan asked.answers asked.steps program q log [] queries before after status) → EndsText asked text goal queries log status before after
 
--- in a mode
-abbrev pub EndsIn : RunMode → ℕ → Option (List ℕ) → Option (List ℕ) → Type 0
-EndsIn Query status before after = EndsQuery status before after
-EndsIn other status before after = IsLine mode_line 3 status before after
+-- in the mode `query`: the file isn't read, or its text is
+pub data EndsQuery (asked : Options) (held : Option Holding) (queries : List QueryRun) (log : List LogEntry) (status : ℕ) (before after : Option (List ℕ)) : Type 0 where
+  read_fault : IsLine read_fault_line 7 status queries before after → EndsQuery asked held queries log status before after
+  was_read : (text goal : List ℕ) → IsRead held asked.file text → asked.goal ≡ Some goal → EndsText asked text goal queries log status before after →
+      EndsQuery asked held queries log status before after
+
+-- in a mode; only `query` is built
+abbrev pub EndsIn : RunMode → Options → Option Holding → List QueryRun → List LogEntry → ℕ → Option (List ℕ) → Option (List ℕ) → Type 0
+EndsIn Query asked held queries log status before after = EndsQuery asked held queries log status before after
+EndsIn other asked held queries log status before after = IsLine mode_line 3 status queries before after
 
 -- by what the words ask: the usage line exactly where that is nothing
-abbrev pub EndsBy : Option Options → ℕ → Option (List ℕ) → Option (List ℕ) → Type 0
-EndsBy None status before after = IsLine usage_line 2 status before after
-EndsBy (Some asked) status before after = EndsIn asked.mode status before after
-
--- a failed write and want of memory come in place of all this
-abbrev pub Ends : List (List ℕ) → ℕ → Option (List ℕ) → Option (List ℕ) → Type 0
-Ends words status before after = (status ≡ 8) ⊎ (status ≡ 9) ⊎ EndsBy (options words) status before after
+abbrev pub EndsBy : Option Options → Option Holding → List QueryRun → List LogEntry → ℕ → Option (List ℕ) → Option (List ℕ) → Type 0
+EndsBy None held queries log status before after = IsLine usage_line 2 status queries before after
+EndsBy (Some asked) held queries log status before after = EndsIn asked.mode asked held queries log status before after

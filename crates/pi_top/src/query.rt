@@ -1,10 +1,19 @@
-ghost use Rattle.std.specs.Prelude.{◌≡◌, IfOk, OnOk};
+ghost use Rattle.std.specs.Prelude.{◌≡◌, ◌<◌, List, IfOk};
+ghost use Rattle.std.specs.String.{string_bytes};
+ghost use Rattle.std.specs.List.{concat};
+ghost use Rattle.pi_types.specs.CoreTree.{PredTree, QueryTree, program_tree, query_tree};
+ghost use Rattle.pi_types.specs.PrintAnswer.{answer_lines};
+ghost use Rattle.pi_types.specs.State.{empty_state};
 ghost use Rattle.pi_engine.specs.Budget.{IsWithin};
-ghost use Rattle.pi_outside.specs.Taken.{Takes};
+ghost use Rattle.pi_engine.specs.Built.{IsRunnable};
+ghost use Rattle.pi_engine.specs.Runs.{machine_view};
 ghost use Rattle.pi_top.specs.declared.query.Stop.TheVariants.{Memory, Write};
 ghost use Rattle.pi_top.specs.Faults.{TellsWrites};
+ghost use Rattle.pi_top.specs.QueryEnd.{Exception, line_of};
+ghost use Rattle.pi_top.specs.Running.{IsAtStart, ComesTo, HasRun};
 ghost use Rattle.pi_top.specs.Runs.{AllWithin};
 ghost use Rattle.pi_top.specs.Statuses.{IsRun};
+ghost use Rattle.pi_top.specs.Writing.{Writes, WritesLine, WritesEnd};
 
 use crate::lines::write_text;
 use crate::outcome::{Queries, QueryRun};
@@ -12,7 +21,7 @@ use crate::words::Options;
 use pi_engine::{Budget, Happening, Machine, Mode};
 use pi_outside::{Failed, Sink};
 use pi_print::{answer_text, term_text};
-use pi_types::{Answer, CoreProgram, CoreQuery, Term, TreeStore, Work};
+use pi_types::{Answer, CoreProgram, CoreQuery, StateStore, Term, TreeStore, Work};
 use std::alloc::{AllocError, Global};
 
 /// What ends a run without a line of its own.
@@ -50,61 +59,60 @@ pub fn run_query<O: Sink>(
     ensures writes { TellsWrites (O.faults out.old) (O.faults out.new) result }
     ensures status { IfOk result IsRun }
     ensures ran { AllWithin asked.now.steps queries.old → AllWithin asked.now.steps queries.new }
+    ensures comes { IsRunnable (program_tree core.now) (query_tree query) → 0 < asked.now.answers → HasRun asked.now.answers asked.now.steps (program_tree core.now) (query_tree query) queries.old queries.new (O.taken out.old) (O.taken out.new) result }
 {
+    let store = TreeStore::new(alloc)?;
+    run_over(alloc, core, query, store, asked, out, queries)
+}
+
+/// The same over a store with the empty state.
+fn run_over<S: StateStore, O: Sink>(
+    alloc: Global,
+    core: &CoreProgram,
+    query: CoreQuery,
+    store: S,
+    asked: &Options,
+    out: &mut O,
+    queries: &mut Queries,
+) -> Result<u8, Stop>
+    ensures writes { TellsWrites (O.faults out.old) (O.faults out.new) result }
+    ensures status { IfOk result IsRun }
+    ensures ran { AllWithin asked.now.steps queries.old → AllWithin asked.now.steps queries.new }
+    ensures comes { (S.seen store).now.state ≡ empty_state → IsRunnable (program_tree core.now) (query_tree query) → 0 < asked.now.answers → HasRun asked.now.answers asked.now.steps (program_tree core.now) (query_tree query) queries.old queries.new (O.taken out.old) (O.taken out.new) result }
+{
+    let Ok(mut machine) = Machine::new(alloc, core, query, store, Mode::Top) else {
+        return Err(Stop::Memory);
+    };
     let mut budget = Budget {
         ticks: 0,
         steps: asked.steps,
         work: Work::NONE,
         limit: asked.work,
     };
-    let mut machine = begin(alloc, core, query, &budget, queries)?;
-    write_answers(
-        alloc,
-        &mut machine,
-        &mut budget,
-        asked.answers,
-        out,
-        queries,
-    )
-}
-
-/// A machine that is to run a query, which is listed with those that were run.
-fn begin<'p>(
-    alloc: Global,
-    core: &'p CoreProgram,
-    query: CoreQuery,
-    budget: &Budget,
-    queries: &mut Queries,
-) -> Result<Machine<'p, TreeStore>, AllocError>
-    requires { IsWithin budget.now }
-    ensures ran { AllWithin budget.now.steps queries.old → AllWithin budget.now.steps queries.new }
-{
-    let store = TreeStore::new(alloc)?;
-    let Ok(machine) = Machine::new(alloc, core, query, store, Mode::Top) else {
-        return Err(AllocError);
+    let Ok(()) = queries.push(run_of(&budget)) else {
+        return Err(Stop::Memory);
     };
-    queries.push(run_of(budget)).map_err(AllocError::from)?;
-    Ok(machine)
+    let status = write_answers(alloc, &mut machine, &mut budget, asked.answers, out);
+    queries.set_last(run_of(&budget));
+    status
 }
 
 /// Writes the answers that a machine gives, as many as are asked for at most, and the line of the end.
-fn write_answers<O: Sink>(
+fn write_answers<S: StateStore, O: Sink>(
     alloc: Global,
-    machine: &mut Machine<'_, TreeStore>,
+    machine: &mut Machine<'_, S>,
     budget: &mut Budget,
     answers: u64,
     out: &mut O,
-    queries: &mut Queries,
 ) -> Result<u8, Stop>
-    requires { IsWithin budget.old }
     ensures writes { TellsWrites (O.faults out.old) (O.faults out.new) result }
     ensures status { IfOk result IsRun }
-    ensures ran { AllWithin budget.old.steps queries.old → AllWithin budget.old.steps queries.new }
+    ensures within { IsWithin budget.old → IsWithin budget.new }
+    ensures steps { budget.new.steps ≡ budget.old.steps }
+    ensures comes { (program : List PredTree) (q : QueryTree) → IsAtStart (machine_view S.seen S.order machine.old) budget.old answers program q → ComesTo answers budget.old.steps program q budget.new.ticks (O.taken out.old) (O.taken out.new) result }
 {
     for given in 0..answers {
-        let happening = machine.next(budget);
-        queries.set_last(run_of(budget));
-        match happening {
+        match machine.next(budget) {
             Happening::Answer(answer) => write_answer(alloc, out, &answer)?,
             end => return write_end(alloc, out, end, given > 0),
         }
@@ -113,7 +121,7 @@ fn write_answers<O: Sink>(
 }
 
 fn run_of(budget: &Budget) -> QueryRun
-    ensures { result.ticks ≡ budget.now.ticks }
+    ensures { result ≡ record { ticks = budget.now.ticks; work = budget.now.work; known = 0; first = 0 } }
 {
     QueryRun {
         ticks: budget.ticks,
@@ -125,6 +133,7 @@ fn run_of(budget: &Budget) -> QueryRun
 
 fn write_answer<O: Sink>(alloc: Global, out: &mut O, answer: &Answer) -> Result<(), Stop>
     ensures writes { TellsWrites (O.faults out.old) (O.faults out.new) result }
+    ensures told { Writes (O.taken out.old) (concat (answer_lines answer.now)) (O.taken out.new) result }
 {
     let lines = answer_text(alloc, answer)?;
     for line in lines.as_slice() {
@@ -142,6 +151,7 @@ fn write_end<O: Sink>(
 ) -> Result<u8, Stop>
     ensures writes { TellsWrites (O.faults out.old) (O.faults out.new) result }
     ensures status { IfOk result IsRun }
+    ensures told { WritesEnd end has_answers (O.taken out.old) (O.taken out.new) result }
 {
     match end {
         Happening::Done if has_answers => ended(out, "no more\n", 0),
@@ -157,7 +167,7 @@ fn write_end<O: Sink>(
 pub fn ended<O: Sink>(out: &mut O, line: &str, status: u8) -> Result<u8, Stop>
     ensures writes { TellsWrites (O.faults out.old) (O.faults out.new) result }
     ensures status { IfOk result (λ given. given ≡ status) }
-    ensures written { OnOk result (Takes (O.taken out.old) line.now (O.taken out.new)) }
+    ensures told { Writes (O.taken out.old) line.now (O.taken out.new) result }
 {
     write_text(out, line)?;
     Ok(status)
@@ -166,8 +176,17 @@ pub fn ended<O: Sink>(out: &mut O, line: &str, status: u8) -> Result<u8, Stop>
 fn write_raised<O: Sink>(alloc: Global, out: &mut O, ball: &Term) -> Result<u8, Stop>
     ensures writes { TellsWrites (O.faults out.old) (O.faults out.new) result }
     ensures status { IfOk result IsRun }
+    ensures told { WritesLine (O.taken out.old) (Exception ball.now) (O.taken out.new) result }
+{
+    let line = raised_line(alloc, ball)?;
+    ended(out, line.as_str(), 4)
+}
+
+/// The line of an exception.
+fn raised_line(alloc: Global, ball: &Term) -> Result<String, AllocError>
+    ensures { IfOk result (λ line. string_bytes line ≡ line_of (Exception ball.now)) }
 {
     let term = term_text(alloc, ball, true)?;
     let line = format!(in alloc; "exception: {}\n", term.as_str())?;
-    ended(out, line.as_str(), 4)
+    Ok(line)
 }

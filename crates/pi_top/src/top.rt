@@ -1,15 +1,17 @@
-ghost use Rattle.std.specs.Prelude.{◌≡◌, ◌<◌, ◌≤◌, map, IfOk, Some};
+ghost use Rattle.std.specs.Prelude.{◌≡◌, ◌<◌, ◌≤◌, [], map, IfOk, Some};
 ghost use Rattle.std.specs.String.{string_bytes};
 ghost use Rattle.pi_outside.specs.Faults.{NeverFalls, Rose};
+ghost use Rattle.pi_top.specs.Completeness.{NothingFails, Completes};
+ghost use Rattle.pi_top.specs.Ends.{Ends, AnswersText, AnswersQuery, AnswersBy, GivesStatus};
 ghost use Rattle.pi_top.specs.Faults.{TellsWrites};
 ghost use Rattle.pi_top.specs.Runs.{AllWithin};
-ghost use Rattle.pi_top.specs.Statuses.{Ends, EndsBy, EndsQuery};
+ghost use Rattle.pi_top.specs.Texts.{IsRead};
 ghost use Rattle.pi_top.specs.Words.{options};
 ghost use Rattle.pi_top.specs.declared.words.Options.{Options};
 
 use crate::files::{FileStop, read_file};
 use crate::lines::{
-    GOAL_NOT_BUILT, MODE_NOT_BUILT, PROGRAM_NOT_BUILT, READ_FAULT, USAGE, write_text,
+    GOAL_NOT_BUILT, MEMORY, MODE_NOT_BUILT, PROGRAM_NOT_BUILT, READ_FAULT, USAGE, write_text,
 };
 use crate::outcome::{Outcome, Queries};
 use crate::query::{Stop, ended, run_query};
@@ -33,24 +35,36 @@ pub fn picatq<F: Files, I: Source, O: Sink>(
     ensures read_fault { result.status ≡ 7 → Rose (F.faults files.old) (F.faults files.new) }
     ensures write_fault { result.status ≡ 8 → Rose (O.faults out.old) (O.faults out.new) }
     ensures never_falls { NeverFalls (O.faults out.old) (O.faults out.new) }
-    ensures ends { Ends (map string_bytes words.now) result.status (O.taken out.old) (O.taken out.new) }
+    ensures ends { Ends (map string_bytes words.now) (F.held files.new) result.queries result.log result.status (O.taken out.old) (O.taken out.new) }
+    ensures complete { (asked : Options) → NothingFails (map string_bytes words.now) asked result.status (F.faults files.old) (F.faults files.new) (O.faults out.old) (O.faults out.new) → Completes asked (F.held files.new) result.queries result.log result.status (O.taken out.old) (O.taken out.new) }
     ensures ran { (asked : Options) → options (map string_bytes words.now) ≡ Some asked → AllWithin asked.steps result.queries }
 {
     let _ = &*input;
     let mut queries = Series::new(alloc);
-    let status = match answered(alloc, words, files, out, &mut queries) {
-        Ok(status) => status,
-        Err(Stop::Write) => 8,
-        Err(Stop::Memory) => {
-            let _ = write_text(out, "want of memory\n");
-            9
-        }
-    };
+    let answer = answered(alloc, words, files, out, &mut queries);
+    let status = status_of(answer, out);
+    let log = Series::new(alloc);
+    let entered = Series::new(alloc);
     Outcome {
         status,
         queries,
-        log: Series::new(alloc),
-        entered: Series::new(alloc),
+        log,
+        entered,
+    }
+}
+
+/// The status of what was answered. Where memory is wanted, a line says so, if it can be written.
+fn status_of<O: Sink>(answer: Result<u8, Stop>, out: &mut O) -> u8
+    ensures gives { GivesStatus answer result (O.taken out.old) (O.taken out.new) }
+    ensures never_falls { NeverFalls (O.faults out.old) (O.faults out.new) }
+{
+    match answer {
+        Ok(status) => status,
+        Err(Stop::Write) => 8,
+        Err(Stop::Memory) => {
+            let _ = write_text(out, MEMORY);
+            9
+        }
     }
 }
 
@@ -64,7 +78,7 @@ fn answered<F: Files, O: Sink>(
     ensures writes { TellsWrites (O.faults out.old) (O.faults out.new) result }
     ensures reads { IfOk result (λ status. status ≡ 7 → Rose (F.faults files.old) (F.faults files.new)) }
     ensures status { IfOk result (λ status. status < 8) }
-    ensures ends { IfOk result (λ status. EndsBy (options (map string_bytes words.now)) status (O.taken out.old) (O.taken out.new)) }
+    ensures answers { queries.old ≡ [] → AnswersBy (options (map string_bytes words.now)) (F.held files.new) queries.new [] (O.taken out.old) (O.taken out.new) result }
     ensures ran { (asked : Options) → options (map string_bytes words.now) ≡ Some asked → AllWithin asked.steps queries.old → AllWithin asked.steps queries.new }
 {
     let asked = match read_words(alloc, words) {
@@ -91,7 +105,7 @@ fn asked_of_file<F: Files, O: Sink>(
     ensures writes { TellsWrites (O.faults out.old) (O.faults out.new) result }
     ensures reads { IfOk result (λ status. status ≡ 7 → Rose (F.faults files.old) (F.faults files.new)) }
     ensures status { IfOk result (λ status. status < 8) }
-    ensures ends { IfOk result (λ status. EndsQuery status (O.taken out.old) (O.taken out.new)) }
+    ensures answers { 0 < asked.now.answers → asked.now.goal ≡ Some goal.now → queries.old ≡ [] → AnswersQuery asked.now (F.held files.new) queries.new [] (O.taken out.old) (O.taken out.new) result }
     ensures ran { AllWithin asked.now.steps queries.old → AllWithin asked.now.steps queries.new }
 {
     let text = match read_file(alloc, files, asked.file.as_str()) {
@@ -113,7 +127,7 @@ fn asked_of_text<O: Sink>(
 ) -> Result<u8, Stop>
     ensures writes { TellsWrites (O.faults out.old) (O.faults out.new) result }
     ensures no_read { IfOk result (λ status. status < 7) }
-    ensures ends { IfOk result (λ status. EndsQuery status (O.taken out.old) (O.taken out.new)) }
+    ensures answers { 0 < asked.now.answers → queries.old ≡ [] → AnswersText asked.now text.now goal.now queries.new [] (O.taken out.old) (O.taken out.new) result }
     ensures ran { AllWithin asked.now.steps queries.old → AllWithin asked.now.steps queries.new }
 {
     let program = match read_small(alloc, text) {

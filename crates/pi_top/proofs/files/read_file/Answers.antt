@@ -1,4 +1,4 @@
-use Rattle.std.proofs.Common.{◌≡◌, ◌<◌, ℕ, length, take, ◌∙◌, sym, arith}
+use Rattle.std.proofs.Common.{◌<◌, length, take, arith}
 use Rattle.std.proofs.lemmas.Grind.{common_steps}
 use Rattle.pi_outside.proofs.Held.{HasPiece-keeps}
 use Rattle.pi_top.specs.Texts.{most_bytes}

@@ -1,33 +1,81 @@
-use Rattle.std.proofs.Common.{◌≤◌, ◌-◌, length, arith, ◌∙◌}
-use Rattle.std.proofs.lemmas.Grind.{common_steps}
-use Rattle.pi_top.proofs.Runs.{AllWithin-put}
+use Rattle.std.proofs.Common.{◌≡◌, [], refl, subst, ◌∙◌, arith}
+use Rattle.std.proofs.lemmas.Bool.Decides.{nat_tests}
+use Rattle.std.proofs.lemmas.Result.{err_from_is_err_and}
+use Rattle.pi_types.specs.View.{query_view}
+use Rattle.pi_engine.specs.Runs.{machine_view}
+use Rattle.pi_top.specs.Running.{IsWritten}
+use Rattle.pi_top.proofs.QueryRuns.{Called, written-start, written-answer, comes-stopped, comes-cut, comes-end}
 use Rattle.pi_top.proofs.query.write_answers.Goals as goal
 
-pub returns-in_err-write_answer-in-Answer-clause-ran : goal.returns-in_err-write_answer-in-Answer-clause-ran
-returns-in_err-write_answer-in-Answer-clause-ran g c =
-    let l = c.loop-given in
-    let next = c.next-happening.ensures in
-    let within : c.run_of.result.ticks ≤ c.args.budget.now.steps =
-    omega (arith, c.run_of.ensures, next.within.ticks, next.counts.steps, l.invariant.steps) in
-    λ all. AllWithin-put c.args.budget.now.steps l.queries c.set_last.new.self (length l.queries - 1) c.run_of.result c.set_last.ensures within (l.invariant.ran all)
+pub loop-given-init : goal.loop-given-init
+loop-given-init g c = record {
+  steps = refl;
+  within = λ h. h;
+  no_fault = refl;
+  so_far = λ program q is. written-start (machine_view g.S.StateStore.seen g.S.StateStore.order c.args.machine.now) c.args.budget.now c.args.answers program q (g.O.Sink.taken c.args.out.now) is;
+}
 
-pub returns-in_default-clause-ran : goal.returns-in_default-clause-ran
-returns-in_default-clause-ran g c =
+pub returns-in_err-write_answer-in-Answer-clause-comes : goal.returns-in_err-write_answer-in-Answer-clause-comes
+returns-in_err-write_answer-in-Answer-clause-comes g c =
     let l = c.loop-given in
-    let next = c.next-happening.ensures in
-    let within : c.run_of.result.ticks ≤ c.args.budget.now.steps =
-    omega (arith, c.run_of.ensures, next.within.ticks, next.counts.steps, l.invariant.steps) in
-    λ all. AllWithin-put c.args.budget.now.steps l.queries c.set_last.new.self (length l.queries - 1) c.run_of.result c.set_last.ensures within (l.invariant.ran all)
+    let next = c.in-Answer.ensures in
+    let m = machine_view g.S.StateStore.seen g.S.StateStore.order l.machine in
+    let n = machine_view g.S.StateStore.seen g.S.StateStore.order c.next.new.self in
+    let called : Called m n l.budget c.next.new.budget = record { counts = next.counts; within = next.within; mode = next.mode } in
+    let p = err_from_is_err_and c.from_residual.result c.from_residual.ensures.1 in
+    λ program q is.
+    let w = l.invariant.so_far program q is in
+    rw p.1
+    (comes-cut m n l.budget c.next.new.budget c.args.answers l.given c.args.budget.now.steps program q c.in-Answer.answer (g.O.Sink.taken c.args.out.now) (g.O.Sink.taken l.out)
+    (g.O.Sink.taken c.write_answer.new.out) is.runnable w called c.loop-given-test.true (next.counts.steps ∙ l.invariant.steps) (next.steps (query_view []) program q w.events w.runs)
+    c.in_err-write_answer-in-Answer.ensures.told.front)
+
+pub returns-in_default : goal.returns-in_default
+returns-in_default g c =
+    let l = c.loop-given in
+    let next = c.next.ensures in
+    let m = machine_view g.S.StateStore.seen g.S.StateStore.order l.machine in
+    let n = machine_view g.S.StateStore.seen g.S.StateStore.order c.next.new.self in
+    let called : Called m n l.budget c.next.new.budget = record { counts = next.counts; within = next.within; mode = next.mode } in
+    record {
+      writes = rw (← l.invariant.no_fault) c.write_end.ensures.writes;
+      status = c.write_end.ensures.status;
+      within = λ h. next.within (l.invariant.within h);
+      steps = next.counts.steps ∙ l.invariant.steps;
+      comes = λ program q is.
+          let w = l.invariant.so_far program q is in
+          comes-end m n l.budget c.next.new.budget c.args.answers l.given c.args.budget.now.steps program q c.next.result _ (g.O.Sink.taken c.args.out.now) (g.O.Sink.taken l.out)
+          (g.O.Sink.taken c.write_end.new.out) c.write_end.result is.runnable w called c.loop-given-test.true (next.counts.steps ∙ l.invariant.steps)
+          (λ e. grind (arith, nat_tests, e)) (λ e. grind (arith, nat_tests, e)) (λ a e. c.in_default.not-Answer a e)
+          (next.steps (query_view []) program q w.events w.runs)
+          c.write_end.ensures.told;
+    }
 
 pub loop-given-preserved : goal.loop-given-preserved
 loop-given-preserved g c =
     let l = c.loop-given in
-    let next = c.next-happening.ensures in
-    let within : c.run_of.result.ticks ≤ c.args.budget.now.steps =
-    omega (arith, c.run_of.ensures, next.within.ticks, next.counts.steps, l.invariant.steps) in
+    let next = c.in-Answer.ensures in
+    let m = machine_view g.S.StateStore.seen g.S.StateStore.order l.machine in
+    let n = machine_view g.S.StateStore.seen g.S.StateStore.order c.next.new.self in
+    let called : Called m n l.budget c.next.new.budget = record { counts = next.counts; within = next.within; mode = next.mode } in
     record {
-      within = next.within;
       steps = next.counts.steps ∙ l.invariant.steps;
-      no_fault = grind (arith, common_steps);
-      ran = λ all. AllWithin-put c.args.budget.now.steps l.queries c.set_last.new.self (length l.queries - 1) c.run_of.result c.set_last.ensures within (l.invariant.ran all);
+      within = λ h. next.within (l.invariant.within h);
+      no_fault = c.in_ok-write_answer-in-Answer.ensures.writes.no_fault ∙ l.invariant.no_fault;
+      so_far = λ program q is.
+          let w = l.invariant.so_far program q is in
+          written-answer m n l.budget c.next.new.budget l.given program q c.in-Answer.answer (g.O.Sink.taken c.args.out.now) (g.O.Sink.taken l.out) (g.O.Sink.taken c.write_answer.new.out)
+          w called (next.steps (query_view []) program q w.events w.runs) next.lasts c.in_ok-write_answer-in-Answer.ensures.told.all;
     }
+
+pub returns-clause-comes : goal.returns-clause-comes
+returns-clause-comes g c =
+    let l = c.loop-given in
+    let m = machine_view g.S.StateStore.seen g.S.StateStore.order l.machine in
+    let before = g.O.Sink.taken c.args.out.now in
+    let between = g.O.Sink.taken l.out in
+    let all : l.given ≡ c.args.answers = omega (arith, c.loop-given-test.false, l.auto.given-end) in
+    λ program q is.
+    let w : IsWritten m l.budget c.args.answers program q before between = subst (λ given. IsWritten m l.budget given program q before between) all (l.invariant.so_far program q is) in
+    comes-stopped m l.budget c.args.answers c.args.budget.now.steps program q before between (g.O.Sink.taken c.ended.new.out) c.ended.result is.runnable is.asked l.invariant.steps w
+    (record { writes = c.ended.ensures.told; its_status = c.ended.ensures.status })

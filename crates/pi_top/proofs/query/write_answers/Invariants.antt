@@ -1,12 +1,16 @@
-use Rattle.std.proofs.Common.{◌≡◌}
+use Rattle.std.proofs.Common.{◌≡◌, List}
+use Rattle.pi_types.specs.CoreTree.{PredTree, QueryTree}
 use Rattle.pi_engine.specs.Budget.{IsWithin}
-use Rattle.pi_top.specs.Runs.{AllWithin}
+use Rattle.pi_engine.specs.Runs.{machine_view}
+use Rattle.pi_top.specs.Running.{IsAtStart, IsWritten}
 use Rattle.pi_top.proofs.query.write_answers.Given as goal
 
 abbrev pub invariant-loop-given : goal.invariant-loop-given
 invariant-loop-given g l = record {
-  within : IsWithin l.budget;
   steps : l.budget.steps ≡ l.initial.budget.steps;
+  within : IsWithin l.initial.budget → IsWithin l.budget;
   no_fault : g.O.Sink.faults l.out ≡ g.O.Sink.faults l.initial.out;
-  ran : AllWithin l.initial.budget.steps l.initial.queries → AllWithin l.initial.budget.steps l.queries;
+  so_far : (program : List PredTree) (q : QueryTree) →
+      IsAtStart (machine_view g.S.StateStore.seen g.S.StateStore.order l.initial.machine) l.initial.budget l.fn.answers program q →
+      IsWritten (machine_view g.S.StateStore.seen g.S.StateStore.order l.machine) l.budget l.given program q (g.O.Sink.taken l.initial.out) (g.O.Sink.taken l.out);
 }

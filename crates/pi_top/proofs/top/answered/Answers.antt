@@ -1,14 +1,25 @@
-use Rattle.std.proofs.Common.{map}
+use Rattle.std.proofs.Common.{◌≡◌, Some, map}
 use Rattle.std.specs.String.{string_bytes}
-use Rattle.pi_top.proofs.Endings.{ends_with_goal, ends_without_goal}
+use Rattle.pi_top.specs.Words.{options}
+use Rattle.pi_top.proofs.AskedAnswers.{some-answer}
+use Rattle.pi_top.proofs.Endings.{by-goal, by-mode, by-nothing}
 use Rattle.pi_top.proofs.top.answered.Goals as goal
 
-pub returns-in-Some-clause-ends : goal.returns-in-Some-clause-ends
-returns-in-Some-clause-ends g c =
-    ends_with_goal _ _ (map string_bytes c.args.words.now) c.in-Ok.asked _ c.asked_of_file.result c.in-Ok.ensures.ok c.in-Some.is
-    c.asked_of_file.ensures.ends
+pub returns-in-Err-Memory-clause-answers : goal.returns-in-Err-Memory-clause-answers
+returns-in-Err-Memory-clause-answers g c =
+    λ none. by-nothing (options (map string_bytes c.args.words.now)) (g.F.Files.held c.args.files.now) (g.O.Sink.taken c.args.out.now)
 
-pub returns-clause-ends : goal.returns-clause-ends
-returns-clause-ends g c =
-    ends_without_goal _ _ (map string_bytes c.args.words.now) c.in-Ok.asked c.ended-in-None.result c.in-Ok.ensures.ok c.in-None.is
-    c.ended-in-None.ensures.status c.ended-in-None.ensures.written
+pub returns-in-Some-clause-answers : goal.returns-in-Some-clause-answers
+returns-in-Some-clause-answers g c =
+    let words = map string_bytes c.args.words.now in
+    let has : c.in-Ok.asked.goal ≡ Some c.as_str.result.now = rw c.as_str.ensures c.in-Some.is in
+    λ none.
+    by-goal words c.in-Ok.asked c.as_str.result.now (g.F.Files.held c.asked_of_file.new.files) c.asked_of_file.new.queries (g.O.Sink.taken c.args.out.now)
+    (g.O.Sink.taken c.asked_of_file.new.out) c.asked_of_file.result c.in-Ok.ensures.ok has
+    (c.asked_of_file.ensures.answers (some-answer words c.in-Ok.asked c.in-Ok.ensures.ok) has none)
+
+pub returns-clause-answers : goal.returns-clause-answers
+returns-clause-answers g c =
+    λ none.
+    by-mode (map string_bytes c.args.words.now) c.in-Ok.asked (g.F.Files.held c.args.files.now) c.args.queries.now (g.O.Sink.taken c.args.out.now) (g.O.Sink.taken c.ended-in-None.new.out)
+    c.ended-in-None.result c.in-Ok.ensures.ok c.in-None.is none c.ended-in-None.ensures.status c.ended-in-None.ensures.told

@@ -1,7 +1,31 @@
-use Rattle.pi_top.proofs.Endings.{ends_at_goal}
+use Rattle.std.proofs.lemmas.Result.{err_from_is_err_and}
+use Rattle.pi_types.specs.CoreTree.{program_tree, query_tree}
+use Rattle.pi_types.specs.ProgramTree.{source_tree, goal_source}
+use Rattle.pi_top.proofs.Endings.{text-nothing, text-ran}
 use Rattle.pi_top.proofs.top.asked_of_text.Goals as goal
 
-pub returns-in-Err-NotBuilt-read_small_goal-clause-ends : goal.returns-in-Err-NotBuilt-read_small_goal-clause-ends
-returns-in-Err-NotBuilt-read_small_goal-clause-ends g c =
-    let line = c.ended-in-Err-NotBuilt-read_small_goal in
-    ends_at_goal _ _ line.result line.ensures.status line.ensures.written
+pub returns-in_err-core-clause-answers : goal.returns-in_err-core-clause-answers
+returns-in_err-core-clause-answers g c =
+    let p = err_from_is_err_and c.from_residual.result c.from_residual.ensures.1 in
+    λ some none. rw p.1 (text-nothing c.args.asked.now c.args.text.now c.args.goal.now (g.O.Sink.taken c.args.out.now))
+
+pub returns-in_err-query-clause-answers : goal.returns-in_err-query-clause-answers
+returns-in_err-query-clause-answers g c =
+    let p = err_from_is_err_and c.from_residual-in_err-query.result c.from_residual-in_err-query.ensures.1 in
+    λ some none. rw p.1 (text-nothing c.args.asked.now c.args.text.now c.args.goal.now (g.O.Sink.taken c.args.out.now))
+
+pub returns-clause-answers : goal.returns-clause-answers
+returns-clause-answers g c =
+    let run = c.run_query.ensures in
+    λ some none.
+    text-ran c.args.asked.now c.args.text.now c.args.goal.now (program_tree c.in_ok-core.core) (query_tree c.in_ok-query.query) c.args.queries.now c.run_query.new.queries
+    (g.O.Sink.taken c.args.out.now) (g.O.Sink.taken c.run_query.new.out) c.run_query.result none
+    (record {
+      source = source_tree c.in-Ok.program;
+      asked = goal_source c.in-Ok-read_small_goal.goal;
+      small = c.in-Ok.ensures.small;
+      small_goal = c.in-Ok-read_small_goal.ensures.small;
+      program_is = c.in_ok-core.ensures.is;
+      query_is = c.in_ok-query.ensures.is;
+    })
+    run.status (λ runnable. run.comes runnable some)

@@ -1,0 +1,104 @@
+-- What events print, and how many Ticks and answers they have, where more stand behind them.
+use Rattle.std.proofs.Common.{◌≡◌, ℕ, zero, suc, ◌+◌, List, [], ◌∷◌, ◌++◌, refl, sym, ap, ◌∙◌, arith, append_assoc}
+use Rattle.std.specs.List.{concat}
+use Rattle.std.proofs.lemmas.List.{append-nil}
+use Rattle.pi_types.specs.Trace.{Tick, Load, Out, Emitted, noted, answered, count_ticks}
+use Rattle.pi_types.specs.Run.{Solution}
+use Rattle.pi_types.specs.PrintAnswer.{answer_lines}
+use Rattle.pi_types.specs.Told.{answer_of}
+use Rattle.pi_types.specs.declared.answer.Answer.{Answer}
+use Rattle.pi_types.specs.declared.core_program.NameSlot.{NameSlot}
+use Rattle.pi_engine.specs.Next.{some_ticks}
+use Rattle.pi_top.specs.Printing.{print}
+use Rattle.pi_top.specs.QueryEnd.{count_answers, EndsWithLast}
+
+pub ticks-append : (events more : List (Emitted Solution)) → count_ticks (events ++ more) ≡ count_ticks events + count_ticks more
+unfolding count_ticks
+ticks-append [] more = omega arith
+ticks-append (noted Tick ∷ events) more = let rest = ticks-append events more in omega (arith, rest)
+ticks-append (noted (Load k) ∷ events) more = ticks-append events more
+ticks-append (noted (Out text) ∷ events) more = ticks-append events more
+ticks-append (answered x ∷ events) more = ticks-append events more
+
+pub answers-append : (events more : List (Emitted Solution)) → count_answers (events ++ more) ≡ count_answers events + count_answers more
+unfolding count_answers
+answers-append [] more = omega arith
+answers-append (noted n ∷ events) more = answers-append events more
+answers-append (answered x ∷ events) more = let rest = answers-append events more in omega (arith, rest)
+
+pub print-append : (names : List NameSlot) (events more : List (Emitted Solution)) → print names (events ++ more) ≡ print names events ++ print names more
+unfolding print
+print-append names [] more = refl
+print-append names (noted Tick ∷ events) more = print-append names events more
+print-append names (noted (Load k) ∷ events) more = print-append names events more
+print-append names (noted (Out text) ∷ events) more = ap (λ l. text ++ l) (print-append names events more) ∙ sym (append_assoc text (print names events) (print names more))
+print-append names (answered x ∷ events) more =
+    let lines : List ℕ = concat (answer_lines (answer_of names x)) in
+    ap (λ l. lines ++ l) (print-append names events more) ∙ sym (append_assoc lines (print names events) (print names more))
+
+pub ticks-of_ticks : (k : ℕ) → count_ticks (some_ticks k) ≡ k
+unfolding count_ticks
+ticks-of_ticks zero = refl
+ticks-of_ticks (suc k) = ap suc (ticks-of_ticks k)
+
+pub answers-of_ticks : (k : ℕ) → count_answers (some_ticks k) ≡ 0
+unfolding count_answers
+answers-of_ticks zero = refl
+answers-of_ticks (suc k) = answers-of_ticks k
+
+pub print-of_ticks : (names : List NameSlot) (k : ℕ) → print names (some_ticks k) ≡ []
+unfolding print
+print-of_ticks names zero = refl
+print-of_ticks names (suc k) = print-of_ticks names k
+
+-- Ticks behind events
+pub behind-ticks : (names : List NameSlot) (events : List (Emitted Solution)) (k : ℕ) → print names (events ++ some_ticks k) ≡ print names events
+behind-ticks names events k = print-append names events (some_ticks k) ∙ ap (λ l. print names events ++ l) (print-of_ticks names k) ∙ append-nil (print names events)
+
+pub ticks-behind : (events : List (Emitted Solution)) (k : ℕ) → count_ticks (events ++ some_ticks k) ≡ count_ticks events + k
+ticks-behind events k = ticks-append events (some_ticks k) ∙ ap (λ n. count_ticks events + n) (ticks-of_ticks k)
+
+pub answers-behind : (events : List (Emitted Solution)) (k : ℕ) → count_answers (events ++ some_ticks k) ≡ count_answers events
+answers-behind events k = let all = answers-append events (some_ticks k) in let none = answers-of_ticks k in omega (arith, all, none)
+
+-- Ticks and an answer
+abbrev pub turn : ℕ → Solution → List (Emitted Solution)
+turn k x = some_ticks k ++ answered x ∷ []
+
+print-one : (names : List NameSlot) (x : Solution) → print names (answered x ∷ []) ≡ concat (answer_lines (answer_of names x))
+unfolding print
+print-one names x = append-nil (concat (answer_lines (answer_of names x)))
+
+pub print-turn : (names : List NameSlot) (events : List (Emitted Solution)) (k : ℕ) (x : Solution) (a : Answer) → a ≡ answer_of names x →
+    print names (events ++ turn k x) ≡ print names events ++ concat (answer_lines a)
+print-turn names events k x a is =
+    print-append names events (turn k x)
+    ∙ ap (λ l. print names events ++ l) (print-append names (some_ticks k) (answered x ∷ []) ∙ ap (λ l. l ++ print names (answered x ∷ [])) (print-of_ticks names k) ∙ print-one names x)
+    ∙ ap (λ b. print names events ++ concat (answer_lines b)) (sym is)
+
+one-tick : (x : Solution) → count_ticks (answered x ∷ []) ≡ 0
+unfolding count_ticks
+one-tick x = refl
+
+one-answer : (x : Solution) → count_answers (answered x ∷ []) ≡ 1
+unfolding count_answers
+one-answer x = refl
+
+pub ticks-turn : (events : List (Emitted Solution)) (k : ℕ) (x : Solution) → count_ticks (events ++ turn k x) ≡ count_ticks events + k
+ticks-turn events k x =
+    let all = ticks-append events (turn k x) in
+    let inner = ticks-append (some_ticks k) (answered x ∷ []) in
+    let some = ticks-of_ticks k in
+    let none = one-tick x in
+    omega (arith, all, inner, some, none)
+
+pub answers-turn : (events : List (Emitted Solution)) (k : ℕ) (x : Solution) → count_answers (events ++ turn k x) ≡ suc (count_answers events)
+answers-turn events k x =
+    let all = answers-append events (turn k x) in
+    let inner = answers-append (some_ticks k) (answered x ∷ []) in
+    let some = answers-of_ticks k in
+    let one = one-answer x in
+    omega (arith, all, inner, some, one)
+
+pub last-turn : (events : List (Emitted Solution)) (k : ℕ) (x : Solution) (given : ℕ) → count_answers (events ++ turn k x) ≡ given → EndsWithLast given (events ++ turn k x)
+last-turn events k x given all = record { front = events ++ some_ticks k; last = x; is = sym (append_assoc events (some_ticks k) (answered x ∷ [])); all = all }

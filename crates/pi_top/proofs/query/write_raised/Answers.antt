@@ -1,0 +1,17 @@
+use Rattle.std.proofs.Common.{ℕ, List, subst, ◌∙◌}
+use Rattle.std.proofs.lemmas.Result.{err_from_is_err_and}
+use Rattle.pi_top.specs.QueryEnd.{Exception, line_of}
+use Rattle.pi_top.specs.Writing.{Writes}
+use Rattle.pi_top.proofs.Fronts.{front-none}
+use Rattle.pi_top.proofs.query.write_raised.Goals as goal
+
+pub returns-in_err-line-clause-told : goal.returns-in_err-line-clause-told
+returns-in_err-line-clause-told g c =
+    let p = err_from_is_err_and c.from_residual.result c.from_residual.ensures.1 in
+    rw p.1 (record { writes = record { all = tt; front = front-none (g.O.Sink.taken c.args.out.now) (line_of (Exception c.args.ball.now)) }; its_status = tt })
+
+pub returns-clause-told : goal.returns-clause-told
+returns-clause-told g c = record {
+  writes = subst (λ (text : List ℕ). Writes (g.O.Sink.taken c.args.out.now) text (g.O.Sink.taken c.ended.new.out) c.ended.result) (c.as_str.ensures.value ∙ c.in_ok-line.ensures) c.ended.ensures.told;
+  its_status = c.ended.ensures.status;
+}
