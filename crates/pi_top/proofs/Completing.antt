@@ -16,7 +16,7 @@ text-complete : (asked : Options) (held : Option Holding) (text goal : List ℕ)
     IsRead held asked.file text → asked.goal ≡ Some goal → EndsText asked text goal queries log status before after → Completes asked held queries log status before after
 text-complete asked held text goal queries log status before after sound is_read is_goal (program_fault line) = absurd (sound line.is_its)
 text-complete asked held text goal queries log status before after sound is_read is_goal (goal_fault line) = absurd (sound line.is_its)
-text-complete asked held text goal queries log status before after sound is_read is_goal (ran program query is_asked status_is has) =
+text-complete asked held text goal queries log status before after sound is_read is_goal (ran program query is_asked has) =
     inr (record { text = text; goal = goal; is_read = is_read; is_goal = is_goal; program = program; query = query; is_asked = is_asked; ran = has })
 
 query-complete : (asked : Options) (held : Option Holding) (queries : List QueryRun) (log : List LogEntry) (status : ℕ) (before after : Option (List ℕ)) → status ≢ 3 → status ≢ 7 →

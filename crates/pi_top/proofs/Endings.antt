@@ -3,7 +3,6 @@ use Rattle.std.proofs.Common.{◌≡◌, ◌<◌, ◌≤◌, ℕ, List, [], Opti
 use Rattle.pi_outside.specs.Held.{Holding}
 use Rattle.pi_outside.specs.Taken.{Takes}
 use Rattle.pi_types.specs.CoreTree.{PredTree, QueryTree}
-use Rattle.pi_engine.specs.Built.{IsRunnable}
 use Rattle.pi_top.specs.declared.outcome.QueryRun.{QueryRun}
 use Rattle.pi_top.specs.declared.query.Stop.{Stop}
 use Rattle.pi_top.specs.declared.query.Stop.TheVariants.{Memory, Write}
@@ -17,7 +16,7 @@ use Rattle.pi_top.specs.Headline.{IsAsked}
 use Rattle.pi_top.specs.Prefix.{TakesFront}
 use Rattle.pi_top.specs.Running.{HasRun}
 use Rattle.pi_top.specs.Statuses as whole
-use Rattle.pi_top.specs.Statuses.{IsLine, IsRun, EndsText, EndsQuery, EndsIn, EndsBy, ran, usage_line, mode_line, program_line, goal_line, read_fault_line, memory_line}
+use Rattle.pi_top.specs.Statuses.{IsLine, EndsText, EndsQuery, EndsIn, EndsBy, ran, usage_line, mode_line, program_line, goal_line, read_fault_line, memory_line}
 use Rattle.pi_top.specs.Texts.{IsRead}
 use Rattle.pi_top.specs.Words.{options}
 use Rattle.pi_top.specs.Writing.{Writes}
@@ -41,10 +40,10 @@ pub text-nothing : (asked : Options) (text goal : List ℕ) (taken : Option (Lis
 text-nothing asked text goal taken = cut.program_fault (front-none taken program_line)
 
 pub text-ran : (asked : Options) (text goal : List ℕ) (program : List PredTree) (q : QueryTree) (old new : List QueryRun) (before after : Option (List ℕ)) (r : Result ℕ Stop) →
-    old ≡ [] → IsAsked text goal program q → IfOk r IsRun → (IsRunnable program q → HasRun asked.answers asked.steps program q old new before after r) → AnswersText asked text goal new [] before after r
-text-ran asked text goal program q old new before after (Ok status) none is status_is has =
-    ran program q is status_is (λ runnable. subst (λ runs. HasRun asked.answers asked.steps program q runs new before after (Ok status)) none (has runnable))
-text-ran asked text goal program q old new before after (Err stop) none is status_is has = running program q is has
+    old ≡ [] → IsAsked text goal program q → HasRun asked.answers asked.steps program q old new before after r → AnswersText asked text goal new [] before after r
+text-ran asked text goal program q old new before after (Ok status) none is has =
+    ran program q is (subst (λ runs. HasRun asked.answers asked.steps program q runs new before after (Ok status)) none has)
+text-ran asked text goal program q old new before after (Err stop) none is has = running program q is has
 
 -- ---- in the mode `query`
 

@@ -10,5 +10,6 @@ pub mod MachineRuns
 pub mod Modes
 pub mod QueryRuns
 pub mod Results
+pub mod Runnable
 pub mod Runs
 pub mod WrittenLines

@@ -4,7 +4,6 @@ use Rattle.pi_outside.specs.Faults.{Rose}
 use Rattle.pi_outside.specs.Held.{Holding}
 use Rattle.pi_types.specs.CoreTree.{PredTree, QueryTree}
 use Rattle.pi_types.specs.declared.log.LogEntry.{LogEntry}
-use Rattle.pi_engine.specs.Built.{IsRunnable}
 use Rattle.pi_top.specs.declared.outcome.QueryRun.{QueryRun}
 use Rattle.pi_top.specs.declared.run_mode.RunMode.TheVariants.{Query}
 use Rattle.pi_top.specs.declared.words.Options.{Options}
@@ -30,7 +29,7 @@ pub record IsComplete (asked : Options) (held : Option Holding) (queries : List 
   pub program : List PredTree
   pub query : QueryTree
   pub is_asked : IsAsked text goal program query
-  pub ran : IsRunnable program query → HasRan asked.answers asked.steps program query log [] queries before after status
+  pub ran : HasRan asked.answers asked.steps program query log [] queries before after status
 
 abbrev pub Completes : Options → Option Holding → List QueryRun → List LogEntry → ℕ → Option (List ℕ) → Option (List ℕ) → Type 0
 Completes asked held queries log status before after = (status ≡ 9) ⊎ IsComplete asked held queries log status before after

@@ -3,7 +3,6 @@ use Rattle.std.specs.Prelude.{◌≡◌, ℕ, List, Option, None, Some}
 use Rattle.pi_outside.specs.Held.{Holding}
 use Rattle.pi_types.specs.CoreTree.{PredTree, QueryTree}
 use Rattle.pi_types.specs.declared.log.LogEntry.{LogEntry}
-use Rattle.pi_engine.specs.Built.{IsRunnable}
 use Rattle.pi_top.specs.declared.run_mode.RunMode.{RunMode}
 use Rattle.pi_top.specs.declared.run_mode.RunMode.TheVariants.{Query}
 use Rattle.pi_top.specs.declared.words.Options.{Options}
@@ -16,8 +15,7 @@ use Rattle.pi_top.specs.Texts.{IsRead}
 pub data CutText (asked : Options) (text goal : List ℕ) (log : List LogEntry) (before after : Option (List ℕ)) : Type 0 where
   program_fault : TakesFront before program_line after → CutText asked text goal log before after
   goal_fault : TakesFront before goal_line after → CutText asked text goal log before after
-  running : (program : List PredTree) (q : QueryTree) → IsAsked text goal program q → (IsRunnable program q → IsCutOff asked.answers asked.steps program q log before after) →
-      CutText asked text goal log before after
+  running : (program : List PredTree) (q : QueryTree) → IsAsked text goal program q → IsCutOff asked.answers asked.steps program q log before after → CutText asked text goal log before after
 
 -- in the mode `query`
 pub data CutQuery (asked : Options) (held : Option Holding) (log : List LogEntry) (before after : Option (List ℕ)) : Type 0 where

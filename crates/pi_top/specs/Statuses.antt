@@ -5,7 +5,6 @@ use Rattle.pi_outside.specs.Held.{Holding}
 use Rattle.pi_outside.specs.Taken.{Takes}
 use Rattle.pi_types.specs.CoreTree.{PredTree, QueryTree}
 use Rattle.pi_types.specs.declared.log.LogEntry.{LogEntry}
-use Rattle.pi_engine.specs.Built.{IsRunnable}
 use Rattle.pi_top.specs.declared.outcome.QueryRun.{QueryRun}
 use Rattle.pi_top.specs.declared.run_mode.RunMode.{RunMode}
 use Rattle.pi_top.specs.declared.run_mode.RunMode.TheVariants.{Query}
@@ -48,8 +47,8 @@ pub record IsRun (status : ℕ) : Type 0 where
 pub data EndsText (asked : Options) (text goal : List ℕ) (queries : List QueryRun) (log : List LogEntry) (status : ℕ) (before after : Option (List ℕ)) : Type 0 where
   program_fault : IsLine program_line 3 status queries before after → EndsText asked text goal queries log status before after
   goal_fault : IsLine goal_line 3 status queries before after → EndsText asked text goal queries log status before after
-  ran : (program : List PredTree) (q : QueryTree) → IsAsked text goal program q → IsRun status →
-      (IsRunnable program q → HasRan asked.answers asked.steps program q log [] queries before after status) → EndsText asked text goal queries log status before after
+  ran : (program : List PredTree) (q : QueryTree) → IsAsked text goal program q → HasRan asked.answers asked.steps program q log [] queries before after status →
+      EndsText asked text goal queries log status before after
 
 -- in the mode `query`: the file isn't read, or its text is
 pub data EndsQuery (asked : Options) (held : Option Holding) (queries : List QueryRun) (log : List LogEntry) (status : ℕ) (before after : Option (List ℕ)) : Type 0 where

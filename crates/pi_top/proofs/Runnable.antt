@@ -1,0 +1,34 @@
+-- What a program and a goal of the small language are lowered to is what the machine runs.
+use Rattle.std.proofs.Common.{◌≡◌, List, [], ◌∷◌, ◌++◌}
+use Rattle.std.specs.Prelude.{All}
+use Rattle.std.proofs.lemmas.List.Elements.{All-head, All-tail}
+use Rattle.pi_types.specs.CoreTree.{ClauseTree, PredTree, QueryTree}
+use Rattle.pi_types.specs.ExpTree.{ExpTree}
+use Rattle.pi_types.specs.ProgramTree.{ProgramTree}
+use Rattle.pi_engine.specs.Built.{WithoutEvents, AreOfRules, AreCounted, IsRunnable}
+use Rattle.pi_rewrite.specs.Laws.{IsPlain, IsLowered}
+
+without-events : (cs : List ClauseTree) → All (λ (c : ClauseTree). c.watches ≡ []) cs → WithoutEvents cs
+unfolding WithoutEvents
+without-events [] all = tt
+without-events (c ∷ cs) all =
+    let P : ClauseTree → Type 0 = λ d. d.watches ≡ [] in
+    (All-head P c cs all, without-events cs (All-tail P c cs all))
+
+of-rules : (ps : List PredTree) → All IsPlain ps → AreOfRules ps
+unfolding AreOfRules
+of-rules [] all = tt
+of-rules (p ∷ ps) all =
+    let plain : IsPlain p = All-head IsPlain p ps all in
+    (record { rules = plain.index; without_events = without-events p.clauses plain.watches }, of-rules ps (All-tail IsPlain p ps all))
+
+counted : (ps : List PredTree) → All IsPlain ps → AreCounted ps
+unfolding AreCounted
+counted [] all = tt
+counted (p ∷ ps) all =
+    let plain : IsPlain p = All-head IsPlain p ps all in
+    (plain.quiet, counted ps (All-tail IsPlain p ps all))
+
+pub lowered-runnable : (source : ProgramTree) (asked : ExpTree) (program : List PredTree) (q : QueryTree) → IsLowered source asked program q → IsRunnable program q
+lowered-runnable source asked program q is =
+    record { sound = is.sound; rules = of-rules (program ++ q.helpers) is.plain; counted = counted (program ++ q.helpers) is.plain }
