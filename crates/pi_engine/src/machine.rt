@@ -29,7 +29,7 @@ pub struct Machine<'p, S: StateStore> {
     names: NameSlots,
     code: Code<'p>,
     mode: Mode,
-    run: Run<S>,
+    pub(crate) run: Run<S>,
 }
 
 impl<'p, S: StateStore> Machine<'p, S> {

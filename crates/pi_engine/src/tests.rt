@@ -11,6 +11,7 @@ mod heads;
 mod levels;
 mod made;
 mod steps;
+mod turns;
 
 use crate::{Budget, Happening, Machine, Mode};
 use pi_types::{Answer, CoreProgram, CoreQuery, StateStore, Term, TermHead, TreeStore, Work};
@@ -109,6 +110,7 @@ struct Pred {
 }
 
 /// What comes next in a run. An answer's values stand one after the other.
+#[derive(Drop)]
 enum Next {
     Answer(Nodes),
     Done,
@@ -117,6 +119,7 @@ enum Next {
 }
 
 /// A goal whose first so many slots are named, and all that comes of it, each with the Ticks that are counted by then.
+#[derive(Drop)]
 struct Case {
     names: u32,
     goal: Goals,
