@@ -72,6 +72,7 @@ fn memory_wanted<S: StateStore>(run: &mut Run<S>) -> Happening
 }
 
 /// One step of a run. Where it has ended, nothing.
+#[inline(always)]
 fn step<S: StateStore>(
     code: &Code<'_>,
     mode: Mode,
@@ -142,6 +143,7 @@ fn go_on<S: StateStore>(
 }
 
 /// Goes on with a point's frame, whose goals are done.
+#[inline(always)]
 fn follow<S: StateStore>(run: &mut Run<S>, point: Point, next: Point)
     ensures { (l : Loaded) → point.count ≡ 0 → frame_at run.old.arenas.frames point.frame ≡ Some next → GoesFrom (world l (S.seen run.old.store) S.order (view_of run.old.arenas)) (world l (S.seen run.new.store) S.order (view_of run.new.arenas)) point run.new.now }
 {
