@@ -1,5 +1,5 @@
 -- The turns of a call of `next`, and what the call comes to.
-use Rattle.std.proofs.Common.{◌≡◌, ◌≢◌, ◌⊎◌, inl, inr, ℕ, List, [], ◌∷◌, ◌++◌, refl, sym, ◌∙◌, ap, subst, arith}
+use Rattle.std.proofs.Common.{Box, Global, ◌≡◌, ◌≢◌, ◌⊎◌, inl, inr, ℕ, List, [], ◌∷◌, ◌++◌, refl, sym, ◌∙◌, ap, subst, arith}
 use Rattle.std.specs.Prelude.{⊤}
 use Rattle.pi_types.specs.Tree.{Tree}
 use Rattle.pi_types.specs.View.{View}
@@ -140,12 +140,12 @@ memory-comes v names mode a b after old now h c ended told good =
     }
 
 -- an answer
-pub answer-comes : {M : Type 0} (v : View) (names : List NameSlot) (mode : Mode) (a b d : Budget) (first w after : World M) (old now next : Now) (c : Config) (told : Answer) → w.loaded ≡ first.loaded → w.loaded ≡ after.loaded → Counts a b → Counts b d → IsIn v names first old c →
-    (it : Turned v names mode a b w old now c) → (IsIn v names w now it.goes.comes → StepIs v names mode b d after next it.goes.comes (CodeOutcome.Answered told)) → NextComes v names mode a d after old next c (Happening.Answer told)
-answer-comes v names mode a b d first w after old now next c told from same one two is it steps =
+pub answer-comes : {M : Type 0} (v : View) (names : List NameSlot) (mode : Mode) (a b d : Budget) (first w after : World M) (old now next : Now) (c : Config) (told : Box Answer Global) (x : Answer) → x ≡ told.value → w.loaded ≡ first.loaded → w.loaded ≡ after.loaded → Counts a b → Counts b d → IsIn v names first old c →
+    (it : Turned v names mode a b w old now c) → (IsIn v names w now it.goes.comes → StepIs v names mode b d after next it.goes.comes (CodeOutcome.Answered told)) → NextComes v names mode a d after old next c (Happening.Answer x)
+answer-comes v names mode a b d first w after old now next c told x unboxed from same one two is it steps =
     let step = steps (record { is = it.goes.is; good = it.goes.good; rules = subst (λ l. AreOfRules l.preds) (sym from) is.rules }) in
     let goes = answer-goes v names mode a b d w after now next c told same one two it.goes step in
-    record { comes = goes.2.comes; is = (goes.0, goes.1, goes.2.leads); good = goes.2.good; at = goes.2.is; spent = λ running. step.spent; fits = λ fit. spent-fits mode d next step.spent }
+    record { comes = goes.2.comes; is = (goes.0, subst (Tells names goes.0) (sym unboxed) goes.1, goes.2.leads); good = goes.2.good; at = goes.2.is; spent = λ running. step.spent; fits = λ fit. spent-fits mode d next step.spent }
 
 -- ---- an end that is answered again, of what a run is part of
 

@@ -178,11 +178,17 @@ step-now w p x some (going_now {gs = gs} is) = step-in (tables_in w.loaded) (ste
 pub step-there : {M : Type 0} (w : World M) (p : Point) (c : Config) → 0 < p.count → Stands w (Now.Going p) c → (s : Step) × (slice_get (steps_of w.loaded) p.place ≡ Some s)
 step-there w p c some stands = step-now w p c.now some stands.runs
 
-pub at-goal : {M : Type 0} (w : World M) (p : Point) (code : Code) (s : Step) (c : Config) → w.loaded.code ≡ code → ((r : Step) → slice_get code.steps.items p.place ≡ Some r → s ≡ r) → 0 < p.count → Stands w (Now.Going p) c → IsGood c → AreOfRules w.loaded.preds → AtGoal w p s c
-at-goal w p code s c is_code found some stands good rules =
+-- the step that is found at a place
+pub at-step : {M : Type 0} (w : World M) (p : Point) (code : Code) (s : Step) (c : Config) → w.loaded.code ≡ code → slice_get code.steps.items p.place ≡ Some s → 0 < p.count → Stands w (Now.Going p) c → IsGood c → AreOfRules w.loaded.preds → AtGoal w p s c
+at-step w p code s c is_code found some stands good rules =
+    record { at = ap (λ r. slice_get r.steps.items p.place) is_code ∙ found; some = some; stands = stands; good = good; rules = rules }
+
+-- there is one
+pub no-step : {M X : Type 0} (w : World M) (p : Point) (code : Code) (c : Config) → w.loaded.code ≡ code → slice_get code.steps.items p.place ≡ None → 0 < p.count → Stands w (Now.Going p) c → X
+no-step w p code c is_code none some stands =
     let there : (r : Step) × (slice_get (steps_of w.loaded) p.place ≡ Some r) = step-there w p c some stands in
-    let same : s ≡ there.0 = found there.0 (ap (λ r. slice_get r.steps.items p.place) (sym is_code) ∙ there.1) in
-    record { at = there.1 ∙ ap Some (sym same); some = some; stands = stands; good = good; rules = rules }
+    let both : Some there.0 ≡ None = sym there.1 ∙ ap (λ r. slice_get r.steps.items p.place) is_code ∙ none in
+    absurd cc
 
 -- a node that is none of those that count a Tick or are a value
 pub silent-node : (n : Node) → n ≢ Node.Tick → ((p first : ℕ) → n ≢ Node.Call p first) → ((p first into : ℕ) → n ≢ Node.Apply p first into) → ((o : Operand) → n ≢ Node.Value o) → IsSilent n

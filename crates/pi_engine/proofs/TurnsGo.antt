@@ -1,5 +1,5 @@
 -- What each step of the code is to a run: the Ticks that it counts, its answer, and where the run is then.
-use Rattle.std.proofs.Common.{◌≡◌, ◌≢◌, ℕ, ◌+◌, ◌-◌, ◌≤◌, List, [], ◌∷◌, ◌++◌, refl, sym, ◌∙◌, ap, subst, append_assoc, arith}
+use Rattle.std.proofs.Common.{Box, Global, ◌≡◌, ◌≢◌, ℕ, ◌+◌, ◌-◌, ◌≤◌, List, [], ◌∷◌, ◌++◌, refl, sym, ◌∙◌, ap, subst, append_assoc, arith}
 use Rattle.std.specs.Prelude.{⊤}
 use Rattle.std.proofs.lemmas.List.{replicate-append-replicate}
 use Rattle.pi_types.specs.Tree.{Tree}
@@ -77,7 +77,7 @@ silent-is v names mode b after now c it = more-is v names mode b after now c it.
 pub ticks-is : {M : Type 0} (v : View) (names : List NameSlot) (mode : Mode) (old new : Budget) (after : World M) (now : Now) (c : Config) → TicksOn v names mode old new after now c → StepIs v names mode old new after now c CodeOutcome.More
 ticks-is v names mode old new after now c it = record { is = it.goes; spent = it.spent }
 
-pub answer-is : {M : Type 0} (v : View) (names : List NameSlot) (mode : Mode) (b : Budget) (after : World M) (c : Config) (a : Answer) → (x : Solution) × Tells names x a × Goes v names (answered x ∷ []) after Now.Failing c →
+pub answer-is : {M : Type 0} (v : View) (names : List NameSlot) (mode : Mode) (b : Budget) (after : World M) (c : Config) (a : Box Answer Global) → (x : Solution) × Tells names x a.value × Goes v names (answered x ∷ []) after Now.Failing c →
     StepIs v names mode b b after Now.Failing c (CodeOutcome.Answered a)
 answer-is v names mode b after c a it =
     record { is = (it.0, it.1, subst (λ k. Goes v names (some_ticks k ++ answered it.0 ∷ []) after Now.Failing c) (sym (none-counted mode b b refl)) it.2); spent = tt }
@@ -146,8 +146,8 @@ more-goes v names mode a b d w after old now c same first second it is =
     subst (λ es. Goes v names es after now c) (ticks-joined (counted mode a b) (counted mode b d) ∙ ap some_ticks (counted-on mode a b d first second))
     (goes-on v names (some_ticks (counted mode a b)) (some_ticks (counted mode b d)) w after old now c same it is.is)
 
-pub answer-goes : {M : Type 0} (v : View) (names : List NameSlot) (mode : Mode) (a b d : Budget) (w after : World M) (old now : Now) (c : Config) (told : Answer) → w.loaded ≡ after.loaded → Counts a b → Counts b d → (it : Goes v names (some_ticks (counted mode a b)) w old c) →
-    StepIs v names mode b d after now it.comes (CodeOutcome.Answered told) → (x : Solution) × Tells names x told × Goes v names (some_ticks (counted mode a d) ++ answered x ∷ []) after now c
+pub answer-goes : {M : Type 0} (v : View) (names : List NameSlot) (mode : Mode) (a b d : Budget) (w after : World M) (old now : Now) (c : Config) (told : Box Answer Global) → w.loaded ≡ after.loaded → Counts a b → Counts b d → (it : Goes v names (some_ticks (counted mode a b)) w old c) →
+    StepIs v names mode b d after now it.comes (CodeOutcome.Answered told) → (x : Solution) × Tells names x told.value × Goes v names (some_ticks (counted mode a d) ++ answered x ∷ []) after now c
 answer-goes v names mode a b d w after old now c told same first second it is =
     let x : Solution = is.is.0 in
     let m : ℕ = counted mode a b in

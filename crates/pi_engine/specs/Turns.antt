@@ -21,7 +21,7 @@ use Rattle.pi_engine.specs.Goes.{counted, IsAt, Goes, IsSpent}
 -- a step with these events, and then with its answer, where it has one
 abbrev pub OutcomeIs : {M : Type 0} → View → List NameSlot → List (Emitted Solution) → World M → Now → Config → Outcome → Type 0
 OutcomeIs v names events after now c Outcome.More = Goes v names events after now c
-OutcomeIs v names events after now c (Outcome.Answered a) = (x : Solution) × Tells names x a × Goes v names (events ++ answered x ∷ []) after now c
+OutcomeIs v names events after now c (Outcome.Answered a) = (x : Solution) × Tells names x a.value × Goes v names (events ++ answered x ∷ []) after now c
 
 -- a step, with the Ticks that it counts
 pub record StepIs {M : Type 0} (v : View) (names : List NameSlot) (mode : Mode) (old new : Budget) (after : World M) (now : Now) (c : Config) (outcome : Outcome) : Type 0 where

@@ -73,6 +73,7 @@ impl Blocks {
 
     /// Puts a term into a slot, where there is one.
     #[tactic(auto, using(crate::proofs::BlocksLemmas::keeps_noted, crate::proofs::BlocksLemmas::keeps_free, crate::proofs::BlocksLemmas::keeps_same))]
+    #[inline(always)]
     pub fn set(&mut self, slot: usize, term: Ref) -> Result<(), AllocError>
         ensures ok { IfOk result (λ _. self.new.slots ≡ slice_set self.old.slots slot (Some term)) }
         ensures kept { self.new.kept ≡ self.old.kept }

@@ -147,6 +147,13 @@ impl Code<'_> {
         self.steps.get(place as usize).copied()
     }
 
+    /// The step at a place as it stands in the table, where there is one.
+    pub fn step_there(&self, place: u32) -> Option<&Step>
+        ensures { option_copied result ≡ slice_get self.now.steps.items place }
+    {
+        self.steps.get(place as usize)
+    }
+
     /// The place behind the goal at a place.
     pub fn behind(&self, place: u32) -> u32
         ensures { (terms : ℕ → Option Tree) (g : GoalTree) → StandsAt (tables_of terms self.now) self.now.steps.items place g → result ≡ place + nodes g }

@@ -25,10 +25,10 @@ use crate::steps::raises::unwind;
 use pi_types::{Answer, NameSlot, StateStore};
 use std::alloc::{AllocError, Global};
 
-/// What a step comes to.
+/// What a step comes to. An answer is boxed, since each step without one would move the room for it.
 pub enum Outcome {
     More,
-    Answered(Answer),
+    Answered(Box<Answer>),
 }
 
 /// What comes next in a run: an answer, or the end.
@@ -56,7 +56,7 @@ pub fn next_happening<S: StateStore>(
         };
         match outcome {
             Outcome::More => {}
-            Outcome::Answered(answer) => return Happening::Answer(answer),
+            Outcome::Answered(answer) => return Happening::Answer(Box::into_inner(answer)),
         }
     }
     memory_wanted(run)
@@ -132,8 +132,9 @@ fn go_on<S: StateStore>(
     }
     match answer(run, names)? {
         Ok(answer) => {
+            let boxed = Box::new(run.alloc, answer)?;
             run.now = Now::Failing;
-            Ok(Outcome::Answered(answer))
+            Ok(Outcome::Answered(boxed))
         }
         Err(ball) => {
             run.now = Now::Ended(End::Raised(ball));

@@ -54,6 +54,7 @@ pub fn make_equal<S: StateStore>(
 }
 
 /// Calls a predicate, whose arguments begin at an operand. A last call gives the slots of its body back first.
+#[inline(always)]
 pub fn call<S: StateStore>(
     code: &Code<'_>,
     run: &mut Run<S>,
@@ -112,6 +113,7 @@ pub fn apply<S: StateStore>(
 }
 
 /// The arguments of a call, into the room for them.
+#[inline(always)]
 fn take_arguments<S: StateStore>(
     code: &Code<'_>,
     run: &mut Run<S>,

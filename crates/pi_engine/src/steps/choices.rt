@@ -16,6 +16,7 @@ use pi_types::StateStore;
 use std::alloc::AllocError;
 
 /// Enters a sequence of so many goals.
+#[inline(always)]
 pub fn enter_sequence<S: StateStore>(
     run: &mut Run<S>,
     point: Point,
@@ -105,6 +106,7 @@ pub fn push_entry<S: StateStore>(
 }
 
 /// The same, where only the first so many slots are to be kept.
+#[inline(always)]
 pub fn push_entry_at<S: StateStore>(
     run: &mut Run<S>,
     slots: usize,

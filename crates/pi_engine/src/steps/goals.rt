@@ -33,19 +33,25 @@ pub fn run_goal<S: StateStore>(
     ensures counts { Counts budget.old budget.new }
     ensures goes { IfOk result (λ _. (l : Loaded) → l.code ≡ code.now → PointGoes mode budget.old budget.new (world l (S.seen run.old.store) S.order (view_of run.old.arenas)) (world l (S.seen run.new.store) S.order (view_of run.new.arenas)) point run.new.now) }
 {
-    let step = code.step(point.place);
+    let Some(step) = code.step_there(point.place) else {
+        run.now = Now::Failing;
+        return Ok(());
+    };
     match step.node {
-        Node::Tick => run_tick(mode, run, point, step, budget),
+        Node::Tick => run_tick(mode, run, point, *step, budget),
         Node::Call(predicate, operands) => {
-            run_call(code, mode, run, point, step, predicate, operands, budget)?;
+            run_call(code, mode, run, point, *step, predicate, operands, budget)?;
         }
         Node::Apply(predicate, operands, into) => {
             run_apply(
-                code, mode, run, point, step, predicate, operands, into, budget,
+                code, mode, run, point, *step, predicate, operands, into, budget,
             )?;
         }
-        Node::Value(operand) => give_value(code, run, point, step, operand)?,
-        _ => run_silent(code, run, point, step)?,
+        Node::Value(operand) => give_value(code, run, point, *step, operand)?,
+        Node::True => pass(run, point, *step),
+        Node::Fail => fail_here(run, point, *step),
+        Node::Seq(count) => enter_sequence(run, point, *step, count)?,
+        _ => run_silent(code, run, point, *step)?,
     }
     Ok(())
 }
@@ -112,6 +118,7 @@ fn run_apply<S: StateStore>(
 }
 
 /// Passes a goal that is `true`.
+#[inline(always)]
 fn pass<S: StateStore>(run: &mut Run<S>, point: Point, step: Step)
     ensures { step.node ≡ True → (l : Loaded) → RunsGoal (world l (S.seen run.old.store) S.order (view_of run.old.arenas)) (world l (S.seen run.new.store) S.order (view_of run.new.arenas)) point step run.new.now }
 {
@@ -119,6 +126,7 @@ fn pass<S: StateStore>(run: &mut Run<S>, point: Point, step: Step)
 }
 
 /// Fails.
+#[inline(always)]
 fn fail_here<S: StateStore>(run: &mut Run<S>, point: Point, step: Step)
     ensures { step.node ≡ Node.Fail → (l : Loaded) → RunsGoal (world l (S.seen run.old.store) S.order (view_of run.old.arenas)) (world l (S.seen run.new.store) S.order (view_of run.new.arenas)) point step run.new.now }
 {

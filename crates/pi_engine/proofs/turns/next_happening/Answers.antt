@@ -52,7 +52,7 @@ returns-in-Answered g c =
           (let it = before.turns l is_code are v d is in
           answer-comes v c.args.names.now c.args.mode c.args.budget.now c.loop-turn.budget c.step.new.budget
           (world l (g.S.StateStore.seen first.store) g.S.StateStore.order (view_of first.arenas)) (world l (g.S.StateStore.seen here.store) g.S.StateStore.order (view_of here.arenas))
-          (world l (g.S.StateStore.seen next.store) g.S.StateStore.order (view_of next.arenas)) first.now here.now next.now d c.in-Answered.answer refl refl before.counts c.step.ensures.counts is it
+          (world l (g.S.StateStore.seen next.store) g.S.StateStore.order (view_of next.arenas)) first.now here.now next.now d c.in-Answered.answer c.into_inner.result c.into_inner.ensures refl refl before.counts c.step.ensures.counts is it
           (λ at. subst (StepIs v c.args.names.now c.args.mode c.loop-turn.budget c.step.new.budget (world l (g.S.StateStore.seen next.store) g.S.StateStore.order (view_of next.arenas)) next.now it.goes.comes) c.in-Answered.is
           (c.in-Ok-step.ensures.is (running-of here.now c.in_default.not-Ended) l is_code are v it.goes.comes at)));
       repeats = λ e ended. absurd (c.in_default.not-Ended e (ap (λ r. r.now) (before.still e ended).0 ∙ ended));
