@@ -1,104 +1,150 @@
-use crate::{SmallFault, read_small, read_small_goal};
-use pi_types::{Clause, Exp};
+//! Rows of programs and goals with their first faults, as a fault is told behind `program: `, or with nothing where there is
+//! none.
+
+mod declarations;
+mod forms;
+mod goals;
+mod heads;
+mod kinds;
+mod limits;
+mod names;
+mod order;
+mod patterns;
+mod places;
+mod prelude;
+mod trees;
+
+use crate::{ProgFault, read_goal, read_program};
+use pi_lex::tokens;
+use std::alloc::Global;
+use std::process::Abort;
 use std::test::Fail;
 
-#[test]
-fn reads_a_program(rt: HostRuntime) -> Result<(), Fail> {
-    let text = b"p(X,a,12_0) ?=> X = Y, q.\np(_,_,_)=>fail.\nq => true.";
-    let program = read_small(rt.alloc(), text)?;
-    let parts = program.parts.as_slice();
-    assert_eq!(rt; parts.len(), 3);
-    let Some(
-        Clause::Rule {
-            head,
-            back,
-            body,
-            ..
-        },
-    ) = &parts[0].clause
-    else {
-        return Err(Fail::from("a rule"));
+fn told_fault(alloc: Global, fault: &ProgFault) -> Result<String, Fail> {
+    let told = match fault {
+        ProgFault::BadClause { number } => format!(in alloc; "BadClause {number}")?,
+        ProgFault::TooDeep { number } => format!(in alloc; "TooDeep {number}")?,
+        ProgFault::BadDeclaration { number } => format!(in alloc; "BadDeclaration {number}")?,
+        ProgFault::TooManyVariables { number } => format!(in alloc; "TooManyVariables {number}")?,
+        ProgFault::UnknownName {
+            name,
+            arity,
+            number,
+        } => {
+            let name = name.as_str();
+            format!(in alloc; "UnknownName {name}/{arity} in {number}")?
+        }
+        ProgFault::Scattered { name, arity } => {
+            let name = name.as_str();
+            format!(in alloc; "Scattered {name}/{arity}")?
+        }
+        ProgFault::Memory => String::from_str(alloc, "memory")?,
     };
-    assert!(rt; *back);
-    let shown = format!(in rt.alloc(); "{head:?} {body:?}")?;
-    let want = concat!(
-        "Call(Text { string: \"p\" }, [Var(Text { string: \"X\" }), Atom(Text { string: \"a\" }), Int(120)]) ",
-        "And([Call(Text { string: \"=\" }, [Var(Text { string: \"X\" }), Var(Text { string: \"Y\" })]), ",
-        "Atom(Text { string: \"q\" })])"
-    );
-    assert_eq!(rt; shown.as_str(), want);
+    Ok(told)
+}
+
+/// What a program's text comes to.
+fn told(alloc: Global, text: &str) -> Result<String, Fail> {
+    let tokens = tokens(alloc, text.as_bytes())?;
+    match read_program(alloc, &tokens) {
+        Ok(_) => Ok(String::new(alloc)),
+        Err(fault) => told_fault(alloc, &fault),
+    }
+}
+
+/// What a goal's text comes to, asked of a program without a fault.
+fn told_goal(alloc: Global, program: &str, goal: &str) -> Result<String, Fail> {
+    let text = tokens(alloc, program.as_bytes())?;
+    let program = read_program(alloc, &text)?;
+    let goal = tokens(alloc, goal.as_bytes())?;
+    match read_goal(alloc, &goal, &program) {
+        Ok(_) => Ok(String::new(alloc)),
+        Err(fault) => told_fault(alloc, &fault),
+    }
+}
+
+/// Pieces of text, each so many times; `%` in a piece is the number of the time.
+fn repeated(alloc: Global, pieces: &[(usize, &str)]) -> Result<String, Fail> {
+    let mut text = String::new(alloc);
+    for (count, piece) in pieces {
+        for i in 0..*count {
+            match piece.split_once("%") {
+                Some((before, after)) => {
+                    let piece = format!(in alloc; "{before}{i}{after}")?;
+                    text.push_str(piece.as_str())?;
+                }
+                None => text.push_str(piece)?,
+            }
+        }
+    }
+    Ok(text)
+}
+
+/// Adds a row that comes to something else than it must.
+fn add_wrong(
+    wrong: &mut String,
+    alloc: Global,
+    at: &str,
+    found: &str,
+    expected: &str,
+) -> Result<(), Fail> {
+    if found != expected {
+        let row = format!(in alloc; "{at:?} is {found:?}, not {expected:?}\n")?;
+        wrong.push_str(row.as_str())?;
+    }
     Ok(())
 }
 
-#[test]
-fn reads_a_goal(rt: HostRuntime) -> Result<(), Fail> {
-    let program = read_small(rt.alloc(), b"p(X) => true.")?;
-    for text in ["p(X)", " p( X ) .\n", "p(a), 1 = X_1, true, fail."] {
-        assert!(rt;
-            read_small_goal(rt.alloc(), text.as_bytes(), &program).is_ok(),
-            "{text}"
-        );
+fn check(rt: &(impl Abort + AllocGlobal), rows: &[(&str, &str)]) -> Result<(), Fail> {
+    let alloc = rt.alloc();
+    let mut wrong = String::new(alloc);
+    for (text, expected) in rows {
+        let found = told(alloc, text)?;
+        add_wrong(&mut wrong, alloc, text, found.as_str(), expected)?;
     }
-    for text in [
-        "",
-        ".",
-        "p",
-        "p(X),",
-        "p(X). p(X)",
-        "p(X) p(X)",
-        "q",
-        "X",
-        "3",
-        "p() ",
-        "X = Y = Z",
-    ] {
-        let read = read_small_goal(rt.alloc(), text.as_bytes(), &program);
-        assert!(rt; matches!(read, Err(SmallFault::NotBuilt)), "{text}");
-    }
+    assert_eq!(rt; wrong.as_str(), "");
     Ok(())
 }
 
-#[test]
-fn tells_what_is_small(rt: HostRuntime) -> Result<(), Fail> {
-    for text in [
-        "",
-        " \t\r\n",
-        "p=>true.",
-        "p(170141183460469231731687303715884105727) => true.",
-        "member(X) => member(X).",
-        "p ?=> p(1). p(X) => p.",
-        "true(X) => X = true.",
-        "p(index) => import = call.",
-    ] {
-        assert!(rt; read_small(rt.alloc(), text.as_bytes()).is_ok(), "{text}");
+fn check_goals(rt: &(impl Abort + AllocGlobal), rows: &[(&str, &str, &str)]) -> Result<(), Fail> {
+    let alloc = rt.alloc();
+    let mut wrong = String::new(alloc);
+    for (program, goal, expected) in rows {
+        let found = told_goal(alloc, program, goal)?;
+        add_wrong(&mut wrong, alloc, goal, found.as_str(), expected)?;
     }
-    for text in [
-        "p => true",
-        "p => true..",
-        "p => true.p => true.",
-        "p => q.",
-        "p, true => true.",
-        "p(170141183460469231731687303715884105728) => true.",
-        "p(1a) => true.",
-        "p(1__0) => true.",
-        "p(1_) => true.",
-        "p(0x1) => true.",
-        "p(-1) => true.",
-        "p(f(1)) => true.",
-        "p(then) => true.",
-        "P(X) => true.",
-        "p(X) => f(X) = X.",
-        "p => X == Y.",
-        "p => true. % text",
-        "p => true. q => true. p => fail.",
-        "member(X,Y) => true.",
-        "call(A,B,C,D,E,F,G,H) => true.",
-        "index(X) => true.",
-        "p('a') => true.",
-        "p(\u{e9}) => true.",
-    ] {
-        let read = read_small(rt.alloc(), text.as_bytes());
-        assert!(rt; matches!(read, Err(SmallFault::NotBuilt)), "{text}");
+    assert_eq!(rt; wrong.as_str(), "");
+    Ok(())
+}
+
+fn check_repeated(
+    rt: &(impl Abort + AllocGlobal),
+    rows: &[(&[(usize, &str)], &str)],
+) -> Result<(), Fail> {
+    let alloc = rt.alloc();
+    let mut wrong = String::new(alloc);
+    for (pieces, expected) in rows {
+        let text = repeated(alloc, pieces)?;
+        let found = told(alloc, text.as_str())?;
+        let at = format!(in alloc; "{pieces:?}")?;
+        add_wrong(&mut wrong, alloc, at.as_str(), found.as_str(), expected)?;
     }
+    assert_eq!(rt; wrong.as_str(), "");
+    Ok(())
+}
+
+fn check_repeated_goals(
+    rt: &(impl Abort + AllocGlobal),
+    rows: &[(&[(usize, &str)], &str)],
+) -> Result<(), Fail> {
+    let alloc = rt.alloc();
+    let mut wrong = String::new(alloc);
+    for (pieces, expected) in rows {
+        let text = repeated(alloc, pieces)?;
+        let found = told_goal(alloc, "", text.as_str())?;
+        let at = format!(in alloc; "{pieces:?}")?;
+        add_wrong(&mut wrong, alloc, at.as_str(), found.as_str(), expected)?;
+    }
+    assert_eq!(rt; wrong.as_str(), "");
     Ok(())
 }

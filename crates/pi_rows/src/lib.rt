@@ -10,6 +10,8 @@ mod row;
 #[cfg(test)]
 mod small;
 #[cfg(test)]
+mod text;
+#[cfg(test)]
 mod words;
 
 #[cfg(test)]
@@ -17,7 +19,7 @@ mod tests {
     use crate::faulty::FAULTY;
     use crate::orders::ORDERS;
     use crate::row::{OPEN, Row, USAGE};
-    use crate::{small, words};
+    use crate::{small, text, words};
     use pi_outside::{MemoryFiles, MemorySink, SureSource};
     use pi_top::picatq;
     use std::alloc::Global;
@@ -34,24 +36,37 @@ mod tests {
 
     /// Whether a run wrote the row's bytes and ended with its status.
     fn is_right(alloc: Global, row: &Row<'_>, failing: Failing) -> Result<bool, Fail> {
+        let mut words = Vec::new(alloc);
+        for word in row.words {
+            words.push(String::from_str(alloc, word)?)?;
+        }
+        let words = words.as_slice();
+        comes_to(alloc, row.program, words, row.output, row.status, failing)
+    }
+
+    /// Whether a run of a program with these words writes this output and ends with this status.
+    fn comes_to(
+        alloc: Global,
+        program: Option<&str>,
+        words: &[String],
+        output: &str,
+        status: u8,
+        failing: Failing,
+    ) -> Result<bool, Fail> {
         let mut files = MemoryFiles::new(alloc);
-        if let Some(text) = row.program {
+        if let Some(text) = program {
             files.add("FILE", text.as_bytes())?;
         }
         if failing.read > 0 {
             files.fail_at(failing.read)?;
-        }
-        let mut words = Vec::new(alloc);
-        for word in row.words {
-            words.push(String::from_str(alloc, word)?)?;
         }
         let mut input = SureSource::new(alloc, b"", 1)?;
         let mut out = MemorySink::new(alloc, 1_000)?;
         if failing.write > 0 {
             out.fail_at(failing.write)?;
         }
-        let outcome = picatq(alloc, words.as_slice(), &mut files, &mut input, &mut out);
-        Ok(out.bytes() == row.output.as_bytes() && outcome.status == row.status)
+        let outcome = picatq(alloc, words, &mut files, &mut input, &mut out);
+        Ok(out.bytes() == output.as_bytes() && outcome.status == status)
     }
 
     #[test]
@@ -59,6 +74,51 @@ mod tests {
         for row in &small::ROWS {
             let right = is_right(rt.alloc(), row, NOTHING)?;
             assert!(rt; right, "{:?} {:?}", row.program, row.words);
+        }
+        Ok(())
+    }
+
+    #[test]
+    fn text_rows(rt: HostRuntime) -> Result<(), Fail> {
+        for row in &text::ROWS {
+            let right = is_right(rt.alloc(), row, NOTHING)?;
+            assert!(rt; right, "{:?} {:?}", row.program, row.words);
+        }
+        Ok(())
+    }
+
+    /// The goal `X = ` with so many signs, and the line that it writes.
+    static NESTED: [(&str, usize, &str); 3] = [
+        // 1,000 levels are read, and a list isn't built yet.
+        ("[", 998, "goal: NotBuilt 1\n"),
+        ("[", 999, "goal: TooDeep 1\n"),
+        // Crowded tokens are too deep, whatever else they hold.
+        ("(", 1_001, "goal: TooDeep 1\n"),
+    ];
+
+    /// The goal `X = ` with so many opening signs, and behind `[` with 1 and as many closing ones.
+    fn nested(alloc: Global, sign: &str, count: usize) -> Result<String, Fail> {
+        let mut goal = String::from_str(alloc, "X = ")?;
+        for _ in 0..count {
+            goal.push_str(sign)?;
+        }
+        if sign == "[" {
+            goal.push_str("1")?;
+            for _ in 0..count {
+                goal.push_str("]")?;
+            }
+        }
+        Ok(goal)
+    }
+
+    #[test]
+    fn nested_brackets(rt: HostRuntime) -> Result<(), Fail> {
+        for (sign, count, output) in &NESTED {
+            let mut words = Vec::new(rt.alloc());
+            words.push(String::from_str(rt.alloc(), "FILE")?)?;
+            words.push(nested(rt.alloc(), sign, *count)?)?;
+            let right = comes_to(rt.alloc(), Some(""), words.as_slice(), output, 3, NOTHING)?;
+            assert!(rt; right, "{} {}", sign, count);
         }
         Ok(())
     }

@@ -86,7 +86,7 @@ pub static ROWS: [Row<'static>; 20] = [
     Row {
         program: Some(OPEN),
         words: &["FILE", "--X"],
-        output: "goal: NotBuilt\n",
+        output: "goal: BadClause 1\n",
         status: 3,
     },
     // The modes. Only `query` has a goal, and only `demo` a number in the file's place.

@@ -9,13 +9,12 @@ use Rattle.pi_top.specs.declared.run_mode.RunMode.TheVariants.{Query, Run, Sessi
 use Rattle.pi_top.specs.declared.words.Options.{Options}
 use Rattle.pi_top.specs.Completeness.{NothingFails, Completes}
 use Rattle.pi_top.specs.Ends.{Ends, all_written, write_failed, memory_wanted}
-use Rattle.pi_top.specs.Statuses.{EndsText, program_fault, goal_fault, ran, EndsQuery, read_fault, was_read, EndsIn, EndsBy}
+use Rattle.pi_top.specs.Statuses.{EndsText, refused, ran, EndsQuery, read_fault, was_read, EndsIn, EndsBy}
 use Rattle.pi_top.specs.Texts.{IsRead}
 
 text-complete : (asked : Options) (held : Option Holding) (text goal : List ℕ) (queries : List QueryRun) (log : List LogEntry) (status : ℕ) (before after : Option (List ℕ)) → status ≢ 3 →
     IsRead held asked.file text → asked.goal ≡ Some goal → EndsText asked text goal queries log status before after → Completes asked held queries log status before after
-text-complete asked held text goal queries log status before after sound is_read is_goal (program_fault line) = absurd (sound line.is_its)
-text-complete asked held text goal queries log status before after sound is_read is_goal (goal_fault line) = absurd (sound line.is_its)
+text-complete asked held text goal queries log status before after sound is_read is_goal (refused line is written) = absurd (sound written.is_its)
 text-complete asked held text goal queries log status before after sound is_read is_goal (ran program query is_asked has) =
     inr (record { text = text; goal = goal; is_read = is_read; is_goal = is_goal; program = program; query = query; is_asked = is_asked; ran = has })
 

@@ -2,6 +2,7 @@
 use Rattle.std.proofs.Common.{◌≡◌, ◌<◌, ◌≤◌, ℕ, List, [], Option, None, Some, Result, Ok, Err, IfOk, IfErr, OnOk, OnErr, refl, sym, subst, ◌∙◌, arith}
 use Rattle.pi_outside.specs.Held.{Holding}
 use Rattle.pi_outside.specs.Taken.{Takes}
+use Rattle.pi_outside.proofs.Taken.{Takes-none}
 use Rattle.pi_types.specs.CoreTree.{PredTree, QueryTree}
 use Rattle.pi_top.specs.declared.outcome.QueryRun.{QueryRun}
 use Rattle.pi_top.specs.declared.query.Stop.{Stop}
@@ -13,10 +14,11 @@ use Rattle.pi_top.specs.CutOff.{CutText, CutQuery, CutIn, CutBy, running}
 use Rattle.pi_top.specs.CutOff as cut
 use Rattle.pi_top.specs.Ends.{Ends, all_written, write_failed, memory_wanted, AnswersText, AnswersQuery, AnswersBy, GivesStatus}
 use Rattle.pi_top.specs.Headline.{IsAsked}
+use Rattle.pi_top.specs.Judged.{Refused}
 use Rattle.pi_top.specs.Prefix.{TakesFront}
 use Rattle.pi_top.specs.Running.{HasRun}
 use Rattle.pi_top.specs.Statuses as whole
-use Rattle.pi_top.specs.Statuses.{IsLine, EndsText, EndsQuery, EndsIn, EndsBy, ran, usage_line, mode_line, program_line, goal_line, read_fault_line, memory_line}
+use Rattle.pi_top.specs.Statuses.{IsLine, EndsText, EndsQuery, EndsIn, EndsBy, ran, usage_line, mode_line, read_fault_line, memory_line}
 use Rattle.pi_top.specs.Texts.{IsRead}
 use Rattle.pi_top.specs.Words.{options}
 use Rattle.pi_top.specs.Writing.{Writes}
@@ -25,19 +27,14 @@ use Rattle.pi_top.proofs.Modes.{GoalByMode, goal_by_mode}
 
 -- ---- with two texts
 
-pub text-program : (asked : Options) (text goal : List ℕ) (queries : List QueryRun) (before after : Option (List ℕ)) (r : Result ℕ Stop) → queries ≡ [] → IfOk r (λ given. given ≡ 3) →
-    Writes before program_line after r → AnswersText asked text goal queries [] before after r
-text-program asked text goal queries before after (Ok status) none is writes = whole.program_fault (record { is_its = is; none_ran = none; written = writes.all })
-text-program asked text goal queries before after (Err stop) none is writes = cut.program_fault writes.front
-
-pub text-goal : (asked : Options) (text goal : List ℕ) (queries : List QueryRun) (before after : Option (List ℕ)) (r : Result ℕ Stop) → queries ≡ [] → IfOk r (λ given. given ≡ 3) →
-    Writes before goal_line after r → AnswersText asked text goal queries [] before after r
-text-goal asked text goal queries before after (Ok status) none is writes = whole.goal_fault (record { is_its = is; none_ran = none; written = writes.all })
-text-goal asked text goal queries before after (Err stop) none is writes = cut.goal_fault writes.front
+pub text-refused : (asked : Options) (text goal line : List ℕ) (queries : List QueryRun) (before after : Option (List ℕ)) (r : Result ℕ Stop) → Refused text goal line → queries ≡ [] →
+    IfOk r (λ given. given ≡ 3) → Writes before line after r → AnswersText asked text goal queries [] before after r
+text-refused asked text goal line queries before after (Ok status) is none three writes = whole.refused line is (record { is_its = three; none_ran = none; written = writes.all })
+text-refused asked text goal line queries before after (Err stop) is none three writes = cut.refused line is writes.front
 
 -- nothing was written yet
 pub text-nothing : (asked : Options) (text goal : List ℕ) (taken : Option (List ℕ)) → CutText asked text goal [] taken taken
-text-nothing asked text goal taken = cut.program_fault (front-none taken program_line)
+text-nothing asked text goal taken = cut.nothing (Takes-none taken)
 
 pub text-ran : (asked : Options) (text goal : List ℕ) (program : List PredTree) (q : QueryTree) (old new : List QueryRun) (before after : Option (List ℕ)) (r : Result ℕ Stop) →
     old ≡ [] → IsAsked text goal program q → HasRun asked.answers asked.steps program q old new before after r → AnswersText asked text goal new [] before after r

@@ -1,20 +1,22 @@
 -- What the sink has taken of a run that a failed write or want of memory cut off.
-use Rattle.std.specs.Prelude.{◌≡◌, ℕ, List, Option, None, Some}
+use Rattle.std.specs.Prelude.{◌≡◌, ℕ, List, [], Option, None, Some}
 use Rattle.pi_outside.specs.Held.{Holding}
+use Rattle.pi_outside.specs.Taken.{Takes}
 use Rattle.pi_types.specs.CoreTree.{PredTree, QueryTree}
 use Rattle.pi_types.specs.declared.log.LogEntry.{LogEntry}
 use Rattle.pi_top.specs.declared.run_mode.RunMode.{RunMode}
 use Rattle.pi_top.specs.declared.run_mode.RunMode.TheVariants.{Query}
 use Rattle.pi_top.specs.declared.words.Options.{Options}
 use Rattle.pi_top.specs.Headline.{IsAsked, IsCutOff}
+use Rattle.pi_top.specs.Judged.{Refused}
 use Rattle.pi_top.specs.Prefix.{TakesFront}
-use Rattle.pi_top.specs.Statuses.{usage_line, mode_line, program_line, goal_line, read_fault_line}
+use Rattle.pi_top.specs.Statuses.{usage_line, mode_line, read_fault_line}
 use Rattle.pi_top.specs.Texts.{IsRead}
 
--- with a program's text and a goal's: the front of the line of a fault, or of what the goal's run prints
+-- with a program's text and a goal's: nothing, or the front of the line that says why nothing is run, or of what the goal's run prints
 pub data CutText (asked : Options) (text goal : List ℕ) (log : List LogEntry) (before after : Option (List ℕ)) : Type 0 where
-  program_fault : TakesFront before program_line after → CutText asked text goal log before after
-  goal_fault : TakesFront before goal_line after → CutText asked text goal log before after
+  nothing : Takes before [] after → CutText asked text goal log before after
+  refused : (line : List ℕ) → Refused text goal line → TakesFront before line after → CutText asked text goal log before after
   running : (program : List PredTree) (q : QueryTree) → IsAsked text goal program q → IsCutOff asked.answers asked.steps program q log before after → CutText asked text goal log before after
 
 -- in the mode `query`

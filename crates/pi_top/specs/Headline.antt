@@ -10,18 +10,21 @@ use Rattle.pi_types.specs.Small.{IsSmallProgram, IsSmallQuery}
 use Rattle.pi_types.specs.Run.{Solution, IsRun}
 use Rattle.pi_types.specs.declared.log.LogEntry.{LogEntry}
 use Rattle.pi_rewrite.specs.Laws.{IsLowered}
+use Rattle.pi_top.specs.Judged.{Asks}
 use Rattle.pi_top.specs.Prefix.{IsPrefix, TakesFront}
 use Rattle.pi_top.specs.Printing.{print}
+use Rattle.pi_top.specs.Unbuilt.{without_imports}
 use Rattle.pi_top.specs.QueryEnd.{QueryEnd, line_of, status_of, count_answers, Ends}
 
--- What is run of a program's text and a goal's: a program and a query of the core language that mean what a program and a goal of
--- the small language mean over their names. Which text gives which program isn't said yet.
+-- What is run of a program's text and a goal's: neither has a fault, all of both is built, and a program and a query of the core
+-- language mean over their names what this program without its `import` parts and this goal do.
 pub record IsAsked (text goal : List ℕ) (program : List PredTree) (q : QueryTree) : Type 0 where
   pub source : ProgramTree
   pub asked : ExpTree
-  pub small : IsSmallProgram source
-  pub small_goal : IsSmallQuery source asked
-  pub lowered : IsLowered source asked program q
+  pub asks : Asks text goal source asked
+  pub small : IsSmallProgram (without_imports source)
+  pub small_goal : IsSmallQuery (without_imports source) asked
+  pub lowered : IsLowered (without_imports source) asked program q
 
 -- a part of the run of a query under a log of planner calls: of its trace, cut before the Tick that is one more than it may take
 pub record IsPart (program : List PredTree) (q : QueryTree) (log : List LogEntry) (steps : ℕ) (run : Cut Solution) (part : List (Emitted Solution)) : Type 0 where

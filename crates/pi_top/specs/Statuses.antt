@@ -10,6 +10,7 @@ use Rattle.pi_top.specs.declared.run_mode.RunMode.{RunMode}
 use Rattle.pi_top.specs.declared.run_mode.RunMode.TheVariants.{Query}
 use Rattle.pi_top.specs.declared.words.Options.{Options}
 use Rattle.pi_top.specs.Headline.{IsAsked}
+use Rattle.pi_top.specs.Judged.{Refused}
 use Rattle.pi_top.specs.Running.{HasRan}
 use Rattle.pi_top.specs.Texts.{IsRead}
 
@@ -18,12 +19,6 @@ usage_line = codes "usage: picatq [--answers N] [--steps N] [--work N] [--mode q
 
 abbrev pub mode_line : List ℕ
 mode_line = codes "mode: NotBuilt\n"
-
-abbrev pub program_line : List ℕ
-program_line = codes "program: NotBuilt\n"
-
-abbrev pub goal_line : List ℕ
-goal_line = codes "goal: NotBuilt\n"
 
 abbrev pub read_fault_line : List ℕ
 read_fault_line = codes "read fault\n"
@@ -43,10 +38,9 @@ pub record IsRun (status : ℕ) : Type 0 where
   pub no_usage : status ≢ 2
   pub no_fault : status ≢ 3
 
--- with a program's text and a goal's: the line of a fault, or the goal was run
+-- with a program's text and a goal's: the line that says why nothing is run, or the goal was run
 pub data EndsText (asked : Options) (text goal : List ℕ) (queries : List QueryRun) (log : List LogEntry) (status : ℕ) (before after : Option (List ℕ)) : Type 0 where
-  program_fault : IsLine program_line 3 status queries before after → EndsText asked text goal queries log status before after
-  goal_fault : IsLine goal_line 3 status queries before after → EndsText asked text goal queries log status before after
+  refused : (line : List ℕ) → Refused text goal line → IsLine line 3 status queries before after → EndsText asked text goal queries log status before after
   ran : (program : List PredTree) (q : QueryTree) → IsAsked text goal program q → HasRan asked.answers asked.steps program q log [] queries before after status →
       EndsText asked text goal queries log status before after
 

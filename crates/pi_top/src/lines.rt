@@ -12,12 +12,6 @@ pub const USAGE: &str =
 /// What is written where the mode isn't `query`.
 pub const MODE_NOT_BUILT: &str = "mode: NotBuilt\n";
 
-/// What is written where the program isn't in the language so far.
-pub const PROGRAM_NOT_BUILT: &str = "program: NotBuilt\n";
-
-/// What is written where the goal isn't in the language so far.
-pub const GOAL_NOT_BUILT: &str = "goal: NotBuilt\n";
-
 /// What is written where a read failed.
 pub const READ_FAULT: &str = "read fault\n";
 

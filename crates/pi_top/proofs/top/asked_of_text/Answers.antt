@@ -1,34 +1,23 @@
+use Rattle.std.proofs.Common.{ℕ, List, subst}
+use Rattle.std.specs.String.{string_bytes}
 use Rattle.std.proofs.lemmas.Result.{err_from_is_err_and}
-use Rattle.pi_types.specs.CoreTree.{program_tree, query_tree}
-use Rattle.pi_types.specs.ProgramTree.{source_tree, goal_source}
-use Rattle.pi_top.proofs.Endings.{text-nothing, text-ran}
-use Rattle.pi_top.proofs.Runnable.{lowered-runnable}
+use Rattle.pi_top.specs.Judged.{Refused}
+use Rattle.pi_top.specs.Writing.{Writes}
+use Rattle.pi_top.proofs.Endings.{text-nothing, text-refused}
 use Rattle.pi_top.proofs.top.asked_of_text.Goals as goal
 
-pub returns-in_err-core-clause-answers : goal.returns-in_err-core-clause-answers
-returns-in_err-core-clause-answers g c =
+pub returns-in_err-judged-clause-answers : goal.returns-in_err-judged-clause-answers
+returns-in_err-judged-clause-answers g c =
     let p = err_from_is_err_and c.from_residual.result c.from_residual.ensures.1 in
     λ some none. rw p.1 (text-nothing c.args.asked.now c.args.text.now c.args.goal.now (g.O.Sink.taken c.args.out.now))
 
-pub returns-in_err-query-clause-answers : goal.returns-in_err-query-clause-answers
-returns-in_err-query-clause-answers g c =
-    let p = err_from_is_err_and c.from_residual-in_err-query.result c.from_residual-in_err-query.ensures.1 in
-    λ some none. rw p.1 (text-nothing c.args.asked.now c.args.text.now c.args.goal.now (g.O.Sink.taken c.args.out.now))
-
-pub returns-clause-answers : goal.returns-clause-answers
-returns-clause-answers g c =
-    let run = c.run_query.ensures in
-    let small = c.in-Ok.ensures.small in
-    let small_goal = c.in-Ok-read_small_goal.ensures.small in
-    let lowered = c.in_ok-query.ensures.lowered (source_tree c.in-Ok.program) c.in_ok-core.ensures.is small small_goal in
-    λ some none.
-    text-ran c.args.asked.now c.args.text.now c.args.goal.now (program_tree c.in_ok-core.core) (query_tree c.in_ok-query.query) c.args.queries.now c.run_query.new.queries
-    (g.O.Sink.taken c.args.out.now) (g.O.Sink.taken c.run_query.new.out) c.run_query.result none
-    (record {
-      source = source_tree c.in-Ok.program;
-      asked = goal_source c.in-Ok-read_small_goal.goal;
-      small = small;
-      small_goal = small_goal;
-      lowered = lowered;
-    })
-    (run.comes (lowered-runnable (source_tree c.in-Ok.program) (goal_source c.in-Ok-read_small_goal.goal) (program_tree c.in_ok-core.core) (query_tree c.in_ok-query.query) lowered) some)
+pub returns-in-Refused-clause-answers : goal.returns-in-Refused-clause-answers
+returns-in-Refused-clause-answers g c =
+    let text = c.args.text.now in
+    let line = string_bytes c.in-Refused.line in
+    let before = g.O.Sink.taken c.args.out.now in
+    let after = g.O.Sink.taken c.ended.new.out in
+    let shown : Refused text c.as_bytes.result.now line = rw c.in-Refused.is at c.in_ok-judged.ensures in
+    let is : Refused text c.args.goal.now line = subst (λ (of_goal : List ℕ). Refused text of_goal line) c.as_bytes.ensures.value shown in
+    let told : Writes before line after c.ended.result = subst (λ (l : List ℕ). Writes before l after c.ended.result) c.as_str.ensures.value c.ended.ensures.told in
+    λ some none. text-refused c.args.asked.now text c.args.goal.now line c.args.queries.now before after c.ended.result is none c.ended.ensures.status told

@@ -1,8 +1,0 @@
-use Rattle.std.proofs.Common.{◌≡◌, drop}
-use Rattle.std.specs.List.{list_any}
-use Rattle.pi_prog.specs.BuiltIn.{is_named_by, rows_shown}
-use Rattle.pi_prog.proofs.built_in.is_listed.Given as goal
-
--- the rows from here on say what all say
-abbrev pub invariant-loop-row : goal.invariant-loop-row
-invariant-loop-row l = list_any (is_named_by l.name l.arity) (rows_shown (drop l.row-index l.rows)) ≡ list_any (is_named_by l.name l.arity) (rows_shown l.rows)

@@ -1,0 +1,22 @@
+-- What the judge of parts finds, as the definition has it.
+use Rattle.std.specs.Prelude.{◌≡◌, List, Option, option_map, slice_get}
+use Rattle.pi_prog.specs.Before.{fault_shown}
+use Rattle.pi_prog.specs.Called.{named_by}
+use Rattle.pi_prog.specs.Calls.{Named}
+use Rattle.pi_prog.specs.Defined.{IsSetOf}
+use Rattle.pi_prog.specs.Verdict as spec
+use Rattle.pi_prog.specs.declared.calls.Called.{Called}
+use Rattle.pi_prog.specs.declared.definitions.Definitions.{Definitions}
+use Rattle.pi_prog.specs.declared.judge.Faulty.{Faulty}
+use Rattle.pi_prog.specs.declared.judge.UnknownCall.{UnknownCall}
+
+abbrev pub faulty_shown : Faulty → spec.Faulty
+faulty_shown f = record { number = f.number; fault = fault_shown f.fault }
+
+abbrev pub unknown_shown : UnknownCall → spec.Unknown
+unknown_shown u = record { called = named_by u.called; number = u.number }
+
+-- what clauses before one define, the newest first, and the newest
+pub record IsEarlier (earlier : Definitions) (last : Option Called) (before : List Named) : Type 0 where
+  pub names : IsSetOf earlier before
+  pub newest : option_map named_by last ≡ slice_get before 0

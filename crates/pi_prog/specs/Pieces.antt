@@ -1,0 +1,219 @@
+-- What the code finds in the tokens of a part, from one place up to another.
+use Rattle.std.specs.Prelude.{◌≡◌, ◌<◌, ◌≤◌, ◌+◌, ◌≢◌, if◌then◌else◌, ℕ, Bool, true, false, List, [], ◌∷◌, Option, Some, None, is_some, codes, length}
+use Rattle.std.specs.Borrow.{Bor}
+use Rattle.std.specs.List.{list_any}
+use Rattle.std.specs.Str.{bytes_eq}
+use Rattle.pi_expr.specs.Faults.{stretch}
+use Rattle.pi_types.specs.Crowding.{IsCrowded, most_levels}
+use Rattle.pi_types.specs.ExpLists.{exps_of}
+use Rattle.pi_types.specs.ExpTree.{ExpTree, array, call, and, ExpTrees, no_exps, exp, levels, exp_tree}
+use Rattle.pi_types.specs.Grammar.{HasExp}
+use Rattle.pi_types.specs.ProgramTree.{written_clause}
+use Rattle.pi_types.specs.Tokens.{Token, Var, Atom, End, is_one_of}
+use Rattle.pi_types.specs.declared.exp.Exp.{Exp}
+use Rattle.pi_types.specs.declared.program.Clause.{Clause}
+use Rattle.pi_types.specs.declared.program.Mode.{Mode}
+use Rattle.pi_prog.specs.Declaration.{Opening, undeclared, importing, indexing, misdeclared, libraries, imported, declared, ModeList, ModeLists, Modes, Declares, Opens}
+use Rattle.pi_prog.specs.Reading as spec
+use Rattle.pi_prog.specs.Reading.{IsDeepShape, HasNoShape, variable_names}
+use Rattle.pi_prog.specs.Shape.{Shape, bare, ruled, HasShape, Sides, sides, equation, clause_of, shape_events, is_open, events_in, conditions, first_unit, other_units}
+use Rattle.pi_prog.specs.Shown.{IsShown}
+use Rattle.pi_prog.specs.Stretch.{Stretch}
+use Rattle.pi_prog.specs.Verdict.{has_bad_form, has_too_many_names, different}
+use Rattle.pi_prog.specs.declared.apart.Apart.{Apart}
+use Rattle.pi_prog.specs.declared.apart.Apart.TheVariants as apart
+use Rattle.pi_prog.specs.declared.clause.FormedClause.{FormedClause}
+use Rattle.pi_prog.specs.declared.clause.Headed.{Headed}
+use Rattle.pi_prog.specs.declared.clause.SplitUnits.{SplitUnits}
+use Rattle.pi_prog.specs.declared.clause.Units.{Units}
+use Rattle.pi_prog.specs.declared.clause.Headed.TheVariants as headed
+use Rattle.pi_prog.specs.declared.declaration.DeclarationWord.{DeclarationWord}
+use Rattle.pi_prog.specs.declared.declaration.DeclarationWord.TheVariants as word
+use Rattle.pi_prog.specs.declared.declaration.PartOpening.{PartOpening}
+use Rattle.pi_prog.specs.declared.declaration.PartOpening.TheVariants as opening
+use Rattle.pi_prog.specs.declared.modes.FoundLists.{FoundLists}
+use Rattle.pi_prog.specs.declared.modes.FoundModes.{FoundModes}
+use Rattle.pi_prog.specs.declared.modes.FoundModes.TheVariants as found
+use Rattle.pi_prog.specs.declared.reading.ClauseReading.{ClauseReading}
+use Rattle.pi_prog.specs.declared.reading.ClauseReading.TheVariants as reading
+use Rattle.pi_prog.specs.declared.reading.FormedReading.{FormedReading}
+use Rattle.pi_prog.specs.declared.reading.FormedReading.TheVariants as formed
+use Rattle.pi_prog.specs.declared.reading.Marks.{Marks}
+use Rattle.pi_prog.specs.declared.reading.PartReading.{PartReading}
+use Rattle.pi_prog.specs.declared.shape.Arrow.{Arrow}
+use Rattle.pi_prog.specs.declared.shape.Arrow.TheVariants as arrow
+use Rattle.pi_prog.specs.declared.shape.Piece.{Piece}
+use Rattle.pi_prog.specs.declared.shape.Piece.TheVariants as piece
+use Rattle.pi_prog.specs.declared.shape.ShapeReading.{ShapeReading}
+use Rattle.pi_prog.specs.declared.shape.ShapeReading.TheVariants as shape
+
+-- the code's reading of a part shows what the part is
+abbrev pub ShowsPart : Stretch → PartReading → Type 0
+ShowsPart s p = (r : spec.Reading) × spec.Reads s r × IsShown p r
+
+-- the tokens of a clause, and how the part begins
+pub record IsClauseOf (part : List Token) (o : Opening) (modes : Option (List (List Mode))) (ts : List Token) : Type 0 where
+  pub few : ¬ IsCrowded part
+  pub few_behind : ¬ IsCrowded ts
+  pub opens : Opens part o
+  pub declared : o ≢ misdeclared
+  pub clause : spec.ClauseOf part o modes ts
+
+-- whether a token is the end point
+abbrev pub is_end : Token → Bool
+is_end End = true
+is_end t = false
+
+-- ---- names of variables
+
+-- the keys of a set are these names, each once
+pub record HoldsNames (keys : List (Bor (List ℕ))) (names : List (List ℕ)) : Type 0 where
+  pub same : (q : List ℕ) → list_any (λ (k : Bor (List ℕ)). bytes_eq q k.now) keys ≡ list_any (bytes_eq q) names
+  pub count : length keys ≡ different names
+
+-- with the name that the token is before them, where it is a variable
+abbrev pub named_before : Token → List (List ℕ) → List (List ℕ)
+named_before (Var name) names = name ∷ names
+named_before t names = names
+
+-- ---- declarations
+
+-- the word that a declaration begins with, or that the token begins none
+abbrev pub ShowsWord : DeclarationWord → Token → Type 0
+ShowsWord word.Import t = t ≡ Atom (codes "import")
+ShowsWord word.Index t = t ≡ Atom (codes "index")
+ShowsWord word.Other t = (name : List ℕ) × (t ≡ Atom name) × (is_one_of (codes "table" ∷ codes "module" ∷ codes "private" ∷ []) name ≡ true)
+ShowsWord word.Nothing t = (ts : List Token) → declared (t ∷ ts) ≡ None
+
+-- the name of a library, where the token is one
+abbrev pub library_of : Token → Option (List ℕ)
+library_of (Atom name) = if is_one_of libraries name then Some name else None
+library_of t = None
+
+-- what stands behind `import`
+abbrev pub ShowsImport : List Token → PartOpening → Type 0
+ShowsImport ts (opening.Importing names) = imported ts ≡ Some names
+ShowsImport ts opening.Misdeclared = imported ts ≡ None
+ShowsImport ts o = ⊥
+
+-- modes behind a parenthesis, or none
+abbrev pub ShowsModes : List Token → ℕ → ℕ → FoundModes → Type 0
+ShowsModes ts from to (found.Found modes end) = (from < end) × (end ≤ to) × Modes (stretch ts from to) modes (stretch ts end to)
+ShowsModes ts from to found.Nothing = (ms : _) (rest : List Token) → ¬ Modes (stretch ts from to) ms rest
+
+-- a mode list, or none
+abbrev pub ShowsModeList : List Token → ℕ → ℕ → FoundModes → Type 0
+ShowsModeList ts from to (found.Found modes end) = (from < end) × (end ≤ to) × ModeList (stretch ts from to) modes (stretch ts end to)
+ShowsModeList ts from to found.Nothing = (ms : _) (rest : List Token) → ¬ ModeList (stretch ts from to) ms rest
+
+-- the mode lists that stand there
+pub record IsListed (ts : List Token) (from to : ℕ) (f : FoundLists) : Type 0 where
+  pub behind : from ≤ f.end
+  pub within : f.end ≤ to
+  pub lists : ModeLists (stretch ts from to) f.lists (stretch ts f.end to)
+
+-- what stands behind `index`
+abbrev pub ShowsIndex : List Token → ℕ → ℕ → PartOpening → Type 0
+ShowsIndex ts from to (opening.Indexing modes start) = (from ≤ start) × (start ≤ to) × Declares (codes "index") (stretch ts from to) (indexing modes (stretch ts start to))
+ShowsIndex ts from to opening.Misdeclared = Declares (codes "index") (stretch ts from to) misdeclared
+ShowsIndex ts from to o = ⊥
+
+-- how a part begins, and where its clause does
+abbrev pub ShowsOpening : List Token → ℕ → ℕ → PartOpening → Type 0
+ShowsOpening ts from to opening.Undeclared = Opens (stretch ts from to) undeclared
+ShowsOpening ts from to (opening.Importing names) = Opens (stretch ts from to) (importing names)
+ShowsOpening ts from to (opening.Indexing modes start) = (from ≤ start) × (start ≤ to) × Opens (stretch ts from to) (indexing modes (stretch ts start to))
+ShowsOpening ts from to opening.Misdeclared = Opens (stretch ts from to) misdeclared
+
+-- ---- shapes
+
+-- the sides of an arrow at a place
+abbrev pub sides_at : List Token → ℕ → ℕ → Bool → ℕ → Sides
+sides_at ts from at back to = record { left = stretch ts from at; back = back; right = stretch ts (at + 1) to }
+
+abbrev pub ShowsArrow : List Token → ℕ → ℕ → Arrow → Type 0
+ShowsArrow ts from to (arrow.At i back) = (from ≤ i) × (i < to) × (sides (stretch ts from to) ≡ Some (sides_at ts from i back to))
+ShowsArrow ts from to arrow.Nowhere = sides (stretch ts from to) ≡ None
+
+-- an expression, one that is too deep, or none
+abbrev pub ShowsPiece : List Token → Piece → Type 0
+ShowsPiece ts (piece.Tree e) = HasExp ts (exp_tree e) × (levels (exp_tree e) ≤ most_levels)
+ShowsPiece ts piece.Deep = (e : ExpTree) × HasExp ts e × (most_levels < levels e)
+ShowsPiece ts piece.Nothing = (e : ExpTree) → ¬ HasExp ts e
+
+-- a shape, one that is too deep, or none
+abbrev pub ShowsShape : List Token → ShapeReading → Type 0
+ShowsShape ts (shape.Bare e) = HasShape ts (bare (exp_tree e)) × (¬ IsDeepShape (bare (exp_tree e)))
+ShowsShape ts (shape.Ruled l back r) = HasShape ts (ruled (exp_tree l) back (exp_tree r)) × (¬ IsDeepShape (ruled (exp_tree l) back (exp_tree r)))
+ShowsShape ts shape.TooDeep = (s : Shape) × HasShape ts s × IsDeepShape s
+ShowsShape ts shape.Nothing = HasNoShape ts
+
+-- ---- clauses
+
+-- whether a unit stands in braces
+abbrev pub is_braces : ExpTree → Bool
+is_braces (array es) = true
+is_braces e = false
+
+-- neither a conjunction nor an array nor a call
+abbrev pub is_other : ExpTree → Bool
+is_other (and es) = false
+is_other (array es) = false
+is_other (call name es) = false
+is_other e = true
+
+abbrev pub ShowsApart : Apart → ExpTree → Type 0
+ShowsApart (apart.Conjunction es) e = e ≡ and (exps_of es.items)
+ShowsApart (apart.Array es) e = e ≡ array (exps_of es.items)
+ShowsApart (apart.Call name es) e = e ≡ call name (exps_of es.items)
+ShowsApart (apart.Other x) e = (exp_tree x ≡ e) × (is_other e ≡ true)
+
+-- the trees of these with one more at the end
+abbrev pub exps_of_before : List Exp → ExpTree → ExpTrees
+exps_of_before [] e = exp e no_exps
+exps_of_before (x ∷ xs) e = exp (exp_tree x) (exps_of_before xs e)
+
+-- head and value, or an expression that is no equation
+abbrev pub ShowsHeaded : Headed → ExpTree → Type 0
+ShowsHeaded (headed.Equation head value) e = equation e ≡ Some (record { head = exp_tree head; value = exp_tree value })
+ShowsHeaded (headed.Alone x) e = (exp_tree x ≡ e) × (equation e ≡ None)
+
+-- the first unit and the others
+pub record IsUnits (u : Units) (es : ExpTrees) : Type 0 where
+  pub first : exp_tree u.first ≡ first_unit es
+  pub others : exps_of u.others.items ≡ other_units es
+
+-- the conditions and the events
+pub record IsSplit (s : SplitUnits) (es : ExpTrees) : Type 0 where
+  pub conditions : exps_of s.conditions.items ≡ conditions es
+  pub events : events_in es ≡ (if s.has_events then Some (exps_of s.events.items) else None)
+  pub no_events : s.has_events ≡ false → s.events.items ≡ []
+
+-- the events of a rule
+abbrev pub ShowsEvents : Clause → Option ExpTrees → Type 0
+ShowsEvents (Clause.Rule head cond events back body) (Some es) = exps_of events.items ≡ es
+ShowsEvents c es = Unit {0}
+
+-- the clause of a shape
+pub record IsFormed (f : FormedClause) (s : Shape) : Type 0 where
+  pub clause : written_clause f.clause ≡ clause_of s
+  pub open_arrow : f.is_open ≡ is_open s
+  pub has_events : f.has_events ≡ is_some (shape_events s)
+  pub events : ShowsEvents f.clause (shape_events s)
+
+-- a clause of the tokens, one that is too deep, or none
+abbrev pub ShowsFormed : List Token → FormedReading → Type 0
+ShowsFormed ts (formed.Formed f) = (s : Shape) × HasShape ts s × (¬ IsDeepShape s) × IsFormed f s
+ShowsFormed ts formed.TooDeep = (s : Shape) × HasShape ts s × IsDeepShape s
+ShowsFormed ts formed.Nothing = HasNoShape ts
+
+-- what is told of a part's clause by itself
+pub record AreMarks (part : List Token) (s : Shape) (m : Marks) : Type 0 where
+  pub form : (w : spec.WrittenPart) → w.shape ≡ s → m.has_bad_form ≡ has_bad_form w
+  pub names : m.has_too_many_names ≡ has_too_many_names (variable_names part)
+
+-- the same with what is told of it
+abbrev pub ShowsClause : List Token → List Token → ClauseReading → Type 0
+ShowsClause part ts (reading.Found c m) = (s : Shape) × HasShape ts s × (¬ IsDeepShape s) × (written_clause c ≡ clause_of s) × AreMarks part s m
+ShowsClause part ts reading.TooDeep = (s : Shape) × HasShape ts s × IsDeepShape s
+ShowsClause part ts reading.Nothing = HasNoShape ts
