@@ -11,8 +11,9 @@ const MOST_OPEN: usize = 1_000;
 
 const MOST_BLOCK_WORDS: usize = 1_000;
 
-/// Whether the tokens from one place up to another are crowded.
-pub(crate) fn is_crowded(tokens: &Tokens, from: usize, to: usize) -> bool
+/// Whether the tokens from one place up to another are crowded: some front of them has over 1,000 brackets that are open
+/// at its end, or over 1,000 of them are block words (own).
+pub fn is_crowded(tokens: &Tokens, from: usize, to: usize) -> bool
     requires ordered { from ≤ to }
     requires within { to ≤ length tokens.now }
     ensures { (result ≡ true) ↔ spec.IsCrowded (stretch (kinds tokens.now) from to) }

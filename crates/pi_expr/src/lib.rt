@@ -19,6 +19,7 @@ mod resume;
 mod signs;
 mod terminal;
 
+pub use crowding::is_crowded;
 pub use fault::ExpFault;
 pub use laws::steps_follow_the_grammar;
 pub use reader::read_exp;

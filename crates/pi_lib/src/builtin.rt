@@ -32,6 +32,16 @@ pub fn is_builtin(name: &str, arity: u32) -> Option<BuiltinKind>
     }
 }
 
+/// The same for a number of arguments that may be past 32 bits, with which nothing is built in.
+pub fn kind_of(name: &str, arity: usize) -> Option<BuiltinKind>
+    ensures { result ≡ kind_of name.now arity }
+{
+    match u32::try_from(arity) {
+        Ok(arity) => is_builtin(name, arity),
+        Err(_) => None,
+    }
+}
+
 /// Whether a table has the name with this number of arguments.
 fn is_listed(rows: &[Row], name: &str, arity: u32) -> bool
     ensures { result ≡ list_any (is_named_by name.now arity) (rows_shown rows.now) }

@@ -6,7 +6,7 @@ mod laws;
 mod rows;
 mod rules;
 
-pub use builtin::{BuiltinKind, is_builtin};
+pub use builtin::{BuiltinKind, is_builtin, kind_of};
 pub use laws::tables_are_disjoint;
 pub use rules::prelude;
 

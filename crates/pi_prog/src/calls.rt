@@ -173,8 +173,8 @@ fn goal_calls(name: &str, arity: usize) -> NodeCalls<'_>
     }
 }
 
-/// Whether it is `not`, `once`, `:=` or `in`, which call nothing themselves.
-fn is_form(name: &str, arity: usize) -> bool
+/// Whether a goal with this name is `not`, `once`, `:=` or `in`, which call nothing themselves (own).
+pub fn is_form(name: &str, arity: usize) -> bool
     ensures { result ≡ is_form name.now arity }
 {
     is_goal_sign(name, arity) || is_assignment(name, arity) || is_membership(name, arity)

@@ -4,7 +4,7 @@ ghost use Rattle.pi_lib.specs.Names.{kind_of};
 ghost use Rattle.pi_prog.specs.Calls.{is_kind};
 
 use crate::calls::Called;
-use pi_lib::{BuiltinKind, is_builtin};
+use pi_lib::{BuiltinKind, kind_of};
 use std::alloc::{AllocError, Global};
 use std::collections::BTreeSet;
 
@@ -71,16 +71,6 @@ impl<'a> Definitions<'a> {
         ensures { (names : List Named) → IsSetOf self.now names → result ≡ is_known names (named_by name.entry) }
     {
         is_built_in_as(name) || self.contains(name)
-    }
-}
-
-/// What is built in with this name and number of arguments.
-pub(crate) fn kind_of(name: &str, arity: usize) -> Option<BuiltinKind>
-    ensures { result ≡ kind_of name.now arity }
-{
-    match u32::try_from(arity) {
-        Ok(arity) => is_builtin(name, arity),
-        Err(_) => None,
     }
 }
 

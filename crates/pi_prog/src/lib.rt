@@ -6,7 +6,6 @@ mod calls;
 mod clause;
 mod clause_form;
 mod clause_name;
-mod crowding;
 mod declaration;
 mod definitions;
 mod form;
@@ -33,6 +32,7 @@ mod variables;
 mod verdict;
 mod walk;
 
+pub use calls::is_form;
 pub use goal::read_goal;
 pub use laws::one_verdict;
 pub use prog_fault::ProgFault;

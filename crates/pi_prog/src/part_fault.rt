@@ -12,8 +12,9 @@ ghost use Rattle.pi_prog.specs.Verdict.{is_length_of};
 
 use crate::calls::Called;
 use crate::clause_name::definition;
-use crate::definitions::{Definitions, kind_of};
+use crate::definitions::Definitions;
 use crate::reading::{PartReading, WrittenPart};
+use pi_lib::kind_of;
 use pi_types::{Clause, Modes};
 use std::alloc::{AllocError, Global};
 

@@ -14,11 +14,11 @@ ghost use Rattle.pi_prog.specs.Stretch as stretches;
 
 use crate::clause::{FormedClause, bare_clause, ruled_clause};
 use crate::clause_form::has_bad_form;
-use crate::crowding::is_crowded;
 use crate::declaration::{PartOpening, opening};
 use crate::shape::{ShapeReading, read_shape};
 use crate::stretch::is_end;
 use crate::variables::has_too_many_names;
+use pi_expr::is_crowded;
 use pi_lex::Tokens;
 use pi_types::{Clause, ModeLists, Names};
 use std::alloc::{AllocError, Global};

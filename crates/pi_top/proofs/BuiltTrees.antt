@@ -1,13 +1,9 @@
 -- What is built of an expression's node, over the vector that holds its parts.
-use Rattle.std.proofs.Common.{◌≡◌, inl, inr, ℕ, suc, ◌+◌, ◌<◌, ◌≤◌, ◌&&◌, Bool, true, false, nat_le, if◌then◌else◌, List, [], ◌∷◌, map, length, get_or, drop, Option, Some, None, refl, ap, ◌∙◌, sym, add-one, arith, drop-cons}
-use Rattle.std.specs.Prelude.{is_none, Vec}
+use Rattle.std.proofs.Common.{◌≡◌, ℕ, suc, ◌+◌, ◌<◌, ◌≤◌, ◌&&◌, Bool, true, false, if◌then◌else◌, List, [], ◌∷◌, map, length, get_or, drop, Option, Some, None, refl, ap, ◌∙◌, sym, add-one, drop-cons}
+use Rattle.std.specs.Prelude.{Vec}
 use Rattle.std.specs.List.{list_all}
 use Rattle.std.specs.declared.alloc.Global.{Global}
-use Rattle.std.specs.Str.{bytes_eq}
 use Rattle.std.proofs.lemmas.List.{drop_all}
-use Rattle.std.proofs.lemmas.Bool.{and_parts, and_right, or_from, leb-true, lt-leb, cases_lt}
-use Rattle.pi_lib.specs.declared.builtin.BuiltinKind.{BuiltinKind}
-use Rattle.pi_lib.specs.Names.{Row, is_listed, kind_of, function_rows, predicate_rows, prelude_rows}
 use Rattle.pi_types.specs.declared.exp.Exp as e
 use Rattle.pi_types.specs.declared.exp.Exp.{Exp}
 use Rattle.pi_types.specs.declared.program.Part.{Part}
@@ -49,38 +45,6 @@ pub head_of_call : (x : Exp) (name : List ℕ) (es : Vec Exp Global) (shown : Li
     → a ≡ is_own shown k → b ≡ list_all (λ (t : Exp). is_built_term (exp_tree t)) items → (a && b) ≡ is_built_head (exp_tree x)
 head_of_call x name es shown k items a b is name_is count_is same test all =
     of_call is_own name es shown k items a b name_is count_is same test all ∙ ap is_built_head (sym (ap exp_tree is ∙ call-tree name es))
-
--- ---- numbers of arguments that nothing built in has
-
-abbrev at_most_16 : List Row → Bool
-at_most_16 rows = list_all (λ (r : Row). nat_le r.most 16) rows
-
-too_many : (k : ℕ) (r : Row) → 16 < k → nat_le r.most 16 ≡ true → nat_le k r.most ≡ false
-too_many k r above fits = let most : r.most ≤ 16 = leb-true r.most 16 fits in lt-leb k r.most (omega (arith, above, most))
-
-unlisted : (name : List ℕ) (k : ℕ) (rows : List Row) → 16 < k → at_most_16 rows ≡ true → is_listed rows name k ≡ false
-unlisted name k [] above fits = refl
-unlisted name k (r ∷ rows) above fits =
-    let both = and_parts (nat_le r.most 16) (at_most_16 rows) fits in
-    or_from (bytes_eq r.name name && (nat_le r.least k && nat_le k r.most)) (is_listed rows name k)
-    (and_right (bytes_eq r.name name) (nat_le r.least k && nat_le k r.most) (and_right (nat_le r.least k) (nat_le k r.most) (too_many k r above both.0)))
-    (unlisted name k rows above both.1)
-
-in_no_table : (a b c : Bool) → a ≡ false → b ≡ false → c ≡ false
-    → is_none (if a then Some BuiltinKind.Function else if b then Some BuiltinKind.Predicate else if c then Some BuiltinKind.Prelude else None) ≡ true
-in_no_table false false false e f g = refl
-in_no_table true b c e f g = absurd (cc)
-in_no_table false true c e f g = absurd (cc)
-in_no_table false false true e f g = absurd (cc)
-
-pub many_are_free : (name : List ℕ) (k : ℕ) → 16 < k → is_none (kind_of name k) ≡ true
-unfolding kind_of function_rows predicate_rows prelude_rows
-many_are_free name k above =
-    in_no_table (is_listed function_rows name k) (is_listed predicate_rows name k) (is_listed prelude_rows name k)
-    (unlisted name k function_rows above refl) (unlisted name k predicate_rows above refl) (unlisted name k prelude_rows above refl)
-
-pub past_width : (k : ℕ) → (k < 4_294_967_296 → ⊥) → 16 < k
-past_width k wide = elim (cases_lt k 4_294_967_296) [ inl below ↦ absurd (wide below) | inr above ↦ omega (arith, above) ]
 
 -- ---- the first part that isn't built
 

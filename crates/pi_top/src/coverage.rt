@@ -1,13 +1,12 @@
 //! Which parts of a program and which goals are built.
-ghost use Rattle.std.specs.Prelude.{◌≡◌, not, is_none};
+ghost use Rattle.std.specs.Prelude.{◌≡◌, not};
 ghost use Rattle.std.specs.List.{list_all};
-ghost use Rattle.pi_lib.specs.Names.{kind_of};
 ghost use Rattle.pi_types.specs.ExpTree.{exp_tree};
 ghost use Rattle.pi_types.specs.ProgramTree.{part_tree, source_tree, goal_source, written_clause};
-ghost use Rattle.pi_prog.specs.Calls as calls;
 ghost use Rattle.pi_top.specs.Unbuilt as spec;
 
-use pi_lib::is_builtin;
+use pi_lib::kind_of;
+use pi_prog::is_form;
 use pi_types::{Clause, Decl, Exp, Goal, Part, Program};
 
 /// The number of a program's first part that isn't built, counted from 1; `None` exactly where all are. Built is
@@ -133,23 +132,5 @@ fn is_built_term(term: &Exp) -> bool
 fn is_own(name: &str, arity: usize) -> bool
     ensures { result ≡ spec.is_own name.now arity }
 {
-    !is_form(name, arity) & is_free(name, arity)
-}
-
-#[tactic(auto, unfolding(pi_prog::specs::Operators::is_goal_sign, pi_prog::specs::Operators::is_assignment, pi_prog::specs::Operators::is_membership))]
-fn is_form(name: &str, arity: usize) -> bool
-    ensures { result ≡ calls.is_form name.now arity }
-{
-    (arity == 1 && (name == "not" || name == "once"))
-        || (arity == 2 && (name == ":=" || name == "in"))
-}
-
-/// Whether a name isn't built in with this number of arguments.
-fn is_free(name: &str, arity: usize) -> bool
-    ensures { result ≡ is_none (kind_of name.now arity) }
-{
-    match u32::try_from(arity) {
-        Ok(arity) => is_builtin(name, arity).is_none(),
-        Err(_) => true,
-    }
+    !is_form(name, arity) & kind_of(name, arity).is_none()
 }
