@@ -32,7 +32,7 @@ use Rattle.pi_engine.specs.Stands.{tables_in, World, steps_of, NowIs, going_now,
 use Rattle.pi_engine.specs.Makes.{SilentlyTo, already, one_more, GoesFrom, AnswersOpen}
 use Rattle.pi_engine.specs.Answers.{AreNames, IsTold, AnswersQuery}
 use Rattle.pi_engine.specs.Next.{Tells}
-use Rattle.pi_engine.specs.Goes.{IsAt, Goes, IsSpent, TicksOn, AtGoal, IsSilent, PointIsDone}
+use Rattle.pi_engine.specs.Goes.{IsOther, IsAt, Goes, IsSpent, TicksOn, AtGoal, IsSilent, PointIsDone}
 use Rattle.pi_engine.proofs.CodeLemmas.{stands-within}
 use Rattle.pi_engine.proofs.PointLemmas.{first-of}
 use Rattle.pi_engine.proofs.FramesStand.{going-of}
@@ -190,24 +190,43 @@ no-step w p code c is_code none some stands =
     let both : Some there.0 ≡ None = sym there.1 ∙ ap (λ r. slice_get r.steps.items p.place) is_code ∙ none in
     absurd cc
 
--- a node that is none of those that count a Tick or are a value
-pub silent-node : (n : Node) → n ≢ Node.Tick → ((p first : ℕ) → n ≢ Node.Call p first) → ((p first into : ℕ) → n ≢ Node.Apply p first into) → ((o : Operand) → n ≢ Node.Value o) → IsSilent n
-silent-node Node.True no_tick no_call no_apply no_value = tt
-silent-node Node.Fail no_tick no_call no_apply no_value = tt
-silent-node Node.Tick no_tick no_call no_apply no_value = no_tick refl
-silent-node (Node.Seq n) no_tick no_call no_apply no_value = tt
-silent-node (Node.Alt n) no_tick no_call no_apply no_value = tt
-silent-node Node.If no_tick no_call no_apply no_value = tt
-silent-node Node.Not no_tick no_call no_apply no_value = tt
-silent-node Node.Once no_tick no_call no_apply no_value = tt
-silent-node (Node.Collect value into) no_tick no_call no_apply no_value = tt
-silent-node (Node.Count into) no_tick no_call no_apply no_value = tt
-silent-node (Node.Catch ball) no_tick no_call no_apply no_value = tt
-silent-node (Node.Unify left right) no_tick no_call no_apply no_value = tt
-silent-node (Node.Throw ball) no_tick no_call no_apply no_value = tt
-silent-node (Node.Call p first) no_tick no_call no_apply no_value = no_call p first refl
-silent-node (Node.Apply p first into) no_tick no_call no_apply no_value = no_apply p first into refl
-silent-node (Node.Value o) no_tick no_call no_apply no_value = no_value o refl
+-- a node that is neither a Tick nor a call
+pub other-node : (n : Node) → n ≢ Node.Tick → ((p first : ℕ) → n ≢ Node.Call p first) → IsOther n
+other-node Node.True no_tick no_call = tt
+other-node Node.Fail no_tick no_call = tt
+other-node Node.Tick no_tick no_call = no_tick refl
+other-node (Node.Seq n) no_tick no_call = tt
+other-node (Node.Alt n) no_tick no_call = tt
+other-node Node.If no_tick no_call = tt
+other-node Node.Not no_tick no_call = tt
+other-node Node.Once no_tick no_call = tt
+other-node (Node.Collect value into) no_tick no_call = tt
+other-node (Node.Count into) no_tick no_call = tt
+other-node (Node.Catch ball) no_tick no_call = tt
+other-node (Node.Unify left right) no_tick no_call = tt
+other-node (Node.Throw ball) no_tick no_call = tt
+other-node (Node.Call p first) no_tick no_call = no_call p first refl
+other-node (Node.Apply p first into) no_tick no_call = tt
+other-node (Node.Value o) no_tick no_call = tt
+
+-- one of them that is no function's call and no value counts no Tick
+pub silent-node : (n : Node) → IsOther n → ((p first into : ℕ) → n ≢ Node.Apply p first into) → ((o : Operand) → n ≢ Node.Value o) → IsSilent n
+silent-node Node.True other no_apply no_value = tt
+silent-node Node.Fail other no_apply no_value = tt
+silent-node Node.Tick other no_apply no_value = other
+silent-node (Node.Seq n) other no_apply no_value = tt
+silent-node (Node.Alt n) other no_apply no_value = tt
+silent-node Node.If other no_apply no_value = tt
+silent-node Node.Not other no_apply no_value = tt
+silent-node Node.Once other no_apply no_value = tt
+silent-node (Node.Collect value into) other no_apply no_value = tt
+silent-node (Node.Count into) other no_apply no_value = tt
+silent-node (Node.Catch ball) other no_apply no_value = tt
+silent-node (Node.Unify left right) other no_apply no_value = tt
+silent-node (Node.Throw ball) other no_apply no_value = tt
+silent-node (Node.Call p first) other no_apply no_value = other
+silent-node (Node.Apply p first into) other no_apply no_value = no_apply p first into refl
+silent-node (Node.Value o) other no_apply no_value = no_value o refl
 
 -- a function's value, which its level has as its answer
 pub value-goes : {M : Type 0} (w after : World M) (p : Point) (s : Step) (mode : Mode) (b : Budget) (v : View) (names : List NameSlot) (c : Config) (now : Now) → w.loaded ≡ after.loaded → AtGoal w p s c → (d : Config) × SilentlyTo v w.loaded.preds names c d × Stands after now d →

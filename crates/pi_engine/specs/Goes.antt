@@ -111,3 +111,9 @@ IsSilent (Node.Call p first) = ⊥
 IsSilent (Node.Apply p first into) = ⊥
 IsSilent (Node.Value operand) = ⊥
 IsSilent node = ⊤
+
+-- goals that are neither Ticks nor calls of predicates
+abbrev pub IsOther : Node → Type 0
+IsOther Node.Tick = ⊥
+IsOther (Node.Call p first) = ⊥
+IsOther node = ⊤

@@ -5,7 +5,7 @@ ghost use Rattle.pi_engine.specs.Budget.{Counts};
 ghost use Rattle.pi_engine.specs.Arenas.{view_of};
 ghost use Rattle.pi_engine.specs.Stands.{Loaded, world};
 ghost use Rattle.pi_engine.specs.Makes.{RunsGoal, level_kind};
-ghost use Rattle.pi_engine.specs.Goes.{GoalGoes, PointGoes, IsSilent};
+ghost use Rattle.pi_engine.specs.Goes.{GoalGoes, PointGoes, IsSilent, IsOther};
 
 use super::calls::{apply, call, give_value, make_equal};
 use super::choices::{enter_alternatives, enter_sequence};
@@ -42,15 +42,35 @@ pub fn run_goal<S: StateStore>(
         Node::Call(predicate, operands) => {
             run_call(code, mode, run, point, *step, predicate, operands, budget)?;
         }
+        Node::True => pass(run, point, *step),
+        Node::Fail => fail_here(run, point, *step),
+        Node::Seq(count) => enter_sequence(run, point, *step, count)?,
+        _ => run_other(code, mode, run, point, step, budget)?,
+    }
+    Ok(())
+}
+
+/// Runs the first goal of a point, which is neither a Tick nor a call of a predicate. It stands by itself, and is inlined, so
+/// that its copies of the point and of the step are made where they are used alone.
+#[inline(always)]
+fn run_other<S: StateStore>(
+    code: &Code<'_>,
+    mode: Mode,
+    run: &mut Run<S>,
+    point: Point,
+    step: &Step,
+    budget: &mut Budget,
+) -> Result<(), AllocError>
+    ensures counts { Counts budget.old budget.new }
+    ensures goes { IfOk result (λ _. IsOther step.now.node → (l : Loaded) → l.code ≡ code.now → GoalGoes mode budget.old budget.new (world l (S.seen run.old.store) S.order (view_of run.old.arenas)) (world l (S.seen run.new.store) S.order (view_of run.new.arenas)) point step.now run.new.now) }
+{
+    match step.node {
         Node::Apply(predicate, operands, into) => {
             run_apply(
                 code, mode, run, point, *step, predicate, operands, into, budget,
             )?;
         }
         Node::Value(operand) => give_value(code, run, point, *step, operand)?,
-        Node::True => pass(run, point, *step),
-        Node::Fail => fail_here(run, point, *step),
-        Node::Seq(count) => enter_sequence(run, point, *step, count)?,
         _ => run_silent(code, run, point, *step)?,
     }
     Ok(())
@@ -96,6 +116,7 @@ fn run_call<S: StateStore>(
 }
 
 /// The same of a function's call.
+#[inline(never)]
 fn run_apply<S: StateStore>(
     code: &Code<'_>,
     mode: Mode,
@@ -134,6 +155,7 @@ fn fail_here<S: StateStore>(run: &mut Run<S>, point: Point, step: Step)
 }
 
 /// Runs the first goal of a point, which counts no Tick.
+#[inline(never)]
 fn run_silent<S: StateStore>(
     code: &Code<'_>,
     run: &mut Run<S>,

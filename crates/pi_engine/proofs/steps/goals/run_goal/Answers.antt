@@ -1,10 +1,10 @@
 use Rattle.std.proofs.Common.{◌≡◌, ◌∙◌, refl, sym, ap, subst, Some, None}
 use Rattle.std.specs.Prelude.{slice_get, option_copied}
 use Rattle.pi_engine.specs.Arenas.{view_of}
-use Rattle.pi_engine.specs.Goes.{AtGoal, IsSilent}
+use Rattle.pi_engine.specs.Goes.{IsSilent}
 use Rattle.pi_engine.specs.Stands.{World, world}
 use Rattle.pi_engine.proofs.GoalsGo.{runs-silent}
-use Rattle.pi_engine.proofs.PointsDone.{at-step, no-step, silent-node, value-goes}
+use Rattle.pi_engine.proofs.PointsDone.{at-step, no-step, other-node}
 use Rattle.pi_engine.proofs.steps.goals.run_goal.Goals as goal
 
 pub returns-in_default-clause-goes : goal.returns-in_default-clause-goes
@@ -28,25 +28,6 @@ returns-in_ok-run_call-in-Call-clause-goes g c = λ l is_code v names d some sta
     let s = c.in-Some.step.now in
     let found : slice_get c.args.code.now.steps.items c.args.point.place ≡ Some s = sym c.step_there.ensures ∙ ap option_copied c.in-Some.is in
     c.in_ok-run_call-in-Call.ensures.goes c.in-Call.is l is_code v names d (at-step w c.args.point c.args.code.now s d is_code found some stands good rules)
-
-pub returns-in_ok-run_apply-in-Apply-clause-goes : goal.returns-in_ok-run_apply-in-Apply-clause-goes
-returns-in_ok-run_apply-in-Apply-clause-goes g c = λ l is_code v names d some stands good rules.
-    let run = c.args.run.now in
-    let w : World _ = world l (g.S.StateStore.seen run.store) g.S.StateStore.order (view_of run.arenas) in
-    let s = c.in-Some.step.now in
-    let found : slice_get c.args.code.now.steps.items c.args.point.place ≡ Some s = sym c.step_there.ensures ∙ ap option_copied c.in-Some.is in
-    c.in_ok-run_apply-in-Apply.ensures.goes c.in-Apply.is l is_code v names d (at-step w c.args.point c.args.code.now s d is_code found some stands good rules)
-
-pub returns-in_ok-give_value-in-Value-clause-goes : goal.returns-in_ok-give_value-in-Value-clause-goes
-returns-in_ok-give_value-in-Value-clause-goes g c = λ l is_code v names d some stands good rules.
-    let run = c.args.run.now in
-    let end = c.give_value.new.run in
-    let w : World _ = world l (g.S.StateStore.seen run.store) g.S.StateStore.order (view_of run.arenas) in
-    let after : World _ = world l (g.S.StateStore.seen end.store) g.S.StateStore.order (view_of end.arenas) in
-    let s = c.in-Some.step.now in
-    let found : slice_get c.args.code.now.steps.items c.args.point.place ≡ Some s = sym c.step_there.ensures ∙ ap option_copied c.in-Some.is in
-    let at : AtGoal w c.args.point s d = at-step w c.args.point c.args.code.now s d is_code found some stands good rules in
-    value-goes w after c.args.point s c.args.mode c.args.budget.now v names d end.now refl at (c.in_ok-give_value-in-Value.ensures c.in-Value.is l is_code v names d at)
 
 pub returns-in-True-clause-goes : goal.returns-in-True-clause-goes
 returns-in-True-clause-goes g c = λ l is_code v names d some stands good rules.
@@ -81,14 +62,11 @@ returns-in_ok-enter_sequence-in-Seq-clause-goes g c = λ l is_code v names d som
     let silent : IsSilent s.node = subst IsSilent (sym c.in-Seq.is) tt in
     runs-silent w after c.args.point s end.now c.args.mode c.args.budget.now refl silent (c.in_ok-enter_sequence-in-Seq.ensures c.in-Seq.is l) v names d (at-step w c.args.point c.args.code.now s d is_code found some stands good rules)
 
-pub returns-in_ok-run_silent-in_default-node-clause-goes : goal.returns-in_ok-run_silent-in_default-node-clause-goes
-returns-in_ok-run_silent-in_default-node-clause-goes g c = λ l is_code v names d some stands good rules.
+pub returns-in_ok-run_other-in_default-node-clause-goes : goal.returns-in_ok-run_other-in_default-node-clause-goes
+returns-in_ok-run_other-in_default-node-clause-goes g c = λ l is_code v names d some stands good rules.
     let run = c.args.run.now in
-    let end = c.run_silent.new.run in
     let w : World _ = world l (g.S.StateStore.seen run.store) g.S.StateStore.order (view_of run.arenas) in
-    let after : World _ = world l (g.S.StateStore.seen end.store) g.S.StateStore.order (view_of end.arenas) in
     let s = c.in-Some.step.now in
     let found : slice_get c.args.code.now.steps.items c.args.point.place ≡ Some s = sym c.step_there.ensures ∙ ap option_copied c.in-Some.is in
-    let at : AtGoal w c.args.point s d = at-step w c.args.point c.args.code.now s d is_code found some stands good rules in
-    let silent : IsSilent s.node = silent-node s.node c.in_default-node.not-Tick c.in_default-node.not-Call c.in_default-node.not-Apply c.in_default-node.not-Value in
-    runs-silent w after c.args.point s end.now c.args.mode c.args.budget.now refl silent (c.in_ok-run_silent-in_default-node.ensures l is_code silent) v names d at
+    c.in_ok-run_other-in_default-node.ensures.goes (other-node s.node c.in_default-node.not-Tick c.in_default-node.not-Call) l is_code v names d
+    (at-step w c.args.point c.args.code.now s d is_code found some stands good rules)
