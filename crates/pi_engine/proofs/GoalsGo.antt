@@ -371,6 +371,11 @@ pub apply-found : {M : Type 0} (w : World M) (p : Point) (s : Step) (c : Config)
 apply-found w p s c q operands into is node =
     found-predicate w true q is.stands.entries.code (subst (HasNumber w.loaded.preds) node (is.stands.entries.code.numbers p.place s is.at))
 
+pub no-predicate : {M X : Type 0} (w : World M) (q : ℕ) → FoundPredicate w q → slice_get w.loaded.code.predicates.items q ≡ None → X
+no-predicate w q it none =
+    let both : Some it.predicate ≡ None = sym it.at ∙ none in
+    absurd cc
+
 -- `fail`
 fail-of : (g : GoalTree) → GoalKind.Fail ≡ kind_of g → g ≡ fail
 unfolding kind_of

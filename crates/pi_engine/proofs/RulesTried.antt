@@ -148,6 +148,18 @@ guarding-taken w p base frame number called c cs s k es again predicate rule e a
 abbrev pub IsFound : {M : Type 0} → World M → ℕ → Predicate → Type 0
 IsFound w p predicate = (q : Predicate) → slice_get w.loaded.code.predicates.items p ≡ Some q → predicate ≡ q
 
+found-once : (o : Option Predicate) (p q : Predicate) → o ≡ Some p → o ≡ Some q → p ≡ q
+found-once o p q h k = cc
+
+pub found-there : {M : Type 0} (w : World M) (p : ℕ) (predicate : Predicate) → slice_get w.loaded.code.predicates.items p ≡ Some predicate → IsFound w p predicate
+found-there w p predicate at = λ q h. found-once (slice_get w.loaded.code.predicates.items p) predicate q at h
+
+-- there is one
+pub call-has : {M X : Type 0} (w : World M) (p base frame from : ℕ) (called : Called) (cs : List ClauseTree) (s : State) (k : List Frame) (es : List EntryData) (again : Bool) → slice_get w.loaded.code.predicates.items p ≡ None → CallIs w p base frame from called cs s k es again → X
+call-has w p base frame from called cs s k es again none is =
+    let both : Some is.call.call.predicate ≡ None = sym is.call.call.is_predicate ∙ none in
+    absurd cc
+
 no-rest : (cs : List ClauseTree) → length cs ≡ 0 → cs ≡ []
 no-rest [] h = refl
 no-rest (c ∷ cs) h = absurd (omega (arith, h))

@@ -204,6 +204,13 @@ impl Code<'_> {
         }
     }
 
+    /// The predicate with this number as it stands in the table, where there is one.
+    pub fn predicate_there(&self, number: u32) -> Option<&Predicate>
+        ensures { option_copied result ≡ slice_get self.now.predicates.items number }
+    {
+        self.predicates.get(number as usize)
+    }
+
     /// The rule with this number.
     pub fn rule(&self, number: u32) -> Option<&Rule>
         ensures { option_copied result ≡ slice_get self.now.rules.items number }

@@ -1,26 +1,17 @@
 //! Ticks, as a machine counts them.
-ghost use Rattle.std.specs.Prelude.{◌≡◌, Some, slice_get};
-ghost use Rattle.pi_engine.specs.declared.code.Predicate.{Predicate};
 ghost use Rattle.pi_engine.specs.Budget.{Counts};
 ghost use Rattle.pi_engine.specs.Goes.{Ticks, TicksUnless};
 
-use crate::code::Code;
 use crate::happening::{Budget, Mode};
 use crate::run::{End, Now};
 
 /// Counts the Tick of a call, unless it is a quiet one; false where the budget has none left, which ends the run.
 #[inline(always)]
-pub fn tick_call(
-    code: &Code<'_>,
-    mode: Mode,
-    predicate: u32,
-    now: &mut Now,
-    budget: &mut Budget,
-) -> bool
+pub fn tick_call(is_quiet: bool, mode: Mode, now: &mut Now, budget: &mut Budget) -> bool
     ensures counts { Counts budget.old budget.new }
-    ensures ticks { (p : Predicate) → slice_get code.now.predicates.items predicate ≡ Some p → TicksUnless p.is_quiet mode budget.old budget.new now.old now.new result }
+    ensures ticks { TicksUnless is_quiet mode budget.old budget.new now.old now.new result }
 {
-    code.predicate(predicate).is_quiet || tick(mode, now, budget)
+    is_quiet || tick(mode, now, budget)
 }
 
 /// Counts a Tick; false where the budget has none left, which ends the run.

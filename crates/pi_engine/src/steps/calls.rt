@@ -1,5 +1,5 @@
 //! Unification, and calls of predicates and functions.
-ghost use Rattle.std.specs.Prelude.{◌≡◌, ℕ, Some, IfOk};
+ghost use Rattle.std.specs.Prelude.{◌≡◌, ℕ, Some, IfOk, slice_get};
 ghost use Rattle.pi_engine.specs.declared.code.Node.TheVariants.{Unify};
 ghost use Rattle.pi_engine.specs.Arenas.{view_of};
 ghost use Rattle.pi_types.specs.Tree.{trees_of};
@@ -18,7 +18,7 @@ use super::choices::push_entry;
 use super::rules::{Call, try_rules};
 use crate::arenas::{Back, Kind, Strict, behind};
 use crate::blocks::BlocksMark;
-use crate::code::{Code, Node, Operand, Step};
+use crate::code::{Code, Node, Operand, Predicate, Step};
 use crate::frames::Point;
 use crate::run::{Now, Run};
 use crate::values::{slot_at, value};
@@ -53,19 +53,19 @@ pub fn make_equal<S: StateStore>(
     Ok(())
 }
 
-/// Calls a predicate, whose arguments begin at an operand. A last call gives the slots of its body back first.
+/// Calls a predicate, which the tables have, and whose arguments begin at an operand. A last call gives the slots of its body back first.
 #[inline(always)]
 pub fn call<S: StateStore>(
     code: &Code<'_>,
     run: &mut Run<S>,
     point: Point,
     step: Step,
+    called: &Predicate,
     predicate: u32,
     operands: u32,
 ) -> Result<(), AllocError>
-    ensures { IfOk result (λ _. step.node ≡ Node.Call predicate operands → (l : Loaded) → l.code ≡ code.now → RunsGoal (world l (S.seen run.old.store) S.order (view_of run.old.arenas)) (world l (S.seen run.new.store) S.order (view_of run.new.arenas)) point step run.new.now) }
+    ensures { IfOk result (λ _. step.node ≡ Node.Call predicate operands → (l : Loaded) → l.code ≡ code.now → slice_get code.now.predicates.items predicate ≡ Some called.now → RunsGoal (world l (S.seen run.old.store) S.order (view_of run.old.arenas)) (world l (S.seen run.new.store) S.order (view_of run.new.arenas)) point step run.new.now) }
 {
-    let called = code.predicate(predicate);
     take_arguments(code, run, point.first_slot(step), operands, called.arity)?;
     let frame = run.arenas.frame_behind(point, step)?;
     if step.is_last {
@@ -78,7 +78,7 @@ pub fn call<S: StateStore>(
         base,
         frame,
     };
-    try_rules(code, run, &call, called.first, false)?;
+    try_rules(code, run, &call, called, called.first, false)?;
     Ok(())
 }
 
@@ -90,12 +90,12 @@ pub fn apply<S: StateStore>(
     run: &mut Run<S>,
     point: Point,
     step: Step,
+    called: &Predicate,
     predicate: u32,
     operands: u32,
 ) -> Result<(), AllocError>
-    ensures { IfOk result (λ _. (into : ℕ) → step.node ≡ Node.Apply predicate operands into → (l : Loaded) → l.code ≡ code.now → RunsGoal (world l (S.seen run.old.store) S.order (view_of run.old.arenas)) (world l (S.seen run.new.store) S.order (view_of run.new.arenas)) point step run.new.now) }
+    ensures { IfOk result (λ _. (into : ℕ) → step.node ≡ Node.Apply predicate operands into → (l : Loaded) → l.code ≡ code.now → slice_get code.now.predicates.items predicate ≡ Some called.now → RunsGoal (world l (S.seen run.old.store) S.order (view_of run.old.arenas)) (world l (S.seen run.new.store) S.order (view_of run.new.arenas)) point step run.new.now) }
 {
-    let called = code.predicate(predicate);
     take_arguments(code, run, point.first_slot(step), operands, called.arity)?;
     let frame = run.arenas.frame_behind(point, step)?;
     let base = run.arenas.blocks.count();
@@ -108,7 +108,7 @@ pub fn apply<S: StateStore>(
         base,
         frame: 0,
     };
-    try_rules(code, run, &call, called.first, false)?;
+    try_rules(code, run, &call, called, called.first, false)?;
     Ok(())
 }
 

@@ -108,10 +108,14 @@ fn run_call<S: StateStore>(
     ensures counts { Counts budget.old budget.new }
     ensures goes { IfOk result (λ _. step.node ≡ Node.Call predicate operands → (l : Loaded) → l.code ≡ code.now → GoalGoes mode budget.old budget.new (world l (S.seen run.old.store) S.order (view_of run.old.arenas)) (world l (S.seen run.new.store) S.order (view_of run.new.arenas)) point step run.new.now) }
 {
-    if !tick_call(code, mode, predicate, &mut run.now, budget) {
+    let Some(called) = code.predicate_there(predicate) else {
+        run.now = Now::Failing;
+        return Ok(());
+    };
+    if !tick_call(called.is_quiet, mode, &mut run.now, budget) {
         return Ok(());
     }
-    call(code, run, point, step, predicate, operands)?;
+    call(code, run, point, step, called, predicate, operands)?;
     Ok(())
 }
 
@@ -131,10 +135,14 @@ fn run_apply<S: StateStore>(
     ensures counts { Counts budget.old budget.new }
     ensures goes { IfOk result (λ _. step.node ≡ Node.Apply predicate operands into → (l : Loaded) → l.code ≡ code.now → GoalGoes mode budget.old budget.new (world l (S.seen run.old.store) S.order (view_of run.old.arenas)) (world l (S.seen run.new.store) S.order (view_of run.new.arenas)) point step run.new.now) }
 {
-    if !tick_call(code, mode, predicate, &mut run.now, budget) {
+    let Some(called) = code.predicate_there(predicate) else {
+        run.now = Now::Failing;
+        return Ok(());
+    };
+    if !tick_call(called.is_quiet, mode, &mut run.now, budget) {
         return Ok(());
     }
-    apply(code, run, point, step, predicate, operands)?;
+    apply(code, run, point, step, called, predicate, operands)?;
     Ok(())
 }
 

@@ -1,5 +1,5 @@
 //! The rules of a call: heads, conditions, and the choices that they leave.
-ghost use Rattle.std.specs.Prelude.{◌≡◌, ◌⊎◌, ℕ, ◌+◌, ◌≤◌, ◌<◌, true, false, IfOk, MatchOption, length};
+ghost use Rattle.std.specs.Prelude.{◌≡◌, ◌⊎◌, ℕ, ◌+◌, ◌≤◌, ◌<◌, true, false, Some, IfOk, MatchOption, length, slice_get};
 ghost use Rattle.pi_engine.specs.Arenas.{view_of};
 ghost use Rattle.pi_engine.specs.Stands.{Loaded, world};
 ghost use Rattle.pi_engine.specs.Tries.{KeepsCall, TakesRule, EntersGuard, AppliesRule, TakesGuarded, TriesRules};
@@ -22,22 +22,22 @@ pub struct Call {
     pub frame: usize,
 }
 
-/// Goes on with the first of the call's rules from `from` on whose head matches. `is_again` says that the newest entry is
-/// this call's; it stays only where it is needed further.
+/// Goes on with the first of the call's rules from `from` on whose head matches, where this is the call's predicate.
+/// `is_again` says that the newest entry is this call's; it stays only where it is needed further.
 pub fn try_rules<S: StateStore>(
     code: &Code<'_>,
     run: &mut Run<S>,
     call: &Call,
+    predicate: &Predicate,
     from: u32,
     is_again: bool,
 ) -> Result<(), AllocError>
-    ensures { IfOk result (λ _. (l : Loaded) → l.code ≡ code.now → TriesRules (world l (S.seen run.old.store) S.order (view_of run.old.arenas)) (world l (S.seen run.new.store) S.order (view_of run.new.arenas)) call.now.predicate call.now.base call.now.frame from is_again run.new.now) }
+    ensures { IfOk result (λ _. (l : Loaded) → l.code ≡ code.now → slice_get code.now.predicates.items call.now.predicate ≡ Some predicate.now → TriesRules (world l (S.seen run.old.store) S.order (view_of run.old.arenas)) (world l (S.seen run.new.store) S.order (view_of run.new.arenas)) call.now.predicate call.now.base call.now.frame from is_again run.new.now) }
 {
-    let predicate = code.predicate(call.predicate);
     for number in from..predicate.end {
         if let Some(rule) = code.rule(number) {
             if matches(code, run, call, rule, number, predicate.arity)? {
-                apply(run, call, &predicate, rule, number, is_again)?;
+                apply(run, call, predicate, rule, number, is_again)?;
                 return Ok(());
             }
         }
@@ -59,8 +59,12 @@ pub fn retry<S: StateStore>(
 ) -> Result<(), AllocError>
     ensures { IfOk result (λ _. (l : Loaded) → l.code ≡ code.now → TriesRules (world l (S.seen run.old.store) S.order (view_of run.old.arenas)) (world l (S.seen run.new.store) S.order (view_of run.new.arenas)) predicate back.base back.frame from true run.new.now) }
 {
+    let Some(called) = code.predicate_there(predicate) else {
+        run.now = Now::Failing;
+        return Ok(());
+    };
     let call = call_of(back, predicate);
-    try_rules(code, run, &call, from, true)?;
+    try_rules(code, run, &call, called, from, true)?;
     Ok(())
 }
 

@@ -17,10 +17,11 @@ use Rattle.pi_engine.proofs.LevelStands.{arenas-opened}
 use Rattle.pi_engine.proofs.EqualStands.{block_of, first-slot-of, node-readable}
 use Rattle.pi_engine.proofs.CallMade.{Made}
 use Rattle.pi_engine.proofs.ApplyRuns.{Applies, ApplyRuns, applies, apply-runs}
+use Rattle.pi_engine.proofs.RulesTried.{found-there}
 use Rattle.pi_engine.proofs.steps.calls.apply.Goals as goal
 
 pub returns : goal.returns
-returns g c = λ into node l is_code view goal gs e k es at stands.
+returns g c = λ into node l is_code has view goal gs e k es at stands.
     let seen = g.S.StateStore.seen in
     let order = g.S.StateStore.order in
     let v = seen c.args.run.now.store in
@@ -31,13 +32,13 @@ returns g c = λ into node l is_code view goal gs e k es at stands.
     let p = c.args.point in
     let s = c.args.step in
     let q = c.args.predicate in
-    let predicate = c.predicate-called.result in
+    let predicate = c.args.called.now in
     let T = tables_in l in
     let is = going-of w p _ e v.now.state k stands.runs in
     let block : Block = block_of w p goal gs e k es stands in
     let tables : T ≡ tables_of l.terms c.args.code.now = ap (tables_of l.terms) is_code in
     let it : Applies w goal q c.args.operands into predicate = applies w p s goal gs e k es q c.args.operands into predicate node at stands
-    (λ r found. c.predicate-called.ensures r (ap (λ x. slice_get x.predicates.items q) (sym is_code) ∙ found)) in
+    (found-there w q predicate (ap (λ x. slice_get x.predicates.items q) is_code ∙ has)) in
     let readable : AreReadable T block c.args.operands predicate.arity =
     subst (AreReadable T block c.args.operands) it.it.arities (node-readable w p s goal gs e k (Node.Apply q c.args.operands into) at is node).0 in
     let evaluates : EvaluatesAll block v u a b (evaluated_all (trees_of (operand_trees T c.args.operands predicate.arity)) e v.now.state) c.take_arguments.new.run.terms.items =
@@ -69,4 +70,4 @@ returns g c = λ into node l is_code view goal gs e k es at stands.
     (subst (λ r. ApplyRuns w (world l pushed_store order r) q (length b.blocks.slots) predicate view goal gs e k es) same_all there) in
     let end = c.try_rules.new.run in
     runs.step end.now (world l (seen end.store) order (view_of end.arenas))
-    (c.in_ok-try_rules.ensures l is_code runs.called runs.pred.clauses pushed_store.now.state [] (runs.level ∷ es) runs.made.is runs.made.args refl)
+    (c.in_ok-try_rules.ensures l is_code has runs.called runs.pred.clauses pushed_store.now.state [] (runs.level ∷ es) runs.made.is runs.made.args refl)
