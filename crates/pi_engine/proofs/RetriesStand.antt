@@ -10,6 +10,7 @@ use Rattle.pi_engine.specs.declared.arenas.Kind.{Kind}
 use Rattle.pi_engine.specs.declared.arenas.Strict.{Strict as StrictKind}
 use Rattle.pi_engine.specs.declared.code.Predicate.{Predicate}
 use Rattle.pi_engine.specs.declared.run.Now.{Now}
+use Rattle.pi_engine.specs.declared.steps.rules.Call.{Call}
 use Rattle.pi_engine.specs.Arenas.{Entry, entry_at, newest, slots_kept_by}
 use Rattle.pi_engine.specs.Configuration.{Frame, Called, Entry as EntryData, choice, rules_left, Strict, strict, guard_level, Back as BackData}
 use Rattle.pi_engine.specs.Step.{silently, try_rules, back_to, choice_step, end_step, fail_step}
@@ -122,6 +123,14 @@ rules-shape l c h t base frame slots from to p r kind y named (exit_kind one) = 
 rules-step : (y : EntryData) (called : Called) (cs : List ClauseTree) (b : BackData) (es : List EntryData) → y ≡ choice (rules_left called cs) b → fail_step (y ∷ es) ≡ silently (try_rules called cs b es)
 unfolding fail_step
 rules-step y called cs b es is = ap (λ q. fail_step (q ∷ es)) is
+
+-- what is told of the call of an entry
+pub tries-of : {M : Type 0} (w after : World M) (back : Back) (call : Call) (p r : ℕ) (now : Now) → call.predicate ≡ p → call.base ≡ back.base → call.frame ≡ back.frame →
+    TriesRules w after call.predicate call.base call.frame r true now → TriesRules w after p back.base back.frame r true now
+tries-of w after back call p r now one two three tries =
+    subst (λ n. TriesRules w after n back.base back.frame r true now) one
+    (subst (λ n. TriesRules w after call.predicate n back.frame r true now) two
+    (subst (λ n. TriesRules w after call.predicate call.base n r true now) three tries))
 
 pub rules-retried : {M : Type 0} (w after : World M) (back : Back) (p r : ℕ) (y : EntryData) (es : List EntryData) (now : Now) → back.kind ≡ Kind.Rules p r → IsBack w back y es → TriesRules w after p back.base back.frame r true now →
     ComesTo after now (fail_step (y ∷ es))

@@ -1,8 +1,8 @@
 //! Sequences, alternatives, and the return to the newest entry.
-ghost use Rattle.std.specs.Prelude.{◌≡◌, None, IfOk, IfSome, IfNone, length};
+ghost use Rattle.std.specs.Prelude.{◌≡◌, Some, IfOk, length};
 ghost use Rattle.pi_engine.specs.declared.code.Node.TheVariants.{Seq, Alt};
 ghost use Rattle.pi_engine.specs.declared.run.Now.TheVariants.{Going};
-ghost use Rattle.pi_engine.specs.Arenas.{view_of, newest, PushesEntry, ReturnsToNewest};
+ghost use Rattle.pi_engine.specs.Arenas.{Entry, view_of, newest, PushesEntry, ReturnsToNewest};
 ghost use Rattle.pi_engine.specs.Stands.{Loaded, world};
 ghost use Rattle.pi_engine.specs.declared.arenas.Kind.TheVariants.{Branches};
 ghost use Rattle.pi_engine.specs.Makes.{RunsGoal};
@@ -121,15 +121,16 @@ pub fn push_entry_at<S: StateStore>(
     Ok(())
 }
 
-/// Brings back the state of the newest entry, which stays; None where there is no entry.
-pub fn come_back<S: StateStore>(run: &mut Run<S>) -> Option<Back>
-    ensures none { IfNone result (newest run.old.arenas.entries.items ≡ None) }
-    ensures some { IfSome result (λ back. ReturnsToNewest S.order (S.seen run.old.store) (S.seen run.new.store) (view_of run.old.arenas) (view_of run.new.arenas) back) }
+/// Brings back the state of the newest entry, which stays, where there is one.
+#[inline(always)]
+pub fn come_back<S: StateStore>(run: &mut Run<S>)
+    ensures some { (x : Entry S.Mark) → newest run.old.arenas.entries.items ≡ Some x → ReturnsToNewest S.order (S.seen run.old.store) (S.seen run.new.store) (view_of run.old.arenas) (view_of run.new.arenas) x.back }
+    ensures entries { run.new.arenas.entries.items ≡ run.old.arenas.entries.items }
     ensures now { run.new.now ≡ run.old.now }
 {
-    let entry = run.arenas.newest()?;
-    run.store.undo(&entry.mark);
-    let back = entry.back;
-    run.arenas.come_back(back);
-    Some(back)
+    if let Some(entry) = run.arenas.newest() {
+        run.store.undo(&entry.mark);
+        let back = entry.back;
+        run.arenas.come_back(back);
+    }
 }

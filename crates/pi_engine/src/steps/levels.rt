@@ -1,5 +1,5 @@
 //! Levels: how they are entered, what an answer of their goal does, and what it does that there is no further one.
-ghost use Rattle.std.specs.Prelude.{◌≡◌, ℕ, Some, IfOk, length, slice_get};
+ghost use Rattle.std.specs.Prelude.{◌≡◌, ◌≢◌, ℕ, Some, IfOk, length, slice_get};
 ghost use Rattle.pi_engine.specs.declared.code.Predicate.{Predicate};
 ghost use Rattle.pi_engine.specs.Arenas.{view_of, IsLevel};
 ghost use Rattle.pi_engine.specs.Stands.{Loaded, world};
@@ -10,7 +10,7 @@ ghost use Rattle.pi_engine.specs.Fails.{Fails, PassesOver, EndsLevel};
 use super::choices::{come_back, next_branch, one_goal, push_entry};
 use super::lists::{add_value, give_list};
 use super::raises::no_value;
-use super::rules::{retry, take_guarded};
+use super::rules::{call_of, retry, take_guarded};
 use crate::arenas::{Back, Kind, Strict, behind_level};
 use crate::code::{Code, Node, Step};
 use crate::frames::Point;
@@ -142,12 +142,36 @@ fn leave_catch<S: StateStore>(run: &mut Run<S>, level: usize, back: Back) -> Res
 pub fn fail<S: StateStore>(code: &Code<'_>, run: &mut Run<S>) -> Result<(), AllocError>
     ensures { IfOk result (λ _. (l : Loaded) → l.code ≡ code.now → Fails (world l (S.seen run.old.store) S.order (view_of run.old.arenas)) (world l (S.seen run.new.store) S.order (view_of run.new.arenas)) run.new.now) }
 {
-    let Some(back) = come_back(run) else {
+    come_back(run);
+    let Some(entry) = run.arenas.newest() else {
         run.now = Now::Ended(End::Done);
         return Ok(());
     };
+    match entry.back.kind {
+        Kind::Rules(predicate, next) => {
+            let call = call_of(&entry.back, predicate);
+            retry(code, run, &call, next)?;
+        }
+        _ => {
+            let back = entry.back;
+            go_on_with(code, run, back)?;
+        }
+    }
+    Ok(())
+}
+
+/// Goes on with the newest entry, which was come back to and doesn't wait for a call's rules. It stands by itself, so that an
+/// entry of rules is read in part alone.
+#[inline(never)]
+fn go_on_with<S: StateStore>(
+    code: &Code<'_>,
+    run: &mut Run<S>,
+    back: Back,
+) -> Result<(), AllocError>
+    ensures { IfOk result (λ _. (l : Loaded) → l.code ≡ code.now → ((predicate next : ℕ) → back.kind ≢ Kind.Rules predicate next) → PassesOver (world l (S.seen run.old.store) S.order (view_of run.old.arenas)) (world l (S.seen run.new.store) S.order (view_of run.new.arenas)) back run.new.now) }
+{
     match back.kind {
-        Kind::Rules(predicate, next) => retry(code, run, back, predicate, next)?,
+        Kind::Rules(_, _) => run.now = Now::Failing,
         Kind::Branches(place, count) => next_branch(code, run, back, place, count),
         Kind::Strict(strict) => end_strict(code, run, back, strict)?,
         Kind::Catch(_) => pass_over(run, back),
@@ -198,7 +222,7 @@ fn end_guard<S: StateStore>(
     ensures { IfOk result (λ _. (l : Loaded) → l.code ≡ code.now → back.kind ≡ guard_at predicate rule → EndsLevel (world l (S.seen run.old.store) S.order (view_of run.old.arenas)) (world l (S.seen run.new.store) S.order (view_of run.new.arenas)) back run.new.now) }
 {
     let next = rule.saturating_add(1).min(end_of_rules(code, predicate));
-    retry(code, run, back, predicate, next)?;
+    retry(code, run, &call_of(&back, predicate), next)?;
     Ok(())
 }
 

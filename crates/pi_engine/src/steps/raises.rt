@@ -227,9 +227,11 @@ fn pass_left<S: StateStore>(run: &mut Run<S>, exit: Back)
 fn try_catch<S: StateStore>(code: &Code<'_>, run: &mut Run<S>, place: u32) -> Result<(), AllocError>
     ensures { IfOk result (λ _. (l : Loaded) (x : Entry S.Mark) → l.code ≡ code.now → newest run.old.arenas.entries.items ≡ Some x → x.back.kind ≡ Catch place → Raises (world l (S.seen run.old.store) S.order (view_of run.old.arenas)) (world l (S.seen run.new.store) S.order (view_of run.new.arenas)) run.old.now run.new.now) }
 {
-    let Some(back) = come_back(run) else {
+    come_back(run);
+    let Some(entry) = run.arenas.newest() else {
         return Ok(());
     };
+    let back = entry.back;
     run.arenas.pop();
     let Now::Raising(ball) = mem::replace(&mut run.now, Now::Failing) else {
         return Ok(());

@@ -49,30 +49,29 @@ pub fn try_rules<S: StateStore>(
     Ok(())
 }
 
-/// Goes on with the rules from one on, for which the newest entry was kept.
+/// Goes on with a call's rules from one on, for which the newest entry was kept.
+#[inline(always)]
 pub fn retry<S: StateStore>(
     code: &Code<'_>,
     run: &mut Run<S>,
-    back: Back,
-    predicate: u32,
+    call: &Call,
     from: u32,
 ) -> Result<(), AllocError>
-    ensures { IfOk result (λ _. (l : Loaded) → l.code ≡ code.now → TriesRules (world l (S.seen run.old.store) S.order (view_of run.old.arenas)) (world l (S.seen run.new.store) S.order (view_of run.new.arenas)) predicate back.base back.frame from true run.new.now) }
+    ensures { IfOk result (λ _. (l : Loaded) → l.code ≡ code.now → TriesRules (world l (S.seen run.old.store) S.order (view_of run.old.arenas)) (world l (S.seen run.new.store) S.order (view_of run.new.arenas)) call.now.predicate call.now.base call.now.frame from true run.new.now) }
 {
-    let Some(called) = code.predicate_there(predicate) else {
+    let Some(called) = code.predicate_there(call.predicate) else {
         run.now = Now::Failing;
         return Ok(());
     };
-    let call = call_of(back, predicate);
-    try_rules(code, run, &call, called, from, true)?;
+    try_rules(code, run, call, called, from, true)?;
     Ok(())
 }
 
 /// The call whose entry this is.
-fn call_of(back: Back, predicate: u32) -> Call
+pub fn call_of(back: &Back, predicate: u32) -> Call
     ensures predicate { result.predicate ≡ predicate }
-    ensures base { result.base ≡ back.base }
-    ensures frame { result.frame ≡ back.frame }
+    ensures base { result.base ≡ back.now.base }
+    ensures frame { result.frame ≡ back.now.frame }
 {
     Call {
         predicate,
@@ -204,7 +203,7 @@ pub fn take_guarded<S: StateStore>(
     let slots = end_of_slots(&run.arenas.blocks, back, rule);
     run.arenas.return_to(level, back, slots);
     let called = code.predicate(predicate);
-    take_rule(run, &call_of(back, predicate), &called, rule, number, true)?;
+    take_rule(run, &call_of(&back, predicate), &called, rule, number, true)?;
     Ok(())
 }
 

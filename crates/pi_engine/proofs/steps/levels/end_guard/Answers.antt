@@ -3,7 +3,7 @@ use Rattle.std.specs.Prelude.{slice_get}
 use Rattle.pi_engine.specs.declared.code.Predicate.{Predicate}
 use Rattle.pi_engine.specs.Arenas.{view_of}
 use Rattle.pi_engine.specs.Stands.{World, world}
-use Rattle.pi_engine.proofs.RetriesStand.{guard-retried}
+use Rattle.pi_engine.proofs.RetriesStand.{guard-retried, tries-of}
 use Rattle.pi_engine.proofs.steps.levels.end_guard.Goals as goal
 
 pub returns : goal.returns
@@ -15,4 +15,4 @@ returns g c = λ l is_code named s b es it.
     let end = c.end_of_rules.result in
     guard-retried w u c.args.back c.args.predicate c.args.rule c.min-next.result end s b es after.now named it
     (λ q found. c.end_of_rules.ensures q (ap (λ r. slice_get r.predicates.items c.args.predicate) (sym is_code) ∙ found)) c.end_of_rules.type_inv
-    (c.min-next.ensures ∙ ap (λ n. min n end) c.saturating_add.ensures) (c.in_ok-retry.ensures l is_code)
+    (c.min-next.ensures ∙ ap (λ n. min n end) c.saturating_add.ensures) (tries-of w u c.args.back c.call_of.result c.args.predicate c.min-next.result after.now c.call_of.ensures.predicate c.call_of.ensures.base c.call_of.ensures.frame (c.in_ok-retry.ensures l is_code))

@@ -1,6 +1,6 @@
 use Rattle.std.proofs.Common.{◌≡◌, ◌∙◌, sym, ap, subst}
 use Rattle.pi_engine.specs.declared.run.Now.{Now}
-use Rattle.pi_engine.specs.Arenas.{view_of}
+use Rattle.pi_engine.specs.Arenas.{view_of, newest}
 use Rattle.pi_engine.specs.Stands.{world}
 use Rattle.pi_engine.specs.Step.{raise_step}
 use Rattle.pi_engine.specs.Fails.{ComesTo}
@@ -18,8 +18,8 @@ pub returns-then-branch : goal.returns-then-branch
 returns-then-branch g c = λ l x is_code at named ball es raising stands balanced.
     let seen = g.S.StateStore.seen in
     let order = g.S.StateStore.order in
-    let back = c.in-Some.back in
-    let took = c.in-Some.ensures.some in
+    let back = c.in-Some.entry.now.back in
+    let took = c.come_back.ensures.some c.in-Some.entry.now (ap newest (sym c.come_back.ensures.entries) ∙ c.in-Some.ensures.some) in
     let a = view_of c.args.run.now.arenas in
     let a1 = view_of c.come_back.new.run.arenas in
     let a2 = view_of c.pop.new.self in
@@ -41,8 +41,8 @@ pub returns : goal.returns
 returns g c = λ l x is_code at named ball es raising stands balanced.
     let seen = g.S.StateStore.seen in
     let order = g.S.StateStore.order in
-    let back = c.in-Some.back in
-    let took = c.in-Some.ensures.some in
+    let back = c.in-Some.entry.now.back in
+    let took = c.come_back.ensures.some c.in-Some.entry.now (ap newest (sym c.come_back.ensures.entries) ∙ c.in-Some.ensures.some) in
     let a = view_of c.args.run.now.arenas in
     let a1 = view_of c.come_back.new.run.arenas in
     let a2 = view_of c.pop.new.self in
