@@ -1,5 +1,5 @@
 -- A level's entry that waits for something else, with entries above it: a number that grows, or values that are collected.
-use Rattle.std.proofs.Common.{◌≡◌, ◌≢◌, ◌⊎◌, inl, inr, ℕ, zero, suc, ◌+◌, ◌-◌, ◌≤◌, ◌<◌, List, [], ◌∷◌, ◌++◌, Option, Some, None, length, take, drop, refl, sym, ◌∙◌, ap, subst, arith}
+use Rattle.std.proofs.Common.{◌≡◌, ◌≢◌, ◌⊎◌, inl, inr, ℕ, zero, suc, ◌+◌, ◌≤◌, List, [], ◌∷◌, ◌++◌, Option, Some, None, length, take, refl, sym, ◌∙◌, ap, subst, arith}
 use Rattle.std.specs.Prelude.{slice_get, slice_set}
 use Rattle.std.proofs.lemmas.List.{take-set, take_all, length-set, length-append}
 use Rattle.pi_types.specs.Tree.{Tree}
@@ -7,14 +7,14 @@ use Rattle.pi_types.specs.State.{State}
 use Rattle.pi_types.specs.GoalTree.{GoalTree}
 use Rattle.pi_engine.specs.declared.arenas.Kind.{Kind}
 use Rattle.pi_engine.specs.Blocks.{brought_back}
-use Rattle.pi_engine.specs.Arenas.{Entry, ArenasView, entry_at, newest, slots_kept_by, with_kind}
+use Rattle.pi_engine.specs.Arenas.{Entry, ArenasView, entry_at, slots_kept_by, with_kind}
 use Rattle.pi_engine.specs.Configuration.{Entry as EntryData, choice, strict, catch_level, left, Strict, Back as BackData}
 use Rattle.pi_engine.specs.Shape.{open_level}
 use Rattle.pi_engine.specs.Here.{Here}
-use Rattle.pi_engine.specs.Stands.{World, Loaded, Extend, entries_of, ends_of, entry_ends, level_ends, back_here, agrees_from, Agrees, KindIs, rules_kind, branches_kind, once_kind, not_kind, if_kind, guard_kind, apply_kind, collect_kind, count_kind, catch_kind, exit_kind, EntryIs, IsAbove, StackIs, entry_above, StackStands}
+use Rattle.pi_engine.specs.Stands.{World, Loaded, Extend, entries_of, ends_of, entry_ends, back_here, agrees_from, Agrees, KindIs, rules_kind, branches_kind, once_kind, not_kind, if_kind, guard_kind, apply_kind, collect_kind, count_kind, catch_kind, exit_kind, EntryIs, IsAbove, StackIs, entry_above, StackStands}
 use Rattle.pi_engine.proofs.StackLemmas.{IsClosed}
 use Rattle.pi_engine.proofs.OptionLemmas.{one-some}
-use Rattle.pi_engine.proofs.StandsLemmas.{moved, here_of, Leaves, stack-moves, kind-order}
+use Rattle.pi_engine.proofs.StandsLemmas.{moved, here_of, stack-moves, kind-order}
 use Rattle.pi_engine.proofs.CallEntries.{get-set, above-kind}
 
 -- the arenas where the entry i, counted from 0, waits for something else, and these values are collected

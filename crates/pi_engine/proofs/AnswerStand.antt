@@ -1,24 +1,14 @@
 -- The newest open level has an answer, and is left.
-use Rattle.std.proofs.Common.{◌≡◌, ℕ, zero, suc, ◌+◌, ◌-◌, ◌≤◌, ◌<◌, max, min, Bool, true, false, List, [], ◌∷◌, Option, Some, None, length, take, drop, refl, sym, ◌∙◌, ap, subst, arith}
-use Rattle.std.specs.Prelude.{slice_get}
-use Rattle.std.proofs.lemmas.List.{length-take}
-use Rattle.pi_types.specs.Tree.{Tree}
+use Rattle.std.proofs.Common.{◌≡◌, ℕ, Bool, List, [], refl, sym, ◌∙◌, ap, subst, arith}
 use Rattle.pi_types.specs.Places.{Places}
-use Rattle.pi_types.specs.State.{State}
 use Rattle.pi_types.specs.View.{View}
-use Rattle.pi_types.specs.CoreTree.{PredTree}
-use Rattle.pi_types.specs.GoalTree.{GoalTree, GoalTrees, no_goals, goal}
+use Rattle.pi_types.specs.GoalTree.{no_goals}
 use Rattle.pi_types.specs.declared.core_program.NameSlot.{NameSlot}
 use Rattle.pi_engine.specs.declared.frames.Point.{Point}
-use Rattle.pi_engine.specs.declared.run.Now.{Now}
-use Rattle.pi_engine.specs.declared.code.Step.{Step}
-use Rattle.pi_engine.specs.Code.{Tables}
-use Rattle.pi_engine.specs.Frames.{frame_at}
-use Rattle.pi_engine.specs.Arenas.{Entry, ArenasView, entry_at, newest, slots_kept_by, frames_kept_by}
-use Rattle.pi_engine.specs.Configuration.{Frame, return, Entry as EntryData, Config, config, going}
-use Rattle.pi_engine.specs.Step.{silently, step, frame_step}
-use Rattle.pi_engine.specs.Here.{Block, block_end, AreHere, none_here, value_here, Holds, Here, Ends, in_block, with_value, ends_base, valued, GoesOn, answers, gives, returns_to_end, more_of_block, returns_to}
-use Rattle.pi_engine.specs.Stands.{tables_in, World, Loaded, steps_of, entries_of, level_ends, now_here, back_here, StandsBehind, GoingIs, StandsGoing}
+use Rattle.pi_engine.specs.Configuration.{Frame, Entry as EntryData, config, going}
+use Rattle.pi_engine.specs.Step.{step, frame_step}
+use Rattle.pi_engine.specs.Here.{Block, Holds, in_block, valued, GoesOn, answers, gives, returns_to_end, more_of_block, returns_to}
+use Rattle.pi_engine.specs.Stands.{tables_in, World, steps_of, level_ends, now_here, GoingIs, StandsGoing}
 use Rattle.pi_engine.specs.Makes.{SilentlyTo, already, one_more}
 use Rattle.pi_engine.proofs.FramesStand.{going-of}
 use Rattle.pi_engine.proofs.FollowStand.{no-value}

@@ -1,11 +1,11 @@
 -- A call of a function as a step of the machine: a level that waits for the first value.
-use Rattle.std.proofs.Common.{◌≡◌, ℕ, zero, suc, ◌+◌, ◌-◌, ◌≤◌, ◌<◌, ◌^◌, Bool, true, false, List, [], ◌∷◌, ◌++◌, Option, Some, None, length, take, drop, map, refl, sym, ◌∙◌, ap, subst, arith}
+use Rattle.std.proofs.Common.{◌≡◌, ℕ, zero, suc, ◌+◌, ◌≤◌, ◌<◌, ◌^◌, true, List, [], ◌∷◌, ◌++◌, Some, length, take, drop, map, refl, sym, ◌∙◌, ap, subst, arith}
 use Rattle.std.specs.Prelude.{slice_get}
 use Rattle.std.proofs.lemmas.List.{length-append}
 use Rattle.pi_types.proofs.GetLemmas.{get_append_last}
 use Rattle.pi_types.specs.Tree.{Tree, Trees, comp, trees_of, tree_count}
 use Rattle.pi_types.specs.Places.{Places}
-use Rattle.pi_types.specs.Store.{StoreView, Marks, AreTerms}
+use Rattle.pi_types.specs.Store.{StoreView, Marks}
 use Rattle.pi_types.specs.State.{State, IsState}
 use Rattle.pi_types.specs.View.{View}
 use Rattle.pi_types.specs.Rules.{find_pred}
@@ -24,12 +24,12 @@ use Rattle.pi_engine.specs.declared.run.Now.{Now}
 use Rattle.pi_engine.specs.Blocks.{BlocksView, KeepsBlocks}
 use Rattle.pi_engine.specs.Arenas.{Entry, ArenasView, entry_at, new_entry}
 use Rattle.pi_engine.specs.Frames.{PushesBehind}
-use Rattle.pi_engine.specs.Code.{Tables, arguments, node_kind, operand_tree}
+use Rattle.pi_engine.specs.Code.{Tables, arguments, node_kind}
 use Rattle.pi_engine.specs.Configuration.{Frame, Called, Config, behind, strict, value_level, Entry as EntryData}
 use Rattle.pi_engine.specs.Shape.{open_level}
-use Rattle.pi_engine.specs.Step.{call_step, value_step, function_step, try_rules, goal_step, back_to}
-use Rattle.pi_engine.specs.Here.{Block, block_end, Here, AreReadable, HoldsArguments, GoesOn, gives}
-use Rattle.pi_engine.specs.Stands.{World, tables_in, steps_of, block_at, entries_of, now_here, level_ends, Extend, HasNumber, IsCodeOf, GoalStands, KindIs, apply_kind, StackIs, StackStands, Stands, StandsGoing, GoingIs, CallStands}
+use Rattle.pi_engine.specs.Step.{call_step, function_step, try_rules, goal_step, back_to}
+use Rattle.pi_engine.specs.Here.{block_end, AreReadable, HoldsArguments, GoesOn, gives}
+use Rattle.pi_engine.specs.Stands.{World, tables_in, steps_of, block_at, entries_of, now_here, Extend, HasNumber, IsCodeOf, KindIs, apply_kind, StackStands, Stands, StandsGoing, GoingIs}
 use Rattle.pi_engine.specs.Evaluates.{with_blocks, operand_trees, EvaluatesAll}
 use Rattle.pi_engine.specs.Makes.{StandsAfter}
 use Rattle.pi_engine.specs.Tries.{RulesLeft, no_entry, KeepsFront, KeepsBelow}

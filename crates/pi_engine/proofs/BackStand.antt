@@ -1,18 +1,17 @@
 -- The newest entry is come back to, and then it is dropped.
-use Rattle.std.proofs.Common.{◌≡◌, ℕ, zero, suc, ◌+◌, ◌-◌, ◌≤◌, ◌<◌, min, List, [], ◌∷◌, Option, Some, None, length, take, drop, refl, sym, ◌∙◌, ap, subst, arith}
+use Rattle.std.proofs.Common.{◌≡◌, ℕ, zero, suc, ◌-◌, ◌≤◌, min, List, [], ◌∷◌, Some, None, length, take, refl, sym, ◌∙◌, ap, subst, arith}
 use Rattle.std.specs.Prelude.{slice_get}
 use Rattle.std.proofs.lemmas.List.{length-take, take_all}
 use Rattle.pi_types.specs.Tree.{Tree}
-use Rattle.pi_types.specs.State.{State, IsState}
+use Rattle.pi_types.specs.State.{IsState}
 use Rattle.pi_types.specs.Store.{StoreView, IsGood, Returns}
 use Rattle.pi_engine.specs.declared.arenas.Back.{Back}
 use Rattle.pi_engine.specs.declared.blocks.BlocksMark.{BlocksMark}
-use Rattle.pi_engine.specs.Blocks.{IsKept, IsOlder, brought_back}
+use Rattle.pi_engine.specs.Blocks.{IsKept, brought_back}
 use Rattle.pi_engine.specs.Arenas.{Entry, ArenasView, entry_at, newest, slots_kept_by, frames_kept_by, noted_by, Drops, ComesBack, ReturnsToNewest, DropsNewest}
 use Rattle.pi_engine.specs.Configuration.{Entry as EntryData}
 use Rattle.pi_engine.specs.Shape.{open_level}
-use Rattle.pi_engine.specs.Here.{Here}
-use Rattle.pi_engine.specs.Stands.{tables_in, World, Loaded, Extend, IsCodeOf, entries_of, entry_ends, level_ends, now_here, back_here, Agrees, KindIs, EntryIs, StackIs, no_entries, entry_above, StackStands}
+use Rattle.pi_engine.specs.Stands.{tables_in, World, Extend, IsCodeOf, entries_of, entry_ends, level_ends, now_here, back_here, Agrees, KindIs, EntryIs, StackIs, no_entries, entry_above, StackStands}
 use Rattle.pi_engine.specs.Fails.{IsBack}
 use Rattle.pi_engine.proofs.ListLemmas.{take-take}
 use Rattle.pi_engine.proofs.OptionLemmas.{none-some, taken-is}

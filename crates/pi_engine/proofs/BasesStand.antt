@@ -1,5 +1,5 @@
 -- Where the blocks of levels begin.
-use Rattle.std.proofs.Common.{◌≡◌, ℕ, ◌+◌, ◌≤◌, Bool, List, Option, Some, None, refl, sym, ap, subst, arith}
+use Rattle.std.proofs.Common.{◌≡◌, ℕ, ◌≤◌, Bool, List, Option, Some, None, refl, ap, subst, arith}
 use Rattle.std.specs.Prelude.{slice_get}
 use Rattle.pi_engine.specs.declared.arenas.Kind.{Kind}
 use Rattle.pi_engine.specs.declared.arenas.Strict.{Strict}

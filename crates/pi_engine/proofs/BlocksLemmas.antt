@@ -1,5 +1,5 @@
 -- What a mark of the blocks brings back, over writes, pushes and cuts.
-use Rattle.std.proofs.Common.{◌≡◌, ℕ, zero, suc, ◌+◌, ◌≤◌, ◌<◌, List, [], ◌∷◌, ◌++◌, Option, Some, None, length, take, drop, set, get_or, min, max, refl, sym, ◌∙◌, ap, subst, map, append_assoc, arith}
+use Rattle.std.proofs.Common.{◌≡◌, ℕ, ◌+◌, ◌≤◌, ◌<◌, List, [], ◌∷◌, ◌++◌, Option, Some, length, take, drop, set, get_or, min, refl, sym, ◌∙◌, ap, subst, map, append_assoc, arith}
 use Rattle.std.proofs.lemmas.List.{take-set-le, set-get_or, take-append-le, drop-append-le, take-append-drop, length-take, length-set, length-append, set_past, drop_all, map-append, take_more}
 use Rattle.pi_types.specs.declared.store.Ref.{Ref}
 use Rattle.pi_engine.specs.declared.blocks.Written.{Written}

@@ -1,14 +1,14 @@
 -- Alternatives that are entered, and the branches that are left of them.
-use Rattle.std.proofs.Common.{◌≡◌, ℕ, zero, suc, ◌+◌, ◌-◌, ◌^◌, ◌≤◌, ◌<◌, Bool, true, false, List, [], ◌∷◌, ◌++◌, Option, Some, None, length, take, drop, map, refl, sym, ◌∙◌, ap, subst, arith}
+use Rattle.std.proofs.Common.{◌≡◌, ℕ, zero, suc, ◌+◌, ◌-◌, ◌^◌, ◌≤◌, ◌<◌, Bool, List, [], ◌∷◌, ◌++◌, Option, Some, None, length, take, drop, map, refl, sym, ◌∙◌, ap, subst, arith}
 use Rattle.std.specs.Prelude.{slice_get, slice_set}
 use Rattle.std.proofs.lemmas.List.{length-append, length-set}
 use Rattle.pi_types.specs.Tree.{Tree}
 use Rattle.pi_types.specs.Places.{Places}
-use Rattle.pi_types.specs.State.{State, IsState}
+use Rattle.pi_types.specs.State.{IsState}
 use Rattle.pi_types.specs.Store.{StoreView, Marks}
 use Rattle.pi_types.specs.View.{View}
 use Rattle.pi_types.specs.GoalTree.{GoalTree, GoalTrees, no_goals, goal, alternatives, count_goals, children, child_count, nodes, nodes_all}
-use Rattle.pi_types.specs.GoalCells.{flat_all, kind_of}
+use Rattle.pi_types.specs.GoalCells.{flat_all}
 use Rattle.pi_types.proofs.GoalPlaces.{nodes-children, nodes_all-goal}
 use Rattle.pi_engine.specs.declared.arenas.Back.{Back}
 use Rattle.pi_engine.specs.declared.arenas.Kind.{Kind}
@@ -19,11 +19,11 @@ use Rattle.pi_engine.specs.declared.frames.Point.{Point}
 use Rattle.pi_engine.specs.declared.run.Now.{Now}
 use Rattle.pi_engine.specs.Code.{Tables, tables_of, step_cell, node_kind, StandsAt, child_place}
 use Rattle.pi_engine.specs.Arenas.{Entry, ArenasView, entry_at, newest, slots_kept_by, with_kind, new_entry, pushed, DropsNewest}
-use Rattle.pi_engine.specs.Configuration.{Frame, behind, Entry as EntryData, choice, branches_left, config, failed, Back as BackData, going}
-use Rattle.pi_engine.specs.Step.{silently, branch, goal_step, run_goal, back_to}
+use Rattle.pi_engine.specs.Configuration.{Frame, behind, Entry as EntryData, choice, branches_left, config, Back as BackData}
+use Rattle.pi_engine.specs.Step.{branch, goal_step, run_goal, back_to}
 use Rattle.pi_engine.specs.Shape.{open_level}
-use Rattle.pi_engine.specs.Here.{Block, Here, IsStepOf, EachLast, SayLast, IsHere, last_here, AreBranches, Holds, LeftBehind}
-use Rattle.pi_engine.specs.Stands.{World, Loaded, tables_in, steps_of, entries_of, now_here, back_here, Agrees, StandsBehind, KindIs, branches_kind, EntryIs, StackIs, StackStands, Stands, StandsGoing, NowIs, going_now, failing_now, GoingIs}
+use Rattle.pi_engine.specs.Here.{Block, IsStepOf, EachLast, SayLast, IsHere, last_here, AreBranches, Holds, LeftBehind}
+use Rattle.pi_engine.specs.Stands.{World, tables_in, steps_of, entries_of, now_here, back_here, Agrees, StandsBehind, KindIs, branches_kind, EntryIs, StackIs, StackStands, Stands, StandsGoing, going_now, failing_now, GoingIs}
 use Rattle.pi_engine.specs.Makes.{StandsAfter}
 use Rattle.pi_engine.specs.Fails.{IsBack}
 use Rattle.pi_engine.specs.Tries.{renamed}
@@ -39,7 +39,7 @@ use Rattle.pi_engine.proofs.FramesStand.{with_new_frames, Entered, entered-behin
 use Rattle.pi_engine.proofs.ProgramStands.{code-keeps}
 use Rattle.pi_engine.proofs.LevelStands.{marked-all, base-fits-in}
 use Rattle.pi_engine.proofs.LevelSteps.{Pushed, kept-within}
-use Rattle.pi_engine.proofs.EntriesStand.{marked_here, with_entry, pushed-leaves, stack-pushed}
+use Rattle.pi_engine.proofs.EntriesStand.{with_entry, pushed-leaves, stack-pushed}
 use Rattle.pi_engine.proofs.CallsStand.{Passes, keeps-terms, ends-pass, moves-pass, agrees-pass}
 use Rattle.pi_engine.proofs.CallEntries.{renamed-passes, stack-renamed, get-set}
 use Rattle.pi_engine.proofs.CallKept.{newest-last}

@@ -1,24 +1,17 @@
 -- The entry of a call: it is put on the stack, waits for something else, or is gone.
-use Rattle.std.proofs.Common.{◌≡◌, ℕ, zero, suc, ◌+◌, ◌-◌, ◌≤◌, ◌<◌, Bool, true, false, List, [], ◌∷◌, ◌++◌, ◌⊎◌, inl, inr, Option, Some, None, length, take, drop, refl, sym, ◌∙◌, ap, subst, arith}
+use Rattle.std.proofs.Common.{◌≡◌, ℕ, zero, suc, ◌-◌, ◌≤◌, ◌<◌, Bool, true, false, List, [], ◌∷◌, inl, inr, Option, Some, None, length, take, refl, sym, ◌∙◌, ap, subst, arith}
 use Rattle.std.specs.Prelude.{slice_get, slice_set}
-use Rattle.std.proofs.lemmas.List.{take-set, length-set, length-append, take-append-le}
-use Rattle.std.proofs.lemmas.Option.{slice_get_within}
-use Rattle.pi_types.specs.Tree.{Tree}
+use Rattle.std.proofs.lemmas.List.{take-set}
 use Rattle.pi_engine.proofs.ListLemmas.{take-take}
 use Rattle.std.proofs.lemmas.List.{length-take-le}
-use Rattle.pi_types.specs.Store.{StoreView, Stays, Keeps, Marks}
-use Rattle.pi_types.specs.State.{State, IsState}
-use Rattle.pi_types.specs.CoreTree.{ClauseTree}
-use Rattle.pi_types.proofs.GetLemmas.{get_append_last}
+use Rattle.pi_types.specs.Store.{StoreView, Stays}
 use Rattle.pi_engine.specs.declared.arenas.Kind.{Kind}
 use Rattle.pi_engine.specs.declared.blocks.BlocksMark.{BlocksMark}
-use Rattle.pi_engine.specs.Blocks.{IsKept, IsOlder, brought_back}
-use Rattle.pi_engine.specs.Arenas.{Entry, ArenasView, entry_at, newest, slots_kept_by, frames_kept_by, noted_by, with_kind, new_entry, pushed, PushesEntry}
-use Rattle.pi_engine.specs.Configuration.{Frame, Called, Entry as EntryData}
-use Rattle.pi_engine.specs.Shape.{open_level}
-use Rattle.pi_engine.specs.Here.{Here}
-use Rattle.pi_engine.specs.Stands.{World, Loaded, tables_in, entries_of, now_here, entry_ends, level_ends, back_here, Agrees, agrees_from, Extend, IsCodeOf, CallStands, KindIs, EntryIs, IsAbove, StackIs, no_entries, entry_above}
-use Rattle.pi_engine.specs.Tries.{OwnEntry, HasEntry, no_entry, own_entry, CallIs, renamed, KeepsCall, keeps_new, keeps_own}
+use Rattle.pi_engine.specs.Blocks.{IsKept, brought_back}
+use Rattle.pi_engine.specs.Arenas.{Entry, ArenasView, entry_at, newest, slots_kept_by, frames_kept_by, noted_by, with_kind, PushesEntry}
+use Rattle.pi_engine.specs.Configuration.{Entry as EntryData}
+use Rattle.pi_engine.specs.Stands.{World, entries_of, entry_ends, back_here, KindIs, EntryIs, IsAbove, StackIs, no_entries, entry_above}
+use Rattle.pi_engine.specs.Tries.{renamed, KeepsCall, keeps_new, keeps_own}
 use Rattle.pi_engine.proofs.StandsLemmas.{moved, here_of, Leaves, stack-length, open_level-within, entry_at-take, agrees-moves, stack-moves, above-moves, last-or-below}
 use Rattle.pi_engine.proofs.CallsStand.{Passes}
 

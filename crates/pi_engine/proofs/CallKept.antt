@@ -1,17 +1,16 @@
 -- A call that is kept, in an entry of its own.
-use Rattle.std.proofs.Common.{◌≡◌, ℕ, zero, suc, ◌+◌, ◌-◌, ◌≤◌, ◌<◌, Bool, true, false, List, [], ◌∷◌, ◌++◌, Option, Some, None, length, take, drop, refl, sym, ◌∙◌, ap, subst, arith}
+use Rattle.std.proofs.Common.{◌≡◌, ℕ, zero, suc, ◌+◌, ◌-◌, ◌≤◌, Bool, List, [], ◌∷◌, ◌++◌, Option, Some, length, take, refl, sym, ◌∙◌, ap, subst, arith}
 use Rattle.std.specs.Prelude.{slice_get, slice_set}
 use Rattle.std.proofs.lemmas.List.{length-set, length-append, length-take-le, take_all}
-use Rattle.pi_types.specs.Store.{StoreView, Stays, Keeps, Marks}
-use Rattle.pi_types.specs.State.{State, IsState}
+use Rattle.pi_types.specs.Store.{StoreView, Marks}
+use Rattle.pi_types.specs.State.{State}
 use Rattle.pi_types.specs.CoreTree.{ClauseTree, PredTree}
 use Rattle.pi_types.proofs.GetLemmas.{get_append_last}
 use Rattle.pi_engine.specs.declared.arenas.Kind.{Kind}
 use Rattle.pi_engine.specs.Arenas.{Entry, ArenasView, entry_at, newest, slots_kept_by, with_kind, new_entry, pushed, PushesEntry}
 use Rattle.pi_engine.specs.Configuration.{Frame, Called, Entry as EntryData}
-use Rattle.pi_engine.specs.Shape.{open_level}
 use Rattle.pi_engine.specs.Here.{Here}
-use Rattle.pi_engine.specs.Stands.{World, Loaded, entries_of, now_here, back_here, agrees_from, Extend, CallStands, KindIs, EntryIs, StackIs, StackStands}
+use Rattle.pi_engine.specs.Stands.{World, entries_of, now_here, back_here, agrees_from, Extend, CallStands, KindIs, StackIs}
 use Rattle.pi_engine.specs.Tries.{OwnEntry, HasEntry, no_entry, own_entry, CallIs, renamed, KeepsCall, keeps_new, keeps_own}
 use Rattle.pi_engine.proofs.ListLemmas.{take-take}
 use Rattle.pi_engine.proofs.HereLemmas.{Moves}

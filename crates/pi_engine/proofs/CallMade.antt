@@ -1,28 +1,25 @@
 -- A call that is made: behind what its caller keeps, its arguments begin its block.
-use Rattle.std.proofs.Common.{◌≡◌, ◌≢◌, ℕ, zero, suc, ◌+◌, ◌-◌, ◌≤◌, ◌<◌, Bool, true, false, List, [], ◌∷◌, ◌++◌, Option, Some, None, length, take, drop, map, refl, sym, ◌∙◌, ap, subst, arith}
+use Rattle.std.proofs.Common.{◌≡◌, ◌≢◌, ℕ, zero, suc, ◌+◌, ◌-◌, ◌≤◌, ◌<◌, Bool, true, false, List, [], ◌∷◌, ◌++◌, Option, Some, length, take, drop, map, refl, sym, ◌∙◌, ap, subst, arith}
 use Rattle.std.specs.Prelude.{slice_get, max}
 use Rattle.std.proofs.lemmas.List.{length-take-le, length-append, take-append-le}
 use Rattle.std.proofs.Math.Seq.{drop-append_seam, take-length}
 use Rattle.pi_types.specs.Tree.{Tree, Trees, no_trees, tree, tree_count}
 use Rattle.pi_types.specs.Places.{Places}
-use Rattle.pi_types.specs.Store.{StoreView, Terms, AreTerms}
-use Rattle.pi_types.specs.State.{State}
+use Rattle.pi_types.specs.Store.{StoreView, AreTerms}
 use Rattle.pi_types.specs.CoreTree.{ClauseTree, PredTree}
-use Rattle.pi_types.specs.GoalTree.{GoalTree, GoalTrees, no_goals, goal}
+use Rattle.pi_types.specs.GoalTree.{GoalTrees}
 use Rattle.pi_types.specs.declared.store.Ref.{Ref}
-use Rattle.pi_engine.specs.declared.frames.Point.{Point}
 use Rattle.pi_engine.specs.declared.code.Step.{Step}
 use Rattle.pi_engine.specs.declared.code.Predicate.{Predicate}
 use Rattle.pi_engine.specs.Code.{Tables}
 use Rattle.pi_engine.specs.Blocks.{BlocksView, KeepsBlocks}
 use Rattle.pi_engine.specs.Arenas.{Entry, ArenasView, entry_at, newest, slots_kept_by}
 use Rattle.pi_engine.specs.Configuration.{Frame, more, return, give, Called, behind, returning, Entry as EntryData}
-use Rattle.pi_engine.specs.Shape.{open_level}
-use Rattle.pi_engine.specs.Here.{Block, block_end, Here, Holds, AreHeld, in_places, HoldsArguments, AreHere, none_here, value_here, last_here, more_here, valued, LeftBehind, GoesOn, answers, gives, returns_to_end, more_of_block, returns_to}
-use Rattle.pi_engine.specs.Stands.{World, Loaded, tables_in, steps_of, entries_of, level_ends, now_here, back_here, entry_ends, Agrees, agrees_from, StackIs, no_entries, entry_above, StackStands, CallStands}
+use Rattle.pi_engine.specs.Here.{Block, block_end, Here, Holds, AreHeld, in_places, HoldsArguments, AreHere, none_here, value_here, last_here, more_here, valued, GoesOn, answers, gives, returns_to_end, more_of_block, returns_to}
+use Rattle.pi_engine.specs.Stands.{World, tables_in, steps_of, entries_of, now_here, Agrees, agrees_from, StackIs, StackStands}
 use Rattle.pi_engine.specs.Evaluates.{with_blocks}
-use Rattle.pi_engine.specs.Tries.{RulesLeft, CallGoes, HasEntry, no_entry, CallIs, KeepsFront, KeepsBelow, HasArguments}
-use Rattle.pi_engine.proofs.HereLemmas.{Moves, goes_on-moves, take-agrees}
+use Rattle.pi_engine.specs.Tries.{RulesLeft, no_entry, CallIs, KeepsFront, KeepsBelow, HasArguments}
+use Rattle.pi_engine.proofs.HereLemmas.{goes_on-moves}
 use Rattle.pi_engine.proofs.StandsLemmas.{moved, open_level-within, stack-length, stack-moves, agrees-moves}
 use Rattle.pi_engine.proofs.BasesStand.{block-above, level-begins}
 use Rattle.pi_engine.proofs.LevelSteps.{kept-within}

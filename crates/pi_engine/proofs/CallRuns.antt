@@ -1,5 +1,5 @@
 -- A call of a predicate as a step of the machine.
-use Rattle.std.proofs.Common.{◌≡◌, ◌⊎◌, inl, inr, ℕ, zero, suc, ◌+◌, ◌-◌, ◌≤◌, ◌<◌, ◌^◌, Bool, true, false, List, [], ◌∷◌, ◌++◌, Option, Some, None, length, take, drop, map, get_or, refl, sym, ◌∙◌, ap, subst, arith}
+use Rattle.std.proofs.Common.{◌≡◌, ℕ, zero, suc, ◌+◌, ◌≤◌, ◌<◌, ◌^◌, Bool, true, false, List, [], ◌∷◌, ◌++◌, Some, None, length, take, drop, map, get_or, refl, sym, ◌∙◌, ap, subst, arith}
 use Rattle.std.specs.Prelude.{slice_get, slice_index_or, max}
 use Rattle.std.proofs.lemmas.List.{length-take-le, length-drop}
 use Rattle.pi_types.specs.Tree.{Tree, Trees, no_trees, tree, trees_of, tree_count}
@@ -9,9 +9,9 @@ use Rattle.pi_types.specs.State.{State, IsState}
 use Rattle.pi_types.specs.View.{View}
 use Rattle.pi_types.specs.Builtin.{is_built_in}
 use Rattle.pi_types.specs.Rules.{find_pred}
-use Rattle.pi_types.specs.Evaluation.{Evaluated, evaluated, EvaluatedAll, evaluated_all}
+use Rattle.pi_types.specs.Evaluation.{evaluated, EvaluatedAll, evaluated_all}
 use Rattle.pi_types.specs.CoreTree.{PredTree, pred_tree}
-use Rattle.pi_types.specs.GoalTree.{GoalTree, GoalTrees, call, no_goals, goal, nodes}
+use Rattle.pi_types.specs.GoalTree.{GoalTree, GoalTrees, call, goal, nodes}
 use Rattle.pi_types.specs.declared.core_program.CorePred.{CorePred}
 use Rattle.pi_types.specs.declared.store.Ref.{Ref}
 use Rattle.pi_engine.specs.declared.frames.Point.{Point}
@@ -24,9 +24,9 @@ use Rattle.pi_engine.specs.Arenas.{ArenasView}
 use Rattle.pi_engine.specs.Frames.{PushesBehind}
 use Rattle.pi_engine.specs.Code.{Tables, preds_of, arguments, node_kind, operand_tree}
 use Rattle.pi_engine.specs.Configuration.{Frame, Called, Config, behind, returning, Entry as EntryData}
-use Rattle.pi_engine.specs.Step.{Outcome, call_step, try_rules, goal_step, back_to}
-use Rattle.pi_engine.specs.Here.{Block, SayLast, IsHere, AreReadable, LeftBehind}
-use Rattle.pi_engine.specs.Stands.{World, tables_in, steps_of, now_here, IsNumberOf, HasNumber, IsCodeOf, StackStands, Stands, StandsGoing, GoingIs}
+use Rattle.pi_engine.specs.Step.{call_step, try_rules, goal_step, back_to}
+use Rattle.pi_engine.specs.Here.{Block, SayLast, AreReadable, LeftBehind}
+use Rattle.pi_engine.specs.Stands.{World, tables_in, steps_of, IsNumberOf, HasNumber, IsCodeOf, StackStands, Stands, StandsGoing, GoingIs}
 use Rattle.pi_engine.specs.Evaluates.{with_blocks, operand_trees, EvaluatesAll}
 use Rattle.pi_engine.specs.Makes.{StandsAfter}
 use Rattle.pi_engine.specs.Tries.{KeepsFront}

@@ -1,28 +1,24 @@
 -- A call whose rules are tried, where the store and the arenas change.
-use Rattle.std.proofs.Common.{◌≡◌, ◌≢◌, ℕ, zero, suc, ◌+◌, ◌-◌, ◌≤◌, ◌<◌, Bool, true, false, List, [], ◌∷◌, ◌++◌, Option, Some, None, length, take, drop, refl, sym, ◌∙◌, ap, subst, arith}
-use Rattle.std.specs.Prelude.{slice_get, slice_set, IsTrue, IsSome, ◌↔◌}
-use Rattle.std.proofs.lemmas.List.{take-set, length-set, take-append-le, length-append, take_all}
+use Rattle.std.proofs.Common.{◌≡◌, ◌≢◌, ℕ, zero, ◌+◌, ◌≤◌, Bool, true, false, List, [], ◌∷◌, Option, Some, None, length, take, drop, refl, sym, ◌∙◌, ap, subst, arith}
+use Rattle.std.specs.Prelude.{IsTrue, IsSome, ◌↔◌}
 use Rattle.pi_types.specs.Tree.{Tree, Trees}
 use Rattle.pi_types.specs.Places.{Places}
-use Rattle.pi_types.specs.State.{State, IsState}
-use Rattle.pi_types.specs.Store.{StoreView, Terms, Stays, Keeps, Changes}
-use Rattle.pi_types.specs.GoalTree.{GoalTree, GoalTrees, no_goals, goal}
+use Rattle.pi_types.specs.State.{State}
+use Rattle.pi_types.specs.Store.{StoreView, Stays, Keeps}
+use Rattle.pi_types.specs.GoalTree.{no_goals, goal}
 use Rattle.pi_types.specs.CoreTree.{ClauseTree, PredTree}
-use Rattle.pi_types.specs.declared.store.Ref.{Ref}
-use Rattle.pi_engine.specs.declared.frames.Point.{Point}
 use Rattle.pi_engine.specs.declared.code.Rule.{Rule}
 use Rattle.pi_engine.specs.declared.code.Step.{Step}
 use Rattle.pi_engine.specs.Code.{Tables}
 use Rattle.pi_engine.specs.Frames.{frame_at}
-use Rattle.pi_engine.specs.Arenas.{Entry, ArenasView, entry_at, newest, slots_kept_by}
+use Rattle.pi_engine.specs.Arenas.{Entry, ArenasView, entry_at}
 use Rattle.pi_engine.specs.Configuration.{Frame, Called, give, after_body, Entry as EntryData}
 use Rattle.pi_engine.specs.Shape.{open_level}
-use Rattle.pi_engine.specs.Here.{Block, Here, Ends, AreHeld, in_places, Holds, HoldsArguments, GoesOn, answers, gives, returns_to_end, more_of_block, returns_to, valued}
-use Rattle.pi_engine.specs.Stands.{World, Loaded, tables_in, steps_of, entries_of, now_here, level_ends, entry_ends, back_here, Agrees, agrees_from, Extend, IsRuleOf, clause_block, IsCall, CallStands, StandsBehind, EntryIs, StackIs, GoingIs}
-use Rattle.pi_engine.specs.Tries.{OwnEntry, HasEntry, no_entry, own_entry, CallIs, Applies}
+use Rattle.pi_engine.specs.Here.{Block, Here, AreHeld, in_places, Holds, HoldsArguments, GoesOn, answers, gives, returns_to_end, more_of_block, returns_to, valued}
+use Rattle.pi_engine.specs.Stands.{World, Loaded, tables_in, steps_of, entries_of, now_here, level_ends, entry_ends, Agrees, agrees_from, Extend, IsRuleOf, clause_block, CallStands, StackIs, GoingIs}
+use Rattle.pi_engine.specs.Tries.{HasEntry, no_entry, own_entry}
 use Rattle.pi_engine.proofs.HereLemmas.{held-extends, part-agrees, Moves, goes_on-moves, holds-extends}
-use Rattle.pi_engine.proofs.PointLemmas.{goes_on-within}
-use Rattle.pi_engine.proofs.StandsLemmas.{moved, Leaves, stack-length, open_level-within, entry_at-take, agrees-moves, stack-moves}
+use Rattle.pi_engine.proofs.StandsLemmas.{moved, Leaves, stack-length, open_level-within, entry_at-take, agrees-moves}
 
 -- ---- frames and arguments
 

@@ -1,20 +1,16 @@
 -- A call whose rules are tried one after the other.
-use Rattle.std.proofs.Common.{◌≡◌, ℕ, zero, suc, ◌+◌, ◌-◌, ◌≤◌, ◌<◌, Bool, true, false, List, [], ◌∷◌, Option, Some, None, length, take, drop, refl, sym, ◌∙◌, ap, subst, arith}
+use Rattle.std.proofs.Common.{◌≡◌, ℕ, zero, suc, ◌+◌, ◌≤◌, Bool, true, List, ◌∷◌, Option, Some, length, take, refl, sym, ◌∙◌, ap, subst, arith}
 use Rattle.std.specs.Prelude.{slice_get}
 use Rattle.pi_types.specs.State.{State}
-use Rattle.pi_types.specs.Store.{Terms}
 use Rattle.pi_types.specs.CoreTree.{ClauseTree, PredTree}
-use Rattle.pi_engine.specs.declared.frames.Point.{Point}
 use Rattle.pi_engine.specs.declared.run.Now.{Now}
 use Rattle.pi_engine.specs.Frames.{frame_at}
 use Rattle.pi_engine.specs.Arenas.{Entry, ArenasView, entry_at, newest, slots_kept_by}
 use Rattle.pi_engine.specs.Configuration.{Frame, Called, config, failed, Entry as EntryData}
-use Rattle.pi_engine.specs.Shape.{open_level}
-use Rattle.pi_engine.specs.Here.{Here, Ends}
-use Rattle.pi_engine.specs.Stands.{World, tables_in, steps_of, entries_of, entry_ends, level_ends, now_here, back_here, agrees_from, Agrees, Extend, CallStands, EntryIs, StackIs, entry_above, StackStands, Stands, failing_now}
-use Rattle.pi_engine.specs.Tries.{RulesLeft, CallGoes, OwnEntry, HasEntry, no_entry, own_entry, CallIs, KeepsBelow}
-use Rattle.pi_engine.proofs.ListLemmas.{take-take}
-use Rattle.pi_engine.proofs.HereLemmas.{Moves, goes_on-moves, take-agrees}
+use Rattle.pi_engine.specs.Here.{Here}
+use Rattle.pi_engine.specs.Stands.{World, tables_in, steps_of, entries_of, entry_ends, level_ends, now_here, back_here, agrees_from, Extend, CallStands, EntryIs, StackIs, entry_above, Stands, failing_now}
+use Rattle.pi_engine.specs.Tries.{RulesLeft, OwnEntry, HasEntry, no_entry, own_entry, CallIs, KeepsBelow}
+use Rattle.pi_engine.proofs.HereLemmas.{Moves, goes_on-moves}
 use Rattle.pi_engine.proofs.StandsLemmas.{moved, Leaves, EntryFacts, entry-facts, back-stays, entry-moves, stack-moves, stack-length, open_level-within, agrees-moves}
 use Rattle.pi_engine.proofs.CallsStand.{call-moves, BelowCall, below-call}
 use Rattle.pi_engine.proofs.RulesTaken.{StackAfter, rules-next, call-next}

@@ -1,7 +1,7 @@
 -- A `catch` whose goal has an answer.
-use Rattle.std.proofs.Common.{◌≡◌, ◌≢◌, ℕ, zero, suc, ◌+◌, ◌-◌, ◌≤◌, ◌<◌, Bool, true, false, List, [], ◌∷◌, ◌++◌, Option, Some, None, length, take, drop, refl, sym, ◌∙◌, ap, subst, arith}
+use Rattle.std.proofs.Common.{◌≡◌, ◌≢◌, ℕ, zero, suc, ◌+◌, ◌≤◌, ◌<◌, List, [], ◌∷◌, ◌++◌, Some, None, length, take, refl, sym, ◌∙◌, ap, subst, arith}
 use Rattle.std.specs.Prelude.{slice_get, ⊤}
-use Rattle.std.proofs.lemmas.List.{length-append, take-append-le}
+use Rattle.std.proofs.lemmas.List.{length-append}
 use Rattle.std.proofs.lemmas.Option.{slice_get_within}
 use Rattle.pi_types.specs.CoreTree.{PredTree}
 use Rattle.pi_types.specs.Tree.{Tree}
@@ -9,30 +9,27 @@ use Rattle.pi_types.specs.Places.{Places}
 use Rattle.pi_types.specs.State.{State, IsState}
 use Rattle.pi_types.specs.Store.{StoreView, Marks}
 use Rattle.pi_types.specs.View.{View}
-use Rattle.pi_types.specs.GoalTree.{GoalTree, GoalTrees, no_goals, goal, catch}
+use Rattle.pi_types.specs.GoalTree.{GoalTree, no_goals, catch}
 use Rattle.pi_types.specs.declared.core_program.NameSlot.{NameSlot}
 use Rattle.pi_engine.specs.declared.frames.Point.{Point}
 use Rattle.pi_engine.specs.declared.run.Now.{Now}
 use Rattle.pi_engine.specs.declared.arenas.Back.{Back}
 use Rattle.pi_engine.specs.declared.arenas.Kind.{Kind}
-use Rattle.pi_engine.specs.declared.code.Step.{Step}
-use Rattle.pi_engine.specs.Frames.{frame_at}
-use Rattle.pi_engine.specs.Arenas.{Entry, ArenasView, entry_at, newest, slots_kept_by, frames_kept_by, new_entry, pushed, IsLevel, LeavesLevel}
-use Rattle.pi_engine.specs.Configuration.{Frame, Entry as EntryData, Config, config, going, choice, strict, catch_level, left, Choice, Strict, Back as BackData}
-use Rattle.pi_engine.specs.Step.{Outcome, silently, step, leave, answer_step, newest_open, Open, none_open, strict_open, catch_open, beneath}
+use Rattle.pi_engine.specs.Arenas.{Entry, ArenasView, entry_at, slots_kept_by, new_entry, pushed, IsLevel, LeavesLevel}
+use Rattle.pi_engine.specs.Configuration.{Frame, Entry as EntryData, Config, config, going, choice, strict, catch_level, left, Strict, Back as BackData}
+use Rattle.pi_engine.specs.Step.{silently, step, leave, answer_step, newest_open, Open, none_open, strict_open, catch_open, beneath}
 use Rattle.pi_engine.specs.Shape.{open_level, IsBalanced}
-use Rattle.pi_engine.specs.Here.{Here, Block, block_end, in_block, Holds, GoesOn}
+use Rattle.pi_engine.specs.Here.{Here, Block, in_block, Holds}
 use Rattle.pi_engine.specs.Stands.{tables_in, World, Loaded, steps_of, entries_of, level_ends, back_here, now_here, agrees_from, Agrees, Extend, block_at, entry_ends, ends_of, KindIs, once_kind, not_kind, if_kind, guard_kind, apply_kind, collect_kind, count_kind, catch_kind, exit_kind, GoalStands, EntryIs, IsAbove, StackIs, StackStands, Stands, going_now, StandsGoing, GoingIs}
 use Rattle.pi_engine.specs.Makes.{SilentlyTo, already, one_more}
 use Rattle.pi_engine.proofs.ListLemmas.{take-take}
 use Rattle.pi_engine.proofs.ProgramStands.{code-keeps}
-use Rattle.pi_engine.proofs.HereLemmas.{FramesStay, Moves, goes_on-moves, holds-extends}
+use Rattle.pi_engine.proofs.HereLemmas.{FramesStay, goes_on-moves, holds-extends}
 use Rattle.pi_engine.proofs.FramesStand.{going-of}
 use Rattle.pi_engine.proofs.StandsLemmas.{moved, Leaves, stack-moves, stack-length, open_level-within, entry_at-take, back-stays, entry-facts}
 use Rattle.pi_engine.proofs.StackLemmas.{IsFound, newest-found}
 use Rattle.pi_engine.proofs.BasesStand.{shape-base, block-above, level-begins}
-use Rattle.pi_engine.proofs.OlderStand.{KeptBy}
-use Rattle.pi_engine.proofs.EntriesStand.{marked_here, with_entry, pushed-leaves, stack-pushed}
+use Rattle.pi_engine.proofs.EntriesStand.{with_entry, pushed-leaves, stack-pushed}
 use Rattle.pi_engine.proofs.CallKept.{newest-last}
 use Rattle.pi_engine.proofs.LevelStands.{base-fits-in}
 use Rattle.pi_engine.proofs.LevelSteps.{kept-within}

@@ -1,5 +1,5 @@
 -- A `catch` that an exception comes to.
-use Rattle.std.proofs.Common.{◌≡◌, ℕ, zero, suc, ◌+◌, ◌^◌, ◌≤◌, ◌<◌, Bool, true, false, List, [], ◌∷◌, Option, Some, None, length, refl, sym, ◌∙◌, ap, subst, arith}
+use Rattle.std.proofs.Common.{◌≡◌, ℕ, zero, suc, ◌+◌, ◌<◌, Bool, true, false, List, ◌∷◌, Option, Some, None, length, refl, sym, ◌∙◌, ap, subst, arith}
 use Rattle.std.specs.Prelude.{slice_get, if◌then◌else◌}
 use Rattle.pi_types.specs.Tree.{Tree}
 use Rattle.pi_types.specs.Places.{Places}
@@ -11,9 +11,8 @@ use Rattle.pi_unify.proofs.KeepsLemmas.{keeps_then}
 use Rattle.pi_types.specs.Store.{StoreView, Keeps, Gives, IsTerm}
 use Rattle.pi_types.specs.Unify.{unified}
 use Rattle.pi_types.specs.Evaluation.{Evaluated, evaluated, with_new_variables}
-use Rattle.pi_types.specs.GoalTree.{GoalTree, GoalTrees, no_goals, goal, goal_at, catch, children, child, child_count, count_goals, nodes}
+use Rattle.pi_types.specs.GoalTree.{GoalTree, no_goals, goal, goal_at, catch, children, child, child_count, count_goals, nodes}
 use Rattle.pi_types.specs.GoalCells.{kind_of}
-use Rattle.pi_types.specs.declared.goal_node.GoalKind.{GoalKind}
 use Rattle.pi_unify.specs.Answers.{Answers}
 use Rattle.pi_unify.specs.Copying.{with_variables}
 use Rattle.pi_engine.specs.declared.arenas.Back.{Back}
@@ -25,10 +24,10 @@ use Rattle.pi_engine.specs.declared.code.Step.{Step}
 use Rattle.pi_engine.specs.declared.run.Now.{Now}
 use Rattle.pi_engine.specs.Code.{Tables, tables_of, node_kind, operand_tree, StandsAt, child_place}
 use Rattle.pi_engine.specs.Arenas.{ArenasView, DropsNewest}
-use Rattle.pi_engine.specs.Configuration.{Frame, Entry as EntryData, catch_level, config, going, raising, Back as BackData}
-use Rattle.pi_engine.specs.Step.{silently, raise_step, handler_step, run_goal}
+use Rattle.pi_engine.specs.Configuration.{Frame, Entry as EntryData, config, raising}
+use Rattle.pi_engine.specs.Step.{raise_step, handler_step, run_goal}
 use Rattle.pi_engine.specs.Here.{Block, SayLast, Holds}
-use Rattle.pi_engine.specs.Stands.{World, Loaded, tables_in, steps_of, now_here, block_at, Agrees, GoalStands, KindIs, rules_kind, branches_kind, once_kind, not_kind, if_kind, guard_kind, apply_kind, collect_kind, count_kind, catch_kind, exit_kind, StackStands, Stands, NowIs, going_now, raising_now, GoingIs}
+use Rattle.pi_engine.specs.Stands.{World, tables_in, steps_of, now_here, block_at, Agrees, GoalStands, KindIs, rules_kind, branches_kind, once_kind, not_kind, if_kind, guard_kind, apply_kind, collect_kind, count_kind, catch_kind, exit_kind, StackStands, Stands, NowIs, going_now, raising_now, GoingIs}
 use Rattle.pi_engine.specs.Evaluates.{Writes, Evaluates}
 use Rattle.pi_engine.specs.Fails.{ComesTo, IsBack}
 use Rattle.pi_engine.specs.Raises.{TellsCaught}

@@ -1,10 +1,10 @@
 -- Goals at places: what stands there, and where their child goals stand.
-use Rattle.std.proofs.Common.{◌≡◌, ℕ, zero, suc, ◌+◌, ◌-◌, ◌^◌, min, ◌≤◌, ◌<◌, List, [], ◌∷◌, ◌++◌, Option, Some, None, length, take, drop, map, get_or, refl, sym, ◌∙◌, ap, subst, arith}
+use Rattle.std.proofs.Common.{◌≡◌, ℕ, zero, suc, ◌+◌, ◌-◌, ◌^◌, min, ◌≤◌, ◌<◌, List, ◌∷◌, ◌++◌, Some, length, take, drop, map, get_or, refl, sym, ◌∙◌, ap, arith}
 use Rattle.std.specs.Prelude.{slice_get}
-use Rattle.std.proofs.lemmas.List.{length-map, length-take, length-drop, drop_more, drop-drop, drop-map, drop-take, take-append-le, length-append}
+use Rattle.std.proofs.lemmas.List.{length-map, length-take, length-drop, drop_more, drop-drop, drop-map, drop-take}
 use Rattle.std.proofs.lemmas.Option.{slice_get_within, get_or_from_slice_get}
 use Rattle.std.proofs.Math.Seq.{take-append_seam, drop-append_seam}
-use Rattle.pi_types.specs.GoalTree.{GoalTree, GoalTrees, no_goals, goal, goal_at, count_goals, take_goals, children, child, child_count, subgoals, subgoals_all, nodes, nodes_all}
+use Rattle.pi_types.specs.GoalTree.{GoalTree, GoalTrees, no_goals, goal, goal_at, count_goals, take_goals, children, child, child_count, nodes, nodes_all}
 use Rattle.pi_types.specs.GoalCells.{flat, flat_all, cell_of, subgoals-children}
 use Rattle.pi_types.proofs.GoalCells.{flat_all-goal}
 use Rattle.pi_types.proofs.GoalPlaces.{nodes-children, nodes_all-goal, nodes_all-none, nodes_all-take_none, nodes_all-take_more, length-cells}

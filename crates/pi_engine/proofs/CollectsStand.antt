@@ -1,5 +1,5 @@
 -- Answers that are collected.
-use Rattle.std.proofs.Common.{◌≡◌, ◌⊎◌, inl, inr, ℕ, zero, suc, ◌+◌, ◌-◌, ◌≤◌, ◌<◌, Bool, true, false, nat_lt, List, [], ◌∷◌, ◌++◌, Option, Some, length, take, drop, refl, sym, ◌∙◌, ap, subst, arith}
+use Rattle.std.proofs.Common.{◌≡◌, ◌⊎◌, inl, inr, ℕ, zero, suc, ◌+◌, ◌-◌, ◌≤◌, ◌<◌, nat_lt, List, [], ◌∷◌, ◌++◌, Some, length, take, drop, refl, sym, ◌∙◌, ap, subst, arith}
 use Rattle.std.specs.Prelude.{slice_get, slice_set, codes, cond}
 use Rattle.std.proofs.lemmas.Bool.{lt-ltb}
 use Rattle.std.proofs.lemmas.List.{take_all, length-append, length-drop, drop-append-le, take-append-le}
@@ -28,7 +28,7 @@ use Rattle.pi_engine.specs.Configuration.{Frame, Entry as EntryData, Config, con
 use Rattle.pi_engine.specs.Step.{strict_step}
 use Rattle.pi_engine.specs.Shape.{IsBalanced}
 use Rattle.pi_engine.specs.Here.{Here, Block, Holds, NodeIsReadable}
-use Rattle.pi_engine.specs.Stands.{World, Loaded, tables_in, steps_of, entries_of, ends_of, back_here, now_here, block_at, values_between, Agrees, GoalStands, KindIs, once_kind, not_kind, if_kind, guard_kind, apply_kind, collect_kind, count_kind, StackStands, Stands, StandsGoing, failing_now, raising_now}
+use Rattle.pi_engine.specs.Stands.{World, Loaded, tables_in, steps_of, entries_of, back_here, block_at, values_between, GoalStands, KindIs, once_kind, not_kind, if_kind, guard_kind, apply_kind, collect_kind, count_kind, StackStands, Stands, StandsGoing, failing_now, raising_now}
 use Rattle.pi_engine.specs.Evaluates.{slot_number, Evaluates}
 use Rattle.pi_engine.specs.Makes.{SilentlyTo}
 use Rattle.pi_engine.proofs.NodeLemmas.{kind-here}
@@ -40,7 +40,7 @@ use Rattle.pi_engine.proofs.CallLemmas.{evaluated-state}
 use Rattle.pi_engine.proofs.OnceStand.{Found, found, level-answers}
 use Rattle.pi_engine.proofs.WrittenGoals.{own-step, own-block, own-slots}
 use Rattle.pi_engine.proofs.CountsStand.{Around, lies-around}
-use Rattle.pi_engine.proofs.AltersStand.{altered, after_altering, Alters, altered-stands}
+use Rattle.pi_engine.proofs.AltersStand.{altered-stands}
 
 pub collect-node : (t : Tables) (node : Node) (g : GoalTree) (v i : ℕ) → node_kind t node ≡ kind_of (collect g v i) → node ≡ Node.Collect v i
 unfolding node_kind kind_of

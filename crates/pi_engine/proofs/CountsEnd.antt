@@ -1,9 +1,9 @@
 -- The end of counting: the number goes into its slot.
-use Rattle.std.proofs.Common.{◌≡◌, ℕ, ◌+◌, ◌≤◌, ◌<◌, List, ◌∷◌, Option, Some, length, refl, sym, ◌∙◌, ap, subst, arith}
+use Rattle.std.proofs.Common.{◌≡◌, ℕ, ◌≤◌, ◌<◌, List, Some, length, refl, sym, ◌∙◌, ap, subst}
 use Rattle.std.specs.Prelude.{slice_get, slice_set, pos}
 use Rattle.pi_types.specs.Tree.{Tree, int}
 use Rattle.pi_types.specs.Places.{Places}
-use Rattle.pi_types.specs.State.{State, IsState}
+use Rattle.pi_types.specs.State.{State}
 use Rattle.pi_types.specs.Store.{StoreView, Gives}
 use Rattle.pi_types.specs.GoalTree.{GoalTree, no_goals, count}
 use Rattle.pi_types.specs.GoalCells.{kind_of}
@@ -21,7 +21,7 @@ use Rattle.pi_engine.specs.Arenas.{ArenasView, DropsNewest}
 use Rattle.pi_engine.specs.Configuration.{Frame, Entry as EntryData, Strict, strict, number_level, Back as BackData, config, going}
 use Rattle.pi_engine.specs.Step.{end_step}
 use Rattle.pi_engine.specs.Here.{NodeIsReadable}
-use Rattle.pi_engine.specs.Stands.{World, Loaded, tables_in, steps_of, now_here, block_at, GoalStands, KindIs, once_kind, not_kind, if_kind, guard_kind, apply_kind, collect_kind, count_kind, Stands}
+use Rattle.pi_engine.specs.Stands.{World, tables_in, steps_of, now_here, block_at, GoalStands, KindIs, once_kind, not_kind, if_kind, guard_kind, apply_kind, collect_kind, count_kind, Stands}
 use Rattle.pi_engine.specs.Evaluates.{slot_number, with_blocks}
 use Rattle.pi_engine.specs.Fails.{IsBack}
 use Rattle.pi_engine.proofs.NodeLemmas.{kind-here}

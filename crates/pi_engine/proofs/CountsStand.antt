@@ -1,5 +1,5 @@
 -- Answers that are counted.
-use Rattle.std.proofs.Common.{◌≡◌, ℕ, zero, suc, ◌+◌, ◌-◌, ◌≤◌, ◌<◌, List, [], ◌∷◌, ◌++◌, Option, Some, length, take, refl, sym, ◌∙◌, ap, subst, arith}
+use Rattle.std.proofs.Common.{◌≡◌, ℕ, zero, suc, ◌+◌, ◌-◌, List, ◌∷◌, ◌++◌, Some, length, refl, sym, ◌∙◌, ap, subst, arith}
 use Rattle.std.specs.Prelude.{slice_get, slice_set}
 use Rattle.std.proofs.lemmas.List.{take_all, length-append}
 use Rattle.pi_types.specs.Tree.{Tree}
@@ -22,7 +22,7 @@ use Rattle.pi_engine.specs.Makes.{SilentlyTo}
 use Rattle.pi_engine.proofs.StackLemmas.{IsFound, IsClosed, newest-found}
 use Rattle.pi_engine.proofs.StandsLemmas.{moved, stack-length}
 use Rattle.pi_engine.proofs.OnceStand.{Found, level-answers}
-use Rattle.pi_engine.proofs.AltersStand.{altered, after_altering, Alters, altered-stands}
+use Rattle.pi_engine.proofs.AltersStand.{altered, after_altering, altered-stands}
 
 -- ---- where a strict level is found
 

@@ -1,24 +1,23 @@
 -- The end of a level, or of what is passed over: there is no further answer.
-use Rattle.std.proofs.Common.{◌≡◌, ℕ, zero, suc, ◌+◌, ◌^◌, ◌≤◌, ◌<◌, Bool, true, false, List, [], ◌∷◌, Option, Some, None, length, refl, sym, ◌∙◌, ap, subst, arith}
+use Rattle.std.proofs.Common.{◌≡◌, ℕ, ◌+◌, ◌<◌, Bool, false, List, ◌∷◌, Option, None, length, refl, sym, ◌∙◌, ap, subst, arith}
 use Rattle.std.specs.Prelude.{slice_get}
 use Rattle.pi_types.specs.Tree.{Tree}
 use Rattle.pi_types.specs.Places.{Places}
 use Rattle.pi_types.specs.State.{State}
-use Rattle.pi_types.specs.GoalTree.{GoalTree, GoalTrees, no_goals, goal, goal_at, take_goals, count_goals, if_else, children, child, child_count, nodes, nodes_all}
+use Rattle.pi_types.specs.GoalTree.{GoalTree, no_goals, goal, goal_at, take_goals, count_goals, if_else, children, child, child_count, nodes, nodes_all}
 use Rattle.pi_types.proofs.GoalPlaces.{nodes-children}
 use Rattle.pi_engine.specs.declared.arenas.Back.{Back}
 use Rattle.pi_engine.specs.declared.arenas.Kind.{Kind}
 use Rattle.pi_engine.specs.declared.arenas.Strict.{Strict as StrictKind}
 use Rattle.pi_engine.specs.declared.code.Code.{Code}
 use Rattle.pi_engine.specs.declared.code.Step.{Step}
-use Rattle.pi_engine.specs.declared.frames.Point.{Point}
 use Rattle.pi_engine.specs.declared.run.Now.{Now}
 use Rattle.pi_engine.specs.Code.{Tables, tables_of, StandsAt, child_place}
 use Rattle.pi_engine.specs.Arenas.{ArenasView, DropsNewest}
-use Rattle.pi_engine.specs.Configuration.{Frame, Entry as EntryData, config, failed, Strict, strict, Back as BackData, going}
-use Rattle.pi_engine.specs.Step.{silently, end_step, fail_step, run_goal}
+use Rattle.pi_engine.specs.Configuration.{Frame, Entry as EntryData, Strict, strict, Back as BackData}
+use Rattle.pi_engine.specs.Step.{end_step, fail_step}
 use Rattle.pi_engine.specs.Here.{Block, Here, SayLast, IsHere, none_here, last_here}
-use Rattle.pi_engine.specs.Stands.{World, Loaded, tables_in, steps_of, now_here, block_at, Agrees, GoalStands, KindIs, rules_kind, branches_kind, once_kind, not_kind, if_kind, guard_kind, apply_kind, collect_kind, count_kind, catch_kind, exit_kind, StackStands, Stands, NowIs, going_now, failing_now, GoingIs}
+use Rattle.pi_engine.specs.Stands.{World, Loaded, tables_in, steps_of, now_here, block_at, Agrees, GoalStands, KindIs, rules_kind, branches_kind, once_kind, not_kind, if_kind, guard_kind, apply_kind, collect_kind, count_kind, catch_kind, exit_kind, Stands, going_now, failing_now, GoingIs}
 use Rattle.pi_engine.specs.Makes.{IsPassed}
 use Rattle.pi_engine.specs.Fails.{ComesTo, IsBack}
 use Rattle.pi_engine.proofs.CodeLemmas.{stands-child, nodes-fit, child_place-first, child_place-more}

@@ -1,21 +1,16 @@
 -- An entry that is put on the stack.
-use Rattle.std.proofs.Common.{◌≡◌, ℕ, zero, suc, ◌+◌, ◌≤◌, ◌<◌, List, [], ◌∷◌, ◌++◌, Option, Some, None, length, take, drop, refl, sym, ◌∙◌, ap, subst, arith}
+use Rattle.std.proofs.Common.{◌≡◌, ℕ, zero, suc, ◌≤◌, List, [], ◌∷◌, ◌++◌, Option, Some, None, length, take, drop, refl, sym, ◌∙◌, ap, subst, arith}
 use Rattle.std.specs.Prelude.{slice_get}
-use Rattle.std.proofs.lemmas.List.{take-append-le, length-append, length-take, drop_all, take_all}
-use Rattle.pi_types.specs.Tree.{Tree}
-use Rattle.pi_types.specs.Store.{StoreView, Moment, IsGood, Marks, Keeps}
-use Rattle.pi_types.specs.State.{State, IsState}
-use Rattle.pi_types.specs.declared.store.Ref.{Ref}
+use Rattle.std.proofs.lemmas.List.{take-append-le, length-take, drop_all, take_all}
+use Rattle.pi_types.specs.Store.{StoreView, Marks, Keeps}
+use Rattle.pi_types.specs.State.{IsState}
 use Rattle.pi_types.proofs.GetLemmas.{get_append_last}
 use Rattle.pi_engine.specs.declared.arenas.Kind.{Kind}
-use Rattle.pi_engine.specs.declared.arenas.Back.{Back}
-use Rattle.pi_engine.specs.Blocks.{BlocksView, IsKept, IsOlder, brought_back, slots_before}
-use Rattle.pi_engine.specs.Arenas.{Entry, ArenasView, entry_at, newest, slots_kept_by, new_entry, pushed}
+use Rattle.pi_engine.specs.Blocks.{brought_back, slots_before}
+use Rattle.pi_engine.specs.Arenas.{Entry, ArenasView, entry_at, slots_kept_by, new_entry, pushed}
 use Rattle.pi_engine.specs.Configuration.{Entry as EntryData}
-use Rattle.pi_engine.specs.Shape.{open_level}
 use Rattle.pi_engine.specs.Here.{Here}
-use Rattle.pi_engine.specs.Stands.{tables_in, World, entries_of, entry_ends, level_ends, back_here, now_here, Agrees, agrees_from, Extend, KindIs, EntryIs, IsAbove, StackIs, entry_above, StackStands}
-use Rattle.pi_engine.proofs.HereLemmas.{take-agrees}
+use Rattle.pi_engine.specs.Stands.{World, entries_of, entry_ends, level_ends, back_here, now_here, Agrees, agrees_from, Extend, KindIs, IsAbove, StackIs, entry_above, StackStands}
 use Rattle.pi_engine.proofs.ListLemmas.{take-take}
 use Rattle.pi_engine.proofs.StandsLemmas.{moved, here_of, Leaves, stack-moves, stack-length, open_level-within, agrees-moves, above-moves, entry-facts, EntryFacts, entry_at-take}
 

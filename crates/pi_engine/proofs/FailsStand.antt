@@ -1,8 +1,7 @@
 -- Goals that have no further answer: what the newest entry makes of it, whichever it is.
-use Rattle.std.proofs.Common.{◌≡◌, ℕ, List, [], ◌∷◌, refl, sym, ◌∙◌, ap, subst, length}
+use Rattle.std.proofs.Common.{◌≡◌, ℕ, List, [], ◌∷◌, refl, sym, ap, subst, length}
 use Rattle.pi_types.specs.Tree.{Tree}
 use Rattle.pi_types.specs.State.{State}
-use Rattle.pi_types.specs.Trace.{Done}
 use Rattle.pi_types.specs.GoalTree.{GoalTrees}
 use Rattle.pi_engine.specs.declared.arenas.Back.{Back}
 use Rattle.pi_engine.specs.declared.arenas.Kind.{Kind}
@@ -10,7 +9,7 @@ use Rattle.pi_engine.specs.declared.arenas.Strict.{Strict as StrictKind}
 use Rattle.pi_engine.specs.declared.run.End.{End as RunEnd}
 use Rattle.pi_engine.specs.declared.run.Now.{Now}
 use Rattle.pi_engine.specs.Configuration.{Entry as EntryData, choice, branches_left, Strict, strict, Back as BackData}
-use Rattle.pi_engine.specs.Step.{silently, ending, branch, end_step, fail_step}
+use Rattle.pi_engine.specs.Step.{silently, branch, end_step, fail_step}
 use Rattle.pi_engine.specs.Here.{Here}
 use Rattle.pi_engine.specs.Stands.{World, Loaded, now_here, KindIs, rules_kind, branches_kind, once_kind, not_kind, if_kind, guard_kind, apply_kind, collect_kind, count_kind, catch_kind, exit_kind, Stands}
 use Rattle.pi_engine.specs.Fails.{ComesTo, IsBack, GoesOnWithBranch, EndsLevel}

@@ -1,5 +1,5 @@
 -- A frame that is gone on with.
-use Rattle.std.proofs.Common.{◌≡◌, ℕ, zero, suc, ◌+◌, ◌-◌, ◌≤◌, ◌<◌, max, min, Bool, true, false, List, [], ◌∷◌, Option, Some, None, length, take, drop, refl, sym, ◌∙◌, ap, subst, arith}
+use Rattle.std.proofs.Common.{◌≡◌, ℕ, zero, suc, ◌-◌, ◌≤◌, ◌<◌, max, min, Bool, List, Option, Some, None, length, take, refl, sym, ◌∙◌, ap, subst, arith}
 use Rattle.std.specs.Prelude.{slice_get}
 use Rattle.std.proofs.lemmas.List.{length-take}
 use Rattle.pi_types.specs.Tree.{Tree}
@@ -7,7 +7,7 @@ use Rattle.pi_types.specs.Places.{Places}
 use Rattle.pi_types.specs.State.{State}
 use Rattle.pi_types.specs.View.{View}
 use Rattle.pi_types.specs.CoreTree.{PredTree}
-use Rattle.pi_types.specs.GoalTree.{GoalTree, GoalTrees, no_goals, goal}
+use Rattle.pi_types.specs.GoalTree.{GoalTrees, no_goals, goal}
 use Rattle.pi_types.specs.declared.core_program.NameSlot.{NameSlot}
 use Rattle.pi_engine.specs.declared.frames.Point.{Point}
 use Rattle.pi_engine.specs.declared.run.Now.{Now}
@@ -15,17 +15,16 @@ use Rattle.pi_engine.specs.declared.code.Step.{Step}
 use Rattle.pi_engine.specs.Code.{Tables}
 use Rattle.pi_engine.specs.Frames.{frame_at}
 use Rattle.pi_engine.specs.Arenas.{Entry, ArenasView, entry_at, newest, slots_kept_by, frames_kept_by, FollowsFrame}
-use Rattle.pi_engine.specs.Configuration.{Frame, return, behind, Entry as EntryData, Config, config, going}
-use Rattle.pi_engine.specs.Step.{silently, step, frame_step}
-use Rattle.pi_engine.specs.Shape.{open_level}
-use Rattle.pi_engine.specs.Here.{Block, block_end, AreHere, none_here, value_here, last_here, more_here, Holds, Here, valued, GoesOn, answers, gives, returns_to_end, more_of_block, returns_to}
-use Rattle.pi_engine.specs.Stands.{tables_in, World, Loaded, Extend, steps_of, entries_of, entry_ends, level_ends, now_here, back_here, Agrees, agrees_from, StandsBehind, StackIs, StackStands, Stands, GoingIs, NowIs, going_now, StandsGoing}
+use Rattle.pi_engine.specs.Configuration.{Frame, behind, Entry as EntryData, Config, config, going}
+use Rattle.pi_engine.specs.Step.{step, frame_step}
+use Rattle.pi_engine.specs.Here.{Block, AreHere, none_here, value_here, Holds, valued, GoesOn, answers, gives, returns_to_end, more_of_block, returns_to}
+use Rattle.pi_engine.specs.Stands.{tables_in, World, Extend, steps_of, entries_of, entry_ends, level_ends, now_here, back_here, Agrees, agrees_from, StackIs, StackStands, Stands, GoingIs, NowIs, going_now, StandsGoing}
 use Rattle.pi_engine.specs.Makes.{SilentlyTo, already, one_more}
 use Rattle.pi_engine.proofs.ListLemmas.{take-take}
-use Rattle.pi_engine.proofs.HereLemmas.{FramesStay, Moves, goes_on-moves, holds-moves, take-agrees}
-use Rattle.pi_engine.proofs.StandsLemmas.{moved, slice-take, Leaves, stack-moves, stack-length, open_level-within, back-stays, entry-facts, EntryFacts}
+use Rattle.pi_engine.proofs.HereLemmas.{FramesStay, Moves, goes_on-moves, holds-moves}
+use Rattle.pi_engine.proofs.StandsLemmas.{moved, slice-take, Leaves, stack-moves, stack-length, open_level-within, back-stays, entry-facts}
 use Rattle.pi_engine.proofs.OpenStand.{level-base}
-use Rattle.pi_engine.proofs.OlderStand.{kept-by-newest, KeptBy}
+use Rattle.pi_engine.proofs.OlderStand.{kept-by-newest}
 use Rattle.pi_engine.proofs.FramesStand.{going-of}
 
 -- ---- the entries stay

@@ -1,24 +1,21 @@
 -- Runs that push a frame for what is left behind a goal.
-use Rattle.std.proofs.Common.{◌≡◌, ◌⊎◌, inl, inr, ℕ, zero, suc, ◌+◌, ◌-◌, ◌^◌, ◌≤◌, ◌<◌, Bool, true, false, List, [], ◌∷◌, ◌++◌, Option, Some, None, length, take, drop, refl, sym, ◌∙◌, ap, subst, arith}
+use Rattle.std.proofs.Common.{◌≡◌, inl, inr, ℕ, ◌+◌, ◌^◌, ◌≤◌, ◌<◌, List, [], ◌∷◌, ◌++◌, Option, Some, None, length, take, refl, sym, ◌∙◌, ap, subst, arith}
 use Rattle.std.specs.Prelude.{slice_get}
 use Rattle.std.proofs.lemmas.List.{take-append-le, length-append}
-use Rattle.pi_types.specs.Tree.{Tree}
 use Rattle.pi_types.specs.Places.{Places}
 use Rattle.pi_types.specs.State.{State}
-use Rattle.pi_types.specs.Store.{StoreView, IsGood}
 use Rattle.pi_types.specs.GoalTree.{GoalTree, GoalTrees, goal, seq, count_goals, children, nodes}
 use Rattle.pi_engine.specs.declared.frames.Point.{Point}
 use Rattle.pi_engine.specs.declared.code.Step.{Step}
 use Rattle.pi_engine.specs.declared.run.Now.{Now}
-use Rattle.pi_engine.specs.Blocks.{IsKept, brought_back}
 use Rattle.pi_engine.specs.Frames.{PushesBehind, point_behind}
 use Rattle.pi_engine.specs.Arenas.{Entry, ArenasView}
-use Rattle.pi_engine.specs.Configuration.{Frame, behind, Entry as EntryData, Now as NowData, going}
-use Rattle.pi_engine.specs.Here.{Block, Holds, Here, valued, SayLast}
-use Rattle.pi_engine.specs.Stands.{tables_in, World, Loaded, steps_of, entries_of, now_here, StandsBehind, Agrees, agrees_from, back_here, StackIs, StackStands, Stands, GoingIs, NowIs, going_now, StandsGoing}
-use Rattle.pi_engine.proofs.PointLemmas.{one-or-more, here-size, first-of, GoalAtPoint, frame-behind, with_frames}
+use Rattle.pi_engine.specs.Configuration.{Frame, behind, Entry as EntryData, going}
+use Rattle.pi_engine.specs.Here.{Block, Holds, SayLast}
+use Rattle.pi_engine.specs.Stands.{tables_in, World, steps_of, entries_of, now_here, Agrees, agrees_from, StackStands, GoingIs, NowIs, going_now, StandsGoing}
+use Rattle.pi_engine.proofs.PointLemmas.{one-or-more, here-size, first-of, GoalAtPoint, frame-behind}
 use Rattle.pi_engine.proofs.GoalsStand.{children-here}
-use Rattle.pi_engine.proofs.StandsLemmas.{moved, Leaves, stack-moves, stack-length}
+use Rattle.pi_engine.proofs.StandsLemmas.{moved, Leaves, stack-moves}
 
 -- the same arenas with these frames
 abbrev pub framed : {M : Type 0} → ArenasView M → List Point → ArenasView M

@@ -1,13 +1,12 @@
 -- Goals that are run, as parts of a run: by the Ticks that they count.
-use Rattle.std.proofs.Common.{◌≡◌, ◌≢◌, ℕ, zero, suc, ◌+◌, ◌-◌, ◌≤◌, ◌<◌, ◌^◌, Bool, true, false, List, [], ◌∷◌, ◌++◌, Option, Some, None, length, refl, sym, ◌∙◌, ap, subst, arith}
+use Rattle.std.proofs.Common.{◌≡◌, ◌≢◌, ℕ, ◌+◌, ◌≤◌, ◌<◌, ◌^◌, Bool, true, false, List, [], ◌∷◌, Option, Some, None, length, refl, sym, ◌∙◌, ap, subst, arith}
 use Rattle.std.specs.Prelude.{slice_get, codes}
 use Rattle.pi_types.specs.Tree.{Tree}
 use Rattle.pi_types.specs.Places.{Places}
 use Rattle.pi_types.specs.View.{View}
 use Rattle.pi_types.specs.State.{State}
 use Rattle.pi_types.specs.CoreTree.{PredTree}
-use Rattle.pi_types.specs.Trace.{Trace, Tick, noted, Emitted}
-use Rattle.pi_types.specs.Run.{Solution}
+use Rattle.pi_types.specs.Trace.{Tick, noted}
 use Rattle.pi_types.specs.declared.core_program.NameSlot.{NameSlot}
 use Rattle.pi_types.specs.GoalTree.{GoalTree, GoalTrees, no_goals, goal, truth, fail, tick, call, apply, seq, alternatives, if_else, not, once, collect, count, catch, nodes}
 use Rattle.pi_types.specs.GoalCells.{kind_of}
@@ -22,16 +21,16 @@ use Rattle.pi_engine.specs.declared.run.End.{End as RunEnd}
 use Rattle.pi_engine.specs.declared.run.Now.{Now}
 use Rattle.pi_engine.specs.Code.{Tables, node_kind, operand_tree}
 use Rattle.pi_engine.specs.Frames.{point_behind}
-use Rattle.pi_engine.specs.Configuration.{Frame, Config, config, going, failed, Now as NowData, Entry as EntryData}
+use Rattle.pi_engine.specs.Configuration.{Frame, Config, config, going, Now as NowData, Entry as EntryData}
 use Rattle.pi_engine.specs.Step.{Outcome, silently, with_tick, quietly, call_step, goal_step, step}
 use Rattle.pi_engine.specs.Shape.{IsGood}
 use Rattle.pi_engine.specs.Built.{AreOfRules}
-use Rattle.pi_engine.specs.Leads.{Leads, Silent, IsAtTick}
+use Rattle.pi_engine.specs.Leads.{Leads}
 use Rattle.pi_engine.specs.Next.{some_ticks}
-use Rattle.pi_engine.specs.Here.{Block, AreHere, none_here, value_here, last_here, more_here}
+use Rattle.pi_engine.specs.Here.{Block, AreHere, none_here, value_here}
 use Rattle.pi_engine.specs.Stands.{IsNumberOf, HasNumber, IsCodeOf, tables_in, World, steps_of, NowIs, going_now, failing_now, raising_now, StackStands, Stands, StandsGoing, GoingIs}
 use Rattle.pi_engine.specs.Makes.{StandsAfter, RunsGoal}
-use Rattle.pi_engine.specs.Goes.{counted, spent, Ticks, TicksUnless, HasNone, IsAt, Goes, IsSpent, TicksOn, AtGoal, GoalGoes, IsSilent}
+use Rattle.pi_engine.specs.Goes.{counted, spent, TicksUnless, HasNone, IsAt, Goes, IsSpent, TicksOn, AtGoal, GoalGoes, IsSilent}
 use Rattle.pi_engine.proofs.FramesStand.{going-of, going-size}
 use Rattle.pi_engine.proofs.EqualStands.{kind-of-node, going-behind}
 use Rattle.pi_engine.specs.declared.code.Predicate.{Predicate}

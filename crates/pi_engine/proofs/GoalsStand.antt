@@ -1,5 +1,5 @@
 -- Goals that are made of others, and their child goals in the tables.
-use Rattle.std.proofs.Common.{◌≡◌, ℕ, zero, suc, ◌+◌, ◌-◌, ◌^◌, ◌≤◌, ◌<◌, Bool, true, false, List, [], ◌∷◌, Option, Some, None, length, take, drop, map, refl, sym, ◌∙◌, ap, subst, arith}
+use Rattle.std.proofs.Common.{◌≡◌, ℕ, ◌+◌, ◌^◌, ◌<◌, Bool, List, Some, None, take, drop, map, sym, ◌∙◌, ap, arith}
 use Rattle.std.specs.Prelude.{slice_get}
 use Rattle.std.proofs.lemmas.List.{drop-drop, drop-map}
 use Rattle.pi_types.specs.GoalTree.{GoalTree, GoalTrees, no_goals, goal, count_goals, children, child_count, nodes, nodes_all}
@@ -7,7 +7,7 @@ use Rattle.pi_types.specs.GoalCells.{flat_all}
 use Rattle.pi_types.specs.declared.goal_node.GoalCell.{GoalCell}
 use Rattle.pi_types.proofs.GoalPlaces.{nodes-children, nodes_all-goal}
 use Rattle.pi_engine.specs.declared.code.Step.{Step}
-use Rattle.pi_engine.specs.Code.{Tables, step_cell, StandsAt}
+use Rattle.pi_engine.specs.Code.{Tables, step_cell}
 use Rattle.pi_engine.specs.Here.{Block, IsStepOf, LastOfAll, IsHere, AreHere, none_here, last_here, more_here}
 use Rattle.pi_engine.proofs.CodeLemmas.{cells-front, cells-behind, cells-below}
 

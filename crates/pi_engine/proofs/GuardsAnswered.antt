@@ -1,31 +1,25 @@
 -- A rule's condition that has an answer.
-use Rattle.std.proofs.Common.{◌≡◌, ℕ, zero, suc, ◌+◌, ◌-◌, ◌≤◌, ◌<◌, max, Bool, true, false, List, [], ◌∷◌, ◌++◌, Option, Some, None, length, take, drop, refl, sym, ◌∙◌, ap, subst, arith}
+use Rattle.std.proofs.Common.{◌≡◌, ℕ, zero, suc, ◌+◌, ◌-◌, ◌≤◌, max, List, [], ◌∷◌, Option, Some, None, length, take, drop, refl, sym, ◌∙◌, ap, subst, arith}
 use Rattle.std.specs.Prelude.{slice_get}
-use Rattle.std.proofs.lemmas.List.{length-take, length-take-le}
+use Rattle.std.proofs.lemmas.List.{length-take}
 use Rattle.pi_types.specs.Tree.{Tree}
-use Rattle.pi_types.specs.Places.{Places}
-use Rattle.pi_types.specs.Store.{StoreView}
-use Rattle.pi_types.specs.State.{State, IsState}
-use Rattle.pi_types.specs.CoreTree.{ClauseTree, PredTree}
+use Rattle.pi_types.specs.State.{State}
+use Rattle.pi_types.specs.CoreTree.{ClauseTree}
 use Rattle.pi_engine.specs.declared.arenas.Kind.{Kind}
 use Rattle.pi_engine.specs.declared.arenas.Strict.{Strict}
 use Rattle.pi_engine.specs.declared.arenas.Back.{Back}
-use Rattle.pi_engine.specs.declared.frames.Point.{Point}
 use Rattle.pi_engine.specs.declared.code.Rule.{Rule}
-use Rattle.pi_engine.specs.declared.code.Predicate.{Predicate}
-use Rattle.pi_engine.specs.Blocks.{IsKept, brought_back}
-use Rattle.pi_engine.specs.Arenas.{Entry, ArenasView, entry_at, newest, slots_kept_by, frames_kept_by}
+use Rattle.pi_engine.specs.Arenas.{Entry, ArenasView, entry_at, newest}
 use Rattle.pi_engine.specs.Configuration.{Frame, Called, strict, guard_level, Entry as EntryData}
 use Rattle.pi_engine.specs.Step.{back_to}
 use Rattle.pi_engine.specs.Here.{Here}
-use Rattle.pi_engine.specs.Stands.{World, Loaded, tables_in, steps_of, entries_of, now_here, back_here, level_ends, entry_ends, agrees_from, Agrees, Extend, IsCodeOf, IsPredicateOf, IsRuleOf, rule_block, clause_block, CallStands, KindIs, guard_kind, EntryIs, StackIs, entry_above}
-use Rattle.pi_engine.specs.Tries.{RulesLeft, CallGoes, OwnEntry, own_entry, CallIs, Applies, ReturnsTo, GuardAnswers}
+use Rattle.pi_engine.specs.Stands.{World, Loaded, tables_in, entries_of, now_here, back_here, agrees_from, Agrees, Extend, IsCodeOf, IsPredicateOf, IsRuleOf, rule_block, clause_block, CallStands, KindIs, guard_kind, EntryIs, StackIs, entry_above}
+use Rattle.pi_engine.specs.Tries.{RulesLeft, ReturnsTo}
 use Rattle.pi_engine.proofs.ListLemmas.{take-take}
-use Rattle.pi_engine.proofs.BlocksLemmas.{brought_back-is, length-slots_before}
-use Rattle.pi_engine.proofs.HereLemmas.{Moves, goes_on-moves, holds-moves, take-agrees}
-use Rattle.pi_engine.proofs.StandsLemmas.{moved, Leaves, slice-take, stack-moves, stack-length, entry_at-take, agrees-moves}
+use Rattle.pi_engine.proofs.HereLemmas.{take-agrees}
+use Rattle.pi_engine.proofs.StandsLemmas.{moved, Leaves, slice-take, stack-moves, agrees-moves}
 use Rattle.pi_engine.proofs.GuardsEntered.{guard-ends}
-use Rattle.pi_engine.proofs.RulesTaken.{left-of, predicate-of}
+use Rattle.pi_engine.proofs.RulesTaken.{predicate-of}
 use Rattle.pi_engine.proofs.CallEntries.{IsBefore, entry-before, newest-below}
 
 -- ---- the level's entry

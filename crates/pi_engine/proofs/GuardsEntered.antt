@@ -1,11 +1,11 @@
 -- A rule's condition that is entered.
-use Rattle.std.proofs.Common.{◌≡◌, ◌≢◌, ℕ, zero, suc, ◌+◌, ◌-◌, ◌≤◌, ◌<◌, Bool, true, false, List, [], ◌∷◌, ◌++◌, Option, Some, None, length, take, drop, refl, sym, ◌∙◌, ap, subst, arith}
+use Rattle.std.proofs.Common.{◌≡◌, ◌≢◌, ℕ, suc, ◌+◌, Bool, false, List, [], ◌∷◌, Option, Some, None, length, refl, sym, ◌∙◌, ap, subst, arith}
 use Rattle.std.specs.Prelude.{slice_get}
 use Rattle.pi_types.specs.Places.{Places}
 use Rattle.pi_types.specs.Store.{StoreView}
 use Rattle.pi_types.specs.State.{State, IsState}
 use Rattle.pi_types.specs.GoalTree.{GoalTree, truth, fail, tick, call, apply, seq, alternatives, if_else, not, once, collect, count, catch, no_goals, goal}
-use Rattle.pi_types.specs.CoreTree.{ClauseTree, PredTree}
+use Rattle.pi_types.specs.CoreTree.{ClauseTree}
 use Rattle.pi_engine.specs.declared.arenas.Kind.{Kind}
 use Rattle.pi_engine.specs.declared.arenas.Strict.{Strict}
 use Rattle.pi_engine.specs.declared.frames.Point.{Point}
@@ -14,12 +14,12 @@ use Rattle.pi_engine.specs.declared.code.Step.{Step}
 use Rattle.pi_engine.specs.declared.code.Predicate.{Predicate}
 use Rattle.pi_engine.specs.declared.run.Now.{Now}
 use Rattle.pi_engine.specs.Code.{Tables}
-use Rattle.pi_engine.specs.Arenas.{Entry, ArenasView, entry_at, newest, slots_kept_by, opened}
-use Rattle.pi_engine.specs.Configuration.{Frame, Called, strict, guard_level, config, Back as BackData, Now as NowData, going, Entry as EntryData}
-use Rattle.pi_engine.specs.Step.{run_goal, back_to, guarding, inside}
+use Rattle.pi_engine.specs.Arenas.{Entry, ArenasView, newest, opened}
+use Rattle.pi_engine.specs.Configuration.{Frame, Called, strict, guard_level, Back as BackData, going, Entry as EntryData}
+use Rattle.pi_engine.specs.Step.{back_to, guarding, inside}
 use Rattle.pi_engine.specs.Shape.{open_level}
 use Rattle.pi_engine.specs.Here.{Block, IsHere, last_here, answers, in_block, Holds}
-use Rattle.pi_engine.specs.Stands.{World, Loaded, tables_in, steps_of, entries_of, now_here, level_ends, entry_ends, ends_of, rule_block, rule_shape, clause_block, agrees_from, IsGuardHere, IsPredicateOf, KindIs, guard_kind, StackIs, Stands, NowIs, going_now, GoingIs}
+use Rattle.pi_engine.specs.Stands.{World, Loaded, tables_in, steps_of, entries_of, now_here, level_ends, entry_ends, ends_of, rule_block, rule_shape, clause_block, agrees_from, IsGuardHere, IsPredicateOf, guard_kind, StackIs, Stands, NowIs, going_now}
 use Rattle.pi_engine.specs.Tries.{CallIs, KeepsCall, Applies}
 use Rattle.pi_engine.proofs.HereLemmas.{holds-extends}
 use Rattle.pi_engine.proofs.ProgramStands.{code-keeps}

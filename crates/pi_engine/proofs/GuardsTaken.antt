@@ -1,15 +1,12 @@
 -- A rule whose condition has an answer, once what was made for the condition is given back.
-use Rattle.std.proofs.Common.{◌≡◌, ℕ, zero, suc, ◌+◌, ◌-◌, ◌≤◌, ◌<◌, max, Bool, true, false, List, [], ◌∷◌, Option, Some, None, length, take, drop, refl, sym, ◌∙◌, ap, subst, arith}
+use Rattle.std.proofs.Common.{◌≡◌, ℕ, zero, suc, ◌+◌, ◌≤◌, max, Bool, true, List, [], ◌∷◌, Option, Some, None, length, take, drop, refl, sym, ◌∙◌, ap, subst, arith}
 use Rattle.std.specs.Prelude.{slice_get}
 use Rattle.std.proofs.lemmas.List.{length-take, length-take-le, take_all}
 use Rattle.pi_types.specs.Places.{Places}
 use Rattle.pi_types.specs.State.{State, IsState}
 use Rattle.pi_types.specs.CoreTree.{ClauseTree}
-use Rattle.pi_engine.specs.declared.arenas.Kind.{Kind}
-use Rattle.pi_engine.specs.declared.arenas.Strict.{Strict}
 use Rattle.pi_engine.specs.declared.arenas.Back.{Back}
 use Rattle.pi_engine.specs.declared.blocks.BlocksMark.{BlocksMark}
-use Rattle.pi_engine.specs.declared.frames.Point.{Point}
 use Rattle.pi_engine.specs.declared.code.Rule.{Rule}
 use Rattle.pi_engine.specs.declared.code.Predicate.{Predicate}
 use Rattle.pi_engine.specs.Blocks.{BlocksView, brought_back}
@@ -17,13 +14,13 @@ use Rattle.pi_engine.specs.Frames.{frame_at}
 use Rattle.pi_engine.specs.Arenas.{Entry, ArenasView, entry_at, newest, slots_kept_by}
 use Rattle.pi_engine.specs.Configuration.{Frame, Called, strict, guard_level, Entry as EntryData}
 use Rattle.pi_engine.specs.Step.{back_to}
-use Rattle.pi_engine.specs.Here.{Block, block_end, Here, Holds}
-use Rattle.pi_engine.specs.Stands.{World, tables_in, steps_of, entries_of, now_here, back_here, level_ends, agrees_from, Agrees, Extend, IsCodeOf, rule_block, clause_block, IsCall}
-use Rattle.pi_engine.specs.Tries.{RulesLeft, own_entry, CallIs, Applies, ReturnsTo, GuardAnswers}
+use Rattle.pi_engine.specs.Here.{Holds}
+use Rattle.pi_engine.specs.Stands.{World, tables_in, steps_of, entries_of, now_here, back_here, level_ends, Agrees, Extend, IsCodeOf, rule_block, clause_block}
+use Rattle.pi_engine.specs.Tries.{RulesLeft, own_entry, Applies, ReturnsTo, GuardAnswers}
 use Rattle.pi_engine.proofs.ListLemmas.{take-take}
 use Rattle.pi_engine.proofs.BlocksLemmas.{brought_back-is, length-slots_before}
 use Rattle.pi_engine.proofs.HereLemmas.{Moves, goes_on-moves, holds-moves}
-use Rattle.pi_engine.proofs.StandsLemmas.{moved, stack-length, open_level-within, entry_at-take}
+use Rattle.pi_engine.proofs.StandsLemmas.{moved, open_level-within, entry_at-take}
 use Rattle.pi_engine.proofs.RulesTaken.{left-of}
 use Rattle.pi_engine.proofs.GuardsAnswered.{GuardEntry, guard-entry, GuardBack, guard-back, agrees-through, rule-of, rule-found, rule-block}
 

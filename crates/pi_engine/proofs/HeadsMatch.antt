@@ -1,6 +1,6 @@
 -- Heads of rules against the arguments of a call, a test or a pattern after another.
 use Rattle.std.proofs.Common.{◌≡◌, ◌≢◌, ℕ, ℤ, zero, suc, ◌+◌, ◌≤◌, ◌<◌, ◌==◌, Bool, true, false, cond, List, [], ◌∷◌, ◌++◌, Option, Some, None, inl, inr, length, take, drop, set, get_or, refl, sym, ◌∙◌, ap, subst, arith, eqb-true, lt-ltb, drop-cons, add-one}
-use Rattle.std.specs.Prelude.{slice_get, nat_lt, replicate, IsSome, ⊤}
+use Rattle.std.specs.Prelude.{slice_get, replicate, IsSome}
 use Rattle.std.specs.Option.{option_and_then}
 use Rattle.std.specs.Ordering.{is_eq}
 use Rattle.std.specs.declared.cmp.Ordering.{Ordering}
@@ -8,11 +8,11 @@ use Rattle.std.proofs.lemmas.List.{take-set-le, take-append-le, length-set, leng
 use Rattle.std.proofs.Math.Seq.{drop-append_seam, take-length}
 use Rattle.std.proofs.lemmas.Option.{get_or_from_slice_get, slice_get_within, slice_get-get_or}
 use Rattle.std.proofs.lemmas.Bool.{cases_Bool, eqb-false, le-ltb}
-use Rattle.pi_types.proofs.MatchLemmas.{identical_from_same, same_from_identical, differs}
+use Rattle.pi_types.proofs.MatchLemmas.{identical_from_same, differs}
 use Rattle.pi_types.specs.Tree.{Tree, var, int, atom, comp, Trees, no_trees, tree}
 use Rattle.pi_types.specs.Places.{Places, held}
 use Rattle.pi_types.specs.Order.{order, identical}
-use Rattle.pi_types.specs.PatternTree.{PatternTree, slot, exact_int, exact_atom, PatternTrees, no_patterns, pattern}
+use Rattle.pi_types.specs.PatternTree.{PatternTree, slot, exact_int, PatternTrees, no_patterns, pattern}
 use Rattle.pi_types.specs.HeadMatch.{taken_in, filled_in, matched_in, matched_all_in}
 use Rattle.pi_types.specs.Sound.{pattern_count}
 use Rattle.pi_types.specs.Value.{Bindings, value}
@@ -34,7 +34,7 @@ use Rattle.pi_engine.specs.Evaluates.{slot_number}
 use Rattle.pi_engine.specs.Tries.{KeepsFront, RuleSlots, TellsHead, FillsHead, FillsSlots, is_atom_cell}
 use Rattle.pi_engine.proofs.BlocksLemmas.{keeps_same, keeps_then}
 use Rattle.pi_engine.proofs.HereLemmas.{part-agrees}
-use Rattle.pi_engine.proofs.SlotsStand.{IsHeldAt, held-at, held-length, holds-at, holds-set}
+use Rattle.pi_engine.proofs.SlotsStand.{IsHeldAt, held-length, holds-at, holds-set}
 use Rattle.pi_engine.proofs.ListLemmas.{none-past}
 
 -- ---- one after the other

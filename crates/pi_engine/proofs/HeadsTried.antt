@@ -3,8 +3,6 @@ use Rattle.std.proofs.Common.{◌≡◌, ℕ, zero, suc, ◌+◌, ◌-◌, ◌�
 use Rattle.std.specs.Prelude.{slice_get, replicate, max, map}
 use Rattle.std.proofs.lemmas.List.{length-take-le, length-drop, length-append, length-replicate, take-append-le}
 use Rattle.std.proofs.Math.Seq.{drop-append_seam, take-length}
-use Rattle.pi_types.specs.Tree.{Trees}
-use Rattle.pi_types.specs.Places.{Places}
 use Rattle.pi_types.specs.PatternTree.{PatternTrees, no_patterns, pattern}
 use Rattle.pi_types.specs.HeadMatch.{matched_all_in}
 use Rattle.pi_types.specs.CoreTree.{ClauseTree, PredTree, pattern_trees, pred_tree}
@@ -19,12 +17,11 @@ use Rattle.pi_engine.specs.declared.code.Predicate.{Predicate}
 use Rattle.pi_engine.specs.declared.code.Code.{Code}
 use Rattle.pi_engine.specs.Code.{preds_of}
 use Rattle.pi_engine.specs.Blocks.{BlocksView, KeepsBlocks}
-use Rattle.pi_engine.specs.Arenas.{ArenasView}
 use Rattle.pi_engine.specs.Configuration.{Frame, Called, Entry as EntryData}
 use Rattle.pi_engine.specs.Evaluates.{with_blocks}
-use Rattle.pi_engine.specs.Here.{Block, block_end, AreHeld, Holds, HoldsArguments}
+use Rattle.pi_engine.specs.Here.{Block, block_end, AreHeld, HoldsArguments}
 use Rattle.pi_engine.specs.Stands.{World, AreTestsOf, NoneIsDeep, IsRuleOf, tables_in, clause_block}
-use Rattle.pi_engine.specs.Tries.{CallIs, KeepsFront, KeepsBelow, RuleSlots, TellsHead, FillsHead, FillsSlots, HasArguments}
+use Rattle.pi_engine.specs.Tries.{CallIs, KeepsFront, KeepsBelow, RuleSlots, TellsHead, FillsHead, HasArguments}
 use Rattle.pi_engine.proofs.ListLemmas.{take-take}
 use Rattle.pi_engine.proofs.HeadsMatch.{front-then, arguments-stay}
 use Rattle.pi_engine.proofs.GuardsAnswered.{rule-of}

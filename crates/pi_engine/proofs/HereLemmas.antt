@@ -1,7 +1,6 @@
 -- What slots hold and frames say, where the arenas change.
-use Rattle.std.proofs.Common.{◌≡◌, ℕ, zero, suc, ◌+◌, ◌≤◌, ◌<◌, Bool, List, [], ◌∷◌, Option, Some, None, length, take, drop, refl, sym, ◌∙◌, ap, subst, arith}
+use Rattle.std.proofs.Common.{◌≡◌, ℕ, ◌+◌, ◌≤◌, Bool, List, [], ◌∷◌, Option, Some, None, length, take, drop, sym, ◌∙◌, ap, subst, arith}
 use Rattle.std.proofs.lemmas.List.{drop-take}
-use Rattle.pi_types.specs.Tree.{Tree}
 use Rattle.pi_types.specs.Places.{Places}
 use Rattle.pi_types.specs.Store.{Terms}
 use Rattle.pi_types.specs.declared.store.Ref.{Ref}
@@ -11,7 +10,7 @@ use Rattle.pi_engine.specs.declared.code.Step.{Step}
 use Rattle.pi_engine.specs.Code.{Tables}
 use Rattle.pi_engine.specs.Frames.{frame_at}
 use Rattle.pi_engine.specs.Configuration.{Frame}
-use Rattle.pi_engine.specs.Here.{Block, block_end, AreHeld, Holds, Here, Ends, in_block, GoesOn, answers, gives, returns_to_end, more_of_block, returns_to}
+use Rattle.pi_engine.specs.Here.{Block, block_end, AreHeld, Holds, Here, GoesOn, answers, gives, returns_to_end, more_of_block, returns_to}
 use Rattle.pi_engine.specs.Stands.{Extend}
 
 -- ---- slots

@@ -1,25 +1,17 @@
 -- Entries that are dropped when a level is left.
-use Rattle.std.proofs.Common.{◌≡◌, ◌⊎◌, inl, inr, ℕ, zero, suc, ◌+◌, ◌-◌, ◌≤◌, ◌<◌, max, min, Bool, true, false, List, [], ◌∷◌, Option, Some, None, length, take, drop, refl, sym, ◌∙◌, ap, subst, arith}
+use Rattle.std.proofs.Common.{◌≡◌, ◌⊎◌, inl, inr, ℕ, zero, suc, ◌≤◌, ◌<◌, max, min, Bool, List, ◌∷◌, Option, Some, None, length, take, refl, sym, ◌∙◌, ap, subst, arith}
 use Rattle.std.specs.Prelude.{slice_get}
 use Rattle.std.proofs.lemmas.List.{length-take}
-use Rattle.pi_types.specs.Tree.{Tree}
 use Rattle.pi_types.specs.Places.{Places}
-use Rattle.pi_types.specs.State.{State}
 use Rattle.pi_types.specs.Store.{StoreView}
-use Rattle.pi_types.specs.GoalTree.{GoalTree, GoalTrees, no_goals, goal}
-use Rattle.pi_engine.specs.declared.frames.Point.{Point}
-use Rattle.pi_engine.specs.declared.arenas.Back.{Back}
-use Rattle.pi_engine.specs.declared.run.Now.{Now}
 use Rattle.pi_engine.specs.Frames.{frame_at}
-use Rattle.pi_engine.specs.Blocks.{BlocksView, IsKept, brought_back}
-use Rattle.pi_engine.specs.Arenas.{Entry, ArenasView, entry_at, newest, slots_kept_by, frames_kept_by, noted_by, Drops, LeavesLevel}
-use Rattle.pi_engine.specs.Configuration.{Frame, Entry as EntryData, Config, config, going}
-use Rattle.pi_engine.specs.Shape.{open_level}
-use Rattle.pi_engine.specs.Here.{Block, block_end, none_here, Holds, Here, Ends, ends_base, GoesOn}
-use Rattle.pi_engine.specs.Stands.{tables_in, World, Loaded, Extend, steps_of, entries_of, IsAbove, entry_ends, level_ends, now_here, back_here, Agrees, agrees_from, StandsBehind, EntryIs, StackIs, no_entries, entry_above, StackStands, Stands, GoingIs, NowIs, going_now}
+use Rattle.pi_engine.specs.Arenas.{Entry, ArenasView, entry_at, newest, slots_kept_by, frames_kept_by, noted_by, Drops}
+use Rattle.pi_engine.specs.Configuration.{Frame, Entry as EntryData}
+use Rattle.pi_engine.specs.Here.{Block, block_end, Holds, ends_base, GoesOn}
+use Rattle.pi_engine.specs.Stands.{tables_in, World, Loaded, Extend, steps_of, entries_of, IsAbove, entry_ends, level_ends, now_here, back_here, Agrees, agrees_from, EntryIs, StackIs, no_entries, entry_above, StackStands}
 use Rattle.pi_engine.proofs.ListLemmas.{take-take}
-use Rattle.pi_engine.proofs.HereLemmas.{FramesStay, Moves, goes_on-moves, holds-moves, take-agrees}
-use Rattle.pi_engine.proofs.StandsLemmas.{moved, slice-take, last-or-below, Leaves, stack-moves, stack-length, open_level-within, entry-facts, EntryFacts, back-stays, entry_at-take}
+use Rattle.pi_engine.proofs.HereLemmas.{goes_on-moves, holds-moves, take-agrees}
+use Rattle.pi_engine.proofs.StandsLemmas.{moved, last-or-below, Leaves, stack-moves, stack-length, open_level-within, entry-facts, back-stays, entry_at-take}
 use Rattle.pi_engine.proofs.OlderStand.{kept-by-newest, KeptBy}
 use Rattle.pi_engine.proofs.BasesStand.{ends-begin, block-above}
 

@@ -1,13 +1,11 @@
 -- Levels that are entered.
-use Rattle.std.proofs.Common.{◌≡◌, ℕ, zero, suc, ◌+◌, ◌^◌, ◌≤◌, ◌<◌, Bool, true, false, List, [], ◌∷◌, ◌++◌, Option, Some, None, length, take, drop, map, refl, sym, ◌∙◌, ap, subst, arith}
+use Rattle.std.proofs.Common.{◌≡◌, ℕ, zero, suc, ◌+◌, ◌^◌, ◌≤◌, ◌<◌, Bool, false, List, [], ◌∷◌, ◌++◌, Option, Some, None, length, take, drop, map, refl, sym, ◌∙◌, ap, subst, arith}
 use Rattle.std.specs.Prelude.{slice_get}
 use Rattle.std.proofs.lemmas.List.{take_all, length-append}
-use Rattle.pi_types.specs.Tree.{Tree}
 use Rattle.pi_types.specs.Places.{Places}
-use Rattle.pi_types.specs.Store.{StoreView, Terms, Marks, Keeps}
-use Rattle.pi_types.specs.State.{State, IsState}
-use Rattle.pi_types.specs.declared.store.Ref.{Ref}
-use Rattle.pi_types.specs.GoalTree.{GoalTree, GoalTrees, no_goals, goal, children, nodes, nodes_all}
+use Rattle.pi_types.specs.Store.{StoreView, Marks}
+use Rattle.pi_types.specs.State.{IsState}
+use Rattle.pi_types.specs.GoalTree.{GoalTree, GoalTrees, goal, children, nodes, nodes_all}
 use Rattle.pi_types.specs.GoalCells.{flat_all}
 use Rattle.pi_types.proofs.GetLemmas.{get_append_last}
 use Rattle.pi_types.proofs.GoalPlaces.{nodes-children, nodes_all-goal}
@@ -16,19 +14,18 @@ use Rattle.pi_engine.specs.declared.arenas.Kind.{Kind}
 use Rattle.pi_engine.specs.declared.code.Step.{Step}
 use Rattle.pi_engine.specs.declared.run.Now.{Now}
 use Rattle.pi_engine.specs.Code.{Tables, step_cell}
-use Rattle.pi_engine.specs.Arenas.{Entry, ArenasView, entry_at, newest, slots_kept_by, new_entry, pushed, opened}
+use Rattle.pi_engine.specs.Arenas.{Entry, ArenasView, entry_at, slots_kept_by, new_entry, pushed, opened}
 use Rattle.pi_engine.specs.Configuration.{Frame, Entry as EntryData, config}
 use Rattle.pi_engine.specs.Step.{run_goal}
 use Rattle.pi_engine.specs.Shape.{open_level}
-use Rattle.pi_engine.specs.Here.{Block, IsStepOf, SayLast, IsHere, last_here, Holds, Here, Ends, in_block, GoesOn, answers}
-use Rattle.pi_engine.specs.Stands.{tables_in, World, Loaded, steps_of, entries_of, ends_of, level_ends, entry_ends, now_here, StandsBehind, Agrees, agrees_from, Extend, back_here, KindIs, StackIs, StackStands, Stands, NowIs, going_now, GoingIs, block_at, shape_of}
+use Rattle.pi_engine.specs.Here.{Block, IsStepOf, SayLast, IsHere, last_here, in_block, answers}
+use Rattle.pi_engine.specs.Stands.{tables_in, World, Loaded, steps_of, entries_of, ends_of, level_ends, entry_ends, now_here, Agrees, agrees_from, Extend, back_here, KindIs, StackIs, StackStands, Stands, going_now, block_at, shape_of}
 use Rattle.pi_engine.proofs.CodeLemmas.{cells-front, cells-below}
-use Rattle.pi_engine.proofs.GoalsStand.{cells_from, cells-further}
-use Rattle.pi_engine.proofs.PointLemmas.{GoalAtPoint}
+use Rattle.pi_engine.proofs.GoalsStand.{cells-further}
 use Rattle.pi_engine.proofs.FramesStand.{Entered}
 use Rattle.pi_engine.proofs.HereLemmas.{holds-extends}
 use Rattle.pi_engine.proofs.ProgramStands.{code-keeps}
-use Rattle.pi_engine.proofs.StandsLemmas.{moved, stack-moves, stack-length, open_level-within, entry_at-take}
+use Rattle.pi_engine.proofs.StandsLemmas.{moved, stack-moves, stack-length, open_level-within}
 use Rattle.pi_engine.proofs.EntriesStand.{marked_here, with_entry, back-of-new, stack-pushed}
 
 -- the first child goal stands right behind its parent's step

@@ -1,5 +1,5 @@
 -- Goals that are entered by a level.
-use Rattle.std.proofs.Common.{◌≡◌, ℕ, zero, suc, ◌+◌, ◌^◌, ◌≤◌, ◌<◌, Bool, true, false, ◌-◌, List, [], ◌∷◌, Option, Some, None, length, take, drop, refl, sym, ◌∙◌, ap, subst, arith}
+use Rattle.std.proofs.Common.{◌≡◌, ℕ, zero, suc, ◌+◌, ◌^◌, ◌≤◌, ◌<◌, Bool, false, ◌-◌, List, [], ◌∷◌, Option, Some, None, length, take, drop, refl, sym, ◌∙◌, ap, subst, arith}
 use Rattle.std.specs.Prelude.{slice_get}
 use Rattle.pi_types.specs.Tree.{Tree}
 use Rattle.pi_types.specs.Places.{Places}
@@ -16,13 +16,12 @@ use Rattle.pi_engine.specs.declared.run.Now.{Now}
 use Rattle.pi_engine.specs.declared.code.Code.{Code}
 use Rattle.pi_engine.specs.Code.{Tables, tables_of, node_kind, StandsAt, child_place}
 use Rattle.pi_engine.specs.Frames.{PushesBehind}
-use Rattle.pi_engine.specs.Blocks.{IsKept}
-use Rattle.pi_engine.specs.Arenas.{Entry, ArenasView, entry_at, newest, slots_kept_by}
+use Rattle.pi_engine.specs.Arenas.{Entry, entry_at, slots_kept_by}
 use Rattle.pi_engine.specs.Configuration.{Frame, behind, config, Entry as EntryData, strict, once_level, not_level, if_level, list_level, number_level}
 use Rattle.pi_engine.specs.Step.{goal_step, run_goal, back_to}
 use Rattle.pi_engine.specs.Shape.{open_level}
-use Rattle.pi_engine.specs.Here.{Block, SayLast, IsHere, Holds, Here, Ends, in_block, GoesOn}
-use Rattle.pi_engine.specs.Stands.{tables_in, World, Loaded, Stands, ends_of, StandsBehind, values_between, steps_of, entries_of, now_here, GoalStands, KindIs, once_kind, not_kind, if_kind, collect_kind, count_kind, StackIs, StackStands, StandsGoing, GoingIs, block_at}
+use Rattle.pi_engine.specs.Here.{Block, SayLast, IsHere, Holds, Here, in_block, GoesOn}
+use Rattle.pi_engine.specs.Stands.{tables_in, World, Loaded, Stands, ends_of, values_between, steps_of, entries_of, now_here, GoalStands, KindIs, once_kind, not_kind, if_kind, collect_kind, count_kind, StackIs, StackStands, StandsGoing, GoingIs, block_at}
 use Rattle.pi_engine.specs.Makes.{StandsAfter, level_kind}
 use Rattle.pi_engine.proofs.PointLemmas.{first-of, FirstOf, GoalAtPoint}
 use Rattle.pi_engine.proofs.CodeLemmas.{child_place-first}

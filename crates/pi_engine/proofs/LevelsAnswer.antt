@@ -1,5 +1,5 @@
 -- The newest open level has an answer, whichever it is.
-use Rattle.std.proofs.Common.{◌≡◌, ℕ, zero, suc, ◌+◌, ◌≤◌, ◌<◌, Bool, true, List, [], ◌∷◌, Option, Some, None, length, refl, sym, ◌∙◌, ap, subst, arith}
+use Rattle.std.proofs.Common.{◌≡◌, ℕ, zero, suc, ◌≤◌, ◌<◌, Bool, true, List, [], ◌∷◌, Option, Some, None, length, refl, sym, ◌∙◌, ap, subst, arith}
 use Rattle.std.specs.Prelude.{slice_get}
 use Rattle.std.proofs.lemmas.Option.{slice_get_within}
 use Rattle.pi_types.specs.Tree.{Tree}
@@ -19,17 +19,17 @@ use Rattle.pi_engine.specs.declared.run.Now.{Now}
 use Rattle.pi_engine.specs.Arenas.{Entry, ArenasView, entry_at, IsLevel}
 use Rattle.pi_engine.specs.Configuration.{Frame, Called, Entry as EntryData, Config, config, going, Strict, strict, guard_level, Back as BackData}
 use Rattle.pi_engine.specs.Step.{back_to, strict_step, taken}
-use Rattle.pi_engine.specs.Shape.{IsBalanced, open_level}
-use Rattle.pi_engine.specs.Here.{Here, Block, with_value, Holds, LeftBehind, GoesOn, answers, gives, returns_to_end, more_of_block, returns_to}
-use Rattle.pi_engine.specs.Stands.{World, Loaded, tables_in, steps_of, entries_of, ends_of, entry_ends, level_ends, rule_block, back_here, now_here, Agrees, KindIs, once_kind, not_kind, if_kind, guard_kind, apply_kind, collect_kind, count_kind, StackIs, entry_above, StackStands, Stands, StandsGoing, GoingIs}
-use Rattle.pi_engine.specs.Tries.{TakesGuarded, GuardAnswers}
+use Rattle.pi_engine.specs.Shape.{IsBalanced}
+use Rattle.pi_engine.specs.Here.{Block, with_value, Holds, LeftBehind, GoesOn, answers, gives, returns_to_end, more_of_block, returns_to}
+use Rattle.pi_engine.specs.Stands.{World, tables_in, steps_of, entries_of, ends_of, entry_ends, level_ends, rule_block, back_here, now_here, Agrees, KindIs, once_kind, not_kind, if_kind, guard_kind, apply_kind, collect_kind, count_kind, StackIs, entry_above, StackStands, Stands, StandsGoing, GoingIs}
+use Rattle.pi_engine.specs.Tries.{TakesGuarded}
 use Rattle.pi_engine.specs.Makes.{SilentlyTo}
 use Rattle.pi_engine.proofs.StandsLemmas.{moved, stack-length, open_level-within}
 use Rattle.pi_engine.proofs.BasesStand.{block-above, level-begins}
 use Rattle.pi_engine.proofs.OptionLemmas.{none-some, one-some}
 use Rattle.pi_engine.proofs.FramesStand.{going-of}
 use Rattle.pi_engine.proofs.FollowStand.{no-value}
-use Rattle.pi_engine.proofs.OnceStand.{Found, level-answers}
+use Rattle.pi_engine.proofs.OnceStand.{level-answers}
 
 -- ---- the condition of a rule
 

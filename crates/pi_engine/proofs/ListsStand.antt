@@ -1,16 +1,16 @@
 -- The values that are collected become a list, and the list goes into its slot.
-use Rattle.std.proofs.Common.{◌≡◌, ℕ, zero, suc, ◌+◌, ◌-◌, ◌≤◌, ◌<◌, List, [], ◌∷◌, ◌++◌, Option, Some, None, length, take, drop, refl, sym, ◌∙◌, ap, subst, arith}
+use Rattle.std.proofs.Common.{◌≡◌, ℕ, zero, suc, ◌+◌, ◌-◌, ◌≤◌, ◌<◌, List, [], ◌∷◌, ◌++◌, Some, None, length, take, drop, refl, sym, ◌∙◌, ap, subst, arith}
 use Rattle.std.specs.Prelude.{slice_get, slice_set, codes}
 use Rattle.std.proofs.lemmas.List.{length-take-le}
 use Rattle.pi_types.specs.Tree.{Tree, atom, comp, Trees, no_trees, tree, drop_trees}
 use Rattle.pi_types.specs.TermCells.{append_trees}
 use Rattle.pi_types.specs.Copy.{copy, new_variables}
 use Rattle.pi_types.specs.Places.{Places}
-use Rattle.pi_types.specs.State.{State, IsState, next, with_new}
+use Rattle.pi_types.specs.State.{State, next, with_new}
 use Rattle.pi_types.specs.Store.{StoreView, Keeps, Stays, Gives, IsTerm, AreTerms}
 use Rattle.pi_types.specs.Evaluation.{with_new_variables}
 use Rattle.pi_types.specs.Meaning.{list_cell, list_of_copies, new_in_all}
-use Rattle.pi_types.specs.GoalTree.{GoalTree, no_goals, collect}
+use Rattle.pi_types.specs.GoalTree.{no_goals, collect}
 use Rattle.pi_types.specs.declared.store.Ref.{Ref}
 use Rattle.pi_types.proofs.GetLemmas.{get_some, take_more}
 use Rattle.pi_types.proofs.KeepsLemmas.{news-next, news-keep}
@@ -28,14 +28,14 @@ use Rattle.pi_engine.specs.Arenas.{ArenasView, DropsNewest, with_collected}
 use Rattle.pi_engine.specs.Configuration.{Frame, Entry as EntryData, Strict, strict, list_level, Back as BackData, config, going}
 use Rattle.pi_engine.specs.Step.{end_step}
 use Rattle.pi_engine.specs.Here.{NodeIsReadable}
-use Rattle.pi_engine.specs.Stands.{World, tables_in, steps_of, entries_of, now_here, block_at, values_between, Agrees, StackIs, StackStands, Stands}
+use Rattle.pi_engine.specs.Stands.{World, tables_in, steps_of, entries_of, now_here, block_at, values_between, StackIs, StackStands, Stands}
 use Rattle.pi_engine.specs.Evaluates.{slot_number, with_blocks}
 use Rattle.pi_engine.specs.Fails.{IsBack}
 use Rattle.pi_engine.specs.Lists.{copies, list_of, PlacesValues}
 use Rattle.pi_engine.proofs.ListLemmas.{take-take}
 use Rattle.pi_engine.proofs.OptionLemmas.{none-some, same-some}
 use Rattle.pi_engine.proofs.NodeLemmas.{kind-here}
-use Rattle.pi_engine.proofs.StandsLemmas.{moved, Leaves, stack-moves}
+use Rattle.pi_engine.proofs.StandsLemmas.{moved, stack-moves}
 use Rattle.pi_engine.proofs.ArgumentsStand.{behind-first, terms-more}
 use Rattle.pi_engine.proofs.BackStand.{back-kind, Popped, popped}
 use Rattle.pi_engine.proofs.WrittenGoals.{own-step, own-block}

@@ -1,5 +1,5 @@
 -- A function call without a value: the exception that says so.
-use Rattle.std.proofs.Common.{◌≡◌, ℕ, zero, suc, ◌+◌, ◌-◌, ◌≤◌, ◌<◌, List, [], ◌∷◌, ◌++◌, Option, Some, None, length, map, take, drop, get_or, refl, sym, ◌∙◌, ap, subst, arith}
+use Rattle.std.proofs.Common.{◌≡◌, ℕ, zero, suc, ◌+◌, ◌≤◌, ◌<◌, List, [], ◌∷◌, ◌++◌, Option, Some, None, length, map, take, drop, get_or, refl, sym, ◌∙◌, ap, subst, arith}
 use Rattle.std.specs.Prelude.{slice_get, slice_index_or}
 use Rattle.std.proofs.lemmas.List.{length-map, map-append, length-take-le, length-drop}
 use Rattle.std.proofs.lemmas.Option.{slice_get-get_or}
@@ -13,7 +13,7 @@ use Rattle.pi_types.specs.GoalCells.{kind_of}
 use Rattle.pi_types.specs.CoreTree.{PredTree, pred_tree}
 use Rattle.pi_types.specs.declared.core_program.CorePred.{CorePred}
 use Rattle.pi_types.specs.declared.store.Ref.{Ref}
-use Rattle.pi_types.proofs.GetLemmas.{get_some, take_more}
+use Rattle.pi_types.proofs.GetLemmas.{take_more}
 use Rattle.pi_engine.specs.declared.arenas.Back.{Back}
 use Rattle.pi_engine.specs.declared.arenas.Kind.{Kind}
 use Rattle.pi_engine.specs.declared.arenas.Strict.{Strict as StrictKind}
@@ -22,18 +22,17 @@ use Rattle.pi_engine.specs.declared.code.Node.{Node}
 use Rattle.pi_engine.specs.declared.code.Predicate.{Predicate}
 use Rattle.pi_engine.specs.declared.code.Step.{Step}
 use Rattle.pi_engine.specs.declared.run.Now.{Now}
-use Rattle.pi_engine.specs.Code.{Tables, tables_of, preds_of, arguments, node_kind, operand_tree}
+use Rattle.pi_engine.specs.Code.{Tables, preds_of, arguments, node_kind, operand_tree}
 use Rattle.pi_engine.specs.Arenas.{ArenasView, DropsNewest}
 use Rattle.pi_engine.specs.Configuration.{Frame, Entry as EntryData, Strict, strict, value_level, Back as BackData, config, raising}
-use Rattle.pi_engine.specs.Step.{end_step, unresolved}
-use Rattle.pi_engine.specs.Here.{Block, block_end, Here, AreHeld, in_places, HoldsArguments, AreReadable, NodeIsReadable}
+use Rattle.pi_engine.specs.Step.{end_step}
+use Rattle.pi_engine.specs.Here.{block_end, Here, AreHeld, in_places, HoldsArguments, NodeIsReadable}
 use Rattle.pi_engine.specs.Stands.{World, Loaded, tables_in, steps_of, now_here, block_at, IsCodeOf, HasNumber, GoalStands, KindIs, once_kind, not_kind, if_kind, guard_kind, apply_kind, collect_kind, count_kind, StackStands, Stands, raising_now}
 use Rattle.pi_engine.specs.Makes.{unresolved_for}
 use Rattle.pi_engine.specs.Fails.{IsBack}
 use Rattle.pi_engine.proofs.NodeLemmas.{kind-here}
-use Rattle.pi_engine.proofs.StandsLemmas.{moved, Leaves, stack-moves}
+use Rattle.pi_engine.proofs.StandsLemmas.{moved, stack-moves}
 use Rattle.pi_engine.proofs.ProgramStands.{code-keeps}
-use Rattle.pi_engine.proofs.EqualStands.{stack-moved, writes-kept}
 use Rattle.pi_engine.proofs.ArgumentsStand.{behind-first}
 use Rattle.pi_engine.proofs.BackStand.{back-kind, Popped, popped, popped-stands}
 use Rattle.pi_engine.proofs.CallRuns.{name-at}

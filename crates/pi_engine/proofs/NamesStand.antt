@@ -1,6 +1,6 @@
 -- The answer of a query: the named variables with their values.
-use Rattle.std.proofs.Common.{◌≡◌, ◌⊎◌, inl, inr, ℕ, zero, suc, ◌+◌, ◌≤◌, ◌<◌, Bool, true, false, nat_lt, List, [], ◌∷◌, ◌++◌, Option, Some, None, length, drop, set, refl, sym, ◌∙◌, ap, subst, arith}
-use Rattle.std.specs.Prelude.{slice_get, slice_set, codes, cond, Result, Ok, Err, ⊤}
+use Rattle.std.proofs.Common.{◌≡◌, ◌⊎◌, inl, inr, ℕ, zero, suc, ◌+◌, ◌≤◌, ◌<◌, false, List, [], ◌∷◌, ◌++◌, Option, Some, None, length, drop, set, refl, sym, ◌∙◌, ap, subst, arith}
+use Rattle.std.specs.Prelude.{slice_get, codes, cond, Ok, Err, ⊤}
 use Rattle.std.proofs.lemmas.Bool.{lt-ltb}
 use Rattle.std.proofs.lemmas.List.{append_assoc, append-nil, drop_all}
 use Rattle.pi_types.specs.Tree.{Tree, var, atom, cells, most_cells}
@@ -20,13 +20,11 @@ use Rattle.pi_types.specs.declared.core_program.NameSlot.{NameSlot}
 use Rattle.pi_types.specs.declared.answer.NamedTerm.{NamedTerm}
 use Rattle.pi_types.specs.declared.answer.Answer.{Answer}
 use Rattle.pi_engine.specs.declared.frames.Point.{Point}
-use Rattle.pi_engine.specs.declared.run.Now.{Now}
-use Rattle.pi_engine.specs.Arenas.{Entry, ArenasView, entry_at}
-use Rattle.pi_engine.specs.Configuration.{Frame, Entry as EntryData, Config, config, going, failed, raising}
-use Rattle.pi_engine.specs.Step.{Outcome, silently, answering, step, answer_step, told_step, fits, Open, none_open, strict_open, catch_open, newest_open}
-use Rattle.pi_engine.specs.Shape.{open_level}
-use Rattle.pi_engine.specs.Here.{Block, in_block, Holds}
-use Rattle.pi_engine.specs.Stands.{World, entries_of, entry_ends, level_ends, StackStands, Stands, StandsGoing, failing_now}
+use Rattle.pi_engine.specs.Arenas.{ArenasView, entry_at}
+use Rattle.pi_engine.specs.Configuration.{Frame, Entry as EntryData, config, going, raising}
+use Rattle.pi_engine.specs.Step.{silently, step, answer_step, told_step, fits, Open, none_open, strict_open, catch_open, newest_open}
+use Rattle.pi_engine.specs.Here.{Block, Holds}
+use Rattle.pi_engine.specs.Stands.{World, entries_of, entry_ends, StandsGoing, failing_now}
 use Rattle.pi_engine.specs.Evaluates.{slot_number, Writes, Evaluates}
 use Rattle.pi_engine.specs.Makes.{SilentlyTo, IsRead}
 use Rattle.pi_engine.specs.Domains.{AreUnbound}

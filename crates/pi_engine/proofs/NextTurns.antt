@@ -1,10 +1,7 @@
 -- The turns of a call of `next`, and what the call comes to.
-use Rattle.std.proofs.Common.{Box, Global, ◌≡◌, ◌≢◌, ◌⊎◌, inl, inr, ℕ, List, [], ◌∷◌, ◌++◌, refl, sym, ◌∙◌, ap, subst, arith}
-use Rattle.std.specs.Prelude.{⊤}
+use Rattle.std.proofs.Common.{Box, Global, ◌≡◌, ◌≢◌, ◌⊎◌, inl, inr, ℕ, List, refl, sym, ap, subst}
 use Rattle.pi_types.specs.Tree.{Tree}
 use Rattle.pi_types.specs.View.{View}
-use Rattle.pi_types.specs.Trace.{answered}
-use Rattle.pi_types.specs.Run.{Solution}
 use Rattle.pi_types.specs.declared.core_program.NameSlot.{NameSlot}
 use Rattle.pi_types.specs.declared.answer.Answer.{Answer}
 use Rattle.pi_engine.specs.declared.code.Code.{Code}
@@ -23,10 +20,9 @@ use Rattle.pi_engine.specs.Next.{Tells, some_ticks, NextIs}
 use Rattle.pi_engine.specs.Shape.{IsGood}
 use Rattle.pi_engine.specs.Stands.{World, Loaded}
 use Rattle.pi_engine.specs.Turns.{StepIs, IsRunning, FitsMode, NextComes, IsAnswered, IsRepeated, IsRaised, Lasts}
-use Rattle.pi_engine.proofs.BudgetLemmas.{counts_none, counts_then}
 use Rattle.pi_engine.proofs.GoalsGo.{none-counted}
 use Rattle.pi_engine.proofs.LeadLemmas.{leads-none}
-use Rattle.pi_engine.proofs.TurnsGo.{is-in, more-goes, answer-goes}
+use Rattle.pi_engine.proofs.TurnsGo.{more-goes, answer-goes}
 
 -- ---- where a run has ended
 

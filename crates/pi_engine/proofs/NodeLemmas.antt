@@ -1,10 +1,8 @@
 -- Which goal a step of the tables is, by its node.
-use Rattle.std.proofs.Common.{◌≡◌, ℕ, Bool, List, Option, Some, refl, sym, ◌∙◌, ap}
+use Rattle.std.proofs.Common.{◌≡◌, ℕ, Bool, List, Some, refl, sym, ◌∙◌, ap}
 use Rattle.std.specs.Prelude.{slice_get}
-use Rattle.pi_types.specs.Tree.{Tree}
 use Rattle.pi_types.specs.GoalTree.{GoalTree, truth, fail, tick, call, apply, seq, alternatives, if_else, not, once, collect, count, catch, GoalTrees, count_goals}
-use Rattle.pi_types.specs.GoalCells.{kind_of, cell_of}
-use Rattle.pi_types.specs.declared.goal_node.GoalCell.{GoalCell}
+use Rattle.pi_types.specs.GoalCells.{kind_of}
 use Rattle.pi_types.specs.declared.goal_node.GoalKind.{GoalKind}
 use Rattle.pi_engine.specs.declared.code.Step.{Step}
 use Rattle.pi_engine.specs.declared.code.Node.{Node}

@@ -1,15 +1,9 @@
 -- Each entry was made at or behind those below it: what it keeps is what they keep, or more.
-use Rattle.std.proofs.Common.{◌≡◌, ◌⊎◌, inl, inr, ℕ, zero, suc, ◌+◌, ◌≤◌, ◌<◌, List, [], ◌∷◌, Option, Some, None, length, take, drop, refl, sym, ◌∙◌, ap, subst, arith}
+use Rattle.std.proofs.Common.{◌≡◌, inl, inr, ℕ, ◌≤◌, ◌<◌, List, Option, Some, None, refl, sym, ◌∙◌, ap, subst, arith}
 use Rattle.std.specs.Prelude.{slice_get}
-use Rattle.std.proofs.lemmas.List.{length-take}
-use Rattle.pi_types.specs.Tree.{Tree}
-use Rattle.pi_types.specs.State.{State}
-use Rattle.pi_engine.specs.declared.arenas.Kind.{Kind}
-use Rattle.pi_engine.specs.Blocks.{IsKept, IsOlder, brought_back}
 use Rattle.pi_engine.specs.Arenas.{Entry, entry_at, slots_kept_by, frames_kept_by, noted_by}
 use Rattle.pi_engine.specs.Configuration.{Entry as EntryData}
-use Rattle.pi_engine.specs.Here.{Here}
-use Rattle.pi_engine.specs.Stands.{World, Loaded, entries_of, EntryIs, IsAbove, StackIs, no_entries, entry_above}
+use Rattle.pi_engine.specs.Stands.{World, entries_of, IsAbove, StackIs, no_entries, entry_above}
 use Rattle.pi_engine.proofs.StandsLemmas.{last-or-below}
 use Rattle.pi_engine.proofs.OptionLemmas.{same-some}
 

@@ -1,5 +1,5 @@
 -- `once`, `not` and `if` whose goal has an answer.
-use Rattle.std.proofs.Common.{◌≡◌, ℕ, zero, suc, ◌+◌, ◌-◌, ◌≤◌, ◌<◌, Bool, true, false, List, [], ◌∷◌, Option, Some, None, length, take, drop, refl, sym, ◌∙◌, ap, subst, arith}
+use Rattle.std.proofs.Common.{◌≡◌, ℕ, zero, suc, ◌-◌, ◌≤◌, ◌<◌, List, [], Option, Some, None, length, refl, sym, ◌∙◌, ap, subst, arith}
 use Rattle.std.specs.Prelude.{slice_get}
 use Rattle.std.proofs.lemmas.Option.{slice_get_within}
 use Rattle.pi_types.specs.CoreTree.{PredTree}
@@ -8,7 +8,7 @@ use Rattle.pi_types.specs.Places.{Places}
 use Rattle.pi_types.specs.State.{State}
 use Rattle.pi_types.specs.Store.{StoreView}
 use Rattle.pi_types.specs.View.{View}
-use Rattle.pi_types.specs.GoalTree.{GoalTree, GoalTrees, no_goals, goal, once, not, if_else, child_count}
+use Rattle.pi_types.specs.GoalTree.{GoalTree, no_goals, goal, once, not, if_else, child_count}
 use Rattle.pi_types.specs.declared.core_program.NameSlot.{NameSlot}
 use Rattle.pi_engine.specs.declared.frames.Point.{Point}
 use Rattle.pi_engine.specs.declared.run.Now.{Now}
@@ -18,11 +18,11 @@ use Rattle.pi_engine.specs.declared.arenas.Strict.{Strict as StrictKind}
 use Rattle.pi_engine.specs.declared.code.Code.{Code}
 use Rattle.pi_engine.specs.Code.{tables_of, StandsAt, child_place}
 use Rattle.pi_engine.specs.Arenas.{Entry, ArenasView, entry_at, LeavesLevel, IsLevel}
-use Rattle.pi_engine.specs.Configuration.{Frame, Entry as EntryData, Config, config, going, failed, catch_level, Strict, strict, once_level, not_level, if_level, Back as BackData}
-use Rattle.pi_engine.specs.Step.{Outcome, silently, step, strict_step, answer_step, newest_open, Open, strict_open}
+use Rattle.pi_engine.specs.Configuration.{Frame, Entry as EntryData, Config, config, going, catch_level, Strict, strict, Back as BackData}
+use Rattle.pi_engine.specs.Step.{silently, step, strict_step, answer_step, newest_open, Open, strict_open}
 use Rattle.pi_engine.specs.Shape.{open_level, IsBalanced}
-use Rattle.pi_engine.specs.Here.{Here, Block, block_end, in_block, Holds, GoesOn}
-use Rattle.pi_engine.specs.Stands.{tables_in, World, Loaded, steps_of, entries_of, level_ends, back_here, now_here, agrees_from, Agrees, block_at, entry_ends, ends_of, KindIs, once_kind, not_kind, if_kind, guard_kind, apply_kind, collect_kind, count_kind, catch_kind, GoalStands, EntryIs, StackIs, StackStands, Stands, going_now, failing_now, StandsGoing, GoingIs}
+use Rattle.pi_engine.specs.Here.{Here, Block, in_block, Holds}
+use Rattle.pi_engine.specs.Stands.{World, Loaded, steps_of, entries_of, level_ends, back_here, now_here, agrees_from, Agrees, block_at, entry_ends, ends_of, KindIs, once_kind, not_kind, if_kind, guard_kind, apply_kind, collect_kind, count_kind, catch_kind, GoalStands, EntryIs, StackIs, StackStands, Stands, going_now, failing_now, StandsGoing, GoingIs}
 use Rattle.pi_engine.specs.Makes.{SilentlyTo, already, one_more}
 use Rattle.pi_engine.proofs.FramesStand.{going-of}
 use Rattle.pi_engine.proofs.StandsLemmas.{moved}

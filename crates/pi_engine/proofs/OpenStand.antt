@@ -1,23 +1,21 @@
 -- The newest open level among the entries, and what its entry is.
-use Rattle.std.proofs.Common.{◌≡◌, ℕ, zero, suc, ◌+◌, ◌≤◌, ◌<◌, min, List, [], ◌∷◌, Option, Some, None, length, take, drop, refl, sym, ◌∙◌, ap, subst, arith}
+use Rattle.std.proofs.Common.{◌≡◌, ℕ, zero, suc, ◌≤◌, List, [], ◌∷◌, Some, length, take, drop, sym, ◌∙◌, ap, subst, arith}
 use Rattle.std.specs.Prelude.{slice_get}
 use Rattle.std.proofs.lemmas.List.{length-take}
 use Rattle.pi_types.specs.Tree.{Tree}
 use Rattle.pi_types.specs.State.{State}
 use Rattle.pi_types.specs.GoalTree.{GoalTree}
 use Rattle.pi_engine.specs.declared.arenas.Kind.{Kind}
-use Rattle.pi_engine.specs.declared.code.Step.{Step}
-use Rattle.pi_engine.specs.Blocks.{IsKept, brought_back, slots_before}
-use Rattle.pi_engine.specs.Arenas.{Entry, entry_at, slots_kept_by, newest}
+use Rattle.pi_engine.specs.Arenas.{Entry, entry_at, slots_kept_by}
 use Rattle.pi_engine.specs.Configuration.{Entry as EntryData, choice, strict, catch_level, left, Choice, Strict, Back}
 use Rattle.pi_engine.specs.Step.{Open, none_open, strict_open, catch_open, beneath, newest_open}
 use Rattle.pi_engine.specs.Shape.{open_level, IsBalanced}
 use Rattle.pi_engine.specs.Here.{Here, block_end}
-use Rattle.pi_engine.specs.Stands.{World, Loaded, steps_of, entries_of, back_here, KindIs, rules_kind, branches_kind, once_kind, not_kind, if_kind, guard_kind, apply_kind, collect_kind, count_kind, catch_kind, exit_kind, block_at, shape_of, EntryIs, IsAbove, StackIs, no_entries, entry_above, StackStands}
+use Rattle.pi_engine.specs.Stands.{World, Loaded, steps_of, entries_of, back_here, KindIs, rules_kind, branches_kind, once_kind, not_kind, if_kind, guard_kind, apply_kind, collect_kind, count_kind, catch_kind, exit_kind, block_at, EntryIs, StackIs, no_entries, entry_above, StackStands}
 use Rattle.pi_engine.proofs.BlocksLemmas.{length-slots_before, brought_back-is}
 use Rattle.pi_engine.proofs.StandsLemmas.{stack-length, open_level-within}
 use Rattle.pi_engine.proofs.BasesStand.{shape-base}
-use Rattle.pi_engine.proofs.OlderStand.{kept-by-newest, KeptBy}
+use Rattle.pi_engine.proofs.OlderStand.{kept-by-newest}
 
 -- the newest open level of a stack, with the entry that it is
 pub data OpenIs {M : Type 0} (w : World M) : Open → ℕ → Type 0 where

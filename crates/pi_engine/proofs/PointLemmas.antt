@@ -1,5 +1,5 @@
 -- The goals at a point, and what is left behind the first of them.
-use Rattle.std.proofs.Common.{◌≡◌, ◌≢◌, ◌⊎◌, inl, inr, ℕ, zero, suc, ◌+◌, ◌-◌, ◌^◌, ◌≤◌, ◌<◌, Bool, true, false, List, [], ◌∷◌, ◌++◌, Option, Some, None, length, take, drop, refl, sym, ◌∙◌, ap, subst, arith}
+use Rattle.std.proofs.Common.{◌≡◌, ◌≢◌, ◌⊎◌, inl, inr, ℕ, zero, suc, ◌+◌, ◌-◌, ◌^◌, ◌≤◌, ◌<◌, Bool, true, false, List, [], ◌∷◌, ◌++◌, Option, Some, None, length, refl, sym, ◌∙◌, ap, subst, arith}
 use Rattle.std.specs.Prelude.{slice_get}
 use Rattle.pi_types.specs.Tree.{Tree}
 use Rattle.pi_types.specs.GoalTree.{GoalTree, GoalTrees, no_goals, goal, nodes}
@@ -10,8 +10,8 @@ use Rattle.pi_engine.specs.declared.frames.Point.{Point}
 use Rattle.pi_types.proofs.GetLemmas.{get_append_left, get_append_last}
 use Rattle.pi_engine.specs.Frames.{frame_at, point_behind, PushesBehind}
 use Rattle.pi_engine.specs.Configuration.{Frame, behind}
-use Rattle.pi_engine.specs.Here.{Block, IsHere, AreHere, none_here, value_here, last_here, more_here, Here, valued, LeftBehind, GoesOn, answers, gives, returns_to_end, more_of_block, returns_to}
-use Rattle.pi_engine.proofs.HereLemmas.{FramesStay, Moves, goes_on-moves}
+use Rattle.pi_engine.specs.Here.{Block, IsHere, AreHere, none_here, last_here, more_here, Here, valued, LeftBehind, GoesOn, answers, gives, returns_to_end, more_of_block, returns_to}
+use Rattle.pi_engine.proofs.HereLemmas.{FramesStay, goes_on-moves}
 use Rattle.pi_engine.proofs.CodeLemmas.{size-shown, stands-first}
 
 frame-within : (fs : List Point) (n : ℕ) (p : Point) → frame_at fs n ≡ Some p → n ≤ length fs

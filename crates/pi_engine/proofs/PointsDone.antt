@@ -1,5 +1,5 @@
 -- Points whose goals are done, and where a run goes from there.
-use Rattle.std.proofs.Common.{◌≡◌, ◌≢◌, ℕ, zero, ◌<◌, Bool, List, [], ◌∷◌, ◌++◌, Option, Some, None, refl, sym, ◌∙◌, ap, subst, arith}
+use Rattle.std.proofs.Common.{◌≡◌, ◌≢◌, ℕ, ◌<◌, Bool, List, [], ◌∷◌, Option, Some, None, refl, sym, ◌∙◌, ap, subst, arith}
 use Rattle.std.specs.Prelude.{slice_get, Result, Ok, Err}
 use Rattle.pi_types.specs.Tree.{Tree}
 use Rattle.pi_types.specs.Places.{Places}
@@ -7,7 +7,7 @@ use Rattle.pi_types.specs.View.{View}
 use Rattle.pi_types.specs.CoreTree.{PredTree}
 use Rattle.pi_types.specs.Trace.{Raise, answered}
 use Rattle.pi_types.specs.Run.{Solution}
-use Rattle.pi_types.specs.GoalTree.{GoalTree, GoalTrees, no_goals, goal}
+use Rattle.pi_types.specs.GoalTree.{GoalTrees, no_goals, goal}
 use Rattle.pi_types.specs.declared.core_program.NameSlot.{NameSlot}
 use Rattle.pi_types.specs.declared.answer.Answer.{Answer}
 use Rattle.pi_types.proofs.GetLemmas.{get_some}
@@ -23,16 +23,16 @@ use Rattle.pi_engine.specs.declared.run.Now.{Now}
 use Rattle.pi_engine.specs.Code.{Tables}
 use Rattle.pi_engine.specs.Frames.{frame_at}
 use Rattle.pi_engine.specs.Configuration.{Frame, Config, config, going, failed, raising, Now as NowData, Entry as EntryData}
-use Rattle.pi_engine.specs.Step.{silently, answering, ending, raise_step, step}
+use Rattle.pi_engine.specs.Step.{ending, raise_step, step}
 use Rattle.pi_engine.specs.Shape.{IsGood}
 use Rattle.pi_engine.specs.Built.{AreOfRules}
 use Rattle.pi_engine.specs.Leads.{Leads, IsAtEnd}
 use Rattle.pi_engine.specs.Here.{Block, Here, AreHere, none_here, value_here, last_here, more_here, GoesOn, answers, gives, returns_to_end, more_of_block, returns_to}
-use Rattle.pi_engine.specs.Stands.{tables_in, World, steps_of, NowIs, going_now, failing_now, raising_now, StackStands, Stands, StandsGoing, GoingIs}
+use Rattle.pi_engine.specs.Stands.{tables_in, World, steps_of, NowIs, going_now, StackStands, Stands, StandsGoing, GoingIs}
 use Rattle.pi_engine.specs.Makes.{SilentlyTo, already, one_more, GoesFrom, AnswersOpen}
 use Rattle.pi_engine.specs.Answers.{AreNames, IsTold, AnswersQuery}
 use Rattle.pi_engine.specs.Next.{Tells}
-use Rattle.pi_engine.specs.Goes.{IsOther, IsAt, Goes, IsSpent, TicksOn, AtGoal, IsSilent, PointIsDone}
+use Rattle.pi_engine.specs.Goes.{IsOther, Goes, IsSpent, TicksOn, AtGoal, IsSilent, PointIsDone}
 use Rattle.pi_engine.proofs.CodeLemmas.{stands-within}
 use Rattle.pi_engine.proofs.PointLemmas.{first-of}
 use Rattle.pi_engine.proofs.FramesStand.{going-of}

@@ -1,5 +1,5 @@
 -- An exception on its way: entries that it drops, and the catches that were left.
-use Rattle.std.proofs.Common.{◌≡◌, ℕ, zero, suc, ◌+◌, ◌-◌, ◌≤◌, ◌<◌, List, [], ◌∷◌, ◌++◌, Option, Some, None, length, take, drop, refl, sym, ◌∙◌, ap, subst, arith}
+use Rattle.std.proofs.Common.{◌≡◌, ℕ, zero, suc, ◌-◌, ◌≤◌, List, [], ◌∷◌, Some, length, take, refl, sym, ◌∙◌, ap, subst, arith}
 use Rattle.std.specs.Prelude.{slice_get}
 use Rattle.std.proofs.lemmas.List.{length-take, take_all, length-take-le}
 use Rattle.std.proofs.lemmas.Option.{slice_get_within}
@@ -10,17 +10,17 @@ use Rattle.pi_engine.specs.declared.arenas.Back.{Back}
 use Rattle.pi_engine.specs.declared.arenas.Kind.{Kind}
 use Rattle.pi_engine.specs.declared.run.Now.{Now}
 use Rattle.pi_engine.specs.declared.run.End.{End as RunEnd}
-use Rattle.pi_engine.specs.Arenas.{Entry, ArenasView, entry_at, newest, slots_kept_by, frames_kept_by, Drops, LeavesLevel, with_collected}
+use Rattle.pi_engine.specs.Arenas.{Entry, ArenasView, entry_at, newest, slots_kept_by, LeavesLevel, with_collected}
 use Rattle.pi_engine.specs.Configuration.{Entry as EntryData, choice, strict, catch_level, left, Back as BackData, config, raising}
-use Rattle.pi_engine.specs.Step.{silently, raise_step, below_left, Open, none_open, strict_open, catch_open, newest_open}
+use Rattle.pi_engine.specs.Step.{silently, raise_step, below_left, Open, none_open, strict_open, newest_open}
 use Rattle.pi_engine.specs.Shape.{open_level, IsBalanced}
 use Rattle.pi_engine.specs.Here.{Here}
-use Rattle.pi_engine.specs.Stands.{World, Loaded, entries_of, back_here, KindIs, rules_kind, branches_kind, once_kind, not_kind, if_kind, guard_kind, apply_kind, collect_kind, count_kind, catch_kind, exit_kind, EntryIs, IsAbove, StackIs, no_entries, entry_above, StackStands, Stands, raising_now}
+use Rattle.pi_engine.specs.Stands.{World, Loaded, entries_of, back_here, KindIs, rules_kind, branches_kind, once_kind, not_kind, if_kind, guard_kind, apply_kind, collect_kind, count_kind, catch_kind, exit_kind, IsAbove, StackIs, no_entries, entry_above, StackStands, raising_now}
 use Rattle.pi_engine.specs.Raises.{IsDropped, collected_below}
 use Rattle.pi_engine.specs.Fails.{ComesTo}
 use Rattle.pi_engine.proofs.ListLemmas.{take-take}
 use Rattle.pi_engine.proofs.OptionLemmas.{none-some, one-some, taken-is}
-use Rattle.pi_engine.proofs.StandsLemmas.{moved, Leaves, stack-moves, stack-length, kind-order, open_level-within}
+use Rattle.pi_engine.proofs.StandsLemmas.{moved, Leaves, stack-moves, kind-order}
 use Rattle.pi_engine.proofs.LeaveStand.{above-frames, drops-leave}
 use Rattle.pi_engine.proofs.OpenStand.{OpenAt, nothing_at, strict_at, catch_at, open-at}
 use Rattle.pi_engine.proofs.EndSteps.{IsMatched, left-matched}

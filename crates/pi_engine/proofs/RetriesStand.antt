@@ -1,23 +1,22 @@
 -- Rules that are tried again, where the newest entry is the call's.
-use Rattle.std.proofs.Common.{◌≡◌, ℕ, zero, suc, ◌+◌, ◌-◌, ◌≤◌, ◌<◌, min, true, List, [], ◌∷◌, Option, Some, None, length, take, drop, refl, sym, ◌∙◌, ap, subst, arith}
+use Rattle.std.proofs.Common.{◌≡◌, ℕ, ◌+◌, ◌-◌, ◌≤◌, ◌<◌, min, true, List, [], ◌∷◌, Some, length, drop, refl, sym, ◌∙◌, ap, subst, arith}
 use Rattle.std.specs.Prelude.{slice_get}
 use Rattle.std.proofs.lemmas.List.{length-drop, drop-drop}
 use Rattle.pi_types.specs.Tree.{Tree}
 use Rattle.pi_types.specs.State.{State}
-use Rattle.pi_types.specs.CoreTree.{ClauseTree, PredTree}
+use Rattle.pi_types.specs.CoreTree.{ClauseTree}
 use Rattle.pi_engine.specs.declared.arenas.Back.{Back}
 use Rattle.pi_engine.specs.declared.arenas.Kind.{Kind}
 use Rattle.pi_engine.specs.declared.arenas.Strict.{Strict as StrictKind}
 use Rattle.pi_engine.specs.declared.code.Predicate.{Predicate}
 use Rattle.pi_engine.specs.declared.run.Now.{Now}
 use Rattle.pi_engine.specs.declared.steps.rules.Call.{Call}
-use Rattle.pi_engine.specs.Arenas.{Entry, entry_at, newest, slots_kept_by}
+use Rattle.pi_engine.specs.Arenas.{Entry, entry_at, slots_kept_by}
 use Rattle.pi_engine.specs.Configuration.{Frame, Called, Entry as EntryData, choice, rules_left, Strict, strict, guard_level, Back as BackData}
-use Rattle.pi_engine.specs.Step.{silently, try_rules, back_to, choice_step, end_step, fail_step}
-use Rattle.pi_engine.specs.Shape.{open_level}
+use Rattle.pi_engine.specs.Step.{silently, try_rules, back_to, end_step, fail_step}
 use Rattle.pi_engine.specs.Here.{Here, HoldsArguments, GoesOn}
-use Rattle.pi_engine.specs.Stands.{World, Loaded, tables_in, steps_of, entries_of, now_here, back_here, level_ends, Agrees, agrees_from, Extend, IsPredicateOf, IsCall, CallStands, KindIs, rules_kind, branches_kind, once_kind, not_kind, if_kind, guard_kind, apply_kind, collect_kind, count_kind, catch_kind, exit_kind, EntryIs, StackIs, Stands}
-use Rattle.pi_engine.specs.Tries.{RulesLeft, CallGoes, OwnEntry, own_entry, CallIs, TriesRules}
+use Rattle.pi_engine.specs.Stands.{World, Loaded, tables_in, steps_of, entries_of, now_here, back_here, agrees_from, IsPredicateOf, IsCall, CallStands, KindIs, rules_kind, branches_kind, once_kind, not_kind, if_kind, guard_kind, apply_kind, collect_kind, count_kind, catch_kind, exit_kind, EntryIs, StackIs, Stands}
+use Rattle.pi_engine.specs.Tries.{own_entry, CallIs, TriesRules}
 use Rattle.pi_engine.specs.Fails.{ComesTo, IsBack}
 use Rattle.pi_engine.proofs.ListLemmas.{take-take}
 use Rattle.pi_engine.proofs.OptionLemmas.{one-some}

@@ -1,28 +1,27 @@
 -- A rule that is taken.
-use Rattle.std.proofs.Common.{◌≡◌, ◌⊎◌, inl, inr, ℕ, zero, suc, ◌+◌, ◌-◌, ◌≤◌, ◌<◌, Bool, true, false, List, [], ◌∷◌, ◌++◌, Option, Some, None, length, take, drop, refl, sym, ◌∙◌, ap, subst, arith}
+use Rattle.std.proofs.Common.{◌≡◌, ◌⊎◌, inl, inr, ℕ, ◌+◌, ◌-◌, ◌≤◌, ◌<◌, Bool, true, false, List, [], ◌∷◌, Option, Some, length, drop, refl, sym, ◌∙◌, ap, subst, arith}
 use Rattle.std.specs.Prelude.{slice_get}
 use Rattle.std.proofs.lemmas.List.{length-drop, drop-drop, length-take-le}
 use Rattle.pi_types.specs.Places.{Places}
 use Rattle.pi_types.specs.Store.{StoreView}
 use Rattle.pi_types.specs.State.{State, IsState}
 use Rattle.pi_types.specs.GoalTree.{no_goals, goal}
-use Rattle.pi_types.specs.CoreTree.{ClauseTree, PredTree}
+use Rattle.pi_types.specs.CoreTree.{ClauseTree}
 use Rattle.pi_engine.specs.declared.arenas.Kind.{Kind}
 use Rattle.pi_engine.specs.declared.frames.Point.{Point}
 use Rattle.pi_engine.specs.declared.code.Rule.{Rule}
 use Rattle.pi_engine.specs.declared.code.Predicate.{Predicate}
 use Rattle.pi_engine.specs.declared.run.Now.{Now}
-use Rattle.pi_engine.specs.Arenas.{Entry, ArenasView, entry_at, newest, slots_kept_by}
-use Rattle.pi_engine.specs.Configuration.{Frame, Called, rules_left, choice, config, after_body, leaves_others, Now as NowData, going, Entry as EntryData}
+use Rattle.pi_engine.specs.Arenas.{ArenasView, newest, slots_kept_by}
+use Rattle.pi_engine.specs.Configuration.{Frame, Called, rules_left, choice, config, after_body, leaves_others, going, Entry as EntryData}
 use Rattle.pi_engine.specs.Step.{run_goal, back_to, later_rules, taken}
 use Rattle.pi_engine.specs.Shape.{open_level}
 use Rattle.pi_engine.specs.Here.{Here}
-use Rattle.pi_engine.specs.Stands.{World, Loaded, tables_in, entries_of, now_here, IsCodeOf, IsPredicateOf, IsCall, CallStands, KindIs, rules_kind, StackIs, StackStands, Stands, NowIs, going_now, GoingIs}
+use Rattle.pi_engine.specs.Stands.{World, Loaded, tables_in, entries_of, IsCodeOf, IsPredicateOf, IsCall, CallStands, KindIs, rules_kind, StackIs, Stands, NowIs, going_now}
 use Rattle.pi_engine.specs.Tries.{RulesLeft, OwnEntry, HasEntry, no_entry, own_entry, CallIs, KeepsCall, Applies}
-use Rattle.pi_engine.proofs.ListLemmas.{take-take}
 use Rattle.pi_engine.proofs.ProgramStands.{code-keeps}
-use Rattle.pi_engine.proofs.StandsLemmas.{moved, stack-moves, stack-length, open_level-within}
-use Rattle.pi_engine.proofs.CallsStand.{Passes, keeps-terms, body-goes, BelowCall, below-call}
+use Rattle.pi_engine.proofs.StandsLemmas.{moved, stack-moves}
+use Rattle.pi_engine.proofs.CallsStand.{Passes, keeps-terms, body-goes}
 use Rattle.pi_engine.proofs.CallEntries.{Drops, drops-leave, drops-pass, same-stays}
 use Rattle.pi_engine.proofs.CallKept.{CallKept, Makes, call-kept}
 

@@ -1,5 +1,5 @@
 -- The rules of a call, tried from one on.
-use Rattle.std.proofs.Common.{◌≡◌, ℕ, zero, suc, ◌+◌, ◌-◌, ◌≤◌, ◌<◌, Bool, true, false, List, [], ◌∷◌, Option, Some, None, length, take, drop, refl, sym, ◌∙◌, ap, subst, arith}
+use Rattle.std.proofs.Common.{◌≡◌, ℕ, ◌+◌, ◌-◌, ◌≤◌, ◌<◌, Bool, true, false, List, [], ◌∷◌, Option, Some, None, length, refl, sym, ◌∙◌, ap, subst, arith}
 use Rattle.std.specs.Prelude.{slice_get, replicate}
 use Rattle.std.proofs.lemmas.List.{length-drop}
 use Rattle.pi_types.specs.Places.{Places}
@@ -8,19 +8,18 @@ use Rattle.pi_types.specs.HeadMatch.{matched_all_in}
 use Rattle.pi_types.specs.Store.{StoreView, Terms}
 use Rattle.pi_types.specs.declared.store.Ref.{Ref}
 use Rattle.pi_types.specs.GoalTree.{GoalTree, truth}
-use Rattle.pi_types.specs.CoreTree.{ClauseTree, PredTree}
+use Rattle.pi_types.specs.CoreTree.{ClauseTree}
 use Rattle.pi_engine.specs.declared.code.Rule.{Rule}
 use Rattle.pi_engine.specs.declared.code.Step.{Step}
 use Rattle.pi_engine.specs.declared.code.Predicate.{Predicate}
 use Rattle.pi_engine.specs.declared.run.Now.{Now}
 use Rattle.pi_engine.specs.Code.{Tables}
 use Rattle.pi_engine.specs.Arenas.{ArenasView}
-use Rattle.pi_engine.specs.Configuration.{Frame, Called, Config, config, failed, Entry as EntryData}
+use Rattle.pi_engine.specs.Configuration.{Frame, Called, Config, Entry as EntryData}
 use Rattle.pi_engine.specs.Step.{try_rules, tried, guarding, taken, back_to}
 use Rattle.pi_engine.specs.Here.{Block, Holds}
 use Rattle.pi_engine.specs.Stands.{World, now_here, tables_in, IsGuardHere, IsPredicateOf, clause_block, Stands}
-use Rattle.pi_engine.specs.Tries.{RulesLeft, CallIs, Applies, KeepsBelow, TellsHead, HasArguments, MatchesHead}
-use Rattle.pi_engine.proofs.HereLemmas.{held-extends, part-agrees}
+use Rattle.pi_engine.specs.Tries.{CallIs, Applies, KeepsBelow, TellsHead, HasArguments, MatchesHead}
 use Rattle.pi_engine.proofs.StandsLemmas.{moved}
 use Rattle.pi_engine.proofs.RulesTaken.{predicate-of, StackAfter}
 use Rattle.pi_engine.proofs.CallsStand.{arguments-move}

@@ -1,11 +1,11 @@
 -- What a call of `next` comes to, for those that use the machine.
-use Rattle.std.proofs.Common.{◌≡◌, ◌⊎◌, inl, inr, ℕ, zero, suc, ◌+◌, ◌≤◌, ◌<◌, List, [], ◌∷◌, ◌++◌, refl, sym, ◌∙◌, ap, subst, arith}
-use Rattle.std.specs.Prelude.{⊤, Contains}
+use Rattle.std.proofs.Common.{◌≡◌, ◌⊎◌, inl, inr, ℕ, zero, suc, ◌+◌, ◌<◌, List, [], ◌∷◌, ◌++◌, refl, ◌∙◌, ap, subst, arith}
+use Rattle.std.specs.Prelude.{Contains}
 use Rattle.pi_types.specs.Store.{StoreView}
 use Rattle.pi_types.specs.View.{View}
 use Rattle.pi_types.specs.CoreTree.{PredTree, QueryTree}
-use Rattle.pi_types.specs.Depth.{Cut, Ended, Spent, with_events}
-use Rattle.pi_types.specs.Trace.{Trace, End, Done, Raise, Tick, Load, Out, Emitted, noted, answered, count_ticks}
+use Rattle.pi_types.specs.Depth.{Cut, Spent, with_events}
+use Rattle.pi_types.specs.Trace.{End, Done, Raise, Tick, Load, Out, Emitted, noted, answered, count_ticks}
 use Rattle.pi_types.specs.Run.{Solution, IsRunUnder}
 use Rattle.pi_types.specs.Sound.{IsSoundQuery}
 use Rattle.pi_types.specs.declared.core_program.NameSlot.{NameSlot}
@@ -19,12 +19,12 @@ use Rattle.pi_engine.specs.Answers.{AreNames}
 use Rattle.pi_engine.specs.Begins.{Begins}
 use Rattle.pi_engine.specs.Built.{AreOfRules}
 use Rattle.pi_engine.specs.Configuration.{Config}
-use Rattle.pi_engine.specs.Goes.{counted, HasNone, IsAt, IsSpent, IsIn}
+use Rattle.pi_engine.specs.Goes.{counted, HasNone, IsSpent, IsIn}
 use Rattle.pi_engine.specs.Leads.{Leads, IsAtEnd, IsAtTick}
-use Rattle.pi_engine.specs.Next.{some_ticks, NextIs}
-use Rattle.pi_engine.specs.Runs.{MachineView, loaded_as, run_of, RunsTo, EndsWith, ToldBy, Happens}
+use Rattle.pi_engine.specs.Next.{some_ticks}
+use Rattle.pi_engine.specs.Runs.{MachineView, loaded_as, run_of, RunsTo, EndsWith, Happens}
 use Rattle.pi_engine.specs.Step.{start}
-use Rattle.pi_engine.specs.Turns.{IsRunning, FitsMode, NextComes, Lasts}
+use Rattle.pi_engine.specs.Turns.{FitsMode, NextComes, Lasts}
 use Rattle.pi_engine.specs.Stands.{World, Stands}
 use Rattle.pi_engine.proofs.GoalsGo.{no-end, is-at}
 use Rattle.pi_engine.proofs.LeadLemmas.{leads-none, leads-on, start-good}

@@ -1,5 +1,5 @@
 -- A sequence that is entered.
-use Rattle.std.proofs.Common.{◌≡◌, ℕ, ◌+◌, ◌^◌, ◌<◌, min, List, Option, Some, refl, sym, ◌∙◌, ap, subst, arith}
+use Rattle.std.proofs.Common.{◌≡◌, ℕ, ◌+◌, ◌^◌, ◌<◌, min, List, Some, sym, ◌∙◌, ap, subst, arith}
 use Rattle.std.specs.Prelude.{slice_get}
 use Rattle.pi_types.specs.Places.{Places}
 use Rattle.pi_types.specs.View.{View}
@@ -12,7 +12,7 @@ use Rattle.pi_engine.specs.declared.code.Node.{Node}
 use Rattle.pi_engine.specs.declared.run.Now.{Now}
 use Rattle.pi_engine.specs.Code.{node_kind}
 use Rattle.pi_engine.specs.Frames.{PushesBehind}
-use Rattle.pi_engine.specs.Configuration.{Frame, behind, Entry as EntryData}
+use Rattle.pi_engine.specs.Configuration.{Frame, Entry as EntryData}
 use Rattle.pi_engine.specs.Step.{goal_step}
 use Rattle.pi_engine.specs.Stands.{tables_in, World, steps_of, StandsGoing, GoingIs}
 use Rattle.pi_engine.specs.Makes.{StandsAfter}

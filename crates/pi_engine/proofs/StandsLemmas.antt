@@ -1,9 +1,8 @@
 -- What the entries stand for, where the store and the arenas change behind them.
-use Rattle.std.proofs.Common.{◌≡◌, ◌⊎◌, inl, inr, ℕ, zero, suc, ◌+◌, ◌-◌, ◌≤◌, ◌<◌, Bool, true, false, List, [], ◌∷◌, Option, Some, None, length, take, drop, refl, sym, ◌∙◌, ap, subst, arith}
+use Rattle.std.proofs.Common.{◌≡◌, ◌⊎◌, inl, inr, ℕ, zero, suc, ◌-◌, ◌≤◌, ◌<◌, List, [], ◌∷◌, Option, Some, None, length, take, drop, refl, sym, ◌∙◌, ap, subst, arith}
 use Rattle.std.specs.Prelude.{slice_get}
-use Rattle.std.proofs.lemmas.List.{drop-take}
 use Rattle.pi_types.specs.Tree.{Tree}
-use Rattle.pi_types.specs.Store.{StoreView, Moment, IsGood, Terms}
+use Rattle.pi_types.specs.Store.{StoreView, IsGood, Terms}
 use Rattle.pi_types.specs.State.{State, IsState}
 use Rattle.pi_types.specs.declared.store.Ref.{Ref}
 use Rattle.pi_engine.specs.declared.arenas.Kind.{Kind}
@@ -13,7 +12,7 @@ use Rattle.pi_engine.specs.Arenas.{Entry, ArenasView, entry_at}
 use Rattle.pi_engine.specs.Configuration.{Entry as EntryData, choice, strict, catch_level, left, list_level}
 use Rattle.pi_engine.specs.Shape.{open_level}
 use Rattle.pi_engine.specs.Here.{Here, Ends}
-use Rattle.pi_engine.specs.Stands.{tables_in, World, entries_of, entry_ends, level_ends, back_here, Agrees, agrees_from, values_between, KindIs, rules_kind, branches_kind, once_kind, not_kind, if_kind, guard_kind, apply_kind, collect_kind, count_kind, catch_kind, exit_kind, EntryIs, IsAbove, StackIs, no_entries, entry_above, Loaded, Extend}
+use Rattle.pi_engine.specs.Stands.{World, entries_of, entry_ends, level_ends, back_here, Agrees, agrees_from, KindIs, rules_kind, branches_kind, once_kind, not_kind, if_kind, guard_kind, apply_kind, collect_kind, count_kind, catch_kind, exit_kind, EntryIs, IsAbove, StackIs, no_entries, entry_above, Loaded, Extend}
 use Rattle.pi_engine.proofs.HereLemmas.{part-agrees, take-agrees}
 
 -- the same run with another store and other arenas

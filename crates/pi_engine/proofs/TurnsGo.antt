@@ -1,6 +1,5 @@
 -- What each step of the code is to a run: the Ticks that it counts, its answer, and where the run is then.
-use Rattle.std.proofs.Common.{Box, Global, ◌≡◌, ◌≢◌, ℕ, ◌+◌, ◌-◌, ◌≤◌, List, [], ◌∷◌, ◌++◌, refl, sym, ◌∙◌, ap, subst, append_assoc, arith}
-use Rattle.std.specs.Prelude.{⊤}
+use Rattle.std.proofs.Common.{Box, Global, ◌≡◌, ℕ, ◌+◌, List, [], ◌∷◌, ◌++◌, refl, sym, ◌∙◌, ap, subst, append_assoc, arith}
 use Rattle.std.proofs.lemmas.List.{replicate-append-replicate}
 use Rattle.pi_types.specs.Tree.{Tree}
 use Rattle.pi_types.specs.View.{View}
@@ -16,16 +15,16 @@ use Rattle.pi_engine.specs.declared.run.Now.{Now}
 use Rattle.pi_engine.specs.declared.turns.Outcome.{Outcome as CodeOutcome}
 use Rattle.pi_engine.specs.Budget.{Counts}
 use Rattle.pi_engine.specs.Built.{AreOfRules}
-use Rattle.pi_engine.specs.Configuration.{Config, config, failed, raising, Now as NowData, Entry as EntryData}
+use Rattle.pi_engine.specs.Configuration.{Config, config, failed, raising, Now as NowData}
 use Rattle.pi_engine.specs.Fails.{IsEnded, ComesTo, Fails}
 use Rattle.pi_engine.specs.Raises.{Raises}
 use Rattle.pi_engine.specs.Goes.{counted, IsAt, Goes, IsSpent, TicksOn, IsIn}
-use Rattle.pi_engine.specs.Leads.{Leads, IsAtEnd}
+use Rattle.pi_engine.specs.Leads.{Leads}
 use Rattle.pi_engine.specs.Next.{Tells, some_ticks}
 use Rattle.pi_engine.specs.Shape.{IsGood}
-use Rattle.pi_engine.specs.Stands.{World, NowIs, going_now, failing_now, raising_now, StackStands, Stands}
+use Rattle.pi_engine.specs.Stands.{World, NowIs, going_now, failing_now, raising_now, Stands}
 use Rattle.pi_engine.specs.Step.{Outcome, silently, with_tick, quietly, answering, ending, fail_step, raise_step, step}
-use Rattle.pi_engine.specs.Turns.{OutcomeIs, StepIs}
+use Rattle.pi_engine.specs.Turns.{StepIs}
 use Rattle.pi_engine.proofs.GoalsGo.{is-at, none-counted, unspent, silent-goes}
 use Rattle.pi_engine.proofs.LeadLemmas.{leads-none, leads-on, step-ends}
 use Rattle.pi_engine.proofs.PointsDone.{GoesSilently}

@@ -1,5 +1,5 @@
 -- The level of a function's call has its value: it is left, and the value goes into the caller's slot.
-use Rattle.std.proofs.Common.{◌≡◌, ℕ, zero, suc, ◌-◌, ◌≤◌, ◌<◌, List, [], ◌∷◌, Option, Some, None, length, refl, sym, ◌∙◌, ap, subst, arith}
+use Rattle.std.proofs.Common.{◌≡◌, ℕ, zero, suc, ◌-◌, ◌≤◌, List, [], ◌∷◌, Some, length, refl, sym, ◌∙◌, ap, subst, arith}
 use Rattle.std.specs.Prelude.{slice_get, slice_set}
 use Rattle.std.proofs.lemmas.Option.{slice_get_within}
 use Rattle.pi_types.specs.Tree.{Tree, comp}
@@ -23,14 +23,13 @@ use Rattle.pi_engine.specs.Configuration.{Frame, Entry as EntryData, Config, con
 use Rattle.pi_engine.specs.Step.{strict_step}
 use Rattle.pi_engine.specs.Shape.{IsBalanced}
 use Rattle.pi_engine.specs.Here.{Block, block_end, Holds}
-use Rattle.pi_engine.specs.Stands.{World, tables_in, steps_of, entries_of, back_here, now_here, block_at, agrees_from, Agrees, GoalStands, EntryIs, StackIs, StackStands, Stands}
+use Rattle.pi_engine.specs.Stands.{World, entries_of, back_here, now_here, block_at, agrees_from, Agrees, GoalStands, EntryIs, StackIs, StackStands, Stands}
 use Rattle.pi_engine.specs.Evaluates.{slot_number, with_blocks}
 use Rattle.pi_engine.specs.Gives.{without_call}
 use Rattle.pi_engine.specs.Makes.{SilentlyTo, already, one_more}
-use Rattle.pi_engine.proofs.OptionLemmas.{none-some, one-some}
+use Rattle.pi_engine.proofs.OptionLemmas.{one-some}
 use Rattle.pi_engine.proofs.HereLemmas.{holds-moves}
 use Rattle.pi_engine.proofs.StandsLemmas.{moved}
-use Rattle.pi_engine.proofs.BasesStand.{shape-base}
 use Rattle.pi_engine.proofs.LeaveStand.{LeftBy, level-behind}
 use Rattle.pi_engine.proofs.MissingStand.{AppliesAt, applies-at, Applied, applied}
 use Rattle.pi_engine.proofs.OnceStand.{silently-then, GoalLeft, Found, found, answer-of}

@@ -1,5 +1,5 @@
 -- The value behind a function's body, where it is what runs.
-use Rattle.std.proofs.Common.{◌≡◌, ℕ, ◌<◌, Bool, List, Option, Some, refl, sym, ◌∙◌, ap, subst, arith}
+use Rattle.std.proofs.Common.{◌≡◌, ℕ, ◌<◌, Bool, List, Option, Some, sym, ◌∙◌, ap, subst, arith}
 use Rattle.std.specs.Prelude.{slice_get}
 use Rattle.pi_types.specs.Tree.{Tree}
 use Rattle.pi_types.specs.GoalTree.{no_goals}

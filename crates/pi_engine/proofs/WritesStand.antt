@@ -1,6 +1,5 @@
 -- What a run stands for where slots of the present block are written and the store has more.
 use Rattle.std.proofs.Common.{◌≡◌, ℕ, zero, ◌+◌, ◌≤◌, Bool, List, Option, Some, None, length, take, refl, sym, ◌∙◌, subst, arith}
-use Rattle.std.specs.Prelude.{slice_get}
 use Rattle.pi_types.specs.Places.{Places}
 use Rattle.pi_types.specs.State.{State, IsState}
 use Rattle.pi_types.specs.Store.{StoreView}
@@ -9,8 +8,8 @@ use Rattle.pi_engine.specs.declared.frames.Point.{Point}
 use Rattle.pi_engine.specs.Blocks.{BlocksView}
 use Rattle.pi_engine.specs.Arenas.{Entry, entry_at}
 use Rattle.pi_engine.specs.Configuration.{Frame, Entry as EntryData}
-use Rattle.pi_engine.specs.Here.{Block, Here, ends_base, GoesOn}
-use Rattle.pi_engine.specs.Stands.{tables_in, World, Loaded, steps_of, entries_of, level_ends, now_here, back_here, Agrees, agrees_from, Extend, StackStands, GoingIs}
+use Rattle.pi_engine.specs.Here.{Block, ends_base, GoesOn}
+use Rattle.pi_engine.specs.Stands.{tables_in, World, steps_of, entries_of, level_ends, now_here, back_here, Agrees, agrees_from, Extend, StackStands, GoingIs}
 use Rattle.pi_engine.specs.Evaluates.{with_blocks, Writes}
 use Rattle.pi_engine.proofs.HereLemmas.{take-agrees, goes_on-moves}
 use Rattle.pi_engine.proofs.PointLemmas.{goes_on-within}

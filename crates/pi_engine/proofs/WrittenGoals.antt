@@ -1,5 +1,5 @@
 -- The goal of a level's block, where slots of the block are written.
-use Rattle.std.proofs.Common.{◌≡◌, ℕ, ◌+◌, ◌≤◌, Bool, List, Option, Some, refl, sym, ◌∙◌, ap, subst, arith}
+use Rattle.std.proofs.Common.{◌≡◌, ℕ, List, Some, sym, ◌∙◌, ap, subst, arith}
 use Rattle.std.specs.Prelude.{slice_get}
 use Rattle.pi_types.specs.Places.{Places}
 use Rattle.pi_types.specs.State.{State}
@@ -12,7 +12,7 @@ use Rattle.pi_engine.specs.Arenas.{ArenasView}
 use Rattle.pi_engine.specs.Configuration.{Frame, Entry as EntryData}
 use Rattle.pi_engine.specs.Here.{Here, Block, IsStepOf}
 use Rattle.pi_engine.specs.Stands.{World, tables_in, steps_of, now_here, block_at, Agrees, GoalStands, StackStands}
-use Rattle.pi_engine.specs.Evaluates.{slot_number, with_blocks, Writes}
+use Rattle.pi_engine.specs.Evaluates.{slot_number, Writes}
 use Rattle.pi_types.proofs.GoalPlaces.{nodes-children}
 use Rattle.pi_engine.proofs.CodeLemmas.{stands-within}
 use Rattle.pi_engine.proofs.BasesStand.{shape-base, block-above}

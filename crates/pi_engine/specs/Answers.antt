@@ -1,6 +1,6 @@
 -- What a run does with an answer of its query: the named variables are told with their values.
-use Rattle.std.specs.Prelude.{◌≡◌, ℕ, ◌+◌, ◌≤◌, ◌<◌, Option, Some, None, List, [], ◌∷◌, Result, Ok, Err, ⊤}
-use Rattle.pi_types.specs.Tree.{Tree, var, cells, most_cells}
+use Rattle.std.specs.Prelude.{◌≡◌, ℕ, ◌≤◌, ◌<◌, Option, Some, None, List, [], ◌∷◌, Result, Ok, Err, ⊤}
+use Rattle.pi_types.specs.Tree.{Tree, cells, most_cells}
 use Rattle.pi_types.specs.Places.{Places}
 use Rattle.pi_types.specs.State.{bindings}
 use Rattle.pi_types.specs.Value.{value}

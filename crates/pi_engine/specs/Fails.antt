@@ -1,13 +1,12 @@
 -- Goals that have no further answer: the newest entry is come back to, and says what is next.
-use Rattle.std.specs.Prelude.{◌≡◌, ℕ, suc, List, ◌∷◌, Option, Some, length, slice_get, ⊤}
-use Rattle.pi_types.specs.State.{State, IsState}
+use Rattle.std.specs.Prelude.{◌≡◌, ℕ, suc, List, ◌∷◌, Some, length, slice_get}
+use Rattle.pi_types.specs.State.{IsState}
 use Rattle.pi_types.specs.Trace.{End, Done, Raise}
 use Rattle.pi_engine.specs.declared.arenas.Back.{Back}
-use Rattle.pi_engine.specs.declared.arenas.Kind.{Kind}
 use Rattle.pi_engine.specs.declared.run.End.{End as RunEnd}
 use Rattle.pi_engine.specs.declared.run.Now.{Now}
 use Rattle.pi_engine.specs.Arenas.{Entry, entry_at, newest, slots_kept_by}
-use Rattle.pi_engine.specs.Configuration.{Entry as EntryData, Config, Choice, choice, branches_left, Strict, strict, Back as BackData}
+use Rattle.pi_engine.specs.Configuration.{Entry as EntryData, choice, branches_left, Strict, strict, Back as BackData}
 use Rattle.pi_engine.specs.Step.{Outcome, silently, with_tick, quietly, answering, ending, branch, end_step, fail_step}
 use Rattle.pi_types.specs.GoalTree.{GoalTrees}
 use Rattle.pi_engine.specs.Stands.{World, tables_in, entries_of, now_here, back_here, Extend, IsCodeOf, EntryIs, StackIs, StackStands, Stands}

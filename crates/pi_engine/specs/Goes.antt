@@ -1,5 +1,5 @@
 -- What the machine's code does over steps of the machine as data: Ticks that are counted, an answer, and where it is then.
-use Rattle.std.specs.Prelude.{◌≡◌, ◌+◌, ◌-◌, ◌≤◌, ◌<◌, ℕ, slice_get, Some, suc, Bool, true, false, List, [], ◌∷◌, ◌++◌, ⊤}
+use Rattle.std.specs.Prelude.{◌≡◌, ◌+◌, ◌-◌, ◌≤◌, ◌<◌, ℕ, slice_get, Some, Bool, true, false, List, ⊤}
 use Rattle.pi_types.specs.Trace.{Done, Raise, Emitted}
 use Rattle.pi_types.specs.View.{View}
 use Rattle.pi_types.specs.Run.{Solution}

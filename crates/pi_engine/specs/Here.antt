@@ -1,11 +1,10 @@
 -- What a run's arenas stand for, at one moment: the slots of a block, the goals at a place of the tables, what the frames
 -- say. Nothing here speaks of the store but for the terms that Refs stand for.
-use Rattle.std.specs.Prelude.{◌≡◌, ◌≢◌, ℕ, zero, suc, ◌+◌, ◌-◌, ◌≤◌, ◌<◌, Bool, true, false, List, [], ◌∷◌, Option, Some, None, length, map, take, drop, slice_get, slice_index_or, IfSome, ⊤}
-use Rattle.pi_types.specs.Tree.{Tree, Trees, no_trees, tree, trees_of}
+use Rattle.std.specs.Prelude.{◌≡◌, ◌≢◌, ℕ, suc, ◌+◌, ◌-◌, ◌≤◌, ◌<◌, Bool, true, false, List, [], ◌∷◌, Option, Some, None, length, take, drop, slice_get, slice_index_or, ⊤}
+use Rattle.pi_types.specs.Tree.{Tree, Trees, no_trees, tree}
 use Rattle.pi_types.specs.Places.{Places}
 use Rattle.pi_types.specs.Variables.{IsGround}
 use Rattle.pi_types.specs.Store.{Terms}
-use Rattle.pi_types.specs.State.{SpeaksBelow}
 use Rattle.pi_types.specs.GoalTree.{GoalTree, truth, fail, tick, call, apply, seq, alternatives, if_else, not, once, collect, count, catch, GoalTrees, no_goals, goal, nodes}
 use Rattle.pi_types.specs.declared.store.Ref.{Ref}
 use Rattle.pi_engine.specs.declared.frames.Point.{Point}
@@ -13,8 +12,7 @@ use Rattle.pi_engine.specs.declared.code.Operand.{Operand}
 use Rattle.pi_engine.specs.declared.code.Part.{Part}
 use Rattle.pi_engine.specs.declared.code.Node.{Node}
 use Rattle.pi_engine.specs.declared.code.Step.{Step}
-use Rattle.pi_engine.specs.declared.code.Code.{Code}
-use Rattle.pi_engine.specs.Code.{Tables, tables_of, operand_tree, spelled_parts, StandsAt}
+use Rattle.pi_engine.specs.Code.{Tables, operand_tree, spelled_parts, StandsAt}
 use Rattle.pi_engine.specs.Frames.{frame_at}
 use Rattle.pi_engine.specs.Configuration.{Frame, return, give, behind}
 

@@ -14,10 +14,10 @@ use Rattle.pi_engine.specs.declared.code.Node.{Node}
 use Rattle.pi_engine.specs.declared.arenas.Kind.{Kind}
 use Rattle.pi_engine.specs.declared.arenas.Strict.{Strict}
 use Rattle.pi_engine.specs.declared.run.Now.{Now}
-use Rattle.pi_engine.specs.Configuration.{Frame, Entry, Config, config, going, failed, catch_level, behind}
+use Rattle.pi_engine.specs.Configuration.{Frame, Entry, Config, config, going, catch_level, behind}
 use Rattle.pi_engine.specs.Step.{Outcome, silently, with_tick, quietly, answering, ending, goal_step, step, inside, back_to}
 use Rattle.pi_engine.specs.Shape.{IsBalanced}
-use Rattle.pi_engine.specs.Stands.{World, steps_of, StackStands, Stands, StandsGoing}
+use Rattle.pi_engine.specs.Stands.{World, steps_of, Stands, StandsGoing}
 
 -- a run stands for what a step comes to, where that is a configuration
 abbrev pub StandsAfter : {M : Type 0} → World M → Now → Outcome → Type 0

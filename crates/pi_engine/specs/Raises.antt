@@ -1,5 +1,5 @@
 -- What becomes of a run in which an exception was raised.
-use Rattle.std.specs.Prelude.{◌≡◌, ℕ, zero, Bool, List, Option, Some, slice_get, ⊤}
+use Rattle.std.specs.Prelude.{◌≡◌, ℕ, zero, Bool, List, Some, slice_get, ⊤}
 use Rattle.pi_types.specs.Tree.{Tree}
 use Rattle.pi_types.specs.Places.{Places}
 use Rattle.pi_types.specs.Copy.{copy, new_variables}

@@ -1,13 +1,13 @@
 -- What a run stands for: which configuration its store and its arenas are.
-use Rattle.std.specs.Prelude.{◌≡◌, ◌≢◌, ◌↔◌, ℕ, zero, suc, ◌+◌, ◌-◌, ◌≤◌, ◌<◌, Bool, true, false, List, [], ◌∷◌, Option, Some, None, length, map, take, drop, slice_get, slice_index_or, AllPairs, IsTrue, IsSome, ⊤}
-use Rattle.pi_types.specs.Tree.{Tree, Trees, comp, trees_of}
+use Rattle.std.specs.Prelude.{◌≡◌, ◌≢◌, ◌↔◌, ℕ, zero, suc, ◌+◌, ◌-◌, ◌≤◌, Bool, true, false, List, [], ◌∷◌, Option, Some, None, length, map, take, drop, slice_get, AllPairs, IsTrue, IsSome, ⊤}
+use Rattle.pi_types.specs.Tree.{Tree, Trees, comp}
 use Rattle.pi_types.specs.Places.{Places}
 use Rattle.pi_types.specs.State.{State, IsState}
-use Rattle.pi_types.specs.Store.{Terms, Moment, StoreView, IsGood, IsName}
+use Rattle.pi_types.specs.Store.{Terms, StoreView, IsGood}
 use Rattle.pi_types.specs.GoalTree.{GoalTree, GoalTrees, count_goals, truth, apply, if_else, not, once, collect, count, catch, goal, no_goals}
-use Rattle.pi_types.specs.PatternTree.{PatternTree, slot, exact_int, exact_atom, compound, named, PatternTrees, no_patterns, pattern}
+use Rattle.pi_types.specs.PatternTree.{PatternTree, slot, exact_int, exact_atom, PatternTrees, no_patterns, pattern}
 use Rattle.pi_types.specs.CoreTree.{ClauseTree, PredTree, pred_tree}
-use Rattle.pi_types.specs.Evaluation.{Evaluated, evaluated}
+use Rattle.pi_types.specs.Evaluation.{evaluated}
 use Rattle.pi_types.specs.Builtin.{is_built_in}
 use Rattle.pi_types.specs.Sound.{IsAnother, pattern_count}
 use Rattle.pi_engine.specs.declared.code.Node.{Node}
@@ -19,14 +19,13 @@ use Rattle.pi_engine.specs.declared.code.Code.{Code}
 use Rattle.pi_engine.specs.declared.frames.Point.{Point}
 use Rattle.pi_engine.specs.declared.arenas.Kind.{Kind}
 use Rattle.pi_engine.specs.declared.arenas.Strict.{Strict}
-use Rattle.pi_engine.specs.declared.arenas.Back.{Back}
 use Rattle.pi_engine.specs.declared.run.Now.{Now}
 use Rattle.pi_engine.specs.Code.{Tables, tables_of, preds_of}
 use Rattle.pi_engine.specs.Blocks.{IsKept, IsOlder, brought_back}
 use Rattle.pi_engine.specs.Arenas.{Entry, ArenasView, entry_at, newest, slots_kept_by}
 use Rattle.pi_engine.specs.Here.{Block, block_end, Holds, HoldsArguments, IsHere, AreHere, AreBranches, valued, Ends, in_block, with_value, Here, LeftBehind, GoesOn}
 use Rattle.pi_engine.specs.Shape.{open_level}
-use Rattle.pi_engine.specs.Configuration.{Called, Back as BackData, Choice, rules_left, branches_left, Strict as Level, once_level, not_level, if_level, guard_level, value_level, list_level, number_level, Frame, Entry as EntryData, choice, strict, catch_level, left, Now as NowData, going, failed, raising, Config, config, leaves_others}
+use Rattle.pi_engine.specs.Configuration.{Called, rules_left, branches_left, once_level, not_level, if_level, guard_level, value_level, list_level, number_level, Frame, Entry as EntryData, choice, strict, catch_level, left, Now as NowData, going, failed, raising, Config, config, leaves_others}
 
 -- ---- programs in tables
 

@@ -5,7 +5,7 @@ use Rattle.pi_types.specs.State.{State, IsState, bindings}
 use Rattle.pi_types.specs.HeadMatch.{matched_all_in}
 use Rattle.pi_types.specs.declared.store.Ref.{Ref}
 use Rattle.pi_types.specs.declared.store.Cell.{Cell}
-use Rattle.pi_types.specs.Store.{StoreView, Terms, Marks}
+use Rattle.pi_types.specs.Store.{StoreView, Terms}
 use Rattle.pi_types.specs.CoreTree.{ClauseTree, PredTree}
 use Rattle.pi_engine.specs.declared.arenas.Kind.{Kind}
 use Rattle.pi_engine.specs.declared.arenas.Strict.{Strict}

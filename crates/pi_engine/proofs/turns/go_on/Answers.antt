@@ -1,5 +1,4 @@
-use Rattle.std.proofs.Common.{◌≡◌, Some, None, sym, ◌∙◌, subst, refl, arith}
-use Rattle.pi_engine.specs.Frames.{frame_at}
+use Rattle.std.proofs.Common.{◌≡◌, sym, ◌∙◌, subst, refl, arith}
 use Rattle.pi_engine.specs.Arenas.{view_of}
 use Rattle.pi_engine.specs.Answers.{AnswersQuery}
 use Rattle.pi_engine.specs.Next.{Tells}

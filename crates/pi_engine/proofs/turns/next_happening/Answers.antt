@@ -1,4 +1,4 @@
-use Rattle.std.proofs.Common.{◌≡◌, ◌∙◌, refl, sym, ap, subst, arith}
+use Rattle.std.proofs.Common.{◌∙◌, refl, ap, subst}
 use Rattle.pi_engine.specs.Arenas.{view_of}
 use Rattle.pi_engine.specs.Stands.{world}
 use Rattle.pi_engine.proofs.BudgetLemmas.{counts_none, counts_then}

@@ -1,4 +1,4 @@
-use Rattle.std.proofs.Common.{◌≡◌, ◌∙◌, ℕ, ◌-◌, ◌≤◌, max, take, List, ap, subst, sym, refl}
+use Rattle.std.proofs.Common.{◌≡◌, ◌∙◌, ◌-◌, ◌≤◌, max, take, ap, subst, sym, refl}
 use Rattle.pi_engine.specs.Arenas.{newest, noted_by, slots_kept_by}
 use Rattle.pi_engine.proofs.arenas.Arenas.leave.Goals as goal
 

@@ -1,4 +1,4 @@
-use Rattle.std.proofs.Common.{rules, ◌≡◌, ◌≤◌, ◌∙◌, arith}
+use Rattle.std.proofs.Common.{rules, ◌∙◌}
 use Rattle.pi_engine.proofs.arenas.Arenas.return_to.Goals as goal
 
 pub returns-clause-keeps : goal.returns-clause-keeps

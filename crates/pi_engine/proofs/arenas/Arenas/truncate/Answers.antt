@@ -1,4 +1,4 @@
-use Rattle.std.proofs.Common.{rules, ◌≡◌, ℕ, ◌≤◌, sym, ◌∙◌, ap, subst}
+use Rattle.std.proofs.Common.{◌≤◌, sym, ◌∙◌, ap, subst}
 use Rattle.pi_engine.specs.Arenas.{newest, noted_by}
 use Rattle.pi_engine.proofs.arenas.Arenas.truncate.Goals as goal
 

@@ -1,7 +1,7 @@
-use Rattle.std.proofs.Common.{rules, ◌≡◌, ℕ, ◌+◌, ◌++◌, ◌∷◌, [], ◌≤◌, Option, Some, None, length, take, drop, refl, sym, ◌∙◌, ap, arith}
+use Rattle.std.proofs.Common.{rules, ◌≡◌, take, sym, ◌∙◌, ap}
 use Rattle.std.proofs.lemmas.List.{take_all}
-use Rattle.pi_engine.specs.Blocks.{KeepsBlocks, IsKept, IsOlder, brought_back, slots_before}
-use Rattle.pi_engine.proofs.BlocksLemmas.{keeps_noted, keeps_free, keeps_more, keeps_then, keeps_same, cut_keeps, taken_back, one_more, one_more_filled}
+use Rattle.pi_engine.specs.Blocks.{IsKept, brought_back}
+use Rattle.pi_engine.proofs.BlocksLemmas.{cut_keeps, taken_back}
 use Rattle.pi_engine.proofs.blocks.Blocks.cut.Goals as goal
 
 -- all noted writes since the mark are taken back, and then the slots past it

@@ -1,5 +1,5 @@
-use Rattle.std.proofs.Common.{◌≡◌, ◌+◌, ◌++◌, Some, None, map, replicate, take, drop, length}
-use Rattle.pi_engine.specs.Blocks.{KeepsBlocks, slots_before}
+use Rattle.std.proofs.Common.{◌≡◌, ◌+◌, take, drop, length}
+use Rattle.pi_engine.specs.Blocks.{slots_before}
 use Rattle.pi_engine.proofs.blocks.Blocks.cut.Given as goal
 
 -- so many writes are taken back that were noted since the mark

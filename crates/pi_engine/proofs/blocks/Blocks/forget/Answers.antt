@@ -1,7 +1,6 @@
-use Rattle.std.proofs.Common.{rules, ◌≡◌, ℕ, ◌+◌, ◌-◌, ◌++◌, ◌∷◌, [], ◌≤◌, ◌<◌, length, take, refl, sym, ◌∙◌, ap, arith}
+use Rattle.std.proofs.Common.{rules, arith}
 use Rattle.std.proofs.lemmas.Grind.{common_steps}
 use Rattle.std.proofs.lemmas.Option.{gets}
-use Rattle.pi_engine.specs.Blocks.{brought_back}
 use Rattle.pi_engine.proofs.BlocksLemmas.{forgotten}
 use Rattle.pi_engine.proofs.blocks.Blocks.forget.Goals as goal
 

@@ -1,6 +1,5 @@
-use Rattle.std.proofs.Common.{rules, ◌≡◌, ℕ, ◌+◌, ◌++◌, ◌∷◌, [], ◌≤◌, Option, Some, None, length, take, drop, refl, sym, ◌∙◌, ap, arith}
-use Rattle.pi_engine.specs.Blocks.{KeepsBlocks, IsKept, IsOlder, brought_back, slots_before}
-use Rattle.pi_engine.proofs.BlocksLemmas.{keeps_noted, keeps_free, keeps_more, keeps_then, keeps_same, cut_keeps, taken_back, one_more, one_more_filled}
+use Rattle.std.proofs.Common.{rules, None}
+use Rattle.pi_engine.proofs.BlocksLemmas.{keeps_then, one_more}
 use Rattle.pi_engine.proofs.blocks.Blocks.push_slots.Goals as goal
 
 pub loop-slot-preserved : goal.loop-slot-preserved

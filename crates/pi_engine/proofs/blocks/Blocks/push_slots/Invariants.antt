@@ -1,5 +1,5 @@
-use Rattle.std.proofs.Common.{◌≡◌, ◌+◌, ◌++◌, Some, None, map, replicate, take, drop, length}
-use Rattle.pi_engine.specs.Blocks.{KeepsBlocks, slots_before}
+use Rattle.std.proofs.Common.{◌≡◌, ◌++◌, take}
+use Rattle.pi_engine.specs.Blocks.{KeepsBlocks}
 use Rattle.pi_engine.proofs.blocks.Blocks.push_slots.Given as goal
 
 abbrev pub invariant-loop-slot : goal.invariant-loop-slot

@@ -1,4 +1,4 @@
-use Rattle.std.proofs.Common.{rules, ◌≡◌, ℕ, ◌+◌, ◌≤◌, length, refl, sym, ◌∙◌, ap, subst, arith}
+use Rattle.std.proofs.Common.{rules, ◌≡◌, sym, subst}
 use Rattle.pi_engine.specs.Blocks.{BlocksView, brought_back, IsKept}
 use Rattle.pi_engine.proofs.BlocksLemmas.{released}
 use Rattle.pi_engine.proofs.blocks.Blocks.release.Goals as goal

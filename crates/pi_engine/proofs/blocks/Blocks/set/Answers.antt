@@ -1,6 +1,5 @@
-use Rattle.std.proofs.Common.{rules, ◌≡◌, ℕ, ◌+◌, ◌++◌, ◌∷◌, [], ◌≤◌, Option, Some, None, length, take, drop, refl, sym, ◌∙◌, ap, arith}
-use Rattle.pi_engine.specs.Blocks.{KeepsBlocks, IsKept, IsOlder, brought_back, slots_before}
-use Rattle.pi_engine.proofs.BlocksLemmas.{keeps_noted, keeps_free, keeps_more, keeps_then, keeps_same, cut_keeps, taken_back}
+use Rattle.std.proofs.Common.{rules, Some, refl}
+use Rattle.pi_engine.proofs.BlocksLemmas.{keeps_noted, keeps_free}
 use Rattle.pi_engine.proofs.blocks.Blocks.set.Goals as goal
 use Rattle.pi_engine.proofs.blocks.Blocks.set.Goals.{then-slot-self+in_ok-push, else-slot-self}
 

@@ -1,6 +1,6 @@
-use Rattle.std.proofs.Common.{rules, ◌≡◌, ℕ, ◌+◌, ◌<◌, ◌≤◌, ◌^◌, refl, sym, ◌∙◌, ap, arith}
+use Rattle.std.proofs.Common.{◌≡◌, ◌+◌, ◌<◌, ◌^◌, arith}
 use Rattle.pi_types.specs.GoalTree.{nodes}
-use Rattle.pi_engine.specs.Code.{tables_of, StandsAt}
+use Rattle.pi_engine.specs.Code.{tables_of}
 use Rattle.pi_engine.proofs.CodeLemmas.{size-shown}
 use Rattle.pi_engine.proofs.code.Code.behind.Goals as goal
 

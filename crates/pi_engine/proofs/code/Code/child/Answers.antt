@@ -1,5 +1,5 @@
-use Rattle.std.proofs.Common.{rules, ◌≡◌, ℕ, ◌+◌, ◌<◌, ◌≤◌, ◌^◌, refl, sym, ◌∙◌, ap, subst, arith}
-use Rattle.pi_types.specs.GoalTree.{GoalTree, nodes, child, child_count}
+use Rattle.std.proofs.Common.{◌≡◌, ◌+◌, ◌<◌, ◌^◌, sym, ◌∙◌, ap, subst, arith}
+use Rattle.pi_types.specs.GoalTree.{nodes, child}
 use Rattle.pi_engine.specs.Code.{tables_of, StandsAt, child_place}
 use Rattle.pi_engine.proofs.CodeLemmas.{child_place-first, child_place-more, stands-child}
 use Rattle.pi_types.proofs.GoalPlaces.{nodes-children}

@@ -1,6 +1,5 @@
-use Rattle.std.proofs.Common.{rules, ◌≡◌, ℕ, ◌<◌, ◌≤◌, Some, None, length, refl, sym, ◌∙◌, ap, arith}
-use Rattle.std.specs.Prelude.{slice_get}
-use Rattle.pi_engine.specs.Code.{tables_of, StandsAt}
+use Rattle.std.proofs.Common.{◌<◌, ◌≤◌, length, sym, ◌∙◌, arith}
+use Rattle.pi_engine.specs.Code.{tables_of}
 use Rattle.pi_engine.proofs.ListLemmas.{none-past}
 use Rattle.pi_engine.proofs.CodeLemmas.{stands-first, stands-within}
 use Rattle.pi_engine.proofs.code.Code.step.Goals as goal

@@ -1,10 +1,10 @@
-use Rattle.std.proofs.Common.{◌≡◌, refl, sym, ◌∙◌, ap, subst}
+use Rattle.std.proofs.Common.{◌≡◌, refl, sym, ◌∙◌, subst}
 use Rattle.pi_engine.specs.Arenas.{view_of}
 use Rattle.pi_engine.specs.Answers.{AreNames}
 use Rattle.pi_engine.specs.Goes.{IsIn}
 use Rattle.pi_engine.specs.Runs.{MachineView, machine_view, loaded_as, run_of}
 use Rattle.pi_engine.specs.Stands.{Loaded}
-use Rattle.pi_engine.specs.Turns.{NextComes, IsRepeated}
+use Rattle.pi_engine.specs.Turns.{NextComes}
 use Rattle.pi_engine.proofs.NextTurns.{repeated-in}
 use Rattle.pi_engine.proofs.RunsTold.{later, runs-in, told-by}
 use Rattle.pi_engine.proofs.machine.Machine.next.Goals as goal

@@ -1,4 +1,4 @@
-use Rattle.std.proofs.Common.{◌≡◌, ◌∙◌, ◌+◌, Some, length, sym, ap, subst, arith, refl}
+use Rattle.std.proofs.Common.{◌≡◌, Some, length, subst, arith, refl}
 use Rattle.std.specs.Prelude.{slice_get}
 use Rattle.std.proofs.lemmas.Option.{slice_get_read}
 use Rattle.pi_types.specs.Evaluation.{evaluated}

@@ -1,4 +1,4 @@
-use Rattle.std.proofs.Common.{◌≡◌, Some, None}
+use Rattle.std.proofs.Common.{Some, None}
 use Rattle.pi_engine.specs.Arenas.{view_of}
 use Rattle.pi_engine.proofs.NamesStand.{name-read, read-named, none-named}
 use Rattle.pi_engine.proofs.steps.answers.named_value.Goals as goal

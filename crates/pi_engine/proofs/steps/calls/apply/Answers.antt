@@ -1,4 +1,4 @@
-use Rattle.std.proofs.Common.{◌≡◌, ◌+◌, ◌++◌, ◌∙◌, sym, ap, subst, refl, map, Some, [], ◌∷◌, length}
+use Rattle.std.proofs.Common.{◌≡◌, ◌++◌, ◌∙◌, sym, ap, subst, refl, map, Some, [], ◌∷◌, length}
 use Rattle.std.specs.Prelude.{slice_get}
 use Rattle.pi_types.specs.Tree.{trees_of}
 use Rattle.pi_types.specs.Evaluation.{evaluated_all}
@@ -9,13 +9,11 @@ use Rattle.pi_engine.specs.Arenas.{view_of, opened, pushed}
 use Rattle.pi_engine.specs.Blocks.{KeepsBlocks}
 use Rattle.pi_engine.specs.Code.{tables_of}
 use Rattle.pi_engine.specs.Here.{Block, AreReadable}
-use Rattle.pi_engine.specs.Stands.{World, tables_in, world, Stands}
-use Rattle.pi_engine.specs.Step.{try_rules, back_to}
-use Rattle.pi_engine.specs.Evaluates.{slot_number, operand_trees, EvaluatesAll, with_blocks}
+use Rattle.pi_engine.specs.Stands.{World, tables_in, world}
+use Rattle.pi_engine.specs.Evaluates.{operand_trees, EvaluatesAll, with_blocks}
 use Rattle.pi_engine.proofs.FramesStand.{framed, arenas-framed, going-of}
 use Rattle.pi_engine.proofs.LevelStands.{arenas-opened}
 use Rattle.pi_engine.proofs.EqualStands.{block_of, first-slot-of, node-readable}
-use Rattle.pi_engine.proofs.CallMade.{Made}
 use Rattle.pi_engine.proofs.ApplyRuns.{Applies, ApplyRuns, applies, apply-runs}
 use Rattle.pi_engine.proofs.RulesTried.{found-there}
 use Rattle.pi_engine.proofs.steps.calls.apply.Goals as goal

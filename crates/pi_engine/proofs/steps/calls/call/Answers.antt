@@ -1,16 +1,14 @@
-use Rattle.std.proofs.Common.{◌≡◌, ◌+◌, ◌++◌, ◌∙◌, sym, ap, subst, refl, map, Some, []}
+use Rattle.std.proofs.Common.{◌≡◌, ◌++◌, ◌∙◌, sym, ap, subst, refl, map, Some, []}
 use Rattle.std.specs.Prelude.{slice_get}
 use Rattle.pi_types.specs.Tree.{trees_of}
 use Rattle.pi_types.specs.Evaluation.{evaluated_all}
 use Rattle.pi_engine.specs.declared.code.Node.{Node}
 use Rattle.pi_engine.specs.Arenas.{view_of}
 use Rattle.pi_engine.specs.Code.{tables_of}
-use Rattle.pi_engine.specs.Frames.{PushesBehind}
 use Rattle.pi_engine.specs.Here.{Block, AreReadable}
 use Rattle.pi_engine.specs.Stands.{World, tables_in, world, Stands}
 use Rattle.pi_engine.specs.Step.{try_rules, back_to}
-use Rattle.pi_engine.specs.Evaluates.{slot_number, operand_trees, EvaluatesAll, with_blocks}
-use Rattle.pi_engine.specs.Tries.{HasArguments, CallIs}
+use Rattle.pi_engine.specs.Evaluates.{operand_trees, EvaluatesAll, with_blocks}
 use Rattle.pi_engine.proofs.FramesStand.{framed, arenas-framed}
 use Rattle.pi_engine.proofs.EqualStands.{block_of, first-slot-of, node-readable}
 use Rattle.pi_engine.proofs.FramesStand.{going-of}

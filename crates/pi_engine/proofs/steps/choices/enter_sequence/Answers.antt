@@ -1,11 +1,11 @@
-use Rattle.std.proofs.Common.{◌≡◌, refl, sym, subst}
+use Rattle.std.proofs.Common.{refl, subst}
 use Rattle.pi_engine.specs.declared.run.Now.{Now}
 use Rattle.pi_engine.specs.declared.frames.Point.{Point}
 use Rattle.pi_engine.specs.Arenas.{view_of}
 use Rattle.pi_engine.specs.Stands.{world}
 use Rattle.pi_engine.specs.Makes.{StandsAfter}
 use Rattle.pi_engine.specs.Step.{goal_step}
-use Rattle.pi_engine.proofs.FramesStand.{framed, arenas-framed}
+use Rattle.pi_engine.proofs.FramesStand.{arenas-framed}
 use Rattle.pi_engine.proofs.SequenceStands.{sequence-step}
 use Rattle.pi_engine.proofs.steps.choices.enter_sequence.Goals as goal
 

@@ -1,9 +1,5 @@
-use Rattle.std.proofs.Common.{◌≡◌, sym, ap, subst}
-use Rattle.pi_engine.specs.declared.run.Now.{Now}
 use Rattle.pi_engine.specs.Arenas.{view_of}
 use Rattle.pi_engine.specs.Stands.{world}
-use Rattle.pi_engine.specs.Makes.{StandsAfter}
-use Rattle.pi_engine.specs.Step.{goal_step}
 use Rattle.pi_engine.proofs.TruthStand.{truth-step}
 use Rattle.pi_engine.proofs.steps.goals.pass.Goals as goal
 

@@ -1,4 +1,4 @@
-use Rattle.std.proofs.Common.{◌≡◌, subst, true, false}
+use Rattle.std.proofs.Common.{subst, true, false}
 use Rattle.pi_engine.specs.Arenas.{view_of}
 use Rattle.pi_engine.specs.Stands.{world}
 use Rattle.pi_engine.specs.Goes.{Ticks}

@@ -1,5 +1,5 @@
 use Rattle.pi_engine.proofs.HeadsMatch.{asks-int, asks-atom, asks-slot}
-use Rattle.std.proofs.Common.{rules, ◌≡◌, sym, ◌∙◌, ap, subst, arith}
+use Rattle.std.proofs.Common.{rules, ◌≡◌, ◌∙◌, ap, subst}
 use Rattle.pi_unify.specs.Matching.{is_int_in}
 use Rattle.pi_unify.proofs.MatchingLemmas.{if_ok}
 use Rattle.pi_engine.specs.Evaluates.{slot_number}

@@ -1,4 +1,4 @@
-use Rattle.std.proofs.Common.{◌≡◌, ◌+◌, ◌≤◌, ◌∷◌, length, take, drop, sym, ◌∙◌, ap, subst, refl, arith, None}
+use Rattle.std.proofs.Common.{◌≡◌, ◌+◌, ◌≤◌, ◌∷◌, length, take, drop, sym, ◌∙◌, subst, refl, arith, None}
 use Rattle.std.specs.Prelude.{replicate}
 use Rattle.pi_types.specs.CoreTree.{pattern_trees}
 use Rattle.pi_types.specs.HeadMatch.{matched_all_in}

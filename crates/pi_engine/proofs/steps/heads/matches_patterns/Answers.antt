@@ -1,4 +1,4 @@
-use Rattle.std.proofs.Common.{◌≡◌, ◌+◌, ◌++◌, ◌≤◌, length, drop, get_or, Some, None, sym, ◌∙◌, ap, subst, arith, drop_of_length-le}
+use Rattle.std.proofs.Common.{◌≡◌, ◌+◌, ◌++◌, drop, get_or, None, sym, ◌∙◌, ap, arith, drop_of_length-le}
 use Rattle.pi_types.specs.declared.core_program.Pattern.{Pattern}
 use Rattle.pi_engine.proofs.HeadsMatch.{patterns-all, patterns-some, patterns-fail, patterns-pass, patterns-done}
 use Rattle.pi_engine.proofs.steps.heads.matches_patterns.Goals as goal

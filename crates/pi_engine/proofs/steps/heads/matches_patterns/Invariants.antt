@@ -1,4 +1,4 @@
-use Rattle.std.proofs.Common.{◌≡◌, ◌+◌, ◌≤◌, length, drop, None}
+use Rattle.std.proofs.Common.{length, drop, None}
 use Rattle.std.specs.Prelude.{replicate}
 use Rattle.pi_types.specs.Tree.{Trees}
 use Rattle.pi_types.specs.CoreTree.{pattern_trees}

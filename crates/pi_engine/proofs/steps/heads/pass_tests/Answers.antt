@@ -1,6 +1,5 @@
-use Rattle.std.proofs.Common.{◌≡◌, ◌+◌, ◌≤◌, length, drop, get_or, Some, None, sym, ◌∙◌, ap, subst, arith, drop_of_length-le}
+use Rattle.std.proofs.Common.{◌≡◌, ◌+◌, drop, get_or, None, sym, ◌∙◌, ap, arith, drop_of_length-le}
 use Rattle.pi_engine.specs.declared.code.HeadTest.{HeadTest}
-use Rattle.pi_engine.specs.Here.{Block, HoldsArguments}
 use Rattle.pi_engine.proofs.HeadsMatch.{tests-all, tests-fail, tests-pass, tests-some, tests-done}
 use Rattle.pi_engine.proofs.steps.heads.pass_tests.Goals as goal
 

@@ -1,4 +1,4 @@
-use Rattle.std.proofs.Common.{◌≡◌, ◌∙◌, refl, sym, ap, subst}
+use Rattle.std.proofs.Common.{◌∙◌, refl, sym, ap, subst}
 use Rattle.pi_engine.specs.declared.arenas.Kind.{Kind}
 use Rattle.pi_engine.specs.declared.arenas.Strict.{Strict}
 use Rattle.pi_engine.specs.Arenas.{view_of, IsLevel}

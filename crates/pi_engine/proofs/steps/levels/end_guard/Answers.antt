@@ -1,6 +1,5 @@
-use Rattle.std.proofs.Common.{◌≡◌, ◌∙◌, ◌+◌, min, sym, ap, subst}
+use Rattle.std.proofs.Common.{◌∙◌, min, sym, ap}
 use Rattle.std.specs.Prelude.{slice_get}
-use Rattle.pi_engine.specs.declared.code.Predicate.{Predicate}
 use Rattle.pi_engine.specs.Arenas.{view_of}
 use Rattle.pi_engine.specs.Stands.{World, world}
 use Rattle.pi_engine.proofs.RetriesStand.{guard-retried, tries-of}

@@ -1,7 +1,7 @@
 use Rattle.std.proofs.Common.{◌≡◌, ◌∙◌, ◌+◌, length, refl, sym, ap, subst}
 use Rattle.pi_engine.specs.declared.run.Now.{Now}
 use Rattle.pi_engine.specs.declared.frames.Point.{Point}
-use Rattle.pi_engine.specs.Arenas.{view_of, opened, pushed, PushesEntry}
+use Rattle.pi_engine.specs.Arenas.{view_of, opened, pushed}
 use Rattle.pi_engine.specs.Stands.{world}
 use Rattle.pi_engine.specs.Makes.{StandsAfter}
 use Rattle.pi_engine.specs.Step.{goal_step}

@@ -1,4 +1,4 @@
-use Rattle.std.proofs.Common.{rules, ◌≡◌, ◌∙◌, sym, ap, subst}
+use Rattle.std.proofs.Common.{rules, ◌∙◌, sym, ap, subst}
 use Rattle.std.specs.Prelude.{pos}
 use Rattle.pi_types.specs.Tree.{int}
 use Rattle.pi_types.specs.Store.{Gives}

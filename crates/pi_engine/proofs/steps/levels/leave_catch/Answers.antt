@@ -1,7 +1,6 @@
-use Rattle.std.proofs.Common.{◌≡◌, ◌∙◌, sym, ap, subst, length}
+use Rattle.std.proofs.Common.{◌≡◌, ◌∙◌, sym, ap, subst}
 use Rattle.pi_engine.specs.declared.run.Now.{Now}
-use Rattle.pi_engine.specs.declared.arenas.Kind.{Kind}
-use Rattle.pi_engine.specs.Arenas.{ArenasView, view_of, pushed}
+use Rattle.pi_engine.specs.Arenas.{ArenasView, view_of}
 use Rattle.pi_engine.specs.Stands.{world}
 use Rattle.pi_engine.proofs.OnceStand.{AnswersTo, LevelHere, level-here}
 use Rattle.pi_types.specs.GoalTree.{no_goals}

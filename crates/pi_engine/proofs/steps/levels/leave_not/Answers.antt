@@ -1,5 +1,4 @@
-use Rattle.std.proofs.Common.{◌≡◌, ◌∙◌, sym, ap, subst}
-use Rattle.pi_engine.specs.declared.run.Now.{Now}
+use Rattle.std.proofs.Common.{◌∙◌, ap}
 use Rattle.pi_engine.specs.Arenas.{view_of}
 use Rattle.pi_engine.specs.Stands.{world}
 use Rattle.pi_engine.proofs.OnceStand.{not-answers, LevelHere, level-here}

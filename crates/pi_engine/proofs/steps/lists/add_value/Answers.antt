@@ -1,5 +1,5 @@
 use Rattle.std.proofs.Common.{◌≡◌, ◌∙◌, refl, sym, ap, subst}
-use Rattle.pi_types.specs.Tree.{Tree, cells, most_cells}
+use Rattle.pi_types.specs.Tree.{Tree}
 use Rattle.pi_types.specs.State.{bindings}
 use Rattle.pi_types.specs.Value.{value as value_of, IsAcyclic}
 use Rattle.pi_types.specs.Store.{IsTerm}

@@ -1,4 +1,4 @@
-use Rattle.std.proofs.Common.{◌≡◌, ◌∙◌, ◌≤◌, length, refl, sym, ap, subst}
+use Rattle.std.proofs.Common.{◌∙◌, ◌≤◌, length, sym, ap, subst}
 use Rattle.pi_types.specs.Tree.{Trees}
 use Rattle.pi_types.specs.Store.{AreTerms, Stays, IsTerm}
 use Rattle.pi_engine.specs.declared.run.Now.{Now}

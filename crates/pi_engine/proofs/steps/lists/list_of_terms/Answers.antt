@@ -1,7 +1,7 @@
-use Rattle.std.proofs.Common.{◌≡◌, ◌∙◌, ◌-◌, suc, Some, length, sym, ap, subst, arith}
+use Rattle.std.proofs.Common.{◌≡◌, ◌∙◌, ◌-◌, suc, Some, sym, subst, arith}
 use Rattle.std.specs.Prelude.{slice_get}
 use Rattle.pi_types.specs.Tree.{drop_trees}
-use Rattle.pi_types.specs.Store.{Stays, IsTerm}
+use Rattle.pi_types.specs.Store.{IsTerm}
 use Rattle.pi_engine.specs.Lists.{list_of}
 use Rattle.pi_engine.proofs.ListsStand.{nothing-behind, list-more, there-is}
 use Rattle.pi_engine.proofs.steps.lists.list_of_terms.Goals as goal

@@ -1,4 +1,4 @@
-use Rattle.std.proofs.Common.{◌≡◌, ◌+◌, ◌∙◌, ◌∷◌, [], ◌++◌, length, sym, ap, subst, arith}
+use Rattle.std.proofs.Common.{◌≡◌, ◌+◌, length, sym, subst, arith}
 use Rattle.pi_engine.specs.Lists.{PlacesValues}
 use Rattle.pi_engine.specs.Stands.{values_between}
 use Rattle.pi_engine.proofs.ListsStand.{places-none, places-more, there-is}

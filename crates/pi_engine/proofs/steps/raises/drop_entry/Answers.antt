@@ -1,4 +1,4 @@
-use Rattle.std.proofs.Common.{◌≡◌, ◌∙◌, ◌-◌, length, take, sym, ap, subst}
+use Rattle.std.proofs.Common.{◌∙◌, ◌-◌, take, sym, ap, subst}
 use Rattle.pi_engine.specs.Arenas.{view_of, LeavesLevel, with_collected}
 use Rattle.pi_engine.specs.Step.{raise_step}
 use Rattle.pi_engine.specs.Stands.{world}

@@ -1,6 +1,5 @@
 use Rattle.std.proofs.Common.{◌≡◌, ◌∙◌, sym, ap, subst}
 use Rattle.pi_types.specs.Evaluation.{evaluated}
-use Rattle.pi_engine.specs.declared.code.Node.{Node}
 use Rattle.pi_engine.specs.Arenas.{view_of}
 use Rattle.pi_engine.specs.Code.{tables_of, operand_tree}
 use Rattle.pi_engine.specs.Here.{IsReadable, NodeIsReadable}

@@ -1,4 +1,4 @@
-use Rattle.std.proofs.Common.{◌≡◌, ◌∙◌, ◌-◌, Some, None, map, take, drop, sym, ap, subst, arith}
+use Rattle.std.proofs.Common.{◌≡◌, ◌∙◌, Some, sym, ap, subst}
 use Rattle.std.specs.Prelude.{slice_get, option_copied}
 use Rattle.pi_types.specs.Tree.{Trees, comp}
 use Rattle.pi_types.specs.Store.{AreTerms, IsTerm}
