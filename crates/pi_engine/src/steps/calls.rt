@@ -53,7 +53,8 @@ pub fn make_equal<S: StateStore>(
     Ok(())
 }
 
-/// Calls a predicate, which the tables have, and whose arguments begin at an operand. A last call gives the slots of its body back first.
+/// Calls a predicate, which the tables have under this number, and whose arguments begin at an operand. A last call gives the
+/// slots of its body back first.
 #[inline(always)]
 pub fn call<S: StateStore>(
     code: &Code<'_>,
