@@ -1,4 +1,4 @@
-// Operations on the bits of two's complement.
+//! Operations on the bits of two's complement.
 ghost use Rattle.std.specs.Prelude.{◌≡◌};
 ghost use Rattle.pi_arith.specs.Bits.{bits_and, bits_or, bits_xor, complement};
 

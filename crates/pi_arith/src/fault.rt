@@ -1,3 +1,4 @@
+//! Why an operation has no value.
 use thiserror::Error;
 
 /// Why an operation has no value.

@@ -12,8 +12,6 @@ mod power;
 mod quotients;
 mod shifts;
 mod sums;
-#[cfg(test)]
-mod tests;
 
 pub use fault::ArithFault;
 pub use operation::Op;

@@ -1,3 +1,4 @@
+//! The operations on integers.
 /// An operation on integers.
 #[derive(Clone, Copy, Debug, PartialEq, Eq)]
 pub enum Op {

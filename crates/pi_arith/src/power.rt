@@ -1,4 +1,4 @@
-// Powers.
+//! Powers.
 ghost use Rattle.std.specs.Prelude.{◌≡◌, SomeIff, FitsSigned};
 ghost use Rattle.std.specs.Int.{w128};
 ghost use Rattle.pi_arith.specs.Power.{power};

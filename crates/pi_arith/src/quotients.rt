@@ -1,4 +1,4 @@
-// Quotients, rounded three ways, and what they leave.
+//! Quotients, rounded three ways, and what they leave.
 ghost use Rattle.std.specs.Prelude.{◌≡◌, ◌-ℤ◌, ◌*ℤ◌, Ok};
 ghost use Rattle.pi_arith.specs.Quotients.{quotient, floor_quotient, ceiling_quotient, have_opposite_signs, have_one_sign};
 ghost use Rattle.pi_arith.specs.Range.{bounded, divided_by};

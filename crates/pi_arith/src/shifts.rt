@@ -1,4 +1,4 @@
-// Shifts, as products and quotients by powers of two.
+//! Shifts, as products and quotients by powers of two.
 ghost use Rattle.std.specs.Prelude.{◌≡◌, ◌^◌, ◌<◌, pos, ◌*ℤ◌, Ok, SomeIff, FitsSigned};
 ghost use Rattle.std.specs.Int.{w128};
 ghost use Rattle.pi_arith.specs.Quotients.{floor_quotient};

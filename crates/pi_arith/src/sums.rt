@@ -1,4 +1,4 @@
-// Sums, differences, products and the sign.
+//! Sums, differences, products and the sign.
 ghost use Rattle.std.specs.Prelude.{◌≡◌, pos, ◌+ℤ◌, ◌-ℤ◌, ◌*ℤ◌, neg_ℤ, unsigned_abs};
 ghost use Rattle.pi_arith.specs.Range.{bounded};
 

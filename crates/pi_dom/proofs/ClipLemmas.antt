@@ -5,13 +5,12 @@ use Rattle.std.specs.Ordering.{int_eq}
 use Rattle.std.proofs.Common.{arith, ◌∙◌, ap, subst, rules, inl, inr}
 use Rattle.std.proofs.lemmas.Int.{ints, clamps, by_lt_z}
 use Rattle.std.proofs.lemmas.Bool.Decides.{Decides-int_eq}
-use Rattle.pi_types.specs.declared.domain.TheConstants.{MAX_VALUE}
-use Rattle.pi_types.specs.declared.domain.Span.{Span}
-use Rattle.pi_types.specs.Domain.{AscendFrom, IsDomain, IsWithinBounds, span_has, has_value}
-use Rattle.pi_types.proofs.DomainLemmas.{values_are_within_bounds}
-use Rattle.pi_types.specs.Domain.{overlap}
-use Rattle.pi_types.proofs.CommonLemmas.{AscendFrom-overlap, has_value-overlap}
-use Rattle.pi_types.proofs.SpanLemmas.{AscendFrom-append, has_value-append, next_start}
+use Rattle.pi_constraints.specs.declared.domain.TheConstants.{MAX_VALUE}
+use Rattle.pi_constraints.specs.declared.domain.Span.{Span}
+use Rattle.pi_constraints.specs.Domain.{AscendFrom, IsDomain, IsWithinBounds, span_has, has_value, overlap}
+use Rattle.pi_constraints.proofs.DomainLemmas.{values_are_within_bounds}
+use Rattle.pi_constraints.proofs.CommonLemmas.{AscendFrom-overlap, has_value-overlap}
+use Rattle.pi_constraints.proofs.SpanLemmas.{AscendFrom-append, has_value-append, next_start}
 use Rattle.pi_dom.proofs.MeetLemmas.{overlap-exchange}
 
 -- all that a domain can have

@@ -5,11 +5,11 @@ use Rattle.std.proofs.lemmas.Int.{ints}
 use Rattle.std.proofs.lemmas.List.{take_more, take_all}
 use Rattle.std.proofs.lemmas.Option.{slice_get_within, get_or_from_slice_get}
 use Rattle.std.specs.List.Sorted.{IsPartitionedBy, IsPartitionPoint}
-use Rattle.pi_types.specs.declared.domain.TheConstants.{MAX_VALUE}
-use Rattle.pi_types.specs.declared.domain.Span.{Span}
-use Rattle.pi_types.specs.Domain.{AscendFrom, IsDomain, span_has, has_value, IsLeastValue, IsGreatestValue}
-use Rattle.pi_types.proofs.DomainLemmas.{IsLeastValue-first, IsGreatestValue-last}
-use Rattle.pi_types.proofs.SpanLemmas.{has_value-below}
+use Rattle.pi_constraints.specs.declared.domain.TheConstants.{MAX_VALUE}
+use Rattle.pi_constraints.specs.declared.domain.Span.{Span}
+use Rattle.pi_constraints.specs.Domain.{AscendFrom, IsDomain, span_has, has_value, IsLeastValue, IsGreatestValue}
+use Rattle.pi_constraints.proofs.DomainLemmas.{IsLeastValue-first, IsGreatestValue-last}
+use Rattle.pi_constraints.proofs.SpanLemmas.{has_value-below}
 
 -- the first span, and the last
 pub IsLeastValue-at : (d : List Span) (s : Span) (n : ℤ) → IsDomain d → slice_get d 0 ≡ Some s → n ≡ s.lo → IsLeastValue d n

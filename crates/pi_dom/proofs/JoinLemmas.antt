@@ -9,11 +9,11 @@ use Rattle.std.proofs.lemmas.List.{take_more}
 use Rattle.std.proofs.lemmas.List.Elements.{All-get_or}
 use Rattle.std.proofs.lemmas.Bool.Decides.{Decides-int_eq}
 use Rattle.std.proofs.lemmas.List.Folds.{list_any-append}
-use Rattle.pi_types.specs.declared.domain.TheConstants.{MAX_VALUE}
-use Rattle.pi_types.specs.declared.domain.Span.{Span}
-use Rattle.pi_types.specs.Domain.{AscendFrom, IsDomain, IsWithinBounds, span_has, has_value}
+use Rattle.pi_constraints.specs.declared.domain.TheConstants.{MAX_VALUE}
+use Rattle.pi_constraints.specs.declared.domain.Span.{Span}
+use Rattle.pi_constraints.specs.Domain.{AscendFrom, IsDomain, IsWithinBounds, span_has, has_value}
 use Rattle.pi_dom.proofs.ClipLemmas.{int_eq_is}
-use Rattle.pi_types.proofs.SpanLemmas.{AscendFrom-append, AscendFrom-first, AscendFrom-last, has_value-append, next_start-push}
+use Rattle.pi_constraints.proofs.SpanLemmas.{AscendFrom-append, AscendFrom-first, AscendFrom-last, has_value-append, next_start-push}
 
 -- the spans of some integers, of which the last is the end of the last span
 pub record Joins (numbers : List ℤ) (done : List Span) (last : Span) : Type 0 where

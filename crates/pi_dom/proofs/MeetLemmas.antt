@@ -1,17 +1,15 @@
 -- What two lists of spans share, span by span.
-use Rattle.std.specs.Prelude.{◌≡◌, Bool, true, false, ◌&&◌, ◌||◌, List, [], ◌∷◌, ◌++◌, ℤ, pos, ◌+ℤ◌, neg_ℤ, ◌≤ℤ◌, ◌<ℤ◌, int_le, int_lt, refl, cond, ◌⊎◌}
+use Rattle.std.specs.Prelude.{◌≡◌, Bool, true, false, ◌&&◌, ◌||◌, List, [], ◌∷◌, ◌++◌, ℤ, pos, ◌+ℤ◌, neg_ℤ, ◌≤ℤ◌, ◌<ℤ◌, int_le, refl, cond, ◌⊎◌, Result, Ok, Err, IfOk}
 use Rattle.std.specs.Int.{int_max, int_min}
 use Rattle.std.proofs.Common.{ℕ, ◌<◌, ◌≤◌, ◌+◌, length, get_or, drop, drop-cons, add-one, arith, sym, ◌∙◌, ap, subst, inl, inr}
 use Rattle.std.proofs.lemmas.Int.{ints, clamps, by_lt_z}
 use Rattle.std.proofs.lemmas.List.{drop_all}
-use Rattle.pi_types.specs.declared.domain.TheConstants.{MAX_VALUE}
-use Rattle.pi_types.specs.declared.domain.Span.{Span}
-use Rattle.pi_types.specs.Domain.{AscendFrom, IsDomain, span_has, has_value}
-use Rattle.std.specs.Prelude.{Result, Ok, Err, IfOk}
-use Rattle.pi_types.specs.Domain.{overlap, common}
-use Rattle.pi_types.proofs.DomainLemmas.{same_values_same_domain}
-use Rattle.pi_types.proofs.CommonLemmas.{AscendFrom-overlap, has_value-overlap, IsDomain-common, has_value-common}
-use Rattle.pi_types.proofs.SpanLemmas.{AscendFrom-lower, AscendFrom-tail, AscendFrom-append, AscendFrom-drop, has_value-below, has_value-append, next_start, next_start-append}
+use Rattle.pi_constraints.specs.declared.domain.TheConstants.{MAX_VALUE}
+use Rattle.pi_constraints.specs.declared.domain.Span.{Span}
+use Rattle.pi_constraints.specs.Domain.{AscendFrom, IsDomain, span_has, has_value, overlap, common}
+use Rattle.pi_constraints.proofs.DomainLemmas.{same_values_same_domain}
+use Rattle.pi_constraints.proofs.CommonLemmas.{AscendFrom-overlap, has_value-overlap, IsDomain-common, has_value-common}
+use Rattle.pi_constraints.proofs.SpanLemmas.{AscendFrom-lower, AscendFrom-tail, AscendFrom-append, AscendFrom-drop, has_value-below, has_value-append, next_start, next_start-append}
 
 -- what a body makes of a start and an end
 span_or_none : ℤ → ℤ → List Span

@@ -1,15 +1,15 @@
 -- How many values spans have.
 use Rattle.std.specs.Prelude.{◌≡◌, ℕ, suc, ◌<◌, ◌+◌, ◌^◌, List, [], ◌∷◌, ◌++◌, length, take, drop, ℤ, pos, ◌+ℤ◌, neg_ℤ, ◌≤ℤ◌}
 use Rattle.std.specs.Int.{int_gap}
-use Rattle.std.proofs.Common.{arith, sym, ◌∙◌, ap, subst, get_or, length-append, take-append-drop}
+use Rattle.std.proofs.Common.{arith, sym, ◌∙◌, ap, subst, get_or, take-append-drop}
 use Rattle.std.proofs.lemmas.Int.{ints}
 use Rattle.std.proofs.lemmas.List.{take_more}
-use Rattle.pi_types.specs.declared.domain.TheConstants.{MAX_VALUE}
-use Rattle.pi_types.specs.declared.domain.Span.{Span}
-use Rattle.pi_types.specs.Domain.{AscendFrom, IsDomain, numbers_from, values_of, size_of}
-use Rattle.pi_types.proofs.SpanLemmas.{AscendFrom-first}
-use Rattle.pi_types.proofs.DomainLemmas.{gap_is}
-use Rattle.pi_types.proofs.CommonLemmas.{size_of-cons}
+use Rattle.pi_constraints.specs.declared.domain.TheConstants.{MAX_VALUE}
+use Rattle.pi_constraints.specs.declared.domain.Span.{Span}
+use Rattle.pi_constraints.specs.Domain.{AscendFrom, IsDomain, values_of, size_of}
+use Rattle.pi_constraints.proofs.SpanLemmas.{AscendFrom-first}
+use Rattle.pi_constraints.proofs.DomainLemmas.{gap_is}
+use Rattle.pi_constraints.proofs.CommonLemmas.{size_of-cons}
 
 pub size_of-push : (ss : List Span) (s : Span) → size_of (ss ++ s ∷ []) ≡ size_of ss + suc (int_gap s.lo s.hi)
 size_of-push [] s = size_of-cons s [] ∙ omega arith

@@ -1,10 +1,11 @@
+//! Domains without some of their values.
 ghost use Rattle.std.specs.Prelude.{◌≡◌, ◌&&◌, not, ℤ, IfOk, int_le};
 ghost use Rattle.std.specs.Ordering.{int_eq};
-ghost use Rattle.pi_types.specs.Domain.{has_value};
+ghost use Rattle.pi_constraints.specs.Domain.{has_value};
 
 use crate::make::{all_but, clipped};
 use crate::meets::kept_values;
-use pi_types::{Domain, MAX_VALUE};
+use pi_constraints::{Domain, MAX_VALUE};
 use std::alloc::{AllocError, Global};
 
 /// The values that are at least `n`.

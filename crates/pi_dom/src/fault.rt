@@ -1,3 +1,4 @@
+//! The error of a domain that can't be made.
 ghost use Rattle.std.specs.Prelude.{◌≡◌};
 ghost use Rattle.pi_dom.specs.declared.fault.DomFault.TheVariants.{Memory};
 

@@ -6,8 +6,6 @@ mod fault;
 mod make;
 mod meets;
 mod reads;
-#[cfg(test)]
-mod tests;
 
 pub use cuts::{cut_above, cut_below, remove};
 pub use fault::DomFault;

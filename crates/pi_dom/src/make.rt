@@ -1,14 +1,15 @@
+//! Domains that are made of integers, and of parts of other domains.
 ghost use Rattle.std.specs.Prelude.{◌≡◌, ◌↔◌, ◌++◌, ◌&&◌, not, ℤ, pos, ◌≤ℤ◌, neg_ℤ, int_le, IsTrue, IfOk, Err, Contains, All, List, []};
 ghost use Rattle.std.specs.Ordering.{int_eq, int_cmp};
 ghost use Rattle.std.specs.List.{list_any};
 ghost use Rattle.std.specs.Option.{option_to_list};
 ghost use Rattle.std.specs.List.Sorted.{IsSorted};
-ghost use Rattle.pi_types.specs.Domain.{IsWithinBounds, IsDomain, has_value};
-ghost use Rattle.pi_types.specs.Domain.{overlap};
+ghost use Rattle.pi_constraints.specs.Domain.{IsWithinBounds, IsDomain, has_value};
+ghost use Rattle.pi_constraints.specs.Domain.{overlap};
 ghost use Rattle.pi_dom.specs.declared.fault.DomFault.TheVariants.{TooWide};
 
 use crate::fault::DomFault;
-use pi_types::{Domain, MAX_VALUE, Span};
+use pi_constraints::{Domain, MAX_VALUE, Span};
 use std::alloc::{AllocError, Global};
 
 /// The integers from `lo` to `hi`; there are none where `lo` is above `hi`. TooWide where one of them lies past the bounds

@@ -1,7 +1,8 @@
+//! The values that two domains share.
 ghost use Rattle.std.specs.Prelude.{◌≡◌, ◌++◌, ◌&&◌, ℤ, IfOk, is_ok, if◌then◌else◌};
-ghost use Rattle.pi_types.specs.Domain.{IsDomain, has_value, overlap, common};
+ghost use Rattle.pi_constraints.specs.Domain.{IsDomain, has_value, overlap, common};
 
-use pi_types::{Domain, Span};
+use pi_constraints::{Domain, Span};
 use std::alloc::{AllocError, Global};
 
 /// The values that two domains share. It looks once at each span.

@@ -1,8 +1,9 @@
+//! What a domain shows of its values.
 ghost use Rattle.std.specs.Prelude.{◌≡◌, ◌↔◌, [], IfSome, IsNone, suc, ◌≤ℤ◌};
-ghost use Rattle.pi_types.specs.Domain.{IsWithinBounds, has_value, size_of, IsLeastValue, IsGreatestValue};
+ghost use Rattle.pi_constraints.specs.Domain.{IsWithinBounds, has_value, size_of, IsLeastValue, IsGreatestValue};
 ghost use Rattle.std.specs.Int.{int_gap};
 
-use pi_types::{Domain, Span};
+use pi_constraints::{Domain, Span};
 
 /// Whether `n` is a value. It looks at no more spans than their number has binary digits, and takes no memory.
 pub fn contains(d: &Domain, n: i128) -> bool

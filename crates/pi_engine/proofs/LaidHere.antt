@@ -2,27 +2,27 @@
 use Rattle.std.proofs.Common.{◌≡◌, inl, inr, ℕ, zero, suc, ◌+◌, ◌<◌, Bool, true, false, List, [], ◌∷◌, ◌++◌, Option, Some, length, take, drop, map, refl, sym, ◌∙◌, ap, subst, arith}
 use Rattle.std.specs.Prelude.{slice_get, slice_index_or, Contains, codes, option_map}
 use Rattle.std.proofs.lemmas.Option.{slice_get-map, slice_get_within, get_or_from_slice_get}
-use Rattle.pi_types.specs.Tree.{Tree}
-use Rattle.pi_types.specs.State.{SpeaksBelow}
-use Rattle.pi_types.specs.Store.{Terms}
-use Rattle.pi_types.specs.GoalTree.{GoalTree, truth, fail, tick, call, apply, seq, alternatives, if_else, not, once, collect, count, catch, GoalTrees, no_goals, goal, subgoals, nodes}
-use Rattle.pi_types.specs.GoalCells.{kind_of, cell_of, flat}
-use Rattle.pi_types.specs.CoreTree.{pred_tree}
-use Rattle.pi_types.specs.Sound.{CallsKnown, SlotsBelow, NamesBelow}
-use Rattle.pi_types.specs.declared.goal_node.GoalCell.{GoalCell}
-use Rattle.pi_types.specs.declared.goal_node.GoalKind.{GoalKind}
-use Rattle.pi_types.specs.declared.core_program.CorePred.{CorePred}
-use Rattle.pi_engine.specs.declared.code.Node.{Node}
-use Rattle.pi_engine.specs.declared.code.Step.{Step}
-use Rattle.pi_engine.specs.declared.code.Code.{Code}
-use Rattle.pi_engine.specs.Code.{Tables, node_kind, step_cell, operand_tree, arguments}
-use Rattle.pi_engine.specs.Here.{Block, NodeIsReadable, SaysLast, SayLast, LastOfAll, EachLast, IsHere, IsValueHere}
-use Rattle.pi_engine.specs.Stands.{HasNumber}
-use Rattle.pi_engine.specs.Laid.{tables_for, IsNamed, IsNotBuiltIn, IsUnknown, IsNodeOf, OperandsAt, Marked, mark, marked, marked_seq, marked_each, IsStepFor, StepsAt, IsLaid, IsValueLaid, IsResolved, AreResolved}
-use Rattle.pi_types.specs.Builtin.{is_built_in}
-use Rattle.pi_engine.proofs.LaidGoals.{goals-in, length-marked}
-use Rattle.pi_engine.proofs.ReadsHere.{drop-got, got-index, operand-reads, operands-read, operand-readable, operands-within, operands-readable}
-use Rattle.pi_engine.proofs.KnownGoals.{goal-known, built-in-not}
+use Rattle.pi_terms.specs.Tree.{Tree}
+use Rattle.pi_states.specs.State.{SpeaksBelow}
+use Rattle.pi_states.specs.Store.{Terms}
+use Rattle.pi_core.specs.GoalTree.{GoalTree, truth, fail, tick, call, apply, seq, alternatives, if_else, not, once, collect, count, catch, GoalTrees, no_goals, goal, subgoals, nodes}
+use Rattle.pi_core.specs.GoalCells.{kind_of, cell_of, flat}
+use Rattle.pi_core.specs.CoreTree.{pred_tree}
+use Rattle.pi_meaning.specs.Sound.{CallsKnown, SlotsBelow, NamesBelow}
+use Rattle.pi_core.specs.declared.goal_node.GoalCell.{GoalCell}
+use Rattle.pi_core.specs.declared.goal_node.GoalKind.{GoalKind}
+use Rattle.pi_core.specs.declared.core_program.CorePred.{CorePred}
+use Rattle.pi_code.specs.declared.code.Node.{Node}
+use Rattle.pi_code.specs.declared.code.Step.{Step}
+use Rattle.pi_code.specs.declared.code.Code.{Code}
+use Rattle.pi_code.specs.Code.{Tables, node_kind, step_cell, operand_tree, arguments}
+use Rattle.pi_stands.specs.Here.{Block, NodeIsReadable, SaysLast, SayLast, LastOfAll, EachLast, IsHere, IsValueHere}
+use Rattle.pi_stands.specs.Stands.{HasNumber}
+use Rattle.pi_code.specs.Laid.{tables_for, IsNamed, IsNotBuiltIn, IsUnknown, IsNodeOf, OperandsAt, Marked, mark, marked, marked_seq, marked_each, IsStepFor, StepsAt, IsLaid, IsValueLaid, IsResolved, AreResolved}
+use Rattle.pi_effects.specs.Builtin.{is_built_in}
+use Rattle.pi_code.proofs.LaidGoals.{goals-in, length-marked}
+use Rattle.pi_stands.proofs.ReadsHere.{drop-got, got-index, operand-reads, operands-read, operand-readable, operands-within, operands-readable}
+use Rattle.pi_stands.proofs.KnownGoals.{goal-known, built-in-not}
 
 -- ---- nodes
 

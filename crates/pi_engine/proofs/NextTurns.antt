@@ -1,27 +1,27 @@
 -- The turns of a call of `next`, and what the call comes to.
 use Rattle.std.proofs.Common.{Box, Global, ◌≡◌, ◌≢◌, ◌⊎◌, inl, inr, ℕ, List, refl, sym, ap, subst}
-use Rattle.pi_types.specs.Tree.{Tree}
-use Rattle.pi_types.specs.View.{View}
-use Rattle.pi_types.specs.declared.core_program.NameSlot.{NameSlot}
-use Rattle.pi_types.specs.declared.answer.Answer.{Answer}
-use Rattle.pi_engine.specs.declared.code.Code.{Code}
-use Rattle.pi_engine.specs.declared.happening.Budget.{Budget}
-use Rattle.pi_engine.specs.declared.happening.Happening.{Happening}
-use Rattle.pi_engine.specs.declared.happening.Mode.{Mode}
-use Rattle.pi_engine.specs.declared.run.End.{End as RunEnd}
-use Rattle.pi_engine.specs.declared.run.Now.{Now}
+use Rattle.pi_terms.specs.Tree.{Tree}
+use Rattle.pi_meaning.specs.View.{View}
+use Rattle.pi_core.specs.declared.core_program.NameSlot.{NameSlot}
+use Rattle.pi_answers.specs.declared.answer.Answer.{Answer}
+use Rattle.pi_code.specs.declared.code.Code.{Code}
+use Rattle.pi_machine.specs.declared.happening.Budget.{Budget}
+use Rattle.pi_machine.specs.declared.happening.Happening.{Happening}
+use Rattle.pi_machine.specs.declared.happening.Mode.{Mode}
+use Rattle.pi_arenas.specs.declared.run.End.{End as RunEnd}
+use Rattle.pi_arenas.specs.declared.run.Now.{Now}
 use Rattle.pi_engine.specs.declared.turns.Outcome.{Outcome as CodeOutcome}
-use Rattle.pi_engine.specs.Answers.{AreNames}
-use Rattle.pi_engine.specs.Budget.{Counts}
-use Rattle.pi_engine.specs.Built.{AreOfRules}
-use Rattle.pi_engine.specs.Configuration.{Config}
-use Rattle.pi_engine.specs.Goes.{counted, IsAt, Goes, IsSpent, IsIn}
-use Rattle.pi_engine.specs.Next.{Tells, some_ticks, NextIs}
-use Rattle.pi_engine.specs.Shape.{IsGood}
-use Rattle.pi_engine.specs.Stands.{World, Loaded}
+use Rattle.pi_stands.specs.Answers.{AreNames}
+use Rattle.pi_machine.specs.Budget.{Counts}
+use Rattle.pi_machine.specs.Built.{AreOfRules}
+use Rattle.pi_machine.specs.Configuration.{Config}
+use Rattle.pi_stands.specs.Goes.{counted, IsAt, Goes, IsSpent, IsIn}
+use Rattle.pi_machine.specs.Next.{Tells, some_ticks, NextIs}
+use Rattle.pi_machine.specs.Shape.{IsGood}
+use Rattle.pi_stands.specs.Stands.{World, Loaded}
 use Rattle.pi_engine.specs.Turns.{StepIs, IsRunning, FitsMode, NextComes, IsAnswered, IsRepeated, IsRaised, Lasts}
-use Rattle.pi_engine.proofs.GoalsGo.{none-counted}
-use Rattle.pi_engine.proofs.LeadLemmas.{leads-none}
+use Rattle.pi_stands.proofs.GoalsGo.{none-counted}
+use Rattle.pi_machine.proofs.LeadLemmas.{leads-none}
 use Rattle.pi_engine.proofs.TurnsGo.{more-goes, answer-goes}
 
 -- ---- where a run has ended

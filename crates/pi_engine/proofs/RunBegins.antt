@@ -1,28 +1,28 @@
 -- A run that begins stands for the configuration that a query begins with.
 use Rattle.std.proofs.Common.{◌≡◌, ℕ, zero, suc, false, List, [], ◌++◌, Option, None, length, take, map, replicate, refl, sym, ◌∙◌, ap, subst, arith}
-use Rattle.pi_types.specs.State.{IsState, empty_state, bindings}
-use Rattle.pi_types.specs.Value.{IsAcyclic}
-use Rattle.pi_types.specs.Store.{Terms, Moment, StoreView, Keeps, Stays, Marks, Returns}
-use Rattle.pi_types.specs.GoalTree.{GoalTree, no_goals, goal}
-use Rattle.pi_types.specs.CoreTree.{pred_tree}
-use Rattle.pi_types.specs.Sound.{IsSound, IsSoundQuery, CallsKnown}
-use Rattle.pi_types.specs.declared.store.Ref.{Ref}
-use Rattle.pi_types.specs.declared.core_program.CorePred.{CorePred}
-use Rattle.pi_types.specs.declared.core_program.NameSlot.{NameSlot}
-use Rattle.pi_types.proofs.KeepsRules.{empty-is-state}
+use Rattle.pi_states.specs.State.{IsState, empty_state, bindings}
+use Rattle.pi_states.specs.Value.{IsAcyclic}
+use Rattle.pi_states.specs.Store.{Terms, Moment, StoreView, Keeps, Stays, Marks, Returns}
+use Rattle.pi_core.specs.GoalTree.{GoalTree, no_goals, goal}
+use Rattle.pi_core.specs.CoreTree.{pred_tree}
+use Rattle.pi_meaning.specs.Sound.{IsSound, IsSoundQuery, CallsKnown}
+use Rattle.pi_states.specs.declared.store.Ref.{Ref}
+use Rattle.pi_core.specs.declared.core_program.CorePred.{CorePred}
+use Rattle.pi_core.specs.declared.core_program.NameSlot.{NameSlot}
+use Rattle.pi_states.proofs.KeepsLemmas.{empty-is-state}
 use Rattle.std.proofs.lemmas.List.{map-append}
-use Rattle.pi_engine.specs.declared.code.Code.{Code}
-use Rattle.pi_engine.specs.declared.blocks.Written.{Written}
-use Rattle.pi_engine.specs.declared.run.Now.{Now}
-use Rattle.pi_engine.specs.Code.{tables_of, preds_of}
-use Rattle.pi_engine.specs.Arenas.{ArenasView}
-use Rattle.pi_engine.specs.Here.{Block, AreHeld, IsHere, last_here, answers}
-use Rattle.pi_engine.specs.Shape.{open_level}
-use Rattle.pi_engine.specs.Configuration.{config, going}
-use Rattle.pi_engine.specs.Stands.{Loaded, tables_in, steps_of, world, IsCodeOf, no_entries, Stands, NowIs, going_now}
-use Rattle.pi_engine.specs.LaidRules.{IsFilled}
-use Rattle.pi_engine.specs.Begins.{asked, no_arenas, loaded_with, Begins}
-use Rattle.pi_engine.specs.Blocks.{BlocksView}
+use Rattle.pi_code.specs.declared.code.Code.{Code}
+use Rattle.pi_arenas.specs.declared.blocks.Written.{Written}
+use Rattle.pi_arenas.specs.declared.run.Now.{Now}
+use Rattle.pi_code.specs.Code.{tables_of, preds_of}
+use Rattle.pi_arenas.specs.Arenas.{ArenasView, no_arenas}
+use Rattle.pi_stands.specs.Here.{Block, AreHeld, IsHere, last_here, answers}
+use Rattle.pi_machine.specs.Shape.{open_level}
+use Rattle.pi_machine.specs.Configuration.{config, going}
+use Rattle.pi_stands.specs.Stands.{Loaded, tables_in, steps_of, world, IsCodeOf, no_entries, Stands, NowIs, going_now}
+use Rattle.pi_code.specs.LaidRules.{IsFilled}
+use Rattle.pi_engine.specs.Begins.{asked, loaded_with, Begins}
+use Rattle.pi_arenas.specs.Blocks.{BlocksView}
 use Rattle.pi_engine.proofs.LaidHere.{goal-here}
 use Rattle.pi_engine.proofs.LaidCode.{code-stands}
 

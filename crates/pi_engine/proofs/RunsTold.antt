@@ -1,34 +1,34 @@
 -- What a call of `next` comes to, for those that use the machine.
 use Rattle.std.proofs.Common.{◌≡◌, ◌⊎◌, inl, inr, ℕ, zero, suc, ◌+◌, ◌<◌, List, [], ◌∷◌, ◌++◌, refl, ◌∙◌, ap, subst, arith}
 use Rattle.std.specs.Prelude.{Contains}
-use Rattle.pi_types.specs.Store.{StoreView}
-use Rattle.pi_types.specs.View.{View}
-use Rattle.pi_types.specs.CoreTree.{PredTree, QueryTree}
-use Rattle.pi_types.specs.Depth.{Cut, Spent, with_events}
-use Rattle.pi_types.specs.Trace.{End, Done, Raise, Tick, Load, Out, Emitted, noted, answered, count_ticks}
-use Rattle.pi_types.specs.Run.{Solution, IsRunUnder}
-use Rattle.pi_types.specs.Sound.{IsSoundQuery}
-use Rattle.pi_types.specs.declared.core_program.NameSlot.{NameSlot}
-use Rattle.pi_engine.specs.declared.happening.Budget.{Budget}
-use Rattle.pi_engine.specs.declared.happening.Happening.{Happening}
-use Rattle.pi_engine.specs.declared.happening.Mode.{Mode}
-use Rattle.pi_engine.specs.declared.run.End.{End as RunEnd}
-use Rattle.pi_engine.specs.declared.run.Now.{Now}
-use Rattle.pi_engine.specs.Arenas.{ArenasView}
-use Rattle.pi_engine.specs.Answers.{AreNames}
+use Rattle.pi_states.specs.Store.{StoreView}
+use Rattle.pi_meaning.specs.View.{View}
+use Rattle.pi_core.specs.CoreTree.{PredTree, QueryTree}
+use Rattle.pi_traces.specs.Depth.{Cut, Spent, with_events}
+use Rattle.pi_traces.specs.Trace.{End, Done, Raise, Tick, Load, Out, Emitted, noted, answered, count_ticks}
+use Rattle.pi_meaning.specs.Run.{Solution, IsRunUnder}
+use Rattle.pi_meaning.specs.Sound.{IsSoundQuery}
+use Rattle.pi_core.specs.declared.core_program.NameSlot.{NameSlot}
+use Rattle.pi_machine.specs.declared.happening.Budget.{Budget}
+use Rattle.pi_machine.specs.declared.happening.Happening.{Happening}
+use Rattle.pi_machine.specs.declared.happening.Mode.{Mode}
+use Rattle.pi_arenas.specs.declared.run.End.{End as RunEnd}
+use Rattle.pi_arenas.specs.declared.run.Now.{Now}
+use Rattle.pi_arenas.specs.Arenas.{ArenasView}
+use Rattle.pi_stands.specs.Answers.{AreNames}
 use Rattle.pi_engine.specs.Begins.{Begins}
-use Rattle.pi_engine.specs.Built.{AreOfRules}
-use Rattle.pi_engine.specs.Configuration.{Config}
-use Rattle.pi_engine.specs.Goes.{counted, HasNone, IsSpent, IsIn}
-use Rattle.pi_engine.specs.Leads.{Leads, IsAtEnd, IsAtTick}
-use Rattle.pi_engine.specs.Next.{some_ticks}
+use Rattle.pi_machine.specs.Built.{AreOfRules}
+use Rattle.pi_machine.specs.Configuration.{Config}
+use Rattle.pi_stands.specs.Goes.{counted, HasNone, IsSpent, IsIn}
+use Rattle.pi_machine.specs.Leads.{Leads, IsAtEnd, IsAtTick}
+use Rattle.pi_machine.specs.Next.{some_ticks}
 use Rattle.pi_engine.specs.Runs.{MachineView, loaded_as, run_of, RunsTo, EndsWith, Happens}
-use Rattle.pi_engine.specs.Step.{start}
+use Rattle.pi_machine.specs.Step.{start}
 use Rattle.pi_engine.specs.Turns.{FitsMode, NextComes, Lasts}
-use Rattle.pi_engine.specs.Stands.{World, Stands}
-use Rattle.pi_engine.proofs.GoalsGo.{no-end, is-at}
-use Rattle.pi_engine.proofs.LeadLemmas.{leads-none, leads-on, start-good}
-use Rattle.pi_engine.proofs.RunLaws.{ended-run, spent-run, run-prefix}
+use Rattle.pi_stands.specs.Stands.{World, Stands}
+use Rattle.pi_stands.proofs.GoalsGo.{no-end, is-at}
+use Rattle.pi_machine.proofs.LeadLemmas.{leads-none, leads-on, start-good}
+use Rattle.pi_machine.proofs.RunLaws.{ended-run, spent-run, run-prefix}
 
 -- ---- Ticks behind events
 

@@ -1,33 +1,33 @@
 -- What each step of the code is to a run: the Ticks that it counts, its answer, and where the run is then.
 use Rattle.std.proofs.Common.{Box, Global, ◌≡◌, ℕ, ◌+◌, List, [], ◌∷◌, ◌++◌, refl, sym, ◌∙◌, ap, subst, append_assoc, arith}
 use Rattle.std.proofs.lemmas.List.{replicate-append-replicate}
-use Rattle.pi_types.specs.Tree.{Tree}
-use Rattle.pi_types.specs.View.{View}
-use Rattle.pi_types.specs.CoreTree.{PredTree}
-use Rattle.pi_types.specs.Trace.{End, Done, Raise, Abort, Miss, Deep, Tick, noted, Emitted, answered}
-use Rattle.pi_types.specs.Run.{Solution}
-use Rattle.pi_types.specs.declared.core_program.NameSlot.{NameSlot}
-use Rattle.pi_types.specs.declared.answer.Answer.{Answer}
-use Rattle.pi_engine.specs.declared.happening.Budget.{Budget}
-use Rattle.pi_engine.specs.declared.happening.Mode.{Mode}
-use Rattle.pi_engine.specs.declared.run.End.{End as RunEnd}
-use Rattle.pi_engine.specs.declared.run.Now.{Now}
+use Rattle.pi_terms.specs.Tree.{Tree}
+use Rattle.pi_meaning.specs.View.{View}
+use Rattle.pi_core.specs.CoreTree.{PredTree}
+use Rattle.pi_traces.specs.Trace.{End, Done, Raise, Abort, Miss, Deep, Tick, noted, Emitted, answered}
+use Rattle.pi_meaning.specs.Run.{Solution}
+use Rattle.pi_core.specs.declared.core_program.NameSlot.{NameSlot}
+use Rattle.pi_answers.specs.declared.answer.Answer.{Answer}
+use Rattle.pi_machine.specs.declared.happening.Budget.{Budget}
+use Rattle.pi_machine.specs.declared.happening.Mode.{Mode}
+use Rattle.pi_arenas.specs.declared.run.End.{End as RunEnd}
+use Rattle.pi_arenas.specs.declared.run.Now.{Now}
 use Rattle.pi_engine.specs.declared.turns.Outcome.{Outcome as CodeOutcome}
-use Rattle.pi_engine.specs.Budget.{Counts}
-use Rattle.pi_engine.specs.Built.{AreOfRules}
-use Rattle.pi_engine.specs.Configuration.{Config, config, failed, raising, Now as NowData}
-use Rattle.pi_engine.specs.Fails.{IsEnded, ComesTo, Fails}
-use Rattle.pi_engine.specs.Raises.{Raises}
-use Rattle.pi_engine.specs.Goes.{counted, IsAt, Goes, IsSpent, TicksOn, IsIn}
-use Rattle.pi_engine.specs.Leads.{Leads}
-use Rattle.pi_engine.specs.Next.{Tells, some_ticks}
-use Rattle.pi_engine.specs.Shape.{IsGood}
-use Rattle.pi_engine.specs.Stands.{World, NowIs, going_now, failing_now, raising_now, Stands}
-use Rattle.pi_engine.specs.Step.{Outcome, silently, with_tick, quietly, answering, ending, fail_step, raise_step, step}
+use Rattle.pi_machine.specs.Budget.{Counts}
+use Rattle.pi_machine.specs.Built.{AreOfRules}
+use Rattle.pi_machine.specs.Configuration.{Config, config, failed, raising, Now as NowData}
+use Rattle.pi_stands.specs.Fails.{IsEnded, ComesTo, Fails}
+use Rattle.pi_stands.specs.Raises.{Raises}
+use Rattle.pi_stands.specs.Goes.{counted, IsAt, Goes, IsSpent, TicksOn, IsIn}
+use Rattle.pi_machine.specs.Leads.{Leads}
+use Rattle.pi_machine.specs.Next.{Tells, some_ticks}
+use Rattle.pi_machine.specs.Shape.{IsGood}
+use Rattle.pi_stands.specs.Stands.{World, NowIs, going_now, failing_now, raising_now, Stands}
+use Rattle.pi_machine.specs.Step.{Outcome, silently, with_tick, quietly, answering, ending, fail_step, raise_step, step}
 use Rattle.pi_engine.specs.Turns.{StepIs}
-use Rattle.pi_engine.proofs.GoalsGo.{is-at, none-counted, unspent, silent-goes}
-use Rattle.pi_engine.proofs.LeadLemmas.{leads-none, leads-on, step-ends}
-use Rattle.pi_engine.proofs.PointsDone.{GoesSilently}
+use Rattle.pi_stands.proofs.GoalsGo.{is-at, none-counted, unspent, silent-goes}
+use Rattle.pi_machine.proofs.LeadLemmas.{leads-none, leads-on, step-ends}
+use Rattle.pi_stands.proofs.PointsDone.{GoesSilently}
 
 -- ---- no further answer, and exceptions
 

@@ -1,28 +1,28 @@
 -- The run of a machine, as those that use it see it: its events so far, and what a call of `next` adds to them.
 use Rattle.std.specs.Prelude.{◌≡◌, ℕ, ◌+◌, ◌≤◌, List, [], ◌∷◌, ◌++◌, ⊤}
-use Rattle.pi_types.specs.Store.{Terms, StoreView}
-use Rattle.pi_types.specs.Trace.{End, Done, Raise, Emitted, answered, count_ticks}
-use Rattle.pi_types.specs.Depth.{Cut, Ended, Spent, with_events}
-use Rattle.pi_types.specs.View.{View}
-use Rattle.pi_types.specs.CoreTree.{PredTree, QueryTree}
-use Rattle.pi_types.specs.Run.{Solution, IsRunUnder}
-use Rattle.pi_types.specs.declared.core_program.NameSlot.{NameSlot}
-use Rattle.pi_engine.specs.declared.code.Code.{Code}
-use Rattle.pi_engine.specs.declared.happening.Budget.{Budget}
-use Rattle.pi_engine.specs.declared.happening.Happening.{Happening}
-use Rattle.pi_engine.specs.declared.happening.Mode.{Mode}
+use Rattle.pi_states.specs.Store.{Terms, StoreView}
+use Rattle.pi_traces.specs.Trace.{End, Done, Raise, Emitted, answered, count_ticks}
+use Rattle.pi_traces.specs.Depth.{Cut, Ended, Spent, with_events}
+use Rattle.pi_meaning.specs.View.{View}
+use Rattle.pi_core.specs.CoreTree.{PredTree, QueryTree}
+use Rattle.pi_meaning.specs.Run.{Solution, IsRunUnder}
+use Rattle.pi_core.specs.declared.core_program.NameSlot.{NameSlot}
+use Rattle.pi_code.specs.declared.code.Code.{Code}
+use Rattle.pi_machine.specs.declared.happening.Budget.{Budget}
+use Rattle.pi_machine.specs.declared.happening.Happening.{Happening}
+use Rattle.pi_machine.specs.declared.happening.Mode.{Mode}
 use Rattle.pi_engine.specs.declared.machine.Machine.{Machine}
-use Rattle.pi_engine.specs.declared.run.Now.{Now}
-use Rattle.pi_engine.specs.Arenas.{ArenasView, view_of}
-use Rattle.pi_engine.specs.Answers.{AreNames}
-use Rattle.pi_engine.specs.Built.{AreOfRules}
-use Rattle.pi_engine.specs.Configuration.{Config}
-use Rattle.pi_engine.specs.Goes.{counted, HasNone, IsAt}
-use Rattle.pi_engine.specs.Leads.{Leads}
-use Rattle.pi_engine.specs.Next.{Tells, some_ticks}
-use Rattle.pi_engine.specs.Shape.{IsGood}
-use Rattle.pi_engine.specs.Stands.{Loaded, World, world}
-use Rattle.pi_engine.specs.Step.{start}
+use Rattle.pi_arenas.specs.declared.run.Now.{Now}
+use Rattle.pi_arenas.specs.Arenas.{ArenasView, view_of}
+use Rattle.pi_stands.specs.Answers.{AreNames}
+use Rattle.pi_machine.specs.Built.{AreOfRules}
+use Rattle.pi_machine.specs.Configuration.{Config}
+use Rattle.pi_stands.specs.Goes.{counted, HasNone, IsAt}
+use Rattle.pi_machine.specs.Leads.{Leads}
+use Rattle.pi_machine.specs.Next.{Tells, some_ticks}
+use Rattle.pi_machine.specs.Shape.{IsGood}
+use Rattle.pi_stands.specs.Stands.{Loaded, World, world}
+use Rattle.pi_machine.specs.Step.{start}
 use Rattle.pi_engine.specs.Turns.{IsRunning, FitsMode}
 
 -- a machine at one moment: its tables and the names that its answers tell, what it counts, its store, its arenas and what

@@ -1,20 +1,20 @@
 -- What a step of the machine's code does, and what a call of `next` comes to.
 use Rattle.std.specs.Prelude.{◌≡◌, ◌⊎◌, List, [], ◌∷◌, ◌++◌, ⊤}
-use Rattle.pi_types.specs.Trace.{Emitted, answered}
-use Rattle.pi_types.specs.View.{View}
-use Rattle.pi_types.specs.Run.{Solution}
-use Rattle.pi_types.specs.declared.core_program.NameSlot.{NameSlot}
-use Rattle.pi_engine.specs.declared.happening.Budget.{Budget}
-use Rattle.pi_engine.specs.declared.happening.Happening.{Happening}
-use Rattle.pi_engine.specs.declared.happening.Mode.{Mode}
-use Rattle.pi_engine.specs.declared.run.End.{End as RunEnd}
-use Rattle.pi_engine.specs.declared.run.Now.{Now}
+use Rattle.pi_traces.specs.Trace.{Emitted, answered}
+use Rattle.pi_meaning.specs.View.{View}
+use Rattle.pi_meaning.specs.Run.{Solution}
+use Rattle.pi_core.specs.declared.core_program.NameSlot.{NameSlot}
+use Rattle.pi_machine.specs.declared.happening.Budget.{Budget}
+use Rattle.pi_machine.specs.declared.happening.Happening.{Happening}
+use Rattle.pi_machine.specs.declared.happening.Mode.{Mode}
+use Rattle.pi_arenas.specs.declared.run.End.{End as RunEnd}
+use Rattle.pi_arenas.specs.declared.run.Now.{Now}
 use Rattle.pi_engine.specs.declared.turns.Outcome.{Outcome}
-use Rattle.pi_engine.specs.Configuration.{Config}
-use Rattle.pi_engine.specs.Shape.{IsGood}
-use Rattle.pi_engine.specs.Stands.{World}
-use Rattle.pi_engine.specs.Next.{Tells, some_ticks, NextIs}
-use Rattle.pi_engine.specs.Goes.{counted, IsAt, Goes, IsSpent}
+use Rattle.pi_machine.specs.Configuration.{Config}
+use Rattle.pi_machine.specs.Shape.{IsGood}
+use Rattle.pi_stands.specs.Stands.{World}
+use Rattle.pi_machine.specs.Next.{Tells, some_ticks, NextIs}
+use Rattle.pi_stands.specs.Goes.{counted, IsAt, Goes, IsSpent}
 
 -- ---- one step
 

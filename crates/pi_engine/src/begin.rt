@@ -1,19 +1,20 @@
 //! The beginning of a run.
 ghost use Rattle.std.specs.Prelude.{◌≡◌, List, IfOk};
-ghost use Rattle.pi_types.specs.State.{empty_state};
-ghost use Rattle.pi_types.specs.Store.{Keeps};
-ghost use Rattle.pi_types.specs.CoreTree.{program_tree};
-ghost use Rattle.pi_types.specs.Sound.{IsSoundQuery};
-ghost use Rattle.pi_types.specs.declared.core_program.NameSlot.{NameSlot};
-ghost use Rattle.pi_engine.specs.Arenas.{view_of};
-ghost use Rattle.pi_engine.specs.Begins.{asked, no_arenas, Begins};
+ghost use Rattle.pi_states.specs.State.{empty_state};
+ghost use Rattle.pi_states.specs.Store.{Keeps};
+ghost use Rattle.pi_core.specs.CoreTree.{program_tree};
+ghost use Rattle.pi_meaning.specs.Sound.{IsSoundQuery};
+ghost use Rattle.pi_core.specs.declared.core_program.NameSlot.{NameSlot};
+ghost use Rattle.pi_arenas.specs.Arenas.{view_of};
+ghost use Rattle.pi_engine.specs.Begins.{asked, Begins};
+ghost use Rattle.pi_arenas.specs.Arenas.{no_arenas};
 ghost use Rattle.pi_engine.specs.Turns.{IsRunning};
 
-use crate::build::build;
-use crate::code::Code;
-use crate::run::Run;
-use crate::steps::choices::one_goal;
-use pi_types::{CoreGoal, CorePreds, CoreProgram, StateStore};
+use pi_arenas::Run;
+use pi_code::{Code, build_code};
+use pi_core::{CoreGoal, CorePreds, CoreProgram};
+use pi_states::StateStore;
+use pi_steps::one_goal;
 use std::alloc::{AllocError, Global};
 
 /// Begins the run of a query: its tables are built, it has its slots, and its goal comes next.
@@ -29,7 +30,7 @@ pub fn begin<'p, S: StateStore>(
     ensures running { IfOk result (λ _. IsRunning run.new.now) }
     ensures begins { IfOk result (λ code. (names : List NameSlot) → (S.seen run.old.store).now.state ≡ empty_state → view_of run.old.arenas ≡ no_arenas → IsSoundQuery (program_tree core.now) (asked goal.now helpers names slots) → Begins S.order code (S.seen run.new.store) (view_of run.new.arenas) run.new.now (program_tree core.now) (asked goal.now helpers names slots)) }
 {
-    let (code, place) = build(alloc, core, helpers, goal, slots, &mut run.store)?;
+    let (code, place) = build_code(alloc, core, helpers, goal, slots, &mut run.store)?;
     run.arenas.blocks.push_empty(slots)?;
     run.now = one_goal(place, 0, 0);
     Ok(code)

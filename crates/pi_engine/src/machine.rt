@@ -1,26 +1,28 @@
-ghost use Rattle.std.specs.Prelude.{◌≡◌, [], ◌++◌, List, IfOk, IfErr};
-ghost use Rattle.pi_types.specs.State.{empty_state};
-ghost use Rattle.pi_types.specs.Store.{Stays};
-ghost use Rattle.pi_types.specs.CoreTree.{PredTree, QueryTree, program_tree, query_tree};
-ghost use Rattle.pi_types.specs.Run.{Solution};
-ghost use Rattle.pi_types.specs.Sound.{IsSoundQuery};
-ghost use Rattle.pi_types.specs.Trace.{Emitted};
-ghost use Rattle.pi_types.specs.View.{View};
-ghost use Rattle.pi_engine.specs.declared.run.End.{End};
-ghost use Rattle.pi_engine.specs.declared.run.Now.{Now};
-ghost use Rattle.pi_engine.specs.Budget.{Counts, IsWithin};
-ghost use Rattle.pi_engine.specs.Built.{AreOfRules};
-ghost use Rattle.pi_engine.specs.Arenas.{view_of};
+//! The machine, as its callers see it.
+ghost use Rattle.std.specs.Prelude.{◌≡◌, [], ◌++◌, List, length, IfOk, IfErr};
+ghost use Rattle.pi_states.specs.State.{empty_state};
+ghost use Rattle.pi_states.specs.Store.{Stays};
+ghost use Rattle.pi_core.specs.CoreTree.{PredTree, QueryTree, program_tree, query_tree};
+ghost use Rattle.pi_meaning.specs.Run.{Solution};
+ghost use Rattle.pi_meaning.specs.Sound.{IsSoundQuery};
+ghost use Rattle.pi_traces.specs.Trace.{Emitted};
+ghost use Rattle.pi_meaning.specs.View.{View};
+ghost use Rattle.pi_arenas.specs.declared.run.End.{End};
+ghost use Rattle.pi_arenas.specs.declared.run.Now.{Now};
+ghost use Rattle.pi_machine.specs.Budget.{Counts, IsWithin};
+ghost use Rattle.pi_machine.specs.Built.{AreOfRules};
+ghost use Rattle.pi_arenas.specs.Arenas.{view_of};
 ghost use Rattle.pi_engine.specs.Begins.{Begins};
 ghost use Rattle.pi_engine.specs.Runs.{machine_view, RunsTo, Happens};
 ghost use Rattle.pi_engine.specs.Turns.{IsRunning, IsRepeated, Lasts};
 
 use crate::begin::begin;
-use crate::code::Code;
-use crate::happening::{Budget, Happening, Mode};
-use crate::run::Run;
 use crate::turns::next_happening;
-use pi_types::{CoreProgram, CoreQuery, NameSlots, StateStore};
+use pi_arenas::Run;
+use pi_code::Code;
+use pi_core::{CoreProgram, CoreQuery, NameSlots};
+use pi_machine::{Budget, Happening, Mode};
+use pi_states::StateStore;
 use std::alloc::{AllocError, Global};
 
 /// A run of a goal over a store. It borrows its program.
@@ -30,6 +32,15 @@ pub struct Machine<'p, S: StateStore> {
     code: Code<'p>,
     mode: Mode,
     pub(crate) run: Run<S>,
+}
+
+/// How much a run keeps beside its store: entries, frames, slots, and values that are collected.
+#[derive(Clone, Copy, Debug, PartialEq, Eq)]
+pub struct Kept {
+    pub entries: usize,
+    pub frames: usize,
+    pub slots: usize,
+    pub collected: usize,
 }
 
 impl<'p, S: StateStore> Machine<'p, S> {
@@ -90,6 +101,22 @@ impl<S: StateStore> Machine<'_, S> {
             &mut self.run,
             budget,
         )
+    }
+
+    /// How much the run keeps beside its store.
+    pub fn kept(&self) -> Kept
+        ensures entries { result.entries ≡ length (view_of self.now.run.arenas).entries }
+        ensures frames { result.frames ≡ length (view_of self.now.run.arenas).frames }
+        ensures slots { result.slots ≡ length (view_of self.now.run.arenas).blocks.slots }
+        ensures collected { result.collected ≡ length (view_of self.now.run.arenas).collected }
+    {
+        let arenas = &self.run.arenas;
+        Kept {
+            entries: arenas.count(),
+            frames: arenas.frames.count(),
+            slots: arenas.blocks.count(),
+            collected: arenas.collected.len(),
+        }
     }
 
     /// Gives the store back.

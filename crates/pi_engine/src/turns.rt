@@ -1,28 +1,26 @@
 //! The turns of a machine: one step after the other, until there is an answer or an end.
 ghost use Rattle.std.specs.Prelude.{◌≡◌, Some, IfOk, IfErr};
-ghost use Rattle.pi_types.specs.View.{View};
-ghost use Rattle.pi_engine.specs.declared.happening.Budget.{Budget};
-ghost use Rattle.pi_engine.specs.declared.happening.Mode.{Mode};
-ghost use Rattle.pi_engine.specs.declared.run.End.{End};
-ghost use Rattle.pi_engine.specs.Budget.{Counts};
-ghost use Rattle.pi_engine.specs.Frames.{frame_at};
-ghost use Rattle.pi_engine.specs.Arenas.{view_of};
-ghost use Rattle.pi_engine.specs.Configuration.{Config};
-ghost use Rattle.pi_engine.specs.Answers.{AreNames};
-ghost use Rattle.pi_engine.specs.Stands.{Loaded, world};
-ghost use Rattle.pi_engine.specs.Makes.{GoesFrom};
-ghost use Rattle.pi_engine.specs.Goes.{IsIn, IsSpent, PointIsDone};
+ghost use Rattle.pi_meaning.specs.View.{View};
+ghost use Rattle.pi_machine.specs.declared.happening.Budget.{Budget};
+ghost use Rattle.pi_machine.specs.declared.happening.Mode.{Mode};
+ghost use Rattle.pi_arenas.specs.declared.run.End.{End};
+ghost use Rattle.pi_machine.specs.Budget.{Counts};
+ghost use Rattle.pi_arenas.specs.Frames.{frame_at};
+ghost use Rattle.pi_arenas.specs.Arenas.{view_of};
+ghost use Rattle.pi_machine.specs.Configuration.{Config};
+ghost use Rattle.pi_stands.specs.Answers.{AreNames};
+ghost use Rattle.pi_stands.specs.Stands.{Loaded, world};
+ghost use Rattle.pi_stands.specs.Makes.{GoesFrom};
+ghost use Rattle.pi_stands.specs.Goes.{IsIn, IsSpent, PointIsDone};
 ghost use Rattle.pi_engine.specs.Turns.{StepIs, NextComes, IsRunning, RunsAfter, IsAnswered, IsRepeated, Lasts, IsRaised};
 
-use crate::code::Code;
-use crate::frames::Point;
-use crate::happening::{Budget, Happening, Mode};
-use crate::run::{End, Now, Run};
-use crate::steps::answers::answer;
-use crate::steps::goals::run_goal;
-use crate::steps::levels::{answer_level, fail};
-use crate::steps::raises::unwind;
-use pi_types::{Answer, NameSlot, StateStore};
+use pi_answers::Answer;
+use pi_arenas::{End, Now, Point, Run};
+use pi_code::Code;
+use pi_core::NameSlot;
+use pi_machine::{Budget, Happening, Mode};
+use pi_states::StateStore;
+use pi_steps::{answer, answer_level, fail, run_goal, unwind};
 use std::alloc::{AllocError, Global};
 
 /// What a step comes to. An answer is boxed, since each step without one would move the room for it.

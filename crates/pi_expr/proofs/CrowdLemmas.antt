@@ -5,8 +5,8 @@ use Rattle.std.proofs.lemmas.Bool.{cases_Bool, false≢true}
 use Rattle.std.proofs.lemmas.Bool.Decides.{nat_tests}
 use Rattle.std.proofs.lemmas.Option.{slice_get_within, get_or_from_slice_get}
 use Rattle.std.proofs.lemmas.List.Sums.{sum_by-cons}
-use Rattle.pi_types.specs.Tokens.{Token}
-use Rattle.pi_types.specs.Crowding.{most_open, most_block_words, is_opening, is_closing, is_block_word, IsCrowded}
+use Rattle.pi_syntax.specs.Tokens.{Token}
+use Rattle.pi_syntax.specs.Crowding.{most_open, most_block_words, is_opening, is_closing, is_block_word, IsCrowded}
 use Rattle.pi_expr.specs.Crowds.{one_if, is_too_open}
 use Rattle.pi_expr.specs.Faults.{stretch}
 
@@ -72,6 +72,9 @@ pub crowded_by_words : (ts : List Token) (w : ℕ) (b : Bool) → is_too_open 0 
     → (b ≡ true) ↔ (most_block_words < w) → (b ≡ true) ↔ IsCrowded ts
 crowded_by_words ts w b few words many =
     (λ h. inr (rw words at (many.0 h)), λ crowded. many.1 (by_words ts w few words crowded))
+
+pub few_by : (ts : List Token) (b : Bool) → ((b ≡ true) ↔ IsCrowded ts) → b ≡ false → ¬ IsCrowded ts
+few_by ts b is lacks h = let holds : b ≡ true = is.1 h in cc
 
 -- one token more of a walk
 

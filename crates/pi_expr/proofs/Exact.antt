@@ -1,11 +1,11 @@
 -- The machine's steps end with a tree exactly where the terminals have it.
 use Rattle.std.proofs.Common.{◌≡◌, ◌<◌, ◌≤◌, Bool, true, false, List, [], ◌∷◌, map, refl, subst, arith, nat_lt, if◌then◌else◌}
 use Rattle.std.proofs.lemmas.Bool.Decides.{nat_tests}
-use Rattle.pi_types.specs.ExpTree.{ExpTree}
-use Rattle.pi_types.specs.Terminals.{Terminal, terminal}
-use Rattle.pi_types.specs.Tokens.{Token}
-use Rattle.pi_types.specs.Ranks.{rank, reach_of}
-use Rattle.pi_types.specs.Grammar.{Phrase, exp, Reads, HasExp}
+use Rattle.pi_syntax.specs.ExpTree.{ExpTree}
+use Rattle.pi_syntax.specs.Terminals.{Terminal, terminal}
+use Rattle.pi_syntax.specs.Tokens.{Token}
+use Rattle.pi_syntax.specs.Ranks.{rank, reach_of}
+use Rattle.pi_syntax.specs.Grammar.{Phrase, exp, Reads, HasExp}
 use Rattle.pi_expr.specs.Machine.{Frame, State, operand, value, Outcome, wanted, continue, resume_last, step, begin, Runs, stop, go}
 use Rattle.pi_expr.proofs.Sound.{Stacked, Held, Good, GoodOutcome, holds_exp, reads_from}
 use Rattle.pi_expr.proofs.SoundSteps.{good_enter, good_continue, good_resume}

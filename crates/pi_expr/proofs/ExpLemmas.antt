@@ -1,11 +1,10 @@
 -- What the whole reader answers, against the definition.
-use Rattle.std.proofs.Common.{◌≡◌, ◌↔◌, List, map, subst, sym, Result, Ok, Err, inr, IfOk, IfErr, Bool, true, false, ◌∙◌}
-use Rattle.std.proofs.lemmas.Bool.{false≢true}
-use Rattle.pi_types.specs.declared.exp.Exp.{Exp}
-use Rattle.pi_types.specs.ExpTree.{exp_tree}
-use Rattle.pi_types.specs.Tokens.{Token}
-use Rattle.pi_types.specs.Terminals as t
-use Rattle.pi_types.specs.Crowding.{IsCrowded, IsRead}
+use Rattle.std.proofs.Common.{◌≡◌, List, map, subst, Result, Ok, Err, inr, IfOk, IfErr}
+use Rattle.pi_syntax.specs.declared.exp.Exp.{Exp}
+use Rattle.pi_syntax.specs.ExpTree.{exp_tree}
+use Rattle.pi_syntax.specs.Tokens.{Token}
+use Rattle.pi_syntax.specs.Terminals as t
+use Rattle.pi_syntax.specs.Crowding.{IsCrowded, IsRead}
 use Rattle.pi_expr.specs.Faults.{IsFault}
 use Rattle.pi_expr.specs.Machine.{begin}
 use Rattle.pi_expr.specs.States.{EndsAs}
@@ -21,7 +20,6 @@ ends_read tokens (Err fault.NoExpression) few h = (tt, (few, λ e d. h e (runs_t
 ends_read tokens (Err fault.TooDeep) few h = (tt, inr (h.0, runs_from tokens h.0 h.1.0, h.1.1))
 ends_read tokens (Err fault.Memory) few h = (tt, tt)
 
-pub read_is : (tokens : List Token) (ts : List t.Terminal) (r : Result Exp ExpFault) (b : Bool) → ts ≡ map t.terminal tokens → b ≡ false
-    → (b ≡ true) ↔ IsCrowded tokens → EndsAs r (begin ts) → IfOk r (λ e. IsRead tokens (exp_tree e)) × IfErr r (λ f. IsFault tokens f)
-read_is tokens ts r b p q crowded h =
-    ends_read tokens r (λ c. absurd (false≢true (sym q ∙ crowded.1 c))) (subst (λ (all : List t.Terminal). EndsAs r (begin all)) p h)
+pub read_is : (tokens : List Token) (ts : List t.Terminal) (r : Result Exp ExpFault) → ts ≡ map t.terminal tokens → ¬ IsCrowded tokens → EndsAs r (begin ts)
+    → IfOk r (λ e. IsRead tokens (exp_tree e)) × IfErr r (λ f. IsFault tokens f)
+read_is tokens ts r p few h = ends_read tokens r few (subst (λ (all : List t.Terminal). EndsAs r (begin all)) p h)

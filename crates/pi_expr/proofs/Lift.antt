@@ -1,10 +1,9 @@
 -- A phrase of a line is one of each looser line.
 use Rattle.std.proofs.Common.{◌≡◌, ℕ, zero, suc, ◌+◌, ◌-◌, ◌<◌, ◌≤◌, ◌==◌, List, refl, sym, ap, subst, ◌∙◌, arith, if◌then◌else◌}
-use Rattle.pi_types.specs.ExpTree.{ExpTree}
-use Rattle.pi_types.specs.Terminals.{Terminal, equivalence, implication, constraint_or, constraint_xor, constraint_and, bit_or, bit_xor, bit_and, shift, sum, product}
-use Rattle.pi_types.specs.Ranks.{rank}
-use Rattle.pi_types.specs.Grammar.{Phrase, exp, branch, conj, unit, line, negation, relating, range, unary, pow, post, prim}
-use Rattle.pi_types.specs.Grammar.{Reads, conjuncts, plain_unit, joined, positive, unrelated, no_range, unsigned, no_power, postfixes, last_unit, no_more, no_postfix}
+use Rattle.pi_syntax.specs.ExpTree.{ExpTree}
+use Rattle.pi_syntax.specs.Terminals.{Terminal, equivalence, implication, constraint_or, constraint_xor, constraint_and, bit_or, bit_xor, bit_and, shift, sum, product}
+use Rattle.pi_syntax.specs.Ranks.{rank}
+use Rattle.pi_syntax.specs.Grammar.{Phrase, exp, branch, conj, unit, line, negation, relating, range, unary, pow, post, prim, Reads, conjuncts, plain_unit, joined, positive, unrelated, no_range, unsigned, no_power, postfixes, last_unit, no_more, no_postfix}
 
 -- the next looser line
 abbrev looser : Phrase → Phrase

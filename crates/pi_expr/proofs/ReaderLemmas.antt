@@ -1,6 +1,6 @@
 -- The loop of the reader against the steps of the machine.
 use Rattle.std.proofs.Common.{◌≡◌, ℕ, ◌+◌, ◌*◌, ◌<◌, suc, List, [], ◌∷◌, ◌++◌, length, refl, ap, subst, sym, ◌∙◌, arith}
-use Rattle.pi_types.specs.ExpTree.{ExpTree}
+use Rattle.pi_syntax.specs.ExpTree.{ExpTree}
 use Rattle.pi_expr.specs.Machine as m
 use Rattle.pi_expr.specs.Machine.{Runs, stop, go, step}
 use Rattle.pi_expr.specs.Shown.{terminals}

@@ -1,8 +1,8 @@
 -- Tables of spellings, and the terminals of tokens.
 use Rattle.std.proofs.Common.{◌≡◌, List, [], ◌∷◌, ◌++◌, map, ap, sym, ◌∙◌, append_assoc}
 use Rattle.std.proofs.lemmas.List.{map_push, append-nil}
-use Rattle.pi_types.specs.Tokens.{Token}
-use Rattle.pi_types.specs.Terminals as t
+use Rattle.pi_syntax.specs.Tokens.{Token}
+use Rattle.pi_syntax.specs.Terminals as t
 use Rattle.pi_expr.specs.Shown.{terminal_shown, terminals}
 use Rattle.pi_expr.specs.declared.terminal.Terminal.{Terminal}
 

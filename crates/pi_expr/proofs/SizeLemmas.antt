@@ -1,11 +1,11 @@
 -- Each step of the machine leaves less to do: it reads a terminal, or closes an open phrase.
 use Rattle.std.proofs.Common.{◌≡◌, ℕ, ◌+◌, ◌*◌, ◌<◌, suc, Bool, true, false, List, [], ◌∷◌, length, subst, arith, nat_le, nat_lt, ◌==◌, ◌&&◌, not, if◌then◌else◌, codes}
-use Rattle.pi_types.specs.ExpTree.{ExpTree, ExpTrees, no_exps, exp as exp_before, one_exp}
-use Rattle.pi_types.specs.ExpTree as tree
-use Rattle.pi_types.specs.Terminals as t
-use Rattle.pi_types.specs.Terminals.{Line, Terminal}
-use Rattle.pi_types.specs.Grammar as g
-use Rattle.pi_types.specs.Ranks.{line_rank, rank, reach_of}
+use Rattle.pi_syntax.specs.ExpTree.{ExpTree, ExpTrees, no_exps, exp as exp_before, one_exp}
+use Rattle.pi_syntax.specs.ExpTree as tree
+use Rattle.pi_syntax.specs.Terminals as t
+use Rattle.pi_syntax.specs.Terminals.{Line, Terminal}
+use Rattle.pi_syntax.specs.Grammar as g
+use Rattle.pi_syntax.specs.Ranks.{line_rank, rank, reach_of}
 use Rattle.pi_expr.specs.Machine as m
 use Rattle.pi_expr.specs.Machine.{Closing, Frame, State, operand, value, Outcome, next, done, fail, wanted, number, choose, when, opened, closed, arguments, enter, enter_term, enter_sign, enter_dot, join_line, continue, collect_by, close_items, closer, resume, resume_last, finish, step, with_exp, with_branch}
 use Rattle.pi_expr.specs.Sizes.{size}

@@ -1,13 +1,11 @@
 -- Each step of the machine keeps what is open as the grammar says.
 use Rattle.std.proofs.Common.{◌≡◌, ℕ, ◌<◌, ◌≤◌, Bool, true, false, ◌&&◌, not, List, ◌∷◌, refl, sym, ap, subst, ◌∙◌, arith, nat_le}
-use Rattle.pi_types.specs.ExpTree.{var as var_of, atom as atom_of, ExpTree, ExpTrees, ExpBranches, no_exps, no_branches, exp as exp_before, branch as branch_before, one_exp, call, list, array, quote, list_onto, index, range as range_of, foreach, while_do, do_while, if_then, if_else, arrow as arrow_of}
-use Rattle.pi_types.specs.Terminals as t
-use Rattle.pi_types.specs.Terminals.{Line, equivalence, implication, constraint_or, constraint_xor, constraint_and, bit_or, bit_xor, bit_and, shift, sum, product, Terminal, terminal}
-use Rattle.pi_types.specs.Ranks.{line_rank, rank, reach_of}
-use Rattle.pi_types.specs.Grammar.{Phrase, exp, branch, conj, unit, line, range, unary, post, prim, operand as operand_of, Joins, a_joint, a_plus, a_minus, call_one, conjunction, disjunction, integer_alone, negated, indexed, takes_index, is_atom}
-use Rattle.pi_types.specs.Grammar.{Reads, branches, an_arrow, conjuncts, related, a_range, a_stepped_range, with_minus, a_power, a_variable, a_pattern, an_integer, an_atom, a_call, a_text, no_list, a_list, a_list_onto, a_list_of, no_array, an_array, an_array_of, in_parens, a_structure, a_term, an_if, an_if_else, a_foreach, a_while, a_do_while}
-use Rattle.pi_types.specs.Grammar.{Branches, last_branch, more_branches, Units, last_unit, more_units, Postfixes, an_index, a_dot, a_dot_call, Arguments, no_arguments, arguments as in_arguments, Choices, last_choice, more_choices}
-use Rattle.pi_types.proofs.GrammarLemmas.{line_rank-above, line_rank-operand}
+use Rattle.pi_syntax.specs.ExpTree.{var as var_of, atom as atom_of, ExpTree, ExpTrees, ExpBranches, no_exps, no_branches, exp as exp_before, branch as branch_before, one_exp, call, list, array, quote, list_onto, index, range as range_of, foreach, while_do, do_while, if_then, if_else, arrow as arrow_of}
+use Rattle.pi_syntax.specs.Terminals as t
+use Rattle.pi_syntax.specs.Terminals.{Line, equivalence, implication, constraint_or, constraint_xor, constraint_and, bit_or, bit_xor, bit_and, shift, sum, product, Terminal, terminal}
+use Rattle.pi_syntax.specs.Ranks.{line_rank, rank, reach_of}
+use Rattle.pi_syntax.specs.Grammar.{Phrase, exp, branch, conj, unit, line, range, unary, post, prim, operand as operand_of, Joins, a_joint, a_plus, a_minus, call_one, conjunction, disjunction, integer_alone, negated, indexed, takes_index, is_atom, Reads, branches, an_arrow, conjuncts, related, a_range, a_stepped_range, with_minus, a_power, a_variable, a_pattern, an_integer, an_atom, a_call, a_text, no_list, a_list, a_list_onto, a_list_of, no_array, an_array, an_array_of, in_parens, a_structure, a_term, an_if, an_if_else, a_foreach, a_while, a_do_while, Branches, last_branch, more_branches, Units, last_unit, more_units, Postfixes, an_index, a_dot, a_dot_call, Arguments, no_arguments, arguments as in_arguments, Choices, last_choice, more_choices}
+use Rattle.pi_syntax.proofs.GrammarLemmas.{line_rank-above, line_rank-operand}
 use Rattle.pi_expr.specs.Machine as m
 use Rattle.pi_expr.specs.Machine.{with_exp, with_branch, number, headed, tail, Closing, of_call, of_quote, of_method, of_list, of_array, of_collect, of_foreach, Frame, State, operand, value, Outcome, next, done, fail, wants, wanted, enter, continue, resume, resume_last, finish, when, choose, closed, closer, close_items, collect_by, arguments, enter_term, enter_sign, enter_dot, join_line, step, begin, Runs, stop, go}
 use Rattle.pi_expr.proofs.Steps.{plus_exps-one, plus_exps-none, variable_takes, atom_takes_no}

@@ -1,8 +1,8 @@
 -- Steps that the machine doesn't take.
 use Rattle.std.proofs.Common.{◌≡◌, Bool, true, List, ◌∷◌, None, refl}
-use Rattle.pi_types.specs.ExpTree.{ExpTree, ExpTrees, no_exps, exp as exp_before, and, or}
-use Rattle.pi_types.specs.Grammar as g
-use Rattle.pi_types.specs.Terminals as t
+use Rattle.pi_syntax.specs.ExpTree.{ExpTree, ExpTrees, no_exps, exp as exp_before, and, or}
+use Rattle.pi_syntax.specs.Grammar as g
+use Rattle.pi_syntax.specs.Terminals as t
 use Rattle.pi_expr.specs.Machine as m
 use Rattle.pi_expr.specs.Shown.{mark_shown, terminal_shown}
 use Rattle.pi_expr.specs.declared.terminal.Mark.{Mark}

@@ -1,11 +1,11 @@
 -- Single steps of the machine.
 use Rattle.std.proofs.Common.{◌≡◌, ℕ, ◌<◌, ◌≤◌, Bool, true, false, List, [], ◌∷◌, refl, ap, ◌∙◌, arith, nat_lt, nat_le}
 use Rattle.std.proofs.lemmas.Bool.Decides.{nat_tests}
-use Rattle.pi_types.specs.ExpTree.{ExpTree, ExpTrees, no_exps, exp as exp_before, one_exp}
-use Rattle.pi_types.specs.Terminals as t
-use Rattle.pi_types.specs.Terminals.{Line, Terminal}
-use Rattle.pi_types.specs.Grammar.{Phrase, takes_index}
-use Rattle.pi_types.specs.Ranks.{reach_of, start_of}
+use Rattle.pi_syntax.specs.ExpTree.{ExpTree, ExpTrees, no_exps, exp as exp_before, one_exp}
+use Rattle.pi_syntax.specs.Terminals as t
+use Rattle.pi_syntax.specs.Terminals.{Line, Terminal}
+use Rattle.pi_syntax.specs.Grammar.{Phrase, takes_index}
+use Rattle.pi_syntax.specs.Ranks.{reach_of, start_of}
 use Rattle.pi_expr.specs.Machine.{with_exp, headed, Frame, State, operand, value, Outcome, next, wants, wanted, enter, continue, resume, resume_last, when, step, Runs, go}
 
 -- every tree that the later state ends with, the earlier ends with

@@ -4,12 +4,11 @@ use Rattle.std.proofs.lemmas.Bool.Decides.{nat_tests}
 use Rattle.std.specs.Prelude.{Vec}
 use Rattle.std.specs.declared.alloc.Global.{Global}
 use Rattle.std.specs.declared.boxed.Box.{Box}
-use Rattle.pi_types.specs.ExpTree.{ExpTree, var, int, atom, str, list, list_onto, array, call, quote, index, range, range_by, at, collect, and, or, arrow, if_then, if_else, foreach, while_do, do_while, ExpTrees, no_exps, exp as exp_before, ExpBranches, no_branches, branch as branch_before, levels, levels_all, levels_of_branches, exp_tree, exp_trees, branch_trees, held_tree}
-use Rattle.pi_types.specs.Crowding.{most_levels}
-use Rattle.pi_types.specs.Grammar.{is_atom}
-use Rattle.pi_types.specs.Grammar.{is_atom}
-use Rattle.pi_types.specs.declared.exp.Exp as e
-use Rattle.pi_types.specs.declared.exp.Exp.{Exp}
+use Rattle.pi_syntax.specs.ExpTree.{ExpTree, var, int, atom, str, list, list_onto, array, call, quote, index, range, range_by, at, collect, and, or, arrow, if_then, if_else, foreach, while_do, do_while, ExpTrees, no_exps, exp as exp_before, ExpBranches, no_branches, branch as branch_before, levels, levels_all, levels_of_branches, exp_tree, exp_trees, branch_trees, held_tree}
+use Rattle.pi_syntax.specs.Crowding.{most_levels}
+use Rattle.pi_syntax.specs.Grammar.{is_atom}
+use Rattle.pi_syntax.specs.declared.exp.Exp as e
+use Rattle.pi_syntax.specs.declared.exp.Exp.{Exp}
 use Rattle.pi_expr.specs.Trees.{trees_of, branches_of, is_none}
 use Rattle.pi_expr.specs.Machine.{with_exp, with_branch}
 

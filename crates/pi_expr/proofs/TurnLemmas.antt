@@ -1,7 +1,7 @@
 -- Steps of the machine as the code takes them.
 use Rattle.std.proofs.Common.{◌≡◌, Bool, true, false, List, refl, ◌∙◌, sym}
-use Rattle.pi_types.specs.ExpTree.{ExpTree, ExpTrees, no_exps, exp as exp_before}
-use Rattle.pi_types.specs.Terminals as t
+use Rattle.pi_syntax.specs.ExpTree.{ExpTree, ExpTrees, no_exps, exp as exp_before}
+use Rattle.pi_syntax.specs.Terminals as t
 use Rattle.pi_expr.specs.Machine as m
 use Rattle.pi_expr.specs.Machine.{with_exp}
 use Rattle.pi_expr.specs.Trees.{Shows, ShowsItems, is_none}

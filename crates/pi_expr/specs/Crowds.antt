@@ -1,7 +1,7 @@
 -- Crowding as a walk from the left finds it.
 use Rattle.std.specs.Prelude.{ℕ, ◌+◌, Bool, true, false, cond, nat_lt, if◌then◌else◌, List, [], ◌∷◌}
-use Rattle.pi_types.specs.Tokens.{Token}
-use Rattle.pi_types.specs.Crowding.{most_open, is_opening, is_closing}
+use Rattle.pi_syntax.specs.Tokens.{Token}
+use Rattle.pi_syntax.specs.Crowding.{most_open, is_opening, is_closing}
 
 abbrev pub one_if : Bool → ℕ
 one_if b = cond b 1 0

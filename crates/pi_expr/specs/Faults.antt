@@ -1,7 +1,7 @@
 -- What the faults of a reader say of its tokens.
 use Rattle.std.specs.Prelude.{ℕ, ◌-◌, List, take, drop}
-use Rattle.pi_types.specs.Tokens.{Token}
-use Rattle.pi_types.specs.Crowding.{IsTooDeep, HasNoExp}
+use Rattle.pi_syntax.specs.Tokens.{Token}
+use Rattle.pi_syntax.specs.Crowding.{IsTooDeep, HasNoExp}
 use Rattle.pi_expr.specs.declared.fault.ExpFault.{ExpFault}
 use Rattle.pi_expr.specs.declared.fault.ExpFault.TheVariants as fault
 

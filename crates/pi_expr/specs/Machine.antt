@@ -2,11 +2,11 @@
 -- contracts of private functions say that the code takes these steps. What they come to is the grammar: no public
 -- contract speaks of them.
 use Rattle.std.specs.Prelude.{◌≡◌, ℕ, Bool, true, false, ◌&&◌, ◌==◌, not, nat_le, nat_lt, if◌then◌else◌, List, [], ◌∷◌, codes}
-use Rattle.pi_types.specs.ExpTree.{ExpTree, var, int, atom as atom_of, str, list, list_onto, array, call, quote, index, range as range_of, range_by, at as at_of, collect, arrow as arrow_of, if_then, if_else, foreach, while_do, do_while, ExpTrees, no_exps, exp as exp_before, ExpBranches, no_branches, branch as branch_before, one_exp}
-use Rattle.pi_types.specs.Terminals as t
-use Rattle.pi_types.specs.Terminals.{Line, sum, Terminal}
-use Rattle.pi_types.specs.Grammar.{Phrase, exp, branch, conj, unit, line, negation, relating, range, unary, pow, post, prim, operand as operand_of, call_one, call_two, conjunction, disjunction, integer_alone, negated, is_atom}
-use Rattle.pi_types.specs.Ranks.{line_rank, rank, reach_of}
+use Rattle.pi_syntax.specs.ExpTree.{ExpTree, var, int, atom as atom_of, str, list, list_onto, array, call, quote, index, range as range_of, range_by, at as at_of, collect, arrow as arrow_of, if_then, if_else, foreach, while_do, do_while, ExpTrees, no_exps, exp as exp_before, ExpBranches, no_branches, branch as branch_before, one_exp}
+use Rattle.pi_syntax.specs.Terminals as t
+use Rattle.pi_syntax.specs.Terminals.{Line, sum, Terminal}
+use Rattle.pi_syntax.specs.Grammar.{Phrase, exp, branch, conj, unit, line, negation, relating, range, unary, pow, post, prim, operand as operand_of, call_one, call_two, conjunction, disjunction, integer_alone, negated, is_atom}
+use Rattle.pi_syntax.specs.Ranks.{line_rank, rank, reach_of}
 
 -- with one more at the end
 

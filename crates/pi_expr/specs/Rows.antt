@@ -1,7 +1,7 @@
 -- What a table of spellings shows.
 use Rattle.std.specs.Prelude.{ℕ, List, map, Option, Some, None}
 use Rattle.std.specs.Borrow.{Bor}
-use Rattle.pi_types.specs.Terminals as t
+use Rattle.pi_syntax.specs.Terminals as t
 use Rattle.pi_expr.specs.Shown.{terminal_shown}
 use Rattle.pi_expr.specs.declared.terminal.Terminal.{Terminal}
 

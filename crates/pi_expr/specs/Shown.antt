@@ -1,7 +1,7 @@
 -- What the reader's terminals and phrases show.
 use Rattle.std.specs.Prelude.{◌≡◌, List, [], ◌∷◌, map}
-use Rattle.pi_types.specs.Terminals as t
-use Rattle.pi_types.specs.Grammar as g
+use Rattle.pi_syntax.specs.Terminals as t
+use Rattle.pi_syntax.specs.Grammar as g
 use Rattle.pi_expr.specs.declared.phrase.Line.{Line}
 use Rattle.pi_expr.specs.declared.phrase.Line.TheVariants as line
 use Rattle.pi_expr.specs.declared.phrase.Phrase.{Phrase}

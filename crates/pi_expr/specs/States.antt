@@ -1,9 +1,9 @@
 -- States of the reader, and how much is left to do in one of the machine.
 use Rattle.std.specs.Prelude.{◌≡◌, ◌<◌, ◌≤◌, List, [], ◌∷◌, ◌++◌, Result, Ok, Err}
 use Rattle.std.specs.declared.alloc.AllocError.{AllocError}
-use Rattle.pi_types.specs.ExpTree.{ExpTree, levels, exp_tree}
-use Rattle.pi_types.specs.Crowding.{most_levels}
-use Rattle.pi_types.specs.declared.exp.Exp.{Exp}
+use Rattle.pi_syntax.specs.ExpTree.{ExpTree, levels, exp_tree}
+use Rattle.pi_syntax.specs.Crowding.{most_levels}
+use Rattle.pi_syntax.specs.declared.exp.Exp.{Exp}
 use Rattle.pi_expr.specs.Machine as m
 use Rattle.pi_expr.specs.Shown.{phrase_shown, terminals}
 use Rattle.pi_expr.specs.Trees.{Shows}

@@ -1,8 +1,8 @@
 -- What built trees, items and choices show. Where one is too deep, it shows each tree of more levels than the most.
 use Rattle.std.specs.Prelude.{◌≡◌, ◌≤◌, ◌<◌, max, Bool, true, false, List, [], ◌∷◌}
-use Rattle.pi_types.specs.declared.exp.Exp.{Exp}
-use Rattle.pi_types.specs.ExpTree.{ExpTree, ExpTrees, no_exps, exp as exp_before, ExpBranches, no_branches, branch as branch_before, levels, levels_all, levels_of_branches, exp_tree}
-use Rattle.pi_types.specs.Crowding.{most_levels}
+use Rattle.pi_syntax.specs.declared.exp.Exp.{Exp}
+use Rattle.pi_syntax.specs.ExpTree.{ExpTree, ExpTrees, no_exps, exp as exp_before, ExpBranches, no_branches, branch as branch_before, levels, levels_all, levels_of_branches, exp_tree}
+use Rattle.pi_syntax.specs.Crowding.{most_levels}
 use Rattle.pi_expr.specs.declared.built.Built.{Built}
 use Rattle.pi_expr.specs.declared.built.Built.TheVariants as built
 use Rattle.pi_expr.specs.declared.built.Pair.{Pair}

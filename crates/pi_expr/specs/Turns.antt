@@ -1,7 +1,7 @@
 -- What open phrases and steps show.
 use Rattle.std.specs.Prelude.{◌≡◌, List, ◌∷◌, Result, Ok, Err}
 use Rattle.std.specs.declared.alloc.AllocError.{AllocError}
-use Rattle.pi_types.specs.ExpTree.{ExpTree, ExpTrees, exp as exp_before, ExpBranches}
+use Rattle.pi_syntax.specs.ExpTree.{ExpTree, ExpTrees, exp as exp_before, ExpBranches}
 use Rattle.pi_expr.specs.Machine as m
 use Rattle.pi_expr.specs.Shown.{line_shown, phrase_shown, terminals}
 use Rattle.pi_expr.specs.Trees.{Shows, ShowsItems, ShowsChoices}

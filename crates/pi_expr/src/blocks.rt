@@ -1,8 +1,8 @@
 //! The steps behind the operands of blocks.
 ghost use Rattle.std.specs.Prelude.{List};
-ghost use Rattle.pi_types.specs.ExpTree.{ExpTree, ExpTrees, ExpBranches};
-ghost use Rattle.pi_types.specs.ExpTree as tree;
-ghost use Rattle.pi_types.specs.Terminals as t;
+ghost use Rattle.pi_syntax.specs.ExpTree.{ExpTree, ExpTrees, ExpBranches};
+ghost use Rattle.pi_syntax.specs.ExpTree as tree;
+ghost use Rattle.pi_syntax.specs.Terminals as t;
 ghost use Rattle.pi_expr.specs.Machine as machine;
 ghost use Rattle.pi_expr.specs.Shown.{terminals};
 ghost use Rattle.pi_expr.specs.Trees.{Shows, ShowsItems, ShowsChoices};

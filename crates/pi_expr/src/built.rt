@@ -1,7 +1,7 @@
 //! Trees with their levels.
 ghost use Rattle.std.specs.Prelude.{◌≡◌, suc};
-ghost use Rattle.pi_types.specs.ExpTree.{ExpTree, ExpTrees, exp_tree, levels};
-ghost use Rattle.pi_types.specs.Grammar.{is_atom};
+ghost use Rattle.pi_syntax.specs.ExpTree.{ExpTree, ExpTrees, exp_tree, levels};
+ghost use Rattle.pi_syntax.specs.Grammar.{is_atom};
 ghost use Rattle.pi_expr.specs.Trees.{Shows, ShowsItems, ShowsPair, ShowsWithItems};
 
 mod calls;
@@ -13,7 +13,7 @@ use crate::items::Items;
 pub(crate) use calls::{call, call_of_one, call_of_two};
 pub(crate) use control::{and, arrow, do_while, foreach, if_else, if_then, or, while_do};
 pub(crate) use leaves::{atom, integer, text, variable};
-use pi_types::{Exp, Exps};
+use pi_syntax::{Exp, Exps};
 pub(crate) use terms::{array, at, collect, index, list, list_onto, quote, range, range_by};
 
 /// The most levels of a tree.
@@ -79,8 +79,8 @@ fn with_items(first: Built, items: Items) -> WithItems
 
 impl Built {
     ghost use Rattle.std.specs.Prelude.{◌≡◌};
-    ghost use Rattle.pi_types.specs.ExpTree.{ExpTree};
-    ghost use Rattle.pi_types.specs.Grammar.{is_atom};
+    ghost use Rattle.pi_syntax.specs.ExpTree.{ExpTree};
+    ghost use Rattle.pi_syntax.specs.Grammar.{is_atom};
     ghost use Rattle.pi_expr.specs.Trees.{Shows};
 
     /// Whether the tree is an atom.

@@ -1,6 +1,6 @@
 //! Conditions with their bodies.
 use crate::built::{Built, Pair, both};
-use pi_types::Branches;
+use pi_syntax::Branches;
 use std::alloc::{AllocError, Global};
 
 /// Conditions with their bodies and the most levels of one of these, or no more than that one is too deep.
@@ -12,7 +12,7 @@ pub(crate) enum Choices {
 
 impl Choices {
     ghost use Rattle.std.specs.Prelude.{IfOk};
-    ghost use Rattle.pi_types.specs.ExpTree.{ExpTree, ExpBranches, no_branches};
+    ghost use Rattle.pi_syntax.specs.ExpTree.{ExpTree, ExpBranches, no_branches};
     ghost use Rattle.pi_expr.specs.Machine.{with_branch};
     ghost use Rattle.pi_expr.specs.Trees.{Shows, ShowsChoices};
 

@@ -1,7 +1,7 @@
 //! Units between brackets.
 ghost use Rattle.std.specs.Prelude.{◌≡◌, List, true, false};
-ghost use Rattle.pi_types.specs.ExpTree.{ExpTree, ExpTrees, no_exps};
-ghost use Rattle.pi_types.specs.Terminals as t;
+ghost use Rattle.pi_syntax.specs.ExpTree.{ExpTree, ExpTrees, no_exps};
+ghost use Rattle.pi_syntax.specs.Terminals as t;
 ghost use Rattle.pi_expr.specs.Machine as machine;
 ghost use Rattle.pi_expr.specs.Shown.{mark_shown, terminals};
 ghost use Rattle.pi_expr.specs.Trees.{Shows, ShowsItems};
@@ -195,7 +195,7 @@ fn close_by<'a>(
 
 impl Closing<'_> {
     ghost use Rattle.std.specs.Prelude.{◌≡◌};
-    ghost use Rattle.pi_types.specs.ExpTree.{ExpTrees};
+    ghost use Rattle.pi_syntax.specs.ExpTree.{ExpTrees};
     ghost use Rattle.pi_expr.specs.Machine as machine;
     ghost use Rattle.pi_expr.specs.Shown.{mark_shown};
     ghost use Rattle.pi_expr.specs.Turns.{ShowsUnits};

@@ -1,7 +1,7 @@
 //! Tokens that are too many for a reader that nests with them.
 ghost use Rattle.std.specs.Prelude.{◌≡◌, ◌≤◌, ◌<◌, ◌+◌, ◌↔◌, true, length, count_by};
 ghost use Rattle.pi_lex.specs.Kinds.{kinds, token_shown};
-ghost use Rattle.pi_types.specs.Crowding as spec;
+ghost use Rattle.pi_syntax.specs.Crowding as spec;
 ghost use Rattle.pi_expr.specs.Crowds.{one_if, is_too_open};
 ghost use Rattle.pi_expr.specs.Faults.{stretch};
 
@@ -73,7 +73,7 @@ fn count_if(count: usize, holds: bool) -> usize
     if holds { count + 1 } else { count }
 }
 
-#[tactic(auto, unfolding(pi_types::specs::Crowding::is_opening))]
+#[tactic(auto, unfolding(pi_syntax::specs::Crowding::is_opening))]
 fn is_opening(token: TokenKind<'_>) -> bool
     ensures { result ≡ spec.is_opening (token_shown token.entry) }
 {
@@ -88,7 +88,7 @@ fn is_opening(token: TokenKind<'_>) -> bool
     }
 }
 
-#[tactic(auto, unfolding(pi_types::specs::Crowding::is_closing))]
+#[tactic(auto, unfolding(pi_syntax::specs::Crowding::is_closing))]
 fn is_closing(token: TokenKind<'_>) -> bool
     ensures { result ≡ spec.is_closing (token_shown token.entry) }
 {
@@ -103,7 +103,7 @@ fn is_closing(token: TokenKind<'_>) -> bool
     }
 }
 
-#[tactic(auto, unfolding(pi_types::specs::Crowding::is_block_word))]
+#[tactic(auto, unfolding(pi_syntax::specs::Crowding::is_block_word))]
 fn is_block_word(token: TokenKind<'_>) -> bool
     ensures { result ≡ spec.is_block_word (token_shown token.entry) }
 {

@@ -1,6 +1,6 @@
 //! The step before an operand.
 ghost use Rattle.std.specs.Prelude.{◌≡◌, List, ◌∷◌};
-ghost use Rattle.pi_types.specs.Terminals as t;
+ghost use Rattle.pi_syntax.specs.Terminals as t;
 ghost use Rattle.pi_expr.specs.Machine as machine;
 ghost use Rattle.pi_expr.specs.Shown.{mark_shown, phrase_shown, terminal_shown, terminals};
 ghost use Rattle.pi_expr.specs.Turns.{ShowsTurn, ShowsStep};

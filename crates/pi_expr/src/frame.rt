@@ -1,6 +1,6 @@
 //! Open phrases.
 ghost use Rattle.std.specs.Prelude.{◌≡◌, List};
-ghost use Rattle.pi_types.specs.ExpTree.{ExpTree};
+ghost use Rattle.pi_syntax.specs.ExpTree.{ExpTree};
 ghost use Rattle.pi_expr.specs.Machine as machine;
 ghost use Rattle.pi_expr.specs.Shown.{mark_shown, terminals};
 ghost use Rattle.pi_expr.specs.Trees.{Shows};

@@ -1,8 +1,8 @@
 //! The step behind a phrase that the next terminal goes on with.
 ghost use Rattle.std.specs.Prelude.{◌≡◌, Bool, not, ◌&&◌, nat_le, List, ◌∷◌};
-ghost use Rattle.pi_types.specs.ExpTree.{ExpTree};
-ghost use Rattle.pi_types.specs.Grammar.{is_atom};
-ghost use Rattle.pi_types.specs.Terminals as t;
+ghost use Rattle.pi_syntax.specs.ExpTree.{ExpTree};
+ghost use Rattle.pi_syntax.specs.Grammar.{is_atom};
+ghost use Rattle.pi_syntax.specs.Terminals as t;
 ghost use Rattle.pi_expr.specs.Machine as machine;
 ghost use Rattle.pi_expr.specs.Shown.{line_shown, mark_shown, phrase_shown, terminal_shown, terminals};
 ghost use Rattle.pi_expr.specs.Trees.{Shows};

@@ -1,6 +1,6 @@
 //! Trees that were read one after another.
 use crate::built::Built;
-use pi_types::Exps;
+use pi_syntax::Exps;
 use std::alloc::{AllocError, Global};
 
 /// Trees from the left with the most levels of one, or no more than that one is too deep.
@@ -12,7 +12,7 @@ pub(crate) enum Items {
 
 impl Items {
     ghost use Rattle.std.specs.Prelude.{◌≡◌, IfOk};
-    ghost use Rattle.pi_types.specs.ExpTree.{ExpTree, ExpTrees, no_exps, one_exp};
+    ghost use Rattle.pi_syntax.specs.ExpTree.{ExpTree, ExpTrees, no_exps, one_exp};
     ghost use Rattle.pi_expr.specs.Machine.{with_exp};
     ghost use Rattle.pi_expr.specs.Trees.{Shows, ShowsItems, is_none};
 

@@ -1,9 +1,9 @@
 //! Laws of the reader's steps.
 ghost use Rattle.std.specs.Prelude.{List, map};
-ghost use Rattle.pi_types.specs.ExpTree.{ExpTree};
-ghost use Rattle.pi_types.specs.Grammar.{HasExp};
-ghost use Rattle.pi_types.specs.Terminals.{terminal};
-ghost use Rattle.pi_types.specs.Tokens.{Token};
+ghost use Rattle.pi_syntax.specs.ExpTree.{ExpTree};
+ghost use Rattle.pi_syntax.specs.Grammar.{HasExp};
+ghost use Rattle.pi_syntax.specs.Terminals.{terminal};
+ghost use Rattle.pi_syntax.specs.Tokens.{Token};
 ghost use Rattle.pi_expr.specs.Machine.{begin, Runs};
 
 /// The steps of the reader, taken on trees, end with a tree exactly where the grammar gives it to the tokens.

@@ -22,7 +22,4 @@ mod terminal;
 pub use crowding::is_crowded;
 pub use fault::ExpFault;
 pub use laws::steps_follow_the_grammar;
-pub use reader::read_exp;
-
-#[cfg(test)]
-mod tests;
+pub use reader::{read_exp, read_uncrowded};

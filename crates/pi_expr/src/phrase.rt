@@ -1,7 +1,7 @@
 //! The lines of the grammar, and how tightly each binds.
 ghost use Rattle.std.specs.Prelude.{◌≡◌, ◌≤◌, suc};
-ghost use Rattle.pi_types.specs.Grammar.{operand};
-ghost use Rattle.pi_types.specs.Ranks as ranks;
+ghost use Rattle.pi_syntax.specs.Grammar.{operand};
+ghost use Rattle.pi_syntax.specs.Ranks as ranks;
 ghost use Rattle.pi_expr.specs.Shown.{line_shown, phrase_shown};
 
 /// A line whose signs stand between two operands and group to the left, the loosest first.

@@ -1,8 +1,8 @@
 //! The reader: a loop over open phrases.
 ghost use Rattle.std.specs.Prelude.{◌≡◌, ◌≤◌, List, length, IfOk, IfErr};
 ghost use Rattle.pi_lex.specs.Kinds.{kinds};
-ghost use Rattle.pi_types.specs.Crowding.{IsRead};
-ghost use Rattle.pi_types.specs.ExpTree.{ExpTree, exp_tree};
+ghost use Rattle.pi_syntax.specs.Crowding.{IsCrowded, IsRead};
+ghost use Rattle.pi_syntax.specs.ExpTree.{ExpTree, exp_tree};
 ghost use Rattle.pi_expr.specs.Faults.{stretch, IsFault};
 ghost use Rattle.pi_expr.specs.Machine as machine;
 ghost use Rattle.pi_expr.specs.Machine.{Runs};
@@ -22,7 +22,7 @@ use crate::resume::resume;
 use crate::signs::terminals;
 use crate::terminal::{Terminal, reach};
 use pi_lex::Tokens;
-use pi_types::Exp;
+use pi_syntax::Exp;
 use std::alloc::{AllocError, Global};
 
 /// The expression that the tokens from one place up to another are. The tree is the grammar's (A User's Guide to Picat,
@@ -36,6 +36,22 @@ pub fn read_exp(alloc: Global, tokens: &Tokens, from: usize, to: usize) -> Resul
     if is_crowded(tokens, from, to) {
         return Err(ExpFault::TooDeep);
     }
+    read_uncrowded(alloc, tokens, from, to)
+}
+
+/// The same of tokens that are known not to be crowded, which it doesn't count again.
+pub fn read_uncrowded(
+    alloc: Global,
+    tokens: &Tokens,
+    from: usize,
+    to: usize,
+) -> Result<Exp, ExpFault>
+    requires ordered { from ≤ to }
+    requires within { to ≤ length tokens.now }
+    requires uncrowded { ¬ IsCrowded (stretch (kinds tokens.now) from to) }
+    ensures read { IfOk result (λ exp. IsRead (stretch (kinds tokens.now) from to) (exp_tree exp)) }
+    ensures fault { IfErr result (λ fault. IsFault (stretch (kinds tokens.now) from to) fault) }
+{
     let ts = terminals(alloc, tokens, from, to)?;
     read(alloc, ts.as_slice())
 }

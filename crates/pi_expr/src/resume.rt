@@ -1,6 +1,6 @@
 //! The step behind the operand of an open phrase.
 ghost use Rattle.std.specs.Prelude.{List};
-ghost use Rattle.pi_types.specs.ExpTree.{ExpTree};
+ghost use Rattle.pi_syntax.specs.ExpTree.{ExpTree};
 ghost use Rattle.pi_expr.specs.Machine as machine;
 ghost use Rattle.pi_expr.specs.Shown.{terminals};
 ghost use Rattle.pi_expr.specs.Trees.{Shows};

@@ -1,7 +1,7 @@
 //! Which terminal a token is.
 ghost use Rattle.std.specs.Prelude.{◌≡◌, ◌≤◌, length, map, unwrap_or, IfOk};
 ghost use Rattle.pi_lex.specs.Kinds.{kinds, token_shown, IsNatural};
-ghost use Rattle.pi_types.specs.Terminals as t;
+ghost use Rattle.pi_syntax.specs.Terminals as t;
 ghost use Rattle.pi_expr.specs.Faults.{stretch};
 ghost use Rattle.pi_expr.specs.Shown.{terminal_shown, terminals};
 ghost use Rattle.pi_expr.specs.Rows.{rows_shown, found_shown};
@@ -122,7 +122,7 @@ fn found_in(rows: &[Row], spelling: &str) -> Option<Terminal<'static>>
     None
 }
 
-#[tactic(auto, unfolding(pi_types::specs::Terminals::sign_terminal))]
+#[tactic(auto, unfolding(pi_syntax::specs::Terminals::sign_terminal))]
 fn sign_terminal(sign: &str) -> Terminal<'static>
     ensures { terminal_shown result ≡ t.sign_terminal sign.now }
 {
@@ -169,7 +169,7 @@ fn last_terminal(rows: &[Row], spelling: &str) -> Terminal<'static>
     }
 }
 
-#[tactic(auto, unfolding(pi_types::specs::Terminals::word_terminal))]
+#[tactic(auto, unfolding(pi_syntax::specs::Terminals::word_terminal))]
 fn word_terminal(word: &str) -> Terminal<'static>
     ensures { terminal_shown result ≡ t.word_terminal word.now }
 {

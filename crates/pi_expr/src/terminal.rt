@@ -1,6 +1,6 @@
 //! The terminals of the grammar.
 ghost use Rattle.std.specs.Prelude.{◌≡◌, [], ◌∷◌, true, false, MatchOption};
-ghost use Rattle.pi_types.specs.Ranks as ranks;
+ghost use Rattle.pi_syntax.specs.Ranks as ranks;
 ghost use Rattle.pi_expr.specs.Machine as machine;
 ghost use Rattle.pi_expr.specs.Shown.{mark_shown, terminal_shown, terminals, ShowsAhead};
 

@@ -4,7 +4,7 @@ use Rattle.std.proofs.lemmas.Bool.{cases_Bool, cases_eq}
 use Rattle.std.proofs.lemmas.Bool.Decides.{nat_tests}
 use Rattle.std.specs.Char.{is_digit}
 use Rattle.pi_lex.specs.Forms.{Spells, nothing, plain, escape, IsDigits, last, digit, underscored, IsClosed, EndsDigits}
-use Rattle.pi_types.specs.Tokens.{line_feed, backslash, underscore, escaped, closing_place, unescaped, digits_end, goes_on, first}
+use Rattle.pi_syntax.specs.Tokens.{line_feed, backslash, underscore, escaped, closing_place, unescaped, digits_end, goes_on, first}
 
 -- `_` is no digit
 pub underscore_is_no_digit : (radix : ℕ) → radix ≤ 36 → is_digit underscore radix ≡ false

@@ -3,8 +3,8 @@ use Rattle.std.proofs.Common.{◌≡◌, ℕ, Bool, true, false, ℤ, pos, ◌�
 use Rattle.std.specs.Char.{is_ascii_digit}
 use Rattle.std.specs.Prelude.{slice_index}
 use Rattle.pi_lex.specs.Kinds.{kinds, IsNatural, AreNatural}
-use Rattle.pi_types.specs.Tokens as spec
-use Rattle.pi_types.specs.Tokens.{Token, Var, Atom, Word, Int, Str, Sign, End, Item, Ended, Blank, Lexeme, Wide, Bad, Located, Fault, Reads, ended, bad, wide, blank, token}
+use Rattle.pi_syntax.specs.Tokens as spec
+use Rattle.pi_syntax.specs.Tokens.{Token, Var, Atom, Word, Int, Str, Sign, End, Item, Ended, Blank, Lexeme, Wide, Bad, Located, Fault, Reads, ended, bad, wide, blank, token}
 
 abbrev IsNaturalItem : Item → Type 0
 IsNaturalItem (Lexeme t n) = IsNatural t

@@ -8,7 +8,7 @@ use Rattle.pi_lex.specs.declared.fault.LexFault.{LexFault}
 use Rattle.pi_lex.specs.declared.fault.LexFault.TheVariants as lex_fault
 use Rattle.pi_lex.specs.Items.{item_len, tokens_from, GoesOn, fault_from}
 use Rattle.pi_lex.specs.Kinds.{fault_shown}
-use Rattle.pi_types.specs.Tokens.{Item, Ended, Blank, Lexeme, Wide, Bad, Located, Fault, BadToken, WideInteger, most_bytes, item_at, line_feeds, Reads, ended, bad, wide, blank, token, HasFaultFrom, Lexes, too_long, not_utf8, utf8, HasTokens, HasFault}
+use Rattle.pi_syntax.specs.Tokens.{Item, Ended, Blank, Lexeme, Wide, Bad, Located, Fault, BadToken, WideInteger, most_bytes, item_at, line_feeds, Reads, ended, bad, wide, blank, token, HasFaultFrom, Lexes, too_long, not_utf8, utf8, HasTokens, HasFault}
 
 pub item_at_end : (text : List ℕ) → length text ≡ 0 → item_at text ≡ Ended
 unfolding item_at

@@ -4,7 +4,7 @@ use Rattle.std.proofs.lemmas.Bool.{cases_Bool, and_parts, false≢true, eqb-true
 use Rattle.std.specs.List.{list_all}
 use Rattle.std.specs.Str.{bytes_eq}
 use Rattle.pi_lex.specs.Forms.{is_sign}
-use Rattle.pi_types.specs.Tokens.{is_one_of, begins_with, begins_with_one_of, sign_len, signs_of_four, signs_of_three, signs_of_two, signs_of_one}
+use Rattle.pi_syntax.specs.Tokens.{is_one_of, begins_with, begins_with_one_of, sign_len, signs_of_four, signs_of_three, signs_of_two, signs_of_one}
 use Rattle.std.proofs.lemmas.Slice.Eq.{bytes_eq-Decides}
 
 pub or_first : (x y : Bool) → x ≡ true → (x || y) ≡ true

@@ -15,7 +15,7 @@ use Rattle.pi_lex.specs.declared.store.Lexeme.{Lexeme}
 use Rattle.pi_lex.specs.Spans.{spanned, IsSpan}
 use Rattle.pi_lex.specs.Store.{token_of, located_of, IsForm, Extends, Holds}
 use Rattle.pi_lex.specs.Items.{tokens_from}
-use Rattle.pi_types.specs.Tokens.{Item, Ended, Blank, Lexeme as LexemeOf, Wide, Bad, Var, Atom, Word, Int, Str, Sign, Located}
+use Rattle.pi_syntax.specs.Tokens.{Item, Ended, Blank, Lexeme as LexemeOf, Wide, Bad, Var, Atom, Word, Int, Str, Sign, Located}
 
 pub string_len-bytes : (s : String Global) → string_len s ≡ length (string_bytes s)
 string_len-bytes s = s.bytes.ok.0

@@ -11,7 +11,7 @@ use Rattle.unicode_ident.specs.Ident.{is_xid_start}
 use Rattle.unicode_ident.proofs.IdentLemmas.{is_xid_start-is_xid_continue}
 use Rattle.pi_lex.proofs.LexLemmas.{le-digits_end, first_digit}
 use Rattle.pi_lex.proofs.ReaderLemmas.{item_at_end}
-use Rattle.pi_types.specs.Tokens.{Token, Item, Ended, Blank, Lexeme, Wide, Bad, Atom, Str, Located, Fault, TooLong, NotUtf8, BadToken, WideInteger, first, if_some, is_white, percent, line_feed, star, slash, apostrophe, quotation_mark, starts_comment, comment_end, comment, is_variable_start, is_atom_start, is_name_part, variable, atom_or_word, closing_place, meant, quoted, radix_of, digits_end, number_of, largest, is_letter, integer_between, integer, sign_len, sign, is_end_point, item_at, line_feeds, Reads, ended, bad, wide, blank, token, most_bytes, Lexes, too_long, not_utf8, utf8}
+use Rattle.pi_syntax.specs.Tokens.{Token, Item, Ended, Blank, Lexeme, Wide, Bad, Atom, Str, Located, Fault, TooLong, NotUtf8, BadToken, WideInteger, first, if_some, is_white, percent, line_feed, star, slash, apostrophe, quotation_mark, starts_comment, comment_end, comment, is_variable_start, is_atom_start, is_name_part, variable, atom_or_word, closing_place, meant, quoted, radix_of, digits_end, number_of, largest, is_letter, integer_between, integer, sign_len, sign, is_end_point, item_at, line_feeds, Reads, ended, bad, wide, blank, token, most_bytes, Lexes, too_long, not_utf8, utf8}
 
 -- the item takes a character or more
 abbrev pub Advances : Item → Type 0

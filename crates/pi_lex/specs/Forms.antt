@@ -2,7 +2,7 @@
 -- the definition find exactly these.
 use Rattle.std.specs.Prelude.{◌≡◌, ◌≢◌, ℕ, ◌+◌, ◌<◌, ◌≤◌, Bool, true, false, ◌||◌, List, [], ◌∷◌, length, take, drop, slice_index, Some}
 use Rattle.std.specs.Char.{is_digit}
-use Rattle.pi_types.specs.Tokens.{is_one_of, line_feed, backslash, underscore, escaped, unescaped, goes_on, signs_of_four, signs_of_three, signs_of_two, signs_of_one}
+use Rattle.pi_syntax.specs.Tokens.{is_one_of, line_feed, backslash, underscore, escaped, unescaped, goes_on, signs_of_four, signs_of_three, signs_of_two, signs_of_one}
 
 -- Between quotes of this kind the characters stand for these: each for itself, save the quote, the backslash and the
 -- line feed, and a backslash and an escape for what is meant.

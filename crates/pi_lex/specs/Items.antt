@@ -2,7 +2,7 @@
 use Rattle.std.specs.Prelude.{ℕ, ◌+◌, ◌<◌, ◌≤◌, List, [], ◌∷◌, length, Option, Some, None}
 use Rattle.pi_lex.specs.declared.item.Item as code
 use Rattle.pi_lex.specs.declared.item.Item.TheVariants as found
-use Rattle.pi_types.specs.Tokens.{Item, Ended, Blank, Lexeme, Wide, Bad, Var, Atom, Word, Int, Str, Sign, End, spelled, meant, Located, Fault, BadToken, WideInteger}
+use Rattle.pi_syntax.specs.Tokens.{Item, Ended, Blank, Lexeme, Wide, Bad, Var, Atom, Word, Int, Str, Sign, End, spelled, meant, Located, Fault, BadToken, WideInteger}
 
 -- the item of the definition
 abbrev pub seen : List ℕ → code.Item → Item

@@ -4,7 +4,7 @@ use Rattle.pi_lex.specs.declared.token_list.TokenKind.{TokenKind}
 use Rattle.pi_lex.specs.declared.token_list.TokenKind.TheVariants as kind
 use Rattle.pi_lex.specs.declared.fault.LexFault.{LexFault}
 use Rattle.pi_lex.specs.declared.fault.LexFault.TheVariants as lex_fault
-use Rattle.pi_types.specs.Tokens.{Token, Located, Fault, TooLong, NotUtf8, BadToken, WideInteger, Var, Atom, Word, Int, Str, Sign, End}
+use Rattle.pi_syntax.specs.Tokens.{Token, Located, Fault, TooLong, NotUtf8, BadToken, WideInteger, Var, Atom, Word, Int, Str, Sign, End}
 
 -- the token of the definition
 abbrev pub token_shown : TokenKind → Token

@@ -6,7 +6,7 @@ use Rattle.pi_lex.specs.declared.store.Form.TheVariants as form
 use Rattle.pi_lex.specs.declared.store.Lexeme.{Lexeme}
 use Rattle.pi_lex.specs.declared.store.Store.{Store}
 use Rattle.pi_lex.specs.Spans.{spanned, IsSpan}
-use Rattle.pi_types.specs.Tokens.{Token, Item, Ended, Blank, Lexeme as LexemeOf, Wide, Bad, Var, Atom, Word, Int, Str, Sign, End, Located}
+use Rattle.pi_syntax.specs.Tokens.{Token, Item, Ended, Blank, Lexeme as LexemeOf, Wide, Bad, Var, Atom, Word, Int, Str, Sign, End, Located}
 
 abbrev pub token_of : List ℕ → List ℤ → Form → Token
 token_of bytes numbers (form.Variable span) = Var (spanned bytes span)

@@ -1,7 +1,7 @@
 //! White space and comments.
 ghost use Rattle.std.specs.Prelude.{◌≡◌, ◌≤◌, ◌<◌, length, drop, slice_index, IfSome, IsTrue};
 ghost use Rattle.pi_lex.specs.Items.{seen, FitsIn, IsFront};
-ghost use Rattle.pi_types.specs.Tokens as spec;
+ghost use Rattle.pi_syntax.specs.Tokens as spec;
 
 use crate::item::{Item, char_at};
 
@@ -39,7 +39,7 @@ pub(crate) fn starts_comment(text: &[char]) -> bool
 }
 
 /// A comment from `/*` to the next `*/`.
-#[tactic(auto, unfolding(pi_types::specs::Tokens::comment))]
+#[tactic(auto, unfolding(pi_syntax::specs::Tokens::comment))]
 pub(crate) fn comment(text: &[char]) -> Item
     requires { 2 ≤ length text.now }
     ensures value { seen text.now result ≡ spec.comment text.now }

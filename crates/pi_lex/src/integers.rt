@@ -2,13 +2,13 @@
 ghost use Rattle.std.specs.Prelude.{◌≡◌, ◌+◌, ◌*◌, ◌≤◌, ◌<◌, ◌^◌, ◌⊎◌, nat_le, if◌then◌else◌, pos, IsTrue, length, drop, slice_index, Some, None};
 ghost use Rattle.std.specs.Char.{digit_value, is_ascii_digit};
 ghost use Rattle.pi_lex.specs.Items.{seen, FitsIn};
-ghost use Rattle.pi_types.specs.Tokens as spec;
+ghost use Rattle.pi_syntax.specs.Tokens as spec;
 
 use crate::item::{Item, char_at};
 use crate::names::{is_atom_start, is_variable_start};
 
 /// An integer, at its first digit.
-#[tactic(auto, unfolding(pi_types::specs::Tokens::integer))]
+#[tactic(auto, unfolding(pi_syntax::specs::Tokens::integer))]
 pub(crate) fn integer(text: &[char]) -> Item
     requires { IsTrue (is_ascii_digit (slice_index text.now 0)) }
     ensures value { seen text.now result ≡ spec.integer text.now }

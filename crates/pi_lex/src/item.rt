@@ -2,7 +2,7 @@
 ghost use Rattle.std.specs.Prelude.{◌≡◌, ◌<◌, length, slice_index, IfOk, IfErr};
 ghost use Rattle.pi_lex.specs.Items.{seen, FitsIn, item_len, IsFront, GoesOn, fault_from};
 ghost use Rattle.pi_lex.specs.Kinds.{fault_shown};
-ghost use Rattle.pi_types.specs.Tokens as spec;
+ghost use Rattle.pi_syntax.specs.Tokens as spec;
 
 use crate::blanks::{comment, is_white, line_comment_len, starts_comment, white_len};
 use crate::fault::LexFault;
@@ -39,7 +39,7 @@ pub(crate) fn char_at(text: &[char], index: usize) -> char
 }
 
 /// What stands at the front of a text that isn't at its end.
-#[tactic(auto, unfolding(pi_types::specs::Tokens::item_at))]
+#[tactic(auto, unfolding(pi_syntax::specs::Tokens::item_at))]
 pub(crate) fn item_at(text: &[char]) -> Item
     requires { 0 < length text.now }
     ensures value { seen text.now result ≡ spec.item_at text.now }

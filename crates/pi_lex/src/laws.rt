@@ -2,7 +2,7 @@
 ghost use Rattle.std.specs.Prelude.{◌≡◌, ◌≢◌, ℕ, ◌+◌, ◌<◌, ◌≤◌, true, false, Option, Some, List, ◌∷◌, ◌++◌, length, take};
 ghost use Rattle.std.specs.Char.{is_digit};
 ghost use Rattle.pi_lex.specs.Forms.{Spells, IsDigits, IsClosed, EndsDigits, is_sign};
-ghost use Rattle.pi_types.specs.Tokens as spec;
+ghost use Rattle.pi_syntax.specs.Tokens as spec;
 
 /// What is read between quotes, from any place on, is spelled by the characters there, up to the first quote that isn't
 /// escaped.

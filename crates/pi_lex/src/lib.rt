@@ -17,6 +17,3 @@ pub use fault::LexFault;
 pub use laws::{digit_forms, every_text_lexes, longest_sign, quoted_forms};
 pub use reader::{one_reading, tokens};
 pub use token_list::{TokenKind, Tokens};
-
-#[cfg(test)]
-mod tests;

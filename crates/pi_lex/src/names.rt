@@ -2,7 +2,7 @@
 ghost use Rattle.std.specs.Prelude.{◌≡◌, ◌<◌, ◌≤◌, length, slice_index, IsTrue};
 ghost use Rattle.std.specs.Str.{bytes_eq};
 ghost use Rattle.pi_lex.specs.Items.{seen, FitsIn};
-ghost use Rattle.pi_types.specs.Tokens as spec;
+ghost use Rattle.pi_syntax.specs.Tokens as spec;
 
 use crate::item::Item;
 
@@ -38,7 +38,7 @@ pub(crate) fn name_len(text: &[char]) -> usize
 }
 
 /// A variable, at its first character.
-#[tactic(auto, unfolding(pi_types::specs::Tokens::variable))]
+#[tactic(auto, unfolding(pi_syntax::specs::Tokens::variable))]
 pub(crate) fn variable(text: &[char]) -> Item
     requires { IsTrue (spec.is_name_part (slice_index text.now 0)) }
     ensures value { seen text.now result ≡ spec.variable text.now }
@@ -48,7 +48,7 @@ pub(crate) fn variable(text: &[char]) -> Item
 }
 
 /// An unquoted atom or a reserved word, at its first character.
-#[tactic(auto, unfolding(pi_types::specs::Tokens::atom_or_word))]
+#[tactic(auto, unfolding(pi_syntax::specs::Tokens::atom_or_word))]
 pub(crate) fn atom_or_word(text: &[char]) -> Item
     requires { IsTrue (spec.is_name_part (slice_index text.now 0)) }
     ensures value { seen text.now result ≡ spec.atom_or_word text.now }
@@ -62,7 +62,7 @@ pub(crate) fn atom_or_word(text: &[char]) -> Item
     }
 }
 
-#[tactic(auto, unfolding(pi_types::specs::Tokens::is_reserved))]
+#[tactic(auto, unfolding(pi_syntax::specs::Tokens::is_reserved))]
 fn is_reserved(name: &[char]) -> bool
     ensures { result ≡ spec.is_reserved name.now }
 {

@@ -1,13 +1,13 @@
 //! Quoted atoms and texts.
 ghost use Rattle.std.specs.Prelude.{◌≡◌, ◌≤◌, ◌<◌, false, length, drop, IfSome, OnOk, ◌++◌, string_bytes, string_len, encode_utf8_all, slice_index, ◌+◌, ◌*◌};
 ghost use Rattle.pi_lex.specs.Items.{seen, FitsIn};
-ghost use Rattle.pi_types.specs.Tokens as spec;
+ghost use Rattle.pi_syntax.specs.Tokens as spec;
 
 use crate::item::Item;
 use std::alloc::AllocError;
 
 /// An atom in single quotes.
-#[tactic(auto, unfolding(pi_types::specs::Tokens::quoted))]
+#[tactic(auto, unfolding(pi_syntax::specs::Tokens::quoted))]
 pub(crate) fn quoted_atom(text: &[char]) -> Item
     requires { 0 < length text.now }
     ensures value { seen text.now result ≡ spec.quoted spec.Atom text.now }
@@ -20,7 +20,7 @@ pub(crate) fn quoted_atom(text: &[char]) -> Item
 }
 
 /// A text in double quotes.
-#[tactic(auto, unfolding(pi_types::specs::Tokens::quoted))]
+#[tactic(auto, unfolding(pi_syntax::specs::Tokens::quoted))]
 pub(crate) fn quoted_text(text: &[char]) -> Item
     requires { 0 < length text.now }
     ensures value { seen text.now result ≡ spec.quoted spec.Str text.now }

@@ -4,7 +4,7 @@ ghost use Rattle.std.specs.Str.{chars};
 ghost use Rattle.pi_lex.specs.declared.fault.LexFault.TheVariants.{Memory};
 ghost use Rattle.pi_lex.specs.Kinds.{fault_shown};
 ghost use Rattle.pi_lex.specs.Store.{listed, IsSound};
-ghost use Rattle.pi_types.specs.Tokens as spec;
+ghost use Rattle.pi_syntax.specs.Tokens as spec;
 
 use crate::fault::LexFault;
 use crate::item::{item_at, item_len};

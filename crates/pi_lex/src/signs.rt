@@ -1,14 +1,14 @@
 //! Signs and the end point.
 ghost use Rattle.std.specs.Prelude.{◌≡◌, ◌≤◌, IsTrue, length, map};
 ghost use Rattle.pi_lex.specs.Items.{seen, FitsIn};
-ghost use Rattle.pi_types.specs.Tokens as spec;
+ghost use Rattle.pi_syntax.specs.Tokens as spec;
 
 use crate::blanks::is_white;
 use crate::item::{Item, char_at};
 use crate::names::spells;
 
 /// The longest sign that fits.
-#[tactic(auto, unfolding(pi_types::specs::Tokens::sign))]
+#[tactic(auto, unfolding(pi_syntax::specs::Tokens::sign))]
 pub(crate) fn sign(text: &[char]) -> Item
     ensures value { seen text.now result ≡ spec.sign text.now }
     ensures within { FitsIn text.now result }
@@ -91,7 +91,7 @@ fn begins_with(text: &[char], sign: &str) -> bool
 }
 
 /// Whether the text begins with the end point of a part.
-#[tactic(auto, unfolding(pi_types::specs::Tokens::is_end_point))]
+#[tactic(auto, unfolding(pi_syntax::specs::Tokens::is_end_point))]
 pub(crate) fn is_end_point(text: &[char]) -> bool
     ensures { result ≡ spec.is_end_point text.now }
 {

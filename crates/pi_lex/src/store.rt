@@ -1,7 +1,7 @@
 //! The tokens as they are kept: spans into one buffer.
 ghost use Rattle.std.specs.Prelude.{◌≡◌, ◌+◌, ◌*◌, ◌<◌, ◌≤◌, ◌^◌, false, ◌++◌, length, string_bytes, string_len, encode_utf8_all, OnOk, IfOk};
 ghost use Rattle.pi_lex.specs.Spans.{spanned, IsSpan};
-ghost use Rattle.pi_types.specs.Tokens.{unescaped};
+ghost use Rattle.pi_syntax.specs.Tokens.{unescaped};
 
 use crate::item::Item;
 use crate::quoted::push_unescaped;

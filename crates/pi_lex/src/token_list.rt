@@ -37,7 +37,7 @@ pub struct Tokens {
 
 impl Model for Tokens {
     ghost use Rattle.std.specs.Prelude.{List};
-    ghost use Rattle.pi_types.specs.Tokens.{Located};
+    ghost use Rattle.pi_syntax.specs.Tokens.{Located};
 
     ghost Value = { List Located };
 

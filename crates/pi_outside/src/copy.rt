@@ -1,4 +1,4 @@
-// Bytes into the front of a slice.
+//! Bytes into the front of a slice.
 ghost use Rattle.std.specs.Prelude.{◌≡◌, ◌++◌, ◌-◌, length, take, drop, min};
 
 /// Copies as many bytes as there are and have room, and says how many.

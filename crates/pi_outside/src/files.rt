@@ -1,4 +1,4 @@
-// Files by their names.
+//! The trait of files by their names.
 ghost use Rattle.std.specs.Prelude.{◌≡◌, ◌<◌, ◌≤◌, ℕ, Option, length, take, drop, IfOk, OnOk, OnErr};
 ghost use Rattle.pi_outside.specs.Faults.{NeverFalls, Rose};
 ghost use Rattle.pi_outside.specs.Held.{Holding, Keeps, IsThere, HasPiece, EndsBy};

@@ -18,8 +18,6 @@ mod supply;
 mod sure_files;
 mod sure_sink;
 mod sure_source;
-#[cfg(test)]
-mod tests;
 
 pub use failed::Failed;
 pub use files::Files;

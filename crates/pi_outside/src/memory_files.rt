@@ -1,4 +1,4 @@
-// Files in memory, some of whose reads may be made to fail.
+//! Files in memory, some of whose reads may be made to fail.
 ghost use Rattle.std.specs.Prelude.{◌≡◌, ◌<◌, ◌-◌, ℕ, List, [], ◌∷◌, ◌++◌, ◌||◌, None, Some, min, length, take, drop, IfOk, OnOk, OnErr, is_err, is_none};
 ghost use Rattle.pi_outside.specs.Faults.{NeverFalls, Rose};
 ghost use Rattle.pi_outside.specs.Calls.{is_due, passed, failed};

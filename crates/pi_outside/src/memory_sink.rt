@@ -1,4 +1,4 @@
-// A sink in memory.
+//! A sink in memory, some of whose calls may be made to fail.
 ghost use Rattle.std.specs.Prelude.{◌≡◌, ◌≤◌, ◌+◌, [], ◌∷◌, ◌++◌, ◌||◌, Some, length, nat_lt, IfOk, OnOk, OnErr, is_err};
 ghost use Rattle.pi_outside.specs.Faults.{NeverFalls, Rose};
 ghost use Rattle.pi_outside.specs.Calls.{is_due, passed, failed};

@@ -1,4 +1,4 @@
-// A source in memory, some of whose calls may be made to fail.
+//! A source in memory, some of whose calls may be made to fail.
 ghost use Rattle.std.specs.Prelude.{◌≡◌, ◌≤◌, ◌<◌, [], ◌∷◌, ◌++◌, Some, length, take, drop, IfOk, OnOk, OnErr, is_err};
 ghost use Rattle.pi_outside.specs.Faults.{NeverFalls, Rose};
 ghost use Rattle.pi_outside.specs.Calls.{is_due, passed, failed};

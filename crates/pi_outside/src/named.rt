@@ -1,4 +1,4 @@
-// Files in memory by their names.
+//! Files in memory by their names.
 ghost use Rattle.std.specs.Prelude.{◌≡◌, ℕ, List, None, OnOk, OnErr, option_copied};
 
 use std::alloc::{AllocError, Global};

@@ -1,4 +1,4 @@
-// The trusted edge: real files, standard input and standard output. Nothing is told of their bytes.
+//! The trusted edge: real files, standard input and standard output. Nothing is told of their bytes.
 ghost use Rattle.std.specs.Prelude.{◌≡◌, ◌<◌, ◌≤◌, None, Ok, length, drop, IfOk, OnOk, OnErr, is_err};
 ghost use Rattle.pi_outside.specs.Faults.{NeverFalls, Rose};
 

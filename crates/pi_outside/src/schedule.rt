@@ -1,4 +1,4 @@
-// Which calls of an object in memory are to fail.
+//! Which calls of an object in memory are to fail.
 ghost use Rattle.std.specs.Prelude.{◌≡◌, [], ◌∷◌, ◌++◌, ◌||◌, OnOk, OnErr, is_err};
 ghost use Rattle.pi_outside.specs.Faults.{one_more, NeverFalls, Rose};
 ghost use Rattle.pi_outside.specs.Calls.{is_due, passed, failed};

@@ -1,4 +1,4 @@
-// What takes the output.
+//! The trait of what takes the output.
 ghost use Rattle.std.specs.Prelude.{◌≡◌, ◌<◌, ◌≤◌, ℕ, List, [], Option, length, take, IfOk, OnOk, OnErr};
 ghost use Rattle.pi_outside.specs.Faults.{NeverFalls, Rose};
 ghost use Rattle.pi_outside.specs.Taken.{Takes};

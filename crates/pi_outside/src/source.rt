@@ -1,4 +1,4 @@
-// What gives the input.
+//! The trait of what gives the input.
 ghost use Rattle.std.specs.Prelude.{◌≡◌, ◌<◌, ◌≤◌, ℕ, List, [], Option, length, take, drop, IfOk, OnOk, OnErr};
 ghost use Rattle.pi_outside.specs.Faults.{NeverFalls, Rose};
 ghost use Rattle.pi_outside.specs.Given.{Gives, IsSpent};

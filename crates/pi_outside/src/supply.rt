@@ -1,4 +1,4 @@
-// Bytes that are given in turn.
+//! Bytes that are given in turn.
 ghost use Rattle.std.specs.Prelude.{◌≡◌, ◌≤◌, ◌<◌, [], ◌++◌, length, take, drop, IfOk};
 ghost use Rattle.pi_outside.specs.Memory.{next_count, after_giving};
 

@@ -1,4 +1,4 @@
-// Files in memory that never fail.
+//! Files in memory that never fail.
 ghost use Rattle.std.specs.Prelude.{◌≡◌, ◌<◌, ◌-◌, ℕ, List, [], ◌++◌, Some, Ok, min, length, take, drop, IfOk, OnOk, OnErr};
 ghost use Rattle.pi_outside.specs.Held.{bytes_of, EndsBy};
 

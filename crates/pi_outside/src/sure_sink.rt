@@ -1,4 +1,4 @@
-// A sink in memory that never fails.
+//! A sink in memory that never fails.
 ghost use Rattle.std.specs.Prelude.{◌≡◌, ℕ, List, [], ◌++◌, Ok, false, length, IfOk};
 ghost use Rattle.pi_outside.specs.Memory.{after_piece, told_bytes, HasTaken};
 

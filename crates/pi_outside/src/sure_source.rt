@@ -1,4 +1,4 @@
-// A source in memory that never fails.
+//! A source in memory that never fails.
 ghost use Rattle.std.specs.Prelude.{◌≡◌, ◌≤◌, ◌<◌, [], ◌++◌, Some, Ok, length, take, drop, IfOk};
 ghost use Rattle.pi_outside.specs.Memory.{next_count, after_giving};
 

@@ -1,10 +1,10 @@
 -- A reader of a term's nodes has terms ahead of it.
 use Rattle.std.proofs.Common.{IsSomeAnd, ◌≡◌, ℕ, zero, suc, ◌+◌, ◌≤◌, List, [], ◌∷◌, ◌++◌, length, drop, slice_get, refl, ap, sym, ◌∙◌, append_assoc, arith}
 use Rattle.std.proofs.lemmas.List.{append-nil}
-use Rattle.pi_types.specs.Tree.{Tree, var, int, atom, comp, Trees, no_trees, tree, tree_count, cells, cells_all, arity, args, drop_trees, subterms, subterms_all, ShowsHead}
-use Rattle.pi_types.proofs.TermLemmas.{subterm_for_each_cell}
-use Rattle.pi_types.specs.TermCells.{take_trees, append_trees, take_trees-append, drop_trees-append}
-use Rattle.pi_types.specs.declared.term.TermHead.{TermHead}
+use Rattle.pi_terms.specs.Tree.{Tree, var, int, atom, comp, Trees, no_trees, tree, tree_count, cells, cells_all, arity, args, drop_trees, subterms, subterms_all, ShowsHead}
+use Rattle.pi_terms.proofs.TermLemmas.{subterm_for_each_cell}
+use Rattle.pi_terms.specs.TermCells.{take_trees, append_trees, take_trees-append, drop_trees-append}
+use Rattle.pi_terms.specs.declared.term.TermHead.{TermHead}
 use Rattle.pi_print.specs.Ahead.{roots, built, behind, count_of, append_no_trees}
 
 -- the nodes of terms are read as those terms

@@ -7,12 +7,13 @@ use Rattle.std.specs.List.{flat_map}
 use Rattle.std.proofs.lemmas.Bool.{cases_Bool}
 use Rattle.std.proofs.lemmas.List.{append-nil}
 use Rattle.std.proofs.Math.Seq.{drop-cons}
-use Rattle.pi_types.specs.Variables.{occurrences, firsts}
-use Rattle.pi_types.specs.PrintAnswer.{answer_variables, value_line, domain_of, domain_lines, answer_lines}
-use Rattle.pi_types.specs.declared.answer.Answer.{Answer}
-use Rattle.pi_types.specs.declared.answer.NamedTerm.{NamedTerm}
-use Rattle.pi_types.specs.declared.answer.VarDomain.{VarDomain}
-use Rattle.pi_types.specs.declared.domain.Span.{Span}
+use Rattle.pi_terms.specs.Variables.{occurrences, firsts}
+use Rattle.pi_answers.specs.AnswerVariables.{answer_variables}
+use Rattle.pi_print.specs.PrintAnswer.{value_line, domain_of, domain_lines, answer_lines}
+use Rattle.pi_answers.specs.declared.answer.Answer.{Answer}
+use Rattle.pi_answers.specs.declared.answer.NamedTerm.{NamedTerm}
+use Rattle.pi_constraints.specs.declared.var_domain.VarDomain.{VarDomain}
+use Rattle.pi_constraints.specs.declared.domain.Span.{Span}
 use Rattle.pi_print.specs.Answers.{HasDomains}
 use Rattle.pi_print.specs.Numbers.{noted_all}
 use Rattle.pi_print.proofs.NumberLemmas.{noted_firsts, noted_append, noted_none}

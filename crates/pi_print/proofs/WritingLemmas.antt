@@ -1,7 +1,7 @@
 -- Results that are known, and tasks that are done.
 use Rattle.std.proofs.Common.{◌≡◌, ℕ, List, [], ◌∷◌, ◌++◌, length, ap, sym, ◌∙◌, subst, refl, Option, Some, None, MatchOption, Bool}
 use Rattle.std.proofs.lemmas.List.{append-nil}
-use Rattle.pi_types.specs.Tree.{Trees}
+use Rattle.pi_terms.specs.Tree.{Trees}
 use Rattle.pi_print.specs.declared.printer.Task.{Task}
 use Rattle.pi_print.specs.Tasks.{tasks_text}
 use Rattle.pi_print.proofs.TaskLemmas.{tasks_text-none}

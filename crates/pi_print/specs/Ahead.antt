@@ -3,10 +3,10 @@ use Rattle.std.specs.Prelude.{◌≡◌, ℕ, List, [], ◌∷◌, Option, Some,
 use Rattle.std.specs.Coded.{Coded, code_by, coded_list}
 use Rattle.std.proofs.Common.{ap, sym, ◌∙◌}
 use Rattle.std.proofs.lemmas.List.{append-nil}
-use Rattle.pi_types.specs.Tree.{Tree, var, int, atom, comp, Trees, no_trees, tree, drop_trees, arity}
-use Rattle.pi_types.specs.TermCells.{flat_all, spelled, take_trees, append_trees, cell_code, spelled-flat_all}
-use Rattle.pi_types.specs.declared.term.TermCell.{TermCell}
-use Rattle.pi_types.specs.declared.term.TermHead.{TermHead}
+use Rattle.pi_terms.specs.Tree.{Tree, var, int, atom, comp, Trees, no_trees, tree, drop_trees, arity}
+use Rattle.pi_terms.specs.TermCells.{flat_all, spelled, take_trees, append_trees, cell_code, spelled-flat_all}
+use Rattle.pi_terms.specs.declared.term.TermCell.{TermCell}
+use Rattle.pi_terms.specs.declared.term.TermHead.{TermHead}
 
 -- the terms whose nodes these are, each node with all that stands below it
 abbrev pub roots : List Tree → Trees

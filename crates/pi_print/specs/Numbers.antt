@@ -1,15 +1,7 @@
--- The numbers of variables that are met one after another.
-use Rattle.std.specs.Prelude.{◌≡◌, ℕ, ◌==◌, Bool, if◌then◌else◌, List, [], ◌∷◌, ◌++◌, length, Some, None, nat_eq}
-use Rattle.std.specs.HashMap.{HashMap, get}
-use Rattle.pi_types.specs.Copy.{place_in}
-use Rattle.pi_types.specs.declared.term.TermHead.{TermHead}
-
-abbrev pub is_new : List ℕ → ℕ → Bool
-is_new vars n = place_in vars n == length vars
-
--- a new variable stands at the end
-unfoldable pub noted : List ℕ → ℕ → List ℕ
-noted vars n = if is_new vars n then vars ++ n ∷ [] else vars
+-- The variables of terms, met one after another.
+use Rattle.std.specs.Prelude.{ℕ, List, [], ◌∷◌}
+use Rattle.pi_terms.specs.Numbers.{noted}
+use Rattle.pi_terms.specs.declared.term.TermHead.{TermHead}
 
 -- more variables, one after another
 unfoldable pub noted_all : List ℕ → List ℕ → List ℕ
@@ -22,7 +14,3 @@ variables_at (TermHead.Var n) = n ∷ []
 variables_at (TermHead.Int n) = []
 variables_at (TermHead.Atom name) = []
 variables_at (TermHead.Comp name count) = []
-
--- the table has the place of each
-pub record AreNumbered {S : Type 0} (vars : List ℕ) (by_var : HashMap ℕ ℕ S) : Type 0 where
-  pub places : (n : ℕ) → get nat_eq by_var n ≡ (if is_new vars n then None else Some (place_in vars n))

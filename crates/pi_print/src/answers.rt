@@ -1,19 +1,22 @@
 //! The lines of an answer.
 ghost use Rattle.std.specs.Prelude.{◌≡◌, ◌++◌, ◌∷◌, [], map, true, IfOk, option_copied};
 ghost use Rattle.std.specs.String.{string_bytes};
-ghost use Rattle.pi_types.specs.PrintAnswer as spec;
+ghost use Rattle.pi_answers.specs.AnswerVariables.{answer_variables};
+ghost use Rattle.pi_print.specs.PrintAnswer as spec;
 ghost use Rattle.pi_print.specs.Answers.{HasDomains};
 
 use crate::Lines;
-use crate::numbers::Numbers;
+use crate::numbers::meet_term;
 use crate::printer::Printer;
-use pi_types::{Answer, Domain, NamedTerm, Span, Text, VarDomain};
+use pi_answers::{Answer, NamedTerm};
+use pi_constraints::{Domain, Span, VarDomain};
+use pi_terms::{Numbers, Text};
 use std::alloc::{AllocError, Global};
 use std::collections::HashMap;
 
 /// The lines of an answer: `Name = T` for each named variable, with T in quoted form; then `_k :: D` for each variable in
 /// them that has a domain, where D lists its ranges; then `yes`.
-#[tactic(auto, unfolding(pi_types::specs::PrintAnswer::answer_lines))]
+#[tactic(auto, unfolding(crate::specs::PrintAnswer::answer_lines))]
 pub fn answer_text(alloc: Global, a: &Answer) -> Result<Lines, AllocError>
     ensures ok { IfOk result (λ lines. lines ≡ spec.answer_lines a.now) }
 {
@@ -32,11 +35,11 @@ pub fn answer_text(alloc: Global, a: &Answer) -> Result<Lines, AllocError>
 
 /// The numbers of the variables in the values.
 fn numbers_of(alloc: Global, values: &[NamedTerm]) -> Result<Numbers, AllocError>
-    ensures ok { IfOk result (λ numbers. numbers ≡ spec.answer_variables values.now) }
+    ensures ok { IfOk result (λ numbers. numbers ≡ answer_variables values.now) }
 {
     let mut numbers = Numbers::new(alloc);
     for named in values {
-        numbers.note_term(&named.value)?;
+        meet_term(&mut numbers, &named.value)?;
     }
     Ok(numbers)
 }
@@ -75,7 +78,7 @@ fn write_domains(
     ensures ok { IfOk result (λ _. lines.new ≡ lines.old ++ spec.domain_lines printer.now.numbers domains.now) }
 {
     let by_var = domains_by_var(printer.alloc, domains)?;
-    for var in printer.numbers.vars() {
+    for var in printer.numbers.as_slice() {
         write_domain(printer, *var, by_var.get(var).copied(), lines)?;
     }
     Ok(())

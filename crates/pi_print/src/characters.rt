@@ -1,13 +1,13 @@
 //! Lists that are written as their characters.
 ghost use Rattle.std.specs.Prelude.{◌≡◌, ◌==◌, ◌≤◌, ◌+◌, true, false, length, IfOk, IfSome, IfNone, OnSome, MatchOption};
 ghost use Rattle.std.specs.Str.{chars};
-ghost use Rattle.pi_types.specs.Tree.{atom, tree, tree_count, cells_all};
-ghost use Rattle.pi_types.specs.TermCells.{take_trees};
-ghost use Rattle.pi_types.specs.PrintTerm.{cell_is_characters};
+ghost use Rattle.pi_terms.specs.Tree.{atom, tree, tree_count, cells_all};
+ghost use Rattle.pi_terms.specs.TermCells.{take_trees};
+ghost use Rattle.pi_print.specs.PrintTerm.{cell_is_characters};
 ghost use Rattle.pi_print.specs.Roots.{root_is_cell, root_is_nil, AreCharacters};
 
 use crate::nodes::Nodes;
-use pi_types::TermHead;
+use pi_terms::TermHead;
 use std::alloc::{AllocError, Global};
 
 /// Whether a term with this root is a list cell.

@@ -2,7 +2,7 @@
 #![tactic(auto)]
 
 ghost use Rattle.std.specs.Prelude.{◌≡◌, IfOk};
-ghost use Rattle.pi_types.specs.PrintTerm.{text_of};
+ghost use Rattle.pi_print.specs.PrintTerm.{text_of};
 
 mod answers;
 mod atoms;
@@ -10,12 +10,10 @@ mod characters;
 mod nodes;
 mod numbers;
 mod printer;
-#[cfg(test)]
-mod tests;
 
 pub use answers::answer_text;
-use numbers::Numbers;
-use pi_types::{Series, Term, Text};
+use numbers::meet_term;
+use pi_terms::{Numbers, Series, Term, Text};
 use printer::Printer;
 use std::alloc::{AllocError, Global};
 
@@ -28,7 +26,7 @@ pub fn term_text(alloc: Global, t: &Term, quoted: bool) -> Result<Text, AllocErr
     ensures ok { IfOk result (λ text. text ≡ text_of quoted t.now) }
 {
     let mut numbers = Numbers::new(alloc);
-    numbers.note_term(t)?;
+    meet_term(&mut numbers, t)?;
     let printer = Printer {
         alloc,
         is_quoted: quoted,

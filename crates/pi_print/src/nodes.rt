@@ -1,9 +1,9 @@
 //! The nodes of a term, read from the front.
 ghost use Rattle.std.specs.Prelude.{◌≡◌, ◌+◌, ◌≤◌, MatchOption, IfNone, OnSome};
-ghost use Rattle.pi_types.specs.Tree.{Tree, Trees, no_trees, tree, tree_count, cells_all};
+ghost use Rattle.pi_terms.specs.Tree.{Tree, Trees, no_trees, tree, tree_count, cells_all};
 ghost use Rattle.pi_print.specs.Ahead.{built, behind, argument_count};
 
-use pi_types::{Term, TermHead};
+use pi_terms::{Term, TermHead};
 use std::marker::Model;
 
 /// The terms that a reader of a term has ahead of it. A contract sees their trees.
@@ -15,7 +15,7 @@ pub struct Nodes<'t> {
 
 impl<'t> Model for Nodes<'t> {
     ghost use Rattle.std.specs.Prelude.{◌≡◌, drop};
-    ghost use Rattle.pi_types.specs.Tree.{Trees, subterms, subterms_all};
+    ghost use Rattle.pi_terms.specs.Tree.{Trees, subterms, subterms_all};
     ghost use Rattle.pi_print.specs.Ahead.{roots, trees_code};
 
     ghost Value = { Trees };

@@ -2,10 +2,10 @@
 ghost use Rattle.std.specs.Prelude.{◌≡◌, ◌++◌, ◌+◌, ◌≤◌, ◌&&◌, not, false, List, ℕ, IfOk, OnOk, MatchOption, vec_len};
 ghost use Rattle.std.specs.Char.{encode_utf8};
 ghost use Rattle.std.specs.String.{string_bytes};
-ghost use Rattle.pi_types.specs.Tree.{comp, tree_count, drop_trees, cells_all};
-ghost use Rattle.pi_types.specs.TermCells.{take_trees};
-ghost use Rattle.pi_types.specs.PrintAtom.{atom_text};
-ghost use Rattle.pi_types.specs.PrintTerm.{written, variable_text, compound_text, arguments_text, cell_is_characters};
+ghost use Rattle.pi_terms.specs.Tree.{comp, tree_count, drop_trees, cells_all};
+ghost use Rattle.pi_terms.specs.TermCells.{take_trees};
+ghost use Rattle.pi_print.specs.PrintAtom.{atom_text};
+ghost use Rattle.pi_print.specs.PrintTerm.{written, variable_text, compound_text, arguments_text, cell_is_characters};
 ghost use Rattle.pi_print.specs.Ahead.{built, behind, count_of};
 ghost use Rattle.pi_print.specs.Roots.{AreCharacters};
 ghost use Rattle.pi_print.specs.Tasks.{task_text, task_left, list_text, to_do, Begins};
@@ -14,8 +14,7 @@ ghost use Rattle.pi_print.specs.declared.printer.Task.TheVariants.{Value, Rest, 
 use crate::atoms::write_quoted;
 use crate::characters::{Characters, is_cell, is_nil, read_characters};
 use crate::nodes::Nodes;
-use crate::numbers::Numbers;
-use pi_types::{Term, TermHead};
+use pi_terms::{Numbers, Term, TermHead};
 use std::alloc::{AllocError, Global};
 
 /// What is still to be written of a term.
@@ -274,7 +273,7 @@ impl Printer {
         write!(out, "_{number}")
     }
 
-    #[tactic(auto, unfolding(pi_types::specs::PrintAtom::atom_text))]
+    #[tactic(auto, unfolding(crate::specs::PrintAtom::atom_text))]
     fn atom(&self, name: &str, out: &mut String) -> Result<(), AllocError>
         ensures ok { IfOk result (λ _. string_bytes out.new ≡ string_bytes out.old ++ atom_text self.now.is_quoted name.now) }
     {

@@ -1,19 +1,19 @@
 -- Tokens have one reading, and so one verdict.
-use Rattle.std.proofs.Common.{◌≡◌, ℕ, Bool, true, false, List, [], ◌∷◌, Option, Some, None, refl, ap, ◌∙◌, sym, subst}
+use Rattle.std.proofs.Common.{◌≡◌, ℕ, Bool, true, false, List, [], ◌∷◌, map, Option, Some, None, refl, ap, ◌∙◌, sym, subst}
 use Rattle.std.specs.Prelude.{codes}
 use Rattle.std.specs.Str.{bytes_eq}
 use Rattle.std.proofs.lemmas.Slice.Eq.{bytes_eq-Decides}
-use Rattle.pi_types.proofs.GrammarLemmas.{has_one_exp, read_is_one, too_deep_is_no_none}
-use Rattle.pi_types.specs.Grammar.{HasExp}
-use Rattle.pi_types.specs.ProgramTree.{ProgramTree}
-use Rattle.pi_types.specs.Tokens.{Token, Var, Atom, Word, Int, Str, Sign, End, is_one_of}
-use Rattle.pi_types.specs.declared.program.Mode.{Mode}
+use Rattle.pi_syntax.proofs.GrammarLemmas.{has_one_exp, read_is_one, too_deep_is_no_none}
+use Rattle.pi_syntax.specs.Grammar.{HasExp}
+use Rattle.pi_syntax.specs.ProgramTree.{ProgramTree}
+use Rattle.pi_syntax.specs.Tokens.{Token, Var, Atom, Word, Int, Str, Sign, End, is_one_of}
+use Rattle.pi_syntax.specs.declared.program.Mode.{Mode}
 use Rattle.pi_prog.specs.Declaration.{Opening, importing, indexing, misdeclared, imported, is_sign, mode_of, Modes, last_mode, more_modes, ModeList, mode_list, ModeLists, no_more, one_more, Declares, imports, no_imports, indexes, no_indexes, others, Opens, clause_alone, declaration}
 use Rattle.pi_prog.specs.GoalVerdict.{GoalVerdict, JudgesGoal, goal_too_deep, no_goal, an_expression, goal_verdict, HasGoalVerdict}
 use Rattle.pi_prog.specs.Reading.{Reading, imports_part, written, variable_names, IsDeepShape, HasNoShape, ClauseOf, whole, behind_index, Reads, crowded, no_declaration, not_ended, an_import, without_form, too_many_levels, a_clause, ReadAll, none, next}
 use Rattle.pi_prog.specs.Shape.{Shape, bare, ruled, Sides, sides, HasShape, without_arrow, with_arrow}
 use Rattle.pi_prog.specs.Stretch.{Stretch}
-use Rattle.pi_prog.specs.Verdict.{Verdict, HasVerdict, verdict}
+use Rattle.pi_prog.specs.Verdict.{Verdict, HasVerdict, judged, verdict}
 
 -- ---- mode lists
 
@@ -226,7 +226,7 @@ read_all_one (next {r = r} {rs = rs} h hs) (next {r = r'} h' hs') = ap (λ x. x 
 -- ---- verdicts
 
 pub one_program : (tokens : List Token) (v w : Verdict) → HasVerdict tokens v → HasVerdict tokens w → v ≡ w
-one_program tokens v w h h' = h.is ∙ ap verdict (read_all_one h.read h'.read) ∙ sym h'.is
+one_program tokens v w h h' = h.is ∙ ap (λ rs. verdict (map judged rs)) (read_all_one h.read h'.read) ∙ sym h'.is
 
 judges_one : {program : ProgramTree} {ts : List Token} {v w : GoalVerdict} → JudgesGoal program ts v → JudgesGoal program ts w → v ≡ w
 judges_one (goal_too_deep d) (goal_too_deep d') = refl

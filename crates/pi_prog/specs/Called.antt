@@ -4,12 +4,12 @@ use Rattle.pi_prog.specs.Calls.{Named, named, planner_calls, goal_calls, calls_a
 use Rattle.pi_prog.specs.Form.{Form, plain, calling}
 use Rattle.pi_prog.specs.Places.{Place, goal, asked, expression, iterator, term, pattern}
 use Rattle.pi_prog.specs.Walk.{nodes_ahead}
-use Rattle.pi_prog.specs.declared.calls.Called.{Called}
-use Rattle.pi_prog.specs.declared.calls.Calls.{Calls}
-use Rattle.pi_prog.specs.declared.calls.NodeCalls.{NodeCalls}
-use Rattle.pi_prog.specs.declared.calls.NodeCalls.TheVariants as node
-use Rattle.pi_prog.specs.declared.calls.Pending.{Pending}
-use Rattle.pi_prog.specs.declared.calls.Pending.TheVariants as pending
+use Rattle.pi_prog.specs.declared.names.calls.Called.{Called}
+use Rattle.pi_prog.specs.declared.names.calls.Calls.{Calls}
+use Rattle.pi_prog.specs.declared.names.calls.NodeCalls.{NodeCalls}
+use Rattle.pi_prog.specs.declared.names.calls.NodeCalls.TheVariants as node
+use Rattle.pi_prog.specs.declared.names.calls.Pending.{Pending}
+use Rattle.pi_prog.specs.declared.names.calls.Pending.TheVariants as pending
 
 abbrev pub named_by : Called → Named
 named_by c = named c.name.now c.arity c.is_function

@@ -4,10 +4,10 @@ use Rattle.std.specs.Prelude.{ℕ, Bool, true, false, not, ◌&&◌, ◌||◌, �
 use Rattle.std.specs.List.{list_any}
 use Rattle.std.specs.Str.{bytes_eq}
 use Rattle.pi_lib.specs.declared.builtin.BuiltinKind.{BuiltinKind}
+use Rattle.pi_lib.specs.Forms.{is_form}
 use Rattle.pi_lib.specs.Names.{kind_of}
-use Rattle.pi_types.specs.ExpTree.{ExpTree, atom, call}
-use Rattle.pi_types.specs.Small.{exp_count}
-use Rattle.pi_prog.specs.Operators.{is_goal_sign, is_assignment, is_membership}
+use Rattle.pi_syntax.specs.ExpTree.{ExpTree, atom, call}
+use Rattle.pi_syntax.specs.Signature.{exp_count}
 use Rattle.pi_prog.specs.Places.{Place, goal, asked, expression, iterator, term, pattern, Placed}
 
 -- a name and number of arguments, as a function's or as a predicate's
@@ -25,10 +25,6 @@ is_planner_call name arity = (bytes_eq name (codes "plan") || bytes_eq name (cod
 
 abbrev pub planner_calls : List Named
 planner_calls = named (codes "final") 1 false ∷ named (codes "action") 4 false ∷ []
-
--- `not`, `once`, `:=` and `in` call nothing themselves
-abbrev pub is_form : List ℕ → ℕ → Bool
-is_form name arity = is_goal_sign name arity || (is_assignment name arity || is_membership name arity)
 
 -- what a goal calls that has this name
 abbrev pub goal_calls : List ℕ → ℕ → List Named

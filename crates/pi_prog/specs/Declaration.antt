@@ -2,8 +2,8 @@
 -- with a fact behind them. (A User's Guide to Picat, 'Predicates and Functions'; that these two alone are there is own.)
 use Rattle.std.specs.Prelude.{◌≡◌, ℕ, Bool, true, false, ◌&&◌, if◌then◌else◌, List, [], ◌∷◌, Option, Some, None, option_map, codes}
 use Rattle.std.specs.Str.{bytes_eq}
-use Rattle.pi_types.specs.Tokens.{Token, Atom, Sign, is_one_of}
-use Rattle.pi_types.specs.declared.program.Mode.{Mode}
+use Rattle.pi_syntax.specs.Tokens.{Token, Atom, Sign, is_one_of}
+use Rattle.pi_syntax.specs.declared.program.Mode.{Mode}
 
 pub data Opening : Type 0 where
   -- with no declaration: all its tokens are its clause's

@@ -1,10 +1,10 @@
 -- What the faults of the code say.
 use Rattle.std.specs.Prelude.{◌≡◌, ◌⊎◌, ℕ, List, Result}
 use Rattle.std.specs.Prelude as prelude
-use Rattle.pi_types.specs.ProgramTree.{ProgramTree, source_tree, goal_source}
-use Rattle.pi_types.specs.Tokens.{Token}
-use Rattle.pi_types.specs.declared.program.Program.{Program}
-use Rattle.pi_types.specs.declared.program.Goal.{Goal}
+use Rattle.pi_syntax.specs.ProgramTree.{ProgramTree, source_tree, goal_source}
+use Rattle.pi_syntax.specs.Tokens.{Token}
+use Rattle.pi_syntax.specs.declared.program.Program.{Program}
+use Rattle.pi_syntax.specs.declared.program.Goal.{Goal}
 use Rattle.pi_prog.specs.Calls.{Named}
 use Rattle.pi_prog.specs.GoalVerdict.{GoalVerdict, a_goal, goal_is_faulty, calls_unknown, HasGoalVerdict}
 use Rattle.pi_prog.specs.Verdict as spec

@@ -1,14 +1,14 @@
 -- What a node is at its root, as far as it says where the node may stand.
 use Rattle.std.specs.Prelude.{ℕ, Bool, true, false, not, ◌&&◌, ◌||◌, List, codes}
 use Rattle.std.specs.Str.{bytes_eq}
-use Rattle.pi_types.specs.ExpTree.{ExpTree, var, int, atom, str, list, list_onto, array, call, quote, index, range, range_by, at, collect, and, or, arrow, if_then, if_else, foreach, while_do, do_while, ExpTrees, no_exps, exp}
-use Rattle.pi_types.specs.ExpLists.{exps_of}
-use Rattle.pi_types.specs.Small.{exp_count}
+use Rattle.pi_syntax.specs.ExpTree.{ExpTree, var, int, atom, str, list, list_onto, array, call, quote, index, range, range_by, at, collect, and, or, arrow, if_then, if_else, foreach, while_do, do_while, ExpTrees, no_exps, exp}
+use Rattle.pi_syntax.specs.ExpLists.{exps_of}
+use Rattle.pi_syntax.specs.Signature.{exp_count}
 use Rattle.pi_prog.specs.Operators.{is_assignment, is_membership, is_reified, is_operator, is_goal_call, is_expression_call}
 use Rattle.pi_prog.specs.Places.{Place, goal, asked, expression, iterator, term, pattern, Placed}
 use Rattle.pi_prog.specs.Items.{is_kept_from_patterns, is_variable, is_evaluated, allows_assignment, is_misplaced, is_misassigned, is_reified_node, is_stray, is_no_goal}
-use Rattle.pi_prog.specs.declared.form.Form.{Form as CodeForm}
-use Rattle.pi_prog.specs.declared.form.Form.TheVariants as code
+use Rattle.pi_prog.specs.declared.nodes.form.Form.{Form as CodeForm}
+use Rattle.pi_prog.specs.declared.nodes.form.Form.TheVariants as code
 
 pub data Form : Type 0 where
   variable : List ℕ → Form

@@ -1,8 +1,8 @@
 -- What a part of a program defines.
 use Rattle.std.specs.Prelude.{Option, Some, None}
-use Rattle.pi_types.specs.ProgramTree.{WrittenClause, PartTree}
+use Rattle.pi_syntax.specs.ProgramTree.{WrittenClause, PartTree}
 use Rattle.pi_prog.specs.Calls.{Named}
-use Rattle.pi_prog.specs.Defined.{definition}
+use Rattle.pi_prog.specs.Verdict.{definition}
 
 -- the predicate or function that a clause is of, where there is a clause
 abbrev pub defined_by_one : Option WrittenClause → Option Named

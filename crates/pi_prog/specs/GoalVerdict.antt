@@ -1,21 +1,20 @@
 -- What a goal's tokens come to, asked of a program: the goal, or its first fault. A goal is one part.
 use Rattle.std.specs.Prelude.{ℕ, true, if◌then◌else◌, List, [], ◌∷◌, ◌++◌, Option, Some, None}
-use Rattle.pi_types.specs.Crowding.{IsRead, IsTooDeep, HasNoExp}
-use Rattle.pi_types.specs.ExpTree.{ExpTree}
-use Rattle.pi_types.specs.ProgramTree.{WrittenClause, ProgramTree}
-use Rattle.pi_types.specs.Small.{signature}
-use Rattle.pi_types.specs.Tokens.{Token}
+use Rattle.pi_syntax.specs.Crowding.{IsRead, IsTooDeep, HasNoExp}
+use Rattle.pi_syntax.specs.ExpTree.{ExpTree}
+use Rattle.pi_syntax.specs.ProgramTree.{WrittenClause, ProgramTree}
+use Rattle.pi_syntax.specs.Tokens.{Token}
 use Rattle.pi_prog.specs.Calls.{Named, calls_among, first_unknown}
-use Rattle.pi_prog.specs.Items.{head_of, is_function, are_bad_nodes}
+use Rattle.pi_prog.specs.Items.{are_bad_nodes}
 use Rattle.pi_prog.specs.Places.{goal, placed}
 use Rattle.pi_prog.specs.Reading.{variable_names}
 use Rattle.pi_prog.specs.Stretch.{without_end}
-use Rattle.pi_prog.specs.Verdict.{PartFault, TooDeep, BadClause, TooManyVariables, named_as, has_too_many_names}
+use Rattle.pi_prog.specs.Verdict.{PartFault, TooDeep, BadClause, TooManyVariables, as_list, definition, has_too_many_names}
 
 -- what a clause defines
 abbrev pub defined_by_clause : Option WrittenClause → List Named
 defined_by_clause None = []
-defined_by_clause (Some c) = named_as (is_function c) (signature (head_of c))
+defined_by_clause (Some c) = as_list (definition c)
 
 -- and a program
 abbrev pub defined_by_program : ProgramTree → List Named

@@ -3,9 +3,9 @@ use Rattle.std.specs.Prelude.{◌≡◌, ℕ, Bool, not, ◌&&◌, List, codes}
 use Rattle.std.specs.Borrow.{Bor}
 use Rattle.std.specs.List.{list_any}
 use Rattle.std.specs.Str.{bytes_eq}
-use Rattle.pi_types.specs.ExpTree.{ExpTree}
+use Rattle.pi_syntax.specs.ExpTree.{ExpTree}
 use Rattle.pi_prog.specs.Items.{occurs_in_head}
-use Rattle.pi_prog.specs.declared.head_names.HeadNames.{HeadNames}
+use Rattle.pi_prog.specs.declared.restrictions.head_names.HeadNames.{HeadNames}
 
 -- a set of texts has this one
 abbrev pub is_among : List (Bor (List ℕ)) → List ℕ → Bool

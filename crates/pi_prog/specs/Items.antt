@@ -3,9 +3,9 @@
 use Rattle.std.specs.Prelude.{ℕ, Bool, true, false, not, ◌&&◌, ◌||◌, List, [], ◌∷◌, Option, Some, None, is_some, codes}
 use Rattle.std.specs.List.{list_any}
 use Rattle.std.specs.Str.{bytes_eq}
-use Rattle.pi_types.specs.ExpTree.{ExpTree, var, int, atom, str, list, list_onto, array, call, quote, index, range, range_by, at, collect, and, or, arrow, if_then, if_else, foreach, while_do, do_while, ExpTrees, no_exps, exp}
-use Rattle.pi_types.specs.ProgramTree.{WrittenClause, rule, function, fact}
-use Rattle.pi_types.specs.Small.{exp_count}
+use Rattle.pi_syntax.specs.ExpTree.{ExpTree, var, int, atom, str, list, list_onto, array, call, quote, index, range, range_by, at, collect, and, or, arrow, if_then, if_else, foreach, while_do, do_while, ExpTrees, no_exps, exp}
+use Rattle.pi_syntax.specs.ProgramTree.{WrittenClause, rule, function, fact}
+use Rattle.pi_syntax.specs.Signature.{exp_count}
 use Rattle.pi_prog.specs.Operators.{is_assignment, is_membership, is_reified, is_operator, is_goal_call, is_expression_call}
 use Rattle.pi_prog.specs.Places.{Place, goal, asked, expression, iterator, term, pattern, Placed, head_placed}
 use Rattle.pi_prog.specs.Shape.{Shape, clause_of, shape_events, is_open, listed}

@@ -5,10 +5,10 @@ use Rattle.pi_prog.specs.Called.{named_by}
 use Rattle.pi_prog.specs.Calls.{Named}
 use Rattle.pi_prog.specs.Defined.{IsSetOf}
 use Rattle.pi_prog.specs.Verdict as spec
-use Rattle.pi_prog.specs.declared.calls.Called.{Called}
-use Rattle.pi_prog.specs.declared.definitions.Definitions.{Definitions}
-use Rattle.pi_prog.specs.declared.judge.Faulty.{Faulty}
-use Rattle.pi_prog.specs.declared.judge.UnknownCall.{UnknownCall}
+use Rattle.pi_prog.specs.declared.names.calls.Called.{Called}
+use Rattle.pi_prog.specs.declared.names.definitions.Definitions.{Definitions}
+use Rattle.pi_prog.specs.declared.judging.first_faults.Faulty.{Faulty}
+use Rattle.pi_prog.specs.declared.judging.first_faults.UnknownCall.{UnknownCall}
 
 abbrev pub faulty_shown : Faulty → spec.Faulty
 faulty_shown f = record { number = f.number; fault = fault_shown f.fault }

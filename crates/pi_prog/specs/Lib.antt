@@ -10,12 +10,12 @@ pub mod GoalVerdict
 pub mod HeadNames
 pub mod Items
 pub mod Judge
-pub mod Judged
 pub mod Operators
 pub mod Parts
 pub mod Pieces
 pub mod Places
 pub mod Reading
+pub mod Seen
 pub mod Shape
 pub mod Shown
 pub mod Stretch

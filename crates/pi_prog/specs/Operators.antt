@@ -2,7 +2,7 @@
 -- are expressions is own.)
 use Rattle.std.specs.Prelude.{ℕ, Bool, ◌&&◌, ◌||◌, ◌==◌, List, [], ◌∷◌, codes}
 use Rattle.std.specs.Str.{bytes_eq}
-use Rattle.pi_types.specs.Tokens.{is_one_of}
+use Rattle.pi_syntax.specs.Tokens.{is_one_of}
 
 abbrev pub is_call_of : List ℕ → ℕ → List ℕ → ℕ → Bool
 is_call_of name arity name' arity' = arity == arity' && bytes_eq name name'

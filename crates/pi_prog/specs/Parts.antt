@@ -1,6 +1,6 @@
 -- The parts before a place, as they are read one after the other.
 use Rattle.std.specs.Prelude.{◌≡◌, ◌≤◌, ℕ, List, [], ◌∷◌, ◌++◌, drop}
-use Rattle.pi_types.specs.Tokens.{Token}
+use Rattle.pi_syntax.specs.Tokens.{Token}
 use Rattle.pi_expr.specs.Faults as faults
 use Rattle.pi_prog.specs.Pieces.{ShowsPart}
 use Rattle.pi_prog.specs.Stretch.{Stretch, stretches, stretches_behind}

@@ -4,15 +4,16 @@ use Rattle.std.specs.Borrow.{Bor}
 use Rattle.std.specs.List.{list_any}
 use Rattle.std.specs.Str.{bytes_eq}
 use Rattle.pi_expr.specs.Faults.{stretch}
-use Rattle.pi_types.specs.Crowding.{IsCrowded, most_levels}
-use Rattle.pi_types.specs.ExpLists.{exps_of}
-use Rattle.pi_types.specs.ExpTree.{ExpTree, array, call, and, ExpTrees, no_exps, exp, levels, exp_tree}
-use Rattle.pi_types.specs.Grammar.{HasExp}
-use Rattle.pi_types.specs.ProgramTree.{written_clause}
-use Rattle.pi_types.specs.Tokens.{Token, Var, Atom, End, is_one_of}
-use Rattle.pi_types.specs.declared.exp.Exp.{Exp}
-use Rattle.pi_types.specs.declared.program.Clause.{Clause}
-use Rattle.pi_types.specs.declared.program.Mode.{Mode}
+use Rattle.pi_expr.specs.declared.fault.ExpFault.{ExpFault}
+use Rattle.pi_expr.specs.declared.fault.ExpFault.TheVariants as fault
+use Rattle.pi_syntax.specs.Crowding.{IsCrowded}
+use Rattle.pi_syntax.specs.ExpLists.{exps_of}
+use Rattle.pi_syntax.specs.ExpTree.{ExpTree, array, call, and, ExpTrees, no_exps, exp, exp_tree}
+use Rattle.pi_syntax.specs.ProgramTree.{written_clause}
+use Rattle.pi_syntax.specs.Tokens.{Token, Var, Atom, End, is_one_of}
+use Rattle.pi_syntax.specs.declared.exp.Exp.{Exp}
+use Rattle.pi_syntax.specs.declared.program.Clause.{Clause}
+use Rattle.pi_syntax.specs.declared.program.Mode.{Mode}
 use Rattle.pi_prog.specs.Declaration.{Opening, undeclared, importing, indexing, misdeclared, libraries, imported, declared, ModeList, ModeLists, Modes, Declares, Opens}
 use Rattle.pi_prog.specs.Reading as spec
 use Rattle.pi_prog.specs.Reading.{IsDeepShape, HasNoShape, variable_names}
@@ -20,32 +21,27 @@ use Rattle.pi_prog.specs.Shape.{Shape, bare, ruled, HasShape, Sides, sides, equa
 use Rattle.pi_prog.specs.Shown.{IsShown}
 use Rattle.pi_prog.specs.Stretch.{Stretch}
 use Rattle.pi_prog.specs.Verdict.{has_bad_form, has_too_many_names, different}
-use Rattle.pi_prog.specs.declared.apart.Apart.{Apart}
-use Rattle.pi_prog.specs.declared.apart.Apart.TheVariants as apart
-use Rattle.pi_prog.specs.declared.clause.FormedClause.{FormedClause}
-use Rattle.pi_prog.specs.declared.clause.Headed.{Headed}
-use Rattle.pi_prog.specs.declared.clause.SplitUnits.{SplitUnits}
-use Rattle.pi_prog.specs.declared.clause.Units.{Units}
-use Rattle.pi_prog.specs.declared.clause.Headed.TheVariants as headed
-use Rattle.pi_prog.specs.declared.declaration.DeclarationWord.{DeclarationWord}
-use Rattle.pi_prog.specs.declared.declaration.DeclarationWord.TheVariants as word
-use Rattle.pi_prog.specs.declared.declaration.PartOpening.{PartOpening}
-use Rattle.pi_prog.specs.declared.declaration.PartOpening.TheVariants as opening
-use Rattle.pi_prog.specs.declared.modes.FoundLists.{FoundLists}
-use Rattle.pi_prog.specs.declared.modes.FoundModes.{FoundModes}
-use Rattle.pi_prog.specs.declared.modes.FoundModes.TheVariants as found
-use Rattle.pi_prog.specs.declared.reading.ClauseReading.{ClauseReading}
-use Rattle.pi_prog.specs.declared.reading.ClauseReading.TheVariants as reading
-use Rattle.pi_prog.specs.declared.reading.FormedReading.{FormedReading}
-use Rattle.pi_prog.specs.declared.reading.FormedReading.TheVariants as formed
+use Rattle.pi_prog.specs.declared.reading.clause.apart.Apart.{Apart}
+use Rattle.pi_prog.specs.declared.reading.clause.apart.Apart.TheVariants as apart
+use Rattle.pi_prog.specs.declared.reading.clause.FormedClause.{FormedClause}
+use Rattle.pi_prog.specs.declared.reading.clause.Headed.{Headed}
+use Rattle.pi_prog.specs.declared.reading.clause.SplitUnits.{SplitUnits}
+use Rattle.pi_prog.specs.declared.reading.clause.Units.{Units}
+use Rattle.pi_prog.specs.declared.reading.clause.Headed.TheVariants as headed
+use Rattle.pi_prog.specs.declared.reading.declaration.DeclarationWord.{DeclarationWord}
+use Rattle.pi_prog.specs.declared.reading.declaration.DeclarationWord.TheVariants as word
+use Rattle.pi_prog.specs.declared.reading.declaration.PartOpening.{PartOpening}
+use Rattle.pi_prog.specs.declared.reading.declaration.PartOpening.TheVariants as opening
+use Rattle.pi_prog.specs.declared.reading.declaration.modes.FoundLists.{FoundLists}
+use Rattle.pi_prog.specs.declared.reading.declaration.modes.FoundModes.{FoundModes}
+use Rattle.pi_prog.specs.declared.reading.declaration.modes.FoundModes.TheVariants as found
+use Rattle.pi_prog.specs.declared.reading.MarkedClause.{MarkedClause}
 use Rattle.pi_prog.specs.declared.reading.Marks.{Marks}
 use Rattle.pi_prog.specs.declared.reading.PartReading.{PartReading}
-use Rattle.pi_prog.specs.declared.shape.Arrow.{Arrow}
-use Rattle.pi_prog.specs.declared.shape.Arrow.TheVariants as arrow
-use Rattle.pi_prog.specs.declared.shape.Piece.{Piece}
-use Rattle.pi_prog.specs.declared.shape.Piece.TheVariants as piece
-use Rattle.pi_prog.specs.declared.shape.ShapeReading.{ShapeReading}
-use Rattle.pi_prog.specs.declared.shape.ShapeReading.TheVariants as shape
+use Rattle.pi_prog.specs.declared.reading.shape.Arrow.{Arrow}
+use Rattle.pi_prog.specs.declared.reading.shape.Arrow.TheVariants as arrow
+use Rattle.pi_prog.specs.declared.reading.shape.ReadShape.{ReadShape}
+use Rattle.pi_prog.specs.declared.reading.shape.ReadShape.TheVariants as shape
 
 -- the code's reading of a part shows what the part is
 abbrev pub ShowsPart : Stretch → PartReading → Type 0
@@ -54,7 +50,6 @@ ShowsPart s p = (r : spec.Reading) × spec.Reads s r × IsShown p r
 -- the tokens of a clause, and how the part begins
 pub record IsClauseOf (part : List Token) (o : Opening) (modes : Option (List (List Mode))) (ts : List Token) : Type 0 where
   pub few : ¬ IsCrowded part
-  pub few_behind : ¬ IsCrowded ts
   pub opens : Opens part o
   pub declared : o ≢ misdeclared
   pub clause : spec.ClauseOf part o modes ts
@@ -135,18 +130,16 @@ abbrev pub ShowsArrow : List Token → ℕ → ℕ → Arrow → Type 0
 ShowsArrow ts from to (arrow.At i back) = (from ≤ i) × (i < to) × (sides (stretch ts from to) ≡ Some (sides_at ts from i back to))
 ShowsArrow ts from to arrow.Nowhere = sides (stretch ts from to) ≡ None
 
--- an expression, one that is too deep, or none
-abbrev pub ShowsPiece : List Token → Piece → Type 0
-ShowsPiece ts (piece.Tree e) = HasExp ts (exp_tree e) × (levels (exp_tree e) ≤ most_levels)
-ShowsPiece ts piece.Deep = (e : ExpTree) × HasExp ts e × (most_levels < levels e)
-ShowsPiece ts piece.Nothing = (e : ExpTree) → ¬ HasExp ts e
+-- the shape of tokens
+abbrev pub IsShape : List Token → ReadShape → Type 0
+IsShape ts (shape.Bare e) = HasShape ts (bare (exp_tree e)) × (¬ IsDeepShape (bare (exp_tree e)))
+IsShape ts (shape.Ruled l back r) = HasShape ts (ruled (exp_tree l) back (exp_tree r)) × (¬ IsDeepShape (ruled (exp_tree l) back (exp_tree r)))
 
--- a shape, one that is too deep, or none
-abbrev pub ShowsShape : List Token → ShapeReading → Type 0
-ShowsShape ts (shape.Bare e) = HasShape ts (bare (exp_tree e)) × (¬ IsDeepShape (bare (exp_tree e)))
-ShowsShape ts (shape.Ruled l back r) = HasShape ts (ruled (exp_tree l) back (exp_tree r)) × (¬ IsDeepShape (ruled (exp_tree l) back (exp_tree r)))
-ShowsShape ts shape.TooDeep = (s : Shape) × HasShape ts s × IsDeepShape s
-ShowsShape ts shape.Nothing = HasNoShape ts
+-- why tokens that aren't crowded have none
+abbrev pub IsShapeFault : List Token → ExpFault → Type 0
+IsShapeFault ts fault.TooDeep = (s : Shape) × HasShape ts s × IsDeepShape s
+IsShapeFault ts fault.NoExpression = HasNoShape ts
+IsShapeFault ts fault.Memory = Unit {0}
 
 -- ---- clauses
 
@@ -201,11 +194,9 @@ pub record IsFormed (f : FormedClause) (s : Shape) : Type 0 where
   pub has_events : f.has_events ≡ is_some (shape_events s)
   pub events : ShowsEvents f.clause (shape_events s)
 
--- a clause of the tokens, one that is too deep, or none
-abbrev pub ShowsFormed : List Token → FormedReading → Type 0
-ShowsFormed ts (formed.Formed f) = (s : Shape) × HasShape ts s × (¬ IsDeepShape s) × IsFormed f s
-ShowsFormed ts formed.TooDeep = (s : Shape) × HasShape ts s × IsDeepShape s
-ShowsFormed ts formed.Nothing = HasNoShape ts
+-- a clause of the tokens
+abbrev pub IsFormedOf : List Token → FormedClause → Type 0
+IsFormedOf ts f = (s : Shape) × HasShape ts s × (¬ IsDeepShape s) × IsFormed f s
 
 -- what is told of a part's clause by itself
 pub record AreMarks (part : List Token) (s : Shape) (m : Marks) : Type 0 where
@@ -213,7 +204,5 @@ pub record AreMarks (part : List Token) (s : Shape) (m : Marks) : Type 0 where
   pub names : m.has_too_many_names ≡ has_too_many_names (variable_names part)
 
 -- the same with what is told of it
-abbrev pub ShowsClause : List Token → List Token → ClauseReading → Type 0
-ShowsClause part ts (reading.Found c m) = (s : Shape) × HasShape ts s × (¬ IsDeepShape s) × (written_clause c ≡ clause_of s) × AreMarks part s m
-ShowsClause part ts reading.TooDeep = (s : Shape) × HasShape ts s × IsDeepShape s
-ShowsClause part ts reading.Nothing = HasNoShape ts
+abbrev pub IsMarkedOf : List Token → List Token → MarkedClause → Type 0
+IsMarkedOf part ts m = (s : Shape) × HasShape ts s × (¬ IsDeepShape s) × (written_clause m.clause ≡ clause_of s) × AreMarks part s m.marks

@@ -3,9 +3,9 @@
 -- forms are those of A User's Guide to Picat, 'Predicates and Functions' and 'Assignments and Loops'.)
 use Rattle.std.specs.Prelude.{ℕ, suc, Bool, true, false, ◌&&◌, ◌||◌, ◌==◌, if◌then◌else◌, List, [], ◌∷◌, ◌++◌, Option, Some, None, codes}
 use Rattle.std.specs.Str.{bytes_eq}
-use Rattle.pi_types.specs.ExpTree.{ExpTree, var, int, atom, str, list, list_onto, array, call, quote, index, range, range_by, at, collect, and, or, arrow, if_then, if_else, foreach, while_do, do_while, ExpTrees, no_exps, exp, ExpBranches, no_branches, branch}
-use Rattle.pi_types.specs.ProgramTree.{WrittenClause, rule, function, fact}
-use Rattle.pi_types.specs.Small.{exp_count}
+use Rattle.pi_syntax.specs.ExpTree.{ExpTree, var, int, atom, str, list, list_onto, array, call, quote, index, range, range_by, at, collect, and, or, arrow, if_then, if_else, foreach, while_do, do_while, ExpTrees, no_exps, exp, ExpBranches, no_branches, branch}
+use Rattle.pi_syntax.specs.ProgramTree.{WrittenClause, rule, function, fact}
+use Rattle.pi_syntax.specs.Signature.{exp_count}
 use Rattle.pi_prog.specs.Operators.{is_goal_sign, is_membership}
 
 pub data Place : Type 0 where

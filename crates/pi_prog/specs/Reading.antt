@@ -1,9 +1,9 @@
 -- What each part of a program's tokens is, by itself: too deep, no clause, or a declaration and a clause.
 use Rattle.std.specs.Prelude.{◌≡◌, ◌≢◌, ◌<◌, ◌⊎◌, ℕ, true, false, List, [], ◌∷◌, Option, Some, None}
-use Rattle.pi_types.specs.Crowding.{IsCrowded, most_levels}
-use Rattle.pi_types.specs.ExpTree.{levels}
-use Rattle.pi_types.specs.Tokens.{Token, Var}
-use Rattle.pi_types.specs.declared.program.Mode.{Mode}
+use Rattle.pi_syntax.specs.Crowding.{IsCrowded, most_levels}
+use Rattle.pi_syntax.specs.ExpTree.{levels}
+use Rattle.pi_syntax.specs.Tokens.{Token, Var}
+use Rattle.pi_syntax.specs.declared.program.Mode.{Mode}
 use Rattle.pi_prog.specs.Declaration.{Opening, undeclared, importing, indexing, misdeclared, Opens}
 use Rattle.pi_prog.specs.Shape.{Shape, bare, ruled, HasShape}
 use Rattle.pi_prog.specs.Stretch.{Stretch}

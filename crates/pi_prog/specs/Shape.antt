@@ -2,10 +2,10 @@
 -- Picat, 'Predicates and Functions', and for events 'Action Rules'.)
 use Rattle.std.specs.Prelude.{◌≡◌, Bool, true, false, if◌then◌else◌, List, [], ◌∷◌, Option, Some, None, option_map, codes}
 use Rattle.std.specs.Str.{bytes_eq}
-use Rattle.pi_types.specs.ExpTree.{ExpTree, array, call, and, ExpTrees, no_exps, exp, one_exp}
-use Rattle.pi_types.specs.Grammar.{HasExp, conjunction}
-use Rattle.pi_types.specs.ProgramTree.{WrittenClause, rule, function, fact}
-use Rattle.pi_types.specs.Tokens.{Token, Sign}
+use Rattle.pi_syntax.specs.ExpTree.{ExpTree, array, call, and, ExpTrees, no_exps, exp, one_exp}
+use Rattle.pi_syntax.specs.Grammar.{HasExp, conjunction}
+use Rattle.pi_syntax.specs.ProgramTree.{WrittenClause, rule, function, fact}
+use Rattle.pi_syntax.specs.Tokens.{Token, Sign}
 
 pub data Shape : Type 0 where
   -- no arrow stands there

@@ -1,6 +1,6 @@
 -- What the code's readings of parts show.
 use Rattle.std.specs.Prelude.{◌≡◌, List, [], ◌∷◌}
-use Rattle.pi_types.specs.ProgramTree.{written_clause}
+use Rattle.pi_syntax.specs.ProgramTree.{written_clause}
 use Rattle.pi_prog.specs.Reading.{Reading, too_deep, misdeclared_part, no_clause, imports_part, written}
 use Rattle.pi_prog.specs.Reading as spec
 use Rattle.pi_prog.specs.Verdict.{clause_in, has_bad_form, has_too_many_names}

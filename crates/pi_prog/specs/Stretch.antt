@@ -1,7 +1,7 @@
 -- The parts of a program's tokens: each ended by the end point; what stands behind the last end point is a part that none ends.
 -- (A User's Guide to Picat, 'Predicates and Functions'.)
 use Rattle.std.specs.Prelude.{Bool, true, false, List, [], ◌∷◌, ◌++◌}
-use Rattle.pi_types.specs.Tokens.{Token, End}
+use Rattle.pi_syntax.specs.Tokens.{Token, End}
 
 -- the tokens of a part, and whether an end point stands behind them
 pub record Stretch : Type 0 where

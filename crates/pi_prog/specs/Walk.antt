@@ -2,13 +2,13 @@
 use Rattle.std.specs.Prelude.{List, [], ◌∷◌, ◌++◌, Option, option_map}
 use Rattle.std.specs.declared.alloc.Global.{Global}
 use Rattle.std.specs.declared.boxed.Box.{Box}
-use Rattle.pi_types.specs.ExpTree.{ExpTree, ExpBranches, no_branches, branch, exp_tree}
-use Rattle.pi_types.specs.declared.exp.Exp.{Exp}
+use Rattle.pi_syntax.specs.ExpTree.{ExpTree, ExpBranches, no_branches, branch, exp_tree}
+use Rattle.pi_syntax.specs.declared.exp.Exp.{Exp}
 use Rattle.pi_prog.specs.Places.{Place, goal, asked, expression, iterator, term, pattern, Placed, placed_at, placed}
-use Rattle.pi_prog.specs.declared.place.Place.{Place as CodePlace}
-use Rattle.pi_prog.specs.declared.place.Place.TheVariants as code
-use Rattle.pi_prog.specs.declared.walk.Node.{Node}
-use Rattle.pi_prog.specs.declared.walk.Walk.{Walk}
+use Rattle.pi_prog.specs.declared.nodes.place.Place.{Place as CodePlace}
+use Rattle.pi_prog.specs.declared.nodes.place.Place.TheVariants as code
+use Rattle.pi_prog.specs.declared.nodes.walk.Node.{Node}
+use Rattle.pi_prog.specs.declared.nodes.walk.Walk.{Walk}
 
 -- the place that the code names
 abbrev pub shown_place : CodePlace → Place

@@ -2,25 +2,27 @@
 ghost use Rattle.std.specs.Prelude.{◌≡◌, ◌≤◌, List, length, IfOk, IfErr, OnOk};
 ghost use Rattle.pi_lex.specs.Kinds.{kinds};
 ghost use Rattle.pi_expr.specs.Faults.{stretch, IsFault};
-ghost use Rattle.pi_types.specs.Crowding.{IsRead};
-ghost use Rattle.pi_types.specs.ExpTree.{exp_tree};
-ghost use Rattle.pi_types.specs.ProgramTree.{ProgramTree, source_tree, goal_source};
-ghost use Rattle.pi_types.specs.Tokens.{Token};
+ghost use Rattle.pi_syntax.specs.Crowding.{IsRead};
+ghost use Rattle.pi_syntax.specs.ExpTree.{exp_tree};
+ghost use Rattle.pi_syntax.specs.ProgramTree.{ProgramTree, source_tree, goal_source};
+ghost use Rattle.pi_syntax.specs.Tokens.{Token};
 ghost use Rattle.pi_prog.specs.Faults.{IsGoalFault, IsGoalTold, AnswersGoal};
 ghost use Rattle.pi_prog.specs.GoalVerdict.{GoalVerdict, a_goal, goal_verdict, HasGoalVerdict};
 ghost use Rattle.pi_prog.specs.Reading.{variable_names};
 ghost use Rattle.pi_prog.specs.Stretch.{without_end};
 
-use crate::goal_names::first_unknown;
-use crate::items::goal_has_bad_nodes;
-use crate::judge::UnknownCall;
+mod names;
+
+use crate::goal::names::first_unknown_of_goal;
+use crate::judging::first_faults::UnknownCall;
+use crate::judging::unknown_name;
 use crate::prog_fault::ProgFault;
-use crate::stretch::is_end;
-use crate::variables::has_too_many_names;
-use crate::verdict::unknown_name;
+use crate::reading::stretch::is_end;
+use crate::reading::variables::has_too_many_names;
+use crate::restrictions::bad_nodes::goal_has_bad_nodes;
 use pi_expr::{ExpFault, read_exp};
 use pi_lex::Tokens;
-use pi_types::{Exp, Goal, Program};
+use pi_syntax::{Exp, Goal, Program};
 use std::alloc::Global;
 
 /// The goal that these tokens are, asked of a program, or its first fault. Its final end point may be left out. A User's
@@ -40,7 +42,7 @@ fn read_judged(alloc: Global, tokens: &Tokens, program: &Program) -> Result<Goal
 {
     match read_body(alloc, tokens) {
         Ok(body) => {
-            if let Err(fault) = judge(alloc, tokens, &body, program) {
+            if let Err(fault) = judge_goal(alloc, tokens, &body, program) {
                 return Err(fault);
             }
             Ok(Goal { body })
@@ -89,7 +91,12 @@ fn goal_end(tokens: &Tokens) -> usize
 }
 
 /// The first fault of a goal that is an expression.
-fn judge(alloc: Global, tokens: &Tokens, body: &Exp, program: &Program) -> Result<(), ProgFault>
+fn judge_goal(
+    alloc: Global,
+    tokens: &Tokens,
+    body: &Exp,
+    program: &Program,
+) -> Result<(), ProgFault>
     ensures ok { OnOk result (goal_verdict (source_tree program.now) (exp_tree body.now) (variable_names (without_end (kinds tokens.now))) ≡ a_goal (exp_tree body.now)) }
     ensures fault { IfErr result (IsGoalTold (goal_verdict (source_tree program.now) (exp_tree body.now) (variable_names (without_end (kinds tokens.now))))) }
 {
@@ -102,7 +109,7 @@ fn judge(alloc: Global, tokens: &Tokens, body: &Exp, program: &Program) -> Resul
     if has_too_many {
         return Err(ProgFault::TooManyVariables { number: 1 });
     }
-    let unknown = first_unknown(alloc, body, program)?;
+    let unknown = first_unknown_of_goal(alloc, body, program)?;
     if let Some(called) = unknown {
         let call = UnknownCall { called, number: 1 };
         return Err(unknown_name(alloc, call));

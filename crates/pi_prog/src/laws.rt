@@ -1,7 +1,7 @@
 //! A law of the definitions, on a function that does nothing.
 ghost use Rattle.std.specs.Prelude.{◌≡◌, List};
-ghost use Rattle.pi_types.specs.ProgramTree.{ProgramTree};
-ghost use Rattle.pi_types.specs.Tokens.{Token};
+ghost use Rattle.pi_syntax.specs.ProgramTree.{ProgramTree};
+ghost use Rattle.pi_syntax.specs.Tokens.{Token};
 ghost use Rattle.pi_prog.specs.GoalVerdict.{GoalVerdict, HasGoalVerdict};
 ghost use Rattle.pi_prog.specs.Verdict.{Verdict, HasVerdict};
 

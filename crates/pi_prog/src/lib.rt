@@ -1,38 +1,16 @@
 //! Programs and goals that tokens write, and the first fault of those that are none.
 #![tactic(auto)]
 
-mod apart;
-mod calls;
-mod clause;
-mod clause_form;
-mod clause_name;
-mod declaration;
-mod definitions;
-mod form;
 mod goal;
-mod goal_names;
-mod head_names;
-mod heads;
-mod imports;
-mod items;
-mod judge;
+mod judging;
 mod laws;
-mod modes;
-mod operators;
-mod part_fault;
-mod place;
+mod names;
+mod nodes;
 mod prog_fault;
 mod program;
 mod reading;
-mod shape;
-mod stretch;
-#[cfg(test)]
-mod tests;
-mod variables;
-mod verdict;
-mod walk;
+mod restrictions;
 
-pub use calls::is_form;
 pub use goal::read_goal;
 pub use laws::one_verdict;
 pub use prog_fault::ProgFault;

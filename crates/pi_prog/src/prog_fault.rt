@@ -2,7 +2,7 @@
 ghost use Rattle.std.specs.Prelude.{◌≡◌};
 ghost use Rattle.pi_prog.specs.declared.prog_fault.ProgFault.TheVariants.{Memory};
 
-use pi_types::Text;
+use pi_terms::Text;
 use std::alloc::{AllocError, AllocFailed};
 
 /// The first fault of a program, or of a goal, which is one part. Parts are counted from 1. A User's Guide to Picat,

@@ -1,16 +1,16 @@
 //! Programs that tokens write.
 ghost use Rattle.std.specs.Prelude.{◌≡◌, ◌++◌, IfOk, IfErr, map};
 ghost use Rattle.pi_lex.specs.Kinds.{kinds};
-ghost use Rattle.pi_types.specs.ProgramTree.{source_tree, part_tree};
+ghost use Rattle.pi_syntax.specs.ProgramTree.{source_tree, part_tree};
 ghost use Rattle.pi_prog.specs.Faults.{IsProgramFault, AnswersProgram};
-ghost use Rattle.pi_prog.specs.Judged.{seen, all_seen, parts_seen, part_seen};
-ghost use Rattle.pi_prog.specs.Verdict.{Verdict, a_program, HasVerdict, decl_of};
+ghost use Rattle.pi_prog.specs.Seen.{seen, all_seen};
+ghost use Rattle.pi_prog.specs.Verdict.{parts_of, part_of, Verdict, a_program, HasVerdict, decl_of};
 
+use crate::judging::judge_parts;
 use crate::prog_fault::ProgFault;
 use crate::reading::{PartReading, read_parts};
-use crate::verdict::judge;
 use pi_lex::Tokens;
-use pi_types::{Decl, ModeLists, Part, Parts, Program};
+use pi_syntax::{Decl, ModeLists, Part, Parts, Program};
 use std::alloc::{AllocError, Global};
 
 /// The program that these tokens are, or its first fault. A User's Guide to Picat, 'Predicates and Functions'; the limits
@@ -21,7 +21,7 @@ pub fn read_program(alloc: Global, tokens: &Tokens) -> Result<Program, ProgFault
     ensures exact { (v : Verdict) → HasVerdict (kinds tokens.now) v → AnswersProgram result v }
 {
     let parts = read_parts(alloc, tokens)?;
-    if let Err(fault) = judge(alloc, parts.as_slice()) {
+    if let Err(fault) = judge_parts(alloc, parts.as_slice()) {
         return Err(fault);
     }
     let program = program_of(alloc, parts)?;
@@ -30,7 +30,7 @@ pub fn read_program(alloc: Global, tokens: &Tokens) -> Result<Program, ProgFault
 
 /// The program of parts without a fault.
 fn program_of(alloc: Global, readings: Vec<PartReading>) -> Result<Program, AllocError>
-    ensures { IfOk result (λ program. source_tree program ≡ parts_seen (all_seen readings.items)) }
+    ensures { IfOk result (λ program. source_tree program ≡ parts_of (all_seen readings.items)) }
 {
     let mut parts = Parts::new(alloc);
     for reading in readings {
@@ -41,7 +41,7 @@ fn program_of(alloc: Global, readings: Vec<PartReading>) -> Result<Program, Allo
 
 /// Adds the part that a reading is, where it has no fault.
 fn add_part(parts: &mut Parts, reading: PartReading) -> Result<(), AllocError>
-    ensures { IfOk result (λ _. map part_tree parts.new ≡ map part_tree parts.old ++ part_seen (seen reading)) }
+    ensures { IfOk result (λ _. map part_tree parts.new ≡ map part_tree parts.old ++ part_of (seen reading)) }
 {
     match reading {
         PartReading::TooDeep => Ok(()),

@@ -1,29 +1,37 @@
 //! The parts of a program's tokens, each by itself.
-ghost use Rattle.std.specs.Prelude.{◌≡◌, ◌+◌, ◌<◌, ◌≤◌, List, length, IfOk, false, true};
+ghost use Rattle.std.specs.Prelude.{◌+◌, ◌<◌, ◌≤◌, List, length, IfOk, IfErr, true};
 ghost use Rattle.pi_lex.specs.Kinds.{kinds};
 ghost use Rattle.pi_expr.specs.Faults.{stretch};
-ghost use Rattle.pi_types.specs.Crowding.{IsCrowded};
-ghost use Rattle.pi_types.specs.Tokens.{Token};
+ghost use Rattle.pi_syntax.specs.Crowding.{IsCrowded};
+ghost use Rattle.pi_syntax.specs.Tokens.{Token};
 ghost use Rattle.pi_prog.specs.Reading as spec;
 ghost use Rattle.pi_prog.specs.Declaration.{Opening, Opens, importing};
 ghost use Rattle.pi_prog.specs.Parts.{SoFar};
-ghost use Rattle.pi_prog.specs.Pieces.{ShowsPart, ShowsFormed, ShowsClause, AreMarks, IsFormed, IsClauseOf};
+ghost use Rattle.pi_prog.specs.Pieces.{ShowsPart, IsFormedOf, IsMarkedOf, IsShapeFault, AreMarks, IsFormed, IsClauseOf};
 ghost use Rattle.pi_prog.specs.Shape.{Shape};
 ghost use Rattle.pi_prog.specs.Shown.{AreShown};
 ghost use Rattle.pi_prog.specs.Stretch as stretches;
 
-use crate::clause::{FormedClause, bare_clause, ruled_clause};
-use crate::clause_form::has_bad_form;
-use crate::declaration::{PartOpening, opening};
-use crate::shape::{ShapeReading, read_shape};
-use crate::stretch::is_end;
-use crate::variables::has_too_many_names;
-use pi_expr::is_crowded;
+pub(crate) mod clause;
+mod declaration;
+mod shape;
+pub(crate) mod stretch;
+pub(crate) mod variables;
+
+use crate::reading::clause::{FormedClause, bare_clause, ruled_clause};
+use crate::reading::declaration::{PartOpening, opening};
+use crate::reading::shape::{ReadShape, read_shape};
+use crate::reading::stretch::is_end;
+use crate::reading::variables::has_too_many_names;
+use crate::restrictions::has_bad_form;
+use pi_expr::{ExpFault, is_crowded};
 use pi_lex::Tokens;
-use pi_types::{Clause, ModeLists, Names};
+use pi_syntax::{Clause, ModeLists, Names};
 use std::alloc::{AllocError, Global};
 
 /// A part of a program by itself. (A User's Guide to Picat, 'Predicates and Functions'; the limits are own.)
+///
+/// It is no `Result`, since a part that is refused stays among the others: they are judged together.
 #[derive(Drop)]
 pub(crate) enum PartReading {
     /// Its tokens are crowded, or an expression of its clause has more than 1,000 levels.
@@ -55,20 +63,11 @@ pub(crate) struct Marks {
     has_too_many_names: bool,
 }
 
-/// A clause, one that is too deep, or none.
+/// A clause with its marks.
 #[derive(Drop)]
-pub(crate) enum FormedReading {
-    Formed(FormedClause),
-    TooDeep,
-    Nothing,
-}
-
-/// A clause with its marks, one that is too deep, or none.
-#[derive(Drop)]
-pub(crate) enum ClauseReading {
-    Found(Clause, Marks),
-    TooDeep,
-    Nothing,
+pub(crate) struct MarkedClause {
+    clause: Clause,
+    marks: Marks,
 }
 
 /// The parts of these tokens, in order.
@@ -130,7 +129,7 @@ fn read_part(
     let opening = opening(alloc, tokens, from, to)?;
     match opening {
         PartOpening::Misdeclared => Ok(PartReading::BadDeclaration),
-        PartOpening::Importing(names) => Ok(imported(names, ended)),
+        PartOpening::Importing(names) => Ok(import_part(names, ended)),
         PartOpening::Indexing(modes, start) => {
             let part = read_behind(alloc, tokens, from, start, to, Some(modes), ended)?;
             Ok(part)
@@ -155,17 +154,22 @@ fn read_behind(
     requires behind { from ≤ start }
     requires ordered { start ≤ to }
     requires within { to ≤ length tokens.now }
+    requires uncrowded { ¬ IsCrowded (stretch (kinds tokens.now) start to) }
     ensures { IfOk result (λ p. (o : Opening) → IsClauseOf (stretch (kinds tokens.now) from to) o modes (stretch (kinds tokens.now) start to) → ShowsPart (stretches.stretch (stretch (kinds tokens.now) from to) ended) p) }
 {
     if !ended {
         return Ok(PartReading::NoClause);
     }
-    let clause = read_clause(alloc, tokens, from, start, to)?;
-    Ok(with_modes(modes, clause))
+    match read_clause(alloc, tokens, from, start, to) {
+        Ok(clause) => Ok(PartReading::Written(with_modes(modes, clause))),
+        Err(ExpFault::TooDeep) => Ok(PartReading::TooDeep),
+        Err(ExpFault::NoExpression) => Ok(PartReading::NoClause),
+        Err(ExpFault::Memory) => Err(AllocError),
+    }
 }
 
 /// An import, where an end point stands behind it.
-fn imported(names: Names, ended: bool) -> PartReading
+fn import_part(names: Names, ended: bool) -> PartReading
     ensures { (ts : List Token) → ¬ IsCrowded ts → Opens ts (importing names) → ShowsPart (stretches.stretch ts ended) result }
 {
     if ended {
@@ -181,23 +185,20 @@ fn read_formed(
     tokens: &Tokens,
     from: usize,
     to: usize,
-) -> Result<FormedReading, AllocError>
+) -> Result<FormedClause, ExpFault>
     requires ordered { from ≤ to }
     requires within { to ≤ length tokens.now }
-    ensures { IfOk result (λ formed. ¬ IsCrowded (stretch (kinds tokens.now) from to) → ShowsFormed (stretch (kinds tokens.now) from to) formed) }
+    requires uncrowded { ¬ IsCrowded (stretch (kinds tokens.now) from to) }
+    ensures clause { IfOk result (IsFormedOf (stretch (kinds tokens.now) from to)) }
+    ensures fault { IfErr result (IsShapeFault (stretch (kinds tokens.now) from to)) }
 {
     let shape = read_shape(alloc, tokens, from, to)?;
     match shape {
-        ShapeReading::Bare(exp) => {
-            let formed = bare_clause(exp);
-            Ok(FormedReading::Formed(formed))
-        }
-        ShapeReading::Ruled(left, back, right) => {
+        ReadShape::Bare(exp) => Ok(bare_clause(exp)),
+        ReadShape::Ruled(left, back, right) => {
             let formed = ruled_clause(alloc, left, back, right)?;
-            Ok(FormedReading::Formed(formed))
+            Ok(formed)
         }
-        ShapeReading::TooDeep => Ok(FormedReading::TooDeep),
-        ShapeReading::Nothing => Ok(FormedReading::Nothing),
     }
 }
 
@@ -208,21 +209,20 @@ fn read_clause(
     from: usize,
     start: usize,
     to: usize,
-) -> Result<ClauseReading, AllocError>
+) -> Result<MarkedClause, ExpFault>
     requires behind { from ≤ start }
     requires ordered { start ≤ to }
     requires within { to ≤ length tokens.now }
-    ensures { IfOk result (λ clause. ¬ IsCrowded (stretch (kinds tokens.now) start to) → ShowsClause (stretch (kinds tokens.now) from to) (stretch (kinds tokens.now) start to) clause) }
+    requires uncrowded { ¬ IsCrowded (stretch (kinds tokens.now) start to) }
+    ensures clause { IfOk result (IsMarkedOf (stretch (kinds tokens.now) from to) (stretch (kinds tokens.now) start to)) }
+    ensures fault { IfErr result (IsShapeFault (stretch (kinds tokens.now) start to)) }
 {
     let formed = read_formed(alloc, tokens, start, to)?;
-    match formed {
-        FormedReading::Formed(formed) => {
-            let marks = marks_of(alloc, tokens, from, to, &formed)?;
-            Ok(ClauseReading::Found(formed.clause, marks))
-        }
-        FormedReading::TooDeep => Ok(ClauseReading::TooDeep),
-        FormedReading::Nothing => Ok(ClauseReading::Nothing),
-    }
+    let marks = marks_of(alloc, tokens, from, to, &formed)?;
+    Ok(MarkedClause {
+        clause: formed.clause,
+        marks,
+    })
 }
 
 fn marks_of(
@@ -245,20 +245,13 @@ fn marks_of(
 }
 
 /// The part with these mode lists before its clause.
-fn with_modes(modes: Option<ModeLists>, clause: ClauseReading) -> PartReading
-    ensures { (part ts : List Token) (o : Opening) → IsClauseOf part o modes ts → ShowsClause part ts clause → ShowsPart (stretches.stretch part true) result }
+fn with_modes(modes: Option<ModeLists>, marked: MarkedClause) -> WrittenPart
+    ensures { (part ts : List Token) (o : Opening) → IsClauseOf part o modes ts → IsMarkedOf part ts marked → ShowsPart (stretches.stretch part true) (PartReading.Written result) }
 {
-    match clause {
-        ClauseReading::Found(clause, marks) => PartReading::Written(WrittenPart {
-            modes,
-            clause,
-            has_bad_form: marks.has_bad_form,
-            has_too_many_names: marks.has_too_many_names,
-        }),
-        ClauseReading::TooDeep => PartReading::TooDeep,
-        ClauseReading::Nothing => PartReading::NoClause,
+    WrittenPart {
+        modes,
+        clause: marked.clause,
+        has_bad_form: marked.marks.has_bad_form,
+        has_too_many_names: marked.marks.has_too_many_names,
     }
 }
-
-#[cfg(test)]
-mod tests;

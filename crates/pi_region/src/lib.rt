@@ -9,6 +9,3 @@ mod words;
 
 pub use pool::Pool;
 pub use words::Words;
-
-#[cfg(test)]
-mod tests;

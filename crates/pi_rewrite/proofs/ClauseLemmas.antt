@@ -1,19 +1,19 @@
 -- Clauses, and the predicates that they are added to.
-use Rattle.std.proofs.Common.{◌≡◌, ℕ, ◌+◌, suc, ◌<◌, ◌≤◌, Bool, true, false, cond, List, [], ◌∷◌, ◌++◌, length, get_or, drop, map, refl, sym, ◌∙◌, ap, subst, arith, drop-cons, add-one}
-use Rattle.std.specs.Prelude.{Option, Some, None, IsSomeAnd, filter_map}
+use Rattle.std.proofs.Common.{◌≡◌, ℕ, ◌+◌, suc, ◌<◌, Bool, true, false, List, [], ◌∷◌, ◌++◌, length, get_or, drop, map, refl, sym, ◌∙◌, ap, drop-cons, add-one}
+use Rattle.std.specs.Prelude.{Option, Some, None, IsSomeAnd}
 use Rattle.std.specs.List.{cons_option}
 use Rattle.std.proofs.lemmas.Bool.{cond-true, cond-false}
-use Rattle.pi_types.specs.ExpTree.{ExpTree}
-use Rattle.pi_types.specs.GoalTree.{truth}
-use Rattle.pi_types.specs.CoreTree.{ClauseTree, PredTree, pattern_trees, clause_tree, pred_tree, query_tree}
-use Rattle.pi_types.specs.ProgramTree.{RuleTree, PartTree, ProgramTree, part_tree}
-use Rattle.pi_types.specs.Small.{Signature, signature}
-use Rattle.pi_types.specs.declared.core_program.CoreClause.{CoreClause}
-use Rattle.pi_types.specs.declared.core_program.CorePred.{CorePred}
-use Rattle.pi_types.specs.declared.core_program.CoreQuery.{CoreQuery}
-use Rattle.pi_types.specs.declared.program.Part.{Part}
-use Rattle.pi_types.specs.Surface.{head_arguments, rule_in, rules_of, is_signature}
-use Rattle.pi_rewrite.specs.Lowered.{slots_after, slots_of_head, lowered_patterns, lowered_body, lowered_clause, lowered_rule, head_signature, named_by, predicate, with_clause, grouped, lowered_rules, name_slots, lowered_query}
+use Rattle.pi_syntax.specs.ExpTree.{ExpTree}
+use Rattle.pi_core.specs.GoalTree.{truth}
+use Rattle.pi_core.specs.CoreTree.{ClauseTree, PredTree, pattern_trees, clause_tree, pred_tree, query_tree}
+use Rattle.pi_syntax.specs.ProgramTree.{RuleTree, part_tree}
+use Rattle.pi_syntax.specs.Signature.{Signature, signature}
+use Rattle.pi_core.specs.declared.core_program.CoreClause.{CoreClause}
+use Rattle.pi_core.specs.declared.core_program.CorePred.{CorePred}
+use Rattle.pi_core.specs.declared.core_program.CoreQuery.{CoreQuery}
+use Rattle.pi_syntax.specs.declared.program.Part.{Part}
+use Rattle.pi_meaning.specs.Surface.{head_arguments, rule_in, rules_of, is_signature}
+use Rattle.pi_rewrite.specs.Lowered.{slots_after, slots_of_head, lowered_patterns, lowered_body, lowered_clause, lowered_rule, head_signature, named_by, predicate, with_clause, grouped, name_slots, lowered_query}
 use Rattle.pi_rewrite.specs.Built.{IsRule, Adds, lowered_behind}
 
 pub clause-is : (c : CoreClause) (head body : ExpTree) (back : Bool) → pattern_trees c.head.items ≡ lowered_patterns (head_arguments head) [] → c.guard ≡ truth → c.back ≡ back → c.watches ≡ [] →

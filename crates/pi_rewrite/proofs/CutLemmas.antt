@@ -1,11 +1,10 @@
 -- Cuts of traces with what their answers tell.
-use Rattle.std.proofs.Common.{◌≡◌, ℕ, zero, suc, List, [], ◌∷◌, map, refl, sym, ◌∙◌, ap, subst}
-use Rattle.pi_types.specs.Trace.{Trace, end, note, ans, Deep, Note, Tick, Load, Out, Emitted, noted, answered}
-use Rattle.pi_types.specs.Trace.{one, alt, then}
-use Rattle.pi_types.specs.Depth.{Cut, cut, with_event, Stop, Ended, CutWithoutDeep}
-use Rattle.pi_types.specs.Run.{Solution, query_trace}
-use Rattle.pi_types.specs.Surface.{told_names, surface_trace}
-use Rattle.pi_types.specs.SurfaceRun.{Told, solution_told, place_told, told_trace, told_event, told_cut, IsSurfaceRun}
+use Rattle.std.proofs.Common.{◌≡◌, ℕ, zero, suc, refl, sym, ◌∙◌, ap}
+use Rattle.pi_traces.specs.Trace.{Trace, end, note, ans, Tick, Load, Out, noted, answered, alt, then}
+use Rattle.pi_traces.specs.Depth.{Cut, cut, with_event}
+use Rattle.pi_meaning.specs.Run.{query_trace}
+use Rattle.pi_meaning.specs.Surface.{told_names, surface_trace}
+use Rattle.pi_meaning.specs.SurfaceRun.{Told, solution_told, place_told, told_trace, told_cut}
 use Rattle.pi_rewrite.specs.Laws.{SameMeaningRunsTheSame}
 
 cut-told : {A : Type 0} (f : A → Told) (n : ℕ) (t : Trace A) → cut n (told_trace f t) ≡ told_cut f (cut n t)

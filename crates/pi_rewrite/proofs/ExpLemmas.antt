@@ -1,12 +1,12 @@
 -- The trees of expressions by what they are.
-use Rattle.std.proofs.Common.{◌≡◌, ℕ, List, refl, ap, ◌∙◌}
+use Rattle.std.proofs.Common.{◌≡◌, ℕ, List, ap, ◌∙◌}
 use Rattle.std.specs.Prelude.{Vec}
 use Rattle.std.specs.declared.alloc.Global.{Global}
-use Rattle.pi_types.specs.ExpTree.{ExpTree, exp_tree}
-use Rattle.pi_types.specs.declared.exp.Exp as e
-use Rattle.pi_types.specs.declared.exp.Exp.{Exp}
-use Rattle.pi_types.specs.ExpLists.{exps_of}
-use Rattle.pi_types.proofs.ExpListLemmas.{call-tree, and-tree}
+use Rattle.pi_syntax.specs.ExpTree.{ExpTree, exp_tree}
+use Rattle.pi_syntax.specs.declared.exp.Exp as e
+use Rattle.pi_syntax.specs.declared.exp.Exp.{Exp}
+use Rattle.pi_syntax.specs.ExpLists.{exps_of}
+use Rattle.pi_syntax.proofs.ExpListLemmas.{call-tree, and-tree}
 
 pub is-atom : (x : Exp) (name : List ℕ) → x ≡ e.Atom name → exp_tree x ≡ ExpTree.atom name
 unfolding exp_tree

@@ -1,12 +1,11 @@
 -- Slots that are filled from the first on, by an environment, and what a name finds in them.
-use Rattle.std.proofs.Common.{◌≡◌, ℕ, zero, suc, ◌+◌, ◌-◌, ◌<◌, ◌≤◌, Bool, true, false, cond, List, [], ◌∷◌, ◌++◌, length, map, refl, sym, ◌∙◌, ap, subst, arith, length-append, nat_lt}
+use Rattle.std.proofs.Common.{◌≡◌, ℕ, zero, suc, ◌+◌, ◌-◌, ◌<◌, ◌≤◌, Bool, true, false, cond, List, [], ◌∷◌, ◌++◌, length, map, refl, sym, ◌∙◌, ap, arith, length-append, nat_lt}
 use Rattle.std.specs.Prelude.{Option, Some, None, option_map, replicate, slice_set, codes}
 use Rattle.std.specs.Str.{bytes_eq}
-use Rattle.std.proofs.lemmas.Bool.{cases_Bool}
 use Rattle.std.proofs.lemmas.Bool.Decides.{Decides-ltb}
-use Rattle.pi_types.specs.Tree.{Tree}
-use Rattle.pi_types.specs.Places.{Places, held}
-use Rattle.pi_types.specs.Environment.{Meant, Environment, meant, known, with_name}
+use Rattle.pi_terms.specs.Tree.{Tree}
+use Rattle.pi_terms.specs.Places.{Places, held}
+use Rattle.pi_meaning.specs.Environment.{Environment, meant, known, with_name}
 use Rattle.pi_rewrite.specs.Lowered.{SlotNames, slot_of, slot_known}
 
 abbrev pub names_of : Environment → SlotNames

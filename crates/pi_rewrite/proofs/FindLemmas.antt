@@ -1,22 +1,19 @@
 -- The predicates of a lowered program: each has all rules of its name and number of arguments, in order.
-use Rattle.std.proofs.Common.{◌≡◌, ◌⊎◌, inl, inr, ℕ, zero, suc, ◌+◌, ◌<◌, Bool, true, false, cond, List, [], ◌∷◌, ◌++◌, length, get_or, map, refl, sym, ◌∙◌, ap, subst, arith, append_assoc}
-use Rattle.std.specs.Prelude.{Option, Some, None, filter, filter_map, Contains, ◌==◌, ◌&&◌, ⊤, All}
-use Rattle.std.specs.List.{cons_option}
+use Rattle.std.proofs.Common.{◌≡◌, inl, inr, ℕ, Bool, true, false, List, [], ◌∷◌, ◌++◌, map, refl, sym, ◌∙◌, ap, subst, arith, append_assoc}
+use Rattle.std.specs.Prelude.{Option, Some, None, filter, Contains, ◌==◌, ◌&&◌, ⊤}
 use Rattle.std.specs.Str.{bytes_eq}
 use Rattle.std.specs.Bool.{Decides}
-use Rattle.std.specs.Ordering.{is_eq}
 use Rattle.std.proofs.lemmas.Bool.{cond-true, cond-false, false≢true}
 use Rattle.std.proofs.lemmas.Bool.Decides.{Decides-eqb, Decides-and}
 use Rattle.std.proofs.lemmas.Slice.Eq.{bytes_eq-Decides}
 use Rattle.std.proofs.lemmas.List.Elements.{Contains-append_right}
 use Rattle.std.proofs.lemmas.List.{append-nil}
-use Rattle.pi_types.specs.Order.{name_order}
-use Rattle.pi_types.specs.CoreTree.{ClauseTree, PredTree}
-use Rattle.pi_types.specs.Rules.{is_pred, find_pred}
-use Rattle.pi_types.specs.ProgramTree.{RuleTree}
-use Rattle.pi_types.specs.Small.{Signature, signature, StandTogether, GoesOn}
-use Rattle.pi_types.specs.Surface.{is_signature, is_rule_of}
-use Rattle.pi_rewrite.specs.Lowered.{lowered_rule, named_by, head_signature, predicate, with_clause, grouped, lowered_rules}
+use Rattle.pi_core.specs.CoreTree.{ClauseTree, PredTree, is_pred, find_pred}
+use Rattle.pi_syntax.specs.ProgramTree.{RuleTree}
+use Rattle.pi_syntax.specs.Signature.{Signature, signature}
+use Rattle.pi_meaning.specs.Small.{StandTogether, GoesOn}
+use Rattle.pi_meaning.specs.Surface.{is_signature, is_rule_of}
+use Rattle.pi_rewrite.specs.Lowered.{lowered_rule, named_by, head_signature, grouped, lowered_rules}
 use Rattle.pi_rewrite.proofs.TextLemmas.{text_by_order}
 
 abbrev pub sign : List ℕ → ℕ → Signature

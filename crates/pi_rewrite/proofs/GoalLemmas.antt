@@ -1,28 +1,26 @@
 -- Goals over names do what their lowered forms do over slots.
-use Rattle.std.proofs.Common.{◌≡◌, ◌⊎◌, inl, inr, ℕ, suc, ◌+◌, ◌≤◌, Bool, true, false, cond, List, [], ◌∷◌, ◌++◌, length, refl, sym, ◌∙◌, ap, subst, arith}
-use Rattle.std.specs.Prelude.{Option, Some, None, codes, Contains}
+use Rattle.std.proofs.Common.{◌≡◌, inl, inr, ℕ, ◌≤◌, Bool, true, false, cond, List, [], length, refl, sym, ◌∙◌, ap, subst, arith}
+use Rattle.std.specs.Prelude.{Option, Some, None, codes}
 use Rattle.std.specs.Str.{bytes_eq}
 use Rattle.std.proofs.lemmas.Bool.{false≢true}
-use Rattle.pi_types.specs.Tree.{Tree, Trees, tree, no_trees, trees_of, tree_count}
-use Rattle.pi_types.specs.Places.{Places}
-use Rattle.pi_types.specs.State.{State}
-use Rattle.pi_types.specs.ExpTree.{ExpTree, ExpTrees, no_exps, exp}
-use Rattle.pi_types.specs.GoalTree.{GoalTree, truth, fail, call, seq, GoalTrees}
-use Rattle.pi_types.specs.Trace.{Trace, end, Done, done, one, alt, then}
-use Rattle.pi_types.specs.View.{View}
-use Rattle.pi_types.specs.Drain.{drained}
-use Rattle.pi_types.specs.Settle.{settled}
-use Rattle.pi_types.specs.Level.{Level, Calls, calls_at, Point}
-use Rattle.pi_types.specs.Evaluation.{EvaluatedAll, evaluated_all}
-use Rattle.pi_types.specs.Builtin.{effect}
-use Rattle.pi_types.specs.Meaning.{Action, in_state, draining, succeeding, failing, after_arguments, effect_or_call, calling, meaning, meaning_of_all}
-use Rattle.pi_types.specs.Small.{Signature, Defines, AreSmallTerms, IsSmallAtom, IsSmallCall, IsSmallGoal, AreSmallGoals, IsSmallBody, exp_count}
-use Rattle.pi_types.proofs.RelatedLemmas.{Same, same}
-use Rattle.pi_types.proofs.TraceLemmas.{alt-done}
-use Rattle.pi_types.specs.Environment.{Environment, ValuedAll, valued_all}
-use Rattle.pi_types.specs.Surface.{Place, Doing, Calling, at_state, draining_first, built_in_or_called, call_trace, atom_trace, goal_trace, goals_trace, body_trace}
-use Rattle.pi_rewrite.specs.Lowered.{SlotNames, slots_after, slots_after_all, lowered_terms, lowered_atom, lowered_goal, lowered_goals, lowered_body}
-use Rattle.pi_rewrite.proofs.TextLemmas.{text_itself}
+use Rattle.pi_terms.specs.Tree.{Trees, tree, no_trees, tree_count}
+use Rattle.pi_terms.specs.Places.{Places}
+use Rattle.pi_states.specs.State.{State}
+use Rattle.pi_syntax.specs.ExpTree.{ExpTree, ExpTrees, no_exps, exp}
+use Rattle.pi_core.specs.GoalTree.{truth, fail, call}
+use Rattle.pi_traces.specs.Trace.{Trace, Done, done, one, then}
+use Rattle.pi_meaning.specs.View.{View}
+use Rattle.pi_meaning.specs.Drain.{drained}
+use Rattle.pi_meaning.specs.Level.{Level, calls_at, Point}
+use Rattle.pi_states.specs.Evaluation.{EvaluatedAll}
+use Rattle.pi_meaning.specs.Builtin.{effect}
+use Rattle.pi_meaning.specs.Meaning.{Action, in_state, draining, succeeding, failing, after_arguments, effect_or_call, calling, meaning, meaning_of_all}
+use Rattle.pi_syntax.specs.Signature.{Signature, exp_count}
+use Rattle.pi_meaning.specs.Small.{Defines, AreSmallTerms, IsSmallAtom, IsSmallCall, IsSmallGoal, AreSmallGoals}
+use Rattle.pi_traces.proofs.RelatedLemmas.{Same, same}
+use Rattle.pi_meaning.specs.Environment.{Environment, ValuedAll, valued_all}
+use Rattle.pi_meaning.specs.Surface.{Place, Doing, Calling, draining_first, built_in_or_called, call_trace, goal_trace, goals_trace}
+use Rattle.pi_rewrite.specs.Lowered.{SlotNames, slots_after, slots_after_all, lowered_terms, lowered_goal, lowered_goals}
 use Rattle.pi_rewrite.proofs.FilledLemmas.{names_of, slots_at}
 use Rattle.pi_rewrite.proofs.SameLemmas.{SameBy, same_end, same-itself, same-one, same-then}
 use Rattle.pi_rewrite.proofs.ValuedLemmas.{terms-grow, all_over_slots, terms-valued, terms-names, terms-count}

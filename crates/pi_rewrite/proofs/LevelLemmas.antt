@@ -1,21 +1,21 @@
 -- Calls of a lowered program, at each depth.
-use Rattle.std.proofs.Common.{◌≡◌, ℕ, zero, suc, ◌+◌, Bool, false, List, [], ◌∷◌, length, map, refl, sym, ◌∙◌, ap, subst}
+use Rattle.std.proofs.Common.{◌≡◌, ℕ, zero, suc, ◌+◌, false, List, length, map, refl, sym, ◌∙◌, ap, subst}
 use Rattle.std.specs.Prelude.{Option, Some, None, Contains}
-use Rattle.pi_types.specs.Tree.{Trees, comp, tree_count}
-use Rattle.pi_types.specs.State.{State}
-use Rattle.pi_types.specs.Trace.{Trace, note, Tick}
-use Rattle.pi_types.specs.View.{View}
-use Rattle.pi_types.specs.Drain.{drained}
-use Rattle.pi_types.specs.Level.{Level, calls_at, ticked}
-use Rattle.pi_types.specs.CoreTree.{PredTree}
-use Rattle.pi_types.specs.Rules.{pred_run, find_pred, entered, call_run, calls_of, quiet_level, level_at}
-use Rattle.pi_types.specs.ProgramTree.{ProgramTree}
-use Rattle.pi_types.specs.Small.{heads, Defines, IsSmallProgram}
-use Rattle.pi_types.specs.Surface.{rules_of, rules_trace, called_at}
+use Rattle.pi_terms.specs.Tree.{Trees, comp, tree_count}
+use Rattle.pi_states.specs.State.{State}
+use Rattle.pi_traces.specs.Trace.{note, Tick}
+use Rattle.pi_meaning.specs.View.{View}
+use Rattle.pi_meaning.specs.Drain.{drained}
+use Rattle.pi_meaning.specs.Level.{Level, calls_at, ticked}
+use Rattle.pi_core.specs.CoreTree.{PredTree, find_pred}
+use Rattle.pi_meaning.specs.Rules.{pred_run, entered, call_run, calls_of, quiet_level, level_at}
+use Rattle.pi_syntax.specs.ProgramTree.{ProgramTree}
+use Rattle.pi_meaning.specs.Small.{heads, Defines, IsSmallProgram}
+use Rattle.pi_meaning.specs.Surface.{rules_of, rules_trace, called_at}
 use Rattle.pi_rewrite.specs.Lowered.{lowered_rule, lowered}
 use Rattle.pi_rewrite.proofs.GoalLemmas.{SameCalls}
 use Rattle.pi_rewrite.proofs.RuleLemmas.{same-rules}
-use Rattle.pi_rewrite.proofs.FindLemmas.{sign, signs, pred_of, chosen_rules, find-lowered}
+use Rattle.pi_rewrite.proofs.FindLemmas.{sign, pred_of, chosen_rules, find-lowered}
 use Rattle.pi_rewrite.proofs.ProgramLemmas.{AreRules, program-rules, rules-together, small-chosen, defined-found}
 
 run-found : (v : View) (inner below : Option Level) (o : Option PredTree) (p : PredTree) (ts : Trees) (s : State) → o ≡ Some p → p.quiet ≡ false → call_run v inner below o ts s ≡ ticked below (λ l. pred_run v l p p.index ts s)

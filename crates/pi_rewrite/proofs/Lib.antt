@@ -19,3 +19,6 @@ pub mod SoundPrograms
 pub mod SoundLemmas
 pub mod CutLemmas
 pub mod LoweredLemmas
+pub mod BuiltTrees
+pub mod ImportLemmas
+pub mod BuiltWithin

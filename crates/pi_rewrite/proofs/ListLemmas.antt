@@ -1,15 +1,15 @@
 -- Lists of expressions that are lowered, with one more at the end.
-use Rattle.std.proofs.Common.{◌≡◌, ℕ, ◌+◌, suc, ◌<◌, List, [], ◌∷◌, ◌++◌, length, get_or, take, refl, sym, ◌∙◌, ap, subst, map}
+use Rattle.std.proofs.Common.{◌≡◌, ℕ, ◌+◌, ◌<◌, List, [], ◌∷◌, ◌++◌, length, get_or, take, refl, sym, ◌∙◌, ap}
 use Rattle.std.proofs.lemmas.List.{take_more}
-use Rattle.pi_types.specs.Tree.{Tree}
-use Rattle.pi_types.specs.ExpTree.{ExpTree, ExpTrees, no_exps, exp, exp_tree}
-use Rattle.pi_types.specs.GoalTree.{GoalTree, GoalTrees, no_goals, goal, goals_of}
-use Rattle.pi_types.specs.PatternTree.{PatternTree, PatternTrees, no_patterns, pattern}
-use Rattle.pi_types.specs.CoreTree.{pattern_tree, pattern_trees}
-use Rattle.pi_types.specs.declared.exp.Exp.{Exp}
-use Rattle.pi_types.specs.declared.core_program.Pattern.{Pattern}
+use Rattle.pi_terms.specs.Tree.{Tree}
+use Rattle.pi_syntax.specs.ExpTree.{ExpTree, ExpTrees, no_exps, exp, exp_tree}
+use Rattle.pi_core.specs.GoalTree.{GoalTree, GoalTrees, no_goals, goal, goals_of}
+use Rattle.pi_terms.specs.PatternTree.{PatternTree, PatternTrees, no_patterns, pattern}
+use Rattle.pi_core.specs.CoreTree.{pattern_tree, pattern_trees}
+use Rattle.pi_syntax.specs.declared.exp.Exp.{Exp}
+use Rattle.pi_core.specs.declared.core_program.Pattern.{Pattern}
 use Rattle.pi_rewrite.specs.Lowered.{SlotNames, slots_after, slots_after_all, lowered_term, lowered_terms, lowered_pattern, lowered_patterns, lowered_goal, lowered_goals}
-use Rattle.pi_types.specs.ExpLists.{exps_of}
+use Rattle.pi_syntax.specs.ExpLists.{exps_of}
 
 exps_pushed : ExpTrees → ExpTree → ExpTrees
 exps_pushed no_exps x = exp x no_exps

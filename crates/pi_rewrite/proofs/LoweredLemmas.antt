@@ -1,12 +1,12 @@
 -- What the laws say of what the code has made.
-use Rattle.std.proofs.Common.{◌≡◌, List, [], ◌++◌, sym, ◌∙◌, ap, subst}
+use Rattle.std.proofs.Common.{◌≡◌, List, sym, subst}
 use Rattle.std.specs.Prelude.{All}
 use Rattle.std.proofs.lemmas.List.{append-nil}
-use Rattle.pi_types.specs.ExpTree.{ExpTree}
-use Rattle.pi_types.specs.CoreTree.{PredTree, QueryTree}
-use Rattle.pi_types.specs.Sound.{IsSound}
-use Rattle.pi_types.specs.ProgramTree.{ProgramTree}
-use Rattle.pi_types.specs.Small.{IsSmallProgram, IsSmallQuery}
+use Rattle.pi_syntax.specs.ExpTree.{ExpTree}
+use Rattle.pi_core.specs.CoreTree.{PredTree, QueryTree}
+use Rattle.pi_meaning.specs.Sound.{IsSound}
+use Rattle.pi_syntax.specs.ProgramTree.{ProgramTree}
+use Rattle.pi_meaning.specs.Small.{IsSmallProgram, IsSmallQuery}
 use Rattle.pi_rewrite.specs.Lowered.{lowered, lowered_query}
 use Rattle.pi_rewrite.specs.Laws.{IsPlain, IsLowered}
 use Rattle.pi_rewrite.proofs.SoundLemmas.{lowering-is-sound, lowered-queries-are-sound}

@@ -1,16 +1,16 @@
 -- Heads over names match where their lowered forms match over slots, and then they stand for the same.
-use Rattle.std.proofs.Common.{◌≡◌, ℕ, suc, ◌+◌, ◌≤◌, Bool, true, false, cond, List, [], ◌∷◌, ◌++◌, length, refl, sym, ◌∙◌, ap, subst, arith, length-append, nat_lt}
+use Rattle.std.proofs.Common.{◌≡◌, ℕ, suc, ◌≤◌, Bool, true, false, cond, List, [], ◌∷◌, ◌++◌, length, refl, sym, ◌∙◌, ap, subst, arith, length-append, nat_lt}
 use Rattle.std.specs.Prelude.{Option, Some, None, option_and_then, slice_set}
 use Rattle.std.proofs.lemmas.Bool.{cond-true}
-use Rattle.pi_types.specs.Tree.{Tree, Trees, tree, no_trees}
-use Rattle.pi_types.specs.Places.{Places, held}
-use Rattle.pi_types.specs.Order.{identical}
-use Rattle.pi_types.specs.Value.{Bindings, value}
-use Rattle.pi_types.specs.State.{followed}
-use Rattle.pi_types.specs.ExpTree.{ExpTree, ExpTrees, no_exps, exp}
-use Rattle.pi_types.specs.HeadMatch.{taken_in, matched_in, matched_all_in}
-use Rattle.pi_types.specs.Small.{IsSmallTerm, AreSmallTerms}
-use Rattle.pi_types.specs.Environment.{Environment, with_name, known, name_matched, argument_matched, head_matched}
+use Rattle.pi_terms.specs.Tree.{Tree, Trees, tree, no_trees}
+use Rattle.pi_terms.specs.Places.{Places, held}
+use Rattle.pi_terms.specs.Order.{identical}
+use Rattle.pi_states.specs.Value.{Bindings, value}
+use Rattle.pi_states.specs.State.{followed}
+use Rattle.pi_syntax.specs.ExpTree.{ExpTree, ExpTrees, no_exps, exp}
+use Rattle.pi_states.specs.HeadMatch.{taken_in, matched_in, matched_all_in}
+use Rattle.pi_meaning.specs.Small.{IsSmallTerm, AreSmallTerms}
+use Rattle.pi_meaning.specs.Environment.{Environment, with_name, known, name_matched, argument_matched, head_matched}
 use Rattle.pi_rewrite.specs.Lowered.{SlotNames, slot_known, slot_or_next, slots_with, slots_after, slots_after_all, lowered_pattern, lowered_patterns}
 use Rattle.pi_rewrite.proofs.FilledLemmas.{names_of, slots_at, names-length, names-more, next-empty, next-set, next-fits, Seen, new, there, seen-known}
 use Rattle.pi_rewrite.proofs.ValuedLemmas.{terms-grow}

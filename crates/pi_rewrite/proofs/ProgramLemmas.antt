@@ -1,17 +1,18 @@
 -- What is known of a program of the small language: its rules are small, and each part is one.
 use Rattle.std.proofs.Common.{◌≡◌, ℕ, zero, suc, ◌<◌, Bool, true, false, List, [], ◌∷◌, length, get_or, map, refl, sym, ◌∙◌, ap, subst, arith}
-use Rattle.std.specs.Prelude.{Option, Some, None, Contains, filter, cond, ⊤, All}
+use Rattle.std.specs.Prelude.{Option, Some, None, Contains, cond}
 use Rattle.std.specs.List.{cons_option, AllByRecursion}
 use Rattle.std.proofs.lemmas.Bool.{false≢true}
 use Rattle.std.proofs.lemmas.List.Elements.{recursion_from_All}
-use Rattle.pi_types.specs.ExpTree.{ExpTree}
-use Rattle.pi_types.specs.ProgramTree.{RuleTree, WrittenClause, rule, function, fact, PartTree, ProgramTree}
-use Rattle.pi_types.specs.Small.{Signature, signature, defined_by, heads, exp_count, IsSmallHead, IsSmallRule, IsSmallClause, IsSmallPart, IsSmallProgram, StandTogether}
-use Rattle.pi_types.specs.Surface.{rule_in, rules_of, is_signature, is_rule_of}
+use Rattle.pi_syntax.specs.ExpTree.{ExpTree}
+use Rattle.pi_syntax.specs.ProgramTree.{RuleTree, WrittenClause, rule, function, fact, ProgramTree}
+use Rattle.pi_syntax.specs.Signature.{Signature, signature, exp_count}
+use Rattle.pi_meaning.specs.Small.{defined_by, heads, IsSmallHead, IsSmallRule, IsSmallClause, IsSmallPart, IsSmallProgram, StandTogether}
+use Rattle.pi_meaning.specs.Surface.{rule_in, rules_of, is_signature, is_rule_of}
 use Rattle.pi_rewrite.specs.Lowered.{lowered_rule}
 use Rattle.pi_rewrite.proofs.GoalLemmas.{Defined}
 use Rattle.pi_rewrite.proofs.RuleLemmas.{SmallRules, small-none, small-cons, small-first, small-rest}
-use Rattle.pi_rewrite.proofs.FindLemmas.{sign, signs, HaveNames, have-none, have-more, chosen_rules, pred_of, pred_with, sign-of, chosen-it, chosen-not, sign-itself}
+use Rattle.pi_rewrite.proofs.FindLemmas.{sign, signs, HaveNames, have-none, have-more, chosen_rules, pred_of, pred_with, chosen-it, chosen-not, sign-itself}
 
 head-named : (head : ExpTree) → IsSmallHead head → (s : Signature) × (signature head ≡ Some s)
 head-named (ExpTree.atom name) small = (sign name 0, refl)

@@ -1,31 +1,31 @@
 -- The trace of a goal over names is that of the query which it is lowered to.
-use Rattle.std.proofs.Common.{◌≡◌, ℕ, zero, suc, ◌+◌, ◌-◌, ◌≤◌, List, [], ◌∷◌, ◌++◌, length, map, refl, sym, ◌∙◌, ap, subst, arith}
+use Rattle.std.proofs.Common.{◌≡◌, ℕ, List, [], ◌∷◌, length, refl, sym, ◌∙◌, ap, subst, arith}
 use Rattle.std.specs.Prelude.{Option, Some, None, replicate, nat_lt, cond, Bool, true, false}
 use Rattle.std.proofs.lemmas.List.{append-nil}
-use Rattle.pi_types.specs.Tree.{Tree, cells, most_cells}
-use Rattle.pi_types.specs.Places.{Places, held}
-use Rattle.pi_types.specs.Value.{value}
-use Rattle.pi_types.specs.State.{State, bindings, empty_state}
-use Rattle.pi_types.specs.ExpTree.{ExpTree}
-use Rattle.pi_types.specs.Trace.{Trace, end, one, then}
-use Rattle.pi_types.specs.Raise.{within_limit, too_large}
-use Rattle.pi_types.specs.Evaluation.{Evaluated, slot_term, evaluated}
-use Rattle.pi_types.specs.View.{View}
-use Rattle.pi_types.specs.Level.{Level, Point}
-use Rattle.pi_types.specs.CoreTree.{PredTree, QueryTree}
-use Rattle.pi_types.specs.Meaning.{draining, strictly, meaning}
-use Rattle.pi_types.specs.Rules.{level_at}
-use Rattle.pi_types.specs.Run.{Solution, solution, told, answered_with, query_trace}
-use Rattle.pi_types.specs.ProgramTree.{ProgramTree}
-use Rattle.pi_types.specs.Small.{heads, IsSmallProgram, IsSmallQuery}
-use Rattle.pi_types.specs.declared.core_program.NameSlot.{NameSlot}
-use Rattle.pi_types.specs.declared.answer.NamedTerm.{NamedTerm}
-use Rattle.pi_types.proofs.RelatedLemmas.{Same, same}
-use Rattle.pi_types.specs.Environment.{Environment, Valued, known, name_valued, valued}
-use Rattle.pi_types.specs.Surface.{Place, Calling, draining_first, body_trace, called_at, told_values, if_tellable, telling, told_names, beginning, surface_trace}
+use Rattle.pi_terms.specs.Tree.{Tree, cells, most_cells}
+use Rattle.pi_terms.specs.Places.{Places, held}
+use Rattle.pi_states.specs.Value.{value}
+use Rattle.pi_states.specs.State.{State, bindings, empty_state}
+use Rattle.pi_syntax.specs.ExpTree.{ExpTree}
+use Rattle.pi_traces.specs.Trace.{Trace, end, one, then}
+use Rattle.pi_meaning.specs.Raise.{within_limit, too_large}
+use Rattle.pi_states.specs.Evaluation.{Evaluated, slot_term, evaluated}
+use Rattle.pi_meaning.specs.View.{View}
+use Rattle.pi_meaning.specs.Level.{Level, Point}
+use Rattle.pi_core.specs.CoreTree.{PredTree}
+use Rattle.pi_meaning.specs.Meaning.{draining, strictly, meaning}
+use Rattle.pi_meaning.specs.Rules.{level_at}
+use Rattle.pi_meaning.specs.Run.{Solution, told, answered_with, query_trace}
+use Rattle.pi_syntax.specs.ProgramTree.{ProgramTree}
+use Rattle.pi_meaning.specs.Small.{heads, IsSmallQuery}
+use Rattle.pi_core.specs.declared.core_program.NameSlot.{NameSlot}
+use Rattle.pi_answers.specs.declared.answer.NamedTerm.{NamedTerm}
+use Rattle.pi_traces.proofs.RelatedLemmas.{Same, same}
+use Rattle.pi_meaning.specs.Environment.{Environment, Valued, known, name_valued, valued}
+use Rattle.pi_meaning.specs.Surface.{Place, Calling, draining_first, body_trace, called_at, told_values, if_tellable, telling, beginning, surface_trace}
 use Rattle.pi_rewrite.specs.Lowered.{SlotNames, slot_known, slots_after, lowered_body, lowered, lowered_query, name_slots}
-use Rattle.pi_types.specs.Told.{named_values}
-use Rattle.pi_types.specs.SurfaceRun.{Told, solution_told, place_told, told_trace}
+use Rattle.pi_meaning.specs.Told.{named_values}
+use Rattle.pi_meaning.specs.SurfaceRun.{Told, solution_told, place_told, told_trace}
 use Rattle.pi_rewrite.specs.Laws.{LoweringKeepsTheTrace}
 use Rattle.pi_rewrite.proofs.FilledLemmas.{names_of, slots_at, Seen, new, there, seen-known}
 use Rattle.pi_rewrite.proofs.SameLemmas.{SameBy, same_end, same-one, same-then, same-equal}
@@ -112,7 +112,7 @@ strictly-same program goal small v l calls is n here =
     (same-body (heads program) v l calls is goal small n [] (omega (arith, here)) [] empty_state refl)
     (waits l n (slots_after goal []) is.drains)
   where
-    waits : (l : Level) (n : ℕ) (ns : SlotNames) → ((s : State) → (Rattle.pi_types.specs.Level.calls_at l).drained s ≡ Rattle.pi_types.specs.Drain.drained s) → (p : Point) (q : Place) → AtPlace l n ns p q →
+    waits : (l : Level) (n : ℕ) (ns : SlotNames) → ((s : State) → (Rattle.pi_meaning.specs.Level.calls_at l).drained s ≡ Rattle.pi_meaning.specs.Drain.drained s) → (p : Point) (q : Place) → AtPlace l n ns p q →
         SameBy (AtPlace l n ns) (draining (λ q. one q) p) (draining_first (λ p. one p) q)
     waits l n ns drains _ _ (at_place e s is) = same-drained (AtPlace l n ns) l n e s (λ q. one q) (λ p. one p) drains (λ s. same-one (AtPlace l n ns) _ _ (at_place e s is))
 

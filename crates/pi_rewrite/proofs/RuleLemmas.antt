@@ -1,25 +1,25 @@
 -- Rules over names do what their lowered forms do over slots.
-use Rattle.std.proofs.Common.{◌≡◌, ℕ, suc, ◌+◌, ◌-◌, ◌≤◌, Bool, true, false, List, [], ◌∷◌, ◌++◌, length, map, refl, sym, ◌∙◌, ap, subst, arith}
-use Rattle.std.specs.Prelude.{Option, Some, None, replicate, ⊤}
-use Rattle.pi_types.specs.Tree.{Tree, Trees}
-use Rattle.pi_types.specs.Places.{Places}
-use Rattle.pi_types.specs.State.{State, bindings}
-use Rattle.pi_types.specs.ExpTree.{ExpTree, ExpTrees, no_exps, exp}
-use Rattle.pi_types.specs.Trace.{Trace, done, one, alt, then}
-use Rattle.pi_types.specs.Control.{chosen}
-use Rattle.pi_types.specs.View.{View}
-use Rattle.pi_types.specs.Drain.{drained}
-use Rattle.pi_types.specs.HeadMatch.{matched_all_in}
-use Rattle.pi_types.specs.Level.{Level, calls_at, Point}
-use Rattle.pi_types.specs.CoreTree.{ClauseTree}
-use Rattle.pi_types.specs.Meaning.{Action, draining, meaning, meaning_of_all}
-use Rattle.pi_types.specs.Rules.{guarded, backtracks, chosen_rule, rule_before, rules, body_or_agent}
-use Rattle.pi_types.specs.ProgramTree.{RuleTree}
-use Rattle.pi_types.specs.Small.{AreSmallTerms, IsSmallHead, IsSmallBody, IsSmallRule}
-use Rattle.pi_types.proofs.RelatedLemmas.{Same, same}
-use Rattle.pi_types.proofs.TraceLemmas.{alt-done}
-use Rattle.pi_types.specs.Environment.{Environment, head_matched}
-use Rattle.pi_types.specs.Surface.{Place, Calling, goals_trace, body_trace, head_arguments, rule_or_later, rules_trace}
+use Rattle.std.proofs.Common.{◌≡◌, ℕ, suc, ◌≤◌, List, [], ◌∷◌, length, map, refl, sym, ◌∙◌, ap, subst, arith}
+use Rattle.std.specs.Prelude.{Option, None, replicate, ⊤}
+use Rattle.pi_terms.specs.Tree.{Tree, Trees}
+use Rattle.pi_terms.specs.Places.{Places}
+use Rattle.pi_states.specs.State.{State, bindings}
+use Rattle.pi_syntax.specs.ExpTree.{ExpTree}
+use Rattle.pi_traces.specs.Trace.{Trace, one, alt, then}
+use Rattle.pi_traces.specs.Control.{chosen}
+use Rattle.pi_meaning.specs.View.{View}
+use Rattle.pi_meaning.specs.Drain.{drained}
+use Rattle.pi_states.specs.HeadMatch.{matched_all_in}
+use Rattle.pi_meaning.specs.Level.{Level, calls_at, Point}
+use Rattle.pi_core.specs.CoreTree.{backtracks}
+use Rattle.pi_meaning.specs.Meaning.{Action, draining, meaning, meaning_of_all}
+use Rattle.pi_meaning.specs.Rules.{chosen_rule, rule_before, rules, body_or_agent}
+use Rattle.pi_syntax.specs.ProgramTree.{RuleTree}
+use Rattle.pi_meaning.specs.Small.{AreSmallTerms, IsSmallHead, IsSmallBody, IsSmallRule}
+use Rattle.pi_traces.proofs.RelatedLemmas.{Same, same}
+use Rattle.pi_traces.proofs.TraceLemmas.{alt-done}
+use Rattle.pi_meaning.specs.Environment.{Environment, head_matched}
+use Rattle.pi_meaning.specs.Surface.{Place, Calling, goals_trace, body_trace, head_arguments, rule_or_later, rules_trace}
 use Rattle.pi_rewrite.specs.Lowered.{SlotNames, slots_after, slots_after_all, slots_of_head, lowered_goals, lowered_body, lowered_patterns, lowered_clause, lowered_rule}
 use Rattle.pi_rewrite.proofs.FilledLemmas.{names_of, slots_at}
 use Rattle.pi_rewrite.proofs.SameLemmas.{SameBy, same-one, same-then, same-equal}

@@ -1,7 +1,7 @@
 -- Traces that are the same but for their answers, which stand in a relation.
-use Rattle.std.proofs.Common.{◌≡◌, refl, ap, ◌∙◌, sym}
-use Rattle.pi_types.specs.Trace.{Trace, end, note, ans, End, Done, Note, one, alt, then}
-use Rattle.pi_types.proofs.RelatedLemmas.{Same, same}
+use Rattle.std.proofs.Common.{◌≡◌, refl, ap}
+use Rattle.pi_traces.specs.Trace.{Trace, end, note, ans, End, Done, Note, one, alt, then}
+use Rattle.pi_traces.proofs.RelatedLemmas.{Same, same}
 
 pub data SameBy {A B : Type 0} (R : A → B → Type 0) : Trace A → Trace B → Type 0 where
   same_end : (e : End) → SameBy R (end e) (end e)

@@ -3,13 +3,13 @@ use Rattle.std.proofs.Common.{◌≡◌, ℕ, suc, ◌+◌, Bool, true, false, c
 use Rattle.std.specs.Prelude.{option_map, codes}
 use Rattle.std.specs.Str.{bytes_eq}
 use Rattle.std.specs.HashMap.{get_by}
-use Rattle.std.proofs.lemmas.Bool.{cond-true, cond-false, false≢true, cases_Bool}
-use Rattle.pi_types.specs.declared.core_program.NameSlot.{NameSlot}
+use Rattle.std.proofs.lemmas.Bool.{cond-true, cond-false}
+use Rattle.pi_core.specs.declared.core_program.NameSlot.{NameSlot}
 use Rattle.pi_rewrite.specs.declared.slots.Slots.{Slots}
-use Rattle.pi_types.specs.Surface.{is_hidden}
+use Rattle.pi_meaning.specs.Surface.{is_hidden}
 use Rattle.pi_rewrite.specs.Lowered.{SlotNames, slot_of, slot_known, slot_or_next, slots_with, name_slots}
 use Rattle.pi_rewrite.specs.Built.{IsSlots}
-use Rattle.pi_rewrite.proofs.TextLemmas.{text_same, text_turned, text_itself}
+use Rattle.pi_rewrite.proofs.TextLemmas.{text_same, text_turned}
 
 -- a slot where there was one, else that of the last name
 abbrev pub or_last : Option ℕ → Option ℕ → Option ℕ

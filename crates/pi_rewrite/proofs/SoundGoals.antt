@@ -1,23 +1,23 @@
 -- Lowered goals name slots that are there, and call what is there.
-use Rattle.std.proofs.Common.{◌≡◌, ◌⊎◌, inl, inr, ℕ, zero, suc, ◌+◌, ◌<◌, ◌≤◌, Bool, true, false, cond, List, [], ◌∷◌, ◌++◌, length, get_or, map, refl, sym, ◌∙◌, ap, subst, arith, length-append}
-use Rattle.std.specs.Prelude.{Option, Some, None, option_map, codes, Contains, All, IsTrue, IsSome, ⊤}
+use Rattle.std.proofs.Common.{◌≡◌, inl, inr, ℕ, suc, ◌<◌, ◌≤◌, Bool, true, false, cond, List, [], ◌∷◌, length, refl, sym, ◌∙◌, ap, subst, arith, length-append}
+use Rattle.std.specs.Prelude.{Option, Some, None, option_map, codes, All, IsSome, ⊤}
 use Rattle.std.specs.Str.{bytes_eq}
 use Rattle.std.proofs.lemmas.Bool.{false≢true}
 use Rattle.std.proofs.lemmas.List.Elements.{All-nil, All-cons, All-append, All-contains}
-use Rattle.pi_types.specs.Tree.{Tree}
-use Rattle.pi_types.specs.Variables.{Occurs}
-use Rattle.pi_types.specs.State.{SpeaksBelow}
-use Rattle.pi_types.specs.ExpTree.{ExpTree, ExpTrees, no_exps, exp}
-use Rattle.pi_types.specs.GoalTree.{GoalTree, truth, fail, call, apply, seq, GoalTrees, subgoals, subgoals_all}
-use Rattle.pi_types.specs.PatternTree.{PatternTree, PatternTrees, no_patterns, pattern, HasSlot, HaveSlot}
-use Rattle.pi_types.specs.CoreTree.{PredTree}
-use Rattle.pi_types.specs.Builtin.{is_built_in}
-use Rattle.pi_types.specs.Rules.{find_pred}
-use Rattle.pi_types.specs.Sound.{NamesBelow, SlotsBelow, IsKnown, is_planner, CallsKnown, pattern_count}
-use Rattle.pi_types.specs.Small.{Defines, AreSmallTerms, IsSmallTerm, IsSmallAtom, IsSmallCall, IsSmallGoal, AreSmallGoals, IsSmallBody, exp_count}
-use Rattle.pi_rewrite.specs.Lowered.{SlotNames, slot_of, slot_known, slot_or_next, slots_with, slots_after, slots_after_all, lowered_term, lowered_terms, lowered_pattern, lowered_patterns, lowered_atom, lowered_goal, lowered_goals, lowered_body}
-use Rattle.pi_rewrite.proofs.ValuedLemmas.{term-grows, terms-grow}
-use Rattle.pi_rewrite.proofs.GoalLemmas.{Defined, goals-grow, goal-grows, atom-known}
+use Rattle.pi_terms.specs.Tree.{Tree}
+use Rattle.pi_terms.specs.Variables.{Occurs}
+use Rattle.pi_states.specs.State.{SpeaksBelow}
+use Rattle.pi_syntax.specs.ExpTree.{ExpTree, ExpTrees, no_exps, exp}
+use Rattle.pi_core.specs.GoalTree.{GoalTree, truth, fail, call, apply, seq, subgoals, subgoals_all}
+use Rattle.pi_terms.specs.PatternTree.{HasSlot, HaveSlot}
+use Rattle.pi_core.specs.CoreTree.{PredTree, find_pred}
+use Rattle.pi_effects.specs.Builtin.{is_built_in}
+use Rattle.pi_meaning.specs.Sound.{NamesBelow, SlotsBelow, IsKnown, is_planner, CallsKnown, pattern_count}
+use Rattle.pi_meaning.specs.Small.{Defines, AreSmallTerms, IsSmallTerm, IsSmallCall, IsSmallGoal, AreSmallGoals, IsSmallBody}
+use Rattle.pi_syntax.specs.Signature.{exp_count}
+use Rattle.pi_rewrite.specs.Lowered.{SlotNames, slot_of, slot_known, slot_or_next, slots_with, slots_after, slots_after_all, lowered_term, lowered_terms, lowered_pattern, lowered_patterns, lowered_goal, lowered_goals, lowered_body}
+use Rattle.pi_rewrite.proofs.ValuedLemmas.{terms-grow}
+use Rattle.pi_rewrite.proofs.GoalLemmas.{Defined, goals-grow, atom-known}
 
 -- ---- slots
 

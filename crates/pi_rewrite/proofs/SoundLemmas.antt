@@ -1,26 +1,26 @@
 -- Soundness, put together.
-use Rattle.std.proofs.Common.{◌≡◌, ◌⊎◌, inl, inr, ℕ, zero, suc, ◌+◌, ◌<◌, ◌≤◌, Bool, true, false, cond, List, [], ◌∷◌, ◌++◌, length, get_or, map, refl, sym, ◌∙◌, ap, subst, arith}
-use Rattle.std.specs.Prelude.{Option, Some, None, Contains, All, AllPairs, IsTrue, IsSome, is_some, ◌↔◌}
+use Rattle.std.proofs.Common.{◌≡◌, ℕ, zero, suc, ◌+◌, ◌<◌, ◌≤◌, Bool, true, false, cond, List, [], ◌∷◌, length, get_or, sym, ◌∙◌, ap, subst, arith}
+use Rattle.std.specs.Prelude.{Some, None, Contains, All, is_some}
 use Rattle.std.proofs.lemmas.Bool.{false≢true}
 use Rattle.std.proofs.lemmas.List.{append-nil}
 use Rattle.std.proofs.lemmas.List.Elements.{All-nil, All-cons, All-contains, All-head, All-tail, All-weaker}
-use Rattle.pi_types.specs.ExpTree.{ExpTree}
-use Rattle.pi_types.specs.GoalTree.{truth}
-use Rattle.pi_types.specs.CoreTree.{ClauseTree, PredTree}
-use Rattle.pi_types.specs.Rules.{is_pred, find_pred}
-use Rattle.pi_types.specs.Quiet.{Callee, IsQuiet, TicksBetween}
-use Rattle.pi_types.specs.Sound.{KeepsSlots, IsSoundClause, IsSoundIndex, IsSound, IsSoundQuery, is_planner}
-use Rattle.pi_types.specs.ProgramTree.{RuleTree, ProgramTree}
-use Rattle.pi_types.specs.Small.{Signature, signature, heads, exp_count, IsFree, Defines, IsSmallHead, IsSmallRule, IsSmallProgram, IsSmallQuery}
-use Rattle.pi_types.specs.declared.core_program.NameSlot.{NameSlot}
-use Rattle.pi_types.specs.Surface.{rules_of, is_signature, is_hidden, head_arguments}
-use Rattle.pi_rewrite.specs.Lowered.{SlotNames, slots_after, slots_of_head, lowered_clause, lowered_rule, lowered, lowered_query, name_slots, lowered_body}
+use Rattle.pi_syntax.specs.ExpTree.{ExpTree}
+use Rattle.pi_core.specs.GoalTree.{truth}
+use Rattle.pi_core.specs.CoreTree.{ClauseTree, PredTree, is_pred, find_pred}
+use Rattle.pi_meaning.specs.Quiet.{Callee, IsQuiet}
+use Rattle.pi_meaning.specs.Sound.{IsSoundClause, IsSound}
+use Rattle.pi_syntax.specs.ProgramTree.{RuleTree, ProgramTree}
+use Rattle.pi_syntax.specs.Signature.{Signature, signature, exp_count}
+use Rattle.pi_meaning.specs.Small.{heads, IsFree, IsSmallHead, IsSmallRule, IsSmallProgram}
+use Rattle.pi_core.specs.declared.core_program.NameSlot.{NameSlot}
+use Rattle.pi_meaning.specs.Surface.{rules_of, is_hidden, head_arguments}
+use Rattle.pi_rewrite.specs.Lowered.{SlotNames, slots_after, slots_of_head, lowered_clause, lowered_rule, lowered, name_slots, lowered_body}
 use Rattle.pi_rewrite.specs.Laws.{IsPlain, LoweringIsSound, LoweredQueriesAreSound}
 use Rattle.pi_rewrite.proofs.SlotLemmas.{one_before}
 use Rattle.pi_rewrite.proofs.GoalLemmas.{Defined}
 use Rattle.pi_rewrite.proofs.RuleLemmas.{SmallRules, small-first, small-rest, head-flat, body-grows}
-use Rattle.pi_rewrite.proofs.FindLemmas.{sign, signs, sign-itself, pred_of, chosen_rules}
-use Rattle.pi_rewrite.proofs.ProgramLemmas.{AreRules, program-rules, rules-together, in-tail}
+use Rattle.pi_rewrite.proofs.FindLemmas.{sign, signs}
+use Rattle.pi_rewrite.proofs.ProgramLemmas.{AreRules, program-rules, rules-together}
 use Rattle.pi_rewrite.proofs.LevelLemmas.{found}
 use Rattle.pi_rewrite.proofs.SoundGoals.{Knows, truth-good, body-good, good-slots, good-calls, patterns-below, patterns-count}
 use Rattle.pi_rewrite.proofs.SoundPrograms.{FromRule, FromRules, rules-from, rules-apart}
@@ -151,5 +151,5 @@ lowered-queries-are-sound program goal small asked =
       preds = subst IsSound (sym (append-nil (lowered program))) (program-sound program small);
       slots = good-slots (lowered program) (length ns) (lowered_body goal []) good;
       names = λ n there. All-contains (λ (n : NameSlot). n.slot < length ns) (name_slots 0 ns) n (names-below 0 (length ns) ns (omega arith)) there;
-      calls = subst (λ ps. Rattle.pi_types.specs.Sound.CallsKnown ps (lowered_body goal [])) (sym (append-nil (lowered program))) (good-calls (lowered program) (length ns) (lowered_body goal []) good);
+      calls = subst (λ ps. Rattle.pi_meaning.specs.Sound.CallsKnown ps (lowered_body goal [])) (sym (append-nil (lowered program))) (good-calls (lowered program) (length ns) (lowered_body goal []) good);
     }

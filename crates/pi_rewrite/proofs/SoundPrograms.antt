@@ -1,29 +1,19 @@
 -- What a program of the small language is lowered to is sound.
-use Rattle.std.proofs.Common.{◌≡◌, ◌≢◌, ◌⊎◌, inl, inr, ℕ, zero, suc, ◌+◌, ◌<◌, ◌≤◌, Bool, true, false, cond, List, [], ◌∷◌, ◌++◌, length, get_or, map, refl, sym, ◌∙◌, ap, subst, arith}
-use Rattle.std.specs.Prelude.{Option, Some, None, Contains, All, AllPairs, IsTrue, IsSome, is_some, ⊤}
+use Rattle.std.proofs.Common.{◌≡◌, inl, inr, Bool, true, false, List, [], ◌∷◌, ◌++◌, refl, sym, ◌∙◌, ap, subst, arith}
+use Rattle.std.specs.Prelude.{Option, Some, None, Contains, All, AllPairs, ⊤}
 use Rattle.std.proofs.lemmas.Bool.{false≢true}
-use Rattle.std.proofs.lemmas.List.{append-nil}
-use Rattle.std.proofs.lemmas.List.Elements.{All-nil, All-cons, All-push, All-contains, All-head, All-tail, Contains-append_right}
+use Rattle.std.proofs.lemmas.List.Elements.{All-nil, All-cons, All-push, Contains-append_right}
 use Rattle.std.proofs.lemmas.List.Kept.{AllPairs-cons}
-use Rattle.pi_types.specs.ExpTree.{ExpTree}
-use Rattle.pi_types.specs.GoalTree.{truth}
-use Rattle.pi_types.specs.CoreTree.{ClauseTree, PredTree}
-use Rattle.pi_types.specs.Rules.{is_pred, find_pred}
-use Rattle.pi_types.specs.Quiet.{Callee, TicksBetween}
-use Rattle.pi_types.specs.Sound.{KeepsSlots, IsSoundClause, IsSoundIndex, IsAnother, IsSound, IsSoundQuery, SlotsBelow, CallsKnown, is_planner, pattern_count}
-use Rattle.pi_types.specs.ProgramTree.{RuleTree, ProgramTree}
-use Rattle.pi_types.specs.Small.{Signature, signature, heads, exp_count, IsFree, IsSmallHead, IsSmallRule, IsSmallProgram, IsSmallQuery, GoesOn, StandTogether}
-use Rattle.pi_types.specs.declared.core_program.NameSlot.{NameSlot}
-use Rattle.pi_types.specs.Surface.{rules_of, is_signature, is_hidden, head_arguments}
-use Rattle.pi_rewrite.specs.Lowered.{SlotNames, slots_after, slots_of_head, lowered_clause, lowered_rule, head_signature, grouped, lowered_rules, lowered, lowered_query, name_slots, lowered_body, lowered_patterns}
-use Rattle.pi_rewrite.specs.Laws.{IsPlain, LoweringIsSound, LoweredQueriesAreSound}
-use Rattle.pi_rewrite.proofs.SlotLemmas.{one_before}
+use Rattle.pi_core.specs.CoreTree.{ClauseTree, PredTree}
+use Rattle.pi_meaning.specs.Sound.{IsAnother}
+use Rattle.pi_syntax.specs.ProgramTree.{RuleTree}
+use Rattle.pi_syntax.specs.Signature.{Signature, signature}
+use Rattle.pi_meaning.specs.Small.{IsSmallRule, GoesOn, StandTogether}
+use Rattle.pi_meaning.specs.Surface.{is_signature}
+use Rattle.pi_rewrite.specs.Lowered.{lowered_rule, head_signature, grouped, lowered_rules}
 use Rattle.pi_rewrite.proofs.GoalLemmas.{Defined}
-use Rattle.pi_rewrite.proofs.RuleLemmas.{SmallRules, small-first, small-rest, head-flat, body-grows}
-use Rattle.pi_rewrite.proofs.FindLemmas.{sign, signs, HaveNames, named-first, named-rest, pred_of, chosen_rules, pred_with, sign-of, sign-itself, head-is, grouped-same, grouped-other, grouped-none, find-lowered}
-use Rattle.pi_rewrite.proofs.ProgramLemmas.{AreRules, program-rules, rules-together, defined-found, in-tail}
-use Rattle.pi_rewrite.proofs.LevelLemmas.{found}
-use Rattle.pi_rewrite.proofs.SoundGoals.{Knows, Good, truth-good, body-good, good-slots, good-calls, patterns-below, patterns-count}
+use Rattle.pi_rewrite.proofs.RuleLemmas.{SmallRules, small-first, small-rest}
+use Rattle.pi_rewrite.proofs.FindLemmas.{sign, signs, HaveNames, named-first, named-rest, pred_of, sign-of, sign-itself, head-is, grouped-same, grouped-other, grouped-none}
 
 -- ---- what the predicates are made of
 

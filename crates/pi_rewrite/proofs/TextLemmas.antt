@@ -1,12 +1,12 @@
 -- Texts that are compared.
-use Rattle.std.proofs.Common.{◌≡◌, ℕ, Bool, true, false, List, refl, sym}
+use Rattle.std.proofs.Common.{◌≡◌, ℕ, true, List, refl, sym}
 use Rattle.std.specs.Str.{bytes_eq}
 use Rattle.std.specs.Ordering.{is_eq}
 use Rattle.std.specs.Bool.{Decides}
 use Rattle.std.proofs.lemmas.Bool.Decides.{same_from_decides}
 use Rattle.std.proofs.lemmas.Slice.Eq.{bytes_eq-Decides}
-use Rattle.pi_types.specs.Order.{name_order}
-use Rattle.pi_types.proofs.MatchLemmas.{same_name, name_itself}
+use Rattle.pi_terms.specs.Order.{name_order}
+use Rattle.pi_states.proofs.MatchLemmas.{same_name, name_itself}
 
 pub text_itself : (a : List ℕ) → bytes_eq a a ≡ true
 text_itself a = (bytes_eq-Decides a a).1 refl

@@ -1,13 +1,14 @@
 -- Terms over names come to what their lowered forms come to over slots.
-use Rattle.std.proofs.Common.{◌≡◌, ℕ, suc, ◌+◌, ◌≤◌, List, [], ◌∷◌, ◌++◌, length, refl, sym, ◌∙◌, ap, subst, arith, length-append}
+use Rattle.std.proofs.Common.{◌≡◌, ℕ, suc, ◌≤◌, List, [], ◌∷◌, length, refl, sym, ◌∙◌, ap, subst, arith, length-append}
 use Rattle.std.specs.Prelude.{Option, Some, None}
-use Rattle.pi_types.specs.Tree.{Tree, Trees, tree, no_trees, trees_of, tree_count}
-use Rattle.pi_types.specs.Places.{Places, held}
-use Rattle.pi_types.specs.State.{State}
-use Rattle.pi_types.specs.ExpTree.{ExpTree, ExpTrees, no_exps, exp}
-use Rattle.pi_types.specs.Evaluation.{Evaluated, EvaluatedAll, slot_term, evaluated, evaluated_all}
-use Rattle.pi_types.specs.Small.{IsSmallTerm, AreSmallTerms, exp_count}
-use Rattle.pi_types.specs.Environment.{Environment, Valued, ValuedAll, known, name_valued, valued, valued_all}
+use Rattle.pi_terms.specs.Tree.{Tree, tree, trees_of, tree_count}
+use Rattle.pi_terms.specs.Places.{Places, held}
+use Rattle.pi_states.specs.State.{State}
+use Rattle.pi_syntax.specs.ExpTree.{ExpTree, ExpTrees, no_exps, exp}
+use Rattle.pi_states.specs.Evaluation.{Evaluated, EvaluatedAll, slot_term, evaluated, evaluated_all}
+use Rattle.pi_meaning.specs.Small.{IsSmallTerm, AreSmallTerms}
+use Rattle.pi_syntax.specs.Signature.{exp_count}
+use Rattle.pi_meaning.specs.Environment.{Environment, Valued, ValuedAll, known, name_valued, valued, valued_all}
 use Rattle.pi_rewrite.specs.Lowered.{SlotNames, slot_known, slot_or_next, slots_with, slots_after, slots_after_all, lowered_term, lowered_terms}
 use Rattle.pi_rewrite.proofs.FilledLemmas.{names_of, slots_at, names-length, names-more, next-empty, next-set, Seen, new, there, seen-known}
 
@@ -41,7 +42,7 @@ slot-term n e s name _ _ new room =
     let k : ℕ = length (names_of e) in
     let enough : suc (length e) ≤ n = omega (arith, room, length-append (names_of e) (name ∷ []), names-length e) in
     ap (λ o. slot_term o k (slots_at n e) s) (next-empty n e k (names-length e))
-    ∙ ap (λ slots. record { tree = Tree.var (length s.variables); slots = slots; state = Rattle.pi_types.specs.State.with_new s }) (next-set n e k name (Tree.var (length s.variables)) (names-length e) enough)
+    ∙ ap (λ slots. record { tree = Tree.var (length s.variables); slots = slots; state = Rattle.pi_states.specs.State.with_new s }) (next-set n e k name (Tree.var (length s.variables)) (names-length e) enough)
 slot-term n e s name _ _ (there k t h) room = ap (λ o. slot_term o k (slots_at n e) s) h
 
 names-after : (e : Environment) (s : State) (slots : Places) (name : List ℕ) (o : Option ℕ) (t : Option Tree) → Seen slots o t → names_of (name_valued t name e s).names ≡ slots_with o name (names_of e)

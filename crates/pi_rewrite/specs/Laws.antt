@@ -1,15 +1,15 @@
 -- The laws of lowering: what a program and a goal of the small language are lowered to is sound, and it means the same.
 use Rattle.std.specs.Prelude.{◌≡◌, ℕ, false, List, [], ◌++◌, None, All}
-use Rattle.pi_types.specs.ExpTree.{ExpTree}
-use Rattle.pi_types.specs.CoreTree.{ClauseTree, PredTree, QueryTree}
-use Rattle.pi_types.specs.Depth.{Cut}
-use Rattle.pi_types.specs.View.{View}
-use Rattle.pi_types.specs.Run.{Solution, query_trace, IsRunUnder}
-use Rattle.pi_types.specs.Sound.{IsSound, IsSoundQuery}
-use Rattle.pi_types.specs.ProgramTree.{ProgramTree}
-use Rattle.pi_types.specs.Small.{IsSmallProgram, IsSmallQuery}
-use Rattle.pi_types.specs.Surface.{told_names, surface_trace}
-use Rattle.pi_types.specs.SurfaceRun.{solution_told, place_told, told_trace, told_cut, IsSurfaceRun}
+use Rattle.pi_syntax.specs.ExpTree.{ExpTree}
+use Rattle.pi_core.specs.CoreTree.{PredTree, QueryTree}
+use Rattle.pi_traces.specs.Depth.{Cut}
+use Rattle.pi_meaning.specs.View.{View}
+use Rattle.pi_meaning.specs.Run.{Solution, query_trace, IsRunUnder}
+use Rattle.pi_meaning.specs.Sound.{IsSound, IsSoundQuery}
+use Rattle.pi_syntax.specs.ProgramTree.{ProgramTree}
+use Rattle.pi_meaning.specs.Small.{IsSmallProgram, IsSmallQuery}
+use Rattle.pi_meaning.specs.Surface.{told_names, surface_trace}
+use Rattle.pi_meaning.specs.SurfaceRun.{solution_told, place_told, told_trace, told_cut, IsSurfaceRun}
 use Rattle.pi_rewrite.specs.Lowered.{lowered, lowered_query}
 
 -- a predicate of rules without events, whose calls count

@@ -1,3 +1,5 @@
 pub mod Lowered
 pub mod Built
 pub mod Laws
+pub mod Told
+pub mod Unbuilt

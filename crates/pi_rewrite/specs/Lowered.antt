@@ -1,16 +1,16 @@
 -- Lowering as a definition: the program of the core language that a program is, and the query that a goal is. Names become
 -- slots, in the order of their first occurrences in a clause from the left; each `_` has a slot of its own.
-use Rattle.std.specs.Prelude.{ℕ, zero, suc, ◌==◌, ◌&&◌, Bool, true, false, cond, List, [], ◌∷◌, ◌++◌, length, option_map, Option, Some, None, codes}
+use Rattle.std.specs.Prelude.{ℕ, suc, Bool, false, cond, List, [], ◌∷◌, ◌++◌, length, option_map, Option, Some, None, codes}
 use Rattle.std.specs.Str.{bytes_eq}
-use Rattle.pi_types.specs.Tree.{Tree}
-use Rattle.pi_types.specs.ExpTree.{ExpTree, ExpTrees, no_exps, exp}
-use Rattle.pi_types.specs.GoalTree.{GoalTree, GoalTrees, no_goals, goal}
-use Rattle.pi_types.specs.PatternTree.{PatternTree, PatternTrees, no_patterns, pattern}
-use Rattle.pi_types.specs.CoreTree.{ClauseTree, PredTree, QueryTree}
-use Rattle.pi_types.specs.ProgramTree.{RuleTree, ProgramTree}
-use Rattle.pi_types.specs.Small.{Signature, signature, exp_count}
-use Rattle.pi_types.specs.declared.core_program.NameSlot.{NameSlot}
-use Rattle.pi_types.specs.Surface.{rules_of, is_signature, head_arguments, is_hidden}
+use Rattle.pi_terms.specs.Tree.{Tree}
+use Rattle.pi_syntax.specs.ExpTree.{ExpTree, ExpTrees, no_exps, exp}
+use Rattle.pi_core.specs.GoalTree.{GoalTree, GoalTrees, no_goals, goal}
+use Rattle.pi_terms.specs.PatternTree.{PatternTree, PatternTrees, no_patterns, pattern}
+use Rattle.pi_core.specs.CoreTree.{ClauseTree, PredTree, QueryTree}
+use Rattle.pi_syntax.specs.ProgramTree.{RuleTree, ProgramTree}
+use Rattle.pi_syntax.specs.Signature.{Signature, signature}
+use Rattle.pi_core.specs.declared.core_program.NameSlot.{NameSlot}
+use Rattle.pi_meaning.specs.Surface.{rules_of, is_signature, head_arguments, is_hidden}
 
 -- the name of each slot of a clause
 abbrev pub SlotNames : Type 0

@@ -1,20 +1,22 @@
 //! Clauses and the predicates that they make.
-ghost use Rattle.std.specs.Prelude.{◌≡◌, List, map, IfOk, IfSome, Some, ◌∷◌, ◌++◌, [], IsTrue, ◌↔◌};
-ghost use Rattle.pi_types.specs.ExpTree.{exp_tree};
-ghost use Rattle.pi_types.specs.CoreTree.{pattern_tree, pattern_trees, clause_tree, pred_tree};
-ghost use Rattle.pi_types.specs.ProgramTree.{part_tree};
-ghost use Rattle.pi_types.specs.Small.{signature as signature_of};
-ghost use Rattle.pi_types.specs.Surface.{head_arguments, is_signature};
+ghost use Rattle.std.specs.Prelude.{◌≡◌, List, map, IfOk, IfSome, IsNone, None, Some, true, ◌∷◌, ◌++◌, [], IsTrue, ◌↔◌};
+ghost use Rattle.pi_syntax.specs.ExpTree.{exp_tree};
+ghost use Rattle.pi_core.specs.CoreTree.{pattern_tree, pattern_trees, clause_tree, pred_tree};
+ghost use Rattle.pi_syntax.specs.ProgramTree.{part_tree};
+ghost use Rattle.pi_syntax.specs.Signature.{signature as signature_of};
+ghost use Rattle.pi_meaning.specs.Surface.{head_arguments, is_signature, rule_in};
 ghost use Rattle.pi_rewrite.specs.Lowered.{SlotNames, slots_after, slots_after_all, lowered_pattern, lowered_patterns, lowered_clause, lowered, predicate, with_clause};
 ghost use Rattle.pi_rewrite.specs.Built.{IsSlots, IsRule, Adds};
-ghost use Rattle.pi_types.specs.ExpLists.{exps_of};
+ghost use Rattle.pi_rewrite.specs.Unbuilt.{is_built_term, are_built_terms, is_built_head, is_built_body, is_built_part, unbuilt_part};
+ghost use Rattle.pi_syntax.specs.ExpLists.{exps_of};
 
 use crate::goals::lower_body;
 use crate::slots::Slots;
-use pi_types::{
-    Clause, CoreClause, CoreClauses, CoreGoal, CorePred, CorePreds, Decl, Exp, Exps, Part, Pattern,
-    Patterns, SlotWatches, Text,
+use pi_core::{
+    CoreClause, CoreClauses, CoreGoal, CorePred, CorePreds, Pattern, Patterns, SlotWatches,
 };
+use pi_syntax::{Clause, Decl, Exp, Exps, Part};
+use pi_terms::Text;
 use std::alloc::{AllocError, Global};
 
 /// A rule of the small language.
@@ -32,14 +34,15 @@ struct Named<'a> {
     arity: u32,
 }
 
-/// The predicates of a program with these parts.
+/// The predicates of a program with these parts. A part without a rule, as `import` is, adds none.
 pub(crate) fn lower_parts(alloc: Global, parts: &[Part]) -> Result<CorePreds, AllocError>
+    requires { unbuilt_part (map part_tree parts.now) ≡ None }
     ensures { IfOk result (λ preds. map pred_tree preds ≡ lowered (map part_tree parts.now)) }
 {
     let mut preds = Vec::new(alloc);
     for part in parts {
         let Some(rule) = rule_of(part) else {
-            return Err(AllocError);
+            continue;
         };
         let clause = lower_rule(alloc, rule.head, rule.back, rule.body)?;
         add_clause(alloc, &mut preds, rule.head, clause)?;
@@ -47,31 +50,28 @@ pub(crate) fn lower_parts(alloc: Global, parts: &[Part]) -> Result<CorePreds, Al
     Ok(CorePreds::from_vec(preds))
 }
 
-/// The rule that a part is; None where the part is no rule of the small language.
+/// The rule that a part has, where it has one.
 fn rule_of(part: &Part) -> Option<Rule<'_>>
-    ensures { IfSome result (λ r. IsRule (part_tree part.now) (exp_tree r.head.now) r.back (exp_tree r.body.now)) }
+    requires { is_built_part (part_tree part.now) ≡ true }
+    ensures rule { IfSome result (λ r. IsRule (part_tree part.now) (exp_tree r.head.now) r.back (exp_tree r.body.now)) }
+    ensures none { IsNone result → rule_in (part_tree part.now).clause ≡ None }
+    ensures built { IfSome result (λ r. (is_built_head (exp_tree r.head.now) ≡ true) × (is_built_body (exp_tree r.body.now) ≡ true)) }
 {
-    let Some(
-        Clause::Rule {
+    match &part.clause {
+        Some(
+            Clause::Rule {
+                head,
+                back,
+                body,
+                ..
+            },
+        ) => Some(Rule {
             head,
-            cond,
-            events,
-            back,
+            back: *back,
             body,
-        },
-    ) = &part.clause
-    else {
-        return None;
-    };
-    let plain = matches!(part.decl, Decl::Plain) && cond.is_none() && events.is_empty();
-    if !plain {
-        return None;
+        }),
+        _ => None,
     }
-    Some(Rule {
-        head,
-        back: *back,
-        body,
-    })
 }
 
 /// Adds a clause with this head to the last predicate where it is one of that, else to a new one.
@@ -81,6 +81,7 @@ fn add_clause(
     head: &Exp,
     clause: CoreClause,
 ) -> Result<(), AllocError>
+    requires { is_built_head (exp_tree head.now) ≡ true }
     ensures { IfOk result (λ _. Adds (exp_tree head.now) (clause_tree clause) (map pred_tree preds.old.items) (map pred_tree preds.new.items)) }
 {
     let named = signature(head)?;
@@ -133,7 +134,9 @@ fn one_more(pred: CorePred, clause: CoreClause) -> Result<CorePred, AllocError>
 }
 
 /// The name of a head's predicate, and its number of arguments.
+#[tactic(auto, unfolding(pi_syntax::specs::ExpTree::exp_tree))]
 fn signature(head: &Exp) -> Result<Named<'_>, AllocError>
+    requires { is_built_head (exp_tree head.now) ≡ true }
     ensures { IfOk result (λ named. signature_of (exp_tree head.now) ≡ Some (record { name = named.name.now; arity = named.arity })) }
 {
     match head {
@@ -148,7 +151,7 @@ fn signature(head: &Exp) -> Result<Named<'_>, AllocError>
                 arity,
             })
         }
-        _ => Err(AllocError),
+        _ => unreachable!(),
     }
 }
 
@@ -160,6 +163,8 @@ fn short(count: usize) -> Result<u32, AllocError>
 }
 
 fn lower_rule(alloc: Global, head: &Exp, back: bool, body: &Exp) -> Result<CoreClause, AllocError>
+    requires head { is_built_head (exp_tree head.now) ≡ true }
+    requires body { is_built_body (exp_tree body.now) ≡ true }
     ensures { IfOk result (λ clause. clause_tree clause ≡ lowered_clause (exp_tree head.now) back (exp_tree body.now)) }
 {
     let mut slots = Slots::new(alloc);
@@ -177,11 +182,13 @@ fn lower_rule(alloc: Global, head: &Exp, back: bool, body: &Exp) -> Result<CoreC
     })
 }
 
+#[tactic(auto, unfolding(pi_syntax::specs::ExpTree::exp_tree))]
 fn lower_head<'a>(
     alloc: Global,
     head: &'a Exp,
     slots: &mut Slots<'a>,
 ) -> Result<Patterns, AllocError>
+    requires { is_built_head (exp_tree head.now) ≡ true }
     ensures are { IfOk result (λ made. (ns : SlotNames) → IsSlots slots.old ns → pattern_trees made.items ≡ lowered_patterns (head_arguments (exp_tree head.now)) ns) }
     ensures slots { IfOk result (λ _. (ns : SlotNames) → IsSlots slots.old ns → IsSlots slots.new (slots_after_all (head_arguments (exp_tree head.now)) ns)) }
 {
@@ -191,7 +198,7 @@ fn lower_head<'a>(
             let made = lower_patterns(alloc, args, slots)?;
             Ok(made)
         }
-        _ => Err(AllocError),
+        _ => unreachable!(),
     }
 }
 
@@ -200,6 +207,7 @@ fn lower_patterns<'a>(
     args: &'a Exps,
     slots: &mut Slots<'a>,
 ) -> Result<Patterns, AllocError>
+    requires { are_built_terms (exps_of args.now.items) ≡ true }
     ensures are { IfOk result (λ made. (ns : SlotNames) → IsSlots slots.old ns → pattern_trees made.items ≡ lowered_patterns (exps_of args.now.items) ns) }
     ensures slots { IfOk result (λ _. (ns : SlotNames) → IsSlots slots.old ns → IsSlots slots.new (slots_after_all (exps_of args.now.items) ns)) }
 {
@@ -210,12 +218,13 @@ fn lower_patterns<'a>(
     Ok(patterns)
 }
 
-#[tactic(auto, unfolding(pi_types::specs::ExpTree::exp_tree, pi_types::specs::CoreTree::pattern_tree, crate::specs::Lowered::slots_after))]
+#[tactic(auto, unfolding(pi_syntax::specs::ExpTree::exp_tree, pi_core::specs::CoreTree::pattern_tree, crate::specs::Lowered::slots_after))]
 fn lower_pattern<'a>(
     alloc: Global,
     arg: &'a Exp,
     slots: &mut Slots<'a>,
 ) -> Result<Pattern, AllocError>
+    requires { is_built_term (exp_tree arg.now) ≡ true }
     ensures is { IfOk result (λ made. (ns : SlotNames) → IsSlots slots.old ns → pattern_tree made ≡ lowered_pattern (exp_tree arg.now) ns) }
     ensures slots { IfOk result (λ _. (ns : SlotNames) → IsSlots slots.old ns → IsSlots slots.new (slots_after (exp_tree arg.now) ns)) }
 {
@@ -229,6 +238,6 @@ fn lower_pattern<'a>(
             let made = name.copy(alloc)?;
             Ok(Pattern::Atom(made))
         }
-        _ => Err(AllocError),
+        _ => unreachable!(),
     }
 }

@@ -1,21 +1,26 @@
 //! Bodies and goals.
-ghost use Rattle.std.specs.Prelude.{◌≡◌, IfOk};
-ghost use Rattle.pi_types.specs.ExpTree.{exp_tree};
-ghost use Rattle.pi_types.specs.GoalTree.{goals_of};
+ghost use Rattle.std.specs.Prelude.{◌≡◌, true, IfOk};
+ghost use Rattle.pi_syntax.specs.ExpTree.{exp_tree};
+ghost use Rattle.pi_core.specs.GoalTree.{goals_of};
 ghost use Rattle.pi_rewrite.specs.Lowered.{SlotNames, slots_after, slots_after_all, lowered_term, lowered_terms, lowered_atom as atom_lowered, lowered_goal, lowered_goals, lowered_body};
 ghost use Rattle.pi_rewrite.specs.Built.{IsSlots};
-ghost use Rattle.pi_types.specs.ExpLists.{exps_of};
+ghost use Rattle.pi_rewrite.specs.Unbuilt.{is_built_term, are_built_terms, is_built_goal, are_built_goals, is_built_body};
+ghost use Rattle.pi_syntax.specs.ExpLists.{exps_of};
 
 use crate::slots::Slots;
-use pi_types::{CoreGoal, Exp, Exps, Term};
+use pi_core::CoreGoal;
+use pi_syntax::{Exp, Exps};
+use pi_terms::Term;
 use std::alloc::{AllocError, Global};
 
 /// The goal that a body is: that of its one goal, or its goals one after the other.
+#[tactic(auto, unfolding(pi_syntax::specs::ExpTree::exp_tree))]
 pub(crate) fn lower_body<'a>(
     alloc: Global,
     body: &'a Exp,
     slots: &mut Slots<'a>,
 ) -> Result<CoreGoal, AllocError>
+    requires { is_built_body (exp_tree body.now) ≡ true }
     ensures is { IfOk result (λ made. (ns : SlotNames) → IsSlots slots.old ns → made ≡ lowered_body (exp_tree body.now) ns) }
     ensures slots { IfOk result (λ _. (ns : SlotNames) → IsSlots slots.old ns → IsSlots slots.new (slots_after (exp_tree body.now) ns)) }
 {
@@ -25,16 +30,10 @@ pub(crate) fn lower_body<'a>(
             let made = CoreGoal::seq(alloc, &lowered)?;
             Ok(made)
         }
-        Exp::Atom(name) => {
-            let made = lower_atom(alloc, name.as_str())?;
+        _ => {
+            let made = lower_goal(alloc, body, slots)?;
             Ok(made)
         }
-        Exp::Call(name, args) => {
-            let terms = lower_args(alloc, args, slots)?;
-            let made = CoreGoal::call(alloc, name.as_str(), &terms)?;
-            Ok(made)
-        }
-        _ => Err(AllocError),
     }
 }
 
@@ -44,6 +43,7 @@ fn lower_goals<'a>(
     goals: &'a Exps,
     slots: &mut Slots<'a>,
 ) -> Result<Vec<CoreGoal>, AllocError>
+    requires { are_built_goals (exps_of goals.now.items) ≡ true }
     ensures are { IfOk result (λ made. (ns : SlotNames) → IsSlots slots.old ns → goals_of made.items ≡ lowered_goals (exps_of goals.now.items) ns) }
     ensures slots { IfOk result (λ _. (ns : SlotNames) → IsSlots slots.old ns → IsSlots slots.new (slots_after_all (exps_of goals.now.items) ns)) }
 {
@@ -54,11 +54,13 @@ fn lower_goals<'a>(
     Ok(lowered)
 }
 
+#[tactic(auto, unfolding(pi_syntax::specs::ExpTree::exp_tree))]
 fn lower_goal<'a>(
     alloc: Global,
     goal: &'a Exp,
     slots: &mut Slots<'a>,
 ) -> Result<CoreGoal, AllocError>
+    requires { is_built_goal (exp_tree goal.now) ≡ true }
     ensures is { IfOk result (λ made. (ns : SlotNames) → IsSlots slots.old ns → made ≡ lowered_goal (exp_tree goal.now) ns) }
     ensures slots { IfOk result (λ _. (ns : SlotNames) → IsSlots slots.old ns → IsSlots slots.new (slots_after (exp_tree goal.now) ns)) }
 {
@@ -72,7 +74,7 @@ fn lower_goal<'a>(
             let made = CoreGoal::call(alloc, name.as_str(), &terms)?;
             Ok(made)
         }
-        _ => Err(AllocError),
+        _ => unreachable!(),
     }
 }
 
@@ -94,6 +96,7 @@ fn lower_args<'a>(
     args: &'a Exps,
     slots: &mut Slots<'a>,
 ) -> Result<Vec<Term>, AllocError>
+    requires { are_built_terms (exps_of args.now.items) ≡ true }
     ensures are { IfOk result (λ made. (ns : SlotNames) → IsSlots slots.old ns → made.items ≡ lowered_terms (exps_of args.now.items) ns) }
     ensures slots { IfOk result (λ _. (ns : SlotNames) → IsSlots slots.old ns → IsSlots slots.new (slots_after_all (exps_of args.now.items) ns)) }
 {
@@ -104,8 +107,9 @@ fn lower_args<'a>(
     Ok(terms)
 }
 
-#[tactic(auto, unfolding(pi_types::specs::ExpTree::exp_tree, crate::specs::Lowered::slots_after))]
+#[tactic(auto, unfolding(pi_syntax::specs::ExpTree::exp_tree, crate::specs::Lowered::slots_after))]
 fn lower_term<'a>(alloc: Global, term: &'a Exp, slots: &mut Slots<'a>) -> Result<Term, AllocError>
+    requires { is_built_term (exp_tree term.now) ≡ true }
     ensures is { IfOk result (λ made. (ns : SlotNames) → IsSlots slots.old ns → made ≡ lowered_term (exp_tree term.now) ns) }
     ensures slots { IfOk result (λ _. (ns : SlotNames) → IsSlots slots.old ns → IsSlots slots.new (slots_after (exp_tree term.now) ns)) }
 {
@@ -123,6 +127,6 @@ fn lower_term<'a>(alloc: Global, term: &'a Exp, slots: &mut Slots<'a>) -> Result
             let made = Term::atom(alloc, name.as_str())?;
             Ok(made)
         }
-        _ => Err(AllocError),
+        _ => unreachable!(),
     }
 }

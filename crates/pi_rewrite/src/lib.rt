@@ -1,35 +1,43 @@
-//! Programs and goals of the small language in the core language.
+//! Programs and goals in the core language, where all of them is built.
 #![tactic(auto)]
 
 ghost use Rattle.std.specs.Prelude.{◌≡◌, [], IfOk, All};
-ghost use Rattle.pi_types.specs.CoreTree.{program_tree, query_tree};
-ghost use Rattle.pi_types.specs.Sound.{IsSound};
-ghost use Rattle.pi_types.specs.ProgramTree.{ProgramTree, source_tree, goal_source};
-ghost use Rattle.pi_types.specs.Small.{IsSmallProgram, IsSmallQuery};
+ghost use Rattle.pi_core.specs.CoreTree.{program_tree, query_tree};
+ghost use Rattle.pi_meaning.specs.Sound.{IsSound};
+ghost use Rattle.pi_syntax.specs.ProgramTree.{ProgramTree, source_tree, goal_source};
+ghost use Rattle.pi_meaning.specs.Small.{IsSmallProgram, IsSmallQuery};
 ghost use Rattle.pi_rewrite.specs.Lowered.{lowered, lowered_query};
 ghost use Rattle.pi_rewrite.specs.Laws.{IsPlain, IsLowered};
+ghost use Rattle.pi_rewrite.specs.Told.{part_told};
+ghost use Rattle.pi_rewrite.specs.Unbuilt.{unbuilt_part, unbuilt_goal, without_imports};
 
 mod clauses;
+mod coverage;
 mod goals;
 pub mod laws;
+mod lower_fault;
 mod slots;
-#[cfg(test)]
-mod tests;
 
-use pi_types::{CoreProgram, CoreQuery, Goal, Program};
+use coverage::{is_built_body, unbuilt};
+pub use lower_fault::LowerFault;
+use pi_core::{CoreProgram, CoreQuery};
+use pi_syntax::{Goal, Program};
 use slots::Slots;
-use std::alloc::{AllocError, Global};
+use std::alloc::Global;
 
 /// The program in the core language: its predicates in the order of their first clauses, with their clauses in order.
 ///
-/// For programs of the small language, whose clauses of a predicate are adjacent. A program with a form that it hasn't, as
-/// a condition, an event or a nested argument, is refused in the way of want of memory, so that none is run that means
-/// something else. Each call stays a call, whether or not a predicate is there for it.
-pub fn lower(alloc: Global, program: &Program) -> Result<CoreProgram, AllocError>
-    ensures is { IfOk result (λ core. program_tree core ≡ lowered (source_tree program.now)) }
-    ensures sound { IfOk result (λ core. IsSmallProgram (source_tree program.now) → IsSound (program_tree core)) }
-    ensures plain { IfOk result (λ core. IsSmallProgram (source_tree program.now) → All IsPlain (program_tree core)) }
+/// Where it has a part that isn't built, the first such is told, and nothing is lowered. `import` is passed over. Each call
+/// stays a call, whether or not a predicate is there for it.
+pub fn lower(alloc: Global, program: &Program) -> Result<CoreProgram, LowerFault>
+    ensures unbuilt { part_told result ≡ unbuilt_part (source_tree program.now) }
+    ensures is { IfOk result (λ core. program_tree core ≡ lowered (without_imports (source_tree program.now))) }
+    ensures sound { IfOk result (λ core. IsSmallProgram (without_imports (source_tree program.now)) → IsSound (program_tree core)) }
+    ensures plain { IfOk result (λ core. IsSmallProgram (without_imports (source_tree program.now)) → All IsPlain (program_tree core)) }
 {
+    if let Some(number) = unbuilt(program) {
+        return Err(LowerFault::NotBuilt { number });
+    }
     let preds = clauses::lower_parts(alloc, program.parts.as_slice())?;
     Ok(CoreProgram { preds })
 }
@@ -37,13 +45,17 @@ pub fn lower(alloc: Global, program: &Program) -> Result<CoreProgram, AllocError
 /// The goal in the core language, asked of the program that `core` is. Its names are those of its variables that don't
 /// begin with `_`.
 ///
-/// For goals of the small language. Where `core` is what their program is lowered to, the query means what the goal means
-/// over its names. Any other goal is refused as by `lower`.
-pub fn lower_goal(alloc: Global, goal: &Goal, _core: &CoreProgram) -> Result<CoreQuery, AllocError>
+/// A goal that isn't built is told as part 1. Where `core` is what a program of the small language is lowered to, and the
+/// goal is of it too, the query means what the goal means over its names.
+pub fn lower_goal(alloc: Global, goal: &Goal, _core: &CoreProgram) -> Result<CoreQuery, LowerFault>
+    ensures unbuilt { part_told result ≡ unbuilt_goal (goal_source goal.now) }
     ensures is { IfOk result (λ query. query_tree query ≡ lowered_query (goal_source goal.now)) }
     ensures helpers { IfOk result (λ query. query.helpers ≡ []) }
     ensures lowered { IfOk result (λ query. (program : ProgramTree) → program_tree _core.now ≡ lowered program → IsSmallProgram program → IsSmallQuery program (goal_source goal.now) → IsLowered program (goal_source goal.now) (program_tree _core.now) (query_tree query)) }
 {
+    if !is_built_body(&goal.body) {
+        return Err(LowerFault::NotBuilt { number: 1 });
+    }
     let mut slots = Slots::new(alloc);
     let body = goals::lower_body(alloc, &goal.body, &mut slots)?;
     Ok(slots.query(body))

@@ -1,10 +1,11 @@
 //! The slots of a clause's variables.
 ghost use Rattle.std.specs.Prelude.{◌≡◌, ◌+◌, [], ◌∷◌, ◌++◌, IfOk, OnOk};
-ghost use Rattle.pi_types.specs.Surface.{is_hidden as is_hidden_name};
+ghost use Rattle.pi_meaning.specs.Surface.{is_hidden as is_hidden_name};
 ghost use Rattle.pi_rewrite.specs.Lowered.{SlotNames, slot_of, slot_known, slot_or_next, slots_with};
 ghost use Rattle.pi_rewrite.specs.Built.{IsSlots};
 
-use pi_types::{CoreGoal, CorePreds, CoreQuery, NameSlot, NameSlots, Text};
+use pi_core::{CoreGoal, CorePreds, CoreQuery, NameSlot, NameSlots};
+use pi_terms::Text;
 use std::alloc::{AllocError, Global};
 use std::collections::HashMap;
 

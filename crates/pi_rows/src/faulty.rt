@@ -1,3 +1,4 @@
+//! Words that aren't those of a command line.
 /// Words that aren't those of a command line.
 pub static FAULTY: [&[&str]; 39] = [
     // Past the ranges.

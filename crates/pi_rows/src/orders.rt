@@ -1,3 +1,4 @@
+//! The options in each order.
 /// The four options in each order, before a file and a goal with more than one answer.
 pub static ORDERS: [&str; 24] = [
     "--answers 1 --steps 9 --work 0 --mode query FILE p(X)",

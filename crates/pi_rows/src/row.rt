@@ -1,3 +1,4 @@
+//! A run as a row of a table.
 /// A run: the program's text (none: the file is absent), the words, the bytes that are written, and the status.
 #[derive(Clone, Copy, Debug)]
 pub struct Row<'a> {

@@ -1,3 +1,4 @@
+//! Runs of the small language.
 use crate::row::{OPEN, Row};
 
 /// Runs of the small language.

@@ -1,3 +1,4 @@
+//! Runs over texts of the whole language.
 use crate::row::{OPEN, Row};
 
 /// Runs over texts of the whole language: options, what is read, each fault line, and what isn't built yet.

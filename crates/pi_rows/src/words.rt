@@ -1,3 +1,4 @@
+//! Runs by the words of the command line.
 use crate::row::{OPEN, Row};
 
 /// Runs by the words of the command line.

@@ -3,21 +3,18 @@ use Rattle.std.proofs.Common.{◌≡◌, inl, inr, ℕ, ◌==◌, ◌&&◌, ◌|
 use Rattle.std.specs.Prelude.{codes, is_none}
 use Rattle.std.specs.Str.{bytes_eq}
 use Rattle.std.proofs.lemmas.Bool.{and_parts, or_cases, eqb-true}
-use Rattle.pi_types.specs.ExpTree.{ExpTree, var, int, atom, call, and, ExpTrees, no_exps, exp}
-use Rattle.pi_types.specs.ProgramTree.{RuleTree, WrittenClause, rule, function, fact}
-use Rattle.pi_types.specs.Small.{exp_count, Defines, IsSmallTerm, AreSmallTerms, IsSmallHead, IsSmallAtom, IsSmallCall, IsSmallGoal, AreSmallGoals, IsSmallBody, IsSmallRule, IsSmallClause}
-use Rattle.pi_prog.specs.Calls.{Named, named, is_form, is_planner_call, goal_calls, planner_calls, calls_of_goal, node_calls, calls_among, is_known, first_unknown}
-use Rattle.pi_prog.specs.Operators.{is_call_of}
+use Rattle.pi_lib.specs.Forms.{is_form}
+use Rattle.pi_syntax.specs.ExpTree.{ExpTree, var, int, atom, call, and, ExpTrees, no_exps, exp}
+use Rattle.pi_syntax.specs.ProgramTree.{RuleTree, WrittenClause, rule, function, fact}
+use Rattle.pi_syntax.specs.Signature.{exp_count}
+use Rattle.pi_meaning.specs.Small.{Defines, IsSmallTerm, AreSmallTerms, IsSmallHead, IsSmallAtom, IsSmallCall, IsSmallGoal, AreSmallGoals, IsSmallBody, IsSmallRule, IsSmallClause}
+use Rattle.pi_prog.specs.Calls.{Named, named, is_planner_call, goal_calls, planner_calls, calls_of_goal, node_calls, calls_among, is_known, first_unknown}
 use Rattle.pi_prog.specs.Places.{goal, Placed, test, placed, below, all_placed, placed_if, clause_placed}
-use Rattle.pi_top.specs.Unbuilt.{is_own, is_built_term, are_built_terms, is_built_head, is_built_atom, is_built_call, is_built_goal, are_built_goals, is_built_body, are_none, is_built_rule, is_built_clause}
+use Rattle.pi_rewrite.specs.Unbuilt.{is_own, is_built_term, are_built_terms, is_built_head, is_built_atom, is_built_call, is_built_goal, are_built_goals, is_built_body, are_none, is_built_rule, is_built_clause}
+use Rattle.pi_rewrite.proofs.BuiltTrees.{goes_on}
 use Rattle.pi_top.proofs.OwnNames.{same_bytes, no_form, own_is_free, known_is_defined, shown}
 
 -- ---- calls that are known
-
--- a test that lets go on
-pub goes_on : {X : Type 0} (b : Bool) (later : Option X) (c : X) → (if b then later else Some c) ≡ None → (b ≡ true) × (later ≡ None)
-goes_on true later c e = (refl, e)
-goes_on false later c e = absurd (cc)
 
 let_on : {X : Type 0} (b : Bool) (later : Option X) (c : X) → b ≡ true → later ≡ None → (if b then later else Some c) ≡ None
 let_on true later c e none = none
@@ -84,7 +81,7 @@ small_atom defined name h known = elim (or_cases (bytes_eq name (codes "true") |
 ]
 
 small_call : (defined : List Named) (name : List ℕ) (k : ℕ) → is_built_call name k ≡ true → first_unknown defined (goal_calls name k) ≡ None → IsSmallCall (map shown defined) name k
-small_call defined name k h known = elim (or_cases (is_call_of name k (codes "=") 2) (is_own name k) h) [
+small_call defined name k h known = elim (or_cases (k == 2 && bytes_eq name (codes "=")) (is_own name k) h) [
   | inl e ↦
       let both = and_parts (k == 2) (bytes_eq name (codes "=")) e in
       inl (same_bytes name (codes "=") both.1, eqb-true k 2 both.0)

@@ -6,26 +6,26 @@ use Rattle.std.specs.Str.{bytes_eq}
 use Rattle.std.proofs.lemmas.Bool.{and_parts, and_cases, or_parts, or_from, cases_Bool, eq-eqb}
 use Rattle.std.proofs.lemmas.List.Elements.{All-nil, All-cons}
 use Rattle.std.proofs.lemmas.Slice.Eq.{bytes_eq-Decides}
-use Rattle.pi_types.specs.ExpTree.{ExpTree, atom, call}
-use Rattle.pi_types.specs.ProgramTree.{WrittenClause, rule, function, fact, PartTree, ProgramTree}
-use Rattle.pi_types.specs.Small.{Signature, signature, heads, IsSmallPart, GoesOn, StandTogether, IsSmallProgram}
-use Rattle.pi_types.specs.Tokens.{Token}
-use Rattle.pi_types.specs.declared.program.Decl.{Decl}
-use Rattle.pi_types.specs.declared.program.Mode.{Mode}
+use Rattle.pi_syntax.specs.ExpTree.{ExpTree, atom, call}
+use Rattle.pi_syntax.specs.ProgramTree.{WrittenClause, rule, function, fact, PartTree, ProgramTree}
+use Rattle.pi_syntax.specs.Signature.{Signature, signature}
+use Rattle.pi_meaning.specs.Small.{heads, IsSmallPart, GoesOn, StandTogether, IsSmallProgram}
+use Rattle.pi_syntax.specs.Tokens.{Token}
+use Rattle.pi_syntax.specs.declared.program.Decl.{Decl}
+use Rattle.pi_syntax.specs.declared.program.Mode.{Mode}
 use Rattle.pi_prog.specs.Calls.{Named, calls_among, first_unknown}
 use Rattle.pi_prog.specs.GoalVerdict.{defined_by_clause, defined_by_program}
-use Rattle.pi_prog.specs.Items.{is_function}
 use Rattle.pi_prog.specs.Places.{clause_placed}
-use Rattle.pi_prog.specs.Reading.{Reading, too_deep, misdeclared_part, no_clause, imports_part, written}
-use Rattle.pi_prog.specs.Verdict.{Faulty, Unknown, Verdict, a_program, part_is_faulty, is_scattered, is_unknown, clause_in, named_as, part_signature, defined_in, same_signature, stands_apart, first_apart, first_faulty, reading_calls, unknown_or, first_unknown_in, decl_of, parts_of, unknown_verdict, apart_verdict, faulty_verdict, verdict, HasVerdict}
-use Rattle.pi_top.specs.Unbuilt.{is_built_head, is_built, is_built_part, unbuilt_from, unbuilt_part, declares_import, without_imports}
-use Rattle.pi_top.proofs.BuiltGoals.{goes_on, small_clause}
+use Rattle.pi_prog.specs.Verdict.{Faulty, Unknown, Verdict, a_program, part_is_faulty, is_scattered, is_unknown, JudgedPart, refused, libraries, one_clause, judged, as_list, definition, named_of, all_defined, same_signature, stands_apart, first_apart, first_faulty, part_calls, unknown_or, first_unknown_in, decl_of, parts_of, verdict_by, verdict, HasVerdict}
+use Rattle.pi_rewrite.specs.Unbuilt.{is_built_head, is_built, is_built_part, unbuilt_from, unbuilt_part, declares_import, without_imports}
+use Rattle.pi_rewrite.proofs.BuiltTrees.{goes_on}
+use Rattle.pi_top.proofs.BuiltGoals.{small_clause}
 use Rattle.pi_top.proofs.OwnNames.{shown, same_shown}
 
 -- ---- what the parts define
 
 named_head : (h : ExpTree) (xs : List (Option Signature)) (ds : List Named) → is_built_head h ≡ true → xs ≡ map shown ds
-    → signature h ∷ xs ≡ map shown (named_as false (signature h) ++ ds)
+    → signature h ∷ xs ≡ map shown (as_list (named_of false (signature h)) ++ ds)
 named_head (atom name) xs ds built e = ap (λ ys. signature (atom name) ∷ ys) e
 named_head (call name es) xs ds built e = ap (λ ys. signature (call name es) ∷ ys) e
 named_head _ xs ds built e = absurd (cc)
@@ -49,13 +49,11 @@ heads_shown number (p ∷ ps) built =
     let both = goes_on (is_built_part p) (unbuilt_from (number + 1) ps) number built in
     named_part p.decl p.clause ps both.0 (heads_shown (number + 1) ps both.1)
 
-parts_define : (rs : List Reading) → defined_by_program (parts_of rs) ≡ defined_in rs
+parts_define : (js : List JudgedPart) → defined_by_program (parts_of js) ≡ all_defined js
 parts_define [] = refl
-parts_define (too_deep ∷ rs) = parts_define rs
-parts_define (misdeclared_part ∷ rs) = parts_define rs
-parts_define (no_clause ∷ rs) = parts_define rs
-parts_define (imports_part names ∷ rs) = parts_define rs
-parts_define (written p ∷ rs) = ap (λ ds. named_as (is_function (clause_in p)) (part_signature p) ++ ds) (parts_define rs)
+parts_define (refused fault ∷ js) = parts_define js
+parts_define (libraries names ∷ js) = parts_define js
+parts_define (one_clause j ∷ js) = ap (λ ds. as_list (definition j.clause) ++ ds) (parts_define js)
 
 -- ---- the parts
 
@@ -73,22 +71,20 @@ goes_behind : (o : Option Named) (number : ℕ) (later : Option Unknown) → unk
 goes_behind None number later e = (refl, e)
 goes_behind (Some c) number later e = absurd (cc)
 
-small_parts : (defined : List Named) (number before : ℕ) (rs : List Reading) → unbuilt_from number (parts_of rs) ≡ None → first_unknown_in defined before rs ≡ None
-    → All (IsSmallPart (map shown defined)) (without_imports (parts_of rs))
+small_parts : (defined : List Named) (number before : ℕ) (js : List JudgedPart) → unbuilt_from number (parts_of js) ≡ None → first_unknown_in defined before js ≡ None
+    → All (IsSmallPart (map shown defined)) (without_imports (parts_of js))
 unfolding unbuilt_from
 small_parts defined number before [] built known = All-nil (IsSmallPart (map shown defined))
-small_parts defined number before (too_deep ∷ rs) built known = small_parts defined number (before + 1) rs built known
-small_parts defined number before (misdeclared_part ∷ rs) built known = small_parts defined number (before + 1) rs built known
-small_parts defined number before (no_clause ∷ rs) built known = small_parts defined number (before + 1) rs built known
-small_parts defined number before (imports_part names ∷ rs) built known = small_parts defined (number + 1) (before + 1) rs built known
-small_parts defined number before (written p ∷ rs) built known =
-    let part : PartTree = record { decl = decl_of p.modes; clause = Some (clause_in p) } in
+small_parts defined number before (refused fault ∷ js) built known = small_parts defined number (before + 1) js built known
+small_parts defined number before (libraries names ∷ js) built known = small_parts defined (number + 1) (before + 1) js built known
+small_parts defined number before (one_clause j ∷ js) built known =
+    let part : PartTree = record { decl = decl_of j.modes; clause = Some j.clause } in
     let P : PartTree → Type 0 = IsSmallPart (map shown defined) in
-    let rest : ProgramTree = without_imports (parts_of rs) in
-    let built_here = goes_on (is_built_part part) (unbuilt_from (number + 1) (parts_of rs)) number built in
-    let known_here = goes_behind (first_unknown defined (reading_calls (written p))) (before + 1) (first_unknown_in defined (before + 1) rs) known in
-    let all : All P (part ∷ rest) = All-cons P part rest (small_part defined p.modes (clause_in p) built_here.0 known_here.0) (small_parts defined (number + 1) (before + 1) rs built_here.1 known_here.1) in
-    subst (λ b. All P (if not b then part ∷ rest else rest)) (sym (no_import p.modes)) all
+    let rest : ProgramTree = without_imports (parts_of js) in
+    let built_here = goes_on (is_built_part part) (unbuilt_from (number + 1) (parts_of js)) number built in
+    let known_here = goes_behind (first_unknown defined (part_calls (one_clause j))) (before + 1) (first_unknown_in defined (before + 1) js) known in
+    let all : All P (part ∷ rest) = All-cons P part rest (small_part defined j.modes j.clause built_here.0 known_here.0) (small_parts defined (number + 1) (before + 1) js built_here.1 known_here.1) in
+    subst (λ b. All P (if not b then part ∷ rest else rest)) (sym (no_import j.modes)) all
 
 -- ---- clauses stand together
 
@@ -139,10 +135,10 @@ together before (d ∷ ds) e =
 
 -- ---- the verdict
 
-pub record IsWithoutFault (program : ProgramTree) (rs : List Reading) : Type 0 where
-  pub parts : program ≡ parts_of rs
-  pub adjacent : first_apart [] (defined_in rs) ≡ None
-  pub known : first_unknown_in (defined_in rs) 0 rs ≡ None
+pub record IsWithoutFault (program : ProgramTree) (js : List JudgedPart) : Type 0 where
+  pub parts : program ≡ parts_of js
+  pub adjacent : first_apart [] (all_defined js) ≡ None
+  pub known : first_unknown_in (all_defined js) 0 js ≡ None
 
 program_in : Verdict → ProgramTree
 program_in (a_program p) = p
@@ -150,36 +146,29 @@ program_in (part_is_faulty f) = []
 program_in (is_scattered d) = []
 program_in (is_unknown u) = []
 
-by_unknown : (p : ProgramTree) (rs : List Reading) (o : Option Unknown) → a_program p ≡ unknown_verdict rs o → (o ≡ None) × (p ≡ parts_of rs)
+by_all : (p : ProgramTree) (js : List JudgedPart) (f : Option Faulty) (d : Option Named) (u : Option Unknown) → a_program p ≡ verdict_by js f d u → (d ≡ None) × (u ≡ None) × (p ≡ parts_of js)
 unfolding program_in
-by_unknown p rs None e = (refl, ap program_in e)
-by_unknown p rs (Some u) e = absurd (cc)
+by_all p js (Some f) d u e = absurd (cc)
+by_all p js None (Some d) u e = absurd (cc)
+by_all p js None None (Some u) e = absurd (cc)
+by_all p js None None None e = (refl, refl, ap program_in e)
 
-by_apart : (p : ProgramTree) (rs : List Reading) (o : Option Named) → a_program p ≡ apart_verdict rs o → (o ≡ None) × (a_program p ≡ unknown_verdict rs (first_unknown_in (defined_in rs) 0 rs))
-by_apart p rs None e = (refl, e)
-by_apart p rs (Some d) e = absurd (cc)
-
-by_faulty : (p : ProgramTree) (rs : List Reading) (o : Option Faulty) → a_program p ≡ faulty_verdict rs o → a_program p ≡ apart_verdict rs (first_apart [] (defined_in rs))
-by_faulty p rs None e = e
-by_faulty p rs (Some f) e = absurd (cc)
-
-without_fault : (p : ProgramTree) (rs : List Reading) → a_program p ≡ verdict rs → IsWithoutFault p rs
+without_fault : (p : ProgramTree) (js : List JudgedPart) → a_program p ≡ verdict js → IsWithoutFault p js
 unfolding verdict
-without_fault p rs e =
-    let apart = by_apart p rs (first_apart [] (defined_in rs)) (by_faulty p rs (first_faulty rs [] rs) e) in
-    let unknown = by_unknown p rs (first_unknown_in (defined_in rs) 0 rs) apart.1 in
-    record { parts = unknown.1; adjacent = apart.0; known = unknown.0 }
+without_fault p js e =
+    let (apart, unknown, parts) = by_all p js (first_faulty (all_defined js) [] js) (first_apart [] (all_defined js)) (first_unknown_in (all_defined js) 0 js) e in
+    record { parts = parts; adjacent = apart; known = unknown }
 
-small_readings : (p : ProgramTree) (rs : List Reading) → IsWithoutFault p rs → unbuilt_part p ≡ None → IsSmallProgram (without_imports p)
-small_readings p rs is built =
-    let built_here : unbuilt_part (parts_of rs) ≡ None = subst (λ q. unbuilt_part q ≡ None) is.parts built in
-    let run : ProgramTree = without_imports (parts_of rs) in
-    let named_here : heads run ≡ map shown (defined_in rs) = heads_shown 1 (parts_of rs) built_here ∙ ap (map shown) (parts_define rs) in
+small_judged : (p : ProgramTree) (js : List JudgedPart) → IsWithoutFault p js → unbuilt_part p ≡ None → IsSmallProgram (without_imports p)
+small_judged p js is built =
+    let built_here : unbuilt_part (parts_of js) ≡ None = subst (λ q. unbuilt_part q ≡ None) is.parts built in
+    let run : ProgramTree = without_imports (parts_of js) in
+    let named_here : heads run ≡ map shown (all_defined js) = heads_shown 1 (parts_of js) built_here ∙ ap (map shown) (parts_define js) in
     let small : IsSmallProgram run = record {
-      parts = subst (λ hs. All (IsSmallPart hs) run) (sym named_here) (small_parts (defined_in rs) 1 0 rs built_here is.known);
-      together = subst (StandTogether []) (sym named_here) (together [] (defined_in rs) is.adjacent);
+      parts = subst (λ hs. All (IsSmallPart hs) run) (sym named_here) (small_parts (all_defined js) 1 0 js built_here is.known);
+      together = subst (StandTogether []) (sym named_here) (together [] (all_defined js) is.adjacent);
     } in
     subst (λ q. IsSmallProgram (without_imports q)) (sym is.parts) small
 
 pub small_program : (tokens : List Token) (p : ProgramTree) → HasVerdict tokens (a_program p) → unbuilt_part p ≡ None → IsSmallProgram (without_imports p)
-small_program tokens p has built = small_readings p has.readings (without_fault p has.readings has.is) built
+small_program tokens p has built = small_judged p (map judged has.readings) (without_fault p (map judged has.readings) has.is) built

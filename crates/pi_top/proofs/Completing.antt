@@ -2,7 +2,7 @@
 use Rattle.std.proofs.Common.{◌≡◌, ◌≢◌, ℕ, List, Option, Some, inl, inr, subst}
 use Rattle.pi_outside.specs.Faults.{Rose}
 use Rattle.pi_outside.specs.Held.{Holding}
-use Rattle.pi_types.specs.declared.log.LogEntry.{LogEntry}
+use Rattle.pi_answers.specs.declared.log.LogEntry.{LogEntry}
 use Rattle.pi_top.specs.declared.outcome.QueryRun.{QueryRun}
 use Rattle.pi_top.specs.declared.run_mode.RunMode.{RunMode}
 use Rattle.pi_top.specs.declared.run_mode.RunMode.TheVariants.{Query, Run, Session, Print, Demo}

@@ -3,7 +3,7 @@ use Rattle.std.proofs.Common.{◌≡◌, ◌<◌, ◌≤◌, ℕ, List, [], Opti
 use Rattle.pi_outside.specs.Held.{Holding}
 use Rattle.pi_outside.specs.Taken.{Takes}
 use Rattle.pi_outside.proofs.Taken.{Takes-none}
-use Rattle.pi_types.specs.CoreTree.{PredTree, QueryTree}
+use Rattle.pi_core.specs.CoreTree.{PredTree, QueryTree}
 use Rattle.pi_top.specs.declared.outcome.QueryRun.{QueryRun}
 use Rattle.pi_top.specs.declared.query.Stop.{Stop}
 use Rattle.pi_top.specs.declared.query.Stop.TheVariants.{Memory, Write}

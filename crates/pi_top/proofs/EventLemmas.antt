@@ -2,13 +2,13 @@
 use Rattle.std.proofs.Common.{◌≡◌, ℕ, zero, suc, ◌+◌, List, [], ◌∷◌, ◌++◌, refl, sym, ap, ◌∙◌, arith, append_assoc}
 use Rattle.std.specs.List.{concat}
 use Rattle.std.proofs.lemmas.List.{append-nil}
-use Rattle.pi_types.specs.Trace.{Tick, Load, Out, Emitted, noted, answered, count_ticks}
-use Rattle.pi_types.specs.Run.{Solution}
-use Rattle.pi_types.specs.PrintAnswer.{answer_lines}
-use Rattle.pi_types.specs.Told.{answer_of}
-use Rattle.pi_types.specs.declared.answer.Answer.{Answer}
-use Rattle.pi_types.specs.declared.core_program.NameSlot.{NameSlot}
-use Rattle.pi_engine.specs.Next.{some_ticks}
+use Rattle.pi_traces.specs.Trace.{Tick, Load, Out, Emitted, noted, answered, count_ticks}
+use Rattle.pi_meaning.specs.Run.{Solution}
+use Rattle.pi_print.specs.PrintAnswer.{answer_lines}
+use Rattle.pi_meaning.specs.Told.{answer_of}
+use Rattle.pi_answers.specs.declared.answer.Answer.{Answer}
+use Rattle.pi_core.specs.declared.core_program.NameSlot.{NameSlot}
+use Rattle.pi_machine.specs.Next.{some_ticks}
 use Rattle.pi_top.specs.Printing.{print}
 use Rattle.pi_top.specs.QueryEnd.{count_answers, EndsWithLast}
 

@@ -4,14 +4,12 @@ pub mod Asking
 pub mod BuiltGoals
 pub mod BuiltPrograms
 pub mod BuiltQueries
-pub mod BuiltTrees
 pub mod Completing
 pub mod EndingLemmas
 pub mod Endings
 pub mod EventLemmas
 pub mod FileReads
 pub mod Fronts
-pub mod ImportLemmas
 pub mod Judging
 pub mod MachineRuns
 pub mod Modes

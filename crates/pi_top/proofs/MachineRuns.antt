@@ -1,7 +1,7 @@
 -- A machine that stands for a configuration has not ended.
-use Rattle.pi_engine.specs.declared.run.Now.{Now}
-use Rattle.pi_engine.specs.Configuration.{Config}
-use Rattle.pi_engine.specs.Stands.{World, Stands}
+use Rattle.pi_arenas.specs.declared.run.Now.{Now}
+use Rattle.pi_machine.specs.Configuration.{Config}
+use Rattle.pi_stands.specs.Stands.{World, Stands}
 use Rattle.pi_engine.specs.Turns.{IsRunning}
 
 pub stands-runs : {M : Type 0} (w : World M) (now : Now) (c : Config) → Stands w now c → IsRunning now

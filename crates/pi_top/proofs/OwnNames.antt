@@ -7,12 +7,14 @@ use Rattle.std.specs.Str.{bytes_eq}
 use Rattle.std.proofs.lemmas.Bool.{and_parts, or_cases, or_from, not-true, false_from_ne_true, eqb-true}
 use Rattle.std.proofs.lemmas.Slice.Eq.{bytes_eq-Decides}
 use Rattle.pi_lib.specs.declared.builtin.BuiltinKind.{BuiltinKind}
+use Rattle.pi_lib.specs.Forms.{is_form}
 use Rattle.pi_lib.specs.Names.{kind_of, function_rows, predicate_rows, prelude_rows}
-use Rattle.pi_types.specs.Order.{name_order}
-use Rattle.pi_types.specs.Small.{Signature, IsFree}
-use Rattle.pi_types.proofs.MatchLemmas.{same_name}
-use Rattle.pi_prog.specs.Calls.{Named, named, is_form, is_kind, same_bool, same_named, is_known}
-use Rattle.pi_top.specs.Unbuilt.{is_own}
+use Rattle.pi_terms.specs.Order.{name_order}
+use Rattle.pi_syntax.specs.Signature.{Signature}
+use Rattle.pi_meaning.specs.Small.{IsFree}
+use Rattle.pi_states.proofs.MatchLemmas.{same_name}
+use Rattle.pi_prog.specs.Calls.{Named, named, is_kind, same_bool, same_named, is_known}
+use Rattle.pi_rewrite.specs.Unbuilt.{is_own}
 
 pub same_bytes : (a b : List ℕ) → bytes_eq a b ≡ true → a ≡ b
 same_bytes a b e = (bytes_eq-Decides a b).0 e

@@ -4,26 +4,25 @@ use Rattle.std.specs.List.{concat}
 use Rattle.std.proofs.lemmas.List.{append-nil}
 use Rattle.pi_outside.specs.Taken.{Takes}
 use Rattle.pi_outside.proofs.Taken.{Takes-none, Takes-then}
-use Rattle.pi_types.specs.Trace.{Done, Raise, Emitted, count_ticks}
-use Rattle.pi_types.specs.Depth.{Stop as CutStop}
-use Rattle.pi_types.specs.Depth.{Cut, Ended, Spent, with_events}
-use Rattle.pi_types.specs.View.{query_view}
-use Rattle.pi_types.specs.CoreTree.{PredTree, QueryTree}
-use Rattle.pi_types.specs.Run.{Solution, IsRun}
-use Rattle.pi_types.specs.PrintAnswer.{answer_lines}
-use Rattle.pi_types.specs.declared.answer.Answer.{Answer}
-use Rattle.pi_types.specs.declared.core_program.NameSlot.{NameSlot}
-use Rattle.pi_types.proofs.QuietRules.{query-runs}
-use Rattle.pi_engine.specs.declared.happening.Budget.{Budget}
-use Rattle.pi_engine.specs.declared.happening.Happening.{Happening}
-use Rattle.pi_engine.specs.declared.happening.Mode.{Mode}
-use Rattle.pi_engine.specs.Budget.{Counts, IsWithin}
-use Rattle.pi_engine.specs.Built.{IsRunnable}
-use Rattle.pi_engine.specs.Goes.{counted, HasNone}
+use Rattle.pi_traces.specs.Trace.{Done, Raise, Emitted, count_ticks}
+use Rattle.pi_traces.specs.Depth.{Stop as CutStop, Cut, Ended, Spent, with_events}
+use Rattle.pi_meaning.specs.View.{query_view}
+use Rattle.pi_core.specs.CoreTree.{PredTree, QueryTree}
+use Rattle.pi_meaning.specs.Run.{Solution, IsRun}
+use Rattle.pi_print.specs.PrintAnswer.{answer_lines}
+use Rattle.pi_answers.specs.declared.answer.Answer.{Answer}
+use Rattle.pi_core.specs.declared.core_program.NameSlot.{NameSlot}
+use Rattle.pi_meaning.proofs.QuietRules.{query-runs}
+use Rattle.pi_machine.specs.declared.happening.Budget.{Budget}
+use Rattle.pi_machine.specs.declared.happening.Happening.{Happening}
+use Rattle.pi_machine.specs.declared.happening.Mode.{Mode}
+use Rattle.pi_machine.specs.Budget.{Counts, IsWithin}
+use Rattle.pi_machine.specs.Built.{IsRunnable}
+use Rattle.pi_stands.specs.Goes.{counted, HasNone}
 use Rattle.pi_engine.specs.Turns.{IsRunning}
-use Rattle.pi_engine.specs.Next.{some_ticks}
+use Rattle.pi_machine.specs.Next.{some_ticks}
 use Rattle.pi_engine.specs.Runs.{MachineView, RunsTo, Happens}
-use Rattle.pi_engine.proofs.RunLaws.{run-prefix}
+use Rattle.pi_machine.proofs.RunLaws.{run-prefix}
 use Rattle.pi_top.specs.declared.outcome.QueryRun.{QueryRun}
 use Rattle.pi_top.specs.declared.query.Stop.{Stop}
 use Rattle.pi_top.specs.Headline.{IsPart, Headline, IsCutOff}

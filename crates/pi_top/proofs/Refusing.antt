@@ -1,8 +1,8 @@
 -- Where two texts come to a line, that is what is written; where they ask a goal of a program, it is run.
 use Rattle.std.proofs.Common.{◌≢◌, ℕ, List, Option, sym, subst, ◌∙◌, arith}
-use Rattle.pi_types.specs.ExpTree.{ExpTree}
-use Rattle.pi_types.specs.ProgramTree.{ProgramTree}
-use Rattle.pi_types.specs.declared.log.LogEntry.{LogEntry}
+use Rattle.pi_syntax.specs.ExpTree.{ExpTree}
+use Rattle.pi_syntax.specs.ProgramTree.{ProgramTree}
+use Rattle.pi_answers.specs.declared.log.LogEntry.{LogEntry}
 use Rattle.pi_top.specs.declared.outcome.QueryRun.{QueryRun}
 use Rattle.pi_top.specs.declared.words.Options.{Options}
 use Rattle.pi_top.specs.Judged.{Refused, Asks}

@@ -1,12 +1,14 @@
 -- What a program and a goal of the small language are lowered to is what the machine runs.
-use Rattle.std.proofs.Common.{◌≡◌, List, [], ◌∷◌, ◌++◌}
+use Rattle.std.proofs.Common.{◌≡◌, ℕ, List, [], ◌∷◌, ◌++◌}
 use Rattle.std.specs.Prelude.{All}
 use Rattle.std.proofs.lemmas.List.Elements.{All-head, All-tail}
-use Rattle.pi_types.specs.CoreTree.{ClauseTree, PredTree, QueryTree}
-use Rattle.pi_types.specs.ExpTree.{ExpTree}
-use Rattle.pi_types.specs.ProgramTree.{ProgramTree}
-use Rattle.pi_engine.specs.Built.{WithoutEvents, AreOfRules, AreCounted, IsRunnable}
+use Rattle.pi_core.specs.CoreTree.{ClauseTree, PredTree, QueryTree}
+use Rattle.pi_syntax.specs.ExpTree.{ExpTree}
+use Rattle.pi_syntax.specs.ProgramTree.{ProgramTree}
+use Rattle.pi_machine.specs.Built.{WithoutEvents, AreOfRules, AreCounted, IsRunnable}
 use Rattle.pi_rewrite.specs.Laws.{IsPlain, IsLowered}
+use Rattle.pi_rewrite.specs.Unbuilt.{without_imports}
+use Rattle.pi_top.specs.Headline.{IsAsked}
 
 without-events : (cs : List ClauseTree) → All (λ (c : ClauseTree). c.watches ≡ []) cs → WithoutEvents cs
 unfolding WithoutEvents
@@ -29,6 +31,9 @@ counted (p ∷ ps) all =
     let plain : IsPlain p = All-head IsPlain p ps all in
     (plain.quiet, counted ps (All-tail IsPlain p ps all))
 
-pub lowered-runnable : (source : ProgramTree) (asked : ExpTree) (program : List PredTree) (q : QueryTree) → IsLowered source asked program q → IsRunnable program q
+lowered-runnable : (source : ProgramTree) (asked : ExpTree) (program : List PredTree) (q : QueryTree) → IsLowered source asked program q → IsRunnable program q
 lowered-runnable source asked program q is =
     record { sound = is.sound; rules = of-rules (program ++ q.helpers) is.plain; counted = counted (program ++ q.helpers) is.plain }
+
+pub asked-runnable : (text goal : List ℕ) (program : List PredTree) (q : QueryTree) → IsAsked text goal program q → IsRunnable program q
+asked-runnable text goal program q is = lowered-runnable (without_imports is.source) is.asked program q is.lowered

@@ -1,19 +1,19 @@
 -- What a query comes to: what is written is the printing of a prefix of its run, and then the line of its end.
 use Rattle.std.specs.Prelude.{◌≡◌, ◌≤◌, ◌⊎◌, ℕ, List, [], ◌++◌, Option}
 use Rattle.pi_outside.specs.Taken.{Takes}
-use Rattle.pi_types.specs.CoreTree.{PredTree, QueryTree}
-use Rattle.pi_types.specs.Trace.{Emitted, count_ticks}
-use Rattle.pi_types.specs.Depth.{Cut}
-use Rattle.pi_types.specs.ExpTree.{ExpTree}
-use Rattle.pi_types.specs.ProgramTree.{ProgramTree}
-use Rattle.pi_types.specs.Small.{IsSmallProgram, IsSmallQuery}
-use Rattle.pi_types.specs.Run.{Solution, IsRun}
-use Rattle.pi_types.specs.declared.log.LogEntry.{LogEntry}
+use Rattle.pi_core.specs.CoreTree.{PredTree, QueryTree}
+use Rattle.pi_traces.specs.Trace.{Emitted, count_ticks}
+use Rattle.pi_traces.specs.Depth.{Cut}
+use Rattle.pi_syntax.specs.ExpTree.{ExpTree}
+use Rattle.pi_syntax.specs.ProgramTree.{ProgramTree}
+use Rattle.pi_meaning.specs.Small.{IsSmallProgram, IsSmallQuery}
+use Rattle.pi_meaning.specs.Run.{Solution, IsRun}
+use Rattle.pi_answers.specs.declared.log.LogEntry.{LogEntry}
 use Rattle.pi_rewrite.specs.Laws.{IsLowered}
 use Rattle.pi_top.specs.Judged.{Asks}
 use Rattle.pi_top.specs.Prefix.{IsPrefix, TakesFront}
 use Rattle.pi_top.specs.Printing.{print}
-use Rattle.pi_top.specs.Unbuilt.{without_imports}
+use Rattle.pi_rewrite.specs.Unbuilt.{without_imports}
 use Rattle.pi_top.specs.QueryEnd.{QueryEnd, line_of, status_of, count_answers, Ends}
 
 -- What is run of a program's text and a goal's: neither has a fault, all of both is built, and a program and a query of the core

@@ -1,13 +1,13 @@
 -- What a program's text and a goal's come to: a goal that is asked of a program, or the line that says why none is.
 use Rattle.std.specs.Prelude.{◌≡◌, ◌⊎◌, ℕ, Bool, false, true, List, Option, None, Some}
 use Rattle.pi_lex.specs.Kinds.{kinds}
-use Rattle.pi_types.specs.ExpTree.{ExpTree}
-use Rattle.pi_types.specs.ProgramTree.{ProgramTree}
-use Rattle.pi_types.specs.Tokens.{Token, Located, Fault, HasTokens, HasFault}
+use Rattle.pi_syntax.specs.ExpTree.{ExpTree}
+use Rattle.pi_syntax.specs.ProgramTree.{ProgramTree}
+use Rattle.pi_syntax.specs.Tokens.{Token, Located, Fault, HasTokens, HasFault}
 use Rattle.pi_prog.specs.GoalVerdict.{GoalVerdict, a_goal, HasGoalVerdict}
 use Rattle.pi_prog.specs.Verdict.{Verdict, a_program, HasVerdict}
 use Rattle.pi_top.specs.FaultLines.{token_line, verdict_line, goal_verdict_line, not_built_line, of_program, of_goal}
-use Rattle.pi_top.specs.Unbuilt.{unbuilt_part, is_built_body}
+use Rattle.pi_rewrite.specs.Unbuilt.{unbuilt_part, is_built_body}
 
 -- the line on what isn't built: the number of the first such part, or the goal
 abbrev pub unbuilt_line_of : Option ℕ → Bool → Option (List ℕ)

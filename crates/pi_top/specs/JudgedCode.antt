@@ -1,14 +1,16 @@
 -- What the answers on a program's text and a goal's say of them.
 use Rattle.std.specs.Prelude.{ℕ, List}
 use Rattle.std.specs.String.{string_bytes}
-use Rattle.pi_types.specs.ProgramTree.{ProgramTree, source_tree, goal_source}
+use Rattle.pi_core.specs.CoreTree.{program_tree, query_tree}
+use Rattle.pi_syntax.specs.ProgramTree.{ProgramTree}
 use Rattle.pi_top.specs.declared.judgement.Judged.{Judged}
 use Rattle.pi_top.specs.declared.judgement.Refusal.{Refusal}
-use Rattle.pi_top.specs.Judged.{IsProgramLine, IsGoalLine, Refused, Asks}
+use Rattle.pi_top.specs.Headline.{IsAsked}
+use Rattle.pi_top.specs.Judged.{IsProgramLine, IsGoalLine, Refused}
 
 -- of two texts
 abbrev pub ShowsJudged : List ℕ → List ℕ → Judged → Type 0
-ShowsJudged text goal (Judged.Asks program asked) = Asks text goal (source_tree program) (goal_source asked)
+ShowsJudged text goal (Judged.Asks core query) = IsAsked text goal (program_tree core) (query_tree query)
 ShowsJudged text goal (Judged.Refused line) = Refused text goal (string_bytes line)
 
 -- of a program's text that isn't read

@@ -15,6 +15,5 @@ pub mod Settings
 pub mod ShownFaults
 pub mod Statuses
 pub mod Texts
-pub mod Unbuilt
 pub mod Words
 pub mod Writing

@@ -1,11 +1,11 @@
 -- What a part of a query's run prints.
 use Rattle.std.specs.Prelude.{ℕ, List, [], ◌∷◌, ◌++◌}
 use Rattle.std.specs.List.{concat}
-use Rattle.pi_types.specs.Trace.{Tick, Load, Out, Emitted, noted, answered}
-use Rattle.pi_types.specs.Run.{Solution}
-use Rattle.pi_types.specs.Told.{answer_of}
-use Rattle.pi_types.specs.PrintAnswer.{answer_lines}
-use Rattle.pi_types.specs.declared.core_program.NameSlot.{NameSlot}
+use Rattle.pi_traces.specs.Trace.{Tick, Load, Out, Emitted, noted, answered}
+use Rattle.pi_meaning.specs.Run.{Solution}
+use Rattle.pi_meaning.specs.Told.{answer_of}
+use Rattle.pi_print.specs.PrintAnswer.{answer_lines}
+use Rattle.pi_core.specs.declared.core_program.NameSlot.{NameSlot}
 
 -- an answer prints its lines, a text itself; Ticks and loads print nothing
 unfoldable pub print : List NameSlot → List (Emitted Solution) → List ℕ

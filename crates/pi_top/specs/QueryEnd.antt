@@ -1,11 +1,11 @@
 -- How a query ends: when, with which line and with which status.
 use Rattle.std.specs.Prelude.{◌≡◌, ◌<◌, ℕ, suc, true, List, [], ◌∷◌, ◌++◌}
 use lib.Chars.{codes}
-use Rattle.pi_types.specs.Tree.{Tree}
-use Rattle.pi_types.specs.Trace.{Done, Raise, Emitted, noted, answered}
-use Rattle.pi_types.specs.Depth.{Cut, Stop, Ended, Spent}
-use Rattle.pi_types.specs.Run.{Solution}
-use Rattle.pi_types.specs.PrintTerm.{text_of}
+use Rattle.pi_terms.specs.Tree.{Tree}
+use Rattle.pi_traces.specs.Trace.{Done, Raise, Emitted, noted, answered}
+use Rattle.pi_traces.specs.Depth.{Cut, Stop, Ended, Spent}
+use Rattle.pi_meaning.specs.Run.{Solution}
+use Rattle.pi_print.specs.PrintTerm.{text_of}
 
 -- As many answers were written as are asked for; the trace ended, with an answer or without one; it ended in an exception that
 -- nothing caught; the Ticks are spent.

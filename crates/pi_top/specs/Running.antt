@@ -1,15 +1,15 @@
 -- A query that is being run: what is written of it so far, and what it comes to.
 use Rattle.std.specs.Prelude.{◌≡◌, ◌<◌, ℕ, List, [], ◌∷◌, ◌++◌, Option, Result, Ok, Err}
 use Rattle.pi_outside.specs.Taken.{Takes}
-use Rattle.pi_types.specs.CoreTree.{PredTree, QueryTree}
-use Rattle.pi_types.specs.Trace.{Emitted, count_ticks}
-use Rattle.pi_types.specs.View.{query_view}
-use Rattle.pi_types.specs.Run.{Solution}
-use Rattle.pi_types.specs.declared.log.LogEntry.{LogEntry}
-use Rattle.pi_engine.specs.declared.happening.Budget.{Budget}
-use Rattle.pi_engine.specs.declared.happening.Mode.{Mode}
-use Rattle.pi_engine.specs.Budget.{IsWithin}
-use Rattle.pi_engine.specs.Built.{IsRunnable}
+use Rattle.pi_core.specs.CoreTree.{PredTree, QueryTree}
+use Rattle.pi_traces.specs.Trace.{Emitted, count_ticks}
+use Rattle.pi_meaning.specs.View.{query_view}
+use Rattle.pi_meaning.specs.Run.{Solution}
+use Rattle.pi_answers.specs.declared.log.LogEntry.{LogEntry}
+use Rattle.pi_machine.specs.declared.happening.Budget.{Budget}
+use Rattle.pi_machine.specs.declared.happening.Mode.{Mode}
+use Rattle.pi_machine.specs.Budget.{IsWithin}
+use Rattle.pi_machine.specs.Built.{IsRunnable}
 use Rattle.pi_engine.specs.Runs.{MachineView, RunsTo}
 use Rattle.pi_engine.specs.Turns.{IsRunning}
 use Rattle.pi_top.specs.declared.outcome.QueryRun.{QueryRun}

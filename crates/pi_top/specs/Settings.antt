@@ -1,6 +1,5 @@
 -- What the options that were read so far set.
-use Rattle.std.specs.Prelude.{Bool, false, List, ◌∷◌, Option, None, Some, unwrap_or, is_none, if◌then◌else◌}
-use Rattle.std.specs.Prelude.{ℕ}
+use Rattle.std.specs.Prelude.{Bool, false, List, ◌∷◌, Option, None, Some, unwrap_or, is_none, if◌then◌else◌, ℕ}
 use Rattle.pi_top.specs.declared.run_mode.RunMode.TheVariants.{Query}
 use Rattle.pi_top.specs.declared.settings.Setting.{Setting}
 use Rattle.pi_top.specs.declared.settings.Setting.TheVariants.{Answers, Steps, Work, Mode}

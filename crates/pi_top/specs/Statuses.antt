@@ -3,8 +3,8 @@ use Rattle.std.specs.Prelude.{◌≡◌, ◌≢◌, ◌<◌, ℕ, List, [], Opti
 use lib.Chars.{codes}
 use Rattle.pi_outside.specs.Held.{Holding}
 use Rattle.pi_outside.specs.Taken.{Takes}
-use Rattle.pi_types.specs.CoreTree.{PredTree, QueryTree}
-use Rattle.pi_types.specs.declared.log.LogEntry.{LogEntry}
+use Rattle.pi_core.specs.CoreTree.{PredTree, QueryTree}
+use Rattle.pi_answers.specs.declared.log.LogEntry.{LogEntry}
 use Rattle.pi_top.specs.declared.outcome.QueryRun.{QueryRun}
 use Rattle.pi_top.specs.declared.run_mode.RunMode.{RunMode}
 use Rattle.pi_top.specs.declared.run_mode.RunMode.TheVariants.{Query}

@@ -1,7 +1,7 @@
 -- What the writing of a text did, by what it answered.
 use Rattle.std.specs.Prelude.{◌≡◌, ℕ, Bool, true, false, List, [], Option, Result, IfOk, OnOk, OnErr, ⊤}
 use Rattle.pi_outside.specs.Taken.{Takes}
-use Rattle.pi_engine.specs.declared.happening.Happening.{Happening}
+use Rattle.pi_machine.specs.declared.happening.Happening.{Happening}
 use Rattle.pi_top.specs.declared.query.Stop.{Stop}
 use Rattle.pi_top.specs.Prefix.{TakesFront}
 use Rattle.pi_top.specs.QueryEnd.{QueryEnd, NoMore, No, Exception, StepsSpent, line_of, status_of}

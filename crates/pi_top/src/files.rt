@@ -1,3 +1,4 @@
+//! Programs that are read from files.
 ghost use Rattle.std.specs.Prelude.{◌≡◌, IfOk, IfErr};
 ghost use Rattle.pi_outside.specs.Faults.{Rose};
 ghost use Rattle.pi_top.specs.Texts.{IsRead};

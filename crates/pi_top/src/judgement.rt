@@ -1,23 +1,22 @@
 //! What a program's text and a goal's come to.
-ghost use Rattle.std.specs.Prelude.{◌≡◌, option_map, IfOk, IfErr};
-ghost use Rattle.std.specs.String.{string_bytes};
-ghost use Rattle.pi_types.specs.ProgramTree.{source_tree, goal_source};
-ghost use Rattle.pi_top.specs.Judged.{IsProgramText, IsGoalText};
-ghost use Rattle.pi_top.specs.Judged as spec;
+ghost use Rattle.std.specs.Prelude.{◌≡◌, ℕ, List, IfOk, IfErr};
+ghost use Rattle.pi_syntax.specs.ProgramTree.{source_tree, goal_source};
+ghost use Rattle.pi_top.specs.Judged.{IsProgramText, IsGoalText, AreFaultless};
 ghost use Rattle.pi_top.specs.JudgedCode.{ShowsJudged, ShowsProgramLine, ShowsGoalLine};
 ghost use Rattle.pi_top.specs.declared.judgement.Refusal.TheVariants.{Memory};
 
-use crate::coverage::{unbuilt, unbuilt_goal};
 use crate::fault_lines::{line_of, of_goal, of_program, part_line, token_line};
+use pi_core::{CoreProgram, CoreQuery};
 use pi_lex::tokens;
 use pi_prog::{read_goal, read_program};
-use pi_types::{Goal, Program};
+use pi_rewrite::{LowerFault, lower, lower_goal};
+use pi_syntax::{Goal, Program};
 use std::alloc::{AllocError, Global};
 
-/// A goal that is asked of a program, or the line that says why none is.
+/// A goal that is asked of a program, both in the core language, or the line that says why none is.
 #[derive(Debug, Drop)]
 pub(crate) enum Judged {
-    Asks { program: Program, goal: Goal },
+    Asks { core: CoreProgram, query: CoreQuery },
     Refused(String),
 }
 
@@ -50,25 +49,31 @@ pub(crate) fn judge(alloc: Global, text: &[u8], goal: &[u8]) -> Result<Judged, A
         Err(Refusal::Line(line)) => return Ok(Judged::Refused(of_goal(alloc, line.as_str())?)),
         Err(Refusal::Memory) => return Err(AllocError),
     };
-    match unbuilt_line(alloc, &program, &goal)? {
-        Some(line) => Ok(Judged::Refused(line)),
-        None => Ok(Judged::Asks { program, goal }),
-    }
+    let judged = lowered(alloc, &program, &goal)?;
+    Ok(judged)
 }
 
-/// The line on what isn't built of a program and a goal without a fault, if there is something.
-fn unbuilt_line(alloc: Global, program: &Program, goal: &Goal) -> Result<Option<String>, AllocError>
-    ensures { IfOk result (λ line. option_map string_bytes line ≡ spec.unbuilt_line (source_tree program.now) (goal_source goal.now)) }
+/// What a program and a goal without a fault come to: the line on the first part of them that isn't built, or both in the
+/// core language.
+fn lowered(alloc: Global, program: &Program, goal: &Goal) -> Result<Judged, AllocError>
+    ensures { IfOk result (λ judged. (text of_goal : List ℕ) → AreFaultless text of_goal (source_tree program.now) (goal_source goal.now) → ShowsJudged text of_goal judged) }
 {
-    if let Some(number) = unbuilt(program) {
-        let of_part = line_of(alloc, "NotBuilt ", number)?;
-        return Ok(Some(of_program(alloc, of_part.as_str())?));
+    let core = match lower(alloc, program) {
+        Ok(core) => core,
+        Err(LowerFault::NotBuilt { number }) => {
+            let line = line_of(alloc, "NotBuilt ", number)?;
+            return Ok(Judged::Refused(of_program(alloc, line.as_str())?));
+        }
+        Err(LowerFault::Memory) => return Err(AllocError),
+    };
+    match lower_goal(alloc, goal, &core) {
+        Ok(query) => Ok(Judged::Asks { core, query }),
+        Err(LowerFault::NotBuilt { number }) => {
+            let line = line_of(alloc, "NotBuilt ", number)?;
+            Ok(Judged::Refused(of_goal(alloc, line.as_str())?))
+        }
+        Err(LowerFault::Memory) => Err(AllocError),
     }
-    if unbuilt_goal(goal) {
-        let of_whole = line_of(alloc, "NotBuilt ", 1)?;
-        return Ok(Some(of_goal(alloc, of_whole.as_str())?));
-    }
-    Ok(None)
 }
 
 /// The program that a text is.

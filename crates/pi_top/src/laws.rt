@@ -1,8 +1,8 @@
 //! Laws of the definitions of what picatq answers.
 ghost use Rattle.std.specs.Prelude.{◌≡◌, ◌≢◌, ℕ, List, Option};
-ghost use Rattle.pi_types.specs.ExpTree.{ExpTree};
-ghost use Rattle.pi_types.specs.ProgramTree.{ProgramTree};
-ghost use Rattle.pi_types.specs.declared.log.LogEntry.{LogEntry};
+ghost use Rattle.pi_syntax.specs.ExpTree.{ExpTree};
+ghost use Rattle.pi_syntax.specs.ProgramTree.{ProgramTree};
+ghost use Rattle.pi_answers.specs.declared.log.LogEntry.{LogEntry};
 ghost use Rattle.pi_top.specs.declared.outcome.QueryRun.{QueryRun};
 ghost use Rattle.pi_top.specs.declared.words.Options.{Options};
 ghost use Rattle.pi_top.specs.Judged.{Refused, Asks, AreFaultless};

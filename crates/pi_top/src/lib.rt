@@ -1,10 +1,8 @@
 //! The top call of picatq: from the words of a command line to the bytes that are written and the status.
 #![tactic(auto)]
 
-mod coverage;
 mod fault_lines;
 mod files;
-mod imports;
 mod judgement;
 pub mod laws;
 mod lines;
@@ -15,7 +13,6 @@ mod settings;
 mod top;
 mod words;
 
-pub use coverage::{unbuilt, unbuilt_goal};
 pub use outcome::{Outcome, Queries, QueryRun};
 pub use run_mode::RunMode;
 pub use top::picatq;

@@ -1,3 +1,4 @@
+//! The lines that are written apart from answers and faults of texts.
 ghost use Rattle.std.specs.Prelude.{◌≡◌, OnErr, OnOk};
 ghost use Rattle.pi_outside.specs.Faults.{NeverFalls, Rose};
 ghost use Rattle.pi_outside.specs.Taken.{Takes};

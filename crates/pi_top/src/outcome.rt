@@ -1,4 +1,6 @@
-use pi_types::{CallLog, EnteredCalls, Series, Work};
+//! What a call of picatq answers.
+use pi_answers::{CallLog, EnteredCalls, Work};
+use pi_terms::Series;
 
 /// A goal that was run: the Ticks and the work that it took, and how many planner calls were done and begun before it.
 #[derive(Clone, Copy, Debug, PartialEq, Eq)]

@@ -1,11 +1,12 @@
+//! Queries: a goal is asked, and its answers and its end are written.
 ghost use Rattle.std.specs.Prelude.{◌≡◌, ◌<◌, List, IfOk};
 ghost use Rattle.std.specs.String.{string_bytes};
 ghost use Rattle.std.specs.List.{concat};
-ghost use Rattle.pi_types.specs.CoreTree.{PredTree, QueryTree, program_tree, query_tree};
-ghost use Rattle.pi_types.specs.PrintAnswer.{answer_lines};
-ghost use Rattle.pi_types.specs.State.{empty_state};
-ghost use Rattle.pi_engine.specs.Budget.{IsWithin};
-ghost use Rattle.pi_engine.specs.Built.{IsRunnable};
+ghost use Rattle.pi_core.specs.CoreTree.{PredTree, QueryTree, program_tree, query_tree};
+ghost use Rattle.pi_print.specs.PrintAnswer.{answer_lines};
+ghost use Rattle.pi_states.specs.State.{empty_state};
+ghost use Rattle.pi_machine.specs.Budget.{IsWithin};
+ghost use Rattle.pi_machine.specs.Built.{IsRunnable};
 ghost use Rattle.pi_engine.specs.Runs.{machine_view};
 ghost use Rattle.pi_top.specs.declared.query.Stop.TheVariants.{Memory, Write};
 ghost use Rattle.pi_top.specs.Faults.{TellsWrites};
@@ -18,10 +19,14 @@ ghost use Rattle.pi_top.specs.Writing.{Writes, WritesLine, WritesEnd};
 use crate::lines::write_text;
 use crate::outcome::{Queries, QueryRun};
 use crate::words::Options;
+use pi_answers::{Answer, Work};
+use pi_core::{CoreProgram, CoreQuery};
 use pi_engine::{Budget, Happening, Machine, Mode};
 use pi_outside::{Failed, Sink};
 use pi_print::{answer_text, term_text};
-use pi_types::{Answer, CoreProgram, CoreQuery, StateStore, Term, TreeStore, Work};
+use pi_states::StateStore;
+use pi_terms::Term;
+use pi_tree_store::TreeStore;
 use std::alloc::{AllocError, Global};
 
 /// What ends a run without a line of its own.

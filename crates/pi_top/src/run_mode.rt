@@ -1,4 +1,4 @@
-// The modes of a run.
+//! The modes of a run.
 ghost use Rattle.std.specs.Prelude.{◌≡◌, map};
 ghost use Rattle.std.specs.String.{string_bytes};
 ghost use Rattle.pi_top.specs.Words as spec;

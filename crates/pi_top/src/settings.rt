@@ -1,4 +1,4 @@
-// What the options of a command line set.
+//! What the options of a command line set.
 ghost use Rattle.std.specs.Prelude.{◌≡◌};
 ghost use Rattle.std.specs.Char.{is_ascii_digit};
 ghost use Rattle.std.specs.List.{list_all};

@@ -1,26 +1,23 @@
-ghost use Rattle.std.specs.Prelude.{◌≡◌, ◌<◌, ◌≤◌, ℕ, List, [], map, IfOk, Some};
+//! The top call.
+ghost use Rattle.std.specs.Prelude.{◌≡◌, ◌<◌, ◌≤◌, [], map, IfOk, Some};
 ghost use Rattle.std.specs.String.{string_bytes};
 ghost use Rattle.pi_outside.specs.Faults.{NeverFalls, Rose};
-ghost use Rattle.pi_types.specs.ProgramTree.{source_tree, goal_source};
 ghost use Rattle.pi_top.specs.Completeness.{NothingFails, Completes};
 ghost use Rattle.pi_top.specs.Ends.{Ends, AnswersText, AnswersQuery, AnswersBy, GivesStatus};
 ghost use Rattle.pi_top.specs.Faults.{TellsWrites};
-ghost use Rattle.pi_top.specs.Judged.{Asks};
 ghost use Rattle.pi_top.specs.Runs.{AllWithin};
 ghost use Rattle.pi_top.specs.Texts.{IsRead};
 ghost use Rattle.pi_top.specs.Words.{options};
 ghost use Rattle.pi_top.specs.declared.words.Options.{Options};
 
 use crate::files::{FileStop, read_file};
-use crate::imports::drop_imports;
 use crate::judgement::{Judged, judge};
 use crate::lines::{MEMORY, MODE_NOT_BUILT, READ_FAULT, USAGE, write_text};
 use crate::outcome::{Outcome, Queries};
 use crate::query::{Stop, ended, run_query};
 use crate::words::{Options, WordsFault, read_words};
 use pi_outside::{Files, Sink, Source};
-use pi_rewrite::{lower, lower_goal};
-use pi_types::{Goal, Program, Series};
+use pi_terms::Series;
 use std::alloc::Global;
 
 /// Runs picatq on the words behind the program's name: reads the program from `files`, asks its goal, and writes what
@@ -117,7 +114,7 @@ fn asked_of_file<F: Files, O: Sink>(
     asked_of_text(alloc, text.as_slice(), asked, goal, out, queries)
 }
 
-/// Asks the goal that a text is of the program that another one is.
+/// Asks the goal that a text is of the program that another one is, where neither has a fault and all of both is built.
 fn asked_of_text<O: Sink>(
     alloc: Global,
     text: &[u8],
@@ -134,28 +131,6 @@ fn asked_of_text<O: Sink>(
     let judged = judge(alloc, text, goal.as_bytes())?;
     match judged {
         Judged::Refused(line) => ended(out, line.as_str(), 3),
-        Judged::Asks { program, goal } => {
-            asked_of_program(alloc, program, &goal, asked, out, queries)
-        }
+        Judged::Asks { core, query } => run_query(alloc, &core, query, asked, out, queries),
     }
-}
-
-/// Asks a goal of a program, where all of both is built.
-fn asked_of_program<O: Sink>(
-    alloc: Global,
-    program: Program,
-    goal: &Goal,
-    asked: &Options,
-    out: &mut O,
-    queries: &mut Queries,
-) -> Result<u8, Stop>
-    ensures writes { TellsWrites (O.faults out.old) (O.faults out.new) result }
-    ensures no_read { IfOk result (λ status. status < 7) }
-    ensures answers { (text of_goal : List ℕ) → Asks text of_goal (source_tree program) (goal_source goal.now) → 0 < asked.now.answers → queries.old ≡ [] → AnswersText asked.now text of_goal queries.new [] (O.taken out.old) (O.taken out.new) result }
-    ensures ran { AllWithin asked.now.steps queries.old → AllWithin asked.now.steps queries.new }
-{
-    let program = drop_imports(alloc, program)?;
-    let core = lower(alloc, &program)?;
-    let query = lower_goal(alloc, goal, &core)?;
-    run_query(alloc, &core, query, asked, out, queries)
 }

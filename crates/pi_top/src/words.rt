@@ -1,4 +1,4 @@
-// The words of a command line.
+//! The words of a command line.
 ghost use Rattle.std.specs.Prelude.{◌≡◌, ◌+◌, ◌≤◌, map, drop, length, IsTrue, IfOk, IfErr, Some, None};
 ghost use Rattle.std.specs.String.{string_bytes};
 ghost use Rattle.pi_top.specs.Settings.{has_option, asked_by};
@@ -8,7 +8,7 @@ ghost use Rattle.pi_top.specs.declared.words.WordsFault.TheVariants.{NoRecord, M
 
 use crate::run_mode::RunMode;
 use crate::settings::{MOST_ANSWERS, Settings, begins_option};
-use pi_types::Text;
+use pi_terms::Text;
 use std::alloc::{AllocError, Global};
 
 /// How many Ticks a query may take, where no option says so.

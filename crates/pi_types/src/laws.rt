@@ -1,11 +1,5 @@
-//! Laws of the definitions, each a clause of a function that does nothing.
-pub mod domains;
-pub mod grammar;
-pub mod matching;
-pub mod meaning;
-pub mod order;
-pub mod states;
-pub mod terms;
-pub mod traces;
-pub mod unification;
-pub mod value;
+//! The laws of the definitions, under one name.
+pub use pi_constraints::laws::domains;
+pub use pi_states::laws::{matching, states, stores, unification, value};
+pub use pi_syntax::laws::grammar;
+pub use pi_terms::laws::{order, terms};

@@ -1,42 +1,26 @@
-//! What every layer of picatq speaks of: terms, syntax, states and logs.
+//! What every layer of picatq speaks of, under one name: terms, syntax, core programs, domains and constraints, states and their stores, answers and
+//! logs.
 #![tactic(auto)]
 
-mod answer;
-mod args;
-mod constraint;
-mod core_goal;
-mod core_program;
-mod domain;
-mod event;
-mod exp;
-mod goal_node;
 pub mod laws;
-mod log;
-mod numbers;
-mod program;
-mod series;
-mod store;
-mod term;
-mod text;
-mod tree_store;
 
-pub use answer::{Answer, NamedTerm, NamedTerms, VarDomain, VarDomains};
-pub use args::Args;
-pub use constraint::{Constraint, Constraints, Item, Items, LinTerm, LinTerms, Rel};
-pub use core_goal::CoreGoal;
-pub use core_program::{
-    CoreClause, CoreClauses, CorePred, CorePreds, CoreProgram, CoreQuery, NameSlot, NameSlots,
-    Pattern, Patterns, SlotWatch, SlotWatches,
+pub use pi_answers::{
+    Answer, CallLog, Entered, EnteredCalls, LogEntry, NamedTerm, NamedTerms, PlanResult, Work,
 };
-pub use domain::{Domain, Domains, MAX_VALUE, Span};
-pub use event::{Activation, Activations, AgentView, Event, Events, Watch, Watches};
-pub use exp::{Branches, Exp, Exps};
-pub use goal_node::GoalNode;
-pub use log::{CallLog, Entered, EnteredCalls, LogEntry, PlanResult, Work};
-pub use numbers::Numbers;
-pub use program::{Clause, Decl, Goal, Mode, ModeLists, Modes, Names, Part, Parts, Program};
-pub use series::Series;
-pub use store::{Cell, Places, ReadStop, Ref, StateStore};
-pub use term::{Term, TermHead};
-pub use text::Text;
-pub use tree_store::TreeStore;
+pub use pi_constraints::{
+    Constraint, Constraints, Domain, Domains, Item, Items, LinTerm, LinTerms, MAX_VALUE, Rel, Span,
+    VarDomain, VarDomains,
+};
+pub use pi_core::{
+    CoreClause, CoreClauses, CoreGoal, CorePred, CorePreds, CoreProgram, CoreQuery, GoalNode,
+    NameSlot, NameSlots, Pattern, Patterns, SlotWatch, SlotWatches,
+};
+pub use pi_states::{
+    Activation, Activations, AgentView, Cell, Event, Events, Places, ReadStop, Ref, StateStore,
+    Watch, Watches,
+};
+pub use pi_syntax::{
+    Branches, Clause, Decl, Exp, Exps, Goal, Mode, ModeLists, Modes, Names, Part, Parts, Program,
+};
+pub use pi_terms::{Args, Numbers, Series, Term, TermHead, Text};
+pub use pi_tree_store::TreeStore;

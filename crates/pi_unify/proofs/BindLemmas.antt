@@ -1,22 +1,22 @@
 -- What the calls on variables make of a state.
 use Rattle.std.proofs.Common.{◌≡◌, ℕ, suc, ◌<◌, ◌≤◌, Bool, true, false, cond, not, ◌&&◌, List, [], ◌∷◌, Option, Some, None, Result, Ok, Err, zero, length, refl, ap, sym, ◌∙◌, subst, arith}
 use Rattle.std.specs.Prelude.{ℤ, IfOk, OnOk, IsNone}
-use Rattle.pi_types.specs.Tree.{Tree, var, int}
-use Rattle.pi_types.specs.Places.{held}
-use Rattle.pi_types.specs.Variables.{Occurs}
-use Rattle.pi_types.specs.Domain.{IsDomain, has_value, values_of, size_of, common}
-use Rattle.pi_types.specs.Value.{value, Bindings}
-use Rattle.pi_types.proofs.RootLemmas.{value_int}
-use Rattle.pi_types.specs.State.{State, bindings, followed, domain_of, IsState, with_binding, with_domain}
-use Rattle.pi_types.specs.Store.{StoreView, IsTerm, Keeps, Gives, Binds, Confines}
-use Rattle.pi_types.specs.Unify.{clash, changed, does_occur, admits, assigned, confined, joined_with, joined, Grows}
-use Rattle.pi_types.specs.declared.store.Ref.{Ref}
-use Rattle.pi_types.specs.declared.domain.Span.{Span}
-use Rattle.pi_types.proofs.CommonLemmas.{empty_if_none, one_value, IsDomain-common}
-use Rattle.pi_types.proofs.StateLemmas.{domain_good}
-use Rattle.pi_types.proofs.FollowLemmas.{followed_other, followed_value}
-use Rattle.pi_types.proofs.UnifyBindings.{grows-refl}
-use Rattle.pi_types.proofs.UnifyJoined.{tied}
+use Rattle.pi_terms.specs.Tree.{Tree, var, int}
+use Rattle.pi_terms.specs.Places.{held}
+use Rattle.pi_terms.specs.Variables.{Occurs}
+use Rattle.pi_constraints.specs.Domain.{IsDomain, has_value, values_of, size_of, common}
+use Rattle.pi_states.specs.Value.{value, Bindings}
+use Rattle.pi_states.proofs.RootLemmas.{value_int}
+use Rattle.pi_states.specs.State.{State, bindings, followed, domain_of, IsState, with_binding, with_domain}
+use Rattle.pi_states.specs.Store.{StoreView, IsTerm, Keeps, Gives, Binds, Confines}
+use Rattle.pi_states.specs.Unify.{clash, changed, does_occur, admits, assigned, confined, joined_with, joined, Grows}
+use Rattle.pi_states.specs.declared.store.Ref.{Ref}
+use Rattle.pi_constraints.specs.declared.domain.Span.{Span}
+use Rattle.pi_constraints.proofs.CommonLemmas.{empty_if_none, one_value, IsDomain-common}
+use Rattle.pi_states.proofs.StateLemmas.{domain_good}
+use Rattle.pi_states.proofs.FollowLemmas.{followed_other, followed_value}
+use Rattle.pi_states.proofs.UnifyBindings.{grows-refl}
+use Rattle.pi_states.proofs.UnifyJoined.{tied}
 use Rattle.pi_unify.specs.declared.variables.Variable.{Variable}
 use Rattle.pi_unify.specs.Refs.{IsRef, term_of, root_of, IsVariable, IsNoVariable}
 use Rattle.pi_unify.specs.Answers.{Makes}

@@ -3,20 +3,19 @@ use Rattle.std.proofs.Common.{◌≡◌, nat_lt, ◌⊎◌, ℕ, zero, suc, ◌+
 use Rattle.std.specs.Prelude.{Contains, IsSomeAnd, slice_get}
 use Rattle.std.proofs.lemmas.Bool.{cases_Bool, ltb-true, ltb-false}
 use Rattle.std.proofs.lemmas.List.{reverse-append, reverse-reverse, length-reverse, append-nil}
-use Rattle.pi_types.specs.Tree.{Tree, var, int, atom, comp, Trees, no_trees, tree, tree_count, args, arity, drop_trees, cells, subterms, subterms_all, ShowsHead}
-use Rattle.pi_types.specs.TermCells.{take_trees, append_trees, take_trees-append, drop_trees-append}
-use Rattle.pi_types.specs.Variables.{occurrences, occurrences_all, firsts, variables}
-use Rattle.pi_types.specs.Substitution.{instance, instances}
-use Rattle.pi_types.specs.Copy.{renamed}
-use Rattle.pi_types.specs.State.{State}
-use Rattle.pi_types.specs.Store.{StoreView, IsTerm, AreTerms, Keeps, Stays}
-use Rattle.pi_types.specs.declared.store.Ref.{Ref}
-use Rattle.pi_types.specs.declared.term.TermHead.{TermHead}
-use Rattle.pi_types.proofs.TermLemmas.{subterm_for_each_cell}
-use Rattle.pi_types.proofs.RootLemmas.{tree_count-instances}
-use Rattle.pi_types.specs.Numbers.{noted}
-use Rattle.pi_types.proofs.NumberLemmas.{noted-firsts}
-use Rattle.pi_types.proofs.VariableLemmas.{Has, Has-append_right, occurs_from_Has, variables_are_those_that_occur}
+use Rattle.pi_terms.specs.Tree.{Tree, var, int, atom, comp, Trees, no_trees, tree, tree_count, args, arity, drop_trees, cells, subterms, subterms_all, ShowsHead}
+use Rattle.pi_terms.specs.TermCells.{take_trees, append_trees, take_trees-append, drop_trees-append}
+use Rattle.pi_terms.specs.Variables.{occurrences, occurrences_all, firsts, variables}
+use Rattle.pi_terms.specs.Substitution.{instance, instances}
+use Rattle.pi_terms.specs.Copy.{renamed}
+use Rattle.pi_states.specs.State.{State}
+use Rattle.pi_states.specs.Store.{StoreView, IsTerm, AreTerms, Keeps, Stays}
+use Rattle.pi_states.specs.declared.store.Ref.{Ref}
+use Rattle.pi_terms.specs.declared.term.TermHead.{TermHead}
+use Rattle.pi_terms.proofs.TermLemmas.{subterm_for_each_cell}
+use Rattle.pi_terms.proofs.VariableLemmas.{tree_count-instances, Has, Has-append_right, occurs_from_Has, variables_are_those_that_occur}
+use Rattle.pi_terms.specs.Numbers.{noted}
+use Rattle.pi_terms.proofs.NumberLemmas.{noted-firsts}
 use Rattle.pi_unify.specs.Copying.{renumbered, AreBuilt, with_built, IsReady, PutsNode, forest, Nested, root_variables}
 use Rattle.pi_unify.proofs.KeepsLemmas.{terms_kept, stays_then, keeps_none}
 use Rattle.pi_unify.proofs.RefLemmas.{drop_all}

@@ -1,22 +1,24 @@
 -- What is left to compare.
-use Rattle.std.proofs.Common.{◌≡◌, ℕ, ℤ, zero, suc, ◌+◌, ◌<◌, ◌≤◌, true, false, nat_lt, List, [], ◌∷◌, ◌++◌, refl, ap, sym, ◌∙◌, subst, inl, inr, ◌⊎◌, add-one, arith}
-use Rattle.std.proofs.lemmas.Bool.{cases_Bool, ltb-false}
+use Rattle.std.proofs.Common.{◌≡◌, ℕ, ℤ, zero, suc, ◌+◌, ◌<◌, ◌≤◌, true, false, List, [], ◌∷◌, ◌++◌, Some, refl, ap, sym, ◌∙◌, subst, inl, inr, add-one, arith}
 use Rattle.std.specs.Ordering.{ordering_then, is_ne, nat_cmp, int_cmp}
 use Rattle.std.specs.declared.cmp.Ordering.{Ordering}
 use Rattle.std.specs.declared.cmp.Ordering.TheVariants.{Less, Equal, Greater}
-use Rattle.pi_types.specs.Tree.{Tree, var, int, atom, comp, Trees, no_trees, tree, tree_count, args, arity, drop_trees}
-use Rattle.pi_types.specs.Order.{name_order, order, order_all}
-use Rattle.pi_types.specs.Value.{IsAcyclic, value}
-use Rattle.pi_types.specs.State.{bindings, followed}
-use Rattle.pi_types.specs.Store.{StoreView, IsTerm, IsName, ShowsCell}
-use Rattle.pi_types.specs.declared.store.Cell.{Cell}
-use Rattle.pi_types.specs.declared.store.Ref.{Ref}
+use Rattle.pi_terms.specs.Tree.{Tree, var, int, atom, comp, Trees, no_trees, tree, tree_count, args, arity, drop_trees}
+use Rattle.pi_terms.specs.Order.{name_order, order, order_all}
+use Rattle.pi_states.specs.Value.{IsAcyclic, value}
+use Rattle.pi_states.specs.State.{bindings, followed}
+use Rattle.pi_states.specs.Store.{StoreView, IsTerm, IsName, ShowsCell}
+use Rattle.pi_states.specs.declared.store.Cell.{Cell}
+use Rattle.pi_states.specs.declared.store.Ref.{Ref}
 use Rattle.pi_unify.specs.Terms.{IsGiven, HoldsNoCycle, term_of, value_of}
-use Rattle.pi_unify.specs.Comparison.{cell_arity, Begins, pair_order, IsPair, IsRest, AreRests, rest_order, order_with, with_arguments, Takes}
-use Rattle.pi_unify.specs.declared.order.Pair.{Pair}
-use Rattle.pi_unify.specs.declared.order.Rest.{Rest}
+use Rattle.pi_unify.specs.Comparison.{cell_arity, Begins, pair_order, IsPair, IsRest, AreRests, rest_order, order_with, Takes, TakesPair}
+use Rattle.pi_unify.specs.declared.ahead.Rest.{Rest}
+use Rattle.pi_unify.specs.declared.ahead.RefPair.{RefPair}
+use Rattle.pi_unify.specs.Rests.{with_all, after, Taken}
+use Rattle.pi_unify.proofs.RestLemmas.{put, IsBehind, behind}
 use Rattle.std.proofs.lemmas.Cmp.{ranked, by_ranked}
-use Rattle.pi_unify.proofs.TermValues.{IsArgument, given_term, shows_value, value_is}
+use Rattle.pi_unify.proofs.AheadLemmas.{ArgSays}
+use Rattle.pi_unify.proofs.TermValues.{IsArgument, argument, given_term, shows_value, value_is}
 
 -- ---- orders one after another
 
@@ -42,22 +44,22 @@ then_assoc Greater p q = refl
 
 -- ---- the rests
 
-pub order_with-more : {M : Type 0} (v : StoreView M) (fs : List Rest) (f : Rest) (o : Ordering) → order_with v (fs ++ f ∷ []) o ≡ order_with v fs (ordering_then o (rest_order v f))
+pub order_with-more : {M : Type 0} (v : StoreView M) (fs : List (Rest RefPair)) (f : Rest RefPair) (o : Ordering) → order_with v (fs ++ f ∷ []) o ≡ order_with v fs (ordering_then o (rest_order v f))
 unfolding order_with
 order_with-more v [] f o = refl
 order_with-more v (g ∷ fs) f o = ap (λ p. ordering_then p (rest_order v g)) (order_with-more v fs f o)
 
-pub order_with-decided : {M : Type 0} (v : StoreView M) (fs : List Rest) (o : Ordering) → is_ne o ≡ true → order_with v fs o ≡ o
+pub order_with-decided : {M : Type 0} (v : StoreView M) (fs : List (Rest RefPair)) (o : Ordering) → is_ne o ≡ true → order_with v fs o ≡ o
 unfolding order_with
 order_with-decided v [] o h = refl
 order_with-decided v (f ∷ fs) o h = ap (λ p. ordering_then p (rest_order v f)) (order_with-decided v fs o h) ∙ then_decided o (rest_order v f) h
 
-pub rests_more : {M : Type 0} (v : StoreView M) (fs : List Rest) (f : Rest) → AreRests v fs → IsRest v f → AreRests v (fs ++ f ∷ [])
+pub rests_more : {M : Type 0} (v : StoreView M) (fs : List (Rest RefPair)) (f : Rest RefPair) → AreRests v fs → IsRest v f → AreRests v (fs ++ f ∷ [])
 unfolding AreRests
 rests_more v [] f all is = (is, tt)
 rests_more v (g ∷ fs) f all is = (all.0, rests_more v fs f all.1 is)
 
-pub rests_but_last : {M : Type 0} (v : StoreView M) (fs : List Rest) (f : Rest) → AreRests v (fs ++ f ∷ []) → AreRests v fs × IsRest v f
+rests_but_last : {M : Type 0} (v : StoreView M) (fs : List (Rest RefPair)) (f : Rest RefPair) → AreRests v (fs ++ f ∷ []) → AreRests v fs × IsRest v f
 unfolding AreRests
 rests_but_last v [] f all = (tt, all.0)
 rests_but_last v (g ∷ fs) f all = let r : AreRests v fs × IsRest v f = rests_but_last v fs f all.1 in ((all.0, r.0), r.1)
@@ -206,24 +208,21 @@ begins_as v c d c' d' o o' left right same h = λ t u shown shown'.
 
 -- ---- the next pair
 
-abbrev behind_left : {M : Type 0} → StoreView M → Rest → Trees
+abbrev behind_left : {M : Type 0} → StoreView M → Rest RefPair → Trees
 behind_left v f = drop_trees (suc f.next) (args (value_of v f.of.left))
 
-abbrev behind_right : {M : Type 0} → StoreView M → Rest → Trees
+abbrev behind_right : {M : Type 0} → StoreView M → Rest RefPair → Trees
 behind_right v f = drop_trees (suc f.next) (args (value_of v f.of.right))
 
-rest_from_front : {M : Type 0} (v : StoreView M) (f : Rest) (p : Pair) → IsArgument v p.left (value_of v f.of.left) f.next → IsArgument v p.right (value_of v f.of.right) f.next → rest_order v f ≡ ordering_then (pair_order v p) (order_all (behind_left v f) (behind_right v f))
+rest_from_front : {M : Type 0} (v : StoreView M) (f : Rest RefPair) (p : RefPair) → IsArgument v p.left (value_of v f.of.left) f.next → IsArgument v p.right (value_of v f.of.right) f.next → rest_order v f ≡ ordering_then (pair_order v p) (order_all (behind_left v f) (behind_right v f))
 unfolding order
 rest_from_front v f p left right = ap (λ ts. order_all ts (drop_trees f.next (args (value_of v f.of.right)))) left.front ∙ ap (λ us. order_all (tree (value_of v p.left) (behind_left v f)) us) right.front
 
-abbrev after : Rest → Rest
-after f = record { of = f.of; next = f.next + 1; count = f.count }
-
-after_order : {M : Type 0} (v : StoreView M) (f : Rest) → rest_order v (after f) ≡ order_all (behind_left v f) (behind_right v f)
+after_order : {M : Type 0} (v : StoreView M) (f : Rest RefPair) → rest_order v (after f) ≡ order_all (behind_left v f) (behind_right v f)
 after_order v f = ap (λ k. order_all (drop_trees k (args (value_of v f.of.left))) (drop_trees k (args (value_of v f.of.right)))) (add-one f.next)
 
 -- more arguments are left behind the pair
-pub takes_more : {M : Type 0} (v : StoreView M) (old fs new : List Rest) (f : Rest) (p : Pair) → old ≡ fs ++ f ∷ [] → new ≡ fs ++ after f ∷ [] → AreRests v old → f.next + 1 < f.count → IsArgument v p.left (value_of v f.of.left) f.next → IsArgument v p.right (value_of v f.of.right) f.next → Takes v old new p
+takes_more : {M : Type 0} (v : StoreView M) (old fs new : List (Rest RefPair)) (f : Rest RefPair) (p : RefPair) → old ≡ fs ++ f ∷ [] → new ≡ fs ++ after f ∷ [] → AreRests v old → f.next + 1 < f.count → IsArgument v p.left (value_of v f.of.left) f.next → IsArgument v p.right (value_of v f.of.right) f.next → Takes v old new p
 takes_more v old fs new f p was is all more left right =
     let parts : AreRests v fs × IsRest v f = rests_but_last v fs f (subst (AreRests v) was all) in
     let here : IsRest v f = parts.1 in
@@ -236,7 +235,7 @@ takes_more v old fs new f p was is all more left right =
           ∙ (sym (order_with-more v fs (after f) (pair_order v p)) ∙ ap (λ rs. order_with v rs (pair_order v p)) (sym is))));
     }
 
-none_behind : {M : Type 0} (v : StoreView M) (f : Rest) → IsRest v f → f.count ≤ f.next + 1 → (behind_left v f ≡ no_trees) × (behind_right v f ≡ no_trees)
+none_behind : {M : Type 0} (v : StoreView M) (f : Rest RefPair) → IsRest v f → f.count ≤ f.next + 1 → (behind_left v f ≡ no_trees) × (behind_right v f ≡ no_trees)
 none_behind v f here last =
     let within : f.next < f.count = here.within in
     let many : arity (value_of v f.of.left) ≡ suc f.next = here.left ∙ omega arith in
@@ -244,7 +243,7 @@ none_behind v f here last =
     (drop_all (args (value_of v f.of.left)) (suc f.next) many, drop_all (args (value_of v f.of.right)) (suc f.next) many')
 
 -- the pair was the last one of its compounds
-pub takes_last : {M : Type 0} (v : StoreView M) (old new : List Rest) (f : Rest) (p : Pair) → old ≡ new ++ f ∷ [] → AreRests v old → f.count ≤ f.next + 1 → IsArgument v p.left (value_of v f.of.left) f.next → IsArgument v p.right (value_of v f.of.right) f.next → Takes v old new p
+takes_last : {M : Type 0} (v : StoreView M) (old new : List (Rest RefPair)) (f : Rest RefPair) (p : RefPair) → old ≡ new ++ f ∷ [] → AreRests v old → f.count ≤ f.next + 1 → IsArgument v p.left (value_of v f.of.left) f.next → IsArgument v p.right (value_of v f.of.right) f.next → Takes v old new p
 unfolding order
 takes_last v old new f p was all last left right =
     let parts : AreRests v new × IsRest v f = rests_but_last v new f (subst (AreRests v) was all) in
@@ -258,42 +257,42 @@ takes_last v old new f p was all last left right =
           ∙ ap (order_with v new) (rest_from_front v f p left right ∙ (ap (ordering_then (pair_order v p)) equal ∙ then_equal (pair_order v p))));
     }
 
+takes_pair_by : {M : Type 0} (v : StoreView M) (old fs new : List (Rest RefPair)) (f : Rest RefPair) (p : RefPair) → old ≡ fs ++ f ∷ [] → AreRests v old → IsArgument v p.left (value_of v f.of.left) f.next → IsArgument v p.right (value_of v f.of.right) f.next → IsBehind f fs new → Takes v old new p
+takes_pair_by v old fs new f p was all left right (inl more) = takes_more v old fs new f p was more.1 all more.0 left right
+takes_pair_by v old fs new f p was all left right (inr last) = takes_last v old new f p (was ∙ ap (λ rs. rs ++ f ∷ []) (sym last.1)) all last.0 left right
+
+-- what a store says of the arguments of both
+pub takes_pair : {M : Type 0} (v : StoreView M) (old new : List (Rest RefPair)) (f : Rest RefPair) (p : RefPair) → Taken old new f → HoldsNoCycle v → AreRests v old → ArgSays v f.of.left f.next p.left → ArgSays v f.of.right f.next p.right → TakesPair v old new (Some p)
+takes_pair v old new f p t a all left right =
+    let here : IsRest v f = (rests_but_last v t.older f (subst (AreRests v) t.was all)).1 in
+    let within : f.next < f.count = here.within in
+    let one : arity (value_of v f.of.left) ≡ f.count = here.left in
+    let other : arity (value_of v f.of.right) ≡ f.count = here.right in
+    takes_pair_by v old t.older new f p t.was all (argument v f.of.left p.left f.next a here.pair.0 (omega arith) left) (argument v f.of.right p.right f.next a here.pair.1 (omega arith) right) (behind old new f t)
+
 -- ---- all arguments of a pair that is equal at its roots
 
-zero_or_more : (n : ℕ) → (n ≡ 0) ⊎ (0 < n)
-zero_or_more zero = inl refl
-zero_or_more (suc n) = inr (omega arith)
-
 -- the whole as it stands when the roots of a pair were found equal
-pub record Pushed {M : Type 0} (v : StoreView M) (fs new : List Rest) (p : Pair) : Type 0 where
+pub record Pushed {M : Type 0} (v : StoreView M) (fs new : List (Rest RefPair)) (p : RefPair) : Type 0 where
   pub rests : AreRests v new
   pub order : order_with v new Equal ≡ order_with v fs (pair_order v p)
 
-none_pushed : {M : Type 0} (v : StoreView M) (fs : List Rest) (p : Pair) (count : ℕ) → count ≡ 0 → with_arguments fs p count ≡ fs
-none_pushed v fs p count e = ap (with_arguments fs p) e
-
-some_pushed : {M : Type 0} (v : StoreView M) (fs : List Rest) (p : Pair) (count : ℕ) → 0 < count → with_arguments fs p count ≡ fs ++ record { of = p; next = 0; count = count } ∷ []
-some_pushed v fs p count h = elim (cases_Bool (nat_lt 0 count)) [
-  | inl hit ↦ rw hit refl
-  | inr miss ↦ absurd (omega (arith, ltb-false 0 count miss))
-]
-
-pub pushed : {M : Type 0} (v : StoreView M) (fs new : List Rest) (p : Pair) (count : ℕ) → AreRests v fs → IsPair v p → pair_order v p ≡ order_all (args (value_of v p.left)) (args (value_of v p.right)) → count ≡ arity (value_of v p.left) → arity (value_of v p.left) ≡ arity (value_of v p.right) → new ≡ with_arguments fs p count → Pushed v fs new p
+pub pushed : {M : Type 0} (v : StoreView M) (fs new : List (Rest RefPair)) (p : RefPair) (count : ℕ) → AreRests v fs → IsPair v p → pair_order v p ≡ order_all (args (value_of v p.left)) (args (value_of v p.right)) → count ≡ arity (value_of v p.left) → arity (value_of v p.left) ≡ arity (value_of v p.right) → new ≡ with_all fs p count → Pushed v fs new p
 unfolding order
-pushed v fs new p count all is roots many same e = elim (zero_or_more count) [
+pushed v fs new p count all is roots many same e = elim (put fs new p count e) [
   | inl none ↦
-      let is_new : new ≡ fs = e ∙ none_pushed v fs p count none in
-      let left : args (value_of v p.left) ≡ no_trees = no_arguments (args (value_of v p.left)) (sym many ∙ none) in
-      let right : args (value_of v p.right) ≡ no_trees = no_arguments (args (value_of v p.right)) (sym same ∙ (sym many ∙ none)) in
+      let is_new : new ≡ fs = none.1 in
+      let left : args (value_of v p.left) ≡ no_trees = no_arguments (args (value_of v p.left)) (sym many ∙ none.0) in
+      let right : args (value_of v p.right) ≡ no_trees = no_arguments (args (value_of v p.right)) (sym same ∙ (sym many ∙ none.0)) in
       let equal : pair_order v p ≡ Equal = roots ∙ (ap (λ ts. order_all ts (args (value_of v p.right))) left ∙ ap (order_all no_trees) right) in
       record {
         rests = subst (AreRests v) (sym is_new) all;
         order = ap (λ rs. order_with v rs Equal) is_new ∙ ap (order_with v fs) (sym equal);
       }
   | inr some ↦
-      let f : Rest = record { of = p; next = 0; count = count } in
-      let is_new : new ≡ fs ++ f ∷ [] = e ∙ some_pushed v fs p count some in
-      let here : IsRest v f = record { pair = is; left = sym many; right = sym same ∙ sym many; within = some } in
+      let f : Rest RefPair = record { of = p; next = 0; count = count } in
+      let is_new : new ≡ fs ++ f ∷ [] = some.1 in
+      let here : IsRest v f = record { pair = is; left = sym many; right = sym same ∙ sym many; within = some.0 } in
       record {
         rests = subst (AreRests v) (sym is_new) (rests_more v fs f all here);
         order = ap (λ rs. order_with v rs Equal) is_new ∙ (order_with-more v fs f Equal ∙ ap (order_with v fs) (sym roots));
@@ -303,17 +302,17 @@ pushed v fs new p count all is roots many same e = elim (zero_or_more count) [
 -- ---- the loop
 
 -- where a pair's comparison stands in that of the whole
-pub record Goes {M : Type 0} (v : StoreView M) (fs : List Rest) (p whole : Pair) : Type 0 where
+pub record Goes {M : Type 0} (v : StoreView M) (fs : List (Rest RefPair)) (p whole : RefPair) : Type 0 where
   pub pair : IsPair v p
   pub rests : AreRests v fs
   pub order : order_with v fs (pair_order v p) ≡ pair_order v whole
 
-pub started : {M : Type 0} (v : StoreView M) (fs : List Rest) (p : Pair) → fs ≡ [] → IsPair v p → Goes v fs p p
+pub started : {M : Type 0} (v : StoreView M) (fs : List (Rest RefPair)) (p : RefPair) → fs ≡ [] → IsPair v p → Goes v fs p p
 unfolding order_with AreRests
 started v fs p e is = record { pair = is; rests = subst (AreRests v) (sym e) tt; order = ap (λ rs. order_with v rs (pair_order v p)) e }
 
 -- the roots of a pair as they were looked at
-pub record Roots {M : Type 0} (v : StoreView M) (p : Pair) (o : Ordering) (count : ℕ) : Type 0 where
+pub record Roots {M : Type 0} (v : StoreView M) (p : RefPair) (o : Ordering) (count : ℕ) : Type 0 where
   pub order : pair_order v p ≡ ordering_then o (order_all (args (value_of v p.left)) (args (value_of v p.right)))
   pub same : o ≡ Equal → arity (value_of v p.left) ≡ arity (value_of v p.right)
   pub many : count ≡ arity (value_of v p.left)
@@ -324,7 +323,7 @@ ShownBy v r c = (t : Tree) → IsTerm v r t → IsAcyclic (bindings v.now.state)
 pub shown : {M : Type 0} (v : StoreView M) (r : Ref) (c : Cell) → HoldsNoCycle v → IsGiven v r → ShownBy v r c → ShowsCell v (value_of v r) c
 shown v r c a given h = shows_value v (term_of v r) c a (h (term_of v r) (given_term v r given) a)
 
-pub roots : {M : Type 0} (v : StoreView M) (p : Pair) (c d : Cell) (o : Ordering) (count : ℕ) → HoldsNoCycle v → IsPair v p → ShownBy v p.left c → ShownBy v p.right d → Begins v c d o → count ≡ cell_arity c → Roots v p o count
+pub roots : {M : Type 0} (v : StoreView M) (p : RefPair) (c d : Cell) (o : Ordering) (count : ℕ) → HoldsNoCycle v → IsPair v p → ShownBy v p.left c → ShownBy v p.right d → Begins v c d o → count ≡ cell_arity c → Roots v p o count
 roots v p c d o count a is left right begins many =
     let one : ShowsCell v (value_of v p.left) c = shown v p.left c a is.0 left in
     let two : ShowsCell v (value_of v p.right) d = shown v p.right d a is.1 right in
@@ -333,31 +332,31 @@ roots v p c d o count a is left right begins many =
     record { order = both.0; same = both.1; many = many ∙ arity_shown v (value_of v p.left) c one }
 
 -- the roots decide
-pub decided : {M : Type 0} (v : StoreView M) (fs : List Rest) (p whole : Pair) (o : Ordering) (count : ℕ) → Goes v fs p whole → Roots v p o count → is_ne o ≡ true → o ≡ pair_order v whole
+pub decided : {M : Type 0} (v : StoreView M) (fs : List (Rest RefPair)) (p whole : RefPair) (o : Ordering) (count : ℕ) → Goes v fs p whole → Roots v p o count → is_ne o ≡ true → o ≡ pair_order v whole
 decided v fs p whole o count goes at ne =
     sym (ap (order_with v fs) (at.order ∙ then_decided o (order_all (args (value_of v p.left)) (args (value_of v p.right))) ne) ∙ order_with-decided v fs o ne) ∙ goes.order
 
 -- the roots are equal
-pub pushed_equal : {M : Type 0} (v : StoreView M) (fs new : List Rest) (p whole : Pair) (o : Ordering) (count : ℕ) → Goes v fs p whole → Roots v p o count → is_ne o ≡ false → new ≡ with_arguments fs p count → Pushed v fs new p
+pub pushed_equal : {M : Type 0} (v : StoreView M) (fs new : List (Rest RefPair)) (p whole : RefPair) (o : Ordering) (count : ℕ) → Goes v fs p whole → Roots v p o count → is_ne o ≡ false → new ≡ with_all fs p count → Pushed v fs new p
 pushed_equal v fs new p whole o count goes at ne e =
     let equal : o ≡ Equal = equal_from o ne in
     pushed v fs new p count goes.rests goes.pair (at.order ∙ ap (λ q. ordering_then q (order_all (args (value_of v p.left)) (args (value_of v p.right)))) equal) at.many (at.same equal) e
 
-pub goes_on : {M : Type 0} (v : StoreView M) (fs pushed new : List Rest) (p q whole : Pair) → Goes v fs p whole → Pushed v fs pushed p → Takes v pushed new q → Goes v new q whole
+pub goes_on : {M : Type 0} (v : StoreView M) (fs pushed new : List (Rest RefPair)) (p q whole : RefPair) → Goes v fs p whole → Pushed v fs pushed p → Takes v pushed new q → Goes v new q whole
 goes_on v fs pushed new p q whole goes at taken = record { pair = taken.pair; rests = taken.rests; order = sym taken.order ∙ (at.order ∙ goes.order) }
 
-pub ends_equal : {M : Type 0} (v : StoreView M) (fs pushed : List Rest) (p whole : Pair) → Goes v fs p whole → Pushed v fs pushed p → pushed ≡ [] → Equal ≡ pair_order v whole
+pub ends_equal : {M : Type 0} (v : StoreView M) (fs pushed : List (Rest RefPair)) (p whole : RefPair) → Goes v fs p whole → Pushed v fs pushed p → pushed ≡ [] → Equal ≡ pair_order v whole
 unfolding order_with
 ends_equal v fs pushed p whole goes at e = sym (ap (λ rs. order_with v rs Equal) e) ∙ (at.order ∙ goes.order)
 
 -- the order of two Refs is that of their terms' values
-pub order_of_terms : {M : Type 0} (v : StoreView M) (whole : Pair) (t u : Tree) → IsTerm v whole.left t → IsTerm v whole.right u → pair_order v whole ≡ order (value (bindings v.now.state) t) (value (bindings v.now.state) u)
+pub order_of_terms : {M : Type 0} (v : StoreView M) (whole : RefPair) (t u : Tree) → IsTerm v whole.left t → IsTerm v whole.right u → pair_order v whole ≡ order (value (bindings v.now.state) t) (value (bindings v.now.state) u)
 order_of_terms v whole t u left right = ap (λ w. order w (value_of v whole.right)) (value_is v whole.left t left) ∙ ap (order (value (bindings v.now.state) t)) (value_is v whole.right u right)
 
 -- all that the loop knows when it has looked at a pair
-pub looked : {M : Type 0} (v : StoreView M) (fs : List Rest) (p whole : Pair) (c d : Cell) (o : Ordering) (count : ℕ) → HoldsNoCycle v → Goes v fs p whole → ShownBy v p.left c → ShownBy v p.right d → Begins v c d o → count ≡ cell_arity c → Roots v p o count
+pub looked : {M : Type 0} (v : StoreView M) (fs : List (Rest RefPair)) (p whole : RefPair) (c d : Cell) (o : Ordering) (count : ℕ) → HoldsNoCycle v → Goes v fs p whole → ShownBy v p.left c → ShownBy v p.right d → Begins v c d o → count ≡ cell_arity c → Roots v p o count
 looked v fs p whole c d o count a goes left right begins many = roots v p c d o count a goes.pair left right begins many
 
 -- and when it has put what is in the pair on the stack
-pub looked_equal : {M : Type 0} (v : StoreView M) (fs new : List Rest) (p whole : Pair) (c d : Cell) (o : Ordering) (count : ℕ) → HoldsNoCycle v → Goes v fs p whole → ShownBy v p.left c → ShownBy v p.right d → Begins v c d o → count ≡ cell_arity c → is_ne o ≡ false → new ≡ with_arguments fs p count → Pushed v fs new p
+pub looked_equal : {M : Type 0} (v : StoreView M) (fs new : List (Rest RefPair)) (p whole : RefPair) (c d : Cell) (o : Ordering) (count : ℕ) → HoldsNoCycle v → Goes v fs p whole → ShownBy v p.left c → ShownBy v p.right d → Begins v c d o → count ≡ cell_arity c → is_ne o ≡ false → new ≡ with_all fs p count → Pushed v fs new p
 looked_equal v fs new p whole c d o count a goes left right begins many ne e = pushed_equal v fs new p whole o count goes (looked v fs p whole c d o count a goes left right begins many) ne e

@@ -1,14 +1,14 @@
 -- A listed value once new variables were made, and its copy.
 use Rattle.std.proofs.Common.{◌≡◌, ℕ, zero, suc, List, [], ◌∷◌, ◌++◌, length, None, Ok, refl, ap, sym, ◌∙◌, subst}
 use Rattle.std.proofs.lemmas.List.{map-append}
-use Rattle.pi_types.specs.Tree.{Tree, no_trees, tree, subterms}
-use Rattle.pi_types.specs.Variables.{firsts}
-use Rattle.pi_types.specs.Value.{IsAcyclic, value}
-use Rattle.pi_types.specs.Copy.{renamed}
-use Rattle.pi_types.specs.State.{State, free, binding, bindings, with_new}
-use Rattle.pi_types.specs.Store.{StoreView, IsTerm, Keeps, Stays}
-use Rattle.pi_types.specs.declared.store.Ref.{Ref}
-use Rattle.pi_types.proofs.BindingLemmas.{new_variable_stays_acyclic, new_variable_changes_no_value}
+use Rattle.pi_terms.specs.Tree.{Tree, no_trees, tree, subterms}
+use Rattle.pi_terms.specs.Variables.{firsts}
+use Rattle.pi_states.specs.Value.{IsAcyclic, value}
+use Rattle.pi_terms.specs.Copy.{renamed}
+use Rattle.pi_states.specs.State.{State, free, binding, bindings, with_new}
+use Rattle.pi_states.specs.Store.{StoreView, IsTerm, Keeps, Stays}
+use Rattle.pi_states.specs.declared.store.Ref.{Ref}
+use Rattle.pi_states.proofs.BindingLemmas.{new_variable_stays_acyclic, new_variable_changes_no_value}
 use Rattle.pi_unify.specs.Terms.{HoldsNoCycle, term_of, value_of}
 use Rattle.pi_unify.specs.Copying.{with_variables, Makes, renumbered, AreGiven, values_of, ListsNodes, ShowsCopy, forest, Nested, root_variables, AreListed}
 use Rattle.pi_unify.specs.declared.copying.Nodes.{Nodes}

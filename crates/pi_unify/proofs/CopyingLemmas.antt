@@ -6,21 +6,20 @@ use Rattle.std.proofs.lemmas.Bool.{cases_Bool, eqb-true}
 use Rattle.std.proofs.lemmas.List.{reverse-append, reverse-reverse, length-reverse}
 use Rattle.std.proofs.lemmas.List.Elements.{Contains-append_right}
 use Rattle.std.proofs.lemmas.Map.Views.{Contains-from_any}
-use Rattle.pi_types.specs.Tree.{Tree, var, int, atom, comp, Trees, no_trees, tree, tree_count, args, arity, drop_trees}
-use Rattle.pi_types.specs.TermCells.{take_trees}
-use Rattle.pi_types.specs.Variables.{firsts, IsGround}
-use Rattle.pi_types.specs.Substitution.{instance, instances}
-use Rattle.pi_types.specs.Value.{IsAcyclic, value}
-use Rattle.pi_types.specs.Copy.{renamed}
-use Rattle.pi_types.specs.State.{State, next, bindings}
-use Rattle.pi_types.specs.Store.{StoreView, IsTerm, AreTerms, Keeps, Stays}
-use Rattle.pi_types.specs.declared.store.Ref.{Ref}
-use Rattle.pi_types.proofs.VariableLemmas.{Has, ground_stays}
-use Rattle.pi_types.specs.Numbers.{noted}
-use Rattle.pi_types.proofs.NumberLemmas.{noted-firsts, contains_from}
-use Rattle.pi_types.proofs.CopyLemmas.{firsts-known}
-use Rattle.pi_types.proofs.ValueLemmas.{ground_is_its_own_value}
-use Rattle.pi_types.proofs.RootLemmas.{tree_count-instances}
+use Rattle.pi_terms.specs.Tree.{Tree, var, int, atom, comp, Trees, no_trees, tree, tree_count, args, arity, drop_trees}
+use Rattle.pi_terms.specs.TermCells.{take_trees}
+use Rattle.pi_terms.specs.Variables.{firsts, IsGround}
+use Rattle.pi_terms.specs.Substitution.{instance, instances}
+use Rattle.pi_states.specs.Value.{IsAcyclic, value}
+use Rattle.pi_terms.specs.Copy.{renamed}
+use Rattle.pi_states.specs.State.{State, next, bindings}
+use Rattle.pi_states.specs.Store.{StoreView, IsTerm, AreTerms, Keeps, Stays}
+use Rattle.pi_states.specs.declared.store.Ref.{Ref}
+use Rattle.pi_terms.proofs.VariableLemmas.{Has, ground_stays, tree_count-instances}
+use Rattle.pi_terms.specs.Numbers.{noted}
+use Rattle.pi_terms.proofs.NumberLemmas.{noted-firsts, contains_from}
+use Rattle.pi_terms.proofs.CopyLemmas.{firsts-known}
+use Rattle.pi_states.proofs.ValueLemmas.{ground_is_its_own_value}
 use Rattle.pi_unify.specs.Terms.{IsGiven, HoldsNoCycle, term_of, value_of}
 use Rattle.pi_unify.specs.Copying.{renumbered, AreBuilt, AreGiven, values_of, forest, Nested, root_variables, IsReadyFor, AreListed, MayCopy, PutsCopy}
 use Rattle.pi_unify.proofs.TermValues.{given_term, term_given, term_is}

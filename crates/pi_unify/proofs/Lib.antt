@@ -1,3 +1,4 @@
+pub mod RestLemmas
 pub mod RefLemmas
 pub mod AheadLemmas
 pub mod BindLemmas
@@ -16,3 +17,4 @@ pub mod PlaceLemmas
 pub mod ListingLemmas
 pub mod CopyingLemmas
 pub mod CopyLemmas
+pub mod DomainsLemmas

@@ -1,17 +1,17 @@
 -- The loop of a match: where the match of a pair stands in that of the whole.
 use Rattle.std.proofs.Common.{◌≡◌, Bool, true, false, List, [], Option, Some, None, ap, sym, ◌∙◌, subst}
 use Rattle.std.specs.Option.{option_map}
-use Rattle.pi_types.specs.Tree.{Tree}
-use Rattle.pi_types.specs.Places.{Places}
-use Rattle.pi_types.specs.PatternTree.{PatternTree}
-use Rattle.pi_types.specs.Value.{Bindings, IsAcyclic, value}
-use Rattle.pi_types.specs.State.{bindings}
-use Rattle.pi_types.specs.Store.{StoreView, IsTerm}
-use Rattle.pi_types.specs.Match.{matched}
-use Rattle.pi_types.specs.HeadMatch.{matched_in, slot_values}
-use Rattle.pi_types.specs.CoreTree.{pattern_tree}
-use Rattle.pi_types.specs.declared.store.Ref.{Ref}
-use Rattle.pi_types.proofs.HeadMatchLemmas.{matches-by_value}
+use Rattle.pi_terms.specs.Tree.{Tree}
+use Rattle.pi_terms.specs.Places.{Places}
+use Rattle.pi_terms.specs.PatternTree.{PatternTree}
+use Rattle.pi_states.specs.Value.{Bindings, IsAcyclic, value}
+use Rattle.pi_states.specs.State.{bindings}
+use Rattle.pi_states.specs.Store.{StoreView, IsTerm}
+use Rattle.pi_states.specs.Match.{matched}
+use Rattle.pi_states.specs.HeadMatch.{matched_in, slot_values}
+use Rattle.pi_core.specs.CoreTree.{pattern_tree}
+use Rattle.pi_states.specs.declared.store.Ref.{Ref}
+use Rattle.pi_states.proofs.HeadMatchLemmas.{matches-by_value}
 use Rattle.pi_unify.specs.Terms.{IsGiven, HoldsNoCycle, term_of}
 use Rattle.pi_unify.specs.Matching.{root_match, FitsRoot, AreLeft, match_with, pending_match, GoesBehind, EndsBehind, slot_terms, HoldAllGiven, TellsMatch}
 use Rattle.pi_unify.specs.declared.matching.Pending.{Pending}

@@ -4,18 +4,18 @@ use Rattle.std.specs.Prelude.{MatchOption, IfOk}
 use Rattle.std.specs.Option.{option_and_then}
 use Rattle.std.specs.Ordering.{is_eq}
 use Rattle.std.proofs.lemmas.Bool.{cases_Bool}
-use Rattle.pi_types.specs.Tree.{Tree, var, int, atom, comp, Trees, no_trees, tree, tree_count, args, arity, arg_at, drop_trees}
-use Rattle.pi_types.specs.Places.{Places}
-use Rattle.pi_types.specs.Order.{name_order}
-use Rattle.pi_types.specs.PatternTree.{PatternTree, slot, exact_int, exact_atom, compound, named, PatternTrees, no_patterns, pattern}
-use Rattle.pi_types.specs.Value.{Bindings, IsAcyclic}
-use Rattle.pi_types.specs.State.{bindings, followed}
-use Rattle.pi_types.specs.Store.{StoreView, IsTerm}
-use Rattle.pi_types.specs.HeadMatch.{compound_in, matched_in, matched_all_in}
-use Rattle.pi_types.specs.CoreTree.{pattern_tree, pattern_trees}
-use Rattle.pi_types.specs.declared.store.Ref.{Ref}
-use Rattle.pi_types.specs.declared.core_program.Pattern.{Pattern, Slot, Int, Atom}
-use Rattle.pi_types.proofs.TermLemmas.{TreeAt, tree_at-below}
+use Rattle.pi_terms.specs.Tree.{Tree, var, int, atom, comp, Trees, no_trees, tree, tree_count, args, arity, arg_at, drop_trees}
+use Rattle.pi_terms.specs.Places.{Places}
+use Rattle.pi_terms.specs.Order.{name_order}
+use Rattle.pi_terms.specs.PatternTree.{PatternTree, slot, exact_int, exact_atom, compound, named, PatternTrees, no_patterns, pattern}
+use Rattle.pi_states.specs.Value.{Bindings, IsAcyclic}
+use Rattle.pi_states.specs.State.{bindings, followed}
+use Rattle.pi_states.specs.Store.{StoreView, IsTerm}
+use Rattle.pi_states.specs.HeadMatch.{compound_in, matched_in, matched_all_in}
+use Rattle.pi_core.specs.CoreTree.{pattern_tree, pattern_trees}
+use Rattle.pi_states.specs.declared.store.Ref.{Ref}
+use Rattle.pi_core.specs.declared.core_program.Pattern.{Pattern, Slot, Int, Atom}
+use Rattle.pi_terms.proofs.TermLemmas.{TreeAt, tree_at-below}
 use Rattle.pi_unify.specs.Terms.{IsGiven, HoldsNoCycle, term_of}
 use Rattle.pi_unify.specs.Matching.{pattern_count, is_compound_of, root_match, FitsRoot, IsWithin, AreWithin, IsLeft, AreLeft, left_match, match_with, nodes, nodes_of_all, nodes_left, pending_match, HasNodes, LeavesNodes, HasFewer, LeavesFewer, TakesNext, TakesPending, GoesBehind, ComesBehind, Pushes}
 use Rattle.pi_unify.specs.declared.matching.Pending.{Pending}

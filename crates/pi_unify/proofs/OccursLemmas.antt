@@ -1,30 +1,32 @@
 -- Whether a variable occurs in the value of one of several terms.
-use Rattle.std.proofs.Common.{◌≡◌, ◌≢◌, ◌⊎◌, ℕ, suc, ◌+◌, ◌<◌, ◌≤◌, ◌==◌, Bool, true, false, ◌||◌, List, [], ◌∷◌, ◌++◌, refl, ap, sym, ◌∙◌, subst, inl, inr, arith, eq-eqb}
+use Rattle.std.proofs.Common.{◌≡◌, ◌≢◌, ℕ, suc, ◌+◌, ◌<◌, ◌==◌, Bool, true, false, ◌||◌, List, [], ◌∷◌, ◌++◌, refl, ap, sym, ◌∙◌, subst, inl, inr, arith, eq-eqb}
 use Rattle.std.specs.List.{list_any}
 use Rattle.std.proofs.lemmas.Bool.Decides.{nat_tests}
 use Rattle.std.proofs.lemmas.List.Folds.{list_any-append}
-use Rattle.pi_types.specs.Tree.{Tree, var, int, atom, comp, Trees, no_trees, tree, cells, cells_all, args, arity, tree_count}
-use Rattle.pi_types.specs.Variables.{occurrences, occurrences_all, IsGround, firsts}
-use Rattle.pi_types.specs.Substitution.{instance, instances}
-use Rattle.pi_types.specs.Value.{Bindings, value}
-use Rattle.pi_types.specs.State.{bindings, IsState}
-use Rattle.pi_types.specs.Store.{StoreView, ShowsCell}
-use Rattle.pi_types.specs.Unify.{does_occur}
-use Rattle.pi_types.specs.declared.store.Ref.{Ref}
-use Rattle.pi_types.specs.declared.store.Cell.{Cell}
-use Rattle.pi_types.proofs.ValueLemmas.{value_goes_by_variables, unbound_is_its_own_value, ground_is_its_own_value}
-use Rattle.pi_types.proofs.FollowLemmas.{followed_value}
-use Rattle.pi_types.proofs.UnifyCells.{some_cells}
+use Rattle.pi_terms.specs.Tree.{Tree, var, int, atom, comp, Trees, no_trees, tree, cells, cells_all, args, arity, tree_count}
+use Rattle.pi_terms.specs.Variables.{occurrences, occurrences_all, IsGround, firsts}
+use Rattle.pi_terms.specs.Substitution.{instance, instances}
+use Rattle.pi_states.specs.Value.{Bindings, value}
+use Rattle.pi_states.specs.State.{bindings, IsState}
+use Rattle.pi_states.specs.Store.{StoreView, ShowsCell}
+use Rattle.pi_states.specs.Unify.{does_occur}
+use Rattle.pi_states.specs.declared.store.Ref.{Ref}
+use Rattle.pi_states.specs.declared.store.Cell.{Cell}
+use Rattle.pi_states.proofs.ValueLemmas.{value_goes_by_variables, unbound_is_its_own_value, ground_is_its_own_value}
+use Rattle.pi_states.proofs.FollowLemmas.{followed_value}
+use Rattle.pi_states.proofs.UnifyCells.{some_cells}
 use Rattle.pi_unify.specs.Refs.{IsRef, term_of, root_of}
 use Rattle.pi_unify.specs.Ahead.{in_list, args_on, IsArgs, AreArgs, term_and, some_hold, cells_of_values}
 use Rattle.pi_unify.specs.Answers.{TakesArg, LooksFor}
-use Rattle.pi_unify.specs.declared.occurs.ArgsAhead.{ArgsAhead}
+use Rattle.pi_unify.specs.declared.ahead.Rest.{Rest}
+use Rattle.pi_unify.specs.Rests.{with_all}
 use Rattle.pi_unify.specs.declared.occurs.Look.{Look}
 use Rattle.pi_unify.proofs.RefLemmas.{ref_root}
+use Rattle.pi_unify.proofs.RestLemmas.{IsPut, put}
 use Rattle.pi_unify.proofs.AheadLemmas.{args_on-push, are_args-push}
 
 -- what is taken off a stack that has the same to say as the terms that were asked for, and fewer cells
-pub took_looks : {M : Type 0} (v : StoreView M) (n : ℕ) (ts : List Tree) (fs gs : List ArgsAhead) (look : Look) → TakesArg v fs look gs → some_hold (bindings v.now.state) n ts ≡ some_hold (bindings v.now.state) n (args_on v fs []) → cells_of_values (bindings v.now.state) (args_on v fs []) < cells_of_values (bindings v.now.state) ts → LooksFor v n ts look gs
+pub took_looks : {M : Type 0} (v : StoreView M) (n : ℕ) (ts : List Tree) (fs gs : List (Rest Ref)) (look : Look) → TakesArg v fs look gs → some_hold (bindings v.now.state) n ts ≡ some_hold (bindings v.now.state) n (args_on v fs []) → cells_of_values (bindings v.now.state) (args_on v fs []) < cells_of_values (bindings v.now.state) ts → LooksFor v n ts look gs
 took_looks v n ts fs gs Look.Found takes same less = absurd takes
 took_looks v n ts fs gs Look.Done takes same less = same ∙ ap (some_hold (bindings v.now.state) n) takes
 took_looks v n ts fs gs (Look.Next r) takes same less =
@@ -122,29 +124,26 @@ root_by_args v r n ts is other =
       omega arith,
     )
 
-abbrev first_args : Ref → ℕ → ArgsAhead
-first_args r k = record { of = r; next = 0; count = k }
-
--- a compound is put on the stack where it has arguments
-abbrev pub ArgsPut : Ref → ℕ → List ArgsAhead → List ArgsAhead → Type 0
-ArgsPut r k fs gs = ((0 < k) × (gs ≡ fs ++ first_args r k ∷ [])) ⊎ ((k ≤ 0) × (gs ≡ fs))
-
 no_args : (ts : Trees) → tree_count ts ≡ 0 → in_list ts ≡ []
 unfolding in_list tree_count
 no_args no_trees is = refl
 no_args (tree t ts) is = absurd (omega arith)
 
-pub args_put : {M : Type 0} (v : StoreView M) (r : Ref) (k : ℕ) (fs gs : List ArgsAhead) → IsRef v r → arity (root_of v r) ≡ k → AreArgs v fs → ArgsPut r k fs gs → AreArgs v gs × (args_on v gs [] ≡ in_list (args (root_of v r)) ++ args_on v fs [])
-args_put v r k fs gs ref size all (inl put) =
-    let this : IsArgs v (first_args r k) = record { of = ref; some = put.0; count = size } in (
-      subst (AreArgs v) (sym put.1) (are_args-push v fs (first_args r k) all this),
-      ap (λ (hs : List ArgsAhead). args_on v hs []) put.1 ∙ args_on-push v fs (first_args r k) [],
-    )
-args_put v r k fs gs ref size all (inr none) =
-    let empty : arity (root_of v r) ≡ 0 = let least : k ≤ 0 = none.0 in omega arith in (
+args_put_by : {M : Type 0} (v : StoreView M) (r : Ref) (k : ℕ) (fs gs : List (Rest Ref)) → IsRef v r → arity (root_of v r) ≡ k → AreArgs v fs → IsPut r k fs gs → AreArgs v gs × (args_on v gs [] ≡ in_list (args (root_of v r)) ++ args_on v fs [])
+args_put_by v r k fs gs ref size all (inl none) =
+    let empty : arity (root_of v r) ≡ 0 = size ∙ none.0 in (
       subst (AreArgs v) (sym none.1) all,
-      ap (λ (hs : List ArgsAhead). args_on v hs []) none.1 ∙ ap (λ (ts : List Tree). ts ++ args_on v fs []) (sym (no_args (args (root_of v r)) empty)),
+      ap (λ (hs : List (Rest Ref)). args_on v hs []) none.1 ∙ ap (λ (ts : List Tree). ts ++ args_on v fs []) (sym (no_args (args (root_of v r)) empty)),
     )
+args_put_by v r k fs gs ref size all (inr some) =
+    let f : Rest Ref = record { of = r; next = 0; count = k } in
+    let this : IsArgs v f = record { of = ref; some = some.0; count = size } in (
+      subst (AreArgs v) (sym some.1) (are_args-push v fs f all this),
+      ap (λ (hs : List (Rest Ref)). args_on v hs []) some.1 ∙ args_on-push v fs f [],
+    )
+
+pub args_put : {M : Type 0} (v : StoreView M) (r : Ref) (k : ℕ) (fs gs : List (Rest Ref)) → IsRef v r → arity (root_of v r) ≡ k → AreArgs v fs → gs ≡ with_all fs r k → AreArgs v gs × (args_on v gs [] ≡ in_list (args (root_of v r)) ++ args_on v fs [])
+args_put v r k fs gs ref size all is = args_put_by v r k fs gs ref size all (put fs gs r k is)
 
 -- what an integer and an atom leave
 pub no_args_shown : {M : Type 0} (v : StoreView M) (t : Tree) (cell : Cell) → ((n : ℕ) → cell ≡ Cell.Var n → ⊥) → ((f k : ℕ) → cell ≡ Cell.Comp f k → ⊥) → ShowsCell v t cell → args t ≡ no_trees
@@ -155,14 +154,14 @@ no_args_shown v t (Cell.Comp f k) other none shows = absurd (none f k refl)
 
 -- ---- the steps of a look
 
-abbrev asked : {M : Type 0} → StoreView M → Ref → List ArgsAhead → List Tree
+abbrev asked : {M : Type 0} → StoreView M → Ref → List (Rest Ref) → List Tree
 asked v r fs = term_of v r ∷ args_on v fs []
 
-pub looked_past : {M : Type 0} (v : StoreView M) (n : ℕ) (r : Ref) (fs gs : List ArgsAhead) (look : Look) → does_occur n (value (bindings v.now.state) (term_of v r)) ≡ false → TakesArg v fs look gs → LooksFor v n (term_and v r fs) look gs
+pub looked_past : {M : Type 0} (v : StoreView M) (n : ℕ) (r : Ref) (fs gs : List (Rest Ref)) (look : Look) → does_occur n (value (bindings v.now.state) (term_of v r)) ≡ false → TakesArg v fs look gs → LooksFor v n (term_and v r fs) look gs
 looked_past v n r fs gs look none takes =
     took_looks v n (asked v r fs) fs gs look takes (passed_over (bindings v.now.state) n (term_of v r) (args_on v fs []) none) (fewer_cells (bindings v.now.state) (term_of v r) (args_on v fs []))
 
-pub looked_inside : {M : Type 0} (v : StoreView M) (n : ℕ) (r : Ref) (fs hs gs : List ArgsAhead) (look : Look) → IsState v.now.state → ((m : ℕ) → root_of v r ≡ var m → ⊥) → args_on v hs [] ≡ in_list (args (root_of v r)) ++ args_on v fs [] → TakesArg v hs look gs → LooksFor v n (term_and v r fs) look gs
+pub looked_inside : {M : Type 0} (v : StoreView M) (n : ℕ) (r : Ref) (fs hs gs : List (Rest Ref)) (look : Look) → IsState v.now.state → ((m : ℕ) → root_of v r ≡ var m → ⊥) → args_on v hs [] ≡ in_list (args (root_of v r)) ++ args_on v fs [] → TakesArg v hs look gs → LooksFor v n (term_and v r fs) look gs
 looked_inside v n r fs hs gs look is other put takes =
     let b : Bindings = bindings v.now.state in
     let x : (some_hold b n (asked v r fs) ≡ some_hold b n (in_list (args (root_of v r)) ++ args_on v fs [])) × (cells_of_values b (in_list (args (root_of v r)) ++ args_on v fs []) < cells_of_values b (asked v r fs)) = root_by_args v r n (args_on v fs []) is other in
@@ -181,15 +180,15 @@ pub one_held : (b : Bindings) (n : ℕ) (t : Tree) → some_hold b n (t ∷ []) 
 one_held b n t = elim (does_occur n (value b t)) as (λ h. (h || false) ≡ h) [ true ↦ refl | false ↦ refl ]
 
 -- the variable occurs in the term and in what the stack leaves exactly where it occurs in the first one
-pub record Looking {M : Type 0} (v : StoreView M) (n : ℕ) (from at : Ref) (fs : List ArgsAhead) : Type 0 where
+pub record Looking {M : Type 0} (v : StoreView M) (n : ℕ) (from at : Ref) (fs : List (Rest Ref)) : Type 0 where
   pub term : IsRef v at
   pub args : AreArgs v fs
   pub same : some_hold (bindings v.now.state) n (term_and v at fs) ≡ does_occur n (value (bindings v.now.state) (term_of v from))
 
-pub looking_first : {M : Type 0} (v : StoreView M) (n : ℕ) (r : Ref) (fs : List ArgsAhead) → [] ≡ fs → IsRef v r → Looking v n r r fs
+pub looking_first : {M : Type 0} (v : StoreView M) (n : ℕ) (r : Ref) (fs : List (Rest Ref)) → [] ≡ fs → IsRef v r → Looking v n r r fs
 unfolding AreArgs args_on
 looking_first v n r fs none ref = record {
   term = ref;
-  args = subst (λ (gs : List ArgsAhead). AreArgs v gs) none tt;
-  same = ap (λ (gs : List ArgsAhead). some_hold (bindings v.now.state) n (term_and v r gs)) (sym none) ∙ one_held (bindings v.now.state) n (term_of v r);
+  args = subst (λ (gs : List (Rest Ref)). AreArgs v gs) none tt;
+  same = ap (λ (gs : List (Rest Ref)). some_hold (bindings v.now.state) n (term_and v r gs)) (sym none) ∙ one_held (bindings v.now.state) n (term_of v r);
 }

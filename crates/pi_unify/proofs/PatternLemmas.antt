@@ -3,10 +3,10 @@ use Rattle.std.proofs.Common.{◌≡◌, ℕ, ℤ, suc, length, List, [], ◌∷
 use Rattle.std.specs.declared.vec.Vec.{Vec}
 use Rattle.std.specs.declared.boxed.Box.{Box}
 use Rattle.std.specs.declared.alloc.Global.{Global}
-use Rattle.pi_types.specs.PatternTree.{slot, exact_int, exact_atom, compound, named, pattern}
-use Rattle.pi_types.specs.CoreTree.{pattern_tree, pattern_row, pattern_trees}
+use Rattle.pi_terms.specs.PatternTree.{slot, exact_int, exact_atom, compound, named, pattern}
+use Rattle.pi_core.specs.CoreTree.{pattern_tree, pattern_row, pattern_trees}
 use Rattle.pi_unify.specs.Matching.{pattern_count}
-use Rattle.pi_types.specs.declared.core_program.Pattern.{Pattern, Slot, Int, Atom, Comp, Named, Comp', Row_of-Pattern, end_of-Pattern, more_of-Pattern, items-the_row-Pattern, items_hidden-the_row-Pattern-0}
+use Rattle.pi_core.specs.declared.core_program.Pattern.{Pattern, Slot, Int, Atom, Comp, Named, Comp', Row_of-Pattern, end_of-Pattern, more_of-Pattern, items-the_row-Pattern, items_hidden-the_row-Pattern-0}
 
 row_is : (n : _) (row : Row_of-Pattern n) → pattern_row row ≡ pattern_trees (items-the_row-Pattern n row)
 unfolding pattern_tree pattern_trees

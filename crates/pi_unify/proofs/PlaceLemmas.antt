@@ -1,15 +1,15 @@
 -- A node that is put by its kind, and the whole term.
 use Rattle.std.proofs.Common.{◌≡◌, ℕ, ℤ, zero, suc, ◌+◌, ◌≤◌, List, [], ◌∷◌, length, reverse, Result, Ok, Err, ap, sym, ◌∙◌, subst, arith, length-append}
 use Rattle.std.specs.Prelude.{OnErr}
-use Rattle.pi_types.specs.Tree.{Tree, var, int, atom, comp, Trees, tree_count, args, arity, drop_trees, ShowsHead}
-use Rattle.pi_types.specs.TermCells.{take_trees}
-use Rattle.pi_types.specs.Variables.{variables}
-use Rattle.pi_types.specs.Copy.{place_in, renamed, copy, new_variables}
-use Rattle.pi_types.specs.State.{State, free, next, with_new}
-use Rattle.pi_types.specs.Store.{StoreView, IsTerm, Keeps, Changes, Gives, Stays}
-use Rattle.pi_types.specs.declared.store.Ref.{Ref}
-use Rattle.pi_types.specs.declared.term.TermHead.{TermHead}
-use Rattle.pi_types.proofs.VariableLemmas.{only_its_variables_count}
+use Rattle.pi_terms.specs.Tree.{Tree, var, int, atom, comp, Trees, tree_count, args, arity, drop_trees, ShowsHead}
+use Rattle.pi_terms.specs.TermCells.{take_trees}
+use Rattle.pi_terms.specs.Variables.{variables}
+use Rattle.pi_terms.specs.Copy.{place_in, renamed, copy, new_variables}
+use Rattle.pi_states.specs.State.{State, free, next, with_new}
+use Rattle.pi_states.specs.Store.{StoreView, IsTerm, Keeps, Changes, Gives, Stays}
+use Rattle.pi_states.specs.declared.store.Ref.{Ref}
+use Rattle.pi_terms.specs.declared.term.TermHead.{TermHead}
+use Rattle.pi_terms.proofs.VariableLemmas.{only_its_variables_count}
 use Rattle.pi_unify.specs.Copying.{with_variables, Makes, renumbered, AreBuilt, PutsNode}
 use Rattle.pi_unify.proofs.KeepsLemmas.{terms_kept, stays_then}
 

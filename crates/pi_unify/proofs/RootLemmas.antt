@@ -4,13 +4,13 @@ use Rattle.std.specs.Prelude.{ℤ, if◌then◌else◌}
 use Rattle.std.specs.Ordering.{is_eq, int_cmp}
 use Rattle.std.proofs.lemmas.Bool.{cases_Bool, eqb-true}
 use Rattle.std.proofs.lemmas.Bool.Decides.{nat_tests}
-use Rattle.pi_types.specs.Tree.{Tree, var, int, atom, comp, Trees, no_trees, tree, args, arity, tree_count}
-use Rattle.pi_types.specs.Order.{name_order, order}
-use Rattle.pi_types.specs.State.{State}
-use Rattle.pi_types.specs.Store.{StoreView, ShowsCell, IsName}
-use Rattle.pi_types.specs.Unify.{in_pairs, Outcome, clash, changed, parts, assigned, joined, outcome}
-use Rattle.pi_types.specs.declared.store.Cell.{Cell}
-use Rattle.pi_types.proofs.MatchLemmas.{same_name, name_itself, same_from_identical, identical_from_same}
+use Rattle.pi_terms.specs.Tree.{Tree, var, int, atom, comp, Trees, no_trees, tree, args, arity, tree_count}
+use Rattle.pi_terms.specs.Order.{name_order, order}
+use Rattle.pi_states.specs.State.{State}
+use Rattle.pi_states.specs.Store.{StoreView, ShowsCell, IsName}
+use Rattle.pi_states.specs.Unify.{in_pairs, Outcome, clash, changed, parts, assigned, joined, outcome}
+use Rattle.pi_states.specs.declared.store.Cell.{Cell}
+use Rattle.pi_states.proofs.MatchLemmas.{same_name, name_itself, same_from_identical, identical_from_same}
 use Rattle.pi_unify.specs.Refs.{IsNoVariable}
 use Rattle.pi_unify.specs.Answers.{Makes, Meets, Compares, args_of_cell}
 use Rattle.pi_unify.specs.declared.roots.Roots.{Roots}

@@ -4,16 +4,16 @@ use Rattle.std.specs.Prelude.{slice_get}
 use Rattle.std.specs.Ordering.{is_eq, int_eq}
 use Rattle.std.specs.declared.cmp.Ordering.{Ordering}
 use Rattle.std.proofs.lemmas.Bool.{cases_Bool, ltb-false}
-use Rattle.pi_types.specs.Tree.{Tree, int, atom}
-use Rattle.pi_types.specs.Places.{Places, held}
-use Rattle.pi_types.specs.Order.{order, name_order, identical}
-use Rattle.pi_types.specs.Value.{Bindings, value}
-use Rattle.pi_types.specs.State.{bindings}
-use Rattle.pi_types.specs.Store.{StoreView, IsTerm, IsName, ShowsCell}
-use Rattle.pi_types.specs.HeadMatch.{taken_in, filled_in}
-use Rattle.pi_types.specs.declared.store.Ref.{Ref}
-use Rattle.pi_types.specs.declared.store.Cell.{Cell}
-use Rattle.pi_types.proofs.MatchLemmas.{same_from_identical, identical_from_same}
+use Rattle.pi_terms.specs.Tree.{Tree, int, atom}
+use Rattle.pi_terms.specs.Places.{Places, held}
+use Rattle.pi_terms.specs.Order.{order, name_order, identical}
+use Rattle.pi_states.specs.Value.{Bindings, value}
+use Rattle.pi_states.specs.State.{bindings}
+use Rattle.pi_states.specs.Store.{StoreView, IsTerm, IsName, ShowsCell}
+use Rattle.pi_states.specs.HeadMatch.{taken_in, filled_in}
+use Rattle.pi_states.specs.declared.store.Ref.{Ref}
+use Rattle.pi_states.specs.declared.store.Cell.{Cell}
+use Rattle.pi_states.proofs.MatchLemmas.{same_from_identical, identical_from_same}
 use Rattle.pi_unify.specs.Terms.{IsGiven, term_of}
 use Rattle.pi_unify.specs.Matching.{slot_term, slot_terms, HoldsGiven, HoldAllGiven, FillsEmpty, TellsMatch, is_int_in}
 use Rattle.pi_unify.proofs.TermValues.{given_term}

@@ -1,16 +1,17 @@
 -- What a store shows of a term is what its value is at the root; an argument's value is the value's argument.
 use Rattle.std.proofs.Common.{◌≡◌, ℕ, suc, ◌<◌, true, List, [], Option, Some, None, refl, ap, sym, ◌∙◌, arith}
 use Rattle.std.specs.Option.{is_some, unwrap_or}
-use Rattle.pi_types.specs.Tree.{Tree, var, int, atom, comp, Trees, tree, tree_count, tree_at, args, arity, arg_at, drop_trees}
-use Rattle.pi_types.specs.Value.{Bindings, IsAcyclic, value}
-use Rattle.pi_types.specs.State.{bindings, followed}
-use Rattle.pi_types.specs.Store.{StoreView, IsTerm, IsName, ShowsCell}
-use Rattle.pi_types.specs.declared.store.Ref.{Ref}
-use Rattle.pi_types.specs.declared.store.Cell.{Cell}
-use Rattle.pi_types.proofs.ValueLemmas.{value_goes_by_variables, unbound_is_its_own_value}
-use Rattle.pi_types.proofs.FollowLemmas.{followed_unbound}
-use Rattle.pi_types.proofs.RootLemmas.{with_values, value_int, value_atom, value_comp, value_at_root, tree_count-instances, tree_at-instances}
-use Rattle.pi_types.proofs.TermLemmas.{TreeAt, tree_at-below}
+use Rattle.pi_terms.specs.Tree.{Tree, var, int, atom, comp, Trees, tree, tree_count, tree_at, args, arity, arg_at, drop_trees}
+use Rattle.pi_states.specs.Value.{Bindings, IsAcyclic, value}
+use Rattle.pi_states.specs.State.{bindings, followed}
+use Rattle.pi_states.specs.Store.{StoreView, IsTerm, IsName, ShowsCell}
+use Rattle.pi_states.specs.declared.store.Ref.{Ref}
+use Rattle.pi_states.specs.declared.store.Cell.{Cell}
+use Rattle.pi_states.proofs.ValueLemmas.{value_goes_by_variables, unbound_is_its_own_value}
+use Rattle.pi_states.proofs.FollowLemmas.{followed_unbound}
+use Rattle.pi_states.proofs.RootLemmas.{with_values, value_int, value_atom, value_comp, value_at_root}
+use Rattle.pi_terms.proofs.VariableLemmas.{tree_count-instances, tree_at-instances}
+use Rattle.pi_terms.proofs.TermLemmas.{TreeAt, tree_at-below}
 use Rattle.pi_unify.specs.Terms.{IsGiven, HoldsNoCycle, term_of, value_of}
 
 -- ---- Refs that were given

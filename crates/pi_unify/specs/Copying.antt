@@ -1,20 +1,19 @@
 -- New variables of a state, and terms that are put into a store from their last node to their first.
-use Rattle.std.specs.Prelude.{◌≡◌, ℕ, zero, suc, ◌+◌, ◌-◌, ◌<◌, ◌≤◌, nat_lt, List, [], ◌∷◌, ◌++◌, length, map, reverse, cond, Contains, Option, Some, None, Result, Ok, Err}
-use Rattle.pi_types.specs.Tree.{Tree, var, int, atom, comp, Trees, no_trees, tree, tree_count, args, arity, drop_trees, cells, subterms, subterms_all}
-use Rattle.pi_types.specs.TermCells.{take_trees}
-use Rattle.pi_types.specs.Variables.{firsts, variables}
-use Rattle.pi_types.specs.Copy.{place_in, renamed, copy, new_variables}
-use Rattle.pi_types.specs.Numbers.{noted}
-use Rattle.pi_types.specs.State.{State, with_new, next}
-use Rattle.pi_types.specs.Store.{StoreView, IsTerm, AreTerms, Changes, Gives, Stays}
-use Rattle.pi_types.specs.Tree.{most_cells}
-use Rattle.pi_types.specs.declared.store.Ref.{Ref}
-use Rattle.pi_types.specs.declared.store.Cell.{Cell}
-use Rattle.pi_types.specs.declared.store.ReadStop.{ReadStop}
-use Rattle.pi_types.specs.declared.term.TermHead.{TermHead}
+use Rattle.std.specs.Prelude.{◌≡◌, ℕ, zero, suc, ◌+◌, ◌-◌, ◌<◌, ◌≤◌, List, [], ◌∷◌, ◌++◌, length, map, reverse, Contains, Option, Some, None, Result, Ok, Err}
+use Rattle.pi_terms.specs.Tree.{Tree, var, int, atom, comp, Trees, no_trees, tree, tree_count, args, arity, drop_trees, cells, subterms, subterms_all, most_cells}
+use Rattle.pi_terms.specs.TermCells.{take_trees}
+use Rattle.pi_terms.specs.Variables.{firsts, variables}
+use Rattle.pi_terms.specs.Copy.{place_in, renamed, copy, new_variables}
+use Rattle.pi_terms.specs.Numbers.{noted}
+use Rattle.pi_states.specs.State.{State, with_new, next}
+use Rattle.pi_states.specs.Store.{StoreView, IsTerm, AreTerms, Changes, Gives, Stays}
+use Rattle.pi_states.specs.declared.store.Ref.{Ref}
+use Rattle.pi_states.specs.declared.store.Cell.{Cell}
+use Rattle.pi_states.specs.declared.store.ReadStop.{ReadStop}
+use Rattle.pi_terms.specs.declared.term.TermHead.{TermHead}
 use Rattle.pi_unify.specs.Terms.{IsGiven, HoldsNoCycle, value_of}
 use Rattle.pi_unify.specs.declared.copying.Nodes.{Nodes}
-use Rattle.pi_unify.specs.declared.copying.Walk.{Walk}
+use Rattle.pi_unify.specs.declared.ahead.Rest.{Rest}
 
 -- so many more variables
 unfoldable pub with_variables : ℕ → State → State
@@ -83,33 +82,58 @@ noted_cell ns (Cell.Atom k) = ns
 noted_cell ns (Cell.Comp k count) = ns
 
 -- arguments of a value are left to be listed
-pub record IsWalk {M : Type 0} (v : StoreView M) (f : Walk) : Type 0 where
+pub record IsWalk {M : Type 0} (v : StoreView M) (f : Rest Ref) : Type 0 where
   pub given : IsGiven v f.of
   pub many : arity (value_of v f.of) ≡ f.count
   pub within : f.next < f.count
 
-unfoldable pub AreWalks : {M : Type 0} → StoreView M → List Walk → Type 0
+unfoldable pub AreWalks : {M : Type 0} → StoreView M → List (Rest Ref) → Type 0
 AreWalks v [] = Unit {0}
 AreWalks v (f ∷ fs) = IsWalk v f × AreWalks v fs
 
 -- the terms that are left to be listed
-unfoldable pub left_terms : {M : Type 0} → StoreView M → List Walk → List Tree
+unfoldable pub left_terms : {M : Type 0} → StoreView M → List (Rest Ref) → List Tree
 left_terms v [] = []
 left_terms v (f ∷ fs) = left_terms v fs ++ subterms_all (drop_trees f.next (args (value_of v f.of)))
 
--- all arguments of a term are left too
-abbrev pub with_children : List Walk → Ref → ℕ → List Walk
-with_children fs of count = cond (nat_lt 0 count) (fs ++ record { of = of; next = 0; count = count } ∷ []) fs
-
 -- the next term stands before what is left
-pub record Enters {M : Type 0} (v : StoreView M) (old new : List Walk) (q : Ref) : Type 0 where
+pub record Enters {M : Type 0} (v : StoreView M) (old new : List (Rest Ref)) (q : Ref) : Type 0 where
   pub given : IsGiven v q
   pub walks : AreWalks v new
   pub terms : left_terms v old ≡ subterms (value_of v q) ++ left_terms v new
 
-abbrev pub EntersNext : {M : Type 0} → StoreView M → List Walk → List Walk → Option Ref → Type 0
+abbrev pub EntersNext : {M : Type 0} → StoreView M → List (Rest Ref) → List (Rest Ref) → Option Ref → Type 0
 EntersNext v old new None = old ≡ []
 EntersNext v old new (Some q) = Enters v old new q
+
+-- ---- the loop that lists them
+
+-- the variables that stand at roots
+abbrev pub root_variables : List Tree → List ℕ
+root_variables [] = []
+root_variables (var n ∷ us) = n ∷ root_variables us
+root_variables (int n ∷ us) = root_variables us
+root_variables (atom name ∷ us) = root_variables us
+root_variables (comp name ts ∷ us) = root_variables us
+
+-- of all terms in a value some are listed, one comes next, and the others are left
+pub record Listing {M : Type 0} (v : StoreView M) (refs : List Ref) (ns : List ℕ) (fs : List (Rest Ref)) (at whole : Ref) : Type 0 where
+  pub given : AreGiven v refs
+  pub at_given : IsGiven v at
+  pub walks : AreWalks v fs
+  pub listed : values_of v refs ++ (subterms (value_of v at) ++ left_terms v fs) ≡ subterms (value_of v whole)
+  pub numbers : ns ≡ firsts (root_variables (values_of v refs))
+
+-- all are listed, one for each cell
+pub record ListsAll {M : Type 0} (v : StoreView M) (refs : List Ref) (ns : List ℕ) (whole : Ref) : Type 0 where
+  pub given : AreGiven v refs
+  pub listed : values_of v refs ≡ subterms (value_of v whole)
+  pub numbers : ns ≡ variables (value_of v whole)
+  pub many : length refs ≡ cells (value_of v whole)
+
+abbrev pub GoesOnListing : {M : Type 0} → StoreView M → List Ref → List ℕ → List (Rest Ref) → Ref → Option Ref → Type 0
+GoesOnListing v refs ns fs whole None = ListsAll v refs ns whole
+GoesOnListing v refs ns fs whole (Some next) = Listing v refs ns fs next whole
 
 -- ---- copies of listed terms, from the last to the first
 
@@ -122,14 +146,6 @@ forest (u ∷ us) = tree u (drop_trees (arity u) (forest us))
 unfoldable pub Nested : List Tree → Type 0
 Nested [] = Unit {0}
 Nested (u ∷ us) = (take_trees (arity u) (forest us) ≡ args u) × Nested us
-
--- the variables that stand at roots
-abbrev pub root_variables : List Tree → List ℕ
-root_variables [] = []
-root_variables (var n ∷ us) = n ∷ root_variables us
-root_variables (int n ∷ us) = root_variables us
-root_variables (atom name ∷ us) = root_variables us
-root_variables (comp name ts ∷ us) = root_variables us
 
 -- all that the copy of a value needs was put
 pub record IsReadyFor (ns : List ℕ) (built : List Ref) (u : Tree) : Type 0 where

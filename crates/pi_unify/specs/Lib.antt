@@ -1,3 +1,4 @@
+pub mod Rests
 pub mod Refs
 pub mod Ahead
 pub mod Answers
@@ -5,3 +6,4 @@ pub mod Terms
 pub mod Comparison
 pub mod Matching
 pub mod Copying
+pub mod Domains

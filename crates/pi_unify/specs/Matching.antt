@@ -1,18 +1,18 @@
 -- Slots of a store's terms, and what is left to match, as the loop of `match_head` keeps it.
 use Rattle.std.specs.Prelude.{◌≡◌, ℕ, ℤ, suc, ◌+◌, ◌<◌, ◌==◌, ◌&&◌, Bool, true, false, cond, List, [], ◌∷◌, ◌++◌, length, map, drop, Option, Some, None, slice_get, option_and_then}
 use Rattle.std.specs.Ordering.{is_eq, int_eq}
-use Rattle.pi_types.specs.Tree.{Tree, var, int, atom, comp, tree_count, args, arity, drop_trees}
-use Rattle.pi_types.specs.Places.{Places}
-use Rattle.pi_types.specs.Order.{name_order, identical}
-use Rattle.pi_types.specs.PatternTree.{PatternTree, slot, exact_int, exact_atom, compound, named, PatternTrees, no_patterns, pattern}
-use Rattle.pi_types.specs.Value.{Bindings}
-use Rattle.pi_types.specs.State.{bindings, followed}
-use Rattle.pi_types.specs.Store.{StoreView}
-use Rattle.pi_types.specs.HeadMatch.{filled_in, matched_in, matched_all_in}
-use Rattle.pi_types.specs.CoreTree.{pattern_tree, pattern_trees}
-use Rattle.pi_types.specs.declared.store.Ref.{Ref}
-use Rattle.pi_types.specs.declared.store.Cell.{Cell}
-use Rattle.pi_types.specs.declared.core_program.Pattern.{Pattern}
+use Rattle.pi_terms.specs.Tree.{Tree, var, int, atom, comp, tree_count, args, arity, drop_trees}
+use Rattle.pi_terms.specs.Places.{Places}
+use Rattle.pi_terms.specs.Order.{name_order, identical}
+use Rattle.pi_terms.specs.PatternTree.{PatternTree, slot, exact_int, exact_atom, compound, named, PatternTrees, no_patterns, pattern}
+use Rattle.pi_states.specs.Value.{Bindings}
+use Rattle.pi_states.specs.State.{bindings, followed}
+use Rattle.pi_states.specs.Store.{StoreView}
+use Rattle.pi_states.specs.HeadMatch.{filled_in, matched_in, matched_all_in}
+use Rattle.pi_core.specs.CoreTree.{pattern_tree, pattern_trees}
+use Rattle.pi_states.specs.declared.store.Ref.{Ref}
+use Rattle.pi_states.specs.declared.store.Cell.{Cell}
+use Rattle.pi_core.specs.declared.core_program.Pattern.{Pattern}
 use Rattle.pi_unify.specs.Terms.{IsGiven, term_of}
 use Rattle.pi_unify.specs.declared.matching.Pending.{Pending}
 use Rattle.pi_unify.specs.declared.matching.Arguments.{Arguments}

@@ -1,11 +1,11 @@
 //! Terms that are put into a store from their last node to their first.
 ghost use Rattle.std.specs.Prelude.{◌≡◌, ◌≤◌, IfOk, length, reverse, drop};
-ghost use Rattle.pi_types.specs.Tree.{Trees, comp, drop_trees};
-ghost use Rattle.pi_types.specs.TermCells.{take_trees};
-ghost use Rattle.pi_types.specs.Store.{IsTerm, Stays};
+ghost use Rattle.pi_terms.specs.Tree.{Trees, comp, drop_trees};
+ghost use Rattle.pi_terms.specs.TermCells.{take_trees};
+ghost use Rattle.pi_states.specs.Store.{IsTerm, Stays};
 ghost use Rattle.pi_unify.specs.Copying.{AreBuilt};
 
-use pi_types::{Ref, StateStore};
+use pi_states::{Ref, StateStore};
 use std::alloc::{AllocError, Global};
 
 /// Puts a compound whose arguments were put last, the first one last of all. It takes them off.

@@ -1,36 +1,32 @@
 //! Copies of terms of a store.
-ghost use Rattle.std.specs.Prelude.{◌≡◌, ◌<◌, IfOk, IfSome, length};
-ghost use Rattle.pi_types.specs.Tree.{Tree, Trees, args, arity, tree, no_trees};
-ghost use Rattle.pi_types.specs.TermCells.{take_trees};
-ghost use Rattle.pi_types.specs.Value.{value};
-ghost use Rattle.pi_types.specs.Copy.{renamed};
-ghost use Rattle.pi_types.specs.State.{bindings};
-ghost use Rattle.pi_types.specs.Store.{IsTerm, Stays};
+ghost use Rattle.std.specs.Prelude.{◌≡◌, ◌<◌, ◌+◌, IfOk, IfSome, length};
+ghost use Rattle.pi_terms.specs.Tree.{Tree, Trees, args, arity, tree, no_trees};
+ghost use Rattle.pi_terms.specs.TermCells.{take_trees};
+ghost use Rattle.pi_states.specs.Value.{value};
+ghost use Rattle.pi_terms.specs.Copy.{renamed};
+ghost use Rattle.pi_states.specs.State.{bindings};
+ghost use Rattle.pi_states.specs.Store.{IsTerm, Stays};
 ghost use Rattle.pi_unify.specs.Terms.{IsGiven, HoldsNoCycle, value_of};
-ghost use Rattle.pi_unify.specs.Copying.{ShowsNodes, noted_cell, AreWalks, with_children, EntersNext, MakesSome, ShowsCopy, values_of, forest, renumbered, AreListed, MayCopy, PutsCopy, AreBuilt};
+ghost use Rattle.pi_unify.specs.Copying.{ShowsNodes, Listing, GoesOnListing, noted_cell, MakesSome, ShowsCopy, values_of, forest, renumbered, AreListed, MayCopy, PutsCopy, AreBuilt};
 
+use crate::ahead::{Rest, leave_all, next_term};
 use crate::building::put_compound;
 use crate::numbers::{make_variables, new_variable};
 use crate::order::argument_count;
-use pi_types::{Cell, Numbers, ReadStop, Ref, StateStore, Text};
+use pi_states::{Cell, ReadStop, Ref, StateStore};
+use pi_terms::{Numbers, Text};
 use std::alloc::{AllocError, Global};
 
 /// The most cells of a term that is copied.
 const MOST_CELLS: usize = 16_777_216;
 
-/// The terms in a term, as their Refs: itself, then those in its arguments from the left. And the variables among them.
+/// The terms in a term, as their Refs: itself, then those in its arguments from the left. The variables among them, and
+/// the arguments that are still to be listed.
 #[derive(Drop)]
 struct Nodes {
     refs: Vec<Ref>,
     numbers: Numbers,
-}
-
-/// The arguments of a term from one number on. At least one is left.
-#[derive(Clone, Copy, Debug)]
-struct Walk {
-    of: Ref,
-    next: u64,
-    count: u64,
+    left: Vec<Rest<Ref>>,
 }
 
 /// Copies a term: new plain variables stand in place of its unbound ones, numbered by first occurrence from the left, and
@@ -60,23 +56,33 @@ fn nodes_of<S: StateStore>(alloc: Global, s: &S, r: Ref) -> Result<Option<Nodes>
     ensures some { IfOk result (λ found. IfSome found (λ nodes. 0 < length nodes.refs.items)) }
     ensures shows { IfOk result (λ found. IsGiven (S.seen s.now) r → HoldsNoCycle (S.seen s.now) → ShowsNodes (S.seen s.now) (value_of (S.seen s.now) r) found) }
 {
-    let mut refs = Vec::new(alloc);
-    let mut numbers = Numbers::new(alloc);
-    let mut walks = Vec::new(alloc);
+    let mut nodes = Nodes {
+        refs: Vec::new(alloc),
+        numbers: Numbers::new(alloc),
+        left: Vec::new(alloc),
+    };
     let mut at = r;
     loop {
-        if refs.len() >= MOST_CELLS {
+        if nodes.refs.len() >= MOST_CELLS {
             return Ok(None);
         }
-        refs.push(at)?;
-        let cell = s.look(at);
-        note_variable(&mut numbers, cell)?;
-        push_children(&mut walks, at, argument_count(cell))?;
-        match next_node(s, &mut walks)? {
+        match list_node(s, at, &mut nodes)? {
             Some(next) => at = next,
-            None => return Ok(Some(Nodes { refs, numbers })),
+            None => return Ok(Some(nodes)),
         }
     }
+}
+
+/// Lists one more term, and answers the one that comes next; None exactly where all are listed.
+fn list_node<S: StateStore>(s: &S, at: Ref, nodes: &mut Nodes) -> Result<Option<Ref>, AllocError>
+    ensures one { IfOk result (λ _. length nodes.new.refs.items ≡ length nodes.old.refs.items + 1) }
+    ensures lists { IfOk result (λ next. (whole : Ref) → HoldsNoCycle (S.seen s.now) → Listing (S.seen s.now) nodes.old.refs.items nodes.old.numbers nodes.old.left.items at whole → GoesOnListing (S.seen s.now) nodes.new.refs.items nodes.new.numbers nodes.new.left.items whole next) }
+{
+    nodes.refs.push(at)?;
+    let cell = s.look(at);
+    note_variable(&mut nodes.numbers, cell)?;
+    leave_all(&mut nodes.left, at, argument_count(cell))?;
+    next_term(s, &mut nodes.left)
 }
 
 /// Notes the variable that a term is which shows this at its root.
@@ -87,30 +93,6 @@ fn note_variable(numbers: &mut Numbers, cell: Cell) -> Result<(), AllocError>
         Cell::Var(n) => numbers.meet(n),
         _ => Ok(()),
     }
-}
-
-/// Leaves all arguments of a term to be listed, where it has any.
-fn push_children(walks: &mut Vec<Walk>, of: Ref, count: u64) -> Result<(), AllocError>
-    ensures { IfOk result (λ _. walks.new.items ≡ with_children walks.old.items of count) }
-{
-    if count > 0 {
-        walks.push(Walk { of, next: 0, count })?;
-    }
-    Ok(())
-}
-
-/// Takes the next argument; a term's last one leaves nothing behind. None exactly where none is left.
-fn next_node<S: StateStore>(s: &S, walks: &mut Vec<Walk>) -> Result<Option<Ref>, AllocError>
-    ensures { IfOk result (λ next. HoldsNoCycle (S.seen s.now) → AreWalks (S.seen s.now) walks.old.items → EntersNext (S.seen s.now) walks.old.items walks.new.items next) }
-{
-    let Some(walk) = walks.pop() else {
-        return Ok(None);
-    };
-    let next = walk.next.saturating_add(1);
-    if next < walk.count {
-        walks.push(Walk { next, ..walk })?;
-    }
-    Ok(Some(s.arg(walk.of, walk.next)))
 }
 
 /// Puts copies of listed terms from the last to the first, and answers that of the first.

@@ -1,19 +1,20 @@
 //! One-way matching of a pattern and a term.
 ghost use Rattle.std.specs.Prelude.{◌≡◌, ◌<◌, ◌≤◌, ◌+◌, MatchOption, ℕ, List, IfOk, length, slice_index_or};
 ghost use Rattle.std.specs.Ordering.{is_eq};
-ghost use Rattle.pi_types.specs.Tree.{Tree, atom};
-ghost use Rattle.pi_types.specs.Order.{identical, name_order};
-ghost use Rattle.pi_types.specs.Value.{value};
-ghost use Rattle.pi_types.specs.State.{bindings};
-ghost use Rattle.pi_types.specs.Store.{IsTerm, IsName, ShowsCell};
-ghost use Rattle.pi_types.specs.Match.{matched};
-ghost use Rattle.pi_types.specs.HeadMatch.{matched_in, filled_in, slot_values};
-ghost use Rattle.pi_types.specs.CoreTree.{pattern_tree};
+ghost use Rattle.pi_terms.specs.Tree.{Tree, atom};
+ghost use Rattle.pi_terms.specs.Order.{identical, name_order};
+ghost use Rattle.pi_states.specs.Value.{value};
+ghost use Rattle.pi_states.specs.State.{bindings};
+ghost use Rattle.pi_states.specs.Store.{IsTerm, IsName, ShowsCell};
+ghost use Rattle.pi_states.specs.Match.{matched};
+ghost use Rattle.pi_states.specs.HeadMatch.{matched_in, filled_in, slot_values};
+ghost use Rattle.pi_core.specs.CoreTree.{pattern_tree};
 ghost use Rattle.pi_unify.specs.Terms.{IsGiven, HoldsNoCycle, term_of};
 ghost use Rattle.pi_unify.specs.Matching.{slot_terms, HoldAllGiven, FillsEmpty, TellsMatch, root_match, is_compound_of, AreWithin, AreLeft, nodes, nodes_left, LeavesNodes, LeavesFewer, TakesPending, ComesBehind, Pushes, FitsRoot, is_int_in};
 
 use crate::order::compare;
-use pi_types::{Cell, Pattern, Ref, StateStore};
+use pi_core::Pattern;
+use pi_states::{Cell, Ref, StateStore};
 use std::alloc::{AllocError, Global};
 
 /// The slots of a clause by their numbers: what each holds, or nothing.
@@ -27,6 +28,7 @@ struct Pending<'p> {
 }
 
 /// The patterns of a compound from one number on, for the arguments of a term with as many. At least one is left.
+// No `Rest`: the loop ends since the patterns that are left have fewer nodes, for which each has to be within its slice.
 #[derive(Clone, Copy)]
 struct Arguments<'p> {
     patterns: &'p [Pattern],

@@ -1,24 +1,18 @@
+//! Whether a variable occurs in a term.
 ghost use Rattle.std.specs.Prelude.{◌≡◌, ℕ, ◌∷◌, IfOk};
-ghost use Rattle.pi_types.specs.Value.{value};
-ghost use Rattle.pi_types.specs.State.{bindings, IsState};
-ghost use Rattle.pi_types.specs.Unify.{does_occur};
+ghost use Rattle.pi_states.specs.Value.{value};
+ghost use Rattle.pi_states.specs.State.{bindings, IsState};
+ghost use Rattle.pi_states.specs.Unify.{does_occur};
 ghost use Rattle.pi_unify.specs.Refs.{IsRef, term_of};
 ghost use Rattle.pi_unify.specs.Ahead.{AreArgs, term_and};
 ghost use Rattle.pi_unify.specs.Answers.{LooksFor, TakesArg};
 
-use pi_types::{Cell, Ref, StateStore};
+use crate::ahead::{Rest, leave_all, next_term};
+use pi_states::{Cell, Ref, StateStore};
 use std::alloc::{AllocError, Global};
 
-/// The arguments of a compound that are still to be looked at.
-#[derive(Clone, Copy, Debug)]
-pub(crate) struct ArgsAhead {
-    pub(crate) of: Ref,
-    pub(crate) next: u64,
-    pub(crate) count: u64,
-}
-
 /// What a look at a term comes to.
-#[derive(Clone, Copy, Debug)]
+#[derive(Clone, Copy)]
 enum Look {
     Found,
     Done,
@@ -51,7 +45,7 @@ fn look_for<S: StateStore>(
     s: &S,
     v: u64,
     at: Ref,
-    ahead: &mut Vec<ArgsAhead>,
+    ahead: &mut Vec<Rest<Ref>>,
 ) -> Result<Look, AllocError>
     ensures { IfOk result (λ look. IsState (S.seen s.now).now.state → IsRef (S.seen s.now) at → AreArgs (S.seen s.now) ahead.old.items → LooksFor (S.seen s.now) v (term_and (S.seen s.now) at ahead.old.items) look ahead.new.items) }
 {
@@ -66,13 +60,7 @@ fn look_for<S: StateStore>(
             next_arg(s, ahead)
         }
         Cell::Comp(_, count) => {
-            if 0 < count {
-                ahead.push(ArgsAhead {
-                    of: at,
-                    next: 0,
-                    count,
-                })?;
-            }
+            leave_all(ahead, at, count)?;
             next_arg(s, ahead)
         }
         _ => next_arg(s, ahead),
@@ -80,19 +68,11 @@ fn look_for<S: StateStore>(
 }
 
 /// The argument that comes next.
-fn next_arg<S: StateStore>(s: &S, ahead: &mut Vec<ArgsAhead>) -> Result<Look, AllocError>
+fn next_arg<S: StateStore>(s: &S, ahead: &mut Vec<Rest<Ref>>) -> Result<Look, AllocError>
     ensures { IfOk result (λ look. IsState (S.seen s.now).now.state → AreArgs (S.seen s.now) ahead.old.items → TakesArg (S.seen s.now) ahead.old.items look ahead.new.items) }
 {
-    let Some(args) = ahead.pop() else {
-        return Ok(Look::Done);
-    };
-    let next = args.next.saturating_add(1);
-    if next < args.count {
-        ahead.push(ArgsAhead {
-            of: args.of,
-            next,
-            count: args.count,
-        })?;
+    match next_term(s, ahead)? {
+        Some(next) => Ok(Look::Next(next)),
+        None => Ok(Look::Done),
     }
-    Ok(Look::Next(s.arg(args.of, args.next)))
 }

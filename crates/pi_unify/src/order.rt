@@ -1,32 +1,17 @@
 //! The standard order.
 ghost use Rattle.std.specs.Prelude.{◌≡◌, ℕ, List, IfOk};
-ghost use Rattle.pi_types.specs.Tree.{Tree};
-ghost use Rattle.pi_types.specs.Order.{order, name_order};
-ghost use Rattle.pi_types.specs.Value.{value};
-ghost use Rattle.pi_types.specs.State.{bindings};
-ghost use Rattle.pi_types.specs.Store.{IsTerm, IsName};
+ghost use Rattle.pi_terms.specs.Tree.{Tree};
+ghost use Rattle.pi_terms.specs.Order.{order, name_order};
+ghost use Rattle.pi_states.specs.Value.{value};
+ghost use Rattle.pi_states.specs.State.{bindings};
+ghost use Rattle.pi_states.specs.Store.{IsTerm, IsName};
 ghost use Rattle.pi_unify.specs.Terms.{HoldsNoCycle};
-ghost use Rattle.pi_unify.specs.Comparison.{cell_arity, AreRests, Begins, TakesPair, with_arguments};
+ghost use Rattle.pi_unify.specs.Comparison.{cell_arity, Begins};
 
-use pi_types::{Cell, Ref, StateStore};
+use crate::ahead::{RefPair, leave_all, next_pair};
+use pi_states::{Cell, Ref, StateStore};
 use std::alloc::{AllocError, Global};
 use std::cmp::Ordering;
-
-/// Two terms that are to be compared.
-#[derive(Clone, Copy, Debug)]
-struct Pair {
-    left: Ref,
-    right: Ref,
-}
-
-/// The arguments of two compounds from one number on, to be compared once what stands before them was found equal. Both
-/// have the same number of arguments, and at least one of them is left.
-#[derive(Clone, Copy, Debug)]
-struct Rest {
-    of: Pair,
-    next: u64,
-    count: u64,
-}
 
 /// How the values of two terms stand in the standard order. Its stack lies on the heap, and the last argument of a
 /// compound leaves nothing on it.
@@ -34,14 +19,14 @@ pub fn compare<S: StateStore>(alloc: Global, s: &S, a: Ref, b: Ref) -> Result<Or
     ensures { IfOk result (λ found. (t u : Tree) → IsTerm (S.seen s.now) a t → IsTerm (S.seen s.now) b u → HoldsNoCycle (S.seen s.now) → found ≡ order (value (bindings (S.seen s.now).now.state) t) (value (bindings (S.seen s.now).now.state) u)) }
 {
     let mut rests = Vec::new(alloc);
-    let mut pair = Pair { left: a, right: b };
+    let mut pair = RefPair { left: a, right: b };
     for _ in 0..u64::MAX {
         let cell = s.look(pair.left);
         let order = order_at_root(s, cell, s.look(pair.right));
         if order.is_ne() {
             return Ok(order);
         }
-        push_arguments(&mut rests, pair, argument_count(cell))?;
+        leave_all(&mut rests, pair, argument_count(cell))?;
         match next_pair(s, &mut rests)? {
             Some(next) => pair = next,
             None => return Ok(Ordering::Equal),
@@ -96,31 +81,4 @@ pub fn argument_count(cell: Cell) -> u64
         Cell::Comp(_, count) => count,
         _ => 0,
     }
-}
-
-/// Leaves all arguments of two terms to be compared, where they have any.
-fn push_arguments(rests: &mut Vec<Rest>, of: Pair, count: u64) -> Result<(), AllocError>
-    ensures { IfOk result (λ _. rests.new.items ≡ with_arguments rests.old.items of count) }
-{
-    if count > 0 {
-        rests.push(Rest { of, next: 0, count })?;
-    }
-    Ok(())
-}
-
-/// Takes the next two arguments; None exactly where none are left.
-fn next_pair<S: StateStore>(s: &S, rests: &mut Vec<Rest>) -> Result<Option<Pair>, AllocError>
-    ensures { IfOk result (λ next. HoldsNoCycle (S.seen s.now) → AreRests (S.seen s.now) rests.old.items → TakesPair (S.seen s.now) rests.old.items rests.new.items next) }
-{
-    let Some(rest) = rests.pop() else {
-        return Ok(None);
-    };
-    let next = rest.next.saturating_add(1);
-    if next < rest.count {
-        rests.push(Rest { next, ..rest })?;
-    }
-    Ok(Some(Pair {
-        left: s.arg(rest.of.left, rest.next),
-        right: s.arg(rest.of.right, rest.next),
-    }))
 }

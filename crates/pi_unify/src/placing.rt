@@ -1,15 +1,16 @@
 //! Terms that are put into a store with new variables.
 ghost use Rattle.std.specs.Prelude.{◌≡◌, ◌≤◌, IfOk, OnErr, length};
-ghost use Rattle.pi_types.specs.Tree.{Tree, Trees, ShowsHead};
-ghost use Rattle.pi_types.specs.Variables.{variables};
-ghost use Rattle.pi_types.specs.Copy.{copy, renamed, new_variables};
-ghost use Rattle.pi_types.specs.State.{next};
-ghost use Rattle.pi_types.specs.Store.{Gives, IsTerm, Stays};
+ghost use Rattle.pi_terms.specs.Tree.{Tree, Trees, ShowsHead};
+ghost use Rattle.pi_terms.specs.Variables.{variables};
+ghost use Rattle.pi_terms.specs.Copy.{copy, renamed, new_variables};
+ghost use Rattle.pi_states.specs.State.{next};
+ghost use Rattle.pi_states.specs.Store.{Gives, IsTerm, Stays};
 ghost use Rattle.pi_unify.specs.Copying.{with_variables, MakesSome, AreBuilt, IsReady, PutsNode, renumbered};
 
 use crate::building::put_compound;
 use crate::numbers::{make_variables, new_variable};
-use pi_types::{Numbers, Ref, StateStore, Term, TermHead};
+use pi_states::{Ref, StateStore};
+use pi_terms::{Numbers, Term, TermHead};
 use std::alloc::{AllocError, Global};
 
 /// Puts a term into a store, with new plain variables in place of its own, numbered by first occurrence from the left.

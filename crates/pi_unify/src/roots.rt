@@ -1,16 +1,17 @@
+//! Unification of two terms as far as their roots go.
 ghost use Rattle.std.specs.Prelude.{◌≡◌, ℕ, IfOk, if◌then◌else◌};
-ghost use Rattle.pi_types.specs.State.{IsState, followed, bindings};
-ghost use Rattle.pi_types.specs.Store.{StoreView, Keeps, ShowsCell, IsName};
-ghost use Rattle.pi_types.specs.Unify.{outcome};
+ghost use Rattle.pi_states.specs.State.{IsState, followed, bindings};
+ghost use Rattle.pi_states.specs.Store.{StoreView, Keeps, ShowsCell, IsName};
+ghost use Rattle.pi_states.specs.Unify.{outcome};
 ghost use Rattle.pi_unify.specs.Refs.{root_of, IsVariable, AreTerms};
 ghost use Rattle.pi_unify.specs.Answers.{Meets, Compares};
 
 use crate::variables::{Variable, assign, join};
-use pi_types::{Cell, Ref, StateStore};
+use pi_states::{Cell, Ref, StateStore};
 use std::alloc::{AllocError, Global};
 
 /// What a pair of terms comes to.
-#[derive(Clone, Copy, Debug)]
+#[derive(Clone, Copy)]
 pub(crate) enum Roots {
     /// They can't be one.
     Clash,

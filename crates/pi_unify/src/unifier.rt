@@ -1,18 +1,19 @@
+//! Unification of two terms.
 ghost use Rattle.std.specs.Prelude.{◌≡◌, ℕ, ◌∷◌, [], IfOk};
-ghost use Rattle.pi_types.specs.Tree.{Tree};
-ghost use Rattle.pi_types.specs.State.{IsState, SpeaksBelow, next};
-ghost use Rattle.pi_types.specs.Store.{StoreView, IsTerm, Keeps};
-ghost use Rattle.pi_types.specs.Unify.{unified, all_unified, pairs_ahead};
+ghost use Rattle.pi_terms.specs.Tree.{Tree};
+ghost use Rattle.pi_states.specs.State.{IsState, SpeaksBelow, next};
+ghost use Rattle.pi_states.specs.Store.{StoreView, IsTerm, Keeps};
+ghost use Rattle.pi_states.specs.Unify.{unified, all_unified, pairs_ahead};
 ghost use Rattle.pi_unify.specs.Ahead.{ArePairs, IsNextPair, pairs_on, pair_and};
 ghost use Rattle.pi_unify.specs.Answers.{Answers, Steps, GoesOn};
 
-use crate::pairs::{NextPair, PairsAhead, next_pair};
+use crate::ahead::{RefPair, Rest, leave_all, next_pair};
 use crate::roots::{Roots, unify_roots};
-use pi_types::{Ref, StateStore};
+use pi_states::{Ref, StateStore};
 use std::alloc::{AllocError, Global};
 
 /// What a pair leaves: the answer, or the pair that comes next.
-#[derive(Clone, Copy, Debug)]
+#[derive(Clone, Copy)]
 enum Step {
     Done(bool),
     Next(Ref, Ref),
@@ -45,7 +46,7 @@ fn take_pair<S: StateStore>(
     s: &mut S,
     a: Ref,
     b: Ref,
-    ahead: &mut Vec<PairsAhead>,
+    ahead: &mut Vec<Rest<RefPair>>,
 ) -> Result<Step, AllocError>
     ensures keeps { Keeps (S.seen s.old) (S.seen s.new) }
     ensures steps { IfOk result (λ step. IsState (S.seen s.old).now.state → IsNextPair (S.seen s.old) a b ahead.old.items → Steps (S.seen s.old) (pair_and (S.seen s.old) a b ahead.old.items) step (S.seen s.new) ahead.new.items) }
@@ -55,22 +56,17 @@ fn take_pair<S: StateStore>(
         Roots::Clash => Ok(Step::Done(false)),
         Roots::Same => go_on(s, ahead),
         Roots::Args(count) => {
-            ahead.push(PairsAhead {
-                a,
-                b,
-                next: 0,
-                count,
-            })?;
+            leave_all(ahead, RefPair { left: a, right: b }, count)?;
             go_on(s, ahead)
         }
     }
 }
 
-fn go_on<S: StateStore>(s: &S, ahead: &mut Vec<PairsAhead>) -> Result<Step, AllocError>
+fn go_on<S: StateStore>(s: &S, ahead: &mut Vec<Rest<RefPair>>) -> Result<Step, AllocError>
     ensures { IfOk result (λ step. IsState (S.seen s.now).now.state → ArePairs (S.seen s.now) ahead.old.items → GoesOn (S.seen s.now) (pairs_on (S.seen s.now) ahead.old.items []) step ahead.new.items) }
 {
     match next_pair(s, ahead)? {
-        NextPair::Done => Ok(Step::Done(true)),
-        NextPair::Pair(x, y) => Ok(Step::Next(x, y)),
+        Some(next) => Ok(Step::Next(next.left, next.right)),
+        None => Ok(Step::Done(true)),
     }
 }

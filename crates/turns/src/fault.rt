@@ -1,3 +1,4 @@
+//! Why the lines that are asked for don't all come.
 use std::alloc::{AllocError, AllocFailed};
 use thiserror::Error;
 

@@ -1,7 +1,10 @@
-use pi_types::{
-    CoreClause, CoreClauses, CoreGoal, CorePred, CorePreds, CoreProgram, CoreQuery, Decl,
-    NameSlots, Pattern, Patterns, SlotWatches, Term, Text,
+//! The forms of control, and the program of their loops.
+use pi_core::{
+    CoreClause, CoreClauses, CoreGoal, CorePred, CorePreds, CoreProgram, CoreQuery, NameSlots,
+    Pattern, Patterns, SlotWatches,
 };
+use pi_syntax::Decl;
+use pi_terms::{Term, Text};
 use std::alloc::{AllocError, Global};
 
 /// A form of control, used so that it has one answer and leaves no choice; `Loop` is a loop through none.

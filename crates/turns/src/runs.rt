@@ -1,9 +1,12 @@
+//! Runs of the loops.
 ghost use Rattle.std.specs.Prelude.{◌≡◌, IfOk};
 
 use crate::fault::Fault;
 use crate::forms::{Form, query};
+use pi_answers::Work;
+use pi_core::CoreProgram;
 use pi_engine::{Budget, Happening, Machine, Mode};
-use pi_types::{CoreProgram, TreeStore, Work};
+use pi_tree_store::TreeStore;
 use std::alloc::{AllocError, Global};
 
 /// Runs the loop of a form until its steps are spent, and gives the Ticks that were counted.

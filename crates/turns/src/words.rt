@@ -1,3 +1,4 @@
+//! The words behind the name of the program.
 ghost use Rattle.std.specs.Str.Parse.{ParsesUnsigned};
 
 use crate::fault::Fault;

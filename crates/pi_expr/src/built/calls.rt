@@ -1,13 +1,14 @@
 //! Calls.
 ghost use Rattle.std.specs.Prelude.{IfOk};
-ghost use Rattle.pi_types.specs.ExpTree as tree;
-ghost use Rattle.pi_types.specs.ExpTree.{ExpTree, ExpTrees};
-ghost use Rattle.pi_types.specs.Grammar.{call_one, call_two};
+ghost use Rattle.pi_syntax.specs.ExpTree as tree;
+ghost use Rattle.pi_syntax.specs.ExpTree.{ExpTree, ExpTrees};
+ghost use Rattle.pi_syntax.specs.Grammar.{call_one, call_two};
 ghost use Rattle.pi_expr.specs.Trees.{Shows, ShowsItems};
 
 use crate::built::{Built, over};
 use crate::items::Items;
-use pi_types::{Exp, Text};
+use pi_syntax::Exp;
+use pi_terms::Text;
 use std::alloc::{AllocError, Global};
 
 pub(crate) fn call(alloc: Global, name: &str, items: Items) -> Result<Built, AllocError>

@@ -1,13 +1,13 @@
 //! Conjuncts, branches and blocks.
 ghost use Rattle.std.specs.Prelude.{IfOk};
-ghost use Rattle.pi_types.specs.ExpTree as tree;
-ghost use Rattle.pi_types.specs.ExpTree.{ExpTree, ExpTrees, ExpBranches};
+ghost use Rattle.pi_syntax.specs.ExpTree as tree;
+ghost use Rattle.pi_syntax.specs.ExpTree.{ExpTree, ExpTrees, ExpBranches};
 ghost use Rattle.pi_expr.specs.Trees.{Shows, ShowsItems, ShowsChoices};
 
 use crate::built::{Built, Pair, WithItems, both, over, with_items};
 use crate::choices::Choices;
 use crate::items::Items;
-use pi_types::Exp;
+use pi_syntax::Exp;
 use std::alloc::{AllocError, Global};
 
 pub(crate) fn and(items: Items) -> Built

@@ -1,10 +1,11 @@
 //! Trees with no children.
 ghost use Rattle.std.specs.Prelude.{IfOk};
-ghost use Rattle.pi_types.specs.ExpTree as tree;
+ghost use Rattle.pi_syntax.specs.ExpTree as tree;
 ghost use Rattle.pi_expr.specs.Trees.{Shows};
 
 use crate::built::Built;
-use pi_types::{Exp, Text};
+use pi_syntax::Exp;
+use pi_terms::Text;
 use std::alloc::{AllocError, Global};
 
 pub(crate) fn variable(alloc: Global, name: &str) -> Result<Built, AllocError>

@@ -1,12 +1,13 @@
 //! Lists, arrays, ranges, indexes, patterns and quoted terms.
 ghost use Rattle.std.specs.Prelude.{IfOk};
-ghost use Rattle.pi_types.specs.ExpTree as tree;
-ghost use Rattle.pi_types.specs.ExpTree.{ExpTree, ExpTrees, one_exp};
+ghost use Rattle.pi_syntax.specs.ExpTree as tree;
+ghost use Rattle.pi_syntax.specs.ExpTree.{ExpTree, ExpTrees, one_exp};
 ghost use Rattle.pi_expr.specs.Trees.{Shows, ShowsItems};
 
 use crate::built::{Built, Pair, WithItems, both, over, with_items};
 use crate::items::Items;
-use pi_types::{Exp, Text};
+use pi_syntax::Exp;
+use pi_terms::Text;
 use std::alloc::{AllocError, Global};
 
 pub(crate) fn list(items: Items) -> Built

@@ -1,9 +1,9 @@
 //! Behind what stands between brackets, and behind a pattern.
 ghost use Rattle.std.specs.Prelude.{true, List, None, Some, if◌then◌else◌, IfOk};
-ghost use Rattle.pi_types.specs.ExpTree.{ExpTree, ExpTrees};
-ghost use Rattle.pi_types.specs.ExpTree as tree;
-ghost use Rattle.pi_types.specs.Grammar.{post};
-ghost use Rattle.pi_types.specs.Terminals as t;
+ghost use Rattle.pi_syntax.specs.ExpTree.{ExpTree, ExpTrees};
+ghost use Rattle.pi_syntax.specs.ExpTree as tree;
+ghost use Rattle.pi_syntax.specs.Grammar.{post};
+ghost use Rattle.pi_syntax.specs.Terminals as t;
 ghost use Rattle.pi_expr.specs.Machine as machine;
 ghost use Rattle.pi_expr.specs.Shown.{terminals};
 ghost use Rattle.pi_expr.specs.Trees.{Shows, ShowsItems};

@@ -1,8 +1,8 @@
 //! Behind the operand of a sign, of a relation, of a power or of a range.
 ghost use Rattle.std.specs.Prelude.{◌≡◌, false, List, ◌∷◌, None, Some, MatchOption, IfOk};
-ghost use Rattle.pi_types.specs.ExpTree.{ExpTree};
-ghost use Rattle.pi_types.specs.Grammar.{negated, integer_alone};
-ghost use Rattle.pi_types.specs.Terminals.{integer};
+ghost use Rattle.pi_syntax.specs.ExpTree.{ExpTree};
+ghost use Rattle.pi_syntax.specs.Grammar.{negated, integer_alone};
+ghost use Rattle.pi_syntax.specs.Terminals.{integer};
 ghost use Rattle.pi_expr.specs.Machine as machine;
 ghost use Rattle.pi_expr.specs.Shown.{line_shown, phrase_shown, terminals};
 ghost use Rattle.pi_expr.specs.Trees.{Shows};

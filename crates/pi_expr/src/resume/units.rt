@@ -1,9 +1,9 @@
 //! Behind a unit, a branch or what follows an arrow.
 ghost use Rattle.std.specs.Prelude.{false, List, None, Some};
-ghost use Rattle.pi_types.specs.ExpTree.{ExpTree, ExpTrees};
-ghost use Rattle.pi_types.specs.ExpTree as tree;
-ghost use Rattle.pi_types.specs.Grammar.{branch};
-ghost use Rattle.pi_types.specs.Terminals as t;
+ghost use Rattle.pi_syntax.specs.ExpTree.{ExpTree, ExpTrees};
+ghost use Rattle.pi_syntax.specs.ExpTree as tree;
+ghost use Rattle.pi_syntax.specs.Grammar.{branch};
+ghost use Rattle.pi_syntax.specs.Terminals as t;
 ghost use Rattle.pi_expr.specs.Machine as machine;
 ghost use Rattle.pi_expr.specs.Shown.{terminals};
 ghost use Rattle.pi_expr.specs.Trees.{Shows, ShowsItems};

@@ -1,6 +1,6 @@
 use Rattle.std.proofs.Common.{◌++◌, ap, ◌∙◌}
-use Rattle.pi_types.specs.Variables.{occurrences}
-use Rattle.pi_types.specs.PrintTerm.{written}
+use Rattle.pi_terms.specs.Variables.{occurrences}
+use Rattle.pi_print.specs.PrintTerm.{written}
 use Rattle.pi_print.specs.Numbers.{noted_all}
 use Rattle.pi_print.proofs.AnswerLemmas.{noted_variables}
 use Rattle.pi_print.proofs.term_text.Goals as goal
@@ -10,7 +10,7 @@ returns c = record {
   ok =
       c.from_string.ensures
       ∙ (c.in_ok-term.ensures.ok
-      ∙ (ap (λ r. r ++ written c.args.quoted c.note_term.new.self c.args.t.now) c.new-out.ensures.bytes
-      ∙ ap (λ vs. written c.args.quoted vs c.args.t.now) (c.in_ok-note_term.ensures.ok
+      ∙ (ap (λ r. r ++ written c.args.quoted c.meet_term.new.numbers c.args.t.now) c.new-out.ensures.bytes
+      ∙ ap (λ vs. written c.args.quoted vs c.args.t.now) (c.in_ok-meet_term.ensures.ok
       ∙ (ap (λ vs. noted_all vs (occurrences c.args.t.now)) c.new-numbers.ensures ∙ noted_variables (occurrences c.args.t.now)))));
 }

@@ -1,7 +1,7 @@
 -- The slots of the goal are those of its names, and so the laws hold of the query.
 use Rattle.std.proofs.Common.{◌≡◌, [], ◌∙◌}
-use Rattle.pi_types.specs.CoreTree.{program_tree, query_tree}
-use Rattle.pi_types.specs.ProgramTree.{goal_source}
+use Rattle.pi_core.specs.CoreTree.{program_tree, query_tree}
+use Rattle.pi_syntax.specs.ProgramTree.{goal_source}
 use Rattle.pi_rewrite.specs.Lowered.{slots_after, lowered_query}
 use Rattle.pi_rewrite.specs.Built.{IsSlots}
 use Rattle.pi_rewrite.proofs.ClauseLemmas.{query-is}

@@ -2,8 +2,8 @@ use Rattle.std.proofs.Common.{arith, List, ◌≡◌, ◌∙◌}
 use Rattle.std.specs.Prelude.{ℤ, int_le, ◌&&◌}
 use Rattle.std.proofs.lemmas.Int.{ints}
 use Rattle.std.proofs.lemmas.Result.{IfOk-weaker}
-use Rattle.pi_types.specs.declared.domain.Span.{Span}
-use Rattle.pi_types.specs.Domain.{has_value}
+use Rattle.pi_constraints.specs.declared.domain.Span.{Span}
+use Rattle.pi_constraints.specs.Domain.{has_value}
 use Rattle.pi_dom.proofs.ClipLemmas.{has_value-kept, high_part}
 use Rattle.pi_dom.proofs.cuts.cut_above.Goals as goal
 

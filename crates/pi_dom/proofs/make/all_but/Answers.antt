@@ -2,10 +2,9 @@ use Rattle.std.proofs.Common.{rules, arith, ◌≡◌, List, [], ◌++◌, ap, s
 use Rattle.std.specs.Prelude.{ℤ, pos, ◌+ℤ◌, ◌-ℤ◌, neg_ℤ}
 use Rattle.std.specs.Int.{w128}
 use Rattle.std.proofs.lemmas.Int.{ints}
-use Rattle.pi_types.specs.declared.domain.TheConstants.{MAX_VALUE}
-use Rattle.pi_types.specs.declared.domain.Span.{Span}
-use Rattle.pi_types.specs.Domain.{IsDomain, IsWithinBounds, has_value}
-use Rattle.pi_types.specs.Domain.{overlap}
+use Rattle.pi_constraints.specs.declared.domain.TheConstants.{MAX_VALUE}
+use Rattle.pi_constraints.specs.declared.domain.Span.{Span}
+use Rattle.pi_constraints.specs.Domain.{IsDomain, IsWithinBounds, has_value, overlap}
 use Rattle.pi_dom.proofs.ClipLemmas.{whole, first_clip, clip_at, IsDomain-clips, has_value-clips}
 use Rattle.pi_dom.proofs.make.all_but.Goals as goal
 

@@ -1,8 +1,8 @@
 use Rattle.std.proofs.Common.{arith, ◌≡◌, List, ap, sym, ◌∙◌, subst, refl, to_z, of_z}
 use Rattle.std.specs.Int.{w128}
 use Rattle.std.proofs.lemmas.Int.{ints}
-use Rattle.pi_types.specs.declared.domain.Span.{Span}
-use Rattle.pi_types.specs.Domain.{IsDomain, has_value}
+use Rattle.pi_constraints.specs.declared.domain.Span.{Span}
+use Rattle.pi_constraints.specs.Domain.{IsDomain, has_value}
 use Rattle.pi_dom.proofs.ClipLemmas.{first_clip, IsDomain-clip, has_value-clip}
 use Rattle.pi_dom.proofs.make.clipped.Goals as goal
 

@@ -6,8 +6,8 @@ use Rattle.std.proofs.lemmas.Int.{ints}
 use Rattle.std.proofs.lemmas.List.{nil_from_length}
 use Rattle.std.proofs.lemmas.Bool.Decides.{nat_tests}
 use Rattle.std.proofs.lemmas.List.Elements.{All-get_or}
-use Rattle.pi_types.specs.declared.domain.Span.{Span}
-use Rattle.pi_types.specs.Domain.{AscendFrom, IsDomain, IsWithinBounds, has_value}
+use Rattle.pi_constraints.specs.declared.domain.Span.{Span}
+use Rattle.pi_constraints.specs.Domain.{AscendFrom, IsDomain, IsWithinBounds, has_value}
 use Rattle.pi_dom.proofs.JoinLemmas.{JoinsBefore-first, JoinsBefore-further, JoinsBefore-longer, last_within}
 use Rattle.pi_dom.proofs.make.joined.Goals as goal
 use Rattle.pi_dom.proofs.make.joined.Goals.{then-value-last+in_ok-push, else-value-last}

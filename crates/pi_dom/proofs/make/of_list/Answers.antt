@@ -4,8 +4,8 @@ use Rattle.std.specs.Ordering.{int_eq}
 use Rattle.std.specs.List.{list_any}
 use Rattle.std.proofs.lemmas.Grind.{common_steps}
 use Rattle.std.proofs.lemmas.List.Sorted.{All-permutation, list_any-IsPermutation}
-use Rattle.pi_types.specs.declared.domain.Span.{Span}
-use Rattle.pi_types.specs.Domain.{IsWithinBounds, has_value}
+use Rattle.pi_constraints.specs.declared.domain.Span.{Span}
+use Rattle.pi_constraints.specs.Domain.{IsWithinBounds, has_value}
 use Rattle.pi_dom.proofs.JoinLemmas.{listed, from_listed}
 use Rattle.pi_dom.proofs.make.of_list.Goals as goal
 

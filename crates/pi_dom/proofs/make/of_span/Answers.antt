@@ -2,7 +2,7 @@ use Rattle.std.proofs.Common.{rules, arith, ◌≡◌, ap, ◌∙◌, to_z, of_z
 use Rattle.std.specs.Prelude.{ℤ, int_le, ◌&&◌, ◌≤ℤ◌}
 use Rattle.std.specs.Int.{w128}
 use Rattle.std.proofs.lemmas.Int.{ints}
-use Rattle.pi_types.specs.Domain.{IsWithinBounds}
+use Rattle.pi_constraints.specs.Domain.{IsWithinBounds}
 use Rattle.pi_dom.proofs.ClipLemmas.{has_value-span}
 use Rattle.pi_dom.proofs.make.of_span.Goals as goal
 

@@ -3,7 +3,7 @@ use Rattle.std.specs.Prelude.{◌≤ℤ◌, ◌<ℤ◌}
 use Rattle.std.proofs.lemmas.Int.{ints, clamps}
 use Rattle.std.proofs.lemmas.List.{append-nil}
 use Rattle.std.specs.Int.{int_max, int_min}
-use Rattle.pi_types.specs.declared.domain.Span.{Span}
+use Rattle.pi_constraints.specs.declared.domain.Span.{Span}
 use Rattle.pi_dom.proofs.MeetLemmas.{overlap-some, overlap-none}
 use Rattle.pi_dom.proofs.ClipLemmas.{whole}
 use Rattle.pi_dom.proofs.make.push_clipped.Goals as goal

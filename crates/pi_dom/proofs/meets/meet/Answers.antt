@@ -1,5 +1,3 @@
-use Rattle.std.proofs.Common.{sym, ◌∙◌}
-use Rattle.std.specs.Prelude.{IfOk}
 use Rattle.pi_dom.proofs.MeetLemmas.{is_common}
 use Rattle.pi_dom.proofs.meets.meet.Goals as goal
 

@@ -1,7 +1,7 @@
 use Rattle.std.proofs.Common.{rules, arith, ◌≡◌, List, sym, subst, true, false, inl, inr, w64, to_z, of_z}
 use Rattle.std.specs.Prelude.{ℤ, ◌≤ℤ◌, FitsSigned, int_le}
 use Rattle.std.proofs.lemmas.Int.{ints, to_z-of_z}
-use Rattle.pi_types.specs.declared.domain.Span.{Span}
+use Rattle.pi_constraints.specs.declared.domain.Span.{Span}
 use Rattle.pi_dom.proofs.MeetLemmas.{Shares, Shares-none, Shares-next, Shares-next_other, Shares-over}
 use Rattle.pi_dom.proofs.meets.shared_spans.Goals as goal
 use Rattle.pi_dom.proofs.meets.shared_spans.Goals.{then-loop-i-test+else-j-e, else-loop-i-test}

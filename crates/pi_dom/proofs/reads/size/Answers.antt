@@ -2,9 +2,9 @@ use Rattle.std.proofs.Common.{arith, ◌≡◌, ◌<◌, ◌+◌, ℕ, suc, get_
 use Rattle.std.specs.Int.{int_gap}
 use Rattle.std.proofs.lemmas.Int.{ints}
 use Rattle.std.proofs.lemmas.List.{take_all}
-use Rattle.pi_types.specs.declared.domain.TheConstants.{MAX_VALUE}
-use Rattle.pi_types.specs.declared.domain.Span.{Span}
-use Rattle.pi_types.specs.Domain.{IsDomain, values_of, size_of}
+use Rattle.pi_constraints.specs.declared.domain.TheConstants.{MAX_VALUE}
+use Rattle.pi_constraints.specs.declared.domain.Span.{Span}
+use Rattle.pi_constraints.specs.Domain.{IsDomain, values_of, size_of}
 use Rattle.pi_dom.proofs.ExtremeLemmas.{AscendFrom-get_or}
 use Rattle.pi_dom.proofs.SizeLemmas.{size_of-take_more, size_of-take_fits}
 use Rattle.pi_dom.proofs.reads.size.Goals as goal

@@ -1,5 +1,5 @@
 use Rattle.std.proofs.Common.{◌≡◌, take}
-use Rattle.pi_types.specs.Domain.{size_of}
+use Rattle.pi_constraints.specs.Domain.{size_of}
 use Rattle.pi_dom.proofs.reads.size.Given as goal
 
 abbrev pub invariant-loop-span : goal.invariant-loop-span

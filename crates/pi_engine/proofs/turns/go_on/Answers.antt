@@ -1,9 +1,9 @@
 use Rattle.std.proofs.Common.{◌≡◌, sym, ◌∙◌, subst, refl, arith}
-use Rattle.pi_engine.specs.Arenas.{view_of}
-use Rattle.pi_engine.specs.Answers.{AnswersQuery}
-use Rattle.pi_engine.specs.Next.{Tells}
-use Rattle.pi_engine.specs.Stands.{World, world}
-use Rattle.pi_engine.proofs.PointsDone.{follows-goes, level-goes, query-answers, query-raised}
+use Rattle.pi_arenas.specs.Arenas.{view_of}
+use Rattle.pi_stands.specs.Answers.{AnswersQuery}
+use Rattle.pi_machine.specs.Next.{Tells}
+use Rattle.pi_stands.specs.Stands.{World, world}
+use Rattle.pi_stands.proofs.PointsDone.{follows-goes, level-goes, query-answers, query-raised}
 use Rattle.pi_engine.proofs.TurnsGo.{silent-is, more-is, answer-is}
 use Rattle.pi_engine.proofs.turns.go_on.Goals as goal
 

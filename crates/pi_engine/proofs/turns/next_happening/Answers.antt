@@ -1,7 +1,7 @@
 use Rattle.std.proofs.Common.{◌∙◌, refl, ap, subst}
-use Rattle.pi_engine.specs.Arenas.{view_of}
-use Rattle.pi_engine.specs.Stands.{world}
-use Rattle.pi_engine.proofs.BudgetLemmas.{counts_none, counts_then}
+use Rattle.pi_arenas.specs.Arenas.{view_of}
+use Rattle.pi_stands.specs.Stands.{world}
+use Rattle.pi_machine.proofs.BudgetLemmas.{counts_none, counts_then}
 use Rattle.pi_engine.specs.Turns.{StepIs, RunsAfter}
 use Rattle.pi_engine.proofs.NextTurns.{running-of, no-turns, one-turn, end-comes, answer-comes}
 use Rattle.pi_engine.proofs.turns.next_happening.Goals as goal

@@ -1,8 +1,8 @@
 use Rattle.std.proofs.Common.{◌<◌, refl, subst, arith}
-use Rattle.pi_engine.specs.declared.run.Now.{Now}
-use Rattle.pi_engine.specs.Arenas.{view_of}
-use Rattle.pi_engine.specs.Goes.{IsAt, IsIn}
-use Rattle.pi_engine.specs.Stands.{World, Stands, world}
+use Rattle.pi_arenas.specs.declared.run.Now.{Now}
+use Rattle.pi_arenas.specs.Arenas.{view_of}
+use Rattle.pi_stands.specs.Goes.{IsAt, IsIn}
+use Rattle.pi_stands.specs.Stands.{World, Stands, world}
 use Rattle.pi_engine.specs.Turns.{IsRunning}
 use Rattle.pi_engine.proofs.TurnsGo.{ticks-is, fails-is, raises-is}
 use Rattle.pi_engine.proofs.turns.step.Goals as goal

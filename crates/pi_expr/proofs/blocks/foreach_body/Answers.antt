@@ -1,4 +1,4 @@
-use Rattle.pi_types.specs.ExpTree as tree
+use Rattle.pi_syntax.specs.ExpTree as tree
 use Rattle.pi_expr.proofs.blocks.foreach_body.Goals as goal
 
 pub returns : goal.returns

@@ -1,4 +1,4 @@
-use Rattle.pi_types.specs.ExpTree as tree
+use Rattle.pi_syntax.specs.ExpTree as tree
 use Rattle.pi_expr.proofs.blocks.if_last.Goals as goal
 
 pub returns : goal.returns

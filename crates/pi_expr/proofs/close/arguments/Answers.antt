@@ -1,6 +1,6 @@
 use Rattle.std.proofs.Common.{refl}
 use Rattle.pi_expr.specs.Machine as m
-use Rattle.pi_types.specs.ExpTree.{no_exps}
+use Rattle.pi_syntax.specs.ExpTree.{no_exps}
 use Rattle.pi_expr.proofs.close.arguments.Goals as goal
 
 pub returns-in-Some : goal.returns-in-Some

@@ -1,6 +1,6 @@
 use Rattle.std.proofs.Common.{refl}
 use Rattle.pi_expr.specs.Machine as m
-use Rattle.pi_types.specs.ExpTree.{call, list, array, exp}
+use Rattle.pi_syntax.specs.ExpTree.{call, list, array, exp}
 use Rattle.pi_expr.proofs.close.closed.Goals as goal
 
 pub returns-in_ok-call-in-Call : goal.returns-in_ok-call-in-Call

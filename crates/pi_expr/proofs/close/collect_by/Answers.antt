@@ -1,7 +1,7 @@
 use Rattle.std.proofs.Common.{refl}
 use Rattle.pi_expr.specs.Machine as m
 use Rattle.pi_expr.proofs.TurnLemmas.{collects, collects_no, none_is}
-use Rattle.pi_types.specs.ExpTree.{no_exps}
+use Rattle.pi_syntax.specs.ExpTree.{no_exps}
 use Rattle.pi_expr.proofs.close.collect_by.Goals as goal
 
 pub returns-then-is_empty : goal.returns-then-is_empty

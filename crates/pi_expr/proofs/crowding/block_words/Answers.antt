@@ -1,6 +1,6 @@
 use Rattle.std.proofs.Common.{refl, ap, ◌∙◌, ◌+◌, arith}
 use Rattle.pi_lex.specs.Kinds.{kinds}
-use Rattle.pi_types.specs.Crowding.{is_block_word}
+use Rattle.pi_syntax.specs.Crowding.{is_block_word}
 use Rattle.pi_expr.proofs.CrowdLemmas.{stretch_step, words_on, one_if-le}
 use Rattle.pi_expr.specs.Crowds.{one_if}
 use Rattle.pi_expr.proofs.crowding.block_words.Goals as goal

@@ -1,7 +1,7 @@
 use Rattle.std.proofs.Common.{◌≡◌, ◌+◌, ◌≤◌}
 use Rattle.std.specs.Prelude.{count_by}
 use Rattle.pi_lex.specs.Kinds.{kinds}
-use Rattle.pi_types.specs.Crowding.{is_block_word}
+use Rattle.pi_syntax.specs.Crowding.{is_block_word}
 use Rattle.pi_expr.specs.Faults.{stretch}
 use Rattle.pi_expr.proofs.crowding.block_words.Given as goal
 

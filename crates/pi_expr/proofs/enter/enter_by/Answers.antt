@@ -1,6 +1,5 @@
-use Rattle.std.proofs.Common.{refl, subst}
-use Rattle.pi_types.specs.ExpTree.{int, str}
-use Rattle.std.proofs.Common.{ℤ, rules}
+use Rattle.std.proofs.Common.{refl, subst, ℤ, rules}
+use Rattle.pi_syntax.specs.ExpTree.{int, str}
 use Rattle.pi_expr.specs.Trees.{Shows}
 use Rattle.pi_expr.proofs.enter.enter_by.Goals as goal
 

@@ -1,7 +1,7 @@
 use Rattle.std.proofs.Common.{refl}
 use Rattle.pi_expr.specs.Machine as m
 use Rattle.pi_expr.proofs.StepLemmas.{enters_no}
-use Rattle.pi_types.specs.ExpTree.{no_branches}
+use Rattle.pi_syntax.specs.ExpTree.{no_branches}
 use Rattle.pi_expr.proofs.enter.enter_mark.Goals as goal
 
 pub returns-in-ConstraintNot : goal.returns-in-ConstraintNot

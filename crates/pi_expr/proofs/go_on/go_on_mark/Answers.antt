@@ -1,7 +1,7 @@
 use Rattle.std.proofs.Common.{refl, sym}
 use Rattle.pi_expr.specs.Machine as m
 use Rattle.pi_expr.proofs.StepLemmas.{continues_no}
-use Rattle.pi_types.specs.ExpTree.{one_exp, no_exps}
+use Rattle.pi_syntax.specs.ExpTree.{one_exp, no_exps}
 use Rattle.pi_expr.proofs.go_on.go_on_mark.Goals as goal
 
 pub returns-in-Plus : goal.returns-in-Plus

@@ -1,7 +1,7 @@
 use Rattle.std.proofs.Common.{refl}
 use Rattle.pi_expr.specs.Machine as m
-use Rattle.pi_types.specs.ExpTree.{one_exp}
-use Rattle.pi_types.specs.Grammar.{call_one}
+use Rattle.pi_syntax.specs.ExpTree.{one_exp}
+use Rattle.pi_syntax.specs.Grammar.{call_one}
 use Rattle.pi_expr.proofs.go_on.method.Goals as goal
 
 pub returns-in-Some : goal.returns-in-Some

@@ -1,7 +1,7 @@
 use Rattle.std.proofs.Common.{sym, subst}
 use Rattle.pi_expr.specs.Machine as m
-use Rattle.pi_types.specs.ExpTree.{ExpTree, levels}
-use Rattle.pi_types.specs.Crowding.{most_levels}
+use Rattle.pi_syntax.specs.ExpTree.{ExpTree, levels}
+use Rattle.pi_syntax.specs.Crowding.{most_levels}
 use Rattle.std.specs.Prelude.{◌≤◌}
 use Rattle.pi_expr.proofs.reader.whole.Goals as goal
 

@@ -1,5 +1,5 @@
 use Rattle.std.proofs.Common.{◌≡◌, drop}
-use Rattle.pi_types.specs.Terminals.{found_in}
+use Rattle.pi_syntax.specs.Terminals.{found_in}
 use Rattle.pi_expr.specs.Rows.{rows_shown}
 use Rattle.pi_expr.proofs.signs.found_in.Given as goal
 

@@ -1,5 +1,5 @@
 use Rattle.std.proofs.Common.{◌≡◌, drop}
-use Rattle.pi_types.specs.Tokens as spec
+use Rattle.pi_syntax.specs.Tokens as spec
 use Rattle.pi_lex.proofs.integers.digits_end.Given as goal
 
 abbrev pub invariant-loop-at : goal.invariant-loop-at

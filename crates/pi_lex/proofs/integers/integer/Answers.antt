@@ -1,6 +1,6 @@
 use Rattle.std.proofs.Common.{arith, ◌<◌}
 use Rattle.std.proofs.lemmas.Grind.{common_steps}
-use Rattle.pi_types.specs.Tokens.{digits_end}
+use Rattle.pi_syntax.specs.Tokens.{digits_end}
 use Rattle.pi_lex.proofs.LexLemmas.{first_digit}
 use Rattle.pi_lex.proofs.integers.integer.Goals as goal
 use Rattle.pi_lex.proofs.integers.integer.Goals.{then-radix-eq10, else-radix-eq10}

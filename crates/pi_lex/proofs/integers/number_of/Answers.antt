@@ -2,7 +2,7 @@ use Rattle.std.proofs.Common.{arith, ◌≤◌, ◌^◌, ◌+◌, ◌*◌, get_o
 use Rattle.std.proofs.lemmas.Grind.{common_steps}
 use Rattle.std.proofs.lemmas.Bool.Decides.{nat_tests}
 use Rattle.std.specs.Char.{digit_value}
-use Rattle.pi_types.specs.Tokens.{number_of}
+use Rattle.pi_syntax.specs.Tokens.{number_of}
 use Rattle.pi_lex.proofs.LexLemmas.{number_after-drop, le-number_after}
 use Rattle.pi_lex.proofs.integers.number_of.Goals as goal
 use Rattle.pi_lex.proofs.integers.number_of.Goals.{then-c-ne95+in_ok-number, else-c-ne95}

@@ -1,6 +1,6 @@
 use Rattle.std.proofs.Common.{◌≡◌, not, ◌==◌, ◌<◌, ◌^◌, drop, filter}
 use Rattle.std.specs.Str.Parse.{digits_value_after}
-use Rattle.pi_types.specs.Tokens.{number_of, underscore}
+use Rattle.pi_syntax.specs.Tokens.{number_of, underscore}
 use Rattle.pi_lex.proofs.integers.number_of.Given as goal
 
 abbrev pub invariant-loop-c : goal.invariant-loop-c

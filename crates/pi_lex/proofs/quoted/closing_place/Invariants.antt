@@ -1,5 +1,5 @@
 use Rattle.std.proofs.Common.{◌≡◌, false, drop}
-use Rattle.pi_types.specs.Tokens as spec
+use Rattle.pi_syntax.specs.Tokens as spec
 use Rattle.pi_lex.proofs.quoted.closing_place.Given as goal
 
 abbrev pub invariant-loop-at : goal.invariant-loop-at

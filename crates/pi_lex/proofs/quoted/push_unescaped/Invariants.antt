@@ -1,6 +1,6 @@
 use Rattle.std.proofs.Common.{◌≡◌, false, drop, ◌++◌, string_bytes, string_len, ◌+◌, ◌*◌, ◌≤◌}
 use Rattle.std.specs.Str.{encode_utf8_all}
-use Rattle.pi_types.specs.Tokens.{unescaped}
+use Rattle.pi_syntax.specs.Tokens.{unescaped}
 use Rattle.pi_lex.proofs.quoted.push_unescaped.Given as goal
 
 abbrev pub invariant-loop-c : goal.invariant-loop-c

@@ -2,7 +2,7 @@ use Rattle.pi_lex.proofs.NaturalLemmas.{read_natural}
 use Rattle.std.proofs.Common.{[], ◌∙◌, ap, arith}
 use Rattle.std.proofs.lemmas.Result.{err_from_is_err_and}
 use Rattle.std.specs.Str.{chars}
-use Rattle.pi_types.specs.Tokens.{too_long, not_utf8}
+use Rattle.pi_syntax.specs.Tokens.{too_long, not_utf8}
 use Rattle.pi_lex.proofs.ReaderLemmas.{HasFault-characters, HasTokens-characters, length-chars-le}
 use Rattle.pi_lex.proofs.reader.lex.Goals as goal
 

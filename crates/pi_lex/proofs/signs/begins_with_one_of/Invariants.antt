@@ -1,5 +1,5 @@
 use Rattle.std.proofs.Common.{◌≡◌, drop, map}
-use Rattle.pi_types.specs.Tokens as spec
+use Rattle.pi_syntax.specs.Tokens as spec
 use Rattle.pi_lex.proofs.signs.begins_with_one_of.Given as goal
 
 abbrev pub invariant-loop-sign : goal.invariant-loop-sign

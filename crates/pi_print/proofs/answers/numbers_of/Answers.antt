@@ -7,7 +7,7 @@ loop-named-init c = rw c.new-numbers.ensures (noted_variables _)
 
 pub loop-named-preserved : goal.loop-named-preserved
 loop-named-preserved c =
-    noted_item _ _ c.named-item.result _ _ c.in_ok-note_term.ensures.ok (front c.args.values.now c.loop-named.named-index c.named-item.result c.loop-named-test.true c.named-item.is)
+    noted_item _ _ c.named-item.result _ _ c.in_ok-meet_term.ensures.ok (front c.args.values.now c.loop-named.named-index c.named-item.result c.loop-named-test.true c.named-item.is)
     ∙ c.loop-named.invariant
 
 pub returns : goal.returns

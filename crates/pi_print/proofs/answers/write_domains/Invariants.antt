@@ -1,6 +1,6 @@
 use Rattle.std.proofs.Common.{◌≡◌, ◌++◌, drop}
 use Rattle.std.specs.List.{flat_map}
-use Rattle.pi_types.specs.PrintAnswer.{domain_of, domain_line_if, domain_lines}
+use Rattle.pi_print.specs.PrintAnswer.{domain_of, domain_line_if, domain_lines}
 use Rattle.pi_print.proofs.answers.write_domains.Given as goal
 
 abbrev pub invariant-loop-var : goal.invariant-loop-var

@@ -1,6 +1,6 @@
 use Rattle.std.proofs.Common.{◌≡◌, ◌++◌, drop}
 use Rattle.std.specs.String.{string_bytes}
-use Rattle.pi_types.specs.PrintAnswer.{more_spans_text}
+use Rattle.pi_print.specs.PrintAnswer.{more_spans_text}
 use Rattle.pi_print.proofs.answers.write_spans.Given as goal
 
 abbrev pub invariant-loop-span : goal.invariant-loop-span

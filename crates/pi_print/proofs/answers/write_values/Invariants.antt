@@ -1,5 +1,5 @@
 use Rattle.std.proofs.Common.{◌≡◌, ◌++◌, drop, map}
-use Rattle.pi_types.specs.PrintAnswer.{value_line}
+use Rattle.pi_print.specs.PrintAnswer.{value_line}
 use Rattle.pi_print.proofs.answers.write_values.Given as goal
 
 abbrev pub invariant-loop-named : goal.invariant-loop-named

@@ -1,6 +1,6 @@
 use Rattle.std.proofs.Common.{ap, sym, ◌∙◌, refl}
 use Rattle.pi_print.proofs.CharacterLemmas.{Item, some_left, at_nil, at_cell, at_other}
-use Rattle.pi_types.specs.Tree.{atom, tree}
+use Rattle.pi_terms.specs.Tree.{atom, tree}
 use Rattle.pi_print.proofs.characters.read_characters.Goals as goal
 
 pub loop-name-init : goal.loop-name-init

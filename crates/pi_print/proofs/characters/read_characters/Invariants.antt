@@ -1,5 +1,5 @@
 use Rattle.std.specs.String.{string_bytes}
-use Rattle.pi_types.specs.Tree.{cells_all}
+use Rattle.pi_terms.specs.Tree.{cells_all}
 use Rattle.pi_print.specs.Roots.{SameList}
 use Rattle.pi_print.proofs.characters.read_characters.Given as goal
 

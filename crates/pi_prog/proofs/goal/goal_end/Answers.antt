@@ -1,5 +1,5 @@
 use Rattle.std.proofs.Common.{◌∙◌, sym}
-use Rattle.pi_prog.proofs.GoalLemmas.{no_tokens, goal_before, goal_whole}
+use Rattle.pi_prog.proofs.goal.GoalLemmas.{no_tokens, goal_before, goal_whole}
 use Rattle.pi_prog.proofs.goal.goal_end.Goals as goal
 
 pub returns-then-count-eq0-clause-before : goal.returns-then-count-eq0-clause-before

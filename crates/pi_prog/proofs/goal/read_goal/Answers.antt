@@ -1,6 +1,6 @@
-use Rattle.pi_types.specs.ProgramTree.{source_tree}
+use Rattle.pi_syntax.specs.ProgramTree.{source_tree}
 use Rattle.pi_lex.specs.Kinds.{kinds}
-use Rattle.pi_prog.proofs.GoalLemmas.{answers_goal}
+use Rattle.pi_prog.proofs.goal.GoalLemmas.{answers_goal}
 use Rattle.pi_prog.proofs.goal.read_goal.Goals as goal
 
 pub returns-clause-exact : goal.returns-clause-exact

@@ -1,4 +1,4 @@
-use Rattle.pi_prog.proofs.GoalLemmas.{no_expression, too_deep_goal}
+use Rattle.pi_prog.proofs.goal.GoalLemmas.{no_expression, too_deep_goal}
 use Rattle.pi_prog.proofs.goal.unread.Goals as goal
 
 pub returns-in-NoExpression : goal.returns-in-NoExpression

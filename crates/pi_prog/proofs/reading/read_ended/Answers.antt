@@ -1,5 +1,5 @@
 use Rattle.std.proofs.Common.{refl, sym, ◌∙◌}
-use Rattle.pi_prog.proofs.PartLemmas.{so_far_on, so_far_push}
+use Rattle.pi_prog.proofs.reading.PartLemmas.{so_far_on, so_far_push}
 use Rattle.pi_prog.proofs.reading.read_ended.Goals as goal
 
 pub returns-then-not-is_end : goal.returns-then-not-is_end

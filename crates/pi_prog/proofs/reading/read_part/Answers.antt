@@ -1,4 +1,6 @@
-use Rattle.pi_prog.proofs.ReadingLemmas.{few_by, part_crowded, part_misdeclared, clause_plain, clause_indexed}
+use Rattle.pi_expr.proofs.CrowdLemmas.{few_by}
+use Rattle.pi_prog.proofs.reading.declaration.ModesLemmas.{opens_few}
+use Rattle.pi_prog.proofs.reading.ReadingLemmas.{part_crowded, part_misdeclared, clause_plain, clause_indexed}
 use Rattle.pi_prog.proofs.reading.read_part.Goals as goal
 
 pub returns-then-is_crowded : goal.returns-then-is_crowded
@@ -12,7 +14,12 @@ returns-in-Misdeclared c =
 pub returns-in-Importing : goal.returns-in-Importing
 returns-in-Importing c =
     let opens = rw c.in-Importing.is at c.in_ok-opening.ensures in
-    c.imported.ensures _ (few_by _ _ c.is_crowded.ensures c.if-is_crowded.false) opens
+    c.import_part.ensures _ (few_by _ _ c.is_crowded.ensures c.if-is_crowded.false) opens
+
+pub read_behind-requires-clause-uncrowded : goal.read_behind-requires-clause-uncrowded
+read_behind-requires-clause-uncrowded c =
+    let opens = rw c.in-Indexing.is at c.in_ok-opening.ensures in
+    opens_few opens.2 (few_by _ _ c.is_crowded.ensures c.if-is_crowded.false)
 
 pub returns-in_ok-part-in-Indexing : goal.returns-in_ok-part-in-Indexing
 returns-in_ok-part-in-Indexing c =

@@ -1,6 +1,6 @@
 -- The clause begins a predicate, or goes on with the last one.
 use Rattle.std.proofs.Common.{◌≡◌, ◌∙◌, ap, sym, [], ◌∷◌, ◌++◌}
-use Rattle.pi_types.specs.ExpTree.{exp_tree}
+use Rattle.pi_syntax.specs.ExpTree.{exp_tree}
 use Rattle.pi_rewrite.proofs.ClauseLemmas.{no-items, adds-first, adds-same, adds-other}
 use Rattle.pi_rewrite.proofs.clauses.add_clause.Goals as goal
 

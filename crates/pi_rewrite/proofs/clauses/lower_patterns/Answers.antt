@@ -1,13 +1,13 @@
 -- One more, by the slots that those before it take.
-use Rattle.std.proofs.Common.{◌≡◌, ◌+◌, ◌<◌, ◌≤◌, [], ◌∷◌, ◌++◌, length, get_or, take, List, refl, subst, sym, ◌∙◌, ap, arith}
+use Rattle.std.proofs.Common.{◌≡◌, ◌+◌, ◌<◌, ◌≤◌, [], ◌∷◌, ◌++◌, length, get_or, take, List, subst, sym, ◌∙◌, ap}
 use Rattle.std.proofs.lemmas.List.{take_all}
-use Rattle.pi_types.specs.ExpTree.{exp_tree}
-use Rattle.pi_types.specs.declared.exp.Exp.{Exp}
-use Rattle.pi_types.specs.CoreTree.{pattern_trees}
+use Rattle.pi_syntax.specs.declared.exp.Exp.{Exp}
+use Rattle.pi_core.specs.CoreTree.{pattern_trees}
 use Rattle.pi_rewrite.specs.Lowered.{SlotNames, lowered_patterns, slots_after, slots_after_all}
 use Rattle.pi_rewrite.specs.Built.{IsSlots}
-use Rattle.pi_types.specs.ExpLists.{exps_of}
+use Rattle.pi_syntax.specs.ExpLists.{exps_of}
 use Rattle.pi_rewrite.proofs.ListLemmas.{patterns-push, after-push, one-more}
+use Rattle.pi_rewrite.proofs.BuiltWithin.{term-at}
 use Rattle.pi_rewrite.proofs.clauses.lower_patterns.Goals as goal
 
 pub loop-arg-init : goal.loop-arg-init
@@ -37,3 +37,9 @@ pub returns-clause-slots : goal.returns-clause-slots
 returns-clause-slots c = λ ns is.
     let all : length c.args.args.now.items ≤ c.loop-arg.arg-index = subst (λ n. n ≤ c.loop-arg.arg-index) (ap length c.deref-arg-items.ensures.value) c.loop-arg-test.false in
     subst (λ xs. IsSlots c.loop-arg.slots (slots_after_all (exps_of xs) ns)) (take_all c.loop-arg.arg-index c.args.args.now.items all) (c.loop-arg.invariant ns is).1
+
+pub lower_pattern-requires : goal.lower_pattern-requires
+lower_pattern-requires c =
+    let es : List Exp = c.args.args.now.items in
+    let within : c.loop-arg.arg-index < length es = subst (λ n. c.loop-arg.arg-index < n) (ap length c.deref-arg-items.ensures.value) c.loop-arg-test.true in
+    term-at c.loop-arg.arg-index es c.arg-item.result within (c.arg-item.is ∙ ap (λ xs. get_or xs c.loop-arg.arg-index c.arg-item.result) c.deref-arg-items.ensures.value) c.requires

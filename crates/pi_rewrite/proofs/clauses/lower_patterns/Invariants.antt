@@ -1,8 +1,8 @@
 use Rattle.std.proofs.Common.{◌≡◌, take}
-use Rattle.pi_types.specs.CoreTree.{pattern_trees}
+use Rattle.pi_core.specs.CoreTree.{pattern_trees}
 use Rattle.pi_rewrite.specs.Lowered.{SlotNames, slots_after_all, lowered_patterns}
 use Rattle.pi_rewrite.specs.Built.{IsSlots}
-use Rattle.pi_types.specs.ExpLists.{exps_of}
+use Rattle.pi_syntax.specs.ExpLists.{exps_of}
 use Rattle.pi_rewrite.proofs.clauses.lower_patterns.Given as goal
 
 -- the first so many are lowered

@@ -1,6 +1,6 @@
 -- The slots of the head are those before the body.
-use Rattle.std.proofs.Common.{◌≡◌, [], ◌∙◌, refl, None}
-use Rattle.pi_types.specs.ExpTree.{exp_tree}
+use Rattle.std.proofs.Common.{[], ◌∙◌, refl, None}
+use Rattle.pi_syntax.specs.ExpTree.{exp_tree}
 use Rattle.pi_rewrite.specs.Lowered.{slots_of_head}
 use Rattle.pi_rewrite.specs.Built.{IsSlots}
 use Rattle.pi_rewrite.proofs.ClauseLemmas.{clause-is}

@@ -1,10 +1,10 @@
 -- What a head names.
 use Rattle.std.proofs.Common.{◌≡◌, ℕ, List, sym, ◌∙◌, ap}
 use Rattle.std.specs.Prelude.{Option, Some}
-use Rattle.pi_types.specs.Small.{Signature, signature, exp_count}
-use Rattle.pi_types.specs.ExpLists.{exps_of}
+use Rattle.pi_syntax.specs.Signature.{Signature, signature, exp_count}
+use Rattle.pi_syntax.specs.ExpLists.{exps_of}
 use Rattle.pi_rewrite.proofs.ExpLemmas.{is-atom, is-call}
-use Rattle.pi_types.proofs.ExpListLemmas.{exp_count-exps_of}
+use Rattle.pi_syntax.proofs.ExpListLemmas.{exp_count-exps_of}
 use Rattle.pi_rewrite.proofs.clauses.signature.Goals as goal
 
 named : List ℕ → ℕ → Option Signature

@@ -1,7 +1,7 @@
 use Rattle.std.proofs.Common.{◌≡◌, take}
 use Rattle.pi_rewrite.specs.Lowered.{SlotNames, slots_after_all, lowered_terms}
 use Rattle.pi_rewrite.specs.Built.{IsSlots}
-use Rattle.pi_types.specs.ExpLists.{exps_of}
+use Rattle.pi_syntax.specs.ExpLists.{exps_of}
 use Rattle.pi_rewrite.proofs.goals.lower_args.Given as goal
 
 -- the first so many are lowered

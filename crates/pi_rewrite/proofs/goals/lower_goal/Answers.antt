@@ -1,11 +1,12 @@
 -- What each form is lowered to.
-use Rattle.std.proofs.Common.{◌≡◌, List, subst, sym, ◌∙◌, ap}
-use Rattle.pi_types.specs.Tree.{Tree}
-use Rattle.pi_types.specs.GoalTree.{call}
-use Rattle.pi_types.specs.ExpTree.{ExpTree, exp_tree}
+use Rattle.std.proofs.Common.{List, subst, sym, ◌∙◌, ap}
+use Rattle.pi_terms.specs.Tree.{Tree}
+use Rattle.pi_core.specs.GoalTree.{call}
+use Rattle.pi_syntax.specs.ExpTree.{ExpTree}
 use Rattle.pi_rewrite.specs.Lowered.{lowered_atom, lowered_goal, slots_after}
 use Rattle.pi_rewrite.specs.Built.{IsSlots}
 use Rattle.pi_rewrite.proofs.ExpLemmas.{is-atom, is-call}
+use Rattle.pi_rewrite.proofs.BuiltWithin.{terms-in_goal}
 use Rattle.pi_rewrite.proofs.goals.lower_goal.Goals as goal
 
 pub returns-in_ok-made-in-Atom-clause-is : goal.returns-in_ok-made-in-Atom-clause-is
@@ -29,3 +30,6 @@ unfolding slots_after
 returns-in_ok-made-in-Call-clause-slots c = λ ns is.
     subst (λ (t : ExpTree). IsSlots c.lower_args.new.slots (slots_after t ns)) (sym (is-call c.args.goal.now c.in-Call.name c.in-Call.args c.in-Call.is))
     (c.in_ok-terms-in-Call.ensures.slots ns is)
+
+pub lower_args-requires : goal.lower_args-requires
+lower_args-requires c = terms-in_goal c.args.goal.now c.in-Call.name c.in-Call.args c.in-Call.is c.requires

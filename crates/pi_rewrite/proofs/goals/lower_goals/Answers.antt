@@ -1,13 +1,13 @@
 -- One more, by the slots that those before it take.
-use Rattle.std.proofs.Common.{◌≡◌, ◌+◌, ◌<◌, ◌≤◌, [], ◌∷◌, ◌++◌, length, get_or, take, List, refl, subst, sym, ◌∙◌, ap, arith}
+use Rattle.std.proofs.Common.{◌≡◌, ◌+◌, ◌<◌, ◌≤◌, [], ◌∷◌, ◌++◌, length, get_or, take, List, subst, sym, ◌∙◌, ap}
 use Rattle.std.proofs.lemmas.List.{take_all}
-use Rattle.pi_types.specs.ExpTree.{exp_tree}
-use Rattle.pi_types.specs.declared.exp.Exp.{Exp}
-use Rattle.pi_types.specs.GoalTree.{goals_of}
+use Rattle.pi_syntax.specs.declared.exp.Exp.{Exp}
+use Rattle.pi_core.specs.GoalTree.{goals_of}
 use Rattle.pi_rewrite.specs.Lowered.{SlotNames, lowered_goals, slots_after, slots_after_all}
 use Rattle.pi_rewrite.specs.Built.{IsSlots}
-use Rattle.pi_types.specs.ExpLists.{exps_of}
+use Rattle.pi_syntax.specs.ExpLists.{exps_of}
 use Rattle.pi_rewrite.proofs.ListLemmas.{goals-push, after-push, one-more}
+use Rattle.pi_rewrite.proofs.BuiltWithin.{goal-at}
 use Rattle.pi_rewrite.proofs.goals.lower_goals.Goals as goal
 
 pub loop-goal-init : goal.loop-goal-init
@@ -37,3 +37,9 @@ pub returns-clause-slots : goal.returns-clause-slots
 returns-clause-slots c = λ ns is.
     let all : length c.args.goals.now.items ≤ c.loop-goal.goal-index = subst (λ n. n ≤ c.loop-goal.goal-index) (ap length c.deref-goal-items.ensures.value) c.loop-goal-test.false in
     subst (λ xs. IsSlots c.loop-goal.slots (slots_after_all (exps_of xs) ns)) (take_all c.loop-goal.goal-index c.args.goals.now.items all) (c.loop-goal.invariant ns is).1
+
+pub lower_goal-requires : goal.lower_goal-requires
+lower_goal-requires c =
+    let es : List Exp = c.args.goals.now.items in
+    let within : c.loop-goal.goal-index < length es = subst (λ n. c.loop-goal.goal-index < n) (ap length c.deref-goal-items.ensures.value) c.loop-goal-test.true in
+    goal-at c.loop-goal.goal-index es c.goal-item.result within (c.goal-item.is ∙ ap (λ xs. get_or xs c.loop-goal.goal-index c.goal-item.result) c.deref-goal-items.ensures.value) c.requires

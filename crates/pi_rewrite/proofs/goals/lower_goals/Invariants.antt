@@ -1,8 +1,8 @@
 use Rattle.std.proofs.Common.{◌≡◌, take}
-use Rattle.pi_types.specs.GoalTree.{goals_of}
+use Rattle.pi_core.specs.GoalTree.{goals_of}
 use Rattle.pi_rewrite.specs.Lowered.{SlotNames, slots_after_all, lowered_goals}
 use Rattle.pi_rewrite.specs.Built.{IsSlots}
-use Rattle.pi_types.specs.ExpLists.{exps_of}
+use Rattle.pi_syntax.specs.ExpLists.{exps_of}
 use Rattle.pi_rewrite.proofs.goals.lower_goals.Given as goal
 
 -- the first so many are lowered

@@ -1,8 +1,8 @@
-use Rattle.std.proofs.Common.{◌≡◌, Some, sym, ap, ◌∙◌}
+use Rattle.std.proofs.Common.{ap, ◌∙◌}
 use Rattle.std.specs.String.{string_bytes}
-use Rattle.pi_types.specs.ProgramTree.{source_tree, goal_source}
+use Rattle.pi_syntax.specs.ProgramTree.{source_tree}
 use Rattle.pi_top.specs.FaultLines.{of_program, of_goal}
-use Rattle.pi_top.specs.Judged.{IsProgramLine, IsGoalLine, program_fault, goal_fault, not_built, unbuilt_line}
+use Rattle.pi_top.specs.Judged.{IsProgramLine, IsGoalLine, program_fault, goal_fault}
 use Rattle.pi_top.proofs.judgement.judge.Goals as goal
 
 pub returns-in-Err-Line : goal.returns-in-Err-Line
@@ -16,10 +16,3 @@ returns-in-Err-Line-goal_of c =
     let line = string_bytes c.in-Err-Line-goal_of.line in
     let is : IsGoalLine c.args.goal.now (source_tree c.in-Ok.program) line = rw c.in-Err-Line-goal_of.field-0-is at c.in-Err-Line-goal_of.ensures.line in
     goal_fault (source_tree c.in-Ok.program) line c.in-Ok.ensures.program is (c.in_ok-of_goal-in-Err-Line-goal_of.ensures ∙ ap of_goal c.as_str-in-Err-Line-goal_of.ensures.value)
-
-pub returns-in-Some : goal.returns-in-Some
-returns-in-Some c =
-    let p = source_tree c.in-Ok.program in
-    let e = goal_source c.in-Ok-goal_of.goal in
-    let is : Some (string_bytes c.in-Some.line) ≡ unbuilt_line p e = rw c.in-Some.is at c.in_ok-line.ensures in
-    not_built p e (record { is_program = c.in-Ok.ensures.program; is_goal = c.in-Ok-goal_of.ensures.goal }) (sym is)

@@ -1,7 +1,7 @@
 use Rattle.std.proofs.Common.{◌≡◌, ◌≤◌, [], ◌∷◌, ◌++◌, refl, ap, sym, subst, rules, arith}
-use Rattle.pi_types.specs.CoreTree.{program_tree, query_tree}
-use Rattle.pi_types.specs.View.{query_view}
-use Rattle.pi_engine.specs.Budget.{IsWithin}
+use Rattle.pi_core.specs.CoreTree.{program_tree, query_tree}
+use Rattle.pi_meaning.specs.View.{query_view}
+use Rattle.pi_machine.specs.Budget.{IsWithin}
 use Rattle.pi_top.specs.declared.outcome.QueryRun.{QueryRun}
 use Rattle.pi_top.specs.Runs.{AllWithin}
 use Rattle.pi_top.proofs.MachineRuns.{stands-runs}

@@ -1,5 +1,5 @@
 use Rattle.std.proofs.lemmas.Result.{err_from_is_err_and}
-use Rattle.pi_types.specs.CoreTree.{program_tree, query_tree}
+use Rattle.pi_core.specs.CoreTree.{program_tree, query_tree}
 use Rattle.pi_top.proofs.QueryRuns.{cut-before}
 use Rattle.pi_top.proofs.query.run_query.Goals as goal
 

@@ -1,7 +1,7 @@
 use Rattle.std.proofs.Common.{◌≡◌, ℕ, List, subst, ◌∙◌}
 use Rattle.std.specs.List.{concat}
 use Rattle.std.proofs.lemmas.Result.{err_from_is_err_and}
-use Rattle.pi_types.specs.PrintAnswer.{answer_lines}
+use Rattle.pi_print.specs.PrintAnswer.{answer_lines}
 use Rattle.pi_top.specs.Prefix.{TakesFront}
 use Rattle.pi_top.proofs.WrittenLines.{line-then, line-cut}
 use Rattle.pi_top.proofs.query.write_answer.Goals as goal

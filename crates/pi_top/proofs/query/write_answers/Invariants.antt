@@ -1,6 +1,6 @@
 use Rattle.std.proofs.Common.{◌≡◌, List}
-use Rattle.pi_types.specs.CoreTree.{PredTree, QueryTree}
-use Rattle.pi_engine.specs.Budget.{IsWithin}
+use Rattle.pi_core.specs.CoreTree.{PredTree, QueryTree}
+use Rattle.pi_machine.specs.Budget.{IsWithin}
 use Rattle.pi_engine.specs.Runs.{machine_view}
 use Rattle.pi_top.specs.Running.{IsAtStart, IsWritten}
 use Rattle.pi_top.proofs.query.write_answers.Given as goal

@@ -1,9 +1,12 @@
 use Rattle.std.proofs.Common.{ℕ, List, subst}
 use Rattle.std.specs.String.{string_bytes}
+use Rattle.pi_core.specs.CoreTree.{program_tree, query_tree}
 use Rattle.std.proofs.lemmas.Result.{err_from_is_err_and}
+use Rattle.pi_top.specs.Headline.{IsAsked}
 use Rattle.pi_top.specs.Judged.{Refused}
 use Rattle.pi_top.specs.Writing.{Writes}
-use Rattle.pi_top.proofs.Endings.{text-nothing, text-refused}
+use Rattle.pi_top.proofs.Endings.{text-nothing, text-ran, text-refused}
+use Rattle.pi_top.proofs.Runnable.{asked-runnable}
 use Rattle.pi_top.proofs.top.asked_of_text.Goals as goal
 
 pub returns-in_err-judged-clause-answers : goal.returns-in_err-judged-clause-answers
@@ -21,3 +24,15 @@ returns-in-Refused-clause-answers g c =
     let is : Refused text c.args.goal.now line = subst (λ (of_goal : List ℕ). Refused text of_goal line) c.as_bytes.ensures.value shown in
     let told : Writes before line after c.ended.result = subst (λ (l : List ℕ). Writes before l after c.ended.result) c.as_str.ensures.value c.ended.ensures.told in
     λ some none. text-refused c.args.asked.now text c.args.goal.now line c.args.queries.now before after c.ended.result is none c.ended.ensures.status told
+
+pub returns-in-Asks-clause-answers : goal.returns-in-Asks-clause-answers
+returns-in-Asks-clause-answers g c =
+    let text = c.args.text.now in
+    let core = program_tree c.in-Asks.core in
+    let query = query_tree c.in-Asks.query in
+    let shown : IsAsked text c.as_bytes.result.now core query = rw c.in-Asks.is at c.in_ok-judged.ensures in
+    let is : IsAsked text c.args.goal.now core query = subst (λ (of_goal : List ℕ). IsAsked text of_goal core query) c.as_bytes.ensures.value shown in
+    λ some none.
+    text-ran c.args.asked.now text c.args.goal.now core query c.args.queries.now c.run_query.new.queries
+    (g.O.Sink.taken c.args.out.now) (g.O.Sink.taken c.run_query.new.out) c.run_query.result none is
+    (c.run_query.ensures.comes (asked-runnable text c.args.goal.now core query is) some)

@@ -1,10 +1,10 @@
 use Rattle.std.proofs.Common.{◌≡◌, ℕ, ◌+◌, ◌≤◌, List, length, Some, ap, sym, ◌∙◌, subst, rules, arith}
 use Rattle.std.specs.Prelude.{Contains}
-use Rattle.pi_types.specs.Tree.{var, int, atom, comp, args, arity}
-use Rattle.pi_types.specs.Variables.{IsGround}
-use Rattle.pi_types.specs.State.{next}
-use Rattle.pi_types.specs.Store.{IsTerm, ShowsCell}
-use Rattle.pi_types.specs.declared.store.Cell.{Cell}
+use Rattle.pi_terms.specs.Tree.{var, int, atom, comp, args, arity}
+use Rattle.pi_terms.specs.Variables.{IsGround}
+use Rattle.pi_states.specs.State.{next}
+use Rattle.pi_states.specs.Store.{IsTerm, ShowsCell}
+use Rattle.pi_states.specs.declared.store.Cell.{Cell}
 use Rattle.pi_unify.specs.Terms.{value_of, term_of}
 use Rattle.pi_unify.specs.Copying.{renumbered}
 use Rattle.pi_unify.proofs.TermValues.{given_term}

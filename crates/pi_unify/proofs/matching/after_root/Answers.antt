@@ -1,9 +1,9 @@
 use Rattle.std.proofs.Common.{◌≡◌, ◌+◌, List, ap, sym, ◌∙◌, refl, subst}
-use Rattle.pi_types.specs.State.{bindings}
-use Rattle.pi_types.specs.PatternTree.{PatternTree, compound}
-use Rattle.pi_types.specs.CoreTree.{pattern_tree, pattern_trees}
+use Rattle.pi_states.specs.State.{bindings}
+use Rattle.pi_terms.specs.PatternTree.{PatternTree, compound}
+use Rattle.pi_core.specs.CoreTree.{pattern_tree, pattern_trees}
 use Rattle.pi_unify.specs.Terms.{IsGiven, HoldsNoCycle, term_of}
-use Rattle.pi_types.specs.declared.core_program.Pattern.{Pattern}
+use Rattle.pi_core.specs.declared.core_program.Pattern.{Pattern}
 use Rattle.pi_unify.specs.Matching.{nodes, nodes_left, AreLeft, HasFewer, LeavesNodes, LeavesFewer, GoesBehind, ComesBehind, TakesPending, FitsRoot, Pushes}
 use Rattle.pi_unify.specs.declared.matching.Pending.{Pending}
 use Rattle.pi_unify.proofs.PatternLemmas.{pattern_tree-comp, pattern_tree-named}

@@ -1,5 +1,5 @@
 use Rattle.std.proofs.Common.{true, false, subst}
-use Rattle.pi_types.specs.CoreTree.{pattern_tree}
+use Rattle.pi_core.specs.CoreTree.{pattern_tree}
 use Rattle.pi_unify.specs.Terms.{term_of}
 use Rattle.pi_unify.specs.Matching.{slot_terms, GoesBehind, LeavesFewer, EndsBehind, ComesBehind}
 use Rattle.pi_unify.proofs.TermValues.{term_given}

@@ -1,5 +1,5 @@
 use Rattle.std.proofs.Common.{◌+◌}
-use Rattle.pi_types.specs.CoreTree.{pattern_tree}
+use Rattle.pi_core.specs.CoreTree.{pattern_tree}
 use Rattle.pi_unify.specs.Terms.{IsGiven, HoldsNoCycle, term_of}
 use Rattle.pi_unify.specs.Matching.{HoldAllGiven, FillsEmpty, AreWithin, nodes, nodes_left}
 use Rattle.pi_unify.proofs.MatchLoopLemmas.{Goes}

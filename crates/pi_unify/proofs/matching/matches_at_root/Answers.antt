@@ -1,10 +1,10 @@
 use Rattle.std.proofs.Common.{◌≡◌, ap, sym, ◌∙◌, subst, rules}
-use Rattle.pi_types.specs.Tree.{int}
-use Rattle.pi_types.specs.State.{bindings, followed}
-use Rattle.pi_types.specs.Store.{ShowsCell}
-use Rattle.pi_types.specs.Order.{identical}
-use Rattle.pi_types.specs.PatternTree.{PatternTree, exact_atom}
-use Rattle.pi_types.specs.CoreTree.{pattern_tree, pattern_trees}
+use Rattle.pi_terms.specs.Tree.{int}
+use Rattle.pi_states.specs.State.{bindings, followed}
+use Rattle.pi_states.specs.Store.{ShowsCell}
+use Rattle.pi_terms.specs.Order.{identical}
+use Rattle.pi_terms.specs.PatternTree.{PatternTree, exact_atom}
+use Rattle.pi_core.specs.CoreTree.{pattern_tree, pattern_trees}
 use Rattle.pi_unify.specs.Terms.{term_of}
 use Rattle.pi_unify.specs.Matching.{slot_terms, root_match, TellsMatch, is_compound_of, is_int_in, pattern_count}
 use Rattle.pi_unify.proofs.TermValues.{given_term}

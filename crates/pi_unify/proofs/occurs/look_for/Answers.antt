@@ -1,14 +1,13 @@
-use Rattle.std.proofs.Common.{sym, ◌∙◌, [], inl, inr, ap, vec_items}
-use Rattle.pi_types.specs.Tree.{args}
-use Rattle.pi_types.specs.State.{bindings, IsState}
+use Rattle.std.proofs.Common.{sym, []}
+use Rattle.pi_terms.specs.Tree.{args}
+use Rattle.pi_states.specs.State.{bindings, IsState}
 use Rattle.pi_unify.specs.Refs.{IsRef, term_of, root_of}
 use Rattle.pi_unify.specs.Ahead.{term_and, args_on, AreArgs}
 use Rattle.pi_unify.specs.Answers.{TakesArg, LooksFor}
 use Rattle.pi_unify.proofs.RootLemmas.{shown_other}
 use Rattle.pi_unify.proofs.BindLemmas.{if_ok}
-use Rattle.pi_unify.proofs.OccursLemmas.{ground_holds_none, variable_found, variable_not_found, looked_past, looked_inside, constant_holds_none, compound_root, args_put, ArgsPut, no_args_shown}
+use Rattle.pi_unify.proofs.OccursLemmas.{ground_holds_none, variable_found, variable_not_found, looked_past, looked_inside, constant_holds_none, compound_root, args_put, no_args_shown}
 use Rattle.pi_unify.proofs.occurs.look_for.Goals as goal
-use Rattle.pi_unify.proofs.occurs.look_for.Goals.{then-count-gt0+in_ok-push-in-Comp, else-count-gt0}
 
 pub returns-then-is_ground : goal.returns-then-is_ground
 returns-then-is_ground g c =
@@ -39,21 +38,17 @@ returns-else-n-v g c =
     let root = c.in-Var.ensures.shows (term_of v r) ref.is is.acyclic in
     looked_past v c.args.v r fs gs look (variable_not_found v r c.in-Var.n c.args.v is ref root c.if-n-v.false) (takes is all))
 
-pub returns-after-count-gt0 : goal.returns-after-count-gt0
-returns-after-count-gt0 g c =
+pub returns-in_ok-leave_all-in-Comp : goal.returns-in_ok-leave_all-in-Comp
+returns-in_ok-leave_all-in-Comp g c =
     let v = g.S.StateStore.seen c.args.s.now in
     let r = c.args.at in
     let fs = c.args.ahead.now.items in
-    let hs = c.if-count-gt0.ahead.items in
+    let hs = c.leave_all.new.rests.items in
     let gs = c.next_arg-in-Comp.new.ahead.items in
-    let put : ArgsPut r c.in-Comp.count fs hs = elim c.if-count-gt0.branch [
-      | then-count-gt0+in_ok-push-in-Comp w ↦ inl (w.if-count-gt0.true, ap vec_items w.ahead-is ∙ w.in_ok-push-in-Comp.ensures.items)
-      | else-count-gt0 w ↦ inr (w.if-count-gt0.false, ap vec_items w.ahead-is)
-    ] in
     if_ok c.next_arg-in-Comp.result (λ look. IsState v.now.state → AreArgs v hs → TakesArg v hs look gs) (λ look. IsState v.now.state → IsRef v r → AreArgs v fs → LooksFor v c.args.v (term_and v r fs) look gs) c.next_arg-in-Comp.ensures
     (λ look takes is ref all.
     let root = c.in-Comp.ensures.shows (term_of v r) ref.is is.acyclic in
-    let here = args_put v r c.in-Comp.count fs hs ref (sym root.3) all put in
+    let here = args_put v r c.in-Comp.count fs hs ref (sym root.3) all c.in_ok-leave_all-in-Comp.ensures in
     looked_inside v c.args.v r fs hs gs look is (compound_root (root_of v r) root.0 (args (root_of v r)) root.2) here.1 (takes is here.0))
 
 pub returns-in_default : goal.returns-in_default

@@ -1,6 +1,6 @@
 use Rattle.std.proofs.Common.{◌≡◌, sym, ap, ◌∙◌}
 use Rattle.std.proofs.lemmas.Cmp.{nat_list_cmp_total, tied_itself}
-use Rattle.pi_types.specs.Order.{name_order}
+use Rattle.pi_terms.specs.Order.{name_order}
 use Rattle.pi_unify.proofs.order.order_of_names.Goals as goal
 
 pub returns-then-j-k : goal.returns-then-j-k

@@ -1,5 +1,5 @@
 use Rattle.std.proofs.Common.{sym, ◌∙◌, arith}
-use Rattle.pi_types.specs.Tree.{subterms}
+use Rattle.pi_terms.specs.Tree.{subterms}
 use Rattle.pi_unify.proofs.BuildLemmas.{NodeAt, node_at, more_variables, same_variables, all_variables, no_variables}
 use Rattle.pi_unify.proofs.placing.numbers_of.Goals as goal
 use Rattle.pi_unify.proofs.placing.numbers_of.Goals.{in-Var+in_ok-meet, in_default}

@@ -1,6 +1,6 @@
 use Rattle.std.proofs.Common.{◌≡◌, take}
-use Rattle.pi_types.specs.Tree.{subterms}
-use Rattle.pi_types.specs.Variables.{firsts}
+use Rattle.pi_terms.specs.Tree.{subterms}
+use Rattle.pi_terms.specs.Variables.{firsts}
 use Rattle.pi_unify.specs.Copying.{root_variables}
 use Rattle.pi_unify.proofs.placing.numbers_of.Given as goal
 

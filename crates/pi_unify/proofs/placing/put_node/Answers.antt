@@ -1,6 +1,6 @@
 use Rattle.std.proofs.Common.{◌≡◌, ap, ◌∙◌, subst, Some, rules}
-use Rattle.pi_types.specs.Tree.{int, atom, ShowsHead}
-use Rattle.pi_types.specs.Store.{IsTerm}
+use Rattle.pi_terms.specs.Tree.{int, atom, ShowsHead}
+use Rattle.pi_states.specs.Store.{IsTerm}
 use Rattle.pi_unify.specs.Copying.{renumbered}
 use Rattle.pi_unify.proofs.PlaceLemmas.{puts_variable, puts_integer, puts_atom}
 use Rattle.pi_unify.proofs.placing.put_node.Goals as goal

@@ -1,4 +1,4 @@
-use Rattle.pi_types.specs.Unify.{joined, outcome}
+use Rattle.pi_states.specs.Unify.{joined, outcome}
 use Rattle.pi_unify.specs.Refs.{root_of}
 use Rattle.pi_unify.proofs.RootLemmas.{less_if, meets_made, meets_same, outcome_less, outcome_more, outcome_same}
 use Rattle.pi_unify.proofs.roots.unify_variables.Goals as goal

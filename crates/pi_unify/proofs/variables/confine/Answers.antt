@@ -1,5 +1,5 @@
 use Rattle.std.proofs.Common.{◌≡◌, rules, ◌∙◌}
-use Rattle.pi_types.specs.Domain.{size_of}
+use Rattle.pi_constraints.specs.Domain.{size_of}
 use Rattle.pi_unify.proofs.BindLemmas.{confined_none, confined_fixed_at, confined_narrowed, not_empty, two_or_more}
 use Rattle.pi_unify.proofs.variables.confine.Goals as goal
 

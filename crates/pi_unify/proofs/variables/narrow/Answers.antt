@@ -1,4 +1,4 @@
-use Rattle.pi_types.specs.Store.{Confines}
+use Rattle.pi_states.specs.Store.{Confines}
 use Rattle.pi_unify.proofs.BindLemmas.{on_ok, narrow_is}
 use Rattle.pi_unify.proofs.variables.narrow.Goals as goal
 

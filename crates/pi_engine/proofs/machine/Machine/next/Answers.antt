@@ -1,9 +1,9 @@
 use Rattle.std.proofs.Common.{◌≡◌, refl, sym, ◌∙◌, subst}
-use Rattle.pi_engine.specs.Arenas.{view_of}
-use Rattle.pi_engine.specs.Answers.{AreNames}
-use Rattle.pi_engine.specs.Goes.{IsIn}
+use Rattle.pi_arenas.specs.Arenas.{view_of}
+use Rattle.pi_stands.specs.Answers.{AreNames}
+use Rattle.pi_stands.specs.Goes.{IsIn}
 use Rattle.pi_engine.specs.Runs.{MachineView, machine_view, loaded_as, run_of}
-use Rattle.pi_engine.specs.Stands.{Loaded}
+use Rattle.pi_stands.specs.Stands.{Loaded}
 use Rattle.pi_engine.specs.Turns.{NextComes}
 use Rattle.pi_engine.proofs.NextTurns.{repeated-in}
 use Rattle.pi_engine.proofs.RunsTold.{later, runs-in, told-by}

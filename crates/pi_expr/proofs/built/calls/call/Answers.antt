@@ -1,5 +1,5 @@
 use Rattle.pi_expr.proofs.TreeLemmas.{call-shown, levels-call, deep-over}
-use Rattle.pi_types.specs.ExpTree.{call}
+use Rattle.pi_syntax.specs.ExpTree.{call}
 use Rattle.std.proofs.Common.{suc, ap, ◌∙◌}
 use Rattle.pi_expr.proofs.built.calls.call.Goals as goal
 

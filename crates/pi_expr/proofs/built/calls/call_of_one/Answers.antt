@@ -1,4 +1,4 @@
-use Rattle.pi_types.specs.ExpTree.{one_exp}
+use Rattle.pi_syntax.specs.ExpTree.{one_exp}
 use Rattle.pi_expr.proofs.built.calls.call_of_one.Goals as goal
 
 pub returns : goal.returns

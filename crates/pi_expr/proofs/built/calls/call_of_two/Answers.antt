@@ -1,4 +1,4 @@
-use Rattle.pi_types.specs.ExpTree.{one_exp, exp}
+use Rattle.pi_syntax.specs.ExpTree.{one_exp, exp}
 use Rattle.pi_expr.proofs.built.calls.call_of_two.Goals as goal
 
 pub returns : goal.returns

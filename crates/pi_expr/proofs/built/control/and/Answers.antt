@@ -1,5 +1,5 @@
 use Rattle.pi_expr.proofs.TreeLemmas.{and-shown, levels-and, deep-over}
-use Rattle.pi_types.specs.ExpTree.{and}
+use Rattle.pi_syntax.specs.ExpTree.{and}
 use Rattle.std.proofs.Common.{suc, ap, ◌∙◌}
 use Rattle.pi_expr.proofs.built.control.and.Goals as goal
 

@@ -1,5 +1,5 @@
 use Rattle.pi_expr.proofs.TreeLemmas.{arrow-shown, levels-arrow, deep-over}
-use Rattle.pi_types.specs.ExpTree.{arrow, exp_tree}
+use Rattle.pi_syntax.specs.ExpTree.{arrow, exp_tree}
 use Rattle.std.proofs.Common.{suc, ap, ◌∙◌}
 use Rattle.pi_expr.proofs.built.control.arrow.Goals as goal
 

@@ -1,5 +1,5 @@
 use Rattle.pi_expr.proofs.TreeLemmas.{do_while-shown, levels-do_while, deep-over}
-use Rattle.pi_types.specs.ExpTree.{do_while, exp_tree}
+use Rattle.pi_syntax.specs.ExpTree.{do_while, exp_tree}
 use Rattle.std.proofs.Common.{suc, ap, ◌∙◌}
 use Rattle.pi_expr.proofs.built.control.do_while.Goals as goal
 

@@ -1,5 +1,5 @@
 use Rattle.pi_expr.proofs.TreeLemmas.{foreach-shown, levels-foreach, deep-over}
-use Rattle.pi_types.specs.ExpTree.{foreach, exp_tree}
+use Rattle.pi_syntax.specs.ExpTree.{foreach, exp_tree}
 use Rattle.std.proofs.Common.{suc, ap, ◌∙◌}
 use Rattle.pi_expr.proofs.built.control.foreach.Goals as goal
 

@@ -1,6 +1,6 @@
 use Rattle.pi_expr.proofs.TreeLemmas.{if_else-shown, levels-if_else, deep-left, deep-right}
 use Rattle.std.proofs.Common.{refl, ap, ◌∙◌}
-use Rattle.pi_types.specs.ExpTree.{if_else, exp_tree}
+use Rattle.pi_syntax.specs.ExpTree.{if_else, exp_tree}
 use Rattle.pi_expr.proofs.built.control.if_else.Goals as goal
 
 pub returns-in_ok-inner-in-Tree : goal.returns-in_ok-inner-in-Tree

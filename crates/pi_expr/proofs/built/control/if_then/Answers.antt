@@ -1,5 +1,5 @@
 use Rattle.pi_expr.proofs.TreeLemmas.{if_then-shown, levels-if_then, deep-over}
-use Rattle.pi_types.specs.ExpTree.{if_then}
+use Rattle.pi_syntax.specs.ExpTree.{if_then}
 use Rattle.std.proofs.Common.{suc, ap, ◌∙◌}
 use Rattle.pi_expr.proofs.built.control.if_then.Goals as goal
 

@@ -1,5 +1,5 @@
 use Rattle.pi_expr.proofs.TreeLemmas.{or-shown, levels-or, deep-over}
-use Rattle.pi_types.specs.ExpTree.{or}
+use Rattle.pi_syntax.specs.ExpTree.{or}
 use Rattle.std.proofs.Common.{suc, ap, ◌∙◌}
 use Rattle.pi_expr.proofs.built.control.or.Goals as goal
 

@@ -1,5 +1,5 @@
 use Rattle.pi_expr.proofs.TreeLemmas.{while_do-shown, levels-while_do, deep-over}
-use Rattle.pi_types.specs.ExpTree.{while_do, exp_tree}
+use Rattle.pi_syntax.specs.ExpTree.{while_do, exp_tree}
 use Rattle.std.proofs.Common.{suc, ap, ◌∙◌}
 use Rattle.pi_expr.proofs.built.control.while_do.Goals as goal
 

@@ -1,5 +1,5 @@
 use Rattle.pi_expr.proofs.TreeLemmas.{array-shown, levels-array, deep-over}
-use Rattle.pi_types.specs.ExpTree.{array}
+use Rattle.pi_syntax.specs.ExpTree.{array}
 use Rattle.std.proofs.Common.{suc, ap, ◌∙◌}
 use Rattle.pi_expr.proofs.built.terms.array.Goals as goal
 

@@ -1,5 +1,5 @@
 use Rattle.pi_expr.proofs.TreeLemmas.{at-shown, levels-at, deep-over}
-use Rattle.pi_types.specs.ExpTree.{at, exp_tree}
+use Rattle.pi_syntax.specs.ExpTree.{at, exp_tree}
 use Rattle.std.proofs.Common.{suc, ap, ◌∙◌}
 use Rattle.pi_expr.proofs.built.terms.at.Goals as goal
 

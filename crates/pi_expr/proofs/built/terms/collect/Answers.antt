@@ -1,5 +1,5 @@
 use Rattle.pi_expr.proofs.TreeLemmas.{collect-shown, levels-collect, deep-over}
-use Rattle.pi_types.specs.ExpTree.{collect, exp_tree}
+use Rattle.pi_syntax.specs.ExpTree.{collect, exp_tree}
 use Rattle.std.proofs.Common.{suc, ap, ◌∙◌}
 use Rattle.pi_expr.proofs.built.terms.collect.Goals as goal
 

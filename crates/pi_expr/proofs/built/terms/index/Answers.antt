@@ -1,5 +1,5 @@
 use Rattle.pi_expr.proofs.TreeLemmas.{index-shown, levels-index, deep-over}
-use Rattle.pi_types.specs.ExpTree.{index, one_exp, exp_tree}
+use Rattle.pi_syntax.specs.ExpTree.{index, one_exp, exp_tree}
 use Rattle.std.proofs.Common.{suc, ap, ◌∙◌}
 use Rattle.pi_expr.proofs.built.terms.index.Goals as goal
 

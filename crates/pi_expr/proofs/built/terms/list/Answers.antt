@@ -1,5 +1,5 @@
 use Rattle.pi_expr.proofs.TreeLemmas.{list-shown, levels-list, deep-over}
-use Rattle.pi_types.specs.ExpTree.{list}
+use Rattle.pi_syntax.specs.ExpTree.{list}
 use Rattle.std.proofs.Common.{suc, ap, ◌∙◌}
 use Rattle.pi_expr.proofs.built.terms.list.Goals as goal
 

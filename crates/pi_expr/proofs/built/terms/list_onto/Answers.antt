@@ -1,5 +1,5 @@
 use Rattle.pi_expr.proofs.TreeLemmas.{list_onto-shown, levels-list_onto, deep-over}
-use Rattle.pi_types.specs.ExpTree.{list_onto, exp_tree}
+use Rattle.pi_syntax.specs.ExpTree.{list_onto, exp_tree}
 use Rattle.std.proofs.Common.{suc, ap, ◌∙◌}
 use Rattle.pi_expr.proofs.built.terms.list_onto.Goals as goal
 

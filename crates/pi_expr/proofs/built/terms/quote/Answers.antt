@@ -1,5 +1,5 @@
 use Rattle.pi_expr.proofs.TreeLemmas.{quote-shown, levels-quote, deep-over}
-use Rattle.pi_types.specs.ExpTree.{quote, exp_tree}
+use Rattle.pi_syntax.specs.ExpTree.{quote, exp_tree}
 use Rattle.std.proofs.Common.{suc, ap, ◌∙◌}
 use Rattle.pi_expr.proofs.built.terms.quote.Goals as goal
 

@@ -1,5 +1,5 @@
 use Rattle.pi_expr.proofs.TreeLemmas.{range-shown, levels-range, deep-over}
-use Rattle.pi_types.specs.ExpTree.{range, exp_tree}
+use Rattle.pi_syntax.specs.ExpTree.{range, exp_tree}
 use Rattle.std.proofs.Common.{suc, ap, ◌∙◌}
 use Rattle.pi_expr.proofs.built.terms.range.Goals as goal
 

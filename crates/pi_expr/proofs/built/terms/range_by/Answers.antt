@@ -1,6 +1,6 @@
 use Rattle.pi_expr.proofs.TreeLemmas.{range_by-shown, levels-range_by, deep-left, deep-right}
 use Rattle.std.proofs.Common.{refl, ap, ◌∙◌}
-use Rattle.pi_types.specs.ExpTree.{range_by, exp_tree}
+use Rattle.pi_syntax.specs.ExpTree.{range_by, exp_tree}
 use Rattle.pi_expr.proofs.built.terms.range_by.Goals as goal
 
 pub returns-in_ok-c-in-Kept : goal.returns-in_ok-c-in-Kept

@@ -1,4 +1,4 @@
-use Rattle.pi_types.specs.ExpTree.{no_exps}
+use Rattle.pi_syntax.specs.ExpTree.{no_exps}
 use Rattle.pi_expr.proofs.items.Items.one.Goals as goal
 
 pub returns : goal.returns

@@ -1,5 +1,5 @@
 use Rattle.std.proofs.Common.{refl}
-use Rattle.pi_types.specs.Grammar.{call_two}
+use Rattle.pi_syntax.specs.Grammar.{call_two}
 use Rattle.pi_expr.proofs.resume.operators.joining.Goals as goal
 
 pub returns : goal.returns

@@ -1,6 +1,5 @@
-use Rattle.std.proofs.Common.{sym, subst}
-use Rattle.std.proofs.Common.{ℤ, rules}
-use Rattle.pi_types.specs.ExpTree.{int}
+use Rattle.std.proofs.Common.{sym, subst, ℤ, rules}
+use Rattle.pi_syntax.specs.ExpTree.{int}
 use Rattle.pi_expr.specs.Trees.{Shows}
 use Rattle.pi_expr.proofs.resume.operators.negated.Goals as goal
 

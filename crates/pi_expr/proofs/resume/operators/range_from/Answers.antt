@@ -1,6 +1,6 @@
 use Rattle.std.proofs.Common.{refl}
 use Rattle.pi_expr.specs.Machine as m
-use Rattle.pi_types.specs.ExpTree as tree
+use Rattle.pi_syntax.specs.ExpTree as tree
 use Rattle.pi_expr.proofs.resume.operators.range_from.Goals as goal
 
 pub returns-in-Some : goal.returns-in-Some

@@ -1,5 +1,5 @@
 use Rattle.std.proofs.Common.{refl}
-use Rattle.pi_types.specs.ExpTree as tree
+use Rattle.pi_syntax.specs.ExpTree as tree
 use Rattle.pi_expr.proofs.resume.operators.range_step.Goals as goal
 
 pub returns : goal.returns

@@ -1,6 +1,6 @@
 use Rattle.std.proofs.Common.{refl}
 use Rattle.pi_expr.specs.Machine as m
-use Rattle.pi_types.specs.ExpTree as tree
+use Rattle.pi_syntax.specs.ExpTree as tree
 use Rattle.pi_expr.proofs.StepLemmas.{conjunction_with}
 use Rattle.pi_expr.proofs.resume.units.conjuncts.Goals as goal
 

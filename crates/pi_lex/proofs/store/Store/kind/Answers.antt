@@ -1,7 +1,7 @@
 use Rattle.std.proofs.Common.{string_bytes}
 use Rattle.std.proofs.lemmas.List.{length-map}
 use Rattle.pi_lex.specs.Store.{located_of}
-use Rattle.pi_types.specs.Tokens.{Located}
+use Rattle.pi_syntax.specs.Tokens.{Located}
 use Rattle.pi_lex.proofs.StoreLemmas.{slice_get-map-read}
 use Rattle.pi_lex.proofs.store.Store.kind.Goals as goal
 

@@ -1,7 +1,7 @@
 use Rattle.std.proofs.Common.{◌++◌, ◌∙◌, ap, arith, lit<}
 use Rattle.std.proofs.lemmas.Str.{encode_ascii}
 use Rattle.std.specs.String.{string_bytes}
-use Rattle.pi_types.specs.Tree.{cells_all}
+use Rattle.pi_terms.specs.Tree.{cells_all}
 use Rattle.pi_print.specs.Tasks.{tasks_text}
 use Rattle.pi_print.proofs.PrinterLemmas.{arguments_zero, arguments_none, arguments_some}
 use Rattle.pi_print.proofs.printer.Printer.arguments.Goals as goal

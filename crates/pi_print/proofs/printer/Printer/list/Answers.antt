@@ -1,7 +1,7 @@
 use Rattle.std.proofs.Common.{◌++◌, ◌∙◌, ap, arith, lit<}
 use Rattle.std.proofs.lemmas.Str.{encode_ascii}
 use Rattle.std.specs.String.{string_bytes}
-use Rattle.pi_types.specs.Tree.{cells_all}
+use Rattle.pi_terms.specs.Tree.{cells_all}
 use Rattle.pi_print.proofs.WritingLemmas.{matched_some, matched_none}
 use Rattle.pi_print.proofs.PrinterLemmas.{list_characters, list_items, dropped-le}
 use Rattle.pi_print.proofs.printer.Printer.list.Goals as goal

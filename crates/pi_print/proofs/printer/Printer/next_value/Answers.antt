@@ -1,6 +1,6 @@
 use Rattle.std.proofs.Common.{◌++◌, ◌∙◌, ap, arith}
 use Rattle.std.specs.String.{string_bytes}
-use Rattle.pi_types.specs.Tree.{cells_all}
+use Rattle.pi_terms.specs.Tree.{cells_all}
 use Rattle.pi_print.specs.Tasks.{tasks_text}
 use Rattle.pi_print.proofs.PrinterLemmas.{value_none, value_some}
 use Rattle.pi_print.proofs.printer.Printer.next_value.Goals as goal

@@ -1,11 +1,8 @@
-use Rattle.std.proofs.Common.{◌≡◌, ℕ, List, ◌∷◌, [], ◌++◌, ◌∙◌, ap, sym, false}
-use Rattle.std.specs.Prelude.{Option, cond, Some}
+use Rattle.std.proofs.Common.{◌∷◌, [], ◌++◌, ◌∙◌, ap, sym}
+use Rattle.std.specs.Prelude.{cond, Some}
 use Rattle.std.specs.HashMap.{get_by}
 use Rattle.std.specs.Str.{bytes_eq}
-use Rattle.pi_types.specs.declared.core_program.NameSlot.{NameSlot}
-use Rattle.pi_types.specs.Surface.{is_hidden}
-use Rattle.pi_rewrite.specs.Lowered.{name_slots}
-use Rattle.pi_rewrite.proofs.SlotLemmas.{slots-more, names-hidden, names-shown, shown}
+use Rattle.pi_rewrite.proofs.SlotLemmas.{slots-more, names-hidden, shown}
 use Rattle.pi_rewrite.proofs.slots.Slots.named_slot.Goals as goal
 
 pub returns-in_ok-push-clause-slots : goal.returns-in_ok-push-clause-slots

@@ -1,0 +1,12 @@
+//! What a run keeps beside its store: frames, blocks of slots, entries, values that are collected.
+#![tactic(auto)]
+
+mod arenas;
+mod blocks;
+mod frames;
+mod run;
+
+pub use arenas::{Arenas, Back, Entry, Kind, Strict, behind, behind_level};
+pub use blocks::{Blocks, BlocksMark, Written};
+pub use frames::{Frames, Point};
+pub use run::{End, Now, Run};

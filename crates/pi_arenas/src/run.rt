@@ -1,0 +1,76 @@
+//! A run: its store, its arenas, and what comes next.
+ghost use Rattle.std.specs.Prelude.{◌≡◌};
+ghost use Rattle.pi_arenas.specs.Arenas.{view_of};
+ghost use Rattle.pi_arenas.specs.Arenas.{no_arenas};
+
+use crate::arenas::Arenas;
+use crate::frames::Point;
+use pi_states::{Ref, StateStore};
+use pi_terms::Term;
+use pi_unify::Slots;
+use std::alloc::Global;
+
+/// How a run ended.
+#[derive(Debug, Drop)]
+pub enum End {
+    Done,
+    Raised(Term),
+    StepsSpent,
+    WorkSpent,
+    Memory,
+}
+
+/// What a run is about to do.
+#[derive(Debug, Drop)]
+pub enum Now {
+    Going(Point),
+    /// The newest entry is next.
+    Failing,
+    /// The newest open `catch` is next, with this ball.
+    Raising(Term),
+    Ended(End),
+}
+
+/// What a run is: its store, its arenas and what comes next, and room that steps work in and that says nothing between
+/// them.
+#[derive(Drop)]
+pub struct Run<S: StateStore> {
+    pub alloc: Global,
+    pub store: S,
+    pub arenas: Arenas<S::Mark>,
+    pub now: Now,
+    /// The arguments of the call that is being made, or the items of a list.
+    pub terms: Vec<Ref>,
+    /// What is made of the compound that is being put together, and the arguments of its present cell.
+    pub made: Vec<Ref>,
+    pub parts: Vec<Ref>,
+    /// The slots of the rule that is being matched.
+    pub slots: Slots,
+}
+
+impl<S: StateStore> Run<S> {
+    /// A run of nothing, which has no answer.
+    pub fn new(alloc: Global, store: S) -> Run<S>
+        ensures store { result.store ≡ store }
+        ensures arenas { view_of result.arenas ≡ no_arenas }
+    {
+        Run {
+            alloc,
+            store,
+            arenas: Arenas::new(alloc),
+            now: Now::Failing,
+            terms: Vec::new(alloc),
+            made: Vec::new(alloc),
+            parts: Vec::new(alloc),
+            slots: Vec::new(alloc),
+        }
+    }
+
+    /// Gives the store back.
+    pub fn into_store(self) -> S
+        ensures { result ≡ self.store }
+    {
+        let Run { store, .. } = self;
+        store
+    }
+}

@@ -1,0 +1,11 @@
+pub mod CodeLemmas
+pub mod LaidSizes
+pub mod LaidTables
+pub mod LaidTerms
+pub mod LaidGoals
+pub mod NumbersLemmas
+pub mod LaidOperands
+pub mod LaidRuleLemmas
+pub mod LaidSteps
+pub mod LaidTests
+pub mod LaidWhole

@@ -1,0 +1,4 @@
+pub mod Code
+pub mod Laid
+pub mod Numbers
+pub mod LaidRules

@@ -1,0 +1,3 @@
+pub mod GoalCells
+pub mod GoalPlaces
+pub mod CoreTreeLemmas

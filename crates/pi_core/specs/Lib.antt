@@ -1,0 +1,3 @@
+pub mod GoalTree
+pub mod GoalCells
+pub mod CoreTree

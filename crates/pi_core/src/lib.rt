@@ -1,0 +1,13 @@
+//! Programs and goals of the core language.
+#![tactic(auto)]
+
+mod core_goal;
+mod core_program;
+mod goal_node;
+
+pub use core_goal::CoreGoal;
+pub use core_program::{
+    CoreClause, CoreClauses, CorePred, CorePreds, CoreProgram, CoreQuery, NameSlot, NameSlots,
+    Pattern, Patterns, SlotWatch, SlotWatches,
+};
+pub use goal_node::GoalNode;

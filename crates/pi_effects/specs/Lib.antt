@@ -1,0 +1,3 @@
+pub mod Exception
+pub mod Effect
+pub mod Builtin

@@ -1,0 +1,4 @@
+//! What built-ins do, as values.
+#![tactic(auto)]
+
+pub mod laws;

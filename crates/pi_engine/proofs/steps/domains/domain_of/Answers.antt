@@ -1,7 +1,0 @@
-use Rattle.std.proofs.Common.{◌<◌, subst}
-use Rattle.pi_engine.proofs.DomainsStand.{domain-found}
-use Rattle.pi_engine.proofs.steps.domains.domain_of.Goals as goal
-
-pub returns : goal.returns
-returns g c = λ acyclic unbound.
-    domain-found (g.S.StateStore.seen c.args.store.now) c.args.n c.var_ref.result c.in_ok-found.found (subst (λ k. c.args.n < k) c.vars.ensures c.if-n-vars.false) c.var_ref.ensures c.in_ok-found.ensures acyclic unbound

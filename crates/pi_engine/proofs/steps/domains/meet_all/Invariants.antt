@@ -1,9 +1,0 @@
-use Rattle.std.proofs.Common.{ℕ, List}
-use Rattle.pi_types.specs.Tree.{subterms}
-use Rattle.pi_engine.specs.Domains.{HasMet}
-use Rattle.pi_engine.proofs.DomainsStand.{before_node}
-use Rattle.pi_engine.proofs.steps.domains.meet_all.Given as goal
-
--- the variables of the first nodes were met
-abbrev pub invariant-loop-i : goal.invariant-loop-i
-invariant-loop-i g l = (ns : List ℕ) → HasMet (g.S.StateStore.seen l.store).now.state ns l.fn.met → HasMet (g.S.StateStore.seen l.store).now.state (before_node ns (subterms l.term) l.i) l.met

@@ -1,0 +1,238 @@
+-- For each configuration and each number of Ticks there is a depth that reaches so far; and what a query's run is.
+use Rattle.std.proofs.Common.{◌≡◌, ◌≢◌, ℕ, zero, suc, ◌+◌, ◌≤◌, ◌<◌, List, [], ◌∷◌, ◌++◌, refl, ap, sym, subst, ◌∙◌, arith}
+use Rattle.std.specs.Prelude.{Bool, true, false, Option, Some, None, ⊤}
+use Rattle.pi_terms.specs.Tree.{Tree, tree_count, trees_of}
+use Rattle.pi_states.specs.State.{State}
+use Rattle.pi_terms.specs.Places.{Places}
+use Rattle.pi_core.specs.GoalTree.{GoalTree, truth, fail, tick, call, apply, seq, alternatives, if_else, not, once, collect, count, catch, GoalTrees, no_goals, goal}
+use Rattle.pi_core.specs.CoreTree.{PredTree, QueryTree, find_pred}
+use Rattle.pi_traces.specs.Trace.{Trace, end, note, End, Deep, Tick, Emitted, emit, end_of, count_ticks, ticks}
+use Rattle.pi_traces.specs.Depth.{Below, Cut, Ended, Spent, with_events, cut, CutWithoutDeep}
+use Rattle.pi_meaning.specs.View.{View}
+use Rattle.pi_states.specs.Evaluation.{EvaluatedAll, evaluated_all}
+use Rattle.pi_meaning.specs.Level.{Applied}
+use Rattle.pi_meaning.specs.Builtin.{effect, function_effect}
+use Rattle.pi_meaning.specs.Run.{Solution, query_trace, IsRunUnder}
+use Rattle.pi_core.specs.declared.core_program.NameSlot.{NameSlot}
+use Rattle.pi_traces.proofs.BelowLemmas.{below-events}
+use Rattle.pi_traces.proofs.CutLemmas.{cut-below, cut-emit, cut-all, cut-at_tick}
+use Rattle.pi_meaning.proofs.RuleLemmas.{run-deeper}
+use Rattle.pi_machine.specs.Configuration.{Frame, Entry, choice, strict, catch_level, left, Now, going, failed, raising, Config, behind}
+use Rattle.pi_machine.specs.Remaining.{remaining}
+use Rattle.pi_machine.specs.Step.{Outcome, silently, with_tick, quietly, answering, ending, call_step, predicate_step, effect_step, function_step, value_step, goal_step, Open, none_open, strict_open, catch_open, newest_open, fits, told_step, answer_step, fail_step, raise_step, now_step, step, start}
+use Rattle.pi_machine.specs.Shape.{IsGood}
+use Rattle.pi_machine.specs.Built.{AreOfRules, AreCounted}
+use Rattle.pi_machine.specs.StepLaws.{Comes, GoesOnGood}
+use Rattle.pi_machine.specs.Weight.{weight, GetsLighter}
+use Rattle.pi_machine.specs.Leads.{Leads, IsAtTick, IsAtEnd}
+use Rattle.pi_machine.proofs.RuleForms.{found-counted}
+use Rattle.pi_machine.proofs.MachineSteps.{step-comes}
+use Rattle.pi_machine.proofs.GoodSteps.{step-good}
+use Rattle.pi_machine.proofs.WeightSteps.{step-lighter}
+use Rattle.pi_machine.proofs.LeadLemmas.{start-good, starts, ended-all, tick-begins, end-behind, events-before, led}
+
+-- ---- which steps there are
+
+-- no quiet call, and no end in Deep
+abbrev pub IsProper : Outcome → Type 0
+IsProper (silently next) = ⊤
+IsProper (with_tick next) = ⊤
+IsProper (quietly next) = ⊥
+IsProper (answering x next) = ⊤
+IsProper (ending e) = e ≢ Deep
+
+call-proper : (quiet : Bool) → quiet ≡ false → (c : Config) → IsProper (call_step quiet c)
+call-proper true h c = absurd cc
+call-proper false h c = tt
+
+predicate-proper : (name : List ℕ) (preds : List PredTree) → AreCounted preds → (all : EvaluatedAll) (k : List Frame) (es : List Entry) (o : Option PredTree) →
+    find_pred false name (tree_count all.trees) preds ≡ o → IsProper (predicate_step o all k es)
+predicate-proper name preds counted all k es None h = tt
+predicate-proper name preds counted all k es (Some pred) h =
+    call-proper pred.quiet (found-counted false name (tree_count all.trees) preds pred counted h) _
+
+effect-proper : (name : List ℕ) (preds : List PredTree) → AreCounted preds → (s : State) (all : EvaluatedAll) (gs : GoalTrees) (k : List Frame) (es : List Entry) (o : Option (Trace State)) →
+    IsProper (effect_step o preds name s all gs k es)
+effect-proper name preds counted s all gs k es None = predicate-proper name preds counted all (behind gs k) es (find_pred false name (tree_count all.trees) preds) refl
+effect-proper name preds counted s all gs k es (Some t) = tt
+
+function-proper : (name : List ℕ) (preds : List PredTree) → AreCounted preds → (all : EvaluatedAll) (into : ℕ) (k : List Frame) (es : List Entry) (o : Option PredTree) →
+    find_pred true name (tree_count all.trees) preds ≡ o → IsProper (function_step o all into k es)
+function-proper name preds counted all into k es None h = tt
+function-proper name preds counted all into k es (Some pred) h =
+    call-proper pred.quiet (found-counted true name (tree_count all.trees) preds pred counted h) _
+
+value-proper : (name : List ℕ) (preds : List PredTree) → AreCounted preds → (all : EvaluatedAll) (into : ℕ) (gs : GoalTrees) (k : List Frame) (es : List Entry) (o : Option (Trace Applied)) →
+    IsProper (value_step o preds name all into gs k es)
+value-proper name preds counted all into gs k es None = function-proper name preds counted all into (behind gs k) es (find_pred true name (tree_count all.trees) preds) refl
+value-proper name preds counted all into gs k es (Some t) = tt
+
+goal-proper : (v : View) (preds : List PredTree) → AreCounted preds → (g : GoalTree) (gs : GoalTrees) (e : Places) (s : State) (k : List Frame) (es : List Entry) →
+    IsProper (goal_step v preds g gs e s k es)
+unfolding goal_step
+goal-proper v preds counted truth gs e s k es = tt
+goal-proper v preds counted fail gs e s k es = tt
+goal-proper v preds counted tick gs e s k es = tt
+goal-proper v preds counted (call name args) gs e s k es =
+    let all : EvaluatedAll = evaluated_all (trees_of args) e s in effect-proper name preds counted s all gs k es (effect v name all.trees all.state)
+goal-proper v preds counted (apply name args into) gs e s k es =
+    let all : EvaluatedAll = evaluated_all (trees_of args) e s in value-proper name preds counted all into gs k es (function_effect v name all.trees all.state)
+goal-proper v preds counted (seq hs) gs e s k es = tt
+goal-proper v preds counted (alternatives hs) gs e s k es = tt
+goal-proper v preds counted (if_else test g other) gs e s k es = tt
+goal-proper v preds counted (not g) gs e s k es = tt
+goal-proper v preds counted (once g) gs e s k es = tt
+goal-proper v preds counted (collect g slot into) gs e s k es = tt
+goal-proper v preds counted (count g into) gs e s k es = tt
+goal-proper v preds counted (catch g ball handler) gs e s k es = tt
+
+told-proper : (fit : Bool) (x : Solution) (es : List Entry) → IsProper (told_step fit x es)
+told-proper true x es = tt
+told-proper false x es = tt
+
+answer-proper : (names : List NameSlot) (e : Places) (s : State) (es : List Entry) (o : Open) → IsProper (answer_step names e s es o)
+unfolding answer_step
+answer-proper names e s es none_open = told-proper (fits names (record { slots = e; state = s })) (record { slots = e; state = s }) es
+answer-proper names e s es (strict_open above level b below) = tt
+answer-proper names e s es (catch_open above ball handler b below) = tt
+
+fail-proper : (es : List Entry) → IsProper (fail_step es)
+unfolding fail_step
+fail-proper [] = λ h. cc
+fail-proper (choice c b ∷ es) = tt
+fail-proper (strict level b ∷ es) = tt
+fail-proper (catch_level ball handler b ∷ es) = tt
+fail-proper (left ∷ es) = tt
+
+raise-proper : (raised : Tree) (es : List Entry) → IsProper (raise_step raised es)
+unfolding raise_step
+raise-proper raised [] = λ h. cc
+raise-proper raised (choice c b ∷ es) = tt
+raise-proper raised (strict level b ∷ es) = tt
+raise-proper raised (catch_level ball handler b ∷ es) = tt
+raise-proper raised (left ∷ es) = tt
+
+now-proper : (v : View) (preds : List PredTree) (names : List NameSlot) → AreCounted preds → (now : Now) (es : List Entry) → IsProper (now_step v preds names now es)
+now-proper v preds names counted (going (goal g gs) e s k) es = goal-proper v preds counted g gs e s k es
+now-proper v preds names counted (going no_goals e s []) es = answer-proper names e s es (newest_open zero es)
+now-proper v preds names counted (going no_goals e s (f ∷ k)) es = tt
+now-proper v preds names counted failed es = fail-proper es
+now-proper v preds names counted (raising raised) es = raise-proper raised es
+
+pub step-proper : (v : View) (preds : List PredTree) (names : List NameSlot) (c : Config) → AreCounted preds → IsProper (step v preds names c)
+unfolding step
+step-proper v preds names c counted = now-proper v preds names counted c.now c.stack
+
+-- ---- a depth suffices
+
+above-cut : {A : Type 0} (n : ℕ) (t u : Trace A) → Below t u → CutWithoutDeep n t → CutWithoutDeep n u
+above-cut n t u b h = λ deep. h (ap (λ c. c.stop) (cut-below n t u b h) ∙ deep)
+
+-- a depth reaches so far
+abbrev pub DepthReaches : View → List PredTree → List NameSlot → ℕ → Config → Type 0
+DepthReaches v preds names n c = (d : ℕ) × CutWithoutDeep n (remaining v preds names d c)
+
+-- behind a Tick there is one Tick less to reach
+abbrev AfterTick : View → List PredTree → List NameSlot → ℕ → Config → Type 0
+AfterTick v preds names zero c = ⊤
+AfterTick v preds names (suc n) c = DepthReaches v preds names n c
+
+tick-reaches : (v : View) (preds : List PredTree) (names : List NameSlot) (n : ℕ) (c after : Config) →
+    ((d : ℕ) → Below (note Tick (remaining v preds names d after)) (remaining v preds names (suc d) c)) → AfterTick v preds names n after → DepthReaches v preds names n c
+unfolding cut
+tick-reaches v preds names zero c after h k =
+    (1, above-cut 0 (note Tick (remaining v preds names 0 after)) (remaining v preds names 1 c) (h 0) (λ deep. cc))
+tick-reaches v preds names (suc n) c after h k =
+    (suc k.0, above-cut (suc n) (note Tick (remaining v preds names k.0 after)) (remaining v preds names (suc k.0) c) (h k.0) k.1)
+
+outcome-reaches : (v : View) (preds : List PredTree) (names : List NameSlot) (n : ℕ) → ((after : Config) → IsGood after → AfterTick v preds names n after) →
+    (w : ℕ) (c : Config) → weight c < suc w → ((after : Config) → weight after < w → IsGood after → DepthReaches v preds names n after) →
+    (o : Outcome) → Comes v preds names c o → GoesOnGood o → GetsLighter c o → IsProper o → DepthReaches v preds names n c
+unfolding cut
+outcome-reaches v preds names n ticks w c h rec (silently after) comes good lighter proper =
+    let r : DepthReaches v preds names n after = rec after (omega arith) good in
+    (r.0, subst (λ t. CutWithoutDeep n t) (sym (comes r.0)) r.1)
+outcome-reaches v preds names n ticks w c h rec (with_tick after) comes good lighter proper = tick-reaches v preds names n c after comes (ticks after good)
+outcome-reaches v preds names n ticks w c h rec (quietly after) comes good lighter proper = absurd proper
+outcome-reaches v preds names n ticks w c h rec (answering x after) comes good lighter proper =
+    let r : DepthReaches v preds names n after = rec after (omega arith) good in
+    (r.0, subst (λ t. CutWithoutDeep n t) (sym (comes r.0)) r.1)
+outcome-reaches v preds names n ticks w c h rec (ending e) comes good lighter proper =
+    (0, subst (λ t. CutWithoutDeep n t) (sym (comes 0)) (λ deep. proper cc))
+
+-- before the next Tick
+steps-reach : (v : View) (preds : List PredTree) (names : List NameSlot) → AreOfRules preds → AreCounted preds → (n : ℕ) → ((after : Config) → IsGood after → AfterTick v preds names n after) →
+    (w : ℕ) (c : Config) → weight c < w → IsGood c → DepthReaches v preds names n c
+steps-reach v preds names sound counted n ticks zero c h good = absurd (omega (arith, h))
+steps-reach v preds names sound counted n ticks (suc w) c h good =
+    outcome-reaches v preds names n ticks w c h (λ after less keeps. steps-reach v preds names sound counted n ticks w after less keeps)
+    (step v preds names c) (step-comes v preds names c sound good) (step-good v preds names c good) (step-lighter v preds names c good) (step-proper v preds names c counted)
+
+pub depth-suffices : (v : View) (preds : List PredTree) (names : List NameSlot) (c : Config) → AreOfRules preds → AreCounted preds → IsGood c → (n : ℕ) → DepthReaches v preds names n c
+depth-suffices v preds names c sound counted good zero = steps-reach v preds names sound counted 0 (λ after keeps. tt) (suc (weight c)) c (omega arith) good
+depth-suffices v preds names c sound counted good (suc n) =
+    steps-reach v preds names sound counted (suc n) (λ after keeps. depth-suffices v preds names after sound counted keeps n) (suc (weight c)) c (omega arith) good
+
+-- ---- a query's run
+
+ended-same : (e f : End) → Ended e ≡ Ended f → e ≡ f
+ended-same e f h = cc
+
+pub ended-run : (v : View) (program : List PredTree) (q : QueryTree) (events : List (Emitted Solution)) (c : Config) (e : End) (n : ℕ) →
+    Leads v (program ++ q.helpers) q.names events (start q) c → IsAtEnd v (program ++ q.helpers) q.names e c → count_ticks events ≤ n →
+    IsRunUnder v program q n (record { events = events; stop = Ended e })
+ended-run v program q events c e n h k less =
+    let all : (depth : ℕ) × ((more : ℕ) → remaining v (program ++ q.helpers) q.names (depth + more) (start q) ≡ emit events (end e)) =
+    ended-all v (program ++ q.helpers) q.names events (start q) c e h k in
+    let depth : ℕ = all.0 + 0 in
+    let trace : query_trace v program q depth ≡ emit events (end e) = sym (starts v program q depth) ∙ all.1 0 in
+    let few : ticks (emit events (end e)) ≤ n = subst (λ es. count_ticks es ≤ n) (sym (events-before events e)) less in
+    let is_cut : record { events = events; stop = Ended e } ≡ cut n (query_trace v program q depth) =
+    sym (ap (cut n) trace ∙ (cut-all n (emit events (end e)) few
+    ∙ (ap (λ es. record { events = es; stop = Ended (end_of (emit events (end e))) }) (events-before events e)
+    ∙ ap (λ x. record { events = events; stop = Ended x }) (end-behind events e)))) in
+    record { depth = depth; reaches = λ deep. k.reached (ended-same e Deep (ap (λ c. c.stop) is_cut ∙ deep)); is_cut = is_cut }
+
+spent-not_deep : Spent ≡ Ended Deep → ⊥
+spent-not_deep h = cc
+
+pub spent-run : (v : View) (program : List PredTree) (q : QueryTree) (events : List (Emitted Solution)) (c : Config) →
+    Leads v (program ++ q.helpers) q.names events (start q) c → IsAtTick v (program ++ q.helpers) q.names c →
+    IsRunUnder v program q (count_ticks events) (record { events = events; stop = Spent })
+spent-run v program q events c h k =
+    let all : (depth : ℕ) × ((more : ℕ) → (rest : Trace Solution) × (remaining v (program ++ q.helpers) q.names (depth + more) (start q) ≡ emit events (note Tick rest))) =
+    tick-begins v (program ++ q.helpers) q.names events (start q) c h k in
+    let depth : ℕ = all.0 + 0 in
+    let begins : (rest : Trace Solution) × (remaining v (program ++ q.helpers) q.names depth (start q) ≡ emit events (note Tick rest)) = all.1 0 in
+    let is_cut : record { events = events; stop = Spent } ≡ cut (count_ticks events) (query_trace v program q depth) =
+    sym (ap (cut (count_ticks events)) (sym (starts v program q depth) ∙ begins.1) ∙ cut-at_tick events begins.0) in
+    record { depth = depth; reaches = λ deep. spent-not_deep (ap (λ c. c.stop) is_cut ∙ deep); is_cut = is_cut }
+
+-- a query's run at a greater depth
+run-later : (v : View) (program : List PredTree) (q : QueryTree) (n : ℕ) (run : Cut Solution) → (r : IsRunUnder v program q n run) → (more later : ℕ) → more + r.depth ≡ later →
+    cut n (query_trace v program q later) ≡ run
+run-later v program q n run r more later e =
+    subst (λ d. cut n (query_trace v program q d) ≡ run) (omega arith) (run-deeper v program q n run r more)
+
+pub run-prefix : (v : View) (program : List PredTree) (q : QueryTree) (events : List (Emitted Solution)) (c : Config) (n : ℕ) (run : Cut Solution) →
+    Leads v (program ++ q.helpers) q.names events (start q) c → IsRunUnder v program q (count_ticks events + n) run →
+    (rest : Cut Solution) × (run ≡ with_events events rest)
+run-prefix v program q events c n run h r =
+    let preds : List PredTree = program ++ q.helpers in
+    let depth : ℕ = h.depth 0 + r.depth in
+    let t : Trace Solution = remaining v preds q.names 0 c in
+    let below : Below (emit events t) (query_trace v program q depth) =
+    subst (λ u. Below (emit events t) u) (starts v program q depth) (led v preds q.names events (start q) c h 0 r.depth) in
+    let found : (rest : Trace Solution) × (query_trace v program q depth ≡ emit events rest) × Below t rest = below-events events t (query_trace v program q depth) below in (
+      cut n found.0,
+      sym (run-later v program q (count_ticks events + n) run r (h.depth 0) depth refl)
+          ∙ (ap (cut (count_ticks events + n)) found.1 ∙ cut-emit events n found.0),
+    )
+
+-- the run of a query before each Tick
+pub each-run : (v : View) (program : List PredTree) (q : QueryTree) → AreOfRules (program ++ q.helpers) → AreCounted (program ++ q.helpers) → (n : ℕ) → (run : Cut Solution) × IsRunUnder v program q n run
+each-run v program q sound counted n =
+    let k : DepthReaches v (program ++ q.helpers) q.names n (start q) = depth-suffices v (program ++ q.helpers) q.names (start q) sound counted (start-good q) n in (
+      cut n (query_trace v program q k.0),
+      record { depth = k.0; reaches = subst (λ t. CutWithoutDeep n t) (starts v program q k.0) k.1; is_cut = refl },
+    )

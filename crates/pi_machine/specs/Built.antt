@@ -1,0 +1,29 @@
+-- Programs of what the machine runs so far: rules, and no facts and action rules.
+use Rattle.std.specs.Prelude.{◌≡◌, false, List, [], ◌∷◌, ◌++◌, None, ⊤}
+use Rattle.pi_core.specs.CoreTree.{ClauseTree, PredTree, QueryTree}
+use Rattle.pi_meaning.specs.Sound.{IsSoundQuery}
+
+-- no clause is an action rule
+unfoldable pub WithoutEvents : List ClauseTree → Type 0
+WithoutEvents [] = ⊤
+WithoutEvents (c ∷ cs) = (c.watches ≡ []) × WithoutEvents cs
+
+-- the clauses are rules
+pub record IsOfRules (pred : PredTree) : Type 0 where
+  pub rules : pred.index ≡ None
+  pub without_events : WithoutEvents pred.clauses
+
+unfoldable pub AreOfRules : List PredTree → Type 0
+AreOfRules [] = ⊤
+AreOfRules (pred ∷ preds) = IsOfRules pred × AreOfRules preds
+
+-- no call is quiet
+unfoldable pub AreCounted : List PredTree → Type 0
+AreCounted [] = ⊤
+AreCounted (pred ∷ preds) = (pred.quiet ≡ false) × AreCounted preds
+
+-- a query that the machine runs so far
+pub record IsRunnable (program : List PredTree) (q : QueryTree) : Type 0 where
+  pub sound : IsSoundQuery program q
+  pub rules : AreOfRules (program ++ q.helpers)
+  pub counted : AreCounted (program ++ q.helpers)

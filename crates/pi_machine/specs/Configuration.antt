@@ -1,0 +1,82 @@
+-- The machine as data: what it is about to do, and one stack of what waits, the newest first. A choice keeps what is left
+-- to be tried; a level waits for the answers of the goal that runs inside of it. (The machine is own.)
+use Rattle.std.specs.Prelude.{ℕ, Bool, true, false, List, [], ◌∷◌, Option}
+use Rattle.pi_terms.specs.Tree.{Tree, Trees}
+use Rattle.pi_terms.specs.Places.{Places}
+use Rattle.pi_states.specs.State.{State}
+use Rattle.pi_core.specs.GoalTree.{GoalTree, GoalTrees, no_goals, goal}
+use Rattle.pi_core.specs.CoreTree.{ClauseTree}
+
+-- what is to be done behind a goal: more goals in the same block of slots; the return to another block, with what its
+-- slots hold; the value of a function's clause, which becomes the one slot of the answer
+pub data Frame : Type 0 where
+  more : GoalTrees → Frame
+  return : Places → Frame
+  give : Option Tree → Frame
+
+-- what an entry of the stack comes back to, and the frames behind the goal that it stands for; the rules of a call begin with
+-- no slots
+pub record Back : Type 0 where
+  pub slots : Places
+  pub state : State
+  pub frames : List Frame
+
+-- a call whose rules are tried: of a function or of a predicate, and its arguments
+pub record Called : Type 0 where
+  pub function : Bool
+  pub args : Trees
+
+-- a choice: the rules that are left of a call; the branches that are left of alternatives
+pub data Choice : Type 0 where
+  rules_left : Called → List ClauseTree → Choice
+  branches_left : GoalTrees → Choice
+
+-- a level of which no exception is caught: `once`; `not`; `if` with both goals; the guard of a rule, with the rules behind
+-- it; a function call, as a term, and the slot for its value; `find_all`, by the slot that is collected, the slot for the
+-- list and the values so far; `count_all`, by the slot for the number and the number so far
+pub data Strict : Type 0 where
+  once_level : Strict
+  not_level : Strict
+  if_level : GoalTree → GoalTree → Strict
+  guard_level : Called → ClauseTree → List ClauseTree → Strict
+  value_level : Tree → ℕ → Strict
+  list_level : ℕ → ℕ → List Tree → Strict
+  number_level : ℕ → ℕ → Strict
+
+-- an entry: a choice; a level; a `catch`, with the term that it catches and its handler; the mark that the newest `catch`
+-- below it was left by an answer and keeps its choices
+pub data Entry : Type 0 where
+  choice : Choice → Back → Entry
+  strict : Strict → Back → Entry
+  catch_level : Tree → GoalTree → Back → Entry
+  left : Entry
+
+-- what runs: goals, in a block with these slots, from a state, and then frames; no further answer here; an exception
+pub data Now : Type 0 where
+  going : GoalTrees → Places → State → List Frame → Now
+  failed : Now
+  raising : Tree → Now
+
+pub record Config : Type 0 where
+  pub now : Now
+  pub stack : List Entry
+
+abbrev pub config : Now → List Entry → Config
+config now stack = record { now = now; stack = stack }
+
+-- behind goals that are left
+abbrev pub behind : GoalTrees → List Frame → List Frame
+behind no_goals k = k
+behind (goal g gs) k = more (goal g gs) ∷ k
+
+-- the return to a block, which counts for nothing in front of another return
+abbrev pub returning : Places → List Frame → List Frame
+returning e [] = return e ∷ []
+returning e (more gs ∷ k) = return e ∷ more gs ∷ k
+returning e (return f ∷ k) = return f ∷ k
+returning e (give t ∷ k) = return e ∷ give t ∷ k
+
+-- behind the body of a rule: a function's value
+abbrev pub after_body : Bool → ClauseTree → List Frame → List Frame
+after_body true c k = give c.value ∷ k
+after_body false c k = k

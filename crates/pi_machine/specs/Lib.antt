@@ -1,0 +1,10 @@
+pub mod Budget
+pub mod Configuration
+pub mod Remaining
+pub mod Step
+pub mod Shape
+pub mod StepLaws
+pub mod Built
+pub mod Weight
+pub mod Leads
+pub mod Next

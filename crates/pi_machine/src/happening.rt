@@ -1,0 +1,41 @@
+//! What a machine is given, and what it answers.
+use pi_answers::{Answer, Work};
+use pi_terms::{Term, Text};
+
+/// Whether a machine runs a query, whose Ticks are counted against its steps, or the body of a planner, whose Ticks are
+/// work.
+#[derive(Clone, Copy, Debug, PartialEq, Eq)]
+pub enum Mode {
+    Top,
+    Inner,
+}
+
+/// What a run may still use: Ticks up to `steps`, and work of all kinds up to `limit`.
+#[derive(Clone, Copy, Debug, PartialEq, Eq)]
+pub struct Budget {
+    pub ticks: u64,
+    pub steps: u64,
+    pub work: Work,
+    pub limit: u64,
+}
+
+/// A planner call that a machine waits for: whether a best plan is wanted, the state to start from, the limit.
+#[derive(Debug, Drop)]
+pub struct PlanCall {
+    pub best: bool,
+    pub start: Term,
+    pub limit: i128,
+}
+
+/// What comes next in a run. `Out` and `NeedPlan` don't come before there is output and a planner.
+#[derive(Debug, Drop)]
+pub enum Happening {
+    Answer(Answer),
+    Out(Text),
+    NeedPlan(PlanCall),
+    Done,
+    Raised(Term),
+    StepsSpent,
+    WorkSpent,
+    Memory,
+}

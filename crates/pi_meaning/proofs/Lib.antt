@@ -1,0 +1,10 @@
+pub mod MeaningLemmas
+pub mod RuleLemmas
+pub mod LevelLemmas
+pub mod KeepsGoals
+pub mod KeepsRules
+pub mod QuietGoals
+pub mod QuietRules
+pub mod NestGoals
+pub mod NestRules
+pub mod CoreExamples

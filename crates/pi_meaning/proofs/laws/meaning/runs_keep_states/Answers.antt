@@ -1,0 +1,5 @@
+use Rattle.pi_meaning.proofs.KeepsRules.{runs-keep-states}
+use Rattle.pi_meaning.proofs.laws.meaning.runs_keep_states.Goals as goal
+
+pub returns : goal.returns
+returns c = runs-keep-states

@@ -1,0 +1,41 @@
+//! Laws of the core meaning.
+ghost use Rattle.pi_meaning.specs.MeaningLaws.{GoalsDoMore, LevelsAreOrdered, LevelsAscend, QuietCallsStayAbove, QuietCallsKeepTheDepth, QuietCallsNestFreely, QueriesDoMore, WholeTracesStay, RunIsOne, DeeperRunsAreTheRun, DepthReachesTicks, EachQueryRuns, SoundQueriesRun, RunsKeepStates};
+
+/// A goal does the same and maybe more where calls do, which is reflexive and transitive, and calls do so at each greater
+/// depth. A quiet call leads to a level that is still above that of one depth less, and takes nothing from the depth.
+pub fn depths_add()
+    ensures goals { GoalsDoMore }
+    ensures order { LevelsAreOrdered }
+    ensures levels { LevelsAscend }
+    ensures quiet { QuietCallsStayAbove }
+    ensures quiet_depth { QuietCallsKeepTheDepth }
+    ensures queries { QueriesDoMore }
+{}
+
+/// Where Ticks stand between the calls of quiet predicates, a goal does no more where any number of quiet calls may nest
+/// than where as many may nest as there are predicates.
+pub fn quiet_calls_nest_freely()
+    ensures { QuietCallsNestFreely }
+{}
+
+/// A query's trace is the same at each depth that reaches to its end, and its run before a Tick at each depth that reaches
+/// to that.
+pub fn runs_are_one()
+    ensures whole { WholeTracesStay }
+    ensures run { RunIsOne }
+    ensures deeper { DeeperRunsAreTheRun }
+{}
+
+/// Where Ticks stand between the calls of quiet predicates, there is a depth that reaches to each Tick of a query's trace,
+/// and so each query has its run.
+pub fn queries_run()
+    ensures reaches { DepthReachesTicks }
+    ensures runs { EachQueryRuns }
+    ensures sound { SoundQueriesRun }
+{}
+
+/// Where no plan of the log holds a variable, each answer of a sound query is a state, and its slots hold terms of variables
+/// that were made.
+pub fn runs_keep_states()
+    ensures { RunsKeepStates }
+{}

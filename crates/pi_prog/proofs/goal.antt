@@ -1,0 +1,2 @@
+pub mod GoalLemmas
+pub mod GoalNameLemmas

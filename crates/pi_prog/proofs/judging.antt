@@ -1,0 +1,3 @@
+pub mod JudgeLemmas
+pub mod JudgedLemmas
+pub mod VerdictLemmas

@@ -1,0 +1,4 @@
+pub mod BelowLemmas
+pub mod ExpFormLemmas
+pub mod FormLemmas
+pub mod WalkLemmas

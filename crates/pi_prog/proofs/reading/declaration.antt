@@ -1,0 +1,3 @@
+pub mod DeclarationLemmas
+pub mod ImportLemmas
+pub mod ModesLemmas

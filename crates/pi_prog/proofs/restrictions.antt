@@ -1,0 +1,3 @@
+pub mod ArrowLemmas
+pub mod EventLemmas
+pub mod HeadNameLemmas

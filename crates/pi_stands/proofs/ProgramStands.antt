@@ -1,0 +1,49 @@
+-- A program in tables, where atoms get more names.
+use Rattle.pi_code.proofs.LaidTests.{test-keeps, MoreNames}
+use Rattle.std.proofs.Common.{ℕ, List, [], ◌∷◌, drop}
+use Rattle.pi_terms.specs.PatternTree.{PatternTrees, no_patterns, pattern}
+use Rattle.pi_core.specs.CoreTree.{ClauseTree, PredTree}
+use Rattle.pi_code.specs.declared.code.HeadTest.{HeadTest}
+use Rattle.pi_code.specs.declared.code.Rule.{Rule}
+use Rattle.pi_code.specs.declared.code.Predicate.{Predicate}
+use Rattle.pi_code.specs.declared.code.Code.{Code}
+use Rattle.pi_code.specs.Code.{Tables}
+use Rattle.pi_stands.specs.Stands.{AreTestsOf, IsRuleOf, IsPredicateOf, IsCodeOf}
+
+tests-keep : (names others : List (List ℕ)) (ps : PatternTrees) (ts : List HeadTest) → MoreNames names others → AreTestsOf names ps ts → AreTestsOf others ps ts
+unfolding AreTestsOf
+tests-keep names others no_patterns ts more are = are
+tests-keep names others (pattern p ps) [] more are = are
+tests-keep names others (pattern p ps) (t ∷ ts) more are = (test-keeps names others p t more are.0, tests-keep names others ps ts more are.1)
+
+rule-keeps : (code : Code) (t : Tables) (names others : List (List ℕ)) (pred : PredTree) (c : ClauseTree) (r : Rule) → MoreNames names others → IsRuleOf code t names pred c r → IsRuleOf code t others pred c r
+rule-keeps code t names others pred c r more is =
+    record {
+      slots = is.slots;
+      leaves_others = is.leaves_others;
+      patterns = is.patterns;
+      tests = tests-keep names others c.head (drop r.tests code.tests.items) more is.tests;
+      shallow = is.shallow;
+      value = is.value;
+      guard = is.guard;
+      last = is.last;
+      body = is.body;
+    }
+
+pred-keeps : (code : Code) (t : Tables) (names others : List (List ℕ)) (pred : PredTree) (p : Predicate) → MoreNames names others → IsPredicateOf code t names pred p → IsPredicateOf code t others pred p
+pred-keeps code t names others pred p more is =
+    record {
+      arity = is.arity;
+      quiet = is.quiet;
+      rules = is.rules;
+      each = λ i c at. ((is.each i c at).0, (is.each i c at).1, rule-keeps code t names others pred c (is.each i c at).0 more (is.each i c at).2);
+    }
+
+pub code-keeps : (code : Code) (t : Tables) (names others : List (List ℕ)) (preds : List PredTree) → MoreNames names others → IsCodeOf code t names preds → IsCodeOf code t others preds
+code-keeps code t names others preds more is =
+    record {
+      source = is.source;
+      apart = is.apart;
+      predicates = λ n pred at. ((is.predicates n pred at).0, (is.predicates n pred at).1, pred-keeps code t names others pred (is.predicates n pred at).0 more (is.predicates n pred at).2);
+      numbers = is.numbers;
+    }

@@ -1,0 +1,11 @@
+pub mod Here
+pub mod Evaluates
+pub mod Stands
+pub mod Makes
+pub mod Fails
+pub mod Raises
+pub mod Lists
+pub mod Answers
+pub mod Tries
+pub mod Gives
+pub mod Goes

@@ -1,0 +1,2 @@
+//! What the arenas of a run stand for: a configuration of the machine as plain data.
+#![tactic(auto)]

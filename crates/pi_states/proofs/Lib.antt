@@ -1,0 +1,17 @@
+pub mod MatchLemmas
+pub mod ValueLemmas
+pub mod BindingLemmas
+pub mod FollowLemmas
+pub mod HeadMatchLemmas
+pub mod KeepsLemmas
+pub mod UnifyCells
+pub mod StateLemmas
+pub mod UnifyBindings
+pub mod StateLawLemmas
+pub mod UnifyOutcome
+pub mod UnifyAssigned
+pub mod UnifyJoined
+pub mod UnifyParts
+pub mod UnifyTurns
+pub mod UnifyLemmas
+pub mod RootLemmas

@@ -1,0 +1,9 @@
+pub mod Value
+pub mod Match
+pub mod State
+pub mod StateLaws
+pub mod Store
+pub mod Unify
+pub mod Evaluation
+pub mod HeadMatch
+pub mod ToldDomains

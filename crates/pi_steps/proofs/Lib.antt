@@ -1,0 +1,3 @@
+pub mod ToldStand
+pub mod NamesStand
+pub mod RetriesStand

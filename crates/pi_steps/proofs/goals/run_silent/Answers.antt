@@ -1,0 +1,21 @@
+use Rattle.std.proofs.Common.{ap, ◌∙◌, sym, Some, length}
+use Rattle.pi_stands.specs.Makes.{level_kind}
+use Rattle.pi_arenas.specs.declared.arenas.Kind.{Kind}
+use Rattle.pi_arenas.specs.declared.arenas.Strict.{Strict}
+use Rattle.pi_steps.proofs.goals.run_silent.Goals as goal
+
+pub returns-in_ok-enter_strict-in-If : goal.returns-in_ok-enter_strict-in-If
+returns-in_ok-enter_strict-in-If g c = λ l is_code other silent. c.in_ok-enter_strict-in-If.ensures (ap (level_kind c.args.point.place (length c.args.run.now.arenas.collected.items)) c.in-If.is) l is_code
+
+pub returns-in_ok-enter_strict-in-Not : goal.returns-in_ok-enter_strict-in-Not
+returns-in_ok-enter_strict-in-Not g c = λ l is_code other silent. c.in_ok-enter_strict-in-Not.ensures (ap (level_kind c.args.point.place (length c.args.run.now.arenas.collected.items)) c.in-Not.is) l is_code
+
+pub returns-in_ok-enter_strict-in-Once : goal.returns-in_ok-enter_strict-in-Once
+returns-in_ok-enter_strict-in-Once g c = λ l is_code other silent. c.in_ok-enter_strict-in-Once.ensures (ap (level_kind c.args.point.place (length c.args.run.now.arenas.collected.items)) c.in-Once.is) l is_code
+
+pub returns-in_ok-enter_strict-in-Count : goal.returns-in_ok-enter_strict-in-Count
+returns-in_ok-enter_strict-in-Count g c = λ l is_code other silent. c.in_ok-enter_strict-in-Count.ensures (ap (level_kind c.args.point.place (length c.args.run.now.arenas.collected.items)) c.in-Count.is) l is_code
+
+pub returns-in_ok-enter_strict-in-Collect : goal.returns-in_ok-enter_strict-in-Collect
+returns-in_ok-enter_strict-in-Collect g c = λ l is_code other silent.
+    c.in_ok-enter_strict-in-Collect.ensures (ap (level_kind c.args.point.place (length c.args.run.now.arenas.collected.items)) c.in-Collect.is ∙ ap (λ n. Some (Kind.Strict (Strict.Collect c.args.point.place n))) (sym c.count_collected-first.ensures)) l is_code

@@ -1,0 +1,32 @@
+use Rattle.std.proofs.Common.{◌∙◌, sym, ap, subst}
+use Rattle.pi_arenas.specs.declared.arenas.Kind.{Kind}
+use Rattle.pi_arenas.specs.Arenas.{view_of}
+use Rattle.pi_machine.specs.Configuration.{strict}
+use Rattle.pi_stands.specs.Makes.{IsPassed}
+use Rattle.pi_stands.specs.Stands.{world}
+use Rattle.pi_stands.proofs.FailsStand.{passed-ends}
+use Rattle.pi_steps.proofs.levels.end_strict.Goals as goal
+
+pub returns-in-Once : goal.returns-in-Once
+returns-in-Once g c = λ l is_code named s b es it.
+    let after = c.pass_over.new.run in
+    passed-ends (world l (g.S.StateStore.seen after.store) g.S.StateStore.order (view_of after.arenas)) after.now s b es
+    (c.pass_over.ensures l (subst IsPassed (sym (named ∙ ap Kind.Strict c.in-Once.is)) tt) (strict s b) es it)
+
+pub returns-in-Not : goal.returns-in-Not
+returns-in-Not g c = λ l is_code named. c.end_not.ensures l c.in-Not.field-0 (named ∙ ap Kind.Strict c.in-Not.is)
+
+pub returns-in-If : goal.returns-in-If
+returns-in-If g c = λ l is_code named. c.end_if.ensures l is_code (named ∙ ap Kind.Strict c.in-If.is)
+
+pub returns-in_ok-end_guard-in-Guard : goal.returns-in_ok-end_guard-in-Guard
+returns-in_ok-end_guard-in-Guard g c = λ l is_code named. c.in_ok-end_guard-in-Guard.ensures l is_code (named ∙ ap Kind.Strict c.in-Guard.is)
+
+pub returns-in_ok-no_value-in-Apply : goal.returns-in_ok-no_value-in-Apply
+returns-in_ok-no_value-in-Apply g c = λ l is_code named. c.in_ok-no_value-in-Apply.ensures l c.in-Apply.field-1 is_code (named ∙ ap Kind.Strict c.in-Apply.is)
+
+pub returns-in_ok-give_list-in-Collect : goal.returns-in_ok-give_list-in-Collect
+returns-in_ok-give_list-in-Collect g c = λ l is_code named. c.in_ok-give_list-in-Collect.ensures l is_code (named ∙ ap Kind.Strict c.in-Collect.is)
+
+pub returns-in_ok-give_count-in-Count : goal.returns-in_ok-give_count-in-Count
+returns-in_ok-give_count-in-Count g c = λ l is_code named. c.in_ok-give_count-in-Count.ensures l is_code (named ∙ ap Kind.Strict c.in-Count.is)

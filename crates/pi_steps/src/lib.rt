@@ -1,0 +1,20 @@
+//! The steps of a run over tables and arenas.
+#![tactic(auto)]
+
+mod answers;
+mod calls;
+mod choices;
+mod goals;
+mod heads;
+mod levels;
+mod lists;
+mod raises;
+mod rules;
+mod ticks;
+mod values;
+
+pub use answers::answer;
+pub use choices::one_goal;
+pub use goals::run_goal;
+pub use levels::{answer_level, fail};
+pub use raises::unwind;

@@ -1,0 +1,9 @@
+pub mod Tokens
+pub mod ExpTree
+pub mod Terminals
+pub mod Grammar
+pub mod Crowding
+pub mod Ranks
+pub mod ProgramTree
+pub mod ExpLists
+pub mod Signature

@@ -1,0 +1,74 @@
+//! Programs and goals as they are written.
+use crate::exp::{Exp, Exps};
+use pi_terms::{Series, Text};
+
+/// Names, in order.
+pub type Names = Series<Text>;
+
+/// A clause of a program as it is written. A User's Guide to Picat, 'Predicates and Functions', and for events 'Action
+/// Rules'.
+#[derive(Debug, Drop)]
+pub enum Clause {
+    /// A predicate's rule, committed (`=>`) or, where `back` is true, backtrackable (`?=>`).
+    Rule {
+        head: Exp,
+        cond: Option<Exp>,
+        events: Exps,
+        back: bool,
+        body: Exp,
+    },
+    /// A function's rule or, without condition and body, its fact.
+    Function {
+        head: Exp,
+        value: Exp,
+        cond: Option<Exp>,
+        body: Option<Exp>,
+    },
+    /// A fact of a predicate behind its `index`.
+    Fact {
+        head: Exp,
+    },
+}
+
+/// A place of a mode list: `+` for one that is ground in a call, `-` for any.
+#[derive(Clone, Copy, Debug, PartialEq, Eq)]
+pub enum Mode {
+    Plus,
+    Minus,
+}
+
+/// A mode list, from the left.
+pub type Modes = Series<Mode>;
+
+/// Mode lists, in order.
+pub type ModeLists = Series<Modes>;
+
+/// What stands before a part's clause.
+#[derive(Debug, Drop)]
+pub enum Decl {
+    Plain,
+    Import(Names),
+    Index(ModeLists),
+}
+
+/// A part of a program: what stands between two end points.
+#[derive(Debug, Drop)]
+pub struct Part {
+    pub decl: Decl,
+    pub clause: Option<Clause>,
+}
+
+/// Parts, in the order of the text.
+pub type Parts = Series<Part>;
+
+/// A program as it is written.
+#[derive(Debug, Drop)]
+pub struct Program {
+    pub parts: Parts,
+}
+
+/// A goal as it is written.
+#[derive(Debug, Drop)]
+pub struct Goal {
+    pub body: Exp,
+}

@@ -1,0 +1,13 @@
+pub mod TermLemmas
+pub mod OrderLemmas
+pub mod OrderLawLemmas
+pub mod VariableLemmas
+pub mod CopyLemmas
+pub mod NumberLemmas
+pub mod RenamedLemmas
+pub mod NameLemmas
+pub mod GetLemmas
+pub mod BareLemmas
+pub mod ListLemmas
+pub mod OptionLemmas
+pub mod TakenLemmas

@@ -1,0 +1,7 @@
+use Rattle.std.proofs.Common.{◌≡◌, ◌≤◌, drop, length}
+use Rattle.pi_terms.specs.Tree.{args, drop_trees}
+use Rattle.pi_terms.specs.TermCells.{flat_all, tree_of}
+use Rattle.pi_terms.proofs.term.place_of.Given as goal
+
+abbrev pub invariant-loop-k : goal.invariant-loop-k
+invariant-loop-k l = (drop l.at l.cells ≡ flat_all (drop_trees l._k (args (tree_of l.cells)))) × (l.at ≤ length l.cells)

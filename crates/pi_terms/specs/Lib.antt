@@ -1,0 +1,14 @@
+pub mod Tree
+pub mod ListNames
+pub mod TermCells
+pub mod Order
+pub mod OrderLaws
+pub mod Variables
+pub mod Substitution
+pub mod Copy
+pub mod Places
+pub mod PatternTree
+pub mod BareCells
+pub mod Numbers
+pub mod RenamedCells
+pub mod ListCopies

@@ -1,0 +1,15 @@
+//! Terms: as trees and as flat vectors, with their order, their variables and their copies.
+#![tactic(auto)]
+
+mod args;
+pub mod laws;
+mod numbers;
+mod series;
+mod term;
+mod text;
+
+pub use args::Args;
+pub use numbers::Numbers;
+pub use series::Series;
+pub use term::{Term, TermCell, TermHead};
+pub use text::Text;

@@ -1,0 +1,16 @@
+pub mod TreeStoreWalkLemmas
+pub mod NameTableLemmas
+pub mod TreeStoreTrees
+pub mod TreeStoreSoundLemmas
+pub mod TreeStoreSpeaks
+pub mod TreeStoreKeeps
+pub mod TreeStoreCalls
+pub mod TreeStoreLooks
+pub mod TreeStoreGround
+pub mod TreeStoreUndo
+pub mod TreeStoreAgents
+pub mod TreeStoreBinds
+pub mod TreeStoreLeads
+pub mod PlaceLemmas
+pub mod TreeStorePlaces
+pub mod TreeStoreReads

@@ -1,0 +1,6 @@
+pub mod TreeStoreNames
+pub mod TreeStore
+pub mod TreeStoreWalks
+pub mod TreeStoreSound
+pub mod TreeStoreProps
+pub mod TreeStoreRead

@@ -1,0 +1,6 @@
+//! The copying store.
+#![tactic(auto)]
+
+mod tree_store;
+
+pub use tree_store::TreeStore;

@@ -1,6 +1,0 @@
-use Rattle.pi_types.specs.GoalTree.{goal_at}
-use Rattle.pi_types.proofs.core_goal.CoreGoal.collect.Goals as goal
-
-pub returns : goal.returns
-unfolding goal_at
-returns c = record { ok = c.unary.ensures.ok }

@@ -1,7 +1,0 @@
-use Rattle.std.proofs.Common.{◌≡◌, take}
-use Rattle.pi_types.specs.GoalTree.{goals_of}
-use Rattle.pi_types.specs.GoalCells.{flat_all}
-use Rattle.pi_types.proofs.core_goal.cells_of.Given as goal
-
-abbrev pub invariant-loop-goal : goal.invariant-loop-goal
-invariant-loop-goal l = l.cells.items ≡ flat_all (goals_of (take l.goal-index l.goals))

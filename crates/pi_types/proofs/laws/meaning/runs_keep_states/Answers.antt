@@ -1,5 +1,0 @@
-use Rattle.pi_types.proofs.KeepsRules.{runs-keep-states}
-use Rattle.pi_types.proofs.laws.meaning.runs_keep_states.Goals as goal
-
-pub returns : goal.returns
-returns c = runs-keep-states

@@ -1,7 +1,0 @@
-use Rattle.std.proofs.Common.{◌≡◌, take}
-use Rattle.pi_types.specs.Variables.{firsts}
-use Rattle.pi_types.specs.RenamedCells.{variables_at}
-use Rattle.pi_types.proofs.term.renumbered.numbers_of.Given as goal
-
-abbrev pub invariant-loop-cell : goal.invariant-loop-cell
-invariant-loop-cell l = l.numbers ≡ firsts (variables_at (take l.cell-index l.cells))
