@@ -1,0 +1,53 @@
+//! Domains in words: `1..3 5..5`.
+
+use crate::fault::Problem;
+use pi_dom::{DomFault, of_list};
+use pi_types::{Domain, VarDomain};
+use std::alloc::Global;
+
+/// How many values a span has at most that is written down.
+const MOST: i128 = 1_000;
+
+/// The domain of spans or values.
+pub fn spans_of(alloc: Global, words: &[&str]) -> Result<Domain, Problem> {
+    let mut values = Vec::new(alloc);
+    for word in words {
+        let (lo, hi) = match word.split_once("..") {
+            Some((lo, hi)) => (integer(lo)?, integer(hi)?),
+            None => (integer(word)?, integer(word)?),
+        };
+        if hi.saturating_sub(lo) > MOST {
+            return Err(Problem::Case("a shorter span"));
+        }
+        for n in lo..hi.saturating_add(1) {
+            values.push(n)?;
+        }
+    }
+    match of_list(alloc, values.as_slice()) {
+        Ok(domain) => Ok(domain),
+        Err(DomFault::TooWide) => Err(Problem::Case("values of a domain")),
+        Err(DomFault::Memory) => Err(Problem::Memory(std::alloc::AllocError)),
+    }
+}
+
+fn integer(word: &str) -> Result<i128, Problem> {
+    word.parse()
+        .map_err(|_| Problem::Case("an integer in place of a word"))
+}
+
+/// Appends the spans of a domain, each behind a blank.
+pub fn push_domain(domain: &Domain, out: &mut String) -> Result<(), Problem> {
+    for span in domain.spans() {
+        write!(out, " {}..{}", span.lo, span.hi)?;
+    }
+    Ok(())
+}
+
+/// Appends the domains that an answer tells, each behind the number of its variable.
+pub fn push_domains(domains: &[VarDomain], out: &mut String) -> Result<(), Problem> {
+    for told in domains {
+        write!(out, " with _{}", told.var)?;
+        push_domain(&told.domain, out)?;
+    }
+    Ok(())
+}
