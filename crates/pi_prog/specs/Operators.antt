@@ -4,9 +4,6 @@ use Rattle.std.specs.Prelude.{ℕ, Bool, ◌&&◌, ◌||◌, ◌==◌, List, [],
 use Rattle.std.specs.Str.{bytes_eq}
 use Rattle.pi_syntax.specs.Tokens.{is_one_of}
 
-abbrev pub is_call_of : List ℕ → ℕ → List ℕ → ℕ → Bool
-is_call_of name arity name' arity' = arity == arity' && bytes_eq name name'
-
 -- `not` and `once`
 unfoldable pub is_goal_sign : List ℕ → ℕ → Bool
 is_goal_sign name arity = arity == 1 && is_one_of (codes "not" ∷ codes "once" ∷ []) name
