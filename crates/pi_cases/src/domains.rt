@@ -1,8 +1,9 @@
 //! Domains in words: `1..3 5..5`.
 
 use crate::fault::Problem;
+use crate::words::integer_of;
 use pi_dom::{DomFault, of_list};
-use pi_types::{Domain, VarDomain};
+use pi_types::{Domain, Span, VarDomain};
 use std::alloc::Global;
 
 /// How many values a span has at most that is written down.
@@ -13,8 +14,8 @@ pub fn spans_of(alloc: Global, words: &[&str]) -> Result<Domain, Problem> {
     let mut values = Vec::new(alloc);
     for word in words {
         let (lo, hi) = match word.split_once("..") {
-            Some((lo, hi)) => (integer(lo)?, integer(hi)?),
-            None => (integer(word)?, integer(word)?),
+            Some((lo, hi)) => (integer_of(lo)?, integer_of(hi)?),
+            None => (integer_of(word)?, integer_of(word)?),
         };
         if hi.saturating_sub(lo) > MOST {
             return Err(Problem::Case("a shorter span"));
@@ -30,16 +31,18 @@ pub fn spans_of(alloc: Global, words: &[&str]) -> Result<Domain, Problem> {
     }
 }
 
-fn integer(word: &str) -> Result<i128, Problem> {
-    word.parse()
-        .map_err(|_| Problem::Case("an integer in place of a word"))
-}
-
 /// Appends the spans of a domain, each behind a blank.
 pub fn push_domain(domain: &Domain, out: &mut String) -> Result<(), Problem> {
     for span in domain.spans() {
-        write!(out, " {}..{}", span.lo, span.hi)?;
+        out.push(' ')?;
+        push_span(span, out)?;
     }
+    Ok(())
+}
+
+/// Appends a span.
+pub fn push_span(span: &Span, out: &mut String) -> Result<(), Problem> {
+    write!(out, "{}..{}", span.lo, span.hi)?;
     Ok(())
 }
 

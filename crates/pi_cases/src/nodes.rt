@@ -150,7 +150,8 @@ pub fn push_escaped(text: &str, out: &mut String) -> Result<(), Problem> {
     Ok(())
 }
 
-fn push_character(c: char, out: &mut String) -> Result<(), Problem> {
+/// Appends a character, escaped where it is a `\`, a tab or a line feed.
+pub fn push_character(c: char, out: &mut String) -> Result<(), Problem> {
     match c {
         '\n' => out.push_str("\\n")?,
         '\t' => out.push_str("\\t")?,

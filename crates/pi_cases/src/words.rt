@@ -32,6 +32,12 @@ pub fn repeated(word: &str) -> (usize, &str) {
     }
 }
 
+/// The integer that a word is.
+pub fn integer_of(word: &str) -> Result<i128, Problem> {
+    word.parse()
+        .map_err(|_| Problem::Case("an integer in place of a word"))
+}
+
 /// The number of a slot that a word is.
 pub fn slot_of(word: &str) -> Result<u32, Problem> {
     word.parse().map_err(|_| Problem::Case("the number of a slot in place of a word"))
@@ -73,6 +79,18 @@ impl<'a> Words<'a> {
         self.word()?
             .parse()
             .map_err(|_| Problem::Case("a number in place of a word"))
+    }
+
+    /// Takes the next word, which is to be a number of things or an index.
+    pub fn count(&mut self) -> Result<usize, Problem> {
+        self.word()?
+            .parse()
+            .map_err(|_| Problem::Case("a number in place of a word"))
+    }
+
+    /// Takes the next word, which is to be an integer.
+    pub fn integer(&mut self) -> Result<i128, Problem> {
+        integer_of(self.word()?)
     }
 
     /// Takes a number, which is to fit a slot's.
@@ -126,15 +144,4 @@ impl<'a> Words<'a> {
             Err(Problem::Case("no words behind its end"))
         }
     }
-}
-
-/// Appends how many words a case has, and the first and the last one.
-pub fn push_answer(alloc: Global, case: &str, out: &mut String) -> Result<(), Problem> {
-    let words = words_of(alloc, case)?;
-    let words = words.as_slice();
-    match (words.first(), words.last()) {
-        (Some(first), Some(last)) => write!(out, "{} {first} {last}", words.len())?,
-        _ => out.push_str("0")?,
-    }
-    Ok(())
 }

@@ -123,22 +123,6 @@ fn digit(byte: u8) -> Result<u8, Problem> {
     }
 }
 
-/// Appends a text on one line: with escapes for `\`, quotes, line feeds and tabs.
-pub fn push_escaped(text: &str, out: &mut String) -> Result<(), Problem> {
-    for sign in text.chars() {
-        match sign {
-            '\n' => out.push_str("\\n")?,
-            '\t' => out.push_str("\\t")?,
-            '\\' | '\'' | '"' => {
-                out.push('\\')?;
-                out.push(sign)?;
-            }
-            _ => out.push(sign)?,
-        }
-    }
-    Ok(())
-}
-
 /// Appends bytes on one line: each that is no visible sign of ASCII as `\xff`.
 pub fn push_bytes(bytes: &[u8], out: &mut String) -> Result<(), Problem> {
     for byte in bytes {

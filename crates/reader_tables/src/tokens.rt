@@ -1,7 +1,8 @@
 //! Texts, and their tokens or their first fault.
 
 use pi_cases::fault::Problem;
-use pi_cases::written::{bytes_of, push_between, push_escaped};
+use pi_cases::nodes::push_character;
+use pi_cases::written::{bytes_of, push_between};
 use pi_lex::{LexFault, TokenKind, Tokens, tokens};
 use std::alloc::{AllocError, Global};
 
@@ -53,9 +54,15 @@ fn push_kind(kind: TokenKind<'_>, out: &mut String) -> Result<(), Problem> {
     Ok(())
 }
 
+/// Appends a text in quotes, with each quote in it escaped.
 fn push_quoted(quote: char, text: &str, out: &mut String) -> Result<(), Problem> {
     out.push(quote)?;
-    push_escaped(text, out)?;
+    for c in text.chars() {
+        if c == '\'' || c == '"' {
+            out.push('\\')?;
+        }
+        push_character(c, out)?;
+    }
     out.push(quote)?;
     Ok(())
 }

@@ -7,6 +7,7 @@ use pi_cases::fault::Problem;
 use pi_cases::nodes::{Node, name_of, node_of, one, push_name, several};
 use pi_cases::terms::{push_term, term_over};
 use pi_cases::words::{Words, slot_of, words_of};
+use pi_cases::written::push_between;
 use pi_types::{CoreGoal, GoalNode, Term};
 use std::alloc::Global;
 
@@ -205,9 +206,7 @@ fn parted(word: &str) -> Result<(&str, &str), Problem> {
 /// Appends a goal in words.
 pub fn push_goal(goal: &CoreGoal, out: &mut String) -> Result<(), Problem> {
     for i in 0..goal.nodes() {
-        if i > 0 {
-            out.push(' ')?;
-        }
+        push_between(i, " ", out)?;
         push_node(goal.node(i), out)?;
     }
     Ok(())

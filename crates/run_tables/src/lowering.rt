@@ -6,6 +6,7 @@ use crate::goals::push_goal;
 use pi_cases::fault::Problem;
 use pi_cases::patterns::push_flat;
 use pi_cases::words::{Words, words_of};
+use pi_cases::written::push_between;
 use pi_rewrite::{LowerFault, lower, lower_goal};
 use pi_types::{
     Clause, CoreClause, CorePred, CorePreds, CoreProgram, Decl, Goal, Part, Parts, Program,
@@ -30,23 +31,20 @@ fn push_program(alloc: Global, mut words: Words<'_>, out: &mut String) -> Result
             parts.push(rule_of(alloc, words.until(";"))?)?;
         }
     }
-    let core = lower(alloc, &Program { parts }).map_err(|fault| problem_of(fault))?;
+    let core = lower(alloc, &Program { parts }).map_err(problem_of)?;
     for (i, pred) in core.preds.as_slice().iter().enumerate() {
-        if i > 0 {
-            out.push_str(" ; ")?;
-        }
+        push_between(i, " ; ", out)?;
         push_pred(pred, out)?;
     }
     Ok(())
 }
 
 /// The part that is a rule in words.
-fn rule_of(alloc: Global, words: Words<'_>) -> Result<Part, Problem> {
+fn rule_of(alloc: Global, mut words: Words<'_>) -> Result<Part, Problem> {
     let is_arrow = |word: &&str| *word == "=>" || *word == "?=>";
     let Some(place) = words.rest().iter().position(is_arrow) else {
         return Err(Problem::Case("an arrow in a rule"));
     };
-    let mut words = words;
     let head = expression_of(alloc, words.taken(place)?)?;
     let back = words.word()? == "?=>";
     let body = expression_of(alloc, words.rest())?;
@@ -92,7 +90,7 @@ fn push_query(alloc: Global, words: Words<'_>, out: &mut String) -> Result<(), P
     let core = CoreProgram {
         preds: CorePreds::new(alloc),
     };
-    let query = lower_goal(alloc, &Goal { body }, &core).map_err(|fault| problem_of(fault))?;
+    let query = lower_goal(alloc, &Goal { body }, &core).map_err(problem_of)?;
     write!(out, "{} slots,", query.slots)?;
     for named in query.names.as_slice() {
         write!(out, " {}={}", named.name.as_str(), named.slot)?;

@@ -7,6 +7,7 @@ use pi_cases::domains::push_domains;
 use pi_cases::fault::Problem;
 use pi_cases::terms::push_term;
 use pi_cases::words::{Words, words_of};
+use pi_cases::written::push_between;
 use pi_engine::{Budget, Happening, Kept, Machine, Mode};
 use pi_types::{
     Answer, CorePreds, CoreProgram, CoreQuery, NameSlot, NameSlots, StateStore, Text, TreeStore,
@@ -159,9 +160,7 @@ fn push_told(answer: &Answer, out: &mut String) -> Result<(), Problem> {
         out.push_str("yes")?;
     }
     for (i, named) in values.iter().enumerate() {
-        if i > 0 {
-            out.push_str(", ")?;
-        }
+        push_between(i, ", ", out)?;
         push_term(&named.value, out)?;
     }
     push_domains(answer.domains.as_slice(), out)

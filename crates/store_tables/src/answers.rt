@@ -5,6 +5,7 @@ use pi_cases::fault::Problem;
 use pi_cases::nodes::push_escaped;
 use pi_cases::terms::taken_term;
 use pi_cases::words::{Words, words_of};
+use pi_cases::written::push_between;
 use pi_print::answer_text;
 use pi_types::{Answer, NamedTerm, NamedTerms, Text, VarDomain, VarDomains};
 use std::alloc::Global;
@@ -33,9 +34,7 @@ pub fn push_answer(alloc: Global, case: &str, out: &mut String) -> Result<(), Pr
     }
     let lines = answer_text(alloc, &Answer { values, domains })?;
     for (i, line) in lines.as_slice().iter().enumerate() {
-        if i > 0 {
-            out.push(' ')?;
-        }
+        push_between(i, " ", out)?;
         push_escaped(line.as_str(), out)?;
     }
     Ok(())

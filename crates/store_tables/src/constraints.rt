@@ -3,7 +3,7 @@
 
 use pi_cases::fault::Problem;
 use pi_cases::nodes::{Node, node_of};
-use pi_cases::words::Words;
+use pi_cases::words::{Words, integer_of};
 use pi_types::{Constraint, Item, Items, LinTerms, Rel};
 use std::alloc::Global;
 
@@ -42,11 +42,11 @@ fn taken_sum(alloc: Global, words: &mut Words<'_>) -> Result<Constraint, Problem
         "<" => Rel::AtMost,
         _ => return Err(Problem::Case("how a sum stands to 0")),
     };
-    let constant = integer(words.word()?)?;
+    let constant = words.integer()?;
     let mut terms = LinTerms::new(alloc);
     for _ in 0..words.left() {
         if let Some(word) = words.next() {
-            let coefficient = integer(word)?;
+            let coefficient = integer_of(word)?;
             let Item::Var(variable) = taken_item(words)? else {
                 return Err(Problem::Case("a variable behind its coefficient"));
             };
@@ -58,13 +58,6 @@ fn taken_sum(alloc: Global, words: &mut Words<'_>) -> Result<Constraint, Problem
         terms,
         constant,
     })
-}
-
-fn integer(word: &str) -> Result<i128, Problem> {
-    match node_of(word) {
-        Node::Int(n) => Ok(n),
-        _ => Err(Problem::Case("an integer in place of a word")),
-    }
 }
 
 fn taken_item(words: &mut Words<'_>) -> Result<Item, Problem> {

@@ -5,10 +5,12 @@ mod answers;
 mod constraints;
 mod marks;
 mod stores;
+mod terms;
 mod told;
+mod words;
 
 use pi_cases::fault::Problem;
-use pi_cases::{Subjects, run, terms, words};
+use pi_cases::{Subjects, run};
 use std::process::ExitCode;
 
 /// The subjects.

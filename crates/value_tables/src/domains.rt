@@ -1,8 +1,8 @@
 //! Domains: how they are made, cut, met and read, step by step.
 
-use crate::integers::{integer, integer_of};
+use pi_cases::domains::push_span;
 use pi_cases::fault::Problem;
-use pi_cases::words::{Words, words_of};
+use pi_cases::words::{Words, integer_of, words_of};
 use pi_cases::written::push_between;
 use pi_dom::{
     DomFault, contains, cut_above, cut_below, max, meet, min, of_list, of_span, remove, size,
@@ -44,9 +44,9 @@ fn push_step(
     let made = match words.word()? {
         "span" => made_of_span(alloc, words)?,
         "list" => made_of_list(alloc, words)?,
-        "from" => Ok(cut_below(alloc, domain, integer(words)?)?),
-        "upto" => Ok(cut_above(alloc, domain, integer(words)?)?),
-        "without" => Ok(remove(alloc, domain, integer(words)?)?),
+        "from" => Ok(cut_below(alloc, domain, words.integer()?)?),
+        "upto" => Ok(cut_above(alloc, domain, words.integer()?)?),
+        "without" => Ok(remove(alloc, domain, words.integer()?)?),
         "meet" => Ok(meet(alloc, domain, &other(alloc, words)?)?),
         question => return push_asked(alloc, domain, question, words, out),
     };
@@ -73,7 +73,7 @@ fn push_asked(
         "size" => write!(out, "{}", size(domain))?,
         "min" => push_end(min(domain), out)?,
         "max" => push_end(max(domain), out)?,
-        "has" => push_yes_or_no(contains(domain, integer(words)?), out)?,
+        "has" => push_yes_or_no(contains(domain, words.integer()?), out)?,
         "is" => push_yes_or_no(domain.spans() == other(alloc, words)?.spans(), out)?,
         _ => return Err(Problem::Case("a known step")),
     }
@@ -92,8 +92,8 @@ fn other(alloc: Global, words: &mut Words<'_>) -> Result<Domain, Problem> {
 
 /// The domain from one integer to another.
 fn made_of_span(alloc: Global, words: &mut Words<'_>) -> Result<Result<Domain, DomFault>, Problem> {
-    let lo = integer(words)?;
-    let hi = integer(words)?;
+    let lo = words.integer()?;
+    let hi = words.integer()?;
     Ok(of_span(alloc, lo, hi))
 }
 
@@ -151,12 +151,6 @@ fn push_spans(spans: &[Span], out: &mut String) -> Result<(), Problem> {
             }
         }
     }
-    Ok(())
-}
-
-fn push_span(span: &Span, out: &mut String) -> Result<(), Problem> {
-    let Span { lo, hi } = *span;
-    write!(out, "{lo}..{hi}")?;
     Ok(())
 }
 

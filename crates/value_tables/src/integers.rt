@@ -32,25 +32,14 @@ pub fn push_answer(alloc: Global, case: &str, out: &mut String) -> Result<(), Pr
     let words = words_of(alloc, case)?;
     let mut words = Words::new(words.as_slice());
     let operation = operation(words.word()?)?;
-    let a = integer(&mut words)?;
-    let b = integer(&mut words)?;
+    let a = words.integer()?;
+    let b = words.integer()?;
     words.end()?;
     match evaluate(operation, a, b) {
         Ok(value) => write!(out, "{value}")?,
         Err(fault) => write!(out, "{fault}")?,
     }
     Ok(())
-}
-
-/// Takes the next word, which is to be an integer.
-pub fn integer(words: &mut Words<'_>) -> Result<i128, Problem> {
-    integer_of(words.word()?)
-}
-
-/// The integer that a word is.
-pub fn integer_of(word: &str) -> Result<i128, Problem> {
-    word.parse()
-        .map_err(|_| Problem::Case("an integer in place of a word"))
 }
 
 fn operation(word: &str) -> Result<Op, Problem> {

@@ -109,7 +109,7 @@ fn push_memory_sink(
     calls: &str,
     out: &mut String,
 ) -> Result<(), Problem> {
-    let mut sink = MemorySink::new(alloc, room(words)?)?;
+    let mut sink = MemorySink::new(alloc, words.count()?)?;
     for _ in 0..words.left() {
         sink.fail_at(words.number()?)?;
     }
@@ -125,18 +125,10 @@ fn push_sure_sink(
     calls: &str,
     out: &mut String,
 ) -> Result<(), Problem> {
-    let mut sink = SureSink::new(alloc, room(words)?)?;
+    let mut sink = SureSink::new(alloc, words.count()?)?;
     push_writes(alloc, &mut sink, calls, out)?;
     out.push_str(" kept ")?;
     push_bytes(sink.bytes(), out)
-}
-
-/// Takes the next word, which is to be a number of bytes.
-fn room(words: &mut Words<'_>) -> Result<usize, Problem> {
-    words
-        .word()?
-        .parse()
-        .map_err(|_| Problem::Case("a number of bytes"))
 }
 
 /// A source of bytes, how many it gives at once, and the numbers of the calls that are to fail.
@@ -147,7 +139,7 @@ fn push_memory_source(
     out: &mut String,
 ) -> Result<(), Problem> {
     let bytes = bytes_of(alloc, words.word()?)?;
-    let most = room(words)?;
+    let most = words.count()?;
     if most < 1 {
         return Err(Problem::Case("a byte at once"));
     }
@@ -166,7 +158,7 @@ fn push_sure_source(
     out: &mut String,
 ) -> Result<(), Problem> {
     let bytes = bytes_of(alloc, words.word()?)?;
-    let most = room(words)?;
+    let most = words.count()?;
     if most < 1 {
         return Err(Problem::Case("a byte at once"));
     }
@@ -232,7 +224,7 @@ fn push_reads<I: Source>(
         push_between(i, "; ", out)?;
         let words = words_of(alloc, call)?;
         let mut words = Words::new(words.as_slice());
-        let Some(place) = into.get_mut(..room(&mut words)?) else {
+        let Some(place) = into.get_mut(..words.count()?) else {
             return Err(Problem::Case("at most 4 bytes"));
         };
         push_count(source.read(place), out)?;

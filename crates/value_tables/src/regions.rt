@@ -118,7 +118,7 @@ fn push_region_call(
         "len" => write!(out, "{}", region.len())?,
         "get" => push_word(region, words, out)?,
         "right" => push_right(region, words, out)?,
-        "reserve" => push_done(region.reserve(index(words)?), out)?,
+        "reserve" => push_done(region.reserve(words.count()?), out)?,
         "append" => push_done(append(region, words.number()?), out)?,
         "pair" => {
             let first = words.number()?;
@@ -141,14 +141,6 @@ fn push_done(done: Result<(), AllocError>, out: &mut String) -> Result<(), Probl
         Err(AllocError) => "refused",
     })?;
     Ok(())
-}
-
-/// Takes the next word, which is to be an index or a number of words.
-fn index(words: &mut Words<'_>) -> Result<usize, Problem> {
-    words
-        .word()?
-        .parse()
-        .map_err(|_| Problem::Case("a number in place of a word"))
 }
 
 /// Appends a word.
@@ -179,7 +171,7 @@ fn fill(region: &mut Region, count: u64, step: u64) -> Result<(), AllocError> {
 
 /// Appends a word as it is read.
 fn push_word(region: &Region, words: &mut Words<'_>, out: &mut String) -> Result<(), Problem> {
-    let index = index(words)?;
+    let index = words.count()?;
     if index < region.len() {
         write!(out, "{}", region.get(index))?;
     } else {
@@ -190,7 +182,7 @@ fn push_word(region: &Region, words: &mut Words<'_>, out: &mut String) -> Result
 
 /// Appends how many of the first words are the multiples of a number, from 0 on.
 fn push_right(region: &Region, words: &mut Words<'_>, out: &mut String) -> Result<(), Problem> {
-    let count = index(words)?.min(region.len());
+    let count = words.count()?.min(region.len());
     let step = words.number()?;
     let mut right = 0u64;
     for i in 0..count {
@@ -203,7 +195,7 @@ fn push_right(region: &Region, words: &mut Words<'_>, out: &mut String) -> Resul
 }
 
 fn set(region: &mut Region, words: &mut Words<'_>, out: &mut String) -> Result<(), Problem> {
-    let index = index(words)?;
+    let index = words.count()?;
     let word = words.number()?;
     if index < region.len() {
         region.set(index, word);
@@ -215,7 +207,7 @@ fn set(region: &mut Region, words: &mut Words<'_>, out: &mut String) -> Result<(
 }
 
 fn truncate(region: &mut Region, words: &mut Words<'_>, out: &mut String) -> Result<(), Problem> {
-    let count = index(words)?;
+    let count = words.count()?;
     if count <= region.len() {
         region.truncate(count);
         out.push_str("done")?;

@@ -6,6 +6,7 @@ use pi_cases::domains::push_domain;
 use pi_cases::fault::Problem;
 use pi_cases::terms::{push_term, taken_term};
 use pi_cases::words::Words;
+use pi_cases::written::push_between;
 use pi_types::{Activation, StateStore, Watch, Watches};
 use std::alloc::Global;
 
@@ -122,9 +123,7 @@ fn show_watches<S: StateStore>(
     let watches = store.watches(alloc, n)?;
     begin(out)?;
     for (i, watch) in watches.as_slice().iter().enumerate() {
-        if i > 0 {
-            out.push_str(", ")?;
-        }
+        push_between(i, ", ", out)?;
         let (kind, r, slot) = match *watch {
             Watch::Ins(r) => ("ins", r, None),
             Watch::Bound(r) => ("bound", r, None),

@@ -4,6 +4,7 @@ use pi_cases::domains::push_domain;
 use pi_cases::fault::Problem;
 use pi_cases::nodes::push_name;
 use pi_cases::terms::push_term;
+use pi_cases::written::push_between;
 use pi_types::{Cell, Domain, ReadStop, Ref, StateStore, Term};
 use std::alloc::{AllocError, Global};
 
@@ -39,9 +40,7 @@ pub fn show_numbers(numbers: &[u64], out: &mut String) -> Result<(), Problem> {
     begin(out)?;
     out.push('[')?;
     for (i, number) in numbers.iter().enumerate() {
-        if i > 0 {
-            out.push(' ')?;
-        }
+        push_between(i, " ", out)?;
         write!(out, "{number}")?;
     }
     out.push(']')?;

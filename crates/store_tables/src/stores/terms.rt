@@ -7,6 +7,7 @@ use crate::stores::showing::{
 use pi_cases::fault::Problem;
 use pi_cases::terms::taken_term;
 use pi_cases::words::Words;
+use pi_cases::written::push_between;
 use pi_types::{ReadStop, StateStore};
 use pi_unify::{compare, copy_term, place, unify};
 use std::alloc::{AllocError, Global};
@@ -158,9 +159,7 @@ fn order<S: StateStore>(
     }
     begin(out)?;
     for (i, a) in terms.iter().enumerate() {
-        if i > 0 {
-            out.push(' ')?;
-        }
+        push_between(i, " ", out)?;
         for b in &terms {
             out.push_str(sign(compare(alloc, store, *a, *b)?))?;
         }
