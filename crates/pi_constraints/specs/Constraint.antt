@@ -4,7 +4,7 @@ use Rattle.pi_constraints.specs.Domain.{IsWithinBounds}
 use Rattle.pi_constraints.specs.declared.constraint.Constraint.{Constraint}
 use Rattle.pi_constraints.specs.declared.constraint.Item.{Item}
 
--- the most terms of a sum, items of `all_different` or items of `element`
+-- the most terms of a sum, items of `all_different`, of `all_distinct` or of `element`
 abbrev pub most_items : ℕ
 most_items = 1048576
 
@@ -28,6 +28,8 @@ SpeaksOf (Constraint.Product z x y) n = HoldsVariable z n ⊎ (HoldsVariable x n
 SpeaksOf (Constraint.Absolute z x) n = HoldsVariable z n ⊎ HoldsVariable x n
 SpeaksOf (Constraint.Different items) n = HoldVariable items n
 SpeaksOf (Constraint.Element index items value) n = HoldsVariable index n ⊎ (HoldVariable items n ⊎ HoldsVariable value n)
+SpeaksOf (Constraint.Reified truth rel terms constant) n = HoldsVariable truth n ⊎ SumHasVariable terms n
+SpeaksOf (Constraint.Distinct items) n = HoldVariable items n
 
 -- an integer at a place is a value that a domain can have
 abbrev pub IsItem : Item → Type 0
@@ -43,10 +45,16 @@ unfoldable pub IsSum : ℕ → List (ℤ × ℕ) → Type 0
 IsSum least [] = ⊤
 IsSum least ((c, n) ∷ terms) = (c ≢ pos 0) × (nat_abs c ≤ 2 ^ 40) × (least ≤ n) × IsSum (suc n) terms
 
+-- the sum of a constraint
+abbrev pub IsSumWithinLimits : List (ℤ × ℕ) → ℤ → Type 0
+IsSumWithinLimits terms constant = (terms ≢ []) × (length terms ≤ most_items) × IsSum 0 terms × (nat_abs constant ≤ 2 ^ 100)
+
 -- a constraint as it may be posted
 abbrev pub IsWithinLimits : Constraint → Type 0
-IsWithinLimits (Constraint.Linear rel terms constant) = (terms ≢ []) × (length terms ≤ most_items) × IsSum 0 terms × (nat_abs constant ≤ 2 ^ 100)
+IsWithinLimits (Constraint.Linear rel terms constant) = IsSumWithinLimits terms constant
 IsWithinLimits (Constraint.Product z x y) = IsItem z × IsItem x × IsItem y
 IsWithinLimits (Constraint.Absolute z x) = IsItem z × IsItem x
 IsWithinLimits (Constraint.Different items) = (length items ≤ most_items) × AreItems items
 IsWithinLimits (Constraint.Element index items value) = (length items ≤ most_items) × IsItem index × AreItems items × IsItem value
+IsWithinLimits (Constraint.Reified truth rel terms constant) = IsItem truth × IsSumWithinLimits terms constant
+IsWithinLimits (Constraint.Distinct items) = (length items ≤ most_items) × AreItems items

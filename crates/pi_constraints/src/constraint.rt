@@ -56,6 +56,15 @@ pub enum Constraint {
         items: Items,
         value: Item,
     },
+    /// `truth` is 1 where the sum of the terms and the constant stands so to 0, and else 0.
+    Reified {
+        truth: Item,
+        rel: Rel,
+        terms: LinTerms,
+        constant: i128,
+    },
+    /// No two items are the same integer. It says what `Different` says; its filter keeps fewer values.
+    Distinct(Items),
 }
 
 impl Constraint {
@@ -89,6 +98,18 @@ impl Constraint {
                 items: items.copy(alloc)?,
                 value: *value,
             }),
+            Constraint::Reified {
+                truth,
+                rel,
+                terms,
+                constant,
+            } => Ok(Constraint::Reified {
+                truth: *truth,
+                rel: *rel,
+                terms: terms.copy(alloc)?,
+                constant: *constant,
+            }),
+            Constraint::Distinct(items) => Ok(Constraint::Distinct(items.copy(alloc)?)),
         }
     }
 }

@@ -7,7 +7,7 @@ use std::alloc::{AllocError, Global};
 use std::marker::Model;
 
 /// The greatest value that a domain can have; the least is its negative. The number is own.
-pub const MAX_VALUE: i64 = 268435455;
+pub const MAX_VALUE: i64 = 72057594037927935;
 
 /// The integers from `lo` to `hi`, both among them.
 #[derive(Clone, Copy, Debug, PartialEq, Eq)]

@@ -4,3 +4,4 @@ pub mod RunBegins
 pub mod TurnsGo
 pub mod NextTurns
 pub mod RunsTold
+pub mod TicksHappen

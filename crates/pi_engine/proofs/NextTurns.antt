@@ -19,7 +19,7 @@ use Rattle.pi_stands.specs.Goes.{counted, IsAt, Goes, IsSpent, IsIn}
 use Rattle.pi_machine.specs.Next.{Tells, some_ticks, NextIs}
 use Rattle.pi_machine.specs.Shape.{IsGood}
 use Rattle.pi_stands.specs.Stands.{World, Loaded}
-use Rattle.pi_engine.specs.Turns.{StepIs, IsRunning, FitsMode, NextComes, IsAnswered, IsRepeated, IsRaised, Lasts}
+use Rattle.pi_engine.specs.Turns.{StepIs, IsRunning, NextComes, IsAnswered, IsBuiltSoFar, IsRepeated, IsRaised, Lasts}
 use Rattle.pi_stands.proofs.GoalsGo.{none-counted}
 use Rattle.pi_machine.proofs.LeadLemmas.{leads-none}
 use Rattle.pi_engine.proofs.TurnsGo.{more-goes, answer-goes}
@@ -38,22 +38,19 @@ running-of Now.Failing other = tt
 running-of (Now.Raising ball) other = tt
 running-of (Now.Ended e) other = other e refl
 
-spent-fits : (mode : Mode) (b : Budget) (now : Now) → IsSpent mode b now → FitsMode mode now
-spent-fits mode b (Now.Going p) spent = tt
-spent-fits mode b Now.Failing spent = tt
-spent-fits mode b (Now.Raising ball) spent = tt
-spent-fits mode b (Now.Ended RunEnd.Done) spent = tt
-spent-fits mode b (Now.Ended (RunEnd.Raised ball)) spent = tt
-spent-fits mode b (Now.Ended RunEnd.StepsSpent) spent = spent.0
-spent-fits mode b (Now.Ended RunEnd.WorkSpent) spent = spent.0
-spent-fits mode b (Now.Ended RunEnd.Memory) spent = tt
-
 pub lasts-ended : (e : RunEnd) (now : Now) (h : Happening) → now ≡ Now.Ended e → IsAnswered e h → Lasts h now
 lasts-ended RunEnd.Done now h ended told = subst (λ x. Lasts x now) (sym told) ended
 lasts-ended (RunEnd.Raised ball) now h ended told = subst (λ x. Lasts x now) (sym told) ended
 lasts-ended RunEnd.StepsSpent now h ended told = subst (λ x. Lasts x now) (sym told) ended
 lasts-ended RunEnd.WorkSpent now h ended told = subst (λ x. Lasts x now) (sym told) ended
 lasts-ended RunEnd.Memory now h ended told = subst (λ x. Lasts x now) (sym told) ended
+
+pub built-ended : (e : RunEnd) (h : Happening) → IsAnswered e h → IsBuiltSoFar h
+built-ended RunEnd.Done h told = subst IsBuiltSoFar (sym told) tt
+built-ended (RunEnd.Raised ball) h told = subst IsBuiltSoFar (sym told) tt
+built-ended RunEnd.StepsSpent h told = subst IsBuiltSoFar (sym told) tt
+built-ended RunEnd.WorkSpent h told = subst IsBuiltSoFar (sym told) tt
+built-ended RunEnd.Memory h told = subst IsBuiltSoFar (sym told) tt
 
 pub lasts-memory : (now : Now) (h : Happening) → now ≡ Now.Ended RunEnd.Memory → h ≡ Happening.Memory → Lasts h now
 lasts-memory now h ended told = subst (λ x. Lasts x now) (sym told) ended
@@ -79,10 +76,9 @@ repeated-wanting RunEnd.Memory old new b c h raised told kept = absurd raised
 pub record Turned {M : Type 0} (v : View) (names : List NameSlot) (mode : Mode) (a b : Budget) (after : World M) (old now : Now) (c : Config) : Type 0 where
   pub goes : Goes v names (some_ticks (counted mode a b)) after now c
   pub spent : IsRunning old → IsSpent mode b now
-  pub fits : FitsMode mode old → FitsMode mode now
 
 pub record SoFar {R M : Type 0} (code : Code) (names : List NameSlot) (mode : Mode) (a b : Budget) (first present : R) (before after : Loaded → World M) (old now : Now) (turn : ℕ) : Type 0 where
-  pub counts : Counts a b
+  pub counts : Counts mode a b
   pub turns : (l : Loaded) → l.code ≡ code → AreNames l.query_slots names → (v : View) (c : Config) → IsIn v names (before l) old c → Turned v names mode a b (after l) old now c
   pub still : (e : RunEnd) → old ≡ Now.Ended e → (present ≡ first) × (b ≡ a) × (turn ≡ 0)
 
@@ -91,14 +87,13 @@ no-turns v names mode b w now c is =
     record {
       goes = subst (λ k. Goes v names (some_ticks k) w now c) (sym (none-counted mode b b refl)) (record { comes = c; leads = leads-none v w.loaded.preds names c; good = is.good; is = is.is });
       spent = λ running. running-unspent mode b now running;
-      fits = λ fit. fit;
     }
 
-pub one-turn : {M : Type 0} (v : View) (names : List NameSlot) (mode : Mode) (a b d : Budget) (first w after : World M) (old now next : Now) (c : Config) → w.loaded ≡ first.loaded → w.loaded ≡ after.loaded → Counts a b → Counts b d → IsIn v names first old c →
+pub one-turn : {M : Type 0} (v : View) (names : List NameSlot) (mode : Mode) (a b d : Budget) (first w after : World M) (old now next : Now) (c : Config) → w.loaded ≡ first.loaded → w.loaded ≡ after.loaded → Counts mode a b → Counts mode b d → IsIn v names first old c →
     (it : Turned v names mode a b w old now c) → (IsIn v names w now it.goes.comes → StepIs v names mode b d after next it.goes.comes CodeOutcome.More) → Turned v names mode a d after old next c
 one-turn v names mode a b d first w after old now next c from same one two is it steps =
     let step = steps (record { is = it.goes.is; good = it.goes.good; rules = subst (λ l. AreOfRules l.preds) (sym from) is.rules }) in
-    record { goes = more-goes v names mode a b d w after now next c same one two it.goes step; spent = λ running. step.spent; fits = λ fit. spent-fits mode d next step.spent }
+    record { goes = more-goes v names mode a b d w after now next c same one two it.goes step; spent = λ running. step.spent }
 
 -- ---- what the call comes to
 
@@ -120,7 +115,6 @@ end-comes v names mode a b after old now e h c ended told it =
       good = goes.good;
       at = subst (λ n. IsAt v names after n goes.comes) (sym ended) goes.is;
       spent = it.spent;
-      fits = it.fits;
     }
 
 -- want of memory
@@ -132,16 +126,15 @@ memory-comes v names mode a b after old now h c ended told good =
       good = good;
       at = subst (λ n. IsAt v names after n c) (sym ended) tt;
       spent = λ running. subst (IsSpent mode b) (sym ended) tt;
-      fits = λ fit. subst (FitsMode mode) (sym ended) tt;
     }
 
 -- an answer
-pub answer-comes : {M : Type 0} (v : View) (names : List NameSlot) (mode : Mode) (a b d : Budget) (first w after : World M) (old now next : Now) (c : Config) (told : Box Answer Global) (x : Answer) → x ≡ told.value → w.loaded ≡ first.loaded → w.loaded ≡ after.loaded → Counts a b → Counts b d → IsIn v names first old c →
+pub answer-comes : {M : Type 0} (v : View) (names : List NameSlot) (mode : Mode) (a b d : Budget) (first w after : World M) (old now next : Now) (c : Config) (told : Box Answer Global) (x : Answer) → x ≡ told.value → w.loaded ≡ first.loaded → w.loaded ≡ after.loaded → Counts mode a b → Counts mode b d → IsIn v names first old c →
     (it : Turned v names mode a b w old now c) → (IsIn v names w now it.goes.comes → StepIs v names mode b d after next it.goes.comes (CodeOutcome.Answered told)) → NextComes v names mode a d after old next c (Happening.Answer x)
 answer-comes v names mode a b d first w after old now next c told x unboxed from same one two is it steps =
     let step = steps (record { is = it.goes.is; good = it.goes.good; rules = subst (λ l. AreOfRules l.preds) (sym from) is.rules }) in
     let goes = answer-goes v names mode a b d w after now next c told same one two it.goes step in
-    record { comes = goes.2.comes; is = (goes.0, subst (Tells names goes.0) (sym unboxed) goes.1, goes.2.leads); good = goes.2.good; at = goes.2.is; spent = λ running. step.spent; fits = λ fit. spent-fits mode d next step.spent }
+    record { comes = goes.2.comes; is = (goes.0, subst (Tells names goes.0) (sym unboxed) goes.1, goes.2.leads); good = goes.2.good; at = goes.2.is; spent = λ running. step.spent }
 
 -- ---- an end that is answered again, of what a run is part of
 

@@ -1,6 +1,7 @@
 -- What a call of `next` comes to, for those that use the machine.
-use Rattle.std.proofs.Common.{◌≡◌, ◌⊎◌, inl, inr, ℕ, zero, suc, ◌+◌, ◌<◌, List, [], ◌∷◌, ◌++◌, refl, ◌∙◌, ap, subst, arith}
+use Rattle.std.proofs.Common.{◌≡◌, inl, ℕ, zero, suc, ◌+◌, ◌<◌, List, [], ◌∷◌, ◌++◌, refl, ◌∙◌, ap, subst, arith}
 use Rattle.std.specs.Prelude.{Contains}
+use Rattle.pi_terms.specs.Tree.{Tree}
 use Rattle.pi_states.specs.Store.{StoreView}
 use Rattle.pi_meaning.specs.View.{View}
 use Rattle.pi_core.specs.CoreTree.{PredTree, QueryTree}
@@ -19,20 +20,22 @@ use Rattle.pi_stands.specs.Answers.{AreNames}
 use Rattle.pi_engine.specs.Begins.{Begins}
 use Rattle.pi_machine.specs.Built.{AreOfRules}
 use Rattle.pi_machine.specs.Configuration.{Config}
-use Rattle.pi_stands.specs.Goes.{counted, HasNone, IsSpent, IsIn}
+use Rattle.pi_machine.specs.Budget.{AreStepsUsed, IsWorkUsed}
+use Rattle.pi_stands.specs.Goes.{counted, HasNone, IsAt, IsSpent, IsIn}
 use Rattle.pi_machine.specs.Leads.{Leads, IsAtEnd, IsAtTick}
 use Rattle.pi_machine.specs.Next.{some_ticks}
-use Rattle.pi_engine.specs.Runs.{MachineView, loaded_as, run_of, RunsTo, EndsWith, Happens}
+use Rattle.pi_engine.specs.Runs.{MachineView, HasEnded, GoesOn, Fits, loaded_as, run_of, IsException, HasComeTo, RunsTo, EndsWith}
+use Rattle.pi_engine.specs.Happens.{HappensByTicks}
 use Rattle.pi_machine.specs.Step.{start}
-use Rattle.pi_engine.specs.Turns.{FitsMode, NextComes, Lasts}
+use Rattle.pi_engine.specs.Turns.{IsRunning, NextComes, Lasts}
 use Rattle.pi_stands.specs.Stands.{World, Stands}
-use Rattle.pi_stands.proofs.GoalsGo.{no-end, is-at}
+use Rattle.pi_stands.proofs.GoalsGo.{no-end}
 use Rattle.pi_machine.proofs.LeadLemmas.{leads-none, leads-on, start-good}
 use Rattle.pi_machine.proofs.RunLaws.{ended-run, spent-run, run-prefix}
 
 -- ---- Ticks behind events
 
-count-some : (k : ℕ) → count_ticks (some_ticks k) ≡ k
+pub count-some : (k : ℕ) → count_ticks (some_ticks k) ≡ k
 unfolding count_ticks
 count-some zero = refl
 count-some (suc k) = ap suc (count-some k)
@@ -51,15 +54,35 @@ count-added (answered x ∷ events) k = count-added events k
 abbrev pub later : {M : Type 0} → MachineView M → StoreView M → ArenasView M → Now → MachineView M
 later m store arenas now = record { code = m.code; names = m.names; mode = m.mode; store = store; order = m.order; arenas = arenas; now = now }
 
--- where a run is, for what a call of `next` needs
-pub runs-in : {M : Type 0} (v : View) (m : MachineView M) (program : List PredTree) (q : QueryTree) (events : List (Emitted Solution)) → (r : RunsTo v m program q events) → IsIn v q.names (run_of m (loaded_as m r.terms program q)) m.now r.config
-runs-in v m program q events r = record { is = r.is; good = r.good; rules = r.rules }
+-- a run that has not ended stands for a configuration
+at-running : {M : Type 0} (v : View) (names : List NameSlot) (mode : Mode) (w : World M) (now : Now) (c : Config) → IsRunning now → HasComeTo v names mode w now c → IsAt v names w now c
+at-running v names mode w (Now.Going p) c running is = is
+at-running v names mode w Now.Failing c running is = is
+at-running v names mode w (Now.Raising ball) c running is = is
+at-running v names mode w (Now.Ended e) c running is = absurd running
 
-runs-on : {M : Type 0} (v : View) (m : MachineView M) (program : List PredTree) (q : QueryTree) (events more : List (Emitted Solution)) (store : StoreView M) (arenas : ArenasView M) (now : Now) (old new : Budget) (h : Happening) → (r : RunsTo v m program q events) →
+-- what the code's steps come to is where the run is then
+comes-to : {M : Type 0} (v : View) (names : List NameSlot) (mode : Mode) (b : Budget) (w : World M) (now : Now) (c : Config) → IsSpent mode b now → IsAt v names w now c → HasComeTo v names mode w now c
+comes-to v names mode b w (Now.Going p) c spent is = is
+comes-to v names mode b w Now.Failing c spent is = is
+comes-to v names mode b w (Now.Raising ball) c spent is = is
+comes-to v names mode b w (Now.Ended RunEnd.Done) c spent is = is
+comes-to v names mode b w (Now.Ended (RunEnd.Raised ball)) c spent is = (Raise ball, inl refl, is)
+comes-to v names mode b w (Now.Ended RunEnd.StepsSpent) c spent is = (spent.0, is)
+comes-to v names mode b w (Now.Ended RunEnd.WorkSpent) c spent is = (Tick, spent.0, is)
+comes-to v names mode b w (Now.Ended RunEnd.Memory) c spent is = tt
+
+-- where a run is, for what a call of `next` needs
+pub runs-in : {M : Type 0} (v : View) (m : MachineView M) (program : List PredTree) (q : QueryTree) (events : List (Emitted Solution)) → GoesOn m → (r : RunsTo v m program q events) → IsIn v q.names (run_of m (loaded_as m r.terms program q)) m.now r.config
+runs-in v m program q events running r =
+    record { is = at-running v q.names m.mode (run_of m (loaded_as m r.terms program q)) m.now r.config running r.is; good = r.good; rules = r.rules }
+
+runs-on : {M : Type 0} (v : View) (m : MachineView M) (program : List PredTree) (q : QueryTree) (events more : List (Emitted Solution)) (store : StoreView M) (arenas : ArenasView M) (now : Now) (old new : Budget) (h : Happening) → GoesOn m → (r : RunsTo v m program q events) →
     (it : NextComes v q.names m.mode old new (run_of (later m store arenas now) (loaded_as m r.terms program q)) m.now now r.config h) → Leads v (program ++ q.helpers) q.names more r.config it.comes →
     RunsTo v (later m store arenas now) program q (events ++ more)
-runs-on v m program q events more store arenas now old new h r it leads =
+runs-on v m program q events more store arenas now old new h running r it leads =
     record {
+      view = r.view;
       terms = r.terms;
       config = it.comes;
       names = r.names;
@@ -67,8 +90,7 @@ runs-on v m program q events more store arenas now old new h r it leads =
       rules = r.rules;
       leads = leads-on v (program ++ q.helpers) q.names events more (start q) r.config it.comes r.leads leads;
       good = it.good;
-      is = it.at;
-      mode = it.fits r.mode;
+      is = comes-to v q.names m.mode new (run_of (later m store arenas now) (loaded_as m r.terms program q)) now it.comes (it.spent running) it.at;
     }
 
 -- the whole run so far has ended
@@ -84,44 +106,61 @@ cut-off v program q events k c d leads then at =
     subst (λ n. IsRunUnder v program q n (record { events = events ++ some_ticks k; stop = Spent })) (count-added events k)
     (spent-run v program q (events ++ some_ticks k) d (leads-on v (program ++ q.helpers) q.names events (some_ticks k) (start q) c d leads then) at)
 
-none-left : (mode : Mode) (b : Budget) (now : Now) → IsSpent mode b now → (now ≡ Now.Ended RunEnd.StepsSpent) ⊎ (now ≡ Now.Ended RunEnd.WorkSpent) → HasNone mode b
-none-left mode b now is (inl ended) = (subst (IsSpent mode b) ended is).1
-none-left mode b now is (inr ended) = (subst (IsSpent mode b) ended is).1
+steps-used : (mode : Mode) (b : Budget) → mode ≡ Mode.Top → HasNone mode b → AreStepsUsed b
+steps-used Mode.Top b top none = none
+steps-used Mode.Inner b top none = absurd (cc)
 
-pub told-by : {M : Type 0} (v : View) (m : MachineView M) (program : List PredTree) (q : QueryTree) (events : List (Emitted Solution)) (store : StoreView M) (arenas : ArenasView M) (now : Now) (old new : Budget) (h : Happening) → (r : RunsTo v m program q events) →
-    NextComes v q.names m.mode old new (run_of (later m store arenas now) (loaded_as m r.terms program q)) m.now now r.config h → Lasts h now → Happens v program q events m (later m store arenas now) old new h
-told-by v m program q events store arenas now old new (Happening.Answer a) r it lasts =
+work-used : (mode : Mode) (b : Budget) → mode ≡ Mode.Inner → HasNone mode b → IsWorkUsed b
+work-used Mode.Top b inner none = absurd (cc)
+work-used Mode.Inner b inner none = none
+
+pub told-by : {M : Type 0} (v : View) (m : MachineView M) (program : List PredTree) (q : QueryTree) (events : List (Emitted Solution)) (store : StoreView M) (arenas : ArenasView M) (now : Now) (old new : Budget) (h : Happening) → GoesOn m → (r : RunsTo v m program q events) →
+    NextComes v q.names m.mode old new (run_of (later m store arenas now) (loaded_as m r.terms program q)) m.now now r.config h → Lasts h now → HappensByTicks v program q events m (later m store arenas now) old new h
+told-by v m program q events store arenas now old new (Happening.Answer a) running r it lasts =
     let x = it.is.0 in
-    (x, it.is.1, runs-on v m program q events (some_ticks (counted m.mode old new) ++ answered x ∷ []) store arenas now old new (Happening.Answer a) r it it.is.2)
-told-by v m program q events store arenas now old new (Happening.Out text) r it lasts = absurd lasts
-told-by v m program q events store arenas now old new (Happening.NeedPlan call) r it lasts = absurd lasts
-told-by v m program q events store arenas now old new Happening.Done r it lasts =
+    (x, it.is.1, runs-on v m program q events (some_ticks (counted m.mode old new) ++ answered x ∷ []) store arenas now old new (Happening.Answer a) running r it it.is.2)
+told-by v m program q events store arenas now old new (Happening.Out text) running r it lasts = absurd it.is
+told-by v m program q events store arenas now old new (Happening.NeedPlan call) running r it lasts = absurd it.is
+told-by v m program q events store arenas now old new Happening.Done running r it lasts =
     let k : ℕ = counted m.mode old new in
-    (ends-with v program q events (some_ticks k) r.config it.comes Done r.leads it.is.0 it.is.1, runs-on v m program q events (some_ticks k) store arenas now old new Happening.Done r it it.is.0)
-told-by v m program q events store arenas now old new (Happening.Raised ball) r it lasts =
+    (ends-with v program q events (some_ticks k) r.config it.comes Done r.leads it.is.0 it.is.1, runs-on v m program q events (some_ticks k) store arenas now old new Happening.Done running r it it.is.0)
+told-by v m program q events store arenas now old new (Happening.Raised ball) running r it lasts =
     let k : ℕ = counted m.mode old new in
-    (ends-with v program q events (some_ticks k) r.config it.comes (Raise ball) r.leads it.is.0 it.is.1, runs-on v m program q events (some_ticks k) store arenas now old new (Happening.Raised ball) r it it.is.0)
-told-by v m program q events store arenas now old new Happening.StepsSpent r it lasts =
-    let k : ℕ = counted m.mode old new in (
+    (ends-with v program q events (some_ticks k) r.config it.comes (Raise ball) r.leads it.is.0 it.is.1, runs-on v m program q events (some_ticks k) store arenas now old new (Happening.Raised ball) running r it it.is.0)
+told-by v m program q events store arenas now old new Happening.StepsSpent running r it lasts =
+    let k : ℕ = counted m.mode old new in
+    let spent : (m.mode ≡ Mode.Top) × HasNone m.mode new = subst (IsSpent m.mode new) lasts (it.spent running) in (
       cut-off v program q events k r.config it.comes r.leads it.is.0 it.is.1,
-      runs-on v m program q events (some_ticks k) store arenas now old new Happening.StepsSpent r it it.is.0,
-      subst (FitsMode m.mode) lasts (it.fits r.mode),
-      λ running. none-left m.mode new now (it.spent running) (inl lasts),
+      runs-on v m program q events (some_ticks k) store arenas now old new Happening.StepsSpent running r it it.is.0,
+      spent.0,
+      steps-used m.mode new spent.0 spent.1,
     )
-told-by v m program q events store arenas now old new Happening.WorkSpent r it lasts =
-    let k : ℕ = counted m.mode old new in (
+told-by v m program q events store arenas now old new Happening.WorkSpent running r it lasts =
+    let k : ℕ = counted m.mode old new in
+    let spent : (m.mode ≡ Mode.Inner) × HasNone m.mode new = subst (IsSpent m.mode new) lasts (it.spent running) in (
       cut-off v program q events k r.config it.comes r.leads it.is.0 it.is.1,
-      runs-on v m program q events (some_ticks k) store arenas now old new Happening.WorkSpent r it it.is.0,
-      subst (FitsMode m.mode) lasts (it.fits r.mode),
-      λ running. none-left m.mode new now (it.spent running) (inr lasts),
+      runs-on v m program q events (some_ticks k) store arenas now old new Happening.WorkSpent running r it it.is.0,
+      spent.0,
+      work-used m.mode new spent.0 spent.1,
     )
-told-by v m program q events store arenas now old new Happening.Memory r it lasts = tt
+told-by v m program q events store arenas now old new Happening.Memory running r it lasts = tt
 
 -- ---- laws
 
 pub runs-begin : {M : Type 0} (v : View) (m : MachineView M) (program : List PredTree) (q : QueryTree) (events : List (Emitted Solution)) (n : ℕ) (run : Cut Solution) →
     RunsTo v m program q events → IsRunUnder v program q (count_ticks events + n) run → (rest : Cut Solution) × (run ≡ with_events events rest)
 runs-begin v m program q events n run r is = run-prefix v program q events r.config n run r.leads is
+
+pub done-ends : {M : Type 0} (v : View) (m : MachineView M) (program : List PredTree) (q : QueryTree) (events : List (Emitted Solution)) → RunsTo v m program q events → HasEnded m RunEnd.Done → EndsWith v program q events Done
+done-ends v m program q events r ended n less =
+    ended-run v program q events r.config Done n r.leads (subst (λ x. HasComeTo v q.names m.mode (run_of m (loaded_as m r.terms program q)) x r.config) ended r.is) less
+
+pub raised-ends : {M : Type 0} (v : View) (m : MachineView M) (program : List PredTree) (q : QueryTree) (events : List (Emitted Solution)) (ball : Tree) → RunsTo v m program q events → HasEnded m (RunEnd.Raised ball) →
+    (e : End) × IsException ball e × EndsWith v program q events e
+raised-ends v m program q events ball r ended =
+    let at : HasComeTo v q.names m.mode (run_of m (loaded_as m r.terms program q)) (Now.Ended (RunEnd.Raised ball)) r.config =
+    subst (λ x. HasComeTo v q.names m.mode (run_of m (loaded_as m r.terms program q)) x r.config) ended r.is in
+    (at.0, at.1, λ n less. ended-run v program q events r.config at.0 n r.leads at.2 less)
 
 -- ---- a new machine
 
@@ -136,15 +175,16 @@ unfolding AreNames
 names-below n [] below = tt
 names-below n (x ∷ names) below = (below x (contains-first x names), names-below n names (λ y has. below y (contains-more x names y has)))
 
-going-fits : {M : Type 0} (mode : Mode) (w : World M) (now : Now) (c : Config) → Stands w now c → FitsMode mode now
-going-fits mode w (Now.Going p) c stands = tt
-going-fits mode w Now.Failing c stands = tt
-going-fits mode w (Now.Raising ball) c stands = tt
-going-fits mode w (Now.Ended e) c stands = no-end w e c.now (FitsMode mode (Now.Ended e)) stands.runs
+stands-there : {M : Type 0} (v : View) (names : List NameSlot) (mode : Mode) (w : World M) (now : Now) (c : Config) → Stands w now c → HasComeTo v names mode w now c
+stands-there v names mode w (Now.Going p) c stands = stands
+stands-there v names mode w Now.Failing c stands = stands
+stands-there v names mode w (Now.Raising ball) c stands = stands
+stands-there v names mode w (Now.Ended e) c stands = no-end w e c.now (HasComeTo v names mode w (Now.Ended e) c) stands.runs
 
-pub new-runs : {M : Type 0} (v : View) (m : MachineView M) (program : List PredTree) (q : QueryTree) → m.names ≡ q.names → IsSoundQuery program q → AreOfRules (program ++ q.helpers) → Begins m.order m.code m.store m.arenas m.now program q → RunsTo v m program q []
-new-runs v m program q names sound rules begins =
+pub new-runs : {M : Type 0} (v : View) (m : MachineView M) (program : List PredTree) (q : QueryTree) → Fits m.mode v → m.names ≡ q.names → IsSoundQuery program q → AreOfRules (program ++ q.helpers) → Begins m.order m.code m.store m.arenas m.now program q → RunsTo v m program q []
+new-runs v m program q view names sound rules begins =
     record {
+      view = view;
       terms = m.store.now.terms;
       config = start q;
       names = names;
@@ -152,6 +192,5 @@ new-runs v m program q names sound rules begins =
       rules = rules;
       leads = leads-none v (program ++ q.helpers) q.names (start q);
       good = start-good q;
-      is = is-at v q.names (run_of m (loaded_as m m.store.now.terms program q)) m.now (start q) begins;
-      mode = going-fits m.mode (run_of m (loaded_as m m.store.now.terms program q)) m.now (start q) begins;
+      is = stands-there v q.names m.mode (run_of m (loaded_as m m.store.now.terms program q)) m.now (start q) begins;
     }

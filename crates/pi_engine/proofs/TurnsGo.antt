@@ -118,7 +118,7 @@ raises-is w after v names mode b old now ball c same raised is raises =
 
 -- ---- steps in a row
 
-pub counted-on : (mode : Mode) (a b c : Budget) → Counts a b → Counts b c → counted mode a b + counted mode b c ≡ counted mode a c
+pub counted-on : (mode : Mode) (a b c : Budget) → Counts mode a b → Counts mode b c → counted mode a b + counted mode b c ≡ counted mode a c
 counted-on Mode.Top a b c first second = omega (arith, first.ticks, second.ticks)
 counted-on Mode.Inner a b c first second = omega (arith, first.goals, second.goals)
 
@@ -139,13 +139,13 @@ pub is-in : {M : Type 0} (v : View) (names : List NameSlot) (events : List (Emit
 is-in v names events w now c rules it = record { is = it.is; good = it.good; rules = rules }
 
 -- one step more
-pub more-goes : {M : Type 0} (v : View) (names : List NameSlot) (mode : Mode) (a b d : Budget) (w after : World M) (old now : Now) (c : Config) → w.loaded ≡ after.loaded → Counts a b → Counts b d → (it : Goes v names (some_ticks (counted mode a b)) w old c) →
+pub more-goes : {M : Type 0} (v : View) (names : List NameSlot) (mode : Mode) (a b d : Budget) (w after : World M) (old now : Now) (c : Config) → w.loaded ≡ after.loaded → Counts mode a b → Counts mode b d → (it : Goes v names (some_ticks (counted mode a b)) w old c) →
     StepIs v names mode b d after now it.comes CodeOutcome.More → Goes v names (some_ticks (counted mode a d)) after now c
 more-goes v names mode a b d w after old now c same first second it is =
     subst (λ es. Goes v names es after now c) (ticks-joined (counted mode a b) (counted mode b d) ∙ ap some_ticks (counted-on mode a b d first second))
     (goes-on v names (some_ticks (counted mode a b)) (some_ticks (counted mode b d)) w after old now c same it is.is)
 
-pub answer-goes : {M : Type 0} (v : View) (names : List NameSlot) (mode : Mode) (a b d : Budget) (w after : World M) (old now : Now) (c : Config) (told : Box Answer Global) → w.loaded ≡ after.loaded → Counts a b → Counts b d → (it : Goes v names (some_ticks (counted mode a b)) w old c) →
+pub answer-goes : {M : Type 0} (v : View) (names : List NameSlot) (mode : Mode) (a b d : Budget) (w after : World M) (old now : Now) (c : Config) (told : Box Answer Global) → w.loaded ≡ after.loaded → Counts mode a b → Counts mode b d → (it : Goes v names (some_ticks (counted mode a b)) w old c) →
     StepIs v names mode b d after now it.comes (CodeOutcome.Answered told) → (x : Solution) × Tells names x told.value × Goes v names (some_ticks (counted mode a d) ++ answered x ∷ []) after now c
 answer-goes v names mode a b d w after old now c told same first second it is =
     let x : Solution = is.is.0 in

@@ -35,12 +35,6 @@ abbrev pub IsRunning : Now → Type 0
 IsRunning (Now.Ended e) = ⊥
 IsRunning now = ⊤
 
--- an end for want of a Tick is that of what the machine counts in
-abbrev pub FitsMode : Mode → Now → Type 0
-FitsMode mode (Now.Ended RunEnd.StepsSpent) = mode ≡ Mode.Top
-FitsMode mode (Now.Ended RunEnd.WorkSpent) = mode ≡ Mode.Inner
-FitsMode mode now = ⊤
-
 -- from a configuration on: what happens, and where the run is then
 pub record NextComes {M : Type 0} (v : View) (names : List NameSlot) (mode : Mode) (old new : Budget) (after : World M) (before now : Now) (c : Config) (happening : Happening) : Type 0 where
   pub comes : Config
@@ -48,7 +42,6 @@ pub record NextComes {M : Type 0} (v : View) (names : List NameSlot) (mode : Mod
   pub good : IsGood comes
   pub at : IsAt v names after now comes
   pub spent : IsRunning before → IsSpent mode new now
-  pub fits : FitsMode mode before → FitsMode mode now
 
 -- a run that has an answer goes on
 abbrev pub RunsAfter : Outcome → Now → Type 0
@@ -63,16 +56,22 @@ IsAnswered RunEnd.StepsSpent happening = happening ≡ Happening.StepsSpent
 IsAnswered RunEnd.WorkSpent happening = happening ≡ Happening.WorkSpent
 IsAnswered RunEnd.Memory happening = happening ≡ Happening.Memory
 
--- what happens is what a run's end is answered by from then on; behind an answer it has not ended
+-- what happens is what a run's end is answered by from then on; behind an answer, an output or a need it has not ended
 abbrev pub Lasts : Happening → Now → Type 0
 Lasts (Happening.Answer a) now = IsRunning now
-Lasts (Happening.Out text) now = ⊥
-Lasts (Happening.NeedPlan call) now = ⊥
+Lasts (Happening.Out text) now = IsRunning now
+Lasts (Happening.NeedPlan call) now = IsRunning now
 Lasts Happening.Done now = now ≡ Now.Ended RunEnd.Done
 Lasts (Happening.Raised ball) now = now ≡ Now.Ended (RunEnd.Raised ball)
 Lasts Happening.StepsSpent now = now ≡ Now.Ended RunEnd.StepsSpent
 Lasts Happening.WorkSpent now = now ≡ Now.Ended RunEnd.WorkSpent
 Lasts Happening.Memory now = now ≡ Now.Ended RunEnd.Memory
+
+-- what happens with what is built so far: there are no output and no planner
+abbrev pub IsBuiltSoFar : Happening → Type 0
+IsBuiltSoFar (Happening.Out text) = ⊥
+IsBuiltSoFar (Happening.NeedPlan call) = ⊥
+IsBuiltSoFar happening = ⊤
 
 -- An end is answered again, and nothing changes. A ball is copied, for which memory may be wanted.
 abbrev pub IsRepeated : {R : Type 0} → RunEnd → R → R → Budget → Budget → Happening → Type 0

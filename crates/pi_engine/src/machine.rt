@@ -8,13 +8,11 @@ ghost use Rattle.pi_meaning.specs.Sound.{IsSoundQuery};
 ghost use Rattle.pi_traces.specs.Trace.{Emitted};
 ghost use Rattle.pi_meaning.specs.View.{View};
 ghost use Rattle.pi_arenas.specs.declared.run.End.{End};
-ghost use Rattle.pi_arenas.specs.declared.run.Now.{Now};
 ghost use Rattle.pi_machine.specs.Budget.{Counts, IsWithin};
 ghost use Rattle.pi_machine.specs.Built.{AreOfRules};
-ghost use Rattle.pi_arenas.specs.Arenas.{view_of};
-ghost use Rattle.pi_engine.specs.Begins.{Begins};
-ghost use Rattle.pi_engine.specs.Runs.{machine_view, RunsTo, Happens};
-ghost use Rattle.pi_engine.specs.Turns.{IsRunning, IsRepeated, Lasts};
+ghost use Rattle.pi_engine.specs.Runs.{machine_view, store_of, HasEnded, GoesOn, Fits, RunsTo};
+ghost use Rattle.pi_engine.specs.Happens.{Happens, HappensByTicks};
+ghost use Rattle.pi_engine.specs.Turns.{IsBuiltSoFar, IsRepeated, Lasts};
 
 use crate::begin::begin;
 use crate::turns::next_happening;
@@ -53,10 +51,9 @@ impl<'p, S: StateStore> Machine<'p, S> {
         store: S,
         mode: Mode,
     ) -> Result<Machine<'p, S>, S>
-        ensures begins { IfOk result (λ machine. (S.seen store).now.state ≡ empty_state → IsSoundQuery (program_tree core.now) (query_tree query) → Begins S.order machine.code (S.seen machine.run.store) (view_of machine.run.arenas) machine.run.now (program_tree core.now) (query_tree query)) }
-        ensures runs { IfOk result (λ machine. (S.seen store).now.state ≡ empty_state → IsSoundQuery (program_tree core.now) (query_tree query) → AreOfRules (program_tree core.now ++ (query_tree query).helpers) → (v : View) → RunsTo v (machine_view S.seen S.order machine) (program_tree core.now) (query_tree query) []) }
-        ensures mode { IfOk result (λ machine. machine.mode ≡ mode) }
-        ensures running { IfOk result (λ machine. IsRunning machine.run.now) }
+        ensures runs { IfOk result (λ machine. (S.seen store).now.state ≡ empty_state → IsSoundQuery (program_tree core.now) (query_tree query) → AreOfRules (program_tree core.now ++ (query_tree query).helpers) → (v : View) → Fits mode v → RunsTo v (machine_view S.seen S.order machine) (program_tree core.now) (query_tree query) []) }
+        ensures mode { IfOk result (λ machine. (machine_view S.seen S.order machine).mode ≡ mode) }
+        ensures running { IfOk result (λ machine. GoesOn (machine_view S.seen S.order machine)) }
         ensures err { IfErr result (λ given. Stays (S.seen store) (S.seen given)) }
     {
         let mut run = Run::new(alloc, store);
@@ -87,12 +84,14 @@ impl<'p, S: StateStore> Machine<'p, S> {
 impl<S: StateStore> Machine<'_, S> {
     /// What comes next: an answer, or the end, which is answered for good.
     pub fn next(&mut self, budget: &mut Budget) -> Happening
-        ensures counts { Counts budget.old budget.new }
+        ensures counts { Counts (machine_view S.seen S.order self.old).mode budget.old budget.new }
         ensures within { IsWithin budget.old → IsWithin budget.new }
-        ensures mode { self.new.mode ≡ self.old.mode }
-        ensures steps { (v : View) (program : List PredTree) (q : QueryTree) (events : List (Emitted Solution)) → RunsTo v (machine_view S.seen S.order self.old) program q events → Happens v program q events (machine_view S.seen S.order self.old) (machine_view S.seen S.order self.new) budget.old budget.new result }
-        ensures repeats { (e : End) → self.old.run.now ≡ Now.Ended e → IsRepeated e self.old self.new budget.old budget.new result }
-        ensures lasts { Lasts result self.new.run.now }
+        ensures mode { (machine_view S.seen S.order self.new).mode ≡ (machine_view S.seen S.order self.old).mode }
+        ensures steps { GoesOn (machine_view S.seen S.order self.old) → (v : View) (program : List PredTree) (q : QueryTree) (events : List (Emitted Solution)) → RunsTo v (machine_view S.seen S.order self.old) program q events → Happens v program q events (machine_view S.seen S.order self.old) (machine_view S.seen S.order self.new) budget.old budget.new result }
+        ensures built { IsBuiltSoFar result }
+        ensures ticks { GoesOn (machine_view S.seen S.order self.old) → (v : View) (program : List PredTree) (q : QueryTree) (events : List (Emitted Solution)) → RunsTo v (machine_view S.seen S.order self.old) program q events → HappensByTicks v program q events (machine_view S.seen S.order self.old) (machine_view S.seen S.order self.new) budget.old budget.new result }
+        ensures repeats { (e : End) → HasEnded (machine_view S.seen S.order self.old) e → IsRepeated e self.old self.new budget.old budget.new result }
+        ensures lasts { Lasts result (machine_view S.seen S.order self.new).now }
     {
         next_happening(
             &self.code,
@@ -105,10 +104,10 @@ impl<S: StateStore> Machine<'_, S> {
 
     /// How much the run keeps beside its store.
     pub fn kept(&self) -> Kept
-        ensures entries { result.entries ≡ length (view_of self.now.run.arenas).entries }
-        ensures frames { result.frames ≡ length (view_of self.now.run.arenas).frames }
-        ensures slots { result.slots ≡ length (view_of self.now.run.arenas).blocks.slots }
-        ensures collected { result.collected ≡ length (view_of self.now.run.arenas).collected }
+        ensures entries { result.entries ≡ length (machine_view S.seen S.order self.now).arenas.entries }
+        ensures frames { result.frames ≡ length (machine_view S.seen S.order self.now).arenas.frames }
+        ensures slots { result.slots ≡ length (machine_view S.seen S.order self.now).arenas.blocks.slots }
+        ensures collected { result.collected ≡ length (machine_view S.seen S.order self.now).arenas.collected }
     {
         let arenas = &self.run.arenas;
         Kept {
@@ -121,7 +120,7 @@ impl<S: StateStore> Machine<'_, S> {
 
     /// Gives the store back.
     pub fn into_store(self) -> S
-        ensures { result ≡ self.entry.run.store }
+        ensures { result ≡ store_of self.entry }
     {
         let Machine { run, .. } = self;
         run.into_store()

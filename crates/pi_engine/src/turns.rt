@@ -12,7 +12,7 @@ ghost use Rattle.pi_stands.specs.Answers.{AreNames};
 ghost use Rattle.pi_stands.specs.Stands.{Loaded, world};
 ghost use Rattle.pi_stands.specs.Makes.{GoesFrom};
 ghost use Rattle.pi_stands.specs.Goes.{IsIn, IsSpent, PointIsDone};
-ghost use Rattle.pi_engine.specs.Turns.{StepIs, NextComes, IsRunning, RunsAfter, IsAnswered, IsRepeated, Lasts, IsRaised};
+ghost use Rattle.pi_engine.specs.Turns.{StepIs, NextComes, IsRunning, RunsAfter, IsAnswered, IsBuiltSoFar, IsRepeated, Lasts, IsRaised};
 
 use pi_answers::Answer;
 use pi_arenas::{End, Now, Point, Run};
@@ -37,9 +37,10 @@ pub fn next_happening<S: StateStore>(
     run: &mut Run<S>,
     budget: &mut Budget,
 ) -> Happening
-    ensures counts { Counts budget.old budget.new }
+    ensures counts { Counts mode budget.old budget.new }
     ensures comes { (l : Loaded) → l.code ≡ code.now → AreNames l.query_slots names.now → (v : View) (c : Config) → IsIn v names.now (world l (S.seen run.old.store) S.order (view_of run.old.arenas)) run.old.now c → NextComes v names.now mode budget.old budget.new (world l (S.seen run.new.store) S.order (view_of run.new.arenas)) run.old.now run.new.now c result }
     ensures repeats { (e : End) → run.old.now ≡ Now.Ended e → IsRepeated e run.old run.new budget.old budget.new result }
+    ensures built { IsBuiltSoFar result }
     ensures lasts { Lasts result run.new.now }
 {
     for turn in 0..u64::MAX {
@@ -78,7 +79,7 @@ fn step<S: StateStore>(
     run: &mut Run<S>,
     budget: &mut Budget,
 ) -> Result<Outcome, AllocError>
-    ensures counts { Counts budget.old budget.new }
+    ensures counts { Counts mode budget.old budget.new }
     ensures answered { IfOk result (λ outcome. RunsAfter outcome run.new.now) }
     ensures is { IfOk result (λ outcome. IsRunning run.old.now → (l : Loaded) → l.code ≡ code.now → AreNames l.query_slots names.now → (v : View) (c : Config) → IsIn v names.now (world l (S.seen run.old.store) S.order (view_of run.old.arenas)) run.old.now c → StepIs v names.now mode budget.old budget.new (world l (S.seen run.new.store) S.order (view_of run.new.arenas)) run.new.now c outcome) }
 {

@@ -4,9 +4,6 @@ pub mod Lift
 pub mod Sound
 pub mod SoundSteps
 pub mod Exact
-pub mod TreeLemmas
-pub mod TurnLemmas
-pub mod StepLemmas
 pub mod SizeLemmas
 pub mod ReaderLemmas
 pub mod CrowdLemmas

@@ -1,14 +1,14 @@
 -- The loop of the reader against the steps of the machine.
 use Rattle.std.proofs.Common.{◌≡◌, ℕ, ◌+◌, ◌*◌, ◌<◌, suc, List, [], ◌∷◌, ◌++◌, length, refl, ap, subst, sym, ◌∙◌, arith}
 use Rattle.pi_syntax.specs.ExpTree.{ExpTree}
-use Rattle.pi_expr.specs.Machine as m
-use Rattle.pi_expr.specs.Machine.{Runs, stop, go, step}
-use Rattle.pi_expr.specs.Shown.{terminals}
+use Rattle.pi_phrases.specs.Machine as m
+use Rattle.pi_phrases.specs.Machine.{Runs, stop, go, step}
+use Rattle.pi_phrases.specs.Shown.{terminals}
 use Rattle.pi_expr.specs.Sizes.{size}
-use Rattle.pi_expr.specs.Turns.{ShowsFrame}
+use Rattle.pi_phrases.specs.Turns.{ShowsFrame}
 use Rattle.pi_expr.specs.States.{ShowsStack, ShowsState}
-use Rattle.pi_expr.specs.declared.frame.Frame.{Frame}
-use Rattle.pi_expr.specs.declared.terminal.Terminal as code
+use Rattle.pi_phrases.specs.declared.frame.Frame.{Frame}
+use Rattle.pi_phrases.specs.declared.terminal.Terminal as code
 use Rattle.pi_expr.specs.declared.reader.State.{State}
 use Rattle.pi_expr.specs.declared.reader.State.TheVariants as state
 use Rattle.pi_expr.proofs.SizeLemmas.{next_down}

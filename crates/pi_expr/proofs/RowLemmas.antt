@@ -3,8 +3,8 @@ use Rattle.std.proofs.Common.{◌≡◌, List, [], ◌∷◌, ◌++◌, map, ap,
 use Rattle.std.proofs.lemmas.List.{map_push, append-nil}
 use Rattle.pi_syntax.specs.Tokens.{Token}
 use Rattle.pi_syntax.specs.Terminals as t
-use Rattle.pi_expr.specs.Shown.{terminal_shown, terminals}
-use Rattle.pi_expr.specs.declared.terminal.Terminal.{Terminal}
+use Rattle.pi_phrases.specs.Shown.{terminal_shown, terminals}
+use Rattle.pi_phrases.specs.declared.terminal.Terminal.{Terminal}
 
 pub terminals_on : (xs ys : List Terminal) (x : Terminal) (k : Token) (all rest : List Token) (whole : List t.Terminal) → ys ≡ xs ++ x ∷ []
     → terminal_shown x ≡ t.terminal k → all ≡ k ∷ rest → terminals xs ++ map t.terminal all ≡ whole → terminals ys ++ map t.terminal rest ≡ whole

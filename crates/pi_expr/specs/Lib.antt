@@ -1,7 +1,3 @@
-pub mod Machine
-pub mod Shown
-pub mod Trees
-pub mod Turns
 pub mod Faults
 pub mod Sizes
 pub mod States

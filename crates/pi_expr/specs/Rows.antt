@@ -2,8 +2,8 @@
 use Rattle.std.specs.Prelude.{ℕ, List, map, Option, Some, None}
 use Rattle.std.specs.Borrow.{Bor}
 use Rattle.pi_syntax.specs.Terminals as t
-use Rattle.pi_expr.specs.Shown.{terminal_shown}
-use Rattle.pi_expr.specs.declared.terminal.Terminal.{Terminal}
+use Rattle.pi_phrases.specs.Shown.{terminal_shown}
+use Rattle.pi_phrases.specs.declared.terminal.Terminal.{Terminal}
 
 abbrev pub rows_shown : List (Bor (List ℕ) × Terminal) → List t.Row
 rows_shown rows = map (λ (row : Bor (List ℕ) × Terminal). (row.0.now, terminal_shown row.1)) rows

@@ -3,13 +3,11 @@ ghost use Rattle.std.specs.Prelude.{◌≡◌, ◌≤◌, length, map, unwrap_or
 ghost use Rattle.pi_lex.specs.Kinds.{kinds, token_shown, IsNatural};
 ghost use Rattle.pi_syntax.specs.Terminals as t;
 ghost use Rattle.pi_expr.specs.Faults.{stretch};
-ghost use Rattle.pi_expr.specs.Shown.{terminal_shown, terminals};
+ghost use Rattle.pi_phrases.specs.Shown.{terminal_shown, terminals};
 ghost use Rattle.pi_expr.specs.Rows.{rows_shown, found_shown};
 
-use crate::natural::Natural;
-use crate::phrase::Line;
-use crate::terminal::{Mark, Terminal};
 use pi_lex::{TokenKind, Tokens};
+use pi_phrases::{Line, Mark, Natural, Terminal};
 use std::alloc::{AllocError, Global};
 
 /// A spelling and its terminal.

@@ -1,14 +1,17 @@
 -- Runs of the machine: what remained before some steps is what they did, and then what remains after them. This is said
 -- from below: at each depth after, and at some depth before. No depth is counted.
-use Rattle.std.specs.Prelude.{◌≡◌, ◌≢◌, ◌≤◌, ◌<◌, ℕ, ◌+◌, List, ◌++◌}
+use Rattle.std.specs.Prelude.{◌≡◌, ◌≢◌, ◌≤◌, ◌<◌, ℕ, ◌+◌, List, [], ◌++◌}
 use Rattle.pi_core.specs.CoreTree.{PredTree, QueryTree}
-use Rattle.pi_traces.specs.Trace.{Trace, end, note, End, Deep, Tick, Emitted, emit, count_ticks}
+use Rattle.pi_traces.specs.Trace.{Trace, end, note, End, Call, Deep, Note, Tick, Emitted, emit, count_ticks, then}
 use Rattle.pi_traces.specs.Depth.{Below, DepthOnlyAdds, Cut, Ended, Spent, with_events, CutWithoutDeep}
-use Rattle.pi_meaning.specs.View.{View}
-use Rattle.pi_meaning.specs.Run.{Solution, query_trace, IsRunUnder}
+use Rattle.pi_states.specs.State.{State}
+use Rattle.pi_meaning.specs.View.{View, Wanted, reading}
+use Rattle.pi_meaning.specs.Level.{Point}
+use Rattle.pi_meaning.specs.Rules.{level_at}
+use Rattle.pi_meaning.specs.Run.{Solution, answered_with, query_trace, IsRunUnder}
 use Rattle.pi_core.specs.declared.core_program.NameSlot.{NameSlot}
 use Rattle.pi_machine.specs.Configuration.{Config}
-use Rattle.pi_machine.specs.Remaining.{remaining}
+use Rattle.pi_machine.specs.Remaining.{around, remaining}
 use Rattle.pi_machine.specs.Step.{start}
 use Rattle.pi_machine.specs.Shape.{IsGood}
 use Rattle.pi_machine.specs.Built.{AreOfRules, AreCounted}
@@ -24,16 +27,28 @@ pub record Leads (v : View) (preds : List PredTree) (names : List NameSlot) (eve
   pub depth : ℕ → ℕ
   pub below : (d : ℕ) → Below (emit events (remaining v preds names d after)) (remaining v preds names (depth d) before)
 
--- it is about to count a Tick
-pub record IsAtTick (v : View) (preds : List PredTree) (names : List NameSlot) (c : Config) : Type 0 where
+-- this note comes next
+pub record IsAtNote (v : View) (preds : List PredTree) (names : List NameSlot) (n : Note) (c : Config) : Type 0 where
   pub depth : ℕ
   pub rest : Trace Solution
-  pub begins : remaining v preds names depth c ≡ note Tick rest
+  pub begins : remaining v preds names depth c ≡ note n rest
+
+-- it is about to count a Tick
+abbrev pub IsAtTick : View → List PredTree → List NameSlot → Config → Type 0
+IsAtTick v preds names c = IsAtNote v preds names Tick c
 
 -- it has come to this end
 pub record IsAtEnd (v : View) (preds : List PredTree) (names : List NameSlot) (e : End) (c : Config) : Type 0 where
   pub ends : (d : ℕ) → remaining v preds names d c ≡ end e
   pub reached : e ≢ Deep
+
+-- it waits for a planner call: what remains begins with the call's reading, from a state, and what follows each answer of that
+pub record IsAtCall (v : View) (preds : List PredTree) (names : List NameSlot) (waiting : Call) (c : Config) : Type 0 where
+  pub wanted : Wanted
+  pub state : State
+  pub follows : ℕ → State → Trace Point
+  pub begins : (d : ℕ) → remaining v preds names d c ≡
+      then (around v (level_at v preds d) c.stack (then (reading v waiting wanted state) (follows d)) []) (answered_with names)
 
 -- ---- laws
 

@@ -8,3 +8,5 @@ pub mod QuietRules
 pub mod NestGoals
 pub mod NestRules
 pub mod CoreExamples
+pub mod ToldCuts
+pub mod SurfaceDepths

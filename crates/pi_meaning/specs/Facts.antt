@@ -1,23 +1,19 @@
 -- Facts: the clauses of a predicate behind its `index` (A User's Guide to Picat, 'Predicates and Functions'; that a call
 -- fails which no mode list fits is own).
-use Rattle.std.specs.Prelude.{ℕ, Bool, true, cond, ◌&&◌, ◌==◌, List, [], ◌∷◌, length, Option, Some, None, option_and_then, option_map, replicate}
+use Rattle.std.specs.Prelude.{ℕ, Bool, true, cond, ◌&&◌, List, [], ◌∷◌, Option, Some, None, option_and_then, option_map, replicate}
 use Rattle.std.specs.List.{list_any}
 use Rattle.pi_terms.specs.Tree.{Tree, int, atom, comp, Trees, no_trees, tree}
 use Rattle.pi_terms.specs.Places.{Places, held}
-use Rattle.pi_terms.specs.Variables.{variables}
 use Rattle.pi_terms.specs.PatternTree.{PatternTree, slot, exact_int, exact_atom, compound, named, PatternTrees, no_patterns, pattern}
-use Rattle.pi_states.specs.Value.{Bindings, value}
+use Rattle.pi_states.specs.Value.{Bindings}
 use Rattle.pi_states.specs.State.{State, bindings}
 use Rattle.pi_states.specs.Unify.{unified}
 use Rattle.pi_traces.specs.Trace.{Trace, done, alt}
+use Rattle.pi_effects.specs.Kinds.{holds_no_variable}
 use Rattle.pi_states.specs.Evaluation.{Evaluated, EvaluatedAll, slot_term}
 use Rattle.pi_meaning.specs.Settle.{settled_from}
 use Rattle.pi_core.specs.CoreTree.{ClauseTree}
 use Rattle.pi_syntax.specs.declared.program.Mode.{Mode}
-
--- an argument holds no unbound variable
-abbrev pub holds_no_variable : Bindings → Tree → Bool
-holds_no_variable b t = length (variables (value b t)) == 0
 
 abbrev pub fits_mode : Bindings → Mode → Tree → Bool
 fits_mode b Mode.Plus t = holds_no_variable b t

@@ -16,3 +16,4 @@ pub mod Small
 pub mod Environment
 pub mod Surface
 pub mod SurfaceRun
+pub mod SurfaceLaws

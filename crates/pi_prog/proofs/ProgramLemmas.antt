@@ -1,20 +1,19 @@
 -- Readings by what is judged of them.
-use Rattle.std.proofs.Common.{◌≡◌, inl, inr, List, [], ◌∷◌, ◌++◌, map, Err, refl, ap, ◌∙◌, sym, subst, append_assoc}
-use Rattle.pi_syntax.specs.ProgramTree.{ProgramTree, source_tree}
+use Rattle.std.proofs.Common.{◌≡◌, inl, inr, List, ◌∷◌, map, Err, refl, ap, ◌∙◌, sym, subst}
+use Rattle.pi_syntax.specs.ProgramTree.{source_tree}
 use Rattle.pi_syntax.specs.Tokens.{Token}
-use Rattle.pi_prog.specs.Seen.{seen}
-use Rattle.pi_prog.specs.Verdict.{JudgedPart, JudgedClause, libraries, one_clause, judged_clause, judged, part_of, parts_of, verdict, Verdict, a_program, HasVerdict}
-use Rattle.pi_prog.specs.Faults.{IsTold, IsProgramFault, AnswersProgram}
-use Rattle.pi_prog.specs.Reading.{Reading, too_deep, misdeclared_part, no_clause, imports_part, written, ReadAll}
-use Rattle.pi_prog.specs.Shown.{IsShown, AreShown}
-use Rattle.pi_prog.specs.Shown as shown
-use Rattle.pi_prog.specs.Stretch.{stretches}
-use Rattle.pi_prog.specs.declared.prog_fault.ProgFault.{ProgFault}
-use Rattle.pi_prog.specs.declared.prog_fault.ProgFault.TheVariants as fault
-use Rattle.pi_prog.specs.declared.reading.PartReading.{PartReading}
-use Rattle.pi_prog.specs.declared.reading.PartReading.TheVariants as part
+use Rattle.pi_clauses.specs.Seen.{seen}
+use Rattle.pi_clauses.specs.Verdict.{JudgedPart, JudgedClause, libraries, one_clause, judged_clause, judged, parts_of, verdict, Verdict, a_program, HasVerdict}
+use Rattle.pi_clauses.specs.Faults.{IsTold, IsProgramFault, AnswersProgram}
+use Rattle.pi_clauses.specs.Reading.{Reading, too_deep, misdeclared_part, no_clause, imports_part, written, ReadAll}
+use Rattle.pi_clauses.specs.Shown.{IsShown, AreShown}
+use Rattle.pi_clauses.specs.Shown as shown
+use Rattle.pi_clauses.specs.Stretch.{stretches}
+use Rattle.pi_clauses.specs.declared.prog_fault.ProgFault.{ProgFault}
+use Rattle.pi_clauses.specs.declared.prog_fault.ProgFault.TheVariants as fault
+use Rattle.pi_clauses.specs.declared.parts.PartReading.{PartReading}
+use Rattle.pi_clauses.specs.declared.parts.PartReading.TheVariants as part
 use Rattle.pi_syntax.specs.declared.program.Program.{Program}
-use Rattle.pi_prog.proofs.judging.JudgedLemmas.{append_none}
 use Rattle.pi_prog.proofs.OneReadingLemmas.{one_program}
 
 clause_same : (c d : JudgedClause) → c.modes ≡ d.modes → c.clause ≡ d.clause → c.bad_form ≡ d.bad_form → c.many_names ≡ d.many_names → c ≡ d
@@ -61,16 +60,3 @@ answers_fault tokens v f h t w h' = told_answers w f (subst (λ x. IsTold x f) (
 pub has_program : (tokens : List Token) (ps : List PartReading) (program : Program) → HasVerdict tokens (verdict (map seen ps)) → verdict (map seen ps) ≡ a_program (parts_of (map seen ps))
     → source_tree program ≡ parts_of (map seen ps) → HasVerdict tokens (a_program (source_tree program))
 has_program tokens ps program h sound made = subst (HasVerdict tokens) (sound ∙ ap a_program (sym made)) h
-
--- one part more
-
-pub parts_of-append : (ss : List JudgedPart) (s : JudgedPart) → parts_of (ss ++ s ∷ []) ≡ parts_of ss ++ part_of s
-parts_of-append [] s = append_none (part_of s)
-parts_of-append (x ∷ ss) s = ap (λ ps. part_of x ++ ps) (parts_of-append ss s) ∙ sym (append_assoc (part_of x) (parts_of ss) (part_of s))
-
-seen-append : (ps : List PartReading) (p : PartReading) → map seen (ps ++ p ∷ []) ≡ map seen ps ++ seen p ∷ []
-seen-append [] p = refl
-seen-append (x ∷ ps) p = ap (λ xs. seen x ∷ xs) (seen-append ps p)
-
-pub parts_next : (old new : ProgramTree) (ps : List PartReading) (p : PartReading) → old ≡ parts_of (map seen ps) → new ≡ old ++ part_of (seen p) → new ≡ parts_of (map seen (ps ++ p ∷ []))
-parts_next old new ps p was now = now ∙ ap (λ xs. xs ++ part_of (seen p)) was ∙ sym (ap parts_of (seen-append ps p) ∙ parts_of-append (map seen ps) (seen p))

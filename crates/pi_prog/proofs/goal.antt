@@ -1,2 +1,1 @@
 pub mod GoalLemmas
-pub mod GoalNameLemmas

@@ -14,20 +14,15 @@ use Rattle.pi_syntax.specs.Tokens.{Token, Var, Atom, End, is_one_of}
 use Rattle.pi_syntax.specs.declared.exp.Exp.{Exp}
 use Rattle.pi_syntax.specs.declared.program.Clause.{Clause}
 use Rattle.pi_syntax.specs.declared.program.Mode.{Mode}
-use Rattle.pi_prog.specs.Declaration.{Opening, undeclared, importing, indexing, misdeclared, libraries, imported, declared, ModeList, ModeLists, Modes, Declares, Opens}
-use Rattle.pi_prog.specs.Reading as spec
-use Rattle.pi_prog.specs.Reading.{IsDeepShape, HasNoShape, variable_names}
-use Rattle.pi_prog.specs.Shape.{Shape, bare, ruled, HasShape, Sides, sides, equation, clause_of, shape_events, is_open, events_in, conditions, first_unit, other_units}
-use Rattle.pi_prog.specs.Shown.{IsShown}
-use Rattle.pi_prog.specs.Stretch.{Stretch}
-use Rattle.pi_prog.specs.Verdict.{has_bad_form, has_too_many_names, different}
-use Rattle.pi_prog.specs.declared.reading.clause.apart.Apart.{Apart}
-use Rattle.pi_prog.specs.declared.reading.clause.apart.Apart.TheVariants as apart
-use Rattle.pi_prog.specs.declared.reading.clause.FormedClause.{FormedClause}
-use Rattle.pi_prog.specs.declared.reading.clause.Headed.{Headed}
-use Rattle.pi_prog.specs.declared.reading.clause.SplitUnits.{SplitUnits}
-use Rattle.pi_prog.specs.declared.reading.clause.Units.{Units}
-use Rattle.pi_prog.specs.declared.reading.clause.Headed.TheVariants as headed
+use Rattle.pi_clauses.specs.Declaration.{Opening, undeclared, importing, indexing, misdeclared, libraries, imported, declared, ModeList, ModeLists, Modes, Declares, Opens}
+use Rattle.pi_clauses.specs.Formed.{IsFormed}
+use Rattle.pi_clauses.specs.Reading as spec
+use Rattle.pi_clauses.specs.Reading.{IsDeepShape, HasNoShape, variable_names}
+use Rattle.pi_clauses.specs.Shape.{Shape, bare, ruled, HasShape, Sides, sides, equation, clause_of, shape_events, is_open, events_in, conditions, first_unit, other_units}
+use Rattle.pi_clauses.specs.Shown.{IsShown}
+use Rattle.pi_clauses.specs.Stretch.{Stretch}
+use Rattle.pi_clauses.specs.Verdict.{has_bad_form, has_too_many_names, different}
+use Rattle.pi_clauses.specs.declared.clause.FormedClause.{FormedClause}
 use Rattle.pi_prog.specs.declared.reading.declaration.DeclarationWord.{DeclarationWord}
 use Rattle.pi_prog.specs.declared.reading.declaration.DeclarationWord.TheVariants as word
 use Rattle.pi_prog.specs.declared.reading.declaration.PartOpening.{PartOpening}
@@ -37,7 +32,7 @@ use Rattle.pi_prog.specs.declared.reading.declaration.modes.FoundModes.{FoundMod
 use Rattle.pi_prog.specs.declared.reading.declaration.modes.FoundModes.TheVariants as found
 use Rattle.pi_prog.specs.declared.reading.MarkedClause.{MarkedClause}
 use Rattle.pi_prog.specs.declared.reading.Marks.{Marks}
-use Rattle.pi_prog.specs.declared.reading.PartReading.{PartReading}
+use Rattle.pi_clauses.specs.declared.parts.PartReading.{PartReading}
 use Rattle.pi_prog.specs.declared.reading.shape.Arrow.{Arrow}
 use Rattle.pi_prog.specs.declared.reading.shape.Arrow.TheVariants as arrow
 use Rattle.pi_prog.specs.declared.reading.shape.ReadShape.{ReadShape}
@@ -142,57 +137,6 @@ IsShapeFault ts fault.NoExpression = HasNoShape ts
 IsShapeFault ts fault.Memory = Unit {0}
 
 -- ---- clauses
-
--- whether a unit stands in braces
-abbrev pub is_braces : ExpTree → Bool
-is_braces (array es) = true
-is_braces e = false
-
--- neither a conjunction nor an array nor a call
-abbrev pub is_other : ExpTree → Bool
-is_other (and es) = false
-is_other (array es) = false
-is_other (call name es) = false
-is_other e = true
-
-abbrev pub ShowsApart : Apart → ExpTree → Type 0
-ShowsApart (apart.Conjunction es) e = e ≡ and (exps_of es.items)
-ShowsApart (apart.Array es) e = e ≡ array (exps_of es.items)
-ShowsApart (apart.Call name es) e = e ≡ call name (exps_of es.items)
-ShowsApart (apart.Other x) e = (exp_tree x ≡ e) × (is_other e ≡ true)
-
--- the trees of these with one more at the end
-abbrev pub exps_of_before : List Exp → ExpTree → ExpTrees
-exps_of_before [] e = exp e no_exps
-exps_of_before (x ∷ xs) e = exp (exp_tree x) (exps_of_before xs e)
-
--- head and value, or an expression that is no equation
-abbrev pub ShowsHeaded : Headed → ExpTree → Type 0
-ShowsHeaded (headed.Equation head value) e = equation e ≡ Some (record { head = exp_tree head; value = exp_tree value })
-ShowsHeaded (headed.Alone x) e = (exp_tree x ≡ e) × (equation e ≡ None)
-
--- the first unit and the others
-pub record IsUnits (u : Units) (es : ExpTrees) : Type 0 where
-  pub first : exp_tree u.first ≡ first_unit es
-  pub others : exps_of u.others.items ≡ other_units es
-
--- the conditions and the events
-pub record IsSplit (s : SplitUnits) (es : ExpTrees) : Type 0 where
-  pub conditions : exps_of s.conditions.items ≡ conditions es
-  pub events : events_in es ≡ (if s.has_events then Some (exps_of s.events.items) else None)
-  pub no_events : s.has_events ≡ false → s.events.items ≡ []
-
--- the events of a rule
-abbrev pub ShowsEvents : Clause → Option ExpTrees → Type 0
-ShowsEvents (Clause.Rule head cond events back body) (Some es) = exps_of events.items ≡ es
-ShowsEvents c es = Unit {0}
-
--- the clause of a shape
-pub record IsFormed (f : FormedClause) (s : Shape) : Type 0 where
-  pub clause : written_clause f.clause ≡ clause_of s
-  pub open_arrow : f.is_open ≡ is_open s
-  pub has_events : f.has_events ≡ is_some (shape_events s)
-  pub events : ShowsEvents f.clause (shape_events s)
 
 -- a clause of the tokens
 abbrev pub IsFormedOf : List Token → FormedClause → Type 0

@@ -6,20 +6,14 @@ ghost use Rattle.pi_syntax.specs.Crowding.{IsRead};
 ghost use Rattle.pi_syntax.specs.ExpTree.{exp_tree};
 ghost use Rattle.pi_syntax.specs.ProgramTree.{ProgramTree, source_tree, goal_source};
 ghost use Rattle.pi_syntax.specs.Tokens.{Token};
-ghost use Rattle.pi_prog.specs.Faults.{IsGoalFault, IsGoalTold, AnswersGoal};
-ghost use Rattle.pi_prog.specs.GoalVerdict.{GoalVerdict, a_goal, goal_verdict, HasGoalVerdict};
-ghost use Rattle.pi_prog.specs.Reading.{variable_names};
-ghost use Rattle.pi_prog.specs.Stretch.{without_end};
+ghost use Rattle.pi_clauses.specs.Faults.{IsGoalFault, IsGoalTold, AnswersGoal};
+ghost use Rattle.pi_clauses.specs.GoalVerdict.{GoalVerdict, a_goal, goal_verdict, HasGoalVerdict};
+ghost use Rattle.pi_clauses.specs.Reading.{variable_names};
+ghost use Rattle.pi_clauses.specs.Stretch.{without_end};
 
-mod names;
-
-use crate::goal::names::first_unknown_of_goal;
-use crate::judging::first_faults::UnknownCall;
-use crate::judging::unknown_name;
-use crate::prog_fault::ProgFault;
 use crate::reading::stretch::is_end;
 use crate::reading::variables::has_too_many_names;
-use crate::restrictions::bad_nodes::goal_has_bad_nodes;
+use pi_clauses::{ProgFault, UnknownCall, first_unknown_of_goal, goal_has_bad_nodes, unknown_name};
 use pi_expr::{ExpFault, read_exp};
 use pi_lex::Tokens;
 use pi_syntax::{Exp, Goal, Program};

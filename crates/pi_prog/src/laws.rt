@@ -2,8 +2,8 @@
 ghost use Rattle.std.specs.Prelude.{◌≡◌, List};
 ghost use Rattle.pi_syntax.specs.ProgramTree.{ProgramTree};
 ghost use Rattle.pi_syntax.specs.Tokens.{Token};
-ghost use Rattle.pi_prog.specs.GoalVerdict.{GoalVerdict, HasGoalVerdict};
-ghost use Rattle.pi_prog.specs.Verdict.{Verdict, HasVerdict};
+ghost use Rattle.pi_clauses.specs.GoalVerdict.{GoalVerdict, HasGoalVerdict};
+ghost use Rattle.pi_clauses.specs.Verdict.{Verdict, HasVerdict};
 
 /// Tokens have at most one verdict as a program, and with a program at most one as a goal.
 pub fn one_verdict()

@@ -2,18 +2,13 @@
 #![tactic(auto)]
 
 mod goal;
-mod judging;
 mod laws;
-mod names;
-mod nodes;
-mod prog_fault;
 mod program;
 mod reading;
-mod restrictions;
 
 pub use goal::read_goal;
 pub use laws::one_verdict;
-pub use prog_fault::ProgFault;
+pub use pi_clauses::ProgFault;
 pub use program::read_program;
 
 /// The most different names that the variables of a part may have; all `_` count as one.

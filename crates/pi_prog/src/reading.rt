@@ -4,57 +4,29 @@ ghost use Rattle.pi_lex.specs.Kinds.{kinds};
 ghost use Rattle.pi_expr.specs.Faults.{stretch};
 ghost use Rattle.pi_syntax.specs.Crowding.{IsCrowded};
 ghost use Rattle.pi_syntax.specs.Tokens.{Token};
-ghost use Rattle.pi_prog.specs.Reading as spec;
-ghost use Rattle.pi_prog.specs.Declaration.{Opening, Opens, importing};
+ghost use Rattle.pi_clauses.specs.Reading as spec;
+ghost use Rattle.pi_clauses.specs.Declaration.{Opening, Opens, importing};
 ghost use Rattle.pi_prog.specs.Parts.{SoFar};
-ghost use Rattle.pi_prog.specs.Pieces.{ShowsPart, IsFormedOf, IsMarkedOf, IsShapeFault, AreMarks, IsFormed, IsClauseOf};
-ghost use Rattle.pi_prog.specs.Shape.{Shape};
-ghost use Rattle.pi_prog.specs.Shown.{AreShown};
-ghost use Rattle.pi_prog.specs.Stretch as stretches;
+ghost use Rattle.pi_clauses.specs.Formed.{IsFormed};
+ghost use Rattle.pi_prog.specs.Pieces.{ShowsPart, IsFormedOf, IsMarkedOf, IsShapeFault, AreMarks, IsClauseOf};
+ghost use Rattle.pi_clauses.specs.Shape.{Shape};
+ghost use Rattle.pi_clauses.specs.Shown.{AreShown};
+ghost use Rattle.pi_clauses.specs.Stretch as stretches;
 
-pub(crate) mod clause;
 mod declaration;
 mod shape;
 pub(crate) mod stretch;
 pub(crate) mod variables;
 
-use crate::reading::clause::{FormedClause, bare_clause, ruled_clause};
 use crate::reading::declaration::{PartOpening, opening};
 use crate::reading::shape::{ReadShape, read_shape};
 use crate::reading::stretch::is_end;
 use crate::reading::variables::has_too_many_names;
-use crate::restrictions::has_bad_form;
+use pi_clauses::{FormedClause, PartReading, WrittenPart, bare_clause, has_bad_form, ruled_clause};
 use pi_expr::{ExpFault, is_crowded};
 use pi_lex::Tokens;
 use pi_syntax::{Clause, ModeLists, Names};
 use std::alloc::{AllocError, Global};
-
-/// A part of a program by itself. (A User's Guide to Picat, 'Predicates and Functions'; the limits are own.)
-///
-/// It is no `Result`, since a part that is refused stays among the others: they are judged together.
-#[derive(Drop)]
-pub(crate) enum PartReading {
-    /// Its tokens are crowded, or an expression of its clause has more than 1,000 levels.
-    TooDeep,
-    /// It begins with a declaration of no form.
-    BadDeclaration,
-    /// No end point stands behind it, or it is no clause.
-    NoClause,
-    /// An import of libraries.
-    Import(Names),
-    Written(WrittenPart),
-}
-
-/// A clause with the mode lists of the `index` before it.
-#[derive(Drop)]
-pub(crate) struct WrittenPart {
-    pub(crate) modes: Option<ModeLists>,
-    pub(crate) clause: Clause,
-    /// The clause has a form that is forbidden, whatever the other parts are.
-    pub(crate) has_bad_form: bool,
-    /// Its variables have more than 4,096 different names.
-    pub(crate) has_too_many_names: bool,
-}
 
 /// What is to be told of a clause by itself.
 #[derive(Clone, Copy)]

@@ -5,24 +5,20 @@ use Rattle.std.specs.List.{cons_option}
 use Rattle.std.proofs.lemmas.Bool.{cond-true, cond-false}
 use Rattle.pi_syntax.specs.ExpTree.{ExpTree}
 use Rattle.pi_core.specs.GoalTree.{truth}
-use Rattle.pi_core.specs.CoreTree.{ClauseTree, PredTree, pattern_trees, clause_tree, pred_tree, query_tree}
+use Rattle.pi_core.specs.CoreTree.{ClauseTree, PredTree, pattern_trees, clause_tree, pred_tree}
 use Rattle.pi_syntax.specs.ProgramTree.{RuleTree, part_tree}
 use Rattle.pi_syntax.specs.Signature.{Signature, signature}
 use Rattle.pi_core.specs.declared.core_program.CoreClause.{CoreClause}
 use Rattle.pi_core.specs.declared.core_program.CorePred.{CorePred}
-use Rattle.pi_core.specs.declared.core_program.CoreQuery.{CoreQuery}
 use Rattle.pi_syntax.specs.declared.program.Part.{Part}
 use Rattle.pi_meaning.specs.Surface.{head_arguments, rule_in, rules_of, is_signature}
-use Rattle.pi_rewrite.specs.Lowered.{slots_after, slots_of_head, lowered_patterns, lowered_body, lowered_clause, lowered_rule, head_signature, named_by, predicate, with_clause, grouped, name_slots, lowered_query}
+use Rattle.pi_rewrite.specs.Lowered.{slots_after, slots_of_head, lowered_patterns, lowered_body, lowered_clause, lowered_rule, head_signature, named_by, predicate, with_clause, grouped}
 use Rattle.pi_rewrite.specs.Built.{IsRule, Adds, lowered_behind}
 
 pub clause-is : (c : CoreClause) (head body : ExpTree) (back : Bool) → pattern_trees c.head.items ≡ lowered_patterns (head_arguments head) [] → c.guard ≡ truth → c.back ≡ back → c.watches ≡ [] →
     c.body ≡ lowered_body body (slots_of_head head) → c.value ≡ None → c.slots ≡ length (slots_after body (slots_of_head head)) → clause_tree c ≡ lowered_clause head back body
 unfolding lowered_clause
 clause-is c head body back h g b w d v s = cc
-
-pub query-is : (q : CoreQuery) (g : ExpTree) → q.goal ≡ lowered_body g [] → q.helpers ≡ [] → q.names ≡ name_slots 0 (slots_after g []) → q.slots ≡ length (slots_after g []) → query_tree q ≡ lowered_query g
-query-is q g is none names slots = cc
 
 -- a clause begins a predicate where there is none
 pub behind-first : (r : RuleTree) (rs : List RuleTree) (p : PredTree) → p ≡ predicate (head_signature r.head) (lowered_rule r) → lowered_behind [] (r ∷ rs) ≡ lowered_behind (p ∷ []) rs

@@ -1,6 +1,6 @@
--- Calls of a lowered program, at each depth.
+-- Calls of a core program that keeps the meaning of a program, at each depth; and that what the code makes is one.
 use Rattle.std.proofs.Common.{◌≡◌, ℕ, zero, suc, ◌+◌, false, List, length, map, refl, sym, ◌∙◌, ap, subst}
-use Rattle.std.specs.Prelude.{Option, Some, None, Contains}
+use Rattle.std.specs.Prelude.{Option, Some, None, Contains, IsSome, is_some}
 use Rattle.pi_terms.specs.Tree.{Trees, comp, tree_count}
 use Rattle.pi_states.specs.State.{State}
 use Rattle.pi_traces.specs.Trace.{note, Tick}
@@ -13,10 +13,11 @@ use Rattle.pi_syntax.specs.ProgramTree.{ProgramTree}
 use Rattle.pi_meaning.specs.Small.{heads, Defines, IsSmallProgram}
 use Rattle.pi_meaning.specs.Surface.{rules_of, rules_trace, called_at}
 use Rattle.pi_rewrite.specs.Lowered.{lowered_rule, lowered}
+use Rattle.pi_rewrite.specs.Laws.{DefinesTheSame, CallsTheSame}
 use Rattle.pi_rewrite.proofs.GoalLemmas.{SameCalls}
 use Rattle.pi_rewrite.proofs.RuleLemmas.{same-rules}
 use Rattle.pi_rewrite.proofs.FindLemmas.{sign, pred_of, chosen_rules, find-lowered}
-use Rattle.pi_rewrite.proofs.ProgramLemmas.{AreRules, program-rules, rules-together, small-chosen, defined-found}
+use Rattle.pi_rewrite.proofs.ProgramLemmas.{AreRules, program-rules, rules-together, small-chosen, defined-found, found-defined}
 
 run-found : (v : View) (inner below : Option Level) (o : Option PredTree) (p : PredTree) (ts : Trees) (s : State) → o ≡ Some p → p.quiet ≡ false → call_run v inner below o ts s ≡ ticked below (λ l. pred_run v l p p.index ts s)
 run-found v inner below o p ts s is quiet = ap (λ o. call_run v inner below o ts s) is ∙ ap (λ q. entered q inner below (λ l. pred_run v l p p.index ts s)) quiet
@@ -36,12 +37,33 @@ level-drains v preds None (suc k) s = refl
 level-drains v preds (Some l) zero s = refl
 level-drains v preds (Some l) (suc k) s = refl
 
+-- draining does nothing but drain, at each depth
+depth-drains : (v : View) (preds : List PredTree) (d : ℕ) (s : State) → (calls_at (level_at v preds d)).drained s ≡ drained s
+unfolding level_at
+depth-drains v preds zero s = level-drains v preds None (length preds) s
+depth-drains v preds (suc d) s = level-drains v preds (Some (level_at v preds d)) (suc (length preds + d)) s
+
+-- where calls are kept, each depth has the calls over names
+pub same-calls : (program : ProgramTree) (preds : List PredTree) → CallsTheSame program preds → (v : View) (d : ℕ) → SameCalls (heads program) (level_at v preds d) (called_at v program d)
+same-calls program preds kept v d = record { called = λ name ts s known. kept v d name ts s known; drains = depth-drains v preds d }
+
+-- ---- what the code makes
+
 pub found : (program : ProgramTree) → IsSmallProgram program → (name : List ℕ) (k : ℕ) → Defines (heads program) name k →
     find_pred false name k (lowered program) ≡ Some (pred_of (sign name k) (map lowered_rule (chosen_rules name k (rules_of program))))
 found program small name k known =
     let are : AreRules (heads program) (heads program) (rules_of program) = program-rules program small in
     find-lowered name k (rules_of program) (rules-together program small) are.named
     ∙ defined-found name k (rules_of program) (subst (λ hs. Contains hs (Some (sign name k))) (sym are.heads) known)
+
+found-only : (program : ProgramTree) → IsSmallProgram program → (name : List ℕ) (k : ℕ) → IsSome (find_pred false name k (lowered program)) → Defines (heads program) name k
+found-only program small name k there =
+    let are : AreRules (heads program) (heads program) (rules_of program) = program-rules program small in
+    subst (λ hs. Contains hs (Some (sign name k))) are.heads (found-defined name k (rules_of program)
+    (subst (λ (o : Option PredTree). IsSome o) (find-lowered name k (rules_of program) (rules-together program small) are.named) there))
+
+pub lowered-defines : (program : ProgramTree) → IsSmallProgram program → DefinesTheSame program (lowered program)
+lowered-defines program small name k = (found-only program small name k, (λ known. ap is_some (found program small name k known)))
 
 rules-run : (program : ProgramTree) → IsSmallProgram program → (v : View) (d : ℕ) (l : Level) → SameCalls (heads program) l (called_at v program d) → (name : List ℕ) (ts : Trees) (s : State) →
     pred_run v l (pred_of (sign name (tree_count ts)) (map lowered_rule (chosen_rules name (tree_count ts) (rules_of program)))) None ts s
@@ -51,16 +73,20 @@ rules-run program small v d l is name ts s =
     same-rules (heads program) v l (called_at v program d) is (chosen_rules name (tree_count ts) (rules_of program))
     (small-chosen (heads program) name (tree_count ts) (rules_of program) (program-rules program small).small) (comp name ts) 0 ts s
 
-pub same-calls : (program : ProgramTree) → IsSmallProgram program → (v : View) (d : ℕ) → SameCalls (heads program) (level_at v (lowered program) d) (called_at v program d)
+-- what calls do, by the depth
+calls-at : (program : ProgramTree) → IsSmallProgram program → (v : View) (d : ℕ) → SameCalls (heads program) (level_at v (lowered program) d) (called_at v program d)
 unfolding level_at called_at
-same-calls program small v zero = record {
+calls-at program small v zero = record {
   called = λ name ts s known. level-called v (lowered program) None (length (lowered program)) name ts s _ (found program small name (tree_count ts) known) refl;
-  drains = level-drains v (lowered program) None (length (lowered program));
+  drains = depth-drains v (lowered program) zero;
 }
-same-calls program small v (suc d) =
+calls-at program small v (suc d) =
     let l : Level = level_at v (lowered program) d in
     record {
       called = λ name ts s known. level-called v (lowered program) (Some l) (suc (length (lowered program) + d)) name ts s _ (found program small name (tree_count ts) known) refl
-          ∙ ap (note Tick) (rules-run program small v d l (same-calls program small v d) name ts s);
-      drains = level-drains v (lowered program) (Some l) (suc (length (lowered program) + d));
+          ∙ ap (note Tick) (rules-run program small v d l (calls-at program small v d) name ts s);
+      drains = depth-drains v (lowered program) (suc d);
     }
+
+pub lowered-calls : (program : ProgramTree) → IsSmallProgram program → CallsTheSame program (lowered program)
+lowered-calls program small v d name ts s known = (calls-at program small v d).called name ts s known

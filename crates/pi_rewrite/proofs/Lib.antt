@@ -13,6 +13,7 @@ pub mod FindLemmas
 pub mod ProgramLemmas
 pub mod LevelLemmas
 pub mod ToldLemmas
+pub mod LoweredQuery
 pub mod QueryLemmas
 pub mod SoundGoals
 pub mod SoundPrograms

@@ -1,32 +1,34 @@
--- What the laws say of what the code has made.
+-- What the code has made keeps the meaning.
 use Rattle.std.proofs.Common.{◌≡◌, List, sym, subst}
 use Rattle.std.specs.Prelude.{All}
 use Rattle.std.proofs.lemmas.List.{append-nil}
 use Rattle.pi_syntax.specs.ExpTree.{ExpTree}
 use Rattle.pi_core.specs.CoreTree.{PredTree, QueryTree}
-use Rattle.pi_meaning.specs.Sound.{IsSound}
 use Rattle.pi_syntax.specs.ProgramTree.{ProgramTree}
 use Rattle.pi_meaning.specs.Small.{IsSmallProgram, IsSmallQuery}
-use Rattle.pi_rewrite.specs.Lowered.{lowered, lowered_query}
-use Rattle.pi_rewrite.specs.Laws.{IsPlain, IsLowered}
-use Rattle.pi_rewrite.proofs.SoundLemmas.{lowering-is-sound, lowered-queries-are-sound}
-use Rattle.pi_rewrite.proofs.QueryLemmas.{lowering-keeps-the-trace}
+use Rattle.pi_rewrite.specs.Lowered.{lowered}
+use Rattle.pi_rewrite.specs.Laws.{IsPlain, IsLoweredProgram, IsLowered, ProgramsHaveCorePrograms, GoalsHaveQueries}
+use Rattle.pi_rewrite.proofs.LoweredQuery.{lowered_query}
+use Rattle.pi_rewrite.proofs.SoundLemmas.{lowered-program, query-is-sound}
+use Rattle.pi_rewrite.proofs.QueryLemmas.{goal-keeps-the-trace}
 use Rattle.pi_rewrite.proofs.CutLemmas.{same-meaning-runs-the-same}
 
-pub program-is-sound : (program : ProgramTree) (preds : List PredTree) → preds ≡ lowered program → IsSmallProgram program → IsSound preds
-program-is-sound program preds is small = subst IsSound (sym is) (lowering-is-sound program small).0
+pub program-is-lowered : (program : ProgramTree) (preds : List PredTree) → preds ≡ lowered program → IsSmallProgram program → IsLoweredProgram program preds
+program-is-lowered program preds is small = subst (IsLoweredProgram program) (sym is) (lowered-program program small)
 
-pub program-is-plain : (program : ProgramTree) (preds : List PredTree) → preds ≡ lowered program → IsSmallProgram program → All IsPlain preds
-program-is-plain program preds is small = subst (All IsPlain) (sym is) (lowering-is-sound program small).1
-
-query-is-lowered : (program : ProgramTree) (goal : ExpTree) → IsSmallProgram program → IsSmallQuery program goal → IsLowered program goal (lowered program) (lowered_query goal)
-query-is-lowered program goal small asked = record {
-  sound = lowered-queries-are-sound program goal small asked;
-  plain = subst (All IsPlain) (sym (append-nil (lowered program))) (lowering-is-sound program small).1;
-  means = lowering-keeps-the-trace program goal small asked;
-  runs = same-meaning-runs-the-same program goal (lowered program) (lowered_query goal) (lowering-keeps-the-trace program goal small asked);
+query-is-lowered : (program : ProgramTree) (goal : ExpTree) (preds : List PredTree) → IsLoweredProgram program preds → IsSmallProgram program → IsSmallQuery program goal → IsLowered program goal preds (lowered_query goal)
+query-is-lowered program goal preds kept small asked = record {
+  sound = query-is-sound program goal preds kept small asked;
+  plain = subst (All IsPlain) (sym (append-nil preds)) kept.plain;
+  means = goal-keeps-the-trace program goal preds kept.calls asked;
+  runs = same-meaning-runs-the-same program goal preds (lowered_query goal) (goal-keeps-the-trace program goal preds kept.calls asked);
 }
 
-pub goal-is-lowered : (program : ProgramTree) (goal : ExpTree) (preds : List PredTree) (q : QueryTree) → q ≡ lowered_query goal → preds ≡ lowered program → IsSmallProgram program → IsSmallQuery program goal → IsLowered program goal preds q
-goal-is-lowered program goal preds q query is small asked =
-    subst (λ (ps : List PredTree). IsLowered program goal ps q) (sym is) (subst (λ (r : QueryTree). IsLowered program goal (lowered program) r) (sym query) (query-is-lowered program goal small asked))
+pub goal-is-lowered : (program : ProgramTree) (goal : ExpTree) (preds : List PredTree) (q : QueryTree) → q ≡ lowered_query goal → IsLoweredProgram program preds → IsSmallProgram program → IsSmallQuery program goal → IsLowered program goal preds q
+goal-is-lowered program goal preds q is kept small asked = subst (λ (r : QueryTree). IsLowered program goal preds r) (sym is) (query-is-lowered program goal preds kept small asked)
+
+pub programs-have-core-programs : ProgramsHaveCorePrograms
+programs-have-core-programs program small = (lowered program, lowered-program program small)
+
+pub goals-have-queries : GoalsHaveQueries
+goals-have-queries program goal preds kept small asked = (lowered_query goal, query-is-lowered program goal preds kept small asked)

@@ -1,9 +1,9 @@
 -- What is known of a program of the small language: its rules are small, and each part is one.
 use Rattle.std.proofs.Common.{◌≡◌, ℕ, zero, suc, ◌<◌, Bool, true, false, List, [], ◌∷◌, length, get_or, map, refl, sym, ◌∙◌, ap, subst, arith}
-use Rattle.std.specs.Prelude.{Option, Some, None, Contains, cond}
+use Rattle.std.specs.Prelude.{Option, Some, None, Contains, IsSome, cond}
 use Rattle.std.specs.List.{cons_option, AllByRecursion}
 use Rattle.std.proofs.lemmas.Bool.{false≢true}
-use Rattle.std.proofs.lemmas.List.Elements.{recursion_from_All}
+use Rattle.std.proofs.lemmas.List.Elements.{recursion_from_All, Contains-append_right}
 use Rattle.pi_syntax.specs.ExpTree.{ExpTree}
 use Rattle.pi_syntax.specs.ProgramTree.{RuleTree, WrittenClause, rule, function, fact, ProgramTree}
 use Rattle.pi_syntax.specs.Signature.{Signature, signature, exp_count}
@@ -12,7 +12,7 @@ use Rattle.pi_meaning.specs.Surface.{rule_in, rules_of, is_signature, is_rule_of
 use Rattle.pi_rewrite.specs.Lowered.{lowered_rule}
 use Rattle.pi_rewrite.proofs.GoalLemmas.{Defined}
 use Rattle.pi_rewrite.proofs.RuleLemmas.{SmallRules, small-none, small-cons, small-first, small-rest}
-use Rattle.pi_rewrite.proofs.FindLemmas.{sign, signs, HaveNames, have-none, have-more, chosen_rules, pred_of, pred_with, chosen-it, chosen-not, sign-itself}
+use Rattle.pi_rewrite.proofs.FindLemmas.{sign, signs, HaveNames, have-none, have-more, chosen_rules, pred_of, pred_with, chosen-it, chosen-not, sign-of, sign-itself}
 
 head-named : (head : ExpTree) → IsSmallHead head → (s : Signature) × (signature head ≡ Some s)
 head-named (ExpTree.atom name) small = (sign name 0, refl)
@@ -76,3 +76,13 @@ defined-found name k (r ∷ rs) there = tested (is_signature name k (signature r
         let other : signature r.head ≡ Some (sign name k) → ⊥ = λ e. false≢true (sym h ∙ ap (is_signature name k) e ∙ sign-itself (sign name k)) in
         ap (pred_with name k) (chosen-not name k r rs h) ∙ rest (in-tail (signature r.head) (signs rs) (Some (sign name k)) other there.0 there.1 there.2)
         ∙ ap (λ xs. Some (pred_of (sign name k) (map lowered_rule xs))) (sym (chosen-not name k r rs h))
+
+-- and one that is there has a rule
+pub found-defined : (name : List ℕ) (k : ℕ) (rs : List RuleTree) → IsSome (pred_with name k (chosen_rules name k rs)) → Contains (signs rs) (Some (sign name k))
+found-defined name k [] there = absurd (false≢true there)
+found-defined name k (r ∷ rs) there = tested (is_signature name k (signature r.head)) refl (λ h. found-defined name k rs h)
+  where
+    tested : (b : Bool) → is_signature name k (signature r.head) ≡ b → (IsSome (pred_with name k (chosen_rules name k rs)) → Contains (signs rs) (Some (sign name k))) → Contains (signs (r ∷ rs)) (Some (sign name k))
+    tested true h rest = (0, omega arith, sign-of name k (signature r.head) h)
+    tested false h rest =
+        Contains-append_right (signature r.head ∷ []) (signs rs) (Some (sign name k)) (rest (subst (λ (xs : List RuleTree). IsSome (pred_with name k xs)) (chosen-not name k r rs h) there))

@@ -5,7 +5,7 @@ use Rattle.std.proofs.lemmas.List.{append-nil}
 use Rattle.pi_terms.specs.Tree.{Tree, cells, most_cells}
 use Rattle.pi_terms.specs.Places.{Places, held}
 use Rattle.pi_states.specs.Value.{value}
-use Rattle.pi_states.specs.State.{State, bindings, empty_state}
+use Rattle.pi_states.specs.State.{State, bindings}
 use Rattle.pi_syntax.specs.ExpTree.{ExpTree}
 use Rattle.pi_traces.specs.Trace.{Trace, end, one, then}
 use Rattle.pi_meaning.specs.Raise.{within_limit, too_large}
@@ -15,23 +15,24 @@ use Rattle.pi_meaning.specs.Level.{Level, Point}
 use Rattle.pi_core.specs.CoreTree.{PredTree}
 use Rattle.pi_meaning.specs.Meaning.{draining, strictly, meaning}
 use Rattle.pi_meaning.specs.Rules.{level_at}
-use Rattle.pi_meaning.specs.Run.{Solution, told, answered_with, query_trace}
+use Rattle.pi_meaning.specs.Run.{Solution, told, answered_with}
 use Rattle.pi_syntax.specs.ProgramTree.{ProgramTree}
 use Rattle.pi_meaning.specs.Small.{heads, IsSmallQuery}
 use Rattle.pi_core.specs.declared.core_program.NameSlot.{NameSlot}
 use Rattle.pi_answers.specs.declared.answer.NamedTerm.{NamedTerm}
 use Rattle.pi_traces.proofs.RelatedLemmas.{Same, same}
 use Rattle.pi_meaning.specs.Environment.{Environment, Valued, known, name_valued, valued}
-use Rattle.pi_meaning.specs.Surface.{Place, Calling, draining_first, body_trace, called_at, told_values, if_tellable, telling, beginning, surface_trace}
-use Rattle.pi_rewrite.specs.Lowered.{SlotNames, slot_known, slots_after, lowered_body, lowered, lowered_query, name_slots}
+use Rattle.pi_meaning.specs.Surface.{Place, Calling, draining_first, body_trace, called_at, told_values, if_tellable, telling}
+use Rattle.pi_rewrite.specs.Lowered.{SlotNames, slot_known, slots_after, lowered_body, name_slots}
 use Rattle.pi_meaning.specs.Told.{named_values}
 use Rattle.pi_meaning.specs.SurfaceRun.{Told, solution_told, place_told, told_trace}
-use Rattle.pi_rewrite.specs.Laws.{LoweringKeepsTheTrace}
+use Rattle.pi_rewrite.specs.Laws.{CallsTheSame, query_from, goal_from, MeansTheSame}
 use Rattle.pi_rewrite.proofs.FilledLemmas.{names_of, slots_at, Seen, new, there, seen-known}
 use Rattle.pi_rewrite.proofs.SameLemmas.{SameBy, same_end, same-one, same-then, same-equal}
 use Rattle.pi_rewrite.proofs.GoalLemmas.{SameCalls, at_slots, at_names, AtPlace, at_place, same-drained}
 use Rattle.pi_rewrite.proofs.RuleLemmas.{same-body, all-empty}
 use Rattle.pi_rewrite.proofs.LevelLemmas.{same-calls}
+use Rattle.pi_rewrite.proofs.LoweredQuery.{lowered_query}
 use Rattle.pi_rewrite.proofs.ToldLemmas.{shown_names, told-names, Placed, goal-placed, placed-first, placed-rest}
 
 -- what a name that has a slot stands for
@@ -104,12 +105,12 @@ unfolding TellSame
 told-one xs x p e = subst (λ (t : Told). SameBy Same (one (solution_told xs x)) (one t)) e (same-one Same _ _ (same (solution_told xs x)))
 
 -- the goal, and then what waits
-strictly-same : (program : ProgramTree) (goal : ExpTree) → IsSmallQuery program goal → (v : View) (l : Level) (calls : Calling) → SameCalls (heads program) l calls → (n : ℕ) → n ≡ length (slots_after goal []) →
-    SameBy (AtPlace l n (slots_after goal [])) (strictly (meaning v (lowered_body goal [])) (at_slots l n [] empty_state)) (then (body_trace v calls goal beginning) (draining_first (λ p. one p)))
+strictly-same : (program : ProgramTree) (goal : ExpTree) → IsSmallQuery program goal → (v : View) (l : Level) (calls : Calling) → SameCalls (heads program) l calls → (n : ℕ) → n ≡ length (slots_after goal []) → (s : State) →
+    SameBy (AtPlace l n (slots_after goal [])) (strictly (meaning v (lowered_body goal [])) (at_slots l n [] s)) (then (body_trace v calls goal (at_names [] s)) (draining_first (λ p. one p)))
 unfolding strictly
-strictly-same program goal small v l calls is n here =
-    same-then (AtPlace l n (slots_after goal [])) (AtPlace l n (slots_after goal [])) (meaning v (lowered_body goal []) (at_slots l n [] empty_state)) (body_trace v calls goal beginning) (draining (λ q. one q)) (draining_first (λ p. one p))
-    (same-body (heads program) v l calls is goal small n [] (omega (arith, here)) [] empty_state refl)
+strictly-same program goal small v l calls is n here s =
+    same-then (AtPlace l n (slots_after goal [])) (AtPlace l n (slots_after goal [])) (meaning v (lowered_body goal []) (at_slots l n [] s)) (body_trace v calls goal (at_names [] s)) (draining (λ q. one q)) (draining_first (λ p. one p))
+    (same-body (heads program) v l calls is goal small n [] (omega (arith, here)) [] s refl)
     (waits l n (slots_after goal []) is.drains)
   where
     waits : (l : Level) (n : ℕ) (ns : SlotNames) → ((s : State) → (Rattle.pi_meaning.specs.Level.calls_at l).drained s ≡ Rattle.pi_meaning.specs.Drain.drained s) → (p : Point) (q : Place) → AtPlace l n ns p q →
@@ -117,27 +118,28 @@ strictly-same program goal small v l calls is n here =
     waits l n ns drains _ _ (at_place e s is) = same-drained (AtPlace l n ns) l n e s (λ q. one q) (λ p. one p) drains (λ s. same-one (AtPlace l n ns) _ _ (at_place e s is))
 
 -- the core query with its parts
-core-trace : (v : View) (preds : List PredTree) (goal : ExpTree) (d : ℕ) →
-    query_trace v preds (lowered_query goal) d
-    ≡ then (strictly (meaning v (lowered_body goal [])) (at_slots (level_at v preds d) (length (slots_after goal [])) [] empty_state)) (answered_with (name_slots 0 (slots_after goal [])))
-unfolding query_trace
-core-trace v preds goal d =
+core-trace : (v : View) (preds : List PredTree) (goal : ExpTree) (d : ℕ) (s : State) →
+    query_from v preds (lowered_query goal) d s
+    ≡ then (strictly (meaning v (lowered_body goal [])) (at_slots (level_at v preds d) (length (slots_after goal [])) [] s)) (answered_with (name_slots 0 (slots_after goal [])))
+unfolding query_from
+core-trace v preds goal d s =
     let n : ℕ = length (slots_after goal []) in
-    let from : List PredTree → Places → Trace Solution = λ (ps : List PredTree) (slots : Places). then (strictly (meaning v (lowered_body goal [])) (record { level = level_at v ps d; slots = slots; state = empty_state })) (answered_with (name_slots 0 (slots_after goal []))) in
+    let from : List PredTree → Places → Trace Solution = λ (ps : List PredTree) (slots : Places). then (strictly (meaning v (lowered_body goal [])) (record { level = level_at v ps d; slots = slots; state = s })) (answered_with (name_slots 0 (slots_after goal []))) in
     ap (λ ps. from ps (replicate n None)) (append-nil preds) ∙ ap (from preds) (sym (all-empty n))
 
-pub lowering-keeps-the-trace : LoweringKeepsTheTrace
-unfolding surface_trace
-lowering-keeps-the-trace program goal small asked v d =
+-- where calls do the same, so does a goal
+pub goal-keeps-the-trace : (program : ProgramTree) (goal : ExpTree) (preds : List PredTree) → CallsTheSame program preds → IsSmallQuery program goal → MeansTheSame program goal preds (lowered_query goal)
+unfolding goal_from
+goal-keeps-the-trace program goal preds kept asked v d s =
     let ns : SlotNames = slots_after goal [] in
     let n : ℕ = length ns in
     let xs : List NameSlot = name_slots 0 ns in
-    let l : Level = level_at v (lowered program) d in
+    let l : Level = level_at v preds d in
     let calls : Calling = called_at v program d in
-    let core : Trace Point = strictly (meaning v (lowered_body goal [])) (at_slots l n [] empty_state) in
-    let names : Trace Place = then (body_trace v calls goal beginning) (draining_first (λ p. one p)) in
-    ap (told_trace (solution_told xs)) (core-trace v (lowered program) goal d)
+    let core : Trace Point = strictly (meaning v (lowered_body goal [])) (at_slots l n [] s) in
+    let names : Trace Place = then (body_trace v calls goal (at_names [] s)) (draining_first (λ p. one p)) in
+    ap (told_trace (solution_told xs)) (core-trace v preds goal d s)
     ∙ same-equal _ _ (same-then (TellSame xs) Same (then core (answered_with xs)) (then names (telling (shown_names xs))) (λ x. one (solution_told xs x)) (λ p. one (place_told (shown_names xs) p))
-    (same-then (AtPlace l n ns) (TellSame xs) core names (answered_with xs) (telling (shown_names xs)) (strictly-same program goal asked v l calls (same-calls program small v d) n refl) (answered-same l n ns xs (goal-placed goal)))
+    (same-then (AtPlace l n ns) (TellSame xs) core names (answered_with xs) (telling (shown_names xs)) (strictly-same program goal asked v l calls (same-calls program preds kept v d) n refl s) (answered-same l n ns xs (goal-placed goal)))
     (told-one xs))
     ∙ ap (λ (told : List (List ℕ)). told_trace (place_told told) (then names (telling told))) (sym (told-names goal))

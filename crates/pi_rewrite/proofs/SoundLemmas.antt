@@ -1,6 +1,6 @@
 -- Soundness, put together.
 use Rattle.std.proofs.Common.{◌≡◌, ℕ, zero, suc, ◌+◌, ◌<◌, ◌≤◌, Bool, true, false, cond, List, [], ◌∷◌, length, get_or, sym, ◌∙◌, ap, subst, arith}
-use Rattle.std.specs.Prelude.{Some, None, Contains, All, is_some}
+use Rattle.std.specs.Prelude.{Some, None, Contains, All}
 use Rattle.std.proofs.lemmas.Bool.{false≢true}
 use Rattle.std.proofs.lemmas.List.{append-nil}
 use Rattle.std.proofs.lemmas.List.Elements.{All-nil, All-cons, All-contains, All-head, All-tail, All-weaker}
@@ -8,20 +8,21 @@ use Rattle.pi_syntax.specs.ExpTree.{ExpTree}
 use Rattle.pi_core.specs.GoalTree.{truth}
 use Rattle.pi_core.specs.CoreTree.{ClauseTree, PredTree, is_pred, find_pred}
 use Rattle.pi_meaning.specs.Quiet.{Callee, IsQuiet}
-use Rattle.pi_meaning.specs.Sound.{IsSoundClause, IsSound}
+use Rattle.pi_meaning.specs.Sound.{IsSoundClause, IsSound, IsSoundQuery}
 use Rattle.pi_syntax.specs.ProgramTree.{RuleTree, ProgramTree}
 use Rattle.pi_syntax.specs.Signature.{Signature, signature, exp_count}
-use Rattle.pi_meaning.specs.Small.{heads, IsFree, IsSmallHead, IsSmallRule, IsSmallProgram}
+use Rattle.pi_meaning.specs.Small.{heads, IsFree, IsSmallHead, IsSmallRule, IsSmallProgram, IsSmallQuery}
 use Rattle.pi_core.specs.declared.core_program.NameSlot.{NameSlot}
 use Rattle.pi_meaning.specs.Surface.{rules_of, is_hidden, head_arguments}
 use Rattle.pi_rewrite.specs.Lowered.{SlotNames, slots_after, slots_of_head, lowered_clause, lowered_rule, lowered, name_slots, lowered_body}
-use Rattle.pi_rewrite.specs.Laws.{IsPlain, LoweringIsSound, LoweredQueriesAreSound}
+use Rattle.pi_rewrite.specs.Laws.{IsPlain, DefinesTheSame, IsLoweredProgram}
 use Rattle.pi_rewrite.proofs.SlotLemmas.{one_before}
 use Rattle.pi_rewrite.proofs.GoalLemmas.{Defined}
 use Rattle.pi_rewrite.proofs.RuleLemmas.{SmallRules, small-first, small-rest, head-flat, body-grows}
 use Rattle.pi_rewrite.proofs.FindLemmas.{sign, signs}
 use Rattle.pi_rewrite.proofs.ProgramLemmas.{AreRules, program-rules, rules-together}
-use Rattle.pi_rewrite.proofs.LevelLemmas.{found}
+use Rattle.pi_rewrite.proofs.LevelLemmas.{lowered-defines, lowered-calls}
+use Rattle.pi_rewrite.proofs.LoweredQuery.{lowered_query}
 use Rattle.pi_rewrite.proofs.SoundGoals.{Knows, truth-good, body-good, good-slots, good-calls, patterns-below, patterns-count}
 use Rattle.pi_rewrite.proofs.SoundPrograms.{FromRule, FromRules, rules-from, rules-apart}
 
@@ -40,9 +41,10 @@ rules-free defined name k (r ∷ rs) small there = at there.0 there.1 there.2 (�
     at zero h e rest = head-free r.head name k (small-first defined r rs small).head e
     at (suc j) h e rest = rest (j, omega arith, e)
 
-knows : (program : ProgramTree) → IsSmallProgram program → Knows (heads program) (lowered program)
-knows program small = record {
-  known = λ name k is. ap is_some (found program small name k is);
+-- where the same is defined, it is known
+knows : (program : ProgramTree) (preds : List PredTree) → DefinesTheSame program preds → IsSmallProgram program → Knows (heads program) preds
+knows program preds defines small = record {
+  known = λ name k is. (defines name k).1 is;
   no_planner = λ name k is. (rules-free (heads program) name k (rules_of program) (program-rules program small).small
       (subst (λ hs. Contains hs (Some (sign name k))) (sym (program-rules program small).heads) is)).not_planner;
 }
@@ -107,7 +109,7 @@ program-sound program small =
       apart = rules-apart (rules_of program) (rules-together program small) are.named;
       clauses = λ p there c inside.
           let of : FromRules (heads program) p = All-contains (FromRules (heads program)) (lowered program) p from there in
-          clause-sound (heads program) (lowered program) (knows program small) p of c (All-contains (FromRule (heads program) (sign p.name p.arity)) p.clauses c of.clauses inside);
+          clause-sound (heads program) (lowered program) (knows program (lowered program) (lowered-defines program small) small) p of c (All-contains (FromRule (heads program) (sign p.name p.arity)) p.clauses c of.clauses inside);
       index = λ p there lists is.
           let of : FromRules (heads program) p = All-contains (FromRules (heads program)) (lowered program) p from there in
           absurd (none-some lists (sym of.index ∙ is));
@@ -126,10 +128,16 @@ unfolding lowered_clause
 clause-plain defined s c from = ap (λ (d : ClauseTree). d.watches) from.is
 
 pred-plain : (defined : Defined) (p : PredTree) → FromRules defined p → IsPlain p
-pred-plain defined p from = record { index = from.index; quiet = from.quiet; watches = All-weaker (FromRule defined (sign p.name p.arity)) (λ c. c.watches ≡ []) (clause-plain defined (sign p.name p.arity)) p.clauses from.clauses }
+pred-plain defined p from = record { function = from.function; index = from.index; quiet = from.quiet; watches = All-weaker (FromRule defined (sign p.name p.arity)) (λ c. c.watches ≡ []) (clause-plain defined (sign p.name p.arity)) p.clauses from.clauses }
 
-pub lowering-is-sound : LoweringIsSound
-lowering-is-sound program small = (program-sound program small, All-weaker (FromRules (heads program)) IsPlain (pred-plain (heads program)) (lowered program) (from-program program small))
+-- what the code makes keeps the meaning
+pub lowered-program : (program : ProgramTree) → IsSmallProgram program → IsLoweredProgram program (lowered program)
+lowered-program program small = record {
+  sound = program-sound program small;
+  plain = All-weaker (FromRules (heads program)) IsPlain (pred-plain (heads program)) (lowered program) (from-program program small);
+  defines = lowered-defines program small;
+  calls = lowered-calls program small;
+}
 
 -- ---- queries
 
@@ -143,13 +151,13 @@ names-below k m (n ∷ ns) room = tested (is_hidden n) (names-below (suc k) m ns
     tested true h = h
     tested false h = All-cons (λ (n : NameSlot). n.slot < m) (record { name = n; slot = k }) (name_slots (suc k) ns) (omega arith) h
 
-pub lowered-queries-are-sound : LoweredQueriesAreSound
-lowered-queries-are-sound program goal small asked =
+pub query-is-sound : (program : ProgramTree) (goal : ExpTree) (preds : List PredTree) → IsLoweredProgram program preds → IsSmallProgram program → IsSmallQuery program goal → IsSoundQuery preds (lowered_query goal)
+query-is-sound program goal preds kept small asked =
     let ns : SlotNames = slots_after goal [] in
-    let good = body-good (heads program) (lowered program) (knows program small) goal asked [] (length ns) (omega arith) in
+    let good = body-good (heads program) preds (knows program preds kept.defines small) goal asked [] (length ns) (omega arith) in
     record {
-      preds = subst IsSound (sym (append-nil (lowered program))) (program-sound program small);
-      slots = good-slots (lowered program) (length ns) (lowered_body goal []) good;
+      preds = subst IsSound (sym (append-nil preds)) kept.sound;
+      slots = good-slots preds (length ns) (lowered_body goal []) good;
       names = λ n there. All-contains (λ (n : NameSlot). n.slot < length ns) (name_slots 0 ns) n (names-below 0 (length ns) ns (omega arith)) there;
-      calls = subst (λ ps. Rattle.pi_meaning.specs.Sound.CallsKnown ps (lowered_body goal [])) (sym (append-nil (lowered program))) (good-calls (lowered program) (length ns) (lowered_body goal []) good);
+      calls = subst (λ ps. Rattle.pi_meaning.specs.Sound.CallsKnown ps (lowered_body goal [])) (sym (append-nil preds)) (good-calls preds (length ns) (lowered_body goal []) good);
     }

@@ -1,4 +1,4 @@
--- Lowering as a definition: the program of the core language that a program is, and the query that a goal is. Names become
+-- What the code of lowering makes, for the contracts of its private functions alone; what a caller is promised stands in `Laws`. Names become
 -- slots, in the order of their first occurrences in a clause from the left; each `_` has a slot of its own.
 use Rattle.std.specs.Prelude.{ℕ, suc, Bool, false, cond, List, [], ◌∷◌, ◌++◌, length, option_map, Option, Some, None, codes}
 use Rattle.std.specs.Str.{bytes_eq}
@@ -6,7 +6,7 @@ use Rattle.pi_terms.specs.Tree.{Tree}
 use Rattle.pi_syntax.specs.ExpTree.{ExpTree, ExpTrees, no_exps, exp}
 use Rattle.pi_core.specs.GoalTree.{GoalTree, GoalTrees, no_goals, goal}
 use Rattle.pi_terms.specs.PatternTree.{PatternTree, PatternTrees, no_patterns, pattern}
-use Rattle.pi_core.specs.CoreTree.{ClauseTree, PredTree, QueryTree}
+use Rattle.pi_core.specs.CoreTree.{ClauseTree, PredTree}
 use Rattle.pi_syntax.specs.ProgramTree.{RuleTree, ProgramTree}
 use Rattle.pi_syntax.specs.Signature.{Signature, signature}
 use Rattle.pi_core.specs.declared.core_program.NameSlot.{NameSlot}
@@ -140,8 +140,3 @@ lowered program = lowered_rules (rules_of program)
 unfoldable pub name_slots : ℕ → SlotNames → List NameSlot
 name_slots k [] = []
 name_slots k (n ∷ ns) = cond (is_hidden n) (name_slots (suc k) ns) (record { name = n; slot = k } ∷ name_slots (suc k) ns)
-
-abbrev pub lowered_query : ExpTree → QueryTree
-lowered_query g =
-    let ns : SlotNames = slots_after g [] in
-    record { goal = lowered_body g []; helpers = []; names = name_slots 0 ns; slots = length ns }

@@ -1,15 +1,14 @@
 //! Laws of lowering.
-ghost use Rattle.pi_rewrite.specs.Laws.{LoweringIsSound, LoweredQueriesAreSound, LoweringKeepsTheTrace, SameMeaningRunsTheSame};
+ghost use Rattle.pi_rewrite.specs.Laws.{ProgramsHaveCorePrograms, GoalsHaveQueries, SameMeaningRunsTheSame};
 
-/// What a program of the small language is lowered to is sound, and so is what a goal is that is asked of it.
-pub fn lowering_is_sound()
-    ensures programs { LoweringIsSound }
-    ensures queries { LoweredQueriesAreSound }
+/// Each program of the small language has a core program that keeps its meaning, and of each such core program each goal
+/// that is asked of the program has a query that keeps its own.
+pub fn meanings_are_kept()
+    ensures programs { ProgramsHaveCorePrograms }
+    ensures goals { GoalsHaveQueries }
 {}
 
-/// The core meaning of what a program and a goal are lowered to is their trace over names, and so the run is that of the
-/// goal over names.
-pub fn lowering_keeps_the_trace()
-    ensures trace { LoweringKeepsTheTrace }
-    ensures run { SameMeaningRunsTheSame }
+/// Where a query means what a goal means, its runs are those of the goal over its names.
+pub fn same_meanings_run_the_same()
+    ensures { SameMeaningRunsTheSame }
 {}

@@ -1,13 +1,11 @@
 //! Programs and goals in the core language, where all of them is built.
 #![tactic(auto)]
 
-ghost use Rattle.std.specs.Prelude.{◌≡◌, [], IfOk, All};
+ghost use Rattle.std.specs.Prelude.{◌≡◌, IfOk};
 ghost use Rattle.pi_core.specs.CoreTree.{program_tree, query_tree};
-ghost use Rattle.pi_meaning.specs.Sound.{IsSound};
 ghost use Rattle.pi_syntax.specs.ProgramTree.{ProgramTree, source_tree, goal_source};
 ghost use Rattle.pi_meaning.specs.Small.{IsSmallProgram, IsSmallQuery};
-ghost use Rattle.pi_rewrite.specs.Lowered.{lowered, lowered_query};
-ghost use Rattle.pi_rewrite.specs.Laws.{IsPlain, IsLowered};
+ghost use Rattle.pi_rewrite.specs.Laws.{IsLoweredProgram, IsLowered};
 ghost use Rattle.pi_rewrite.specs.Told.{part_told};
 ghost use Rattle.pi_rewrite.specs.Unbuilt.{unbuilt_part, unbuilt_goal, without_imports};
 
@@ -25,15 +23,14 @@ use pi_syntax::{Goal, Program};
 use slots::Slots;
 use std::alloc::Global;
 
-/// The program in the core language: its predicates in the order of their first clauses, with their clauses in order.
+/// The program in the core language: where without its `import` parts it is of the small language, a core program that keeps
+/// its meaning.
 ///
 /// Where it has a part that isn't built, the first such is told, and nothing is lowered. `import` is passed over. Each call
 /// stays a call, whether or not a predicate is there for it.
 pub fn lower(alloc: Global, program: &Program) -> Result<CoreProgram, LowerFault>
     ensures unbuilt { part_told result ≡ unbuilt_part (source_tree program.now) }
-    ensures is { IfOk result (λ core. program_tree core ≡ lowered (without_imports (source_tree program.now))) }
-    ensures sound { IfOk result (λ core. IsSmallProgram (without_imports (source_tree program.now)) → IsSound (program_tree core)) }
-    ensures plain { IfOk result (λ core. IsSmallProgram (without_imports (source_tree program.now)) → All IsPlain (program_tree core)) }
+    ensures lowered { IfOk result (λ core. IsSmallProgram (without_imports (source_tree program.now)) → IsLoweredProgram (without_imports (source_tree program.now)) (program_tree core)) }
 {
     if let Some(number) = unbuilt(program) {
         return Err(LowerFault::NotBuilt { number });
@@ -45,13 +42,11 @@ pub fn lower(alloc: Global, program: &Program) -> Result<CoreProgram, LowerFault
 /// The goal in the core language, asked of the program that `core` is. Its names are those of its variables that don't
 /// begin with `_`.
 ///
-/// A goal that isn't built is told as part 1. Where `core` is what a program of the small language is lowered to, and the
-/// goal is of it too, the query means what the goal means over its names.
+/// A goal that isn't built is told as part 1. Where `core` keeps the meaning of a program of the small language, and the
+/// goal is of it too, the query keeps that of the goal.
 pub fn lower_goal(alloc: Global, goal: &Goal, _core: &CoreProgram) -> Result<CoreQuery, LowerFault>
     ensures unbuilt { part_told result ≡ unbuilt_goal (goal_source goal.now) }
-    ensures is { IfOk result (λ query. query_tree query ≡ lowered_query (goal_source goal.now)) }
-    ensures helpers { IfOk result (λ query. query.helpers ≡ []) }
-    ensures lowered { IfOk result (λ query. (program : ProgramTree) → program_tree _core.now ≡ lowered program → IsSmallProgram program → IsSmallQuery program (goal_source goal.now) → IsLowered program (goal_source goal.now) (program_tree _core.now) (query_tree query)) }
+    ensures lowered { IfOk result (λ query. (program : ProgramTree) → IsLoweredProgram program (program_tree _core.now) → IsSmallProgram program → IsSmallQuery program (goal_source goal.now) → IsLowered program (goal_source goal.now) (program_tree _core.now) (query_tree query)) }
 {
     if !is_built_body(&goal.body) {
         return Err(LowerFault::NotBuilt { number: 1 });

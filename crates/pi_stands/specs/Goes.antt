@@ -1,5 +1,5 @@
 -- What the machine's code does over steps of the machine as data: Ticks that are counted, an answer, and where it is then.
-use Rattle.std.specs.Prelude.{◌≡◌, ◌+◌, ◌-◌, ◌≤◌, ◌<◌, ℕ, slice_get, Some, Bool, true, false, List, ⊤}
+use Rattle.std.specs.Prelude.{◌≡◌, ◌-◌, ◌<◌, ℕ, slice_get, Some, Bool, true, false, List, ⊤}
 use Rattle.pi_traces.specs.Trace.{Done, Raise, Emitted}
 use Rattle.pi_meaning.specs.View.{View}
 use Rattle.pi_meaning.specs.Run.{Solution}
@@ -8,6 +8,7 @@ use Rattle.pi_machine.specs.declared.happening.Budget.{Budget}
 use Rattle.pi_machine.specs.declared.happening.Mode.{Mode}
 use Rattle.pi_arenas.specs.declared.run.End.{End as RunEnd}
 use Rattle.pi_arenas.specs.declared.run.Now.{Now}
+use Rattle.pi_machine.specs.Budget.{AreStepsUsed, IsWorkUsed}
 use Rattle.pi_machine.specs.Configuration.{Config}
 use Rattle.pi_machine.specs.Leads.{Leads, IsAtTick, IsAtEnd}
 use Rattle.pi_machine.specs.Next.{some_ticks}
@@ -32,8 +33,8 @@ spent Mode.Inner = RunEnd.WorkSpent
 
 -- the budget has no Tick left
 abbrev pub HasNone : Mode → Budget → Type 0
-HasNone Mode.Top b = b.steps ≤ b.ticks
-HasNone Mode.Inner b = b.limit ≤ b.work.goals + b.work.runs + b.work.expansions
+HasNone Mode.Top b = AreStepsUsed b
+HasNone Mode.Inner b = IsWorkUsed b
 
 -- a Tick is counted where the budget has one; else the run ends in front of it
 abbrev pub Ticks : Mode → Budget → Budget → Now → Now → Bool → Type 0

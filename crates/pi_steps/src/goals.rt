@@ -28,7 +28,7 @@ pub fn run_goal<S: StateStore>(
     point: Point,
     budget: &mut Budget,
 ) -> Result<(), AllocError>
-    ensures counts { Counts budget.old budget.new }
+    ensures counts { Counts mode budget.old budget.new }
     ensures goes { IfOk result (λ _. (l : Loaded) → l.code ≡ code.now → PointGoes mode budget.old budget.new (world l (S.seen run.old.store) S.order (view_of run.old.arenas)) (world l (S.seen run.new.store) S.order (view_of run.new.arenas)) point run.new.now) }
 {
     let Some(step) = code.step_there(point.place) else {
@@ -59,7 +59,7 @@ fn run_other<S: StateStore>(
     step: &Step,
     budget: &mut Budget,
 ) -> Result<(), AllocError>
-    ensures counts { Counts budget.old budget.new }
+    ensures counts { Counts mode budget.old budget.new }
     ensures goes { IfOk result (λ _. IsOther step.now.node → (l : Loaded) → l.code ≡ code.now → GoalGoes mode budget.old budget.new (world l (S.seen run.old.store) S.order (view_of run.old.arenas)) (world l (S.seen run.new.store) S.order (view_of run.new.arenas)) point step.now run.new.now) }
 {
     match step.node {
@@ -83,7 +83,7 @@ fn run_tick<S: StateStore>(
     step: Step,
     budget: &mut Budget,
 )
-    ensures counts { Counts budget.old budget.new }
+    ensures counts { Counts mode budget.old budget.new }
     ensures goes { step.node ≡ Node.Tick → (l : Loaded) → GoalGoes mode budget.old budget.new (world l (S.seen run.old.store) S.order (view_of run.old.arenas)) (world l (S.seen run.new.store) S.order (view_of run.new.arenas)) point step run.new.now }
 {
     if tick(mode, &mut run.now, budget) {
@@ -103,7 +103,7 @@ fn run_call<S: StateStore>(
     operands: u32,
     budget: &mut Budget,
 ) -> Result<(), AllocError>
-    ensures counts { Counts budget.old budget.new }
+    ensures counts { Counts mode budget.old budget.new }
     ensures goes { IfOk result (λ _. step.node ≡ Node.Call predicate operands → (l : Loaded) → l.code ≡ code.now → GoalGoes mode budget.old budget.new (world l (S.seen run.old.store) S.order (view_of run.old.arenas)) (world l (S.seen run.new.store) S.order (view_of run.new.arenas)) point step run.new.now) }
 {
     let Some(called) = code.predicate_there(predicate) else {
@@ -130,7 +130,7 @@ fn run_apply<S: StateStore>(
     into: u32,
     budget: &mut Budget,
 ) -> Result<(), AllocError>
-    ensures counts { Counts budget.old budget.new }
+    ensures counts { Counts mode budget.old budget.new }
     ensures goes { IfOk result (λ _. step.node ≡ Node.Apply predicate operands into → (l : Loaded) → l.code ≡ code.now → GoalGoes mode budget.old budget.new (world l (S.seen run.old.store) S.order (view_of run.old.arenas)) (world l (S.seen run.new.store) S.order (view_of run.new.arenas)) point step run.new.now) }
 {
     let Some(called) = code.predicate_there(predicate) else {

@@ -8,7 +8,7 @@ use pi_machine::{Budget, Mode};
 /// Counts the Tick of a call, unless it is a quiet one; false where the budget has none left, which ends the run.
 #[inline(always)]
 pub fn tick_call(is_quiet: bool, mode: Mode, now: &mut Now, budget: &mut Budget) -> bool
-    ensures counts { Counts budget.old budget.new }
+    ensures counts { Counts mode budget.old budget.new }
     ensures ticks { TicksUnless is_quiet mode budget.old budget.new now.old now.new result }
 {
     is_quiet || tick(mode, now, budget)
@@ -17,7 +17,7 @@ pub fn tick_call(is_quiet: bool, mode: Mode, now: &mut Now, budget: &mut Budget)
 /// Counts a Tick; false where the budget has none left, which ends the run.
 #[inline(always)]
 pub fn tick(mode: Mode, now: &mut Now, budget: &mut Budget) -> bool
-    ensures counts { Counts budget.old budget.new }
+    ensures counts { Counts mode budget.old budget.new }
     ensures ticks { Ticks mode budget.old budget.new now.old now.new result }
 {
     match mode {

@@ -8,8 +8,8 @@ use Rattle.pi_syntax.specs.ExpTree.{ExpTree, var, int, atom, call, and, ExpTrees
 use Rattle.pi_syntax.specs.ProgramTree.{RuleTree, WrittenClause, rule, function, fact}
 use Rattle.pi_syntax.specs.Signature.{exp_count}
 use Rattle.pi_meaning.specs.Small.{Defines, IsSmallTerm, AreSmallTerms, IsSmallHead, IsSmallAtom, IsSmallCall, IsSmallGoal, AreSmallGoals, IsSmallBody, IsSmallRule, IsSmallClause}
-use Rattle.pi_prog.specs.Calls.{Named, named, is_planner_call, goal_calls, planner_calls, calls_of_goal, node_calls, calls_among, is_known, first_unknown}
-use Rattle.pi_prog.specs.Places.{goal, Placed, test, placed, below, all_placed, placed_if, clause_placed}
+use Rattle.pi_clauses.specs.Calls.{Named, named, is_planner_call, goal_calls, planner_calls, calls_of_goal, node_calls, calls_among, is_known, first_unknown}
+use Rattle.pi_clauses.specs.Places.{goal, Placed, test, placed, below, all_placed, placed_if, clause_placed}
 use Rattle.pi_rewrite.specs.Unbuilt.{is_own, is_built_term, are_built_terms, is_built_head, is_built_atom, is_built_call, is_built_goal, are_built_goals, is_built_body, are_none, is_built_rule, is_built_clause}
 use Rattle.pi_rewrite.proofs.BuiltTrees.{goes_on}
 use Rattle.pi_top.proofs.OwnNames.{same_bytes, no_form, own_is_free, known_is_defined, shown}

@@ -13,10 +13,10 @@ use Rattle.pi_meaning.specs.Small.{heads, IsSmallPart, GoesOn, StandTogether, Is
 use Rattle.pi_syntax.specs.Tokens.{Token}
 use Rattle.pi_syntax.specs.declared.program.Decl.{Decl}
 use Rattle.pi_syntax.specs.declared.program.Mode.{Mode}
-use Rattle.pi_prog.specs.Calls.{Named, calls_among, first_unknown}
-use Rattle.pi_prog.specs.GoalVerdict.{defined_by_clause, defined_by_program}
-use Rattle.pi_prog.specs.Places.{clause_placed}
-use Rattle.pi_prog.specs.Verdict.{Faulty, Unknown, Verdict, a_program, part_is_faulty, is_scattered, is_unknown, JudgedPart, refused, libraries, one_clause, judged, as_list, definition, named_of, all_defined, same_signature, stands_apart, first_apart, first_faulty, part_calls, unknown_or, first_unknown_in, decl_of, parts_of, verdict_by, verdict, HasVerdict}
+use Rattle.pi_clauses.specs.Calls.{Named, calls_among, first_unknown}
+use Rattle.pi_clauses.specs.GoalVerdict.{defined_by_clause, defined_by_program}
+use Rattle.pi_clauses.specs.Places.{clause_placed}
+use Rattle.pi_clauses.specs.Verdict.{Faulty, Unknown, Verdict, a_program, part_is_faulty, is_scattered, is_unknown, JudgedPart, refused, libraries, one_clause, judged, as_list, definition, named_of, all_defined, same_signature, stands_apart, first_apart, first_faulty, part_calls, unknown_or, first_unknown_in, decl_of, parts_of, verdict_by, verdict, HasVerdict}
 use Rattle.pi_rewrite.specs.Unbuilt.{is_built_head, is_built, is_built_part, unbuilt_from, unbuilt_part, declares_import, without_imports}
 use Rattle.pi_rewrite.proofs.BuiltTrees.{goes_on}
 use Rattle.pi_top.proofs.BuiltGoals.{small_clause}

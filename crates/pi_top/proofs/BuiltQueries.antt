@@ -4,13 +4,13 @@ use Rattle.pi_syntax.specs.ExpTree.{ExpTree}
 use Rattle.pi_syntax.specs.ProgramTree.{ProgramTree}
 use Rattle.pi_meaning.specs.Small.{IsSmallBody, IsSmallQuery}
 use Rattle.pi_syntax.specs.Tokens.{Token}
-use Rattle.pi_prog.specs.Calls.{Named, calls_among, first_unknown}
-use Rattle.pi_prog.specs.GoalVerdict.{defined_by_program, GoalVerdict, a_goal, goal_is_faulty, calls_unknown, unknown_goal, goal_verdict, JudgesGoal, goal_too_deep, no_goal, an_expression, HasGoalVerdict}
-use Rattle.pi_prog.specs.Items.{are_bad_nodes}
-use Rattle.pi_prog.specs.Places.{goal, placed}
-use Rattle.pi_prog.specs.Reading.{variable_names}
-use Rattle.pi_prog.specs.Stretch.{without_end}
-use Rattle.pi_prog.specs.Verdict.{BadClause, TooManyVariables, has_too_many_names}
+use Rattle.pi_clauses.specs.Calls.{Named, calls_among, first_unknown}
+use Rattle.pi_clauses.specs.GoalVerdict.{defined_by_program, GoalVerdict, a_goal, goal_is_faulty, calls_unknown, unknown_goal, goal_verdict, JudgesGoal, goal_too_deep, no_goal, an_expression, HasGoalVerdict}
+use Rattle.pi_clauses.specs.Items.{are_bad_nodes}
+use Rattle.pi_clauses.specs.Places.{goal, placed}
+use Rattle.pi_clauses.specs.Reading.{variable_names}
+use Rattle.pi_clauses.specs.Stretch.{without_end}
+use Rattle.pi_clauses.specs.Verdict.{BadClause, TooManyVariables, has_too_many_names}
 use Rattle.pi_rewrite.specs.Unbuilt.{unbuilt_part, is_built_body, without_imports}
 use Rattle.pi_top.proofs.BuiltGoals.{small_body}
 use Rattle.pi_top.proofs.BuiltPrograms.{heads_shown}

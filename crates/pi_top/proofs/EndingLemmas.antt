@@ -3,13 +3,12 @@ use Rattle.std.proofs.Common.{◌≡◌, ℕ, List, refl, sym, ◌∙◌, ap, ar
 use Rattle.pi_terms.specs.Tree.{Tree}
 use Rattle.pi_traces.specs.Trace.{Done, Raise, Emitted}
 use Rattle.pi_traces.specs.Depth.{Cut, Stop, Ended, Spent}
-use Rattle.pi_meaning.specs.Run.{Solution}
 use Rattle.pi_top.specs.QueryEnd.{Stopped, NoMore, No, Exception, StepsSpent, EndsWithLast, IsWhole, EndingIsOne}
 
-last-or-whole : {X : Type 0} (asked : ℕ) (part : List (Emitted Solution)) (run : Cut Solution) (stop : Stop) → EndsWithLast asked part → IsWhole asked part run stop → X
+last-or-whole : {X A : Type 0} (asked : ℕ) (part : List (Emitted A)) (run : Cut A) (stop : Stop) → EndsWithLast asked part → IsWhole asked part run stop → X
 last-or-whole asked part run stop last whole = absurd (omega (arith, last.all, whole.fewer))
 
-one-stop : (asked : ℕ) (part : List (Emitted Solution)) (run : Cut Solution) (a b : Stop) → IsWhole asked part run a → IsWhole asked part run b → a ≡ b
+one-stop : {A : Type 0} (asked : ℕ) (part : List (Emitted A)) (run : Cut A) (a b : Stop) → IsWhole asked part run a → IsWhole asked part run b → a ≡ b
 one-stop asked part run a b first second = sym first.stops ∙ second.stops
 
 done-raise : {X : Type 0} (ball : Tree) → Ended Done ≡ Ended (Raise ball) → X

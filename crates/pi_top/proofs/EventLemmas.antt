@@ -9,10 +9,10 @@ use Rattle.pi_meaning.specs.Told.{answer_of}
 use Rattle.pi_answers.specs.declared.answer.Answer.{Answer}
 use Rattle.pi_core.specs.declared.core_program.NameSlot.{NameSlot}
 use Rattle.pi_machine.specs.Next.{some_ticks}
-use Rattle.pi_top.specs.Printing.{print}
+use Rattle.pi_top.specs.Running.{print_solutions}
 use Rattle.pi_top.specs.QueryEnd.{count_answers, EndsWithLast}
 
-pub ticks-append : (events more : List (Emitted Solution)) → count_ticks (events ++ more) ≡ count_ticks events + count_ticks more
+pub ticks-append : {A : Type 0} (events more : List (Emitted A)) → count_ticks (events ++ more) ≡ count_ticks events + count_ticks more
 unfolding count_ticks
 ticks-append [] more = omega arith
 ticks-append (noted Tick ∷ events) more = let rest = ticks-append events more in omega (arith, rest)
@@ -20,21 +20,21 @@ ticks-append (noted (Load k) ∷ events) more = ticks-append events more
 ticks-append (noted (Out text) ∷ events) more = ticks-append events more
 ticks-append (answered x ∷ events) more = ticks-append events more
 
-pub answers-append : (events more : List (Emitted Solution)) → count_answers (events ++ more) ≡ count_answers events + count_answers more
+pub answers-append : {A : Type 0} (events more : List (Emitted A)) → count_answers (events ++ more) ≡ count_answers events + count_answers more
 unfolding count_answers
 answers-append [] more = omega arith
 answers-append (noted n ∷ events) more = answers-append events more
 answers-append (answered x ∷ events) more = let rest = answers-append events more in omega (arith, rest)
 
-pub print-append : (names : List NameSlot) (events more : List (Emitted Solution)) → print names (events ++ more) ≡ print names events ++ print names more
-unfolding print
+pub print-append : (names : List NameSlot) (events more : List (Emitted Solution)) → print_solutions names (events ++ more) ≡ print_solutions names events ++ print_solutions names more
+unfolding print_solutions
 print-append names [] more = refl
 print-append names (noted Tick ∷ events) more = print-append names events more
 print-append names (noted (Load k) ∷ events) more = print-append names events more
-print-append names (noted (Out text) ∷ events) more = ap (λ l. text ++ l) (print-append names events more) ∙ sym (append_assoc text (print names events) (print names more))
+print-append names (noted (Out text) ∷ events) more = ap (λ l. text ++ l) (print-append names events more) ∙ sym (append_assoc text (print_solutions names events) (print_solutions names more))
 print-append names (answered x ∷ events) more =
     let lines : List ℕ = concat (answer_lines (answer_of names x)) in
-    ap (λ l. lines ++ l) (print-append names events more) ∙ sym (append_assoc lines (print names events) (print names more))
+    ap (λ l. lines ++ l) (print-append names events more) ∙ sym (append_assoc lines (print_solutions names events) (print_solutions names more))
 
 pub ticks-of_ticks : (k : ℕ) → count_ticks (some_ticks k) ≡ k
 unfolding count_ticks
@@ -46,14 +46,14 @@ unfolding count_answers
 answers-of_ticks zero = refl
 answers-of_ticks (suc k) = answers-of_ticks k
 
-pub print-of_ticks : (names : List NameSlot) (k : ℕ) → print names (some_ticks k) ≡ []
-unfolding print
+pub print-of_ticks : (names : List NameSlot) (k : ℕ) → print_solutions names (some_ticks k) ≡ []
+unfolding print_solutions
 print-of_ticks names zero = refl
 print-of_ticks names (suc k) = print-of_ticks names k
 
 -- Ticks behind events
-pub behind-ticks : (names : List NameSlot) (events : List (Emitted Solution)) (k : ℕ) → print names (events ++ some_ticks k) ≡ print names events
-behind-ticks names events k = print-append names events (some_ticks k) ∙ ap (λ l. print names events ++ l) (print-of_ticks names k) ∙ append-nil (print names events)
+pub behind-ticks : (names : List NameSlot) (events : List (Emitted Solution)) (k : ℕ) → print_solutions names (events ++ some_ticks k) ≡ print_solutions names events
+behind-ticks names events k = print-append names events (some_ticks k) ∙ ap (λ l. print_solutions names events ++ l) (print-of_ticks names k) ∙ append-nil (print_solutions names events)
 
 pub ticks-behind : (events : List (Emitted Solution)) (k : ℕ) → count_ticks (events ++ some_ticks k) ≡ count_ticks events + k
 ticks-behind events k = ticks-append events (some_ticks k) ∙ ap (λ n. count_ticks events + n) (ticks-of_ticks k)
@@ -65,16 +65,16 @@ answers-behind events k = let all = answers-append events (some_ticks k) in let 
 abbrev pub turn : ℕ → Solution → List (Emitted Solution)
 turn k x = some_ticks k ++ answered x ∷ []
 
-print-one : (names : List NameSlot) (x : Solution) → print names (answered x ∷ []) ≡ concat (answer_lines (answer_of names x))
-unfolding print
+print-one : (names : List NameSlot) (x : Solution) → print_solutions names (answered x ∷ []) ≡ concat (answer_lines (answer_of names x))
+unfolding print_solutions
 print-one names x = append-nil (concat (answer_lines (answer_of names x)))
 
 pub print-turn : (names : List NameSlot) (events : List (Emitted Solution)) (k : ℕ) (x : Solution) (a : Answer) → a ≡ answer_of names x →
-    print names (events ++ turn k x) ≡ print names events ++ concat (answer_lines a)
+    print_solutions names (events ++ turn k x) ≡ print_solutions names events ++ concat (answer_lines a)
 print-turn names events k x a is =
     print-append names events (turn k x)
-    ∙ ap (λ l. print names events ++ l) (print-append names (some_ticks k) (answered x ∷ []) ∙ ap (λ l. l ++ print names (answered x ∷ [])) (print-of_ticks names k) ∙ print-one names x)
-    ∙ ap (λ b. print names events ++ concat (answer_lines b)) (sym is)
+    ∙ ap (λ l. print_solutions names events ++ l) (print-append names (some_ticks k) (answered x ∷ []) ∙ ap (λ l. l ++ print_solutions names (answered x ∷ [])) (print-of_ticks names k) ∙ print-one names x)
+    ∙ ap (λ b. print_solutions names events ++ concat (answer_lines b)) (sym is)
 
 one-tick : (x : Solution) → count_ticks (answered x ∷ []) ≡ 0
 unfolding count_ticks

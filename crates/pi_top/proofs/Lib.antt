@@ -5,14 +5,16 @@ pub mod BuiltGoals
 pub mod BuiltPrograms
 pub mod BuiltQueries
 pub mod Completing
+pub mod EndStatuses
 pub mod EndingLemmas
 pub mod Endings
 pub mod EventLemmas
 pub mod FileReads
 pub mod Fronts
+pub mod Imports
 pub mod Judging
-pub mod MachineRuns
 pub mod Modes
+pub mod OverNames
 pub mod OwnNames
 pub mod QueryRuns
 pub mod Refusing

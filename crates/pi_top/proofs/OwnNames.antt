@@ -13,7 +13,7 @@ use Rattle.pi_terms.specs.Order.{name_order}
 use Rattle.pi_syntax.specs.Signature.{Signature}
 use Rattle.pi_meaning.specs.Small.{IsFree}
 use Rattle.pi_states.proofs.MatchLemmas.{same_name}
-use Rattle.pi_prog.specs.Calls.{Named, named, is_kind, same_bool, same_named, is_known}
+use Rattle.pi_clauses.specs.Calls.{Named, named, is_kind, same_bool, same_named, is_known}
 use Rattle.pi_rewrite.specs.Unbuilt.{is_own}
 
 pub same_bytes : (a b : List ℕ) → bytes_eq a b ≡ true → a ≡ b

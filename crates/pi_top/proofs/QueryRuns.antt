@@ -1,10 +1,10 @@
 -- A query's run, call of `next` by call: what is printed of it, and what it comes to.
-use Rattle.std.proofs.Common.{◌≡◌, ◌<◌, ◌≤◌, ℕ, suc, ◌+◌, ◌-◌, Bool, true, false, List, [], ◌∷◌, ◌++◌, Option, Result, Ok, Err, refl, sym, ap, subst, ◌∙◌, inl, inr, arith, length, length-append, slice_set}
+use Rattle.std.proofs.Common.{◌≡◌, ◌<◌, ◌≤◌, ℕ, suc, ◌+◌, ◌-◌, Bool, true, false, List, [], ◌∷◌, ◌++◌, Option, Result, Ok, Err, refl, sym, ap, subst, ◌∙◌, arith, append_assoc, length, length-append, slice_set}
 use Rattle.std.specs.List.{concat}
 use Rattle.std.proofs.lemmas.List.{append-nil}
 use Rattle.pi_outside.specs.Taken.{Takes}
 use Rattle.pi_outside.proofs.Taken.{Takes-none, Takes-then}
-use Rattle.pi_traces.specs.Trace.{Done, Raise, Emitted, count_ticks}
+use Rattle.pi_traces.specs.Trace.{Done, Raise, Emitted, answered, count_ticks}
 use Rattle.pi_traces.specs.Depth.{Stop as CutStop, Cut, Ended, Spent, with_events}
 use Rattle.pi_meaning.specs.View.{query_view}
 use Rattle.pi_core.specs.CoreTree.{PredTree, QueryTree}
@@ -18,27 +18,29 @@ use Rattle.pi_machine.specs.declared.happening.Happening.{Happening}
 use Rattle.pi_machine.specs.declared.happening.Mode.{Mode}
 use Rattle.pi_machine.specs.Budget.{Counts, IsWithin}
 use Rattle.pi_machine.specs.Built.{IsRunnable}
-use Rattle.pi_stands.specs.Goes.{counted, HasNone}
+use Rattle.pi_stands.specs.Goes.{counted}
 use Rattle.pi_engine.specs.Turns.{IsRunning}
 use Rattle.pi_machine.specs.Next.{some_ticks}
-use Rattle.pi_engine.specs.Runs.{MachineView, RunsTo, Happens}
+use Rattle.pi_engine.specs.Runs.{MachineView, RunsTo}
+use Rattle.pi_engine.specs.Happens.{HappensByTicks}
 use Rattle.pi_machine.proofs.RunLaws.{run-prefix}
 use Rattle.pi_top.specs.declared.outcome.QueryRun.{QueryRun}
 use Rattle.pi_top.specs.declared.query.Stop.{Stop}
-use Rattle.pi_top.specs.Headline.{IsPart, Headline, IsCutOff}
+use Rattle.pi_top.specs.declared.query.Stop.TheVariants.{Write, Memory}
+use Rattle.pi_top.specs.Ends.{status_of_stop}
+use Rattle.pi_top.specs.Runs.{run_of}
 use Rattle.pi_top.specs.Prefix.{TakesFront}
-use Rattle.pi_top.specs.Printing.{print}
 use Rattle.pi_top.specs.QueryEnd.{QueryEnd, Stopped, NoMore, No, Exception, StepsSpent, line_of, count_answers, IsWhole, Ends}
-use Rattle.pi_top.specs.Running.{IsAtStart, IsWritten, ComesTo, HasRun}
-use Rattle.pi_top.specs.Writing.{WritesLine, WritesNothing, WritesEnd}
+use Rattle.pi_top.specs.Running.{print_solutions, IsQueryPart, QueryIsCut, in_answer, in_line, at_memory, IsAtStart, IsWritten, ComesTo, IsListed, HasRun, was_asked}
+use Rattle.pi_top.specs.Writing.{IsCutIn, WritesLine, WritesNothing, WritesEnd}
 use Rattle.pi_top.proofs.EventLemmas.{behind-ticks, ticks-behind, answers-behind, turn, print-turn, ticks-turn, answers-turn, last-turn}
-use Rattle.pi_top.proofs.Fronts.{prefix-all, prefix-none, front-none, front-then, front-all}
+use Rattle.pi_top.proofs.Fronts.{prefix-all, front-then}
 
 -- ---- a query's run
 
 -- the budget after a call of `next`, on a machine that counts Ticks
 pub record Called {M : Type 0} (m n : MachineView M) (b c : Budget) : Type 0 where
-  pub counts : Counts b c
+  pub counts : Counts m.mode b c
   pub within : IsWithin b → IsWithin c
   pub mode : n.mode ≡ m.mode
 
@@ -48,7 +50,7 @@ counted-ticks Mode.Inner b c top more = absurd (cc)
 
 pub written-start : {M : Type 0} (m : MachineView M) (b : Budget) (answers : ℕ) (program : List PredTree) (q : QueryTree) (taken : Option (List ℕ)) →
     IsAtStart m b answers program q → IsWritten m b 0 program q taken taken
-unfolding count_answers count_ticks print
+unfolding count_answers count_ticks print_solutions
 written-start m b answers program q taken is = record {
   events = [];
   runs = is.runs;
@@ -63,7 +65,7 @@ written-start m b answers program q taken is = record {
 
 -- after an answer whose lines were written
 pub written-answer : {M : Type 0} (m n : MachineView M) (b c : Budget) (given : ℕ) (program : List PredTree) (q : QueryTree) (a : Answer) (before between after : Option (List ℕ)) →
-    (w : IsWritten m b given program q before between) → Called m n b c → Happens (query_view []) program q w.events m n b c (Happening.Answer a) → IsRunning n.now →
+    (w : IsWritten m b given program q before between) → Called m n b c → HappensByTicks (query_view []) program q w.events m n b c (Happening.Answer a) → IsRunning n.now →
     Takes between (concat (answer_lines a)) after → IsWritten n c (given + 1) program q before after
 written-answer m n b c given program q a before between after w called happens running takes =
     let k : ℕ = counted m.mode b c in
@@ -87,7 +89,7 @@ written-answer m n b c given program q a before between after w called happens r
 
 -- the events so far begin the query's run
 prefix-of : {M : Type 0} (m : MachineView M) (program : List PredTree) (q : QueryTree) (events : List (Emitted Solution)) (steps : ℕ) (run : Cut Solution) → RunsTo (query_view []) m program q events →
-    IsRun program q [] steps run → count_ticks events ≤ steps → IsPart program q [] steps run events
+    IsRun program q [] steps run → count_ticks events ≤ steps → IsQueryPart program q steps run events
 prefix-of m program q events steps run runs is few =
     let left : ℕ = steps - count_ticks events in
     let same : steps ≡ count_ticks events + left = omega (arith, few) in
@@ -98,7 +100,7 @@ prefix-of m program q events steps run runs is few =
 -- the run that the query has, of which the events so far are a part
 pub record HasPart (program : List PredTree) (q : QueryTree) (steps : ℕ) (events : List (Emitted Solution)) : Type 0 where
   pub run : Cut Solution
-  pub is_part : IsPart program q [] steps run events
+  pub is_part : IsQueryPart program q steps run events
 
 has-part : {M : Type 0} (m : MachineView M) (program : List PredTree) (q : QueryTree) (events : List (Emitted Solution)) (steps : ℕ) → IsRunnable program q → RunsTo (query_view []) m program q events →
     count_ticks events ≤ steps → HasPart program q steps events
@@ -111,7 +113,7 @@ record IsTail (events : List (Emitted Solution)) (k given total : ℕ) (names : 
   pub so_many : count_ticks events + k ≡ total
   pub ticks : total ≡ count_ticks (events ++ some_ticks k)
   pub answers : count_answers (events ++ some_ticks k) ≡ given
-  pub printed : print names (events ++ some_ticks k) ≡ print names events
+  pub printed : print_solutions names (events ++ some_ticks k) ≡ print_solutions names events
 
 tail-of : {M : Type 0} (m n : MachineView M) (b c : Budget) (given : ℕ) (program : List PredTree) (q : QueryTree) (before between : Option (List ℕ)) →
     (w : IsWritten m b given program q before between) → Called m n b c → IsTail w.events (counted m.mode b c) given c.ticks q.names
@@ -127,7 +129,7 @@ tail-of m n b c given program q before between w called =
     }
 
 part-whole : (program : List PredTree) (q : QueryTree) (steps : ℕ) (events : List (Emitted Solution)) (stop : CutStop) → IsRun program q [] steps (record { events = events; stop = stop }) →
-    IsPart program q [] steps (record { events = events; stop = stop }) events
+    IsQueryPart program q steps (record { events = events; stop = stop }) events
 part-whole program q steps events stop is = record { is_run = is; begins = prefix-all events }
 
 whole-of : (answers given : ℕ) (events : List (Emitted Solution)) (stop : CutStop) → count_answers events ≡ given → given < answers →
@@ -137,15 +139,11 @@ whole-of answers given events stop is less = record { fewer = omega (arith, is, 
 not-inner : (mode : Mode) → mode ≡ Mode.Top → mode ≡ Mode.Inner → ⊥
 not-inner mode top inner = absurd (let same : Mode.Top ≡ Mode.Inner = sym top ∙ inner in cc)
 
-none-left : (mode : Mode) (c : Budget) → mode ≡ Mode.Top → HasNone mode c → c.steps ≤ c.ticks
-none-left Mode.Top c top none = none
-none-left Mode.Inner c top none = absurd (cc)
-
 -- ---- what a query comes to
 
 -- a part with its end, whose line was to be written
 comes-line : (answers steps : ℕ) (program : List PredTree) (q : QueryTree) (events : List (Emitted Solution)) (run : Cut Solution) (ending : QueryEnd) (ticks : ℕ) (before between after : Option (List ℕ))
-    (r : Result ℕ Stop) → IsPart program q [] steps run events → Ends answers events run ending → count_answers events ≤ answers → ticks ≡ count_ticks events → Takes before (print q.names events) between →
+    (r : Result ℕ Stop) → IsQueryPart program q steps run events → Ends answers events run ending → count_answers events ≤ answers → ticks ≡ count_ticks events → Takes before (print_solutions q.names events) between →
     WritesLine between ending after r → ComesTo answers steps program q ticks before after r
 comes-line answers steps program q events run ending ticks before between after (Ok status) part ends few count takes line = record {
   run = run;
@@ -157,28 +155,10 @@ comes-line answers steps program q events run ending ticks before between after 
   its_status = line.its_status;
   written = Takes-then takes line.writes.all;
 }
-comes-line answers steps program q events run ending ticks before between after (Err stop) part ends few count takes line = record {
-  run = run;
-  part = events;
-  is_part = part;
-  few = few;
-  line = line_of ending;
-  is_line = inr (ending, ends, refl);
-  written = front-then takes line.writes.front;
-}
-
--- a part, and the front of what its printing goes on with
-cut-off : (answers steps : ℕ) (program : List PredTree) (q : QueryTree) (events : List (Emitted Solution)) (run : Cut Solution) (before after : Option (List ℕ)) →
-    IsPart program q [] steps run events → count_answers events ≤ answers → TakesFront before (print q.names events) after → IsCutOff answers steps program q [] before after
-cut-off answers steps program q events run before after part few takes = record {
-  run = run;
-  part = events;
-  is_part = part;
-  few = few;
-  line = [];
-  is_line = inl refl;
-  written = rw append-nil takes;
-}
+comes-line answers steps program q events run ending ticks before between after (Err Write) part ends few count takes line =
+    record { run = run; part = events; is_part = part; how = in_line refl count ending ends (front-then takes line.writes.cut) }
+comes-line answers steps program q events run ending ticks before between after (Err Memory) part ends few count takes line =
+    record { run = run; part = events; is_part = part; how = at_memory refl (omega (arith, count)) few (rw append-nil at (Takes-then takes line.writes.cut)) }
 
 -- as many answers were written as are asked for
 pub comes-stopped : {M : Type 0} (m : MachineView M) (b : Budget) (answers steps : ℕ) (program : List PredTree) (q : QueryTree) (before between after : Option (List ℕ)) (r : Result ℕ Stop) →
@@ -189,12 +169,14 @@ comes-stopped m b answers steps program q before between after r runnable some s
     comes-line answers steps program q w.events has.run Stopped b.ticks before between after r has.is_part (w.last some) (omega (arith, w.answers)) w.ticks w.written line
 
 -- the writing of an answer's lines is cut off
-pub comes-cut : {M : Type 0} (m n : MachineView M) (b c : Budget) (answers given steps : ℕ) (program : List PredTree) (q : QueryTree) (a : Answer) (before between after : Option (List ℕ)) →
+pub comes-cut : {M : Type 0} (m n : MachineView M) (b c : Budget) (answers given steps : ℕ) (program : List PredTree) (q : QueryTree) (a : Answer) (before between after : Option (List ℕ)) (stop : Stop) →
     IsRunnable program q → (w : IsWritten m b given program q before between) → Called m n b c → given < answers → c.steps ≡ steps →
-    Happens (query_view []) program q w.events m n b c (Happening.Answer a) → TakesFront between (concat (answer_lines a)) after → IsCutOff answers steps program q [] before after
-comes-cut m n b c answers given steps program q a before between after runnable w called less same happens takes =
+    HappensByTicks (query_view []) program q w.events m n b c (Happening.Answer a) → IsCutIn between (concat (answer_lines a)) after stop →
+    QueryIsCut answers steps program q c.ticks (status_of_stop stop) before after
+comes-cut m n b c answers given steps program q a before between after Write runnable w called less same happens takes =
     let k : ℕ = counted m.mode b c in
     let x : Solution = happens.0 in
+    let earlier : List (Emitted Solution) = w.events ++ some_ticks k in
     let events : List (Emitted Solution) = w.events ++ turn k x in
     let more : b.ticks + k ≡ c.ticks = counted-ticks m.mode b c w.counts_ticks called.counts.ticks in
     let ticks : count_ticks events ≡ count_ticks w.events + k = ticks-turn w.events k x in
@@ -202,31 +184,52 @@ comes-cut m n b c answers given steps program q a before between after runnable 
     let within : IsWithin c = called.within w.within in
     let few : count_ticks events ≤ steps = omega (arith, w.ticks, more, ticks, within.ticks, same) in
     let has : HasPart program q steps events = has-part n program q events steps runnable happens.2 few in
-    cut-off answers steps program q events has.run before after has.is_part (omega (arith, one, w.answers, less))
-    (rw (print-turn q.names w.events k x a happens.1) (front-then w.written takes))
+    let written : Takes before (print_solutions q.names earlier) between = rw (behind-ticks q.names w.events k) w.written in
+    let split : events ≡ earlier ++ answered x ∷ [] = sym (append_assoc w.events (some_ticks k) (answered x ∷ [])) in
+    record {
+      run = has.run;
+      part = events;
+      is_part = has.is_part;
+      how = in_answer refl (omega (arith, w.ticks, more, ticks)) earlier x split (omega (arith, one, w.answers, less))
+          (subst (λ (t : Answer). TakesFront before (print_solutions q.names earlier) (concat (answer_lines t)) after) happens.1 (front-then written takes));
+    }
+comes-cut m n b c answers given steps program q a before between after Memory runnable w called less same happens nothing =
+    let few : count_ticks w.events ≤ steps = omega (arith, w.ticks, w.within.ticks, called.counts.steps, same) in
+    let has : HasPart program q steps w.events = has-part m program q w.events steps runnable w.runs few in
+    record {
+      run = has.run;
+      part = w.events;
+      is_part = has.is_part;
+      how = at_memory refl (omega (arith, w.ticks, called.counts.ticks)) (omega (arith, w.answers, less)) (rw append-nil at (Takes-then w.written nothing));
+    }
 
 -- memory is wanted behind the answers
 comes-nothing : {M : Type 0} (m : MachineView M) (b : Budget) (answers given steps : ℕ) (program : List PredTree) (q : QueryTree) (ticks : ℕ) (before between after : Option (List ℕ)) (r : Result ℕ Stop) →
-    IsRunnable program q → IsWritten m b given program q before between → given < answers → b.steps ≡ steps → WritesNothing between after r → ComesTo answers steps program q ticks before after r
-comes-nothing m b answers given steps program q ticks before between after (Ok status) runnable w less same nothing = absurd nothing.stops
-comes-nothing m b answers given steps program q ticks before between after (Err stop) runnable w less same nothing =
+    IsRunnable program q → IsWritten m b given program q before between → given < answers → b.steps ≡ steps → b.ticks ≤ ticks → WritesNothing between after r → ComesTo answers steps program q ticks before after r
+comes-nothing m b answers given steps program q ticks before between after (Ok status) runnable w less same more nothing = absurd nothing.stops
+comes-nothing m b answers given steps program q ticks before between after (Err Write) runnable w less same more nothing = let memory : Write ≡ Memory = nothing.memory in absurd (cc)
+comes-nothing m b answers given steps program q ticks before between after (Err Memory) runnable w less same more nothing =
     let few : count_ticks w.events ≤ steps = omega (arith, w.ticks, w.within.ticks, same) in
     let has : HasPart program q steps w.events = has-part m program q w.events steps runnable w.runs few in
-    let all : Takes before (print q.names w.events ++ []) after = Takes-then w.written nothing.nothing in
-    cut-off answers steps program q w.events has.run before after has.is_part (omega (arith, w.answers, less)) (front-all (rw append-nil at all))
+    record {
+      run = has.run;
+      part = w.events;
+      is_part = has.is_part;
+      how = at_memory refl (omega (arith, w.ticks, more)) (omega (arith, w.answers, less)) (rw append-nil at (Takes-then w.written nothing.nothing));
+    }
 
 -- a machine's end, behind so many answers
 pub comes-end : {M : Type 0} (m n : MachineView M) (b c : Budget) (answers given steps : ℕ) (program : List PredTree) (q : QueryTree) (happening : Happening) (has : Bool)
     (before between after : Option (List ℕ)) (r : Result ℕ Stop) → IsRunnable program q → (w : IsWritten m b given program q before between) → Called m n b c → given < answers → c.steps ≡ steps →
     (has ≡ true → 0 < given) → (has ≡ false → given ≡ 0) → ((a : Answer) → happening ≡ Happening.Answer a → ⊥) →
-    Happens (query_view []) program q w.events m n b c happening → WritesEnd happening has between after r → ComesTo answers steps program q c.ticks before after r
+    HappensByTicks (query_view []) program q w.events m n b c happening → WritesEnd happening has between after r → ComesTo answers steps program q c.ticks before after r
 comes-end m n b c answers given steps program q (Happening.Answer a) has before between after r runnable w called less same has_some has_none not_answer happens writes = absurd (not_answer a refl)
 comes-end m n b c answers given steps program q (Happening.Out text) has before between after r runnable w called less same has_some has_none not_answer happens writes = absurd happens
 comes-end m n b c answers given steps program q (Happening.NeedPlan call) has before between after r runnable w called less same has_some has_none not_answer happens writes = absurd happens
 comes-end m n b c answers given steps program q Happening.WorkSpent has before between after r runnable w called less same has_some has_none not_answer happens writes =
     absurd (not-inner n.mode (called.mode ∙ w.counts_ticks) happens.2)
 comes-end m n b c answers given steps program q Happening.Memory has before between after r runnable w called less same has_some has_none not_answer happens writes =
-    comes-nothing m b answers given steps program q c.ticks before between after r runnable w less (sym called.counts.steps ∙ same) writes
+    comes-nothing m b answers given steps program q c.ticks before between after r runnable w less (sym called.counts.steps ∙ same) called.counts.ticks writes
 comes-end m n b c answers given steps program q Happening.Done true before between after r runnable w called less same has_some has_none not_answer happens writes =
     let k : ℕ = counted m.mode b c in
     let tail : IsTail w.events k given c.ticks q.names = tail-of m n b c given program q before between w called in
@@ -250,26 +253,11 @@ comes-end m n b c answers given steps program q (Happening.Raised ball) has befo
 comes-end m n b c answers given steps program q Happening.StepsSpent has before between after r runnable w called less same has_some has_none not_answer happens writes =
     let k : ℕ = counted m.mode b c in
     let tail : IsTail w.events k given c.ticks q.names = tail-of m n b c given program q before between w called in
-    let spent : c.steps ≤ c.ticks = none-left m.mode c w.counts_ticks (happens.3 w.running) in
+    let spent : c.steps ≤ c.ticks = happens.3 in
     let ticks : count_ticks w.events + k ≡ steps = omega (arith, tail.so_many, (called.within w.within).ticks, same, spent) in
     comes-line answers steps program q (w.events ++ some_ticks k) _ StepsSpent c.ticks before between after r
     (part-whole program q steps (w.events ++ some_ticks k) Spent (subst (λ s. IsRun program q [] s (record { events = w.events ++ some_ticks k; stop = Spent })) ticks happens.0))
     (whole-of answers given (w.events ++ some_ticks k) Spent tail.answers less) (omega (arith, tail.answers, less)) tail.ticks (rw tail.printed w.written) writes
-
--- before anything is run
-pub cut-before : (answers steps : ℕ) (program : List PredTree) (q : QueryTree) (taken : Option (List ℕ)) → IsRunnable program q → IsCutOff answers steps program q [] taken taken
-unfolding print count_answers
-cut-before answers steps program q taken runnable =
-    let found : (run : Cut Solution) × IsRun program q [] steps run = query-runs (query_view []) program q runnable.sound.preds.ticks steps in
-    record {
-      run = found.0;
-      part = [];
-      is_part = record { is_run = found.1; begins = prefix-none found.0.events };
-      few = omega arith;
-      line = [];
-      is_line = inl refl;
-      written = front-none taken [];
-    }
 
 -- ---- the list of queries
 
@@ -284,12 +272,13 @@ set-last runs listed new a b pushed set =
     let last : length listed - 1 ≡ length runs = omega (arith, many) in
     set ∙ ap (λ n. slice_set listed n b) last ∙ ap (λ (l : List QueryRun). slice_set l (length runs) b) pushed ∙ set-end runs a b
 
+-- a query that was asked is listed last
 pub has-run : (answers steps : ℕ) (program : List PredTree) (q : QueryTree) (old listed new : List QueryRun) (a run : QueryRun) (ticks : ℕ) (before after : Option (List ℕ)) (r : Result ℕ Stop) →
-    listed ≡ old ++ a ∷ [] → new ≡ slice_set listed (length listed - 1) run → run.ticks ≡ ticks → ComesTo answers steps program q ticks before after r →
+    listed ≡ old ++ a ∷ [] → new ≡ slice_set listed (length listed - 1) run → run ≡ run_of ticks → ticks ≤ steps → ComesTo answers steps program q ticks before after r →
     HasRun answers steps program q old new before after r
-has-run answers steps program q old listed new a run ticks before after (Ok status) pushed set same comes = record {
-  run = run;
-  listed = set-last old listed new a run pushed set;
-  headline = subst (λ n. Headline answers steps program q [] n status before after) (sym same) comes;
-}
-has-run answers steps program q old listed new a run ticks before after (Err stop) pushed set same comes = comes
+has-run answers steps program q old listed new a run ticks before after r pushed set is within comes = was_asked (record {
+  ticks = ticks;
+  listed = set-last old listed new a run pushed set ∙ ap (λ (x : QueryRun). old ++ x ∷ []) is;
+  within = within;
+  comes = comes;
+})

@@ -1,14 +1,25 @@
--- Where two texts come to a line, that is what is written; where they ask a goal of a program, it is run.
-use Rattle.std.proofs.Common.{◌≢◌, ℕ, List, Option, sym, subst, ◌∙◌, arith}
+-- Where two texts come to a line, that is what is written; where they ask a goal of a program, it is run. And what they come to is one.
+use Rattle.std.proofs.Common.{◌≡◌, ◌≢◌, ◌<◌, ◌≤◌, ◌+◌, ℕ, suc, List, [], ◌∷◌, ◌++◌, length, length-append, refl, sym, ap, subst, ◌∙◌, arith}
 use Rattle.pi_syntax.specs.ExpTree.{ExpTree}
 use Rattle.pi_syntax.specs.ProgramTree.{ProgramTree}
 use Rattle.pi_answers.specs.declared.log.LogEntry.{LogEntry}
+use Rattle.pi_traces.specs.Trace.{Done, Raise, Emitted, noted, answered, count_ticks}
+use Rattle.pi_traces.specs.Depth.{Cut, Stop, Ended, Spent}
+use Rattle.pi_meaning.specs.View.{query_view}
+use Rattle.pi_meaning.specs.SurfaceRun.{Told, IsSurfaceRun}
+use Rattle.pi_meaning.proofs.SurfaceDepths.{surface-runs-are-one}
 use Rattle.pi_top.specs.declared.outcome.QueryRun.{QueryRun}
 use Rattle.pi_top.specs.declared.words.Options.{Options}
+use Rattle.pi_top.specs.Headline.{Headline}
 use Rattle.pi_top.specs.Judged.{Refused, Asks}
-use Rattle.pi_top.specs.QueryEnd.{QueryEnd, Stopped, NoMore, No, Exception, StepsSpent, status_of}
-use Rattle.pi_top.specs.Statuses.{IsLine, EndsText, refused, ran}
-use Rattle.pi_top.proofs.Judging.{AreOne, one-line, not-both}
+use Rattle.pi_top.specs.Prefix.{IsPrefix}
+use Rattle.pi_top.specs.Printing.{print}
+use Rattle.pi_top.specs.QueryEnd.{QueryEnd, Stopped, NoMore, No, Exception, StepsSpent, line_of, status_of, count_answers, EndsWithLast, IsWhole, Ends}
+use Rattle.pi_top.specs.Runs.{HasRan, run_of}
+use Rattle.pi_top.specs.Statuses.{IsLine, ComesText, refused, ran}
+use Rattle.pi_top.proofs.EndingLemmas.{ending-is-one}
+use Rattle.pi_top.proofs.EventLemmas.{answers-append}
+use Rattle.pi_top.proofs.Judging.{AreOne, one-line, not-both, one-asked}
 
 no-three : (ending : QueryEnd) → status_of ending ≢ 3
 no-three Stopped e = absurd (omega (arith, e))
@@ -17,15 +28,139 @@ no-three No e = absurd (omega (arith, e))
 no-three (Exception ball) e = absurd (omega (arith, e))
 no-three StepsSpent e = absurd (omega (arith, e))
 
-pub refused-written : (o : AreOne) (asked : Options) (text goal line : List ℕ) (queries : List QueryRun) (log : List LogEntry) (status : ℕ) (before after : Option (List ℕ)) → Refused text goal line →
-    EndsText asked text goal queries log status before after → IsLine line 3 status queries before after
-refused-written o asked text goal line queries log status before after is (refused other that written) =
-    subst (λ (l : List ℕ). IsLine l 3 status queries before after) (one-line o text goal other line that is) written
-refused-written o asked text goal line queries log status before after is (ran program q that has) =
-    absurd (not-both o text goal line that.source that.asked is that.asks)
+pub refused-written : (o : AreOne) (asked : Options) (text goal line bytes : List ℕ) (queries : List QueryRun) (log : List LogEntry) (status : ℕ) → Refused text goal line →
+    ComesText asked text goal queries log status bytes → IsLine line 3 status queries bytes
+refused-written o asked text goal line bytes queries log status is (refused other that written) =
+    subst (λ (l : List ℕ). IsLine l 3 status queries bytes) (one-line o text goal other line that is) written
+refused-written o asked text goal line bytes queries log status is (ran program of_program asks has) = absurd (not-both o text goal line program of_program is asks)
 
-pub asked-run : (o : AreOne) (asked : Options) (text goal : List ℕ) (p : ProgramTree) (e : ExpTree) (queries : List QueryRun) (log : List LogEntry) (status : ℕ) (before after : Option (List ℕ)) →
-    Asks text goal p e → EndsText asked text goal queries log status before after → status ≢ 3
-asked-run o asked text goal p e queries log status before after is (refused line that written) three = absurd (not-both o text goal line p e that is)
-asked-run o asked text goal p e queries log status before after is (ran program q that has) three =
-    no-three has.headline.ending (sym has.headline.its_status ∙ three)
+pub asked-run : (o : AreOne) (asked : Options) (text goal bytes : List ℕ) (p : ProgramTree) (e : ExpTree) (queries : List QueryRun) (log : List LogEntry) (status : ℕ) →
+    Asks text goal p e → ComesText asked text goal queries log status bytes → status ≢ 3
+asked-run o asked text goal bytes p e queries log status is (refused line that written) three = absurd (not-both o text goal line p e that is)
+asked-run o asked text goal bytes p e queries log status is (ran program of_program asks has) three = no-three has.headline.ending (sym has.headline.its_status ∙ three)
+
+-- ---- one part of a run
+
+-- an answer counts where it stands
+count-last : (front : List (Emitted Told)) (x : Told) → count_answers (front ++ answered x ∷ []) ≡ suc (count_answers front)
+unfolding count_answers
+count-last front x = let all = answers-append front (answered x ∷ []) in omega (arith, all)
+
+-- two fronts of one list that each end with the same number of answers, at an answer, are one
+behind-nothing : (x : Told) (front rest more : List (Emitted Told)) → count_answers (front ++ answered x ∷ []) ≡ 0 → [] ≡ front ++ answered x ∷ [] → ⊥
+behind-nothing x [] rest more none e = cc
+behind-nothing x (y ∷ front) rest more none e = cc
+
+same-lasts : (n : ℕ) (front other rest more : List (Emitted Told)) (x y : Told) → count_answers (front ++ answered x ∷ []) ≡ n → count_answers (other ++ answered y ∷ []) ≡ n →
+    (front ++ answered x ∷ []) ++ rest ≡ (other ++ answered y ∷ []) ++ more → front ++ answered x ∷ [] ≡ other ++ answered y ∷ []
+unfolding count_answers
+same-lasts n [] [] rest more x y a b e = let same : x ≡ y = cc in ap (λ z. answered z ∷ []) same
+same-lasts n [] (z ∷ other) rest more x y a b e =
+    let head : answered x ≡ z = cc in
+    let counts : count_answers (answered x ∷ (other ++ answered y ∷ [])) ≡ n = rw (← head) at b in
+    let last = count-last other y in
+    absurd (omega (arith, a, counts, last))
+same-lasts n (z ∷ front) [] rest more x y a b e =
+    let head : z ≡ answered y = cc in
+    let counts : count_answers (answered y ∷ (front ++ answered x ∷ [])) ≡ n = rw head at a in
+    let last = count-last front x in
+    absurd (omega (arith, b, counts, last))
+same-lasts n (noted k ∷ front) (z ∷ other) rest more x y a b e =
+    let head : noted k ≡ z = cc in
+    let tail : (front ++ answered x ∷ []) ++ rest ≡ (other ++ answered y ∷ []) ++ more = cc in
+    let counts : count_answers (other ++ answered y ∷ []) ≡ n = rw (← head) at b in
+    rw (← head) (ap (λ l. noted k ∷ l) (same-lasts n front other rest more x y a counts tail))
+same-lasts n (answered k ∷ front) (z ∷ other) rest more x y a b e =
+    let head : answered k ≡ z = cc in
+    let tail : (front ++ answered x ∷ []) ++ rest ≡ (other ++ answered y ∷ []) ++ more = cc in
+    let counts : suc (count_answers (other ++ answered y ∷ [])) ≡ n = rw (← head) at b in
+    let here : count_answers (other ++ answered y ∷ []) ≡ count_answers (front ++ answered x ∷ []) = omega (arith, a, counts) in
+    rw (← head) (ap (λ l. answered k ∷ l) (same-lasts (count_answers (front ++ answered x ∷ [])) front other rest more x y refl here tail))
+
+one-last : (asked : ℕ) (part other all : List (Emitted Told)) → IsPrefix part all → IsPrefix other all → EndsWithLast asked part → EndsWithLast asked other → part ≡ other
+one-last asked part other all a b last lasts =
+    let whole : (last.front ++ answered last.last ∷ []) ++ a.rest ≡ (lasts.front ++ answered lasts.last ∷ []) ++ b.rest =
+    ap (λ l. l ++ a.rest) (sym last.is) ∙ sym a.whole_is ∙ b.whole_is ∙ ap (λ l. l ++ b.rest) lasts.is in
+    last.is
+    ∙ same-lasts asked last.front lasts.front a.rest b.rest last.last lasts.last (ap count_answers (sym last.is) ∙ last.all) (ap count_answers (sym lasts.is) ∙ lasts.all) whole
+    ∙ sym lasts.is
+
+one-whole : (asked : ℕ) (part other : List (Emitted Told)) (run : Cut Told) (a b : Stop) → IsWhole asked part run a → IsWhole asked other run b → part ≡ other
+one-whole asked part other run a b first second = sym first.whole ∙ second.whole
+
+-- a front that has all answers that are asked for doesn't begin a run with fewer
+last-no-whole : {X : Type 0} (asked : ℕ) (part other : List (Emitted Told)) (run : Cut Told) (stop : Stop) → IsPrefix part run.events → EndsWithLast asked part → IsWhole asked other run stop → X
+last-no-whole asked part other run stop begins last whole =
+    let all : count_answers run.events ≡ count_answers part + count_answers begins.rest = ap count_answers begins.whole_is ∙ answers-append part begins.rest in
+    let same : count_answers run.events ≡ count_answers other = ap count_answers whole.whole in
+    absurd (omega (arith, all, same, last.all, whole.fewer))
+
+-- how an end stands to its part: it ends with the last answer, or it is the whole of the run
+data Stands (asked : ℕ) (part : List (Emitted Told)) (run : Cut Told) : Type 0 where
+  with_last : EndsWithLast asked part → Stands asked part run
+  is_whole : (stop : Stop) → IsWhole asked part run stop → Stands asked part run
+
+stands : (asked : ℕ) (part : List (Emitted Told)) (run : Cut Told) (ending : QueryEnd) → Ends asked part run ending → Stands asked part run
+stands asked part run Stopped is = with_last is
+stands asked part run NoMore is = is_whole (Ended Done) is.0
+stands asked part run No is = is_whole (Ended Done) is.0
+stands asked part run (Exception ball) is = is_whole (Ended (Raise ball)) is
+stands asked part run StepsSpent is = is_whole Spent is
+
+one-part : (asked : ℕ) (part other : List (Emitted Told)) (run : Cut Told) → IsPrefix part run.events → IsPrefix other run.events → Stands asked part run → Stands asked other run → part ≡ other
+one-part asked part other run a b (with_last last) (with_last lasts) = one-last asked part other run.events a b last lasts
+one-part asked part other run a b (with_last last) (is_whole stop whole) = last-no-whole asked part other run stop a last whole
+one-part asked part other run a b (is_whole stop whole) (with_last lasts) = last-no-whole asked other part run stop b lasts whole
+one-part asked part other run a b (is_whole stop whole) (is_whole stops wholes) = one-whole asked part other run stop stops whole wholes
+
+-- ---- one outcome
+
+-- what two headlines of one goal have in common
+record AreSame (ticks others status other : ℕ) (bytes more : List ℕ) : Type 0 where
+  pub same_ticks : ticks ≡ others
+  pub same_status : status ≡ other
+  pub same_bytes : bytes ≡ more
+
+one-headline : (answers steps : ℕ) (program : ProgramTree) (goal : ExpTree) (log : List LogEntry) (ticks others status other : ℕ) (bytes more : List ℕ) →
+    Headline answers steps program goal log ticks status bytes → Headline answers steps program goal log others other more → AreSame ticks others status other bytes more
+one-headline answers steps program goal log ticks others status other bytes more a b =
+    let run : a.run ≡ b.run = surface-runs-are-one (query_view log) program goal steps a.run b.run a.is_part.is_run b.is_part.is_run in
+    let begins : IsPrefix b.part a.run.events = rw (← run) at b.is_part.begins in
+    let ends : Ends answers b.part a.run b.ending = rw (← run) at b.ends in
+    let part : a.part ≡ b.part =
+    one-part answers a.part b.part a.run a.is_part.begins begins (stands answers a.part a.run a.ending a.ends) (stands answers b.part a.run b.ending ends) in
+    let ending : a.ending ≡ b.ending = ending-is-one answers a.part a.run a.ending b.ending a.ends (subst (λ p. Ends answers p a.run b.ending) (sym part) ends) in
+    record {
+      same_ticks = a.ticks_in_it ∙ ap count_ticks part ∙ sym b.ticks_in_it;
+      same_status = a.its_status ∙ ap status_of ending ∙ sym b.its_status;
+      same_bytes = a.written ∙ ap (λ p. print p ++ line_of a.ending) part ∙ ap (λ e. print b.part ++ line_of e) ending ∙ sym b.written;
+    }
+
+pub record AreOneOutcome (queries runs : List QueryRun) (status other : ℕ) (bytes more : List ℕ) : Type 0 where
+  pub same_queries : queries ≡ runs
+  pub same_status : status ≡ other
+  pub same_bytes : bytes ≡ more
+
+one-ran : (asked : Options) (log : List LogEntry) (p q : ProgramTree) (e f : ExpTree) (queries runs : List QueryRun) (status other : ℕ) (bytes more : List ℕ) → q ≡ p → f ≡ e →
+    HasRan asked.answers asked.steps p e log queries status bytes → HasRan asked.answers asked.steps q f log runs other more → AreOneOutcome queries runs status other bytes more
+one-ran asked log p q e f queries runs status other bytes more program goal a b =
+    let head : Headline asked.answers asked.steps p e log b.ticks other more = rw (program, goal) at b.headline in
+    let same = one-headline asked.answers asked.steps p e log a.ticks b.ticks status other bytes more a.headline head in
+    record {
+      same_queries = a.listed ∙ ap (λ n. run_of n ∷ []) same.same_ticks ∙ sym b.listed;
+      same_status = same.same_status;
+      same_bytes = same.same_bytes;
+    }
+
+pub one-outcome : (o : AreOne) (asked : Options) (text goal bytes more : List ℕ) (queries runs : List QueryRun) (log : List LogEntry) (status other : ℕ) →
+    ComesText asked text goal queries log status bytes → ComesText asked text goal runs log other more → AreOneOutcome queries runs status other bytes more
+one-outcome o asked text goal bytes more queries runs log status other (refused line is a) (refused lines are b) = record {
+  same_queries = a.none_ran ∙ sym b.none_ran;
+  same_status = a.is_its ∙ sym b.is_its;
+  same_bytes = a.written ∙ one-line o text goal line lines is are ∙ sym b.written;
+}
+one-outcome o asked text goal bytes more queries runs log status other (refused line is a) (ran q f asks b) = absurd (not-both o text goal line q f is asks)
+one-outcome o asked text goal bytes more queries runs log status other (ran p e asks a) (refused line is b) = absurd (not-both o text goal line p e is asks)
+one-outcome o asked text goal bytes more queries runs log status other (ran p e asks a) (ran q f ask b) =
+    let same : (q ≡ p) × (f ≡ e) = one-asked o text goal q p f e ask.faultless asks.faultless in
+    one-ran asked log p q e f queries runs status other bytes more same.0 same.1 a b

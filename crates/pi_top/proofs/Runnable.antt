@@ -8,7 +8,7 @@ use Rattle.pi_syntax.specs.ProgramTree.{ProgramTree}
 use Rattle.pi_machine.specs.Built.{WithoutEvents, AreOfRules, AreCounted, IsRunnable}
 use Rattle.pi_rewrite.specs.Laws.{IsPlain, IsLowered}
 use Rattle.pi_rewrite.specs.Unbuilt.{without_imports}
-use Rattle.pi_top.specs.Headline.{IsAsked}
+use Rattle.pi_top.specs.JudgedCode.{IsAsked}
 
 without-events : (cs : List ClauseTree) → All (λ (c : ClauseTree). c.watches ≡ []) cs → WithoutEvents cs
 unfolding WithoutEvents

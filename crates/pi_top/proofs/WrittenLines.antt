@@ -1,11 +1,10 @@
 -- Lines that are written one after the other.
-use Rattle.std.proofs.Common.{◌≡◌, ◌<◌, ◌≤◌, ℕ, zero, suc, ◌+◌, List, [], ◌∷◌, ◌++◌, length, get_or, take, drop, refl, sym, ap, ◌∙◌, arith, add-one, append_assoc, Option, Ok}
+use Rattle.std.proofs.Common.{◌≡◌, ◌<◌, ◌≤◌, ℕ, zero, suc, ◌+◌, List, [], ◌∷◌, ◌++◌, length, get_or, take, drop, refl, sym, ap, ◌∙◌, arith, add-one, append_assoc, subst, Option}
 use Rattle.std.specs.List.{concat}
 use Rattle.std.proofs.lemmas.List.{append-nil, take-append-drop, take_all}
 use Rattle.pi_outside.specs.Taken.{Takes}
 use Rattle.pi_outside.proofs.Taken.{Takes-then}
 use Rattle.pi_top.specs.Prefix.{TakesFront}
-use Rattle.pi_top.specs.Writing.{Writes}
 use Rattle.pi_top.proofs.Fronts.{front-then, front-longer}
 
 concat-append : (xs ys : List (List ℕ)) → concat (xs ++ ys) ≡ concat xs ++ concat ys
@@ -28,13 +27,11 @@ line-then before between after lines i line less is first second = rw (add-one, 
 
 -- the front of one line more
 pub line-cut : (before between after : Option (List ℕ)) (lines : List (List ℕ)) (i : ℕ) (line : List ℕ) → i < length lines → line ≡ get_or lines i line →
-    Takes before (concat (take i lines)) between → TakesFront between line after → TakesFront before (concat lines) after
+    Takes before (concat (take i lines)) between → TakesFront between [] line after → TakesFront before [] (concat lines) after
 line-cut before between after lines i line less is first second =
-    rw (concat-split lines (suc i), concat-more lines i line less is) (front-longer (concat (drop (suc i) lines)) (front-then first second))
+    let split : concat lines ≡ concat (take i lines) ++ (line ++ concat (drop (suc i) lines)) =
+    concat-split lines (suc i) ∙ ap (λ l. l ++ concat (drop (suc i) lines)) (concat-more lines i line less is) ∙ append_assoc (concat (take i lines)) line (concat (drop (suc i) lines)) in
+    subst (λ l. TakesFront before [] l after) (sym split) (front-longer (concat (take i lines)) (concat (drop (suc i) lines)) (front-then first second))
 
 pub all-lines : (before after : Option (List ℕ)) (lines : List (List ℕ)) (i : ℕ) → length lines ≤ i → Takes before (concat (take i lines)) after → Takes before (concat lines) after
 all-lines before after lines i all takes = rw (take_all i lines all) at takes
-
--- a text that was written, or nothing of it
-pub writes-all : {T : Type 0} (before after : Option (List ℕ)) (text : List ℕ) (x : T) → Takes before text after → Writes {T = T} before text after (Ok x)
-writes-all before after text x takes = record { all = takes; front = tt }

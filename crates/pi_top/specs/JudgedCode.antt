@@ -1,12 +1,24 @@
 -- What the answers on a program's text and a goal's say of them.
 use Rattle.std.specs.Prelude.{ℕ, List}
 use Rattle.std.specs.String.{string_bytes}
-use Rattle.pi_core.specs.CoreTree.{program_tree, query_tree}
+use Rattle.pi_core.specs.CoreTree.{PredTree, QueryTree, program_tree, query_tree}
+use Rattle.pi_syntax.specs.ExpTree.{ExpTree}
 use Rattle.pi_syntax.specs.ProgramTree.{ProgramTree}
+use Rattle.pi_rewrite.specs.Laws.{RunsTheSame, IsLowered}
+use Rattle.pi_rewrite.specs.Unbuilt.{without_imports}
 use Rattle.pi_top.specs.declared.judgement.Judged.{Judged}
 use Rattle.pi_top.specs.declared.judgement.Refusal.{Refusal}
-use Rattle.pi_top.specs.Headline.{IsAsked}
-use Rattle.pi_top.specs.Judged.{IsProgramLine, IsGoalLine, Refused}
+use Rattle.pi_top.specs.Judged.{IsProgramLine, IsGoalLine, Refused, Asks}
+
+-- What is run of a program's text and a goal's: neither has a fault, all of both is built, and a program and a query of the core
+-- language mean over their slots what this program without its `import` parts and this goal do over names. The runs are those of the
+-- goal of the whole program.
+pub record IsAsked (text goal : List ℕ) (program : List PredTree) (q : QueryTree) : Type 0 where
+  pub source : ProgramTree
+  pub asked : ExpTree
+  pub asks : Asks text goal source asked
+  pub lowered : IsLowered (without_imports source) asked program q
+  pub runs : RunsTheSame source asked program q
 
 -- of two texts
 abbrev pub ShowsJudged : List ℕ → List ℕ → Judged → Type 0

@@ -1,10 +1,10 @@
 -- How a query ends: when, with which line and with which status.
-use Rattle.std.specs.Prelude.{◌≡◌, ◌<◌, ℕ, suc, true, List, [], ◌∷◌, ◌++◌}
+use Rattle.std.specs.Prelude.{◌≡◌, ◌<◌, ℕ, suc, List, [], ◌∷◌, ◌++◌, true}
 use lib.Chars.{codes}
 use Rattle.pi_terms.specs.Tree.{Tree}
 use Rattle.pi_traces.specs.Trace.{Done, Raise, Emitted, noted, answered}
 use Rattle.pi_traces.specs.Depth.{Cut, Stop, Ended, Spent}
-use Rattle.pi_meaning.specs.Run.{Solution}
+use Rattle.pi_meaning.specs.SurfaceRun.{Told}
 use Rattle.pi_print.specs.PrintTerm.{text_of}
 
 -- As many answers were written as are asked for; the trace ended, with an answer or without one; it ended in an exception that
@@ -31,26 +31,26 @@ status_of (Exception ball) = 4
 status_of StepsSpent = 5
 
 -- how many answers a part of a run has
-unfoldable pub count_answers : List (Emitted Solution) → ℕ
+unfoldable pub count_answers : {A : Type 0} → List (Emitted A) → ℕ
 count_answers [] = 0
 count_answers (noted n ∷ events) = count_answers events
 count_answers (answered x ∷ events) = suc (count_answers events)
 
 -- a part ends with the last answer that is asked for
-pub record EndsWithLast (asked : ℕ) (part : List (Emitted Solution)) : Type 0 where
-  pub front : List (Emitted Solution)
-  pub last : Solution
+pub record EndsWithLast {A : Type 0} (asked : ℕ) (part : List (Emitted A)) : Type 0 where
+  pub front : List (Emitted A)
+  pub last : A
   pub is : part ≡ front ++ answered last ∷ []
   pub all : count_answers part ≡ asked
 
 -- a part is the whole of a run, with fewer answers than are asked for, and there the run stops so
-pub record IsWhole (asked : ℕ) (part : List (Emitted Solution)) (run : Cut Solution) (stop : Stop) : Type 0 where
+pub record IsWhole {A : Type 0} (asked : ℕ) (part : List (Emitted A)) (run : Cut A) (stop : Stop) : Type 0 where
   pub fewer : count_answers part < asked
   pub whole : run.events ≡ part
   pub stops : run.stop ≡ stop
 
 -- when a query ends so, where a part of its run was written
-abbrev pub Ends : ℕ → List (Emitted Solution) → Cut Solution → QueryEnd → Type 0
+abbrev pub Ends : {A : Type 0} → ℕ → List (Emitted A) → Cut A → QueryEnd → Type 0
 Ends asked part run Stopped = EndsWithLast asked part
 Ends asked part run NoMore = IsWhole asked part run (Ended Done) × (0 < count_answers part)
 Ends asked part run No = IsWhole asked part run (Ended Done) × (count_answers part ≡ 0)
@@ -59,4 +59,4 @@ Ends asked part run StepsSpent = IsWhole asked part run Spent
 
 -- no two of them fit
 abbrev pub EndingIsOne : Type 0
-EndingIsOne = (asked : ℕ) (part : List (Emitted Solution)) (run : Cut Solution) (e f : QueryEnd) → Ends asked part run e → Ends asked part run f → e ≡ f
+EndingIsOne = (asked : ℕ) (part : List (Emitted Told)) (run : Cut Told) (e f : QueryEnd) → Ends asked part run e → Ends asked part run f → e ≡ f

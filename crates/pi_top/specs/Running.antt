@@ -1,11 +1,16 @@
--- A query that is being run: what is written of it so far, and what it comes to.
-use Rattle.std.specs.Prelude.{◌≡◌, ◌<◌, ℕ, List, [], ◌∷◌, ◌++◌, Option, Result, Ok, Err}
+-- A query that is being run: what is written of it so far, and what it comes to. Here it is a query of the core language, whose run is
+-- that of the goal over its names.
+use Rattle.std.specs.Prelude.{◌≡◌, ◌<◌, ◌≤◌, ℕ, List, [], ◌∷◌, ◌++◌, Option, Result, Ok, Err}
+use Rattle.std.specs.List.{concat}
 use Rattle.pi_outside.specs.Taken.{Takes}
 use Rattle.pi_core.specs.CoreTree.{PredTree, QueryTree}
-use Rattle.pi_traces.specs.Trace.{Emitted, count_ticks}
+use Rattle.pi_core.specs.declared.core_program.NameSlot.{NameSlot}
+use Rattle.pi_traces.specs.Trace.{Tick, Load, Out, Emitted, noted, answered, count_ticks}
+use Rattle.pi_traces.specs.Depth.{Cut}
 use Rattle.pi_meaning.specs.View.{query_view}
-use Rattle.pi_meaning.specs.Run.{Solution}
-use Rattle.pi_answers.specs.declared.log.LogEntry.{LogEntry}
+use Rattle.pi_meaning.specs.Run.{Solution, IsRun}
+use Rattle.pi_meaning.specs.Told.{answer_of}
+use Rattle.pi_print.specs.PrintAnswer.{answer_lines}
 use Rattle.pi_machine.specs.declared.happening.Budget.{Budget}
 use Rattle.pi_machine.specs.declared.happening.Mode.{Mode}
 use Rattle.pi_machine.specs.Budget.{IsWithin}
@@ -14,17 +19,62 @@ use Rattle.pi_engine.specs.Runs.{MachineView, RunsTo}
 use Rattle.pi_engine.specs.Turns.{IsRunning}
 use Rattle.pi_top.specs.declared.outcome.QueryRun.{QueryRun}
 use Rattle.pi_top.specs.declared.query.Stop.{Stop}
-use Rattle.pi_top.specs.Headline.{Headline, IsCutOff}
-use Rattle.pi_top.specs.Printing.{print}
-use Rattle.pi_top.specs.QueryEnd.{count_answers, EndsWithLast}
+use Rattle.pi_top.specs.declared.query.Stop.TheVariants.{Memory}
+use Rattle.pi_top.specs.Ends.{status_of_stop}
+use Rattle.pi_top.specs.Prefix.{IsPrefix, TakesFront}
+use Rattle.pi_top.specs.QueryEnd.{QueryEnd, line_of, status_of, count_answers, EndsWithLast, Ends}
+use Rattle.pi_top.specs.Runs.{no_work, run_of}
 
--- a machine is about to run a query, of which an answer at least is asked for, and no Tick is counted
+-- ---- what is printed of a query's run
+
+unfoldable pub print_solutions : List NameSlot → List (Emitted Solution) → List ℕ
+print_solutions names [] = []
+print_solutions names (noted Tick ∷ events) = print_solutions names events
+print_solutions names (noted (Load k) ∷ events) = print_solutions names events
+print_solutions names (noted (Out text) ∷ events) = text ++ print_solutions names events
+print_solutions names (answered x ∷ events) = concat (answer_lines (answer_of names x)) ++ print_solutions names events
+
+-- a part of the run of a query, cut before the Tick that is one more than it may take
+pub record IsQueryPart (program : List PredTree) (q : QueryTree) (steps : ℕ) (run : Cut Solution) (part : List (Emitted Solution)) : Type 0 where
+  pub is_run : IsRun program q [] steps run
+  pub begins : IsPrefix part run.events
+
+-- its end is written
+pub record QueryEnds (answers steps : ℕ) (program : List PredTree) (q : QueryTree) (ticks status : ℕ) (before after : Option (List ℕ)) : Type 0 where
+  pub run : Cut Solution
+  pub part : List (Emitted Solution)
+  pub is_part : IsQueryPart program q steps run part
+  pub ticks_in_it : ticks ≡ count_ticks part
+  pub ending : QueryEnd
+  pub ends : Ends answers part run ending
+  pub its_status : status ≡ status_of ending
+  pub written : Takes before (print_solutions q.names part ++ line_of ending) after
+
+-- it is cut off
+pub data HowQueryIsCut (answers : ℕ) (q : QueryTree) (run : Cut Solution) (part : List (Emitted Solution)) (ticks status : ℕ) (before after : Option (List ℕ)) : Type 0 where
+  in_answer : status ≡ 8 → ticks ≡ count_ticks part → (earlier : List (Emitted Solution)) (x : Solution) → part ≡ earlier ++ answered x ∷ [] → count_answers part ≤ answers →
+      TakesFront before (print_solutions q.names earlier) (concat (answer_lines (answer_of q.names x))) after → HowQueryIsCut answers q run part ticks status before after
+  in_line : status ≡ 8 → ticks ≡ count_ticks part → (ending : QueryEnd) → Ends answers part run ending → TakesFront before (print_solutions q.names part) (line_of ending) after →
+      HowQueryIsCut answers q run part ticks status before after
+  at_memory : status ≡ 9 → count_ticks part ≤ ticks → count_answers part ≤ answers → Takes before (print_solutions q.names part) after →
+      HowQueryIsCut answers q run part ticks status before after
+
+pub record QueryIsCut (answers steps : ℕ) (program : List PredTree) (q : QueryTree) (ticks status : ℕ) (before after : Option (List ℕ)) : Type 0 where
+  pub run : Cut Solution
+  pub part : List (Emitted Solution)
+  pub is_part : IsQueryPart program q steps run part
+  pub how : HowQueryIsCut answers q run part ticks status before after
+
+-- ---- while it runs
+
+-- a machine is about to run a query, of which an answer at least is asked for, and nothing is counted yet
 pub record IsAtStart {M : Type 0} (m : MachineView M) (b : Budget) (answers : ℕ) (program : List PredTree) (q : QueryTree) : Type 0 where
   pub runnable : IsRunnable program q
   pub runs : RunsTo (query_view []) m program q []
   pub counts_ticks : m.mode ≡ Mode.Top
   pub running : IsRunning m.now
   pub unspent : b.ticks ≡ 0
+  pub workless : b.work ≡ no_work
   pub within : IsWithin b
   pub asked : 0 < answers
 
@@ -38,19 +88,21 @@ pub record IsWritten {M : Type 0} (m : MachineView M) (b : Budget) (given : ℕ)
   pub last : 0 < given → EndsWithLast given events
   pub ticks : b.ticks ≡ count_ticks events
   pub within : IsWithin b
-  pub written : Takes before (print q.names events) after
+  pub written : Takes before (print_solutions q.names events) after
 
 -- what it comes to, by what is answered
 abbrev pub ComesTo : ℕ → ℕ → List PredTree → QueryTree → ℕ → Option (List ℕ) → Option (List ℕ) → Result ℕ Stop → Type 0
-ComesTo answers steps program q ticks before after (Ok status) = Headline answers steps program q [] ticks status before after
-ComesTo answers steps program q ticks before after (Err stop) = IsCutOff answers steps program q [] before after
+ComesTo answers steps program q ticks before after (Ok status) = QueryEnds answers steps program q ticks status before after
+ComesTo answers steps program q ticks before after (Err stop) = QueryIsCut answers steps program q ticks (status_of_stop stop) before after
 
--- it is listed behind those that were run before, and comes to this
-pub record HasRan (answers steps : ℕ) (program : List PredTree) (q : QueryTree) (log : List LogEntry) (old new : List QueryRun) (before after : Option (List ℕ)) (status : ℕ) : Type 0 where
-  pub run : QueryRun
-  pub listed : new ≡ old ++ run ∷ []
-  pub headline : Headline answers steps program q log run.ticks status before after
+-- it is listed behind those that were run before, with its Ticks, and comes to this
+pub record IsListed (answers steps : ℕ) (program : List PredTree) (q : QueryTree) (old new : List QueryRun) (before after : Option (List ℕ)) (r : Result ℕ Stop) : Type 0 where
+  pub ticks : ℕ
+  pub listed : new ≡ old ++ run_of ticks ∷ []
+  pub within : ticks ≤ steps
+  pub comes : ComesTo answers steps program q ticks before after r
 
-abbrev pub HasRun : ℕ → ℕ → List PredTree → QueryTree → List QueryRun → List QueryRun → Option (List ℕ) → Option (List ℕ) → Result ℕ Stop → Type 0
-HasRun answers steps program q old new before after (Ok status) = HasRan answers steps program q [] old new before after status
-HasRun answers steps program q old new before after (Err stop) = IsCutOff answers steps program q [] before after
+-- or memory is wanted before it is asked, and nothing is listed or written
+pub data HasRun (answers steps : ℕ) (program : List PredTree) (q : QueryTree) (old new : List QueryRun) (before after : Option (List ℕ)) (r : Result ℕ Stop) : Type 0 where
+  not_asked : r ≡ Err Memory → new ≡ old → Takes before [] after → HasRun answers steps program q old new before after r
+  was_asked : IsListed answers steps program q old new before after r → HasRun answers steps program q old new before after r

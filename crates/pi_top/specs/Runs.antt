@@ -1,6 +1,32 @@
--- The goals that were run.
-use Rattle.std.specs.Prelude.{ℕ, ◌≤◌, List, [], ◌∷◌}
+-- The goals that were run, as they are listed.
+use Rattle.std.specs.Prelude.{◌≡◌, ◌≤◌, ℕ, List, [], ◌∷◌, Option}
+use Rattle.pi_syntax.specs.ExpTree.{ExpTree}
+use Rattle.pi_syntax.specs.ProgramTree.{ProgramTree}
+use Rattle.pi_answers.specs.declared.log.LogEntry.{LogEntry}
+use Rattle.pi_answers.specs.declared.log.Work.{Work}
 use Rattle.pi_top.specs.declared.outcome.QueryRun.{QueryRun}
+use Rattle.pi_top.specs.Headline.{Headline, IsCutOff}
+
+-- there is no planner yet, and no propagator
+abbrev pub no_work : Work
+no_work = record { goals = 0; runs = 0; expansions = 0 }
+
+-- a run of so many Ticks, before which no planner call was done or begun, and in which none was
+abbrev pub run_of : ℕ → QueryRun
+run_of ticks = record { ticks = ticks; work = no_work; known = 0; first = 0 }
+
+-- a goal was run, and it alone is listed; it came to this
+pub record HasRan (answers steps : ℕ) (program : ProgramTree) (goal : ExpTree) (log : List LogEntry) (queries : List QueryRun) (status : ℕ) (bytes : List ℕ) : Type 0 where
+  pub ticks : ℕ
+  pub listed : queries ≡ run_of ticks ∷ []
+  pub headline : Headline answers steps program goal log ticks status bytes
+
+-- a goal was asked, and it alone is listed, with no more Ticks than it may take; its run was cut off
+pub record WasCutOff (answers steps : ℕ) (program : ProgramTree) (goal : ExpTree) (log : List LogEntry) (queries : List QueryRun) (status : ℕ) (before after : Option (List ℕ)) : Type 0 where
+  pub ticks : ℕ
+  pub listed : queries ≡ run_of ticks ∷ []
+  pub within : ticks ≤ steps
+  pub cut : IsCutOff answers steps program goal log ticks status before after
 
 -- each of these runs took no more Ticks than this
 abbrev pub AllWithin : ℕ → List QueryRun → Type 0

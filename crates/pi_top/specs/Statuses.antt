@@ -1,17 +1,18 @@
--- What a run comes to: its status, and what the sink has taken with it, where that is told.
+-- What a run comes to: its status, the goals that were run, and the bytes that it writes.
 use Rattle.std.specs.Prelude.{◌≡◌, ◌≢◌, ◌<◌, ℕ, List, [], Option, None, Some}
 use lib.Chars.{codes}
 use Rattle.pi_outside.specs.Held.{Holding}
 use Rattle.pi_outside.specs.Taken.{Takes}
-use Rattle.pi_core.specs.CoreTree.{PredTree, QueryTree}
+use Rattle.pi_syntax.specs.ExpTree.{ExpTree}
+use Rattle.pi_syntax.specs.ProgramTree.{ProgramTree}
 use Rattle.pi_answers.specs.declared.log.LogEntry.{LogEntry}
 use Rattle.pi_top.specs.declared.outcome.QueryRun.{QueryRun}
 use Rattle.pi_top.specs.declared.run_mode.RunMode.{RunMode}
 use Rattle.pi_top.specs.declared.run_mode.RunMode.TheVariants.{Query}
 use Rattle.pi_top.specs.declared.words.Options.{Options}
-use Rattle.pi_top.specs.Headline.{IsAsked}
-use Rattle.pi_top.specs.Judged.{Refused}
-use Rattle.pi_top.specs.Running.{HasRan}
+use Rattle.pi_top.specs.Faults.{FaultCount, Stands, Rises}
+use Rattle.pi_top.specs.Judged.{Refused, Asks}
+use Rattle.pi_top.specs.Runs.{HasRan}
 use Rattle.pi_top.specs.Texts.{IsRead}
 
 abbrev pub usage_line : List ℕ
@@ -26,36 +27,47 @@ read_fault_line = codes "read fault\n"
 abbrev pub memory_line : List ℕ
 memory_line = codes "want of memory\n"
 
--- this line alone was written, this is its status, and no goal was run
-pub record IsLine (line : List ℕ) (its status : ℕ) (queries : List QueryRun) (before after : Option (List ℕ)) : Type 0 where
+-- this line is all that is written, this is its status, and no goal was run
+pub record IsLine (line : List ℕ) (its status : ℕ) (queries : List QueryRun) (bytes : List ℕ) : Type 0 where
   pub is_its : status ≡ its
   pub none_ran : queries ≡ []
-  pub written : Takes before line after
+  pub written : bytes ≡ line
+
+-- with a program's text and a goal's: the line that says why nothing is run, or the goal was run
+pub data ComesText (asked : Options) (text goal : List ℕ) (queries : List QueryRun) (log : List LogEntry) (status : ℕ) (bytes : List ℕ) : Type 0 where
+  refused : (line : List ℕ) → Refused text goal line → IsLine line 3 status queries bytes → ComesText asked text goal queries log status bytes
+  ran : (program : ProgramTree) (of_program : ExpTree) → Asks text goal program of_program →
+      HasRan asked.answers asked.steps program of_program log queries status bytes → ComesText asked text goal queries log status bytes
+
+-- in the mode `query`: a read of the file failed, or its text was read and none did
+pub data ComesQuery (asked : Options) (held : Option Holding) (files : FaultCount) (queries : List QueryRun) (log : List LogEntry) (status : ℕ) (bytes : List ℕ) : Type 0 where
+  read_fault : Rises files → IsLine read_fault_line 7 status queries bytes → ComesQuery asked held files queries log status bytes
+  was_read : Stands files → (text goal : List ℕ) → IsRead held asked.file text → asked.goal ≡ Some goal → ComesText asked text goal queries log status bytes →
+      ComesQuery asked held files queries log status bytes
+
+-- no file was read, and this line is all that is written
+pub record IsLineUnread (line : List ℕ) (its : ℕ) (files : FaultCount) (queries : List QueryRun) (status : ℕ) (bytes : List ℕ) : Type 0 where
+  pub unread : Stands files
+  pub is : IsLine line its status queries bytes
+
+-- in a mode; only `query` is built
+abbrev pub ComesIn : RunMode → Options → Option Holding → FaultCount → List QueryRun → List LogEntry → ℕ → List ℕ → Type 0
+ComesIn Query asked held files queries log status bytes = ComesQuery asked held files queries log status bytes
+ComesIn other asked held files queries log status bytes = IsLineUnread mode_line 3 files queries status bytes
+
+-- by what the words ask: the usage line exactly where that is nothing
+abbrev pub ComesBy : Option Options → Option Holding → FaultCount → List QueryRun → List LogEntry → ℕ → List ℕ → Type 0
+ComesBy None held files queries log status bytes = IsLineUnread usage_line 2 files queries status bytes
+ComesBy (Some asked) held files queries log status bytes = ComesIn asked.mode asked held files queries log status bytes
+
+-- the sink has taken the bytes of which this holds
+pub record Written (P : List ℕ → Type 0) (before after : Option (List ℕ)) : Type 0 where
+  pub bytes : List ℕ
+  pub comes : P bytes
+  pub taken : Takes before bytes after
 
 -- a goal was run: its end has none of the statuses of what comes before a run
 pub record IsRun (status : ℕ) : Type 0 where
   pub below : status < 7
   pub no_usage : status ≢ 2
   pub no_fault : status ≢ 3
-
--- with a program's text and a goal's: the line that says why nothing is run, or the goal was run
-pub data EndsText (asked : Options) (text goal : List ℕ) (queries : List QueryRun) (log : List LogEntry) (status : ℕ) (before after : Option (List ℕ)) : Type 0 where
-  refused : (line : List ℕ) → Refused text goal line → IsLine line 3 status queries before after → EndsText asked text goal queries log status before after
-  ran : (program : List PredTree) (q : QueryTree) → IsAsked text goal program q → HasRan asked.answers asked.steps program q log [] queries before after status →
-      EndsText asked text goal queries log status before after
-
--- in the mode `query`: the file isn't read, or its text is
-pub data EndsQuery (asked : Options) (held : Option Holding) (queries : List QueryRun) (log : List LogEntry) (status : ℕ) (before after : Option (List ℕ)) : Type 0 where
-  read_fault : IsLine read_fault_line 7 status queries before after → EndsQuery asked held queries log status before after
-  was_read : (text goal : List ℕ) → IsRead held asked.file text → asked.goal ≡ Some goal → EndsText asked text goal queries log status before after →
-      EndsQuery asked held queries log status before after
-
--- in a mode; only `query` is built
-abbrev pub EndsIn : RunMode → Options → Option Holding → List QueryRun → List LogEntry → ℕ → Option (List ℕ) → Option (List ℕ) → Type 0
-EndsIn Query asked held queries log status before after = EndsQuery asked held queries log status before after
-EndsIn other asked held queries log status before after = IsLine mode_line 3 status queries before after
-
--- by what the words ask: the usage line exactly where that is nothing
-abbrev pub EndsBy : Option Options → Option Holding → List QueryRun → List LogEntry → ℕ → Option (List ℕ) → Option (List ℕ) → Type 0
-EndsBy None held queries log status before after = IsLine usage_line 2 status queries before after
-EndsBy (Some asked) held queries log status before after = EndsIn asked.mode asked held queries log status before after

@@ -1,15 +1,21 @@
 -- What the writing of a text did, by what it answered.
-use Rattle.std.specs.Prelude.{◌≡◌, ℕ, Bool, true, false, List, [], Option, Result, IfOk, OnOk, OnErr, ⊤}
+use Rattle.std.specs.Prelude.{◌≡◌, ℕ, Bool, true, false, List, [], Option, Result, IfOk, IfErr, OnOk, ⊤}
 use Rattle.pi_outside.specs.Taken.{Takes}
 use Rattle.pi_machine.specs.declared.happening.Happening.{Happening}
 use Rattle.pi_top.specs.declared.query.Stop.{Stop}
+use Rattle.pi_top.specs.declared.query.Stop.TheVariants.{Write, Memory}
 use Rattle.pi_top.specs.Prefix.{TakesFront}
 use Rattle.pi_top.specs.QueryEnd.{QueryEnd, NoMore, No, Exception, StepsSpent, line_of, status_of}
 
--- the sink has taken all of it, or its front
+-- a write failed, and the front was taken; or memory was wanted, and nothing was
+abbrev pub IsCutIn : Option (List ℕ) → List ℕ → Option (List ℕ) → Stop → Type 0
+IsCutIn before text after Write = TakesFront before [] text after
+IsCutIn before text after Memory = Takes before [] after
+
+-- the sink has taken all of it, or it was cut off
 pub record Writes {T : Type 0} (before : Option (List ℕ)) (text : List ℕ) (after : Option (List ℕ)) (answer : Result T Stop) : Type 0 where
   pub all : OnOk answer (Takes before text after)
-  pub front : OnErr answer (TakesFront before text after)
+  pub cut : IfErr answer (IsCutIn before text after)
 
 -- the line of an end, whose status is answered
 pub record WritesLine (before : Option (List ℕ)) (ending : QueryEnd) (after : Option (List ℕ)) (answer : Result ℕ Stop) : Type 0 where
@@ -19,6 +25,7 @@ pub record WritesLine (before : Option (List ℕ)) (ending : QueryEnd) (after : 
 -- nothing, and the run stops
 pub record WritesNothing (before after : Option (List ℕ)) (answer : Result ℕ Stop) : Type 0 where
   pub stops : OnOk answer ⊥
+  pub memory : IfErr answer (λ stop. stop ≡ Memory)
   pub nothing : Takes before [] after
 
 -- what is written at a machine's end, behind answers or none

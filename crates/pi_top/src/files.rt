@@ -1,5 +1,5 @@
 //! Programs that are read from files.
-ghost use Rattle.std.specs.Prelude.{◌≡◌, IfOk, IfErr};
+ghost use Rattle.std.specs.Prelude.{◌≡◌, IfOk, IfErr, OnOk};
 ghost use Rattle.pi_outside.specs.Faults.{Rose};
 ghost use Rattle.pi_top.specs.Texts.{IsRead};
 ghost use Rattle.pi_top.specs.declared.files.FileStop.TheVariants.{Fault, Memory};
@@ -31,6 +31,8 @@ impl From<AllocError> for FileStop {
 pub fn read_file<F: Files>(alloc: Global, files: &mut F, name: &str) -> Result<Vec<u8>, FileStop>
     ensures read { IfOk result (λ text. IsRead (F.held files.new) name.now text.items) }
     ensures fault { IfErr result (λ e. e ≡ Fault → Rose (F.faults files.old) (F.faults files.new)) }
+    ensures no_fault { OnOk result (F.faults files.new ≡ F.faults files.old) }
+    ensures memory { IfErr result (λ e. e ≡ Memory → F.faults files.new ≡ F.faults files.old) }
 {
     let mut piece = [0u8; PIECE];
     let mut bytes = Vec::new(alloc);

@@ -1,21 +1,21 @@
 //! Laws of the definitions of what picatq answers.
-ghost use Rattle.std.specs.Prelude.{◌≡◌, ◌≢◌, ℕ, List, Option};
+ghost use Rattle.std.specs.Prelude.{◌≡◌, ◌≢◌, ℕ, List, None, true};
 ghost use Rattle.pi_syntax.specs.ExpTree.{ExpTree};
 ghost use Rattle.pi_syntax.specs.ProgramTree.{ProgramTree};
+ghost use Rattle.pi_syntax.specs.Tokens.{Token};
+ghost use Rattle.pi_clauses.specs.GoalVerdict.{HasGoalVerdict, a_goal};
+ghost use Rattle.pi_clauses.specs.Verdict.{HasVerdict, a_program};
+ghost use Rattle.pi_meaning.specs.Small.{IsSmallProgram, IsSmallQuery};
+ghost use Rattle.pi_rewrite.specs.Unbuilt.{unbuilt_part, is_built_body, without_imports};
 ghost use Rattle.pi_answers.specs.declared.log.LogEntry.{LogEntry};
 ghost use Rattle.pi_top.specs.declared.outcome.QueryRun.{QueryRun};
 ghost use Rattle.pi_top.specs.declared.words.Options.{Options};
 ghost use Rattle.pi_top.specs.Judged.{Refused, Asks, AreFaultless};
 ghost use Rattle.pi_top.specs.QueryEnd.{EndingIsOne};
-ghost use Rattle.pi_top.specs.Statuses.{IsLine, EndsText};
+ghost use Rattle.pi_top.specs.Statuses.{IsLine, ComesText};
 
 use pi_lex::one_reading;
 use pi_prog::one_verdict;
-
-/// A query ends in one way: no two endings fit one part of one run.
-pub fn endings_are_one()
-    ensures { EndingIsOne }
-{}
 
 /// Two texts come to one thing: to one line that says why nothing is run, or to one goal that is asked of one program, and never to both.
 pub fn judgements_are_one()
@@ -28,13 +28,30 @@ pub fn judgements_are_one()
     one_verdict();
 }
 
-/// In the mode `query` 3 comes exactly where the texts come to a line, and this line is then all that is written.
-pub fn refusals_are_exact()
-    ensures refused { (asked : Options) (text goal line : List ℕ) (queries : List QueryRun) (log : List LogEntry) (status : ℕ) (before after : Option (List ℕ))
-        → Refused text goal line → EndsText asked text goal queries log status before after → IsLine line 3 status queries before after }
-    ensures run { (asked : Options) (text goal : List ℕ) (program : ProgramTree) (of_program : ExpTree) (queries : List QueryRun) (log : List LogEntry) (status : ℕ) (before after : Option (List ℕ))
-        → Asks text goal program of_program → EndsText asked text goal queries log status before after → status ≢ 3 }
+/// No two endings fit one part of one run. In the mode `query` 3 comes exactly where the texts come to a line, and this line is then
+/// all that is written. And where neither a read nor a write fails and memory isn't wanted, the two texts, the options and the log
+/// decide the status, the goals that were run with their Ticks, and the bytes.
+pub fn outcomes_are_one()
+    ensures endings { EndingIsOne }
+    ensures refused { (asked : Options) (text goal line bytes : List ℕ) (queries : List QueryRun) (log : List LogEntry) (status : ℕ)
+        → Refused text goal line → ComesText asked text goal queries log status bytes → IsLine line 3 status queries bytes }
+    ensures run { (asked : Options) (text goal bytes : List ℕ) (program : ProgramTree) (of_program : ExpTree) (queries : List QueryRun) (log : List LogEntry) (status : ℕ)
+        → Asks text goal program of_program → ComesText asked text goal queries log status bytes → status ≢ 3 }
+    ensures status { (asked : Options) (text goal bytes others : List ℕ) (queries runs : List QueryRun) (log : List LogEntry) (status other : ℕ)
+        → ComesText asked text goal queries log status bytes → ComesText asked text goal runs log other others → status ≡ other }
+    ensures queries { (asked : Options) (text goal bytes others : List ℕ) (queries runs : List QueryRun) (log : List LogEntry) (status other : ℕ)
+        → ComesText asked text goal queries log status bytes → ComesText asked text goal runs log other others → queries ≡ runs }
+    ensures bytes { (asked : Options) (text goal bytes others : List ℕ) (queries runs : List QueryRun) (log : List LogEntry) (status other : ℕ)
+        → ComesText asked text goal queries log status bytes → ComesText asked text goal runs log other others → bytes ≡ others }
 {
     one_reading();
     one_verdict();
 }
+
+/// What tokens without a fault write, and what is built of it, is of the small language without its `import` parts: so that what
+/// lowering says of it holds.
+pub fn what_is_built_is_small()
+    ensures program { (tokens : List Token) (program : ProgramTree) → HasVerdict tokens (a_program program) → unbuilt_part program ≡ None → IsSmallProgram (without_imports program) }
+    ensures goal { (tokens : List Token) (program : ProgramTree) (goal : ExpTree) → HasGoalVerdict tokens program (a_goal goal) → unbuilt_part program ≡ None
+        → is_built_body goal ≡ true → IsSmallQuery (without_imports program) goal }
+{}

@@ -1,11 +1,12 @@
 //! Queries: a goal is asked, and its answers and its end are written.
-ghost use Rattle.std.specs.Prelude.{◌≡◌, ◌<◌, List, IfOk};
+ghost use Rattle.std.specs.Prelude.{◌≡◌, ◌<◌, List, IfOk, IfErr};
 ghost use Rattle.std.specs.String.{string_bytes};
 ghost use Rattle.std.specs.List.{concat};
 ghost use Rattle.pi_core.specs.CoreTree.{PredTree, QueryTree, program_tree, query_tree};
 ghost use Rattle.pi_print.specs.PrintAnswer.{answer_lines};
 ghost use Rattle.pi_states.specs.State.{empty_state};
 ghost use Rattle.pi_machine.specs.Budget.{IsWithin};
+ghost use Rattle.pi_machine.specs.declared.happening.Mode.{Mode};
 ghost use Rattle.pi_machine.specs.Built.{IsRunnable};
 ghost use Rattle.pi_engine.specs.Runs.{machine_view};
 ghost use Rattle.pi_top.specs.declared.query.Stop.TheVariants.{Memory, Write};
@@ -114,6 +115,7 @@ fn write_answers<S: StateStore, O: Sink>(
     ensures status { IfOk result IsRun }
     ensures within { IsWithin budget.old → IsWithin budget.new }
     ensures steps { budget.new.steps ≡ budget.old.steps }
+    ensures work { (machine_view S.seen S.order machine.old).mode ≡ Mode.Top → budget.new.work ≡ budget.old.work }
     ensures comes { (program : List PredTree) (q : QueryTree) → IsAtStart (machine_view S.seen S.order machine.old) budget.old answers program q → ComesTo answers budget.old.steps program q budget.new.ticks (O.taken out.old) (O.taken out.new) result }
 {
     for given in 0..answers {
@@ -172,6 +174,7 @@ fn write_end<O: Sink>(
 pub fn ended<O: Sink>(out: &mut O, line: &str, status: u8) -> Result<u8, Stop>
     ensures writes { TellsWrites (O.faults out.old) (O.faults out.new) result }
     ensures status { IfOk result (λ given. given ≡ status) }
+    ensures stops { IfErr result (λ stop. stop ≡ Write) }
     ensures told { Writes (O.taken out.old) line.now (O.taken out.new) result }
 {
     write_text(out, line)?;

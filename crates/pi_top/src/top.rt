@@ -1,10 +1,10 @@
 //! The top call.
-ghost use Rattle.std.specs.Prelude.{◌≡◌, ◌<◌, ◌≤◌, [], map, IfOk, Some};
+ghost use Rattle.std.specs.Prelude.{◌≡◌, ◌≢◌, ◌<◌, ◌≤◌, [], map, IfOk, IfErr, Some};
 ghost use Rattle.std.specs.String.{string_bytes};
 ghost use Rattle.pi_outside.specs.Faults.{NeverFalls, Rose};
 ghost use Rattle.pi_top.specs.Completeness.{NothingFails, Completes};
-ghost use Rattle.pi_top.specs.Ends.{Ends, AnswersText, AnswersQuery, AnswersBy, GivesStatus};
-ghost use Rattle.pi_top.specs.Faults.{TellsWrites};
+ghost use Rattle.pi_top.specs.Ends.{Ends, ReadsNoFile, AnswersText, AnswersQuery, AnswersBy, GivesStatus};
+ghost use Rattle.pi_top.specs.Faults.{counted, TellsWrites};
 ghost use Rattle.pi_top.specs.Runs.{AllWithin};
 ghost use Rattle.pi_top.specs.Texts.{IsRead};
 ghost use Rattle.pi_top.specs.Words.{options};
@@ -30,11 +30,17 @@ pub fn picatq<F: Files, I: Source, O: Sink>(
     out: &mut O,
 ) -> Outcome
     ensures statuses { result.status ≤ 9 }
+    ensures ends { Ends (map string_bytes words.now) (F.held files.new) result.queries result.log result.status (counted (F.faults files.old) (F.faults files.new)) (counted (O.faults out.old) (O.faults out.new)) (O.taken out.old) (O.taken out.new) }
+    ensures complete { (asked : Options) → NothingFails (map string_bytes words.now) asked result.status (counted (F.faults files.old) (F.faults files.new)) (counted (O.faults out.old) (O.faults out.new)) → Completes asked (F.held files.new) result.queries result.log result.status (O.taken out.old) (O.taken out.new) }
     ensures read_fault { result.status ≡ 7 → Rose (F.faults files.old) (F.faults files.new) }
+    ensures reads_well { result.status ≢ 7 → result.status ≢ 8 → F.faults files.new ≡ F.faults files.old }
     ensures write_fault { result.status ≡ 8 → Rose (O.faults out.old) (O.faults out.new) }
+    ensures writes_well { result.status ≢ 8 → result.status ≢ 9 → O.faults out.new ≡ O.faults out.old }
     ensures never_falls { NeverFalls (O.faults out.old) (O.faults out.new) }
-    ensures ends { Ends (map string_bytes words.now) (F.held files.new) result.queries result.log result.status (O.taken out.old) (O.taken out.new) }
-    ensures complete { (asked : Options) → NothingFails (map string_bytes words.now) asked result.status (F.faults files.old) (F.faults files.new) (O.faults out.old) (O.faults out.new) → Completes asked (F.held files.new) result.queries result.log result.status (O.taken out.old) (O.taken out.new) }
+    ensures unread { ReadsNoFile (options (map string_bytes words.now)) → files.new ≡ files.old }
+    ensures no_input { input.new ≡ input.old }
+    ensures no_log { result.log ≡ [] }
+    ensures none_entered { result.entered ≡ [] }
     ensures ran { (asked : Options) → options (map string_bytes words.now) ≡ Some asked → AllWithin asked.steps result.queries }
 {
     let _ = &*input;
@@ -53,7 +59,7 @@ pub fn picatq<F: Files, I: Source, O: Sink>(
 
 /// The status of what was answered. Where memory is wanted, a line says so, if it can be written.
 fn status_of<O: Sink>(answer: Result<u8, Stop>, out: &mut O) -> u8
-    ensures gives { GivesStatus answer result (O.taken out.old) (O.taken out.new) }
+    ensures gives { GivesStatus answer result (counted (O.faults out.old) (O.faults out.new)) (O.taken out.old) (O.taken out.new) }
     ensures never_falls { NeverFalls (O.faults out.old) (O.faults out.new) }
 {
     match answer {
@@ -76,7 +82,8 @@ fn answered<F: Files, O: Sink>(
     ensures writes { TellsWrites (O.faults out.old) (O.faults out.new) result }
     ensures reads { IfOk result (λ status. status ≡ 7 → Rose (F.faults files.old) (F.faults files.new)) }
     ensures status { IfOk result (λ status. status < 8) }
-    ensures answers { queries.old ≡ [] → AnswersBy (options (map string_bytes words.now)) (F.held files.new) queries.new [] (O.taken out.old) (O.taken out.new) result }
+    ensures unread { ReadsNoFile (options (map string_bytes words.now)) → files.new ≡ files.old }
+    ensures answers { queries.old ≡ [] → AnswersBy (options (map string_bytes words.now)) (F.held files.new) (counted (F.faults files.old) (F.faults files.new)) queries.new [] (O.taken out.old) (O.taken out.new) result }
     ensures ran { (asked : Options) → options (map string_bytes words.now) ≡ Some asked → AllWithin asked.steps queries.old → AllWithin asked.steps queries.new }
 {
     let asked = match read_words(alloc, words) {
@@ -103,7 +110,7 @@ fn asked_of_file<F: Files, O: Sink>(
     ensures writes { TellsWrites (O.faults out.old) (O.faults out.new) result }
     ensures reads { IfOk result (λ status. status ≡ 7 → Rose (F.faults files.old) (F.faults files.new)) }
     ensures status { IfOk result (λ status. status < 8) }
-    ensures answers { 0 < asked.now.answers → asked.now.goal ≡ Some goal.now → queries.old ≡ [] → AnswersQuery asked.now (F.held files.new) queries.new [] (O.taken out.old) (O.taken out.new) result }
+    ensures answers { 0 < asked.now.answers → asked.now.goal ≡ Some goal.now → queries.old ≡ [] → AnswersQuery asked.now (F.held files.new) (counted (F.faults files.old) (F.faults files.new)) queries.new [] (O.taken out.old) (O.taken out.new) result }
     ensures ran { AllWithin asked.now.steps queries.old → AllWithin asked.now.steps queries.new }
 {
     let text = match read_file(alloc, files, asked.file.as_str()) {

@@ -70,6 +70,8 @@ constraint_is names s h a (Constraint.Absolute z x) v = either names s (HoldsVar
 constraint_is names s h a (Constraint.Different items) v = items_are names s h a items v
 constraint_is names s h a (Constraint.Element index items value) v = either names s (HoldsVariable index) (λ n. HoldVariable items n ⊎ HoldsVariable value n) (item_leads s index v) (cond (items_lead s items v) true (item_leads s value v)) v
     (item_is names s h a index v) (either names s (HoldVariable items) (HoldsVariable value) (items_lead s items v) (item_leads s value v) v (items_are names s h a items v) (item_is names s h a value v))
+constraint_is names s h a (Constraint.Reified truth rel terms constant) v = either names s (HoldsVariable truth) (SumHasVariable terms) (item_leads s truth v) (sum_leads s terms v) v (item_is names s h a truth v) (sum_is names s h a terms v)
+constraint_is names s h a (Constraint.Distinct items) v = items_are names s h a items v
 
 posted_by : (names : Names) (s : TreeState) (h : IsSoundState names s) (a : IsAcyclic (bound_in names s)) (v i : ℕ) (o : Option Constraint) → slice_get s.constraints i ≡ o → posted_of s v o ≡ true → IsPostedOn (state_of (trees_of names s) s) v i
 posted_by names s h a v i None e f = absurd (cc)

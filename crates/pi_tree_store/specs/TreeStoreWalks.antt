@@ -183,6 +183,8 @@ constraint_leads s (Constraint.Product z x y) v = cond (item_leads s z v) true (
 constraint_leads s (Constraint.Absolute z x) v = cond (item_leads s z v) true (item_leads s x v)
 constraint_leads s (Constraint.Different items) v = items_lead s items v
 constraint_leads s (Constraint.Element index items value) v = cond (item_leads s index v) true (cond (items_lead s items v) true (item_leads s value v))
+constraint_leads s (Constraint.Reified truth rel terms constant) v = cond (item_leads s truth v) true (sum_leads s terms v)
+constraint_leads s (Constraint.Distinct items) v = items_lead s items v
 
 -- a variable stands in the constraint with a number
 abbrev pub posted_of : TreeState → ℕ → Option Constraint → Bool

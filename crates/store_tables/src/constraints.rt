@@ -1,5 +1,5 @@
-//! Constraints in words: `absolute Z X`, `product Z X Y`, `different ITEM ..`, `element INDEX VALUE ITEM ..`, and
-//! `sum = CONSTANT COEFFICIENT VARIABLE ..` with `=`, `#` or `<`. An item is an integer or `_7`.
+//! Constraints in words: `absolute Z X`, `product Z X Y`, `different ITEM ..`, `distinct ITEM ..`, `element INDEX VALUE ITEM ..`,
+//! `sum = CONSTANT COEFFICIENT VARIABLE ..` with `=`, `#` or `<`, and `truth ITEM = ..` as a sum. An item is an integer or `_7`.
 
 use pi_cases::fault::Problem;
 use pi_cases::nodes::{Node, node_of};
@@ -20,6 +20,7 @@ pub fn taken_constraint(alloc: Global, words: &mut Words<'_>) -> Result<Constrai
             y: taken_item(words)?,
         }),
         "different" => Ok(Constraint::Different(taken_items(alloc, words)?)),
+        "distinct" => Ok(Constraint::Distinct(taken_items(alloc, words)?)),
         "element" => {
             let index = taken_item(words)?;
             let value = taken_item(words)?;
@@ -30,19 +31,43 @@ pub fn taken_constraint(alloc: Global, words: &mut Words<'_>) -> Result<Constrai
                 value,
             })
         }
-        "sum" => taken_sum(alloc, words),
+        "sum" => {
+            let rel = taken_rel(words)?;
+            let constant = words.integer()?;
+            let terms = taken_terms(alloc, words)?;
+            Ok(Constraint::Linear {
+                rel,
+                terms,
+                constant,
+            })
+        }
+        "truth" => {
+            let truth = taken_item(words)?;
+            let rel = taken_rel(words)?;
+            let constant = words.integer()?;
+            let terms = taken_terms(alloc, words)?;
+            Ok(Constraint::Reified {
+                truth,
+                rel,
+                terms,
+                constant,
+            })
+        }
         _ => Err(Problem::Case("a kind of constraint")),
     }
 }
 
-fn taken_sum(alloc: Global, words: &mut Words<'_>) -> Result<Constraint, Problem> {
-    let rel = match words.word()? {
-        "=" => Rel::Equal,
-        "#" => Rel::Unequal,
-        "<" => Rel::AtMost,
-        _ => return Err(Problem::Case("how a sum stands to 0")),
-    };
-    let constant = words.integer()?;
+fn taken_rel(words: &mut Words<'_>) -> Result<Rel, Problem> {
+    match words.word()? {
+        "=" => Ok(Rel::Equal),
+        "#" => Ok(Rel::Unequal),
+        "<" => Ok(Rel::AtMost),
+        _ => Err(Problem::Case("how a sum stands to 0")),
+    }
+}
+
+/// Takes the terms of a sum: each a coefficient and a variable.
+fn taken_terms(alloc: Global, words: &mut Words<'_>) -> Result<LinTerms, Problem> {
     let mut terms = LinTerms::new(alloc);
     for _ in 0..words.left() {
         if let Some(word) = words.next() {
@@ -53,11 +78,7 @@ fn taken_sum(alloc: Global, words: &mut Words<'_>) -> Result<Constraint, Problem
             terms.push((coefficient, variable))?;
         }
     }
-    Ok(Constraint::Linear {
-        rel,
-        terms,
-        constant,
-    })
+    Ok(terms)
 }
 
 fn taken_item(words: &mut Words<'_>) -> Result<Item, Problem> {
@@ -89,9 +110,7 @@ pub fn push_constraint(constraint: &Constraint, out: &mut String) -> Result<(), 
             constant,
         } => {
             write!(out, "sum {} {constant}", sign(*rel))?;
-            for (coefficient, variable) in terms.as_slice() {
-                write!(out, " {coefficient} _{variable}")?;
-            }
+            push_terms(terms, out)?;
         }
         Constraint::Product { z, x, y } => {
             out.push_str("product")?;
@@ -114,6 +133,28 @@ pub fn push_constraint(constraint: &Constraint, out: &mut String) -> Result<(), 
             push_items(&[*index, *value], out)?;
             push_items(items.as_slice(), out)?;
         }
+        Constraint::Reified {
+            truth,
+            rel,
+            terms,
+            constant,
+        } => {
+            out.push_str("truth")?;
+            push_items(&[*truth], out)?;
+            write!(out, " {} {constant}", sign(*rel))?;
+            push_terms(terms, out)?;
+        }
+        Constraint::Distinct(items) => {
+            out.push_str("distinct")?;
+            push_items(items.as_slice(), out)?;
+        }
+    }
+    Ok(())
+}
+
+fn push_terms(terms: &LinTerms, out: &mut String) -> Result<(), Problem> {
+    for (coefficient, variable) in terms.as_slice() {
+        write!(out, " {coefficient} _{variable}")?;
     }
     Ok(())
 }

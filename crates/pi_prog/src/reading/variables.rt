@@ -3,8 +3,8 @@ ghost use Rattle.std.specs.Prelude.{◌≡◌, ◌≤◌, List, ℕ, length, IfO
 ghost use Rattle.pi_lex.specs.Kinds.{kinds, token_shown};
 ghost use Rattle.pi_expr.specs.Faults.{stretch};
 ghost use Rattle.pi_prog.specs.Pieces.{HoldsNames, named_before};
-ghost use Rattle.pi_prog.specs.Reading as reading;
-ghost use Rattle.pi_prog.specs.Verdict as verdict;
+ghost use Rattle.pi_clauses.specs.Reading as reading;
+ghost use Rattle.pi_clauses.specs.Verdict as verdict;
 
 use crate::MAX_NAMES;
 use pi_lex::{TokenKind, Tokens};

@@ -86,6 +86,10 @@ impl TreeState {
                     || self.items_lead_to(items, v)
                     || self.item_leads_to(*value, v)
             }
+            Constraint::Reified { truth, terms, .. } => {
+                self.item_leads_to(*truth, v) || self.sum_leads_to(terms, v)
+            }
+            Constraint::Distinct(items) => self.items_lead_to(items, v),
         }
     }
 

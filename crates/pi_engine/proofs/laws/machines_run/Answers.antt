@@ -1,8 +1,14 @@
-use Rattle.pi_engine.proofs.RunsTold.{count-added, runs-begin}
+use Rattle.pi_engine.proofs.RunsTold.{count-added, done-ends, raised-ends, runs-begin}
 use Rattle.pi_engine.proofs.laws.machines_run.Goals as goal
 
 pub returns-clause-begin : goal.returns-clause-begin
 returns-clause-begin g c = runs-begin
+
+pub returns-clause-done : goal.returns-clause-done
+returns-clause-done g c = done-ends
+
+pub returns-clause-raised : goal.returns-clause-raised
+returns-clause-raised g c = raised-ends
 
 pub returns-clause-ticks : goal.returns-clause-ticks
 returns-clause-ticks g c = count-added

@@ -3,14 +3,14 @@ use Rattle.pi_arenas.specs.Arenas.{view_of}
 use Rattle.pi_stands.specs.Stands.{world}
 use Rattle.pi_machine.proofs.BudgetLemmas.{counts_none, counts_then}
 use Rattle.pi_engine.specs.Turns.{StepIs, RunsAfter}
-use Rattle.pi_engine.proofs.NextTurns.{running-of, no-turns, one-turn, end-comes, answer-comes}
+use Rattle.pi_engine.proofs.NextTurns.{running-of, built-ended, no-turns, one-turn, end-comes, answer-comes}
 use Rattle.pi_engine.proofs.turns.next_happening.Goals as goal
 
 pub loop-turn-init : goal.loop-turn-init
 loop-turn-init g c =
     let run = c.args.run.now in
     record {
-      counts = counts_none c.args.budget.now;
+      counts = counts_none c.args.mode c.args.budget.now;
       turns = λ l is_code are v d is. no-turns v c.args.names.now c.args.mode c.args.budget.now (world l (g.S.StateStore.seen run.store) g.S.StateStore.order (view_of run.arenas)) run.now d is;
       still = λ e ended. (refl, refl, refl);
     }
@@ -22,7 +22,7 @@ loop-turn-preserved g c =
     let next = c.step.new.run in
     let before = c.loop-turn.invariant in
     record {
-      counts = counts_then c.args.budget.now c.loop-turn.budget c.step.new.budget before.counts c.step.ensures.counts;
+      counts = counts_then c.args.mode c.args.budget.now c.loop-turn.budget c.step.new.budget before.counts c.step.ensures.counts;
       turns = λ l is_code are v d is.
           (let it = before.turns l is_code are v d is in
           one-turn v c.args.names.now c.args.mode c.args.budget.now c.loop-turn.budget c.step.new.budget
@@ -40,6 +40,9 @@ returns-in-Ended-clause-comes g c = λ l is_code are v d is.
     end-comes v c.args.names.now c.args.mode c.args.budget.now c.loop-turn.budget (world l (g.S.StateStore.seen here.store) g.S.StateStore.order (view_of here.arenas)) first.now here.now c.in-Ended.end c.in-Ok.happening d
     c.in-Ended.is c.in-Ok.ensures.ok (c.loop-turn.invariant.turns l is_code are v d is)
 
+pub returns-in-Ended-clause-built : goal.returns-in-Ended-clause-built
+returns-in-Ended-clause-built g c = built-ended c.in-Ended.end c.in-Ok.happening c.in-Ok.ensures.ok
+
 pub returns-in-Answered : goal.returns-in-Answered
 returns-in-Answered g c =
     let first = c.args.run.now in
@@ -47,7 +50,7 @@ returns-in-Answered g c =
     let next = c.step.new.run in
     let before = c.loop-turn.invariant in
     record {
-      counts = counts_then c.args.budget.now c.loop-turn.budget c.step.new.budget before.counts c.step.ensures.counts;
+      counts = counts_then c.args.mode c.args.budget.now c.loop-turn.budget c.step.new.budget before.counts c.step.ensures.counts;
       comes = λ l is_code are v d is.
           (let it = before.turns l is_code are v d is in
           answer-comes v c.args.names.now c.args.mode c.args.budget.now c.loop-turn.budget c.step.new.budget
@@ -56,5 +59,6 @@ returns-in-Answered g c =
           (λ at. subst (StepIs v c.args.names.now c.args.mode c.loop-turn.budget c.step.new.budget (world l (g.S.StateStore.seen next.store) g.S.StateStore.order (view_of next.arenas)) next.now it.goes.comes) c.in-Answered.is
           (c.in-Ok-step.ensures.is (running-of here.now c.in_default.not-Ended) l is_code are v it.goes.comes at)));
       repeats = λ e ended. absurd (c.in_default.not-Ended e (ap (λ r. r.now) (before.still e ended).0 ∙ ended));
+      built = tt;
       lasts = subst (λ o. RunsAfter o next.now) c.in-Answered.is c.in-Ok-step.ensures.answered;
     }

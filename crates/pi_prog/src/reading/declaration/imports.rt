@@ -3,7 +3,7 @@ ghost use Rattle.std.specs.Prelude.{◌≡◌, ◌≤◌, length, IfOk, MatchOpt
 ghost use Rattle.pi_lex.specs.Kinds.{kinds, token_shown};
 ghost use Rattle.pi_syntax.specs.Tokens.{is_one_of};
 ghost use Rattle.pi_expr.specs.Faults.{stretch};
-ghost use Rattle.pi_prog.specs.Declaration as declaration;
+ghost use Rattle.pi_clauses.specs.Declaration as declaration;
 ghost use Rattle.pi_prog.specs.Pieces.{library_of};
 
 use crate::reading::stretch::is_sign;

@@ -29,4 +29,4 @@ returns-in-Err-NotBuilt-lower_goal c = λ text of_goal faultless.
 pub returns-in-Ok-lower_goal : goal.returns-in-Ok-lower_goal
 returns-in-Ok-lower_goal c = λ text of_goal faultless.
     is-asked text of_goal (source_tree c.args.program.now) (goal_source c.args.goal.now) (program_tree c.in-Ok.core) (query_tree c.in-Ok-lower_goal.query) faultless
-    c.in-Ok.ensures.unbuilt c.in-Ok-lower_goal.ensures.unbuilt c.in-Ok.ensures.is c.in-Ok-lower_goal.ensures.lowered
+    c.in-Ok.ensures.unbuilt c.in-Ok-lower_goal.ensures.unbuilt c.in-Ok.ensures.lowered c.in-Ok-lower_goal.ensures.lowered

@@ -20,4 +20,4 @@ loop-at-preserved g c = record {
 pub returns-in_err-at-clause-cut_off : goal.returns-in_err-at-clause-cut_off
 returns-in_err-at-clause-cut_off g c =
     at_err c.from_residual.result
-    (rw (← c.as_bytes-bytes.ensures.value) (front-take c.loop-at.at c.as_bytes-bytes.result.now c.loop-at.invariant.takes c.in_err-at.ensures.takes_nothing))
+    (rw (← c.as_bytes-bytes.ensures.value) (front-take c.loop-at.at c.as_bytes-bytes.result.now (grind (arith, common_steps)) c.loop-at.invariant.takes c.in_err-at.ensures.takes_nothing))

@@ -11,6 +11,8 @@ pub loop-given-init : goal.loop-given-init
 loop-given-init g c = record {
   steps = refl;
   within = λ h. h;
+  work = λ top. refl;
+  mode = refl;
   no_fault = refl;
   so_far = λ program q is. written-start (machine_view g.S.StateStore.seen g.S.StateStore.order c.args.machine.now) c.args.budget.now c.args.answers program q (g.O.Sink.taken c.args.out.now) is;
 }
@@ -25,10 +27,11 @@ returns-in_err-write_answer-in-Answer-clause-comes g c =
     let p = err_from_is_err_and c.from_residual.result c.from_residual.ensures.1 in
     λ program q is.
     let w = l.invariant.so_far program q is in
-    rw p.1
+    let same : p.0 ≡ c.in_err-write_answer-in-Answer.field-0.0 = p.2 in
+    rw (p.1, same)
     (comes-cut m n l.budget c.next.new.budget c.args.answers l.given c.args.budget.now.steps program q c.in-Answer.answer (g.O.Sink.taken c.args.out.now) (g.O.Sink.taken l.out)
-    (g.O.Sink.taken c.write_answer.new.out) is.runnable w called c.loop-given-test.true (next.counts.steps ∙ l.invariant.steps) (next.steps (query_view []) program q w.events w.runs)
-    c.in_err-write_answer-in-Answer.ensures.told.front)
+    (g.O.Sink.taken c.write_answer.new.out) c.in_err-write_answer-in-Answer.field-0.0 is.runnable w called c.loop-given-test.true (next.counts.steps ∙ l.invariant.steps)
+    (next.ticks w.running (query_view []) program q w.events w.runs) c.in_err-write_answer-in-Answer.ensures.told.cut)
 
 pub returns-in_default : goal.returns-in_default
 returns-in_default g c =
@@ -42,12 +45,13 @@ returns-in_default g c =
       status = c.write_end.ensures.status;
       within = λ h. next.within (l.invariant.within h);
       steps = next.counts.steps ∙ l.invariant.steps;
+      work = λ top. next.counts.top (l.invariant.mode ∙ top) ∙ l.invariant.work top;
       comes = λ program q is.
           let w = l.invariant.so_far program q is in
           comes-end m n l.budget c.next.new.budget c.args.answers l.given c.args.budget.now.steps program q c.next.result _ (g.O.Sink.taken c.args.out.now) (g.O.Sink.taken l.out)
           (g.O.Sink.taken c.write_end.new.out) c.write_end.result is.runnable w called c.loop-given-test.true (next.counts.steps ∙ l.invariant.steps)
           (λ e. grind (arith, nat_tests, e)) (λ e. grind (arith, nat_tests, e)) (λ a e. c.in_default.not-Answer a e)
-          (next.steps (query_view []) program q w.events w.runs)
+          (next.ticks w.running (query_view []) program q w.events w.runs)
           c.write_end.ensures.told;
     }
 
@@ -61,11 +65,13 @@ loop-given-preserved g c =
     record {
       steps = next.counts.steps ∙ l.invariant.steps;
       within = λ h. next.within (l.invariant.within h);
+      work = λ top. next.counts.top (l.invariant.mode ∙ top) ∙ l.invariant.work top;
+      mode = next.mode ∙ l.invariant.mode;
       no_fault = c.in_ok-write_answer-in-Answer.ensures.writes.no_fault ∙ l.invariant.no_fault;
       so_far = λ program q is.
           let w = l.invariant.so_far program q is in
           written-answer m n l.budget c.next.new.budget l.given program q c.in-Answer.answer (g.O.Sink.taken c.args.out.now) (g.O.Sink.taken l.out) (g.O.Sink.taken c.write_answer.new.out)
-          w called (next.steps (query_view []) program q w.events w.runs) next.lasts c.in_ok-write_answer-in-Answer.ensures.told.all;
+          w called (next.ticks w.running (query_view []) program q w.events w.runs) next.lasts c.in_ok-write_answer-in-Answer.ensures.told.all;
     }
 
 pub returns-clause-comes : goal.returns-clause-comes

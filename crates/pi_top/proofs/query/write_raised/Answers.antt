@@ -1,14 +1,16 @@
-use Rattle.std.proofs.Common.{ℕ, List, subst, ◌∙◌}
+use Rattle.std.proofs.Common.{◌≡◌, ℕ, List, subst, ◌∙◌}
 use Rattle.std.proofs.lemmas.Result.{err_from_is_err_and}
+use Rattle.pi_top.specs.declared.query.Stop.TheVariants.{Memory}
 use Rattle.pi_top.specs.QueryEnd.{Exception, line_of}
 use Rattle.pi_top.specs.Writing.{Writes}
-use Rattle.pi_top.proofs.Fronts.{front-none}
+use Rattle.pi_outside.proofs.Taken.{Takes-none}
 use Rattle.pi_top.proofs.query.write_raised.Goals as goal
 
 pub returns-in_err-line-clause-told : goal.returns-in_err-line-clause-told
 returns-in_err-line-clause-told g c =
     let p = err_from_is_err_and c.from_residual.result c.from_residual.ensures.1 in
-    rw p.1 (record { writes = record { all = tt; front = front-none (g.O.Sink.taken c.args.out.now) (line_of (Exception c.args.ball.now)) }; its_status = tt })
+    let memory : p.0 ≡ Memory = p.2 in
+    rw (p.1, memory) (record { writes = record { all = tt; cut = Takes-none (g.O.Sink.taken c.args.out.now) }; its_status = tt })
 
 pub returns-clause-told : goal.returns-clause-told
 returns-clause-told g c = record {

@@ -1,0 +1,11 @@
+use Rattle.pi_clauses.proofs.restrictions.ArrowLemmas.{function_arrow, fact_arrow, rule_arrow}
+use Rattle.pi_clauses.proofs.restrictions.has_bad_arrow.Goals as goal
+
+pub returns-in-Function : goal.returns-in-Function
+returns-in-Function c = function_arrow _ _ _ _ _ c.in-Function.is
+
+pub returns-in-Fact : goal.returns-in-Fact
+returns-in-Fact c = fact_arrow _ _ c.in-Fact.is
+
+pub returns-in_ok-bad-in-Rule : goal.returns-in_ok-bad-in-Rule
+returns-in_ok-bad-in-Rule c = rule_arrow _ _ _ _ _ _ _ _ c.in-Rule.is c.as_slice.ensures.value c.in_ok-bad-in-Rule.ensures

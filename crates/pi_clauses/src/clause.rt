@@ -1,0 +1,250 @@
+//! The clause that a shape is. Trees move into it, and none is copied.
+ghost use Rattle.std.specs.Prelude.{◌≡◌, ◌&&◌, ◌==◌, false, length, codes, option_map, IfOk};
+ghost use Rattle.std.specs.Str.{bytes_eq};
+ghost use Rattle.pi_syntax.specs.ExpLists.{exps_of};
+ghost use Rattle.pi_syntax.specs.ExpTree.{exp_tree};
+ghost use Rattle.pi_syntax.specs.ExpTree as tree;
+ghost use Rattle.pi_clauses.specs.Shape as spec;
+ghost use Rattle.pi_clauses.specs.Formed.{ShowsHeaded, IsFormed, IsUnits, IsSplit, is_braces, exps_of_before};
+
+mod apart;
+
+use crate::clause::apart::{Apart, take_apart};
+use pi_syntax::{Clause, Exp, Exps};
+use pi_terms::Text;
+use std::alloc::{AllocError, Global};
+
+/// A clause, with what it doesn't tell of its shape.
+#[derive(Drop)]
+pub struct FormedClause {
+    pub clause: Clause,
+    /// The arrow is `?=>`.
+    pub is_open: bool,
+    /// A last unit in braces stands on the left of the arrow.
+    pub has_events: bool,
+}
+
+/// Head and value, or an expression that is no equation.
+#[derive(Drop)]
+pub(crate) enum Headed {
+    Equation(Exp, Exp),
+    Alone(Exp),
+}
+
+/// The first unit of a left side, and the others.
+#[derive(Drop)]
+pub(crate) struct Units {
+    first: Exp,
+    others: Exps,
+}
+
+/// The units behind a head: conditions, and the events where the last unit holds them.
+#[derive(Drop)]
+pub(crate) struct SplitUnits {
+    conditions: Exps,
+    events: Exps,
+    has_events: bool,
+}
+
+/// The clause of an expression alone.
+pub fn bare_clause(exp: Exp) -> FormedClause
+    ensures { IsFormed result (spec.bare (exp_tree exp)) }
+{
+    let clause = match read_headed(exp) {
+        Headed::Equation(head, value) => Clause::Function {
+            head,
+            value,
+            cond: None,
+            body: None,
+        },
+        Headed::Alone(head) => Clause::Fact { head },
+    };
+    FormedClause {
+        clause,
+        is_open: false,
+        has_events: false,
+    }
+}
+
+/// The clause of two sides with an arrow between them.
+pub fn ruled_clause(
+    alloc: Global,
+    left: Exp,
+    back: bool,
+    right: Exp,
+) -> Result<FormedClause, AllocError>
+    ensures { IfOk result (λ formed. IsFormed formed (spec.ruled (exp_tree left) back (exp_tree right))) }
+{
+    let units = units_in(alloc, left);
+    let split = split(alloc, units.others)?;
+    Ok(rule_of(units.first, split, back, right))
+}
+
+/// The rule of a head and the units behind it.
+fn rule_of(first: Exp, split: SplitUnits, back: bool, body: Exp) -> FormedClause
+    ensures { (left : tree.ExpTree) → exp_tree first ≡ spec.first_unit (spec.units left) → IsSplit split (spec.other_units (spec.units left)) → IsFormed result (spec.ruled left back (exp_tree body)) }
+{
+    let cond = condition(split.conditions);
+    let events = split.events;
+    let clause = match read_headed(first) {
+        Headed::Equation(head, value) => Clause::Function {
+            head,
+            value,
+            cond,
+            body: Some(body),
+        },
+        Headed::Alone(head) => Clause::Rule {
+            head,
+            cond,
+            events,
+            back,
+            body,
+        },
+    };
+    FormedClause {
+        clause,
+        is_open: back,
+        has_events: split.has_events,
+    }
+}
+
+/// Head and value, where the expression is an equation.
+fn read_headed(exp: Exp) -> Headed
+    ensures { ShowsHeaded result (exp_tree exp) }
+{
+    match take_apart(exp) {
+        Apart::Call(name, args) => read_headed_call(name, args),
+        Apart::Conjunction(units) => Headed::Alone(Exp::And(units)),
+        Apart::Array(items) => Headed::Alone(Exp::Array(items)),
+        Apart::Other(exp) => Headed::Alone(exp),
+    }
+}
+
+fn read_headed_call(name: Text, args: Exps) -> Headed
+    ensures { ShowsHeaded result (tree.call name (exps_of args.items)) }
+{
+    let mut args = args;
+    if is_equation(&name, &args) {
+        let value = args.remove(1);
+        let head = args.remove(0);
+        Headed::Equation(head, value)
+    } else {
+        Headed::Alone(Exp::Call(name, args))
+    }
+}
+
+fn is_equation(name: &Text, args: &Exps) -> bool
+    ensures { result ≡ (bytes_eq name.now (codes "=") && length args.now.items == 2) }
+{
+    (name.as_str() == "=") & (args.len() == 2)
+}
+
+/// The units of a left side.
+fn units_in(alloc: Global, left: Exp) -> Units
+    ensures { IsUnits result (spec.units (exp_tree left)) }
+{
+    match take_apart(left) {
+        Apart::Conjunction(units) => units_of(alloc, units),
+        Apart::Array(items) => one_unit(alloc, Exp::Array(items)),
+        Apart::Call(name, args) => one_unit(alloc, Exp::Call(name, args)),
+        Apart::Other(exp) => one_unit(alloc, exp),
+    }
+}
+
+fn one_unit(alloc: Global, exp: Exp) -> Units
+    ensures { IsUnits result (tree.one_exp (exp_tree exp)) }
+{
+    Units {
+        first: exp,
+        others: Exps::new(alloc),
+    }
+}
+
+fn units_of(alloc: Global, units: Exps) -> Units
+    ensures { IsUnits result (exps_of units.items) }
+{
+    let mut units = units;
+    if units.is_empty() {
+        return Units {
+            first: Exp::And(units),
+            others: Exps::new(alloc),
+        };
+    }
+    let first = units.remove(0);
+    Units {
+        first,
+        others: units,
+    }
+}
+
+/// The conditions and the events.
+fn split(alloc: Global, units: Exps) -> Result<SplitUnits, AllocError>
+    ensures { IfOk result (λ split. IsSplit split (exps_of units.items)) }
+{
+    let mut units = units;
+    match units.pop() {
+        Some(last) => {
+            let split = split_last(alloc, units, last)?;
+            Ok(split)
+        }
+        None => Ok(SplitUnits {
+            conditions: units,
+            events: Exps::new(alloc),
+            has_events: false,
+        }),
+    }
+}
+
+/// The same with the last unit apart.
+fn split_last(alloc: Global, units: Exps, last: Exp) -> Result<SplitUnits, AllocError>
+    ensures { IfOk result (λ split. IsSplit split (exps_of_before units.items (exp_tree last))) }
+{
+    match take_apart(last) {
+        Apart::Array(events) => Ok(SplitUnits {
+            conditions: units,
+            events,
+            has_events: true,
+        }),
+        Apart::Conjunction(inner) => {
+            let split = without_events(alloc, units, Exp::And(inner))?;
+            Ok(split)
+        }
+        Apart::Call(name, args) => {
+            let split = without_events(alloc, units, Exp::Call(name, args))?;
+            Ok(split)
+        }
+        Apart::Other(exp) => {
+            let split = without_events(alloc, units, exp)?;
+            Ok(split)
+        }
+    }
+}
+
+/// All units are conditions.
+fn without_events(alloc: Global, units: Exps, last: Exp) -> Result<SplitUnits, AllocError>
+    ensures { IfOk result (λ split. is_braces (exp_tree last) ≡ false → (es : tree.ExpTrees) → es ≡ exps_of_before units.items (exp_tree last) → IsSplit split es) }
+{
+    let mut units = units;
+    units.push(last)?;
+    Ok(SplitUnits {
+        conditions: units,
+        events: Exps::new(alloc),
+        has_events: false,
+    })
+}
+
+/// One condition, or several one after the other.
+fn condition(conditions: Exps) -> Option<Exp>
+    ensures { option_map exp_tree result ≡ spec.condition (exps_of conditions.items) }
+{
+    let mut conditions = conditions;
+    let count = conditions.len();
+    if count == 0 {
+        return None;
+    }
+    if count == 1 {
+        let condition = conditions.remove(0);
+        return Some(condition);
+    }
+    Some(Exp::And(conditions))
+}

@@ -1,0 +1,246 @@
+//! The nodes of a clause's expressions with the places at which they stand, in the order of the text.
+ghost use Rattle.std.specs.Prelude.{◌≡◌, ◌∷◌, ◌++◌, [], true, IfOk, OnOk, MatchOption, length, option_map};
+ghost use Rattle.pi_syntax.specs.ExpTree.{exp_tree};
+ghost use Rattle.pi_syntax.specs.ProgramTree.{written_clause};
+ghost use Rattle.pi_syntax.specs.ExpLists.{exps_of};
+ghost use Rattle.pi_clauses.specs.Places.{goal, pattern, placed, below, all_placed, arguments_placed, branches_placed, placed_if, clause_placed, head_placed};
+ghost use Rattle.pi_clauses.specs.Walk.{shown_place, shown_node, nodes_ahead, held_exp, branches_of};
+
+use crate::nodes::form::Form;
+use crate::nodes::place::{Place, TEST};
+use pi_syntax::{Clause, Exp};
+use std::alloc::{AllocError, Global};
+
+/// A node, and where it stands.
+#[derive(Clone, Copy)]
+pub(crate) struct Node<'a> {
+    pub(crate) place: Place,
+    pub(crate) exp: &'a Exp,
+}
+
+/// A walk through nodes: a node comes before what stands in it. The last of the stack comes first.
+#[derive(Drop)]
+pub(crate) struct Walk<'a> {
+    stack: Vec<Node<'a>>,
+}
+
+impl<'a> Walk<'a> {
+    /// A walk through nothing.
+    fn new(alloc: Global) -> Walk<'a>
+        ensures { nodes_ahead result ≡ [] }
+    {
+        Walk {
+            stack: Vec::new(alloc),
+        }
+    }
+
+    /// A walk through what a clause evaluates.
+    pub(crate) fn of_clause(alloc: Global, clause: &'a Clause) -> Result<Walk<'a>, AllocError>
+        ensures { IfOk result (λ walk. nodes_ahead walk ≡ clause_placed (written_clause clause.now)) }
+    {
+        let mut walk = Walk::new(alloc);
+        match clause {
+            Clause::Rule { cond, body, .. } => {
+                walk.push(Place::Goal { assigns: true }, body)?;
+                walk.push_optional(TEST, cond)?;
+                Ok(walk)
+            }
+            Clause::Function {
+                value,
+                cond,
+                body,
+                ..
+            } => {
+                walk.push_optional(Place::Goal { assigns: true }, body)?;
+                walk.push_optional(TEST, cond)?;
+                walk.push(Place::Expression, value)?;
+                Ok(walk)
+            }
+            Clause::Fact { .. } => Ok(walk),
+        }
+    }
+
+    /// A walk through a goal.
+    pub(crate) fn of_goal(alloc: Global, query: &'a Exp) -> Result<Walk<'a>, AllocError>
+        ensures { IfOk result (λ walk. nodes_ahead walk ≡ placed (goal true) (exp_tree query.now)) }
+    {
+        let mut walk = Walk::new(alloc);
+        walk.push(Place::Goal { assigns: true }, query)?;
+        Ok(walk)
+    }
+
+    /// A walk through the arguments of a head.
+    pub(crate) fn of_head(alloc: Global, head: &'a Exp) -> Result<Walk<'a>, AllocError>
+        ensures { IfOk result (λ walk. nodes_ahead walk ≡ head_placed (exp_tree head.now)) }
+    {
+        let mut walk = Walk::new(alloc);
+        match Form::of(head) {
+            Form::Call { args, .. } => {
+                walk.push_all(Place::Pattern { quoted: false }, args)?;
+                Ok(walk)
+            }
+            _ => Ok(walk),
+        }
+    }
+
+    /// The first node ahead, of which the others stay ahead.
+    pub(crate) fn next(&mut self) -> Result<Option<Node<'a>>, AllocError>
+        ensures { IfOk result (λ next. MatchOption next (nodes_ahead self.old ≡ []) (λ node. nodes_ahead self.old ≡ shown_node node ∷ nodes_ahead self.new)) }
+    {
+        let Some(node) = self.stack.pop() else {
+            return Ok(None);
+        };
+        self.push_below(node.place, node.exp)?;
+        Ok(Some(node))
+    }
+
+    /// Puts an expression before the nodes ahead.
+    fn push(&mut self, place: Place, exp: &'a Exp) -> Result<(), AllocError>
+        ensures { OnOk result (nodes_ahead self.new ≡ placed (shown_place place) (exp_tree exp.now) ++ nodes_ahead self.old) }
+    {
+        self.stack.push(Node { place, exp })?;
+        Ok(())
+    }
+
+    fn push_optional(&mut self, place: Place, exp: &'a Option<Exp>) -> Result<(), AllocError>
+        ensures { OnOk result (nodes_ahead self.new ≡ placed_if (shown_place place) (option_map exp_tree exp.now) ++ nodes_ahead self.old) }
+    {
+        match exp {
+            Some(exp) => {
+                self.push(place, exp)?;
+                Ok(())
+            }
+            None => Ok(()),
+        }
+    }
+
+    fn push_held(&mut self, place: Place, exp: &'a Option<Box<Exp>>) -> Result<(), AllocError>
+        ensures { OnOk result (nodes_ahead self.new ≡ placed_if (shown_place place) (held_exp exp.now) ++ nodes_ahead self.old) }
+    {
+        match exp {
+            Some(exp) => {
+                self.push(place, exp)?;
+                Ok(())
+            }
+            None => Ok(()),
+        }
+    }
+
+    fn push_all(&mut self, place: Place, exps: &'a [Exp]) -> Result<(), AllocError>
+        ensures { OnOk result (nodes_ahead self.new ≡ all_placed (shown_place place) (exps_of exps.now) ++ nodes_ahead self.old) }
+    {
+        for i in (0..exps.len()).rev() {
+            self.push(place, &exps[i])?;
+        }
+        Ok(())
+    }
+
+    fn push_arguments(
+        &mut self,
+        place: Place,
+        name: &str,
+        args: &'a [Exp],
+    ) -> Result<(), AllocError>
+        ensures { OnOk result (nodes_ahead self.new ≡ arguments_placed (shown_place place) name.now (length args.now) 0 (exps_of args.now) ++ nodes_ahead self.old) }
+    {
+        for i in (0..args.len()).rev() {
+            self.push(place.argument(name, args.len(), i), &args[i])?;
+        }
+        Ok(())
+    }
+
+    fn push_branches(&mut self, place: Place, branches: &'a [(Exp, Exp)]) -> Result<(), AllocError>
+        ensures { OnOk result (nodes_ahead self.new ≡ branches_placed (shown_place place) (branches_of branches.now) ++ nodes_ahead self.old) }
+    {
+        for i in (0..branches.len()).rev() {
+            let branch = &branches[i];
+            self.push(place.body(), &branch.1)?;
+            self.push(TEST, &branch.0)?;
+        }
+        Ok(())
+    }
+
+    /// Puts what stands in an expression before the nodes ahead.
+    fn push_below(&mut self, place: Place, exp: &'a Exp) -> Result<(), AllocError>
+        ensures { OnOk result (nodes_ahead self.new ≡ below (shown_place place) (exp_tree exp.now) ++ nodes_ahead self.old) }
+    {
+        let inside = place.inside();
+        let body = place.body();
+        match exp {
+            Exp::Var(_) => Ok(()),
+            Exp::Int(_) => Ok(()),
+            Exp::Atom(_) => Ok(()),
+            Exp::Str(_) => Ok(()),
+            Exp::List(items, tail) => {
+                self.push_held(inside, tail)?;
+                self.push_all(inside, items.as_slice())?;
+                Ok(())
+            }
+            Exp::Array(items) => {
+                self.push_all(inside, items.as_slice())?;
+                Ok(())
+            }
+            Exp::Call(name, args) => {
+                self.push_arguments(place, name.as_str(), args.as_slice())?;
+                Ok(())
+            }
+            Exp::Quote(term) => {
+                self.push(place.quoted(), term)?;
+                Ok(())
+            }
+            Exp::Index(of, indexes) => {
+                self.push_all(inside, indexes.as_slice())?;
+                self.push(inside, of)?;
+                Ok(())
+            }
+            Exp::Range(first, step, last) => {
+                self.push(inside, last)?;
+                self.push_held(inside, step)?;
+                self.push(inside, first)?;
+                Ok(())
+            }
+            Exp::At(_, bound) => {
+                self.push(inside, bound)?;
+                Ok(())
+            }
+            Exp::Collect(_, item, iterators) => {
+                self.push_all(Place::Iterator, iterators.as_slice())?;
+                self.push(inside, item)?;
+                Ok(())
+            }
+            Exp::And(goals) => {
+                self.push_all(body, goals.as_slice())?;
+                Ok(())
+            }
+            Exp::Or(goals) => {
+                self.push_all(body, goals.as_slice())?;
+                Ok(())
+            }
+            Exp::Arrow(test, then) => {
+                self.push(body, then)?;
+                self.push(TEST, test)?;
+                Ok(())
+            }
+            Exp::If(branches, last) => {
+                self.push_held(body, last)?;
+                self.push_branches(place, branches.as_slice())?;
+                Ok(())
+            }
+            Exp::Foreach(iterators, goal) => {
+                self.push(body, goal)?;
+                self.push_all(Place::Iterator, iterators.as_slice())?;
+                Ok(())
+            }
+            Exp::While(test, goal) => {
+                self.push(body, goal)?;
+                self.push(TEST, test)?;
+                Ok(())
+            }
+            Exp::DoWhile(goal, test) => {
+                self.push(TEST, test)?;
+                self.push(body, goal)?;
+                Ok(())
+            }
+        }
+    }
+}

@@ -1,0 +1,54 @@
+//! The program that parts are.
+ghost use Rattle.std.specs.Prelude.{◌≡◌, ◌++◌, IfOk, map};
+ghost use Rattle.pi_syntax.specs.ProgramTree.{source_tree, part_tree};
+ghost use Rattle.pi_clauses.specs.Seen.{seen, all_seen};
+ghost use Rattle.pi_clauses.specs.Verdict.{parts_of, part_of, decl_of};
+
+use crate::parts::PartReading;
+use pi_syntax::{Decl, ModeLists, Part, Parts, Program};
+use std::alloc::{AllocError, Global};
+
+/// The program of parts without a fault.
+pub fn program_of(alloc: Global, readings: Vec<PartReading>) -> Result<Program, AllocError>
+    ensures { IfOk result (λ program. source_tree program ≡ parts_of (all_seen readings.items)) }
+{
+    let mut parts = Parts::new(alloc);
+    for reading in readings {
+        add_part(&mut parts, reading)?;
+    }
+    Ok(Program { parts })
+}
+
+/// Adds the part that a reading is, where it has no fault.
+fn add_part(parts: &mut Parts, reading: PartReading) -> Result<(), AllocError>
+    ensures { IfOk result (λ _. map part_tree parts.new ≡ map part_tree parts.old ++ part_of (seen reading)) }
+{
+    match reading {
+        PartReading::TooDeep => Ok(()),
+        PartReading::BadDeclaration => Ok(()),
+        PartReading::NoClause => Ok(()),
+        PartReading::Import(names) => {
+            parts.push(Part {
+                decl: Decl::Import(names),
+                clause: None,
+            })?;
+            Ok(())
+        }
+        PartReading::Written(written) => {
+            parts.push(Part {
+                decl: declaration(written.modes),
+                clause: Some(written.clause),
+            })?;
+            Ok(())
+        }
+    }
+}
+
+fn declaration(modes: Option<ModeLists>) -> Decl
+    ensures { result ≡ decl_of modes }
+{
+    match modes {
+        None => Decl::Plain,
+        Some(lists) => Decl::Index(lists),
+    }
+}

@@ -1,0 +1,12 @@
+pub mod ItemLemmas
+pub mod SortLemmas
+pub mod RowLemmas
+pub mod BuiltInLemmas
+pub mod Worked
+pub mod IntegerExamples
+pub mod ComparingExamples
+pub mod KindExamples
+pub mod CollectionExamples
+pub mod SortingExamples
+pub mod MakingExamples
+pub mod TextExamples

@@ -1,0 +1,89 @@
+-- What a call of `next` comes to, for those that use a machine: notes that it adds to the run's events, and then its answer,
+-- its output, or where the run stops.
+use Rattle.std.specs.Prelude.{◌≡◌, ◌≤◌, ℕ, ◌+◌, List, [], ◌∷◌, ◌++◌, ⊤}
+use Rattle.pi_traces.specs.Trace.{End, Done, Raise, Note, Tick, Load, Out, Emitted, noted, answered, count_ticks}
+use Rattle.pi_traces.specs.Depth.{Cut, Spent, with_events}
+use Rattle.pi_meaning.specs.View.{View}
+use Rattle.pi_meaning.specs.Run.{Solution, IsRunUnder}
+use Rattle.pi_core.specs.CoreTree.{PredTree, QueryTree}
+use Rattle.pi_machine.specs.declared.happening.Budget.{Budget}
+use Rattle.pi_machine.specs.declared.happening.Happening.{Happening}
+use Rattle.pi_machine.specs.declared.happening.Mode.{Mode}
+use Rattle.pi_machine.specs.Budget.{AreStepsUsed, IsWorkUsed}
+use Rattle.pi_machine.specs.Next.{Tells, some_ticks}
+use Rattle.pi_stands.specs.Goes.{counted}
+use Rattle.pi_engine.specs.Needs.{asked_for, Needs}
+use Rattle.pi_engine.specs.Runs.{MachineView, IsException, IsWork, RunsTo, EndsWith}
+
+-- ---- what is added in front
+
+-- Ticks and loads, which have no happening of their own
+unfoldable pub AreTicksAndLoads : List (Emitted Solution) → Type 0
+AreTicksAndLoads [] = ⊤
+AreTicksAndLoads (noted Tick ∷ notes) = AreTicksAndLoads notes
+AreTicksAndLoads (noted (Load k) ∷ notes) = AreTicksAndLoads notes
+AreTicksAndLoads (event ∷ notes) = ⊥
+
+-- the sum of the loads
+unfoldable pub sum_of_loads : List (Emitted Solution) → ℕ
+sum_of_loads [] = 0
+sum_of_loads (noted (Load k) ∷ notes) = k + sum_of_loads notes
+sum_of_loads (event ∷ notes) = sum_of_loads notes
+
+-- what a call adds: as many Ticks as it counts, and loads, which are no fewer than the runs of propagators in it
+pub record Adds (mode : Mode) (old new : Budget) (notes : List (Emitted Solution)) : Type 0 where
+  pub kinds : AreTicksAndLoads notes
+  pub ticks : count_ticks notes ≡ counted mode old new
+  pub runs : new.work.runs ≤ old.work.runs + sum_of_loads notes
+
+-- ---- what comes behind it
+
+-- these events are all that stands before a Tick; each run that is cut behind them goes on with this load
+abbrev pub StandsBefore : View → List PredTree → QueryTree → List (Emitted Solution) → Note → Type 0
+StandsBefore v program q events Tick = IsRunUnder v program q (count_ticks events) (record { events = events; stop = Spent })
+StandsBefore v program q events (Load k) =
+    (n : ℕ) (run : Cut Solution) → IsRunUnder v program q (count_ticks events + n) run → (rest : Cut Solution) × (run ≡ with_events (events ++ noted (Load k) ∷ []) rest)
+StandsBefore v program q events (Out text) = ⊥
+
+-- the run stops in front of a note for which the budget has no room
+pub record StopsBefore {M : Type 0} (v : View) (program : List PredTree) (q : QueryTree) (events : List (Emitted Solution)) (m : MachineView M) (n : Note) : Type 0 where
+  pub next : StandsBefore v program q events n
+  pub runs : RunsTo v m program q events
+
+-- What comes behind these events, by what the call answers. Want of memory says nothing.
+abbrev pub Comes : {M : Type 0} → View → List PredTree → QueryTree → List (Emitted Solution) → MachineView M → Budget → Happening → Type 0
+Comes v program q events after new (Happening.Answer a) = (x : Solution) × Tells q.names x a × RunsTo v after program q (events ++ answered x ∷ [])
+Comes v program q events after new (Happening.Out text) = RunsTo v after program q (events ++ noted (Out text) ∷ [])
+Comes v program q events after new (Happening.NeedPlan call) = Needs v program q events after (asked_for call)
+Comes v program q events after new Happening.Done = EndsWith v program q events Done × RunsTo v after program q events
+Comes v program q events after new (Happening.Raised ball) = (e : End) × IsException ball e × EndsWith v program q events e × RunsTo v after program q events
+Comes v program q events after new Happening.StepsSpent = StopsBefore v program q events after Tick × (after.mode ≡ Mode.Top) × AreStepsUsed new
+Comes v program q events after new Happening.WorkSpent = (n : Note) × IsWork after.mode n × StopsBefore v program q events after n × IsWorkUsed new
+Comes v program q events after new Happening.Memory = ⊤
+
+-- What a call of `next` comes to that repeats no end, where the run had these events before.
+pub record Happens {M : Type 0} (v : View) (program : List PredTree) (q : QueryTree) (events : List (Emitted Solution)) (before after : MachineView M) (old new : Budget) (happening : Happening) : Type 0 where
+  pub notes : List (Emitted Solution)
+  pub adds : Adds before.mode old new notes
+  pub comes : Comes v program q (events ++ notes) after new happening
+
+-- ---- what comes so far
+
+-- With what is built so far there are no loads, and each exception is one that a `catch` would have caught: a call adds the
+-- Ticks that it counts alone, k of them, and stops in front of a Tick alone.
+abbrev pub ComesByTicks : {M : Type 0} → View → List PredTree → QueryTree → List (Emitted Solution) → ℕ → MachineView M → Budget → Happening → Type 0
+ComesByTicks v program q events k after new (Happening.Answer a) = (x : Solution) × Tells q.names x a × RunsTo v after program q (events ++ (some_ticks k ++ answered x ∷ []))
+ComesByTicks v program q events k after new (Happening.Out text) = ⊥
+ComesByTicks v program q events k after new (Happening.NeedPlan call) = ⊥
+ComesByTicks v program q events k after new Happening.Done = EndsWith v program q (events ++ some_ticks k) Done × RunsTo v after program q (events ++ some_ticks k)
+ComesByTicks v program q events k after new (Happening.Raised ball) = EndsWith v program q (events ++ some_ticks k) (Raise ball) × RunsTo v after program q (events ++ some_ticks k)
+ComesByTicks v program q events k after new Happening.StepsSpent =
+    IsRunUnder v program q (count_ticks events + k) (record { events = events ++ some_ticks k; stop = Spent }) × RunsTo v after program q (events ++ some_ticks k)
+    × (after.mode ≡ Mode.Top) × AreStepsUsed new
+ComesByTicks v program q events k after new Happening.WorkSpent =
+    IsRunUnder v program q (count_ticks events + k) (record { events = events ++ some_ticks k; stop = Spent }) × RunsTo v after program q (events ++ some_ticks k)
+    × (after.mode ≡ Mode.Inner) × IsWorkUsed new
+ComesByTicks v program q events k after new Happening.Memory = ⊤
+
+abbrev pub HappensByTicks : {M : Type 0} → View → List PredTree → QueryTree → List (Emitted Solution) → MachineView M → MachineView M → Budget → Budget → Happening → Type 0
+HappensByTicks v program q events before after old new happening = ComesByTicks v program q events (counted before.mode old new) after new happening

@@ -1,8 +1,0 @@
-use Rattle.pi_expr.proofs.TreeLemmas.{items_with-shown, items_with-deep_last}
-use Rattle.pi_expr.proofs.items.Items.kept.Goals as goal
-
-pub returns-in_ok-push-in-Tree : goal.returns-in_ok-push-in-Tree
-returns-in_ok-push-in-Tree c = λ es e hs h. items_with-shown _ _ _ _ _ _ c.in_ok-push-in-Tree.ensures.items c.max.ensures es e hs (rw c.in-Tree.is at h)
-
-pub returns-in-Deep : goal.returns-in-Deep
-returns-in-Deep c = λ es e hs h. items_with-deep_last es e (rw c.in-Deep.is at h)

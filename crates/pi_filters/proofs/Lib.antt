@@ -1,0 +1,12 @@
+pub mod EndLemmas
+pub mod NumberLemmas
+pub mod PlaceLemmas
+pub mod SumLemmas
+pub mod SumLaws
+pub mod ProductLaws
+pub mod ElementLaws
+pub mod DifferentLaws
+pub mod CountLemmas
+pub mod DistinctLaws
+pub mod ReifiedLaws
+pub mod FilterLemmas

@@ -1,0 +1,5 @@
+use Rattle.pi_syntax.specs.ExpTree as tree
+use Rattle.pi_operands.proofs.blocks.do_test.Goals as goal
+
+pub returns : goal.returns
+returns c = λ fs a e h i. c.found_behind.ensures fs (tree.do_while a e) (c.in_ok-block.ensures a e h i)

@@ -1,0 +1,6 @@
+//! The step behind the operand of an open phrase.
+#![tactic(auto)]
+
+mod blocks;
+mod close;
+pub mod resume;

@@ -1,0 +1,90 @@
+//! Behind what stands between brackets, and behind a pattern.
+ghost use Rattle.std.specs.Prelude.{true, List, None, Some, if◌then◌else◌, IfOk};
+ghost use Rattle.pi_syntax.specs.ExpTree.{ExpTree, ExpTrees};
+ghost use Rattle.pi_syntax.specs.ExpTree as tree;
+ghost use Rattle.pi_syntax.specs.Grammar.{post};
+ghost use Rattle.pi_syntax.specs.Terminals as t;
+ghost use Rattle.pi_phrases.specs.Machine as machine;
+ghost use Rattle.pi_phrases.specs.Shown.{terminals};
+ghost use Rattle.pi_phrases.specs.Trees.{Shows, ShowsItems};
+ghost use Rattle.pi_phrases.specs.Turns.{ShowsTurn, ShowsStep};
+
+use pi_phrases::{
+    Built, Frame, Items, Mark, Phrase, Terminal, Turn, behind, built, found, found_behind,
+};
+use std::alloc::{AllocError, Global};
+
+pub(crate) fn pattern<'a>(
+    alloc: Global,
+    name: &'a str,
+    built: Built,
+    ts: &'a [Terminal<'a>],
+) -> Result<Turn<'a>, AllocError>
+    ensures { (fs : List machine.Frame) (e : ExpTree) → Shows built e → ShowsStep result fs (machine.resume (machine.pattern name.now) fs e (terminals ts.now)) }
+{
+    let pattern = built::at(alloc, name, built)?;
+    Ok(found(pattern, ts))
+}
+
+pub(crate) fn parens<'a>(
+    alloc: Global,
+    quoted: bool,
+    built: Built,
+    ts: &'a [Terminal<'a>],
+) -> Result<Turn<'a>, AllocError>
+    ensures { (fs : List machine.Frame) (e : ExpTree) → Shows built e → ShowsStep result fs (machine.resume (machine.parens quoted) fs e (terminals ts.now)) }
+{
+    let inner = in_parens(alloc, quoted, built)?;
+    Ok(found_behind(Mark::CloseParen, inner, ts))
+}
+
+/// What parentheses give: no node, save behind `$`.
+fn in_parens(alloc: Global, quoted: bool, built: Built) -> Result<Built, AllocError>
+    ensures { IfOk result (λ made. (e : ExpTree) → Shows built e → Shows made (if quoted then tree.quote e else e)) }
+{
+    if quoted {
+        built::quote(alloc, built)
+    } else {
+        Ok(built)
+    }
+}
+
+pub(crate) fn list_tail<'a>(
+    alloc: Global,
+    items: Items,
+    built: Built,
+    ts: &'a [Terminal<'a>],
+) -> Result<Turn<'a>, AllocError>
+    ensures { (fs : List machine.Frame) (es : ExpTrees) (e : ExpTree) → ShowsItems items es → Shows built e → ShowsStep result fs (machine.resume (machine.list_tail es) fs e (terminals ts.now)) }
+{
+    let list = built::list_onto(alloc, items, built)?;
+    Ok(found_behind(Mark::CloseBracket, list, ts))
+}
+
+/// Behind an index: each makes a tree of its own.
+pub(crate) fn indexing<'a>(
+    alloc: Global,
+    of: Built,
+    built: Built,
+    ts: &'a [Terminal<'a>],
+) -> Result<Turn<'a>, AllocError>
+    ensures { (fs : List machine.Frame) (a : ExpTree) (e : ExpTree) → Shows of a → Shows built e → ShowsStep result fs (machine.resume (machine.indexing a) fs e (terminals ts.now)) }
+{
+    let index = built::index(alloc, of, built)?;
+    match behind(Mark::Comma, ts) {
+        Some(rest) => Ok(Turn::Open(Frame::Indexing(index), rest)),
+        None => Ok(close_index(index, ts)),
+    }
+}
+
+fn close_index<'a>(index: Built, ts: &'a [Terminal<'a>]) -> Turn<'a>
+    ensures { (fs : List machine.Frame) (e : ExpTree) → Shows index e → ShowsTurn result fs (machine.choose t.close_bracket (terminals ts.now) (λ rest. machine.next (machine.value fs post true e rest)) machine.fail) }
+{
+    match behind(Mark::CloseBracket, ts) {
+        Some(rest) => Turn::Found(Phrase::Post, true, index, rest),
+        None => {
+            drop(index);
+            Turn::Fail
+        }
+    }
+}

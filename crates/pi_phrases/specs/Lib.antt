@@ -1,0 +1,4 @@
+pub mod Machine
+pub mod Shown
+pub mod Trees
+pub mod Turns

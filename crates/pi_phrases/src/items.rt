@@ -1,0 +1,66 @@
+//! Trees that were read one after another.
+use crate::built::Built;
+use pi_syntax::Exps;
+use std::alloc::{AllocError, Global};
+
+/// Trees from the left with the most levels of one, or no more than that one is too deep.
+#[derive(Drop)]
+pub enum Items {
+    Kept(Exps, u32),
+    Deep,
+}
+
+impl Items {
+    ghost use Rattle.std.specs.Prelude.{◌≡◌, IfOk};
+    ghost use Rattle.pi_syntax.specs.ExpTree.{ExpTree, ExpTrees, no_exps, one_exp};
+    ghost use Rattle.pi_phrases.specs.Machine.{with_exp};
+    ghost use Rattle.pi_phrases.specs.Trees.{Shows, ShowsItems, is_none};
+
+    /// No trees.
+    pub fn new(alloc: Global) -> Items
+        ensures { ShowsItems result no_exps }
+    {
+        Items::Kept(Vec::new(alloc), 0)
+    }
+
+    /// One tree.
+    pub fn one(alloc: Global, first: Built) -> Result<Items, AllocError>
+        ensures { IfOk result (λ made. (e : ExpTree) → Shows first e → ShowsItems made (one_exp e)) }
+    {
+        let made = Items::new(alloc).with(first)?;
+        Ok(made)
+    }
+
+    /// These and one more at the end.
+    pub fn with(self, last: Built) -> Result<Items, AllocError>
+        ensures { IfOk result (λ made. (es : ExpTrees) (e : ExpTree) → ShowsItems self es → Shows last e → ShowsItems made (with_exp es e)) }
+    {
+        match self {
+            Items::Kept(exps, levels) => Items::kept(exps, levels, last),
+            Items::Deep => Ok(Items::Deep),
+        }
+    }
+
+    /// Whether there is none.
+    pub fn is_empty(&self) -> bool
+        ensures { (es : ExpTrees) → ShowsItems self.now es → result ≡ is_none es }
+    {
+        match self {
+            Items::Kept(exps, _) => exps.is_empty(),
+            Items::Deep => false,
+        }
+    }
+
+    /// Trees and one more at the end.
+    fn kept(mut exps: Exps, levels: u32, last: Built) -> Result<Items, AllocError>
+        ensures { IfOk result (λ made. (es : ExpTrees) (e : ExpTree) → ShowsItems (Items.Kept exps levels) es → Shows last e → ShowsItems made (with_exp es e)) }
+    {
+        match last {
+            Built::Tree(exp, more) => {
+                exps.push(exp)?;
+                Ok(Items::Kept(exps, levels.max(more)))
+            }
+            Built::Deep => Ok(Items::Deep),
+        }
+    }
+}

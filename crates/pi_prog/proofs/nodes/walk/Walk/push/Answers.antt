@@ -1,5 +1,0 @@
-use Rattle.pi_prog.proofs.nodes.WalkLemmas.{pushed}
-use Rattle.pi_prog.proofs.nodes.walk.Walk.push.Goals as goal
-
-pub returns : goal.returns
-returns c = pushed _ _ _ c.in_ok-push.ensures.items

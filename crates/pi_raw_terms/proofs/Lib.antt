@@ -1,0 +1,5 @@
+pub mod FormLemmas
+pub mod HeapLemmas
+pub mod PutLemmas
+pub mod LookLemmas
+pub mod PlacedLemmas

@@ -1,0 +1,4 @@
+pub mod Form
+pub mod Heap
+pub mod Look
+pub mod Placed

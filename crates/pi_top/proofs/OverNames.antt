@@ -1,0 +1,132 @@
+-- What a query of the core language comes to is what its goal comes to over names.
+use Rattle.std.proofs.Common.{◌≡◌, ◌≤◌, ℕ, suc, List, [], ◌∷◌, ◌++◌, Option, map, refl, sym, ap, ◌∙◌, arith}
+use Rattle.std.specs.List.{concat}
+use Rattle.std.proofs.lemmas.List.{map-append}
+use Rattle.pi_outside.specs.Taken.{Takes}
+use Rattle.pi_terms.specs.Tree.{Tree}
+use Rattle.pi_core.specs.CoreTree.{PredTree, QueryTree}
+use Rattle.pi_core.specs.declared.core_program.NameSlot.{NameSlot}
+use Rattle.pi_syntax.specs.ExpTree.{ExpTree}
+use Rattle.pi_syntax.specs.ProgramTree.{ProgramTree}
+use Rattle.pi_traces.specs.Trace.{Done, Raise, Tick, Load, Out, Emitted, noted, answered, count_ticks}
+use Rattle.pi_traces.specs.Depth.{Cut, Stop as CutStop, Ended, Spent}
+use Rattle.pi_meaning.specs.View.{query_view}
+use Rattle.pi_meaning.specs.Run.{Solution, IsRun}
+use Rattle.pi_meaning.specs.Told.{answer_of}
+use Rattle.pi_meaning.specs.SurfaceRun.{Told, solution_told, told_answer, told_event, told_cut, IsSurfaceRun}
+use Rattle.pi_print.specs.PrintAnswer.{answer_lines}
+use Rattle.pi_rewrite.specs.Laws.{RunsTheSame}
+use Rattle.pi_top.specs.Headline.{IsPart, Headline, HowCut, in_answer, in_line, at_memory, IsCutOff}
+use Rattle.pi_top.specs.Prefix.{IsPrefix}
+use Rattle.pi_top.specs.Printing.{print}
+use Rattle.pi_top.specs.QueryEnd.{QueryEnd, Stopped, NoMore, No, Exception, StepsSpent, line_of, count_answers, EndsWithLast, IsWhole, Ends}
+use Rattle.pi_top.specs.Running.{print_solutions, IsQueryPart, QueryEnds, HowQueryIsCut, QueryIsCut}
+use Rattle.pi_top.specs.Statuses.{Written}
+
+-- what the events of a query tell
+abbrev told : List NameSlot → List (Emitted Solution) → List (Emitted Told)
+told names events = map (told_event (solution_told names)) events
+
+told-prints : (names : List NameSlot) (events : List (Emitted Solution)) → print (told names events) ≡ print_solutions names events
+unfolding print print_solutions answer_of
+told-prints names [] = refl
+told-prints names (noted Tick ∷ events) = told-prints names events
+told-prints names (noted (Load k) ∷ events) = told-prints names events
+told-prints names (noted (Out text) ∷ events) = ap (λ l. text ++ l) (told-prints names events)
+told-prints names (answered x ∷ events) = ap (λ l. concat (answer_lines (answer_of names x)) ++ l) (told-prints names events)
+
+told-ticks : (names : List NameSlot) (events : List (Emitted Solution)) → count_ticks (told names events) ≡ count_ticks events
+unfolding count_ticks
+told-ticks names [] = refl
+told-ticks names (noted Tick ∷ events) = ap suc (told-ticks names events)
+told-ticks names (noted (Load k) ∷ events) = told-ticks names events
+told-ticks names (noted (Out text) ∷ events) = told-ticks names events
+told-ticks names (answered x ∷ events) = told-ticks names events
+
+told-answers : (names : List NameSlot) (events : List (Emitted Solution)) → count_answers (told names events) ≡ count_answers events
+unfolding count_answers
+told-answers names [] = refl
+told-answers names (noted n ∷ events) = told-answers names events
+told-answers names (answered x ∷ events) = ap suc (told-answers names events)
+
+told-prefix : (names : List NameSlot) (front whole : List (Emitted Solution)) → IsPrefix front whole → IsPrefix (told names front) (told names whole)
+told-prefix names front whole is = record {
+  rest = told names is.rest;
+  whole_is = ap (told names) is.whole_is ∙ map-append (told_event (solution_told names)) front is.rest;
+}
+
+-- ---- ends
+
+told-last : (names : List NameSlot) (asked : ℕ) (part : List (Emitted Solution)) → EndsWithLast asked part → EndsWithLast asked (told names part)
+told-last names asked part is = record {
+  front = told names is.front;
+  last = solution_told names is.last;
+  is = ap (told names) is.is ∙ map-append (told_event (solution_told names)) is.front (answered is.last ∷ []);
+  all = told-answers names part ∙ is.all;
+}
+
+told-whole : (names : List NameSlot) (asked : ℕ) (part : List (Emitted Solution)) (run : Cut Solution) (stop : CutStop) → IsWhole asked part run stop →
+    IsWhole asked (told names part) (told_cut (solution_told names) run) stop
+told-whole names asked part run stop is = record {
+  fewer = let same = told-answers names part in omega (arith, same, is.fewer);
+  whole = ap (told names) is.whole;
+  stops = is.stops;
+}
+
+told-ends : (names : List NameSlot) (asked : ℕ) (part : List (Emitted Solution)) (run : Cut Solution) (ending : QueryEnd) → Ends asked part run ending →
+    Ends asked (told names part) (told_cut (solution_told names) run) ending
+told-ends names asked part run Stopped is = told-last names asked part is
+told-ends names asked part run NoMore is = (told-whole names asked part run (Ended Done) is.0, let same = told-answers names part in omega (arith, same, is.1))
+told-ends names asked part run No is = (told-whole names asked part run (Ended Done) is.0, told-answers names part ∙ is.1)
+told-ends names asked part run (Exception ball) is = told-whole names asked part run (Ended (Raise ball)) is
+told-ends names asked part run StepsSpent is = told-whole names asked part run Spent is
+
+told-cut : (answers : ℕ) (q : QueryTree) (run : Cut Solution) (part : List (Emitted Solution)) (ticks status : ℕ) (before after : Option (List ℕ)) →
+    HowQueryIsCut answers q run part ticks status before after → HowCut answers (told_cut (solution_told q.names) run) (told q.names part) ticks status before after
+unfolding answer_of
+told-cut answers q run part ticks status before after (HowQueryIsCut.in_answer eight count earlier x is few takes) =
+    let asked = told-answers q.names part in
+    in_answer eight (count ∙ sym (told-ticks q.names part)) (told q.names earlier) (solution_told q.names x)
+    (ap (told q.names) is ∙ map-append (told_event (solution_told q.names)) earlier (answered x ∷ [])) (omega (arith, asked, few)) (rw (told-prints q.names earlier) takes)
+told-cut answers q run part ticks status before after (HowQueryIsCut.in_line eight count ending ends takes) =
+    in_line eight (count ∙ sym (told-ticks q.names part)) ending (told-ends q.names answers part run ending ends) (rw (told-prints q.names part) takes)
+told-cut answers q run part ticks status before after (HowQueryIsCut.at_memory nine more few takes) =
+    let count = told-ticks q.names part in
+    let asked = told-answers q.names part in
+    at_memory nine (omega (arith, count, more)) (omega (arith, asked, few)) (rw (told-prints q.names part) takes)
+
+-- ---- what it comes to
+
+part-over-names : (program : ProgramTree) (goal : ExpTree) (preds : List PredTree) (q : QueryTree) (steps : ℕ) (run : Cut Solution) (part : List (Emitted Solution)) →
+    RunsTheSame program goal preds q → IsQueryPart preds q steps run part → IsPart program goal [] steps (told_cut (solution_told q.names) run) (told q.names part)
+part-over-names program goal preds q steps run part is has = record {
+  is_run = is (query_view []) steps run has.is_run;
+  begins = told-prefix q.names part run.events has.begins;
+}
+
+pub ends-over-names : (answers steps : ℕ) (program : ProgramTree) (goal : ExpTree) (preds : List PredTree) (q : QueryTree) (ticks status : ℕ) (before after : Option (List ℕ)) →
+    RunsTheSame program goal preds q → QueryEnds answers steps preds q ticks status before after →
+    Written (Headline answers steps program goal [] ticks status) before after
+ends-over-names answers steps program goal preds q ticks status before after is has = record {
+  bytes = print_solutions q.names has.part ++ line_of has.ending;
+  comes = record {
+    run = told_cut (solution_told q.names) has.run;
+    part = told q.names has.part;
+    is_part = part-over-names program goal preds q steps has.run has.part is has.is_part;
+    ticks_in_it = has.ticks_in_it ∙ sym (told-ticks q.names has.part);
+    ending = has.ending;
+    ends = told-ends q.names answers has.part has.run has.ending has.ends;
+    its_status = has.its_status;
+    written = ap (λ l. l ++ line_of has.ending) (sym (told-prints q.names has.part));
+  };
+  taken = has.written;
+}
+
+pub cut-over-names : (answers steps : ℕ) (program : ProgramTree) (goal : ExpTree) (preds : List PredTree) (q : QueryTree) (ticks status : ℕ) (before after : Option (List ℕ)) →
+    RunsTheSame program goal preds q → QueryIsCut answers steps preds q ticks status before after → IsCutOff answers steps program goal [] ticks status before after
+cut-over-names answers steps program goal preds q ticks status before after is has = record {
+  run = told_cut (solution_told q.names) has.run;
+  part = told q.names has.part;
+  is_part = part-over-names program goal preds q steps has.run has.part is has.is_part;
+  how = told-cut answers q has.run has.part ticks status before after has.how;
+}

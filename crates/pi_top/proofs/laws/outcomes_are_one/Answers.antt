@@ -1,0 +1,16 @@
+use Rattle.pi_top.proofs.EndingLemmas.{ending-is-one}
+use Rattle.pi_top.proofs.Judging.{AreOne}
+use Rattle.pi_top.proofs.Refusing.{refused-written, asked-run, one-outcome}
+use Rattle.pi_top.proofs.laws.outcomes_are_one.Goals as goal
+
+pub returns : goal.returns
+returns c =
+    let o : AreOne = record { reading = c.one_reading.ensures; verdict = c.one_verdict.ensures.program; goal = c.one_verdict.ensures.goal } in
+    record {
+      endings = ending-is-one;
+      refused = refused-written o;
+      run = asked-run o;
+      status = λ asked text goal bytes more queries runs log status other a b. (one-outcome o asked text goal bytes more queries runs log status other a b).same_status;
+      queries = λ asked text goal bytes more queries runs log status other a b. (one-outcome o asked text goal bytes more queries runs log status other a b).same_queries;
+      bytes = λ asked text goal bytes more queries runs log status other a b. (one-outcome o asked text goal bytes more queries runs log status other a b).same_bytes;
+    }

@@ -1,0 +1,5 @@
+pub mod EntryLemmas
+pub mod TableLemmas
+pub mod BackLemmas
+pub mod ChangeLemmas
+pub mod SinceLemmas

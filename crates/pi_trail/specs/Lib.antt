@@ -1,0 +1,4 @@
+pub mod Entry
+pub mod Image
+pub mod Back
+pub mod Since
