@@ -1,0 +1,7 @@
+pub mod Roots
+pub mod Stable
+pub mod Events
+pub mod Answers
+pub mod Load
+pub mod Settled
+pub mod SettlingLaws

@@ -1,0 +1,62 @@
+-- The laws of settling.
+use Rattle.std.specs.Prelude.{◌≡◌, ◌⊎◌, ℕ, ℤ, IsTrue, List, [], Some, Contains}
+use Rattle.pi_terms.specs.Tree.{int}
+use Rattle.pi_terms.specs.Places.{held}
+use Rattle.pi_constraints.specs.declared.constraint.Constraint.{Constraint}
+use Rattle.pi_constraints.specs.declared.constraint.Item.{Item}
+use Rattle.pi_constraints.specs.declared.domain.Span.{Span}
+use Rattle.pi_constraints.specs.Domain.{IsWithinBounds, has_value}
+use Rattle.pi_filters.specs.Places.{places_of}
+use Rattle.pi_filters.specs.Solutions.{value_of, Holds}
+use Rattle.pi_traces.specs.Trace.{Trace, one}
+use Rattle.pi_states.specs.State.{State, IsState, bindings, domain_of}
+use Rattle.pi_settling.specs.Roots.{root_item, given, Counts}
+use Rattle.pi_settling.specs.Stable.{Domains, LieBelow, NoFilterChanges, Stays, IsStable}
+use Rattle.pi_settling.specs.Events.{events_between}
+use Rattle.pi_settling.specs.Settled.{IsSettled}
+
+-- a state has one stable state at most, and so settling comes to one trace at most
+abbrev pub StableIsOne : Type 0
+StableIsOne = (s r q : State) → IsStable s r → IsStable s q → r ≡ q
+
+abbrev pub SettledIsOne : Type 0
+SettledIsOne = (before s : State) (t u : Trace State) → IsSettled before s t → IsSettled before s u → t ≡ u
+
+-- no variable has a value that it didn't have
+abbrev pub StableLiesBelow : Type 0
+StableLiesBelow = (s r : State) (n : ℕ) (d : List Span) → IsStable s r → domain_of s n ≡ Some d →
+    ((e : List Span) (i : ℤ) → domain_of r n ≡ Some e → IsTrue (has_value e i) → IsTrue (has_value d i))
+    × ((i : ℤ) → held (bindings r) n ≡ Some (int i) → IsTrue (has_value d i))
+
+-- values for variables that go by a state's bindings, lie in its domains, and under which its constraints hold
+pub record Solves (s : State) (a : ℕ → ℤ) : Type 0 where
+  pub follows : (n : ℕ) → value_of a (root_item s (Item.Var n)) ≡ a n
+  pub values : (x : Item) → Counts s x → IsTrue (has_value (given s x) (value_of a x))
+  pub bounded : (x : Item) → Counts s x → IsWithinBounds (value_of a x)
+  pub holds : (c : Constraint) → Contains s.constraints c → Holds c a
+
+-- no solution is lost
+abbrev pub SettlingKeepsSolutions : Type 0
+SettlingKeepsSolutions = (s : State) (a : ℕ → ℤ) → Solves s a → (x : Item) → Counts s x → Stays s x (value_of a x)
+
+-- domains that have the values that stay, and no others, are among those that no filter changes: so they are the greatest of these
+abbrev pub StableIsUnchanged : Type 0
+StableIsUnchanged = (s : State) (ds : Domains) → LieBelow s ds →
+    ((x : Item) (i : ℤ) → Counts s x → Stays s x i → IsTrue (has_value (ds x) i)) →
+    ((x : Item) (i : ℤ) → Counts s x → IsTrue (has_value (ds x) i) → Stays s x i) → NoFilterChanges s ds
+
+-- where nothing changed there are no events
+abbrev pub NoChangeNoEvents : Type 0
+NoChangeNoEvents = (s : State) → IsState s → events_between s s ≡ []
+
+-- what settling asks of a state: each item of a posted constraint comes to a variable with a domain, or to an integer that a domain can have
+abbrev pub MaySettle : State → Type 0
+MaySettle s = (c : Constraint) (y : Item) → Contains s.constraints c → Contains (places_of c) y →
+    ((n : ℕ) × (d : List Span) × (root_item s y ≡ Item.Var n) × (domain_of s n ≡ Some d)) ⊎ ((i : ℤ) × (root_item s y ≡ Item.Int i) × IsWithinBounds i)
+
+-- a stable state is its own stable state, and settled from itself it is the one answer, without load and events
+abbrev pub StableStaysStable : Type 0
+StableStaysStable = (s r : State) → IsState s → IsState r → MaySettle s → IsStable s r → IsStable r r
+
+abbrev pub SettlingTwiceIsOnce : Type 0
+SettlingTwiceIsOnce = (s r : State) → IsState s → IsState r → MaySettle s → IsStable s r → IsSettled r r (one r)

@@ -1,0 +1,22 @@
+//! Laws of settling.
+ghost use Rattle.pi_settling.specs.SettlingLaws.{StableIsOne, SettledIsOne, StableLiesBelow, SettlingKeepsSolutions, StableIsUnchanged, NoChangeNoEvents, StableStaysStable, SettlingTwiceIsOnce};
+
+/// A state has one stable state at most, and settling comes to one trace at most.
+pub fn stable_states_are_one()
+    ensures one { StableIsOne }
+    ensures settled { SettledIsOne }
+{}
+
+/// The stable domains lie below those of the state, lose no solution, and are the greatest that no filter changes.
+pub fn stable_domains_are_the_greatest()
+    ensures below { StableLiesBelow }
+    ensures solutions { SettlingKeepsSolutions }
+    ensures unchanged { StableIsUnchanged }
+{}
+
+/// Where nothing changed there are no events. A stable state is its own stable state, and settling it again adds nothing.
+pub fn settling_again_adds_nothing()
+    ensures events { NoChangeNoEvents }
+    ensures stable { StableStaysStable }
+    ensures once { SettlingTwiceIsOnce }
+{}
