@@ -16,7 +16,8 @@ use Rattle.pi_filters.proofs.FilterLemmas.{filters_are_monotone, filters_keep_so
 use Rattle.pi_states.specs.State.{State}
 use Rattle.pi_settling.specs.Roots.{root_item, only, given, Counts}
 use Rattle.pi_settling.specs.Stable.{Domains, at_places, LieBelow, NoFilterChanges, Stays}
-use Rattle.pi_settling.specs.SettlingLaws.{Solves, SettlingKeepsSolutions, StableIsUnchanged}
+use Rattle.pi_settling.specs.Solves.{Solves}
+use Rattle.pi_settling.specs.SettlingLaws.{SettlingKeepsSolutions, StableIsUnchanged}
 use Rattle.pi_settling.proofs.PlaceLemmas.{place_at, place-domain, place-value, place-counts, count-places, places-domains, at_place, from_place}
 
 -- ---- what stays is unchanged

@@ -4,4 +4,5 @@ pub mod Events
 pub mod Answers
 pub mod Load
 pub mod Settled
+pub mod Solves
 pub mod SettlingLaws

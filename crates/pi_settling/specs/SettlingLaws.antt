@@ -7,13 +7,14 @@ use Rattle.pi_constraints.specs.declared.constraint.Item.{Item}
 use Rattle.pi_constraints.specs.declared.domain.Span.{Span}
 use Rattle.pi_constraints.specs.Domain.{IsWithinBounds, has_value}
 use Rattle.pi_filters.specs.Places.{places_of}
-use Rattle.pi_filters.specs.Solutions.{value_of, Holds}
+use Rattle.pi_filters.specs.Solutions.{value_of}
 use Rattle.pi_traces.specs.Trace.{Trace, one}
 use Rattle.pi_states.specs.State.{State, IsState, bindings, domain_of}
 use Rattle.pi_settling.specs.Roots.{root_item, given, Counts}
 use Rattle.pi_settling.specs.Stable.{Domains, LieBelow, NoFilterChanges, Stays, IsStable}
 use Rattle.pi_settling.specs.Events.{events_between}
 use Rattle.pi_settling.specs.Settled.{IsSettled}
+use Rattle.pi_settling.specs.Solves.{Solves}
 
 -- a state has one stable state at most, and so settling comes to one trace at most
 abbrev pub StableIsOne : Type 0
@@ -27,13 +28,6 @@ abbrev pub StableLiesBelow : Type 0
 StableLiesBelow = (s r : State) (n : ℕ) (d : List Span) → IsStable s r → domain_of s n ≡ Some d →
     ((e : List Span) (i : ℤ) → domain_of r n ≡ Some e → IsTrue (has_value e i) → IsTrue (has_value d i))
     × ((i : ℤ) → held (bindings r) n ≡ Some (int i) → IsTrue (has_value d i))
-
--- values for variables that go by a state's bindings, lie in its domains, and under which its constraints hold
-pub record Solves (s : State) (a : ℕ → ℤ) : Type 0 where
-  pub follows : (n : ℕ) → value_of a (root_item s (Item.Var n)) ≡ a n
-  pub values : (x : Item) → Counts s x → IsTrue (has_value (given s x) (value_of a x))
-  pub bounded : (x : Item) → Counts s x → IsWithinBounds (value_of a x)
-  pub holds : (c : Constraint) → Contains s.constraints c → Holds c a
 
 -- no solution is lost
 abbrev pub SettlingKeepsSolutions : Type 0

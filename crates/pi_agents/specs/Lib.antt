@@ -1,0 +1,4 @@
+pub mod Fire
+pub mod Drain
+pub mod Posting
+pub mod AgentLaws

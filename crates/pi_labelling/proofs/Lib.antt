@@ -1,0 +1,3 @@
+pub mod DepthLemmas
+pub mod ChoiceLemmas
+pub mod FirstLemmas

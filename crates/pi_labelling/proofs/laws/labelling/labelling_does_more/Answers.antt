@@ -1,0 +1,11 @@
+use Rattle.pi_labelling.proofs.DepthLemmas.{labelling_nothing, labelling_does_more, seeking_does_more}
+use Rattle.pi_labelling.proofs.laws.labelling.labelling_does_more.Goals as goal
+
+pub returns-clause-nothing : goal.returns-clause-nothing
+returns-clause-nothing c = labelling_nothing
+
+pub returns-clause-labels : goal.returns-clause-labels
+returns-clause-labels c = labelling_does_more
+
+pub returns-clause-rounds : goal.returns-clause-rounds
+returns-clause-rounds c = seeking_does_more

@@ -1,0 +1,43 @@
+-- The laws of labelling.
+use Rattle.std.specs.Prelude.{◌≡◌, ℕ, ◌<◌, ℤ, pos, IsTrue, List, [], length, get_or, Option}
+use Rattle.pi_terms.specs.Tree.{Tree}
+use Rattle.pi_constraints.specs.declared.constraint.Item.{Item}
+use Rattle.pi_constraints.specs.declared.domain.Span.{Span}
+use Rattle.pi_constraints.specs.Domain.{IsDomain, has_value}
+use Rattle.pi_traces.specs.Trace.{Trace, one}
+use Rattle.pi_traces.specs.Depth.{DepthOnlyAdds}
+use Rattle.pi_states.specs.State.{State}
+use Rattle.pi_labelling.specs.Options.{Options, ValueWord}
+use Rattle.pi_labelling.specs.Choices.{pending, Alternative, is_value, allows, alternatives}
+use Rattle.pi_labelling.specs.Label.{Settling, Lower, labelled, labelled_at}
+use Rattle.pi_labelling.specs.Rounds.{Seeking, sought}
+use Rattle.pi_labelling.specs.Assignments.{IsFirst}
+
+-- one of these alternatives allows a value, and no other does
+pub record OneAllows (alts : List Alternative) (i : ℤ) : Type 0 where
+  pub place : ℕ
+  pub inside : place < length alts
+  pub does : IsTrue (allows (get_or alts place (is_value (pos 0))) i)
+  pub only : (j : ℕ) → j < length alts → IsTrue (allows (get_or alts j (is_value (pos 0))) i) → j ≡ place
+
+-- the alternatives part a domain
+abbrev pub AlternativesPartTheDomain : Type 0
+AlternativesPartTheDomain = (w : ValueWord) (d : List Span) (i : ℤ) → IsDomain d → IsTrue (has_value d i) → OneAllows (alternatives w d) i
+
+-- where no variable is unbound, labelling adds nothing
+abbrev pub LabellingNothing : Type 0
+LabellingNothing = (settle : Settling) (below : Option Lower) (o : Options) (vars : List Tree) (s : State) → pending s vars ≡ [] → labelled settle below o vars s ≡ one s
+
+-- more depth only adds, where it does for what runs what waits
+abbrev pub LabellingDoesMore : Type 0
+LabellingDoesMore = (settle : Settling) (drains : ℕ → State → Trace State) (o : Options) (vars : List Tree) →
+    ((s : State) → DepthOnlyAdds (λ d. drains d s)) → (s : State) → DepthOnlyAdds (λ d. labelled_at settle drains o vars d s)
+
+-- and so with an objective
+abbrev pub SeekingDoesMore : Type 0
+SeekingDoesMore = (p : Seeking) → ((s : State) → DepthOnlyAdds (λ d. p.drains d s)) → ((s : State) → DepthOnlyAdds (λ d. p.labels d s)) →
+    (s : State) → DepthOnlyAdds (λ d. sought p d s)
+
+-- there is one first assignment at most
+abbrev pub FirstIsOne : Type 0
+FirstIsOne = (s : State) (items : List Item) (values others : List ℤ) → IsFirst s items values → IsFirst s items others → values ≡ others
