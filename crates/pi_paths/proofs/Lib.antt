@@ -1,0 +1,3 @@
+pub mod PlainLemmas
+pub mod ApartLemmas
+pub mod ResumedLemmas

@@ -1,0 +1,17 @@
+use Rattle.pi_paths.proofs.ApartLemmas.{straight_is_apart, sequences_are_apart, choices_are_apart, catches_are_apart, no_two_paths_are_one}
+use Rattle.pi_paths.proofs.laws.paths.paths_lead_apart.Goals as goal
+
+pub returns-clause-straight : goal.returns-clause-straight
+returns-clause-straight g c = straight_is_apart
+
+pub returns-clause-sequence : goal.returns-clause-sequence
+returns-clause-sequence g c = sequences_are_apart
+
+pub returns-clause-choice : goal.returns-clause-choice
+returns-clause-choice g c = choices_are_apart
+
+pub returns-clause-catching : goal.returns-clause-catching
+returns-clause-catching g c = catches_are_apart
+
+pub returns-clause-different : goal.returns-clause-different
+returns-clause-different g c = no_two_paths_are_one

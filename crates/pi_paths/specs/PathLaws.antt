@@ -1,0 +1,49 @@
+-- The laws of paths and of resumed runs.
+use Rattle.std.specs.Prelude.{◌≡◌, ◌≢◌, ◌≤◌, ℕ, suc, List, [], ◌∷◌, length, map, AllPairs, ⊤}
+use Rattle.pi_terms.specs.Tree.{Tree}
+use Rattle.pi_traces.specs.Trace.{Trace, done, alt, then, answers}
+use Rattle.pi_traces.specs.Control.{caught}
+use Rattle.pi_paths.specs.Ways.{Way, Ways, plain, straight, here, without_choices, numbered, followed_by, choice_from, choice, catching, Apart}
+use Rattle.pi_paths.specs.Resumed.{Search, sequence, alternatives, caught_search, IsResumable}
+
+-- Without its paths a trace is what it was.
+
+abbrev pub PlainOfNumbered : Type 0 → Type 0
+PlainOfNumbered A = (k : ℕ) (t : Ways A) → plain (numbered k t) ≡ plain t
+
+abbrev pub PlainOfSequence : Type 0 → Type 0 → Type 0
+PlainOfSequence A B = (t : Ways A) (f : A → Ways B) → plain (followed_by t f) ≡ then (plain t) (λ x. plain (f x))
+
+abbrev pub PlainOfChoice : Type 0 → Type 0
+PlainOfChoice A = (k : ℕ) (t : Ways A) (more : List (Ways A)) → plain (choice_from k (t ∷ more)) ≡ alt (plain t) (plain (choice_from (suc k) more))
+
+abbrev pub PlainOfCatch : Type 0 → Type 0
+PlainOfCatch A = (t : Ways A) (handler : Tree → Ways A) → plain (catching t handler) ≡ caught (plain t) (λ ball. plain (handler ball))
+
+-- The paths of a trace's answers lead apart, however goals are put together.
+
+abbrev pub StraightIsApart : Type 0 → Type 0
+StraightIsApart A = (t : Trace A) → length (answers t) ≤ 1 → Apart (without_choices t)
+
+abbrev pub SequencesAreApart : Type 0 → Type 0 → Type 0
+SequencesAreApart A B = (t : Ways A) (f : A → Ways B) → Apart t → ((x : A) → Apart (f x)) → Apart (followed_by t f)
+
+-- each of these is so
+unfoldable pub AllApart : {A : Type 0} → List (Ways A) → Type 0
+AllApart [] = ⊤
+AllApart (t ∷ ts) = Apart t × AllApart ts
+
+abbrev pub ChoicesAreApart : Type 0 → Type 0
+ChoicesAreApart A = (ts : List (Ways A)) → AllApart ts → Apart (choice ts)
+
+abbrev pub CatchesAreApart : Type 0 → Type 0
+CatchesAreApart A = (t : Ways A) (handler : Tree → Ways A) → Apart t → ((ball : Tree) → Apart (handler ball)) → Apart (catching t handler)
+
+-- and so no two answers have one path
+abbrev pub NoTwoPathsAreOne : Type 0 → Type 0
+NoTwoPathsAreOne A = (t : Ways A) → Apart t → AllPairs (λ v w. v.path ≢ w.path) (answers t)
+
+-- A resumed run gives, behind the answer of its path, what stands behind that answer in the trace.
+
+abbrev pub SequencesAreResumable : Type 0 → Type 0 → Type 0
+SequencesAreResumable A B = (s : Search A) (g : A → Search B) → IsResumable s → ((x : A) → IsResumable (g x)) → IsResumable (sequence s g)

@@ -1,0 +1,18 @@
+//! Laws of plans.
+ghost use Rattle.pi_plans.specs.PlanLaws.{RightStaysRight, RightLogsAreRight, PlansKeepTheLimit, PlansGoByCost, BestPlansAreCheapest, LeastCostIsOne, NoPlanIsNone};
+
+/// An entry that is right under a log is right under each longer one, and so each entry of a right log under all of it.
+pub fn logs_stay_right()
+    ensures longer { RightStaysRight }
+    ensures whole { RightLogsAreRight }
+{}
+
+/// A valid plan keeps its limit. Where a program isn't by rests, a plan of `best_plan` costs what no valid plan costs less than, and that is one
+/// number. Where it finds none there is none.
+pub fn best_plans_are_cheapest()
+    ensures limit { PlansKeepTheLimit }
+    ensures cost { PlansGoByCost }
+    ensures cheapest { BestPlansAreCheapest }
+    ensures one { LeastCostIsOne }
+    ensures none { NoPlanIsNone }
+{}
