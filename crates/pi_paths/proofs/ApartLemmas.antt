@@ -1,12 +1,13 @@
 -- Paths that lead apart.
-use Rattle.std.specs.Prelude.{◌≡◌, ◌≢◌, ◌⊎◌, ℕ, zero, suc, ◌<◌, ◌≤◌, List, [], ◌∷◌, ◌++◌, length, get_or, AllPairs, refl}
+use Rattle.std.specs.Prelude.{◌≡◌, ◌≢◌, ◌⊎◌, ℕ, zero, suc, ◌<◌, ◌≤◌, Bool, true, false, List, [], ◌∷◌, ◌++◌, length, get_or, AllPairs, refl}
 use Rattle.std.proofs.Common.{arith, sym, ◌∙◌, ap, subst, inl, inr}
 use Rattle.pi_terms.specs.Tree.{Tree}
 use Rattle.pi_traces.specs.Trace.{Trace, end, note, ans, Done, Raise, Abort, Miss, Deep, done, one, alt, then, answers}
-use Rattle.pi_traces.specs.Control.{caught}
+use Rattle.pi_traces.specs.Control.{caught, chosen}
 use Rattle.pi_traces.proofs.AnswerLemmas.{EachAnswer, each-map, each-alt, each-then}
 use Rattle.pi_paths.specs.Ways.{Way, Ways, straight, here, without_choices, choosing, numbered, behind, followed_by, choice_from, choice, catching, Diverge, Apart}
-use Rattle.pi_paths.specs.PathLaws.{StraightIsApart, SequencesAreApart, AllApart, ChoicesAreApart, CatchesAreApart, NoTwoPathsAreOne}
+use Rattle.pi_paths.specs.Resumed.{RuleSearch, rest_unless, rules_ways, call_search}
+use Rattle.pi_paths.specs.PathLaws.{StraightIsApart, SequencesAreApart, AllApart, ChoicesAreApart, CatchesAreApart, AllBodiesApart, CallsAreApart, NoTwoPathsAreOne}
 
 -- ---- paths
 
@@ -117,16 +118,17 @@ numbered-all j k other t u = each-renamed (λ w. EachAnswer (From w) (numbered k
 
 -- ---- a goal without choices
 
+none-left : {A : Type 0} (w : Way A) (t : Trace A) → length (answers t) ≤ 0 → EachAnswer (From w) (without_choices t)
+unfolding answers then alt EachAnswer
+none-left w (end e) l = tt
+none-left w (note n t) l = none-left w t l
+none-left w (ans x t) l = absurd (omega arith)
+
 few : {A : Type 0} (t : Trace A) → length (answers t) ≤ 1 → Parts (without_choices t)
-unfolding Parts answers then alt here EachAnswer
+unfolding Parts answers then alt EachAnswer
 few (end e) l = tt
 few (note n t) l = few t l
-few (ans x t) l = (none-left t (omega arith), few t (omega arith))
-  where
-    none-left : {A : Type 0} {w : Way A} (t : Trace A) → length (answers t) ≤ 0 → EachAnswer (From w) (without_choices t)
-    none-left (end e) l = tt
-    none-left (note n t) l = none-left t l
-    none-left (ans x t) l = absurd (omega arith)
+few (ans x t) l = (none-left (straight x) t (omega arith), few t (omega arith))
 
 pub straight_is_apart : {A : Type 0} → StraightIsApart A
 straight_is_apart t l = apart-of (without_choices t) (few t l)
@@ -197,6 +199,67 @@ pub catches_are_apart : {A : Type 0} → CatchesAreApart A
 catches_are_apart t handler a all =
     apart-of (catching t handler) (parts-caught (numbered 1 t) (λ ball. numbered 2 (handler ball)) (parts-numbered 1 t (parts-of t a)) (λ ball. parts-numbered 2 (handler ball) (parts-of (handler ball) (all ball)))
     (λ ball. numbered-all 1 2 (λ e. absurd (omega arith)) t (handler ball)))
+
+-- ---- the rules of a call
+
+each-chosen : {X A : Type 0} (P : A → Type 0) (t : Trace X) (f : X → Trace A) (u : Trace A) → ((x : X) → EachAnswer P (f x)) → EachAnswer P u → EachAnswer P (chosen t f u)
+unfolding EachAnswer chosen
+each-chosen P (end Done) f u a b = b
+each-chosen P (end (Raise ball)) f u a b = tt
+each-chosen P (end (Abort ball)) f u a b = tt
+each-chosen P (end (Miss c)) f u a b = tt
+each-chosen P (end Deep) f u a b = tt
+each-chosen P (note n t) f u a b = each-chosen P t f u a b
+each-chosen P (ans x t) f u a b = a x
+
+parts-chosen : {X A : Type 0} (t : Trace X) (f : X → Ways A) (u : Ways A) → ((x : X) → Parts (f x)) → Parts u → Parts (chosen t f u)
+unfolding Parts chosen
+parts-chosen (end Done) f u a b = b
+parts-chosen (end (Raise ball)) f u a b = tt
+parts-chosen (end (Abort ball)) f u a b = tt
+parts-chosen (end (Miss c)) f u a b = tt
+parts-chosen (end Deep) f u a b = tt
+parts-chosen (note n t) f u a b = parts-chosen t f u a b
+parts-chosen (ans x t) f u a b = a x
+
+each-unless : {A : Type 0} (P : Way A → Type 0) (c : Bool) (t : Ways A) → EachAnswer P t → EachAnswer P (rest_unless c t)
+unfolding EachAnswer
+each-unless P true t h = tt
+each-unless P false t h = h
+
+parts-unless : {A : Type 0} (c : Bool) (t : Ways A) → Parts t → Parts (rest_unless c t)
+unfolding Parts
+parts-unless true t h = tt
+parts-unless false t h = h
+
+-- of later numbers each differs
+rules-each : {X A B : Type 0} (j k : ℕ) → j < k → (v : Way B) (rs : List (RuleSearch X A)) → EachAnswer (From (choosing j v)) (rules_ways k rs)
+unfolding rules_ways EachAnswer
+rules-each j k l v [] = tt
+rules-each j k l v (r ∷ rs) =
+    let rest = rules-each j (suc k) (omega arith) v rs in
+    each-chosen (From (choosing j v)) r.applies (λ x. alt (numbered k (r.body x).ways) (rest_unless r.committed (rules_ways (suc k) rs))) (rules_ways (suc k) rs)
+    (λ x. each-alt (From (choosing j v)) (numbered k (r.body x).ways) (rest_unless r.committed (rules_ways (suc k) rs)) (numbered-from j k (λ e. absurd (omega arith)) v (r.body x).ways)
+      (each-unless (From (choosing j v)) r.committed (rules_ways (suc k) rs) rest)) rest
+
+rules-parts : {X A : Type 0} (k : ℕ) (rs : List (RuleSearch X A)) → AllBodiesApart rs → Parts (rules_ways k rs)
+unfolding rules_ways AllBodiesApart Parts
+rules-parts k [] all = tt
+rules-parts k (r ∷ rs) all =
+    let rest = rules-parts (suc k) rs all.1 in
+    parts-chosen r.applies (λ x. alt (numbered k (r.body x).ways) (rest_unless r.committed (rules_ways (suc k) rs))) (rules_ways (suc k) rs)
+    (λ x. parts-alt (numbered k (r.body x).ways) (rest_unless r.committed (rules_ways (suc k) rs)) (parts-numbered k (r.body x).ways (parts-of (r.body x).ways (all.0 x)))
+      (parts-unless r.committed (rules_ways (suc k) rs) rest)
+      (each-renamed (λ y. EachAnswer (From y) (rest_unless r.committed (rules_ways (suc k) rs))) (choosing k) (r.body x).ways
+        (each-any (λ v. EachAnswer (From (choosing k v)) (rest_unless r.committed (rules_ways (suc k) rs)))
+          (λ v. each-unless (From (choosing k v)) r.committed (rules_ways (suc k) rs) (rules-each k (suc k) (omega arith) v rs)) (r.body x).ways))) rest
+
+call-parts : {X A : Type 0} (rs : List (RuleSearch X A)) → AllBodiesApart rs → Parts (call_search rs).ways
+unfolding Parts
+call-parts rs all = rules-parts 1 rs all
+
+pub calls_are_apart : {X A : Type 0} → CallsAreApart X A
+calls_are_apart rs all = apart-of (call_search rs).ways (call-parts rs all)
 
 pub no_two_paths_are_one : {A : Type 0} → NoTwoPathsAreOne A
 no_two_paths_are_one t a = λ i j d below within. diverge-differ (get_or (answers t) i d).path (get_or (answers t) j d).path (a i j d below within)

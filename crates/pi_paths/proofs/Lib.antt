@@ -1,3 +1,4 @@
 pub mod PlainLemmas
 pub mod ApartLemmas
 pub mod ResumedLemmas
+pub mod ChoiceLemmas

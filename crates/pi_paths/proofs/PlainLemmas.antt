@@ -3,10 +3,11 @@ use Rattle.std.specs.Prelude.{◌≡◌, ℕ, suc, List, [], ◌∷◌, refl}
 use Rattle.std.proofs.Common.{sym, ◌∙◌, ap}
 use Rattle.pi_terms.specs.Tree.{Tree}
 use Rattle.pi_traces.specs.Trace.{Trace, end, note, ans, Done, Raise, Abort, Miss, Deep, done, one, alt, then}
-use Rattle.pi_traces.specs.Control.{caught}
+use Rattle.pi_traces.specs.Control.{caught, chosen}
 use Rattle.pi_traces.proofs.TraceLemmas.{then-alt, then-assoc}
 use Rattle.pi_paths.specs.Ways.{Way, Ways, plain, choosing, numbered, behind, followed_by, choice_from, catching}
-use Rattle.pi_paths.specs.PathLaws.{PlainOfNumbered, PlainOfSequence, PlainOfChoice, PlainOfCatch}
+use Rattle.pi_paths.specs.Resumed.{rest_unless, rules_ways}
+use Rattle.pi_paths.specs.PathLaws.{PlainOfNumbered, PlainOfSequence, PlainOfChoice, PlainOfCatch, PlainOfRules}
 
 -- a trace whose answers are renamed keeps what follows that doesn't look at the names
 then-renamed : {A B C : Type 0} (t : Trace A) (g : A → B) (f : B → Trace C) → then (then t (λ x. one (g x))) f ≡ then t (λ x. f (g x))
@@ -59,3 +60,32 @@ plain_of_catch t handler =
     then-caught (numbered 1 t) (λ w. w.answer) (λ ball. numbered 2 (handler ball))
     ∙ (ap (λ u. caught u (λ ball. plain (numbered 2 (handler ball)))) (plain_of_numbered 1 t)
     ∙ same-caught (plain t) (λ ball. plain (numbered 2 (handler ball))) (λ ball. plain (handler ball)) (λ ball. plain_of_numbered 2 (handler ball)))
+
+then-chosen : {X A B : Type 0} (t : Trace X) (g : A → B) (f : X → Trace A) (u : Trace A) → then (chosen t f u) (λ x. one (g x)) ≡ chosen t (λ x. then (f x) (λ y. one (g y))) (then u (λ y. one (g y)))
+unfolding then chosen
+then-chosen (end Done) g f u = refl
+then-chosen (end (Raise ball)) g f u = refl
+then-chosen (end (Abort ball)) g f u = refl
+then-chosen (end (Miss c)) g f u = refl
+then-chosen (end Deep) g f u = refl
+then-chosen (note n t) g f u = ap (note n) (then-chosen t g f u)
+then-chosen (ans x t) g f u = refl
+
+same-chosen : {X A : Type 0} (t : Trace X) (f g : X → Trace A) (u : Trace A) → ((x : X) → f x ≡ g x) → chosen t f u ≡ chosen t g u
+unfolding chosen
+same-chosen (end Done) f g u all = refl
+same-chosen (end (Raise ball)) f g u all = refl
+same-chosen (end (Abort ball)) f g u all = refl
+same-chosen (end (Miss c)) f g u all = refl
+same-chosen (end Deep) f g u all = refl
+same-chosen (note n t) f g u all = ap (note n) (same-chosen t f g u all)
+same-chosen (ans x t) f g u all = all x
+
+pub plain_of_rules : {X A : Type 0} → PlainOfRules X A
+unfolding rules_ways
+plain_of_rules k r rs =
+    then-chosen r.applies (λ w. w.answer) (λ x. alt (numbered k (r.body x).ways) (rest_unless r.committed (rules_ways (suc k) rs))) (rules_ways (suc k) rs)
+    ∙ same-chosen r.applies (λ x. plain (alt (numbered k (r.body x).ways) (rest_unless r.committed (rules_ways (suc k) rs)))) (λ x. alt (plain (r.body x).ways) (plain (rest_unless r.committed (rules_ways (suc k) rs))))
+    (plain (rules_ways (suc k) rs))
+    (λ x. then-alt (numbered k (r.body x).ways) (rest_unless r.committed (rules_ways (suc k) rs)) (λ w. one w.answer)
+      ∙ ap (λ t. alt t (plain (rest_unless r.committed (rules_ways (suc k) rs)))) (plain_of_numbered k (r.body x).ways))

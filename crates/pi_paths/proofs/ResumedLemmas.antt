@@ -10,7 +10,7 @@ use Rattle.pi_paths.specs.PathLaws.{SequencesAreResumable}
 -- ---- answers of traces that are put together
 
 -- an answer of a trace, or of the one behind it
-data AtAlt {A : Type 0} (t u : Trace A) (x : A) (rest : Trace A) : Type 0 where
+pub data AtAlt {A : Type 0} (t u : Trace A) (x : A) (rest : Trace A) : Type 0 where
   in_front : (r : Trace A) → At t x r → rest ≡ alt r u → AtAlt t u x rest
   in_behind : At u x rest → AtAlt t u x rest
 
@@ -23,18 +23,18 @@ answer-alt y (in_front r a e) = in_front r (past_answer y a) e
 answer-alt y (in_behind a) = in_behind a
 
 -- what an answer of a trace is, by what the trace begins with
-Begun : {A : Type 0} → Trace A → A → Trace A → Type 0
+unfoldable pub Begun : {A : Type 0} → Trace A → A → Trace A → Type 0
 Begun (end e) x rest = ⊥
 Begun (note n t) x rest = At t x rest
 Begun (ans y t) x rest = ((x ≡ y) × (rest ≡ t)) ⊎ At t x rest
 
-begun : {A : Type 0} {t : Trace A} {x : A} {rest : Trace A} → At t x rest → Begun t x rest
+pub begun : {A : Type 0} {t : Trace A} {x : A} {rest : Trace A} → At t x rest → Begun t x rest
 unfolding Begun
 begun (at_first x t) = inl (refl, refl)
 begun (past_note n a) = a
 begun (past_answer y a) = inr a
 
-at-alt : {A : Type 0} (t u : Trace A) (x : A) (rest : Trace A) → At (alt t u) x rest → AtAlt t u x rest
+pub at-alt : {A : Type 0} (t u : Trace A) (x : A) (rest : Trace A) → At (alt t u) x rest → AtAlt t u x rest
 unfolding alt Begun
 at-alt (end Done) u x rest a = in_behind a
 at-alt (end (Raise ball)) u x rest a = absurd (begun a)
@@ -48,7 +48,7 @@ at-alt (ans y t) u x rest a = elim (begun a) [
 ]
 
 -- an answer of what follows an answer
-data AtThen {A B : Type 0} (t : Trace A) (f : A → Trace B) (v : B) (rest : Trace B) : Type 0 where
+pub data AtThen {A B : Type 0} (t : Trace A) (f : A → Trace B) (v : B) (rest : Trace B) : Type 0 where
   through : (w : A) (r : Trace A) (q : Trace B) → At t w r → At (f w) v q → rest ≡ alt q (then r f) → AtThen t f v rest
 
 note-then : {A B : Type 0} {t : Trace A} {f : A → Trace B} {v : B} {rest : Trace B} (n : Note) → AtThen t f v rest → AtThen (note n t) f v rest
@@ -61,22 +61,22 @@ first-then : {A B : Type 0} (w : A) (t : Trace A) (f : A → Trace B) (v : B) (r
 first-then w t f v rest (in_front r a e) later = through w t r (at_first w t) a e
 first-then w t f v rest (in_behind a) later = answer-then w (later a)
 
-at-then : {A B : Type 0} (t : Trace A) (f : A → Trace B) (v : B) (rest : Trace B) → At (then t f) v rest → AtThen t f v rest
+pub at-then : {A B : Type 0} (t : Trace A) (f : A → Trace B) (v : B) (rest : Trace B) → At (then t f) v rest → AtThen t f v rest
 unfolding then Begun
 at-then (end e) f v rest a = absurd (begun a)
 at-then (note n t) f v rest a = note-then n (at-then t f v rest (begun a))
 at-then (ans w t) f v rest a = first-then w t f v rest (at-alt (f w) (then t f) v rest a) (at-then t f v rest)
 
-at-one : {A : Type 0} (x y : A) (rest : Trace A) → At (one x) y rest → (y ≡ x) × (rest ≡ done)
+pub at-one : {A : Type 0} (x y : A) (rest : Trace A) → At (one x) y rest → (y ≡ x) × (rest ≡ done)
 unfolding Begun
 at-one x y rest a = elim (begun a) [ inl p ↦ p | inr b ↦ absurd (begun b) ]
 
 -- ---- where following leads
 
-abbrev onward : {A : Type 0} → List ℕ → Ways A → Ways A
+abbrev pub onward : {A : Type 0} → List ℕ → Ways A → Ways A
 onward made t = then t (λ w. one (behind made w))
 
-leads-rest : {A : Type 0} (made : List ℕ) (rest : Ways A) (f : Following A) (path : List ℕ) (x : A) (left : List ℕ) (later : Ways A) →
+pub leads-rest : {A : Type 0} (made : List ℕ) (rest : Ways A) (f : Following A) (path : List ℕ) (x : A) (left : List ℕ) (later : Ways A) →
     Leads f path x left later → Leads (with_rest made rest f) (made ++ path) x left (alt (onward made later) rest)
 unfolding Leads with_rest
 leads-rest made rest (on_way n f) path x left later h = leads-rest made rest f path x left later h
@@ -104,6 +104,7 @@ ways_from g w = onward w.path (g w.answer).ways
 
 sequence-at : {A B : Type 0} (s : Search A) (g : A → Search B) → IsResumable s → ((x : A) → IsResumable (g x)) → (v : Way B) (rest : Ways B) (left : List ℕ) →
     AtThen s.ways (ways_from g) v rest → Leads ((sequence s g).follows (v.path ++ left)) v.path v.answer left rest
+unfolding then alt
 sequence-at s g hs hg v rest left (through w r q a b e) = inner s g hs hg v rest left w r q a e (at-then (g w.answer).ways (λ u. one (behind w.path u)) v q b)
   where
     inner : {A B : Type 0} (s : Search A) (g : A → Search B) → IsResumable s → ((x : A) → IsResumable (g x)) → (v : Way B) (rest : Ways B) (left : List ℕ) (w : Way A) (r : Ways A) (q : Ways B) → At s.ways w r →

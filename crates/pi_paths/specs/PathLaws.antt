@@ -2,9 +2,9 @@
 use Rattle.std.specs.Prelude.{◌≡◌, ◌≢◌, ◌≤◌, ℕ, suc, List, [], ◌∷◌, length, map, AllPairs, ⊤}
 use Rattle.pi_terms.specs.Tree.{Tree}
 use Rattle.pi_traces.specs.Trace.{Trace, done, alt, then, answers}
-use Rattle.pi_traces.specs.Control.{caught}
+use Rattle.pi_traces.specs.Control.{caught, chosen}
 use Rattle.pi_paths.specs.Ways.{Way, Ways, plain, straight, here, without_choices, numbered, followed_by, choice_from, choice, catching, Apart}
-use Rattle.pi_paths.specs.Resumed.{Search, sequence, alternatives, caught_search, IsResumable}
+use Rattle.pi_paths.specs.Resumed.{Search, sequence, alternatives, caught_search, RuleSearch, rest_unless, rules_ways, call_search, IsResumable}
 
 -- Without its paths a trace is what it was.
 
@@ -19,6 +19,11 @@ PlainOfChoice A = (k : ℕ) (t : Ways A) (more : List (Ways A)) → plain (choic
 
 abbrev pub PlainOfCatch : Type 0 → Type 0
 PlainOfCatch A = (t : Ways A) (handler : Tree → Ways A) → plain (catching t handler) ≡ caught (plain t) (λ ball. plain (handler ball))
+
+-- of the rules of a call: what chooses by the rules alone, where a committed one ends the choice
+abbrev pub PlainOfRules : Type 0 → Type 0 → Type 0
+PlainOfRules X A = (k : ℕ) (r : RuleSearch X A) (rs : List (RuleSearch X A)) →
+    plain (rules_ways k (r ∷ rs)) ≡ chosen r.applies (λ x. alt (plain (r.body x).ways) (plain (rest_unless r.committed (rules_ways (suc k) rs)))) (plain (rules_ways (suc k) rs))
 
 -- The paths of a trace's answers lead apart, however goals are put together.
 
@@ -39,6 +44,14 @@ ChoicesAreApart A = (ts : List (Ways A)) → AllApart ts → Apart (choice ts)
 abbrev pub CatchesAreApart : Type 0 → Type 0
 CatchesAreApart A = (t : Ways A) (handler : Tree → Ways A) → Apart t → ((ball : Tree) → Apart (handler ball)) → Apart (catching t handler)
 
+-- the bodies of these rules do
+unfoldable pub AllBodiesApart : {X A : Type 0} → List (RuleSearch X A) → Type 0
+AllBodiesApart [] = ⊤
+AllBodiesApart {X = X} (r ∷ rs) = ((x : X) → Apart (r.body x).ways) × AllBodiesApart rs
+
+abbrev pub CallsAreApart : Type 0 → Type 0 → Type 0
+CallsAreApart X A = (rs : List (RuleSearch X A)) → AllBodiesApart rs → Apart (call_search rs).ways
+
 -- and so no two answers have one path
 abbrev pub NoTwoPathsAreOne : Type 0 → Type 0
 NoTwoPathsAreOne A = (t : Ways A) → Apart t → AllPairs (λ v w. v.path ≢ w.path) (answers t)
@@ -47,3 +60,22 @@ NoTwoPathsAreOne A = (t : Ways A) → Apart t → AllPairs (λ v w. v.path ≢ w
 
 abbrev pub SequencesAreResumable : Type 0 → Type 0 → Type 0
 SequencesAreResumable A B = (s : Search A) (g : A → Search B) → IsResumable s → ((x : A) → IsResumable (g x)) → IsResumable (sequence s g)
+
+-- each of these is so
+unfoldable pub AllResumable : {A : Type 0} → List (Search A) → Type 0
+AllResumable [] = ⊤
+AllResumable (s ∷ more) = IsResumable s × AllResumable more
+
+abbrev pub ChoicesAreResumable : Type 0 → Type 0
+ChoicesAreResumable A = (more : List (Search A)) → AllResumable more → IsResumable (alternatives more)
+
+abbrev pub CatchesAreResumable : Type 0 → Type 0
+CatchesAreResumable A = (s : Search A) (handler : Tree → Search A) → IsResumable s → ((ball : Tree) → IsResumable (handler ball)) → IsResumable (caught_search s handler)
+
+-- the rules of a call, whose bodies are so
+unfoldable pub AllBodies : {X A : Type 0} → List (RuleSearch X A) → Type 0
+AllBodies [] = ⊤
+AllBodies {X = X} (r ∷ rs) = ((x : X) → IsResumable (r.body x)) × AllBodies rs
+
+abbrev pub CallsAreResumable : Type 0 → Type 0 → Type 0
+CallsAreResumable X A = (rs : List (RuleSearch X A)) → AllBodies rs → IsResumable (call_search rs)

@@ -1,5 +1,5 @@
 //! Laws of paths and of resumed runs.
-ghost use Rattle.pi_paths.specs.PathLaws.{PlainOfNumbered, PlainOfSequence, PlainOfChoice, PlainOfCatch, StraightIsApart, SequencesAreApart, ChoicesAreApart, CatchesAreApart, NoTwoPathsAreOne, SequencesAreResumable};
+ghost use Rattle.pi_paths.specs.PathLaws.{PlainOfNumbered, PlainOfSequence, PlainOfChoice, PlainOfCatch, PlainOfRules, StraightIsApart, SequencesAreApart, ChoicesAreApart, CatchesAreApart, CallsAreApart, NoTwoPathsAreOne, SequencesAreResumable, ChoicesAreResumable, CatchesAreResumable, CallsAreResumable};
 
 /// Without its paths a trace is what it was, however goals are put together.
 pub fn paths_add_nothing<A, B>()
@@ -7,6 +7,7 @@ pub fn paths_add_nothing<A, B>()
     ensures sequence { PlainOfSequence A B }
     ensures choice { PlainOfChoice A }
     ensures catching { PlainOfCatch A }
+    ensures rules { PlainOfRules A B }
 {}
 
 /// The paths of a trace's answers lead apart, however goals are put together, and so no two answers have one path.
@@ -15,10 +16,15 @@ pub fn paths_lead_apart<A, B>()
     ensures sequence { SequencesAreApart A B }
     ensures choice { ChoicesAreApart A }
     ensures catching { CatchesAreApart A }
+    ensures calls { CallsAreApart A B }
     ensures different { NoTwoPathsAreOne A }
 {}
 
-/// A sequence of goals, each of which leads to the answers of its paths, leads to the answers of its own.
-pub fn sequences_resume<A, B>()
-    ensures { SequencesAreResumable A B }
+/// Goals that lead to the answers of their paths lead to those of the whole, however they are put together: what stands behind such an answer in the
+/// resumed run is what stands behind it in the trace.
+pub fn goals_resume<A, B>()
+    ensures sequence { SequencesAreResumable A B }
+    ensures choice { ChoicesAreResumable A }
+    ensures catching { CatchesAreResumable A }
+    ensures calls { CallsAreResumable A B }
 {}
