@@ -1,8 +1,7 @@
 -- What waits is run in order, and more depth only adds.
 use Rattle.std.specs.Prelude.{◌≡◌, ℕ, zero, suc, List, [], ◌∷◌, Option, Some, None, refl}
 use Rattle.std.proofs.Common.{sym, ◌∙◌, ap}
-use Rattle.pi_terms.specs.Tree.{Tree}
-use Rattle.pi_traces.specs.Trace.{Trace, end, note, Deep, Tick, one, then}
+use Rattle.pi_traces.specs.Trace.{Trace, Tick, one}
 use Rattle.pi_traces.specs.Control.{chosen}
 use Rattle.pi_traces.specs.Depth.{Below, deeper, same_note}
 use Rattle.pi_traces.specs.Related.{BelowBy}
@@ -10,8 +9,8 @@ use Rattle.pi_traces.proofs.BelowLemmas.{below-refl, below-then}
 use Rattle.pi_traces.proofs.RelatedLemmas.{Same, by-below, below-by, by-chosen}
 use Rattle.pi_states.specs.State.{State, Agent, with_waiting, with_ended}
 use Rattle.pi_states.specs.declared.event.Activation.{Activation}
-use Rattle.pi_agents.specs.Fire.{SlotValue, Rules, decided, event_value, fired}
-use Rattle.pi_agents.specs.Drain.{Lower, living, woken, drained_from, drained}
+use Rattle.pi_agents.specs.Fire.{Rules, decided, event_value, fired}
+use Rattle.pi_agents.specs.Drain.{Lower, living, woken, drained_from}
 use Rattle.pi_agents.specs.AgentLaws.{DrainingNothing, EndedArePassedOver, FirstInFirstOut, RulesDoMore, LowerDoesMore, DrainingDoesMoreBy}
 
 pub draining_nothing : {X : Type 0} → DrainingNothing X

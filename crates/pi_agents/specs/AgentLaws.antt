@@ -1,13 +1,13 @@
 -- The laws of agents.
-use Rattle.std.specs.Prelude.{◌≡◌, ◌⊎◌, ℕ, List, [], ◌∷◌, Option, Some, None, All}
+use Rattle.std.specs.Prelude.{◌≡◌, ℕ, List, [], ◌∷◌, Option, Some, None}
 use Rattle.pi_terms.specs.Tree.{Tree}
-use Rattle.pi_traces.specs.Trace.{Trace, note, Tick, one, then}
+use Rattle.pi_traces.specs.Trace.{note, Tick, one, then}
 use Rattle.pi_traces.specs.Depth.{Below}
 use Rattle.pi_traces.specs.Related.{BelowBy}
 use Rattle.pi_states.specs.State.{State, Agent, with_waiting}
 use Rattle.pi_states.specs.declared.event.Activation.{Activation}
 use Rattle.pi_agents.specs.Fire.{SlotValue, Rules, fired}
-use Rattle.pi_agents.specs.Drain.{Lower, living, drained_from, drained}
+use Rattle.pi_agents.specs.Drain.{Lower, living, drained}
 
 -- draining nothing is nothing
 abbrev pub DrainingNothing : Type 0 → Type 0

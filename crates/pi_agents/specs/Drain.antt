@@ -1,7 +1,7 @@
 -- Draining: before a goal, and before an answer of a strict place counts, the activations that wait are run, first in, first out. One Tick each, and each
 -- answer is drained in turn; an activation of an agent that has ended is passed over without one. (A User's Guide to Picat, 'Action Rules'; Ticks and the
 -- order are own.)
-use Rattle.std.specs.Prelude.{ℕ, Bool, true, false, cond, List, [], ◌∷◌, Option, Some, None, slice_get}
+use Rattle.std.specs.Prelude.{ℕ, cond, List, [], ◌∷◌, Option, Some, None, slice_get}
 use Rattle.pi_traces.specs.Trace.{Trace, end, note, Deep, Tick, one, then}
 use Rattle.pi_states.specs.State.{State, Agent, with_waiting}
 use Rattle.pi_states.specs.declared.event.Activation.{Activation}

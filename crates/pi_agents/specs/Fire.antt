@@ -1,11 +1,11 @@
 -- What an activation does (A User's Guide to Picat, 'Action Rules'): where the agent's own rule is still the first that applies to its call, the rule's
 -- body runs with the event's value, and the agent stays. Else the agent ends and its call is made anew. Rules behind its own one aren't tried. How rules
 -- apply is a parameter, so that this serves the meaning over names and the core meaning. (That the agent ends is own.)
-use Rattle.std.specs.Prelude.{ℕ, zero, suc, List, Option, Some, None, slice_get}
+use Rattle.std.specs.Prelude.{ℕ, zero, suc, Option, Some, None, slice_get}
 use Rattle.pi_terms.specs.Tree.{Tree}
 use Rattle.pi_traces.specs.Trace.{Trace}
 use Rattle.pi_traces.specs.Control.{chosen}
-use Rattle.pi_states.specs.State.{State, Agent, WatchTree, on_ins, on_bound, on_dom, on_dom_any, on_posted, with_ended}
+use Rattle.pi_states.specs.State.{State, Agent, WatchTree, on_dom, on_dom_any, on_posted, with_ended}
 use Rattle.pi_states.specs.declared.event.Activation.{Activation}
 
 -- a slot and the value that an event gives it

@@ -1,15 +1,14 @@
 -- The alternatives of a variable part its domain.
-use Rattle.std.specs.Prelude.{◌≡◌, ◌⊎◌, ℕ, zero, suc, ◌-◌, ◌<◌, ℤ, pos, ◌<ℤ◌, int_le, Bool, true, false, not, IsTrue, List, [], ◌∷◌, length, map, reverse, get_or, AllPairs, refl}
+use Rattle.std.specs.Prelude.{◌≡◌, ◌⊎◌, ℕ, zero, suc, ◌-◌, ◌<◌, ℤ, pos, ◌<ℤ◌, int_le, true, false, IsTrue, List, [], ◌∷◌, length, map, reverse, get_or, AllPairs, refl}
 use Rattle.std.specs.Ordering.{is_eq, int_cmp}
-use Rattle.std.proofs.Common.{arith, sym, ◌∙◌, ap, subst, inl, inr}
+use Rattle.std.proofs.Common.{arith, sym, ◌∙◌, ap, inl, inr}
 use Rattle.std.proofs.lemmas.Bool.{cases_Bool}
 use Rattle.std.proofs.lemmas.Int.{ints}
 use Rattle.std.proofs.lemmas.List.{length-map, length-reverse, get_or-map, get_or_default, get_or-reverse}
-use Rattle.pi_constraints.specs.declared.domain.Span.{Span}
-use Rattle.pi_constraints.specs.Domain.{IsDomain, has_value, values_of}
+use Rattle.pi_constraints.specs.Domain.{values_of}
 use Rattle.pi_constraints.proofs.DomainLemmas.{values_lie_in_spans, values_ascend}
-use Rattle.pi_labelling.specs.Options.{ValueWord, up, down, split, reverse_split}
-use Rattle.pi_labelling.specs.Choices.{Alternative, is_value, at_most, above, allows, middle, alternatives}
+use Rattle.pi_labelling.specs.Options.{up, down, split, reverse_split}
+use Rattle.pi_labelling.specs.Choices.{is_value, at_most, above, allows, middle}
 use Rattle.pi_labelling.specs.LabelLaws.{OneAllows, AlternativesPartTheDomain}
 
 -- a list of different numbers
@@ -23,9 +22,9 @@ ascending-differ : (ns : List ℤ) → AllPairs (λ (a b : ℤ). a <ℤ b) ns �
 ascending-differ ns rise j k l m e = elim (less_same_more j k) [
   | inl less ↦ absurd (let h : get_or ns j (pos 0) <ℤ get_or ns k (pos 0) = rise j k (pos 0) less m in omega (arith, ints))
   | inr rest ↦ elim rest [
-      | inl same ↦ same
-      | inr more ↦ absurd (let h : get_or ns k (pos 0) <ℤ get_or ns j (pos 0) = rise k j (pos 0) more l in omega (arith, ints))
-    ]
+    | inl same ↦ same
+    | inr more ↦ absurd (let h : get_or ns k (pos 0) <ℤ get_or ns j (pos 0) = rise k j (pos 0) more l in omega (arith, ints))
+  ]
 ]
 
 reversed-differ : (ns : List ℤ) → AreDifferent ns → AreDifferent (reverse ns)
@@ -68,6 +67,7 @@ one-of_halves m i = elim (cases_Bool (int_le i m)) [
     lower m i e zero l h = refl
     lower m i e (suc zero) l h = absurd (let none : IsTrue false = rw e at h in cc)
     lower m i e (suc (suc j)) l h = absurd (omega arith)
+
     upper : (m i : ℤ) → int_le i m ≡ false → (j : ℕ) → j < 2 → IsTrue (allows (get_or (at_most m ∷ above m ∷ []) j (is_value (pos 0))) i) → j ≡ 1
     upper m i e zero l h = absurd (let none : false ≡ true = sym e ∙ h in cc)
     upper m i e (suc zero) l h = refl
@@ -83,6 +83,7 @@ one-of_halves_reversed m i = elim (cases_Bool (int_le i m)) [
     lower m i e zero l h = absurd (let none : IsTrue false = rw e at h in cc)
     lower m i e (suc zero) l h = refl
     lower m i e (suc (suc j)) l h = absurd (omega arith)
+
     upper : (m i : ℤ) → int_le i m ≡ false → (j : ℕ) → j < 2 → IsTrue (allows (get_or (above m ∷ at_most m ∷ []) j (is_value (pos 0))) i) → j ≡ 0
     upper m i e zero l h = refl
     upper m i e (suc zero) l h = absurd (let none : false ≡ true = sym e ∙ h in cc)

@@ -1,16 +1,15 @@
 -- More depth only adds to labelling.
-use Rattle.std.specs.Prelude.{◌≡◌, ℕ, zero, suc, ℤ, List, [], ◌∷◌, Option, Some, None, refl}
+use Rattle.std.specs.Prelude.{ℕ, zero, suc, ℤ, List, [], ◌∷◌, Option, Some, None}
 use Rattle.std.proofs.Common.{ap}
 use Rattle.pi_terms.specs.Tree.{Tree}
-use Rattle.pi_traces.specs.Trace.{Trace, end, note, Raise, Tick, done, one, alt, then}
-use Rattle.pi_traces.specs.Control.{chosen}
+use Rattle.pi_traces.specs.Trace.{Trace, end, Raise, Tick, done, one, then}
 use Rattle.pi_traces.specs.Depth.{Below, deeper, same_note, DepthOnlyAdds}
 use Rattle.pi_traces.proofs.BelowLemmas.{below-refl, below-alt, below-then, below-chosen}
 use Rattle.pi_states.specs.State.{State}
 use Rattle.pi_labelling.specs.Options.{Options}
 use Rattle.pi_labelling.specs.Choices.{Pending, Alternative, picked, pending, alternatives, left_by, narrowed_to}
 use Rattle.pi_labelling.specs.Label.{Settling, Lower, tried, one_tried, all_tried, labelled_by, labelled, labelled_at}
-use Rattle.pi_labelling.specs.Rounds.{Seeking, round, weighed, bettered, sought}
+use Rattle.pi_labelling.specs.Rounds.{Seeking, round, weighed, bettered}
 use Rattle.pi_labelling.specs.LabelLaws.{LabellingNothing, LabellingDoesMore, SeekingDoesMore}
 
 pub labelling_nothing : LabellingNothing

@@ -1,5 +1,5 @@
 -- Which variable labelling picks, and which alternatives that has. (A User's Guide to Picat, 'Constraints'.)
-use Rattle.std.specs.Prelude.{◌==◌, ℕ, ◌/◌, ℤ, pos, negsuc, neg_ℤ, ◌+ℤ◌, int_le, Bool, cond, not, nat_lt, List, [], ◌∷◌, map, reverse, filter_map, Option, Some, None}
+use Rattle.std.specs.Prelude.{ℕ, ◌/◌, ℤ, pos, negsuc, neg_ℤ, ◌+ℤ◌, int_le, Bool, cond, not, nat_lt, List, [], ◌∷◌, map, reverse, filter_map, Option, Some, None}
 use Rattle.std.specs.Ordering.{is_eq, int_cmp}
 use Rattle.std.specs.List.{last_or}
 use Rattle.pi_terms.specs.Tree.{Tree, var, int, atom, comp}

@@ -1,11 +1,11 @@
 -- Paths that lead apart.
-use Rattle.std.specs.Prelude.{◌≡◌, ◌≢◌, ◌⊎◌, ℕ, zero, suc, ◌<◌, ◌≤◌, Bool, true, false, List, [], ◌∷◌, ◌++◌, length, get_or, AllPairs, refl}
-use Rattle.std.proofs.Common.{arith, sym, ◌∙◌, ap, subst, inl, inr}
+use Rattle.std.specs.Prelude.{◌≢◌, ℕ, zero, suc, ◌<◌, ◌≤◌, Bool, true, false, List, [], ◌∷◌, ◌++◌, length, get_or}
+use Rattle.std.proofs.Common.{arith, inl, inr}
 use Rattle.pi_terms.specs.Tree.{Tree}
-use Rattle.pi_traces.specs.Trace.{Trace, end, note, ans, Done, Raise, Abort, Miss, Deep, done, one, alt, then, answers}
+use Rattle.pi_traces.specs.Trace.{Trace, end, note, ans, Done, Raise, Abort, Miss, Deep, one, alt, then, answers}
 use Rattle.pi_traces.specs.Control.{caught, chosen}
 use Rattle.pi_traces.proofs.AnswerLemmas.{EachAnswer, each-map, each-alt, each-then}
-use Rattle.pi_paths.specs.Ways.{Way, Ways, straight, here, without_choices, choosing, numbered, behind, followed_by, choice_from, choice, catching, Diverge, Apart}
+use Rattle.pi_paths.specs.Ways.{Way, Ways, straight, without_choices, choosing, numbered, behind, followed_by, choice_from, choice, catching, Diverge, Apart}
 use Rattle.pi_paths.specs.Resumed.{RuleSearch, rest_unless, rules_ways, call_search}
 use Rattle.pi_paths.specs.PathLaws.{StraightIsApart, SequencesAreApart, AllApart, ChoicesAreApart, CatchesAreApart, AllBodiesApart, CallsAreApart, NoTwoPathsAreOne}
 
@@ -240,7 +240,7 @@ rules-each j k l v (r ∷ rs) =
     let rest = rules-each j (suc k) (omega arith) v rs in
     each-chosen (From (choosing j v)) r.applies (λ x. alt (numbered k (r.body x).ways) (rest_unless r.committed (rules_ways (suc k) rs))) (rules_ways (suc k) rs)
     (λ x. each-alt (From (choosing j v)) (numbered k (r.body x).ways) (rest_unless r.committed (rules_ways (suc k) rs)) (numbered-from j k (λ e. absurd (omega arith)) v (r.body x).ways)
-      (each-unless (From (choosing j v)) r.committed (rules_ways (suc k) rs) rest)) rest
+    (each-unless (From (choosing j v)) r.committed (rules_ways (suc k) rs) rest)) rest
 
 rules-parts : {X A : Type 0} (k : ℕ) (rs : List (RuleSearch X A)) → AllBodiesApart rs → Parts (rules_ways k rs)
 unfolding rules_ways AllBodiesApart Parts
@@ -249,10 +249,10 @@ rules-parts k (r ∷ rs) all =
     let rest = rules-parts (suc k) rs all.1 in
     parts-chosen r.applies (λ x. alt (numbered k (r.body x).ways) (rest_unless r.committed (rules_ways (suc k) rs))) (rules_ways (suc k) rs)
     (λ x. parts-alt (numbered k (r.body x).ways) (rest_unless r.committed (rules_ways (suc k) rs)) (parts-numbered k (r.body x).ways (parts-of (r.body x).ways (all.0 x)))
-      (parts-unless r.committed (rules_ways (suc k) rs) rest)
-      (each-renamed (λ y. EachAnswer (From y) (rest_unless r.committed (rules_ways (suc k) rs))) (choosing k) (r.body x).ways
-        (each-any (λ v. EachAnswer (From (choosing k v)) (rest_unless r.committed (rules_ways (suc k) rs)))
-          (λ v. each-unless (From (choosing k v)) r.committed (rules_ways (suc k) rs) (rules-each k (suc k) (omega arith) v rs)) (r.body x).ways))) rest
+    (parts-unless r.committed (rules_ways (suc k) rs) rest)
+    (each-renamed (λ y. EachAnswer (From y) (rest_unless r.committed (rules_ways (suc k) rs))) (choosing k) (r.body x).ways
+    (each-any (λ v. EachAnswer (From (choosing k v)) (rest_unless r.committed (rules_ways (suc k) rs)))
+    (λ v. each-unless (From (choosing k v)) r.committed (rules_ways (suc k) rs) (rules-each k (suc k) (omega arith) v rs)) (r.body x).ways))) rest
 
 call-parts : {X A : Type 0} (rs : List (RuleSearch X A)) → AllBodiesApart rs → Parts (call_search rs).ways
 unfolding Parts

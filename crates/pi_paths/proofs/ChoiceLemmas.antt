@@ -1,14 +1,14 @@
 -- Resumed runs of choices, of `catch` and of calls lead where they are to.
-use Rattle.std.specs.Prelude.{◌≡◌, ◌⊎◌, ℕ, zero, suc, ◌+◌, Bool, true, false, List, [], ◌∷◌, ◌++◌, refl}
+use Rattle.std.specs.Prelude.{◌≡◌, ℕ, suc, ◌+◌, Bool, true, false, List, [], ◌∷◌, ◌++◌, refl}
 use Rattle.std.proofs.Common.{arith, sym, ◌∙◌, ap, subst, inl, inr}
 use Rattle.pi_terms.specs.Tree.{Tree}
-use Rattle.pi_traces.specs.Trace.{Trace, end, note, ans, End, Done, Raise, Abort, Miss, Deep, Note, Tick, Load, Out, done, one, alt, then, end_of}
+use Rattle.pi_traces.specs.Trace.{Trace, end, note, ans, Done, Raise, Abort, Miss, Deep, Note, Tick, Load, Out, done, one, alt, then, end_of}
 use Rattle.pi_traces.specs.Control.{caught, chosen}
 use Rattle.pi_traces.proofs.TraceLemmas.{alt-done}
-use Rattle.pi_paths.specs.Ways.{Way, Ways, choosing, numbered, behind, choice_from, choice, catching}
-use Rattle.pi_paths.specs.Resumed.{Following, on_way, reached, cut_off, bad, passed, stopped, Search, with_rest, ways_of, taken_from, alternatives, to_exception, with_handler, caught_at, caught_search, RuleSearch, rest_unless, rules_ways, on_first, bad_if, rules_taken, call_search, At, at_first, past_note, past_answer, Leads, IsResumable}
+use Rattle.pi_paths.specs.Ways.{Way, Ways, choosing, numbered, choice_from}
+use Rattle.pi_paths.specs.Resumed.{Following, on_way, reached, cut_off, bad, passed, Search, with_rest, ways_of, taken_from, alternatives, to_exception, with_handler, caught_at, RuleSearch, rest_unless, rules_ways, on_first, bad_if, rules_taken, call_search, At, at_first, past_note, past_answer, Leads, IsResumable}
 use Rattle.pi_paths.specs.PathLaws.{AllResumable, ChoicesAreResumable, CatchesAreResumable, AllBodies, CallsAreResumable}
-use Rattle.pi_paths.proofs.ResumedLemmas.{AtAlt, in_front, in_behind, Begun, begun, at-alt, AtThen, through, at-then, at-one, onward, leads-rest}
+use Rattle.pi_paths.proofs.ResumedLemmas.{AtAlt, in_front, in_behind, Begun, begun, at-alt, AtThen, through, at-then, at-one, leads-rest}
 
 -- ---- ways with a number in front
 
@@ -198,7 +198,7 @@ rules_behind k r rs x v rest left true e a lead later = absurd (begun a)
 rules_behind k r rs x v rest left false e a lead later =
     let h : TakenAt (rules_taken (suc k) rs) (suc k) v rest left = later a in
     let there : Leads (bad_if r.committed (rules_taken (suc k) rs h.place (h.path ++ left))) v.path v.answer left rest =
-      subst (λ (c : Bool). Leads (bad_if c (rules_taken (suc k) rs h.place (h.path ++ left))) v.path v.answer left rest) (sym e) h.leads in
+    subst (λ (c : Bool). Leads (bad_if c (rules_taken (suc k) rs h.place (h.path ++ left))) v.path v.answer left rest) (sym e) h.leads in
     record {
       place = suc h.place;
       path = h.path;

@@ -1,11 +1,11 @@
 -- Traces without their paths.
-use Rattle.std.specs.Prelude.{◌≡◌, ℕ, suc, List, [], ◌∷◌, refl}
+use Rattle.std.specs.Prelude.{◌≡◌, suc, refl}
 use Rattle.std.proofs.Common.{sym, ◌∙◌, ap}
 use Rattle.pi_terms.specs.Tree.{Tree}
-use Rattle.pi_traces.specs.Trace.{Trace, end, note, ans, Done, Raise, Abort, Miss, Deep, done, one, alt, then}
+use Rattle.pi_traces.specs.Trace.{Trace, end, note, ans, Done, Raise, Abort, Miss, Deep, one, alt, then}
 use Rattle.pi_traces.specs.Control.{caught, chosen}
 use Rattle.pi_traces.proofs.TraceLemmas.{then-alt, then-assoc}
-use Rattle.pi_paths.specs.Ways.{Way, Ways, plain, choosing, numbered, behind, followed_by, choice_from, catching}
+use Rattle.pi_paths.specs.Ways.{plain, choosing, numbered, behind, choice_from}
 use Rattle.pi_paths.specs.Resumed.{rest_unless, rules_ways}
 use Rattle.pi_paths.specs.PathLaws.{PlainOfNumbered, PlainOfSequence, PlainOfChoice, PlainOfCatch, PlainOfRules}
 
@@ -88,4 +88,4 @@ plain_of_rules k r rs =
     ∙ same-chosen r.applies (λ x. plain (alt (numbered k (r.body x).ways) (rest_unless r.committed (rules_ways (suc k) rs)))) (λ x. alt (plain (r.body x).ways) (plain (rest_unless r.committed (rules_ways (suc k) rs))))
     (plain (rules_ways (suc k) rs))
     (λ x. then-alt (numbered k (r.body x).ways) (rest_unless r.committed (rules_ways (suc k) rs)) (λ w. one w.answer)
-      ∙ ap (λ t. alt t (plain (rest_unless r.committed (rules_ways (suc k) rs)))) (plain_of_numbered k (r.body x).ways))
+    ∙ ap (λ t. alt t (plain (rest_unless r.committed (rules_ways (suc k) rs)))) (plain_of_numbered k (r.body x).ways))

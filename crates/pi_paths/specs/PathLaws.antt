@@ -1,9 +1,9 @@
 -- The laws of paths and of resumed runs.
-use Rattle.std.specs.Prelude.{◌≡◌, ◌≢◌, ◌≤◌, ℕ, suc, List, [], ◌∷◌, length, map, AllPairs, ⊤}
+use Rattle.std.specs.Prelude.{◌≡◌, ◌≢◌, ◌≤◌, ℕ, suc, List, [], ◌∷◌, length, AllPairs, ⊤}
 use Rattle.pi_terms.specs.Tree.{Tree}
-use Rattle.pi_traces.specs.Trace.{Trace, done, alt, then, answers}
+use Rattle.pi_traces.specs.Trace.{Trace, alt, then, answers}
 use Rattle.pi_traces.specs.Control.{caught, chosen}
-use Rattle.pi_paths.specs.Ways.{Way, Ways, plain, straight, here, without_choices, numbered, followed_by, choice_from, choice, catching, Apart}
+use Rattle.pi_paths.specs.Ways.{Ways, plain, without_choices, numbered, followed_by, choice_from, choice, catching, Apart}
 use Rattle.pi_paths.specs.Resumed.{Search, sequence, alternatives, caught_search, RuleSearch, rest_unless, rules_ways, call_search, IsResumable}
 
 -- Without its paths a trace is what it was.

@@ -1,14 +1,13 @@
 -- What plans cost.
-use Rattle.std.specs.Prelude.{◌≡◌, ◌≢◌, ◌⊎◌, ℕ, zero, suc, ◌+◌, ◌-◌, ◌<◌, ◌≤◌, ℤ, pos, ◌≤ℤ◌, true, List, [], ◌∷◌, Contains, refl}
-use Rattle.std.proofs.Common.{arith, sym, ◌∙◌, ap, subst, inl, inr}
+use Rattle.std.specs.Prelude.{◌≡◌, ◌≢◌, ◌⊎◌, ℕ, ◌-◌, ◌<◌, ◌≤◌, ℤ, pos, ◌≤ℤ◌, List, [], ◌∷◌, Contains}
+use Rattle.std.proofs.Common.{arith, subst, inl, inr}
 use Rattle.std.proofs.lemmas.Int.{ints}
 use Rattle.pi_terms.specs.Tree.{Tree, int}
 use Rattle.pi_traces.specs.Trace.{Trace, answers}
 use Rattle.pi_states.specs.State.{State}
 use Rattle.pi_answers.specs.declared.log.LogEntry.{LogEntry}
-use Rattle.pi_plans.specs.Situation.{of_body}
-use Rattle.pi_plans.specs.Bodies.{Offer, Bodies, Gives}
-use Rattle.pi_plans.specs.Steps.{IsFinal, IsStep, Valid, IsExhausted, number_of}
+use Rattle.pi_plans.specs.Bodies.{Offer, Bodies}
+use Rattle.pi_plans.specs.Steps.{IsFinal, IsStep, Valid, number_of}
 use Rattle.pi_plans.specs.Entries.{HasPlan, ExhaustedBelow}
 use Rattle.pi_plans.specs.Known.{NotByRests}
 use Rattle.pi_plans.specs.PlanLaws.{PlansKeepTheLimit, PlansGoByCost, BestPlansAreCheapest, LeastCostIsOne, NoPlanIsNone}

@@ -1,14 +1,13 @@
 -- What is right under a log is right under each longer one.
-use Rattle.std.specs.Prelude.{◌≡◌, ◌≢◌, ℕ, zero, suc, ◌+◌, ◌<◌, ◌≤◌, ℤ, pos, Bool, true, false, List, [], ◌∷◌, ◌++◌, take, drop, slice_get, Option, Some, None, Contains, refl}
-use Rattle.std.proofs.Common.{arith, sym, ◌∙◌, ap, subst, append_assoc}
+use Rattle.std.specs.Prelude.{◌≡◌, ℕ, zero, suc, ℤ, pos, Bool, true, false, List, [], ◌∷◌, ◌++◌, take, drop, Contains, refl}
+use Rattle.std.proofs.Common.{◌∙◌, ap, subst, append_assoc}
 use Rattle.pi_terms.specs.Tree.{Tree, int}
 use Rattle.pi_traces.specs.Trace.{Trace, Done, answers, end_of}
-use Rattle.pi_states.specs.State.{State}
 use Rattle.pi_answers.specs.declared.log.LogEntry.{LogEntry}
 use Rattle.pi_answers.specs.declared.log.PlanResult.{PlanResult}
 use Rattle.pi_plans.specs.Situation.{of_body}
-use Rattle.pi_plans.specs.Bodies.{Offer, Bodies, Gives, first_fault}
-use Rattle.pi_plans.specs.Steps.{IsFinal, GoesOn, IsStep, Valid, Reached, at_start, by_step, IsClosed, IsExhausted, number_of}
+use Rattle.pi_plans.specs.Bodies.{Offer, Bodies, first_fault}
+use Rattle.pi_plans.specs.Steps.{IsFinal, IsStep, Valid, Reached, at_start, by_step, IsClosed, IsExhausted, number_of}
 use Rattle.pi_plans.specs.Entries.{HasPlan, IsRightResult, IsRightEntry}
 use Rattle.pi_plans.specs.Known.{AreBodies}
 use Rattle.pi_plans.specs.PlanLaws.{RightStaysRight, RightLogsAreRight}
@@ -64,8 +63,11 @@ step-back b log more s r a c t are h step =
     let same : b.action (of_body (log ++ more) [] r) s h.depth ≡ b.action (of_body log [] r) s h.depth = action-same b log more s r h.depth are h.action in
     let offer : Offer = record { state = t; action = a; cost = int (pos c) } in
     record {
-      given = (h.depth, subst (λ (u : Trace Offer). Contains (answers u) offer) same
-        (given-whole (b.action (of_body (log ++ more) [] r) s) offer h.depth (are.action_deeper (of_body (log ++ more) [] r) s) (ap end_of same ∙ h.action) step.given));
+      given = (
+        h.depth,
+        subst (λ (u : Trace Offer). Contains (answers u) offer) same
+            (given-whole (b.action (of_body (log ++ more) [] r) s) offer h.depth (are.action_deeper (of_body (log ++ more) [] r) s) (ap end_of same ∙ h.action) step.given),
+      );
       state = step.state;
       ground = step.ground;
       within = step.within;

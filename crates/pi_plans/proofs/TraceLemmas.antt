@@ -1,10 +1,10 @@
 -- Traces under longer logs and at greater depths.
-use Rattle.std.specs.Prelude.{◌≡◌, ◌≢◌, ℕ, zero, suc, ◌+◌, ◌<◌, List, [], ◌∷◌, length, get_or, Contains, refl}
-use Rattle.std.proofs.Common.{arith, sym, ◌∙◌, ap, subst}
-use Rattle.pi_traces.specs.Trace.{Trace, end, note, ans, End, Done, Deep, Miss, Note, end_of, answers, WithoutDeep}
+use Rattle.std.specs.Prelude.{◌≡◌, ◌≢◌, ℕ, zero, suc, ◌+◌, List, [], ◌∷◌, Contains, refl}
+use Rattle.std.proofs.Common.{arith, sym, ap, subst}
+use Rattle.pi_traces.specs.Trace.{Trace, note, ans, Done, end_of, answers, WithoutDeep}
 use Rattle.pi_traces.specs.Depth.{Below, deeper, same_end, same_note, same_answer, DepthOnlyAdds}
 use Rattle.pi_traces.proofs.BelowLemmas.{below-later, depth-enough}
-use Rattle.pi_plans.specs.Bodies.{Gives, HasAnswer, FailsIn}
+use Rattle.pi_plans.specs.Bodies.{Gives, HasAnswer}
 use Rattle.pi_plans.specs.Known.{MoreKnown, known_now, known_end, known_note, known_answer}
 
 contains-later : {A : Type 0} (x y : A) (xs : List A) → Contains xs x → Contains (y ∷ xs) x

@@ -1,12 +1,11 @@
 -- The bodies of planner calls: what `final(S)` and `action(S,NextS,Action,Cost)` of a program do, at each depth. They are a parameter, so that what is said of
 -- plans serves the meaning over names and the core meaning. (A User's Guide to Picat, 'Planning'.)
-use Rattle.std.specs.Prelude.{◌≡◌, ◌≢◌, ℕ, List, [], ◌∷◌, Option, Some, None, ℤ, pos, negsuc, Contains}
+use Rattle.std.specs.Prelude.{◌≡◌, ◌≢◌, ℕ, List, [], ◌∷◌, Option, Some, None, pos, negsuc, Contains}
 use Rattle.pi_terms.specs.Tree.{Tree, var, int, atom, comp}
 use Rattle.pi_terms.specs.Variables.{variables}
-use Rattle.pi_traces.specs.Trace.{Trace, Call, End, Done, answers, end_of}
+use Rattle.pi_traces.specs.Trace.{Trace, End, answers, end_of}
 use Rattle.pi_states.specs.State.{State}
-use Rattle.pi_answers.specs.declared.log.LogEntry.{LogEntry}
-use Rattle.pi_plans.specs.Situation.{Situation, of_body}
+use Rattle.pi_plans.specs.Situation.{Situation}
 
 -- an answer of `action`: the values of its three last arguments
 pub record Offer : Type 0 where

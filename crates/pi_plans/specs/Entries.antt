@@ -1,7 +1,7 @@
 -- Right entries of a log of planner calls: what each says of its call holds. (A User's Guide to Picat, 'Planning': plans are valid, and those of `best_plan` cheapest;
 -- the log, exceptions and open calls are own.)
-use Rattle.std.specs.Prelude.{◌≡◌, ◌≢◌, ◌⊎◌, ℕ, ◌<◌, ◌≤◌, ℤ, pos, Bool, true, false, List, [], ◌∷◌, ◌++◌, length, take, slice_get, Some, codes, All, IsTrue, AllPairs}
-use Rattle.pi_terms.specs.Tree.{Tree, atom, comp, no_trees, tree}
+use Rattle.std.specs.Prelude.{◌≡◌, ◌⊎◌, ℕ, ◌<◌, ◌≤◌, ℤ, pos, Bool, true, false, List, ◌++◌, take, slice_get, Some, codes, All}
+use Rattle.pi_terms.specs.Tree.{Tree, comp, no_trees, tree}
 use Rattle.pi_traces.specs.Trace.{Call, Done, Raise, Abort, answers}
 use Rattle.pi_effects.specs.Items.{list_of}
 use Rattle.pi_meaning.specs.View.{call_of, same_call}

@@ -1,12 +1,12 @@
 -- Steps, plans and the states that a planner call reaches, under a log. Each state stands with its rest, what is left of the limit there. (A User's Guide to
 -- Picat, 'Planning'; rests and exhausted numbers are own.)
-use Rattle.std.specs.Prelude.{◌≡◌, ◌⊎◌, ℕ, ◌+◌, ◌<◌, ◌≤◌, ℤ, pos, negsuc, Bool, true, false, List, [], ◌∷◌, None}
+use Rattle.std.specs.Prelude.{◌≡◌, ℕ, ◌+◌, ◌≤◌, ℤ, pos, negsuc, Bool, true, false, List, [], ◌∷◌, None}
 use Rattle.pi_terms.specs.Tree.{Tree, int}
 use Rattle.pi_terms.specs.Variables.{IsGround}
 use Rattle.pi_traces.specs.Trace.{Call, Done, answers, end_of}
 use Rattle.pi_answers.specs.declared.log.LogEntry.{LogEntry}
 use Rattle.pi_plans.specs.Situation.{of_body}
-use Rattle.pi_plans.specs.Bodies.{Offer, Bodies, Gives, HasAnswer, FailsIn, first_fault}
+use Rattle.pi_plans.specs.Bodies.{Bodies, Gives, HasAnswer, FailsIn, first_fault}
 
 -- the state is final there
 abbrev pub IsFinal : Bodies → List LogEntry → Tree → ℕ → Type 0

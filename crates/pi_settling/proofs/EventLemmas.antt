@@ -1,12 +1,9 @@
 -- Where nothing changed there are no events and nothing is lost.
-use Rattle.std.specs.Prelude.{◌≡◌, ℕ, zero, suc, ◌+◌, ◌<◌, ℤ, Bool, true, false, not, cond, nat_le, IsTrue, List, [], ◌∷◌, ◌++◌, length, map, filter, get_or, slice_get, Option, Some, None, Contains, refl}
+use Rattle.std.specs.Prelude.{◌≡◌, ℕ, suc, ◌+◌, ◌<◌, ℤ, Bool, true, false, not, cond, nat_le, IsTrue, List, [], ◌∷◌, length, map, filter, get_or, Some, None, Contains, refl}
 use Rattle.std.specs.Ordering.{is_eq, int_cmp}
-use Rattle.std.proofs.Common.{arith, sym, ◌∙◌, ap, subst, inl, inr}
-use Rattle.std.proofs.lemmas.Bool.{cases_Bool}
+use Rattle.std.proofs.Common.{arith, sym, ◌∙◌, ap, subst}
 use Rattle.std.proofs.lemmas.Int.{ints}
-use Rattle.pi_terms.specs.Tree.{Tree, var}
-use Rattle.pi_terms.specs.Places.{held}
-use Rattle.pi_constraints.specs.declared.constraint.Item.{Item}
+use Rattle.pi_terms.specs.Tree.{var}
 use Rattle.pi_constraints.specs.declared.domain.Span.{Span}
 use Rattle.pi_constraints.specs.Domain.{IsDomain, has_value, values_of, size_of}
 use Rattle.pi_constraints.proofs.DomainLemmas.{values_lie_in_spans}
@@ -15,8 +12,7 @@ use Rattle.pi_states.specs.State.{State, Variable, free, within, bound, binding,
 use Rattle.pi_states.proofs.FollowLemmas.{followed_itself}
 use Rattle.pi_states.proofs.StateLemmas.{variable, held_is, state_variable}
 use Rattle.pi_states.specs.declared.event.Event.{Event}
-use Rattle.pi_settling.specs.Roots.{root_item, item_of}
-use Rattle.pi_settling.specs.Events.{most_told, is_inner, same_ends, lost_values, excluded_events, variable_events, item_domain, is_no_variable, events_since, events_from, events_between}
+use Rattle.pi_settling.specs.Events.{most_told, is_inner, same_ends, lost_values, excluded_events, variable_events, events_since, events_from}
 use Rattle.pi_settling.specs.SettlingLaws.{NoChangeNoEvents}
 
 pub same_int : (i : ℤ) → is_eq (int_cmp i i) ≡ true

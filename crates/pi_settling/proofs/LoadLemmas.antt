@@ -1,8 +1,7 @@
 -- Settling a state from itself has no load where nothing is lost.
-use Rattle.std.specs.Prelude.{◌≡◌, ℕ, zero, suc, ◌+◌, ◌-◌, ◌<◌, Bool, true, false, cond, ◌||◌, nat_le, List, [], ◌∷◌, ◌++◌, length, get_or, sum_by, refl}
+use Rattle.std.specs.Prelude.{◌≡◌, ℕ, suc, ◌+◌, ◌-◌, ◌<◌, true, false, nat_le, List, [], ◌∷◌, ◌++◌, length, get_or, sum_by, refl}
 use Rattle.std.specs.List.{list_any}
-use Rattle.std.specs.Ordering.{is_eq, int_cmp}
-use Rattle.std.proofs.Common.{arith, sym, ◌∙◌, ap, inl, inr, append-nil}
+use Rattle.std.proofs.Common.{arith, sym, ap, inr, append-nil}
 use Rattle.std.proofs.lemmas.Bool.Decides.{nat_tests}
 use Rattle.pi_constraints.specs.declared.constraint.Constraint.{Constraint}
 use Rattle.pi_constraints.specs.declared.constraint.Item.{Item}

@@ -1,13 +1,13 @@
 -- The domains at the places of a constraint.
-use Rattle.std.specs.Prelude.{◌≡◌, ℕ, zero, suc, ◌<◌, ℤ, pos, Bool, true, false, IsTrue, ◌↔◌, List, [], ◌∷◌, length, map, get_or, Contains, refl}
-use Rattle.std.proofs.Common.{arith, sym, ◌∙◌, ap, subst}
+use Rattle.std.specs.Prelude.{◌≡◌, ℕ, ◌<◌, ℤ, pos, IsTrue, List, [], length, get_or, Contains, refl}
+use Rattle.std.proofs.Common.{arith, sym, subst}
 use Rattle.std.proofs.lemmas.List.{length-map, get_or-map, get_or_default}
 use Rattle.pi_constraints.specs.declared.constraint.Constraint.{Constraint}
 use Rattle.pi_constraints.specs.declared.constraint.Item.{Item}
 use Rattle.pi_constraints.specs.declared.domain.Span.{Span}
 use Rattle.pi_constraints.specs.Domain.{IsDomain, has_value}
 use Rattle.pi_filters.specs.Places.{places_of, domain_at}
-use Rattle.pi_filters.specs.Solutions.{value_of, values_of_items, value_at}
+use Rattle.pi_filters.specs.Solutions.{value_of, value_at}
 use Rattle.pi_filters.specs.Laws.{AreDomainsOf}
 use Rattle.pi_states.specs.State.{State}
 use Rattle.pi_settling.specs.Roots.{root_item, Counts, by_place}

@@ -1,12 +1,12 @@
 -- What an item comes to in a state, and in one that binds more variables.
-use Rattle.std.specs.Prelude.{◌≡◌, ◌⊎◌, ℕ, ℤ, List, Option, Some, None, refl}
+use Rattle.std.specs.Prelude.{◌≡◌, ◌⊎◌, ℕ, ℤ, Some, None, refl}
 use Rattle.std.proofs.Common.{sym, ◌∙◌, ap, inl, inr}
 use Rattle.pi_terms.specs.Tree.{Tree, var, int, atom, comp}
 use Rattle.pi_terms.specs.Places.{held}
 use Rattle.pi_terms.specs.Substitution.{instance}
 use Rattle.pi_constraints.specs.declared.constraint.Item.{Item}
-use Rattle.pi_states.specs.Value.{Bindings, IsAcyclic, value, Solves}
-use Rattle.pi_states.specs.State.{State, bindings, followed, IsState}
+use Rattle.pi_states.specs.Value.{Bindings, IsAcyclic, value}
+use Rattle.pi_states.specs.State.{State, bindings, followed}
 use Rattle.pi_states.proofs.ValueLemmas.{values_solve, value_has_same_instances, unbound_is_its_own_value}
 use Rattle.pi_states.proofs.FollowLemmas.{followed_value, followed_unbound}
 use Rattle.pi_states.proofs.RootLemmas.{value_int, value_atom, value_comp, with_values}

@@ -1,5 +1,5 @@
 -- What stays: the greatest domains that no filter changes, which lose no solution.
-use Rattle.std.specs.Prelude.{◌≡◌, ℕ, ◌<◌, ℤ, pos, Bool, true, false, cond, ◌&&◌, int_le, neg_ℤ, ◌≤ℤ◌, IsTrue, List, [], ◌∷◌, length, Contains, refl}
+use Rattle.std.specs.Prelude.{◌≡◌, ℕ, ◌<◌, ℤ, Bool, true, cond, ◌&&◌, int_le, neg_ℤ, IsTrue, List, [], length, Contains, refl}
 use Rattle.std.proofs.Common.{arith, sym, ◌∙◌, ap, subst, inl, inr}
 use Rattle.std.proofs.lemmas.Bool.{cases_Bool, and_parts}
 use Rattle.std.proofs.lemmas.Int.{ints}
@@ -7,7 +7,7 @@ use Rattle.pi_constraints.specs.declared.constraint.Constraint.{Constraint}
 use Rattle.pi_constraints.specs.declared.constraint.Item.{Item}
 use Rattle.pi_constraints.specs.declared.domain.Span.{Span}
 use Rattle.pi_constraints.specs.declared.domain.TheConstants.{MAX_VALUE}
-use Rattle.pi_constraints.specs.Domain.{IsWithinBounds, AscendFrom, IsDomain, span_has, has_value}
+use Rattle.pi_constraints.specs.Domain.{IsWithinBounds, AscendFrom, IsDomain, has_value}
 use Rattle.pi_filters.specs.Places.{places_of, domain_at}
 use Rattle.pi_filters.specs.Filter.{Leaves}
 use Rattle.pi_filters.specs.Solutions.{value_of, value_at}
@@ -113,11 +113,11 @@ alone-domain s a x = just-domain (given s x) (value_of a x)
 alone-unchanged : (s : State) (a : ℕ → ℤ) → Solves s a → NoFilterChanges s (alone s a)
 alone-unchanged s a h c k i posted l has =
     let is : (j : ℕ) → j < length (places_of c) → domain_at (at_places s (alone s a) c) j ≡ only (value_at a c j) =
-      λ j m. place-domain s (alone s a) c j m ∙ alone-is s a h c j posted m in
+    λ j m. place-domain s (alone s a) c j m ∙ alone-is s a h c j posted m in
     let same : i ≡ value_at a c k = has-only (value_at a c k) i (subst (λ (d : List Span). IsTrue (has_value d i)) (is k l) has) in
     subst (λ (z : ℤ). Leaves c (at_places s (alone s a) c) k z) (sym same)
     (filters_keep_solutions c (at_places s (alone s a) c) a (places-domains s (alone s a) c (alone-domain s a))
-      (λ j m. subst (λ (d : List Span). IsTrue (has_value d (value_at a c j))) (sym (is j m)) (only-has (value_at a c j))) (h.holds c posted) k l)
+    (λ j m. subst (λ (d : List Span). IsTrue (has_value d (value_at a c j))) (sym (is j m)) (only-has (value_at a c j))) (h.holds c posted) k l)
 
 pub settling_keeps_solutions : SettlingKeepsSolutions
 unfolding alone

@@ -1,6 +1,5 @@
 -- A stable state is its own stable state.
-use Rattle.std.specs.Prelude.{◌≡◌, ◌↔◌, ◌⊎◌, ℕ, zero, suc, ◌+◌, ◌-◌, ◌<◌, ◌≤◌, ℤ, neg_ℤ, Bool, true, false, cond, ◌||◌, nat_le, IsTrue, List, [], ◌∷◌, length, map, get_or, sum_by, Option, Some, None, Contains, refl}
-use Rattle.std.specs.List.{list_any}
+use Rattle.std.specs.Prelude.{◌≡◌, ◌↔◌, ◌⊎◌, ℕ, ◌<◌, ◌≤◌, ℤ, IsTrue, List, [], ◌∷◌, map, Some, None, Contains, refl}
 use Rattle.std.proofs.Common.{arith, sym, ◌∙◌, ap, subst, inl, inr}
 use Rattle.std.proofs.lemmas.Int.{ints}
 use Rattle.std.proofs.lemmas.List.{get_or_past}
@@ -9,9 +8,8 @@ use Rattle.pi_terms.specs.Places.{held}
 use Rattle.pi_constraints.specs.declared.constraint.Constraint.{Constraint}
 use Rattle.pi_constraints.specs.declared.constraint.Item.{Item}
 use Rattle.pi_constraints.specs.declared.domain.Span.{Span}
-use Rattle.pi_constraints.specs.declared.domain.TheConstants.{MAX_VALUE}
-use Rattle.pi_constraints.specs.Domain.{IsWithinBounds, AscendFrom, IsDomain, has_value, values_of, size_of}
-use Rattle.pi_constraints.proofs.DomainLemmas.{values_are_within_bounds, values_lie_in_spans}
+use Rattle.pi_constraints.specs.Domain.{IsWithinBounds, AscendFrom, IsDomain, has_value, size_of}
+use Rattle.pi_constraints.proofs.DomainLemmas.{values_are_within_bounds}
 use Rattle.pi_filters.specs.Places.{places_of, domain_at}
 use Rattle.pi_filters.specs.Filter.{Leaves}
 use Rattle.pi_states.specs.Value.{Bindings, IsAcyclic, value}
@@ -23,9 +21,8 @@ use Rattle.pi_states.proofs.RootLemmas.{value_int}
 use Rattle.pi_settling.specs.Roots.{root_item, item_of, only, all_values, domain_or_all, given, Counts, by_domain, by_place}
 use Rattle.pi_settling.specs.Stable.{Domains, at_places, LieBelow, NoFilterChanges, Stays, Narrows, stays_free, stays_bound, some_stay, one_stays, IsStable}
 use Rattle.pi_settling.specs.SettlingLaws.{MaySettle, StableStaysStable}
-use Rattle.pi_settling.proofs.PlaceLemmas.{place_at, place-counts}
 use Rattle.pi_settling.proofs.RootLemmas.{root-by_value, IsItem, is_variable, is_integer, Kept, Items, root_later}
-use Rattle.pi_settling.proofs.StableLemmas.{only-domain, only-has, has-only, just, just-domain, just-is, just-below, stable_is_unchanged}
+use Rattle.pi_settling.proofs.StableLemmas.{only-has, has-only, just, just-domain, just-is, just-below, stable_is_unchanged}
 use Rattle.pi_settling.proofs.UniqueLemmas.{domain_made}
 
 -- ---- what one variable becomes
@@ -150,9 +147,10 @@ narrowed-ahead s r n v w d i a (some_stay d' f p q all) is e =
     let same : ahead r (Item.Var n) ≡ f = ahead-some r n f is in
     (λ h. (all i).0 (has_in (ahead r (Item.Var n)) f i same h), λ st. has_in f (ahead r (Item.Var n)) i (sym same) ((all i).1 st))
 narrowed-ahead s r n v w d i a (one_stays d' j all) is e =
-    let same : ahead r (Item.Var n) ≡ only j = ahead-one r n j a (stays-bounded s (Item.Var n) j ((all j).0 refl)) is in
-    (λ h. (all i).0 (has-only j i (has_in (ahead r (Item.Var n)) (only j) i same h)),
-      λ st. has_in (only j) (ahead r (Item.Var n)) i (sym same) (subst (λ (z : ℤ). IsTrue (has_value (only j) z)) (sym ((all i).1 st)) (only-has j)))
+    let same : ahead r (Item.Var n) ≡ only j = ahead-one r n j a (stays-bounded s (Item.Var n) j ((all j).0 refl)) is in (
+      λ h. (all i).0 (has-only j i (has_in (ahead r (Item.Var n)) (only j) i same h)),
+      λ st. has_in (only j) (ahead r (Item.Var n)) i (sym same) (subst (λ (z : ℤ). IsTrue (has_value (only j) z)) (sym ((all i).1 st)) (only-has j)),
+    )
 
 variable-ahead : (s r : State) (n : ℕ) (d : List Span) (i : ℤ) → IsAcyclic (bindings r) → IsStable s r → domain_of s n ≡ Some d → IsTrue (has_value (ahead r (Item.Var n)) i) ↔ Stays s (Item.Var n) i
 variable-ahead s r n d i a f e = narrowed-ahead s r n (variable s n) (variable r n) d i a (f.variables n (domain_made s n d e)) refl e
@@ -164,9 +162,10 @@ integer-ahead : (s r : State) (j i : ℤ) → IsStable s r → Counts s (Item.In
 integer-ahead s r j i f counts b =
     let same : ahead r (Item.Int j) ≡ only j = ahead-integer r j b in
     let kept = f.kept (Item.Int j) counts in
-    let here : Stays s (Item.Int j) j = subst (Stays s (Item.Int j)) (stays-integer s j kept.0 kept.1) kept.1 in
-    (λ h. subst (Stays s (Item.Int j)) (sym (has-only j i (has_in (ahead r (Item.Int j)) (only j) i same h))) here,
-      λ st. has_in (only j) (ahead r (Item.Int j)) i (sym same) (subst (λ (z : ℤ). IsTrue (has_value (only j) z)) (sym (stays-integer s j i st)) (only-has j)))
+    let here : Stays s (Item.Int j) j = subst (Stays s (Item.Int j)) (stays-integer s j kept.0 kept.1) kept.1 in (
+      λ h. subst (Stays s (Item.Int j)) (sym (has-only j i (has_in (ahead r (Item.Int j)) (only j) i same h))) here,
+      λ st. has_in (only j) (ahead r (Item.Int j)) i (sym same) (subst (λ (z : ℤ). IsTrue (has_value (only j) z)) (sym (stays-integer s j i st)) (only-has j)),
+    )
 
 -- an item that counts is a variable with a domain, or an integer
 counted : (s : State) (x : Item) → MaySettle s → Counts s x → ((n : ℕ) × (d : List Span) × (x ≡ Item.Var n) × (domain_of s n ≡ Some d)) ⊎ ((i : ℤ) × (x ≡ Item.Int i) × IsWithinBounds i)
@@ -262,7 +261,7 @@ again-variable s r is is' may f n l (within e) at =
     let was = narrowed-within s n (variable s n) (variable r n) e (f.variables n l) at in
     some_stay e e was.0 was.1 (λ i. (
       λ h. stays-left s r is is' may f (Item.Var n) i (has_in e (left r (Item.Var n)) i (sym (left-within r n e at)) h),
-      λ st. has_in (given r (Item.Var n)) e i (ap (λ (v : Variable). domain_or_all (domain_in v)) at) (st.below.below (Item.Var n) i st.has)
+      λ st. has_in (given r (Item.Var n)) e i (ap (λ (v : Variable). domain_or_all (domain_in v)) at) (st.below.below (Item.Var n) i st.has),
     ))
 
 within_of : (v : Variable) (e : List Span) → domain_in v ≡ Some e → v ≡ within e

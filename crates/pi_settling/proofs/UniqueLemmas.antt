@@ -1,22 +1,22 @@
 -- A state has one stable state at most, which lies below it.
-use Rattle.std.specs.Prelude.{◌≡◌, ◌≢◌, ◌↔◌, ◌⊎◌, ℕ, zero, suc, ◌<◌, ◌≤◌, ℤ, pos, ◌<ℤ◌, Bool, true, false, IsTrue, List, [], ◌∷◌, length, get_or, Option, Some, None, Contains, refl}
-use Rattle.std.proofs.Common.{arith, sym, ◌∙◌, ap, subst, inl, inr}
+use Rattle.std.specs.Prelude.{◌≡◌, ◌↔◌, ℕ, zero, suc, ◌<◌, ◌≤◌, ℤ, pos, ◌<ℤ◌, Bool, true, false, IsTrue, List, [], ◌∷◌, length, get_or, Some, None, Contains, refl}
+use Rattle.std.proofs.Common.{arith, sym, ◌∙◌, ap, inl, inr}
 use Rattle.std.proofs.lemmas.Int.{ints}
-use Rattle.std.proofs.lemmas.List.{ext_get_or, get_or-map, get_or_past}
-use Rattle.pi_terms.specs.Tree.{Tree, int}
+use Rattle.std.proofs.lemmas.List.{ext_get_or, get_or-map}
+use Rattle.pi_terms.specs.Tree.{int}
 use Rattle.pi_terms.specs.Places.{held}
 use Rattle.pi_constraints.specs.declared.constraint.Constraint.{Constraint}
 use Rattle.pi_constraints.specs.declared.constraint.Item.{Item}
 use Rattle.pi_constraints.specs.declared.domain.Span.{Span}
 use Rattle.pi_constraints.specs.Domain.{IsDomain, has_value, values_of, size_of}
 use Rattle.pi_constraints.proofs.DomainLemmas.{values_lie_in_spans, values_ascend, same_values_same_domain}
-use Rattle.pi_traces.specs.Trace.{Trace, one, done}
+use Rattle.pi_traces.specs.Trace.{one}
 use Rattle.pi_states.specs.State.{State, Agent, Variable, free, within, bound, binding, bindings, next, domain_in, domain_of}
 use Rattle.pi_states.specs.declared.event.Activation.{Activation}
 use Rattle.pi_settling.specs.Roots.{given}
 use Rattle.pi_settling.specs.Stable.{Stays, IsEmptied, Narrows, stays_free, stays_bound, some_stay, one_stays, IsStable}
-use Rattle.pi_settling.specs.Load.{load, load_of_failure}
-use Rattle.pi_settling.specs.Settled.{loaded, with_events, IsSettled}
+use Rattle.pi_settling.specs.Load.{load}
+use Rattle.pi_settling.specs.Settled.{loaded, with_events}
 use Rattle.pi_settling.specs.SettlingLaws.{StableIsOne, SettledIsOne, StableLiesBelow}
 
 -- ---- domains by their values

@@ -1,11 +1,11 @@
 -- The agents that an event wakes. An event on a variable answers the patterns whose variable is that one, or is bound to it directly or through others.
 -- Each event makes one activation an agent that is alive, by the first of its patterns that it answers, in the order in which the agents were made. (A
 -- User's Guide to Picat, 'Action Rules'; the order is own.)
-use Rattle.std.specs.Prelude.{◌↔◌, ◌==◌, ℕ, zero, suc, Bool, false, cond, ◌&&◌, ◌||◌, IsTrue, List, [], ◌∷◌, ◌++◌, length, Option, Some, None}
+use Rattle.std.specs.Prelude.{◌==◌, ℕ, zero, suc, Bool, false, cond, ◌&&◌, ◌||◌, List, [], ◌∷◌, ◌++◌, length, Option, Some, None}
 use Rattle.pi_terms.specs.Tree.{Tree, var, int, atom, comp}
 use Rattle.pi_terms.specs.Places.{held}
-use Rattle.pi_states.specs.Value.{Bindings, IsAcyclic}
-use Rattle.pi_states.specs.State.{State, Agent, WatchTree, on_ins, on_bound, on_dom, on_dom_any, on_posted, bindings, LeadsTo}
+use Rattle.pi_states.specs.Value.{Bindings}
+use Rattle.pi_states.specs.State.{State, Agent, WatchTree, on_ins, on_bound, on_dom, on_dom_any, on_posted, bindings}
 use Rattle.pi_states.specs.declared.event.Event.{Event}
 use Rattle.pi_states.specs.declared.event.Activation.{Activation}
 

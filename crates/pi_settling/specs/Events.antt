@@ -1,6 +1,6 @@
 -- The events of a goal: what happened to the variables that were unbound at its start, seen from the state there and the stable state at its end. (A
 -- User's Guide to Picat, 'Action Rules'; when an event is posted, and their order, is own.)
-use Rattle.std.specs.Prelude.{ℕ, suc, ◌+◌, ℤ, Bool, true, false, cond, not, ◌&&◌, int_lt, nat_le, List, [], ◌∷◌, ◌++◌, map, filter, Option, Some, None}
+use Rattle.std.specs.Prelude.{ℕ, suc, ℤ, Bool, true, false, cond, not, ◌&&◌, int_lt, nat_le, List, [], ◌∷◌, ◌++◌, map, filter, Option, Some, None}
 use Rattle.std.specs.Ordering.{is_eq, int_cmp}
 use Rattle.pi_terms.specs.Tree.{Tree, var, int, atom, comp}
 use Rattle.pi_constraints.specs.declared.constraint.Item.{Item}

@@ -10,7 +10,7 @@ use Rattle.pi_filters.specs.Places.{places_of}
 use Rattle.pi_filters.specs.Solutions.{value_of}
 use Rattle.pi_traces.specs.Trace.{Trace, one}
 use Rattle.pi_states.specs.State.{State, IsState, bindings, domain_of}
-use Rattle.pi_settling.specs.Roots.{root_item, given, Counts}
+use Rattle.pi_settling.specs.Roots.{root_item, Counts}
 use Rattle.pi_settling.specs.Stable.{Domains, LieBelow, NoFilterChanges, Stays, IsStable}
 use Rattle.pi_settling.specs.Events.{events_between}
 use Rattle.pi_settling.specs.Settled.{IsSettled}
