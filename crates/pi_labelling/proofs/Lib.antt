@@ -1,3 +1,4 @@
 pub mod DepthLemmas
 pub mod ChoiceLemmas
 pub mod FirstLemmas
+pub mod Examples

@@ -2,3 +2,4 @@ pub mod PlainLemmas
 pub mod ApartLemmas
 pub mod ResumedLemmas
 pub mod ChoiceLemmas
+pub mod Examples

@@ -5,3 +5,4 @@ pub mod UniqueLemmas
 pub mod EventLemmas
 pub mod TwiceLemmas
 pub mod LoadLemmas
+pub mod Examples

@@ -1,0 +1,55 @@
+-- Small runs of what waits, worked through the definitions.
+use Rattle.std.specs.Prelude.{◌≡◌, ℕ, zero, suc, pos, Bool, true, false, cond, List, [], ◌∷◌, Option, Some, None, refl}
+use Rattle.pi_terms.specs.Tree.{Tree, var, int}
+use Rattle.pi_traces.specs.Trace.{Trace, end, note, ans, Deep, Tick, Load, Out, done, one, alt, then}
+use Rattle.pi_traces.specs.Control.{chosen}
+use Rattle.pi_states.specs.State.{State, Agent, on_dom, end_agent}
+use Rattle.pi_states.specs.declared.event.Activation.{Activation}
+use Rattle.pi_agents.specs.Fire.{SlotValue, Rules, decided, fired}
+use Rattle.pi_agents.specs.Drain.{Lower, drained_from, drained}
+
+abbrev agent : ℕ → Bool → Agent
+agent rule alive = record { call = var 0; rule = rule; watches = on_dom (var 0) 5 ∷ []; alive = alive }
+
+abbrev waking : ℕ → Activation
+waking a = record { agent = a; watch = 0; value = Some (int (pos 3)) }
+
+abbrev state : List Agent → List Activation → State
+state agents waiting = record { variables = []; constraints = []; agents = agents; waiting = waiting }
+
+-- rules of which these apply; the body tells the slot of its value, and a call made anew gives a Tick and writes
+abbrev told : Option SlotValue → State → Trace State
+told None x = one x
+told (Some v) x = note (Load v.slot) (one x)
+
+abbrev rules : (ℕ → Bool) → Rules State
+rules applies = record {
+  applies = λ i call s. cond (applies i) (one s) done;
+  body = λ i call v x. told v x;
+  anew = λ call s. note Tick (note (Out (65 ∷ [])) (one s));
+}
+
+abbrev none : ℕ → Bool
+none i = false
+
+abbrev all : ℕ → Bool
+all i = true
+
+abbrev only_second : ℕ → Bool
+only_second zero = false
+only_second (suc i) = true
+
+abbrev below : (ℕ → Bool) → Option (Lower State)
+below applies = Some (record { rules = rules applies; drains = λ s. one s })
+
+-- The agent's own rule applies first: its body runs with the event's value, and the agent stays. A rule before it applies, or its own doesn't: it ends, and its call is
+-- made anew. An ended agent gives no Tick, also where no depth is left.
+agents-fire :
+    (drained (below all) (state (agent 0 true ∷ []) (waking 0 ∷ [])) ≡ note Tick (note (Load 5) (one (state (agent 0 true ∷ []) []))))
+    × (drained (below only_second) (state (agent 1 true ∷ []) (waking 0 ∷ [])) ≡ note Tick (note (Load 5) (one (state (agent 1 true ∷ []) []))))
+    × (drained (below all) (state (agent 1 true ∷ []) (waking 0 ∷ [])) ≡ note Tick (note Tick (note (Out (65 ∷ [])) (one (state (agent 1 false ∷ []) [])))))
+    × (drained (below none) (state (agent 0 true ∷ []) (waking 0 ∷ [])) ≡ note Tick (note Tick (note (Out (65 ∷ [])) (one (state (agent 0 false ∷ []) [])))))
+    × (drained {X = State} None (state (agent 0 false ∷ []) (waking 0 ∷ [])) ≡ one (state (agent 0 false ∷ []) []))
+    × (drained {X = State} None (state (agent 0 true ∷ []) (waking 0 ∷ [])) ≡ end Deep)
+unfolding decided fired drained_from then alt chosen end_agent
+agents-fire = (refl, refl, refl, refl, refl, refl)

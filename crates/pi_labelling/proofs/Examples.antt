@@ -1,0 +1,86 @@
+-- Options, alternatives and labellings, worked through the definitions.
+use Rattle.std.specs.Prelude.{◌≡◌, ℕ, ℤ, pos, negsuc, int_le, Bool, true, false, cond, List, [], ◌∷◌, Some, None, codes, refl}
+use Rattle.pi_terms.specs.Tree.{Tree, var, int, atom, comp, no_trees, tree}
+use Rattle.pi_constraints.specs.declared.domain.Span.{Span}
+use Rattle.pi_constraints.specs.Domain.{numbers_from, values_of, overlap, shared, common}
+use Rattle.pi_filters.specs.Ends.{greatest_of}
+use Rattle.pi_traces.specs.Trace.{Trace, end, note, ans, Done, Deep, Tick, done, one, alt, then}
+use Rattle.pi_traces.specs.Control.{chosen}
+use Rattle.pi_states.specs.State.{State, Variable, within, bound, next, empty_state, with_new, followed_for, followed}
+use Rattle.pi_labelling.specs.Options.{VariableWord, forward, backward, ff, ValueWord, up, down, split, reverse_split, Options, ReadOptions, options, bad_option, words_read, read_options}
+use Rattle.pi_labelling.specs.Choices.{Pending, smallest, picked, Alternative, is_value, at_most, above, alternatives, pending}
+use Rattle.pi_labelling.specs.Label.{all_tried, labelled, labelled_at}
+use Rattle.pi_labelling.specs.Rounds.{Seeking, bettered, sought}
+
+-- [down,$max(X)] and [up,down] and [foo]
+options-read :
+    (read_options (atom (codes "down") ∷ comp (codes "max") (tree (var 0) no_trees) ∷ []) ≡ options (record { variable = forward; value = down; objective = Some (record { greatest = true; expression = var 0 }) }))
+    × (read_options (atom (codes "up") ∷ atom (codes "down") ∷ []) ≡ bad_option (atom (codes "down")))
+    × (read_options (atom (codes "ff") ∷ atom (codes "foo") ∷ atom (codes "ff") ∷ []) ≡ bad_option (atom (codes "foo")))
+unfolding words_read
+options-read = (refl, refl, refl)
+
+abbrev span : ℤ → ℤ → List Span
+span lo hi = record { lo = lo; hi = hi } ∷ []
+
+abbrev waits : ℕ → ℕ → Pending
+waits n hi = record { variable = n; domain = span (pos 1) (pos hi) }
+
+-- what is picked of three variables with 3, 2 and 2 values
+variables-picked :
+    (picked (waits 0 3 ∷ waits 1 2 ∷ waits 2 2 ∷ []) forward ≡ Some (waits 0 3))
+    × (picked (waits 0 3 ∷ waits 1 2 ∷ waits 2 2 ∷ []) backward ≡ Some (waits 2 2))
+    × (picked (waits 0 3 ∷ waits 1 2 ∷ waits 2 2 ∷ []) ff ≡ Some (waits 1 2))
+unfolding smallest values_of numbers_from
+variables-picked = (refl, refl, refl)
+
+-- 1..3 and -4..-1, whose middle is -2.5, rounded down
+alternatives-in_order :
+    (alternatives up (span (pos 1) (pos 3)) ≡ is_value (pos 1) ∷ is_value (pos 2) ∷ is_value (pos 3) ∷ [])
+    × (alternatives down (span (pos 1) (pos 3)) ≡ is_value (pos 3) ∷ is_value (pos 2) ∷ is_value (pos 1) ∷ [])
+    × (alternatives split (span (negsuc 3) (negsuc 0)) ≡ at_most (negsuc 2) ∷ above (negsuc 2) ∷ [])
+    × (alternatives reverse_split (span (pos 1) (pos 4)) ≡ above (pos 2) ∷ at_most (pos 2) ∷ [])
+unfolding values_of numbers_from greatest_of
+alternatives-in_order = (refl, refl, refl, refl)
+
+abbrev state : List Variable → State
+state vs = record { variables = vs; constraints = []; agents = []; waiting = [] }
+
+abbrev is : ℕ → Variable
+is n = bound (int (pos n))
+
+abbrev up_to : ℕ → Variable
+up_to n = within (span (pos 1) (pos n))
+
+abbrev trace_of : ValueWord → ℕ → State → Trace State
+trace_of w d s = labelled_at (λ before r. one r) (λ d r. one r) (record { variable = forward; value = w; objective = None }) (var 0 ∷ int (pos 7) ∷ var 1 ∷ []) d s
+
+-- Two variables with two values each, without constraints: every assignment, the left one slowest. A Tick and one of the depth for each alternative.
+labellings :
+    (trace_of down 2 (state (up_to 2 ∷ up_to 2 ∷ []))
+    ≡ note Tick (note Tick (ans (state (is 2 ∷ is 2 ∷ [])) (note Tick (ans (state (is 2 ∷ is 1 ∷ []))
+    (note Tick (note Tick (ans (state (is 1 ∷ is 2 ∷ [])) (note Tick (ans (state (is 1 ∷ is 1 ∷ [])) (end Done)))))))))))
+    × (trace_of split 2 (state (up_to 3 ∷ is 4 ∷ []))
+    ≡ note Tick (note Tick (ans (state (is 1 ∷ is 4 ∷ [])) (note Tick (ans (state (is 2 ∷ is 4 ∷ [])) (note Tick (ans (state (is 3 ∷ is 4 ∷ [])) (end Done))))))))
+    × (trace_of up 1 (state (up_to 2 ∷ up_to 2 ∷ [])) ≡ note Tick (end Deep))
+    × (trace_of up 0 (state (is 1 ∷ is 2 ∷ [])) ≡ one (state (is 1 ∷ is 2 ∷ [])))
+unfolding labelled_at all_tried values_of numbers_from greatest_of overlap shared common followed followed_for then alt
+labellings = (refl, refl, refl, refl)
+
+-- an objective that is worth the number of variables, with two rounds that find something
+abbrev seeking : Seeking
+seeking = record {
+  begins = λ s. one (with_new s);
+  betters = λ v s. cond (int_le v (pos 1)) (one (with_new (with_new s))) done;
+  worth = λ r. Some (pos (next r));
+  no_integer = λ r. var 0;
+  drains = λ d r. one r;
+  labels = λ d r. one r;
+}
+
+-- The last answer that was found is the one answer; each round begins from the call's state; a later round takes one from the depth.
+rounds :
+    (sought seeking 2 empty_state ≡ one (with_new (with_new empty_state)))
+    × (sought seeking 1 empty_state ≡ end Deep)
+unfolding bettered chosen then alt
+rounds = (refl, refl)
