@@ -1,7 +1,7 @@
 -- Small runs of what waits, worked through the definitions.
 use Rattle.std.specs.Prelude.{◌≡◌, ℕ, zero, suc, pos, Bool, true, false, cond, List, [], ◌∷◌, Option, Some, None, refl}
-use Rattle.pi_terms.specs.Tree.{Tree, var, int}
-use Rattle.pi_traces.specs.Trace.{Trace, end, note, ans, Deep, Tick, Load, Out, done, one, alt, then}
+use Rattle.pi_terms.specs.Tree.{var, int}
+use Rattle.pi_traces.specs.Trace.{Trace, end, note, Deep, Tick, Load, Out, done, one, alt, then}
 use Rattle.pi_traces.specs.Control.{chosen}
 use Rattle.pi_states.specs.State.{State, Agent, on_dom, end_agent}
 use Rattle.pi_states.specs.declared.event.Activation.{Activation}

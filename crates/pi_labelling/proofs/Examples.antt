@@ -1,15 +1,15 @@
 -- Options, alternatives and labellings, worked through the definitions.
-use Rattle.std.specs.Prelude.{◌≡◌, ℕ, ℤ, pos, negsuc, int_le, Bool, true, false, cond, List, [], ◌∷◌, Some, None, codes, refl}
-use Rattle.pi_terms.specs.Tree.{Tree, var, int, atom, comp, no_trees, tree}
+use Rattle.std.specs.Prelude.{◌≡◌, ℕ, ℤ, pos, negsuc, int_le, true, cond, List, [], ◌∷◌, Some, None, codes, refl}
+use Rattle.pi_terms.specs.Tree.{var, int, atom, comp, no_trees, tree}
 use Rattle.pi_constraints.specs.declared.domain.Span.{Span}
 use Rattle.pi_constraints.specs.Domain.{numbers_from, values_of, overlap, shared, common}
 use Rattle.pi_filters.specs.Ends.{greatest_of}
 use Rattle.pi_traces.specs.Trace.{Trace, end, note, ans, Done, Deep, Tick, done, one, alt, then}
 use Rattle.pi_traces.specs.Control.{chosen}
 use Rattle.pi_states.specs.State.{State, Variable, within, bound, next, empty_state, with_new, followed_for, followed}
-use Rattle.pi_labelling.specs.Options.{VariableWord, forward, backward, ff, ValueWord, up, down, split, reverse_split, Options, ReadOptions, options, bad_option, words_read, read_options}
-use Rattle.pi_labelling.specs.Choices.{Pending, smallest, picked, Alternative, is_value, at_most, above, alternatives, pending}
-use Rattle.pi_labelling.specs.Label.{all_tried, labelled, labelled_at}
+use Rattle.pi_labelling.specs.Options.{forward, backward, ff, ValueWord, up, down, split, reverse_split, options, bad_option, words_read, read_options}
+use Rattle.pi_labelling.specs.Choices.{Pending, smallest, picked, is_value, at_most, above, alternatives}
+use Rattle.pi_labelling.specs.Label.{all_tried, labelled_at}
 use Rattle.pi_labelling.specs.Rounds.{Seeking, bettered, sought}
 
 -- [down,$max(X)] and [up,down] and [foo]

@@ -1,13 +1,14 @@
 -- There is one first assignment at most.
-use Rattle.std.specs.Prelude.{◌≡◌, ◌⊎◌, ℤ, ◌<ℤ◌, List, [], ◌∷◌, length, refl}
-use Rattle.std.proofs.Common.{arith, sym, ◌∙◌, ap, inl, inr}
+use Rattle.std.specs.Prelude.{◌≡◌, ◌⊎◌, zero, suc, ℤ, ◌<ℤ◌, List, [], ◌∷◌, length, get_or, AllPairs, Contains, refl}
+use Rattle.std.proofs.Common.{arith, sym, ◌∙◌, ap, subst, inl, inr}
 use Rattle.std.proofs.lemmas.Int.{ints}
 use Rattle.std.proofs.lemmas.List.{length-map}
 use Rattle.pi_constraints.specs.declared.constraint.Item.{Item}
 use Rattle.pi_filters.specs.Solutions.{value_of}
+use Rattle.pi_traces.specs.Trace.{one}
 use Rattle.pi_states.specs.State.{State}
-use Rattle.pi_labelling.specs.Assignments.{Extends, ComesBefore, IsFirst}
-use Rattle.pi_labelling.specs.LabelLaws.{FirstIsOne}
+use Rattle.pi_labelling.specs.Assignments.{Extends, ComesBefore, IsFirst, all_bound}
+use Rattle.pi_labelling.specs.LabelLaws.{FirstIsOne, FirstOfAll, SatSolvedIsOne}
 
 data Compared (is js : List ℤ) : Type 0 where
   before : ComesBefore is js → Compared is js
@@ -41,3 +42,37 @@ decide s items values others f g (behind h) = absurd (f.none_before others g.ext
 
 pub first_is_one : FirstIsOne
 first_is_one s items values others f g = decide s items values others f g (compared values others (as_many s items values f.extends ∙ sym (as_many s items others g.extends)))
+
+pub sat_solved_is_one : SatSolvedIsOne
+sat_solved_is_one s items t u (inl (values, f, e)) (inl (others, g, h)) = e ∙ (ap (λ (v : List ℤ). one (all_bound s items v)) (first_is_one s items values others f g) ∙ sym h)
+sat_solved_is_one s items t u (inl (values, f, e)) (inr (none, h)) = absurd (none values f.extends)
+sat_solved_is_one s items t u (inr (none, e)) (inl (others, g, h)) = absurd (none others g.extends)
+sat_solved_is_one s items t u (inr (none, e)) (inr (still, h)) = e ∙ sym h
+
+-- nothing comes before itself, nor before what comes before it
+not_itself : (is : List ℤ) → ComesBefore is is → ⊥
+unfolding ComesBefore
+not_itself [] h = h
+not_itself (i ∷ is) (inl less) = omega (arith, ints)
+not_itself (i ∷ is) (inr h) = not_itself is h.1
+
+not_back : (is js : List ℤ) → ComesBefore is js → ComesBefore js is → ⊥
+unfolding ComesBefore
+not_back [] js h k = h
+not_back (i ∷ is) [] h k = h
+not_back (i ∷ is) (j ∷ js) (inl less) (inl more) = omega (arith, ints)
+not_back (i ∷ is) (j ∷ js) (inl less) (inr k) = let same : j ≡ i = k.0 in omega (arith, ints)
+not_back (i ∷ is) (j ∷ js) (inr h) (inl more) = let same : i ≡ j = h.0 in omega (arith, ints)
+not_back (i ∷ is) (j ∷ js) (inr h) (inr k) = not_back is js h.1 k.1
+
+none-first : (values : List ℤ) (more : List (List ℤ)) (others : List ℤ) → AllPairs ComesBefore (values ∷ more) → Contains (values ∷ more) others → ComesBefore others values → ⊥
+none-first values more others rise (zero, l, e) h = not_itself values (subst (λ (v : List ℤ). ComesBefore v values) (sym e) h)
+none-first values more others rise (suc k, l, e) h =
+    let after : ComesBefore values (get_or more k others) = rise 0 (suc k) others (omega arith) l in
+    not_back values others (subst (λ (v : List ℤ). ComesBefore values v) e after) h
+
+pub first_of_all : FirstOfAll
+first_of_all s items values more all = record {
+  extends = all.sound 0 values (omega arith);
+  none_before = λ others extends h. none-first values more others all.ascend (all.complete others extends) h;
+}

@@ -1,8 +1,11 @@
 -- Assignments of variables that extend to a solution of all that is posted, and the first of them. `sat_solve` binds its variables to that one. (Own.)
-use Rattle.std.specs.Prelude.{◌≡◌, ◌⊎◌, ℕ, ℤ, ◌<ℤ◌, List, [], ◌∷◌, map}
+use Rattle.std.specs.Prelude.{◌≡◌, ◌⊎◌, ℕ, ℤ, ◌<ℤ◌, List, [], ◌∷◌, map, All, AllPairs, Contains}
+use Rattle.pi_terms.specs.Tree.{int}
 use Rattle.pi_constraints.specs.declared.constraint.Item.{Item}
 use Rattle.pi_filters.specs.Solutions.{value_of}
-use Rattle.pi_states.specs.State.{State}
+use Rattle.pi_traces.specs.Trace.{Trace, one, done}
+use Rattle.pi_states.specs.State.{State, with_binding}
+use Rattle.pi_settling.specs.Roots.{root_item}
 use Rattle.pi_settling.specs.Solves.{Solves}
 
 -- the items have these values in some solution
@@ -21,3 +24,25 @@ ComesBefore (i ∷ is) (j ∷ js) = (i <ℤ j) ⊎ ((i ≡ j) × ComesBefore is 
 pub record IsFirst (s : State) (items : List Item) (values : List ℤ) : Type 0 where
   pub extends : Extends s items values
   pub none_before : (others : List ℤ) → Extends s items others → ComesBefore others values → ⊥
+
+-- all assignments that extend to a solution, in ascending order, and so each once: what labelling with `forward` and `up` or `split` gives
+pub record AreAll (s : State) (items : List Item) (lists : List (List ℤ)) : Type 0 where
+  pub sound : All (Extends s items) lists
+  pub complete : (values : List ℤ) → Extends s items values → Contains lists values
+  pub ascend : AllPairs ComesBefore lists
+
+-- ---- `sat_solve`
+
+-- the variables among the items bound to their values
+abbrev pub bound_to : State → Item → ℤ → State
+bound_to s (Item.Var n) i = with_binding s n (int i)
+bound_to s (Item.Int j) i = s
+
+unfoldable pub all_bound : State → List Item → List ℤ → State
+all_bound s [] values = s
+all_bound s (x ∷ items) [] = s
+all_bound s (x ∷ items) (i ∷ values) = all_bound (bound_to s (root_item s x) i) items values
+
+-- what it comes to before it is settled: the first assignment, or no answer exactly where there is none
+abbrev pub IsSatSolved : State → List Item → Trace State → Type 0
+IsSatSolved s items t = ((values : List ℤ) × IsFirst s items values × (t ≡ one (all_bound s items values))) ⊎ (((values : List ℤ) → Extends s items values → ⊥) × (t ≡ done))

@@ -1,5 +1,5 @@
 -- The laws of labelling.
-use Rattle.std.specs.Prelude.{◌≡◌, ℕ, ◌<◌, ℤ, pos, IsTrue, List, [], length, get_or, Option}
+use Rattle.std.specs.Prelude.{◌≡◌, ℕ, ◌<◌, ℤ, pos, IsTrue, List, [], ◌∷◌, length, get_or, Option}
 use Rattle.pi_terms.specs.Tree.{Tree}
 use Rattle.pi_constraints.specs.declared.constraint.Item.{Item}
 use Rattle.pi_constraints.specs.declared.domain.Span.{Span}
@@ -11,7 +11,7 @@ use Rattle.pi_labelling.specs.Options.{Options, ValueWord}
 use Rattle.pi_labelling.specs.Choices.{pending, Alternative, is_value, allows, alternatives}
 use Rattle.pi_labelling.specs.Label.{Settling, Lower, labelled, labelled_at}
 use Rattle.pi_labelling.specs.Rounds.{Seeking, sought}
-use Rattle.pi_labelling.specs.Assignments.{IsFirst}
+use Rattle.pi_labelling.specs.Assignments.{IsFirst, AreAll, IsSatSolved}
 
 -- one of these alternatives allows a value, and no other does
 pub record OneAllows (alts : List Alternative) (i : ℤ) : Type 0 where
@@ -41,3 +41,11 @@ SeekingDoesMore = (p : Seeking) → ((s : State) → DepthOnlyAdds (λ d. p.drai
 -- there is one first assignment at most
 abbrev pub FirstIsOne : Type 0
 FirstIsOne = (s : State) (items : List Item) (values others : List ℤ) → IsFirst s items values → IsFirst s items others → values ≡ others
+
+-- and so `sat_solve` comes to one trace at most
+abbrev pub SatSolvedIsOne : Type 0
+SatSolvedIsOne = (s : State) (items : List Item) (t u : Trace State) → IsSatSolved s items t → IsSatSolved s items u → t ≡ u
+
+-- of all assignments the first one is the first
+abbrev pub FirstOfAll : Type 0
+FirstOfAll = (s : State) (items : List Item) (values : List ℤ) (more : List (List ℤ)) → AreAll s items (values ∷ more) → IsFirst s items values

@@ -1,10 +1,10 @@
 -- Resumed runs, worked through the definitions.
-use Rattle.std.specs.Prelude.{◌≡◌, ℕ, Bool, true, false, List, [], ◌∷◌, ◌++◌, refl}
-use Rattle.pi_terms.specs.Tree.{Tree, var}
-use Rattle.pi_traces.specs.Trace.{Trace, end, note, ans, Done, Raise, Tick, Out, done, one, alt, then}
+use Rattle.std.specs.Prelude.{◌≡◌, ℕ, Bool, true, false, List, [], ◌∷◌, refl}
+use Rattle.pi_terms.specs.Tree.{var}
+use Rattle.pi_traces.specs.Trace.{end, note, ans, Done, Raise, Tick, Out, one, alt, then}
 use Rattle.pi_traces.specs.Control.{chosen, caught}
-use Rattle.pi_paths.specs.Ways.{Way, Ways, choice_from}
-use Rattle.pi_paths.specs.Resumed.{Following, on_way, reached, cut_off, bad, Search, to_answer, simple, with_rest, follows_then, sequence, taken_from, alternatives, to_exception, with_handler, caught_search, RuleSearch, rules_ways, on_first, rules_taken, call_search, resumed}
+use Rattle.pi_paths.specs.Ways.{Way, choice_from}
+use Rattle.pi_paths.specs.Resumed.{on_way, reached, bad, Search, to_answer, simple, with_rest, follows_then, sequence, taken_from, alternatives, to_exception, with_handler, caught_search, RuleSearch, rules_ways, on_first, rules_taken, call_search, resumed}
 
 -- a rule that applies, with this body
 abbrev rule : {A : Type 0} → Bool → Search A → RuleSearch ℕ A

@@ -1,6 +1,6 @@
 -- Small states, worked through the definitions: what they are meant to say of loads, events and the agents that they wake.
-use Rattle.std.specs.Prelude.{◌≡◌, ℕ, ℤ, pos, negsuc, Bool, true, false, List, [], ◌∷◌, Some, None, refl}
-use Rattle.pi_terms.specs.Tree.{Tree, var, int}
+use Rattle.std.specs.Prelude.{◌≡◌, ℕ, pos, negsuc, Bool, true, false, List, [], ◌∷◌, Some, None, refl}
+use Rattle.pi_terms.specs.Tree.{var, int}
 use Rattle.pi_constraints.specs.declared.constraint.Rel.{Rel}
 use Rattle.pi_constraints.specs.declared.constraint.Constraint.{Constraint}
 use Rattle.pi_constraints.specs.declared.domain.Span.{Span}
@@ -15,17 +15,17 @@ use Rattle.pi_settling.specs.Answers.{leads_for, first_answered, activations_fro
 use Rattle.pi_settling.specs.Load.{same_domain, count_due, roots_of, load, load_of_failure}
 use Rattle.pi_settling.specs.Settled.{with_events}
 
-abbrev span : ℕ → ℕ → Span
+abbrev pub span : ℕ → ℕ → Span
 span lo hi = record { lo = pos lo; hi = pos hi }
 
-abbrev from_to : ℕ → ℕ → Variable
+abbrev pub from_to : ℕ → ℕ → Variable
 from_to lo hi = within (span lo hi ∷ [])
 
-abbrev state : List Variable → List Constraint → List Agent → State
+abbrev pub state : List Variable → List Constraint → List Agent → State
 state vs cs agents = record { variables = vs; constraints = cs; agents = agents; waiting = [] }
 
 -- 3 - X =< 0, so that X is 3 at least
-abbrev at_least_three : Constraint
+abbrev pub at_least_three : Constraint
 at_least_three = Constraint.Linear Rel.AtMost ((negsuc 0, 0) ∷ []) (pos 3)
 
 -- X - 3 =< 0

@@ -5,4 +5,6 @@ pub mod UniqueLemmas
 pub mod EventLemmas
 pub mod TwiceLemmas
 pub mod LoadLemmas
+pub mod AnswerLemmas
 pub mod Examples
+pub mod StableExample

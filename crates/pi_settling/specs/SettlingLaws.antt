@@ -1,6 +1,6 @@
 -- The laws of settling.
-use Rattle.std.specs.Prelude.{◌≡◌, ◌⊎◌, ℕ, ℤ, IsTrue, List, [], Some, Contains}
-use Rattle.pi_terms.specs.Tree.{int}
+use Rattle.std.specs.Prelude.{◌≡◌, ◌⊎◌, ◌↔◌, ℕ, ◌+◌, ◌<◌, ℤ, IsTrue, List, [], ◌∷◌, Some, None, slice_get, Contains}
+use Rattle.pi_terms.specs.Tree.{Tree, int}
 use Rattle.pi_terms.specs.Places.{held}
 use Rattle.pi_constraints.specs.declared.constraint.Constraint.{Constraint}
 use Rattle.pi_constraints.specs.declared.constraint.Item.{Item}
@@ -9,10 +9,14 @@ use Rattle.pi_constraints.specs.Domain.{IsWithinBounds, has_value}
 use Rattle.pi_filters.specs.Places.{places_of}
 use Rattle.pi_filters.specs.Solutions.{value_of}
 use Rattle.pi_traces.specs.Trace.{Trace, one}
-use Rattle.pi_states.specs.State.{State, IsState, bindings, domain_of}
+use Rattle.pi_states.specs.Value.{Bindings, IsAcyclic}
+use Rattle.pi_states.specs.State.{State, WatchTree, IsState, bindings, domain_of, LeadsTo}
+use Rattle.pi_states.specs.declared.event.Event.{Event}
+use Rattle.pi_states.specs.declared.event.Activation.{Activation}
 use Rattle.pi_settling.specs.Roots.{root_item, Counts}
 use Rattle.pi_settling.specs.Stable.{Domains, LieBelow, NoFilterChanges, Stays, IsStable}
 use Rattle.pi_settling.specs.Events.{events_between}
+use Rattle.pi_settling.specs.Answers.{leads_to, answer_to, first_answered}
 use Rattle.pi_settling.specs.Settled.{IsSettled}
 use Rattle.pi_settling.specs.Solves.{Solves}
 
@@ -54,3 +58,22 @@ StableStaysStable = (s r : State) → IsState s → IsState r → MaySettle s �
 
 abbrev pub SettlingTwiceIsOnce : Type 0
 SettlingTwiceIsOnce = (s r : State) → IsState s → IsState r → MaySettle s → IsStable s r → IsSettled r r (one r)
+
+-- whether a term leads to a variable is told as it is said
+abbrev pub LeadsAreFollowed : Type 0
+LeadsAreFollowed = (b : Bindings) (t : Tree) (n : ℕ) → IsAcyclic b → IsTrue (leads_to b t n) ↔ LeadsTo b t n
+
+-- what is made of the first pattern that an event answers, of those from number i on
+pub record ByFirst (b : Bindings) (e : Event) (agent i : ℕ) (ws : List WatchTree) (a : Activation) : Type 0 where
+  pub place : ℕ
+  pub pattern : WatchTree
+  pub there : slice_get ws place ≡ Some pattern
+  pub answers : answer_to b e pattern ≡ Some a.value
+  pub before : (j : ℕ) (w : WatchTree) → j < place → slice_get ws j ≡ Some w → answer_to b e w ≡ None
+  pub numbers : (a.agent ≡ agent) × (a.watch ≡ i + place)
+
+-- an event wakes an agent once at most: by the first pattern that it answers, and not where it answers none
+abbrev pub AgentsAreWokenOnce : Type 0
+AgentsAreWokenOnce = (b : Bindings) (e : Event) (agent i : ℕ) (ws : List WatchTree) →
+    ((first_answered b e agent i ws ≡ []) × ((j : ℕ) (w : WatchTree) → slice_get ws j ≡ Some w → answer_to b e w ≡ None))
+    ⊎ ((a : Activation) × (first_answered b e agent i ws ≡ a ∷ []) × ByFirst b e agent i ws a)

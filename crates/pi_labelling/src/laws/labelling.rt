@@ -1,5 +1,5 @@
 //! Laws of labelling.
-ghost use Rattle.pi_labelling.specs.LabelLaws.{AlternativesPartTheDomain, LabellingNothing, LabellingDoesMore, SeekingDoesMore, FirstIsOne};
+ghost use Rattle.pi_labelling.specs.LabelLaws.{AlternativesPartTheDomain, LabellingNothing, LabellingDoesMore, SeekingDoesMore, FirstIsOne, FirstOfAll, SatSolvedIsOne};
 
 /// The alternatives of a variable part its domain: each value is allowed by one of them, and by no other.
 pub fn alternatives_part_the_domain()
@@ -13,7 +13,9 @@ pub fn labelling_does_more()
     ensures rounds { SeekingDoesMore }
 {}
 
-/// There is one first assignment at most.
+/// There is one first assignment at most, the first of all that extend to a solution, and so `sat_solve` comes to one trace at most.
 pub fn first_assignments_are_one()
-    ensures { FirstIsOne }
+    ensures one { FirstIsOne }
+    ensures of_all { FirstOfAll }
+    ensures sat { SatSolvedIsOne }
 {}

@@ -1,5 +1,5 @@
 //! Laws of settling.
-ghost use Rattle.pi_settling.specs.SettlingLaws.{StableIsOne, SettledIsOne, StableLiesBelow, SettlingKeepsSolutions, StableIsUnchanged, NoChangeNoEvents, StableStaysStable, SettlingTwiceIsOnce};
+ghost use Rattle.pi_settling.specs.SettlingLaws.{StableIsOne, SettledIsOne, StableLiesBelow, SettlingKeepsSolutions, StableIsUnchanged, NoChangeNoEvents, StableStaysStable, SettlingTwiceIsOnce, LeadsAreFollowed, AgentsAreWokenOnce};
 
 /// A state has one stable state at most, and settling comes to one trace at most.
 pub fn stable_states_are_one()
@@ -19,4 +19,10 @@ pub fn settling_again_adds_nothing()
     ensures events { NoChangeNoEvents }
     ensures stable { StableStaysStable }
     ensures once { SettlingTwiceIsOnce }
+{}
+
+/// An event wakes an agent once at most, by the first of its patterns that it answers: those whose variable is the event's or leads to it.
+pub fn events_wake_agents_once()
+    ensures leads { LeadsAreFollowed }
+    ensures once { AgentsAreWokenOnce }
 {}
