@@ -6,8 +6,8 @@ use Rattle.pi_traces.specs.Trace.{Trace, end, note, ans, Done, Raise, Abort, Mis
 use Rattle.pi_traces.specs.Control.{caught, chosen}
 use Rattle.pi_traces.proofs.AnswerLemmas.{EachAnswer, each-map, each-alt, each-then}
 use Rattle.pi_paths.specs.Ways.{Way, Ways, straight, without_choices, choosing, numbered, behind, followed_by, choice_from, choice, catching, Diverge, Apart}
-use Rattle.pi_paths.specs.Resumed.{RuleSearch, rest_unless, rules_ways, call_search}
-use Rattle.pi_paths.specs.PathLaws.{StraightIsApart, SequencesAreApart, AllApart, ChoicesAreApart, CatchesAreApart, AllBodiesApart, CallsAreApart, NoTwoPathsAreOne}
+use Rattle.pi_paths.specs.Resumed.{RuleSearch, rest_unless, rules_ways, rules_search, chosen_search}
+use Rattle.pi_paths.specs.PathLaws.{StraightIsApart, SequencesAreApart, AllApart, ChoicesAreApart, CatchesAreApart, AllBodiesApart, RulesAreApart, ConditionsAreApart, NoTwoPathsAreOne}
 
 -- ---- paths
 
@@ -254,12 +254,11 @@ rules-parts k (r ∷ rs) all =
     (each-any (λ v. EachAnswer (From (choosing k v)) (rest_unless r.committed (rules_ways (suc k) rs)))
     (λ v. each-unless (From (choosing k v)) r.committed (rules_ways (suc k) rs) (rules-each k (suc k) (omega arith) v rs)) (r.body x).ways))) rest
 
-call-parts : {X A : Type 0} (rs : List (RuleSearch X A)) → AllBodiesApart rs → Parts (call_search rs).ways
-unfolding Parts
-call-parts rs all = rules-parts 1 rs all
+pub rules_are_apart : {X A : Type 0} → RulesAreApart X A
+rules_are_apart rs all = apart-of (rules_search rs).ways (rules-parts 1 rs all)
 
-pub calls_are_apart : {X A : Type 0} → CallsAreApart X A
-calls_are_apart rs all = apart-of (call_search rs).ways (call-parts rs all)
+pub conditions_are_apart : {X A : Type 0} → ConditionsAreApart X A
+conditions_are_apart t f other all rest = apart-of (chosen_search t f other).ways (parts-chosen t (λ x. (f x).ways) other.ways (λ x. parts-of (f x).ways (all x)) (parts-of other.ways rest))
 
 pub no_two_paths_are_one : {A : Type 0} → NoTwoPathsAreOne A
 no_two_paths_are_one t a = λ i j d below within. diverge-differ (get_or (answers t) i d).path (get_or (answers t) j d).path (a i j d below within)

@@ -1,4 +1,4 @@
--- Resumed runs of choices, of `catch` and of calls lead where they are to.
+-- Resumed runs of choices, of `catch`, of rules and of conditions lead where they are to.
 use Rattle.std.specs.Prelude.{◌≡◌, ℕ, suc, ◌+◌, Bool, true, false, List, [], ◌∷◌, ◌++◌, refl}
 use Rattle.std.proofs.Common.{arith, sym, ◌∙◌, ap, subst, inl, inr}
 use Rattle.pi_terms.specs.Tree.{Tree}
@@ -6,8 +6,8 @@ use Rattle.pi_traces.specs.Trace.{Trace, end, note, ans, Done, Raise, Abort, Mis
 use Rattle.pi_traces.specs.Control.{caught, chosen}
 use Rattle.pi_traces.proofs.TraceLemmas.{alt-done}
 use Rattle.pi_paths.specs.Ways.{Way, Ways, choosing, numbered, choice_from}
-use Rattle.pi_paths.specs.Resumed.{Following, on_way, reached, cut_off, bad, passed, Search, with_rest, ways_of, taken_from, alternatives, to_exception, with_handler, caught_at, RuleSearch, rest_unless, rules_ways, on_first, bad_if, rules_taken, call_search, At, at_first, past_note, past_answer, Leads, IsResumable}
-use Rattle.pi_paths.specs.PathLaws.{AllResumable, ChoicesAreResumable, CatchesAreResumable, AllBodies, CallsAreResumable}
+use Rattle.pi_paths.specs.Resumed.{Following, on_way, reached, cut_off, bad, passed, Search, with_rest, ways_of, taken_from, alternatives, to_exception, with_handler, caught_at, RuleSearch, rest_unless, rules_ways, on_first, bad_if, rules_taken, rules_search, chosen_search, At, at_first, past_note, past_answer, Leads, IsResumable}
+use Rattle.pi_paths.specs.PathLaws.{AllResumable, ChoicesAreResumable, CatchesAreResumable, AllBodies, RulesAreResumable, TicksAreResumable, ConditionsAreResumable}
 use Rattle.pi_paths.proofs.ResumedLemmas.{AtAlt, in_front, in_behind, Begun, begun, at-alt, AtThen, through, at-then, at-one, leads-rest}
 
 -- ---- ways with a number in front
@@ -165,7 +165,7 @@ catch-cases s handler v rest left hs hh (in_handler ball e a) = handler-side s h
 pub catches_are_resumable : {A : Type 0} → CatchesAreResumable A
 catches_are_resumable s handler hs hh v rest left a = catch-cases s handler v rest left hs hh (at-caught (numbered 1 s.ways) (λ ball. numbered 2 (handler ball).ways) v rest a)
 
--- ---- calls
+-- ---- the rules of calls
 
 -- an answer of what is chosen by a condition, and where what follows the condition leads then
 data AtChosen {X A : Type 0} (t : Trace X) (f : X → Ways A) (u : Ways A) (v : Way A) (rest : Ways A) : Type 0 where
@@ -253,9 +253,24 @@ rules-taken k [] v rest left all a = absurd (begun a)
 rules-taken k (r ∷ rs) v rest left all a =
     rule-cases k r rs v rest left all.0 (at-chosen r.applies (λ x. alt (numbered k (r.body x).ways) (rest_unless r.committed (rules_ways (suc k) rs))) (rules_ways (suc k) rs) v rest a) (rules-taken (suc k) rs v rest left all.1)
 
-pub calls_are_resumable : {X A : Type 0} → CallsAreResumable X A
-unfolding Begun Leads
-calls_are_resumable rs all v rest left a =
-    let h : TakenAt (rules_taken 1 rs) 1 v rest left = rules-taken 1 rs v rest left all (begun a) in
+pub rules_are_resumable : {X A : Type 0} → RulesAreResumable X A
+rules_are_resumable rs all v rest left a =
+    let h : TakenAt (rules_taken 1 rs) 1 v rest left = rules-taken 1 rs v rest left all a in
     let is : v.path ≡ suc h.place ∷ h.path = h.is ∙ ap (λ (n : ℕ). n ∷ h.path) (omega arith) in
-    subst (λ (p : List ℕ). Leads ((call_search rs).follows (p ++ left)) v.path v.answer left rest) (sym is) h.leads
+    subst (λ (p : List ℕ). Leads ((rules_search rs).follows (p ++ left)) v.path v.answer left rest) (sym is) h.leads
+
+pub ticks_are_resumable : {A : Type 0} → TicksAreResumable A
+unfolding Begun Leads
+ticks_are_resumable s hs v rest left a = hs v rest left (begun a)
+
+-- ---- conditions
+
+condition-cases : {X A : Type 0} (t : Trace X) (f : X → Search A) (other : Search A) (v : Way A) (rest : Ways A) (left : List ℕ) → ((x : X) → IsResumable (f x)) → IsResumable other →
+    AtChosen t (λ x. (f x).ways) other.ways v rest → Leads ((chosen_search t f other).follows (v.path ++ left)) v.path v.answer left rest
+condition-cases t f other v rest left hf ho (where_true x a lead) =
+    lead (λ z. (f z).follows (v.path ++ left)) (other.follows (v.path ++ left)) v.path v.answer left rest (hf x v rest left a)
+condition-cases t f other v rest left hf ho (where_false a lead) =
+    lead (λ z. (f z).follows (v.path ++ left)) (other.follows (v.path ++ left)) v.path v.answer left rest (ho v rest left a)
+
+pub conditions_are_resumable : {X A : Type 0} → ConditionsAreResumable X A
+conditions_are_resumable t f other hf ho v rest left a = condition-cases t f other v rest left hf ho (at-chosen t (λ x. (f x).ways) other.ways v rest a)

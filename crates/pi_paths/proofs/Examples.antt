@@ -4,7 +4,7 @@ use Rattle.pi_terms.specs.Tree.{var}
 use Rattle.pi_traces.specs.Trace.{end, note, ans, Done, Raise, Tick, Out, one, alt, then}
 use Rattle.pi_traces.specs.Control.{chosen, caught}
 use Rattle.pi_paths.specs.Ways.{Way, choice_from}
-use Rattle.pi_paths.specs.Resumed.{on_way, reached, bad, Search, to_answer, simple, with_rest, follows_then, sequence, taken_from, alternatives, to_exception, with_handler, caught_search, RuleSearch, rules_ways, on_first, rules_taken, call_search, resumed}
+use Rattle.pi_paths.specs.Resumed.{on_way, reached, bad, Search, to_answer, simple, with_rest, follows_then, sequence, taken_from, alternatives, to_exception, with_handler, caught_search, RuleSearch, rules_ways, on_first, rules_taken, rules_search, ticked, resumed}
 
 -- a rule that applies, with this body
 abbrev rule : {A : Type 0} → Bool → Search A → RuleSearch ℕ A
@@ -15,12 +15,12 @@ way path x = record { path = path; answer = x }
 
 -- p(X) ?=> X = 1.  p(X) => X = 2.  The first rule is committed where the Boolean is true.
 abbrev p_search : Bool → Search ℕ
-p_search committed = call_search (rule committed (simple (one 1)) ∷ rule true (simple (one 2)) ∷ [])
+p_search committed = ticked (rules_search (rule committed (simple (one 1)) ∷ rule true (simple (one 2)) ∷ []))
 
 -- member(X,[Y|_]) ?=> X = Y.  member(X,[_|L]) => member(X,L).
 abbrev member : List ℕ → Search ℕ
-member [] = call_search {X = ℕ} []
-member (x ∷ xs) = call_search (rule false (simple (one x)) ∷ rule true (member xs) ∷ [])
+member [] = ticked (rules_search {X = ℕ} [])
+member (x ∷ xs) = ticked (rules_search (rule false (simple (one x)) ∷ rule true (member xs) ∷ []))
 
 -- From no path, 1 and 2, and from numbers that the call doesn't have or that a committed rule rules out.
 calls-resume :

@@ -4,7 +4,7 @@ use Rattle.pi_terms.specs.Tree.{Tree}
 use Rattle.pi_traces.specs.Trace.{Trace, alt, then, answers}
 use Rattle.pi_traces.specs.Control.{caught, chosen}
 use Rattle.pi_paths.specs.Ways.{Ways, plain, without_choices, numbered, followed_by, choice_from, choice, catching, Apart}
-use Rattle.pi_paths.specs.Resumed.{Search, sequence, alternatives, caught_search, RuleSearch, rest_unless, rules_ways, call_search, IsResumable}
+use Rattle.pi_paths.specs.Resumed.{Search, sequence, alternatives, caught_search, RuleSearch, rest_unless, rules_ways, rules_search, ticked, chosen_search, IsResumable}
 
 -- Without its paths a trace is what it was.
 
@@ -49,8 +49,11 @@ unfoldable pub AllBodiesApart : {X A : Type 0} → List (RuleSearch X A) → Typ
 AllBodiesApart [] = ⊤
 AllBodiesApart {X = X} (r ∷ rs) = ((x : X) → Apart (r.body x).ways) × AllBodiesApart rs
 
-abbrev pub CallsAreApart : Type 0 → Type 0 → Type 0
-CallsAreApart X A = (rs : List (RuleSearch X A)) → AllBodiesApart rs → Apart (call_search rs).ways
+abbrev pub RulesAreApart : Type 0 → Type 0 → Type 0
+RulesAreApart X A = (rs : List (RuleSearch X A)) → AllBodiesApart rs → Apart (rules_search rs).ways
+
+abbrev pub ConditionsAreApart : Type 0 → Type 0 → Type 0
+ConditionsAreApart X A = (t : Trace X) (f : X → Search A) (other : Search A) → ((x : X) → Apart (f x).ways) → Apart other.ways → Apart (chosen_search t f other).ways
 
 -- and so no two answers have one path
 abbrev pub NoTwoPathsAreOne : Type 0 → Type 0
@@ -77,5 +80,11 @@ unfoldable pub AllBodies : {X A : Type 0} → List (RuleSearch X A) → Type 0
 AllBodies [] = ⊤
 AllBodies {X = X} (r ∷ rs) = ((x : X) → IsResumable (r.body x)) × AllBodies rs
 
-abbrev pub CallsAreResumable : Type 0 → Type 0 → Type 0
-CallsAreResumable X A = (rs : List (RuleSearch X A)) → AllBodies rs → IsResumable (call_search rs)
+abbrev pub RulesAreResumable : Type 0 → Type 0 → Type 0
+RulesAreResumable X A = (rs : List (RuleSearch X A)) → AllBodies rs → IsResumable (rules_search rs)
+
+abbrev pub TicksAreResumable : Type 0 → Type 0
+TicksAreResumable A = (s : Search A) → IsResumable s → IsResumable (ticked s)
+
+abbrev pub ConditionsAreResumable : Type 0 → Type 0 → Type 0
+ConditionsAreResumable X A = (t : Trace X) (f : X → Search A) (other : Search A) → ((x : X) → IsResumable (f x)) → IsResumable other → IsResumable (chosen_search t f other)

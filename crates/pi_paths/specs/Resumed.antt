@@ -104,7 +104,7 @@ caught_at s handler (k ∷ p) = bad
 abbrev pub caught_search : {A : Type 0} → Search A → (Tree → Search A) → Search A
 caught_search s handler = record { ways = catching s.ways (λ ball. (handler ball).ways); follows = caught_at s handler }
 
--- ---- the rules of a call: those before the path's number are matched and their conditions taken, and a committed one that applies makes the path bad
+-- ---- the rules of a call, behind its Tick: those before the path's number are matched and their conditions taken, and a committed one that applies makes the path bad
 
 -- a rule: where it applies, whether it is committed, and its body from there
 pub record RuleSearch (X A : Type 0) : Type 0 where
@@ -142,9 +142,18 @@ rules_followed rs [] = bad
 rules_followed rs (zero ∷ p) = bad
 rules_followed rs (suc i ∷ p) = rules_taken 1 rs i p
 
--- the call: its Tick, which counts on the way too, and then its rules
-abbrev pub call_search : {X A : Type 0} → List (RuleSearch X A) → Search A
-call_search rs = record { ways = note Tick (rules_ways 1 rs); follows = λ p. on_way Tick (rules_followed rs p) }
+-- the rules
+abbrev pub rules_search : {X A : Type 0} → List (RuleSearch X A) → Search A
+rules_search rs = record { ways = rules_ways 1 rs; follows = rules_followed rs }
+
+-- a Tick in front, which counts on the way too: that of a call before its rules or facts, and that of an alternative of a labelling
+abbrev pub ticked : {A : Type 0} → Search A → Search A
+ticked s = record { ways = note Tick s.ways; follows = λ p. on_way Tick (s.follows p) }
+
+-- ---- a condition, which is no choice: what follows its first answer, or the other goal; so it is of the rules of a quiet call, which are all committed
+
+abbrev pub chosen_search : {X A : Type 0} → Trace X → (X → Search A) → Search A → Search A
+chosen_search t f other = record { ways = chosen t (λ x. (f x).ways) other.ways; follows = λ p. on_first t (λ x. (f x).follows p) (other.follows p) }
 
 -- ---- a query: an answer with numbers left isn't that of the path
 

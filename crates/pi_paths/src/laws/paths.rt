@@ -1,5 +1,5 @@
 //! Laws of paths and of resumed runs.
-ghost use Rattle.pi_paths.specs.PathLaws.{PlainOfNumbered, PlainOfSequence, PlainOfChoice, PlainOfCatch, PlainOfRules, StraightIsApart, SequencesAreApart, ChoicesAreApart, CatchesAreApart, CallsAreApart, NoTwoPathsAreOne, SequencesAreResumable, ChoicesAreResumable, CatchesAreResumable, CallsAreResumable};
+ghost use Rattle.pi_paths.specs.PathLaws.{PlainOfNumbered, PlainOfSequence, PlainOfChoice, PlainOfCatch, PlainOfRules, StraightIsApart, SequencesAreApart, ChoicesAreApart, CatchesAreApart, RulesAreApart, ConditionsAreApart, NoTwoPathsAreOne, SequencesAreResumable, ChoicesAreResumable, CatchesAreResumable, RulesAreResumable, TicksAreResumable, ConditionsAreResumable};
 
 /// Without its paths a trace is what it was, however goals are put together.
 pub fn paths_add_nothing<A, B>()
@@ -16,7 +16,8 @@ pub fn paths_lead_apart<A, B>()
     ensures sequence { SequencesAreApart A B }
     ensures choice { ChoicesAreApart A }
     ensures catching { CatchesAreApart A }
-    ensures calls { CallsAreApart A B }
+    ensures rules { RulesAreApart A B }
+    ensures conditions { ConditionsAreApart A B }
     ensures different { NoTwoPathsAreOne A }
 {}
 
@@ -26,5 +27,7 @@ pub fn goals_resume<A, B>()
     ensures sequence { SequencesAreResumable A B }
     ensures choice { ChoicesAreResumable A }
     ensures catching { CatchesAreResumable A }
-    ensures calls { CallsAreResumable A B }
+    ensures rules { RulesAreResumable A B }
+    ensures ticks { TicksAreResumable A }
+    ensures conditions { ConditionsAreResumable A B }
 {}

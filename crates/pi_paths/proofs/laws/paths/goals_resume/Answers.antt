@@ -1,5 +1,5 @@
 use Rattle.pi_paths.proofs.ResumedLemmas.{sequences_are_resumable}
-use Rattle.pi_paths.proofs.ChoiceLemmas.{choices_are_resumable, catches_are_resumable, calls_are_resumable}
+use Rattle.pi_paths.proofs.ChoiceLemmas.{choices_are_resumable, catches_are_resumable, rules_are_resumable, ticks_are_resumable, conditions_are_resumable}
 use Rattle.pi_paths.proofs.laws.paths.goals_resume.Goals as goal
 
 pub returns-clause-sequence : goal.returns-clause-sequence
@@ -11,5 +11,11 @@ returns-clause-choice g c = choices_are_resumable
 pub returns-clause-catching : goal.returns-clause-catching
 returns-clause-catching g c = catches_are_resumable
 
-pub returns-clause-calls : goal.returns-clause-calls
-returns-clause-calls g c = calls_are_resumable
+pub returns-clause-rules : goal.returns-clause-rules
+returns-clause-rules g c = rules_are_resumable
+
+pub returns-clause-ticks : goal.returns-clause-ticks
+returns-clause-ticks g c = ticks_are_resumable
+
+pub returns-clause-conditions : goal.returns-clause-conditions
+returns-clause-conditions g c = conditions_are_resumable

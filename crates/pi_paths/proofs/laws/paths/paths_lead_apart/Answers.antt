@@ -1,4 +1,4 @@
-use Rattle.pi_paths.proofs.ApartLemmas.{calls_are_apart, straight_is_apart, sequences_are_apart, choices_are_apart, catches_are_apart, no_two_paths_are_one}
+use Rattle.pi_paths.proofs.ApartLemmas.{rules_are_apart, conditions_are_apart, straight_is_apart, sequences_are_apart, choices_are_apart, catches_are_apart, no_two_paths_are_one}
 use Rattle.pi_paths.proofs.laws.paths.paths_lead_apart.Goals as goal
 
 pub returns-clause-straight : goal.returns-clause-straight
@@ -16,5 +16,8 @@ returns-clause-catching g c = catches_are_apart
 pub returns-clause-different : goal.returns-clause-different
 returns-clause-different g c = no_two_paths_are_one
 
-pub returns-clause-calls : goal.returns-clause-calls
-returns-clause-calls g c = calls_are_apart
+pub returns-clause-rules : goal.returns-clause-rules
+returns-clause-rules g c = rules_are_apart
+
+pub returns-clause-conditions : goal.returns-clause-conditions
+returns-clause-conditions g c = conditions_are_apart
