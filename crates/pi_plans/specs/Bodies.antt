@@ -7,7 +7,8 @@ use Rattle.pi_traces.specs.Trace.{Trace, End, answers, end_of}
 use Rattle.pi_states.specs.State.{State}
 use Rattle.pi_plans.specs.Situation.{Situation}
 
--- an answer of `action`: the values of its three last arguments
+-- an answer of `action`: the values of its three last arguments, with all bindings replaced. (Where one is past the limit of copies, the trace has that exception in
+-- the answer's place, as a query has.)
 pub record Offer : Type 0 where
   pub state : Tree
   pub action : Tree

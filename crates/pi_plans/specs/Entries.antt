@@ -1,8 +1,10 @@
 -- Right entries of a log of planner calls: what each says of its call holds. (A User's Guide to Picat, 'Planning': plans are valid, and those of `best_plan` cheapest;
 -- the log, exceptions and open calls are own.)
 use Rattle.std.specs.Prelude.{◌≡◌, ◌⊎◌, ℕ, ◌<◌, ◌≤◌, ℤ, pos, Bool, true, false, List, ◌++◌, take, slice_get, Some, codes, All}
-use Rattle.pi_terms.specs.Tree.{Tree, comp, no_trees, tree}
+use Rattle.pi_terms.specs.Tree.{Tree}
 use Rattle.pi_traces.specs.Trace.{Call, Done, Raise, Abort, answers}
+use Rattle.pi_states.specs.State.{empty_state}
+use Rattle.pi_effects.specs.Exception.{exception_with}
 use Rattle.pi_effects.specs.Items.{list_of}
 use Rattle.pi_meaning.specs.View.{call_of, same_call}
 use Rattle.pi_answers.specs.declared.log.LogEntry.{LogEntry}
@@ -43,7 +45,7 @@ pub data Raises (b : Bodies) (log : List LogEntry) (waiting : List Call) (s : Tr
   in_action : (ball : Tree) → FailsIn (b.final (of_body log waiting r) s) Done → EndsIn (b.action (of_body log waiting r) s) (Raise ball) ⊎ EndsIn (b.action (of_body log waiting r) s) (Abort ball) →
       Raises b log waiting s r ball
   by_fault : (t : Tree) (d : ℕ) → FailsIn (b.final (of_body log waiting r) s) Done → first_fault (answers (b.action (of_body log waiting r) s d)) ≡ Some t →
-      Raises b log waiting s r (comp (codes "planner") (tree t no_trees))
+      Raises b log waiting s r (exception_with (codes "planner") t empty_state)
 
 -- a state that the call reaches; of `best_plan` under a limit below which all is exhausted
 abbrev pub ReachedInTurn : Bool → Bodies → List LogEntry → Tree → ℕ → Tree → ℕ → Type 0
