@@ -1,11 +1,11 @@
 -- Forms, headers and wide integers are what their numbers say.
-use Rattle.std.proofs.Common.{◌≡◌, ℕ, zero, suc, ◌+◌, ◌-◌, ◌*◌, ◌/◌, ◌%◌, ◌^◌, ◌<◌, ◌≤◌, Bool, true, false, cond, nat_lt, refl, ap, sym, ◌∙◌, lit<, arith, ℤ, pos, negsuc, ◌-ℤ◌}
-use Rattle.std.proofs.lemmas.Nat.{div-mul-add, mod-mul-add, div_below, mod_below, div-add-mod'}
+use Rattle.std.proofs.Common.{◌≡◌, ℕ, ◌+◌, ◌*◌, ◌/◌, ◌%◌, ◌^◌, ◌<◌, ◌≤◌, Bool, true, false, nat_lt, refl, ap, ◌∙◌, lit<, arith, ℤ, pos, negsuc}
+use Rattle.std.proofs.lemmas.Nat.{div-mul-add, mod-mul-add, div_below, div-add-mod'}
 use Rattle.std.proofs.lemmas.Bool.{lt-ltb, le-ltb, cond-true, cond-false}
 use Rattle.std.proofs.lemmas.Int.{ints, to_z-of_z}
 use mir.Syntax.{w64, w128}
 use mir.Val.{to_z, of_z, SFits}
-use Rattle.pi_raw_terms.specs.Form.{form_with, form_of, tag_of, payload_of, number_of, IsFitting, IsSmall, small_of, small_number, header_with, header_of, comp_number, comp_word, wide_word, wide_top, wide_mid, wide_low, wide_sum, wide_of}
+use Rattle.pi_raw_terms.specs.Form.{form_with, form_of, number_of, IsFitting, IsSmall, small_of, small_number, header_with, header_of, comp_number, comp_word, wide_word, wide_top, wide_mid, wide_low, wide_sum, wide_of}
 use Rattle.std.specs.Prelude.{◌==◌}
 use Rattle.pi_raw_terms.specs.declared.form.Form.{Form}
 use Rattle.pi_raw_terms.specs.declared.header.Header.{Header}

@@ -4,7 +4,7 @@ use Rattle.std.specs.Prelude.{option_map, slice_index}
 use Rattle.std.proofs.lemmas.Bool.{leb-true, le-leb, ltb-true, lt-ltb, and_parts, and_from, cond-true, cases_lt}
 use Rattle.std.proofs.lemmas.Option.{cond_some}
 use Rattle.std.proofs.lemmas.List.{drop-append-le, take-append-le, length-drop, get_or_append_left, get_or_past}
-use Rattle.pi_terms.specs.Tree.{Tree, var, int, atom, comp, Trees, no_trees, tree}
+use Rattle.pi_terms.specs.Tree.{Tree, var, int, atom, comp, Trees, tree}
 use Rattle.pi_raw_terms.specs.Form.{form_of, all_ground, header_of, wide_of}
 use Rattle.pi_raw_terms.specs.Heap.{Heap, in_front, all_trees, compound, is_same, block, is_block, compound_at, headed, tree_with, tree_for, term_at, Grows, TreesStay}
 use Rattle.pi_trail.specs.Entry.{value_of}
@@ -107,6 +107,14 @@ pub mapped_is : {A B : Type 0} (f : A → B) (o : Option A) (y : B) → option_m
 mapped_is f None y e = absurd (cc)
 mapped_is f (Some x) y e = record { it = x; here = refl; is = cc }
 
+-- what is there only where a test holds
+pub guarded_is : (b : Bool) (o : Option Tree) (t : Tree) → cond b o None ≡ Some t → (b ≡ true) × (o ≡ Some t)
+guarded_is false o t e = absurd (cc)
+guarded_is true o t e = (refl, e)
+
+pub guarded_from : (b : Bool) (o : Option Tree) (t : Tree) → b ≡ true → o ≡ Some t → cond b o None ≡ Some t
+guarded_from b o t p e = cond-true b o None p ∙ e
+
 -- a header stands within the words
 pub headed_within : (f : TreeOf) (h : Heap) (place : ℕ) (flag : Bool) (t : Tree) → headed f h place flag (header_of (slice_index h.words place)) ≡ Some t → place < length h.words
 headed_within f h place flag t e = ⊎_elim
@@ -116,10 +124,12 @@ headed_within f h place flag t e = ⊎_elim
 
 headed_more : (f g : TreeOf) (h k : Heap) → Grows h k → Stays f g → (place : ℕ) (flag : Bool) → place < length h.words → (header : Header) (t : Tree) → headed f h place flag header ≡ Some t → headed g k place flag header ≡ Some t
 headed_more f g h k grows stays place flag lt Header.Nothing t e = absurd (cc)
-headed_more f g h k grows stays place flag lt (Header.Comp name count own) t e = compound_more f g h k grows stays name (place - count) count flag t e
+headed_more f g h k grows stays place flag lt (Header.Comp name count own) t e =
+    let p = guarded_is (nat_le count place) (compound_at f h name (place - count) count flag) t e in
+    guarded_from (nat_le count place) (compound_at g k name (place - count) count flag) t p.0 (compound_more f g h k grows stays name (place - count) count flag t p.1)
 headed_more f g h k grows stays place flag lt (Header.Wide top) t e =
-    ap (λ v. cond flag (Some (int (wide_of top (value_of v) (value_of (slice_index k.words (place - 1)))))) None) (word_more h k grows (place - 2) (omega arith))
-    ∙ (ap (λ v. cond flag (Some (int (wide_of top (value_of (slice_index h.words (place - 2))) (value_of v)))) None) (word_more h k grows (place - 1) (omega arith)) ∙ e)
+    ap (λ v. cond (nat_le 2 place && flag) (Some (int (wide_of top (value_of v) (value_of (slice_index k.words (place - 1)))))) None) (word_more h k grows (place - 2) (omega arith))
+    ∙ (ap (λ v. cond (nat_le 2 place && flag) (Some (int (wide_of top (value_of (slice_index h.words (place - 2))) (value_of v)))) None) (word_more h k grows (place - 1) (omega arith)) ∙ e)
 
 with_more : (f g : TreeOf) (h k : Heap) → Grows h k → Stays f g → (form : Form) (t : Tree) → tree_with f h form ≡ Some t → tree_with g k form ≡ Some t
 with_more f g h k grows stays (Form.Var n) t e =

@@ -1,18 +1,18 @@
 -- What is read of a term is what its tree says.
-use Rattle.std.proofs.Common.{◌≡◌, ℕ, zero, suc, ◌+◌, ◌-◌, ◌<◌, ◌≤◌, Bool, true, false, cond, nat_lt, List, [], ◌∷◌, ◌++◌, length, take, drop, Option, Some, None, refl, ap, sym, subst, ◌∙◌, arith, ℤ}
-use Rattle.std.specs.Prelude.{◌↔◌, option_map, slice_index, IsTrue}
+use Rattle.std.proofs.Common.{◌≡◌, ℕ, zero, suc, ◌+◌, ◌-◌, ◌<◌, ◌≤◌, Bool, true, false, cond, nat_lt, nat_le, ◌&&◌, List, [], ◌∷◌, ◌++◌, length, drop, Some, None, refl, ap, sym, ◌∙◌, arith, ℤ}
+use Rattle.std.specs.Prelude.{◌↔◌, slice_index, IsTrue}
+use Rattle.std.proofs.lemmas.Bool.{and_parts}
 use Rattle.std.proofs.lemmas.Option.{cond_some}
 use Rattle.std.proofs.lemmas.List.{append-nil, length-drop, length-take-le, get_or-take, get_or-drop}
 use Rattle.pi_terms.specs.Tree.{Tree, var, int, atom, comp, Trees, no_trees, tree, tree_count, tree_at, args, arity, arg_at}
 use Rattle.pi_terms.specs.Variables.{IsGround, occurrences, occurrences_all, firsts}
 use Rattle.pi_states.specs.declared.store.Cell.{Cell}
-use Rattle.pi_raw_terms.specs.Form.{form_of, is_ground_form, all_ground, header_of, wide_of}
-use Rattle.pi_raw_terms.specs.Heap.{Heap, all_trees, compound_at, headed, is_same, block, is_block, tree_with, tree_for, term_at, Grows, Shows}
-use Rattle.pi_trail.specs.Entry.{value_of}
+use Rattle.pi_raw_terms.specs.Form.{form_of, is_ground_form, all_ground, header_of}
+use Rattle.pi_raw_terms.specs.Heap.{Heap, all_trees, compound_at, wide_at, headed, is_same, block, is_block, tree_with, tree_for, term_at, Grows, Shows}
 use Rattle.pi_raw_terms.specs.Look.{headed_cell, headed_arg}
 use Rattle.pi_raw_terms.specs.declared.form.Form.{Form}
 use Rattle.pi_raw_terms.specs.declared.header.Header.{Header}
-use Rattle.pi_raw_terms.proofs.HeapLemmas.{TreeOf, IsCompound, compound_is, block_is, front_is, mapped_is, tree_more, tree_by}
+use Rattle.pi_raw_terms.proofs.HeapLemmas.{TreeOf, compound_is, block_is, front_is, mapped_is, guarded_is, tree_more, tree_by}
 
 -- the tree of a Ref whose form is known
 by_form : (h : Heap) (r : ℕ) (f : Form) (t : Tree) → form_of r ≡ f → term_at h r ≡ Some t → tree_with (tree_for (length h.words) h) h f ≡ Some t
@@ -52,9 +52,9 @@ shows_pair h r place flag t e is = shows_compound (tree_for (length h.words) h) 
 
 headed_shows : (f : TreeOf) (h : Heap) (place : ℕ) (flag : Bool) (header : Header) (t : Tree) → headed f h place flag header ≡ Some t → Shows h.names t (headed_cell h.words place header)
 headed_shows f h place flag Header.Nothing t e = absurd (cc)
-headed_shows f h place flag (Header.Comp name count own) t e = shows_compound f h name (place - count) count flag t e
-headed_shows f h place flag (Header.Wide top) t e =
-    sym (cond_some flag (int (wide_of top (value_of (slice_index h.words (place - 2))) (value_of (slice_index h.words (place - 1))))) t e).1
+headed_shows f h place flag (Header.Comp name count own) t e =
+    shows_compound f h name (place - count) count flag t (guarded_is (nat_le count place) (compound_at f h name (place - count) count flag) t e).1
+headed_shows f h place flag (Header.Wide top) t e = sym (cond_some (nat_le 2 place && flag) (wide_at h place top) t e).1
 
 pub shows_comp : (h : Heap) (r place : ℕ) (flag : Bool) (t : Tree) → form_of r ≡ Form.Comp place flag → term_at h r ≡ Some t
     → Shows h.names t (headed_cell h.words place (header_of (slice_index h.words place)))
@@ -118,10 +118,9 @@ atom_arg h r k t u i e is a = let p = shows_atom h r k t e is in no_arg t u i (a
 headed_arg_is : (h : Heap) (r place : ℕ) (flag : Bool) (header : Header) (t u : Tree) (i : ℕ) → headed (tree_for (length h.words) h) h place flag header ≡ Some t → arg_at t i ≡ Some u
     → term_at h (headed_arg h.words r place i header) ≡ Some u
 headed_arg_is h r place flag Header.Nothing t u i e a = absurd (cc)
-headed_arg_is h r place flag (Header.Comp name count own) t u i e a = (compound_arg h name (place - count) count flag t u i e a).0
-headed_arg_is h r place flag (Header.Wide top) t u i e a =
-    let n : ℤ = wide_of top (value_of (slice_index h.words (place - 2))) (value_of (slice_index h.words (place - 1))) in
-    absurd (no_arg t u i (ap args (sym (cond_some flag (int n) t e).1)) a)
+headed_arg_is h r place flag (Header.Comp name count own) t u i e a =
+    (compound_arg h name (place - count) count flag t u i (guarded_is (nat_le count place) (compound_at (tree_for (length h.words) h) h name (place - count) count flag) t e).1 a).0
+headed_arg_is h r place flag (Header.Wide top) t u i e a = absurd (no_arg t u i (ap args (sym (cond_some (nat_le 2 place && flag) (wide_at h place top) t e).1)) a)
 
 pub comp_arg : (h : Heap) (r place : ℕ) (flag : Bool) (t u : Tree) (i : ℕ) → form_of r ≡ Form.Comp place flag → term_at h r ≡ Some t → arg_at t i ≡ Some u
     → term_at h (headed_arg h.words r place i (header_of (slice_index h.words place))) ≡ Some u
@@ -186,10 +185,11 @@ compound_says f says h name place count flag t e =
 headed_says : (f : TreeOf) → Says f → (h : Heap) (place : ℕ) (flag : Bool) (header : Header) (t : Tree) → headed f h place flag header ≡ Some t → IsTrue flag ↔ (occurrences t ≡ [])
 unfolding occurrences
 headed_says f says h place flag Header.Nothing t e = absurd (cc)
-headed_says f says h place flag (Header.Comp name count own) t e = compound_says f says h name (place - count) count flag t e
+headed_says f says h place flag (Header.Comp name count own) t e =
+    compound_says f says h name (place - count) count flag t (guarded_is (nat_le count place) (compound_at f h name (place - count) count flag) t e).1
 headed_says f says h place flag (Header.Wide top) t e =
-    let v = cond_some flag (int (wide_of top (value_of (slice_index h.words (place - 2))) (value_of (slice_index h.words (place - 1))))) t e in
-    (λ b. ap occurrences (sym v.1), λ o. v.0)
+    let v = cond_some (nat_le 2 place && flag) (wide_at h place top) t e in
+    (λ b. ap occurrences (sym v.1), λ o. (and_parts (nat_le 2 place) flag v.0).1)
 
 with_says : (f : TreeOf) → Says f → (h : Heap) (form : Form) (t : Tree) → tree_with f h form ≡ Some t → IsTrue (is_ground_form form) ↔ (occurrences t ≡ [])
 unfolding occurrences

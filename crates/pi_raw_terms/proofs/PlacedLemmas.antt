@@ -1,16 +1,15 @@
 -- Each Ref of a heap has a tree, where each word was right when it was written: by the place that it points to.
-use Rattle.std.proofs.Common.{◌≡◌, ℕ, zero, suc, ◌+◌, ◌-◌, ◌*◌, ◌/◌, ◌%◌, ◌^◌, ◌<◌, ◌≤◌, ◌⊎◌, inl, inr, ⊎_elim, Bool, true, false, cond, nat_lt, nat_le, ◌&&◌, List, [], ◌∷◌, ◌++◌, length, take, drop, Option, Some, None, refl, ap, sym, subst, ◌∙◌, arith}
+use Rattle.std.proofs.Common.{◌≡◌, ℕ, zero, suc, ◌+◌, ◌-◌, ◌/◌, ◌%◌, ◌^◌, ◌<◌, ◌≤◌, ◌⊎◌, inl, inr, ⊎_elim, Bool, true, false, cond, nat_lt, nat_le, ◌&&◌, List, [], ◌∷◌, length, take, drop, Some, None, refl, ap, sym, subst, ◌∙◌, arith}
 use Rattle.std.specs.Prelude.{option_map, slice_index, ◌==◌}
-use Rattle.std.proofs.lemmas.Bool.{and_parts, leb-true, le-leb, lt-ltb, cond-true, cases_lt, cases_Bool, eqb-true}
+use Rattle.std.proofs.lemmas.Bool.{and_parts, and_from, leb-true, le-leb, lt-ltb, cond-true, cases_lt, eqb-true}
 use Rattle.std.proofs.lemmas.List.{get_or-take, get_or-drop, get_or_past, length-take-le, length-drop, drop_more}
 use Rattle.pi_terms.specs.Tree.{Tree, var, int, atom, comp, Trees, no_trees, tree}
-use Rattle.pi_trail.specs.Entry.{value_of}
 use Rattle.pi_raw_terms.specs.declared.form.Form.{Form}
 use Rattle.pi_raw_terms.specs.declared.header.Header.{Header}
-use Rattle.pi_raw_terms.specs.Form.{form_with, form_of, is_ref_form, is_ref, all_ground, header_with, header_of, wide_of}
-use Rattle.pi_raw_terms.specs.Heap.{Heap, all_trees, is_same, block, is_block, compound_at, headed, tree_with, tree_for, term_at, Grows}
+use Rattle.pi_raw_terms.specs.Form.{form_with, form_of, is_ref_form, is_ref, all_ground, header_with, header_of}
+use Rattle.pi_raw_terms.specs.Heap.{Heap, all_trees, is_same, block, is_block, compound_at, wide_at, headed, tree_with, tree_for, term_at}
 use Rattle.pi_raw_terms.specs.Placed.{all_refs, is_headed, is_placed, IsRefIn, Heads, IsHeaderIn, IsWordOf, IsWordIn, IsHistory, RefsHaveTrees}
-use Rattle.pi_raw_terms.proofs.HeapLemmas.{TreeOf, front_from, compound_from, block_from, block_more, tree_more, tree_by}
+use Rattle.pi_raw_terms.proofs.HeapLemmas.{TreeOf, front_from, compound_from, guarded_from, block_from, block_more, tree_more, tree_by}
 
 -- a word that is a header is no Ref
 header_tag : (w : ℕ) → (w % 32 ≡ 15) ⊎ (w % 32 ≡ 23) → w % 8 ≡ 7
@@ -132,22 +131,33 @@ compound_has past words is n name place count flag text le within below named re
           (block_from ws place count flag (omega arith) (ap (is_same flag) ground ∙ same_flag flag)) named ts.1,
     )
 
+-- a header that says something stands within the words, and was right when it was written
+header_before : (past : ℕ → Heap) (words : List ℕ) → IsHistory past words → (n place : ℕ) (header : Header) → n ≤ length words → header_of (slice_index (past n).words place) ≡ header
+    → (header ≡ Header.Nothing → ⊥) → place < n
+header_before past words is n place header le at says =
+    let long : length (past n).words ≡ n = length_past past words is n le in
+    ⊎_elim (λ l. l) (λ l. absurd (says (sym at ∙ ap header_of (get_or_past (past n).words place 0 (omega arith))))) (cases_lt place n)
+
+header_at : (past : ℕ → Heap) (words : List ℕ) → IsHistory past words → (n place : ℕ) (header : Header) → n ≤ length words → header_of (slice_index (past n).words place) ≡ header
+    → (header ≡ Header.Nothing → ⊥) → IsHeaderIn (past place) header
+header_at past words is n place header le at says =
+    let lt : place < n = header_before past words is n place header le at says in
+    let word : slice_index (past n).words place ≡ slice_index words place = read_past past words is n place le lt in
+    header_in (past place) (slice_index words place) header (is.written place (omega arith)) (ap header_of (sym word) ∙ at) says
+
 headed_has : (past : ℕ → Heap) (words : List ℕ) → IsHistory past words → (n place : ℕ) (flag : Bool) (header : Header) → n ≤ length words → Trees_below past words n
     → header_of (slice_index (past n).words place) ≡ header → is_headed flag header ≡ true
     → (t : Tree) × (headed (tree_for (length (past n).words) (past n)) (past n) place flag header ≡ Some t)
 headed_has past words is n place flag Header.Nothing le below at e = absurd (cc)
 headed_has past words is n place flag (Header.Wide top) le below at e =
-    let ws : List ℕ = (past n).words in
-    let z : Tree = int (wide_of top (value_of (slice_index ws (place - 2))) (value_of (slice_index ws (place - 1)))) in
-    (z, cond-true flag (Some z) None e)
+    let lt : place < n = header_before past words is n place (Header.Wide top) le at (λ q. absurd (cc)) in
+    let two : 2 ≤ length (past place).words = header_at past words is n place (Header.Wide top) le at (λ q. absurd (cc)) in
+    let first : length (past place).words ≡ place = length_past past words is place (omega arith) in
+    let z : Tree = wide_at (past n) place top in
+    (z, cond-true (nat_le 2 place && flag) (Some z) None (and_from (nat_le 2 place) flag (le-leb 2 place (omega arith)) e))
 headed_has past words is n place flag (Header.Comp name count own) le below at e =
-    let ws : List ℕ = (past n).words in
-    let long : length (past n).words ≡ n = length_past past words is n le in
-    let lt : place < n = ⊎_elim (λ l. l)
-    (λ l. let gone : header_of 0 ≡ Header.Comp name count own = ap header_of (sym (get_or_past ws place 0 (omega arith))) ∙ at in absurd (cc))
-    (cases_lt place n) in
-    let word : slice_index (past n).words place ≡ slice_index words place = read_past past words is n place le lt in
-    let heads : Heads (past place) name count own = header_in (past place) (slice_index words place) (Header.Comp name count own) (is.written place (omega arith)) (ap header_of (sym word) ∙ at) (λ q. absurd (cc)) in
+    let lt : place < n = header_before past words is n place (Header.Comp name count own) le at (λ q. absurd (cc)) in
+    let heads : Heads (past place) name count own = header_at past words is n place (Header.Comp name count own) le at (λ q. absurd (cc)) in
     let first : length (past place).words ≡ place = length_past past words is place (omega arith) in
     let within : count ≤ length (past place).words = heads.within in
     let flags : own ≡ flag = sym (same_is own flag e) in
@@ -157,8 +167,9 @@ headed_has past words is n place flag (Header.Comp name count own) le below at e
     let old : block (past n).words (place - count) count ≡ block (past place).words (length (past place).words - count) count =
     ap (λ vs. block vs (place - count) count) more.1
     ∙ (block_more (past place).words more.0 (place - count) count (omega arith) ∙ ap (λ s. block (past place).words s count) (sym start)) in
-    compound_has past words is n name (place - count) count flag heads.named.0 le (omega arith) below
-    (grown.names name heads.named.0 heads.named.1) (ap all_refs old ∙ heads.refs) (ap all_ground old ∙ (heads.flag ∙ flags))
+    let t = compound_has past words is n name (place - count) count flag heads.named.0 le (omega arith) below
+    (grown.names name heads.named.0 heads.named.1) (ap all_refs old ∙ heads.refs) (ap all_ground old ∙ (heads.flag ∙ flags)) in
+    (t.0, guarded_from (nat_le count place) (compound_at (tree_for (length (past n).words) (past n)) (past n) name (place - count) count flag) t.0 (le-leb count place (omega arith)) t.1)
 
 form_has : (past : ℕ → Heap) (words : List ℕ) → IsHistory past words → (n : ℕ) → n ≤ length words → Trees_below past words n → (f : Form) → IsRefIn (past n) f
     → (t : Tree) × (tree_with (tree_for (length (past n).words) (past n)) (past n) f ≡ Some t)

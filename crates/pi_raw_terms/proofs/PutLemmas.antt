@@ -1,18 +1,18 @@
 -- Terms that were made have their trees.
-use Rattle.std.proofs.Common.{◌≡◌, ℕ, zero, suc, ◌+◌, ◌-◌, ◌*◌, ◌%◌, ◌^◌, ◌<◌, ◌≤◌, Bool, true, false, cond, nat_lt, List, [], ◌∷◌, ◌++◌, length, take, drop, get_or, Option, Some, None, refl, ap, sym, subst, ◌∙◌, arith, ℤ, append_assoc, length-append}
+use Rattle.std.proofs.Common.{◌≡◌, ℕ, suc, ◌+◌, ◌-◌, ◌^◌, ◌<◌, ◌≤◌, Bool, true, false, nat_lt, nat_le, ◌&&◌, List, [], ◌∷◌, ◌++◌, length, take, get_or, Option, Some, None, refl, ap, sym, subst, ◌∙◌, arith, ℤ, length-append}
 use Rattle.std.specs.Prelude.{option_map, slice_index}
-use Rattle.std.proofs.lemmas.Bool.{lt-ltb, cond-true}
+use Rattle.std.proofs.lemmas.Bool.{lt-ltb, le-leb, and_from, cond-true}
 use Rattle.std.proofs.lemmas.List.{drop_at, take_at, get_or_at, get_or-append-add, length-map}
 use Rattle.pi_terms.specs.Tree.{Tree, var, int, atom, comp, Trees}
 use Rattle.pi_raw_terms.specs.Form.{form_of, number_of, IsFitting, IsSmall, all_ground, header_of, comp_word, wide_word, wide_of}
-use Rattle.pi_raw_terms.specs.Heap.{Heap, Names, Makes, all_trees, compound_at, headed, is_same, block, is_block, tree_with, tree_for, term_at, Grows}
+use Rattle.pi_raw_terms.specs.Heap.{Heap, Names, Makes, all_trees, compound_at, wide_at, headed, is_same, block, is_block, tree_with, tree_for, term_at, Grows}
 use Rattle.pi_trail.specs.Entry.{data_of, value_of}
 use Rattle.pi_trail.proofs.EntryLemmas.{value_of-data_of}
 use Rattle.pi_raw_terms.specs.declared.form.Form.{Form}
 use Rattle.pi_states.specs.declared.store.Ref.{Ref}
 use Rattle.pi_trail.specs.Image.{numbers_of}
 use Rattle.pi_raw_terms.proofs.FormLemmas.{form_of-number_of, header_of-comp_word, header_of-wide_word}
-use Rattle.pi_raw_terms.proofs.HeapLemmas.{compound_from, block_from, all_more, tree_more, tree_by}
+use Rattle.pi_raw_terms.proofs.HeapLemmas.{compound_from, guarded_from, block_from, all_more, tree_more, tree_by}
 
 -- a Ref with the number of a form
 pub put_by : (h : Heap) (r : ℕ) (f : Form) → IsFitting f → r ≡ number_of f → term_at h r ≡ tree_with (tree_for (length h.words) h) h f
@@ -39,11 +39,12 @@ put_wide h ws r top mid low n words is fits e =
     put_by h r (Form.Comp (p + 2) true) fits e
     ∙ (ap (λ v. headed F h (p + 2) true (header_of v)) head
     ∙ (ap (headed F h (p + 2) true) (header_of-wide_word top)
+    ∙ (cond-true (nat_le 2 (p + 2) && true) (Some (wide_at h (p + 2) top)) None (and_from (nat_le 2 (p + 2)) true (le-leb 2 (p + 2) (omega arith)) refl)
     ∙ (ap (λ v. Some (int (wide_of top (value_of v) (value_of (slice_index h.words (p + 2 - 1)))))) first
     ∙ (ap (λ v. Some (int (wide_of top v (value_of (slice_index h.words (p + 2 - 1)))))) (value_of-data_of mid)
     ∙ (ap (λ v. Some (int (wide_of top mid (value_of v)))) second
     ∙ (ap (λ v. Some (int (wide_of top mid v))) (value_of-data_of low)
-    ∙ ap (λ v. Some (int v)) is))))))
+    ∙ ap (λ v. Some (int v)) is)))))))
 
 pub same_three : (r : List ℕ) (a b c x y z : ℕ) → a ≡ x → b ≡ y → c ≡ z → r ++ a ∷ b ∷ c ∷ [] ≡ r ++ x ∷ y ∷ z ∷ []
 same_three r a b c x y z p q s = cc
@@ -103,7 +104,7 @@ put_block h r name args text ts words named trees is few fits e =
     put_by k r (Form.Comp p g) fits e
     ∙ (ap (λ v. headed F k p g (header_of v)) head
     ∙ (ap (headed F k p g) (header_of-comp_word name n g few)
-    ∙ ended h k name (p - n) args text ts ends named trees))
+    ∙ guarded_from (nat_le n p) (compound_at F k name (p - n) n g) (comp text ts) (le-leb n p (omega arith)) (ended h k name (p - n) args text ts ends named trees)))
 
 pub makes_pair : (old new : List ℕ) (r a b : ℕ) (flag : Bool) → new ≡ old ++ a ∷ b ∷ [] → length old < 2 ^ 61 → flag ≡ all_ground (a ∷ b ∷ []) → r ≡ number_of (Form.Pair (length old) flag) → Makes old new 0 (a ∷ b ∷ []) r
 makes_pair old new r a b flag is fits grounds e h text ts same named trees =

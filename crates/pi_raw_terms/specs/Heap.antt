@@ -54,12 +54,15 @@ abbrev pub compound_at : (ℕ → Option Tree) → Heap → ℕ → ℕ → ℕ 
 compound_at tree_of h name place count is_ground =
     compound (is_block h.words place count is_ground) (h.names name) (all_trees tree_of (block h.words place count))
 
--- the tree of what a header stands for, which stands at this place
+-- the integer whose first part is at this place
+abbrev pub wide_at : Heap → ℕ → ℕ → Tree
+wide_at h place top = int (wide_of top (value_of (slice_index h.words (place - 2))) (value_of (slice_index h.words (place - 1))))
+
+-- the tree of what a header stands for, which stands at this place, where all the words that it speaks of stand below it
 abbrev pub headed : (ℕ → Option Tree) → Heap → ℕ → Bool → Header → Option Tree
 headed tree_of h place is_ground Header.Nothing = None
-headed tree_of h place is_ground (Header.Comp name count flag) = compound_at tree_of h name (place - count) count is_ground
-headed tree_of h place is_ground (Header.Wide top) =
-    cond is_ground (Some (int (wide_of top (value_of (slice_index h.words (place - 2))) (value_of (slice_index h.words (place - 1)))))) None
+headed tree_of h place is_ground (Header.Comp name count flag) = cond (nat_le count place) (compound_at tree_of h name (place - count) count is_ground) None
+headed tree_of h place is_ground (Header.Wide top) = cond (nat_le 2 place && is_ground) (Some (wide_at h place top)) None
 
 -- the tree of a form, over the trees of the Refs in it
 abbrev pub tree_with : (ℕ → Option Tree) → Heap → Form → Option Tree

@@ -44,10 +44,11 @@ pub record Heads (h : Heap) (name count : ℕ) (is_ground : Bool) : Type 0 where
   pub refs : all_refs (block h.words (length h.words - count) count) ≡ true
   pub flag : all_ground (block h.words (length h.words - count) count) ≡ is_ground
 
+-- the words that a header speaks of stand below it
 abbrev pub IsHeaderIn : Heap → Header → Type 0
 IsHeaderIn h Header.Nothing = ⊤
 IsHeaderIn h (Header.Comp name count is_ground) = Heads h name count is_ground
-IsHeaderIn h (Header.Wide top) = ⊤
+IsHeaderIn h (Header.Wide top) = 2 ≤ length h.words
 
 -- what may be written behind the words of a heap: a Ref of it, or a word that says nothing wrong of the words below it
 abbrev pub IsWordOf : Heap → ℕ → Form → Type 0

@@ -1,4 +1,4 @@
-use Rattle.std.proofs.Common.{◌≡◌, ◌+◌, ◌≤◌, ◌&&◌, [], ◌∷◌, ◌∙◌, Bool, false, length, refl, ap, sym, arith}
+use Rattle.std.proofs.Common.{◌+◌, ◌≤◌, ◌&&◌, [], ◌∷◌, ◌∙◌, Bool, false, length, refl, ap, sym, arith}
 use Rattle.pi_raw_terms.specs.Form.{all_ground}
 use Rattle.pi_raw_terms.specs.Heap.{is_same}
 use Rattle.pi_raw_terms.proofs.PlacedLemmas.{placed_two}

@@ -1,4 +1,4 @@
-use Rattle.std.proofs.Common.{◌≡◌, ℕ, List, [], ◌∷◌, ◌++◌, ◌+◌, ◌<◌, ◌^◌, ◌∙◌, length, ap, sym, arith, rules, true}
+use Rattle.std.proofs.Common.{◌≡◌, ℕ, List, [], ◌∷◌, ◌++◌, ◌+◌, ◌<◌, ◌^◌, ◌∙◌, length, ap, arith, rules, true}
 use Rattle.pi_trail.specs.Entry.{data_of}
 use Rattle.pi_trail.specs.Image.{Image}
 use Rattle.pi_raw_terms.specs.Form.{number_of, wide_word, IsSmall}

@@ -1,4 +1,4 @@
-use Rattle.std.proofs.Common.{◌≡◌, ◌<◌, ◌^◌, ◌∙◌, length, ap, sym, arith}
+use Rattle.std.proofs.Common.{◌<◌, ◌^◌, ◌∙◌, length, ap, arith}
 use Rattle.pi_trail.specs.Image.{Image}
 use Rattle.pi_raw_terms.specs.Form.{number_of}
 use Rattle.pi_raw_terms.specs.declared.form.Form.{Form}
