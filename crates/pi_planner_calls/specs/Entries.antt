@@ -9,10 +9,10 @@ use Rattle.pi_effects.specs.Items.{list_of}
 use Rattle.pi_meaning.specs.View.{call_of, same_call}
 use Rattle.pi_answers.specs.declared.log.LogEntry.{LogEntry}
 use Rattle.pi_answers.specs.declared.log.PlanResult.{PlanResult}
-use Rattle.pi_plans.specs.Situation.{of_body}
-use Rattle.pi_plans.specs.Bodies.{Bodies, EndsIn, FailsIn, first_fault}
-use Rattle.pi_plans.specs.Steps.{Valid, Reached, IsExhausted, number_of}
-use Rattle.pi_plans.specs.Calls.{Reach}
+use Rattle.pi_planner_calls.specs.Situation.{of_body}
+use Rattle.pi_planner_calls.specs.Bodies.{Bodies, EndsIn, FailsIn, first_fault}
+use Rattle.pi_planner_calls.specs.Steps.{Valid, Reached, IsExhausted, number_of}
+use Rattle.pi_planner_calls.specs.Calls.{Reach}
 
 -- ---- plans that were found
 

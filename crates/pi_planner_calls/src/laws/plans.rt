@@ -1,5 +1,5 @@
 //! Laws of plans.
-ghost use Rattle.pi_plans.specs.PlanLaws.{RightStaysRight, RightLogsAreRight, PlansKeepTheLimit, PlansGoByCost, BestPlansAreCheapest, LeastCostIsOne, NoPlanIsNone};
+ghost use Rattle.pi_planner_calls.specs.PlanLaws.{RightStaysRight, RightLogsAreRight, PlansKeepTheLimit, PlansGoByCost, BestPlansAreCheapest, LeastCostIsOne, NoPlanIsNone};
 
 /// An entry that is right under a log is right under each longer one, and so each entry of a right log under all of it.
 pub fn logs_stay_right()

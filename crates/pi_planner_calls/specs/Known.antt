@@ -5,8 +5,8 @@ use Rattle.pi_terms.specs.Tree.{Tree}
 use Rattle.pi_traces.specs.Trace.{Trace, end, note, ans, Call, End, Miss, Note}
 use Rattle.pi_traces.specs.Depth.{DepthOnlyAdds}
 use Rattle.pi_answers.specs.declared.log.LogEntry.{LogEntry}
-use Rattle.pi_plans.specs.Situation.{Situation, of_body}
-use Rattle.pi_plans.specs.Bodies.{Bodies}
+use Rattle.pi_planner_calls.specs.Situation.{Situation, of_body}
+use Rattle.pi_planner_calls.specs.Bodies.{Bodies}
 
 pub data MoreKnown {A : Type 0} : Trace A → Trace A → Type 0 where
   known_now : (c : Call) (u : Trace A) → MoreKnown (end (Miss c)) u

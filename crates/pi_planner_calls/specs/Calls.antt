@@ -3,9 +3,9 @@ use Rattle.std.specs.Prelude.{◌≡◌, ◌⊎◌, ℕ, ◌+◌, ◌≤◌, Lis
 use Rattle.pi_terms.specs.Tree.{Tree}
 use Rattle.pi_traces.specs.Trace.{Trace, Call, Done, Miss, Load, Emitted, noted, answered, events_of, ticks}
 use Rattle.pi_answers.specs.declared.log.LogEntry.{LogEntry}
-use Rattle.pi_plans.specs.Situation.{of_body}
-use Rattle.pi_plans.specs.Bodies.{Bodies, EndsIn, FailsIn}
-use Rattle.pi_plans.specs.Steps.{CallReaches}
+use Rattle.pi_planner_calls.specs.Situation.{of_body}
+use Rattle.pi_planner_calls.specs.Bodies.{Bodies, EndsIn, FailsIn}
+use Rattle.pi_planner_calls.specs.Steps.{CallReaches}
 
 -- with no call open, a body of the first call ends where the second is missing
 pub record Misses (b : Bodies) (log : List LogEntry) (c d : Call) : Type 0 where

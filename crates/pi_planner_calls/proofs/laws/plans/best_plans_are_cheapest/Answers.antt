@@ -1,5 +1,5 @@
-use Rattle.pi_plans.proofs.CostLemmas.{plans_keep_the_limit, plans_go_by_cost, best_plans_are_cheapest, least_cost_is_one, no_plan_is_none}
-use Rattle.pi_plans.proofs.laws.plans.best_plans_are_cheapest.Goals as goal
+use Rattle.pi_planner_calls.proofs.CostLemmas.{plans_keep_the_limit, plans_go_by_cost, best_plans_are_cheapest, least_cost_is_one, no_plan_is_none}
+use Rattle.pi_planner_calls.proofs.laws.plans.best_plans_are_cheapest.Goals as goal
 
 pub returns-clause-limit : goal.returns-clause-limit
 returns-clause-limit c = plans_keep_the_limit

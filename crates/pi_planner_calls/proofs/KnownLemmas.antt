@@ -5,13 +5,13 @@ use Rattle.pi_terms.specs.Tree.{Tree, int}
 use Rattle.pi_traces.specs.Trace.{Trace, Done, answers, end_of}
 use Rattle.pi_answers.specs.declared.log.LogEntry.{LogEntry}
 use Rattle.pi_answers.specs.declared.log.PlanResult.{PlanResult}
-use Rattle.pi_plans.specs.Situation.{of_body}
-use Rattle.pi_plans.specs.Bodies.{Offer, Bodies, first_fault}
-use Rattle.pi_plans.specs.Steps.{IsFinal, IsStep, Valid, Reached, at_start, by_step, IsClosed, IsExhausted, number_of}
-use Rattle.pi_plans.specs.Entries.{HasPlan, IsRightResult, IsRightEntry}
-use Rattle.pi_plans.specs.Known.{AreBodies}
-use Rattle.pi_plans.specs.PlanLaws.{RightStaysRight, RightLogsAreRight}
-use Rattle.pi_plans.proofs.TraceLemmas.{known-done, known-answers, known-some, given-whole, some-whole}
+use Rattle.pi_planner_calls.specs.Situation.{of_body}
+use Rattle.pi_planner_calls.specs.Bodies.{Offer, Bodies, first_fault}
+use Rattle.pi_planner_calls.specs.Steps.{IsFinal, IsStep, Valid, Reached, at_start, by_step, IsClosed, IsExhausted, number_of}
+use Rattle.pi_planner_calls.specs.Entries.{HasPlan, IsRightResult, IsRightEntry}
+use Rattle.pi_planner_calls.specs.Known.{AreBodies}
+use Rattle.pi_planner_calls.specs.PlanLaws.{RightStaysRight, RightLogsAreRight}
+use Rattle.pi_planner_calls.proofs.TraceLemmas.{known-done, known-answers, known-some, given-whole, some-whole}
 
 -- ---- what is found is found
 

@@ -1,5 +1,5 @@
-use Rattle.pi_plans.proofs.KnownLemmas.{right_stays_right, right_logs_are_right}
-use Rattle.pi_plans.proofs.laws.plans.logs_stay_right.Goals as goal
+use Rattle.pi_planner_calls.proofs.KnownLemmas.{right_stays_right, right_logs_are_right}
+use Rattle.pi_planner_calls.proofs.laws.plans.logs_stay_right.Goals as goal
 
 pub returns-clause-longer : goal.returns-clause-longer
 returns-clause-longer c = right_stays_right

@@ -6,11 +6,11 @@ use Rattle.pi_terms.specs.Tree.{Tree, int}
 use Rattle.pi_traces.specs.Trace.{Trace, answers}
 use Rattle.pi_states.specs.State.{State}
 use Rattle.pi_answers.specs.declared.log.LogEntry.{LogEntry}
-use Rattle.pi_plans.specs.Bodies.{Offer, Bodies}
-use Rattle.pi_plans.specs.Steps.{IsFinal, IsStep, Valid, number_of}
-use Rattle.pi_plans.specs.Entries.{HasPlan, ExhaustedBelow}
-use Rattle.pi_plans.specs.Known.{NotByRests}
-use Rattle.pi_plans.specs.PlanLaws.{PlansKeepTheLimit, PlansGoByCost, BestPlansAreCheapest, LeastCostIsOne, NoPlanIsNone}
+use Rattle.pi_planner_calls.specs.Bodies.{Offer, Bodies}
+use Rattle.pi_planner_calls.specs.Steps.{IsFinal, IsStep, Valid, number_of}
+use Rattle.pi_planner_calls.specs.Entries.{HasPlan, ExhaustedBelow}
+use Rattle.pi_planner_calls.specs.Known.{NotByRests}
+use Rattle.pi_planner_calls.specs.PlanLaws.{PlansKeepTheLimit, PlansGoByCost, BestPlansAreCheapest, LeastCostIsOne, NoPlanIsNone}
 
 pub plans_keep_the_limit : PlansKeepTheLimit
 unfolding Valid

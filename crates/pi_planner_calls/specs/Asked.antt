@@ -9,7 +9,7 @@ use Rattle.pi_states.specs.State.{State, bindings, followed}
 use Rattle.pi_meaning.specs.View.{Wanted, reading}
 use Rattle.pi_meaning.specs.Level.{Applied}
 use Rattle.pi_meaning.specs.Raise.{raised_with}
-use Rattle.pi_plans.specs.Situation.{Situation}
+use Rattle.pi_planner_calls.specs.Situation.{Situation}
 
 -- the limit of a call that names none
 abbrev pub default_limit : ℤ

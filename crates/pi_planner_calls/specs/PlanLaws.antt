@@ -3,10 +3,10 @@ use Rattle.std.specs.Prelude.{◌≡◌, ℕ, ◌≤◌, ℤ, pos, ◌≤ℤ◌,
 use Rattle.pi_terms.specs.Tree.{Tree}
 use Rattle.pi_answers.specs.declared.log.LogEntry.{LogEntry}
 use Rattle.pi_answers.specs.declared.log.PlanResult.{PlanResult}
-use Rattle.pi_plans.specs.Bodies.{Bodies}
-use Rattle.pi_plans.specs.Steps.{Valid, number_of}
-use Rattle.pi_plans.specs.Entries.{IsRightEntry, IsRightLog}
-use Rattle.pi_plans.specs.Known.{AreBodies, NotByRests}
+use Rattle.pi_planner_calls.specs.Bodies.{Bodies}
+use Rattle.pi_planner_calls.specs.Steps.{Valid, number_of}
+use Rattle.pi_planner_calls.specs.Entries.{IsRightEntry, IsRightLog}
+use Rattle.pi_planner_calls.specs.Known.{AreBodies, NotByRests}
 
 -- what is right under a log is right under each longer one
 abbrev pub RightStaysRight : Type 0

@@ -5,8 +5,8 @@ use Rattle.pi_terms.specs.Tree.{Tree, int}
 use Rattle.pi_terms.specs.Variables.{IsGround}
 use Rattle.pi_traces.specs.Trace.{Call, Done, answers, end_of}
 use Rattle.pi_answers.specs.declared.log.LogEntry.{LogEntry}
-use Rattle.pi_plans.specs.Situation.{of_body}
-use Rattle.pi_plans.specs.Bodies.{Bodies, Gives, HasAnswer, FailsIn, first_fault}
+use Rattle.pi_planner_calls.specs.Situation.{of_body}
+use Rattle.pi_planner_calls.specs.Bodies.{Bodies, Gives, HasAnswer, FailsIn, first_fault}
 
 -- the state is final there
 abbrev pub IsFinal : Bodies → List LogEntry → Tree → ℕ → Type 0

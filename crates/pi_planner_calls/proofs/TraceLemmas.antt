@@ -4,8 +4,8 @@ use Rattle.std.proofs.Common.{arith, sym, ap, subst}
 use Rattle.pi_traces.specs.Trace.{Trace, note, ans, Done, end_of, answers, WithoutDeep}
 use Rattle.pi_traces.specs.Depth.{Below, deeper, same_end, same_note, same_answer, DepthOnlyAdds}
 use Rattle.pi_traces.proofs.BelowLemmas.{below-later, depth-enough}
-use Rattle.pi_plans.specs.Bodies.{Gives, HasAnswer}
-use Rattle.pi_plans.specs.Known.{MoreKnown, known_now, known_end, known_note, known_answer}
+use Rattle.pi_planner_calls.specs.Bodies.{Gives, HasAnswer}
+use Rattle.pi_planner_calls.specs.Known.{MoreKnown, known_now, known_end, known_note, known_answer}
 
 contains-later : {A : Type 0} (x y : A) (xs : List A) → Contains xs x → Contains (y ∷ xs) x
 contains-later x y xs (k, l, e) = (suc k, omega arith, e)

@@ -5,7 +5,7 @@ use Rattle.pi_terms.specs.Tree.{Tree, var, int, atom, comp}
 use Rattle.pi_terms.specs.Variables.{variables}
 use Rattle.pi_traces.specs.Trace.{Trace, End, answers, end_of}
 use Rattle.pi_states.specs.State.{State}
-use Rattle.pi_plans.specs.Situation.{Situation}
+use Rattle.pi_planner_calls.specs.Situation.{Situation}
 
 -- an answer of `action`: the values of its three last arguments, with all bindings replaced. (Where one is past the limit of copies, the trace has that exception in
 -- the answer's place, as a query has.)
