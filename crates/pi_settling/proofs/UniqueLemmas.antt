@@ -17,7 +17,7 @@ use Rattle.pi_settling.specs.Roots.{given}
 use Rattle.pi_settling.specs.Stable.{Stays, IsEmptied, Narrows, stays_free, stays_bound, some_stay, one_stays, IsStable}
 use Rattle.pi_settling.specs.Load.{load}
 use Rattle.pi_settling.specs.Settled.{loaded, with_events}
-use Rattle.pi_settling.specs.SettlingLaws.{StableIsOne, SettledIsOne, StableLiesBelow}
+use Rattle.pi_settling.specs.SettlingLaws.{StableIsOne, SettledIsOne, SettlingIsOne, StableLiesBelow}
 
 -- ---- domains by their values
 
@@ -89,6 +89,9 @@ settled_is_one before s t u (inl (e, p)) (inr (r, f, q)) = absurd (not_both_ways
 settled_is_one before s t u (inr (r, f, p)) (inl (e, q)) = absurd (not_both_ways s r e f)
 settled_is_one before s t u (inr (r, f, p)) (inr (r', f', q)) =
     p ∙ (ap (λ (z : State). loaded (load before s z) (one (with_events before z))) (stable_is_one s r r' f f') ∙ sym q)
+
+pub settling_is_one : SettlingIsOne
+settling_is_one f g hf hg before s is may = settled_is_one before s (f before s) (g before s) (hf.each before s is may) (hg.each before s is may)
 
 -- ---- it lies below
 

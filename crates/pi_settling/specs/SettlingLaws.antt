@@ -52,6 +52,14 @@ abbrev pub MaySettle : State → Type 0
 MaySettle s = (c : Constraint) (y : Item) → Contains s.constraints c → Contains (places_of c) y →
     ((n : ℕ) × (d : List Span) × (root_item s y ≡ Item.Var n) × (domain_of s n ≡ Some d)) ⊎ ((i : ℤ) × (root_item s y ≡ Item.Int i) × IsWithinBounds i)
 
+-- a way to settle: of each state that may settle it makes what settling comes to
+pub record Settles (settle : State → State → Trace State) : Type 0 where
+  pub each : (before s : State) → IsState s → MaySettle s → IsSettled before s (settle before s)
+
+-- all ways to settle do the same
+abbrev pub SettlingIsOne : Type 0
+SettlingIsOne = (f g : State → State → Trace State) → Settles f → Settles g → (before s : State) → IsState s → MaySettle s → f before s ≡ g before s
+
 -- a stable state is its own stable state, and settled from itself it is the one answer, without load and events
 abbrev pub StableStaysStable : Type 0
 StableStaysStable = (s r : State) → IsState s → IsState r → MaySettle s → IsStable s r → IsStable r r

@@ -1,10 +1,11 @@
 //! Laws of settling.
-ghost use Rattle.pi_settling.specs.SettlingLaws.{StableIsOne, SettledIsOne, StableLiesBelow, SettlingKeepsSolutions, StableIsUnchanged, NoChangeNoEvents, StableStaysStable, SettlingTwiceIsOnce, LeadsAreFollowed, AgentsAreWokenOnce};
+ghost use Rattle.pi_settling.specs.SettlingLaws.{StableIsOne, SettledIsOne, SettlingIsOne, StableLiesBelow, SettlingKeepsSolutions, StableIsUnchanged, NoChangeNoEvents, StableStaysStable, SettlingTwiceIsOnce, LeadsAreFollowed, AgentsAreWokenOnce};
 
-/// A state has one stable state at most, and settling comes to one trace at most.
+/// A state has one stable state at most, and settling comes to one trace at most. So all ways to settle do the same.
 pub fn stable_states_are_one()
     ensures one { StableIsOne }
     ensures settled { SettledIsOne }
+    ensures ways { SettlingIsOne }
 {}
 
 /// The stable domains lie below those of the state, lose no solution, and are the greatest that no filter changes.
