@@ -90,10 +90,9 @@ told-cut answers q run part ticks status before after (HowQueryIsCut.in_answer e
     (ap (told q.names) is ∙ map-append (told_event (solution_told q.names)) earlier (answered x ∷ [])) (omega (arith, asked, few)) (rw (told-prints q.names earlier) takes)
 told-cut answers q run part ticks status before after (HowQueryIsCut.in_line eight count ending ends takes) =
     in_line eight (count ∙ sym (told-ticks q.names part)) ending (told-ends q.names answers part run ending ends) (rw (told-prints q.names part) takes)
-told-cut answers q run part ticks status before after (HowQueryIsCut.at_memory nine more few takes) =
-    let count = told-ticks q.names part in
+told-cut answers q run part ticks status before after (HowQueryIsCut.at_memory nine count few takes) =
     let asked = told-answers q.names part in
-    at_memory nine (omega (arith, count, more)) (omega (arith, asked, few)) (rw (told-prints q.names part) takes)
+    at_memory nine (count ∙ sym (told-ticks q.names part)) (omega (arith, asked, few)) (rw (told-prints q.names part) takes)
 
 -- ---- what it comes to
 
