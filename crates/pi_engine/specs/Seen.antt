@@ -43,6 +43,7 @@ mode_of m = m.mode
 abbrev pub kept_by : {M : Type 0} → MachineView M → Kept
 kept_by m = record { entries = length m.arenas.entries; frames = length m.arenas.frames; slots = length m.arenas.blocks.slots; collected = length m.arenas.collected }
 
+-- an end, as it is answered
 abbrev pub told_end : RunEnd → Happening
 told_end RunEnd.Done = Happening.Done
 told_end (RunEnd.Raised ball) = Happening.Raised ball
@@ -50,11 +51,12 @@ told_end RunEnd.StepsSpent = Happening.StepsSpent
 told_end RunEnd.WorkSpent = Happening.WorkSpent
 told_end RunEnd.Memory = Happening.Memory
 
+-- the end that a run has come to; None where it goes on
 abbrev pub end_in : Now → Option Happening
 end_in (Now.Ended e) = Some (told_end e)
 end_in now = None
 
--- the end that its run has come to, by what is answered of it from then on; None where the run goes on
+-- the end that its run has come to, as each call answers it from then on; None where the run goes on
 abbrev pub end_of : {M : Type 0} → MachineView M → Option Happening
 end_of m = end_in m.now
 
