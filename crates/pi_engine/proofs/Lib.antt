@@ -5,3 +5,4 @@ pub mod TurnsGo
 pub mod NextTurns
 pub mod RunsTold
 pub mod TicksHappen
+mod AddsExamples

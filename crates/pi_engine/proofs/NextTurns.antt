@@ -1,5 +1,5 @@
 -- The turns of a call of `next`, and what the call comes to.
-use Rattle.std.proofs.Common.{Box, Global, ◌≡◌, ◌≢◌, ◌⊎◌, inl, inr, ℕ, List, refl, sym, ap, subst}
+use Rattle.std.proofs.Common.{Box, Global, ◌≡◌, ◌≢◌, ◌⊎◌, inl, inr, ℕ, List, Some, refl, sym, ◌∙◌, ap, subst}
 use Rattle.pi_terms.specs.Tree.{Tree}
 use Rattle.pi_meaning.specs.View.{View}
 use Rattle.pi_core.specs.declared.core_program.NameSlot.{NameSlot}
@@ -15,11 +15,13 @@ use Rattle.pi_stands.specs.Answers.{AreNames}
 use Rattle.pi_machine.specs.Budget.{Counts}
 use Rattle.pi_machine.specs.Built.{AreOfRules}
 use Rattle.pi_machine.specs.Configuration.{Config}
+use Rattle.pi_machine.specs.Leads.{Leads}
 use Rattle.pi_stands.specs.Goes.{counted, IsAt, Goes, IsSpent, IsIn}
 use Rattle.pi_machine.specs.Next.{Tells, some_ticks, NextIs}
-use Rattle.pi_machine.specs.Shape.{IsGood}
 use Rattle.pi_stands.specs.Stands.{World, Loaded}
-use Rattle.pi_engine.specs.Turns.{StepIs, IsRunning, NextComes, IsAnswered, IsBuiltSoFar, IsRepeated, IsRaised, Lasts}
+use Rattle.pi_engine.specs.Seen.{MachineView, told_end, end_in, stopped}
+use Rattle.pi_engine.specs.Happens.{IsBuiltSoFar, IsRepeated}
+use Rattle.pi_engine.specs.Turns.{StepIs, IsRunning, NextComes, IsAnswered, RepeatsEnd, Lasts}
 use Rattle.pi_stands.proofs.GoalsGo.{none-counted}
 use Rattle.pi_machine.proofs.LeadLemmas.{leads-none}
 use Rattle.pi_engine.proofs.TurnsGo.{more-goes, answer-goes}
@@ -38,13 +40,6 @@ running-of Now.Failing other = tt
 running-of (Now.Raising ball) other = tt
 running-of (Now.Ended e) other = other e refl
 
-pub lasts-ended : (e : RunEnd) (now : Now) (h : Happening) → now ≡ Now.Ended e → IsAnswered e h → Lasts h now
-lasts-ended RunEnd.Done now h ended told = subst (λ x. Lasts x now) (sym told) ended
-lasts-ended (RunEnd.Raised ball) now h ended told = subst (λ x. Lasts x now) (sym told) ended
-lasts-ended RunEnd.StepsSpent now h ended told = subst (λ x. Lasts x now) (sym told) ended
-lasts-ended RunEnd.WorkSpent now h ended told = subst (λ x. Lasts x now) (sym told) ended
-lasts-ended RunEnd.Memory now h ended told = subst (λ x. Lasts x now) (sym told) ended
-
 pub built-ended : (e : RunEnd) (h : Happening) → IsAnswered e h → IsBuiltSoFar h
 built-ended RunEnd.Done h told = subst IsBuiltSoFar (sym told) tt
 built-ended (RunEnd.Raised ball) h told = subst IsBuiltSoFar (sym told) tt
@@ -54,20 +49,6 @@ built-ended RunEnd.Memory h told = subst IsBuiltSoFar (sym told) tt
 
 pub lasts-memory : (now : Now) (h : Happening) → now ≡ Now.Ended RunEnd.Memory → h ≡ Happening.Memory → Lasts h now
 lasts-memory now h ended told = subst (λ x. Lasts x now) (sym told) ended
-
-pub repeated-again : {R : Type 0} (e : RunEnd) (old new : R) (b c : Budget) (h : Happening) → IsAnswered e h → new ≡ old → c ≡ b → IsRepeated e old new b c h
-repeated-again RunEnd.Done old new b c h told same kept = (told, same, kept)
-repeated-again (RunEnd.Raised ball) old new b c h told same kept = (inl (told, same), kept)
-repeated-again RunEnd.StepsSpent old new b c h told same kept = (told, same, kept)
-repeated-again RunEnd.WorkSpent old new b c h told same kept = (told, same, kept)
-repeated-again RunEnd.Memory old new b c h told same kept = (told, same, kept)
-
-pub repeated-wanting : {R : Type 0} (e : RunEnd) (old new : R) (b c : Budget) (h : Happening) → IsRaised e → h ≡ Happening.Memory → c ≡ b → IsRepeated e old new b c h
-repeated-wanting RunEnd.Done old new b c h raised told kept = absurd raised
-repeated-wanting (RunEnd.Raised ball) old new b c h raised told kept = (inr told, kept)
-repeated-wanting RunEnd.StepsSpent old new b c h raised told kept = absurd raised
-repeated-wanting RunEnd.WorkSpent old new b c h raised told kept = absurd raised
-repeated-wanting RunEnd.Memory old new b c h raised told kept = absurd raised
 
 -- ---- the turns so far
 
@@ -102,7 +83,7 @@ ended-is v names k after RunEnd.Done h c told it = subst (λ x. NextIs v after.l
 ended-is v names k after (RunEnd.Raised ball) h c told it = subst (λ x. NextIs v after.loaded.preds names k x c it.comes) (sym told) (it.leads, it.is)
 ended-is v names k after RunEnd.StepsSpent h c told it = subst (λ x. NextIs v after.loaded.preds names k x c it.comes) (sym told) (it.leads, it.is)
 ended-is v names k after RunEnd.WorkSpent h c told it = subst (λ x. NextIs v after.loaded.preds names k x c it.comes) (sym told) (it.leads, it.is)
-ended-is v names k after RunEnd.Memory h c told it = subst (λ x. NextIs v after.loaded.preds names k x c it.comes) (sym told) tt
+ended-is v names k after RunEnd.Memory h c told it = subst (λ x. NextIs v after.loaded.preds names k x c it.comes) (sym told) it.leads
 
 -- an end
 pub end-comes : {M : Type 0} (v : View) (names : List NameSlot) (mode : Mode) (a b : Budget) (after : World M) (old now : Now) (e : RunEnd) (h : Happening) (c : Config) → now ≡ Now.Ended e → IsAnswered e h → Turned v names mode a b after old now c →
@@ -117,14 +98,16 @@ end-comes v names mode a b after old now e h c ended told it =
       spent = it.spent;
     }
 
--- want of memory
-pub memory-comes : {M : Type 0} (v : View) (names : List NameSlot) (mode : Mode) (a b : Budget) (after : World M) (old now : Now) (h : Happening) (c : Config) → now ≡ Now.Ended RunEnd.Memory → h ≡ Happening.Memory → IsGood c → NextComes v names mode a b after old now c h
-memory-comes v names mode a b after old now h c ended told good =
+-- want of memory behind these turns, in which the run comes to its end
+pub memory-comes : {M : Type 0} (v : View) (names : List NameSlot) (mode : Mode) (a b : Budget) (w after : World M) (old now next : Now) (h : Happening) (c : Config) → w.loaded ≡ after.loaded → next ≡ Now.Ended RunEnd.Memory → h ≡ Happening.Memory → Turned v names mode a b w old now c →
+    NextComes v names mode a b after old next c h
+memory-comes v names mode a b w after old now next h c same ended told it =
+    let k : ℕ = counted mode a b in
     record {
-      comes = c;
-      is = subst (λ x. NextIs v after.loaded.preds names (counted mode a b) x c c) (sym told) tt;
-      good = good;
-      at = subst (λ n. IsAt v names after n c) (sym ended) tt;
+      comes = it.goes.comes;
+      is = subst (λ x. NextIs v after.loaded.preds names k x c it.goes.comes) (sym told) (subst (λ l. Leads v l.preds names (some_ticks k) c it.goes.comes) same it.goes.leads);
+      good = it.goes.good;
+      at = subst (λ n. IsAt v names after n it.goes.comes) (sym ended) tt;
       spent = λ running. subst (IsSpent mode b) (sym ended) tt;
     }
 
@@ -136,15 +119,29 @@ answer-comes v names mode a b d first w after old now next c told x unboxed from
     let goes = answer-goes v names mode a b d w after now next c told same one two it.goes step in
     record { comes = goes.2.comes; is = (goes.0, subst (Tells names goes.0) (sym unboxed) goes.1, goes.2.leads); good = goes.2.good; at = goes.2.is; spent = λ running. step.spent }
 
--- ---- an end that is answered again, of what a run is part of
+-- ---- an end that is answered again, as it is read of a machine
 
-raised-in : {R T : Type 0} (f : R → T) (ball : Tree) (old new : R) (h : Happening) → ((h ≡ Happening.Raised ball) × (new ≡ old)) ⊎ (h ≡ Happening.Memory) → ((h ≡ Happening.Raised ball) × (f new ≡ f old)) ⊎ (h ≡ Happening.Memory)
-raised-in f ball old new h (inl same) = inl (same.0, ap f same.1)
-raised-in f ball old new h (inr told) = inr told
+-- of a run, by what it is part of
+raised-in : {R M : Type 0} (f : R → MachineView M) (stop : R → R) (ball : Tree) (old new : R) (h : Happening) → f (stop old) ≡ stopped (f old) → ((h ≡ Happening.Raised ball) × (new ≡ old)) ⊎ ((h ≡ Happening.Memory) × (new ≡ stop old)) →
+    ((h ≡ Happening.Raised ball) × (f new ≡ f old)) ⊎ ((h ≡ Happening.Memory) × (f new ≡ stopped (f old)))
+raised-in f stop ball old new h stops (inl same) = inl (same.0, ap f same.1)
+raised-in f stop ball old new h stops (inr told) = inr (told.0, ap f told.1 ∙ stops)
 
-pub repeated-in : {R T : Type 0} (f : R → T) (e : RunEnd) (old new : R) (b c : Budget) (h : Happening) → IsRepeated e old new b c h → IsRepeated e (f old) (f new) b c h
-repeated-in f RunEnd.Done old new b c h is = (is.0, ap f is.1, is.2)
-repeated-in f (RunEnd.Raised ball) old new b c h is = (raised-in f ball old new h is.0, is.1)
-repeated-in f RunEnd.StepsSpent old new b c h is = (is.0, ap f is.1, is.2)
-repeated-in f RunEnd.WorkSpent old new b c h is = (is.0, ap f is.1, is.2)
-repeated-in f RunEnd.Memory old new b c h is = (is.0, ap f is.1, is.2)
+repeated-in : {R M : Type 0} (f : R → MachineView M) (stop : R → R) (e : RunEnd) (old new : R) (b c : Budget) (h : Happening) → f (stop old) ≡ stopped (f old) → RepeatsEnd stop e old new b c h → IsRepeated (told_end e) (f old) (f new) b c h
+repeated-in f stop RunEnd.Done old new b c h stops is = (is.0, ap f is.1, is.2)
+repeated-in f stop (RunEnd.Raised ball) old new b c h stops is = (raised-in f stop ball old new h stops is.0, is.1)
+repeated-in f stop RunEnd.StepsSpent old new b c h stops is = (is.0, ap f is.1, is.2)
+repeated-in f stop RunEnd.WorkSpent old new b c h stops is = (is.0, ap f is.1, is.2)
+repeated-in f stop RunEnd.Memory old new b c h stops is = (is.0, ap f is.1, is.2)
+
+one-end : (x y : Happening) → Some x ≡ Some y → x ≡ y
+one-end x y same = cc
+
+-- where it is at an end that is told so
+pub repeated-as : {R M : Type 0} (f : R → MachineView M) (stop : R → R) (old new : R) (b c : Budget) (end h : Happening) → f (stop old) ≡ stopped (f old) → (now : Now) → end_in now ≡ Some end →
+    ((e : RunEnd) → now ≡ Now.Ended e → RepeatsEnd stop e old new b c h) → IsRepeated end (f old) (f new) b c h
+repeated-as f stop old new b c end h stops (Now.Going p) at repeats = absurd cc
+repeated-as f stop old new b c end h stops Now.Failing at repeats = absurd cc
+repeated-as f stop old new b c end h stops (Now.Raising ball) at repeats = absurd cc
+repeated-as f stop old new b c end h stops (Now.Ended e) at repeats =
+    subst (λ x. IsRepeated x (f old) (f new) b c h) (one-end (told_end e) end at) (repeated-in f stop e old new b c h stops (repeats e refl))

@@ -1,11 +1,11 @@
 -- What a call of `next` comes to, for those that use the machine.
-use Rattle.std.proofs.Common.{◌≡◌, inl, ℕ, zero, suc, ◌+◌, ◌<◌, List, [], ◌∷◌, ◌++◌, refl, ◌∙◌, ap, subst, arith}
+use Rattle.std.proofs.Common.{◌≡◌, inl, ℕ, zero, suc, ◌+◌, ◌<◌, List, [], ◌∷◌, ◌++◌, Some, None, refl, ◌∙◌, ap, subst, arith}
 use Rattle.std.specs.Prelude.{Contains}
 use Rattle.pi_terms.specs.Tree.{Tree}
 use Rattle.pi_states.specs.Store.{StoreView}
 use Rattle.pi_meaning.specs.View.{View}
 use Rattle.pi_core.specs.CoreTree.{PredTree, QueryTree}
-use Rattle.pi_traces.specs.Depth.{Cut, Spent, with_events}
+use Rattle.pi_traces.specs.Depth.{Spent}
 use Rattle.pi_traces.specs.Trace.{End, Done, Raise, Tick, Load, Out, Emitted, noted, answered, count_ticks}
 use Rattle.pi_meaning.specs.Run.{Solution, IsRunUnder}
 use Rattle.pi_meaning.specs.Sound.{IsSoundQuery}
@@ -24,8 +24,10 @@ use Rattle.pi_machine.specs.Budget.{AreStepsUsed, IsWorkUsed}
 use Rattle.pi_stands.specs.Goes.{counted, HasNone, IsAt, IsSpent, IsIn}
 use Rattle.pi_machine.specs.Leads.{Leads, IsAtEnd, IsAtTick}
 use Rattle.pi_machine.specs.Next.{some_ticks}
-use Rattle.pi_engine.specs.Runs.{MachineView, HasEnded, GoesOn, Fits, loaded_as, run_of, IsException, HasComeTo, RunsTo, EndsWith}
-use Rattle.pi_engine.specs.Happens.{HappensByTicks}
+use Rattle.pi_engine.specs.Seen.{MachineView, end_in, HasEnded, GoesOn, Fits, IsException}
+use Rattle.pi_engine.specs.Inside.{loaded_as, run_of, HasComeTo, IsPlaced}
+use Rattle.pi_engine.specs.Runs.{RunsTo, EndsWith}
+use Rattle.pi_engine.specs.Happens.{HappensByTicks, lasting}
 use Rattle.pi_machine.specs.Step.{start}
 use Rattle.pi_engine.specs.Turns.{IsRunning, NextComes, Lasts}
 use Rattle.pi_stands.specs.Stands.{World, Stands}
@@ -54,6 +56,32 @@ count-added (answered x ∷ events) k = count-added events k
 abbrev pub later : {M : Type 0} → MachineView M → StoreView M → ArenasView M → Now → MachineView M
 later m store arenas now = record { code = m.code; names = m.names; mode = m.mode; store = store; order = m.order; arenas = arenas; now = now }
 
+-- ---- what is read of where a run is
+
+pub running-in : (now : Now) → end_in now ≡ None → IsRunning now
+running-in (Now.Going p) on = tt
+running-in Now.Failing on = tt
+running-in (Now.Raising ball) on = tt
+running-in (Now.Ended e) on = absurd cc
+
+pub goes-on-in : (now : Now) → IsRunning now → end_in now ≡ None
+goes-on-in (Now.Going p) running = refl
+goes-on-in Now.Failing running = refl
+goes-on-in (Now.Raising ball) running = refl
+goes-on-in (Now.Ended e) running = absurd running
+
+pub lasting-in : (now : Now) (h : Happening) → Lasts h now → end_in now ≡ lasting h
+lasting-in now (Happening.Answer a) lasts = goes-on-in now lasts
+lasting-in now (Happening.Out text) lasts = goes-on-in now lasts
+lasting-in now (Happening.NeedPlan call) lasts = goes-on-in now lasts
+lasting-in now Happening.Done lasts = ap end_in lasts
+lasting-in now (Happening.Raised ball) lasts = ap end_in lasts
+lasting-in now Happening.StepsSpent lasts = ap end_in lasts
+lasting-in now Happening.WorkSpent lasts = ap end_in lasts
+lasting-in now Happening.Memory lasts = ap end_in lasts
+
+-- ---- where a run is
+
 -- a run that has not ended stands for a configuration
 at-running : {M : Type 0} (v : View) (names : List NameSlot) (mode : Mode) (w : World M) (now : Now) (c : Config) → IsRunning now → HasComeTo v names mode w now c → IsAt v names w now c
 at-running v names mode w (Now.Going p) c running is = is
@@ -73,24 +101,29 @@ comes-to v names mode b w (Now.Ended RunEnd.WorkSpent) c spent is = (Tick, spent
 comes-to v names mode b w (Now.Ended RunEnd.Memory) c spent is = tt
 
 -- where a run is, for what a call of `next` needs
-pub runs-in : {M : Type 0} (v : View) (m : MachineView M) (program : List PredTree) (q : QueryTree) (events : List (Emitted Solution)) → GoesOn m → (r : RunsTo v m program q events) → IsIn v q.names (run_of m (loaded_as m r.terms program q)) m.now r.config
-runs-in v m program q events running r =
-    record { is = at-running v q.names m.mode (run_of m (loaded_as m r.terms program q)) m.now r.config running r.is; good = r.good; rules = r.rules }
+pub placed-in : {M : Type 0} (v : View) (m : MachineView M) (program : List PredTree) (q : QueryTree) (events : List (Emitted Solution)) → GoesOn m → (p : IsPlaced v m program q events) → IsIn v q.names (run_of m (loaded_as m p.terms program q)) m.now p.config
+placed-in v m program q events on p =
+    record { is = at-running v q.names m.mode (run_of m (loaded_as m p.terms program q)) m.now p.config (running-in m.now on) p.is; good = p.good; rules = p.rules }
 
 runs-on : {M : Type 0} (v : View) (m : MachineView M) (program : List PredTree) (q : QueryTree) (events more : List (Emitted Solution)) (store : StoreView M) (arenas : ArenasView M) (now : Now) (old new : Budget) (h : Happening) → GoesOn m → (r : RunsTo v m program q events) →
-    (it : NextComes v q.names m.mode old new (run_of (later m store arenas now) (loaded_as m r.terms program q)) m.now now r.config h) → Leads v (program ++ q.helpers) q.names more r.config it.comes →
+    (it : NextComes v q.names m.mode old new (run_of (later m store arenas now) (loaded_as m r.place.terms program q)) m.now now r.place.config h) → Leads v (program ++ q.helpers) q.names more r.place.config it.comes →
     RunsTo v (later m store arenas now) program q (events ++ more)
-runs-on v m program q events more store arenas now old new h running r it leads =
+runs-on v m program q events more store arenas now old new h on r it leads =
+    let p : IsPlaced v m program q events = r.place in
+    let all : Leads v (program ++ q.helpers) q.names (events ++ more) (start q) it.comes = leads-on v (program ++ q.helpers) q.names events more (start q) p.config it.comes p.leads leads in
     record {
       view = r.view;
-      terms = r.terms;
-      config = it.comes;
-      names = r.names;
-      slots = r.slots;
-      rules = r.rules;
-      leads = leads-on v (program ++ q.helpers) q.names events more (start q) r.config it.comes r.leads leads;
-      good = it.good;
-      is = comes-to v q.names m.mode new (run_of (later m store arenas now) (loaded_as m r.terms program q)) now it.comes (it.spent running) it.at;
+      begins = λ n run is. run-prefix v program q (events ++ more) it.comes n run all is;
+      place = record {
+        terms = p.terms;
+        config = it.comes;
+        names = p.names;
+        slots = p.slots;
+        rules = p.rules;
+        leads = all;
+        good = it.good;
+        is = comes-to v q.names m.mode new (run_of (later m store arenas now) (loaded_as m p.terms program q)) now it.comes (it.spent (running-in m.now on)) it.at;
+      };
     }
 
 -- the whole run so far has ended
@@ -115,52 +148,71 @@ work-used Mode.Top b inner none = absurd (cc)
 work-used Mode.Inner b inner none = none
 
 pub told-by : {M : Type 0} (v : View) (m : MachineView M) (program : List PredTree) (q : QueryTree) (events : List (Emitted Solution)) (store : StoreView M) (arenas : ArenasView M) (now : Now) (old new : Budget) (h : Happening) → GoesOn m → (r : RunsTo v m program q events) →
-    NextComes v q.names m.mode old new (run_of (later m store arenas now) (loaded_as m r.terms program q)) m.now now r.config h → Lasts h now → HappensByTicks v program q events m (later m store arenas now) old new h
-told-by v m program q events store arenas now old new (Happening.Answer a) running r it lasts =
+    NextComes v q.names m.mode old new (run_of (later m store arenas now) (loaded_as m r.place.terms program q)) m.now now r.place.config h → Lasts h now → HappensByTicks v program q events m (later m store arenas now) old new h
+told-by v m program q events store arenas now old new (Happening.Answer a) on r it lasts =
     let x = it.is.0 in
-    (x, it.is.1, runs-on v m program q events (some_ticks (counted m.mode old new) ++ answered x ∷ []) store arenas now old new (Happening.Answer a) running r it it.is.2)
-told-by v m program q events store arenas now old new (Happening.Out text) running r it lasts = absurd it.is
-told-by v m program q events store arenas now old new (Happening.NeedPlan call) running r it lasts = absurd it.is
-told-by v m program q events store arenas now old new Happening.Done running r it lasts =
+    (x, it.is.1, runs-on v m program q events (some_ticks (counted m.mode old new) ++ answered x ∷ []) store arenas now old new (Happening.Answer a) on r it it.is.2)
+told-by v m program q events store arenas now old new (Happening.Out text) on r it lasts = absurd it.is
+told-by v m program q events store arenas now old new (Happening.NeedPlan call) on r it lasts = absurd it.is
+told-by v m program q events store arenas now old new Happening.Done on r it lasts =
     let k : ℕ = counted m.mode old new in
-    (ends-with v program q events (some_ticks k) r.config it.comes Done r.leads it.is.0 it.is.1, runs-on v m program q events (some_ticks k) store arenas now old new Happening.Done running r it it.is.0)
-told-by v m program q events store arenas now old new (Happening.Raised ball) running r it lasts =
+    (ends-with v program q events (some_ticks k) r.place.config it.comes Done r.place.leads it.is.0 it.is.1, runs-on v m program q events (some_ticks k) store arenas now old new Happening.Done on r it it.is.0)
+told-by v m program q events store arenas now old new (Happening.Raised ball) on r it lasts =
     let k : ℕ = counted m.mode old new in
-    (ends-with v program q events (some_ticks k) r.config it.comes (Raise ball) r.leads it.is.0 it.is.1, runs-on v m program q events (some_ticks k) store arenas now old new (Happening.Raised ball) running r it it.is.0)
-told-by v m program q events store arenas now old new Happening.StepsSpent running r it lasts =
+    (ends-with v program q events (some_ticks k) r.place.config it.comes (Raise ball) r.place.leads it.is.0 it.is.1, runs-on v m program q events (some_ticks k) store arenas now old new (Happening.Raised ball) on r it it.is.0)
+told-by v m program q events store arenas now old new Happening.StepsSpent on r it lasts =
     let k : ℕ = counted m.mode old new in
-    let spent : (m.mode ≡ Mode.Top) × HasNone m.mode new = subst (IsSpent m.mode new) lasts (it.spent running) in (
-      cut-off v program q events k r.config it.comes r.leads it.is.0 it.is.1,
-      runs-on v m program q events (some_ticks k) store arenas now old new Happening.StepsSpent running r it it.is.0,
+    let spent : (m.mode ≡ Mode.Top) × HasNone m.mode new = subst (IsSpent m.mode new) lasts (it.spent (running-in m.now on)) in (
+      cut-off v program q events k r.place.config it.comes r.place.leads it.is.0 it.is.1,
+      runs-on v m program q events (some_ticks k) store arenas now old new Happening.StepsSpent on r it it.is.0,
       spent.0,
       steps-used m.mode new spent.0 spent.1,
     )
-told-by v m program q events store arenas now old new Happening.WorkSpent running r it lasts =
+told-by v m program q events store arenas now old new Happening.WorkSpent on r it lasts =
     let k : ℕ = counted m.mode old new in
-    let spent : (m.mode ≡ Mode.Inner) × HasNone m.mode new = subst (IsSpent m.mode new) lasts (it.spent running) in (
-      cut-off v program q events k r.config it.comes r.leads it.is.0 it.is.1,
-      runs-on v m program q events (some_ticks k) store arenas now old new Happening.WorkSpent running r it it.is.0,
+    let spent : (m.mode ≡ Mode.Inner) × HasNone m.mode new = subst (IsSpent m.mode new) lasts (it.spent (running-in m.now on)) in (
+      cut-off v program q events k r.place.config it.comes r.place.leads it.is.0 it.is.1,
+      runs-on v m program q events (some_ticks k) store arenas now old new Happening.WorkSpent on r it it.is.0,
       spent.0,
       work-used m.mode new spent.0 spent.1,
     )
-told-by v m program q events store arenas now old new Happening.Memory running r it lasts = tt
+told-by v m program q events store arenas now old new Happening.Memory on r it lasts =
+    runs-on v m program q events (some_ticks (counted m.mode old new)) store arenas now old new Happening.Memory on r it it.is
 
 -- ---- laws
 
-pub runs-begin : {M : Type 0} (v : View) (m : MachineView M) (program : List PredTree) (q : QueryTree) (events : List (Emitted Solution)) (n : ℕ) (run : Cut Solution) →
-    RunsTo v m program q events → IsRunUnder v program q (count_ticks events + n) run → (rest : Cut Solution) × (run ≡ with_events events rest)
-runs-begin v m program q events n run r is = run-prefix v program q events r.config n run r.leads is
+done-there : (now : Now) → end_in now ≡ Some Happening.Done → now ≡ Now.Ended RunEnd.Done
+done-there (Now.Going p) ended = absurd cc
+done-there Now.Failing ended = absurd cc
+done-there (Now.Raising ball) ended = absurd cc
+done-there (Now.Ended RunEnd.Done) ended = refl
+done-there (Now.Ended (RunEnd.Raised ball)) ended = absurd cc
+done-there (Now.Ended RunEnd.StepsSpent) ended = absurd cc
+done-there (Now.Ended RunEnd.WorkSpent) ended = absurd cc
+done-there (Now.Ended RunEnd.Memory) ended = absurd cc
 
-pub done-ends : {M : Type 0} (v : View) (m : MachineView M) (program : List PredTree) (q : QueryTree) (events : List (Emitted Solution)) → RunsTo v m program q events → HasEnded m RunEnd.Done → EndsWith v program q events Done
+raised-there : (now : Now) (ball : Tree) → end_in now ≡ Some (Happening.Raised ball) → now ≡ Now.Ended (RunEnd.Raised ball)
+raised-there (Now.Going p) ball ended = absurd cc
+raised-there Now.Failing ball ended = absurd cc
+raised-there (Now.Raising other) ball ended = absurd cc
+raised-there (Now.Ended RunEnd.Done) ball ended = absurd cc
+raised-there (Now.Ended (RunEnd.Raised other)) ball ended = cc
+raised-there (Now.Ended RunEnd.StepsSpent) ball ended = absurd cc
+raised-there (Now.Ended RunEnd.WorkSpent) ball ended = absurd cc
+raised-there (Now.Ended RunEnd.Memory) ball ended = absurd cc
+
+pub done-ends : {M : Type 0} (v : View) (m : MachineView M) (program : List PredTree) (q : QueryTree) (events : List (Emitted Solution)) → RunsTo v m program q events → HasEnded m Happening.Done → EndsWith v program q events Done
 done-ends v m program q events r ended n less =
-    ended-run v program q events r.config Done n r.leads (subst (λ x. HasComeTo v q.names m.mode (run_of m (loaded_as m r.terms program q)) x r.config) ended r.is) less
+    let p : IsPlaced v m program q events = r.place in
+    ended-run v program q events p.config Done n p.leads (subst (λ x. HasComeTo v q.names m.mode (run_of m (loaded_as m p.terms program q)) x p.config) (done-there m.now ended) p.is) less
 
-pub raised-ends : {M : Type 0} (v : View) (m : MachineView M) (program : List PredTree) (q : QueryTree) (events : List (Emitted Solution)) (ball : Tree) → RunsTo v m program q events → HasEnded m (RunEnd.Raised ball) →
+pub raised-ends : {M : Type 0} (v : View) (m : MachineView M) (program : List PredTree) (q : QueryTree) (events : List (Emitted Solution)) (ball : Tree) → RunsTo v m program q events → HasEnded m (Happening.Raised ball) →
     (e : End) × IsException ball e × EndsWith v program q events e
 raised-ends v m program q events ball r ended =
-    let at : HasComeTo v q.names m.mode (run_of m (loaded_as m r.terms program q)) (Now.Ended (RunEnd.Raised ball)) r.config =
-    subst (λ x. HasComeTo v q.names m.mode (run_of m (loaded_as m r.terms program q)) x r.config) ended r.is in
-    (at.0, at.1, λ n less. ended-run v program q events r.config at.0 n r.leads at.2 less)
+    let p : IsPlaced v m program q events = r.place in
+    let at : HasComeTo v q.names m.mode (run_of m (loaded_as m p.terms program q)) (Now.Ended (RunEnd.Raised ball)) p.config =
+    subst (λ x. HasComeTo v q.names m.mode (run_of m (loaded_as m p.terms program q)) x p.config) (raised-there m.now ball ended) p.is in
+    (at.0, at.1, λ n less. ended-run v program q events p.config at.0 n p.leads at.2 less)
 
 -- ---- a new machine
 
@@ -183,14 +235,18 @@ stands-there v names mode w (Now.Ended e) c stands = no-end w e c.now (HasComeTo
 
 pub new-runs : {M : Type 0} (v : View) (m : MachineView M) (program : List PredTree) (q : QueryTree) → Fits m.mode v → m.names ≡ q.names → IsSoundQuery program q → AreOfRules (program ++ q.helpers) → Begins m.order m.code m.store m.arenas m.now program q → RunsTo v m program q []
 new-runs v m program q view names sound rules begins =
+    let none : Leads v (program ++ q.helpers) q.names [] (start q) (start q) = leads-none v (program ++ q.helpers) q.names (start q) in
     record {
       view = view;
-      terms = m.store.now.terms;
-      config = start q;
-      names = names;
-      slots = names-below q.slots q.names sound.names;
-      rules = rules;
-      leads = leads-none v (program ++ q.helpers) q.names (start q);
-      good = start-good q;
-      is = stands-there v q.names m.mode (run_of m (loaded_as m m.store.now.terms program q)) m.now (start q) begins;
+      begins = λ n run is. run-prefix v program q [] (start q) n run none is;
+      place = record {
+        terms = m.store.now.terms;
+        config = start q;
+        names = names;
+        slots = names-below q.slots q.names sound.names;
+        rules = rules;
+        leads = none;
+        good = start-good q;
+        is = stands-there v q.names m.mode (run_of m (loaded_as m m.store.now.terms program q)) m.now (start q) begins;
+      };
     }

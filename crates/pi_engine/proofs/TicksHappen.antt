@@ -11,8 +11,9 @@ use Rattle.pi_machine.specs.declared.happening.Mode.{Mode}
 use Rattle.pi_machine.specs.Budget.{Counts}
 use Rattle.pi_machine.specs.Next.{some_ticks}
 use Rattle.pi_stands.specs.Goes.{counted}
-use Rattle.pi_engine.specs.Runs.{MachineView, RunsTo}
-use Rattle.pi_engine.specs.Happens.{AreTicksAndLoads, Adds, Comes, ComesByTicks, StopsBefore, Happens, HappensByTicks}
+use Rattle.pi_engine.specs.Seen.{MachineView, mode_of}
+use Rattle.pi_engine.specs.Runs.{RunsTo}
+use Rattle.pi_engine.specs.Happens.{AreTicksAndLoads, AreCutOff, Adds, Comes, ComesByTicks, StopsBefore, Happens, HappensByTicks}
 use Rattle.pi_engine.proofs.RunsTold.{count-some, count-added}
 
 ticks-kinds : (k : ℕ) → AreTicksAndLoads (some_ticks k)
@@ -20,9 +21,27 @@ unfolding AreTicksAndLoads
 ticks-kinds zero = tt
 ticks-kinds (suc k) = ticks-kinds k
 
-ticks-added : (mode : Mode) (old new : Budget) → Counts mode old new → Adds mode old new (some_ticks (counted mode old new))
-ticks-added mode old new counts =
-    record { kinds = ticks-kinds (counted mode old new); ticks = count-some (counted mode old new); runs = omega (arith, counts.runs) }
+-- no propagation is cut off
+none-cut : (h : Happening) → AreCutOff h 0
+none-cut (Happening.Answer a) = refl
+none-cut (Happening.Out text) = refl
+none-cut (Happening.NeedPlan call) = refl
+none-cut Happening.Done = refl
+none-cut (Happening.Raised ball) = refl
+none-cut Happening.StepsSpent = refl
+none-cut Happening.WorkSpent = tt
+none-cut Happening.Memory = tt
+
+ticks-added : (mode : Mode) (old new : Budget) (h : Happening) → Counts mode old new → Adds mode old new h (some_ticks (counted mode old new))
+ticks-added mode old new h counts = record {
+  kinds = ticks-kinds (counted mode old new);
+  ticks = count-some (counted mode old new);
+  finished = 0;
+  cut_off = 0;
+  runs = omega (arith, counts.runs);
+  loads = omega arith;
+  others = none-cut h;
+}
 
 stops-at : {M : Type 0} (v : View) (program : List PredTree) (q : QueryTree) (events : List (Emitted Solution)) (k : ℕ) (m : MachineView M) →
     IsRunUnder v program q (count_ticks events + k) (record { events = events ++ some_ticks k; stop = Spent }) → RunsTo v m program q (events ++ some_ticks k) →
@@ -40,13 +59,13 @@ ticks-come v program q events k after new Happening.Done it = it
 ticks-come v program q events k after new (Happening.Raised ball) it = (Raise ball, inl refl, it.0, it.1)
 ticks-come v program q events k after new Happening.StepsSpent it = (stops-at v program q events k after it.0 it.1, it.2, it.3)
 ticks-come v program q events k after new Happening.WorkSpent it = (Tick, it.2, stops-at v program q events k after it.0 it.1, it.3)
-ticks-come v program q events k after new Happening.Memory it = tt
+ticks-come v program q events k after new Happening.Memory it = it
 
-pub ticks-happen : {M : Type 0} (v : View) (program : List PredTree) (q : QueryTree) (events : List (Emitted Solution)) (before after : MachineView M) (old new : Budget) (h : Happening) → Counts before.mode old new →
+pub ticks-happen : {M : Type 0} (v : View) (program : List PredTree) (q : QueryTree) (events : List (Emitted Solution)) (before after : MachineView M) (old new : Budget) (h : Happening) → Counts (mode_of before) old new →
     HappensByTicks v program q events before after old new h → Happens v program q events before after old new h
 ticks-happen v program q events before after old new h counts it =
     record {
-      notes = some_ticks (counted before.mode old new);
-      adds = ticks-added before.mode old new counts;
-      comes = ticks-come v program q events (counted before.mode old new) after new h it;
+      notes = some_ticks (counted (mode_of before) old new);
+      adds = ticks-added (mode_of before) old new h counts;
+      comes = ticks-come v program q events (counted (mode_of before) old new) after new h it;
     }

@@ -24,7 +24,7 @@ use Rattle.pi_machine.specs.Next.{Tells, some_ticks}
 use Rattle.pi_machine.specs.Shape.{IsGood}
 use Rattle.pi_stands.specs.Stands.{World, NowIs, going_now, failing_now, raising_now, Stands}
 use Rattle.pi_machine.specs.Step.{Outcome, silently, with_tick, quietly, answering, ending, fail_step, raise_step, step}
-use Rattle.pi_engine.specs.Turns.{StepIs}
+use Rattle.pi_engine.specs.Turns.{StepIs, StepStops}
 use Rattle.pi_stands.proofs.GoalsGo.{is-at, none-counted, unspent, silent-goes}
 use Rattle.pi_machine.proofs.LeadLemmas.{leads-none, leads-on, step-ends}
 use Rattle.pi_stands.proofs.PointsDone.{GoesSilently}
@@ -80,6 +80,11 @@ pub answer-is : {M : Type 0} (v : View) (names : List NameSlot) (mode : Mode) (b
     StepIs v names mode b b after Now.Failing c (CodeOutcome.Answered a)
 answer-is v names mode b after c a it =
     record { is = (it.0, it.1, subst (λ k. Goes v names (some_ticks k ++ answered it.0 ∷ []) after Now.Failing c) (sym (none-counted mode b b refl)) it.2); spent = tt }
+
+-- a step that stops for want of memory, and counts no Tick
+pub stops-there : {M : Type 0} (v : View) (names : List NameSlot) (mode : Mode) (b : Budget) (w : World M) (c : Config) → IsGood c → StepStops v names mode b b w c
+stops-there v names mode b w c good =
+    more-is v names mode b w (Now.Ended RunEnd.Memory) c (record { comes = c; leads = leads-none v w.loaded.preds names c; good = good; is = tt }) tt
 
 -- what fails
 failing-is : {M : Type 0} (w : World M) (x : NowData) (now : Now) → now ≡ Now.Failing → NowIs w now x → x ≡ failed

@@ -1,6 +1,6 @@
 -- What a call of `next` comes to, for those that use a machine: notes that it adds to the run's events, and then its answer,
 -- its output, or where the run stops.
-use Rattle.std.specs.Prelude.{◌≡◌, ◌≤◌, ℕ, ◌+◌, List, [], ◌∷◌, ◌++◌, ⊤}
+use Rattle.std.specs.Prelude.{◌≡◌, ◌⊎◌, ◌≤◌, ℕ, ◌+◌, List, [], ◌∷◌, ◌++◌, Option, Some, None, ⊤}
 use Rattle.pi_traces.specs.Trace.{End, Done, Raise, Note, Tick, Load, Out, Emitted, noted, answered, count_ticks}
 use Rattle.pi_traces.specs.Depth.{Cut, Spent, with_events}
 use Rattle.pi_meaning.specs.View.{View}
@@ -13,7 +13,8 @@ use Rattle.pi_machine.specs.Budget.{AreStepsUsed, IsWorkUsed}
 use Rattle.pi_machine.specs.Next.{Tells, some_ticks}
 use Rattle.pi_stands.specs.Goes.{counted}
 use Rattle.pi_engine.specs.Needs.{asked_for, Needs}
-use Rattle.pi_engine.specs.Runs.{MachineView, IsException, IsWork, RunsTo, EndsWith}
+use Rattle.pi_engine.specs.Seen.{MachineView, mode_of, stopped, IsException, IsWork}
+use Rattle.pi_engine.specs.Runs.{RunsTo, EndsWith}
 
 -- ---- what is added in front
 
@@ -30,11 +31,22 @@ sum_of_loads [] = 0
 sum_of_loads (noted (Load k) ∷ notes) = k + sum_of_loads notes
 sum_of_loads (event ∷ notes) = sum_of_loads notes
 
--- what a call adds: as many Ticks as it counts, and loads, which are no fewer than the runs of propagators in it
-pub record Adds (mode : Mode) (old new : Budget) (notes : List (Emitted Solution)) : Type 0 where
+-- runs of propagators in a propagation that isn't finished: there is none but where work is spent or memory is wanted
+abbrev pub AreCutOff : Happening → ℕ → Type 0
+AreCutOff Happening.WorkSpent runs = ⊤
+AreCutOff Happening.Memory runs = ⊤
+AreCutOff happening runs = runs ≡ 0
+
+-- What a call adds: as many Ticks as it counts, and the loads of the propagations that it finishes. The runs of propagators that it
+-- counts are those of these propagations, no more than the loads, and those of one that is cut off.
+pub record Adds (mode : Mode) (old new : Budget) (happening : Happening) (notes : List (Emitted Solution)) : Type 0 where
   pub kinds : AreTicksAndLoads notes
   pub ticks : count_ticks notes ≡ counted mode old new
-  pub runs : new.work.runs ≤ old.work.runs + sum_of_loads notes
+  pub finished : ℕ
+  pub cut_off : ℕ
+  pub runs : new.work.runs ≡ old.work.runs + finished + cut_off
+  pub loads : finished ≤ sum_of_loads notes
+  pub others : AreCutOff happening cut_off
 
 -- ---- what comes behind it
 
@@ -50,21 +62,22 @@ pub record StopsBefore {M : Type 0} (v : View) (program : List PredTree) (q : Qu
   pub next : StandsBefore v program q events n
   pub runs : RunsTo v m program q events
 
--- What comes behind these events, by what the call answers. Want of memory says nothing.
+-- What comes behind these events, by what the call answers. Want of memory is no part of a trace: the events begin each run all
+-- the same.
 abbrev pub Comes : {M : Type 0} → View → List PredTree → QueryTree → List (Emitted Solution) → MachineView M → Budget → Happening → Type 0
 Comes v program q events after new (Happening.Answer a) = (x : Solution) × Tells q.names x a × RunsTo v after program q (events ++ answered x ∷ [])
 Comes v program q events after new (Happening.Out text) = RunsTo v after program q (events ++ noted (Out text) ∷ [])
 Comes v program q events after new (Happening.NeedPlan call) = Needs v program q events after (asked_for call)
 Comes v program q events after new Happening.Done = EndsWith v program q events Done × RunsTo v after program q events
 Comes v program q events after new (Happening.Raised ball) = (e : End) × IsException ball e × EndsWith v program q events e × RunsTo v after program q events
-Comes v program q events after new Happening.StepsSpent = StopsBefore v program q events after Tick × (after.mode ≡ Mode.Top) × AreStepsUsed new
-Comes v program q events after new Happening.WorkSpent = (n : Note) × IsWork after.mode n × StopsBefore v program q events after n × IsWorkUsed new
-Comes v program q events after new Happening.Memory = ⊤
+Comes v program q events after new Happening.StepsSpent = StopsBefore v program q events after Tick × (mode_of after ≡ Mode.Top) × AreStepsUsed new
+Comes v program q events after new Happening.WorkSpent = (n : Note) × IsWork (mode_of after) n × StopsBefore v program q events after n × IsWorkUsed new
+Comes v program q events after new Happening.Memory = RunsTo v after program q events
 
 -- What a call of `next` comes to that repeats no end, where the run had these events before.
 pub record Happens {M : Type 0} (v : View) (program : List PredTree) (q : QueryTree) (events : List (Emitted Solution)) (before after : MachineView M) (old new : Budget) (happening : Happening) : Type 0 where
   pub notes : List (Emitted Solution)
-  pub adds : Adds before.mode old new notes
+  pub adds : Adds (mode_of before) old new happening notes
   pub comes : Comes v program q (events ++ notes) after new happening
 
 -- ---- what comes so far
@@ -79,11 +92,32 @@ ComesByTicks v program q events k after new Happening.Done = EndsWith v program 
 ComesByTicks v program q events k after new (Happening.Raised ball) = EndsWith v program q (events ++ some_ticks k) (Raise ball) × RunsTo v after program q (events ++ some_ticks k)
 ComesByTicks v program q events k after new Happening.StepsSpent =
     IsRunUnder v program q (count_ticks events + k) (record { events = events ++ some_ticks k; stop = Spent }) × RunsTo v after program q (events ++ some_ticks k)
-    × (after.mode ≡ Mode.Top) × AreStepsUsed new
+    × (mode_of after ≡ Mode.Top) × AreStepsUsed new
 ComesByTicks v program q events k after new Happening.WorkSpent =
     IsRunUnder v program q (count_ticks events + k) (record { events = events ++ some_ticks k; stop = Spent }) × RunsTo v after program q (events ++ some_ticks k)
-    × (after.mode ≡ Mode.Inner) × IsWorkUsed new
-ComesByTicks v program q events k after new Happening.Memory = ⊤
+    × (mode_of after ≡ Mode.Inner) × IsWorkUsed new
+ComesByTicks v program q events k after new Happening.Memory = RunsTo v after program q (events ++ some_ticks k)
 
 abbrev pub HappensByTicks : {M : Type 0} → View → List PredTree → QueryTree → List (Emitted Solution) → MachineView M → MachineView M → Budget → Budget → Happening → Type 0
-HappensByTicks v program q events before after old new happening = ComesByTicks v program q events (counted before.mode old new) after new happening
+HappensByTicks v program q events before after old new happening = ComesByTicks v program q events (counted (mode_of before) old new) after new happening
+
+-- there are no outputs and no needs
+abbrev pub IsBuiltSoFar : Happening → Type 0
+IsBuiltSoFar (Happening.Out text) = ⊥
+IsBuiltSoFar (Happening.NeedPlan call) = ⊥
+IsBuiltSoFar happening = ⊤
+
+-- ---- an end that is answered again
+
+-- the end that a happening is, which each later call answers; None behind an answer, an output or a need
+abbrev pub lasting : Happening → Option Happening
+lasting (Happening.Answer a) = None
+lasting (Happening.Out text) = None
+lasting (Happening.NeedPlan call) = None
+lasting happening = Some happening
+
+-- An end is answered again, and nothing changes. A ball is copied, for which memory may be wanted: then that is the end, and nothing
+-- else changes.
+abbrev pub IsRepeated : {M : Type 0} → Happening → MachineView M → MachineView M → Budget → Budget → Happening → Type 0
+IsRepeated (Happening.Raised ball) old new b c again = (((again ≡ Happening.Raised ball) × (new ≡ old)) ⊎ ((again ≡ Happening.Memory) × (new ≡ stopped old))) × (c ≡ b)
+IsRepeated end old new b c again = (again ≡ end) × (new ≡ old) × (c ≡ b)

@@ -1,5 +1,7 @@
 pub mod Begins
 pub mod Turns
+pub mod Seen
+pub mod Inside
 pub mod Runs
 pub mod Needs
 pub mod Happens

@@ -7,7 +7,8 @@ use Rattle.pi_meaning.specs.Run.{Solution}
 use Rattle.pi_core.specs.CoreTree.{PredTree, QueryTree}
 use Rattle.pi_machine.specs.declared.happening.PlanCall.{PlanCall}
 use Rattle.pi_machine.specs.Leads.{IsAtCall}
-use Rattle.pi_engine.specs.Runs.{MachineView, RunsTo, EndsWith}
+use Rattle.pi_engine.specs.Seen.{MachineView}
+use Rattle.pi_engine.specs.Runs.{RunsTo, EndsWith}
 
 -- the call, as a machine tells it
 abbrev pub asked_for : PlanCall → Call
@@ -24,7 +25,7 @@ Lacks v call = ReadsAs v call (λ wanted s. end (Miss call))
 -- A machine waits for a call: what remains begins with the call's reading, and under a view that lacks it the run has ended.
 pub record Needs {M : Type 0} (v : View) (program : List PredTree) (q : QueryTree) (events : List (Emitted Solution)) (m : MachineView M) (call : Call) : Type 0 where
   pub runs : RunsTo v m program q events
-  pub reads : IsAtCall v (program ++ q.helpers) q.names call runs.config
+  pub reads : IsAtCall v (program ++ q.helpers) q.names call runs.place.config
   pub misses : Lacks v call → EndsWith v program q events (Miss call)
 
 -- An answer to a call that a machine waits for is handed in, as the trace that the call comes to then (`answered_by` a plan,

@@ -9,6 +9,7 @@ use Rattle.pi_machine.specs.declared.happening.Happening.{Happening}
 use Rattle.pi_machine.specs.declared.happening.Mode.{Mode}
 use Rattle.pi_arenas.specs.declared.run.End.{End as RunEnd}
 use Rattle.pi_arenas.specs.declared.run.Now.{Now}
+use Rattle.pi_arenas.specs.declared.run.Run.{Run}
 use Rattle.pi_engine.specs.declared.turns.Outcome.{Outcome}
 use Rattle.pi_machine.specs.Configuration.{Config}
 use Rattle.pi_machine.specs.Shape.{IsGood}
@@ -27,6 +28,14 @@ OutcomeIs v names events after now c (Outcome.Answered a) = (x : Solution) × Te
 pub record StepIs {M : Type 0} (v : View) (names : List NameSlot) (mode : Mode) (old new : Budget) (after : World M) (now : Now) (c : Config) (outcome : Outcome) : Type 0 where
   pub is : OutcomeIs v names (some_ticks (counted mode old new)) after now c outcome
   pub spent : IsSpent mode new now
+
+-- a step that stops for want of memory: the Ticks that it counted come next in the run all the same
+abbrev pub StepStops : {M : Type 0} → View → List NameSlot → Mode → Budget → Budget → World M → Config → Type 0
+StepStops v names mode old new before c = StepIs v names mode old new before (Now.Ended RunEnd.Memory) c Outcome.More
+
+-- a run that has ended for want of memory, and else is as it was
+abbrev pub stopped_run : {S M : Type 0} → Run S M → Run S M
+stopped_run run = record run { now = Now.Ended RunEnd.Memory }
 
 -- ---- a call of `next`
 
@@ -67,19 +76,13 @@ Lasts Happening.StepsSpent now = now ≡ Now.Ended RunEnd.StepsSpent
 Lasts Happening.WorkSpent now = now ≡ Now.Ended RunEnd.WorkSpent
 Lasts Happening.Memory now = now ≡ Now.Ended RunEnd.Memory
 
--- what happens with what is built so far: there are no output and no planner
-abbrev pub IsBuiltSoFar : Happening → Type 0
-IsBuiltSoFar (Happening.Out text) = ⊥
-IsBuiltSoFar (Happening.NeedPlan call) = ⊥
-IsBuiltSoFar happening = ⊤
-
--- An end is answered again, and nothing changes. A ball is copied, for which memory may be wanted.
-abbrev pub IsRepeated : {R : Type 0} → RunEnd → R → R → Budget → Budget → Happening → Type 0
-IsRepeated RunEnd.Done old new b c happening = (happening ≡ Happening.Done) × (new ≡ old) × (c ≡ b)
-IsRepeated (RunEnd.Raised ball) old new b c happening = (((happening ≡ Happening.Raised ball) × (new ≡ old)) ⊎ (happening ≡ Happening.Memory)) × (c ≡ b)
-IsRepeated RunEnd.StepsSpent old new b c happening = (happening ≡ Happening.StepsSpent) × (new ≡ old) × (c ≡ b)
-IsRepeated RunEnd.WorkSpent old new b c happening = (happening ≡ Happening.WorkSpent) × (new ≡ old) × (c ≡ b)
-IsRepeated RunEnd.Memory old new b c happening = (happening ≡ Happening.Memory) × (new ≡ old) × (c ≡ b)
+-- An end is answered again, and nothing changes; `stop` says what a refused copy of a ball comes to.
+abbrev pub RepeatsEnd : {R : Type 0} → (R → R) → RunEnd → R → R → Budget → Budget → Happening → Type 0
+RepeatsEnd stop RunEnd.Done old new b c happening = (happening ≡ Happening.Done) × (new ≡ old) × (c ≡ b)
+RepeatsEnd stop (RunEnd.Raised ball) old new b c happening = (((happening ≡ Happening.Raised ball) × (new ≡ old)) ⊎ ((happening ≡ Happening.Memory) × (new ≡ stop old))) × (c ≡ b)
+RepeatsEnd stop RunEnd.StepsSpent old new b c happening = (happening ≡ Happening.StepsSpent) × (new ≡ old) × (c ≡ b)
+RepeatsEnd stop RunEnd.WorkSpent old new b c happening = (happening ≡ Happening.WorkSpent) × (new ≡ old) × (c ≡ b)
+RepeatsEnd stop RunEnd.Memory old new b c happening = (happening ≡ Happening.Memory) × (new ≡ old) × (c ≡ b)
 
 -- the ends for whose answer memory may be wanted
 abbrev pub IsRaised : RunEnd → Type 0

@@ -1,5 +1,5 @@
 //! The machine, as its callers see it.
-ghost use Rattle.std.specs.Prelude.{◌≡◌, [], ◌++◌, List, length, IfOk, IfErr};
+ghost use Rattle.std.specs.Prelude.{◌≡◌, [], ◌++◌, List, IfOk, IfErr};
 ghost use Rattle.pi_states.specs.State.{empty_state};
 ghost use Rattle.pi_states.specs.Store.{Stays};
 ghost use Rattle.pi_core.specs.CoreTree.{PredTree, QueryTree, program_tree, query_tree};
@@ -7,12 +7,12 @@ ghost use Rattle.pi_meaning.specs.Run.{Solution};
 ghost use Rattle.pi_meaning.specs.Sound.{IsSoundQuery};
 ghost use Rattle.pi_traces.specs.Trace.{Emitted};
 ghost use Rattle.pi_meaning.specs.View.{View};
-ghost use Rattle.pi_arenas.specs.declared.run.End.{End};
 ghost use Rattle.pi_machine.specs.Budget.{Counts, IsWithin};
 ghost use Rattle.pi_machine.specs.Built.{AreOfRules};
-ghost use Rattle.pi_engine.specs.Runs.{machine_view, store_of, HasEnded, GoesOn, Fits, RunsTo};
-ghost use Rattle.pi_engine.specs.Happens.{Happens, HappensByTicks};
-ghost use Rattle.pi_engine.specs.Turns.{IsBuiltSoFar, IsRepeated, Lasts};
+ghost use Rattle.pi_machine.specs.declared.happening.Happening.{Happening};
+ghost use Rattle.pi_engine.specs.Seen.{machine_view, store_of, mode_of, kept_by, end_of, HasEnded, GoesOn, Fits};
+ghost use Rattle.pi_engine.specs.Runs.{RunsTo};
+ghost use Rattle.pi_engine.specs.Happens.{Happens, HappensByTicks, IsBuiltSoFar, IsRepeated, lasting};
 
 use crate::begin::begin;
 use crate::turns::next_happening;
@@ -52,7 +52,7 @@ impl<'p, S: StateStore> Machine<'p, S> {
         mode: Mode,
     ) -> Result<Machine<'p, S>, S>
         ensures runs { IfOk result (λ machine. (S.seen store).now.state ≡ empty_state → IsSoundQuery (program_tree core.now) (query_tree query) → AreOfRules (program_tree core.now ++ (query_tree query).helpers) → (v : View) → Fits mode v → RunsTo v (machine_view S.seen S.order machine) (program_tree core.now) (query_tree query) []) }
-        ensures mode { IfOk result (λ machine. (machine_view S.seen S.order machine).mode ≡ mode) }
+        ensures mode { IfOk result (λ machine. mode_of (machine_view S.seen S.order machine) ≡ mode) }
         ensures running { IfOk result (λ machine. GoesOn (machine_view S.seen S.order machine)) }
         ensures err { IfErr result (λ given. Stays (S.seen store) (S.seen given)) }
     {
@@ -84,14 +84,14 @@ impl<'p, S: StateStore> Machine<'p, S> {
 impl<S: StateStore> Machine<'_, S> {
     /// What comes next: an answer, or the end, which is answered for good.
     pub fn next(&mut self, budget: &mut Budget) -> Happening
-        ensures counts { Counts (machine_view S.seen S.order self.old).mode budget.old budget.new }
+        ensures counts { Counts (mode_of (machine_view S.seen S.order self.old)) budget.old budget.new }
         ensures within { IsWithin budget.old → IsWithin budget.new }
-        ensures mode { (machine_view S.seen S.order self.new).mode ≡ (machine_view S.seen S.order self.old).mode }
+        ensures mode { mode_of (machine_view S.seen S.order self.new) ≡ mode_of (machine_view S.seen S.order self.old) }
         ensures steps { GoesOn (machine_view S.seen S.order self.old) → (v : View) (program : List PredTree) (q : QueryTree) (events : List (Emitted Solution)) → RunsTo v (machine_view S.seen S.order self.old) program q events → Happens v program q events (machine_view S.seen S.order self.old) (machine_view S.seen S.order self.new) budget.old budget.new result }
         ensures built { IsBuiltSoFar result }
         ensures ticks { GoesOn (machine_view S.seen S.order self.old) → (v : View) (program : List PredTree) (q : QueryTree) (events : List (Emitted Solution)) → RunsTo v (machine_view S.seen S.order self.old) program q events → HappensByTicks v program q events (machine_view S.seen S.order self.old) (machine_view S.seen S.order self.new) budget.old budget.new result }
-        ensures repeats { (e : End) → HasEnded (machine_view S.seen S.order self.old) e → IsRepeated e self.old self.new budget.old budget.new result }
-        ensures lasts { Lasts result (machine_view S.seen S.order self.new).now }
+        ensures repeats { (end : Happening) → HasEnded (machine_view S.seen S.order self.old) end → IsRepeated end (machine_view S.seen S.order self.old) (machine_view S.seen S.order self.new) budget.old budget.new result }
+        ensures lasts { end_of (machine_view S.seen S.order self.new) ≡ lasting result }
     {
         next_happening(
             &self.code,
@@ -104,10 +104,7 @@ impl<S: StateStore> Machine<'_, S> {
 
     /// How much the run keeps beside its store.
     pub fn kept(&self) -> Kept
-        ensures entries { result.entries ≡ length (machine_view S.seen S.order self.now).arenas.entries }
-        ensures frames { result.frames ≡ length (machine_view S.seen S.order self.now).arenas.frames }
-        ensures slots { result.slots ≡ length (machine_view S.seen S.order self.now).arenas.blocks.slots }
-        ensures collected { result.collected ≡ length (machine_view S.seen S.order self.now).arenas.collected }
+        ensures { result ≡ kept_by (machine_view S.seen S.order self.now) }
     {
         let arenas = &self.run.arenas;
         Kept {

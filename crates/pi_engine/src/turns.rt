@@ -12,7 +12,8 @@ ghost use Rattle.pi_stands.specs.Answers.{AreNames};
 ghost use Rattle.pi_stands.specs.Stands.{Loaded, world};
 ghost use Rattle.pi_stands.specs.Makes.{GoesFrom};
 ghost use Rattle.pi_stands.specs.Goes.{IsIn, IsSpent, PointIsDone};
-ghost use Rattle.pi_engine.specs.Turns.{StepIs, NextComes, IsRunning, RunsAfter, IsAnswered, IsBuiltSoFar, IsRepeated, Lasts, IsRaised};
+ghost use Rattle.pi_engine.specs.Happens.{IsBuiltSoFar};
+ghost use Rattle.pi_engine.specs.Turns.{StepIs, StepStops, stopped_run, NextComes, IsRunning, RunsAfter, IsAnswered, RepeatsEnd, Lasts, IsRaised};
 
 use pi_answers::Answer;
 use pi_arenas::{End, Now, Point, Run};
@@ -39,7 +40,7 @@ pub fn next_happening<S: StateStore>(
 ) -> Happening
     ensures counts { Counts mode budget.old budget.new }
     ensures comes { (l : Loaded) → l.code ≡ code.now → AreNames l.query_slots names.now → (v : View) (c : Config) → IsIn v names.now (world l (S.seen run.old.store) S.order (view_of run.old.arenas)) run.old.now c → NextComes v names.now mode budget.old budget.new (world l (S.seen run.new.store) S.order (view_of run.new.arenas)) run.old.now run.new.now c result }
-    ensures repeats { (e : End) → run.old.now ≡ Now.Ended e → IsRepeated e run.old run.new budget.old budget.new result }
+    ensures repeats { (e : End) → run.old.now ≡ Now.Ended e → RepeatsEnd stopped_run e run.old run.new budget.old budget.new result }
     ensures built { IsBuiltSoFar result }
     ensures lasts { Lasts result run.new.now }
 {
@@ -61,10 +62,10 @@ pub fn next_happening<S: StateStore>(
     memory_wanted(run)
 }
 
-/// Ends a run for want of memory.
+/// Ends a run for want of memory, and changes nothing else of it.
 fn memory_wanted<S: StateStore>(run: &mut Run<S>) -> Happening
     ensures result { result ≡ Happening.Memory }
-    ensures ended { run.new.now ≡ Now.Ended End.Memory }
+    ensures stopped { run.new ≡ stopped_run run.old }
 {
     run.now = Now::Ended(End::Memory);
     Happening::Memory
@@ -82,6 +83,7 @@ fn step<S: StateStore>(
     ensures counts { Counts mode budget.old budget.new }
     ensures answered { IfOk result (λ outcome. RunsAfter outcome run.new.now) }
     ensures is { IfOk result (λ outcome. IsRunning run.old.now → (l : Loaded) → l.code ≡ code.now → AreNames l.query_slots names.now → (v : View) (c : Config) → IsIn v names.now (world l (S.seen run.old.store) S.order (view_of run.old.arenas)) run.old.now c → StepIs v names.now mode budget.old budget.new (world l (S.seen run.new.store) S.order (view_of run.new.arenas)) run.new.now c outcome) }
+    ensures stops { IfErr result (λ _. IsRunning run.old.now → (l : Loaded) → l.code ≡ code.now → (v : View) (c : Config) → IsIn v names.now (world l (S.seen run.old.store) S.order (view_of run.old.arenas)) run.old.now c → StepStops v names.now mode budget.old budget.new (world l (S.seen run.old.store) S.order (view_of run.old.arenas)) c) }
 {
     match &run.now {
         Now::Going(at) => {

@@ -1,6 +1,6 @@
 -- What a call of `next` does: what remained before it begins with the Ticks that it counts; then comes its answer or its
 -- end, and the rest is what remains after it.
-use Rattle.std.specs.Prelude.{◌≡◌, ℕ, List, [], ◌∷◌, ◌++◌, replicate, ⊤}
+use Rattle.std.specs.Prelude.{◌≡◌, ℕ, List, [], ◌∷◌, ◌++◌, replicate}
 use Rattle.pi_core.specs.CoreTree.{PredTree}
 use Rattle.pi_traces.specs.Trace.{Done, Raise, Tick, Emitted, noted, answered}
 use Rattle.pi_meaning.specs.View.{View}
@@ -19,7 +19,8 @@ Tells names x a = a ≡ answer_of names x
 abbrev pub some_ticks : ℕ → List (Emitted Solution)
 some_ticks k = replicate k (noted Tick)
 
--- A call that counts k Ticks. There is no output so far, and no planner. Want of memory says nothing.
+-- A call that counts k Ticks. There is no output so far, and no planner. Where memory is wanted, its Ticks come next all the
+-- same, and no more is said.
 abbrev pub NextIs : View → List PredTree → List NameSlot → ℕ → Happening → Config → Config → Type 0
 NextIs v preds names k (Happening.Answer a) before after = (x : Solution) × Tells names x a × Leads v preds names (some_ticks k ++ answered x ∷ []) before after
 NextIs v preds names k Happening.Done before after = Leads v preds names (some_ticks k) before after × IsAtEnd v preds names Done after
@@ -28,4 +29,4 @@ NextIs v preds names k Happening.StepsSpent before after = Leads v preds names (
 NextIs v preds names k Happening.WorkSpent before after = Leads v preds names (some_ticks k) before after × IsAtTick v preds names after
 NextIs v preds names k (Happening.Out text) before after = ⊥
 NextIs v preds names k (Happening.NeedPlan c) before after = ⊥
-NextIs v preds names k Happening.Memory before after = ⊤
+NextIs v preds names k Happening.Memory before after = Leads v preds names (some_ticks k) before after

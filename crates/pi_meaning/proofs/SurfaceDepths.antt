@@ -12,11 +12,10 @@ use Rattle.pi_meaning.specs.View.{View}
 use Rattle.pi_meaning.specs.Drain.{drained}
 use Rattle.pi_meaning.specs.Settle.{settled}
 use Rattle.pi_meaning.specs.Builtin.{effect}
-use Rattle.pi_meaning.specs.Rules.{chosen_rule}
 use Rattle.pi_meaning.specs.Environment.{Environment, ValuedAll, valued_all, head_matched}
-use Rattle.pi_meaning.specs.Surface.{Place, Doing, Calling, at_state, draining_first, built_in_or_called, call_trace, atom_trace, goal_trace, goals_trace, body_trace, rules_of, is_rule_of, head_arguments, rule_or_later, rules_trace, called_at, told_names, telling, beginning, surface_trace}
+use Rattle.pi_meaning.specs.Surface.{Place, Doing, Calling, at_state, draining_first, built_in_or_called, call_trace, atom_trace, goal_trace, goals_trace, body_trace, rules_of, is_rule_of, head_arguments, leaving_later, rule_or_later, rules_trace, called_at, told_names, telling, beginning, surface_trace}
 use Rattle.pi_meaning.specs.SurfaceRun.{Told, place_told, told_trace, told_cut, IsSurfaceRun}
-use Rattle.pi_meaning.specs.SurfaceLaws.{SurfaceRunsAreOne, SurfaceRunsReach, SameRulesRunTheSame}
+use Rattle.pi_meaning.specs.SurfaceLaws.{SurfaceRunsAreOne, SurfaceRunsReach, SameRulesRunTheSame, RulesAreChosenAsInTheCore}
 use Rattle.pi_meaning.proofs.ToldCuts.{cut-told}
 
 -- calls do the same and maybe more
@@ -97,7 +96,12 @@ body-below v f g more (ExpTree.call name es) p = goal-below v f g more (ExpTree.
 
 -- ---- rules and calls
 
-chosen-below : {X : Type 0} (back : Bool) (t u later more : Trace X) → Below t u → Below later more → Below (chosen_rule back t later) (chosen_rule back u more)
+-- as the core meaning has it
+pub chosen-as-core : RulesAreChosenAsInTheCore
+chosen-as-core true t later = refl
+chosen-as-core false t later = refl
+
+chosen-below : (back : Bool) (t u later more : Trace State) → Below t u → Below later more → Below (leaving_later back t later) (leaving_later back u more)
 chosen-below true t u later more a b = below-alt t u later more a b
 chosen-below false t u later more a b = a
 

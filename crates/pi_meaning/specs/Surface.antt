@@ -1,19 +1,18 @@
 -- What a program means, over its names: the trace of a goal from an environment and a state, under a view, at a depth. Goals
 -- and rules are those of the small language so far; of others this says nothing. (A User's Guide to Picat, 'Predicates and
 -- Functions'; Ticks and depths are own.)
-use Rattle.std.specs.Prelude.{ℕ, zero, suc, ◌==◌, ◌&&◌, Bool, false, cond, List, [], ◌∷◌, ◌++◌, filter, filter_map, Option, Some, None, codes}
+use Rattle.std.specs.Prelude.{ℕ, zero, suc, ◌==◌, ◌&&◌, Bool, true, false, cond, List, [], ◌∷◌, ◌++◌, filter, filter_map, Option, Some, None, codes}
 use Rattle.std.specs.Str.{bytes_eq}
 use Rattle.std.specs.List.{list_any}
 use Rattle.pi_terms.specs.Tree.{Trees, tree_count}
 use Rattle.pi_states.specs.Value.{value}
 use Rattle.pi_states.specs.State.{State, bindings, empty_state}
-use Rattle.pi_traces.specs.Trace.{Trace, end, note, Deep, Tick, done, one, then}
+use Rattle.pi_traces.specs.Trace.{Trace, end, note, Deep, Tick, done, one, alt, then}
 use Rattle.pi_meaning.specs.View.{View}
 use Rattle.pi_meaning.specs.Drain.{drained}
 use Rattle.pi_meaning.specs.Settle.{settled}
 use Rattle.pi_meaning.specs.Raise.{within_limit}
 use Rattle.pi_meaning.specs.Builtin.{effect}
-use Rattle.pi_meaning.specs.Rules.{chosen_rule}
 use Rattle.pi_syntax.specs.ExpTree.{ExpTree, ExpTrees, no_exps, exp}
 use Rattle.pi_syntax.specs.ProgramTree.{RuleTree, WrittenClause, rule, function, fact, ProgramTree}
 use Rattle.pi_syntax.specs.Signature.{Signature, signature}
@@ -100,12 +99,16 @@ abbrev pub head_arguments : ExpTree → ExpTrees
 head_arguments (ExpTree.call name es) = es
 head_arguments e = no_exps
 
--- A rule applies where its head matches, from an empty environment. A committed rule ends the choice; of a backtrackable one
--- the later rules are alternatives.
+-- a backtrackable rule leaves the later ones as alternatives, and a committed one ends the choice
+abbrev pub leaving_later : Bool → Trace State → Trace State → Trace State
+leaving_later true t later = alt t later
+leaving_later false t later = t
+
+-- a rule applies where its head matches, from an empty environment
 abbrev pub rule_or_later : View → Calling → RuleTree → State → Trace State → Option Environment → Trace State
 rule_or_later v calls r s later None = later
 rule_or_later v calls r s later (Some e) =
-    chosen_rule r.back (then (body_trace v calls r.body (record { names = e; state = s })) (λ p. one p.state)) later
+    leaving_later r.back (then (body_trace v calls r.body (record { names = e; state = s })) (λ p. one p.state)) later
 
 -- rules in order; no rule, no answer
 unfoldable pub rules_trace : View → Calling → List RuleTree → Trees → State → Trace State

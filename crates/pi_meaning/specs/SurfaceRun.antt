@@ -1,27 +1,20 @@
--- What an answer tells, of a goal over names and of a query over slots: the values of its names, and the state. And the run
--- of a goal over names.
+-- What an answer of a goal over names tells: the values of its names, and the state. And the run of a goal over names.
 use Rattle.std.specs.Prelude.{◌≡◌, ℕ, List, map}
 use Rattle.pi_states.specs.State.{State}
 use Rattle.pi_syntax.specs.ExpTree.{ExpTree}
 use Rattle.pi_traces.specs.Trace.{Trace, Emitted, noted, answered, one, then}
 use Rattle.pi_traces.specs.Depth.{Cut, cut, CutWithoutDeep}
 use Rattle.pi_meaning.specs.View.{View}
-use Rattle.pi_meaning.specs.Run.{Solution}
 use Rattle.pi_syntax.specs.ProgramTree.{ProgramTree}
-use Rattle.pi_core.specs.declared.core_program.NameSlot.{NameSlot}
 use Rattle.pi_answers.specs.declared.answer.NamedTerm.{NamedTerm}
 use Rattle.pi_answers.specs.declared.answer.Answer.{Answer}
 use Rattle.pi_answers.specs.AnswerVariables.{answer_variables}
-use Rattle.pi_meaning.specs.Told.{named_values}
 use Rattle.pi_states.specs.ToldDomains.{told_domains}
 use Rattle.pi_meaning.specs.Surface.{Place, told_names, told_values, surface_trace}
 
 pub record Told : Type 0 where
   pub values : List NamedTerm
   pub state : State
-
-abbrev pub solution_told : List NameSlot → Solution → Told
-solution_told names x = record { values = named_values names x.slots x.state; state = x.state }
 
 abbrev pub place_told : List (List ℕ) → Place → Told
 place_told names p = record { values = told_values names p.names p.state; state = p.state }

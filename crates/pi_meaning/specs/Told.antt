@@ -9,6 +9,7 @@ use Rattle.pi_states.specs.State.{State, bindings}
 use Rattle.pi_states.specs.Evaluation.{Evaluated, evaluated}
 use Rattle.pi_states.specs.ToldDomains.{told_domains}
 use Rattle.pi_meaning.specs.Run.{Solution}
+use Rattle.pi_meaning.specs.SurfaceRun.{Told}
 use Rattle.pi_answers.specs.AnswerVariables.{answer_variables}
 use Rattle.pi_core.specs.declared.core_program.NameSlot.{NameSlot}
 use Rattle.pi_answers.specs.declared.answer.NamedTerm.{NamedTerm}
@@ -26,3 +27,7 @@ unfoldable pub answer_of : List NameSlot → Solution → Answer
 answer_of names x =
     let values : List NamedTerm = named_values names x.slots x.state in
     record { values = values; domains = told_domains x.state (answer_variables values) }
+
+-- as an answer of a goal over names tells it
+abbrev pub solution_told : List NameSlot → Solution → Told
+solution_told names x = record { values = named_values names x.slots x.state; state = x.state }

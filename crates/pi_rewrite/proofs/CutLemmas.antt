@@ -8,7 +8,8 @@ use Rattle.pi_states.specs.State.{empty_state}
 use Rattle.pi_meaning.specs.View.{View}
 use Rattle.pi_meaning.specs.Run.{query_trace}
 use Rattle.pi_meaning.specs.Surface.{told_names, surface_trace}
-use Rattle.pi_meaning.specs.SurfaceRun.{solution_told, place_told, told_trace, told_cut}
+use Rattle.pi_meaning.specs.SurfaceRun.{place_told, told_trace, told_cut}
+use Rattle.pi_meaning.specs.Told.{solution_told}
 use Rattle.pi_meaning.proofs.ToldCuts.{cut-told, stop-told}
 use Rattle.pi_rewrite.specs.Laws.{query_from, goal_from, MeansTheSame, SameMeaningRunsTheSame}
 

@@ -24,8 +24,8 @@ use Rattle.pi_traces.proofs.RelatedLemmas.{Same, same}
 use Rattle.pi_meaning.specs.Environment.{Environment, Valued, known, name_valued, valued}
 use Rattle.pi_meaning.specs.Surface.{Place, Calling, draining_first, body_trace, called_at, told_values, if_tellable, telling}
 use Rattle.pi_rewrite.specs.Lowered.{SlotNames, slot_known, slots_after, lowered_body, name_slots}
-use Rattle.pi_meaning.specs.Told.{named_values}
-use Rattle.pi_meaning.specs.SurfaceRun.{Told, solution_told, place_told, told_trace}
+use Rattle.pi_meaning.specs.Told.{named_values, solution_told}
+use Rattle.pi_meaning.specs.SurfaceRun.{Told, place_told, told_trace}
 use Rattle.pi_rewrite.specs.Laws.{CallsTheSame, query_from, goal_from, MeansTheSame}
 use Rattle.pi_rewrite.proofs.FilledLemmas.{names_of, slots_at, Seen, new, there, seen-known}
 use Rattle.pi_rewrite.proofs.SameLemmas.{SameBy, same_end, same-one, same-then, same-equal}

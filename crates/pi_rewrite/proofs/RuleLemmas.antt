@@ -20,6 +20,7 @@ use Rattle.pi_traces.proofs.RelatedLemmas.{Same, same}
 use Rattle.pi_traces.proofs.TraceLemmas.{alt-done}
 use Rattle.pi_meaning.specs.Environment.{Environment, head_matched}
 use Rattle.pi_meaning.specs.Surface.{Place, Calling, goals_trace, body_trace, head_arguments, rule_or_later, rules_trace}
+use Rattle.pi_meaning.proofs.SurfaceDepths.{chosen-as-core}
 use Rattle.pi_rewrite.specs.Lowered.{SlotNames, slots_after, slots_after_all, slots_of_head, lowered_goals, lowered_body, lowered_patterns, lowered_clause, lowered_rule}
 use Rattle.pi_rewrite.proofs.FilledLemmas.{names_of, slots_at}
 use Rattle.pi_rewrite.proofs.SameLemmas.{SameBy, same-one, same-then, same-equal}
@@ -72,6 +73,7 @@ rule-taken defined v l calls is r small the_call i s rest later e _ _ neither = 
 rule-taken defined v l calls is r small the_call i s rest later e _ _ (both names at) =
     ap (λ t. chosen_rule r.back t rest) (body-run defined v l calls is r.body small.body (slots_of_head r.head) names s at)
     ∙ ap (chosen_rule r.back (then (body_trace v calls r.body (at_names names s)) (λ p. one p.state))) e
+    ∙ sym (chosen-as-core r.back (then (body_trace v calls r.body (at_names names s)) (λ p. one p.state)) later)
 
 pub SmallRules : Defined → List RuleTree → Type 0
 SmallRules defined [] = ⊤

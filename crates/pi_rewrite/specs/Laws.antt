@@ -16,7 +16,8 @@ use Rattle.pi_meaning.specs.Run.{Solution, query_start, answered_with, IsRunUnde
 use Rattle.pi_meaning.specs.Sound.{IsSound, IsSoundQuery}
 use Rattle.pi_meaning.specs.Small.{heads, Defines, IsSmallProgram, IsSmallQuery}
 use Rattle.pi_meaning.specs.Surface.{Place, at_state, draining_first, body_trace, called_at, told_names, telling, beginning}
-use Rattle.pi_meaning.specs.SurfaceRun.{solution_told, place_told, told_trace, told_cut, IsSurfaceRun}
+use Rattle.pi_meaning.specs.SurfaceRun.{place_told, told_trace, told_cut, IsSurfaceRun}
+use Rattle.pi_meaning.specs.Told.{solution_told}
 
 -- ---- programs
 

@@ -298,7 +298,7 @@ pub record CallThere {M : Type 0} (w : World M) (p : Point) (c : Config) (v : Vi
   pub next : Config
   pub comes : goal_step v w.loaded.preds it.g it.gs it.e w.store.now.state it.k c.stack ≡ call_step quiet next
 
-by-goal : {M : Type 0} (w : World M) (p : Point) (c : Config) (v : View) (names : List NameSlot) (it : GoalThere w p c) → step v w.loaded.preds names c ≡ goal_step v w.loaded.preds it.g it.gs it.e w.store.now.state it.k c.stack
+pub by-goal : {M : Type 0} (w : World M) (p : Point) (c : Config) (v : View) (names : List NameSlot) (it : GoalThere w p c) → step v w.loaded.preds names c ≡ goal_step v w.loaded.preds it.g it.gs it.e w.store.now.state it.k c.stack
 unfolding step
 by-goal w p c v names it = ap (step v w.loaded.preds names) it.is
 

@@ -60,6 +60,7 @@ pub mod CallRuns
 pub mod ReadsHere
 pub mod ApplyRuns
 pub mod GoalsGo
+pub mod StopsGo
 pub mod KnownGoals
 pub mod MissingStand
 pub mod FailsStand

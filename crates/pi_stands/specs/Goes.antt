@@ -98,6 +98,13 @@ abbrev pub PointGoes : {M : Type 0} → Mode → Budget → Budget → World M �
 PointGoes mode old new before after p now =
     (v : View) (names : List NameSlot) (c : Config) → 0 < p.count → Stands before (Now.Going p) c → IsGood c → AreOfRules before.loaded.preds → TicksOn v names mode old new after now c
 
+-- Where its step stops for want of memory, the Ticks that it counted come next in the run all the same: as if it had ended there.
+abbrev pub GoalStops : {M : Type 0} → Mode → Budget → Budget → World M → Point → Step → Type 0
+GoalStops mode old new before p s = GoalGoes mode old new before before p s (Now.Ended RunEnd.Memory)
+
+abbrev pub PointStops : {M : Type 0} → Mode → Budget → Budget → World M → Point → Type 0
+PointStops mode old new before p = PointGoes mode old new before before p (Now.Ended RunEnd.Memory)
+
 -- a run at a point whose goals are done
 pub record PointIsDone {M : Type 0} (w : World M) (p : Point) (c : Config) : Type 0 where
   pub none : p.count ≡ 0

@@ -1,11 +1,11 @@
 //! The first goal of a point, by its node.
-ghost use Rattle.std.specs.Prelude.{◌≡◌, Some, IfOk, length};
+ghost use Rattle.std.specs.Prelude.{◌≡◌, Some, IfOk, IfErr, length};
 ghost use Rattle.pi_code.specs.declared.code.Node.TheVariants.{True};
 ghost use Rattle.pi_machine.specs.Budget.{Counts};
 ghost use Rattle.pi_arenas.specs.Arenas.{view_of};
 ghost use Rattle.pi_stands.specs.Stands.{Loaded, world};
 ghost use Rattle.pi_stands.specs.Makes.{RunsGoal, level_kind};
-ghost use Rattle.pi_stands.specs.Goes.{GoalGoes, PointGoes, IsSilent, IsOther};
+ghost use Rattle.pi_stands.specs.Goes.{GoalGoes, PointGoes, GoalStops, PointStops, IsSilent, IsOther};
 
 use crate::calls::{apply, call, give_value, make_equal};
 use crate::choices::{enter_alternatives, enter_sequence};
@@ -30,6 +30,7 @@ pub fn run_goal<S: StateStore>(
 ) -> Result<(), AllocError>
     ensures counts { Counts mode budget.old budget.new }
     ensures goes { IfOk result (λ _. (l : Loaded) → l.code ≡ code.now → PointGoes mode budget.old budget.new (world l (S.seen run.old.store) S.order (view_of run.old.arenas)) (world l (S.seen run.new.store) S.order (view_of run.new.arenas)) point run.new.now) }
+    ensures stops { IfErr result (λ _. (l : Loaded) → l.code ≡ code.now → PointStops mode budget.old budget.new (world l (S.seen run.old.store) S.order (view_of run.old.arenas)) point) }
 {
     let Some(step) = code.step_there(point.place) else {
         run.now = Now::Failing;
@@ -61,6 +62,7 @@ fn run_other<S: StateStore>(
 ) -> Result<(), AllocError>
     ensures counts { Counts mode budget.old budget.new }
     ensures goes { IfOk result (λ _. IsOther step.now.node → (l : Loaded) → l.code ≡ code.now → GoalGoes mode budget.old budget.new (world l (S.seen run.old.store) S.order (view_of run.old.arenas)) (world l (S.seen run.new.store) S.order (view_of run.new.arenas)) point step.now run.new.now) }
+    ensures stops { IfErr result (λ _. (l : Loaded) → l.code ≡ code.now → GoalStops mode budget.old budget.new (world l (S.seen run.old.store) S.order (view_of run.old.arenas)) point step.now) }
 {
     match step.node {
         Node::Apply(predicate, operands, into) => {
@@ -105,6 +107,7 @@ fn run_call<S: StateStore>(
 ) -> Result<(), AllocError>
     ensures counts { Counts mode budget.old budget.new }
     ensures goes { IfOk result (λ _. step.node ≡ Node.Call predicate operands → (l : Loaded) → l.code ≡ code.now → GoalGoes mode budget.old budget.new (world l (S.seen run.old.store) S.order (view_of run.old.arenas)) (world l (S.seen run.new.store) S.order (view_of run.new.arenas)) point step run.new.now) }
+    ensures stops { IfErr result (λ _. step.node ≡ Node.Call predicate operands → (l : Loaded) → l.code ≡ code.now → GoalStops mode budget.old budget.new (world l (S.seen run.old.store) S.order (view_of run.old.arenas)) point step) }
 {
     let Some(called) = code.predicate_there(predicate) else {
         run.now = Now::Failing;
@@ -132,6 +135,7 @@ fn run_apply<S: StateStore>(
 ) -> Result<(), AllocError>
     ensures counts { Counts mode budget.old budget.new }
     ensures goes { IfOk result (λ _. step.node ≡ Node.Apply predicate operands into → (l : Loaded) → l.code ≡ code.now → GoalGoes mode budget.old budget.new (world l (S.seen run.old.store) S.order (view_of run.old.arenas)) (world l (S.seen run.new.store) S.order (view_of run.new.arenas)) point step run.new.now) }
+    ensures stops { IfErr result (λ _. step.node ≡ Node.Apply predicate operands into → (l : Loaded) → l.code ≡ code.now → GoalStops mode budget.old budget.new (world l (S.seen run.old.store) S.order (view_of run.old.arenas)) point step) }
 {
     let Some(called) = code.predicate_there(predicate) else {
         run.now = Now::Failing;

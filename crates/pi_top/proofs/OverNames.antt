@@ -1,9 +1,7 @@
 -- What a query of the core language comes to is what its goal comes to over names.
-use Rattle.std.proofs.Common.{◌≡◌, ◌≤◌, ℕ, suc, List, [], ◌∷◌, ◌++◌, Option, map, refl, sym, ap, ◌∙◌, arith}
+use Rattle.std.proofs.Common.{◌≡◌, ℕ, suc, List, [], ◌∷◌, ◌++◌, Option, map, refl, sym, ap, ◌∙◌, arith}
 use Rattle.std.specs.List.{concat}
 use Rattle.std.proofs.lemmas.List.{map-append}
-use Rattle.pi_outside.specs.Taken.{Takes}
-use Rattle.pi_terms.specs.Tree.{Tree}
 use Rattle.pi_core.specs.CoreTree.{PredTree, QueryTree}
 use Rattle.pi_core.specs.declared.core_program.NameSlot.{NameSlot}
 use Rattle.pi_syntax.specs.ExpTree.{ExpTree}
@@ -11,9 +9,9 @@ use Rattle.pi_syntax.specs.ProgramTree.{ProgramTree}
 use Rattle.pi_traces.specs.Trace.{Done, Raise, Tick, Load, Out, Emitted, noted, answered, count_ticks}
 use Rattle.pi_traces.specs.Depth.{Cut, Stop as CutStop, Ended, Spent}
 use Rattle.pi_meaning.specs.View.{query_view}
-use Rattle.pi_meaning.specs.Run.{Solution, IsRun}
-use Rattle.pi_meaning.specs.Told.{answer_of}
-use Rattle.pi_meaning.specs.SurfaceRun.{Told, solution_told, told_answer, told_event, told_cut, IsSurfaceRun}
+use Rattle.pi_meaning.specs.Run.{Solution}
+use Rattle.pi_meaning.specs.Told.{answer_of, solution_told}
+use Rattle.pi_meaning.specs.SurfaceRun.{Told, told_event, told_cut}
 use Rattle.pi_print.specs.PrintAnswer.{answer_lines}
 use Rattle.pi_rewrite.specs.Laws.{RunsTheSame}
 use Rattle.pi_top.specs.Headline.{IsPart, Headline, HowCut, in_answer, in_line, at_memory, IsCutOff}
@@ -90,10 +88,9 @@ told-cut answers q run part ticks status before after (HowQueryIsCut.in_answer e
     (ap (told q.names) is ∙ map-append (told_event (solution_told q.names)) earlier (answered x ∷ [])) (omega (arith, asked, few)) (rw (told-prints q.names earlier) takes)
 told-cut answers q run part ticks status before after (HowQueryIsCut.in_line eight count ending ends takes) =
     in_line eight (count ∙ sym (told-ticks q.names part)) ending (told-ends q.names answers part run ending ends) (rw (told-prints q.names part) takes)
-told-cut answers q run part ticks status before after (HowQueryIsCut.at_memory nine more few takes) =
-    let count = told-ticks q.names part in
+told-cut answers q run part ticks status before after (HowQueryIsCut.at_memory nine count few takes) =
     let asked = told-answers q.names part in
-    at_memory nine (omega (arith, count, more)) (omega (arith, asked, few)) (rw (told-prints q.names part) takes)
+    at_memory nine (count ∙ sym (told-ticks q.names part)) (omega (arith, asked, few)) (rw (told-prints q.names part) takes)
 
 -- ---- what it comes to
 

@@ -19,19 +19,18 @@ use Rattle.pi_machine.specs.declared.happening.Mode.{Mode}
 use Rattle.pi_machine.specs.Budget.{Counts, IsWithin}
 use Rattle.pi_machine.specs.Built.{IsRunnable}
 use Rattle.pi_stands.specs.Goes.{counted}
-use Rattle.pi_engine.specs.Turns.{IsRunning}
 use Rattle.pi_machine.specs.Next.{some_ticks}
-use Rattle.pi_engine.specs.Runs.{MachineView, RunsTo}
+use Rattle.pi_engine.specs.Seen.{MachineView, mode_of, GoesOn}
+use Rattle.pi_engine.specs.Runs.{RunsTo}
 use Rattle.pi_engine.specs.Happens.{HappensByTicks}
-use Rattle.pi_machine.proofs.RunLaws.{run-prefix}
 use Rattle.pi_top.specs.declared.outcome.QueryRun.{QueryRun}
 use Rattle.pi_top.specs.declared.query.Stop.{Stop}
 use Rattle.pi_top.specs.declared.query.Stop.TheVariants.{Write, Memory}
 use Rattle.pi_top.specs.Ends.{status_of_stop}
 use Rattle.pi_top.specs.Runs.{run_of}
 use Rattle.pi_top.specs.Prefix.{TakesFront}
-use Rattle.pi_top.specs.QueryEnd.{QueryEnd, Stopped, NoMore, No, Exception, StepsSpent, line_of, count_answers, IsWhole, Ends}
-use Rattle.pi_top.specs.Running.{print_solutions, IsQueryPart, QueryIsCut, in_answer, in_line, at_memory, IsAtStart, IsWritten, ComesTo, IsListed, HasRun, was_asked}
+use Rattle.pi_top.specs.QueryEnd.{QueryEnd, Stopped, NoMore, No, Exception, StepsSpent, count_answers, IsWhole, Ends}
+use Rattle.pi_top.specs.Running.{print_solutions, IsQueryPart, QueryIsCut, in_answer, in_line, at_memory, IsAtStart, IsWritten, ComesTo, HasRun, was_asked}
 use Rattle.pi_top.specs.Writing.{IsCutIn, WritesLine, WritesNothing, WritesEnd}
 use Rattle.pi_top.proofs.EventLemmas.{behind-ticks, ticks-behind, answers-behind, turn, print-turn, ticks-turn, answers-turn, last-turn}
 use Rattle.pi_top.proofs.Fronts.{prefix-all, front-then}
@@ -40,9 +39,9 @@ use Rattle.pi_top.proofs.Fronts.{prefix-all, front-then}
 
 -- the budget after a call of `next`, on a machine that counts Ticks
 pub record Called {M : Type 0} (m n : MachineView M) (b c : Budget) : Type 0 where
-  pub counts : Counts m.mode b c
+  pub counts : Counts (mode_of m) b c
   pub within : IsWithin b → IsWithin c
-  pub mode : n.mode ≡ m.mode
+  pub mode : mode_of n ≡ mode_of m
 
 counted-ticks : (mode : Mode) (b c : Budget) → mode ≡ Mode.Top → b.ticks ≤ c.ticks → b.ticks + counted mode b c ≡ c.ticks
 counted-ticks Mode.Top b c top more = omega (arith, more)
@@ -65,7 +64,7 @@ written-start m b answers program q taken is = record {
 
 -- after an answer whose lines were written
 pub written-answer : {M : Type 0} (m n : MachineView M) (b c : Budget) (given : ℕ) (program : List PredTree) (q : QueryTree) (a : Answer) (before between after : Option (List ℕ)) →
-    (w : IsWritten m b given program q before between) → Called m n b c → HappensByTicks (query_view []) program q w.events m n b c (Happening.Answer a) → IsRunning n.now →
+    (w : IsWritten m b given program q before between) → Called m n b c → HappensByTicks (query_view []) program q w.events m n b c (Happening.Answer a) → GoesOn n →
     Takes between (concat (answer_lines a)) after → IsWritten n c (given + 1) program q before after
 written-answer m n b c given program q a before between after w called happens running takes =
     let k : ℕ = counted m.mode b c in
@@ -94,8 +93,18 @@ prefix-of m program q events steps run runs is few =
     let left : ℕ = steps - count_ticks events in
     let same : steps ≡ count_ticks events + left = omega (arith, few) in
     let split : (rest : Cut Solution) × (run ≡ with_events events rest) =
-    run-prefix (query_view []) program q events runs.config left run runs.leads (subst (λ n. IsRun program q [] n run) same is) in
+    runs.begins left run (subst (λ n. IsRun program q [] n run) same is) in
     record { is_run = is; begins = record { rest = split.0.events; whole_is = ap (λ (r : Cut Solution). r.events) split.1 } }
+
+-- a part without its last events
+earlier-part : (program : List PredTree) (q : QueryTree) (steps : ℕ) (run : Cut Solution) (front more last : List (Emitted Solution)) → IsQueryPart program q steps run (front ++ (more ++ last)) → IsQueryPart program q steps run (front ++ more)
+earlier-part program q steps run front more last part = record {
+  is_run = part.is_run;
+  begins = record {
+    rest = last ++ part.begins.rest;
+    whole_is = part.begins.whole_is ∙ ap (λ es. es ++ part.begins.rest) (sym (append_assoc front more last)) ∙ append_assoc (front ++ more) last part.begins.rest;
+  };
+}
 
 -- the run that the query has, of which the events so far are a part
 pub record HasPart (program : List PredTree) (q : QueryTree) (steps : ℕ) (events : List (Emitted Solution)) : Type 0 where
@@ -158,7 +167,7 @@ comes-line answers steps program q events run ending ticks before between after 
 comes-line answers steps program q events run ending ticks before between after (Err Write) part ends few count takes line =
     record { run = run; part = events; is_part = part; how = in_line refl count ending ends (front-then takes line.writes.cut) }
 comes-line answers steps program q events run ending ticks before between after (Err Memory) part ends few count takes line =
-    record { run = run; part = events; is_part = part; how = at_memory refl (omega (arith, count)) few (rw append-nil at (Takes-then takes line.writes.cut)) }
+    record { run = run; part = events; is_part = part; how = at_memory refl count few (rw append-nil at (Takes-then takes line.writes.cut)) }
 
 -- as many answers were written as are asked for
 pub comes-stopped : {M : Type 0} (m : MachineView M) (b : Budget) (answers steps : ℕ) (program : List PredTree) (q : QueryTree) (before between after : Option (List ℕ)) (r : Result ℕ Stop) →
@@ -194,29 +203,28 @@ comes-cut m n b c answers given steps program q a before between after Write run
           (subst (λ (t : Answer). TakesFront before (print_solutions q.names earlier) (concat (answer_lines t)) after) happens.1 (front-then written takes));
     }
 comes-cut m n b c answers given steps program q a before between after Memory runnable w called less same happens nothing =
-    let few : count_ticks w.events ≤ steps = omega (arith, w.ticks, w.within.ticks, called.counts.steps, same) in
-    let has : HasPart program q steps w.events = has-part m program q w.events steps runnable w.runs few in
+    let k : ℕ = counted m.mode b c in
+    let earlier : List (Emitted Solution) = w.events ++ some_ticks k in
+    let tail : IsTail w.events k given c.ticks q.names = tail-of m n b c given program q before between w called in
+    let ticks : count_ticks (w.events ++ turn k happens.0) ≡ count_ticks w.events + k = ticks-turn w.events k happens.0 in
+    let few : count_ticks (w.events ++ turn k happens.0) ≤ steps = omega (arith, ticks, tail.so_many, (called.within w.within).ticks, same) in
+    let has : HasPart program q steps (w.events ++ turn k happens.0) = has-part n program q (w.events ++ turn k happens.0) steps runnable happens.2 few in
     record {
       run = has.run;
-      part = w.events;
-      is_part = has.is_part;
-      how = at_memory refl (omega (arith, w.ticks, called.counts.ticks)) (omega (arith, w.answers, less)) (rw append-nil at (Takes-then w.written nothing));
+      part = earlier;
+      is_part = earlier-part program q steps has.run w.events (some_ticks k) (answered happens.0 ∷ []) has.is_part;
+      how = at_memory refl tail.ticks (omega (arith, tail.answers, less)) (rw tail.printed (rw append-nil at (Takes-then w.written nothing)));
     }
 
--- memory is wanted behind the answers
-comes-nothing : {M : Type 0} (m : MachineView M) (b : Budget) (answers given steps : ℕ) (program : List PredTree) (q : QueryTree) (ticks : ℕ) (before between after : Option (List ℕ)) (r : Result ℕ Stop) →
-    IsRunnable program q → IsWritten m b given program q before between → given < answers → b.steps ≡ steps → b.ticks ≤ ticks → WritesNothing between after r → ComesTo answers steps program q ticks before after r
-comes-nothing m b answers given steps program q ticks before between after (Ok status) runnable w less same more nothing = absurd nothing.stops
-comes-nothing m b answers given steps program q ticks before between after (Err Write) runnable w less same more nothing = let memory : Write ≡ Memory = nothing.memory in absurd (cc)
-comes-nothing m b answers given steps program q ticks before between after (Err Memory) runnable w less same more nothing =
-    let few : count_ticks w.events ≤ steps = omega (arith, w.ticks, w.within.ticks, same) in
-    let has : HasPart program q steps w.events = has-part m program q w.events steps runnable w.runs few in
-    record {
-      run = has.run;
-      part = w.events;
-      is_part = has.is_part;
-      how = at_memory refl (omega (arith, w.ticks, more)) (omega (arith, w.answers, less)) (rw append-nil at (Takes-then w.written nothing.nothing));
-    }
+-- memory is wanted behind these events
+comes-nothing : {M : Type 0} (n : MachineView M) (events : List (Emitted Solution)) (answers steps : ℕ) (program : List PredTree) (q : QueryTree) (ticks : ℕ) (before between after : Option (List ℕ)) (r : Result ℕ Stop) →
+    IsRunnable program q → RunsTo (query_view []) n program q events → ticks ≡ count_ticks events → ticks ≤ steps → count_answers events ≤ answers → Takes before (print_solutions q.names events) between → WritesNothing between after r →
+    ComesTo answers steps program q ticks before after r
+comes-nothing n events answers steps program q ticks before between after (Ok status) runnable runs count few asked takes nothing = absurd nothing.stops
+comes-nothing n events answers steps program q ticks before between after (Err Write) runnable runs count few asked takes nothing = let memory : Write ≡ Memory = nothing.memory in absurd (cc)
+comes-nothing n events answers steps program q ticks before between after (Err Memory) runnable runs count few asked takes nothing =
+    let has : HasPart program q steps events = has-part n program q events steps runnable runs (omega (arith, count, few)) in
+    record { run = has.run; part = events; is_part = has.is_part; how = at_memory refl count asked (rw append-nil at (Takes-then takes nothing.nothing)) }
 
 -- a machine's end, behind so many answers
 pub comes-end : {M : Type 0} (m n : MachineView M) (b c : Budget) (answers given steps : ℕ) (program : List PredTree) (q : QueryTree) (happening : Happening) (has : Bool)
@@ -229,7 +237,10 @@ comes-end m n b c answers given steps program q (Happening.NeedPlan call) has be
 comes-end m n b c answers given steps program q Happening.WorkSpent has before between after r runnable w called less same has_some has_none not_answer happens writes =
     absurd (not-inner n.mode (called.mode ∙ w.counts_ticks) happens.2)
 comes-end m n b c answers given steps program q Happening.Memory has before between after r runnable w called less same has_some has_none not_answer happens writes =
-    comes-nothing m b answers given steps program q c.ticks before between after r runnable w less (sym called.counts.steps ∙ same) called.counts.ticks writes
+    let k : ℕ = counted m.mode b c in
+    let tail : IsTail w.events k given c.ticks q.names = tail-of m n b c given program q before between w called in
+    comes-nothing n (w.events ++ some_ticks k) answers steps program q c.ticks before between after r runnable happens tail.ticks (omega (arith, (called.within w.within).ticks, same)) (omega (arith, tail.answers, less))
+    (rw tail.printed w.written) writes
 comes-end m n b c answers given steps program q Happening.Done true before between after r runnable w called less same has_some has_none not_answer happens writes =
     let k : ℕ = counted m.mode b c in
     let tail : IsTail w.events k given c.ticks q.names = tail-of m n b c given program q before between w called in

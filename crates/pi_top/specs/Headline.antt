@@ -32,14 +32,14 @@ pub record Headline (answers steps : ℕ) (program : ProgramTree) (goal : ExpTre
   pub its_status : status ≡ status_of ending
   pub written : bytes ≡ print part ++ line_of ending
 
--- Where it was cut off behind a part of the run: a write of the lines of its last answer failed, or that of the line of its end; or
--- memory was wanted with fewer answers than are asked for, behind Ticks that may be more than those of the part.
+-- Where it was cut off behind a part of the run, with so many Ticks in it: a write of the lines of its last answer failed, or that of
+-- the line of its end; or memory was wanted with fewer answers than are asked for.
 pub data HowCut (answers : ℕ) (run : Cut Told) (part : List (Emitted Told)) (ticks status : ℕ) (before after : Option (List ℕ)) : Type 0 where
   in_answer : status ≡ 8 → ticks ≡ count_ticks part → (earlier : List (Emitted Told)) (x : Told) → part ≡ earlier ++ answered x ∷ [] → count_answers part ≤ answers →
       TakesFront before (print earlier) (concat (answer_lines (told_answer x))) after → HowCut answers run part ticks status before after
   in_line : status ≡ 8 → ticks ≡ count_ticks part → (ending : QueryEnd) → Ends answers part run ending → TakesFront before (print part) (line_of ending) after →
       HowCut answers run part ticks status before after
-  at_memory : status ≡ 9 → count_ticks part ≤ ticks → count_answers part ≤ answers → Takes before (print part) after → HowCut answers run part ticks status before after
+  at_memory : status ≡ 9 → ticks ≡ count_ticks part → count_answers part ≤ answers → Takes before (print part) after → HowCut answers run part ticks status before after
 
 pub record IsCutOff (answers steps : ℕ) (program : ProgramTree) (goal : ExpTree) (log : List LogEntry) (ticks status : ℕ) (before after : Option (List ℕ)) : Type 0 where
   pub run : Cut Told

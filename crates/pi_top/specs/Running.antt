@@ -15,8 +15,8 @@ use Rattle.pi_machine.specs.declared.happening.Budget.{Budget}
 use Rattle.pi_machine.specs.declared.happening.Mode.{Mode}
 use Rattle.pi_machine.specs.Budget.{IsWithin}
 use Rattle.pi_machine.specs.Built.{IsRunnable}
-use Rattle.pi_engine.specs.Runs.{MachineView, RunsTo}
-use Rattle.pi_engine.specs.Turns.{IsRunning}
+use Rattle.pi_engine.specs.Seen.{MachineView, mode_of, GoesOn}
+use Rattle.pi_engine.specs.Runs.{RunsTo}
 use Rattle.pi_top.specs.declared.outcome.QueryRun.{QueryRun}
 use Rattle.pi_top.specs.declared.query.Stop.{Stop}
 use Rattle.pi_top.specs.declared.query.Stop.TheVariants.{Memory}
@@ -56,7 +56,7 @@ pub data HowQueryIsCut (answers : ℕ) (q : QueryTree) (run : Cut Solution) (par
       TakesFront before (print_solutions q.names earlier) (concat (answer_lines (answer_of q.names x))) after → HowQueryIsCut answers q run part ticks status before after
   in_line : status ≡ 8 → ticks ≡ count_ticks part → (ending : QueryEnd) → Ends answers part run ending → TakesFront before (print_solutions q.names part) (line_of ending) after →
       HowQueryIsCut answers q run part ticks status before after
-  at_memory : status ≡ 9 → count_ticks part ≤ ticks → count_answers part ≤ answers → Takes before (print_solutions q.names part) after →
+  at_memory : status ≡ 9 → ticks ≡ count_ticks part → count_answers part ≤ answers → Takes before (print_solutions q.names part) after →
       HowQueryIsCut answers q run part ticks status before after
 
 pub record QueryIsCut (answers steps : ℕ) (program : List PredTree) (q : QueryTree) (ticks status : ℕ) (before after : Option (List ℕ)) : Type 0 where
@@ -71,8 +71,8 @@ pub record QueryIsCut (answers steps : ℕ) (program : List PredTree) (q : Query
 pub record IsAtStart {M : Type 0} (m : MachineView M) (b : Budget) (answers : ℕ) (program : List PredTree) (q : QueryTree) : Type 0 where
   pub runnable : IsRunnable program q
   pub runs : RunsTo (query_view []) m program q []
-  pub counts_ticks : m.mode ≡ Mode.Top
-  pub running : IsRunning m.now
+  pub counts_ticks : mode_of m ≡ Mode.Top
+  pub running : GoesOn m
   pub unspent : b.ticks ≡ 0
   pub workless : b.work ≡ no_work
   pub within : IsWithin b
@@ -82,8 +82,8 @@ pub record IsAtStart {M : Type 0} (m : MachineView M) (b : Budget) (answers : �
 pub record IsWritten {M : Type 0} (m : MachineView M) (b : Budget) (given : ℕ) (program : List PredTree) (q : QueryTree) (before after : Option (List ℕ)) : Type 0 where
   pub events : List (Emitted Solution)
   pub runs : RunsTo (query_view []) m program q events
-  pub counts_ticks : m.mode ≡ Mode.Top
-  pub running : IsRunning m.now
+  pub counts_ticks : mode_of m ≡ Mode.Top
+  pub running : GoesOn m
   pub answers : count_answers events ≡ given
   pub last : 0 < given → EndsWithLast given events
   pub ticks : b.ticks ≡ count_ticks events

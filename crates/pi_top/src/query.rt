@@ -8,7 +8,7 @@ ghost use Rattle.pi_states.specs.State.{empty_state};
 ghost use Rattle.pi_machine.specs.Budget.{IsWithin};
 ghost use Rattle.pi_machine.specs.declared.happening.Mode.{Mode};
 ghost use Rattle.pi_machine.specs.Built.{IsRunnable};
-ghost use Rattle.pi_engine.specs.Runs.{machine_view};
+ghost use Rattle.pi_engine.specs.Seen.{machine_view, mode_of};
 ghost use Rattle.pi_top.specs.declared.query.Stop.TheVariants.{Memory, Write};
 ghost use Rattle.pi_top.specs.Faults.{TellsWrites};
 ghost use Rattle.pi_top.specs.QueryEnd.{Exception, line_of};
@@ -115,7 +115,7 @@ fn write_answers<S: StateStore, O: Sink>(
     ensures status { IfOk result IsRun }
     ensures within { IsWithin budget.old → IsWithin budget.new }
     ensures steps { budget.new.steps ≡ budget.old.steps }
-    ensures work { (machine_view S.seen S.order machine.old).mode ≡ Mode.Top → budget.new.work ≡ budget.old.work }
+    ensures work { mode_of (machine_view S.seen S.order machine.old) ≡ Mode.Top → budget.new.work ≡ budget.old.work }
     ensures comes { (program : List PredTree) (q : QueryTree) → IsAtStart (machine_view S.seen S.order machine.old) budget.old answers program q → ComesTo answers budget.old.steps program q budget.new.ticks (O.taken out.old) (O.taken out.new) result }
 {
     for given in 0..answers {

@@ -1,6 +1,6 @@
 //! Laws of the core meaning, and of the meaning over names.
 ghost use Rattle.pi_meaning.specs.MeaningLaws.{GoalsDoMore, LevelsAreOrdered, LevelsAscend, QuietCallsStayAbove, QuietCallsKeepTheDepth, QuietCallsNestFreely, QueriesDoMore, WholeTracesStay, RunIsOne, DeeperRunsAreTheRun, DepthReachesTicks, EachQueryRuns, SoundQueriesRun, RunsKeepStates};
-ghost use Rattle.pi_meaning.specs.SurfaceLaws.{SurfaceDoesMore, SurfaceRunsAreOne, SurfaceRunsReach, SameRulesRunTheSame};
+ghost use Rattle.pi_meaning.specs.SurfaceLaws.{SurfaceDoesMore, SurfaceRunsAreOne, SurfaceRunsReach, SameRulesRunTheSame, RulesAreChosenAsInTheCore};
 
 /// A goal does the same and maybe more where calls do, which is reflexive and transitive, and calls do so at each greater
 /// depth. A quiet call leads to a level that is still above that of one depth less, and takes nothing from the depth.
@@ -42,10 +42,12 @@ pub fn runs_keep_states()
 {}
 
 /// The trace of a goal over names only grows with the depth. So a goal has one run at most for each program, view and number
-/// of Ticks, and it has one where some depth reaches to the cut. Programs with the same rules do the same.
+/// of Ticks, and it has one where some depth reaches to the cut. Programs with the same rules do the same. The rules behind one
+/// that applies are left or not as in the core meaning.
 pub fn runs_over_names_are_one()
     ensures deeper { SurfaceDoesMore }
     ensures one { SurfaceRunsAreOne }
     ensures reached { SurfaceRunsReach }
     ensures rules { SameRulesRunTheSame }
+    ensures choice { RulesAreChosenAsInTheCore }
 {}

@@ -1,8 +1,5 @@
-use Rattle.pi_engine.proofs.RunsTold.{count-added, done-ends, raised-ends, runs-begin}
+use Rattle.pi_engine.proofs.RunsTold.{count-added, done-ends, raised-ends}
 use Rattle.pi_engine.proofs.laws.machines_run.Goals as goal
-
-pub returns-clause-begin : goal.returns-clause-begin
-returns-clause-begin g c = runs-begin
 
 pub returns-clause-done : goal.returns-clause-done
 returns-clause-done g c = done-ends

@@ -1,9 +1,12 @@
-use Rattle.std.proofs.Common.{◌∙◌, refl, ap, subst}
+use Rattle.std.proofs.Common.{◌∙◌, refl, sym, ap, subst}
+use Rattle.pi_arenas.specs.declared.run.End.{End}
+use Rattle.pi_arenas.specs.declared.run.Now.{Now}
 use Rattle.pi_arenas.specs.Arenas.{view_of}
 use Rattle.pi_stands.specs.Stands.{world}
 use Rattle.pi_machine.proofs.BudgetLemmas.{counts_none, counts_then}
+use Rattle.pi_engine.specs.Happens.{IsBuiltSoFar}
 use Rattle.pi_engine.specs.Turns.{StepIs, RunsAfter}
-use Rattle.pi_engine.proofs.NextTurns.{running-of, built-ended, no-turns, one-turn, end-comes, answer-comes}
+use Rattle.pi_engine.proofs.NextTurns.{running-of, lasts-memory, built-ended, no-turns, one-turn, end-comes, memory-comes, answer-comes}
 use Rattle.pi_engine.proofs.turns.next_happening.Goals as goal
 
 pub loop-turn-init : goal.loop-turn-init
@@ -62,3 +65,32 @@ returns-in-Answered g c =
       built = tt;
       lasts = subst (λ o. RunsAfter o next.now) c.in-Answered.is c.in-Ok-step.ensures.answered;
     }
+
+pub returns-in_default-step : goal.returns-in_default-step
+returns-in_default-step g c =
+    let first = c.args.run.now in
+    let here = c.loop-turn.run in
+    let before = c.loop-turn.invariant in
+    let wanted = c.memory_wanted-in_default-step in
+    let ended = ap (λ r. r.now) wanted.ensures.stopped in
+    record {
+      counts = counts_then c.args.mode c.args.budget.now c.loop-turn.budget c.step.new.budget before.counts c.step.ensures.counts;
+      comes = λ l is_code are v d is.
+          (let it = before.turns l is_code are v d is in
+          let w = world l (g.S.StateStore.seen here.store) g.S.StateStore.order (view_of here.arenas) in
+          memory-comes v c.args.names.now c.args.mode c.args.budget.now c.step.new.budget w (world l (g.S.StateStore.seen wanted.new.run.store) g.S.StateStore.order (view_of wanted.new.run.arenas)) first.now (Now.Ended End.Memory)
+          wanted.new.run.now wanted.result d refl ended wanted.ensures.result
+          (one-turn v c.args.names.now c.args.mode c.args.budget.now c.loop-turn.budget c.step.new.budget (world l (g.S.StateStore.seen first.store) g.S.StateStore.order (view_of first.arenas)) w w first.now here.now (Now.Ended End.Memory) d
+          refl refl before.counts c.step.ensures.counts is it (c.in_default-step.ensures.stops (running-of here.now c.in_default.not-Ended) l is_code v it.goes.comes)));
+      repeats = λ e at. absurd (c.in_default.not-Ended e (ap (λ r. r.now) (before.still e at).0 ∙ at));
+      built = subst IsBuiltSoFar (sym wanted.ensures.result) tt;
+      lasts = lasts-memory wanted.new.run.now wanted.result ended wanted.ensures.result;
+    }
+
+pub returns-clause-comes : goal.returns-clause-comes
+returns-clause-comes g c = λ l is_code are v d is.
+    let here = c.loop-turn.run in
+    let wanted = c.memory_wanted-2 in
+    memory-comes v c.args.names.now c.args.mode c.args.budget.now c.loop-turn.budget (world l (g.S.StateStore.seen here.store) g.S.StateStore.order (view_of here.arenas))
+    (world l (g.S.StateStore.seen wanted.new.run.store) g.S.StateStore.order (view_of wanted.new.run.arenas)) c.args.run.now.now here.now wanted.new.run.now wanted.result d refl (ap (λ r. r.now) wanted.ensures.stopped) wanted.ensures.result
+    (c.loop-turn.invariant.turns l is_code are v d is)

@@ -4,7 +4,8 @@ use Rattle.pi_arenas.specs.Arenas.{view_of}
 use Rattle.pi_stands.specs.Goes.{IsAt, IsIn}
 use Rattle.pi_stands.specs.Stands.{World, Stands, world}
 use Rattle.pi_engine.specs.Turns.{IsRunning}
-use Rattle.pi_engine.proofs.TurnsGo.{ticks-is, fails-is, raises-is}
+use Rattle.pi_stands.proofs.StopsGo.{so-at-err}
+use Rattle.pi_engine.proofs.TurnsGo.{stops-there, ticks-is, fails-is, raises-is}
 use Rattle.pi_engine.proofs.turns.step.Goals as goal
 
 pub returns-then-point-eq0-clause-is : goal.returns-then-point-eq0-clause-is
@@ -42,3 +43,18 @@ returns-in_ok-unwind-in-Raising-clause-is g c = λ running l is_code are v d is.
 
 pub returns-in-Ended-clause-is : goal.returns-in-Ended-clause-is
 returns-in-Ended-clause-is g c = λ running l is_code are v d is. absurd (subst IsRunning c.in-Ended.is running)
+
+pub returns-in_err-outcome-in-Going-clause-stops : goal.returns-in_err-outcome-in-Going-clause-stops
+returns-in_err-outcome-in-Going-clause-stops g c = so-at-err _ c.from_residual.result (λ running l is_code v d is.
+    let run = c.args.run.now in
+    stops-there v c.args.names.now c.args.mode c.args.budget.now (world l (g.S.StateStore.seen run.store) g.S.StateStore.order (view_of run.arenas)) d is.good)
+
+pub returns-in_err-fail-in-Failing-clause-stops : goal.returns-in_err-fail-in-Failing-clause-stops
+returns-in_err-fail-in-Failing-clause-stops g c = so-at-err _ c.from_residual-in_err-fail-in-Failing.result (λ running l is_code v d is.
+    let run = c.args.run.now in
+    stops-there v c.args.names.now c.args.mode c.args.budget.now (world l (g.S.StateStore.seen run.store) g.S.StateStore.order (view_of run.arenas)) d is.good)
+
+pub returns-in_err-unwind-in-Raising-clause-stops : goal.returns-in_err-unwind-in-Raising-clause-stops
+returns-in_err-unwind-in-Raising-clause-stops g c = so-at-err _ c.from_residual-in_err-unwind-in-Raising.result (λ running l is_code v d is.
+    let run = c.args.run.now in
+    stops-there v c.args.names.now c.args.mode c.args.budget.now (world l (g.S.StateStore.seen run.store) g.S.StateStore.order (view_of run.arenas)) d is.good)

@@ -4,6 +4,7 @@ use Rattle.pi_arenas.specs.Arenas.{view_of}
 use Rattle.pi_stands.specs.Stands.{World, world}
 use Rattle.pi_stands.specs.Goes.{TicksUnless}
 use Rattle.pi_stands.proofs.GoalsGo.{apply-there, apply-found, no-predicate, call-counted, call-refused}
+use Rattle.pi_stands.proofs.StopsGo.{so-at-err, call-stops}
 use Rattle.pi_stands.proofs.RulesTried.{IsFound, found-there}
 use Rattle.pi_steps.proofs.goals.run_apply.Goals as goal
 
@@ -38,3 +39,14 @@ returns-clause-goes g c = λ node l is_code v names d is.
     (apply-there w c.args.point c.args.step d v names c.args.predicate c.args.operands c.args.into called is node known)
     (c.in_ok-apply.ensures c.args.into node l is_code at)
     (subst (TicksUnless called.is_quiet c.args.mode c.args.budget.now c.tick_call.new.budget run.now c.tick_call.new.now) c.if-not-tick_call.false c.tick_call.ensures.ticks)
+
+pub returns-in_err-apply-clause-stops : goal.returns-in_err-apply-clause-stops
+returns-in_err-apply-clause-stops g c = so-at-err _ c.from_residual.result (λ node l is_code v names d is.
+    let run = c.args.run.now in
+    let w : World _ = world l (g.S.StateStore.seen run.store) g.S.StateStore.order (view_of run.arenas) in
+    let called = c.in-Some.called.now in
+    let at : slice_get c.args.code.now.predicates.items c.args.predicate ≡ Some called = sym c.predicate_there.ensures ∙ ap option_copied c.in-Some.is in
+    let known : IsFound w c.args.predicate called = found-there w c.args.predicate called (ap (λ r. slice_get r.predicates.items c.args.predicate) is_code ∙ at) in
+    call-stops w c.args.point c.args.step d v names called.is_quiet c.args.mode c.args.budget.now c.tick_call.new.budget run.now c.tick_call.new.now is
+    (apply-there w c.args.point c.args.step d v names c.args.predicate c.args.operands c.args.into called is node known)
+    (subst (TicksUnless called.is_quiet c.args.mode c.args.budget.now c.tick_call.new.budget run.now c.tick_call.new.now) c.if-not-tick_call.false c.tick_call.ensures.ticks))

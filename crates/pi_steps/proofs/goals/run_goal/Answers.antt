@@ -5,6 +5,7 @@ use Rattle.pi_stands.specs.Goes.{IsSilent}
 use Rattle.pi_stands.specs.Stands.{World, world}
 use Rattle.pi_stands.proofs.GoalsGo.{runs-silent}
 use Rattle.pi_stands.proofs.PointsDone.{at-step, no-step, other-node}
+use Rattle.pi_stands.proofs.StopsGo.{so-at-err, point-stops}
 use Rattle.pi_steps.proofs.goals.run_goal.Goals as goal
 
 pub returns-in_default-clause-goes : goal.returns-in_default-clause-goes
@@ -70,3 +71,24 @@ returns-in_ok-run_other-in_default-node-clause-goes g c = λ l is_code v names d
     let found : slice_get c.args.code.now.steps.items c.args.point.place ≡ Some s = sym c.step_there.ensures ∙ ap option_copied c.in-Some.is in
     c.in_ok-run_other-in_default-node.ensures.goes (other-node s.node c.in_default-node.not-True c.in_default-node.not-Fail c.in_default-node.not-Tick c.in_default-node.not-Seq c.in_default-node.not-Call) l is_code v names d
     (at-step w c.args.point c.args.code.now s d is_code found some stands good rules)
+
+pub returns-in_err-run_call-in-Call-clause-stops : goal.returns-in_err-run_call-in-Call-clause-stops
+returns-in_err-run_call-in-Call-clause-stops g c = so-at-err _ c.from_residual.result (λ l is_code v names d some stands good rules.
+    let run = c.args.run.now in
+    let w : World _ = world l (g.S.StateStore.seen run.store) g.S.StateStore.order (view_of run.arenas) in
+    let s = c.in-Some.step.now in
+    let found : slice_get c.args.code.now.steps.items c.args.point.place ≡ Some s = sym c.step_there.ensures ∙ ap option_copied c.in-Some.is in
+    c.in_err-run_call-in-Call.ensures.stops c.in-Call.is l is_code v names d (at-step w c.args.point c.args.code.now s d is_code found some stands good rules))
+
+pub returns-in_err-enter_sequence-in-Seq-clause-stops : goal.returns-in_err-enter_sequence-in-Seq-clause-stops
+returns-in_err-enter_sequence-in-Seq-clause-stops g c = so-at-err _ c.from_residual-in_err-enter_sequence-in-Seq.result (λ l is_code.
+    let run = c.args.run.now in
+    point-stops (world l (g.S.StateStore.seen run.store) g.S.StateStore.order (view_of run.arenas)) c.args.point c.args.mode c.args.budget.now)
+
+pub returns-in_err-run_other-in_default-node-clause-stops : goal.returns-in_err-run_other-in_default-node-clause-stops
+returns-in_err-run_other-in_default-node-clause-stops g c = so-at-err _ c.from_residual-in_err-run_other-in_default-node.result (λ l is_code v names d some stands good rules.
+    let run = c.args.run.now in
+    let w : World _ = world l (g.S.StateStore.seen run.store) g.S.StateStore.order (view_of run.arenas) in
+    let s = c.in-Some.step.now in
+    let found : slice_get c.args.code.now.steps.items c.args.point.place ≡ Some s = sym c.step_there.ensures ∙ ap option_copied c.in-Some.is in
+    c.in_err-run_other-in_default-node.ensures.stops l is_code v names d (at-step w c.args.point c.args.code.now s d is_code found some stands good rules))

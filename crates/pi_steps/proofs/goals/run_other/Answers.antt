@@ -4,6 +4,7 @@ use Rattle.pi_stands.specs.Stands.{World, world}
 use Rattle.pi_stands.specs.Goes.{IsSilent}
 use Rattle.pi_stands.proofs.GoalsGo.{runs-silent}
 use Rattle.pi_stands.proofs.PointsDone.{silent-node, value-goes}
+use Rattle.pi_stands.proofs.StopsGo.{so-at-err, goal-stops}
 use Rattle.pi_steps.proofs.goals.run_other.Goals as goal
 
 pub returns-in_ok-run_apply-in-Apply-clause-goes : goal.returns-in_ok-run_apply-in-Apply-clause-goes
@@ -26,3 +27,16 @@ returns-in_ok-run_silent-in_default-clause-goes g c = λ other l is_code v names
     let s = c.args.step.now in
     let silent : IsSilent s.node = silent-node s.node other c.in_default.not-Apply c.in_default.not-Value in
     runs-silent w after c.args.point s end.now c.args.mode c.args.budget.now refl silent (c.in_ok-run_silent-in_default.ensures l is_code other silent) v names d at
+
+pub returns-in_err-run_apply-in-Apply-clause-stops : goal.returns-in_err-run_apply-in-Apply-clause-stops
+returns-in_err-run_apply-in-Apply-clause-stops g c = so-at-err _ c.from_residual.result (λ l is_code. c.in_err-run_apply-in-Apply.ensures.stops c.in-Apply.is l is_code)
+
+pub returns-in_err-give_value-in-Value-clause-stops : goal.returns-in_err-give_value-in-Value-clause-stops
+returns-in_err-give_value-in-Value-clause-stops g c = so-at-err _ c.from_residual-in_err-give_value-in-Value.result (λ l is_code.
+    let run = c.args.run.now in
+    goal-stops (world l (g.S.StateStore.seen run.store) g.S.StateStore.order (view_of run.arenas)) c.args.point c.args.step.now c.args.mode c.args.budget.now)
+
+pub returns-in_err-run_silent-in_default-clause-stops : goal.returns-in_err-run_silent-in_default-clause-stops
+returns-in_err-run_silent-in_default-clause-stops g c = so-at-err _ c.from_residual-in_err-run_silent-in_default.result (λ l is_code.
+    let run = c.args.run.now in
+    goal-stops (world l (g.S.StateStore.seen run.store) g.S.StateStore.order (view_of run.arenas)) c.args.point c.args.step.now c.args.mode c.args.budget.now)

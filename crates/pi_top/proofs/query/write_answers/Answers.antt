@@ -2,7 +2,7 @@ use Rattle.std.proofs.Common.{◌≡◌, [], refl, subst, ◌∙◌, arith}
 use Rattle.std.proofs.lemmas.Bool.Decides.{nat_tests}
 use Rattle.std.proofs.lemmas.Result.{err_from_is_err_and}
 use Rattle.pi_meaning.specs.View.{query_view}
-use Rattle.pi_engine.specs.Runs.{machine_view}
+use Rattle.pi_engine.specs.Seen.{machine_view}
 use Rattle.pi_top.specs.Running.{IsWritten}
 use Rattle.pi_top.proofs.QueryRuns.{Called, written-start, written-answer, comes-stopped, comes-cut, comes-end}
 use Rattle.pi_top.proofs.query.write_answers.Goals as goal

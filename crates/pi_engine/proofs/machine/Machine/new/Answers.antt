@@ -1,7 +1,7 @@
 use Rattle.std.proofs.Common.{refl, sym, ◌∙◌, ap, subst}
 use Rattle.pi_core.specs.CoreTree.{program_tree, query_tree}
 use Rattle.pi_arenas.specs.Arenas.{view_of}
-use Rattle.pi_engine.proofs.RunsTold.{new-runs}
+use Rattle.pi_engine.proofs.RunsTold.{goes-on-in, new-runs}
 use Rattle.pi_states.specs.Store.{Stays}
 use Rattle.pi_engine.proofs.RunBegins.{undone-stays}
 use Rattle.pi_engine.proofs.machine.Machine.new.Goals as goal
@@ -11,6 +11,9 @@ returns-in-Ok-begin-clause-runs g c = λ empty sound rules v view.
     new-runs v (record { code = c.in-Ok-begin.code; names = c.args.query.names; mode = c.args.mode; store = g.S.StateStore.seen c.begin.new.run.store; order = g.S.StateStore.order; arenas = view_of c.begin.new.run.arenas; now = c.begin.new.run.now })
     (program_tree c.args.core.now) (query_tree c.args.query) view refl sound rules
     (c.in-Ok-begin.ensures.begins c.args.query.names (c.in-Ok.ensures.ok.stays.state ∙ ap (λ s. (g.S.StateStore.seen s).now.state) c.new-run.ensures.store ∙ empty) c.new-run.ensures.arenas sound)
+
+pub returns-in-Ok-begin-clause-running : goal.returns-in-Ok-begin-clause-running
+returns-in-Ok-begin-clause-running g c = goes-on-in c.begin.new.run.now c.in-Ok-begin.ensures.running
 
 pub returns-clause-err : goal.returns-clause-err
 returns-clause-err g c =
