@@ -1,5 +1,5 @@
 -- Calls on an object, one after the other.
-use Rattle.std.proofs.Common.{◌≡◌, List, [], ◌∷◌, ◌++◌, refl, sym, subst}
+use Rattle.std.proofs.Common.{List, [], ◌∷◌, ◌++◌, sym, subst}
 use Rattle.pi_outside.specs.Went.{Went}
 
 -- one run of calls, and then another

@@ -11,6 +11,7 @@ pub mod Endings
 pub mod EventLemmas
 pub mod FileReads
 pub mod Fronts
+pub mod HandedTexts
 pub mod Imports
 pub mod Judging
 pub mod Modes
@@ -21,5 +22,5 @@ pub mod Refusing
 pub mod Results
 pub mod Runnable
 pub mod Runs
+pub mod TextWrites
 pub mod UnbuiltLines
-pub mod WrittenLines
