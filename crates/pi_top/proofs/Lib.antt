@@ -19,7 +19,6 @@ pub mod OverNames
 pub mod OwnNames
 pub mod QueryRuns
 pub mod Refusing
-pub mod Results
 pub mod Runnable
 pub mod Runs
 pub mod TextWrites
