@@ -5,5 +5,8 @@ pub mod Held
 pub mod Memory
 pub mod MemoryFiles
 pub mod Named
+pub mod Reads
 pub mod SureFiles
 pub mod Taken
+pub mod Went
+pub mod Writes

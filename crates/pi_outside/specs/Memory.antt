@@ -1,13 +1,23 @@
 -- What the objects in memory are seen as.
 use Rattle.std.specs.Prelude.{◌≡◌, ℕ, ◌+◌, ◌≤◌, min, Bool, ◌||◌, List, ◌++◌, length, take, drop, Vec, vec_len, vec_capacity, nat_lt, Option, None, Some, if◌then◌else◌}
 use Rattle.std.specs.declared.alloc.Global.{Global}
-use Rattle.pi_outside.specs.Calls.{Calls}
+use Rattle.pi_outside.specs.Calls.{Calls, passed, failed}
+use Rattle.pi_outside.specs.Writes.{SinkWrite}
 
 -- a sink that takes up to `room` bytes
 pub record SinkOfRoom : Type 0 where
   pub taken : List ℕ
   pub room : ℕ
   pub calls : Calls
+
+-- such a sink after a write, by what came of it: the whole piece was taken, or nothing
+abbrev pub after_write : SinkOfRoom → List ℕ → Option ℕ → SinkOfRoom
+after_write sink piece (Some count) = record sink { taken = sink.taken ++ piece; calls = passed sink.calls }
+after_write sink piece None = record sink { calls = failed sink.calls }
+
+-- what a write makes of it
+abbrev pub memory_wrote : SinkOfRoom → SinkWrite → SinkOfRoom → Type 0
+memory_wrote before write after = after ≡ after_write before write.piece write.took
 
 -- a sink that keeps the first `room` bytes of all that it takes, and whether those are more
 pub record SinkOfFirst : Type 0 where
@@ -21,6 +31,10 @@ after_piece sink piece = record sink {
   kept = take sink.room (sink.kept ++ piece);
   is_over = sink.is_over || nat_lt sink.room (length sink.kept + length piece);
 }
+
+-- what a write makes of it: each is taken whole
+abbrev pub sure_wrote : SinkOfFirst → SinkWrite → SinkOfFirst → Type 0
+sure_wrote before write after = (write.took ≡ Some (length write.piece)) × (after ≡ after_piece before write.piece)
 
 -- what it has taken, told while that is at most `room` bytes
 abbrev pub told_bytes : SinkOfFirst → Option (List ℕ)

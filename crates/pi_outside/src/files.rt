@@ -2,6 +2,7 @@
 ghost use Rattle.std.specs.Prelude.{◌≡◌, ◌<◌, ◌≤◌, ℕ, Option, length, take, drop, IfOk, OnOk, OnErr};
 ghost use Rattle.pi_outside.specs.Faults.{NeverFalls, Rose};
 ghost use Rattle.pi_outside.specs.Held.{Holding, Keeps, IsThere, HasPiece, EndsBy};
+ghost use Rattle.pi_outside.specs.Reads.{FileRead, given_by};
 
 use crate::Failed;
 
@@ -12,6 +13,9 @@ pub trait Files {
 
     /// How many faults they have counted, up to 2^64 - 1.
     ghost faults: { Self → ℕ };
+
+    /// What a read may make of the files, as far as that is told.
+    ghost has_read: { Self → FileRead → Self → Type 0 };
 
     /// Copies bytes of the file of this name, from the byte `at` on, to the front of the slice and says how many;
     /// none in a slice that isn't empty is the file's end. The slice stays as it was behind them.
@@ -24,6 +28,7 @@ pub trait Files {
         ensures end { IfOk result (λ n. n ≡ 0 → 0 < length into.old → EndsBy (held self.new) name.now at) }
         ensures behind { IfOk result (λ n. drop n into.new ≡ drop n into.old) }
         ensures keeps { Keeps (held self.old) (held self.new) }
+        ensures did { has_read self.old (record { name = name.now; from = at; room = length into.old; gave = given_by result into.new }) self.new }
 
         ensures never_falls { NeverFalls (faults self.old) (faults self.new) }
         ensures rose { OnErr result (Rose (faults self.old) (faults self.new)) }

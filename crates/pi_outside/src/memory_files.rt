@@ -52,11 +52,13 @@ impl MemoryFiles {
 }
 
 impl Files for MemoryFiles {
-    ghost use Rattle.pi_outside.specs.MemoryFiles.{held_by, calls_of};
+    ghost use Rattle.pi_outside.specs.MemoryFiles.{held_by, calls_of, memory_has_read};
 
     ghost held = { λ files. Some (held_by files) };
 
     ghost faults = { λ files. (calls_of files).faults };
+
+    ghost has_read = { memory_has_read };
 
     /// Copies all that there is and has room. It fails exactly where this call is to fail or there is no file of this
     /// name, and then leaves the slice as it was.

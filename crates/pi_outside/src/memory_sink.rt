@@ -2,6 +2,8 @@
 ghost use Rattle.std.specs.Prelude.{◌≡◌, ◌≤◌, ◌+◌, [], ◌∷◌, ◌++◌, ◌||◌, Some, length, nat_lt, IfOk, OnOk, OnErr, is_err};
 ghost use Rattle.pi_outside.specs.Faults.{NeverFalls, Rose};
 ghost use Rattle.pi_outside.specs.Calls.{is_due, passed, failed};
+ghost use Rattle.pi_outside.specs.Memory.{memory_wrote};
+ghost use Rattle.pi_outside.specs.Writes.{write_of};
 
 use crate::schedule::Schedule;
 use crate::{Failed, Sink};
@@ -59,12 +61,15 @@ impl Sink for MemorySink {
 
     ghost faults = { λ s. s.calls.faults };
 
+    ghost wrote = { memory_wrote };
+
     /// Takes the whole piece. It fails exactly where this call is to fail or the piece passes the room.
     fn write(&mut self, bytes: &[u8]) -> Result<usize, Failed>
         ensures fails { is_err result ≡ (is_due self.old.calls || nat_lt self.old.room (length self.old.taken + length bytes.now)) }
         ensures whole { IfOk result (λ n. n ≡ length bytes.now) }
         ensures ok { OnOk result (self.new ≡ record self.old { taken = self.old.taken ++ bytes.now; calls = passed self.old.calls }) }
         ensures err { OnErr result (self.new ≡ record self.old { calls = failed self.old.calls }) }
+        ensures did { memory_wrote self.old (write_of bytes.now result) self.new }
         ensures never_falls { NeverFalls self.old.calls.faults self.new.calls.faults }
         ensures rose { OnErr result (Rose self.old.calls.faults self.new.calls.faults) }
     {

@@ -1,6 +1,6 @@
 //! The trusted edge: real files, standard input and standard output. Nothing is told of their bytes.
 ghost use Rattle.std.specs.Prelude.{◌≡◌, ◌<◌, ◌≤◌, None, Ok, length, drop, IfOk, OnOk, OnErr, is_err};
-ghost use Rattle.pi_outside.specs.Faults.{NeverFalls, Rose};
+ghost use Rattle.pi_outside.specs.Faults.{CountsFault, NeverFalls, Rose};
 
 use crate::schedule::count_fault;
 use crate::{Failed, Files, Sink, Source};
@@ -81,6 +81,8 @@ impl<R: rt::Files> Files for RealFiles<'_, R> {
 
     ghost faults = { λ files. files.faults };
 
+    ghost has_read = { λ before read after. CountsFault read.gave before.faults after.faults };
+
     /// Opens the file anew at each read.
     fn read_at(&mut self, name: &str, at: u64, into: &mut [u8]) -> Result<usize, Failed> {
         counted(read_file_at(self.rt, name, at, into), &mut self.faults)
@@ -136,6 +138,8 @@ impl<R: Print> Sink for RealSink<'_, R> {
     ghost taken = { λ _. None };
 
     ghost faults = { λ sink. sink.faults };
+
+    ghost wrote = { λ before write after. CountsFault write.took before.faults after.faults };
 
     fn write(&mut self, bytes: &[u8]) -> Result<usize, Failed> {
         counted(print_front(self.rt, bytes), &mut self.faults)

@@ -36,11 +36,13 @@ impl SureFiles {
 }
 
 impl Files for SureFiles {
-    ghost use Rattle.pi_outside.specs.SureFiles.{held_by};
+    ghost use Rattle.pi_outside.specs.SureFiles.{held_by, sure_has_read};
 
     ghost held = { λ files. Some (held_by files) };
 
     ghost faults = { λ _. 0 };
+
+    ghost has_read = { sure_has_read };
 
     /// Copies all that there is and has room.
     fn read_at(&mut self, name: &str, at: u64, into: &mut [u8]) -> Result<usize, Failed>

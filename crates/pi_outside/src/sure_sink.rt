@@ -1,6 +1,6 @@
 //! A sink in memory that never fails.
 ghost use Rattle.std.specs.Prelude.{◌≡◌, ℕ, List, [], ◌++◌, Ok, false, length, IfOk};
-ghost use Rattle.pi_outside.specs.Memory.{after_piece, told_bytes, HasTaken};
+ghost use Rattle.pi_outside.specs.Memory.{after_piece, told_bytes, sure_wrote, HasTaken};
 
 use crate::{Failed, Sink};
 use std::alloc::{AllocError, Global};
@@ -50,6 +50,8 @@ impl Sink for SureSink {
     ghost taken = { told_bytes };
 
     ghost faults = { λ _. 0 };
+
+    ghost wrote = { sure_wrote };
 
     /// Takes the whole piece.
     fn write(&mut self, bytes: &[u8]) -> Result<usize, Failed>

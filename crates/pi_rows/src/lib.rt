@@ -20,7 +20,7 @@ mod tests {
     use crate::orders::ORDERS;
     use crate::row::{OPEN, Row, USAGE};
     use crate::{small, text, words};
-    use pi_outside::{Files, MemoryFiles, MemorySink, Sink, SureSource};
+    use pi_outside::{MemoryFiles, MemorySink, SureSource};
     use pi_top::picatq;
     use std::alloc::Global;
     use std::test::Fail;
@@ -253,59 +253,6 @@ mod tests {
             let right = is_right(rt.alloc(), row, Failing { read: 0, write: 1 })?;
             assert!(rt; right, "{:?} {:?}", row.program, row.words);
         }
-        Ok(())
-    }
-
-    /// The program and the goal of the next two tests: two answers, five lines.
-    fn open_words(alloc: Global) -> Result<Vec<String>, Fail> {
-        let mut words = Vec::new(alloc);
-        words.push(String::from_str(alloc, "FILE")?)?;
-        words.push(String::from_str(alloc, "p(X)")?)?;
-        Ok(words)
-    }
-
-    /// Were a second read made behind the first, which fails, the one that is made here would be the third, which doesn't fail.
-    #[test]
-    fn nothing_is_read_behind_a_failed_read(rt: HostRuntime) -> Result<(), Fail> {
-        let words = open_words(rt.alloc())?;
-        let mut files = MemoryFiles::new(rt.alloc());
-        files.add("FILE", OPEN.as_bytes())?;
-        files.fail_at(1)?;
-        files.fail_at(2)?;
-        let mut input = SureSource::new(rt.alloc(), b"", 1)?;
-        let mut out = MemorySink::new(rt.alloc(), 1_000)?;
-        let outcome = picatq(
-            rt.alloc(),
-            words.as_slice(),
-            &mut files,
-            &mut input,
-            &mut out,
-        );
-        let mut piece = [0u8; 1];
-        assert_eq!(rt; outcome.status, 7);
-        assert!(rt; files.read_at("FILE", 0, &mut piece).is_err());
-        Ok(())
-    }
-
-    /// The same of writes: the second line's write fails, and the next one is made here.
-    #[test]
-    fn nothing_is_written_behind_a_failed_write(rt: HostRuntime) -> Result<(), Fail> {
-        let words = open_words(rt.alloc())?;
-        let mut files = MemoryFiles::new(rt.alloc());
-        files.add("FILE", OPEN.as_bytes())?;
-        let mut input = SureSource::new(rt.alloc(), b"", 1)?;
-        let mut out = MemorySink::new(rt.alloc(), 1_000)?;
-        out.fail_at(2)?;
-        out.fail_at(3)?;
-        let outcome = picatq(
-            rt.alloc(),
-            words.as_slice(),
-            &mut files,
-            &mut input,
-            &mut out,
-        );
-        assert_eq!(rt; outcome.status, 8);
-        assert!(rt; out.write(b"x").is_err());
         Ok(())
     }
 }

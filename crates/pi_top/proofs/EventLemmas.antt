@@ -1,6 +1,5 @@
 -- What events print, and how many Ticks and answers they have, where more stand behind them.
 use Rattle.std.proofs.Common.{◌≡◌, ℕ, zero, suc, ◌+◌, List, [], ◌∷◌, ◌++◌, refl, sym, ap, ◌∙◌, arith, append_assoc}
-use Rattle.std.specs.List.{concat}
 use Rattle.std.proofs.lemmas.List.{append-nil}
 use Rattle.pi_traces.specs.Trace.{Tick, Load, Out, Emitted, noted, answered, count_ticks}
 use Rattle.pi_meaning.specs.Run.{Solution}
@@ -31,9 +30,9 @@ unfolding print_solutions
 print-append names [] more = refl
 print-append names (noted Tick ∷ events) more = print-append names events more
 print-append names (noted (Load k) ∷ events) more = print-append names events more
-print-append names (noted (Out text) ∷ events) more = ap (λ l. text ++ l) (print-append names events more) ∙ sym (append_assoc text (print_solutions names events) (print_solutions names more))
+print-append names (noted (Out text) ∷ events) more = ap (λ l. text ∷ l) (print-append names events more)
 print-append names (answered x ∷ events) more =
-    let lines : List ℕ = concat (answer_lines (answer_of names x)) in
+    let lines : List (List ℕ) = answer_lines (answer_of names x) in
     ap (λ l. lines ++ l) (print-append names events more) ∙ sym (append_assoc lines (print_solutions names events) (print_solutions names more))
 
 pub ticks-of_ticks : (k : ℕ) → count_ticks (some_ticks k) ≡ k
@@ -65,16 +64,16 @@ answers-behind events k = let all = answers-append events (some_ticks k) in let 
 abbrev pub turn : ℕ → Solution → List (Emitted Solution)
 turn k x = some_ticks k ++ answered x ∷ []
 
-print-one : (names : List NameSlot) (x : Solution) → print_solutions names (answered x ∷ []) ≡ concat (answer_lines (answer_of names x))
+print-one : (names : List NameSlot) (x : Solution) → print_solutions names (answered x ∷ []) ≡ answer_lines (answer_of names x)
 unfolding print_solutions
-print-one names x = append-nil (concat (answer_lines (answer_of names x)))
+print-one names x = append-nil (answer_lines (answer_of names x))
 
 pub print-turn : (names : List NameSlot) (events : List (Emitted Solution)) (k : ℕ) (x : Solution) (a : Answer) → a ≡ answer_of names x →
-    print_solutions names (events ++ turn k x) ≡ print_solutions names events ++ concat (answer_lines a)
+    print_solutions names (events ++ turn k x) ≡ print_solutions names events ++ answer_lines a
 print-turn names events k x a is =
     print-append names events (turn k x)
     ∙ ap (λ l. print_solutions names events ++ l) (print-append names (some_ticks k) (answered x ∷ []) ∙ ap (λ l. l ++ print_solutions names (answered x ∷ [])) (print-of_ticks names k) ∙ print-one names x)
-    ∙ ap (λ b. print_solutions names events ++ concat (answer_lines b)) (sym is)
+    ∙ ap (λ b. print_solutions names events ++ answer_lines b) (sym is)
 
 one-tick : (x : Solution) → count_ticks (answered x ∷ []) ≡ 0
 unfolding count_ticks

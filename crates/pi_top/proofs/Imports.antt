@@ -1,12 +1,12 @@
 -- Imports change nothing of what a program means.
-use Rattle.std.proofs.Common.{◌≡◌, ℕ, ◌+◌, true, List, [], ◌∷◌, Option, Some, None, refl, sym, ap, subst, ◌∙◌}
+use Rattle.std.proofs.Common.{◌≡◌, ℕ, ◌+◌, true, List, [], ◌∷◌, Option, Some, None, refl, ap, subst, ◌∙◌}
 use Rattle.pi_core.specs.CoreTree.{PredTree, QueryTree}
 use Rattle.pi_syntax.specs.ExpTree.{ExpTree}
-use Rattle.pi_syntax.specs.ProgramTree.{RuleTree, WrittenClause, rule, function, fact, PartTree, ProgramTree}
+use Rattle.pi_syntax.specs.ProgramTree.{RuleTree, WrittenClause, rule, function, fact, ProgramTree}
 use Rattle.pi_syntax.specs.declared.program.Decl.{Decl}
 use Rattle.pi_traces.specs.Depth.{CutWithoutDeep, cut}
-use Rattle.pi_meaning.specs.Surface.{rules_of, told_names, surface_trace}
-use Rattle.pi_meaning.specs.SurfaceRun.{place_told, told_trace, IsSurfaceRun}
+use Rattle.pi_meaning.specs.Surface.{rules_of, told_names}
+use Rattle.pi_meaning.specs.SurfaceRun.{place_told, told_trace}
 use Rattle.pi_meaning.proofs.SurfaceDepths.{same-rules-run-the-same}
 use Rattle.pi_rewrite.specs.Laws.{RunsTheSame}
 use Rattle.pi_rewrite.specs.Unbuilt.{is_built, is_built_part, unbuilt_from, unbuilt_part, without_imports}

@@ -11,6 +11,7 @@ pub mod Endings
 pub mod EventLemmas
 pub mod FileReads
 pub mod Fronts
+pub mod HandedTexts
 pub mod Imports
 pub mod Judging
 pub mod Modes
@@ -18,8 +19,7 @@ pub mod OverNames
 pub mod OwnNames
 pub mod QueryRuns
 pub mod Refusing
-pub mod Results
 pub mod Runnable
 pub mod Runs
+pub mod TextWrites
 pub mod UnbuiltLines
-pub mod WrittenLines

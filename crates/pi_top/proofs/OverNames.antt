@@ -1,7 +1,7 @@
 -- What a query of the core language comes to is what its goal comes to over names.
-use Rattle.std.proofs.Common.{◌≡◌, ℕ, suc, List, [], ◌∷◌, ◌++◌, Option, map, refl, sym, ap, ◌∙◌, arith}
-use Rattle.std.specs.List.{concat}
+use Rattle.std.proofs.Common.{◌≡◌, ℕ, suc, List, [], ◌∷◌, ◌++◌, map, refl, sym, ap, ◌∙◌, arith}
 use Rattle.std.proofs.lemmas.List.{map-append}
+use Rattle.pi_outside.specs.Writes.{SinkWrite}
 use Rattle.pi_core.specs.CoreTree.{PredTree, QueryTree}
 use Rattle.pi_core.specs.declared.core_program.NameSlot.{NameSlot}
 use Rattle.pi_syntax.specs.ExpTree.{ExpTree}
@@ -30,8 +30,8 @@ unfolding print print_solutions answer_of
 told-prints names [] = refl
 told-prints names (noted Tick ∷ events) = told-prints names events
 told-prints names (noted (Load k) ∷ events) = told-prints names events
-told-prints names (noted (Out text) ∷ events) = ap (λ l. text ++ l) (told-prints names events)
-told-prints names (answered x ∷ events) = ap (λ l. concat (answer_lines (answer_of names x)) ++ l) (told-prints names events)
+told-prints names (noted (Out text) ∷ events) = ap (λ l. text ∷ l) (told-prints names events)
+told-prints names (answered x ∷ events) = ap (λ l. answer_lines (answer_of names x) ++ l) (told-prints names events)
 
 told-ticks : (names : List NameSlot) (events : List (Emitted Solution)) → count_ticks (told names events) ≡ count_ticks events
 unfolding count_ticks
@@ -79,16 +79,16 @@ told-ends names asked part run No is = (told-whole names asked part run (Ended D
 told-ends names asked part run (Exception ball) is = told-whole names asked part run (Ended (Raise ball)) is
 told-ends names asked part run StepsSpent is = told-whole names asked part run Spent is
 
-told-cut : (answers : ℕ) (q : QueryTree) (run : Cut Solution) (part : List (Emitted Solution)) (ticks status : ℕ) (before after : Option (List ℕ)) →
-    HowQueryIsCut answers q run part ticks status before after → HowCut answers (told_cut (solution_told q.names) run) (told q.names part) ticks status before after
+told-cut : (answers : ℕ) (q : QueryTree) (run : Cut Solution) (part : List (Emitted Solution)) (ticks status : ℕ) (writes : List SinkWrite) →
+    HowQueryIsCut answers q run part ticks status writes → HowCut answers (told_cut (solution_told q.names) run) (told q.names part) ticks status writes
 unfolding answer_of
-told-cut answers q run part ticks status before after (HowQueryIsCut.in_answer eight count earlier x is few takes) =
+told-cut answers q run part ticks status writes (HowQueryIsCut.in_answer eight count earlier x is few takes) =
     let asked = told-answers q.names part in
     in_answer eight (count ∙ sym (told-ticks q.names part)) (told q.names earlier) (solution_told q.names x)
     (ap (told q.names) is ∙ map-append (told_event (solution_told q.names)) earlier (answered x ∷ [])) (omega (arith, asked, few)) (rw (told-prints q.names earlier) takes)
-told-cut answers q run part ticks status before after (HowQueryIsCut.in_line eight count ending ends takes) =
+told-cut answers q run part ticks status writes (HowQueryIsCut.in_line eight count ending ends takes) =
     in_line eight (count ∙ sym (told-ticks q.names part)) ending (told-ends q.names answers part run ending ends) (rw (told-prints q.names part) takes)
-told-cut answers q run part ticks status before after (HowQueryIsCut.at_memory nine count few takes) =
+told-cut answers q run part ticks status writes (HowQueryIsCut.at_memory nine count few takes) =
     let asked = told-answers q.names part in
     at_memory nine (count ∙ sym (told-ticks q.names part)) (omega (arith, asked, few)) (rw (told-prints q.names part) takes)
 
@@ -101,11 +101,11 @@ part-over-names program goal preds q steps run part is has = record {
   begins = told-prefix q.names part run.events has.begins;
 }
 
-pub ends-over-names : (answers steps : ℕ) (program : ProgramTree) (goal : ExpTree) (preds : List PredTree) (q : QueryTree) (ticks status : ℕ) (before after : Option (List ℕ)) →
-    RunsTheSame program goal preds q → QueryEnds answers steps preds q ticks status before after →
-    Written (Headline answers steps program goal [] ticks status) before after
-ends-over-names answers steps program goal preds q ticks status before after is has = record {
-  bytes = print_solutions q.names has.part ++ line_of has.ending;
+pub ends-over-names : (answers steps : ℕ) (program : ProgramTree) (goal : ExpTree) (preds : List PredTree) (q : QueryTree) (ticks status : ℕ) (writes : List SinkWrite) →
+    RunsTheSame program goal preds q → QueryEnds answers steps preds q ticks status writes →
+    Written (Headline answers steps program goal [] ticks status) writes
+ends-over-names answers steps program goal preds q ticks status writes is has = record {
+  texts = print_solutions q.names has.part ++ line_of has.ending ∷ [];
   comes = record {
     run = told_cut (solution_told q.names) has.run;
     part = told q.names has.part;
@@ -114,16 +114,16 @@ ends-over-names answers steps program goal preds q ticks status before after is 
     ending = has.ending;
     ends = told-ends q.names answers has.part has.run has.ending has.ends;
     its_status = has.its_status;
-    written = ap (λ l. l ++ line_of has.ending) (sym (told-prints q.names has.part));
+    written = ap (λ l. l ++ line_of has.ending ∷ []) (sym (told-prints q.names has.part));
   };
-  taken = has.written;
+  handed = has.written;
 }
 
-pub cut-over-names : (answers steps : ℕ) (program : ProgramTree) (goal : ExpTree) (preds : List PredTree) (q : QueryTree) (ticks status : ℕ) (before after : Option (List ℕ)) →
-    RunsTheSame program goal preds q → QueryIsCut answers steps preds q ticks status before after → IsCutOff answers steps program goal [] ticks status before after
-cut-over-names answers steps program goal preds q ticks status before after is has = record {
+pub cut-over-names : (answers steps : ℕ) (program : ProgramTree) (goal : ExpTree) (preds : List PredTree) (q : QueryTree) (ticks status : ℕ) (writes : List SinkWrite) →
+    RunsTheSame program goal preds q → QueryIsCut answers steps preds q ticks status writes → IsCutOff answers steps program goal [] ticks status writes
+cut-over-names answers steps program goal preds q ticks status writes is has = record {
   run = told_cut (solution_told q.names) has.run;
   part = told q.names has.part;
   is_part = part-over-names program goal preds q steps has.run has.part is has.is_part;
-  how = told-cut answers q has.run has.part ticks status before after has.how;
+  how = told-cut answers q has.run has.part ticks status writes has.how;
 }

@@ -1,9 +1,7 @@
 -- A query's run, call of `next` by call: what is printed of it, and what it comes to.
-use Rattle.std.proofs.Common.{◌≡◌, ◌<◌, ◌≤◌, ℕ, suc, ◌+◌, ◌-◌, Bool, true, false, List, [], ◌∷◌, ◌++◌, Option, Result, Ok, Err, refl, sym, ap, subst, ◌∙◌, arith, append_assoc, length, length-append, slice_set}
-use Rattle.std.specs.List.{concat}
+use Rattle.std.proofs.Common.{◌≡◌, ◌<◌, ◌≤◌, ℕ, suc, ◌+◌, ◌-◌, Bool, true, false, List, [], ◌∷◌, ◌++◌, Result, Ok, Err, refl, sym, ap, subst, ◌∙◌, arith, append_assoc, length, length-append, slice_set}
 use Rattle.std.proofs.lemmas.List.{append-nil}
-use Rattle.pi_outside.specs.Taken.{Takes}
-use Rattle.pi_outside.proofs.Taken.{Takes-none, Takes-then}
+use Rattle.pi_outside.specs.Writes.{SinkWrite}
 use Rattle.pi_traces.specs.Trace.{Done, Raise, Emitted, answered, count_ticks}
 use Rattle.pi_traces.specs.Depth.{Stop as CutStop, Cut, Ended, Spent, with_events}
 use Rattle.pi_meaning.specs.View.{query_view}
@@ -28,12 +26,13 @@ use Rattle.pi_top.specs.declared.query.Stop.{Stop}
 use Rattle.pi_top.specs.declared.query.Stop.TheVariants.{Write, Memory}
 use Rattle.pi_top.specs.Ends.{status_of_stop}
 use Rattle.pi_top.specs.Runs.{run_of}
-use Rattle.pi_top.specs.Prefix.{TakesFront}
-use Rattle.pi_top.specs.QueryEnd.{QueryEnd, Stopped, NoMore, No, Exception, StepsSpent, count_answers, IsWhole, Ends}
+use Rattle.pi_top.specs.Handing.{HandsAll, none, FailsIn}
+use Rattle.pi_top.specs.QueryEnd.{QueryEnd, Stopped, NoMore, No, Exception, StepsSpent, line_of, count_answers, IsWhole, Ends}
 use Rattle.pi_top.specs.Running.{print_solutions, IsQueryPart, QueryIsCut, in_answer, in_line, at_memory, IsAtStart, IsWritten, ComesTo, HasRun, was_asked}
 use Rattle.pi_top.specs.Writing.{IsCutIn, WritesLine, WritesNothing, WritesEnd}
 use Rattle.pi_top.proofs.EventLemmas.{behind-ticks, ticks-behind, answers-behind, turn, print-turn, ticks-turn, answers-turn, last-turn}
-use Rattle.pi_top.proofs.Fronts.{prefix-all, front-then}
+use Rattle.pi_top.proofs.Fronts.{prefix-all}
+use Rattle.pi_top.proofs.HandedTexts.{hands-then, fails-then}
 
 -- ---- a query's run
 
@@ -47,10 +46,10 @@ counted-ticks : (mode : Mode) (b c : Budget) → mode ≡ Mode.Top → b.ticks �
 counted-ticks Mode.Top b c top more = omega (arith, more)
 counted-ticks Mode.Inner b c top more = absurd (cc)
 
-pub written-start : {M : Type 0} (m : MachineView M) (b : Budget) (answers : ℕ) (program : List PredTree) (q : QueryTree) (taken : Option (List ℕ)) →
-    IsAtStart m b answers program q → IsWritten m b 0 program q taken taken
+pub written-start : {M : Type 0} (m : MachineView M) (b : Budget) (answers : ℕ) (program : List PredTree) (q : QueryTree) →
+    IsAtStart m b answers program q → IsWritten m b 0 program q []
 unfolding count_answers count_ticks print_solutions
-written-start m b answers program q taken is = record {
+written-start m b answers program q is = record {
   events = [];
   runs = is.runs;
   counts_ticks = is.counts_ticks;
@@ -59,14 +58,14 @@ written-start m b answers program q taken is = record {
   last = λ some. absurd (omega (arith, some));
   ticks = is.unspent;
   within = is.within;
-  written = Takes-none taken;
+  written = none;
 }
 
 -- after an answer whose lines were written
-pub written-answer : {M : Type 0} (m n : MachineView M) (b c : Budget) (given : ℕ) (program : List PredTree) (q : QueryTree) (a : Answer) (before between after : Option (List ℕ)) →
-    (w : IsWritten m b given program q before between) → Called m n b c → HappensByTicks (query_view []) program q w.events m n b c (Happening.Answer a) → GoesOn n →
-    Takes between (concat (answer_lines a)) after → IsWritten n c (given + 1) program q before after
-written-answer m n b c given program q a before between after w called happens running takes =
+pub written-answer : {M : Type 0} (m n : MachineView M) (b c : Budget) (given : ℕ) (program : List PredTree) (q : QueryTree) (a : Answer) (first second : List SinkWrite) →
+    (w : IsWritten m b given program q first) → Called m n b c → HappensByTicks (query_view []) program q w.events m n b c (Happening.Answer a) → GoesOn n →
+    HandsAll (answer_lines a) second → IsWritten n c (given + 1) program q (first ++ second)
+written-answer m n b c given program q a first second w called happens running handed =
     let k : ℕ = counted m.mode b c in
     let x : Solution = happens.0 in
     let events : List (Emitted Solution) = w.events ++ turn k x in
@@ -83,7 +82,7 @@ written-answer m n b c given program q a before between after w called happens r
       last = λ some. last-turn w.events k x (given + 1) all;
       ticks = omega (arith, w.ticks, more, ticks);
       within = called.within w.within;
-      written = rw (print-turn q.names w.events k x a happens.1) (Takes-then w.written takes);
+      written = rw (print-turn q.names w.events k x a happens.1) (hands-then (print_solutions q.names w.events) (answer_lines a) first second w.written handed);
     }
 
 -- the events so far begin the query's run
@@ -124,9 +123,9 @@ record IsTail (events : List (Emitted Solution)) (k given total : ℕ) (names : 
   pub answers : count_answers (events ++ some_ticks k) ≡ given
   pub printed : print_solutions names (events ++ some_ticks k) ≡ print_solutions names events
 
-tail-of : {M : Type 0} (m n : MachineView M) (b c : Budget) (given : ℕ) (program : List PredTree) (q : QueryTree) (before between : Option (List ℕ)) →
-    (w : IsWritten m b given program q before between) → Called m n b c → IsTail w.events (counted m.mode b c) given c.ticks q.names
-tail-of m n b c given program q before between w called =
+tail-of : {M : Type 0} (m n : MachineView M) (b c : Budget) (given : ℕ) (program : List PredTree) (q : QueryTree) (writes : List SinkWrite) →
+    (w : IsWritten m b given program q writes) → Called m n b c → IsTail w.events (counted m.mode b c) given c.ticks q.names
+tail-of m n b c given program q writes w called =
     let k : ℕ = counted m.mode b c in
     let more : b.ticks + k ≡ c.ticks = counted-ticks m.mode b c w.counts_ticks called.counts.ticks in
     let ticks : count_ticks (w.events ++ some_ticks k) ≡ count_ticks w.events + k = ticks-behind w.events k in
@@ -151,10 +150,9 @@ not-inner mode top inner = absurd (let same : Mode.Top ≡ Mode.Inner = sym top 
 -- ---- what a query comes to
 
 -- a part with its end, whose line was to be written
-comes-line : (answers steps : ℕ) (program : List PredTree) (q : QueryTree) (events : List (Emitted Solution)) (run : Cut Solution) (ending : QueryEnd) (ticks : ℕ) (before between after : Option (List ℕ))
-    (r : Result ℕ Stop) → IsQueryPart program q steps run events → Ends answers events run ending → count_answers events ≤ answers → ticks ≡ count_ticks events → Takes before (print_solutions q.names events) between →
-    WritesLine between ending after r → ComesTo answers steps program q ticks before after r
-comes-line answers steps program q events run ending ticks before between after (Ok status) part ends few count takes line = record {
+comes-line : (answers steps : ℕ) (program : List PredTree) (q : QueryTree) (events : List (Emitted Solution)) (run : Cut Solution) (ending : QueryEnd) (ticks : ℕ) (r : Result ℕ Stop) (first second : List SinkWrite) → IsQueryPart program q steps run events → Ends answers events run ending → count_answers events ≤ answers → ticks ≡ count_ticks events → HandsAll (print_solutions q.names events) first →
+    WritesLine ending r second → ComesTo answers steps program q ticks r (first ++ second)
+comes-line answers steps program q events run ending ticks (Ok status) first second part ends few count handed line = record {
   run = run;
   part = events;
   is_part = part;
@@ -162,27 +160,28 @@ comes-line answers steps program q events run ending ticks before between after 
   ending = ending;
   ends = ends;
   its_status = line.its_status;
-  written = Takes-then takes line.writes.all;
+  written = hands-then (print_solutions q.names events) (line_of ending ∷ []) first second handed line.line.all;
 }
-comes-line answers steps program q events run ending ticks before between after (Err Write) part ends few count takes line =
-    record { run = run; part = events; is_part = part; how = in_line refl count ending ends (front-then takes line.writes.cut) }
-comes-line answers steps program q events run ending ticks before between after (Err Memory) part ends few count takes line =
-    record { run = run; part = events; is_part = part; how = at_memory refl count few (rw append-nil at (Takes-then takes line.writes.cut)) }
+comes-line answers steps program q events run ending ticks (Err Write) first second part ends few count handed line =
+    record { run = run; part = events; is_part = part; how = in_line refl count ending ends (fails-then (print_solutions q.names events) (line_of ending ∷ []) first second handed line.line.cut) }
+comes-line answers steps program q events run ending ticks (Err Memory) first second part ends few count handed line =
+    let no_more : second ≡ [] = line.line.cut in
+    record { run = run; part = events; is_part = part; how = at_memory refl count few (rw (no_more, append-nil first) handed) }
 
 -- as many answers were written as are asked for
-pub comes-stopped : {M : Type 0} (m : MachineView M) (b : Budget) (answers steps : ℕ) (program : List PredTree) (q : QueryTree) (before between after : Option (List ℕ)) (r : Result ℕ Stop) →
-    IsRunnable program q → 0 < answers → b.steps ≡ steps → IsWritten m b answers program q before between → WritesLine between Stopped after r → ComesTo answers steps program q b.ticks before after r
-comes-stopped m b answers steps program q before between after r runnable some same w line =
+pub comes-stopped : {M : Type 0} (m : MachineView M) (b : Budget) (answers steps : ℕ) (program : List PredTree) (q : QueryTree) (r : Result ℕ Stop) (first second : List SinkWrite) →
+    IsRunnable program q → 0 < answers → b.steps ≡ steps → IsWritten m b answers program q first → WritesLine Stopped r second → ComesTo answers steps program q b.ticks r (first ++ second)
+comes-stopped m b answers steps program q r first second runnable some same w line =
     let few : count_ticks w.events ≤ steps = omega (arith, w.ticks, w.within.ticks, same) in
     let has : HasPart program q steps w.events = has-part m program q w.events steps runnable w.runs few in
-    comes-line answers steps program q w.events has.run Stopped b.ticks before between after r has.is_part (w.last some) (omega (arith, w.answers)) w.ticks w.written line
+    comes-line answers steps program q w.events has.run Stopped b.ticks r first second has.is_part (w.last some) (omega (arith, w.answers)) w.ticks w.written line
 
 -- the writing of an answer's lines is cut off
-pub comes-cut : {M : Type 0} (m n : MachineView M) (b c : Budget) (answers given steps : ℕ) (program : List PredTree) (q : QueryTree) (a : Answer) (before between after : Option (List ℕ)) (stop : Stop) →
-    IsRunnable program q → (w : IsWritten m b given program q before between) → Called m n b c → given < answers → c.steps ≡ steps →
-    HappensByTicks (query_view []) program q w.events m n b c (Happening.Answer a) → IsCutIn between (concat (answer_lines a)) after stop →
-    QueryIsCut answers steps program q c.ticks (status_of_stop stop) before after
-comes-cut m n b c answers given steps program q a before between after Write runnable w called less same happens takes =
+pub comes-cut : {M : Type 0} (m n : MachineView M) (b c : Budget) (answers given steps : ℕ) (program : List PredTree) (q : QueryTree) (a : Answer) (stop : Stop) (first second : List SinkWrite) →
+    IsRunnable program q → (w : IsWritten m b given program q first) → Called m n b c → given < answers → c.steps ≡ steps →
+    HappensByTicks (query_view []) program q w.events m n b c (Happening.Answer a) → IsCutIn (answer_lines a) second stop →
+    QueryIsCut answers steps program q c.ticks (status_of_stop stop) (first ++ second)
+comes-cut m n b c answers given steps program q a Write first second runnable w called less same happens fails =
     let k : ℕ = counted m.mode b c in
     let x : Solution = happens.0 in
     let earlier : List (Emitted Solution) = w.events ++ some_ticks k in
@@ -193,19 +192,21 @@ comes-cut m n b c answers given steps program q a before between after Write run
     let within : IsWithin c = called.within w.within in
     let few : count_ticks events ≤ steps = omega (arith, w.ticks, more, ticks, within.ticks, same) in
     let has : HasPart program q steps events = has-part n program q events steps runnable happens.2 few in
-    let written : Takes before (print_solutions q.names earlier) between = rw (behind-ticks q.names w.events k) w.written in
+    let written : HandsAll (print_solutions q.names earlier) first = rw (behind-ticks q.names w.events k) w.written in
     let split : events ≡ earlier ++ answered x ∷ [] = sym (append_assoc w.events (some_ticks k) (answered x ∷ [])) in
     record {
       run = has.run;
       part = events;
       is_part = has.is_part;
       how = in_answer refl (omega (arith, w.ticks, more, ticks)) earlier x split (omega (arith, one, w.answers, less))
-          (subst (λ (t : Answer). TakesFront before (print_solutions q.names earlier) (concat (answer_lines t)) after) happens.1 (front-then written takes));
+          (subst (λ (t : Answer). FailsIn (print_solutions q.names earlier) (answer_lines t) (first ++ second)) happens.1
+          (fails-then (print_solutions q.names earlier) (answer_lines a) first second written fails));
     }
-comes-cut m n b c answers given steps program q a before between after Memory runnable w called less same happens nothing =
+comes-cut m n b c answers given steps program q a Memory first second runnable w called less same happens nothing =
+    let no_more : second ≡ [] = nothing in
     let k : ℕ = counted m.mode b c in
     let earlier : List (Emitted Solution) = w.events ++ some_ticks k in
-    let tail : IsTail w.events k given c.ticks q.names = tail-of m n b c given program q before between w called in
+    let tail : IsTail w.events k given c.ticks q.names = tail-of m n b c given program q first w called in
     let ticks : count_ticks (w.events ++ turn k happens.0) ≡ count_ticks w.events + k = ticks-turn w.events k happens.0 in
     let few : count_ticks (w.events ++ turn k happens.0) ≤ steps = omega (arith, ticks, tail.so_many, (called.within w.within).ticks, same) in
     let has : HasPart program q steps (w.events ++ turn k happens.0) = has-part n program q (w.events ++ turn k happens.0) steps runnable happens.2 few in
@@ -213,60 +214,60 @@ comes-cut m n b c answers given steps program q a before between after Memory ru
       run = has.run;
       part = earlier;
       is_part = earlier-part program q steps has.run w.events (some_ticks k) (answered happens.0 ∷ []) has.is_part;
-      how = at_memory refl tail.ticks (omega (arith, tail.answers, less)) (rw tail.printed (rw append-nil at (Takes-then w.written nothing)));
+      how = at_memory refl tail.ticks (omega (arith, tail.answers, less)) (rw (no_more, append-nil first, tail.printed) w.written);
     }
 
 -- memory is wanted behind these events
-comes-nothing : {M : Type 0} (n : MachineView M) (events : List (Emitted Solution)) (answers steps : ℕ) (program : List PredTree) (q : QueryTree) (ticks : ℕ) (before between after : Option (List ℕ)) (r : Result ℕ Stop) →
-    IsRunnable program q → RunsTo (query_view []) n program q events → ticks ≡ count_ticks events → ticks ≤ steps → count_answers events ≤ answers → Takes before (print_solutions q.names events) between → WritesNothing between after r →
-    ComesTo answers steps program q ticks before after r
-comes-nothing n events answers steps program q ticks before between after (Ok status) runnable runs count few asked takes nothing = absurd nothing.stops
-comes-nothing n events answers steps program q ticks before between after (Err Write) runnable runs count few asked takes nothing = let memory : Write ≡ Memory = nothing.memory in absurd (cc)
-comes-nothing n events answers steps program q ticks before between after (Err Memory) runnable runs count few asked takes nothing =
+comes-nothing : {M : Type 0} (n : MachineView M) (events : List (Emitted Solution)) (answers steps : ℕ) (program : List PredTree) (q : QueryTree) (ticks : ℕ) (r : Result ℕ Stop) (first second : List SinkWrite) →
+    IsRunnable program q → RunsTo (query_view []) n program q events → ticks ≡ count_ticks events → ticks ≤ steps → count_answers events ≤ answers → HandsAll (print_solutions q.names events) first → WritesNothing r second →
+    ComesTo answers steps program q ticks r (first ++ second)
+comes-nothing n events answers steps program q ticks (Ok status) first second runnable runs count few asked handed nothing = absurd nothing.stops
+comes-nothing n events answers steps program q ticks (Err Write) first second runnable runs count few asked handed nothing = let memory : Write ≡ Memory = nothing.memory in absurd (cc)
+comes-nothing n events answers steps program q ticks (Err Memory) first second runnable runs count few asked handed nothing =
     let has : HasPart program q steps events = has-part n program q events steps runnable runs (omega (arith, count, few)) in
-    record { run = has.run; part = events; is_part = has.is_part; how = at_memory refl count asked (rw append-nil at (Takes-then takes nothing.nothing)) }
+    record { run = has.run; part = events; is_part = has.is_part; how = at_memory refl count asked (rw (nothing.nothing, append-nil first) handed) }
 
 -- a machine's end, behind so many answers
 pub comes-end : {M : Type 0} (m n : MachineView M) (b c : Budget) (answers given steps : ℕ) (program : List PredTree) (q : QueryTree) (happening : Happening) (has : Bool)
-    (before between after : Option (List ℕ)) (r : Result ℕ Stop) → IsRunnable program q → (w : IsWritten m b given program q before between) → Called m n b c → given < answers → c.steps ≡ steps →
+    (r : Result ℕ Stop) (first second : List SinkWrite) → IsRunnable program q → (w : IsWritten m b given program q first) → Called m n b c → given < answers → c.steps ≡ steps →
     (has ≡ true → 0 < given) → (has ≡ false → given ≡ 0) → ((a : Answer) → happening ≡ Happening.Answer a → ⊥) →
-    HappensByTicks (query_view []) program q w.events m n b c happening → WritesEnd happening has between after r → ComesTo answers steps program q c.ticks before after r
-comes-end m n b c answers given steps program q (Happening.Answer a) has before between after r runnable w called less same has_some has_none not_answer happens writes = absurd (not_answer a refl)
-comes-end m n b c answers given steps program q (Happening.Out text) has before between after r runnable w called less same has_some has_none not_answer happens writes = absurd happens
-comes-end m n b c answers given steps program q (Happening.NeedPlan call) has before between after r runnable w called less same has_some has_none not_answer happens writes = absurd happens
-comes-end m n b c answers given steps program q Happening.WorkSpent has before between after r runnable w called less same has_some has_none not_answer happens writes =
+    HappensByTicks (query_view []) program q w.events m n b c happening → WritesEnd happening has r second → ComesTo answers steps program q c.ticks r (first ++ second)
+comes-end m n b c answers given steps program q (Happening.Answer a) has r first second runnable w called less same has_some has_none not_answer happens writes = absurd (not_answer a refl)
+comes-end m n b c answers given steps program q (Happening.Out text) has r first second runnable w called less same has_some has_none not_answer happens writes = absurd happens
+comes-end m n b c answers given steps program q (Happening.NeedPlan call) has r first second runnable w called less same has_some has_none not_answer happens writes = absurd happens
+comes-end m n b c answers given steps program q Happening.WorkSpent has r first second runnable w called less same has_some has_none not_answer happens writes =
     absurd (not-inner n.mode (called.mode ∙ w.counts_ticks) happens.2)
-comes-end m n b c answers given steps program q Happening.Memory has before between after r runnable w called less same has_some has_none not_answer happens writes =
+comes-end m n b c answers given steps program q Happening.Memory has r first second runnable w called less same has_some has_none not_answer happens writes =
     let k : ℕ = counted m.mode b c in
-    let tail : IsTail w.events k given c.ticks q.names = tail-of m n b c given program q before between w called in
-    comes-nothing n (w.events ++ some_ticks k) answers steps program q c.ticks before between after r runnable happens tail.ticks (omega (arith, (called.within w.within).ticks, same)) (omega (arith, tail.answers, less))
+    let tail : IsTail w.events k given c.ticks q.names = tail-of m n b c given program q first w called in
+    comes-nothing n (w.events ++ some_ticks k) answers steps program q c.ticks r first second runnable happens tail.ticks (omega (arith, (called.within w.within).ticks, same)) (omega (arith, tail.answers, less))
     (rw tail.printed w.written) writes
-comes-end m n b c answers given steps program q Happening.Done true before between after r runnable w called less same has_some has_none not_answer happens writes =
+comes-end m n b c answers given steps program q Happening.Done true r first second runnable w called less same has_some has_none not_answer happens writes =
     let k : ℕ = counted m.mode b c in
-    let tail : IsTail w.events k given c.ticks q.names = tail-of m n b c given program q before between w called in
+    let tail : IsTail w.events k given c.ticks q.names = tail-of m n b c given program q first w called in
     let whole = whole-of answers given (w.events ++ some_ticks k) (Ended Done) tail.answers less in
-    comes-line answers steps program q (w.events ++ some_ticks k) _ NoMore c.ticks before between after r
+    comes-line answers steps program q (w.events ++ some_ticks k) _ NoMore c.ticks r first second
     (part-whole program q steps (w.events ++ some_ticks k) (Ended Done) (happens.0 steps (omega (arith, tail.ticks, (called.within w.within).ticks, same))))
     (whole, omega (arith, tail.answers, has_some refl)) (omega (arith, tail.answers, less)) tail.ticks (rw tail.printed w.written) writes
-comes-end m n b c answers given steps program q Happening.Done false before between after r runnable w called less same has_some has_none not_answer happens writes =
+comes-end m n b c answers given steps program q Happening.Done false r first second runnable w called less same has_some has_none not_answer happens writes =
     let k : ℕ = counted m.mode b c in
-    let tail : IsTail w.events k given c.ticks q.names = tail-of m n b c given program q before between w called in
+    let tail : IsTail w.events k given c.ticks q.names = tail-of m n b c given program q first w called in
     let whole = whole-of answers given (w.events ++ some_ticks k) (Ended Done) tail.answers less in
-    comes-line answers steps program q (w.events ++ some_ticks k) _ No c.ticks before between after r
+    comes-line answers steps program q (w.events ++ some_ticks k) _ No c.ticks r first second
     (part-whole program q steps (w.events ++ some_ticks k) (Ended Done) (happens.0 steps (omega (arith, tail.ticks, (called.within w.within).ticks, same))))
     (whole, omega (arith, tail.answers, has_none refl)) (omega (arith, tail.answers, less)) tail.ticks (rw tail.printed w.written) writes
-comes-end m n b c answers given steps program q (Happening.Raised ball) has before between after r runnable w called less same has_some has_none not_answer happens writes =
+comes-end m n b c answers given steps program q (Happening.Raised ball) has r first second runnable w called less same has_some has_none not_answer happens writes =
     let k : ℕ = counted m.mode b c in
-    let tail : IsTail w.events k given c.ticks q.names = tail-of m n b c given program q before between w called in
-    comes-line answers steps program q (w.events ++ some_ticks k) _ (Exception ball) c.ticks before between after r
+    let tail : IsTail w.events k given c.ticks q.names = tail-of m n b c given program q first w called in
+    comes-line answers steps program q (w.events ++ some_ticks k) _ (Exception ball) c.ticks r first second
     (part-whole program q steps (w.events ++ some_ticks k) (Ended (Raise ball)) (happens.0 steps (omega (arith, tail.ticks, (called.within w.within).ticks, same))))
     (whole-of answers given (w.events ++ some_ticks k) (Ended (Raise ball)) tail.answers less) (omega (arith, tail.answers, less)) tail.ticks (rw tail.printed w.written) writes
-comes-end m n b c answers given steps program q Happening.StepsSpent has before between after r runnable w called less same has_some has_none not_answer happens writes =
+comes-end m n b c answers given steps program q Happening.StepsSpent has r first second runnable w called less same has_some has_none not_answer happens writes =
     let k : ℕ = counted m.mode b c in
-    let tail : IsTail w.events k given c.ticks q.names = tail-of m n b c given program q before between w called in
+    let tail : IsTail w.events k given c.ticks q.names = tail-of m n b c given program q first w called in
     let spent : c.steps ≤ c.ticks = happens.3 in
     let ticks : count_ticks w.events + k ≡ steps = omega (arith, tail.so_many, (called.within w.within).ticks, same, spent) in
-    comes-line answers steps program q (w.events ++ some_ticks k) _ StepsSpent c.ticks before between after r
+    comes-line answers steps program q (w.events ++ some_ticks k) _ StepsSpent c.ticks r first second
     (part-whole program q steps (w.events ++ some_ticks k) Spent (subst (λ s. IsRun program q [] s (record { events = w.events ++ some_ticks k; stop = Spent })) ticks happens.0))
     (whole-of answers given (w.events ++ some_ticks k) Spent tail.answers less) (omega (arith, tail.answers, less)) tail.ticks (rw tail.printed w.written) writes
 
@@ -284,10 +285,10 @@ set-last runs listed new a b pushed set =
     set ∙ ap (λ n. slice_set listed n b) last ∙ ap (λ (l : List QueryRun). slice_set l (length runs) b) pushed ∙ set-end runs a b
 
 -- a query that was asked is listed last
-pub has-run : (answers steps : ℕ) (program : List PredTree) (q : QueryTree) (old listed new : List QueryRun) (a run : QueryRun) (ticks : ℕ) (before after : Option (List ℕ)) (r : Result ℕ Stop) →
-    listed ≡ old ++ a ∷ [] → new ≡ slice_set listed (length listed - 1) run → run ≡ run_of ticks → ticks ≤ steps → ComesTo answers steps program q ticks before after r →
-    HasRun answers steps program q old new before after r
-has-run answers steps program q old listed new a run ticks before after r pushed set is within comes = was_asked (record {
+pub has-run : (answers steps : ℕ) (program : List PredTree) (q : QueryTree) (old listed new : List QueryRun) (a run : QueryRun) (ticks : ℕ) (r : Result ℕ Stop) (writes : List SinkWrite) →
+    listed ≡ old ++ a ∷ [] → new ≡ slice_set listed (length listed - 1) run → run ≡ run_of ticks → ticks ≤ steps → ComesTo answers steps program q ticks r writes →
+    HasRun answers steps program q old new r writes
+has-run answers steps program q old listed new a run ticks r writes pushed set is within comes = was_asked (record {
   ticks = ticks;
   listed = set-last old listed new a run pushed set ∙ ap (λ (x : QueryRun). old ++ x ∷ []) is;
   within = within;

@@ -1,12 +1,12 @@
 -- Where two texts come to a line, that is what is written; where they ask a goal of a program, it is run. And what they come to is one.
-use Rattle.std.proofs.Common.{◌≡◌, ◌≢◌, ◌<◌, ◌≤◌, ◌+◌, ℕ, suc, List, [], ◌∷◌, ◌++◌, length, length-append, refl, sym, ap, subst, ◌∙◌, arith}
+use Rattle.std.proofs.Common.{◌≡◌, ◌≢◌, ◌+◌, ℕ, suc, List, [], ◌∷◌, ◌++◌, refl, sym, ap, subst, ◌∙◌, arith}
 use Rattle.pi_syntax.specs.ExpTree.{ExpTree}
 use Rattle.pi_syntax.specs.ProgramTree.{ProgramTree}
 use Rattle.pi_answers.specs.declared.log.LogEntry.{LogEntry}
 use Rattle.pi_traces.specs.Trace.{Done, Raise, Emitted, noted, answered, count_ticks}
 use Rattle.pi_traces.specs.Depth.{Cut, Stop, Ended, Spent}
 use Rattle.pi_meaning.specs.View.{query_view}
-use Rattle.pi_meaning.specs.SurfaceRun.{Told, IsSurfaceRun}
+use Rattle.pi_meaning.specs.SurfaceRun.{Told}
 use Rattle.pi_meaning.proofs.SurfaceDepths.{surface-runs-are-one}
 use Rattle.pi_top.specs.declared.outcome.QueryRun.{QueryRun}
 use Rattle.pi_top.specs.declared.words.Options.{Options}
@@ -28,16 +28,16 @@ no-three No e = absurd (omega (arith, e))
 no-three (Exception ball) e = absurd (omega (arith, e))
 no-three StepsSpent e = absurd (omega (arith, e))
 
-pub refused-written : (o : AreOne) (asked : Options) (text goal line bytes : List ℕ) (queries : List QueryRun) (log : List LogEntry) (status : ℕ) → Refused text goal line →
-    ComesText asked text goal queries log status bytes → IsLine line 3 status queries bytes
-refused-written o asked text goal line bytes queries log status is (refused other that written) =
-    subst (λ (l : List ℕ). IsLine l 3 status queries bytes) (one-line o text goal other line that is) written
-refused-written o asked text goal line bytes queries log status is (ran program of_program asks has) = absurd (not-both o text goal line program of_program is asks)
+pub refused-written : (o : AreOne) (asked : Options) (text goal line : List ℕ) (texts : List (List ℕ)) (queries : List QueryRun) (log : List LogEntry) (status : ℕ) → Refused text goal line →
+    ComesText asked text goal queries log status texts → IsLine line 3 status queries texts
+refused-written o asked text goal line texts queries log status is (refused other that written) =
+    subst (λ (l : List ℕ). IsLine l 3 status queries texts) (one-line o text goal other line that is) written
+refused-written o asked text goal line texts queries log status is (ran program of_program asks has) = absurd (not-both o text goal line program of_program is asks)
 
-pub asked-run : (o : AreOne) (asked : Options) (text goal bytes : List ℕ) (p : ProgramTree) (e : ExpTree) (queries : List QueryRun) (log : List LogEntry) (status : ℕ) →
-    Asks text goal p e → ComesText asked text goal queries log status bytes → status ≢ 3
-asked-run o asked text goal bytes p e queries log status is (refused line that written) three = absurd (not-both o text goal line p e that is)
-asked-run o asked text goal bytes p e queries log status is (ran program of_program asks has) three = no-three has.headline.ending (sym has.headline.its_status ∙ three)
+pub asked-run : (o : AreOne) (asked : Options) (text goal : List ℕ) (texts : List (List ℕ)) (p : ProgramTree) (e : ExpTree) (queries : List QueryRun) (log : List LogEntry) (status : ℕ) →
+    Asks text goal p e → ComesText asked text goal queries log status texts → status ≢ 3
+asked-run o asked text goal texts p e queries log status is (refused line that written) three = absurd (not-both o text goal line p e that is)
+asked-run o asked text goal texts p e queries log status is (ran program of_program asks has) three = no-three has.headline.ending (sym has.headline.its_status ∙ three)
 
 -- ---- one part of a run
 
@@ -116,14 +116,14 @@ one-part asked part other run a b (is_whole stop whole) (is_whole stops wholes) 
 -- ---- one outcome
 
 -- what two headlines of one goal have in common
-record AreSame (ticks others status other : ℕ) (bytes more : List ℕ) : Type 0 where
+record AreSame (ticks others status other : ℕ) (texts more : List (List ℕ)) : Type 0 where
   pub same_ticks : ticks ≡ others
   pub same_status : status ≡ other
-  pub same_bytes : bytes ≡ more
+  pub same_texts : texts ≡ more
 
-one-headline : (answers steps : ℕ) (program : ProgramTree) (goal : ExpTree) (log : List LogEntry) (ticks others status other : ℕ) (bytes more : List ℕ) →
-    Headline answers steps program goal log ticks status bytes → Headline answers steps program goal log others other more → AreSame ticks others status other bytes more
-one-headline answers steps program goal log ticks others status other bytes more a b =
+one-headline : (answers steps : ℕ) (program : ProgramTree) (goal : ExpTree) (log : List LogEntry) (ticks others status other : ℕ) (texts more : List (List ℕ)) →
+    Headline answers steps program goal log ticks status texts → Headline answers steps program goal log others other more → AreSame ticks others status other texts more
+one-headline answers steps program goal log ticks others status other texts more a b =
     let run : a.run ≡ b.run = surface-runs-are-one (query_view log) program goal steps a.run b.run a.is_part.is_run b.is_part.is_run in
     let begins : IsPrefix b.part a.run.events = rw (← run) at b.is_part.begins in
     let ends : Ends answers b.part a.run b.ending = rw (← run) at b.ends in
@@ -133,34 +133,34 @@ one-headline answers steps program goal log ticks others status other bytes more
     record {
       same_ticks = a.ticks_in_it ∙ ap count_ticks part ∙ sym b.ticks_in_it;
       same_status = a.its_status ∙ ap status_of ending ∙ sym b.its_status;
-      same_bytes = a.written ∙ ap (λ p. print p ++ line_of a.ending) part ∙ ap (λ e. print b.part ++ line_of e) ending ∙ sym b.written;
+      same_texts = a.written ∙ ap (λ p. print p ++ line_of a.ending ∷ []) part ∙ ap (λ e. print b.part ++ line_of e ∷ []) ending ∙ sym b.written;
     }
 
-pub record AreOneOutcome (queries runs : List QueryRun) (status other : ℕ) (bytes more : List ℕ) : Type 0 where
+pub record AreOneOutcome (queries runs : List QueryRun) (status other : ℕ) (texts more : List (List ℕ)) : Type 0 where
   pub same_queries : queries ≡ runs
   pub same_status : status ≡ other
-  pub same_bytes : bytes ≡ more
+  pub same_texts : texts ≡ more
 
-one-ran : (asked : Options) (log : List LogEntry) (p q : ProgramTree) (e f : ExpTree) (queries runs : List QueryRun) (status other : ℕ) (bytes more : List ℕ) → q ≡ p → f ≡ e →
-    HasRan asked.answers asked.steps p e log queries status bytes → HasRan asked.answers asked.steps q f log runs other more → AreOneOutcome queries runs status other bytes more
-one-ran asked log p q e f queries runs status other bytes more program goal a b =
+one-ran : (asked : Options) (log : List LogEntry) (p q : ProgramTree) (e f : ExpTree) (queries runs : List QueryRun) (status other : ℕ) (texts more : List (List ℕ)) → q ≡ p → f ≡ e →
+    HasRan asked.answers asked.steps p e log queries status texts → HasRan asked.answers asked.steps q f log runs other more → AreOneOutcome queries runs status other texts more
+one-ran asked log p q e f queries runs status other texts more program goal a b =
     let head : Headline asked.answers asked.steps p e log b.ticks other more = rw (program, goal) at b.headline in
-    let same = one-headline asked.answers asked.steps p e log a.ticks b.ticks status other bytes more a.headline head in
+    let same = one-headline asked.answers asked.steps p e log a.ticks b.ticks status other texts more a.headline head in
     record {
       same_queries = a.listed ∙ ap (λ n. run_of n ∷ []) same.same_ticks ∙ sym b.listed;
       same_status = same.same_status;
-      same_bytes = same.same_bytes;
+      same_texts = same.same_texts;
     }
 
-pub one-outcome : (o : AreOne) (asked : Options) (text goal bytes more : List ℕ) (queries runs : List QueryRun) (log : List LogEntry) (status other : ℕ) →
-    ComesText asked text goal queries log status bytes → ComesText asked text goal runs log other more → AreOneOutcome queries runs status other bytes more
-one-outcome o asked text goal bytes more queries runs log status other (refused line is a) (refused lines are b) = record {
+pub one-outcome : (o : AreOne) (asked : Options) (text goal : List ℕ) (texts more : List (List ℕ)) (queries runs : List QueryRun) (log : List LogEntry) (status other : ℕ) →
+    ComesText asked text goal queries log status texts → ComesText asked text goal runs log other more → AreOneOutcome queries runs status other texts more
+one-outcome o asked text goal texts more queries runs log status other (refused line is a) (refused lines are b) = record {
   same_queries = a.none_ran ∙ sym b.none_ran;
   same_status = a.is_its ∙ sym b.is_its;
-  same_bytes = a.written ∙ one-line o text goal line lines is are ∙ sym b.written;
+  same_texts = a.written ∙ ap (λ (l : List ℕ). l ∷ []) (one-line o text goal line lines is are) ∙ sym b.written;
 }
-one-outcome o asked text goal bytes more queries runs log status other (refused line is a) (ran q f asks b) = absurd (not-both o text goal line q f is asks)
-one-outcome o asked text goal bytes more queries runs log status other (ran p e asks a) (refused line is b) = absurd (not-both o text goal line p e is asks)
-one-outcome o asked text goal bytes more queries runs log status other (ran p e asks a) (ran q f ask b) =
+one-outcome o asked text goal texts more queries runs log status other (refused line is a) (ran q f asks b) = absurd (not-both o text goal line q f is asks)
+one-outcome o asked text goal texts more queries runs log status other (ran p e asks a) (refused line is b) = absurd (not-both o text goal line p e is asks)
+one-outcome o asked text goal texts more queries runs log status other (ran p e asks a) (ran q f ask b) =
     let same : (q ≡ p) × (f ≡ e) = one-asked o text goal q p f e ask.faultless asks.faultless in
-    one-ran asked log p q e f queries runs status other bytes more same.0 same.1 a b
+    one-ran asked log p q e f queries runs status other texts more same.0 same.1 a b

@@ -1,6 +1,7 @@
 -- Completeness: where nothing fails, a goal that is asked is run to an end of its own, or memory is wanted.
 use Rattle.std.specs.Prelude.{◌≡◌, ◌≢◌, ◌⊎◌, ℕ, List, Option, Some}
 use Rattle.pi_outside.specs.Held.{Holding}
+use Rattle.pi_outside.specs.Writes.{SinkWrite}
 use Rattle.pi_syntax.specs.ExpTree.{ExpTree}
 use Rattle.pi_syntax.specs.ProgramTree.{ProgramTree}
 use Rattle.pi_answers.specs.declared.log.LogEntry.{LogEntry}
@@ -23,7 +24,7 @@ pub record NothingFails (words : List (List ℕ)) (asked : Options) (status : �
   pub no_write_fails : Rises sink → ⊥
 
 -- the goal was run to its end: its status is 0, 1, 4 or 5
-pub record IsComplete (asked : Options) (held : Option Holding) (queries : List QueryRun) (log : List LogEntry) (status : ℕ) (before after : Option (List ℕ)) : Type 0 where
+pub record IsComplete (asked : Options) (held : Option Holding) (queries : List QueryRun) (log : List LogEntry) (status : ℕ) (writes : List SinkWrite) : Type 0 where
   pub text : List ℕ
   pub goal : List ℕ
   pub is_read : IsRead held asked.file text
@@ -31,7 +32,7 @@ pub record IsComplete (asked : Options) (held : Option Holding) (queries : List 
   pub program : ProgramTree
   pub of_program : ExpTree
   pub asks : Asks text goal program of_program
-  pub ran : Written (HasRan asked.answers asked.steps program of_program log queries status) before after
+  pub ran : Written (HasRan asked.answers asked.steps program of_program log queries status) writes
 
-abbrev pub Completes : Options → Option Holding → List QueryRun → List LogEntry → ℕ → Option (List ℕ) → Option (List ℕ) → Type 0
-Completes asked held queries log status before after = (status ≡ 9) ⊎ IsComplete asked held queries log status before after
+abbrev pub Completes : Options → Option Holding → List QueryRun → List LogEntry → ℕ → List SinkWrite → Type 0
+Completes asked held queries log status writes = (status ≡ 9) ⊎ IsComplete asked held queries log status writes

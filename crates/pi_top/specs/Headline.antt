@@ -1,8 +1,7 @@
 -- What a goal comes to that is asked of a program: what is written is the printing of a prefix of its run, and then the line of its
 -- end. A run is that of the meaning over names, of the texts that were read.
-use Rattle.std.specs.Prelude.{◌≡◌, ◌≤◌, ℕ, List, [], ◌∷◌, ◌++◌, Option}
-use Rattle.std.specs.List.{concat}
-use Rattle.pi_outside.specs.Taken.{Takes}
+use Rattle.std.specs.Prelude.{◌≡◌, ◌≤◌, ℕ, List, [], ◌∷◌, ◌++◌}
+use Rattle.pi_outside.specs.Writes.{SinkWrite}
 use Rattle.pi_traces.specs.Trace.{Emitted, answered, count_ticks}
 use Rattle.pi_traces.specs.Depth.{Cut}
 use Rattle.pi_syntax.specs.ExpTree.{ExpTree}
@@ -11,7 +10,8 @@ use Rattle.pi_meaning.specs.View.{query_view}
 use Rattle.pi_meaning.specs.SurfaceRun.{Told, told_answer, IsSurfaceRun}
 use Rattle.pi_print.specs.PrintAnswer.{answer_lines}
 use Rattle.pi_answers.specs.declared.log.LogEntry.{LogEntry}
-use Rattle.pi_top.specs.Prefix.{IsPrefix, TakesFront}
+use Rattle.pi_top.specs.Handing.{HandsAll, FailsIn}
+use Rattle.pi_top.specs.Prefix.{IsPrefix}
 use Rattle.pi_top.specs.Printing.{print}
 use Rattle.pi_top.specs.QueryEnd.{QueryEnd, line_of, status_of, count_answers, Ends}
 
@@ -21,8 +21,8 @@ pub record IsPart (program : ProgramTree) (goal : ExpTree) (log : List LogEntry)
   pub begins : IsPrefix part run.events
 
 -- Where so many answers are asked for before so many Ticks are spent: a part of the run, so many Ticks in it, its end with
--- status, and the bytes of its printing with the line of that end.
-pub record Headline (answers steps : ℕ) (program : ProgramTree) (goal : ExpTree) (log : List LogEntry) (ticks status : ℕ) (bytes : List ℕ) : Type 0 where
+-- status, and the texts of its printing with the line of that end.
+pub record Headline (answers steps : ℕ) (program : ProgramTree) (goal : ExpTree) (log : List LogEntry) (ticks status : ℕ) (texts : List (List ℕ)) : Type 0 where
   pub run : Cut Told
   pub part : List (Emitted Told)
   pub is_part : IsPart program goal log steps run part
@@ -30,19 +30,19 @@ pub record Headline (answers steps : ℕ) (program : ProgramTree) (goal : ExpTre
   pub ending : QueryEnd
   pub ends : Ends answers part run ending
   pub its_status : status ≡ status_of ending
-  pub written : bytes ≡ print part ++ line_of ending
+  pub written : texts ≡ print part ++ line_of ending ∷ []
 
 -- Where it was cut off behind a part of the run, with so many Ticks in it: a write of the lines of its last answer failed, or that of
 -- the line of its end; or memory was wanted with fewer answers than are asked for.
-pub data HowCut (answers : ℕ) (run : Cut Told) (part : List (Emitted Told)) (ticks status : ℕ) (before after : Option (List ℕ)) : Type 0 where
+pub data HowCut (answers : ℕ) (run : Cut Told) (part : List (Emitted Told)) (ticks status : ℕ) (writes : List SinkWrite) : Type 0 where
   in_answer : status ≡ 8 → ticks ≡ count_ticks part → (earlier : List (Emitted Told)) (x : Told) → part ≡ earlier ++ answered x ∷ [] → count_answers part ≤ answers →
-      TakesFront before (print earlier) (concat (answer_lines (told_answer x))) after → HowCut answers run part ticks status before after
-  in_line : status ≡ 8 → ticks ≡ count_ticks part → (ending : QueryEnd) → Ends answers part run ending → TakesFront before (print part) (line_of ending) after →
-      HowCut answers run part ticks status before after
-  at_memory : status ≡ 9 → ticks ≡ count_ticks part → count_answers part ≤ answers → Takes before (print part) after → HowCut answers run part ticks status before after
+      FailsIn (print earlier) (answer_lines (told_answer x)) writes → HowCut answers run part ticks status writes
+  in_line : status ≡ 8 → ticks ≡ count_ticks part → (ending : QueryEnd) → Ends answers part run ending → FailsIn (print part) (line_of ending ∷ []) writes →
+      HowCut answers run part ticks status writes
+  at_memory : status ≡ 9 → ticks ≡ count_ticks part → count_answers part ≤ answers → HandsAll (print part) writes → HowCut answers run part ticks status writes
 
-pub record IsCutOff (answers steps : ℕ) (program : ProgramTree) (goal : ExpTree) (log : List LogEntry) (ticks status : ℕ) (before after : Option (List ℕ)) : Type 0 where
+pub record IsCutOff (answers steps : ℕ) (program : ProgramTree) (goal : ExpTree) (log : List LogEntry) (ticks status : ℕ) (writes : List SinkWrite) : Type 0 where
   pub run : Cut Told
   pub part : List (Emitted Told)
   pub is_part : IsPart program goal log steps run part
-  pub how : HowCut answers run part ticks status before after
+  pub how : HowCut answers run part ticks status writes

@@ -3,12 +3,14 @@ pub mod CutOff
 pub mod Ends
 pub mod FaultLines
 pub mod Faults
+pub mod Handing
 pub mod Headline
 pub mod Judged
 pub mod JudgedCode
 pub mod Prefix
 pub mod Printing
 pub mod QueryEnd
+pub mod Reading
 pub mod Running
 pub mod Runs
 pub mod Settings

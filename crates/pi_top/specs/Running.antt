@@ -1,8 +1,7 @@
 -- A query that is being run: what is written of it so far, and what it comes to. Here it is a query of the core language, whose run is
 -- that of the goal over its names.
-use Rattle.std.specs.Prelude.{◌≡◌, ◌<◌, ◌≤◌, ℕ, List, [], ◌∷◌, ◌++◌, Option, Result, Ok, Err}
-use Rattle.std.specs.List.{concat}
-use Rattle.pi_outside.specs.Taken.{Takes}
+use Rattle.std.specs.Prelude.{◌≡◌, ◌<◌, ◌≤◌, ℕ, List, [], ◌∷◌, ◌++◌, Result, Ok, Err}
+use Rattle.pi_outside.specs.Writes.{SinkWrite}
 use Rattle.pi_core.specs.CoreTree.{PredTree, QueryTree}
 use Rattle.pi_core.specs.declared.core_program.NameSlot.{NameSlot}
 use Rattle.pi_traces.specs.Trace.{Tick, Load, Out, Emitted, noted, answered, count_ticks}
@@ -21,18 +20,19 @@ use Rattle.pi_top.specs.declared.outcome.QueryRun.{QueryRun}
 use Rattle.pi_top.specs.declared.query.Stop.{Stop}
 use Rattle.pi_top.specs.declared.query.Stop.TheVariants.{Memory}
 use Rattle.pi_top.specs.Ends.{status_of_stop}
-use Rattle.pi_top.specs.Prefix.{IsPrefix, TakesFront}
+use Rattle.pi_top.specs.Handing.{HandsAll, FailsIn}
+use Rattle.pi_top.specs.Prefix.{IsPrefix}
 use Rattle.pi_top.specs.QueryEnd.{QueryEnd, line_of, status_of, count_answers, EndsWithLast, Ends}
 use Rattle.pi_top.specs.Runs.{no_work, run_of}
 
 -- ---- what is printed of a query's run
 
-unfoldable pub print_solutions : List NameSlot → List (Emitted Solution) → List ℕ
+unfoldable pub print_solutions : List NameSlot → List (Emitted Solution) → List (List ℕ)
 print_solutions names [] = []
 print_solutions names (noted Tick ∷ events) = print_solutions names events
 print_solutions names (noted (Load k) ∷ events) = print_solutions names events
-print_solutions names (noted (Out text) ∷ events) = text ++ print_solutions names events
-print_solutions names (answered x ∷ events) = concat (answer_lines (answer_of names x)) ++ print_solutions names events
+print_solutions names (noted (Out text) ∷ events) = text ∷ print_solutions names events
+print_solutions names (answered x ∷ events) = answer_lines (answer_of names x) ++ print_solutions names events
 
 -- a part of the run of a query, cut before the Tick that is one more than it may take
 pub record IsQueryPart (program : List PredTree) (q : QueryTree) (steps : ℕ) (run : Cut Solution) (part : List (Emitted Solution)) : Type 0 where
@@ -40,7 +40,7 @@ pub record IsQueryPart (program : List PredTree) (q : QueryTree) (steps : ℕ) (
   pub begins : IsPrefix part run.events
 
 -- its end is written
-pub record QueryEnds (answers steps : ℕ) (program : List PredTree) (q : QueryTree) (ticks status : ℕ) (before after : Option (List ℕ)) : Type 0 where
+pub record QueryEnds (answers steps : ℕ) (program : List PredTree) (q : QueryTree) (ticks status : ℕ) (writes : List SinkWrite) : Type 0 where
   pub run : Cut Solution
   pub part : List (Emitted Solution)
   pub is_part : IsQueryPart program q steps run part
@@ -48,22 +48,22 @@ pub record QueryEnds (answers steps : ℕ) (program : List PredTree) (q : QueryT
   pub ending : QueryEnd
   pub ends : Ends answers part run ending
   pub its_status : status ≡ status_of ending
-  pub written : Takes before (print_solutions q.names part ++ line_of ending) after
+  pub written : HandsAll (print_solutions q.names part ++ line_of ending ∷ []) writes
 
 -- it is cut off
-pub data HowQueryIsCut (answers : ℕ) (q : QueryTree) (run : Cut Solution) (part : List (Emitted Solution)) (ticks status : ℕ) (before after : Option (List ℕ)) : Type 0 where
+pub data HowQueryIsCut (answers : ℕ) (q : QueryTree) (run : Cut Solution) (part : List (Emitted Solution)) (ticks status : ℕ) (writes : List SinkWrite) : Type 0 where
   in_answer : status ≡ 8 → ticks ≡ count_ticks part → (earlier : List (Emitted Solution)) (x : Solution) → part ≡ earlier ++ answered x ∷ [] → count_answers part ≤ answers →
-      TakesFront before (print_solutions q.names earlier) (concat (answer_lines (answer_of q.names x))) after → HowQueryIsCut answers q run part ticks status before after
-  in_line : status ≡ 8 → ticks ≡ count_ticks part → (ending : QueryEnd) → Ends answers part run ending → TakesFront before (print_solutions q.names part) (line_of ending) after →
-      HowQueryIsCut answers q run part ticks status before after
-  at_memory : status ≡ 9 → ticks ≡ count_ticks part → count_answers part ≤ answers → Takes before (print_solutions q.names part) after →
-      HowQueryIsCut answers q run part ticks status before after
+      FailsIn (print_solutions q.names earlier) (answer_lines (answer_of q.names x)) writes → HowQueryIsCut answers q run part ticks status writes
+  in_line : status ≡ 8 → ticks ≡ count_ticks part → (ending : QueryEnd) → Ends answers part run ending → FailsIn (print_solutions q.names part) (line_of ending ∷ []) writes →
+      HowQueryIsCut answers q run part ticks status writes
+  at_memory : status ≡ 9 → ticks ≡ count_ticks part → count_answers part ≤ answers → HandsAll (print_solutions q.names part) writes →
+      HowQueryIsCut answers q run part ticks status writes
 
-pub record QueryIsCut (answers steps : ℕ) (program : List PredTree) (q : QueryTree) (ticks status : ℕ) (before after : Option (List ℕ)) : Type 0 where
+pub record QueryIsCut (answers steps : ℕ) (program : List PredTree) (q : QueryTree) (ticks status : ℕ) (writes : List SinkWrite) : Type 0 where
   pub run : Cut Solution
   pub part : List (Emitted Solution)
   pub is_part : IsQueryPart program q steps run part
-  pub how : HowQueryIsCut answers q run part ticks status before after
+  pub how : HowQueryIsCut answers q run part ticks status writes
 
 -- ---- while it runs
 
@@ -79,7 +79,7 @@ pub record IsAtStart {M : Type 0} (m : MachineView M) (b : Budget) (answers : �
   pub asked : 0 < answers
 
 -- so many answers were written, and all that was run is printed
-pub record IsWritten {M : Type 0} (m : MachineView M) (b : Budget) (given : ℕ) (program : List PredTree) (q : QueryTree) (before after : Option (List ℕ)) : Type 0 where
+pub record IsWritten {M : Type 0} (m : MachineView M) (b : Budget) (given : ℕ) (program : List PredTree) (q : QueryTree) (writes : List SinkWrite) : Type 0 where
   pub events : List (Emitted Solution)
   pub runs : RunsTo (query_view []) m program q events
   pub counts_ticks : mode_of m ≡ Mode.Top
@@ -88,21 +88,21 @@ pub record IsWritten {M : Type 0} (m : MachineView M) (b : Budget) (given : ℕ)
   pub last : 0 < given → EndsWithLast given events
   pub ticks : b.ticks ≡ count_ticks events
   pub within : IsWithin b
-  pub written : Takes before (print_solutions q.names events) after
+  pub written : HandsAll (print_solutions q.names events) writes
 
 -- what it comes to, by what is answered
-abbrev pub ComesTo : ℕ → ℕ → List PredTree → QueryTree → ℕ → Option (List ℕ) → Option (List ℕ) → Result ℕ Stop → Type 0
-ComesTo answers steps program q ticks before after (Ok status) = QueryEnds answers steps program q ticks status before after
-ComesTo answers steps program q ticks before after (Err stop) = QueryIsCut answers steps program q ticks (status_of_stop stop) before after
+abbrev pub ComesTo : ℕ → ℕ → List PredTree → QueryTree → ℕ → Result ℕ Stop → List SinkWrite → Type 0
+ComesTo answers steps program q ticks (Ok status) writes = QueryEnds answers steps program q ticks status writes
+ComesTo answers steps program q ticks (Err stop) writes = QueryIsCut answers steps program q ticks (status_of_stop stop) writes
 
 -- it is listed behind those that were run before, with its Ticks, and comes to this
-pub record IsListed (answers steps : ℕ) (program : List PredTree) (q : QueryTree) (old new : List QueryRun) (before after : Option (List ℕ)) (r : Result ℕ Stop) : Type 0 where
+pub record IsListed (answers steps : ℕ) (program : List PredTree) (q : QueryTree) (old new : List QueryRun) (r : Result ℕ Stop) (writes : List SinkWrite) : Type 0 where
   pub ticks : ℕ
   pub listed : new ≡ old ++ run_of ticks ∷ []
   pub within : ticks ≤ steps
-  pub comes : ComesTo answers steps program q ticks before after r
+  pub comes : ComesTo answers steps program q ticks r writes
 
 -- or memory is wanted before it is asked, and nothing is listed or written
-pub data HasRun (answers steps : ℕ) (program : List PredTree) (q : QueryTree) (old new : List QueryRun) (before after : Option (List ℕ)) (r : Result ℕ Stop) : Type 0 where
-  not_asked : r ≡ Err Memory → new ≡ old → Takes before [] after → HasRun answers steps program q old new before after r
-  was_asked : IsListed answers steps program q old new before after r → HasRun answers steps program q old new before after r
+pub data HasRun (answers steps : ℕ) (program : List PredTree) (q : QueryTree) (old new : List QueryRun) (r : Result ℕ Stop) (writes : List SinkWrite) : Type 0 where
+  not_asked : r ≡ Err Memory → new ≡ old → writes ≡ [] → HasRun answers steps program q old new r writes
+  was_asked : IsListed answers steps program q old new r writes → HasRun answers steps program q old new r writes

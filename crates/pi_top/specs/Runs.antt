@@ -1,5 +1,6 @@
 -- The goals that were run, as they are listed.
-use Rattle.std.specs.Prelude.{◌≡◌, ◌≤◌, ℕ, List, [], ◌∷◌, Option}
+use Rattle.std.specs.Prelude.{◌≡◌, ◌≤◌, ℕ, List, [], ◌∷◌}
+use Rattle.pi_outside.specs.Writes.{SinkWrite}
 use Rattle.pi_syntax.specs.ExpTree.{ExpTree}
 use Rattle.pi_syntax.specs.ProgramTree.{ProgramTree}
 use Rattle.pi_answers.specs.declared.log.LogEntry.{LogEntry}
@@ -16,17 +17,17 @@ abbrev pub run_of : ℕ → QueryRun
 run_of ticks = record { ticks = ticks; work = no_work; known = 0; first = 0 }
 
 -- a goal was run, and it alone is listed; it came to this
-pub record HasRan (answers steps : ℕ) (program : ProgramTree) (goal : ExpTree) (log : List LogEntry) (queries : List QueryRun) (status : ℕ) (bytes : List ℕ) : Type 0 where
+pub record HasRan (answers steps : ℕ) (program : ProgramTree) (goal : ExpTree) (log : List LogEntry) (queries : List QueryRun) (status : ℕ) (texts : List (List ℕ)) : Type 0 where
   pub ticks : ℕ
   pub listed : queries ≡ run_of ticks ∷ []
-  pub headline : Headline answers steps program goal log ticks status bytes
+  pub headline : Headline answers steps program goal log ticks status texts
 
 -- a goal was asked, and it alone is listed, with no more Ticks than it may take; its run was cut off
-pub record WasCutOff (answers steps : ℕ) (program : ProgramTree) (goal : ExpTree) (log : List LogEntry) (queries : List QueryRun) (status : ℕ) (before after : Option (List ℕ)) : Type 0 where
+pub record WasCutOff (answers steps : ℕ) (program : ProgramTree) (goal : ExpTree) (log : List LogEntry) (queries : List QueryRun) (status : ℕ) (writes : List SinkWrite) : Type 0 where
   pub ticks : ℕ
   pub listed : queries ≡ run_of ticks ∷ []
   pub within : ticks ≤ steps
-  pub cut : IsCutOff answers steps program goal log ticks status before after
+  pub cut : IsCutOff answers steps program goal log ticks status writes
 
 -- each of these runs took no more Ticks than this
 abbrev pub AllWithin : ℕ → List QueryRun → Type 0

@@ -1,41 +1,41 @@
--- What the writing of a text did, by what it answered.
-use Rattle.std.specs.Prelude.{◌≡◌, ℕ, Bool, true, false, List, [], Option, Result, IfOk, IfErr, OnOk, ⊤}
-use Rattle.pi_outside.specs.Taken.{Takes}
+-- What the writing of texts did, by what it answered.
+use Rattle.std.specs.Prelude.{◌≡◌, ℕ, Bool, true, false, List, [], ◌∷◌, Result, IfOk, IfErr, OnOk, ⊤}
+use Rattle.pi_outside.specs.Writes.{SinkWrite}
 use Rattle.pi_machine.specs.declared.happening.Happening.{Happening}
 use Rattle.pi_top.specs.declared.query.Stop.{Stop}
 use Rattle.pi_top.specs.declared.query.Stop.TheVariants.{Write, Memory}
-use Rattle.pi_top.specs.Prefix.{TakesFront}
+use Rattle.pi_top.specs.Handing.{HandsAll, FailsIn}
 use Rattle.pi_top.specs.QueryEnd.{QueryEnd, NoMore, No, Exception, StepsSpent, line_of, status_of}
 
--- a write failed, and the front was taken; or memory was wanted, and nothing was
-abbrev pub IsCutIn : Option (List ℕ) → List ℕ → Option (List ℕ) → Stop → Type 0
-IsCutIn before text after Write = TakesFront before [] text after
-IsCutIn before text after Memory = Takes before [] after
+-- the write of one of them failed; or memory was wanted, and nothing was written
+abbrev pub IsCutIn : List (List ℕ) → List SinkWrite → Stop → Type 0
+IsCutIn texts writes Write = FailsIn [] texts writes
+IsCutIn texts writes Memory = writes ≡ []
 
--- the sink has taken all of it, or it was cut off
-pub record Writes {T : Type 0} (before : Option (List ℕ)) (text : List ℕ) (after : Option (List ℕ)) (answer : Result T Stop) : Type 0 where
-  pub all : OnOk answer (Takes before text after)
-  pub cut : IfErr answer (IsCutIn before text after)
+-- these texts were handed over, or that was cut off
+pub record Writes {T : Type 0} (texts : List (List ℕ)) (answer : Result T Stop) (writes : List SinkWrite) : Type 0 where
+  pub all : OnOk answer (HandsAll texts writes)
+  pub cut : IfErr answer (IsCutIn texts writes)
 
 -- the line of an end, whose status is answered
-pub record WritesLine (before : Option (List ℕ)) (ending : QueryEnd) (after : Option (List ℕ)) (answer : Result ℕ Stop) : Type 0 where
-  pub writes : Writes before (line_of ending) after answer
+pub record WritesLine (ending : QueryEnd) (answer : Result ℕ Stop) (writes : List SinkWrite) : Type 0 where
+  pub line : Writes (line_of ending ∷ []) answer writes
   pub its_status : IfOk answer (λ status. status ≡ status_of ending)
 
 -- nothing, and the run stops
-pub record WritesNothing (before after : Option (List ℕ)) (answer : Result ℕ Stop) : Type 0 where
+pub record WritesNothing (answer : Result ℕ Stop) (writes : List SinkWrite) : Type 0 where
   pub stops : OnOk answer ⊥
   pub memory : IfErr answer (λ stop. stop ≡ Memory)
-  pub nothing : Takes before [] after
+  pub nothing : writes ≡ []
 
 -- what is written at a machine's end, behind answers or none
-abbrev pub WritesEnd : Happening → Bool → Option (List ℕ) → Option (List ℕ) → Result ℕ Stop → Type 0
-WritesEnd Happening.Done true before after answer = WritesLine before NoMore after answer
-WritesEnd Happening.Done false before after answer = WritesLine before No after answer
-WritesEnd (Happening.Raised ball) has before after answer = WritesLine before (Exception ball) after answer
-WritesEnd Happening.StepsSpent has before after answer = WritesLine before StepsSpent after answer
-WritesEnd Happening.Memory has before after answer = WritesNothing before after answer
-WritesEnd (Happening.Answer a) has before after answer = ⊤
-WritesEnd (Happening.Out text) has before after answer = ⊤
-WritesEnd (Happening.NeedPlan call) has before after answer = ⊤
-WritesEnd Happening.WorkSpent has before after answer = ⊤
+abbrev pub WritesEnd : Happening → Bool → Result ℕ Stop → List SinkWrite → Type 0
+WritesEnd Happening.Done true answer writes = WritesLine NoMore answer writes
+WritesEnd Happening.Done false answer writes = WritesLine No answer writes
+WritesEnd (Happening.Raised ball) has answer writes = WritesLine (Exception ball) answer writes
+WritesEnd Happening.StepsSpent has answer writes = WritesLine StepsSpent answer writes
+WritesEnd Happening.Memory has answer writes = WritesNothing answer writes
+WritesEnd (Happening.Answer a) has answer writes = ⊤
+WritesEnd (Happening.Out text) has answer writes = ⊤
+WritesEnd (Happening.NeedPlan call) has answer writes = ⊤
+WritesEnd Happening.WorkSpent has answer writes = ⊤

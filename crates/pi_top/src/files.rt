@@ -1,6 +1,8 @@
 //! Programs that are read from files.
 ghost use Rattle.std.specs.Prelude.{◌≡◌, IfOk, IfErr, OnOk};
 ghost use Rattle.pi_outside.specs.Faults.{Rose};
+ghost use Rattle.pi_outside.specs.Reads.{ByReads};
+ghost use Rattle.pi_top.specs.Reading.{ReadsFile};
 ghost use Rattle.pi_top.specs.Texts.{IsRead};
 ghost use Rattle.pi_top.specs.declared.files.FileStop.TheVariants.{Fault, Memory};
 
@@ -29,6 +31,7 @@ impl From<AllocError> for FileStop {
 
 /// A file's bytes. No more is read once they are more than a text may have.
 pub fn read_file<F: Files>(alloc: Global, files: &mut F, name: &str) -> Result<Vec<u8>, FileStop>
+    ensures reads { ByReads F.has_read files.old files.new (ReadsFile name.now result) }
     ensures read { IfOk result (λ text. IsRead (F.held files.new) name.now text.items) }
     ensures fault { IfErr result (λ e. e ≡ Fault → Rose (F.faults files.old) (F.faults files.new)) }
     ensures no_fault { OnOk result (F.faults files.new ≡ F.faults files.old) }

@@ -30,19 +30,19 @@ pub fn judgements_are_one()
 
 /// No two endings fit one part of one run. In the mode `query` 3 comes exactly where the texts come to a line, and this line is then
 /// all that is written. And where neither a read nor a write fails and memory isn't wanted, the two texts, the options and the log
-/// decide the status, the goals that were run with their Ticks, and the bytes.
+/// decide the status, the goals that were run with their Ticks, and the texts that are written.
 pub fn outcomes_are_one()
     ensures endings { EndingIsOne }
-    ensures refused { (asked : Options) (text goal line bytes : List ℕ) (queries : List QueryRun) (log : List LogEntry) (status : ℕ)
-        → Refused text goal line → ComesText asked text goal queries log status bytes → IsLine line 3 status queries bytes }
-    ensures run { (asked : Options) (text goal bytes : List ℕ) (program : ProgramTree) (of_program : ExpTree) (queries : List QueryRun) (log : List LogEntry) (status : ℕ)
-        → Asks text goal program of_program → ComesText asked text goal queries log status bytes → status ≢ 3 }
-    ensures status { (asked : Options) (text goal bytes others : List ℕ) (queries runs : List QueryRun) (log : List LogEntry) (status other : ℕ)
-        → ComesText asked text goal queries log status bytes → ComesText asked text goal runs log other others → status ≡ other }
-    ensures queries { (asked : Options) (text goal bytes others : List ℕ) (queries runs : List QueryRun) (log : List LogEntry) (status other : ℕ)
-        → ComesText asked text goal queries log status bytes → ComesText asked text goal runs log other others → queries ≡ runs }
-    ensures bytes { (asked : Options) (text goal bytes others : List ℕ) (queries runs : List QueryRun) (log : List LogEntry) (status other : ℕ)
-        → ComesText asked text goal queries log status bytes → ComesText asked text goal runs log other others → bytes ≡ others }
+    ensures refused { (asked : Options) (text goal line : List ℕ) (texts : List (List ℕ)) (queries : List QueryRun) (log : List LogEntry) (status : ℕ)
+        → Refused text goal line → ComesText asked text goal queries log status texts → IsLine line 3 status queries texts }
+    ensures run { (asked : Options) (text goal : List ℕ) (texts : List (List ℕ)) (program : ProgramTree) (of_program : ExpTree) (queries : List QueryRun) (log : List LogEntry) (status : ℕ)
+        → Asks text goal program of_program → ComesText asked text goal queries log status texts → status ≢ 3 }
+    ensures status { (asked : Options) (text goal : List ℕ) (texts others : List (List ℕ)) (queries runs : List QueryRun) (log : List LogEntry) (status other : ℕ)
+        → ComesText asked text goal queries log status texts → ComesText asked text goal runs log other others → status ≡ other }
+    ensures queries { (asked : Options) (text goal : List ℕ) (texts others : List (List ℕ)) (queries runs : List QueryRun) (log : List LogEntry) (status other : ℕ)
+        → ComesText asked text goal queries log status texts → ComesText asked text goal runs log other others → queries ≡ runs }
+    ensures texts { (asked : Options) (text goal : List ℕ) (texts others : List (List ℕ)) (queries runs : List QueryRun) (log : List LogEntry) (status other : ℕ)
+        → ComesText asked text goal queries log status texts → ComesText asked text goal runs log other others → texts ≡ others }
 {
     one_reading();
     one_verdict();

@@ -1,8 +1,8 @@
 //! The lines that are written apart from answers and faults of texts.
-ghost use Rattle.std.specs.Prelude.{◌≡◌, [], OnErr, OnOk};
+ghost use Rattle.std.specs.Prelude.{◌≡◌, OnErr, OnOk};
 ghost use Rattle.pi_outside.specs.Faults.{NeverFalls, Rose};
-ghost use Rattle.pi_outside.specs.Taken.{Takes};
-ghost use Rattle.pi_top.specs.Prefix.{TakesFront};
+ghost use Rattle.pi_outside.specs.Writes.{ByWrites};
+ghost use Rattle.pi_top.specs.Handing.{HandsText};
 
 use pi_outside::{Failed, Sink};
 
@@ -21,8 +21,7 @@ pub const MEMORY: &str = "want of memory\n";
 
 /// Hands a text to the sink as one piece, and what the sink leaves of it as the next.
 pub fn write_text<O: Sink>(out: &mut O, text: &str) -> Result<(), Failed>
-    ensures takes { OnOk result (Takes (O.taken out.old) text.now (O.taken out.new)) }
-    ensures cut_off { OnErr result (TakesFront (O.taken out.old) [] text.now (O.taken out.new)) }
+    ensures hands { ByWrites O.wrote O.taken out.old out.new (HandsText text.now result) }
     ensures never_falls { NeverFalls (O.faults out.old) (O.faults out.new) }
     ensures rose { OnErr result (Rose (O.faults out.old) (O.faults out.new)) }
     ensures no_fault { OnOk result (O.faults out.new ≡ O.faults out.old) }

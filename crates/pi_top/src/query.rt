@@ -1,7 +1,7 @@
 //! Queries: a goal is asked, and its answers and its end are written.
-ghost use Rattle.std.specs.Prelude.{◌≡◌, ◌<◌, List, IfOk, IfErr};
+ghost use Rattle.std.specs.Prelude.{◌≡◌, ◌<◌, List, [], ◌∷◌, IfOk, IfErr};
 ghost use Rattle.std.specs.String.{string_bytes};
-ghost use Rattle.std.specs.List.{concat};
+ghost use Rattle.pi_outside.specs.Writes.{ByWrites};
 ghost use Rattle.pi_core.specs.CoreTree.{PredTree, QueryTree, program_tree, query_tree};
 ghost use Rattle.pi_print.specs.PrintAnswer.{answer_lines};
 ghost use Rattle.pi_states.specs.State.{empty_state};
@@ -65,7 +65,8 @@ pub fn run_query<O: Sink>(
     ensures writes { TellsWrites (O.faults out.old) (O.faults out.new) result }
     ensures status { IfOk result IsRun }
     ensures ran { AllWithin asked.now.steps queries.old → AllWithin asked.now.steps queries.new }
-    ensures comes { IsRunnable (program_tree core.now) (query_tree query) → 0 < asked.now.answers → HasRun asked.now.answers asked.now.steps (program_tree core.now) (query_tree query) queries.old queries.new (O.taken out.old) (O.taken out.new) result }
+    ensures comes { ByWrites O.wrote O.taken out.old out.new (λ writes. IsRunnable (program_tree core.now) (query_tree query) → 0 < asked.now.answers
+        → HasRun asked.now.answers asked.now.steps (program_tree core.now) (query_tree query) queries.old queries.new result writes) }
 {
     let store = TreeStore::new(alloc)?;
     run_over(alloc, core, query, store, asked, out, queries)
@@ -84,7 +85,8 @@ fn run_over<S: StateStore, O: Sink>(
     ensures writes { TellsWrites (O.faults out.old) (O.faults out.new) result }
     ensures status { IfOk result IsRun }
     ensures ran { AllWithin asked.now.steps queries.old → AllWithin asked.now.steps queries.new }
-    ensures comes { (S.seen store).now.state ≡ empty_state → IsRunnable (program_tree core.now) (query_tree query) → 0 < asked.now.answers → HasRun asked.now.answers asked.now.steps (program_tree core.now) (query_tree query) queries.old queries.new (O.taken out.old) (O.taken out.new) result }
+    ensures comes { ByWrites O.wrote O.taken out.old out.new (λ writes. (S.seen store).now.state ≡ empty_state → IsRunnable (program_tree core.now) (query_tree query) → 0 < asked.now.answers
+        → HasRun asked.now.answers asked.now.steps (program_tree core.now) (query_tree query) queries.old queries.new result writes) }
 {
     let Ok(mut machine) = Machine::new(alloc, core, query, store, Mode::Top) else {
         return Err(Stop::Memory);
@@ -116,7 +118,8 @@ fn write_answers<S: StateStore, O: Sink>(
     ensures within { IsWithin budget.old → IsWithin budget.new }
     ensures steps { budget.new.steps ≡ budget.old.steps }
     ensures work { mode_of (machine_view S.seen S.order machine.old) ≡ Mode.Top → budget.new.work ≡ budget.old.work }
-    ensures comes { (program : List PredTree) (q : QueryTree) → IsAtStart (machine_view S.seen S.order machine.old) budget.old answers program q → ComesTo answers budget.old.steps program q budget.new.ticks (O.taken out.old) (O.taken out.new) result }
+    ensures comes { ByWrites O.wrote O.taken out.old out.new (λ writes. (program : List PredTree) (q : QueryTree) → IsAtStart (machine_view S.seen S.order machine.old) budget.old answers program q
+        → ComesTo answers budget.old.steps program q budget.new.ticks result writes) }
 {
     for given in 0..answers {
         match machine.next(budget) {
@@ -140,7 +143,7 @@ fn run_of(budget: &Budget) -> QueryRun
 
 fn write_answer<O: Sink>(alloc: Global, out: &mut O, answer: &Answer) -> Result<(), Stop>
     ensures writes { TellsWrites (O.faults out.old) (O.faults out.new) result }
-    ensures told { Writes (O.taken out.old) (concat (answer_lines answer.now)) (O.taken out.new) result }
+    ensures told { ByWrites O.wrote O.taken out.old out.new (Writes (answer_lines answer.now) result) }
 {
     let lines = answer_text(alloc, answer)?;
     for line in lines.as_slice() {
@@ -158,7 +161,7 @@ fn write_end<O: Sink>(
 ) -> Result<u8, Stop>
     ensures writes { TellsWrites (O.faults out.old) (O.faults out.new) result }
     ensures status { IfOk result IsRun }
-    ensures told { WritesEnd end has_answers (O.taken out.old) (O.taken out.new) result }
+    ensures told { ByWrites O.wrote O.taken out.old out.new (WritesEnd end has_answers result) }
 {
     match end {
         Happening::Done if has_answers => ended(out, "no more\n", 0),
@@ -175,7 +178,7 @@ pub fn ended<O: Sink>(out: &mut O, line: &str, status: u8) -> Result<u8, Stop>
     ensures writes { TellsWrites (O.faults out.old) (O.faults out.new) result }
     ensures status { IfOk result (λ given. given ≡ status) }
     ensures stops { IfErr result (λ stop. stop ≡ Write) }
-    ensures told { Writes (O.taken out.old) line.now (O.taken out.new) result }
+    ensures told { ByWrites O.wrote O.taken out.old out.new (Writes (line.now ∷ []) result) }
 {
     write_text(out, line)?;
     Ok(status)
@@ -184,7 +187,7 @@ pub fn ended<O: Sink>(out: &mut O, line: &str, status: u8) -> Result<u8, Stop>
 fn write_raised<O: Sink>(alloc: Global, out: &mut O, ball: &Term) -> Result<u8, Stop>
     ensures writes { TellsWrites (O.faults out.old) (O.faults out.new) result }
     ensures status { IfOk result IsRun }
-    ensures told { WritesLine (O.taken out.old) (Exception ball.now) (O.taken out.new) result }
+    ensures told { ByWrites O.wrote O.taken out.old out.new (WritesLine (Exception ball.now) result) }
 {
     let line = raised_line(alloc, ball)?;
     ended(out, line.as_str(), 4)

@@ -2,6 +2,8 @@
 ghost use Rattle.std.specs.Prelude.{◌≡◌, ◌≢◌, ◌<◌, ◌≤◌, [], map, IfOk, IfErr, Some};
 ghost use Rattle.std.specs.String.{string_bytes};
 ghost use Rattle.pi_outside.specs.Faults.{NeverFalls, Rose};
+ghost use Rattle.pi_outside.specs.Reads.{ByReads};
+ghost use Rattle.pi_outside.specs.Writes.{ByWrites};
 ghost use Rattle.pi_top.specs.Completeness.{NothingFails, Completes};
 ghost use Rattle.pi_top.specs.Ends.{Ends, ReadsNoFile, AnswersText, AnswersQuery, AnswersBy, GivesStatus};
 ghost use Rattle.pi_top.specs.Faults.{counted, TellsWrites};
@@ -30,8 +32,11 @@ pub fn picatq<F: Files, I: Source, O: Sink>(
     out: &mut O,
 ) -> Outcome
     ensures statuses { result.status ≤ 9 }
-    ensures ends { Ends (map string_bytes words.now) (F.held files.new) result.queries result.log result.status (counted (F.faults files.old) (F.faults files.new)) (counted (O.faults out.old) (O.faults out.new)) (O.taken out.old) (O.taken out.new) }
-    ensures complete { (asked : Options) → NothingFails (map string_bytes words.now) asked result.status (counted (F.faults files.old) (F.faults files.new)) (counted (O.faults out.old) (O.faults out.new)) → Completes asked (F.held files.new) result.queries result.log result.status (O.taken out.old) (O.taken out.new) }
+    ensures ends { ByReads F.has_read files.old files.new (λ reads. ByWrites O.wrote O.taken out.old out.new (λ writes.
+        Ends (map string_bytes words.now) (F.held files.new) result.queries result.log result.status (counted (F.faults files.old) (F.faults files.new)) (counted (O.faults out.old) (O.faults out.new)) reads writes)) }
+    ensures complete { ByWrites O.wrote O.taken out.old out.new (λ writes. (asked : Options)
+        → NothingFails (map string_bytes words.now) asked result.status (counted (F.faults files.old) (F.faults files.new)) (counted (O.faults out.old) (O.faults out.new))
+        → Completes asked (F.held files.new) result.queries result.log result.status writes) }
     ensures read_fault { result.status ≡ 7 → Rose (F.faults files.old) (F.faults files.new) }
     ensures reads_well { result.status ≢ 7 → result.status ≢ 8 → F.faults files.new ≡ F.faults files.old }
     ensures write_fault { result.status ≡ 8 → Rose (O.faults out.old) (O.faults out.new) }
@@ -59,7 +64,7 @@ pub fn picatq<F: Files, I: Source, O: Sink>(
 
 /// The status of what was answered. Where memory is wanted, a line says so, if it can be written.
 fn status_of<O: Sink>(answer: Result<u8, Stop>, out: &mut O) -> u8
-    ensures gives { GivesStatus answer result (counted (O.faults out.old) (O.faults out.new)) (O.taken out.old) (O.taken out.new) }
+    ensures gives { ByWrites O.wrote O.taken out.old out.new (GivesStatus answer result (counted (O.faults out.old) (O.faults out.new))) }
     ensures never_falls { NeverFalls (O.faults out.old) (O.faults out.new) }
 {
     match answer {
@@ -83,7 +88,8 @@ fn answered<F: Files, O: Sink>(
     ensures reads { IfOk result (λ status. status ≡ 7 → Rose (F.faults files.old) (F.faults files.new)) }
     ensures status { IfOk result (λ status. status < 8) }
     ensures unread { ReadsNoFile (options (map string_bytes words.now)) → files.new ≡ files.old }
-    ensures answers { queries.old ≡ [] → AnswersBy (options (map string_bytes words.now)) (F.held files.new) (counted (F.faults files.old) (F.faults files.new)) queries.new [] (O.taken out.old) (O.taken out.new) result }
+    ensures answers { ByReads F.has_read files.old files.new (λ reads. ByWrites O.wrote O.taken out.old out.new (λ writes. queries.old ≡ []
+        → AnswersBy (options (map string_bytes words.now)) (F.held files.new) (counted (F.faults files.old) (F.faults files.new)) queries.new [] result reads writes)) }
     ensures ran { (asked : Options) → options (map string_bytes words.now) ≡ Some asked → AllWithin asked.steps queries.old → AllWithin asked.steps queries.new }
 {
     let asked = match read_words(alloc, words) {
@@ -110,7 +116,8 @@ fn asked_of_file<F: Files, O: Sink>(
     ensures writes { TellsWrites (O.faults out.old) (O.faults out.new) result }
     ensures reads { IfOk result (λ status. status ≡ 7 → Rose (F.faults files.old) (F.faults files.new)) }
     ensures status { IfOk result (λ status. status < 8) }
-    ensures answers { 0 < asked.now.answers → asked.now.goal ≡ Some goal.now → queries.old ≡ [] → AnswersQuery asked.now (F.held files.new) (counted (F.faults files.old) (F.faults files.new)) queries.new [] (O.taken out.old) (O.taken out.new) result }
+    ensures answers { ByReads F.has_read files.old files.new (λ reads. ByWrites O.wrote O.taken out.old out.new (λ writes. 0 < asked.now.answers → asked.now.goal ≡ Some goal.now → queries.old ≡ []
+        → AnswersQuery asked.now (F.held files.new) (counted (F.faults files.old) (F.faults files.new)) queries.new [] result reads writes)) }
     ensures ran { AllWithin asked.now.steps queries.old → AllWithin asked.now.steps queries.new }
 {
     let text = match read_file(alloc, files, asked.file.as_str()) {
@@ -132,7 +139,7 @@ fn asked_of_text<O: Sink>(
 ) -> Result<u8, Stop>
     ensures writes { TellsWrites (O.faults out.old) (O.faults out.new) result }
     ensures no_read { IfOk result (λ status. status < 7) }
-    ensures answers { 0 < asked.now.answers → queries.old ≡ [] → AnswersText asked.now text.now goal.now queries.new [] (O.taken out.old) (O.taken out.new) result }
+    ensures answers { ByWrites O.wrote O.taken out.old out.new (λ writes. 0 < asked.now.answers → queries.old ≡ [] → AnswersText asked.now text.now goal.now queries.new [] result writes) }
     ensures ran { AllWithin asked.now.steps queries.old → AllWithin asked.now.steps queries.new }
 {
     let judged = judge(alloc, text, goal.as_bytes())?;

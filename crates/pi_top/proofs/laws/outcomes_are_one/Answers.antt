@@ -10,7 +10,7 @@ returns c =
       endings = ending-is-one;
       refused = refused-written o;
       run = asked-run o;
-      status = λ asked text goal bytes more queries runs log status other a b. (one-outcome o asked text goal bytes more queries runs log status other a b).same_status;
-      queries = λ asked text goal bytes more queries runs log status other a b. (one-outcome o asked text goal bytes more queries runs log status other a b).same_queries;
-      bytes = λ asked text goal bytes more queries runs log status other a b. (one-outcome o asked text goal bytes more queries runs log status other a b).same_bytes;
+      status = λ asked text goal texts more queries runs log status other a b. (one-outcome o asked text goal texts more queries runs log status other a b).same_status;
+      queries = λ asked text goal texts more queries runs log status other a b. (one-outcome o asked text goal texts more queries runs log status other a b).same_queries;
+      texts = λ asked text goal texts more queries runs log status other a b. (one-outcome o asked text goal texts more queries runs log status other a b).same_texts;
     }

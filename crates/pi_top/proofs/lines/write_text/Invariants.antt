@@ -1,11 +1,12 @@
-use Rattle.std.proofs.Common.{◌≡◌, ◌≤◌, ◌-◌, length, take}
-use Rattle.pi_outside.specs.Taken.{Takes}
+use Rattle.std.proofs.Common.{◌≡◌, ◌≤◌, ◌-◌, length, drop}
+use Rattle.pi_outside.specs.Writes.{ByWrites}
+use Rattle.pi_top.proofs.HandedTexts.{GoesOn}
 use Rattle.pi_top.proofs.lines.write_text.Given as goal
 
 abbrev pub invariant-loop-at : goal.invariant-loop-at
 invariant-loop-at g l = record {
   within : l.at ≤ length l.bytes;
-  takes : Takes (g.O.Sink.taken l.initial.out) (take l.at l.bytes) (g.O.Sink.taken l.out);
+  goes_on : ByWrites g.O.Sink.wrote g.O.Sink.taken l.initial.out l.out (GoesOn l.bytes (drop l.at l.bytes));
   no_fault : g.O.Sink.faults l.out ≡ g.O.Sink.faults l.initial.out;
 }
 

@@ -4,7 +4,7 @@ use Rattle.pi_meaning.specs.View.{query_view}
 use Rattle.pi_machine.specs.Budget.{IsWithin}
 use Rattle.pi_top.specs.declared.outcome.QueryRun.{QueryRun}
 use Rattle.pi_answers.specs.declared.log.Work.{Work}
-use Rattle.pi_outside.proofs.Taken.{Takes-none}
+use Rattle.pi_outside.proofs.WriteRuns.{ByWrites-none, ByWrites-so}
 use Rattle.pi_top.specs.Runs.{AllWithin, no_work, run_of}
 use Rattle.pi_top.specs.Running.{not_asked}
 use Rattle.pi_top.proofs.QueryRuns.{set-last, has-run}
@@ -12,10 +12,10 @@ use Rattle.pi_top.proofs.Runs.{AllWithin-push}
 use Rattle.pi_top.proofs.query.run_over.Goals as goal
 
 pub returns-in_default-clause-comes : goal.returns-in_default-clause-comes
-returns-in_default-clause-comes g c = λ empty runnable asked. not_asked refl refl (Takes-none (g.O.Sink.taken c.args.out.now))
+returns-in_default-clause-comes g c = ByWrites-none g.O.Sink.wrote g.O.Sink.taken c.args.out.now _ (λ empty runnable asked. not_asked refl refl refl)
 
 pub returns-in_default-push-clause-comes : goal.returns-in_default-push-clause-comes
-returns-in_default-push-clause-comes g c = λ empty runnable asked. not_asked refl c.in_default-push.ensures.err (Takes-none (g.O.Sink.taken c.args.out.now))
+returns-in_default-push-clause-comes g c = ByWrites-none g.O.Sink.wrote g.O.Sink.taken c.args.out.now _ (λ empty runnable asked. not_asked refl c.in_default-push.ensures.err refl)
 
 pub returns-clause-ran : goal.returns-clause-ran
 returns-clause-ran g c =
@@ -37,11 +37,11 @@ returns-clause-comes g c =
     let few : budget.ticks ≤ c.args.asked.now.steps = omega (arith, within.ticks, run.steps) in
     let work : budget.work ≡ no_work = run.work c.in-Ok.ensures.mode in
     let listed : c.run_of-2.result ≡ run_of budget.ticks = c.run_of-2.ensures ∙ ap (λ (w : Work). record { ticks = budget.ticks; work = w; known = 0; first = 0 }) work in
-    λ empty runnable asked.
+    ByWrites-so run.comes (λ writes comes. λ empty runnable asked.
     has-run c.args.asked.now.answers c.args.asked.now.steps program q c.args.queries.now c.push.new.self c.set_last.new.self c.run_of.result c.run_of-2.result
-    c.write_answers-status.new.budget.ticks (g.O.Sink.taken c.args.out.now) (g.O.Sink.taken c.write_answers-status.new.out) c.write_answers-status.result c.in-Ok-push.ensures.ok
+    c.write_answers-status.new.budget.ticks c.write_answers-status.result writes c.in-Ok-push.ensures.ok
     c.set_last.ensures listed few
-    (run.comes program q
+    (comes program q
     (record {
       runnable = runnable;
       runs = c.in-Ok.ensures.runs empty runnable.sound runnable.rules (query_view []) refl;
@@ -51,4 +51,4 @@ returns-clause-comes g c =
       workless = refl;
       within = record { ticks = omega arith; work = search rules };
       asked = asked;
-    }))
+    })))

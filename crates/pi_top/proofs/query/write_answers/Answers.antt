@@ -3,6 +3,7 @@ use Rattle.std.proofs.lemmas.Bool.Decides.{nat_tests}
 use Rattle.std.proofs.lemmas.Result.{err_from_is_err_and}
 use Rattle.pi_meaning.specs.View.{query_view}
 use Rattle.pi_engine.specs.Seen.{machine_view}
+use Rattle.pi_outside.proofs.WriteRuns.{ByWrites-none, ByWrites-then}
 use Rattle.pi_top.specs.Running.{IsWritten}
 use Rattle.pi_top.proofs.QueryRuns.{Called, written-start, written-answer, comes-stopped, comes-cut, comes-end}
 use Rattle.pi_top.proofs.query.write_answers.Goals as goal
@@ -14,7 +15,8 @@ loop-given-init g c = record {
   work = λ top. refl;
   mode = refl;
   no_fault = refl;
-  so_far = λ program q is. written-start (machine_view g.S.StateStore.seen g.S.StateStore.order c.args.machine.now) c.args.budget.now c.args.answers program q (g.O.Sink.taken c.args.out.now) is;
+  so_far = ByWrites-none g.O.Sink.wrote g.O.Sink.taken c.args.out.now _
+      (λ program q is. written-start (machine_view g.S.StateStore.seen g.S.StateStore.order c.args.machine.now) c.args.budget.now c.args.answers program q is);
 }
 
 pub returns-in_err-write_answer-in-Answer-clause-comes : goal.returns-in_err-write_answer-in-Answer-clause-comes
@@ -25,13 +27,12 @@ returns-in_err-write_answer-in-Answer-clause-comes g c =
     let n = machine_view g.S.StateStore.seen g.S.StateStore.order c.next.new.self in
     let called : Called m n l.budget c.next.new.budget = record { counts = next.counts; within = next.within; mode = next.mode } in
     let p = err_from_is_err_and c.from_residual.result c.from_residual.ensures.1 in
-    λ program q is.
-    let w = l.invariant.so_far program q is in
     let same : p.0 ≡ c.in_err-write_answer-in-Answer.field-0.0 = p.2 in
     rw (p.1, same)
-    (comes-cut m n l.budget c.next.new.budget c.args.answers l.given c.args.budget.now.steps program q c.in-Answer.answer (g.O.Sink.taken c.args.out.now) (g.O.Sink.taken l.out)
-    (g.O.Sink.taken c.write_answer.new.out) c.in_err-write_answer-in-Answer.field-0.0 is.runnable w called c.loop-given-test.true (next.counts.steps ∙ l.invariant.steps)
-    (next.ticks w.running (query_view []) program q w.events w.runs) c.in_err-write_answer-in-Answer.ensures.told.cut)
+    (ByWrites-then l.invariant.so_far c.in_err-write_answer-in-Answer.ensures.told (λ first second so_far told. λ program q is.
+    let w = so_far program q is in
+    comes-cut m n l.budget c.next.new.budget c.args.answers l.given c.args.budget.now.steps program q c.in-Answer.answer c.in_err-write_answer-in-Answer.field-0.0 first second
+    is.runnable w called c.loop-given-test.true (next.counts.steps ∙ l.invariant.steps) (next.ticks w.running (query_view []) program q w.events w.runs) told.cut))
 
 pub returns-in_default : goal.returns-in_default
 returns-in_default g c =
@@ -46,13 +47,13 @@ returns-in_default g c =
       within = λ h. next.within (l.invariant.within h);
       steps = next.counts.steps ∙ l.invariant.steps;
       work = λ top. next.counts.top (l.invariant.mode ∙ top) ∙ l.invariant.work top;
-      comes = λ program q is.
-          let w = l.invariant.so_far program q is in
-          comes-end m n l.budget c.next.new.budget c.args.answers l.given c.args.budget.now.steps program q c.next.result _ (g.O.Sink.taken c.args.out.now) (g.O.Sink.taken l.out)
-          (g.O.Sink.taken c.write_end.new.out) c.write_end.result is.runnable w called c.loop-given-test.true (next.counts.steps ∙ l.invariant.steps)
+      comes = ByWrites-then l.invariant.so_far c.write_end.ensures.told (λ first second so_far told. λ program q is.
+          let w = so_far program q is in
+          comes-end m n l.budget c.next.new.budget c.args.answers l.given c.args.budget.now.steps program q c.next.result _ c.write_end.result first second
+          is.runnable w called c.loop-given-test.true (next.counts.steps ∙ l.invariant.steps)
           (λ e. grind (arith, nat_tests, e)) (λ e. grind (arith, nat_tests, e)) (λ a e. c.in_default.not-Answer a e)
           (next.ticks w.running (query_view []) program q w.events w.runs)
-          c.write_end.ensures.told;
+          told);
     }
 
 pub loop-given-preserved : goal.loop-given-preserved
@@ -68,20 +69,18 @@ loop-given-preserved g c =
       work = λ top. next.counts.top (l.invariant.mode ∙ top) ∙ l.invariant.work top;
       mode = next.mode ∙ l.invariant.mode;
       no_fault = c.in_ok-write_answer-in-Answer.ensures.writes.no_fault ∙ l.invariant.no_fault;
-      so_far = λ program q is.
-          let w = l.invariant.so_far program q is in
-          written-answer m n l.budget c.next.new.budget l.given program q c.in-Answer.answer (g.O.Sink.taken c.args.out.now) (g.O.Sink.taken l.out) (g.O.Sink.taken c.write_answer.new.out)
-          w called (next.ticks w.running (query_view []) program q w.events w.runs) next.lasts c.in_ok-write_answer-in-Answer.ensures.told.all;
+      so_far = ByWrites-then l.invariant.so_far c.in_ok-write_answer-in-Answer.ensures.told (λ first second so_far told. λ program q is.
+          let w = so_far program q is in
+          written-answer m n l.budget c.next.new.budget l.given program q c.in-Answer.answer first second
+          w called (next.ticks w.running (query_view []) program q w.events w.runs) next.lasts told.all);
     }
 
 pub returns-clause-comes : goal.returns-clause-comes
 returns-clause-comes g c =
     let l = c.loop-given in
     let m = machine_view g.S.StateStore.seen g.S.StateStore.order l.machine in
-    let before = g.O.Sink.taken c.args.out.now in
-    let between = g.O.Sink.taken l.out in
     let all : l.given ≡ c.args.answers = omega (arith, c.loop-given-test.false, l.auto.given-end) in
-    λ program q is.
-    let w : IsWritten m l.budget c.args.answers program q before between = subst (λ given. IsWritten m l.budget given program q before between) all (l.invariant.so_far program q is) in
-    comes-stopped m l.budget c.args.answers c.args.budget.now.steps program q before between (g.O.Sink.taken c.ended.new.out) c.ended.result is.runnable is.asked l.invariant.steps w
-    (record { writes = c.ended.ensures.told; its_status = c.ended.ensures.status })
+    ByWrites-then l.invariant.so_far c.ended.ensures.told (λ first second so_far told. λ program q is.
+    let w : IsWritten m l.budget c.args.answers program q first = subst (λ given. IsWritten m l.budget given program q first) all (so_far program q is) in
+    comes-stopped m l.budget c.args.answers c.args.budget.now.steps program q c.ended.result first second is.runnable is.asked l.invariant.steps w
+    (record { line = told; its_status = c.ended.ensures.status }))

@@ -3,6 +3,7 @@ use Rattle.pi_core.specs.CoreTree.{PredTree, QueryTree}
 use Rattle.pi_machine.specs.declared.happening.Mode.{Mode}
 use Rattle.pi_machine.specs.Budget.{IsWithin}
 use Rattle.pi_engine.specs.Seen.{machine_view, mode_of}
+use Rattle.pi_outside.specs.Writes.{ByWrites}
 use Rattle.pi_top.specs.Running.{IsAtStart, IsWritten}
 use Rattle.pi_top.proofs.query.write_answers.Given as goal
 
@@ -13,7 +14,7 @@ invariant-loop-given g l = record {
   work : mode_of (machine_view g.S.StateStore.seen g.S.StateStore.order l.initial.machine) ≡ Mode.Top → l.budget.work ≡ l.initial.budget.work;
   mode : mode_of (machine_view g.S.StateStore.seen g.S.StateStore.order l.machine) ≡ mode_of (machine_view g.S.StateStore.seen g.S.StateStore.order l.initial.machine);
   no_fault : g.O.Sink.faults l.out ≡ g.O.Sink.faults l.initial.out;
-  so_far : (program : List PredTree) (q : QueryTree) →
+  so_far : ByWrites g.O.Sink.wrote g.O.Sink.taken l.initial.out l.out (λ writes. (program : List PredTree) (q : QueryTree) →
       IsAtStart (machine_view g.S.StateStore.seen g.S.StateStore.order l.initial.machine) l.initial.budget l.fn.answers program q →
-      IsWritten (machine_view g.S.StateStore.seen g.S.StateStore.order l.machine) l.budget l.given program q (g.O.Sink.taken l.initial.out) (g.O.Sink.taken l.out);
+      IsWritten (machine_view g.S.StateStore.seen g.S.StateStore.order l.machine) l.budget l.given program q writes);
 }
