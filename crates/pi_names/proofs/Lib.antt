@@ -1,0 +1,9 @@
+pub mod Worked
+pub mod SmallLemmas
+pub mod SmallPrograms
+pub mod GrowControl
+pub mod GrowLoops
+pub mod GrowGoals
+pub mod GrowRules
+pub mod GoalExamples
+pub mod LoopExamples

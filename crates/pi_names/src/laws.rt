@@ -1,0 +1,16 @@
+//! Laws of the meaning over names.
+ghost use Rattle.pi_names.specs.NameLaws.{NamesDoMore, NamesRunsAreOne, NamesRunsReach, SmallIsSurface};
+
+/// On the small language, of variables, integers, atoms, `=`, `true`, `fail`, calls and conjunctions, the meaning over names is that of
+/// `Surface`, over which lowering and the run of a program are proved.
+pub fn small_is_surface()
+    ensures { SmallIsSurface }
+{}
+
+/// The trace of a goal only grows with the depth. So it has one run at most for each program, view and number of Ticks, and it has one
+/// where some depth reaches to the cut.
+pub fn runs_are_one()
+    ensures deeper { NamesDoMore }
+    ensures one { NamesRunsAreOne }
+    ensures reached { NamesRunsReach }
+{}
