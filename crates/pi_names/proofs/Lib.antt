@@ -5,5 +5,6 @@ pub mod GrowControl
 pub mod GrowLoops
 pub mod GrowGoals
 pub mod GrowRules
+pub mod ValueLemmas
 pub mod GoalExamples
 pub mod LoopExamples

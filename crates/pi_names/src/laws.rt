@@ -1,5 +1,5 @@
 //! Laws of the meaning over names.
-ghost use Rattle.pi_names.specs.NameLaws.{NamesDoMore, NamesRunsAreOne, NamesRunsReach, SmallIsSurface};
+ghost use Rattle.pi_names.specs.NameLaws.{CallsGoByValues, FunctionsGoByValues, GoalsAreCalls, NamesDoMore, NamesRunsAreOne, NamesRunsReach, SmallIsSurface};
 
 /// On the small language, of variables, integers, atoms, `=`, `true`, `fail`, calls and conjunctions, the meaning over names is that of
 /// `Surface`, over which lowering and the run of a program are proved.
@@ -13,4 +13,12 @@ pub fn runs_are_one()
     ensures deeper { NamesDoMore }
     ensures one { NamesRunsAreOne }
     ensures reached { NamesRunsReach }
+{}
+
+/// A call goes by what its arguments come to and by the state, and by nothing else: neither by the environment in which it stands nor by
+/// what stands before it. A goal that is no form of control is such a call.
+pub fn calls_go_by_values()
+    ensures predicates { CallsGoByValues }
+    ensures functions { FunctionsGoByValues }
+    ensures goals { GoalsAreCalls }
 {}
