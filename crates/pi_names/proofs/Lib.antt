@@ -8,3 +8,4 @@ pub mod GrowRules
 pub mod ValueLemmas
 pub mod GoalExamples
 pub mod LoopExamples
+pub mod ReadingExamples
