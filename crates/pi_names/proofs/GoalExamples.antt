@@ -61,12 +61,15 @@ abbrev fib_program : ProgramTree
 fib_program =
     record { decl = Decl.Plain; clause = Some (function (record { head = fib_of (i 0); value = i 0; cond = None; body = None })) } ∷
     record { decl = Decl.Plain; clause = Some (function (record { head = fib_of (i 1); value = i 1; cond = None; body = None })) } ∷
-    record { decl = Decl.Plain; clause = Some (function (record {
-      head = fib_of (v (codes "N"));
-      value = calls (codes "+") (fib_of (less (v (codes "N")) 1) ∷ fib_of (less (v (codes "N")) 2) ∷ []);
-      cond = Some (calls (codes ">") (v (codes "N") ∷ i 1 ∷ []));
-      body = Some (name (codes "true"));
-    })) } ∷ []
+    record {
+      decl = Decl.Plain;
+      clause = Some (function (record {
+        head = fib_of (v (codes "N"));
+        value = calls (codes "+") (fib_of (less (v (codes "N")) 1) ∷ fib_of (less (v (codes "N")) 2) ∷ []);
+        cond = Some (calls (codes ">") (v (codes "N") ∷ i 1 ∷ []));
+        body = Some (name (codes "true"));
+      }));
+    } ∷ []
 
 -- five calls: of 3, 2, 1, 0 and 1
 functions-have_values : run_of fib_program (equal (v (codes "X")) (fib_of (i 3))) 9 9

@@ -71,6 +71,7 @@ range-grows set ranged vs h = made-grows (comp (codes "..")) vs h
 
 mutual
   unfolding value_of values_of values_in goals_in goal_of all_of any_of arrow_in branches_of units_of collection_of
+
   pub value-grows : (set : Setting) → LaterOnlyAdds set.later → (r : Reading) (before : Names) (e : ExpTree) → Grows (value_of set r before e)
   value-grows set adds r before (var name) = stays _
   value-grows set adds r before (int n) = stays _

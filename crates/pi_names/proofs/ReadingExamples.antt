@@ -86,12 +86,15 @@ ground-places = refl
 
 -- total(L) = S => S = 0, foreach(X in L) S := S+X end.: the value stands behind the body
 abbrev total_program : ProgramTree
-total_program = record { decl = Decl.Plain; clause = Some (function (record {
-  head = calls (codes "total") (v (codes "L") ∷ []);
-  value = S;
-  cond = None;
-  body = Some (all (equal S (i 0) ∷ foreach (exps (calls (codes "in") (X ∷ v (codes "L") ∷ []) ∷ [])) (calls (codes ":=") (S ∷ plus S X ∷ [])) ∷ []));
-})) } ∷ []
+total_program = record {
+  decl = Decl.Plain;
+  clause = Some (function (record {
+    head = calls (codes "total") (v (codes "L") ∷ []);
+    value = S;
+    cond = None;
+    body = Some (all (equal S (i 0) ∷ foreach (exps (calls (codes "in") (X ∷ v (codes "L") ∷ []) ∷ [])) (calls (codes ":=") (S ∷ plus S X ∷ [])) ∷ []));
+  }));
+} ∷ []
 
 values-stand_behind : run_of total_program (equal Y (calls (codes "total") (items (i 3 ∷ i 4 ∷ []) ∷ []))) 9 9 ≡ done_with (seen Tick ∷ seen Tick ∷ seen Tick ∷ told (is (codes "Y") (n 7) ∷ []) ∷ [])
 unfolding run_of
