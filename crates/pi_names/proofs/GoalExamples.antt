@@ -6,7 +6,7 @@ use Rattle.pi_effects.specs.Items.{list_of, list_onto as list_before}
 use Rattle.pi_syntax.specs.ExpTree.{ExpTree, list, call, or, arrow, if_then, quote, branch, no_branches, atom as name, int as number, str}
 use Rattle.pi_syntax.specs.ProgramTree.{function, fact, PartTree, ProgramTree}
 use Rattle.pi_syntax.specs.declared.program.Decl.{Decl}
-use Rattle.pi_traces.specs.Trace.{Tick, Out, Done, Raise}
+use Rattle.pi_traces.specs.Trace.{Tick, Out, Done, Raise, Deep}
 use Rattle.pi_traces.specs.Depth.{Ended, Spent}
 use Rattle.pi_names.specs.Within.{a_body}
 use Rattle.pi_names.specs.Prelude.{calls, exps, v, equal, all, part}
@@ -153,3 +153,24 @@ catch-evaluates_first :
     ≡ done_with (seen Tick ∷ seen (Out (codes "x\n")) ∷ seen (Out (codes "a\n")) ∷ told [] ∷ [])
 unfolding run_of
 catch-evaluates_first = refl
+
+-- if X = 1 then Y = X end: what a condition binds stays
+conditions-bind :
+    run_of [] (if_then (branch (equal (v (codes "X")) (i 1)) (equal (v (codes "Y")) (v (codes "X"))) no_branches)) 9 1
+    ≡ done_with (told (is (codes "X") (n 1) ∷ is (codes "Y") (n 1) ∷ []) ∷ [])
+unfolding run_of
+conditions-bind = refl
+
+-- X = X, L = find_all(_Z, true): the variables of copies are numbered on from the state of the call, in which X and L were made
+copies-are_new :
+    run_of [] (all (equal (v (codes "X")) (v (codes "X")) ∷ equal (v (codes "L")) (calls (codes "find_all") (v (codes "_Z") ∷ name (codes "true") ∷ [])) ∷ [])) 9 1
+    ≡ done_with (told (is (codes "X") (variable 0) ∷ is (codes "L") (list_tree (variable 2 ∷ [])) ∷ []) ∷ [])
+unfolding run_of list_before
+copies-are_new = refl
+
+-- call(true) takes one from the depth
+calls-take_depth :
+    (run_of [] (calls (codes "call") (name (codes "true") ∷ [])) 9 0 ≡ record { events = []; stop = Ended Deep })
+    × (run_of [] (calls (codes "call") (name (codes "true") ∷ [])) 9 1 ≡ done_with (told [] ∷ []))
+unfolding run_of
+calls-take_depth = (refl, refl)

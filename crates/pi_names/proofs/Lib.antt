@@ -6,6 +6,10 @@ pub mod GrowLoops
 pub mod GrowGoals
 pub mod GrowRules
 pub mod ValueLemmas
+pub mod OtherEnvironments
+pub mod OtherControl
+pub mod OtherLoops
+pub mod OtherGoals
 pub mod GoalExamples
 pub mod LoopExamples
 pub mod ReadingExamples

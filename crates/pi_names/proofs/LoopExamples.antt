@@ -127,6 +127,13 @@ loops-have_their_own :
 unfolding run_of
 loops-have_their_own = refl
 
+-- foreach(I in 1..2) T := I end, T = done: a local name that a loop assigns is another one behind it
+local-assignments :
+    run_of [] (all (foreach (exps (goes_over I (from_to 1 2) ∷ [])) (to T I) ∷ equal T (name (codes "done")) ∷ [])) 9 9
+    ≡ done_with (seen Tick ∷ seen Tick ∷ told (is (codes "T") (atom (codes "done")) ∷ []) ∷ [])
+unfolding run_of
+local-assignments = refl
+
 -- foreach(_I in [Y]) Y = 1 end, Y = 2
 names-of_collections :
     run_of [] (all (foreach (exps (goes_over (v (codes "_I")) (list (exps (Y ∷ []))) ∷ [])) (equal Y (i 1)) ∷ equal Y (i 2) ∷ [])) 9 9

@@ -13,3 +13,4 @@ pub mod Rules
 pub mod Prelude
 pub mod Run
 pub mod NameLaws
+pub mod OtherNames

@@ -1,4 +1,5 @@
 //! Laws of the meaning over names.
+ghost use Rattle.pi_names.specs.OtherNames.{OtherNamesChangeNothing};
 ghost use Rattle.pi_names.specs.NameLaws.{CallsGoByValues, FunctionsGoByValues, GoalsAreCalls, NamesDoMore, NamesRunsAreOne, NamesRunsReach, SmallIsSurface};
 
 /// On the small language, of variables, integers, atoms, `=`, `true`, `fail`, calls and conjunctions, the meaning over names is that of
@@ -21,4 +22,9 @@ pub fn calls_go_by_values()
     ensures predicates { CallsGoByValues }
     ensures functions { FunctionsGoByValues }
     ensures goals { GoalsAreCalls }
+{}
+
+/// A name that occurs neither in a goal nor before it changes nothing: the goal does the same whatever the environment has for it.
+pub fn other_names_change_nothing()
+    ensures { OtherNamesChangeNothing }
 {}
