@@ -1,5 +1,5 @@
 -- Goals without loops, worked out: what the definitions are meant to say of them.
-use Rattle.std.proofs.Common.{◌≡◌, ℕ, List, [], ◌∷◌, ◌++◌, refl}
+use Rattle.std.proofs.Common.{◌≡◌, ℕ, zero, suc, List, [], ◌∷◌, ◌++◌, refl}
 use Rattle.std.specs.Prelude.{pos, negsuc, Bool, true, false, Some, None, codes}
 use Rattle.pi_terms.specs.Tree.{Tree, int, atom, var as variable}
 use Rattle.pi_effects.specs.Items.{list_of, list_onto as list_before}
@@ -174,3 +174,30 @@ calls-take_depth :
     × (run_of [] (calls (codes "call") (name (codes "true") ∷ [])) 9 1 ≡ done_with (told [] ∷ []))
 unfolding run_of
 calls-take_depth = (refl, refl)
+
+-- f(0) = 1.  f(N) = N*f(N-1), N > 0 => true.
+abbrev factorial_of : ExpTree → ExpTree
+factorial_of e = calls (codes "f") (e ∷ [])
+
+abbrev factorial_program : ProgramTree
+factorial_program =
+    record { decl = Decl.Plain; clause = Some (function (record { head = factorial_of (i 0); value = i 1; cond = None; body = None })) } ∷
+    record {
+      decl = Decl.Plain;
+      clause = Some (function (record {
+        head = factorial_of (v (codes "N"));
+        value = calls (codes "*") (v (codes "N") ∷ factorial_of (less (v (codes "N")) 1) ∷ []);
+        cond = Some (calls (codes ">") (v (codes "N") ∷ i 0 ∷ []));
+        body = Some (name (codes "true"));
+      }));
+    } ∷ []
+
+abbrev ticks : ℕ → List Seen → List Seen
+ticks zero events = events
+ticks (suc k) events = seen Tick ∷ ticks k events
+
+factorials :
+    (run_of factorial_program (equal (v (codes "X")) (factorial_of (i 20))) 99 99 ≡ done_with (ticks 21 (told (is (codes "X") (n 2432902008176640000) ∷ []) ∷ [])))
+    × (run_of factorial_program (equal (v (codes "X")) (factorial_of (i 34))) 99 99 ≡ raised_with (ticks 35 []) (atom (codes "integer_overflow")))
+unfolding run_of
+factorials = (refl, refl)

@@ -15,7 +15,7 @@ use Rattle.pi_names.specs.Given.{Setting, LaterOnlyAdds}
 use Rattle.pi_names.specs.Control.{Goal, Value, Values, nothing, in_front, made_of, applied_to, all_found, all_counted, goal_at, value_at}
 use Rattle.pi_names.specs.Loops.{Finish, as_it_is, while_turns, do_turns, hidden, in_order}
 use Rattle.pi_names.specs.Forms.{Form, negation, once, assignment, catch, by_term, membership, form_of, Parts, call_goal, atom_goal, Reading, plain, operand, ranged, readings, first_reading, later_readings, is_operand_node, is_sum, operand_readings, function_value, call_value, range_value}
-use Rattle.pi_names.specs.Goals.{value_of, values_of, values_in, goals_in, goal_of, all_of, any_of, arrow_in, branches_of, units_of, collection_of}
+use Rattle.pi_names.specs.Goals.{value_of, values_of, values_in, values_apart, goals_in, goal_of, all_of, any_of, arrow_in, branches_of, units_of, collection_of}
 use Rattle.pi_names.proofs.GrowControl.{Grows, stays, cond-below, draining-grows, strictly-grows, front-grows, made-grows, onto-grows, applied-grows, found-grows, counted-grows, called-grows, calling-grows, following-grows, choosing-grows, denying-grows, once-grows, assigning-grows, catching-grows, ArrowGrows, no_arrow, an_arrow, branch-grows, AllGrow, goal-at-grows, value-at-grows}
 use Rattle.pi_names.proofs.GrowLoops.{turning-grows, unit-grows, while-grows, do-grows, adding-grows, comprehended-grows, started-grows, indexed-grows}
 
@@ -70,7 +70,7 @@ range-grows set operand vs h = applied-grows set (codes "..") vs h
 range-grows set ranged vs h = made-grows (comp (codes "..")) vs h
 
 mutual
-  unfolding value_of values_of values_in goals_in goal_of all_of any_of arrow_in branches_of units_of collection_of
+  unfolding value_of values_of values_in values_apart goals_in goal_of all_of any_of arrow_in branches_of units_of collection_of
 
   pub value-grows : (set : Setting) → LaterOnlyAdds set.later → (r : Reading) (before : Names) (e : ExpTree) → Grows (value_of set r before e)
   value-grows set adds r before (var name) = stays _
@@ -110,6 +110,10 @@ mutual
   values-in-grow : (set : Setting) → LaterOnlyAdds set.later → (before : Names) (es : ExpTrees) → AllGrow (values_in set before es)
   values-in-grow set adds before no_exps = tt
   values-in-grow set adds before (exp e es) = (value-grows set adds plain before e, values-in-grow set adds (behind before (places e)) es)
+
+  values-apart-grow : (set : Setting) → LaterOnlyAdds set.later → (before : Names) (es : ExpTrees) → AllGrow (values_apart set before es)
+  values-apart-grow set adds before no_exps = tt
+  values-apart-grow set adds before (exp e es) = (value-grows set adds plain before e, values-apart-grow set adds before es)
 
   goals-in-grow : (set : Setting) → LaterOnlyAdds set.later → (before : Names) (es : ExpTrees) → AllGrow (goals_in set before es)
   goals-in-grow set adds before no_exps = tt
@@ -171,5 +175,5 @@ mutual
       (units-grow set adds as_it_is (behind before (unit_places (iterated u) u)) names us body h)
 
   collection-grows : (set : Setting) → LaterOnlyAdds set.later → (before : Names) (e : ExpTree) → Grows (collection_of set before e)
-  collection-grows set adds before (call name es) = value-at-grows _ 1 (values-in-grow set adds before es)
+  collection-grows set adds before (call name es) = value-at-grows _ 1 (values-apart-grow set adds before es)
   collection-grows set adds before e = stays _

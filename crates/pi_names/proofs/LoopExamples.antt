@@ -1,5 +1,5 @@
 -- Loops, assignments, comprehensions and facts, worked out: what the definitions are meant to say of them.
-use Rattle.std.proofs.Common.{◌≡◌, ℕ, List, [], ◌∷◌, ◌++◌, refl}
+use Rattle.std.proofs.Common.{◌≡◌, ℕ, zero, suc, List, [], ◌∷◌, ◌++◌, refl}
 use Rattle.std.specs.Prelude.{pos, Bool, true, false, Some, None, codes}
 use Rattle.pi_terms.specs.Tree.{Tree, int, atom, var as variable}
 use Rattle.pi_effects.specs.Items.{list_of, list_onto as list_before}
@@ -48,6 +48,10 @@ plus a b = calls (codes "+") (a ∷ b ∷ [])
 abbrev times : ExpTree → ExpTree → ExpTree
 times a b = calls (codes "*") (a ∷ b ∷ [])
 
+abbrev ticks : ℕ → List Seen → List Seen
+ticks zero events = events
+ticks (suc k) events = seen Tick ∷ ticks k events
+
 abbrev shows : List ℕ → ℕ → Seen
 shows text k = told (is text (n k) ∷ [])
 
@@ -58,10 +62,14 @@ names-of_turns :
 unfolding run_of
 names-of_turns = refl
 
--- L = [X*X : X in 1..4, X mod 2 == 0]
+-- L = [X*X : X in 1..4, X mod 2 == 0], M = find_all(_Y, member(_Y,[c,a,b]))
+abbrev cab : ExpTree
+cab = list (exps (name (codes "c") ∷ name (codes "a") ∷ name (codes "b") ∷ []))
+
 comprehension-collects :
-    run_of [] (equal (v (codes "L")) (collect false (times X X) (exps (goes_over X (from_to 1 4) ∷ calls (codes "==") (calls (codes "mod") (X ∷ i 2 ∷ []) ∷ i 0 ∷ []) ∷ [])))) 9 9
-    ≡ done_with (seen Tick ∷ seen Tick ∷ seen Tick ∷ seen Tick ∷ told (is (codes "L") (list_of (n 4 ∷ n 16 ∷ [])) ∷ []) ∷ [])
+    run_of [] (all (equal (v (codes "L")) (collect false (times X X) (exps (goes_over X (from_to 1 4) ∷ calls (codes "==") (calls (codes "mod") (X ∷ i 2 ∷ []) ∷ i 0 ∷ []) ∷ [])))
+    ∷ equal (v (codes "M")) (calls (codes "find_all") (v (codes "_Y") ∷ calls (codes "member") (v (codes "_Y") ∷ cab ∷ []) ∷ [])) ∷ [])) 99 9
+    ≡ done_with (ticks 8 (told (is (codes "L") (list_of (n 4 ∷ n 16 ∷ [])) ∷ is (codes "M") (list_of (atom (codes "c") ∷ atom (codes "a") ∷ atom (codes "b") ∷ [])) ∷ []) ∷ []))
 unfolding run_of list_before
 comprehension-collects = refl
 
@@ -149,3 +157,14 @@ patterns-are_new :
     ≡ done_with (seen Tick ∷ seen Tick ∷ seen (Out (codes "2")) ∷ told [] ∷ []))
 unfolding run_of
 patterns-are_new = (refl, refl)
+
+-- Y = Y, foreach(X in [X : X in 1..1]) true end, Z = Z: the X of the pattern stands behind what the iterator goes over, so that it has no variable there. Z is numbered behind Y and the
+-- variable of the comprehension.
+abbrev Z : ExpTree
+Z = v (codes "Z")
+
+patterns-stand_behind :
+    run_of [] (all (equal Y Y ∷ foreach (exps (goes_over X (collect false X (exps (goes_over X (from_to 1 1) ∷ []))) ∷ [])) (name (codes "true")) ∷ equal Z Z ∷ [])) 9 9
+    ≡ done_with (seen Tick ∷ seen Tick ∷ told (is (codes "Y") (variable 0) ∷ is (codes "Z") (variable 2) ∷ []) ∷ [])
+unfolding run_of
+patterns-stand_behind = refl

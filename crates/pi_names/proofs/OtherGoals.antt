@@ -16,7 +16,7 @@ use Rattle.pi_names.specs.Given.{Setting}
 use Rattle.pi_names.specs.Control.{Goal, Value, Values, nothing, in_front, made_of, applied_to, all_found, all_counted, called_with, goal_at, value_at}
 use Rattle.pi_names.specs.Loops.{Finish, as_it_is, while_turns, do_turns, hidden, in_order}
 use Rattle.pi_names.specs.Forms.{Form, negation, once, assignment, catch, by_term, membership, form_of, Parts, call_goal, atom_goal, Reading, plain, operand, ranged, readings, first_reading, later_readings, is_operand_node, is_sum, operand_readings, function_value, call_value, range_value}
-use Rattle.pi_names.specs.Goals.{value_of, values_of, values_in, goals_in, goal_of, all_of, any_of, arrow_in, branches_of, units_of, collection_of}
+use Rattle.pi_names.specs.Goals.{value_of, values_of, values_in, values_apart, goals_in, goal_of, all_of, any_of, arrow_in, branches_of, units_of, collection_of}
 use Rattle.pi_names.specs.OtherNames.{IsOther, AreOther, Lacks, LackAll, LackBranches, Agree, AgreeAt, agree_at, OtherNamesChangeNothing}
 use Rattle.pi_names.proofs.OtherEnvironments.{AgreeValued, AgreeAll, agree-back, other-append, other-behind, other-kept, lacks-places, lacks-all-places, lacks-branch-places, lacks-assigned, lacks-unit}
 use Rattle.pi_names.proofs.OtherControl.{Steady, SteadyGoal, SteadyValue, SteadyValues, no-answer, no-valued, one-answer, quoted-steady, draining-steady, strictly-steady, constantly-steady, name-steady, nothing-steady, front-steady, made-steady, onto-steady, applied-steady, called-steady, calling-steady, found-steady, counted-steady, following-steady, choosing-steady, denying-steady, once-steady, assigning-steady, catching-steady, SteadyArrow, no_arrow, an_arrow, branch-steady, AllSteady, goal-at-steady, value-at-steady}
@@ -100,7 +100,7 @@ unfolding AreOther
 hidden-other x other = (other, tt)
 
 mutual
-  unfolding value_of values_of values_in goals_in goal_of all_of any_of arrow_in branches_of units_of collection_of Lacks LackAll LackBranches
+  unfolding value_of values_of values_in values_apart goals_in goal_of all_of any_of arrow_in branches_of units_of collection_of Lacks LackAll LackBranches
 
   value-steady : (x : List ℕ) → IsOther x hidden → (set : Setting) (r : Reading) (before : Names) → AreOther x before → (e : ExpTree) → Lacks x e → SteadyValue x (value_of set r before e)
   value-steady x n set r before o (var name) h = name-steady x name h
@@ -147,6 +147,10 @@ mutual
   values-in-steady : (x : List ℕ) → IsOther x hidden → (set : Setting) (before : Names) → AreOther x before → (es : ExpTrees) → LackAll x es → AllSteady x (AgreeValued x) (values_in set before es)
   values-in-steady x n set before o no_exps h = tt
   values-in-steady x n set before o (exp e es) h = (value-steady x n set plain before o e h.0, values-in-steady x n set (behind before (places e)) (behind-places x before o e h.0) es h.1)
+
+  values-apart-steady : (x : List ℕ) → IsOther x hidden → (set : Setting) (before : Names) → AreOther x before → (es : ExpTrees) → LackAll x es → AllSteady x (AgreeValued x) (values_apart set before es)
+  values-apart-steady x n set before o no_exps h = tt
+  values-apart-steady x n set before o (exp e es) h = (value-steady x n set plain before o e h.0, values-apart-steady x n set before o es h.1)
 
   goals-in-steady : (x : List ℕ) → IsOther x hidden → (set : Setting) (before : Names) → AreOther x before → (es : ExpTrees) → LackAll x es → AllSteady x (AgreeAt x) (goals_in set before es)
   goals-in-steady x n set before o no_exps h = tt
@@ -214,7 +218,7 @@ mutual
       (units-steady x n set as_it_is (behind before (unit_places (iterated u) u)) (other-behind x before (unit_places (iterated u) u) o (lacks-unit x u h.0 (iterated u) (iterated-lacks x u h.0))) names m us h.1 body s)
 
   collection-steady : (x : List ℕ) → IsOther x hidden → (set : Setting) (before : Names) → AreOther x before → (e : ExpTree) → Lacks x e → SteadyValue x (collection_of set before e)
-  collection-steady x n set before o (call name es) h = value-at-steady x _ 1 (values-in-steady x n set before o es h)
+  collection-steady x n set before o (call name es) h = value-at-steady x _ 1 (values-apart-steady x n set before o es h)
   collection-steady x n set before o e h = no-valued x
 
 pub other-names-change_nothing : OtherNamesChangeNothing

@@ -82,6 +82,11 @@ unfoldable mutual
   values_in set before no_exps = []
   values_in set before (exp e es) = value_of set plain before e ∷ values_in set (behind before (places e)) es
 
+  -- the same, each with just these names before it
+  pub values_apart : Setting → Names → ExpTrees → List Value
+  values_apart set before no_exps = []
+  values_apart set before (exp e es) = value_of set plain before e ∷ values_apart set before es
+
   pub goals_in : Setting → Names → ExpTrees → List Goal
   goals_in set before no_exps = []
   goals_in set before (exp e es) = goal_of set before e ∷ goals_in set (behind before (places e)) es
@@ -147,7 +152,7 @@ unfoldable mutual
       unit finish before (kept_names before (exp u us) names) (iterated u) (collection_of set before u) (goal_of set before u)
       (units_of set as_it_is (behind before (unit_places (iterated u) u)) names us body) l p
 
-  -- what an iterator goes over
+  -- what an iterator goes over; the names of its pattern are those of the turns, and stand behind it
   pub collection_of : Setting → Names → ExpTree → Value
-  collection_of set before (call name es) l p = value_at (values_in set before es) 1 l p
+  collection_of set before (call name es) l p = value_at (values_apart set before es) 1 l p
   collection_of set before e l p = no_value l p
