@@ -11,6 +11,8 @@ use Rattle.pi_traces.specs.Depth.{DepthOnlyAdds, Cut, CutWithoutDeep}
 use Rattle.pi_meaning.specs.SurfaceRun.{Told}
 use Rattle.pi_meaning.specs.Small.{heads, Defines, IsSmallProgram, IsSmallQuery}
 use Rattle.pi_meaning.specs.Surface.{Place, surface_trace}
+use Rattle.pi_lib.specs.Names.{kind_of}
+use Rattle.pi_lib.specs.Forms.{is_form}
 use Rattle.pi_names.specs.Within.{NamesView, plain_view}
 use Rattle.pi_meaning.specs.Level.{Level, Applied}
 use Rattle.pi_meaning.specs.Environment.{Valued}
@@ -36,6 +38,10 @@ is_taken name k = is_some (form_of name k) || (is_predicate name k || (is_later_
 -- no predicate of a program has such a name, as in no program without a fault
 abbrev pub HeadsAreFree : ProgramTree → Type 0
 HeadsAreFree program = (name : List ℕ) (k : ℕ) → Defines (heads program) name k → is_taken name k ≡ false
+
+-- which are the names that the language builds in, and the forms that are no calls
+abbrev pub OtherNamesAreFree : Type 0
+OtherNamesAreFree = (name : List ℕ) (k : ℕ) → kind_of name k ≡ None → is_form name k ≡ false → is_taken name k ≡ false
 
 -- On the small language the whole meaning over names is that of `Surface`, whatever the view is and whatever later stages give.
 abbrev pub SmallIsSurface : Type 0

@@ -1,11 +1,13 @@
 //! Laws of the meaning over names.
 ghost use Rattle.pi_names.specs.OtherNames.{OtherNamesChangeNothing};
-ghost use Rattle.pi_names.specs.NameLaws.{CallsGoByValues, FunctionsGoByValues, GoalsAreCalls, NamesDoMore, NamesRunsAreOne, NamesRunsReach, SmallIsSurface};
+ghost use Rattle.pi_names.specs.NameLaws.{CallsGoByValues, FunctionsGoByValues, GoalsAreCalls, NamesDoMore, NamesRunsAreOne, NamesRunsReach, OtherNamesAreFree, SmallIsSurface};
 
 /// On the small language, of variables, integers, atoms, `=`, `true`, `fail`, calls and conjunctions, the meaning over names is that of
-/// `Surface`, over which lowering and the run of a program are proved.
+/// `Surface`, over which lowering and the run of a program are proved. Its premise on the names of predicates holds of each name that the
+/// language neither builds in nor has as a form.
 pub fn small_is_surface()
-    ensures { SmallIsSurface }
+    ensures same { SmallIsSurface }
+    ensures free { OtherNamesAreFree }
 {}
 
 /// The trace of a goal only grows with the depth. So it has one run at most for each program, view and number of Ticks, and it has one
