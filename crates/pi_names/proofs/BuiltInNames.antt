@@ -13,7 +13,7 @@ use Rattle.pi_effects.specs.BuiltIns.{tests, other_predicates, is_predicate}
 use Rattle.pi_syntax.specs.ProgramTree.{RuleTree}
 use Rattle.pi_syntax.specs.Signature.{Signature, exp_count}
 use Rattle.pi_meaning.specs.Surface.{rules_of, is_rule_of}
-use Rattle.pi_lib.specs.Names.{is_listed, function_rows, predicate_rows, prelude_rows, kind_of}
+use Rattle.pi_lib.specs.Names.{function_rows, predicate_rows, prelude_rows, kind_of}
 use Rattle.pi_lib.specs.Forms.{is_form}
 use Rattle.pi_names.specs.Given.{later_predicates, is_later_predicate}
 use Rattle.pi_names.specs.Calls.{is_catch, is_call}

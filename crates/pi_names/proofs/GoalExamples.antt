@@ -1,15 +1,15 @@
 -- Goals without loops, worked out: what the definitions are meant to say of them.
-use Rattle.std.proofs.Common.{◌≡◌, ℕ, zero, suc, List, [], ◌∷◌, ◌++◌, refl}
-use Rattle.std.specs.Prelude.{pos, negsuc, Bool, true, false, Some, None, codes}
+use Rattle.std.proofs.Common.{◌≡◌, ℕ, zero, suc, List, [], ◌∷◌, refl}
+use Rattle.std.specs.Prelude.{pos, negsuc, Some, None, codes}
 use Rattle.pi_terms.specs.Tree.{Tree, int, atom, var as variable}
 use Rattle.pi_effects.specs.Items.{list_of, list_onto as list_before}
-use Rattle.pi_syntax.specs.ExpTree.{ExpTree, list, call, or, arrow, if_then, quote, branch, no_branches, atom as name, int as number, str}
-use Rattle.pi_syntax.specs.ProgramTree.{function, fact, PartTree, ProgramTree}
+use Rattle.pi_syntax.specs.ExpTree.{ExpTree, list, or, arrow, if_then, quote, branch, no_branches, atom as name, int as number, str}
+use Rattle.pi_syntax.specs.ProgramTree.{function, ProgramTree}
 use Rattle.pi_syntax.specs.declared.program.Decl.{Decl}
 use Rattle.pi_traces.specs.Trace.{Tick, Out, Done, Raise, Deep}
-use Rattle.pi_traces.specs.Depth.{Ended, Spent}
+use Rattle.pi_traces.specs.Depth.{Ended}
 use Rattle.pi_names.specs.Within.{a_body}
-use Rattle.pi_names.specs.Prelude.{calls, exps, v, equal, all, part}
+use Rattle.pi_names.specs.Prelude.{calls, exps, v, equal, all}
 use Rattle.pi_names.proofs.Worked.{Outcome, Seen, seen, told, run_in, run_of, n, compound, is}
 
 abbrev i : ℕ → ExpTree

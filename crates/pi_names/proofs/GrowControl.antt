@@ -1,28 +1,23 @@
 -- More depth only adds: calls and forms of control, over whatever grows with the depth.
-use Rattle.std.proofs.Common.{◌≡◌, ℕ, zero, suc, Bool, true, false, cond, List, [], ◌∷◌, refl}
+use Rattle.std.proofs.Common.{ℕ, zero, suc, Bool, true, false, cond, List, [], ◌∷◌}
 use Rattle.std.specs.Prelude.{Option, Some, None, codes}
 use Rattle.pi_terms.specs.Tree.{Tree, Trees, no_trees, tree, tree_count}
-use Rattle.pi_states.specs.Value.{value}
 use Rattle.pi_states.specs.State.{State, bindings, followed}
 use Rattle.pi_effects.specs.Effect.{Effect, FunctionEffect}
 use Rattle.pi_effects.specs.BuiltIns.{built_in_predicate, built_in_function}
 use Rattle.pi_effects.specs.Items.{each_tree}
-use Rattle.pi_traces.specs.Trace.{Trace, end, Deep, done, one, then}
-use Rattle.pi_traces.specs.Control.{caught}
+use Rattle.pi_traces.specs.Trace.{Trace, end, Deep, done, one}
 use Rattle.pi_traces.specs.Depth.{Below, deeper}
 use Rattle.pi_traces.proofs.BelowLemmas.{below-refl, below-alt, below-then, below-first, below-negated, below-chosen, below-collected, below-counted, below-caught}
 use Rattle.pi_meaning.specs.Settle.{settled}
-use Rattle.pi_meaning.specs.Level.{Level, lowest, over, Applied, calls_at, CallsBelow, LevelBelow}
+use Rattle.pi_meaning.specs.Level.{Level, lowest, over, LevelBelow}
 use Rattle.pi_meaning.specs.Sound.{is_planner}
-use Rattle.pi_meaning.specs.Meaning.{copyable}
 use Rattle.pi_meaning.proofs.MeaningLemmas.{calls-below}
-use Rattle.pi_meaning.specs.Environment.{Valued, ValuedAll}
 use Rattle.pi_meaning.specs.Surface.{Place, at_state}
 use Rattle.pi_names.specs.Assigning.{place_of}
-use Rattle.pi_names.specs.Within.{resource_left}
 use Rattle.pi_names.specs.Given.{Setting, LaterOnlyAdds, is_later_predicate, is_later_function}
-use Rattle.pi_names.specs.Calls.{is_resource, built_in_or_called, predicate_called, built_in_or_applied, function_called, handled_in, handling, Called, called_by, with_planner, is_known, is_catch, is_call, known_called, call_goal, catch_called, again_called, name_called, term_called, called_at_level, called_below, unknown_name}
-use Rattle.pi_names.specs.Control.{Goal, Value, Values, behind_all, no_goal, no_value, draining, strictly, nothing, in_front, made_of, made_onto, applied_to, list_in, all_found, all_counted, called_with, first_called, calling_term, following, either, choosing, Arrow, branch_before, denying, taken_once, with_assigned, assigning, catching, goal_at, value_at}
+use Rattle.pi_names.specs.Calls.{is_resource, built_in_or_called, predicate_called, built_in_or_applied, function_called, handled_in, handling, Called, called_by, with_planner, is_known, is_catch, is_call, known_called, call_goal, catch_called, again_called, term_called, called_at_level, called_below, unknown_name}
+use Rattle.pi_names.specs.Control.{Goal, Value, Values, behind_all, draining, strictly, in_front, made_of, made_onto, applied_to, all_found, all_counted, called_with, first_called, calling_term, following, choosing, Arrow, branch_before, denying, taken_once, assigning, catching, goal_at, value_at}
 
 -- it does the same and maybe more at a higher level
 abbrev pub Grows : {X : Type 0} → (Level → Place → Trace X) → Type 0

@@ -1,22 +1,22 @@
 -- More depth only adds: loops and comprehensions, over whatever grows with the depth.
-use Rattle.std.proofs.Common.{◌≡◌, ℕ, zero, suc, Bool, true, false, cond, List, [], ◌∷◌, ◌++◌, length, refl}
+use Rattle.std.proofs.Common.{ℕ, suc, Bool, true, false, List, [], ◌∷◌}
 use Rattle.std.specs.Prelude.{Option, Some, None}
 use Rattle.pi_terms.specs.Tree.{Tree}
 use Rattle.pi_states.specs.State.{State, bindings, next}
 use Rattle.pi_effects.specs.Items.{collection_items}
 use Rattle.pi_syntax.specs.ExpTree.{ExpTree}
-use Rattle.pi_traces.specs.Trace.{Trace, end, note, Tick, Deep, one, then}
+use Rattle.pi_traces.specs.Trace.{Trace, Tick, one}
 use Rattle.pi_traces.specs.Depth.{Below, deeper, same_note}
 use Rattle.pi_traces.proofs.BelowLemmas.{below-refl, below-then, below-chosen}
-use Rattle.pi_meaning.specs.Level.{Level, lowest, over, Calls, calls_at, lower, ticked, CallsBelow, LevelBelow}
+use Rattle.pi_meaning.specs.Level.{Level, lowest, over, Calls, lower, ticked, LevelBelow}
 use Rattle.pi_meaning.proofs.MeaningLemmas.{calls-below}
-use Rattle.pi_meaning.specs.Environment.{Environment, Valued}
+use Rattle.pi_meaning.specs.Environment.{Environment}
 use Rattle.pi_meaning.specs.Surface.{Place}
 use Rattle.pi_names.specs.Texts.{Names}
 use Rattle.pi_names.specs.Assigning.{with_names, carried}
 use Rattle.pi_names.specs.Heads.{pattern_matched}
 use Rattle.pi_names.specs.Given.{Setting}
-use Rattle.pi_names.specs.Control.{Goal, Value, Values, draining, strictly, choosing, nothing, in_front, applied_to}
+use Rattle.pi_names.specs.Control.{Goal, Value, draining, strictly, choosing, nothing, in_front, applied_to}
 use Rattle.pi_names.specs.Loops.{Finish, as_it_is, closed, opened, framed, matched_turn, element, elements, items_then, iterating, turning, unit, while_turns, do_turns, adding, comprehended}
 use Rattle.pi_names.specs.Forms.{indexed_by}
 use Rattle.pi_names.specs.Goals.{started}

@@ -1,31 +1,30 @@
 -- More depth only adds: rules, functions, levels and queries. So a run is one.
-use Rattle.std.proofs.Common.{◌≡◌, ℕ, zero, suc, Bool, true, false, cond, List, [], ◌∷◌, ◌++◌, refl, sym, ◌∙◌, ap}
+use Rattle.std.proofs.Common.{◌≡◌, ℕ, zero, suc, Bool, true, false, List, [], ◌∷◌, ◌++◌, refl, sym, ◌∙◌, ap}
 use Rattle.std.specs.Prelude.{Option, Some, None}
 use Rattle.pi_terms.specs.Tree.{Tree, comp, Trees, tree_count}
 use Rattle.pi_states.specs.State.{State, bindings}
 use Rattle.pi_syntax.specs.ExpTree.{ExpTree}
 use Rattle.pi_syntax.specs.ProgramTree.{RuleTree, FunctionTree, ProgramTree}
 use Rattle.pi_syntax.specs.declared.program.Mode.{Mode}
-use Rattle.pi_traces.specs.Trace.{Trace, end, note, Tick, Deep, done, one, then}
-use Rattle.pi_traces.specs.Depth.{Below, deeper, same_note, DepthOnlyAdds, cut, CutWithoutDeep}
+use Rattle.pi_traces.specs.Trace.{Trace, Tick, done}
+use Rattle.pi_traces.specs.Depth.{Below, deeper, same_note, cut, CutWithoutDeep}
 use Rattle.pi_traces.proofs.BelowLemmas.{below-refl, below-alt, below-then, below-chosen}
 use Rattle.pi_traces.proofs.CutLemmas.{depths-agree}
-use Rattle.pi_meaning.specs.Level.{Level, lowest, over, Applied, Calls, calls_at, ticked, CallsBelow, LevelBelow}
+use Rattle.pi_meaning.specs.Level.{Level, Applied, CallsBelow, LevelBelow}
 use Rattle.pi_meaning.specs.Rules.{chosen_rule}
 use Rattle.pi_meaning.specs.Environment.{Environment}
 use Rattle.pi_meaning.specs.Surface.{Place, head_arguments, telling, beginning}
-use Rattle.pi_meaning.specs.SurfaceRun.{Told, place_told, told_trace, told_cut}
+use Rattle.pi_meaning.specs.SurfaceRun.{place_told, told_trace, told_cut}
 use Rattle.pi_meaning.proofs.ToldCuts.{cut-told}
 use Rattle.pi_names.specs.Within.{NamesView}
 use Rattle.pi_names.specs.Texts.{Names, places, behind}
 use Rattle.pi_names.specs.Heads.{patterns_matched}
 use Rattle.pi_names.specs.Given.{Later, Setting, LaterOnlyAdds}
-use Rattle.pi_names.specs.Control.{Goal, strictly}
 use Rattle.pi_names.specs.Forms.{plain}
-use Rattle.pi_names.specs.Goals.{goal_of, value_of}
+use Rattle.pi_names.specs.Goals.{goal_of}
 use Rattle.pi_names.specs.Rules.{rules_named, functions_named, modes_named, guarded, places_in, names_before, body_or_agent, leaves_later, rule_or_later, rules_called, predicate_run, body_or_none, value_run, function_or_later, functions_called, function_run, calls_by, level_for}
 use Rattle.pi_names.specs.Prelude.{prelude}
-use Rattle.pi_names.specs.Run.{setting, answer_names, names_trace, IsNamesRun}
+use Rattle.pi_names.specs.Run.{setting, answer_names, names_trace}
 use Rattle.pi_names.specs.NameLaws.{NamesDoMore, NamesRunsAreOne, NamesRunsReach}
 use Rattle.pi_names.proofs.GrowControl.{Grows, stays, strictly-grows}
 use Rattle.pi_names.proofs.GrowGoals.{value-grows, goal-grows}

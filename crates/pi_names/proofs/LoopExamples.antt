@@ -1,10 +1,10 @@
 -- Loops, assignments, comprehensions and facts, worked out: what the definitions are meant to say of them.
-use Rattle.std.proofs.Common.{◌≡◌, ℕ, zero, suc, List, [], ◌∷◌, ◌++◌, refl}
-use Rattle.std.specs.Prelude.{pos, Bool, true, false, Some, None, codes}
-use Rattle.pi_terms.specs.Tree.{Tree, int, atom, var as variable}
+use Rattle.std.proofs.Common.{◌≡◌, ℕ, zero, suc, List, [], ◌∷◌, refl}
+use Rattle.std.specs.Prelude.{pos, true, false, Some, codes}
+use Rattle.pi_terms.specs.Tree.{atom, var as variable}
 use Rattle.pi_effects.specs.Items.{list_of, list_onto as list_before}
-use Rattle.pi_syntax.specs.ExpTree.{ExpTree, list, call, or, range, collect, foreach, while_do, do_while, at, quote, atom as name, int as number}
-use Rattle.pi_syntax.specs.ProgramTree.{fact, PartTree, ProgramTree}
+use Rattle.pi_syntax.specs.ExpTree.{ExpTree, list, or, range, collect, foreach, while_do, do_while, quote, atom as name, int as number}
+use Rattle.pi_syntax.specs.ProgramTree.{fact, ProgramTree}
 use Rattle.pi_syntax.specs.declared.program.Decl.{Decl}
 use Rattle.pi_syntax.specs.declared.program.Mode.{Mode}
 use Rattle.pi_traces.specs.Trace.{Tick, Out, Done, Raise}

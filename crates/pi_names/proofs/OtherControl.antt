@@ -1,34 +1,27 @@
 -- Environments that differ in one name: terms, calls, forms of control and loops, over whatever goes by the other names alone.
-use Rattle.std.proofs.Common.{◌≡◌, ℕ, zero, suc, Bool, true, false, cond, List, [], ◌∷◌, ◌++◌, length, refl, ap, subst}
-use Rattle.std.specs.Prelude.{Option, Some, None, option_map, option_and_then, unwrap_or, codes}
+use Rattle.std.proofs.Common.{ℕ, zero, suc, List, [], ◌∷◌}
+use Rattle.std.specs.Prelude.{Option, Some, None, option_map, option_and_then}
 use Rattle.pi_terms.specs.Tree.{Tree, Trees, comp, atom}
-use Rattle.pi_terms.specs.ListNames.{nil}
 use Rattle.pi_states.specs.Value.{value}
-use Rattle.pi_states.specs.State.{State, bindings, next}
+use Rattle.pi_states.specs.State.{State, bindings}
 use Rattle.pi_states.specs.Unify.{unified}
-use Rattle.pi_effects.specs.Items.{collection_items}
-use Rattle.pi_effects.specs.Indexing.{index_name}
 use Rattle.pi_syntax.specs.ExpTree.{ExpTree, var, int, atom as name_of, str, list, list_onto, array, call, quote, index, range, range_by, at, collect, and, or, arrow, if_then, if_else, foreach, while_do, do_while, ExpTrees, no_exps, exp}
-use Rattle.pi_traces.specs.Trace.{Trace, Done, Deep, Tick, end, note, done, one, then}
-use Rattle.pi_traces.specs.Related.{BelowBy, deeper_by, end_by, note_by, answer_by}
+use Rattle.pi_traces.specs.Trace.{Trace, Done, done, one, then}
+use Rattle.pi_traces.specs.Related.{BelowBy, end_by}
 use Rattle.pi_traces.proofs.RelatedLemmas.{Same, same, by-same, by-one, by-alt, by-then, by-first, by-negated, by-chosen, by-collected, by-counted, by-caught}
-use Rattle.pi_meaning.specs.Settle.{settled, settled_from}
+use Rattle.pi_meaning.specs.Settle.{settled}
 use Rattle.pi_meaning.specs.Level.{Level, lowest, over, calls_at, lower, ticked}
 use Rattle.pi_meaning.specs.Meaning.{copyable}
-use Rattle.pi_meaning.specs.Environment.{Environment, meant, known, Valued, ValuedAll, name_valued}
+use Rattle.pi_meaning.specs.Environment.{Environment, known, Valued, ValuedAll, name_valued}
 use Rattle.pi_meaning.specs.Surface.{Place, at_state}
-use Rattle.pi_names.specs.Texts.{Names}
-use Rattle.pi_names.specs.Assigning.{with_value, place_of, with_names, carried}
+use Rattle.pi_names.specs.Assigning.{place_of}
 use Rattle.pi_names.specs.Terms.{written_term, written_terms, with_front, list_made, made, also_named, nothing_behind}
-use Rattle.pi_names.specs.Heads.{pattern_matched}
 use Rattle.pi_names.specs.Given.{Setting}
 use Rattle.pi_names.specs.Calls.{predicate_called, function_called, handled_in, handling}
 use Rattle.pi_names.specs.Control.{Goal, Value, Values, behind_all, draining, strictly, nothing, in_front, made_of, made_onto, applied_to, list_in, all_found, all_counted, called_with, first_called, calling_term, following, choosing, Arrow, branch_before, denying, taken_once, with_assigned, assigning, catching, goal_at, value_at}
-use Rattle.pi_names.specs.Loops.{Finish, as_it_is, now, closed, opened, framed, matched_turn, element, elements, items_then, iterating, turning, unit, while_turns, do_turns, hidden, adding, comprehended}
-use Rattle.pi_names.specs.Forms.{indexed_by}
 use Rattle.pi_names.specs.Goals.{started}
-use Rattle.pi_names.specs.OtherNames.{IsOther, AreOther, Lacks, LackAll, Agree, AgreeAt, agree_at}
-use Rattle.pi_names.proofs.OtherEnvironments.{AgreeValued, agree_valued, AgreeAll, agree_all, agree-append, agree-value, agree-itself, name-agrees, names-agree, carried-agree}
+use Rattle.pi_names.specs.OtherNames.{IsOther, Lacks, LackAll, Agree, AgreeAt, agree_at}
+use Rattle.pi_names.proofs.OtherEnvironments.{AgreeValued, agree_valued, AgreeAll, agree_all, agree-value, name-agrees}
 
 -- it does the same from two environments that agree
 abbrev pub Steady : {X : Type 0} → List ℕ → (X → X → Type 0) → (Level → Place → Trace X) → Type 0

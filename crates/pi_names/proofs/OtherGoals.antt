@@ -1,25 +1,23 @@
 -- A name that occurs neither in a goal nor before it changes nothing.
-use Rattle.std.proofs.Common.{◌≡◌, ℕ, Bool, true, false, cond, List, [], ◌∷◌, ◌++◌, refl, sym, ap, subst}
+use Rattle.std.proofs.Common.{◌≡◌, ℕ, Bool, true, false, cond, List, [], ◌∷◌, ◌++◌, subst}
 use Rattle.std.specs.Prelude.{⊤, Option, Some, None, codes, ◌==◌, ◌&&◌, ◌||◌}
 use Rattle.std.specs.Str.{bytes_eq}
 use Rattle.pi_terms.specs.Tree.{comp}
-use Rattle.pi_states.specs.State.{State}
 use Rattle.pi_syntax.specs.ExpTree.{ExpTree, var, int, atom, str, list, list_onto, array, call, quote, index, range, range_by, at, collect, and, or, arrow, if_then, if_else, foreach, while_do, do_while, ExpTrees, no_exps, exp, ExpBranches, no_branches, branch}
 use Rattle.pi_syntax.specs.Signature.{exp_count}
-use Rattle.pi_traces.specs.Trace.{Trace, done, one}
+use Rattle.pi_traces.specs.Trace.{Trace, one}
 use Rattle.pi_traces.specs.Related.{BelowBy}
 use Rattle.pi_meaning.specs.Level.{Level}
-use Rattle.pi_meaning.specs.Environment.{Environment}
 use Rattle.pi_meaning.specs.Surface.{Place}
 use Rattle.pi_names.specs.Texts.{Names, places, places_all, places_of_branches, behind, iterated, unit_places, begins_with_iterator, assigned, kept_names}
 use Rattle.pi_names.specs.Given.{Setting}
-use Rattle.pi_names.specs.Control.{Goal, Value, Values, nothing, in_front, made_of, applied_to, all_found, all_counted, called_with, goal_at, value_at}
-use Rattle.pi_names.specs.Loops.{Finish, as_it_is, while_turns, do_turns, hidden, in_order}
+use Rattle.pi_names.specs.Control.{Goal, Values, nothing, made_of, applied_to, all_found, all_counted, goal_at, value_at}
+use Rattle.pi_names.specs.Loops.{Finish, as_it_is, hidden, in_order}
 use Rattle.pi_names.specs.Forms.{Form, negation, once, assignment, catch, by_term, membership, form_of, Parts, call_goal, atom_goal, Reading, plain, operand, ranged, readings, first_reading, later_readings, is_operand_node, is_sum, operand_readings, function_value, call_value, range_value}
 use Rattle.pi_names.specs.Goals.{value_of, values_of, values_in, values_apart, goals_in, goal_of, all_of, any_of, arrow_in, branches_of, units_of, collection_of}
-use Rattle.pi_names.specs.OtherNames.{IsOther, AreOther, Lacks, LackAll, LackBranches, Agree, AgreeAt, agree_at, OtherNamesChangeNothing}
-use Rattle.pi_names.proofs.OtherEnvironments.{AgreeValued, AgreeAll, agree-back, other-append, other-behind, other-kept, lacks-places, lacks-all-places, lacks-branch-places, lacks-assigned, lacks-unit}
-use Rattle.pi_names.proofs.OtherControl.{Steady, SteadyGoal, SteadyValue, SteadyValues, no-answer, no-valued, one-answer, quoted-steady, draining-steady, strictly-steady, constantly-steady, name-steady, nothing-steady, front-steady, made-steady, onto-steady, applied-steady, called-steady, calling-steady, found-steady, counted-steady, following-steady, choosing-steady, denying-steady, once-steady, assigning-steady, catching-steady, SteadyArrow, no_arrow, an_arrow, branch-steady, AllSteady, goal-at-steady, value-at-steady}
+use Rattle.pi_names.specs.OtherNames.{IsOther, AreOther, Lacks, LackAll, LackBranches, AgreeAt, agree_at, OtherNamesChangeNothing}
+use Rattle.pi_names.proofs.OtherEnvironments.{AgreeValued, agree-back, other-append, other-behind, other-kept, lacks-places, lacks-all-places, lacks-branch-places, lacks-assigned, lacks-unit}
+use Rattle.pi_names.proofs.OtherControl.{Steady, SteadyGoal, SteadyValue, SteadyValues, no-answer, no-valued, one-answer, quoted-steady, draining-steady, constantly-steady, name-steady, nothing-steady, front-steady, made-steady, onto-steady, applied-steady, called-steady, calling-steady, found-steady, counted-steady, following-steady, choosing-steady, denying-steady, once-steady, assigning-steady, catching-steady, SteadyArrow, no_arrow, an_arrow, branch-steady, AllSteady, goal-at-steady, value-at-steady}
 use Rattle.pi_names.proofs.OtherLoops.{turning-steady, unit-steady, while-steady, do-steady, adding-steady, comprehended-steady, started-steady, indexed-steady}
 
 record PartsSteady (x : List ℕ) (parts : Parts) : Type 0 where

@@ -1,5 +1,5 @@
 -- Environments that differ in one name: loops and comprehensions.
-use Rattle.std.proofs.Common.{◌≡◌, ℕ, zero, suc, Bool, true, false, cond, List, [], ◌∷◌, ◌++◌, length, refl, ap, subst}
+use Rattle.std.proofs.Common.{◌≡◌, ℕ, suc, Bool, true, false, List, [], ◌∷◌, ap, subst}
 use Rattle.std.specs.Prelude.{Option, Some, None, unwrap_or}
 use Rattle.pi_terms.specs.Tree.{Tree, atom, var as variable}
 use Rattle.pi_terms.specs.ListNames.{nil}
@@ -9,24 +9,24 @@ use Rattle.pi_states.specs.Unify.{unified}
 use Rattle.pi_effects.specs.Items.{collection_items}
 use Rattle.pi_effects.specs.Indexing.{index_name}
 use Rattle.pi_syntax.specs.ExpTree.{ExpTree}
-use Rattle.pi_traces.specs.Trace.{Trace, Done, Deep, Tick, end, note, done, one, then}
-use Rattle.pi_traces.specs.Related.{BelowBy, deeper_by, end_by, note_by}
+use Rattle.pi_traces.specs.Trace.{Trace, Deep, Tick, end, one, then}
+use Rattle.pi_traces.specs.Related.{BelowBy, end_by, note_by}
 use Rattle.pi_traces.proofs.RelatedLemmas.{by-one, by-then, by-chosen}
 use Rattle.pi_meaning.specs.Settle.{settled_from}
-use Rattle.pi_meaning.specs.Level.{Level, lowest, over, Calls, calls_at, lower, ticked}
-use Rattle.pi_meaning.specs.Environment.{Environment, meant, Valued}
+use Rattle.pi_meaning.specs.Level.{Level, lowest, over, calls_at, lower, ticked}
+use Rattle.pi_meaning.specs.Environment.{Environment, Valued}
 use Rattle.pi_meaning.specs.Surface.{Place}
 use Rattle.pi_names.specs.Texts.{Names}
-use Rattle.pi_names.specs.Assigning.{with_value, with_names, carried}
+use Rattle.pi_names.specs.Assigning.{with_value, with_names}
 use Rattle.pi_names.specs.Heads.{pattern_matched}
 use Rattle.pi_names.specs.Given.{Setting}
 use Rattle.pi_names.specs.Control.{Goal, Value, draining, strictly, nothing, in_front, applied_to, choosing}
-use Rattle.pi_names.specs.Loops.{Finish, as_it_is, now, closed, opened, framed, matched_turn, element, elements, items_then, iterating, turning, unit, while_turns, do_turns, hidden, adding, comprehended}
+use Rattle.pi_names.specs.Loops.{Finish, as_it_is, now, closed, framed, matched_turn, element, elements, items_then, iterating, turning, unit, while_turns, do_turns, hidden, adding, comprehended}
 use Rattle.pi_names.specs.Forms.{indexed_by}
 use Rattle.pi_names.specs.Goals.{started}
 use Rattle.pi_names.specs.OtherNames.{IsOther, AreOther, Agree, AgreeAt, agree_at}
 use Rattle.pi_names.proofs.OtherEnvironments.{AgreeValued, agree_valued, agree-append, agree-value, agree-itself, names-agree, carried-agree}
-use Rattle.pi_names.proofs.OtherControl.{Steady, SteadyGoal, SteadyValue, one-answer, by-state, draining-steady, strictly-steady, choosing-steady, front-steady, applied-steady, nothing-steady, AllSteady}
+use Rattle.pi_names.proofs.OtherControl.{SteadyGoal, SteadyValue, one-answer, by-state, draining-steady, strictly-steady, choosing-steady, front-steady, applied-steady, nothing-steady, AllSteady}
 
 now-agrees : (x name : List ℕ) (e f : Environment) → Agree x e f → IsOther x name → now name e ≡ now name f
 now-agrees x name e f a other = ap (λ (o : Option Tree). unwrap_or o (atom [])) (a name other)

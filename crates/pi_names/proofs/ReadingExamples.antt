@@ -1,14 +1,14 @@
 -- How heads, arguments and assignments are read, worked out.
-use Rattle.std.proofs.Common.{◌≡◌, ℕ, List, [], ◌∷◌, ◌++◌, refl}
-use Rattle.std.specs.Prelude.{pos, Bool, true, false, Some, None, codes}
-use Rattle.pi_terms.specs.Tree.{Tree, int, atom, var as variable}
+use Rattle.std.proofs.Common.{◌≡◌, ℕ, List, [], ◌∷◌, refl}
+use Rattle.std.specs.Prelude.{pos, true, false, Some, None, codes}
+use Rattle.pi_terms.specs.Tree.{Tree, atom, var as variable}
 use Rattle.pi_effects.specs.Items.{list_of, list_onto as list_before}
-use Rattle.pi_syntax.specs.ExpTree.{ExpTree, list, list_onto, array, call, range, range_by, index, foreach, at, quote, str, no_exps, exp, atom as name, int as number}
-use Rattle.pi_syntax.specs.ProgramTree.{rule, function, fact, PartTree, ProgramTree}
+use Rattle.pi_syntax.specs.ExpTree.{ExpTree, list, list_onto, array, range, range_by, index, foreach, at, quote, str, atom as name, int as number}
+use Rattle.pi_syntax.specs.ProgramTree.{function, fact, ProgramTree}
 use Rattle.pi_syntax.specs.declared.program.Decl.{Decl}
 use Rattle.pi_syntax.specs.declared.program.Mode.{Mode}
 use Rattle.pi_traces.specs.Trace.{Tick, Out, Done, Raise}
-use Rattle.pi_traces.specs.Depth.{Ended, Spent}
+use Rattle.pi_traces.specs.Depth.{Ended}
 use Rattle.pi_names.specs.Within.{a_body}
 use Rattle.pi_names.specs.Prelude.{calls, exps, v, equal, all, part}
 use Rattle.pi_names.specs.Run.{query_names_view}

@@ -1,5 +1,5 @@
 -- On the small language the whole meaning over names is that of `Surface`: expressions, goals and bodies.
-use Rattle.std.proofs.Common.{◌≡◌, inl, inr, ℕ, zero, suc, Bool, true, false, cond, List, [], ◌∷◌, ◌++◌, refl, sym, ◌∙◌, ap, subst, arith}
+use Rattle.std.proofs.Common.{◌≡◌, inl, inr, ℕ, suc, Bool, true, false, cond, List, ◌++◌, refl, sym, ◌∙◌, ap, subst, arith}
 use Rattle.std.proofs.Math.Path.{fun_ext}
 use Rattle.std.specs.Prelude.{◌&&◌, ◌||◌, Option, Some, None, codes, is_some, option_and_then}
 use Rattle.std.specs.Str.{bytes_eq}
@@ -19,7 +19,7 @@ use Rattle.pi_effects.specs.BuiltIns.{tests, other_predicates, built_in_predicat
 use Rattle.pi_effects.proofs.BuiltInLemmas.{predicates-listed}
 use Rattle.pi_syntax.specs.ExpTree.{ExpTree, ExpTrees, no_exps, exp}
 use Rattle.pi_syntax.specs.Signature.{Signature, exp_count}
-use Rattle.pi_traces.specs.Trace.{Trace, done, one, alt, then}
+use Rattle.pi_traces.specs.Trace.{Trace, done, one, then}
 use Rattle.pi_traces.proofs.TraceLemmas.{alt-done}
 use Rattle.pi_meaning.specs.View.{View}
 use Rattle.pi_meaning.specs.Drain.{drained}
@@ -27,14 +27,14 @@ use Rattle.pi_meaning.specs.Settle.{settled}
 use Rattle.pi_meaning.specs.Level.{Level, calls_at}
 use Rattle.pi_meaning.specs.Builtin.{effect, effect_trace}
 use Rattle.pi_meaning.specs.Small.{Defines, IsSmallTerm, AreSmallTerms, IsSmallAtom, IsSmallCall, IsSmallGoal, AreSmallGoals, IsSmallBody}
-use Rattle.pi_meaning.specs.Environment.{Environment, known, name_matched, argument_matched, head_matched, Valued, valued, ValuedAll, valued_all}
+use Rattle.pi_meaning.specs.Environment.{Environment, known, argument_matched, head_matched, Valued, valued, ValuedAll, valued_all}
 use Rattle.pi_meaning.specs.Surface.{Place, Doing, Calling, at_state, draining_first, built_in_or_called, call_trace, atom_trace, goal_trace, goals_trace, body_trace, name_places, name_places_all}
-use Rattle.pi_names.specs.Within.{NamesView, plain_view}
+use Rattle.pi_names.specs.Within.{plain_view}
 use Rattle.pi_names.specs.Texts.{Names, places, places_all, behind, variable_first}
 use Rattle.pi_names.specs.Heads.{pattern_matched, patterns_matched}
 use Rattle.pi_names.specs.Given.{Setting, is_later_predicate}
 use Rattle.pi_names.specs.Calls.{built_in_or_called as built_in_or, predicate_called}
-use Rattle.pi_names.specs.Control.{Goal, Values, draining, strictly, nothing, called_with}
+use Rattle.pi_names.specs.Control.{Goal, draining, nothing, called_with}
 use Rattle.pi_names.specs.Forms.{Form, form_of, Parts, call_goal, atom_goal, Reading, readings, first_reading, later_readings}
 use Rattle.pi_names.specs.Goals.{value_of, values_of, values_in, goals_in, goal_of, all_of}
 

@@ -1,38 +1,34 @@
 -- On the small language the whole meaning over names is that of `Surface`: rules, programs and queries.
 use Rattle.std.proofs.Common.{◌≡◌, ℕ, zero, suc, Bool, true, false, cond, List, [], ◌∷◌, ◌++◌, length, ◌<◌, refl, sym, ◌∙◌, ap, subst, arith}
-use Rattle.std.specs.Prelude.{◌||◌, Option, Some, None, filter, filter_map, is_some, slice_index_or}
+use Rattle.std.specs.Prelude.{◌||◌, Option, Some, None, filter, is_some, slice_index_or}
 use Rattle.std.specs.List.{cons_option, AllByRecursion}
 use Rattle.std.proofs.lemmas.List.Elements.{recursion_from_All, filter-append, filter_map-append}
 use Rattle.pi_terms.specs.Tree.{Tree, comp, Trees, tree_count}
 use Rattle.pi_states.specs.State.{State, bindings}
-use Rattle.pi_syntax.specs.ExpTree.{ExpTree, ExpTrees, no_exps}
-use Rattle.pi_syntax.specs.ProgramTree.{RuleTree, WrittenClause, rule, function, fact, PartTree, ProgramTree}
-use Rattle.pi_syntax.specs.declared.program.Decl.{Decl}
+use Rattle.pi_syntax.specs.ExpTree.{ExpTree}
+use Rattle.pi_syntax.specs.ProgramTree.{RuleTree, WrittenClause, rule, function, fact, ProgramTree}
 use Rattle.pi_syntax.specs.declared.program.Mode.{Mode}
 use Rattle.pi_syntax.specs.Signature.{Signature, signature}
 use Rattle.pi_effects.specs.Builtin.{is_built_in}
 use Rattle.pi_effects.specs.BuiltIns.{is_predicate}
-use Rattle.pi_traces.specs.Trace.{Trace, note, Tick, done, one, then}
+use Rattle.pi_traces.specs.Trace.{Trace, note, Tick, one, then}
 use Rattle.pi_traces.specs.Control.{chosen}
-use Rattle.pi_core.specs.CoreTree.{index_of}
-use Rattle.pi_meaning.specs.Drain.{drained}
-use Rattle.pi_meaning.specs.Level.{Level, calls_at}
+use Rattle.pi_meaning.specs.Level.{Level}
 use Rattle.pi_meaning.specs.Rules.{chosen_rule}
-use Rattle.pi_meaning.specs.Small.{defined_by, heads, Defines, IsFree, IsSmallHead, AreSmallTerms, IsSmallRule, IsSmallClause, IsSmallPart, IsSmallProgram, IsSmallQuery}
+use Rattle.pi_meaning.specs.Small.{defined_by, heads, Defines, IsSmallHead, AreSmallTerms, IsSmallRule, IsSmallClause, IsSmallPart, IsSmallProgram}
 use Rattle.pi_meaning.specs.Environment.{Environment, head_matched}
-use Rattle.pi_meaning.specs.Surface.{Place, Calling, rule_in, rules_of, is_rule_of, head_arguments, body_trace, rule_or_later, rules_trace, called_at, draining_first, told_names, told_behind, telling, beginning, surface_trace, name_places}
+use Rattle.pi_meaning.specs.Surface.{Place, Calling, rule_in, rules_of, is_rule_of, head_arguments, rule_or_later, rules_trace, called_at, told_behind, telling, beginning, surface_trace}
 use Rattle.pi_names.specs.Within.{NamesView, plain_view}
 use Rattle.pi_names.specs.Texts.{Names, places, behind}
-use Rattle.pi_names.specs.Heads.{patterns_matched}
 use Rattle.pi_names.specs.Given.{Later, Setting, is_later_predicate}
 use Rattle.pi_names.specs.Control.{strictly, draining}
 use Rattle.pi_names.specs.Forms.{form_of}
 use Rattle.pi_names.specs.Goals.{goal_of}
 use Rattle.pi_names.specs.Rules.{rules_named, modes_named, names_before, guarded, body_or_agent, leaves_later, rule_or_later as rule_or, rules_called, predicate_run, calls_by, level_for}
 use Rattle.pi_names.specs.Prelude.{prelude}
-use Rattle.pi_names.specs.Run.{setting, answer_names, names_trace}
+use Rattle.pi_names.specs.Run.{setting, names_trace}
 use Rattle.pi_names.specs.NameLaws.{are_some, is_taken, HeadsAreFree, SmallIsSurface}
-use Rattle.pi_names.proofs.SmallLemmas.{Defined, then-same, then-of_one, SameCalls, IsUntaken, AllUntaken, body-same, head-same, body-names}
+use Rattle.pi_names.proofs.SmallLemmas.{Defined, then-same, SameCalls, AllUntaken, body-same, head-same, body-names}
 
 -- ---- rules
 

@@ -1,23 +1,21 @@
 -- Calls go by the values of their arguments and the state.
-use Rattle.std.proofs.Common.{◌≡◌, ℕ, List, refl, sym, ◌∙◌, ap}
+use Rattle.std.proofs.Common.{◌≡◌, refl, sym, ◌∙◌, ap}
 use Rattle.std.proofs.Math.Path.{fun_ext}
-use Rattle.std.specs.Prelude.{Option, None}
+use Rattle.std.specs.Prelude.{Option}
 use Rattle.pi_terms.specs.Tree.{Trees}
 use Rattle.pi_states.specs.State.{State}
-use Rattle.pi_syntax.specs.ExpTree.{ExpTrees, call}
 use Rattle.pi_syntax.specs.Signature.{exp_count}
 use Rattle.pi_traces.specs.Trace.{Trace, one, then}
 use Rattle.pi_traces.proofs.TraceLemmas.{then-assoc}
-use Rattle.pi_meaning.specs.Level.{Level, Applied}
+use Rattle.pi_meaning.specs.Level.{Applied}
 use Rattle.pi_meaning.specs.Environment.{Valued, ValuedAll}
 use Rattle.pi_meaning.specs.Surface.{Place}
-use Rattle.pi_names.specs.Texts.{Names, variable_first}
-use Rattle.pi_names.specs.Given.{Setting}
+use Rattle.pi_names.specs.Texts.{variable_first}
 use Rattle.pi_names.specs.Calls.{predicate_called, function_called}
-use Rattle.pi_names.specs.Control.{Values, draining, applied_to, called_with}
-use Rattle.pi_names.specs.Forms.{Form, form_of, readings, Parts, call_goal}
+use Rattle.pi_names.specs.Control.{draining, applied_to, called_with}
+use Rattle.pi_names.specs.Forms.{Form, readings, Parts, call_goal}
 use Rattle.pi_names.specs.Goals.{values_of, values_in, goals_in, goal_of}
-use Rattle.pi_names.specs.NameLaws.{Given, given_by, states_of, told_values_of, CallsGoByValues, FunctionsGoByValues, GoalsAreCalls}
+use Rattle.pi_names.specs.NameLaws.{Given, CallsGoByValues, FunctionsGoByValues, GoalsAreCalls}
 use Rattle.pi_names.proofs.SmallLemmas.{then-of_one}
 
 -- what follows arguments and tells no names goes by what they come to

@@ -1,13 +1,13 @@
 -- Small programs that are worked out: what the examples beside this file compute.
-use Rattle.std.specs.Prelude.{ℕ, pos, List, [], ◌∷◌, ◌++◌, map, Option, None, codes}
-use Rattle.pi_terms.specs.Tree.{Tree, int, atom, comp, trees_of, tree_count, cells}
+use Rattle.std.specs.Prelude.{ℕ, pos, List, [], map}
+use Rattle.pi_terms.specs.Tree.{Tree, int, comp, trees_of, tree_count, cells}
 use Rattle.pi_terms.specs.Order.{order}
 use Rattle.pi_terms.specs.Variables.{occurrences, firsts}
 use Rattle.pi_terms.specs.Substitution.{instance}
 use Rattle.pi_terms.specs.Copy.{copy}
 use Rattle.pi_terms.specs.ListCopies.{list_of_copies, new_in_all}
 use Rattle.pi_states.specs.Value.{rounds, value}
-use Rattle.pi_states.specs.State.{State, Variable, followed_for, followed}
+use Rattle.pi_states.specs.State.{followed_for, followed}
 use Rattle.pi_states.specs.Unify.{in_pairs, assigned, joined, outcome, unified_for, unbound_in, cells_of_pairs, most_pairs, all_unified}
 use Rattle.pi_states.specs.Evaluation.{with_new_variables}
 use Rattle.pi_arith.specs.Power.{power}
@@ -36,7 +36,7 @@ use Rattle.pi_effects.specs.Format.{pieces, filled_in, formatted}
 use Rattle.pi_effects.specs.Texts.{text_functions, writing_predicates}
 use Rattle.pi_effects.specs.Making.{new_rows, making_functions}
 use Rattle.pi_effects.specs.BuiltIns.{reading_functions, built_in_function, tests, other_predicates, built_in_predicate, is_predicate}
-use Rattle.pi_traces.specs.Trace.{Trace, end, Raise, then, alt, first, done, one, Emitted, noted, answered, Note}
+use Rattle.pi_traces.specs.Trace.{end, Raise, then, alt, first, done, Emitted, noted, answered, Note}
 use Rattle.pi_traces.specs.Control.{negated, chosen, collected, counted, caught}
 use Rattle.pi_traces.specs.Depth.{Cut, cut, Stop}
 use Rattle.pi_meaning.specs.Settle.{settled}
@@ -47,7 +47,7 @@ use Rattle.pi_meaning.specs.Facts.{fits_modes}
 use Rattle.pi_meaning.specs.Surface.{told_behind, told_values, if_tellable}
 use Rattle.pi_meaning.specs.SurfaceRun.{Told, told_trace, place_told}
 use Rattle.pi_answers.specs.declared.answer.NamedTerm.{NamedTerm}
-use Rattle.pi_names.specs.Within.{NamesView, a_body}
+use Rattle.pi_names.specs.Within.{NamesView}
 use Rattle.pi_names.specs.Texts.{places, places_all, places_of_branches, behind, patterns_of, assigned as assigned_names, assigned_all, assigned_in_branches}
 use Rattle.pi_names.specs.Assigning.{with_value, with_names, with_values_of}
 use Rattle.pi_names.specs.Terms.{items_onto, written_term, written_terms}

@@ -1,6 +1,6 @@
 -- What loops and assignments do with environments (A User's Guide to Picat, 'Assignments and Loops'). An environment is a finite map: of two entries with one name
 -- the first one counts.
-use Rattle.std.specs.Prelude.{ℕ, cond, List, [], ◌∷◌, ◌++◌, Option, Some, None}
+use Rattle.std.specs.Prelude.{ℕ, cond, List, [], ◌∷◌, Option, Some, None}
 use Rattle.std.specs.Str.{bytes_eq}
 use Rattle.pi_terms.specs.Tree.{Tree}
 use Rattle.pi_meaning.specs.Environment.{Environment, meant, known, Valued, name_valued}

@@ -1,6 +1,6 @@
 -- Calls by name, of predicates and of functions, with arguments that are evaluated; and `call` (A User's Guide to Picat, 'Predicates and Functions' and 'Higher-Order
 -- Predicates'; what is raised and how depth is counted is own). A name that is built in is the built-in.
-use Rattle.std.specs.Prelude.{ℕ, pos, ◌==◌, ◌<◌, ◌&&◌, ◌||◌, nat_le, Bool, cond, List, [], ◌∷◌, ◌++◌, Option, Some, None, codes}
+use Rattle.std.specs.Prelude.{ℕ, pos, ◌==◌, ◌&&◌, ◌||◌, nat_le, Bool, cond, List, [], ◌++◌, Option, Some, None, codes}
 use Rattle.std.specs.Str.{bytes_eq}
 use Rattle.pi_terms.specs.Tree.{Tree, var, int, atom, comp, Trees, no_trees, tree, trees_of, tree_count}
 use Rattle.pi_terms.specs.Copy.{copy, new_variables}
@@ -11,7 +11,7 @@ use Rattle.pi_effects.specs.Effect.{Effect, FunctionEffect}
 use Rattle.pi_effects.specs.Exception.{type_error}
 use Rattle.pi_effects.specs.Items.{each_tree}
 use Rattle.pi_effects.specs.BuiltIns.{built_in_predicate, built_in_function, is_predicate}
-use Rattle.pi_traces.specs.Trace.{Trace, end, Raise, Deep, done, one, then}
+use Rattle.pi_traces.specs.Trace.{Trace, end, Raise, Deep, done, then}
 use Rattle.pi_traces.specs.Control.{caught}
 use Rattle.pi_meaning.specs.Settle.{settled}
 use Rattle.pi_meaning.specs.Builtin.{effect_trace, function_trace}

@@ -1,6 +1,6 @@
 -- What the forms of control make of the meanings of the goals and expressions in them (A User's Guide to Picat, 'Goals' and 'Exceptions'; that a place is strict, and
 -- what an expression comes to as a trace, is own).
-use Rattle.std.specs.Prelude.{ℕ, zero, suc, pos, cond, List, [], ◌∷◌, Option, Some, None}
+use Rattle.std.specs.Prelude.{ℕ, zero, suc, pos, List, [], ◌∷◌, Option, Some, None}
 use Rattle.pi_terms.specs.Tree.{Tree, Trees, no_trees, tree}
 use Rattle.pi_terms.specs.ListCopies.{new_in_all, list_of_copies}
 use Rattle.pi_states.specs.Value.{value}

@@ -1,8 +1,8 @@
 -- Calls that are forms of control, and how the arguments of other calls are read (A User's Guide to Picat, 'Goals', 'Exceptions' and 'Constraints'; which is which
 -- is own).
-use Rattle.std.specs.Prelude.{ℕ, ◌==◌, ◌&&◌, ◌||◌, nat_le, Bool, cond, List, [], ◌∷◌, Option, Some, None, codes}
+use Rattle.std.specs.Prelude.{ℕ, ◌==◌, ◌&&◌, ◌||◌, Bool, cond, List, [], ◌∷◌, Option, Some, None, codes}
 use Rattle.std.specs.Str.{bytes_eq}
-use Rattle.pi_terms.specs.Tree.{Tree, int, comp}
+use Rattle.pi_terms.specs.Tree.{comp}
 use Rattle.pi_syntax.specs.Tokens.{is_one_of}
 use Rattle.pi_traces.specs.Trace.{done, one}
 use Rattle.pi_effects.specs.Indexing.{index_name}

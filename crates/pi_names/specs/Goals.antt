@@ -1,7 +1,7 @@
 -- What each goal does and what each expression comes to, by what it is made of: at a level, from a place, under a setting. `before` are the names that stand before it in
 -- the text of its clause, which are what a loop leaves to those behind it. (A User's Guide to Picat, 'Data Types, Operators, and Built-ins', 'Predicates and
 -- Functions', 'Assignments and Loops', 'List and Array Comprehensions'; the order of evaluation and what is strict are own.)
-use Rattle.std.specs.Prelude.{ℕ, Bool, ◌++◌, cond, List, [], ◌∷◌, Option, Some, None, codes}
+use Rattle.std.specs.Prelude.{ℕ, Bool, ◌++◌, cond, List, [], ◌∷◌, Option, Some, None}
 use Rattle.pi_terms.specs.Tree.{Tree, comp}
 use Rattle.pi_terms.specs.ListNames.{nil}
 use Rattle.pi_print.specs.PrintTerm.{array_name}
@@ -10,7 +10,6 @@ use Rattle.pi_syntax.specs.ExpTree.{ExpTree, var, int, atom, str, list, list_ont
 use Rattle.pi_syntax.specs.Signature.{exp_count}
 use Rattle.pi_traces.specs.Trace.{Trace, done, one}
 use Rattle.pi_meaning.specs.Environment.{known, Valued, name_valued}
-use Rattle.pi_meaning.specs.Surface.{Place}
 use Rattle.pi_names.specs.Texts.{Names, places, places_all, places_of_branches, behind, iterated, unit_places, begins_with_iterator, variable_first, assigned, kept_names}
 use Rattle.pi_names.specs.Terms.{items_onto, written_term}
 use Rattle.pi_names.specs.Given.{Setting}

@@ -1,6 +1,6 @@
 -- Matching: an argument of a head, or the pattern of an iterator, against a term whose variables may be bound, none of which it binds (A User's Guide to Picat,
 -- 'Pattern-Matching'). A name takes the part of the term as it stands; one that occurs twice takes terms of one value.
-use Rattle.std.specs.Prelude.{ℕ, ◌==◌, ◌&&◌, cond, List, Option, Some, None, option_and_then, codes}
+use Rattle.std.specs.Prelude.{ℕ, cond, List, Option, Some, None, option_and_then, codes}
 use Rattle.std.specs.Str.{bytes_eq}
 use Rattle.pi_terms.specs.Tree.{Tree, comp, Trees, no_trees, tree}
 use Rattle.pi_terms.specs.ListNames.{nil}

@@ -14,10 +14,10 @@ use Rattle.pi_syntax.specs.ExpTree.{ExpTree}
 use Rattle.pi_traces.specs.Trace.{Trace, end, note, Tick, Deep, Raise, one, then}
 use Rattle.pi_meaning.specs.Settle.{settled_from}
 use Rattle.pi_meaning.specs.Level.{Level, lowest, over, calls_at, lower, ticked}
-use Rattle.pi_meaning.specs.Environment.{Environment, meant, Valued}
+use Rattle.pi_meaning.specs.Environment.{Environment, meant}
 use Rattle.pi_meaning.specs.Surface.{Place}
 use Rattle.pi_names.specs.Texts.{Names}
-use Rattle.pi_names.specs.Assigning.{with_value, with_names, place_of, carried}
+use Rattle.pi_names.specs.Assigning.{with_value, with_names, carried}
 use Rattle.pi_names.specs.Heads.{pattern_matched}
 use Rattle.pi_names.specs.Control.{Goal, Value, draining, choosing}
 

@@ -1,12 +1,11 @@
 -- What calls of a program's predicates and functions do, at each depth: rules, facts behind an `index`, and functions, those of the prelude among them (A User's Guide to
 -- Picat, 'Predicates and Functions'; Ticks and depths, and what drains, are own).
-use Rattle.std.specs.Prelude.{ℕ, zero, suc, ◌==◌, ◌&&◌, Bool, true, false, cond, List, [], ◌∷◌, ◌++◌, filter, filter_map, Option, Some, None, option_and_then, codes}
-use Rattle.std.specs.Str.{bytes_eq}
+use Rattle.std.specs.Prelude.{ℕ, zero, suc, Bool, false, cond, List, [], ◌∷◌, filter, filter_map, Option, Some, None, option_and_then, codes}
 use Rattle.std.specs.List.{list_any}
 use Rattle.pi_terms.specs.Tree.{Tree, comp, Trees, tree_count}
 use Rattle.pi_states.specs.State.{State, bindings}
 use Rattle.pi_states.specs.Unify.{unified}
-use Rattle.pi_syntax.specs.ExpTree.{ExpTree, ExpTrees, no_exps}
+use Rattle.pi_syntax.specs.ExpTree.{ExpTree}
 use Rattle.pi_syntax.specs.ProgramTree.{RuleTree, FunctionTree, WrittenClause, rule, function, fact, PartTree, ProgramTree}
 use Rattle.pi_syntax.specs.declared.program.Mode.{Mode}
 use Rattle.pi_traces.specs.Trace.{Trace, done, one, alt, then}

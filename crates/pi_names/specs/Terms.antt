@@ -1,6 +1,6 @@
 -- Terms as they are written, without evaluation: what stands behind `$`, and the heads of facts (A User's Guide to Picat, 'Data Types, Operators, and Built-ins').
 -- Calls and signs in them are structures, ranges are compounds named `..`, and an inner `$` changes nothing (own). Names that are new get variables from the left.
-use Rattle.std.specs.Prelude.{ℕ, List, [], Option, Some, None, option_map, option_and_then, codes}
+use Rattle.std.specs.Prelude.{Option, Some, None, option_map, option_and_then, codes}
 use Rattle.pi_terms.specs.Tree.{Tree, comp, Trees, no_trees, tree}
 use Rattle.pi_terms.specs.ListNames.{nil}
 use Rattle.pi_terms.specs.ListCopies.{list_cell}
