@@ -168,12 +168,17 @@ copies-are_new :
 unfolding run_of list_before
 copies-are_new = refl
 
--- call(true) takes one from the depth
+-- call(true) takes one from the depth, and call($call(true)) two
+abbrev called_goal : ExpTree
+called_goal = calls (codes "call") (name (codes "true") ∷ [])
+
 calls-take_depth :
-    (run_of [] (calls (codes "call") (name (codes "true") ∷ [])) 9 0 ≡ record { events = []; stop = Ended Deep })
-    × (run_of [] (calls (codes "call") (name (codes "true") ∷ [])) 9 1 ≡ done_with (told [] ∷ []))
+    (run_of [] called_goal 9 0 ≡ record { events = []; stop = Ended Deep })
+    × (run_of [] called_goal 9 1 ≡ done_with (told [] ∷ []))
+    × (run_of [] (calls (codes "call") (quote called_goal ∷ [])) 9 1 ≡ record { events = []; stop = Ended Deep })
+    × (run_of [] (calls (codes "call") (quote called_goal ∷ [])) 9 2 ≡ done_with (told [] ∷ []))
 unfolding run_of
-calls-take_depth = (refl, refl)
+calls-take_depth = (refl, refl, refl, refl)
 
 -- f(0) = 1.  f(N) = N*f(N-1), N > 0 => true.
 abbrev factorial_of : ExpTree → ExpTree
