@@ -155,11 +155,11 @@ none-form : (b : Bool) (f : Form) (o : Option Form) → b ≡ false → is_some 
 none-form true f o h rest = absurd cc
 none-form false f o h rest = rest
 
-first-false : (a b : Bool) → (a || b) ≡ false → a ≡ false
+pub first-false : (a b : Bool) → (a || b) ≡ false → a ≡ false
 first-false true b h = absurd cc
 first-false false b h = refl
 
-second-false : (a b : Bool) → (a || b) ≡ false → b ≡ false
+pub second-false : (a b : Bool) → (a || b) ≡ false → b ≡ false
 second-false true b h = absurd cc
 second-false false b h = h
 

@@ -92,7 +92,7 @@ pub record IsUntaken (name : List ℕ) (k : ℕ) : Type 0 where
 abbrev pub AllUntaken : Defined → Type 0
 AllUntaken defined = (name : List ℕ) (k : ℕ) → Defines defined name k → IsUntaken name k
 
-none-of : {A : Type 0} (o : Option A) → is_some o ≡ false → o ≡ None
+pub none-of : {A : Type 0} (o : Option A) → is_some o ≡ false → o ≡ None
 none-of None h = refl
 none-of (Some x) h = absurd cc
 

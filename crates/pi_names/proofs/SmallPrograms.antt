@@ -28,7 +28,8 @@ use Rattle.pi_names.specs.Rules.{rules_named, modes_named, names_before, guarded
 use Rattle.pi_names.specs.Prelude.{prelude}
 use Rattle.pi_names.specs.Run.{setting, names_trace}
 use Rattle.pi_names.specs.NameLaws.{are_some, is_taken, HeadsAreFree, SmallIsSurface}
-use Rattle.pi_names.proofs.SmallLemmas.{Defined, then-same, SameCalls, AllUntaken, body-same, head-same, body-names}
+use Rattle.pi_names.proofs.BuiltInNames.{first-false, second-false}
+use Rattle.pi_names.proofs.SmallLemmas.{Defined, none-of, then-same, SameCalls, AllUntaken, body-same, head-same, body-names}
 
 -- ---- rules
 
@@ -106,18 +107,6 @@ own-rules name k ps none =
     ap (filter (is_rule_of name k)) (filter_map-append (λ p. rule_in p.clause) prelude ps)
     ∙ filter-append (is_rule_of name k) (rules_of prelude) (rules_of ps)
     ∙ ap (λ (rs : List RuleTree). rs ++ filter (is_rule_of name k) (rules_of ps)) (no-rules (rules_named name k prelude) none)
-
-none-of : {A : Type 0} (o : Option A) → is_some o ≡ false → o ≡ None
-none-of None h = refl
-none-of (Some x) h = absurd cc
-
-first-false : (a b : Bool) → (a || b) ≡ false → a ≡ false
-first-false true b h = absurd cc
-first-false false b h = refl
-
-second-false : (a b : Bool) → (a || b) ≡ false → b ≡ false
-second-false true b h = absurd cc
-second-false false b h = h
 
 -- what `is_taken` says, part by part
 pub record Untaken (name : List ℕ) (k : ℕ) : Type 0 where

@@ -66,11 +66,11 @@ NamesRunsReach = (v : NamesView) (later : Later) (program : ProgramTree) (goal :
 -- ---- calls go by values
 
 -- what arguments come to, without the names behind them
-pub record Given : Type 0 where
+pub record ArgumentsGiven : Type 0 where
   pub trees : Trees
   pub state : State
 
-abbrev pub given_by : Values → Level → Place → Trace Given
+abbrev pub given_by : Values → Level → Place → Trace ArgumentsGiven
 given_by vs l p = then (vs l p) (λ all. one (record { trees = all.trees; state = all.state }))
 
 abbrev pub states_of : Trace Place → Trace State

@@ -1,6 +1,6 @@
 -- What the text alone says of names: where they occur outside of loops, which a loop assigns, and which stand before a place. (A User's Guide to Picat,
 -- 'Variables' and 'Loops'; which names a loop keeps to itself is own.)
-use Rattle.std.specs.Prelude.{ℕ, Bool, true, false, not, ◌||◌, cond, List, [], ◌∷◌, ◌++◌, filter, Option, Some, None, codes}
+use Rattle.std.specs.Prelude.{ℕ, Bool, false, not, ◌||◌, cond, List, [], ◌∷◌, ◌++◌, filter, Option, Some, None, codes, is_some}
 use Rattle.std.specs.Str.{bytes_eq}
 use Rattle.std.specs.List.{list_any}
 use Rattle.pi_syntax.specs.ExpTree.{ExpTree, var, int, atom, str, list, list_onto, array, call, quote, index, range, range_by, at, collect, and, or, arrow, if_then, if_else, foreach, while_do, do_while, ExpTrees, no_exps, exp, ExpBranches, no_branches, branch}
@@ -86,11 +86,7 @@ patterns_of (exp u us) = pattern_places (iterated u) ++ patterns_of us
 
 abbrev pub begins_with_iterator : ExpTrees → Bool
 begins_with_iterator no_exps = false
-begins_with_iterator (exp u us) = has_pattern (iterated u)
-  where
-    has_pattern : Option ExpTree → Bool
-    has_pattern None = false
-    has_pattern (Some e) = true
+begins_with_iterator (exp u us) = is_some (iterated u)
 
 -- these names but for some
 abbrev pub without : Names → Names → Names
