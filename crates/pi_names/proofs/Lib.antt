@@ -7,6 +7,7 @@ pub mod GrowLoops
 pub mod GrowGoals
 pub mod GrowRules
 pub mod ValueLemmas
+pub mod ClausalLemmas
 pub mod OtherEnvironments
 pub mod OtherControl
 pub mod OtherLoops

@@ -1,5 +1,5 @@
 -- The laws of the meaning over names.
-use Rattle.std.specs.Prelude.{◌≡◌, ℕ, ◌||◌, Bool, true, false, List, [], ◌∷◌, None, is_some}
+use Rattle.std.specs.Prelude.{◌≡◌, ℕ, ◌||◌, Bool, true, false, List, [], ◌∷◌, filter, None, is_some}
 use Rattle.pi_terms.specs.Tree.{Trees}
 use Rattle.pi_states.specs.State.{State}
 use Rattle.pi_syntax.specs.ExpTree.{ExpTree, ExpTrees, call}
@@ -94,3 +94,13 @@ FunctionsGoByValues = (set : Setting) (l : Level) (name : List ℕ) (vs ws : Val
 abbrev pub GoalsAreCalls : Type 0
 GoalsAreCalls = (set : Setting) (before : Names) (name : List ℕ) (es : ExpTrees) (l : Level) (p : Place) → form_of name (exp_count es) ≡ None →
     goal_of set before (call name es) l p ≡ draining (called_with set name (values_of set (readings name (exp_count es)) before es)) l p
+
+-- ---- programs
+
+-- the parts that have a clause: all but an `import`
+abbrev pub clausal : ProgramTree → ProgramTree
+clausal parts = filter (λ p. is_some p.clause) parts
+
+-- the other parts of a program count for nothing
+abbrev pub ClausesCountAlone : Type 0
+ClausesCountAlone = (v : NamesView) (later : Later) (program : ProgramTree) (goal : ExpTree) (d : ℕ) → names_trace v later program goal d ≡ names_trace v later (clausal program) goal d

@@ -1,6 +1,6 @@
 //! Laws of the meaning over names.
 ghost use Rattle.pi_names.specs.OtherNames.{OtherNamesChangeNothing};
-ghost use Rattle.pi_names.specs.NameLaws.{CallsGoByValues, FunctionsGoByValues, GoalsAreCalls, NamesDoMore, NamesRunsAreOne, NamesRunsReach, OtherNamesAreFree, SmallIsSurface};
+ghost use Rattle.pi_names.specs.NameLaws.{CallsGoByValues, ClausesCountAlone, FunctionsGoByValues, GoalsAreCalls, NamesDoMore, NamesRunsAreOne, NamesRunsReach, OtherNamesAreFree, SmallIsSurface};
 
 /// On the small language, of variables, integers, atoms, `=`, `true`, `fail`, calls and conjunctions, the meaning over names is that of
 /// `Surface`, over which lowering and the run of a program are proved. Its premise on the names of predicates holds of each name that the
@@ -29,4 +29,9 @@ pub fn calls_go_by_values()
 /// A name that occurs neither in a goal nor before it changes nothing: the goal does the same whatever the environment has for it.
 pub fn other_names_change_nothing()
     ensures { OtherNamesChangeNothing }
+{}
+
+/// Parts of a program that have no clause count for nothing.
+pub fn clauses_count_alone()
+    ensures { ClausesCountAlone }
 {}
