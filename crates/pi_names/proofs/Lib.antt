@@ -1,0 +1,17 @@
+pub mod Worked
+pub mod SmallLemmas
+pub mod SmallPrograms
+pub mod BuiltInNames
+pub mod GrowControl
+pub mod GrowLoops
+pub mod GrowGoals
+pub mod GrowRules
+pub mod ValueLemmas
+pub mod ClausalLemmas
+pub mod OtherEnvironments
+pub mod OtherControl
+pub mod OtherLoops
+pub mod OtherGoals
+pub mod GoalExamples
+pub mod LoopExamples
+pub mod ReadingExamples

@@ -1,0 +1,304 @@
+-- On the small language the whole meaning over names is that of `Surface`: expressions, goals and bodies.
+use Rattle.std.proofs.Common.{◌≡◌, inl, inr, ℕ, suc, Bool, true, false, cond, List, ◌++◌, refl, sym, ◌∙◌, ap, subst, arith}
+use Rattle.std.proofs.Math.Path.{fun_ext}
+use Rattle.std.specs.Prelude.{◌&&◌, ◌||◌, Option, Some, None, codes, is_some, option_and_then}
+use Rattle.std.specs.Str.{bytes_eq}
+use Rattle.std.specs.Ordering.{is_eq}
+use Rattle.pi_terms.specs.Order.{name_order}
+use Rattle.pi_terms.specs.Tree.{Tree, Trees, tree, no_trees, tree_count}
+use Rattle.pi_states.specs.Value.{Bindings}
+use Rattle.pi_states.specs.State.{State}
+use Rattle.pi_states.specs.Unify.{unified}
+use Rattle.pi_effects.specs.Effect.{Effect, succeeds_in}
+use Rattle.pi_effects.specs.Builtin.{effect_of_predicate, is_built_in}
+use Rattle.pi_effects.specs.Rows.{done_by}
+use Rattle.pi_effects.specs.Comparing.{comparing_tests}
+use Rattle.pi_effects.specs.Kinds.{kind_tests}
+use Rattle.pi_effects.specs.Texts.{writing_predicates}
+use Rattle.pi_effects.specs.BuiltIns.{tests, other_predicates, built_in_predicate, is_predicate}
+use Rattle.pi_effects.proofs.BuiltInLemmas.{predicates-listed}
+use Rattle.pi_syntax.specs.ExpTree.{ExpTree, ExpTrees, no_exps, exp}
+use Rattle.pi_syntax.specs.Signature.{Signature, exp_count}
+use Rattle.pi_traces.specs.Trace.{Trace, done, one, then}
+use Rattle.pi_traces.proofs.TraceLemmas.{alt-done}
+use Rattle.pi_meaning.specs.View.{View}
+use Rattle.pi_meaning.specs.Drain.{drained}
+use Rattle.pi_meaning.specs.Settle.{settled}
+use Rattle.pi_meaning.specs.Level.{Level, calls_at}
+use Rattle.pi_meaning.specs.Builtin.{effect, effect_trace}
+use Rattle.pi_meaning.specs.Small.{Defines, IsSmallTerm, AreSmallTerms, IsSmallAtom, IsSmallCall, IsSmallGoal, AreSmallGoals, IsSmallBody}
+use Rattle.pi_meaning.specs.Environment.{Environment, known, argument_matched, head_matched, Valued, valued, ValuedAll, valued_all}
+use Rattle.pi_meaning.specs.Surface.{Place, Doing, Calling, at_state, draining_first, built_in_or_called, call_trace, atom_trace, goal_trace, goals_trace, body_trace, name_places, name_places_all}
+use Rattle.pi_names.specs.Within.{plain_view}
+use Rattle.pi_names.specs.Texts.{Names, places, places_all, behind, variable_first}
+use Rattle.pi_names.specs.Heads.{pattern_matched, patterns_matched}
+use Rattle.pi_names.specs.Given.{Setting, is_later_predicate}
+use Rattle.pi_names.specs.Calls.{built_in_or_called as built_in_or, predicate_called}
+use Rattle.pi_names.specs.Control.{Goal, draining, nothing, called_with}
+use Rattle.pi_names.specs.Forms.{Form, form_of, Parts, call_goal, atom_goal, Reading, readings, first_reading, later_readings}
+use Rattle.pi_names.specs.Goals.{value_of, values_of, values_in, goals_in, goal_of, all_of}
+
+abbrev pub Defined : Type 0
+Defined = List (Option Signature)
+
+pub then-of_one : {A B : Type 0} (x : A) (f : A → Trace B) → then (one x) f ≡ f x
+unfolding then
+then-of_one x f = alt-done (f x)
+
+pub then-same : {A B : Type 0} (t u : Trace A) (f g : A → Trace B) → t ≡ u → ((x : A) → f x ≡ g x) → then t f ≡ then u g
+then-same t u f g e each = ap (λ (w : Trace _). then w f) e ∙ ap (then u) (fun_ext each)
+
+-- ---- expressions
+
+-- a small term comes to what it comes to there, whatever stands before it
+value-small : (set : Setting) (r : Reading) (before : Names) (e : ExpTree) → IsSmallTerm e → (l : Level) (p : Place) → value_of set r before e l p ≡ one (valued e p.names p.state)
+unfolding value_of
+value-small set r before (ExpTree.var name) small l p = refl
+value-small set r before (ExpTree.int n) small l p = refl
+value-small set r before (ExpTree.atom name) small l p = refl
+value-small set r before e small l p = absurd small
+
+pub values-small : (set : Setting) (rs : List Reading) (before : Names) (es : ExpTrees) → AreSmallTerms es → (l : Level) (p : Place) →
+    values_of set rs before es l p ≡ one (valued_all es p.names p.state)
+unfolding values_of valued_all AreSmallTerms
+values-small set rs before no_exps small l p = refl
+values-small set rs before (exp e es) small l p =
+    let x : Valued = valued e p.names p.state in
+    let add : Valued → ValuedAll → Trace ValuedAll = λ y all. one (record { trees = tree y.tree all.trees; names = all.names; state = all.state }) in
+    then-same (value_of set (first_reading rs) before e l p) (one x) _ _ (value-small set (first_reading rs) before e small.0 l p) (λ y. refl)
+    ∙ then-of_one x (λ y. then (values_of set (later_readings rs) (behind before (places e)) es l (record { names = y.names; state = y.state })) (add y))
+    ∙ ap (λ (t : Trace ValuedAll). then t (add x)) (values-small set (later_readings rs) (behind before (places e)) es small.1 l (record { names = x.names; state = x.state }))
+    ∙ then-of_one (valued_all es x.names x.state) (add x)
+
+terms-count : (es : ExpTrees) (e : Environment) (s : State) → tree_count (valued_all es e s).trees ≡ exp_count es
+unfolding valued_all tree_count exp_count
+terms-count no_exps e s = refl
+terms-count (exp x es) e s = ap suc (terms-count es (valued x e s).names (valued x e s).state)
+
+-- ---- calls
+
+-- calls of what is defined do the same, and so does draining
+pub record SameCalls (defined : Defined) (l : Level) (calls : Calling) : Type 0 where
+  pub called : (name : List ℕ) (ts : Trees) (s : State) → Defines defined name (tree_count ts) → (calls_at l).called name ts s ≡ calls name ts s
+  pub drains : (s : State) → (calls_at l).drained s ≡ drained s
+
+-- what is known of each name that is defined
+pub record IsUntaken (name : List ℕ) (k : ℕ) : Type 0 where
+  pub no_form : form_of name k ≡ None
+  pub not_built_in : is_predicate name k ≡ false
+  pub not_later : is_later_predicate name k ≡ false
+  pub not_small_built_in : is_built_in false name k ≡ false
+
+abbrev pub AllUntaken : Defined → Type 0
+AllUntaken defined = (name : List ℕ) (k : ℕ) → Defines defined name k → IsUntaken name k
+
+pub none-of : {A : Type 0} (o : Option A) → is_some o ≡ false → o ≡ None
+none-of None h = refl
+none-of (Some x) h = absurd cc
+
+none-built_in : (name : List ℕ) (ts : Trees) (s : State) → is_predicate name (tree_count ts) ≡ false → built_in_predicate name ts s ≡ None
+none-built_in name ts s h = none-of (built_in_predicate name ts s) (predicates-listed name ts s ∙ h)
+
+equals-built_in : (t u : Tree) (s : State) → built_in_predicate (codes "=") (tree t (tree u no_trees)) s ≡ Some (succeeds_in (unified s t u))
+unfolding built_in_predicate tests comparing_tests kind_tests writing_predicates other_predicates done_by
+equals-built_in t u s = refl
+
+settled-same : (t : Trace State) (a b : State) → then t (settled a) ≡ then t (settled b)
+unfolding settled
+settled-same t a b = refl
+
+-- `=`, of two terms
+equation-same : (set : Setting) (l : Level) (calls : Calling) (es : ExpTrees) (e : Environment) (s before : State) → exp_count es ≡ 2 →
+    predicate_called set l (codes "=") (valued_all es e s).trees (valued_all es e s).state
+    ≡ built_in_or_called (effect (plain_view set.view) (codes "=") (valued_all es e s).trees (valued_all es e s).state) calls (codes "=") (valued_all es e s) before
+unfolding predicate_called valued_all exp_count effect
+equation-same set l calls no_exps e s before h = absurd (omega arith)
+equation-same set l calls (exp x no_exps) e s before h = absurd (omega arith)
+equation-same set l calls (exp x (exp y no_exps)) e s before h =
+    let all : ValuedAll = valued_all (exp x (exp y no_exps)) e s in
+    let t : Tree = (valued x e s).tree in
+    let u : Tree = (valued y (valued x e s).names (valued x e s).state).tree in
+    ap (λ (o : Option Effect). built_in_or set l (codes "=") all.trees all.state o) (equals-built_in t u all.state)
+    ∙ settled-same (effect_trace (plain_view set.view) (succeeds_in (unified all.state t u))) all.state before
+equation-same set l calls (exp x (exp y (exp z es))) e s before h = absurd (omega arith)
+
+-- a name that is built in with none of its numbers of arguments does nothing there
+cond-first : {A : Type 0} (a b : Bool) (x : A) → ((a && true) || (b && false)) ≡ false → cond a (Some x) None ≡ None
+cond-first true b x h = absurd cc
+cond-first false b x h = refl
+
+cond-second : {A : Type 0} (a b : Bool) (x : A) → ((a && false) || (b && true)) ≡ false → cond b (Some x) None ≡ None
+cond-second true true x h = absurd cc
+cond-second false true x h = absurd cc
+cond-second a false x h = refl
+
+small-none : (name : List ℕ) (ts : Trees) (s : State) → is_built_in false name (tree_count ts) ≡ false → effect_of_predicate name ts s ≡ None
+unfolding tree_count
+small-none name no_trees s h = refl
+small-none name (tree t no_trees) s h = cond-first (is_eq (name_order name (codes "throw"))) (is_eq (name_order name (codes "="))) _ h
+small-none name (tree t (tree u no_trees)) s h = cond-second (is_eq (name_order name (codes "throw"))) (is_eq (name_order name (codes "="))) _ h
+small-none name (tree t (tree u (tree w ts))) s h = refl
+
+-- a predicate of the program
+effect-none : (v : View) (name : List ℕ) (ts : Trees) (s : State) → effect_of_predicate name ts s ≡ None → effect v name ts s ≡ None
+unfolding effect
+effect-none v name ts s h = rw h refl
+
+defined-same : (set : Setting) (l : Level) (calls : Calling) (defined : Defined) → AllUntaken defined → SameCalls defined l calls → (name : List ℕ) (all : ValuedAll) (before : State) →
+    Defines defined name (tree_count all.trees) →
+    predicate_called set l name all.trees all.state ≡ built_in_or_called (effect (plain_view set.view) name all.trees all.state) calls name all before
+unfolding predicate_called
+defined-same set l calls defined free is name all before known =
+    let un : IsUntaken name (tree_count all.trees) = free name (tree_count all.trees) known in
+    ap (λ (o : Option Effect). built_in_or set l name all.trees all.state o) (none-built_in name all.trees all.state un.not_built_in)
+    ∙ ap (λ (b : Bool). cond b (set.later.predicate set.view l name all.trees all.state) ((calls_at l).called name all.trees all.state)) un.not_later
+    ∙ is.called name all.trees all.state known
+    ∙ sym (ap (λ (o : Option (Trace State)). built_in_or_called o calls name all before)
+    (effect-none (plain_view set.view) name all.trees all.state (small-none name all.trees all.state un.not_small_built_in)))
+
+predicate-same : (set : Setting) (l : Level) (calls : Calling) (defined : Defined) → AllUntaken defined → SameCalls defined l calls → (name : List ℕ) (es : ExpTrees) (e : Environment) (s before : State) →
+    IsSmallCall defined name (exp_count es) →
+    predicate_called set l name (valued_all es e s).trees (valued_all es e s).state
+    ≡ built_in_or_called (effect (plain_view set.view) name (valued_all es e s).trees (valued_all es e s).state) calls name (valued_all es e s) before
+predicate-same set l calls defined free is name es e s before (inl equals) =
+    subst (λ (f : List ℕ). predicate_called set l f (valued_all es e s).trees (valued_all es e s).state
+    ≡ built_in_or_called (effect (plain_view set.view) f (valued_all es e s).trees (valued_all es e s).state) calls f (valued_all es e s) before) (sym equals.0)
+    (equation-same set l calls es e s before equals.1)
+predicate-same set l calls defined free is name es e s before (inr known) =
+    defined-same set l calls defined free is name (valued_all es e s) before (subst (Defines defined name) (sym (terms-count es e s)) known)
+
+pub call-same : (set : Setting) (l : Level) (calls : Calling) (defined : Defined) → AllUntaken defined → SameCalls defined l calls → (rs : List Reading) (before : Names) (name : List ℕ) (es : ExpTrees) →
+    IsSmallCall defined name (exp_count es) → AreSmallTerms es → (p : Place) →
+    called_with set name (values_of set rs before es) l p ≡ call_trace (plain_view set.view) calls name es p
+unfolding called_with
+call-same set l calls defined free is rs before name es small flat p =
+    let all : ValuedAll = valued_all es p.names p.state in
+    let on : ValuedAll → Trace Place = λ x. then (predicate_called set l name x.trees x.state) (λ s. one (record { names = x.names; state = s })) in
+    ap (λ (t : Trace ValuedAll). then t on) (values-small set rs before es flat l p)
+    ∙ then-of_one all on
+    ∙ ap (λ (t : Trace State). then t (λ s. one (record { names = all.names; state = s }))) (predicate-same set l calls defined free is name es p.names p.state p.state small)
+
+-- ---- goals
+
+drained-same : (set : Setting) (l : Level) (calls : Calling) (defined : Defined) → SameCalls defined l calls → (g : Goal) (act : Doing) → ((p : Place) → g l p ≡ act p) → (p : Place) →
+    draining g l p ≡ draining_first act p
+unfolding draining
+drained-same set l calls defined is g act each p = then-same _ _ _ _ (is.drains p.state) (λ s. each (at_state p s))
+
+-- `true`, `fail`, or a call
+chosen-same : (b c : Bool) (p : Place) (t u : Trace Place) → (b ≡ false → c ≡ false → t ≡ u) → cond b (one p) (cond c done t) ≡ cond b (one p) (cond c done u)
+chosen-same true c p t u same = refl
+chosen-same false true p t u same = refl
+chosen-same false false p t u same = same refl refl
+
+bytes-itself : (name : List ℕ) → name ≡ codes "true" → bytes_eq name (codes "true") ≡ false → ⊥
+bytes-itself name e h = absurd (cc (subst (λ (n : List ℕ). bytes_eq n (codes "true") ≡ false) e h))
+
+bytes-other : (name : List ℕ) → name ≡ codes "fail" → bytes_eq name (codes "fail") ≡ false → ⊥
+bytes-other name e h = absurd (cc (subst (λ (n : List ℕ). bytes_eq n (codes "fail") ≡ false) e h))
+
+atom-known : (defined : Defined) (name : List ℕ) → IsSmallAtom defined name → bytes_eq name (codes "true") ≡ false → bytes_eq name (codes "fail") ≡ false → Defines defined name 0
+atom-known defined name (inl (inl e)) a b = absurd (bytes-itself name e a)
+atom-known defined name (inl (inr e)) a b = absurd (bytes-other name e b)
+atom-known defined name (inr known) a b = known
+
+bare-same : (set : Setting) (l : Level) (calls : Calling) (defined : Defined) → AllUntaken defined → SameCalls defined l calls → (name : List ℕ) → Defines defined name 0 → (p : Place) →
+    called_with set name nothing l p ≡ call_trace (plain_view set.view) calls name no_exps p
+unfolding called_with exp_count valued_all
+bare-same set l calls defined free is name known p =
+    let all : ValuedAll = valued_all no_exps p.names p.state in
+    let on : ValuedAll → Trace Place = λ x. then (predicate_called set l name x.trees x.state) (λ s. one (record { names = x.names; state = s })) in
+    then-of_one all on
+    ∙ ap (λ (t : Trace State). then t (λ s. one (record { names = all.names; state = s }))) (predicate-same set l calls defined free is name no_exps p.names p.state p.state (inr known))
+
+atom-same : (set : Setting) (l : Level) (calls : Calling) (defined : Defined) → AllUntaken defined → SameCalls defined l calls → (name : List ℕ) → IsSmallAtom defined name → (p : Place) →
+    atom_goal set name l p ≡ atom_trace (plain_view set.view) calls name p
+unfolding atom_goal
+atom-same set l calls defined free is name small p =
+    chosen-same (bytes_eq name (codes "true")) (bytes_eq name (codes "fail")) p _ _ (λ a b. bare-same set l calls defined free is name (atom-known defined name small a b) p)
+
+no-form : (defined : Defined) → AllUntaken defined → (name : List ℕ) (k : ℕ) → IsSmallCall defined name k → form_of name k ≡ None
+unfolding form_of
+no-form defined free name k (inl equals) = rw (equals.0, equals.1) refl
+no-form defined free name k (inr known) = (free name k known).no_form
+
+pub goal-same : (set : Setting) (l : Level) (calls : Calling) (defined : Defined) → AllUntaken defined → SameCalls defined l calls → (before : Names) (e : ExpTree) → IsSmallGoal defined e → (p : Place) →
+    goal_of set before e l p ≡ goal_trace (plain_view set.view) calls e p
+unfolding goal_of
+goal-same set l calls defined free is before (ExpTree.atom name) small p =
+    drained-same set l calls defined is (atom_goal set name) (atom_trace (plain_view set.view) calls name) (atom-same set l calls defined free is name small) p
+goal-same set l calls defined free is before (ExpTree.call name es) small p =
+    let parts : Parts = record {
+      variable = variable_first es;
+      goals = goals_in set before es;
+      values = values_in set before es;
+      all = values_of set (readings name (exp_count es)) before es;
+    } in
+    ap (λ (o : Option Form). draining (call_goal set name o parts) l p) (no-form defined free name (exp_count es) small.0)
+    ∙ drained-same set l calls defined is (called_with set name (values_of set (readings name (exp_count es)) before es)) (call_trace (plain_view set.view) calls name es)
+    (call-same set l calls defined free is (readings name (exp_count es)) before name es small.0 small.1) p
+goal-same set l calls defined free is before e small p = absurd small
+
+pub goals-same : (set : Setting) (l : Level) (calls : Calling) (defined : Defined) → AllUntaken defined → SameCalls defined l calls → (before : Names) (es : ExpTrees) → AreSmallGoals defined es → (p : Place) →
+    all_of set before es l p ≡ goals_trace (plain_view set.view) calls es p
+unfolding all_of goals_trace AreSmallGoals
+goals-same set l calls defined free is before no_exps small p = refl
+goals-same set l calls defined free is before (exp e es) small p =
+    then-same _ _ _ _ (goal-same set l calls defined free is before e small.0 p) (goals-same set l calls defined free is (behind before (places e)) es small.1)
+
+pub body-same : (set : Setting) (l : Level) (calls : Calling) (defined : Defined) → AllUntaken defined → SameCalls defined l calls → (before : Names) (e : ExpTree) → IsSmallBody defined e → (p : Place) →
+    goal_of set before e l p ≡ body_trace (plain_view set.view) calls e p
+unfolding goal_of
+body-same set l calls defined free is before (ExpTree.and es) small p = goals-same set l calls defined free is before es small p
+body-same set l calls defined free is before (ExpTree.atom name) small p = goal-same set l calls defined free is before (ExpTree.atom name) small p
+body-same set l calls defined free is before (ExpTree.call name es) small p = goal-same set l calls defined free is before (ExpTree.call name es) small p
+body-same set l calls defined free is before e small p = absurd small
+
+-- ---- heads and names
+
+rest-matched : (f g : Environment → Option Environment) → ((e : Environment) → f e ≡ g e) → (o : Option Environment) → option_and_then f o ≡ option_and_then g o
+rest-matched f g each None = refl
+rest-matched f g each (Some e) = each e
+
+pub head-same : (b : Bindings) (es : ExpTrees) → AreSmallTerms es → (ts : Trees) (e : Environment) → patterns_matched b es ts e ≡ head_matched b es ts e
+unfolding patterns_matched pattern_matched head_matched AreSmallTerms
+head-same b no_exps small no_trees e = refl
+head-same b no_exps small (tree t ts) e = refl
+head-same b (exp x xs) small no_trees e = refl
+head-same b (exp (ExpTree.var name) xs) small (tree t ts) e =
+    rest-matched (patterns_matched b xs ts) (head_matched b xs ts) (head-same b xs small.1 ts) (argument_matched b (ExpTree.var name) t e)
+head-same b (exp (ExpTree.int n) xs) small (tree t ts) e =
+    rest-matched (patterns_matched b xs ts) (head_matched b xs ts) (head-same b xs small.1 ts) (argument_matched b (ExpTree.int n) t e)
+head-same b (exp (ExpTree.atom name) xs) small (tree t ts) e =
+    rest-matched (patterns_matched b xs ts) (head_matched b xs ts) (head-same b xs small.1 ts) (argument_matched b (ExpTree.atom name) t e)
+head-same b (exp x xs) small (tree t ts) e = absurd small.0
+
+term-names : (e : ExpTree) → IsSmallTerm e → places e ≡ name_places e
+unfolding places name_places
+term-names (ExpTree.var name) small = refl
+term-names (ExpTree.int n) small = refl
+term-names (ExpTree.atom name) small = refl
+term-names e small = absurd small
+
+terms-names : (es : ExpTrees) → AreSmallTerms es → places_all es ≡ name_places_all es
+unfolding places_all name_places_all AreSmallTerms
+terms-names no_exps small = refl
+terms-names (exp e es) small = ap (λ (ns : Names). ns ++ places_all es) (term-names e small.0) ∙ ap (λ (ns : Names). name_places e ++ ns) (terms-names es small.1)
+
+goal-names : (defined : Defined) (e : ExpTree) → IsSmallGoal defined e → places e ≡ name_places e
+unfolding places name_places
+goal-names defined (ExpTree.atom name) small = refl
+goal-names defined (ExpTree.call name es) small = terms-names es small.1
+goal-names defined e small = absurd small
+
+goals-names : (defined : Defined) (es : ExpTrees) → AreSmallGoals defined es → places_all es ≡ name_places_all es
+unfolding places_all name_places_all AreSmallGoals
+goals-names defined no_exps small = refl
+goals-names defined (exp e es) small = ap (λ (ns : Names). ns ++ places_all es) (goal-names defined e small.0) ∙ ap (λ (ns : Names). name_places e ++ ns) (goals-names defined es small.1)
+
+pub body-names : (defined : Defined) (e : ExpTree) → IsSmallBody defined e → places e ≡ name_places e
+unfolding places name_places
+body-names defined (ExpTree.and es) small = goals-names defined es small
+body-names defined (ExpTree.atom name) small = goal-names defined (ExpTree.atom name) small
+body-names defined (ExpTree.call name es) small = goal-names defined (ExpTree.call name es) small
+body-names defined e small = absurd small

@@ -1,0 +1,194 @@
+-- On the small language the whole meaning over names is that of `Surface`: rules, programs and queries.
+use Rattle.std.proofs.Common.{◌≡◌, ℕ, zero, suc, Bool, true, false, cond, List, [], ◌∷◌, ◌++◌, length, ◌<◌, refl, sym, ◌∙◌, ap, subst, arith}
+use Rattle.std.specs.Prelude.{◌||◌, Option, Some, None, filter, is_some, slice_index_or}
+use Rattle.std.specs.List.{cons_option, AllByRecursion}
+use Rattle.std.proofs.lemmas.List.Elements.{recursion_from_All, filter-append, filter_map-append}
+use Rattle.pi_terms.specs.Tree.{Tree, comp, Trees, tree_count}
+use Rattle.pi_states.specs.State.{State, bindings}
+use Rattle.pi_syntax.specs.ExpTree.{ExpTree}
+use Rattle.pi_syntax.specs.ProgramTree.{RuleTree, WrittenClause, rule, function, fact, ProgramTree}
+use Rattle.pi_syntax.specs.declared.program.Mode.{Mode}
+use Rattle.pi_syntax.specs.Signature.{Signature, signature}
+use Rattle.pi_effects.specs.Builtin.{is_built_in}
+use Rattle.pi_effects.specs.BuiltIns.{is_predicate}
+use Rattle.pi_traces.specs.Trace.{Trace, note, Tick, one, then}
+use Rattle.pi_traces.specs.Control.{chosen}
+use Rattle.pi_meaning.specs.Level.{Level}
+use Rattle.pi_meaning.specs.Rules.{chosen_rule}
+use Rattle.pi_meaning.specs.Small.{defined_by, heads, Defines, IsSmallHead, AreSmallTerms, IsSmallRule, IsSmallClause, IsSmallPart, IsSmallProgram}
+use Rattle.pi_meaning.specs.Environment.{Environment, head_matched}
+use Rattle.pi_meaning.specs.Surface.{Place, Calling, rule_in, rules_of, is_rule_of, head_arguments, rule_or_later, rules_trace, called_at, told_behind, telling, beginning, surface_trace}
+use Rattle.pi_names.specs.Within.{NamesView, plain_view}
+use Rattle.pi_names.specs.Texts.{Names, places, behind}
+use Rattle.pi_names.specs.Given.{Later, Setting, is_later_predicate}
+use Rattle.pi_names.specs.Control.{strictly, draining}
+use Rattle.pi_names.specs.Forms.{form_of}
+use Rattle.pi_names.specs.Goals.{goal_of}
+use Rattle.pi_names.specs.Rules.{rules_named, modes_named, names_before, guarded, body_or_agent, leaves_later, rule_or_later as rule_or, rules_called, predicate_run, calls_by, level_for}
+use Rattle.pi_names.specs.Prelude.{prelude}
+use Rattle.pi_names.specs.Run.{setting, names_trace}
+use Rattle.pi_names.specs.NameLaws.{are_some, is_taken, HeadsAreFree, SmallIsSurface}
+use Rattle.pi_names.proofs.BuiltInNames.{first-false, second-false}
+use Rattle.pi_names.proofs.SmallLemmas.{Defined, none-of, then-same, SameCalls, AllUntaken, body-same, head-same, body-names}
+
+-- ---- rules
+
+head-small : (head : ExpTree) → IsSmallHead head → AreSmallTerms (head_arguments head)
+unfolding AreSmallTerms
+head-small (ExpTree.atom name) small = tt
+head-small (ExpTree.call name es) small = small.1
+head-small e small = absurd small
+
+-- a rule without condition and events, where its head matched
+plain-rule : (set : Setting) (call : Tree) (i : ℕ) (r : RuleTree) (l : Level) (p : Place) (later : Trace State) (names : Names) (c : Option ExpTree) (es : List ExpTree) → c ≡ None → es ≡ [] →
+    chosen (guarded set names c l p) (λ q. chosen_rule (leaves_later r es) (body_or_agent set call i r es l q) later) later
+    ≡ chosen_rule r.back (then (goal_of set (names_before r.head r.cond) r.body l p) (λ q. one q.state)) later
+unfolding chosen
+plain-rule set call i r l p later names None [] a b = refl
+plain-rule set call i r l p later names None (e ∷ es) a b = absurd cc
+plain-rule set call i r l p later names (Some c) es a b = absurd cc
+
+rule-same : (set : Setting) (l : Level) (calls : Calling) (defined : Defined) → AllUntaken defined → SameCalls defined l calls → (call : Tree) (i : ℕ) (r : RuleTree) → IsSmallRule defined r → (s : State) (later : Trace State) (o : Option Environment) →
+    rule_or set call i r l s later o ≡ rule_or_later (plain_view set.view) calls r s later o
+rule-same set l calls defined free is call i r small s later None = refl
+rule-same set l calls defined free is call i r small s later (Some e) =
+    plain-rule set call i r l (record { names = e; state = s }) later (behind [] (places r.head)) r.cond r.events small.cond small.events
+    ∙ ap (λ (t : Trace Place). chosen_rule r.back (then t (λ q. one q.state)) later)
+    (body-same set l calls defined free is (names_before r.head r.cond) r.body small.body (record { names = e; state = s }))
+
+rules-same : (set : Setting) (l : Level) (calls : Calling) (defined : Defined) → AllUntaken defined → SameCalls defined l calls → (call : Tree) (i : ℕ) (rs : List RuleTree) → AllByRecursion (IsSmallRule defined) rs → (ts : Trees) (s : State) →
+    rules_called set call i rs l ts s ≡ rules_trace (plain_view set.view) calls rs ts s
+unfolding rules_called rules_trace
+rules-same set l calls defined free is call i [] small ts s = refl
+rules-same set l calls defined free is call i (r ∷ rs) small ts s =
+    ap (λ (o : Option Environment). rule_or set call i r l s (rules_called set call (suc i) rs l ts s) o) (head-same (bindings s) (head_arguments r.head) (head-small r.head small.0.head) ts [])
+    ∙ ap (λ (t : Trace State). rule_or set call i r l s t (head_matched (bindings s) (head_arguments r.head) ts [])) (rules-same set l calls defined free is call (suc i) rs small.1 ts s)
+    ∙ rule-same set l calls defined free is call i r small.0 s (rules_trace (plain_view set.view) calls rs ts s) (head_matched (bindings s) (head_arguments r.head) ts [])
+
+-- ---- programs
+
+clause-rule : (defined : Defined) (o : Option WrittenClause) → IsSmallClause defined o → (r : RuleTree) × (o ≡ Some (rule r)) × IsSmallRule defined r
+clause-rule defined None small = absurd small
+clause-rule defined (Some (rule r)) small = (r, refl, small)
+clause-rule defined (Some (function f)) small = absurd small
+clause-rule defined (Some (fact head)) small = absurd small
+
+rules-small : (defined : Defined) (ps : ProgramTree) → AllByRecursion (IsSmallPart defined) ps → AllByRecursion (IsSmallRule defined) (rules_of ps)
+rules-small defined [] h = tt
+rules-small defined (p ∷ ps) h =
+    let c : (r : RuleTree) × (p.clause ≡ Some (rule r)) × IsSmallRule defined r = clause-rule defined p.clause h.0.clause in
+    subst (AllByRecursion (IsSmallRule defined)) (sym (ap (λ o. cons_option (rule_in o) (rules_of ps)) c.1)) (c.2, rules-small defined ps h.1)
+
+filter-small : (defined : Defined) (f : RuleTree → Bool) (rs : List RuleTree) → AllByRecursion (IsSmallRule defined) rs → AllByRecursion (IsSmallRule defined) (filter f rs)
+filter-small defined f [] h = tt
+filter-small defined f (r ∷ rs) h = tested (f r) (filter-small defined f rs h.1)
+  where
+    tested : (b : Bool) → AllByRecursion (IsSmallRule defined) (filter f rs) → AllByRecursion (IsSmallRule defined) (cond b (r ∷ filter f rs) (filter f rs))
+    tested true rest = (h.0, rest)
+    tested false rest = rest
+
+-- no part declares an `index`
+modes-none : (defined : Defined) (name : List ℕ) (k : ℕ) (ps : ProgramTree) → AllByRecursion (IsSmallPart defined) ps → modes_named name k ps ≡ None
+unfolding modes_named
+modes-none defined name k [] h = refl
+modes-none defined name k (p ∷ ps) h = rw (h.0.decl) (modes-none defined name k ps h.1)
+
+all-modes_none : (defined : Defined) (name : List ℕ) (k : ℕ) (ps : ProgramTree) → AllByRecursion (IsSmallPart defined) ps → modes_named name k (prelude ++ ps) ≡ None
+unfolding modes_named prelude
+all-modes_none defined name k ps h = modes-none defined name k ps h
+
+no-rules : (rs : List RuleTree) → are_some rs ≡ false → rs ≡ []
+no-rules [] h = refl
+no-rules (r ∷ rs) h = absurd cc
+
+-- the prelude has no rule of a name that isn't its own
+own-rules : (name : List ℕ) (k : ℕ) (ps : ProgramTree) → are_some (rules_named name k prelude) ≡ false → rules_named name k (prelude ++ ps) ≡ filter (is_rule_of name k) (rules_of ps)
+own-rules name k ps none =
+    ap (filter (is_rule_of name k)) (filter_map-append (λ p. rule_in p.clause) prelude ps)
+    ∙ filter-append (is_rule_of name k) (rules_of prelude) (rules_of ps)
+    ∙ ap (λ (rs : List RuleTree). rs ++ filter (is_rule_of name k) (rules_of ps)) (no-rules (rules_named name k prelude) none)
+
+-- what `is_taken` says, part by part
+pub record Untaken (name : List ℕ) (k : ℕ) : Type 0 where
+  pub form : is_some (form_of name k) ≡ false
+  pub predicate : is_predicate name k ≡ false
+  pub later : is_later_predicate name k ≡ false
+  pub prelude : are_some (rules_named name k prelude) ≡ false
+
+untaken : (name : List ℕ) (k : ℕ) → is_taken name k ≡ false → Untaken name k
+unfolding is_taken
+untaken name k h =
+    let a : Bool = is_some (form_of name k) in
+    let b : Bool = is_predicate name k in
+    let c : Bool = is_later_predicate name k in
+    let d : Bool = are_some (rules_named name k prelude) in
+    let rest : (b || (c || d)) ≡ false = second-false a (b || (c || d)) h in
+    let last : (c || d) ≡ false = second-false b (c || d) rest in
+    record { form = first-false a (b || (c || d)) h; predicate = first-false b (c || d) rest; later = first-false c d last; prelude = second-false c d last }
+
+-- no predicate of a small program is built in there
+abbrev IsFreeAt : Option Signature → Type 0
+IsFreeAt None = Unit {0}
+IsFreeAt (Some s) = is_built_in false s.name s.arity ≡ false
+
+head-free : (head : ExpTree) → IsSmallHead head → (s : Signature) → signature head ≡ Some s → is_built_in false s.name s.arity ≡ false
+head-free (ExpTree.atom name) small s h =
+    subst (λ (o : Option Signature). IsFreeAt o) h small.not_built_in
+head-free (ExpTree.call name es) small s h = subst (λ (o : Option Signature). IsFreeAt o) h small.0.not_built_in
+head-free e small s h = absurd small
+
+heads-free : (defined : Defined) (ps : ProgramTree) → AllByRecursion (IsSmallPart defined) ps → (s : Signature) (i : ℕ) → i < length (heads ps) → slice_index_or (heads ps) i (Some s) ≡ Some s →
+    is_built_in false s.name s.arity ≡ false
+heads-free defined [] h s i below found = absurd (omega arith)
+heads-free defined (p ∷ ps) h s zero below found =
+    let c : (r : RuleTree) × (p.clause ≡ Some (rule r)) × IsSmallRule defined r = clause-rule defined p.clause h.0.clause in
+    head-free c.0.head c.2.head s (sym (ap defined_by c.1) ∙ found)
+heads-free defined (p ∷ ps) h s (suc i) below found = heads-free defined ps h.1 s i (omega arith) found
+
+all-untaken : (program : ProgramTree) → IsSmallProgram program → HeadsAreFree program → AllUntaken (heads program)
+all-untaken program small free name k known =
+    let un : Untaken name k = untaken name k (free name k known) in
+    record {
+      no_form = none-of (form_of name k) un.form;
+      not_built_in = un.predicate;
+      not_later = un.later;
+      not_small_built_in = heads-free (heads program) program (recursion_from_All (IsSmallPart (heads program)) program small.parts) (record { name = name; arity = k }) known.0 known.1 known.2;
+    }
+
+-- ---- depths
+
+run-same : (v : NamesView) (later : Later) (program : ProgramTree) → IsSmallProgram program → HeadsAreFree program → (l : Level) (calls : Calling) → SameCalls (heads program) l calls →
+    (name : List ℕ) (ts : Trees) (s : State) → Defines (heads program) name (tree_count ts) →
+    predicate_run (setting v later program) (prelude ++ program) l name ts s (modes_named name (tree_count ts) (prelude ++ program))
+    ≡ rules_trace (plain_view v) calls (filter (is_rule_of name (tree_count ts)) (rules_of program)) ts s
+run-same v later program small free l calls is name ts s known =
+    let set : Setting = setting v later program in
+    let k : ℕ = tree_count ts in
+    let parts : AllByRecursion (IsSmallPart (heads program)) program = recursion_from_All (IsSmallPart (heads program)) program small.parts in
+    let un : Untaken name k = untaken name k (free name k known) in
+    ap (λ (o : Option (List (List Mode))). predicate_run set (prelude ++ program) l name ts s o) (all-modes_none (heads program) name k program parts)
+    ∙ ap (λ (rs : List RuleTree). rules_called set (comp name ts) 0 rs l ts s) (own-rules name k program un.prelude)
+    ∙ rules-same set l calls (heads program) (all-untaken program small free) is (comp name ts) 0 (filter (is_rule_of name k) (rules_of program))
+    (filter-small (heads program) (is_rule_of name k) (rules_of program) (rules-small (heads program) program parts)) ts s
+
+calls-same : (v : NamesView) (later : Later) (program : ProgramTree) → IsSmallProgram program → HeadsAreFree program → (d : ℕ) →
+    SameCalls (heads program) (level_for (setting v later program) (prelude ++ program) d) (called_at (plain_view v) program d)
+unfolding level_for calls_by called_at
+calls-same v later program small free zero = record { called = λ name ts s known. refl; drains = λ s. refl }
+calls-same v later program small free (suc d) = record {
+  called = λ name ts s known. ap (note Tick) (run-same v later program small free (level_for (setting v later program) (prelude ++ program) d) (called_at (plain_view v) program d) (calls-same v later program small free d) name ts s known);
+  drains = λ s. refl;
+}
+
+-- ---- queries
+
+pub small-is_surface : SmallIsSurface
+unfolding names_trace surface_trace strictly draining
+small-is_surface v later program goal small asked free d =
+    let set : Setting = setting v later program in
+    let l : Level = level_for set (prelude ++ program) d in
+    let calls : Calling = called_at (plain_view v) program d in
+    let is : SameCalls (heads program) l calls = calls-same v later program small free d in
+    then-same _ _ _ _
+    (then-same _ _ _ _ (body-same set l calls (heads program) (all-untaken program small free) is [] goal asked beginning) (λ p. ap (λ (t : Trace State). then t (λ s. one (record { names = p.names; state = s }))) (is.drains p.state)))
+    (λ p. ap (λ (names : Names). telling (told_behind [] names) p) (body-names (heads program) goal asked))

@@ -1,0 +1,129 @@
+-- Calls by name, of predicates and of functions, with arguments that are evaluated; and `call` (A User's Guide to Picat, 'Predicates and Functions' and 'Higher-Order
+-- Predicates'; what is raised and how depth is counted is own). A name that is built in is the built-in.
+use Rattle.std.specs.Prelude.{ℕ, pos, ◌==◌, ◌&&◌, ◌||◌, nat_le, Bool, cond, List, [], ◌++◌, Option, Some, None, codes}
+use Rattle.std.specs.Str.{bytes_eq}
+use Rattle.pi_terms.specs.Tree.{Tree, var, int, atom, comp, Trees, no_trees, tree, trees_of, tree_count}
+use Rattle.pi_terms.specs.Copy.{copy, new_variables}
+use Rattle.pi_states.specs.State.{State, bindings, next, followed}
+use Rattle.pi_states.specs.Unify.{unified}
+use Rattle.pi_states.specs.Evaluation.{with_new_variables}
+use Rattle.pi_effects.specs.Effect.{Effect, FunctionEffect}
+use Rattle.pi_effects.specs.Exception.{type_error}
+use Rattle.pi_effects.specs.Items.{each_tree}
+use Rattle.pi_effects.specs.BuiltIns.{built_in_predicate, built_in_function, is_predicate}
+use Rattle.pi_traces.specs.Trace.{Trace, end, Raise, Deep, done, then}
+use Rattle.pi_traces.specs.Control.{caught}
+use Rattle.pi_meaning.specs.Settle.{settled}
+use Rattle.pi_meaning.specs.Builtin.{effect_trace, function_trace}
+use Rattle.pi_meaning.specs.Level.{Level, lowest, over, Applied, calls_at}
+use Rattle.pi_meaning.specs.Sound.{is_planner}
+use Rattle.pi_names.specs.Within.{plain_view, resource_left}
+use Rattle.pi_names.specs.Given.{Setting, is_later_predicate, is_later_function}
+
+-- ---- predicates
+
+-- a built-in does its effect and is settled, where the goal began in the state of the call; what a later stage gives is settled by itself
+abbrev pub built_in_or_called : Setting → Level → List ℕ → Trees → State → Option Effect → Trace State
+built_in_or_called set l name ts s (Some e) = then (effect_trace (plain_view set.view) e) (settled s)
+built_in_or_called set l name ts s None =
+    cond (is_later_predicate name (tree_count ts)) (set.later.predicate set.view l name ts s) ((calls_at l).called name ts s)
+
+unfoldable pub predicate_called : Setting → Level → List ℕ → Trees → State → Trace State
+predicate_called set l name ts s = built_in_or_called set l name ts s (built_in_predicate name ts s)
+
+-- ---- functions
+
+abbrev pub is_resource : List ℕ → ℕ → Bool
+is_resource name k = (k == 0) && bytes_eq name (codes "current_resource")
+
+abbrev pub built_in_or_applied : Setting → Level → List ℕ → Trees → State → Option FunctionEffect → Trace Applied
+built_in_or_applied set l name ts s (Some e) = function_trace e
+built_in_or_applied set l name ts s None =
+    cond (is_resource name (tree_count ts)) (resource_left set.view.within s)
+    (cond (is_later_function name (tree_count ts)) (set.later.function name ts s) ((calls_at l).applied name ts s))
+
+unfoldable pub function_called : Setting → Level → List ℕ → Trees → State → Trace Applied
+function_called set l name ts s = built_in_or_applied set l name ts s (built_in_function name ts s)
+
+-- ---- exceptions that are caught
+
+-- where a term is raised, a copy of it is unified with what is to be caught, in the state in which the goal began. That is settled, and what handles it goes on; where they
+-- don't unify, the term is raised on.
+abbrev pub handled_in : {A : Type 0} → State → Tree → (State → Trace A) → Option State → Trace A
+handled_in s ball handler None = end (Raise ball)
+handled_in s ball handler (Some r) = then (settled s r) handler
+
+abbrev pub handling : {A : Type 0} → State → Tree → (State → Trace A) → Tree → Trace A
+handling s wanted handler ball =
+    handled_in s ball handler (unified (with_new_variables (new_variables ball) s) wanted (copy (next s) ball))
+
+-- ---- `call`
+
+-- a name with arguments
+pub record Called : Type 0 where
+  pub name : List ℕ
+  pub args : Trees
+
+-- what an atom or a compound at its root calls, with more arguments behind its own
+abbrev pub called_by : Tree → List Tree → Option Called
+called_by (var n) more = None
+called_by (int i) more = None
+called_by (atom name) more = Some (record { name = name; args = trees_of more })
+called_by (comp name ts) more = Some (record { name = name; args = trees_of (each_tree ts ++ more) })
+
+abbrev pub is_catch : List ℕ → ℕ → Bool
+is_catch name k = k == 3 && bytes_eq name (codes "catch")
+
+abbrev pub is_call : List ℕ → ℕ → Bool
+is_call name k = (nat_le 1 k && nat_le k 8) && bytes_eq name (codes "call")
+
+abbrev pub unknown_name : {A : Type 0} → List ℕ → ℕ → Trace A
+unknown_name name k = end (Raise (comp (codes "unknown_name") (tree (atom name) (tree (int (pos k)) no_trees))))
+
+-- the predicates that a planner call wants: the first that the program lacks is told
+abbrev pub with_planner : Setting → Trace State → Trace State
+with_planner set t =
+    cond (set.defines (codes "final") 1) (cond (set.defines (codes "action") 4) t (unknown_name (codes "action") 4)) (unknown_name (codes "final") 1)
+
+abbrev pub is_known : Setting → List ℕ → ℕ → Bool
+is_known set name k = is_predicate name k || (is_later_predicate name k || set.defines name k)
+
+-- a call by name, of a predicate that there is
+abbrev pub known_called : Setting → Level → List ℕ → Trees → State → Trace State
+known_called set l name ts s =
+    cond (is_planner name (tree_count ts)) (with_planner set (predicate_called set l name ts s))
+    (cond (is_known set name (tree_count ts)) (predicate_called set l name ts s) (unknown_name name (tree_count ts)))
+
+-- the goal `call` of a term: what waits is run first, and then it leads one down
+abbrev pub call_goal : Level → (Tree → List Tree → State → Trace State) → Tree → List Tree → State → Trace State
+call_goal l deeper t more s = then ((calls_at l).drained s) (λ r. deeper t more r)
+
+-- `catch` of terms is the catch of their `call`s; its goal is a strict place
+abbrev pub catch_called : Level → (Tree → List Tree → State → Trace State) → Trees → State → Trace State
+catch_called l deeper (tree g (tree ball (tree h no_trees))) s =
+    caught (then (call_goal l deeper g [] s) (λ r. (calls_at l).drained r)) (handling s ball (λ r. call_goal l deeper h [] r))
+catch_called l deeper ts s = done
+
+abbrev pub again_called : Level → (Tree → List Tree → State → Trace State) → Trees → State → Trace State
+again_called l deeper no_trees s = done
+again_called l deeper (tree t ts) s = call_goal l deeper t (each_tree ts) s
+
+-- what a name does that `call` led to at this level; `deeper` is `call` one level down
+abbrev pub name_called : Setting → Level → (Tree → List Tree → State → Trace State) → List ℕ → Trees → State → Trace State
+name_called set l deeper name ts s =
+    cond (is_catch name (tree_count ts)) (catch_called l deeper ts s)
+    (cond (is_call name (tree_count ts)) (again_called l deeper ts s) (known_called set l name ts s))
+
+abbrev pub term_called : Setting → Level → (Tree → List Tree → State → Trace State) → Tree → State → Option Called → Trace State
+term_called set l deeper t s None = end (Raise (type_error (codes "callable") t s))
+term_called set l deeper t s (Some c) = name_called set l deeper c.name c.args s
+
+-- a term with more arguments, called at the level to which `call` led
+unfoldable pub called_at_level : Setting → Level → Tree → List Tree → State → Trace State
+called_at_level set (lowest c) t more s = term_called set (lowest c) (λ u us r. end Deep) t s (called_by (followed (bindings s) t) more)
+called_at_level set (over c l) t more s = term_called set (over c l) (called_at_level set l) t s (called_by (followed (bindings s) t) more)
+
+-- `call` takes one from the depth, without a Tick
+abbrev pub called_below : Setting → Level → Tree → List Tree → State → Trace State
+called_below set (lowest c) t more s = end Deep
+called_below set (over c l) t more s = called_at_level set l t more s

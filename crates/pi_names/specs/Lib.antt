@@ -1,0 +1,16 @@
+pub mod Within
+pub mod Texts
+pub mod Assigning
+pub mod Terms
+pub mod Heads
+pub mod Given
+pub mod Calls
+pub mod Control
+pub mod Loops
+pub mod Forms
+pub mod Goals
+pub mod Rules
+pub mod Prelude
+pub mod Run
+pub mod NameLaws
+pub mod OtherNames

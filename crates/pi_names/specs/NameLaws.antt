@@ -1,0 +1,106 @@
+-- The laws of the meaning over names.
+use Rattle.std.specs.Prelude.{◌≡◌, ℕ, ◌||◌, Bool, true, false, List, [], ◌∷◌, filter, None, is_some}
+use Rattle.pi_terms.specs.Tree.{Trees}
+use Rattle.pi_states.specs.State.{State}
+use Rattle.pi_syntax.specs.ExpTree.{ExpTree, ExpTrees, call}
+use Rattle.pi_syntax.specs.Signature.{exp_count}
+use Rattle.pi_traces.specs.Trace.{Trace, one, then}
+use Rattle.pi_syntax.specs.ProgramTree.{RuleTree, ProgramTree}
+use Rattle.pi_effects.specs.BuiltIns.{is_predicate}
+use Rattle.pi_traces.specs.Depth.{DepthOnlyAdds, Cut, CutWithoutDeep}
+use Rattle.pi_meaning.specs.SurfaceRun.{Told}
+use Rattle.pi_meaning.specs.Small.{heads, Defines, IsSmallProgram, IsSmallQuery}
+use Rattle.pi_meaning.specs.Surface.{Place, surface_trace}
+use Rattle.pi_lib.specs.Names.{kind_of}
+use Rattle.pi_lib.specs.Forms.{is_form}
+use Rattle.pi_names.specs.Within.{NamesView, plain_view}
+use Rattle.pi_meaning.specs.Level.{Level, Applied}
+use Rattle.pi_meaning.specs.Environment.{Valued}
+use Rattle.pi_names.specs.Texts.{Names}
+use Rattle.pi_names.specs.Control.{Values, draining, applied_to, called_with}
+use Rattle.pi_names.specs.Given.{Later, Setting, LaterOnlyAdds, is_later_predicate}
+use Rattle.pi_names.specs.Forms.{form_of, readings}
+use Rattle.pi_names.specs.Goals.{values_of, goal_of}
+use Rattle.pi_names.specs.Rules.{rules_named}
+use Rattle.pi_names.specs.Prelude.{prelude}
+use Rattle.pi_names.specs.Run.{names_trace, IsNamesRun}
+
+-- ---- the small language
+
+abbrev pub are_some : List RuleTree → Bool
+are_some [] = false
+are_some (r ∷ rs) = true
+
+-- a name with so many arguments is a form of control, is built in, or is a predicate of the prelude
+unfoldable pub is_taken : List ℕ → ℕ → Bool
+is_taken name k = is_some (form_of name k) || (is_predicate name k || (is_later_predicate name k || are_some (rules_named name k prelude)))
+
+-- no predicate of a program has such a name, as in no program without a fault
+abbrev pub HeadsAreFree : ProgramTree → Type 0
+HeadsAreFree program = (name : List ℕ) (k : ℕ) → Defines (heads program) name k → is_taken name k ≡ false
+
+-- which are the names that the language builds in, and the forms that are no calls
+abbrev pub OtherNamesAreFree : Type 0
+OtherNamesAreFree = (name : List ℕ) (k : ℕ) → kind_of name k ≡ None → is_form name k ≡ false → is_taken name k ≡ false
+
+-- On the small language the whole meaning over names is that of `Surface`, whatever the view is and whatever later stages give.
+abbrev pub SmallIsSurface : Type 0
+SmallIsSurface = (v : NamesView) (later : Later) (program : ProgramTree) (goal : ExpTree) → IsSmallProgram program → IsSmallQuery program goal → HeadsAreFree program → (d : ℕ) →
+    names_trace v later program goal d ≡ surface_trace (plain_view v) program goal d
+
+-- ---- depths and runs
+
+-- each depth adds to a goal's trace at the depth before, where more depth only adds to what later stages give
+abbrev pub NamesDoMore : Type 0
+NamesDoMore = (v : NamesView) (later : Later) → LaterOnlyAdds later → (program : ProgramTree) (goal : ExpTree) → DepthOnlyAdds (names_trace v later program goal)
+
+-- so all depths that reach to a cut give the same one, and there is a run where some depth does
+abbrev pub NamesRunsAreOne : Type 0
+NamesRunsAreOne = (v : NamesView) (later : Later) → LaterOnlyAdds later → (program : ProgramTree) (goal : ExpTree) (n : ℕ) (c d : Cut Told) →
+    IsNamesRun v later program goal n c → IsNamesRun v later program goal n d → c ≡ d
+
+abbrev pub NamesRunsReach : Type 0
+NamesRunsReach = (v : NamesView) (later : Later) (program : ProgramTree) (goal : ExpTree) (n depth : ℕ) → CutWithoutDeep n (names_trace v later program goal depth) →
+    (c : Cut Told) × IsNamesRun v later program goal n c
+
+-- ---- calls go by values
+
+-- what arguments come to, without the names behind them
+pub record ArgumentsGiven : Type 0 where
+  pub trees : Trees
+  pub state : State
+
+abbrev pub given_by : Values → Level → Place → Trace ArgumentsGiven
+given_by vs l p = then (vs l p) (λ all. one (record { trees = all.trees; state = all.state }))
+
+abbrev pub states_of : Trace Place → Trace State
+states_of t = then t (λ p. one p.state)
+
+abbrev pub told_values_of : Trace Valued → Trace Applied
+told_values_of t = then t (λ x. one (record { value = x.tree; state = x.state }))
+
+-- A call of a predicate that is no form of control does by what its arguments come to: two calls of one name do the same, in whatever environments they stand and whatever stands before
+-- them, where their arguments have the same notes, values and states.
+abbrev pub CallsGoByValues : Type 0
+CallsGoByValues = (set : Setting) (l : Level) (name : List ℕ) (vs ws : Values) (p q : Place) → given_by vs l p ≡ given_by ws l q →
+    states_of (called_with set name vs l p) ≡ states_of (called_with set name ws l q)
+
+-- and so does a call of a function, with its value
+abbrev pub FunctionsGoByValues : Type 0
+FunctionsGoByValues = (set : Setting) (l : Level) (name : List ℕ) (vs ws : Values) (p q : Place) → given_by vs l p ≡ given_by ws l q →
+    told_values_of (applied_to set name vs l p) ≡ told_values_of (applied_to set name ws l q)
+
+-- a goal of the text that is no form of control is such a call, behind its draining
+abbrev pub GoalsAreCalls : Type 0
+GoalsAreCalls = (set : Setting) (before : Names) (name : List ℕ) (es : ExpTrees) (l : Level) (p : Place) → form_of name (exp_count es) ≡ None →
+    goal_of set before (call name es) l p ≡ draining (called_with set name (values_of set (readings name (exp_count es)) before es)) l p
+
+-- ---- programs
+
+-- the parts that have a clause: all but an `import`
+abbrev pub clausal : ProgramTree → ProgramTree
+clausal parts = filter (λ p. is_some p.clause) parts
+
+-- the other parts of a program count for nothing
+abbrev pub ClausesCountAlone : Type 0
+ClausesCountAlone = (v : NamesView) (later : Later) (program : ProgramTree) (goal : ExpTree) (d : ℕ) → names_trace v later program goal d ≡ names_trace v later (clausal program) goal d

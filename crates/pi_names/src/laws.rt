@@ -1,0 +1,37 @@
+//! Laws of the meaning over names.
+ghost use Rattle.pi_names.specs.OtherNames.{OtherNamesChangeNothing};
+ghost use Rattle.pi_names.specs.NameLaws.{CallsGoByValues, ClausesCountAlone, FunctionsGoByValues, GoalsAreCalls, NamesDoMore, NamesRunsAreOne, NamesRunsReach, OtherNamesAreFree, SmallIsSurface};
+
+/// On the small language, of variables, integers, atoms, `=`, `true`, `fail`, calls and conjunctions, the meaning over names is that of
+/// `Surface`, over which lowering and the run of a program are proved. Its premise on the names of predicates holds of each name that the
+/// language neither builds in nor has as a form.
+pub fn small_is_surface()
+    ensures same { SmallIsSurface }
+    ensures free { OtherNamesAreFree }
+{}
+
+/// The trace of a goal only grows with the depth. So it has one run at most for each program, view and number of Ticks, and it has one
+/// where some depth reaches to the cut.
+pub fn runs_are_one()
+    ensures deeper { NamesDoMore }
+    ensures one { NamesRunsAreOne }
+    ensures reached { NamesRunsReach }
+{}
+
+/// A call goes by what its arguments come to and by the state, and by nothing else: neither by the environment in which it stands nor by
+/// what stands before it. A goal that is no form of control is such a call.
+pub fn calls_go_by_values()
+    ensures predicates { CallsGoByValues }
+    ensures functions { FunctionsGoByValues }
+    ensures goals { GoalsAreCalls }
+{}
+
+/// A name that occurs neither in a goal nor before it changes nothing: the goal does the same whatever the environment has for it.
+pub fn other_names_change_nothing()
+    ensures { OtherNamesChangeNothing }
+{}
+
+/// Parts of a program that have no clause count for nothing.
+pub fn clauses_count_alone()
+    ensures { ClausesCountAlone }
+{}
