@@ -9,7 +9,7 @@ use Rattle.pi_traces.specs.Trace.{Trace, done, one}
 use Rattle.pi_traces.proofs.BelowLemmas.{below-refl}
 use Rattle.pi_meaning.specs.Level.{Level}
 use Rattle.pi_meaning.specs.Surface.{Place}
-use Rattle.pi_names.specs.Texts.{Names, places, places_all, places_of_branches, behind, iterated, unit_places, begins_with_iterator, assigned, kept_names}
+use Rattle.pi_names.specs.Texts.{Names, places, places_all, places_behind, places_of_branches, behind, iterated, unit_places, begins_with_iterator, assigned, kept_names}
 use Rattle.pi_names.specs.Given.{Setting, LaterOnlyAdds}
 use Rattle.pi_names.specs.Control.{Goal, Values, nothing, made_of, applied_to, all_found, all_counted, goal_at, value_at}
 use Rattle.pi_names.specs.Loops.{Finish, as_it_is, hidden, in_order}
@@ -25,6 +25,7 @@ nothing-grows l m b p = below-refl _
 record PartsGrow (parts : Parts) : Type 0 where
   goals : AllGrow parts.goals
   values : AllGrow parts.values
+  late : AllGrow parts.late
   all : Grows parts.all
 
 call-grows : (set : Setting) → LaterOnlyAdds set.later → (name : List ℕ) (o : Option Form) (parts : Parts) → PartsGrow parts → Grows (call_goal set name o parts)
@@ -49,9 +50,9 @@ either-grows false f g a b = b
 
 function-grows : (set : Setting) (name : List ℕ) (k : ℕ) (parts : Parts) → PartsGrow parts → Grows (function_value set name k parts)
 function-grows set name k parts h =
-    either-grows (k == 2 && bytes_eq name (codes "find_all")) (all_found (value_at parts.values 0) (goal_at parts.goals 1))
+    either-grows (k == 2 && bytes_eq name (codes "find_all")) (all_found (value_at parts.late 0) (goal_at parts.goals 1))
     (cond (k == 1 && bytes_eq name (codes "count_all")) (all_counted (goal_at parts.goals 0)) (applied_to set name parts.all))
-    (found-grows (value_at parts.values 0) (goal_at parts.goals 1) (value-at-grows parts.values 0 h.values) (goal-at-grows parts.goals 1 h.goals))
+    (found-grows (value_at parts.late 0) (goal_at parts.goals 1) (value-at-grows parts.late 0 h.late) (goal-at-grows parts.goals 1 h.goals))
     (either-grows (k == 1 && bytes_eq name (codes "count_all")) (all_counted (goal_at parts.goals 0)) (applied_to set name parts.all)
     (counted-grows (goal_at parts.goals 0) (goal-at-grows parts.goals 0 h.goals)) (applied-grows set name parts.all h.all))
 
@@ -81,7 +82,7 @@ mutual
   value-grows set adds r before (array es) = made-grows _ _ (values-grow set adds [] before es)
   value-grows set adds r before (call name es) =
       call-value-grows set r name (exp_count es) _
-      (record { goals = goals-in-grow set adds before es; values = values-in-grow set adds before es; all = values-grow set adds (operand_readings r name (exp_count es)) before es })
+      (record { goals = goals-in-grow set adds before es; values = values-in-grow set adds before es; late = values-apart-grow set adds (behind before (places_behind es)) es; all = values-grow set adds (operand_readings r name (exp_count es)) before es })
   value-grows set adds r before (quote e) = stays _
   value-grows set adds r before (index e es) = indexed-grows set _ _ (value-grows set adds plain before e) (values-in-grow set adds (behind before (places e)) es)
   value-grows set adds r before (range first last) =
@@ -122,7 +123,7 @@ mutual
   goal-grows set adds before (atom name) = draining-grows _ (atom-grows set adds name)
   goal-grows set adds before (call name es) =
       draining-grows _ (call-grows set adds name (form_of name (exp_count es)) _
-      (record { goals = goals-in-grow set adds before es; values = values-in-grow set adds before es; all = values-grow set adds (readings name (exp_count es)) before es }))
+      (record { goals = goals-in-grow set adds before es; values = values-in-grow set adds before es; late = values-apart-grow set adds (behind before (places_behind es)) es; all = values-grow set adds (readings name (exp_count es)) before es }))
   goal-grows set adds before (and es) = all-grows set adds before es
   goal-grows set adds before (or es) = draining-grows _ (any-grows set adds before es)
   goal-grows set adds before (if_then bs) = draining-grows _ (branches-grow set adds before bs (λ m q. one q) (stays (λ q. one q)))

@@ -22,7 +22,7 @@ use Rattle.pi_names.specs.Heads.{patterns_matched}
 use Rattle.pi_names.specs.Given.{Later, Setting, LaterOnlyAdds}
 use Rattle.pi_names.specs.Forms.{plain}
 use Rattle.pi_names.specs.Goals.{goal_of}
-use Rattle.pi_names.specs.Rules.{rules_named, functions_named, modes_named, guarded, places_in, names_before, body_or_agent, leaves_later, rule_or_later, rules_called, predicate_run, body_or_none, value_run, function_or_later, functions_called, function_run, calls_by, level_for}
+use Rattle.pi_names.specs.Rules.{rules_named, functions_named, modes_named, guarded, places_in, names_before, function_names, body_or_agent, leaves_later, rule_or_later, rules_called, predicate_run, body_or_none, value_run, function_or_later, functions_called, function_run, calls_by, level_for}
 use Rattle.pi_names.specs.Prelude.{prelude}
 use Rattle.pi_names.specs.Run.{setting, answer_names, names_trace}
 use Rattle.pi_names.specs.NameLaws.{NamesDoMore, NamesRunsAreOne, NamesRunsReach}
@@ -67,14 +67,14 @@ none-grows set adds before (Some body) = goal-grows set adds before body
 
 value-below : (set : Setting) → LaterOnlyAdds set.later → (f : FunctionTree) (l m : Level) → LevelBelow l m → (p : Place) → Below (value_run set f l p) (value_run set f m p)
 value-below set adds f l m b p =
-    below-then _ _ _ _ (strictly-grows _ (none-grows set adds (names_before f.head f.cond) f.body) l m b p)
+    below-then _ _ _ _ (strictly-grows _ (none-grows set adds (behind (function_names f) (places_in f.cond)) f.body) l m b p)
     (λ q. below-then _ _ _ _ (value-grows set adds plain (behind (names_before f.head f.cond) (places_in f.body)) f.value l m b q) (λ x. below-refl _))
 
 function-or-below : (set : Setting) → LaterOnlyAdds set.later → (f : FunctionTree) (l m : Level) → LevelBelow l m → (s : State) (t u : Trace Applied) → Below t u → (o : Option Environment) →
     Below (function_or_later set f l s t o) (function_or_later set f m s u o)
 function-or-below set adds f l m b s t u more None = more
 function-or-below set adds f l m b s t u more (Some e) =
-    below-chosen _ _ _ _ t u (guard-grows set adds (behind [] (places f.head)) f.cond l m b (record { names = e; state = s })) (λ p. value-below set adds f l m b p) more
+    below-chosen _ _ _ _ t u (guard-grows set adds (function_names f) f.cond l m b (record { names = e; state = s })) (λ p. value-below set adds f l m b p) more
 
 functions-below : (set : Setting) → LaterOnlyAdds set.later → (fs : List FunctionTree) (l m : Level) → LevelBelow l m → (ts : Trees) (s : State) →
     Below (functions_called set fs l ts s) (functions_called set fs m ts s)

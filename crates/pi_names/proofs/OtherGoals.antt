@@ -9,20 +9,21 @@ use Rattle.pi_traces.specs.Trace.{Trace, one}
 use Rattle.pi_traces.specs.Related.{BelowBy}
 use Rattle.pi_meaning.specs.Level.{Level}
 use Rattle.pi_meaning.specs.Surface.{Place}
-use Rattle.pi_names.specs.Texts.{Names, places, places_all, places_of_branches, behind, iterated, unit_places, begins_with_iterator, assigned, kept_names}
+use Rattle.pi_names.specs.Texts.{Names, places, places_all, places_behind, places_of_branches, behind, iterated, unit_places, begins_with_iterator, assigned, kept_names}
 use Rattle.pi_names.specs.Given.{Setting}
 use Rattle.pi_names.specs.Control.{Goal, Values, nothing, made_of, applied_to, all_found, all_counted, goal_at, value_at}
 use Rattle.pi_names.specs.Loops.{Finish, as_it_is, hidden, in_order}
 use Rattle.pi_names.specs.Forms.{Form, negation, once, assignment, catch, by_term, membership, form_of, Parts, call_goal, atom_goal, Reading, plain, operand, ranged, readings, first_reading, later_readings, is_operand_node, is_sum, operand_readings, function_value, call_value, range_value}
 use Rattle.pi_names.specs.Goals.{value_of, values_of, values_in, values_apart, goals_in, goal_of, all_of, any_of, arrow_in, branches_of, units_of, collection_of}
 use Rattle.pi_names.specs.OtherNames.{IsOther, AreOther, Lacks, LackAll, LackBranches, AgreeAt, agree_at, OtherNamesChangeNothing}
-use Rattle.pi_names.proofs.OtherEnvironments.{AgreeValued, agree-back, other-append, other-behind, other-kept, lacks-places, lacks-all-places, lacks-branch-places, lacks-assigned, lacks-unit}
+use Rattle.pi_names.proofs.OtherEnvironments.{AgreeValued, agree-back, other-append, other-behind, other-kept, lacks-places, lacks-all-places, lacks-behind, lacks-branch-places, lacks-assigned, lacks-unit}
 use Rattle.pi_names.proofs.OtherControl.{Steady, SteadyGoal, SteadyValue, SteadyValues, no-answer, no-valued, one-answer, quoted-steady, draining-steady, constantly-steady, name-steady, nothing-steady, front-steady, made-steady, onto-steady, applied-steady, called-steady, calling-steady, found-steady, counted-steady, following-steady, choosing-steady, denying-steady, once-steady, assigning-steady, catching-steady, SteadyArrow, no_arrow, an_arrow, branch-steady, AllSteady, goal-at-steady, value-at-steady}
 use Rattle.pi_names.proofs.OtherLoops.{turning-steady, unit-steady, while-steady, do-steady, adding-steady, comprehended-steady, started-steady, indexed-steady}
 
 record PartsSteady (x : List ℕ) (parts : Parts) : Type 0 where
   goals : AllSteady x (AgreeAt x) parts.goals
   values : AllSteady x (AgreeValued x) parts.values
+  late : AllSteady x (AgreeValued x) parts.late
   all : SteadyValues x parts.all
 
 call-steady : (x : List ℕ) (set : Setting) (name : List ℕ) (o : Option Form) (parts : Parts) → PartsSteady x parts → SteadyGoal x (call_goal set name o parts)
@@ -51,9 +52,9 @@ atom-steady x set name l p q a =
 
 function-steady : (x : List ℕ) (set : Setting) (name : List ℕ) (k : ℕ) (parts : Parts) → PartsSteady x parts → SteadyValue x (function_value set name k parts)
 function-steady x set name k parts h =
-    either-steady x (AgreeValued x) (k == 2 && bytes_eq name (codes "find_all")) (all_found (value_at parts.values 0) (goal_at parts.goals 1))
+    either-steady x (AgreeValued x) (k == 2 && bytes_eq name (codes "find_all")) (all_found (value_at parts.late 0) (goal_at parts.goals 1))
     (cond (k == 1 && bytes_eq name (codes "count_all")) (all_counted (goal_at parts.goals 0)) (applied_to set name parts.all))
-    (found-steady x (value_at parts.values 0) (goal_at parts.goals 1) (value-at-steady x parts.values 0 h.values) (goal-at-steady x parts.goals 1 h.goals))
+    (found-steady x (value_at parts.late 0) (goal_at parts.goals 1) (value-at-steady x parts.late 0 h.late) (goal-at-steady x parts.goals 1 h.goals))
     (either-steady x (AgreeValued x) (k == 1 && bytes_eq name (codes "count_all")) (all_counted (goal_at parts.goals 0)) (applied_to set name parts.all)
     (counted-steady x (goal_at parts.goals 0) (goal-at-steady x parts.goals 0 h.goals)) (applied-steady x set name parts.all h.all))
 
@@ -111,7 +112,7 @@ mutual
   value-steady x n set r before o (array es) h = made-steady x _ _ (values-steady x n set [] before o es h)
   value-steady x n set r before o (call name es) h =
       call-value-steady x set r name (exp_count es) _
-      (record { goals = goals-in-steady x n set before o es h; values = values-in-steady x n set before o es h; all = values-steady x n set (operand_readings r name (exp_count es)) before o es h })
+      (record { goals = goals-in-steady x n set before o es h; values = values-in-steady x n set before o es h; late = values-apart-steady x n set (behind before (places_behind es)) (other-behind x before (places_behind es) o (lacks-behind x es h)) es h; all = values-steady x n set (operand_readings r name (exp_count es)) before o es h })
   value-steady x n set r before o (quote e) h = quoted-steady x e h
   value-steady x n set r before o (index e es) h =
       indexed-steady x set _ _ (value-steady x n set plain before o e h.0) (values-in-steady x n set (behind before (places e)) (behind-places x before o e h.0) es h.1)
@@ -158,7 +159,7 @@ mutual
   goal-steady x n set before o (atom name) h = draining-steady x _ (atom-steady x set name)
   goal-steady x n set before o (call name es) h =
       draining-steady x _ (call-steady x set name (form_of name (exp_count es)) _
-      (record { goals = goals-in-steady x n set before o es h; values = values-in-steady x n set before o es h; all = values-steady x n set (readings name (exp_count es)) before o es h }))
+      (record { goals = goals-in-steady x n set before o es h; values = values-in-steady x n set before o es h; late = values-apart-steady x n set (behind before (places_behind es)) (other-behind x before (places_behind es) o (lacks-behind x es h)) es h; all = values-steady x n set (readings name (exp_count es)) before o es h }))
   goal-steady x n set before o (and es) h = all-steady x n set before o es h
   goal-steady x n set before o (or es) h = draining-steady x _ (any-steady x n set before o es h)
   goal-steady x n set before o (if_then bs) h = draining-steady x _ (branches-steady x n set before o bs h (λ m q. one q) (one-answer x))

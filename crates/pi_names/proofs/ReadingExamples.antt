@@ -3,7 +3,7 @@ use Rattle.std.proofs.Common.{◌≡◌, ℕ, List, [], ◌∷◌, refl}
 use Rattle.std.specs.Prelude.{pos, true, false, Some, None, codes}
 use Rattle.pi_terms.specs.Tree.{Tree, atom, var as variable}
 use Rattle.pi_effects.specs.Items.{list_of, list_onto as list_before}
-use Rattle.pi_syntax.specs.ExpTree.{ExpTree, list, list_onto, array, range, range_by, index, foreach, at, quote, str, atom as name, int as number}
+use Rattle.pi_syntax.specs.ExpTree.{ExpTree, list, list_onto, array, range, range_by, index, collect, or, foreach, at, quote, str, atom as name, int as number}
 use Rattle.pi_syntax.specs.ProgramTree.{function, fact, ProgramTree}
 use Rattle.pi_syntax.specs.declared.program.Decl.{Decl}
 use Rattle.pi_syntax.specs.declared.program.Mode.{Mode}
@@ -99,6 +99,30 @@ total_program = record {
 values-stand_behind : run_of total_program (equal Y (calls (codes "total") (items (i 3 ∷ i 4 ∷ []) ∷ []))) 9 9 ≡ done_with (seen Tick ∷ seen Tick ∷ seen Tick ∷ told (is (codes "Y") (n 7) ∷ []) ∷ [])
 unfolding run_of
 values-stand_behind = refl
+
+-- newest(L) = S => foreach(X in L) S = X end.: a name of the value stands before a loop in the body
+abbrev newest_program : ProgramTree
+newest_program = record {
+  decl = Decl.Plain;
+  clause = Some (function (record {
+    head = calls (codes "newest") (v (codes "L") ∷ []);
+    value = S;
+    cond = None;
+    body = Some (foreach (exps (calls (codes "in") (X ∷ v (codes "L") ∷ []) ∷ [])) (equal S X));
+  }));
+} ∷ []
+
+values-stand_before : run_of newest_program (equal Y (calls (codes "newest") (items (i 3 ∷ []) ∷ []))) 9 9 ≡ done_with (seen Tick ∷ seen Tick ∷ told (is (codes "Y") (n 3) ∷ []) ∷ [])
+unfolding run_of
+values-stand_before = refl
+
+-- L = find_all([_X : _ in 1..2], (true ; _X = 1)): a name of the goal stands before a loop in the term, whatever branch was taken
+late-terms :
+    run_of [] (equal (v (codes "L")) (calls (codes "find_all") (collect false (v (codes "_X")) (exps (calls (codes "in") (v (codes "_") ∷ range (i 1) (i 2) ∷ []) ∷ []))
+    ∷ or (exps (a (codes "true") ∷ equal (v (codes "_X")) (i 1) ∷ [])) ∷ []))) 9 9
+    ≡ done_with (seen Tick ∷ seen Tick ∷ seen Tick ∷ seen Tick ∷ told (is (codes "L") (list_of (list_of (variable 1 ∷ variable 1 ∷ []) ∷ list_of (n 1 ∷ n 1 ∷ []) ∷ [])) ∷ []) ∷ [])
+unfolding run_of
+late-terms = refl
 
 -- S = 0, foreach(X in 1..2, Y in 1..2) S := S+Y end: each loop hands on what it assigns
 iterators-assign :

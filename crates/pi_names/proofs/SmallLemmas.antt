@@ -30,13 +30,13 @@ use Rattle.pi_meaning.specs.Small.{Defines, IsSmallTerm, AreSmallTerms, IsSmallA
 use Rattle.pi_meaning.specs.Environment.{Environment, known, argument_matched, head_matched, Valued, valued, ValuedAll, valued_all}
 use Rattle.pi_meaning.specs.Surface.{Place, Doing, Calling, at_state, draining_first, built_in_or_called, call_trace, atom_trace, goal_trace, goals_trace, body_trace, name_places, name_places_all}
 use Rattle.pi_names.specs.Within.{plain_view}
-use Rattle.pi_names.specs.Texts.{Names, places, places_all, behind, variable_first}
+use Rattle.pi_names.specs.Texts.{Names, places, places_all, places_behind, behind, variable_first}
 use Rattle.pi_names.specs.Heads.{pattern_matched, patterns_matched}
 use Rattle.pi_names.specs.Given.{Setting, is_later_predicate}
 use Rattle.pi_names.specs.Calls.{built_in_or_called as built_in_or, predicate_called}
 use Rattle.pi_names.specs.Control.{Goal, draining, nothing, called_with}
 use Rattle.pi_names.specs.Forms.{Form, form_of, Parts, call_goal, atom_goal, Reading, readings, first_reading, later_readings}
-use Rattle.pi_names.specs.Goals.{value_of, values_of, values_in, goals_in, goal_of, all_of}
+use Rattle.pi_names.specs.Goals.{value_of, values_of, values_in, values_apart, goals_in, goal_of, all_of}
 
 abbrev pub Defined : Type 0
 Defined = List (Option Signature)
@@ -232,6 +232,7 @@ goal-same set l calls defined free is before (ExpTree.call name es) small p =
       variable = variable_first es;
       goals = goals_in set before es;
       values = values_in set before es;
+      late = values_apart set (behind before (places_behind es)) es;
       all = values_of set (readings name (exp_count es)) before es;
     } in
     ap (λ (o : Option Form). draining (call_goal set name o parts) l p) (no-form defined free name (exp_count es) small.0)

@@ -10,11 +10,11 @@ use Rattle.pi_traces.proofs.TraceLemmas.{then-assoc}
 use Rattle.pi_meaning.specs.Level.{Applied}
 use Rattle.pi_meaning.specs.Environment.{Valued, ValuedAll}
 use Rattle.pi_meaning.specs.Surface.{Place}
-use Rattle.pi_names.specs.Texts.{variable_first}
+use Rattle.pi_names.specs.Texts.{places_behind, behind, variable_first}
 use Rattle.pi_names.specs.Calls.{predicate_called, function_called}
 use Rattle.pi_names.specs.Control.{draining, applied_to, called_with}
 use Rattle.pi_names.specs.Forms.{Form, readings, Parts, call_goal}
-use Rattle.pi_names.specs.Goals.{values_of, values_in, goals_in, goal_of}
+use Rattle.pi_names.specs.Goals.{values_of, values_in, values_apart, goals_in, goal_of}
 use Rattle.pi_names.specs.NameLaws.{ArgumentsGiven, CallsGoByValues, FunctionsGoByValues, GoalsAreCalls}
 use Rattle.pi_names.proofs.SmallLemmas.{then-of_one}
 
@@ -59,6 +59,7 @@ goals-are_calls set before name es l p none =
       variable = variable_first es;
       goals = goals_in set before es;
       values = values_in set before es;
+      late = values_apart set (behind before (places_behind es)) es;
       all = values_of set (readings name (exp_count es)) before es;
     } in
     ap (λ (o : Option Form). draining (call_goal set name o parts) l p) none

@@ -30,11 +30,13 @@ form_of name k =
     (cond (is_call name k) (Some by_term)
     (cond (k == 2 && bytes_eq name (codes "in")) (Some membership) None)))))
 
--- a call's arguments: the variable that stands first, where one does; each as a goal and as an expression; and all of them as expressions from the left
+-- a call's arguments: the variable that stands first, where one does; each as a goal and as an expression; each as an expression that is evaluated behind those that the
+-- first one stands before; and all of them as expressions from the left
 pub record Parts : Type 0 where
   pub variable : Option (List ℕ)
   pub goals : List Goal
   pub values : List Value
+  pub late : List Value
   pub all : Values
 
 -- a call as a goal, behind its draining
@@ -94,7 +96,7 @@ operand_readings operand name k = cond (is_operand_node name k) (operand ∷ ope
 -- a call as an expression: `find_all` and `count_all` have a goal in them; any other is a function's
 abbrev pub function_value : Setting → List ℕ → ℕ → Parts → Value
 function_value set name k parts =
-    cond (k == 2 && bytes_eq name (codes "find_all")) (all_found (value_at parts.values 0) (goal_at parts.goals 1))
+    cond (k == 2 && bytes_eq name (codes "find_all")) (all_found (value_at parts.late 0) (goal_at parts.goals 1))
     (cond (k == 1 && bytes_eq name (codes "count_all")) (all_counted (goal_at parts.goals 0)) (applied_to set name parts.all))
 
 unfoldable pub call_value : Setting → Reading → List ℕ → ℕ → Parts → Value

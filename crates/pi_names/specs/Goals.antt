@@ -10,7 +10,7 @@ use Rattle.pi_syntax.specs.ExpTree.{ExpTree, var, int, atom, str, list, list_ont
 use Rattle.pi_syntax.specs.Signature.{exp_count}
 use Rattle.pi_traces.specs.Trace.{Trace, done, one}
 use Rattle.pi_meaning.specs.Environment.{known, Valued, name_valued}
-use Rattle.pi_names.specs.Texts.{Names, places, places_all, places_of_branches, behind, iterated, unit_places, begins_with_iterator, variable_first, assigned, kept_names}
+use Rattle.pi_names.specs.Texts.{Names, places, places_all, places_behind, places_of_branches, behind, iterated, unit_places, begins_with_iterator, variable_first, assigned, kept_names}
 use Rattle.pi_names.specs.Terms.{items_onto, written_term}
 use Rattle.pi_names.specs.Given.{Setting}
 use Rattle.pi_names.specs.Control.{Goal, Value, Values, no_goal, no_value, draining, strictly, constantly, nothing, in_front, made_of, made_onto, following, Arrow, branch_before, choosing, value_at}
@@ -48,6 +48,7 @@ unfoldable mutual
         variable = variable_first es;
         goals = goals_in set before es;
         values = values_in set before es;
+        late = values_apart set (behind before (places_behind es)) es;
         all = values_of set (operand_readings r name (exp_count es)) before es;
       }) l p
   value_of set r before (quote e) l p = quoted_value e l p
@@ -98,6 +99,7 @@ unfoldable mutual
         variable = variable_first es;
         goals = goals_in set before es;
         values = values_in set before es;
+        late = values_apart set (behind before (places_behind es)) es;
         all = values_of set (readings name (exp_count es)) before es;
       })) l p
   goal_of set before (and es) l p = all_of set before es l p

@@ -147,17 +147,22 @@ body_or_none set before (Some body) l p = goal_of set before body l p
 abbrev pub applied : Valued → Applied
 applied x = record { value = x.tree; state = x.state }
 
+-- The names that stand before a function's condition: those of its head, and of its value, which is written before condition and body. The value is evaluated behind the
+-- body, so that those of the body stand before it.
+abbrev pub function_names : FunctionTree → Names
+function_names f = behind (behind [] (places f.head)) (places f.value)
+
 -- the body, whose answers count when nothing waits any more, and behind it the value
 abbrev pub value_run : Setting → FunctionTree → Level → Place → Trace Applied
 value_run set f l p =
-    then (strictly (body_or_none set (names_before f.head f.cond) f.body) l p)
+    then (strictly (body_or_none set (behind (function_names f) (places_in f.cond)) f.body) l p)
     (λ q. then (value_of set plain (behind (names_before f.head f.cond) (places_in f.body)) f.value l q) (λ x. one (applied x)))
 
 -- a function's rules are committed
 abbrev pub function_or_later : Setting → FunctionTree → Level → State → Trace Applied → Option Environment → Trace Applied
 function_or_later set f l s later None = later
 function_or_later set f l s later (Some e) =
-    chosen (guarded set (behind [] (places f.head)) f.cond l (record { names = e; state = s })) (λ p. value_run set f l p) later
+    chosen (guarded set (function_names f) f.cond l (record { names = e; state = s })) (λ p. value_run set f l p) later
 
 unfoldable pub functions_called : Setting → List FunctionTree → Level → Trees → State → Trace Applied
 functions_called set [] l ts s = done

@@ -52,6 +52,11 @@ unfoldable mutual
   places_of_branches no_branches = []
   places_of_branches (branch c e bs) = places c ++ (places e ++ places_of_branches bs)
 
+-- those of the arguments behind the first one
+abbrev pub places_behind : ExpTrees → Names
+places_behind no_exps = []
+places_behind (exp e es) = places_all es
+
 -- a name behind those before it, where it is none of them
 abbrev pub with_one : Names → List ℕ → Names
 with_one before name = cond (is_blank name || is_among before name) before (before ++ name ∷ [])
