@@ -68,13 +68,6 @@ NoneAs true b start limit = (m : ℕ) → m ≤ limit → Exhausted b start m
 abbrev pub HasNoPlan : Bodies → Wanted → Type 0
 HasNoPlan b w = NoneAs w.best b w.start w.limit
 
--- the states with their rests that a call may ask for: of `plan` those that are reached under its limit; of `best_plan`
--- those that are reached under a number up to its limit each of whose smaller numbers is exhausted
-pub record ReachedBest (b : Bodies) (start : Tree) (limit : ℕ) (s : Tree) (r m : ℕ) : Type 0 where
-  pub within : m ≤ limit
-  pub reached : Reached b start m s r
-  pub least : AllBelow b start m
-
 -- a plan as a term: the list of its actions
 unfoldable pub plan_term : List Tree → Tree
 plan_term [] = atom nil
