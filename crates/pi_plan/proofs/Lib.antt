@@ -1,0 +1,13 @@
+pub mod RootLemmas
+pub mod PlaceLemmas
+pub mod SearchLemmas
+pub mod PutLemmas
+pub mod ExhaustedLemmas
+pub mod WayLemmas
+pub mod AdvanceLemmas
+pub mod PlanOfLemmas
+pub mod PlannerLemmas
+pub mod StageLemmas
+pub mod LawLemmas
+pub mod WrittenLemmas
+pub mod FaultLemmas

@@ -1,0 +1,10 @@
+pub mod Roots
+pub mod Faults
+pub mod Place
+pub mod Due
+pub mod Ways
+pub mod Searching
+pub mod Search
+pub mod Planner
+pub mod Laws
+pub mod Written

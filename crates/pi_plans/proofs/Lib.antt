@@ -1,0 +1,3 @@
+pub mod PlanLemmas
+pub mod GivenLemmas
+pub mod LawLemmas
