@@ -65,4 +65,4 @@ least_cost_is_one b log start plan other limit cost price same (m, within, has, 
     omega (arith, ints)
 
 pub no_plan_is_none : NoPlanIsNone
-no_plan_is_none b log start limit none actions cost v = (none (number_of limit) (omega arith)).none actions cost v
+no_plan_is_none b log start limit none m within actions cost v = (none m within).none actions cost v

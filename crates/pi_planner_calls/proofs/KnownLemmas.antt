@@ -1,6 +1,7 @@
 -- What is right under a log is right under each longer one.
 use Rattle.std.specs.Prelude.{◌≡◌, ℕ, zero, suc, ℤ, pos, Bool, true, false, List, [], ◌∷◌, ◌++◌, take, drop, Contains, refl}
-use Rattle.std.proofs.Common.{◌∙◌, ap, subst, append_assoc}
+use Rattle.std.proofs.Common.{◌∙◌, sym, ap, subst, append_assoc}
+use Rattle.std.proofs.lemmas.List.{append-nil}
 use Rattle.pi_terms.specs.Tree.{Tree, int}
 use Rattle.pi_traces.specs.Trace.{Trace, Done, answers, end_of}
 use Rattle.pi_answers.specs.declared.log.LogEntry.{LogEntry}
@@ -8,7 +9,7 @@ use Rattle.pi_answers.specs.declared.log.PlanResult.{PlanResult}
 use Rattle.pi_planner_calls.specs.Situation.{of_body}
 use Rattle.pi_planner_calls.specs.Bodies.{Offer, Bodies, first_fault}
 use Rattle.pi_planner_calls.specs.Steps.{IsFinal, IsStep, Valid, Reached, at_start, by_step, IsClosed, IsExhausted, number_of}
-use Rattle.pi_planner_calls.specs.Entries.{HasPlan, IsRightResult, IsRightEntry}
+use Rattle.pi_planner_calls.specs.Entries.{HasPlan, IsRightResult, IsRightlyAdded, IsRightEntry}
 use Rattle.pi_planner_calls.specs.Known.{AreBodies}
 use Rattle.pi_planner_calls.specs.PlanLaws.{RightStaysRight, RightLogsAreRight}
 use Rattle.pi_planner_calls.proofs.TraceLemmas.{known-done, known-answers, known-some, given-whole, some-whole}
@@ -122,6 +123,11 @@ front-and-rest zero log = refl
 front-and-rest (suc k) [] = refl
 front-and-rest (suc k) (e ∷ log) = ap (λ (l : List LogEntry). e ∷ l) (front-and-rest k log)
 
+added-is_right : (b : Bodies) (log : List LogEntry) (e : LogEntry) → IsRightlyAdded b log e → IsRightEntry b log e
+added-is_right b log (LogEntry.Planned best start limit result) h = h
+added-is_right b log (LogEntry.RaisedPlan best start limit ball) h = (log, [], sym (append-nil log), h)
+
 pub right_logs_are_right : RightLogsAreRight
 right_logs_are_right b log k e are right at =
-    subst (λ (l : List LogEntry). IsRightEntry b l e) (front-and-rest k log) (right_stays_right b (take k log) (drop k log) e are (right.entries k e at))
+    subst (λ (l : List LogEntry). IsRightEntry b l e) (front-and-rest k log)
+    (right_stays_right b (take k log) (drop k log) e are (added-is_right b (take k log) e (right.entries k e at)))

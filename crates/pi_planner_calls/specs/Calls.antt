@@ -2,10 +2,11 @@
 use Rattle.std.specs.Prelude.{◌≡◌, ◌⊎◌, ℕ, ◌+◌, ◌≤◌, List, [], ◌∷◌, ◌++◌, length}
 use Rattle.pi_terms.specs.Tree.{Tree}
 use Rattle.pi_traces.specs.Trace.{Trace, Call, Done, Miss, Load, Emitted, noted, answered, events_of, ticks}
+use Rattle.pi_traces.specs.Depth.{cut, Ended}
 use Rattle.pi_answers.specs.declared.log.LogEntry.{LogEntry}
 use Rattle.pi_planner_calls.specs.Situation.{of_body}
 use Rattle.pi_planner_calls.specs.Bodies.{Bodies, EndsIn, FailsIn}
-use Rattle.pi_planner_calls.specs.Steps.{CallReaches}
+use Rattle.pi_planner_calls.specs.Steps.{GoesOn, CallReaches}
 
 -- with no call open, a body of the first call ends where the second is missing
 pub record Misses (b : Bodies) (log : List LogEntry) (c d : Call) : Type 0 where
@@ -27,18 +28,19 @@ pub data Reach (b : Bodies) (least : ℕ) (log : List LogEntry) (c : Call) : Cal
   itself : Reach b least log c c
   further : (d e : Call) → Reach b least log c d → Edge b least log d e → Reach b least log c e
 
--- A query that began when the log had so many entries wants a call: under a front of the log of so many or more it ends where that call is missing, or a
--- chain leads to it from such a call.
-pub record Asks {A : Type 0} (query : List LogEntry → ℕ → Trace A) (known : ℕ) (log : List LogEntry) (c : Call) : Type 0 where
+-- A query that began when the log had so many entries wants a call: under a front of the log of so many or more its run, cut before the Tick that is one more than it may
+-- take, ends where that call is missing, or a chain leads to it from such a call.
+pub record Asks {A : Type 0} (query : List LogEntry → ℕ → Trace A) (steps known : ℕ) (log : List LogEntry) (c : Call) : Type 0 where
   pub front : List LogEntry
   pub behind : List LogEntry
   pub parts : log ≡ front ++ behind
   pub enough : known ≤ length front
-  pub ends : EndsIn (query front) (Miss c)
+  pub depth : ℕ
+  pub ends : (cut steps (query front depth)).stop ≡ Ended (Miss c)
 
-pub record IsWanted {A : Type 0} (b : Bodies) (query : List LogEntry → ℕ → Trace A) (known : ℕ) (log : List LogEntry) (c : Call) : Type 0 where
+pub record IsWanted {A : Type 0} (b : Bodies) (query : List LogEntry → ℕ → Trace A) (steps known : ℕ) (log : List LogEntry) (c : Call) : Type 0 where
   pub first : Call
-  pub asks : Asks query known log first
+  pub asks : Asks query steps known log first
   pub leads : Reach b known log first c
 
 -- ---- the numbers that bound work
@@ -56,9 +58,12 @@ loads_of (event ∷ events) = load_in event + loads_of events
 abbrev pub loads : {A : Type 0} → Trace A → ℕ
 loads t = loads_of (events_of t)
 
--- at most so many Ticks are in the bodies of one state that a call reaches, under each front of the log with no call open, and likewise of loads
+-- At most so many Ticks are in the bodies of one state that a call reaches, under each front of the log with no call open, and likewise of loads. The body of `action` is run
+-- only where that of `final` has ended without an answer.
 pub record BoundBodies (b : Bodies) (log : List LogEntry) (c : Call) (most_ticks most_loads : ℕ) : Type 0 where
   pub ticks : (front behind : List LogEntry) (s : Tree) (r d : ℕ) → log ≡ front ++ behind → CallReaches b front c s r →
-      ticks (b.final (of_body front [] r) s d) + ticks (b.action (of_body front [] r) s d) ≤ most_ticks
+      (ticks (b.final (of_body front [] r) s d) ≤ most_ticks)
+      × (GoesOn b front s r → ticks (b.final (of_body front [] r) s d) + ticks (b.action (of_body front [] r) s d) ≤ most_ticks)
   pub loads : (front behind : List LogEntry) (s : Tree) (r d : ℕ) → log ≡ front ++ behind → CallReaches b front c s r →
-      loads (b.final (of_body front [] r) s d) + loads (b.action (of_body front [] r) s d) ≤ most_loads
+      (loads (b.final (of_body front [] r) s d) ≤ most_loads)
+      × (GoesOn b front s r → loads (b.final (of_body front [] r) s d) + loads (b.action (of_body front [] r) s d) ≤ most_loads)

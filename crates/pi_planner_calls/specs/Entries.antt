@@ -2,6 +2,7 @@
 -- the log, exceptions and open calls are own.)
 use Rattle.std.specs.Prelude.{◌≡◌, ◌⊎◌, ℕ, ◌<◌, ◌≤◌, ℤ, pos, Bool, true, false, List, ◌++◌, take, slice_get, Some, codes, All}
 use Rattle.pi_terms.specs.Tree.{Tree}
+use Rattle.pi_terms.specs.Variables.{IsGround}
 use Rattle.pi_traces.specs.Trace.{Call, Done, Raise, Abort, answers}
 use Rattle.pi_states.specs.State.{empty_state}
 use Rattle.pi_effects.specs.Exception.{exception_with}
@@ -67,13 +68,25 @@ abbrev pub IsRightResult : Bodies → List LogEntry → Bool → Tree → ℤ �
 IsRightResult b log best start limit (PlanResult.Found plan cost) = IsFound best b log start (number_of limit) plan cost
 IsRightResult b log best start limit PlanResult.NoPlan = IsNoPlan best b log start (number_of limit)
 
+-- what an entry says holds under the log to which it is added, where no call that is open has an entry yet
+abbrev pub IsRightlyAdded : Bodies → List LogEntry → LogEntry → Type 0
+IsRightlyAdded b log (LogEntry.Planned best start limit result) = IsRightResult b log best start limit result
+IsRightlyAdded b log (LogEntry.RaisedPlan best start limit ball) = IsRaised b log (record { best = best; start = start; limit = limit }) ball
+
 -- what an entry says holds under the log; of an exception, under a front of it
 abbrev pub IsRightEntry : Bodies → List LogEntry → LogEntry → Type 0
 IsRightEntry b log (LogEntry.Planned best start limit result) = IsRightResult b log best start limit result
 IsRightEntry b log (LogEntry.RaisedPlan best start limit ball) =
     (front : List LogEntry) × (behind : List LogEntry) × (log ≡ front ++ behind) × IsRaised b front (record { best = best; start = start; limit = limit }) ball
 
--- each entry is right under those before it, and no two are for one call
+-- a call has a ground start and a limit from 0; others have no entry
+pub record MayHaveEntry (c : Call) : Type 0 where
+  pub ground : IsGround c.start
+  pub number : ℕ
+  pub limit : c.limit ≡ pos number
+
+-- each entry is of such a call and is right under those before it, and no two are for one call
 pub record IsRightLog (b : Bodies) (log : List LogEntry) : Type 0 where
-  pub entries : (k : ℕ) (e : LogEntry) → slice_get log k ≡ Some e → IsRightEntry b (take k log) e
+  pub calls : (k : ℕ) (e : LogEntry) → slice_get log k ≡ Some e → MayHaveEntry (call_of e)
+  pub entries : (k : ℕ) (e : LogEntry) → slice_get log k ≡ Some e → IsRightlyAdded b (take k log) e
   pub once : (j k : ℕ) (e f : LogEntry) → j < k → slice_get log j ≡ Some e → slice_get log k ≡ Some f → same_call (call_of e) (call_of f) ≡ false

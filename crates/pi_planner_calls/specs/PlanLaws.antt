@@ -20,7 +20,7 @@ RightLogsAreRight = (b : Bodies) (log : List LogEntry) (k : ℕ) (e : LogEntry) 
 abbrev pub PlansKeepTheLimit : Type 0
 PlansKeepTheLimit = (b : Bodies) (log : List LogEntry) (plan : List Tree) (s : Tree) (r cost : ℕ) → Valid b log plan s r cost → cost ≤ r
 
--- Where a program isn't by rests: a plan is valid with each rest that its cost doesn't pass, so a right answer of `best_plan` costs what no valid plan costs
+-- Where the rest counts for nothing: a plan is valid with each rest that its cost doesn't pass, so a right answer of `best_plan` costs what no valid plan costs
 -- less than, and that cost is one number.
 
 abbrev pub PlansGoByCost : Type 0
@@ -35,7 +35,7 @@ abbrev pub LeastCostIsOne : Type 0
 LeastCostIsOne = (b : Bodies) (log : List LogEntry) (start plan other : Tree) (limit cost price : ℤ) → NotByRests b →
     IsRightEntry b log (LogEntry.Planned true start limit (PlanResult.Found plan cost)) → IsRightEntry b log (LogEntry.Planned true start limit (PlanResult.Found other price)) → cost ≡ price
 
--- where `best_plan` rightly finds none, there is none
+-- where `best_plan` rightly finds none, there is none under any limit up to its own
 abbrev pub NoPlanIsNone : Type 0
 NoPlanIsNone = (b : Bodies) (log : List LogEntry) (start : Tree) (limit : ℤ) → IsRightEntry b log (LogEntry.Planned true start limit PlanResult.NoPlan) →
-    (actions : List Tree) (cost : ℕ) → Valid b log actions start (number_of limit) cost → ⊥
+    (m : ℕ) → m ≤ number_of limit → (actions : List Tree) (cost : ℕ) → Valid b log actions start m cost → ⊥

@@ -7,7 +7,7 @@ pub fn logs_stay_right()
     ensures whole { RightLogsAreRight }
 {}
 
-/// A valid plan keeps its limit. Where a program isn't by rests, a plan of `best_plan` costs what no valid plan costs less than, and that is one
+/// A valid plan keeps its limit. Where the rest counts for nothing, a plan of `best_plan` costs what no valid plan costs less than, and that is one
 /// number. Where it finds none there is none.
 pub fn best_plans_are_cheapest()
     ensures limit { PlansKeepTheLimit }
