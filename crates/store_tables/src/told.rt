@@ -64,11 +64,7 @@ fn take_line<S: StateStore>(alloc: Global, bench: &mut Bench<S>, line: &str) -> 
 
 /// Tells the domains of the answer of a run with a bench's store and slots.
 fn tell_answer<S: StateStore>(case: &mut Case<'_>, bench: Bench<S>, names: &[NameSlot]) {
-    let Bench {
-        store,
-        slots,
-        ..
-    } = bench;
+    let Bench { store, slots, .. } = bench;
     let mut run = Run::new(case.alloc, store);
     let pushed = run.arenas.blocks.push_slots(slots.as_slice());
     case.done(pushed);

@@ -31,15 +31,13 @@ fn take_match<S: StateStore>(case: &mut Case<'_>, bench: &mut Bench<S>) {
 }
 
 /// Shows whether a pattern matches a term, and what the slots hold then.
-fn show_match<S: StateStore>(
-    case: &mut Case<'_>,
-    bench: &mut Bench<S>,
-    pattern: &Pattern,
-    r: Ref,
-) {
+fn show_match<S: StateStore>(case: &mut Case<'_>, bench: &mut Bench<S>, pattern: &Pattern, r: Ref) {
     let mut slots: Slots = Vec::new(case.alloc);
     for i in 0..SLOTS {
-        case.keep(Some(bench.slots.get(i).copied().unwrap_or(None)), &mut slots);
+        case.keep(
+            Some(bench.slots.get(i).copied().unwrap_or(None)),
+            &mut slots,
+        );
     }
     let matched = match_head(case.alloc, &mut bench.store, pattern, r, &mut slots);
     if case.made(matched) == Some(true) {
