@@ -26,7 +26,7 @@ mod tests {
     use std::test::Fail;
 
     /// Which read and which write fail, by their numbers from 1 on; 0 is none.
-    #[derive(Clone, Copy)]
+    #[derive(Clone, Copy, Debug)]
     struct Failing {
         read: u64,
         write: u64,
