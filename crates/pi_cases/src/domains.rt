@@ -1,56 +1,60 @@
 //! Domains in words: `1..3 5..5`.
 
+use crate::case::Case;
 use crate::fault::Problem;
-use crate::words::integer_of;
 use pi_dom::{DomFault, of_list};
 use pi_types::{Domain, Span, VarDomain};
-use std::alloc::Global;
 
 /// How many values a span has at most that is written down.
 const MOST: i128 = 1_000;
 
 /// The domain of spans or values.
-pub fn spans_of(alloc: Global, words: &[&str]) -> Result<Domain, Problem> {
-    let mut values = Vec::new(alloc);
+pub fn spans_of(case: &mut Case<'_>, words: &[&str]) -> Option<Domain> {
+    let mut values = Vec::new(case.alloc);
     for word in words {
-        let (lo, hi) = match word.split_once("..") {
-            Some((lo, hi)) => (integer_of(lo)?, integer_of(hi)?),
-            None => (integer_of(word)?, integer_of(word)?),
-        };
-        if hi.saturating_sub(lo) > MOST {
-            return Err(Problem::Case("a shorter span"));
-        }
-        for n in lo..hi.saturating_add(1) {
-            values.push(n)?;
-        }
+        push_values(case, word, &mut values);
     }
-    match of_list(alloc, values.as_slice()) {
-        Ok(domain) => Ok(domain),
-        Err(DomFault::TooWide) => Err(Problem::Case("values of a domain")),
-        Err(DomFault::Memory) => Err(Problem::Memory(std::alloc::AllocError)),
+    match of_list(case.alloc, values.as_slice()) {
+        Ok(domain) => return Some(domain),
+        Err(DomFault::TooWide) => case.lacks("values of a domain"),
+        Err(DomFault::Memory) => case.fail(Problem::Memory),
+    }
+    None
+}
+
+/// Appends the values of a span or the one value that a word is.
+fn push_values(case: &mut Case<'_>, word: &str, values: &mut Vec<i128>) {
+    let (lo, hi) = word.split_once("..").unwrap_or((word, word));
+    let lo = case.integer_of(lo);
+    let hi = case.integer_of(hi);
+    if hi.saturating_sub(lo) > MOST {
+        return case.lacks("a shorter span");
+    }
+    for n in lo..hi.saturating_add(1) {
+        case.keep(Some(n), values);
     }
 }
 
-/// Appends the spans of a domain, each behind a blank.
-pub fn push_domain(domain: &Domain, out: &mut String) -> Result<(), Problem> {
+/// Writes the spans of a domain, each behind a blank.
+pub fn tell_domain(domain: &Domain, case: &mut Case<'_>) {
     for span in domain.spans() {
-        out.push(' ')?;
-        push_span(span, out)?;
+        case.tell_character(' ');
+        tell_span(span, case);
     }
-    Ok(())
 }
 
-/// Appends a span.
-pub fn push_span(span: &Span, out: &mut String) -> Result<(), Problem> {
-    write!(out, "{}..{}", span.lo, span.hi)?;
-    Ok(())
+/// Writes a span.
+pub fn tell_span(span: &Span, case: &mut Case<'_>) {
+    case.tell_integer(i128::from(span.lo));
+    case.tell("..");
+    case.tell_integer(i128::from(span.hi));
 }
 
-/// Appends the domains that an answer tells, each behind the number of its variable.
-pub fn push_domains(domains: &[VarDomain], out: &mut String) -> Result<(), Problem> {
+/// Writes the domains that an answer tells, each behind the number of its variable.
+pub fn tell_domains(domains: &[VarDomain], case: &mut Case<'_>) {
     for told in domains {
-        write!(out, " with _{}", told.var)?;
-        push_domain(&told.domain, out)?;
+        case.tell(" with ");
+        case.tell_variable(told.var);
+        tell_domain(&told.domain, case);
     }
-    Ok(())
 }

@@ -1,14 +1,24 @@
-//! What the programs that run tables of cases share: files of cases and their lines, the words of a case, and terms, patterns and domains in words.
+//! What the libraries of cases share: files of cases and their lines, a case with its words and its answer, and terms, patterns and domains in words.
 #![tactic(auto)]
 
-pub mod domains;
-pub mod fault;
+mod case;
+mod domains;
+mod fault;
 mod files;
-pub mod nodes;
-pub mod patterns;
-mod shortened;
-pub mod terms;
-pub mod words;
-pub mod written;
+mod nodes;
+mod patterns;
+mod taking;
+mod telling;
+mod terms;
+mod words;
+mod written;
 
+pub use case::Case;
+pub use domains::{spans_of, tell_domain, tell_domains, tell_span};
+pub use fault::Problem;
 pub use files::{Subjects, run};
+pub use nodes::{Node, node_of};
+pub use patterns::{patterns_of, tell_flat};
+pub use terms::{push_term, term_of};
+pub use words::words_of;
+pub use written::{bytes_of, name_of};

@@ -1,10 +1,7 @@
 //! Words of terms: a term is written as its nodes in prefix order, each a word.
 
-use crate::fault::Problem;
-use std::alloc::Global;
-
 /// What a word of a term is. The last four are for terms that are put into a store.
-#[derive(Clone, Copy, Debug, PartialEq, Eq)]
+#[derive(Clone, Copy)]
 pub enum Node<'a> {
     /// `_7`
     Var(u64),
@@ -75,106 +72,31 @@ impl Node<'_> {
     }
 }
 
-/// How many of the words make the first term.
-pub fn extent(words: &[&str]) -> Result<usize, Problem> {
-    let lacks = Problem::Case("a whole term");
+/// How many of the words make the first term; None where they don't.
+pub fn extent(words: &[&str]) -> Option<usize> {
     let mut wanted = 1usize;
     for (i, word) in words.iter().enumerate() {
         wanted = wanted
             .saturating_sub(1)
             .saturating_add(node_of(word).below());
         if wanted == 0 {
-            return Ok(i.saturating_add(1));
+            return Some(i.saturating_add(1));
         }
     }
-    Err(lacks)
+    None
 }
 
-/// The name that a word is, which has quotes around it where it looks like something else, and in them `\n`, `\t`, `\s`
-/// for a blank, and `\\`.
-pub fn name_of(alloc: Global, word: &str) -> Result<String, Problem> {
-    let quoted = word
-        .strip_prefix('\'')
-        .and_then(|rest| rest.strip_suffix('\''));
-    let Some(inner) = quoted else {
-        return Ok(String::from_str(alloc, word)?);
-    };
-    let mut name = String::new(alloc);
-    let mut is_escaped = false;
-    for c in inner.chars() {
-        if c == '\\' && !is_escaped {
-            is_escaped = true;
-        } else {
-            name.push(if is_escaped { escaped(c) } else { c })?;
-            is_escaped = false;
-        }
-    }
-    Ok(name)
+/// What stands between the quotes of a word; None where it has none.
+pub fn unquoted(word: &str) -> Option<&str> {
+    word.strip_prefix('\'')?.strip_suffix('\'')
 }
 
-/// The character that one behind a `\` stands for.
-fn escaped(c: char) -> char {
-    match c {
-        'n' => '\n',
-        't' => '\t',
-        's' => ' ',
-        other => other,
-    }
-}
-
-/// Appends a name as a word.
-pub fn push_name(name: &str, out: &mut String) -> Result<(), Problem> {
-    let is_plain = matches!(node_of(name), Node::Atom(_))
-        && !name.is_empty()
-        && !name.contains(|c: char| c.is_whitespace() || c == '\'' || c == '\\');
-    if is_plain {
-        out.push_str(name)?;
-        return Ok(());
-    }
-    out.push('\'')?;
+/// Whether a name is a word as it stands.
+pub fn is_plain(name: &str) -> bool {
     for c in name.chars() {
-        match c {
-            ' ' => out.push_str("\\s")?,
-            other => push_character(other, out)?,
+        if c.is_whitespace() || c == '\'' || c == '\\' {
+            return false;
         }
     }
-    out.push('\'')?;
-    Ok(())
-}
-
-/// Appends a text whose `\`, tabs and line feeds are escaped.
-pub fn push_escaped(text: &str, out: &mut String) -> Result<(), Problem> {
-    for c in text.chars() {
-        push_character(c, out)?;
-    }
-    Ok(())
-}
-
-/// Appends a character, escaped where it is a `\`, a tab or a line feed.
-pub fn push_character(c: char, out: &mut String) -> Result<(), Problem> {
-    match c {
-        '\n' => out.push_str("\\n")?,
-        '\t' => out.push_str("\\t")?,
-        '\\' => out.push_str("\\\\")?,
-        other => out.push(other)?,
-    }
-    Ok(())
-}
-
-/// Takes the newest thing off a stack.
-pub fn one<T: Drop>(stack: &mut Vec<T>) -> Result<T, Problem> {
-    stack.pop().ok_or(Problem::Case("one more argument"))
-}
-
-/// Takes so many things off a stack, the newest first.
-pub fn several<T: Drop>(
-    alloc: Global,
-    stack: &mut Vec<T>,
-    count: usize,
-) -> Result<Vec<T>, Problem> {
-    let mut found = Vec::new(alloc);
-    for _ in 0..count {
-        found.push(one(stack)?)?;
-    }
-    Ok(found)
+    !name.is_empty() && matches!(node_of(name), Node::Atom(_))
 }

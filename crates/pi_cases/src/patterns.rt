@@ -1,60 +1,66 @@
 //! Patterns of heads in words: `S0` is a slot, `S0@` a slot for what the pattern behind it matches.
 
-use crate::fault::Problem;
-use crate::nodes::{Node, name_of, node_of, one, push_name, several};
-use crate::words::slot_of;
-use pi_types::{Pattern, Patterns, Text};
-use std::alloc::Global;
+use crate::case::Case;
+use crate::nodes::{Node, node_of};
+use pi_types::{Pattern, Patterns};
 
 /// The patterns that words are.
-pub fn patterns_of(alloc: Global, words: &[&str]) -> Result<Patterns, Problem> {
-    let mut built = Vec::new(alloc);
+pub fn patterns_of(case: &mut Case<'_>, words: &[&str]) -> Patterns {
+    let mut built = Vec::new(case.alloc);
     for word in words.iter().rev() {
-        let made = pattern_over(alloc, word, &mut built)?;
-        built.push(made)?;
+        let made = pattern_over(case, word, &mut built);
+        case.keep(made, &mut built);
     }
     let count = built.len();
-    several(alloc, &mut built, count)
+    case.several(&mut built, count)
 }
 
 /// The pattern that begins with this word, over the newest patterns of a stack.
-fn pattern_over(alloc: Global, word: &str, built: &mut Vec<Pattern>) -> Result<Pattern, Problem> {
+fn pattern_over(case: &mut Case<'_>, word: &str, built: &mut Vec<Pattern>) -> Option<Pattern> {
     if let Some(slot) = word.strip_prefix('S') {
-        return match slot.strip_suffix('@') {
-            Some(slot) => {
-                let inner = Box::new(alloc, one(built)?)?;
-                Ok(Pattern::Named(slot_of(slot)?, inner))
-            }
-            None => Ok(Pattern::Slot(slot_of(slot)?)),
-        };
+        return slot_pattern(case, slot, built);
     }
     match node_of(word) {
-        Node::Int(n) => Ok(Pattern::Int(n)),
-        Node::Atom(name) => Ok(Pattern::Atom(text_of(alloc, name)?)),
+        Node::Int(n) => Some(Pattern::Int(n)),
+        Node::Atom(name) => Some(Pattern::Atom(case.text_of(name)?)),
         Node::Comp(name, count) => {
-            let args = several(alloc, built, count)?;
-            Ok(Pattern::Comp(text_of(alloc, name)?, args))
+            let name = case.text_of(name)?;
+            Some(Pattern::Comp(name, case.several(built, count)))
         }
-        _ => Err(Problem::Case("a pattern in place of a word")),
+        _ => {
+            case.lacks("a pattern in place of a word");
+            None
+        }
     }
 }
 
-/// The name that a word is.
-pub fn text_of(alloc: Global, word: &str) -> Result<Text, Problem> {
-    Ok(Text::from_string(name_of(alloc, word)?))
+/// The pattern of a slot, or behind `@` of a slot that has a pattern.
+fn slot_pattern(case: &mut Case<'_>, slot: &str, built: &mut Vec<Pattern>) -> Option<Pattern> {
+    let Some(slot) = slot.strip_suffix('@') else {
+        return Some(Pattern::Slot(case.slot_of(slot)));
+    };
+    let slot = case.slot_of(slot);
+    let inner = case.one(built)?;
+    let boxed = Box::new(case.alloc, inner);
+    Some(Pattern::Named(slot, case.made(boxed)?))
 }
 
-/// Appends a pattern without patterns in it, in words.
-pub fn push_flat(pattern: &Pattern, out: &mut String) -> Result<(), Problem> {
+/// Writes a pattern without patterns in it, in words.
+pub fn tell_flat(pattern: &Pattern, case: &mut Case<'_>) {
     match pattern {
-        Pattern::Slot(k) => write!(out, "S{k}")?,
-        Pattern::Int(n) => write!(out, "{n}")?,
-        Pattern::Atom(name) => push_name(name.as_str(), out)?,
+        Pattern::Slot(k) => tell_slot(*k, "", case),
+        Pattern::Int(n) => case.tell_integer(*n),
+        Pattern::Atom(name) => case.tell_name(name.as_str()),
         Pattern::Comp(name, args) => {
-            push_name(name.as_str(), out)?;
-            write!(out, "/{} ..", args.len())?;
+            case.tell_called(name.as_str(), args.len());
+            case.tell(" ..");
         }
-        Pattern::Named(k, _) => write!(out, "S{k}@ ..")?,
+        Pattern::Named(k, _) => tell_slot(*k, "@ ..", case),
     }
-    Ok(())
+}
+
+fn tell_slot(slot: u32, behind: &str, case: &mut Case<'_>) {
+    case.tell_character('S');
+    case.tell_number(u64::from(slot));
+    case.tell(behind);
 }

@@ -1,67 +1,104 @@
-//! Terms as they are written down.
+//! Terms in words, and names.
 
-use crate::fault::Problem;
-use crate::nodes::{Node, extent, name_of, node_of, one, push_name, several};
-use crate::words::Words;
-use crate::written::push_between;
-use pi_types::{Term, TermHead};
-use std::alloc::Global;
+use crate::case::Case;
+use crate::nodes::{Node, extent, node_of};
+use crate::written::name_of;
+use pi_types::{Term, TermHead, Text};
 
-/// Takes the words of a term.
-pub fn taken_term(alloc: Global, words: &mut Words<'_>) -> Result<Term, Problem> {
-    let count = extent(words.rest())?;
-    term_of(alloc, words.taken(count)?)
+impl<'a> Case<'a> {
+    /// Takes the words of one term.
+    pub fn take_extent(&mut self) -> &'a [&'a str] {
+        let count = extent(self.ahead());
+        if count.is_none() {
+            self.lacks("a whole term");
+        }
+        self.take_words(count.unwrap_or(0))
+    }
+
+    /// Takes the words of a term.
+    pub fn take_term(&mut self) -> Option<Term> {
+        let words = self.take_extent();
+        term_of(self, words)
+    }
+
+    /// Writes a term in words.
+    pub fn tell_term(&mut self, term: &Term) {
+        for i in 0..term.cells() {
+            self.tell_between(i, " ");
+            self.tell_head(term.head_at(i));
+        }
+    }
+
+    /// Writes the word of a node.
+    pub fn tell_head(&mut self, head: TermHead<'_>) {
+        match head {
+            TermHead::Var(n) => self.tell_variable(n),
+            TermHead::Int(n) => self.tell_integer(n),
+            TermHead::Atom(name) => self.tell_name(name),
+            TermHead::Comp(name, count) => self.tell_called(name, count),
+        }
+    }
+
+    /// Writes the word of a variable.
+    pub fn tell_variable(&mut self, n: u64) {
+        self.tell_character('_');
+        self.tell_number(n);
+    }
+
+    /// Writes a name and the number of its arguments.
+    pub fn tell_called(&mut self, name: &str, count: usize) {
+        self.tell_name(name);
+        self.tell_character('/');
+        self.tell_count(count);
+    }
+
+    /// The name that a word is.
+    pub fn text_of(&mut self, word: &str) -> Option<Text> {
+        let name = name_of(self, word)?;
+        Some(Text::from_string(name))
+    }
 }
 
 /// The term that words are.
-pub fn term_of(alloc: Global, words: &[&str]) -> Result<Term, Problem> {
-    let mut built = Vec::new(alloc);
+pub fn term_of(case: &mut Case<'_>, words: &[&str]) -> Option<Term> {
+    let mut built = Vec::new(case.alloc);
     for word in words.iter().rev() {
-        let made = term_over(alloc, word, &mut built)?;
-        built.push(made)?;
+        push_term(case, word, &mut built);
     }
-    let term = one(&mut built)?;
-    if built.is_empty() {
-        Ok(term)
-    } else {
-        Err(Problem::Case("one term alone"))
+    let term = case.one(&mut built);
+    if !built.is_empty() {
+        case.lacks("one term alone");
+    }
+    term
+}
+
+/// Puts the term that begins with this word in the place of its arguments, which are the newest terms of a stack.
+pub fn push_term(case: &mut Case<'_>, word: &str, built: &mut Vec<Term>) {
+    let made = match node_of(word) {
+        Node::Var(n) => Term::var(case.alloc, n),
+        Node::Int(n) => Term::int(case.alloc, n),
+        Node::Atom(name) => return push_atom(case, name, built),
+        Node::Comp(name, count) => return push_compound(case, name, count, built),
+        _ => return case.lacks("a term that needs no store"),
+    };
+    let made = case.made(made);
+    case.keep(made, built);
+}
+
+fn push_atom(case: &mut Case<'_>, word: &str, built: &mut Vec<Term>) {
+    if let Some(name) = name_of(case, word) {
+        let made = Term::atom(case.alloc, name.as_str());
+        let made = case.made(made);
+        case.keep(made, built);
     }
 }
 
-/// The term that begins with this word, over the newest terms of a stack.
-pub fn term_over(alloc: Global, word: &str, built: &mut Vec<Term>) -> Result<Term, Problem> {
-    match node_of(word) {
-        Node::Var(n) => Ok(Term::var(alloc, n)?),
-        Node::Int(n) => Ok(Term::int(alloc, n)?),
-        Node::Atom(name) => Ok(Term::atom(alloc, name_of(alloc, name)?.as_str())?),
-        Node::Comp(name, count) => {
-            let args = several(alloc, built, count)?;
-            let name = name_of(alloc, name)?;
-            Ok(Term::comp(alloc, name.as_str(), args.as_slice())?)
-        }
-        _ => Err(Problem::Case("a term that needs no store")),
+/// Puts a compound over the newest terms of a stack.
+fn push_compound(case: &mut Case<'_>, word: &str, count: usize, built: &mut Vec<Term>) {
+    let args = case.several(built, count);
+    if let Some(name) = name_of(case, word) {
+        let made = Term::comp(case.alloc, name.as_str(), args.as_slice());
+        let made = case.made(made);
+        case.keep(made, built);
     }
-}
-
-/// Appends a term in words.
-pub fn push_term(term: &Term, out: &mut String) -> Result<(), Problem> {
-    for i in 0..term.cells() {
-        push_between(i, " ", out)?;
-        push_head(term.head_at(i), out)?;
-    }
-    Ok(())
-}
-
-/// Appends the word of a node.
-pub fn push_head(head: TermHead<'_>, out: &mut String) -> Result<(), Problem> {
-    match head {
-        TermHead::Var(n) => write!(out, "_{n}")?,
-        TermHead::Int(n) => write!(out, "{n}")?,
-        TermHead::Atom(name) => push_name(name, out)?,
-        TermHead::Comp(name, count) => {
-            push_name(name, out)?;
-            write!(out, "/{count}")?;
-        }
-    }
-    Ok(())
 }

@@ -1,78 +1,99 @@
 //! Texts as a case writes them: with escapes, and with pieces that are repeated.
 
+use crate::case::Case;
 use crate::fault::Problem;
-use std::alloc::{AllocError, Global};
+use crate::nodes::unquoted;
+use std::str;
 
 /// How often a piece can be repeated.
 const MOST: usize = 20_000_000;
 
 /// The bytes of a text that a case writes. `\n`, `\r`, `\t` and `\\` are a line feed, a carriage return, a tab and `\`,
-/// `\xff` is a byte, `«3*ab»` is `ababab`, and `«»` is nothing. In a piece that is repeated, `№` is the number of the
+/// `\s` a blank, `\xff` is a byte, `«3*ab»` is `ababab`, and `«»` is nothing. In a piece that is repeated, `№` is the number of the
 /// time, from 0 on.
-pub fn bytes_of(alloc: Global, written: &str) -> Result<Vec<u8>, Problem> {
-    let mut bytes = Vec::new(alloc);
-    for (i, part) in written.split('«').enumerate() {
-        if i == 0 {
-            push_plain(part, &mut bytes)?;
-            continue;
+pub fn bytes_of(case: &mut Case<'_>, written: &str) -> Vec<u8> {
+    let mut bytes = Vec::new(case.alloc);
+    let (first, parts) = written.split_once('«').unwrap_or((written, ""));
+    push_plain(case, first, &mut bytes);
+    if first.len() < written.len() {
+        for part in parts.split('«') {
+            push_part(case, part, &mut bytes);
         }
-        let Some((piece, rest)) = part.split_once('»') else {
-            return Err(Problem::Case("a » behind each «"));
-        };
-        push_repeated(alloc, piece, &mut bytes)?;
-        push_plain(rest, &mut bytes)?;
     }
-    Ok(bytes)
+    bytes
+}
+
+/// The name that a word is, which has quotes around it where it looks like something else. In quotes there may be escapes.
+pub fn name_of(case: &mut Case<'_>, word: &str) -> Option<String> {
+    let Some(inner) = unquoted(word) else {
+        let name = String::from_str(case.alloc, word);
+        return case.made(name);
+    };
+    let mut bytes = Vec::new(case.alloc);
+    push_plain(case, inner, &mut bytes);
+    let name = String::from_str(case.alloc, str::from_utf8(bytes.as_slice()).unwrap_or(""));
+    case.made(name)
+}
+
+/// Appends a piece that is repeated, and what stands behind it.
+fn push_part(case: &mut Case<'_>, part: &str, bytes: &mut Vec<u8>) {
+    match part.split_once('»') {
+        Some((piece, rest)) => {
+            push_repeated(case, piece, bytes);
+            push_plain(case, rest, bytes);
+        }
+        None => case.lacks("a » behind each «"),
+    }
 }
 
 /// Appends what stands between `«` and `»`.
-fn push_repeated(alloc: Global, written: &str, bytes: &mut Vec<u8>) -> Result<(), Problem> {
+fn push_repeated(case: &mut Case<'_>, written: &str, bytes: &mut Vec<u8>) {
     if written.is_empty() {
-        return Ok(());
+        return;
     }
-    let Some((count, piece)) = written.split_once('*') else {
-        return Err(Problem::Case("a * behind how often a piece is repeated"));
-    };
-    let count = match count.parse::<usize>() {
-        Ok(count) if count <= MOST => count,
-        _ => return Err(Problem::Case("how often a piece is repeated")),
-    };
+    let (count, piece) = written.split_once('*').unwrap_or(("", ""));
+    let count = count.parse().unwrap_or(usize::MAX);
+    if count > MOST {
+        return case.lacks("how often a piece is repeated, and a *");
+    }
     match piece.split_once('№') {
-        Some((before, after)) => push_numbered(alloc, count, before, after, bytes),
-        None => push_times(alloc, count, piece, bytes),
+        Some((before, after)) => push_numbered(case, count, before, after, bytes),
+        None => push_times(case, count, piece, bytes),
     }
 }
 
 /// Appends a piece so many times.
-fn push_times(
-    alloc: Global,
-    count: usize,
-    piece: &str,
-    bytes: &mut Vec<u8>,
-) -> Result<(), Problem> {
-    let mut once = Vec::new(alloc);
-    push_plain(piece, &mut once)?;
+fn push_times(case: &mut Case<'_>, count: usize, piece: &str, bytes: &mut Vec<u8>) {
+    let mut once = Vec::new(case.alloc);
+    push_plain(case, piece, &mut once);
     for _ in 0..count {
-        bytes.extend_from_slice(once.as_slice())?;
+        push_all(case, once.as_slice(), bytes);
     }
-    Ok(())
 }
 
 /// Appends a piece so many times, each with its number in it.
 fn push_numbered(
-    alloc: Global,
+    case: &mut Case<'_>,
     count: usize,
     before: &str,
     after: &str,
     bytes: &mut Vec<u8>,
-) -> Result<(), Problem> {
+) {
     for i in 0..count {
-        push_plain(before, bytes)?;
-        let number = format!(in alloc; "{i}")?;
-        bytes.extend_from_slice(number.as_str().as_bytes())?;
-        push_plain(after, bytes)?;
+        push_plain(case, before, bytes);
+        let number = i.to_string(case.alloc);
+        if let Some(number) = case.made(number) {
+            push_all(case, number.as_str().as_bytes(), bytes);
+        }
+        push_plain(case, after, bytes);
     }
-    Ok(())
+}
+
+/// Appends bytes as they are.
+fn push_all(case: &mut Case<'_>, more: &[u8], bytes: &mut Vec<u8>) {
+    if bytes.extend_from_slice(more).is_err() {
+        case.fail(Problem::Memory);
+    }
 }
 
 /// What was read of an escape.
@@ -85,59 +106,54 @@ enum Escape {
 }
 
 /// Appends a text in which nothing is repeated.
-fn push_plain(written: &str, bytes: &mut Vec<u8>) -> Result<(), Problem> {
+fn push_plain(case: &mut Case<'_>, written: &str, bytes: &mut Vec<u8>) {
     let mut escape = Escape::Nothing;
     for byte in written.as_bytes() {
-        escape = push_byte(escape, *byte, bytes)?;
+        let (next, plain) = step(case, escape, *byte);
+        case.keep(plain, bytes);
+        escape = next;
     }
-    match escape {
-        Escape::Nothing => Ok(()),
-        _ => Err(Problem::Case("the end of an escape")),
+    if !matches!(escape, Escape::Nothing) {
+        case.lacks("the end of an escape");
     }
 }
 
-/// Appends what a byte is behind what was read of an escape, and gives what is read of one then.
-fn push_byte(escape: Escape, byte: u8, bytes: &mut Vec<u8>) -> Result<Escape, Problem> {
-    let plain = match (escape, byte) {
-        (Escape::Nothing, b'\\') => return Ok(Escape::Backslash),
-        (Escape::Nothing, _) => byte,
-        (Escape::Backslash, b'x') => return Ok(Escape::Hex),
-        (Escape::Backslash, b'n') => b'\n',
-        (Escape::Backslash, b'r') => b'\r',
-        (Escape::Backslash, b't') => b'\t',
-        (Escape::Backslash, b'\\') => b'\\',
-        (Escape::Backslash, _) => return Err(Problem::Case("a known escape")),
-        (Escape::Hex, _) => return Ok(Escape::HexDigit(digit(byte)?)),
-        (Escape::HexDigit(high), _) => (high << 4) | digit(byte)?,
+/// What is read of an escape behind a byte, and the byte that is there then.
+fn step(case: &mut Case<'_>, escape: Escape, byte: u8) -> (Escape, Option<u8>) {
+    let plain = match escape {
+        Escape::Nothing if byte == b'\\' => return (Escape::Backslash, None),
+        Escape::Nothing => byte,
+        Escape::Backslash if byte == b'x' => return (Escape::Hex, None),
+        Escape::Backslash => escaped(case, byte),
+        Escape::Hex => return (Escape::HexDigit(digit(case, byte)), None),
+        Escape::HexDigit(high) => (high << 4) | digit(case, byte),
     };
-    bytes.push(plain)?;
-    Ok(Escape::Nothing)
+    (Escape::Nothing, Some(plain))
+}
+
+/// The byte that one behind a `\` stands for.
+fn escaped(case: &mut Case<'_>, byte: u8) -> u8 {
+    match byte {
+        b'n' => b'\n',
+        b'r' => b'\r',
+        b't' => b'\t',
+        b's' => b' ',
+        b'\\' => b'\\',
+        other => {
+            case.lacks("a known escape");
+            other
+        }
+    }
 }
 
 /// The digit of base 16 that a byte writes.
-fn digit(byte: u8) -> Result<u8, Problem> {
-    let digit = char::from(byte).to_digit(16);
-    match digit.and_then(|digit| u8::try_from(digit).ok()) {
-        Some(digit) => Ok(digit),
-        None => Err(Problem::Case("two digits behind \\x")),
-    }
-}
-
-/// Appends bytes on one line: each that is no visible sign of ASCII as `\xff`.
-pub fn push_bytes(bytes: &[u8], out: &mut String) -> Result<(), Problem> {
-    for byte in bytes {
-        match byte {
-            b'!'..=b'~' => out.push(char::from(*byte))?,
-            _ => write!(out, "\\x{byte:02x}")?,
+fn digit(case: &mut Case<'_>, byte: u8) -> u8 {
+    match byte {
+        b'0'..=b'9' => byte - b'0',
+        b'a'..=b'f' => byte - b'a' + 10,
+        _ => {
+            case.lacks("two digits behind \\x");
+            0
         }
     }
-    Ok(())
-}
-
-/// Appends what stands between answers, in front of each but the first one, whose number is 0.
-pub fn push_between(i: usize, between: &str, out: &mut String) -> Result<(), AllocError> {
-    if i > 0 {
-        out.push_str(between)?;
-    }
-    Ok(())
 }

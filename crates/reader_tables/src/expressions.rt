@@ -1,56 +1,50 @@
 //! Texts, and the expressions that their tokens are.
 
 use crate::tokens::tokens_of;
-use pi_cases::fault::Problem;
+use pi_cases::{Case, Problem};
 use pi_expr::{ExpFault, read_exp};
 use pi_types::Exp;
 use std::alloc::{AllocError, Global};
 
-/// Appends the tree of the expression that the tokens of a case are.
-pub fn push_tree(alloc: Global, case: &str, out: &mut String) -> Result<(), Problem> {
-    match read(alloc, case) {
-        Ok(exp) => {
-            let tree = format!(in alloc; "{exp:?}")?;
-            push_shortened(alloc, tree.as_str(), out)
-        }
-        Err(fault) => push_fault(fault, out),
+/// Tells the tree of the expression that the tokens of a line are.
+pub fn tell_tree(case: &mut Case<'_>, line: &str) {
+    if let Some(exp) = read(case, line) {
+        let tree = format!(in case.alloc; "{exp:?}");
+        tell_shortened(tree, case);
     }
 }
 
-/// Appends whether the tokens of a case, whose tree may be large, are an expression.
-pub fn push_whether_read(alloc: Global, case: &str, out: &mut String) -> Result<(), Problem> {
-    match read(alloc, case) {
-        Ok(_) => Ok(out.push_str("read")?),
-        Err(fault) => push_fault(fault, out),
+/// Tells whether the tokens of a line, whose tree may be large, are an expression.
+pub fn tell_whether_read(case: &mut Case<'_>, line: &str) {
+    if read(case, line).is_some() {
+        case.tell("read");
     }
 }
 
-/// Why a case has no expression.
-#[derive(Debug, Drop)]
-enum Unread {
-    Fault(ExpFault),
-    Problem(Problem),
+/// The expression that all tokens of a line are; None where there is none, and the fault is told.
+fn read(case: &mut Case<'_>, line: &str) -> Option<Exp> {
+    let tokens = tokens_of(case, line)?;
+    match read_exp(case.alloc, &tokens, 0, tokens.len()) {
+        Ok(exp) => return Some(exp),
+        Err(ExpFault::NoExpression) => case.tell("none"),
+        Err(ExpFault::TooDeep) => case.tell("too deep"),
+        Err(ExpFault::Memory) => case.fail(Problem::Memory),
+    }
+    None
 }
 
-/// The expression that all tokens of a case are.
-fn read(alloc: Global, case: &str) -> Result<Exp, Unread> {
-    let tokens = tokens_of(alloc, case).map_err(Unread::Problem)?;
-    read_exp(alloc, &tokens, 0, tokens.len()).map_err(Unread::Fault)
-}
-
-fn push_fault(fault: Unread, out: &mut String) -> Result<(), Problem> {
-    match fault {
-        Unread::Fault(ExpFault::NoExpression) => Ok(out.push_str("none")?),
-        Unread::Fault(ExpFault::TooDeep) => Ok(out.push_str("too deep")?),
-        Unread::Fault(ExpFault::Memory) => Err(Problem::Memory(AllocError)),
-        Unread::Problem(problem) => Err(problem),
+/// Tells a tree as `Debug` writes it, with the names and texts in it as strings alone.
+pub fn tell_shortened(tree: Result<String, AllocError>, case: &mut Case<'_>) {
+    let shortened = match tree {
+        Ok(tree) => shortened(case.alloc, tree.as_str()),
+        Err(fault) => Err(fault),
+    };
+    if let Some(shortened) = case.made(shortened) {
+        case.tell(shortened.as_str());
     }
 }
 
-/// Appends a tree as `Debug` writes it, with the names and texts in it as strings alone.
-pub fn push_shortened(alloc: Global, tree: &str, out: &mut String) -> Result<(), Problem> {
+fn shortened(alloc: Global, tree: &str) -> Result<String, AllocError> {
     let opened = tree.replace(alloc, "Text { string: \"", "\"")?;
-    let shortened = opened.as_str().replace(alloc, "\" }", "\"")?;
-    out.push_str(shortened.as_str())?;
-    Ok(())
+    opened.as_str().replace(alloc, "\" }", "\"")
 }

@@ -1,52 +1,47 @@
 //! The prelude's text, and its verdict as a program.
 
-use crate::programs::push_fault;
-use pi_cases::fault::Problem;
-use pi_cases::words::{Words, words_of};
-use pi_lex::tokens;
+use crate::programs::read;
+use pi_cases::Case;
 use pi_lib::prelude;
-use pi_prog::read_program;
-use std::alloc::Global;
+use std::alloc::{AllocError, Global};
 
-/// Appends what a case asks: how many `bytes` or `lines` the text has, a `line` by its number from 1 on, or what it is
+/// Tells what a case asks: how many `bytes` or `lines` the text has, a `line` by its number from 1 on, or what it is
 /// when it is `read` as a program, with the names renamed that stand behind the word, each with the new name.
-pub fn push_answer(alloc: Global, case: &str, out: &mut String) -> Result<(), Problem> {
-    let words = words_of(alloc, case)?;
-    let mut words = Words::new(words.as_slice());
-    match words.word()? {
-        "bytes" => write!(out, "{}", prelude().len())?,
-        "lines" => write!(out, "{}", prelude().split_terminator('\n').count())?,
-        "line" => push_line(words.number()?, out)?,
-        "read" => push_verdict(alloc, &mut words, out)?,
-        _ => return Err(Problem::Case("what is asked of the prelude")),
+pub fn answer(case: &mut Case<'_>) {
+    match case.take_word() {
+        "bytes" => case.tell_count(prelude().len()),
+        "lines" => case.tell_count(prelude().split_terminator('\n').count()),
+        "line" => tell_line(case),
+        "read" => tell_verdict(case),
+        _ => case.lacks("what is asked of the prelude"),
     }
-    words.end()
 }
 
-fn push_line(number: u64, out: &mut String) -> Result<(), Problem> {
-    for (i, line) in (1..u64::MAX).zip(prelude().lines()) {
-        if i == number {
-            out.push_str(line)?;
+fn tell_line(case: &mut Case<'_>) {
+    let number = case.take_count();
+    let line = prelude().lines().nth(number.saturating_sub(1));
+    case.tell(line.unwrap_or(""));
+}
+
+fn tell_verdict(case: &mut Case<'_>) {
+    let names = case.take_rest();
+    let text = renamed(case.alloc, names);
+    if let Some(text) = case.made(text)
+        && read(case, text.as_str()).is_some()
+    {
+        case.tell("sound");
+    }
+}
+
+/// The prelude with other names for some.
+fn renamed(alloc: Global, names: &[&str]) -> Result<String, AllocError> {
+    let mut text = String::from_str(alloc, prelude())?;
+    for pair in names.chunks_exact(2) {
+        if let [name, other] = pair {
+            let name = format!(in alloc; "{name}(")?;
+            let other = format!(in alloc; "{other}(")?;
+            text = text.as_str().replace(alloc, name.as_str(), other.as_str())?;
         }
     }
-    Ok(())
-}
-
-fn push_verdict(alloc: Global, words: &mut Words<'_>, out: &mut String) -> Result<(), Problem> {
-    let mut text = String::from_str(alloc, prelude())?;
-    for _ in 0..words.left() {
-        let Some(name) = words.next() else {
-            break;
-        };
-        let name = format!(in alloc; "{name}(")?;
-        let other = format!(in alloc; "{}(", words.word()?)?;
-        text = text.as_str().replace(alloc, name.as_str(), other.as_str())?;
-    }
-    let Ok(tokens) = tokens(alloc, text.as_str().as_bytes()) else {
-        return Err(Problem::Case("names that leave tokens"));
-    };
-    match read_program(alloc, &tokens) {
-        Ok(_) => Ok(out.push_str("sound")?),
-        Err(fault) => push_fault(&fault, out),
-    }
+    Ok(text)
 }

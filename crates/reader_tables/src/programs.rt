@@ -1,76 +1,76 @@
 //! Programs and goals, and their first faults or what they are.
 
-use crate::expressions::push_shortened;
+use crate::expressions::tell_shortened;
 use crate::tokens::tokens_of;
-use pi_cases::fault::Problem;
-use pi_cases::written::push_between;
+use pi_cases::{Case, Problem};
 use pi_prog::{ProgFault, read_goal, read_program};
 use pi_types::{Clause, Decl, Part, Program};
-use std::alloc::{AllocError, Global};
 
 /// What stands between a program and a goal that is asked of it.
 const ASKED: &str = " ⊢ ";
 
-/// Appends the first fault of the program that a case is.
-pub fn push_verdict(alloc: Global, case: &str, out: &mut String) -> Result<(), Problem> {
-    let tokens = tokens_of(alloc, case)?;
-    match read_program(alloc, &tokens) {
-        Ok(_) => Ok(out.push_str("sound")?),
-        Err(fault) => push_fault(&fault, out),
+/// Tells the first fault of the program that a line is.
+pub fn tell_verdict(case: &mut Case<'_>, line: &str) {
+    if read(case, line).is_some() {
+        case.tell("sound");
     }
 }
 
-/// Appends the first fault of a goal, asked of the program that stands before it; without one, of the empty program.
-pub fn push_goal_verdict(alloc: Global, case: &str, out: &mut String) -> Result<(), Problem> {
-    let (program, goal) = match case.split_once(ASKED) {
-        Some((program, goal)) => (program, goal),
-        None => ("", case),
-    };
-    let tokens = tokens_of(alloc, program)?;
-    let Ok(program) = read_program(alloc, &tokens) else {
-        return Err(Problem::Case("a program without a fault"));
-    };
-    let tokens = tokens_of(alloc, goal)?;
-    match read_goal(alloc, &tokens, &program) {
-        Ok(_) => Ok(out.push_str("sound")?),
-        Err(fault) => push_fault(&fault, out),
+/// Tells the first fault of a goal, asked of the program that stands before it; without one, of the empty program.
+pub fn tell_goal_verdict(case: &mut Case<'_>, line: &str) {
+    let (program, goal) = line.split_once(ASKED).unwrap_or(("", line));
+    if let Some(program) = read(case, program) {
+        ask(case, &program, goal);
     }
 }
 
-/// Appends what each part of a program is, or its first fault.
-pub fn push_parts(alloc: Global, case: &str, out: &mut String) -> Result<(), Problem> {
-    let tokens = tokens_of(alloc, case)?;
-    match read_program(alloc, &tokens) {
-        Ok(program) => push_kinds(&program, out),
-        Err(fault) => push_fault(&fault, out),
+fn ask(case: &mut Case<'_>, program: &Program, goal: &str) {
+    if let Some(tokens) = tokens_of(case, goal) {
+        match read_goal(case.alloc, &tokens, program) {
+            Ok(_) => case.tell("sound"),
+            Err(fault) => tell_fault(&fault, case),
+        }
     }
 }
 
-/// Appends the trees of a program's parts.
-pub fn push_trees(alloc: Global, case: &str, out: &mut String) -> Result<(), Problem> {
-    let tokens = tokens_of(alloc, case)?;
-    let program = match read_program(alloc, &tokens) {
-        Ok(program) => program,
-        Err(fault) => return push_fault(&fault, out),
-    };
-    for (i, part) in program.parts.as_slice().iter().enumerate() {
-        push_between(i, " ", out)?;
-        let tree = format!(in alloc; "{part:?}")?;
-        push_shortened(alloc, tree.as_str(), out)?;
+/// Tells what each part of a program is, or its first fault.
+pub fn tell_parts(case: &mut Case<'_>, line: &str) {
+    if let Some(program) = read(case, line) {
+        tell_kinds(program.parts.as_slice(), case);
     }
-    Ok(())
 }
 
-fn push_kinds(program: &Program, out: &mut String) -> Result<(), Problem> {
-    let parts = program.parts.as_slice();
+/// Tells the trees of a program's parts.
+pub fn tell_trees(case: &mut Case<'_>, line: &str) {
+    if let Some(program) = read(case, line) {
+        for (i, part) in program.parts.as_slice().iter().enumerate() {
+            case.tell_between(i, " ");
+            let tree = format!(in case.alloc; "{part:?}");
+            tell_shortened(tree, case);
+        }
+    }
+}
+
+/// The program that a text is; None where it is none, and its first fault is told.
+pub fn read(case: &mut Case<'_>, text: &str) -> Option<Program> {
+    let tokens = tokens_of(case, text)?;
+    match read_program(case.alloc, &tokens) {
+        Ok(program) => Some(program),
+        Err(fault) => {
+            tell_fault(&fault, case);
+            None
+        }
+    }
+}
+
+fn tell_kinds(parts: &[Part], case: &mut Case<'_>) {
     if parts.is_empty() {
-        out.push_str("no part")?;
+        case.tell("no part");
     }
     for (i, part) in parts.iter().enumerate() {
-        push_between(i, " ", out)?;
-        out.push_str(kind(part))?;
+        case.tell_between(i, " ");
+        case.tell(kind(part));
     }
-    Ok(())
 }
 
 fn kind(part: &Part) -> &'static str {
@@ -83,26 +83,37 @@ fn kind(part: &Part) -> &'static str {
     }
 }
 
-/// Appends a fault, as the program picatq tells it.
-pub fn push_fault(fault: &ProgFault, out: &mut String) -> Result<(), Problem> {
+/// Tells a fault, as the program picatq tells it.
+fn tell_fault(fault: &ProgFault, case: &mut Case<'_>) {
     match fault {
-        ProgFault::BadClause { number } => write!(out, "BadClause {number}")?,
-        ProgFault::TooDeep { number } => write!(out, "TooDeep {number}")?,
-        ProgFault::BadDeclaration { number } => write!(out, "BadDeclaration {number}")?,
-        ProgFault::TooManyVariables { number } => write!(out, "TooManyVariables {number}")?,
+        ProgFault::BadClause { number } => tell_numbered("BadClause ", *number, case),
+        ProgFault::TooDeep { number } => tell_numbered("TooDeep ", *number, case),
+        ProgFault::BadDeclaration { number } => tell_numbered("BadDeclaration ", *number, case),
+        ProgFault::TooManyVariables { number } => tell_numbered("TooManyVariables ", *number, case),
         ProgFault::UnknownName {
             name,
             arity,
             number,
         } => {
-            let name = name.as_str();
-            write!(out, "UnknownName {name}/{arity} in {number}")?;
+            tell_named("UnknownName ", name.as_str(), *arity, case);
+            tell_numbered(" in ", *number, case);
         }
         ProgFault::Scattered { name, arity } => {
-            let name = name.as_str();
-            write!(out, "Scattered {name}/{arity}")?;
+            tell_named("Scattered ", name.as_str(), *arity, case);
         }
-        ProgFault::Memory => return Err(Problem::Memory(AllocError)),
+        ProgFault::Memory => case.fail(Problem::Memory),
     }
-    Ok(())
+}
+
+/// Tells what a part is, and its number.
+fn tell_numbered(what: &str, number: u64, case: &mut Case<'_>) {
+    case.tell(what);
+    case.tell_number(number);
+}
+
+/// Tells what a name is, the name and the number of its arguments.
+fn tell_named(what: &str, name: &str, arity: u32, case: &mut Case<'_>) {
+    case.tell(what);
+    case.tell(name);
+    tell_numbered("/", u64::from(arity), case);
 }

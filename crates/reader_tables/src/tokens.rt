@@ -1,79 +1,83 @@
 //! Texts, and their tokens or their first fault.
 
-use pi_cases::fault::Problem;
-use pi_cases::nodes::push_character;
-use pi_cases::written::{bytes_of, push_between};
+use pi_cases::{Case, Problem, bytes_of};
 use pi_lex::{LexFault, TokenKind, Tokens, tokens};
-use std::alloc::{AllocError, Global};
 
-/// Appends the tokens of the text that a case is, each behind a space: a variable, a reserved word, an integer or a
+/// Tells the tokens of the text that a line is, each behind a space: a variable, a reserved word, an integer or a
 /// sign as it is, an atom and a string in quotes, an end point as `<end>`, and behind one that isn't on line 1 its line.
-pub fn push_answer(alloc: Global, case: &str, out: &mut String) -> Result<(), Problem> {
-    let text = bytes_of(alloc, case)?;
-    match tokens(alloc, text.as_slice()) {
-        Ok(tokens) => push_tokens(&tokens, out),
-        Err(fault) => push_fault(fault, out),
+pub fn answer(case: &mut Case<'_>, line: &str) {
+    if let Some(tokens) = tokens_of(case, line) {
+        tell_tokens(&tokens, case);
     }
 }
 
-/// The tokens of a text that a case writes, which is to have tokens.
-pub fn tokens_of(alloc: Global, written: &str) -> Result<Tokens, Problem> {
-    let text = bytes_of(alloc, written)?;
-    match tokens(alloc, text.as_slice()) {
-        Ok(tokens) => Ok(tokens),
-        Err(LexFault::Memory) => Err(Problem::Memory(AllocError)),
-        Err(_) => Err(Problem::Case("a text that has tokens")),
+/// The tokens of a text that a case writes; None where it has none, and its fault is told.
+pub fn tokens_of(case: &mut Case<'_>, written: &str) -> Option<Tokens> {
+    let text = bytes_of(case, written);
+    match tokens(case.alloc, text.as_slice()) {
+        Ok(tokens) => Some(tokens),
+        Err(fault) => {
+            tell_fault(fault, case);
+            None
+        }
     }
 }
 
-fn push_tokens(tokens: &Tokens, out: &mut String) -> Result<(), Problem> {
+fn tell_tokens(tokens: &Tokens, case: &mut Case<'_>) {
     if tokens.is_empty() {
-        out.push_str("no token")?;
+        case.tell("no token");
     }
     for i in 0..tokens.len() {
-        push_between(i, " ", out)?;
-        push_kind(tokens.kind(i), out)?;
-        let line = tokens.line(i);
-        if line != 1 {
-            write!(out, "@{line}")?;
-        }
+        case.tell_between(i, " ");
+        tell_kind(tokens.kind(i), case);
+        tell_line(tokens.line(i), case);
     }
-    Ok(())
 }
 
-fn push_kind(kind: TokenKind<'_>, out: &mut String) -> Result<(), Problem> {
+fn tell_kind(kind: TokenKind<'_>, case: &mut Case<'_>) {
     match kind {
-        TokenKind::Var(text) | TokenKind::Word(text) | TokenKind::Sign(text) => {
-            out.push_str(text)?;
-        }
-        TokenKind::Atom(text) => push_quoted('\'', text, out)?,
-        TokenKind::Str(text) => push_quoted('"', text, out)?,
-        TokenKind::Int(value) => write!(out, "{value}")?,
-        TokenKind::End => out.push_str("<end>")?,
+        TokenKind::Var(text) => case.tell(text),
+        TokenKind::Word(text) => case.tell(text),
+        TokenKind::Sign(text) => case.tell(text),
+        TokenKind::Atom(text) => tell_quoted('\'', text, case),
+        TokenKind::Str(text) => tell_quoted('"', text, case),
+        TokenKind::Int(value) => case.tell_integer(value),
+        TokenKind::End => case.tell("<end>"),
     }
-    Ok(())
 }
 
-/// Appends a text in quotes, with each quote in it escaped.
-fn push_quoted(quote: char, text: &str, out: &mut String) -> Result<(), Problem> {
-    out.push(quote)?;
+/// Tells a line that isn't the first one.
+fn tell_line(line: u64, case: &mut Case<'_>) {
+    if line != 1 {
+        case.tell("@");
+        case.tell_number(line);
+    }
+}
+
+/// Tells a text in quotes, with each quote in it escaped.
+fn tell_quoted(quote: char, text: &str, case: &mut Case<'_>) {
+    case.tell_character(quote);
     for c in text.chars() {
         if c == '\'' || c == '"' {
-            out.push('\\')?;
+            case.tell_character('\\');
         }
-        push_character(c, out)?;
+        case.tell_escaped_character(c);
     }
-    out.push(quote)?;
-    Ok(())
+    case.tell_character(quote);
 }
 
-fn push_fault(fault: LexFault, out: &mut String) -> Result<(), Problem> {
+fn tell_fault(fault: LexFault, case: &mut Case<'_>) {
     match fault {
-        LexFault::TooLong => out.push_str("too long")?,
-        LexFault::NotUtf8 { at } => write!(out, "not UTF-8 at byte {at}")?,
-        LexFault::BadToken { line } => write!(out, "bad token on line {line}")?,
-        LexFault::WideInteger { line } => write!(out, "wide integer on line {line}")?,
-        LexFault::Memory => return Err(Problem::Memory(AllocError)),
+        LexFault::TooLong => case.tell("too long"),
+        LexFault::NotUtf8 { at } => tell_at("not UTF-8 at byte ", at as u64, case),
+        LexFault::BadToken { line } => tell_at("bad token on line ", line, case),
+        LexFault::WideInteger { line } => tell_at("wide integer on line ", line, case),
+        LexFault::Memory => case.fail(Problem::Memory),
     }
-    Ok(())
+}
+
+/// Tells what is somewhere, and where.
+fn tell_at(what: &str, place: u64, case: &mut Case<'_>) {
+    case.tell(what);
+    case.tell_number(place);
 }

@@ -1,40 +1,48 @@
 //! Expressions in words in prefix order: `p/2 X -1`, where a name that begins with a capital or `_` is a variable, and
 //! `,/2` puts goals one after another.
 
-use pi_cases::fault::Problem;
-use pi_cases::nodes::{Node, node_of, one, several};
-use pi_cases::patterns::text_of;
+use pi_cases::{Case, Node, node_of};
 use pi_types::{Exp, Text};
-use std::alloc::Global;
 
 /// The expression that words are.
-pub fn expression_of(alloc: Global, words: &[&str]) -> Result<Exp, Problem> {
-    let mut built = Vec::new(alloc);
+pub fn expression_of(case: &mut Case<'_>, words: &[&str]) -> Option<Exp> {
+    let mut built = Vec::new(case.alloc);
     for word in words.iter().rev() {
-        let made = expression_over(alloc, word, &mut built)?;
-        built.push(made)?;
+        let made = expression_over(case, word, &mut built);
+        case.keep(made, &mut built);
     }
-    let expression = one(&mut built)?;
-    if built.is_empty() {
-        Ok(expression)
-    } else {
-        Err(Problem::Case("one expression alone"))
+    let expression = case.one(&mut built);
+    if !built.is_empty() {
+        case.lacks("one expression alone");
     }
+    expression
 }
 
 /// The expression that begins with this word, over the newest ones of a stack.
-fn expression_over(alloc: Global, word: &str, built: &mut Vec<Exp>) -> Result<Exp, Problem> {
-    if word.starts_with(|c: char| c == '_' || c.is_ascii_uppercase()) {
-        return Ok(Exp::Var(Text::new(alloc, word)?));
+fn expression_over(case: &mut Case<'_>, word: &str, built: &mut Vec<Exp>) -> Option<Exp> {
+    if is_variable(word) {
+        let name = Text::new(case.alloc, word);
+        return Some(Exp::Var(case.made(name)?));
     }
     match node_of(word) {
-        Node::Int(n) => Ok(Exp::Int(n)),
-        Node::Atom(name) => Ok(Exp::Atom(text_of(alloc, name)?)),
-        Node::Comp(",", count) => Ok(Exp::And(several(alloc, built, count)?)),
+        Node::Int(n) => Some(Exp::Int(n)),
+        Node::Atom(name) => Some(Exp::Atom(case.text_of(name)?)),
+        Node::Comp(",", count) => Some(Exp::And(case.several(built, count))),
         Node::Comp(name, count) => {
-            let args = several(alloc, built, count)?;
-            Ok(Exp::Call(text_of(alloc, name)?, args))
+            let name = case.text_of(name)?;
+            Some(Exp::Call(name, case.several(built, count)))
         }
-        _ => Err(Problem::Case("an expression in place of a word")),
+        _ => {
+            case.lacks("an expression in place of a word");
+            None
+        }
+    }
+}
+
+/// Whether a word is a variable.
+fn is_variable(word: &str) -> bool {
+    match word.chars().next() {
+        Some(first) => first == '_' || first.is_ascii_uppercase(),
+        None => false,
     }
 }

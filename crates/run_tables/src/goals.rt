@@ -3,37 +3,41 @@
 ghost use Rattle.std.specs.Prelude.{◌≡◌};
 ghost use Rattle.pi_core.specs.GoalTree.{child_goals};
 
-use pi_cases::fault::Problem;
-use pi_cases::nodes::{Node, name_of, node_of, one, push_name, several};
-use pi_cases::terms::{push_term, term_over};
-use pi_cases::words::{Words, slot_of, words_of};
-use pi_cases::written::push_between;
-use pi_types::{CoreGoal, GoalNode, Term};
-use std::alloc::Global;
+use pi_cases::{Case, Node, node_of, push_term};
+use pi_types::{CoreGoal, GoalNode, Term, Text};
 
-/// Appends what a goal shows: how many nodes it has, the nodes of its child goals, and what stands at each node; `copy`
+/// Tells what a goal shows: how many nodes it has, the nodes of its child goals, and what stands at each node; `copy`
 /// asks it of another goal of the same tree.
-pub fn push_answer(alloc: Global, case: &str, out: &mut String) -> Result<(), Problem> {
-    let words = words_of(alloc, case)?;
-    let mut words = Words::new(words.as_slice());
-    let asked = words.word()?;
-    let goal = goal_of(alloc, words.rest())?;
-    match asked {
-        "show" => push_shown(&goal, out),
-        "copy" => push_shown(&goal.copy(alloc)?, out),
-        _ => Err(Problem::Case("what is asked of a goal")),
+pub fn answer(case: &mut Case<'_>) {
+    let is_copied = case.skip("copy");
+    if !is_copied {
+        case.expect("show");
+    }
+    let words = case.take_rest();
+    let Some(goal) = goal_of(case, words) else {
+        return;
+    };
+    if is_copied {
+        let copy = goal.copy(case.alloc);
+        if let Some(copy) = case.made(copy) {
+            tell_shown(&copy, case);
+        }
+    } else {
+        tell_shown(&goal, case);
     }
 }
 
-fn push_shown(goal: &CoreGoal, out: &mut String) -> Result<(), Problem> {
-    write!(out, "{} nodes, children", goal.nodes())?;
+fn tell_shown(goal: &CoreGoal, case: &mut Case<'_>) {
+    case.tell_count(goal.nodes());
+    case.tell(" nodes, children");
     if goal.nodes() > 0 {
         for k in 0..child_goals(goal.node(0)) {
-            write!(out, " {}", goal.child(0, k))?;
+            case.tell(" ");
+            case.tell_count(goal.child(0, k));
         }
     }
-    out.push_str(": ")?;
-    push_goal(goal, out)
+    case.tell(": ");
+    tell_goal(goal, case);
 }
 
 /// How many child goals stand below a node.
@@ -60,194 +64,196 @@ fn child_goals(node: GoalNode<'_>) -> usize
 /// Goals and terms that wait for what stands before them.
 #[derive(Drop)]
 struct Built {
-    alloc: Global,
     goals: Vec<CoreGoal>,
     terms: Vec<Term>,
 }
 
 /// The goal that words are.
-pub fn goal_of(alloc: Global, words: &[&str]) -> Result<CoreGoal, Problem> {
+pub fn goal_of(case: &mut Case<'_>, words: &[&str]) -> Option<CoreGoal> {
     let mut built = Built {
-        alloc,
-        goals: Vec::new(alloc),
-        terms: Vec::new(alloc),
+        goals: Vec::new(case.alloc),
+        terms: Vec::new(case.alloc),
     };
     for word in words.iter().rev() {
-        built.push(word)?;
+        built.push(case, word);
     }
-    let Built {
-        mut goals,
-        terms,
-        ..
-    } = built;
-    let goal = one(&mut goals)?;
-    if goals.is_empty() && terms.is_empty() {
-        Ok(goal)
-    } else {
-        Err(Problem::Case("one goal alone"))
+    let goal = case.one(&mut built.goals);
+    if !built.goals.is_empty() || !built.terms.is_empty() {
+        case.lacks("one goal alone");
     }
+    goal
 }
 
 impl Built {
     /// Puts the goal or the term that begins with this word in the place of what belongs to it.
-    fn push(&mut self, word: &str) -> Result<(), Problem> {
-        let (kind, more) = match word.split_once(':') {
-            Some((kind, more)) => (kind, more),
-            None => (word, ""),
-        };
+    fn push(&mut self, case: &mut Case<'_>, word: &str) {
+        let alloc = case.alloc;
+        let (kind, more) = word.split_once(':').unwrap_or((word, ""));
         let made = match kind {
-            "CALL" => self.call(more)?,
-            "APPLY" => self.apply(more)?,
-            "COLLECT" => self.collect(more)?,
-            "COUNT" => {
-                let goal = one(&mut self.goals)?;
-                CoreGoal::count(self.alloc, goal, slot_of(more)?)?
-            }
-            _ => match self.plain(word)? {
-                Some(goal) => goal,
-                None => return self.push_term(word),
-            },
+            "CALL" => self.call(case, more),
+            "IS" => self.call(case, "=/2"),
+            "THROW" => self.call(case, "throw/1"),
+            "APPLY" => self.apply(case, more),
+            "COLLECT" => self.collect(case, more),
+            "COUNT" => self.count(case, more),
+            "TRUE" => case.made(CoreGoal::truth(alloc)),
+            "FAIL" => case.made(CoreGoal::fail(alloc)),
+            "TICK" => case.made(CoreGoal::tick(alloc)),
+            "NOT" => self.not(case),
+            "ONCE" => self.once(case),
+            "IF" => self.condition(case),
+            "CATCH" => self.catch(case),
+            _ => return self.push_several(case, word),
         };
-        self.goals.push(made)?;
-        Ok(())
+        case.keep(made, &mut self.goals);
     }
 
-    fn push_term(&mut self, word: &str) -> Result<(), Problem> {
-        let made = term_over(self.alloc, word, &mut self.terms)?;
-        self.terms.push(made)?;
-        Ok(())
-    }
-
-    /// The goal that begins with a word without slots; None where it begins a term.
-    fn plain(&mut self, word: &str) -> Result<Option<CoreGoal>, Problem> {
-        let alloc = self.alloc;
-        let made = match word {
-            "TRUE" => CoreGoal::truth(alloc)?,
-            "FAIL" => CoreGoal::fail(alloc)?,
-            "TICK" => CoreGoal::tick(alloc)?,
-            "IS" => self.call("=/2")?,
-            "THROW" => self.call("throw/1")?,
-            "NOT" => CoreGoal::not(alloc, one(&mut self.goals)?)?,
-            "ONCE" => CoreGoal::once(alloc, one(&mut self.goals)?)?,
-            "IF" => self.condition()?,
-            "CATCH" => self.catch()?,
-            _ => return self.several(word),
-        };
-        Ok(Some(made))
-    }
-
-    /// A sequence or alternatives.
-    fn several(&mut self, word: &str) -> Result<Option<CoreGoal>, Problem> {
-        let alloc = self.alloc;
-        match node_of(word) {
+    /// Puts a sequence or alternatives, or else a term.
+    fn push_several(&mut self, case: &mut Case<'_>, word: &str) {
+        let made = match node_of(word) {
             Node::Comp("ALL", count) => {
-                let goals = several(alloc, &mut self.goals, count)?;
-                Ok(Some(CoreGoal::seq(alloc, goals.as_slice())?))
+                let goals = case.several(&mut self.goals, count);
+                CoreGoal::seq(case.alloc, goals.as_slice())
             }
             Node::Comp("ANY", count) => {
-                let goals = several(alloc, &mut self.goals, count)?;
-                Ok(Some(CoreGoal::alt(alloc, goals.as_slice())?))
+                let goals = case.several(&mut self.goals, count);
+                CoreGoal::alt(case.alloc, goals.as_slice())
             }
-            _ => Ok(None),
-        }
-    }
-
-    fn condition(&mut self) -> Result<CoreGoal, Problem> {
-        let test = one(&mut self.goals)?;
-        let then = one(&mut self.goals)?;
-        let other = one(&mut self.goals)?;
-        Ok(CoreGoal::if_else(self.alloc, test, then, other)?)
-    }
-
-    fn catch(&mut self) -> Result<CoreGoal, Problem> {
-        let ball = one(&mut self.terms)?;
-        let goal = one(&mut self.goals)?;
-        let handler = one(&mut self.goals)?;
-        Ok(CoreGoal::catch(self.alloc, goal, &ball, handler)?)
-    }
-
-    /// A call, `p/1`.
-    fn call(&mut self, called: &str) -> Result<CoreGoal, Problem> {
-        let (name, args) = self.called(called)?;
-        Ok(CoreGoal::call(self.alloc, name.as_str(), args.as_slice())?)
-    }
-
-    /// A call whose value goes into a slot, `3:f/1`.
-    fn apply(&mut self, more: &str) -> Result<CoreGoal, Problem> {
-        let (slot, called) = parted(more)?;
-        let (name, args) = self.called(called)?;
-        let slot = slot_of(slot)?;
-        Ok(CoreGoal::apply(self.alloc, name.as_str(), args.as_slice(), slot)?)
-    }
-
-    fn called(&mut self, called: &str) -> Result<(String, Vec<Term>), Problem> {
-        let Node::Comp(name, count) = node_of(called) else {
-            return Err(Problem::Case("the name and the number of the arguments of a call"));
+            _ => return push_term(case, word, &mut self.terms),
         };
-        let args = several(self.alloc, &mut self.terms, count)?;
-        Ok((name_of(self.alloc, name)?, args))
+        let made = case.made(made);
+        case.keep(made, &mut self.goals);
+    }
+
+    fn not(&mut self, case: &mut Case<'_>) -> Option<CoreGoal> {
+        let goal = case.one(&mut self.goals)?;
+        let made = CoreGoal::not(case.alloc, goal);
+        case.made(made)
+    }
+
+    fn once(&mut self, case: &mut Case<'_>) -> Option<CoreGoal> {
+        let goal = case.one(&mut self.goals)?;
+        let made = CoreGoal::once(case.alloc, goal);
+        case.made(made)
+    }
+
+    fn condition(&mut self, case: &mut Case<'_>) -> Option<CoreGoal> {
+        let test = case.one(&mut self.goals)?;
+        let then = case.one(&mut self.goals)?;
+        let other = case.one(&mut self.goals)?;
+        let made = CoreGoal::if_else(case.alloc, test, then, other);
+        case.made(made)
+    }
+
+    fn catch(&mut self, case: &mut Case<'_>) -> Option<CoreGoal> {
+        let ball = case.one(&mut self.terms)?;
+        let goal = case.one(&mut self.goals)?;
+        let handler = case.one(&mut self.goals)?;
+        let made = CoreGoal::catch(case.alloc, goal, &ball, handler);
+        case.made(made)
+    }
+
+    /// The slot that takes the number, `0`.
+    fn count(&mut self, case: &mut Case<'_>, into: &str) -> Option<CoreGoal> {
+        let into = case.slot_of(into);
+        let goal = case.one(&mut self.goals)?;
+        let made = CoreGoal::count(case.alloc, goal, into);
+        case.made(made)
     }
 
     /// The slot that is collected and the one that takes the list, `0:1`.
-    fn collect(&mut self, more: &str) -> Result<CoreGoal, Problem> {
-        let (value, into) = parted(more)?;
-        let goal = one(&mut self.goals)?;
-        let (value, into) = (slot_of(value)?, slot_of(into)?);
-        Ok(CoreGoal::collect(self.alloc, goal, value, into)?)
+    fn collect(&mut self, case: &mut Case<'_>, more: &str) -> Option<CoreGoal> {
+        let (value, into) = more.split_once(':').unwrap_or((more, ""));
+        let value = case.slot_of(value);
+        let into = case.slot_of(into);
+        let goal = case.one(&mut self.goals)?;
+        let made = CoreGoal::collect(case.alloc, goal, value, into);
+        case.made(made)
+    }
+
+    /// A call, `p/1`.
+    fn call(&mut self, case: &mut Case<'_>, called: &str) -> Option<CoreGoal> {
+        let (name, args) = self.called(case, called)?;
+        let made = CoreGoal::call(case.alloc, name.as_str(), args.as_slice());
+        case.made(made)
+    }
+
+    /// A call whose value goes into a slot, `3:f/1`.
+    fn apply(&mut self, case: &mut Case<'_>, more: &str) -> Option<CoreGoal> {
+        let (slot, called) = more.split_once(':').unwrap_or(("", more));
+        let slot = case.slot_of(slot);
+        let (name, args) = self.called(case, called)?;
+        let made = CoreGoal::apply(case.alloc, name.as_str(), args.as_slice(), slot);
+        case.made(made)
+    }
+
+    /// The name and the arguments of what is called.
+    fn called(&mut self, case: &mut Case<'_>, called: &str) -> Option<(Text, Vec<Term>)> {
+        let (name, count) = named(case, called);
+        let args = case.several(&mut self.terms, count);
+        Some((case.text_of(name)?, args))
     }
 }
 
-/// What stands before and behind a colon.
-fn parted(word: &str) -> Result<(&str, &str), Problem> {
-    word.split_once(':')
-        .ok_or(Problem::Case("a colon in a word"))
+/// The name and the number of the arguments of what is called.
+fn named<'a>(case: &mut Case<'_>, called: &'a str) -> (&'a str, usize) {
+    match node_of(called) {
+        Node::Comp(name, count) => (name, count),
+        _ => {
+            case.lacks("the name and the number of the arguments of a call");
+            ("", 0)
+        }
+    }
 }
 
-/// Appends a goal in words.
-pub fn push_goal(goal: &CoreGoal, out: &mut String) -> Result<(), Problem> {
+/// Tells a goal in words.
+pub fn tell_goal(goal: &CoreGoal, case: &mut Case<'_>) {
     for i in 0..goal.nodes() {
-        push_between(i, " ", out)?;
-        push_node(goal.node(i), out)?;
+        case.tell_between(i, " ");
+        tell_node(goal.node(i), case);
     }
-    Ok(())
 }
 
-/// Appends the words of a node, with the terms that belong to it.
-fn push_node(node: GoalNode<'_>, out: &mut String) -> Result<(), Problem> {
+/// Tells the words of a node, with the terms that belong to it.
+fn tell_node(node: GoalNode<'_>, case: &mut Case<'_>) {
     match node {
-        GoalNode::True => out.push_str("TRUE")?,
-        GoalNode::Fail => out.push_str("FAIL")?,
-        GoalNode::Tick => out.push_str("TICK")?,
-        GoalNode::Call(name, args) => {
-            out.push_str("CALL:")?;
-            push_called(name.as_str(), args.as_slice(), out)?;
-        }
+        GoalNode::True => case.tell("TRUE"),
+        GoalNode::Fail => case.tell("FAIL"),
+        GoalNode::Tick => case.tell("TICK"),
+        GoalNode::Call(name, args) => tell_call("CALL:", name.as_str(), args.as_slice(), case),
         GoalNode::Apply(name, args, slot) => {
-            write!(out, "APPLY:{slot}:")?;
-            push_called(name.as_str(), args.as_slice(), out)?;
+            tell_slot("APPLY:", slot, case);
+            tell_call(":", name.as_str(), args.as_slice(), case);
         }
-        GoalNode::Seq(count) => write!(out, "ALL/{count}")?,
-        GoalNode::Alt(count) => write!(out, "ANY/{count}")?,
-        GoalNode::If => out.push_str("IF")?,
-        GoalNode::Not => out.push_str("NOT")?,
-        GoalNode::Once => out.push_str("ONCE")?,
-        GoalNode::Collect(value, into) => write!(out, "COLLECT:{value}:{into}")?,
-        GoalNode::Count(into) => write!(out, "COUNT:{into}")?,
+        GoalNode::Seq(count) => case.tell_called("ALL", count),
+        GoalNode::Alt(count) => case.tell_called("ANY", count),
+        GoalNode::If => case.tell("IF"),
+        GoalNode::Not => case.tell("NOT"),
+        GoalNode::Once => case.tell("ONCE"),
+        GoalNode::Collect(value, into) => {
+            tell_slot("COLLECT:", value, case);
+            tell_slot(":", into, case);
+        }
+        GoalNode::Count(into) => tell_slot("COUNT:", into, case),
         GoalNode::Catch(ball) => {
-            out.push_str("CATCH ")?;
-            push_term(ball, out)?;
+            case.tell("CATCH ");
+            case.tell_term(ball);
         }
     }
-    Ok(())
 }
 
-/// Appends the name, the number of the arguments and the arguments of a call.
-fn push_called(name: &str, args: &[Term], out: &mut String) -> Result<(), Problem> {
-    push_name(name, out)?;
-    write!(out, "/{}", args.len())?;
+/// Tells the number of a slot behind something.
+fn tell_slot(before: &str, slot: u32, case: &mut Case<'_>) {
+    case.tell(before);
+    case.tell_number(u64::from(slot));
+}
+
+/// Tells the name, the number of the arguments and the arguments of a call behind something.
+fn tell_call(before: &str, name: &str, args: &[Term], case: &mut Case<'_>) {
+    case.tell(before);
+    case.tell_called(name, args.len());
     for arg in args {
-        out.push(' ')?;
-        push_term(arg, out)?;
+        case.tell(" ");
+        case.tell_term(arg);
     }
-    Ok(())
 }

@@ -2,107 +2,120 @@
 //! `goal BODY`.
 
 use crate::expressions::expression_of;
-use crate::goals::push_goal;
-use pi_cases::fault::Problem;
-use pi_cases::patterns::push_flat;
-use pi_cases::words::{Words, words_of};
-use pi_cases::written::push_between;
+use crate::goals::tell_goal;
+use pi_cases::{Case, Problem, tell_flat};
 use pi_rewrite::{LowerFault, lower, lower_goal};
 use pi_types::{
-    Clause, CoreClause, CorePred, CorePreds, CoreProgram, Decl, Goal, Part, Parts, Program,
+    Clause, CoreClause, CorePred, CorePreds, CoreProgram, CoreQuery, Decl, Goal, Part, Parts,
+    Program,
 };
-use std::alloc::{AllocError, Global};
 
-/// Appends what a program or a goal is in the core language.
-pub fn push_answer(alloc: Global, case: &str, out: &mut String) -> Result<(), Problem> {
-    let words = words_of(alloc, case)?;
-    let mut words = Words::new(words.as_slice());
-    match words.word()? {
-        "program" => push_program(alloc, words, out),
-        "goal" => push_query(alloc, words, out),
-        _ => Err(Problem::Case("a program or a goal")),
+/// Tells what a program or a goal is in the core language.
+pub fn answer(case: &mut Case<'_>) {
+    match case.take_word() {
+        "program" => tell_program(case),
+        "goal" => tell_query(case),
+        _ => case.lacks("a program or a goal"),
     }
 }
 
-fn push_program(alloc: Global, mut words: Words<'_>, out: &mut String) -> Result<(), Problem> {
-    let mut parts = Parts::new(alloc);
-    for _ in 0..words.left() {
-        if words.left() > 0 {
-            parts.push(rule_of(alloc, words.until(";"))?)?;
+fn tell_program(case: &mut Case<'_>) {
+    let mut parts = Parts::new(case.alloc);
+    for _ in 0..case.steps() {
+        if let Some(rule) = take_rule(case) {
+            let added = parts.push(rule);
+            case.done(added);
         }
+        case.take_step_end();
     }
-    let core = lower(alloc, &Program { parts }).map_err(problem_of)?;
-    for (i, pred) in core.preds.as_slice().iter().enumerate() {
-        push_between(i, " ; ", out)?;
-        push_pred(pred, out)?;
+    match lower(case.alloc, &Program { parts }) {
+        Ok(core) => tell_preds(core.preds.as_slice(), case),
+        Err(fault) => tell_fault(fault, case),
     }
-    Ok(())
 }
 
-/// The part that is a rule in words.
-fn rule_of(alloc: Global, mut words: Words<'_>) -> Result<Part, Problem> {
-    let is_arrow = |word: &&str| *word == "=>" || *word == "?=>";
-    let Some(place) = words.rest().iter().position(is_arrow) else {
-        return Err(Problem::Case("an arrow in a rule"));
-    };
-    let head = expression_of(alloc, words.taken(place)?)?;
-    let back = words.word()? == "?=>";
-    let body = expression_of(alloc, words.rest())?;
-    Ok(Part {
+/// Takes the part that is a rule in words.
+fn take_rule(case: &mut Case<'_>) -> Option<Part> {
+    let back = case.finds("?=>");
+    let head = case.take_until(if back { "?=>" } else { "=>" });
+    let body = case.take_rest();
+    let head = expression_of(case, head)?;
+    let body = expression_of(case, body)?;
+    Some(Part {
         decl: Decl::Plain,
         clause: Some(Clause::Rule {
             head,
             cond: None,
-            events: Vec::new(alloc),
+            events: Vec::new(case.alloc),
             back,
             body,
         }),
     })
 }
 
-/// Appends a predicate: its name and the number of its arguments, and its clauses.
-fn push_pred(pred: &CorePred, out: &mut String) -> Result<(), Problem> {
-    write!(out, "{}/{}:", pred.name.as_str(), pred.arity)?;
-    for clause in pred.clauses.as_slice() {
-        push_clause(clause, out)?;
+/// Tells predicates: their names, the numbers of their arguments, and their clauses.
+fn tell_preds(preds: &[CorePred], case: &mut Case<'_>) {
+    for (i, pred) in preds.iter().enumerate() {
+        case.tell_between(i, " ; ");
+        case.tell_called(pred.name.as_str(), pred.arity as usize);
+        case.tell(":");
+        for clause in pred.clauses.as_slice() {
+            tell_clause(clause, case);
+        }
     }
-    Ok(())
 }
 
-/// Appends a clause as it stands in the rules of runs.
-fn push_clause(clause: &CoreClause, out: &mut String) -> Result<(), Problem> {
-    let kind = if clause.back { "choice" } else { "rule" };
-    write!(out, " ({kind} {} :", clause.slots)?;
+/// Tells a clause as it stands in the rules of runs.
+fn tell_clause(clause: &CoreClause, case: &mut Case<'_>) {
+    case.tell(if clause.back { " (choice " } else { " (rule " });
+    case.tell_number(u64::from(clause.slots));
+    case.tell(" :");
     for pattern in &clause.head {
-        out.push(' ')?;
-        push_flat(pattern, out)?;
+        case.tell(" ");
+        tell_flat(pattern, case);
     }
-    out.push_str(" : ")?;
-    push_goal(&clause.guard, out)?;
-    out.push_str(" : ")?;
-    push_goal(&clause.body, out)?;
-    out.push(')')?;
-    Ok(())
+    case.tell(" : ");
+    tell_goal(&clause.guard, case);
+    case.tell(" : ");
+    tell_goal(&clause.body, case);
+    case.tell(")");
 }
 
-fn push_query(alloc: Global, words: Words<'_>, out: &mut String) -> Result<(), Problem> {
-    let body = expression_of(alloc, words.rest())?;
-    let core = CoreProgram {
-        preds: CorePreds::new(alloc),
+fn tell_query(case: &mut Case<'_>) {
+    let words = case.take_rest();
+    let Some(body) = expression_of(case, words) else {
+        return;
     };
-    let query = lower_goal(alloc, &Goal { body }, &core).map_err(problem_of)?;
-    write!(out, "{} slots,", query.slots)?;
-    for named in query.names.as_slice() {
-        write!(out, " {}={}", named.name.as_str(), named.slot)?;
+    let core = CoreProgram {
+        preds: CorePreds::new(case.alloc),
+    };
+    match lower_goal(case.alloc, &Goal { body }, &core) {
+        Ok(query) => tell_lowered(&query, case),
+        Err(fault) => tell_fault(fault, case),
     }
-    out.push_str(" : ")?;
-    push_goal(&query.goal, out)
 }
 
-/// Why a case has no answer, where lowering has none.
-fn problem_of(fault: LowerFault) -> Problem {
+/// Tells the slots of a query, those with names, and its goal.
+fn tell_lowered(query: &CoreQuery, case: &mut Case<'_>) {
+    case.tell_number(u64::from(query.slots));
+    case.tell(" slots,");
+    for named in query.names.as_slice() {
+        case.tell(" ");
+        case.tell(named.name.as_str());
+        case.tell("=");
+        case.tell_number(u64::from(named.slot));
+    }
+    case.tell(" : ");
+    tell_goal(&query.goal, case);
+}
+
+/// Tells that a part isn't built.
+fn tell_fault(fault: LowerFault, case: &mut Case<'_>) {
     match fault {
-        LowerFault::NotBuilt { number } => Problem::NotBuilt { number },
-        LowerFault::Memory => Problem::Memory(AllocError),
+        LowerFault::NotBuilt { number } => {
+            case.tell("NotBuilt ");
+            case.tell_number(number);
+        }
+        LowerFault::Memory => case.fail(Problem::Memory),
     }
 }

@@ -3,11 +3,7 @@
 //! as alternatives.
 
 use crate::goals::goal_of;
-use pi_cases::fault::Problem;
-use pi_cases::nodes::{Node, node_of};
-use pi_cases::patterns::{patterns_of, text_of};
-use pi_cases::terms::term_of;
-use pi_cases::words::{Words, words_of};
+use pi_cases::{Case, Node, Problem, node_of, patterns_of, term_of, words_of};
 use pi_types::{CoreClause, CoreClauses, CorePred, CorePreds, CoreProgram, Decl, SlotWatches};
 use std::alloc::Global;
 
@@ -22,76 +18,77 @@ pub fn program_of(alloc: Global, text: &str) -> Result<CoreProgram, Problem> {
     Ok(CoreProgram { preds })
 }
 
+/// Adds what a line says.
 fn add_line(alloc: Global, line: &str, preds: &mut CorePreds) -> Result<(), Problem> {
     let words = words_of(alloc, line)?;
-    let mut words = Words::new(words.as_slice());
-    match words.word()? {
-        "rule" => add_rule(alloc, false, &mut words, preds),
-        "choice" => add_rule(alloc, true, &mut words, preds),
-        kind => {
-            preds.push(pred(alloc, kind, words.word()?)?)?;
-            words.end()
-        }
+    let mut case = Case::new(alloc, words.as_slice());
+    match case.take_word() {
+        "rule" => add_rule(&mut case, false, preds),
+        "choice" => add_rule(&mut case, true, preds),
+        kind => add_pred(&mut case, kind, preds),
+    }
+    case.take_end();
+    match case.problem() {
+        Some(problem) => Err(problem),
+        None => Ok(()),
     }
 }
 
-/// A predicate without rules yet.
-fn pred(alloc: Global, kind: &str, named: &str) -> Result<CorePred, Problem> {
-    let (function, quiet) = match kind {
-        "predicate" => (false, false),
-        "function" => (true, false),
-        "quiet" => (false, true),
-        _ => return Err(Problem::Case("a kind of predicate")),
+/// Adds a predicate without rules yet.
+fn add_pred(case: &mut Case<'_>, kind: &str, preds: &mut CorePreds) {
+    if !matches!(kind, "predicate" | "function" | "quiet") {
+        return case.lacks("a kind of predicate");
+    }
+    let Node::Comp(name, count) = node_of(case.take_word()) else {
+        return case.lacks("the name of a predicate and the number of its arguments");
     };
-    let lacks = Problem::Case("the name of a predicate and the number of its arguments");
-    let Node::Comp(name, count) = node_of(named) else {
-        return Err(lacks);
+    let Some(name) = case.text_of(name) else {
+        return;
     };
-    let Ok(arity) = u32::try_from(count) else {
-        return Err(lacks);
-    };
-    Ok(CorePred {
-        name: text_of(alloc, name)?,
-        arity,
-        function,
-        quiet,
+    let added = preds.push(CorePred {
+        name,
+        arity: u32::try_from(count).unwrap_or(0),
+        function: kind == "function",
+        quiet: kind == "quiet",
         decl: Decl::Plain,
-        clauses: CoreClauses::new(alloc),
-    })
+        clauses: CoreClauses::new(case.alloc),
+    });
+    case.done(added);
 }
 
 /// Adds a rule to the newest predicate.
-fn add_rule(
-    alloc: Global,
-    back: bool,
-    words: &mut Words<'_>,
-    preds: &mut CorePreds,
-) -> Result<(), Problem> {
-    let rule = rule(alloc, back, words)?;
+fn add_rule(case: &mut Case<'_>, back: bool, preds: &mut CorePreds) {
     let Some(mut pred) = preds.pop() else {
-        return Err(Problem::Case("a predicate before its rules"));
+        return case.lacks("a predicate before its rules");
     };
-    pred.clauses.push(rule)?;
-    preds.push(pred)?;
-    Ok(())
+    if let Some(rule) = take_rule(case, back) {
+        let added = pred.clauses.push(rule);
+        case.done(added);
+    }
+    let added = preds.push(pred);
+    case.done(added);
 }
 
-fn rule(alloc: Global, back: bool, words: &mut Words<'_>) -> Result<CoreClause, Problem> {
-    let slots = words.slot()?;
-    words.expect(":")?;
-    let head = patterns_of(alloc, words.until(":").rest())?;
-    let guard = goal_of(alloc, words.until(":").rest())?;
-    let body = goal_of(alloc, words.until(":").rest())?;
-    let value = if words.left() > 0 {
-        Some(term_of(alloc, words.rest())?)
-    } else {
+/// Takes the words of a rule.
+fn take_rule(case: &mut Case<'_>, back: bool) -> Option<CoreClause> {
+    let slots = case.take_slot();
+    case.expect(":");
+    let head = case.take_until(":");
+    let guard = case.take_until(":");
+    let body = case.take_until(":");
+    let guard = goal_of(case, guard)?;
+    let body = goal_of(case, body)?;
+    let value = case.take_rest();
+    let value = if value.is_empty() {
         None
+    } else {
+        term_of(case, value)
     };
-    Ok(CoreClause {
-        head,
+    Some(CoreClause {
+        head: patterns_of(case, head),
         guard,
         back,
-        watches: SlotWatches::new(alloc),
+        watches: SlotWatches::new(case.alloc),
         body,
         value,
         slots,

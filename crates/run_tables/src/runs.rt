@@ -3,17 +3,13 @@
 
 use crate::goals::goal_of;
 use crate::programs::program_of;
-use pi_cases::domains::push_domains;
-use pi_cases::fault::Problem;
-use pi_cases::terms::push_term;
-use pi_cases::words::{Words, words_of};
-use pi_cases::written::push_between;
+use pi_cases::{Case, Problem, tell_domains};
 use pi_engine::{Budget, Happening, Kept, Machine, Mode};
 use pi_types::{
     Answer, CorePreds, CoreProgram, CoreQuery, NameSlot, NameSlots, StateStore, Text, TreeStore,
     Work,
 };
-use std::alloc::Global;
+use std::alloc::{AllocError, Global};
 
 /// How many slots each query has.
 const SLOTS: u32 = 5;
@@ -21,37 +17,42 @@ const SLOTS: u32 = 5;
 /// How many happenings a run is asked for at most.
 const MOST: usize = 1_000;
 
-/// Appends what comes in the run of a goal, under the rules that its file gives.
-pub fn push_answer(alloc: Global, text: &str, case: &str, out: &mut String) -> Result<(), Problem> {
-    let words = words_of(alloc, case)?;
-    let mut words = Words::new(words.as_slice());
-    let steps = words.number()?;
-    words.expect("steps")?;
-    let names = names(alloc, words.slot()?)?;
-    words.expect("names")?;
-    let tells_kept = words.peek() == Some("kept");
-    if tells_kept {
-        words.expect("kept")?;
-    }
-    words.expect(":")?;
-    let query = CoreQuery {
-        goal: goal_of(alloc, words.rest())?,
-        helpers: CorePreds::new(alloc),
-        names,
-        slots: SLOTS,
-    };
-    let budget = Budget {
+/// Tells what comes in the run of a goal, under the rules that its file gives.
+pub fn answer(case: &mut Case<'_>, text: &str) {
+    let mut budget = Budget {
         ticks: 0,
-        steps,
+        steps: case.take_number(),
         work: Work::NONE,
         limit: 0,
     };
-    let core = program_of(alloc, text)?;
-    run(alloc, &core, query, budget, tells_kept, out)
+    case.expect("steps");
+    let count = case.take_slot();
+    case.expect("names");
+    let tells_kept = case.skip("kept");
+    case.expect(":");
+    if let Some(query) = take_query(case, count) {
+        match program_of(case.alloc, text) {
+            Ok(core) => run(case, &core, query, &mut budget, tells_kept),
+            Err(problem) => case.fail(problem),
+        }
+    }
+}
+
+/// Takes the goal of a query whose first so many slots are named.
+fn take_query(case: &mut Case<'_>, count: u32) -> Option<CoreQuery> {
+    let words = case.take_rest();
+    let goal = goal_of(case, words)?;
+    let names = names(case.alloc, count);
+    Some(CoreQuery {
+        goal,
+        helpers: CorePreds::new(case.alloc),
+        names: case.made(names)?,
+        slots: SLOTS,
+    })
 }
 
 /// Names for the first so many slots.
-fn names(alloc: Global, count: u32) -> Result<NameSlots, Problem> {
+fn names(alloc: Global, count: u32) -> Result<NameSlots, AllocError> {
     let mut names = NameSlots::new(alloc);
     for slot in 0..count {
         let name = Text::from_string(format!(in alloc; "V{slot}")?);
@@ -62,106 +63,101 @@ fn names(alloc: Global, count: u32) -> Result<NameSlots, Problem> {
 
 /// Runs a query. This function alone owns a machine.
 fn run(
-    alloc: Global,
+    case: &mut Case<'_>,
     core: &CoreProgram,
     query: CoreQuery,
-    mut budget: Budget,
+    budget: &mut Budget,
     tells_kept: bool,
-    out: &mut String,
-) -> Result<(), Problem> {
-    let store = TreeStore::new(alloc)?;
-    match Machine::new(alloc, core, query, store, Mode::Top) {
-        Ok(mut machine) => push_happenings(alloc, &mut machine, &mut budget, tells_kept, out),
-        Err(_) => Err(Problem::Case("memory for a machine")),
+) {
+    let store = TreeStore::new(case.alloc);
+    let Some(store) = case.made(store) else {
+        return;
+    };
+    match Machine::new(case.alloc, core, query, store, Mode::Top) {
+        Ok(mut machine) => tell_all(case, &mut machine, budget, tells_kept),
+        Err(_) => case.fail(Problem::Memory),
     }
 }
 
-/// Appends all that comes in a run up to its end. Where the end doesn't come for good, so it says.
-fn push_happenings<S: StateStore>(
-    alloc: Global,
+/// Tells all that comes in a run up to its end. Where the end doesn't come for good, so it says.
+fn tell_all<S: StateStore>(
+    case: &mut Case<'_>,
     machine: &mut Machine<'_, S>,
     budget: &mut Budget,
     tells_kept: bool,
-    out: &mut String,
-) -> Result<(), Problem> {
+) {
     for _ in 0..MOST {
-        let mut told = String::new(alloc);
-        let is_end = push_next(machine, budget, tells_kept, &mut told)?;
-        out.push_str(told.as_str())?;
-        if is_end {
-            let mut again = String::new(alloc);
-            push_next(machine, budget, tells_kept, &mut again)?;
-            if again.as_str() != told.as_str() {
-                write!(out, " and then {again}")?;
-            }
-            return Ok(());
+        let from = case.told().len();
+        if tell_next(case, machine, budget, tells_kept) {
+            let mut again = Case::new(case.alloc, &[]);
+            tell_next(&mut again, machine, budget, tells_kept);
+            return case.tell_change(from, &again);
         }
-        out.push_str(" ; ")?;
+        case.tell(" ; ");
     }
-    out.push_str("and so on")?;
-    Ok(())
+    case.tell("and so on");
 }
 
-/// Appends what comes next and the Ticks by then, and answers whether it is an end.
-fn push_next<S: StateStore>(
+/// Tells what comes next and the Ticks by then, and answers whether it is an end.
+fn tell_next<S: StateStore>(
+    case: &mut Case<'_>,
     machine: &mut Machine<'_, S>,
     budget: &mut Budget,
     tells_kept: bool,
-    out: &mut String,
-) -> Result<bool, Problem> {
+) -> bool {
     let happening = machine.next(budget);
-    write!(out, "{}: ", budget.ticks)?;
-    match &happening {
+    case.tell_number(budget.ticks);
+    case.tell(": ");
+    let is_end = tell_happening(&happening, case);
+    if is_end && tells_kept {
+        tell_kept(machine.kept(), case);
+    }
+    is_end
+}
+
+/// Tells what came, and answers whether it is an end.
+fn tell_happening(happening: &Happening, case: &mut Case<'_>) -> bool {
+    match happening {
         Happening::Answer(answer) => {
-            push_told(answer, out)?;
-            return Ok(false);
+            tell_answer(answer, case);
+            return false;
         }
         Happening::Raised(ball) => {
-            out.push_str("raised ")?;
-            push_term(ball, out)?;
+            case.tell("raised ");
+            case.tell_term(ball);
         }
-        other => out.push_str(name_of_end(other))?,
+        Happening::Done => case.tell("done"),
+        Happening::StepsSpent => case.tell("steps spent"),
+        Happening::WorkSpent => case.tell("work spent"),
+        Happening::Memory => case.tell("want of memory"),
+        Happening::Out(_) => case.tell("output"),
+        Happening::NeedPlan(_) => case.tell("a planner"),
     }
-    if tells_kept {
-        push_kept(machine.kept(), out)?;
-    }
-    Ok(true)
+    true
 }
 
-/// Appends what a machine keeps beside its store.
-fn push_kept(kept: Kept, out: &mut String) -> Result<(), Problem> {
-    write!(
-        out,
-        ", keeping {} entries, {} frames",
-        kept.entries, kept.frames
-    )?;
-    write!(out, ", {} slots, {} values", kept.slots, kept.collected)?;
-    Ok(())
+/// Tells what a machine keeps beside its store.
+fn tell_kept(kept: Kept, case: &mut Case<'_>) {
+    case.tell(", keeping ");
+    case.tell_count(kept.entries);
+    case.tell(" entries, ");
+    case.tell_count(kept.frames);
+    case.tell(" frames, ");
+    case.tell_count(kept.slots);
+    case.tell(" slots, ");
+    case.tell_count(kept.collected);
+    case.tell(" values");
 }
 
-/// The name of an end that has no term.
-fn name_of_end(happening: &Happening) -> &'static str {
-    match happening {
-        Happening::Done => "done",
-        Happening::StepsSpent => "steps spent",
-        Happening::WorkSpent => "work spent",
-        Happening::Memory => "want of memory",
-        Happening::Out(_) => "output",
-        Happening::NeedPlan(_) => "a planner",
-        Happening::Answer(_) => "an answer",
-        Happening::Raised(_) => "an exception",
-    }
-}
-
-/// Appends the values of an answer and the domains that it tells.
-fn push_told(answer: &Answer, out: &mut String) -> Result<(), Problem> {
+/// Tells the values of an answer and the domains that it tells.
+fn tell_answer(answer: &Answer, case: &mut Case<'_>) {
     let values = answer.values.as_slice();
     if values.is_empty() {
-        out.push_str("yes")?;
+        case.tell("yes");
     }
     for (i, named) in values.iter().enumerate() {
-        push_between(i, ", ", out)?;
-        push_term(&named.value, out)?;
+        case.tell_between(i, ", ");
+        case.tell_term(&named.value);
     }
-    push_domains(answer.domains.as_slice(), out)
+    tell_domains(answer.domains.as_slice(), case);
 }

@@ -1,41 +1,58 @@
 //! Texts of answers: `A _7 B a : 3 -2..3 5..5` is the answer of A and B in which `_3` has a domain.
 
-use pi_cases::domains::spans_of;
-use pi_cases::fault::Problem;
-use pi_cases::nodes::push_escaped;
-use pi_cases::terms::taken_term;
-use pi_cases::words::{Words, words_of};
-use pi_cases::written::push_between;
+use pi_cases::{Case, spans_of};
 use pi_print::answer_text;
 use pi_types::{Answer, NamedTerm, NamedTerms, Text, VarDomain, VarDomains};
-use std::alloc::Global;
 
-/// Appends the lines of an answer's text, a blank between them.
-pub fn push_answer(alloc: Global, case: &str, out: &mut String) -> Result<(), Problem> {
-    let words = words_of(alloc, case)?;
-    let mut words = Words::new(words.as_slice());
-    let mut named = words.until(":");
-    let mut values = NamedTerms::new(alloc);
-    for _ in 0..named.left() {
-        if let Some(name) = named.next() {
-            let name = Text::new(alloc, name)?;
-            let value = taken_term(alloc, &mut named)?;
-            values.push(NamedTerm { name, value })?;
+/// Tells the lines of an answer's text, a blank between them.
+pub fn answer(case: &mut Case<'_>) {
+    let values = take_values(case);
+    let domains = take_domains(case);
+    let lines = answer_text(case.alloc, &Answer { values, domains });
+    if let Some(lines) = case.made(lines) {
+        for (i, line) in lines.as_slice().iter().enumerate() {
+            case.tell_between(i, " ");
+            case.tell_escaped(line.as_str());
         }
     }
-    let mut domains = VarDomains::new(alloc);
-    for _ in 0..words.left() {
-        if words.left() > 0 {
-            let mut told = words.until(":");
-            let var = told.number()?;
-            let domain = spans_of(alloc, told.rest())?;
-            domains.push(VarDomain { var, domain })?;
+}
+
+/// Takes names and their values, up to a colon or the end.
+fn take_values(case: &mut Case<'_>) -> NamedTerms {
+    let mut values = NamedTerms::new(case.alloc);
+    for _ in 0..case.left() {
+        if case.skip(":") || case.left() == 0 {
+            break;
+        }
+        if let Some(value) = take_value(case) {
+            let added = values.push(value);
+            case.done(added);
         }
     }
-    let lines = answer_text(alloc, &Answer { values, domains })?;
-    for (i, line) in lines.as_slice().iter().enumerate() {
-        push_between(i, " ", out)?;
-        push_escaped(line.as_str(), out)?;
+    values
+}
+
+/// Takes a name and its value.
+fn take_value(case: &mut Case<'_>) -> Option<NamedTerm> {
+    let name = Text::new(case.alloc, case.take_word());
+    let name = case.made(name)?;
+    let value = case.take_term()?;
+    Some(NamedTerm { name, value })
+}
+
+/// Takes variables with their domains, a colon between them.
+fn take_domains(case: &mut Case<'_>) -> VarDomains {
+    let mut domains = VarDomains::new(case.alloc);
+    for _ in 0..case.left() {
+        if case.left() == 0 {
+            break;
+        }
+        let var = case.take_number();
+        let words = case.take_until(":");
+        if let Some(domain) = spans_of(case, words) {
+            let added = domains.push(VarDomain { var, domain });
+            case.done(added);
+        }
     }
-    Ok(())
+    domains
 }

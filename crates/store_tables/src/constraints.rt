@@ -1,137 +1,127 @@
 //! Constraints in words: `absolute Z X`, `product Z X Y`, `different ITEM ..`, `distinct ITEM ..`, `element INDEX VALUE ITEM ..`,
 //! `sum = CONSTANT COEFFICIENT VARIABLE ..` with `=`, `#` or `<`, and `truth ITEM = ..` as a sum. An item is an integer or `_7`.
 
-use pi_cases::fault::Problem;
-use pi_cases::nodes::{Node, node_of};
-use pi_cases::words::{Words, integer_of};
+use pi_cases::{Case, Node, node_of};
 use pi_types::{Constraint, Item, Items, LinTerms, Rel};
-use std::alloc::Global;
 
 /// Takes the words of a constraint.
-pub fn taken_constraint(alloc: Global, words: &mut Words<'_>) -> Result<Constraint, Problem> {
-    match words.word()? {
-        "absolute" => Ok(Constraint::Absolute {
-            z: taken_item(words)?,
-            x: taken_item(words)?,
-        }),
-        "product" => Ok(Constraint::Product {
-            z: taken_item(words)?,
-            x: taken_item(words)?,
-            y: taken_item(words)?,
-        }),
-        "different" => Ok(Constraint::Different(taken_items(alloc, words)?)),
-        "distinct" => Ok(Constraint::Distinct(taken_items(alloc, words)?)),
-        "element" => {
-            let index = taken_item(words)?;
-            let value = taken_item(words)?;
-            let items = taken_items(alloc, words)?;
-            Ok(Constraint::Element {
-                index,
-                items,
-                value,
-            })
+pub fn take_constraint(case: &mut Case<'_>) -> Option<Constraint> {
+    Some(match case.take_word() {
+        "absolute" => Constraint::Absolute {
+            z: take_item(case),
+            x: take_item(case),
+        },
+        "product" => Constraint::Product {
+            z: take_item(case),
+            x: take_item(case),
+            y: take_item(case),
+        },
+        "different" => Constraint::Different(take_items(case)),
+        "distinct" => Constraint::Distinct(take_items(case)),
+        "element" => take_element(case),
+        "sum" => Constraint::Linear {
+            rel: take_rel(case),
+            constant: case.take_integer(),
+            terms: take_terms(case),
+        },
+        "truth" => Constraint::Reified {
+            truth: take_item(case),
+            rel: take_rel(case),
+            constant: case.take_integer(),
+            terms: take_terms(case),
+        },
+        _ => {
+            case.lacks("a kind of constraint");
+            return None;
         }
-        "sum" => {
-            let rel = taken_rel(words)?;
-            let constant = words.integer()?;
-            let terms = taken_terms(alloc, words)?;
-            Ok(Constraint::Linear {
-                rel,
-                terms,
-                constant,
-            })
-        }
-        "truth" => {
-            let truth = taken_item(words)?;
-            let rel = taken_rel(words)?;
-            let constant = words.integer()?;
-            let terms = taken_terms(alloc, words)?;
-            Ok(Constraint::Reified {
-                truth,
-                rel,
-                terms,
-                constant,
-            })
-        }
-        _ => Err(Problem::Case("a kind of constraint")),
+    })
+}
+
+fn take_element(case: &mut Case<'_>) -> Constraint {
+    let index = take_item(case);
+    let value = take_item(case);
+    Constraint::Element {
+        index,
+        items: take_items(case),
+        value,
     }
 }
 
-fn taken_rel(words: &mut Words<'_>) -> Result<Rel, Problem> {
-    match words.word()? {
-        "=" => Ok(Rel::Equal),
-        "#" => Ok(Rel::Unequal),
-        "<" => Ok(Rel::AtMost),
-        _ => Err(Problem::Case("how a sum stands to 0")),
+fn take_rel(case: &mut Case<'_>) -> Rel {
+    match case.take_word() {
+        "=" => Rel::Equal,
+        "#" => Rel::Unequal,
+        "<" => Rel::AtMost,
+        _ => {
+            case.lacks("how a sum stands to 0");
+            Rel::Equal
+        }
     }
 }
 
 /// Takes the terms of a sum: each a coefficient and a variable.
-fn taken_terms(alloc: Global, words: &mut Words<'_>) -> Result<LinTerms, Problem> {
-    let mut terms = LinTerms::new(alloc);
-    for _ in 0..words.left() {
-        if let Some(word) = words.next() {
-            let coefficient = integer_of(word)?;
-            let Item::Var(variable) = taken_item(words)? else {
-                return Err(Problem::Case("a variable behind its coefficient"));
-            };
-            terms.push((coefficient, variable))?;
+fn take_terms(case: &mut Case<'_>) -> LinTerms {
+    let mut terms = LinTerms::new(case.alloc);
+    for _ in 0..case.left() {
+        if case.left() > 0 {
+            let coefficient = case.take_integer();
+            let variable = take_variable(case);
+            let added = terms.push((coefficient, variable));
+            case.done(added);
         }
     }
-    Ok(terms)
+    terms
 }
 
-fn taken_item(words: &mut Words<'_>) -> Result<Item, Problem> {
-    let lacks = Problem::Case("an item in place of a word");
-    match node_of(words.word()?) {
-        Node::Var(n) => Ok(Item::Var(n)),
-        Node::Int(n) => match i64::try_from(n) {
-            Ok(n) => Ok(Item::Int(n)),
-            Err(_) => Err(lacks),
-        },
-        _ => Err(lacks),
+fn take_variable(case: &mut Case<'_>) -> u64 {
+    match take_item(case) {
+        Item::Var(variable) => variable,
+        Item::Int(_) => {
+            case.lacks("a variable behind its coefficient");
+            0
+        }
     }
 }
 
-fn taken_items(alloc: Global, words: &mut Words<'_>) -> Result<Items, Problem> {
-    let mut items = Items::new(alloc);
-    for _ in 0..words.left() {
-        items.push(taken_item(words)?)?;
+fn take_item(case: &mut Case<'_>) -> Item {
+    match node_of(case.take_word()) {
+        Node::Var(n) => Item::Var(n),
+        Node::Int(n) => Item::Int(i64::try_from(n).unwrap_or(0)),
+        _ => {
+            case.lacks("an item in place of a word");
+            Item::Int(0)
+        }
     }
-    Ok(items)
 }
 
-/// Appends a constraint in words.
-pub fn push_constraint(constraint: &Constraint, out: &mut String) -> Result<(), Problem> {
+fn take_items(case: &mut Case<'_>) -> Items {
+    let mut items = Items::new(case.alloc);
+    for _ in 0..case.left() {
+        let added = items.push(take_item(case));
+        case.done(added);
+    }
+    items
+}
+
+/// Tells a constraint in words.
+pub fn tell_constraint(constraint: &Constraint, case: &mut Case<'_>) {
     match constraint {
         Constraint::Linear {
             rel,
             terms,
             constant,
-        } => {
-            write!(out, "sum {} {constant}", sign(*rel))?;
-            push_terms(terms, out)?;
-        }
-        Constraint::Product { z, x, y } => {
-            out.push_str("product")?;
-            push_items(&[*z, *x, *y], out)?;
-        }
-        Constraint::Absolute { z, x } => {
-            out.push_str("absolute")?;
-            push_items(&[*z, *x], out)?;
-        }
-        Constraint::Different(items) => {
-            out.push_str("different")?;
-            push_items(items.as_slice(), out)?;
-        }
+        } => tell_sum("sum", *rel, *constant, terms, case),
+        Constraint::Product { z, x, y } => tell_items("product", &[*z, *x, *y], case),
+        Constraint::Absolute { z, x } => tell_items("absolute", &[*z, *x], case),
+        Constraint::Different(items) => tell_items("different", items.as_slice(), case),
+        Constraint::Distinct(items) => tell_items("distinct", items.as_slice(), case),
         Constraint::Element {
             index,
             items,
             value,
         } => {
-            out.push_str("element")?;
-            push_items(&[*index, *value], out)?;
-            push_items(items.as_slice(), out)?;
+            tell_items("element", &[*index, *value], case);
+            tell_items("", items.as_slice(), case);
         }
         Constraint::Reified {
             truth,
@@ -139,40 +129,37 @@ pub fn push_constraint(constraint: &Constraint, out: &mut String) -> Result<(), 
             terms,
             constant,
         } => {
-            out.push_str("truth")?;
-            push_items(&[*truth], out)?;
-            write!(out, " {} {constant}", sign(*rel))?;
-            push_terms(terms, out)?;
-        }
-        Constraint::Distinct(items) => {
-            out.push_str("distinct")?;
-            push_items(items.as_slice(), out)?;
+            tell_items("truth", &[*truth], case);
+            tell_sum("", *rel, *constant, terms, case);
         }
     }
-    Ok(())
 }
 
-fn push_terms(terms: &LinTerms, out: &mut String) -> Result<(), Problem> {
+/// Tells how a sum stands to 0, its constant and its terms, behind a name.
+fn tell_sum(name: &str, rel: Rel, constant: i128, terms: &LinTerms, case: &mut Case<'_>) {
+    case.tell(name);
+    case.tell(match rel {
+        Rel::Equal => " = ",
+        Rel::Unequal => " # ",
+        Rel::AtMost => " < ",
+    });
+    case.tell_integer(constant);
     for (coefficient, variable) in terms.as_slice() {
-        write!(out, " {coefficient} _{variable}")?;
-    }
-    Ok(())
-}
-
-fn sign(rel: Rel) -> &'static str {
-    match rel {
-        Rel::Equal => "=",
-        Rel::Unequal => "#",
-        Rel::AtMost => "<",
+        case.tell(" ");
+        case.tell_integer(*coefficient);
+        case.tell(" ");
+        case.tell_variable(*variable);
     }
 }
 
-fn push_items(items: &[Item], out: &mut String) -> Result<(), Problem> {
+/// Tells items, each behind a blank, behind a name.
+fn tell_items(name: &str, items: &[Item], case: &mut Case<'_>) {
+    case.tell(name);
     for item in items {
+        case.tell(" ");
         match item {
-            Item::Var(n) => write!(out, " _{n}")?,
-            Item::Int(n) => write!(out, " {n}")?,
+            Item::Var(n) => case.tell_variable(*n),
+            Item::Int(n) => case.tell_integer(i128::from(*n)),
         }
     }
-    Ok(())
 }

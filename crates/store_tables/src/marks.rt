@@ -1,31 +1,31 @@
 //! Marks of `TreeStore`, which are numbers: `mark` makes one, and `new` a variable.
 
-use pi_cases::fault::Problem;
-use pi_cases::words::words_of;
+use pi_cases::Case;
 use pi_types::{StateStore, TreeStore};
-use std::alloc::Global;
 
-/// Appends the marks that the words of a case make.
-pub fn push_answer(alloc: Global, case: &str, out: &mut String) -> Result<(), Problem> {
-    let words = words_of(alloc, case)?;
-    let mut store = TreeStore::new(alloc)?;
-    push_marks(&mut store, words.as_slice(), out)
+/// Tells the marks that the words of a case make.
+pub fn answer(case: &mut Case<'_>) {
+    let store = TreeStore::new(case.alloc);
+    if let Some(mut store) = case.made(store) {
+        take_words(case, &mut store);
+    }
 }
 
-fn push_marks(store: &mut TreeStore, words: &[&str], out: &mut String) -> Result<(), Problem> {
-    for word in words {
+fn take_words(case: &mut Case<'_>, store: &mut TreeStore) {
+    for word in case.take_rest() {
         match *word {
             "mark" => {
-                if !out.is_empty() {
-                    out.push(' ')?;
+                let mark = store.mark();
+                if let Some(mark) = case.made(mark) {
+                    case.begin(" ");
+                    case.tell_shown(mark);
                 }
-                write!(out, "{}", store.mark()?)?;
             }
             "new" => {
-                store.new_var()?;
+                let made = store.new_var();
+                case.done(made);
             }
-            _ => return Err(Problem::Case("a word that is mark or new")),
+            _ => case.lacks("a word that is mark or new"),
         }
     }
-    Ok(())
 }

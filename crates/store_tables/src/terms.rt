@@ -1,40 +1,58 @@
 //! Terms as they are written down, and their texts.
 
-use pi_cases::fault::Problem;
-use pi_cases::nodes::push_escaped;
-use pi_cases::terms::{push_head, push_term, taken_term};
-use pi_cases::words::{Words, words_of};
+use pi_cases::Case;
 use pi_print::term_text;
 use pi_types::{Term, TermHead};
-use std::alloc::Global;
+use std::alloc::AllocError;
 
-/// Appends what a term gives: `parts`, its cells, itself and its arguments; `copy` and `renumbered`, another term;
+/// Tells what a term gives: `parts`, its cells, itself and its arguments; `copy` and `renumbered`, another term;
 /// `quoted` and `plain`, its text.
-pub fn push_answer(alloc: Global, case: &str, out: &mut String) -> Result<(), Problem> {
-    let words = words_of(alloc, case)?;
-    let mut words = Words::new(words.as_slice());
-    let asked = words.word()?;
-    let term = taken_term(alloc, &mut words)?;
-    words.end()?;
+pub fn answer(case: &mut Case<'_>) {
+    let asked = case.take_word();
+    let Some(term) = case.take_term() else {
+        return;
+    };
     match asked {
-        "parts" => push_parts(alloc, &term, out),
-        "copy" => push_term(&term.copy(alloc)?, out),
-        "renumbered" => push_term(&term.renumbered(alloc)?, out),
-        "quoted" => push_escaped(term_text(alloc, &term, true)?.as_str(), out),
-        "plain" => push_escaped(term_text(alloc, &term, false)?.as_str(), out),
-        _ => Err(Problem::Case("what is asked of a term")),
+        "parts" => tell_parts(&term, case),
+        "copy" => {
+            let other = term.copy(case.alloc);
+            tell_made(other, case);
+        }
+        "renumbered" => {
+            let other = term.renumbered(case.alloc);
+            tell_made(other, case);
+        }
+        "quoted" => tell_text(&term, true, case),
+        "plain" => tell_text(&term, false, case),
+        _ => case.lacks("what is asked of a term"),
     }
 }
 
-/// Appends the number of a term's cells, what it is at its root, and each of its arguments.
-fn push_parts(alloc: Global, term: &Term, out: &mut String) -> Result<(), Problem> {
-    write!(out, "{} cells, ", term.cells())?;
-    push_head(term.head(), out)?;
+/// Tells a term that was made.
+fn tell_made(made: Result<Term, AllocError>, case: &mut Case<'_>) {
+    if let Some(term) = case.made(made) {
+        case.tell_term(&term);
+    }
+}
+
+/// Tells the text of a term.
+fn tell_text(term: &Term, is_quoted: bool, case: &mut Case<'_>) {
+    let text = term_text(case.alloc, term, is_quoted);
+    if let Some(text) = case.made(text) {
+        case.tell_escaped(text.as_str());
+    }
+}
+
+/// Tells the number of a term's cells, what it is at its root, and each of its arguments.
+fn tell_parts(term: &Term, case: &mut Case<'_>) {
+    case.tell_count(term.cells());
+    case.tell(" cells, ");
+    case.tell_head(term.head());
     if let TermHead::Comp(_, count) = term.head() {
         for i in 0..count {
-            out.push_str(", ")?;
-            push_term(&term.arg(alloc, i)?, out)?;
+            case.tell(", ");
+            let arg = term.arg(case.alloc, i);
+            tell_made(arg, case);
         }
     }
-    Ok(())
 }

@@ -1,16 +1,15 @@
 //! Words of a case: how many they are.
 
-use pi_cases::fault::Problem;
-use pi_cases::words::words_of;
-use std::alloc::Global;
+use pi_cases::Case;
 
-/// Appends how many words a case has, and the first and the last one.
-pub fn push_answer(alloc: Global, case: &str, out: &mut String) -> Result<(), Problem> {
-    let words = words_of(alloc, case)?;
-    let words = words.as_slice();
-    match (words.first(), words.last()) {
-        (Some(first), Some(last)) => write!(out, "{} {first} {last}", words.len())?,
-        _ => out.push_str("0")?,
+/// Tells how many words a case has, and the first and the last one.
+pub fn answer(case: &mut Case<'_>) {
+    let words = case.take_rest();
+    case.tell_count(words.len());
+    if let (Some(first), Some(last)) = (words.first(), words.last()) {
+        case.tell(" ");
+        case.tell(first);
+        case.tell(" ");
+        case.tell(last);
     }
-    Ok(())
 }

@@ -1,9 +1,7 @@
 //! Operations on integers, and their values or faults.
 
-use pi_arith::{Op, evaluate};
-use pi_cases::fault::Problem;
-use pi_cases::words::{Words, words_of};
-use std::alloc::Global;
+use pi_arith::{ArithFault, Op, evaluate};
+use pi_cases::Case;
 
 /// Each operation with its word.
 const OPERATIONS: [(&str, Op); 18] = [
@@ -27,26 +25,25 @@ const OPERATIONS: [(&str, Op); 18] = [
     ("Sign", Op::Sign),
 ];
 
-/// Appends the value of an operation at two integers, or its fault. One of one place leaves the second integer unread.
-pub fn push_answer(alloc: Global, case: &str, out: &mut String) -> Result<(), Problem> {
-    let words = words_of(alloc, case)?;
-    let mut words = Words::new(words.as_slice());
-    let operation = operation(words.word()?)?;
-    let a = words.integer()?;
-    let b = words.integer()?;
-    words.end()?;
+/// Tells the value of an operation at two integers, or its fault. One of one place leaves the second integer unread.
+pub fn answer(case: &mut Case<'_>) {
+    let word = case.take_word();
+    let Some(operation) = operation(word) else {
+        return case.lacks("a known operation");
+    };
+    let a = case.take_integer();
+    let b = case.take_integer();
     match evaluate(operation, a, b) {
-        Ok(value) => write!(out, "{value}")?,
-        Err(fault) => write!(out, "{fault}")?,
+        Ok(value) => case.tell_integer(value),
+        Err(fault) => case.tell_shown(fault),
     }
-    Ok(())
 }
 
-fn operation(word: &str) -> Result<Op, Problem> {
+fn operation(word: &str) -> Option<Op> {
     for (name, operation) in &OPERATIONS {
         if *name == word {
-            return Ok(*operation);
+            return Some(*operation);
         }
     }
-    Err(Problem::Case("a known operation"))
+    None
 }

@@ -2,9 +2,7 @@
 ghost use Rattle.std.specs.Prelude.{◌<◌, ◌≤◌, OnOk};
 ghost use Rattle.pi_region.specs.Pool.{made_by};
 
-use pi_cases::fault::Problem;
-use pi_cases::words::{Words, words_of};
-use pi_cases::written::push_between;
+use pi_cases::Case;
 use pi_region::{Pool, Words as Region};
 use std::alloc::{AllocError, Global};
 
@@ -39,108 +37,106 @@ impl Watched {
     }
 }
 
-/// Appends what each call of a case gives; `;` parts the calls. They go to one region, or to the pool that `pool` in
-/// front of them makes and to the region that was taken of it last.
-pub fn push_answer(alloc: Global, case: &str, out: &mut String) -> Result<(), Problem> {
-    match case.strip_prefix("pool;") {
-        Some(calls) => push_pool_calls(alloc, calls, out),
-        None => push_region_calls(alloc, case, out),
+/// Tells what each call of a case gives, a step each. They go to one region, or to the pool that `pool` in front of them makes
+/// and to the region that was taken of it last.
+pub fn answer(case: &mut Case<'_>) {
+    if case.skip("pool") {
+        case.take_step_end();
+        call_pool(case);
+    } else {
+        call_region(case);
     }
 }
 
-fn push_region_calls(alloc: Global, calls: &str, out: &mut String) -> Result<(), Problem> {
-    let mut region = Region::new(alloc);
-    for (i, call) in calls.split(';').enumerate() {
-        push_between(i, "; ", out)?;
-        let words = words_of(alloc, call)?;
-        let mut words = Words::new(words.as_slice());
-        let verb = words.word()?;
-        push_region_call(&mut region, verb, &mut words, out)?;
-        words.end()?;
+fn call_region(case: &mut Case<'_>) {
+    let mut region = Region::new(case.alloc);
+    for _ in 0..case.steps() {
+        case.begin("; ");
+        let verb = case.take_word();
+        call(case, &mut region, verb);
+        case.take_step_end();
     }
-    Ok(())
 }
 
-fn push_pool_calls(alloc: Global, calls: &str, out: &mut String) -> Result<(), Problem> {
-    let mut pool = Watched::new(alloc);
-    let mut taken = Vec::new(alloc);
-    for (i, call) in calls.split(';').enumerate() {
-        push_between(i, "; ", out)?;
-        let words = words_of(alloc, call)?;
-        let mut words = Words::new(words.as_slice());
-        push_pool_call(&mut pool, &mut taken, &mut words, out)?;
-        words.end()?;
+fn call_pool(case: &mut Case<'_>) {
+    let mut pool = Watched::new(case.alloc);
+    let mut taken = Vec::new(case.alloc);
+    for _ in 0..case.steps() {
+        case.begin("; ");
+        let verb = case.take_word();
+        match verb {
+            "take" => take(case, &mut pool, &mut taken),
+            "give" => give(case, &mut pool, &mut taken),
+            "made" => case.tell_number(pool.pool.made()),
+            "most" => case.tell_number(pool.most_out),
+            "outstanding" => case.tell_number(pool.pool.outstanding()),
+            _ => call_newest(case, &mut taken, verb),
+        }
+        case.take_step_end();
     }
-    Ok(())
 }
 
-/// Makes a call to a pool, or to the region that was taken last.
-fn push_pool_call(
-    pool: &mut Watched,
-    taken: &mut Vec<Region>,
-    words: &mut Words<'_>,
-    out: &mut String,
-) -> Result<(), Problem> {
-    match words.word()? {
-        "made" => write!(out, "{}", pool.pool.made())?,
-        "most" => write!(out, "{}", pool.most_out)?,
-        "outstanding" => write!(out, "{}", pool.pool.outstanding())?,
-        "take" => match pool.take() {
-            Ok(region) => {
-                taken.push(region)?;
-                out.push_str("taken")?;
-            }
-            Err(AllocError) => out.push_str("refused")?,
-        },
-        "give" => match taken.pop() {
-            Some(region) if pool.pool.outstanding() > 0 => {
-                pool.give(region);
-                out.push_str("given")?;
-            }
-            _ => return Err(Problem::Case("a region that was taken")),
-        },
-        verb => match taken.last_mut() {
-            Some(region) => push_region_call(region, verb, words, out)?,
-            None => return Err(Problem::Case("a region that was taken")),
-        },
+/// Takes a region of a pool.
+fn take(case: &mut Case<'_>, pool: &mut Watched, taken: &mut Vec<Region>) {
+    match pool.take() {
+        Ok(region) => {
+            case.keep(Some(region), taken);
+            case.tell("taken");
+        }
+        Err(AllocError) => case.tell("refused"),
     }
-    Ok(())
+}
+
+/// Gives the region that was taken last back to its pool.
+fn give(case: &mut Case<'_>, pool: &mut Watched, taken: &mut Vec<Region>) {
+    match taken.pop() {
+        Some(region) if pool.pool.outstanding() > 0 => {
+            pool.give(region);
+            case.tell("given");
+        }
+        _ => case.lacks("a region that was taken"),
+    }
+}
+
+/// Makes a call to the region that was taken last.
+fn call_newest(case: &mut Case<'_>, taken: &mut Vec<Region>, verb: &str) {
+    match taken.last_mut() {
+        Some(region) => call(case, region, verb),
+        None => case.lacks("a region that was taken"),
+    }
 }
 
 /// Makes a call to a region.
-fn push_region_call(
-    region: &mut Region,
-    verb: &str,
-    words: &mut Words<'_>,
-    out: &mut String,
-) -> Result<(), Problem> {
+fn call(case: &mut Case<'_>, region: &mut Region, verb: &str) {
     match verb {
-        "len" => write!(out, "{}", region.len())?,
-        "get" => push_word(region, words, out)?,
-        "right" => push_right(region, words, out)?,
-        "reserve" => push_done(region.reserve(words.count()?), out)?,
-        "append" => push_done(append(region, words.number()?), out)?,
-        "pair" => {
-            let first = words.number()?;
-            push_done(append_pair(region, first, words.number()?), out)?;
+        "len" => case.tell_count(region.len()),
+        "get" => tell_word(case, region),
+        "right" => tell_right(case, region),
+        "set" => set(case, region),
+        "truncate" => truncate(case, region),
+        _ => {
+            let done = grow(case, region, verb);
+            case.tell(match done {
+                Ok(()) => "done",
+                Err(AllocError) => "refused",
+            });
         }
-        "fill" => {
-            let count = words.number()?;
-            push_done(fill(region, count, words.number()?), out)?;
-        }
-        "set" => set(region, words, out)?,
-        "truncate" => truncate(region, words, out)?,
-        _ => return Err(Problem::Case("a known call")),
     }
-    Ok(())
 }
 
-fn push_done(done: Result<(), AllocError>, out: &mut String) -> Result<(), Problem> {
-    out.push_str(match done {
-        Ok(()) => "done",
-        Err(AllocError) => "refused",
-    })?;
-    Ok(())
+/// Makes a call that may take memory.
+fn grow(case: &mut Case<'_>, region: &mut Region, verb: &str) -> Result<(), AllocError> {
+    let number = case.take_number();
+    match verb {
+        "reserve" => region.reserve(number as usize),
+        "append" => append(region, number),
+        "pair" => append_pair(region, number, case.take_number()),
+        "fill" => fill(region, number, case.take_number()),
+        _ => {
+            case.lacks("a known call");
+            Ok(())
+        }
+    }
 }
 
 /// Appends a word.
@@ -169,50 +165,46 @@ fn fill(region: &mut Region, count: u64, step: u64) -> Result<(), AllocError> {
     Ok(())
 }
 
-/// Appends a word as it is read.
-fn push_word(region: &Region, words: &mut Words<'_>, out: &mut String) -> Result<(), Problem> {
-    let index = words.count()?;
+/// Tells a word as it is read.
+fn tell_word(case: &mut Case<'_>, region: &Region) {
+    let index = case.take_count();
     if index < region.len() {
-        write!(out, "{}", region.get(index))?;
+        case.tell_number(region.get(index));
     } else {
-        out.push_str("no such word")?;
+        case.tell("no such word");
     }
-    Ok(())
 }
 
-/// Appends how many of the first words are the multiples of a number, from 0 on.
-fn push_right(region: &Region, words: &mut Words<'_>, out: &mut String) -> Result<(), Problem> {
-    let count = words.count()?.min(region.len());
-    let step = words.number()?;
+/// Tells how many of the first words are the multiples of a number, from 0 on.
+fn tell_right(case: &mut Case<'_>, region: &Region) {
+    let count = case.take_count().min(region.len());
+    let step = case.take_number();
     let mut right = 0u64;
     for i in 0..count {
         if region.get(i) == (i as u64).wrapping_mul(step) {
             right = right.saturating_add(1);
         }
     }
-    write!(out, "{right}")?;
-    Ok(())
+    case.tell_number(right);
 }
 
-fn set(region: &mut Region, words: &mut Words<'_>, out: &mut String) -> Result<(), Problem> {
-    let index = words.count()?;
-    let word = words.number()?;
+fn set(case: &mut Case<'_>, region: &mut Region) {
+    let index = case.take_count();
+    let word = case.take_number();
     if index < region.len() {
         region.set(index, word);
-        out.push_str("done")?;
+        case.tell("done");
     } else {
-        out.push_str("no such word")?;
+        case.tell("no such word");
     }
-    Ok(())
 }
 
-fn truncate(region: &mut Region, words: &mut Words<'_>, out: &mut String) -> Result<(), Problem> {
-    let count = words.count()?;
+fn truncate(case: &mut Case<'_>, region: &mut Region) {
+    let count = case.take_count();
     if count <= region.len() {
         region.truncate(count);
-        out.push_str("done")?;
+        case.tell("done");
     } else {
-        out.push_str("too few words")?;
+        case.tell("too few words");
     }
-    Ok(())
 }

@@ -1,184 +1,196 @@
 //! Steps on agents and activations, and the step that shows the whole state.
 
-use crate::stores::kept::Kept;
-use crate::stores::showing::{begin, push_look, push_read, show_number, show_word};
-use pi_cases::domains::push_domain;
-use pi_cases::fault::Problem;
-use pi_cases::terms::{push_term, taken_term};
-use pi_cases::words::Words;
-use pi_cases::written::push_between;
+use crate::bench::Bench;
+use crate::stores::showing::{begin, show, show_number, tell_confined, tell_look, tell_read};
+use pi_cases::Case;
 use pi_types::{Activation, StateStore, Watch, Watches};
-use std::alloc::Global;
 
-/// Takes a step on agents or activations, and answers whether it is one.
-pub fn agents_step<S: StateStore>(
-    alloc: Global,
-    store: &mut S,
-    kept: &mut Kept<S::Mark>,
-    name: &str,
-    words: &mut Words<'_>,
-    out: &mut String,
-) -> Result<bool, Problem> {
+/// Takes a step on agents or activations, and tells whether it is one.
+pub fn take_step<S: StateStore>(case: &mut Case<'_>, bench: &mut Bench<S>, name: &str) -> bool {
     match name {
-        "suspend" => {
-            let rule = words.number()?;
-            let call = kept.taken(alloc, store, words)?;
-            let watches = taken_watches(alloc, store, kept, words)?;
-            show_number(store.suspend(call, rule, &watches)?, out)?;
+        "suspend" => suspend(case, bench),
+        "agents" => show_number(case, bench.store.agents()),
+        "agent" => show_agent(case, &bench.store),
+        "watches" => show_watches(case, &bench.store),
+        "retire" => {
+            let retired = bench.store.retire(case.take_number());
+            case.done(retired);
         }
-        "agents" => show_number(store.agents(), out)?,
-        "agent" => show_agent(alloc, store, words.number()?, out)?,
-        "watches" => show_watches(alloc, store, words.number()?, out)?,
-        "retire" => store.retire(words.number()?)?,
-        "wait" => store.wait(&taken_activation(alloc, words)?)?,
-        "take" => match store.take_waiting()? {
-            Some(activation) => {
-                begin(out)?;
-                push_activation(&activation.copy(alloc)?, out)?;
-            }
-            None => show_word("none", out)?,
-        },
-        "show" => show_state(alloc, store, out)?,
-        _ => return Ok(false),
+        "wait" => wait(case, &mut bench.store),
+        "take" => take_first(case, &mut bench.store),
+        "show" => show_state(case, &mut bench.store),
+        _ => return false,
     }
-    Ok(true)
+    true
 }
 
-/// Takes the words of watches: a kind, a term, and for some kinds a slot.
-fn taken_watches<S: StateStore>(
-    alloc: Global,
-    store: &mut S,
-    kept: &mut Kept<S::Mark>,
-    words: &mut Words<'_>,
-) -> Result<Watches, Problem> {
-    let mut watches = Watches::new(alloc);
-    for _ in 0..words.left() {
-        if let Some(kind) = words.next() {
-            let r = kept.taken(alloc, store, words)?;
-            watches.push(match kind {
-                "ins" => Watch::Ins(r),
-                "bound" => Watch::Bound(r),
-                "dom" => Watch::Dom(r, words.slot()?),
-                "dom_any" => Watch::DomAny(r, words.slot()?),
-                "posted" => Watch::Posted(r, words.slot()?),
-                _ => return Err(Problem::Case("a kind of event")),
-            })?;
+/// Makes a call an agent, which waits for events.
+fn suspend<S: StateStore>(case: &mut Case<'_>, bench: &mut Bench<S>) {
+    let rule = case.take_number();
+    let call = bench.take(case);
+    let mut watches = Watches::new(case.alloc);
+    for _ in 0..case.left() {
+        if case.left() > 0 {
+            let watch = take_watch(case, bench);
+            let added = watches.push(watch);
+            case.done(added);
         }
     }
-    Ok(watches)
+    let agent = bench.store.suspend(call, rule, &watches);
+    if let Some(agent) = case.made(agent) {
+        show_number(case, agent);
+    }
 }
 
-/// Takes the words of an activation: an agent, the number of an event, and maybe a value.
-fn taken_activation(alloc: Global, words: &mut Words<'_>) -> Result<Activation, Problem> {
-    let agent = words.number()?;
-    let watch = words.number()?;
-    let value = if words.left() > 0 {
-        Some(taken_term(alloc, words)?)
+/// Takes the words of an event: a kind, a term, and for some kinds a slot.
+fn take_watch<S: StateStore>(case: &mut Case<'_>, bench: &mut Bench<S>) -> Watch {
+    let kind = case.take_word();
+    let r = bench.take(case);
+    match kind {
+        "ins" => Watch::Ins(r),
+        "bound" => Watch::Bound(r),
+        "dom" => Watch::Dom(r, case.take_slot()),
+        "dom_any" => Watch::DomAny(r, case.take_slot()),
+        "posted" => Watch::Posted(r, case.take_slot()),
+        _ => {
+            case.lacks("a kind of event");
+            Watch::Ins(r)
+        }
+    }
+}
+
+/// Takes the words of an activation, which is to wait: an agent, the number of an event, and maybe a value.
+fn wait<S: StateStore>(case: &mut Case<'_>, store: &mut S) {
+    let agent = case.take_number();
+    let watch = case.take_number();
+    let value = if case.left() > 0 {
+        case.take_term()
     } else {
         None
     };
-    Ok(Activation {
+    let waits = store.wait(&Activation {
         agent,
         watch,
         value,
-    })
+    });
+    case.done(waits);
 }
 
-fn push_activation(activation: &Activation, out: &mut String) -> Result<(), Problem> {
-    write!(out, "{} {}", activation.agent, activation.watch)?;
-    if let Some(value) = &activation.value {
-        out.push(' ')?;
-        push_term(value, out)?;
+/// Takes the first activation that waits, and shows another one that says the same.
+fn take_first<S: StateStore>(case: &mut Case<'_>, store: &mut S) {
+    let taken = store.take_waiting();
+    match case.made(taken) {
+        Some(Some(activation)) => {
+            let copy = activation.copy(case.alloc);
+            if let Some(copy) = case.made(copy) {
+                begin(case);
+                tell_activation(&copy, case);
+            }
+        }
+        _ => show(case, "none"),
     }
-    Ok(())
+}
+
+fn tell_activation(activation: &Activation, case: &mut Case<'_>) {
+    case.tell_number(activation.agent);
+    case.tell(" ");
+    case.tell_number(activation.watch);
+    if let Some(value) = &activation.value {
+        case.tell(" ");
+        case.tell_term(value);
+    }
 }
 
 /// Shows the rule and the call of an agent that is alive.
-fn show_agent<S: StateStore>(
-    alloc: Global,
-    store: &S,
-    n: u64,
-    out: &mut String,
-) -> Result<(), Problem> {
-    begin(out)?;
-    match store.agent(n) {
+fn show_agent<S: StateStore>(case: &mut Case<'_>, store: &S) {
+    begin(case);
+    match store.agent(case.take_number()) {
         Some(agent) => {
-            write!(out, "rule {} of ", agent.rule)?;
-            push_read(alloc, store, agent.call, out)
+            case.tell("rule ");
+            case.tell_number(agent.rule);
+            case.tell(" of ");
+            tell_read(case, store, agent.call);
         }
-        None => {
-            out.push_str("ended")?;
-            Ok(())
-        }
+        None => case.tell("ended"),
     }
 }
 
 /// Shows the events that an agent waits for.
-fn show_watches<S: StateStore>(
-    alloc: Global,
-    store: &S,
-    n: u64,
-    out: &mut String,
-) -> Result<(), Problem> {
-    let watches = store.watches(alloc, n)?;
-    begin(out)?;
-    for (i, watch) in watches.as_slice().iter().enumerate() {
-        push_between(i, ", ", out)?;
-        let (kind, r, slot) = match *watch {
-            Watch::Ins(r) => ("ins", r, None),
-            Watch::Bound(r) => ("bound", r, None),
-            Watch::Dom(r, slot) => ("dom", r, Some(slot)),
-            Watch::DomAny(r, slot) => ("dom_any", r, Some(slot)),
-            Watch::Posted(r, slot) => ("posted", r, Some(slot)),
-        };
-        write!(out, "{kind} ")?;
-        push_read(alloc, store, r, out)?;
-        if let Some(slot) = slot {
-            write!(out, " {slot}")?;
+fn show_watches<S: StateStore>(case: &mut Case<'_>, store: &S) {
+    begin(case);
+    let watches = store.watches(case.alloc, case.take_number());
+    if let Some(watches) = case.made(watches) {
+        for (i, watch) in watches.as_slice().iter().enumerate() {
+            case.tell_between(i, ", ");
+            tell_watch(case, store, *watch);
         }
     }
-    Ok(())
+}
+
+/// Tells an event: its kind, its term, and for some kinds the slot.
+fn tell_watch<S: StateStore>(case: &mut Case<'_>, store: &S, watch: Watch) {
+    let (kind, r, slot) = match watch {
+        Watch::Ins(r) => ("ins ", r, None),
+        Watch::Bound(r) => ("bound ", r, None),
+        Watch::Dom(r, slot) => ("dom ", r, Some(slot)),
+        Watch::DomAny(r, slot) => ("dom_any ", r, Some(slot)),
+        Watch::Posted(r, slot) => ("posted ", r, Some(slot)),
+    };
+    case.tell(kind);
+    tell_read(case, store, r);
+    if let Some(slot) = slot {
+        case.tell(" ");
+        case.tell_number(u64::from(slot));
+    }
 }
 
 /// Shows each variable with its domain, how many constraints there are, the rules of the agents, and what waits.
-fn show_state<S: StateStore>(
-    alloc: Global,
-    store: &mut S,
-    out: &mut String,
-) -> Result<(), Problem> {
-    begin(out)?;
-    for n in 0..store.vars() {
-        if n > 0 {
-            out.push_str(", ")?;
-        }
-        push_look(store, store.var_ref(n), out)?;
-        if let Some(domain) = store.domain(alloc, store.var_ref(n))? {
-            out.push_str(" in")?;
-            push_domain(&domain, out)?;
-        }
-    }
-    write!(out, " | {} posted | rules", store.constraints())?;
-    for n in 0..store.agents() {
-        match store.agent(n) {
-            Some(agent) => write!(out, " {}", agent.rule)?,
-            None => out.push_str(" ended")?,
-        }
-    }
-    out.push_str(" | waiting")?;
-    push_waiting(store, out)
+fn show_state<S: StateStore>(case: &mut Case<'_>, store: &mut S) {
+    begin(case);
+    tell_variables(case, store);
+    case.tell(" | ");
+    case.tell_number(store.constraints());
+    case.tell(" posted | rules");
+    tell_rules(case, store);
+    case.tell(" | waiting");
+    tell_waiting(case, store);
 }
 
-/// Appends the activations that wait, which are taken and come back.
-fn push_waiting<S: StateStore>(store: &mut S, out: &mut String) -> Result<(), Problem> {
-    let mark = store.mark()?;
+fn tell_variables<S: StateStore>(case: &mut Case<'_>, store: &S) {
+    for n in 0..store.vars() {
+        if n > 0 {
+            case.tell(", ");
+        }
+        let variable = store.var_ref(n);
+        tell_look(case, store, variable);
+        tell_confined(case, store, variable);
+    }
+}
+
+fn tell_rules<S: StateStore>(case: &mut Case<'_>, store: &S) {
+    for n in 0..store.agents() {
+        case.tell(" ");
+        match store.agent(n) {
+            Some(agent) => case.tell_number(agent.rule),
+            None => case.tell("ended"),
+        }
+    }
+}
+
+/// Tells the activations that wait, which are taken and come back.
+fn tell_waiting<S: StateStore>(case: &mut Case<'_>, store: &mut S) {
+    let mark = store.mark();
+    let Some(mark) = case.made(mark) else {
+        return;
+    };
     for _ in 0..u64::MAX {
-        let Some(activation) = store.take_waiting()? else {
+        let taken = store.take_waiting();
+        let Some(Some(activation)) = case.made(taken) else {
             break;
         };
-        out.push_str(" (")?;
-        push_activation(&activation, out)?;
-        out.push(')')?;
+        case.tell(" (");
+        tell_activation(&activation, case);
+        case.tell(")");
     }
     store.undo(&mark);
-    Ok(())
 }

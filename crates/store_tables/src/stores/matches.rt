@@ -1,75 +1,60 @@
-//! Steps on heads: `slots` gives what two slots hold, `-` for nothing, and `match PATTERN : TERM` asks for a match.
+//! Steps on heads: `slots` gives what slots hold, `-` for nothing, and `match PATTERN : TERM` asks for a match.
 
-use crate::stores::kept::Kept;
-use crate::stores::showing::{push_read, show_word};
-use pi_cases::fault::Problem;
-use pi_cases::patterns::patterns_of;
-use pi_cases::words::Words;
-use pi_types::StateStore;
+use crate::bench::{Bench, EMPTY};
+use crate::stores::showing::{show, tell_read};
+use pi_cases::{Case, patterns_of};
+use pi_types::{Pattern, Ref, StateStore};
 use pi_unify::{Slots, match_head};
-use std::alloc::Global;
 
-/// How many slots there are.
+/// How many slots a match has.
 const SLOTS: usize = 2;
 
-/// How an empty slot is written.
-const EMPTY: &str = "-";
-
-/// Takes a step on heads, and answers whether it is one.
-pub fn matches_step<S: StateStore>(
-    alloc: Global,
-    store: &mut S,
-    kept: &mut Kept<S::Mark>,
-    name: &str,
-    words: &mut Words<'_>,
-    out: &mut String,
-) -> Result<bool, Problem> {
+/// Takes a step on heads, and tells whether it is one.
+pub fn take_step<S: StateStore>(case: &mut Case<'_>, bench: &mut Bench<S>, name: &str) -> bool {
     match name {
-        "slots" => {
-            kept.slots = Vec::new(alloc);
-            for _ in 0..SLOTS {
-                let held = if words.peek() == Some(EMPTY) {
-                    words.expect(EMPTY)?;
-                    None
-                } else {
-                    Some(kept.taken(alloc, store, words)?)
-                };
-                kept.slots.push(held)?;
-            }
-        }
-        "match" => show_match(alloc, store, kept, words, out)?,
-        _ => return Ok(false),
+        "slots" => bench.take_slots(case),
+        "match" => take_match(case, bench),
+        _ => return false,
     }
-    Ok(true)
+    true
+}
+
+/// Takes a pattern and a term, and shows whether they match.
+fn take_match<S: StateStore>(case: &mut Case<'_>, bench: &mut Bench<S>) {
+    let words = case.take_until(":");
+    let patterns = patterns_of(case, words);
+    let r = bench.take(case);
+    match patterns.first() {
+        Some(pattern) => show_match(case, bench, pattern, r),
+        None => case.lacks("a pattern"),
+    }
 }
 
 /// Shows whether a pattern matches a term, and what the slots hold then.
-fn show_match<S: StateStore>(
-    alloc: Global,
-    store: &mut S,
-    kept: &mut Kept<S::Mark>,
-    words: &mut Words<'_>,
-    out: &mut String,
-) -> Result<(), Problem> {
-    let patterns = patterns_of(alloc, words.until(":").rest())?;
-    let Some(pattern) = patterns.first() else {
-        return Err(Problem::Case("a pattern"));
-    };
-    let r = kept.taken(alloc, store, words)?;
-    let mut slots: Slots = Vec::new(alloc);
+fn show_match<S: StateStore>(case: &mut Case<'_>, bench: &mut Bench<S>, pattern: &Pattern, r: Ref) {
+    let mut slots: Slots = Vec::new(case.alloc);
     for i in 0..SLOTS {
-        slots.push(kept.slots.get(i).copied().unwrap_or(None))?;
+        case.keep(
+            Some(bench.slots.get(i).copied().unwrap_or(None)),
+            &mut slots,
+        );
     }
-    if !match_head(alloc, store, pattern, r, &mut slots)? {
-        return show_word("no", out);
+    let matched = match_head(case.alloc, &mut bench.store, pattern, r, &mut slots);
+    if case.made(matched) == Some(true) {
+        show(case, "yes");
+        tell_slots(case, &bench.store, slots.as_slice());
+    } else {
+        show(case, "no");
     }
-    show_word("yes", out)?;
-    for slot in &slots {
-        out.push_str(", ")?;
+}
+
+/// Tells what slots hold.
+fn tell_slots<S: StateStore>(case: &mut Case<'_>, store: &S, slots: &[Option<Ref>]) {
+    for slot in slots {
+        case.tell(", ");
         match *slot {
-            Some(held) => push_read(alloc, store, held, out)?,
-            None => out.push_str(EMPTY)?,
+            Some(held) => tell_read(case, store, held),
+            None => case.tell(EMPTY),
         }
     }
-    Ok(())
 }

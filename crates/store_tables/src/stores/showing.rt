@@ -1,123 +1,105 @@
 //! What steps show.
 
-use pi_cases::domains::push_domain;
-use pi_cases::fault::Problem;
-use pi_cases::nodes::push_name;
-use pi_cases::terms::push_term;
-use pi_cases::written::push_between;
-use pi_types::{Cell, Domain, ReadStop, Ref, StateStore, Term};
-use std::alloc::{AllocError, Global};
+use pi_cases::{Case, Problem, tell_domain};
+use pi_types::{Cell, Domain, Places, ReadStop, Ref, StateStore, Term};
+use std::alloc::AllocError;
 
 /// Makes a place for one more thing that is shown.
-pub fn begin(out: &mut String) -> Result<(), Problem> {
-    if !out.is_empty() {
-        out.push_str(" ; ")?;
-    }
-    Ok(())
+pub fn begin(case: &mut Case<'_>) {
+    case.begin(" ; ");
 }
 
 /// Shows a word.
-pub fn show_word(word: &str, out: &mut String) -> Result<(), Problem> {
-    begin(out)?;
-    out.push_str(word)?;
-    Ok(())
+pub fn show(case: &mut Case<'_>, word: &str) {
+    begin(case);
+    case.tell(word);
 }
 
 /// Shows whether something holds.
-pub fn show_whether(holds: bool, out: &mut String) -> Result<(), Problem> {
-    show_word(if holds { "yes" } else { "no" }, out)
+pub fn show_whether(case: &mut Case<'_>, holds: bool) {
+    begin(case);
+    case.tell_whether(holds);
 }
 
 /// Shows a number.
-pub fn show_number(number: u64, out: &mut String) -> Result<(), Problem> {
-    begin(out)?;
-    write!(out, "{number}")?;
-    Ok(())
+pub fn show_number(case: &mut Case<'_>, number: u64) {
+    begin(case);
+    case.tell_number(number);
 }
 
-/// Shows numbers.
-pub fn show_numbers(numbers: &[u64], out: &mut String) -> Result<(), Problem> {
-    begin(out)?;
-    out.push('[')?;
-    for (i, number) in numbers.iter().enumerate() {
-        push_between(i, " ", out)?;
-        write!(out, "{number}")?;
-    }
-    out.push(']')?;
-    Ok(())
-}
-
-/// Shows a domain, or that there is none.
-pub fn show_domain(domain: Option<&Domain>, out: &mut String) -> Result<(), Problem> {
-    begin(out)?;
-    match domain {
-        Some(domain) => {
-            out.push_str("in")?;
-            push_domain(domain, out)
+/// Shows numbers, where no memory was wanted.
+pub fn show_numbers(case: &mut Case<'_>, numbers: Result<Places, AllocError>) {
+    if let Some(numbers) = case.made(numbers) {
+        show(case, "[");
+        for (i, number) in numbers.as_slice().iter().enumerate() {
+            case.tell_between(i, " ");
+            case.tell_number(*number);
         }
-        None => {
-            out.push_str("any")?;
-            Ok(())
+        case.tell("]");
+    }
+}
+
+/// Shows a domain, or that there is none, where no memory was wanted.
+pub fn show_domain(case: &mut Case<'_>, domain: Result<Option<Domain>, AllocError>) {
+    match case.made(domain) {
+        Some(Some(domain)) => {
+            show(case, "in");
+            tell_domain(&domain, case);
         }
+        _ => show(case, "any"),
     }
 }
 
-/// A term of a store as it is written down.
-pub fn read<S: StateStore>(alloc: Global, store: &S, r: Ref) -> Result<Option<Term>, Problem> {
-    match store.read_term(alloc, r) {
-        Ok(term) => Ok(Some(term)),
-        Err(ReadStop::TooLarge) => Ok(None),
-        Err(ReadStop::Memory) => Err(Problem::Memory(AllocError)),
+/// A term of a store as it is written down; None where it is too large.
+pub fn read<S: StateStore>(case: &mut Case<'_>, store: &S, r: Ref) -> Option<Term> {
+    match store.read_term(case.alloc, r) {
+        Ok(term) => return Some(term),
+        Err(ReadStop::TooLarge) => {}
+        Err(ReadStop::Memory) => case.fail(Problem::Memory),
+    }
+    None
+}
+
+/// Tells a term of a store in words.
+pub fn tell_read<S: StateStore>(case: &mut Case<'_>, store: &S, r: Ref) {
+    match read(case, store, r) {
+        Some(term) => case.tell_term(&term),
+        None => case.tell("too large"),
     }
 }
 
-/// Appends a term of a store in words.
-pub fn push_read<S: StateStore>(
-    alloc: Global,
-    store: &S,
-    r: Ref,
-    out: &mut String,
-) -> Result<(), Problem> {
-    match read(alloc, store, r)? {
-        Some(term) => push_term(&term, out),
-        None => {
-            out.push_str("too large")?;
-            Ok(())
-        }
-    }
-}
-
-/// Appends what a term of a store is at its root.
-pub fn push_look<S: StateStore>(store: &S, r: Ref, out: &mut String) -> Result<(), Problem> {
+/// Tells what a term of a store is at its root.
+pub fn tell_look<S: StateStore>(case: &mut Case<'_>, store: &S, r: Ref) {
     match store.look(r) {
-        Cell::Var(n) => write!(out, "_{n}")?,
-        Cell::Int(n) => write!(out, "{n}")?,
-        Cell::Atom(name) => push_name(store.name(name), out)?,
+        Cell::Var(n) => case.tell_variable(n),
+        Cell::Int(n) => case.tell_integer(n),
+        Cell::Atom(name) => case.tell_name(store.name(name)),
         Cell::Comp(name, count) => {
-            push_name(store.name(name), out)?;
-            write!(out, "/{count}")?;
+            case.tell_name(store.name(name));
+            case.tell("/");
+            case.tell_number(count);
         }
     }
-    Ok(())
+}
+
+/// Tells the domain of a variable, where it has one.
+pub fn tell_confined<S: StateStore>(case: &mut Case<'_>, store: &S, variable: Ref) {
+    let domain = store.domain(case.alloc, variable);
+    if let Some(Some(domain)) = case.made(domain) {
+        case.tell(" in");
+        tell_domain(&domain, case);
+    }
 }
 
 /// Shows the values of the variables, and the domains of those that have one.
-pub fn show_values<S: StateStore>(
-    alloc: Global,
-    store: &S,
-    out: &mut String,
-) -> Result<(), Problem> {
-    begin(out)?;
+pub fn show_values<S: StateStore>(case: &mut Case<'_>, store: &S) {
+    begin(case);
     for n in 0..store.vars() {
         if n > 0 {
-            out.push_str(", ")?;
+            case.tell(", ");
         }
         let variable = store.var_ref(n);
-        push_read(alloc, store, variable, out)?;
-        if let Some(domain) = store.domain(alloc, variable)? {
-            out.push_str(" in")?;
-            push_domain(&domain, out)?;
-        }
+        tell_read(case, store, variable);
+        tell_confined(case, store, variable);
     }
-    Ok(())
 }

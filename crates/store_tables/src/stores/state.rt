@@ -1,94 +1,80 @@
-//! Steps on bindings, domains, constraints and marks.
+//! Steps on bindings, domains and constraints.
 
-use crate::constraints::{push_constraint, taken_constraint};
-use crate::stores::kept::Kept;
+use crate::bench::Bench;
+use crate::constraints::{take_constraint, tell_constraint};
 use crate::stores::showing::{begin, show_domain, show_number, show_numbers};
-use pi_cases::domains::spans_of;
-use pi_cases::fault::Problem;
-use pi_cases::words::Words;
-use pi_types::StateStore;
+use pi_cases::{Case, spans_of};
 use pi_types::laws::stores::changes_are_undone;
-use std::alloc::Global;
+use pi_types::{Domain, StateStore};
 
-/// Takes a step on the state, and answers whether it is one.
-pub fn state_step<S: StateStore>(
-    alloc: Global,
-    store: &mut S,
-    kept: &mut Kept<S::Mark>,
-    name: &str,
-    words: &mut Words<'_>,
-    out: &mut String,
-) -> Result<bool, Problem> {
+/// Takes a step on the state, and tells whether it is one.
+pub fn take_step<S: StateStore>(case: &mut Case<'_>, bench: &mut Bench<S>, name: &str) -> bool {
     match name {
-        "bind" => {
-            let variable = kept.taken(alloc, store, words)?;
-            let term = kept.taken(alloc, store, words)?;
-            store.bind(variable, term)?;
-        }
-        "confine" => {
-            let variable = kept.taken(alloc, store, words)?;
-            let count = words.left();
-            store.set_domain(variable, &spans_of(alloc, words.taken(count)?)?)?;
-        }
-        "try" => {
-            let count = words.left();
-            changes_are_undone(store, &spans_of(alloc, words.taken(count)?)?)?;
-        }
+        "bind" => bind(case, bench),
+        "confine" => confine(case, bench),
+        "try" => try_changes(case, &mut bench.store),
         "domain" => {
-            let variable = kept.taken(alloc, store, words)?;
-            show_domain(store.domain(alloc, variable)?.as_ref(), out)?;
+            let variable = bench.take(case);
+            let domain = bench.store.domain(case.alloc, variable);
+            show_domain(case, domain);
         }
-        "post" => {
-            let constraint = taken_constraint(alloc, words)?;
-            store.post(&constraint)?;
-        }
-        "constraints" => show_number(store.constraints(), out)?,
-        "constraint" => show_constraint(alloc, store, words.number()?, out)?,
+        "post" => post(case, &mut bench.store),
+        "constraints" => show_number(case, bench.store.constraints()),
+        "constraint" => show_constraint(case, &bench.store),
         "posted" => {
-            let found = store.posted_on(alloc, words.number()?)?;
-            show_numbers(found.as_slice(), out)?;
+            let variable = case.take_number();
+            let found = bench.store.posted_on(case.alloc, variable);
+            show_numbers(case, found);
         }
-        _ => return marks_step(alloc, store, kept, name, words, out),
+        _ => return false,
     }
-    Ok(true)
+    true
 }
 
-/// Takes a step on marks, and answers whether it is one.
-fn marks_step<S: StateStore>(
-    alloc: Global,
-    store: &mut S,
-    kept: &mut Kept<S::Mark>,
-    name: &str,
-    words: &mut Words<'_>,
-    out: &mut String,
-) -> Result<bool, Problem> {
-    match name {
-        "mark" => kept.marks.push(store.mark()?)?,
-        "undo" => store.undo(kept.mark(words)?),
-        "changed" => {
-            let found = store.changed_since(alloc, kept.mark(words)?)?;
-            show_numbers(found.as_slice(), out)?;
-        }
-        "before" => {
-            let mark = kept.mark(words)?;
-            let found = store.domain_at(alloc, mark, words.number()?)?;
-            show_domain(found.as_ref(), out)?;
-        }
-        _ => return Ok(false),
+fn bind<S: StateStore>(case: &mut Case<'_>, bench: &mut Bench<S>) {
+    let variable = bench.take(case);
+    let term = bench.take(case);
+    let bound = bench.store.bind(variable, term);
+    case.done(bound);
+}
+
+fn confine<S: StateStore>(case: &mut Case<'_>, bench: &mut Bench<S>) {
+    let variable = bench.take(case);
+    if let Some(domain) = take_domain(case) {
+        let confined = bench.store.set_domain(variable, &domain);
+        case.done(confined);
     }
-    Ok(true)
+}
+
+fn try_changes<S: StateStore>(case: &mut Case<'_>, store: &mut S) {
+    if let Some(domain) = take_domain(case) {
+        let tried = changes_are_undone(store, &domain);
+        case.done(tried);
+    }
+}
+
+/// Takes the domain that the words of a step are.
+fn take_domain(case: &mut Case<'_>) -> Option<Domain> {
+    let words = case.take_rest();
+    spans_of(case, words)
+}
+
+fn post<S: StateStore>(case: &mut Case<'_>, store: &mut S) {
+    if let Some(constraint) = take_constraint(case) {
+        let posted = store.post(&constraint);
+        case.done(posted);
+    }
 }
 
 /// Shows a constraint that was posted.
-fn show_constraint<S: StateStore>(
-    alloc: Global,
-    store: &S,
-    i: u64,
-    out: &mut String,
-) -> Result<(), Problem> {
-    if i >= store.constraints() {
-        return Err(Problem::Case("a constraint that was posted"));
+fn show_constraint<S: StateStore>(case: &mut Case<'_>, store: &S) {
+    let number = case.take_number();
+    if number >= store.constraints() {
+        return case.lacks("a constraint that was posted");
     }
-    begin(out)?;
-    push_constraint(&store.constraint(alloc, i)?, out)
+    let constraint = store.constraint(case.alloc, number);
+    if let Some(constraint) = case.made(constraint) {
+        begin(case);
+        tell_constraint(&constraint, case);
+    }
 }

@@ -1,0 +1,152 @@
+//! A store, what a case keeps beside it, and terms that are put into it.
+
+use pi_cases::{Case, Node, name_of, node_of};
+use pi_types::{Ref, StateStore};
+use std::alloc::Global;
+
+/// The name of pairs of lists.
+const PAIR: &str = "[|]";
+
+/// How an empty slot is written.
+pub const EMPTY: &str = "-";
+
+/// The term in place of one that isn't there. A store is safe whatever it is handed.
+const NOTHING: Ref = Ref { number: 0 };
+
+/// A store, terms that are named by number, `@0` the first, marks by number too, and what slots hold.
+#[derive(Drop)]
+pub struct Bench<S: StateStore> {
+    pub store: S,
+    pub terms: Vec<Ref>,
+    pub marks: Vec<S::Mark>,
+    pub slots: Vec<Option<Ref>>,
+}
+
+impl<S: StateStore> Bench<S> {
+    /// A store with nothing beside it.
+    pub fn new(alloc: Global, store: S) -> Bench<S> {
+        Bench {
+            store,
+            terms: Vec::new(alloc),
+            marks: Vec::new(alloc),
+            slots: Vec::new(alloc),
+        }
+    }
+
+    /// Takes the words of a term and puts it into the store.
+    pub fn take(&mut self, case: &mut Case<'_>) -> Ref {
+        let mut built = Vec::new(case.alloc);
+        for word in case.take_extent().iter().rev() {
+            let made = self.put(case, word, &mut built);
+            case.keep(made, &mut built);
+        }
+        taken(case, &mut built)
+    }
+
+    /// Keeps a term under the next number.
+    pub fn keep(&mut self, case: &mut Case<'_>, term: Ref) {
+        case.keep(Some(term), &mut self.terms);
+    }
+
+    /// Takes what each slot holds.
+    pub fn take_slots(&mut self, case: &mut Case<'_>) {
+        self.slots = Vec::new(case.alloc);
+        for _ in 0..case.left() {
+            if case.skip(EMPTY) {
+                case.keep(Some(None), &mut self.slots);
+            } else if case.left() > 0 {
+                let held = self.take(case);
+                case.keep(Some(Some(held)), &mut self.slots);
+            }
+        }
+    }
+
+    /// Puts the term that begins with this word, over the newest terms of a stack.
+    fn put(&mut self, case: &mut Case<'_>, word: &str, built: &mut Vec<Ref>) -> Option<Ref> {
+        match node_of(word) {
+            Node::Var(n) => Some(self.variable(case, n)),
+            Node::Kept(i) => Some(self.kept(case, i)),
+            Node::Int(n) => {
+                let made = self.store.put_int(n);
+                case.made(made)
+            }
+            Node::Atom(name) => self.put_atom(case, name),
+            Node::Comp(name, count) => self.put_compound(case, name, count, built),
+            Node::List(count) => {
+                let item = taken(case, built);
+                let end = taken(case, built);
+                self.put_pairs(case, count, end, Some(item), None)
+            }
+            Node::Nest(count) => {
+                let inner = taken(case, built);
+                let last = taken(case, built);
+                self.put_pairs(case, count, inner, None, Some(last))
+            }
+            Node::Twice(count) => {
+                let inner = taken(case, built);
+                self.put_pairs(case, count, inner, None, None)
+            }
+        }
+    }
+
+    /// A variable that was made.
+    fn variable(&self, case: &mut Case<'_>, n: u64) -> Ref {
+        if n >= self.store.vars() {
+            case.lacks("a variable that was made");
+        }
+        self.store.var_ref(n)
+    }
+
+    /// A term that was kept.
+    fn kept(&self, case: &mut Case<'_>, i: usize) -> Ref {
+        match self.terms.get(i) {
+            Some(kept) => *kept,
+            None => {
+                case.lacks("a term that was kept");
+                NOTHING
+            }
+        }
+    }
+
+    fn put_atom(&mut self, case: &mut Case<'_>, word: &str) -> Option<Ref> {
+        let name = name_of(case, word)?;
+        let made = self.store.put_atom(name.as_str());
+        case.made(made)
+    }
+
+    fn put_compound(
+        &mut self,
+        case: &mut Case<'_>,
+        word: &str,
+        count: usize,
+        built: &mut Vec<Ref>,
+    ) -> Option<Ref> {
+        let args = case.several(built, count);
+        let name = name_of(case, word)?;
+        let made = self.store.put_comp(name.as_str(), args.as_slice());
+        case.made(made)
+    }
+
+    /// So many pairs, each over the one before, which stands in the place that isn't given.
+    fn put_pairs(
+        &mut self,
+        case: &mut Case<'_>,
+        count: usize,
+        innermost: Ref,
+        first: Option<Ref>,
+        second: Option<Ref>,
+    ) -> Option<Ref> {
+        let mut made = innermost;
+        for _ in 0..count {
+            let pair = [first.unwrap_or(made), second.unwrap_or(made)];
+            let over = self.store.put_comp(PAIR, &pair);
+            made = case.made(over)?;
+        }
+        Some(made)
+    }
+}
+
+/// Takes the newest term off a stack.
+fn taken(case: &mut Case<'_>, built: &mut Vec<Ref>) -> Ref {
+    case.one(built).unwrap_or(NOTHING)
+}

@@ -1,0 +1,27 @@
+//! Cases of terms, stores, and what is told of them: domains and texts of answers.
+#![tactic(auto)]
+
+mod answers;
+mod bench;
+mod constraints;
+mod marks;
+mod stores;
+mod terms;
+mod told;
+mod words;
+
+use pi_cases::Case;
+
+/// Answers a case of terms or stores, in a file with this text, and tells whether the subject is one of such cases.
+pub fn answer_words(subject: &str, text: &str, case: &mut Case<'_>) -> bool {
+    match subject {
+        "words" => words::answer(case),
+        "terms" => terms::answer(case),
+        "answers" => answers::answer(case),
+        "marks" => marks::answer(case),
+        "stores" => stores::answer(case),
+        "told" => told::answer(case, text),
+        _ => return false,
+    }
+    true
+}

@@ -1,0 +1,33 @@
+//! tables: writes what the cases of files give, which are calls of picatq's libraries.
+#![tactic(auto)]
+
+use pi_cases::{Case, Subjects, run};
+use pi_outside::{Files, RealFiles};
+use std::process::ExitCode;
+
+/// All subjects, with the files of the outside.
+#[derive(Drop)]
+struct Tables<F> {
+    files: F,
+}
+
+impl<R: Print + Input + AllocGlobal, F: Files> Subjects<R> for Tables<F> {
+    fn answer_text(&mut self, _rt: &R, subject: &str, line: &str, case: &mut Case<'_>) -> bool {
+        reader_tables::answer_text(subject, line, case)
+    }
+
+    fn answer_words(&mut self, rt: &R, subject: &str, text: &str, case: &mut Case<'_>) -> bool {
+        reader_tables::answer_words(subject, case)
+            || run_tables::answer_words(subject, text, case)
+            || store_tables::answer_words(subject, text, case)
+            || value_tables::answer_words(subject, case)
+            || value_tables::answer_outside(rt, &mut self.files, subject, case)
+    }
+}
+
+fn main(rt: HostRuntime) -> ExitCode {
+    let mut tables = Tables {
+        files: RealFiles::new(&rt),
+    };
+    run(&rt, &mut tables)
+}
