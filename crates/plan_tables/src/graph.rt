@@ -3,7 +3,7 @@
 use pi_cases::Case;
 use pi_plans::{Successor, Successors};
 use pi_print::term_text;
-use pi_types::{Term, Text};
+use pi_terms::{Term, Text};
 
 /// What the bodies come to at a state where so much of the limit is left, or more.
 #[derive(Drop)]

@@ -6,7 +6,7 @@ ghost use Rattle.pi_plan.specs.Planner.{IsSound, waits_for};
 use crate::graph::{Entry, take_graph, text_of};
 use pi_cases::{Case, Problem};
 use pi_plan::{PlanFault, PlanStep, Planner};
-use pi_types::Term;
+use pi_terms::Term;
 
 /// How many states are asked for at most.
 const MOST: usize = 100_000;

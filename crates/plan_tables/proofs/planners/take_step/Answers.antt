@@ -7,4 +7,4 @@ pub give-requires-clause-asked : goal.give-requires-clause-asked
 give-requires-clause-asked c = ap is_some c.in-Expand.ensures.leaves.2
 
 pub next-again-requires-clause-answered : goal.next-again-requires-clause-answered
-next-again-requires-clause-answered c = idle_at_end c.next.result c.next.new.planner c.in_default.not-Expand c.next.ensures.leaves
+next-again-requires-clause-answered c = idle_at_end c.next.result c.next.new.self c.in_default.not-Expand c.next.ensures.leaves
