@@ -1,5 +1,6 @@
 //! picatq: asks a goal of a Picat program and writes its answers.
 #![tactic(auto)]
+
 ghost use Rattle.std.specs.Prelude.{◌≡◌};
 ghost use Rattle.std.specs.Process.{exit_status};
 
