@@ -1,5 +1,5 @@
 -- What an alternative leaves of a domain is the values that it allows.
-use Rattle.std.specs.Prelude.{◌≡◌, ℤ, pos, neg_ℤ, ◌+ℤ◌, ◌≤ℤ◌, int_le, Bool, true, false, not, ◌&&◌, ◌||◌, List, [], ◌∷◌, refl}
+use Rattle.std.specs.Prelude.{◌≡◌, ℤ, pos, neg_ℤ, ◌+ℤ◌, int_le, Bool, true, false, not, ◌&&◌, ◌||◌, List, refl}
 use Rattle.std.specs.Ordering.{is_eq, int_cmp}
 use Rattle.std.proofs.Common.{arith, ◌∙◌}
 use Rattle.std.proofs.lemmas.Int.{ints}
@@ -8,7 +8,7 @@ use Rattle.pi_constraints.specs.declared.domain.TheConstants.{MAX_VALUE}
 use Rattle.pi_constraints.specs.Domain.{IsWithinBounds, IsDomain, has_value}
 use Rattle.pi_constraints.proofs.DomainLemmas.{values_are_within_bounds}
 use Rattle.pi_constraints.proofs.CommonLemmas.{has_value-common}
-use Rattle.pi_labelling.specs.Choices.{Alternative, is_value, at_most, above, allows, from_to, left_by}
+use Rattle.pi_labelling.specs.Choices.{Alternative, is_value, at_most, above, allows, from_to}
 use Rattle.pi_labelling.specs.LabelLaws.{LeftIsAllowed}
 
 -- two tests that agree where a third one holds

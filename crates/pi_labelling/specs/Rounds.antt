@@ -2,7 +2,7 @@
 -- a better value posted, and takes its first answer. The first round without an answer ends the search, and the last answer that was found is the one
 -- answer. A later round takes one from the depth. (A User's Guide to Picat, 'Constraints'; the rounds are own.)
 use Rattle.std.specs.Prelude.{ℕ, zero, suc, ℤ, Bool, true, false, List, Option, Some, None, codes}
-use Rattle.pi_terms.specs.Tree.{Tree, int}
+use Rattle.pi_terms.specs.Tree.{int}
 use Rattle.pi_traces.specs.Trace.{Trace, end, Raise, Deep, done, one, then}
 use Rattle.pi_traces.specs.Control.{chosen}
 use Rattle.pi_states.specs.State.{State}

@@ -6,7 +6,7 @@ use Rattle.pi_traces.specs.Trace.{Trace, end, note, ans, Done, Raise, Abort, Mis
 use Rattle.pi_traces.specs.Control.{caught, chosen}
 use Rattle.pi_traces.proofs.AnswerLemmas.{EachAnswer, each-map, each-alt, each-then}
 use Rattle.pi_paths.specs.Ways.{Way, Ways, straight, without_choices, choosing, numbered, behind, followed_by, choice_from, choice, catching, Diverge, Apart}
-use Rattle.pi_paths.specs.Resumed.{RuleSearch, rest_unless, rules_ways, rules_search, ticked, chosen_search}
+use Rattle.pi_paths.specs.Resumed.{RuleSearch, rest_unless, rules_ways, rules_search, chosen_search}
 use Rattle.pi_paths.specs.PathLaws.{StraightIsApart, SequencesAreApart, AllApart, ChoicesAreApart, CatchesAreApart, AllBodiesApart, RulesAreApart, ConditionsAreApart, TicksAreApart, NoTwoPathsAreOne}
 
 -- ---- paths
