@@ -4,6 +4,7 @@ use Rattle.std.specs.Str.{bytes_eq}
 use Rattle.pi_terms.specs.Tree.{Tree, var, int, atom, comp, no_trees, tree}
 use Rattle.pi_terms.specs.Variables.{firsts}
 use Rattle.pi_constraints.specs.declared.constraint.Item.{Item}
+use Rattle.pi_constraints.specs.declared.constraint.Constraint.{Constraint}
 use Rattle.pi_constraints.specs.declared.domain.Span.{Span}
 use Rattle.pi_constraints.specs.Domain.{numbers_from, values_of, overlap, shared, common}
 use Rattle.pi_filters.specs.Ends.{greatest_of}
@@ -115,11 +116,17 @@ default-domain :
 unfolding confined followed followed_for
 default-domain = (refl, refl)
 
--- What a search adds to the load for X in 1..2, with Y bound to X: (1 + 2) * (3*3), and for Y too (1 + 4) * (3*3)*(3*3).
+abbrev posted_state : State
+posted_state = record { variables = up_to 2 ∷ up_to 3 ∷ []; constraints = Constraint.Absolute (Item.Var 1) (Item.Var 0) ∷ []; agents = []; waiting = [] }
+
+-- What a search adds to the load for X in 1..2, with Y bound to X: (1 + 2) * (3*3), and for Y too (1 + 4) * (3*3)*(3*3); for Y alone (1 + 2) * (3*3)*(3*3), since X is on its way.
+-- A variable of a posted constraint counts in the product.
 search-loads :
     (search_load (state (up_to 2 ∷ bound (var 0) ∷ [])) (Item.Var 0 ∷ []) ≡ 27)
     × (search_load (state (up_to 2 ∷ bound (var 0) ∷ [])) (Item.Var 0 ∷ Item.Int (pos 4) ∷ Item.Var 1 ∷ []) ≡ 405)
+    × (search_load (state (up_to 2 ∷ bound (var 0) ∷ [])) (Item.Var 1 ∷ []) ≡ 243)
+    × (search_load posted_state (Item.Var 0 ∷ []) ≡ 432)
     × (with_load {A = ℕ} 27 (loaded 3 (one 0)) ≡ note (Load 30) (one 0))
     × (with_load {A = ℕ} 27 (one 0) ≡ note (Load 27) (one 0))
 unfolding search_load squares way_for firsts values_of numbers_from followed followed_for loaded
-search-loads = (refl, refl, refl, refl)
+search-loads = (refl, refl, refl, refl, refl, refl)
