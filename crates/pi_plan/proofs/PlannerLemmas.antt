@@ -8,16 +8,16 @@ use Rattle.pi_terms.specs.Tree.{Tree, var, int, atom, comp}
 use Rattle.pi_terms.specs.Variables.{variables, IsGround}
 use Rattle.pi_plans.specs.declared.given.Successor.{Successor}
 use Rattle.pi_plans.specs.declared.given.GivenState.{GivenState}
-use Rattle.pi_plans.specs.Plan.{Valid, Reached, AllBelow, Wanted, FoundAs}
+use Rattle.pi_plans.specs.Plan.{Valid, Reached, at_start, AllBelow, Wanted, FoundAs}
 use Rattle.pi_plans.specs.Given.{StandsFor, IsFaultless, GivenFinal, over}
-use Rattle.pi_plans.proofs.PlanLemmas.{valid_at, reached_below}
+use Rattle.pi_plans.proofs.PlanLemmas.{valid_at, reached_below, none_where_none_final}
 use Rattle.pi_plans.proofs.GivenLemmas.{over_is_free, IsNew, exhausted_stays}
 use Rattle.pi_plan.specs.declared.checks.PlanFault.{PlanFault}
 use Rattle.pi_plan.specs.declared.search.Search.{Search}
 use Rattle.pi_plan.specs.declared.planner.PlanStep.{PlanStep}
 use Rattle.pi_plan.specs.Place.{place_of}
 use Rattle.pi_plan.specs.Faults.{is_none_left, first_of_two, ground_fault, cost_fault, successor_fault, first_fault}
-use Rattle.pi_plan.specs.Searching.{weight, asked_of, place_asked, rest_of}
+use Rattle.pi_plan.specs.Searching.{weight, asked_of, place_asked, rest_of, NoneFinal}
 use Rattle.pi_plan.specs.Planner.{number_of, ReachedFirst, MayAsk, Says, IsAsking, IsAnswered, IsPlan}
 use Rattle.pi_plan.proofs.PlaceLemmas.{first_or_later, nothing_contained}
 use Rattle.pi_plan.proofs.ExhaustedLemmas.{none_is_final, place_same}
@@ -84,6 +84,15 @@ may_first given false start whole s r within reached least = record {
 entry_place : (by_rest : Bool) (e : GivenState) (s : Tree) (r : ℕ) → StandsFor by_rest e s r → place_asked by_rest (asked_of e) ≡ place_of by_rest s r
 entry_place by_rest e s r h = place_same by_rest e.state s (rest_of e) r h.state (λ b. ap unsigned_abs (h.rest b))
 
+-- where nothing that was given is final, no plan may be answered
+none_from : (given : List GivenState) (by_rest : Bool) (start : Tree) (m : ℕ) → NoneFinal given → (plan : List Tree) (cost : ℕ) → Valid (over given by_rest) start m plan cost → ⊥
+none_from given by_rest start m none plan cost v =
+    none_where_none_final (over given by_rest) start m (λ s r reached f. none_is_final given none f.entry f.among f.is_final) start m plan cost at_start v
+
+none_found : (given : List GivenState) (by_rest best : Bool) (start : Tree) (limit : ℕ) → NoneFinal given → (plan : List Tree) (cost : ℕ) → FoundAs best (over given by_rest) start limit plan cost → ⊥
+none_found given by_rest false start limit none plan cost v = none_from given by_rest start limit none plan cost v
+none_found given by_rest true start limit none plan cost f = none_from given by_rest start f.0 none plan cost f.1.valid
+
 pub may_ask : (w : Wanted) (given : List GivenState) (s : Search) (i : ℕ) → (h : IsAsking w given s i) → MayAsk given s.by_rest w h.way.place.state h.way.rest
 may_ask w given s i h =
     let reached : Reached (over given s.by_rest) w.start s.whole h.way.place.state h.way.rest =
@@ -95,6 +104,7 @@ may_ask w given s i h =
       of_any = h.under.any_plan;
       of_best = λ best. may_first given s.by_rest w.start s.whole h.way.place.state h.way.rest h.within reached (h.least best);
       open_yet = λ g. h.fresh (asked_of g.entry) (contains_map asked_of given g.entry g.among) (entry_place s.by_rest g.entry h.way.place.state h.way.rest g.stands ∙ sym h.place);
+      none_found = none_found given s.by_rest w.best w.start w.limit h.none_final;
     }
 
 -- ---- what was asked for is given

@@ -61,7 +61,7 @@ pub record ReachedFirst (b : Bodies) (by_rest : Bool) (start : Tree) (whole : �
   pub least : AllBelow b start number
 
 -- a state may be asked for with a rest: the call reaches it, of `plan` under the limit and of `best_plan` under a number up to it,
--- and then as early as it may; and nothing was given for it
+-- and then as early as it may; nothing was given for it, and no plan that may be answered is there yet
 pub record MayAsk (given : List GivenState) (by_rest : Bool) (w : Wanted) (s : Tree) (r : ℕ) : Type 0 where
   pub whole : ℕ
   pub within : whole ≤ w.limit
@@ -69,6 +69,7 @@ pub record MayAsk (given : List GivenState) (by_rest : Bool) (w : Wanted) (s : T
   pub of_any : w.best ≡ false → whole ≡ w.limit
   pub of_best : w.best ≡ true → ReachedFirst (over given by_rest) by_rest w.start whole s r
   pub open_yet : IsGiven given by_rest s r → ⊥
+  pub none_found : (plan : List Tree) (cost : ℕ) → IsFound (over given by_rest) w plan cost → ⊥
 
 -- what an answer says, by what was given
 abbrev pub Says : List GivenState → Bool → Wanted → PlanStep → Type 0
@@ -77,19 +78,19 @@ Says given by_rest w (PlanStep.Found plan cost) = (actions : List Tree) × (n : 
 Says given by_rest w PlanStep.NoPlan = HasNoPlan (over given by_rest) w
 Says given by_rest w PlanStep.Memory = Unit {0}
 
--- a planner waits for what it asks for, and answers an end for good
+-- a planner waits for what it asks for, and behind an end for nothing: it answers that for good
 abbrev pub LeavesAt : PlanStep → Stage → List Way → Type 0
 LeavesAt (PlanStep.Expand s r) now ways = (q : ℕ) × (r ≡ pos q) × (asked_at now ways ≡ Some (record { state = s; rest = q }))
-LeavesAt (PlanStep.Found plan cost) now ways = ended_at now ≡ Some (PlanStep.Found plan cost)
-LeavesAt PlanStep.NoPlan now ways = ended_at now ≡ Some PlanStep.NoPlan
-LeavesAt PlanStep.Memory now ways = ended_at now ≡ Some PlanStep.Memory
+LeavesAt (PlanStep.Found plan cost) now ways = (ended_at now ≡ Some (PlanStep.Found plan cost)) × (asked_at now ways ≡ None)
+LeavesAt PlanStep.NoPlan now ways = (ended_at now ≡ Some PlanStep.NoPlan) × (asked_at now ways ≡ None)
+LeavesAt PlanStep.Memory now ways = (ended_at now ≡ Some PlanStep.Memory) × (asked_at now ways ≡ None)
 
 abbrev pub Leaves : PlanStep → Planner → Type 0
 Leaves step p = LeavesAt step p.stage p.search.ways.items
 
--- an end that is answered again; where no memory is left for that, want of memory
+-- an end that is answered again. A plan is copied for that: where no memory is left for it, want of memory
 abbrev pub Repeats : PlanStep → PlanStep → Type 0
-Repeats e PlanStep.Memory = Unit {0}
+Repeats (PlanStep.Found plan cost) PlanStep.Memory = Unit {0}
 Repeats e step = step ≡ e
 
 -- ---- what is true of each planner
@@ -193,6 +194,15 @@ GoesOn Stage.Ready now w given s = StageIs w given s now
 GoesOn (Stage.Asked i) now w given s = now ≡ Stage.Asked i
 GoesOn (Stage.Given i) now w given s = StageIs w given s now
 GoesOn (Stage.Ended e) now w given s = now ≡ Stage.Ended e
+
+-- memory may be wanted at a stage: at each but the ends for which nothing is copied
+abbrev pub MayLack : Stage → Type 0
+MayLack Stage.Ready = Unit {0}
+MayLack (Stage.Asked i) = Unit {0}
+MayLack (Stage.Given i) = Unit {0}
+MayLack (Stage.Ended (Ending.Found plan cost)) = Unit {0}
+MayLack (Stage.Ended Ending.NoPlan) = ⊥
+MayLack (Stage.Ended Ending.Memory) = ⊥
 
 -- what is answered at each stage
 abbrev pub Tells : Stage → List Way → PlanStep → Type 0

@@ -4,7 +4,7 @@ ghost use Rattle.pi_plans.specs.declared.given.GivenState.{GivenState};
 ghost use Rattle.pi_plan.specs.declared.checks.PlanFault.{PlanFault};
 ghost use Rattle.pi_plan.specs.declared.planner.PlanStep.{PlanStep};
 ghost use Rattle.pi_plan.specs.Faults.{first_fault, start_fault, Refuses};
-ghost use Rattle.pi_plan.specs.Planner.{wanted_of, waits_for, ended_by, IsSameCall, Says, Leaves, Repeats, IsSound, Begins, Gives, GoesOn, Tells};
+ghost use Rattle.pi_plan.specs.Planner.{wanted_of, waits_for, ended_by, IsSameCall, Says, Leaves, Repeats, IsSound, Begins, Gives, GoesOn, MayLack, Tells};
 
 mod entry;
 mod stages;
@@ -124,6 +124,7 @@ impl Planner {
         ensures given { self.new.given ≡ self.old.given }
         ensures goes { IsSound self.old → OnOk result (GoesOn self.old.stage self.new.stage (wanted_of self.old) self.old.given self.new.search) }
         ensures tells { IfOk result (Tells self.new.stage self.new.search.ways.items) }
+        ensures lacks { IsSound self.old → OnErr result (MayLack self.old.stage) }
     {
         self.reach_stage()?;
         told(self.alloc, &self.stage, &self.search.ways)
@@ -133,6 +134,7 @@ impl Planner {
         ensures same { IsSameCall self.old self.new }
         ensures given { self.new.given ≡ self.old.given }
         ensures goes { IsSound self.old → OnOk result (GoesOn self.old.stage self.new.stage (wanted_of self.old) self.old.given self.new.search) }
+        ensures lacks { OnErr result (MayLack self.old.stage) }
     {
         match &self.stage {
             Stage::Ready => {

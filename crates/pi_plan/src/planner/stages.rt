@@ -1,8 +1,8 @@
 //! From one stage of a planner to the next, and what is answered there.
-ghost use Rattle.std.specs.Prelude.{◌≡◌, ◌-◌, List, true, Some, length, slice_get, IfOk, option_copied};
+ghost use Rattle.std.specs.Prelude.{◌≡◌, ◌-◌, List, true, Some, length, slice_get, IfOk, OnErr, option_copied};
 ghost use Rattle.pi_plans.specs.declared.given.GivenState.{GivenState};
 ghost use Rattle.pi_plans.specs.Plan.{Wanted};
-ghost use Rattle.pi_plan.specs.Planner.{IsReady, IsAnswered, StageIs, Tells};
+ghost use Rattle.pi_plan.specs.Planner.{IsReady, IsAnswered, StageIs, MayLack, Tells};
 
 use super::entry::told_number;
 use super::{Ending, PlanStep, Stage};
@@ -70,7 +70,8 @@ fn found(search: &Search, alloc: Global, way: usize) -> Result<Stage, AllocError
 
 /// What is answered at a stage. At those in between, where none is answered, there is no step.
 pub(crate) fn told(alloc: Global, stage: &Stage, ways: &[Way]) -> Result<PlanStep, AllocError>
-    ensures { IfOk result (Tells stage.now ways.now) }
+    ensures tells { IfOk result (Tells stage.now ways.now) }
+    ensures lacks { OnErr result (MayLack stage.now) }
 {
     match stage {
         Stage::Ready => Err(AllocError),

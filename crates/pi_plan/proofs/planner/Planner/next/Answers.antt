@@ -2,7 +2,7 @@ use Rattle.std.proofs.Common.{List, sym, subst}
 use Rattle.pi_plans.specs.declared.given.GivenState.{GivenState}
 use Rattle.pi_plans.specs.Plan.{Wanted}
 use Rattle.pi_plan.specs.Planner.{wanted_of, IsSoundAt, Says}
-use Rattle.pi_plan.proofs.StageLemmas.{NextAt, next_at}
+use Rattle.pi_plan.proofs.StageLemmas.{NextAt, next_at, memory_repeats}
 use Rattle.pi_plan.proofs.planner.Planner.next.Goals as goal
 
 pub returns-in-Ok-clause-sound : goal.returns-in-Ok-clause-sound
@@ -30,3 +30,6 @@ returns-in-Ok-clause-repeats c =
     let facts : NextAt c.args.self.now.stage c.go_on.new.self.stage (wanted_of c.args.self.now) c.args.self.now.given c.go_on.new.self.search c.in-Ok.step =
     next_at _ _ _ _ c.args.self.now.search _ _ c.requires.sound c.requires.answered (c.in-Ok.ensures.goes c.requires.sound) c.in-Ok.ensures.tells in
     facts.repeats
+
+pub returns-in-Err-clause-repeats : goal.returns-in-Err-clause-repeats
+returns-in-Err-clause-repeats c = λ e ended. memory_repeats c.args.self.now.stage e (c.in-Err.ensures.lacks c.requires.sound) ended
