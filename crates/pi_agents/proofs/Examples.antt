@@ -1,12 +1,17 @@
 -- Small runs of what waits, worked through the definitions.
-use Rattle.std.specs.Prelude.{◌≡◌, ℕ, zero, suc, pos, Bool, true, false, cond, List, [], ◌∷◌, Option, Some, None, refl}
-use Rattle.pi_terms.specs.Tree.{var, int}
-use Rattle.pi_traces.specs.Trace.{Trace, end, note, Deep, Tick, Load, Out, done, one, alt, then}
+use Rattle.std.specs.Prelude.{◌≡◌, ℕ, zero, suc, nat_lt, pos, Bool, true, false, cond, List, [], ◌∷◌, Option, Some, None, refl}
+use Rattle.std.proofs.Common.{ap}
+use Rattle.pi_terms.specs.Tree.{Tree, var, int, cells, most_cells}
+use Rattle.pi_traces.specs.Trace.{Trace, end, note, Raise, Deep, Tick, Load, Out, done, one, alt, then}
 use Rattle.pi_traces.specs.Control.{chosen}
-use Rattle.pi_states.specs.State.{State, Agent, on_dom, end_agent}
+use Rattle.pi_states.specs.Value.{rounds, value}
+use Rattle.pi_states.specs.State.{State, Agent, on_dom, bindings, followed_for, followed, end_agent}
 use Rattle.pi_states.specs.declared.event.Activation.{Activation}
+use Rattle.pi_effects.specs.Exception.{term_too_large}
+use Rattle.pi_settling.specs.Answers.{activations}
 use Rattle.pi_agents.specs.Fire.{SlotValue, Rules, decided, fired}
 use Rattle.pi_agents.specs.Drain.{Lower, drained_from, drained}
+use Rattle.pi_agents.specs.Posting.{with_posted, posting}
 
 abbrev agent : ℕ → Bool → Agent
 agent rule alive = record { call = var 0; rule = rule; watches = on_dom (var 0) 5 ∷ []; alive = alive }
@@ -53,3 +58,11 @@ agents-fire :
     × (drained {X = State} None (state (agent 0 true ∷ []) (waking 0 ∷ [])) ≡ end Deep)
 unfolding decided fired drained_from then alt chosen end_agent
 agents-fire = (refl, refl, refl, refl, refl, refl)
+
+-- A term past the limit is raised whatever X is; one within it does nothing on a bound X.
+large-terms_raise : (s : State) (x t : Tree) → nat_lt most_cells (cells (value (bindings s) t)) ≡ true → posting s x t ≡ end (Raise term_too_large)
+large-terms_raise s x t e = ap (λ (b : Bool). cond b (end (Raise term_too_large)) (one (with_posted s x t))) e
+
+bound-posts_nothing : posting (state [] []) (int (pos 1)) (int (pos 2)) ≡ one (state [] [])
+unfolding value rounds cells activations followed followed_for
+bound-posts_nothing = refl

@@ -15,11 +15,12 @@ pub record SlotValue : Type 0 where
 
 -- The rules of calls, by number. X is a place in a run behind a rule's condition.
 pub record Rules (X : Type 0) : Type 0 where
-  -- a call matched with a rule, whose condition is taken: no answer where the rule doesn't apply, and of several answers the first counts
+  -- a call matched with a rule, whose condition is taken: no answer where the rule doesn't apply, and of several answers the first counts. The condition is a strict place: what
+  -- waits is run before its answer counts, the later activations with it
   pub applies : ℕ → Tree → State → Trace X
   -- the rule's body from there, where an event may have given a slot its value. The condition knew nothing of that value
   pub body : ℕ → Tree → Option SlotValue → X → Trace State
-  -- a call that is made anew
+  -- a call that is made anew: its Tick, and then its rules. It is no goal of a body, so nothing that waits is run before that Tick
   pub anew : Tree → State → Trace State
 
 -- the rules from this number on, so many before the agent's own one, and then that one: the first that applies decides

@@ -1,19 +1,22 @@
 -- More depth only adds to labelling.
-use Rattle.std.specs.Prelude.{ℕ, zero, suc, ℤ, List, [], ◌∷◌, Option, Some, None}
+use Rattle.std.specs.Prelude.{ℕ, zero, suc, ℤ, List, [], ◌∷◌, Option, Some, None, codes}
 use Rattle.std.proofs.Common.{ap}
-use Rattle.pi_terms.specs.Tree.{Tree}
+use Rattle.pi_constraints.specs.declared.constraint.Item.{Item}
 use Rattle.pi_traces.specs.Trace.{Trace, end, Raise, Tick, done, one, then}
 use Rattle.pi_traces.specs.Depth.{Below, deeper, same_note, DepthOnlyAdds}
 use Rattle.pi_traces.proofs.BelowLemmas.{below-refl, below-alt, below-then, below-chosen}
 use Rattle.pi_states.specs.State.{State}
-use Rattle.pi_labelling.specs.Options.{Options}
+use Rattle.pi_effects.specs.Exception.{type_error}
+use Rattle.pi_labelling.specs.Options.{Options, Objective}
+use Rattle.pi_labelling.specs.Confined.{confined}
 use Rattle.pi_labelling.specs.Choices.{Pending, Alternative, picked, pending, alternatives, left_by, narrowed_to}
-use Rattle.pi_labelling.specs.Label.{Settling, Lower, tried, one_tried, all_tried, labelled_by, labelled, labelled_at}
-use Rattle.pi_labelling.specs.Rounds.{Seeking, round, weighed, bettered}
-use Rattle.pi_labelling.specs.LabelLaws.{LabellingNothing, LabellingDoesMore, SeekingDoesMore}
+use Rattle.pi_labelling.specs.Label.{Settling, Lower, tried, one_tried, all_tried, labelled_by, labelled, labelled_at, labelling}
+use Rattle.pi_labelling.specs.Reading.{Solving}
+use Rattle.pi_labelling.specs.Rounds.{begins, betters, worth, round, weighed, bettered, sought, solved_for}
+use Rattle.pi_labelling.specs.LabelLaws.{LabellingNothing, LabellingDoesMore, SolvingDoesMore}
 
 pub labelling_nothing : LabellingNothing
-labelling_nothing settle below o vars s e = ap (λ (ps : List Pending). labelled_by settle below o s (picked ps o.variable)) e
+labelling_nothing settle below o items s e = ap (λ (ps : List Pending). labelled_by settle below o s (picked ps o.variable)) e
 
 -- the lowest depth does less than any
 abbrev DoMore : Option Lower → Option Lower → Type 0
@@ -42,38 +45,46 @@ by-more : (settle : Settling) (l m : Option Lower) (o : Options) (s : State) (p 
 by-more settle l m o s None more = below-refl (one s)
 by-more settle l m o s (Some p) more = all-more settle l m s p (alternatives o.value p.domain) more
 
-labelled-more : (settle : Settling) (l m : Option Lower) (o : Options) (vars : List Tree) (s : State) → DoMore l m → Below (labelled settle l o vars s) (labelled settle m o vars s)
-labelled-more settle l m o vars s more = by-more settle l m o s (picked (pending s vars) o.variable) more
+labelled-more : (settle : Settling) (l m : Option Lower) (o : Options) (items : List Item) (s : State) → DoMore l m → Below (labelled settle l o items s) (labelled settle m o items s)
+labelled-more settle l m o items s more = by-more settle l m o s (picked (pending s items) o.variable) more
 
-at-more : (settle : Settling) (drains : ℕ → State → Trace State) (o : Options) (vars : List Tree) → ((s : State) → DepthOnlyAdds (λ d. drains d s)) → (d : ℕ) (s : State) →
-    Below (labelled_at settle drains o vars d s) (labelled_at settle drains o vars (suc d) s)
+at-more : (settle : Settling) (drains : ℕ → State → Trace State) (o : Options) (items : List Item) → ((s : State) → DepthOnlyAdds (λ d. drains d s)) → (d : ℕ) (s : State) →
+    Below (labelled_at settle drains o items d s) (labelled_at settle drains o items (suc d) s)
 unfolding labelled_at
-at-more settle drains o vars more zero s = labelled-more settle None (Some (record { drains = drains 0; labels = labelled_at settle drains o vars 0 })) o vars s tt
-at-more settle drains o vars more (suc d) s =
-    labelled-more settle (Some (record { drains = drains d; labels = labelled_at settle drains o vars d })) (Some (record { drains = drains (suc d); labels = labelled_at settle drains o vars (suc d) })) o vars s
-    (λ r. more r d, λ r. at-more settle drains o vars more d r)
+at-more settle drains o items more zero s = labelled-more settle None (Some (record { drains = drains 0; labels = labelled_at settle drains o items 0 })) o items s tt
+at-more settle drains o items more (suc d) s =
+    labelled-more settle (Some (record { drains = drains d; labels = labelled_at settle drains o items d })) (Some (record { drains = drains (suc d); labels = labelled_at settle drains o items (suc d) })) o items s
+    (λ r. more r d, λ r. at-more settle drains o items more d r)
 
 pub labelling_does_more : LabellingDoesMore
-labelling_does_more settle drains o vars more s d = at-more settle drains o vars more d s
+labelling_does_more settle drains o items more s d = at-more settle drains o items more d (confined s items)
 
 -- ---- with an objective
 
-round-more : (p : Seeking) (d : ℕ) (t : Trace State) → ((s : State) → DepthOnlyAdds (λ d. p.drains d s)) → ((s : State) → DepthOnlyAdds (λ d. p.labels d s)) → Below (round p d t) (round p (suc d) t)
-round-more p d t drains labels =
-    below-then (then t (p.drains d)) (then t (p.drains (suc d))) (p.labels d) (p.labels (suc d)) (below-then t t (p.drains d) (p.drains (suc d)) (below-refl t) (λ s. drains s d)) (λ s. labels s d)
+round-more : (p : Solving) (d : ℕ) (t : Trace State) → ((s : State) → DepthOnlyAdds (λ d. p.drains d s)) → Below (round p d t) (round p (suc d) t)
+round-more p d t drains =
+    below-then (then t (p.drains d)) (then t (p.drains (suc d))) (labelling p.settle p.drains p.chosen_options p.items d) (labelling p.settle p.drains p.chosen_options p.items (suc d))
+    (below-then t t (p.drains d) (p.drains (suc d)) (below-refl t) (λ s. drains s d)) (λ s. labelling_does_more p.settle p.drains p.chosen_options p.items drains s d)
 
-weighed-more : (p : Seeking) (r : State) (w : Option ℤ) (f g : ℤ → Trace State) → ((v : ℤ) → Below (f v) (g v)) → Below (weighed p r w f) (weighed p r w g)
-weighed-more p r None f g more = below-refl (end (Raise (p.no_integer r)))
-weighed-more p r (Some v) f g more = more v
+weighed-more : (o : Objective) (r : State) (w : Option ℤ) (f g : ℤ → Trace State) → ((v : ℤ) → Below (f v) (g v)) → Below (weighed o r w f) (weighed o r w g)
+weighed-more o r None f g more = below-refl (end (Raise (type_error (codes "integer") o.expression r)))
+weighed-more o r (Some v) f g more = more v
 
-better-more : (p : Seeking) → ((s : State) → DepthOnlyAdds (λ d. p.drains d s)) → ((s : State) → DepthOnlyAdds (λ d. p.labels d s)) → (d : ℕ) (s r : State) (v : ℤ) → Below (bettered p d s r v) (bettered p (suc d) s r v)
+better-more : (p : Solving) (o : Objective) → ((s : State) → DepthOnlyAdds (λ d. p.drains d s)) → (d : ℕ) (s r : State) (v : ℤ) → Below (bettered p o d s r v) (bettered p o (suc d) s r v)
 unfolding bettered
-better-more p drains labels zero s r v = deeper (bettered p 1 s r v)
-better-more p drains labels (suc d) s r v =
-    below-chosen (round p d (p.betters v s)) (round p (suc d) (p.betters v s)) (λ q. weighed p q (p.worth q) (bettered p d s q)) (λ q. weighed p q (p.worth q) (bettered p (suc d) s q)) (one r) (one r)
-    (round-more p d (p.betters v s) drains labels) (λ q. weighed-more p q (p.worth q) (bettered p d s q) (bettered p (suc d) s q) (λ w. better-more p drains labels d s q w)) (below-refl (one r))
+better-more p o drains zero s r v = deeper (bettered p o 1 s r v)
+better-more p o drains (suc d) s r v =
+    below-chosen (round p d (betters p o v s)) (round p (suc d) (betters p o v s)) (λ q. weighed o q (worth p o q) (bettered p o d s q)) (λ q. weighed o q (worth p o q) (bettered p o (suc d) s q)) (one r) (one r)
+    (round-more p d (betters p o v s) drains) (λ q. weighed-more o q (worth p o q) (bettered p o d s q) (bettered p o (suc d) s q) (λ w. better-more p o drains d s q w)) (below-refl (one r))
 
-pub seeking_does_more : SeekingDoesMore
-seeking_does_more p drains labels s d =
-    below-chosen (round p d (p.begins s)) (round p (suc d) (p.begins s)) (λ q. weighed p q (p.worth q) (bettered p d s q)) (λ q. weighed p q (p.worth q) (bettered p (suc d) s q)) done done
-    (round-more p d (p.begins s) drains labels) (λ q. weighed-more p q (p.worth q) (bettered p d s q) (bettered p (suc d) s q) (λ w. better-more p drains labels d s q w)) (below-refl done)
+sought-more : (p : Solving) (o : Objective) → ((s : State) → DepthOnlyAdds (λ d. p.drains d s)) → (s : State) (d : ℕ) → Below (sought p o d s) (sought p o (suc d) s)
+sought-more p o drains s d =
+    below-chosen (round p d (begins p o s)) (round p (suc d) (begins p o s)) (λ q. weighed o q (worth p o q) (bettered p o d s q)) (λ q. weighed o q (worth p o q) (bettered p o (suc d) s q)) done done
+    (round-more p d (begins p o s) drains) (λ q. weighed-more o q (worth p o q) (bettered p o d s q) (bettered p o (suc d) s q) (λ w. better-more p o drains d s q w)) (below-refl done)
+
+solved-more : (p : Solving) (o : Option Objective) → ((s : State) → DepthOnlyAdds (λ d. p.drains d s)) → (s : State) (d : ℕ) → Below (solved_for p o d s) (solved_for p o (suc d) s)
+solved-more p None drains s d = labelling_does_more p.settle p.drains p.chosen_options p.items drains s d
+solved-more p (Some o) drains s d = sought-more p o drains s d
+
+pub solving_does_more : SolvingDoesMore
+solving_does_more p drains s d = solved-more p p.chosen_options.objective drains s d

@@ -1,16 +1,26 @@
 -- Options, alternatives and labellings, worked through the definitions.
-use Rattle.std.specs.Prelude.{◌≡◌, ℕ, ℤ, pos, negsuc, int_le, true, cond, List, [], ◌∷◌, Some, None, codes, refl}
-use Rattle.pi_terms.specs.Tree.{var, int, atom, comp, no_trees, tree}
+use Rattle.std.specs.Prelude.{◌≡◌, ℕ, ℤ, pos, negsuc, int_le, Bool, true, false, cond, List, [], ◌∷◌, Some, None, codes, refl}
+use Rattle.std.specs.Str.{bytes_eq}
+use Rattle.pi_terms.specs.Tree.{Tree, var, int, atom, comp, no_trees, tree}
+use Rattle.pi_terms.specs.Variables.{firsts}
+use Rattle.pi_constraints.specs.declared.constraint.Item.{Item}
+use Rattle.pi_constraints.specs.declared.constraint.Constraint.{Constraint}
 use Rattle.pi_constraints.specs.declared.domain.Span.{Span}
 use Rattle.pi_constraints.specs.Domain.{numbers_from, values_of, overlap, shared, common}
 use Rattle.pi_filters.specs.Ends.{greatest_of}
-use Rattle.pi_traces.specs.Trace.{Trace, end, note, ans, Done, Deep, Tick, done, one, alt, then}
+use Rattle.pi_traces.specs.Trace.{Trace, end, note, ans, Done, Deep, Tick, Load, done, one, alt, then}
 use Rattle.pi_traces.specs.Control.{chosen}
-use Rattle.pi_states.specs.State.{State, Variable, within, bound, next, empty_state, with_new, followed_for, followed}
+use Rattle.pi_states.specs.State.{State, Variable, free, within, bound, next, empty_state, with_new, followed_for, followed}
+use Rattle.pi_settling.specs.Roots.{all_values}
+use Rattle.pi_settling.specs.Settled.{loaded}
 use Rattle.pi_labelling.specs.Options.{forward, backward, ff, ValueWord, up, down, split, reverse_split, options, bad_option, words_read, read_options}
-use Rattle.pi_labelling.specs.Choices.{Pending, smallest, picked, is_value, at_most, above, alternatives}
+use Rattle.pi_labelling.specs.Confined.{confined}
+use Rattle.pi_labelling.specs.Choices.{Pending, pending, smallest, picked, is_value, at_most, above, alternatives}
 use Rattle.pi_labelling.specs.Label.{all_tried, labelled_at}
-use Rattle.pi_labelling.specs.Rounds.{Seeking, bettered, sought}
+use Rattle.pi_labelling.specs.Reading.{reads, Reading, Solving}
+use Rattle.pi_labelling.specs.Rounds.{bettered, solved}
+use Rattle.pi_labelling.specs.SearchLoad.{way_for, squares, search_load}
+use Rattle.pi_labelling.specs.Assignments.{with_load}
 
 -- [down,$max(X)] and [up,down] and [foo]
 options-read :
@@ -53,7 +63,7 @@ abbrev up_to : ℕ → Variable
 up_to n = within (span (pos 1) (pos n))
 
 abbrev trace_of : ValueWord → ℕ → State → Trace State
-trace_of w d s = labelled_at (λ before r. one r) (λ d r. one r) (record { variable = forward; value = w; objective = None }) (var 0 ∷ int (pos 7) ∷ var 1 ∷ []) d s
+trace_of w d s = labelled_at (λ before r. one r) (λ d r. one r) (record { variable = forward; value = w; objective = None }) (Item.Var 0 ∷ Item.Int (pos 7) ∷ Item.Var 1 ∷ []) d s
 
 -- Two variables with two values each, without constraints: every assignment, the left one slowest. A Tick and one of the depth for each alternative.
 labellings :
@@ -67,20 +77,56 @@ labellings :
 unfolding labelled_at all_tried values_of numbers_from greatest_of overlap shared common followed followed_for then alt
 labellings = (refl, refl, refl, refl)
 
--- an objective that is worth the number of variables, with two rounds that find something
-abbrev seeking : Seeking
-seeking = record {
-  begins = λ s. one (with_new s);
-  betters = λ v s. cond (int_le v (pos 1)) (one (with_new (with_new s))) done;
-  worth = λ r. Some (pos (next r));
-  no_integer = λ r. var 0;
-  drains = λ d r. one r;
-  labels = λ d r. one r;
+-- A reading by which an operand stands for the number of variables and makes one; that it is to be above one makes two, above more is never so, and it is never below anything.
+abbrev greater : Tree → State → Trace State
+greater (int i) s = cond (int_le i (pos 1)) (one (with_new (with_new s))) done
+greater t s = done
+
+abbrev counting : Reading
+counting = record {
+  operand = λ t s. reads (with_new s) (record { terms = []; constant = pos (next s) });
+  relation = λ sign t u s. cond (bytes_eq sign (codes "#>")) (greater u s) done;
 }
 
--- The last answer that was found is the one answer; each round begins from the call's state; a later round takes one from the depth.
+abbrev solving : Bool → Solving
+solving greatest = record {
+  settle = λ before r. one r;
+  drains = λ d r. one r;
+  reading = counting;
+  chosen_options = record { variable = forward; value = up; objective = Some (record { greatest = greatest; expression = var 0 }) };
+  items = [];
+}
+
+-- The last answer that was found is the one answer; each round begins from the call's state; a later round takes one from the depth; `$max` asks for more and `$min` for less.
 rounds :
-    (sought seeking 2 empty_state ≡ one (with_new (with_new empty_state)))
-    × (sought seeking 1 empty_state ≡ end Deep)
-unfolding bettered chosen then alt
-rounds = (refl, refl)
+    (solved (solving true) 2 empty_state ≡ one (with_new (with_new empty_state)))
+    × (solved (solving true) 1 empty_state ≡ end Deep)
+    × (solved (solving false) 1 empty_state ≡ one (with_new empty_state))
+unfolding bettered labelled_at confined chosen then alt
+rounds = (refl, refl, refl)
+
+-- the state of an unbound variable without a domain, one with a domain and one that is bound
+abbrev mixed : State
+mixed = state (free ∷ up_to 2 ∷ is 5 ∷ [])
+
+-- Before it is confined a variable without a domain isn't pending; confined it has all values. A domain and a binding stay.
+default-domain :
+    (confined mixed (Item.Var 0 ∷ Item.Int (pos 7) ∷ Item.Var 1 ∷ Item.Var 2 ∷ []) ≡ state (within all_values ∷ up_to 2 ∷ is 5 ∷ []))
+    × (pending mixed (Item.Var 0 ∷ Item.Var 2 ∷ []) ≡ [])
+unfolding confined followed followed_for
+default-domain = (refl, refl)
+
+abbrev posted_state : State
+posted_state = record { variables = up_to 2 ∷ up_to 3 ∷ []; constraints = Constraint.Absolute (Item.Var 1) (Item.Var 0) ∷ []; agents = []; waiting = [] }
+
+-- What a search adds to the load for X in 1..2, with Y bound to X: (1 + 2) * (3*3), and for Y too (1 + 4) * (3*3)*(3*3); for Y alone (1 + 2) * (3*3)*(3*3), since X is on its way.
+-- A variable of a posted constraint counts in the product.
+search-loads :
+    (search_load (state (up_to 2 ∷ bound (var 0) ∷ [])) (Item.Var 0 ∷ []) ≡ 27)
+    × (search_load (state (up_to 2 ∷ bound (var 0) ∷ [])) (Item.Var 0 ∷ Item.Int (pos 4) ∷ Item.Var 1 ∷ []) ≡ 405)
+    × (search_load (state (up_to 2 ∷ bound (var 0) ∷ [])) (Item.Var 1 ∷ []) ≡ 243)
+    × (search_load posted_state (Item.Var 0 ∷ []) ≡ 432)
+    × (with_load {A = ℕ} 27 (loaded 3 (one 0)) ≡ note (Load 30) (one 0))
+    × (with_load {A = ℕ} 27 (one 0) ≡ note (Load 27) (one 0))
+unfolding search_load squares way_for firsts values_of numbers_from followed followed_for loaded
+search-loads = (refl, refl, refl, refl, refl, refl)

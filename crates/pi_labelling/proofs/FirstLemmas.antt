@@ -5,9 +5,13 @@ use Rattle.std.proofs.lemmas.Int.{ints}
 use Rattle.std.proofs.lemmas.List.{length-map}
 use Rattle.pi_constraints.specs.declared.constraint.Item.{Item}
 use Rattle.pi_filters.specs.Solutions.{value_of}
-use Rattle.pi_traces.specs.Trace.{one}
+use Rattle.pi_traces.specs.Trace.{Trace}
 use Rattle.pi_states.specs.State.{State}
-use Rattle.pi_labelling.specs.Assignments.{Extends, ComesBefore, IsFirst, all_bound}
+use Rattle.pi_settling.specs.Settled.{IsSettled}
+use Rattle.pi_settling.proofs.UniqueLemmas.{settled_is_one}
+use Rattle.pi_labelling.specs.Confined.{confined}
+use Rattle.pi_labelling.specs.SearchLoad.{search_load}
+use Rattle.pi_labelling.specs.Assignments.{Extends, ComesBefore, IsFirst, all_bound, with_load}
 use Rattle.pi_labelling.specs.LabelLaws.{FirstIsOne, FirstOfAll, SatSolvedIsOne}
 
 data Compared (is js : List ℤ) : Type 0 where
@@ -44,9 +48,12 @@ pub first_is_one : FirstIsOne
 first_is_one s items values others f g = decide s items values others f g (compared values others (as_many s items values f.extends ∙ sym (as_many s items others g.extends)))
 
 pub sat_solved_is_one : SatSolvedIsOne
-sat_solved_is_one s items t u (inl (values, f, e)) (inl (others, g, h)) = e ∙ (ap (λ (v : List ℤ). one (all_bound s items v)) (first_is_one s items values others f g) ∙ sym h)
-sat_solved_is_one s items t u (inl (values, f, e)) (inr (none, h)) = absurd (none values f.extends)
-sat_solved_is_one s items t u (inr (none, e)) (inl (others, g, h)) = absurd (none others g.extends)
+sat_solved_is_one s items t u (inl (values, v, f, a, e)) (inl (others, w, g, b, h)) =
+    let same : values ≡ others = first_is_one (confined s items) items values others f g in
+    let moved : IsSettled s (all_bound (confined s items) items others) v = subst (λ (vs : List ℤ). IsSettled s (all_bound (confined s items) items vs) v) same a in
+    e ∙ (ap (λ (x : Trace State). with_load (search_load s items) x) (settled_is_one s (all_bound (confined s items) items others) v w moved b) ∙ sym h)
+sat_solved_is_one s items t u (inl (values, v, f, a, e)) (inr (none, h)) = absurd (none values f.extends)
+sat_solved_is_one s items t u (inr (none, e)) (inl (others, w, g, b, h)) = absurd (none others g.extends)
 sat_solved_is_one s items t u (inr (none, e)) (inr (still, h)) = e ∙ sym h
 
 -- nothing comes before itself, nor before what comes before it
@@ -74,5 +81,5 @@ none-first values more others rise (suc k, l, e) h =
 pub first_of_all : FirstOfAll
 first_of_all s items values more all = record {
   extends = all.sound 0 values (omega arith);
-  none_before = λ others extends h. none-first values more others all.ascend (all.complete others extends) h;
+  none_before = λ others extends h. none-first values more others all.in_order (all.complete others extends) h;
 }

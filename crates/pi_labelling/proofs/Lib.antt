@@ -1,4 +1,7 @@
 pub mod DepthLemmas
 pub mod ChoiceLemmas
+pub mod LeftLemmas
+pub mod ConfinedLemmas
 pub mod FirstLemmas
 pub mod Examples
+pub mod CallExamples

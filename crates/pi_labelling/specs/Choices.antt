@@ -1,14 +1,16 @@
--- Which variable labelling picks, and which alternatives that has. (A User's Guide to Picat, 'Constraints'.)
+-- Which variable labelling picks, and which alternatives that has. (A User's Guide to Picat, 'Constraints'.) Labelling begins where each of its variables has a domain or is
+-- bound, and none loses that.
 use Rattle.std.specs.Prelude.{ℕ, ◌/◌, ℤ, pos, negsuc, neg_ℤ, ◌+ℤ◌, int_le, Bool, cond, not, nat_lt, List, [], ◌∷◌, map, reverse, filter_map, Option, Some, None}
 use Rattle.std.specs.Ordering.{is_eq, int_cmp}
 use Rattle.std.specs.List.{last_or}
-use Rattle.pi_terms.specs.Tree.{Tree, var, int, atom, comp}
+use Rattle.pi_terms.specs.Tree.{int}
+use Rattle.pi_constraints.specs.declared.constraint.Item.{Item}
 use Rattle.pi_constraints.specs.declared.domain.Span.{Span}
 use Rattle.pi_constraints.specs.declared.domain.TheConstants.{MAX_VALUE}
 use Rattle.pi_constraints.specs.Domain.{values_of, size_of, common}
 use Rattle.pi_filters.specs.Ends.{least_of, greatest_of}
-use Rattle.pi_states.specs.State.{State, bindings, domain_of, followed, with_binding, with_domain}
-use Rattle.pi_settling.specs.Roots.{domain_or_all}
+use Rattle.pi_states.specs.State.{State, domain_of, with_binding, with_domain}
+use Rattle.pi_settling.specs.Roots.{root_item}
 use Rattle.pi_labelling.specs.Options.{VariableWord, forward, backward, ff, ValueWord, up, down, split, reverse_split}
 
 -- a variable that isn't bound yet, and its values
@@ -16,15 +18,18 @@ pub record Pending : Type 0 where
   pub variable : ℕ
   pub domain : List Span
 
-abbrev pub pending_at : State → Tree → Option Pending
-pending_at s (var n) = Some (record { variable = n; domain = domain_or_all (domain_of s n) })
-pending_at s (int i) = None
-pending_at s (atom name) = None
-pending_at s (comp name ts) = None
+abbrev pub pending_with : ℕ → Option (List Span) → Option Pending
+pending_with n None = None
+pending_with n (Some d) = Some (record { variable = n; domain = d })
 
--- those of a list of terms, in their order
-abbrev pub pending : State → List Tree → List Pending
-pending s vars = filter_map (λ t. pending_at s (followed (bindings s) t)) vars
+-- an item whose bindings are followed
+abbrev pub pending_at : State → Item → Option Pending
+pending_at s (Item.Var n) = pending_with n (domain_of s n)
+pending_at s (Item.Int i) = None
+
+-- those of the items, in their order
+abbrev pub pending : State → List Item → List Pending
+pending s items = filter_map (λ x. pending_at s (root_item s x)) items
 
 -- the leftmost of those with the smallest domain
 unfoldable pub smallest : Pending → List Pending → Pending

@@ -1,16 +1,19 @@
 -- The laws of labelling.
-use Rattle.std.specs.Prelude.{◌≡◌, ℕ, ◌<◌, ℤ, pos, IsTrue, List, [], ◌∷◌, length, get_or, Option}
-use Rattle.pi_terms.specs.Tree.{Tree}
+use Rattle.std.specs.Prelude.{◌≡◌, ℕ, ◌<◌, ℤ, pos, ◌&&◌, IsTrue, List, [], ◌∷◌, length, get_or, Contains, Option, Some, None}
+use Rattle.pi_terms.specs.Places.{held}
 use Rattle.pi_constraints.specs.declared.constraint.Item.{Item}
 use Rattle.pi_constraints.specs.declared.domain.Span.{Span}
 use Rattle.pi_constraints.specs.Domain.{IsDomain, has_value}
 use Rattle.pi_traces.specs.Trace.{Trace, one}
 use Rattle.pi_traces.specs.Depth.{DepthOnlyAdds}
-use Rattle.pi_states.specs.State.{State}
+use Rattle.pi_states.specs.State.{State, bindings, next, domain_of}
+use Rattle.pi_settling.specs.Roots.{root_item}
 use Rattle.pi_labelling.specs.Options.{Options, ValueWord}
-use Rattle.pi_labelling.specs.Choices.{pending, Alternative, is_value, allows, alternatives}
-use Rattle.pi_labelling.specs.Label.{Settling, Lower, labelled, labelled_at}
-use Rattle.pi_labelling.specs.Rounds.{Seeking, sought}
+use Rattle.pi_labelling.specs.Confined.{confined}
+use Rattle.pi_labelling.specs.Choices.{pending, Alternative, is_value, allows, alternatives, left_by}
+use Rattle.pi_labelling.specs.Label.{Settling, Lower, labelled, labelling}
+use Rattle.pi_labelling.specs.Reading.{Solving}
+use Rattle.pi_labelling.specs.Rounds.{solved}
 use Rattle.pi_labelling.specs.Assignments.{IsFirst, AreAll, IsSatSolved}
 
 -- one of these alternatives allows a value, and no other does
@@ -24,19 +27,30 @@ pub record OneAllows (alts : List Alternative) (i : ℤ) : Type 0 where
 abbrev pub AlternativesPartTheDomain : Type 0
 AlternativesPartTheDomain = (w : ValueWord) (d : List Span) (i : ℤ) → IsDomain d → IsTrue (has_value d i) → OneAllows (alternatives w d) i
 
+-- what an alternative leaves of a domain is the values that it allows
+abbrev pub LeftIsAllowed : Type 0
+LeftIsAllowed = (a : Alternative) (d : List Span) (i : ℤ) → IsDomain d → has_value (left_by a d) i ≡ (has_value d i && allows a i)
+
+-- where labelling begins each of its unbound variables has a domain, and nothing more is bound
+abbrev pub ConfinedHaveDomains : Type 0
+ConfinedHaveDomains = (s : State) (items : List Item) (x : Item) (n : ℕ) → Contains items x → root_item s x ≡ Item.Var n → n < next s → held (bindings s) n ≡ None →
+    (d : List Span) × (domain_of (confined s items) n ≡ Some d)
+
+abbrev pub ConfiningBindsNothing : Type 0
+ConfiningBindsNothing = (s : State) (items : List Item) → bindings (confined s items) ≡ bindings s
+
 -- where no variable is unbound, labelling adds nothing
 abbrev pub LabellingNothing : Type 0
-LabellingNothing = (settle : Settling) (below : Option Lower) (o : Options) (vars : List Tree) (s : State) → pending s vars ≡ [] → labelled settle below o vars s ≡ one s
+LabellingNothing = (settle : Settling) (below : Option Lower) (o : Options) (items : List Item) (s : State) → pending s items ≡ [] → labelled settle below o items s ≡ one s
 
 -- more depth only adds, where it does for what runs what waits
 abbrev pub LabellingDoesMore : Type 0
-LabellingDoesMore = (settle : Settling) (drains : ℕ → State → Trace State) (o : Options) (vars : List Tree) →
-    ((s : State) → DepthOnlyAdds (λ d. drains d s)) → (s : State) → DepthOnlyAdds (λ d. labelled_at settle drains o vars d s)
+LabellingDoesMore = (settle : Settling) (drains : ℕ → State → Trace State) (o : Options) (items : List Item) →
+    ((s : State) → DepthOnlyAdds (λ d. drains d s)) → (s : State) → DepthOnlyAdds (λ d. labelling settle drains o items d s)
 
 -- and so with an objective
-abbrev pub SeekingDoesMore : Type 0
-SeekingDoesMore = (p : Seeking) → ((s : State) → DepthOnlyAdds (λ d. p.drains d s)) → ((s : State) → DepthOnlyAdds (λ d. p.labels d s)) →
-    (s : State) → DepthOnlyAdds (λ d. sought p d s)
+abbrev pub SolvingDoesMore : Type 0
+SolvingDoesMore = (p : Solving) → ((s : State) → DepthOnlyAdds (λ d. p.drains d s)) → (s : State) → DepthOnlyAdds (λ d. solved p d s)
 
 -- there is one first assignment at most
 abbrev pub FirstIsOne : Type 0

@@ -1,6 +1,11 @@
 pub mod Options
+pub mod Asked
+pub mod Confined
 pub mod Choices
 pub mod Label
+pub mod Reading
 pub mod Rounds
+pub mod SearchLoad
 pub mod Assignments
 pub mod LabelLaws
+pub mod SolutionLaws

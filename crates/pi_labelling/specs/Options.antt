@@ -1,5 +1,4 @@
--- The options of `solve` (A User's Guide to Picat, 'Constraints'): at most one word of each group. The first wrong word from the left is told, or the term
--- itself where it is no proper list.
+-- The options of `solve` (A User's Guide to Picat, 'Constraints'): at most one word of each group. The first wrong word from the left is told.
 use Rattle.std.specs.Prelude.{ℕ, Bool, true, false, cond, List, [], ◌∷◌, Option, Some, None, codes}
 use Rattle.std.specs.Str.{bytes_eq}
 use Rattle.pi_terms.specs.Tree.{Tree, var, int, atom, comp, no_trees, tree}

@@ -7,7 +7,7 @@ use Rattle.pi_traces.specs.Control.{caught, chosen}
 use Rattle.pi_traces.proofs.AnswerLemmas.{EachAnswer, each-map, each-alt, each-then}
 use Rattle.pi_paths.specs.Ways.{Way, Ways, straight, without_choices, choosing, numbered, behind, followed_by, choice_from, choice, catching, Diverge, Apart}
 use Rattle.pi_paths.specs.Resumed.{RuleSearch, rest_unless, rules_ways, rules_search, chosen_search}
-use Rattle.pi_paths.specs.PathLaws.{StraightIsApart, SequencesAreApart, AllApart, ChoicesAreApart, CatchesAreApart, AllBodiesApart, RulesAreApart, ConditionsAreApart, NoTwoPathsAreOne}
+use Rattle.pi_paths.specs.PathLaws.{StraightIsApart, SequencesAreApart, AllApart, ChoicesAreApart, CatchesAreApart, AllBodiesApart, RulesAreApart, ConditionsAreApart, TicksAreApart, NoTwoPathsAreOne}
 
 -- ---- paths
 
@@ -259,6 +259,10 @@ rules_are_apart rs all = apart-of (rules_search rs).ways (rules-parts 1 rs all)
 
 pub conditions_are_apart : {X A : Type 0} → ConditionsAreApart X A
 conditions_are_apart t f other all rest = apart-of (chosen_search t f other).ways (parts-chosen t (λ x. (f x).ways) other.ways (λ x. parts-of (f x).ways (all x)) (parts-of other.ways rest))
+
+pub ticks_are_apart : {A : Type 0} → TicksAreApart A
+unfolding answers
+ticks_are_apart s a = a
 
 pub no_two_paths_are_one : {A : Type 0} → NoTwoPathsAreOne A
 no_two_paths_are_one t a = λ i j d below within. diverge-differ (get_or (answers t) i d).path (get_or (answers t) j d).path (a i j d below within)

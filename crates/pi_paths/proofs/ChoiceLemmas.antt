@@ -108,7 +108,7 @@ at-caught (ans y t) f x rest a = elim (begun a) [
   | inr b ↦ answer-caught y (at-caught t f x rest b)
 ]
 
-leads-passed : {A : Type 0} (n : Note) (f : Following A) (path : List ℕ) (x : A) (left : List ℕ) (rest : Ways A) → Leads f path x left rest → Leads (passed n f) path x left rest
+pub leads-passed : {A : Type 0} (n : Note) (f : Following A) (path : List ℕ) (x : A) (left : List ℕ) (rest : Ways A) → Leads f path x left rest → Leads (passed n f) path x left rest
 unfolding Leads
 leads-passed Tick f path x left rest h = h
 leads-passed (Load k) f path x left rest h = h

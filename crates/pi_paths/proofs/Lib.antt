@@ -3,3 +3,4 @@ pub mod ApartLemmas
 pub mod ResumedLemmas
 pub mod ChoiceLemmas
 pub mod Examples
+pub mod SimpleLemmas

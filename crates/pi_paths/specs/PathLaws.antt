@@ -4,7 +4,7 @@ use Rattle.pi_terms.specs.Tree.{Tree}
 use Rattle.pi_traces.specs.Trace.{Trace, alt, then, answers}
 use Rattle.pi_traces.specs.Control.{caught, chosen}
 use Rattle.pi_paths.specs.Ways.{Ways, plain, without_choices, numbered, followed_by, choice_from, choice, catching, Apart}
-use Rattle.pi_paths.specs.Resumed.{Search, sequence, alternatives, caught_search, RuleSearch, rest_unless, rules_ways, rules_search, ticked, chosen_search, IsResumable}
+use Rattle.pi_paths.specs.Resumed.{Search, simple, sequence, alternatives, caught_search, RuleSearch, rest_unless, rules_ways, rules_search, ticked, chosen_search, IsResumable}
 
 -- Without its paths a trace is what it was.
 
@@ -55,11 +55,18 @@ RulesAreApart X A = (rs : List (RuleSearch X A)) → AllBodiesApart rs → Apart
 abbrev pub ConditionsAreApart : Type 0 → Type 0 → Type 0
 ConditionsAreApart X A = (t : Trace X) (f : X → Search A) (other : Search A) → ((x : X) → Apart (f x).ways) → Apart other.ways → Apart (chosen_search t f other).ways
 
+abbrev pub TicksAreApart : Type 0 → Type 0
+TicksAreApart A = (s : Search A) → Apart s.ways → Apart (ticked s).ways
+
 -- and so no two answers have one path
 abbrev pub NoTwoPathsAreOne : Type 0 → Type 0
 NoTwoPathsAreOne A = (t : Ways A) → Apart t → AllPairs (λ v w. v.path ≢ w.path) (answers t)
 
 -- A resumed run gives, behind the answer of its path, what stands behind that answer in the trace.
+
+-- where all begins: a goal that makes no choice, with one answer at most
+abbrev pub SimpleIsResumable : Type 0 → Type 0
+SimpleIsResumable A = (t : Trace A) → length (answers t) ≤ 1 → IsResumable (simple t)
 
 abbrev pub SequencesAreResumable : Type 0 → Type 0 → Type 0
 SequencesAreResumable A B = (s : Search A) (g : A → Search B) → IsResumable s → ((x : A) → IsResumable (g x)) → IsResumable (sequence s g)

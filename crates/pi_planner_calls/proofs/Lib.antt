@@ -1,3 +1,4 @@
 pub mod TraceLemmas
 pub mod CostLemmas
 pub mod KnownLemmas
+pub mod Examples

@@ -8,7 +8,7 @@ use Rattle.pi_states.specs.Value.{Bindings, value}
 use Rattle.pi_states.specs.State.{State, bindings, followed}
 use Rattle.pi_meaning.specs.View.{Wanted, reading}
 use Rattle.pi_meaning.specs.Level.{Applied}
-use Rattle.pi_meaning.specs.Raise.{raised_with}
+use Rattle.pi_meaning.specs.Raise.{within_limit, raised_with}
 use Rattle.pi_planner_calls.specs.Situation.{Situation}
 
 -- the limit of a call that names none
@@ -63,9 +63,9 @@ abbrev pub asked_trace : Situation → State → Asked → Trace State
 asked_trace v s (asks c wanted) = reading v.view c wanted s
 asked_trace v s (refuses t) = raised_with (codes "planner") t s
 
--- a planner call with these arguments
+-- a planner call with these arguments: the value of its start is measured before anything else of it is judged
 abbrev pub planner_trace : Situation → Bool → Trees → State → Option (Trace State)
-planner_trace v best ts s = option_map (λ a. asked_trace v s (asked best (bindings s) a)) (asking (bindings s) ts)
+planner_trace v best ts s = option_map (λ a. within_limit (value (bindings s) a.start) (asked_trace v s (asked best (bindings s) a))) (asking (bindings s) ts)
 
 abbrev pub rest_or : Option ℕ → State → Trace Applied
 rest_or None s = end (Raise (atom (codes "no_resource")))

@@ -14,7 +14,7 @@ pub record Offer : Type 0 where
   pub action : Tree
   pub cost : Tree
 
--- what a program's bodies do with a state, at a depth
+-- what a program's bodies do with a state, at a depth. Each is a strict place: what waits is run before an answer counts.
 pub record Bodies : Type 0 where
   pub final : Situation → Tree → ℕ → Trace State
   pub action : Situation → Tree → ℕ → Trace Offer

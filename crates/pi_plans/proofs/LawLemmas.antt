@@ -1,5 +1,5 @@
 -- The laws of plans.
-use Rattle.std.proofs.Common.{ℕ, ◌≤◌, List, Bool, true, false, inl, inr, arith}
+use Rattle.std.proofs.Common.{ℕ, ◌≤◌, List, Bool, true, false, inl, inr, subst, arith}
 use Rattle.std.proofs.lemmas.Bool.{cases_lt}
 use Rattle.pi_terms.specs.Tree.{Tree}
 use Rattle.pi_plans.specs.Plan.{Bodies, Valid, IsBest, NoneAs, FoundAs}
@@ -46,8 +46,8 @@ best_number_is_one given by_rest start limit plan other m cost n else_cost one t
     omega arith
 
 pub none_where_there_is_none : NoneWhereThereIsNone
-none_where_there_is_none given by_rest false start limit plan cost h v = h.none plan cost v
-none_where_there_is_none given by_rest true start limit plan cost h v = (h limit (omega arith)).none plan cost v
+none_where_there_is_none given by_rest false start limit m plan cost h tried v = h.none plan cost (subst (λ (n : ℕ). Valid (over given by_rest) start n plan cost) tried v)
+none_where_there_is_none given by_rest true start limit m plan cost h tried v = (h m tried).none plan cost v
 
 found_or_none : (b : Bodies) (best : Bool) (start : Tree) (limit : ℕ) (plan : List Tree) (cost : ℕ) → NoneAs best b start limit → FoundAs best b start limit plan cost → ⊥
 found_or_none b false start limit plan cost h found = h.none plan cost found

@@ -1,5 +1,5 @@
 -- What valid and best plans are, in a user's words, whatever was given.
-use Rattle.std.specs.Prelude.{◌≡◌, ℕ, ◌≤◌, Bool, false, List}
+use Rattle.std.specs.Prelude.{◌≡◌, ℕ, ◌≤◌, Bool, true, false, List}
 use Rattle.pi_terms.specs.Tree.{Tree}
 use Rattle.pi_plans.specs.declared.given.GivenState.{GivenState}
 use Rattle.pi_plans.specs.Plan.{Valid, Exhausted, IsBest, Wanted, IsFound, HasNoPlan}
@@ -30,10 +30,15 @@ abbrev pub BestNumberIsOne : Type 0
 BestNumberIsOne = (given : List GivenState) (by_rest : Bool) (start : Tree) (limit : ℕ) (plan other : List Tree) (m cost n else_cost : ℕ) →
     IsBest (over given by_rest) start limit plan cost m → IsBest (over given by_rest) start limit other else_cost n → m ≡ n
 
+-- the numbers under which a call looks for a plan: its limit, or each up to it where a best one is wanted
+abbrev pub IsTried : Bool → ℕ → ℕ → Type 0
+IsTried false limit m = m ≡ limit
+IsTried true limit m = m ≤ limit
+
 -- where a call has no plan, none is valid under its limit; a best plan under no number up to it
 abbrev pub NoneWhereThereIsNone : Type 0
-NoneWhereThereIsNone = (given : List GivenState) (by_rest best : Bool) (start : Tree) (limit : ℕ) (plan : List Tree) (cost : ℕ) →
-    HasNoPlan (over given by_rest) (record { best = best; start = start; limit = limit }) → Valid (over given by_rest) start limit plan cost → ⊥
+NoneWhereThereIsNone = (given : List GivenState) (by_rest best : Bool) (start : Tree) (limit m : ℕ) (plan : List Tree) (cost : ℕ) →
+    HasNoPlan (over given by_rest) (record { best = best; start = start; limit = limit }) → IsTried best limit m → Valid (over given by_rest) start m plan cost → ⊥
 
 -- so no call has both a plan and none
 abbrev pub FoundOrNone : Type 0

@@ -50,7 +50,8 @@ same_item (Item.Int i) (Item.Int j) = is_eq (int_cmp i j)
 same_item (Item.Var m) (Item.Int j) = false
 same_item (Item.Int i) (Item.Var n) = false
 
--- what the variables at these places come to, each once
+-- What the variables at these places come to, each once. Two that come to one integer are one too, as two that come to one variable are: what is counted is the values that
+-- stand at the places, and there it isn't told which variable led to them.
 unfoldable pub roots_of : State → List Item → List Item
 roots_of s [] = []
 roots_of s (Item.Int i ∷ xs) = roots_of s xs

@@ -1,4 +1,5 @@
 -- A query's run, call of `next` by call: what is printed of it, and what it comes to.
+use Rattle.std.specs.Prelude.{IfErr}
 use Rattle.std.proofs.Common.{◌≡◌, ◌<◌, ◌≤◌, ℕ, suc, ◌+◌, ◌-◌, Bool, true, false, List, [], ◌∷◌, ◌++◌, Result, Ok, Err, refl, sym, ap, subst, ◌∙◌, arith, append_assoc, length, length-append, slice_set}
 use Rattle.std.proofs.lemmas.List.{append-nil}
 use Rattle.pi_outside.specs.Writes.{SinkWrite}
@@ -150,7 +151,7 @@ not-inner mode top inner = absurd (let same : Mode.Top ≡ Mode.Inner = sym top 
 -- ---- what a query comes to
 
 -- a part with its end, whose line was to be written
-comes-line : (answers steps : ℕ) (program : List PredTree) (q : QueryTree) (events : List (Emitted Solution)) (run : Cut Solution) (ending : QueryEnd) (ticks : ℕ) (r : Result ℕ Stop) (first second : List SinkWrite) → IsQueryPart program q steps run events → Ends answers events run ending → count_answers events ≤ answers → ticks ≡ count_ticks events → HandsAll (print_solutions q.names events) first →
+comes-line : (answers steps : ℕ) (program : List PredTree) (q : QueryTree) (events : List (Emitted Solution)) (run : Cut Solution) (ending : QueryEnd) (ticks : ℕ) (r : Result ℕ Stop) (first second : List SinkWrite) → IsQueryPart program q steps run events → Ends answers events run ending → (r ≡ Err Memory → count_answers events < answers) → ticks ≡ count_ticks events → HandsAll (print_solutions q.names events) first →
     WritesLine ending r second → ComesTo answers steps program q ticks r (first ++ second)
 comes-line answers steps program q events run ending ticks (Ok status) first second part ends few count handed line = record {
   run = run;
@@ -166,15 +167,22 @@ comes-line answers steps program q events run ending ticks (Err Write) first sec
     record { run = run; part = events; is_part = part; how = in_line refl count ending ends (fails-then (print_solutions q.names events) (line_of ending ∷ []) first second handed line.line.cut) }
 comes-line answers steps program q events run ending ticks (Err Memory) first second part ends few count handed line =
     let no_more : second ≡ [] = line.line.cut in
-    record { run = run; part = events; is_part = part; how = at_memory refl count few (rw (no_more, append-nil first) handed) }
+    record { run = run; part = events; is_part = part; how = at_memory refl count (few refl) (rw (no_more, append-nil first) handed) }
+
+-- a write that fails is no want of memory
+not-memory : (r : Result ℕ Stop) → IfErr r (λ stop. stop ≡ Write) → r ≡ Err Memory → ⊥
+not-memory r alone is =
+    let write : Memory ≡ Write = subst (λ (t : Result ℕ Stop). IfErr t (λ stop. stop ≡ Write)) is alone in
+    absurd (cc)
 
 -- as many answers were written as are asked for
 pub comes-stopped : {M : Type 0} (m : MachineView M) (b : Budget) (answers steps : ℕ) (program : List PredTree) (q : QueryTree) (r : Result ℕ Stop) (first second : List SinkWrite) →
-    IsRunnable program q → 0 < answers → b.steps ≡ steps → IsWritten m b answers program q first → WritesLine Stopped r second → ComesTo answers steps program q b.ticks r (first ++ second)
-comes-stopped m b answers steps program q r first second runnable some same w line =
+    IsRunnable program q → 0 < answers → b.steps ≡ steps → IsWritten m b answers program q first → IfErr r (λ stop. stop ≡ Write) →
+    WritesLine Stopped r second → ComesTo answers steps program q b.ticks r (first ++ second)
+comes-stopped m b answers steps program q r first second runnable some same w alone line =
     let few : count_ticks w.events ≤ steps = omega (arith, w.ticks, w.within.ticks, same) in
     let has : HasPart program q steps w.events = has-part m program q w.events steps runnable w.runs few in
-    comes-line answers steps program q w.events has.run Stopped b.ticks r first second has.is_part (w.last some) (omega (arith, w.answers)) w.ticks w.written line
+    comes-line answers steps program q w.events has.run Stopped b.ticks r first second has.is_part (w.last some) (λ memory. absurd (not-memory r alone memory)) w.ticks w.written line
 
 -- the writing of an answer's lines is cut off
 pub comes-cut : {M : Type 0} (m n : MachineView M) (b c : Budget) (answers given steps : ℕ) (program : List PredTree) (q : QueryTree) (a : Answer) (stop : Stop) (first second : List SinkWrite) →
@@ -219,7 +227,7 @@ comes-cut m n b c answers given steps program q a Memory first second runnable w
 
 -- memory is wanted behind these events
 comes-nothing : {M : Type 0} (n : MachineView M) (events : List (Emitted Solution)) (answers steps : ℕ) (program : List PredTree) (q : QueryTree) (ticks : ℕ) (r : Result ℕ Stop) (first second : List SinkWrite) →
-    IsRunnable program q → RunsTo (query_view []) n program q events → ticks ≡ count_ticks events → ticks ≤ steps → count_answers events ≤ answers → HandsAll (print_solutions q.names events) first → WritesNothing r second →
+    IsRunnable program q → RunsTo (query_view []) n program q events → ticks ≡ count_ticks events → ticks ≤ steps → count_answers events < answers → HandsAll (print_solutions q.names events) first → WritesNothing r second →
     ComesTo answers steps program q ticks r (first ++ second)
 comes-nothing n events answers steps program q ticks (Ok status) first second runnable runs count few asked handed nothing = absurd nothing.stops
 comes-nothing n events answers steps program q ticks (Err Write) first second runnable runs count few asked handed nothing = let memory : Write ≡ Memory = nothing.memory in absurd (cc)
@@ -248,20 +256,20 @@ comes-end m n b c answers given steps program q Happening.Done true r first seco
     let whole = whole-of answers given (w.events ++ some_ticks k) (Ended Done) tail.answers less in
     comes-line answers steps program q (w.events ++ some_ticks k) _ NoMore c.ticks r first second
     (part-whole program q steps (w.events ++ some_ticks k) (Ended Done) (happens.0 steps (omega (arith, tail.ticks, (called.within w.within).ticks, same))))
-    (whole, omega (arith, tail.answers, has_some refl)) (omega (arith, tail.answers, less)) tail.ticks (rw tail.printed w.written) writes
+    (whole, omega (arith, tail.answers, has_some refl)) (λ memory. omega (arith, tail.answers, less)) tail.ticks (rw tail.printed w.written) writes
 comes-end m n b c answers given steps program q Happening.Done false r first second runnable w called less same has_some has_none not_answer happens writes =
     let k : ℕ = counted m.mode b c in
     let tail : IsTail w.events k given c.ticks q.names = tail-of m n b c given program q first w called in
     let whole = whole-of answers given (w.events ++ some_ticks k) (Ended Done) tail.answers less in
     comes-line answers steps program q (w.events ++ some_ticks k) _ No c.ticks r first second
     (part-whole program q steps (w.events ++ some_ticks k) (Ended Done) (happens.0 steps (omega (arith, tail.ticks, (called.within w.within).ticks, same))))
-    (whole, omega (arith, tail.answers, has_none refl)) (omega (arith, tail.answers, less)) tail.ticks (rw tail.printed w.written) writes
+    (whole, omega (arith, tail.answers, has_none refl)) (λ memory. omega (arith, tail.answers, less)) tail.ticks (rw tail.printed w.written) writes
 comes-end m n b c answers given steps program q (Happening.Raised ball) has r first second runnable w called less same has_some has_none not_answer happens writes =
     let k : ℕ = counted m.mode b c in
     let tail : IsTail w.events k given c.ticks q.names = tail-of m n b c given program q first w called in
     comes-line answers steps program q (w.events ++ some_ticks k) _ (Exception ball) c.ticks r first second
     (part-whole program q steps (w.events ++ some_ticks k) (Ended (Raise ball)) (happens.0 steps (omega (arith, tail.ticks, (called.within w.within).ticks, same))))
-    (whole-of answers given (w.events ++ some_ticks k) (Ended (Raise ball)) tail.answers less) (omega (arith, tail.answers, less)) tail.ticks (rw tail.printed w.written) writes
+    (whole-of answers given (w.events ++ some_ticks k) (Ended (Raise ball)) tail.answers less) (λ memory. omega (arith, tail.answers, less)) tail.ticks (rw tail.printed w.written) writes
 comes-end m n b c answers given steps program q Happening.StepsSpent has r first second runnable w called less same has_some has_none not_answer happens writes =
     let k : ℕ = counted m.mode b c in
     let tail : IsTail w.events k given c.ticks q.names = tail-of m n b c given program q first w called in
@@ -269,7 +277,7 @@ comes-end m n b c answers given steps program q Happening.StepsSpent has r first
     let ticks : count_ticks w.events + k ≡ steps = omega (arith, tail.so_many, (called.within w.within).ticks, same, spent) in
     comes-line answers steps program q (w.events ++ some_ticks k) _ StepsSpent c.ticks r first second
     (part-whole program q steps (w.events ++ some_ticks k) Spent (subst (λ s. IsRun program q [] s (record { events = w.events ++ some_ticks k; stop = Spent })) ticks happens.0))
-    (whole-of answers given (w.events ++ some_ticks k) Spent tail.answers less) (omega (arith, tail.answers, less)) tail.ticks (rw tail.printed w.written) writes
+    (whole-of answers given (w.events ++ some_ticks k) Spent tail.answers less) (λ memory. omega (arith, tail.answers, less)) tail.ticks (rw tail.printed w.written) writes
 
 -- ---- the list of queries
 

@@ -1,6 +1,6 @@
 -- What a goal comes to that is asked of a program: what is written is the printing of a prefix of its run, and then the line of its
 -- end. A run is that of the meaning over names, of the texts that were read.
-use Rattle.std.specs.Prelude.{◌≡◌, ◌≤◌, ℕ, List, [], ◌∷◌, ◌++◌}
+use Rattle.std.specs.Prelude.{◌≡◌, ◌<◌, ◌≤◌, ℕ, List, [], ◌∷◌, ◌++◌}
 use Rattle.pi_outside.specs.Writes.{SinkWrite}
 use Rattle.pi_traces.specs.Trace.{Emitted, answered, count_ticks}
 use Rattle.pi_traces.specs.Depth.{Cut}
@@ -39,7 +39,7 @@ pub data HowCut (answers : ℕ) (run : Cut Told) (part : List (Emitted Told)) (t
       FailsIn (print earlier) (answer_lines (told_answer x)) writes → HowCut answers run part ticks status writes
   in_line : status ≡ 8 → ticks ≡ count_ticks part → (ending : QueryEnd) → Ends answers part run ending → FailsIn (print part) (line_of ending ∷ []) writes →
       HowCut answers run part ticks status writes
-  at_memory : status ≡ 9 → ticks ≡ count_ticks part → count_answers part ≤ answers → HandsAll (print part) writes → HowCut answers run part ticks status writes
+  at_memory : status ≡ 9 → ticks ≡ count_ticks part → count_answers part < answers → HandsAll (print part) writes → HowCut answers run part ticks status writes
 
 pub record IsCutOff (answers steps : ℕ) (program : ProgramTree) (goal : ExpTree) (log : List LogEntry) (ticks status : ℕ) (writes : List SinkWrite) : Type 0 where
   pub run : Cut Told

@@ -56,7 +56,7 @@ pub data HowQueryIsCut (answers : ℕ) (q : QueryTree) (run : Cut Solution) (par
       FailsIn (print_solutions q.names earlier) (answer_lines (answer_of q.names x)) writes → HowQueryIsCut answers q run part ticks status writes
   in_line : status ≡ 8 → ticks ≡ count_ticks part → (ending : QueryEnd) → Ends answers part run ending → FailsIn (print_solutions q.names part) (line_of ending ∷ []) writes →
       HowQueryIsCut answers q run part ticks status writes
-  at_memory : status ≡ 9 → ticks ≡ count_ticks part → count_answers part ≤ answers → HandsAll (print_solutions q.names part) writes →
+  at_memory : status ≡ 9 → ticks ≡ count_ticks part → count_answers part < answers → HandsAll (print_solutions q.names part) writes →
       HowQueryIsCut answers q run part ticks status writes
 
 pub record QueryIsCut (answers steps : ℕ) (program : List PredTree) (q : QueryTree) (ticks status : ℕ) (writes : List SinkWrite) : Type 0 where

@@ -1,8 +1,11 @@
 //! picatq: asks a goal of a Picat program and writes its answers.
 #![tactic(auto)]
 
+ghost use Rattle.std.specs.Prelude.{◌≡◌};
+ghost use Rattle.std.specs.Process.{exit_status};
+
 use pi_outside::{RealFiles, RealSink, RealSource};
-use pi_top::picatq;
+use pi_top::{Outcome, picatq};
 use std::alloc::AllocError;
 use std::process::ExitCode;
 use std::rt::Env;
@@ -23,6 +26,13 @@ fn main(rt: HostRuntime) -> ExitCode {
         &mut input,
         &mut out,
     );
+    exit_code(&outcome)
+}
+
+/// The status with which the process ends: that of the run.
+fn exit_code(outcome: &Outcome) -> ExitCode
+    ensures { exit_status result ≡ outcome.now.status }
+{
     ExitCode::from(outcome.status)
 }
 

@@ -1,16 +1,23 @@
 //! Laws of labelling.
-ghost use Rattle.pi_labelling.specs.LabelLaws.{AlternativesPartTheDomain, LabellingNothing, LabellingDoesMore, SeekingDoesMore, FirstIsOne, FirstOfAll, SatSolvedIsOne};
+ghost use Rattle.pi_labelling.specs.LabelLaws.{AlternativesPartTheDomain, LeftIsAllowed, ConfinedHaveDomains, ConfiningBindsNothing, LabellingNothing, LabellingDoesMore, SolvingDoesMore, FirstIsOne, FirstOfAll, SatSolvedIsOne};
 
-/// The alternatives of a variable part its domain: each value is allowed by one of them, and by no other.
+/// The alternatives of a variable part its domain: each value is allowed by one of them, and by no other, and that one leaves it.
 pub fn alternatives_part_the_domain()
-    ensures { AlternativesPartTheDomain }
+    ensures parts { AlternativesPartTheDomain }
+    ensures left { LeftIsAllowed }
+{}
+
+/// Where labelling begins each of its unbound variables has a domain, and nothing more is bound.
+pub fn variables_are_confined()
+    ensures domains { ConfinedHaveDomains }
+    ensures bindings { ConfiningBindsNothing }
 {}
 
 /// Labelling adds nothing where no variable is unbound, and does the same and maybe more at a greater depth, with an objective too.
 pub fn labelling_does_more()
     ensures nothing { LabellingNothing }
     ensures labels { LabellingDoesMore }
-    ensures rounds { SeekingDoesMore }
+    ensures rounds { SolvingDoesMore }
 {}
 
 /// There is one first assignment at most, the first of all that extend to a solution, and so `sat_solve` comes to one trace at most.

@@ -1,5 +1,5 @@
 //! Laws of paths and of resumed runs.
-ghost use Rattle.pi_paths.specs.PathLaws.{PlainOfNumbered, PlainOfSequence, PlainOfChoice, PlainOfCatch, PlainOfRules, StraightIsApart, SequencesAreApart, ChoicesAreApart, CatchesAreApart, RulesAreApart, ConditionsAreApart, NoTwoPathsAreOne, SequencesAreResumable, ChoicesAreResumable, CatchesAreResumable, RulesAreResumable, TicksAreResumable, ConditionsAreResumable};
+ghost use Rattle.pi_paths.specs.PathLaws.{PlainOfNumbered, PlainOfSequence, PlainOfChoice, PlainOfCatch, PlainOfRules, StraightIsApart, SequencesAreApart, ChoicesAreApart, CatchesAreApart, RulesAreApart, ConditionsAreApart, TicksAreApart, NoTwoPathsAreOne, SimpleIsResumable, SequencesAreResumable, ChoicesAreResumable, CatchesAreResumable, RulesAreResumable, TicksAreResumable, ConditionsAreResumable};
 
 /// Without its paths a trace is what it was, however goals are put together.
 pub fn paths_add_nothing<A, B>()
@@ -18,12 +18,14 @@ pub fn paths_lead_apart<A, B>()
     ensures catching { CatchesAreApart A }
     ensures rules { RulesAreApart A B }
     ensures conditions { ConditionsAreApart A B }
+    ensures ticks { TicksAreApart A }
     ensures different { NoTwoPathsAreOne A }
 {}
 
-/// Goals that lead to the answers of their paths lead to those of the whole, however they are put together: what stands behind such an answer in the
+/// A goal without choices that has one answer at most leads to it. Goals that lead to the answers of their paths lead to those of the whole, however they are put together: what stands behind such an answer in the
 /// resumed run is what stands behind it in the trace.
 pub fn goals_resume<A, B>()
+    ensures simple { SimpleIsResumable A }
     ensures sequence { SequencesAreResumable A B }
     ensures choice { ChoicesAreResumable A }
     ensures catching { CatchesAreResumable A }

@@ -82,5 +82,5 @@ returns-clause-comes g c =
     let all : l.given ≡ c.args.answers = omega (arith, c.loop-given-test.false, l.auto.given-end) in
     ByWrites-then l.invariant.so_far c.ended.ensures.told (λ first second so_far told. λ program q is.
     let w : IsWritten m l.budget c.args.answers program q first = subst (λ given. IsWritten m l.budget given program q first) all (so_far program q is) in
-    comes-stopped m l.budget c.args.answers c.args.budget.now.steps program q c.ended.result first second is.runnable is.asked l.invariant.steps w
+    comes-stopped m l.budget c.args.answers c.args.budget.now.steps program q c.ended.result first second is.runnable is.asked l.invariant.steps w c.ended.ensures.stops
     (record { line = told; its_status = c.ended.ensures.status }))

@@ -1,5 +1,9 @@
 use Rattle.pi_labelling.proofs.ChoiceLemmas.{alternatives_part_the_domain}
+use Rattle.pi_labelling.proofs.LeftLemmas.{left_is_allowed}
 use Rattle.pi_labelling.proofs.laws.labelling.alternatives_part_the_domain.Goals as goal
 
-pub returns : goal.returns
-returns c = alternatives_part_the_domain
+pub returns-clause-parts : goal.returns-clause-parts
+returns-clause-parts c = alternatives_part_the_domain
+
+pub returns-clause-left : goal.returns-clause-left
+returns-clause-left c = left_is_allowed

@@ -1,4 +1,4 @@
-use Rattle.pi_labelling.proofs.DepthLemmas.{labelling_nothing, labelling_does_more, seeking_does_more}
+use Rattle.pi_labelling.proofs.DepthLemmas.{labelling_nothing, labelling_does_more, solving_does_more}
 use Rattle.pi_labelling.proofs.laws.labelling.labelling_does_more.Goals as goal
 
 pub returns-clause-nothing : goal.returns-clause-nothing
@@ -8,4 +8,4 @@ pub returns-clause-labels : goal.returns-clause-labels
 returns-clause-labels c = labelling_does_more
 
 pub returns-clause-rounds : goal.returns-clause-rounds
-returns-clause-rounds c = seeking_does_more
+returns-clause-rounds c = solving_does_more

@@ -1,6 +1,10 @@
+use Rattle.pi_paths.proofs.SimpleLemmas.{simple_is_resumable}
 use Rattle.pi_paths.proofs.ResumedLemmas.{sequences_are_resumable}
 use Rattle.pi_paths.proofs.ChoiceLemmas.{choices_are_resumable, catches_are_resumable, rules_are_resumable, ticks_are_resumable, conditions_are_resumable}
 use Rattle.pi_paths.proofs.laws.paths.goals_resume.Goals as goal
+
+pub returns-clause-simple : goal.returns-clause-simple
+returns-clause-simple g c = simple_is_resumable
 
 pub returns-clause-sequence : goal.returns-clause-sequence
 returns-clause-sequence g c = sequences_are_resumable

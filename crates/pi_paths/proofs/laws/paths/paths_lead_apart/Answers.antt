@@ -1,4 +1,4 @@
-use Rattle.pi_paths.proofs.ApartLemmas.{rules_are_apart, conditions_are_apart, straight_is_apart, sequences_are_apart, choices_are_apart, catches_are_apart, no_two_paths_are_one}
+use Rattle.pi_paths.proofs.ApartLemmas.{rules_are_apart, conditions_are_apart, ticks_are_apart, straight_is_apart, sequences_are_apart, choices_are_apart, catches_are_apart, no_two_paths_are_one}
 use Rattle.pi_paths.proofs.laws.paths.paths_lead_apart.Goals as goal
 
 pub returns-clause-straight : goal.returns-clause-straight
@@ -21,3 +21,6 @@ returns-clause-rules g c = rules_are_apart
 
 pub returns-clause-conditions : goal.returns-clause-conditions
 returns-clause-conditions g c = conditions_are_apart
+
+pub returns-clause-ticks : goal.returns-clause-ticks
+returns-clause-ticks g c = ticks_are_apart
