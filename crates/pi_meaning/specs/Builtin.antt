@@ -1,10 +1,12 @@
--- The traces of what built-in predicates and functions do, before settling. What they do is said without traces, in `pi_effects`.
+-- The traces of what built-in predicates and functions do. What they do is said without traces, in `pi_effects`.
 use Rattle.std.specs.Prelude.{ℕ, Bool, true, false, List, Option, option_map, codes}
 use Rattle.pi_terms.specs.Tree.{Trees, atom}
 use Rattle.pi_states.specs.State.{State}
 use Rattle.pi_effects.specs.Effect.{Effect, Succeeds, Fails, Writes, Raises, FunctionEffect, Gives, Refuses}
 use Rattle.pi_effects.specs.Builtin.{effect_of_predicate, effect_of_function}
-use Rattle.pi_traces.specs.Trace.{Trace, end, note, Raise, Out, done, one}
+use Rattle.pi_traces.specs.Trace.{Trace, end, note, Raise, Out, done, one, then}
+use Rattle.pi_meaning.specs.Settle.{settled}
+use Rattle.pi_meaning.specs.Within.{is_body}
 use Rattle.pi_meaning.specs.View.{View}
 use Rattle.pi_meaning.specs.Level.{Applied}
 
@@ -17,17 +19,21 @@ written false text s = note (Out text) (one s)
 abbrev pub effect_trace : View → Effect → Trace State
 effect_trace v (Succeeds s) = one s
 effect_trace v Fails = done
-effect_trace v (Writes text s) = written v.inside text s
+effect_trace v (Writes text s) = written (is_body v.within) text s
 effect_trace v (Raises ball) = end (Raise ball)
 
 abbrev pub function_trace : FunctionEffect → Trace Applied
 function_trace (Gives t s) = one (record { value = t; state = s })
 function_trace (Refuses ball) = end (Raise ball)
 
--- what a built-in predicate does under a view; None where there is none of that name with so many arguments
-unfoldable pub effect : View → List ℕ → Trees → State → Option (Trace State)
-effect v name ts s = option_map (effect_trace v) (effect_of_predicate name ts s)
+-- a predicate's effect, settled, where its goal began in this state
+abbrev pub settled_effect : View → State → Effect → Trace State
+settled_effect v s e = then (effect_trace v e) (settled s)
 
--- the same of a built-in function
-unfoldable pub function_effect : View → List ℕ → Trees → State → Option (Trace Applied)
-function_effect v name ts s = option_map function_trace (effect_of_function name ts s)
+-- what `=` and `throw` do under a view, from the state of their call; None for any other name
+unfoldable pub effect : View → List ℕ → Trees → State → Option (Trace State)
+effect v name ts s = option_map (settled_effect v s) (effect_of_predicate name ts s)
+
+-- the same of functions, of which there are none
+unfoldable pub function_effect : List ℕ → Trees → State → Option (Trace Applied)
+function_effect name ts s = option_map function_trace (effect_of_function name ts s)

@@ -1,7 +1,7 @@
 -- Levels: how deep goals may go on, and what calls do there. The depth is a device of the definitions (own), which makes
 -- each trace finite: a call that is counted takes one from it for the rules that it runs, and a goal `Tick` takes one for
--- what follows it. Where none is left the trace ends in Deep. A call by `call` and a later round of a labelling, which no
--- goal here makes so far, are to take one without a Tick: so a depth says nothing of how many Ticks stand before a Deep.
+-- what follows it. Where none is left the trace ends in Deep. A call by `call` takes one without a Tick, as a later round of
+-- a labelling is to: so a depth says nothing of how many Ticks stand before a Deep.
 use Rattle.std.specs.Prelude.{ℕ, List, Option, Some, None}
 use Rattle.pi_terms.specs.Tree.{Tree, Trees}
 use Rattle.pi_terms.specs.Places.{Places}
@@ -46,6 +46,15 @@ ticked (Some l) f = note Tick (f l)
 abbrev pub unticked : {A : Type 0} → Option Level → (Level → Trace A) → Trace A
 unticked None f = end Deep
 unticked (Some l) f = f l
+
+-- what a name does by itself; where it does nothing by itself, the call of the program's predicate, or function, of that name
+abbrev pub or_called : Option (Trace State) → Level → List ℕ → Trees → State → Trace State
+or_called None l name ts s = (calls_at l).called name ts s
+or_called (Some t) l name ts s = t
+
+abbrev pub or_applied : Option (Trace Applied) → Level → List ℕ → Trees → State → Trace Applied
+or_applied None l name ts s = (calls_at l).applied name ts s
+or_applied (Some t) l name ts s = t
 
 -- a place in a run: how deep it may go on, what the slots of the clause hold, the state
 pub record Point : Type 0 where

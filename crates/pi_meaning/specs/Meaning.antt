@@ -1,24 +1,21 @@
--- The core meaning: the trace of a goal of the core language, from a place in a run, under a view. An answer is a place
--- again. What a call of the program does is told by the level of the place (`Level`), so that the trace of a goal goes by
--- the goals in it alone. (A User's Guide to Picat, 'Predicates and Functions' and 'Exceptions'; slots, levels and strict
+-- The core meaning: the trace of a goal of the core language, from a place in a run. An answer is a place
+-- again. What a call of the program does is told by the level of the place (`Level`), and what any other name does is handed
+-- in (`Builtins`), so that the trace of a goal goes by the goals in it alone. (A User's Guide to Picat, 'Predicates and Functions' and 'Exceptions'; slots, levels and strict
 -- goals are own.)
 use Rattle.pi_terms.specs.ListCopies.{new_in_all, list_of_copies}
 use Rattle.std.specs.Prelude.{ℕ, pos, List, Option, Some, None, slice_set}
 use Rattle.pi_terms.specs.Tree.{Tree, var, int, trees_of}
-use Rattle.pi_terms.specs.Copy.{copy, new_variables}
 use Rattle.pi_terms.specs.Places.{Places}
 use Rattle.pi_states.specs.Value.{value}
 use Rattle.pi_states.specs.State.{State, bindings, next}
-use Rattle.pi_states.specs.Unify.{unified}
 use Rattle.pi_core.specs.GoalTree.{GoalTree, truth, fail, tick, call, apply, seq, alternatives, if_else, not, once, collect, count, catch, GoalTrees, no_goals, goal}
-use Rattle.pi_traces.specs.Trace.{Trace, end, Raise, done, one, alt, then, first}
+use Rattle.pi_traces.specs.Trace.{Trace, done, one, alt, then, first}
 use Rattle.pi_traces.specs.Control.{negated, chosen, collected, counted, caught}
-use Rattle.pi_meaning.specs.View.{View}
-use Rattle.pi_meaning.specs.Settle.{settled}
 use Rattle.pi_states.specs.Evaluation.{Evaluated, evaluated, EvaluatedAll, evaluated_all, with_new_variables}
 use Rattle.pi_meaning.specs.Raise.{within_limit}
-use Rattle.pi_meaning.specs.Level.{Applied, calls_at, lower, ticked, Point}
-use Rattle.pi_meaning.specs.Builtin.{effect, function_effect}
+use Rattle.pi_meaning.specs.Handling.{handling}
+use Rattle.pi_meaning.specs.Level.{calls_at, lower, ticked, Point}
+use Rattle.pi_meaning.specs.Builtins.{Builtins, predicate_by, function_by}
 
 -- what a goal does, from a place
 abbrev pub Action : Type 0
@@ -54,29 +51,17 @@ ticking p = ticked (lower p.level) (λ l. one (record { level = l; slots = p.slo
 abbrev pub after_arguments : Point → EvaluatedAll → Point
 after_arguments p all = record { level = p.level; slots = all.slots; state = all.state }
 
--- The call of a predicate: its arguments are evaluated from the left. Then a built-in does its effect and is settled, and
--- any other name is called.
-
-abbrev pub effect_or_call : Option (Trace State) → List ℕ → EvaluatedAll → Point → Trace State
-effect_or_call (Some t) name all p = then t (settled p.state)
-effect_or_call None name all p = (calls_at p.level).called name all.trees all.state
-
-unfoldable pub calling : View → List ℕ → List Tree → Action
-calling v name args p =
+-- The call of a predicate: its arguments are evaluated from the left, and it is called by name. What is built in is settled from the state behind that.
+unfoldable pub calling : Builtins → List ℕ → List Tree → Action
+calling b name args p =
     let all : EvaluatedAll = evaluated_all (trees_of args) p.slots p.state in
-    then (effect_or_call (effect v name all.trees all.state) name all p) (λ s. one (in_state (after_arguments p all) s))
+    then (predicate_by b p.level name all.trees all.state) (λ s. one (in_state (after_arguments p all) s))
 
--- The call of a function is the same, and its value goes into a slot.
-
-abbrev pub effect_or_apply : Option (Trace Applied) → List ℕ → EvaluatedAll → Point → Trace Applied
-effect_or_apply (Some t) name all p = t
-effect_or_apply None name all p = (calls_at p.level).applied name all.trees all.state
-
-unfoldable pub applying : View → List ℕ → List Tree → ℕ → Action
-applying v name args into p =
+-- the call of a function, whose value goes into a slot
+unfoldable pub applying : Builtins → List ℕ → List Tree → ℕ → Action
+applying b name args into p =
     let all : EvaluatedAll = evaluated_all (trees_of args) p.slots p.state in
-    then (effect_or_apply (function_effect v name all.trees all.state) name all p)
-    (λ a. one (with_slot (in_state (after_arguments p all) a.state) into a.value))
+    then (function_by b p.level name all.trees all.state) (λ a. one (with_slot (in_state (after_arguments p all) a.state) into a.value))
 
 -- Collecting: the value of a slot after each answer, as a list of copies. The copies have new variables, numbered on from
 -- the state of the goal, in the order of the answers.
@@ -97,49 +82,40 @@ collecting act k into p = collected (then (strictly act p) (λ q. copyable (slot
 unfoldable pub counting : Action → ℕ → Action
 counting act into p = counted (strictly act p) (λ n. one (with_slot p into (int (pos n))))
 
--- Catching: the pattern of what is caught is evaluated, and the goal runs from there. Where it raises a term, a copy of
--- that with new variables is unified with the pattern in the state before the goal. That is settled, and the handler
--- runs; where they don't unify the term is raised on.
+-- Catching: the pattern of what is caught is evaluated, and the goal runs from there. What it raises is
+-- unified with the pattern there, and the handler runs (`Handling`).
 
 abbrev pub after_term : Point → Evaluated → Point
 after_term p e = record { level = p.level; slots = e.slots; state = e.state }
 
-abbrev pub handled : Action → Point → Tree → Option State → Trace Point
-handled handler p raised None = end (Raise raised)
-handled handler p raised (Some s) = then (settled p.state s) (λ r. handler (in_state p r))
-
-abbrev pub handling : Action → Tree → Point → Tree → Trace Point
-handling handler ball p raised =
-    handled handler p raised (unified (with_new_variables (new_variables raised) p.state) ball (copy (next p.state) raised))
-
 unfoldable pub catching : Action → Tree → Action → Action
 catching act ball handler p =
     let e : Evaluated = evaluated ball p.slots p.state in
-    caught (strictly act (after_term p e)) (handling handler e.tree (after_term p e))
+    caught (strictly act (after_term p e)) (handling e.state e.tree (λ s. handler (in_state (after_term p e) s)))
 
 -- the trace of each kind of goal
 unfoldable mutual
-  pub meaning : View → GoalTree → Action
-  meaning v truth = draining succeeding
-  meaning v fail = draining failing
-  meaning v tick = draining ticking
-  meaning v (call name args) = draining (calling v name args)
-  meaning v (apply name args slot) = draining (applying v name args slot)
-  meaning v (seq gs) = draining (meaning_of_all v gs)
-  meaning v (alternatives gs) = draining (meaning_of_any v gs)
-  meaning v (if_else test then_goal other) = draining (λ p. chosen (strictly (meaning v test) p) (meaning v then_goal) (meaning v other p))
-  meaning v (not g) = draining (λ p. negated (strictly (meaning v g) p) p)
-  meaning v (once g) = draining (λ p. first (strictly (meaning v g) p))
-  meaning v (collect g k into) = draining (collecting (meaning v g) k into)
-  meaning v (count g into) = draining (counting (meaning v g) into)
-  meaning v (catch g ball handler) = draining (catching (meaning v g) ball (meaning v handler))
+  pub meaning : Builtins → GoalTree → Action
+  meaning b truth = draining succeeding
+  meaning b fail = draining failing
+  meaning b tick = draining ticking
+  meaning b (call name args) = draining (calling b name args)
+  meaning b (apply name args slot) = draining (applying b name args slot)
+  meaning b (seq gs) = draining (meaning_of_all b gs)
+  meaning b (alternatives gs) = draining (meaning_of_any b gs)
+  meaning b (if_else test then_goal other) = draining (λ p. chosen (strictly (meaning b test) p) (meaning b then_goal) (meaning b other p))
+  meaning b (not g) = draining (λ p. negated (strictly (meaning b g) p) p)
+  meaning b (once g) = draining (λ p. first (strictly (meaning b g) p))
+  meaning b (collect g k into) = draining (collecting (meaning b g) k into)
+  meaning b (count g into) = draining (counting (meaning b g) into)
+  meaning b (catch g ball handler) = draining (catching (meaning b g) ball (meaning b handler))
 
   -- one after the other, from each answer of the one before
-  pub meaning_of_all : View → GoalTrees → Action
-  meaning_of_all v no_goals p = one p
-  meaning_of_all v (goal g gs) p = then (meaning v g p) (meaning_of_all v gs)
+  pub meaning_of_all : Builtins → GoalTrees → Action
+  meaning_of_all b no_goals p = one p
+  meaning_of_all b (goal g gs) p = then (meaning b g p) (meaning_of_all b gs)
 
   -- the answers of one, then those of the next, each from the same place
-  pub meaning_of_any : View → GoalTrees → Action
-  meaning_of_any v no_goals p = done
-  meaning_of_any v (goal g gs) p = alt (meaning v g p) (meaning_of_any v gs p)
+  pub meaning_of_any : Builtins → GoalTrees → Action
+  meaning_of_any b no_goals p = done
+  meaning_of_any b (goal g gs) p = alt (meaning b g p) (meaning_of_any b gs p)

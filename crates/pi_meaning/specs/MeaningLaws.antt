@@ -1,4 +1,5 @@
--- The laws of the core meaning: more depth only adds, and so the run of a query is one.
+-- The laws of the core meaning: more depth only adds, and so the run of a query is one; with `=` and `throw` alone each query has its run; and where a query calls
+-- nothing else, that is its run with all names of the language.
 use Rattle.std.specs.Prelude.{◌≡◌, ℕ, suc, ◌+◌, List, ◌++◌, Option, Some, length, Contains}
 use Rattle.pi_terms.specs.Places.{Places}
 use Rattle.pi_states.specs.State.{State, next, IsState, PlacesBelow}
@@ -7,6 +8,10 @@ use Rattle.pi_traces.specs.Trace.{WithoutDeep, answers}
 use Rattle.pi_traces.specs.Depth.{DepthOnlyAdds, Cut, cut, CutWithoutDeep}
 use Rattle.pi_traces.specs.Related.{BelowBy}
 use Rattle.pi_meaning.specs.View.{View, PlansAreGround}
+use Rattle.pi_meaning.specs.Builtins.{Builtins, BuiltinsOnlyAdd}
+use Rattle.pi_meaning.specs.Given.{Later, LaterOnlyAdds}
+use Rattle.pi_meaning.specs.Instances.{small, whole}
+use Rattle.pi_meaning.specs.Defined.{QueryCallsDefined, NamesAreFree}
 use Rattle.pi_core.specs.CoreTree.{PredTree, QueryTree}
 use Rattle.pi_meaning.specs.Level.{Level, lower, Point, LevelBelow, PointBelow}
 use Rattle.pi_meaning.specs.Meaning.{meaning}
@@ -15,13 +20,22 @@ use Rattle.pi_meaning.specs.Quiet.{TicksBetween}
 use Rattle.pi_meaning.specs.Sound.{IsSoundQuery}
 use Rattle.pi_meaning.specs.Run.{Solution, query_trace, IsRunUnder}
 
+-- ---- more depth only adds
+
+-- to calls by name, with `=` and `throw` alone, and with all names of the language, where it does to what later stages give
+abbrev pub SmallOnlyAdds : Type 0
+SmallOnlyAdds = (v : View) → BuiltinsOnlyAdd (small v)
+
+abbrev pub WholeOnlyAdds : Type 0
+WholeOnlyAdds = (v : View) (later : Later) (preds : List PredTree) → LaterOnlyAdds later → BuiltinsOnlyAdd (whole v later preds)
+
 -- each goal does the same and maybe more at a higher level
 abbrev pub GoalsDoMore : Type 0
-GoalsDoMore = (v : View) (g : GoalTree) (p q : Point) → PointBelow p q → BelowBy PointBelow (meaning v g p) (meaning v g q)
+GoalsDoMore = (b : Builtins) → BuiltinsOnlyAdd b → (g : GoalTree) (p q : Point) → PointBelow p q → BelowBy PointBelow (meaning b g p) (meaning b g q)
 
 -- the level of a depth is below that of the next one
 abbrev pub LevelsAscend : Type 0
-LevelsAscend = (v : View) (preds : List PredTree) (d : ℕ) → LevelBelow (level_at v preds d) (level_at v preds (suc d))
+LevelsAscend = (b : Builtins) → BuiltinsOnlyAdd b → (preds : List PredTree) (d : ℕ) → LevelBelow (level_at b preds d) (level_at b preds (suc d))
 
 -- that a level is below another is reflexive and transitive
 abbrev pub LevelsAreOrdered : Type 0
@@ -29,12 +43,32 @@ LevelsAreOrdered = ((l : Level) → LevelBelow l l) × ((l m n : Level) → Leve
 
 -- the level that a quiet call leads to is still above that of one depth less
 abbrev pub QuietCallsStayAbove : Type 0
-QuietCallsStayAbove = (v : View) (preds : List PredTree) (d : ℕ) →
-    LevelBelow (level_at v preds d) (quiet_level v preds (Some (level_at v preds d)) (length preds + d))
+QuietCallsStayAbove = (b : Builtins) → BuiltinsOnlyAdd b → (preds : List PredTree) (d : ℕ) →
+    LevelBelow (level_at b preds d) (quiet_level b preds (Some (level_at b preds d)) (length preds + d))
 
 -- a quiet call takes nothing from the depth: at the level that it leads to, a Tick leads where it led before
 abbrev pub QuietCallsKeepTheDepth : Type 0
-QuietCallsKeepTheDepth = (v : View) (preds : List PredTree) (below : Option Level) (k : ℕ) → lower (quiet_level v preds below k) ≡ below
+QuietCallsKeepTheDepth = (b : Builtins) (preds : List PredTree) (below : Option Level) (k : ℕ) → lower (quiet_level b preds below k) ≡ below
+
+-- each depth adds to a query's trace at the depth before
+abbrev pub QueriesDoMore : Type 0
+QueriesDoMore = (b : Builtins) → BuiltinsOnlyAdd b → (program : List PredTree) (q : QueryTree) → DepthOnlyAdds (query_trace b program q)
+
+-- a trace without Deep is the same at each greater depth
+abbrev pub WholeTracesStay : Type 0
+WholeTracesStay = (b : Builtins) → BuiltinsOnlyAdd b → (program : List PredTree) (q : QueryTree) (depth more : ℕ) → WithoutDeep (query_trace b program q depth) →
+    query_trace b program q depth ≡ query_trace b program q (depth + more)
+
+-- all depths that reach to a cut give the same one
+abbrev pub RunIsOne : Type 0
+RunIsOne = (b : Builtins) → BuiltinsOnlyAdd b → (program : List PredTree) (q : QueryTree) (n : ℕ) (c d : Cut Solution) →
+    IsRunUnder b program q n c → IsRunUnder b program q n d → c ≡ d
+
+abbrev pub DeeperRunsAreTheRun : Type 0
+DeeperRunsAreTheRun = (b : Builtins) → BuiltinsOnlyAdd b → (program : List PredTree) (q : QueryTree) (n : ℕ) (c : Cut Solution) (r : IsRunUnder b program q n c) (more : ℕ) →
+    cut n (query_trace b program q (r.depth + more)) ≡ c
+
+-- ---- with `=` and `throw` alone, under every view. Under `query_view log` runs are those under a log (`IsRun`).
 
 -- two places have the same slots and state, whatever their levels are
 abbrev pub SameButLevel : Point → Point → Type 0
@@ -44,46 +78,34 @@ SameButLevel p q = (p.slots ≡ q.slots) × (p.state ≡ q.state)
 -- than where as many may nest as there are predicates. So that number is never felt.
 abbrev pub QuietCallsNestFreely : Type 0
 QuietCallsNestFreely = (v : View) (preds : List PredTree) → TicksBetween preds → (below : Option Level) (k : ℕ) (g : GoalTree) (e : Places) (s : State) →
-    BelowBy SameButLevel (meaning v g (record { level = quiet_level v preds below k; slots = e; state = s }))
-    (meaning v g (record { level = quiet_level v preds below (length preds); slots = e; state = s }))
-
--- each depth adds to a query's trace at the depth before
-abbrev pub QueriesDoMore : Type 0
-QueriesDoMore = (v : View) (program : List PredTree) (q : QueryTree) → DepthOnlyAdds (query_trace v program q)
-
--- a trace without Deep is the same at each greater depth
-abbrev pub WholeTracesStay : Type 0
-WholeTracesStay = (v : View) (program : List PredTree) (q : QueryTree) (depth more : ℕ) → WithoutDeep (query_trace v program q depth) →
-    query_trace v program q depth ≡ query_trace v program q (depth + more)
-
--- Runs, under every view. Under `query_view log` they are those under a log (`IsRun`).
-
--- all depths that reach to a cut give the same one
-abbrev pub RunIsOne : Type 0
-RunIsOne = (v : View) (program : List PredTree) (q : QueryTree) (n : ℕ) (c d : Cut Solution) →
-    IsRunUnder v program q n c → IsRunUnder v program q n d → c ≡ d
-
-abbrev pub DeeperRunsAreTheRun : Type 0
-DeeperRunsAreTheRun = (v : View) (program : List PredTree) (q : QueryTree) (n : ℕ) (c : Cut Solution) (r : IsRunUnder v program q n c) (more : ℕ) →
-    cut n (query_trace v program q (r.depth + more)) ≡ c
+    BelowBy SameButLevel (meaning (small v) g (record { level = quiet_level (small v) preds below k; slots = e; state = s }))
+    (meaning (small v) g (record { level = quiet_level (small v) preds below (length preds); slots = e; state = s }))
 
 -- where Ticks stand between the calls of quiet predicates, there is a depth that reaches to each Tick of a query's trace
 abbrev pub DepthReachesTicks : Type 0
 DepthReachesTicks = (v : View) (program : List PredTree) (q : QueryTree) → TicksBetween (program ++ q.helpers) → (n : ℕ) →
-    (d : ℕ) × CutWithoutDeep n (query_trace v program q d)
+    (d : ℕ) × CutWithoutDeep n (query_trace (small v) program q d)
 
 -- so each query has its run
 abbrev pub EachQueryRuns : Type 0
 EachQueryRuns = (v : View) (program : List PredTree) (q : QueryTree) → TicksBetween (program ++ q.helpers) → (n : ℕ) →
-    (c : Cut Solution) × IsRunUnder v program q n c
+    (c : Cut Solution) × IsRunUnder (small v) program q n c
 
 -- and each sound query
 abbrev pub SoundQueriesRun : Type 0
 SoundQueriesRun = (v : View) (program : List PredTree) (q : QueryTree) → IsSoundQuery program q → (n : ℕ) →
-    (c : Cut Solution) × IsRunUnder v program q n c
+    (c : Cut Solution) × IsRunUnder (small v) program q n c
 
 -- Where no plan of the log holds a variable, each answer of a sound query is a state, and its slots hold terms of variables
--- that were made. (So far no goal reads the log.)
+-- that were made. (No goal reads the log here.)
 abbrev pub RunsKeepStates : Type 0
 RunsKeepStates = (v : View) (program : List PredTree) (q : QueryTree) → IsSoundQuery program q → PlansAreGround v → (depth : ℕ) (x : Solution) →
-    Contains (answers (query_trace v program q depth)) x → IsState x.state × PlacesBelow (next x.state) x.slots
+    Contains (answers (query_trace (small v) program q depth)) x → IsState x.state × PlacesBelow (next x.state) x.slots
+
+-- ---- both
+
+-- A query that calls nothing but `=`, `throw` and what its program defines does the same with these built-ins alone as with all names of the language, whatever the view
+-- is and whatever later stages give.
+abbrev pub SmallIsWhole : Type 0
+SmallIsWhole = (v : View) (later : Later) (program : List PredTree) (q : QueryTree) → QueryCallsDefined program q → NamesAreFree (program ++ q.helpers) → (d : ℕ) →
+    query_trace (whole v later (program ++ q.helpers)) program q d ≡ query_trace (small v) program q d

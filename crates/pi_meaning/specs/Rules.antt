@@ -8,7 +8,7 @@ use Rattle.pi_states.specs.State.{State, bindings, WatchTree, on_ins, on_bound, 
 use Rattle.pi_traces.specs.Trace.{Trace, done, one, alt, then}
 use Rattle.pi_traces.specs.Control.{chosen}
 use Rattle.pi_core.specs.GoalTree.{GoalTree, truth}
-use Rattle.pi_meaning.specs.View.{View}
+use Rattle.pi_meaning.specs.Builtins.{Builtins}
 use Rattle.pi_meaning.specs.Drain.{drained}
 use Rattle.pi_states.specs.Evaluation.{Evaluated, evaluated, EvaluatedAll, evaluated_all}
 use Rattle.pi_states.specs.HeadMatch.{matched_all_in}
@@ -21,9 +21,9 @@ use Rattle.pi_syntax.specs.declared.program.Mode.{Mode}
 
 -- A rule's condition is a strict place, so that its answers count when nothing waits any more. `truth` stands for no
 -- condition: such a rule has no strict place before its body, and what waits is run by the body's first goal.
-abbrev pub guarded : View → GoalTree → Action
-guarded v truth p = one p
-guarded v g p = strictly (meaning v g) p
+abbrev pub guarded : Builtins → GoalTree → Action
+guarded b truth p = one p
+guarded b g p = strictly (meaning b g) p
 
 -- Rules in order. A rule applies where its head matches and its condition has an answer, of which the first one counts. A
 -- committed rule ends the choice; of a backtrackable one the later rules are alternatives. An action rule is committed,
@@ -33,16 +33,16 @@ abbrev pub chosen_rule : {X : Type 0} → Bool → Trace X → Trace X → Trace
 chosen_rule true t rest = alt t rest
 chosen_rule false t rest = t
 
-abbrev pub rule_before : {X : Type 0} → View → Level → ClauseTree → Bool → (Point → Trace X) → State → Trace X → Option Places → Trace X
-rule_before v l c back does s rest None = rest
-rule_before v l c back does s rest (Some e) =
-    chosen (guarded v c.guard (record { level = l; slots = e; state = s })) (λ p. chosen_rule back (does p) rest) rest
+abbrev pub rule_before : {X : Type 0} → Builtins → Level → ClauseTree → Bool → (Point → Trace X) → State → Trace X → Option Places → Trace X
+rule_before b l c back does s rest None = rest
+rule_before b l c back does s rest (Some e) =
+    chosen (guarded b c.guard (record { level = l; slots = e; state = s })) (λ p. chosen_rule back (does p) rest) rest
 
 -- `back` says whether a rule is backtrackable, `does` what a rule that applies does, by its number; no rule, no answer
-unfoldable pub rules : {X : Type 0} → View → Level → (ClauseTree → Bool) → (ℕ → ClauseTree → Point → Trace X) → ℕ → List ClauseTree → Trees → State → Trace X
-rules v l back does i [] ts s = done
-rules v l back does i (c ∷ cs) ts s =
-    rule_before v l c (back c) (does i c) s (rules v l back does (suc i) cs ts s) (matched_all_in (bindings s) c.head ts (replicate c.slots None))
+unfoldable pub rules : {X : Type 0} → Builtins → Level → (ClauseTree → Bool) → (ℕ → ClauseTree → Point → Trace X) → ℕ → List ClauseTree → Trees → State → Trace X
+rules b l back does i [] ts s = done
+rules b l back does i (c ∷ cs) ts s =
+    rule_before b l c (back c) (does i c) s (rules b l back does (suc i) cs ts s) (matched_all_in (bindings s) c.head ts (replicate c.slots None))
 
 -- A predicate's rule runs its body. An action rule has one answer instead, in which the call is a new agent.
 
@@ -73,17 +73,17 @@ suspended the_call i ws e s =
     let all : EvaluatedAll = evaluated_all (trees_of (map (λ w. var (slot_of w)) ws)) e s in
     with_agent all.state (record { call = the_call; rule = i; watches = watch_trees ws all.trees; alive = true })
 
-abbrev pub body_run : View → ClauseTree → Point → Trace State
-body_run v c p = then (meaning v c.body p) (λ q. one q.state)
+abbrev pub body_run : Builtins → ClauseTree → Point → Trace State
+body_run b c p = then (meaning b c.body p) (λ q. one q.state)
 
-abbrev pub body_or_agent : View → Tree → ℕ → ClauseTree → List SlotWatch → Point → Trace State
-body_or_agent v the_call i c [] p = body_run v c p
-body_or_agent v the_call i c (w ∷ ws) p = one (suspended the_call i (w ∷ ws) p.slots p.state)
+abbrev pub body_or_agent : Builtins → Tree → ℕ → ClauseTree → List SlotWatch → Point → Trace State
+body_or_agent b the_call i c [] p = body_run b c p
+body_or_agent b the_call i c (w ∷ ws) p = one (suspended the_call i (w ∷ ws) p.slots p.state)
 
 -- the clauses of a predicate are rules, or facts behind an `index`
-unfoldable pub pred_run : View → Level → PredTree → Option (List (List Mode)) → Trees → State → Trace State
-pred_run v l pred None ts s = rules v l (λ c. backtracks c.back c.watches) (λ i c p. body_or_agent v (comp pred.name ts) i c c.watches p) 0 pred.clauses ts s
-pred_run v l pred (Some lists) ts s = facts_called lists pred.clauses ts s
+unfoldable pub pred_run : Builtins → Level → PredTree → Option (List (List Mode)) → Trees → State → Trace State
+pred_run b l pred None ts s = rules b l (λ c. backtracks c.back c.watches) (λ i c p. body_or_agent b (comp pred.name ts) i c c.watches p) 0 pred.clauses ts s
+pred_run b l pred (Some lists) ts s = facts_called lists pred.clauses ts s
 
 -- A function's rule runs its body, and then evaluates its value; the first answer is the call's. Where there is none the
 -- call is raised as unresolved.
@@ -92,12 +92,12 @@ abbrev pub value_at : Option Tree → Point → Trace Applied
 value_at None p = done
 value_at (Some t) p = let e : Evaluated = evaluated t p.slots p.state in one (record { value = e.tree; state = e.state })
 
-abbrev pub value_run : View → ClauseTree → Point → Trace Applied
-value_run v c p = then (strictly (meaning v c.body) p) (value_at c.value)
+abbrev pub value_run : Builtins → ClauseTree → Point → Trace Applied
+value_run b c p = then (strictly (meaning b c.body) p) (value_at c.value)
 
-unfoldable pub function_run : View → Level → PredTree → Trees → State → Trace Applied
-function_run v l pred ts s =
-    chosen (rules v l (λ c. false) (λ i c p. value_run v c p) 0 pred.clauses ts s) (λ a. one a)
+unfoldable pub function_run : Builtins → Level → PredTree → Trees → State → Trace Applied
+function_run b l pred ts s =
+    chosen (rules b l (λ c. false) (λ i c p. value_run b c p) 0 pred.clauses ts s) (λ a. one a)
     (raised_with (codes "unresolved_function_call") (comp pred.name ts) s)
 
 -- The one predicate, or the one function, of a name and a number of arguments.
@@ -109,30 +109,30 @@ abbrev pub entered : {X : Type 0} → Bool → Option Level → Option Level →
 entered true inner below f = unticked inner f
 entered false inner below f = ticked below f
 
-abbrev pub call_run : View → Option Level → Option Level → Option PredTree → Trees → State → Trace State
-call_run v inner below None ts s = done
-call_run v inner below (Some pred) ts s = entered pred.quiet inner below (λ l. pred_run v l pred pred.index ts s)
+abbrev pub call_run : Builtins → Option Level → Option Level → Option PredTree → Trees → State → Trace State
+call_run b inner below None ts s = done
+call_run b inner below (Some pred) ts s = entered pred.quiet inner below (λ l. pred_run b l pred pred.index ts s)
 
-abbrev pub application_run : View → Option Level → Option Level → Option PredTree → Trees → State → Trace Applied
-application_run v inner below None ts s = done
-application_run v inner below (Some pred) ts s = entered pred.quiet inner below (λ l. function_run v l pred ts s)
+abbrev pub application_run : Builtins → Option Level → Option Level → Option PredTree → Trees → State → Trace Applied
+application_run b inner below None ts s = done
+application_run b inner below (Some pred) ts s = entered pred.quiet inner below (λ l. function_run b l pred ts s)
 
 -- what calls do, by the level for quiet calls and the level for all others
-unfoldable pub calls_of : View → List PredTree → Option Level → Option Level → Calls
-calls_of v preds inner below = record {
-  called = λ name ts s. call_run v inner below (find_pred false name (tree_count ts) preds) ts s;
-  applied = λ name ts s. application_run v inner below (find_pred true name (tree_count ts) preds) ts s;
+unfoldable pub calls_of : Builtins → List PredTree → Option Level → Option Level → Calls
+calls_of b preds inner below = record {
+  called = λ name ts s. call_run b inner below (find_pred false name (tree_count ts) preds) ts s;
+  applied = λ name ts s. application_run b inner below (find_pred true name (tree_count ts) preds) ts s;
   drained = drained;
 }
 
 -- the level above another one, where so many quiet calls may nest
-unfoldable pub quiet_level : View → List PredTree → Option Level → ℕ → Level
-quiet_level v preds below zero = level_of (calls_of v preds None below) below
-quiet_level v preds below (suc k) = level_of (calls_of v preds (Some (quiet_level v preds below k)) below) below
+unfoldable pub quiet_level : Builtins → List PredTree → Option Level → ℕ → Level
+quiet_level b preds below zero = level_of (calls_of b preds None below) below
+quiet_level b preds below (suc k) = level_of (calls_of b preds (Some (quiet_level b preds below k)) below) below
 
 -- The level of a depth. Where Ticks stand between the calls of quiet predicates (`Quiet`), no more of these calls nest than
 -- there are predicates, so that they take nothing from the depth. The depth is added so that a quiet call leads to a level
 -- that is still above that of one depth less.
-unfoldable pub level_at : View → List PredTree → ℕ → Level
-level_at v preds zero = quiet_level v preds None (length preds)
-level_at v preds (suc d) = quiet_level v preds (Some (level_at v preds d)) (suc (length preds + d))
+unfoldable pub level_at : Builtins → List PredTree → ℕ → Level
+level_at b preds zero = quiet_level b preds None (length preds)
+level_at b preds (suc d) = quiet_level b preds (Some (level_at b preds d)) (suc (length preds + d))

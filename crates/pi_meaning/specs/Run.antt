@@ -1,11 +1,13 @@
--- The run of a query of a program: its trace under a view, cut just before a Tick, at a depth that reaches to the cut. All
+-- The run of a query of a program: its trace, cut just before a Tick, at a depth that reaches to the cut. All
 -- such depths give the same cut.
 use Rattle.std.specs.Prelude.{◌≡◌, ℕ, List, [], ◌∷◌, ◌++◌, None, replicate}
 use Rattle.pi_terms.specs.Places.{Places}
 use Rattle.pi_states.specs.State.{State, empty_state}
 use Rattle.pi_traces.specs.Trace.{Trace, then, one}
 use Rattle.pi_traces.specs.Depth.{Cut, cut, CutWithoutDeep}
-use Rattle.pi_meaning.specs.View.{View, query_view}
+use Rattle.pi_meaning.specs.View.{query_view}
+use Rattle.pi_meaning.specs.Builtins.{Builtins}
+use Rattle.pi_meaning.specs.Instances.{small}
 use Rattle.pi_core.specs.CoreTree.{PredTree, QueryTree}
 use Rattle.pi_meaning.specs.Level.{Level, Point}
 use Rattle.pi_meaning.specs.Raise.{within_limit}
@@ -34,17 +36,17 @@ answered_with names p = told names (solution p) (one (solution p))
 abbrev pub query_start : Level → QueryTree → Point
 query_start l q = record { level = l; slots = replicate q.slots None; state = empty_state }
 
--- the trace of a query at a depth, under a view; an answer counts when nothing waits any more
-unfoldable pub query_trace : View → List PredTree → QueryTree → ℕ → Trace Solution
-query_trace v program q depth =
-    then (strictly (meaning v q.goal) (query_start (level_at v (program ++ q.helpers) depth) q)) (answered_with q.names)
+-- the trace of a query at a depth, with these built-ins; an answer counts when nothing waits any more
+unfoldable pub query_trace : Builtins → List PredTree → QueryTree → ℕ → Trace Solution
+query_trace b program q depth =
+    then (strictly (meaning b q.goal) (query_start (level_at b (program ++ q.helpers) depth) q)) (answered_with q.names)
 
--- what a program does with a query under a view, before Tick number n + 1
-pub record IsRunUnder (v : View) (program : List PredTree) (q : QueryTree) (n : ℕ) (c : Cut Solution) : Type 0 where
+-- what a program does with a query, before Tick number n + 1
+pub record IsRunUnder (b : Builtins) (program : List PredTree) (q : QueryTree) (n : ℕ) (c : Cut Solution) : Type 0 where
   pub depth : ℕ
-  pub reaches : CutWithoutDeep n (query_trace v program q depth)
-  pub is_cut : c ≡ cut n (query_trace v program q depth)
+  pub reaches : CutWithoutDeep n (query_trace b program q depth)
+  pub is_cut : c ≡ cut n (query_trace b program q depth)
 
--- the same under a log of planner calls, where none is being answered
+-- the same with `=` and `throw` alone, under a log of planner calls, where none is being answered
 abbrev pub IsRun : List PredTree → QueryTree → List LogEntry → ℕ → Cut Solution → Type 0
-IsRun program q log n c = IsRunUnder (query_view log) program q n c
+IsRun program q log n c = IsRunUnder (small (query_view log)) program q n c

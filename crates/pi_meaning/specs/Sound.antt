@@ -1,13 +1,11 @@
 -- Sound programs: what holds of each program and query of the core language that are run. All this is own.
-use Rattle.std.specs.Prelude.{◌≡◌, ◌≢◌, ◌⊎◌, ◌↔◌, ℕ, suc, ◌<◌, ◌==◌, ◌&&◌, ◌||◌, Bool, true, false, List, [], length, AllPairs, Contains, Some, IsSome, IsTrue, codes, ⊤, ◌++◌}
-use Rattle.std.specs.Ordering.{is_eq}
+use Rattle.std.specs.Prelude.{◌≡◌, ◌≢◌, ◌⊎◌, ◌↔◌, ℕ, suc, ◌<◌, Bool, true, false, List, [], length, AllPairs, Contains, Some, IsSome, IsTrue, codes, ⊤, ◌++◌}
 use Rattle.pi_terms.specs.Tree.{Tree}
-use Rattle.pi_terms.specs.Order.{name_order}
 use Rattle.pi_terms.specs.PatternTree.{PatternTrees, no_patterns, pattern, HaveSlot}
 use Rattle.pi_states.specs.State.{SpeaksBelow}
 use Rattle.pi_core.specs.GoalTree.{GoalTree, truth, fail, tick, call, apply, seq, alternatives, if_else, not, once, collect, count, catch, subgoals}
 use Rattle.pi_core.specs.CoreTree.{ClauseTree, PredTree, QueryTree, find_pred}
-use Rattle.pi_effects.specs.Builtin.{is_built_in}
+use Rattle.pi_meaning.specs.Names.{is_given, is_planner}
 use Rattle.pi_meaning.specs.Quiet.{TicksBetween}
 use Rattle.pi_core.specs.declared.core_program.NameSlot.{NameSlot}
 use Rattle.pi_core.specs.declared.core_program.SlotWatch.{SlotWatch}
@@ -50,13 +48,9 @@ pub record KeepsSlots (c : ClauseTree) : Type 0 where
 
 -- What is called is there.
 
--- a predicate or a function of the program, or a built-in one
+-- a predicate or a function of the program, or one that the language gives
 abbrev pub IsKnown : List PredTree → Bool → List ℕ → ℕ → Type 0
-IsKnown preds function name k = IsSome (find_pred function name k preds) ⊎ IsTrue (is_built_in function name k)
-
--- the names of planner calls
-abbrev pub is_planner : List ℕ → ℕ → Bool
-is_planner name k = (is_eq (name_order name (codes "plan")) || is_eq (name_order name (codes "best_plan"))) && ((k == 2) || ((k == 3) || (k == 4)))
+IsKnown preds function name k = IsSome (find_pred function name k preds) ⊎ IsTrue (is_given function name k)
 
 abbrev pub PlansAreDefined : List PredTree → Type 0
 PlansAreDefined preds = IsSome (find_pred false (codes "final") 1 preds) × IsSome (find_pred false (codes "action") 4 preds)

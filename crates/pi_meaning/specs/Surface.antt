@@ -10,7 +10,6 @@ use Rattle.pi_states.specs.State.{State, bindings, empty_state}
 use Rattle.pi_traces.specs.Trace.{Trace, end, note, Deep, Tick, done, one, alt, then}
 use Rattle.pi_meaning.specs.View.{View}
 use Rattle.pi_meaning.specs.Drain.{drained}
-use Rattle.pi_meaning.specs.Settle.{settled}
 use Rattle.pi_meaning.specs.Raise.{within_limit}
 use Rattle.pi_meaning.specs.Builtin.{effect}
 use Rattle.pi_syntax.specs.ExpTree.{ExpTree, ExpTrees, no_exps, exp}
@@ -42,16 +41,16 @@ at_state p s = record { names = p.names; state = s }
 abbrev pub draining_first : Doing → Doing
 draining_first act p = then (drained p.state) (λ s. act (at_state p s))
 
--- a built-in does its effect and is settled, and any other name is called
-abbrev pub built_in_or_called : Option (Trace State) → Calling → List ℕ → ValuedAll → State → Trace State
-built_in_or_called (Some t) calls name all before = then t (settled before)
-built_in_or_called None calls name all before = calls name all.trees all.state
+-- a built-in does its effect, settled from the state behind its arguments, and any other name is called
+abbrev pub built_in_or_called : Option (Trace State) → Calling → List ℕ → ValuedAll → Trace State
+built_in_or_called (Some t) calls name all = t
+built_in_or_called None calls name all = calls name all.trees all.state
 
 -- a goal with arguments, which are evaluated from the left
 abbrev pub call_trace : View → Calling → List ℕ → ExpTrees → Doing
 call_trace v calls name es p =
     let all : ValuedAll = valued_all es p.names p.state in
-    then (built_in_or_called (effect v name all.trees all.state) calls name all p.state) (λ s. one (record { names = all.names; state = s }))
+    then (built_in_or_called (effect v name all.trees all.state) calls name all) (λ s. one (record { names = all.names; state = s }))
 
 -- `true` has one answer, `fail` has none, any other atom is a call
 abbrev pub atom_trace : View → Calling → List ℕ → Doing

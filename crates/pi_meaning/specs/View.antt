@@ -9,19 +9,19 @@ use Rattle.pi_states.specs.State.{State}
 use Rattle.pi_states.specs.Unify.{unified}
 use Rattle.pi_traces.specs.Trace.{Trace, end, Call, Raise, Abort, Miss, done}
 use Rattle.pi_meaning.specs.Settle.{settled_from}
+use Rattle.pi_meaning.specs.Within.{Within, a_query, is_body}
 use Rattle.pi_answers.specs.declared.log.LogEntry.{LogEntry}
 use Rattle.pi_answers.specs.declared.log.PlanResult.{PlanResult}
 
--- the planner calls that are done, in the order of their completion; those that are being answered; whether what runs
--- belongs to the body of a planner call
+-- the planner calls that are done, in the order of their completion; those that are being answered; in what the goal runs
 pub record View : Type 0 where
   pub log : List LogEntry
   pub being_answered : List Call
-  pub inside : Bool
+  pub within : Within
 
 -- the view of a query under a log
 abbrev pub query_view : List LogEntry → View
-query_view log = record { log = log; being_answered = []; inside = false }
+query_view log = record { log = log; being_answered = []; within = a_query }
 
 -- no plan of its log holds a variable
 abbrev pub PlansAreGround : View → Type 0
@@ -71,7 +71,7 @@ unknown v c = cond (list_any (same_call c) v.being_answered) (end (Abort (comp (
 abbrev pub read_entry : View → Call → Wanted → State → Option LogEntry → Trace State
 read_entry v c wanted s None = unknown v c
 read_entry v c wanted s (Some (LogEntry.Planned best start limit result)) = answered_by result wanted s
-read_entry v c wanted s (Some (LogEntry.RaisedPlan best start limit ball)) = raised_by v.inside ball
+read_entry v c wanted s (Some (LogEntry.RaisedPlan best start limit ball)) = raised_by (is_body v.within) ball
 
 -- what a planner call comes to whose start is ground and whose limit is an integer from 0: its plan and cost, unified; no
 -- answer; the exception that it ended in, which within a planner call's body is not to be caught; the exception of a call

@@ -1,61 +1,52 @@
 -- Calls by name, of predicates and of functions, with arguments that are evaluated; and `call` (A User's Guide to Picat, 'Predicates and Functions' and 'Higher-Order
--- Predicates'; what is raised and how depth is counted is own). A name that is built in is the built-in.
-use Rattle.std.specs.Prelude.{ℕ, pos, ◌==◌, ◌&&◌, ◌||◌, nat_le, Bool, cond, List, [], ◌++◌, Option, Some, None, codes}
-use Rattle.std.specs.Str.{bytes_eq}
+-- Predicates'; what is raised and how depth is counted is own). A name that is built in is the built-in. The meaning over names and the core meaning call by the same rules.
+use Rattle.std.specs.Prelude.{ℕ, pos, ◌||◌, Bool, cond, List, [], ◌++◌, Option, Some, None, codes, option_map}
+use Rattle.std.specs.Option.{option_or}
 use Rattle.pi_terms.specs.Tree.{Tree, var, int, atom, comp, Trees, no_trees, tree, trees_of, tree_count}
-use Rattle.pi_terms.specs.Copy.{copy, new_variables}
-use Rattle.pi_states.specs.State.{State, bindings, next, followed}
-use Rattle.pi_states.specs.Unify.{unified}
-use Rattle.pi_states.specs.Evaluation.{with_new_variables}
-use Rattle.pi_effects.specs.Effect.{Effect, FunctionEffect}
+use Rattle.pi_states.specs.State.{State, bindings, followed}
 use Rattle.pi_effects.specs.Exception.{type_error}
 use Rattle.pi_effects.specs.Items.{each_tree}
 use Rattle.pi_effects.specs.BuiltIns.{built_in_predicate, built_in_function, is_predicate}
 use Rattle.pi_traces.specs.Trace.{Trace, end, Raise, Deep, done, then}
 use Rattle.pi_traces.specs.Control.{caught}
-use Rattle.pi_meaning.specs.Settle.{settled}
-use Rattle.pi_meaning.specs.Builtin.{effect_trace, function_trace}
-use Rattle.pi_meaning.specs.Level.{Level, lowest, over, Applied, calls_at}
-use Rattle.pi_meaning.specs.Sound.{is_planner}
-use Rattle.pi_names.specs.Within.{plain_view, resource_left}
-use Rattle.pi_names.specs.Given.{Setting, is_later_predicate, is_later_function}
+use Rattle.pi_meaning.specs.Builtin.{settled_effect, function_trace}
+use Rattle.pi_meaning.specs.Level.{Level, lowest, over, Applied, calls_at, or_called, or_applied}
+use Rattle.pi_meaning.specs.Within.{resource_left}
+use Rattle.pi_meaning.specs.Names.{is_later_predicate, is_later_function, is_planner, is_resource, is_catch, is_call}
+use Rattle.pi_meaning.specs.Handling.{handling}
+use Rattle.pi_meaning.specs.Given.{Setting}
 
 -- ---- predicates
 
--- a built-in does its effect and is settled, where the goal began in the state of the call; what a later stage gives is settled by itself
-abbrev pub built_in_or_called : Setting → Level → List ℕ → Trees → State → Option Effect → Trace State
-built_in_or_called set l name ts s (Some e) = then (effect_trace (plain_view set.view) e) (settled s)
-built_in_or_called set l name ts s None =
-    cond (is_later_predicate name (tree_count ts)) (set.later.predicate set.view l name ts s) ((calls_at l).called name ts s)
+-- a built-in does its effect and is settled, where the goal began in the state of the call, behind the evaluation of its arguments
+abbrev pub built_in : Setting → List ℕ → Trees → State → Option (Trace State)
+built_in set name ts s = option_map (settled_effect set.view s) (built_in_predicate name ts s)
 
+-- what a later stage gives is settled by itself
+abbrev pub given_later : Setting → Level → List ℕ → Trees → State → Option (Trace State)
+given_later set l name ts s = cond (is_later_predicate name (tree_count ts)) (Some (set.later.predicate set.view l name ts s)) None
+
+-- what a name does as a predicate of the language; None where it is none
+unfoldable pub predicate_given : Setting → Level → List ℕ → Trees → State → Option (Trace State)
+predicate_given set l name ts s = option_or (built_in set name ts s) (given_later set l name ts s)
+
+-- any other name is called
 unfoldable pub predicate_called : Setting → Level → List ℕ → Trees → State → Trace State
-predicate_called set l name ts s = built_in_or_called set l name ts s (built_in_predicate name ts s)
+predicate_called set l name ts s = or_called (predicate_given set l name ts s) l name ts s
 
 -- ---- functions
 
-abbrev pub is_resource : List ℕ → ℕ → Bool
-is_resource name k = (k == 0) && bytes_eq name (codes "current_resource")
+abbrev pub function_later : Setting → List ℕ → Trees → State → Option (Trace Applied)
+function_later set name ts s =
+    cond (is_resource name (tree_count ts)) (Some (resource_left set.view.within s))
+    (cond (is_later_function name (tree_count ts)) (Some (set.later.function name ts s)) None)
 
-abbrev pub built_in_or_applied : Setting → Level → List ℕ → Trees → State → Option FunctionEffect → Trace Applied
-built_in_or_applied set l name ts s (Some e) = function_trace e
-built_in_or_applied set l name ts s None =
-    cond (is_resource name (tree_count ts)) (resource_left set.view.within s)
-    (cond (is_later_function name (tree_count ts)) (set.later.function name ts s) ((calls_at l).applied name ts s))
+-- what a name does as a function of the language; None where it is none
+unfoldable pub function_given : Setting → List ℕ → Trees → State → Option (Trace Applied)
+function_given set name ts s = option_or (option_map function_trace (built_in_function name ts s)) (function_later set name ts s)
 
 unfoldable pub function_called : Setting → Level → List ℕ → Trees → State → Trace Applied
-function_called set l name ts s = built_in_or_applied set l name ts s (built_in_function name ts s)
-
--- ---- exceptions that are caught
-
--- where a term is raised, a copy of it is unified with what is to be caught, in the state in which the goal began. That is settled, and what handles it goes on; where they
--- don't unify, the term is raised on.
-abbrev pub handled_in : {A : Type 0} → State → Tree → (State → Trace A) → Option State → Trace A
-handled_in s ball handler None = end (Raise ball)
-handled_in s ball handler (Some r) = then (settled s r) handler
-
-abbrev pub handling : {A : Type 0} → State → Tree → (State → Trace A) → Tree → Trace A
-handling s wanted handler ball =
-    handled_in s ball handler (unified (with_new_variables (new_variables ball) s) wanted (copy (next s) ball))
+function_called set l name ts s = or_applied (function_given set name ts s) l name ts s
 
 -- ---- `call`
 
@@ -70,12 +61,6 @@ called_by (var n) more = None
 called_by (int i) more = None
 called_by (atom name) more = Some (record { name = name; args = trees_of more })
 called_by (comp name ts) more = Some (record { name = name; args = trees_of (each_tree ts ++ more) })
-
-abbrev pub is_catch : List ℕ → ℕ → Bool
-is_catch name k = k == 3 && bytes_eq name (codes "catch")
-
-abbrev pub is_call : List ℕ → ℕ → Bool
-is_call name k = (nat_le 1 k && nat_le k 8) && bytes_eq name (codes "call")
 
 abbrev pub unknown_name : {A : Type 0} → List ℕ → ℕ → Trace A
 unknown_name name k = end (Raise (comp (codes "unknown_name") (tree (atom name) (tree (int (pos k)) no_trees))))
@@ -127,3 +112,8 @@ called_at_level set (over c l) t more s = term_called set (over c l) (called_at_
 abbrev pub called_below : Setting → Level → Tree → List Tree → State → Trace State
 called_below set (lowest c) t more s = end Deep
 called_below set (over c l) t more s = called_at_level set l t more s
+
+-- of the arguments of `call` the first is called, and the others are arguments behind its own
+unfoldable pub first_called : Setting → Level → Trees → State → Trace State
+first_called set l no_trees s = done
+first_called set l (tree t ts) s = called_below set l t (each_tree ts) s

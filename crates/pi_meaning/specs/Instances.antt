@@ -1,0 +1,37 @@
+-- The two kinds of built-ins that the core meaning is taken with: `=` and `throw` alone, which is what runs so far; and all of the language, for a program. (A User's
+-- Guide to Picat, 'Appendix: Predicates and Functions'; which names are there is own.)
+use Rattle.std.specs.Prelude.{ℕ, Bool, false, not, cond, List, Option, Some, None}
+use Rattle.pi_terms.specs.Tree.{Trees, tree_count}
+use Rattle.pi_states.specs.State.{State}
+use Rattle.pi_core.specs.CoreTree.{PredTree, find_pred}
+use Rattle.pi_traces.specs.Trace.{Trace}
+use Rattle.pi_meaning.specs.View.{View}
+use Rattle.pi_meaning.specs.Level.{Level}
+use Rattle.pi_meaning.specs.Names.{is_call}
+use Rattle.pi_meaning.specs.Builtin.{effect, function_effect}
+use Rattle.pi_meaning.specs.Builtins.{Builtins}
+use Rattle.pi_meaning.specs.Given.{Later, Setting}
+use Rattle.pi_meaning.specs.Calls.{predicate_given, function_given, first_called}
+
+-- `=` and `throw`
+abbrev pub small : View → Builtins
+small v = record { predicate = λ l name ts s. effect v name ts s; function = λ l name ts s. function_effect name ts s }
+
+-- `call` leads to a predicate of the program that isn't quiet
+abbrev pub is_called_by_name : Option PredTree → Bool
+is_called_by_name None = false
+is_called_by_name (Some pred) = not pred.quiet
+
+abbrev pub core_setting : View → Later → List PredTree → Setting
+core_setting v later preds = record { view = v; later = later; defines = λ name k. is_called_by_name (find_pred false name k preds) }
+
+-- `call` calls a term, and any other name does what it does by itself
+abbrev pub predicate_or_call : Setting → Level → List ℕ → Trees → State → Option (Trace State)
+predicate_or_call set l name ts s = cond (is_call name (tree_count ts)) (Some (first_called set l ts s)) (predicate_given set l name ts s)
+
+-- all names of the language, for a program
+abbrev pub whole : View → Later → List PredTree → Builtins
+whole v later preds = record {
+  predicate = λ l name ts s. predicate_or_call (core_setting v later preds) l name ts s;
+  function = λ l name ts s. function_given (core_setting v later preds) name ts s;
+}
