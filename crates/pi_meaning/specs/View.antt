@@ -1,6 +1,6 @@
 -- Views: what is known of planner calls where a goal is run, and what a planner call comes to under a view (A User's
 -- Guide to Picat, 'Planning'; the log, and that no call waits for itself, are own).
-use Rattle.std.specs.Prelude.{ℤ, Bool, true, false, cond, List, [], ◌∷◌, Option, Some, None, codes, option_and_then, Contains}
+use Rattle.std.specs.Prelude.{ℕ, ℤ, Bool, true, false, cond, List, [], ◌∷◌, Option, Some, None, codes, option_and_then, Contains}
 use Rattle.std.specs.List.{list_any}
 use Rattle.pi_terms.specs.Tree.{Tree, var, int, comp, no_trees, tree}
 use Rattle.pi_terms.specs.Order.{identical}
@@ -9,7 +9,7 @@ use Rattle.pi_states.specs.State.{State}
 use Rattle.pi_states.specs.Unify.{unified}
 use Rattle.pi_traces.specs.Trace.{Trace, end, Call, Raise, Abort, Miss, done}
 use Rattle.pi_meaning.specs.Settle.{settled_from}
-use Rattle.pi_meaning.specs.Within.{Within, a_query, is_body}
+use Rattle.pi_meaning.specs.Within.{Within, a_query, a_body, is_body}
 use Rattle.pi_answers.specs.declared.log.LogEntry.{LogEntry}
 use Rattle.pi_answers.specs.declared.log.PlanResult.{PlanResult}
 
@@ -22,6 +22,10 @@ pub record View : Type 0 where
 -- the view of a query under a log
 abbrev pub query_view : List LogEntry → View
 query_view log = record { log = log; being_answered = []; within = a_query }
+
+-- that of the body of a planner call, while these calls are being answered, with so much of its limit left
+abbrev pub body_view : List LogEntry → List Call → ℕ → View
+body_view log waiting r = record { log = log; being_answered = waiting; within = a_body r }
 
 -- no plan of its log holds a variable
 abbrev pub PlansAreGround : View → Type 0

@@ -6,7 +6,7 @@ use Rattle.pi_terms.specs.Tree.{Tree, int}
 use Rattle.pi_traces.specs.Trace.{Trace, Done, answers, end_of}
 use Rattle.pi_answers.specs.declared.log.LogEntry.{LogEntry}
 use Rattle.pi_answers.specs.declared.log.PlanResult.{PlanResult}
-use Rattle.pi_planner_calls.specs.Situation.{of_body}
+use Rattle.pi_meaning.specs.View.{body_view}
 use Rattle.pi_planner_calls.specs.Bodies.{Offer, Bodies, first_fault}
 use Rattle.pi_planner_calls.specs.Steps.{IsFinal, IsStep, Valid, Reached, at_start, by_step, IsClosed, IsExhausted, number_of}
 use Rattle.pi_planner_calls.specs.Entries.{HasPlan, IsRightResult, IsRightlyAdded, IsRightEntry}
@@ -17,11 +17,11 @@ use Rattle.pi_planner_calls.proofs.TraceLemmas.{known-done, known-answers, known
 -- ---- what is found is found
 
 final-stays : (b : Bodies) (log more : List LogEntry) (s : Tree) (r : ℕ) → AreBodies b → IsFinal b log s r → IsFinal b (log ++ more) s r
-final-stays b log more s r are (d, h) = (d, known-some (b.final (of_body log [] r) s d) (b.final (of_body (log ++ more) [] r) s d) (are.final_longer log more r s d) h)
+final-stays b log more s r are (d, h) = (d, known-some (b.final (body_view log [] r) s d) (b.final (body_view (log ++ more) [] r) s d) (are.final_longer log more r s d) h)
 
 step-stays : (b : Bodies) (log more : List LogEntry) (s : Tree) (r : ℕ) (a : Tree) (c : ℕ) (t : Tree) → AreBodies b → IsStep b log s r a c t → IsStep b (log ++ more) s r a c t
 step-stays b log more s r a c t are h = record {
-  given = (h.given.0, known-answers (b.action (of_body log [] r) s h.given.0) (b.action (of_body (log ++ more) [] r) s h.given.0) (record { state = t; action = a; cost = int (pos c) }) (are.action_longer log more r s h.given.0) h.given.1);
+  given = (h.given.0, known-answers (b.action (body_view log [] r) s h.given.0) (b.action (body_view (log ++ more) [] r) s h.given.0) (record { state = t; action = a; cost = int (pos c) }) (are.action_longer log more r s h.given.0) h.given.1);
   state = h.state;
   ground = h.ground;
   within = h.within;
@@ -35,16 +35,16 @@ valid-stays b log more (a ∷ plan) s r cost are (c, t, left, others, step, is_r
 
 -- ---- what is closed stays closed
 
-goes_on-same : (b : Bodies) (log more : List LogEntry) (s : Tree) (r d : ℕ) → AreBodies b → end_of (b.final (of_body log [] r) s d) ≡ Done → b.final (of_body (log ++ more) [] r) s d ≡ b.final (of_body log [] r) s d
-goes_on-same b log more s r d are e = known-done (b.final (of_body log [] r) s d) (b.final (of_body (log ++ more) [] r) s d) (are.final_longer log more r s d) e
+goes_on-same : (b : Bodies) (log more : List LogEntry) (s : Tree) (r d : ℕ) → AreBodies b → end_of (b.final (body_view log [] r) s d) ≡ Done → b.final (body_view (log ++ more) [] r) s d ≡ b.final (body_view log [] r) s d
+goes_on-same b log more s r d are e = known-done (b.final (body_view log [] r) s d) (b.final (body_view (log ++ more) [] r) s d) (are.final_longer log more r s d) e
 
-action-same : (b : Bodies) (log more : List LogEntry) (s : Tree) (r d : ℕ) → AreBodies b → end_of (b.action (of_body log [] r) s d) ≡ Done → b.action (of_body (log ++ more) [] r) s d ≡ b.action (of_body log [] r) s d
-action-same b log more s r d are e = known-done (b.action (of_body log [] r) s d) (b.action (of_body (log ++ more) [] r) s d) (are.action_longer log more r s d) e
+action-same : (b : Bodies) (log more : List LogEntry) (s : Tree) (r d : ℕ) → AreBodies b → end_of (b.action (body_view log [] r) s d) ≡ Done → b.action (body_view (log ++ more) [] r) s d ≡ b.action (body_view log [] r) s d
+action-same b log more s r d are e = known-done (b.action (body_view log [] r) s d) (b.action (body_view (log ++ more) [] r) s d) (are.action_longer log more r s d) e
 
 closed-stays : (b : Bodies) (log more : List LogEntry) (s : Tree) (r : ℕ) → AreBodies b → IsClosed b log s r → IsClosed b (log ++ more) s r
 closed-stays b log more s r are h =
-    let same_final : b.final (of_body (log ++ more) [] r) s h.final.0 ≡ b.final (of_body log [] r) s h.final.0 = goes_on-same b log more s r h.final.0 are h.final.1 in
-    let same_action : b.action (of_body (log ++ more) [] r) s h.depth ≡ b.action (of_body log [] r) s h.depth = action-same b log more s r h.depth are h.action in
+    let same_final : b.final (body_view (log ++ more) [] r) s h.final.0 ≡ b.final (body_view log [] r) s h.final.0 = goes_on-same b log more s r h.final.0 are h.final.1 in
+    let same_action : b.action (body_view (log ++ more) [] r) s h.depth ≡ b.action (body_view log [] r) s h.depth = action-same b log more s r h.depth are h.action in
     record {
       final = (h.final.0, ap end_of same_final ∙ h.final.1, ap answers same_final ∙ h.final.2);
       depth = h.depth;
@@ -55,19 +55,19 @@ closed-stays b log more s r are h =
 -- a closed state isn't final under a longer log
 closed-not_final : (b : Bodies) (log more : List LogEntry) (s : Tree) (r : ℕ) → AreBodies b → IsClosed b log s r → IsFinal b (log ++ more) s r → ⊥
 closed-not_final b log more s r are h final =
-    let same : b.final (of_body (log ++ more) [] r) s h.final.0 ≡ b.final (of_body log [] r) s h.final.0 = goes_on-same b log more s r h.final.0 are h.final.1 in
-    some-whole (b.final (of_body (log ++ more) [] r) s) h.final.0 (are.final_deeper (of_body (log ++ more) [] r) s) (ap end_of same ∙ h.final.1) final (ap answers same ∙ h.final.2)
+    let same : b.final (body_view (log ++ more) [] r) s h.final.0 ≡ b.final (body_view log [] r) s h.final.0 = goes_on-same b log more s r h.final.0 are h.final.1 in
+    some-whole (b.final (body_view (log ++ more) [] r) s) h.final.0 (are.final_deeper (body_view (log ++ more) [] r) s) (ap end_of same ∙ h.final.1) final (ap answers same ∙ h.final.2)
 
 -- its steps under a longer log are those before
 step-back : (b : Bodies) (log more : List LogEntry) (s : Tree) (r : ℕ) (a : Tree) (c : ℕ) (t : Tree) → AreBodies b → IsClosed b log s r → IsStep b (log ++ more) s r a c t → IsStep b log s r a c t
 step-back b log more s r a c t are h step =
-    let same : b.action (of_body (log ++ more) [] r) s h.depth ≡ b.action (of_body log [] r) s h.depth = action-same b log more s r h.depth are h.action in
+    let same : b.action (body_view (log ++ more) [] r) s h.depth ≡ b.action (body_view log [] r) s h.depth = action-same b log more s r h.depth are h.action in
     let offer : Offer = record { state = t; action = a; cost = int (pos c) } in
     record {
       given = (
         h.depth,
         subst (λ (u : Trace Offer). Contains (answers u) offer) same
-            (given-whole (b.action (of_body (log ++ more) [] r) s) offer h.depth (are.action_deeper (of_body (log ++ more) [] r) s) (ap end_of same ∙ h.action) step.given),
+            (given-whole (b.action (body_view (log ++ more) [] r) s) offer h.depth (are.action_deeper (body_view (log ++ more) [] r) s) (ap end_of same ∙ h.action) step.given),
       );
       state = step.state;
       ground = step.ground;

@@ -1,15 +1,12 @@
--- What a planner call asks for, by its arguments, and what it comes to where it stands (A User's Guide to Picat, 'Planning'; the log, and what is left of a limit in
--- this form, are own).
+-- What a planner call asks for, by its arguments, and what it comes to where it stands (A User's Guide to Picat, 'Planning'; the log is own).
 use Rattle.std.specs.Prelude.{ℕ, ℤ, pos, negsuc, Bool, List, [], ◌∷◌, Option, Some, None, option_map, codes}
 use Rattle.pi_terms.specs.Tree.{Tree, var, int, atom, comp, Trees, no_trees, tree}
 use Rattle.pi_terms.specs.Variables.{variables}
-use Rattle.pi_traces.specs.Trace.{Trace, end, Call, Raise, one}
+use Rattle.pi_traces.specs.Trace.{Trace, Call}
 use Rattle.pi_states.specs.Value.{Bindings, value}
 use Rattle.pi_states.specs.State.{State, bindings, followed}
-use Rattle.pi_meaning.specs.View.{Wanted, reading}
-use Rattle.pi_meaning.specs.Level.{Applied}
+use Rattle.pi_meaning.specs.View.{View, Wanted, reading}
 use Rattle.pi_meaning.specs.Raise.{within_limit, raised_with}
-use Rattle.pi_planner_calls.specs.Situation.{Situation}
 
 -- the limit of a call that names none
 abbrev pub default_limit : ℤ
@@ -59,18 +56,10 @@ asked best b a =
 -- ---- where it stands
 
 -- what is asked comes to what the view reads; what isn't is raised, and has no entry
-abbrev pub asked_trace : Situation → State → Asked → Trace State
-asked_trace v s (asks c wanted) = reading v.view c wanted s
+abbrev pub asked_trace : View → State → Asked → Trace State
+asked_trace v s (asks c wanted) = reading v c wanted s
 asked_trace v s (refuses t) = raised_with (codes "planner") t s
 
 -- a planner call with these arguments: the value of its start is measured before anything else of it is judged
-abbrev pub planner_trace : Situation → Bool → Trees → State → Option (Trace State)
+abbrev pub planner_trace : View → Bool → Trees → State → Option (Trace State)
 planner_trace v best ts s = option_map (λ a. within_limit (value (bindings s) a.start) (asked_trace v s (asked best (bindings s) a))) (asking (bindings s) ts)
-
-abbrev pub rest_or : Option ℕ → State → Trace Applied
-rest_or None s = end (Raise (atom (codes "no_resource")))
-rest_or (Some r) s = one (record { value = int (pos r); state = s })
-
--- current_resource(): what is left of the limit, in the bodies of a planner call
-abbrev pub resource_trace : Situation → State → Trace Applied
-resource_trace v s = rest_or v.rest s

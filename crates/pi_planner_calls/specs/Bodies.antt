@@ -5,7 +5,7 @@ use Rattle.pi_terms.specs.Tree.{Tree, var, int, atom, comp}
 use Rattle.pi_terms.specs.Variables.{variables}
 use Rattle.pi_traces.specs.Trace.{Trace, End, answers, end_of}
 use Rattle.pi_states.specs.State.{State}
-use Rattle.pi_planner_calls.specs.Situation.{Situation}
+use Rattle.pi_meaning.specs.View.{View}
 
 -- an answer of `action`: the values of its three last arguments, with all bindings replaced. (Where one is past the limit of copies, the trace has that exception in
 -- the answer's place, as a query has.)
@@ -16,8 +16,8 @@ pub record Offer : Type 0 where
 
 -- what a program's bodies do with a state, at a depth. Each is a strict place: what waits is run before an answer counts.
 pub record Bodies : Type 0 where
-  pub final : Situation → Tree → ℕ → Trace State
-  pub action : Situation → Tree → ℕ → Trace Offer
+  pub final : View → Tree → ℕ → Trace State
+  pub action : View → Tree → ℕ → Trace Offer
 
 -- ---- what a trace comes to that more depth only adds to
 

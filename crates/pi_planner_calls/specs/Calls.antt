@@ -4,7 +4,7 @@ use Rattle.pi_terms.specs.Tree.{Tree}
 use Rattle.pi_traces.specs.Trace.{Trace, Call, Done, Miss, Load, Emitted, noted, answered, events_of, ticks}
 use Rattle.pi_traces.specs.Depth.{cut, Ended}
 use Rattle.pi_answers.specs.declared.log.LogEntry.{LogEntry}
-use Rattle.pi_planner_calls.specs.Situation.{of_body}
+use Rattle.pi_meaning.specs.View.{body_view}
 use Rattle.pi_planner_calls.specs.Bodies.{Bodies, EndsIn, FailsIn}
 use Rattle.pi_planner_calls.specs.Steps.{GoesOn, CallReaches}
 
@@ -13,7 +13,7 @@ pub record Misses (b : Bodies) (log : List LogEntry) (c d : Call) : Type 0 where
   pub state : Tree
   pub rest : ℕ
   pub reached : CallReaches b log c state rest
-  pub body : EndsIn (b.final (of_body log [] rest) state) (Miss d) ⊎ (FailsIn (b.final (of_body log [] rest) state) Done × EndsIn (b.action (of_body log [] rest) state) (Miss d))
+  pub body : EndsIn (b.final (body_view log [] rest) state) (Miss d) ⊎ (FailsIn (b.final (body_view log [] rest) state) Done × EndsIn (b.action (body_view log [] rest) state) (Miss d))
 
 -- under a front of the log, of so many entries at least
 pub record Edge (b : Bodies) (least : ℕ) (log : List LogEntry) (c d : Call) : Type 0 where
@@ -62,8 +62,8 @@ loads t = loads_of (events_of t)
 -- only where that of `final` has ended without an answer.
 pub record BoundBodies (b : Bodies) (log : List LogEntry) (c : Call) (most_ticks most_loads : ℕ) : Type 0 where
   pub ticks : (front behind : List LogEntry) (s : Tree) (r d : ℕ) → log ≡ front ++ behind → CallReaches b front c s r →
-      (ticks (b.final (of_body front [] r) s d) ≤ most_ticks)
-      × (GoesOn b front s r → ticks (b.final (of_body front [] r) s d) + ticks (b.action (of_body front [] r) s d) ≤ most_ticks)
+      (ticks (b.final (body_view front [] r) s d) ≤ most_ticks)
+      × (GoesOn b front s r → ticks (b.final (body_view front [] r) s d) + ticks (b.action (body_view front [] r) s d) ≤ most_ticks)
   pub loads : (front behind : List LogEntry) (s : Tree) (r d : ℕ) → log ≡ front ++ behind → CallReaches b front c s r →
-      (loads (b.final (of_body front [] r) s d) ≤ most_loads)
-      × (GoesOn b front s r → loads (b.final (of_body front [] r) s d) + loads (b.action (of_body front [] r) s d) ≤ most_loads)
+      (loads (b.final (body_view front [] r) s d) ≤ most_loads)
+      × (GoesOn b front s r → loads (b.final (body_view front [] r) s d) + loads (b.action (body_view front [] r) s d) ≤ most_loads)

@@ -7,10 +7,9 @@ use Rattle.pi_traces.specs.Trace.{Call, Done, Raise, Abort, answers}
 use Rattle.pi_states.specs.State.{empty_state}
 use Rattle.pi_effects.specs.Exception.{exception_with}
 use Rattle.pi_effects.specs.Items.{list_of}
-use Rattle.pi_meaning.specs.View.{call_of, same_call}
+use Rattle.pi_meaning.specs.View.{call_of, same_call, body_view}
 use Rattle.pi_answers.specs.declared.log.LogEntry.{LogEntry}
 use Rattle.pi_answers.specs.declared.log.PlanResult.{PlanResult}
-use Rattle.pi_planner_calls.specs.Situation.{of_body}
 use Rattle.pi_planner_calls.specs.Bodies.{Bodies, EndsIn, FailsIn, first_fault}
 use Rattle.pi_planner_calls.specs.Steps.{Valid, Reached, IsExhausted, number_of}
 use Rattle.pi_planner_calls.specs.Calls.{Reach}
@@ -42,10 +41,10 @@ IsNoPlan true b log start limit = (m : ℕ) → m ≤ limit → IsExhausted b lo
 -- a body of a state ends in this exception, while these calls are being answered: `final` without an answer, or `action` behind it, or the answers of that have
 -- a fault
 pub data Raises (b : Bodies) (log : List LogEntry) (waiting : List Call) (s : Tree) (r : ℕ) : Tree → Type 0 where
-  in_final : (ball : Tree) → FailsIn (b.final (of_body log waiting r) s) (Raise ball) ⊎ FailsIn (b.final (of_body log waiting r) s) (Abort ball) → Raises b log waiting s r ball
-  in_action : (ball : Tree) → FailsIn (b.final (of_body log waiting r) s) Done → EndsIn (b.action (of_body log waiting r) s) (Raise ball) ⊎ EndsIn (b.action (of_body log waiting r) s) (Abort ball) →
+  in_final : (ball : Tree) → FailsIn (b.final (body_view log waiting r) s) (Raise ball) ⊎ FailsIn (b.final (body_view log waiting r) s) (Abort ball) → Raises b log waiting s r ball
+  in_action : (ball : Tree) → FailsIn (b.final (body_view log waiting r) s) Done → EndsIn (b.action (body_view log waiting r) s) (Raise ball) ⊎ EndsIn (b.action (body_view log waiting r) s) (Abort ball) →
       Raises b log waiting s r ball
-  by_fault : (t : Tree) (d : ℕ) → FailsIn (b.final (of_body log waiting r) s) Done → first_fault (answers (b.action (of_body log waiting r) s d)) ≡ Some t →
+  by_fault : (t : Tree) (d : ℕ) → FailsIn (b.final (body_view log waiting r) s) Done → first_fault (answers (b.action (body_view log waiting r) s d)) ≡ Some t →
       Raises b log waiting s r (exception_with (codes "planner") t empty_state)
 
 -- a state that the call reaches; of `best_plan` under a limit below which all is exhausted

@@ -5,7 +5,7 @@ use Rattle.pi_terms.specs.Tree.{Tree}
 use Rattle.pi_traces.specs.Trace.{Trace, end, note, ans, Call, End, Miss, Note}
 use Rattle.pi_traces.specs.Depth.{DepthOnlyAdds}
 use Rattle.pi_answers.specs.declared.log.LogEntry.{LogEntry}
-use Rattle.pi_planner_calls.specs.Situation.{Situation, of_body}
+use Rattle.pi_meaning.specs.View.{View, body_view}
 use Rattle.pi_planner_calls.specs.Bodies.{Bodies}
 
 pub data MoreKnown {A : Type 0} : Trace A → Trace A → Type 0 where
@@ -15,12 +15,12 @@ pub data MoreKnown {A : Type 0} : Trace A → Trace A → Type 0 where
   known_answer : (x : A) {t u : Trace A} → MoreKnown t u → MoreKnown (ans x t) (ans x u)
 
 pub record AreBodies (b : Bodies) : Type 0 where
-  pub final_deeper : (v : Situation) (s : Tree) → DepthOnlyAdds (b.final v s)
-  pub action_deeper : (v : Situation) (s : Tree) → DepthOnlyAdds (b.action v s)
-  pub final_longer : (log more : List LogEntry) (r : ℕ) (s : Tree) (d : ℕ) → MoreKnown (b.final (of_body log [] r) s d) (b.final (of_body (log ++ more) [] r) s d)
-  pub action_longer : (log more : List LogEntry) (r : ℕ) (s : Tree) (d : ℕ) → MoreKnown (b.action (of_body log [] r) s d) (b.action (of_body (log ++ more) [] r) s d)
+  pub final_deeper : (v : View) (s : Tree) → DepthOnlyAdds (b.final v s)
+  pub action_deeper : (v : View) (s : Tree) → DepthOnlyAdds (b.action v s)
+  pub final_longer : (log more : List LogEntry) (r : ℕ) (s : Tree) (d : ℕ) → MoreKnown (b.final (body_view log [] r) s d) (b.final (body_view (log ++ more) [] r) s d)
+  pub action_longer : (log more : List LogEntry) (r : ℕ) (s : Tree) (d : ℕ) → MoreKnown (b.action (body_view log [] r) s d) (b.action (body_view (log ++ more) [] r) s d)
 
 -- the rest counts for nothing, as in each program that doesn't ask for it
 pub record NotByRests (b : Bodies) : Type 0 where
-  pub final : (log : List LogEntry) (waiting : List Call) (q r : ℕ) (s : Tree) (d : ℕ) → b.final (of_body log waiting q) s d ≡ b.final (of_body log waiting r) s d
-  pub action : (log : List LogEntry) (waiting : List Call) (q r : ℕ) (s : Tree) (d : ℕ) → b.action (of_body log waiting q) s d ≡ b.action (of_body log waiting r) s d
+  pub final : (log : List LogEntry) (waiting : List Call) (q r : ℕ) (s : Tree) (d : ℕ) → b.final (body_view log waiting q) s d ≡ b.final (body_view log waiting r) s d
+  pub action : (log : List LogEntry) (waiting : List Call) (q r : ℕ) (s : Tree) (d : ℕ) → b.action (body_view log waiting q) s d ≡ b.action (body_view log waiting r) s d

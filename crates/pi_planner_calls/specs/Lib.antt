@@ -1,4 +1,3 @@
-pub mod Situation
 pub mod Asked
 pub mod Bodies
 pub mod Steps

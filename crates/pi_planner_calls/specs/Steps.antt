@@ -5,20 +5,20 @@ use Rattle.pi_terms.specs.Tree.{Tree, int}
 use Rattle.pi_terms.specs.Variables.{IsGround}
 use Rattle.pi_traces.specs.Trace.{Call, Done, answers, end_of}
 use Rattle.pi_answers.specs.declared.log.LogEntry.{LogEntry}
-use Rattle.pi_planner_calls.specs.Situation.{of_body}
+use Rattle.pi_meaning.specs.View.{body_view}
 use Rattle.pi_planner_calls.specs.Bodies.{Bodies, Gives, HasAnswer, FailsIn, first_fault}
 
 -- the state is final there
 abbrev pub IsFinal : Bodies → List LogEntry → Tree → ℕ → Type 0
-IsFinal b log s r = HasAnswer (b.final (of_body log [] r) s)
+IsFinal b log s r = HasAnswer (b.final (body_view log [] r) s)
 
 -- the search goes on behind it: `final` has ended without an answer
 abbrev pub GoesOn : Bodies → List LogEntry → Tree → ℕ → Type 0
-GoesOn b log s r = FailsIn (b.final (of_body log [] r) s) Done
+GoesOn b log s r = FailsIn (b.final (body_view log [] r) s) Done
 
 -- an action leads at this cost, which is no more than the rest, to another state
 pub record IsStep (b : Bodies) (log : List LogEntry) (s : Tree) (r : ℕ) (action : Tree) (cost : ℕ) (t : Tree) : Type 0 where
-  pub given : Gives (b.action (of_body log [] r) s) (record { state = t; action = action; cost = int (pos cost) })
+  pub given : Gives (b.action (body_view log [] r) s) (record { state = t; action = action; cost = int (pos cost) })
   pub state : IsGround t
   pub ground : IsGround action
   pub within : cost ≤ r
@@ -39,8 +39,8 @@ pub data Reached (b : Bodies) (log : List LogEntry) (start : Tree) (limit : ℕ)
 pub record IsClosed (b : Bodies) (log : List LogEntry) (s : Tree) (r : ℕ) : Type 0 where
   pub final : GoesOn b log s r
   pub depth : ℕ
-  pub action : end_of (b.action (of_body log [] r) s depth) ≡ Done
-  pub faults : first_fault (answers (b.action (of_body log [] r) s depth)) ≡ None
+  pub action : end_of (b.action (body_view log [] r) s depth) ≡ Done
+  pub faults : first_fault (answers (b.action (body_view log [] r) s depth)) ≡ None
 
 -- nothing is to be found under this limit: no plan is valid, and all that is reached is closed
 pub record IsExhausted (b : Bodies) (log : List LogEntry) (start : Tree) (limit : ℕ) : Type 0 where
