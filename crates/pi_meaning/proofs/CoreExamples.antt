@@ -21,6 +21,7 @@ use Rattle.pi_states.specs.HeadMatch.{matched_in, matched_all_in}
 use Rattle.pi_effects.specs.Exception.{thrown, exception_with}
 use Rattle.pi_meaning.specs.Raise.{raised_with}
 use Rattle.pi_meaning.specs.View.{query_view}
+use Rattle.pi_meaning.specs.Instances.{small}
 use Rattle.pi_meaning.specs.Builtin.{effect, function_effect}
 use Rattle.pi_core.specs.CoreTree.{ClauseTree, PredTree, QueryTree, is_pred, find_pred}
 use Rattle.pi_meaning.specs.Meaning.{draining, strictly, calling, applying, collecting, counting, catching, meaning, meaning_of_all, meaning_of_any}
@@ -47,7 +48,7 @@ abbrev query : GoalTree → ℕ → QueryTree
 query g slots = record { goal = g; helpers = []; names = []; slots = slots }
 
 abbrev trace_of : List PredTree → GoalTree → ℕ → ℕ → Trace Solution
-trace_of program g slots depth = query_trace (query_view []) program (query g slots) depth
+trace_of program g slots depth = query_trace (small (query_view [])) program (query g slots) depth
 
 -- the state of these variables
 abbrev a_state : List Variable → State

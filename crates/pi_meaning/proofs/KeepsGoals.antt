@@ -13,14 +13,18 @@ use Rattle.pi_core.specs.GoalTree.{GoalTree, truth, fail, tick, call, apply, seq
 use Rattle.pi_traces.specs.Trace.{Trace, one, alt, then, first}
 use Rattle.pi_traces.specs.Control.{negated, chosen, caught}
 use Rattle.pi_meaning.specs.View.{View}
+use Rattle.pi_meaning.specs.Instances.{small}
 use Rattle.pi_meaning.specs.Settle.{settled}
 use Rattle.pi_states.specs.Evaluation.{Evaluated, evaluated, EvaluatedAll, evaluated_all, with_new_variables}
-use Rattle.pi_meaning.specs.Level.{Level, lowest, over, Calls, Applied, Point, calls_at}
+use Rattle.pi_meaning.specs.Level.{Level, lowest, over, Calls, Applied, Point, calls_at, or_called, or_applied}
 use Rattle.pi_effects.specs.Effect.{Effect, Succeeds, Fails, Writes, Raises, succeeds_in}
 use Rattle.pi_effects.specs.Exception.{thrown}
 use Rattle.pi_effects.specs.Builtin.{effect_of_predicate}
-use Rattle.pi_meaning.specs.Builtin.{written, effect_trace, effect, function_effect}
-use Rattle.pi_meaning.specs.Meaning.{Action, in_state, with_slot, draining, strictly, succeeding, failing, ticking, effect_or_call, calling, effect_or_apply, applying, after_arguments, after_term, slot_value, copyable, with_list, collecting, counting, handled, handling, catching, meaning, meaning_of_all, meaning_of_any}
+use Rattle.pi_meaning.specs.Builtin.{written, effect_trace, settled_effect, effect, function_effect}
+use Rattle.pi_meaning.specs.Within.{is_body}
+use Rattle.pi_meaning.specs.Handling.{handled_in, handling}
+use Rattle.pi_meaning.specs.Builtins.{predicate_by, function_by}
+use Rattle.pi_meaning.specs.Meaning.{Action, in_state, with_slot, draining, strictly, succeeding, failing, ticking, calling, applying, after_arguments, after_term, slot_value, copyable, with_list, collecting, counting, catching, meaning, meaning_of_all, meaning_of_any}
 use Rattle.pi_terms.specs.ListCopies.{list_of_copies, new_in_all}
 use Rattle.pi_traces.proofs.AnswerLemmas.{EachAnswer, each-map, each-one, each-alt, each-then, each-first, each-negated, each-chosen, each-collected, each-counted, each-caught}
 use Rattle.pi_states.proofs.KeepsLemmas.{TreesBelow, speaks-more, places-more, first-below, rest-below, int-below, places-set, Later, later-itself, later-further, news-next, news-later, EvaluatedBelow, AllBelow, evaluated-below, evaluated-all-below, unified-later, copy-below, copies-below}
@@ -154,7 +158,7 @@ unfolding settled
 settled-later s before r h = each-one (Later s) r h
 
 handled-keeps : (b : Action) → Keeps b → (p : Point) → IsPlace p → (raised : Tree) (o : Option State) → ((r : State) → o ≡ Some r → Later p.state r) →
-    EachAnswer (PlaceLater p) (handled b p raised o)
+    EachAnswer (PlaceLater p) (handled_in p.state raised (λ r. b (in_state p r)) o)
 unfolding Keeps EachAnswer
 handled-keeps b x p is raised None h = tt
 handled-keeps b x p is raised (Some s) h =
@@ -179,8 +183,8 @@ catching-keeps a ball b x y p is =
     let below : EvaluatedBelow p.state e = evaluated-below ball p.slots p.state is.state is.slots in
     let q : Point = after_term p e in
     let good : IsPlace q = record { level = is.level; state = below.state; slots = below.slots } in
-    from-later p q below.more (caught (strictly a q) (handling b e.tree q))
-    (each-caught (PlaceLater q) (strictly a q) (handling b e.tree q) (strictly-keeps a x q good)
+    from-later p q below.more (caught (strictly a q) (handling q.state e.tree (λ r. b (in_state q r))))
+    (each-caught (PlaceLater q) (strictly a q) (handling q.state e.tree (λ r. b (in_state q r))) (strictly-keeps a x q good)
     (λ raised. handled-keeps b y q good raised (unified (with_new_variables (new_variables raised) q.state) e.tree (copy (next q.state) raised))
     (λ r same. ball-later q.state r e.tree raised below.state below.below same)))
 
@@ -227,12 +231,15 @@ did-keeps : (s : State) (v : View) (e : Effect) → EffectKeeps s e → EachAnsw
 unfolding EachAnswer
 did-keeps s v (Succeeds r) h = (h, tt)
 did-keeps s v Fails h = tt
-did-keeps s v (Writes text r) h = written-keeps s r v.inside text h
+did-keeps s v (Writes text r) h = written-keeps s r (is_body v.within) text h
 did-keeps s v (Raises ball) h = tt
 
-option-keeps : (s : State) (v : View) (o : Option Effect) → OptionEffectKeeps s o → OptionKeeps s (option_map (effect_trace v) o)
+settled-effect-keeps : (s : State) (v : View) (e : Effect) → EffectKeeps s e → EachAnswer (Later s) (settled_effect v s e)
+settled-effect-keeps s v e h = each-then (Later s) (Later s) (effect_trace v e) (settled s) (did-keeps s v e h) (λ r k. settled-later s s r k)
+
+option-keeps : (s : State) (v : View) (o : Option Effect) → OptionEffectKeeps s o → OptionKeeps s (option_map (settled_effect v s) o)
 option-keeps s v None h = tt
-option-keeps s v (Some e) h = did-keeps s v e h
+option-keeps s v (Some e) h = settled-effect-keeps s v e h
 
 effect-keeps : (v : View) (name : List ℕ) (ts : Trees) (s : State) → IsState s → TreesBelow (next s) ts → OptionKeeps s (effect v name ts s)
 unfolding effect
@@ -242,38 +249,38 @@ abbrev OptionApplies : State → Option (Trace Applied) → Type 0
 OptionApplies s None = ⊤
 OptionApplies s (Some t) = EachAnswer (AppliedLater s) t
 
-function-effect-keeps : (v : View) (name : List ℕ) (ts : Trees) (s : State) → IsState s → TreesBelow (next s) ts → OptionApplies s (function_effect v name ts s)
+function-effect-keeps : (name : List ℕ) (ts : Trees) (s : State) → IsState s → TreesBelow (next s) ts → OptionApplies s (function_effect name ts s)
 unfolding function_effect
-function-effect-keeps v name ts s is below = tt
+function-effect-keeps name ts s is below = tt
 
-called-keeps : (p : Point) → LevelKeeps p.level → (name : List ℕ) (all : EvaluatedAll) → AllBelow p.state all → (o : Option (Trace State)) → OptionKeeps all.state o →
-    EachAnswer (Later all.state) (effect_or_call o name all p)
-called-keeps p l name all a None h = (calls-keep p.level l).called name all.trees all.state a.state a.below
-called-keeps p l name all a (Some t) h = each-then (Later all.state) (Later all.state) t (settled p.state) h (λ s k. settled-later all.state p.state s k)
+called-keeps : (l : Level) → LevelKeeps l → (name : List ℕ) (ts : Trees) (s : State) → IsState s → TreesBelow (next s) ts → (o : Option (Trace State)) → OptionKeeps s o →
+    EachAnswer (Later s) (or_called o l name ts s)
+called-keeps l k name ts s is below None h = (calls-keep l k).called name ts s is below
+called-keeps l k name ts s is below (Some t) h = h
 
-applied-keeps : (p : Point) → LevelKeeps p.level → (name : List ℕ) (all : EvaluatedAll) → AllBelow p.state all → (o : Option (Trace Applied)) → OptionApplies all.state o →
-    EachAnswer (AppliedLater all.state) (effect_or_apply o name all p)
-applied-keeps p l name all a None h = (calls-keep p.level l).applied name all.trees all.state a.state a.below
-applied-keeps p l name all a (Some t) h = h
+applied-keeps : (l : Level) → LevelKeeps l → (name : List ℕ) (ts : Trees) (s : State) → IsState s → TreesBelow (next s) ts → (o : Option (Trace Applied)) → OptionApplies s o →
+    EachAnswer (AppliedLater s) (or_applied o l name ts s)
+applied-keeps l k name ts s is below None h = (calls-keep l k).applied name ts s is below
+applied-keeps l k name ts s is below (Some t) h = h
 
-calling-keeps : (v : View) (name : List ℕ) (args : List Tree) → Keeps (calling v name args)
+calling-keeps : (v : View) (name : List ℕ) (args : List Tree) → Keeps (calling (small v) name args)
 unfolding Keeps calling
 calling-keeps v name args p is =
     let all : EvaluatedAll = evaluated_all (trees_of args) p.slots p.state in
     let a : AllBelow p.state all = evaluated-all-below (trees_of args) p.slots p.state is.state is.slots in
-    each-then (Later all.state) (PlaceLater p) (effect_or_call (effect v name all.trees all.state) name all p) (λ s. one (in_state (after_arguments p all) s))
-    (called-keeps p is.level name all a (effect v name all.trees all.state) (effect-keeps v name all.trees all.state a.state a.below))
+    each-then (Later all.state) (PlaceLater p) (predicate_by (small v) p.level name all.trees all.state) (λ s. one (in_state (after_arguments p all) s))
+    (called-keeps p.level is.level name all.trees all.state a.state a.below (effect v name all.trees all.state) (effect-keeps v name all.trees all.state a.state a.below))
     (λ s h. each-one (PlaceLater p) (in_state (after_arguments p all) s)
     (record { level = is.level; state = h.0; slots = places-more (next all.state) (next s) all.slots h.1 a.slots }, omega (arith, a.more, h.1)))
 
-applying-keeps : (v : View) (name : List ℕ) (args : List Tree) (into : ℕ) → Keeps (applying v name args into)
+applying-keeps : (v : View) (name : List ℕ) (args : List Tree) (into : ℕ) → Keeps (applying (small v) name args into)
 unfolding Keeps applying
 applying-keeps v name args into p is =
     let all : EvaluatedAll = evaluated_all (trees_of args) p.slots p.state in
     let a : AllBelow p.state all = evaluated-all-below (trees_of args) p.slots p.state is.state is.slots in
-    each-then (AppliedLater all.state) (PlaceLater p) (effect_or_apply (function_effect v name all.trees all.state) name all p)
+    each-then (AppliedLater all.state) (PlaceLater p) (function_by (small v) p.level name all.trees all.state)
     (λ x. one (with_slot (in_state (after_arguments p all) x.state) into x.value))
-    (applied-keeps p is.level name all a (function_effect v name all.trees all.state) (function-effect-keeps v name all.trees all.state a.state a.below))
+    (applied-keeps p.level is.level name all.trees all.state a.state a.below (function_effect name all.trees all.state) (function-effect-keeps name all.trees all.state a.state a.below))
     (λ x h. each-one (PlaceLater p) (with_slot (in_state (after_arguments p all) x.state) into x.value)
     (filled-place p x.state all.slots into x.value is (h.0.0, omega (arith, a.more, h.0.1)) (places-more (next all.state) (next x.state) all.slots h.0.1 a.slots) h.1))
 
@@ -282,28 +289,28 @@ applying-keeps v name args into p is =
 mutual
   unfolding meaning
 
-  pub goal-keeps : (v : View) (g : GoalTree) → Keeps (meaning v g)
+  pub goal-keeps : (v : View) (g : GoalTree) → Keeps (meaning (small v) g)
   goal-keeps v truth = draining-keeps succeeding succeeding-keeps
   goal-keeps v fail = draining-keeps failing failing-keeps
   goal-keeps v tick = draining-keeps ticking ticking-keeps
-  goal-keeps v (call name args) = draining-keeps (calling v name args) (calling-keeps v name args)
-  goal-keeps v (apply name args slot) = draining-keeps (applying v name args slot) (applying-keeps v name args slot)
-  goal-keeps v (seq gs) = draining-keeps (meaning_of_all v gs) (goals-keep v gs)
-  goal-keeps v (alternatives gs) = draining-keeps (meaning_of_any v gs) (branches-keep v gs)
+  goal-keeps v (call name args) = draining-keeps (calling (small v) name args) (calling-keeps v name args)
+  goal-keeps v (apply name args slot) = draining-keeps (applying (small v) name args slot) (applying-keeps v name args slot)
+  goal-keeps v (seq gs) = draining-keeps (meaning_of_all (small v) gs) (goals-keep v gs)
+  goal-keeps v (alternatives gs) = draining-keeps (meaning_of_any (small v) gs) (branches-keep v gs)
   goal-keeps v (if_else test yes_goal other) =
-      draining-keeps (λ p. chosen (strictly (meaning v test) p) (meaning v yes_goal) (meaning v other p))
-      (chosen-keeps (meaning v test) (meaning v yes_goal) (meaning v other) (goal-keeps v test) (goal-keeps v yes_goal) (goal-keeps v other))
-  goal-keeps v (not g) = draining-keeps (λ p. negated (strictly (meaning v g) p) p) (negated-keeps (meaning v g))
-  goal-keeps v (once g) = draining-keeps (λ p. first (strictly (meaning v g) p)) (first-keeps (meaning v g) (goal-keeps v g))
-  goal-keeps v (collect g k into) = draining-keeps (collecting (meaning v g) k into) (collecting-keeps (meaning v g) k into)
-  goal-keeps v (count g into) = draining-keeps (counting (meaning v g) into) (counting-keeps (meaning v g) into)
+      draining-keeps (λ p. chosen (strictly (meaning (small v) test) p) (meaning (small v) yes_goal) (meaning (small v) other p))
+      (chosen-keeps (meaning (small v) test) (meaning (small v) yes_goal) (meaning (small v) other) (goal-keeps v test) (goal-keeps v yes_goal) (goal-keeps v other))
+  goal-keeps v (not g) = draining-keeps (λ p. negated (strictly (meaning (small v) g) p) p) (negated-keeps (meaning (small v) g))
+  goal-keeps v (once g) = draining-keeps (λ p. first (strictly (meaning (small v) g) p)) (first-keeps (meaning (small v) g) (goal-keeps v g))
+  goal-keeps v (collect g k into) = draining-keeps (collecting (meaning (small v) g) k into) (collecting-keeps (meaning (small v) g) k into)
+  goal-keeps v (count g into) = draining-keeps (counting (meaning (small v) g) into) (counting-keeps (meaning (small v) g) into)
   goal-keeps v (catch g ball handler) =
-      draining-keeps (catching (meaning v g) ball (meaning v handler)) (catching-keeps (meaning v g) ball (meaning v handler) (goal-keeps v g) (goal-keeps v handler))
+      draining-keeps (catching (meaning (small v) g) ball (meaning (small v) handler)) (catching-keeps (meaning (small v) g) ball (meaning (small v) handler) (goal-keeps v g) (goal-keeps v handler))
 
-  goals-keep : (v : View) (gs : GoalTrees) → Keeps (meaning_of_all v gs)
+  goals-keep : (v : View) (gs : GoalTrees) → Keeps (meaning_of_all (small v) gs)
   goals-keep v no_goals = succeeding-keeps
-  goals-keep v (goal g gs) = all-keep (meaning v g) (meaning_of_all v gs) (goal-keeps v g) (goals-keep v gs)
+  goals-keep v (goal g gs) = all-keep (meaning (small v) g) (meaning_of_all (small v) gs) (goal-keeps v g) (goals-keep v gs)
 
-  branches-keep : (v : View) (gs : GoalTrees) → Keeps (meaning_of_any v gs)
+  branches-keep : (v : View) (gs : GoalTrees) → Keeps (meaning_of_any (small v) gs)
   branches-keep v no_goals = failing-keeps
-  branches-keep v (goal g gs) = any-keep (meaning v g) (meaning_of_any v gs) (goal-keeps v g) (branches-keep v gs)
+  branches-keep v (goal g gs) = any-keep (meaning (small v) g) (meaning_of_any (small v) gs) (goal-keeps v g) (branches-keep v gs)

@@ -1,6 +1,6 @@
 -- Levels, the deeper above, are in order.
 use Rattle.std.proofs.Common.{◌≡◌, ℕ, zero, suc, ◌+◌, List, Option, Some, None, refl, subst, arith}
-use Rattle.pi_meaning.specs.View.{View}
+use Rattle.pi_meaning.specs.Builtins.{Builtins, BuiltinsOnlyAdd}
 use Rattle.pi_core.specs.CoreTree.{PredTree}
 use Rattle.pi_meaning.specs.Level.{Level, lowest, over, lower, level_of, Calls, CallsBelow, LevelBelow, calls_at}
 use Rattle.pi_meaning.specs.Rules.{calls_of, quiet_level, level_at}
@@ -29,13 +29,13 @@ level-further (over c l) (over d m) (lowest e) a b = absurd b
 level-further (over c l) (over d m) (over e n) a b = (calls-further c d e a.0 b.0, level-further l m n a.1 b.1)
 
 -- the levels of all greater depths
-pub level-later : (v : View) (preds : List PredTree) (depth more : ℕ) → LevelBelow (level_at v preds depth) (level_at v preds (depth + more))
-level-later v preds depth zero = subst (λ d. LevelBelow (level_at v preds depth) (level_at v preds d)) (omega arith) (level-itself (level_at v preds depth))
-level-later v preds depth (suc more) =
+pub level-later : (b : Builtins) → BuiltinsOnlyAdd b → (preds : List PredTree) (depth more : ℕ) → LevelBelow (level_at b preds depth) (level_at b preds (depth + more))
+level-later b adds preds depth zero = subst (λ d. LevelBelow (level_at b preds depth) (level_at b preds d)) (omega arith) (level-itself (level_at b preds depth))
+level-later b adds preds depth (suc more) =
     let near : ℕ = depth + more in
     let last : suc near ≡ depth + suc more = omega arith in
-    subst (λ d. LevelBelow (level_at v preds depth) (level_at v preds d)) last
-    (level-further (level_at v preds depth) (level_at v preds near) (level_at v preds (suc near)) (level-later v preds depth more) (level-below v preds near))
+    subst (λ d. LevelBelow (level_at b preds depth) (level_at b preds d)) last
+    (level-further (level_at b preds depth) (level_at b preds near) (level_at b preds (suc near)) (level-later b adds preds depth more) (level-below b adds preds near))
 
 -- ---- where a Tick leads
 
@@ -43,7 +43,7 @@ lower-of : (c : Calls) (below : Option Level) → lower (level_of c below) ≡ b
 lower-of c None = refl
 lower-of c (Some l) = refl
 
-pub quiet-keeps-depth : (v : View) (preds : List PredTree) (below : Option Level) (k : ℕ) → lower (quiet_level v preds below k) ≡ below
+pub quiet-keeps-depth : (b : Builtins) (preds : List PredTree) (below : Option Level) (k : ℕ) → lower (quiet_level b preds below k) ≡ below
 unfolding quiet_level
-quiet-keeps-depth v preds below zero = lower-of (calls_of v preds None below) below
-quiet-keeps-depth v preds below (suc k) = lower-of (calls_of v preds (Some (quiet_level v preds below k)) below) below
+quiet-keeps-depth b preds below zero = lower-of (calls_of b preds None below) below
+quiet-keeps-depth b preds below (suc k) = lower-of (calls_of b preds (Some (quiet_level b preds below k)) below) below

@@ -1,6 +1,9 @@
 pub mod MeaningLemmas
 pub mod RuleLemmas
 pub mod LevelLemmas
+pub mod CallLemmas
+pub mod QueryLemmas
+pub mod WholeLemmas
 pub mod KeepsGoals
 pub mod KeepsRules
 pub mod QuietGoals

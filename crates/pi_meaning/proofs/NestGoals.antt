@@ -12,17 +12,20 @@ use Rattle.pi_traces.specs.Control.{negated, chosen}
 use Rattle.pi_traces.specs.Depth.{Below}
 use Rattle.pi_traces.specs.Related.{BelowBy, end_by}
 use Rattle.pi_meaning.specs.View.{View}
+use Rattle.pi_meaning.specs.Instances.{small}
 use Rattle.pi_meaning.specs.Settle.{settled}
 use Rattle.pi_states.specs.Evaluation.{Evaluated, evaluated, EvaluatedAll, evaluated_all, with_new_variables}
-use Rattle.pi_meaning.specs.Level.{Level, Calls, Applied, Point, calls_at, lower, ticked}
+use Rattle.pi_meaning.specs.Level.{Level, Calls, Applied, Point, calls_at, lower, ticked, or_called, or_applied}
 use Rattle.pi_meaning.specs.Builtin.{effect, function_effect}
+use Rattle.pi_meaning.specs.Handling.{handled_in, handling}
+use Rattle.pi_meaning.specs.Builtins.{predicate_by, function_by}
 use Rattle.pi_core.specs.CoreTree.{PredTree}
-use Rattle.pi_meaning.specs.Meaning.{Action, with_slot, draining, strictly, succeeding, failing, ticking, effect_or_call, calling, effect_or_apply, applying, slot_value, copyable, with_list, collecting, counting, handled, handling, catching, meaning, meaning_of_all, meaning_of_any}
+use Rattle.pi_meaning.specs.Meaning.{Action, with_slot, draining, strictly, succeeding, failing, ticking, calling, applying, slot_value, copyable, with_list, collecting, counting, catching, meaning, meaning_of_all, meaning_of_any}
 use Rattle.pi_meaning.specs.Quiet.{Callee, Passes, PassesAll, PassesAny, Reaches, ReachesInAll, ReachesInAny, TicksBetween}
 use Rattle.pi_traces.proofs.BelowLemmas.{below-refl}
 use Rattle.pi_traces.proofs.RelatedLemmas.{Same, by-refl, by-same, by-one, by-map, by-alt, by-then, by-then_same, by-first, by-negated, by-chosen, by-collected, by-counted, by-caught}
-use Rattle.pi_meaning.proofs.MeaningLemmas.{place}
-use Rattle.pi_meaning.proofs.QuietGoals.{Fits, callee, as-many, count-of}
+use Rattle.pi_meaning.proofs.MeaningLemmas.{place, as-many, count-of}
+use Rattle.pi_meaning.proofs.QuietGoals.{Fits, callee}
 
 -- calls do no more than others, where fewer than f quiet ones nest
 pub record CallsAgree (preds : List PredTree) (r : TicksBetween preds) (f : ℕ) (c d : Calls) : Type 0 where
@@ -95,40 +98,38 @@ ticking-nests preds r f fits l m h e s =
 
 -- The calls of predicates and functions
 
-called-nests : (preds : List PredTree) (r : TicksBetween preds) (f : ℕ) (l m : Level) → LevelsAgree preds r f l m → (name : List ℕ) (all : EvaluatedAll) →
-    Fits preds r f (callee false name (tree_count all.trees)) → (did : Option (Trace State)) (e : Places) (s : State) →
-    Below (effect_or_call did name all (place l e s)) (effect_or_call did name all (place m e s))
-called-nests preds r f l m h name all fits None e s = h.calls.called name all.trees all.state fits
-called-nests preds r f l m h name all fits (Some t) e s = below-refl (then t (settled s))
+called-nests : (preds : List PredTree) (r : TicksBetween preds) (f : ℕ) (l m : Level) → LevelsAgree preds r f l m → (name : List ℕ) (ts : Trees) (s : State) →
+    Fits preds r f (callee false name (tree_count ts)) → (did : Option (Trace State)) → Below (or_called did l name ts s) (or_called did m name ts s)
+called-nests preds r f l m h name ts s fits None = h.calls.called name ts s fits
+called-nests preds r f l m h name ts s fits (Some t) = below-refl t
 
 calling-nests : (preds : List PredTree) (r : TicksBetween preds) (v : View) (name : List ℕ) (args : List Tree) →
-    Nests preds r (calling v name args) (λ c. c ≡ callee false name (length args)) ⊤
+    Nests preds r (calling (small v) name args) (λ c. c ≡ callee false name (length args)) ⊤
 unfolding Nests calling
 calling-nests preds r v name args f fits l m h e s =
     let all : EvaluatedAll = evaluated_all (trees_of args) e s in
     let did : Option (Trace State) = effect v name all.trees all.state in
     let many : tree_count all.trees ≡ length args = as-many (trees_of args) e s ∙ count-of args in
-    by-then_same (Nested preds r f ⊤) (effect_or_call did name all (place l e s)) (effect_or_call did name all (place m e s))
+    by-then_same (Nested preds r f ⊤) (predicate_by (small v) l name all.trees all.state) (predicate_by (small v) m name all.trees all.state)
     (λ x. one (place l all.slots x)) (λ x. one (place m all.slots x))
-    (called-nests preds r f l m h name all (fits (callee false name (tree_count all.trees)) (ap (callee false name) many)) did e s)
+    (called-nests preds r f l m h name all.trees all.state (fits (callee false name (tree_count all.trees)) (ap (callee false name) many)) did)
     (λ x. by-one (Nested preds r f ⊤) (place l all.slots x) (place m all.slots x) (two_levels h tt all.slots x))
 
-applied-nests : (preds : List PredTree) (r : TicksBetween preds) (f : ℕ) (l m : Level) → LevelsAgree preds r f l m → (name : List ℕ) (all : EvaluatedAll) →
-    Fits preds r f (callee true name (tree_count all.trees)) → (did : Option (Trace Applied)) (e : Places) (s : State) →
-    Below (effect_or_apply did name all (place l e s)) (effect_or_apply did name all (place m e s))
-applied-nests preds r f l m h name all fits None e s = h.calls.applied name all.trees all.state fits
-applied-nests preds r f l m h name all fits (Some t) e s = below-refl t
+applied-nests : (preds : List PredTree) (r : TicksBetween preds) (f : ℕ) (l m : Level) → LevelsAgree preds r f l m → (name : List ℕ) (ts : Trees) (s : State) →
+    Fits preds r f (callee true name (tree_count ts)) → (did : Option (Trace Applied)) → Below (or_applied did l name ts s) (or_applied did m name ts s)
+applied-nests preds r f l m h name ts s fits None = h.calls.applied name ts s fits
+applied-nests preds r f l m h name ts s fits (Some t) = below-refl t
 
 applying-nests : (preds : List PredTree) (r : TicksBetween preds) (v : View) (name : List ℕ) (args : List Tree) (into : ℕ) →
-    Nests preds r (applying v name args into) (λ c. c ≡ callee true name (length args)) ⊤
+    Nests preds r (applying (small v) name args into) (λ c. c ≡ callee true name (length args)) ⊤
 unfolding Nests applying
 applying-nests preds r v name args into f fits l m h e s =
     let all : EvaluatedAll = evaluated_all (trees_of args) e s in
-    let did : Option (Trace Applied) = function_effect v name all.trees all.state in
+    let did : Option (Trace Applied) = function_effect name all.trees all.state in
     let many : tree_count all.trees ≡ length args = as-many (trees_of args) e s ∙ count-of args in
-    by-then_same (Nested preds r f ⊤) (effect_or_apply did name all (place l e s)) (effect_or_apply did name all (place m e s))
+    by-then_same (Nested preds r f ⊤) (function_by (small v) l name all.trees all.state) (function_by (small v) m name all.trees all.state)
     (λ a. one (place l (slice_set all.slots into (Some a.value)) a.state)) (λ a. one (place m (slice_set all.slots into (Some a.value)) a.state))
-    (applied-nests preds r f l m h name all (fits (callee true name (tree_count all.trees)) (ap (callee true name) many)) did e s)
+    (applied-nests preds r f l m h name all.trees all.state (fits (callee true name (tree_count all.trees)) (ap (callee true name) many)) did)
     (λ a. by-one (Nested preds r f ⊤) (place l (slice_set all.slots into (Some a.value)) a.state) (place m (slice_set all.slots into (Some a.value)) a.state)
     (two_levels h tt (slice_set all.slots into (Some a.value)) a.state))
 
@@ -206,7 +207,7 @@ counting-nests preds r a into R P x f fits l m h e s =
 
 handled-nests : (preds : List PredTree) (r : TicksBetween preds) (b : Action) (R : Callee → Type 0) (P Q : Type 0) → Nests preds r b R P → (P → Q) →
     (f : ℕ) → ((c : Callee) → R c → Fits preds r f c) → (l m : Level) → LevelsAgree preds r f l m → (e : Places) (s : State) (raised : Tree) (o : Option State) →
-    BelowBy (Nested preds r f Q) (handled b (place l e s) raised o) (handled b (place m e s) raised o)
+    BelowBy (Nested preds r f Q) (handled_in s raised (λ u. b (place l e u)) o) (handled_in s raised (λ u. b (place m e u)) o)
 unfolding Nests
 handled-nests preds r b R P Q x g f fits l m h e s raised None = end_by (Raise raised)
 handled-nests preds r b R P Q x g f fits l m h e s raised (Some t) =
@@ -219,7 +220,7 @@ unfolding Nests catching
 catching-nests preds r a ball b R R' P P' x y f fits l m h e s =
     let c : Evaluated = evaluated ball e s in
     by-caught (Nested preds r f (P ⊎ P')) (strictly a (place l c.slots c.state)) (strictly a (place m c.slots c.state))
-    (handling b c.tree (place l c.slots c.state)) (handling b c.tree (place m c.slots c.state))
+    (handling c.state c.tree (λ u. b (place l c.slots u))) (handling c.state c.tree (λ u. b (place m c.slots u)))
     (passed-map preds r f P (P ⊎ P') (λ z. inl z) (strictly a (place l c.slots c.state)) (strictly a (place m c.slots c.state))
     (strictly-nests preds r a R P x f (λ d reach. fits d (inl reach)) l m h c.slots c.state))
     (λ raised. handled-nests preds r b R' P' (P ⊎ P') y (λ z. inr z) f (λ d reach. fits d (inr reach)) l m h c.slots c.state raised
@@ -230,46 +231,46 @@ catching-nests preds r a ball b R R' P P' x y f fits l m h e s =
 mutual
   unfolding meaning Reaches Passes
 
-  pub goal-nests : (preds : List PredTree) (r : TicksBetween preds) (v : View) (g : GoalTree) → Nests preds r (meaning v g) (λ c. Reaches c g) (Passes g)
+  pub goal-nests : (preds : List PredTree) (r : TicksBetween preds) (v : View) (g : GoalTree) → Nests preds r (meaning (small v) g) (λ c. Reaches c g) (Passes g)
   goal-nests preds r v truth = draining-nests preds r succeeding (λ c. ⊥) ⊤ (succeeding-nests preds r)
   goal-nests preds r v fail = draining-nests preds r failing (λ c. ⊥) ⊥ (failing-nests preds r)
   goal-nests preds r v tick = draining-nests preds r ticking (λ c. ⊥) ⊥ (ticking-nests preds r)
   goal-nests preds r v (call name args) =
-      draining-nests preds r (calling v name args) (λ c. c ≡ callee false name (length args)) ⊤ (calling-nests preds r v name args)
+      draining-nests preds r (calling (small v) name args) (λ c. c ≡ callee false name (length args)) ⊤ (calling-nests preds r v name args)
   goal-nests preds r v (apply name args slot) =
-      draining-nests preds r (applying v name args slot) (λ c. c ≡ callee true name (length args)) ⊤ (applying-nests preds r v name args slot)
-  goal-nests preds r v (seq gs) = draining-nests preds r (meaning_of_all v gs) (λ c. ReachesInAll c gs) (PassesAll gs) (goals-nest preds r v gs)
-  goal-nests preds r v (alternatives gs) = draining-nests preds r (meaning_of_any v gs) (λ c. ReachesInAny c gs) (PassesAny gs) (branches-nest preds r v gs)
+      draining-nests preds r (applying (small v) name args slot) (λ c. c ≡ callee true name (length args)) ⊤ (applying-nests preds r v name args slot)
+  goal-nests preds r v (seq gs) = draining-nests preds r (meaning_of_all (small v) gs) (λ c. ReachesInAll c gs) (PassesAll gs) (goals-nest preds r v gs)
+  goal-nests preds r v (alternatives gs) = draining-nests preds r (meaning_of_any (small v) gs) (λ c. ReachesInAny c gs) (PassesAny gs) (branches-nest preds r v gs)
   goal-nests preds r v (if_else test yes_goal other) =
-      draining-nests preds r (λ p. chosen (strictly (meaning v test) p) (meaning v yes_goal) (meaning v other p))
+      draining-nests preds r (λ p. chosen (strictly (meaning (small v) test) p) (meaning (small v) yes_goal) (meaning (small v) other p))
       (λ c. Reaches c test ⊎ ((Passes test × Reaches c yes_goal) ⊎ Reaches c other)) ((Passes test × Passes yes_goal) ⊎ Passes other)
-      (chosen-nests preds r (meaning v test) (meaning v yes_goal) (meaning v other) (λ c. Reaches c test) (λ c. Reaches c yes_goal) (λ c. Reaches c other)
+      (chosen-nests preds r (meaning (small v) test) (meaning (small v) yes_goal) (meaning (small v) other) (λ c. Reaches c test) (λ c. Reaches c yes_goal) (λ c. Reaches c other)
       (Passes test) (Passes yes_goal) (Passes other) (goal-nests preds r v test) (goal-nests preds r v yes_goal) (goal-nests preds r v other))
   goal-nests preds r v (not g) =
-      draining-nests preds r (λ p. negated (strictly (meaning v g) p) p) (λ c. Reaches c g) ⊤
-      (negated-nests preds r (meaning v g) (λ c. Reaches c g) (Passes g) (goal-nests preds r v g))
+      draining-nests preds r (λ p. negated (strictly (meaning (small v) g) p) p) (λ c. Reaches c g) ⊤
+      (negated-nests preds r (meaning (small v) g) (λ c. Reaches c g) (Passes g) (goal-nests preds r v g))
   goal-nests preds r v (once g) =
-      draining-nests preds r (λ p. first (strictly (meaning v g) p)) (λ c. Reaches c g) (Passes g)
-      (first-nests preds r (meaning v g) (λ c. Reaches c g) (Passes g) (goal-nests preds r v g))
+      draining-nests preds r (λ p. first (strictly (meaning (small v) g) p)) (λ c. Reaches c g) (Passes g)
+      (first-nests preds r (meaning (small v) g) (λ c. Reaches c g) (Passes g) (goal-nests preds r v g))
   goal-nests preds r v (collect g k into) =
-      draining-nests preds r (collecting (meaning v g) k into) (λ c. Reaches c g) ⊤
-      (collecting-nests preds r (meaning v g) k into (λ c. Reaches c g) (Passes g) (goal-nests preds r v g))
+      draining-nests preds r (collecting (meaning (small v) g) k into) (λ c. Reaches c g) ⊤
+      (collecting-nests preds r (meaning (small v) g) k into (λ c. Reaches c g) (Passes g) (goal-nests preds r v g))
   goal-nests preds r v (count g into) =
-      draining-nests preds r (counting (meaning v g) into) (λ c. Reaches c g) ⊤
-      (counting-nests preds r (meaning v g) into (λ c. Reaches c g) (Passes g) (goal-nests preds r v g))
+      draining-nests preds r (counting (meaning (small v) g) into) (λ c. Reaches c g) ⊤
+      (counting-nests preds r (meaning (small v) g) into (λ c. Reaches c g) (Passes g) (goal-nests preds r v g))
   goal-nests preds r v (catch g ball handler) =
-      draining-nests preds r (catching (meaning v g) ball (meaning v handler)) (λ c. Reaches c g ⊎ Reaches c handler) (Passes g ⊎ Passes handler)
-      (catching-nests preds r (meaning v g) ball (meaning v handler) (λ c. Reaches c g) (λ c. Reaches c handler) (Passes g) (Passes handler)
+      draining-nests preds r (catching (meaning (small v) g) ball (meaning (small v) handler)) (λ c. Reaches c g ⊎ Reaches c handler) (Passes g ⊎ Passes handler)
+      (catching-nests preds r (meaning (small v) g) ball (meaning (small v) handler) (λ c. Reaches c g) (λ c. Reaches c handler) (Passes g) (Passes handler)
       (goal-nests preds r v g) (goal-nests preds r v handler))
 
-  goals-nest : (preds : List PredTree) (r : TicksBetween preds) (v : View) (gs : GoalTrees) → Nests preds r (meaning_of_all v gs) (λ c. ReachesInAll c gs) (PassesAll gs)
+  goals-nest : (preds : List PredTree) (r : TicksBetween preds) (v : View) (gs : GoalTrees) → Nests preds r (meaning_of_all (small v) gs) (λ c. ReachesInAll c gs) (PassesAll gs)
   goals-nest preds r v no_goals = succeeding-nests preds r
   goals-nest preds r v (goal g gs) =
-      all-nests preds r (meaning v g) (meaning_of_all v gs) (λ c. Reaches c g) (λ c. ReachesInAll c gs) (Passes g) (PassesAll gs)
+      all-nests preds r (meaning (small v) g) (meaning_of_all (small v) gs) (λ c. Reaches c g) (λ c. ReachesInAll c gs) (Passes g) (PassesAll gs)
       (goal-nests preds r v g) (goals-nest preds r v gs)
 
-  branches-nest : (preds : List PredTree) (r : TicksBetween preds) (v : View) (gs : GoalTrees) → Nests preds r (meaning_of_any v gs) (λ c. ReachesInAny c gs) (PassesAny gs)
+  branches-nest : (preds : List PredTree) (r : TicksBetween preds) (v : View) (gs : GoalTrees) → Nests preds r (meaning_of_any (small v) gs) (λ c. ReachesInAny c gs) (PassesAny gs)
   branches-nest preds r v no_goals = failing-nests preds r
   branches-nest preds r v (goal g gs) =
-      any-nests preds r (meaning v g) (meaning_of_any v gs) (λ c. Reaches c g) (λ c. ReachesInAny c gs) (Passes g) (PassesAny gs)
+      any-nests preds r (meaning (small v) g) (meaning_of_any (small v) gs) (λ c. Reaches c g) (λ c. ReachesInAny c gs) (Passes g) (PassesAny gs)
       (goal-nests preds r v g) (branches-nest preds r v gs)

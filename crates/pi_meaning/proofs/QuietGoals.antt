@@ -10,16 +10,21 @@ use Rattle.pi_core.specs.GoalTree.{GoalTree, truth, fail, tick, call, apply, seq
 use Rattle.pi_traces.specs.Trace.{Trace, end, one, alt, then, first}
 use Rattle.pi_traces.specs.Control.{negated, chosen}
 use Rattle.pi_meaning.specs.View.{View}
+use Rattle.pi_meaning.specs.Instances.{small}
 use Rattle.pi_meaning.specs.Settle.{settled}
 use Rattle.pi_states.specs.Evaluation.{Evaluated, evaluated, EvaluatedAll, evaluated_all, with_new_variables}
 use Rattle.pi_meaning.specs.Raise.{within_limit, too_large}
-use Rattle.pi_meaning.specs.Level.{Level, lowest, over, Calls, Applied, Point, calls_at}
+use Rattle.pi_meaning.specs.Level.{Level, lowest, over, Calls, Applied, Point, calls_at, or_called, or_applied}
 use Rattle.pi_effects.specs.Effect.{Effect, Succeeds, Fails, Writes, Raises, FunctionEffect, Gives, Refuses}
 use Rattle.pi_effects.specs.Builtin.{effect_of_predicate, effect_of_function}
-use Rattle.pi_meaning.specs.Builtin.{written, effect_trace, function_trace, effect, function_effect}
+use Rattle.pi_meaning.specs.Builtin.{written, effect_trace, function_trace, settled_effect, effect, function_effect}
+use Rattle.pi_meaning.specs.Within.{is_body}
+use Rattle.pi_meaning.specs.Handling.{handled_in, handling}
+use Rattle.pi_meaning.specs.Builtins.{predicate_by, function_by}
 use Rattle.pi_core.specs.CoreTree.{PredTree}
-use Rattle.pi_meaning.specs.Meaning.{Action, in_state, with_slot, draining, strictly, succeeding, failing, ticking, effect_or_call, calling, effect_or_apply, applying, after_arguments, after_term, slot_value, copyable, with_list, collecting, counting, handled, handling, catching, meaning, meaning_of_all, meaning_of_any}
+use Rattle.pi_meaning.specs.Meaning.{Action, in_state, with_slot, draining, strictly, succeeding, failing, ticking, calling, applying, after_arguments, after_term, slot_value, copyable, with_list, collecting, counting, catching, meaning, meaning_of_all, meaning_of_any}
 use Rattle.pi_meaning.specs.Quiet.{Callee, Passes, PassesAll, PassesAny, Reaches, ReachesInAll, ReachesInAny, IsQuiet, TicksBetween}
+use Rattle.pi_meaning.proofs.MeaningLemmas.{as-many, count-of}
 use Rattle.pi_traces.proofs.LastLemmas.{Lasts, Falls, Any, any-falls, less-left, lasts-map, done-lasts, raise-lasts, one-lasts, alt-lasts, then-lasts, first-lasts, negated-lasts, chosen-lasts, collected-lasts, counted-lasts, caught-lasts}
 
 -- how often a level goes down
@@ -206,7 +211,7 @@ settled-lasts d s t = one-lasts Any d t tt
 
 handled-lasts : (preds : List PredTree) (r : TicksBetween preds) (b : Action) (R : Callee → Type 0) (P Q : Type 0) → Deepens preds r b R P → (P → Q) →
     (f : ℕ) → ((c : Callee) → R c → Fits preds r f c) → (d : ℕ) (p : Point) → d ≤ depth p.level → LevelLasts preds r f p.level → (raised : Tree) (o : Option State) →
-    Lasts (Left preds r f Q) d (handled b p raised o)
+    Lasts (Left preds r f Q) d (handled_in p.state raised (λ t. b (in_state p t)) o)
 unfolding Deepens
 handled-lasts preds r b R P Q x g f fits d p h l raised None = raise-lasts (Left preds r f Q) d raised
 handled-lasts preds r b R P Q x g f fits d p h l raised (Some s) =
@@ -219,22 +224,12 @@ unfolding Deepens catching
 catching-deepens preds r a ball b R R' P P' x y f fits d p h l =
     let e : Evaluated = evaluated ball p.slots p.state in
     let q : Point = after_term p e in
-    caught-lasts (Left preds r f (P ⊎ P')) d (strictly a q) (handling b e.tree q)
+    caught-lasts (Left preds r f (P ⊎ P')) d (strictly a q) (handling q.state e.tree (λ t. b (in_state q t)))
     (left-map preds r f P (P ⊎ P') (λ z. inl z) d (strictly a q) (strictly-deepens preds r a R P x f (λ c reach. fits c (inl reach)) d q h l))
     (λ k raised m. handled-lasts preds r b R' P' (P ⊎ P') y (λ z. inr z) f (λ c reach. fits c (inr reach)) k q (omega (arith, m, h)) l raised
     (unified (with_new_variables (new_variables raised) q.state) e.tree (copy (next q.state) raised)))
 
 -- Calls
-
-pub as-many : (ts : Trees) (e : Places) (s : State) → tree_count (evaluated_all ts e s).trees ≡ tree_count ts
-unfolding tree_count evaluated_all
-as-many no_trees e s = refl
-as-many (tree t ts) e s = let first : Evaluated = evaluated t e s in ap suc (as-many ts first.slots first.state)
-
-pub count-of : (ts : List Tree) → tree_count (trees_of ts) ≡ length ts
-unfolding tree_count
-count-of [] = refl
-count-of (t ∷ ts) = ap suc (count-of ts)
 
 abbrev OptionLasts : {A : Type 0} → ℕ → Option (Trace A) → Type 0
 OptionLasts d None = ⊤
@@ -252,57 +247,58 @@ written-lasts d false text s = one-lasts {A = State} Any d s tt
 did-lasts : (d : ℕ) (v : View) (e : Effect) → Lasts Any d (effect_trace v e)
 did-lasts d v (Succeeds s) = one-lasts Any d s tt
 did-lasts d v Fails = done-lasts Any d
-did-lasts d v (Writes text s) = written-lasts d v.inside text s
+did-lasts d v (Writes text s) = written-lasts d (is_body v.within) text s
 did-lasts d v (Raises ball) = raise-lasts Any d ball
 
 gave-lasts : (d : ℕ) (e : FunctionEffect) → Lasts Any d (function_trace e)
 gave-lasts d (Gives t s) = one-lasts Any d (record { value = t; state = s }) tt
 gave-lasts d (Refuses ball) = raise-lasts Any d ball
 
+settled-effect-lasts : (d : ℕ) (v : View) (s : State) (e : Effect) → Lasts Any d (settled_effect v s e)
+settled-effect-lasts d v s e = then-lasts Any Any any-falls d (effect_trace v e) (settled s) (did-lasts d v e) (λ k t m o. settled-lasts k s t)
+
 effect-lasts : (d : ℕ) (v : View) (name : List ℕ) (ts : Trees) (s : State) → OptionLasts d (effect v name ts s)
 unfolding effect
-effect-lasts d v name ts s = option-lasts d (effect_trace v) (did-lasts d v) (effect_of_predicate name ts s)
+effect-lasts d v name ts s = option-lasts d (settled_effect v s) (settled-effect-lasts d v s) (effect_of_predicate name ts s)
 
-function-effect-lasts : (d : ℕ) (v : View) (name : List ℕ) (ts : Trees) (s : State) → OptionLasts d (function_effect v name ts s)
+function-effect-lasts : (d : ℕ) (name : List ℕ) (ts : Trees) (s : State) → OptionLasts d (function_effect name ts s)
 unfolding function_effect
-function-effect-lasts d v name ts s = option-lasts d function_trace (gave-lasts d) (effect_of_function name ts s)
+function-effect-lasts d name ts s = option-lasts d function_trace (gave-lasts d) (effect_of_function name ts s)
 
-called-lasts : (preds : List PredTree) (r : TicksBetween preds) (f d : ℕ) (p : Point) → d ≤ depth p.level → LevelLasts preds r f p.level →
-    (name : List ℕ) (all : EvaluatedAll) → Fits preds r f (callee false name (tree_count all.trees)) → (o : Option (Trace State)) → OptionLasts d o →
-    Lasts Any d (effect_or_call o name all p)
-called-lasts preds r f d p h l name all fits None a =
-    less-left Any any-falls (depth p.level) d h ((calls_at p.level).called name all.trees all.state) ((calls-last preds r f p.level l).called name all.trees all.state fits)
-called-lasts preds r f d p h l name all fits (Some t) a = then-lasts Any Any any-falls d t (settled p.state) a (λ k s m o. settled-lasts k p.state s)
+called-lasts : (preds : List PredTree) (r : TicksBetween preds) (f d : ℕ) (l : Level) → d ≤ depth l → LevelLasts preds r f l → (name : List ℕ) (ts : Trees) (s : State) →
+    Fits preds r f (callee false name (tree_count ts)) → (o : Option (Trace State)) → OptionLasts d o → Lasts Any d (or_called o l name ts s)
+called-lasts preds r f d l h last name ts s fits None a =
+    less-left Any any-falls (depth l) d h ((calls_at l).called name ts s) ((calls-last preds r f l last).called name ts s fits)
+called-lasts preds r f d l h last name ts s fits (Some t) a = a
 
-applied-lasts : (preds : List PredTree) (r : TicksBetween preds) (f d : ℕ) (p : Point) → d ≤ depth p.level → LevelLasts preds r f p.level →
-    (name : List ℕ) (all : EvaluatedAll) → Fits preds r f (callee true name (tree_count all.trees)) → (o : Option (Trace Applied)) → OptionLasts d o →
-    Lasts Any d (effect_or_apply o name all p)
-applied-lasts preds r f d p h l name all fits None a =
-    less-left Any any-falls (depth p.level) d h ((calls_at p.level).applied name all.trees all.state) ((calls-last preds r f p.level l).applied name all.trees all.state fits)
-applied-lasts preds r f d p h l name all fits (Some t) a = a
+applied-lasts : (preds : List PredTree) (r : TicksBetween preds) (f d : ℕ) (l : Level) → d ≤ depth l → LevelLasts preds r f l → (name : List ℕ) (ts : Trees) (s : State) →
+    Fits preds r f (callee true name (tree_count ts)) → (o : Option (Trace Applied)) → OptionLasts d o → Lasts Any d (or_applied o l name ts s)
+applied-lasts preds r f d l h last name ts s fits None a =
+    less-left Any any-falls (depth l) d h ((calls_at l).applied name ts s) ((calls-last preds r f l last).applied name ts s fits)
+applied-lasts preds r f d l h last name ts s fits (Some t) a = a
 
 calling-deepens : (preds : List PredTree) (r : TicksBetween preds) (v : View) (name : List ℕ) (args : List Tree) →
-    Deepens preds r (calling v name args) (λ c. c ≡ callee false name (length args)) ⊤
+    Deepens preds r (calling (small v) name args) (λ c. c ≡ callee false name (length args)) ⊤
 unfolding Deepens calling
 calling-deepens preds r v name args f fits d p h l =
     let all : EvaluatedAll = evaluated_all (trees_of args) p.slots p.state in
     let many : tree_count all.trees ≡ length args = as-many (trees_of args) p.slots p.state ∙ count-of args in
-    then-lasts Any (Left preds r f ⊤) (left-falls preds r f ⊤) d (effect_or_call (effect v name all.trees all.state) name all p)
+    then-lasts Any (Left preds r f ⊤) (left-falls preds r f ⊤) d (predicate_by (small v) p.level name all.trees all.state)
     (λ s. one (in_state (after_arguments p all) s))
-    (called-lasts preds r f d p h l name all (fits (callee false name (tree_count all.trees)) (ap (callee false name) many))
+    (called-lasts preds r f d p.level h l name all.trees all.state (fits (callee false name (tree_count all.trees)) (ap (callee false name) many))
     (effect v name all.trees all.state) (effect-lasts d v name all.trees all.state))
     (λ k s m o. one-lasts (Left preds r f ⊤) k (in_state (after_arguments p all) s) (omega (arith, m, h), inl (l, tt)))
 
 applying-deepens : (preds : List PredTree) (r : TicksBetween preds) (v : View) (name : List ℕ) (args : List Tree) (into : ℕ) →
-    Deepens preds r (applying v name args into) (λ c. c ≡ callee true name (length args)) ⊤
+    Deepens preds r (applying (small v) name args into) (λ c. c ≡ callee true name (length args)) ⊤
 unfolding Deepens applying
 applying-deepens preds r v name args into f fits d p h l =
     let all : EvaluatedAll = evaluated_all (trees_of args) p.slots p.state in
     let many : tree_count all.trees ≡ length args = as-many (trees_of args) p.slots p.state ∙ count-of args in
-    then-lasts Any (Left preds r f ⊤) (left-falls preds r f ⊤) d (effect_or_apply (function_effect v name all.trees all.state) name all p)
+    then-lasts Any (Left preds r f ⊤) (left-falls preds r f ⊤) d (function_by (small v) p.level name all.trees all.state)
     (λ a. one (with_slot (in_state (after_arguments p all) a.state) into a.value))
-    (applied-lasts preds r f d p h l name all (fits (callee true name (tree_count all.trees)) (ap (callee true name) many))
-    (function_effect v name all.trees all.state) (function-effect-lasts d v name all.trees all.state))
+    (applied-lasts preds r f d p.level h l name all.trees all.state (fits (callee true name (tree_count all.trees)) (ap (callee true name) many))
+    (function_effect name all.trees all.state) (function-effect-lasts d name all.trees all.state))
     (λ k a m o. one-lasts (Left preds r f ⊤) k (with_slot (in_state (after_arguments p all) a.state) into a.value) (omega (arith, m, h), inl (l, tt)))
 
 -- All goals
@@ -322,46 +318,46 @@ tick-deepens preds r = ticking-deepens preds r
 mutual
   unfolding meaning Reaches Passes
 
-  pub goal-deepens : (preds : List PredTree) (r : TicksBetween preds) (v : View) (g : GoalTree) → Deepens preds r (meaning v g) (λ c. Reaches c g) (Passes g)
+  pub goal-deepens : (preds : List PredTree) (r : TicksBetween preds) (v : View) (g : GoalTree) → Deepens preds r (meaning (small v) g) (λ c. Reaches c g) (Passes g)
   goal-deepens preds r v truth = draining-deepens preds r succeeding (λ c. ⊥) ⊤ (some-deepens preds r)
   goal-deepens preds r v fail = draining-deepens preds r failing (λ c. ⊥) ⊥ (none-deepens preds r)
   goal-deepens preds r v tick = draining-deepens preds r ticking (λ c. ⊥) ⊥ (tick-deepens preds r)
   goal-deepens preds r v (call name args) =
-      draining-deepens preds r (calling v name args) (λ c. c ≡ callee false name (length args)) ⊤ (calling-deepens preds r v name args)
+      draining-deepens preds r (calling (small v) name args) (λ c. c ≡ callee false name (length args)) ⊤ (calling-deepens preds r v name args)
   goal-deepens preds r v (apply name args slot) =
-      draining-deepens preds r (applying v name args slot) (λ c. c ≡ callee true name (length args)) ⊤ (applying-deepens preds r v name args slot)
-  goal-deepens preds r v (seq gs) = draining-deepens preds r (meaning_of_all v gs) (λ c. ReachesInAll c gs) (PassesAll gs) (goals-deepen preds r v gs)
-  goal-deepens preds r v (alternatives gs) = draining-deepens preds r (meaning_of_any v gs) (λ c. ReachesInAny c gs) (PassesAny gs) (branches-deepen preds r v gs)
+      draining-deepens preds r (applying (small v) name args slot) (λ c. c ≡ callee true name (length args)) ⊤ (applying-deepens preds r v name args slot)
+  goal-deepens preds r v (seq gs) = draining-deepens preds r (meaning_of_all (small v) gs) (λ c. ReachesInAll c gs) (PassesAll gs) (goals-deepen preds r v gs)
+  goal-deepens preds r v (alternatives gs) = draining-deepens preds r (meaning_of_any (small v) gs) (λ c. ReachesInAny c gs) (PassesAny gs) (branches-deepen preds r v gs)
   goal-deepens preds r v (if_else test yes_goal other) =
-      draining-deepens preds r (λ p. chosen (strictly (meaning v test) p) (meaning v yes_goal) (meaning v other p))
+      draining-deepens preds r (λ p. chosen (strictly (meaning (small v) test) p) (meaning (small v) yes_goal) (meaning (small v) other p))
       (λ c. Reaches c test ⊎ ((Passes test × Reaches c yes_goal) ⊎ Reaches c other)) ((Passes test × Passes yes_goal) ⊎ Passes other)
-      (chosen-deepens preds r (meaning v test) (meaning v yes_goal) (meaning v other) (λ c. Reaches c test) (λ c. Reaches c yes_goal) (λ c. Reaches c other)
+      (chosen-deepens preds r (meaning (small v) test) (meaning (small v) yes_goal) (meaning (small v) other) (λ c. Reaches c test) (λ c. Reaches c yes_goal) (λ c. Reaches c other)
       (Passes test) (Passes yes_goal) (Passes other) (goal-deepens preds r v test) (goal-deepens preds r v yes_goal) (goal-deepens preds r v other))
   goal-deepens preds r v (not g) =
-      draining-deepens preds r (λ p. negated (strictly (meaning v g) p) p) (λ c. Reaches c g) ⊤
-      (negated-deepens preds r (meaning v g) (λ c. Reaches c g) (Passes g) (goal-deepens preds r v g))
+      draining-deepens preds r (λ p. negated (strictly (meaning (small v) g) p) p) (λ c. Reaches c g) ⊤
+      (negated-deepens preds r (meaning (small v) g) (λ c. Reaches c g) (Passes g) (goal-deepens preds r v g))
   goal-deepens preds r v (once g) =
-      draining-deepens preds r (λ p. first (strictly (meaning v g) p)) (λ c. Reaches c g) (Passes g)
-      (first-deepens preds r (meaning v g) (λ c. Reaches c g) (Passes g) (goal-deepens preds r v g))
+      draining-deepens preds r (λ p. first (strictly (meaning (small v) g) p)) (λ c. Reaches c g) (Passes g)
+      (first-deepens preds r (meaning (small v) g) (λ c. Reaches c g) (Passes g) (goal-deepens preds r v g))
   goal-deepens preds r v (collect g k into) =
-      draining-deepens preds r (collecting (meaning v g) k into) (λ c. Reaches c g) ⊤
-      (collecting-deepens preds r (meaning v g) k into (λ c. Reaches c g) (Passes g) (goal-deepens preds r v g))
+      draining-deepens preds r (collecting (meaning (small v) g) k into) (λ c. Reaches c g) ⊤
+      (collecting-deepens preds r (meaning (small v) g) k into (λ c. Reaches c g) (Passes g) (goal-deepens preds r v g))
   goal-deepens preds r v (count g into) =
-      draining-deepens preds r (counting (meaning v g) into) (λ c. Reaches c g) ⊤
-      (counting-deepens preds r (meaning v g) into (λ c. Reaches c g) (Passes g) (goal-deepens preds r v g))
+      draining-deepens preds r (counting (meaning (small v) g) into) (λ c. Reaches c g) ⊤
+      (counting-deepens preds r (meaning (small v) g) into (λ c. Reaches c g) (Passes g) (goal-deepens preds r v g))
   goal-deepens preds r v (catch g ball handler) =
-      draining-deepens preds r (catching (meaning v g) ball (meaning v handler)) (λ c. Reaches c g ⊎ Reaches c handler) (Passes g ⊎ Passes handler)
-      (catching-deepens preds r (meaning v g) ball (meaning v handler) (λ c. Reaches c g) (λ c. Reaches c handler) (Passes g) (Passes handler)
+      draining-deepens preds r (catching (meaning (small v) g) ball (meaning (small v) handler)) (λ c. Reaches c g ⊎ Reaches c handler) (Passes g ⊎ Passes handler)
+      (catching-deepens preds r (meaning (small v) g) ball (meaning (small v) handler) (λ c. Reaches c g) (λ c. Reaches c handler) (Passes g) (Passes handler)
       (goal-deepens preds r v g) (goal-deepens preds r v handler))
 
-  goals-deepen : (preds : List PredTree) (r : TicksBetween preds) (v : View) (gs : GoalTrees) → Deepens preds r (meaning_of_all v gs) (λ c. ReachesInAll c gs) (PassesAll gs)
+  goals-deepen : (preds : List PredTree) (r : TicksBetween preds) (v : View) (gs : GoalTrees) → Deepens preds r (meaning_of_all (small v) gs) (λ c. ReachesInAll c gs) (PassesAll gs)
   goals-deepen preds r v no_goals = some-deepens preds r
   goals-deepen preds r v (goal g gs) =
-      all-deepens preds r (meaning v g) (meaning_of_all v gs) (λ c. Reaches c g) (λ c. ReachesInAll c gs) (Passes g) (PassesAll gs)
+      all-deepens preds r (meaning (small v) g) (meaning_of_all (small v) gs) (λ c. Reaches c g) (λ c. ReachesInAll c gs) (Passes g) (PassesAll gs)
       (goal-deepens preds r v g) (goals-deepen preds r v gs)
 
-  branches-deepen : (preds : List PredTree) (r : TicksBetween preds) (v : View) (gs : GoalTrees) → Deepens preds r (meaning_of_any v gs) (λ c. ReachesInAny c gs) (PassesAny gs)
+  branches-deepen : (preds : List PredTree) (r : TicksBetween preds) (v : View) (gs : GoalTrees) → Deepens preds r (meaning_of_any (small v) gs) (λ c. ReachesInAny c gs) (PassesAny gs)
   branches-deepen preds r v no_goals = none-deepens preds r
   branches-deepen preds r v (goal g gs) =
-      any-deepens preds r (meaning v g) (meaning_of_any v gs) (λ c. Reaches c g) (λ c. ReachesInAny c gs) (Passes g) (PassesAny gs)
+      any-deepens preds r (meaning (small v) g) (meaning_of_any (small v) gs) (λ c. Reaches c g) (λ c. ReachesInAny c gs) (Passes g) (PassesAny gs)
       (goal-deepens preds r v g) (branches-deepen preds r v gs)

@@ -10,7 +10,6 @@ use Rattle.pi_syntax.specs.ExpTree.{ExpTree, ExpTrees, no_exps, exp}
 use Rattle.pi_syntax.specs.ProgramTree.{RuleTree, ProgramTree}
 use Rattle.pi_meaning.specs.View.{View}
 use Rattle.pi_meaning.specs.Drain.{drained}
-use Rattle.pi_meaning.specs.Settle.{settled}
 use Rattle.pi_meaning.specs.Builtin.{effect}
 use Rattle.pi_meaning.specs.Environment.{Environment, ValuedAll, valued_all, head_matched}
 use Rattle.pi_meaning.specs.Surface.{Place, Doing, Calling, at_state, draining_first, built_in_or_called, call_trace, atom_trace, goal_trace, goals_trace, body_trace, rules_of, is_rule_of, head_arguments, leaving_later, rule_or_later, rules_trace, called_at, told_names, telling, beginning, surface_trace}
@@ -22,15 +21,15 @@ use Rattle.pi_meaning.proofs.ToldCuts.{cut-told}
 abbrev CallingBelow : Calling → Calling → Type 0
 CallingBelow f g = (name : List ℕ) (ts : Trees) (s : State) → Below (f name ts s) (g name ts s)
 
-built-in-below : (t : Option (Trace State)) (f g : Calling) → CallingBelow f g → (name : List ℕ) (all : ValuedAll) (before : State) →
-    Below (built_in_or_called t f name all before) (built_in_or_called t g name all before)
-built-in-below (Some t) f g more name all before = below-refl (then t (settled before))
-built-in-below None f g more name all before = more name all.trees all.state
+built-in-below : (t : Option (Trace State)) (f g : Calling) → CallingBelow f g → (name : List ℕ) (all : ValuedAll) →
+    Below (built_in_or_called t f name all) (built_in_or_called t g name all)
+built-in-below (Some t) f g more name all = below-refl t
+built-in-below None f g more name all = more name all.trees all.state
 
 call-below : (v : View) (f g : Calling) → CallingBelow f g → (name : List ℕ) (es : ExpTrees) (p : Place) → Below (call_trace v f name es p) (call_trace v g name es p)
 call-below v f g more name es p =
     let all : ValuedAll = valued_all es p.names p.state in
-    below-then _ _ _ _ (built-in-below (effect v name all.trees all.state) f g more name all p.state) (λ s. below-refl (one (record { names = all.names; state = s })))
+    below-then _ _ _ _ (built-in-below (effect v name all.trees all.state) f g more name all) (λ s. below-refl (one (record { names = all.names; state = s })))
 
 either-below : (b c : Bool) (p : Place) (t u : Trace Place) → Below t u → Below (cond b (one p) (cond c done t)) (cond b (one p) (cond c done u))
 either-below true c p t u more = below-refl (one p)
