@@ -13,7 +13,7 @@ use Rattle.pi_states.specs.Unify.{unified}
 use Rattle.pi_effects.specs.Effect.{Effect, Raises, succeeds_in}
 use Rattle.pi_effects.specs.Exception.{thrown}
 use Rattle.pi_effects.specs.Builtin.{is_built_in}
-use Rattle.pi_meaning.specs.Builtin.{effect_trace, effect}
+use Rattle.pi_meaning.specs.Builtin.{settled_effect, effect}
 use Rattle.pi_core.specs.CoreTree.{PredTree, is_pred, find_pred}
 use Rattle.pi_core.specs.GoalTree.{GoalTrees, call}
 use Rattle.pi_states.specs.Evaluation.{EvaluatedAll, evaluated_all}
@@ -112,9 +112,9 @@ pub no-effect : (v : View) (name : List ℕ) (ts : Trees) (s : State) → is_bui
 unfolding effect tree_count
 no-effect v name no_trees s none = refl
 no-effect v name (tree t no_trees) s none =
-    ap (option_map (effect_trace v)) (built-one (is_eq (name_order name (codes "throw"))) (is_eq (name_order name (codes "="))) (Some (Raises (thrown t s))) none)
+    ap (option_map (settled_effect v s)) (built-one (is_eq (name_order name (codes "throw"))) (is_eq (name_order name (codes "="))) (Some (Raises (thrown t s))) none)
 no-effect v name (tree t (tree u no_trees)) s none =
-    ap (option_map (effect_trace v)) (built-two (is_eq (name_order name (codes "throw"))) (is_eq (name_order name (codes "="))) (Some (succeeds_in (unified s t u))) none)
+    ap (option_map (settled_effect v s)) (built-two (is_eq (name_order name (codes "throw"))) (is_eq (name_order name (codes "="))) (Some (succeeds_in (unified s t u))) none)
 no-effect v name (tree t (tree u (tree w ts))) s none = refl
 
 -- what a call comes to
@@ -125,4 +125,4 @@ pub call-comes-to : (v : View) (preds : List PredTree) (name : List ℕ) (args :
 unfolding goal_step
 call-comes-to v preds name args pred gs e s k es none found =
     let all : EvaluatedAll = evaluated_all (trees_of args) e s in
-    ap (λ t. effect_step t preds name s all gs k es) (no-effect v name all.trees all.state none) ∙ ap (λ p. predicate_step p all (behind gs k) es) found
+    ap (λ t. effect_step t preds name all gs k es) (no-effect v name all.trees all.state none) ∙ ap (λ p. predicate_step p all (behind gs k) es) found

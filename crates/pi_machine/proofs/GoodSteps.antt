@@ -93,10 +93,10 @@ predicate-good : (o : Option PredTree) (all : EvaluatedAll) (k : List Frame) (es
 predicate-good None all k es h = record { balanced = h }
 predicate-good (Some pred) all k es h = call-good pred.quiet _ (record { balanced = rules-keep _ _ _ _ h })
 
-effect-good : (o : Option (Trace State)) (preds : List PredTree) (name : List ℕ) (s : State) (all : EvaluatedAll) (gs : GoalTrees) (k : List Frame) (es : List Entry) → IsBalanced 0 es →
+effect-good : (o : Option (Trace State)) (preds : List PredTree) (name : List ℕ) (all : EvaluatedAll) (gs : GoalTrees) (k : List Frame) (es : List Entry) → IsBalanced 0 es →
     GoesOnGood (effect_step o preds name s all gs k es)
-effect-good None preds name s all gs k es h = predicate-good (find_pred false name (tree_count all.trees) preds) all (behind gs k) es h
-effect-good (Some t) preds name s all gs k es h = record { balanced = h }
+effect-good None preds name all gs k es h = predicate-good (find_pred false name (tree_count all.trees) preds) all (behind gs k) es h
+effect-good (Some t) preds name all gs k es h = record { balanced = h }
 
 function-good : (o : Option PredTree) (all : EvaluatedAll) (into : ℕ) (k : List Frame) (es : List Entry) → IsBalanced 0 es → GoesOnGood (function_step o all into k es)
 unfolding IsBalanced
@@ -115,9 +115,9 @@ goal-good v preds truth gs e s k es h = record { balanced = h }
 goal-good v preds fail gs e s k es h = record { balanced = h }
 goal-good v preds tick gs e s k es h = record { balanced = h }
 goal-good v preds (call name args) gs e s k es h =
-    let all : EvaluatedAll = evaluated_all (trees_of args) e s in effect-good (effect v name all.trees all.state) preds name s all gs k es h
+    let all : EvaluatedAll = evaluated_all (trees_of args) e s in effect-good (effect v name all.trees all.state) preds name all gs k es h
 goal-good v preds (apply name args into) gs e s k es h =
-    let all : EvaluatedAll = evaluated_all (trees_of args) e s in value-good (function_effect v name all.trees all.state) preds name all into gs k es h
+    let all : EvaluatedAll = evaluated_all (trees_of args) e s in value-good (function_effect name all.trees all.state) preds name all into gs k es h
 goal-good v preds (seq hs) gs e s k es h = record { balanced = h }
 goal-good v preds (alternatives hs) gs e s k es h = record { balanced = branch-keeps hs (back_to e s (behind gs k)) es h }
 goal-good v preds (if_else test g other) gs e s k es h = record { balanced = h }

@@ -6,12 +6,14 @@ use Rattle.pi_core.specs.CoreTree.{PredTree, QueryTree}
 use Rattle.pi_traces.specs.Trace.{Trace, end, note, ans, End, Deep, Note, Tick, Emitted, noted, answered, then, emit, end_of, events_of}
 use Rattle.pi_traces.specs.Depth.{Below, same_note, DepthOnlyAdds}
 use Rattle.pi_meaning.specs.View.{View}
+use Rattle.pi_meaning.specs.Instances.{small}
 use Rattle.pi_meaning.specs.Rules.{level_at}
 use Rattle.pi_meaning.specs.Run.{Solution, answered_with, query_trace}
 use Rattle.pi_core.specs.declared.core_program.NameSlot.{NameSlot}
 use Rattle.pi_traces.proofs.TraceLemmas.{emit-append}
 use Rattle.pi_traces.proofs.BelowLemmas.{below-refl, below-trans, below-whole, below-emit, below-events, below-later}
 use Rattle.pi_meaning.proofs.RuleLemmas.{level-below}
+use Rattle.pi_meaning.proofs.CallLemmas.{small-adds}
 use Rattle.pi_machine.specs.Configuration.{Config}
 use Rattle.pi_machine.specs.Remaining.{around, now_trace, remaining_at, remaining}
 use Rattle.pi_machine.specs.Step.{silently, with_tick, quietly, answering, ending, step, start}
@@ -27,16 +29,16 @@ use Rattle.pi_machine.proofs.GoodSteps.{step-good}
 use Rattle.pi_machine.proofs.WeightSteps.{step-lighter}
 
 pub remaining-deeper : (v : View) (preds : List PredTree) (names : List NameSlot) (c : Config) → DepthOnlyAdds (λ d. remaining v preds names d c)
-remaining-deeper v preds names c d = remaining-below v (level_at v preds d) (level_at v preds (suc d)) (level-below v preds d) names c
+remaining-deeper v preds names c d = remaining-below v (level_at (small v) preds d) (level_at (small v) preds (suc d)) (level-below (small v) (small-adds v) preds d) names c
 
 -- at each depth from one on
 later : (v : View) (preds : List PredTree) (names : List NameSlot) (c : Config) (d more : ℕ) → Below (remaining v preds names d c) (remaining v preds names (d + more) c)
 later v preds names c d more = below-later (λ d. remaining v preds names d c) (remaining-deeper v preds names c) d more (d + more) refl
 
-pub starts : (v : View) (program : List PredTree) (q : QueryTree) (d : ℕ) → remaining v (program ++ q.helpers) q.names d (start q) ≡ query_trace v program q d
+pub starts : (v : View) (program : List PredTree) (q : QueryTree) (d : ℕ) → remaining v (program ++ q.helpers) q.names d (start q) ≡ query_trace (small v) program q d
 unfolding remaining_at around now_trace query_trace
 starts v program q d =
-    ap (λ t. then t (answered_with q.names)) (goal-strict v (level_at v (program ++ q.helpers) d) q.goal (replicate q.slots None) empty_state)
+    ap (λ t. then t (answered_with q.names)) (goal-strict v (level_at (small v) (program ++ q.helpers) d) q.goal (replicate q.slots None) empty_state)
 
 pub start-good : (q : QueryTree) → IsGood (start q)
 unfolding IsBalanced

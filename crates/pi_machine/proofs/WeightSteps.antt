@@ -62,7 +62,7 @@ function-lighter None all into k es c h = omega arith
 function-lighter (Some pred) all into k es c h = call-lighter pred.quiet c _
 
 effect-step-lighter : (o : Option (Trace State)) (preds : List PredTree) (name : List ℕ) (args : List Tree) (e : Places) (s : State) (all : EvaluatedAll) (gs : GoalTrees) (k : List Frame) (es : List Entry) →
-    GetsLighter (config (going (goal (call name args) gs) e s k) es) (effect_step o preds name s all gs k es)
+    GetsLighter (config (going (goal (call name args) gs) e s k) es) (effect_step o preds name all gs k es)
 unfolding weight now_weight goal_weight
 effect-step-lighter None preds name args e s all gs k es =
     predicate-lighter (find_pred false name (tree_count all.trees) preds) all (behind gs k) es (config (going (goal (call name args) gs) e s k) es) (omega arith)
@@ -70,8 +70,8 @@ effect-step-lighter (Some t) preds name args e s all gs k es =
     let a : ℕ = answer_weight 0 es in
     let r : ℕ = goals_weight gs (frames_weight k a) in
     let h : going_weight gs (frames_weight k a) ≤ r = going-below gs (frames_weight k a) in
-    let e : now_weight (after_effect (then t (settled s)) (λ r. going gs all.slots r k)) a < suc (suc r) =
-    effect-lighter (then t (settled s)) (λ r. going gs all.slots r k) a (suc (suc r)) (λ x. omega arith) (omega arith) in
+    let e : now_weight (after_effect t (λ r. going gs all.slots r k)) a < suc (suc r) =
+    effect-lighter t (λ r. going gs all.slots r k) a (suc (suc r)) (λ x. omega arith) (omega arith) in
     omega arith
 
 goal-lighter : (v : View) (preds : List PredTree) (g : GoalTree) (gs : GoalTrees) (e : Places) (s : State) (k : List Frame) (es : List Entry) →

@@ -101,9 +101,9 @@ predicate_step None all k es = silently (config failed es)
 predicate_step (Some pred) all k es =
     call_step pred.quiet (try_rules (record { function = false; args = all.trees }) pred.clauses (back_to [] all.state (returning all.slots k)) es)
 
-abbrev pub effect_step : Option (Trace State) → List PredTree → List ℕ → State → EvaluatedAll → GoalTrees → List Frame → List Entry → Outcome
-effect_step (Some t) preds name s all gs k es = silently (config (after_effect (then t (settled s)) (λ r. going gs all.slots r k)) es)
-effect_step None preds name s all gs k es = predicate_step (find_pred false name (tree_count all.trees) preds) all (behind gs k) es
+abbrev pub effect_step : Option (Trace State) → List PredTree → List ℕ → EvaluatedAll → GoalTrees → List Frame → List Entry → Outcome
+effect_step (Some t) preds name all gs k es = silently (config (after_effect t (λ r. going gs all.slots r k)) es)
+effect_step None preds name all gs k es = predicate_step (find_pred false name (tree_count all.trees) preds) all (behind gs k) es
 
 -- a call of a function of the program, inside of a level
 abbrev pub function_step : Option PredTree → EvaluatedAll → ℕ → List Frame → List Entry → Outcome
@@ -122,9 +122,9 @@ goal_step v preds truth gs e s k es = silently (config (going gs e s k) es)
 goal_step v preds fail gs e s k es = silently (config failed es)
 goal_step v preds tick gs e s k es = with_tick (config (going gs e s k) es)
 goal_step v preds (call name args) gs e s k es =
-    let all : EvaluatedAll = evaluated_all (trees_of args) e s in effect_step (effect v name all.trees all.state) preds name s all gs k es
+    let all : EvaluatedAll = evaluated_all (trees_of args) e s in effect_step (effect v name all.trees all.state) preds name all gs k es
 goal_step v preds (apply name args into) gs e s k es =
-    let all : EvaluatedAll = evaluated_all (trees_of args) e s in value_step (function_effect v name all.trees all.state) preds name all into gs k es
+    let all : EvaluatedAll = evaluated_all (trees_of args) e s in value_step (function_effect name all.trees all.state) preds name all into gs k es
 goal_step v preds (seq hs) gs e s k es = silently (config (going hs e s (behind gs k)) es)
 goal_step v preds (alternatives hs) gs e s k es = silently (branch hs (back_to e s (behind gs k)) es)
 goal_step v preds (if_else test g other) gs e s k es = silently (inside test e s (strict (if_level g other) (back_to e s (behind gs k))) es)

@@ -3,6 +3,7 @@ pub mod RuleLemmas
 pub mod LevelLemmas
 pub mod CallLemmas
 pub mod QueryLemmas
+pub mod DefinedLemmas
 pub mod WholeLemmas
 pub mod KeepsGoals
 pub mod KeepsRules

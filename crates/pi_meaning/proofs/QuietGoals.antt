@@ -1,7 +1,7 @@
 -- A goal's trace ends in Deep only past as many Ticks as its level is deep, where quiet calls may nest as they do in it.
-use Rattle.std.proofs.Common.{◌≡◌, ◌⊎◌, inl, inr, ℕ, suc, ◌-◌, ◌<◌, ◌≤◌, Bool, true, false, cond, List, [], ◌∷◌, length, refl, ap, ◌∙◌, arith}
+use Rattle.std.proofs.Common.{◌≡◌, ◌⊎◌, inl, inr, ℕ, suc, ◌-◌, ◌<◌, ◌≤◌, Bool, true, false, cond, List, length, ap, ◌∙◌, arith}
 use Rattle.std.specs.Prelude.{Option, Some, None, option_map, pos, nat_lt, codes, ⊤}
-use Rattle.pi_terms.specs.Tree.{Tree, int, atom, Trees, no_trees, tree, trees_of, tree_count, cells, most_cells}
+use Rattle.pi_terms.specs.Tree.{Tree, int, atom, Trees, trees_of, tree_count, cells, most_cells}
 use Rattle.pi_terms.specs.Places.{Places}
 use Rattle.pi_terms.specs.Copy.{copy, new_variables}
 use Rattle.pi_states.specs.State.{State, next}

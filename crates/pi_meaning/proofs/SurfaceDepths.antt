@@ -13,7 +13,7 @@ use Rattle.pi_meaning.specs.Drain.{drained}
 use Rattle.pi_meaning.specs.Builtin.{effect}
 use Rattle.pi_meaning.specs.Environment.{Environment, ValuedAll, valued_all, head_matched}
 use Rattle.pi_meaning.specs.Surface.{Place, Doing, Calling, at_state, draining_first, built_in_or_called, call_trace, atom_trace, goal_trace, goals_trace, body_trace, rules_of, is_rule_of, head_arguments, leaving_later, rule_or_later, rules_trace, called_at, told_names, telling, beginning, surface_trace}
-use Rattle.pi_meaning.specs.SurfaceRun.{Told, place_told, told_trace, told_cut, IsSurfaceRun}
+use Rattle.pi_meaning.specs.SurfaceRun.{place_told, told_trace, told_cut}
 use Rattle.pi_meaning.specs.SurfaceLaws.{SurfaceRunsAreOne, SurfaceRunsReach, SameRulesRunTheSame, RulesAreChosenAsInTheCore}
 use Rattle.pi_meaning.proofs.ToldCuts.{cut-told}
 

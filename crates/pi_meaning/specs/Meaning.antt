@@ -3,7 +3,7 @@
 -- in (`Builtins`), so that the trace of a goal goes by the goals in it alone. (A User's Guide to Picat, 'Predicates and Functions' and 'Exceptions'; slots, levels and strict
 -- goals are own.)
 use Rattle.pi_terms.specs.ListCopies.{new_in_all, list_of_copies}
-use Rattle.std.specs.Prelude.{ℕ, pos, List, Option, Some, None, slice_set}
+use Rattle.std.specs.Prelude.{ℕ, pos, List, Some, slice_set}
 use Rattle.pi_terms.specs.Tree.{Tree, var, int, trees_of}
 use Rattle.pi_terms.specs.Places.{Places}
 use Rattle.pi_states.specs.Value.{value}

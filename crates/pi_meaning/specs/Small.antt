@@ -6,7 +6,7 @@ use Rattle.pi_syntax.specs.Signature.{signature, Signature, exp_count}
 use Rattle.std.specs.Prelude.{◌≡◌, ◌≢◌, ◌⊎◌, ℕ, false, List, [], ◌∷◌, map, Option, Some, None, All, Contains, codes, ⊤}
 use Rattle.pi_syntax.specs.ExpTree.{ExpTree, var, int, atom, call, and, ExpTrees, no_exps, exp}
 use Rattle.pi_effects.specs.Builtin.{is_built_in}
-use Rattle.pi_meaning.specs.Sound.{is_planner}
+use Rattle.pi_meaning.specs.Names.{is_planner}
 use Rattle.pi_syntax.specs.ProgramTree.{RuleTree, WrittenClause, rule, function, fact, PartTree, ProgramTree}
 use Rattle.pi_syntax.specs.declared.program.Decl.{Decl}
 
