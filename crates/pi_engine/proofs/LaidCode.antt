@@ -9,6 +9,7 @@ use Rattle.pi_core.specs.GoalTree.{GoalTree, no_goals, goal, nodes}
 use Rattle.pi_terms.specs.PatternTree.{PatternTrees, no_patterns, pattern}
 use Rattle.pi_core.specs.CoreTree.{ClauseTree, PredTree, pred_tree}
 use Rattle.pi_meaning.specs.Sound.{IsSound, IsSoundClause, pattern_count}
+use Rattle.pi_meaning.specs.Defined.{ClauseCallsDefined, ProgramCallsDefined}
 use Rattle.pi_core.specs.declared.core_program.CorePred.{CorePred}
 use Rattle.pi_code.specs.declared.code.HeadTest.{HeadTest}
 use Rattle.pi_code.specs.declared.code.Rule.{Rule}
@@ -42,26 +43,26 @@ none-deep names ts deep at (pattern p ps) shallow (first, rest) =
 
 -- ---- rules
 
-guard-here : (all : List CorePred) (terms : Terms) (code : Code) (pred : PredTree) (c : ClauseTree) (base : ℕ) (place : Option ℕ) → IsGuardLaid all (tables_for all terms code) code.steps.items pred.arity c.slots place c.guard → IsSoundClause (map pred_tree all) pred c →
+guard-here : (all : List CorePred) (terms : Terms) (code : Code) (pred : PredTree) (c : ClauseTree) (base : ℕ) (place : Option ℕ) → IsGuardLaid all (tables_for all terms code) code.steps.items pred.arity c.slots place c.guard → IsSoundClause (map pred_tree all) pred c → ClauseCallsDefined (map pred_tree all) c →
     IsGuardHere (tables_for all terms code) code.steps.items (clause_block base pred c) place c.guard
-guard-here all terms code pred c base None is sound = is
-guard-here all terms code pred c base (Some at) is sound = (is.0, goal-here all terms code (clause_block base pred c) at c.guard false is.1 sound.guard sound.slots.guard)
+guard-here all terms code pred c base None is sound calls = is
+guard-here all terms code pred c base (Some at) is sound calls = (is.0, goal-here all terms code (clause_block base pred c) at c.guard false is.1 calls.guard sound.slots.guard)
 
 -- a body, and behind it the value
 body-here : (all : List CorePred) (terms : Terms) (code : Code) (pred : PredTree) (c : ClauseTree) (base at goals : ℕ) (v : Option Tree) → IsLaid all (tables_for all terms code) code.steps.items pred.arity c.slots at c.body (is_none v) →
-    IsBodyEnd (tables_for all terms code) code.steps.items pred.arity c.slots (at + nodes c.body) goals v → IsSoundClause (map pred_tree all) pred c → ((t : Tree) → v ≡ Some t → SpeaksBelow c.slots t) →
+    IsBodyEnd (tables_for all terms code) code.steps.items pred.arity c.slots (at + nodes c.body) goals v → IsSoundClause (map pred_tree all) pred c → ClauseCallsDefined (map pred_tree all) c → ((t : Tree) → v ≡ Some t → SpeaksBelow c.slots t) →
     AreHere (tables_for all terms code) code.steps.items (clause_block base pred c) at goals (goal c.body no_goals) v (is_none v)
-body-here all terms code pred c base at goals None laid end sound below =
+body-here all terms code pred c base at goals None laid end sound calls below =
     subst (λ n. AreHere (tables_for all terms code) code.steps.items (clause_block base pred c) at n (goal c.body no_goals) None true) (sym end)
-    (last_here (goal-here all terms code (clause_block base pred c) at c.body true laid sound.body sound.slots.body))
-body-here all terms code pred c base at goals (Some v) laid end sound below =
+    (last_here (goal-here all terms code (clause_block base pred c) at c.body true laid calls.body sound.slots.body))
+body-here all terms code pred c base at goals (Some v) laid end sound calls below =
     subst (λ n. AreHere (tables_for all terms code) code.steps.items (clause_block base pred c) at n (goal c.body no_goals) (Some v) false) (sym end.0)
-    (more_here (goal-here all terms code (clause_block base pred c) at c.body false laid sound.body sound.slots.body)
+    (more_here (goal-here all terms code (clause_block base pred c) at c.body false laid calls.body sound.slots.body)
     (value_here (value-here all terms code (clause_block base pred c) (at + nodes c.body) v end.1 (below v refl))))
 
-rule-stands : (all : List CorePred) (terms : Terms) (names : List (List ℕ)) (code : Code) (pred : PredTree) (c : ClauseTree) (r : Rule) → IsRuleLaid all (tables_for all terms code) names code.steps.items code.tests.items pred c r → IsSoundClause (map pred_tree all) pred c →
+rule-stands : (all : List CorePred) (terms : Terms) (names : List (List ℕ)) (code : Code) (pred : PredTree) (c : ClauseTree) (r : Rule) → IsRuleLaid all (tables_for all terms code) names code.steps.items code.tests.items pred c r → IsSoundClause (map pred_tree all) pred c → ClauseCallsDefined (map pred_tree all) c →
     IsRuleOf code (tables_for all terms code) names pred c r
-rule-stands all terms names code pred c r laid sound =
+rule-stands all terms names code pred c r laid sound calls =
     record {
       slots = laid.slots;
       leaves_others = laid.leaves_others_is;
@@ -70,9 +71,9 @@ rule-stands all terms names code pred c r laid sound =
       shallow = λ shallow.
           subst (λ n. NoneIsDeep (take n (drop r.tests code.tests.items))) sound.arity (none-deep names code.tests.items r.is_deep r.tests c.head shallow laid.tests_are);
       value = sound.value;
-      guard = λ base. guard-here all terms code pred c base r.guard laid.guard sound;
+      guard = λ base. guard-here all terms code pred c base r.guard laid.guard sound calls;
       last = is_none c.value;
-      body = λ base. body-here all terms code pred c base r.body r.goals c.value laid.body laid.end sound sound.slots.value;
+      body = λ base. body-here all terms code pred c base r.body r.goals c.value laid.body laid.end sound calls sound.slots.value;
     }
 
 same-clause : (d c : ClauseTree) → Some d ≡ Some c → d ≡ c
@@ -97,8 +98,8 @@ member : {A : Type 0} (xs : List A) (i : ℕ) (x : A) → slice_get xs i ≡ Som
 member xs i x at = (i, slice_get_within xs i x at, get_or_from_slice_get xs i x x at)
 
 predicate-stands : (all : List CorePred) (terms : Terms) (names : List (List ℕ)) (code : Code) (pred : PredTree) (p : Predicate) → IsPredicateLaid all (tables_for all terms code) names code pred p →
-    ((c : ClauseTree) → Contains pred.clauses c → IsSoundClause (map pred_tree all) pred c) → IsPredicateOf code (tables_for all terms code) names pred p
-predicate-stands all terms names code pred p laid sound =
+    ((c : ClauseTree) → Contains pred.clauses c → IsSoundClause (map pred_tree all) pred c) → ((c : ClauseTree) → Contains pred.clauses c → ClauseCallsDefined (map pred_tree all) c) → IsPredicateOf code (tables_for all terms code) names pred p
+predicate-stands all terms names code pred p laid sound calls =
     record {
       arity = laid.arity;
       quiet = laid.quiet;
@@ -106,7 +107,7 @@ predicate-stands all terms names code pred p laid sound =
       each = λ i c at.
           (let got : (r : Rule) × (slice_get code.rules.items (p.first + i) ≡ Some r) × IsRuleLaid all (tables_for all terms code) names code.steps.items code.tests.items pred c r =
           rules-got all (tables_for all terms code) names code pred p.first pred.clauses i c laid.each at in
-          (got.0, got.1, rule-stands all terms names code pred c got.0 got.2 (sound c (member pred.clauses i c at))));
+          (got.0, got.1, rule-stands all terms names code pred c got.0 got.2 (sound c (member pred.clauses i c at)) (calls c (member pred.clauses i c at))));
     }
 
 predicates-got : (all : List CorePred) (t : Tables) (names : List (List ℕ)) (code : Code) (at : ℕ) (ps : List PredTree) (i : ℕ) (pred : PredTree) → PredicatesAt all t names code at ps → slice_get ps i ≡ Some pred →
@@ -119,9 +120,9 @@ predicates-got all t names code at (q ∷ ps) (suc i) pred (first, rest) here =
     let more : (p : Predicate) × (slice_get code.predicates.items (suc at + i) ≡ Some p) × IsPredicateLaid all t names code pred p = predicates-got all t names code (suc at) ps i pred rest here in
     (more.0, ap (slice_get code.predicates.items) (omega arith) ∙ more.1, more.2)
 
-pub code-stands : (terms : Terms) (names : List (List ℕ)) (code : Code) (g : GoalTree) (slots place : ℕ) → IsFilled (preds_of code) (tables_of terms code) names code g slots place → IsSound (map pred_tree (preds_of code)) →
+pub code-stands : (terms : Terms) (names : List (List ℕ)) (code : Code) (g : GoalTree) (slots place : ℕ) → IsFilled (preds_of code) (tables_of terms code) names code g slots place → IsSound (map pred_tree (preds_of code)) → ProgramCallsDefined (map pred_tree (preds_of code)) →
     IsCodeOf code (tables_of terms code) names (map pred_tree (preds_of code))
-code-stands terms names code g slots place filled sound =
+code-stands terms names code g slots place filled sound calls =
     record {
       source = refl;
       apart = sound.apart;
@@ -130,7 +131,7 @@ code-stands terms names code g slots place filled sound =
           predicates-got (preds_of code) (tables_of terms code) names code 0 (map pred_tree (preds_of code)) n pred filled.predicates at in (
             got.0,
             ap (slice_get code.predicates.items) (omega arith) ∙ got.1,
-            predicate-stands (preds_of code) terms names code pred got.0 got.2 (sound.clauses pred (member (map pred_tree (preds_of code)) n pred at)),
+            predicate-stands (preds_of code) terms names code pred got.0 got.2 (sound.clauses pred (member (map pred_tree (preds_of code)) n pred at)) (calls pred (member (map pred_tree (preds_of code)) n pred at)),
           ));
       numbers = have-numbers (preds_of code) code.steps.items filled.resolved;
     }

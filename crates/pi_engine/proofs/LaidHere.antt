@@ -8,7 +8,8 @@ use Rattle.pi_states.specs.Store.{Terms}
 use Rattle.pi_core.specs.GoalTree.{GoalTree, truth, fail, tick, call, apply, seq, alternatives, if_else, not, once, collect, count, catch, GoalTrees, no_goals, goal, subgoals, nodes}
 use Rattle.pi_core.specs.GoalCells.{kind_of, cell_of, flat}
 use Rattle.pi_core.specs.CoreTree.{pred_tree}
-use Rattle.pi_meaning.specs.Sound.{CallsKnown, SlotsBelow, NamesBelow}
+use Rattle.pi_meaning.specs.Sound.{SlotsBelow, NamesBelow}
+use Rattle.pi_meaning.specs.Defined.{CallsDefined}
 use Rattle.pi_core.specs.declared.goal_node.GoalCell.{GoalCell}
 use Rattle.pi_core.specs.declared.goal_node.GoalKind.{GoalKind}
 use Rattle.pi_core.specs.declared.core_program.CorePred.{CorePred}
@@ -242,7 +243,7 @@ goal-at g last i h at =
     ap (λ r. slice_get r i) (sym (goals-in g last)) ∙ slice_get-map (λ x. x.it) (marked g last) i ∙ ap (option_map (λ x. x.it)) at in
     (i, slice_get_within (subgoals g) i h.it there, get_or_from_slice_get (subgoals g) i h.it h.it there)
 
-pub goal-here : (ps : List CorePred) (terms : Terms) (code : Code) (b : Block) (at : ℕ) (g : GoalTree) (last : Bool) → IsLaid ps (tables_for ps terms code) code.steps.items b.first b.count at g last → CallsKnown (map pred_tree ps) g → SlotsBelow b.count g →
+pub goal-here : (ps : List CorePred) (terms : Terms) (code : Code) (b : Block) (at : ℕ) (g : GoalTree) (last : Bool) → IsLaid ps (tables_for ps terms code) code.steps.items b.first b.count at g last → CallsDefined (map pred_tree ps) g → SlotsBelow b.count g →
     IsHere (tables_for ps terms code) code.steps.items b at g last
 unfolding flat
 goal-here ps terms code b at g last laid known below =

@@ -21,7 +21,7 @@ use Rattle.pi_stands.specs.Answers.{AreNames}
 use Rattle.pi_engine.specs.Begins.{Begins}
 use Rattle.pi_machine.specs.Built.{AreOfRules}
 use Rattle.pi_machine.specs.Configuration.{Config}
-use Rattle.pi_machine.specs.Budget.{AreStepsUsed, IsWorkUsed}
+use Rattle.pi_machine.specs.Budget.{AreStepsUsed, IsWorkUsed, IsInner}
 use Rattle.pi_stands.specs.Goes.{counted, HasNone, IsAt, IsSpent, IsIn}
 use Rattle.pi_machine.specs.Leads.{Leads, IsAtEnd, IsAtTick}
 use Rattle.pi_machine.specs.Next.{some_ticks}
@@ -142,11 +142,11 @@ cut-off v program q events k c d leads then at =
 
 steps-used : (mode : Mode) (b : Budget) → mode ≡ Mode.Top → HasNone mode b → AreStepsUsed b
 steps-used Mode.Top b top none = none
-steps-used Mode.Inner b top none = absurd (cc)
+steps-used (Mode.Inner rest) b top none = absurd (cc)
 
-work-used : (mode : Mode) (b : Budget) → mode ≡ Mode.Inner → HasNone mode b → IsWorkUsed b
-work-used Mode.Top b inner none = absurd (cc)
-work-used Mode.Inner b inner none = none
+work-used : (mode : Mode) (b : Budget) → IsInner mode → HasNone mode b → IsWorkUsed b
+work-used Mode.Top b inner none = absurd inner
+work-used (Mode.Inner rest) b inner none = none
 
 pub told-by : {M : Type 0} (v : View) (m : MachineView M) (program : List PredTree) (q : QueryTree) (events : List (Emitted Solution)) (store : StoreView M) (arenas : ArenasView M) (now : Now) (old new : Budget) (h : Happening) → GoesOn m → (r : RunsTo v m program q events) →
     NextComes v q.names m.mode old new (run_of (later m store arenas now) (loaded_as m r.place.terms program q)) m.now now r.place.config h → Lasts h now → HappensByTicks v program q events m (later m store arenas now) old new h
@@ -171,7 +171,7 @@ told-by v m program q events store arenas now old new Happening.StepsSpent on r 
     )
 told-by v m program q events store arenas now old new Happening.WorkSpent on r it lasts =
     let k : ℕ = counted m.mode old new in
-    let spent : (m.mode ≡ Mode.Inner) × HasNone m.mode new = subst (IsSpent m.mode new) lasts (it.spent (running-in m.now on)) in (
+    let spent : IsInner m.mode × HasNone m.mode new = subst (IsSpent m.mode new) lasts (it.spent (running-in m.now on)) in (
       cut-off v program q events k r.place.config it.comes r.place.leads it.is.0 it.is.1,
       runs-on v m program q events (some_ticks k) store arenas now old new Happening.WorkSpent on r it it.is.0,
       spent.0,

@@ -125,7 +125,7 @@ raises-is w after v names mode b old now ball c same raised is raises =
 
 pub counted-on : (mode : Mode) (a b c : Budget) → Counts mode a b → Counts mode b c → counted mode a b + counted mode b c ≡ counted mode a c
 counted-on Mode.Top a b c first second = omega (arith, first.ticks, second.ticks)
-counted-on Mode.Inner a b c first second = omega (arith, first.goals, second.goals)
+counted-on (Mode.Inner rest) a b c first second = omega (arith, first.goals, second.goals)
 
 pub ticks-joined : (m n : ℕ) → some_ticks m ++ some_ticks n ≡ some_ticks (m + n)
 ticks-joined m n = replicate-append-replicate m n (noted Tick)

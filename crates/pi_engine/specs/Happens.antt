@@ -10,7 +10,7 @@ use Rattle.pi_core.specs.CoreTree.{PredTree, QueryTree}
 use Rattle.pi_machine.specs.declared.happening.Budget.{Budget}
 use Rattle.pi_machine.specs.declared.happening.Happening.{Happening}
 use Rattle.pi_machine.specs.declared.happening.Mode.{Mode}
-use Rattle.pi_machine.specs.Budget.{AreStepsUsed, IsWorkUsed}
+use Rattle.pi_machine.specs.Budget.{AreStepsUsed, IsWorkUsed, IsInner}
 use Rattle.pi_machine.specs.Next.{Tells, some_ticks}
 use Rattle.pi_stands.specs.Goes.{counted}
 use Rattle.pi_engine.specs.Needs.{asked_for, Needs}
@@ -96,7 +96,7 @@ ComesByTicks v program q events k after new Happening.StepsSpent =
     × (mode_of after ≡ Mode.Top) × AreStepsUsed new
 ComesByTicks v program q events k after new Happening.WorkSpent =
     IsRunUnder (small v) program q (count_ticks events + k) (record { events = events ++ some_ticks k; stop = Spent }) × RunsTo v after program q (events ++ some_ticks k)
-    × (mode_of after ≡ Mode.Inner) × IsWorkUsed new
+    × IsInner (mode_of after) × IsWorkUsed new
 ComesByTicks v program q events k after new Happening.Memory = RunsTo v after program q (events ++ some_ticks k)
 
 abbrev pub HappensByTicks : {M : Type 0} → View → List PredTree → QueryTree → List (Emitted Solution) → MachineView M → MachineView M → Budget → Budget → Happening → Type 0

@@ -94,7 +94,7 @@ predicate-good None all k es h = record { balanced = h }
 predicate-good (Some pred) all k es h = call-good pred.quiet _ (record { balanced = rules-keep _ _ _ _ h })
 
 effect-good : (o : Option (Trace State)) (preds : List PredTree) (name : List ℕ) (all : EvaluatedAll) (gs : GoalTrees) (k : List Frame) (es : List Entry) → IsBalanced 0 es →
-    GoesOnGood (effect_step o preds name s all gs k es)
+    GoesOnGood (effect_step o preds name all gs k es)
 effect-good None preds name all gs k es h = predicate-good (find_pred false name (tree_count all.trees) preds) all (behind gs k) es h
 effect-good (Some t) preds name all gs k es h = record { balanced = h }
 

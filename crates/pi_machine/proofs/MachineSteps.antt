@@ -12,7 +12,6 @@ use Rattle.pi_traces.specs.Trace.{Trace, one, then, first}
 use Rattle.pi_traces.specs.Control.{negated, chosen}
 use Rattle.pi_meaning.specs.View.{View}
 use Rattle.pi_meaning.specs.Instances.{small}
-use Rattle.pi_meaning.specs.Settle.{settled}
 use Rattle.pi_states.specs.Evaluation.{Evaluated, evaluated, EvaluatedAll, evaluated_all, with_new_variables}
 use Rattle.pi_meaning.specs.Level.{Level, or_called}
 use Rattle.pi_meaning.specs.Builtin.{effect, function_effect}

@@ -17,7 +17,7 @@ use Rattle.pi_meaning.specs.Run.{Solution, query_trace, IsRunUnder}
 use Rattle.pi_core.specs.declared.core_program.NameSlot.{NameSlot}
 use Rattle.pi_traces.proofs.BelowLemmas.{below-events}
 use Rattle.pi_traces.proofs.CutLemmas.{cut-below, cut-emit, cut-all, cut-at_tick}
-use Rattle.pi_meaning.proofs.RuleLemmas.{run-deeper}
+use Rattle.pi_meaning.proofs.QueryLemmas.{run-deeper}
 use Rattle.pi_meaning.proofs.CallLemmas.{small-adds}
 use Rattle.pi_machine.specs.Configuration.{Frame, Entry, choice, strict, catch_level, left, Now, going, failed, raising, Config, behind}
 use Rattle.pi_machine.specs.Remaining.{remaining}

@@ -8,9 +8,8 @@ use Rattle.pi_terms.specs.Copy.{copy, new_variables}
 use Rattle.pi_states.specs.Unify.{unified}
 use Rattle.pi_core.specs.GoalTree.{GoalTree, truth, fail, tick, call, apply, seq, alternatives, if_else, not, once, collect, count, catch, GoalTrees, no_goals, goal}
 use Rattle.pi_core.specs.CoreTree.{ClauseTree, PredTree, find_pred, leaves_others}
-use Rattle.pi_traces.specs.Trace.{Trace, end, note, ans, Done, Raise, Abort, Miss, Deep, then}
+use Rattle.pi_traces.specs.Trace.{Trace, end, note, ans, Done, Raise, Abort, Miss, Deep}
 use Rattle.pi_meaning.specs.View.{View}
-use Rattle.pi_meaning.specs.Settle.{settled}
 use Rattle.pi_states.specs.Evaluation.{EvaluatedAll, evaluated_all, with_new_variables}
 use Rattle.pi_states.specs.HeadMatch.{matched_all_in}
 use Rattle.pi_meaning.specs.Builtin.{effect, function_effect}

@@ -1,5 +1,5 @@
 -- Budgets: what a run may still use.
-use Rattle.std.specs.Prelude.{◌≡◌, ◌+◌, ◌≤◌}
+use Rattle.std.specs.Prelude.{◌≡◌, ◌+◌, ◌≤◌, ⊤}
 use Rattle.pi_machine.specs.declared.happening.Budget.{Budget}
 use Rattle.pi_machine.specs.declared.happening.Mode.{Mode}
 
@@ -15,6 +15,11 @@ AreStepsUsed b = b.steps ≤ b.ticks
 abbrev pub IsWorkUsed : Budget → Type 0
 IsWorkUsed b = b.limit ≤ b.work.goals + b.work.runs + b.work.expansions
 
+-- the mode of the body of a planner call
+abbrev pub IsInner : Mode → Type 0
+IsInner Mode.Top = ⊥
+IsInner (Mode.Inner rest) = ⊤
+
 -- What a run does to its budget: it counts, and never past what it may use. The counter that a machine doesn't use stands
 -- still: a Top machine does no work so far, and an Inner one counts no Ticks against the steps.
 pub record Counts (mode : Mode) (old new : Budget) : Type 0 where
@@ -25,5 +30,5 @@ pub record Counts (mode : Mode) (old new : Budget) : Type 0 where
   pub steps : new.steps ≡ old.steps
   pub limit : new.limit ≡ old.limit
   pub top : mode ≡ Mode.Top → new.work ≡ old.work
-  pub inner : mode ≡ Mode.Inner → new.ticks ≡ old.ticks
+  pub inner : IsInner mode → new.ticks ≡ old.ticks
   pub within : IsWithin old → IsWithin new

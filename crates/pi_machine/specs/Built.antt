@@ -1,7 +1,8 @@
--- Programs of what the machine runs so far: rules, and no facts and action rules.
+-- Programs of what the machine runs so far: rules, and no facts and action rules; calls of what they define, of `=` and of `throw`, and no others.
 use Rattle.std.specs.Prelude.{◌≡◌, false, List, [], ◌∷◌, ◌++◌, None, ⊤}
 use Rattle.pi_core.specs.CoreTree.{ClauseTree, PredTree, QueryTree}
 use Rattle.pi_meaning.specs.Sound.{IsSoundQuery}
+use Rattle.pi_meaning.specs.Defined.{QueryCallsDefined}
 
 -- no clause is an action rule
 unfoldable pub WithoutEvents : List ClauseTree → Type 0
@@ -25,5 +26,6 @@ AreCounted (pred ∷ preds) = (pred.quiet ≡ false) × AreCounted preds
 -- a query that the machine runs so far
 pub record IsRunnable (program : List PredTree) (q : QueryTree) : Type 0 where
   pub sound : IsSoundQuery program q
+  pub calls : QueryCallsDefined program q
   pub rules : AreOfRules (program ++ q.helpers)
   pub counted : AreCounted (program ++ q.helpers)

@@ -12,7 +12,8 @@ use Rattle.pi_meaning.specs.View.{View}
 use Rattle.pi_meaning.specs.Instances.{small}
 use Rattle.pi_meaning.specs.Raise.{raised_with}
 use Rattle.pi_meaning.specs.Level.{Level, Applied, Point}
-use Rattle.pi_meaning.specs.Meaning.{Action, draining, with_slot, slot_value, copyable, with_list, handling, meaning, meaning_of_all, meaning_of_any}
+use Rattle.pi_meaning.specs.Meaning.{Action, draining, with_slot, slot_value, copyable, with_list, meaning, meaning_of_all, meaning_of_any}
+use Rattle.pi_meaning.specs.Handling.{handling}
 use Rattle.pi_meaning.specs.Rules.{chosen_rule, rules, value_at, level_at}
 use Rattle.pi_meaning.specs.Run.{Solution, answered_with}
 use Rattle.pi_core.specs.declared.core_program.NameSlot.{NameSlot}

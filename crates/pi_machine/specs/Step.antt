@@ -8,9 +8,8 @@ use Rattle.pi_states.specs.State.{State, bindings, next, empty_state}
 use Rattle.pi_states.specs.Unify.{unified}
 use Rattle.pi_core.specs.GoalTree.{GoalTree, truth, fail, tick, call, apply, seq, alternatives, if_else, not, once, collect, count, catch, GoalTrees, no_goals, goal}
 use Rattle.pi_core.specs.CoreTree.{ClauseTree, PredTree, QueryTree, find_pred, leaves_others}
-use Rattle.pi_traces.specs.Trace.{Trace, end, note, ans, End, Done, Raise, then}
+use Rattle.pi_traces.specs.Trace.{Trace, end, note, ans, End, Done, Raise}
 use Rattle.pi_meaning.specs.View.{View}
-use Rattle.pi_meaning.specs.Settle.{settled}
 use Rattle.pi_states.specs.Evaluation.{Evaluated, evaluated, EvaluatedAll, evaluated_all, with_new_variables}
 use Rattle.pi_states.specs.HeadMatch.{matched_all_in}
 use Rattle.pi_meaning.specs.Level.{Applied}

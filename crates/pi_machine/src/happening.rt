@@ -2,12 +2,12 @@
 use pi_answers::{Answer, Work};
 use pi_terms::{Term, Text};
 
-/// Whether a machine runs a query, whose Ticks are counted against its steps, or the body of a planner, whose Ticks are
-/// work.
+/// Whether a machine runs a query, whose Ticks are counted against its steps, or the body of a planner call, whose Ticks are
+/// work, with so much of the call's limit left: a number from 0.
 #[derive(Clone, Copy, Debug, PartialEq, Eq)]
 pub enum Mode {
     Top,
-    Inner,
+    Inner(i128),
 }
 
 /// What a run may still use: Ticks up to `steps`, and work of all kinds up to `limit`.

@@ -62,7 +62,7 @@ is-at v names w (Now.Ended e) c stands = no-end w e c.now (IsAt v names w (Now.E
 
 pub none-counted : (mode : Mode) (old new : Budget) → new ≡ old → counted mode old new ≡ 0
 none-counted Mode.Top old new same = omega (arith, ap (λ b. b.ticks) same)
-none-counted Mode.Inner old new same = omega (arith, ap (λ b. b.work.goals) same)
+none-counted (Mode.Inner rest) old new same = omega (arith, ap (λ b. b.work.goals) same)
 
 -- a run that stands for a configuration has not ended
 pub unspent : {M : Type 0} (w : World M) (mode : Mode) (b : Budget) (now : Now) (c : Config) → Stands w now c → IsSpent mode b now
@@ -73,7 +73,7 @@ unspent w mode b (Now.Ended e) c stands = no-end w e c.now (IsSpent mode b (Now.
 
 spent-is : (mode : Mode) (old new : Budget) (now : Now) → new ≡ old → now ≡ Now.Ended (spent mode) → HasNone mode old → IsSpent mode new now
 spent-is Mode.Top old new now same ended none = subst (IsSpent Mode.Top new) (sym ended) (refl, subst (HasNone Mode.Top) (sym same) none)
-spent-is Mode.Inner old new now same ended none = subst (IsSpent Mode.Inner new) (sym ended) (refl, subst (HasNone Mode.Inner) (sym same) none)
+spent-is (Mode.Inner rest) old new now same ended none = subst (IsSpent (Mode.Inner rest) new) (sym ended) (tt, subst (HasNone (Mode.Inner rest)) (sym same) none)
 
 -- no Tick is counted
 pub silent-ticks : {M : Type 0} (v : View) (names : List NameSlot) (mode : Mode) (b : Budget) (after : World M) (now : Now) (c : Config) → Goes v names [] after now c → IsSpent mode b now → TicksOn v names mode b b after now c
@@ -237,7 +237,7 @@ quiet-on v names after now c d rules good is stands =
 pub ticks-out : {M : Type 0} (v : View) (names : List NameSlot) (mode : Mode) (after : World M) (now : Now) (c d : Config) → AreOfRules after.loaded.preds → IsGood c → step v after.loaded.preds names c ≡ with_tick d → now ≡ Now.Ended (spent mode) → Goes v names (some_ticks 0) after now c
 ticks-out v names Mode.Top after now c d rules good is ended =
     record { comes = c; leads = leads-none v after.loaded.preds names c; good = good; is = subst (λ n. IsAt v names after n c) (sym ended) (step-at_tick v after.loaded.preds names c d rules good is) }
-ticks-out v names Mode.Inner after now c d rules good is ended =
+ticks-out v names (Mode.Inner rest) after now c d rules good is ended =
     record { comes = c; leads = leads-none v after.loaded.preds names c; good = good; is = subst (λ n. IsAt v names after n c) (sym ended) (step-at_tick v after.loaded.preds names c d rules good is) }
 
 -- a `Tick` is counted and passed

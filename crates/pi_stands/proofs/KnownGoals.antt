@@ -1,6 +1,6 @@
--- What a sound program's goals call is there.
+-- What the goals of a program call whose calls are defined is there.
 use Rattle.std.proofs.Common.{◌≡◌, ◌⊎◌, inl, inr, ℕ, suc, Bool, true, false, ◌==◌, ◌&&◌, ◌||◌, cond, List, [], ◌∷◌, Some, IsSome, length, map, refl}
-use Rattle.std.specs.Prelude.{Contains, codes}
+use Rattle.std.specs.Prelude.{Contains, IsTrue, codes}
 use Rattle.std.specs.Ordering.{is_eq}
 use Rattle.std.proofs.lemmas.Bool.Decides.{Decides-eqb}
 use Rattle.pi_terms.specs.Order.{name_order}
@@ -8,7 +8,7 @@ use Rattle.pi_core.specs.GoalTree.{GoalTree, truth, fail, tick, call, apply, seq
 use Rattle.pi_core.specs.GoalCells.{kind_of}
 use Rattle.pi_core.specs.CoreTree.{pred_tree, find_pred, is_pred}
 use Rattle.pi_effects.specs.Builtin.{is_built_in}
-use Rattle.pi_meaning.specs.Sound.{IsKnown, CallsKnown}
+use Rattle.pi_meaning.specs.Defined.{CallsDefined}
 use Rattle.pi_core.specs.declared.core_program.CorePred.{CorePred}
 use Rattle.pi_states.proofs.MatchLemmas.{same_name}
 use Rattle.pi_code.specs.Laid.{IsNamed, IsUnnamed, IsNotBuiltIn, IsUnknown}
@@ -64,16 +64,15 @@ throw-or-equal name k isnt (inr a) =
 pub built-in-not : (name : List ℕ) (k : ℕ) → IsNotBuiltIn name k → is_built_in false name k ≡ true → ⊥
 built-in-not name k isnt h = throw-or-equal name k isnt (either (is_eq (name_order name (codes "throw")) && (k == 1)) (is_eq (name_order name (codes "=")) && (k == 2)) h)
 
-known-call : (ps : List CorePred) (name : List ℕ) (k : ℕ) → IsKnown (map pred_tree ps) false name k → IsUnnamed ps false name k → IsNotBuiltIn name k → ⊥
+known-call : (ps : List CorePred) (name : List ℕ) (k : ℕ) → IsSome (find_pred false name k (map pred_tree ps)) ⊎ IsTrue (is_built_in false name k) → IsUnnamed ps false name k → IsNotBuiltIn name k → ⊥
 known-call ps name k (inl some) none isnt = let f : Found ps false name k = find-named ps false name k some in none f.number f.is
 known-call ps name k (inr built) none isnt = built-in-not name k isnt built
 
-known-function : (ps : List CorePred) (name : List ℕ) (k : ℕ) → IsKnown (map pred_tree ps) true name k → IsUnnamed ps true name k → ⊥
-known-function ps name k (inl some) none = let f : Found ps true name k = find-named ps true name k some in none f.number f.is
-known-function ps name k (inr built) none = absurd cc
+known-function : (ps : List CorePred) (name : List ℕ) (k : ℕ) → IsSome (find_pred true name k (map pred_tree ps)) → IsUnnamed ps true name k → ⊥
+known-function ps name k some none = let f : Found ps true name k = find-named ps true name k some in none f.number f.is
 
--- what a goal of a sound program calls is there
-pub goal-known : (ps : List CorePred) (g h : GoalTree) → CallsKnown (map pred_tree ps) g → Contains (subgoals g) h → IsUnknown ps (kind_of h) → ⊥
+-- what a goal calls is there
+pub goal-known : (ps : List CorePred) (g h : GoalTree) → CallsDefined (map pred_tree ps) g → Contains (subgoals g) h → IsUnknown ps (kind_of h) → ⊥
 unfolding kind_of
 goal-known ps g truth known at un = un
 goal-known ps g fail known at un = un

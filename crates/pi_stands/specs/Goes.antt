@@ -8,7 +8,7 @@ use Rattle.pi_machine.specs.declared.happening.Budget.{Budget}
 use Rattle.pi_machine.specs.declared.happening.Mode.{Mode}
 use Rattle.pi_arenas.specs.declared.run.End.{End as RunEnd}
 use Rattle.pi_arenas.specs.declared.run.Now.{Now}
-use Rattle.pi_machine.specs.Budget.{AreStepsUsed, IsWorkUsed}
+use Rattle.pi_machine.specs.Budget.{AreStepsUsed, IsWorkUsed, IsInner}
 use Rattle.pi_machine.specs.Configuration.{Config}
 use Rattle.pi_machine.specs.Leads.{Leads, IsAtTick, IsAtEnd}
 use Rattle.pi_machine.specs.Next.{some_ticks}
@@ -24,17 +24,17 @@ use Rattle.pi_stands.specs.Stands.{World, steps_of, Stands}
 -- how many, by what a machine counts
 abbrev pub counted : Mode → Budget → Budget → ℕ
 counted Mode.Top old new = new.ticks - old.ticks
-counted Mode.Inner old new = new.work.goals - old.work.goals
+counted (Mode.Inner rest) old new = new.work.goals - old.work.goals
 
 -- the end of a machine whose budget has none left
 abbrev pub spent : Mode → RunEnd
 spent Mode.Top = RunEnd.StepsSpent
-spent Mode.Inner = RunEnd.WorkSpent
+spent (Mode.Inner rest) = RunEnd.WorkSpent
 
 -- the budget has no Tick left
 abbrev pub HasNone : Mode → Budget → Type 0
 HasNone Mode.Top b = AreStepsUsed b
-HasNone Mode.Inner b = IsWorkUsed b
+HasNone (Mode.Inner rest) b = IsWorkUsed b
 
 -- a Tick is counted where the budget has one; else the run ends in front of it
 abbrev pub Ticks : Mode → Budget → Budget → Now → Now → Bool → Type 0
@@ -67,7 +67,7 @@ pub record Goes {M : Type 0} (v : View) (names : List NameSlot) (events : List (
 -- where a run has ended before a Tick, the budget that this machine counts in has none left
 abbrev pub IsSpent : Mode → Budget → Now → Type 0
 IsSpent mode b (Now.Ended RunEnd.StepsSpent) = (mode ≡ Mode.Top) × HasNone mode b
-IsSpent mode b (Now.Ended RunEnd.WorkSpent) = (mode ≡ Mode.Inner) × HasNone mode b
+IsSpent mode b (Now.Ended RunEnd.WorkSpent) = IsInner mode × HasNone mode b
 IsSpent mode b now = ⊤
 
 -- from a configuration on, with the Ticks that are counted

@@ -28,7 +28,7 @@ pub fn tick(mode: Mode, now: &mut Now, budget: &mut Budget) -> bool
             }
             budget.ticks += 1;
         }
-        Mode::Inner => {
+        Mode::Inner(_) => {
             let work = budget.work;
             let spent = work
                 .goals
