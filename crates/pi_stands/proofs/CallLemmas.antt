@@ -10,7 +10,7 @@ use Rattle.pi_traces.specs.Trace.{alt, then}
 use Rattle.pi_meaning.specs.Settle.{settled}
 use Rattle.pi_effects.specs.Effect.{succeeds_in}
 use Rattle.pi_effects.specs.Exception.{thrown}
-use Rattle.pi_meaning.specs.Builtin.{effect_trace, effect}
+use Rattle.pi_meaning.specs.Builtin.{settled_effect, effect}
 use Rattle.pi_states.specs.Evaluation.{Evaluated, slot_term, evaluated, evaluated_all}
 use Rattle.pi_core.specs.CoreTree.{PredTree}
 use Rattle.pi_core.specs.GoalTree.{GoalTree, truth, fail, tick, call, apply, seq, alternatives, if_else, not, once, collect, count, catch, GoalTrees}
@@ -98,7 +98,7 @@ after_equal None gs e k = failed
 after_equal (Some r) gs e k = going gs e r k
 
 after-one : (v : View) (o : Option State) (s : State) (gs : GoalTrees) (e : Places) (k : List Frame) →
-    after_effect (then (effect_trace v (succeeds_in o)) (settled s)) (λ r. going gs e r k) ≡ after_equal o gs e k
+    after_effect (settled_effect v s (succeeds_in o)) (λ r. going gs e r k) ≡ after_equal o gs e k
 unfolding after_effect then settled alt
 after-one v None s gs e k = refl
 after-one v (Some r) s gs e k = refl
@@ -111,7 +111,7 @@ unfolding goal_step evaluated effect
 equal-comes-to v preds l r gs e s k es =
     let x : Evaluated = evaluated l e s in
     let y : Evaluated = evaluated r x.slots x.state in
-    ap (λ n. silently (config n es)) (after-one v (unified y.state x.tree y.tree) s gs y.slots k)
+    ap (λ n. silently (config n es)) (after-one v (unified y.state x.tree y.tree) y.state gs y.slots k)
 
 -- ---- an exception
 
