@@ -12,5 +12,6 @@ pub mod QuietRules
 pub mod NestGoals
 pub mod NestRules
 pub mod CoreExamples
+pub mod WholeExamples
 pub mod ToldCuts
 pub mod SurfaceDepths
