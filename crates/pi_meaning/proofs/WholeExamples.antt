@@ -107,12 +107,17 @@ calls-are_known :
 unfolding run_under
 calls-are_known = (refl, refl, refl, refl, refl)
 
--- `call` of `catch` is the catch of the `call`s of its goals
+-- `call` of `catch` is the catch of the `call`s of its goals; arguments of `call` stand behind those of the term
+abbrev throwing : Tree
+throwing = comp (codes "throw") (tree (atom (codes "e")) no_trees)
+
 catches-call :
-    run (call_of (comp (codes "catch") (tree (comp (codes "throw") (tree (atom (codes "e")) no_trees)) (tree (var 0) (tree (atom (codes "true")) no_trees))) ∷ [])) 2
-    ≡ ans (holds (var 0) (bound (atom (codes "e")) ∷ [])) (end Done)
+    (run (call_of (comp (codes "catch") (tree throwing (tree (var 0) (tree (atom (codes "true")) no_trees))) ∷ [])) 2
+    ≡ ans (holds (var 0) (bound (atom (codes "e")) ∷ [])) (end Done))
+    × (run (call_of (comp (codes "catch") (tree throwing no_trees) ∷ var 0 ∷ atom (codes "true") ∷ [])) 2 ≡ ans (holds (var 0) (bound (atom (codes "e")) ∷ [])) (end Done))
+    × (run (call_of (comp (codes "catch") (tree throwing no_trees) ∷ var 0 ∷ atom (codes "true") ∷ [])) 1 ≡ end Deep)
 unfolding run_under
-catches-call = refl
+catches-call = (refl, refl, refl)
 
 -- a name that is built in is the built-in, also where the program has a predicate of that name; output is none in the body of a planner call
 names-are_built_in :
