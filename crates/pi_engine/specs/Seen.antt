@@ -1,5 +1,5 @@
 -- A machine, as those that use it see it: what they read of it, and how its run may end.
-use Rattle.std.specs.Prelude.{◌≡◌, ◌⊎◌, ℕ, pos, negsuc, true, false, List, length, Option, Some, None, ⊤}
+use Rattle.std.specs.Prelude.{◌≡◌, ◌⊎◌, ℕ, pos, negsuc, List, length, Option, Some, None, ⊤}
 use Rattle.pi_states.specs.Store.{StoreView}
 use Rattle.pi_terms.specs.Tree.{Tree}
 use Rattle.pi_traces.specs.Trace.{End, Raise, Abort, Note, Tick, Load, Out}

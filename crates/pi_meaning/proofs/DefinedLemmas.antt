@@ -66,10 +66,10 @@ mutual
   calls-in K (alternatives gs) f = all-calls-in K gs (later-here K (alternatives gs) (subgoals_all gs) f)
   calls-in K (if_else test yes_goal other) f =
       let inside : CallsHere K (subgoals test ++ (subgoals yes_goal ++ subgoals other)) =
-          later-here K (if_else test yes_goal other) (subgoals test ++ (subgoals yes_goal ++ subgoals other)) f in
+      later-here K (if_else test yes_goal other) (subgoals test ++ (subgoals yes_goal ++ subgoals other)) f in
       let behind : CallsHere K (subgoals yes_goal ++ subgoals other) = right-here K (subgoals test) (subgoals yes_goal ++ subgoals other) inside in (
         calls-in K test (left-here K (subgoals test) (subgoals yes_goal ++ subgoals other) inside),
-        (calls-in K yes_goal (left-here K (subgoals yes_goal) (subgoals other) behind), calls-in K other (right-here K (subgoals yes_goal) (subgoals other) behind))
+        (calls-in K yes_goal (left-here K (subgoals yes_goal) (subgoals other) behind), calls-in K other (right-here K (subgoals yes_goal) (subgoals other) behind)),
       )
   calls-in K (not g) f = calls-in K g (later-here K (not g) (subgoals g) f)
   calls-in K (once g) f = calls-in K g (later-here K (once g) (subgoals g) f)
