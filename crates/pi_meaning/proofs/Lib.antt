@@ -2,6 +2,7 @@ pub mod MeaningLemmas
 pub mod RuleLemmas
 pub mod LevelLemmas
 pub mod CallLemmas
+pub mod KnownLemmas
 pub mod QueryLemmas
 pub mod DefinedLemmas
 pub mod WholeLemmas

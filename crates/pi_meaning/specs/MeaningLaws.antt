@@ -1,6 +1,7 @@
 -- The laws of the core meaning: more depth only adds, and so the run of a query is one; with `=` and `throw` alone each query has its run; and where a query calls
 -- nothing else, that is its run with all names of the language.
-use Rattle.std.specs.Prelude.{◌≡◌, ℕ, suc, ◌+◌, List, ◌++◌, Option, Some, length, Contains}
+use Rattle.std.specs.Prelude.{◌≡◌, ℕ, suc, ◌+◌, true, false, List, ◌++◌, Option, Some, is_some, length, Contains}
+use Rattle.pi_terms.specs.Tree.{Trees, tree_count}
 use Rattle.pi_terms.specs.Places.{Places}
 use Rattle.pi_states.specs.State.{State, next, IsState, PlacesBelow}
 use Rattle.pi_core.specs.GoalTree.{GoalTree}
@@ -8,6 +9,7 @@ use Rattle.pi_traces.specs.Trace.{WithoutDeep, answers}
 use Rattle.pi_traces.specs.Depth.{DepthOnlyAdds, Cut, cut, CutWithoutDeep}
 use Rattle.pi_traces.specs.Related.{BelowBy}
 use Rattle.pi_meaning.specs.View.{View, PlansAreGround}
+use Rattle.pi_meaning.specs.Names.{is_given}
 use Rattle.pi_meaning.specs.Builtins.{Builtins, BuiltinsOnlyAdd}
 use Rattle.pi_meaning.specs.Given.{Later, LaterOnlyAdds}
 use Rattle.pi_meaning.specs.Instances.{small, whole}
@@ -103,6 +105,12 @@ RunsKeepStates = (v : View) (program : List PredTree) (q : QueryTree) → IsSoun
     Contains (answers (query_trace (small v) program q depth)) x → IsState x.state × PlacesBelow (next x.state) x.slots
 
 -- ---- both
+
+-- with all names of the language just those that it gives do something by themselves, each with its numbers of arguments
+abbrev pub WholeKnowsWhatIsGiven : Type 0
+WholeKnowsWhatIsGiven = (v : View) (later : Later) (preds : List PredTree) (l : Level) (name : List ℕ) (ts : Trees) (s : State) →
+    (is_some ((whole v later preds).predicate l name ts s) ≡ is_given false name (tree_count ts))
+    × (is_some ((whole v later preds).function l name ts s) ≡ is_given true name (tree_count ts))
 
 -- A query that calls nothing but `=`, `throw` and what its program defines does the same with these built-ins alone as with all names of the language, whatever the view
 -- is and whatever later stages give.

@@ -1,5 +1,5 @@
 //! Laws of the core meaning, and of the meaning over names.
-ghost use Rattle.pi_meaning.specs.MeaningLaws.{SmallOnlyAdds, WholeOnlyAdds, SmallIsWhole, GoalsDoMore, LevelsAreOrdered, LevelsAscend, QuietCallsStayAbove, QuietCallsKeepTheDepth, QuietCallsNestFreely, QueriesDoMore, WholeTracesStay, RunIsOne, DeeperRunsAreTheRun, DepthReachesTicks, EachQueryRuns, SoundQueriesRun, RunsKeepStates};
+ghost use Rattle.pi_meaning.specs.MeaningLaws.{SmallOnlyAdds, WholeOnlyAdds, WholeKnowsWhatIsGiven, SmallIsWhole, GoalsDoMore, LevelsAreOrdered, LevelsAscend, QuietCallsStayAbove, QuietCallsKeepTheDepth, QuietCallsNestFreely, QueriesDoMore, WholeTracesStay, RunIsOne, DeeperRunsAreTheRun, DepthReachesTicks, EachQueryRuns, SoundQueriesRun, RunsKeepStates};
 ghost use Rattle.pi_meaning.specs.SurfaceLaws.{SurfaceDoesMore, SurfaceRunsAreOne, SurfaceRunsReach, SameRulesRunTheSame, RulesAreChosenAsInTheCore};
 
 /// More depth only adds to calls by name, with `=` and `throw` alone, and with all names of the language where it does to what later
@@ -9,14 +9,21 @@ pub fn built_ins_only_add()
     ensures whole { WholeOnlyAdds }
 {}
 
+/// With all names of the language just those that it gives do something by themselves, which are those that a sound program may call
+/// beside what it defines.
+pub fn names_are_given()
+    ensures { WholeKnowsWhatIsGiven }
+{}
+
 /// A query that calls nothing but `=`, `throw` and what its program defines, by names that the language doesn't give, has the same trace
 /// with these built-ins alone as with all names of the language.
 pub fn small_is_whole()
     ensures { SmallIsWhole }
 {}
 
-/// Where more depth only adds to calls by name, it does to all: a goal does the same and maybe more where calls do, which is reflexive and transitive, and calls do so at each greater
-/// depth. A quiet call leads to a level that is still above that of one depth less, and takes nothing from the depth.
+/// Where more depth only adds to calls by name, it does to all: a goal does the same and maybe more where calls do, which is
+/// reflexive and transitive, and calls do so at each greater depth. A quiet call leads to a level that is still above that of
+/// one depth less, and takes nothing from the depth.
 pub fn depths_add()
     ensures goals { GoalsDoMore }
     ensures order { LevelsAreOrdered }

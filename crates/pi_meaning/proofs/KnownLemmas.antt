@@ -1,0 +1,63 @@
+-- Which names do something by themselves, with all names of the language.
+use Rattle.std.proofs.Common.{◌≡◌, ℕ, Bool, true, false, cond, ◌||◌, List, refl, ap, ◌∙◌}
+use Rattle.std.specs.Prelude.{Option, Some, None, is_some, option_map}
+use Rattle.pi_terms.specs.Tree.{Trees, tree_count}
+use Rattle.pi_states.specs.State.{State}
+use Rattle.pi_effects.specs.BuiltIns.{built_in_predicate, built_in_function, is_predicate, is_function}
+use Rattle.pi_effects.proofs.BuiltInLemmas.{predicates-listed, functions-listed}
+use Rattle.pi_effects.proofs.RowLemmas.{some-or, some-map}
+use Rattle.pi_meaning.specs.Level.{Level}
+use Rattle.pi_meaning.specs.Names.{is_later_predicate, is_later_function, is_resource, is_call, is_given}
+use Rattle.pi_meaning.specs.Builtin.{settled_effect, function_trace}
+use Rattle.pi_meaning.specs.Given.{Setting}
+use Rattle.pi_meaning.specs.Calls.{built_in, given_later, predicate_given, function_later, function_given, first_called}
+use Rattle.pi_meaning.specs.Instances.{core_setting, predicate_or_call}
+use Rattle.pi_meaning.specs.MeaningLaws.{WholeKnowsWhatIsGiven}
+
+some-cond : {A : Type 0} (c : Bool) (x : A) (o : Option A) → is_some (cond c (Some x) o) ≡ (c || is_some o)
+some-cond true x o = refl
+some-cond false x o = refl
+
+none-behind : (c : Bool) → (c || false) ≡ c
+none-behind true = refl
+none-behind false = refl
+
+either-same : (a b c d : Bool) → a ≡ c → b ≡ d → (a || b) ≡ (c || d)
+either-same a b c d h k = rw (h, k) refl
+
+built-known : (set : Setting) (name : List ℕ) (ts : Trees) (s : State) → is_some (built_in set name ts s) ≡ is_predicate name (tree_count ts)
+built-known set name ts s = some-map (settled_effect set.view s) (built_in_predicate name ts s) ∙ predicates-listed name ts s
+
+later-known : (set : Setting) (l : Level) (name : List ℕ) (ts : Trees) (s : State) → is_some (given_later set l name ts s) ≡ is_later_predicate name (tree_count ts)
+later-known set l name ts s =
+    some-cond (is_later_predicate name (tree_count ts)) (set.later.predicate set.view l name ts s) None ∙ none-behind (is_later_predicate name (tree_count ts))
+
+given-known : (set : Setting) (l : Level) (name : List ℕ) (ts : Trees) (s : State) →
+    is_some (predicate_given set l name ts s) ≡ (is_predicate name (tree_count ts) || is_later_predicate name (tree_count ts))
+unfolding predicate_given
+given-known set l name ts s =
+    some-or (built_in set name ts s) (given_later set l name ts s)
+    ∙ either-same (is_some (built_in set name ts s)) (is_some (given_later set l name ts s)) (is_predicate name (tree_count ts)) (is_later_predicate name (tree_count ts))
+    (built-known set name ts s) (later-known set l name ts s)
+
+predicate-known : (set : Setting) (l : Level) (name : List ℕ) (ts : Trees) (s : State) → is_some (predicate_or_call set l name ts s) ≡ is_given false name (tree_count ts)
+predicate-known set l name ts s =
+    some-cond (is_call name (tree_count ts)) (first_called set l ts s) (predicate_given set l name ts s)
+    ∙ ap (λ b. is_call name (tree_count ts) || b) (given-known set l name ts s)
+
+later-function-known : (set : Setting) (name : List ℕ) (ts : Trees) (s : State) →
+    is_some (function_later set name ts s) ≡ (is_resource name (tree_count ts) || is_later_function name (tree_count ts))
+later-function-known set name ts s =
+    some-cond (is_resource name (tree_count ts)) _ _
+    ∙ ap (λ b. is_resource name (tree_count ts) || b)
+    (some-cond (is_later_function name (tree_count ts)) (set.later.function name ts s) None ∙ none-behind (is_later_function name (tree_count ts)))
+
+function-known : (set : Setting) (name : List ℕ) (ts : Trees) (s : State) → is_some (function_given set name ts s) ≡ is_given true name (tree_count ts)
+unfolding function_given
+function-known set name ts s =
+    some-or (option_map function_trace (built_in_function name ts s)) (function_later set name ts s)
+    ∙ either-same (is_some (option_map function_trace (built_in_function name ts s))) (is_some (function_later set name ts s)) (is_function name (tree_count ts)) _
+    (some-map function_trace (built_in_function name ts s) ∙ functions-listed name ts s) (later-function-known set name ts s)
+
+pub whole-knows : WholeKnowsWhatIsGiven
+whole-knows v later preds l name ts s = (predicate-known (core_setting v later preds) l name ts s, function-known (core_setting v later preds) name ts s)

@@ -1,0 +1,5 @@
+use Rattle.pi_meaning.proofs.KnownLemmas.{whole-knows}
+use Rattle.pi_meaning.proofs.laws.meaning.names_are_given.Goals as goal
+
+pub returns : goal.returns
+returns c = whole-knows
