@@ -14,4 +14,3 @@ pub mod NestRules
 pub mod CoreExamples
 pub mod WholeExamples
 pub mod ToldCuts
-pub mod SurfaceDepths

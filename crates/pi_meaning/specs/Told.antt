@@ -9,7 +9,7 @@ use Rattle.pi_states.specs.State.{State, bindings}
 use Rattle.pi_states.specs.Evaluation.{Evaluated, evaluated}
 use Rattle.pi_states.specs.ToldDomains.{told_domains}
 use Rattle.pi_meaning.specs.Run.{Solution}
-use Rattle.pi_meaning.specs.SurfaceRun.{Told}
+use Rattle.pi_meaning.specs.Telling.{Told}
 use Rattle.pi_answers.specs.AnswerVariables.{answer_variables}
 use Rattle.pi_core.specs.declared.core_program.NameSlot.{NameSlot}
 use Rattle.pi_answers.specs.declared.answer.NamedTerm.{NamedTerm}

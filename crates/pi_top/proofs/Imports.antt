@@ -5,8 +5,9 @@ use Rattle.pi_syntax.specs.ExpTree.{ExpTree}
 use Rattle.pi_syntax.specs.ProgramTree.{RuleTree, WrittenClause, rule, function, fact, ProgramTree}
 use Rattle.pi_syntax.specs.declared.program.Decl.{Decl}
 use Rattle.pi_traces.specs.Depth.{CutWithoutDeep, cut}
-use Rattle.pi_meaning.specs.Surface.{rules_of, told_names}
-use Rattle.pi_meaning.specs.SurfaceRun.{place_told, told_trace}
+use Rattle.pi_meaning.specs.WrittenRules.{rules_of}
+use Rattle.pi_meaning.specs.Surface.{told_names}
+use Rattle.pi_meaning.specs.Telling.{place_told, told_trace}
 use Rattle.pi_meaning.proofs.SurfaceDepths.{same-rules-run-the-same}
 use Rattle.pi_rewrite.specs.Laws.{RunsTheSame}
 use Rattle.pi_rewrite.specs.Unbuilt.{is_built, is_built_part, unbuilt_from, unbuilt_part, without_imports}

@@ -11,7 +11,7 @@ use Rattle.pi_traces.specs.Depth.{Cut, Stop as CutStop, Ended, Spent}
 use Rattle.pi_meaning.specs.View.{query_view}
 use Rattle.pi_meaning.specs.Run.{Solution}
 use Rattle.pi_meaning.specs.Told.{answer_of, solution_told}
-use Rattle.pi_meaning.specs.SurfaceRun.{Told, told_event, told_cut}
+use Rattle.pi_meaning.specs.Telling.{Told, told_event, told_cut}
 use Rattle.pi_print.specs.PrintAnswer.{answer_lines}
 use Rattle.pi_rewrite.specs.Laws.{RunsTheSame}
 use Rattle.pi_top.specs.Headline.{IsPart, Headline, HowCut, in_answer, in_line, at_memory, IsCutOff}

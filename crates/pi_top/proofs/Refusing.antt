@@ -6,7 +6,7 @@ use Rattle.pi_answers.specs.declared.log.LogEntry.{LogEntry}
 use Rattle.pi_traces.specs.Trace.{Done, Raise, Emitted, noted, answered, count_ticks}
 use Rattle.pi_traces.specs.Depth.{Cut, Stop, Ended, Spent}
 use Rattle.pi_meaning.specs.View.{query_view}
-use Rattle.pi_meaning.specs.SurfaceRun.{Told}
+use Rattle.pi_meaning.specs.Telling.{Told}
 use Rattle.pi_meaning.proofs.SurfaceDepths.{surface-runs-are-one}
 use Rattle.pi_top.specs.declared.outcome.QueryRun.{QueryRun}
 use Rattle.pi_top.specs.declared.words.Options.{Options}

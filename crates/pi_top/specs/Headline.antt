@@ -7,7 +7,8 @@ use Rattle.pi_traces.specs.Depth.{Cut}
 use Rattle.pi_syntax.specs.ExpTree.{ExpTree}
 use Rattle.pi_syntax.specs.ProgramTree.{ProgramTree}
 use Rattle.pi_meaning.specs.View.{query_view}
-use Rattle.pi_meaning.specs.SurfaceRun.{Told, told_answer, IsSurfaceRun}
+use Rattle.pi_meaning.specs.Telling.{Told, told_answer}
+use Rattle.pi_meaning.specs.SurfaceRun.{IsSurfaceRun}
 use Rattle.pi_print.specs.PrintAnswer.{answer_lines}
 use Rattle.pi_answers.specs.declared.log.LogEntry.{LogEntry}
 use Rattle.pi_top.specs.Handing.{HandsAll, FailsIn}
