@@ -19,7 +19,7 @@ use Rattle.pi_meaning.specs.Telling.{telling, place_told, told_trace, told_cut}
 use Rattle.pi_meaning.proofs.ToldCuts.{cut-told}
 use Rattle.pi_meaning.specs.View.{View}
 use Rattle.pi_names.specs.Texts.{Names, places, behind}
-use Rattle.pi_names.specs.Stages.{LaterStages, RulesSetting}
+use Rattle.pi_names.specs.Stages.{LaterStages, no_stages, RulesSetting}
 use Rattle.pi_names.specs.Heads.{patterns_matched}
 use Rattle.pi_meaning.specs.Given.{LaterOnlyAdds}
 use Rattle.pi_names.specs.Forms.{plain}
@@ -118,6 +118,10 @@ names-deeper v later adds program goal d =
     (program_level v later program d) (program_level v later program (suc d))
     (levels-ascend (setting v later program) adds (prelude ++ program) d) beginning)
     (λ p. below-refl (telling (answer_names goal) p))
+
+-- where there is no later stage, more depth only adds
+pub no-stages-add : LaterOnlyAdds no_stages.calls
+no-stages-add = λ v l m b name ts s. below-refl done
 
 -- ---- runs
 

@@ -48,7 +48,7 @@ use Rattle.pi_meaning.specs.Telling.{told_behind, told_values, if_tellable, Told
 use Rattle.pi_answers.specs.declared.answer.NamedTerm.{NamedTerm}
 use Rattle.pi_meaning.specs.View.{View, query_view}
 use Rattle.pi_names.specs.Texts.{places, places_all, places_of_branches, behind, patterns_of, assigned as assigned_names, assigned_all, assigned_in_branches}
-use Rattle.pi_names.specs.Stages.{LaterStages}
+use Rattle.pi_names.specs.Stages.{LaterStages, no_stages}
 use Rattle.pi_names.specs.Assigning.{with_value, with_names, with_values_of}
 use Rattle.pi_names.specs.Terms.{items_onto, written_term, written_terms}
 use Rattle.pi_names.specs.Heads.{pattern_matched, patterns_matched, items_matched}
@@ -61,10 +61,6 @@ use Rattle.pi_names.specs.Goals.{value_of, values_of, values_in, values_apart, g
 use Rattle.pi_names.specs.Rules.{modes_named, rules_called, facts_called, functions_called, calls_by, level_for}
 use Rattle.pi_names.specs.Prelude.{prelude}
 use Rattle.pi_names.specs.Run.{names_from, names_trace, answer_names}
-
--- nothing that a later stage gives is used
-abbrev pub none_later : LaterStages
-none_later = record { calls = record { predicate = λ v l name ts s. done; function = λ name ts s. done }; agent = λ call i es p. done }
 
 -- a later stage that raises each of its goals, so that its arguments are seen
 abbrev pub raising_later : LaterStages
@@ -95,7 +91,7 @@ run_with later v program goal n depth =
 
 unfoldable pub run_in : View → ProgramTree → ExpTree → ℕ → ℕ → Outcome
 unfolding run_with
-run_in v program goal n depth = run_with none_later v program goal n depth
+run_in v program goal n depth = run_with no_stages v program goal n depth
 
 -- a query
 unfoldable pub run_of : ProgramTree → ExpTree → ℕ → ℕ → Outcome

@@ -38,7 +38,7 @@ head-free (call name es) built s e =
     subst (λ (t : Signature). is_taken t.name t.arity ≡ false) is (own-free name (exp_count es) (and_parts (is_own name (exp_count es)) (are_built_terms es) built).0)
 head-free e built s is = absurd cc
 
-one-more : (x : Option Signature) (xs : List (Option Signature)) → ((s : Signature) → x ≡ Some s → is_taken s.name s.arity ≡ false) →
+pub one-more : (x : Option Signature) (xs : List (Option Signature)) → ((s : Signature) → x ≡ Some s → is_taken s.name s.arity ≡ false) →
     ((name : List ℕ) (k : ℕ) → Defines xs name k → is_taken name k ≡ false) → (name : List ℕ) (k : ℕ) → Defines (x ∷ xs) name k → is_taken name k ≡ false
 one-more x xs here rest name k (zero, below, is) = here (record { name = name; arity = k }) is
 one-more x xs here rest name k (suc i, below, is) = rest name k (i, omega (arith, below), is)

@@ -5,7 +5,7 @@ use Rattle.pi_states.specs.State.{State}
 use Rattle.pi_syntax.specs.ExpTree.{ExpTree}
 use Rattle.pi_syntax.specs.ProgramTree.{ProgramTree}
 use Rattle.pi_core.specs.CoreTree.{PredTree, QueryTree}
-use Rattle.pi_traces.specs.Trace.{Trace, done}
+use Rattle.pi_traces.specs.Trace.{Trace}
 use Rattle.pi_meaning.specs.View.{View}
 use Rattle.pi_meaning.specs.Level.{calls_at}
 use Rattle.pi_meaning.specs.Instances.{small as builtins}
@@ -15,7 +15,7 @@ use Rattle.pi_meaning.specs.Place.{Place, at_state, beginning}
 use Rattle.pi_meaning.specs.Surface.{called_at, told_names, surface_from}
 use Rattle.pi_meaning.specs.Telling.{told_behind, place_told, told_trace}
 use Rattle.pi_meaning.specs.Told.{solution_told}
-use Rattle.pi_names.specs.Stages.{LaterStages}
+use Rattle.pi_names.specs.Stages.{no_stages}
 use Rattle.pi_names.specs.Run.{answer_names, names_from}
 use Rattle.pi_names.specs.NameLaws.{HeadsAreFree}
 use Rattle.pi_names.proofs.SmallLemmas.{body-names}
@@ -30,15 +30,11 @@ abbrev pub MeansAsSurface : ProgramTree → ExpTree → List PredTree → QueryT
 MeansAsSurface program goal preds q = (v : View) (d : ℕ) (s : State) →
     told_trace (solution_told q.names) (query_from (builtins v) preds q d s) ≡ told_trace (place_told (told_names goal)) (surface_from v program goal d (at_state beginning s))
 
--- nothing that a later stage gives is called
-none-later : LaterStages
-none-later = record { calls = record { predicate = λ v l name ts s. done; function = λ name ts s. done }; agent = λ call i es p. done }
-
 pub calls-over-names : (program : ProgramTree) (preds : List PredTree) → IsSmallProgram program → HeadsAreFree program → CallsAsSurface program preds → CallsTheSame program preds
 calls-over-names program preds small free kept v later d name ts s known = kept v d name ts s known ∙ sym (small-calls-are-surface v later program small free d name ts s known)
 
 pub calls-over-surface : (program : ProgramTree) (preds : List PredTree) → IsSmallProgram program → HeadsAreFree program → CallsTheSame program preds → CallsAsSurface program preds
-calls-over-surface program preds small free kept v d name ts s known = kept v none-later d name ts s known ∙ small-calls-are-surface v none-later program small free d name ts s known
+calls-over-surface program preds small free kept v d name ts s known = kept v no_stages d name ts s known ∙ small-calls-are-surface v no_stages program small free d name ts s known
 
 -- an answer tells the same names
 same-told : (program : ProgramTree) (goal : ExpTree) → IsSmallQuery program goal → answer_names goal ≡ told_names goal
