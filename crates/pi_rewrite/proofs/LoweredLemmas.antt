@@ -11,7 +11,7 @@ use Rattle.pi_rewrite.specs.Lowered.{lowered}
 use Rattle.pi_rewrite.specs.Laws.{IsPlain, IsLoweredProgram, MeansTheSame, IsLowered, ProgramsHaveCorePrograms, GoalsHaveQueries}
 use Rattle.pi_rewrite.proofs.LoweredQuery.{lowered_query}
 use Rattle.pi_rewrite.proofs.OverSurface.{calls-over-surface, means-over-names}
-use Rattle.pi_rewrite.proofs.SoundLemmas.{lowered-program, query-is-sound, query-is-within}
+use Rattle.pi_rewrite.proofs.SoundLemmas.{lowered-program, query-is-sound, query-is-closed}
 use Rattle.pi_rewrite.proofs.QueryLemmas.{goal-keeps-the-trace}
 use Rattle.pi_rewrite.proofs.CutLemmas.{same-meaning-runs-the-same}
 
@@ -27,7 +27,7 @@ query-is-lowered : (program : ProgramTree) (goal : ExpTree) (preds : List PredTr
 query-is-lowered program goal preds kept small asked = record {
   sound = query-is-sound program goal preds kept small asked;
   plain = subst (All IsPlain) (sym (append-nil preds)) kept.plain;
-  within = query-is-within program goal preds kept small asked;
+  closed = query-is-closed program goal preds kept small asked;
   means = query-means program goal preds kept small asked;
   runs = same-meaning-runs-the-same program goal preds (lowered_query goal) (query-means program goal preds kept small asked);
 }

@@ -83,9 +83,9 @@ rule-sound defined preds known p from r small named =
       quiet = λ is. absurd (false≢true (sym from.quiet ∙ is));
     }
 
-rule-within : (defined : Defined) (preds : List PredTree) → Knows defined preds → (r : RuleTree) → IsSmallRule defined r → ClauseCallsDefined preds (lowered_rule r)
+rule-closed : (defined : Defined) (preds : List PredTree) → Knows defined preds → (r : RuleTree) → IsSmallRule defined r → ClauseCallsDefined preds (lowered_rule r)
 unfolding lowered_clause
-rule-within defined preds known r small =
+rule-closed defined preds known r small =
     let ns : SlotNames = slots_of_head r.head in
     let n : ℕ = length (slots_after r.body ns) in
     record {
@@ -137,12 +137,12 @@ program-sound program small =
     none-some : {A : Type 0} (x : A) → None ≡ Some x → ⊥
     none-some x e = cc
 
-program-within : (program : ProgramTree) → IsSmallProgram program → ProgramCallsDefined (lowered program)
-program-within program small = λ p there c inside.
+program-closed : (program : ProgramTree) → IsSmallProgram program → ProgramCallsDefined (lowered program)
+program-closed program small = λ p there c inside.
     let of : FromRules (heads program) p = All-contains (FromRules (heads program)) (lowered program) p (from-program program small) there in
     let is : FromRule (heads program) (sign p.name p.arity) c = All-contains (FromRule (heads program) (sign p.name p.arity)) p.clauses c of.clauses inside in
     subst (ClauseCallsDefined (lowered program)) (sym is.is)
-    (rule-within (heads program) (lowered program) (knows program (lowered program) (lowered-defines program small) small) is.rule is.small)
+    (rule-closed (heads program) (lowered program) (knows program (lowered program) (lowered-defines program small) small) is.rule is.small)
 
 clause-plain : (defined : Defined) (s : Signature) (c : ClauseTree) → FromRule defined s c → c.watches ≡ []
 unfolding lowered_clause
@@ -156,7 +156,7 @@ pub lowered-program : (program : ProgramTree) → IsSmallProgram program → Hea
 lowered-program program small free = record {
   sound = program-sound program small;
   plain = All-weaker (FromRules (heads program)) IsPlain (pred-plain (heads program)) (lowered program) (from-program program small);
-  within = program-within program small;
+  closed = program-closed program small;
   defines = lowered-defines program small;
   free = free;
   calls = calls-over-names program (lowered program) small free (lowered-calls program small);
@@ -185,11 +185,11 @@ query-is-sound program goal preds kept small asked =
       calls = subst (λ ps. Rattle.pi_meaning.specs.Sound.CallsKnown ps (lowered_body goal [])) (sym (append-nil preds)) (good-calls preds (length ns) (lowered_body goal []) good);
     }
 
-pub query-is-within : (program : ProgramTree) (goal : ExpTree) (preds : List PredTree) → IsLoweredProgram program preds → IsSmallProgram program → IsSmallQuery program goal → QueryCallsDefined preds (lowered_query goal)
-query-is-within program goal preds kept small asked =
+pub query-is-closed : (program : ProgramTree) (goal : ExpTree) (preds : List PredTree) → IsLoweredProgram program preds → IsSmallProgram program → IsSmallQuery program goal → QueryCallsDefined preds (lowered_query goal)
+query-is-closed program goal preds kept small asked =
     let ns : SlotNames = slots_after goal [] in
     let good = body-good (heads program) preds (knows program preds kept.defines small) goal asked [] (length ns) (omega arith) in
     record {
-      preds = subst ProgramCallsDefined (sym (append-nil preds)) kept.within;
+      preds = subst ProgramCallsDefined (sym (append-nil preds)) kept.closed;
       goal = subst (λ ps. CallsDefined ps (lowered_body goal [])) (sym (append-nil preds)) (good-defined preds (length ns) (lowered_body goal []) good);
     }

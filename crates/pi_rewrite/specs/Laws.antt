@@ -44,11 +44,11 @@ abbrev pub CallsTheSame : ProgramTree → List PredTree → Type 0
 CallsTheSame program preds = (v : View) (later : LaterStages) (d : ℕ) (name : List ℕ) (ts : Trees) (s : State) → Defines (heads program) name (tree_count ts) →
     (calls_at (level_at (small v) preds d)).called name ts s ≡ (calls_at (program_level v later program d)).called name ts s
 
--- a core program that keeps the meaning of a program, none of whose predicates has a name that means something else
+-- a core program that keeps the meaning of a program, none of whose predicates has a name that means something else. It calls `=`, `throw` and what it defines.
 pub record IsLoweredProgram (program : ProgramTree) (preds : List PredTree) : Type 0 where
   pub sound : IsSound preds
   pub plain : All IsPlain preds
-  pub within : ProgramCallsDefined preds
+  pub closed : ProgramCallsDefined preds
   pub defines : DefinesTheSame program preds
   pub free : HeadsAreFree program
   pub calls : CallsTheSame program preds
@@ -70,11 +70,11 @@ abbrev pub RunsTheSame : ProgramTree → ExpTree → List PredTree → QueryTree
 RunsTheSame program goal preds q = (v : View) (later : LaterStages) (n : ℕ) (c : Cut Solution) → IsRunUnder (small v) preds q n c →
     IsNamesRun v later program goal n (told_cut (solution_told q.names) c)
 
--- a query that keeps the meaning of a goal that is asked of a program
+-- a query that keeps the meaning of a goal that is asked of a program; it calls nothing else either
 pub record IsLowered (program : ProgramTree) (goal : ExpTree) (preds : List PredTree) (q : QueryTree) : Type 0 where
   pub sound : IsSoundQuery preds q
   pub plain : All IsPlain (preds ++ q.helpers)
-  pub within : QueryCallsDefined preds q
+  pub closed : QueryCallsDefined preds q
   pub means : MeansTheSame program goal preds q
   pub runs : RunsTheSame program goal preds q
 

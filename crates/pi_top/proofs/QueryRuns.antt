@@ -15,7 +15,7 @@ use Rattle.pi_meaning.proofs.QuietRules.{query-runs}
 use Rattle.pi_machine.specs.declared.happening.Budget.{Budget}
 use Rattle.pi_machine.specs.declared.happening.Happening.{Happening}
 use Rattle.pi_machine.specs.declared.happening.Mode.{Mode}
-use Rattle.pi_machine.specs.Budget.{Counts, IsWithin}
+use Rattle.pi_machine.specs.Budget.{Counts, IsWithin, IsInner}
 use Rattle.pi_machine.specs.Built.{IsRunnable}
 use Rattle.pi_stands.specs.Goes.{counted}
 use Rattle.pi_machine.specs.Next.{some_ticks}
@@ -45,7 +45,7 @@ pub record Called {M : Type 0} (m n : MachineView M) (b c : Budget) : Type 0 whe
 
 counted-ticks : (mode : Mode) (b c : Budget) → mode ≡ Mode.Top → b.ticks ≤ c.ticks → b.ticks + counted mode b c ≡ c.ticks
 counted-ticks Mode.Top b c top more = omega (arith, more)
-counted-ticks Mode.Inner b c top more = absurd (cc)
+counted-ticks (Mode.Inner rest) b c top more = absurd (cc)
 
 pub written-start : {M : Type 0} (m : MachineView M) (b : Budget) (answers : ℕ) (program : List PredTree) (q : QueryTree) →
     IsAtStart m b answers program q → IsWritten m b 0 program q []
@@ -145,8 +145,9 @@ whole-of : (answers given : ℕ) (events : List (Emitted Solution)) (stop : CutS
     IsWhole answers events (record { events = events; stop = stop }) stop
 whole-of answers given events stop is less = record { fewer = omega (arith, is, less); whole = refl; stops = refl }
 
-not-inner : (mode : Mode) → mode ≡ Mode.Top → mode ≡ Mode.Inner → ⊥
-not-inner mode top inner = absurd (let same : Mode.Top ≡ Mode.Inner = sym top ∙ inner in cc)
+not-inner : (mode : Mode) → mode ≡ Mode.Top → IsInner mode → ⊥
+not-inner Mode.Top top inner = inner
+not-inner (Mode.Inner rest) top inner = absurd (cc)
 
 -- ---- what a query comes to
 
