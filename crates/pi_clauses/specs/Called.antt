@@ -1,8 +1,8 @@
 -- The calls of the code as those of the definition, and what calls a walk has ahead of it.
 use Rattle.std.specs.Prelude.{true, false, List, [], ◌∷◌, ◌++◌, codes}
-use Rattle.pi_clauses.specs.Calls.{Named, named, planner_calls, goal_calls, calls_among}
+use Rattle.pi_clauses.specs.Calls.{Named, named, planner_calls, goal_calls, operand_calls, calls_among}
 use Rattle.pi_clauses.specs.Form.{Form, plain, calling}
-use Rattle.pi_clauses.specs.Places.{Place, goal, asked, expression, iterator, term, pattern}
+use Rattle.pi_clauses.specs.Places.{Place, goal, asked, expression, operand, iterator, term, pattern}
 use Rattle.pi_clauses.specs.Walk.{nodes_ahead}
 use Rattle.pi_clauses.specs.declared.names.calls.Called.{Called}
 use Rattle.pi_clauses.specs.declared.names.calls.Calls.{Calls}
@@ -40,10 +40,15 @@ abbrev pub calls_of_expression_form : Form → List Named
 calls_of_expression_form (calling name arity es) = named name arity true ∷ []
 calls_of_expression_form f = []
 
+abbrev pub calls_of_operand_form : Form → List Named
+calls_of_operand_form (calling name arity es) = operand_calls name arity
+calls_of_operand_form f = []
+
 abbrev pub calls_of_form : Place → Form → List Named
 calls_of_form (goal assigns) f = calls_of_goal_form f
 calls_of_form asked f = calls_of_goal_form f
 calls_of_form iterator f = calls_of_goal_form f
 calls_of_form expression f = calls_of_expression_form f
+calls_of_form operand f = calls_of_operand_form f
 calls_of_form term f = []
 calls_of_form (pattern quoted) f = []

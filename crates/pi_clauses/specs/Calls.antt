@@ -8,7 +8,8 @@ use Rattle.pi_lib.specs.Forms.{is_form}
 use Rattle.pi_lib.specs.Names.{kind_of}
 use Rattle.pi_syntax.specs.ExpTree.{ExpTree, atom, call}
 use Rattle.pi_syntax.specs.Signature.{exp_count}
-use Rattle.pi_clauses.specs.Places.{Place, goal, asked, expression, iterator, term, pattern, Placed}
+use Rattle.pi_clauses.specs.Operators.{is_boolean_call}
+use Rattle.pi_clauses.specs.Places.{Place, goal, asked, expression, operand, iterator, term, pattern, Placed}
 
 -- a name and number of arguments, as a function's or as a predicate's
 pub record Named : Type 0 where
@@ -43,11 +44,20 @@ abbrev pub calls_of_expression : ExpTree → List Named
 calls_of_expression (call name es) = named name (exp_count es) true ∷ []
 calls_of_expression e = []
 
+-- between the signs of constraints a relation of constraints and such a sign are called as goals
+abbrev pub operand_calls : List ℕ → ℕ → List Named
+operand_calls name arity = named name arity (not (is_boolean_call name arity)) ∷ []
+
+abbrev pub calls_of_operand : ExpTree → List Named
+calls_of_operand (call name es) = operand_calls name (exp_count es)
+calls_of_operand e = []
+
 abbrev pub calls_at : Place → ExpTree → List Named
 calls_at (goal assigns) e = calls_of_goal e
 calls_at asked e = calls_of_goal e
 calls_at iterator e = calls_of_goal e
 calls_at expression e = calls_of_expression e
+calls_at operand e = calls_of_operand e
 calls_at term e = []
 calls_at (pattern quoted) e = []
 

@@ -4,9 +4,9 @@ use Rattle.std.specs.Str.{bytes_eq}
 use Rattle.pi_syntax.specs.ExpTree.{ExpTree, var, int, atom, str, list, list_onto, array, call, quote, index, range, range_by, at, collect, and, or, arrow, if_then, if_else, foreach, while_do, do_while, ExpTrees, no_exps, exp}
 use Rattle.pi_syntax.specs.ExpLists.{exps_of}
 use Rattle.pi_syntax.specs.Signature.{exp_count}
-use Rattle.pi_clauses.specs.Operators.{is_assignment, is_membership, is_reified, is_operator, is_goal_call, is_expression_call}
-use Rattle.pi_clauses.specs.Places.{Place, goal, asked, expression, iterator, term, pattern, Placed}
-use Rattle.pi_clauses.specs.Items.{is_kept_from_patterns, is_variable, is_evaluated, allows_assignment, is_misplaced, is_misassigned, is_reified_node, is_stray, is_no_goal}
+use Rattle.pi_clauses.specs.Operators.{is_assignment, is_membership, is_operator, is_goal_call, is_expression_call, is_boolean_call}
+use Rattle.pi_clauses.specs.Places.{Place, goal, asked, expression, operand, iterator, term, pattern, Placed}
+use Rattle.pi_clauses.specs.Items.{is_kept_from_patterns, is_variable, is_evaluated, allows_assignment, is_misplaced, is_misassigned, is_stray, is_no_goal}
 use Rattle.pi_clauses.specs.declared.nodes.form.Form.{Form as CodeForm}
 use Rattle.pi_clauses.specs.declared.nodes.form.Form.TheVariants as code
 
@@ -89,6 +89,10 @@ is_expression_form (calling name arity es) = is_expression_call name arity
 is_expression_form control = false
 is_expression_form f = true
 
+abbrev pub is_boolean_form : Form → Bool
+is_boolean_form (calling name arity es) = is_boolean_call name arity
+is_boolean_form f = false
+
 abbrev pub is_membership_form : Form → Bool
 is_membership_form (calling name arity es) = is_membership name arity
 is_membership_form f = false
@@ -102,6 +106,7 @@ abbrev pub is_misplaced_form : Place → Form → Bool
 is_misplaced_form (goal assigns) f = is_expression_form f
 is_misplaced_form asked f = false
 is_misplaced_form expression f = is_goal_form f || is_membership_form f
+is_misplaced_form operand f = (is_goal_form f && not (is_boolean_form f)) || is_membership_form f
 is_misplaced_form iterator f = is_expression_form f && not (is_membership_form f)
 is_misplaced_form term f = is_no_term_form f
 is_misplaced_form (pattern quoted) f = not (is_pattern_form quoted f)
@@ -109,10 +114,6 @@ is_misplaced_form (pattern quoted) f = not (is_pattern_form quoted f)
 abbrev pub is_misassigned_form : Place → Form → Bool
 is_misassigned_form p (calling name arity es) = is_assignment name arity && (is_evaluated p && not (allows_assignment p && has_variable_first es))
 is_misassigned_form p f = false
-
-abbrev pub is_reified_form : Place → Form → Bool
-is_reified_form p (calling name arity es) = is_evaluated p && is_reified name arity
-is_reified_form p f = false
 
 abbrev pub is_stray_form : Place → Form → Bool
 is_stray_form (pattern quoted) f = false
@@ -124,7 +125,7 @@ is_no_goal_form asked f = is_expression_form f
 is_no_goal_form p f = false
 
 abbrev pub is_bad_form : Place → Form → Bool
-is_bad_form p f = is_misplaced_form p f || (is_misassigned_form p f || (is_reified_form p f || (is_stray_form p f || is_no_goal_form p f)))
+is_bad_form p f = is_misplaced_form p f || (is_misassigned_form p f || (is_stray_form p f || is_no_goal_form p f))
 
 abbrev pub breaks_pattern_form : Place → Form → Bool
 breaks_pattern_form (pattern quoted) f = not (is_pattern_form quoted f)
@@ -163,6 +164,6 @@ is_event_form occurs f = false
 
 -- ---- of a node
 
--- any of the five
+-- any of the four
 abbrev pub is_bad_node : Placed → Bool
-is_bad_node n = is_misplaced n || (is_misassigned n || (is_reified_node n || (is_stray n || is_no_goal n)))
+is_bad_node n = is_misplaced n || (is_misassigned n || (is_stray n || is_no_goal n))

@@ -6,8 +6,8 @@ use Rattle.std.specs.Str.{bytes_eq}
 use Rattle.pi_syntax.specs.ExpTree.{ExpTree, var, int, atom, str, list, list_onto, array, call, quote, index, range, range_by, at, collect, and, or, arrow, if_then, if_else, foreach, while_do, do_while, ExpTrees, no_exps, exp}
 use Rattle.pi_syntax.specs.ProgramTree.{WrittenClause, rule, function, fact}
 use Rattle.pi_syntax.specs.Signature.{exp_count}
-use Rattle.pi_clauses.specs.Operators.{is_assignment, is_membership, is_reified, is_operator, is_goal_call, is_expression_call}
-use Rattle.pi_clauses.specs.Places.{Place, goal, asked, expression, iterator, term, pattern, Placed, head_placed}
+use Rattle.pi_clauses.specs.Operators.{is_assignment, is_membership, is_operator, is_goal_call, is_expression_call, is_boolean_call}
+use Rattle.pi_clauses.specs.Places.{Place, goal, asked, expression, operand, iterator, term, pattern, Placed, head_placed}
 use Rattle.pi_clauses.specs.Shape.{Shape, clause_of, shape_events, is_open, listed}
 
 abbrev pub head_of : WrittenClause → ExpTree
@@ -33,9 +33,9 @@ is_head (atom name) = true
 is_head (call name es) = not (is_operator name (exp_count es))
 is_head e = false
 
--- signs that no pattern has without `$`: `:=`, `in`, and the signs between constraints
+-- signs that no pattern has without `$`: `:=` and `in`
 abbrev pub is_kept_from_patterns : List ℕ → ℕ → Bool
-is_kept_from_patterns name arity = is_assignment name arity || (is_membership name arity || is_reified name arity)
+is_kept_from_patterns name arity = is_assignment name arity || is_membership name arity
 
 -- what may stand as a pattern; inside `$` each call is a structure, and a range a compound
 abbrev pub is_pattern_node : Bool → ExpTree → Bool
@@ -119,7 +119,7 @@ has_bad_events s = are_bad_events (head_of (clause_of s)) (shape_events s)
 
 -- ---- goals and expressions, node by node
 
--- a node that is no expression: a conjunction, a disjunction, an arrow, a choice, a loop, `not`, `once`, a relation
+-- a node that is no expression: a conjunction, a disjunction, an arrow, a choice, a loop, `not`, `once`, a relation, a sign between constraints
 abbrev pub is_goal_node : ExpTree → Bool
 is_goal_node (call name es) = is_goal_call name (exp_count es)
 is_goal_node (and es) = true
@@ -138,6 +138,11 @@ is_expression_node (atom name) = false
 is_expression_node (call name es) = is_expression_call name (exp_count es)
 is_expression_node e = not (is_goal_node e)
 
+-- a relation of constraints, or a sign between them
+abbrev pub is_boolean_node : ExpTree → Bool
+is_boolean_node (call name es) = is_boolean_call name (exp_count es)
+is_boolean_node e = false
+
 -- `E in D`
 abbrev pub is_membership_node : ExpTree → Bool
 is_membership_node (call name es) = is_membership name (exp_count es)
@@ -151,11 +156,13 @@ is_no_term (collect is_array e es) = true
 is_no_term e = is_goal_node e
 
 -- A goal stands where an expression must, or the reverse; `in` stands where no iterator does; what is no term stands inside `$`;
--- what is no pattern stands on the left of `in`.
+-- what is no pattern stands on the left of `in`. Between the signs of constraints stand expressions, and of goals those that are relations
+-- of constraints or such signs.
 abbrev pub is_misplaced_at : Place → ExpTree → Bool
 is_misplaced_at (goal assigns) e = is_expression_node e
 is_misplaced_at asked e = false
 is_misplaced_at expression e = is_goal_node e || is_membership_node e
+is_misplaced_at operand e = (is_goal_node e && not (is_boolean_node e)) || is_membership_node e
 is_misplaced_at iterator e = is_expression_node e && not (is_membership_node e)
 is_misplaced_at term e = is_no_term e
 is_misplaced_at (pattern quoted) e = not (is_pattern_node quoted e)
@@ -187,14 +194,6 @@ is_misassigned_at p e = false
 abbrev pub is_misassigned : Placed → Bool
 is_misassigned n = is_misassigned_at n.place n.node
 
--- a sign between constraints stands there; none is there so far
-abbrev pub is_reified_at : Place → ExpTree → Bool
-is_reified_at p (call name es) = is_evaluated p && is_reified name (exp_count es)
-is_reified_at p e = false
-
-abbrev pub is_reified_node : Placed → Bool
-is_reified_node n = is_reified_at n.place n.node
-
 -- `V@P` stands where no pattern does
 abbrev pub is_stray_at : Place → ExpTree → Bool
 is_stray_at (pattern quoted) e = false
@@ -220,9 +219,6 @@ misplaces nodes = list_any is_misplaced nodes
 unfoldable pub misassigns : List Placed → Bool
 misassigns nodes = list_any is_misassigned nodes
 
-unfoldable pub reifies : List Placed → Bool
-reifies nodes = list_any is_reified_node nodes
-
 unfoldable pub has_stray_at : List Placed → Bool
 has_stray_at nodes = list_any is_stray nodes
 
@@ -231,4 +227,4 @@ lacks_goal nodes = list_any is_no_goal nodes
 
 -- any of these
 abbrev pub are_bad_nodes : List Placed → Bool
-are_bad_nodes nodes = misplaces nodes || (misassigns nodes || (reifies nodes || (has_stray_at nodes || lacks_goal nodes)))
+are_bad_nodes nodes = misplaces nodes || (misassigns nodes || (has_stray_at nodes || lacks_goal nodes))

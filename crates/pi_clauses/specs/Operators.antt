@@ -22,6 +22,11 @@ is_relation name arity =
     ∷ codes ">" ∷ codes ">=" ∷ codes "@<" ∷ codes "@=<" ∷ codes "@>" ∷ codes "@>=" ∷ codes ":=" ∷ codes "::" ∷ codes "notin" ∷ codes "#="
     ∷ codes "#!=" ∷ codes "#<" ∷ codes "#=<" ∷ codes "#<=" ∷ codes "#>" ∷ codes "#>=" ∷ []) name
 
+-- the relations of constraints
+unfoldable pub is_constraint : List ℕ → ℕ → Bool
+is_constraint name arity =
+    arity == 2 && is_one_of (codes "#=" ∷ codes "#!=" ∷ codes "#<" ∷ codes "#=<" ∷ codes "#<=" ∷ codes "#>" ∷ codes "#>=" ∷ []) name
+
 -- the signs between constraints
 unfoldable pub is_reified : List ℕ → ℕ → Bool
 is_reified name arity =
@@ -39,12 +44,16 @@ is_arithmetic name arity =
 -- any sign of the grammar with as many operands as it has there
 unfoldable pub is_operator : List ℕ → ℕ → Bool
 is_operator name arity =
-    ((is_goal_sign name arity || is_relation name arity) || is_membership name arity) || (is_reified name arity || is_arithmetic name arity)
+    (is_goal_sign name arity || (is_relation name arity || is_reified name arity)) || (is_membership name arity || is_arithmetic name arity)
 
 -- what the language calls a goal, and no expression
 abbrev pub is_goal_call : List ℕ → ℕ → Bool
-is_goal_call name arity = is_goal_sign name arity || is_relation name arity
+is_goal_call name arity = is_goal_sign name arity || (is_relation name arity || is_reified name arity)
 
 -- and an expression, and no goal
 abbrev pub is_expression_call : List ℕ → ℕ → Bool
-is_expression_call name arity = is_membership name arity || (is_reified name arity || is_arithmetic name arity)
+is_expression_call name arity = is_membership name arity || is_arithmetic name arity
+
+-- a goal that may be an operand of a sign between constraints
+abbrev pub is_boolean_call : List ℕ → ℕ → Bool
+is_boolean_call name arity = is_reified name arity || is_constraint name arity

@@ -1,12 +1,12 @@
--- The nodes of a clause's expressions, each with the place at which it stands: as a goal, as an expression whose value is taken, inside
--- `$`, as a pattern, or behind `foreach` and in a comprehension. In the order of the text: a node before what stands in it. (Own; the
+-- The nodes of a clause's expressions, each with the place at which it stands: as a goal, as an expression whose value is taken, between the
+-- signs of constraints, inside `$`, as a pattern, or behind `foreach` and in a comprehension. In the order of the text: a node before what stands in it. (Own; the
 -- forms are those of A User's Guide to Picat, 'Predicates and Functions' and 'Assignments and Loops'.)
 use Rattle.std.specs.Prelude.{ℕ, suc, Bool, true, false, ◌&&◌, ◌||◌, ◌==◌, if◌then◌else◌, List, [], ◌∷◌, ◌++◌, Option, Some, None, codes}
 use Rattle.std.specs.Str.{bytes_eq}
 use Rattle.pi_syntax.specs.ExpTree.{ExpTree, var, int, atom, str, list, list_onto, array, call, quote, index, range, range_by, at, collect, and, or, arrow, if_then, if_else, foreach, while_do, do_while, ExpTrees, no_exps, exp, ExpBranches, no_branches, branch}
 use Rattle.pi_syntax.specs.ProgramTree.{WrittenClause, rule, function, fact}
 use Rattle.pi_syntax.specs.Signature.{exp_count}
-use Rattle.pi_clauses.specs.Operators.{is_goal_sign, is_membership}
+use Rattle.pi_clauses.specs.Operators.{is_goal_sign, is_membership, is_reified}
 
 pub data Place : Type 0 where
   -- a goal; the flag says whether `:=` may stand there
@@ -15,6 +15,8 @@ pub data Place : Type 0 where
   asked : Place
   -- an expression
   expression : Place
+  -- an operand of a sign between constraints
+  operand : Place
   -- an iterator or a test of a loop or a comprehension
   iterator : Place
   -- inside `$`
@@ -48,7 +50,7 @@ body p = goal false
 abbrev pub test : Place
 test = goal false
 
--- the places of the arguments of a call that is no term: which argument of which call is a goal, and which a pattern
+-- the places of the arguments of a call that is no term: which argument of which call is a goal, which a pattern, and which an operand
 abbrev pub is_asked : List ℕ → ℕ → ℕ → Bool
 is_asked name arity i =
     is_goal_sign name arity
@@ -60,6 +62,7 @@ abbrev pub called : List ℕ → ℕ → ℕ → Place
 called name arity i =
     if is_asked name arity i then asked
     else if is_membership name arity && i == 0 then pattern false
+    else if is_reified name arity then operand
     else expression
 
 -- the place of argument i, counted from 0

@@ -4,7 +4,7 @@ use Rattle.std.specs.declared.alloc.Global.{Global}
 use Rattle.std.specs.declared.boxed.Box.{Box}
 use Rattle.pi_syntax.specs.ExpTree.{ExpTree, ExpBranches, no_branches, branch, exp_tree}
 use Rattle.pi_syntax.specs.declared.exp.Exp.{Exp}
-use Rattle.pi_clauses.specs.Places.{Place, goal, asked, expression, iterator, term, pattern, Placed, placed_at, placed}
+use Rattle.pi_clauses.specs.Places.{Place, goal, asked, expression, operand, iterator, term, pattern, Placed, placed_at, placed}
 use Rattle.pi_clauses.specs.declared.nodes.place.Place.{Place as CodePlace}
 use Rattle.pi_clauses.specs.declared.nodes.place.Place.TheVariants as code
 use Rattle.pi_clauses.specs.declared.nodes.walk.Node.{Node}
@@ -15,6 +15,7 @@ abbrev pub shown_place : CodePlace → Place
 shown_place (code.Goal assigns) = goal assigns
 shown_place code.Asked = asked
 shown_place code.Expression = expression
+shown_place code.Operand = operand
 shown_place code.Iterator = iterator
 shown_place code.Term = term
 shown_place (code.Pattern quoted) = pattern quoted

@@ -67,6 +67,7 @@ function_rows =
     row (codes "fd_dom") 1 1 ∷
     row (codes "find_all") 2 2 ∷
     row (codes "count_all") 1 1 ∷
+    row (codes "current_resource") 0 0 ∷
     []
 
 -- signs and names of predicates: relations, tests, control, output, constraints, labelling and planning
@@ -118,7 +119,14 @@ predicate_rows =
     row (codes "#<=") 2 2 ∷
     row (codes "#>") 2 2 ∷
     row (codes "#>=") 2 2 ∷
+    row (codes "#~") 1 1 ∷
+    row (codes "#/\\") 2 2 ∷
+    row (codes "#\\/") 2 2 ∷
+    row (codes "#^") 2 2 ∷
+    row (codes "#=>") 2 2 ∷
+    row (codes "#<=>") 2 2 ∷
     row (codes "all_different") 1 1 ∷
+    row (codes "all_distinct") 1 1 ∷
     row (codes "element") 3 3 ∷
     row (codes "solve") 1 2 ∷
     row (codes "plan") 2 4 ∷

@@ -4,7 +4,7 @@
 pub(crate) type Row = (&'static str, u32, u32);
 
 /// Functions.
-pub(crate) const FUNCTIONS: [Row; 49] = [
+pub(crate) const FUNCTIONS: [Row; 50] = [
     ("+", 1, 2),
     ("-", 1, 2),
     ("*", 2, 2),
@@ -54,10 +54,11 @@ pub(crate) const FUNCTIONS: [Row; 49] = [
     ("fd_dom", 1, 1),
     ("find_all", 2, 2),
     ("count_all", 1, 1),
+    ("current_resource", 0, 0),
 ];
 
 /// Predicates that no rules define.
-pub(crate) const PREDICATES: [Row; 51] = [
+pub(crate) const PREDICATES: [Row; 58] = [
     ("=", 2, 2),
     ("!=", 2, 2),
     ("==", 2, 2),
@@ -104,7 +105,14 @@ pub(crate) const PREDICATES: [Row; 51] = [
     ("#<=", 2, 2),
     ("#>", 2, 2),
     ("#>=", 2, 2),
+    ("#~", 1, 1),
+    ("#/\\", 2, 2),
+    ("#\\/", 2, 2),
+    ("#^", 2, 2),
+    ("#=>", 2, 2),
+    ("#<=>", 2, 2),
     ("all_different", 1, 1),
+    ("all_distinct", 1, 1),
     ("element", 3, 3),
     ("solve", 1, 2),
     ("plan", 2, 4),

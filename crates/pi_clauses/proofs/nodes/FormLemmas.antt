@@ -4,11 +4,11 @@ use Rattle.std.specs.List.{list_any}
 use Rattle.pi_syntax.specs.ExpTree.{ExpTree, var, call, no_exps, exp}
 use Rattle.pi_syntax.specs.Signature.{exp_count}
 use Rattle.pi_clauses.specs.Operators.{is_assignment}
-use Rattle.pi_clauses.specs.Places.{Place, goal, asked, expression, iterator, term, pattern, Placed}
-use Rattle.pi_clauses.specs.Items.{is_head, is_variable, is_event, is_event_of_one, is_event_of_two, breaks_pattern_at, is_variable_of, is_misplaced_at, is_misassigned_at, is_reified_at, is_stray_at, is_no_goal_at, are_bad_nodes, misplaces, misassigns, reifies, has_stray_at, lacks_goal, is_misplaced, is_misassigned, is_reified_node, is_stray, is_no_goal, occurs_in_head}
+use Rattle.pi_clauses.specs.Places.{Place, goal, asked, expression, operand, iterator, term, pattern, Placed}
+use Rattle.pi_clauses.specs.Items.{is_head, is_variable, is_event, is_event_of_one, is_event_of_two, breaks_pattern_at, is_variable_of, is_misplaced_at, is_misassigned_at, is_stray_at, is_no_goal_at, are_bad_nodes, misplaces, misassigns, has_stray_at, lacks_goal, is_misplaced, is_misassigned, is_stray, is_no_goal, occurs_in_head}
 use Rattle.pi_clauses.specs.Calls.{calls_at}
 use Rattle.pi_clauses.specs.Called.{calls_of_form}
-use Rattle.pi_clauses.specs.Form.{form_of, is_head_form, is_misplaced_form, is_misassigned_form, is_reified_form, is_stray_form, is_no_goal_form, is_bad_form, is_bad_node, breaks_pattern_form, is_variable_form, is_variable_alone, is_event_of_one_form, is_event_of_two_form, is_event_form}
+use Rattle.pi_clauses.specs.Form.{form_of, is_head_form, is_misplaced_form, is_misassigned_form, is_stray_form, is_no_goal_form, is_bad_form, is_bad_node, breaks_pattern_form, is_variable_form, is_variable_alone, is_event_of_one_form, is_event_of_two_form, is_event_form}
 
 pub head_by_form : (e : ExpTree) → is_head e ≡ is_head_form (form_of e)
 head_by_form (var name) = refl
@@ -29,6 +29,8 @@ misplaced_by_form (goal assigns) _ = refl
 misplaced_by_form asked e = refl
 misplaced_by_form expression (var name) = refl
 misplaced_by_form expression _ = refl
+misplaced_by_form operand (var name) = refl
+misplaced_by_form operand _ = refl
 misplaced_by_form iterator (var name) = refl
 misplaced_by_form iterator _ = refl
 misplaced_by_form term (var name) = refl
@@ -42,10 +44,6 @@ misassigned_by_form p (call name no_exps) = refl
 misassigned_by_form p (call name (exp x es)) = refl
 misassigned_by_form p _ = refl
 
-reified_by_form : (p : Place) (e : ExpTree) → is_reified_at p e ≡ is_reified_form p (form_of e)
-reified_by_form p (var name) = refl
-reified_by_form p _ = refl
-
 stray_by_form : (p : Place) (e : ExpTree) → is_stray_at p e ≡ is_stray_form p (form_of e)
 stray_by_form (pattern quoted) e = refl
 stray_by_form (goal assigns) (var name) = refl
@@ -54,6 +52,8 @@ stray_by_form asked (var name) = refl
 stray_by_form asked _ = refl
 stray_by_form expression (var name) = refl
 stray_by_form expression _ = refl
+stray_by_form operand (var name) = refl
+stray_by_form operand _ = refl
 stray_by_form iterator (var name) = refl
 stray_by_form iterator _ = refl
 stray_by_form term (var name) = refl
@@ -86,14 +86,14 @@ event_by_form head (call name (exp x (exp t no_exps))) = of_two_by_form head nam
 event_by_form head (call name (exp x (exp t (exp u es)))) = refl
 event_by_form head _ = refl
 
--- ---- any of the five
+-- ---- any of the four
 
-all_five : (a b c d e v w x y z : Bool) → a ≡ v → b ≡ w → c ≡ x → d ≡ y → e ≡ z → (a || (b || (c || (d || e)))) ≡ (v || (w || (x || (y || z))))
-all_five a b c d e v w x y z h i j k l = rw (h, i, j, k, l) refl
+all_four : (a b c d v w x y : Bool) → a ≡ v → b ≡ w → c ≡ x → d ≡ y → (a || (b || (c || d))) ≡ (v || (w || (x || y)))
+all_four a b c d v w x y h i j k = rw (h, i, j, k) refl
 
 pub bad_by_form : (p : Place) (e : ExpTree)
-    → (is_misplaced_at p e || (is_misassigned_at p e || (is_reified_at p e || (is_stray_at p e || is_no_goal_at p e)))) ≡ is_bad_form p (form_of e)
-bad_by_form p e = all_five _ _ _ _ _ _ _ _ _ _ (misplaced_by_form p e) (misassigned_by_form p e) (reified_by_form p e) (stray_by_form p e) (no_goal_by_form p e)
+    → (is_misplaced_at p e || (is_misassigned_at p e || (is_stray_at p e || is_no_goal_at p e))) ≡ is_bad_form p (form_of e)
+bad_by_form p e = all_four _ _ _ _ _ _ _ _ (misplaced_by_form p e) (misassigned_by_form p e) (stray_by_form p e) (no_goal_by_form p e)
 
 pub calls_by_form : (p : Place) (e : ExpTree) → calls_at p e ≡ calls_of_form p (form_of e)
 calls_by_form (goal assigns) (var name) = refl
@@ -102,6 +102,8 @@ calls_by_form asked (var name) = refl
 calls_by_form asked _ = refl
 calls_by_form expression (var name) = refl
 calls_by_form expression _ = refl
+calls_by_form operand (var name) = refl
+calls_by_form operand _ = refl
 calls_by_form iterator (var name) = refl
 calls_by_form iterator _ = refl
 calls_by_form term e = refl
@@ -124,11 +126,10 @@ or_any : (p q : Placed → Bool) (ns : List Placed) (b : Bool) → b ≡ list_an
 or_any p q ns b h = ap (λ x. list_any p ns || x) h ∙ any_of_two p q ns
 
 pub bad_nodes : (ns : List Placed) → are_bad_nodes ns ≡ list_any is_bad_node ns
-unfolding misplaces misassigns reifies has_stray_at lacks_goal
+unfolding misplaces misassigns has_stray_at lacks_goal
 bad_nodes ns =
-    or_any is_misplaced (λ n. is_misassigned n || (is_reified_node n || (is_stray n || is_no_goal n))) ns _
-    (or_any is_misassigned (λ n. is_reified_node n || (is_stray n || is_no_goal n)) ns _
-    (or_any is_reified_node (λ n. is_stray n || is_no_goal n) ns _ (any_of_two is_stray is_no_goal ns)))
+    or_any is_misplaced (λ n. is_misassigned n || (is_stray n || is_no_goal n)) ns _
+    (or_any is_misassigned (λ n. is_stray n || is_no_goal n) ns _ (any_of_two is_stray is_no_goal ns))
 
 -- a node that isn't it is left behind
 pub any_behind : (p : Placed → Bool) (old new : List Placed) (n : Placed) (whole : Bool) → old ≡ n ∷ new → p n ≡ false → list_any p old ≡ whole → list_any p new ≡ whole

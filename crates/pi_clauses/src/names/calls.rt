@@ -3,12 +3,13 @@ ghost use Rattle.std.specs.Prelude.{◌≡◌, ◌∷◌, [], true, IfOk, MatchO
 ghost use Rattle.pi_syntax.specs.ExpTree.{exp_tree};
 ghost use Rattle.pi_syntax.specs.ProgramTree.{written_clause};
 ghost use Rattle.pi_clauses.specs.Calls.{is_planner_call, goal_calls, node_calls, calls_among};
-ghost use Rattle.pi_clauses.specs.Called.{named_by, shown_calls, calls_ahead, calls_of_goal_form, calls_of_expression_form, calls_of_form};
+ghost use Rattle.pi_clauses.specs.Called.{named_by, shown_calls, calls_ahead, calls_of_goal_form, calls_of_expression_form, calls_of_operand_form, calls_of_form};
 ghost use Rattle.pi_clauses.specs.Form.{shown_form};
 ghost use Rattle.pi_clauses.specs.Places.{goal, placed, clause_placed};
 ghost use Rattle.pi_clauses.specs.Walk.{shown_place, shown_node};
 
 use crate::nodes::form::Form;
+use crate::nodes::operators::is_boolean_call;
 use crate::nodes::place::Place;
 use crate::nodes::walk::{Node, Walk};
 use pi_lib::is_form;
@@ -126,6 +127,7 @@ fn calls_of_form(place: Place, form: Form<'_>) -> NodeCalls<'_>
         Place::Asked => calls_of_goal(form),
         Place::Iterator => calls_of_goal(form),
         Place::Expression => calls_of_expression(form),
+        Place::Operand => calls_of_operand(form),
         Place::Term => NodeCalls::Nothing,
         Place::Pattern { .. } => NodeCalls::Nothing,
     }
@@ -150,6 +152,20 @@ fn calls_of_expression(form: Form<'_>) -> NodeCalls<'_>
             name,
             arity,
             is_function: true,
+        }),
+        _ => NodeCalls::Nothing,
+    }
+}
+
+/// Between the signs of constraints a relation of constraints and such a sign are called as goals.
+fn calls_of_operand(form: Form<'_>) -> NodeCalls<'_>
+    ensures { shown_calls result ≡ calls_of_operand_form (shown_form form.entry) }
+{
+    match form {
+        Form::Call { name, arity, .. } => NodeCalls::One(Called {
+            name,
+            arity,
+            is_function: !is_boolean_call(name, arity),
         }),
         _ => NodeCalls::Nothing,
     }

@@ -2,11 +2,11 @@
 ghost use Rattle.std.specs.Prelude.{◌≡◌};
 ghost use Rattle.pi_syntax.specs.ExpTree.{exp_tree};
 ghost use Rattle.pi_syntax.specs.ExpLists.{exps_of};
-ghost use Rattle.pi_clauses.specs.Form.{form_of, shown_form, has_variable_first, is_head_form, is_pattern_form, is_goal_form, is_expression_form, is_membership_form, is_no_term_form, is_variable_form, is_variable_alone};
+ghost use Rattle.pi_clauses.specs.Form.{form_of, shown_form, has_variable_first, is_head_form, is_pattern_form, is_goal_form, is_expression_form, is_boolean_form, is_membership_form, is_no_term_form, is_variable_form, is_variable_alone};
 ghost use Rattle.pi_clauses.specs.Items.{is_kept_from_patterns, is_variable};
 
 use crate::nodes::operators::{
-    is_assignment, is_expression_call, is_goal_call, is_membership, is_operator, is_reified,
+    is_assignment, is_boolean_call, is_expression_call, is_goal_call, is_membership, is_operator,
 };
 use pi_syntax::Exp;
 
@@ -111,6 +111,16 @@ impl<'a> Form<'a> {
         }
     }
 
+    /// Whether it is a relation of constraints, or a sign between them.
+    pub(crate) fn is_boolean(self) -> bool
+        ensures { result ≡ is_boolean_form (shown_form self.entry) }
+    {
+        match self {
+            Form::Call { name, arity, .. } => is_boolean_call(name, arity),
+            _ => false,
+        }
+    }
+
     /// Whether it is `E in D`.
     pub(crate) fn is_membership(self) -> bool
         ensures { result ≡ is_membership_form (shown_form self.entry) }
@@ -173,5 +183,5 @@ fn is_variable(exp: &Exp) -> bool
 fn is_kept_from_patterns(name: &str, arity: usize) -> bool
     ensures { result ≡ is_kept_from_patterns name.now arity }
 {
-    is_assignment(name, arity) || is_membership(name, arity) || is_reified(name, arity)
+    is_assignment(name, arity) || is_membership(name, arity)
 }

@@ -3,7 +3,7 @@
 ghost use Rattle.std.specs.Prelude.{◌≡◌, ◌&&◌, ◌==◌};
 ghost use Rattle.pi_clauses.specs.Words.{words_shown};
 ghost use Rattle.pi_syntax.specs.Tokens.{is_one_of};
-ghost use Rattle.pi_clauses.specs.Operators.{is_goal_sign, is_assignment, is_membership, is_relation, is_reified, is_arithmetic, is_operator, is_goal_call, is_expression_call};
+ghost use Rattle.pi_clauses.specs.Operators.{is_goal_sign, is_assignment, is_membership, is_relation, is_constraint, is_reified, is_arithmetic, is_operator, is_goal_call, is_expression_call, is_boolean_call};
 
 const GOAL_SIGNS: [&str; 2] = ["not", "once"];
 
@@ -12,6 +12,9 @@ const RELATIONS: [&str; 25] = [
     "=", "!=", "==", "!==", "=:=", "=\\=", "<", "=<", "<=", ">", ">=", "@<", "@=<", "@>", "@>=",
     ":=", "::", "notin", "#=", "#!=", "#<", "#=<", "#<=", "#>", "#>=",
 ];
+
+/// The relations of constraints.
+const CONSTRAINTS: [&str; 7] = ["#=", "#!=", "#<", "#=<", "#<=", "#>", "#>="];
 
 /// The signs between two constraints.
 const REIFIED: [&str; 5] = ["#/\\", "#\\/", "#^", "#=>", "#<=>"];
@@ -68,6 +71,14 @@ fn is_relation(name: &str, arity: usize) -> bool
     arity == 2 && is_among(&RELATIONS, name)
 }
 
+/// Whether it is a relation of constraints.
+#[tactic(auto, unfolding(crate::specs::Operators::is_constraint))]
+fn is_constraint(name: &str, arity: usize) -> bool
+    ensures { result ≡ is_constraint name.now arity }
+{
+    arity == 2 && is_among(&CONSTRAINTS, name)
+}
+
 /// Whether it is a sign between constraints.
 #[tactic(auto, unfolding(crate::specs::Operators::is_reified))]
 pub(crate) fn is_reified(name: &str, arity: usize) -> bool
@@ -98,12 +109,19 @@ pub(crate) fn is_operator(name: &str, arity: usize) -> bool
 pub(crate) fn is_goal_call(name: &str, arity: usize) -> bool
     ensures { result ≡ is_goal_call name.now arity }
 {
-    is_goal_sign(name, arity) || is_relation(name, arity)
+    is_goal_sign(name, arity) || is_relation(name, arity) || is_reified(name, arity)
 }
 
 /// Whether it is a sign that makes an expression, and no goal.
 pub(crate) fn is_expression_call(name: &str, arity: usize) -> bool
     ensures { result ≡ is_expression_call name.now arity }
 {
-    is_membership(name, arity) || is_reified(name, arity) || is_arithmetic(name, arity)
+    is_membership(name, arity) || is_arithmetic(name, arity)
+}
+
+/// Whether it makes a goal that may be an operand of a sign between constraints.
+pub(crate) fn is_boolean_call(name: &str, arity: usize) -> bool
+    ensures { result ≡ is_boolean_call name.now arity }
+{
+    is_reified(name, arity) || is_constraint(name, arity)
 }

@@ -3,7 +3,7 @@ ghost use Rattle.std.specs.Prelude.{◌≡◌};
 ghost use Rattle.pi_clauses.specs.Places.{inside, quoted, body, argument, is_asked, called};
 ghost use Rattle.pi_clauses.specs.Walk.{shown_place};
 
-use crate::nodes::operators::{is_goal_sign, is_membership};
+use crate::nodes::operators::{is_goal_sign, is_membership, is_reified};
 
 /// The place at which a node of a clause stands (own).
 #[derive(Clone, Copy)]
@@ -14,6 +14,8 @@ pub(crate) enum Place {
     Asked,
     /// As an expression, whose value is taken.
     Expression,
+    /// As an operand of a sign between constraints.
+    Operand,
     /// As an iterator or a test of a loop or a comprehension.
     Iterator,
     /// Inside `$`.
@@ -77,6 +79,8 @@ fn called(name: &str, arity: usize, i: usize) -> Place
         Place::Asked
     } else if is_membership(name, arity) && i == 0 {
         Place::Pattern { quoted: false }
+    } else if is_reified(name, arity) {
+        Place::Operand
     } else {
         Place::Expression
     }

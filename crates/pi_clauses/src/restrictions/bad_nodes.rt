@@ -4,13 +4,13 @@ ghost use Rattle.std.specs.Prelude.{◌≡◌, true, IfOk};
 ghost use Rattle.std.specs.List.{list_any};
 ghost use Rattle.pi_syntax.specs.ExpTree.{exp_tree};
 ghost use Rattle.pi_syntax.specs.ProgramTree.{written_clause};
-ghost use Rattle.pi_clauses.specs.Form.{shown_form, is_bad_node, is_bad_form, is_misplaced_form, is_misassigned_form, is_reified_form, is_stray_form, is_no_goal_form};
+ghost use Rattle.pi_clauses.specs.Form.{shown_form, is_bad_node, is_bad_form, is_misplaced_form, is_misassigned_form, is_stray_form, is_no_goal_form};
 ghost use Rattle.pi_clauses.specs.Items.{are_bad_nodes, is_evaluated, allows_assignment};
 ghost use Rattle.pi_clauses.specs.Places.{goal, placed, clause_placed};
 ghost use Rattle.pi_clauses.specs.Walk.{shown_place, shown_node, nodes_ahead};
 
 use crate::nodes::form::{Form, has_variable_first};
-use crate::nodes::operators::{is_assignment, is_reified};
+use crate::nodes::operators::is_assignment;
 use crate::nodes::place::Place;
 use crate::nodes::walk::{Node, Walk};
 use pi_syntax::{Clause, Exp};
@@ -57,7 +57,6 @@ fn is_bad_form(place: Place, form: Form) -> bool
 {
     is_misplaced(place, form)
         || is_misassigned(place, form)
-        || is_reified_there(place, form)
         || is_stray(place, form)
         || is_no_goal(place, form)
 }
@@ -71,6 +70,7 @@ fn is_misplaced(place: Place, form: Form) -> bool
         Place::Goal { .. } => form.is_expression(),
         Place::Asked => false,
         Place::Expression => form.is_goal() || form.is_membership(),
+        Place::Operand => (form.is_goal() && !form.is_boolean()) || form.is_membership(),
         Place::Iterator => form.is_expression() && !form.is_membership(),
         Place::Term => form.is_no_term(),
         Place::Pattern { quoted } => !form.is_pattern(quoted),
@@ -87,16 +87,6 @@ fn is_misassigned(place: Place, form: Form) -> bool
                 && is_evaluated(place)
                 && !(allows_assignment(place) && has_variable_first(args))
         }
-        _ => false,
-    }
-}
-
-/// Whether it is a sign between constraints.
-fn is_reified_there(place: Place, form: Form) -> bool
-    ensures { result ≡ is_reified_form (shown_place place) (shown_form form.entry) }
-{
-    match form {
-        Form::Call { name, arity, .. } => is_evaluated(place) && is_reified(name, arity),
         _ => false,
     }
 }
