@@ -27,7 +27,14 @@ later_predicates =
     with_arity (codes "#<=") 2 ∷
     with_arity (codes "#>") 2 ∷
     with_arity (codes "#>=") 2 ∷
+    with_arity (codes "#~") 1 ∷
+    with_arity (codes "#/\\") 2 ∷
+    with_arity (codes "#\\/") 2 ∷
+    with_arity (codes "#^") 2 ∷
+    with_arity (codes "#=>") 2 ∷
+    with_arity (codes "#<=>") 2 ∷
     with_arity (codes "all_different") 1 ∷
+    with_arity (codes "all_distinct") 1 ∷
     with_arity (codes "element") 3 ∷
     with_arity (codes "solve") 1 ∷
     with_arity (codes "solve") 2 ∷

@@ -19,7 +19,7 @@ use Rattle.pi_effects.specs.BuiltIns.{reading_functions, is_function, tests, oth
 use Rattle.pi_syntax.specs.Tokens.{is_one_of}
 use Rattle.pi_syntax.specs.ProgramTree.{RuleTree}
 use Rattle.pi_syntax.specs.Signature.{Signature, exp_count}
-use Rattle.pi_meaning.specs.Names.{later_predicates, is_later_predicate, is_later_function, is_catch, is_call}
+use Rattle.pi_meaning.specs.Names.{later_predicates, is_later_predicate, is_later_function, is_resource, is_catch, is_call}
 use Rattle.pi_meaning.specs.WrittenRules.{rules_of, is_rule_of}
 use Rattle.pi_lib.specs.Names.{function_rows, predicate_rows, prelude_rows, is_listed, kind_of}
 use Rattle.pi_lib.specs.Forms.{is_form}
@@ -67,7 +67,8 @@ function-listed name k found =
     one-of (is_function name k && not (is_unwritten name k)) _ (a-function name k)
     (λ h. let parts = and_parts (is_function name k) (not (is_unwritten name k)) h in one-written (a-function name k) (is_unwritten name k) (lines-written name k parts.0) parts.1)
     (one-of (is_later_function name k) _ (a-function name k) (later-listed name k)
-    (one-of (is_find_all name k) (is_count_all name k) (a-function name k) (λ h. spelled a-function name (codes "find_all") k 2 h refl) (λ h. spelled a-function name (codes "count_all") k 1 h refl))) found
+    (one-of (is_resource name k) _ (a-function name k) (λ h. spelled a-function name (codes "current_resource") k 0 h refl)
+    (one-of (is_find_all name k) (is_count_all name k) (a-function name k) (λ h. spelled a-function name (codes "find_all") k 2 h refl) (λ h. spelled a-function name (codes "count_all") k 1 h refl)))) found
 
 function-means : (name : List ℕ) (k : ℕ) → is_listed function_rows name k ≡ true → means_function name k ≡ true
 unfolding function_rows each-row each-from is_function reading_functions integer_functions collection_functions sorting_functions index_functions range_functions naming_functions text_functions making_functions has_line is_later_function

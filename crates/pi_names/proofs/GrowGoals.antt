@@ -13,7 +13,7 @@ use Rattle.pi_names.specs.Texts.{Names, places, places_all, places_behind, place
 use Rattle.pi_meaning.specs.Given.{Setting, LaterOnlyAdds}
 use Rattle.pi_names.specs.Control.{Goal, Values, nothing, made_of, applied_to, all_found, all_counted, goal_at, value_at}
 use Rattle.pi_names.specs.Loops.{Finish, as_it_is, hidden, in_order}
-use Rattle.pi_names.specs.Forms.{Form, negation, once, assignment, catch, by_term, membership, form_of, Parts, call_goal, atom_goal, Reading, plain, operand, ranged, readings, first_reading, later_readings, is_operand_node, is_sum, operand_readings, function_value, call_value, range_value}
+use Rattle.pi_names.specs.Forms.{Form, negation, once, assignment, catch, by_term, membership, form_of, Parts, call_goal, atom_goal, Reading, plain, operand, boolean, ranged, readings, first_reading, later_readings, is_operand_node, is_sum, is_connective, is_constraint, operand_readings, function_value, call_value, range_value}
 use Rattle.pi_names.specs.Goals.{value_of, values_of, values_in, values_apart, goals_in, goal_of, all_of, any_of, arrow_in, branches_of, units_of, collection_of}
 use Rattle.pi_meaning.proofs.CallLemmas.{cond-below}
 use Rattle.pi_names.proofs.GrowControl.{Grows, stays, draining-grows, front-grows, made-grows, onto-grows, applied-grows, found-grows, counted-grows, called-grows, calling-grows, following-grows, choosing-grows, denying-grows, once-grows, assigning-grows, catching-grows, ArrowGrows, no_arrow, an_arrow, branch-grows, AllGrow, goal-at-grows, value-at-grows}
@@ -63,11 +63,14 @@ call-value-grows set plain name k parts h = function-grows set name k parts h
 call-value-grows set ranged name k parts h = function-grows set name k parts h
 call-value-grows set operand name k parts h =
     either-grows (is_operand_node name k || is_sum name k) (made_of (comp name) parts.all) (function_value set name k parts) (made-grows (comp name) parts.all h.all) (function-grows set name k parts h)
+call-value-grows set boolean name k parts h =
+    either-grows (is_connective name k || is_constraint name k) (made_of (comp name) parts.all) (function_value set name k parts) (made-grows (comp name) parts.all h.all) (function-grows set name k parts h)
 
 range-grows : (set : Setting) (r : Reading) (vs : Values) → Grows vs → Grows (range_value set r vs)
 unfolding range_value
 range-grows set plain vs h = applied-grows set (codes "..") vs h
 range-grows set operand vs h = applied-grows set (codes "..") vs h
+range-grows set boolean vs h = applied-grows set (codes "..") vs h
 range-grows set ranged vs h = made-grows (comp (codes "..")) vs h
 
 mutual

@@ -13,7 +13,7 @@ use Rattle.pi_names.specs.Texts.{Names, places, places_all, places_behind, place
 use Rattle.pi_meaning.specs.Given.{Setting}
 use Rattle.pi_names.specs.Control.{Goal, Values, nothing, made_of, applied_to, all_found, all_counted, goal_at, value_at}
 use Rattle.pi_names.specs.Loops.{Finish, as_it_is, hidden, in_order}
-use Rattle.pi_names.specs.Forms.{Form, negation, once, assignment, catch, by_term, membership, form_of, Parts, call_goal, atom_goal, Reading, plain, operand, ranged, readings, first_reading, later_readings, is_operand_node, is_sum, operand_readings, function_value, call_value, range_value}
+use Rattle.pi_names.specs.Forms.{Form, negation, once, assignment, catch, by_term, membership, form_of, Parts, call_goal, atom_goal, Reading, plain, operand, boolean, ranged, readings, first_reading, later_readings, is_operand_node, is_sum, is_connective, is_constraint, operand_readings, function_value, call_value, range_value}
 use Rattle.pi_names.specs.Goals.{value_of, values_of, values_in, values_apart, goals_in, goal_of, all_of, any_of, arrow_in, branches_of, units_of, collection_of}
 use Rattle.pi_names.specs.OtherNames.{IsOther, AreOther, Lacks, LackAll, LackBranches, AgreeAt, agree_at, OtherNamesChangeNothing}
 use Rattle.pi_names.proofs.OtherEnvironments.{AgreeValued, agree-back, other-append, other-behind, other-kept, lacks-places, lacks-all-places, lacks-behind, lacks-branch-places, lacks-assigned, lacks-unit}
@@ -64,11 +64,14 @@ call-value-steady x set plain name k parts h = function-steady x set name k part
 call-value-steady x set ranged name k parts h = function-steady x set name k parts h
 call-value-steady x set operand name k parts h =
     either-steady x (AgreeValued x) (is_operand_node name k || is_sum name k) (made_of (comp name) parts.all) (function_value set name k parts) (made-steady x (comp name) parts.all h.all) (function-steady x set name k parts h)
+call-value-steady x set boolean name k parts h =
+    either-steady x (AgreeValued x) (is_connective name k || is_constraint name k) (made_of (comp name) parts.all) (function_value set name k parts) (made-steady x (comp name) parts.all h.all) (function-steady x set name k parts h)
 
 range-steady : (x : List ℕ) (set : Setting) (r : Reading) (vs : Values) → SteadyValues x vs → SteadyValue x (range_value set r vs)
 unfolding range_value
 range-steady x set plain vs h = applied-steady x set (codes "..") vs h
 range-steady x set operand vs h = applied-steady x set (codes "..") vs h
+range-steady x set boolean vs h = applied-steady x set (codes "..") vs h
 range-steady x set ranged vs h = made-steady x (comp (codes "..")) vs h
 
 -- a text that lacks the name has iterators whose patterns do

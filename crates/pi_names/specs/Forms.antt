@@ -56,21 +56,32 @@ atom_goal set name l p =
 
 -- ---- arguments
 
--- an expression is evaluated; as an operand of a constraint its sums and products stay as structure; as the right side of `::` and `notin` a range stays as one
+-- an expression is evaluated; as an operand of a constraint its sums and products stay as structure, as an operand of a sign between constraints such signs and relations
+-- of constraints; as the right side of `::` and `notin` a range stays as one
 pub data Reading : Type 0 where
   plain : Reading
   operand : Reading
+  boolean : Reading
   ranged : Reading
 
 abbrev pub is_constraint : List ℕ → ℕ → Bool
 is_constraint name k = k == 2 && is_one_of (codes "#=" ∷ codes "#!=" ∷ codes "#<" ∷ codes "#=<" ∷ codes "#<=" ∷ codes "#>" ∷ codes "#>=" ∷ []) name
+
+-- a sign between constraints
+abbrev pub is_connective : List ℕ → ℕ → Bool
+is_connective name k =
+    (k == 1 && bytes_eq name (codes "#~"))
+    || (k == 2 && is_one_of (codes "#/\\" ∷ codes "#\\/" ∷ codes "#^" ∷ codes "#=>" ∷ codes "#<=>" ∷ []) name)
 
 abbrev pub is_within : List ℕ → ℕ → Bool
 is_within name k = k == 2 && is_one_of (codes "::" ∷ codes "notin" ∷ []) name
 
 -- how the arguments of a goal are read, from the left; those past the list plainly
 unfoldable pub readings : List ℕ → ℕ → List Reading
-readings name k = cond (is_constraint name k) (operand ∷ operand ∷ []) (cond (is_within name k) (plain ∷ ranged ∷ []) [])
+readings name k =
+    cond (is_constraint name k) (operand ∷ operand ∷ [])
+    (cond (is_connective name k) (boolean ∷ boolean ∷ [])
+    (cond (is_within name k) (plain ∷ ranged ∷ []) []))
 
 abbrev pub first_reading : List Reading → Reading
 first_reading [] = plain
@@ -92,6 +103,7 @@ unfoldable pub operand_readings : Reading → List ℕ → ℕ → List Reading
 operand_readings plain name k = []
 operand_readings ranged name k = []
 operand_readings operand name k = cond (is_operand_node name k) (operand ∷ operand ∷ []) []
+operand_readings boolean name k = cond (is_connective name k) (boolean ∷ boolean ∷ []) (cond (is_constraint name k) (operand ∷ operand ∷ []) [])
 
 -- expressions that have a goal in them
 abbrev pub is_find_all : List ℕ → ℕ → Bool
@@ -110,11 +122,13 @@ unfoldable pub call_value : Setting → Reading → List ℕ → ℕ → Parts �
 call_value set plain name k parts = function_value set name k parts
 call_value set ranged name k parts = function_value set name k parts
 call_value set operand name k parts = cond (is_operand_node name k || is_sum name k) (made_of (comp name) parts.all) (function_value set name k parts)
+call_value set boolean name k parts = cond (is_connective name k || is_constraint name k) (made_of (comp name) parts.all) (function_value set name k parts)
 
 -- bounds and step in the order in which they are written
 unfoldable pub range_value : Setting → Reading → Values → Value
 range_value set plain vs = applied_to set (codes "..") vs
 range_value set operand vs = applied_to set (codes "..") vs
+range_value set boolean vs = applied_to set (codes "..") vs
 range_value set ranged vs = made_of (comp (codes "..")) vs
 
 -- one index after the other

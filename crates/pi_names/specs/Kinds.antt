@@ -7,7 +7,7 @@ use Rattle.pi_syntax.specs.ProgramTree.{RuleTree}
 use Rattle.pi_lib.specs.Names.{kind_of}
 use Rattle.pi_lib.specs.declared.builtin.BuiltinKind.{BuiltinKind}
 use Rattle.pi_lib.specs.declared.builtin.BuiltinKind.TheVariants.{Predicate, Function, Prelude}
-use Rattle.pi_meaning.specs.Names.{is_later_predicate, is_later_function, is_catch, is_call}
+use Rattle.pi_meaning.specs.Names.{is_later_predicate, is_later_function, is_resource, is_catch, is_call}
 use Rattle.pi_names.specs.Forms.{is_find_all, is_count_all}
 use Rattle.pi_names.specs.Rules.{rules_named}
 use Rattle.pi_names.specs.Prelude.{prelude}
@@ -16,9 +16,9 @@ use Rattle.pi_names.specs.Prelude.{prelude}
 abbrev pub is_unwritten : List ℕ → ℕ → Bool
 is_unwritten name k = (k == 2 && bytes_eq name index_name) || ((k == 2 || k == 3) && bytes_eq name (codes ".."))
 
--- functions: the others of the tables, those of later stages, and those with a goal in them
+-- functions: the others of the tables, those of later stages, what is left of a limit, and those with a goal in them
 abbrev pub means_function : List ℕ → ℕ → Bool
-means_function name k = (is_function name k && not (is_unwritten name k)) || (is_later_function name k || (is_find_all name k || is_count_all name k))
+means_function name k = (is_function name k && not (is_unwritten name k)) || (is_later_function name k || (is_resource name k || (is_find_all name k || is_count_all name k)))
 
 -- predicates: those of the tables, those of later stages, and calls of terms
 abbrev pub means_predicate : List ℕ → ℕ → Bool
@@ -36,6 +36,6 @@ abbrev pub kind_meant : List ℕ → ℕ → Option BuiltinKind
 kind_meant name k =
     cond (means_function name k) (Some Function) (cond (means_predicate name k) (Some Predicate) (cond (means_prelude name k) (Some Prelude) None))
 
--- Just these names are built in, each as what it means. (`current_resource`, which planning brings, has its meaning and isn't built in yet.)
+-- just these names are built in, each as what it means
 abbrev pub NamesHaveTheirKinds : Type 0
 NamesHaveTheirKinds = (name : List ℕ) (k : ℕ) → kind_of name k ≡ kind_meant name k
