@@ -1,0 +1,4 @@
+pub mod CallLemmas
+pub mod GoalLemmas
+pub mod RuleLemmas
+pub mod BodyLemmas
