@@ -4,6 +4,7 @@ pub mod StableLemmas
 pub mod UniqueLemmas
 pub mod EventLemmas
 pub mod TwiceLemmas
+pub mod SolutionLemmas
 pub mod LoadLemmas
 pub mod AnswerLemmas
 pub mod Examples

@@ -67,6 +67,10 @@ StableStaysStable = (s r : State) → IsState s → IsState r → MaySettle s �
 abbrev pub SettlingTwiceIsOnce : Type 0
 SettlingTwiceIsOnce = (s r : State) → IsState s → IsState r → MaySettle s → IsStable s r → IsSettled r r (one r)
 
+-- a state and its stable state have the same solutions
+abbrev pub SolutionsStay : Type 0
+SolutionsStay = (s r : State) (a : ℕ → ℤ) → IsState s → IsState r → MaySettle s → IsStable s r → Solves s a ↔ Solves r a
+
 -- whether a term leads to a variable is told as it is said
 abbrev pub LeadsAreFollowed : Type 0
 LeadsAreFollowed = (b : Bindings) (t : Tree) (n : ℕ) → IsAcyclic b → IsTrue (leads_to b t n) ↔ LeadsTo b t n
