@@ -1,4 +1,5 @@
 //! Laws of the definitions, each a clause of a function that does nothing.
+ghost use Rattle.pi_rests.specs.NameRestLaws.{NamesIgnoreRests};
 ghost use Rattle.pi_rests.specs.RestLaws.{GoalsIgnoreRests, LevelsIgnoreRests, QueriesIgnoreRests, BodiesIgnoreRests, BestPlansOfPrograms, PlannerCallsIgnoreRests};
 
 /// A goal in which `current_resource` isn't called does the same under views of a planner's bodies that differ in the number of the rest alone, and in a program that isn't by
@@ -15,4 +16,9 @@ pub fn bodies_ignore_rests()
     ensures bodies { BodiesIgnoreRests }
     ensures cheapest { BestPlansOfPrograms }
     ensures calls { PlannerCallsIgnoreRests }
+{}
+
+/// Over names a goal that is asked of a program has the same trace under each rest, where neither the program nor the goal calls `current_resource`.
+pub fn names_ignore_rests()
+    ensures { NamesIgnoreRests }
 {}

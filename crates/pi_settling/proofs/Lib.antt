@@ -5,6 +5,7 @@ pub mod UniqueLemmas
 pub mod EventLemmas
 pub mod TwiceLemmas
 pub mod SolutionLemmas
+pub mod KeepLemmas
 pub mod LoadLemmas
 pub mod AnswerLemmas
 pub mod Examples

@@ -10,7 +10,7 @@ use Rattle.pi_constraints.specs.declared.domain.Span.{Span}
 use Rattle.pi_constraints.specs.Domain.{IsWithinBounds, IsDomain, has_value, size_of}
 use Rattle.pi_constraints.proofs.DomainLemmas.{values_are_within_bounds}
 use Rattle.pi_filters.specs.Solutions.{value_of, Holds}
-use Rattle.pi_states.specs.Value.{Bindings, value}
+use Rattle.pi_states.specs.Value.{Bindings, value, IsAcyclic}
 use Rattle.pi_states.specs.State.{State, Variable, free, within, bound, binding, bindings, next, domain_in, domain_of, followed, IsState}
 use Rattle.pi_states.proofs.FollowLemmas.{followed_value, followed_unbound}
 use Rattle.pi_states.proofs.StateLemmas.{variable, held_is, domain_good}
@@ -19,12 +19,48 @@ use Rattle.pi_settling.specs.Roots.{root_item, item_of, only, domain_or_all, giv
 use Rattle.pi_settling.specs.Stable.{Stays, Narrows, stays_free, stays_bound, some_stay, one_stays, IsStable}
 use Rattle.pi_settling.specs.Solves.{Solves}
 use Rattle.pi_settling.specs.SettlingLaws.{MaySettle, SolutionsStay}
-use Rattle.pi_settling.proofs.RootLemmas.{root-by_value, value_later}
+use Rattle.pi_settling.proofs.RootLemmas.{root-by_value, value_later, Kept, Items, root_later}
 use Rattle.pi_settling.proofs.StableLemmas.{only-has, root-value, settling_keeps_solutions}
-use Rattle.pi_settling.proofs.TwiceLemmas.{past_free, less_or_not, left, ahead, left-given, ahead-some, ahead-one, ahead-integer, ahead-stays, variable-ahead, ahead-given, unbound-root, integer-root, counted, has_in, stays-bounded, within_of, narrowed-within, later-root, stable-keeps}
+use Rattle.pi_settling.proofs.TwiceLemmas.{past_free, less_or_not, left, ahead, left-given, ahead-some, ahead-one, ahead-integer, ahead-stays, variable-ahead, ahead-given, unbound-root, integer-root, counted, has_in, stays-bounded, within_of, narrowed-within, later-root, stable-keeps, stable-items}
 use Rattle.pi_settling.proofs.UniqueLemmas.{domain_made}
+use Rattle.pi_settling.proofs.KeepLemmas.{stable_is_a_state}
 
--- ---- values go by the bindings of the stable state
+-- ---- values go by the bindings behind
+
+-- bindings are kept, and each variable that was unbound leads to its value
+pub record GoesOn (s r : State) (a : ℕ → ℤ) : Type 0 where
+  pub before : IsAcyclic (bindings s)
+  pub after : IsAcyclic (bindings r)
+  pub kept : Kept (bindings s) (bindings r)
+  pub items : Items (bindings s) (bindings r)
+  pub follows : (n : ℕ) → value_of a (root_item s (Item.Var n)) ≡ a n
+  pub unbound : (m : ℕ) → held (bindings s) m ≡ None → value_of a (root_item r (Item.Var m)) ≡ a m
+
+-- a variable that leads to an atom or a compound still does
+term-root : (s r : State) (a : ℕ → ℤ) → GoesOn s r a → (n : ℕ) (u : Tree) → value (bindings s) (var n) ≡ u → ((k : ℕ) → item_of k (instance (λ m. value (bindings r) (var m)) u) ≡ Item.Var k) →
+    root_item r (Item.Var n) ≡ Item.Var n
+unfolding instance
+term-root s r a g n u e same =
+    root-by_value (bindings r) n g.after
+    ∙ (ap (item_of n) (sym (value_later (bindings s) (bindings r) (var n) g.after g.kept) ∙ ap (instance (λ m. value (bindings r) (var m))) e) ∙ same n)
+
+followed-value : (s r : State) (a : ℕ → ℤ) → GoesOn s r a → (n : ℕ) (u : Tree) → followed (bindings s) (var n) ≡ u → root_item s (Item.Var n) ≡ item_of n u →
+    value_of a (root_item r (Item.Var n)) ≡ a n
+unfolding instance
+followed-value s r a g n (var m) e at =
+    ap (value_of a) (sym (root_later s r g.before g.after g.kept g.items (Item.Var n)) ∙ ap (root_item r) at)
+    ∙ (g.unbound m (followed_unbound (bindings s) (var n) m g.before e) ∙ (sym (ap (value_of a) at) ∙ g.follows n))
+followed-value s r a g n (int i) e at =
+    ap (value_of a) (sym (root_later s r g.before g.after g.kept g.items (Item.Var n)) ∙ ap (root_item r) at) ∙ (sym (ap (value_of a) at) ∙ g.follows n)
+followed-value s r a g n (atom name) e at =
+    ap (value_of a) (term-root s r a g n (atom name) (sym (followed_value (bindings s) (var n) g.before) ∙ (ap (value (bindings s)) e ∙ value_atom (bindings s) name)) (λ k. refl))
+followed-value s r a g n (comp name ts) e at =
+    ap (value_of a) (term-root s r a g n (comp name (with_values (bindings s) ts)) (sym (followed_value (bindings s) (var n) g.before) ∙ (ap (value (bindings s)) e ∙ value_comp (bindings s) name ts)) (λ k. refl))
+
+pub root-value_by : (s r : State) (a : ℕ → ℤ) → GoesOn s r a → (n : ℕ) → value_of a (root_item r (Item.Var n)) ≡ a n
+root-value_by s r a g n = followed-value s r a g n (followed (bindings s) (var n)) refl refl
+
+-- ---- in a stable state
 
 -- a variable that is unbound before
 narrowed-value : (s r : State) (a : ℕ → ℤ) → IsState r → IsStable s r → Solves s a → (m : ℕ) (v w : Variable) → Narrows s m v w → variable s m ≡ v → variable r m ≡ w → binding v ≡ None →
@@ -42,29 +78,15 @@ unbound-value s r a is f h m none = elim (less_or_not m (next s)) [
   | inr past ↦ ap (value_of a) (unbound-root r m (ap binding (past_free r m (let e = f.count in omega arith))))
 ]
 
--- a variable that leads to an atom or a compound still does
-term-root : (s r : State) → IsState s → IsState r → IsStable s r → (n : ℕ) (u : Tree) → value (bindings s) (var n) ≡ u → ((k : ℕ) → item_of k (instance (λ m. value (bindings r) (var m)) u) ≡ Item.Var k) →
-    root_item r (Item.Var n) ≡ Item.Var n
-unfolding instance
-term-root s r is is' f n u e same =
-    root-by_value (bindings r) n is'.acyclic
-    ∙ (ap (item_of n) (sym (value_later (bindings s) (bindings r) (var n) is'.acyclic (stable-keeps s r f)) ∙ ap (instance (λ m. value (bindings r) (var m))) e) ∙ same n)
-
-followed-value : (s r : State) (a : ℕ → ℤ) → IsState s → IsState r → IsStable s r → Solves s a → (n : ℕ) (u : Tree) → followed (bindings s) (var n) ≡ u → root_item s (Item.Var n) ≡ item_of n u →
-    value_of a (root_item r (Item.Var n)) ≡ a n
-unfolding instance
-followed-value s r a is is' f h n (var m) e at =
-    ap (value_of a) (sym (later-root s r is is' f (Item.Var n)) ∙ ap (root_item r) at)
-    ∙ (unbound-value s r a is' f h m (followed_unbound (bindings s) (var n) m is.acyclic e) ∙ (sym (ap (value_of a) at) ∙ h.follows n))
-followed-value s r a is is' f h n (int i) e at =
-    ap (value_of a) (sym (later-root s r is is' f (Item.Var n)) ∙ ap (root_item r) at) ∙ (sym (ap (value_of a) at) ∙ h.follows n)
-followed-value s r a is is' f h n (atom name) e at =
-    ap (value_of a) (term-root s r is is' f n (atom name) (sym (followed_value (bindings s) (var n) is.acyclic) ∙ (ap (value (bindings s)) e ∙ value_atom (bindings s) name)) (λ k. refl))
-followed-value s r a is is' f h n (comp name ts) e at =
-    ap (value_of a) (term-root s r is is' f n (comp name (with_values (bindings s) ts)) (sym (followed_value (bindings s) (var n) is.acyclic) ∙ (ap (value (bindings s)) e ∙ value_comp (bindings s) name ts)) (λ k. refl))
-
 root-value_later : (s r : State) (a : ℕ → ℤ) → IsState s → IsState r → IsStable s r → Solves s a → (n : ℕ) → value_of a (root_item r (Item.Var n)) ≡ a n
-root-value_later s r a is is' f h n = followed-value s r a is is' f h n (followed (bindings s) (var n)) refl refl
+root-value_later s r a is is' f h n = root-value_by s r a (record {
+  before = is.acyclic;
+  after = is'.acyclic;
+  kept = stable-keeps s r f;
+  items = stable-items s r is'.acyclic f;
+  follows = h.follows;
+  unbound = unbound-value s r a is' f h;
+}) n
 
 item-value_later : (s r : State) (a : ℕ → ℤ) → IsState s → IsState r → IsStable s r → Solves s a → (y : Item) → value_of a (root_item r y) ≡ value_of a (root_item s y)
 item-value_later s r a is is' f h (Item.Var n) = root-value_later s r a is is' f h n ∙ sym (h.follows n)
@@ -148,4 +170,4 @@ solved-before s r a is is' may f h = record {
 }
 
 pub solutions_stay : SolutionsStay
-solutions_stay s r a is is' may f = (solves-later s r a is is' may f, solved-before s r a is is' may f)
+solutions_stay s r a is may f = let is' : IsState r = stable_is_a_state s r is f in (solves-later s r a is is' may f, solved-before s r a is is' may f)

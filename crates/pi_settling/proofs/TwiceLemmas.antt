@@ -55,7 +55,7 @@ narrowed-item s n v w (stays_bound u) is = absurd (cc)
 narrowed-item s n v w (some_stay d e p q all) is = inl refl
 narrowed-item s n v w (one_stays d i all) is = inr (i, refl)
 
-item_by : (b : Bindings) (n : ℕ) → IsAcyclic b → (held b n ≡ None) ⊎ ((i : ℤ) × (held b n ≡ Some (int i))) → IsItem (value b (var n))
+pub item_by : (b : Bindings) (n : ℕ) → IsAcyclic b → (held b n ≡ None) ⊎ ((i : ℤ) × (held b n ≡ Some (int i))) → IsItem (value b (var n))
 item_by b n a (inl is) = subst IsItem (sym (unbound_is_its_own_value b n is)) (is_variable n)
 item_by b n a (inr (i, is)) = subst IsItem (sym (bound_has_value_of_its_term b n (int i) a is ∙ value_int b i)) (is_integer i)
 
@@ -63,7 +63,7 @@ at_held : (r : State) (n : ℕ) → (binding (variable r n) ≡ None) ⊎ ((i : 
 at_held r n (inl is) = inl (held_is r n ∙ is)
 at_held r n (inr (i, is)) = inr (i, held_is r n ∙ is)
 
-stable-items : (s r : State) → IsAcyclic (bindings r) → IsStable s r → Items (bindings s) (bindings r)
+pub stable-items : (s r : State) → IsAcyclic (bindings r) → IsStable s r → Items (bindings s) (bindings r)
 stable-items s r a f n is = item_by (bindings r) n a (at_held r n (elim (less_or_not n (next s)) [
   | inl l ↦ narrowed-item s n (variable s n) (variable r n) (f.variables n l) (sym (held_is s n) ∙ is)
   | inr m ↦ inl (ap binding (past_free r n (let e = f.count in omega arith)))

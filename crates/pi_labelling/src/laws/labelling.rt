@@ -1,10 +1,13 @@
 //! Laws of labelling.
-ghost use Rattle.pi_labelling.specs.LabelLaws.{AlternativesPartTheDomain, LeftIsAllowed, ConfinedHaveDomains, ConfiningBindsNothing, LabellingNothing, LabellingDoesMore, SolvingDoesMore, FirstIsOne, FirstOfAll, SatSolvedIsOne};
+ghost use Rattle.pi_labelling.specs.LabelLaws.{AlternativesPartTheDomain, LeftIsADomain, LeftIsAllowed, NarrowingKeepsSolutions, ConfinedHaveDomains, ConfiningBindsNothing, LabellingNothing, LabellingDoesMore, SolvingDoesMore, FirstIsOne, FirstOfAll, SatSolvedIsOne};
 
-/// The alternatives of a variable part its domain: each value is allowed by one of them, and by no other, and that one leaves it.
+/// The alternatives of a variable part its domain: each value is allowed by one of them, and by no other, and that one leaves it. What one leaves is a domain, and a state that it narrows has
+/// those solutions whose value it allows.
 pub fn alternatives_part_the_domain()
     ensures parts { AlternativesPartTheDomain }
     ensures left { LeftIsAllowed }
+    ensures domain { LeftIsADomain }
+    ensures solutions { NarrowingKeepsSolutions }
 {}
 
 /// Where labelling begins each of its unbound variables has a domain, and nothing more is bound.
