@@ -3,6 +3,7 @@ pub mod ChoiceLemmas
 pub mod LeftLemmas
 pub mod ConfinedLemmas
 pub mod NarrowLemmas
+pub mod KeepLemmas
 pub mod FirstLemmas
 pub mod Examples
 pub mod CallExamples

@@ -125,16 +125,16 @@ more-solved s n d e a has below h =
 
 -- ---- a variable that is bound to one of its values
 
-record Binds (s : State) (n : ℕ) (d : List Span) (i : ℤ) : Type 0 where
-  state : IsState s
-  may : MaySettle s
-  has : domain_of s n ≡ Some d
-  inside : IsTrue (has_value d i)
+pub record Binds (s : State) (n : ℕ) (d : List Span) (i : ℤ) : Type 0 where
+  pub state : IsState s
+  pub may : MaySettle s
+  pub has : domain_of s n ≡ Some d
+  pub inside : IsTrue (has_value d i)
 
-abbrev behind : State → ℕ → ℤ → State
+abbrev pub behind : State → ℕ → ℤ → State
 behind s n i = with_binding s n (int i)
 
-binds-state : (s : State) (n : ℕ) (d : List Span) (i : ℤ) → Binds s n d i → IsState (behind s n i)
+pub binds-state : (s : State) (n : ℕ) (d : List Span) (i : ℤ) → Binds s n d i → IsState (behind s n i)
 unfolding Occurs
 binds-state s n d i b = bound_state s n (int i) (record {
   state = b.state;
@@ -156,13 +156,13 @@ binds-items s n d i b k none = item_by (bindings (behind s n i)) k (binds-state 
   | inr other ↦ inl (held_elsewhere s n (bound (int i)) k other ∙ none)
 ])
 
-root-here : (s : State) (n : ℕ) (d : List Span) (i : ℤ) → Binds s n d i → root_item (behind s n i) (Item.Var n) ≡ Item.Int i
+pub root-here : (s : State) (n : ℕ) (d : List Span) (i : ℤ) → Binds s n d i → root_item (behind s n i) (Item.Var n) ≡ Item.Int i
 root-here s n d i b = integer-root (behind s n i) n i (binds-state s n d i b).acyclic (ap binding (changed_here s n (bound (int i)) (domain_made s n d b.has)))
 
-root-elsewhere : (s : State) (n : ℕ) (d : List Span) (i : ℤ) → Binds s n d i → (k : ℕ) → k ≢ n → held (bindings s) k ≡ None → root_item (behind s n i) (Item.Var k) ≡ Item.Var k
+pub root-elsewhere : (s : State) (n : ℕ) (d : List Span) (i : ℤ) → Binds s n d i → (k : ℕ) → k ≢ n → held (bindings s) k ≡ None → root_item (behind s n i) (Item.Var k) ≡ Item.Var k
 root-elsewhere s n d i b k other none = unbound-root (behind s n i) k (sym (held_is (behind s n i) k) ∙ (held_elsewhere s n (bound (int i)) k other ∙ none))
 
-root-again : (s : State) (n : ℕ) (d : List Span) (i : ℤ) → Binds s n d i → (x : Item) → root_item (behind s n i) (root_item s x) ≡ root_item (behind s n i) x
+pub root-again : (s : State) (n : ℕ) (d : List Span) (i : ℤ) → Binds s n d i → (x : Item) → root_item (behind s n i) (root_item s x) ≡ root_item (behind s n i) x
 root-again s n d i b x = root_later s (behind s n i) b.state.acyclic (binds-state s n d i b).acyclic (binds-kept s n d i b) (binds-items s n d i b) x
 
 -- what an item of the state comes to has its value
@@ -180,7 +180,7 @@ fits-variable s n d i a b h k f other at = (
   h.bounded (Item.Var k) (by_domain k f refl at),
 )
 
-bounds-here : (s : State) (n : ℕ) (d : List Span) (i : ℤ) → Binds s n d i → IsWithinBounds i
+pub bounds-here : (s : State) (n : ℕ) (d : List Span) (i : ℤ) → Binds s n d i → IsWithinBounds i
 bounds-here s n d i b = values_are_within_bounds d i (domain_good s n d b.state b.has).0 b.inside
 
 fits-root : (s : State) (n : ℕ) (d : List Span) (i : ℤ) (a : ℕ → ℤ) → Binds s n d i → Solves s a → (x : Item) →
@@ -257,7 +257,7 @@ unbound-solved s n d i a b h = record {
 abbrev Narrowed : State → ℕ → Alternative → (ℕ → ℤ) → Option State → Type 0
 Narrowed s n alt a o = ((r : State) → o ≡ Some r → Solves r a ↔ (Solves s a × IsTrue (allows alt (a n)))) × (o ≡ None → Solves s a → IsTrue (allows alt (a n)) → ⊥)
 
-left-of : (alt : Alternative) (d : List Span) (i : ℤ) → IsDomain d → IsTrue (has_value (left_by alt d) i) → IsTrue (has_value d i) × IsTrue (allows alt i)
+pub left-of : (alt : Alternative) (d : List Span) (i : ℤ) → IsDomain d → IsTrue (has_value (left_by alt d) i) → IsTrue (has_value d i) × IsTrue (allows alt i)
 left-of alt d i up h = and_parts (has_value d i) (allows alt i) (sym (left_is_allowed alt d i up) ∙ h)
 
 is-left : (alt : Alternative) (d : List Span) (i : ℤ) → IsDomain d → IsTrue (has_value d i) → IsTrue (allows alt i) → IsTrue (has_value (left_by alt d) i)
