@@ -40,7 +40,7 @@ use Rattle.pi_labelling.proofs.NarrowLemmas.{left_is_a_domain, narrowing_keeps_s
 -- ---- the answers of traces
 
 -- some answer has the solution, along the trace
-unfoldable Told : Trace State → (ℕ → ℤ) → Type 0
+unfoldable pub Told : Trace State → (ℕ → ℤ) → Type 0
 Told (end e) a = ⊥
 Told (note n t) a = Told t a
 Told (ans r t) a = Solves r a ⊎ Told t a
@@ -52,14 +52,14 @@ told-here (note n t) a h = told-here t a h
 told-here (ans r t) a (inl h) = (r, (0, omega arith, refl), h)
 told-here (ans r t) a (inr h) = let there = told-here t a h in (there.0, (suc there.1.0, omega (arith, there.1.1), there.1.2), there.2)
 
-told-there : (t : Trace State) (a : ℕ → ℤ) (r : State) (k : ℕ) → k < length (answers t) → get_or (answers t) k r ≡ r → Solves r a → Told t a
+pub told-there : (t : Trace State) (a : ℕ → ℤ) (r : State) (k : ℕ) → k < length (answers t) → get_or (answers t) k r ≡ r → Solves r a → Told t a
 unfolding Told answers
 told-there (end e) a r k l e' h = absurd (omega arith)
 told-there (note n t) a r k l e h = told-there t a r k l e h
 told-there (ans q t) a r zero l e h = inl (subst (λ (x : State). Solves x a) (sym e) h)
 told-there (ans q t) a r (suc k) l e h = inr (told-there t a r k (omega arith) e h)
 
-both-done : (t u : Trace State) → end_of (alt t u) ≡ Done → (end_of t ≡ Done) × (end_of u ≡ Done)
+pub both-done : (t u : Trace State) → end_of (alt t u) ≡ Done → (end_of t ≡ Done) × (end_of u ≡ Done)
 unfolding alt end_of
 both-done (end Done) u e = (refl, e)
 both-done (end (Raise ball)) u e = absurd cc
@@ -81,7 +81,7 @@ told-second (end x) u a e h = absurd cc
 told-second (note n t) u a e h = told-second t u a e h
 told-second (ans r t) u a e h = inr (told-second t u a e h)
 
-told-parts : (t u : Trace State) (a : ℕ → ℤ) → Told (alt t u) a → Told t a ⊎ Told u a
+pub told-parts : (t u : Trace State) (a : ℕ → ℤ) → Told (alt t u) a → Told t a ⊎ Told u a
 unfolding Told alt
 told-parts (end Done) u a h = inr h
 told-parts (end e) u a h = absurd h
@@ -94,29 +94,29 @@ unfolding Told loaded
 told-loaded zero t a = refl
 told-loaded (suc k) t a = refl
 
-end-loaded : (k : ℕ) (t : Trace State) → end_of (loaded k t) ≡ end_of t
+pub end-loaded : (k : ℕ) (t : Trace State) → end_of (loaded k t) ≡ end_of t
 unfolding end_of loaded
 end-loaded zero t = refl
 end-loaded (suc k) t = refl
 
 -- what follows no answer, and one
-none-followed : (k : ℕ) (f g : State → Trace State) → then (then (loaded k done) f) g ≡ loaded k done
+pub none-followed : (k : ℕ) (f g : State → Trace State) → then (then (loaded k done) f) g ≡ loaded k done
 unfolding then loaded
 none-followed zero f g = refl
 none-followed (suc k) f g = refl
 
-one-followed : (k : ℕ) (r : State) (f g : State → Trace State) → f r ≡ one r → then (then (loaded k (one r)) f) g ≡ loaded k (g r)
+pub one-followed : (k : ℕ) (r : State) (f g : State → Trace State) → f r ≡ one r → then (then (loaded k (one r)) f) g ≡ loaded k (g r)
 unfolding then alt loaded
 one-followed zero r f g e = ap (λ (t : Trace State). then (alt t done) g) e ∙ alt-done (g r)
 one-followed (suc k) r f g e = ap (note (Load (suc k))) (ap (λ (t : Trace State). then (alt t done) g) e ∙ alt-done (g r))
 
 -- ---- states without agents
 
-record GoesOnFrom (s : State) : Type 0 where
-  state : IsState s
-  may : MaySettle s
-  agents : s.agents ≡ []
-  waiting : s.waiting ≡ []
+pub record GoesOnFrom (s : State) : Type 0 where
+  pub state : IsState s
+  pub may : MaySettle s
+  pub agents : s.agents ≡ []
+  pub waiting : s.waiting ≡ []
 
 none-woken : (s : State) (es : List Event) → s.agents ≡ [] → activations s es ≡ []
 unfolding activations activations_from
@@ -124,11 +124,11 @@ none-woken s [] none = refl
 none-woken s (e ∷ es) none =
     ap (λ (list : List Agent). activations_from (bindings s) e 0 list ++ activations s es) none ∙ none-woken s es none
 
-no-events : (before r : State) → r.agents ≡ [] → r.waiting ≡ [] → with_events before r ≡ r
+pub no-events : (before r : State) → r.agents ≡ [] → r.waiting ≡ [] → with_events before r ≡ r
 no-events before r agents waiting =
     ap (with_waiting r) (ap (λ (list : List Activation). r.waiting ++ list) (none-woken r (events_between before r) agents) ∙ (ap (λ (list : List Activation). list ++ []) waiting ∙ sym waiting))
 
-stable-goes_on : (s r : State) → GoesOnFrom s → IsStable s r → GoesOnFrom r
+pub stable-goes_on : (s r : State) → GoesOnFrom s → IsStable s r → GoesOnFrom r
 stable-goes_on s r g f = record {
   state = stable_is_a_state s r g.state f;
   may = stable_may_settle s r g.state g.may f;
@@ -166,7 +166,7 @@ bound-settles s n d i b c y posted at = elim (b.may c y posted at) [
 some-state : (q r : State) → Some q ≡ Some r → q ≡ r
 some-state q r e = cc
 
-narrowed-goes_on : (s : State) (n : ℕ) (d : List Span) (x : Alternative) → GoesOnFrom s → domain_of s n ≡ Some d → (vs : List ℤ) → values_of (left_by x d) ≡ vs → (r : State) →
+pub narrowed-goes_on : (s : State) (n : ℕ) (d : List Span) (x : Alternative) → GoesOnFrom s → domain_of s n ≡ Some d → (vs : List ℤ) → values_of (left_by x d) ≡ vs → (r : State) →
     with_values s n (left_by x d) vs ≡ Some r → GoesOnFrom r
 narrowed-goes_on s n d x g has [] e r same = absurd cc
 narrowed-goes_on s n d x g has (i ∷ []) e r same =
@@ -186,7 +186,7 @@ narrowed-goes_on s n d x g has (i ∷ j ∷ rest) e r same =
 -- ---- one alternative
 
 -- what labelling does behind a state has just its solutions
-abbrev Keeps : State → Trace State → Type 0
+abbrev pub Keeps : State → Trace State → Type 0
 Keeps s t = end_of t ≡ Done → (a : ℕ → ℤ) → (Solves s a → Told t a) × (Told t a → Solves s a)
 
 emptied-unsolved : (s : State) (a : ℕ → ℤ) → IsEmptied s → Solves s a → ⊥
@@ -211,7 +211,7 @@ through-stable s r t g f h over a =
     let inner = h over a in
     (λ x. inner.0 (same.0 x), λ told. same.1 (inner.1 told))
 
-tried-keeps : (before s : State) (t : Trace State) (l : Lower) → GoesOnFrom s → ((r : State) → r.waiting ≡ [] → l.drains r ≡ one r) → ((r : State) → GoesOnFrom r → Keeps r (l.labels r)) →
+pub tried-keeps : (before s : State) (t : Trace State) (l : Lower) → GoesOnFrom s → ((r : State) → r.waiting ≡ [] → l.drains r ≡ one r) → ((r : State) → GoesOnFrom r → Keeps r (l.labels r)) →
     IsSettled before s t → Keeps s (then (then t l.drains) l.labels)
 tried-keeps before s t l g drains labels (inl (e, is)) =
     keeps-same s (then (then t l.drains) l.labels) (loaded (load_of_failure before s) done)
@@ -242,7 +242,7 @@ one-keeps settle settles l drains labels s n d x g has (Some m) e over a =
 
 -- ---- all alternatives
 
-unfoldable SomeAllows : List Alternative → ℤ → Type 0
+unfoldable pub SomeAllows : List Alternative → ℤ → Type 0
 SomeAllows [] i = ⊥
 SomeAllows (x ∷ xs) i = IsTrue (allows x i) ⊎ SomeAllows xs i
 
@@ -252,7 +252,7 @@ at-place-allows [] i k l h = absurd (omega arith)
 at-place-allows (x ∷ xs) i zero l h = inl h
 at-place-allows (x ∷ xs) i (suc k) l h = inr (at-place-allows xs i k (omega arith) h)
 
-all-keep : (settle : Settling) → Settles settle → (l : Lower) → ((r : State) → r.waiting ≡ [] → l.drains r ≡ one r) → ((r : State) → GoesOnFrom r → Keeps r (l.labels r)) →
+pub all-keep : (settle : Settling) → Settles settle → (l : Lower) → ((r : State) → r.waiting ≡ [] → l.drains r ≡ one r) → ((r : State) → GoesOnFrom r → Keeps r (l.labels r)) →
     (s : State) (p : Pending) → GoesOnFrom s → domain_of s p.variable ≡ Some p.domain → (xs : List Alternative) → end_of (all_tried settle (Some l) s p xs) ≡ Done → (a : ℕ → ℤ) →
     (Solves s a → SomeAllows xs (a p.variable) → Told (all_tried settle (Some l) s p xs) a) × (Told (all_tried settle (Some l) s p xs) a → Solves s a)
 unfolding all_tried SomeAllows Told
@@ -270,14 +270,14 @@ all-keep settle settles l drains labels s p g has (x ∷ xs) over a =
 -- ---- which variable is picked
 
 -- a pending variable has its domain
-abbrev HasItsDomain : State → Pending → Type 0
+abbrev pub HasItsDomain : State → Pending → Type 0
 HasItsDomain s p = domain_of s p.variable ≡ Some p.domain
 
-unfoldable AllHave : State → List Pending → Type 0
+unfoldable pub AllHave : State → List Pending → Type 0
 AllHave s [] = ⊤
 AllHave s (p ∷ ps) = HasItsDomain s p × AllHave s ps
 
-abbrev MayHave : State → Option Pending → Type 0
+abbrev pub MayHave : State → Option Pending → Type 0
 MayHave s None = ⊤
 MayHave s (Some p) = HasItsDomain s p
 
@@ -294,7 +294,7 @@ unfolding AllHave
 option-have s None ps h rest = rest
 option-have s (Some p) ps h rest = (h, rest)
 
-all-have : (s : State) (items : List Item) → AllHave s (pending s items)
+pub all-have : (s : State) (items : List Item) → AllHave s (pending s items)
 unfolding AllHave
 all-have s [] = tt
 all-have s (x ∷ items) = option-have s (pending_at s (root_item s x)) (pending s items) (at-has s (root_item s x)) (all-have s items)
@@ -315,7 +315,7 @@ smallest-has s p (q ∷ ps) h rest =
     let less : Bool = nat_lt (size_of q.domain) (size_of p.domain) in
     smallest-has s (cond less q p) ps (chosen-has s less p q h rest.0) rest.1
 
-picked-has : (s : State) (ps : List Pending) (w : VariableWord) → AllHave s ps → MayHave s (picked ps w)
+pub picked-has : (s : State) (ps : List Pending) (w : VariableWord) → AllHave s ps → MayHave s (picked ps w)
 unfolding AllHave
 picked-has s [] w h = tt
 picked-has s (p ∷ ps) forward h = h.0
@@ -347,7 +347,7 @@ unfolding all_tried SomeAllows Told alt end_of
 lowest-keep settle s p has [] over a = (λ h some. absurd some, λ told. absurd told)
 lowest-keep settle s p has (x ∷ xs) over a = absurd cc
 
-at-keeps : (settle : Settling) (drains : ℕ → State → Trace State) (o : Options) (items : List Item) → Settles settle → RunsWhatWaits drains → (d : ℕ) (s : State) → GoesOnFrom s →
+pub at-keeps : (settle : Settling) (drains : ℕ → State → Trace State) (o : Options) (items : List Item) → Settles settle → RunsWhatWaits drains → (d : ℕ) (s : State) → GoesOnFrom s →
     Keeps s (labelled_at settle drains o items d s)
 unfolding labelled_at
 at-keeps settle drains o items settles runs zero s g = by-keeps settle None o s g.state (lowest-keep settle s) (picked (pending s items) o.variable) (picked-has s (pending s items) o.variable (all-have s items))

@@ -4,6 +4,7 @@ pub mod LeftLemmas
 pub mod ConfinedLemmas
 pub mod NarrowLemmas
 pub mod KeepLemmas
+pub mod ApartLemmas
 pub mod FirstLemmas
 pub mod Examples
 pub mod CallExamples

@@ -1,5 +1,5 @@
 -- Labelling loses no solution and adds none. (Own.)
-use Rattle.std.specs.Prelude.{◌≡◌, ◌↔◌, ℕ, ℤ, List, [], Contains}
+use Rattle.std.specs.Prelude.{◌≡◌, ◌↔◌, ℕ, ℤ, List, [], AllPairs, Contains}
 use Rattle.pi_constraints.specs.declared.constraint.Item.{Item}
 use Rattle.pi_traces.specs.Trace.{Trace, Done, answers, end_of}
 use Rattle.pi_states.specs.State.{State, IsState}
@@ -19,3 +19,12 @@ abbrev pub LabellingKeepsSolutions : Type 0
 LabellingKeepsSolutions = (settle : Settling) (drains : ℕ → State → Trace State) (o : Options) (items : List Item) → Settles settle → RunsWhatWaits drains →
     (s : State) → IsState s → MaySettle s → s.agents ≡ [] → s.waiting ≡ [] → (d : ℕ) → end_of (labelled_at settle drains o items d s) ≡ Done →
     (a : ℕ → ℤ) → Solves s a ↔ SolvesSome (labelled_at settle drains o items d s) a
+
+-- And no two of its answers have a solution in common: each solution is one of one answer.
+abbrev pub HaveNoneInCommon : State → State → Type 0
+HaveNoneInCommon r q = (a : ℕ → ℤ) → Solves r a → Solves q a → ⊥
+
+abbrev pub AnswersPartTheSolutions : Type 0
+AnswersPartTheSolutions = (settle : Settling) (drains : ℕ → State → Trace State) (o : Options) (items : List Item) → Settles settle → RunsWhatWaits drains →
+    (s : State) → IsState s → MaySettle s → s.agents ≡ [] → s.waiting ≡ [] → (d : ℕ) → end_of (labelled_at settle drains o items d s) ≡ Done →
+    AllPairs HaveNoneInCommon (answers (labelled_at settle drains o items d s))

@@ -1,5 +1,9 @@
 use Rattle.pi_labelling.proofs.KeepLemmas.{labelling_keeps_solutions}
+use Rattle.pi_labelling.proofs.ApartLemmas.{answers_part_the_solutions}
 use Rattle.pi_labelling.proofs.laws.labelling.labelling_keeps_solutions.Goals as goal
 
-pub returns : goal.returns
-returns c = labelling_keeps_solutions
+pub returns-clause-kept : goal.returns-clause-kept
+returns-clause-kept c = labelling_keeps_solutions
+
+pub returns-clause-once : goal.returns-clause-once
+returns-clause-once c = answers_part_the_solutions
