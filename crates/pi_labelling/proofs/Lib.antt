@@ -5,6 +5,7 @@ pub mod ConfinedLemmas
 pub mod NarrowLemmas
 pub mod KeepLemmas
 pub mod ApartLemmas
+pub mod EndLemmas
 pub mod FirstLemmas
 pub mod Examples
 pub mod CallExamples

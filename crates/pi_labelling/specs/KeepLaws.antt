@@ -28,3 +28,8 @@ abbrev pub AnswersPartTheSolutions : Type 0
 AnswersPartTheSolutions = (settle : Settling) (drains : ℕ → State → Trace State) (o : Options) (items : List Item) → Settles settle → RunsWhatWaits drains →
     (s : State) → IsState s → MaySettle s → s.agents ≡ [] → s.waiting ≡ [] → (d : ℕ) → end_of (labelled_at settle drains o items d s) ≡ Done →
     AllPairs HaveNoneInCommon (answers (labelled_at settle drains o items d s))
+
+-- And it comes to its end at some depth.
+abbrev pub LabellingEnds : Type 0
+LabellingEnds = (settle : Settling) (drains : ℕ → State → Trace State) (o : Options) (items : List Item) → Settles settle → RunsWhatWaits drains →
+    (s : State) → IsState s → MaySettle s → s.agents ≡ [] → s.waiting ≡ [] → (d : ℕ) × (end_of (labelled_at settle drains o items d s) ≡ Done)

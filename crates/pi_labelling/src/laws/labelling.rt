@@ -1,5 +1,5 @@
 //! Laws of labelling.
-ghost use Rattle.pi_labelling.specs.KeepLaws.{AnswersPartTheSolutions, LabellingKeepsSolutions};
+ghost use Rattle.pi_labelling.specs.KeepLaws.{AnswersPartTheSolutions, LabellingEnds, LabellingKeepsSolutions};
 ghost use Rattle.pi_labelling.specs.LabelLaws.{AlternativesPartTheDomain, LeftIsADomain, LeftIsAllowed, NarrowingKeepsSolutions, ConfinedHaveDomains, ConfiningBindsNothing, LabellingNothing, LabellingDoesMore, SolvingDoesMore, FirstIsOne, FirstOfAll, SatSolvedIsOne};
 
 /// The alternatives of a variable part its domain: each value is allowed by one of them, and by no other, and that one leaves it. What one leaves is a domain, and a state that it narrows has
@@ -31,8 +31,9 @@ pub fn first_assignments_are_one()
     ensures sat { SatSolvedIsOne }
 {}
 
-/// Where a labelling comes to its end, its answers have together just the solutions of the state in which it began, and each solution is one of one answer.
+/// A labelling comes to its end at some depth. There its answers have together just the solutions of the state in which it began, and each solution is one of one answer.
 pub fn labelling_keeps_solutions()
+    ensures ends { LabellingEnds }
     ensures kept { LabellingKeepsSolutions }
     ensures once { AnswersPartTheSolutions }
 {}
