@@ -1,14 +1,13 @@
 -- No two answers of a labelling have a solution in common.
-use Rattle.std.specs.Prelude.{◌≡◌, ◌⊎◌, ℕ, zero, suc, ◌<◌, ℤ, pos, IsTrue, List, [], ◌∷◌, length, get_or, AllPairs, Option, Some, None, ⊤, refl}
+use Rattle.std.specs.Prelude.{◌≡◌, ℕ, zero, suc, ◌<◌, ℤ, pos, IsTrue, List, [], ◌∷◌, length, get_or, AllPairs, Option, Some, None, ⊤, refl}
 use Rattle.std.proofs.Common.{arith, sym, ◌∙◌, ap, subst, inl, inr}
 use Rattle.pi_constraints.specs.declared.constraint.Item.{Item}
 use Rattle.pi_constraints.specs.declared.domain.Span.{Span}
 use Rattle.pi_constraints.specs.Domain.{has_value, values_of}
-use Rattle.pi_traces.specs.Trace.{Trace, end, note, ans, Done, Raise, done, one, alt, then, answers, end_of}
+use Rattle.pi_traces.specs.Trace.{Trace, end, note, ans, Done, done, one, alt, then, answers, end_of}
 use Rattle.pi_states.specs.State.{State, domain_of}
 use Rattle.pi_states.proofs.StateLemmas.{domain_good}
 use Rattle.pi_settling.specs.Roots.{domain_or_all, given, by_domain}
-use Rattle.pi_constraints.specs.Domain.{IsDomain}
 use Rattle.pi_settling.specs.Load.{load, load_of_failure}
 use Rattle.pi_settling.specs.Settled.{loaded, IsSettled}
 use Rattle.pi_settling.specs.Solves.{Solves}
@@ -17,12 +16,11 @@ use Rattle.pi_settling.proofs.TwiceLemmas.{has_in}
 use Rattle.pi_labelling.specs.Options.{Options}
 use Rattle.pi_labelling.specs.Choices.{Pending, pending, picked, Alternative, is_value, allows, alternatives, left_by, narrowed_to}
 use Rattle.pi_labelling.specs.Label.{Settling, Lower, one_tried, all_tried, labelled_by, labelled_at}
-use Rattle.pi_labelling.specs.LabelLaws.{OneAllows}
 use Rattle.pi_labelling.specs.SolutionLaws.{RunsWhatWaits}
 use Rattle.pi_labelling.specs.KeepLaws.{HaveNoneInCommon, AnswersPartTheSolutions}
 use Rattle.pi_labelling.proofs.ChoiceLemmas.{alternatives_part_the_domain}
 use Rattle.pi_labelling.proofs.NarrowLemmas.{narrowing_keeps_solutions}
-use Rattle.pi_labelling.proofs.KeepLemmas.{Told, told-parts, told-there, both-done, end-loaded, none-followed, one-followed, GoesOnFrom, stable-goes_on, no-events, narrowed-goes_on, Keeps, tried-keeps, SomeAllows, all-keep, HasItsDomain, MayHave, AllHave, all-have, picked-has, at-keeps}
+use Rattle.pi_labelling.proofs.KeepLemmas.{Told, told-parts, told-there, both-done, end-loaded, none-followed, one-followed, GoesOnFrom, stable-goes_on, no-events, narrowed-goes_on, Keeps, tried-keeps, SomeAllows, HasItsDomain, MayHave, all-have, picked-has, at-keeps}
 
 -- each answer has no solution in common with those behind it, along the trace
 unfoldable Apart : Trace State → Type 0

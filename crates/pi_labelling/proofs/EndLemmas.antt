@@ -1,8 +1,8 @@
 -- Labelling comes to its end: each alternative makes the domains of a state narrower, and settling makes none wider.
-use Rattle.std.specs.Prelude.{◌≡◌, ◌≢◌, ◌⊎◌, ℕ, zero, suc, ◌+◌, ◌*◌, ◌/◌, ◌%◌, ◌<◌, ◌≤◌, ℤ, pos, negsuc, ◌+ℤ◌, ◌≤ℤ◌, ◌<ℤ◌, int_le, not, Bool, true, false, IsTrue, List, [], ◌∷◌, length, map, reverse, get_or, set, Option, Some, None, ⊤, refl}
+use Rattle.std.specs.Prelude.{◌≡◌, ◌≢◌, ◌⊎◌, ℕ, zero, suc, ◌+◌, ◌*◌, ◌/◌, ◌%◌, ◌<◌, ◌≤◌, ℤ, pos, negsuc, ◌+ℤ◌, ◌≤ℤ◌, ◌<ℤ◌, int_le, not, IsTrue, List, [], ◌∷◌, length, map, reverse, get_or, set, Option, Some, None, ⊤, refl}
 use Rattle.std.specs.Int.{int_gap}
 use Rattle.std.specs.Ordering.{is_eq, int_cmp}
-use Rattle.std.proofs.Common.{arith, sym, ◌∙◌, ap, subst, inl, inr}
+use Rattle.std.proofs.Common.{arith, ◌∙◌, ap, subst, inl, inr}
 use Rattle.std.proofs.lemmas.Nat.{div-add-mod', mod_below}
 use Rattle.std.proofs.lemmas.Int.{ints}
 use Rattle.std.proofs.lemmas.List.Elements.{Contains-get_or}
@@ -14,8 +14,8 @@ use Rattle.pi_constraints.proofs.DomainLemmas.{gap_is, values_ascend, values_lie
 use Rattle.pi_constraints.proofs.CommonLemmas.{two_values}
 use Rattle.pi_filters.specs.Ends.{least_of, greatest_of}
 use Rattle.pi_filters.proofs.EndLemmas.{least-has, greatest-has, least-below, greatest-above}
-use Rattle.pi_traces.specs.Trace.{Trace, end, note, ans, Done, Raise, done, one, alt, then, end_of}
-use Rattle.pi_states.specs.State.{State, Variable, free, within, bound, domain_in, domain_of, next, IsState}
+use Rattle.pi_traces.specs.Trace.{Trace, end, note, ans, Done, done, one, alt, then, end_of}
+use Rattle.pi_states.specs.State.{State, Variable, free, within, bound, domain_in, domain_of, IsState}
 use Rattle.pi_states.proofs.StateLemmas.{variable, domain_good}
 use Rattle.pi_settling.specs.Roots.{domain_or_all, given}
 use Rattle.pi_settling.specs.Stable.{Stays, Narrows, stays_free, stays_bound, some_stay, one_stays, IsStable}

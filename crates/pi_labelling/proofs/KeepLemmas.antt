@@ -1,16 +1,16 @@
 -- Labelling loses no solution and adds none.
-use Rattle.std.specs.Prelude.{◌≡◌, ◌≢◌, ◌↔◌, ◌⊎◌, ℕ, zero, suc, ◌<◌, ◌≤◌, nat_lt, ℤ, pos, Bool, true, false, cond, IsTrue, List, [], ◌∷◌, ◌++◌, length, get_or, filter_map, Option, Some, None, Contains, ⊤, refl}
+use Rattle.std.specs.Prelude.{◌≡◌, ◌⊎◌, ℕ, zero, suc, ◌<◌, ◌≤◌, nat_lt, ℤ, pos, Bool, true, false, cond, IsTrue, List, [], ◌∷◌, ◌++◌, length, get_or, Option, Some, None, ⊤, refl}
 use Rattle.std.specs.List.{cons_option, last_or}
 use Rattle.std.proofs.Common.{arith, sym, ◌∙◌, ap, subst, inl, inr}
 use Rattle.pi_terms.specs.Tree.{int}
 use Rattle.pi_constraints.specs.declared.constraint.Item.{Item}
 use Rattle.pi_constraints.specs.declared.domain.Span.{Span}
-use Rattle.pi_constraints.specs.Domain.{IsWithinBounds, IsDomain, has_value, values_of, size_of}
+use Rattle.pi_constraints.specs.Domain.{IsDomain, has_value, values_of, size_of}
 use Rattle.pi_constraints.proofs.CommonLemmas.{first_value, two_values}
-use Rattle.pi_traces.specs.Trace.{Trace, end, note, ans, Done, Raise, Tick, Load, done, one, alt, then, answers, end_of}
+use Rattle.pi_traces.specs.Trace.{Trace, end, note, ans, Done, Raise, Load, done, one, alt, then, answers, end_of}
 use Rattle.pi_traces.proofs.TraceLemmas.{alt-done}
-use Rattle.pi_states.specs.Value.{Bindings, IsAcyclic}
-use Rattle.pi_states.specs.State.{State, Agent, within, bound, bindings, next, domain_of, with_waiting, with_domain, IsState}
+use Rattle.pi_states.specs.Value.{IsAcyclic}
+use Rattle.pi_states.specs.State.{State, Agent, within, bound, bindings, domain_of, with_waiting, with_domain, IsState}
 use Rattle.pi_states.specs.declared.event.Event.{Event}
 use Rattle.pi_states.specs.declared.event.Activation.{Activation}
 use Rattle.pi_states.proofs.StateLemmas.{same_or_not, domain_here, domain_elsewhere, domain_bindings, domain_unbound, domain_good, IsState-changed}
@@ -29,8 +29,7 @@ use Rattle.pi_settling.proofs.KeepLemmas.{stable_is_a_state, stable_may_settle}
 use Rattle.pi_settling.proofs.SolutionLemmas.{solutions_stay}
 use Rattle.pi_labelling.specs.Options.{VariableWord, forward, backward, ff, Options}
 use Rattle.pi_labelling.specs.Choices.{Pending, pending_with, pending_at, pending, smallest, picked, Alternative, is_value, allows, alternatives, left_by, with_values, narrowed_to}
-use Rattle.pi_labelling.specs.Label.{Settling, Lower, tried, one_tried, all_tried, labelled_by, labelled, labelled_at}
-use Rattle.pi_labelling.specs.LabelLaws.{OneAllows}
+use Rattle.pi_labelling.specs.Label.{Settling, Lower, one_tried, all_tried, labelled_by, labelled_at}
 use Rattle.pi_labelling.specs.SolutionLaws.{RunsWhatWaits}
 use Rattle.pi_labelling.specs.KeepLaws.{SolvesSome, LabellingKeepsSolutions}
 use Rattle.pi_labelling.proofs.ChoiceLemmas.{alternatives_part_the_domain}

@@ -1,13 +1,12 @@
 -- What an alternative leaves of a state has the solutions whose value it allows.
-use Rattle.std.specs.Prelude.{◌≡◌, ◌≢◌, ◌↔◌, ◌⊎◌, ℕ, ◌<◌, ◌≤◌, ℤ, pos, neg_ℤ, ◌+ℤ◌, ◌≤ℤ◌, int_le, Bool, true, false, cond, ◌&&◌, IsTrue, List, [], ◌∷◌, ◌++◌, Option, Some, None, Contains, refl}
+use Rattle.std.specs.Prelude.{◌≡◌, ◌≢◌, ◌↔◌, ◌⊎◌, ℕ, ◌<◌, ℤ, pos, neg_ℤ, ◌+ℤ◌, ◌≤ℤ◌, int_le, Bool, true, false, cond, IsTrue, List, [], ◌∷◌, ◌++◌, Option, Some, None, refl}
 use Rattle.std.specs.Int.{int_max, int_min}
 use Rattle.std.proofs.Common.{arith, sym, ◌∙◌, ap, subst, inl, inr, append_assoc}
 use Rattle.std.proofs.lemmas.Bool.{and_parts}
 use Rattle.std.proofs.lemmas.Int.{ints, clamps}
-use Rattle.pi_terms.specs.Tree.{Tree, var, int}
+use Rattle.pi_terms.specs.Tree.{int}
 use Rattle.pi_terms.specs.Variables.{Occurs}
 use Rattle.pi_terms.specs.Places.{held}
-use Rattle.pi_constraints.specs.declared.constraint.Constraint.{Constraint}
 use Rattle.pi_constraints.specs.declared.constraint.Item.{Item}
 use Rattle.pi_constraints.specs.declared.domain.Span.{Span}
 use Rattle.pi_constraints.specs.declared.domain.TheConstants.{MAX_VALUE}
@@ -16,20 +15,19 @@ use Rattle.pi_constraints.proofs.SpanLemmas.{AscendFrom-lower}
 use Rattle.pi_constraints.proofs.DomainLemmas.{values_are_within_bounds}
 use Rattle.pi_constraints.proofs.CommonLemmas.{no_value, first_value, one_value}
 use Rattle.pi_filters.specs.Solutions.{value_of}
-use Rattle.pi_states.specs.Value.{Bindings, value}
-use Rattle.pi_states.specs.State.{State, Variable, within, bound, binding, domain_in, bindings, next, domain_of, with_variable, with_binding, with_domain, SpeaksBelow, IsState}
-use Rattle.pi_states.proofs.StateLemmas.{variable, held_is, changed_here, same_or_not, domain_here, domain_elsewhere, domain_bindings, domain_unbound, domain_good, held_here, held_elsewhere}
+use Rattle.pi_states.specs.State.{State, Variable, within, bound, binding, bindings, next, domain_of, with_variable, with_binding, with_domain, IsState}
+use Rattle.pi_states.proofs.StateLemmas.{held_is, changed_here, same_or_not, domain_here, domain_elsewhere, domain_bindings, domain_unbound, domain_good, held_here, held_elsewhere}
 use Rattle.pi_states.proofs.RootLemmas.{value_int}
-use Rattle.pi_states.proofs.UnifyBindings.{MayBindIn, bound_state}
-use Rattle.pi_settling.specs.Roots.{root_item, only, domain_or_all, given, Counts, by_domain, by_place}
+use Rattle.pi_states.proofs.UnifyBindings.{bound_state}
+use Rattle.pi_settling.specs.Roots.{root_item, domain_or_all, given, Counts, by_domain, by_place}
 use Rattle.pi_settling.specs.Solves.{Solves}
 use Rattle.pi_settling.specs.SettlingLaws.{MaySettle}
-use Rattle.pi_settling.proofs.RootLemmas.{IsItem, Kept, Items, root_later}
-use Rattle.pi_settling.proofs.StableLemmas.{only-has, has-only, root-value}
+use Rattle.pi_settling.proofs.RootLemmas.{Kept, Items, root_later}
+use Rattle.pi_settling.proofs.StableLemmas.{only-has, root-value}
 use Rattle.pi_settling.proofs.TwiceLemmas.{unbound-root, integer-root, counted, item_by, has_in}
 use Rattle.pi_settling.proofs.UniqueLemmas.{domain_made}
-use Rattle.pi_settling.proofs.SolutionLemmas.{GoesOn, root-value_by}
-use Rattle.pi_labelling.specs.Choices.{Alternative, is_value, at_most, above, allows, from_to, left_by, with_values, narrowed_to}
+use Rattle.pi_settling.proofs.SolutionLemmas.{root-value_by}
+use Rattle.pi_labelling.specs.Choices.{Alternative, is_value, at_most, above, allows, from_to, left_by, with_values}
 use Rattle.pi_labelling.specs.LabelLaws.{NarrowingKeepsSolutions, LeftIsADomain}
 use Rattle.pi_labelling.proofs.LeftLemmas.{left_is_allowed}
 use Rattle.pi_labelling.proofs.ConfinedLemmas.{root-same}
