@@ -1,23 +1,20 @@
 -- A stable state is a state, and may settle where the state before might.
-use Rattle.std.specs.Prelude.{◌≡◌, ◌≢◌, ◌⊎◌, ℕ, ◌<◌, ◌≤◌, ℤ, List, length, slice_get, IsSomeAnd, Some, None, Contains, refl}
+use Rattle.std.specs.Prelude.{◌≡◌, ◌⊎◌, ℕ, ◌<◌, ℤ, List, length, slice_get, IsSomeAnd, Some, None, Contains, refl}
 use Rattle.std.proofs.Common.{arith, sym, ◌∙◌, ap, subst, inl, inr}
 use Rattle.std.proofs.lemmas.Option.{slice_get_within, get_or_from_slice_get}
-use Rattle.pi_terms.specs.Tree.{Tree, var, int}
+use Rattle.pi_terms.specs.Tree.{Tree, int}
 use Rattle.pi_terms.specs.Variables.{Occurs}
 use Rattle.pi_terms.specs.Places.{held}
 use Rattle.pi_constraints.specs.declared.constraint.Constraint.{Constraint}
 use Rattle.pi_constraints.specs.declared.constraint.Item.{Item}
 use Rattle.pi_constraints.specs.declared.domain.Span.{Span}
 use Rattle.pi_constraints.specs.Domain.{IsWithinBounds}
-use Rattle.pi_constraints.specs.Constraint.{SpeaksOf, IsWithinLimits}
-use Rattle.pi_filters.specs.Places.{places_of}
-use Rattle.pi_states.specs.Value.{Bindings}
-use Rattle.pi_states.specs.State.{State, Agent, Variable, free, within, bound, binding, bindings, next, domain_in, domain_of, SpeaksBelow, WatchBelow, IsVariable, MayPost, IsActivation, IsState}
+use Rattle.pi_states.specs.State.{State, Agent, Variable, free, binding, bindings, next, domain_in, domain_of, SpeaksBelow, WatchBelow, IsVariable, MayPost, IsActivation, IsState}
 use Rattle.pi_states.specs.declared.event.Activation.{Activation}
 use Rattle.pi_states.proofs.StateLemmas.{variable, held_is, state_variable}
 use Rattle.pi_settling.specs.Roots.{root_item}
-use Rattle.pi_settling.specs.Stable.{Stays, Narrows, stays_free, stays_bound, some_stay, one_stays, IsStable}
-use Rattle.pi_settling.specs.SettlingLaws.{MaySettle, StableIsAState, StableMaySettle}
+use Rattle.pi_settling.specs.Stable.{Narrows, stays_free, stays_bound, some_stay, one_stays, IsStable}
+use Rattle.pi_settling.specs.SettlingLaws.{StableIsAState, StableMaySettle}
 use Rattle.pi_settling.proofs.TwiceLemmas.{past_free, less_or_not, unbound-root, integer-root, stays-bounded, later-root}
 use Rattle.pi_settling.proofs.UniqueLemmas.{domain_made}
 

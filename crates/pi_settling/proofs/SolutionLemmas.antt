@@ -1,5 +1,5 @@
 -- A state and its stable state have the same solutions.
-use Rattle.std.specs.Prelude.{◌≡◌, ◌↔◌, ◌⊎◌, ℕ, ◌<◌, ◌≤◌, ℤ, IsTrue, List, Some, None, Contains, refl}
+use Rattle.std.specs.Prelude.{◌≡◌, ℕ, ◌<◌, ℤ, IsTrue, List, Some, None, Contains, refl}
 use Rattle.std.proofs.Common.{arith, sym, ◌∙◌, ap, subst, inl, inr}
 use Rattle.pi_terms.specs.Tree.{Tree, var, int, atom, comp}
 use Rattle.pi_terms.specs.Places.{held}
@@ -7,11 +7,11 @@ use Rattle.pi_terms.specs.Substitution.{instance}
 use Rattle.pi_constraints.specs.declared.constraint.Constraint.{Constraint}
 use Rattle.pi_constraints.specs.declared.constraint.Item.{Item}
 use Rattle.pi_constraints.specs.declared.domain.Span.{Span}
-use Rattle.pi_constraints.specs.Domain.{IsWithinBounds, IsDomain, has_value, size_of}
+use Rattle.pi_constraints.specs.Domain.{IsWithinBounds, has_value}
 use Rattle.pi_constraints.proofs.DomainLemmas.{values_are_within_bounds}
-use Rattle.pi_filters.specs.Solutions.{value_of, Holds}
-use Rattle.pi_states.specs.Value.{Bindings, value, IsAcyclic}
-use Rattle.pi_states.specs.State.{State, Variable, free, within, bound, binding, bindings, next, domain_in, domain_of, followed, IsState}
+use Rattle.pi_filters.specs.Solutions.{value_of}
+use Rattle.pi_states.specs.Value.{value, IsAcyclic}
+use Rattle.pi_states.specs.State.{State, Variable, within, binding, bindings, next, domain_in, followed, IsState}
 use Rattle.pi_states.proofs.FollowLemmas.{followed_value, followed_unbound}
 use Rattle.pi_states.proofs.StateLemmas.{variable, held_is, domain_good}
 use Rattle.pi_states.proofs.RootLemmas.{with_values, value_atom, value_comp}
@@ -21,7 +21,7 @@ use Rattle.pi_settling.specs.Solves.{Solves}
 use Rattle.pi_settling.specs.SettlingLaws.{MaySettle, SolutionsStay}
 use Rattle.pi_settling.proofs.RootLemmas.{root-by_value, value_later, Kept, Items, root_later}
 use Rattle.pi_settling.proofs.StableLemmas.{only-has, root-value, settling_keeps_solutions}
-use Rattle.pi_settling.proofs.TwiceLemmas.{past_free, less_or_not, left, ahead, left-given, ahead-some, ahead-one, ahead-integer, ahead-stays, variable-ahead, ahead-given, unbound-root, integer-root, counted, has_in, stays-bounded, within_of, narrowed-within, later-root, stable-keeps, stable-items}
+use Rattle.pi_settling.proofs.TwiceLemmas.{past_free, less_or_not, left, ahead, left-given, ahead-one, ahead-integer, ahead-stays, variable-ahead, ahead-given, unbound-root, integer-root, counted, has_in, stays-bounded, within_of, narrowed-within, later-root, stable-keeps, stable-items}
 use Rattle.pi_settling.proofs.UniqueLemmas.{domain_made}
 use Rattle.pi_settling.proofs.KeepLemmas.{stable_is_a_state}
 
