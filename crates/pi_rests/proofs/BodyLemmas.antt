@@ -1,28 +1,26 @@
 -- The bodies of planner calls, and what planner calls come to, under each rest.
 use Rattle.std.specs.Prelude.{◌≡◌, ◌++◌, ℕ, Bool, false, cond, List, Option, Some, None, option_map, refl}
-use Rattle.pi_terms.specs.Tree.{Tree, Trees, tree_count}
+use Rattle.pi_terms.specs.Tree.{tree_count}
 use Rattle.pi_states.specs.Value.{value}
 use Rattle.pi_states.specs.State.{State, bindings}
 use Rattle.pi_core.specs.GoalTree.{GoalTree, subgoals}
 use Rattle.pi_core.specs.CoreTree.{PredTree, find_pred}
 use Rattle.pi_traces.specs.Trace.{Call, one, then}
 use Rattle.pi_answers.specs.declared.log.LogEntry.{LogEntry}
-use Rattle.pi_answers.specs.declared.log.PlanResult.{PlanResult}
 use Rattle.pi_meaning.specs.Raise.{within_limit}
 use Rattle.pi_meaning.specs.View.{body_view, Wanted, entry_for, read_entry, reading}
 use Rattle.pi_meaning.specs.Given.{Later}
-use Rattle.pi_meaning.specs.Instances.{is_called_by_name, predicate_or_call, core_setting, whole}
+use Rattle.pi_meaning.specs.Instances.{is_called_by_name, whole}
 use Rattle.pi_meaning.specs.Names.{is_call}
 use Rattle.pi_meaning.specs.Builtins.{Builtins}
 use Rattle.pi_meaning.specs.Meaning.{strictly}
 use Rattle.pi_planner_calls.specs.Asked.{Asked, asks, refuses, asking, asked, asked_trace}
 use Rattle.pi_planner_calls.specs.ProgramBodies.{final_goal, action_goal, body_start, body_trace, offered, bodies_of}
 use Rattle.pi_planner_calls.specs.Rests.{asks_rest, is_by_rests}
-use Rattle.pi_planner_calls.specs.Known.{NotByRests}
 use Rattle.pi_planner_calls.proofs.CostLemmas.{best_plans_are_cheapest}
 use Rattle.pi_rests.specs.Rest.{IgnoresRests}
 use Rattle.pi_rests.specs.RestLaws.{GoalsIgnoreRests, LevelsIgnoreRests, QueriesIgnoreRests, BodiesIgnoreRests, BestPlansOfPrograms, PlannerCallsIgnoreRests}
-use Rattle.pi_rests.proofs.CallLemmas.{given-alike, function-given-alike, first-alike, resting}
+use Rattle.pi_rests.proofs.CallLemmas.{given-alike, function-given-alike, first-alike}
 use Rattle.pi_rests.proofs.GoalLemmas.{Alike, goal-alike}
 use Rattle.pi_rests.proofs.RuleLemmas.{level-alike, query-alike}
 

@@ -4,7 +4,6 @@ use Rattle.std.specs.Option.{option_or}
 use Rattle.pi_terms.specs.Tree.{Tree, Trees, no_trees, tree, tree_count}
 use Rattle.pi_states.specs.State.{State, bindings, followed}
 use Rattle.pi_effects.specs.Effect.{Effect, Succeeds, Fails, Writes, Raises}
-use Rattle.pi_effects.specs.Exception.{type_error}
 use Rattle.pi_effects.specs.Items.{each_tree}
 use Rattle.pi_effects.specs.BuiltIns.{built_in_predicate, built_in_function}
 use Rattle.pi_traces.specs.Trace.{Trace, Call, end, Deep}
@@ -15,7 +14,7 @@ use Rattle.pi_meaning.specs.Within.{a_body, resource_left}
 use Rattle.pi_meaning.specs.View.{body_view}
 use Rattle.pi_meaning.specs.Names.{is_later_predicate, is_later_function, is_planner, is_resource, is_catch, is_call}
 use Rattle.pi_meaning.specs.Given.{Later, Setting}
-use Rattle.pi_meaning.specs.Calls.{built_in, given_later, predicate_given, predicate_called, function_later, function_given, function_called, Called, called_by, unknown_name, with_planner, is_known, known_called, catch_called, again_called, name_called, term_called, called_at_level, called_below, first_called}
+use Rattle.pi_meaning.specs.Calls.{predicate_given, predicate_called, function_given, function_called, Called, called_by, unknown_name, with_planner, is_known, catch_called, again_called, name_called, term_called, called_at_level, called_below, first_called}
 use Rattle.pi_rests.specs.Rest.{IgnoresRests}
 
 -- a setting with a rest

@@ -1,18 +1,18 @@
 -- A small program by rests, worked through the definitions: what its bodies do goes by the rest.
 --     final(z) => true.
 --     action(a,S,A,K), current_resource() >= 3 => S = z, A = jump, K = 1.
-use Rattle.std.specs.Prelude.{◌≡◌, ℕ, pos, true, false, List, [], ◌∷◌, Some, None, codes, refl}
+use Rattle.std.specs.Prelude.{◌≡◌, ℕ, pos, true, false, List, [], ◌∷◌, None, codes, refl}
 use Rattle.pi_terms.specs.Tree.{Tree, var, int, atom, tree_count, cells}
 use Rattle.pi_terms.specs.Order.{order}
 use Rattle.pi_terms.specs.Variables.{occurrences}
 use Rattle.pi_terms.specs.Substitution.{instance}
-use Rattle.pi_terms.specs.PatternTree.{PatternTrees, slot, exact_atom, no_patterns, pattern}
+use Rattle.pi_terms.specs.PatternTree.{slot, exact_atom, no_patterns, pattern}
 use Rattle.pi_states.specs.Value.{rounds, value}
-use Rattle.pi_states.specs.State.{State, free, bound, empty_state, followed_for, followed}
+use Rattle.pi_states.specs.State.{State, empty_state, followed_for, followed}
 use Rattle.pi_states.specs.Unify.{in_pairs, assigned, joined, outcome, unified_for, unbound_in, cells_of_pairs, most_pairs, all_unified}
 use Rattle.pi_states.specs.Evaluation.{evaluated, evaluated_all}
 use Rattle.pi_states.specs.HeadMatch.{matched_in, matched_all_in}
-use Rattle.pi_core.specs.GoalTree.{GoalTree, truth, call, apply, seq, no_goals, goal, subgoals}
+use Rattle.pi_core.specs.GoalTree.{truth, call, apply, seq, no_goals, goal, subgoals}
 use Rattle.pi_core.specs.CoreTree.{ClauseTree, PredTree, find_pred}
 use Rattle.pi_effects.specs.Rows.{done_by, has_line}
 use Rattle.pi_effects.specs.Integers.{integer_functions}

@@ -4,28 +4,28 @@ use Rattle.std.proofs.Common.{rules}
 use Rattle.pi_terms.specs.Tree.{Tree, comp, Trees, tree_count}
 use Rattle.pi_states.specs.State.{State, bindings}
 use Rattle.pi_syntax.specs.ExpTree.{ExpTree}
-use Rattle.pi_syntax.specs.ProgramTree.{RuleTree, FunctionTree, WrittenClause, rule, function, fact, PartTree, ProgramTree}
+use Rattle.pi_syntax.specs.ProgramTree.{RuleTree, FunctionTree, WrittenClause, rule, function, fact, ProgramTree}
 use Rattle.pi_syntax.specs.declared.program.Decl.{Decl}
 use Rattle.pi_syntax.specs.declared.program.Mode.{Mode}
 use Rattle.pi_traces.specs.Trace.{Trace, one, then}
 use Rattle.pi_traces.specs.Control.{chosen}
 use Rattle.pi_meaning.specs.Raise.{raised_with}
 use Rattle.pi_meaning.specs.Drain.{drained}
-use Rattle.pi_meaning.specs.Level.{Level, Applied, Calls, level_of, ticked}
+use Rattle.pi_meaning.specs.Level.{Level, Applied, level_of, ticked}
 use Rattle.pi_meaning.specs.Rules.{chosen_rule}
 use Rattle.pi_meaning.specs.Environment.{Environment}
 use Rattle.pi_meaning.specs.Place.{Place, beginning}
 use Rattle.pi_meaning.specs.Telling.{telling}
 use Rattle.pi_meaning.specs.WrittenRules.{rules_of, is_rule_of, head_arguments}
 use Rattle.pi_meaning.specs.Given.{Setting}
-use Rattle.pi_names.specs.Stages.{Agent, LaterStages, RulesSetting}
+use Rattle.pi_names.specs.Stages.{Agent, RulesSetting}
 use Rattle.pi_names.specs.Texts.{Names, places, behind}
 use Rattle.pi_names.specs.Heads.{patterns_matched}
 use Rattle.pi_names.specs.Control.{strictly}
 use Rattle.pi_names.specs.Forms.{plain}
 use Rattle.pi_names.specs.Rules.{function_in, is_head_of, rules_named, functions_named, heads_named, modes_named, guarded, places_in, names_before, function_names, body_or_agent, leaves_later, rule_or_later, rules_called, predicate_run, body_or_none, applied, value_run, function_or_later, functions_called, function_run, calls_by, level_for}
 use Rattle.pi_names.specs.Prelude.{prelude}
-use Rattle.pi_names.specs.Run.{is_some_head, setting, program_level, answer_names, names_from, names_trace}
+use Rattle.pi_names.specs.Run.{is_some_head, answer_names, names_from, names_trace}
 use Rattle.pi_rests.specs.Written.{AsksNone, AskNone, MayAskNone, PartAsksNone, ProgramAsksNone}
 use Rattle.pi_rests.specs.NameRestLaws.{NamesIgnoreRests}
 use Rattle.pi_rests.proofs.CallLemmas.{resting, called-alike, function-alike, first-alike}

@@ -1,5 +1,5 @@
 -- Rules and levels of a program that isn't by rests are the same with built-ins that differ in `current_resource` alone.
-use Rattle.std.specs.Prelude.{◌≡◌, ℕ, zero, suc, ◌+◌, Bool, true, false, ◌||◌, cond, List, [], ◌∷◌, ◌++◌, length, replicate, Option, Some, None, codes, ⊤, refl}
+use Rattle.std.specs.Prelude.{◌≡◌, ℕ, zero, suc, ◌+◌, Bool, true, false, cond, List, [], ◌∷◌, ◌++◌, length, replicate, Option, Some, None, codes, ⊤, refl}
 use Rattle.std.specs.List.{list_any}
 use Rattle.pi_terms.specs.Tree.{Tree, comp, Trees, tree_count}
 use Rattle.pi_terms.specs.Places.{Places}
@@ -13,13 +13,13 @@ use Rattle.pi_traces.specs.Trace.{Trace, one, then}
 use Rattle.pi_traces.specs.Control.{chosen}
 use Rattle.pi_meaning.specs.Raise.{raised_with}
 use Rattle.pi_meaning.specs.Drain.{drained}
-use Rattle.pi_meaning.specs.Level.{Level, level_of, Applied, Calls, Point}
+use Rattle.pi_meaning.specs.Level.{Level, level_of, Applied, Point}
 use Rattle.pi_meaning.specs.Builtins.{Builtins}
-use Rattle.pi_meaning.specs.Meaning.{meaning, strictly}
-use Rattle.pi_meaning.specs.Rules.{guarded, chosen_rule, rule_before, rules, suspended, body_or_agent, pred_run, value_at, value_run, function_run, entered, call_run, application_run, calls_of, quiet_level, level_at}
-use Rattle.pi_meaning.specs.Run.{Solution, answered_with, query_start, query_trace}
+use Rattle.pi_meaning.specs.Meaning.{strictly}
+use Rattle.pi_meaning.specs.Rules.{guarded, chosen_rule, rule_before, rules, body_or_agent, pred_run, value_at, value_run, function_run, entered, call_run, application_run, calls_of, quiet_level, level_at}
+use Rattle.pi_meaning.specs.Run.{answered_with, query_start, query_trace}
 use Rattle.pi_planner_calls.specs.Rests.{asks_rest, clause_asks, is_by_rests}
-use Rattle.pi_rests.proofs.GoalLemmas.{Alike, both_false, parts_false, goal-alike}
+use Rattle.pi_rests.proofs.GoalLemmas.{Alike, both_false, goal-alike}
 
 -- ---- rules
 
