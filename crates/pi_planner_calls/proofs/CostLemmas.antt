@@ -7,7 +7,7 @@ use Rattle.pi_traces.specs.Trace.{Trace, Done, answers, end_of}
 use Rattle.pi_states.specs.State.{State}
 use Rattle.pi_answers.specs.declared.log.LogEntry.{LogEntry}
 use Rattle.pi_planner_calls.specs.Bodies.{Offer, Bodies, first_fault}
-use Rattle.pi_planner_calls.specs.Steps.{IsFinal, GoesOn, IsStep, Valid, Reached, at_start, by_step, IsClosed, IsExhausted, number_of}
+use Rattle.pi_planner_calls.specs.Steps.{IsFinal, GoesOn, IsStep, Valid, Reached, at_start, by_step, IsClosed, number_of}
 use Rattle.pi_planner_calls.specs.Entries.{HasPlan, ExhaustedBelow}
 use Rattle.pi_planner_calls.specs.Known.{NotByRests}
 use Rattle.pi_planner_calls.specs.PlanLaws.{PlansKeepTheLimit, PlansGoByCost, StepsGoByCost, ReachedGoesByCost, LessIsExhausted, BestPlansAreCheapest, LeastCostIsOne, NoPlanIsNone}
