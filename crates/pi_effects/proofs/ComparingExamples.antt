@@ -63,10 +63,23 @@ pub ordered : holds (codes "@<") (var 0) (n 1) two
     × holds (codes "@<") a (compound (codes "f") []) two
     × not_so (codes "@<") a a two
     × holds (codes "@=<") a a two
+    × holds (codes "@=<") a b two
+    × not_so (codes "@=<") b a two
     × holds (codes "@>") b a two
     × not_so (codes "@>") a a two
     × holds (codes "@>=") a a two
+    × holds (codes "@>=") b a two
     × not_so (codes "@>=") a b two
     × holds (codes "@<") (var 1) (n 6) second_is_5
 unfolding does
-ordered = (refl, refl, refl, refl, refl, refl, refl, refl, refl, refl)
+ordered = (refl, refl, refl, refl, refl, refl, refl, refl, refl, refl, refl, refl, refl)
+
+-- a bound variable counts as what it is bound to
+pub bound-arguments : holds (codes "<") (n 4) (var 1) second_is_5
+    × holds (codes ">=") (var 1) (n 5) second_is_5
+    × holds (codes "=:=") (var 1) (var 1) second_is_5
+    × not_so (codes "!=") (var 1) (n 5) second_is_5
+    × holds (codes "=") (var 1) (n 5) second_is_5
+    × not_so (codes "=") (n 6) (var 1) second_is_5
+unfolding does
+bound-arguments = (refl, refl, refl, refl, refl, refl)

@@ -27,6 +27,22 @@ pub quotients : comes_to (codes "//") (minus 7 ∷ n 2 ∷ []) (negsuc 2)
 unfolding gives
 quotients = (refl, refl, refl, refl, refl, refl, refl)
 
+-- each goes its own way: 7 // 2, 7 /> 2, 7 // -2, 7 /< -2, -7 div 2
+pub roundings : comes_to (codes "//") (n 7 ∷ n 2 ∷ []) (pos 3)
+    × comes_to (codes "/>") (n 7 ∷ n 2 ∷ []) (pos 4)
+    × comes_to (codes "//") (n 7 ∷ minus 2 ∷ []) (negsuc 2)
+    × comes_to (codes "/<") (n 7 ∷ minus 2 ∷ []) (negsuc 3)
+    × comes_to (codes "div") (minus 7 ∷ n 2 ∷ []) (negsuc 3)
+unfolding gives
+roundings = (refl, refl, refl, refl, refl)
+
+abbrev zero_divisor_of : List ℕ → Type 0
+zero_divisor_of name = raises name (n 1 ∷ n 0 ∷ []) (atom (codes "zero_divisor"))
+
+pub zero-divisors : zero_divisor_of (codes "/<") × zero_divisor_of (codes "div") × zero_divisor_of (codes "/>") × zero_divisor_of (codes "mod") × zero_divisor_of (codes "rem")
+unfolding gives
+zero-divisors = (refl, refl, refl, refl, refl)
+
 -- -2^127 divided by -1 is past the range, and what is left is 0
 pub at-the_least : raises (codes "//") (minus (2 ^ 127) ∷ minus 1 ∷ []) (atom (codes "integer_overflow"))
     × comes_to (codes "rem") (minus (2 ^ 127) ∷ minus 1 ∷ []) (pos 0)
@@ -42,6 +58,12 @@ pub ends : comes_to (codes "**") (n 2 ∷ n 126 ∷ []) (pos (2 ^ 126))
     × raises (codes "+") (int (pos (2 ^ 127 - 1)) ∷ n 1 ∷ []) (atom (codes "integer_overflow"))
 unfolding gives
 ends = (refl, refl, refl, refl)
+
+pub past-the_range : raises (codes "*") (int (pos (2 ^ 126)) ∷ n 2 ∷ []) (atom (codes "integer_overflow"))
+    × raises (codes "**") (n 2 ∷ n 127 ∷ []) (atom (codes "integer_overflow"))
+    × raises (codes "-") (minus (2 ^ 127) ∷ []) (atom (codes "integer_overflow"))
+unfolding gives
+past-the_range = (refl, refl, refl)
 
 pub powers-and_shifts : comes_to (codes "**") (n 0 ∷ n 0 ∷ []) (pos 1)
     × raises (codes "**") (n 2 ∷ minus 1 ∷ []) (atom (codes "negative_exponent"))
@@ -63,17 +85,22 @@ bits = (refl, refl, refl, refl)
 pub signs : comes_to (codes "-") (n 5 ∷ []) (negsuc 4)
     × comes_to (codes "+") (n 5 ∷ []) (pos 5)
     × comes_to (codes "abs") (minus 5 ∷ []) (pos 5)
+    × comes_to (codes "abs") (n 5 ∷ []) (pos 5)
     × comes_to (codes "sign") (minus 5 ∷ []) (negsuc 0)
     × comes_to (codes "min") (n 3 ∷ minus 5 ∷ []) (negsuc 4)
     × comes_to (codes "max") (n 3 ∷ minus 5 ∷ []) (pos 3)
 unfolding gives
-signs = (refl, refl, refl, refl, refl, refl)
+signs = (refl, refl, refl, refl, refl, refl, refl)
 
 -- an argument that is no integer is told before a fault, the first from the left; a bound variable counts as what it is bound to
 pub wrong-arguments : raises (codes "+") (a ∷ var 0 ∷ []) (raised_type (codes "integer") a)
     × raises (codes "//") (a ∷ n 0 ∷ []) (raised_type (codes "integer") a)
     × raises (codes "+") (n 1 ∷ var 7 ∷ []) (raised_type (codes "integer") (var 0))
+    × raises (codes "min") (a ∷ n 1 ∷ []) (raised_type (codes "integer") a)
+    × raises (codes "max") (n 1 ∷ a ∷ []) (raised_type (codes "integer") a)
     × (gives (codes "+") (var 0 ∷ n 1 ∷ []) (a_state (bound (n 4) ∷ [])) ≡ Some (Gives (n 5) (a_state (bound (n 4) ∷ []))))
+    × (gives (codes "*") (n 3 ∷ var 0 ∷ []) (a_state (bound (n 4) ∷ [])) ≡ Some (Gives (n 12) (a_state (bound (n 4) ∷ []))))
+    × (gives (codes "~") (var 0 ∷ []) (a_state (bound (n 4) ∷ [])) ≡ Some (Gives (minus 5) (a_state (bound (n 4) ∷ []))))
     × (gives (codes "abs") (n 1 ∷ n 2 ∷ []) empty_state ≡ None)
 unfolding gives
-wrong-arguments = (refl, refl, refl, refl, refl)
+wrong-arguments = (refl, refl, refl, refl, refl, refl, refl, refl, refl)

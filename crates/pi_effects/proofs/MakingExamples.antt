@@ -1,11 +1,12 @@
 -- Functions that make variables, and exceptions, worked out.
 use Rattle.std.proofs.Common.{◌≡◌, [], ◌∷◌, refl}
-use Rattle.std.specs.Prelude.{ℕ, negsuc, List, Some, codes}
-use Rattle.pi_terms.specs.Tree.{Tree, var, int, atom}
+use Rattle.std.specs.Prelude.{ℕ, nat_lt, true, false, negsuc, List, Some, codes}
+use Rattle.pi_terms.specs.Tree.{Tree, var, int, atom, cells, most_cells}
+use Rattle.pi_terms.specs.Copy.{copy, new_variables}
 use Rattle.pi_states.specs.State.{followed, followed_for, State, free, bound}
 use Rattle.pi_effects.specs.Effect.{Gives, Refuses, Raises}
 use Rattle.pi_effects.specs.Items.{list_of, array_of}
-use Rattle.pi_effects.specs.Making.{new_items, new_from}
+use Rattle.pi_effects.specs.Making.{new_items, new_from, copied}
 use Rattle.pi_states.specs.Evaluation.{with_new_variables}
 use Rattle.pi_effects.proofs.Worked.{a_state, n, a, b, compound, gives, does}
 
@@ -22,9 +23,12 @@ pub new-variables : (gives (codes "new_list") (n 2 ∷ []) one ≡ Some (Gives (
     × (gives (codes "new_array") (n 1 ∷ []) one ≡ Some (Gives (array_of (var 1 ∷ [])) (a_state (free ∷ free ∷ []))))
     × (gives (codes "new_array") (n 2 ∷ n 1 ∷ []) one
     ≡ Some (Gives (array_of (array_of (var 1 ∷ []) ∷ array_of (var 2 ∷ []) ∷ [])) (a_state (free ∷ free ∷ free ∷ []))))
+    × (gives (codes "new_array") (n 2 ∷ n 2 ∷ []) one
+    ≡ Some (Gives (array_of (array_of (var 1 ∷ var 2 ∷ []) ∷ array_of (var 3 ∷ var 4 ∷ []) ∷ [])) (a_state (free ∷ free ∷ free ∷ free ∷ free ∷ []))))
     × (gives (codes "new_list") (n 0 ∷ []) one ≡ Some (Gives (list_of []) one))
+    × (gives (codes "new_list") (var 0 ∷ []) (a_state (bound (n 1) ∷ [])) ≡ Some (Gives (list_of (var 1 ∷ [])) (a_state (bound (n 1) ∷ free ∷ []))))
 unfolding gives
-new-variables = (refl, refl, refl, refl)
+new-variables = (refl, refl, refl, refl, refl, refl)
 
 -- a size that is none is told, whatever it is; then the number of items
 pub wrong-sizes : raises (codes "new_list") (a ∷ []) (bad_index_of a) × raises (codes "new_list") (int (negsuc 0) ∷ []) (bad_index_of (int (negsuc 0)))
@@ -52,3 +56,8 @@ pub new-at_most : (new_items array_of one (n 16777216) ≡ Gives (array_of (new_
     × (new_items array_of one (n 16777217) ≡ Refuses (atom (codes "range_too_long")))
 unfolding followed followed_for
 new-at_most = (refl, refl)
+
+-- a term past the limit has no copy, and one at it has
+pub copy-at_most : (t : Tree) → ((nat_lt most_cells (cells t) ≡ true) → copied one t ≡ Refuses (atom (codes "term_too_large")))
+    × ((nat_lt most_cells (cells t) ≡ false) → copied one t ≡ Gives (copy 1 t) (with_new_variables (new_variables t) one))
+copy-at_most t = (λ past. rw past refl, λ within. rw within refl)

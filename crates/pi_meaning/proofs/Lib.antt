@@ -15,4 +15,3 @@ pub mod NestRules
 pub mod CoreExamples
 pub mod WholeExamples
 pub mod ToldCuts
-pub mod SurfaceDepths

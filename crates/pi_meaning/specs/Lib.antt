@@ -22,6 +22,7 @@ pub mod MeaningLaws
 pub mod Told
 pub mod Small
 pub mod Environment
+pub mod Place
+pub mod WrittenRules
+pub mod Telling
 pub mod Surface
-pub mod SurfaceRun
-pub mod SurfaceLaws

@@ -1,7 +1,6 @@
 -- What an answer of a query tells: the value of each named variable, and the domain of each unbound variable in these
 -- values that has one (own). How it is printed stands in PrintAnswer.
-use Rattle.std.specs.Prelude.{ℕ, List, [], ◌∷◌, Option, Some, None}
-use Rattle.std.specs.List.{flat_map}
+use Rattle.std.specs.Prelude.{List, [], ◌∷◌}
 use Rattle.pi_terms.specs.Tree.{var}
 use Rattle.pi_terms.specs.Places.{Places}
 use Rattle.pi_states.specs.Value.{value}
@@ -9,7 +8,7 @@ use Rattle.pi_states.specs.State.{State, bindings}
 use Rattle.pi_states.specs.Evaluation.{Evaluated, evaluated}
 use Rattle.pi_states.specs.ToldDomains.{told_domains}
 use Rattle.pi_meaning.specs.Run.{Solution}
-use Rattle.pi_meaning.specs.SurfaceRun.{Told}
+use Rattle.pi_meaning.specs.Telling.{Told}
 use Rattle.pi_answers.specs.AnswerVariables.{answer_variables}
 use Rattle.pi_core.specs.declared.core_program.NameSlot.{NameSlot}
 use Rattle.pi_answers.specs.declared.answer.NamedTerm.{NamedTerm}

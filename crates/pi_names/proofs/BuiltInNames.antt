@@ -1,128 +1,113 @@
--- Each name that means something else than a predicate of the program is built in, or is a form that is no call.
-use Rattle.std.proofs.Common.{◌≡◌, ℕ, zero, suc, ◌<◌, Bool, true, false, cond, List, [], ◌∷◌, refl, sym, ◌∙◌, ap, subst, arith}
-use Rattle.std.specs.Prelude.{◌==◌, ◌&&◌, ◌||◌, nat_lt, nat_le, Option, Some, None, codes, is_some, filter}
+-- The names that the language builds in are those that mean something by themselves, each as what it means.
+use Rattle.std.proofs.Common.{◌≡◌, ℕ, Bool, true, false, cond, if◌then◌else◌, List, [], ◌∷◌, refl, sym, ◌∙◌, ap, subst}
+use Rattle.std.specs.Prelude.{◌==◌, ◌&&◌, ◌||◌, nat_le, not, Option, Some, None, codes, is_some, filter}
 use Rattle.std.specs.List.{list_any}
 use Rattle.std.specs.Str.{bytes_eq}
-use Rattle.std.proofs.lemmas.Bool.{eqb-true, eqb-false, ltb-true}
-use Rattle.std.proofs.lemmas.Slice.Eq.{bytes_eq-Decides}
-use Rattle.pi_effects.specs.Rows.{Body, of_none, of_one, of_two, of_three, of_many, Row, fits, has_line}
+use Rattle.std.proofs.lemmas.Bool.{and_parts, or_parts, or_from, eqb-true}
+use Rattle.pi_effects.specs.Rows.{has_line}
+use Rattle.pi_effects.specs.Integers.{integer_functions}
 use Rattle.pi_effects.specs.Comparing.{comparing_tests}
 use Rattle.pi_effects.specs.Kinds.{kind_tests}
-use Rattle.pi_effects.specs.Texts.{writing_predicates}
-use Rattle.pi_effects.specs.BuiltIns.{tests, other_predicates, is_predicate}
+use Rattle.pi_effects.specs.Collections.{collection_functions}
+use Rattle.pi_effects.specs.Sorting.{sorting_functions}
+use Rattle.pi_effects.specs.Indexing.{index_functions}
+use Rattle.pi_effects.specs.Ranges.{range_functions}
+use Rattle.pi_effects.specs.Naming.{naming_functions}
+use Rattle.pi_effects.specs.Texts.{text_functions, writing_predicates}
+use Rattle.pi_effects.specs.Making.{making_functions}
+use Rattle.pi_effects.specs.BuiltIns.{reading_functions, is_function, tests, other_predicates, is_predicate}
+use Rattle.pi_syntax.specs.Tokens.{is_one_of}
 use Rattle.pi_syntax.specs.ProgramTree.{RuleTree}
 use Rattle.pi_syntax.specs.Signature.{Signature, exp_count}
-use Rattle.pi_meaning.specs.Surface.{rules_of, is_rule_of}
-use Rattle.pi_lib.specs.Names.{function_rows, predicate_rows, prelude_rows, kind_of}
+use Rattle.pi_meaning.specs.Names.{later_predicates, is_later_predicate, is_later_function, is_catch, is_call}
+use Rattle.pi_meaning.specs.WrittenRules.{rules_of, is_rule_of}
+use Rattle.pi_lib.specs.Names.{function_rows, predicate_rows, prelude_rows, is_listed, kind_of}
 use Rattle.pi_lib.specs.Forms.{is_form}
-use Rattle.pi_names.specs.Given.{later_predicates, is_later_predicate}
-use Rattle.pi_names.specs.Calls.{is_catch, is_call}
-use Rattle.pi_names.specs.Forms.{Form, negation, once, assignment, catch, by_term, membership, form_of}
+use Rattle.pi_lib.specs.declared.builtin.BuiltinKind.{BuiltinKind}
+use Rattle.pi_lib.specs.declared.builtin.BuiltinKind.TheVariants.{Predicate, Function, Prelude}
+use Rattle.pi_names.specs.Forms.{Form, negation, once, assignment, catch, by_term, membership, form_of, is_find_all, is_count_all}
 use Rattle.pi_names.specs.Rules.{rules_named}
 use Rattle.pi_names.specs.Prelude.{prelude}
-use Rattle.pi_names.specs.NameLaws.{are_some, is_taken, OtherNamesAreFree}
+use Rattle.pi_names.specs.Kinds.{are_some, is_unwritten, means_function, means_predicate, means_prelude, NamesHaveTheirKinds}
+use Rattle.pi_names.specs.NameLaws.{is_taken, OtherNamesAreFree}
+use Rattle.pi_names.proofs.TableLemmas.{Test, same-name, one-of, each-spelled, spellings-hold, each-signed, signatures-hold, each-below, body-holds, each-line, lines-hold, each-from, each-row, rows-hold}
 
--- the language builds it in
-abbrev known : List ℕ → ℕ → Bool
-known name k = is_some (kind_of name k)
+-- ---- functions
 
-same-name : (a b : List ℕ) → bytes_eq a b ≡ true → a ≡ b
-same-name a b e = (bytes_eq-Decides a b).0 e
+a-function : Test
+a-function name k = is_listed function_rows name k
 
-both : (a b : Bool) → (a && b) ≡ true → (a ≡ true) × (b ≡ true)
-both true true h = (refl, refl)
-both true false h = absurd cc
-both false b h = absurd cc
+-- a name of this spelling, with so many arguments
+spelled : (P : Test) (name spelling : List ℕ) (k j : ℕ) → (k == j && bytes_eq name spelling) ≡ true → P spelling j ≡ true → P name k ≡ true
+spelled P name spelling k j found h =
+    let parts : ((k == j) ≡ true) × (bytes_eq name spelling ≡ true) = and_parts (k == j) (bytes_eq name spelling) found in
+    subst (λ (i : ℕ). P name i ≡ true) (sym (eqb-true k j parts.0)) (subst (λ (n : List ℕ). P n j ≡ true) (sym (same-name name spelling parts.1)) h)
 
-one-of : (a b c : Bool) → (a ≡ true → c ≡ true) → (b ≡ true → c ≡ true) → (a || b) ≡ true → c ≡ true
-one-of true b c f g h = f refl
-one-of false b c f g h = g h
+one-written : (a b : Bool) → (a || b) ≡ true → not b ≡ true → a ≡ true
+one-written true b h other = refl
+one-written false true h other = absurd cc
+one-written false false h other = absurd cc
 
--- ---- tables of signatures
+lines-written : (name : List ℕ) (k : ℕ) → is_function name k ≡ true → (a-function name k || is_unwritten name k) ≡ true
+unfolding is_function reading_functions integer_functions collection_functions sorting_functions index_functions range_functions naming_functions text_functions making_functions each-line body-holds each-below a-function function_rows
+lines-written name k found =
+    let P : Test = λ n j. is_listed function_rows n j || is_unwritten n j in
+    one-of (has_line reading_functions name k) (has_line making_functions name k) (P name k) (lines-hold P reading_functions refl name k) (lines-hold P making_functions refl name k) found
 
-all-known : List Signature → Bool
-all-known [] = true
-all-known (s ∷ ss) = known s.name s.arity && all-known ss
+later-listed : (name : List ℕ) (k : ℕ) → is_later_function name k ≡ true → a-function name k ≡ true
+unfolding is_later_function each-spelled a-function function_rows
+later-listed name k found =
+    let spellings : List (List ℕ) = codes "fd_min" ∷ codes "fd_max" ∷ codes "fd_size" ∷ codes "fd_dom" ∷ [] in
+    let parts : ((k == 1) ≡ true) × (is_one_of spellings name ≡ true) = and_parts (k == 1) (is_one_of spellings name) found in
+    subst (λ (i : ℕ). is_listed function_rows name i ≡ true) (sym (eqb-true k 1 parts.0)) (spellings-hold (λ n j. is_listed function_rows n j) 1 spellings refl name parts.1)
 
-signatures-known : (ss : List Signature) → all-known ss ≡ true → (name : List ℕ) (k : ℕ) → list_any (λ s. bytes_eq s.name name && (s.arity == k)) ss ≡ true → known name k ≡ true
-unfolding all-known
-signatures-known [] h name k found = absurd cc
-signatures-known (s ∷ ss) h name k found =
-    let parts : (known s.name s.arity ≡ true) × (all-known ss ≡ true) = both (known s.name s.arity) (all-known ss) h in
-    one-of (bytes_eq s.name name && (s.arity == k)) _ (known name k) (λ here. this (both (bytes_eq s.name name) (s.arity == k) here) parts.0) (signatures-known ss parts.1 name k) found
-  where
-    this : (bytes_eq s.name name ≡ true) × ((s.arity == k) ≡ true) → known s.name s.arity ≡ true → known name k ≡ true
-    this h found = subst (λ (j : ℕ). known name j ≡ true) (eqb-true s.arity k h.1) (subst (λ (n : List ℕ). known n s.arity ≡ true) (same-name s.name name h.0) found)
+function-listed : (name : List ℕ) (k : ℕ) → means_function name k ≡ true → is_listed function_rows name k ≡ true
+unfolding a-function function_rows
+function-listed name k found =
+    one-of (is_function name k && not (is_unwritten name k)) _ (a-function name k)
+    (λ h. let parts = and_parts (is_function name k) (not (is_unwritten name k)) h in one-written (a-function name k) (is_unwritten name k) (lines-written name k parts.0) parts.1)
+    (one-of (is_later_function name k) _ (a-function name k) (later-listed name k)
+    (one-of (is_find_all name k) (is_count_all name k) (a-function name k) (λ h. spelled a-function name (codes "find_all") k 2 h refl) (λ h. spelled a-function name (codes "count_all") k 1 h refl))) found
 
-later-known : (name : List ℕ) (k : ℕ) → is_later_predicate name k ≡ true → known name k ≡ true
-unfolding is_later_predicate later_predicates all-known kind_of function_rows predicate_rows prelude_rows
-later-known name k h = signatures-known later_predicates refl name k h
+function-means : (name : List ℕ) (k : ℕ) → is_listed function_rows name k ≡ true → means_function name k ≡ true
+unfolding function_rows each-row each-from is_function reading_functions integer_functions collection_functions sorting_functions index_functions range_functions naming_functions text_functions making_functions has_line is_later_function
+function-means name k found = rows-hold (λ n j. means_function n j) function_rows refl name k found
 
--- ---- tables of built-ins
+-- ---- predicates
 
-known-below : List ℕ → ℕ → Bool
-known-below name zero = true
-known-below name (suc m) = known name (suc m) && known-below name m
+a-predicate : Test
+a-predicate name k = is_listed predicate_rows name k
 
-below-least : (name : List ℕ) (m k : ℕ) → known-below name m ≡ true → k < m → known name (suc k) ≡ true
-unfolding known-below
-below-least name zero k h less = absurd (omega arith)
-below-least name (suc m) k h less =
-    let parts : (known name (suc m) ≡ true) × (known-below name m ≡ true) = both (known name (suc m)) (known-below name m) h in
-    tested (k == m) refl parts.0 (below-least name m k parts.1)
-  where
-    tested : (b : Bool) → (k == m) ≡ b → known name (suc m) ≡ true → (k < m → known name (suc k) ≡ true) → known name (suc k) ≡ true
-    tested true e last rest = subst (λ (j : ℕ). known name (suc j) ≡ true) (sym (eqb-true k m e)) last
-    tested false e last rest = rest (omega (arith, less, eqb-false k m e))
+predicate-line : (name : List ℕ) (k : ℕ) → is_predicate name k ≡ true → a-predicate name k ≡ true
+unfolding is_predicate tests comparing_tests kind_tests writing_predicates other_predicates each-line body-holds each-below a-predicate predicate_rows
+predicate-line name k found =
+    let P : Test = λ n j. is_listed predicate_rows n j in
+    one-of (has_line tests name k) _ (P name k) (lines-hold P tests refl name k)
+    (one-of (has_line writing_predicates name k) (has_line other_predicates name k) (P name k) (lines-hold P writing_predicates refl name k) (lines-hold P other_predicates refl name k)) found
 
-below-known : (name : List ℕ) (m k : ℕ) → known-below name m ≡ true → nat_lt k m ≡ true → known name (suc k) ≡ true
-below-known name m k h less = below-least name m k h (ltb-true k m less)
+later-predicate : (name : List ℕ) (k : ℕ) → is_later_predicate name k ≡ true → a-predicate name k ≡ true
+unfolding is_later_predicate later_predicates each-signed a-predicate predicate_rows
+later-predicate name k found = signatures-hold (λ n j. is_listed predicate_rows n j) later_predicates refl name k found
 
-body-known : {R : Type 0} → List ℕ → Body R → Bool
-body-known name (of_none f) = known name 0
-body-known name (of_one f) = known name 1
-body-known name (of_two f) = known name 2
-body-known name (of_three f) = known name 3
-body-known name (of_many most f) = known-below name most
+call-row : (k : ℕ) → (nat_le 1 k && nat_le k 8) ≡ true → a-predicate (codes "call") k ≡ true
+unfolding a-predicate predicate_rows
+call-row k h = rw h refl
 
-fits-known : {R : Type 0} (name : List ℕ) (b : Body R) (k : ℕ) → body-known name b ≡ true → fits b k ≡ true → known name k ≡ true
-unfolding body-known
-fits-known name (of_none f) zero h fit = h
-fits-known name (of_none f) (suc k) h fit = absurd cc
-fits-known name (of_one f) zero h fit = absurd cc
-fits-known name (of_one f) (suc zero) h fit = h
-fits-known name (of_one f) (suc (suc k)) h fit = absurd cc
-fits-known name (of_two f) zero h fit = absurd cc
-fits-known name (of_two f) (suc zero) h fit = absurd cc
-fits-known name (of_two f) (suc (suc zero)) h fit = h
-fits-known name (of_two f) (suc (suc (suc k))) h fit = absurd cc
-fits-known name (of_three f) zero h fit = absurd cc
-fits-known name (of_three f) (suc zero) h fit = absurd cc
-fits-known name (of_three f) (suc (suc zero)) h fit = absurd cc
-fits-known name (of_three f) (suc (suc (suc zero))) h fit = h
-fits-known name (of_three f) (suc (suc (suc (suc k)))) h fit = absurd cc
-fits-known name (of_many most f) zero h fit = absurd cc
-fits-known name (of_many most f) (suc k) h fit = below-known name most k h fit
+call-listed : (name : List ℕ) (k : ℕ) → is_call name k ≡ true → a-predicate name k ≡ true
+call-listed name k h =
+    let parts : ((nat_le 1 k && nat_le k 8) ≡ true) × (bytes_eq name (codes "call") ≡ true) = and_parts (nat_le 1 k && nat_le k 8) (bytes_eq name (codes "call")) h in
+    subst (λ (n : List ℕ). a-predicate n k ≡ true) (sym (same-name name (codes "call") parts.1)) (call-row k parts.0)
 
-rows-known : {R : Type 0} → List (Row R) → Bool
-rows-known [] = true
-rows-known (r ∷ rows) = body-known r.name r.body && rows-known rows
+predicate-listed : (name : List ℕ) (k : ℕ) → means_predicate name k ≡ true → is_listed predicate_rows name k ≡ true
+unfolding a-predicate predicate_rows
+predicate-listed name k found =
+    one-of (is_predicate name k) _ (a-predicate name k) (predicate-line name k)
+    (one-of (is_later_predicate name k) _ (a-predicate name k) (later-predicate name k)
+    (one-of (is_catch name k) (is_call name k) (a-predicate name k) (λ h. spelled a-predicate name (codes "catch") k 3 h refl) (call-listed name k))) found
 
-lines-known : {R : Type 0} (rows : List (Row R)) → rows-known rows ≡ true → (name : List ℕ) (k : ℕ) → has_line rows name k ≡ true → known name k ≡ true
-unfolding rows-known has_line
-lines-known [] h name k found = absurd cc
-lines-known (r ∷ rows) h name k found =
-    let parts : (body-known r.name r.body ≡ true) × (rows-known rows ≡ true) = both (body-known r.name r.body) (rows-known rows) h in
-    one-of (bytes_eq r.name name && fits r.body k) _ (known name k) (λ here. this (both (bytes_eq r.name name) (fits r.body k) here) parts.0) (lines-known rows parts.1 name k) found
-  where
-    this : (bytes_eq r.name name ≡ true) × (fits r.body k ≡ true) → body-known r.name r.body ≡ true → known name k ≡ true
-    this h found = subst (λ (n : List ℕ). known n k ≡ true) (same-name r.name name h.0) (fits-known r.name r.body k found h.1)
-
-predicate-known : (name : List ℕ) (k : ℕ) → is_predicate name k ≡ true → known name k ≡ true
-unfolding is_predicate tests comparing_tests kind_tests writing_predicates other_predicates rows-known body-known known-below kind_of function_rows predicate_rows prelude_rows
-predicate-known name k h =
-    one-of (has_line tests name k) _ (known name k) (lines-known tests refl name k)
-    (one-of (has_line writing_predicates name k) (has_line other_predicates name k) (known name k) (lines-known writing_predicates refl name k) (lines-known other_predicates refl name k)) h
+predicate-means : (name : List ℕ) (k : ℕ) → is_listed predicate_rows name k ≡ true → means_predicate name k ≡ true
+unfolding predicate_rows each-row each-from is_predicate tests comparing_tests kind_tests writing_predicates other_predicates has_line is_later_predicate later_predicates
+predicate-means name k found = rows-hold (λ n j. means_predicate n j) predicate_rows refl name k found
 
 -- ---- the prelude
 
@@ -141,75 +126,71 @@ prelude-signatures =
     record { name = codes "select"; arity = 3 } ∷ record { name = codes "select"; arity = 3 } ∷
     record { name = codes "between"; arity = 3 } ∷ record { name = codes "between"; arity = 3 } ∷ []
 
-prelude-known : (name : List ℕ) (k : ℕ) → are_some (rules_named name k prelude) ≡ true → known name k ≡ true
-unfolding prelude prelude-signatures all-known exp_count kind_of function_rows predicate_rows prelude_rows
-prelude-known name k h = signatures-known prelude-signatures refl name k (rule-among (is_rule_of name k) (rules_of prelude) h)
+prelude-listed : (name : List ℕ) (k : ℕ) → means_prelude name k ≡ true → is_listed prelude_rows name k ≡ true
+unfolding prelude prelude-signatures each-signed exp_count prelude_rows
+prelude-listed name k h = signatures-hold (λ n j. is_listed prelude_rows n j) prelude-signatures refl name k (rule-among (is_rule_of name k) (rules_of prelude) h)
 
--- ---- forms
+prelude-means : (name : List ℕ) (k : ℕ) → is_listed prelude_rows name k ≡ true → means_prelude name k ≡ true
+unfolding prelude exp_count prelude_rows each-row each-from
+prelude-means name k found = rows-hold (λ n j. means_prelude n j) prelude_rows refl name k found
 
-not-known : (name : List ℕ) (k : ℕ) (b : Bool) → (b ≡ true → known name k ≡ true) → kind_of name k ≡ None → b ≡ false
-not-known name k true f none = absurd (cc (sym (f refl) ∙ ap (λ o. is_some o) none))
-not-known name k false f none = refl
+-- ---- kinds
+
+same-truth : (a b : Bool) → (a ≡ true → b ≡ true) → (b ≡ true → a ≡ true) → a ≡ b
+same-truth true b f g = sym (f refl)
+same-truth false true f g = g refl
+same-truth false false f g = refl
+
+abbrev kind-by : Bool → Bool → Bool → Option BuiltinKind
+kind-by a b c = cond a (Some Function) (cond b (Some Predicate) (cond c (Some Prelude) None))
+
+kind-tested : (a b c : Bool) → (if a then Some Function else if b then Some Predicate else if c then Some Prelude else None) ≡ kind-by a b c
+kind-tested true b c = refl
+kind-tested false true c = refl
+kind-tested false false true = refl
+kind-tested false false false = refl
+
+pub names-have-their-kinds : NamesHaveTheirKinds
+unfolding kind_of
+names-have-their-kinds name k =
+    let a : Bool = is_listed function_rows name k in
+    let b : Bool = is_listed predicate_rows name k in
+    let c : Bool = is_listed prelude_rows name k in
+    kind-tested a b c
+    ∙ ap (λ (t : Bool). kind-by t b c) (same-truth a (means_function name k) (function-means name k) (function-listed name k))
+    ∙ ap (λ (t : Bool). kind-by (means_function name k) t c) (same-truth b (means_predicate name k) (predicate-means name k) (predicate-listed name k))
+    ∙ ap (kind-by (means_function name k) (means_predicate name k)) (same-truth c (means_prelude name k) (prelude-means name k) (prelude-listed name k))
+
+-- ---- a name that is neither built in nor a form
+
+none-of-kinds : (a b c : Bool) → kind-by a b c ≡ None → (b ≡ false) × (c ≡ false)
+none-of-kinds true b c h = absurd cc
+none-of-kinds false true c h = absurd cc
+none-of-kinds false false true h = absurd cc
+none-of-kinds false false false h = (refl, refl)
 
 none-form : (b : Bool) (f : Form) (o : Option Form) → b ≡ false → is_some o ≡ false → is_some (cond b (Some f) o) ≡ false
 none-form true f o h rest = absurd cc
 none-form false f o h rest = rest
 
-pub first-false : (a b : Bool) → (a || b) ≡ false → a ≡ false
-first-false true b h = absurd cc
-first-false false b h = refl
+one-false : (a b c : Bool) → (a && (b || c)) ≡ false → ((a && b) ≡ false) × ((a && c) ≡ false)
+one-false true b c h = or_parts b c h
+one-false false b c h = (refl, refl)
 
-pub second-false : (a b : Bool) → (a || b) ≡ false → b ≡ false
-second-false true b h = absurd cc
-second-false false b h = h
-
-one-false : (a b c : Bool) → (a && (b || c)) ≡ false → (a && b) ≡ false
-one-false true true c h = absurd cc
-one-false true false c h = refl
-one-false false b c h = refl
-
-other-false : (a b c : Bool) → (a && (b || c)) ≡ false → (a && c) ≡ false
-other-false true true true h = absurd cc
-other-false true true false h = refl
-other-false true false c h = h
-other-false false b c h = refl
-
-catch-known : (name : List ℕ) (k : ℕ) → is_catch name k ≡ true → known name k ≡ true
-unfolding kind_of function_rows predicate_rows prelude_rows
-catch-known name k h =
-    let parts : ((k == 3) ≡ true) × (bytes_eq name (codes "catch") ≡ true) = both (k == 3) (bytes_eq name (codes "catch")) h in
-    subst (λ (j : ℕ). known name j ≡ true) (sym (eqb-true k 3 parts.0)) (subst (λ (n : List ℕ). known n 3 ≡ true) (sym (same-name name (codes "catch") parts.1)) refl)
-
-call-row : (k : ℕ) → (nat_le 1 k && nat_le k 8) ≡ true → known (codes "call") k ≡ true
-unfolding kind_of function_rows predicate_rows prelude_rows
-call-row k h = rw h refl
-
-call-known : (name : List ℕ) (k : ℕ) → is_call name k ≡ true → known name k ≡ true
-call-known name k h =
-    let parts : ((nat_le 1 k && nat_le k 8) ≡ true) × (bytes_eq name (codes "call") ≡ true) = both (nat_le 1 k && nat_le k 8) (bytes_eq name (codes "call")) h in
-    subst (λ (n : List ℕ). known n k ≡ true) (sym (same-name name (codes "call") parts.1)) (call-row k parts.0)
-
-form-known : (name : List ℕ) (k : ℕ) → kind_of name k ≡ None → is_form name k ≡ false → is_some (form_of name k) ≡ false
+form-free : (name : List ℕ) (k : ℕ) → is_form name k ≡ false → is_catch name k ≡ false → is_call name k ≡ false → is_some (form_of name k) ≡ false
 unfolding form_of
-form-known name k none no-form =
-    let signs : ((k == 1) && (bytes_eq name (codes "not") || bytes_eq name (codes "once"))) ≡ false = first-false _ ((k == 2) && (bytes_eq name (codes ":=") || bytes_eq name (codes "in"))) no-form in
-    let others : ((k == 2) && (bytes_eq name (codes ":=") || bytes_eq name (codes "in"))) ≡ false = second-false ((k == 1) && (bytes_eq name (codes "not") || bytes_eq name (codes "once"))) _ no-form in
-    none-form _ negation _ (one-false (k == 1) (bytes_eq name (codes "not")) (bytes_eq name (codes "once")) signs)
-    (none-form _ once _ (other-false (k == 1) (bytes_eq name (codes "not")) (bytes_eq name (codes "once")) signs)
-    (none-form _ assignment _ (one-false (k == 2) (bytes_eq name (codes ":=")) (bytes_eq name (codes "in")) others)
-    (none-form (is_catch name k) catch _ (not-known name k (is_catch name k) (catch-known name k) none)
-    (none-form (is_call name k) by_term _ (not-known name k (is_call name k) (call-known name k) none)
-    (none-form _ membership None (other-false (k == 2) (bytes_eq name (codes ":=")) (bytes_eq name (codes "in")) others) refl)))))
-
-all-false : (a b c d : Bool) → a ≡ false → b ≡ false → c ≡ false → d ≡ false → (a || (b || (c || d))) ≡ false
-all-false true b c d p q r s = absurd cc
-all-false false true c d p q r s = absurd cc
-all-false false false true d p q r s = absurd cc
-all-false false false false d p q r s = s
+form-free name k no-form no-catch no-call =
+    let both = or_parts ((k == 1) && (bytes_eq name (codes "not") || bytes_eq name (codes "once"))) ((k == 2) && (bytes_eq name (codes ":=") || bytes_eq name (codes "in"))) no-form in
+    let ones = one-false (k == 1) (bytes_eq name (codes "not")) (bytes_eq name (codes "once")) both.0 in
+    let twos = one-false (k == 2) (bytes_eq name (codes ":=")) (bytes_eq name (codes "in")) both.1 in
+    none-form _ negation _ ones.0 (none-form _ once _ ones.1 (none-form _ assignment _ twos.0 (none-form _ catch _ no-catch (none-form _ by_term _ no-call (none-form _ membership None twos.1 refl)))))
 
 pub other-names-are_free : OtherNamesAreFree
 unfolding is_taken
 other-names-are_free name k none no-form =
-    all-false (is_some (form_of name k)) (is_predicate name k) (is_later_predicate name k) (are_some (rules_named name k prelude)) (form-known name k none no-form)
-    (not-known name k (is_predicate name k) (predicate-known name k) none) (not-known name k (is_later_predicate name k) (later-known name k) none)
-    (not-known name k (are_some (rules_named name k prelude)) (prelude-known name k) none)
+    let kinds = none-of-kinds (means_function name k) (means_predicate name k) (means_prelude name k) (sym (names-have-their-kinds name k) ∙ none) in
+    let named = or_parts (is_predicate name k) _ kinds.0 in
+    let staged = or_parts (is_later_predicate name k) _ named.1 in
+    let terms = or_parts (is_catch name k) (is_call name k) staged.1 in
+    or_from (is_some (form_of name k)) _ (form-free name k no-form terms.0 terms.1)
+    (or_from (is_predicate name k) _ named.0 (or_from (is_later_predicate name k) (are_some (rules_named name k prelude)) staged.0 kinds.1))

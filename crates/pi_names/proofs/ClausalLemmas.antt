@@ -15,15 +15,17 @@ use Rattle.pi_meaning.specs.Drain.{drained}
 use Rattle.pi_meaning.specs.Raise.{raised_with}
 use Rattle.pi_meaning.specs.Facts.{fits_modes}
 use Rattle.pi_meaning.specs.Level.{Level, Applied, Calls, level_of, ticked}
-use Rattle.pi_meaning.specs.Surface.{rule_in, is_rule_of, telling, beginning}
-use Rattle.pi_names.specs.Within.{NamesView}
-use Rattle.pi_names.specs.Given.{Later, Setting}
+use Rattle.pi_meaning.specs.WrittenRules.{rule_in, is_rule_of}
+use Rattle.pi_meaning.specs.Telling.{telling}
+use Rattle.pi_meaning.specs.Place.{beginning}
+use Rattle.pi_meaning.specs.View.{View}
+use Rattle.pi_names.specs.Stages.{LaterStages, RulesSetting}
 use Rattle.pi_names.specs.Control.{strictly}
 use Rattle.pi_names.specs.Goals.{goal_of}
 use Rattle.pi_names.specs.Rules.{predicate_head, fact_head, function_in, is_head_of, heads_named, first_modes, modes_before, modes_named, rules_called, facts_called, functions_called, calls_by, level_for, predicate_run, function_run}
 use Rattle.pi_core.specs.CoreTree.{index_of}
 use Rattle.pi_names.specs.Prelude.{prelude}
-use Rattle.pi_names.specs.Run.{is_some_head, setting, answer_names, names_trace}
+use Rattle.pi_names.specs.Run.{is_some_head, setting, answer_names, names_from, names_trace}
 use Rattle.pi_names.specs.NameLaws.{clausal, ClausesCountAlone}
 
 part-kept : {X : Type 0} (g : Option WrittenClause → Option X) → g None ≡ None → (d : Decl) (c : Option WrittenClause) (ps : ProgramTree) →
@@ -48,20 +50,20 @@ modes-kept : (name : List ℕ) (k : ℕ) (ps : ProgramTree) → modes_named name
 modes-kept name k [] = refl
 modes-kept name k (p ∷ ps) = mode-kept name k p.decl p.clause ps (modes-kept name k ps)
 
-run-kept : (set : Setting) (ps : ProgramTree) (l : Level) (name : List ℕ) (ts : Trees) (s : State) (o : Option (List (List Mode))) →
+run-kept : (set : RulesSetting) (ps : ProgramTree) (l : Level) (name : List ℕ) (ts : Trees) (s : State) (o : Option (List (List Mode))) →
     predicate_run set (clausal ps) l name ts s o ≡ predicate_run set ps l name ts s o
 run-kept set ps l name ts s None =
     ap (λ (rs : List RuleTree). rules_called set (comp name ts) 0 (filter (is_rule_of name (tree_count ts)) rs) l ts s) (parts-kept rule_in refl ps)
 run-kept set ps l name ts s (Some lists) =
     ap (λ (fs : List ExpTree). cond (list_any (λ modes. fits_modes (bindings s) modes ts) lists) (facts_called (filter (is_head_of name (tree_count ts)) fs) ts s) done) (parts-kept fact_head refl ps)
 
-called-kept : (set : Setting) (ps : ProgramTree) (name : List ℕ) (ts : Trees) (s : State) (l : Level) →
+called-kept : (set : RulesSetting) (ps : ProgramTree) (name : List ℕ) (ts : Trees) (s : State) (l : Level) →
     predicate_run set (clausal ps) l name ts s (modes_named name (tree_count ts) (clausal ps)) ≡ predicate_run set ps l name ts s (modes_named name (tree_count ts) ps)
 called-kept set ps name ts s l =
     ap (λ (o : Option (List (List Mode))). predicate_run set (clausal ps) l name ts s o) (modes-kept name (tree_count ts) ps)
     ∙ run-kept set ps l name ts s (modes_named name (tree_count ts) ps)
 
-applied-kept : (set : Setting) (ps : ProgramTree) (name : List ℕ) (ts : Trees) (s : State) (l : Level) → function_run set (clausal ps) l name ts s ≡ function_run set ps l name ts s
+applied-kept : (set : RulesSetting) (ps : ProgramTree) (name : List ℕ) (ts : Trees) (s : State) (l : Level) → function_run set (clausal ps) l name ts s ≡ function_run set ps l name ts s
 applied-kept set ps name ts s l =
     ap (λ (fs : List FunctionTree). chosen (functions_called set (filter (λ f. is_head_of name (tree_count ts) f.head) fs) l ts s) (λ a. one a)
     (raised_with (codes "unresolved_function_call") (comp name ts) s)) (parts-kept function_in refl ps)
@@ -70,7 +72,7 @@ applied-kept set ps name ts s l =
 calls-with : (List ℕ → Trees → State → Trace State) → (List ℕ → Trees → State → Trace Applied) → Calls
 calls-with called applied = record { called = called; applied = applied; drained = λ s. drained s }
 
-calls-kept : (set : Setting) (ps : ProgramTree) (below : Option Level) → calls_by set (clausal ps) below ≡ calls_by set ps below
+calls-kept : (set : RulesSetting) (ps : ProgramTree) (below : Option Level) → calls_by set (clausal ps) below ≡ calls_by set ps below
 unfolding calls_by calls-with
 calls-kept set ps below =
     ap (λ f. calls-with f (λ name ts s. ticked below (λ l. function_run set (clausal ps) l name ts s)))
@@ -78,7 +80,7 @@ calls-kept set ps below =
     ∙ ap (calls-with (λ name ts s. ticked below (λ l. predicate_run set ps l name ts s (modes_named name (tree_count ts) ps))))
     (fun_ext (λ name. fun_ext (λ ts. fun_ext (λ s. ap (ticked below) (fun_ext (applied-kept set ps name ts s))))))
 
-level-kept : (set : Setting) (ps : ProgramTree) (d : ℕ) → level_for set (clausal ps) d ≡ level_for set ps d
+level-kept : (set : RulesSetting) (ps : ProgramTree) (d : ℕ) → level_for set (clausal ps) d ≡ level_for set ps d
 unfolding level_for
 level-kept set ps zero = ap (λ (c : Calls). level_of c None) (calls-kept set ps None)
 level-kept set ps (suc d) =
@@ -95,13 +97,16 @@ defines-kept ps name k =
     ap (λ (qs : ProgramTree). is_some_head (heads_named name k qs)) (sym (prelude-clausal ps))
     ∙ ap (λ (hs : List ExpTree). is_some_head (filter (is_head_of name k) hs)) (parts-kept predicate_head refl (prelude ++ ps))
 
-setting-kept : (v : NamesView) (later : Later) (ps : ProgramTree) → setting v later (clausal ps) ≡ setting v later ps
-setting-kept v later ps =
-    ap (λ (f : List ℕ → ℕ → Bool). let set : Setting = record { view = v; later = later; defines = f } in set) (fun_ext (λ name. fun_ext (λ k. defines-kept ps name k)))
+-- a setting by its predicates
+abbrev setting-with : View → LaterStages → (List ℕ → ℕ → Bool) → RulesSetting
+setting-with v later defines = record { calls = record { view = v; later = later.calls; defines = defines }; agent = later.agent }
+
+setting-kept : (v : View) (later : LaterStages) (ps : ProgramTree) → setting v later (clausal ps) ≡ setting v later ps
+setting-kept v later ps = ap (setting-with v later) (fun_ext (λ name. fun_ext (λ k. defines-kept ps name k)))
 
 pub clauses-count_alone : ClausesCountAlone
-unfolding names_trace
+unfolding names_trace names_from
 clauses-count_alone v later program goal d =
-    sym (ap (λ (set : Setting). then (strictly (goal_of set [] goal) (level_for set (prelude ++ clausal program) d) beginning) (telling (answer_names goal))) (setting-kept v later program)
-    ∙ ap (λ (l : Level). then (strictly (goal_of (setting v later program) [] goal) l beginning) (telling (answer_names goal)))
+    sym (ap (λ (set : RulesSetting). then (strictly (goal_of set.calls [] goal) (level_for set (prelude ++ clausal program) d) beginning) (telling (answer_names goal))) (setting-kept v later program)
+    ∙ ap (λ (l : Level). then (strictly (goal_of (setting v later program).calls [] goal) l beginning) (telling (answer_names goal)))
     (ap (λ (qs : ProgramTree). level_for (setting v later program) qs d) (sym (prelude-clausal program)) ∙ level-kept (setting v later program) (prelude ++ program) d))

@@ -8,7 +8,7 @@ use Rattle.pi_syntax.specs.ProgramTree.{function, ProgramTree}
 use Rattle.pi_syntax.specs.declared.program.Decl.{Decl}
 use Rattle.pi_traces.specs.Trace.{Tick, Out, Done, Raise, Deep}
 use Rattle.pi_traces.specs.Depth.{Ended}
-use Rattle.pi_names.specs.Within.{a_body}
+use Rattle.pi_meaning.specs.Within.{a_body}
 use Rattle.pi_names.specs.Prelude.{calls, exps, v, equal, all}
 use Rattle.pi_names.proofs.Worked.{Outcome, Seen, seen, told, run_in, run_of, n, compound, is}
 

@@ -8,14 +8,15 @@ use Rattle.pi_syntax.specs.Signature.{exp_count}
 use Rattle.pi_traces.specs.Trace.{Trace, done, one}
 use Rattle.pi_traces.proofs.BelowLemmas.{below-refl}
 use Rattle.pi_meaning.specs.Level.{Level}
-use Rattle.pi_meaning.specs.Surface.{Place}
+use Rattle.pi_meaning.specs.Place.{Place}
 use Rattle.pi_names.specs.Texts.{Names, places, places_all, places_behind, places_of_branches, behind, iterated, unit_places, begins_with_iterator, assigned, kept_names}
-use Rattle.pi_names.specs.Given.{Setting, LaterOnlyAdds}
+use Rattle.pi_meaning.specs.Given.{Setting, LaterOnlyAdds}
 use Rattle.pi_names.specs.Control.{Goal, Values, nothing, made_of, applied_to, all_found, all_counted, goal_at, value_at}
 use Rattle.pi_names.specs.Loops.{Finish, as_it_is, hidden, in_order}
 use Rattle.pi_names.specs.Forms.{Form, negation, once, assignment, catch, by_term, membership, form_of, Parts, call_goal, atom_goal, Reading, plain, operand, ranged, readings, first_reading, later_readings, is_operand_node, is_sum, operand_readings, function_value, call_value, range_value}
 use Rattle.pi_names.specs.Goals.{value_of, values_of, values_in, values_apart, goals_in, goal_of, all_of, any_of, arrow_in, branches_of, units_of, collection_of}
-use Rattle.pi_names.proofs.GrowControl.{Grows, stays, cond-below, draining-grows, front-grows, made-grows, onto-grows, applied-grows, found-grows, counted-grows, called-grows, calling-grows, following-grows, choosing-grows, denying-grows, once-grows, assigning-grows, catching-grows, ArrowGrows, no_arrow, an_arrow, branch-grows, AllGrow, goal-at-grows, value-at-grows}
+use Rattle.pi_meaning.proofs.CallLemmas.{cond-below}
+use Rattle.pi_names.proofs.GrowControl.{Grows, stays, draining-grows, front-grows, made-grows, onto-grows, applied-grows, found-grows, counted-grows, called-grows, calling-grows, following-grows, choosing-grows, denying-grows, once-grows, assigning-grows, catching-grows, ArrowGrows, no_arrow, an_arrow, branch-grows, AllGrow, goal-at-grows, value-at-grows}
 use Rattle.pi_names.proofs.GrowLoops.{turning-grows, unit-grows, while-grows, do-grows, adding-grows, comprehended-grows, started-grows, indexed-grows}
 
 nothing-grows : Grows nothing

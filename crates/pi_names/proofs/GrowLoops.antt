@@ -11,11 +11,11 @@ use Rattle.pi_traces.proofs.BelowLemmas.{below-refl, below-then, below-chosen}
 use Rattle.pi_meaning.specs.Level.{Level, lowest, over, Calls, lower, ticked, LevelBelow}
 use Rattle.pi_meaning.proofs.MeaningLemmas.{calls-below}
 use Rattle.pi_meaning.specs.Environment.{Environment}
-use Rattle.pi_meaning.specs.Surface.{Place}
+use Rattle.pi_meaning.specs.Place.{Place}
 use Rattle.pi_names.specs.Texts.{Names}
 use Rattle.pi_names.specs.Assigning.{with_names, carried}
 use Rattle.pi_names.specs.Heads.{pattern_matched}
-use Rattle.pi_names.specs.Given.{Setting}
+use Rattle.pi_meaning.specs.Given.{Setting}
 use Rattle.pi_names.specs.Control.{Goal, Value, draining, strictly, choosing, nothing, in_front, applied_to}
 use Rattle.pi_names.specs.Loops.{Finish, as_it_is, closed, opened, framed, matched_turn, element, elements, items_then, iterating, turning, unit, while_turns, do_turns, adding, comprehended}
 use Rattle.pi_names.specs.Forms.{indexed_by}

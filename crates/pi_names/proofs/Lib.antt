@@ -1,6 +1,7 @@
 pub mod Worked
 pub mod SmallLemmas
 pub mod SmallPrograms
+pub mod TableLemmas
 pub mod BuiltInNames
 pub mod GrowControl
 pub mod GrowLoops

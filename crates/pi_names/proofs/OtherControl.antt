@@ -13,12 +13,13 @@ use Rattle.pi_meaning.specs.Settle.{settled}
 use Rattle.pi_meaning.specs.Level.{Level, lowest, over, calls_at, lower, ticked}
 use Rattle.pi_meaning.specs.Meaning.{copyable}
 use Rattle.pi_meaning.specs.Environment.{Environment, known, Valued, ValuedAll, name_valued}
-use Rattle.pi_meaning.specs.Surface.{Place, at_state}
+use Rattle.pi_meaning.specs.Place.{Place, at_state}
 use Rattle.pi_names.specs.Assigning.{place_of}
 use Rattle.pi_names.specs.Terms.{written_term, written_terms, with_front, list_made, made, also_named, nothing_behind}
-use Rattle.pi_names.specs.Given.{Setting}
-use Rattle.pi_names.specs.Calls.{predicate_called, function_called, handled_in, handling}
-use Rattle.pi_names.specs.Control.{Goal, Value, Values, behind_all, draining, strictly, nothing, in_front, made_of, made_onto, applied_to, list_in, all_found, all_counted, called_with, first_called, calling_term, following, choosing, Arrow, branch_before, denying, taken_once, with_assigned, assigning, catching, goal_at, value_at}
+use Rattle.pi_meaning.specs.Given.{Setting}
+use Rattle.pi_meaning.specs.Calls.{predicate_called, function_called, first_called}
+use Rattle.pi_meaning.specs.Handling.{handled_in, handling}
+use Rattle.pi_names.specs.Control.{Goal, Value, Values, behind_all, draining, strictly, nothing, in_front, made_of, made_onto, applied_to, list_in, all_found, all_counted, called_with, calling_term, following, choosing, Arrow, branch_before, denying, taken_once, with_assigned, assigning, catching, goal_at, value_at}
 use Rattle.pi_names.specs.Goals.{started}
 use Rattle.pi_names.specs.OtherNames.{IsOther, Lacks, LackAll, Agree, AgreeAt, agree_at}
 use Rattle.pi_names.proofs.OtherEnvironments.{AgreeValued, agree_valued, AgreeAll, agree_all, agree-value, name-agrees}

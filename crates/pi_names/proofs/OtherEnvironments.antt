@@ -7,7 +7,7 @@ use Rattle.pi_terms.specs.Tree.{Tree, Trees}
 use Rattle.pi_states.specs.State.{State, next, with_new}
 use Rattle.pi_syntax.specs.ExpTree.{ExpTree, var, int, atom, str, list, list_onto, array, call, quote, index, range, range_by, at, collect, and, or, arrow, if_then, if_else, foreach, while_do, do_while, ExpTrees, no_exps, exp, ExpBranches, no_branches, branch}
 use Rattle.pi_meaning.specs.Environment.{Environment, meant, known, Valued, ValuedAll, name_valued}
-use Rattle.pi_meaning.specs.Surface.{Place}
+use Rattle.pi_meaning.specs.Place.{Place}
 use Rattle.pi_names.specs.Texts.{Names, is_among, is_blank, places, places_all, places_behind, places_of_branches, with_one, behind, unit_places, patterns_of, without, variable_first, the_name, assigned, assigned_all, assigned_in_branches, kept_names}
 use Rattle.pi_names.specs.Assigning.{with_value, place_of, with_names, with_value_of, with_values_of, carried}
 use Rattle.pi_names.specs.OtherNames.{IsOther, AreOther, Lacks, LackAll, LackBranches, Agree, AgreeAt, agree_at}

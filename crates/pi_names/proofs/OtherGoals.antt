@@ -8,9 +8,9 @@ use Rattle.pi_syntax.specs.Signature.{exp_count}
 use Rattle.pi_traces.specs.Trace.{Trace, one}
 use Rattle.pi_traces.specs.Related.{BelowBy}
 use Rattle.pi_meaning.specs.Level.{Level}
-use Rattle.pi_meaning.specs.Surface.{Place}
+use Rattle.pi_meaning.specs.Place.{Place}
 use Rattle.pi_names.specs.Texts.{Names, places, places_all, places_behind, places_of_branches, behind, iterated, unit_places, begins_with_iterator, assigned, kept_names}
-use Rattle.pi_names.specs.Given.{Setting}
+use Rattle.pi_meaning.specs.Given.{Setting}
 use Rattle.pi_names.specs.Control.{Goal, Values, nothing, made_of, applied_to, all_found, all_counted, goal_at, value_at}
 use Rattle.pi_names.specs.Loops.{Finish, as_it_is, hidden, in_order}
 use Rattle.pi_names.specs.Forms.{Form, negation, once, assignment, catch, by_term, membership, form_of, Parts, call_goal, atom_goal, Reading, plain, operand, ranged, readings, first_reading, later_readings, is_operand_node, is_sum, operand_readings, function_value, call_value, range_value}

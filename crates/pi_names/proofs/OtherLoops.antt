@@ -15,11 +15,11 @@ use Rattle.pi_traces.proofs.RelatedLemmas.{by-one, by-then, by-chosen}
 use Rattle.pi_meaning.specs.Settle.{settled_from}
 use Rattle.pi_meaning.specs.Level.{Level, lowest, over, calls_at, lower, ticked}
 use Rattle.pi_meaning.specs.Environment.{Environment, Valued}
-use Rattle.pi_meaning.specs.Surface.{Place}
+use Rattle.pi_meaning.specs.Place.{Place}
 use Rattle.pi_names.specs.Texts.{Names}
 use Rattle.pi_names.specs.Assigning.{with_value, with_names}
 use Rattle.pi_names.specs.Heads.{pattern_matched}
-use Rattle.pi_names.specs.Given.{Setting}
+use Rattle.pi_meaning.specs.Given.{Setting}
 use Rattle.pi_names.specs.Control.{Goal, Value, draining, strictly, nothing, in_front, applied_to, choosing}
 use Rattle.pi_names.specs.Loops.{Finish, as_it_is, now, closed, framed, matched_turn, element, elements, items_then, iterating, turning, unit, while_turns, do_turns, hidden, adding, comprehended}
 use Rattle.pi_names.specs.Forms.{indexed_by}

@@ -9,9 +9,9 @@ use Rattle.pi_syntax.specs.declared.program.Decl.{Decl}
 use Rattle.pi_syntax.specs.declared.program.Mode.{Mode}
 use Rattle.pi_traces.specs.Trace.{Tick, Out, Done, Raise}
 use Rattle.pi_traces.specs.Depth.{Ended}
-use Rattle.pi_names.specs.Within.{a_body}
+use Rattle.pi_meaning.specs.Within.{a_body}
 use Rattle.pi_names.specs.Prelude.{calls, exps, v, equal, all, part}
-use Rattle.pi_names.specs.Run.{query_names_view}
+use Rattle.pi_meaning.specs.View.{query_view}
 use Rattle.pi_names.proofs.Worked.{Outcome, Seen, seen, told, raising_later, run_with, run_in, run_of, n, compound, is}
 
 abbrev i : ℕ → ExpTree
@@ -175,7 +175,7 @@ calls-by_term = (refl, refl, refl, refl, refl)
 
 -- what a constraint is handed: X #= Y+abs(1)*length([a]); [X] :: 1..1+1; sum([1+1]) #= -X
 abbrev handed : ExpTree → Outcome
-handed goal = run_with raising_later (query_names_view []) [] goal 9 9
+handed goal = run_with raising_later (query_view []) [] goal 9 9
 
 operands-stay :
     (handed (calls (codes "#=") (X ∷ plus Y (calls (codes "*") (calls (codes "abs") (i 1 ∷ []) ∷ calls (codes "length") (items (a (codes "a") ∷ []) ∷ []) ∷ [])) ∷ []))

@@ -1,7 +1,8 @@
 -- On the small language the whole meaning over names is that of `Surface`: expressions, goals and bodies.
 use Rattle.std.proofs.Common.{◌≡◌, inl, inr, ℕ, suc, Bool, true, false, cond, List, ◌++◌, refl, sym, ◌∙◌, ap, subst, arith}
 use Rattle.std.proofs.Math.Path.{fun_ext}
-use Rattle.std.specs.Prelude.{◌&&◌, ◌||◌, Option, Some, None, codes, is_some, option_and_then}
+use Rattle.std.specs.Prelude.{◌&&◌, ◌||◌, Option, Some, None, codes, is_some, option_map, option_and_then}
+use Rattle.std.specs.Option.{option_or}
 use Rattle.std.specs.Str.{bytes_eq}
 use Rattle.std.specs.Ordering.{is_eq}
 use Rattle.pi_terms.specs.Order.{name_order}
@@ -23,17 +24,17 @@ use Rattle.pi_traces.specs.Trace.{Trace, done, one, then}
 use Rattle.pi_traces.proofs.TraceLemmas.{alt-done}
 use Rattle.pi_meaning.specs.View.{View}
 use Rattle.pi_meaning.specs.Drain.{drained}
-use Rattle.pi_meaning.specs.Settle.{settled}
-use Rattle.pi_meaning.specs.Level.{Level, calls_at}
-use Rattle.pi_meaning.specs.Builtin.{effect, effect_trace}
+use Rattle.pi_meaning.specs.Level.{Level, calls_at, or_called}
+use Rattle.pi_meaning.specs.Builtin.{settled_effect, effect}
 use Rattle.pi_meaning.specs.Small.{Defines, IsSmallTerm, AreSmallTerms, IsSmallAtom, IsSmallCall, IsSmallGoal, AreSmallGoals, IsSmallBody}
 use Rattle.pi_meaning.specs.Environment.{Environment, known, argument_matched, head_matched, Valued, valued, ValuedAll, valued_all}
-use Rattle.pi_meaning.specs.Surface.{Place, Doing, Calling, at_state, draining_first, built_in_or_called, call_trace, atom_trace, goal_trace, goals_trace, body_trace, name_places, name_places_all}
-use Rattle.pi_names.specs.Within.{plain_view}
+use Rattle.pi_meaning.specs.Place.{Place, Doing, at_state}
+use Rattle.pi_meaning.specs.Surface.{Calling, draining_first, built_in_or_called, call_trace, atom_trace, goal_trace, goals_trace, body_trace, name_places, name_places_all}
 use Rattle.pi_names.specs.Texts.{Names, places, places_all, places_behind, behind, variable_first}
 use Rattle.pi_names.specs.Heads.{pattern_matched, patterns_matched}
-use Rattle.pi_names.specs.Given.{Setting, is_later_predicate}
-use Rattle.pi_names.specs.Calls.{built_in_or_called as built_in_or, predicate_called}
+use Rattle.pi_meaning.specs.Given.{Setting}
+use Rattle.pi_meaning.specs.Names.{is_later_predicate}
+use Rattle.pi_meaning.specs.Calls.{given_later, predicate_given, predicate_called}
 use Rattle.pi_names.specs.Control.{Goal, draining, nothing, called_with}
 use Rattle.pi_names.specs.Forms.{Form, form_of, Parts, call_goal, atom_goal, Reading, readings, first_reading, later_readings}
 use Rattle.pi_names.specs.Goals.{value_of, values_of, values_in, values_apart, goals_in, goal_of, all_of}
@@ -96,6 +97,10 @@ pub none-of : {A : Type 0} (o : Option A) → is_some o ≡ false → o ≡ None
 none-of None h = refl
 none-of (Some x) h = absurd cc
 
+-- what a call does, by what a built-in of its name does
+abbrev given_or_called : Setting → Level → List ℕ → Trees → State → Option Effect → Trace State
+given_or_called set l name ts s o = or_called (option_or (option_map (settled_effect set.view s) o) (given_later set l name ts s)) l name ts s
+
 none-built_in : (name : List ℕ) (ts : Trees) (s : State) → is_predicate name (tree_count ts) ≡ false → built_in_predicate name ts s ≡ None
 none-built_in name ts s h = none-of (built_in_predicate name ts s) (predicates-listed name ts s ∙ h)
 
@@ -103,24 +108,19 @@ equals-built_in : (t u : Tree) (s : State) → built_in_predicate (codes "=") (t
 unfolding built_in_predicate tests comparing_tests kind_tests writing_predicates other_predicates done_by
 equals-built_in t u s = refl
 
-settled-same : (t : Trace State) (a b : State) → then t (settled a) ≡ then t (settled b)
-unfolding settled
-settled-same t a b = refl
-
 -- `=`, of two terms
-equation-same : (set : Setting) (l : Level) (calls : Calling) (es : ExpTrees) (e : Environment) (s before : State) → exp_count es ≡ 2 →
+equation-same : (set : Setting) (l : Level) (calls : Calling) (es : ExpTrees) (e : Environment) (s : State) → exp_count es ≡ 2 →
     predicate_called set l (codes "=") (valued_all es e s).trees (valued_all es e s).state
-    ≡ built_in_or_called (effect (plain_view set.view) (codes "=") (valued_all es e s).trees (valued_all es e s).state) calls (codes "=") (valued_all es e s) before
-unfolding predicate_called valued_all exp_count effect
-equation-same set l calls no_exps e s before h = absurd (omega arith)
-equation-same set l calls (exp x no_exps) e s before h = absurd (omega arith)
-equation-same set l calls (exp x (exp y no_exps)) e s before h =
+    ≡ built_in_or_called (effect set.view (codes "=") (valued_all es e s).trees (valued_all es e s).state) calls (codes "=") (valued_all es e s)
+unfolding predicate_called predicate_given valued_all exp_count effect
+equation-same set l calls no_exps e s h = absurd (omega arith)
+equation-same set l calls (exp x no_exps) e s h = absurd (omega arith)
+equation-same set l calls (exp x (exp y no_exps)) e s h =
     let all : ValuedAll = valued_all (exp x (exp y no_exps)) e s in
     let t : Tree = (valued x e s).tree in
     let u : Tree = (valued y (valued x e s).names (valued x e s).state).tree in
-    ap (λ (o : Option Effect). built_in_or set l (codes "=") all.trees all.state o) (equals-built_in t u all.state)
-    ∙ settled-same (effect_trace (plain_view set.view) (succeeds_in (unified all.state t u))) all.state before
-equation-same set l calls (exp x (exp y (exp z es))) e s before h = absurd (omega arith)
+    ap (λ (o : Option Effect). given_or_called set l (codes "=") all.trees all.state o) (equals-built_in t u all.state)
+equation-same set l calls (exp x (exp y (exp z es))) e s h = absurd (omega arith)
 
 -- a name that is built in with none of its numbers of arguments does nothing there
 cond-first : {A : Type 0} (a b : Bool) (x : A) → ((a && true) || (b && false)) ≡ false → cond a (Some x) None ≡ None
@@ -144,39 +144,38 @@ effect-none : (v : View) (name : List ℕ) (ts : Trees) (s : State) → effect_o
 unfolding effect
 effect-none v name ts s h = rw h refl
 
-defined-same : (set : Setting) (l : Level) (calls : Calling) (defined : Defined) → AllUntaken defined → SameCalls defined l calls → (name : List ℕ) (all : ValuedAll) (before : State) →
-    Defines defined name (tree_count all.trees) →
-    predicate_called set l name all.trees all.state ≡ built_in_or_called (effect (plain_view set.view) name all.trees all.state) calls name all before
-unfolding predicate_called
-defined-same set l calls defined free is name all before known =
+defined-same : (set : Setting) (l : Level) (calls : Calling) (defined : Defined) → AllUntaken defined → SameCalls defined l calls → (name : List ℕ) (all : ValuedAll) →
+    Defines defined name (tree_count all.trees) → predicate_called set l name all.trees all.state ≡ built_in_or_called (effect set.view name all.trees all.state) calls name all
+unfolding predicate_called predicate_given
+defined-same set l calls defined free is name all known =
     let un : IsUntaken name (tree_count all.trees) = free name (tree_count all.trees) known in
-    ap (λ (o : Option Effect). built_in_or set l name all.trees all.state o) (none-built_in name all.trees all.state un.not_built_in)
-    ∙ ap (λ (b : Bool). cond b (set.later.predicate set.view l name all.trees all.state) ((calls_at l).called name all.trees all.state)) un.not_later
+    ap (λ (o : Option Effect). given_or_called set l name all.trees all.state o) (none-built_in name all.trees all.state un.not_built_in)
+    ∙ ap (λ (b : Bool). or_called (cond b (Some (set.later.predicate set.view l name all.trees all.state)) None) l name all.trees all.state) un.not_later
     ∙ is.called name all.trees all.state known
-    ∙ sym (ap (λ (o : Option (Trace State)). built_in_or_called o calls name all before)
-    (effect-none (plain_view set.view) name all.trees all.state (small-none name all.trees all.state un.not_small_built_in)))
+    ∙ sym (ap (λ (o : Option (Trace State)). built_in_or_called o calls name all)
+    (effect-none set.view name all.trees all.state (small-none name all.trees all.state un.not_small_built_in)))
 
-predicate-same : (set : Setting) (l : Level) (calls : Calling) (defined : Defined) → AllUntaken defined → SameCalls defined l calls → (name : List ℕ) (es : ExpTrees) (e : Environment) (s before : State) →
+predicate-same : (set : Setting) (l : Level) (calls : Calling) (defined : Defined) → AllUntaken defined → SameCalls defined l calls → (name : List ℕ) (es : ExpTrees) (e : Environment) (s : State) →
     IsSmallCall defined name (exp_count es) →
     predicate_called set l name (valued_all es e s).trees (valued_all es e s).state
-    ≡ built_in_or_called (effect (plain_view set.view) name (valued_all es e s).trees (valued_all es e s).state) calls name (valued_all es e s) before
-predicate-same set l calls defined free is name es e s before (inl equals) =
+    ≡ built_in_or_called (effect set.view name (valued_all es e s).trees (valued_all es e s).state) calls name (valued_all es e s)
+predicate-same set l calls defined free is name es e s (inl equals) =
     subst (λ (f : List ℕ). predicate_called set l f (valued_all es e s).trees (valued_all es e s).state
-    ≡ built_in_or_called (effect (plain_view set.view) f (valued_all es e s).trees (valued_all es e s).state) calls f (valued_all es e s) before) (sym equals.0)
-    (equation-same set l calls es e s before equals.1)
-predicate-same set l calls defined free is name es e s before (inr known) =
-    defined-same set l calls defined free is name (valued_all es e s) before (subst (Defines defined name) (sym (terms-count es e s)) known)
+    ≡ built_in_or_called (effect set.view f (valued_all es e s).trees (valued_all es e s).state) calls f (valued_all es e s)) (sym equals.0)
+    (equation-same set l calls es e s equals.1)
+predicate-same set l calls defined free is name es e s (inr known) =
+    defined-same set l calls defined free is name (valued_all es e s) (subst (Defines defined name) (sym (terms-count es e s)) known)
 
 pub call-same : (set : Setting) (l : Level) (calls : Calling) (defined : Defined) → AllUntaken defined → SameCalls defined l calls → (rs : List Reading) (before : Names) (name : List ℕ) (es : ExpTrees) →
     IsSmallCall defined name (exp_count es) → AreSmallTerms es → (p : Place) →
-    called_with set name (values_of set rs before es) l p ≡ call_trace (plain_view set.view) calls name es p
+    called_with set name (values_of set rs before es) l p ≡ call_trace set.view calls name es p
 unfolding called_with
 call-same set l calls defined free is rs before name es small flat p =
     let all : ValuedAll = valued_all es p.names p.state in
     let on : ValuedAll → Trace Place = λ x. then (predicate_called set l name x.trees x.state) (λ s. one (record { names = x.names; state = s })) in
     ap (λ (t : Trace ValuedAll). then t on) (values-small set rs before es flat l p)
     ∙ then-of_one all on
-    ∙ ap (λ (t : Trace State). then t (λ s. one (record { names = all.names; state = s }))) (predicate-same set l calls defined free is name es p.names p.state p.state small)
+    ∙ ap (λ (t : Trace State). then t (λ s. one (record { names = all.names; state = s }))) (predicate-same set l calls defined free is name es p.names p.state small)
 
 -- ---- goals
 
@@ -203,16 +202,16 @@ atom-known defined name (inl (inr e)) a b = absurd (bytes-other name e b)
 atom-known defined name (inr known) a b = known
 
 bare-same : (set : Setting) (l : Level) (calls : Calling) (defined : Defined) → AllUntaken defined → SameCalls defined l calls → (name : List ℕ) → Defines defined name 0 → (p : Place) →
-    called_with set name nothing l p ≡ call_trace (plain_view set.view) calls name no_exps p
+    called_with set name nothing l p ≡ call_trace set.view calls name no_exps p
 unfolding called_with exp_count valued_all
 bare-same set l calls defined free is name known p =
     let all : ValuedAll = valued_all no_exps p.names p.state in
     let on : ValuedAll → Trace Place = λ x. then (predicate_called set l name x.trees x.state) (λ s. one (record { names = x.names; state = s })) in
     then-of_one all on
-    ∙ ap (λ (t : Trace State). then t (λ s. one (record { names = all.names; state = s }))) (predicate-same set l calls defined free is name no_exps p.names p.state p.state (inr known))
+    ∙ ap (λ (t : Trace State). then t (λ s. one (record { names = all.names; state = s }))) (predicate-same set l calls defined free is name no_exps p.names p.state (inr known))
 
 atom-same : (set : Setting) (l : Level) (calls : Calling) (defined : Defined) → AllUntaken defined → SameCalls defined l calls → (name : List ℕ) → IsSmallAtom defined name → (p : Place) →
-    atom_goal set name l p ≡ atom_trace (plain_view set.view) calls name p
+    atom_goal set name l p ≡ atom_trace set.view calls name p
 unfolding atom_goal
 atom-same set l calls defined free is name small p =
     chosen-same (bytes_eq name (codes "true")) (bytes_eq name (codes "fail")) p _ _ (λ a b. bare-same set l calls defined free is name (atom-known defined name small a b) p)
@@ -223,10 +222,10 @@ no-form defined free name k (inl equals) = rw (equals.0, equals.1) refl
 no-form defined free name k (inr known) = (free name k known).no_form
 
 pub goal-same : (set : Setting) (l : Level) (calls : Calling) (defined : Defined) → AllUntaken defined → SameCalls defined l calls → (before : Names) (e : ExpTree) → IsSmallGoal defined e → (p : Place) →
-    goal_of set before e l p ≡ goal_trace (plain_view set.view) calls e p
+    goal_of set before e l p ≡ goal_trace set.view calls e p
 unfolding goal_of
 goal-same set l calls defined free is before (ExpTree.atom name) small p =
-    drained-same set l calls defined is (atom_goal set name) (atom_trace (plain_view set.view) calls name) (atom-same set l calls defined free is name small) p
+    drained-same set l calls defined is (atom_goal set name) (atom_trace set.view calls name) (atom-same set l calls defined free is name small) p
 goal-same set l calls defined free is before (ExpTree.call name es) small p =
     let parts : Parts = record {
       variable = variable_first es;
@@ -236,19 +235,19 @@ goal-same set l calls defined free is before (ExpTree.call name es) small p =
       all = values_of set (readings name (exp_count es)) before es;
     } in
     ap (λ (o : Option Form). draining (call_goal set name o parts) l p) (no-form defined free name (exp_count es) small.0)
-    ∙ drained-same set l calls defined is (called_with set name (values_of set (readings name (exp_count es)) before es)) (call_trace (plain_view set.view) calls name es)
+    ∙ drained-same set l calls defined is (called_with set name (values_of set (readings name (exp_count es)) before es)) (call_trace set.view calls name es)
     (call-same set l calls defined free is (readings name (exp_count es)) before name es small.0 small.1) p
 goal-same set l calls defined free is before e small p = absurd small
 
 pub goals-same : (set : Setting) (l : Level) (calls : Calling) (defined : Defined) → AllUntaken defined → SameCalls defined l calls → (before : Names) (es : ExpTrees) → AreSmallGoals defined es → (p : Place) →
-    all_of set before es l p ≡ goals_trace (plain_view set.view) calls es p
+    all_of set before es l p ≡ goals_trace set.view calls es p
 unfolding all_of goals_trace AreSmallGoals
 goals-same set l calls defined free is before no_exps small p = refl
 goals-same set l calls defined free is before (exp e es) small p =
     then-same _ _ _ _ (goal-same set l calls defined free is before e small.0 p) (goals-same set l calls defined free is (behind before (places e)) es small.1)
 
 pub body-same : (set : Setting) (l : Level) (calls : Calling) (defined : Defined) → AllUntaken defined → SameCalls defined l calls → (before : Names) (e : ExpTree) → IsSmallBody defined e → (p : Place) →
-    goal_of set before e l p ≡ body_trace (plain_view set.view) calls e p
+    goal_of set before e l p ≡ body_trace set.view calls e p
 unfolding goal_of
 body-same set l calls defined free is before (ExpTree.and es) small p = goals-same set l calls defined free is before es small p
 body-same set l calls defined free is before (ExpTree.atom name) small p = goal-same set l calls defined free is before (ExpTree.atom name) small p

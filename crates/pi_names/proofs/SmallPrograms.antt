@@ -1,7 +1,8 @@
 -- On the small language the whole meaning over names is that of `Surface`: rules, programs and queries.
 use Rattle.std.proofs.Common.{◌≡◌, ℕ, zero, suc, Bool, true, false, cond, List, [], ◌∷◌, ◌++◌, length, ◌<◌, refl, sym, ◌∙◌, ap, subst, arith}
-use Rattle.std.specs.Prelude.{◌||◌, Option, Some, None, filter, is_some, slice_index_or}
+use Rattle.std.specs.Prelude.{Option, Some, None, filter, is_some, slice_index_or}
 use Rattle.std.specs.List.{cons_option, AllByRecursion}
+use Rattle.std.proofs.lemmas.Bool.{or_parts}
 use Rattle.std.proofs.lemmas.List.Elements.{recursion_from_All, filter-append, filter_map-append}
 use Rattle.pi_terms.specs.Tree.{Tree, comp, Trees, tree_count}
 use Rattle.pi_states.specs.State.{State, bindings}
@@ -17,18 +18,22 @@ use Rattle.pi_meaning.specs.Level.{Level}
 use Rattle.pi_meaning.specs.Rules.{chosen_rule}
 use Rattle.pi_meaning.specs.Small.{defined_by, heads, Defines, IsSmallHead, AreSmallTerms, IsSmallRule, IsSmallClause, IsSmallPart, IsSmallProgram}
 use Rattle.pi_meaning.specs.Environment.{Environment, head_matched}
-use Rattle.pi_meaning.specs.Surface.{Place, Calling, rule_in, rules_of, is_rule_of, head_arguments, rule_or_later, rules_trace, called_at, told_behind, telling, beginning, surface_trace}
-use Rattle.pi_names.specs.Within.{NamesView, plain_view}
+use Rattle.pi_meaning.specs.Place.{Place}
+use Rattle.pi_meaning.specs.Surface.{Calling, rule_or_later, rules_trace, called_at, surface_from}
+use Rattle.pi_meaning.specs.WrittenRules.{rule_in, rules_of, is_rule_of, head_arguments}
+use Rattle.pi_meaning.specs.Telling.{told_behind, telling}
+use Rattle.pi_meaning.specs.View.{View}
 use Rattle.pi_names.specs.Texts.{Names, places, behind}
-use Rattle.pi_names.specs.Given.{Later, Setting, is_later_predicate}
+use Rattle.pi_names.specs.Stages.{LaterStages, RulesSetting}
+use Rattle.pi_meaning.specs.Names.{is_later_predicate}
 use Rattle.pi_names.specs.Control.{strictly, draining}
 use Rattle.pi_names.specs.Forms.{form_of}
 use Rattle.pi_names.specs.Goals.{goal_of}
 use Rattle.pi_names.specs.Rules.{rules_named, modes_named, names_before, guarded, body_or_agent, leaves_later, rule_or_later as rule_or, rules_called, predicate_run, calls_by, level_for}
 use Rattle.pi_names.specs.Prelude.{prelude}
-use Rattle.pi_names.specs.Run.{setting, names_trace}
-use Rattle.pi_names.specs.NameLaws.{are_some, is_taken, HeadsAreFree, SmallIsSurface}
-use Rattle.pi_names.proofs.BuiltInNames.{first-false, second-false}
+use Rattle.pi_names.specs.Run.{setting, program_level, names_from}
+use Rattle.pi_names.specs.Kinds.{are_some, means_prelude}
+use Rattle.pi_names.specs.NameLaws.{is_taken, HeadsAreFree, SmallIsSurface, SmallCallsAreSurface}
 use Rattle.pi_names.proofs.SmallLemmas.{Defined, none-of, then-same, SameCalls, AllUntaken, body-same, head-same, body-names}
 
 -- ---- rules
@@ -40,30 +45,30 @@ head-small (ExpTree.call name es) small = small.1
 head-small e small = absurd small
 
 -- a rule without condition and events, where its head matched
-plain-rule : (set : Setting) (call : Tree) (i : ℕ) (r : RuleTree) (l : Level) (p : Place) (later : Trace State) (names : Names) (c : Option ExpTree) (es : List ExpTree) → c ≡ None → es ≡ [] →
+plain-rule : (set : RulesSetting) (call : Tree) (i : ℕ) (r : RuleTree) (l : Level) (p : Place) (later : Trace State) (names : Names) (c : Option ExpTree) (es : List ExpTree) → c ≡ None → es ≡ [] →
     chosen (guarded set names c l p) (λ q. chosen_rule (leaves_later r es) (body_or_agent set call i r es l q) later) later
-    ≡ chosen_rule r.back (then (goal_of set (names_before r.head r.cond) r.body l p) (λ q. one q.state)) later
+    ≡ chosen_rule r.back (then (goal_of set.calls (names_before r.head r.cond) r.body l p) (λ q. one q.state)) later
 unfolding chosen
 plain-rule set call i r l p later names None [] a b = refl
 plain-rule set call i r l p later names None (e ∷ es) a b = absurd cc
 plain-rule set call i r l p later names (Some c) es a b = absurd cc
 
-rule-same : (set : Setting) (l : Level) (calls : Calling) (defined : Defined) → AllUntaken defined → SameCalls defined l calls → (call : Tree) (i : ℕ) (r : RuleTree) → IsSmallRule defined r → (s : State) (later : Trace State) (o : Option Environment) →
-    rule_or set call i r l s later o ≡ rule_or_later (plain_view set.view) calls r s later o
+rule-same : (set : RulesSetting) (l : Level) (calls : Calling) (defined : Defined) → AllUntaken defined → SameCalls defined l calls → (call : Tree) (i : ℕ) (r : RuleTree) → IsSmallRule defined r → (s : State) (later : Trace State) (o : Option Environment) →
+    rule_or set call i r l s later o ≡ rule_or_later set.calls.view calls r s later o
 rule-same set l calls defined free is call i r small s later None = refl
 rule-same set l calls defined free is call i r small s later (Some e) =
     plain-rule set call i r l (record { names = e; state = s }) later (behind [] (places r.head)) r.cond r.events small.cond small.events
     ∙ ap (λ (t : Trace Place). chosen_rule r.back (then t (λ q. one q.state)) later)
-    (body-same set l calls defined free is (names_before r.head r.cond) r.body small.body (record { names = e; state = s }))
+    (body-same set.calls l calls defined free is (names_before r.head r.cond) r.body small.body (record { names = e; state = s }))
 
-rules-same : (set : Setting) (l : Level) (calls : Calling) (defined : Defined) → AllUntaken defined → SameCalls defined l calls → (call : Tree) (i : ℕ) (rs : List RuleTree) → AllByRecursion (IsSmallRule defined) rs → (ts : Trees) (s : State) →
-    rules_called set call i rs l ts s ≡ rules_trace (plain_view set.view) calls rs ts s
+rules-same : (set : RulesSetting) (l : Level) (calls : Calling) (defined : Defined) → AllUntaken defined → SameCalls defined l calls → (call : Tree) (i : ℕ) (rs : List RuleTree) → AllByRecursion (IsSmallRule defined) rs → (ts : Trees) (s : State) →
+    rules_called set call i rs l ts s ≡ rules_trace set.calls.view calls rs ts s
 unfolding rules_called rules_trace
 rules-same set l calls defined free is call i [] small ts s = refl
 rules-same set l calls defined free is call i (r ∷ rs) small ts s =
     ap (λ (o : Option Environment). rule_or set call i r l s (rules_called set call (suc i) rs l ts s) o) (head-same (bindings s) (head_arguments r.head) (head-small r.head small.0.head) ts [])
     ∙ ap (λ (t : Trace State). rule_or set call i r l s t (head_matched (bindings s) (head_arguments r.head) ts [])) (rules-same set l calls defined free is call (suc i) rs small.1 ts s)
-    ∙ rule-same set l calls defined free is call i r small.0 s (rules_trace (plain_view set.view) calls rs ts s) (head_matched (bindings s) (head_arguments r.head) ts [])
+    ∙ rule-same set l calls defined free is call i r small.0 s (rules_trace set.calls.view calls rs ts s) (head_matched (bindings s) (head_arguments r.head) ts [])
 
 -- ---- programs
 
@@ -102,7 +107,7 @@ no-rules [] h = refl
 no-rules (r ∷ rs) h = absurd cc
 
 -- the prelude has no rule of a name that isn't its own
-own-rules : (name : List ℕ) (k : ℕ) (ps : ProgramTree) → are_some (rules_named name k prelude) ≡ false → rules_named name k (prelude ++ ps) ≡ filter (is_rule_of name k) (rules_of ps)
+own-rules : (name : List ℕ) (k : ℕ) (ps : ProgramTree) → means_prelude name k ≡ false → rules_named name k (prelude ++ ps) ≡ filter (is_rule_of name k) (rules_of ps)
 own-rules name k ps none =
     ap (filter (is_rule_of name k)) (filter_map-append (λ p. rule_in p.clause) prelude ps)
     ∙ filter-append (is_rule_of name k) (rules_of prelude) (rules_of ps)
@@ -113,18 +118,15 @@ pub record Untaken (name : List ℕ) (k : ℕ) : Type 0 where
   pub form : is_some (form_of name k) ≡ false
   pub predicate : is_predicate name k ≡ false
   pub later : is_later_predicate name k ≡ false
-  pub prelude : are_some (rules_named name k prelude) ≡ false
+  pub prelude : means_prelude name k ≡ false
 
 untaken : (name : List ℕ) (k : ℕ) → is_taken name k ≡ false → Untaken name k
 unfolding is_taken
 untaken name k h =
-    let a : Bool = is_some (form_of name k) in
-    let b : Bool = is_predicate name k in
-    let c : Bool = is_later_predicate name k in
-    let d : Bool = are_some (rules_named name k prelude) in
-    let rest : (b || (c || d)) ≡ false = second-false a (b || (c || d)) h in
-    let last : (c || d) ≡ false = second-false b (c || d) rest in
-    record { form = first-false a (b || (c || d)) h; predicate = first-false b (c || d) rest; later = first-false c d last; prelude = second-false c d last }
+    let forms = or_parts (is_some (form_of name k)) _ h in
+    let named = or_parts (is_predicate name k) _ forms.1 in
+    let staged = or_parts (is_later_predicate name k) (means_prelude name k) named.1 in
+    record { form = forms.0; predicate = named.0; later = staged.0; prelude = staged.1 }
 
 -- no predicate of a small program is built in there
 abbrev IsFreeAt : Option Signature → Type 0
@@ -157,12 +159,12 @@ all-untaken program small free name k known =
 
 -- ---- depths
 
-run-same : (v : NamesView) (later : Later) (program : ProgramTree) → IsSmallProgram program → HeadsAreFree program → (l : Level) (calls : Calling) → SameCalls (heads program) l calls →
+run-same : (v : View) (later : LaterStages) (program : ProgramTree) → IsSmallProgram program → HeadsAreFree program → (l : Level) (calls : Calling) → SameCalls (heads program) l calls →
     (name : List ℕ) (ts : Trees) (s : State) → Defines (heads program) name (tree_count ts) →
     predicate_run (setting v later program) (prelude ++ program) l name ts s (modes_named name (tree_count ts) (prelude ++ program))
-    ≡ rules_trace (plain_view v) calls (filter (is_rule_of name (tree_count ts)) (rules_of program)) ts s
+    ≡ rules_trace v calls (filter (is_rule_of name (tree_count ts)) (rules_of program)) ts s
 run-same v later program small free l calls is name ts s known =
-    let set : Setting = setting v later program in
+    let set : RulesSetting = setting v later program in
     let k : ℕ = tree_count ts in
     let parts : AllByRecursion (IsSmallPart (heads program)) program = recursion_from_All (IsSmallPart (heads program)) program small.parts in
     let un : Untaken name k = untaken name k (free name k known) in
@@ -171,24 +173,27 @@ run-same v later program small free l calls is name ts s known =
     ∙ rules-same set l calls (heads program) (all-untaken program small free) is (comp name ts) 0 (filter (is_rule_of name k) (rules_of program))
     (filter-small (heads program) (is_rule_of name k) (rules_of program) (rules-small (heads program) program parts)) ts s
 
-calls-same : (v : NamesView) (later : Later) (program : ProgramTree) → IsSmallProgram program → HeadsAreFree program → (d : ℕ) →
-    SameCalls (heads program) (level_for (setting v later program) (prelude ++ program) d) (called_at (plain_view v) program d)
+calls-same : (v : View) (later : LaterStages) (program : ProgramTree) → IsSmallProgram program → HeadsAreFree program → (d : ℕ) →
+    SameCalls (heads program) (program_level v later program d) (called_at v program d)
 unfolding level_for calls_by called_at
 calls-same v later program small free zero = record { called = λ name ts s known. refl; drains = λ s. refl }
 calls-same v later program small free (suc d) = record {
-  called = λ name ts s known. ap (note Tick) (run-same v later program small free (level_for (setting v later program) (prelude ++ program) d) (called_at (plain_view v) program d) (calls-same v later program small free d) name ts s known);
+  called = λ name ts s known. ap (note Tick) (run-same v later program small free (program_level v later program d) (called_at v program d) (calls-same v later program small free d) name ts s known);
   drains = λ s. refl;
 }
 
 -- ---- queries
 
+pub small-calls-are-surface : SmallCallsAreSurface
+small-calls-are-surface v later program small free d name ts s known = (calls-same v later program small free d).called name ts s known
+
 pub small-is_surface : SmallIsSurface
-unfolding names_trace surface_trace strictly draining
-small-is_surface v later program goal small asked free d =
-    let set : Setting = setting v later program in
-    let l : Level = level_for set (prelude ++ program) d in
-    let calls : Calling = called_at (plain_view v) program d in
+unfolding names_from surface_from strictly draining
+small-is_surface v later program goal small asked free d p =
+    let l : Level = program_level v later program d in
+    let calls : Calling = called_at v program d in
     let is : SameCalls (heads program) l calls = calls-same v later program small free d in
     then-same _ _ _ _
-    (then-same _ _ _ _ (body-same set l calls (heads program) (all-untaken program small free) is [] goal asked beginning) (λ p. ap (λ (t : Trace State). then t (λ s. one (record { names = p.names; state = s }))) (is.drains p.state)))
-    (λ p. ap (λ (names : Names). telling (told_behind [] names) p) (body-names (heads program) goal asked))
+    (then-same _ _ _ _ (body-same (setting v later program).calls l calls (heads program) (all-untaken program small free) is [] goal asked p)
+    (λ q. ap (λ (t : Trace State). then t (λ s. one (record { names = q.names; state = s }))) (is.drains q.state)))
+    (λ q. ap (λ (names : Names). telling (told_behind [] names) q) (body-names (heads program) goal asked))

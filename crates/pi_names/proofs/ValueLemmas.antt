@@ -9,9 +9,9 @@ use Rattle.pi_traces.specs.Trace.{Trace, one, then}
 use Rattle.pi_traces.proofs.TraceLemmas.{then-assoc}
 use Rattle.pi_meaning.specs.Level.{Applied}
 use Rattle.pi_meaning.specs.Environment.{Valued, ValuedAll}
-use Rattle.pi_meaning.specs.Surface.{Place}
+use Rattle.pi_meaning.specs.Place.{Place}
 use Rattle.pi_names.specs.Texts.{places_behind, behind, variable_first}
-use Rattle.pi_names.specs.Calls.{predicate_called, function_called}
+use Rattle.pi_meaning.specs.Calls.{predicate_called, function_called}
 use Rattle.pi_names.specs.Control.{draining, applied_to, called_with}
 use Rattle.pi_names.specs.Forms.{Form, readings, Parts, call_goal}
 use Rattle.pi_names.specs.Goals.{values_of, values_in, values_apart, goals_in, goal_of}

@@ -44,31 +44,30 @@ use Rattle.pi_meaning.specs.Drain.{drained}
 use Rattle.pi_meaning.specs.Raise.{raised_with}
 use Rattle.pi_meaning.specs.Environment.{meant}
 use Rattle.pi_meaning.specs.Facts.{fits_modes}
-use Rattle.pi_meaning.specs.Surface.{told_behind, told_values, if_tellable}
-use Rattle.pi_meaning.specs.SurfaceRun.{Told, told_trace, place_told}
+use Rattle.pi_meaning.specs.Telling.{told_behind, told_values, if_tellable, Told, told_trace, place_told}
 use Rattle.pi_answers.specs.declared.answer.NamedTerm.{NamedTerm}
-use Rattle.pi_names.specs.Within.{NamesView}
+use Rattle.pi_meaning.specs.View.{View, query_view}
 use Rattle.pi_names.specs.Texts.{places, places_all, places_of_branches, behind, patterns_of, assigned as assigned_names, assigned_all, assigned_in_branches}
+use Rattle.pi_names.specs.Stages.{LaterStages, no_stages}
 use Rattle.pi_names.specs.Assigning.{with_value, with_names, with_values_of}
 use Rattle.pi_names.specs.Terms.{items_onto, written_term, written_terms}
 use Rattle.pi_names.specs.Heads.{pattern_matched, patterns_matched, items_matched}
-use Rattle.pi_names.specs.Given.{Later, later_predicates, is_later_predicate, is_later_function}
-use Rattle.pi_names.specs.Calls.{predicate_called, function_called, called_at_level}
+use Rattle.pi_meaning.specs.Names.{later_predicates, is_later_predicate, is_later_function}
+use Rattle.pi_meaning.specs.Calls.{predicate_given, predicate_called, function_given, function_called, called_at_level, first_called}
 use Rattle.pi_names.specs.Control.{draining, strictly, applied_to, all_found, all_counted, called_with, calling_term, choosing, denying, taken_once, catching, goal_at, value_at}
 use Rattle.pi_names.specs.Loops.{closed, elements, iterating, turning, while_turns, do_turns, comprehended}
 use Rattle.pi_names.specs.Forms.{form_of, atom_goal, readings, operand_readings, call_value, range_value, indexed_by}
 use Rattle.pi_names.specs.Goals.{value_of, values_of, values_in, values_apart, goals_in, goal_of, all_of, any_of, arrow_in, branches_of, units_of, collection_of}
 use Rattle.pi_names.specs.Rules.{modes_named, rules_called, facts_called, functions_called, calls_by, level_for}
 use Rattle.pi_names.specs.Prelude.{prelude}
-use Rattle.pi_names.specs.Run.{names_trace, answer_names, query_names_view}
-
--- nothing that a later stage gives is used
-abbrev pub none_later : Later
-none_later = record { predicate = λ v l name ts s. done; function = λ name ts s. done; agent = λ call i es p. done }
+use Rattle.pi_names.specs.Run.{names_from, names_trace, answer_names}
 
 -- a later stage that raises each of its goals, so that its arguments are seen
-abbrev pub raising_later : Later
-raising_later = record { predicate = λ v l name ts s. end (Raise (comp name ts)); function = λ name ts s. end (Raise (comp name ts)); agent = λ call i es p. end (Raise call) }
+abbrev pub raising_later : LaterStages
+raising_later = record {
+  calls = record { predicate = λ v l name ts s. end (Raise (comp name ts)); function = λ name ts s. end (Raise (comp name ts)) };
+  agent = λ call i es p. end (Raise call);
+}
 
 -- what is seen of a run: notes, and of answers their values
 pub data Seen : Type 0 where
@@ -84,20 +83,20 @@ pub record Outcome : Type 0 where
   pub stop : Stop
 
 -- the run of a goal, cut before Tick number n + 1, taken at a depth
-unfoldable pub run_with : Later → NamesView → ProgramTree → ExpTree → ℕ → ℕ → Outcome
-unfolding names_trace told_behind told_values if_tellable then alt first negated chosen collected counted caught cut settled drained raised_with meant fits_modes places places_all places_of_branches behind patterns_of assigned_names assigned_all assigned_in_branches with_value with_names with_values_of items_onto written_term written_terms pattern_matched patterns_matched items_matched later_predicates is_later_predicate is_later_function predicate_called function_called called_at_level draining strictly applied_to all_found all_counted called_with calling_term choosing denying taken_once catching goal_at value_at closed elements iterating turning while_turns do_turns comprehended form_of atom_goal readings operand_readings call_value range_value indexed_by value_of values_of values_in values_apart goals_in goal_of all_of any_of arrow_in branches_of units_of collection_of modes_named rules_called facts_called functions_called calls_by level_for prelude exp_count list_of_copies new_in_all built_in_function built_in_predicate is_predicate has_line tests comparing_tests kind_tests writing_predicates other_predicates pieces filled_in formatted reading_functions done_by integer_functions collection_functions sorting_functions index_functions range_functions naming_functions text_functions making_functions total inserted sorted each_once indexed values_by new_rows each_tree list_onto items_for list_items thrown exception_with type_error tree_count cells order occurrences firsts instance copy rounds value followed_for followed in_pairs assigned joined outcome unified_for unbound_in cells_of_pairs most_pairs all_unified with_new_variables power operation is_reserved is_unquoted_atom stands_bare atom_text is_characters characters written chars encode_utf8 digits
+unfoldable pub run_with : LaterStages → View → ProgramTree → ExpTree → ℕ → ℕ → Outcome
+unfolding names_trace names_from told_behind told_values if_tellable then alt first negated chosen collected counted caught cut settled drained raised_with meant fits_modes places places_all places_of_branches behind patterns_of assigned_names assigned_all assigned_in_branches with_value with_names with_values_of items_onto written_term written_terms pattern_matched patterns_matched items_matched later_predicates is_later_predicate is_later_function predicate_given predicate_called function_given function_called called_at_level first_called draining strictly applied_to all_found all_counted called_with calling_term choosing denying taken_once catching goal_at value_at closed elements iterating turning while_turns do_turns comprehended form_of atom_goal readings operand_readings call_value range_value indexed_by value_of values_of values_in values_apart goals_in goal_of all_of any_of arrow_in branches_of units_of collection_of modes_named rules_called facts_called functions_called calls_by level_for prelude exp_count list_of_copies new_in_all built_in_function built_in_predicate is_predicate has_line tests comparing_tests kind_tests writing_predicates other_predicates pieces filled_in formatted reading_functions done_by integer_functions collection_functions sorting_functions index_functions range_functions naming_functions text_functions making_functions total inserted sorted each_once indexed values_by new_rows each_tree list_onto items_for list_items thrown exception_with type_error tree_count cells order occurrences firsts instance copy rounds value followed_for followed in_pairs assigned joined outcome unified_for unbound_in cells_of_pairs most_pairs all_unified with_new_variables power operation is_reserved is_unquoted_atom stands_bare atom_text is_characters characters written chars encode_utf8 digits
 run_with later v program goal n depth =
     let c : Cut Told = cut n (told_trace (place_told (answer_names goal)) (names_trace v later program goal depth)) in
     record { events = map seen_of c.events; stop = c.stop }
 
-unfoldable pub run_in : NamesView → ProgramTree → ExpTree → ℕ → ℕ → Outcome
+unfoldable pub run_in : View → ProgramTree → ExpTree → ℕ → ℕ → Outcome
 unfolding run_with
-run_in v program goal n depth = run_with none_later v program goal n depth
+run_in v program goal n depth = run_with no_stages v program goal n depth
 
 -- a query
 unfoldable pub run_of : ProgramTree → ExpTree → ℕ → ℕ → Outcome
 unfolding run_in
-run_of program goal n depth = run_in (query_names_view []) program goal n depth
+run_of program goal n depth = run_in (query_view []) program goal n depth
 
 abbrev pub n : ℕ → Tree
 n k = int (pos k)

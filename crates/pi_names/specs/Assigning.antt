@@ -4,7 +4,7 @@ use Rattle.std.specs.Prelude.{ℕ, cond, List, [], ◌∷◌, Option, Some, None
 use Rattle.std.specs.Str.{bytes_eq}
 use Rattle.pi_terms.specs.Tree.{Tree}
 use Rattle.pi_meaning.specs.Environment.{Environment, meant, known, Valued, name_valued}
-use Rattle.pi_meaning.specs.Surface.{Place}
+use Rattle.pi_meaning.specs.Place.{Place}
 use Rattle.pi_names.specs.Texts.{Names}
 
 -- a name stands for another term from here on

@@ -4,18 +4,18 @@ use Rattle.std.specs.Prelude.{ℕ, zero, suc, pos, List, [], ◌∷◌, Option, 
 use Rattle.pi_terms.specs.Tree.{Tree, Trees, no_trees, tree}
 use Rattle.pi_terms.specs.ListCopies.{new_in_all, list_of_copies}
 use Rattle.pi_states.specs.Value.{value}
-use Rattle.pi_states.specs.State.{State, bindings, next}
+use Rattle.pi_states.specs.State.{bindings, next}
 use Rattle.pi_states.specs.Evaluation.{with_new_variables}
-use Rattle.pi_effects.specs.Items.{each_tree}
 use Rattle.pi_traces.specs.Trace.{Trace, done, one, alt, then, first}
 use Rattle.pi_traces.specs.Control.{negated, chosen, collected, counted, caught}
 use Rattle.pi_meaning.specs.Level.{Level, calls_at}
 use Rattle.pi_meaning.specs.Meaning.{copyable}
+use Rattle.pi_meaning.specs.Handling.{handling}
+use Rattle.pi_meaning.specs.Given.{Setting}
+use Rattle.pi_meaning.specs.Calls.{predicate_called, function_called, first_called}
 use Rattle.pi_meaning.specs.Environment.{Valued, ValuedAll}
-use Rattle.pi_meaning.specs.Surface.{Place, Doing, at_state}
+use Rattle.pi_meaning.specs.Place.{Place, Doing, at_state}
 use Rattle.pi_names.specs.Assigning.{with_value, place_of}
-use Rattle.pi_names.specs.Given.{Setting}
-use Rattle.pi_names.specs.Calls.{predicate_called, function_called, called_below, handling}
 
 -- what a goal does at a level, from a place; what an expression comes to, and what several come to
 abbrev pub Goal : Type 0
@@ -87,11 +87,7 @@ unfoldable pub called_with : Setting → List ℕ → Values → Goal
 called_with set name vs l p =
     then (vs l p) (λ all. then (predicate_called set l name all.trees all.state) (λ s. one (record { names = all.names; state = s })))
 
--- `call`: the first argument is called, the others are arguments behind its own
-abbrev pub first_called : Setting → Level → Trees → State → Trace State
-first_called set l no_trees s = done
-first_called set l (tree t ts) s = called_below set l t (each_tree ts) s
-
+-- `call`: of its arguments the first is called
 unfoldable pub calling_term : Setting → Values → Goal
 calling_term set vs l p = then (vs l p) (λ all. then (first_called set l all.trees all.state) (λ s. one (record { names = all.names; state = s })))
 

@@ -6,8 +6,8 @@ use Rattle.pi_terms.specs.Tree.{comp}
 use Rattle.pi_syntax.specs.Tokens.{is_one_of}
 use Rattle.pi_traces.specs.Trace.{done, one}
 use Rattle.pi_effects.specs.Indexing.{index_name}
-use Rattle.pi_names.specs.Given.{Setting}
-use Rattle.pi_names.specs.Calls.{is_catch, is_call}
+use Rattle.pi_meaning.specs.Names.{is_catch, is_call}
+use Rattle.pi_meaning.specs.Given.{Setting}
 use Rattle.pi_names.specs.Control.{Goal, Value, Values, no_goal, nothing, in_front, made_of, applied_to, all_found, all_counted, called_with, calling_term, denying, taken_once, assigning, catching, goal_at, value_at}
 
 -- ---- goals
@@ -93,11 +93,18 @@ operand_readings plain name k = []
 operand_readings ranged name k = []
 operand_readings operand name k = cond (is_operand_node name k) (operand ∷ operand ∷ []) []
 
+-- expressions that have a goal in them
+abbrev pub is_find_all : List ℕ → ℕ → Bool
+is_find_all name k = k == 2 && bytes_eq name (codes "find_all")
+
+abbrev pub is_count_all : List ℕ → ℕ → Bool
+is_count_all name k = k == 1 && bytes_eq name (codes "count_all")
+
 -- a call as an expression: `find_all` and `count_all` have a goal in them; any other is a function's
 abbrev pub function_value : Setting → List ℕ → ℕ → Parts → Value
 function_value set name k parts =
-    cond (k == 2 && bytes_eq name (codes "find_all")) (all_found (value_at parts.late 0) (goal_at parts.goals 1))
-    (cond (k == 1 && bytes_eq name (codes "count_all")) (all_counted (goal_at parts.goals 0)) (applied_to set name parts.all))
+    cond (is_find_all name k) (all_found (value_at parts.late 0) (goal_at parts.goals 1))
+    (cond (is_count_all name k) (all_counted (goal_at parts.goals 0)) (applied_to set name parts.all))
 
 unfoldable pub call_value : Setting → Reading → List ℕ → ℕ → Parts → Value
 call_value set plain name k parts = function_value set name k parts

@@ -9,10 +9,10 @@ use Rattle.pi_effects.specs.Texts.{text_list}
 use Rattle.pi_syntax.specs.ExpTree.{ExpTree, var, int, atom, str, list, list_onto, array, call, quote, index, range, range_by, at, collect, and, or, arrow, if_then, if_else, foreach, while_do, do_while, ExpTrees, no_exps, exp, ExpBranches, no_branches, branch}
 use Rattle.pi_syntax.specs.Signature.{exp_count}
 use Rattle.pi_traces.specs.Trace.{Trace, done, one}
+use Rattle.pi_meaning.specs.Given.{Setting}
 use Rattle.pi_meaning.specs.Environment.{known, Valued, name_valued}
 use Rattle.pi_names.specs.Texts.{Names, places, places_all, places_behind, places_of_branches, behind, iterated, unit_places, begins_with_iterator, variable_first, assigned, kept_names}
 use Rattle.pi_names.specs.Terms.{items_onto, written_term}
-use Rattle.pi_names.specs.Given.{Setting}
 use Rattle.pi_names.specs.Control.{Goal, Value, Values, no_goal, no_value, draining, strictly, constantly, nothing, in_front, made_of, made_onto, following, Arrow, branch_before, choosing, value_at}
 use Rattle.pi_names.specs.Loops.{Finish, as_it_is, turning, unit, while_turns, do_turns, hidden, adding, in_order, comprehended}
 use Rattle.pi_names.specs.Forms.{form_of, call_goal, atom_goal, Reading, plain, readings, first_reading, later_readings, operand_readings, call_value, range_value, indexed_by}

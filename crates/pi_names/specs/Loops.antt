@@ -15,7 +15,7 @@ use Rattle.pi_traces.specs.Trace.{Trace, end, note, Tick, Deep, Raise, one, then
 use Rattle.pi_meaning.specs.Settle.{settled_from}
 use Rattle.pi_meaning.specs.Level.{Level, lowest, over, calls_at, lower, ticked}
 use Rattle.pi_meaning.specs.Environment.{Environment, meant}
-use Rattle.pi_meaning.specs.Surface.{Place}
+use Rattle.pi_meaning.specs.Place.{Place}
 use Rattle.pi_names.specs.Texts.{Names}
 use Rattle.pi_names.specs.Assigning.{with_value, with_names, carried}
 use Rattle.pi_names.specs.Heads.{pattern_matched}

@@ -1,39 +1,37 @@
 -- The laws of the meaning over names.
-use Rattle.std.specs.Prelude.{◌≡◌, ℕ, ◌||◌, Bool, true, false, List, [], ◌∷◌, filter, None, is_some}
-use Rattle.pi_terms.specs.Tree.{Trees}
+use Rattle.std.specs.Prelude.{◌≡◌, ℕ, ◌||◌, Bool, false, List, filter, None, is_some}
+use Rattle.pi_terms.specs.Tree.{Trees, tree_count}
 use Rattle.pi_states.specs.State.{State}
 use Rattle.pi_syntax.specs.ExpTree.{ExpTree, ExpTrees, call}
+use Rattle.pi_syntax.specs.ProgramTree.{ProgramTree}
 use Rattle.pi_syntax.specs.Signature.{exp_count}
-use Rattle.pi_traces.specs.Trace.{Trace, one, then}
-use Rattle.pi_syntax.specs.ProgramTree.{RuleTree, ProgramTree}
 use Rattle.pi_effects.specs.BuiltIns.{is_predicate}
+use Rattle.pi_traces.specs.Trace.{Trace, one, then}
 use Rattle.pi_traces.specs.Depth.{DepthOnlyAdds, Cut, CutWithoutDeep}
-use Rattle.pi_meaning.specs.SurfaceRun.{Told}
+use Rattle.pi_meaning.specs.View.{View}
+use Rattle.pi_meaning.specs.Level.{Level, Applied, calls_at}
+use Rattle.pi_meaning.specs.Names.{is_later_predicate}
+use Rattle.pi_meaning.specs.Given.{Setting, LaterOnlyAdds}
+use Rattle.pi_meaning.specs.Environment.{Valued}
 use Rattle.pi_meaning.specs.Small.{heads, Defines, IsSmallProgram, IsSmallQuery}
-use Rattle.pi_meaning.specs.Surface.{Place, surface_trace}
+use Rattle.pi_meaning.specs.Place.{Place}
+use Rattle.pi_meaning.specs.Surface.{called_at, surface_from}
+use Rattle.pi_meaning.specs.Telling.{Told}
 use Rattle.pi_lib.specs.Names.{kind_of}
 use Rattle.pi_lib.specs.Forms.{is_form}
-use Rattle.pi_names.specs.Within.{NamesView, plain_view}
-use Rattle.pi_meaning.specs.Level.{Level, Applied}
-use Rattle.pi_meaning.specs.Environment.{Valued}
 use Rattle.pi_names.specs.Texts.{Names}
+use Rattle.pi_names.specs.Stages.{LaterStages}
 use Rattle.pi_names.specs.Control.{Values, draining, applied_to, called_with}
-use Rattle.pi_names.specs.Given.{Later, Setting, LaterOnlyAdds, is_later_predicate}
 use Rattle.pi_names.specs.Forms.{form_of, readings}
 use Rattle.pi_names.specs.Goals.{values_of, goal_of}
-use Rattle.pi_names.specs.Rules.{rules_named}
-use Rattle.pi_names.specs.Prelude.{prelude}
-use Rattle.pi_names.specs.Run.{names_trace, IsNamesRun}
+use Rattle.pi_names.specs.Kinds.{means_prelude}
+use Rattle.pi_names.specs.Run.{program_level, names_from, names_trace, IsNamesRun}
 
 -- ---- the small language
 
-abbrev pub are_some : List RuleTree → Bool
-are_some [] = false
-are_some (r ∷ rs) = true
-
 -- a name with so many arguments is a form of control, is built in, or is a predicate of the prelude
 unfoldable pub is_taken : List ℕ → ℕ → Bool
-is_taken name k = is_some (form_of name k) || (is_predicate name k || (is_later_predicate name k || are_some (rules_named name k prelude)))
+is_taken name k = is_some (form_of name k) || (is_predicate name k || (is_later_predicate name k || means_prelude name k))
 
 -- no predicate of a program has such a name, as in no program without a fault
 abbrev pub HeadsAreFree : ProgramTree → Type 0
@@ -43,24 +41,29 @@ HeadsAreFree program = (name : List ℕ) (k : ℕ) → Defines (heads program) n
 abbrev pub OtherNamesAreFree : Type 0
 OtherNamesAreFree = (name : List ℕ) (k : ℕ) → kind_of name k ≡ None → is_form name k ≡ false → is_taken name k ≡ false
 
--- On the small language the whole meaning over names is that of `Surface`, whatever the view is and whatever later stages give.
+-- On the small language, from each place, a goal over names does what it does by `Surface`, whatever the view is and whatever later stages give.
 abbrev pub SmallIsSurface : Type 0
-SmallIsSurface = (v : NamesView) (later : Later) (program : ProgramTree) (goal : ExpTree) → IsSmallProgram program → IsSmallQuery program goal → HeadsAreFree program → (d : ℕ) →
-    names_trace v later program goal d ≡ surface_trace (plain_view v) program goal d
+SmallIsSurface = (v : View) (later : LaterStages) (program : ProgramTree) (goal : ExpTree) → IsSmallProgram program → IsSmallQuery program goal → HeadsAreFree program → (d : ℕ) (p : Place) →
+    names_from v later program goal d p ≡ surface_from v program goal d p
+
+-- and so does each call of a predicate of such a program
+abbrev pub SmallCallsAreSurface : Type 0
+SmallCallsAreSurface = (v : View) (later : LaterStages) (program : ProgramTree) → IsSmallProgram program → HeadsAreFree program → (d : ℕ) (name : List ℕ) (ts : Trees) (s : State) →
+    Defines (heads program) name (tree_count ts) → (calls_at (program_level v later program d)).called name ts s ≡ called_at v program d name ts s
 
 -- ---- depths and runs
 
 -- each depth adds to a goal's trace at the depth before, where more depth only adds to what later stages give
 abbrev pub NamesDoMore : Type 0
-NamesDoMore = (v : NamesView) (later : Later) → LaterOnlyAdds later → (program : ProgramTree) (goal : ExpTree) → DepthOnlyAdds (names_trace v later program goal)
+NamesDoMore = (v : View) (later : LaterStages) → LaterOnlyAdds later.calls → (program : ProgramTree) (goal : ExpTree) → DepthOnlyAdds (names_trace v later program goal)
 
 -- so all depths that reach to a cut give the same one, and there is a run where some depth does
 abbrev pub NamesRunsAreOne : Type 0
-NamesRunsAreOne = (v : NamesView) (later : Later) → LaterOnlyAdds later → (program : ProgramTree) (goal : ExpTree) (n : ℕ) (c d : Cut Told) →
+NamesRunsAreOne = (v : View) (later : LaterStages) → LaterOnlyAdds later.calls → (program : ProgramTree) (goal : ExpTree) (n : ℕ) (c d : Cut Told) →
     IsNamesRun v later program goal n c → IsNamesRun v later program goal n d → c ≡ d
 
 abbrev pub NamesRunsReach : Type 0
-NamesRunsReach = (v : NamesView) (later : Later) (program : ProgramTree) (goal : ExpTree) (n depth : ℕ) → CutWithoutDeep n (names_trace v later program goal depth) →
+NamesRunsReach = (v : View) (later : LaterStages) (program : ProgramTree) (goal : ExpTree) (n depth : ℕ) → CutWithoutDeep n (names_trace v later program goal depth) →
     (c : Cut Told) × IsNamesRun v later program goal n c
 
 -- ---- calls go by values
@@ -103,4 +106,4 @@ clausal parts = filter (λ p. is_some p.clause) parts
 
 -- the other parts of a program count for nothing
 abbrev pub ClausesCountAlone : Type 0
-ClausesCountAlone = (v : NamesView) (later : Later) (program : ProgramTree) (goal : ExpTree) (d : ℕ) → names_trace v later program goal d ≡ names_trace v later (clausal program) goal d
+ClausesCountAlone = (v : View) (later : LaterStages) (program : ProgramTree) (goal : ExpTree) (d : ℕ) → names_trace v later program goal d ≡ names_trace v later (clausal program) goal d

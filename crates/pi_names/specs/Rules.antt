@@ -18,12 +18,13 @@ use Rattle.pi_meaning.specs.Level.{Level, Applied, Calls, level_of, ticked}
 use Rattle.pi_meaning.specs.Facts.{fits_modes}
 use Rattle.pi_meaning.specs.Rules.{chosen_rule}
 use Rattle.pi_meaning.specs.Environment.{Environment, Valued, ValuedAll}
-use Rattle.pi_meaning.specs.Surface.{Place, is_rule_of, rules_of, is_signature, head_arguments}
+use Rattle.pi_meaning.specs.Place.{Place}
+use Rattle.pi_meaning.specs.WrittenRules.{is_rule_of, rules_of, is_signature, head_arguments}
 use Rattle.pi_syntax.specs.Signature.{signature}
 use Rattle.pi_names.specs.Texts.{Names, places, behind}
 use Rattle.pi_names.specs.Terms.{written_terms}
 use Rattle.pi_names.specs.Heads.{patterns_matched}
-use Rattle.pi_names.specs.Given.{Setting}
+use Rattle.pi_names.specs.Stages.{RulesSetting}
 use Rattle.pi_names.specs.Control.{Goal, strictly}
 use Rattle.pi_names.specs.Forms.{plain}
 use Rattle.pi_names.specs.Goals.{goal_of, value_of}
@@ -85,9 +86,9 @@ modes_named name k (p ∷ parts) = first_modes (modes_before name k p (index_of 
 -- ---- rules
 
 -- a condition is a strict place, of which the first answer counts; where there is none nothing is run
-abbrev pub guarded : Setting → Names → Option ExpTree → Goal
+abbrev pub guarded : RulesSetting → Names → Option ExpTree → Goal
 guarded set before None l p = one p
-guarded set before (Some c) l p = strictly (goal_of set before c) l p
+guarded set before (Some c) l p = strictly (goal_of set.calls before c) l p
 
 abbrev pub places_in : Option ExpTree → Names
 places_in None = []
@@ -98,9 +99,9 @@ abbrev pub names_before : ExpTree → Option ExpTree → Names
 names_before head c = behind (behind [] (places head)) (places_in c)
 
 -- a rule runs its body; an action rule has one answer instead, in which the call is a new agent
-abbrev pub body_or_agent : Setting → Tree → ℕ → RuleTree → List ExpTree → Level → Place → Trace State
-body_or_agent set call i r [] l p = then (goal_of set (names_before r.head r.cond) r.body l p) (λ q. one q.state)
-body_or_agent set call i r (e ∷ es) l p = set.later.agent call i (e ∷ es) p
+abbrev pub body_or_agent : RulesSetting → Tree → ℕ → RuleTree → List ExpTree → Level → Place → Trace State
+body_or_agent set call i r [] l p = then (goal_of set.calls (names_before r.head r.cond) r.body l p) (λ q. one q.state)
+body_or_agent set call i r (e ∷ es) l p = set.agent call i (e ∷ es) p
 
 -- an action rule is committed
 abbrev pub leaves_later : RuleTree → List ExpTree → Bool
@@ -109,14 +110,14 @@ leaves_later r (e ∷ es) = false
 
 -- A rule applies where its head matches, from an empty environment, and its condition has an answer. A committed rule ends the choice; of a backtrackable one the later
 -- rules are alternatives.
-abbrev pub rule_or_later : Setting → Tree → ℕ → RuleTree → Level → State → Trace State → Option Environment → Trace State
+abbrev pub rule_or_later : RulesSetting → Tree → ℕ → RuleTree → Level → State → Trace State → Option Environment → Trace State
 rule_or_later set call i r l s later None = later
 rule_or_later set call i r l s later (Some e) =
     chosen (guarded set (behind [] (places r.head)) r.cond l (record { names = e; state = s }))
     (λ p. chosen_rule (leaves_later r r.events) (body_or_agent set call i r r.events l p) later) later
 
 -- rules in order, each with its number; no rule, no answer
-unfoldable pub rules_called : Setting → Tree → ℕ → List RuleTree → Level → Trees → State → Trace State
+unfoldable pub rules_called : RulesSetting → Tree → ℕ → List RuleTree → Level → Trees → State → Trace State
 rules_called set call i [] l ts s = done
 rules_called set call i (r ∷ rs) l ts s =
     rule_or_later set call i r l s (rules_called set call (suc i) rs l ts s) (patterns_matched (bindings s) (head_arguments r.head) ts [])
@@ -133,16 +134,16 @@ facts_called (head ∷ heads) ts s =
     alt (settled_from s (option_and_then (unified_with ts) (written_terms (head_arguments head) [] s))) (facts_called heads ts s)
 
 -- a call fails where no mode list fits
-abbrev pub predicate_run : Setting → ProgramTree → Level → List ℕ → Trees → State → Option (List (List Mode)) → Trace State
+abbrev pub predicate_run : RulesSetting → ProgramTree → Level → List ℕ → Trees → State → Option (List (List Mode)) → Trace State
 predicate_run set program l name ts s None = rules_called set (comp name ts) 0 (rules_named name (tree_count ts) program) l ts s
 predicate_run set program l name ts s (Some lists) =
     cond (list_any (λ modes. fits_modes (bindings s) modes ts) lists) (facts_called (facts_named name (tree_count ts) program) ts s) done
 
 -- ---- functions
 
-abbrev pub body_or_none : Setting → Names → Option ExpTree → Goal
+abbrev pub body_or_none : RulesSetting → Names → Option ExpTree → Goal
 body_or_none set before None l p = one p
-body_or_none set before (Some body) l p = goal_of set before body l p
+body_or_none set before (Some body) l p = goal_of set.calls before body l p
 
 abbrev pub applied : Valued → Applied
 applied x = record { value = x.tree; state = x.state }
@@ -153,41 +154,41 @@ abbrev pub function_names : FunctionTree → Names
 function_names f = behind (behind [] (places f.head)) (places f.value)
 
 -- the body, whose answers count when nothing waits any more, and behind it the value
-abbrev pub value_run : Setting → FunctionTree → Level → Place → Trace Applied
+abbrev pub value_run : RulesSetting → FunctionTree → Level → Place → Trace Applied
 value_run set f l p =
     then (strictly (body_or_none set (behind (function_names f) (places_in f.cond)) f.body) l p)
-    (λ q. then (value_of set plain (behind (names_before f.head f.cond) (places_in f.body)) f.value l q) (λ x. one (applied x)))
+    (λ q. then (value_of set.calls plain (behind (names_before f.head f.cond) (places_in f.body)) f.value l q) (λ x. one (applied x)))
 
 -- a function's rules are committed
-abbrev pub function_or_later : Setting → FunctionTree → Level → State → Trace Applied → Option Environment → Trace Applied
+abbrev pub function_or_later : RulesSetting → FunctionTree → Level → State → Trace Applied → Option Environment → Trace Applied
 function_or_later set f l s later None = later
 function_or_later set f l s later (Some e) =
     chosen (guarded set (function_names f) f.cond l (record { names = e; state = s })) (λ p. value_run set f l p) later
 
-unfoldable pub functions_called : Setting → List FunctionTree → Level → Trees → State → Trace Applied
+unfoldable pub functions_called : RulesSetting → List FunctionTree → Level → Trees → State → Trace Applied
 functions_called set [] l ts s = done
 functions_called set (f ∷ fs) l ts s =
     function_or_later set f l s (functions_called set fs l ts s) (patterns_matched (bindings s) (head_arguments f.head) ts [])
 
 -- the first answer is the call's; where there is none the call is raised as unresolved
-abbrev pub function_run : Setting → ProgramTree → Level → List ℕ → Trees → State → Trace Applied
+abbrev pub function_run : RulesSetting → ProgramTree → Level → List ℕ → Trees → State → Trace Applied
 function_run set program l name ts s =
     chosen (functions_called set (functions_named name (tree_count ts) program) l ts s) (λ a. one a) (raised_with (codes "unresolved_function_call") (comp name ts) s)
 
 -- ---- depths
 
 -- draining, at a level that calls lead to; nothing waits so far
-abbrev pub drained_by : Setting → ProgramTree → Option Level → State → Trace State
+abbrev pub drained_by : RulesSetting → ProgramTree → Option Level → State → Trace State
 drained_by set program below s = drained s
 
 -- a call takes one from the depth, by a Tick
-unfoldable pub calls_by : Setting → ProgramTree → Option Level → Calls
+unfoldable pub calls_by : RulesSetting → ProgramTree → Option Level → Calls
 calls_by set program below = record {
   called = λ name ts s. ticked below (λ l. predicate_run set program l name ts s (modes_named name (tree_count ts) program));
   applied = λ name ts s. ticked below (λ l. function_run set program l name ts s);
   drained = λ s. drained_by set program below s;
 }
 
-unfoldable pub level_for : Setting → ProgramTree → ℕ → Level
+unfoldable pub level_for : RulesSetting → ProgramTree → ℕ → Level
 level_for set program zero = level_of (calls_by set program None) None
 level_for set program (suc d) = level_of (calls_by set program (Some (level_for set program d))) (Some (level_for set program d))

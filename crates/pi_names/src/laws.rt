@@ -1,12 +1,19 @@
 //! Laws of the meaning over names.
 ghost use Rattle.pi_names.specs.OtherNames.{OtherNamesChangeNothing};
-ghost use Rattle.pi_names.specs.NameLaws.{CallsGoByValues, ClausesCountAlone, FunctionsGoByValues, GoalsAreCalls, NamesDoMore, NamesRunsAreOne, NamesRunsReach, OtherNamesAreFree, SmallIsSurface};
+ghost use Rattle.pi_names.specs.Kinds.{NamesHaveTheirKinds};
+ghost use Rattle.pi_names.specs.NameLaws.{CallsGoByValues, ClausesCountAlone, FunctionsGoByValues, GoalsAreCalls, NamesDoMore, NamesRunsAreOne, NamesRunsReach, OtherNamesAreFree, SmallCallsAreSurface, SmallIsSurface};
 
 /// On the small language, of variables, integers, atoms, `=`, `true`, `fail`, calls and conjunctions, the meaning over names is that of
-/// `Surface`, over which lowering and the run of a program are proved. Its premise on the names of predicates holds of each name that the
-/// language neither builds in nor has as a form.
+/// `Surface`, which the proofs of lowering go through: for a goal from each place, and for each call.
 pub fn small_is_surface()
     ensures same { SmallIsSurface }
+    ensures calls { SmallCallsAreSurface }
+{}
+
+/// Just the names that the language builds in mean something by themselves, each as what it means: a function, a predicate, or a
+/// predicate of the prelude. So a name that is neither built in nor a form is free for a program.
+pub fn names_have_their_kinds()
+    ensures kinds { NamesHaveTheirKinds }
     ensures free { OtherNamesAreFree }
 {}
 

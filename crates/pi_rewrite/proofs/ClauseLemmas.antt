@@ -11,7 +11,7 @@ use Rattle.pi_syntax.specs.Signature.{Signature, signature}
 use Rattle.pi_core.specs.declared.core_program.CoreClause.{CoreClause}
 use Rattle.pi_core.specs.declared.core_program.CorePred.{CorePred}
 use Rattle.pi_syntax.specs.declared.program.Part.{Part}
-use Rattle.pi_meaning.specs.Surface.{head_arguments, rule_in, rules_of, is_signature}
+use Rattle.pi_meaning.specs.WrittenRules.{head_arguments, rule_in, rules_of, is_signature}
 use Rattle.pi_rewrite.specs.Lowered.{slots_after, slots_of_head, lowered_patterns, lowered_body, lowered_clause, lowered_rule, head_signature, named_by, predicate, with_clause, grouped}
 use Rattle.pi_rewrite.specs.Built.{IsRule, Adds, lowered_behind}
 

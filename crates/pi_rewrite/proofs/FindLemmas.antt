@@ -12,7 +12,7 @@ use Rattle.pi_core.specs.CoreTree.{ClauseTree, PredTree, is_pred, find_pred}
 use Rattle.pi_syntax.specs.ProgramTree.{RuleTree}
 use Rattle.pi_syntax.specs.Signature.{Signature, signature}
 use Rattle.pi_meaning.specs.Small.{StandTogether, GoesOn}
-use Rattle.pi_meaning.specs.Surface.{is_signature, is_rule_of}
+use Rattle.pi_meaning.specs.WrittenRules.{is_signature, is_rule_of}
 use Rattle.pi_rewrite.specs.Lowered.{lowered_rule, named_by, head_signature, grouped, lowered_rules}
 use Rattle.pi_rewrite.proofs.TextLemmas.{text_by_order}
 

@@ -3,7 +3,7 @@ use Rattle.std.proofs.Common.{◌≡◌, ℕ, ◌+◌, true, [], ◌∷◌, Opti
 use Rattle.std.specs.List.{cons_option}
 use Rattle.pi_syntax.specs.ProgramTree.{WrittenClause, ProgramTree}
 use Rattle.pi_syntax.specs.declared.program.Decl.{Decl}
-use Rattle.pi_meaning.specs.Surface.{rule_in, rules_of}
+use Rattle.pi_meaning.specs.WrittenRules.{rule_in, rules_of}
 use Rattle.pi_rewrite.specs.Lowered.{lowered, lowered_rules}
 use Rattle.pi_rewrite.specs.Unbuilt.{is_built, is_built_part, unbuilt_from, unbuilt_part, without_imports}
 use Rattle.pi_rewrite.proofs.BuiltTrees.{goes_on}

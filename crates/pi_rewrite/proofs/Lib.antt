@@ -18,8 +18,10 @@ pub mod QueryLemmas
 pub mod SoundGoals
 pub mod SoundPrograms
 pub mod SoundLemmas
+pub mod OverSurface
 pub mod CutLemmas
 pub mod LoweredLemmas
 pub mod BuiltTrees
 pub mod ImportLemmas
+pub mod FreeHeads
 pub mod BuiltWithin

@@ -8,7 +8,7 @@ use Rattle.pi_syntax.specs.ExpTree.{ExpTree}
 use Rattle.pi_syntax.specs.ProgramTree.{RuleTree, WrittenClause, rule, function, fact, ProgramTree}
 use Rattle.pi_syntax.specs.Signature.{Signature, signature, exp_count}
 use Rattle.pi_meaning.specs.Small.{defined_by, heads, IsSmallHead, IsSmallRule, IsSmallClause, IsSmallPart, IsSmallProgram, StandTogether}
-use Rattle.pi_meaning.specs.Surface.{rule_in, rules_of, is_signature, is_rule_of}
+use Rattle.pi_meaning.specs.WrittenRules.{rule_in, rules_of, is_signature, is_rule_of}
 use Rattle.pi_rewrite.specs.Lowered.{lowered_rule}
 use Rattle.pi_rewrite.proofs.GoalLemmas.{Defined}
 use Rattle.pi_rewrite.proofs.RuleLemmas.{SmallRules, small-none, small-cons, small-first, small-rest}

@@ -11,6 +11,7 @@ use Rattle.pi_traces.specs.Trace.{Trace, end, one, then}
 use Rattle.pi_meaning.specs.Raise.{within_limit, too_large}
 use Rattle.pi_states.specs.Evaluation.{Evaluated, slot_term, evaluated}
 use Rattle.pi_meaning.specs.View.{View}
+use Rattle.pi_meaning.specs.Instances.{small as builtins}
 use Rattle.pi_meaning.specs.Level.{Level, Point}
 use Rattle.pi_core.specs.CoreTree.{PredTree}
 use Rattle.pi_meaning.specs.Meaning.{draining, strictly, meaning}
@@ -22,11 +23,13 @@ use Rattle.pi_core.specs.declared.core_program.NameSlot.{NameSlot}
 use Rattle.pi_answers.specs.declared.answer.NamedTerm.{NamedTerm}
 use Rattle.pi_traces.proofs.RelatedLemmas.{Same, same}
 use Rattle.pi_meaning.specs.Environment.{Environment, Valued, known, name_valued, valued}
-use Rattle.pi_meaning.specs.Surface.{Place, Calling, draining_first, body_trace, called_at, told_values, if_tellable, telling}
+use Rattle.pi_meaning.specs.Place.{Place}
+use Rattle.pi_meaning.specs.Surface.{Calling, draining_first, body_trace, called_at, surface_from}
+use Rattle.pi_meaning.specs.Telling.{told_values, if_tellable, telling, Told, place_told, told_trace}
 use Rattle.pi_rewrite.specs.Lowered.{SlotNames, slot_known, slots_after, lowered_body, name_slots}
 use Rattle.pi_meaning.specs.Told.{named_values, solution_told}
-use Rattle.pi_meaning.specs.SurfaceRun.{Told, place_told, told_trace}
-use Rattle.pi_rewrite.specs.Laws.{CallsTheSame, query_from, goal_from, MeansTheSame}
+use Rattle.pi_rewrite.specs.Laws.{query_from}
+use Rattle.pi_rewrite.proofs.OverSurface.{CallsAsSurface, MeansAsSurface}
 use Rattle.pi_rewrite.proofs.FilledLemmas.{names_of, slots_at, Seen, new, there, seen-known}
 use Rattle.pi_rewrite.proofs.SameLemmas.{SameBy, same_end, same-one, same-then, same-equal}
 use Rattle.pi_rewrite.proofs.GoalLemmas.{SameCalls, at_slots, at_names, AtPlace, at_place, same-drained}
@@ -106,10 +109,10 @@ told-one xs x p e = subst (λ (t : Told). SameBy Same (one (solution_told xs x))
 
 -- the goal, and then what waits
 strictly-same : (program : ProgramTree) (goal : ExpTree) → IsSmallQuery program goal → (v : View) (l : Level) (calls : Calling) → SameCalls (heads program) l calls → (n : ℕ) → n ≡ length (slots_after goal []) → (s : State) →
-    SameBy (AtPlace l n (slots_after goal [])) (strictly (meaning v (lowered_body goal [])) (at_slots l n [] s)) (then (body_trace v calls goal (at_names [] s)) (draining_first (λ p. one p)))
+    SameBy (AtPlace l n (slots_after goal [])) (strictly (meaning (builtins v) (lowered_body goal [])) (at_slots l n [] s)) (then (body_trace v calls goal (at_names [] s)) (draining_first (λ p. one p)))
 unfolding strictly
 strictly-same program goal small v l calls is n here s =
-    same-then (AtPlace l n (slots_after goal [])) (AtPlace l n (slots_after goal [])) (meaning v (lowered_body goal []) (at_slots l n [] s)) (body_trace v calls goal (at_names [] s)) (draining (λ q. one q)) (draining_first (λ p. one p))
+    same-then (AtPlace l n (slots_after goal [])) (AtPlace l n (slots_after goal [])) (meaning (builtins v) (lowered_body goal []) (at_slots l n [] s)) (body_trace v calls goal (at_names [] s)) (draining (λ q. one q)) (draining_first (λ p. one p))
     (same-body (heads program) v l calls is goal small n [] (omega (arith, here)) [] s refl)
     (waits l n (slots_after goal []) is.drains)
   where
@@ -119,24 +122,24 @@ strictly-same program goal small v l calls is n here s =
 
 -- the core query with its parts
 core-trace : (v : View) (preds : List PredTree) (goal : ExpTree) (d : ℕ) (s : State) →
-    query_from v preds (lowered_query goal) d s
-    ≡ then (strictly (meaning v (lowered_body goal [])) (at_slots (level_at v preds d) (length (slots_after goal [])) [] s)) (answered_with (name_slots 0 (slots_after goal [])))
+    query_from (builtins v) preds (lowered_query goal) d s
+    ≡ then (strictly (meaning (builtins v) (lowered_body goal [])) (at_slots (level_at (builtins v) preds d) (length (slots_after goal [])) [] s)) (answered_with (name_slots 0 (slots_after goal [])))
 unfolding query_from
 core-trace v preds goal d s =
     let n : ℕ = length (slots_after goal []) in
-    let from : List PredTree → Places → Trace Solution = λ (ps : List PredTree) (slots : Places). then (strictly (meaning v (lowered_body goal [])) (record { level = level_at v ps d; slots = slots; state = s })) (answered_with (name_slots 0 (slots_after goal []))) in
+    let from : List PredTree → Places → Trace Solution = λ (ps : List PredTree) (slots : Places). then (strictly (meaning (builtins v) (lowered_body goal [])) (record { level = level_at (builtins v) ps d; slots = slots; state = s })) (answered_with (name_slots 0 (slots_after goal []))) in
     ap (λ ps. from ps (replicate n None)) (append-nil preds) ∙ ap (from preds) (sym (all-empty n))
 
 -- where calls do the same, so does a goal
-pub goal-keeps-the-trace : (program : ProgramTree) (goal : ExpTree) (preds : List PredTree) → CallsTheSame program preds → IsSmallQuery program goal → MeansTheSame program goal preds (lowered_query goal)
-unfolding goal_from
+pub goal-keeps-the-trace : (program : ProgramTree) (goal : ExpTree) (preds : List PredTree) → CallsAsSurface program preds → IsSmallQuery program goal → MeansAsSurface program goal preds (lowered_query goal)
+unfolding surface_from
 goal-keeps-the-trace program goal preds kept asked v d s =
     let ns : SlotNames = slots_after goal [] in
     let n : ℕ = length ns in
     let xs : List NameSlot = name_slots 0 ns in
-    let l : Level = level_at v preds d in
+    let l : Level = level_at (builtins v) preds d in
     let calls : Calling = called_at v program d in
-    let core : Trace Point = strictly (meaning v (lowered_body goal [])) (at_slots l n [] s) in
+    let core : Trace Point = strictly (meaning (builtins v) (lowered_body goal [])) (at_slots l n [] s) in
     let names : Trace Place = then (body_trace v calls goal (at_names [] s)) (draining_first (λ p. one p)) in
     ap (told_trace (solution_told xs)) (core-trace v preds goal d s)
     ∙ same-equal _ _ (same-then (TellSame xs) Same (then core (answered_with xs)) (then names (telling (shown_names xs))) (λ x. one (solution_told xs x)) (λ p. one (place_told (shown_names xs) p))

@@ -8,6 +8,7 @@ use Rattle.pi_syntax.specs.ExpTree.{ExpTree}
 use Rattle.pi_traces.specs.Trace.{Trace, one, alt, then}
 use Rattle.pi_traces.specs.Control.{chosen}
 use Rattle.pi_meaning.specs.View.{View}
+use Rattle.pi_meaning.specs.Instances.{small as builtins}
 use Rattle.pi_meaning.specs.Drain.{drained}
 use Rattle.pi_states.specs.HeadMatch.{matched_all_in}
 use Rattle.pi_meaning.specs.Level.{Level, calls_at, Point}
@@ -19,8 +20,9 @@ use Rattle.pi_meaning.specs.Small.{AreSmallTerms, IsSmallHead, IsSmallBody, IsSm
 use Rattle.pi_traces.proofs.RelatedLemmas.{Same, same}
 use Rattle.pi_traces.proofs.TraceLemmas.{alt-done}
 use Rattle.pi_meaning.specs.Environment.{Environment, head_matched}
-use Rattle.pi_meaning.specs.Surface.{Place, Calling, goals_trace, body_trace, head_arguments, rule_or_later, rules_trace}
-use Rattle.pi_meaning.proofs.SurfaceDepths.{chosen-as-core}
+use Rattle.pi_meaning.specs.Place.{Place}
+use Rattle.pi_meaning.specs.Surface.{Calling, goals_trace, body_trace, rule_or_later, rules_trace}
+use Rattle.pi_meaning.specs.WrittenRules.{head_arguments}
 use Rattle.pi_rewrite.specs.Lowered.{SlotNames, slots_after, slots_after_all, slots_of_head, lowered_goals, lowered_body, lowered_patterns, lowered_clause, lowered_rule}
 use Rattle.pi_rewrite.proofs.FilledLemmas.{names_of, slots_at}
 use Rattle.pi_rewrite.proofs.SameLemmas.{SameBy, same-one, same-then, same-equal}
@@ -34,10 +36,10 @@ not-drained act p drains =
     ap (λ t. then t (λ s. act (record { level = p.level; slots = p.slots; state = s }))) (drains p.state) ∙ alt-done (act p)
 
 pub same-body : (defined : Defined) (v : View) (l : Level) (calls : Calling) → SameCalls defined l calls → (body : ExpTree) → IsSmallBody defined body → (n : ℕ) (ns : SlotNames) → length (slots_after body ns) ≤ n →
-    (e : Environment) (s : State) → names_of e ≡ ns → SameBy (AtPlace l n (slots_after body ns)) (meaning v (lowered_body body ns) (at_slots l n e s)) (body_trace v calls body (at_names e s))
+    (e : Environment) (s : State) → names_of e ≡ ns → SameBy (AtPlace l n (slots_after body ns)) (meaning (builtins v) (lowered_body body ns) (at_slots l n e s)) (body_trace v calls body (at_names e s))
 unfolding slots_after meaning
 same-body defined v l calls is (ExpTree.and gs) small n ns room e s at =
-    subst (λ (t : Trace Point). SameBy (AtPlace l n (slots_after_all gs ns)) t (goals_trace v calls gs (at_names e s))) (sym (not-drained (meaning_of_all v (lowered_goals gs ns)) (at_slots l n e s) is.drains))
+    subst (λ (t : Trace Point). SameBy (AtPlace l n (slots_after_all gs ns)) t (goals_trace v calls gs (at_names e s))) (sym (not-drained (meaning_of_all (builtins v) (lowered_goals gs ns)) (at_slots l n e s) is.drains))
     (same-goals defined v l calls is gs small n ns room (at_slots l n e s) (at_names e s) (at_place e s at))
 same-body defined v l calls is g small n ns room e s at = same-placed defined v l calls is g small n ns room (at_slots l n e s) (at_names e s) (at_place e s at)
 
@@ -57,23 +59,22 @@ states-same l n after _ _ (at_place e s is) = same-one Same s s (same s)
 
 -- the body of a rule
 body-run : (defined : Defined) (v : View) (l : Level) (calls : Calling) → SameCalls defined l calls → (body : ExpTree) → IsSmallBody defined body → (ns : SlotNames) (e : Environment) (s : State) → names_of e ≡ ns →
-    then (meaning v (lowered_body body ns) (at_slots l (length (slots_after body ns)) e s)) (λ q. one q.state) ≡ then (body_trace v calls body (at_names e s)) (λ p. one p.state)
+    then (meaning (builtins v) (lowered_body body ns) (at_slots l (length (slots_after body ns)) e s)) (λ q. one q.state) ≡ then (body_trace v calls body (at_names e s)) (λ p. one p.state)
 body-run defined v l calls is body small ns e s at =
     let n : ℕ = length (slots_after body ns) in
     let room : n ≤ n = omega arith in
-    same-equal _ _ (same-then (AtPlace l n (slots_after body ns)) Same (meaning v (lowered_body body ns) (at_slots l n e s)) (body_trace v calls body (at_names e s)) (λ q. one q.state) (λ p. one p.state)
+    same-equal _ _ (same-then (AtPlace l n (slots_after body ns)) Same (meaning (builtins v) (lowered_body body ns) (at_slots l n e s)) (body_trace v calls body (at_names e s)) (λ q. one q.state) (λ p. one p.state)
     (same-body defined v l calls is body small n ns room e s at) (states-same l n (slots_after body ns)))
 
 -- a rule that applies, or the later ones
 rule-taken : (defined : Defined) (v : View) (l : Level) (calls : Calling) → SameCalls defined l calls → (r : RuleTree) → IsSmallRule defined r → (the_call : Tree) (i : ℕ) (s : State) (rest later : Trace State) → rest ≡ later →
     (o : Option Places) (p : Option Environment) → Both (length (slots_after r.body (slots_of_head r.head))) (slots_of_head r.head) o p →
-    rule_before v l (lowered_rule r) r.back (λ q. body_or_agent v the_call i (lowered_rule r) [] q) s rest o ≡ rule_or_later v calls r s later p
+    rule_before (builtins v) l (lowered_rule r) r.back (λ q. body_or_agent (builtins v) the_call i (lowered_rule r) [] q) s rest o ≡ rule_or_later v calls r s later p
 unfolding chosen lowered_clause
 rule-taken defined v l calls is r small the_call i s rest later e _ _ neither = e
 rule-taken defined v l calls is r small the_call i s rest later e _ _ (both names at) =
     ap (λ t. chosen_rule r.back t rest) (body-run defined v l calls is r.body small.body (slots_of_head r.head) names s at)
     ∙ ap (chosen_rule r.back (then (body_trace v calls r.body (at_names names s)) (λ p. one p.state))) e
-    ∙ sym (chosen-as-core r.back (then (body_trace v calls r.body (at_names names s)) (λ p. one p.state)) later)
 
 pub SmallRules : Defined → List RuleTree → Type 0
 SmallRules defined [] = ⊤
@@ -105,11 +106,11 @@ head-tried b r small ts n room =
     (head-matched b (head_arguments r.head) small ts n [] [] refl room)
 
 pub same-rules : (defined : Defined) (v : View) (l : Level) (calls : Calling) → SameCalls defined l calls → (rs : List RuleTree) → SmallRules defined rs → (the_call : Tree) (i : ℕ) (ts : Trees) (s : State) →
-    rules v l (λ c. backtracks c.back c.watches) (λ i c p. body_or_agent v the_call i c c.watches p) i (map lowered_rule rs) ts s ≡ rules_trace v calls rs ts s
+    rules (builtins v) l (λ c. backtracks c.back c.watches) (λ i c p. body_or_agent (builtins v) the_call i c c.watches p) i (map lowered_rule rs) ts s ≡ rules_trace v calls rs ts s
 unfolding rules rules_trace lowered_clause SmallRules
 same-rules defined v l calls is [] small the_call i ts s = refl
 same-rules defined v l calls is (r ∷ rs) small the_call i ts s =
     rule-taken defined v l calls is r small.0 the_call i s
-    (rules v l (λ c. backtracks c.back c.watches) (λ i c p. body_or_agent v the_call i c c.watches p) (suc i) (map lowered_rule rs) ts s) (rules_trace v calls rs ts s)
+    (rules (builtins v) l (λ c. backtracks c.back c.watches) (λ i c p. body_or_agent (builtins v) the_call i c c.watches p) (suc i) (map lowered_rule rs) ts s) (rules_trace v calls rs ts s)
     (same-rules defined v l calls is rs small.1 the_call (suc i) ts s) _ _
     (head-tried (bindings s) r (head-flat r.head small.0.head) ts (length (slots_after r.body (slots_of_head r.head))) (body-grows defined r.body small.0.body (slots_of_head r.head)))

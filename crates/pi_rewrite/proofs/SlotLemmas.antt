@@ -6,7 +6,7 @@ use Rattle.std.specs.HashMap.{get_by}
 use Rattle.std.proofs.lemmas.Bool.{cond-true, cond-false}
 use Rattle.pi_core.specs.declared.core_program.NameSlot.{NameSlot}
 use Rattle.pi_rewrite.specs.declared.slots.Slots.{Slots}
-use Rattle.pi_meaning.specs.Surface.{is_hidden}
+use Rattle.pi_meaning.specs.Telling.{is_hidden}
 use Rattle.pi_rewrite.specs.Lowered.{SlotNames, slot_of, slot_known, slot_or_next, slots_with, name_slots}
 use Rattle.pi_rewrite.specs.Built.{IsSlots}
 use Rattle.pi_rewrite.proofs.TextLemmas.{text_same, text_turned}

@@ -1,6 +1,6 @@
 -- Lowered goals name slots that are there, and call what is there.
 use Rattle.std.proofs.Common.{◌≡◌, inl, inr, ℕ, suc, ◌<◌, ◌≤◌, Bool, true, false, cond, List, [], ◌∷◌, length, refl, sym, ◌∙◌, ap, subst, arith, length-append}
-use Rattle.std.specs.Prelude.{Option, Some, None, option_map, codes, All, IsSome, ⊤}
+use Rattle.std.specs.Prelude.{Option, Some, None, ◌⊎◌, option_map, codes, All, IsSome, IsTrue, ⊤}
 use Rattle.std.specs.Str.{bytes_eq}
 use Rattle.std.proofs.lemmas.Bool.{false≢true}
 use Rattle.std.proofs.lemmas.List.Elements.{All-nil, All-cons, All-append, All-contains}
@@ -12,7 +12,14 @@ use Rattle.pi_core.specs.GoalTree.{GoalTree, truth, fail, call, apply, seq, subg
 use Rattle.pi_terms.specs.PatternTree.{HasSlot, HaveSlot}
 use Rattle.pi_core.specs.CoreTree.{PredTree, find_pred}
 use Rattle.pi_effects.specs.Builtin.{is_built_in}
-use Rattle.pi_meaning.specs.Sound.{NamesBelow, SlotsBelow, IsKnown, is_planner, CallsKnown, pattern_count}
+use Rattle.pi_effects.specs.Rows.{has_line}
+use Rattle.pi_effects.specs.Comparing.{comparing_tests}
+use Rattle.pi_effects.specs.Kinds.{kind_tests}
+use Rattle.pi_effects.specs.Texts.{writing_predicates}
+use Rattle.pi_effects.specs.BuiltIns.{tests, other_predicates, is_predicate}
+use Rattle.pi_meaning.specs.Sound.{NamesBelow, SlotsBelow, IsKnown, CallsKnown, pattern_count}
+use Rattle.pi_meaning.specs.Names.{is_planner, is_given}
+use Rattle.pi_meaning.specs.Defined.{CallsDefined}
 use Rattle.pi_meaning.specs.Small.{Defines, AreSmallTerms, IsSmallTerm, IsSmallCall, IsSmallGoal, AreSmallGoals, IsSmallBody}
 use Rattle.pi_syntax.specs.Signature.{exp_count}
 use Rattle.pi_rewrite.specs.Lowered.{SlotNames, slot_of, slot_known, slot_or_next, slots_with, slots_after, slots_after_all, lowered_term, lowered_terms, lowered_pattern, lowered_patterns, lowered_goal, lowered_goals, lowered_body}
@@ -99,26 +106,42 @@ pub record Knows (defined : Defined) (preds : List PredTree) : Type 0 where
   pub known : (name : List ℕ) (k : ℕ) → Defines defined name k → IsSome (find_pred false name k preds)
   pub no_planner : (name : List ℕ) (k : ℕ) → Defines defined name k → is_planner name k ≡ false
 
+-- a predicate of the program, or `=` or `throw`
+abbrev IsDefined : List PredTree → List ℕ → ℕ → Type 0
+IsDefined preds name k = IsSome (find_pred false name k preds) ⊎ IsTrue (is_built_in false name k)
+
+-- what is called is known, is no planner call, and is defined
+abbrev IsCallable : List PredTree → List ℕ → ℕ → Type 0
+IsCallable preds name k = IsKnown preds false name k × (is_planner name k ≡ false) × IsDefined preds name k
+
 -- it names slots below n, and calls what is known
 abbrev Calls : List PredTree → GoalTree → Type 0
-Calls preds (call name args) = IsKnown preds false name (length args) × (is_planner name (length args) ≡ false)
+Calls preds (call name args) = IsCallable preds name (length args)
 Calls preds (apply name args slot) = ⊥
 Calls preds g = ⊤
 
 abbrev pub Good : List PredTree → ℕ → GoalTree → Type 0
 Good preds n g = NamesBelow n g × Calls preds g
 
+-- the language gives `=`
+equals-given : is_given false (codes "=") 2 ≡ true
+unfolding is_predicate tests comparing_tests kind_tests writing_predicates other_predicates has_line
+equals-given = refl
+
 -- a call of what is defined, or an equation
-call-known : (defined : Defined) (preds : List PredTree) → Knows defined preds → (name : List ℕ) (k : ℕ) → IsSmallCall defined name k → IsKnown preds false name k × (is_planner name k ≡ false)
-call-known defined preds knows name k (inl is) =
-    (inr (ap (λ n. is_built_in false n k) is.0 ∙ ap (is_built_in false (codes "=")) is.1), ap (λ n. is_planner n k) is.0 ∙ ap (is_planner (codes "=")) is.1)
-call-known defined preds knows name k (inr is) = (inl (knows.known name k is), knows.no_planner name k is)
+call-known : (defined : Defined) (preds : List PredTree) → Knows defined preds → (name : List ℕ) (k : ℕ) → IsSmallCall defined name k → IsCallable preds name k
+call-known defined preds knows name k (inl is) = (
+  inr (ap (λ n. is_given false n k) is.0 ∙ ap (is_given false (codes "=")) is.1 ∙ equals-given),
+  ap (λ n. is_planner n k) is.0 ∙ ap (is_planner (codes "=")) is.1,
+  inr (ap (λ n. is_built_in false n k) is.0 ∙ ap (is_built_in false (codes "=")) is.1),
+)
+call-known defined preds knows name k (inr is) = (inl (knows.known name k is), knows.no_planner name k is, inl (knows.known name k is))
 
 call-good : (defined : Defined) (preds : List PredTree) → Knows defined preds → (name : List ℕ) (es : ExpTrees) → IsSmallCall defined name (exp_count es) → AreSmallTerms es → (ns : SlotNames) (n : ℕ) → length (slots_after_all es ns) ≤ n →
     Good preds n (call name (lowered_terms es ns))
 call-good defined preds knows name es small flat ns n room = (
   (λ t there. All-contains (SpeaksBelow n) (lowered_terms es ns) t (terms-speak es flat ns n room) there),
-  subst (λ k. IsKnown preds false name k × (is_planner name k ≡ false)) (sym (terms-length es ns)) (call-known defined preds knows name (exp_count es) small),
+  subst (IsCallable preds name) (sym (terms-length es ns)) (call-known defined preds knows name (exp_count es) small),
 )
 
 bare-good : (defined : Defined) (preds : List PredTree) → Knows defined preds → (name : List ℕ) (n : ℕ) → Defines defined name 0 → Good preds n (call name [])
@@ -165,4 +188,10 @@ good-calls preds n g h = record {
   calls = λ name args there. (All-contains (Good preds n) (subgoals g) (call name args) h there).1.0;
   functions = λ name args slot there. absurd (All-contains (Good preds n) (subgoals g) (apply name args slot) h there).1;
   plans = λ name args there is. absurd (false≢true (sym (All-contains (Good preds n) (subgoals g) (call name args) h there).1.1 ∙ is));
+}
+
+pub good-defined : (preds : List PredTree) (n : ℕ) (g : GoalTree) → All (Good preds n) (subgoals g) → CallsDefined preds g
+good-defined preds n g h = record {
+  calls = λ name args there. (All-contains (Good preds n) (subgoals g) (call name args) h there).1.2;
+  functions = λ name args slot there. absurd (All-contains (Good preds n) (subgoals g) (apply name args slot) h there).1;
 }

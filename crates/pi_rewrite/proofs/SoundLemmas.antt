@@ -9,11 +9,14 @@ use Rattle.pi_core.specs.GoalTree.{truth}
 use Rattle.pi_core.specs.CoreTree.{ClauseTree, PredTree, is_pred, find_pred}
 use Rattle.pi_meaning.specs.Quiet.{Callee, IsQuiet}
 use Rattle.pi_meaning.specs.Sound.{IsSoundClause, IsSound, IsSoundQuery}
+use Rattle.pi_meaning.specs.Defined.{CallsDefined, ClauseCallsDefined, ProgramCallsDefined, QueryCallsDefined}
+use Rattle.pi_names.specs.NameLaws.{HeadsAreFree}
 use Rattle.pi_syntax.specs.ProgramTree.{RuleTree, ProgramTree}
 use Rattle.pi_syntax.specs.Signature.{Signature, signature, exp_count}
 use Rattle.pi_meaning.specs.Small.{heads, IsFree, IsSmallHead, IsSmallRule, IsSmallProgram, IsSmallQuery}
 use Rattle.pi_core.specs.declared.core_program.NameSlot.{NameSlot}
-use Rattle.pi_meaning.specs.Surface.{rules_of, is_hidden, head_arguments}
+use Rattle.pi_meaning.specs.WrittenRules.{rules_of, head_arguments}
+use Rattle.pi_meaning.specs.Telling.{is_hidden}
 use Rattle.pi_rewrite.specs.Lowered.{SlotNames, slots_after, slots_of_head, lowered_clause, lowered_rule, lowered, name_slots, lowered_body}
 use Rattle.pi_rewrite.specs.Laws.{IsPlain, DefinesTheSame, IsLoweredProgram}
 use Rattle.pi_rewrite.proofs.SlotLemmas.{one_before}
@@ -22,8 +25,9 @@ use Rattle.pi_rewrite.proofs.RuleLemmas.{SmallRules, small-first, small-rest, he
 use Rattle.pi_rewrite.proofs.FindLemmas.{sign, signs}
 use Rattle.pi_rewrite.proofs.ProgramLemmas.{AreRules, program-rules, rules-together}
 use Rattle.pi_rewrite.proofs.LevelLemmas.{lowered-defines, lowered-calls}
+use Rattle.pi_rewrite.proofs.OverSurface.{calls-over-names}
 use Rattle.pi_rewrite.proofs.LoweredQuery.{lowered_query}
-use Rattle.pi_rewrite.proofs.SoundGoals.{Knows, truth-good, body-good, good-slots, good-calls, patterns-below, patterns-count}
+use Rattle.pi_rewrite.proofs.SoundGoals.{Knows, truth-good, body-good, good-slots, good-calls, good-defined, patterns-below, patterns-count}
 use Rattle.pi_rewrite.proofs.SoundPrograms.{FromRule, FromRules, rules-from, rules-apart}
 
 -- ---- what is defined is free
@@ -79,6 +83,16 @@ rule-sound defined preds known p from r small named =
       quiet = λ is. absurd (false≢true (sym from.quiet ∙ is));
     }
 
+rule-within : (defined : Defined) (preds : List PredTree) → Knows defined preds → (r : RuleTree) → IsSmallRule defined r → ClauseCallsDefined preds (lowered_rule r)
+unfolding lowered_clause
+rule-within defined preds known r small =
+    let ns : SlotNames = slots_of_head r.head in
+    let n : ℕ = length (slots_after r.body ns) in
+    record {
+      guard = good-defined preds n truth (truth-good preds n);
+      body = good-defined preds n (lowered_body r.body ns) (body-good defined preds known r.body small.body ns n (omega arith));
+    }
+
 clause-sound : (defined : Defined) (preds : List PredTree) → Knows defined preds → (p : PredTree) → FromRules defined p → (c : ClauseTree) → FromRule defined (sign p.name p.arity) c → IsSoundClause preds p c
 clause-sound defined preds known p from c is = subst (IsSoundClause preds p) (sym is.is) (rule-sound defined preds known p from is.rule is.small is.named)
 
@@ -123,6 +137,13 @@ program-sound program small =
     none-some : {A : Type 0} (x : A) → None ≡ Some x → ⊥
     none-some x e = cc
 
+program-within : (program : ProgramTree) → IsSmallProgram program → ProgramCallsDefined (lowered program)
+program-within program small = λ p there c inside.
+    let of : FromRules (heads program) p = All-contains (FromRules (heads program)) (lowered program) p (from-program program small) there in
+    let is : FromRule (heads program) (sign p.name p.arity) c = All-contains (FromRule (heads program) (sign p.name p.arity)) p.clauses c of.clauses inside in
+    subst (ClauseCallsDefined (lowered program)) (sym is.is)
+    (rule-within (heads program) (lowered program) (knows program (lowered program) (lowered-defines program small) small) is.rule is.small)
+
 clause-plain : (defined : Defined) (s : Signature) (c : ClauseTree) → FromRule defined s c → c.watches ≡ []
 unfolding lowered_clause
 clause-plain defined s c from = ap (λ (d : ClauseTree). d.watches) from.is
@@ -131,12 +152,14 @@ pred-plain : (defined : Defined) (p : PredTree) → FromRules defined p → IsPl
 pred-plain defined p from = record { function = from.function; index = from.index; quiet = from.quiet; watches = All-weaker (FromRule defined (sign p.name p.arity)) (λ c. c.watches ≡ []) (clause-plain defined (sign p.name p.arity)) p.clauses from.clauses }
 
 -- what the code makes keeps the meaning
-pub lowered-program : (program : ProgramTree) → IsSmallProgram program → IsLoweredProgram program (lowered program)
-lowered-program program small = record {
+pub lowered-program : (program : ProgramTree) → IsSmallProgram program → HeadsAreFree program → IsLoweredProgram program (lowered program)
+lowered-program program small free = record {
   sound = program-sound program small;
   plain = All-weaker (FromRules (heads program)) IsPlain (pred-plain (heads program)) (lowered program) (from-program program small);
+  within = program-within program small;
   defines = lowered-defines program small;
-  calls = lowered-calls program small;
+  free = free;
+  calls = calls-over-names program (lowered program) small free (lowered-calls program small);
 }
 
 -- ---- queries
@@ -160,4 +183,13 @@ query-is-sound program goal preds kept small asked =
       slots = good-slots preds (length ns) (lowered_body goal []) good;
       names = λ n there. All-contains (λ (n : NameSlot). n.slot < length ns) (name_slots 0 ns) n (names-below 0 (length ns) ns (omega arith)) there;
       calls = subst (λ ps. Rattle.pi_meaning.specs.Sound.CallsKnown ps (lowered_body goal [])) (sym (append-nil preds)) (good-calls preds (length ns) (lowered_body goal []) good);
+    }
+
+pub query-is-within : (program : ProgramTree) (goal : ExpTree) (preds : List PredTree) → IsLoweredProgram program preds → IsSmallProgram program → IsSmallQuery program goal → QueryCallsDefined preds (lowered_query goal)
+query-is-within program goal preds kept small asked =
+    let ns : SlotNames = slots_after goal [] in
+    let good = body-good (heads program) preds (knows program preds kept.defines small) goal asked [] (length ns) (omega arith) in
+    record {
+      preds = subst ProgramCallsDefined (sym (append-nil preds)) kept.within;
+      goal = subst (λ ps. CallsDefined ps (lowered_body goal [])) (sym (append-nil preds)) (good-defined preds (length ns) (lowered_body goal []) good);
     }

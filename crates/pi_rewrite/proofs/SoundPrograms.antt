@@ -9,7 +9,7 @@ use Rattle.pi_meaning.specs.Sound.{IsAnother}
 use Rattle.pi_syntax.specs.ProgramTree.{RuleTree}
 use Rattle.pi_syntax.specs.Signature.{Signature, signature}
 use Rattle.pi_meaning.specs.Small.{IsSmallRule, GoesOn, StandTogether}
-use Rattle.pi_meaning.specs.Surface.{is_signature}
+use Rattle.pi_meaning.specs.WrittenRules.{is_signature}
 use Rattle.pi_rewrite.specs.Lowered.{lowered_rule, head_signature, grouped, lowered_rules}
 use Rattle.pi_rewrite.proofs.GoalLemmas.{Defined}
 use Rattle.pi_rewrite.proofs.RuleLemmas.{SmallRules, small-first, small-rest}

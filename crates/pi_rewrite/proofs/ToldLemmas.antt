@@ -6,7 +6,8 @@ use Rattle.std.specs.Str.{bytes_eq}
 use Rattle.std.proofs.lemmas.Bool.{cond-true, cond-false, false≢true}
 use Rattle.pi_syntax.specs.ExpTree.{ExpTree, ExpTrees, no_exps, exp}
 use Rattle.pi_core.specs.declared.core_program.NameSlot.{NameSlot}
-use Rattle.pi_meaning.specs.Surface.{is_hidden, name_places, name_places_all, one_more, told_behind}
+use Rattle.pi_meaning.specs.Telling.{is_hidden, one_more, told_behind}
+use Rattle.pi_meaning.specs.Surface.{name_places, name_places_all}
 use Rattle.pi_rewrite.specs.Lowered.{SlotNames, slot_of, slot_known, slots_with, slots_after, slots_after_all, name_slots}
 use Rattle.pi_rewrite.proofs.TextLemmas.{text_same, text_itself}
 use Rattle.pi_rewrite.proofs.SlotLemmas.{slot_of-more, or_last, names-hidden, names-shown, one_before, known-named}

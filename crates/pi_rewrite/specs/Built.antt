@@ -6,7 +6,7 @@ use Rattle.pi_syntax.specs.ExpTree.{ExpTree}
 use Rattle.pi_core.specs.CoreTree.{ClauseTree, PredTree}
 use Rattle.pi_syntax.specs.ProgramTree.{RuleTree, PartTree}
 use Rattle.pi_rewrite.specs.declared.slots.Slots.{Slots}
-use Rattle.pi_meaning.specs.Surface.{rule_in}
+use Rattle.pi_meaning.specs.WrittenRules.{rule_in}
 use Rattle.pi_rewrite.specs.Lowered.{SlotNames, slot_of, name_slots, lowered_rule, grouped, lowered_rules}
 
 -- slots that stand for these names

@@ -10,7 +10,8 @@ use Rattle.pi_core.specs.CoreTree.{ClauseTree, PredTree}
 use Rattle.pi_syntax.specs.ProgramTree.{RuleTree, ProgramTree}
 use Rattle.pi_syntax.specs.Signature.{Signature, signature}
 use Rattle.pi_core.specs.declared.core_program.NameSlot.{NameSlot}
-use Rattle.pi_meaning.specs.Surface.{rules_of, is_signature, head_arguments, is_hidden}
+use Rattle.pi_meaning.specs.WrittenRules.{rules_of, is_signature, head_arguments}
+use Rattle.pi_meaning.specs.Telling.{is_hidden}
 
 -- the name of each slot of a clause
 abbrev pub SlotNames : Type 0

@@ -4,7 +4,7 @@ ghost use Rattle.pi_syntax.specs.ExpTree.{exp_tree};
 ghost use Rattle.pi_core.specs.CoreTree.{pattern_tree, pattern_trees, clause_tree, pred_tree};
 ghost use Rattle.pi_syntax.specs.ProgramTree.{part_tree};
 ghost use Rattle.pi_syntax.specs.Signature.{signature as signature_of};
-ghost use Rattle.pi_meaning.specs.Surface.{head_arguments, is_signature, rule_in};
+ghost use Rattle.pi_meaning.specs.WrittenRules.{head_arguments, is_signature, rule_in};
 ghost use Rattle.pi_rewrite.specs.Lowered.{SlotNames, slots_after, slots_after_all, lowered_pattern, lowered_patterns, lowered_clause, lowered, predicate, with_clause};
 ghost use Rattle.pi_rewrite.specs.Built.{IsSlots, IsRule, Adds};
 ghost use Rattle.pi_rewrite.specs.Unbuilt.{is_built_term, are_built_terms, is_built_head, is_built_body, is_built_part, unbuilt_part};

@@ -1,6 +1,6 @@
 //! The slots of a clause's variables.
 ghost use Rattle.std.specs.Prelude.{◌≡◌, ◌+◌, [], ◌∷◌, ◌++◌, IfOk, OnOk};
-ghost use Rattle.pi_meaning.specs.Surface.{is_hidden as is_hidden_name};
+ghost use Rattle.pi_meaning.specs.Telling.{is_hidden as is_hidden_name};
 ghost use Rattle.pi_rewrite.specs.Lowered.{SlotNames, slot_of, slot_known, slot_or_next, slots_with};
 ghost use Rattle.pi_rewrite.specs.Built.{IsSlots};
 

@@ -9,6 +9,7 @@ pub mod EndStatuses
 pub mod EndingLemmas
 pub mod Endings
 pub mod EventLemmas
+pub mod FaultlessHeads
 pub mod FileReads
 pub mod Fronts
 pub mod HandedTexts

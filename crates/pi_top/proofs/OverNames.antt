@@ -11,7 +11,7 @@ use Rattle.pi_traces.specs.Depth.{Cut, Stop as CutStop, Ended, Spent}
 use Rattle.pi_meaning.specs.View.{query_view}
 use Rattle.pi_meaning.specs.Run.{Solution}
 use Rattle.pi_meaning.specs.Told.{answer_of, solution_told}
-use Rattle.pi_meaning.specs.SurfaceRun.{Told, told_event, told_cut}
+use Rattle.pi_meaning.specs.Telling.{Told, told_event, told_cut}
 use Rattle.pi_print.specs.PrintAnswer.{answer_lines}
 use Rattle.pi_rewrite.specs.Laws.{RunsTheSame}
 use Rattle.pi_top.specs.Headline.{IsPart, Headline, HowCut, in_answer, in_line, at_memory, IsCutOff}
@@ -97,7 +97,7 @@ told-cut answers q run part ticks status writes (HowQueryIsCut.at_memory nine co
 part-over-names : (program : ProgramTree) (goal : ExpTree) (preds : List PredTree) (q : QueryTree) (steps : ℕ) (run : Cut Solution) (part : List (Emitted Solution)) →
     RunsTheSame program goal preds q → IsQueryPart preds q steps run part → IsPart program goal [] steps (told_cut (solution_told q.names) run) (told q.names part)
 part-over-names program goal preds q steps run part is has = record {
-  is_run = is (query_view []) steps run has.is_run;
+  is_run = λ later. is (query_view []) later steps run has.is_run;
   begins = told-prefix q.names part run.events has.begins;
 }
 

@@ -6,8 +6,9 @@ use Rattle.pi_answers.specs.declared.log.LogEntry.{LogEntry}
 use Rattle.pi_traces.specs.Trace.{Done, Raise, Emitted, noted, answered, count_ticks}
 use Rattle.pi_traces.specs.Depth.{Cut, Stop, Ended, Spent}
 use Rattle.pi_meaning.specs.View.{query_view}
-use Rattle.pi_meaning.specs.SurfaceRun.{Told}
-use Rattle.pi_meaning.proofs.SurfaceDepths.{surface-runs-are-one}
+use Rattle.pi_meaning.specs.Telling.{Told}
+use Rattle.pi_names.specs.Stages.{no_stages}
+use Rattle.pi_names.proofs.GrowRules.{no-stages-add, names-runs-are-one}
 use Rattle.pi_top.specs.declared.outcome.QueryRun.{QueryRun}
 use Rattle.pi_top.specs.declared.words.Options.{Options}
 use Rattle.pi_top.specs.Headline.{Headline}
@@ -124,7 +125,7 @@ record AreSame (ticks others status other : ℕ) (texts more : List (List ℕ)) 
 one-headline : (answers steps : ℕ) (program : ProgramTree) (goal : ExpTree) (log : List LogEntry) (ticks others status other : ℕ) (texts more : List (List ℕ)) →
     Headline answers steps program goal log ticks status texts → Headline answers steps program goal log others other more → AreSame ticks others status other texts more
 one-headline answers steps program goal log ticks others status other texts more a b =
-    let run : a.run ≡ b.run = surface-runs-are-one (query_view log) program goal steps a.run b.run a.is_part.is_run b.is_part.is_run in
+    let run : a.run ≡ b.run = names-runs-are-one (query_view log) no_stages no-stages-add program goal steps a.run b.run (a.is_part.is_run no_stages) (b.is_part.is_run no_stages) in
     let begins : IsPrefix b.part a.run.events = rw (← run) at b.is_part.begins in
     let ends : Ends answers b.part a.run b.ending = rw (← run) at b.ends in
     let part : a.part ≡ b.part =

@@ -1,7 +1,7 @@
 -- What a part of a goal's run prints.
 use Rattle.std.specs.Prelude.{ℕ, List, [], ◌∷◌, ◌++◌}
 use Rattle.pi_traces.specs.Trace.{Tick, Load, Out, Emitted, noted, answered}
-use Rattle.pi_meaning.specs.SurfaceRun.{Told, told_answer}
+use Rattle.pi_meaning.specs.Telling.{Told, told_answer}
 use Rattle.pi_print.specs.PrintAnswer.{answer_lines}
 
 -- The texts, in order: an answer prints its lines, a text itself; Ticks and loads print nothing.

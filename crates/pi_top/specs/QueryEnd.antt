@@ -4,7 +4,7 @@ use lib.Chars.{codes}
 use Rattle.pi_terms.specs.Tree.{Tree}
 use Rattle.pi_traces.specs.Trace.{Done, Raise, Emitted, noted, answered}
 use Rattle.pi_traces.specs.Depth.{Cut, Stop, Ended, Spent}
-use Rattle.pi_meaning.specs.SurfaceRun.{Told}
+use Rattle.pi_meaning.specs.Telling.{Told}
 use Rattle.pi_print.specs.PrintTerm.{text_of}
 
 -- As many answers were written as are asked for; the trace ended, with an answer or without one; it ended in an exception that

@@ -1,6 +1,5 @@
-//! Laws of the core meaning, and of the meaning over names.
+//! Laws of the core meaning.
 ghost use Rattle.pi_meaning.specs.MeaningLaws.{SmallOnlyAdds, WholeOnlyAdds, WholeKnowsWhatIsGiven, SmallIsWhole, GoalsDoMore, LevelsAreOrdered, LevelsAscend, QuietCallsStayAbove, QuietCallsKeepTheDepth, QuietCallsNestFreely, QueriesDoMore, WholeTracesStay, RunIsOne, DeeperRunsAreTheRun, DepthReachesTicks, EachQueryRuns, SoundQueriesRun, RunsKeepStates};
-ghost use Rattle.pi_meaning.specs.SurfaceLaws.{SurfaceDoesMore, SurfaceRunsAreOne, SurfaceRunsReach, SameRulesRunTheSame, RulesAreChosenAsInTheCore};
 
 /// More depth only adds to calls by name, with `=` and `throw` alone, and with all names of the language where it does to what later
 /// stages give.
@@ -59,15 +58,4 @@ pub fn queries_run()
 /// that were made.
 pub fn runs_keep_states()
     ensures { RunsKeepStates }
-{}
-
-/// The trace of a goal over names only grows with the depth. So a goal has one run at most for each program, view and number
-/// of Ticks, and it has one where some depth reaches to the cut. Programs with the same rules do the same. The rules behind one
-/// that applies are left or not as in the core meaning.
-pub fn runs_over_names_are_one()
-    ensures deeper { SurfaceDoesMore }
-    ensures one { SurfaceRunsAreOne }
-    ensures reached { SurfaceRunsReach }
-    ensures rules { SameRulesRunTheSame }
-    ensures choice { RulesAreChosenAsInTheCore }
 {}

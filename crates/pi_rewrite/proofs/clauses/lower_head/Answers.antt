@@ -2,7 +2,7 @@
 use Rattle.std.proofs.Common.{sym, ◌∙◌, ap, subst}
 use Rattle.pi_syntax.specs.ExpTree.{ExpTree}
 use Rattle.pi_core.specs.CoreTree.{pattern_trees}
-use Rattle.pi_meaning.specs.Surface.{head_arguments}
+use Rattle.pi_meaning.specs.WrittenRules.{head_arguments}
 use Rattle.pi_rewrite.specs.Lowered.{lowered_patterns, slots_after, slots_after_all}
 use Rattle.pi_rewrite.specs.Built.{IsSlots}
 use Rattle.pi_rewrite.proofs.ExpLemmas.{is-atom, is-call}

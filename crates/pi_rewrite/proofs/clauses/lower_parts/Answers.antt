@@ -4,7 +4,7 @@ use Rattle.std.proofs.lemmas.List.{drop_all}
 use Rattle.pi_syntax.specs.ExpTree.{exp_tree}
 use Rattle.pi_core.specs.CoreTree.{clause_tree, pred_tree}
 use Rattle.pi_syntax.specs.ProgramTree.{part_tree}
-use Rattle.pi_meaning.specs.Surface.{rules_of}
+use Rattle.pi_meaning.specs.WrittenRules.{rules_of}
 use Rattle.pi_rewrite.specs.Built.{lowered_behind}
 use Rattle.pi_rewrite.proofs.ClauseLemmas.{parts-step, behind-none}
 use Rattle.pi_rewrite.proofs.BuiltWithin.{part-at}

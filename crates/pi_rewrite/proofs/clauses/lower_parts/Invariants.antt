@@ -1,7 +1,7 @@
 use Rattle.std.proofs.Common.{◌≡◌, drop, map}
 use Rattle.pi_core.specs.CoreTree.{pred_tree}
 use Rattle.pi_syntax.specs.ProgramTree.{part_tree}
-use Rattle.pi_meaning.specs.Surface.{rules_of}
+use Rattle.pi_meaning.specs.WrittenRules.{rules_of}
 use Rattle.pi_rewrite.specs.Lowered.{lowered}
 use Rattle.pi_rewrite.specs.Built.{lowered_behind}
 use Rattle.pi_rewrite.proofs.clauses.lower_parts.Given as goal
