@@ -67,7 +67,7 @@ unfolding confined
 all-keep s [] m d has = has
 all-keep s (x ∷ xs) m d has = all-keep (confined_at s (root_item s x)) xs m d (one-keeps s (root_item s x) m d has)
 
-root-same : (s r : State) → bindings r ≡ bindings s → (x : Item) → root_item r x ≡ root_item s x
+pub root-same : (s r : State) → bindings r ≡ bindings s → (x : Item) → root_item r x ≡ root_item s x
 root-same s r e (Item.Var n) = ap (λ (b : Bindings). item_of n (followed b (var n))) e
 root-same s r e (Item.Int i) = refl
 

@@ -2,6 +2,10 @@ pub mod DepthLemmas
 pub mod ChoiceLemmas
 pub mod LeftLemmas
 pub mod ConfinedLemmas
+pub mod NarrowLemmas
+pub mod KeepLemmas
+pub mod ApartLemmas
+pub mod EndLemmas
 pub mod FirstLemmas
 pub mod Examples
 pub mod CallExamples

@@ -1,16 +1,18 @@
 -- The laws of labelling.
-use Rattle.std.specs.Prelude.{◌≡◌, ℕ, ◌<◌, ℤ, pos, ◌&&◌, IsTrue, List, [], ◌∷◌, length, get_or, Contains, Option, Some, None}
+use Rattle.std.specs.Prelude.{◌≡◌, ◌↔◌, ℕ, ◌<◌, ℤ, pos, ◌&&◌, IsTrue, List, [], ◌∷◌, length, get_or, Contains, Option, Some, None}
 use Rattle.pi_terms.specs.Places.{held}
 use Rattle.pi_constraints.specs.declared.constraint.Item.{Item}
 use Rattle.pi_constraints.specs.declared.domain.Span.{Span}
 use Rattle.pi_constraints.specs.Domain.{IsDomain, has_value}
 use Rattle.pi_traces.specs.Trace.{Trace, one}
 use Rattle.pi_traces.specs.Depth.{DepthOnlyAdds}
-use Rattle.pi_states.specs.State.{State, bindings, next, domain_of}
+use Rattle.pi_states.specs.State.{State, bindings, next, domain_of, IsState}
 use Rattle.pi_settling.specs.Roots.{root_item}
+use Rattle.pi_settling.specs.Solves.{Solves}
+use Rattle.pi_settling.specs.SettlingLaws.{MaySettle}
 use Rattle.pi_labelling.specs.Options.{Options, ValueWord}
 use Rattle.pi_labelling.specs.Confined.{confined}
-use Rattle.pi_labelling.specs.Choices.{pending, Alternative, is_value, allows, alternatives, left_by}
+use Rattle.pi_labelling.specs.Choices.{pending, Alternative, is_value, allows, alternatives, left_by, narrowed_to}
 use Rattle.pi_labelling.specs.Label.{Settling, Lower, labelled, labelling}
 use Rattle.pi_labelling.specs.Reading.{Solving}
 use Rattle.pi_labelling.specs.Rounds.{solved}
@@ -30,6 +32,15 @@ AlternativesPartTheDomain = (w : ValueWord) (d : List Span) (i : ℤ) → IsDoma
 -- what an alternative leaves of a domain is the values that it allows
 abbrev pub LeftIsAllowed : Type 0
 LeftIsAllowed = (a : Alternative) (d : List Span) (i : ℤ) → IsDomain d → has_value (left_by a d) i ≡ (has_value d i && allows a i)
+
+abbrev pub LeftIsADomain : Type 0
+LeftIsADomain = (a : Alternative) (d : List Span) → IsDomain d → IsDomain (left_by a d)
+
+-- a state that is narrowed by an alternative has those solutions whose value it allows; where nothing is left it allows none
+abbrev pub NarrowingKeepsSolutions : Type 0
+NarrowingKeepsSolutions = (s : State) (n : ℕ) (d : List Span) (alternative : Alternative) (a : ℕ → ℤ) → IsState s → MaySettle s → domain_of s n ≡ Some d →
+    ((r : State) → narrowed_to s n (left_by alternative d) ≡ Some r → Solves r a ↔ (Solves s a × IsTrue (allows alternative (a n))))
+    × (narrowed_to s n (left_by alternative d) ≡ None → Solves s a → IsTrue (allows alternative (a n)) → ⊥)
 
 -- where labelling begins each of its unbound variables has a domain, and nothing more is bound
 abbrev pub ConfinedHaveDomains : Type 0

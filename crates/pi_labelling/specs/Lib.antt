@@ -9,3 +9,4 @@ pub mod SearchLoad
 pub mod Assignments
 pub mod LabelLaws
 pub mod SolutionLaws
+pub mod KeepLaws

@@ -1,16 +1,16 @@
 -- What plans cost.
-use Rattle.std.specs.Prelude.{◌≡◌, ◌≢◌, ◌⊎◌, ℕ, ◌-◌, ◌<◌, ◌≤◌, ℤ, pos, ◌≤ℤ◌, List, [], ◌∷◌, Contains}
+use Rattle.std.specs.Prelude.{◌≡◌, ◌≢◌, ◌⊎◌, ℕ, ◌+◌, ◌-◌, ◌<◌, ◌≤◌, ℤ, pos, ◌≤ℤ◌, List, [], ◌∷◌, None, Contains}
 use Rattle.std.proofs.Common.{arith, subst, inl, inr}
 use Rattle.std.proofs.lemmas.Int.{ints}
 use Rattle.pi_terms.specs.Tree.{Tree, int}
-use Rattle.pi_traces.specs.Trace.{Trace, answers}
+use Rattle.pi_traces.specs.Trace.{Trace, Done, answers, end_of}
 use Rattle.pi_states.specs.State.{State}
 use Rattle.pi_answers.specs.declared.log.LogEntry.{LogEntry}
-use Rattle.pi_planner_calls.specs.Bodies.{Offer, Bodies}
-use Rattle.pi_planner_calls.specs.Steps.{IsFinal, IsStep, Valid, number_of}
+use Rattle.pi_planner_calls.specs.Bodies.{Offer, Bodies, first_fault}
+use Rattle.pi_planner_calls.specs.Steps.{IsFinal, GoesOn, IsStep, Valid, Reached, at_start, by_step, IsClosed, number_of}
 use Rattle.pi_planner_calls.specs.Entries.{HasPlan, ExhaustedBelow}
 use Rattle.pi_planner_calls.specs.Known.{NotByRests}
-use Rattle.pi_planner_calls.specs.PlanLaws.{PlansKeepTheLimit, PlansGoByCost, BestPlansAreCheapest, LeastCostIsOne, NoPlanIsNone}
+use Rattle.pi_planner_calls.specs.PlanLaws.{PlansKeepTheLimit, PlansGoByCost, StepsGoByCost, ReachedGoesByCost, LessIsExhausted, BestPlansAreCheapest, LeastCostIsOne, NoPlanIsNone}
 
 pub plans_keep_the_limit : PlansKeepTheLimit
 unfolding Valid
@@ -35,6 +35,37 @@ unfolding Valid
 plans_go_by_cost b log [] s r q cost same v l = (final_by_cost b log s r q same v.0, v.1)
 plans_go_by_cost b log (a ∷ plan) s r q cost same (c, t, left, others, step, is_rest, is_cost, v) l =
     (c, t, q - c, others, step_by_cost b log s r q a c t same (omega arith) step, omega arith, is_cost, plans_go_by_cost b log plan t left (q - c) others same v (omega arith))
+
+pub steps_go_by_cost : StepsGoByCost
+steps_go_by_cost b log s r q action cost t same h within = step_by_cost b log s r q action cost t same within h
+
+goes_on-by_cost : (b : Bodies) (log : List LogEntry) (s : Tree) (r q : ℕ) → NotByRests b → GoesOn b log s r → GoesOn b log s q
+goes_on-by_cost b log s r q same (d, e, none) =
+    (d, subst (λ (t : Trace State). end_of t ≡ Done) (same.final log [] r q s d) e, subst (λ (t : Trace State). answers t ≡ []) (same.final log [] r q s d) none)
+
+pub reached_goes_by_cost : ReachedGoesByCost
+reached_goes_by_cost b log start limit _ _ more same at_start = at_start
+reached_goes_by_cost b log start limit _ _ more same (by_step s r a c t left before goes step e) =
+    by_step s (r + more) a c t (left + more) (reached_goes_by_cost b log start limit s r more same before) (goes_on-by_cost b log s r (r + more) same goes)
+    (step_by_cost b log s r (r + more) a c t same (omega arith) step) (omega arith)
+
+closed-by_cost : (b : Bodies) (log : List LogEntry) (s : Tree) (r q : ℕ) → NotByRests b → IsClosed b log s r → IsClosed b log s q
+closed-by_cost b log s r q same h = record {
+  final = goes_on-by_cost b log s r q same h.final;
+  depth = h.depth;
+  action = subst (λ (t : Trace Offer). end_of t ≡ Done) (same.action log [] r q s h.depth) h.action;
+  faults = subst (λ (t : Trace Offer). first_fault (answers t) ≡ None) (same.action log [] r q s h.depth) h.faults;
+}
+
+pub less_is_exhausted : LessIsExhausted
+less_is_exhausted b log start limit less same h within = record {
+  none = λ plan cost v. h.none plan cost (plans_go_by_cost b log plan start less limit cost same v (let kept : cost ≤ less = plans_keep_the_limit b log plan start less cost v in omega arith));
+  closed = λ s r reached.
+      let more : ℕ = limit - less in
+      let whole : less + more ≡ limit = omega arith in
+      let there : Reached b log start limit s (r + more) = subst (λ (m : ℕ). Reached b log start m s (r + more)) whole (reached_goes_by_cost b log start less s r more same reached) in
+      closed-by_cost b log s (r + more) r same (h.closed s (r + more) there);
+}
 
 less_or_not : (m n : ℕ) → (m < n) ⊎ (n ≤ m)
 less_or_not m n = grind arith

@@ -1,5 +1,6 @@
 pub mod Asked
 pub mod Bodies
+pub mod ProgramBodies
 pub mod Steps
 pub mod Calls
 pub mod Entries

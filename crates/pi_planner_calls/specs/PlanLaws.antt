@@ -1,10 +1,10 @@
 -- The laws of plans.
-use Rattle.std.specs.Prelude.{◌≡◌, ℕ, ◌≤◌, ℤ, pos, ◌≤ℤ◌, true, List, ◌++◌, slice_get, Some}
+use Rattle.std.specs.Prelude.{◌≡◌, ℕ, ◌+◌, ◌≤◌, ℤ, pos, ◌≤ℤ◌, true, List, ◌++◌, slice_get, Some}
 use Rattle.pi_terms.specs.Tree.{Tree}
 use Rattle.pi_answers.specs.declared.log.LogEntry.{LogEntry}
 use Rattle.pi_answers.specs.declared.log.PlanResult.{PlanResult}
 use Rattle.pi_planner_calls.specs.Bodies.{Bodies}
-use Rattle.pi_planner_calls.specs.Steps.{Valid, number_of}
+use Rattle.pi_planner_calls.specs.Steps.{IsStep, Valid, Reached, IsExhausted, number_of}
 use Rattle.pi_planner_calls.specs.Entries.{IsRightEntry, IsRightLog}
 use Rattle.pi_planner_calls.specs.Known.{AreBodies, NotByRests}
 
@@ -25,6 +25,18 @@ PlansKeepTheLimit = (b : Bodies) (log : List LogEntry) (plan : List Tree) (s : T
 
 abbrev pub PlansGoByCost : Type 0
 PlansGoByCost = (b : Bodies) (log : List LogEntry) (plan : List Tree) (s : Tree) (r q cost : ℕ) → NotByRests b → Valid b log plan s r cost → cost ≤ q → Valid b log plan s q cost
+
+-- a step is one with each rest that its cost doesn't pass
+abbrev pub StepsGoByCost : Type 0
+StepsGoByCost = (b : Bodies) (log : List LogEntry) (s : Tree) (r q : ℕ) (action : Tree) (cost : ℕ) (t : Tree) → NotByRests b → IsStep b log s r action cost t → cost ≤ q → IsStep b log s q action cost t
+
+-- what is reached under a limit is reached under each greater one, with so much more left
+abbrev pub ReachedGoesByCost : Type 0
+ReachedGoesByCost = (b : Bodies) (log : List LogEntry) (start : Tree) (limit : ℕ) (s : Tree) (r more : ℕ) → NotByRests b → Reached b log start limit s r → Reached b log start (limit + more) s (r + more)
+
+-- and so each number below an exhausted one is exhausted
+abbrev pub LessIsExhausted : Type 0
+LessIsExhausted = (b : Bodies) (log : List LogEntry) (start : Tree) (limit less : ℕ) → NotByRests b → IsExhausted b log start limit → less ≤ limit → IsExhausted b log start less
 
 abbrev pub BestPlansAreCheapest : Type 0
 BestPlansAreCheapest = (b : Bodies) (log : List LogEntry) (start plan : Tree) (limit cost : ℤ) → NotByRests b →

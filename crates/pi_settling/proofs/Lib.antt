@@ -4,6 +4,8 @@ pub mod StableLemmas
 pub mod UniqueLemmas
 pub mod EventLemmas
 pub mod TwiceLemmas
+pub mod SolutionLemmas
+pub mod KeepLemmas
 pub mod LoadLemmas
 pub mod AnswerLemmas
 pub mod Examples

@@ -23,7 +23,7 @@ pub root-by_value : (b : Bindings) (n : ℕ) → IsAcyclic b → item_of n (foll
 root-by_value b n a = by_root b (var n) n (followed b (var n)) a refl ∙ ap (item_of n) (followed_value b (var n) a)
 
 -- bindings that are kept give the value under more of them
-value_later : (b c : Bindings) (t : Tree) → IsAcyclic c → ((n : ℕ) (u : Tree) → held b n ≡ Some u → held c n ≡ Some u) → instance (λ n. value c (var n)) (value b t) ≡ instance (λ n. value c (var n)) t
+pub value_later : (b c : Bindings) (t : Tree) → IsAcyclic c → ((n : ℕ) (u : Tree) → held b n ≡ Some u → held c n ≡ Some u) → instance (λ n. value c (var n)) (value b t) ≡ instance (λ n. value c (var n)) t
 value_later b c t a keeps = value_has_same_instances b (λ n. value c (var n)) t (λ n u is. values_solve c a n u (keeps n u is))
 
 -- a term that is an unbound variable or an integer

@@ -94,7 +94,7 @@ just-below d i j h = elim (cases_Bool (has_value d i && is_within i)) [
 alone : State → (ℕ → ℤ) → Domains
 alone s a x = just (given s x) (value_of a x)
 
-root-value : (s : State) (a : ℕ → ℤ) → Solves s a → (x : Item) → value_of a (root_item s x) ≡ value_of a x
+pub root-value : (s : State) (a : ℕ → ℤ) → Solves s a → (x : Item) → value_of a (root_item s x) ≡ value_of a x
 root-value s a h (Item.Var n) = h.follows n
 root-value s a h (Item.Int i) = refl
 

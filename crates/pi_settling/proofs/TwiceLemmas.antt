@@ -36,13 +36,13 @@ narrowed-keeps s n v w t (stays_bound u) is = is
 narrowed-keeps s n v w t (some_stay d e p q all) is = absurd (cc)
 narrowed-keeps s n v w t (one_stays d i all) is = absurd (cc)
 
-past_free : (s : State) (n : ℕ) → next s ≤ n → variable s n ≡ free
+pub past_free : (s : State) (n : ℕ) → next s ≤ n → variable s n ≡ free
 past_free s n l = get_or_past s.variables n free l
 
-less_or_not : (m n : ℕ) → (m < n) ⊎ (n ≤ m)
+pub less_or_not : (m n : ℕ) → (m < n) ⊎ (n ≤ m)
 less_or_not m n = grind arith
 
-stable-keeps : (s r : State) → IsStable s r → Kept (bindings s) (bindings r)
+pub stable-keeps : (s r : State) → IsStable s r → Kept (bindings s) (bindings r)
 stable-keeps s r f n u is = elim (less_or_not n (next s)) [
   | inl l ↦ held_is r n ∙ narrowed-keeps s n (variable s n) (variable r n) u (f.variables n l) (sym (held_is s n) ∙ is)
   | inr m ↦ absurd (let none : binding (variable s n) ≡ None = ap binding (past_free s n m) in let e : held (bindings s) n ≡ None = held_is s n ∙ none in cc)
@@ -55,7 +55,7 @@ narrowed-item s n v w (stays_bound u) is = absurd (cc)
 narrowed-item s n v w (some_stay d e p q all) is = inl refl
 narrowed-item s n v w (one_stays d i all) is = inr (i, refl)
 
-item_by : (b : Bindings) (n : ℕ) → IsAcyclic b → (held b n ≡ None) ⊎ ((i : ℤ) × (held b n ≡ Some (int i))) → IsItem (value b (var n))
+pub item_by : (b : Bindings) (n : ℕ) → IsAcyclic b → (held b n ≡ None) ⊎ ((i : ℤ) × (held b n ≡ Some (int i))) → IsItem (value b (var n))
 item_by b n a (inl is) = subst IsItem (sym (unbound_is_its_own_value b n is)) (is_variable n)
 item_by b n a (inr (i, is)) = subst IsItem (sym (bound_has_value_of_its_term b n (int i) a is ∙ value_int b i)) (is_integer i)
 
@@ -63,7 +63,7 @@ at_held : (r : State) (n : ℕ) → (binding (variable r n) ≡ None) ⊎ ((i : 
 at_held r n (inl is) = inl (held_is r n ∙ is)
 at_held r n (inr (i, is)) = inr (i, held_is r n ∙ is)
 
-stable-items : (s r : State) → IsAcyclic (bindings r) → IsStable s r → Items (bindings s) (bindings r)
+pub stable-items : (s r : State) → IsAcyclic (bindings r) → IsStable s r → Items (bindings s) (bindings r)
 stable-items s r a f n is = item_by (bindings r) n a (at_held r n (elim (less_or_not n (next s)) [
   | inl l ↦ narrowed-item s n (variable s n) (variable r n) (f.variables n l) (sym (held_is s n) ∙ is)
   | inr m ↦ inl (ap binding (past_free r n (let e = f.count in omega arith)))
@@ -92,7 +92,7 @@ given-domain s r n f = elim (less_or_not n (next s)) [
 ]
 
 -- of the items as they come in the stable state
-left : State → Domains
+unfoldable pub left : State → Domains
 left r (Item.Var n) = given r (Item.Var n)
 left r (Item.Int i) = just (only i) i
 
@@ -101,7 +101,7 @@ unfolding left
 left-domain s r f (Item.Var n) = given-domain s r n f
 left-domain s r f (Item.Int i) = just-domain (only i) i
 
-left-given : (r : State) (x : Item) (i : ℤ) → IsTrue (has_value (left r x) i) → IsTrue (has_value (given r x) i)
+pub left-given : (r : State) (x : Item) (i : ℤ) → IsTrue (has_value (left r x) i) → IsTrue (has_value (given r x) i)
 unfolding left
 left-given r (Item.Var n) i h = h
 left-given r (Item.Int j) i h = just-below (only j) j i h
@@ -110,33 +110,33 @@ left-below : (s r : State) → IsStable s r → LieBelow r (left r)
 left-below s r f = record { domains = left-domain s r f; below = left-given r }
 
 -- of the items as they come in the state before
-ahead : State → Domains
+unfoldable pub ahead : State → Domains
 ahead r x = left r (root_item r x)
 
 -- ---- they are what stays
 
-stays-bounded : (s : State) (x : Item) (i : ℤ) → Stays s x i → IsWithinBounds i
+pub stays-bounded : (s : State) (x : Item) (i : ℤ) → Stays s x i → IsWithinBounds i
 stays-bounded s x i st = values_are_within_bounds (st.domains x) i (st.below.domains x) st.has
 
-unbound-root : (r : State) (n : ℕ) → binding (variable r n) ≡ None → root_item r (Item.Var n) ≡ Item.Var n
+pub unbound-root : (r : State) (n : ℕ) → binding (variable r n) ≡ None → root_item r (Item.Var n) ≡ Item.Var n
 unbound-root r n is = ap (item_of n) (followed_itself (bindings r) n (held_is r n ∙ is))
 
-integer-root : (r : State) (n : ℕ) (i : ℤ) → IsAcyclic (bindings r) → binding (variable r n) ≡ Some (int i) → root_item r (Item.Var n) ≡ Item.Int i
+pub integer-root : (r : State) (n : ℕ) (i : ℤ) → IsAcyclic (bindings r) → binding (variable r n) ≡ Some (int i) → root_item r (Item.Var n) ≡ Item.Int i
 integer-root r n i a is = root-by_value (bindings r) n a ∙ ap (item_of n) (bound_has_value_of_its_term (bindings r) n (int i) a (held_is r n ∙ is) ∙ value_int (bindings r) i)
 
-ahead-some : (r : State) (n : ℕ) (e : List Span) → variable r n ≡ within e → ahead r (Item.Var n) ≡ e
+pub ahead-some : (r : State) (n : ℕ) (e : List Span) → variable r n ≡ within e → ahead r (Item.Var n) ≡ e
 unfolding ahead left
 ahead-some r n e is = ap (left r) (unbound-root r n (ap binding is)) ∙ ap (λ (v : Variable). domain_or_all (domain_in v)) is
 
-ahead-one : (r : State) (n : ℕ) (i : ℤ) → IsAcyclic (bindings r) → IsWithinBounds i → variable r n ≡ bound (int i) → ahead r (Item.Var n) ≡ only i
+pub ahead-one : (r : State) (n : ℕ) (i : ℤ) → IsAcyclic (bindings r) → IsWithinBounds i → variable r n ≡ bound (int i) → ahead r (Item.Var n) ≡ only i
 unfolding ahead left
 ahead-one r n i a b is = ap (left r) (integer-root r n i a (ap binding is)) ∙ just-is (only i) i (only-has i) b
 
-ahead-integer : (r : State) (i : ℤ) → IsWithinBounds i → ahead r (Item.Int i) ≡ only i
+pub ahead-integer : (r : State) (i : ℤ) → IsWithinBounds i → ahead r (Item.Int i) ≡ only i
 unfolding ahead left
 ahead-integer r i b = just-is (only i) i (only-has i) b
 
-has_in : (d e : List Span) (i : ℤ) → d ≡ e → IsTrue (has_value d i) → IsTrue (has_value e i)
+pub has_in : (d e : List Span) (i : ℤ) → d ≡ e → IsTrue (has_value d i) → IsTrue (has_value e i)
 has_in d e i same h = subst (λ (f : List Span). IsTrue (has_value f i)) same h
 
 narrowed-ahead : (s r : State) (n : ℕ) (v w : Variable) (d : List Span) (i : ℤ) → IsAcyclic (bindings r) → Narrows s n v w → variable r n ≡ w → domain_in v ≡ Some d →
@@ -152,7 +152,7 @@ narrowed-ahead s r n v w d i a (one_stays d' j all) is e =
       λ st. has_in (only j) (ahead r (Item.Var n)) i (sym same) (subst (λ (z : ℤ). IsTrue (has_value (only j) z)) (sym ((all i).1 st)) (only-has j)),
     )
 
-variable-ahead : (s r : State) (n : ℕ) (d : List Span) (i : ℤ) → IsAcyclic (bindings r) → IsStable s r → domain_of s n ≡ Some d → IsTrue (has_value (ahead r (Item.Var n)) i) ↔ Stays s (Item.Var n) i
+pub variable-ahead : (s r : State) (n : ℕ) (d : List Span) (i : ℤ) → IsAcyclic (bindings r) → IsStable s r → domain_of s n ≡ Some d → IsTrue (has_value (ahead r (Item.Var n)) i) ↔ Stays s (Item.Var n) i
 variable-ahead s r n d i a f e = narrowed-ahead s r n (variable s n) (variable r n) d i a (f.variables n (domain_made s n d e)) refl e
 
 stays-integer : (s : State) (j i : ℤ) → Stays s (Item.Int j) i → i ≡ j
@@ -168,14 +168,14 @@ integer-ahead s r j i f counts b =
     )
 
 -- an item that counts is a variable with a domain, or an integer
-counted : (s : State) (x : Item) → MaySettle s → Counts s x → ((n : ℕ) × (d : List Span) × (x ≡ Item.Var n) × (domain_of s n ≡ Some d)) ⊎ ((i : ℤ) × (x ≡ Item.Int i) × IsWithinBounds i)
+pub counted : (s : State) (x : Item) → MaySettle s → Counts s x → ((n : ℕ) × (d : List Span) × (x ≡ Item.Var n) × (domain_of s n ≡ Some d)) ⊎ ((i : ℤ) × (x ≡ Item.Int i) × IsWithinBounds i)
 counted s x may (by_domain n d e is) = inl (n, d, e, is)
 counted s x may (by_place c y posted at e) = elim (may c y posted at) [
   | inl (n, d, f, is) ↦ inl (n, d, e ∙ f, is)
   | inr (i, f, b) ↦ inr (i, e ∙ f, b)
 ]
 
-ahead-stays : (s r : State) (x : Item) (i : ℤ) → IsAcyclic (bindings r) → MaySettle s → IsStable s r → Counts s x → IsTrue (has_value (ahead r x) i) ↔ Stays s x i
+pub ahead-stays : (s r : State) (x : Item) (i : ℤ) → IsAcyclic (bindings r) → MaySettle s → IsStable s r → Counts s x → IsTrue (has_value (ahead r x) i) ↔ Stays s x i
 ahead-stays s r x i a may f counts = elim (counted s x may counts) [
   | inl (n, d, e, is) ↦ subst (λ (y : Item). IsTrue (has_value (ahead r y) i) ↔ Stays s y i) (sym e) (variable-ahead s r n d i a f is)
   | inr (j, e, b) ↦ subst (λ (y : Item). IsTrue (has_value (ahead r y) i) ↔ Stays s y i) (sym e) (integer-ahead s r j i f (subst (Counts s) e counts) b)
@@ -199,7 +199,7 @@ narrowed-given s r n v w i a (one_stays d j all) at is up h =
     let st : Stays s (Item.Var n) i = (narrowed-ahead s r n v w d i a (one_stays d j all) is refl).0 h in
     st.below.below (Item.Var n) i st.has
 
-ahead-given : (s r : State) → IsAcyclic (bindings r) → IsStable s r → (x : Item) (i : ℤ) → IsTrue (has_value (ahead r x) i) → IsTrue (has_value (given s x) i)
+pub ahead-given : (s r : State) → IsAcyclic (bindings r) → IsStable s r → (x : Item) (i : ℤ) → IsTrue (has_value (ahead r x) i) → IsTrue (has_value (given s x) i)
 unfolding ahead left
 ahead-given s r a f (Item.Int j) i h = just-below (only j) j i h
 ahead-given s r a f (Item.Var n) i h =
@@ -223,7 +223,7 @@ same_map f g same (x ∷ xs) =
     let rest : map f xs ≡ map g xs = same_map f g same xs in
     cc
 
-later-root : (s r : State) → IsState s → IsState r → IsStable s r → (x : Item) → root_item r (root_item s x) ≡ root_item r x
+pub later-root : (s r : State) → IsState s → IsState r → IsStable s r → (x : Item) → root_item r (root_item s x) ≡ root_item r x
 later-root s r is is' f x = root_later s r is.acyclic is'.acyclic (stable-keeps s r f) (stable-items s r is'.acyclic f) x
 
 same-places : (s r : State) (c : Constraint) → IsState s → IsState r → IsStable s r → at_places s (ahead r) c ≡ at_places r (left r) c
@@ -242,7 +242,7 @@ left-unchanged s r is is' may f c k i posted l h =
 stays-left : (s r : State) → IsState s → IsState r → MaySettle s → IsStable s r → (x : Item) (i : ℤ) → IsTrue (has_value (left r x) i) → Stays r x i
 stays-left s r is is' may f x i h = record { domains = left r; below = left-below s r f; unchanged = left-unchanged s r is is' may f; has = h }
 
-narrowed-within : (s : State) (n : ℕ) (v w : Variable) (e : List Span) → Narrows s n v w → w ≡ within e → IsDomain e × (2 ≤ size_of e) × ((d : List Span) × (domain_in v ≡ Some d))
+pub narrowed-within : (s : State) (n : ℕ) (v w : Variable) (e : List Span) → Narrows s n v w → w ≡ within e → IsDomain e × (2 ≤ size_of e) × ((d : List Span) × (domain_in v ≡ Some d))
 narrowed-within s n v w e stays_free is = absurd (cc)
 narrowed-within s n v w e (stays_bound t) is = absurd (cc)
 narrowed-within s n v w e (some_stay d f p q all) is =
@@ -264,7 +264,7 @@ again-variable s r is is' may f n l (within e) at =
       λ st. has_in (given r (Item.Var n)) e i (ap (λ (v : Variable). domain_or_all (domain_in v)) at) (st.below.below (Item.Var n) i st.has),
     ))
 
-within_of : (v : Variable) (e : List Span) → domain_in v ≡ Some e → v ≡ within e
+pub within_of : (v : Variable) (e : List Span) → domain_in v ≡ Some e → v ≡ within e
 within_of free e is = absurd (cc)
 within_of (within d) e is = let same : d ≡ e = cc in ap within same
 within_of (bound t) e is = absurd (cc)

@@ -67,6 +67,17 @@ StableStaysStable = (s r : State) → IsState s → IsState r → MaySettle s �
 abbrev pub SettlingTwiceIsOnce : Type 0
 SettlingTwiceIsOnce = (s r : State) → IsState s → IsState r → MaySettle s → IsStable s r → IsSettled r r (one r)
 
+-- a stable state is a state, and may settle where the state before might
+abbrev pub StableIsAState : Type 0
+StableIsAState = (s r : State) → IsState s → IsStable s r → IsState r
+
+abbrev pub StableMaySettle : Type 0
+StableMaySettle = (s r : State) → IsState s → MaySettle s → IsStable s r → MaySettle r
+
+-- a state and its stable state have the same solutions
+abbrev pub SolutionsStay : Type 0
+SolutionsStay = (s r : State) (a : ℕ → ℤ) → IsState s → MaySettle s → IsStable s r → Solves s a ↔ Solves r a
+
 -- whether a term leads to a variable is told as it is said
 abbrev pub LeadsAreFollowed : Type 0
 LeadsAreFollowed = (b : Bindings) (t : Tree) (n : ℕ) → IsAcyclic b → IsTrue (leads_to b t n) ↔ LeadsTo b t n

@@ -1,5 +1,5 @@
 //! Laws of settling.
-ghost use Rattle.pi_settling.specs.SettlingLaws.{StableIsOne, SettledIsOne, SettlingIsOne, StableLiesBelow, SettlingKeepsSolutions, StableIsUnchanged, NoChangeNoEvents, StableStaysStable, SettlingTwiceIsOnce, LeadsAreFollowed, AgentsAreWokenOnce};
+ghost use Rattle.pi_settling.specs.SettlingLaws.{StableIsOne, SettledIsOne, SettlingIsOne, StableLiesBelow, SettlingKeepsSolutions, SolutionsStay, StableIsAState, StableIsUnchanged, StableMaySettle, NoChangeNoEvents, StableStaysStable, SettlingTwiceIsOnce, LeadsAreFollowed, AgentsAreWokenOnce};
 
 /// A state has one stable state at most, and settling comes to one trace at most. So all ways to settle do the same.
 pub fn stable_states_are_one()
@@ -8,10 +8,14 @@ pub fn stable_states_are_one()
     ensures ways { SettlingIsOne }
 {}
 
-/// The stable domains lie below those of the state, lose no solution, and are the greatest that no filter changes.
+/// The stable domains lie below those of the state, lose no solution, and are the greatest that no filter changes. A state and its stable state have the same solutions,
+/// and the stable state is a state that may be settled.
 pub fn stable_domains_are_the_greatest()
     ensures below { StableLiesBelow }
     ensures solutions { SettlingKeepsSolutions }
+    ensures stay { SolutionsStay }
+    ensures state { StableIsAState }
+    ensures again { StableMaySettle }
     ensures unchanged { StableIsUnchanged }
 {}
 

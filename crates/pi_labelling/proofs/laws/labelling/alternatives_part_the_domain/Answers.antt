@@ -1,5 +1,6 @@
 use Rattle.pi_labelling.proofs.ChoiceLemmas.{alternatives_part_the_domain}
 use Rattle.pi_labelling.proofs.LeftLemmas.{left_is_allowed}
+use Rattle.pi_labelling.proofs.NarrowLemmas.{left_is_a_domain, narrowing_keeps_solutions}
 use Rattle.pi_labelling.proofs.laws.labelling.alternatives_part_the_domain.Goals as goal
 
 pub returns-clause-parts : goal.returns-clause-parts
@@ -7,3 +8,9 @@ returns-clause-parts c = alternatives_part_the_domain
 
 pub returns-clause-left : goal.returns-clause-left
 returns-clause-left c = left_is_allowed
+
+pub returns-clause-domain : goal.returns-clause-domain
+returns-clause-domain c = left_is_a_domain
+
+pub returns-clause-solutions : goal.returns-clause-solutions
+returns-clause-solutions c = narrowing_keeps_solutions

@@ -1,0 +1,4 @@
+pub mod Rest
+pub mod RestLaws
+pub mod Written
+pub mod NameRestLaws
