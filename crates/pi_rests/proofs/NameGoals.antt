@@ -23,7 +23,7 @@ use Rattle.pi_names.specs.Texts.{Names, places, places_all, places_behind, place
 use Rattle.pi_names.specs.Terms.{items_onto}
 use Rattle.pi_names.specs.Control.{Goal, Value, Values, draining, nothing, in_front, made_of, made_onto, applied_to, all_found, all_counted, called_with, calling_term, following, choosing, branch_before, denying, taken_once, assigning, catching, goal_at, value_at}
 use Rattle.pi_names.specs.Loops.{Finish, as_it_is, turning, unit, while_turns, do_turns, hidden, adding, in_order, comprehended}
-use Rattle.pi_names.specs.Forms.{Form, negation, once, assignment, catch, by_term, membership, form_of, Parts, call_goal, atom_goal, Reading, plain, operand, ranged, readings, first_reading, later_readings, is_operand_node, is_sum, operand_readings, is_find_all, is_count_all, function_value, call_value, range_value, indexed_by}
+use Rattle.pi_names.specs.Forms.{Form, negation, once, assignment, catch, by_term, membership, form_of, Parts, call_goal, atom_goal, Reading, plain, operand, boolean, ranged, readings, first_reading, later_readings, is_operand_node, is_sum, is_connective, is_constraint, operand_readings, is_find_all, is_count_all, function_value, call_value, range_value, indexed_by}
 use Rattle.pi_names.specs.Goals.{started, value_of, values_of, values_in, values_apart, goals_in, goal_of, all_of, any_of, arrow_in, branches_of, units_of, collection_of}
 use Rattle.pi_rests.specs.Written.{IsOtherCall, AsksNone, AskNone, BranchesAskNone}
 use Rattle.pi_rests.proofs.GoalLemmas.{some-arguments}
@@ -99,11 +99,14 @@ call-value-alike a b plain name k parts others e f = function-alike a b name k p
 call-value-alike a b ranged name k parts others e f = function-alike a b name k parts others e f
 call-value-alike a b operand name k parts others e f =
     λ i. cond (is_operand_node name k || is_sum name k) (made_of (comp name) (e i).all) (function-alike a b name k parts others e f i)
+call-value-alike a b boolean name k parts others e f =
+    λ i. cond (is_connective name k || is_constraint name k) (made_of (comp name) (e i).all) (function-alike a b name k parts others e f i)
 
 range-alike : (a b : Setting) → CallsAlike a b → (r : Reading) (v w : Value) (vs ws : Values) → v ≡ w → vs ≡ ws → range_value a r (in_front v vs) ≡ range_value b r (in_front w ws)
 unfolding range_value
 range-alike a b h plain v w vs ws d e = front-alike a b h (codes "..") v w vs ws d e
 range-alike a b h operand v w vs ws d e = front-alike a b h (codes "..") v w vs ws d e
+range-alike a b h boolean v w vs ws d e = front-alike a b h (codes "..") v w vs ws d e
 range-alike a b h ranged v w vs ws d e = λ i. made_of (comp (codes "..")) (in_front (d i) (e i))
 
 -- ---- all goals and expressions
