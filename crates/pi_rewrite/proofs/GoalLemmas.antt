@@ -4,7 +4,6 @@ use Rattle.std.specs.Prelude.{Option, Some, None, codes}
 use Rattle.std.specs.Str.{bytes_eq}
 use Rattle.std.proofs.lemmas.Bool.{false≢true}
 use Rattle.pi_terms.specs.Tree.{Trees, tree, no_trees, tree_count}
-use Rattle.pi_terms.specs.Places.{Places}
 use Rattle.pi_states.specs.State.{State}
 use Rattle.pi_syntax.specs.ExpTree.{ExpTree, ExpTrees, no_exps, exp}
 use Rattle.pi_core.specs.GoalTree.{truth, fail, call}

@@ -16,7 +16,7 @@ use Rattle.pi_meaning.specs.Surface.{called_at, told_names, surface_from}
 use Rattle.pi_meaning.specs.Telling.{told_behind, place_told, told_trace}
 use Rattle.pi_meaning.specs.Told.{solution_told}
 use Rattle.pi_names.specs.Stages.{no_stages}
-use Rattle.pi_names.specs.Run.{answer_names, names_from}
+use Rattle.pi_names.specs.Run.{answer_names}
 use Rattle.pi_names.specs.NameLaws.{HeadsAreFree}
 use Rattle.pi_names.proofs.SmallLemmas.{body-names}
 use Rattle.pi_names.proofs.SmallPrograms.{small-is_surface, small-calls-are-surface}

@@ -11,10 +11,10 @@ use Rattle.pi_meaning.specs.Small.{defined_by, heads}
 use Rattle.pi_lib.specs.Forms.{is_form}
 use Rattle.pi_lib.specs.Names.{kind_of}
 use Rattle.pi_clauses.specs.Calls.{Named}
-use Rattle.pi_clauses.specs.Items.{head_of, is_fact, is_head, has_bad_head}
+use Rattle.pi_clauses.specs.Items.{head_of, is_head, has_bad_head}
 use Rattle.pi_clauses.specs.Operators.{is_goal_sign, is_relation, is_membership, is_operator}
 use Rattle.pi_clauses.specs.Reading.{Reading, too_deep, misdeclared_part, no_clause, imports_part, written, WrittenPart}
-use Rattle.pi_clauses.specs.Verdict.{PartFault, Faulty, Unknown, Verdict, a_program, part_is_faulty, is_scattered, is_unknown, JudgedPart, refused, libraries, one_clause, judged_clause, judged, clause_in, is_built_in, is_built_in_signature, declares_badly, is_bad_clause, clause_fault, part_fault, faulty_or, first_faulty, first_apart, first_unknown_in, all_defined, parts_of, verdict_by, verdict, HasVerdict}
+use Rattle.pi_clauses.specs.Verdict.{PartFault, Faulty, Unknown, Verdict, a_program, part_is_faulty, is_scattered, is_unknown, JudgedPart, libraries, one_clause, judged_clause, judged, clause_in, is_built_in, is_built_in_signature, declares_badly, is_bad_clause, clause_fault, part_fault, faulty_or, first_faulty, first_apart, first_unknown_in, all_defined, parts_of, verdict_by, verdict, HasVerdict}
 use Rattle.pi_names.specs.NameLaws.{is_taken, HeadsAreFree}
 use Rattle.pi_names.proofs.TableLemmas.{same-name, one-of}
 use Rattle.pi_names.proofs.BuiltInNames.{other-names-are_free}

@@ -2,7 +2,7 @@
 use Rattle.std.proofs.Common.{◌≡◌, ℕ, ◌+◌, true, List, [], ◌∷◌, Option, Some, None, refl, ap, subst, sym, ◌∙◌}
 use Rattle.pi_core.specs.CoreTree.{PredTree, QueryTree}
 use Rattle.pi_syntax.specs.ExpTree.{ExpTree}
-use Rattle.pi_syntax.specs.ProgramTree.{WrittenClause, PartTree, ProgramTree}
+use Rattle.pi_syntax.specs.ProgramTree.{WrittenClause, ProgramTree}
 use Rattle.pi_syntax.specs.declared.program.Decl.{Decl}
 use Rattle.pi_traces.specs.Trace.{Trace}
 use Rattle.pi_traces.specs.Depth.{CutWithoutDeep, cut}
