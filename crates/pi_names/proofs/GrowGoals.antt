@@ -9,7 +9,7 @@ use Rattle.pi_traces.specs.Trace.{Trace, done, one}
 use Rattle.pi_traces.proofs.BelowLemmas.{below-refl}
 use Rattle.pi_meaning.specs.Level.{Level}
 use Rattle.pi_meaning.specs.Place.{Place}
-use Rattle.pi_names.specs.Texts.{Names, places, places_all, places_behind, places_of_branches, behind, iterated, unit_places, begins_with_iterator, assigned, kept_names}
+use Rattle.pi_names.specs.Texts.{Names, places, places_all, places_behind, places_caught, places_of_branches, behind, iterated, unit_places, begins_with_iterator, assigned, kept_names}
 use Rattle.pi_meaning.specs.Given.{Setting, LaterOnlyAdds}
 use Rattle.pi_names.specs.Control.{Goal, Values, nothing, made_of, applied_to, all_found, all_counted, goal_at, value_at}
 use Rattle.pi_names.specs.Loops.{Finish, as_it_is, hidden, in_order}
@@ -127,7 +127,7 @@ mutual
   goal-grows set adds before (atom name) = draining-grows _ (atom-grows set adds name)
   goal-grows set adds before (call name es) =
       draining-grows _ (call-grows set adds name (form_of name (exp_count es)) _
-      (record { goals = goals-in-grow set adds before es; values = values-in-grow set adds before es; late = values-apart-grow set adds (behind before (places_behind es)) es; all = values-grow set adds (readings name (exp_count es)) before es }))
+      (record { goals = goals-in-grow set adds (behind before (places_caught name es)) es; values = values-in-grow set adds before es; late = values-apart-grow set adds (behind before (places_behind es)) es; all = values-grow set adds (readings name (exp_count es)) before es }))
   goal-grows set adds before (and es) = all-grows set adds before es
   goal-grows set adds before (or es) = draining-grows _ (any-grows set adds before es)
   goal-grows set adds before (if_then bs) = draining-grows _ (branches-grow set adds before bs (λ m q. one q) (stays (λ q. one q)))

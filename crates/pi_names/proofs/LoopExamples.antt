@@ -149,7 +149,7 @@ names-of_collections :
 unfolding run_of
 names-of_collections = refl
 
--- X = 7, foreach(X in 1..2) X = X end: the pattern's X is new in each turn; foreach(f(X) in [1, $f(2)]) print(X) end passes over the 1 behind its Tick
+-- X = 7, foreach(X in 1..2) print(X) end: the pattern's X is new in each turn; foreach(f(X) in [1, $f(2)]) print(X) end passes over the 1 behind its Tick
 patterns-are_new :
     (run_of [] (all (equal X (i 7) ∷ foreach (exps (goes_over X (from_to 1 2) ∷ [])) (calls (codes "print") (X ∷ [])) ∷ [])) 9 9
     ≡ done_with (seen Tick ∷ seen (Out (codes "1")) ∷ seen Tick ∷ seen (Out (codes "2")) ∷ shows (codes "X") 7 ∷ []))

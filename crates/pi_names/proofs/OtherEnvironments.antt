@@ -8,7 +8,7 @@ use Rattle.pi_states.specs.State.{State, next, with_new}
 use Rattle.pi_syntax.specs.ExpTree.{ExpTree, var, int, atom, str, list, list_onto, array, call, quote, index, range, range_by, at, collect, and, or, arrow, if_then, if_else, foreach, while_do, do_while, ExpTrees, no_exps, exp, ExpBranches, no_branches, branch}
 use Rattle.pi_meaning.specs.Environment.{Environment, meant, known, Valued, ValuedAll, name_valued}
 use Rattle.pi_meaning.specs.Place.{Place}
-use Rattle.pi_names.specs.Texts.{Names, is_among, is_blank, places, places_all, places_behind, places_of_branches, with_one, behind, unit_places, patterns_of, without, variable_first, the_name, assigned, assigned_all, assigned_in_branches, kept_names}
+use Rattle.pi_names.specs.Texts.{Names, is_among, is_blank, places, places_all, places_behind, places_caught, places_of_branches, with_one, behind, unit_places, patterns_of, without, variable_first, the_name, assigned, assigned_all, assigned_in_branches, kept_names}
 use Rattle.pi_names.specs.Assigning.{with_value, place_of, with_names, with_value_of, with_values_of, carried}
 use Rattle.pi_names.specs.OtherNames.{IsOther, AreOther, Lacks, LackAll, LackBranches, Agree, AgreeAt, agree_at}
 
@@ -187,6 +187,19 @@ pub lacks-behind : (x : List ℕ) (es : ExpTrees) → LackAll x es → AreOther 
 unfolding AreOther LackAll
 lacks-behind x no_exps h = tt
 lacks-behind x (exp e es) h = lacks-all-places x es h.1
+
+either-other : (x : List ℕ) (c : Bool) (names : Names) → AreOther x names → AreOther x (cond c names [])
+unfolding AreOther
+either-other x true names h = h
+either-other x false names h = tt
+
+pub lacks-caught : (x name : List ℕ) (es : ExpTrees) → LackAll x es → AreOther x (places_caught name es)
+unfolding AreOther LackAll places_caught
+lacks-caught x name no_exps h = tt
+lacks-caught x name (exp e no_exps) h = tt
+lacks-caught x name (exp e (exp ball no_exps)) h = tt
+lacks-caught x name (exp e (exp ball (exp handler no_exps))) h = either-other x (bytes_eq name (codes "catch")) (places ball) (lacks-places x ball h.1.0)
+lacks-caught x name (exp e (exp ball (exp handler (exp f es)))) h = tt
 
 first-other : (x : List ℕ) (es : ExpTrees) → LackAll x es → AreOther x (the_name (variable_first es))
 unfolding AreOther LackAll Lacks

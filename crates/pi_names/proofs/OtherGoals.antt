@@ -9,14 +9,14 @@ use Rattle.pi_traces.specs.Trace.{Trace, one}
 use Rattle.pi_traces.specs.Related.{BelowBy}
 use Rattle.pi_meaning.specs.Level.{Level}
 use Rattle.pi_meaning.specs.Place.{Place}
-use Rattle.pi_names.specs.Texts.{Names, places, places_all, places_behind, places_of_branches, behind, iterated, unit_places, begins_with_iterator, assigned, kept_names}
+use Rattle.pi_names.specs.Texts.{Names, places, places_all, places_behind, places_caught, places_of_branches, behind, iterated, unit_places, begins_with_iterator, assigned, kept_names}
 use Rattle.pi_meaning.specs.Given.{Setting}
 use Rattle.pi_names.specs.Control.{Goal, Values, nothing, made_of, applied_to, all_found, all_counted, goal_at, value_at}
 use Rattle.pi_names.specs.Loops.{Finish, as_it_is, hidden, in_order}
 use Rattle.pi_names.specs.Forms.{Form, negation, once, assignment, catch, by_term, membership, form_of, Parts, call_goal, atom_goal, Reading, plain, operand, boolean, ranged, readings, first_reading, later_readings, is_operand_node, is_sum, is_connective, is_constraint, operand_readings, function_value, call_value, range_value}
 use Rattle.pi_names.specs.Goals.{value_of, values_of, values_in, values_apart, goals_in, goal_of, all_of, any_of, arrow_in, branches_of, units_of, collection_of}
 use Rattle.pi_names.specs.OtherNames.{IsOther, AreOther, Lacks, LackAll, LackBranches, AgreeAt, agree_at, OtherNamesChangeNothing}
-use Rattle.pi_names.proofs.OtherEnvironments.{AgreeValued, agree-back, other-append, other-behind, other-kept, lacks-places, lacks-all-places, lacks-behind, lacks-branch-places, lacks-assigned, lacks-unit}
+use Rattle.pi_names.proofs.OtherEnvironments.{AgreeValued, agree-back, other-append, other-behind, other-kept, lacks-places, lacks-all-places, lacks-behind, lacks-caught, lacks-branch-places, lacks-assigned, lacks-unit}
 use Rattle.pi_names.proofs.OtherControl.{Steady, SteadyGoal, SteadyValue, SteadyValues, no-answer, no-valued, one-answer, quoted-steady, draining-steady, constantly-steady, name-steady, nothing-steady, front-steady, made-steady, onto-steady, applied-steady, called-steady, calling-steady, found-steady, counted-steady, following-steady, choosing-steady, denying-steady, once-steady, assigning-steady, catching-steady, SteadyArrow, no_arrow, an_arrow, branch-steady, AllSteady, goal-at-steady, value-at-steady}
 use Rattle.pi_names.proofs.OtherLoops.{turning-steady, unit-steady, while-steady, do-steady, adding-steady, comprehended-steady, started-steady, indexed-steady}
 
@@ -162,7 +162,7 @@ mutual
   goal-steady x n set before o (atom name) h = draining-steady x _ (atom-steady x set name)
   goal-steady x n set before o (call name es) h =
       draining-steady x _ (call-steady x set name (form_of name (exp_count es)) _
-      (record { goals = goals-in-steady x n set before o es h; values = values-in-steady x n set before o es h; late = values-apart-steady x n set (behind before (places_behind es)) (other-behind x before (places_behind es) o (lacks-behind x es h)) es h; all = values-steady x n set (readings name (exp_count es)) before o es h }))
+      (record { goals = goals-in-steady x n set (behind before (places_caught name es)) (other-behind x before (places_caught name es) o (lacks-caught x name es h)) es h; values = values-in-steady x n set before o es h; late = values-apart-steady x n set (behind before (places_behind es)) (other-behind x before (places_behind es) o (lacks-behind x es h)) es h; all = values-steady x n set (readings name (exp_count es)) before o es h }))
   goal-steady x n set before o (and es) h = all-steady x n set before o es h
   goal-steady x n set before o (or es) h = draining-steady x _ (any-steady x n set before o es h)
   goal-steady x n set before o (if_then bs) h = draining-steady x _ (branches-steady x n set before o bs h (λ m q. one q) (one-answer x))

@@ -124,6 +124,14 @@ late-terms :
 unfolding run_of
 late-terms = refl
 
+-- catch(foreach(I in 1..2) X = I end, find_all(X, member(X,[1])), true): the names of what is to be caught stand before the goal, so X is one variable in all turns, whatever that comes to
+caught-names_stand_before :
+    run_of [] (calls (codes "catch") (foreach (exps (calls (codes "in") (v (codes "I") ∷ range (i 1) (i 2) ∷ []) ∷ [])) (equal X (v (codes "I")))
+    ∷ calls (codes "find_all") (X ∷ calls (codes "member") (X ∷ items (i 1 ∷ []) ∷ []) ∷ []) ∷ a (codes "true") ∷ [])) 9 9
+    ≡ done_with (seen Tick ∷ seen Tick ∷ seen Tick ∷ seen Tick ∷ [])
+unfolding run_of list_before
+caught-names_stand_before = refl
+
 -- S = 0, foreach(X in 1..2, Y in 1..2) S := S+Y end: each loop hands on what it assigns
 iterators-assign :
     run_of [] (all (equal S (i 0) ∷ foreach (exps (calls (codes "in") (X ∷ range (i 1) (i 2) ∷ []) ∷ calls (codes "in") (Y ∷ range (i 1) (i 2) ∷ []) ∷ [])) (calls (codes ":=") (S ∷ plus S Y ∷ [])) ∷ [])) 9 9
@@ -137,7 +145,7 @@ assignment-replaces :
 unfolding run_of
 assignment-replaces = refl
 
--- X = [[1,2],[3,4]], Y = X[2,1]; 5..-2..1
+-- X = [[1,2],[3,4]], Y = X[2,1]; 1..2..5
 abbrev grid : ExpTree
 grid = items (items (i 1 ∷ i 2 ∷ []) ∷ items (i 3 ∷ i 4 ∷ []) ∷ [])
 
@@ -186,6 +194,19 @@ operands-stay :
     ≡ raised_with [] (compound (codes "#=") (compound (codes "sum") (list_of (n 2 ∷ []) ∷ []) ∷ compound (codes "-") (variable 0 ∷ []) ∷ [])))
 unfolding run_with list_before
 operands-stay = (refl, refl, refl)
+
+-- between the signs of constraints: (1-1) #\/ Y; X #<=> Y+1 #> 2*abs(3); #~ (X #/\ length([a])); X #\/ sum([1,2])+1 #= Y
+truths-stay :
+    (handed (calls (codes "#\\/") (calls (codes "-") (i 1 ∷ i 1 ∷ []) ∷ Y ∷ [])) ≡ raised_with [] (compound (codes "#\\/") (n 0 ∷ variable 0 ∷ [])))
+    × (handed (calls (codes "#<=>") (X ∷ calls (codes "#>") (plus Y (i 1) ∷ calls (codes "*") (i 2 ∷ calls (codes "abs") (i 3 ∷ []) ∷ []) ∷ []) ∷ []))
+    ≡ raised_with [] (compound (codes "#<=>") (variable 0 ∷ compound (codes "#>") (compound (codes "+") (variable 1 ∷ n 1 ∷ [])
+    ∷ compound (codes "*") (n 2 ∷ compound (codes "abs") (n 3 ∷ []) ∷ []) ∷ []) ∷ [])))
+    × (handed (calls (codes "#~") (calls (codes "#/\\") (X ∷ calls (codes "length") (items (a (codes "a") ∷ []) ∷ []) ∷ []) ∷ []))
+    ≡ raised_with [] (compound (codes "#~") (compound (codes "#/\\") (variable 0 ∷ n 1 ∷ []) ∷ [])))
+    × (handed (calls (codes "#\\/") (X ∷ calls (codes "#=") (plus (calls (codes "sum") (items (i 1 ∷ i 2 ∷ []) ∷ [])) (i 1) ∷ Y ∷ []) ∷ []))
+    ≡ raised_with [] (compound (codes "#\\/") (variable 0 ∷ compound (codes "#=") (compound (codes "+") (compound (codes "sum") (list_of (n 1 ∷ n 2 ∷ []) ∷ []) ∷ n 1 ∷ []) ∷ variable 1 ∷ []) ∷ [])))
+unfolding run_with list_before
+truths-stay = (refl, refl, refl, refl)
 
 -- current_resource(): what is left in a planner's body, and nothing in a query
 abbrev resource : ExpTree

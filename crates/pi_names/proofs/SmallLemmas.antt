@@ -30,7 +30,7 @@ use Rattle.pi_meaning.specs.Small.{Defines, IsSmallTerm, AreSmallTerms, IsSmallA
 use Rattle.pi_meaning.specs.Environment.{Environment, known, argument_matched, head_matched, Valued, valued, ValuedAll, valued_all}
 use Rattle.pi_meaning.specs.Place.{Place, Doing, at_state}
 use Rattle.pi_meaning.specs.Surface.{Calling, draining_first, built_in_or_called, call_trace, atom_trace, goal_trace, goals_trace, body_trace, name_places, name_places_all}
-use Rattle.pi_names.specs.Texts.{Names, places, places_all, places_behind, behind, variable_first}
+use Rattle.pi_names.specs.Texts.{Names, places, places_all, places_behind, places_caught, behind, variable_first}
 use Rattle.pi_names.specs.Heads.{pattern_matched, patterns_matched}
 use Rattle.pi_meaning.specs.Given.{Setting}
 use Rattle.pi_meaning.specs.Names.{is_later_predicate}
@@ -229,7 +229,7 @@ goal-same set l calls defined free is before (ExpTree.atom name) small p =
 goal-same set l calls defined free is before (ExpTree.call name es) small p =
     let parts : Parts = record {
       variable = variable_first es;
-      goals = goals_in set before es;
+      goals = goals_in set (behind before (places_caught name es)) es;
       values = values_in set before es;
       late = values_apart set (behind before (places_behind es)) es;
       all = values_of set (readings name (exp_count es)) before es;

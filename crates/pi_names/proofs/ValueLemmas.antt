@@ -10,7 +10,7 @@ use Rattle.pi_traces.proofs.TraceLemmas.{then-assoc}
 use Rattle.pi_meaning.specs.Level.{Applied}
 use Rattle.pi_meaning.specs.Environment.{Valued, ValuedAll}
 use Rattle.pi_meaning.specs.Place.{Place}
-use Rattle.pi_names.specs.Texts.{places_behind, behind, variable_first}
+use Rattle.pi_names.specs.Texts.{places_behind, places_caught, behind, variable_first}
 use Rattle.pi_meaning.specs.Calls.{predicate_called, function_called}
 use Rattle.pi_names.specs.Control.{draining, applied_to, called_with}
 use Rattle.pi_names.specs.Forms.{Form, readings, Parts, call_goal}
@@ -57,7 +57,7 @@ unfolding goal_of
 goals-are_calls set before name es l p none =
     let parts : Parts = record {
       variable = variable_first es;
-      goals = goals_in set before es;
+      goals = goals_in set (behind before (places_caught name es)) es;
       values = values_in set before es;
       late = values_apart set (behind before (places_behind es)) es;
       all = values_of set (readings name (exp_count es)) before es;

@@ -11,7 +11,7 @@ use Rattle.pi_syntax.specs.Signature.{exp_count}
 use Rattle.pi_traces.specs.Trace.{Trace, done, one}
 use Rattle.pi_meaning.specs.Given.{Setting}
 use Rattle.pi_meaning.specs.Environment.{known, Valued, name_valued}
-use Rattle.pi_names.specs.Texts.{Names, places, places_all, places_behind, places_of_branches, behind, iterated, unit_places, begins_with_iterator, variable_first, assigned, kept_names}
+use Rattle.pi_names.specs.Texts.{Names, places, places_all, places_behind, places_caught, places_of_branches, behind, iterated, unit_places, begins_with_iterator, variable_first, assigned, kept_names}
 use Rattle.pi_names.specs.Terms.{items_onto, written_term}
 use Rattle.pi_names.specs.Control.{Goal, Value, Values, no_goal, no_value, draining, strictly, constantly, nothing, in_front, made_of, made_onto, following, Arrow, branch_before, choosing, value_at}
 use Rattle.pi_names.specs.Loops.{Finish, as_it_is, turning, unit, while_turns, do_turns, hidden, adding, in_order, comprehended}
@@ -97,7 +97,7 @@ unfoldable mutual
   goal_of set before (call name es) l p =
       draining (call_goal set name (form_of name (exp_count es)) (record {
         variable = variable_first es;
-        goals = goals_in set before es;
+        goals = goals_in set (behind before (places_caught name es)) es;
         values = values_in set before es;
         late = values_apart set (behind before (places_behind es)) es;
         all = values_of set (readings name (exp_count es)) before es;

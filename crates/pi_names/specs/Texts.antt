@@ -57,6 +57,11 @@ abbrev pub places_behind : ExpTrees → Names
 places_behind no_exps = []
 places_behind (exp e es) = places_all es
 
+-- those of what a `catch` is to catch, which is evaluated before its goal
+unfoldable pub places_caught : List ℕ → ExpTrees → Names
+places_caught name (exp e (exp ball (exp handler no_exps))) = cond (bytes_eq name (codes "catch")) (places ball) []
+places_caught name es = []
+
 -- a name behind those before it, where it is none of them
 abbrev pub with_one : Names → List ℕ → Names
 with_one before name = cond (is_blank name || is_among before name) before (before ++ name ∷ [])

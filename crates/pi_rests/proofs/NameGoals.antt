@@ -19,7 +19,7 @@ use Rattle.pi_meaning.specs.Names.{is_resource}
 use Rattle.pi_meaning.specs.Given.{Setting}
 use Rattle.pi_meaning.specs.Calls.{predicate_called, function_called, first_called}
 use Rattle.pi_names.specs.Assigning.{place_of}
-use Rattle.pi_names.specs.Texts.{Names, places, places_all, places_behind, places_of_branches, behind, iterated, unit_places, begins_with_iterator, variable_first, assigned, kept_names}
+use Rattle.pi_names.specs.Texts.{Names, places, places_all, places_behind, places_caught, places_of_branches, behind, iterated, unit_places, begins_with_iterator, variable_first, assigned, kept_names}
 use Rattle.pi_names.specs.Terms.{items_onto}
 use Rattle.pi_names.specs.Control.{Goal, Value, Values, draining, nothing, in_front, made_of, made_onto, applied_to, all_found, all_counted, called_with, calling_term, following, choosing, branch_before, denying, taken_once, assigning, catching, goal_at, value_at}
 use Rattle.pi_names.specs.Loops.{Finish, as_it_is, turning, unit, while_turns, do_turns, hidden, adding, in_order, comprehended}
@@ -197,14 +197,14 @@ mutual
   goal-alike a b h before (call name es) n =
       let parts : Setting → Parts = λ set. record {
         variable = variable_first es;
-        goals = goals_in set before es;
+        goals = goals_in set (behind before (places_caught name es)) es;
         values = values_in set before es;
         late = values_apart set (behind before (places_behind es)) es;
         all = values_of set (readings name (exp_count es)) before es;
       } in
       let same : parts a ≡ parts b = λ i. record {
         variable = variable_first es;
-        goals = goals-in-alike a b h before es n.1 i;
+        goals = goals-in-alike a b h (behind before (places_caught name es)) es n.1 i;
         values = values-in-alike a b h before es n.1 i;
         late = values-apart-alike a b h (behind before (places_behind es)) es n.1 i;
         all = values-alike a b h (readings name (exp_count es)) before es n.1 i;
