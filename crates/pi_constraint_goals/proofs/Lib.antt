@@ -1,0 +1,2 @@
+pub mod WithinExamples
+pub mod PostedExamples

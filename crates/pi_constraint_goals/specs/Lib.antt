@@ -1,0 +1,5 @@
+pub mod Values
+pub mod RightSide
+pub mod Within
+pub mod Posted
+pub mod Read

@@ -1,0 +1,1 @@
+//! Laws of domains by their values.

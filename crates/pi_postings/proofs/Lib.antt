@@ -1,0 +1,4 @@
+pub mod Worked
+pub mod RelationExamples
+pub mod TruthExamples
+pub mod LimitExamples
