@@ -1,3 +1,4 @@
+pub mod SumLemmas
 pub mod Worked
 pub mod RelationExamples
 pub mod TruthExamples
