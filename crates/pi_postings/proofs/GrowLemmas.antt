@@ -33,7 +33,7 @@ unfolding AreFormed
 formed-behind n [] c f g = (g, tt)
 formed-behind n (x ∷ xs) c f g = (f.0, formed-behind n xs c f.1 g)
 
-formed-with_all : (n : ℕ) (xs cs : List Constraint) → AreFormed n xs → AreFormed n cs → AreFormed n (with_all xs cs)
+pub formed-with_all : (n : ℕ) (xs cs : List Constraint) → AreFormed n xs → AreFormed n cs → AreFormed n (with_all xs cs)
 unfolding AreFormed
 formed-with_all n xs [] f g = f
 formed-with_all n xs (c ∷ cs) f g = formed-with_all n (xs ++ c ∷ []) cs (formed-behind n xs c f g.0) g.1
@@ -53,12 +53,12 @@ unfolding AllHold
 holds-last [] c a h = h.0
 holds-last (x ∷ xs) c a h = holds-last xs c a h.1
 
-hold-with_all : (xs cs : List Constraint) (a : ℕ → ℤ) → AllHold xs a → AllHold cs a → AllHold (with_all xs cs) a
+pub hold-with_all : (xs cs : List Constraint) (a : ℕ → ℤ) → AllHold xs a → AllHold cs a → AllHold (with_all xs cs) a
 unfolding AllHold
 hold-with_all xs [] a h g = h
 hold-with_all xs (c ∷ cs) a h g = hold-with_all (xs ++ c ∷ []) cs a (hold-behind xs c a h g.0) g.1
 
-hold-first : (xs cs : List Constraint) (a : ℕ → ℤ) → AllHold (with_all xs cs) a → AllHold xs a
+pub hold-first : (xs cs : List Constraint) (a : ℕ → ℤ) → AllHold (with_all xs cs) a → AllHold xs a
 hold-first xs [] a h = h
 hold-first xs (c ∷ cs) a h = hold-before xs c a (hold-first (xs ++ c ∷ []) cs a h)
 
@@ -82,6 +82,13 @@ pub record Grows (P : (ℕ → ℤ) → Type 0) (m k : Made) : Type 0 where
 -- every assignment
 abbrev pub Any : (ℕ → ℤ) → Type 0
 Any a = ⊤
+
+-- for fewer assignments
+pub grows_for : (P Q : (ℕ → ℤ) → Type 0) (m k : Made) → ((a : ℕ → ℤ) → Q a → P a) → Grows P m k → Grows Q m k
+grows_for P Q m k q g = record { more = g.more; formed = g.formed; keeps = g.keeps; extends = λ f a p h. g.extends f a (q a p) h; given = g.given }
+
+pub agree_less : (n m : ℕ) (a b : ℕ → ℤ) → n ≤ m → AgreeBelow m a b → AgreeBelow n a b
+agree_less n m a b h g k l = g k (omega (arith, h, l))
 
 pub grows_none : (P : (ℕ → ℤ) → Type 0) (m : Made) → Grows P m m
 grows_none P m = record { more = omega arith; formed = λ f. f; keeps = λ a h. h; extends = λ f a p h. (a, λ i l. refl, h); given = λ a b g h k. g }
@@ -114,7 +121,7 @@ grows_posted P m cs f p = record {
 unfoldable pub changed : (ℕ → ℤ) → ℕ → ℤ → ℕ → ℤ
 changed a n v m = cond (m == n) v (a m)
 
-changed_there : (a : ℕ → ℤ) (n : ℕ) (v : ℤ) → changed a n v n ≡ v
+pub changed_there : (a : ℕ → ℤ) (n : ℕ) (v : ℤ) → changed a n v n ≡ v
 unfolding changed
 changed_there a n v = by (n == n) refl
   where
@@ -122,7 +129,7 @@ changed_there a n v = by (n == n) refl
     by true e = refl
     by false e = absurd (grind (arith, tests, e))
 
-changed_below : (a : ℕ → ℤ) (n : ℕ) (v : ℤ) → AgreeBelow n a (changed a n v)
+pub changed_below : (a : ℕ → ℤ) (n : ℕ) (v : ℤ) → AgreeBelow n a (changed a n v)
 unfolding changed
 changed_below a n v m l = by (m == n) refl
   where
@@ -130,13 +137,13 @@ changed_below a n v m l = by (m == n) refl
     by true e = absurd (omega (arith, l, eqb-true m n e))
     by false e = refl
 
--- constraints by which variable n has the value that v gives, which is a value that the variables below n give
-pub record Defines (P : (ℕ → ℤ) → Type 0) (n : ℕ) (cs : List Constraint) (v : (ℕ → ℤ) → ℤ) : Type 0 where
+-- constraints by which, behind others, variable n has the value that v gives, which the variables below n determine
+pub record Defines (P : (ℕ → ℤ) → Type 0) (n : ℕ) (before cs : List Constraint) (v : (ℕ → ℤ) → ℤ) : Type 0 where
   pub formed : AreFormed (suc n) cs
   pub agrees : (a b : ℕ → ℤ) → AgreeBelow n a b → v b ≡ v a
   pub possible : (a b : ℕ → ℤ) → P a → AgreeBelow n a b → P b
-  pub holds : (a : ℕ → ℤ) → P a → a n ≡ v a → AllHold cs a
-  pub only : (a : ℕ → ℤ) → AllHold cs a → a n ≡ v a
+  pub holds : (a : ℕ → ℤ) → P a → AllHold before a → a n ≡ v a → AllHold cs a
+  pub only : (a : ℕ → ℤ) → AllHold before a → AllHold cs a → a n ≡ v a
 
 below_next : (n : ℕ) (a b : ℕ → ℤ) → AgreeBelow n a b → b n ≡ a n → AgreeBelow (suc n) a b
 below_next n a b g e m l = by (m == n) refl
@@ -145,7 +152,7 @@ below_next n a b g e m l = by (m == n) refl
     by true f = subst (λ (k : ℕ). b k ≡ a k) (sym (eqb-true m n f)) e
     by false f = g m (grind (arith, tests, f))
 
-pub grows_defined : (P : (ℕ → ℤ) → Type 0) (m : Made) (cs : List Constraint) (v : (ℕ → ℤ) → ℤ) → Defines P m.unused cs v → Grows P m (record { unused = suc m.unused; constraints = with_all m.constraints cs })
+pub grows_defined : (P : (ℕ → ℤ) → Type 0) (m : Made) (cs : List Constraint) (v : (ℕ → ℤ) → ℤ) → Defines P m.unused m.constraints cs v → Grows P m (record { unused = suc m.unused; constraints = with_all m.constraints cs })
 grows_defined P m cs v d = record {
   more = omega arith;
   formed = λ g. formed-with_all (suc m.unused) m.constraints cs (all_formed_below m.unused (suc m.unused) m.constraints (omega arith) g) d.formed;
@@ -153,10 +160,12 @@ grows_defined P m cs v d = record {
   extends = λ g a p h.
       let b : ℕ → ℤ = changed a m.unused (v a) in
       let same : AgreeBelow m.unused a b = changed_below a m.unused (v a) in
-      (b, same, hold-with_all m.constraints cs b (all_hold_agree m.unused m.constraints a b g same h)
-      (d.holds b (d.possible a b p same) (changed_there a m.unused (v a) ∙ sym (d.agrees a b same))));
+      let there : AllHold m.constraints b = all_hold_agree m.unused m.constraints a b g same h in
+      (b, same, hold-with_all m.constraints cs b there (d.holds b (d.possible a b p same) there (changed_there a m.unused (v a) ∙ sym (d.agrees a b same))));
   given = λ a b s y z.
-      below_next m.unused a b s (d.only b (hold-added m.constraints cs b z) ∙ (d.agrees a b s ∙ sym (d.only a (hold-added m.constraints cs a y))))
+      below_next m.unused a b s
+      (d.only b (hold-first m.constraints cs b z) (hold-added m.constraints cs b z)
+      ∙ (d.agrees a b s ∙ sym (d.only a (hold-first m.constraints cs a y) (hold-added m.constraints cs a y))))
 }
 
 -- ---- readings one after the other

@@ -16,7 +16,7 @@ use Rattle.pi_postings.specs.Steps.{Refusal, not_a_constraint, wide_coefficient,
 use Rattle.pi_postings.specs.Says.{operand_value, total_value, AllHold, AgreeBelow}
 use Rattle.pi_postings.proofs.SumLemmas.{sums_add, sums_scale, value-opposite, value-difference, value-of_variable, value-of_number}
 use Rattle.pi_postings.proofs.FormLemmas.{AscendBelow, ascend_below, IsJoined, joined-added, joined-scaled, joined-difference, joined-of_number, joined-of_variable, sum_values_agree}
-use Rattle.pi_postings.proofs.GrowLemmas.{AreFormed, Any, Grows, grows_none, grows_then, grows_defined, hold-added, Defines, after_is, is_known}
+use Rattle.pi_postings.proofs.GrowLemmas.{AreFormed, Any, Grows, grows_none, grows_then, grows_defined, hold-first, hold-added, Defines, after_is, is_known}
 
 -- ---- the variables of operands
 
@@ -148,15 +148,15 @@ not_empty n least (t ∷ ts) s e = by (nat_lt n t.1) (n == t.1) refl e
     by false false f e = absurd cc
 
 -- a new variable N with N - side = 0
-side-defines : (n : ℕ) (u : Sum) → IsJoined n u → Defines Any n (linear Rel.Equal (difference (of_variable n) u) ∷ []) (λ a. sum_value a u)
+side-defines : (n : ℕ) (before : List Constraint) (u : Sum) → IsJoined n u → Defines Any n before (linear Rel.Equal (difference (of_variable n) u) ∷ []) (λ a. sum_value a u)
 unfolding AreFormed AllHold with_terms
-side-defines n u s = record {
+side-defines n before u s = record {
   formed = ((not_empty n 0 (scaled_terms (negsuc 0) u.terms) (joined-scaled n (negsuc 0) u s),
     joined-difference (suc n) (of_variable n) u (joined-of_variable (suc n) n (omega arith)) (ascend_below n (suc n) 0 u.terms (omega arith) s)), tt);
   agrees = λ a b g. sum_values_agree n u a b s g;
   possible = λ a b p g. tt;
-  holds = λ a p e. (apart a ∙ none (a n) (sum_value a u) e, tt);
-  only = λ a h. same (a n) (sum_value a u) (sym (apart a) ∙ h.0)
+  holds = λ a p z e. (apart a ∙ none (a n) (sum_value a u) e, tt);
+  only = λ a z h. same (a n) (sum_value a u) (sym (apart a) ∙ h.0)
 }
   where
     apart : (a : ℕ → ℤ) → sum_value a (difference (of_variable n) u) ≡ a n -ℤ sum_value a u
@@ -180,55 +180,57 @@ side-read m u l s e = by (variable_of u) refl e
     by (Some n) f e = subst (λ k. VariableRead m k (λ a. sum_value a u)) (is_known (record { what = n; made = m }) l e) (alone n (variable_of_is u.terms u.constant n f))
     by None f e =
         let k : Known ℕ = record { what = m.unused; made = record { unused = suc m.unused; constraints = m.constraints ++ linear Rel.Equal (difference (of_variable m.unused) u) ∷ [] } } in
-        let d : Defines Any m.unused (linear Rel.Equal (difference (of_variable m.unused) u) ∷ []) (λ a. sum_value a u) = side-defines m.unused u s in
+        let d : Defines Any m.unused m.constraints (linear Rel.Equal (difference (of_variable m.unused) u) ∷ []) (λ a. sum_value a u) = side-defines m.unused m.constraints u s in
         subst (λ k. VariableRead m k (λ a. sum_value a u)) (is_known k l e) (record {
           grows = grows_defined Any m (linear Rel.Equal (difference (of_variable m.unused) u) ∷ []) (λ a. sum_value a u) d;
           below = omega arith;
-          value = λ a h. d.only a (hold-added m.constraints (linear Rel.Equal (difference (of_variable m.unused) u) ∷ []) a h)
+          value = λ a h.
+              d.only a (hold-first m.constraints (linear Rel.Equal (difference (of_variable m.unused) u) ∷ []) a h)
+              (hold-added m.constraints (linear Rel.Equal (difference (of_variable m.unused) u) ∷ []) a h)
         })
 
 -- ---- a new variable that is a product or an absolute value
 
-product-defines : (n x y : ℕ) → x < n → y < n → Defines Any n (Constraint.Product (Item.Var n) (Item.Var x) (Item.Var y) ∷ []) (λ a. a x *ℤ a y)
+product-defines : (n x y : ℕ) (before : List Constraint) → x < n → y < n → Defines Any n before (Constraint.Product (Item.Var n) (Item.Var x) (Item.Var y) ∷ []) (λ a. a x *ℤ a y)
 unfolding AreFormed AllHold
-product-defines n x y h k = record {
+product-defines n x y before h k = record {
   formed = ((λ m e. omega (arith, e), λ m e. omega (arith, e), λ m e. omega (arith, e)), tt);
   agrees = λ a b g. (λ i. g x h i *ℤ g y k i);
   possible = λ a b p g. tt;
-  holds = λ a p e. (e, tt);
-  only = λ a z. z.0
+  holds = λ a p y e. (e, tt);
+  only = λ a y z. z.0
 }
 
-absolute-defines : (n x : ℕ) → x < n → Defines Any n (Constraint.Absolute (Item.Var n) (Item.Var x) ∷ []) (λ a. magnitude (a x))
+absolute-defines : (n x : ℕ) (before : List Constraint) → x < n → Defines Any n before (Constraint.Absolute (Item.Var n) (Item.Var x) ∷ []) (λ a. magnitude (a x))
 unfolding AreFormed AllHold
-absolute-defines n x h = record {
+absolute-defines n x before h = record {
   formed = ((λ m e. omega (arith, e), λ m e. omega (arith, e)), tt);
   agrees = λ a b g. ap magnitude (g x h);
   possible = λ a b p g. tt;
-  holds = λ a p e. (e, tt);
-  only = λ a z. z.0
+  holds = λ a p y e. (e, tt);
+  only = λ a y z. z.0
 }
 
 -- a new variable as a sum, which one constraint gives its value
-defined-read : (m : Made) (c : Constraint) (v : (ℕ → ℤ) → ℤ) → Defines Any m.unused (c ∷ []) v →
+defined-read : (m : Made) (c : Constraint) (v : (ℕ → ℤ) → ℤ) → Defines Any m.unused m.constraints (c ∷ []) v →
     SumRead m (record { what = of_variable m.unused; made = record { unused = suc m.unused; constraints = m.constraints ++ c ∷ [] } }) v
 defined-read m c v d = record {
   grows = grows_defined Any m (c ∷ []) v d;
   joined = joined-of_variable (suc m.unused) m.unused (omega arith);
-  value = λ a h. value-of_variable a m.unused ∙ d.only a (hold-added m.constraints (c ∷ []) a h)
+  value = λ a h. value-of_variable a m.unused ∙ d.only a (hold-first m.constraints (c ∷ []) a h) (hold-added m.constraints (c ∷ []) a h)
 }
 
 product_variable-read : (m : Made) (x y : ℕ) (l : Known Sum) → x < m.unused → y < m.unused → product_variable x y m ≡ Ok l → SumRead m l (λ a. a x *ℤ a y)
 product_variable-read m x y l h k e =
     let c : Constraint = Constraint.Product (Item.Var m.unused) (Item.Var x) (Item.Var y) in
     subst (λ k. SumRead m k (λ a. a x *ℤ a y)) (is_known (record { what = of_variable m.unused; made = record { unused = suc m.unused; constraints = m.constraints ++ c ∷ [] } }) l e)
-    (defined-read m c (λ a. a x *ℤ a y) (product-defines m.unused x y h k))
+    (defined-read m c (λ a. a x *ℤ a y) (product-defines m.unused x y m.constraints h k))
 
 absolute_variable-read : (m : Made) (x : ℕ) (l : Known Sum) → x < m.unused → absolute_variable x m ≡ Ok l → SumRead m l (λ a. magnitude (a x))
 absolute_variable-read m x l h e =
     let c : Constraint = Constraint.Absolute (Item.Var m.unused) (Item.Var x) in
     subst (λ k. SumRead m k (λ a. magnitude (a x))) (is_known (record { what = of_variable m.unused; made = record { unused = suc m.unused; constraints = m.constraints ++ c ∷ [] } }) l e)
-    (defined-read m c (λ a. magnitude (a x)) (absolute-defines m.unused x h))
+    (defined-read m c (λ a. magnitude (a x)) (absolute-defines m.unused x m.constraints h))
 
 product-read : (m : Made) (u v : Sum) (l : Known Sum) → IsJoined m.unused u → IsJoined m.unused v → product u v m ≡ Ok l → SumRead m l (λ a. sum_value a u *ℤ sum_value a v)
 product-read m u v l s r e = by (constant_of u) (constant_of v) refl refl e
