@@ -1,4 +1,15 @@
 pub mod SumLemmas
+pub mod FormLemmas
+pub mod GrowLemmas
+pub mod OperandLemmas
+pub mod RelationLemmas
+pub mod TruthLemmas
+pub mod TableLemmas
+pub mod BooleanLemmas
+pub mod ListLemmas
+pub mod LimitLemmas
+pub mod TermLemmas
+pub mod PostingLemmas
 pub mod Worked
 pub mod RelationExamples
 pub mod TruthExamples

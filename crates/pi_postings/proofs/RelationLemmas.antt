@@ -79,6 +79,10 @@ stands_so at_most a u i j e = ap (stands Rel.AtMost) e ∙ at_most_is i j
 stands_so greater a u i j e = ap (stands Rel.AtMost) (one_more a u ∙ ap (λ (x : ℤ). x +ℤ pos 1) e) ∙ less_is j i
 stands_so at_least a u i j e = ap (stands Rel.AtMost) e ∙ at_most_is j i
 
+-- the difference as the relation has it
+abbrev standing_of : Comparison → Known Sum → Known Standing
+standing_of c k = record { what = record { rel = relation_of c; sum = and_apart c k.what }; made = k.made }
+
 pub relation-read : (n : ℕ) (c : Comparison) (x y : Operand) (m : Made) (l : Known Standing) → OperandBelow n x → OperandBelow n y → n ≤ m.unused → read_relation c x y m ≡ Ok l → StandingRead m l (λ a. compares c (operand_value a x) (operand_value a y))
 unfolding read_relation
 relation-read n c x y m l s t b e =
@@ -88,9 +92,8 @@ relation-read n c x y m l s t b e =
     let third = after_is (step apart second.0.made) (λ w. gives (record { rel = relation_of c; sum = and_apart c w })) l second.2 in
     let u : SumRead m first.0 (λ a. operand_value a x) = operand-read n x m first.0 s b first.1 in
     let v : SumRead first.0.made second.0 (λ a. operand_value a y) = operand-read n y first.0.made second.0 t (omega (arith, b, u.grows.more)) second.1 in
-    let whole : Known Standing = record { what = record { rel = relation_of c; sum = and_apart c apart }; made = second.0.made } in
-    let same : whole ≡ l =
-    ap (λ (k : Known Sum). let known : Known Standing = record { what = record { rel = relation_of c; sum = and_apart c k.what }; made = k.made } in known) (step_is apart second.0.made third.0 third.1)
+    let same : standing_of c (record { what = apart; made = second.0.made }) ≡ l =
+    ap (standing_of c) (step_is apart second.0.made third.0 third.1)
     ∙ is_known (record { what = record { rel = relation_of c; sum = and_apart c third.0.what }; made = third.0.made }) l third.2 in
     subst (λ k. StandingRead m k (λ a. compares c (operand_value a x) (operand_value a y))) same (record {
       grows = grows_then Any Any m first.0.made second.0.made u.grows v.grows (λ a b p q h. tt);
