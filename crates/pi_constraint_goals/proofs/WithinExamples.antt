@@ -10,7 +10,6 @@ use Rattle.pi_states.specs.State.{State, Variable, free, within, bound, followed
 use Rattle.pi_effects.specs.Effect.{Effect, Succeeds, Fails, Raises}
 use Rattle.pi_effects.specs.Exception.{type_error, bad_range, range_too_long}
 use Rattle.pi_effects.specs.Items.{each_tree, list_onto, list_of, array_of, items_for, list_items}
-use Rattle.pi_effects.specs.Ranges.{count_by}
 use Rattle.pi_labelling.specs.Asked.{flat_for, flat_all}
 use Rattle.pi_constraint_goals.specs.Values.{ahead_of, with_value, domain_of_values, gaps_from, numbers_by}
 use Rattle.pi_constraint_goals.specs.RightSide.{integers_of, right_side, domain_too_wide}
@@ -39,7 +38,7 @@ abbrev one_to_five : Variable
 one_to_five = within (span 1 5 ∷ [])
 
 does : Effect → Effect → Type 0
-unfolding instance value rounds followed_for followed each_tree list_onto items_for list_items flat_for flat_all count_by has_value numbers_from values_of overlap shared common ahead_of with_value domain_of_values gaps_from numbers_by integers_of right_side each_item type_error cells
+unfolding instance value rounds followed_for followed each_tree list_onto items_for list_items flat_for flat_all has_value numbers_from values_of overlap shared common ahead_of with_value domain_of_values gaps_from numbers_by integers_of right_side each_item type_error cells
 does e f = e ≡ f
 
 -- values that are one domain, whatever their order: 3, 1, 2, 7, 5, 6, 1

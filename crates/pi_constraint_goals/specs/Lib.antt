@@ -1,4 +1,5 @@
 pub mod Values
+pub mod ValueLaws
 pub mod RightSide
 pub mod Within
 pub mod Posted

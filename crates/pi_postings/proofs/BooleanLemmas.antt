@@ -59,7 +59,7 @@ unfolding bounds
 variable-truth v m l s e = subst (λ k. TruthRead m k (λ a. truth_of_number (a v))) (is_known (record { what = Item.Var v; made = record { unused = m.unused; constraints = with_all m.constraints (bounds v) } }) l e) (record {
   grows = grows_posted (λ a. IsTruth (truth_of_number (a v))) m (bounds v) (bounds-formed m.unused v s) (λ a p. bounds-hold a v p.0 (bits-known (a v) p.0 p.1));
   below = λ k f. subst (λ (w : ℕ). w < m.unused) f s;
-  value = λ a h. let p : (p : Bool) × (a v ≡ bit p) = bounds-only a v (hold-added m.constraints (bounds v) a h) in (p.0, ap truth_of_number p.1 ∙ truth-bit p.0, p.1)
+  value = λ a h. let p : (p : Bool) × (a v ≡ bit p) = bounds-only a v (hold-added m.constraints (bounds v) a h) in (p.0, ap truth_of_number p.1 ∙ truth-bit p.0, p.1);
 })
 
 -- an integer, which adds nothing
@@ -67,7 +67,7 @@ integer-truth : (i : ℤ) (p : Bool) (m : Made) (l : Known Item) → truth_of_nu
 integer-truth i p m l f e = subst (λ k. TruthRead m k (λ a. truth_of_number i)) e (record {
   grows = grows_none (λ a. IsTruth (truth_of_number i)) m;
   below = λ k f. absurd f;
-  value = λ a h. (p, f, refl)
+  value = λ a h. (p, f, refl);
 })
 
 number-truth : (i : ℤ) (m : Made) (l : Known Item) → truth_number_is i m ≡ Ok l → TruthRead m l (λ a. truth_of_number i)
@@ -102,7 +102,7 @@ truth-read n (relation c x y) m l s b e =
     record {
       grows = grows_for Any (λ a. IsTruth (Some (compares c (operand_value a x) (operand_value a y)))) m l.made (λ a p. tt) (grows_then Any Any m first.0.made l.made w.grows t.grows (λ a b p g h. tt));
       below = t.below;
-      value = λ a h. (compares c (operand_value a x) (operand_value a y), refl, t.value a h ∙ ap bit (w.value a (t.grows.keeps a h)))
+      value = λ a h. (compares c (operand_value a x) (operand_value a y), refl, t.value a h ∙ ap bit (w.value a (t.grows.keeps a h)));
     }
 truth-read n (negation c) m l s b e =
     let first = after_is (read_truth c m) truth_of_negation l e in
@@ -114,7 +114,7 @@ truth-read n (negation c) m l s b e =
       below = t.below;
       value = λ a h.
           let v : (p : Bool) × (truth a c ≡ Some p) × (value_of a first.0.what ≡ bit p) = r.value a (t.grows.keeps a h) in
-          (not v.0, ap (option_map not) v.1, t.value a h ∙ ap bit (said-bits (λ p q. not p) first.0.what first.0.what a v.0 v.0 v.2 v.2))
+          (not v.0, ap (option_map not) v.1, t.value a h ∙ ap bit (said-bits (λ p q. not p) first.0.what first.0.what a v.0 v.0 v.2 v.2));
     }
 truth-read n (joined k c d) m l s b e =
     let first = after_is (read_truth c m) (λ x. then (read_truth d) (λ y. truth_of_joined k x y)) l e in
@@ -134,7 +134,7 @@ truth-read n (joined k c d) m l s b e =
           let before = t.grows.keeps a h in
           let v : (p : Bool) × (truth a c ≡ Some p) × (value_of a first.0.what ≡ bit p) = r.value a (q.grows.keeps a before) in
           let w : (p : Bool) × (truth a d ≡ Some p) × (value_of a second.0.what ≡ bit p) = q.value a before in
-          (joins k v.0 w.0, (λ i. both_truths (joins k) (v.1 i) (w.1 i)), t.value a h ∙ ap bit (said-bits (joins k) first.0.what second.0.what a v.0 w.0 v.2 w.2))
+          (joins k v.0 w.0, (λ i. both_truths (joins k) (v.1 i) (w.1 i)), t.value a h ∙ ap bit (said-bits (joins k) first.0.what second.0.what a v.0 w.0 v.2 w.2));
     }
 truth-read n (no_boolean t) m l s b e = absurd cc
 
@@ -158,11 +158,11 @@ truth-posts n b m l s c e =
       grows = grows_then (λ a. truth a b ≡ Some true) (λ a. stands Rel.Equal (sum_value a (difference (of_item first.0.what) (of_number (pos 1)))) ≡ true) m first.0.made l.made
           (grows_for (λ a. IsTruth (truth a b)) (λ a. truth a b ≡ Some true) m first.0.made (λ a q. (true, q)) r.grows) p.grows
           (λ a d q g h.
-              let v : (p : Bool) × (truth d b ≡ Some p) × (value_of d first.0.what ≡ bit p) = r.value d h in
-              is_so d v.0 v.2 ∙ same v.0 true (sym v.1 ∙ (truths_agree n b a d s (agree_less n m.unused a d c g) ∙ q)));
+          let v : (p : Bool) × (truth d b ≡ Some p) × (value_of d first.0.what ≡ bit p) = r.value d h in
+          is_so d v.0 v.2 ∙ same v.0 true (sym v.1 ∙ (truths_agree n b a d s (agree_less n m.unused a d c g) ∙ q)));
       says = λ a h.
           let v : (p : Bool) × (truth a b ≡ Some p) × (value_of a first.0.what ≡ bit p) = r.value a (p.grows.keeps a h) in
-          v.1 ∙ ap {B = Option Bool} (λ p. Some p) (sym (is_so a v.0 v.2) ∙ p.says a h)
+          v.1 ∙ ap {B = Option Bool} (λ p. Some p) (sym (is_so a v.0 v.2) ∙ p.says a h);
     }
   where
     same : (p q : Bool) → Some p ≡ Some q → p ≡ q

@@ -161,9 +161,12 @@ holds_agrees n (Constraint.Linear rel ts k) a b f g h = subst (λ (x : ℤ). Sta
 holds_agrees n (Constraint.Product z x y) a b f g h = items_agree n z a b f.0 g ∙ (h ∙ (λ i. sym (items_agree n x a b f.1 g) i *ℤ sym (items_agree n y a b f.2 g) i))
 holds_agrees n (Constraint.Absolute z x) a b f g h = items_agree n z a b f.0 g ∙ (h ∙ ap magnitude (sym (items_agree n x a b f.1 g)))
 holds_agrees n (Constraint.Different items) a b f g h = subst AreDifferent (sym (lists_agree n items a b f g)) h
-holds_agrees n (Constraint.Element index items value) a b f g h =
-    (h.0, h.1, items_agree n index a b f.0 g ∙ h.2,
-    subst (λ (vs : List ℤ). get_or vs h.0 (pos 0) ≡ value_of b value) (sym (lists_agree n items a b f.1 g)) (h.3 ∙ sym (items_agree n value a b f.2 g)))
+holds_agrees n (Constraint.Element index items value) a b f g h = (
+  h.0,
+  h.1,
+  items_agree n index a b f.0 g ∙ h.2,
+  subst (λ (vs : List ℤ). get_or vs h.0 (pos 0) ≡ value_of b value) (sym (lists_agree n items a b f.1 g)) (h.3 ∙ sym (items_agree n value a b f.2 g)),
+)
 holds_agrees n (Constraint.Reified truth rel ts k) a b f g (inl h) =
     inl (items_agree n truth a b f.0 g ∙ h.0, subst (λ (x : ℤ). Stands rel (k +ℤ x)) (sym (sums_agree n 0 ts a b f.2 g)) h.1)
 holds_agrees n (Constraint.Reified truth rel ts k) a b f g (inr h) =

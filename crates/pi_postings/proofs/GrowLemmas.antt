@@ -102,7 +102,7 @@ grows_then P Q m k l g h q = record {
       let first : (b : ℕ → ℤ) × AgreeBelow m.unused a b × AllHold k.constraints b = g.extends f a p z in
       let second : (b : ℕ → ℤ) × AgreeBelow k.unused first.0 b × AllHold l.constraints b = h.extends (g.formed f) first.0 (q a first.0 p first.1 first.2) first.2 in
       (second.0, λ i b. second.1 i (omega (arith, g.more)) ∙ first.1 i b, second.2);
-  given = λ a b s y z. h.given a b (g.given a b s (h.keeps a y) (h.keeps b z)) y z
+  given = λ a b s y z. h.given a b (g.given a b s (h.keeps a y) (h.keeps b z)) y z;
 }
 
 -- constraints that hold for these assignments, over variables that were made
@@ -112,7 +112,7 @@ grows_posted P m cs f p = record {
   formed = λ g. formed-with_all m.unused m.constraints cs g f;
   keeps = λ a h. hold-first m.constraints cs a h;
   extends = λ g a q h. (a, λ i l. refl, hold-with_all m.constraints cs a h (p a q));
-  given = λ a b s y z. s
+  given = λ a b s y z. s;
 }
 
 -- ---- a new variable whose value is given by constraints
@@ -165,7 +165,7 @@ grows_defined P m cs v d = record {
   given = λ a b s y z.
       below_next m.unused a b s
       (d.only b (hold-first m.constraints cs b z) (hold-added m.constraints cs b z)
-      ∙ (d.agrees a b s ∙ sym (d.only a (hold-first m.constraints cs a y) (hold-added m.constraints cs a y))))
+      ∙ (d.agrees a b s ∙ sym (d.only a (hold-first m.constraints cs a y) (hold-added m.constraints cs a y))));
 }
 
 -- ---- readings one after the other

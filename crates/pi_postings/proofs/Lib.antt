@@ -10,6 +10,7 @@ pub mod ListLemmas
 pub mod LimitLemmas
 pub mod TermLemmas
 pub mod PostingLemmas
+pub mod CoefficientLemmas
 pub mod Worked
 pub mod RelationExamples
 pub mod TruthExamples

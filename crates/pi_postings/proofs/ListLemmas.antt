@@ -107,7 +107,7 @@ each-read n (t ∷ ts) m l s e =
       same = xs.same ∙ x.same;
       below = λ k f. below k (x.below k) (xs.below k) f;
       value = λ a. (λ i. x.value a i ∷ xs.value a i);
-      count = ap suc xs.count
+      count = ap suc xs.count;
     })
   where
     below : (k : ℕ) {P Q : Type 0} → (P → k < n) → (Q → k < n) → P ⊎ Q → k < n
@@ -143,7 +143,7 @@ one-posts : (n : ℕ) (m : Made) (c : Constraint) (l : Known (Unit {0})) (p : (�
 unfolding AreFormed AllHold
 one-posts n m c l p f to from e = subst (λ k. Posts m k p) (is_known (record { what = tt; made = record { unused = m.unused; constraints = m.constraints ++ c ∷ [] } }) l e) (record {
   grows = grows_posted p m (c ∷ []) f (λ a h. (to a h, tt));
-  says = λ a h. from a (hold-added m.constraints (c ∷ []) a h).0
+  says = λ a h. from a (hold-added m.constraints (c ∷ []) a h).0;
 })
 
 -- `all_different` and `all_distinct`
@@ -200,12 +200,18 @@ element-posts n i c v m l si sc sv b e =
     subst (λ w. Posts w l (ElementIs i c v)) same (one-posts n fourth.0.made (Constraint.Element first.0.what fourth.0.what third.0.what) l (ElementIs i c v)
     (((λ k f. omega (arith, x.below k f, more)), (λ k f. omega (arith, xs.below k f, more)), (λ k f. omega (arith, y.below k f, more))), tt)
     (λ a h.
-        let is : IsItemWith (map (item_value a) second.0.what) (item_value a i) (item_value a v) =
-        and_some (collection_items [] c) second.0.what (λ ts. IsItemWith (map (item_value a) ts) (item_value a i) (item_value a v)) ts.items h in
-        (is.0, subst (λ (w : ℕ). is.0 < w) (count_of_values (item_value a) second.0.what ∙ sym xs.count) is.1, x.value a ∙ is.2,
-        ap (λ vs. get_or vs is.0 (pos 0)) (xs.value a) ∙ (is.3 ∙ sym (y.value a))))
+    let is : IsItemWith (map (item_value a) second.0.what) (item_value a i) (item_value a v) =
+    and_some (collection_items [] c) second.0.what (λ ts. IsItemWith (map (item_value a) ts) (item_value a i) (item_value a v)) ts.items h in (
+      is.0,
+      subst (λ (w : ℕ). is.0 < w) (count_of_values (item_value a) second.0.what ∙ sym xs.count) is.1,
+      x.value a ∙ is.2,
+      ap (λ vs. get_or vs is.0 (pos 0)) (xs.value a) ∙ (is.3 ∙ sym (y.value a)),
+    ))
     (λ a h.
-        some_and (collection_items [] c) second.0.what (λ ts. IsItemWith (map (item_value a) ts) (item_value a i) (item_value a v)) ts.items
-        (h.0, subst (λ (w : ℕ). h.0 < w) (xs.count ∙ sym (count_of_values (item_value a) second.0.what)) h.1, sym (x.value a) ∙ h.2,
-        ap (λ vs. get_or vs h.0 (pos 0)) (sym (xs.value a)) ∙ (h.3 ∙ y.value a)))
+    some_and (collection_items [] c) second.0.what (λ ts. IsItemWith (map (item_value a) ts) (item_value a i) (item_value a v)) ts.items (
+      h.0,
+      subst (λ (w : ℕ). h.0 < w) (xs.count ∙ sym (count_of_values (item_value a) second.0.what)) h.1,
+      sym (x.value a) ∙ h.2,
+      ap (λ vs. get_or vs h.0 (pos 0)) (sym (xs.value a)) ∙ (h.3 ∙ y.value a),
+    ))
     fourth.2)

@@ -151,18 +151,25 @@ not_empty n least (t ∷ ts) s e = by (nat_lt n t.1) (n == t.1) refl e
 side-defines : (n : ℕ) (before : List Constraint) (u : Sum) → IsJoined n u → Defines Any n before (linear Rel.Equal (difference (of_variable n) u) ∷ []) (λ a. sum_value a u)
 unfolding AreFormed AllHold with_terms
 side-defines n before u s = record {
-  formed = ((not_empty n 0 (scaled_terms (negsuc 0) u.terms) (joined-scaled n (negsuc 0) u s),
-    joined-difference (suc n) (of_variable n) u (joined-of_variable (suc n) n (omega arith)) (ascend_below n (suc n) 0 u.terms (omega arith) s)), tt);
+  formed = (
+    (
+      not_empty n 0 (scaled_terms (negsuc 0) u.terms) (joined-scaled n (negsuc 0) u s),
+      joined-difference (suc n) (of_variable n) u (joined-of_variable (suc n) n (omega arith)) (ascend_below n (suc n) 0 u.terms (omega arith) s),
+    ),
+    tt,
+  );
   agrees = λ a b g. sum_values_agree n u a b s g;
   possible = λ a b p g. tt;
   holds = λ a p z e. (apart a ∙ none (a n) (sum_value a u) e, tt);
-  only = λ a z h. same (a n) (sum_value a u) (sym (apart a) ∙ h.0)
+  only = λ a z h. same (a n) (sum_value a u) (sym (apart a) ∙ h.0);
 }
   where
     apart : (a : ℕ → ℤ) → sum_value a (difference (of_variable n) u) ≡ a n -ℤ sum_value a u
     apart a = value-difference a (of_variable n) u ∙ ap (λ (x : ℤ). x -ℤ sum_value a u) (value-of_variable a n)
+
     none : (x y : ℤ) → x ≡ y → x -ℤ y ≡ pos 0
     none x y e = omega (arith, ints)
+
     same : (x y : ℤ) → x -ℤ y ≡ pos 0 → x ≡ y
     same x y e = omega (arith, ints)
 
@@ -174,8 +181,9 @@ side-read m u l s e = by (variable_of u) refl e
     alone n f = record {
       grows = grows_none Any m;
       below = (subst (λ ts. AscendBelow m.unused 0 ts) f.0 s).2;
-      value = λ a h. sym (value-of_variable a n) ∙ (λ i. sym f.1 i +ℤ sum_of a (sym f.0 i))
+      value = λ a h. sym (value-of_variable a n) ∙ (λ i. sym f.1 i +ℤ sum_of a (sym f.0 i));
     }
+
     by : (o : Option ℕ) → variable_of u ≡ o → side_by o u m ≡ Ok l → VariableRead m l (λ a. sum_value a u)
     by (Some n) f e = subst (λ k. VariableRead m k (λ a. sum_value a u)) (is_known (record { what = n; made = m }) l e) (alone n (variable_of_is u.terms u.constant n f))
     by None f e =
@@ -186,7 +194,7 @@ side-read m u l s e = by (variable_of u) refl e
           below = omega arith;
           value = λ a h.
               d.only a (hold-first m.constraints (linear Rel.Equal (difference (of_variable m.unused) u) ∷ []) a h)
-              (hold-added m.constraints (linear Rel.Equal (difference (of_variable m.unused) u) ∷ []) a h)
+              (hold-added m.constraints (linear Rel.Equal (difference (of_variable m.unused) u) ∷ []) a h);
         })
 
 -- ---- a new variable that is a product or an absolute value
@@ -198,7 +206,7 @@ product-defines n x y before h k = record {
   agrees = λ a b g. (λ i. g x h i *ℤ g y k i);
   possible = λ a b p g. tt;
   holds = λ a p y e. (e, tt);
-  only = λ a y z. z.0
+  only = λ a y z. z.0;
 }
 
 absolute-defines : (n x : ℕ) (before : List Constraint) → x < n → Defines Any n before (Constraint.Absolute (Item.Var n) (Item.Var x) ∷ []) (λ a. magnitude (a x))
@@ -208,7 +216,7 @@ absolute-defines n x before h = record {
   agrees = λ a b g. ap magnitude (g x h);
   possible = λ a b p g. tt;
   holds = λ a p y e. (e, tt);
-  only = λ a y z. z.0
+  only = λ a y z. z.0;
 }
 
 -- a new variable as a sum, which one constraint gives its value
@@ -217,7 +225,7 @@ defined-read : (m : Made) (c : Constraint) (v : (ℕ → ℤ) → ℤ) → Defin
 defined-read m c v d = record {
   grows = grows_defined Any m (c ∷ []) v d;
   joined = joined-of_variable (suc m.unused) m.unused (omega arith);
-  value = λ a h. value-of_variable a m.unused ∙ d.only a (hold-first m.constraints (c ∷ []) a h) (hold-added m.constraints (c ∷ []) a h)
+  value = λ a h. value-of_variable a m.unused ∙ d.only a (hold-first m.constraints (c ∷ []) a h) (hold-added m.constraints (c ∷ []) a h);
 }
 
 product_variable-read : (m : Made) (x y : ℕ) (l : Known Sum) → x < m.unused → y < m.unused → product_variable x y m ≡ Ok l → SumRead m l (λ a. a x *ℤ a y)

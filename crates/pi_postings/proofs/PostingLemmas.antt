@@ -9,18 +9,19 @@ use Rattle.pi_filters.specs.Solutions.{AreDifferent}
 use Rattle.pi_states.specs.State.{SpeaksBelow}
 use Rattle.pi_effects.specs.Items.{collection_items}
 use Rattle.pi_postings.specs.Operands.{Goal, relates, is_so, all_different, all_distinct, element, no_constraint}
-use Rattle.pi_postings.specs.Terms.{goal_of}
+use Rattle.pi_postings.specs.Terms.{operand_of, goal_of}
 use Rattle.pi_postings.specs.Steps.{Refusal, Made, Known, Reading}
 use Rattle.pi_postings.specs.Limits.{first_refusal}
 use Rattle.pi_postings.specs.Postings.{Posting, read_goal, nothing_made, posting_unless, finished, posting_of}
 use Rattle.pi_postings.specs.Says.{operand_value, compares, truth, item_value, IsItemWith, Says, AllHold, AgreeBelow}
-use Rattle.pi_postings.specs.PostingLaws.{PostingsSayTheSame, NewValuesAreGiven, PostingsMayBePosted}
+use Rattle.pi_postings.specs.PostingLaws.{OperandsHaveTheirValues, PostingsSayTheSame, NewValuesAreGiven, PostingsMayBePosted}
 use Rattle.pi_postings.proofs.GrowLemmas.{AreFormed, Grows}
+use Rattle.pi_postings.proofs.OperandLemmas.{SumRead, operand-read}
 use Rattle.pi_postings.proofs.RelationLemmas.{relations_agree, Posts, relation-posts}
 use Rattle.pi_postings.proofs.BooleanLemmas.{truths_agree, truth-posts}
 use Rattle.pi_postings.proofs.ListLemmas.{AllBelow, SomeBelow, items_below, different-posts, distinct-posts, element-posts}
 use Rattle.pi_postings.proofs.LimitLemmas.{all_kept}
-use Rattle.pi_postings.proofs.TermLemmas.{GoalBelow, goal-below}
+use Rattle.pi_postings.proofs.TermLemmas.{operand-below, GoalBelow, goal-below}
 
 -- ---- a goal says the same of values that agree
 
@@ -83,6 +84,7 @@ posted n g p e = by (read_goal g (nothing_made n)) refl e
     unless : (k : Known (Unit {0})) (o : Option Refusal) → read_goal g (nothing_made n) ≡ Ok k → first_refusal k.made.constraints ≡ o → posting_unless o n k.made ≡ Ok p → Made-by n g p
     unless k (Some r) f h e = absurd cc
     unless k None f h e = record { known = k; read = f; kept = h; same = ap (posting_or p) e }
+
     by : (o : Result (Known (Unit {0})) Refusal) → read_goal g (nothing_made n) ≡ o → finished n o ≡ Ok p → Made-by n g p
     by (Err r) f e = absurd cc
     by (Ok k) f e = unless k (first_refusal k.made.constraints) f refl e
@@ -90,6 +92,12 @@ posted n g p e = by (read_goal g (nothing_made n)) refl e
 -- what it posts, over the variables of its term
 posts_of : (n : ℕ) (t : Tree) (p : Posting) → SpeaksBelow n t → (k : Made-by n (goal_of t) p) → Posts (nothing_made n) k.known (λ a. Says a (goal_of t))
 posts_of n t p s k = goal-posts n (goal_of t) (nothing_made n) k.known (goal-below n t s) (omega arith) k.read
+
+pub operands_have_their_values : OperandsHaveTheirValues
+unfolding AreFormed AllHold
+operands_have_their_values n t k s e =
+    let r : SumRead (nothing_made n) k (λ a. operand_value a (operand_of t)) = operand-read n (operand_of t) (nothing_made n) k (operand-below n t s) (omega arith) e in
+    (r.value, λ a. r.grows.extends tt a tt tt)
 
 pub postings_say_the_same : PostingsSayTheSame
 unfolding AreFormed AllHold

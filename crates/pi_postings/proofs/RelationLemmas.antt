@@ -100,7 +100,7 @@ relation-read n c x y m l s t b e =
       joined = joined-apart c second.0.made.unused apart
           (joined-sides c second.0.made.unused first.0.what second.0.what (ascend_below first.0.made.unused second.0.made.unused 0 first.0.what.terms v.grows.more u.joined) v.joined);
       value = λ a h. stands_so c a apart (operand_value a x) (operand_value a y)
-          (value-sides c a first.0.what second.0.what ∙ (let p = u.value a (v.grows.keeps a h) in let q = v.value a h in (λ i. difference_of c (p i) (q i))))
+          (value-sides c a first.0.what second.0.what ∙ (let p = u.value a (v.grows.keeps a h) in let q = v.value a h in (λ i. difference_of c (p i) (q i))));
     })
 
 -- ---- what is posted
@@ -143,7 +143,8 @@ never-formed : (n : ℕ) → AreFormed (suc n) (never n)
 unfolding never AreFormed with_terms with_term scaled_terms
 never-formed n = (
   ((λ e. absurd cc), joined-of_variable (suc n) n (omega arith)),
-  (((λ e. absurd cc), joined-difference (suc n) (of_number (pos 1)) (of_variable n) (joined-of_number (suc n) (pos 1)) (joined-of_variable (suc n) n (omega arith))), tt))
+  (((λ e. absurd cc), joined-difference (suc n) (of_number (pos 1)) (of_variable n) (joined-of_number (suc n) (pos 1)) (joined-of_variable (suc n) n (omega arith))), tt),
+)
 
 pub standing-posts : (rel : Rel) (u : Sum) (m : Made) (l : Known (Unit {0})) → IsJoined m.unused u → posts_standing rel u m ≡ Ok l → Posts m l (λ a. stands rel (sum_value a u) ≡ true)
 unfolding never AreFormed AllHold
@@ -151,10 +152,11 @@ standing-posts rel u m l s e = by u.terms refl e
   where
     p : (ℕ → ℤ) → Type 0
     p a = stands rel (sum_value a u) ≡ true
+
     at_once : (b : Bool) → u.terms ≡ [] → stands rel u.constant ≡ b → cond {A = Reading (Unit {0})} b (gives tt) posts_never m ≡ Ok l → Posts m l (λ a. stands rel (sum_value a u) ≡ true)
     at_once true f g e = subst (λ k. Posts m k (λ a. stands rel (sum_value a u) ≡ true)) (is_known (record { what = tt; made = m }) l e) (record {
       grows = grows_none (λ a. stands rel (sum_value a u) ≡ true) m;
-      says = λ a h. ap (stands rel) (no_terms-value a u f) ∙ g
+      says = λ a h. ap (stands rel) (no_terms-value a u f) ∙ g;
     })
     at_once false f g e =
         let wrong : (a : ℕ → ℤ) → stands rel (sum_value a u) ≡ true → ⊥ = λ a h. (let contrary : true ≡ false = sym h ∙ (ap (stands rel) (no_terms-value a u f) ∙ g) in absurd cc) in
@@ -165,17 +167,18 @@ standing-posts rel u m l s e = by u.terms refl e
             agrees = λ a b g. refl;
             possible = λ a b q g. absurd (wrong a q);
             holds = λ a q h e. absurd (wrong a q);
-            only = λ a h z. absurd (never_holds m.unused a z)
+            only = λ a h z. absurd (never_holds m.unused a z);
           });
-          says = λ a h. absurd (never_holds m.unused a (hold-added m.constraints (never m.unused) a h))
+          says = λ a h. absurd (never_holds m.unused a (hold-added m.constraints (never m.unused) a h));
         })
+
     by : (ts : List (ℤ × ℕ)) → u.terms ≡ ts → posts_by_terms ts rel u m ≡ Ok l → Posts m l (λ a. stands rel (sum_value a u) ≡ true)
     by [] f e = at_once (stands rel u.constant) f refl e
     by (t ∷ ts) f e =
         let some : u.terms ≢ [] = λ g. (let contrary : t ∷ ts ≡ [] = sym f ∙ g in absurd cc) in
         subst (λ k. Posts m k (λ a. stands rel (sum_value a u) ≡ true)) (is_known (record { what = tt; made = record { unused = m.unused; constraints = m.constraints ++ linear rel u ∷ [] } }) l e) (record {
           grows = grows_posted (λ a. stands rel (sum_value a u) ≡ true) m (linear rel u ∷ []) ((some, s), tt) (λ a h. (stands_true rel (sum_value a u) h, tt));
-          says = λ a h. true_stands rel (sum_value a u) (hold-added m.constraints (linear rel u ∷ []) a h).0
+          says = λ a h. true_stands rel (sum_value a u) (hold-added m.constraints (linear rel u ∷ []) a h).0;
         })
 
 pub relations_agree : (n : ℕ) (c : Comparison) (x y : Operand) (a b : ℕ → ℤ) → OperandBelow n x → OperandBelow n y → AgreeBelow n a b →
@@ -192,5 +195,5 @@ relation-posts n c x y m l s t b e =
       grows = grows_then (λ a. compares c (operand_value a x) (operand_value a y) ≡ true) (λ a. stands first.0.what.rel (sum_value a first.0.what.sum) ≡ true) m first.0.made l.made
           (grows_for Any (λ a. compares c (operand_value a x) (operand_value a y) ≡ true) m first.0.made (λ a q. tt) w.grows) p.grows
           (λ a d q g h. w.value d h ∙ (relations_agree n c x y a d s t (agree_less n m.unused a d b g) ∙ q));
-      says = λ a h. sym (w.value a (p.grows.keeps a h)) ∙ p.says a h
+      says = λ a h. sym (w.value a (p.grows.keeps a h)) ∙ p.says a h;
     }

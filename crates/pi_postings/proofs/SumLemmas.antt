@@ -39,7 +39,6 @@ sum_of-in_front a (pos zero) n ts = omega (arith, ints)
 sum_of-in_front a (pos (suc c)) n ts = refl
 sum_of-in_front a (negsuc c) n ts = refl
 
-
 join_first : (c d x s : ℤ) → (c +ℤ d) *ℤ x +ℤ s ≡ c *ℤ x +ℤ (d *ℤ x +ℤ s)
 join_first c d x s = let e : (c +ℤ d) *ℤ x ≡ c *ℤ x +ℤ d *ℤ x = distributes c d x in omega (arith, ints)
 

@@ -42,13 +42,13 @@ one-part n x y = record { joined = joined-of_number (suc n) (pos 1); value = λ 
 without : (n : ℕ) (x y : Item) {u v : Sum} {f g : ℤ → ℤ → ℤ → ℤ} → Part n x y u f → Part n x y v g → Part n x y (difference u v) (λ t p q. f t p q -ℤ g t p q)
 without n x y {u} {v} {f} {g} r s = record {
   joined = joined-difference (suc n) u v r.joined s.joined;
-  value = λ a. diff a u v (f (a n) (value_of a x) (value_of a y)) (g (a n) (value_of a x) (value_of a y)) (r.value a) (s.value a)
+  value = λ a. diff a u v (f (a n) (value_of a x) (value_of a y)) (g (a n) (value_of a x) (value_of a y)) (r.value a) (s.value a);
 }
 
 with : (n : ℕ) (x y : Item) {u v : Sum} {f g : ℤ → ℤ → ℤ → ℤ} → Part n x y u f → Part n x y v g → Part n x y (added u v) (λ t p q. f t p q +ℤ g t p q)
 with n x y {u} {v} {f} {g} r s = record {
   joined = joined-added (suc n) u v r.joined s.joined;
-  value = λ a. plus a u v (f (a n) (value_of a x) (value_of a y)) (g (a n) (value_of a x) (value_of a y)) (r.value a) (s.value a)
+  value = λ a. plus a u v (f (a n) (value_of a x) (value_of a y)) (g (a n) (value_of a x) (value_of a y)) (r.value a) (s.value a);
 }
 
 -- a whole one, in which T counts
@@ -71,6 +71,7 @@ negation-settles = record { works = works; forces = forces }
     works : (p q : Bool) → one_equal negated (bit (not p)) (bit p) (bit q)
     works true q = refl
     works false q = refl
+
     forces : (t p q : Bool) → one_equal negated (bit t) (bit p) (bit q) → t ≡ not p
     forces true true q h = absurd (omega (arith, ints, h))
     forces true false q h = refl
@@ -112,7 +113,7 @@ and-row n x y s t = record {
   is_first = whole n x y (without n x y (truth-part n x y) (first-part n x y s)) (λ p q e. omega (arith, ints));
   is_second = whole n x y (without n x y (truth-part n x y) (second-part n x y t)) (λ p q e. omega (arith, ints));
   is_third = whole n x y (without n x y (without n x y (with n x y (first-part n x y s) (second-part n x y t)) (truth-part n x y)) (one-part n x y)) (λ p q e. omega (arith, ints));
-  settles = record { works = works; forces = forces }
+  settles = record { works = works; forces = forces };
 }
   where
     works : (p q : Bool) → three_at_most (λ t p q. t -ℤ p) (λ t p q. t -ℤ q) (λ t p q. p +ℤ q -ℤ t -ℤ pos 1) (bit (p && q)) (bit p) (bit q)
@@ -120,6 +121,7 @@ and-row n x y s t = record {
     works true false = (omega (arith, ints), omega (arith, ints), omega (arith, ints))
     works false true = (omega (arith, ints), omega (arith, ints), omega (arith, ints))
     works false false = (omega (arith, ints), omega (arith, ints), omega (arith, ints))
+
     forces : (t p q : Bool) → three_at_most (λ t p q. t -ℤ p) (λ t p q. t -ℤ q) (λ t p q. p +ℤ q -ℤ t -ℤ pos 1) (bit t) (bit p) (bit q) → t ≡ (p && q)
     forces true true true h = refl
     forces true true false h = absurd (omega (arith, ints, h.1))
@@ -139,7 +141,7 @@ or-row n x y s t = record {
   is_first = whole n x y (without n x y (first-part n x y s) (truth-part n x y)) (λ p q e. omega (arith, ints));
   is_second = whole n x y (without n x y (second-part n x y t) (truth-part n x y)) (λ p q e. omega (arith, ints));
   is_third = whole n x y (without n x y (without n x y (truth-part n x y) (first-part n x y s)) (second-part n x y t)) (λ p q e. omega (arith, ints));
-  settles = record { works = works; forces = forces }
+  settles = record { works = works; forces = forces };
 }
   where
     works : (p q : Bool) → three_at_most (λ t p q. p -ℤ t) (λ t p q. q -ℤ t) (λ t p q. t -ℤ p -ℤ q) (bit (p || q)) (bit p) (bit q)
@@ -147,6 +149,7 @@ or-row n x y s t = record {
     works true false = (omega (arith, ints), omega (arith, ints), omega (arith, ints))
     works false true = (omega (arith, ints), omega (arith, ints), omega (arith, ints))
     works false false = (omega (arith, ints), omega (arith, ints), omega (arith, ints))
+
     forces : (t p q : Bool) → three_at_most (λ t p q. p -ℤ t) (λ t p q. q -ℤ t) (λ t p q. t -ℤ p -ℤ q) (bit t) (bit p) (bit q) → t ≡ (p || q)
     forces true true q h = refl
     forces true false true h = refl
@@ -166,7 +169,7 @@ implies-row n x y s t = record {
   is_first = whole n x y (without n x y (without n x y (one-part n x y) (first-part n x y s)) (truth-part n x y)) (λ p q e. omega (arith, ints));
   is_second = whole n x y (without n x y (second-part n x y t) (truth-part n x y)) (λ p q e. omega (arith, ints));
   is_third = whole n x y (without n x y (without n x y (with n x y (truth-part n x y) (first-part n x y s)) (second-part n x y t)) (one-part n x y)) (λ p q e. omega (arith, ints));
-  settles = record { works = works; forces = forces }
+  settles = record { works = works; forces = forces };
 }
   where
     works : (p q : Bool) → three_at_most (λ t p q. pos 1 -ℤ p -ℤ t) (λ t p q. q -ℤ t) (λ t p q. t +ℤ p -ℤ q -ℤ pos 1) (bit (not p || q)) (bit p) (bit q)
@@ -174,6 +177,7 @@ implies-row n x y s t = record {
     works true false = (omega (arith, ints), omega (arith, ints), omega (arith, ints))
     works false true = (omega (arith, ints), omega (arith, ints), omega (arith, ints))
     works false false = (omega (arith, ints), omega (arith, ints), omega (arith, ints))
+
     forces : (t p q : Bool) → three_at_most (λ t p q. pos 1 -ℤ p -ℤ t) (λ t p q. q -ℤ t) (λ t p q. t +ℤ p -ℤ q -ℤ pos 1) (bit t) (bit p) (bit q) → t ≡ (not p || q)
     forces true true true h = refl
     forces true true false h = absurd (omega (arith, ints, h.2))
@@ -204,7 +208,7 @@ difference-bits rel g m x y l s t b c same r = record {
       let before = r.grows.keeps a h in
       let p : (p : Bool) × (value_of a x ≡ bit p) = b a before in
       let q : (q : Bool) × (value_of a y ≡ bit q) = c a before in
-      r.value a h ∙ ap bit ((λ i. stands rel (diff a (of_item x) (of_item y) (bit p.0) (bit q.0) (value-of_item a x ∙ p.1) (value-of_item a y ∙ q.1) i)) ∙ (same p.0 q.0 ∙ sym (said-bits g x y a p.0 q.0 p.1 q.1)))
+      r.value a h ∙ ap bit ((λ i. stands rel (diff a (of_item x) (of_item y) (bit p.0) (bit q.0) (value-of_item a x ∙ p.1) (value-of_item a y ∙ q.1) i)) ∙ (same p.0 q.0 ∙ sym (said-bits g x y a p.0 q.0 p.1 q.1)));
 }
 
 either-same : (p q : Bool) → stands Rel.Unequal (bit p -ℤ bit q) ≡ joins either p q

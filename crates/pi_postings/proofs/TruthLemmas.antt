@@ -94,7 +94,8 @@ pub bounds-formed : (n v : ℕ) → v < n → AreFormed n (bounds v)
 unfolding bounds AreFormed with_terms with_term scaled_terms
 bounds-formed n v h = (
   ((λ e. absurd cc), joined-difference n (of_variable v) (of_number (pos 1)) (joined-of_variable n v h) (joined-of_number n (pos 1))),
-  (((λ e. absurd cc), joined-difference n (of_number (pos 0)) (of_variable v) (joined-of_number n (pos 0)) (joined-of_variable n v h)), tt))
+  (((λ e. absurd cc), joined-difference n (of_number (pos 0)) (of_variable v) (joined-of_number n (pos 0)) (joined-of_variable n v h)), tt),
+)
 
 upper : (a : ℕ → ℤ) (v : ℕ) → sum_value a (difference (of_variable v) (of_number (pos 1))) ≡ a v -ℤ pos 1
 upper a v = diff a (of_variable v) (of_number (pos 1)) (a v) (pos 1) (value-of_variable a v) (value-of_number a (pos 1))
@@ -110,6 +111,7 @@ bounds-hold a v p e =
     high : (x : ℤ) (p : Bool) → x ≡ bit p → (x -ℤ pos 1) ≤ℤ pos 0
     high x true e = omega (arith, ints)
     high x false e = omega (arith, ints)
+
     low : (x : ℤ) (p : Bool) → x ≡ bit p → (pos 0 -ℤ x) ≤ℤ pos 0
     low x true e = omega (arith, ints)
     low x false e = omega (arith, ints)
@@ -135,7 +137,7 @@ pub new-truth : (m : Made) (cs : List Constraint) (t : (ℕ → ℤ) → Bool) �
 new-truth m cs t d = record {
   grows = grows_defined Any m (with_all (bounds m.unused) cs) (λ a. bit (t a)) d;
   below = λ k e. omega (arith, e);
-  value = λ a h. d.only a (hold-first m.constraints (with_all (bounds m.unused) cs) a h) (hold-added m.constraints (with_all (bounds m.unused) cs) a h)
+  value = λ a h. d.only a (hold-first m.constraints (with_all (bounds m.unused) cs) a h) (hold-added m.constraints (with_all (bounds m.unused) cs) a h);
 }
 
 -- whether a sum stands so
@@ -147,14 +149,16 @@ reified-defines n before rel u s some = record {
   agrees = λ a b g. ap (λ (x : ℤ). bit (stands rel x)) (sum_values_agree n u a b s g);
   possible = λ a b p g. tt;
   holds = λ a p z e. hold-with_all (bounds n) (Constraint.Reified (Item.Var n) rel u.terms u.constant ∷ []) a (bounds-hold a n (stands rel (sum_value a u)) e) (holds a (stands rel (sum_value a u)) refl e);
-  only = λ a z h. only a (hold-added (bounds n) (Constraint.Reified (Item.Var n) rel u.terms u.constant ∷ []) a h)
+  only = λ a z h. only a (hold-added (bounds n) (Constraint.Reified (Item.Var n) rel u.terms u.constant ∷ []) a h);
 }
   where
     formed : AreFormed (suc n) (Constraint.Reified (Item.Var n) rel u.terms u.constant ∷ [])
     formed = (((λ k e. omega (arith, e)), some, ascend_below n (suc n) 0 u.terms (omega arith) s), tt)
+
     holds : (a : ℕ → ℤ) (b : Bool) → stands rel (sum_value a u) ≡ b → a n ≡ bit b → AllHold (Constraint.Reified (Item.Var n) rel u.terms u.constant ∷ []) a
     holds a true f e = (inl (e, stands_true rel (sum_value a u) f), tt)
     holds a false f e = (inr (e, λ h. (let contrary : true ≡ false = sym (true_stands rel (sum_value a u) h) ∙ f in absurd cc)), tt)
+
     of_case : (a : ℕ → ℤ) → ((a n ≡ pos 1) × Stands rel (sum_value a u)) ⊎ ((a n ≡ pos 0) × (Stands rel (sum_value a u) → ⊥)) → a n ≡ bit (stands rel (sum_value a u))
     of_case a (inl h) = h.0 ∙ ap bit (sym (true_stands rel (sum_value a u) h.1))
     of_case a (inr h) = h.0 ∙ ap bit (not_so (stands rel (sum_value a u)) refl)
@@ -162,6 +166,7 @@ reified-defines n before rel u s some = record {
         not_so : (b : Bool) → stands rel (sum_value a u) ≡ b → false ≡ stands rel (sum_value a u)
         not_so true f = absurd (h.1 (stands_true rel (sum_value a u) f))
         not_so false f = sym f
+
     only : (a : ℕ → ℤ) → AllHold (Constraint.Reified (Item.Var n) rel u.terms u.constant ∷ []) a → a n ≡ bit (stands rel (sum_value a u))
     only a h = of_case a h.0
 
@@ -173,7 +178,7 @@ standing-truth m rel u l s e = by u.terms refl e
     by [] f e = subst (λ k. NewTruth m k (λ a. stands rel (sum_value a u))) (is_known (record { what = Item.Int (bit (stands rel u.constant)); made = m }) l e) (record {
       grows = grows_none Any m;
       below = λ k e. absurd e;
-      value = λ a h. ap (λ (x : ℤ). bit (stands rel x)) (sym (no_terms-value a u f))
+      value = λ a h. ap (λ (x : ℤ). bit (stands rel x)) (sym (no_terms-value a u f));
     })
     by (t ∷ ts) f e =
         let some : u.terms ≢ [] = λ g. (let contrary : t ∷ ts ≡ [] = sym f ∙ g in absurd cc) in
@@ -226,7 +231,7 @@ table-defines n before x y cs holds g s t bx by_ table settles = record {
       let t : (t : Bool) × (a n ≡ bit t) = bounds-only a n (hold-first (bounds n) cs a h) in
       let bits : holds (bit t.0) (bit p.0) (bit q.0) =
       subst (λ (w : ℤ). holds w (bit p.0) (bit q.0)) t.1 (subst (λ (w : ℤ). holds (a n) (bit p.0) w) q.1 (subst (λ (w : ℤ). holds (a n) w (value_of a y)) p.1 there)) in
-      t.1 ∙ (ap bit (settles.forces t.0 p.0 q.0 bits) ∙ ap bit (sym (said-bits g x y a p.0 q.0 p.1 q.1)))
+      t.1 ∙ (ap bit (settles.forces t.0 p.0 q.0 bits) ∙ ap bit (sym (said-bits g x y a p.0 q.0 p.1 q.1)));
 }
 
 -- one sum equal to 0, or three at most 0
@@ -241,7 +246,7 @@ unfolding AreFormed AllHold
 one-table n x y u f s t r = record {
   formed = (formed-sum Rel.Equal n x y u f s t r, tt);
   so_where = λ a h. (sum-holds Rel.Equal n x y u f a r h, tt);
-  where_so = λ a h. holds-sum Rel.Equal n x y u f a r h.0
+  where_so = λ a h. holds-sum Rel.Equal n x y u f a r h.0;
 }
 
 pub three-table : (n : ℕ) (x y : Item) (u v w : Sum) (f g h : ℤ → ℤ → ℤ → ℤ) → ItemBelow n x → ItemBelow n y → TruthSum n x y u f → TruthSum n x y v g → TruthSum n x y w h →
@@ -250,5 +255,5 @@ unfolding AreFormed AllHold
 three-table n x y u v w f g h s t p q r = record {
   formed = (formed-sum Rel.AtMost n x y u f s t p, (formed-sum Rel.AtMost n x y v g s t q, (formed-sum Rel.AtMost n x y w h s t r, tt)));
   so_where = λ a z. (sum-holds Rel.AtMost n x y u f a p z.0, (sum-holds Rel.AtMost n x y v g a q z.1, (sum-holds Rel.AtMost n x y w h a r z.2, tt)));
-  where_so = λ a z. (holds-sum Rel.AtMost n x y u f a p z.0, holds-sum Rel.AtMost n x y v g a q z.1.0, holds-sum Rel.AtMost n x y w h a r z.1.1.0)
+  where_so = λ a z. (holds-sum Rel.AtMost n x y u f a p z.0, holds-sum Rel.AtMost n x y v g a q z.1.0, holds-sum Rel.AtMost n x y w h a r z.1.1.0);
 }

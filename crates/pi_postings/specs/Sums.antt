@@ -1,5 +1,5 @@
 -- Sums as constraints have them: equal variables are joined, coefficients of 0 are dropped, and terms ascend by variable. (Own.)
-use Rattle.std.specs.Prelude.{◌≡◌, ℕ, zero, suc, ◌==◌, nat_lt, cond, List, [], ◌∷◌, ℤ, pos, negsuc, ◌+ℤ◌, ◌*ℤ◌}
+use Rattle.std.specs.Prelude.{◌≢◌, ⊤, ◌≤◌, ℕ, zero, suc, ◌==◌, nat_lt, cond, List, [], ◌∷◌, ℤ, pos, negsuc, ◌+ℤ◌, ◌*ℤ◌}
 use Rattle.pi_constraints.specs.declared.constraint.Item.{Item}
 use Rattle.pi_filters.specs.Solutions.{sum_of}
 
@@ -56,6 +56,11 @@ difference u v = added u (opposite v)
 -- what a sum comes to where variable n has the value a n
 abbrev pub sum_value : (ℕ → ℤ) → Sum → ℤ
 sum_value a u = u.constant +ℤ sum_of a u.terms
+
+-- terms as a joined sum has them: from a variable on they ascend, and no coefficient is 0
+unfoldable pub Ascend : ℕ → List (ℤ × ℕ) → Type 0
+Ascend least [] = ⊤
+Ascend least (t ∷ ts) = (t.0 ≢ pos 0) × (least ≤ t.1) × Ascend (suc t.1) ts
 
 -- the coefficient of a variable, 0 where it has no term
 unfoldable pub coefficient : List (ℤ × ℕ) → ℕ → ℤ
