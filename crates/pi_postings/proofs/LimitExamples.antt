@@ -1,5 +1,6 @@
 -- Steps and limits, worked through the definitions.
 use Rattle.std.specs.Prelude.{◌≡◌, ℕ, ◌^◌, ◌+◌, ◌-◌, true, false, pos, negsuc, neg_ℤ, List, [], ◌∷◌, ◌++◌, Result, Ok, Err, Option, Some, None, codes, refl}
+use Rattle.std.specs.Option.{option_or}
 use Rattle.pi_terms.specs.Tree.{Tree, var, int, atom, cells}
 use Rattle.pi_states.specs.Value.{value, rounds}
 use Rattle.pi_states.specs.State.{followed_for, followed}
@@ -12,9 +13,9 @@ use Rattle.pi_postings.specs.Sums.{with_term, with_terms, scaled_terms}
 use Rattle.pi_postings.specs.Steps.{Refusal, not_a_constraint, too_many_terms, wide_coefficient, have_128_bits, read_operand, read_items}
 use Rattle.pi_postings.specs.Relations.{read_relation}
 use Rattle.pi_postings.specs.Lists.{read_each}
-use Rattle.pi_postings.specs.Limits.{are_narrow, are_values, refusal_by, first_refusal}
+use Rattle.pi_postings.specs.Limits.{are_narrow, are_values, refusal_by, refusal_of, first_refusal}
 use Rattle.pi_postings.specs.Postings.{Posting, posting_of}
-use Rattle.pi_postings.proofs.Worked.{one, two, n, plus, minus, times, negative, absolute, term, at_most, equal, posts}
+use Rattle.pi_postings.proofs.Worked.{one, two, n, plus, minus, times, negative, absolute, sum, term, at_most, equal, posts}
 
 comes_to : Tree → Result Posting Refusal → Type 0
 unfolding operand_of operands_of operands_of_array operands_of_list comparison_named connective_named boolean_of goal_of with_term with_terms scaled_terms have_128_bits read_operand read_items read_relation read_each are_narrow are_values first_refusal each_tree list_onto items_for list_items value rounds followed followed_for cells
@@ -58,6 +59,12 @@ steps : is_wide (two (codes "#=") (minus (plus most (n 1)) (n 1)) (var 0))
 unfolding comes_to
 steps = (refl, refl, refl, refl, refl, refl)
 
+-- Each item of a `sum` that is added is one, from the left.
+items-added : is_wide (two (codes "#=") (sum (most ∷ n 1 ∷ int (negsuc 0) ∷ [])) (var 0))
+    × comes_to (two (codes "#=") (sum (most ∷ int (negsuc 0) ∷ n 1 ∷ [])) most) (Ok (posts 0 []))
+unfolding comes_to
+items-added = (refl, refl)
+
 -- What is added to a difference behind it is no step: 2^127 - 1 #< 0 is never so.
 no-step : comes_to (two (codes "#<") most (n 0)) (Ok (posts 1 (never 2)))
 unfolding comes_to
@@ -82,3 +89,8 @@ items = (refl, refl, refl)
 -- As many terms as a constraint has at most, and one more; the number of terms comes before their coefficients.
 counts : (refusal_by 1048576 true ≡ None) × (refusal_by 1048577 true ≡ Some too_many_terms) × (refusal_by 1048577 false ≡ Some too_many_terms) × (refusal_by 1048576 false ≡ Some wide_coefficient)
 counts = (refl, refl, refl, refl)
+
+-- Of the finished constraints the first that is refused counts, and those behind it don't.
+first-counts : (c : Constraint) (cs : List Constraint) (r : Refusal) → refusal_of c ≡ Some r → first_refusal (c ∷ cs) ≡ Some r
+unfolding first_refusal
+first-counts c cs r e = (λ i. option_or (e i) (first_refusal cs))

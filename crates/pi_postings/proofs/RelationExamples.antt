@@ -105,13 +105,14 @@ totals : comes_to (two (codes "#=") (sum (var 0 ∷ plus (var 0) (n 1) ∷ n 3 �
 unfolding comes_to
 totals = (refl, refl, refl, refl)
 
--- the first wrong term from the left, inner before outer: a #= b, X + f(a) #> b, and X #= [3]; a constraint that is none is the wrong term itself
-wrong-terms : comes_to (two (codes "#=") (atom (codes "a")) (atom (codes "b"))) (Err (not_a_constraint (atom (codes "a"))))
+-- the first wrong term from the left, inner before outer: X #= a, a #= b, X + f(a) #> b, and X #= [3]; a constraint that is none is the wrong term itself
+wrong-terms : comes_to (two (codes "#=") (var 0) (atom (codes "a"))) (Err (not_a_constraint (atom (codes "a"))))
+    × comes_to (two (codes "#=") (atom (codes "a")) (atom (codes "b"))) (Err (not_a_constraint (atom (codes "a"))))
     × comes_to (two (codes "#>") (plus (var 0) (one (codes "f") (atom (codes "a")))) (atom (codes "b"))) (Err (not_a_constraint (one (codes "f") (atom (codes "a")))))
     × comes_to (two (codes "#=") (var 0) (list_of (n 3 ∷ []))) (Err (not_a_constraint (list_of (n 3 ∷ []))))
     × comes_to (atom (codes "a")) (Err (not_a_constraint (atom (codes "a"))))
 unfolding comes_to
-wrong-terms = (refl, refl, refl, refl)
+wrong-terms = (refl, refl, refl, refl, refl)
 
 -- all_different([X,3,Y]), all_distinct({X,Y}), all_different([X,b]) and all_different(X)
 different : comes_to (one (codes "all_different") (list_of (var 0 ∷ n 3 ∷ var 1 ∷ []))) (Ok (posts 0 (Constraint.Different (Item.Var 0 ∷ Item.Int (pos 3) ∷ Item.Var 1 ∷ []) ∷ [])))
