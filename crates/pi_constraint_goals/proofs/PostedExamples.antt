@@ -1,12 +1,11 @@
 -- What goals that post constraints leave, worked through the definitions.
-use Rattle.std.specs.Prelude.{◌≡◌, ℕ, pos, negsuc, List, [], ◌∷◌, ◌++◌, codes, refl}
+use Rattle.std.specs.Prelude.{◌≡◌, ℕ, pos, negsuc, List, [], ◌∷◌, codes, refl}
 use Rattle.pi_terms.specs.Tree.{Tree, var, int, atom, comp, trees_of, cells}
 use Rattle.pi_terms.specs.Substitution.{instance}
 use Rattle.pi_terms.specs.Copy.{copy}
 use Rattle.pi_constraints.specs.declared.constraint.Item.{Item}
 use Rattle.pi_constraints.specs.declared.constraint.Rel.{Rel}
 use Rattle.pi_constraints.specs.declared.constraint.Constraint.{Constraint}
-use Rattle.pi_constraints.specs.declared.domain.Span.{Span}
 use Rattle.pi_filters.specs.Places.{sum_places}
 use Rattle.pi_states.specs.Value.{value, rounds}
 use Rattle.pi_states.specs.State.{State, Variable, free, within, bound, followed_for, followed}
@@ -15,7 +14,7 @@ use Rattle.pi_effects.specs.Effect.{Succeeds, Raises}
 use Rattle.pi_effects.specs.Exception.{exception_with}
 use Rattle.pi_settling.specs.Roots.{all_values}
 use Rattle.pi_labelling.specs.Confined.{confined}
-use Rattle.pi_labelling.specs.Reading.{reads, refuses}
+use Rattle.pi_labelling.specs.Reading.{reads}
 use Rattle.pi_postings.specs.Terms.{operand_of, operands_of, operands_of_array, operands_of_list, comparison_named, connective_named, boolean_of, goal_of}
 use Rattle.pi_postings.specs.Sums.{with_term, with_terms, scaled_terms}
 use Rattle.pi_postings.specs.Steps.{have_128_bits, read_operand, read_items}

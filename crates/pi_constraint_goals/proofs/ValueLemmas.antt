@@ -3,12 +3,12 @@ use Rattle.std.specs.Prelude.{◌≡◌, Bool, true, false, not, ◌&&◌, ◌||
 use Rattle.std.specs.Int.{int_max}
 use Rattle.std.specs.List.{list_any}
 use Rattle.std.specs.Ordering.{int_eq}
-use Rattle.std.proofs.Common.{arith, ◌∙◌, ap, sym, subst}
+use Rattle.std.proofs.Common.{arith, ◌∙◌, ap}
 use Rattle.std.proofs.lemmas.Int.{ints, clamps}
 use Rattle.pi_constraints.specs.declared.domain.Span.{Span}
 use Rattle.pi_constraints.specs.declared.domain.TheConstants.{MAX_VALUE}
 use Rattle.pi_constraints.specs.Domain.{AscendFrom, IsDomain, span_has, has_value}
-use Rattle.pi_constraint_goals.specs.Values.{can_have, between, ahead_of, with_value, domain_of_values, gaps_from, all_but}
+use Rattle.pi_constraint_goals.specs.Values.{can_have, between, ahead_of, with_value, domain_of_values, gaps_from}
 use Rattle.pi_constraint_goals.specs.ValueLaws.{ValuesAreADomain, ValuesAreItsOwn, AllButIsADomain, AllButHasTheOthers}
 
 -- ---- spans that touch

@@ -1,8 +1,7 @@
 -- `::` and `notin`, worked through the definitions.
-use Rattle.std.specs.Prelude.{◌≡◌, ℕ, ◌^◌, ◌-◌, ℤ, pos, negsuc, neg_ℤ, true, false, List, [], ◌∷◌, ◌++◌, Some, None, codes, refl}
+use Rattle.std.specs.Prelude.{◌≡◌, ℕ, ◌^◌, ◌-◌, pos, [], ◌∷◌, codes, refl}
 use Rattle.pi_terms.specs.Tree.{Tree, var, int, atom, comp, trees_of, cells}
 use Rattle.pi_terms.specs.Substitution.{instance}
-use Rattle.pi_constraints.specs.declared.constraint.Item.{Item}
 use Rattle.pi_constraints.specs.declared.domain.Span.{Span}
 use Rattle.pi_constraints.specs.Domain.{has_value, numbers_from, values_of, overlap, shared, common}
 use Rattle.pi_states.specs.Value.{value, rounds}

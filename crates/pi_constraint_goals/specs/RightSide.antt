@@ -1,6 +1,6 @@
 -- The right side of `::` and `notin`: a range, a range with a step, or a list of integers; and what is raised in its place. (A User's Guide to Picat, 'Constraints'; limits and
 -- exceptions are own.)
-use Rattle.std.specs.Prelude.{ℕ, zero, suc, nat_lt, Bool, true, false, not, ◌&&◌, cond, List, [], ◌∷◌, ◌++◌, Option, Some, None, option_map, option_and_then, Ok, Err, ℤ, pos, negsuc, neg_ℤ, int_le, codes}
+use Rattle.std.specs.Prelude.{ℕ, zero, suc, nat_lt, Bool, true, not, ◌&&◌, cond, List, [], ◌∷◌, Option, Some, None, option_map, option_and_then, Ok, Err, ℤ, pos, negsuc, neg_ℤ, int_le, codes}
 use Rattle.std.specs.List.{list_all}
 use Rattle.std.specs.Str.{bytes_eq}
 use Rattle.pi_terms.specs.Tree.{Tree, atom, comp, no_trees, tree}

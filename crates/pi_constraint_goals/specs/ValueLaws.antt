@@ -1,5 +1,5 @@
 -- The laws of domains by their values.
-use Rattle.std.specs.Prelude.{◌≡◌, Bool, not, ◌&&◌, List, ℤ}
+use Rattle.std.specs.Prelude.{◌≡◌, not, ◌&&◌, List, ℤ}
 use Rattle.std.specs.List.{list_any}
 use Rattle.std.specs.Ordering.{int_eq}
 use Rattle.pi_constraints.specs.declared.domain.Span.{Span}

@@ -1,16 +1,13 @@
 -- What the reading of a whole Boolean expression gives: an item that is 1 or 0 by the truth of the expression, wherever all holds that was made.
-use Rattle.std.specs.Prelude.{◌≡◌, ⊤, ℕ, zero, suc, ◌<◌, ◌≤◌, Bool, true, false, not, List, [], ◌∷◌, ◌++◌, ℤ, pos, negsuc, ◌-ℤ◌, Option, Some, None, option_map, unwrap_or, Result, Ok, Err, refl}
-use Rattle.std.specs.Ordering.{int_eq}
+use Rattle.std.specs.Prelude.{◌≡◌, ⊤, ℕ, zero, suc, ◌<◌, ◌≤◌, Bool, true, false, not, ℤ, pos, negsuc, ◌-ℤ◌, Option, Some, None, option_map, unwrap_or, Ok, refl}
 use Rattle.std.proofs.Common.{arith, ◌∙◌, ap, sym, subst}
-use Rattle.std.proofs.lemmas.Int.{ints}
 use Rattle.pi_constraints.specs.declared.constraint.Rel.{Rel}
 use Rattle.pi_constraints.specs.declared.constraint.Item.{Item}
-use Rattle.pi_constraints.specs.declared.constraint.Constraint.{Constraint}
 use Rattle.pi_filters.specs.Solutions.{value_of}
-use Rattle.pi_postings.specs.Operands.{Connective, Boolean, truth_variable, truth_number, relation, negation, joined, no_boolean}
+use Rattle.pi_postings.specs.Operands.{Boolean, truth_variable, truth_number, relation, negation, joined, no_boolean}
 use Rattle.pi_postings.specs.Sums.{of_number, of_item, difference, sum_value}
-use Rattle.pi_postings.specs.Steps.{Refusal, Made, Known, Reading, then}
-use Rattle.pi_postings.specs.Relations.{Standing, read_relation, stands, posts_standing}
+use Rattle.pi_postings.specs.Steps.{Made, Known, then}
+use Rattle.pi_postings.specs.Relations.{read_relation, stands, posts_standing}
 use Rattle.pi_postings.specs.Truths.{bit, truth_variable_is, truth_number_is, truth_of_standing, truth_of_negation, truth_of_joined, read_truth, posts_truth}
 use Rattle.pi_postings.specs.Says.{operand_value, compares, truth_of_number, joins, both_truths, truth, AllHold, AgreeBelow}
 use Rattle.pi_postings.proofs.SumLemmas.{value-of_number, value-of_item}
@@ -18,7 +15,7 @@ use Rattle.pi_postings.proofs.FormLemmas.{joined-difference, joined-of_number, j
 use Rattle.pi_postings.proofs.GrowLemmas.{Any, Grows, grows_for, agree_less, grows_none, grows_then, grows_posted, hold-added, with_all, after_is, is_known}
 use Rattle.pi_postings.proofs.OperandLemmas.{OperandBelow}
 use Rattle.pi_postings.proofs.RelationLemmas.{StandingRead, relation-read, relations_agree, Posts, standing-posts}
-use Rattle.pi_postings.proofs.TruthLemmas.{diff, bits-known, truth-bit, so, so-bit, bounds, bounds-formed, bounds-hold, bounds-only, NewTruth, Bits, said, said-bits, standing-truth}
+use Rattle.pi_postings.proofs.TruthLemmas.{diff, bits-known, truth-bit, bounds, bounds-formed, bounds-hold, bounds-only, NewTruth, Bits, said, said-bits, standing-truth}
 use Rattle.pi_postings.proofs.TableLemmas.{negation-truth, joined-truth}
 
 -- ---- the variables of a Boolean expression

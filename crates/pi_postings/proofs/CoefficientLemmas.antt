@@ -1,9 +1,9 @@
 -- The coefficients of joined sums.
-use Rattle.std.specs.Prelude.{◌≡◌, ◌≢◌, ⊤, ℕ, zero, suc, ◌==◌, nat_lt, ◌<◌, ◌≤◌, Bool, true, false, cond, List, [], ◌∷◌, ℤ, pos, negsuc, ◌+ℤ◌, ◌*ℤ◌, refl}
+use Rattle.std.specs.Prelude.{◌≡◌, ◌≢◌, ℕ, zero, suc, ◌==◌, nat_lt, ◌<◌, ◌≤◌, Bool, true, false, cond, List, [], ◌∷◌, ℤ, pos, negsuc, ◌+ℤ◌, ◌*ℤ◌, refl}
 use Rattle.std.proofs.Common.{arith, tests, ltb-true, ltb-false, eqb-true, ◌∙◌, ap, sym, subst}
 use Rattle.std.proofs.lemmas.Int.{ints}
 use Rattle.std.proofs.Math.IntN.{*ℤ-zero}
-use Rattle.pi_postings.specs.Sums.{Sum, in_front, with_term, with_terms, scaled_terms, added, scaled, Ascend, coefficient}
+use Rattle.pi_postings.specs.Sums.{in_front, with_term, with_terms, scaled_terms, Ascend, coefficient}
 use Rattle.pi_postings.specs.PostingLaws.{SumsStayJoined, CoefficientsAdd, CoefficientsScale, CoefficientsTellTerms}
 use Rattle.pi_postings.proofs.SumLemmas.{distributes_left}
 

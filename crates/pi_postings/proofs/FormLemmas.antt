@@ -1,15 +1,14 @@
 -- Terms that ascend, constraints that are formed as they may be posted, and what holds of values that agree.
-use Rattle.std.specs.Prelude.{◌≡◌, ◌≢◌, ⊤, ℕ, zero, suc, ◌==◌, nat_lt, ◌<◌, ◌≤◌, Bool, true, false, cond, List, [], ◌∷◌, get_or, ℤ, pos, negsuc, ◌+ℤ◌, ◌*ℤ◌, refl, ◌⊎◌}
+use Rattle.std.specs.Prelude.{◌≡◌, ◌≢◌, ⊤, ℕ, zero, suc, ◌==◌, nat_lt, ◌<◌, ◌≤◌, Bool, true, false, cond, List, [], ◌∷◌, get_or, ℤ, pos, negsuc, ◌+ℤ◌, ◌*ℤ◌, refl}
 use Rattle.std.proofs.Common.{arith, tests, ltb-true, ltb-false, eqb-true, ◌∙◌, ap, sym, subst, inl, inr}
 use Rattle.std.proofs.lemmas.Int.{ints}
-use Rattle.pi_constraints.specs.declared.constraint.Rel.{Rel}
 use Rattle.pi_constraints.specs.declared.constraint.Item.{Item}
 use Rattle.pi_constraints.specs.declared.constraint.Constraint.{Constraint}
 use Rattle.pi_constraints.specs.Constraint.{HoldsVariable, HoldVariable, SumHasVariable, SpeaksOf}
 use Rattle.pi_filters.specs.Solutions.{sum_of, value_of, values_of_items, Stands, AreDifferent, Holds}
 use Rattle.pi_filters.specs.Rules.{magnitude}
 use Rattle.pi_postings.specs.Sums.{Sum, of_number, of_variable, of_item, in_front, with_term, with_terms, scaled_terms, added, scaled, opposite, difference, sum_value}
-use Rattle.pi_postings.specs.Says.{AllHold, AgreeBelow}
+use Rattle.pi_postings.specs.Says.{AgreeBelow}
 
 -- ---- terms that ascend
 

@@ -1,6 +1,6 @@
 -- What a part of a reading adds to what was made: it keeps what holds, extends to new variables, and gives these their values.
-use Rattle.std.specs.Prelude.{◌≡◌, ⊤, ℕ, zero, suc, ◌<◌, ◌≤◌, ◌==◌, Bool, true, false, cond, List, [], ◌∷◌, ◌++◌, ℤ, Result, Ok, Err, refl, ◌⊎◌}
-use Rattle.std.proofs.Common.{arith, tests, eqb-true, ◌∙◌, ap, sym, subst, inl, inr}
+use Rattle.std.specs.Prelude.{◌≡◌, ⊤, ℕ, suc, ◌≤◌, ◌==◌, Bool, true, false, cond, List, [], ◌∷◌, ◌++◌, ℤ, Result, Ok, Err, refl}
+use Rattle.std.proofs.Common.{arith, tests, eqb-true, ◌∙◌, ap, sym, subst}
 use Rattle.pi_constraints.specs.declared.constraint.Constraint.{Constraint}
 use Rattle.pi_filters.specs.Solutions.{Holds}
 use Rattle.pi_postings.specs.Steps.{Refusal, Made, Known, Reading, after}

@@ -1,12 +1,11 @@
 -- Steps and limits, worked through the definitions.
-use Rattle.std.specs.Prelude.{◌≡◌, ℕ, ◌^◌, ◌+◌, ◌-◌, true, false, pos, negsuc, neg_ℤ, List, [], ◌∷◌, ◌++◌, Result, Ok, Err, Option, Some, None, codes, refl}
+use Rattle.std.specs.Prelude.{◌≡◌, ℕ, ◌^◌, ◌+◌, ◌-◌, true, false, pos, negsuc, neg_ℤ, List, [], ◌∷◌, Result, Ok, Err, Some, None, codes, refl}
 use Rattle.std.specs.Option.{option_or}
 use Rattle.pi_terms.specs.Tree.{Tree, var, int, atom, cells}
 use Rattle.pi_states.specs.Value.{value, rounds}
 use Rattle.pi_states.specs.State.{followed_for, followed}
 use Rattle.pi_effects.specs.Items.{each_tree, list_onto, list_of, items_for, list_items}
 use Rattle.pi_constraints.specs.declared.constraint.Item.{Item}
-use Rattle.pi_constraints.specs.declared.constraint.Rel.{Rel}
 use Rattle.pi_constraints.specs.declared.constraint.Constraint.{Constraint}
 use Rattle.pi_postings.specs.Terms.{operand_of, operands_of, operands_of_array, operands_of_list, comparison_named, connective_named, boolean_of, goal_of}
 use Rattle.pi_postings.specs.Sums.{with_term, with_terms, scaled_terms}

@@ -1,9 +1,8 @@
 -- A constraint that was made and isn't refused keeps the limits.
-use Rattle.std.specs.Prelude.{◌≡◌, ◌≢◌, ⊤, ℕ, zero, suc, ◌<◌, ◌≤◌, ◌^◌, nat_lt, nat_le, Bool, true, false, ◌&&◌, cond, List, [], ◌∷◌, length, ℤ, pos, neg_ℤ, ◌≤ℤ◌, int_le, nat_abs, Option, Some, None, Contains, slice_index_or, refl}
+use Rattle.std.specs.Prelude.{◌≡◌, ◌≢◌, ℕ, zero, suc, ◌<◌, ◌≤◌, ◌^◌, nat_lt, nat_le, Bool, true, false, ◌&&◌, cond, List, [], ◌∷◌, length, ℤ, neg_ℤ, int_le, nat_abs, Option, Some, None, Contains, slice_index_or, refl}
 use Rattle.std.specs.Option.{option_or}
-use Rattle.std.proofs.Common.{arith, tests, leb-true, ltb-false, ◌∙◌, ap, sym, subst}
+use Rattle.std.proofs.Common.{arith, leb-true, ltb-false, subst}
 use Rattle.std.proofs.lemmas.Int.{ints}
-use Rattle.pi_constraints.specs.declared.constraint.Rel.{Rel}
 use Rattle.pi_constraints.specs.declared.constraint.Item.{Item}
 use Rattle.pi_constraints.specs.declared.constraint.Constraint.{Constraint}
 use Rattle.pi_constraints.specs.declared.domain.TheConstants.{MAX_VALUE}

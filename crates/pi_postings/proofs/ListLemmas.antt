@@ -1,5 +1,5 @@
 -- What `all_different`, `all_distinct` and `element` post.
-use Rattle.std.specs.Prelude.{◌≡◌, ⊤, ℕ, zero, suc, ◌<◌, ◌≤◌, Bool, true, false, cond, List, [], ◌∷◌, ◌++◌, length, map, get_or, ℤ, pos, Option, Some, None, IsSomeAnd, option_map, option_and_then, Result, Ok, Err, refl, ◌⊎◌}
+use Rattle.std.specs.Prelude.{◌≡◌, ⊤, ℕ, zero, suc, ◌<◌, ◌≤◌, Bool, true, false, cond, List, [], ◌∷◌, ◌++◌, length, map, get_or, ℤ, pos, Option, Some, None, IsSomeAnd, option_map, option_and_then, Ok, refl, ◌⊎◌}
 use Rattle.std.specs.Option.{option_or}
 use Rattle.std.specs.Str.{bytes_eq}
 use Rattle.std.proofs.Common.{arith, ◌∙◌, ap, sym, subst, inl, inr}
@@ -9,17 +9,16 @@ use Rattle.pi_terms.specs.Variables.{Occurs, OccursInAny}
 use Rattle.pi_print.specs.PrintTerm.{array_name}
 use Rattle.pi_constraints.specs.declared.constraint.Item.{Item}
 use Rattle.pi_constraints.specs.declared.constraint.Constraint.{Constraint}
-use Rattle.pi_constraints.specs.Constraint.{HoldsVariable, HoldVariable}
+use Rattle.pi_constraints.specs.Constraint.{HoldVariable}
 use Rattle.pi_filters.specs.Solutions.{value_of, values_of_items, AreDifferent, Holds}
-use Rattle.pi_states.specs.Value.{value, rounds}
+use Rattle.pi_states.specs.Value.{value}
 use Rattle.pi_states.specs.State.{SpeaksBelow, followed_for, followed}
-use Rattle.pi_effects.specs.Items.{each_tree, is_nil, cell_parts, in_front_of, items_of_root, items_for, list_items, array_parts, collection_items}
-use Rattle.pi_postings.specs.Operands.{Goal, all_different, all_distinct, element}
-use Rattle.pi_postings.specs.Steps.{Refusal, not_a_constraint, Made, Known, Reading, gives, refuses, then, posting}
+use Rattle.pi_effects.specs.Items.{each_tree, in_front_of, items_for, list_items, collection_items}
+use Rattle.pi_postings.specs.Steps.{Made, Known, gives, then, posting}
 use Rattle.pi_postings.specs.Lists.{read_item, read_each, items_or_refused, read_collection, posts_different, posts_distinct, posts_element}
-use Rattle.pi_postings.specs.Says.{item_value, IsItemWith, Says, AllHold, AgreeBelow}
+use Rattle.pi_postings.specs.Says.{item_value, IsItemWith, AllHold}
 use Rattle.pi_postings.proofs.FormLemmas.{ItemBelow, ItemsBelow}
-use Rattle.pi_postings.proofs.GrowLemmas.{AreFormed, Grows, grows_posted, hold-added, after_is, is_known}
+use Rattle.pi_postings.proofs.GrowLemmas.{AreFormed, grows_posted, hold-added, after_is, is_known}
 use Rattle.pi_postings.proofs.RelationLemmas.{Posts}
 
 -- ---- the items of a list or an array are parts of it

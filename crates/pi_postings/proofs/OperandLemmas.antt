@@ -1,7 +1,7 @@
 -- What the reading of an operand gives: a joined sum that has the operand's value wherever all holds that was made.
-use Rattle.std.specs.Prelude.{◌≡◌, ◌≢◌, ⊤, ℕ, zero, suc, ◌<◌, ◌≤◌, ◌==◌, nat_lt, Bool, true, false, ◌&&◌, cond, List, [], ◌∷◌, ◌++◌, ℤ, pos, negsuc, ◌+ℤ◌, ◌-ℤ◌, ◌*ℤ◌, neg_ℤ, Option, Some, None, unwrap_or, Result, Ok, Err, refl}
+use Rattle.std.specs.Prelude.{◌≡◌, ◌≢◌, ⊤, ℕ, suc, ◌<◌, ◌≤◌, ◌==◌, nat_lt, Bool, true, false, ◌&&◌, cond, List, [], ◌∷◌, ◌++◌, ℤ, pos, negsuc, ◌+ℤ◌, ◌-ℤ◌, ◌*ℤ◌, neg_ℤ, Option, Some, None, unwrap_or, Ok, refl}
 use Rattle.std.specs.Ordering.{int_eq}
-use Rattle.std.proofs.Common.{arith, tests, eqb-true, ◌∙◌, ap, sym, subst}
+use Rattle.std.proofs.Common.{arith, eqb-true, ◌∙◌, ap, sym, subst}
 use Rattle.std.proofs.lemmas.Int.{ints}
 use Rattle.std.proofs.Math.IntN.{*ℤ_comm}
 use Rattle.pi_arith.specs.Range.{has_128_bits}
@@ -9,10 +9,10 @@ use Rattle.pi_constraints.specs.declared.constraint.Rel.{Rel}
 use Rattle.pi_constraints.specs.declared.constraint.Item.{Item}
 use Rattle.pi_constraints.specs.declared.constraint.Constraint.{Constraint}
 use Rattle.pi_filters.specs.Rules.{magnitude}
-use Rattle.pi_filters.specs.Solutions.{sum_of, Holds}
+use Rattle.pi_filters.specs.Solutions.{sum_of}
 use Rattle.pi_postings.specs.Operands.{Operand, number, variable, plus, minus, times, positive, negative, absolute, total, no_operand, Operands, no_operands, operand}
 use Rattle.pi_postings.specs.Sums.{Sum, of_number, of_variable, in_front, with_term, with_terms, scaled_terms, added, scaled, opposite, difference, sum_value}
-use Rattle.pi_postings.specs.Steps.{Refusal, not_a_constraint, wide_coefficient, Made, Known, Reading, gives, refuses, after, then, new_variable, posting, linear, have_128_bits, step, constant_of_terms, constant_of, variable_of_terms, variable_of, side_by, side, product_variable, product_by, product, absolute_variable, absolute_by, absolute_sum, read_operand, read_items}
+use Rattle.pi_postings.specs.Steps.{wide_coefficient, Made, Known, Reading, gives, refuses, then, linear, have_128_bits, step, constant_of_terms, constant_of, variable_of_terms, variable_of, side_by, side, product_variable, product_by, product, absolute_variable, absolute_by, absolute_sum, read_operand, read_items}
 use Rattle.pi_postings.specs.Says.{operand_value, total_value, AllHold, AgreeBelow}
 use Rattle.pi_postings.proofs.SumLemmas.{sums_add, sums_scale, value-opposite, value-difference, value-of_variable, value-of_number}
 use Rattle.pi_postings.proofs.FormLemmas.{AscendBelow, ascend_below, IsJoined, joined-added, joined-scaled, joined-difference, joined-of_number, joined-of_variable, sum_values_agree}

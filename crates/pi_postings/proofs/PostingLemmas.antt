@@ -1,21 +1,20 @@
 -- What a posting says, and that it may be posted.
-use Rattle.std.specs.Prelude.{◌≡◌, ◌↔◌, ⊤, ℕ, suc, ◌+◌, ◌-◌, ◌<◌, ◌≤◌, Bool, true, false, List, [], ◌∷◌, map, ℤ, Option, Some, None, IsSomeAnd, Contains, Result, Ok, Err, refl}
+use Rattle.std.specs.Prelude.{◌≡◌, ◌↔◌, ℕ, ◌+◌, ◌-◌, ◌<◌, ◌≤◌, List, [], ◌∷◌, map, ℤ, Option, Some, None, IsSomeAnd, Contains, Result, Ok, Err, refl}
 use Rattle.std.proofs.Common.{arith, ◌∙◌, ap, sym, subst}
 use Rattle.pi_terms.specs.Tree.{Tree, var, int, atom, comp}
 use Rattle.pi_terms.specs.Variables.{Occurs}
-use Rattle.pi_constraints.specs.declared.constraint.Constraint.{Constraint}
 use Rattle.pi_constraints.specs.Constraint.{SpeaksOf, IsWithinLimits}
 use Rattle.pi_filters.specs.Solutions.{AreDifferent}
 use Rattle.pi_states.specs.State.{SpeaksBelow}
 use Rattle.pi_effects.specs.Items.{collection_items}
 use Rattle.pi_postings.specs.Operands.{Goal, relates, is_so, all_different, all_distinct, element, no_constraint}
 use Rattle.pi_postings.specs.Terms.{operand_of, goal_of}
-use Rattle.pi_postings.specs.Steps.{Refusal, Made, Known, Reading}
+use Rattle.pi_postings.specs.Steps.{Refusal, Made, Known}
 use Rattle.pi_postings.specs.Limits.{first_refusal}
 use Rattle.pi_postings.specs.Postings.{Posting, read_goal, nothing_made, posting_unless, finished, posting_of}
-use Rattle.pi_postings.specs.Says.{operand_value, compares, truth, item_value, IsItemWith, Says, AllHold, AgreeBelow}
+use Rattle.pi_postings.specs.Says.{operand_value, item_value, IsItemWith, Says, AllHold, AgreeBelow}
 use Rattle.pi_postings.specs.PostingLaws.{OperandsHaveTheirValues, PostingsSayTheSame, NewValuesAreGiven, PostingsMayBePosted}
-use Rattle.pi_postings.proofs.GrowLemmas.{AreFormed, Grows}
+use Rattle.pi_postings.proofs.GrowLemmas.{AreFormed}
 use Rattle.pi_postings.proofs.OperandLemmas.{SumRead, operand-read}
 use Rattle.pi_postings.proofs.RelationLemmas.{relations_agree, Posts, relation-posts}
 use Rattle.pi_postings.proofs.BooleanLemmas.{truths_agree, truth-posts}

@@ -1,6 +1,6 @@
 -- Relations, `all_different` and `element`, worked through the definitions.
-use Rattle.std.specs.Prelude.{◌≡◌, ℕ, pos, negsuc, List, [], ◌∷◌, ◌++◌, length, Result, Ok, Err, codes, refl}
-use Rattle.pi_terms.specs.Tree.{Tree, Trees, var, int, atom, comp, trees_of, cells}
+use Rattle.std.specs.Prelude.{◌≡◌, pos, negsuc, [], ◌∷◌, Result, Ok, Err, codes, refl}
+use Rattle.pi_terms.specs.Tree.{Tree, var, int, atom, comp, trees_of, cells}
 use Rattle.pi_states.specs.Value.{value, rounds}
 use Rattle.pi_states.specs.State.{followed_for, followed}
 use Rattle.pi_effects.specs.Items.{each_tree, list_onto, list_of, array_of, items_for, list_items}
@@ -9,7 +9,7 @@ use Rattle.pi_constraints.specs.declared.constraint.Rel.{Rel}
 use Rattle.pi_constraints.specs.declared.constraint.Constraint.{Constraint}
 use Rattle.pi_postings.specs.Terms.{operand_of, operands_of, operands_of_array, operands_of_list, comparison_named, connective_named, boolean_of, goal_of}
 use Rattle.pi_postings.specs.Sums.{with_term, with_terms, scaled_terms}
-use Rattle.pi_postings.specs.Steps.{Refusal, not_a_constraint, too_many_terms, wide_coefficient, have_128_bits, read_operand, read_items}
+use Rattle.pi_postings.specs.Steps.{Refusal, not_a_constraint, have_128_bits, read_operand, read_items}
 use Rattle.pi_postings.specs.Relations.{read_relation}
 use Rattle.pi_postings.specs.Lists.{read_each}
 use Rattle.pi_postings.specs.Limits.{are_narrow, are_values, first_refusal}

@@ -1,19 +1,19 @@
 -- What the reading of a relation gives, and what a sum that stands so to 0 posts.
-use Rattle.std.specs.Prelude.{◌≡◌, ◌≢◌, ⊤, ℕ, zero, suc, ◌<◌, ◌≤◌, Bool, true, false, not, cond, List, [], ◌∷◌, ◌++◌, ℤ, pos, negsuc, ◌+ℤ◌, ◌-ℤ◌, ◌≤ℤ◌, int_le, int_lt, Result, Ok, Err, refl}
+use Rattle.std.specs.Prelude.{◌≡◌, ◌≢◌, ℕ, suc, ◌≤◌, Bool, true, false, not, cond, List, [], ◌∷◌, ◌++◌, ℤ, pos, ◌+ℤ◌, ◌-ℤ◌, ◌≤ℤ◌, int_le, int_lt, Ok, refl}
 use Rattle.std.specs.Ordering.{int_eq}
-use Rattle.std.proofs.Common.{arith, tests, ◌∙◌, ap, sym, subst}
+use Rattle.std.proofs.Common.{arith, ◌∙◌, ap, sym, subst}
 use Rattle.std.proofs.lemmas.Int.{ints}
 use Rattle.pi_constraints.specs.declared.constraint.Rel.{Rel}
 use Rattle.pi_constraints.specs.declared.constraint.Constraint.{Constraint}
-use Rattle.pi_filters.specs.Solutions.{sum_of, Stands, Holds}
+use Rattle.pi_filters.specs.Solutions.{sum_of, Stands}
 use Rattle.pi_postings.specs.Operands.{Operand, Comparison, equal, unequal, less, at_most, greater, at_least}
 use Rattle.pi_postings.specs.Sums.{Sum, of_number, of_variable, with_term, with_terms, scaled_terms, added, difference, sum_value}
-use Rattle.pi_postings.specs.Steps.{Refusal, Made, Known, Reading, gives, then, posting, linear, step, read_operand}
+use Rattle.pi_postings.specs.Steps.{Made, Known, Reading, gives, then, linear, step, read_operand}
 use Rattle.pi_postings.specs.Relations.{Standing, relation_of, sides_apart, and_apart, read_relation, stands, posts_never, posts_by_terms, posts_standing, posts_relation}
 use Rattle.pi_postings.specs.Says.{operand_value, compares, AllHold, AgreeBelow}
 use Rattle.pi_postings.proofs.SumLemmas.{sums_add, value-difference, value-of_variable, value-of_number}
-use Rattle.pi_postings.proofs.FormLemmas.{AscendBelow, ascend_below, IsJoined, joined-added, joined-difference, joined-of_number, joined-of_variable}
-use Rattle.pi_postings.proofs.GrowLemmas.{AreFormed, Any, Grows, grows_for, agree_less, grows_none, grows_then, grows_posted, grows_defined, hold-first, hold-added, Defines, after_is, is_known}
+use Rattle.pi_postings.proofs.FormLemmas.{ascend_below, IsJoined, joined-added, joined-difference, joined-of_number, joined-of_variable}
+use Rattle.pi_postings.proofs.GrowLemmas.{AreFormed, Any, Grows, grows_for, agree_less, grows_none, grows_then, grows_posted, grows_defined, hold-added, after_is, is_known}
 use Rattle.pi_postings.proofs.OperandLemmas.{OperandBelow, operands_agree, SumRead, step_is, operand-read}
 
 -- ---- a relation that was read

@@ -1,12 +1,12 @@
 -- What joined sums come to.
 use Rattle.std.specs.Prelude.{◌≡◌, ℕ, zero, suc, ◌+◌, ◌*◌, ◌==◌, nat_lt, Bool, true, false, List, [], ◌∷◌, ℤ, pos, negsuc, ◌+ℤ◌, ◌-ℤ◌, ◌*ℤ◌, neg_ℤ, refl, cond}
-use Rattle.std.proofs.Common.{arith, eqb-true, ◌∙◌, ap, sym, subst}
+use Rattle.std.proofs.Common.{arith, eqb-true, ◌∙◌, ap, sym}
 use Rattle.std.proofs.lemmas.Int.{ints}
 use Rattle.std.proofs.Math.IntN.{*ℤ_comm, *ℤ-zero}
 use borrow.Author.Differences.{up, down}
 use Rattle.pi_constraints.specs.declared.constraint.Item.{Item}
 use Rattle.pi_filters.specs.Solutions.{sum_of, value_of}
-use Rattle.pi_postings.specs.Sums.{Sum, of_number, of_variable, of_item, in_front, with_term, with_terms, scaled_terms, added, scaled, opposite, difference, sum_value}
+use Rattle.pi_postings.specs.Sums.{Sum, of_number, of_variable, of_item, in_front, with_term, with_terms, scaled_terms, opposite, difference, sum_value}
 use Rattle.pi_postings.specs.PostingLaws.{SumsAdd, SumsScale}
 
 -- ---- products of integers

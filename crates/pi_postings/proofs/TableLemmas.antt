@@ -1,5 +1,5 @@
 -- The table of connectives: what the sums of each say of bits.
-use Rattle.std.specs.Prelude.{◌≡◌, ◌≢◌, ⊤, ℕ, suc, ◌<◌, Bool, true, false, not, ◌&&◌, ◌||◌, List, [], ◌∷◌, ◌++◌, ℤ, pos, negsuc, ◌+ℤ◌, ◌-ℤ◌, ◌≤ℤ◌, Result, Ok, refl}
+use Rattle.std.specs.Prelude.{◌≡◌, ◌≢◌, ℕ, suc, Bool, true, false, not, ◌&&◌, ◌||◌, List, [], ◌∷◌, ℤ, pos, ◌+ℤ◌, ◌-ℤ◌, Ok, refl}
 use Rattle.std.proofs.Common.{arith, ◌∙◌, ap, sym, subst}
 use Rattle.std.proofs.lemmas.Int.{ints}
 use Rattle.pi_constraints.specs.declared.constraint.Rel.{Rel}
@@ -15,7 +15,7 @@ use Rattle.pi_postings.specs.Says.{joins}
 use Rattle.pi_postings.proofs.SumLemmas.{value-of_number, value-of_item}
 use Rattle.pi_postings.proofs.FormLemmas.{IsJoined, joined-added, joined-difference, joined-of_number, joined-of_item, ItemBelow}
 use Rattle.pi_postings.proofs.GrowLemmas.{with_all, is_known}
-use Rattle.pi_postings.proofs.TruthLemmas.{diff, plus, TruthSum, next_item, bounds, NewTruth, new-truth, Bits, Settles, Table, said, said-bits, table-defines, one_equal, three_at_most, one-table, three-table, standing-truth}
+use Rattle.pi_postings.proofs.TruthLemmas.{diff, plus, TruthSum, next_item, bounds, NewTruth, new-truth, Bits, Settles, said, said-bits, table-defines, one_equal, three_at_most, one-table, three-table, standing-truth}
 
 -- ---- sums out of T, X and Y
 

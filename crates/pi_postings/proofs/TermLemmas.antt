@@ -1,15 +1,15 @@
 -- The variables of operands, Boolean expressions and goals are those of their terms.
-use Rattle.std.specs.Prelude.{◌≡◌, ⊤, ℕ, ◌<◌, Bool, true, false, cond, List, Option, Some, None, option_map, codes, refl, ◌⊎◌}
+use Rattle.std.specs.Prelude.{⊤, ℕ, ◌<◌, Bool, true, false, cond, List, Option, Some, None, option_map, codes, refl}
 use Rattle.std.specs.Option.{option_or}
 use Rattle.std.specs.Str.{bytes_eq}
-use Rattle.std.proofs.Common.{arith, inl, inr}
+use Rattle.std.proofs.Common.{inl, inr}
 use Rattle.pi_terms.specs.Tree.{Tree, var, int, atom, comp, Trees, no_trees, tree}
 use Rattle.pi_terms.specs.ListNames.{nil, cell_name}
 use Rattle.pi_terms.specs.Variables.{Occurs, OccursInAny}
 use Rattle.pi_print.specs.PrintTerm.{array_name}
 use Rattle.pi_states.specs.State.{SpeaksBelow}
-use Rattle.pi_postings.specs.Operands.{Operand, plus, minus, times, positive, negative, absolute, total, no_operand, Operands, no_operands, operand, Comparison, Connective, Boolean, relation, negation, joined, no_boolean, Goal, relates, is_so, all_different, all_distinct, element, no_constraint}
-use Rattle.pi_postings.specs.Terms.{total_of, one_part, two_parts, operand_of, operands_of, operands_of_array, operands_of_list, comparison_named, connective_named, joined_by, related_by, boolean_of, goal_of_boolean, goal_of_one, goal_of_three, goal_of}
+use Rattle.pi_postings.specs.Operands.{Operand, plus, minus, times, positive, negative, absolute, no_operand, Operands, no_operands, operand, Comparison, Connective, Boolean, relation, negation, joined, no_boolean, Goal, relates, is_so, all_different, all_distinct, element, no_constraint}
+use Rattle.pi_postings.specs.Terms.{total_of, one_part, two_parts, operand_of, operands_of, operands_of_array, operands_of_list, comparison_named, connective_named, joined_by, related_by, boolean_of, goal_of_boolean, goal_of}
 use Rattle.pi_postings.proofs.OperandLemmas.{OperandBelow, OperandsBelow}
 use Rattle.pi_postings.proofs.BooleanLemmas.{BooleanBelow}
 

@@ -1,6 +1,6 @@
 -- Boolean constraints, worked through the definitions.
-use Rattle.std.specs.Prelude.{◌≡◌, ℕ, pos, negsuc, List, [], ◌∷◌, ◌++◌, Result, Ok, Err, codes, refl}
-use Rattle.pi_terms.specs.Tree.{Tree, var, int, atom}
+use Rattle.std.specs.Prelude.{◌≡◌, ℕ, pos, negsuc, List, [], ◌∷◌, Result, Ok, Err, codes, refl}
+use Rattle.pi_terms.specs.Tree.{Tree, var, atom}
 use Rattle.pi_constraints.specs.declared.constraint.Item.{Item}
 use Rattle.pi_constraints.specs.declared.constraint.Rel.{Rel}
 use Rattle.pi_constraints.specs.declared.constraint.Constraint.{Constraint}

@@ -1,23 +1,21 @@
 -- What the reading of a Boolean expression gives: an item that is 1 where the expression is so, and 0 where it isn't.
-use Rattle.std.specs.Prelude.{◌≡◌, ◌≢◌, ⊤, ℕ, zero, suc, ◌<◌, ◌≤◌, Bool, true, false, not, ◌&&◌, ◌||◌, cond, List, [], ◌∷◌, ◌++◌, ℤ, pos, negsuc, ◌+ℤ◌, ◌-ℤ◌, ◌≤ℤ◌, int_le, int_lt, Option, Some, None, option_map, Result, Ok, Err, refl, ◌⊎◌}
+use Rattle.std.specs.Prelude.{◌≡◌, ◌≢◌, ℕ, zero, suc, ◌<◌, Bool, true, false, List, [], ◌∷◌, ℤ, pos, negsuc, ◌+ℤ◌, ◌-ℤ◌, ◌≤ℤ◌, Some, Ok, refl, ◌⊎◌}
 use Rattle.std.specs.Ordering.{int_eq}
-use Rattle.std.proofs.Common.{arith, tests, ◌∙◌, ap, sym, subst, inl, inr}
+use Rattle.std.proofs.Common.{arith, ◌∙◌, ap, sym, subst, inl, inr}
 use Rattle.std.proofs.lemmas.Int.{ints}
 use Rattle.pi_constraints.specs.declared.constraint.Rel.{Rel}
 use Rattle.pi_constraints.specs.declared.constraint.Item.{Item}
 use Rattle.pi_constraints.specs.declared.constraint.Constraint.{Constraint}
-use Rattle.pi_filters.specs.Solutions.{sum_of, value_of, Stands, Holds}
-use Rattle.pi_postings.specs.Operands.{Operand, Comparison, Connective, and, or, either, implies, equivalent, Boolean, truth_variable, truth_number, relation, negation, joined, no_boolean}
-use Rattle.pi_postings.specs.Sums.{Sum, of_number, of_variable, of_item, with_term, with_terms, scaled_terms, added, difference, sum_value}
-use Rattle.pi_postings.specs.Steps.{Refusal, not_a_constraint, Made, Known, Reading, gives, refuses, then, new_variable, posting, linear}
-use Rattle.pi_postings.specs.Relations.{Standing, read_relation, stands, posts_standing}
-use Rattle.pi_postings.specs.Truths.{posting_at_most, truth_variable_is, new_truth, truth_number_is, bit, truth_by_terms, truth_of_standing, truth_of_negation, truth_of_joined, read_truth, posts_truth}
-use Rattle.pi_postings.specs.Says.{operand_value, compares, truth_of_number, joins, both_truths, truth, AllHold, AgreeBelow}
-use Rattle.pi_postings.proofs.SumLemmas.{sums_add, value-difference, value-of_variable, value-of_number, value-of_item}
-use Rattle.pi_postings.proofs.FormLemmas.{AscendBelow, ascend_below, IsJoined, joined-added, joined-difference, joined-of_number, joined-of_variable, joined-of_item, ItemBelow, IsFormed, items_agree, sum_values_agree}
-use Rattle.pi_postings.proofs.GrowLemmas.{AreFormed, Any, Grows, grows_for, agree_less, grows_none, grows_then, grows_posted, grows_defined, changed, changed_there, changed_below, with_all, formed-with_all, hold-with_all, hold-first, hold-added, Defines, after_is, is_known}
-use Rattle.pi_postings.proofs.OperandLemmas.{OperandBelow}
-use Rattle.pi_postings.proofs.RelationLemmas.{StandingRead, relation-read, relations_agree, Posts, stands_true, true_stands, no_terms-value, standing-posts}
+use Rattle.pi_filters.specs.Solutions.{value_of, Stands, Holds}
+use Rattle.pi_postings.specs.Sums.{Sum, of_number, of_variable, with_term, with_terms, scaled_terms, added, difference, sum_value}
+use Rattle.pi_postings.specs.Steps.{Made, Known, linear}
+use Rattle.pi_postings.specs.Relations.{stands}
+use Rattle.pi_postings.specs.Truths.{bit, truth_by_terms, truth_of_standing}
+use Rattle.pi_postings.specs.Says.{truth_of_number, AllHold, AgreeBelow}
+use Rattle.pi_postings.proofs.SumLemmas.{sums_add, value-difference, value-of_variable, value-of_number}
+use Rattle.pi_postings.proofs.FormLemmas.{ascend_below, IsJoined, joined-difference, joined-of_number, joined-of_variable, ItemBelow, IsFormed, items_agree, sum_values_agree}
+use Rattle.pi_postings.proofs.GrowLemmas.{AreFormed, Any, Grows, grows_none, grows_defined, changed, changed_there, changed_below, with_all, formed-with_all, hold-with_all, hold-first, hold-added, Defines, is_known}
+use Rattle.pi_postings.proofs.RelationLemmas.{stands_true, true_stands, no_terms-value}
 
 -- ---- what sums come to, part by part
 

@@ -1,7 +1,7 @@
 -- Terms in short, for examples.
 use Rattle.std.specs.Prelude.{ℕ, ℤ, pos, List, [], ◌∷◌, codes}
-use Rattle.pi_terms.specs.Tree.{Tree, var, int, comp, trees_of}
-use Rattle.pi_effects.specs.Items.{list_of, array_of}
+use Rattle.pi_terms.specs.Tree.{Tree, int, comp, trees_of}
+use Rattle.pi_effects.specs.Items.{list_of}
 use Rattle.pi_constraints.specs.declared.constraint.Rel.{Rel}
 use Rattle.pi_constraints.specs.declared.constraint.Constraint.{Constraint}
 use Rattle.pi_postings.specs.Postings.{Posting}

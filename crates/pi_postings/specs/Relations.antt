@@ -2,7 +2,6 @@
 use Rattle.std.specs.Prelude.{ℕ, Bool, not, cond, List, [], ◌∷◌, ℤ, pos, int_le}
 use Rattle.std.specs.Ordering.{int_eq}
 use Rattle.pi_constraints.specs.declared.constraint.Rel.{Rel}
-use Rattle.pi_constraints.specs.declared.constraint.Constraint.{Constraint}
 use Rattle.pi_postings.specs.Operands.{Operand, Comparison, equal, unequal, less, at_most, greater, at_least}
 use Rattle.pi_postings.specs.Sums.{Sum, of_number, of_variable, added, difference}
 use Rattle.pi_postings.specs.Steps.{Reading, gives, then, new_variable, posting, linear, step, read_operand}

@@ -1,6 +1,6 @@
 -- What a goal says of values, apart from how it is posted: the value of an operand, the truth of a Boolean expression, whether a goal is so. Variable n has the value a n. (A User's Guide
 -- to Picat, 'Constraints'.)
-use Rattle.std.specs.Prelude.{◌≡◌, ◌≢◌, ℕ, zero, suc, ◌<◌, Bool, true, false, not, ◌&&◌, ◌||◌, ⊤, List, [], ◌∷◌, length, map, get_or, Option, Some, None, option_map, IsSomeAnd, ℤ, pos, negsuc, ◌+ℤ◌, ◌-ℤ◌, ◌*ℤ◌, neg_ℤ, int_le, int_lt, Contains}
+use Rattle.std.specs.Prelude.{◌≡◌, ℕ, zero, suc, ◌<◌, Bool, true, false, not, ◌&&◌, ◌||◌, ⊤, List, [], ◌∷◌, length, map, get_or, Option, Some, None, option_map, IsSomeAnd, ℤ, pos, negsuc, ◌+ℤ◌, ◌-ℤ◌, ◌*ℤ◌, neg_ℤ, int_le, int_lt}
 use Rattle.std.specs.Ordering.{int_eq}
 use Rattle.pi_terms.specs.Tree.{Tree, var, int, atom, comp}
 use Rattle.pi_constraints.specs.declared.constraint.Constraint.{Constraint}

@@ -1,6 +1,6 @@
 -- Reading step by step: what was made so far, steps that are judged, new variables, and each node of an operand. (A User's Guide to Picat, 'Constraints'; the forms that constraints
 -- are brought into, the limits and their order are own.)
-use Rattle.std.specs.Prelude.{ℕ, zero, suc, Bool, true, ◌&&◌, cond, List, [], ◌∷◌, ◌++◌, ℤ, pos, negsuc, Option, Some, None, Result, Ok, Err}
+use Rattle.std.specs.Prelude.{ℕ, suc, Bool, true, ◌&&◌, cond, List, [], ◌∷◌, ◌++◌, ℤ, pos, Option, Some, None, Result, Ok, Err}
 use Rattle.std.specs.Ordering.{int_eq}
 use Rattle.pi_terms.specs.Tree.{Tree}
 use Rattle.pi_arith.specs.Range.{has_128_bits}

@@ -1,6 +1,6 @@
 -- Boolean expressions: each is given a truth item, which is 1 where it is so and 0 where it isn't, inner ones first and left before right. (A User's Guide to Picat, 'Constraints'; what is
 -- posted is own.)
-use Rattle.std.specs.Prelude.{ℕ, zero, suc, Bool, true, false, cond, List, [], ◌∷◌, ℤ, pos, negsuc}
+use Rattle.std.specs.Prelude.{ℕ, zero, suc, Bool, true, false, List, [], ◌∷◌, ℤ, pos, negsuc}
 use Rattle.pi_terms.specs.Tree.{int}
 use Rattle.pi_constraints.specs.declared.constraint.Rel.{Rel}
 use Rattle.pi_constraints.specs.declared.constraint.Item.{Item}
@@ -8,7 +8,7 @@ use Rattle.pi_constraints.specs.declared.constraint.Constraint.{Constraint}
 use Rattle.pi_postings.specs.Operands.{Boolean, truth_variable, truth_number, relation, negation, joined, no_boolean, Connective, and, or, either, implies, equivalent}
 use Rattle.pi_postings.specs.Sums.{Sum, of_number, of_variable, of_item, added, difference}
 use Rattle.pi_postings.specs.Steps.{Reading, gives, refuses, then, new_variable, posting, linear, not_a_constraint}
-use Rattle.pi_postings.specs.Relations.{Standing, read_relation, stands, posts_standing}
+use Rattle.pi_postings.specs.Relations.{read_relation, stands, posts_standing}
 
 -- a sum that is at most 0
 abbrev pub posting_at_most : {A : Type 0} → Sum → Reading A → Reading A
