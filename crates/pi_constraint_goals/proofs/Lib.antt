@@ -1,0 +1,3 @@
+pub mod ValueLemmas
+pub mod WithinExamples
+pub mod PostedExamples

@@ -1,0 +1,17 @@
+pub mod SumLemmas
+pub mod FormLemmas
+pub mod GrowLemmas
+pub mod OperandLemmas
+pub mod RelationLemmas
+pub mod TruthLemmas
+pub mod TableLemmas
+pub mod BooleanLemmas
+pub mod ListLemmas
+pub mod LimitLemmas
+pub mod TermLemmas
+pub mod PostingLemmas
+pub mod CoefficientLemmas
+pub mod Worked
+pub mod RelationExamples
+pub mod TruthExamples
+pub mod LimitExamples

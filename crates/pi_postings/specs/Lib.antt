@@ -1,0 +1,11 @@
+pub mod Operands
+pub mod Terms
+pub mod Sums
+pub mod Steps
+pub mod Relations
+pub mod Truths
+pub mod Lists
+pub mod Limits
+pub mod Postings
+pub mod Says
+pub mod PostingLaws
