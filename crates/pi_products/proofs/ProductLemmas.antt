@@ -33,14 +33,14 @@ pub factor_cut : (other product : Ends) (k : ℕ) (c lo hi : ℤ) (ds es : List 
 factor_cut other product k c lo hi ds es cut e f g fixed o =
     keep_cut k (λ n. int_le lo (c *ℤ n) && int_le (c *ℤ n) hi) (FactorStays other product) ds es
     (λ n h. (
-    λ t same other_value.
-        let p = (between_test lo hi (c *ℤ n)).0 t in
-        let both : (lo ≤ℤ (other.lo *ℤ n)) × ((other.lo *ℤ n) ≤ℤ hi) = subst (λ (z : ℤ). (lo ≤ℤ (z *ℤ n)) × ((z *ℤ n) ≤ℤ hi)) e p in
-        (subst (λ (z : ℤ). z ≤ℤ (other.lo *ℤ n)) f both.0, subst (λ (z : ℤ). (other.lo *ℤ n) ≤ℤ z) g both.1),
-    λ stays.
-        let p = stays fixed o in
-        let both : (lo ≤ℤ (other.lo *ℤ n)) × ((other.lo *ℤ n) ≤ℤ hi) = (subst (λ (z : ℤ). z ≤ℤ (other.lo *ℤ n)) (sym f) p.0, subst (λ (z : ℤ). (other.lo *ℤ n) ≤ℤ z) (sym g) p.1) in
-        (between_test lo hi (c *ℤ n)).1 (subst (λ (z : ℤ). (lo ≤ℤ (z *ℤ n)) × ((z *ℤ n) ≤ℤ hi)) (sym e) both),
+      λ t same other_value.
+          let p = (between_test lo hi (c *ℤ n)).0 t in
+          let both : (lo ≤ℤ (other.lo *ℤ n)) × ((other.lo *ℤ n) ≤ℤ hi) = subst (λ (z : ℤ). (lo ≤ℤ (z *ℤ n)) × ((z *ℤ n) ≤ℤ hi)) e p in
+          (subst (λ (z : ℤ). z ≤ℤ (other.lo *ℤ n)) f both.0, subst (λ (z : ℤ). (other.lo *ℤ n) ≤ℤ z) g both.1),
+      λ stays.
+          let p = stays fixed o in
+          let both : (lo ≤ℤ (other.lo *ℤ n)) × ((other.lo *ℤ n) ≤ℤ hi) = (subst (λ (z : ℤ). z ≤ℤ (other.lo *ℤ n)) (sym f) p.0, subst (λ (z : ℤ). (other.lo *ℤ n) ≤ℤ z) (sym g) p.1) in
+          (between_test lo hi (c *ℤ n)).1 (subst (λ (z : ℤ). (lo ≤ℤ (z *ℤ n)) × ((z *ℤ n) ≤ℤ hi)) (sym e) both),
     )) cut
 
 factor_says : (other product : Ends) (d p : List Span) (n : ℤ) → AreEndsOf other d → AreEndsOf product p → FactorStays other product n ↔ FactorKeeps p d n
