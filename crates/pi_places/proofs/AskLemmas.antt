@@ -1,14 +1,14 @@
 -- Where domains have values between two numbers, and values in common.
-use Rattle.std.specs.Prelude.{◌≡◌, ◌↔◌, ◌⊎◌, ℕ, zero, suc, ◌+◌, ◌<◌, ◌≤◌, Bool, true, false, ◌||◌, IsTrue, List, [], ◌∷◌, length, drop, ℤ, neg_ℤ, ◌≤ℤ◌, ◌<ℤ◌, int_le, int_lt, refl}
+use Rattle.std.specs.Prelude.{◌≡◌, ◌↔◌, ◌⊎◌, ℕ, zero, suc, ◌+◌, ◌<◌, ◌≤◌, true, false, IsTrue, List, [], ◌∷◌, length, drop, ℤ, neg_ℤ, ◌≤ℤ◌, ◌<ℤ◌, int_le, int_lt, refl}
 use Rattle.std.specs.Int.{int_max}
 use Rattle.std.specs.List.Sorted.{IsPartitionPoint}
-use Rattle.std.proofs.Common.{arith, sym, ◌∙◌, ap, subst, get_or, inl, inr}
+use Rattle.std.proofs.Common.{arith, sym, ◌∙◌, subst, get_or, inl, inr}
 use Rattle.std.proofs.lemmas.Bool.{or_cases, or_left, or_right, and_parts, and_from, false≢true}
 use Rattle.std.proofs.lemmas.Int.{ints, clamps, by_lt_z}
 use Rattle.std.proofs.lemmas.List.{drop_more, drop_all}
 use Rattle.pi_constraints.specs.declared.domain.TheConstants.{MAX_VALUE}
 use Rattle.pi_constraints.specs.declared.domain.Span.{Span}
-use Rattle.pi_constraints.specs.Domain.{AscendFrom, IsDomain, span_has, has_value}
+use Rattle.pi_constraints.specs.Domain.{IsDomain, span_has, has_value}
 use Rattle.pi_constraints.proofs.SpanLemmas.{AscendFrom-drop}
 use Rattle.pi_constraints.proofs.DomainLemmas.{IsLeastValue-first}
 use Rattle.pi_dom.proofs.ExtremeLemmas.{ends_below, has_value-found, has_value-not_found, AscendFrom-get_or}

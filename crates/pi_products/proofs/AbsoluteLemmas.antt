@@ -1,10 +1,10 @@
 -- What cuts by ends leave of an absolute value and its operand.
-use Rattle.std.specs.Prelude.{◌≡◌, ◌↔◌, ℕ, ◌&&◌, IsTrue, List, length, ℤ, pos, neg_ℤ, ◌≤ℤ◌, int_le, refl}
+use Rattle.std.specs.Prelude.{◌≡◌, ◌↔◌, ◌&&◌, IsTrue, List, length, ℤ, pos, neg_ℤ, ◌≤ℤ◌, int_le, refl}
 use Rattle.std.specs.Int.{int_max}
 use Rattle.std.proofs.Common.{arith, sym, ◌∙◌, ap, subst}
 use Rattle.std.proofs.lemmas.Int.{ints, clamps, by_lt_z}
 use Rattle.pi_constraints.specs.declared.domain.Span.{Span}
-use Rattle.pi_filters.specs.Ends.{least_of, greatest_of, IsBetween}
+use Rattle.pi_filters.specs.Ends.{least_of, greatest_of}
 use Rattle.pi_filters.specs.Places.{domain_at}
 use Rattle.pi_filters.specs.Rules.{magnitude, AbsoluteKeeps}
 use Rattle.pi_places.specs.Changes.{IsCutAt, IsKeptAt, AreFiltered}

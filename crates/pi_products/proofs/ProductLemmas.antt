@@ -1,11 +1,9 @@
 -- What cuts by ends leave of the places of a product.
 use Rattle.std.specs.Prelude.{◌≡◌, ◌≢◌, ◌↔◌, ℕ, ◌&&◌, IsTrue, List, length, ℤ, pos, ◌*ℤ◌, ◌≤ℤ◌, int_le, refl}
-use Rattle.std.proofs.Common.{arith, sym, ◌∙◌, ap, subst}
-use Rattle.std.proofs.lemmas.Int.{ints}
+use Rattle.std.proofs.Common.{arith, sym, ◌∙◌, subst}
 use Rattle.std.proofs.lemmas.Bool.{and_parts, and_from}
 use Rattle.pi_constraints.specs.declared.domain.Span.{Span}
-use Rattle.pi_constraints.specs.Domain.{has_value}
-use Rattle.pi_filters.specs.Ends.{least_of, greatest_of, IsBetween, IsFixedTo}
+use Rattle.pi_filters.specs.Ends.{least_of, greatest_of, IsBetween}
 use Rattle.pi_filters.specs.Places.{domain_at}
 use Rattle.pi_filters.specs.Rules.{least_corner, greatest_corner, FactorKeeps, ProductKeeps}
 use Rattle.pi_places.specs.Changes.{IsCutAt, IsKeptAt, AreFiltered}

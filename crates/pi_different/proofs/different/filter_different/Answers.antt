@@ -1,4 +1,4 @@
-use Rattle.std.proofs.Common.{arith, ◌≡◌, List, ℕ, ℤ, sym, subst}
+use Rattle.std.proofs.Common.{arith, List, ℕ, ℤ, sym, subst}
 use Rattle.pi_filters.specs.Rules.{DifferentKeeps}
 use Rattle.pi_places.specs.Changes.{IsKeptAt}
 use Rattle.pi_places.proofs.KeepLemmas.{kept_none, kept_more, kept_all, filtered_like}

@@ -1,4 +1,4 @@
-use Rattle.std.proofs.Common.{rules, arith, ◌≡◌, ◌≢◌, ◌∙◌, ℕ, ℤ, pos, true, false, ap, sym, subst, length, FitsSigned, w64, to_z, of_z, ◌<ℤ◌, ◌≤◌}
+use Rattle.std.proofs.Common.{rules, arith, ◌≡◌, ◌∙◌, ℤ, true, subst, FitsSigned, w64, to_z, of_z, ◌<ℤ◌}
 use Rattle.std.specs.Prelude.{int_lt}
 use Rattle.std.specs.Int.{w128}
 use Rattle.std.proofs.lemmas.Int.{ints, to_z-of_z}

@@ -1,5 +1,5 @@
-use Rattle.std.proofs.Common.{rules, arith, ◌≡◌, ◌↔◌, pos, List, subst, ap, sym, ◌∙◌, false, neg_ℤ, ℤ, length, nat_lt, slice_index_or, to_z, of_z}
-use Rattle.std.specs.Prelude.{int_le, IsTrue}
+use Rattle.std.proofs.Common.{rules, arith, ◌≡◌, pos, List, subst, sym, ◌∙◌, false, neg_ℤ, length, nat_lt, slice_index_or, to_z, of_z}
+use Rattle.std.specs.Prelude.{int_le}
 use Rattle.std.specs.Int.{w128}
 use Rattle.std.proofs.lemmas.Int.{ints}
 use Rattle.std.proofs.lemmas.Bool.{false≢true}

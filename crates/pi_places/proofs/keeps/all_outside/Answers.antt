@@ -2,7 +2,7 @@ use Rattle.std.proofs.Common.{arith, ◌∙◌, ap, List}
 use Rattle.std.proofs.lemmas.Int.{ints}
 use Rattle.pi_constraints.specs.declared.domain.Span.{Span}
 use Rattle.pi_constraints.specs.Domain.{has_value}
-use Rattle.pi_places.proofs.OneLemmas.{AreOutside, pushed_outside, outside_domain, outside_values}
+use Rattle.pi_places.proofs.OneLemmas.{pushed_outside, outside_domain, outside_values}
 use Rattle.pi_places.proofs.keeps.all_outside.Goals as goal
 
 pub new-requires : goal.new-requires

@@ -1,6 +1,4 @@
-use Rattle.std.proofs.Common.{arith, to_z, of_z, ◌≡◌, neg_ℤ}
-use Rattle.std.specs.Int.{w128}
-use Rattle.std.proofs.lemmas.Int.{to_z-of_z}
+use Rattle.std.proofs.Common.{arith}
 use Rattle.pi_places.proofs.FitLemmas.{negative_back, unwrapped}
 use Rattle.pi_places.proofs.OneLemmas.{scaled_both}
 use Rattle.pi_places.proofs.keeps.keep_scaled.Goals as goal

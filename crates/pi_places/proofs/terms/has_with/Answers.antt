@@ -1,4 +1,4 @@
-use Rattle.std.proofs.Common.{arith, ◌≡◌, ◌∙◌, neg_ℤ, to_z, of_z, FitsSigned}
+use Rattle.std.proofs.Common.{arith, ◌≡◌, ◌∙◌, neg_ℤ, FitsSigned}
 use Rattle.std.specs.Int.{w128, int_div_euclid}
 use Rattle.std.proofs.lemmas.Int.{ints, to_z-of_z}
 use Rattle.pi_filters.specs.Places.{domain_at}

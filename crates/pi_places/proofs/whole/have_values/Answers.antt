@@ -1,4 +1,4 @@
-use Rattle.std.proofs.Common.{arith, sym, ◌∙◌}
+use Rattle.std.proofs.Common.{sym, ◌∙◌}
 use Rattle.std.proofs.lemmas.Bool.{false≢true}
 use Rattle.pi_places.proofs.WholeLemmas.{one_more}
 use Rattle.pi_places.proofs.whole.have_values.Goals as goal

@@ -4,7 +4,7 @@ use Rattle.std.proofs.lemmas.Int.{to_z-of_z}
 use Rattle.pi_filters.specs.Places.{domain_at}
 use Rattle.pi_filters.specs.Rules.{least_corner, greatest_corner}
 use Rattle.pi_products.proofs.EndLemmas.{least_corner_fits, greatest_corner_fits}
-use Rattle.pi_products.proofs.ProductLemmas.{AreEndsOf, product_filtered}
+use Rattle.pi_products.proofs.ProductLemmas.{product_filtered}
 use Rattle.pi_products.proofs.products.filter_product.Goals as goal
 
 pub returns : goal.returns
