@@ -3,7 +3,7 @@ use Rattle.std.specs.Prelude.{◌≡◌, ℕ, zero, suc, ◌-◌, ◌<◌, List,
 use Rattle.std.proofs.Common.{arith, sym, ◌∙◌, ap, subst}
 use Rattle.std.proofs.lemmas.Option.{slice_get_within, slice_get-get_or}
 use Rattle.pi_constraints.specs.declared.domain.Span.{Span}
-use Rattle.pi_constraints.specs.Domain.{IsDomain, IsWithinBounds, has_value}
+use Rattle.pi_constraints.specs.Domain.{AscendFrom, IsDomain, IsWithinBounds, has_value}
 use Rattle.pi_constraints.proofs.DomainLemmas.{values_are_within_bounds}
 use Rattle.pi_filters.specs.Ends.{least_of, greatest_of}
 use Rattle.pi_filters.specs.Places.{domain_at}
@@ -60,3 +60,7 @@ nowhere_greatest ds k e = ap greatest_of (sym (nowhere ds k e))
 pub nowhere_has : (ds : List (List Span)) (k : ℕ) (n : ℤ) → slice_get ds k ≡ None → false ≡ has_value (domain_at ds k) n
 unfolding has_value
 nowhere_has ds k n e = ap (λ (d : List Span). has_value d n) (sym (nowhere ds k e))
+
+pub nowhere_spans : (ds : List (List Span)) (k : ℕ) → slice_get ds k ≡ None → IsDomain (domain_at ds k)
+unfolding AscendFrom
+nowhere_spans ds k e = subst IsDomain (sym (nowhere ds k e)) tt

@@ -1,11 +1,14 @@
 -- What terms add, one after another.
 use Rattle.std.specs.Prelude.{◌≡◌, ℕ, ◌+◌, ◌*◌, ◌^◌, ◌<◌, ◌≤◌, List, [], ◌∷◌, length, drop, ℤ, pos, ◌+ℤ◌, neg_ℤ, nat_abs}
-use Rattle.std.proofs.Common.{arith, ◌∙◌, ap}
+use Rattle.std.proofs.Common.{arith, sym, ◌∙◌, ap, subst, inl, inr}
+use Rattle.std.proofs.lemmas.Bool.{cases_eq}
 use Rattle.std.proofs.lemmas.Int.{ints}
 use Rattle.std.proofs.lemmas.List.{drop_more, drop_all}
 use Rattle.pi_constraints.specs.declared.domain.Span.{Span}
+use Rattle.pi_constraints.specs.Domain.{IsDomain}
 use Rattle.pi_filters.specs.Places.{domain_at}
 use Rattle.pi_filters.specs.Sums.{coefficient_at, least_part, least_of_all, negated}
+use Rattle.pi_places.specs.Reads.{AreSpansFrom}
 use Rattle.pi_places.specs.Terms.{BothAreSmall}
 
 next_domains : (ds : List (List Span)) (first i : ℕ) → first + i < length ds → drop (first + i) ds ≡ domain_at ds (first + i) ∷ drop (first + (i + 1)) ds
@@ -50,3 +53,6 @@ abs_add x y = omega (arith, ints)
 
 pub small_added : (i : ℕ) (x y p q : ℤ) → BothAreSmall (i * 2 ^ 96) x y → BothAreSmall (2 ^ 96) p q → BothAreSmall ((i + 1) * 2 ^ 96) (x +ℤ p) (y +ℤ q)
 small_added i x y p q s t = (omega (arith, abs_add x p, s.0, t.0), omega (arith, abs_add y q, s.1, t.1))
+
+pub more_spans : (ds : List (List Span)) (first i : ℕ) → IsDomain (domain_at ds (first + i)) → AreSpansFrom first i ds → AreSpansFrom first (i + 1) ds
+more_spans ds first i here before k l = elim (cases_eq k i) [ inl e ↦ subst (λ (j : ℕ). IsDomain (domain_at ds (first + j))) (sym e) here | inr o ↦ before k (omega arith) ]

@@ -6,3 +6,8 @@ pub mod ExtremeLemmas
 pub mod FitLemmas
 pub mod SumFilterLemmas
 pub mod RootLemmas
+pub mod KeepLemmas
+pub mod OneLemmas
+pub mod AskLemmas
+pub mod WholeLemmas
+pub mod WithLemmas

@@ -115,12 +115,12 @@ cut_below_is k rest n =
 
 -- ---- as the code has them
 
-cut_above_tests : (c rest b n : ℤ) → pos 0 <ℤ c → b ≡ int_div_euclid (neg_ℤ rest) c → int_le n b ≡ int_le (c *ℤ n +ℤ rest) (pos 0)
+pub cut_above_tests : (c rest b n : ℤ) → pos 0 <ℤ c → b ≡ int_div_euclid (neg_ℤ rest) c → int_le n b ≡ int_le (c *ℤ n +ℤ rest) (pos 0)
 cut_above_tests (pos zero) rest b n h e = absurd (omega (arith, ints))
 cut_above_tests (pos (suc k)) rest b n h e = ap (λ (q : ℤ). int_le n q) e ∙ cut_above_is k rest n
 cut_above_tests (negsuc k) rest b n h e = absurd (omega (arith, ints))
 
-cut_below_tests : (c rest b n : ℤ) → c ≤ℤ pos 0 → c ≢ pos 0 → b ≡ int_div_euclid (neg_ℤ rest) c → int_le b n ≡ int_le (c *ℤ n +ℤ rest) (pos 0)
+pub cut_below_tests : (c rest b n : ℤ) → c ≤ℤ pos 0 → c ≢ pos 0 → b ≡ int_div_euclid (neg_ℤ rest) c → int_le b n ≡ int_le (c *ℤ n +ℤ rest) (pos 0)
 cut_below_tests (pos zero) rest b n h o e = absurd (o refl)
 cut_below_tests (pos (suc k)) rest b n h o e = absurd (omega (arith, ints))
 cut_below_tests (negsuc k) rest b n h o e = ap (λ (q : ℤ). int_le q n) e ∙ cut_below_is k rest n
@@ -161,7 +161,7 @@ ceiling_root k a q n f e = by_lt_z n q
 negative_product : (k : ℕ) (n r : ℤ) → negsuc k *ℤ n ≡ neg_ℤ r → pos (suc k) *ℤ n ≡ neg_ℤ (neg_ℤ r)
 negative_product k n r e = let same : negsuc k *ℤ n ≡ neg_ℤ (pos (suc k) *ℤ n) = negative_factor k n in turned (pos (suc k) *ℤ n) (negsuc k *ℤ n) (neg_ℤ r) same e
 
-root_is : (c rest n q : ℤ) → c ≢ pos 0 → q ≡ int_div_euclid (neg_ℤ rest) c → c *ℤ n ≡ neg_ℤ rest → n ≡ q
+pub root_is : (c rest n q : ℤ) → c ≢ pos 0 → q ≡ int_div_euclid (neg_ℤ rest) c → c *ℤ n ≡ neg_ℤ rest → n ≡ q
 root_is (pos zero) rest n q o d e = absurd (o refl)
 root_is (pos (suc k)) rest n q o d e = subst (λ (z : ℤ). n ≡ z) (sym d) (floor_root k (neg_ℤ rest) (int_div_euclid (neg_ℤ rest) (pos (suc k))) n (floor_is (suc k) (neg_ℤ rest) (omega arith)) e)
 root_is (negsuc k) rest n q o d e = subst (λ (z : ℤ). n ≡ z) (sym d) (ceiling_root k (neg_ℤ rest) (int_div_euclid (neg_ℤ rest) (negsuc k)) n (ceiling_is k (neg_ℤ rest)) (negative_product k n rest e))

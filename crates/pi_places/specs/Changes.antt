@@ -1,5 +1,5 @@
 -- What calls do to the domains of places. The definitions are own.
-use Rattle.std.specs.Prelude.{◌≡◌, ◌≢◌, ◌↔◌, ℕ, ◌+◌, ◌<◌, ◌≤◌, Bool, ◌&&◌, IsTrue, List, length, ℤ}
+use Rattle.std.specs.Prelude.{◌≡◌, ◌≢◌, ◌↔◌, ℕ, ◌+◌, ◌<◌, ◌≤◌, Bool, false, ◌&&◌, IsTrue, List, length, ℤ}
 use Rattle.pi_constraints.specs.declared.domain.Span.{Span}
 use Rattle.pi_constraints.specs.Domain.{has_value}
 use Rattle.pi_filters.specs.Places.{domain_at}
@@ -27,3 +27,14 @@ pub record AreFilteredFrom (first : ℕ) (Kept : ℕ → ℤ → Type 0) (old ne
 pub record AreFiltered (Kept : ℕ → ℤ → Type 0) (old new : List (List Span)) : Type 0 where
   pub count : length new ≡ length old
   pub kept : (k : ℕ) (n : ℤ) → k < length old → IsTrue (has_value (domain_at new k) n) ↔ (IsTrue (has_value (domain_at old k) n) × Kept k n)
+
+-- the domain at place k is left with the values that a rule keeps, and all others are as they were
+pub record IsKeptAt (k : ℕ) (Kept : ℤ → Type 0) (old new : List (List Span)) : Type 0 where
+  pub count : length new ≡ length old
+  pub here : (n : ℤ) → IsTrue (has_value (domain_at new k) n) ↔ (IsTrue (has_value (domain_at old k) n) × Kept n)
+  pub others : (j : ℕ) → j ≢ k → domain_at new j ≡ domain_at old j
+
+-- no domain has a value
+pub record AreEmptied (old new : List (List Span)) : Type 0 where
+  pub count : length new ≡ length old
+  pub none : (k : ℕ) (n : ℤ) → has_value (domain_at new k) n ≡ false

@@ -1,3 +1,4 @@
 pub mod Changes
 pub mod Terms
 pub mod Roots
+pub mod Reads

@@ -1,8 +1,10 @@
 //! Cuts by what terms add at least and at most.
 ghost use Rattle.std.specs.Prelude.{◌≡◌, ◌≢◌, ◌+◌, ◌≤◌, ◌^◌, ◌&&◌, IfOk, pos, ◌-ℤ◌, ◌*ℤ◌, neg_ℤ, nat_abs, length, drop};
+ghost use Rattle.pi_constraints.specs.Domain.{IsDomain};
 ghost use Rattle.pi_filters.specs.Places.{domain_at};
 ghost use Rattle.pi_filters.specs.Sums.{least_part, least_of_all, negated};
 ghost use Rattle.pi_places.specs.Changes.{IsCutAt, AreCutFrom};
+ghost use Rattle.pi_places.specs.Reads.{AreSpansFrom};
 ghost use Rattle.pi_places.specs.Terms.{BothAreSmall, MayBeConstant, MayBeRest, AreCoefficients, side_passes, sides_keep, rest_with};
 
 use crate::places::Places;
@@ -84,7 +86,7 @@ pub(crate) fn cut_terms<P: Places>(
 }
 
 /// What terms add, for the values at the places from `first` on.
-pub(crate) fn extremes<P: Places>(terms: &[LinTerm], places: &P, first: usize) -> Extremes
+pub fn extremes<P: Places>(terms: &[LinTerm], places: &P, first: usize) -> Extremes
     requires first { first ≤ 1 }
     requires count { length (P.domains places.now) ≡ first + length terms.now }
     requires few { length terms.now ≤ 2 ^ 20 }
@@ -92,6 +94,7 @@ pub(crate) fn extremes<P: Places>(terms: &[LinTerm], places: &P, first: usize) -
     ensures least { result.least ≡ least_of_all terms.now (drop first (P.domains places.now)) }
     ensures opposite { result.opposite ≡ least_of_all (negated terms.now) (drop first (P.domains places.now)) }
     ensures small { BothAreSmall (2 ^ 116) result.least result.opposite }
+    ensures spans { AreSpansFrom first (length terms.now) (P.domains places.now) }
 {
     let mut all = Extremes {
         least: 0,
@@ -107,11 +110,12 @@ pub(crate) fn extremes<P: Places>(terms: &[LinTerm], places: &P, first: usize) -
 }
 
 /// What a term adds, for the values at its place.
-pub(crate) fn extremes_at<P: Places>(coefficient: i128, places: &P, k: usize) -> Extremes
+pub fn extremes_at<P: Places>(coefficient: i128, places: &P, k: usize) -> Extremes
     requires { nat_abs coefficient ≤ 2 ^ 40 }
     ensures least { result.least ≡ least_part coefficient (domain_at (P.domains places.now) k) }
     ensures opposite { result.opposite ≡ least_part (neg_ℤ coefficient) (domain_at (P.domains places.now) k) }
     ensures small { BothAreSmall (2 ^ 96) result.least result.opposite }
+    ensures spans { IsDomain (domain_at (P.domains places.now) k) }
 {
     let lo = wide(places.least(k));
     let hi = wide(places.greatest(k));

@@ -3,8 +3,9 @@ ghost use Rattle.std.specs.Prelude.{◌≡◌, ◌↔◌, IsTrue, []};
 ghost use Rattle.pi_constraints.specs.Domain.{IsDomain, IsWithinBounds};
 ghost use Rattle.pi_filters.specs.Ends.{least_of, greatest_of};
 
+use crate::asks::{has_value_between, share};
 use crate::places::Places;
-use pi_constraints::{Domain, Domains};
+use pi_constraints::{Domain, Domains, Span};
 use std::alloc::{AllocError, Global};
 
 impl Places for Domains {
@@ -42,6 +43,33 @@ impl Places for Domains {
         match self.get(k) {
             Some(domain) => pi_dom::contains(domain, n),
             None => false,
+        }
+    }
+
+    fn has_between(&self, k: usize, lo: i128, hi: i128) -> bool {
+        match self.get(k) {
+            Some(domain) => has_value_between(domain, lo, hi),
+            None => false,
+        }
+    }
+
+    fn shares(&self, j: usize, k: usize) -> bool {
+        match self.get(j) {
+            Some(first) => match self.get(k) {
+                Some(second) => share(first, second),
+                None => false,
+            },
+            None => false,
+        }
+    }
+
+    fn push_spans(&self, k: usize, spans: &mut Vec<Span>) -> Result<(), AllocError> {
+        match self.get(k) {
+            Some(domain) => {
+                spans.extend_from_slice(domain.spans())?;
+                Ok(())
+            }
+            None => Ok(()),
         }
     }
 
@@ -118,7 +146,7 @@ fn has_none(domain: &Domain) -> bool
 
 /// The domain without a value.
 #[tactic(auto, unfolding(pi_constraints::specs::Domain::AscendFrom))]
-fn nothing(alloc: Global) -> Domain
+pub(crate) fn nothing(alloc: Global) -> Domain
     ensures { result ≡ [] }
 {
     Domain::new(Vec::new(alloc))

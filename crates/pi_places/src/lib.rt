@@ -1,12 +1,20 @@
 //! The places of a constraint, and filters of sums over them.
 #![tactic(auto)]
 
+mod asks;
 mod bounds;
 mod domains;
+mod keeps;
 mod places;
 mod roots;
 mod sums;
 mod terms;
+mod whole;
 
+pub use bounds::{extremes, extremes_at};
+pub use keeps::{keep_between, keep_scaled, take_between};
 pub use places::Places;
+pub use roots::is_fixed;
 pub use sums::{filter_opposite, filter_sum};
+pub use terms::{Extremes, has_with};
+pub use whole::{have_values, take_all};

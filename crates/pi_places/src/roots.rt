@@ -89,7 +89,7 @@ impl Open {
 }
 
 /// Whether a place has one value alone.
-fn is_fixed<P: Places>(places: &P, k: usize) -> bool
+pub fn is_fixed<P: Places>(places: &P, k: usize) -> bool
     ensures { IsTrue result ↔ IsFixed (domain_at (P.domains places.now) k) }
 {
     let lo = places.least(k);

@@ -1,8 +1,10 @@
 //! A term of a sum: what it adds, and how it cuts its place.
-ghost use Rattle.std.specs.Prelude.{◌≡◌, ◌≢◌, ◌≤◌, ◌^◌, ◌&&◌, IfOk, pos, ◌+ℤ◌, ◌*ℤ◌, neg_ℤ, int_le, nat_abs};
+ghost use Rattle.std.specs.Prelude.{◌≡◌, ◌≢◌, ◌↔◌, ◌≤◌, ◌^◌, ◌&&◌, IfOk, IsTrue, pos, ◌+ℤ◌, ◌*ℤ◌, neg_ℤ, int_le, nat_abs};
 ghost use Rattle.std.specs.Int.{int_min};
 ghost use Rattle.pi_constraints.specs.Domain.{IsWithinBounds};
+ghost use Rattle.pi_filters.specs.Places.{domain_at};
 ghost use Rattle.pi_places.specs.Changes.{IsCutAt};
+ghost use Rattle.pi_places.specs.Reads.{HasValueWith};
 ghost use Rattle.pi_places.specs.Terms.{passes, BothAreSmall, MayBeRest};
 
 use crate::places::Places;
@@ -10,9 +12,9 @@ use std::alloc::{AllocError, Global};
 
 /// The least that a term adds, or that terms add together, and the least that their negatives add.
 #[derive(Clone, Copy)]
-pub(crate) struct Extremes {
-    pub(crate) least: i128,
-    pub(crate) opposite: i128,
+pub struct Extremes {
+    pub least: i128,
+    pub opposite: i128,
 }
 
 /// What a term with this coefficient adds, for values from `lo` to `hi`.
@@ -79,7 +81,7 @@ fn cut_by<P: Places>(
 
 /// Leaves a place the values `n` for which `coefficient * n + rest` isn't above 0. A quotient whose remainder isn't negative
 /// is rounded as that asks for: down where the coefficient is above 0, and up where it is below.
-fn cut_place<P: Places>(
+pub(crate) fn cut_place<P: Places>(
     alloc: Global,
     places: &mut P,
     k: usize,
@@ -97,5 +99,28 @@ fn cut_place<P: Places>(
     } else {
         places.cut_below(alloc, k, bound)?;
         Ok(())
+    }
+}
+
+/// Whether a place has a value `n` for which neither `coefficient * n + above` nor `below - coefficient * n` is above 0.
+pub fn has_with<P: Places>(
+    places: &P,
+    k: usize,
+    coefficient: i128,
+    above: i128,
+    below: i128,
+) -> bool
+    requires coefficient { coefficient ≢ pos 0 }
+    requires small { nat_abs coefficient ≤ 2 ^ 40 }
+    requires above { nat_abs above ≤ 2 ^ 120 }
+    requires below { nat_abs below ≤ 2 ^ 120 }
+    ensures { IsTrue result ↔ HasValueWith (domain_at (P.domains places.now) k) coefficient above below }
+{
+    let first = (-above).div_euclid(coefficient);
+    let last = (-below).div_euclid(-coefficient);
+    if coefficient > 0 {
+        places.has_between(k, last, first)
+    } else {
+        places.has_between(k, first, last)
     }
 }

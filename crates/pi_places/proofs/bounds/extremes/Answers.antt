@@ -2,7 +2,7 @@ use Rattle.std.proofs.Common.{arith, ◌≡◌, ◌<◌, ◌≤◌, ◌*◌, ◌
 use Rattle.std.specs.Int.{w128}
 use Rattle.pi_filters.specs.Places.{domain_at}
 use Rattle.pi_filters.specs.Sums.{coefficient_at, least_part, least_of_all, negated}
-use Rattle.pi_places.proofs.ExtremeLemmas.{added_least, added_opposite, all_least, all_opposite, small_added}
+use Rattle.pi_places.proofs.ExtremeLemmas.{more_spans, added_least, added_opposite, all_least, all_opposite, small_added}
 use Rattle.pi_places.proofs.FitLemmas.{unwrapped, sum_back}
 use Rattle.pi_places.proofs.bounds.extremes.Goals as goal
 
@@ -29,6 +29,7 @@ loop-i-preserved g c =
       opposite = ap (λ (z : ℤ). z +ℤ least_of_all (negated (drop (i + 1) ts)) (drop (c.args.first + (i + 1)) ds)) minus
           ∙ added_opposite ts ds c.args.first i x.opposite p.opposite (least_of_all (negated ts) (drop c.args.first ds)) inside there opposite c.loop-i.invariant.opposite;
       small = (subst (λ (z : ℤ). nat_abs z ≤ (i + 1) * 2 ^ 96) (sym sum) both.0, subst (λ (z : ℤ). nat_abs z ≤ (i + 1) * 2 ^ 96) (sym minus) both.1);
+      spans = more_spans ds c.args.first i c.extremes_at-part.ensures.spans c.loop-i.invariant.spans;
     }
 
 pub returns-clause-least : goal.returns-clause-least
@@ -36,3 +37,6 @@ returns-clause-least g c = all_least c.args.terms.now _ c.loop-i.i c.loop-i.all.
 
 pub returns-clause-opposite : goal.returns-clause-opposite
 returns-clause-opposite g c = all_opposite c.args.terms.now _ c.loop-i.i c.loop-i.all.opposite _ c.loop-i-test.false c.loop-i.invariant.opposite
+
+pub returns-clause-spans : goal.returns-clause-spans
+returns-clause-spans g c = λ k l. c.loop-i.invariant.spans k (omega (arith, c.loop-i-test.false))

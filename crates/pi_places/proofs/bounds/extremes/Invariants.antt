@@ -1,5 +1,6 @@
 use Rattle.std.proofs.Common.{◌≡◌, ◌+◌, ◌*◌, ◌^◌, drop, ◌+ℤ◌}
 use Rattle.pi_filters.specs.Sums.{least_of_all, negated}
+use Rattle.pi_places.specs.Reads.{AreSpansFrom}
 use Rattle.pi_places.specs.Terms.{BothAreSmall}
 use Rattle.pi_places.proofs.bounds.extremes.Given as goal
 
@@ -11,4 +12,5 @@ invariant-loop-i g l =
       least : (l.all.least +ℤ least_of_all (drop l.i l.terms) (drop (l.first + l.i) ds)) ≡ least_of_all l.terms (drop l.first ds);
       opposite : (l.all.opposite +ℤ least_of_all (negated (drop l.i l.terms)) (drop (l.first + l.i) ds)) ≡ least_of_all (negated l.terms) (drop l.first ds);
       small : BothAreSmall (l.i * 2 ^ 96) l.all.least l.all.opposite;
+      spans : AreSpansFrom l.first l.i ds;
     }
