@@ -1,21 +1,19 @@
 -- Copies of terms, and the terms of faults.
-use Rattle.std.proofs.Common.{◌≡◌, ℕ, ◌≤◌, ◌<◌, cond, List, Some, None, Ok, Err, refl, ap, sym, ◌∙◌, lt-ltb}
-use Rattle.std.specs.Prelude.{Result, Option, nat_lt, pos, codes}
+use Rattle.std.proofs.Common.{◌≡◌, ℕ, ℤ, ◌≤◌, ◌<◌, cond, List, Some, None, Ok, refl, ap, sym, ◌∙◌, lt-ltb}
+use Rattle.std.specs.Prelude.{pos, codes}
 use Rattle.pi_terms.specs.Tree.{Tree, int, atom, comp, no_trees, tree, cells, most_cells}
-use Rattle.pi_terms.specs.Copy.{copy, renamed}
+use Rattle.pi_terms.specs.Copy.{copy}
 use Rattle.pi_terms.specs.Substitution.{instance}
 use Rattle.pi_terms.proofs.OptionLemmas.{not-less}
-use Rattle.pi_states.specs.State.{State, bindings}
+use Rattle.pi_states.specs.State.{State, bindings, followed}
 use Rattle.pi_states.specs.Value.{value}
 use Rattle.pi_states.specs.Store.{StoreView, IsTerm, ShowsRead, ShowsCell}
 use Rattle.pi_states.specs.declared.store.Ref.{Ref}
 use Rattle.pi_states.specs.declared.store.Cell.{Cell}
-use Rattle.pi_states.specs.declared.store.ReadStop.{ReadStop}
 use Rattle.pi_states.proofs.RootLemmas.{value_int}
-use Rattle.pi_effects.specs.Exception.{raised_of, thrown, exception_with, type_error, bad_index, bad_format, term_too_large}
-use Rattle.pi_effects.specs.Integers.{fault_term}
+use Rattle.pi_effects.specs.Exception.{raised_of, thrown, exception_with, type_error, bad_index, term_too_large}
 use Rattle.pi_effects.specs.Answer.{found_or, integer_at, integer_then}
-use Rattle.pi_faults.specs.Balls.{kind_name, Tells, IsBall}
+use Rattle.pi_faults.specs.Balls.{Tells}
 use Rattle.pi_faults.specs.Results.{Stops}
 use Rattle.pi_faults.specs.Reads.{IsCopied}
 use Rattle.pi_faults.specs.declared.fault.Fault.{Fault}
@@ -78,9 +76,6 @@ told-is v r raised made ball is told = is told.0 told.1 ∙ sym told.2
 
 -- ---- an argument that is an integer, or none
 
-pub integer-shown : (s : State) (t : Tree) (n : ℤ) → followed (bindings s) t ≡ int n → integer_then s t (λ m. Ok m) ≡ Ok n
-integer-shown s t n e = ap (λ u. found_or (integer_at u) (type_error (codes "integer") t s) (λ m. Ok m)) e
-
 not-integer : {M : Type 0} (v : StoreView M) (u : Tree) (cell : Cell) → ((n : ℤ) → cell ≡ Cell.Int n → ⊥) → ShowsCell v u cell → integer_at u ≡ None
 not-integer v u (Cell.Var n) not shows = ap integer_at shows
 not-integer v u (Cell.Int n) not shows = absurd (not n refl)
@@ -88,7 +83,8 @@ not-integer v u (Cell.Atom k) not shows = ap integer_at shows.2
 not-integer v u (Cell.Comp k count) not shows = ap integer_at shows.2
 
 pub integer-not : {M : Type 0} (v : StoreView M) (r : Ref) (t : Tree) (cell : Cell) → IsTerm v r t → ((n : ℤ) → cell ≡ Cell.Int n → ⊥) → ShowsCell v (followed (bindings v.now.state) t) cell → Stops v (Stop.Raised (Fault.WrongKind Kind.Integer r)) (integer_then v.now.state t (λ n. Ok n))
-integer-not v r t cell is not shows =
-    (type_error (codes "integer") t v.now.state,
-    ap (λ o. found_or o (type_error (codes "integer") t v.now.state) (λ n. Ok n)) (not-integer v (followed (bindings v.now.state) t) cell not shows),
-    t, is, refl)
+integer-not v r t cell is not shows = (
+  type_error (codes "integer") t v.now.state,
+  ap (λ o. found_or o (type_error (codes "integer") t v.now.state) (λ n. Ok n)) (not-integer v (followed (bindings v.now.state) t) cell not shows),
+  (t, is, refl),
+)

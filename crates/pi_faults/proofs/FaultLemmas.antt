@@ -1,19 +1,18 @@
 -- Faults and results, handed on.
-use Rattle.std.proofs.Common.{◌≡◌, ℤ, List, Some, None, Ok, Err, refl, ap, sym, subst, ◌∙◌}
+use Rattle.std.proofs.Common.{◌≡◌, ℤ, Some, None, Ok, Err, refl, ap, sym, subst, ◌∙◌}
 use Rattle.std.specs.Prelude.{Result, Option, pos}
 use Rattle.pi_arith.specs.Range.{Outcome}
 use Rattle.pi_arith.specs.declared.fault.ArithFault.{ArithFault}
 use Rattle.pi_terms.specs.Tree.{Tree, int}
 use Rattle.pi_states.specs.State.{State, bindings, followed}
-use Rattle.pi_states.specs.Store.{StoreView, IsTerm, Stays, Gives as GivesTerm}
+use Rattle.pi_states.specs.Store.{StoreView, Stays}
 use Rattle.pi_states.specs.declared.store.Ref.{Ref}
-use Rattle.pi_effects.specs.Effect.{FunctionEffect, Gives, Refuses}
-use Rattle.pi_effects.specs.Exception.{bad_index, type_error}
-use Rattle.pi_effects.specs.Answer.{Answer, found_or, integer_at, integer_then}
+use Rattle.pi_effects.specs.Exception.{thrown, bad_index, bad_format, type_error}
+use Rattle.pi_effects.specs.Answer.{Answer, found_or, integer_at, integer_then, integers_then}
 use Rattle.pi_effects.specs.BuiltIns.{answer_in}
 use Rattle.pi_effects.specs.Integers.{outcome_then, fault_term}
-use Rattle.pi_faults.specs.Balls.{Tells, IsBall}
-use Rattle.pi_faults.specs.Results.{Stops, Shows, ShowsSame, ShowsTerm, ShowsEffect}
+use Rattle.pi_faults.specs.Balls.{kind_name, Tells, IsBall}
+use Rattle.pi_faults.specs.Results.{Stops, ShowsTerm, ShowsEffect}
 use Rattle.pi_faults.specs.declared.fault.Fault.{Fault}
 use Rattle.pi_faults.specs.declared.fault.Stop.{Stop}
 
@@ -24,15 +23,15 @@ tells-stays v w r raised ball stays told = (told.0, stays.keeps.terms r told.0 t
 
 -- a fault keeps its ball
 pub ball-stays : {M : Type 0} (v w : StoreView M) (fault : Fault) (ball : Tree) → Stays v w → IsBall v fault ball → IsBall w fault ball
-ball-stays v w (Fault.WrongKind kind r) ball stays told = tells-stays v w r _ ball stays told
-ball-stays v w (Fault.BadIndex r) ball stays told = tells-stays v w r _ ball stays told
+ball-stays v w (Fault.WrongKind kind r) ball stays told = tells-stays v w r (type_error (kind_name kind)) ball stays told
+ball-stays v w (Fault.BadIndex r) ball stays told = tells-stays v w r bad_index ball stays told
 ball-stays v w Fault.NoFirst ball stays told = told ∙ ap (bad_index (int (pos 1))) (sym stays.state)
-ball-stays v w (Fault.BadFormat r) ball stays told = tells-stays v w r _ ball stays told
+ball-stays v w (Fault.BadFormat r) ball stays told = tells-stays v w r bad_format ball stays told
 ball-stays v w Fault.BadRange ball stays told = told
 ball-stays v w Fault.RangeTooLong ball stays told = told
 ball-stays v w Fault.TermTooLarge ball stays told = told
 ball-stays v w (Fault.Arithmetic fault) ball stays told = told
-ball-stays v w (Fault.Thrown r) ball stays told = tells-stays v w r _ ball stays told
+ball-stays v w (Fault.Thrown r) ball stays told = tells-stays v w r thrown ball stays told
 
 -- ---- what stops a part stops the whole
 
@@ -57,6 +56,22 @@ integer-stops v stop t f h = stops-whole v stop _ _ (λ ball. found-raised (inte
 
 pub integer-is : {B : Type 0} (s : State) (t : Tree) (f : ℤ → Answer B) (n : ℤ) → integer_then s t (λ m. Ok m) ≡ Ok n → integer_then s t f ≡ f n
 integer-is s t f n e = found-is (integer_at (followed (bindings s) t)) _ f n e
+
+-- the same of two, from the left
+pub integers-stop : {M B : Type 0} (v : StoreView M) (stop : Stop) (t u : Tree) (f : ℤ → ℤ → Answer B) (m : ℤ) → integer_then v.now.state t (λ i. Ok i) ≡ Ok m → Stops v stop (integer_then v.now.state u (λ n. Ok n)) → Stops v stop (integers_then v.now.state t u f)
+integers-stop v stop t u f m e h =
+    subst (Stops v stop) (sym (integer-is v.now.state t (λ i. integer_then v.now.state u (λ n. f i n)) m e)) (integer-stops v stop u (λ n. f m n) h)
+
+pub integers-are : {B : Type 0} (s : State) (t u : Tree) (f : ℤ → ℤ → Answer B) (m n : ℤ) → integer_then s t (λ i. Ok i) ≡ Ok m → integer_then s u (λ i. Ok i) ≡ Ok n → integers_then s t u f ≡ f m n
+integers-are s t u f m n e d = integer-is s t (λ i. integer_then s u (λ j. f i j)) m e ∙ integer-is s u (λ j. f m j) n d
+
+-- ---- the value of an operation, and what follows from it
+
+pub outcome-stops : {M B : Type 0} (v : StoreView M) (o : Outcome) (fault : ArithFault) (f : ℤ → Answer B) → o ≡ Err fault → Stops v (Stop.Raised (Fault.Arithmetic fault)) (outcome_then o f)
+outcome-stops v o fault f e = (fault_term fault, ap (λ p. outcome_then p f) e, refl)
+
+pub outcome-is : {B : Type 0} (o : Outcome) (f : ℤ → Answer B) (n : ℤ) → o ≡ Ok n → outcome_then o f ≡ f n
+outcome-is o f n e = ap (λ p. outcome_then p f) e
 
 -- ---- a function that leaves the state as it is
 

@@ -44,12 +44,7 @@ fn thrown_term<S: StateStore>(alloc: Global, s: &S, term: Ref) -> Result<Term, A
 }
 
 /// The exception of a name that tells a term.
-fn exception<S: StateStore>(
-    alloc: Global,
-    s: &S,
-    name: &str,
-    term: Ref,
-) -> Result<Term, AllocError>
+fn exception<S: StateStore>(alloc: Global, s: &S, name: &str, term: Ref) -> Result<Term, AllocError>
     ensures { IfOk result (λ made. (t : Tree) → IsAcyclic (bindings (S.seen s.now).now.state) → IsTerm (S.seen s.now) term t → made ≡ exception_with name.now t (S.seen s.now).now.state) }
 {
     match copied(alloc, s, term)? {

@@ -1,7 +1,8 @@
 //! Faults of built-ins, and why a built-in has no result.
 ghost use Rattle.std.specs.Prelude.{◌≡◌};
 ghost use Rattle.pi_faults.specs.Reads.{stop_of};
-ghost use Rattle.pi_faults.specs.declared.fault.Stop.TheVariants.{Memory};
+ghost use Rattle.pi_faults.specs.declared.fault.Stop.TheVariants.{Raised, Memory};
+ghost use Rattle.pi_faults.specs.declared.fault.Fault.TheVariants.{Arithmetic};
 
 use pi_arith::ArithFault;
 use pi_states::{ReadStop, Ref};
@@ -63,6 +64,14 @@ impl<T: Drop> From<AllocFailed<T>> for Stop {
 
     fn from(_failed: AllocFailed<T>) -> Stop {
         Stop::Memory
+    }
+}
+
+impl From<ArithFault> for Stop {
+    ghost from_gives = { λ fault e. e ≡ Raised (Arithmetic fault) };
+
+    fn from(fault: ArithFault) -> Stop {
+        Stop::Raised(Fault::Arithmetic(fault))
     }
 }
 
