@@ -1,5 +1,5 @@
 -- Lists that are put cell by cell, from the last item on and from the first.
-use Rattle.std.proofs.Common.{◌≡◌, ℕ, zero, suc, ◌<◌, ◌≤◌, Bool, true, false, not, cond, List, [], ◌∷◌, ◌++◌, length, take, drop, map, reverse, get_or, min, nat_lt, inl, inr, refl, sym, ap, ◌∙◌, subst, arith, true≢false}
+use Rattle.std.proofs.Common.{◌≡◌, ℕ, suc, ◌<◌, ◌≤◌, true, false, not, cond, List, [], ◌∷◌, ◌++◌, length, take, drop, map, reverse, get_or, min, nat_lt, inl, inr, refl, sym, ap, ◌∙◌, subst, arith, true≢false}
 use Rattle.std.specs.Prelude.{codes, zip}
 use Rattle.std.specs.Ordering.{is_eq, is_ne}
 use Rattle.std.specs.declared.cmp.Ordering.{Ordering}
@@ -17,7 +17,7 @@ use Rattle.pi_effects.specs.Comparing.{is_same}
 use Rattle.pi_effects.specs.Items.{list_onto, list_of, array_of}
 use Rattle.pi_effects.specs.Collections.{without, pair}
 use Rattle.pi_lists.specs.Items.{AreItems}
-use Rattle.pi_lists.proofs.RowLemmas.{as-many, items-are-terms, ItemAt, item-at, none-behind, all-before}
+use Rattle.pi_lists.proofs.RowLemmas.{as-many, items-are-terms, ItemAt, item-at, none-behind}
 
 -- what `put_comp` of a store answers
 abbrev pub Puts : {M : Type 0} → StoreView M → StoreView M → List ℕ → List Ref → Ref → Type 0

@@ -1,33 +1,32 @@
 -- The items of collections: how many they are, the one in a place, all of them.
 use Rattle.std.proofs.Common.{◌≡◌, ℕ, ℤ, zero, suc, ◌+◌, ◌-◌, ◌<◌, ◌≤◌, true, true≢false, List, [], ◌∷◌, ◌++◌, length, take, refl, sym, ap, ◌∙◌, subst, arith, add-one}
-use Rattle.std.specs.Prelude.{Option, Some, None, Ok, Err, Vec, Result, pos, negsuc, ◌<ℤ◌, slice_get, option_map, ok_or, codes}
+use Rattle.std.specs.Prelude.{Option, Some, None, Ok, slice_get, option_map, ok_or, codes}
 use Rattle.std.specs.Option.{option_or}
 use Rattle.std.specs.List.{last_or}
-use Rattle.std.specs.declared.alloc.Global.{Global}
 use Rattle.pi_terms.specs.Tree.{Tree, var, int, atom, comp, Trees, no_trees, tree, tree_count, tree_at, args, arity, arg_at}
 use Rattle.pi_terms.specs.ListCopies.{list_cell}
 use Rattle.pi_terms.proofs.TermLemmas.{TreeAt, tree_at-below}
 use Rattle.pi_states.specs.Value.{IsAcyclic}
-use Rattle.pi_states.specs.State.{State, bindings, followed}
+use Rattle.pi_states.specs.State.{bindings, followed}
 use Rattle.pi_states.specs.Store.{StoreView, IsTerm}
 use Rattle.pi_states.specs.declared.store.Ref.{Ref}
 use Rattle.pi_effects.specs.Items.{each_tree, is_nil, array_parts, structure_parts, cell_parts, list_items, collection_items, indexed_items}
 use Rattle.pi_effects.specs.Exception.{type_error, bad_index}
 use Rattle.pi_effects.specs.Answer.{Answer, found_or, or_raised}
-use Rattle.pi_effects.specs.Collections.{collection_then, list_then, count, item_or_first_index, cell_part}
+use Rattle.pi_effects.specs.Collections.{collection_then, list_then, cell_part}
 use Rattle.pi_effects.specs.Indexing.{item_at as numbered, indexed}
 use Rattle.pi_effects.specs.Answer.{integer_then}
 use Rattle.pi_faults.specs.Balls.{IsBall}
-use Rattle.pi_faults.specs.Results.{Stops, Shows, ShowsSame, ShowsTerm}
+use Rattle.pi_faults.specs.Results.{Stops, Shows, ShowsTerm}
 use Rattle.pi_faults.specs.declared.fault.Fault.{Fault}
 use Rattle.pi_faults.specs.declared.fault.Kind.{Kind}
 use Rattle.pi_faults.specs.declared.fault.Stop.{Stop}
 use Rattle.pi_unify.specs.Terms.{HoldsNoCycle}
-use Rattle.pi_lists.specs.Items.{AreItems, HoldsItems, HasItems, ShowsItem, ShowsItems, ShowsPart, ShowsSize}
+use Rattle.pi_lists.specs.Items.{AreItems, HasItems, ShowsItem, ShowsPart, ShowsSize}
 use Rattle.pi_lists.specs.declared.parts.Part.{Part}
 use Rattle.pi_lists.specs.declared.collection.Collection.{Collection}
-use Rattle.pi_lists.proofs.RowLemmas.{as-many, one-more, item-shown, none-past, all-before}
-use Rattle.pi_faults.proofs.FaultLemmas.{stops-whole, found-raised, found-is, integer-is}
+use Rattle.pi_lists.proofs.RowLemmas.{one-more, none-past, all-before}
+use Rattle.pi_faults.proofs.FaultLemmas.{stops-whole, found-raised, found-is}
 
 -- ---- arguments as items
 

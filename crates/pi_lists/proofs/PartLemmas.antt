@@ -1,12 +1,11 @@
 -- What a store shows of a term, as a list and as an array.
-use Rattle.std.proofs.Common.{◌≡◌, ℕ, zero, suc, Bool, true, false, cond, List, [], ◌∷◌, refl, sym, ap, ◌∙◌, subst, arith, true≢false}
-use Rattle.std.specs.Prelude.{◌==◌, ◌&&◌, Option, Some, None}
+use Rattle.std.proofs.Common.{◌≡◌, ℕ, Bool, true, false, cond, List, [], ◌∷◌, refl, sym, ap, ◌∙◌, subst, arith, true≢false}
+use Rattle.std.specs.Prelude.{◌==◌, ◌&&◌, Some, None}
 use Rattle.std.specs.Str.{bytes_eq}
 use Rattle.std.proofs.lemmas.Bool.{eqb-true}
 use Rattle.std.proofs.lemmas.Slice.Eq.{bytes_eq-Decides}
-use Rattle.pi_terms.specs.Tree.{Tree, var, int, atom, comp, Trees, no_trees, tree, tree_count, args, arity}
+use Rattle.pi_terms.specs.Tree.{Tree, int, comp, Trees, no_trees, tree, tree_count, args}
 use Rattle.pi_terms.specs.ListNames.{nil, cell_name}
-use Rattle.pi_terms.specs.ListCopies.{list_cell}
 use Rattle.pi_states.specs.Store.{StoreView, IsName, ShowsCell}
 use Rattle.pi_states.specs.declared.store.Cell.{Cell}
 use Rattle.pi_print.specs.PrintTerm.{array_name}

@@ -1,7 +1,6 @@
 -- Refs of items in their order: one more, the item in a place, what is behind it.
-use Rattle.std.proofs.Common.{◌≡◌, ℕ, zero, suc, ◌+◌, ◌<◌, ◌≤◌, List, [], ◌∷◌, ◌++◌, length, take, drop, get_or, refl, sym, ap, ◌∙◌, subst, arith}
-use Rattle.std.specs.Prelude.{Option, Some, None, slice_get}
-use Rattle.std.specs.List.{AllZip}
+use Rattle.std.proofs.Common.{◌≡◌, ℕ, zero, suc, ◌<◌, ◌≤◌, List, [], ◌∷◌, ◌++◌, length, take, drop, get_or, refl, sym, ap, subst, arith}
+use Rattle.std.specs.Prelude.{None, slice_get}
 use Rattle.pi_terms.specs.Tree.{Tree, trees_of}
 use Rattle.pi_states.specs.Store.{StoreView, IsTerm, AreTerms, Keeps}
 use Rattle.pi_states.specs.declared.store.Ref.{Ref}

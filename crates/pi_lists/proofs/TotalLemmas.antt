@@ -1,6 +1,6 @@
 -- Integers that are joined from the left, item by item.
-use Rattle.std.proofs.Common.{◌≡◌, ℕ, ℤ, suc, ◌+◌, ◌<◌, ◌≤◌, List, [], ◌∷◌, length, drop, get_or, refl, sym, ap, ◌∙◌, subst, arith, add-one}
-use Rattle.std.specs.Prelude.{Option, Some, None, Ok, Err, Result, codes}
+use Rattle.std.proofs.Common.{◌≡◌, ℕ, ℤ, suc, ◌+◌, ◌<◌, ◌≤◌, List, ◌∷◌, length, drop, get_or, sym, ap, ◌∙◌, subst, arith, add-one}
+use Rattle.std.specs.Prelude.{Option, Some, None, Ok, Err, codes}
 use Rattle.pi_arith.specs.Range.{Outcome}
 use Rattle.pi_arith.specs.Value.{value_of}
 use Rattle.pi_arith.specs.declared.operation.Op.{Op}

@@ -1,10 +1,10 @@
 -- A list that is walked, cell by cell.
-use Rattle.std.proofs.Common.{◌≡◌, ℕ, Bool, true, false, cond, List, [], ◌∷◌, ◌++◌, refl, sym, ap, ◌∙◌, subst, append_assoc}
-use Rattle.std.specs.Prelude.{Option, Some, None, Ok, Err, option_map, option_and_then, Vec}
+use Rattle.std.proofs.Common.{◌≡◌, ℕ, true, cond, List, [], ◌∷◌, ◌++◌, refl, sym, ap, ◌∙◌, subst, append_assoc}
+use Rattle.std.specs.Prelude.{Option, Some, None, Ok, option_map, option_and_then, Vec}
 use Rattle.std.specs.Option.{option_or}
 use Rattle.std.specs.declared.alloc.Global.{Global}
 use Rattle.std.proofs.lemmas.List.{append-nil}
-use Rattle.pi_terms.specs.Tree.{Tree, no_trees, tree, tree_at, arg_at}
+use Rattle.pi_terms.specs.Tree.{Tree, tree_at, arg_at}
 use Rattle.pi_terms.specs.ListCopies.{list_cell}
 use Rattle.pi_states.specs.Value.{Bindings, IsAcyclic}
 use Rattle.pi_states.specs.State.{bindings, followed}
@@ -20,7 +20,7 @@ use Rattle.pi_faults.specs.declared.fault.Fault.{Fault}
 use Rattle.pi_faults.specs.declared.fault.Kind.{Kind}
 use Rattle.pi_faults.specs.declared.fault.Stop.{Stop}
 use Rattle.pi_unify.specs.Terms.{HoldsNoCycle}
-use Rattle.pi_lists.specs.Items.{AreItems, HoldsItems, ShowsItems, ShowsPart, in_front_of_all, IsWalked}
+use Rattle.pi_lists.specs.Items.{AreItems, ShowsItems, ShowsPart, in_front_of_all, IsWalked}
 use Rattle.pi_lists.specs.declared.parts.Part.{Part}
 use Rattle.pi_lists.proofs.RowLemmas.{one-more}
 

@@ -1,5 +1,5 @@
 -- The items of lists and arrays by their Refs. (Own.)
-use Rattle.std.specs.Prelude.{◌≡◌, ℕ, ℤ, Bool, true, false, List, ◌++◌, length, Option, Some, None, option_map, Vec}
+use Rattle.std.specs.Prelude.{◌≡◌, ℕ, ℤ, true, false, List, ◌++◌, length, Option, Some, None, option_map, Vec}
 use Rattle.std.specs.List.{AllZip}
 use Rattle.std.specs.declared.alloc.Global.{Global}
 use Rattle.pi_terms.specs.Tree.{Tree, int, args, arity}

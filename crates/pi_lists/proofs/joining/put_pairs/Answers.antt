@@ -1,4 +1,4 @@
-use Rattle.std.proofs.Common.{◌≡◌, ◌<◌, ◌-◌, suc, length, min, get_or, subst, arith}
+use Rattle.std.proofs.Common.{◌≡◌, ◌<◌, ◌-◌, suc, length, get_or, subst, arith}
 use Rattle.std.proofs.lemmas.List.{get_or_default}
 use Rattle.pi_states.specs.Store.{IsTerm, Stays}
 use Rattle.pi_states.specs.declared.store.Ref.{Ref}

@@ -1,4 +1,4 @@
-use Rattle.std.proofs.Common.{◌≡◌, ◌<◌, ◌≤◌, suc, length, take, reverse, get_or, sym, subst, arith, add-one}
+use Rattle.std.proofs.Common.{◌<◌, ◌≤◌, length, take, reverse, get_or, sym, subst, arith, add-one}
 use Rattle.std.proofs.lemmas.List.{get_or_default}
 use Rattle.pi_states.specs.Store.{IsTerm}
 use Rattle.pi_states.specs.declared.store.Ref.{Ref}

@@ -1,13 +1,11 @@
 use Rattle.std.proofs.Common.{ℤ, rules, refl, sym, ◌∙◌, subst}
-use Rattle.std.specs.Prelude.{ok_or}
 use Rattle.std.proofs.lemmas.Result.{err_from_is_err_and}
 use Rattle.pi_effects.specs.Exception.{bad_index}
 use Rattle.pi_terms.specs.Tree.{Tree}
 use Rattle.pi_effects.specs.Answer.{Answer, or_raised}
-use Rattle.pi_effects.specs.Indexing.{indexed, item_at as numbered}
-use Rattle.pi_faults.specs.Results.{Stops, ShowsTerm}
+use Rattle.pi_effects.specs.Indexing.{item_at as numbered}
+use Rattle.pi_faults.specs.Results.{ShowsTerm}
 use Rattle.pi_faults.specs.declared.fault.Fault.{Fault}
-use Rattle.pi_faults.specs.declared.fault.Stop.{Stop}
 use Rattle.pi_faults.proofs.FaultLemmas.{integer-stops, integer-is}
 use Rattle.pi_lists.proofs.CollectionLemmas.{index-stops, indexed-is, numbered-or}
 use Rattle.pi_lists.proofs.reading.item_at.Goals as goal

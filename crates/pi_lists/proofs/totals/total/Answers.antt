@@ -1,4 +1,4 @@
-use Rattle.std.proofs.Common.{◌≡◌, ◌<◌, length, get_or, rules, arith}
+use Rattle.std.proofs.Common.{◌<◌, length, get_or, rules, arith}
 use Rattle.std.proofs.lemmas.List.{get_or_default}
 use Rattle.std.proofs.lemmas.Result.{err_from_is_err_and}
 use Rattle.pi_states.specs.declared.store.Ref.{Ref}

@@ -1,4 +1,4 @@
-use Rattle.std.proofs.Common.{◌≡◌, ap, sym, ◌∙◌, subst}
+use Rattle.std.proofs.Common.{ap, sym, ◌∙◌, subst}
 use Rattle.std.specs.Prelude.{Option, slice_get}
 use Rattle.pi_states.specs.declared.store.Ref.{Ref}
 use Rattle.pi_lists.specs.Items.{HasItems, ShowsItem}
