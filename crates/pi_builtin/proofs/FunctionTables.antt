@@ -18,6 +18,7 @@ use Rattle.pi_effects.specs.Making.{making_functions}
 use Rattle.pi_effects.specs.BuiltIns.{reading_functions, built_in_function, is_function}
 use Rattle.pi_builtin.specs.Names.{one_name, two_name}
 use Rattle.pi_builtin.specs.Resolved.{Named, first_named, IsFunctionNamed}
+use Rattle.pi_builtin.specs.declared.functions.FunctionOfCollection.{FunctionOfCollection}
 use Rattle.pi_builtin.specs.declared.functions.FunctionOfOne.{FunctionOfOne}
 use Rattle.pi_builtin.specs.declared.functions.FunctionOfTwo.{FunctionOfTwo}
 use Rattle.pi_builtin.specs.declared.functions.Function.{Function}
@@ -32,22 +33,22 @@ functions_of_one =
     (codes "abs", FunctionOfOne.Magnitude) ∷
     (codes "sign", FunctionOfOne.Sign) ∷
     (codes "~", FunctionOfOne.Complement) ∷
-    (codes "length", FunctionOfOne.Length) ∷
-    (codes "len", FunctionOfOne.Length) ∷
-    (codes "head", FunctionOfOne.Head) ∷
-    (codes "tail", FunctionOfOne.Tail) ∷
-    (codes "first", FunctionOfOne.First) ∷
-    (codes "last", FunctionOfOne.Last) ∷
-    (codes "reverse", FunctionOfOne.Reverse) ∷
-    (codes "sum", FunctionOfOne.Sum) ∷
-    (codes "prod", FunctionOfOne.Product) ∷
-    (codes "to_list", FunctionOfOne.ToList) ∷
-    (codes "to_array", FunctionOfOne.ToArray) ∷
-    (codes "sort", FunctionOfOne.Sort) ∷
-    (codes "sort_remove_dups", FunctionOfOne.SortOnce) ∷
-    (codes "remove_dups", FunctionOfOne.EachOnce) ∷
-    (codes "min", FunctionOfOne.Least) ∷
-    (codes "max", FunctionOfOne.Greatest) ∷
+    (codes "length", FunctionOfOne.Collection FunctionOfCollection.Length) ∷
+    (codes "len", FunctionOfOne.Collection FunctionOfCollection.Length) ∷
+    (codes "head", FunctionOfOne.Collection FunctionOfCollection.Head) ∷
+    (codes "tail", FunctionOfOne.Collection FunctionOfCollection.Tail) ∷
+    (codes "first", FunctionOfOne.Collection FunctionOfCollection.First) ∷
+    (codes "last", FunctionOfOne.Collection FunctionOfCollection.Last) ∷
+    (codes "reverse", FunctionOfOne.Collection FunctionOfCollection.Reverse) ∷
+    (codes "sum", FunctionOfOne.Collection FunctionOfCollection.Sum) ∷
+    (codes "prod", FunctionOfOne.Collection FunctionOfCollection.Product) ∷
+    (codes "to_list", FunctionOfOne.Collection FunctionOfCollection.ToList) ∷
+    (codes "to_array", FunctionOfOne.Collection FunctionOfCollection.ToArray) ∷
+    (codes "sort", FunctionOfOne.Collection FunctionOfCollection.Sort) ∷
+    (codes "sort_remove_dups", FunctionOfOne.Collection FunctionOfCollection.SortOnce) ∷
+    (codes "remove_dups", FunctionOfOne.Collection FunctionOfCollection.EachOnce) ∷
+    (codes "min", FunctionOfOne.Collection FunctionOfCollection.Least) ∷
+    (codes "max", FunctionOfOne.Collection FunctionOfCollection.Greatest) ∷
     (codes "name", FunctionOfOne.Name) ∷
     (codes "arity", FunctionOfOne.Arity) ∷
     (codes "to_string", FunctionOfOne.ToString) ∷

@@ -6,6 +6,7 @@ use Rattle.pi_numbers.specs.declared.relations.Relation.{Relation}
 use Rattle.pi_kinds.specs.declared.kinds.TermKind.{TermKind}
 use Rattle.pi_kinds.specs.declared.ordering.TermRelation.{TermRelation}
 use Rattle.pi_effects.specs.Indexing.{index_name}
+use Rattle.pi_builtin.specs.declared.functions.FunctionOfCollection.{FunctionOfCollection}
 use Rattle.pi_builtin.specs.declared.functions.FunctionOfOne.{FunctionOfOne}
 use Rattle.pi_builtin.specs.declared.functions.FunctionOfTwo.{FunctionOfTwo}
 use Rattle.pi_builtin.specs.declared.functions.Function.{Function}
@@ -16,27 +17,31 @@ use Rattle.pi_builtin.specs.declared.predicates.Predicate.{Predicate}
 
 -- ---- functions
 
+-- of a list or an array
+abbrev pub collection_name : FunctionOfCollection → List ℕ
+collection_name FunctionOfCollection.Length = codes "length"
+collection_name FunctionOfCollection.Head = codes "head"
+collection_name FunctionOfCollection.Tail = codes "tail"
+collection_name FunctionOfCollection.First = codes "first"
+collection_name FunctionOfCollection.Last = codes "last"
+collection_name FunctionOfCollection.Reverse = codes "reverse"
+collection_name FunctionOfCollection.Sum = codes "sum"
+collection_name FunctionOfCollection.Product = codes "prod"
+collection_name FunctionOfCollection.ToList = codes "to_list"
+collection_name FunctionOfCollection.ToArray = codes "to_array"
+collection_name FunctionOfCollection.Sort = codes "sort"
+collection_name FunctionOfCollection.SortOnce = codes "sort_remove_dups"
+collection_name FunctionOfCollection.EachOnce = codes "remove_dups"
+collection_name FunctionOfCollection.Least = codes "min"
+collection_name FunctionOfCollection.Greatest = codes "max"
+
 abbrev pub one_name : FunctionOfOne → List ℕ
 one_name FunctionOfOne.Same = codes "+"
 one_name FunctionOfOne.Negate = codes "-"
 one_name FunctionOfOne.Magnitude = codes "abs"
 one_name FunctionOfOne.Sign = codes "sign"
 one_name FunctionOfOne.Complement = codes "~"
-one_name FunctionOfOne.Length = codes "length"
-one_name FunctionOfOne.Head = codes "head"
-one_name FunctionOfOne.Tail = codes "tail"
-one_name FunctionOfOne.First = codes "first"
-one_name FunctionOfOne.Last = codes "last"
-one_name FunctionOfOne.Reverse = codes "reverse"
-one_name FunctionOfOne.Sum = codes "sum"
-one_name FunctionOfOne.Product = codes "prod"
-one_name FunctionOfOne.ToList = codes "to_list"
-one_name FunctionOfOne.ToArray = codes "to_array"
-one_name FunctionOfOne.Sort = codes "sort"
-one_name FunctionOfOne.SortOnce = codes "sort_remove_dups"
-one_name FunctionOfOne.EachOnce = codes "remove_dups"
-one_name FunctionOfOne.Least = codes "min"
-one_name FunctionOfOne.Greatest = codes "max"
+one_name (FunctionOfOne.Collection f) = collection_name f
 one_name FunctionOfOne.Name = codes "name"
 one_name FunctionOfOne.Arity = codes "arity"
 one_name FunctionOfOne.ToString = codes "to_string"

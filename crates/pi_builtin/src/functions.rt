@@ -1,15 +1,9 @@
 //! The built-in functions. A User's Guide to Picat, 'Appendix: Predicates and Functions'; which of them are there is own.
 use pi_arith::Op;
 
-/// A function with one argument.
+/// A function of a list, most of them of an array too.
 #[derive(Clone, Copy)]
-pub enum FunctionOfOne {
-    /// `+`: an integer as it is
-    Same,
-    Negate,
-    Magnitude,
-    Sign,
-    Complement,
+pub enum FunctionOfCollection {
     Length,
     Head,
     Tail,
@@ -25,10 +19,23 @@ pub enum FunctionOfOne {
     SortOnce,
     /// `remove_dups`
     EachOnce,
-    /// `min`, of a collection
+    /// `min`
     Least,
-    /// `max`, of a collection
+    /// `max`
     Greatest,
+}
+
+/// A function with one argument.
+#[derive(Clone, Copy)]
+pub enum FunctionOfOne {
+    /// `+`: an integer as it is
+    Same,
+    Negate,
+    Magnitude,
+    Sign,
+    Complement,
+    /// A function of a list or an array.
+    Collection(FunctionOfCollection),
     Name,
     Arity,
     ToString,

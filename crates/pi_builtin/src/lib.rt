@@ -5,6 +5,6 @@ mod functions;
 mod lookup;
 mod predicates;
 
-pub use functions::{Function, FunctionOfOne, FunctionOfTwo};
+pub use functions::{Function, FunctionOfCollection, FunctionOfOne, FunctionOfTwo};
 pub use lookup::{function_named, predicate_named};
 pub use predicates::{Predicate, PredicateOfNone, PredicateOfOne, PredicateOfTwo};

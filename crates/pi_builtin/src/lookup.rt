@@ -4,7 +4,7 @@ ghost use Rattle.pi_effects.specs.BuiltIns.{is_function, is_predicate};
 ghost use Rattle.pi_builtin.specs.Names.{takes};
 ghost use Rattle.pi_builtin.specs.Resolved.{IsFunctionNamed, IsPredicateNamed, rows_shown, first_named};
 
-use crate::functions::{Function, FunctionOfOne, FunctionOfTwo};
+use crate::functions::{Function, FunctionOfCollection, FunctionOfOne, FunctionOfTwo};
 use crate::predicates::{Predicate, PredicateOfNone, PredicateOfOne, PredicateOfTwo};
 use pi_arith::Op;
 use pi_kinds::{TermKind, TermRelation};
@@ -19,22 +19,67 @@ const FUNCTIONS_OF_ONE: [Row<FunctionOfOne>; 27] = [
     ("abs", FunctionOfOne::Magnitude),
     ("sign", FunctionOfOne::Sign),
     ("~", FunctionOfOne::Complement),
-    ("length", FunctionOfOne::Length),
-    ("len", FunctionOfOne::Length),
-    ("head", FunctionOfOne::Head),
-    ("tail", FunctionOfOne::Tail),
-    ("first", FunctionOfOne::First),
-    ("last", FunctionOfOne::Last),
-    ("reverse", FunctionOfOne::Reverse),
-    ("sum", FunctionOfOne::Sum),
-    ("prod", FunctionOfOne::Product),
-    ("to_list", FunctionOfOne::ToList),
-    ("to_array", FunctionOfOne::ToArray),
-    ("sort", FunctionOfOne::Sort),
-    ("sort_remove_dups", FunctionOfOne::SortOnce),
-    ("remove_dups", FunctionOfOne::EachOnce),
-    ("min", FunctionOfOne::Least),
-    ("max", FunctionOfOne::Greatest),
+    (
+        "length",
+        FunctionOfOne::Collection(FunctionOfCollection::Length),
+    ),
+    (
+        "len",
+        FunctionOfOne::Collection(FunctionOfCollection::Length),
+    ),
+    (
+        "head",
+        FunctionOfOne::Collection(FunctionOfCollection::Head),
+    ),
+    (
+        "tail",
+        FunctionOfOne::Collection(FunctionOfCollection::Tail),
+    ),
+    (
+        "first",
+        FunctionOfOne::Collection(FunctionOfCollection::First),
+    ),
+    (
+        "last",
+        FunctionOfOne::Collection(FunctionOfCollection::Last),
+    ),
+    (
+        "reverse",
+        FunctionOfOne::Collection(FunctionOfCollection::Reverse),
+    ),
+    ("sum", FunctionOfOne::Collection(FunctionOfCollection::Sum)),
+    (
+        "prod",
+        FunctionOfOne::Collection(FunctionOfCollection::Product),
+    ),
+    (
+        "to_list",
+        FunctionOfOne::Collection(FunctionOfCollection::ToList),
+    ),
+    (
+        "to_array",
+        FunctionOfOne::Collection(FunctionOfCollection::ToArray),
+    ),
+    (
+        "sort",
+        FunctionOfOne::Collection(FunctionOfCollection::Sort),
+    ),
+    (
+        "sort_remove_dups",
+        FunctionOfOne::Collection(FunctionOfCollection::SortOnce),
+    ),
+    (
+        "remove_dups",
+        FunctionOfOne::Collection(FunctionOfCollection::EachOnce),
+    ),
+    (
+        "min",
+        FunctionOfOne::Collection(FunctionOfCollection::Least),
+    ),
+    (
+        "max",
+        FunctionOfOne::Collection(FunctionOfCollection::Greatest),
+    ),
     ("name", FunctionOfOne::Name),
     ("arity", FunctionOfOne::Arity),
     ("to_string", FunctionOfOne::ToString),
