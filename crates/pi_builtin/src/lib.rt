@@ -1,0 +1,10 @@
+//! The built-in predicates and functions, and which of them a name is.
+#![tactic(auto)]
+
+mod functions;
+mod lookup;
+mod predicates;
+
+pub use functions::{Function, FunctionOfCollection, FunctionOfOne, FunctionOfTwo};
+pub use lookup::{function_named, predicate_named};
+pub use predicates::{Predicate, PredicateOfNone, PredicateOfOne, PredicateOfTwo};

@@ -1,0 +1,2 @@
+mod BallLemmas
+pub mod FaultLemmas

@@ -1,0 +1,3 @@
+pub mod Balls
+pub mod Reads
+pub mod Results

@@ -1,0 +1,4 @@
+mod KindLemmas
+mod ClosedLemmas
+mod EqualityLemmas
+mod NamingLemmas

@@ -1,0 +1,6 @@
+pub mod RowLemmas
+pub mod PartLemmas
+pub mod WalkLemmas
+pub mod CollectionLemmas
+pub mod BuildLemmas
+pub mod TotalLemmas

@@ -1,0 +1,5 @@
+pub mod MergeLemmas
+pub mod OnceLemmas
+pub mod LoopLemmas
+pub mod PlacedLemmas
+pub mod ExtremeLemmas
