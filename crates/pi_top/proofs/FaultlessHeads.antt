@@ -12,7 +12,7 @@ use Rattle.pi_lib.specs.Forms.{is_form}
 use Rattle.pi_lib.specs.Names.{kind_of}
 use Rattle.pi_clauses.specs.Calls.{Named}
 use Rattle.pi_clauses.specs.Items.{head_of, is_head, has_bad_head}
-use Rattle.pi_clauses.specs.Operators.{is_goal_sign, is_relation, is_membership, is_operator}
+use Rattle.pi_clauses.specs.Operators.{is_goal_sign, is_relation, is_reified, is_membership, is_operator}
 use Rattle.pi_clauses.specs.Reading.{Reading, too_deep, misdeclared_part, no_clause, imports_part, written, WrittenPart}
 use Rattle.pi_clauses.specs.Verdict.{PartFault, Faulty, Unknown, Verdict, a_program, part_is_faulty, is_scattered, is_unknown, JudgedPart, libraries, one_clause, judged_clause, judged, clause_in, is_built_in, is_built_in_signature, declares_badly, is_bad_clause, clause_fault, part_fault, faulty_or, first_faulty, first_apart, first_unknown_in, all_defined, parts_of, verdict_by, verdict, HasVerdict}
 use Rattle.pi_names.specs.NameLaws.{is_taken, HeadsAreFree}
@@ -32,7 +32,7 @@ two-signs name first second k j a b h =
     one-of (bytes_eq name first) (bytes_eq name second) (is_operator name k) (λ e. sign-named name first k j parts.0 e a) (λ e. sign-named name second k j parts.0 e b) parts.1
 
 form-is-sign : (name : List ℕ) (k : ℕ) → is_form name k ≡ true → is_operator name k ≡ true
-unfolding is_operator is_goal_sign is_relation is_membership
+unfolding is_operator is_goal_sign is_relation is_reified is_membership
 form-is-sign name k h =
     one-of (k == 1 && (bytes_eq name (codes "not") || bytes_eq name (codes "once"))) (k == 2 && (bytes_eq name (codes ":=") || bytes_eq name (codes "in"))) (is_operator name k)
     (two-signs name (codes "not") (codes "once") k 1 refl refl) (two-signs name (codes ":=") (codes "in") k 2 refl refl) h
