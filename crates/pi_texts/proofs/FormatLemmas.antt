@@ -1,8 +1,8 @@
 -- Formats and their arguments.
-use Rattle.std.proofs.Common.{◌≡◌, ℕ, ℤ, zero, suc, ◌+◌, ◌*◌, ◌<◌, ◌≤◌, Bool, true, false, cond, List, [], ◌∷◌, ◌++◌, length, drop, Some, None, Ok, Err, refl, ap, sym, ◌∙◌, subst, arith}
-use Rattle.std.specs.Prelude.{nat_lt, Option, codes, slice_get}
+use Rattle.std.proofs.Common.{◌≡◌, ℕ, ℤ, zero, suc, ◌+◌, ◌<◌, ◌≤◌, Bool, true, false, cond, List, [], ◌∷◌, length, drop, Ok, Err, refl, ap, sym, ◌∙◌, arith}
+use Rattle.std.specs.Prelude.{nat_lt, codes, slice_get}
 use Rattle.std.specs.Fmt.{signed_decimal}
-use Rattle.pi_terms.specs.Tree.{Tree, var, int, atom, comp, Trees, no_trees, tree, cells, most_cells}
+use Rattle.pi_terms.specs.Tree.{Tree, int, comp, Trees, no_trees, tree, cells, most_cells}
 use Rattle.pi_terms.specs.Copy.{copy}
 use Rattle.pi_states.specs.State.{State, bindings}
 use Rattle.pi_states.specs.Value.{value}
@@ -11,7 +11,7 @@ use Rattle.pi_states.specs.declared.store.Ref.{Ref}
 use Rattle.pi_states.specs.declared.store.Cell.{Cell}
 use Rattle.pi_print.specs.PrintTerm.{is_characters, characters}
 use Rattle.pi_effects.specs.Answer.{Answer, measured}
-use Rattle.pi_effects.specs.Exception.{term_too_large, raised_of, exception_with, bad_format}
+use Rattle.pi_effects.specs.Exception.{term_too_large, exception_with, bad_format}
 use Rattle.pi_effects.specs.Items.{each_tree}
 use Rattle.pi_effects.specs.Format.{Form, a_text, an_integer, Piece, plain_byte, argument, no_sign, argument_text, in_front, filled_in, pieces, formatted}
 use Rattle.pi_faults.specs.declared.fault.Fault.{Fault}

@@ -1,15 +1,12 @@
 -- A text as the list of its characters, from the last one on.
-use Rattle.std.proofs.Common.{◌≡◌, ℕ, zero, suc, ◌+◌, ◌<◌, ◌≤◌, List, [], ◌∷◌, length, map, drop, get_or, Some, refl, ap, sym, ◌∙◌, subst, arith, add-one}
+use Rattle.std.proofs.Common.{◌≡◌, ℕ, zero, suc, ◌+◌, ◌<◌, ◌≤◌, List, [], ◌∷◌, length, map, drop, get_or, Some, refl, ap, sym, ◌∙◌, arith, add-one}
 use Rattle.std.specs.Char.{encode_utf8}
-use Rattle.std.specs.Str.{chars}
 use Rattle.std.proofs.Math.Seq.{drop-cons}
 use Rattle.pi_terms.specs.Tree.{Tree, Trees, no_trees, tree, atom, comp}
 use Rattle.pi_terms.specs.ListNames.{nil, cell_name}
-use Rattle.pi_terms.specs.ListCopies.{list_cell}
 use Rattle.pi_states.specs.Store.{StoreView, IsTerm, AreTerms}
 use Rattle.pi_states.specs.declared.store.Ref.{Ref}
 use Rattle.pi_effects.specs.Items.{list_onto, list_of}
-use Rattle.pi_effects.specs.Texts.{text_list}
 
 -- the list of these characters
 abbrev pub list_for : List ℕ → Tree

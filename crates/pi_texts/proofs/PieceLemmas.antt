@@ -1,7 +1,6 @@
 -- Pieces of a format, and what is filled in for them.
-use Rattle.std.proofs.Common.{◌≡◌, ◌≢◌, ℕ, zero, suc, ◌+◌, ◌<◌, ◌≤◌, ◌==◌, Bool, true, false, cond, List, [], ◌∷◌, ◌++◌, length, get_or, drop, inl, inr, refl, ap, sym, ◌∙◌, subst, arith, append_assoc, length-append}
-use Rattle.std.specs.Prelude.{nat_lt, map, Result, Ok, Err}
-use Rattle.std.specs.Str.{byte}
+use Rattle.std.proofs.Common.{◌≡◌, ◌≢◌, ℕ, suc, ◌<◌, ◌≤◌, ◌==◌, Bool, true, false, cond, List, [], ◌∷◌, ◌++◌, length, get_or, inl, inr, refl, ap, sym, ◌∙◌, arith, append_assoc, length-append}
+use Rattle.std.specs.Prelude.{nat_lt, map, Ok, Err}
 use Rattle.std.specs.Char.{encode_utf8}
 use Rattle.std.proofs.lemmas.Bool.{cases_Bool, ltb-true, ltb-false}
 use Rattle.std.proofs.lemmas.Bool.Decides.{nat_tests}
@@ -10,7 +9,7 @@ use Rattle.std.proofs.lemmas.Str.{encode_ascii, char_from_byte, length-encode, l
 use Rattle.pi_terms.specs.Tree.{Tree}
 use Rattle.pi_states.specs.State.{State}
 use Rattle.pi_effects.specs.Answer.{Answer}
-use Rattle.pi_effects.specs.Format.{Piece, plain_byte, argument, no_sign, sign, unless_percent, pieces, in_front, filled_in}
+use Rattle.pi_effects.specs.Format.{Piece, plain_byte, no_sign, sign, pieces, in_front, filled_in}
 
 -- ---- the letter behind a `%`
 

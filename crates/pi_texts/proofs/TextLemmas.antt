@@ -1,6 +1,6 @@
 -- Terms that are read, and their texts.
 use Rattle.std.specs.Prelude.{nat_lt}
-use Rattle.std.proofs.Common.{◌≡◌, ℕ, ◌<◌, ◌≤◌, Bool, true, false, cond, List, ◌++◌, Ok, Err, refl, ap, sym, ◌∙◌, subst, lt-ltb}
+use Rattle.std.proofs.Common.{◌≡◌, ℕ, ◌<◌, ◌≤◌, Bool, true, false, cond, List, Ok, Err, refl, ap, sym, ◌∙◌, subst, lt-ltb}
 use Rattle.pi_terms.specs.Tree.{Tree, cells, most_cells}
 use Rattle.pi_terms.proofs.OptionLemmas.{not-less}
 use Rattle.pi_states.specs.Store.{StoreView, ShowsRead}

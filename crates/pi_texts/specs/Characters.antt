@@ -1,5 +1,5 @@
 -- What the walk over a text finds, for the private functions of this crate.
-use Rattle.std.specs.Prelude.{◌≡◌, ℕ, suc, ◌+◌, ◌*◌, ◌==◌, Bool, true, false, List, length, Option, Some, None}
+use Rattle.std.specs.Prelude.{◌≡◌, ℕ, suc, ◌*◌, ◌==◌, true, false, List, length, Option, Some, None}
 use Rattle.std.specs.Str.{chars}
 use Rattle.pi_terms.specs.Tree.{Tree, atom, cells}
 use Rattle.pi_terms.specs.ListNames.{nil}

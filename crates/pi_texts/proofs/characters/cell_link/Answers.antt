@@ -1,4 +1,4 @@
-use Rattle.std.proofs.Common.{◌≡◌, ◌==◌, true, false, length, ap, sym, ◌∙◌}
+use Rattle.std.proofs.Common.{◌≡◌, ◌==◌, false, length, ap, sym, ◌∙◌}
 use Rattle.std.specs.Str.{chars}
 use Rattle.pi_terms.specs.ListCopies.{list_cell}
 use Rattle.pi_states.specs.Store.{ShowsCell}

@@ -1,4 +1,4 @@
-use Rattle.std.proofs.Common.{◌≡◌, ◌≢◌, ◌+◌, ◌∷◌, ◌++◌, List, true, false, length, drop, ap, sym, ◌∙◌, subst, arith, rules, refl}
+use Rattle.std.proofs.Common.{◌≡◌, ◌∷◌, List, false, drop, ap, sym, ◌∙◌, subst, arith, rules, refl}
 use Rattle.std.specs.Prelude.{slice_get, option_copied, Option, Ok}
 use Rattle.std.specs.String.{string_bytes}
 use Rattle.std.proofs.lemmas.Result.{err_from_is_err_and}

@@ -1,4 +1,4 @@
-use Rattle.std.proofs.Common.{◌≡◌, ◌-◌, arith, refl}
+use Rattle.std.proofs.Common.{◌-◌, arith}
 use Rattle.pi_unify.proofs.KeepsLemmas.{stays_then}
 use Rattle.pi_texts.proofs.ListLemmas.{no_characters, one_character}
 use Rattle.pi_texts.proofs.lists.put_characters.Goals as goal
