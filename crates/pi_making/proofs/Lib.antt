@@ -1,0 +1,6 @@
+mod StoreLemmas
+mod RangeLemmas
+mod SizeLemmas
+mod ListLemmas
+mod GridLemmas
+mod CopyLemmas

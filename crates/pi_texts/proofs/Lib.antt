@@ -1,0 +1,6 @@
+mod PieceLemmas
+mod WalkLemmas
+mod TextLemmas
+mod FormatLemmas
+mod FillLemmas
+mod ListLemmas
