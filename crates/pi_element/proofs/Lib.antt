@@ -1,0 +1,3 @@
+mod JoinLemmas
+mod ItemLemmas
+mod ElementLemmas
