@@ -73,18 +73,22 @@ not_less x y i j h = by_lt_z x y (λ l. absurd (grind (arith, ints))) (λ l. l)
 neighbours : (fixed : List (ℤ × ℕ)) → IsSorted (λ x y. ordering_then (int_cmp x.0 y.0) (nat_cmp x.1 y.1)) fixed → (k : ℕ) (d : ℤ × ℕ) → k + 1 < length fixed → (get_or fixed k d).0 ≤ℤ (get_or fixed (k + 1) d).0
 neighbours fixed up k d l = not_less ((get_or fixed (k + 1) d).0) ((get_or fixed k d).0) ((get_or fixed (k + 1) d).1) ((get_or fixed k d).1) (up k d (omega arith) l)
 
-rise_far : (fixed : List (ℤ × ℕ)) → ((k : ℕ) (d : ℤ × ℕ) → k + 1 < length fixed → (get_or fixed k d).0 ≤ℤ (get_or fixed (k + 1) d).0) → (i m : ℕ) (d : ℤ × ℕ) → i + m < length fixed → (get_or fixed i d).0 ≤ℤ (get_or fixed (i + m) d).0
-rise_far fixed up i zero d l = let same : i ≡ i + 0 = omega arith in subst (λ (k : ℕ). (get_or fixed i d).0 ≤ℤ (get_or fixed k d).0) same (omega (arith, ints))
-rise_far fixed up i (suc m) d l =
-    let before = rise_far fixed up i m d (omega arith) in
+rise_far : {X : Type 0} (f : X → ℤ) (xs : List X) → ((k : ℕ) (d : X) → k + 1 < length xs → f (get_or xs k d) ≤ℤ f (get_or xs (k + 1) d)) → (i m : ℕ) (d : X) → i + m < length xs → f (get_or xs i d) ≤ℤ f (get_or xs (i + m) d)
+rise_far {X} f xs up i zero d l = let same : i ≡ i + 0 = omega arith in subst (λ (k : ℕ). f (get_or xs i d) ≤ℤ f (get_or xs k d)) same (omega (arith, ints))
+rise_far {X} f xs up i (suc m) d l =
+    let before = rise_far f xs up i m d (omega arith) in
     let step = up (i + m) d (omega arith) in
     let same : (i + m) + 1 ≡ i + suc m = omega arith in
-    subst (λ (k : ℕ). (get_or fixed i d).0 ≤ℤ (get_or fixed k d).0) same (omega (arith, ints))
+    subst (λ (k : ℕ). f (get_or xs i d) ≤ℤ f (get_or xs k d)) same (omega (arith, ints))
+
+-- where no item has less than the one before it, none has less than any before it
+pub ascend_far : {X : Type 0} (f : X → ℤ) (xs : List X) → ((k : ℕ) (d : X) → k + 1 < length xs → f (get_or xs k d) ≤ℤ f (get_or xs (k + 1) d)) → (i j : ℕ) (d : X) → i ≤ j → j < length xs → f (get_or xs i d) ≤ℤ f (get_or xs j d)
+ascend_far {X} f xs up i j d l m =
+    let same : i + (j - i) ≡ j = omega arith in
+    subst (λ (k : ℕ). f (get_or xs i d) ≤ℤ f (get_or xs k d)) same (rise_far f xs up i (j - i) d (omega arith))
 
 pub sorted_ascend : (fixed : List (ℤ × ℕ)) → IsSorted (λ x y. ordering_then (int_cmp x.0 y.0) (nat_cmp x.1 y.1)) fixed → AscendByValue fixed
-sorted_ascend fixed up i j d l m =
-    let same : i + (j - i) ≡ j = omega arith in
-    subst (λ (k : ℕ). (get_or fixed i d).0 ≤ℤ (get_or fixed k d).0) same (rise_far fixed (neighbours fixed up) i (j - i) d (omega arith))
+sorted_ascend fixed up = ascend_far (λ (x : ℤ × ℕ). x.0) fixed (neighbours fixed up)
 
 -- no value below a number comes behind one that isn't
 pub IsPartitionedBy-below : (fixed : List (ℤ × ℕ)) (lo : ℤ) → AscendByValue fixed → IsPartitionedBy (λ x. int_lt x.0 lo) fixed

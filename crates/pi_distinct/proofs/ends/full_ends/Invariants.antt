@@ -1,0 +1,10 @@
+use Rattle.std.proofs.Common.{◌≡◌, ◌≤◌, take}
+use Rattle.pi_distinct.proofs.IntervalLemmas.{FullBefore, count_from}
+use Rattle.pi_distinct.proofs.ends.full_ends.Given as goal
+
+abbrev pub invariant-loop-i : goal.invariant-loop-i
+invariant-loop-i l = record {
+  full : FullBefore l.a l.sorted l.i l.full.items;
+  count : l.count ≡ count_from l.a (take l.i l.sorted);
+  few : l.count ≤ l.i;
+}
