@@ -12,6 +12,9 @@ mod words;
 
 use pi_cases::Case;
 
+pub use bench::Bench;
+pub use stores::{show, take_store_step, tell_read};
+
 /// Answers a case of terms or stores, in a file with this text, and tells whether the subject is one of such cases.
 pub fn answer_words(subject: &str, text: &str, case: &mut Case<'_>) -> bool {
     match subject {

@@ -10,6 +10,8 @@ mod showing;
 mod state;
 mod terms;
 
+pub use showing::{show, tell_read};
+
 use crate::bench::Bench;
 use pi_cases::Case;
 use pi_types::{StateStore, TreeStore};
@@ -27,15 +29,20 @@ pub fn answer(case: &mut Case<'_>) {
 pub fn take_steps<S: StateStore>(case: &mut Case<'_>, bench: &mut Bench<S>) {
     for _ in 0..case.steps() {
         let name = case.take_word();
-        let is_known = terms::take_step(case, bench, name)
-            || looks::take_step(case, bench, name)
-            || matches::take_step(case, bench, name)
-            || state::take_step(case, bench, name)
-            || marks::take_step(case, bench, name)
-            || agents::take_step(case, bench, name);
-        if !is_known {
-            case.lacks("a known step");
-        }
+        take_store_step(case, bench, name);
         case.take_step_end();
+    }
+}
+
+/// Takes one step, which has this name.
+pub fn take_store_step<S: StateStore>(case: &mut Case<'_>, bench: &mut Bench<S>, name: &str) {
+    let is_known = terms::take_step(case, bench, name)
+        || looks::take_step(case, bench, name)
+        || matches::take_step(case, bench, name)
+        || state::take_step(case, bench, name)
+        || marks::take_step(case, bench, name)
+        || agents::take_step(case, bench, name);
+    if !is_known {
+        case.lacks("a known step");
     }
 }

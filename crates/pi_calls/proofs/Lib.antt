@@ -1,0 +1,4 @@
+mod FunctionCalls
+mod FunctionBodies
+mod PredicateBodies
+mod RunLemmas

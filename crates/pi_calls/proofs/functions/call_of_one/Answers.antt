@@ -1,0 +1,57 @@
+use Rattle.std.proofs.Common.{refl}
+use Rattle.pi_builtin.specs.declared.functions.FunctionOfOne.{FunctionOfOne}
+use Rattle.pi_calls.proofs.FunctionBodies.{one-shown, one-made}
+use Rattle.pi_calls.proofs.functions.call_of_one.Goals as goal
+
+pub returns-in-Same-clause-shows : goal.returns-in-Same-clause-shows
+returns-in-Same-clause-shows g c = λ t e a is done.
+    one-shown (g.S.StateStore.seen c.args.s.now) (g.S.StateStore.seen c.same_integer.new.s) c.same_integer.result c.args.function FunctionOfOne.Same t e _ c.in-Same.is refl c.same_integer.ensures.stays (c.same_integer.ensures.shows t a is) done
+
+pub returns-in-Negate-clause-shows : goal.returns-in-Negate-clause-shows
+returns-in-Negate-clause-shows g c = λ t e a is done.
+    one-shown (g.S.StateStore.seen c.args.s.now) (g.S.StateStore.seen c.evaluate_one.new.s) c.evaluate_one.result c.args.function FunctionOfOne.Negate t e _ c.in-Negate.is refl c.evaluate_one.ensures.stays (c.evaluate_one.ensures.shows t a is) done
+
+pub returns-in-Magnitude-clause-shows : goal.returns-in-Magnitude-clause-shows
+returns-in-Magnitude-clause-shows g c = λ t e a is done.
+    one-shown (g.S.StateStore.seen c.args.s.now) (g.S.StateStore.seen c.evaluate_one-in-Magnitude.new.s) c.evaluate_one-in-Magnitude.result c.args.function FunctionOfOne.Magnitude t e _ c.in-Magnitude.is refl c.evaluate_one-in-Magnitude.ensures.stays (c.evaluate_one-in-Magnitude.ensures.shows t a is) done
+
+pub returns-in-Sign-clause-shows : goal.returns-in-Sign-clause-shows
+returns-in-Sign-clause-shows g c = λ t e a is done.
+    one-shown (g.S.StateStore.seen c.args.s.now) (g.S.StateStore.seen c.evaluate_one-in-Sign.new.s) c.evaluate_one-in-Sign.result c.args.function FunctionOfOne.Sign t e _ c.in-Sign.is refl c.evaluate_one-in-Sign.ensures.stays (c.evaluate_one-in-Sign.ensures.shows t a is) done
+
+pub returns-in-Complement-clause-shows : goal.returns-in-Complement-clause-shows
+returns-in-Complement-clause-shows g c = λ t e a is done.
+    one-shown (g.S.StateStore.seen c.args.s.now) (g.S.StateStore.seen c.evaluate_one-in-Complement.new.s) c.evaluate_one-in-Complement.result c.args.function FunctionOfOne.Complement t e _ c.in-Complement.is refl c.evaluate_one-in-Complement.ensures.stays (c.evaluate_one-in-Complement.ensures.shows t a is) done
+
+pub returns-in-Name-clause-shows : goal.returns-in-Name-clause-shows
+returns-in-Name-clause-shows g c = λ t e a is done.
+    one-shown (g.S.StateStore.seen c.args.s.now) (g.S.StateStore.seen c.name_of.new.s) c.name_of.result c.args.function FunctionOfOne.Name t e _ c.in-Name.is refl c.name_of.ensures.stays (c.name_of.ensures.shows t a is) done
+
+pub returns-in-Arity-clause-shows : goal.returns-in-Arity-clause-shows
+returns-in-Arity-clause-shows g c = λ t e a is done.
+    one-shown (g.S.StateStore.seen c.args.s.now) (g.S.StateStore.seen c.arity_of.new.s) c.arity_of.result c.args.function FunctionOfOne.Arity t e _ c.in-Arity.is refl c.arity_of.ensures.stays (c.arity_of.ensures.shows t a is) done
+
+pub returns-in-ToString-clause-shows : goal.returns-in-ToString-clause-shows
+returns-in-ToString-clause-shows g c = λ t e a is done.
+    one-shown (g.S.StateStore.seen c.args.s.now) (g.S.StateStore.seen c.to_string.new.s) c.to_string.result c.args.function FunctionOfOne.ToString t e _ c.in-ToString.is refl c.to_string.ensures.stays (c.to_string.ensures.shows t a is) done
+
+pub returns-in-NewList-clause-shows : goal.returns-in-NewList-clause-shows
+returns-in-NewList-clause-shows g c = λ t e a is done.
+    one-made (g.S.StateStore.seen c.args.s.now) (g.S.StateStore.seen c.new_list.new.s) c.new_list.result c.args.function FunctionOfOne.NewList t e c.in-NewList.is (c.new_list.ensures.shows t a is) done
+
+pub returns-in-NewList-clause-keeps : goal.returns-in-NewList-clause-keeps
+returns-in-NewList-clause-keeps g c = c.new_list.ensures.makes.1.keeps
+
+pub returns-in-NewArray-clause-shows : goal.returns-in-NewArray-clause-shows
+returns-in-NewArray-clause-shows g c = λ t e a is done.
+    one-made (g.S.StateStore.seen c.args.s.now) (g.S.StateStore.seen c.new_array.new.s) c.new_array.result c.args.function FunctionOfOne.NewArray t e c.in-NewArray.is (c.new_array.ensures.shows t a is) done
+
+pub returns-in-NewArray-clause-keeps : goal.returns-in-NewArray-clause-keeps
+returns-in-NewArray-clause-keeps g c = c.new_array.ensures.makes.1.keeps
+
+pub returns-in-CopyTerm-clause-shows : goal.returns-in-CopyTerm-clause-shows
+returns-in-CopyTerm-clause-shows g c = λ t e a is done.
+    one-made (g.S.StateStore.seen c.args.s.now) (g.S.StateStore.seen c.copy_term.new.s) c.copy_term.result c.args.function FunctionOfOne.CopyTerm t e c.in-CopyTerm.is (c.copy_term.ensures.shows t a is) done
+
+pub returns-in-CopyTerm-clause-keeps : goal.returns-in-CopyTerm-clause-keeps
+returns-in-CopyTerm-clause-keeps g c = c.copy_term.ensures.makes.1.keeps
