@@ -1,23 +1,23 @@
 -- What full intervals take, and what the filter of `all_distinct` keeps.
-use Rattle.std.specs.Prelude.{◌≡◌, ◌≢◌, ◌↔◌, ◌⊎◌, ℕ, zero, suc, ◌+◌, ◌-◌, ◌<◌, ◌≤◌, Bool, true, false, ◌&&◌, cond, IsTrue, List, [], ◌∷◌, length, map, get_or, All, Contains, ℤ, pos, ◌+ℤ◌, ◌≤ℤ◌, ◌<ℤ◌, int_le, refl}
+use Rattle.std.specs.Prelude.{◌≡◌, ◌≢◌, ◌↔◌, ◌⊎◌, ℕ, zero, suc, ◌+◌, ◌-◌, ◌<◌, Bool, true, false, ◌&&◌, cond, List, [], ◌∷◌, length, All, Contains, ℤ, pos, ◌+ℤ◌, ◌≤ℤ◌, ◌<ℤ◌, int_le, refl}
 use Rattle.std.specs.Int.{int_gap}
-use Rattle.std.specs.List.{sum_by}
 use Rattle.std.specs.List.Sorted.{IsPermutation}
 use Rattle.std.proofs.Common.{arith, sym, ◌∙◌, ap, subst, inl, inr}
-use Rattle.std.proofs.lemmas.Bool.{cases_Bool, cases_eq, and_parts, and_from}
+use Rattle.std.proofs.lemmas.Bool.{cases_Bool, cases_eq, and_parts}
 use Rattle.std.proofs.lemmas.Int.{ints, by_lt_z}
 use Rattle.std.proofs.lemmas.List.{length-map}
 use Rattle.std.proofs.lemmas.List.Sums.{sum_by-cons}
 use Rattle.std.proofs.lemmas.List.Sorted.{All-permutation, sum_by-IsPermutation}
 use Rattle.pi_constraints.proofs.DomainLemmas.{gap_is}
 use Rattle.pi_constraints.specs.declared.domain.Span.{Span}
-use Rattle.pi_constraints.specs.Domain.{has_value}
 use Rattle.pi_filters.specs.Ends.{least_of, greatest_of}
 use Rattle.pi_filters.specs.Places.{domain_at}
 use Rattle.pi_filters.specs.Rules.{lies_within, count_within, width, IntervalKeeps, DifferentKeeps, DistinctKeeps}
 use Rattle.pi_places.specs.Changes.{AreFiltered, AreEmptied}
 use Rattle.pi_places.proofs.KeepLemmas.{filtered_like, filtered_then, filtered_out}
-use Rattle.pi_distinct.specs.Intervals.{ends_of, IsEnds, is_inside, count_inside, IsOverfull, HasRoom, IsFull, AreFullEnds, IsOutside, IsOutsideFull}
+use Rattle.pi_distinct.specs.Intervals.{ends_of, IsEnds, is_inside, count_inside, HasRoom, IsFull, AreFullEnds, IsOutside, IsOutsideFull}
+use Rattle.pi_distinct.proofs.CountLemmas.{one_if}
+use Rattle.pi_distinct.proofs.FullLemmas.{not_in_none}
 use Rattle.pi_distinct.specs.Taken.{ends_at, least_at, AreTakenFrom, AreTaken}
 
 -- ---- the intervals that begin with a number
@@ -30,11 +30,8 @@ taken_from a ends sorted full ds es f g =
     (f.room, filtered_like (λ k. IsOutside a full (ends_at ends k)) (λ k. IsOutsideFull a sorted (ends_at ends k)) ds es (λ k n l h. outside_full a sorted full (ends_at ends k) n f) g)
 
 -- where there is none nothing goes
-none_in : (b : ℤ) → Contains {X = ℤ} [] b → ⊥
-none_in b (k, l, e) = omega arith
-
 pub none_taken : (a : ℤ) (ends : List (ℤ × ℤ)) (full : List ℤ) (ds : List (List Span)) → full ≡ [] → AreFiltered (λ k. IsOutside a full (ends_at ends k)) ds ds
-none_taken a ends full ds e = record { count = refl; kept = λ k n l. (λ t. (t, λ b c o i. none_in b (subst (λ (x : List ℤ). Contains x b) e c)), λ p. p.0) }
+none_taken a ends full ds e = record { count = refl; kept = λ k n l. (λ t. (t, λ b c o i. not_in_none b (subst (λ (x : List ℤ). Contains x b) e c)), λ p. p.0) }
 
 -- ---- one number after another
 
@@ -119,9 +116,6 @@ least_or_not a [] = inr (λ i l. absurd (omega arith))
 least_or_not a (e ∷ es) = by_lt_z e.1 a
     (λ l. behind_other a e es (λ s. omega (arith, ints)) (least_or_not a es))
     (λ l. by_lt_z a e.1 (λ m. behind_other a e es (λ s. omega (arith, ints)) (least_or_not a es)) (λ m. inl (0, omega arith, omega (arith, ints))))
-
-abbrev one_if : Bool → ℕ
-one_if b = cond b 1 0
 
 same_from : (a x : ℤ) → x ≢ a → int_le a x ≡ int_le (a +ℤ pos 1) x
 same_from a x o = by_lt_z x a

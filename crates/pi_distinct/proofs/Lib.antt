@@ -1,2 +1,6 @@
-pub mod IntervalLemmas
+pub mod CountLemmas
+pub mod FullLemmas
+pub mod EndLemmas
+pub mod OutsideLemmas
+pub mod TurnLemmas
 pub mod DistinctLemmas

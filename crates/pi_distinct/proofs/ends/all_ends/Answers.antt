@@ -1,7 +1,7 @@
 use Rattle.std.proofs.Common.{arith, ◌<◌, length, refl}
 use Rattle.std.proofs.lemmas.List.Elements.{All-push}
 use Rattle.pi_distinct.specs.Intervals.{IsEnds}
-use Rattle.pi_distinct.proofs.IntervalLemmas.{ends_more, ends_all}
+use Rattle.pi_distinct.proofs.EndLemmas.{ends_more, ends_all}
 use Rattle.pi_distinct.proofs.ends.all_ends.Goals as goal
 
 pub loop-k-init : goal.loop-k-init

@@ -1,6 +1,6 @@
 use Rattle.std.proofs.Common.{List, ℤ, subst}
 use Rattle.std.specs.List.Sorted.{IsPermutation}
-use Rattle.pi_distinct.proofs.IntervalLemmas.{sorted_by_greatest}
+use Rattle.pi_distinct.proofs.EndLemmas.{sorted_by_greatest}
 use Rattle.pi_distinct.proofs.ends.by_greatest.Goals as goal
 
 pub returns-clause-same : goal.returns-clause-same

@@ -1,9 +1,6 @@
-use Rattle.std.proofs.Common.{◌≡◌, ◌∙◌, ℤ, FitsSigned, w64, to_z, of_z, sym, subst}
+use Rattle.std.proofs.Common.{◌∙◌, FitsSigned, w64}
 use Rattle.std.proofs.lemmas.Int.{to_z-of_z}
-use Rattle.pi_constraints.specs.Domain.{IsWithinBounds}
-use Rattle.pi_places.proofs.OneLemmas.{ends_ordered}
-use Rattle.pi_distinct.specs.Intervals.{IsEnds}
-use Rattle.pi_distinct.proofs.IntervalLemmas.{ends_are}
+use Rattle.pi_distinct.proofs.EndLemmas.{ends_are}
 use Rattle.pi_distinct.proofs.ends.ends_at.Goals as goal
 
 pub returns-clause-is : goal.returns-clause-is

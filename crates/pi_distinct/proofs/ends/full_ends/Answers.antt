@@ -1,6 +1,7 @@
-use Rattle.std.proofs.Common.{arith, ◌≡◌, ◌∙◌, ◌+◌, ◌≤◌, ℕ, ℤ, List, ◌++◌, ◌∷◌, [], pos, take, get_or, sym, subst, ap, refl, to_z, of_z, w64}
-use Rattle.pi_distinct.specs.Intervals.{AreFullEnds}
-use Rattle.pi_distinct.proofs.IntervalLemmas.{FullBefore, count_from, back64, above64, full_at_first, full_passed, from_passed, full_all, reached, reached_small, turn_far, turn_over, turn_open, turn_closed, turn_counted}
+use Rattle.std.proofs.Common.{arith, ◌≡◌, ◌∙◌, ℤ, pos, take, get_or, sym, subst, refl, to_z, of_z, w64}
+use Rattle.pi_distinct.proofs.CountLemmas.{count_from, from_passed}
+use Rattle.pi_distinct.proofs.FullLemmas.{FullBefore, full_at_first, full_passed, full_all}
+use Rattle.pi_distinct.proofs.TurnLemmas.{back64, above64, reached, reached_small, turn_far, turn_over, turn_open, turn_closed, turn_counted}
 use Rattle.pi_distinct.proofs.ends.full_ends.Goals as goal
 use Rattle.pi_distinct.proofs.ends.full_ends.Goals.{then-a-least+else-width-most+else-width-count+then-width-count-2+in_ok-push, then-a-least+else-width-most+else-width-count+else-width-count-2, else-a-least}
 

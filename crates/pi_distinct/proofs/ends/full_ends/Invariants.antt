@@ -1,5 +1,6 @@
 use Rattle.std.proofs.Common.{◌≡◌, ◌≤◌, take}
-use Rattle.pi_distinct.proofs.IntervalLemmas.{FullBefore, count_from}
+use Rattle.pi_distinct.proofs.CountLemmas.{count_from}
+use Rattle.pi_distinct.proofs.FullLemmas.{FullBefore}
 use Rattle.pi_distinct.proofs.ends.full_ends.Given as goal
 
 abbrev pub invariant-loop-i : goal.invariant-loop-i

@@ -2,7 +2,7 @@ use Rattle.std.proofs.Common.{rules, arith, ◌≡◌, ◌≤ℤ◌, ◌<ℤ◌,
 use Rattle.std.specs.Prelude.{int_lt}
 use Rattle.std.proofs.lemmas.Int.{ints, to_z-of_z}
 use Rattle.std.proofs.lemmas.List.Sorted.{IsPartitionPoint-from_clause}
-use Rattle.pi_distinct.proofs.IntervalLemmas.{starts_before, ends_before, ends_within, IsPartitionedBy-before}
+use Rattle.pi_distinct.proofs.OutsideLemmas.{starts_before, ends_before, ends_within, IsPartitionedBy-before}
 use Rattle.pi_distinct.proofs.full.count_outside.Goals as goal
 
 lower : (x y : ℤ) → FitsSigned w64 x → FitsSigned w64 y → int_lt (to_z w64 (of_z w64 x)) (to_z w64 (of_z w64 y)) ≡ true → x <ℤ y

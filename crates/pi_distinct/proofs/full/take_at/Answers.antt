@@ -1,10 +1,11 @@
-use Rattle.std.proofs.Common.{arith, ◌≡◌, ◌-◌, ℤ, pos, FitsSigned, w64, get_or, sym, subst, not, ◌&&◌}
+use Rattle.std.proofs.Common.{arith, ◌-◌, ℤ, pos, FitsSigned, w64, get_or, sym, subst, not, ◌&&◌}
 use Rattle.std.specs.Prelude.{int_le}
 use Rattle.std.proofs.lemmas.Int.{to_z-of_z}
 use Rattle.pi_constraints.specs.Domain.{IsWithinBounds}
 use Rattle.pi_places.proofs.KeepLemmas.{keep_cut, keep_none}
 use Rattle.pi_distinct.specs.Intervals.{IsOutside}
-use Rattle.pi_distinct.proofs.IntervalLemmas.{back64, fits64, widest_has, has_all}
+use Rattle.pi_distinct.proofs.OutsideLemmas.{widest_has, has_all}
+use Rattle.pi_distinct.proofs.TurnLemmas.{back64, fits64}
 use Rattle.pi_distinct.proofs.full.take_at.Goals as goal
 
 pub take_between-requires-clause-low : goal.take_between-requires-clause-low

@@ -1,11 +1,11 @@
-use Rattle.std.proofs.Common.{arith, ◌≡◌, ◌∙◌, List, ℤ, pos, sym, subst, to_z, of_z, w64}
+use Rattle.std.proofs.Common.{arith, ℤ, sym, subst, to_z, of_z, w64}
 use Rattle.pi_constraints.specs.Domain.{IsWithinBounds}
 use Rattle.pi_places.specs.Changes.{AreFiltered}
 use Rattle.pi_places.proofs.KeepLemmas.{kept_none, kept_more, kept_all}
 use Rattle.pi_terms.proofs.TakenLemmas.{empty}
 use Rattle.pi_distinct.specs.Intervals.{IsOutside}
 use Rattle.pi_distinct.specs.Taken.{ends_at}
-use Rattle.pi_distinct.proofs.IntervalLemmas.{back64}
+use Rattle.pi_distinct.proofs.TurnLemmas.{back64}
 use Rattle.pi_distinct.proofs.DistinctLemmas.{none_taken}
 use Rattle.pi_distinct.proofs.full.take_each.Goals as goal
 

@@ -1,9 +1,9 @@
-use Rattle.std.proofs.Common.{arith, ◌≡◌, ℤ, List, All, sym, subst, refl, to_z, of_z, w64}
+use Rattle.std.proofs.Common.{ℤ, List, All, sym, subst, refl, to_z, of_z, w64}
 use Rattle.pi_constraints.specs.Domain.{IsWithinBounds}
 use Rattle.pi_places.specs.Changes.{AreFiltered}
 use Rattle.pi_distinct.specs.Intervals.{IsOverfull, IsAscending, AreFullEnds, IsOutside}
 use Rattle.pi_distinct.specs.Taken.{ends_at}
-use Rattle.pi_distinct.proofs.IntervalLemmas.{back64}
+use Rattle.pi_distinct.proofs.TurnLemmas.{back64}
 use Rattle.pi_distinct.proofs.DistinctLemmas.{taken_from}
 use Rattle.pi_distinct.proofs.full.take_from.Goals as goal
 

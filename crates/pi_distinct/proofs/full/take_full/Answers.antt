@@ -1,7 +1,7 @@
-use Rattle.std.proofs.Common.{arith, ◌∙◌, ◌<◌, ◌≡◌, List, true, false, ℤ, pos, get_or, length, sym, subst}
+use Rattle.std.proofs.Common.{arith, ◌∙◌, true, false, ℤ, pos, sym, subst}
 use Rattle.pi_constraints.specs.Domain.{IsWithinBounds}
 use Rattle.pi_distinct.specs.Taken.{least_at, AreTakenFrom}
-use Rattle.pi_distinct.proofs.IntervalLemmas.{back64}
+use Rattle.pi_distinct.proofs.TurnLemmas.{back64}
 use Rattle.pi_distinct.proofs.DistinctLemmas.{taken_none, taken_again, taken_over, taken_more, taken_all}
 use Rattle.pi_distinct.proofs.full.take_full.Goals as goal
 
