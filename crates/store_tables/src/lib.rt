@@ -10,9 +10,8 @@ mod terms;
 mod told;
 mod words;
 
-use pi_cases::Case;
-
 pub use bench::Bench;
+use pi_cases::Case;
 pub use stores::{show, take_store_step, tell_read};
 
 /// Answers a case of terms or stores, in a file with this text, and tells whether the subject is one of such cases.

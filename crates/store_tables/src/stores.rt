@@ -10,11 +10,10 @@ mod showing;
 mod state;
 mod terms;
 
-pub use showing::{show, tell_read};
-
 use crate::bench::Bench;
 use pi_cases::Case;
 use pi_types::{StateStore, TreeStore};
+pub use showing::{show, tell_read};
 
 /// Tells what the steps of a case show, taken on a `TreeStore`.
 pub fn answer(case: &mut Case<'_>) {
