@@ -3,6 +3,7 @@ use Rattle.std.specs.Prelude.{◌≡◌, ℕ, pos, negsuc, Bool, true, false, Li
 use Rattle.pi_terms.specs.Tree.{var, int}
 use Rattle.pi_constraints.specs.declared.constraint.Rel.{Rel}
 use Rattle.pi_constraints.specs.declared.constraint.Constraint.{Constraint}
+use Rattle.pi_constraints.specs.declared.constraint.Item.{Item}
 use Rattle.pi_constraints.specs.declared.domain.Span.{Span}
 use Rattle.pi_constraints.specs.Domain.{has_value, numbers_from, values_of}
 use Rattle.pi_filters.specs.Ends.{greatest_of}
@@ -81,3 +82,12 @@ agents-woken :
     ≡ waking 7 7 ∷ waking 0 1 ∷ [])
 unfolding variable_events events_from values_of numbers_from has_value greatest_of followed followed_for leads_for first_answered activations_from activations
 agents-woken = (refl, refl, refl, refl)
+
+-- |Y| = X, where Y is bound to X: what X loses counts once. |Y| = Y, where Y becomes X: it is due, since Y was unbound before.
+loads-of_one_variable :
+    (load (state (from_to 1 5 ∷ bound (var 0) ∷ []) (Constraint.Absolute (Item.Var 0) (Item.Var 1) ∷ []) []) (state (from_to 1 5 ∷ bound (var 0) ∷ []) (Constraint.Absolute (Item.Var 0) (Item.Var 1) ∷ []) [])
+    (state (from_to 1 3 ∷ bound (var 0) ∷ []) (Constraint.Absolute (Item.Var 0) (Item.Var 1) ∷ []) []) ≡ 2)
+    × (load (state (from_to 1 5 ∷ from_to 1 5 ∷ []) (Constraint.Absolute (Item.Var 1) (Item.Var 1) ∷ []) []) (state (from_to 1 5 ∷ bound (var 0) ∷ []) (Constraint.Absolute (Item.Var 1) (Item.Var 1) ∷ []) [])
+    (state (from_to 1 5 ∷ bound (var 0) ∷ []) (Constraint.Absolute (Item.Var 1) (Item.Var 1) ∷ []) []) ≡ 1)
+unfolding count_due roots_of same_domain values_of numbers_from has_value followed followed_for
+loads-of_one_variable = (refl, refl)
