@@ -3,7 +3,7 @@
 
 use pi_builtin::function_named;
 use pi_calls::{LibStep, LibValue, run_function, run_predicate};
-use pi_cases::Case;
+use pi_cases::{Case, Problem};
 use pi_types::{Cell, Ref, StateStore, Term, Text, TreeStore};
 use store_tables::{Bench, show, take_store_step, tell_read};
 
@@ -43,7 +43,7 @@ fn take_function<S: StateStore>(case: &mut Case<'_>, bench: &mut Bench<S>) {
             tell_read(case, &bench.store, made);
         }
         LibValue::Raised(ball) => show_ball(case, &ball),
-        LibValue::Memory => show(case, "memory"),
+        LibValue::Memory => case.fail(Problem::Memory),
     }
 }
 
@@ -58,7 +58,7 @@ fn take_predicate<S: StateStore>(case: &mut Case<'_>, bench: &mut Bench<S>) {
             case.tell_name(text.as_str());
         }
         LibStep::Raised(ball) => show_ball(case, &ball),
-        LibStep::Memory => show(case, "memory"),
+        LibStep::Memory => case.fail(Problem::Memory),
     }
 }
 
