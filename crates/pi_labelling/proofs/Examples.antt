@@ -8,17 +8,18 @@ use Rattle.pi_constraints.specs.declared.constraint.Constraint.{Constraint}
 use Rattle.pi_constraints.specs.declared.domain.Span.{Span}
 use Rattle.pi_constraints.specs.Domain.{numbers_from, values_of, overlap, shared, common}
 use Rattle.pi_filters.specs.Ends.{greatest_of}
-use Rattle.pi_traces.specs.Trace.{Trace, end, note, ans, Done, Deep, Tick, Load, done, one, alt, then}
+use Rattle.pi_traces.specs.Trace.{Trace, end, note, ans, Done, Raise, Deep, Tick, Load, done, one, alt, then}
 use Rattle.pi_traces.specs.Control.{chosen}
 use Rattle.pi_states.specs.State.{State, Variable, free, within, bound, next, empty_state, with_new, followed_for, followed}
+use Rattle.pi_effects.specs.Exception.{type_error}
 use Rattle.pi_settling.specs.Roots.{all_values}
 use Rattle.pi_settling.specs.Settled.{loaded}
-use Rattle.pi_labelling.specs.Options.{forward, backward, ff, ValueWord, up, down, split, reverse_split, options, bad_option, words_read, read_options}
+use Rattle.pi_labelling.specs.Options.{Objective, forward, backward, ff, ValueWord, up, down, split, reverse_split, options, bad_option, words_read, read_options}
 use Rattle.pi_labelling.specs.Confined.{confined}
 use Rattle.pi_labelling.specs.Choices.{Pending, pending, smallest, picked, is_value, at_most, above, alternatives}
 use Rattle.pi_labelling.specs.Label.{all_tried, labelled_at}
 use Rattle.pi_labelling.specs.Reading.{reads, Reading, Solving}
-use Rattle.pi_labelling.specs.Rounds.{bettered, solved}
+use Rattle.pi_labelling.specs.Rounds.{better_sign, weighed, bettered, solved}
 use Rattle.pi_labelling.specs.SearchLoad.{way_for, squares, search_load}
 use Rattle.pi_labelling.specs.Assignments.{with_load}
 
@@ -130,3 +131,40 @@ search-loads :
     × (with_load {A = ℕ} 27 (one 0) ≡ note (Load 27) (one 0))
 unfolding search_load squares way_for firsts values_of numbers_from followed followed_for loaded
 search-loads = (refl, refl, refl, refl, refl, refl)
+
+abbrev first_of : (State → State → Trace State) → (ℕ → State → Trace State) → Trace State
+first_of settle drains = labelled_at settle drains (record { variable = forward; value = up; objective = None }) (Item.Var 0 ∷ []) 1 (state (up_to 2 ∷ []))
+
+-- An alternative is settled from the state in which it began, and what waits then runs before labelling goes on.
+alternatives-are_goals :
+    (first_of (λ before r. one before) (λ d r. one r) ≡ note Tick (end Deep))
+    × (first_of (λ before r. one r) (λ d r. note (Load 1) (one r))
+    ≡ note Tick (note (Load 1) (ans (state (is 1 ∷ [])) (note Tick (note (Load 1) (ans (state (is 2 ∷ [])) (end Done)))))))
+unfolding labelled_at all_tried values_of numbers_from greatest_of overlap shared common followed followed_for then alt
+alternatives-are_goals = (refl, refl)
+
+-- a reading by which above one is made of two variables, above two of three more than there are, and above more of none
+abbrev climbs : Tree → State → Trace State
+climbs (int i) s = cond (int_le i (pos 1)) (one (with_new (with_new s))) (cond (int_le i (pos 2)) (one (with_new (with_new (with_new s)))) done)
+climbs t s = done
+
+abbrev climbing : Solving
+climbing = record {
+  settle = λ before r. one r;
+  drains = λ d r. one r;
+  reading = record { operand = counting.operand; relation = λ sign t u s. climbs u s };
+  chosen_options = record { variable = forward; value = up; objective = Some (record { greatest = true; expression = var 0 }) };
+  items = [];
+}
+
+-- the third round too begins from the call's state
+third-round : solved climbing 3 empty_state ≡ one (with_new (with_new (with_new empty_state)))
+unfolding bettered labelled_at confined chosen then alt
+third-round = refl
+
+-- better is strictly so, and an expression that is no integer behind a round is told
+better-signs : (better_sign false ≡ codes "#<") × (better_sign true ≡ codes "#>")
+better-signs = (refl, refl)
+
+unknown-worth : (o : Objective) (r : State) (next : ℤ → Trace State) → weighed o r None next ≡ end (Raise (type_error (codes "integer") o.expression r))
+unknown-worth o r next = refl

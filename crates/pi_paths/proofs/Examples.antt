@@ -1,10 +1,10 @@
 -- Resumed runs, worked through the definitions.
 use Rattle.std.specs.Prelude.{◌≡◌, ℕ, Bool, true, false, List, [], ◌∷◌, refl}
 use Rattle.pi_terms.specs.Tree.{var}
-use Rattle.pi_traces.specs.Trace.{end, note, ans, Done, Raise, Tick, Out, one, alt, then}
+use Rattle.pi_traces.specs.Trace.{Call, end, note, ans, Done, Raise, Miss, Deep, Tick, Out, done, one, alt, then}
 use Rattle.pi_traces.specs.Control.{chosen, caught}
-use Rattle.pi_paths.specs.Ways.{Way, choice_from}
-use Rattle.pi_paths.specs.Resumed.{on_way, reached, bad, Search, to_answer, simple, with_rest, follows_then, sequence, taken_from, alternatives, to_exception, with_handler, caught_search, RuleSearch, rules_ways, on_first, rules_taken, rules_search, ticked, resumed}
+use Rattle.pi_paths.specs.Ways.{Way, without_choices, choice_from}
+use Rattle.pi_paths.specs.Resumed.{on_way, reached, cut_off, bad, Search, to_answer, simple, with_rest, follows_then, sequence, taken_from, alternatives, to_exception, with_handler, caught_search, RuleSearch, rules_ways, on_first, rules_taken, rules_search, ticked, resumed}
 
 -- a rule that applies, with this body
 abbrev rule : {A : Type 0} → Bool → Search A → RuleSearch ℕ A
@@ -58,3 +58,17 @@ outputs-dropped :
     ≡ reached (1 ∷ 2 ∷ []) 1 [] (ans (way (2 ∷ 1 ∷ []) 3) (ans (way (2 ∷ 2 ∷ []) 2) (end Done))))
 unfolding to_answer with_rest follows_then taken_from choice_from to_exception with_handler then alt caught
 outputs-dropped = (refl, refl, refl, refl)
+
+-- an end that a run with more depth or a longer log may pass isn't a bad path; the end of all answers is one, and a rule that doesn't apply is passed over
+ends-on_the_way :
+    ((simple {A = ℕ} (end Deep)).follows [] ≡ cut_off Deep)
+    × ((c : Call) → (simple {A = ℕ} (end (Miss c))).follows [] ≡ cut_off (Miss c))
+    × ((simple {A = ℕ} (end Done)).follows [] ≡ bad)
+    × ((rules_search {X = ℕ} {A = ℕ} (record { applies = done; committed = true; body = λ x. simple (one 1) } ∷ rule true (simple (one 2)) ∷ [])).follows (2 ∷ []) ≡ reached (2 ∷ []) 2 [] (end Done))
+unfolding to_answer rules_ways rules_taken on_first with_rest then alt chosen
+ends-on_the_way = (refl, λ c. refl, refl, refl)
+
+-- what runs at a strict place adds no choice
+no-choices : without_choices {A = ℕ} (one 4) ≡ one (way [] 4)
+unfolding then alt
+no-choices = refl
