@@ -2,14 +2,15 @@
 use Rattle.std.specs.Prelude.{◌≡◌, ℕ, zero, suc, nat_lt, pos, Bool, true, false, cond, List, [], ◌∷◌, Option, Some, None, refl}
 use Rattle.std.proofs.Common.{ap}
 use Rattle.pi_terms.specs.Tree.{Tree, var, int, cells, most_cells}
+use Rattle.pi_terms.specs.Substitution.{instance}
 use Rattle.pi_traces.specs.Trace.{Trace, end, note, Raise, Deep, Tick, Load, Out, done, one, alt, then}
 use Rattle.pi_traces.specs.Control.{chosen}
 use Rattle.pi_states.specs.Value.{rounds, value}
-use Rattle.pi_states.specs.State.{State, Agent, on_dom, bindings, followed_for, followed, end_agent}
+use Rattle.pi_states.specs.State.{State, Agent, free, bound, on_ins, on_dom, on_dom_any, on_posted, bindings, followed_for, followed, end_agent}
 use Rattle.pi_states.specs.declared.event.Activation.{Activation}
 use Rattle.pi_effects.specs.Exception.{term_too_large}
-use Rattle.pi_settling.specs.Answers.{activations}
-use Rattle.pi_agents.specs.Fire.{SlotValue, Rules, decided, fired}
+use Rattle.pi_settling.specs.Answers.{leads_for, first_answered, activations_from, activations}
+use Rattle.pi_agents.specs.Fire.{SlotValue, Rules, decided, event_value, fired}
 use Rattle.pi_agents.specs.Drain.{Lower, drained_from, drained}
 use Rattle.pi_agents.specs.Posting.{with_posted, posting}
 
@@ -66,3 +67,26 @@ large-terms_raise s x t e = ap (λ (b : Bool). cond b (end (Raise term_too_large
 bound-posts_nothing : posting (state [] []) (int (pos 1)) (int (pos 2)) ≡ one (state [] [])
 unfolding value rounds cells activations followed followed_for
 bound-posts_nothing = refl
+
+-- An event's value is told by the patterns that name a slot for it, and by no other.
+values-told :
+    (event_value (record { call = var 0; rule = 0; watches = on_posted (var 0) 5 ∷ []; alive = true }) (waking 0) ≡ Some (record { slot = 5; value = int (pos 3) }))
+    × (event_value (record { call = var 0; rule = 0; watches = on_dom_any (var 0) 6 ∷ []; alive = true }) (waking 0) ≡ Some (record { slot = 6; value = int (pos 3) }))
+    × (event_value (record { call = var 0; rule = 0; watches = on_ins (var 0) ∷ []; alive = true }) (waking 0) ≡ None)
+values-told = (refl, refl, refl)
+
+-- an agent that watches what is posted on a variable, to which another one is bound, and a third is bound to an integer
+abbrev watching : List Activation → State
+watching waiting = record {
+  variables = free ∷ bound (var 0) ∷ bound (int (pos 7)) ∷ [];
+  constraints = [];
+  agents = record { call = var 0; rule = 0; watches = on_posted (var 0) 5 ∷ []; alive = true } ∷ [];
+  waiting = waiting;
+}
+
+-- What is posted wakes behind what waits already, with the term as it stands; on a bound X it wakes none.
+events-posted :
+    (posting (watching (waking 9 ∷ [])) (var 1) (var 2) ≡ one (watching (waking 9 ∷ record { agent = 0; watch = 0; value = Some (var 2) } ∷ [])))
+    × (posting (watching (waking 9 ∷ [])) (var 2) (int (pos 3)) ≡ one (watching (waking 9 ∷ [])))
+unfolding value rounds instance cells activations activations_from first_answered leads_for followed followed_for
+events-posted = (refl, refl)

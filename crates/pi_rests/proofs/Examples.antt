@@ -12,6 +12,7 @@ use Rattle.pi_states.specs.State.{State, empty_state, followed_for, followed}
 use Rattle.pi_states.specs.Unify.{in_pairs, assigned, joined, outcome, unified_for, unbound_in, cells_of_pairs, most_pairs, all_unified}
 use Rattle.pi_states.specs.Evaluation.{evaluated, evaluated_all}
 use Rattle.pi_states.specs.HeadMatch.{matched_in, matched_all_in}
+use Rattle.pi_syntax.specs.ExpTree.{ExpTree, quote, no_exps, exp}
 use Rattle.pi_core.specs.GoalTree.{truth, call, apply, seq, no_goals, goal, subgoals}
 use Rattle.pi_core.specs.CoreTree.{ClauseTree, PredTree, find_pred}
 use Rattle.pi_effects.specs.Rows.{done_by, has_line}
@@ -41,6 +42,7 @@ use Rattle.pi_meaning.specs.Run.{Solution, told, query_trace}
 use Rattle.pi_planner_calls.specs.Bodies.{Offer}
 use Rattle.pi_planner_calls.specs.ProgramBodies.{bodies_of}
 use Rattle.pi_planner_calls.specs.Rests.{is_by_rests}
+use Rattle.pi_rests.specs.Written.{AsksNone, AskNone}
 
 -- nothing that a later stage gives is used
 abbrev none_later : Later
@@ -108,3 +110,10 @@ resource_in_query = query_trace (whole (query_view []) none_later []) [] (record
 no-resource : resource_in_query ≡ end (Raise (atom (codes "no_resource")))
 unfolding resource_in_query
 no-resource = refl
+
+-- as it is written: another call by its argument, and a term behind `$`
+unasked-calls :
+    AsksNone (ExpTree.call (codes "current_resource") (exp (ExpTree.int (pos 1)) no_exps))
+    × AsksNone (quote (ExpTree.call (codes "current_resource") no_exps))
+unfolding AsksNone AskNone
+unasked-calls = ((tt, (tt, tt)), tt)
