@@ -1,6 +1,5 @@
 pub mod Exception
 pub mod Effect
-pub mod Builtin
 pub mod Items
 pub mod Answer
 pub mod Rows

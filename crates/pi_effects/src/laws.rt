@@ -1,14 +1,7 @@
 //! Laws of the effects.
-ghost use Rattle.pi_effects.specs.Builtin.{BuiltInHasEffect, BuiltInFunctionHasEffect};
 ghost use Rattle.pi_effects.specs.Items.{ItemsGoByRoot, ItemsGoByValue};
 ghost use Rattle.pi_effects.specs.Sorting.{SortingAscends, SortingIsStable, SortingKeepsItems};
 ghost use Rattle.pi_effects.specs.BuiltIns.{FunctionsAreListed, FunctionsOnlyMakeVariables, PredicatesAreListed, PredicatesOnlyUnify};
-
-/// Just the predicates and the functions that are built in have an effect.
-pub fn built_ins_have_effects()
-    ensures predicates { BuiltInHasEffect }
-    ensures functions { BuiltInFunctionHasEffect }
-{}
 
 /// Just the names in the tables do something, each with its numbers of arguments, whatever the arguments and the state are.
 pub fn built_ins_are_listed()

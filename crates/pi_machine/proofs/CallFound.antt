@@ -1,26 +1,24 @@
 -- The predicate that a call's number stands for, and what a call of it comes to.
-use Rattle.std.proofs.Common.{◌≡◌, ℕ, zero, suc, ◌<◌, ◌==◌, ◌&&◌, ◌||◌, Bool, true, false, cond, List, [], ◌∷◌, Option, Some, None, inl, inr, get_or, refl, sym, ◌∙◌, ap, subst, arith, eqb-true, eq-eqb}
-use Rattle.std.specs.Prelude.{slice_get, AllPairs, option_map, codes}
+use Rattle.std.proofs.Common.{◌≡◌, ℕ, zero, suc, ◌<◌, ◌==◌, ◌&&◌, Bool, true, false, cond, List, [], ◌∷◌, Option, Some, None, inl, inr, get_or, refl, sym, ◌∙◌, ap, subst, arith, eqb-true, eq-eqb}
+use Rattle.std.specs.Prelude.{slice_get, AllPairs, is_some}
 use Rattle.std.specs.Ordering.{is_eq}
 use Rattle.std.proofs.lemmas.Bool.{cases_Bool}
 use Rattle.std.proofs.lemmas.Option.{slice_get_within, get_or_from_slice_get}
-use Rattle.pi_terms.specs.Tree.{Tree, var, int, atom, comp, Trees, no_trees, tree, tree_count, trees_of}
+use Rattle.pi_terms.specs.Tree.{Tree, var, int, atom, comp, Trees, tree_count, trees_of}
 use Rattle.pi_terms.specs.Order.{order, name_order}
 use Rattle.pi_terms.specs.Places.{Places}
 use Rattle.pi_states.specs.State.{State}
 use Rattle.pi_meaning.specs.View.{View}
-use Rattle.pi_states.specs.Unify.{unified}
-use Rattle.pi_effects.specs.Effect.{Effect, Raises, succeeds_in}
-use Rattle.pi_effects.specs.Exception.{thrown}
-use Rattle.pi_effects.specs.Builtin.{is_built_in}
-use Rattle.pi_meaning.specs.Builtin.{settled_effect, effect}
+use Rattle.pi_effects.specs.Effect.{Effect, FunctionEffect}
+use Rattle.pi_effects.specs.BuiltIns.{built_in_predicate, built_in_function, is_predicate, is_function}
+use Rattle.pi_effects.proofs.BuiltInLemmas.{predicates-listed, functions-listed}
 use Rattle.pi_core.specs.CoreTree.{PredTree, is_pred, find_pred}
-use Rattle.pi_core.specs.GoalTree.{GoalTrees, call}
+use Rattle.pi_core.specs.GoalTree.{GoalTrees, call, apply}
 use Rattle.pi_states.specs.Evaluation.{EvaluatedAll, evaluated_all}
 use Rattle.pi_meaning.specs.Sound.{IsAnother}
 use Rattle.pi_states.proofs.MatchLemmas.{same_from_identical, identical_from_same}
-use Rattle.pi_machine.specs.Configuration.{Frame, Entry, behind, returning}
-use Rattle.pi_machine.specs.Step.{call_step, predicate_step, effect_step, try_rules, goal_step, back_to}
+use Rattle.pi_machine.specs.Configuration.{Frame, Entry, config, behind, returning}
+use Rattle.pi_machine.specs.Step.{silently, done_now, given_now, call_step, predicate_step, function_step, effect_step, value_step, try_rules, goal_step, back_to}
 
 -- ---- a predicate by its name
 
@@ -96,33 +94,47 @@ found-by-number function preds n pred apart at same =
       | inr not ↦ not
     ])
 
--- ---- no built-in predicate
+-- ---- what a call comes to
 
-built-one : (a b : Bool) (x : Option Effect) → ((a && true) || (b && false)) ≡ false → cond a x None ≡ None
-built-one true b x none = absurd cc
-built-one false b x none = refl
+none-listed : {A : Type 0} (o : Option A) (listed : Bool) → is_some o ≡ listed → listed ≡ false → o ≡ None
+none-listed None listed is none = refl
+none-listed (Some x) listed is none = absurd cc
 
-built-two : (a b : Bool) (x : Option Effect) → ((a && false) || (b && true)) ≡ false → cond b x None ≡ None
-built-two true true x none = absurd cc
-built-two true false x none = refl
-built-two false true x none = absurd cc
-built-two false false x none = refl
+-- a predicate of the program, whose name isn't built in
+pub no-predicate : (name : List ℕ) (ts : Trees) (s : State) → is_predicate name (tree_count ts) ≡ false → built_in_predicate name ts s ≡ None
+no-predicate name ts s none = none-listed (built_in_predicate name ts s) (is_predicate name (tree_count ts)) (predicates-listed name ts s) none
 
-pub no-effect : (v : View) (name : List ℕ) (ts : Trees) (s : State) → is_built_in false name (tree_count ts) ≡ false → effect v name ts s ≡ None
-unfolding effect tree_count
-no-effect v name no_trees s none = refl
-no-effect v name (tree t no_trees) s none =
-    ap (option_map (settled_effect v s)) (built-one (is_eq (name_order name (codes "throw"))) (is_eq (name_order name (codes "="))) (Some (Raises (thrown t s))) none)
-no-effect v name (tree t (tree u no_trees)) s none =
-    ap (option_map (settled_effect v s)) (built-two (is_eq (name_order name (codes "throw"))) (is_eq (name_order name (codes "="))) (Some (succeeds_in (unified s t u))) none)
-no-effect v name (tree t (tree u (tree w ts))) s none = refl
+pub no-function : (name : List ℕ) (ts : Trees) (s : State) → is_function name (tree_count ts) ≡ false → built_in_function name ts s ≡ None
+no-function name ts s none = none-listed (built_in_function name ts s) (is_function name (tree_count ts)) (functions-listed name ts s) none
 
--- what a call comes to
 pub call-comes-to : (v : View) (preds : List PredTree) (name : List ℕ) (args : List Tree) (pred : PredTree) (gs : GoalTrees) (e : Places) (s : State) (k : List Frame) (es : List Entry) →
     let all : EvaluatedAll = evaluated_all (trees_of args) e s in
-    is_built_in false name (tree_count all.trees) ≡ false → find_pred false name (tree_count all.trees) preds ≡ Some pred →
+    is_predicate name (tree_count all.trees) ≡ false → find_pred false name (tree_count all.trees) preds ≡ Some pred →
     goal_step v preds (call name args) gs e s k es ≡ call_step pred.quiet (try_rules (record { function = false; args = all.trees }) pred.clauses (back_to [] all.state (returning all.slots (behind gs k))) es)
 unfolding goal_step
 call-comes-to v preds name args pred gs e s k es none found =
     let all : EvaluatedAll = evaluated_all (trees_of args) e s in
-    ap (λ t. effect_step t preds name all gs k es) (no-effect v name all.trees all.state none) ∙ ap (λ p. predicate_step p all (behind gs k) es) found
+    ap (λ t. effect_step v t preds name all gs k es) (no-predicate name all.trees all.state none) ∙ ap (λ p. predicate_step p all (behind gs k) es) found
+
+-- a function of the program
+pub apply-comes-to : (v : View) (preds : List PredTree) (name : List ℕ) (args : List Tree) (into : ℕ) (pred : PredTree) (gs : GoalTrees) (e : Places) (s : State) (k : List Frame) (es : List Entry) →
+    let all : EvaluatedAll = evaluated_all (trees_of args) e s in
+    is_function name (tree_count all.trees) ≡ false → find_pred true name (tree_count all.trees) preds ≡ Some pred →
+    goal_step v preds (apply name args into) gs e s k es ≡ function_step (Some pred) all into (behind gs k) es
+unfolding goal_step
+apply-comes-to v preds name args into pred gs e s k es none found =
+    let all : EvaluatedAll = evaluated_all (trees_of args) e s in
+    ap (λ t. value_step t preds name all into gs k es) (no-function name all.trees all.state none) ∙ ap (λ p. function_step p all into (behind gs k) es) found
+
+-- what is built in
+pub effect-comes-to : (v : View) (preds : List PredTree) (name : List ℕ) (args : List Tree) (d : Effect) (gs : GoalTrees) (e : Places) (s : State) (k : List Frame) (es : List Entry) →
+    let all : EvaluatedAll = evaluated_all (trees_of args) e s in
+    built_in_predicate name all.trees all.state ≡ Some d → goal_step v preds (call name args) gs e s k es ≡ silently (config (done_now v d gs all.slots k) es)
+unfolding goal_step
+effect-comes-to v preds name args d gs e s k es is = ap (λ t. effect_step v t preds name (evaluated_all (trees_of args) e s) gs k es) is
+
+pub value-comes-to : (v : View) (preds : List PredTree) (name : List ℕ) (args : List Tree) (into : ℕ) (d : FunctionEffect) (gs : GoalTrees) (e : Places) (s : State) (k : List Frame) (es : List Entry) →
+    let all : EvaluatedAll = evaluated_all (trees_of args) e s in
+    built_in_function name all.trees all.state ≡ Some d → goal_step v preds (apply name args into) gs e s k es ≡ silently (config (given_now d into gs all.slots k) es)
+unfolding goal_step
+value-comes-to v preds name args into d gs e s k es is = ap (λ t. value_step t preds name (evaluated_all (trees_of args) e s) into gs k es) is

@@ -11,10 +11,10 @@ use Rattle.pi_traces.specs.Control.{chosen}
 use Rattle.pi_traces.specs.Depth.{Below, same_note}
 use Rattle.pi_traces.specs.Related.{BelowBy, end_by}
 use Rattle.pi_meaning.specs.View.{View}
-use Rattle.pi_meaning.specs.Instances.{small}
+use Rattle.pi_meaning.specs.Instances.{tabled}
 use Rattle.pi_states.specs.Evaluation.{Evaluated, evaluated, EvaluatedAll, evaluated_all}
 use Rattle.pi_meaning.specs.Raise.{raised_with}
-use Rattle.pi_meaning.specs.Level.{Level, Applied, Point, LevelBelow, PointBelow, same_but_level, calls_at, or_called}
+use Rattle.pi_meaning.specs.Level.{Level, Applied, Point, LevelBelow, PointBelow, same_but_level, calls_at, or_called, or_applied}
 use Rattle.pi_meaning.specs.Meaning.{Action, strictly, draining, ticking, calling, applying, meaning}
 use Rattle.pi_meaning.specs.Rules.{rules, body_run, pred_run, value_at, value_run, function_run, entered, call_run, application_run, calls_of, quiet_level, level_at}
 use Rattle.pi_meaning.specs.Run.{Solution, answered_with}
@@ -24,7 +24,7 @@ use Rattle.pi_traces.proofs.TraceLemmas.{then-assoc, alt-done}
 use Rattle.pi_meaning.proofs.LevelLemmas.{level-itself}
 use Rattle.pi_meaning.proofs.RuleLemmas.{level-below, quiet-deeper}
 use Rattle.pi_meaning.proofs.MeaningLemmas.{meaning-below, strict-below}
-use Rattle.pi_meaning.proofs.CallLemmas.{small-adds}
+use Rattle.pi_meaning.proofs.CallLemmas.{tabled-adds}
 use Rattle.pi_traces.proofs.RelatedLemmas.{Same, same, by-alt, by-then, by-chosen}
 use Rattle.pi_machine.specs.Configuration.{Frame, give, Back, Called, Strict, value_level, Entry, strict, going, config, behind, returning}
 use Rattle.pi_machine.specs.Remaining.{point, valued, continued, run_from, body_of, rules_trace, level_trace, around, now_trace, remaining_at}
@@ -57,78 +57,78 @@ quiet-leads v l m h names es t u a = told-below names (around v l es t []) (arou
 -- ---- a goal `Tick`
 
 tick-ran : (v : View) (preds : List PredTree) (d : ℕ) (gs : GoalTrees) (e : Places) (s : State) (k : List Frame) →
-    run_from v (level_at (small v) preds (suc d)) (goal tick gs) e s k
-    ≡ note Tick (continued v (level_at (small v) preds (suc d)) (behind gs k) (point (level_at (small v) preds d) e s))
+    run_from v (level_at (tabled v) preds (suc d)) (goal tick gs) e s k
+    ≡ note Tick (continued v (level_at (tabled v) preds (suc d)) (behind gs k) (point (level_at (tabled v) preds d) e s))
 unfolding level_at quiet_level meaning then alt
 tick-ran v preds d gs e s k =
-    goal-does v preds (level_at (small v) preds (suc d)) (calls-are v preds (suc d)) tick ticking refl gs e s k
-    ∙ ap (note Tick) (alt-done (continued v (level_at (small v) preds (suc d)) (behind gs k) (point (level_at (small v) preds d) e s)))
+    goal-does v preds (level_at (tabled v) preds (suc d)) (calls-are v preds (suc d)) tick ticking refl gs e s k
+    ∙ ap (note Tick) (alt-done (continued v (level_at (tabled v) preds (suc d)) (behind gs k) (point (level_at (tabled v) preds d) e s)))
 
 pub tick-comes : (v : View) (preds : List PredTree) (names : List NameSlot) (d : ℕ) (gs : GoalTrees) (e : Places) (s : State) (k : List Frame) (es : List Entry) → IsBalanced 0 es →
-    Below (note Tick (then (around v (level_at (small v) preds d) es (run_from v (level_at (small v) preds d) gs e s k) []) (answered_with names)))
-    (then (around v (level_at (small v) preds (suc d)) es (run_from v (level_at (small v) preds (suc d)) (goal tick gs) e s k) []) (answered_with names))
+    Below (note Tick (then (around v (level_at (tabled v) preds d) es (run_from v (level_at (tabled v) preds d) gs e s k) []) (answered_with names)))
+    (then (around v (level_at (tabled v) preds (suc d)) es (run_from v (level_at (tabled v) preds (suc d)) (goal tick gs) e s k) []) (answered_with names))
 tick-comes v preds names d gs e s k es b =
-    let l : Level = level_at (small v) preds d in
-    let m : Level = level_at (small v) preds (suc d) in
-    tick-leads v l m (level-below (small v) (small-adds v) preds d) names es b (run_from v l gs e s k) (continued v m (behind gs k) (point l e s)) (run_from v m (goal tick gs) e s k)
+    let l : Level = level_at (tabled v) preds d in
+    let m : Level = level_at (tabled v) preds (suc d) in
+    tick-leads v l m (level-below (tabled v) (tabled-adds v) preds d) names es b (run_from v l gs e s k) (continued v m (behind gs k) (point l e s)) (run_from v m (goal tick gs) e s k)
     (tick-ran v preds d gs e s k)
     (subst (λ t. Under t (continued v m (behind gs k) (point l e s))) (sym (behind-continued v l gs k (point l e s)))
-    (continued-under v l m (level-below (small v) (small-adds v) preds d) (behind gs k) (point l e s) (point l e s) (same_but_level (level-itself l) e s)))
+    (continued-under v l m (level-below (tabled v) (tabled-adds v) preds d) (behind gs k) (point l e s) (point l e s) (same_but_level (level-itself l) e s)))
 
 -- ---- predicates
 
 -- what a call of a predicate does that is found: one that is counted, and a quiet one
 called-counted : (v : View) (preds : List PredTree) (d : ℕ) (name : List ℕ) (ts : Trees) (s : State) (pred : PredTree) →
     find_pred false name (tree_count ts) preds ≡ Some pred → IsOfRules pred → pred.quiet ≡ false →
-    (calls_at (level_at (small v) preds (suc d))).called name ts s ≡ note Tick (rules (small v) (level_at (small v) preds d) (λ c. leaves_others false c) (λ i c p. body_run (small v) c p) 0 pred.clauses ts s)
+    (calls_at (level_at (tabled v) preds (suc d))).called name ts s ≡ note Tick (rules (tabled v) (level_at (tabled v) preds d) (λ c. leaves_others false c) (λ i c p. body_run (tabled v) c p) 0 pred.clauses ts s)
 unfolding level_at quiet_level calls_of pred_run
 called-counted v preds d name ts s pred f h counted =
-    let below : Option Level = Some (level_at (small v) preds d) in
-    let inner : Option Level = Some (quiet_level (small v) preds below (length preds + d)) in
-    ap (λ o. call_run (small v) inner below o ts s) f
-    ∙ (ap (λ q. entered q inner below (λ l. pred_run (small v) l pred pred.index ts s)) counted
-    ∙ (ap (λ i. note Tick (pred_run (small v) (level_at (small v) preds d) pred i ts s)) h.rules
-    ∙ ap (note Tick) (rules-run v (level_at (small v) preds d) (λ c. leaves_others false c) (comp pred.name ts) pred.clauses ts s h.without_events)))
+    let below : Option Level = Some (level_at (tabled v) preds d) in
+    let inner : Option Level = Some (quiet_level (tabled v) preds below (length preds + d)) in
+    ap (λ o. call_run (tabled v) inner below o ts s) f
+    ∙ (ap (λ q. entered q inner below (λ l. pred_run (tabled v) l pred pred.index ts s)) counted
+    ∙ (ap (λ i. note Tick (pred_run (tabled v) (level_at (tabled v) preds d) pred i ts s)) h.rules
+    ∙ ap (note Tick) (rules-run v (level_at (tabled v) preds d) (λ c. leaves_others false c) (comp pred.name ts) pred.clauses ts s h.without_events)))
 
 -- the level of a quiet call
 abbrev pub inner_level : View → List PredTree → ℕ → Level
-inner_level v preds d = quiet_level (small v) preds (Some (level_at (small v) preds d)) (length preds + d)
+inner_level v preds d = quiet_level (tabled v) preds (Some (level_at (tabled v) preds d)) (length preds + d)
 
 called-quiet : (v : View) (preds : List PredTree) (d : ℕ) (name : List ℕ) (ts : Trees) (s : State) (pred : PredTree) →
     find_pred false name (tree_count ts) preds ≡ Some pred → IsOfRules pred → pred.quiet ≡ true →
-    (calls_at (level_at (small v) preds (suc d))).called name ts s ≡ rules (small v) (inner_level v preds d) (λ c. leaves_others false c) (λ i c p. body_run (small v) c p) 0 pred.clauses ts s
+    (calls_at (level_at (tabled v) preds (suc d))).called name ts s ≡ rules (tabled v) (inner_level v preds d) (λ c. leaves_others false c) (λ i c p. body_run (tabled v) c p) 0 pred.clauses ts s
 unfolding level_at quiet_level calls_of pred_run
 called-quiet v preds d name ts s pred f h quiet =
-    let below : Option Level = Some (level_at (small v) preds d) in
-    let inner : Option Level = Some (quiet_level (small v) preds below (length preds + d)) in
-    ap (λ o. call_run (small v) inner below o ts s) f
-    ∙ (ap (λ q. entered q inner below (λ l. pred_run (small v) l pred pred.index ts s)) quiet
-    ∙ (ap (λ i. pred_run (small v) (quiet_level (small v) preds below (length preds + d)) pred i ts s) h.rules
-    ∙ rules-run v (quiet_level (small v) preds below (length preds + d)) (λ c. leaves_others false c) (comp pred.name ts) pred.clauses ts s h.without_events))
+    let below : Option Level = Some (level_at (tabled v) preds d) in
+    let inner : Option Level = Some (quiet_level (tabled v) preds below (length preds + d)) in
+    ap (λ o. call_run (tabled v) inner below o ts s) f
+    ∙ (ap (λ q. entered q inner below (λ l. pred_run (tabled v) l pred pred.index ts s)) quiet
+    ∙ (ap (λ i. pred_run (tabled v) (quiet_level (tabled v) preds below (length preds + d)) pred i ts s) h.rules
+    ∙ rules-run v (quiet_level (tabled v) preds below (length preds + d)) (λ c. leaves_others false c) (comp pred.name ts) pred.clauses ts s h.without_events))
 
 body-returns : (v : View) (l : Level) (e : Places) (k : List Frame) (c : ClauseTree) (p : Point) →
-    then (body_run (small v) c p) (λ r. continued v l k (point l e r)) ≡ then (meaning (small v) c.body p) (continued v l (returning e k))
+    then (body_run (tabled v) c p) (λ r. continued v l k (point l e r)) ≡ then (meaning (tabled v) c.body p) (continued v l (returning e k))
 unfolding then alt
 body-returns v l e k c p =
-    then-assoc (meaning (small v) c.body p) (λ q. one q.state) (λ r. continued v l k (point l e r))
-    ∙ then-same (meaning (small v) c.body p) (λ q. then (one q.state) (λ r. continued v l k (point l e r))) (continued v l (returning e k))
+    then-assoc (meaning (tabled v) c.body p) (λ q. one q.state) (λ r. continued v l k (point l e r))
+    ∙ then-same (meaning (tabled v) c.body p) (λ q. then (one q.state) (λ r. continued v l k (point l e r))) (continued v l (returning e k))
     (λ q. alt-done (continued v l k (point l e q.state)) ∙ sym (returning-continued v l e k q))
 
 -- the rules of a predicate, and the return from them
 bodies-return : (v : View) (l : Level) (e : Places) (k : List Frame) (ts : Trees) (s : State) (cs : List ClauseTree) →
-    RulesDoSame (λ i c p. then (body_run (small v) c p) (λ r. continued v l k (point l e r)))
+    RulesDoSame (λ i c p. then (body_run (tabled v) c p) (λ r. continued v l k (point l e r)))
     (λ i c p. body_of v l (record { function = false; args = ts }) (back_to [] s (returning e k)) c p) cs
 unfolding RulesDoSame
 bodies-return v l e k ts s [] = tt
 bodies-return v l e k ts s (c ∷ cs) = (λ i j p. body-returns v l e k c p, bodies-return v l e k ts s cs)
 
 rules-return : (v : View) (l : Level) (e : Places) (k : List Frame) (ts : Trees) (s : State) (cs : List ClauseTree) →
-    then (rules (small v) l (λ c. leaves_others false c) (λ i c p. body_run (small v) c p) 0 cs ts s) (λ r. continued v l k (point l e r))
+    then (rules (tabled v) l (λ c. leaves_others false c) (λ i c p. body_run (tabled v) c p) 0 cs ts s) (λ r. continued v l k (point l e r))
     ≡ rules_trace v l (record { function = false; args = ts }) cs (back_to [] s (returning e k))
 unfolding rules_trace
 rules-return v l e k ts s cs =
-    rules-followed v l (λ c. leaves_others false c) (λ i c p. body_run (small v) c p) 0 cs ts s (λ r. continued v l k (point l e r))
-    ∙ rules-same v l (λ c. leaves_others false c) (λ i c p. then (body_run (small v) c p) (λ r. continued v l k (point l e r)))
+    rules-followed v l (λ c. leaves_others false c) (λ i c p. body_run (tabled v) c p) 0 cs ts s (λ r. continued v l k (point l e r))
+    ∙ rules-same v l (λ c. leaves_others false c) (λ i c p. then (body_run (tabled v) c p) (λ r. continued v l k (point l e r)))
     (λ i c p. body_of v l (record { function = false; args = ts }) (back_to [] s (returning e k)) c p) 0 0 cs ts s (bodies-return v l e k ts s cs)
 
 same-follow : {A : Type 0} (f g : A → Trace Point) → ((x : A) → Under (f x) (g x)) → (x y : A) → Same x y → Under (f x) (g y)
@@ -136,38 +136,38 @@ same-follow f g h _ _ (same x) = h x
 
 -- a body at a higher level, and the return from it at another one
 body-run-under : (v : View) (l m : Level) → LevelBelow l m → (e : Places) (k : List Frame) (c : ClauseTree) (p q : Point) → PointBelow p q →
-    Under (then (body_run (small v) c p) (λ r. continued v l k (point l e r))) (then (body_run (small v) c q) (λ r. continued v m k (point m e r)))
+    Under (then (body_run (tabled v) c p) (λ r. continued v l k (point l e r))) (then (body_run (tabled v) c q) (λ r. continued v m k (point m e r)))
 body-run-under v l m h e k c p q r =
-    by-then Same PointBelow (body_run (small v) c p) (body_run (small v) c q) (λ r. continued v l k (point l e r)) (λ r. continued v m k (point m e r))
-    (by-then PointBelow Same (meaning (small v) c.body p) (meaning (small v) c.body q) (λ x. one x.state) (λ x. one x.state) (meaning-below (small v) (small-adds v) c.body p q r) (points-same (λ f s. one s)))
+    by-then Same PointBelow (body_run (tabled v) c p) (body_run (tabled v) c q) (λ r. continued v l k (point l e r)) (λ r. continued v m k (point m e r))
+    (by-then PointBelow Same (meaning (tabled v) c.body p) (meaning (tabled v) c.body q) (λ x. one x.state) (λ x. one x.state) (meaning-below (tabled v) (tabled-adds v) c.body p q r) (points-same (λ f s. one s)))
     (same-follow (λ r. continued v l k (point l e r)) (λ r. continued v m k (point m e r))
     (λ s. continued-under v l m h k (point l e s) (point m e s) (same_but_level h e s)))
 
 -- the rules of a call under those at a higher level, with the return at another one
 predicate-under : (v : View) (l n m : Level) → LevelBelow l n → LevelBelow l m → (e : Places) (k : List Frame) (ts : Trees) (s : State) (cs : List ClauseTree) →
     Under (rules_trace v l (record { function = false; args = ts }) cs (back_to [] s (returning e k)))
-    (then (rules (small v) n (λ c. leaves_others false c) (λ i c p. body_run (small v) c p) 0 cs ts s) (λ r. continued v m k (point m e r)))
+    (then (rules (tabled v) n (λ c. leaves_others false c) (λ i c p. body_run (tabled v) c p) 0 cs ts s) (λ r. continued v m k (point m e r)))
 predicate-under v l n m a b e k ts s cs =
     let f : State → Trace Point = λ r. continued v l k (point l e r) in
     let g : State → Trace Point = λ r. continued v m k (point m e r) in
-    subst (λ t. Under t (then (rules (small v) n (λ c. leaves_others false c) (λ i c p. body_run (small v) c p) 0 cs ts s) g)) (rules-return v l e k ts s cs)
-    (subst (λ t. Under t (then (rules (small v) n (λ c. leaves_others false c) (λ i c p. body_run (small v) c p) 0 cs ts s) g)) (sym (rules-followed v l (λ c. leaves_others false c) (λ i c p. body_run (small v) c p) 0 cs ts s f))
-    (subst (λ t. Under (rules (small v) l (λ c. leaves_others false c) (λ i c p. then (body_run (small v) c p) f) 0 cs ts s) t) (sym (rules-followed v n (λ c. leaves_others false c) (λ i c p. body_run (small v) c p) 0 cs ts s g))
-    (rules-by PointBelow v l n a (λ c. leaves_others false c) (λ i c p. then (body_run (small v) c p) f) (λ i c p. then (body_run (small v) c p) g)
+    subst (λ t. Under t (then (rules (tabled v) n (λ c. leaves_others false c) (λ i c p. body_run (tabled v) c p) 0 cs ts s) g)) (rules-return v l e k ts s cs)
+    (subst (λ t. Under t (then (rules (tabled v) n (λ c. leaves_others false c) (λ i c p. body_run (tabled v) c p) 0 cs ts s) g)) (sym (rules-followed v l (λ c. leaves_others false c) (λ i c p. body_run (tabled v) c p) 0 cs ts s f))
+    (subst (λ t. Under (rules (tabled v) l (λ c. leaves_others false c) (λ i c p. then (body_run (tabled v) c p) f) 0 cs ts s) t) (sym (rules-followed v n (λ c. leaves_others false c) (λ i c p. body_run (tabled v) c p) 0 cs ts s g))
+    (rules-by PointBelow v l n a (λ c. leaves_others false c) (λ i c p. then (body_run (tabled v) c p) f) (λ i c p. then (body_run (tabled v) c p) g)
     (λ i c p q r. body-run-under v l m b e k c p q r) 0 cs ts s)))
 
 predicate-ran : (v : View) (preds : List PredTree) (d : ℕ) (name : List ℕ) (args : List Tree) (gs : GoalTrees) (e : Places) (s : State) (k : List Frame) (t : Trace State) →
     let all : EvaluatedAll = evaluated_all (trees_of args) e s in
-    effect v name all.trees all.state ≡ None → (calls_at (level_at (small v) preds (suc d))).called name all.trees all.state ≡ t →
-    run_from v (level_at (small v) preds (suc d)) (goal (call name args) gs) e s k
-    ≡ then t (λ r. continued v (level_at (small v) preds (suc d)) (behind gs k) (point (level_at (small v) preds (suc d)) all.slots r))
+    effect v name all.trees all.state ≡ None → (calls_at (level_at (tabled v) preds (suc d))).called name all.trees all.state ≡ t →
+    run_from v (level_at (tabled v) preds (suc d)) (goal (call name args) gs) e s k
+    ≡ then t (λ r. continued v (level_at (tabled v) preds (suc d)) (behind gs k) (point (level_at (tabled v) preds (suc d)) all.slots r))
 unfolding meaning calling
 predicate-ran v preds d name args gs e s k t none is =
     let all : EvaluatedAll = evaluated_all (trees_of args) e s in
-    let m : Level = level_at (small v) preds (suc d) in
+    let m : Level = level_at (tabled v) preds (suc d) in
     let onward : Action = continued v m (behind gs k) in
     let back : State → Trace Point = λ r. one (point m all.slots r) in
-    goal-does v preds m (calls-are v preds (suc d)) (call name args) (calling (small v) name args) refl gs e s k
+    goal-does v preds m (calls-are v preds (suc d)) (call name args) (calling (tabled v) name args) refl gs e s k
     ∙ (ap (λ o. then (then (or_called o m name all.trees all.state) back) onward) none
     ∙ (ap (λ t. then (then t back) onward) is
     ∙ (then-assoc t back onward
@@ -189,74 +189,74 @@ predicate-comes v preds names name args gs e s k es pred balanced none f h false
     let all : EvaluatedAll = evaluated_all (trees_of args) e s in
     let called : Called = record { function = false; args = all.trees } in
     let b : Back = back_to [] all.state (returning all.slots (behind gs k)) in
-    let l : Level = level_at (small v) preds d in
-    let m : Level = level_at (small v) preds (suc d) in
-    let bodies : Trace State = rules (small v) l (λ c. leaves_others false c) (λ i c p. body_run (small v) c p) 0 pred.clauses all.trees all.state in
+    let l : Level = level_at (tabled v) preds d in
+    let m : Level = level_at (tabled v) preds (suc d) in
+    let bodies : Trace State = rules (tabled v) l (λ c. leaves_others false c) (λ i c p. body_run (tabled v) c p) 0 pred.clauses all.trees all.state in
     let onward : State → Trace Point = λ r. continued v m (behind gs k) (point m all.slots r) in
     subst (λ t. Below (note Tick (then t (answered_with names))) (Told v m names es (run_from v m (goal (call name args) gs) e s k)))
     (rules-tried v l called pred.clauses b es)
-    (tick-leads v l m (level-below (small v) (small-adds v) preds d) names es balanced (rules_trace v l called pred.clauses b) (then bodies onward) (run_from v m (goal (call name args) gs) e s k)
+    (tick-leads v l m (level-below (tabled v) (tabled-adds v) preds d) names es balanced (rules_trace v l called pred.clauses b) (then bodies onward) (run_from v m (goal (call name args) gs) e s k)
     (predicate-ran v preds d name args gs e s k (note Tick bodies) none (called-counted v preds d name all.trees all.state pred f h counted))
-    (predicate-under v l l m (level-itself l) (level-below (small v) (small-adds v) preds d) all.slots (behind gs k) all.trees all.state pred.clauses))
+    (predicate-under v l l m (level-itself l) (level-below (tabled v) (tabled-adds v) preds d) all.slots (behind gs k) all.trees all.state pred.clauses))
 predicate-comes v preds names name args gs e s k es pred balanced none f h true quiet = λ d.
     let all : EvaluatedAll = evaluated_all (trees_of args) e s in
     let called : Called = record { function = false; args = all.trees } in
     let b : Back = back_to [] all.state (returning all.slots (behind gs k)) in
-    let l : Level = level_at (small v) preds d in
+    let l : Level = level_at (tabled v) preds d in
     let n : Level = inner_level v preds d in
-    let m : Level = level_at (small v) preds (suc d) in
-    let bodies : Trace State = rules (small v) n (λ c. leaves_others false c) (λ i c p. body_run (small v) c p) 0 pred.clauses all.trees all.state in
+    let m : Level = level_at (tabled v) preds (suc d) in
+    let bodies : Trace State = rules (tabled v) n (λ c. leaves_others false c) (λ i c p. body_run (tabled v) c p) 0 pred.clauses all.trees all.state in
     subst (λ t. Below (then t (answered_with names)) (Told v m names es (run_from v m (goal (call name args) gs) e s k)))
     (rules-tried v l called pred.clauses b es)
-    (quiet-leads v l m (level-below (small v) (small-adds v) preds d) names es (rules_trace v l called pred.clauses b) (run_from v m (goal (call name args) gs) e s k)
+    (quiet-leads v l m (level-below (tabled v) (tabled-adds v) preds d) names es (rules_trace v l called pred.clauses b) (run_from v m (goal (call name args) gs) e s k)
     (subst (λ t. Under (rules_trace v l called pred.clauses b) t)
     (sym (predicate-ran v preds d name args gs e s k bodies none (called-quiet v preds d name all.trees all.state pred f h quiet)))
-    (predicate-under v l n m (quiet-deeper (small v) (small-adds v) preds d) (level-below (small v) (small-adds v) preds d) all.slots (behind gs k) all.trees all.state pred.clauses)))
+    (predicate-under v l n m (quiet-deeper (tabled v) (tabled-adds v) preds d) (level-below (tabled v) (tabled-adds v) preds d) all.slots (behind gs k) all.trees all.state pred.clauses)))
 
 -- ---- functions
 
 applied-counted : (v : View) (preds : List PredTree) (d : ℕ) (name : List ℕ) (ts : Trees) (s : State) (pred : PredTree) →
     find_pred true name (tree_count ts) preds ≡ Some pred → pred.quiet ≡ false →
-    (calls_at (level_at (small v) preds (suc d))).applied name ts s ≡ note Tick (function_run (small v) (level_at (small v) preds d) pred ts s)
+    (calls_at (level_at (tabled v) preds (suc d))).applied name ts s ≡ note Tick (function_run (tabled v) (level_at (tabled v) preds d) pred ts s)
 unfolding level_at quiet_level calls_of
 applied-counted v preds d name ts s pred f counted =
-    let below : Option Level = Some (level_at (small v) preds d) in
-    let inner : Option Level = Some (quiet_level (small v) preds below (length preds + d)) in
-    ap (λ o. application_run (small v) inner below o ts s) f
-    ∙ ap (λ q. entered q inner below (λ l. function_run (small v) l pred ts s)) counted
+    let below : Option Level = Some (level_at (tabled v) preds d) in
+    let inner : Option Level = Some (quiet_level (tabled v) preds below (length preds + d)) in
+    ap (λ o. application_run (tabled v) inner below o ts s) f
+    ∙ ap (λ q. entered q inner below (λ l. function_run (tabled v) l pred ts s)) counted
 
 applied-quiet : (v : View) (preds : List PredTree) (d : ℕ) (name : List ℕ) (ts : Trees) (s : State) (pred : PredTree) →
     find_pred true name (tree_count ts) preds ≡ Some pred → pred.quiet ≡ true →
-    (calls_at (level_at (small v) preds (suc d))).applied name ts s ≡ function_run (small v) (inner_level v preds d) pred ts s
+    (calls_at (level_at (tabled v) preds (suc d))).applied name ts s ≡ function_run (tabled v) (inner_level v preds d) pred ts s
 unfolding level_at quiet_level calls_of
 applied-quiet v preds d name ts s pred f quiet =
-    let below : Option Level = Some (level_at (small v) preds d) in
-    let inner : Option Level = Some (quiet_level (small v) preds below (length preds + d)) in
-    ap (λ o. application_run (small v) inner below o ts s) f
-    ∙ ap (λ q. entered q inner below (λ l. function_run (small v) l pred ts s)) quiet
+    let below : Option Level = Some (level_at (tabled v) preds d) in
+    let inner : Option Level = Some (quiet_level (tabled v) preds below (length preds + d)) in
+    ap (λ o. application_run (tabled v) inner below o ts s) f
+    ∙ ap (λ q. entered q inner below (λ l. function_run (tabled v) l pred ts s)) quiet
 
 -- the value of a rule of a function, as the answer of its level
 value-returns : (v : View) (l : Level) (c : ClauseTree) (p : Point) →
-    then (value_run (small v) c p) (λ a. one (valued l a)) ≡ then (meaning (small v) c.body p) (continued v l (give c.value ∷ []))
+    then (value_run (tabled v) c p) (λ a. one (valued l a)) ≡ then (meaning (tabled v) c.body p) (continued v l (give c.value ∷ []))
 unfolding strictly continued
 value-returns v l c p =
     let give_value : Applied → Trace Point = λ a. one (valued l a) in
     let drain : Action = draining (λ q. one q) in
-    then-assoc (then (meaning (small v) c.body p) drain) (value_at c.value) give_value
-    ∙ then-assoc (meaning (small v) c.body p) drain (λ q. then (value_at c.value q) give_value)
+    then-assoc (then (meaning (tabled v) c.body p) drain) (value_at c.value) give_value
+    ∙ then-assoc (meaning (tabled v) c.body p) drain (λ q. then (value_at c.value q) give_value)
 
 values-return : (v : View) (l : Level) (ts : Trees) (s : State) (cs : List ClauseTree) →
-    RulesDoSame (λ i c p. then (value_run (small v) c p) (λ a. one (valued l a))) (λ i c p. body_of v l (record { function = true; args = ts }) (back_to [] s []) c p) cs
+    RulesDoSame (λ i c p. then (value_run (tabled v) c p) (λ a. one (valued l a))) (λ i c p. body_of v l (record { function = true; args = ts }) (back_to [] s []) c p) cs
 unfolding RulesDoSame
 values-return v l ts s [] = tt
 values-return v l ts s (c ∷ cs) = (λ i j p. value-returns v l c p, values-return v l ts s cs)
 
 function-returns : (v : View) (l : Level) (ts : Trees) (s : State) (cs : List ClauseTree) →
-    then (rules (small v) l (λ c. leaves_others true c) (λ i c p. value_run (small v) c p) 0 cs ts s) (λ a. one (valued l a)) ≡ rules_trace v l (record { function = true; args = ts }) cs (back_to [] s [])
+    then (rules (tabled v) l (λ c. leaves_others true c) (λ i c p. value_run (tabled v) c p) 0 cs ts s) (λ a. one (valued l a)) ≡ rules_trace v l (record { function = true; args = ts }) cs (back_to [] s [])
 unfolding rules_trace
 function-returns v l ts s cs =
-    rules-followed v l (λ c. leaves_others true c) (λ i c p. value_run (small v) c p) 0 cs ts s (λ a. one (valued l a))
-    ∙ rules-same v l (λ c. leaves_others true c) (λ i c p. then (value_run (small v) c p) (λ a. one (valued l a)))
+    rules-followed v l (λ c. leaves_others true c) (λ i c p. value_run (tabled v) c p) 0 cs ts s (λ a. one (valued l a))
+    ∙ rules-same v l (λ c. leaves_others true c) (λ i c p. then (value_run (tabled v) c p) (λ a. one (valued l a)))
     (λ i c p. body_of v l (record { function = true; args = ts }) (back_to [] s []) c p) 0 0 cs ts s (values-return v l ts s cs)
 
 -- what a call of a function goes on with
@@ -265,19 +265,20 @@ with_value v l slots into k a = continued v l k (point l (slice_set slots into (
 
 function-ran : (v : View) (preds : List PredTree) (d : ℕ) (name : List ℕ) (args : List Tree) (into : ℕ) (gs : GoalTrees) (e : Places) (s : State) (k : List Frame) (t : Trace Applied) →
     let all : EvaluatedAll = evaluated_all (trees_of args) e s in
-    (calls_at (level_at (small v) preds (suc d))).applied name all.trees all.state ≡ t →
-    run_from v (level_at (small v) preds (suc d)) (goal (apply name args into) gs) e s k ≡ then t (with_value v (level_at (small v) preds (suc d)) all.slots into (behind gs k))
-unfolding meaning applying function_effect
-function-ran v preds d name args into gs e s k t is =
+    function_effect name all.trees all.state ≡ None → (calls_at (level_at (tabled v) preds (suc d))).applied name all.trees all.state ≡ t →
+    run_from v (level_at (tabled v) preds (suc d)) (goal (apply name args into) gs) e s k ≡ then t (with_value v (level_at (tabled v) preds (suc d)) all.slots into (behind gs k))
+unfolding meaning applying
+function-ran v preds d name args into gs e s k t none is =
     let all : EvaluatedAll = evaluated_all (trees_of args) e s in
-    let m : Level = level_at (small v) preds (suc d) in
+    let m : Level = level_at (tabled v) preds (suc d) in
     let onward : Action = continued v m (behind gs k) in
     let back : Applied → Trace Point = λ a. one (point m (slice_set all.slots into (Some a.value)) a.state) in
-    goal-does v preds m (calls-are v preds (suc d)) (apply name args into) (applying (small v) name args into) refl gs e s k
+    goal-does v preds m (calls-are v preds (suc d)) (apply name args into) (applying (tabled v) name args into) refl gs e s k
+    ∙ (ap (λ o. then (then (or_applied o m name all.trees all.state) back) onward) none
     ∙ (ap (λ t. then (then t back) onward) is
     ∙ (then-assoc t back onward
     ∙ then-same t (λ a. then (back a) onward) (with_value v m all.slots into (behind gs k))
-    (λ a. one-goes_on onward (point m (slice_set all.slots into (Some a.value)) a.state))))
+    (λ a. one-goes_on onward (point m (slice_set all.slots into (Some a.value)) a.state)))))
 
 -- a call without an answer raises, whatever is behind it
 unresolved-under : (called : Tree) (s : State) (f : Point → Trace Point) (g : Applied → Trace Point) →
@@ -293,20 +294,20 @@ value-at-under None p q r = end_by Done
 value-at-under (Some t) p q r = points-same (λ e s. let x : Evaluated = evaluated t e s in one (record { value = x.tree; state = x.state })) p q r
 
 values-under : (v : View) (l n : Level) → LevelBelow l n → (cs : List ClauseTree) (ts : Trees) (s : State) →
-    BelowBy Same (rules (small v) l (λ c. leaves_others true c) (λ i c p. value_run (small v) c p) 0 cs ts s) (rules (small v) n (λ c. leaves_others true c) (λ i c p. value_run (small v) c p) 0 cs ts s)
+    BelowBy Same (rules (tabled v) l (λ c. leaves_others true c) (λ i c p. value_run (tabled v) c p) 0 cs ts s) (rules (tabled v) n (λ c. leaves_others true c) (λ i c p. value_run (tabled v) c p) 0 cs ts s)
 values-under v l n h cs ts s =
-    rules-by Same v l n h (λ c. leaves_others true c) (λ i c p. value_run (small v) c p) (λ i c p. value_run (small v) c p)
-    (λ i c p q r. by-then PointBelow Same (strictly (meaning (small v) c.body) p) (strictly (meaning (small v) c.body) q) (value_at c.value) (value_at c.value)
-    (strict-below (small v) (small-adds v) c.body p q r) (value-at-under c.value)) 0 cs ts s
+    rules-by Same v l n h (λ c. leaves_others true c) (λ i c p. value_run (tabled v) c p) (λ i c p. value_run (tabled v) c p)
+    (λ i c p q r. by-then PointBelow Same (strictly (meaning (tabled v) c.body) p) (strictly (meaning (tabled v) c.body) q) (value_at c.value) (value_at c.value)
+    (strict-below (tabled v) (tabled-adds v) c.body p q r) (value-at-under c.value)) 0 cs ts s
 
 -- the level of a call and what is behind it, under the call at a higher level, with what is behind it at another one
 function-under : (v : View) (l n m : Level) → LevelBelow l n → LevelBelow l m → (pred : PredTree) (ts : Trees) (s : State) (slots : Places) (into : ℕ) (k : List Frame) →
     Under (level_trace v l (value_level (comp pred.name ts) into) (back_to slots s k) (rules_trace v l (record { function = true; args = ts }) pred.clauses (back_to [] s [])))
-    (then (function_run (small v) n pred ts s) (with_value v m slots into k))
+    (then (function_run (tabled v) n pred ts s) (with_value v m slots into k))
 unfolding level_trace function_run then
 function-under v l n m low h pred ts s slots into k =
-    let values : Trace Applied = rules (small v) l (λ c. leaves_others true c) (λ i c p. value_run (small v) c p) 0 pred.clauses ts s in
-    let higher : Trace Applied = rules (small v) n (λ c. leaves_others true c) (λ i c p. value_run (small v) c p) 0 pred.clauses ts s in
+    let values : Trace Applied = rules (tabled v) l (λ c. leaves_others true c) (λ i c p. value_run (tabled v) c p) 0 pred.clauses ts s in
+    let higher : Trace Applied = rules (tabled v) n (λ c. leaves_others true c) (λ i c p. value_run (tabled v) c p) 0 pred.clauses ts s in
     let take : Point → Trace Point = λ q. one (point l (slice_set slots into (held q.slots 0)) q.state) in
     let onward : Action = continued v l k in
     let raise : Trace Point = raised_with (codes "unresolved_function_call") (comp pred.name ts) s in
@@ -332,39 +333,39 @@ function-under v l n m low h pred ts s slots into k =
 pub function-comes : (v : View) (preds : List PredTree) (names : List NameSlot) (name : List ℕ) (args : List Tree) (into : ℕ) (gs : GoalTrees) (e : Places) (s : State)
     (k : List Frame) (es : List Entry) (pred : PredTree) → IsBalanced 0 es →
     let all : EvaluatedAll = evaluated_all (trees_of args) e s in
-    find_pred true name (tree_count all.trees) preds ≡ Some pred →
+    function_effect name all.trees all.state ≡ None → find_pred true name (tree_count all.trees) preds ≡ Some pred →
     let called : Called = record { function = true; args = all.trees } in
     let level : Entry = strict (value_level (comp pred.name all.trees) into) (back_to all.slots all.state (behind gs k)) in
     (quiet : Bool) → pred.quiet ≡ quiet →
     Comes v preds names (config (going (goal (apply name args into) gs) e s k) es) (call_step quiet (try_rules called pred.clauses (back_to [] all.state []) (level ∷ es)))
 unfolding remaining_at now_trace around then
-function-comes v preds names name args into gs e s k es pred balanced f false counted = λ d.
+function-comes v preds names name args into gs e s k es pred balanced none f false counted = λ d.
     let all : EvaluatedAll = evaluated_all (trees_of args) e s in
     let called : Called = record { function = true; args = all.trees } in
     let b : Back = back_to all.slots all.state (behind gs k) in
     let level : Strict = value_level (comp pred.name all.trees) into in
-    let l : Level = level_at (small v) preds d in
-    let m : Level = level_at (small v) preds (suc d) in
-    let run : Trace Applied = function_run (small v) l pred all.trees all.state in
+    let l : Level = level_at (tabled v) preds d in
+    let m : Level = level_at (tabled v) preds (suc d) in
+    let run : Trace Applied = function_run (tabled v) l pred all.trees all.state in
     let t : Trace Point = level_trace v l level b (rules_trace v l called pred.clauses (back_to [] all.state [])) in
     subst (λ t. Below (note Tick (then t (answered_with names))) (Told v m names es (run_from v m (goal (apply name args into) gs) e s k)))
     (rules-tried v l called pred.clauses (back_to [] all.state []) (strict level b ∷ es))
-    (tick-leads v l m (level-below (small v) (small-adds v) preds d) names es balanced t (then run (with_value v m all.slots into (behind gs k))) (run_from v m (goal (apply name args into) gs) e s k)
-    (function-ran v preds d name args into gs e s k (note Tick run) (applied-counted v preds d name all.trees all.state pred f counted))
-    (function-under v l l m (level-itself l) (level-below (small v) (small-adds v) preds d) pred all.trees all.state all.slots into (behind gs k)))
-function-comes v preds names name args into gs e s k es pred balanced f true quiet = λ d.
+    (tick-leads v l m (level-below (tabled v) (tabled-adds v) preds d) names es balanced t (then run (with_value v m all.slots into (behind gs k))) (run_from v m (goal (apply name args into) gs) e s k)
+    (function-ran v preds d name args into gs e s k (note Tick run) none (applied-counted v preds d name all.trees all.state pred f counted))
+    (function-under v l l m (level-itself l) (level-below (tabled v) (tabled-adds v) preds d) pred all.trees all.state all.slots into (behind gs k)))
+function-comes v preds names name args into gs e s k es pred balanced none f true quiet = λ d.
     let all : EvaluatedAll = evaluated_all (trees_of args) e s in
     let called : Called = record { function = true; args = all.trees } in
     let b : Back = back_to all.slots all.state (behind gs k) in
     let level : Strict = value_level (comp pred.name all.trees) into in
-    let l : Level = level_at (small v) preds d in
+    let l : Level = level_at (tabled v) preds d in
     let n : Level = inner_level v preds d in
-    let m : Level = level_at (small v) preds (suc d) in
-    let run : Trace Applied = function_run (small v) n pred all.trees all.state in
+    let m : Level = level_at (tabled v) preds (suc d) in
+    let run : Trace Applied = function_run (tabled v) n pred all.trees all.state in
     let t : Trace Point = level_trace v l level b (rules_trace v l called pred.clauses (back_to [] all.state [])) in
     subst (λ t. Below (then t (answered_with names)) (Told v m names es (run_from v m (goal (apply name args into) gs) e s k)))
     (rules-tried v l called pred.clauses (back_to [] all.state []) (strict level b ∷ es))
-    (quiet-leads v l m (level-below (small v) (small-adds v) preds d) names es t (run_from v m (goal (apply name args into) gs) e s k)
+    (quiet-leads v l m (level-below (tabled v) (tabled-adds v) preds d) names es t (run_from v m (goal (apply name args into) gs) e s k)
     (subst (λ u. Under t u)
-    (sym (function-ran v preds d name args into gs e s k run (applied-quiet v preds d name all.trees all.state pred f quiet)))
-    (function-under v l n m (quiet-deeper (small v) (small-adds v) preds d) (level-below (small v) (small-adds v) preds d) pred all.trees all.state all.slots into (behind gs k))))
+    (sym (function-ran v preds d name args into gs e s k run none (applied-quiet v preds d name all.trees all.state pred f quiet)))
+    (function-under v l n m (quiet-deeper (tabled v) (tabled-adds v) preds d) (level-below (tabled v) (tabled-adds v) preds d) pred all.trees all.state all.slots into (behind gs k))))

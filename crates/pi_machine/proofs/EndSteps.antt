@@ -9,7 +9,7 @@ use Rattle.pi_core.specs.GoalTree.{GoalTree}
 use Rattle.pi_traces.specs.Trace.{end, Raise, done, one, alt, then, first}
 use Rattle.pi_traces.specs.Control.{negated, chosen, collected, counted, caught}
 use Rattle.pi_meaning.specs.View.{View}
-use Rattle.pi_meaning.specs.Instances.{small}
+use Rattle.pi_meaning.specs.Instances.{tabled}
 use Rattle.pi_meaning.specs.Settle.{settled}
 use Rattle.pi_states.specs.Evaluation.{with_new_variables}
 use Rattle.pi_effects.specs.Exception.{exception_with}
@@ -80,11 +80,11 @@ strict-raises v l (list_level slot into got) b es ball = refl
 strict-raises v l (number_level into n) b es ball = refl
 
 handler-runs : (v : View) (l : Level) (handler : GoalTree) (b : Back) (raised : Tree) (o : Option State) →
-    then (handled_in b.state raised (λ s. meaning (small v) handler (point l b.slots s)) o) (continued v l b.frames) ≡ now_trace v l (handler_step handler b raised o)
+    then (handled_in b.state raised (λ s. meaning (tabled v) handler (point l b.slots s)) o) (continued v l b.frames) ≡ now_trace v l (handler_step handler b raised o)
 unfolding now_trace then alt settled
 handler-runs v l handler b raised None = refl
 handler-runs v l handler b raised (Some s) =
-    ap (λ t. then t (continued v l b.frames)) (alt-done (meaning (small v) handler (point l b.slots s))) ∙ sym (goal-alone v l handler b.slots s b.frames)
+    ap (λ t. then t (continued v l b.frames)) (alt-done (meaning (tabled v) handler (point l b.slots s))) ∙ sym (goal-alone v l handler b.slots s b.frames)
 
 pub catch-raises : (v : View) (l : Level) (ball : Tree) (handler : GoalTree) (b : Back) (es : List Entry) (raised : Tree) →
     Is v l (catch_level ball handler b ∷ es) (end (Raise raised))

@@ -6,20 +6,19 @@ use Rattle.pi_terms.specs.Places.{Places}
 use Rattle.pi_states.specs.State.{State, bindings}
 use Rattle.pi_core.specs.GoalTree.{GoalTree, truth, fail, tick, call, apply, seq, alternatives, if_else, not, once, collect, count, catch, GoalTrees, no_goals, goal}
 use Rattle.pi_core.specs.CoreTree.{ClauseTree, PredTree, find_pred, leaves_others}
-use Rattle.pi_traces.specs.Trace.{Trace}
 use Rattle.pi_meaning.specs.View.{View}
 use Rattle.pi_states.specs.Evaluation.{EvaluatedAll, evaluated_all}
 use Rattle.pi_states.specs.HeadMatch.{matched_all_in}
-use Rattle.pi_meaning.specs.Level.{Applied}
-use Rattle.pi_meaning.specs.Builtin.{effect, function_effect}
 use Rattle.pi_meaning.specs.Run.{Solution}
 use Rattle.pi_core.specs.declared.core_program.NameSlot.{NameSlot}
-use Rattle.pi_machine.specs.Configuration.{Frame, more, return, give, Back, Called, Choice, rules_left, branches_left, Strict, once_level, not_level, if_level, guard_level, value_level, list_level, number_level, Entry, choice, strict, catch_level, left, Now, going, failed, raising, Config, behind}
+use Rattle.pi_machine.specs.Configuration.{Frame, more, return, give, Back, Called, Choice, rules_left, branches_left, Strict, once_level, not_level, if_level, guard_level, value_level, list_level, number_level, Entry, choice, strict, catch_level, left, Now, going, failed, raising, Config, behind, telling}
 use Rattle.pi_machine.specs.Step.{back_to, branch, guarding, tried, try_rules, later_rules, call_step, predicate_step, effect_step, function_step, value_step, goal_step, frame_step, Open, none_open, strict_open, catch_open, newest_open, strict_step, leave, fits, told_step, answer_step, choice_step, end_step, fail_step, below_left, raise_step, now_step, step}
 use Rattle.pi_machine.specs.Shape.{IsBalanced, IsGood}
 use Rattle.pi_machine.specs.StepLaws.{GoesOnGood}
 use Rattle.pi_machine.proofs.StackLemmas.{IsClosed, IsFound, newest-found}
 use Rattle.pi_machine.proofs.EndSteps.{IsMatched, left-matched}
+use Rattle.pi_effects.specs.Effect.{Effect, FunctionEffect}
+use Rattle.pi_effects.specs.BuiltIns.{built_in_predicate, built_in_function}
 
 pub closed-rest : (n : ℕ) (above rest : List Entry) → IsClosed n above → IsBalanced n (above ++ rest) → IsBalanced 0 rest
 unfolding IsClosed IsBalanced
@@ -93,20 +92,20 @@ predicate-good : (o : Option PredTree) (all : EvaluatedAll) (k : List Frame) (es
 predicate-good None all k es h = record { balanced = h }
 predicate-good (Some pred) all k es h = call-good pred.quiet _ (record { balanced = rules-keep _ _ _ _ h })
 
-effect-good : (o : Option (Trace State)) (preds : List PredTree) (name : List ℕ) (all : EvaluatedAll) (gs : GoalTrees) (k : List Frame) (es : List Entry) → IsBalanced 0 es →
-    GoesOnGood (effect_step o preds name all gs k es)
-effect-good None preds name all gs k es h = predicate-good (find_pred false name (tree_count all.trees) preds) all (behind gs k) es h
-effect-good (Some t) preds name all gs k es h = record { balanced = h }
+effect-good : (v : View) (o : Option Effect) (preds : List PredTree) (name : List ℕ) (all : EvaluatedAll) (gs : GoalTrees) (k : List Frame) (es : List Entry) → IsBalanced 0 es →
+    GoesOnGood (effect_step v o preds name all gs k es)
+effect-good v None preds name all gs k es h = predicate-good (find_pred false name (tree_count all.trees) preds) all (behind gs k) es h
+effect-good v (Some d) preds name all gs k es h = record { balanced = h }
 
 function-good : (o : Option PredTree) (all : EvaluatedAll) (into : ℕ) (k : List Frame) (es : List Entry) → IsBalanced 0 es → GoesOnGood (function_step o all into k es)
 unfolding IsBalanced
 function-good None all into k es h = record { balanced = h }
 function-good (Some pred) all into k es h = call-good pred.quiet _ (record { balanced = rules-keep _ _ _ _ h })
 
-value-good : (o : Option (Trace Applied)) (preds : List PredTree) (name : List ℕ) (all : EvaluatedAll) (into : ℕ) (gs : GoalTrees) (k : List Frame) (es : List Entry) → IsBalanced 0 es →
+value-good : (o : Option FunctionEffect) (preds : List PredTree) (name : List ℕ) (all : EvaluatedAll) (into : ℕ) (gs : GoalTrees) (k : List Frame) (es : List Entry) → IsBalanced 0 es →
     GoesOnGood (value_step o preds name all into gs k es)
 value-good None preds name all into gs k es h = function-good (find_pred true name (tree_count all.trees) preds) all into (behind gs k) es h
-value-good (Some t) preds name all into gs k es h = record { balanced = h }
+value-good (Some d) preds name all into gs k es h = record { balanced = h }
 
 goal-good : (v : View) (preds : List PredTree) (g : GoalTree) (gs : GoalTrees) (e : Places) (s : State) (k : List Frame) (es : List Entry) → IsBalanced 0 es →
     GoesOnGood (goal_step v preds g gs e s k es)
@@ -115,9 +114,9 @@ goal-good v preds truth gs e s k es h = record { balanced = h }
 goal-good v preds fail gs e s k es h = record { balanced = h }
 goal-good v preds tick gs e s k es h = record { balanced = h }
 goal-good v preds (call name args) gs e s k es h =
-    let all : EvaluatedAll = evaluated_all (trees_of args) e s in effect-good (effect v name all.trees all.state) preds name all gs k es h
+    let all : EvaluatedAll = evaluated_all (trees_of args) e s in effect-good v (built_in_predicate name all.trees all.state) preds name all gs k es h
 goal-good v preds (apply name args into) gs e s k es h =
-    let all : EvaluatedAll = evaluated_all (trees_of args) e s in value-good (function_effect name all.trees all.state) preds name all into gs k es h
+    let all : EvaluatedAll = evaluated_all (trees_of args) e s in value-good (built_in_function name all.trees all.state) preds name all into gs k es h
 goal-good v preds (seq hs) gs e s k es h = record { balanced = h }
 goal-good v preds (alternatives hs) gs e s k es h = record { balanced = branch-keeps hs (back_to e s (behind gs k)) es h }
 goal-good v preds (if_else test g other) gs e s k es h = record { balanced = h }
@@ -214,6 +213,7 @@ now-good : (v : View) (preds : List PredTree) (names : List NameSlot) (now : Now
 now-good v preds names (going (goal g gs) e s k) es h = goal-good v preds g gs e s k es h
 now-good v preds names (going no_goals e s []) es h = answer-good names e s es h (newest_open zero es) (newest-found zero es)
 now-good v preds names (going no_goals e s (f ∷ k)) es h = record { balanced = frame-keeps f e s k es h }
+now-good v preds names (telling text gs e s k) es h = record { balanced = h }
 now-good v preds names failed es h = fail-good es h
 now-good v preds names (raising raised) es h = raise-good raised es h
 

@@ -8,12 +8,12 @@ use Rattle.pi_terms.specs.Copy.{copy, new_variables}
 use Rattle.pi_states.specs.Unify.{unified}
 use Rattle.pi_core.specs.GoalTree.{GoalTree, truth, GoalTrees}
 use Rattle.pi_core.specs.CoreTree.{ClauseTree, leaves_others}
-use Rattle.pi_traces.specs.Trace.{Trace, Done, Raise, one, done, alt, then, first}
+use Rattle.pi_traces.specs.Trace.{Trace, Done, Raise, one, done, alt, then, first, Out}
 use Rattle.pi_traces.specs.Control.{negated, chosen, collected, counted, caught}
 use Rattle.pi_traces.specs.Depth.{Below}
-use Rattle.pi_traces.specs.Related.{BelowBy, end_by}
+use Rattle.pi_traces.specs.Related.{BelowBy, end_by, note_by}
 use Rattle.pi_meaning.specs.View.{View}
-use Rattle.pi_meaning.specs.Instances.{small}
+use Rattle.pi_meaning.specs.Instances.{tabled}
 use Rattle.pi_meaning.specs.Settle.{settled}
 use Rattle.pi_states.specs.Evaluation.{Evaluated, evaluated, with_new_variables}
 use Rattle.pi_states.specs.HeadMatch.{matched_all_in}
@@ -27,8 +27,8 @@ use Rattle.pi_core.specs.declared.core_program.NameSlot.{NameSlot}
 use Rattle.pi_traces.proofs.BelowLemmas.{below-refl}
 use Rattle.pi_traces.proofs.RelatedLemmas.{Same, below-by, by-same, by-one, by-alt, by-then, by-then_same, by-first, by-negated, by-chosen, by-collected, by-counted, by-caught}
 use Rattle.pi_meaning.proofs.MeaningLemmas.{calls-below, at-points, all-monotone, any-monotone, meaning-below, strict-below}
-use Rattle.pi_meaning.proofs.CallLemmas.{small-adds}
-use Rattle.pi_machine.specs.Configuration.{Frame, more, return, give, Back, Called, Choice, rules_left, branches_left, Strict, once_level, not_level, if_level, guard_level, value_level, list_level, number_level, Entry, choice, strict, catch_level, left, Now, going, failed, raising, Config, after_body}
+use Rattle.pi_meaning.proofs.CallLemmas.{tabled-adds}
+use Rattle.pi_machine.specs.Configuration.{Frame, more, return, give, Back, Called, Choice, rules_left, branches_left, Strict, once_level, not_level, if_level, guard_level, value_level, list_level, number_level, Entry, choice, strict, catch_level, left, Now, going, failed, raising, Config, after_body, telling}
 use Rattle.pi_machine.specs.Step.{unresolved}
 use Rattle.pi_machine.proofs.EndSteps.{unresolved-raise}
 use Rattle.pi_machine.specs.Remaining.{point, valued, continued, run_from, start_of, body_of, rules_trace, choice_trace, level_trace, catch_trace, outside, further, around, now_trace, remaining_at}
@@ -66,8 +66,8 @@ pub continued-under : (v : View) (l m : Level) → LevelBelow l m → (k : List 
 unfolding continued
 continued-under v l m h [] p q r = drains-under p q r
 continued-under v l m h (more gs ∷ k) p q r =
-    by-then PointBelow PointBelow (meaning_of_all (small v) gs p) (meaning_of_all (small v) gs q) (continued v l k) (continued v m k)
-    (at-points (meaning_of_all (small v) gs) (all-monotone (small v) (small-adds v) gs) p q r) (continued-under v l m h k)
+    by-then PointBelow PointBelow (meaning_of_all (tabled v) gs p) (meaning_of_all (tabled v) gs q) (continued v l k) (continued v m k)
+    (at-points (meaning_of_all (tabled v) gs) (all-monotone (tabled v) (tabled-adds v) gs) p q r) (continued-under v l m h k)
 continued-under v l m h (return e ∷ k) p q r = continued-under v l m h k (point l e p.state) (point m e q.state) (at-block l m h e p q r)
 continued-under v l m h (give t ∷ k) p q r =
     by-then PointBelow PointBelow (draining (λ x. one x) p) (draining (λ x. one x) q)
@@ -83,42 +83,42 @@ start-under l m h e s = same_but_level h e s
 
 run-under : (v : View) (l m : Level) → LevelBelow l m → (gs : GoalTrees) (e : Places) (s : State) (k : List Frame) → Under (run_from v l gs e s k) (run_from v m gs e s k)
 run-under v l m h gs e s k =
-    then-under v l m h k (meaning_of_all (small v) gs (point l e s)) (meaning_of_all (small v) gs (point m e s))
-    (at-points (meaning_of_all (small v) gs) (all-monotone (small v) (small-adds v) gs) (point l e s) (point m e s) (same_but_level h e s))
+    then-under v l m h k (meaning_of_all (tabled v) gs (point l e s)) (meaning_of_all (tabled v) gs (point m e s))
+    (at-points (meaning_of_all (tabled v) gs) (all-monotone (tabled v) (tabled-adds v) gs) (point l e s) (point m e s) (same_but_level h e s))
 
 -- ---- rules
 
 body-under : (v : View) (l m : Level) → LevelBelow l m → (called : Called) (b : Back) (c : ClauseTree) (p q : Point) → PointBelow p q →
     Under (body_of v l called b c p) (body_of v m called b c q)
 body-under v l m h called b c p q r =
-    then-under v l m h (after_body called.function c b.frames) (meaning (small v) c.body p) (meaning (small v) c.body q) (meaning-below (small v) (small-adds v) c.body p q r)
+    then-under v l m h (after_body called.function c b.frames) (meaning (tabled v) c.body p) (meaning (tabled v) c.body q) (meaning-below (tabled v) (tabled-adds v) c.body p q r)
 
 -- rules of which each does the same and maybe more, with answers that are related
 chosen-by : {X : Type 0} (R : X → X → Type 0) (back : Bool) (t t' rest rest' : Trace X) → BelowBy R t t' → BelowBy R rest rest' → BelowBy R (chosen_rule back t rest) (chosen_rule back t' rest')
 chosen-by R true t t' rest rest' a b = by-alt R t t' rest rest' a b
 chosen-by R false t t' rest rest' a b = a
 
-guarded-under : (v : View) (l m : Level) → LevelBelow l m → (g : GoalTree) (e : Places) (s : State) → Under (guarded (small v) g (point l e s)) (guarded (small v) g (point m e s))
+guarded-under : (v : View) (l m : Level) → LevelBelow l m → (g : GoalTree) (e : Places) (s : State) → Under (guarded (tabled v) g (point l e s)) (guarded (tabled v) g (point m e s))
 guarded-under v l m h truth e s = one-under (point l e s) (point m e s) (same_but_level h e s)
-guarded-under v l m h g e s = strict-below (small v) (small-adds v) g (point l e s) (point m e s) (same_but_level h e s)
+guarded-under v l m h g e s = strict-below (tabled v) (tabled-adds v) g (point l e s) (point m e s) (same_but_level h e s)
 
 rule-by : {X : Type 0} (R : X → X → Type 0) (v : View) (l m : Level) → LevelBelow l m → (c : ClauseTree) (back : Bool) (does other : Point → Trace X) →
     ((p q : Point) → PointBelow p q → BelowBy R (does p) (other q)) → (s : State) (rest rest' : Trace X) → BelowBy R rest rest' → (e : Option Places) →
-    BelowBy R (rule_before (small v) l c back does s rest e) (rule_before (small v) m c back other s rest' e)
+    BelowBy R (rule_before (tabled v) l c back does s rest e) (rule_before (tabled v) m c back other s rest' e)
 rule-by R v l m h c back does other d s rest rest' r None = r
 rule-by R v l m h c back does other d s rest rest' r (Some e) =
-    by-chosen PointBelow R (guarded (small v) c.guard (point l e s)) (guarded (small v) c.guard (point m e s))
+    by-chosen PointBelow R (guarded (tabled v) c.guard (point l e s)) (guarded (tabled v) c.guard (point m e s))
     (λ p. chosen_rule back (does p) rest) (λ p. chosen_rule back (other p) rest') rest rest'
     (guarded-under v l m h c.guard e s)
     (λ p q x. chosen-by R back (does p) (other q) rest rest' (d p q x) r) r
 
 pub rules-by : {X : Type 0} (R : X → X → Type 0) (v : View) (l m : Level) → LevelBelow l m → (back : ClauseTree → Bool) (does other : ℕ → ClauseTree → Point → Trace X) →
     ((i : ℕ) (c : ClauseTree) (p q : Point) → PointBelow p q → BelowBy R (does i c p) (other i c q)) →
-    (i : ℕ) (cs : List ClauseTree) (ts : Trees) (s : State) → BelowBy R (rules (small v) l back does i cs ts s) (rules (small v) m back other i cs ts s)
+    (i : ℕ) (cs : List ClauseTree) (ts : Trees) (s : State) → BelowBy R (rules (tabled v) l back does i cs ts s) (rules (tabled v) m back other i cs ts s)
 unfolding rules
 rules-by R v l m h back does other d i [] ts s = end_by Done
 rules-by R v l m h back does other d i (c ∷ cs) ts s =
-    rule-by R v l m h c (back c) (does i c) (other i c) (d i c) s (rules (small v) l back does (suc i) cs ts s) (rules (small v) m back other (suc i) cs ts s)
+    rule-by R v l m h c (back c) (does i c) (other i c) (d i c) s (rules (tabled v) l back does (suc i) cs ts s) (rules (tabled v) m back other (suc i) cs ts s)
     (rules-by R v l m h back does other d (suc i) cs ts s) (matched_all_in (bindings s) c.head ts (replicate c.slots None))
 
 rules-under : (v : View) (l m : Level) → LevelBelow l m → (called : Called) (cs : List ClauseTree) (b : Back) → Under (rules_trace v l called cs b) (rules_trace v m called cs b)
@@ -140,8 +140,8 @@ choice-under : (v : View) (l m : Level) → LevelBelow l m → (c : Choice) (b :
 unfolding choice_trace
 choice-under v l m h (rules_left called cs) b = rules-under v l m h called cs b
 choice-under v l m h (branches_left gs) b =
-    then-under v l m h b.frames (meaning_of_any (small v) gs (start_of l b)) (meaning_of_any (small v) gs (start_of m b))
-    (at-points (meaning_of_any (small v) gs) (any-monotone (small v) (small-adds v) gs) (start_of l b) (start_of m b) (same_but_level h b.slots b.state))
+    then-under v l m h b.frames (meaning_of_any (tabled v) gs (start_of l b)) (meaning_of_any (tabled v) gs (start_of m b))
+    (at-points (meaning_of_any (tabled v) gs) (any-monotone (tabled v) (tabled-adds v) gs) (start_of l b) (start_of m b) (same_but_level h b.slots b.state))
 
 value-taken : (l m : Level) → LevelBelow l m → (e : Places) (into : ℕ) (p q : Point) → PointBelow p q →
     Under (one (point l (slice_set e into (held p.slots 0)) p.state)) (one (point m (slice_set e into (held q.slots 0)) q.state))
@@ -167,9 +167,9 @@ level-under v l m h not_level b t t' a =
     then-under v l m h b.frames (negated t (start_of l b)) (negated t' (start_of m b))
     (by-negated PointBelow PointBelow t t' (start_of l b) (start_of m b) a (same_but_level h b.slots b.state))
 level-under v l m h (if_level g other) b t t' a =
-    then-under v l m h b.frames (chosen t (meaning (small v) g) (meaning (small v) other (start_of l b))) (chosen t' (meaning (small v) g) (meaning (small v) other (start_of m b)))
-    (by-chosen PointBelow PointBelow t t' (meaning (small v) g) (meaning (small v) g) (meaning (small v) other (start_of l b)) (meaning (small v) other (start_of m b)) a
-    (λ p q r. meaning-below (small v) (small-adds v) g p q r) (meaning-below (small v) (small-adds v) other (start_of l b) (start_of m b) (same_but_level h b.slots b.state)))
+    then-under v l m h b.frames (chosen t (meaning (tabled v) g) (meaning (tabled v) other (start_of l b))) (chosen t' (meaning (tabled v) g) (meaning (tabled v) other (start_of m b)))
+    (by-chosen PointBelow PointBelow t t' (meaning (tabled v) g) (meaning (tabled v) g) (meaning (tabled v) other (start_of l b)) (meaning (tabled v) other (start_of m b)) a
+    (λ p q r. meaning-below (tabled v) (tabled-adds v) g p q r) (meaning-below (tabled v) (tabled-adds v) other (start_of l b) (start_of m b) (same_but_level h b.slots b.state)))
 level-under v l m h (guard_level called c cs) b t t' a =
     applies-under v l m h called b c t t' (rules_trace v l called cs b) (rules_trace v m called cs b) a (rules-under v l m h called cs b)
 level-under v l m h (value_level called into) b t t' a =
@@ -193,18 +193,18 @@ level-under v l m h (number_level into n) b t t' a =
     (by-counted PointBelow PointBelow t t' f g a (λ k. numbered-under l m h b into (n + k)))
 
 handled-under : (v : View) (l m : Level) → LevelBelow l m → (handler : GoalTree) (b : Back) (raised : Tree) (o : Option State) →
-    Under (handled_in b.state raised (λ r. meaning (small v) handler (point l b.slots r)) o) (handled_in b.state raised (λ r. meaning (small v) handler (point m b.slots r)) o)
+    Under (handled_in b.state raised (λ r. meaning (tabled v) handler (point l b.slots r)) o) (handled_in b.state raised (λ r. meaning (tabled v) handler (point m b.slots r)) o)
 handled-under v l m h handler b raised None = end_by (Raise raised)
 handled-under v l m h handler b raised (Some s) =
-    by-then_same PointBelow (settled b.state s) (settled b.state s) (λ r. meaning (small v) handler (point l b.slots r)) (λ r. meaning (small v) handler (point m b.slots r))
-    (below-refl (settled b.state s)) (λ r. meaning-below (small v) (small-adds v) handler (point l b.slots r) (point m b.slots r) (same_but_level h b.slots r))
+    by-then_same PointBelow (settled b.state s) (settled b.state s) (λ r. meaning (tabled v) handler (point l b.slots r)) (λ r. meaning (tabled v) handler (point m b.slots r))
+    (below-refl (settled b.state s)) (λ r. meaning-below (tabled v) (tabled-adds v) handler (point l b.slots r) (point m b.slots r) (same_but_level h b.slots r))
 
 catch-under : (v : View) (l m : Level) → LevelBelow l m → (ball : Tree) (handler : GoalTree) (b : Back) (t t' : Trace Point) → Under t t' →
     Under (catch_trace v l ball handler b t) (catch_trace v m ball handler b t')
 unfolding catch_trace
 catch-under v l m h ball handler b t t' a =
-    let f : Tree → Trace Point = handling b.state ball (λ r. meaning (small v) handler (point l b.slots r)) in
-    let g : Tree → Trace Point = handling b.state ball (λ r. meaning (small v) handler (point m b.slots r)) in
+    let f : Tree → Trace Point = handling b.state ball (λ r. meaning (tabled v) handler (point l b.slots r)) in
+    let g : Tree → Trace Point = handling b.state ball (λ r. meaning (tabled v) handler (point m b.slots r)) in
     then-under v l m h b.frames (caught t f) (caught t' g)
     (by-caught PointBelow t t' f g a
     (λ raised. handled-under v l m h handler b raised (unified (with_new_variables (new_variables raised) b.state) ball (copy (next b.state) raised))))
@@ -261,6 +261,7 @@ told-below names t u h =
 now-under : (v : View) (l m : Level) → LevelBelow l m → (now : Now) → Under (now_trace v l now) (now_trace v m now)
 unfolding now_trace
 now-under v l m h (going gs e s k) = run-under v l m h gs e s k
+now-under v l m h (telling text gs e s k) = note_by (Out text) (run-under v l m h gs e s k)
 now-under v l m h failed = end_by Done
 now-under v l m h (raising ball) = end_by (Raise ball)
 

@@ -3,20 +3,20 @@ use Rattle.std.proofs.Common.{◌≡◌, ◌≢◌, ℕ, suc, ◌+◌, ◌<◌, 
 use Rattle.std.specs.Prelude.{None, replicate}
 use Rattle.pi_states.specs.State.{empty_state}
 use Rattle.pi_core.specs.CoreTree.{PredTree, QueryTree}
-use Rattle.pi_traces.specs.Trace.{Trace, end, note, ans, End, Deep, Note, Tick, Emitted, noted, answered, then, emit, end_of, events_of}
+use Rattle.pi_traces.specs.Trace.{Trace, end, note, ans, End, Deep, Note, Tick, Emitted, noted, answered, then, emit, end_of, events_of, Out}
 use Rattle.pi_traces.specs.Depth.{Below, same_note, DepthOnlyAdds}
 use Rattle.pi_meaning.specs.View.{View}
-use Rattle.pi_meaning.specs.Instances.{small}
+use Rattle.pi_meaning.specs.Instances.{tabled}
 use Rattle.pi_meaning.specs.Rules.{level_at}
 use Rattle.pi_meaning.specs.Run.{Solution, answered_with, query_trace}
 use Rattle.pi_core.specs.declared.core_program.NameSlot.{NameSlot}
 use Rattle.pi_traces.proofs.TraceLemmas.{emit-append}
 use Rattle.pi_traces.proofs.BelowLemmas.{below-refl, below-trans, below-whole, below-emit, below-events, below-later}
 use Rattle.pi_meaning.proofs.RuleLemmas.{level-below}
-use Rattle.pi_meaning.proofs.CallLemmas.{small-adds}
+use Rattle.pi_meaning.proofs.CallLemmas.{tabled-adds}
 use Rattle.pi_machine.specs.Configuration.{Config}
 use Rattle.pi_machine.specs.Remaining.{around, now_trace, remaining_at, remaining}
-use Rattle.pi_machine.specs.Step.{silently, with_tick, quietly, answering, ending, step, start}
+use Rattle.pi_machine.specs.Step.{silently, with_tick, quietly, answering, ending, step, start, writing}
 use Rattle.pi_machine.specs.Shape.{IsBalanced, IsGood}
 use Rattle.pi_machine.specs.Built.{AreOfRules}
 use Rattle.pi_machine.specs.StepLaws.{Comes, GoesOnGood}
@@ -29,16 +29,16 @@ use Rattle.pi_machine.proofs.GoodSteps.{step-good}
 use Rattle.pi_machine.proofs.WeightSteps.{step-lighter}
 
 pub remaining-deeper : (v : View) (preds : List PredTree) (names : List NameSlot) (c : Config) → DepthOnlyAdds (λ d. remaining v preds names d c)
-remaining-deeper v preds names c d = remaining-below v (level_at (small v) preds d) (level_at (small v) preds (suc d)) (level-below (small v) (small-adds v) preds d) names c
+remaining-deeper v preds names c d = remaining-below v (level_at (tabled v) preds d) (level_at (tabled v) preds (suc d)) (level-below (tabled v) (tabled-adds v) preds d) names c
 
 -- at each depth from one on
 later : (v : View) (preds : List PredTree) (names : List NameSlot) (c : Config) (d more : ℕ) → Below (remaining v preds names d c) (remaining v preds names (d + more) c)
 later v preds names c d more = below-later (λ d. remaining v preds names d c) (remaining-deeper v preds names c) d more (d + more) refl
 
-pub starts : (v : View) (program : List PredTree) (q : QueryTree) (d : ℕ) → remaining v (program ++ q.helpers) q.names d (start q) ≡ query_trace (small v) program q d
+pub starts : (v : View) (program : List PredTree) (q : QueryTree) (d : ℕ) → remaining v (program ++ q.helpers) q.names d (start q) ≡ query_trace (tabled v) program q d
 unfolding remaining_at around now_trace query_trace
 starts v program q d =
-    ap (λ t. then t (answered_with q.names)) (goal-strict v (level_at (small v) (program ++ q.helpers) d) q.goal (replicate q.slots None) empty_state)
+    ap (λ t. then t (answered_with q.names)) (goal-strict v (level_at (tabled v) (program ++ q.helpers) d) q.goal (replicate q.slots None) empty_state)
 
 pub start-good : (q : QueryTree) → IsGood (start q)
 unfolding IsBalanced
@@ -157,6 +157,19 @@ pub step-answers : (v : View) (preds : List PredTree) (names : List NameSlot) (c
     Leads v preds names (answered x ∷ []) c after
 step-answers v preds names c after x sound good h = answer-leads v preds names c after x (subst (Comes v preds names c) h (step-comes v preds names c sound good))
 
+-- a text that is written
+writing-leads : (v : View) (preds : List PredTree) (names : List NameSlot) (a b : Config) (text : List ℕ) →
+    ((d : ℕ) → remaining v preds names d a ≡ note (Out text) (remaining v preds names d b)) → Leads v preds names (noted (Out text) ∷ []) a b
+unfolding emit
+writing-leads v preds names a b text h = record {
+  depth = λ d. d;
+  below = λ d. subst (λ t. Below t (remaining v preds names d a)) (h d) (below-refl (remaining v preds names d a));
+}
+
+pub step-writes : (v : View) (preds : List PredTree) (names : List NameSlot) (c after : Config) (text : List ℕ) → AreOfRules preds → IsGood c → step v preds names c ≡ writing text after →
+    Leads v preds names (noted (Out text) ∷ []) c after
+step-writes v preds names c after text sound good h = writing-leads v preds names c after text (subst (Comes v preds names c) h (step-comes v preds names c sound good))
+
 pub step-ends : (v : View) (preds : List PredTree) (names : List NameSlot) (c : Config) (e : End) → AreOfRules preds → IsGood c → e ≢ Deep → step v preds names c ≡ ending e → IsAtEnd v preds names e c
 step-ends v preds names c e sound good reached h = record { ends = subst (Comes v preds names c) h (step-comes v preds names c sound good); reached = reached }
 
@@ -176,6 +189,9 @@ good-tick v preds names c after good h = subst GoesOnGood h (step-good v preds n
 
 pub good-answer : (v : View) (preds : List PredTree) (names : List NameSlot) (c after : Config) (x : Solution) → IsGood c → step v preds names c ≡ answering x after → IsGood after
 good-answer v preds names c after x good h = subst GoesOnGood h (step-good v preds names c good)
+
+pub good-writing : (v : View) (preds : List PredTree) (names : List NameSlot) (c after : Config) (text : List ℕ) → IsGood c → step v preds names c ≡ writing text after → IsGood after
+good-writing v preds names c after text good h = subst GoesOnGood h (step-good v preds names c good)
 
 -- a run, and a silent step
 pub leads-silent : (v : View) (preds : List PredTree) (names : List NameSlot) (events : List (Emitted Solution)) (a b c : Config) → Leads v preds names events a b → Silent v preds names b c → Leads v preds names events a c

@@ -11,17 +11,21 @@ use Rattle.pi_states.specs.State.{Variable, bound, State, followed_for, followed
 use Rattle.pi_states.specs.Unify.{in_pairs, assigned, joined, outcome, unified_for, unbound_in, cells_of_pairs, most_pairs, all_unified}
 use Rattle.pi_terms.specs.PatternTree.{slot, no_patterns, pattern}
 use Rattle.pi_core.specs.GoalTree.{GoalTree, truth, call, seq, alternatives, once, catch, no_goals, goal}
-use Rattle.pi_traces.specs.Trace.{Tick, Emitted, noted, answered, alt, then}
+use Rattle.pi_traces.specs.Trace.{Tick, Emitted, noted, answered, alt, then, Out}
 use Rattle.pi_meaning.specs.Settle.{settled}
 use Rattle.pi_states.specs.Evaluation.{evaluated, evaluated_all, with_new_variables}
 use Rattle.pi_states.specs.HeadMatch.{matched_in, matched_all_in}
 use Rattle.pi_effects.specs.Exception.{thrown}
 use Rattle.pi_meaning.specs.View.{query_view}
-use Rattle.pi_meaning.specs.Builtin.{effect, function_effect}
 use Rattle.pi_core.specs.CoreTree.{ClauseTree, PredTree, find_pred}
 use Rattle.pi_meaning.specs.Run.{Solution}
 use Rattle.pi_machine.specs.Configuration.{failed, raising, Config, config}
-use Rattle.pi_machine.specs.Step.{Outcome, silently, with_tick, quietly, answering, ending, try_rules, after_effect, goal_step, frame_step, newest_open, strict_step, fits, answer_step, end_step, fail_step, raise_step, step, start}
+use Rattle.pi_machine.specs.Step.{Outcome, silently, with_tick, quietly, answering, ending, try_rules, goal_step, frame_step, newest_open, strict_step, fits, answer_step, end_step, fail_step, raise_step, step, start, writing}
+use Rattle.pi_effects.specs.BuiltIns.{built_in_predicate, built_in_function, tests, other_predicates}
+use Rattle.pi_effects.specs.Comparing.{comparing_tests}
+use Rattle.pi_effects.specs.Kinds.{kind_tests}
+use Rattle.pi_effects.specs.Texts.{writing_predicates}
+use Rattle.pi_effects.specs.Rows.{done_by}
 
 -- what so many steps do, and the configuration after them
 pub record Ran : Type 0 where
@@ -35,6 +39,7 @@ abbrev go_on : Outcome → Config → (Config → Ran) → Ran
 go_on (silently next) c f = f next
 go_on (with_tick next) c f = after_event (noted Tick) (f next)
 go_on (quietly next) c f = f next
+go_on (writing text next) c f = after_event (noted (Out text)) (f next)
 go_on (answering x next) c f = after_event (answered x) (f next)
 go_on (ending e) c f = record { events = []; config = c }
 
@@ -64,25 +69,25 @@ x_is n = answered (record { slots = Some (var 0) ∷ []; state = a_state (bound 
 two-answers :
     ran 20 (predicate (rule true truth (number_is 0 1) ∷ rule false truth (number_is 0 2) ∷ []) ∷ []) (of_goal (call (codes "p") (var 0 ∷ [])) 1)
     ≡ record { events = noted Tick ∷ x_is 1 ∷ x_is 2 ∷ []; config = config failed [] }
-unfolding ran step goal_step frame_step try_rules newest_open answer_step strict_step fits end_step fail_step raise_step after_effect find_pred effect function_effect with_new_variables then alt evaluated evaluated_all matched_in matched_all_in settled thrown copy occurrences firsts all_unified unified_for outcome assigned joined in_pairs most_pairs unbound_in cells_of_pairs cells value rounds instance followed followed_for order tree_count
+unfolding ran step goal_step frame_step try_rules newest_open answer_step strict_step fits end_step fail_step raise_step find_pred built_in_predicate built_in_function tests comparing_tests kind_tests writing_predicates other_predicates done_by with_new_variables then alt evaluated evaluated_all matched_in matched_all_in settled thrown copy occurrences firsts all_unified unified_for outcome assigned joined in_pairs most_pairs unbound_in cells_of_pairs cells value rounds instance followed followed_for order tree_count
 two-answers = refl
 
 -- once((X = 1 ; X = 2)): what was left to be tried is gone with the first answer.
 once-leaves_nothing :
     (ran 5 [] (of_goal (once (alternatives (goal (number_is 0 1) (goal (number_is 0 2) no_goals)))) 1)).config.stack ≡ []
-unfolding ran step goal_step frame_step try_rules newest_open answer_step strict_step fits end_step fail_step raise_step after_effect find_pred effect function_effect with_new_variables then alt evaluated evaluated_all matched_in matched_all_in settled thrown copy occurrences firsts all_unified unified_for outcome assigned joined in_pairs most_pairs unbound_in cells_of_pairs cells value rounds instance followed followed_for order tree_count
+unfolding ran step goal_step frame_step try_rules newest_open answer_step strict_step fits end_step fail_step raise_step find_pred built_in_predicate built_in_function tests comparing_tests kind_tests writing_predicates other_predicates done_by with_new_variables then alt evaluated evaluated_all matched_in matched_all_in settled thrown copy occurrences firsts all_unified unified_for outcome assigned joined in_pairs most_pairs unbound_in cells_of_pairs cells value rounds instance followed followed_for order tree_count
 once-leaves_nothing = refl
 
 -- catch((X = 1 ; throw(e)), e, X = 3): the catch is left and entered again, and its binding is gone.
 catch-entered_again :
     ran 30 [] (of_goal (catch (alternatives (goal (number_is 0 1) (goal (call (codes "throw") (atom (codes "e") ∷ [])) no_goals))) (atom (codes "e")) (number_is 0 3)) 1)
     ≡ record { events = x_is 1 ∷ x_is 3 ∷ []; config = config failed [] }
-unfolding ran step goal_step frame_step try_rules newest_open answer_step strict_step fits end_step fail_step raise_step after_effect find_pred effect function_effect with_new_variables then alt evaluated evaluated_all matched_in matched_all_in settled thrown copy occurrences firsts all_unified unified_for outcome assigned joined in_pairs most_pairs unbound_in cells_of_pairs cells value rounds instance followed followed_for order tree_count
+unfolding ran step goal_step frame_step try_rules newest_open answer_step strict_step fits end_step fail_step raise_step find_pred built_in_predicate built_in_function tests comparing_tests kind_tests writing_predicates other_predicates done_by with_new_variables then alt evaluated evaluated_all matched_in matched_all_in settled thrown copy occurrences firsts all_unified unified_for outcome assigned joined in_pairs most_pairs unbound_in cells_of_pairs cells value rounds instance followed followed_for order tree_count
 catch-entered_again = refl
 
 -- catch((true ; true), e, true), throw(e): what is raised behind a catch that was left ends the run.
 raise-behind_catch :
     ran 30 [] (of_goal (seq (goal (catch (alternatives (goal truth (goal truth no_goals))) (atom (codes "e")) truth) (goal (call (codes "throw") (atom (codes "e") ∷ [])) no_goals))) 0)
     ≡ record { events = []; config = config (raising (atom (codes "e"))) [] }
-unfolding ran step goal_step frame_step try_rules newest_open answer_step strict_step fits end_step fail_step raise_step after_effect find_pred effect function_effect with_new_variables then alt evaluated evaluated_all matched_in matched_all_in settled thrown copy occurrences firsts all_unified unified_for outcome assigned joined in_pairs most_pairs unbound_in cells_of_pairs cells value rounds instance followed followed_for order tree_count
+unfolding ran step goal_step frame_step try_rules newest_open answer_step strict_step fits end_step fail_step raise_step find_pred built_in_predicate built_in_function tests comparing_tests kind_tests writing_predicates other_predicates done_by with_new_variables then alt evaluated evaluated_all matched_in matched_all_in settled thrown copy occurrences firsts all_unified unified_for outcome assigned joined in_pairs most_pairs unbound_in cells_of_pairs cells value rounds instance followed followed_for order tree_count
 raise-behind_catch = refl

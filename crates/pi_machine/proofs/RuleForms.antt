@@ -8,7 +8,7 @@ use Rattle.pi_states.specs.State.{State, bindings}
 use Rattle.pi_traces.specs.Trace.{Trace, end, note, ans, Done, one, alt, then}
 use Rattle.pi_traces.specs.Control.{chosen}
 use Rattle.pi_meaning.specs.View.{View}
-use Rattle.pi_meaning.specs.Instances.{small}
+use Rattle.pi_meaning.specs.Instances.{tabled}
 use Rattle.pi_states.specs.HeadMatch.{matched_all_in}
 use Rattle.pi_meaning.specs.Level.{Level, Point}
 use Rattle.pi_core.specs.CoreTree.{ClauseTree, PredTree, find_pred, is_pred}
@@ -44,23 +44,23 @@ rule-followed true t rest f = then-alt t rest f
 rule-followed false t rest f = refl
 
 before-followed : {X Y : Type 0} (v : View) (l : Level) (c : ClauseTree) (back : Bool) (does : Point → Trace X) (s : State) (rest : Trace X) (f : X → Trace Y) (e : Option Places) →
-    then (rule_before (small v) l c back does s rest e) f ≡ rule_before (small v) l c back (λ p. then (does p) f) s (then rest f) e
+    then (rule_before (tabled v) l c back does s rest e) f ≡ rule_before (tabled v) l c back (λ p. then (does p) f) s (then rest f) e
 before-followed v l c back does s rest f None = refl
 before-followed v l c back does s rest f (Some e) =
-    let t : Trace Point = guarded (small v) c.guard (record { level = l; slots = e; state = s }) in
+    let t : Trace Point = guarded (tabled v) c.guard (record { level = l; slots = e; state = s }) in
     chosen-followed t (λ p. chosen_rule back (does p) rest) rest f
     ∙ chosen-same t (λ p. then (chosen_rule back (does p) rest) f) (λ p. chosen_rule back (then (does p) f) (then rest f)) (then rest f) (then rest f)
     (λ p. rule-followed back (does p) rest f) refl
 
 -- what follows the rules follows what each of them does
 pub rules-followed : {X Y : Type 0} (v : View) (l : Level) (back : ClauseTree → Bool) (does : ℕ → ClauseTree → Point → Trace X) (i : ℕ) (cs : List ClauseTree) (ts : Trees) (s : State) (f : X → Trace Y) →
-    then (rules (small v) l back does i cs ts s) f ≡ rules (small v) l back (λ i c p. then (does i c p) f) i cs ts s
+    then (rules (tabled v) l back does i cs ts s) f ≡ rules (tabled v) l back (λ i c p. then (does i c p) f) i cs ts s
 unfolding rules then
 rules-followed v l back does i [] ts s f = refl
 rules-followed v l back does i (c ∷ cs) ts s f =
     let e : Option Places = matched_all_in (bindings s) c.head ts (replicate c.slots None) in
-    before-followed v l c (back c) (does i c) s (rules (small v) l back does (suc i) cs ts s) f e
-    ∙ ap (λ rest. rule_before (small v) l c (back c) (λ p. then (does i c p) f) s rest e) (rules-followed v l back does (suc i) cs ts s f)
+    before-followed v l c (back c) (does i c) s (rules (tabled v) l back does (suc i) cs ts s) f e
+    ∙ ap (λ rest. rule_before (tabled v) l c (back c) (λ p. then (does i c p) f) s rest e) (rules-followed v l back does (suc i) cs ts s f)
 
 -- rules that do the same are the same
 unfoldable pub RulesDoSame : {X : Type 0} → (ℕ → ClauseTree → Point → Trace X) → (ℕ → ClauseTree → Point → Trace X) → List ClauseTree → Type 0
@@ -68,16 +68,16 @@ RulesDoSame does other [] = ⊤
 RulesDoSame does other (c ∷ cs) = ((i j : ℕ) (p : Point) → does i c p ≡ other j c p) × RulesDoSame does other cs
 
 before-same : {X : Type 0} (v : View) (l : Level) (c : ClauseTree) (back : Bool) (does other : Point → Trace X) (s : State) (rest last : Trace X) (e : Option Places) →
-    ((p : Point) → does p ≡ other p) → rest ≡ last → rule_before (small v) l c back does s rest e ≡ rule_before (small v) l c back other s last e
+    ((p : Point) → does p ≡ other p) → rest ≡ last → rule_before (tabled v) l c back does s rest e ≡ rule_before (tabled v) l c back other s last e
 before-same v l c back does other s rest last e h r =
-    ap (λ k. rule_before (small v) l c back k s rest e) (fun_ext h) ∙ ap (λ k. rule_before (small v) l c back other s k e) r
+    ap (λ k. rule_before (tabled v) l c back k s rest e) (fun_ext h) ∙ ap (λ k. rule_before (tabled v) l c back other s k e) r
 
 pub rules-same : {X : Type 0} (v : View) (l : Level) (back : ClauseTree → Bool) (does other : ℕ → ClauseTree → Point → Trace X) (i j : ℕ) (cs : List ClauseTree) (ts : Trees) (s : State) →
-    RulesDoSame does other cs → rules (small v) l back does i cs ts s ≡ rules (small v) l back other j cs ts s
+    RulesDoSame does other cs → rules (tabled v) l back does i cs ts s ≡ rules (tabled v) l back other j cs ts s
 unfolding rules RulesDoSame
 rules-same v l back does other i j [] ts s h = refl
 rules-same v l back does other i j (c ∷ cs) ts s h =
-    before-same v l c (back c) (does i c) (other j c) s (rules (small v) l back does (suc i) cs ts s) (rules (small v) l back other (suc j) cs ts s)
+    before-same v l c (back c) (does i c) (other j c) s (rules (tabled v) l back does (suc i) cs ts s) (rules (tabled v) l back other (suc j) cs ts s)
     (matched_all_in (bindings s) c.head ts (replicate c.slots None)) (h.0 i j) (rules-same v l back does other (suc i) (suc j) cs ts s h.1)
 
 do-same : {X : Type 0} (f : ClauseTree → Point → Trace X) (cs : List ClauseTree) → RulesDoSame (λ i c p. f c p) (λ i c p. f c p) cs
@@ -87,18 +87,18 @@ do-same f (c ∷ cs) = (λ i j p. refl, do-same f cs)
 
 -- the number of a rule counts for nothing where it does the same for each
 pub rules-anywhere : {X : Type 0} (v : View) (l : Level) (back : ClauseTree → Bool) (f : ClauseTree → Point → Trace X) (i j : ℕ) (cs : List ClauseTree) (ts : Trees) (s : State) →
-    rules (small v) l back (λ i c p. f c p) i cs ts s ≡ rules (small v) l back (λ i c p. f c p) j cs ts s
+    rules (tabled v) l back (λ i c p. f c p) i cs ts s ≡ rules (tabled v) l back (λ i c p. f c p) j cs ts s
 rules-anywhere v l back f i j cs ts s = rules-same v l back (λ i c p. f c p) (λ i c p. f c p) i j cs ts s (do-same f cs)
 
-bodies-run : (v : View) (t : Tree) (cs : List ClauseTree) → WithoutEvents cs → RulesDoSame (λ i c p. body_or_agent (small v) t i c c.watches p) (λ i c p. body_run (small v) c p) cs
+bodies-run : (v : View) (t : Tree) (cs : List ClauseTree) → WithoutEvents cs → RulesDoSame (λ i c p. body_or_agent (tabled v) t i c c.watches p) (λ i c p. body_run (tabled v) c p) cs
 unfolding RulesDoSame WithoutEvents
 bodies-run v t [] h = tt
-bodies-run v t (c ∷ cs) h = (λ i j p. ap (λ ws. body_or_agent (small v) t i c ws p) h.0, bodies-run v t cs h.1)
+bodies-run v t (c ∷ cs) h = (λ i j p. ap (λ ws. body_or_agent (tabled v) t i c ws p) h.0, bodies-run v t cs h.1)
 
 -- rules without events run their bodies
 pub rules-run : (v : View) (l : Level) (back : ClauseTree → Bool) (t : Tree) (cs : List ClauseTree) (ts : Trees) (s : State) → WithoutEvents cs →
-    rules (small v) l back (λ i c p. body_or_agent (small v) t i c c.watches p) 0 cs ts s ≡ rules (small v) l back (λ i c p. body_run (small v) c p) 0 cs ts s
-rules-run v l back t cs ts s h = rules-same v l back (λ i c p. body_or_agent (small v) t i c c.watches p) (λ i c p. body_run (small v) c p) 0 0 cs ts s (bodies-run v t cs h)
+    rules (tabled v) l back (λ i c p. body_or_agent (tabled v) t i c c.watches p) 0 cs ts s ≡ rules (tabled v) l back (λ i c p. body_run (tabled v) c p) 0 cs ts s
+rules-run v l back t cs ts s h = rules-same v l back (λ i c p. body_or_agent (tabled v) t i c c.watches p) (λ i c p. body_run (tabled v) c p) 0 0 cs ts s (bodies-run v t cs h)
 
 found-by : (b : Bool) (pred found : PredTree) (other : Option PredTree) → cond b (Some pred) other ≡ Some found → (pred ≡ found) ⊎ (other ≡ Some found)
 found-by true pred found other h = inl (cc)

@@ -9,19 +9,17 @@ use Rattle.pi_core.specs.CoreTree.{PredTree, QueryTree, find_pred}
 use Rattle.pi_traces.specs.Trace.{Trace, end, note, End, Deep, Tick, Emitted, emit, end_of, count_ticks, ticks}
 use Rattle.pi_traces.specs.Depth.{Below, Cut, Ended, Spent, with_events, cut, CutWithoutDeep}
 use Rattle.pi_meaning.specs.View.{View}
-use Rattle.pi_meaning.specs.Instances.{small}
+use Rattle.pi_meaning.specs.Instances.{tabled}
 use Rattle.pi_states.specs.Evaluation.{EvaluatedAll, evaluated_all}
-use Rattle.pi_meaning.specs.Level.{Applied}
-use Rattle.pi_meaning.specs.Builtin.{effect, function_effect}
 use Rattle.pi_meaning.specs.Run.{Solution, query_trace, IsRunUnder}
 use Rattle.pi_core.specs.declared.core_program.NameSlot.{NameSlot}
 use Rattle.pi_traces.proofs.BelowLemmas.{below-events}
 use Rattle.pi_traces.proofs.CutLemmas.{cut-below, cut-emit, cut-all, cut-at_tick}
 use Rattle.pi_meaning.proofs.QueryLemmas.{run-deeper}
-use Rattle.pi_meaning.proofs.CallLemmas.{small-adds}
-use Rattle.pi_machine.specs.Configuration.{Frame, Entry, choice, strict, catch_level, left, Now, going, failed, raising, Config, behind}
+use Rattle.pi_meaning.proofs.CallLemmas.{tabled-adds}
+use Rattle.pi_machine.specs.Configuration.{Frame, Entry, choice, strict, catch_level, left, Now, going, failed, raising, Config, behind, telling}
 use Rattle.pi_machine.specs.Remaining.{remaining}
-use Rattle.pi_machine.specs.Step.{Outcome, silently, with_tick, quietly, answering, ending, call_step, predicate_step, effect_step, function_step, value_step, goal_step, Open, none_open, strict_open, catch_open, newest_open, fits, told_step, answer_step, fail_step, raise_step, now_step, step, start}
+use Rattle.pi_machine.specs.Step.{Outcome, silently, with_tick, quietly, answering, ending, call_step, predicate_step, effect_step, function_step, value_step, goal_step, Open, none_open, strict_open, catch_open, newest_open, fits, told_step, answer_step, fail_step, raise_step, now_step, step, start, writing}
 use Rattle.pi_machine.specs.Shape.{IsGood}
 use Rattle.pi_machine.specs.Built.{AreOfRules, AreCounted}
 use Rattle.pi_machine.specs.StepLaws.{Comes, GoesOnGood}
@@ -32,6 +30,8 @@ use Rattle.pi_machine.proofs.MachineSteps.{step-comes}
 use Rattle.pi_machine.proofs.GoodSteps.{step-good}
 use Rattle.pi_machine.proofs.WeightSteps.{step-lighter}
 use Rattle.pi_machine.proofs.LeadLemmas.{start-good, starts, ended-all, tick-begins, end-behind, events-before, led}
+use Rattle.pi_effects.specs.Effect.{FunctionEffect, Effect}
+use Rattle.pi_effects.specs.BuiltIns.{built_in_predicate, built_in_function}
 
 -- ---- which steps there are
 
@@ -40,6 +40,7 @@ abbrev pub IsProper : Outcome → Type 0
 IsProper (silently next) = ⊤
 IsProper (with_tick next) = ⊤
 IsProper (quietly next) = ⊥
+IsProper (writing text next) = ⊤
 IsProper (answering x next) = ⊤
 IsProper (ending e) = e ≢ Deep
 
@@ -53,10 +54,10 @@ predicate-proper name preds counted all k es None h = tt
 predicate-proper name preds counted all k es (Some pred) h =
     call-proper pred.quiet (found-counted false name (tree_count all.trees) preds pred counted h) _
 
-effect-proper : (name : List ℕ) (preds : List PredTree) → AreCounted preds → (all : EvaluatedAll) (gs : GoalTrees) (k : List Frame) (es : List Entry) (o : Option (Trace State)) →
-    IsProper (effect_step o preds name all gs k es)
-effect-proper name preds counted all gs k es None = predicate-proper name preds counted all (behind gs k) es (find_pred false name (tree_count all.trees) preds) refl
-effect-proper name preds counted all gs k es (Some t) = tt
+effect-proper : (v : View) (name : List ℕ) (preds : List PredTree) → AreCounted preds → (all : EvaluatedAll) (gs : GoalTrees) (k : List Frame) (es : List Entry) (o : Option Effect) →
+    IsProper (effect_step v o preds name all gs k es)
+effect-proper v name preds counted all gs k es None = predicate-proper name preds counted all (behind gs k) es (find_pred false name (tree_count all.trees) preds) refl
+effect-proper v name preds counted all gs k es (Some d) = tt
 
 function-proper : (name : List ℕ) (preds : List PredTree) → AreCounted preds → (all : EvaluatedAll) (into : ℕ) (k : List Frame) (es : List Entry) (o : Option PredTree) →
     find_pred true name (tree_count all.trees) preds ≡ o → IsProper (function_step o all into k es)
@@ -64,10 +65,10 @@ function-proper name preds counted all into k es None h = tt
 function-proper name preds counted all into k es (Some pred) h =
     call-proper pred.quiet (found-counted true name (tree_count all.trees) preds pred counted h) _
 
-value-proper : (name : List ℕ) (preds : List PredTree) → AreCounted preds → (all : EvaluatedAll) (into : ℕ) (gs : GoalTrees) (k : List Frame) (es : List Entry) (o : Option (Trace Applied)) →
+value-proper : (name : List ℕ) (preds : List PredTree) → AreCounted preds → (all : EvaluatedAll) (into : ℕ) (gs : GoalTrees) (k : List Frame) (es : List Entry) (o : Option FunctionEffect) →
     IsProper (value_step o preds name all into gs k es)
 value-proper name preds counted all into gs k es None = function-proper name preds counted all into (behind gs k) es (find_pred true name (tree_count all.trees) preds) refl
-value-proper name preds counted all into gs k es (Some t) = tt
+value-proper name preds counted all into gs k es (Some d) = tt
 
 goal-proper : (v : View) (preds : List PredTree) → AreCounted preds → (g : GoalTree) (gs : GoalTrees) (e : Places) (s : State) (k : List Frame) (es : List Entry) →
     IsProper (goal_step v preds g gs e s k es)
@@ -76,9 +77,9 @@ goal-proper v preds counted truth gs e s k es = tt
 goal-proper v preds counted fail gs e s k es = tt
 goal-proper v preds counted tick gs e s k es = tt
 goal-proper v preds counted (call name args) gs e s k es =
-    let all : EvaluatedAll = evaluated_all (trees_of args) e s in effect-proper name preds counted all gs k es (effect v name all.trees all.state)
+    let all : EvaluatedAll = evaluated_all (trees_of args) e s in effect-proper v name preds counted all gs k es (built_in_predicate name all.trees all.state)
 goal-proper v preds counted (apply name args into) gs e s k es =
-    let all : EvaluatedAll = evaluated_all (trees_of args) e s in value-proper name preds counted all into gs k es (function_effect name all.trees all.state)
+    let all : EvaluatedAll = evaluated_all (trees_of args) e s in value-proper name preds counted all into gs k es (built_in_function name all.trees all.state)
 goal-proper v preds counted (seq hs) gs e s k es = tt
 goal-proper v preds counted (alternatives hs) gs e s k es = tt
 goal-proper v preds counted (if_else test g other) gs e s k es = tt
@@ -118,6 +119,7 @@ now-proper : (v : View) (preds : List PredTree) (names : List NameSlot) → AreC
 now-proper v preds names counted (going (goal g gs) e s k) es = goal-proper v preds counted g gs e s k es
 now-proper v preds names counted (going no_goals e s []) es = answer-proper names e s es (newest_open zero es)
 now-proper v preds names counted (going no_goals e s (f ∷ k)) es = tt
+now-proper v preds names counted (telling text gs e s k) es = tt
 now-proper v preds names counted failed es = fail-proper es
 now-proper v preds names counted (raising raised) es = raise-proper raised es
 
@@ -156,6 +158,9 @@ outcome-reaches v preds names n ticks w c h rec (silently after) comes good ligh
     (r.0, subst (λ t. CutWithoutDeep n t) (sym (comes r.0)) r.1)
 outcome-reaches v preds names n ticks w c h rec (with_tick after) comes good lighter proper = tick-reaches v preds names n c after comes (ticks after good)
 outcome-reaches v preds names n ticks w c h rec (quietly after) comes good lighter proper = absurd proper
+outcome-reaches v preds names n ticks w c h rec (writing text after) comes good lighter proper =
+    let r : DepthReaches v preds names n after = rec after (omega arith) good in
+    (r.0, subst (λ t. CutWithoutDeep n t) (sym (comes r.0)) r.1)
 outcome-reaches v preds names n ticks w c h rec (answering x after) comes good lighter proper =
     let r : DepthReaches v preds names n after = rec after (omega arith) good in
     (r.0, subst (λ t. CutWithoutDeep n t) (sym (comes r.0)) r.1)
@@ -182,14 +187,14 @@ ended-same e f h = cc
 
 pub ended-run : (v : View) (program : List PredTree) (q : QueryTree) (events : List (Emitted Solution)) (c : Config) (e : End) (n : ℕ) →
     Leads v (program ++ q.helpers) q.names events (start q) c → IsAtEnd v (program ++ q.helpers) q.names e c → count_ticks events ≤ n →
-    IsRunUnder (small v) program q n (record { events = events; stop = Ended e })
+    IsRunUnder (tabled v) program q n (record { events = events; stop = Ended e })
 ended-run v program q events c e n h k less =
     let all : (depth : ℕ) × ((more : ℕ) → remaining v (program ++ q.helpers) q.names (depth + more) (start q) ≡ emit events (end e)) =
     ended-all v (program ++ q.helpers) q.names events (start q) c e h k in
     let depth : ℕ = all.0 + 0 in
-    let trace : query_trace (small v) program q depth ≡ emit events (end e) = sym (starts v program q depth) ∙ all.1 0 in
+    let trace : query_trace (tabled v) program q depth ≡ emit events (end e) = sym (starts v program q depth) ∙ all.1 0 in
     let few : ticks (emit events (end e)) ≤ n = subst (λ es. count_ticks es ≤ n) (sym (events-before events e)) less in
-    let is_cut : record { events = events; stop = Ended e } ≡ cut n (query_trace (small v) program q depth) =
+    let is_cut : record { events = events; stop = Ended e } ≡ cut n (query_trace (tabled v) program q depth) =
     sym (ap (cut n) trace ∙ (cut-all n (emit events (end e)) few
     ∙ (ap (λ es. record { events = es; stop = Ended (end_of (emit events (end e))) }) (events-before events e)
     ∙ ap (λ x. record { events = events; stop = Ended x }) (end-behind events e)))) in
@@ -200,41 +205,41 @@ spent-not_deep h = cc
 
 pub spent-run : (v : View) (program : List PredTree) (q : QueryTree) (events : List (Emitted Solution)) (c : Config) →
     Leads v (program ++ q.helpers) q.names events (start q) c → IsAtTick v (program ++ q.helpers) q.names c →
-    IsRunUnder (small v) program q (count_ticks events) (record { events = events; stop = Spent })
+    IsRunUnder (tabled v) program q (count_ticks events) (record { events = events; stop = Spent })
 spent-run v program q events c h k =
     let all : (depth : ℕ) × ((more : ℕ) → (rest : Trace Solution) × (remaining v (program ++ q.helpers) q.names (depth + more) (start q) ≡ emit events (note Tick rest))) =
     tick-begins v (program ++ q.helpers) q.names events (start q) c h k in
     let depth : ℕ = all.0 + 0 in
     let begins : (rest : Trace Solution) × (remaining v (program ++ q.helpers) q.names depth (start q) ≡ emit events (note Tick rest)) = all.1 0 in
-    let is_cut : record { events = events; stop = Spent } ≡ cut (count_ticks events) (query_trace (small v) program q depth) =
+    let is_cut : record { events = events; stop = Spent } ≡ cut (count_ticks events) (query_trace (tabled v) program q depth) =
     sym (ap (cut (count_ticks events)) (sym (starts v program q depth) ∙ begins.1) ∙ cut-at_tick events begins.0) in
     record { depth = depth; reaches = λ deep. spent-not_deep (ap (λ c. c.stop) is_cut ∙ deep); is_cut = is_cut }
 
 -- a query's run at a greater depth
-run-later : (v : View) (program : List PredTree) (q : QueryTree) (n : ℕ) (run : Cut Solution) → (r : IsRunUnder (small v) program q n run) → (more later : ℕ) → more + r.depth ≡ later →
-    cut n (query_trace (small v) program q later) ≡ run
+run-later : (v : View) (program : List PredTree) (q : QueryTree) (n : ℕ) (run : Cut Solution) → (r : IsRunUnder (tabled v) program q n run) → (more later : ℕ) → more + r.depth ≡ later →
+    cut n (query_trace (tabled v) program q later) ≡ run
 run-later v program q n run r more later e =
-    subst (λ d. cut n (query_trace (small v) program q d) ≡ run) (omega arith) (run-deeper (small v) (small-adds v) program q n run r more)
+    subst (λ d. cut n (query_trace (tabled v) program q d) ≡ run) (omega arith) (run-deeper (tabled v) (tabled-adds v) program q n run r more)
 
 pub run-prefix : (v : View) (program : List PredTree) (q : QueryTree) (events : List (Emitted Solution)) (c : Config) (n : ℕ) (run : Cut Solution) →
-    Leads v (program ++ q.helpers) q.names events (start q) c → IsRunUnder (small v) program q (count_ticks events + n) run →
+    Leads v (program ++ q.helpers) q.names events (start q) c → IsRunUnder (tabled v) program q (count_ticks events + n) run →
     (rest : Cut Solution) × (run ≡ with_events events rest)
 run-prefix v program q events c n run h r =
     let preds : List PredTree = program ++ q.helpers in
     let depth : ℕ = h.depth 0 + r.depth in
     let t : Trace Solution = remaining v preds q.names 0 c in
-    let below : Below (emit events t) (query_trace (small v) program q depth) =
+    let below : Below (emit events t) (query_trace (tabled v) program q depth) =
     subst (λ u. Below (emit events t) u) (starts v program q depth) (led v preds q.names events (start q) c h 0 r.depth) in
-    let found : (rest : Trace Solution) × (query_trace (small v) program q depth ≡ emit events rest) × Below t rest = below-events events t (query_trace (small v) program q depth) below in (
+    let found : (rest : Trace Solution) × (query_trace (tabled v) program q depth ≡ emit events rest) × Below t rest = below-events events t (query_trace (tabled v) program q depth) below in (
       cut n found.0,
       sym (run-later v program q (count_ticks events + n) run r (h.depth 0) depth refl)
           ∙ (ap (cut (count_ticks events + n)) found.1 ∙ cut-emit events n found.0),
     )
 
 -- the run of a query before each Tick
-pub each-run : (v : View) (program : List PredTree) (q : QueryTree) → AreOfRules (program ++ q.helpers) → AreCounted (program ++ q.helpers) → (n : ℕ) → (run : Cut Solution) × IsRunUnder (small v) program q n run
+pub each-run : (v : View) (program : List PredTree) (q : QueryTree) → AreOfRules (program ++ q.helpers) → AreCounted (program ++ q.helpers) → (n : ℕ) → (run : Cut Solution) × IsRunUnder (tabled v) program q n run
 each-run v program q sound counted n =
     let k : DepthReaches v (program ++ q.helpers) q.names n (start q) = depth-suffices v (program ++ q.helpers) q.names (start q) sound counted (start-good q) n in (
-      cut n (query_trace (small v) program q k.0),
+      cut n (query_trace (tabled v) program q k.0),
       record { depth = k.0; reaches = subst (λ t. CutWithoutDeep n t) (starts v program q k.0) k.1; is_cut = refl },
     )

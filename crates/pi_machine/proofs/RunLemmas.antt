@@ -7,7 +7,7 @@ use Rattle.pi_core.specs.GoalTree.{GoalTree, GoalTrees, no_goals, goal}
 use Rattle.pi_core.specs.CoreTree.{PredTree}
 use Rattle.pi_traces.specs.Trace.{Trace, one, then}
 use Rattle.pi_meaning.specs.View.{View}
-use Rattle.pi_meaning.specs.Instances.{small}
+use Rattle.pi_meaning.specs.Instances.{tabled}
 use Rattle.pi_meaning.specs.Drain.{drained}
 use Rattle.pi_meaning.specs.Level.{Level, level_of, Point, calls_at}
 use Rattle.pi_meaning.specs.Meaning.{Action, draining, strictly, meaning, meaning_of_all}
@@ -21,22 +21,22 @@ use Rattle.pi_machine.proofs.RuleForms.{then-same}
 
 -- the calls at a level are those of the program
 unfoldable pub CallsAre : View → List PredTree → Level → Type 0
-CallsAre v preds l = (inner : Option Level) × (below : Option Level) × (calls_at l ≡ calls_of (small v) preds inner below)
+CallsAre v preds l = (inner : Option Level) × (below : Option Level) × (calls_at l ≡ calls_of (tabled v) preds inner below)
 
-level-of-calls : (v : View) (preds : List PredTree) (inner below : Option Level) → CallsAre v preds (level_of (calls_of (small v) preds inner below) below)
+level-of-calls : (v : View) (preds : List PredTree) (inner below : Option Level) → CallsAre v preds (level_of (calls_of (tabled v) preds inner below) below)
 unfolding CallsAre
 level-of-calls v preds inner None = (inner, None, refl)
 level-of-calls v preds inner (Some l) = (inner, Some l, refl)
 
-quiet-calls : (v : View) (preds : List PredTree) (below : Option Level) (k : ℕ) → CallsAre v preds (quiet_level (small v) preds below k)
+quiet-calls : (v : View) (preds : List PredTree) (below : Option Level) (k : ℕ) → CallsAre v preds (quiet_level (tabled v) preds below k)
 unfolding quiet_level
 quiet-calls v preds below zero = level-of-calls v preds None below
-quiet-calls v preds below (suc k) = level-of-calls v preds (Some (quiet_level (small v) preds below k)) below
+quiet-calls v preds below (suc k) = level-of-calls v preds (Some (quiet_level (tabled v) preds below k)) below
 
-pub calls-are : (v : View) (preds : List PredTree) (d : ℕ) → CallsAre v preds (level_at (small v) preds d)
+pub calls-are : (v : View) (preds : List PredTree) (d : ℕ) → CallsAre v preds (level_at (tabled v) preds d)
 unfolding level_at
 calls-are v preds zero = quiet-calls v preds None (length preds)
-calls-are v preds (suc d) = quiet-calls v preds (Some (level_at (small v) preds d)) (suc (length preds + d))
+calls-are v preds (suc d) = quiet-calls v preds (Some (level_at (tabled v) preds d)) (suc (length preds + d))
 
 -- each state is drained as it is
 pub drains-at : (v : View) (preds : List PredTree) (l : Level) → CallsAre v preds l → (s : State) → (calls_at l).drained s ≡ one s
@@ -52,7 +52,7 @@ draining-goes_on v preds l h act e s =
 
 -- ---- frames
 
-pub behind-continued : (v : View) (l : Level) (gs : GoalTrees) (k : List Frame) (p : Point) → then (meaning_of_all (small v) gs p) (continued v l k) ≡ continued v l (behind gs k) p
+pub behind-continued : (v : View) (l : Level) (gs : GoalTrees) (k : List Frame) (p : Point) → then (meaning_of_all (tabled v) gs p) (continued v l k) ≡ continued v l (behind gs k) p
 unfolding continued meaning_of_all then
 behind-continued v l no_goals k p = alt-done (continued v l k p)
 behind-continued v l (goal g gs) k p = refl
@@ -66,19 +66,19 @@ returning-continued v l e (give t ∷ k) p = refl
 
 -- a goal, and what is behind it
 pub goal-first : (v : View) (l : Level) (g : GoalTree) (gs : GoalTrees) (e : Places) (s : State) (k : List Frame) →
-    run_from v l (goal g gs) e s k ≡ then (meaning (small v) g (point l e s)) (continued v l (behind gs k))
+    run_from v l (goal g gs) e s k ≡ then (meaning (tabled v) g (point l e s)) (continued v l (behind gs k))
 unfolding meaning_of_all
 goal-first v l g gs e s k =
-    then-assoc (meaning (small v) g (point l e s)) (meaning_of_all (small v) gs) (continued v l k)
-    ∙ then-same (meaning (small v) g (point l e s)) (λ q. then (meaning_of_all (small v) gs q) (continued v l k)) (continued v l (behind gs k)) (behind-continued v l gs k)
+    then-assoc (meaning (tabled v) g (point l e s)) (meaning_of_all (tabled v) gs) (continued v l k)
+    ∙ then-same (meaning (tabled v) g (point l e s)) (λ q. then (meaning_of_all (tabled v) gs q) (continued v l k)) (continued v l (behind gs k)) (behind-continued v l gs k)
 
 -- one goal
 pub goal-alone : (v : View) (l : Level) (g : GoalTree) (e : Places) (s : State) (k : List Frame) →
-    run_from v l (goal g no_goals) e s k ≡ then (meaning (small v) g (point l e s)) (continued v l k)
+    run_from v l (goal g no_goals) e s k ≡ then (meaning (tabled v) g (point l e s)) (continued v l k)
 goal-alone v l g e s k = goal-first v l g no_goals e s k
 
 -- the goal of a level
-pub goal-strict : (v : View) (l : Level) (g : GoalTree) (e : Places) (s : State) → run_from v l (goal g no_goals) e s [] ≡ strictly (meaning (small v) g) (point l e s)
+pub goal-strict : (v : View) (l : Level) (g : GoalTree) (e : Places) (s : State) → run_from v l (goal g no_goals) e s [] ≡ strictly (meaning (tabled v) g) (point l e s)
 unfolding strictly continued
 goal-strict v l g e s = goal-alone v l g e s []
 

@@ -8,21 +8,22 @@ use Rattle.pi_terms.specs.Copy.{copy, new_variables}
 use Rattle.pi_states.specs.Unify.{unified}
 use Rattle.pi_core.specs.GoalTree.{GoalTree, truth, fail, tick, call, apply, seq, alternatives, if_else, not, once, collect, count, catch, GoalTrees, no_goals, goal}
 use Rattle.pi_core.specs.CoreTree.{ClauseTree, PredTree, find_pred, leaves_others}
-use Rattle.pi_traces.specs.Trace.{Trace, end, note, ans, Done, Raise, Abort, Miss, Deep}
 use Rattle.pi_meaning.specs.View.{View}
 use Rattle.pi_states.specs.Evaluation.{EvaluatedAll, evaluated_all, with_new_variables}
 use Rattle.pi_states.specs.HeadMatch.{matched_all_in}
-use Rattle.pi_meaning.specs.Builtin.{effect, function_effect}
 use Rattle.pi_meaning.specs.Meaning.{slot_value}
 use Rattle.pi_meaning.specs.Run.{Solution}
 use Rattle.pi_core.specs.declared.core_program.NameSlot.{NameSlot}
-use Rattle.pi_machine.specs.Configuration.{Frame, more, return, give, Back, Called, Choice, rules_left, branches_left, Strict, once_level, not_level, if_level, guard_level, value_level, list_level, number_level, Entry, choice, strict, catch_level, left, Now, going, failed, raising, Config, config, behind}
-use Rattle.pi_machine.specs.Step.{back_to, branch, taken, guarding, tried, try_rules, later_rules, after_effect, call_step, predicate_step, effect_step, function_step, goal_step, frame_step, Open, none_open, strict_open, catch_open, newest_open, strict_step, leave, fits, told_step, answer_step, choice_step, end_step, fail_step, handler_step, below_left, raise_step, now_step, step}
+use Rattle.pi_machine.specs.Configuration.{Frame, more, return, give, Back, Called, Choice, rules_left, branches_left, Strict, once_level, not_level, if_level, guard_level, value_level, list_level, number_level, Entry, choice, strict, catch_level, left, Now, going, failed, raising, Config, config, behind, telling}
+use Rattle.pi_machine.specs.Step.{back_to, branch, taken, guarding, tried, try_rules, later_rules, call_step, predicate_step, effect_step, function_step, goal_step, frame_step, Open, none_open, strict_open, catch_open, newest_open, strict_step, leave, fits, told_step, answer_step, choice_step, end_step, fail_step, handler_step, below_left, raise_step, now_step, step, written_now, done_now, given_now, value_step}
 use Rattle.pi_machine.specs.Shape.{IsBalanced, IsGood}
 use Rattle.pi_machine.specs.Weight.{goal_weight, goals_weight, branches_weight, going_weight, frames_weight, body_behind, rules_weight, strict_answer_weight, answer_weight, choice_weight, strict_weight, stack_weight, now_weight, weight, GetsLighter}
 use Rattle.pi_machine.proofs.StackLemmas.{IsClosed, IsFound, newest-found}
 use Rattle.pi_machine.proofs.EndSteps.{IsMatched, left-matched}
 use Rattle.pi_machine.proofs.WeightLemmas.{behind-weight, going-below, after-weight, closed-answer, left-answer, below-weight, SameWeight, same-weight}
+use Rattle.pi_effects.specs.Effect.{Effect, Succeeds, Fails, Writes, Raises, FunctionEffect, Gives, Refuses}
+use Rattle.pi_effects.specs.BuiltIns.{built_in_predicate, built_in_function}
+use Rattle.pi_meaning.specs.Within.{is_body}
 
 -- a configuration weighs less than so much
 abbrev pub Lighter : Config → ℕ → Type 0
@@ -36,15 +37,23 @@ branch-lighter no_goals b es = omega arith
 branch-lighter (goal g no_goals) b es = omega arith
 branch-lighter (goal g (goal h hs)) b es = omega arith
 
-effect-lighter : {A : Type 0} (t : Trace A) (f : A → Now) (a w : ℕ) → ((x : A) → now_weight (f x) a < w) → 1 < w → now_weight (after_effect t f) a < w
-unfolding after_effect now_weight
-effect-lighter (end Done) f a w h k = omega arith
-effect-lighter (end (Raise ball)) f a w h k = k
-effect-lighter (end (Abort ball)) f a w h k = omega arith
-effect-lighter (end (Miss c)) f a w h k = omega arith
-effect-lighter (end Deep) f a w h k = omega arith
-effect-lighter (note n t) f a w h k = effect-lighter t f a w h k
-effect-lighter (ans x t) f a w h k = h x
+written-lighter : (inside : Bool) (text : List ℕ) (gs : GoalTrees) (e : Places) (s : State) (k : List Frame) (a : ℕ) →
+    now_weight (written_now inside text gs e s k) a ≤ suc (going_weight gs (frames_weight k a))
+unfolding now_weight
+written-lighter true text gs e s k a = omega arith
+written-lighter false text gs e s k a = omega arith
+
+done-lighter : (v : View) (d : Effect) (gs : GoalTrees) (e : Places) (k : List Frame) (a : ℕ) → now_weight (done_now v d gs e k) a ≤ suc (going_weight gs (frames_weight k a))
+unfolding now_weight
+done-lighter v (Succeeds s) gs e k a = omega arith
+done-lighter v Fails gs e k a = omega arith
+done-lighter v (Writes text s) gs e k a = written-lighter (is_body v.within) text gs e s k a
+done-lighter v (Raises ball) gs e k a = omega arith
+
+given-lighter : (d : FunctionEffect) (into : ℕ) (gs : GoalTrees) (e : Places) (k : List Frame) (a : ℕ) → now_weight (given_now d into gs e k) a ≤ suc (going_weight gs (frames_weight k a))
+unfolding now_weight
+given-lighter (Gives t s) into gs e k a = omega arith
+given-lighter (Refuses ball) into gs e k a = omega arith
 
 call-lighter : (quiet : Bool) (c next : Config) → GetsLighter c (call_step quiet next)
 call-lighter true c next = tt
@@ -60,32 +69,41 @@ unfolding weight now_weight
 function-lighter None all into k es c h = omega arith
 function-lighter (Some pred) all into k es c h = call-lighter pred.quiet c _
 
-effect-step-lighter : (o : Option (Trace State)) (preds : List PredTree) (name : List ℕ) (args : List Tree) (e : Places) (s : State) (all : EvaluatedAll) (gs : GoalTrees) (k : List Frame) (es : List Entry) →
-    GetsLighter (config (going (goal (call name args) gs) e s k) es) (effect_step o preds name all gs k es)
+effect-step-lighter : (v : View) (o : Option Effect) (preds : List PredTree) (name : List ℕ) (args : List Tree) (e : Places) (s : State) (all : EvaluatedAll) (gs : GoalTrees) (k : List Frame) (es : List Entry) →
+    GetsLighter (config (going (goal (call name args) gs) e s k) es) (effect_step v o preds name all gs k es)
 unfolding weight now_weight goal_weight
-effect-step-lighter None preds name args e s all gs k es =
+effect-step-lighter v None preds name args e s all gs k es =
     predicate-lighter (find_pred false name (tree_count all.trees) preds) all (behind gs k) es (config (going (goal (call name args) gs) e s k) es) (omega arith)
-effect-step-lighter (Some t) preds name args e s all gs k es =
+effect-step-lighter v (Some d) preds name args e s all gs k es =
     let a : ℕ = answer_weight 0 es in
-    let r : ℕ = goals_weight gs (frames_weight k a) in
-    let h : going_weight gs (frames_weight k a) ≤ r = going-below gs (frames_weight k a) in
-    let e : now_weight (after_effect t (λ r. going gs all.slots r k)) a < suc (suc r) =
-    effect-lighter t (λ r. going gs all.slots r k) a (suc (suc r)) (λ x. omega arith) (omega arith) in
+    let h : going_weight gs (frames_weight k a) ≤ goals_weight gs (frames_weight k a) = going-below gs (frames_weight k a) in
+    let w : now_weight (done_now v d gs all.slots k) a ≤ suc (going_weight gs (frames_weight k a)) = done-lighter v d gs all.slots k a in
+    omega arith
+
+value-step-lighter : (o : Option FunctionEffect) (preds : List PredTree) (name : List ℕ) (args : List Tree) (into : ℕ) (e : Places) (s : State) (all : EvaluatedAll) (gs : GoalTrees) (k : List Frame) (es : List Entry) →
+    GetsLighter (config (going (goal (apply name args into) gs) e s k) es) (value_step o preds name all into gs k es)
+unfolding weight now_weight goal_weight
+value-step-lighter None preds name args into e s all gs k es =
+    function-lighter (find_pred true name (tree_count all.trees) preds) all into (behind gs k) es (config (going (goal (apply name args into) gs) e s k) es) (omega arith)
+value-step-lighter (Some d) preds name args into e s all gs k es =
+    let a : ℕ = answer_weight 0 es in
+    let h : going_weight gs (frames_weight k a) ≤ goals_weight gs (frames_weight k a) = going-below gs (frames_weight k a) in
+    let w : now_weight (given_now d into gs all.slots k) a ≤ suc (going_weight gs (frames_weight k a)) = given-lighter d into gs all.slots k a in
     omega arith
 
 goal-lighter : (v : View) (preds : List PredTree) (g : GoalTree) (gs : GoalTrees) (e : Places) (s : State) (k : List Frame) (es : List Entry) →
     GetsLighter (config (going (goal g gs) e s k) es) (goal_step v preds g gs e s k es)
-unfolding goal_step weight now_weight stack_weight answer_weight goal_weight goals_weight frames_weight strict_answer_weight strict_weight function_effect
+unfolding goal_step weight now_weight stack_weight answer_weight goal_weight goals_weight frames_weight strict_answer_weight strict_weight
 goal-lighter v preds truth gs e s k es =
     let h : going_weight gs (frames_weight k (answer_weight 0 es)) ≤ goals_weight gs (frames_weight k (answer_weight 0 es)) = going-below gs (frames_weight k (answer_weight 0 es)) in omega arith
 goal-lighter v preds fail gs e s k es = omega arith
 goal-lighter v preds tick gs e s k es = tt
 goal-lighter v preds (call name args) gs e s k es =
     let all : EvaluatedAll = evaluated_all (trees_of args) e s in
-    effect-step-lighter (effect v name all.trees all.state) preds name args e s all gs k es
+    effect-step-lighter v (built_in_predicate name all.trees all.state) preds name args e s all gs k es
 goal-lighter v preds (apply name args into) gs e s k es =
     let all : EvaluatedAll = evaluated_all (trees_of args) e s in
-    function-lighter (find_pred true name (tree_count all.trees) preds) all into (behind gs k) es (config (going (goal (apply name args into) gs) e s k) es) (omega arith)
+    value-step-lighter (built_in_function name all.trees all.state) preds name args into e s all gs k es
 goal-lighter v preds (seq hs) gs e s k es =
     let a : ℕ = answer_weight 0 es in
     let h : going_weight hs (frames_weight (behind gs k) a) ≤ goals_weight hs (frames_weight (behind gs k) a) = going-below hs (frames_weight (behind gs k) a) in
@@ -310,12 +328,18 @@ raise-lighter raised (catch_level ball handler b ∷ es) h =
 raise-lighter raised (left ∷ es) h =
     let w : _ = below-lighter es (newest_open zero es) (left-matched 0 es h) in omega arith
 
+telling-lighter : (text : List ℕ) (gs : GoalTrees) (e : Places) (s : State) (k : List Frame) (es : List Entry) →
+    weight (config (going gs e s k) es) < weight (config (telling text gs e s k) es)
+unfolding weight now_weight
+telling-lighter text gs e s k es = omega arith
+
 -- ---- all
 
 now-lighter : (v : View) (preds : List PredTree) (names : List NameSlot) (now : Now) (es : List Entry) → IsBalanced 0 es → GetsLighter (config now es) (now_step v preds names now es)
 now-lighter v preds names (going (goal g gs) e s k) es h = goal-lighter v preds g gs e s k es
 now-lighter v preds names (going no_goals e s []) es h = answer-lighter names e s es h (newest_open zero es) (newest-found zero es)
 now-lighter v preds names (going no_goals e s (f ∷ k)) es h = frame-lighter f e s k es
+now-lighter v preds names (telling text gs e s k) es h = telling-lighter text gs e s k es
 now-lighter v preds names failed es h = fail-lighter es
 now-lighter v preds names (raising raised) es h = raise-lighter raised es h
 

@@ -51,9 +51,10 @@ pub data Entry : Type 0 where
   catch_level : Tree → GoalTree → Back → Entry
   left : Entry
 
--- what runs: goals, in a block with these slots, from a state, and then frames; no further answer here; an exception
+-- what runs: goals, in a block with these slots, from a state, and then frames; a text that is written before that; no further answer here; an exception
 pub data Now : Type 0 where
   going : GoalTrees → Places → State → List Frame → Now
+  telling : List ℕ → GoalTrees → Places → State → List Frame → Now
   failed : Now
   raising : Tree → Now
 

@@ -6,10 +6,10 @@ use Rattle.pi_terms.specs.Places.{Places, held}
 use Rattle.pi_states.specs.State.{State}
 use Rattle.pi_core.specs.GoalTree.{GoalTree, GoalTrees}
 use Rattle.pi_core.specs.CoreTree.{ClauseTree, PredTree, leaves_others}
-use Rattle.pi_traces.specs.Trace.{Trace, end, Raise, done, one, alt, then, first}
+use Rattle.pi_traces.specs.Trace.{Trace, end, note, Raise, Out, done, one, alt, then, first}
 use Rattle.pi_traces.specs.Control.{negated, chosen, collected, counted, caught}
 use Rattle.pi_meaning.specs.View.{View}
-use Rattle.pi_meaning.specs.Instances.{small}
+use Rattle.pi_meaning.specs.Instances.{tabled}
 use Rattle.pi_meaning.specs.Raise.{raised_with}
 use Rattle.pi_meaning.specs.Level.{Level, Applied, Point}
 use Rattle.pi_meaning.specs.Meaning.{Action, draining, with_slot, slot_value, copyable, with_list, meaning, meaning_of_all, meaning_of_any}
@@ -17,7 +17,7 @@ use Rattle.pi_meaning.specs.Handling.{handling}
 use Rattle.pi_meaning.specs.Rules.{chosen_rule, rules, value_at, level_at}
 use Rattle.pi_meaning.specs.Run.{Solution, answered_with}
 use Rattle.pi_core.specs.declared.core_program.NameSlot.{NameSlot}
-use Rattle.pi_machine.specs.Configuration.{Frame, more, return, give, Back, Called, Choice, rules_left, branches_left, Strict, once_level, not_level, if_level, guard_level, value_level, list_level, number_level, Entry, choice, strict, catch_level, left, Now, going, failed, raising, Config, after_body}
+use Rattle.pi_machine.specs.Configuration.{Frame, more, return, give, Back, Called, Choice, rules_left, branches_left, Strict, once_level, not_level, if_level, guard_level, value_level, list_level, number_level, Entry, choice, strict, catch_level, left, Now, going, telling, failed, raising, Config, after_body}
 
 abbrev pub point : Level → Places → State → Point
 point l e s = record { level = l; slots = e; state = s }
@@ -30,13 +30,13 @@ valued l a = point l (Some a.value ∷ []) a.state
 -- a function's value, behind which no frame counts.
 unfoldable pub continued : View → Level → List Frame → Action
 continued v l [] p = draining (λ q. one q) p
-continued v l (more gs ∷ k) p = then (meaning_of_all (small v) gs p) (continued v l k)
+continued v l (more gs ∷ k) p = then (meaning_of_all (tabled v) gs p) (continued v l k)
 continued v l (return e ∷ k) p = continued v l k (point l e p.state)
 continued v l (give t ∷ k) p = then (draining (λ q. one q) p) (λ q. then (value_at t q) (λ a. one (valued l a)))
 
 -- the goals of a block and the frames behind them
 abbrev pub run_from : View → Level → GoalTrees → Places → State → List Frame → Trace Point
-run_from v l gs e s k = then (meaning_of_all (small v) gs (point l e s)) (continued v l k)
+run_from v l gs e s k = then (meaning_of_all (tabled v) gs (point l e s)) (continued v l k)
 
 -- what an entry comes back to
 abbrev pub start_of : Level → Back → Point
@@ -44,22 +44,22 @@ start_of l b = point l b.slots b.state
 
 -- the body of a rule that applies, and what follows
 abbrev pub body_of : View → Level → Called → Back → ClauseTree → Action
-body_of v l call b c p = then (meaning (small v) c.body p) (continued v l (after_body call.function c b.frames))
+body_of v l call b c p = then (meaning (tabled v) c.body p) (continued v l (after_body call.function c b.frames))
 
 -- the rules that are left of a call
 unfoldable pub rules_trace : View → Level → Called → List ClauseTree → Back → Trace Point
-rules_trace v l call cs b = rules (small v) l (λ c. leaves_others call.function c) (λ i c p. body_of v l call b c p) 0 cs call.args b.state
+rules_trace v l call cs b = rules (tabled v) l (λ c. leaves_others call.function c) (λ i c p. body_of v l call b c p) 0 cs call.args b.state
 
 -- what a choice keeps
 unfoldable pub choice_trace : View → Level → Choice → Back → Trace Point
 choice_trace v l (rules_left call cs) b = rules_trace v l call cs b
-choice_trace v l (branches_left gs) b = then (meaning_of_any (small v) gs (start_of l b)) (continued v l b.frames)
+choice_trace v l (branches_left gs) b = then (meaning_of_any (tabled v) gs (start_of l b)) (continued v l b.frames)
 
 -- what a level makes of the trace inside of it
 unfoldable pub level_trace : View → Level → Strict → Back → Trace Point → Trace Point
 level_trace v l once_level b t = then (first t) (continued v l b.frames)
 level_trace v l not_level b t = then (negated t (start_of l b)) (continued v l b.frames)
-level_trace v l (if_level g other) b t = then (chosen t (meaning (small v) g) (meaning (small v) other (start_of l b))) (continued v l b.frames)
+level_trace v l (if_level g other) b t = then (chosen t (meaning (tabled v) g) (meaning (tabled v) other (start_of l b))) (continued v l b.frames)
 level_trace v l (guard_level call c cs) b t =
     chosen t (λ p. chosen_rule (leaves_others call.function c) (body_of v l call b c p) (rules_trace v l call cs b)) (rules_trace v l call cs b)
 level_trace v l (value_level call into) b t =
@@ -73,7 +73,7 @@ level_trace v l (number_level into n) b t =
 
 -- what a `catch` makes of the trace inside of it
 unfoldable pub catch_trace : View → Level → Tree → GoalTree → Back → Trace Point → Trace Point
-catch_trace v l ball handler b t = then (caught t (handling b.state ball (λ s. meaning (small v) handler (point l b.slots s)))) (continued v l b.frames)
+catch_trace v l ball handler b t = then (caught t (handling b.state ball (λ s. meaning (tabled v) handler (point l b.slots s)))) (continued v l b.frames)
 
 -- the trace that waits outside of the newest `catch` that was left, and those further outside
 abbrev pub outside : List (Trace Point) → Trace Point
@@ -96,6 +96,7 @@ around v l (left ∷ es) t outs = around v l es done (t ∷ outs)
 -- what runs
 unfoldable pub now_trace : View → Level → Now → Trace Point
 now_trace v l (going gs e s k) = run_from v l gs e s k
+now_trace v l (telling text gs e s k) = note (Out text) (run_from v l gs e s k)
 now_trace v l failed = done
 now_trace v l (raising ball) = end (Raise ball)
 
@@ -105,4 +106,4 @@ remaining_at v l names c = then (around v l c.stack (now_trace v l c.now) []) (a
 
 -- what remains of a run of a program at a depth, under a view; answers tell these names
 abbrev pub remaining : View → List PredTree → List NameSlot → ℕ → Config → Trace Solution
-remaining v preds names d c = remaining_at v (level_at (small v) preds d) names c
+remaining v preds names d c = remaining_at v (level_at (tabled v) preds d) names c

@@ -8,24 +8,26 @@ use Rattle.pi_states.specs.State.{State, bindings, next, empty_state}
 use Rattle.pi_states.specs.Unify.{unified}
 use Rattle.pi_core.specs.GoalTree.{GoalTree, truth, fail, tick, call, apply, seq, alternatives, if_else, not, once, collect, count, catch, GoalTrees, no_goals, goal}
 use Rattle.pi_core.specs.CoreTree.{ClauseTree, PredTree, QueryTree, find_pred, leaves_others}
-use Rattle.pi_traces.specs.Trace.{Trace, end, note, ans, End, Done, Raise}
+use Rattle.pi_traces.specs.Trace.{End, Done, Raise}
+use Rattle.pi_effects.specs.Effect.{Effect, Succeeds, Fails, Writes, Raises, FunctionEffect, Gives, Refuses}
+use Rattle.pi_effects.specs.BuiltIns.{built_in_predicate, built_in_function}
+use Rattle.pi_meaning.specs.Within.{is_body}
 use Rattle.pi_meaning.specs.View.{View}
 use Rattle.pi_states.specs.Evaluation.{Evaluated, evaluated, EvaluatedAll, evaluated_all, with_new_variables}
 use Rattle.pi_states.specs.HeadMatch.{matched_all_in}
-use Rattle.pi_meaning.specs.Level.{Applied}
-use Rattle.pi_meaning.specs.Builtin.{effect, function_effect}
 use Rattle.pi_meaning.specs.Meaning.{slot_value}
 use Rattle.pi_terms.specs.ListCopies.{list_of_copies, new_in_all}
 use Rattle.pi_meaning.specs.Run.{Solution}
 use Rattle.pi_core.specs.declared.core_program.NameSlot.{NameSlot}
-use Rattle.pi_machine.specs.Configuration.{Frame, more, return, give, Back, Called, Choice, rules_left, branches_left, Strict, once_level, not_level, if_level, guard_level, value_level, list_level, number_level, Entry, choice, strict, catch_level, left, Now, going, failed, raising, Config, config, behind, returning, after_body}
+use Rattle.pi_machine.specs.Configuration.{Frame, more, return, give, Back, Called, Choice, rules_left, branches_left, Strict, once_level, not_level, if_level, guard_level, value_level, list_level, number_level, Entry, choice, strict, catch_level, left, Now, going, telling, failed, raising, Config, config, behind, returning, after_body}
 
--- what a step comes to: the next configuration; the same after a Tick; the same, where a quiet call was entered; an answer
--- and the next configuration; the end
+-- what a step comes to: the next configuration; the same after a Tick; the same, where a quiet call was entered; a text that is written and the
+-- next configuration; an answer and the next one; the end
 pub data Outcome : Type 0 where
   silently : Config → Outcome
   with_tick : Config → Outcome
   quietly : Config → Outcome
+  writing : List ℕ → Config → Outcome
   answering : Solution → Config → Outcome
   ending : End → Outcome
 
@@ -83,12 +85,21 @@ unresolved called s = let t : Tree = value (bindings s) called in ball_of t (com
 
 -- ---- goals
 
--- after the effect of a built-in predicate, which has one answer, none, or raises; and of a built-in function
-unfoldable pub after_effect : {A : Type 0} → Trace A → (A → Now) → Now
-after_effect (end (Raise ball)) f = raising ball
-after_effect (end e) f = failed
-after_effect (note n t) f = after_effect t f
-after_effect (ans x t) f = f x
+-- a text that is written; what belongs to the body of a planner call may write none
+abbrev pub written_now : Bool → List ℕ → GoalTrees → Places → State → List Frame → Now
+written_now true text gs e s k = raising (atom (codes "output_in_plan"))
+written_now false text gs e s k = telling text gs e s k
+
+-- after the effect of a built-in predicate, and of a built-in function, whose value goes into a slot
+abbrev pub done_now : View → Effect → GoalTrees → Places → List Frame → Now
+done_now v (Succeeds s) gs e k = going gs e s k
+done_now v Fails gs e k = failed
+done_now v (Writes text s) gs e k = written_now (is_body v.within) text gs e s k
+done_now v (Raises ball) gs e k = raising ball
+
+abbrev pub given_now : FunctionEffect → ℕ → GoalTrees → Places → List Frame → Now
+given_now (Gives t s) into gs e k = going gs (slice_set e into (Some t)) s k
+given_now (Refuses ball) into gs e k = raising ball
 
 -- a call of a predicate of the program
 abbrev pub call_step : Bool → Config → Outcome
@@ -100,9 +111,9 @@ predicate_step None all k es = silently (config failed es)
 predicate_step (Some pred) all k es =
     call_step pred.quiet (try_rules (record { function = false; args = all.trees }) pred.clauses (back_to [] all.state (returning all.slots k)) es)
 
-abbrev pub effect_step : Option (Trace State) → List PredTree → List ℕ → EvaluatedAll → GoalTrees → List Frame → List Entry → Outcome
-effect_step (Some t) preds name all gs k es = silently (config (after_effect t (λ r. going gs all.slots r k)) es)
-effect_step None preds name all gs k es = predicate_step (find_pred false name (tree_count all.trees) preds) all (behind gs k) es
+abbrev pub effect_step : View → Option Effect → List PredTree → List ℕ → EvaluatedAll → GoalTrees → List Frame → List Entry → Outcome
+effect_step v (Some e) preds name all gs k es = silently (config (done_now v e gs all.slots k) es)
+effect_step v None preds name all gs k es = predicate_step (find_pred false name (tree_count all.trees) preds) all (behind gs k) es
 
 -- a call of a function of the program, inside of a level
 abbrev pub function_step : Option PredTree → EvaluatedAll → ℕ → List Frame → List Entry → Outcome
@@ -111,8 +122,8 @@ function_step (Some pred) all into k es =
     call_step pred.quiet (try_rules (record { function = true; args = all.trees }) pred.clauses (back_to [] all.state [])
     (strict (value_level (comp pred.name all.trees) into) (back_to all.slots all.state k) ∷ es))
 
-abbrev pub value_step : Option (Trace Applied) → List PredTree → List ℕ → EvaluatedAll → ℕ → GoalTrees → List Frame → List Entry → Outcome
-value_step (Some t) preds name all into gs k es = silently (config (after_effect t (λ a. going gs (slice_set all.slots into (Some a.value)) a.state k)) es)
+abbrev pub value_step : Option FunctionEffect → List PredTree → List ℕ → EvaluatedAll → ℕ → GoalTrees → List Frame → List Entry → Outcome
+value_step (Some e) preds name all into gs k es = silently (config (given_now e into gs all.slots k) es)
 value_step None preds name all into gs k es = function_step (find_pred true name (tree_count all.trees) preds) all into (behind gs k) es
 
 -- a goal, the goals and frames behind it
@@ -121,9 +132,9 @@ goal_step v preds truth gs e s k es = silently (config (going gs e s k) es)
 goal_step v preds fail gs e s k es = silently (config failed es)
 goal_step v preds tick gs e s k es = with_tick (config (going gs e s k) es)
 goal_step v preds (call name args) gs e s k es =
-    let all : EvaluatedAll = evaluated_all (trees_of args) e s in effect_step (effect v name all.trees all.state) preds name all gs k es
+    let all : EvaluatedAll = evaluated_all (trees_of args) e s in effect_step v (built_in_predicate name all.trees all.state) preds name all gs k es
 goal_step v preds (apply name args into) gs e s k es =
-    let all : EvaluatedAll = evaluated_all (trees_of args) e s in value_step (function_effect name all.trees all.state) preds name all into gs k es
+    let all : EvaluatedAll = evaluated_all (trees_of args) e s in value_step (built_in_function name all.trees all.state) preds name all into gs k es
 goal_step v preds (seq hs) gs e s k es = silently (config (going hs e s (behind gs k)) es)
 goal_step v preds (alternatives hs) gs e s k es = silently (branch hs (back_to e s (behind gs k)) es)
 goal_step v preds (if_else test g other) gs e s k es = silently (inside test e s (strict (if_level g other) (back_to e s (behind gs k))) es)
@@ -254,6 +265,7 @@ abbrev pub now_step : View → List PredTree → List NameSlot → Now → List 
 now_step v preds names (going (goal g gs) e s k) es = goal_step v preds g gs e s k es
 now_step v preds names (going no_goals e s (f ∷ k)) es = silently (frame_step f e s k es)
 now_step v preds names (going no_goals e s []) es = answer_step names e s es (newest_open zero es)
+now_step v preds names (telling text gs e s k) es = writing text (config (going gs e s k) es)
 now_step v preds names failed es = fail_step es
 now_step v preds names (raising raised) es = raise_step raised es
 

@@ -4,16 +4,16 @@
 use Rattle.std.specs.Prelude.{ℕ, zero, suc, ◌+◌, ◌<◌, Bool, true, false, List, [], ◌∷◌, ⊤}
 use Rattle.pi_core.specs.GoalTree.{GoalTree, truth, fail, tick, call, apply, seq, alternatives, if_else, not, once, collect, count, catch, GoalTrees, no_goals, goal}
 use Rattle.pi_core.specs.CoreTree.{ClauseTree}
-use Rattle.pi_machine.specs.Configuration.{Frame, more, return, give, Choice, rules_left, branches_left, Strict, once_level, not_level, if_level, guard_level, value_level, list_level, number_level, Entry, choice, strict, catch_level, left, Now, going, failed, raising, Config}
-use Rattle.pi_machine.specs.Step.{Outcome, silently, with_tick, quietly, answering, ending}
+use Rattle.pi_machine.specs.Configuration.{Frame, more, return, give, Choice, rules_left, branches_left, Strict, once_level, not_level, if_level, guard_level, value_level, list_level, number_level, Entry, choice, strict, catch_level, left, Now, going, telling, failed, raising, Config}
+use Rattle.pi_machine.specs.Step.{Outcome, silently, with_tick, quietly, writing, answering, ending}
 
 unfoldable mutual
   pub goal_weight : GoalTree → ℕ → ℕ
   goal_weight truth behind = suc behind
   goal_weight fail behind = 1
   goal_weight tick behind = 1
-  goal_weight (call name args) behind = suc (suc behind)
-  goal_weight (apply name args slot) behind = 1
+  goal_weight (call name args) behind = suc (suc (suc behind))
+  goal_weight (apply name args slot) behind = suc (suc behind)
   goal_weight (seq gs) behind = suc (goals_weight gs behind)
   goal_weight (alternatives gs) behind = suc (branches_weight gs behind)
   goal_weight (if_else test g other) behind = suc (goal_weight test (suc (goal_weight g behind)) + suc (goal_weight other behind))
@@ -99,6 +99,7 @@ stack_weight (left ∷ es) = suc (stack_weight es)
 -- what runs, by what an answer weighs
 unfoldable pub now_weight : Now → ℕ → ℕ
 now_weight (going gs e s k) answer = going_weight gs (frames_weight k answer)
+now_weight (telling text gs e s k) answer = suc (going_weight gs (frames_weight k answer))
 now_weight failed answer = 0
 now_weight (raising ball) answer = 1
 
@@ -110,5 +111,6 @@ abbrev pub GetsLighter : Config → Outcome → Type 0
 GetsLighter c (silently next) = weight next < weight c
 GetsLighter c (with_tick next) = ⊤
 GetsLighter c (quietly next) = ⊤
+GetsLighter c (writing text next) = weight next < weight c
 GetsLighter c (answering x next) = weight next < weight c
 GetsLighter c (ending e) = ⊤

@@ -27,7 +27,7 @@ pub struct PlanCall {
     pub limit: i128,
 }
 
-/// What comes next in a run. `Out` and `NeedPlan` don't come before there is output and a planner.
+/// What comes next in a run. `NeedPlan` doesn't come before there is a planner.
 #[derive(Debug, Drop)]
 pub enum Happening {
     Answer(Answer),

@@ -15,7 +15,7 @@ use Rattle.pi_meaning.specs.Given.{Setting, LaterOnlyAdds}
 use Rattle.pi_meaning.specs.Handling.{handled_in, handling}
 use Rattle.pi_meaning.specs.Calls.{built_in, given_later, predicate_given, predicate_called, function_given, function_called, Called, called_by, with_planner, is_known, known_called, call_goal, catch_called, again_called, term_called, called_at_level, called_below, first_called, unknown_name}
 use Rattle.pi_meaning.specs.Instances.{core_setting, predicate_or_call}
-use Rattle.pi_meaning.specs.MeaningLaws.{SmallOnlyAdds, WholeOnlyAdds}
+use Rattle.pi_meaning.specs.MeaningLaws.{TabledOnlyAdds, WholeOnlyAdds}
 use Rattle.pi_traces.proofs.BelowLemmas.{below-refl, below-then, below-caught}
 use Rattle.pi_meaning.proofs.MeaningLemmas.{calls-below}
 
@@ -158,8 +158,8 @@ first-below set adds l m b (tree t ts) s = one-down-below set adds l m b t (each
 
 -- ---- built-ins
 
-pub small-adds : SmallOnlyAdds
-small-adds v = record {
+pub tabled-adds : TabledOnlyAdds
+tabled-adds v = record {
   predicates = λ l m h name ts s. or-called-below (effect v name ts s) (effect v name ts s) (option-itself (effect v name ts s)) l m h name ts s;
   functions = λ l m h name ts s. or-applied-below (function_effect name ts s) l m h name ts s;
 }

@@ -1,4 +1,4 @@
--- Programs whose calls are defined: each call of a goal is of a predicate or a function of the program, or of `=` or `throw`; and what is found by a name is one of the program.
+-- Programs whose calls are defined: each call of a goal is of a predicate or a function of the program or of the tables; and what is found by a name is one of the program.
 use Rattle.std.proofs.Common.{◌≡◌, ◌⊎◌, ◌++◌, ℕ, suc, Bool, true, false, cond, ◌==◌, ◌&&◌, List, [], ◌∷◌, length, refl, subst, arith}
 use Rattle.std.specs.Prelude.{Option, Some, None, Contains, IsSome, IsTrue, ⊤}
 use Rattle.std.specs.Ordering.{is_eq}
@@ -8,15 +8,15 @@ use Rattle.pi_terms.specs.Order.{name_order}
 use Rattle.pi_states.proofs.MatchLemmas.{same_name}
 use Rattle.pi_core.specs.GoalTree.{GoalTree, truth, fail, tick, call, apply, seq, alternatives, if_else, not, once, collect, count, catch, GoalTrees, no_goals, goal, subgoals, subgoals_all}
 use Rattle.pi_core.specs.CoreTree.{ClauseTree, PredTree, is_pred, find_pred}
-use Rattle.pi_effects.specs.Builtin.{is_built_in}
+use Rattle.pi_effects.specs.BuiltIns.{is_predicate, is_function}
 use Rattle.pi_meaning.specs.Defined.{CallsDefined, ClauseCallsDefined, ProgramCallsDefined}
 use Rattle.pi_meaning.proofs.MeaningLemmas.{Callable, CallsIn, CallsInAll}
 use Rattle.pi_meaning.proofs.RuleLemmas.{ClausesCall, FoundCall, ProgramCalls}
 
--- what may be called: predicates of the program, `=` and `throw`; functions of the program
+-- what may be called: predicates and functions of the program and of the tables
 abbrev pub defined_by : List PredTree → Callable
-defined_by preds true name k = IsSome (find_pred true name k preds)
-defined_by preds false name k = IsSome (find_pred false name k preds) ⊎ IsTrue (is_built_in false name k)
+defined_by preds true name k = IsSome (find_pred true name k preds) ⊎ IsTrue (is_function name k)
+defined_by preds false name k = IsSome (find_pred false name k preds) ⊎ IsTrue (is_predicate name k)
 
 -- ---- each call in a goal, from those that are in it
 

@@ -1,11 +1,9 @@
 -- Goals keep states, where calls do: from a state whose slots hold terms of variables that were made, each answer is again
 -- one, with the variables that were made before and maybe more.
 use Rattle.std.proofs.Common.{◌≡◌, ℕ, ◌+◌, ◌≤◌, List, Bool, true, false, cond, refl, arith}
-use Rattle.std.specs.Prelude.{Option, Some, None, option_map, pos, codes, ⊤}
-use Rattle.std.specs.Ordering.{is_eq}
+use Rattle.std.specs.Prelude.{Option, Some, None, Ok, Err, option_map, pos, codes, ⊤}
 use Rattle.pi_terms.specs.Tree.{Tree, int, Trees, no_trees, tree, trees_of}
 use Rattle.pi_terms.specs.Places.{Places}
-use Rattle.pi_terms.specs.Order.{name_order}
 use Rattle.pi_terms.specs.Copy.{copy, new_variables}
 use Rattle.pi_states.specs.State.{State, next, SpeaksBelow, PlacesBelow, IsState}
 use Rattle.pi_states.specs.Unify.{unified}
@@ -13,14 +11,20 @@ use Rattle.pi_core.specs.GoalTree.{GoalTree, truth, fail, tick, call, apply, seq
 use Rattle.pi_traces.specs.Trace.{Trace, one, alt, then, first}
 use Rattle.pi_traces.specs.Control.{negated, chosen, caught}
 use Rattle.pi_meaning.specs.View.{View}
-use Rattle.pi_meaning.specs.Instances.{small}
+use Rattle.pi_meaning.specs.Instances.{tabled}
 use Rattle.pi_meaning.specs.Settle.{settled}
 use Rattle.pi_states.specs.Evaluation.{Evaluated, evaluated, EvaluatedAll, evaluated_all, with_new_variables}
 use Rattle.pi_meaning.specs.Level.{Level, lowest, over, Calls, Applied, Point, calls_at, or_called, or_applied}
-use Rattle.pi_effects.specs.Effect.{Effect, Succeeds, Fails, Writes, Raises, succeeds_in}
+use Rattle.std.specs.Option.{option_or}
+use Rattle.std.specs.Str.{bytes_eq}
+use Rattle.pi_effects.specs.Answer.{Answer}
+use Rattle.pi_effects.specs.Effect.{Effect, Succeeds, Fails, Writes, Raises, FunctionEffect, Gives, Refuses, succeeds_in}
 use Rattle.pi_effects.specs.Exception.{thrown}
-use Rattle.pi_effects.specs.Builtin.{effect_of_predicate}
-use Rattle.pi_meaning.specs.Builtin.{written, effect_trace, settled_effect, effect, function_effect}
+use Rattle.pi_effects.specs.Rows.{done_by}
+use Rattle.pi_effects.specs.Texts.{writing_predicates}
+use Rattle.pi_effects.specs.BuiltIns.{tests, test_in, writing_in, other_predicates, built_in_predicate, built_in_function}
+use Rattle.pi_meaning.specs.Builtin.{written, effect_trace, settled_effect, effect, function_trace, function_effect}
+use Rattle.pi_meaning.proofs.FunctionsKeep.{GivesKept, function-keeps}
 use Rattle.pi_meaning.specs.Within.{is_body}
 use Rattle.pi_meaning.specs.Handling.{handled_in, handling}
 use Rattle.pi_meaning.specs.Builtins.{predicate_by, function_by}
@@ -205,18 +209,44 @@ succeeds-keeps : (s : State) (o : Option State) → ((r : State) → o ≡ Some 
 succeeds-keeps s None h = tt
 succeeds-keeps s (Some r) h = h r refl
 
-cond-keeps : (s : State) (c : Bool) (e : Effect) → EffectKeeps s e → OptionEffectKeeps s (cond c (Some e) None)
-cond-keeps s true e a = a
-cond-keeps s false e a = tt
+or-keeps : (s : State) (o p : Option Effect) → OptionEffectKeeps s o → OptionEffectKeeps s p → OptionEffectKeeps s (option_or o p)
+or-keeps s None p h k = k
+or-keeps s (Some e) p h k = h
 
-predicate-keeps : (name : List ℕ) (ts : Trees) (s : State) → IsState s → TreesBelow (next s) ts → OptionEffectKeeps s (effect_of_predicate name ts s)
-predicate-keeps name no_trees s is below = tt
-predicate-keeps name (tree t no_trees) s is below = cond-keeps s (is_eq (name_order name (codes "throw"))) (Raises (thrown t s)) tt
-predicate-keeps name (tree t (tree u no_trees)) s is below =
-    cond-keeps s (is_eq (name_order name (codes "="))) (succeeds_in (unified s t u))
+if-keeps : (s : State) (c : Bool) (o : Option Effect) → OptionEffectKeeps s o → OptionEffectKeeps s (cond c o None)
+if-keeps s true o h = h
+if-keeps s false o h = tt
+
+-- a test leaves the state as it is, and so does what writes
+test-keeps : (s : State) → IsState s → (o : Option (Answer Bool)) → OptionEffectKeeps s (option_map (test_in s) o)
+test-keeps s is None = tt
+test-keeps s is (Some (Ok true)) = later-itself s is
+test-keeps s is (Some (Ok false)) = tt
+test-keeps s is (Some (Err ball)) = tt
+
+writing-keeps : (s : State) → IsState s → (o : Option (Answer (List ℕ))) → OptionEffectKeeps s (option_map (writing_in s) o)
+writing-keeps s is None = tt
+writing-keeps s is (Some (Ok text)) = later-itself s is
+writing-keeps s is (Some (Err ball)) = tt
+
+-- `=` and `throw`
+others-keep : (name : List ℕ) (ts : Trees) (s : State) → IsState s → TreesBelow (next s) ts → OptionEffectKeeps s (done_by other_predicates name ts s)
+unfolding other_predicates done_by
+others-keep name no_trees s is below = or-keeps s _ _ (if-keeps s (bytes_eq (codes "=") name) None tt) (or-keeps s _ None (if-keeps s (bytes_eq (codes "throw") name) None tt) tt)
+others-keep name (tree t no_trees) s is below =
+    or-keeps s _ _ (if-keeps s (bytes_eq (codes "=") name) None tt) (or-keeps s _ None (if-keeps s (bytes_eq (codes "throw") name) (Some (Raises (thrown t s))) tt) tt)
+others-keep name (tree t (tree u no_trees)) s is below =
+    or-keeps s _ _ (if-keeps s (bytes_eq (codes "=") name) (Some (succeeds_in (unified s t u)))
     (succeeds-keeps s (unified s t u) (λ r e. unified-later s r t u is (first-below (next s) t (tree u no_trees) below)
-    (first-below (next s) u no_trees (rest-below (next s) t (tree u no_trees) below)) e))
-predicate-keeps name (tree t (tree u (tree w ts))) s is below = tt
+    (first-below (next s) u no_trees (rest-below (next s) t (tree u no_trees) below)) e)))
+    (or-keeps s _ None (if-keeps s (bytes_eq (codes "throw") name) None tt) tt)
+others-keep name (tree t (tree u (tree w ts))) s is below = or-keeps s _ _ (if-keeps s (bytes_eq (codes "=") name) None tt) (or-keeps s _ None (if-keeps s (bytes_eq (codes "throw") name) None tt) tt)
+
+predicate-keeps : (name : List ℕ) (ts : Trees) (s : State) → IsState s → TreesBelow (next s) ts → OptionEffectKeeps s (built_in_predicate name ts s)
+unfolding built_in_predicate
+predicate-keeps name ts s is below =
+    or-keeps s (option_map (test_in s) (done_by tests name ts s)) _ (test-keeps s is (done_by tests name ts s))
+    (or-keeps s (option_map (writing_in s) (done_by writing_predicates name ts s)) _ (writing-keeps s is (done_by writing_predicates name ts s)) (others-keep name ts s is below))
 
 abbrev OptionKeeps : State → Option (Trace State) → Type 0
 OptionKeeps s None = ⊤
@@ -243,15 +273,20 @@ option-keeps s v (Some e) h = settled-effect-keeps s v e h
 
 effect-keeps : (v : View) (name : List ℕ) (ts : Trees) (s : State) → IsState s → TreesBelow (next s) ts → OptionKeeps s (effect v name ts s)
 unfolding effect
-effect-keeps v name ts s is below = option-keeps s v (effect_of_predicate name ts s) (predicate-keeps name ts s is below)
+effect-keeps v name ts s is below = option-keeps s v (built_in_predicate name ts s) (predicate-keeps name ts s is below)
 
 abbrev OptionApplies : State → Option (Trace Applied) → Type 0
 OptionApplies s None = ⊤
 OptionApplies s (Some t) = EachAnswer (AppliedLater s) t
 
 function-effect-keeps : (name : List ℕ) (ts : Trees) (s : State) → IsState s → TreesBelow (next s) ts → OptionApplies s (function_effect name ts s)
-unfolding function_effect
-function-effect-keeps name ts s is below = tt
+unfolding function_effect EachAnswer
+function-effect-keeps name ts s is below = given-keeps s (built_in_function name ts s) (λ e h. function-keeps name ts s is below e h)
+  where
+    given-keeps : (s : State) (o : Option FunctionEffect) → ((e : FunctionEffect) → o ≡ Some e → GivesKept s e) → OptionApplies s (option_map function_trace o)
+    given-keeps s None all = tt
+    given-keeps s (Some (Gives t r)) all = (all (Gives t r) refl, tt)
+    given-keeps s (Some (Refuses ball)) all = tt
 
 called-keeps : (l : Level) → LevelKeeps l → (name : List ℕ) (ts : Trees) (s : State) → IsState s → TreesBelow (next s) ts → (o : Option (Trace State)) → OptionKeeps s o →
     EachAnswer (Later s) (or_called o l name ts s)
@@ -263,22 +298,22 @@ applied-keeps : (l : Level) → LevelKeeps l → (name : List ℕ) (ts : Trees) 
 applied-keeps l k name ts s is below None h = (calls-keep l k).applied name ts s is below
 applied-keeps l k name ts s is below (Some t) h = h
 
-calling-keeps : (v : View) (name : List ℕ) (args : List Tree) → Keeps (calling (small v) name args)
+calling-keeps : (v : View) (name : List ℕ) (args : List Tree) → Keeps (calling (tabled v) name args)
 unfolding Keeps calling
 calling-keeps v name args p is =
     let all : EvaluatedAll = evaluated_all (trees_of args) p.slots p.state in
     let a : AllBelow p.state all = evaluated-all-below (trees_of args) p.slots p.state is.state is.slots in
-    each-then (Later all.state) (PlaceLater p) (predicate_by (small v) p.level name all.trees all.state) (λ s. one (in_state (after_arguments p all) s))
+    each-then (Later all.state) (PlaceLater p) (predicate_by (tabled v) p.level name all.trees all.state) (λ s. one (in_state (after_arguments p all) s))
     (called-keeps p.level is.level name all.trees all.state a.state a.below (effect v name all.trees all.state) (effect-keeps v name all.trees all.state a.state a.below))
     (λ s h. each-one (PlaceLater p) (in_state (after_arguments p all) s)
     (record { level = is.level; state = h.0; slots = places-more (next all.state) (next s) all.slots h.1 a.slots }, omega (arith, a.more, h.1)))
 
-applying-keeps : (v : View) (name : List ℕ) (args : List Tree) (into : ℕ) → Keeps (applying (small v) name args into)
+applying-keeps : (v : View) (name : List ℕ) (args : List Tree) (into : ℕ) → Keeps (applying (tabled v) name args into)
 unfolding Keeps applying
 applying-keeps v name args into p is =
     let all : EvaluatedAll = evaluated_all (trees_of args) p.slots p.state in
     let a : AllBelow p.state all = evaluated-all-below (trees_of args) p.slots p.state is.state is.slots in
-    each-then (AppliedLater all.state) (PlaceLater p) (function_by (small v) p.level name all.trees all.state)
+    each-then (AppliedLater all.state) (PlaceLater p) (function_by (tabled v) p.level name all.trees all.state)
     (λ x. one (with_slot (in_state (after_arguments p all) x.state) into x.value))
     (applied-keeps p.level is.level name all.trees all.state a.state a.below (function_effect name all.trees all.state) (function-effect-keeps name all.trees all.state a.state a.below))
     (λ x h. each-one (PlaceLater p) (with_slot (in_state (after_arguments p all) x.state) into x.value)
@@ -289,28 +324,28 @@ applying-keeps v name args into p is =
 mutual
   unfolding meaning
 
-  pub goal-keeps : (v : View) (g : GoalTree) → Keeps (meaning (small v) g)
+  pub goal-keeps : (v : View) (g : GoalTree) → Keeps (meaning (tabled v) g)
   goal-keeps v truth = draining-keeps succeeding succeeding-keeps
   goal-keeps v fail = draining-keeps failing failing-keeps
   goal-keeps v tick = draining-keeps ticking ticking-keeps
-  goal-keeps v (call name args) = draining-keeps (calling (small v) name args) (calling-keeps v name args)
-  goal-keeps v (apply name args slot) = draining-keeps (applying (small v) name args slot) (applying-keeps v name args slot)
-  goal-keeps v (seq gs) = draining-keeps (meaning_of_all (small v) gs) (goals-keep v gs)
-  goal-keeps v (alternatives gs) = draining-keeps (meaning_of_any (small v) gs) (branches-keep v gs)
+  goal-keeps v (call name args) = draining-keeps (calling (tabled v) name args) (calling-keeps v name args)
+  goal-keeps v (apply name args slot) = draining-keeps (applying (tabled v) name args slot) (applying-keeps v name args slot)
+  goal-keeps v (seq gs) = draining-keeps (meaning_of_all (tabled v) gs) (goals-keep v gs)
+  goal-keeps v (alternatives gs) = draining-keeps (meaning_of_any (tabled v) gs) (branches-keep v gs)
   goal-keeps v (if_else test yes_goal other) =
-      draining-keeps (λ p. chosen (strictly (meaning (small v) test) p) (meaning (small v) yes_goal) (meaning (small v) other p))
-      (chosen-keeps (meaning (small v) test) (meaning (small v) yes_goal) (meaning (small v) other) (goal-keeps v test) (goal-keeps v yes_goal) (goal-keeps v other))
-  goal-keeps v (not g) = draining-keeps (λ p. negated (strictly (meaning (small v) g) p) p) (negated-keeps (meaning (small v) g))
-  goal-keeps v (once g) = draining-keeps (λ p. first (strictly (meaning (small v) g) p)) (first-keeps (meaning (small v) g) (goal-keeps v g))
-  goal-keeps v (collect g k into) = draining-keeps (collecting (meaning (small v) g) k into) (collecting-keeps (meaning (small v) g) k into)
-  goal-keeps v (count g into) = draining-keeps (counting (meaning (small v) g) into) (counting-keeps (meaning (small v) g) into)
+      draining-keeps (λ p. chosen (strictly (meaning (tabled v) test) p) (meaning (tabled v) yes_goal) (meaning (tabled v) other p))
+      (chosen-keeps (meaning (tabled v) test) (meaning (tabled v) yes_goal) (meaning (tabled v) other) (goal-keeps v test) (goal-keeps v yes_goal) (goal-keeps v other))
+  goal-keeps v (not g) = draining-keeps (λ p. negated (strictly (meaning (tabled v) g) p) p) (negated-keeps (meaning (tabled v) g))
+  goal-keeps v (once g) = draining-keeps (λ p. first (strictly (meaning (tabled v) g) p)) (first-keeps (meaning (tabled v) g) (goal-keeps v g))
+  goal-keeps v (collect g k into) = draining-keeps (collecting (meaning (tabled v) g) k into) (collecting-keeps (meaning (tabled v) g) k into)
+  goal-keeps v (count g into) = draining-keeps (counting (meaning (tabled v) g) into) (counting-keeps (meaning (tabled v) g) into)
   goal-keeps v (catch g ball handler) =
-      draining-keeps (catching (meaning (small v) g) ball (meaning (small v) handler)) (catching-keeps (meaning (small v) g) ball (meaning (small v) handler) (goal-keeps v g) (goal-keeps v handler))
+      draining-keeps (catching (meaning (tabled v) g) ball (meaning (tabled v) handler)) (catching-keeps (meaning (tabled v) g) ball (meaning (tabled v) handler) (goal-keeps v g) (goal-keeps v handler))
 
-  goals-keep : (v : View) (gs : GoalTrees) → Keeps (meaning_of_all (small v) gs)
+  goals-keep : (v : View) (gs : GoalTrees) → Keeps (meaning_of_all (tabled v) gs)
   goals-keep v no_goals = succeeding-keeps
-  goals-keep v (goal g gs) = all-keep (meaning (small v) g) (meaning_of_all (small v) gs) (goal-keeps v g) (goals-keep v gs)
+  goals-keep v (goal g gs) = all-keep (meaning (tabled v) g) (meaning_of_all (tabled v) gs) (goal-keeps v g) (goals-keep v gs)
 
-  branches-keep : (v : View) (gs : GoalTrees) → Keeps (meaning_of_any (small v) gs)
+  branches-keep : (v : View) (gs : GoalTrees) → Keeps (meaning_of_any (tabled v) gs)
   branches-keep v no_goals = failing-keeps
-  branches-keep v (goal g gs) = any-keep (meaning (small v) g) (meaning_of_any (small v) gs) (goal-keeps v g) (branches-keep v gs)
+  branches-keep v (goal g gs) = any-keep (meaning (tabled v) g) (meaning_of_any (tabled v) gs) (goal-keeps v g) (branches-keep v gs)

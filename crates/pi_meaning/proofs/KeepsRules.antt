@@ -11,7 +11,7 @@ use Rattle.pi_terms.specs.PatternTree.{PatternTree, slot, exact_int, exact_atom,
 use Rattle.pi_core.specs.GoalTree.{GoalTree, truth}
 use Rattle.pi_traces.specs.Trace.{Trace, end, one, done}
 use Rattle.pi_meaning.specs.View.{View}
-use Rattle.pi_meaning.specs.Instances.{small}
+use Rattle.pi_meaning.specs.Instances.{tabled}
 use Rattle.pi_meaning.specs.Settle.{settled_from}
 use Rattle.pi_meaning.specs.Drain.{drained}
 use Rattle.pi_states.specs.Evaluation.{Evaluated, evaluated, EvaluatedAll, evaluated_all, slot_term}
@@ -126,10 +126,10 @@ tested-keeps s false t a = tt
 
 -- ---- rules
 
-guarded-keeps : (v : View) (g : GoalTree) → Keeps (guarded (small v) g)
+guarded-keeps : (v : View) (g : GoalTree) → Keeps (guarded (tabled v) g)
 unfolding Keeps EachAnswer
 guarded-keeps v truth p is = ((is, omega arith), tt)
-guarded-keeps v g p is = strictly-keeps (meaning (small v) g) (goal-keeps v g) p is
+guarded-keeps v g p is = strictly-keeps (meaning (tabled v) g) (goal-keeps v g) p is
 
 chosen-rule-keeps : {X : Type 0} (Q : X → Type 0) (back : Bool) (t rest : Trace X) → EachAnswer Q t → EachAnswer Q rest → EachAnswer Q (chosen_rule back t rest)
 chosen-rule-keeps Q true t rest a b = each-alt Q t rest a b
@@ -141,21 +141,21 @@ DoesKeep Q s does = (i : ℕ) (c : ClauseTree) (p : Point) → IsPlace p → nex
 
 rule-keeps : {X : Type 0} (Q : X → Type 0) (v : View) (l : Level) → LevelKeeps l → (c : ClauseTree) (back : Bool) (does : Point → Trace X) (s : State) → IsState s →
     ((p : Point) → IsPlace p → next s ≤ next p.state → EachAnswer Q (does p)) → (rest : Trace X) → EachAnswer Q rest → (o : Option Places) → SomePlacesBelow (next s) o →
-    EachAnswer Q (rule_before (small v) l c back does s rest o)
+    EachAnswer Q (rule_before (tabled v) l c back does s rest o)
 unfolding Keeps
 rule-keeps Q v l h c back does s is a rest b None e = b
 rule-keeps Q v l h c back does s is a rest b (Some e) slots =
     let p : Point = record { level = l; slots = e; state = s } in
-    each-chosen (PlaceLater p) Q (guarded (small v) c.guard p) (λ q. chosen_rule back (does q) rest) rest
+    each-chosen (PlaceLater p) Q (guarded (tabled v) c.guard p) (λ q. chosen_rule back (does q) rest) rest
     (guarded-keeps v c.guard p (record { level = h; state = is; slots = slots }))
     (λ q k. chosen-rule-keeps Q back (does q) rest (a q k.0 k.1) b) b
 
 rules-keep : {X : Type 0} (Q : X → Type 0) (v : View) (l : Level) → LevelKeeps l → (back : ClauseTree → Bool) (does : ℕ → ClauseTree → Point → Trace X) (i : ℕ) (cs : List ClauseTree)
-    (ts : Trees) (s : State) → IsState s → TreesBelow (next s) ts → DoesKeep Q s does → EachAnswer Q (rules (small v) l back does i cs ts s)
+    (ts : Trees) (s : State) → IsState s → TreesBelow (next s) ts → DoesKeep Q s does → EachAnswer Q (rules (tabled v) l back does i cs ts s)
 unfolding rules EachAnswer
 rules-keep Q v l h back does i [] ts s is these a = tt
 rules-keep Q v l h back does i (c ∷ cs) ts s is these a =
-    rule-keeps Q v l h c (back c) (does i c) s is (a i c) (rules (small v) l back does (suc i) cs ts s) (rules-keep Q v l h back does (suc i) cs ts s is these a)
+    rule-keeps Q v l h c (back c) (does i c) s is (a i c) (rules (tabled v) l back does (suc i) cs ts s) (rules-keep Q v l h back does (suc i) cs ts s is these a)
     (matched_all_in (bindings s) c.head ts (replicate c.slots None))
     (matched-all-below (next s) (bindings s) (λ n t has. bound_below s n t is has) c.head ts (replicate c.slots None) these (places-empty (next s) c.slots))
 
@@ -185,10 +185,10 @@ suspended-later call i ws e s is slots below =
     (agent-keeps all.state agent a.state (speaks-more (next s) (next all.state) call a.more below) (watches-below (next all.state) ws all.trees a.below), a.more)
 
 body-keeps : (v : View) (call : Tree) (s : State) → SpeaksBelow (next s) call → (i : ℕ) (c : ClauseTree) (ws : List SlotWatch) (p : Point) → IsPlace p → next s ≤ next p.state →
-    EachAnswer (Later s) (body_or_agent (small v) call i c ws p)
+    EachAnswer (Later s) (body_or_agent (tabled v) call i c ws p)
 unfolding Keeps
 body-keeps v call s below i c [] p is h =
-    each-then (PlaceLater p) (Later s) (meaning (small v) c.body p) (λ q. one q.state) (goal-keeps v c.body p is)
+    each-then (PlaceLater p) (Later s) (meaning (tabled v) c.body p) (λ q. one q.state) (goal-keeps v c.body p is)
     (λ q k. each-one (Later s) q.state (k.0.state, omega (arith, h, k.1)))
 body-keeps v call s below i c (w ∷ ws) p is h =
     each-one (Later s) (suspended call i (w ∷ ws) p.slots p.state)
@@ -202,19 +202,19 @@ value-keeps s (Some t) p is h =
     let a : EvaluatedBelow p.state (evaluated t p.slots p.state) = evaluated-below t p.slots p.state is.state is.slots in
     (((a.state, omega (arith, h, a.more)), a.below), tt)
 
-run-keeps : (v : View) (s : State) (c : ClauseTree) (p : Point) → IsPlace p → next s ≤ next p.state → EachAnswer (AppliedLater s) (value_run (small v) c p)
+run-keeps : (v : View) (s : State) (c : ClauseTree) (p : Point) → IsPlace p → next s ≤ next p.state → EachAnswer (AppliedLater s) (value_run (tabled v) c p)
 unfolding Keeps
 run-keeps v s c p is h =
-    each-then (PlaceLater p) (AppliedLater s) (strictly (meaning (small v) c.body) p) (value_at c.value) (strictly-keeps (meaning (small v) c.body) (goal-keeps v c.body) p is)
+    each-then (PlaceLater p) (AppliedLater s) (strictly (meaning (tabled v) c.body) p) (value_at c.value) (strictly-keeps (meaning (tabled v) c.body) (goal-keeps v c.body) p is)
     (λ q k. value-keeps s c.value q k.0 (omega (arith, h, k.1)))
 
 -- ---- calls
 
 pred-keeps : (v : View) (l : Level) → LevelKeeps l → (pred : PredTree) (index : Option (List (List Mode))) (ts : Trees) (s : State) → IsState s → TreesBelow (next s) ts →
-    EachAnswer (Later s) (pred_run (small v) l pred index ts s)
+    EachAnswer (Later s) (pred_run (tabled v) l pred index ts s)
 unfolding pred_run
 pred-keeps v l h pred None ts s is these =
-    rules-keep (Later s) v l h (λ c. backtracks c.back c.watches) (λ i c p. body_or_agent (small v) (comp pred.name ts) i c c.watches p) 0 pred.clauses ts s is these
+    rules-keep (Later s) v l h (λ c. backtracks c.back c.watches) (λ i c p. body_or_agent (tabled v) (comp pred.name ts) i c c.watches p) 0 pred.clauses ts s is these
     (λ i c p place more. body-keeps v (comp pred.name ts) s (comp-below (next s) pred.name ts these) i c c.watches p place more)
 pred-keeps v l h pred (Some lists) ts s is these =
     tested-keeps s (list_any (λ modes. fits_modes (bindings s) modes ts) lists) (facts pred.clauses ts s) (facts-keep pred.clauses ts s is these)
@@ -224,12 +224,12 @@ unfolding raised_with EachAnswer
 raised-keeps P name t s = tt
 
 function-keeps : (v : View) (l : Level) → LevelKeeps l → (pred : PredTree) (ts : Trees) (s : State) → IsState s → TreesBelow (next s) ts →
-    EachAnswer (AppliedLater s) (function_run (small v) l pred ts s)
+    EachAnswer (AppliedLater s) (function_run (tabled v) l pred ts s)
 unfolding function_run
 function-keeps v l h pred ts s is these =
-    each-chosen (AppliedLater s) (AppliedLater s) (rules (small v) l (λ c. false) (λ i c p. value_run (small v) c p) 0 pred.clauses ts s) (λ a. one a)
+    each-chosen (AppliedLater s) (AppliedLater s) (rules (tabled v) l (λ c. false) (λ i c p. value_run (tabled v) c p) 0 pred.clauses ts s) (λ a. one a)
     (raised_with (codes "unresolved_function_call") (comp pred.name ts) s)
-    (rules-keep (AppliedLater s) v l h (λ c. false) (λ i c p. value_run (small v) c p) 0 pred.clauses ts s is these (λ i c p place more. run-keeps v s c p place more))
+    (rules-keep (AppliedLater s) v l h (λ c. false) (λ i c p. value_run (tabled v) c p) 0 pred.clauses ts s is these (λ i c p place more. run-keeps v s c p place more))
     (λ a k. each-one (AppliedLater s) a k) (raised-keeps (AppliedLater s) (codes "unresolved_function_call") (comp pred.name ts) s)
 
 abbrev OptionLevelKeeps : Option Level → Type 0
@@ -245,24 +245,24 @@ entered-keeps Q false inner None a b run go = tt
 entered-keeps Q false inner (Some l) a b run go = go l b
 
 call-keeps : (v : View) (inner below : Option Level) → OptionLevelKeeps inner → OptionLevelKeeps below → (o : Option PredTree) (ts : Trees) (s : State) → IsState s →
-    TreesBelow (next s) ts → EachAnswer (Later s) (call_run (small v) inner below o ts s)
+    TreesBelow (next s) ts → EachAnswer (Later s) (call_run (tabled v) inner below o ts s)
 unfolding EachAnswer
 call-keeps v inner below a b None ts s is these = tt
 call-keeps v inner below a b (Some pred) ts s is these =
-    entered-keeps (Later s) pred.quiet inner below a b (λ l. pred_run (small v) l pred pred.index ts s) (λ l h. pred-keeps v l h pred pred.index ts s is these)
+    entered-keeps (Later s) pred.quiet inner below a b (λ l. pred_run (tabled v) l pred pred.index ts s) (λ l h. pred-keeps v l h pred pred.index ts s is these)
 
 application-keeps : (v : View) (inner below : Option Level) → OptionLevelKeeps inner → OptionLevelKeeps below → (o : Option PredTree) (ts : Trees) (s : State) → IsState s →
-    TreesBelow (next s) ts → EachAnswer (AppliedLater s) (application_run (small v) inner below o ts s)
+    TreesBelow (next s) ts → EachAnswer (AppliedLater s) (application_run (tabled v) inner below o ts s)
 unfolding EachAnswer
 application-keeps v inner below a b None ts s is these = tt
 application-keeps v inner below a b (Some pred) ts s is these =
-    entered-keeps (AppliedLater s) pred.quiet inner below a b (λ l. function_run (small v) l pred ts s) (λ l h. function-keeps v l h pred ts s is these)
+    entered-keeps (AppliedLater s) pred.quiet inner below a b (λ l. function_run (tabled v) l pred ts s) (λ l h. function-keeps v l h pred ts s is these)
 
 drained-keeps : (s : State) → IsState s → EachAnswer (Later s) (drained s)
 unfolding drained
 drained-keeps s is = each-one (Later s) s (later-itself s is)
 
-calls-of-keep : (v : View) (preds : List PredTree) (inner below : Option Level) → OptionLevelKeeps inner → OptionLevelKeeps below → CallsKeep (calls_of (small v) preds inner below)
+calls-of-keep : (v : View) (preds : List PredTree) (inner below : Option Level) → OptionLevelKeeps inner → OptionLevelKeeps below → CallsKeep (calls_of (tabled v) preds inner below)
 unfolding calls_of
 calls-of-keep v preds inner below a b = record {
   called = λ name ts s is these. call-keeps v inner below a b (find_pred false name (tree_count ts) preds) ts s is these;
@@ -276,17 +276,17 @@ level-of-keeps : (c : Calls) (below : Option Level) → CallsKeep c → OptionLe
 level-of-keeps c None a b = a
 level-of-keeps c (Some l) a b = (a, b)
 
-quiet-keeps : (v : View) (preds : List PredTree) (below : Option Level) → OptionLevelKeeps below → (k : ℕ) → LevelKeeps (quiet_level (small v) preds below k)
+quiet-keeps : (v : View) (preds : List PredTree) (below : Option Level) → OptionLevelKeeps below → (k : ℕ) → LevelKeeps (quiet_level (tabled v) preds below k)
 unfolding quiet_level
-quiet-keeps v preds below b zero = level-of-keeps (calls_of (small v) preds None below) below (calls-of-keep v preds None below tt b) b
+quiet-keeps v preds below b zero = level-of-keeps (calls_of (tabled v) preds None below) below (calls-of-keep v preds None below tt b) b
 quiet-keeps v preds below b (suc k) =
-    let inner : Option Level = Some (quiet_level (small v) preds below k) in
-    level-of-keeps (calls_of (small v) preds inner below) below (calls-of-keep v preds inner below (quiet-keeps v preds below b k) b) b
+    let inner : Option Level = Some (quiet_level (tabled v) preds below k) in
+    level-of-keeps (calls_of (tabled v) preds inner below) below (calls-of-keep v preds inner below (quiet-keeps v preds below b k) b) b
 
-pub level-keeps : (v : View) (preds : List PredTree) (d : ℕ) → LevelKeeps (level_at (small v) preds d)
+pub level-keeps : (v : View) (preds : List PredTree) (d : ℕ) → LevelKeeps (level_at (tabled v) preds d)
 unfolding level_at
 level-keeps v preds zero = quiet-keeps v preds None tt (length preds)
-level-keeps v preds (suc d) = quiet-keeps v preds (Some (level_at (small v) preds d)) (level-keeps v preds d) (suc (length preds + d))
+level-keeps v preds (suc d) = quiet-keeps v preds (Some (level_at (tabled v) preds d)) (level-keeps v preds d) (suc (length preds + d))
 
 -- ---- queries
 
@@ -303,14 +303,14 @@ unfolding told EachAnswer
 told-keeps P [] x t a = a
 told-keeps P (n ∷ names) x t a = limit-keeps P _ (end _) (told names x t) tt (told-keeps P names x t a)
 
-query-keeps : (v : View) (program : List PredTree) (q : QueryTree) (d : ℕ) → EachAnswer IsGood (query_trace (small v) program q d)
+query-keeps : (v : View) (program : List PredTree) (q : QueryTree) (d : ℕ) → EachAnswer IsGood (query_trace (tabled v) program q d)
 unfolding query_trace Keeps
 query-keeps v program q d =
-    let l : Level = level_at (small v) (program ++ q.helpers) d in
+    let l : Level = level_at (tabled v) (program ++ q.helpers) d in
     let start : Point = query_start l q in
     let good : IsPlace start = record { level = level-keeps v (program ++ q.helpers) d; state = empty-is-state; slots = places-empty 0 q.slots } in
-    each-then (PlaceLater start) IsGood (strictly (meaning (small v) q.goal) start) (answered_with q.names) (strictly-keeps (meaning (small v) q.goal) (goal-keeps v q.goal) start good)
+    each-then (PlaceLater start) IsGood (strictly (meaning (tabled v) q.goal) start) (answered_with q.names) (strictly-keeps (meaning (tabled v) q.goal) (goal-keeps v q.goal) start good)
     (λ p k. told-keeps IsGood q.names (solution p) (one (solution p)) (each-one IsGood (solution p) (k.0.state, k.0.slots)))
 
 pub runs-keep-states : RunsKeepStates
-runs-keep-states v program q sound ground d x within = each-contained IsGood (query_trace (small v) program q d) (query-keeps v program q d) x within
+runs-keep-states v program q sound ground d x within = each-contained IsGood (query_trace (tabled v) program q d) (query-keeps v program q d) x within

@@ -6,6 +6,10 @@ pub mod KnownLemmas
 pub mod QueryLemmas
 pub mod DefinedLemmas
 pub mod WholeLemmas
+pub mod ItemsBelow
+pub mod AnswersBelow
+pub mod TablesKeep
+pub mod FunctionsKeep
 pub mod KeepsGoals
 pub mod KeepsRules
 pub mod QuietGoals

@@ -12,7 +12,7 @@ use Rattle.pi_traces.specs.Control.{negated, chosen}
 use Rattle.pi_traces.specs.Depth.{Below}
 use Rattle.pi_traces.specs.Related.{BelowBy, end_by}
 use Rattle.pi_meaning.specs.View.{View}
-use Rattle.pi_meaning.specs.Instances.{small}
+use Rattle.pi_meaning.specs.Instances.{tabled}
 use Rattle.pi_meaning.specs.Settle.{settled}
 use Rattle.pi_states.specs.Evaluation.{Evaluated, evaluated, EvaluatedAll, evaluated_all, with_new_variables}
 use Rattle.pi_meaning.specs.Level.{Level, Calls, Applied, Point, calls_at, lower, ticked, or_called, or_applied}
@@ -104,13 +104,13 @@ called-nests preds r f l m h name ts s fits None = h.calls.called name ts s fits
 called-nests preds r f l m h name ts s fits (Some t) = below-refl t
 
 calling-nests : (preds : List PredTree) (r : TicksBetween preds) (v : View) (name : List ℕ) (args : List Tree) →
-    Nests preds r (calling (small v) name args) (λ c. c ≡ callee false name (length args)) ⊤
+    Nests preds r (calling (tabled v) name args) (λ c. c ≡ callee false name (length args)) ⊤
 unfolding Nests calling
 calling-nests preds r v name args f fits l m h e s =
     let all : EvaluatedAll = evaluated_all (trees_of args) e s in
     let did : Option (Trace State) = effect v name all.trees all.state in
     let many : tree_count all.trees ≡ length args = as-many (trees_of args) e s ∙ count-of args in
-    by-then_same (Nested preds r f ⊤) (predicate_by (small v) l name all.trees all.state) (predicate_by (small v) m name all.trees all.state)
+    by-then_same (Nested preds r f ⊤) (predicate_by (tabled v) l name all.trees all.state) (predicate_by (tabled v) m name all.trees all.state)
     (λ x. one (place l all.slots x)) (λ x. one (place m all.slots x))
     (called-nests preds r f l m h name all.trees all.state (fits (callee false name (tree_count all.trees)) (ap (callee false name) many)) did)
     (λ x. by-one (Nested preds r f ⊤) (place l all.slots x) (place m all.slots x) (two_levels h tt all.slots x))
@@ -121,13 +121,13 @@ applied-nests preds r f l m h name ts s fits None = h.calls.applied name ts s fi
 applied-nests preds r f l m h name ts s fits (Some t) = below-refl t
 
 applying-nests : (preds : List PredTree) (r : TicksBetween preds) (v : View) (name : List ℕ) (args : List Tree) (into : ℕ) →
-    Nests preds r (applying (small v) name args into) (λ c. c ≡ callee true name (length args)) ⊤
+    Nests preds r (applying (tabled v) name args into) (λ c. c ≡ callee true name (length args)) ⊤
 unfolding Nests applying
 applying-nests preds r v name args into f fits l m h e s =
     let all : EvaluatedAll = evaluated_all (trees_of args) e s in
     let did : Option (Trace Applied) = function_effect name all.trees all.state in
     let many : tree_count all.trees ≡ length args = as-many (trees_of args) e s ∙ count-of args in
-    by-then_same (Nested preds r f ⊤) (function_by (small v) l name all.trees all.state) (function_by (small v) m name all.trees all.state)
+    by-then_same (Nested preds r f ⊤) (function_by (tabled v) l name all.trees all.state) (function_by (tabled v) m name all.trees all.state)
     (λ a. one (place l (slice_set all.slots into (Some a.value)) a.state)) (λ a. one (place m (slice_set all.slots into (Some a.value)) a.state))
     (applied-nests preds r f l m h name all.trees all.state (fits (callee true name (tree_count all.trees)) (ap (callee true name) many)) did)
     (λ a. by-one (Nested preds r f ⊤) (place l (slice_set all.slots into (Some a.value)) a.state) (place m (slice_set all.slots into (Some a.value)) a.state)
@@ -231,46 +231,46 @@ catching-nests preds r a ball b R R' P P' x y f fits l m h e s =
 mutual
   unfolding meaning Reaches Passes
 
-  pub goal-nests : (preds : List PredTree) (r : TicksBetween preds) (v : View) (g : GoalTree) → Nests preds r (meaning (small v) g) (λ c. Reaches c g) (Passes g)
+  pub goal-nests : (preds : List PredTree) (r : TicksBetween preds) (v : View) (g : GoalTree) → Nests preds r (meaning (tabled v) g) (λ c. Reaches c g) (Passes g)
   goal-nests preds r v truth = draining-nests preds r succeeding (λ c. ⊥) ⊤ (succeeding-nests preds r)
   goal-nests preds r v fail = draining-nests preds r failing (λ c. ⊥) ⊥ (failing-nests preds r)
   goal-nests preds r v tick = draining-nests preds r ticking (λ c. ⊥) ⊥ (ticking-nests preds r)
   goal-nests preds r v (call name args) =
-      draining-nests preds r (calling (small v) name args) (λ c. c ≡ callee false name (length args)) ⊤ (calling-nests preds r v name args)
+      draining-nests preds r (calling (tabled v) name args) (λ c. c ≡ callee false name (length args)) ⊤ (calling-nests preds r v name args)
   goal-nests preds r v (apply name args slot) =
-      draining-nests preds r (applying (small v) name args slot) (λ c. c ≡ callee true name (length args)) ⊤ (applying-nests preds r v name args slot)
-  goal-nests preds r v (seq gs) = draining-nests preds r (meaning_of_all (small v) gs) (λ c. ReachesInAll c gs) (PassesAll gs) (goals-nest preds r v gs)
-  goal-nests preds r v (alternatives gs) = draining-nests preds r (meaning_of_any (small v) gs) (λ c. ReachesInAny c gs) (PassesAny gs) (branches-nest preds r v gs)
+      draining-nests preds r (applying (tabled v) name args slot) (λ c. c ≡ callee true name (length args)) ⊤ (applying-nests preds r v name args slot)
+  goal-nests preds r v (seq gs) = draining-nests preds r (meaning_of_all (tabled v) gs) (λ c. ReachesInAll c gs) (PassesAll gs) (goals-nest preds r v gs)
+  goal-nests preds r v (alternatives gs) = draining-nests preds r (meaning_of_any (tabled v) gs) (λ c. ReachesInAny c gs) (PassesAny gs) (branches-nest preds r v gs)
   goal-nests preds r v (if_else test yes_goal other) =
-      draining-nests preds r (λ p. chosen (strictly (meaning (small v) test) p) (meaning (small v) yes_goal) (meaning (small v) other p))
+      draining-nests preds r (λ p. chosen (strictly (meaning (tabled v) test) p) (meaning (tabled v) yes_goal) (meaning (tabled v) other p))
       (λ c. Reaches c test ⊎ ((Passes test × Reaches c yes_goal) ⊎ Reaches c other)) ((Passes test × Passes yes_goal) ⊎ Passes other)
-      (chosen-nests preds r (meaning (small v) test) (meaning (small v) yes_goal) (meaning (small v) other) (λ c. Reaches c test) (λ c. Reaches c yes_goal) (λ c. Reaches c other)
+      (chosen-nests preds r (meaning (tabled v) test) (meaning (tabled v) yes_goal) (meaning (tabled v) other) (λ c. Reaches c test) (λ c. Reaches c yes_goal) (λ c. Reaches c other)
       (Passes test) (Passes yes_goal) (Passes other) (goal-nests preds r v test) (goal-nests preds r v yes_goal) (goal-nests preds r v other))
   goal-nests preds r v (not g) =
-      draining-nests preds r (λ p. negated (strictly (meaning (small v) g) p) p) (λ c. Reaches c g) ⊤
-      (negated-nests preds r (meaning (small v) g) (λ c. Reaches c g) (Passes g) (goal-nests preds r v g))
+      draining-nests preds r (λ p. negated (strictly (meaning (tabled v) g) p) p) (λ c. Reaches c g) ⊤
+      (negated-nests preds r (meaning (tabled v) g) (λ c. Reaches c g) (Passes g) (goal-nests preds r v g))
   goal-nests preds r v (once g) =
-      draining-nests preds r (λ p. first (strictly (meaning (small v) g) p)) (λ c. Reaches c g) (Passes g)
-      (first-nests preds r (meaning (small v) g) (λ c. Reaches c g) (Passes g) (goal-nests preds r v g))
+      draining-nests preds r (λ p. first (strictly (meaning (tabled v) g) p)) (λ c. Reaches c g) (Passes g)
+      (first-nests preds r (meaning (tabled v) g) (λ c. Reaches c g) (Passes g) (goal-nests preds r v g))
   goal-nests preds r v (collect g k into) =
-      draining-nests preds r (collecting (meaning (small v) g) k into) (λ c. Reaches c g) ⊤
-      (collecting-nests preds r (meaning (small v) g) k into (λ c. Reaches c g) (Passes g) (goal-nests preds r v g))
+      draining-nests preds r (collecting (meaning (tabled v) g) k into) (λ c. Reaches c g) ⊤
+      (collecting-nests preds r (meaning (tabled v) g) k into (λ c. Reaches c g) (Passes g) (goal-nests preds r v g))
   goal-nests preds r v (count g into) =
-      draining-nests preds r (counting (meaning (small v) g) into) (λ c. Reaches c g) ⊤
-      (counting-nests preds r (meaning (small v) g) into (λ c. Reaches c g) (Passes g) (goal-nests preds r v g))
+      draining-nests preds r (counting (meaning (tabled v) g) into) (λ c. Reaches c g) ⊤
+      (counting-nests preds r (meaning (tabled v) g) into (λ c. Reaches c g) (Passes g) (goal-nests preds r v g))
   goal-nests preds r v (catch g ball handler) =
-      draining-nests preds r (catching (meaning (small v) g) ball (meaning (small v) handler)) (λ c. Reaches c g ⊎ Reaches c handler) (Passes g ⊎ Passes handler)
-      (catching-nests preds r (meaning (small v) g) ball (meaning (small v) handler) (λ c. Reaches c g) (λ c. Reaches c handler) (Passes g) (Passes handler)
+      draining-nests preds r (catching (meaning (tabled v) g) ball (meaning (tabled v) handler)) (λ c. Reaches c g ⊎ Reaches c handler) (Passes g ⊎ Passes handler)
+      (catching-nests preds r (meaning (tabled v) g) ball (meaning (tabled v) handler) (λ c. Reaches c g) (λ c. Reaches c handler) (Passes g) (Passes handler)
       (goal-nests preds r v g) (goal-nests preds r v handler))
 
-  goals-nest : (preds : List PredTree) (r : TicksBetween preds) (v : View) (gs : GoalTrees) → Nests preds r (meaning_of_all (small v) gs) (λ c. ReachesInAll c gs) (PassesAll gs)
+  goals-nest : (preds : List PredTree) (r : TicksBetween preds) (v : View) (gs : GoalTrees) → Nests preds r (meaning_of_all (tabled v) gs) (λ c. ReachesInAll c gs) (PassesAll gs)
   goals-nest preds r v no_goals = succeeding-nests preds r
   goals-nest preds r v (goal g gs) =
-      all-nests preds r (meaning (small v) g) (meaning_of_all (small v) gs) (λ c. Reaches c g) (λ c. ReachesInAll c gs) (Passes g) (PassesAll gs)
+      all-nests preds r (meaning (tabled v) g) (meaning_of_all (tabled v) gs) (λ c. Reaches c g) (λ c. ReachesInAll c gs) (Passes g) (PassesAll gs)
       (goal-nests preds r v g) (goals-nest preds r v gs)
 
-  branches-nest : (preds : List PredTree) (r : TicksBetween preds) (v : View) (gs : GoalTrees) → Nests preds r (meaning_of_any (small v) gs) (λ c. ReachesInAny c gs) (PassesAny gs)
+  branches-nest : (preds : List PredTree) (r : TicksBetween preds) (v : View) (gs : GoalTrees) → Nests preds r (meaning_of_any (tabled v) gs) (λ c. ReachesInAny c gs) (PassesAny gs)
   branches-nest preds r v no_goals = failing-nests preds r
   branches-nest preds r v (goal g gs) =
-      any-nests preds r (meaning (small v) g) (meaning_of_any (small v) gs) (λ c. Reaches c g) (λ c. ReachesInAny c gs) (Passes g) (PassesAny gs)
+      any-nests preds r (meaning (tabled v) g) (meaning_of_any (tabled v) gs) (λ c. Reaches c g) (λ c. ReachesInAny c gs) (Passes g) (PassesAny gs)
       (goal-nests preds r v g) (branches-nest preds r v gs)

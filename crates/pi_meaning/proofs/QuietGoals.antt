@@ -10,13 +10,13 @@ use Rattle.pi_core.specs.GoalTree.{GoalTree, truth, fail, tick, call, apply, seq
 use Rattle.pi_traces.specs.Trace.{Trace, end, one, alt, then, first}
 use Rattle.pi_traces.specs.Control.{negated, chosen}
 use Rattle.pi_meaning.specs.View.{View}
-use Rattle.pi_meaning.specs.Instances.{small}
+use Rattle.pi_meaning.specs.Instances.{tabled}
 use Rattle.pi_meaning.specs.Settle.{settled}
 use Rattle.pi_states.specs.Evaluation.{Evaluated, evaluated, EvaluatedAll, evaluated_all, with_new_variables}
 use Rattle.pi_meaning.specs.Raise.{within_limit, too_large}
 use Rattle.pi_meaning.specs.Level.{Level, lowest, over, Calls, Applied, Point, calls_at, or_called, or_applied}
 use Rattle.pi_effects.specs.Effect.{Effect, Succeeds, Fails, Writes, Raises, FunctionEffect, Gives, Refuses}
-use Rattle.pi_effects.specs.Builtin.{effect_of_predicate, effect_of_function}
+use Rattle.pi_effects.specs.BuiltIns.{built_in_predicate, built_in_function}
 use Rattle.pi_meaning.specs.Builtin.{written, effect_trace, function_trace, settled_effect, effect, function_effect}
 use Rattle.pi_meaning.specs.Within.{is_body}
 use Rattle.pi_meaning.specs.Handling.{handled_in, handling}
@@ -259,11 +259,11 @@ settled-effect-lasts d v s e = then-lasts Any Any any-falls d (effect_trace v e)
 
 effect-lasts : (d : ℕ) (v : View) (name : List ℕ) (ts : Trees) (s : State) → OptionLasts d (effect v name ts s)
 unfolding effect
-effect-lasts d v name ts s = option-lasts d (settled_effect v s) (settled-effect-lasts d v s) (effect_of_predicate name ts s)
+effect-lasts d v name ts s = option-lasts d (settled_effect v s) (settled-effect-lasts d v s) (built_in_predicate name ts s)
 
 function-effect-lasts : (d : ℕ) (name : List ℕ) (ts : Trees) (s : State) → OptionLasts d (function_effect name ts s)
 unfolding function_effect
-function-effect-lasts d name ts s = option-lasts d function_trace (gave-lasts d) (effect_of_function name ts s)
+function-effect-lasts d name ts s = option-lasts d function_trace (gave-lasts d) (built_in_function name ts s)
 
 called-lasts : (preds : List PredTree) (r : TicksBetween preds) (f d : ℕ) (l : Level) → d ≤ depth l → LevelLasts preds r f l → (name : List ℕ) (ts : Trees) (s : State) →
     Fits preds r f (callee false name (tree_count ts)) → (o : Option (Trace State)) → OptionLasts d o → Lasts Any d (or_called o l name ts s)
@@ -278,24 +278,24 @@ applied-lasts preds r f d l h last name ts s fits None a =
 applied-lasts preds r f d l h last name ts s fits (Some t) a = a
 
 calling-deepens : (preds : List PredTree) (r : TicksBetween preds) (v : View) (name : List ℕ) (args : List Tree) →
-    Deepens preds r (calling (small v) name args) (λ c. c ≡ callee false name (length args)) ⊤
+    Deepens preds r (calling (tabled v) name args) (λ c. c ≡ callee false name (length args)) ⊤
 unfolding Deepens calling
 calling-deepens preds r v name args f fits d p h l =
     let all : EvaluatedAll = evaluated_all (trees_of args) p.slots p.state in
     let many : tree_count all.trees ≡ length args = as-many (trees_of args) p.slots p.state ∙ count-of args in
-    then-lasts Any (Left preds r f ⊤) (left-falls preds r f ⊤) d (predicate_by (small v) p.level name all.trees all.state)
+    then-lasts Any (Left preds r f ⊤) (left-falls preds r f ⊤) d (predicate_by (tabled v) p.level name all.trees all.state)
     (λ s. one (in_state (after_arguments p all) s))
     (called-lasts preds r f d p.level h l name all.trees all.state (fits (callee false name (tree_count all.trees)) (ap (callee false name) many))
     (effect v name all.trees all.state) (effect-lasts d v name all.trees all.state))
     (λ k s m o. one-lasts (Left preds r f ⊤) k (in_state (after_arguments p all) s) (omega (arith, m, h), inl (l, tt)))
 
 applying-deepens : (preds : List PredTree) (r : TicksBetween preds) (v : View) (name : List ℕ) (args : List Tree) (into : ℕ) →
-    Deepens preds r (applying (small v) name args into) (λ c. c ≡ callee true name (length args)) ⊤
+    Deepens preds r (applying (tabled v) name args into) (λ c. c ≡ callee true name (length args)) ⊤
 unfolding Deepens applying
 applying-deepens preds r v name args into f fits d p h l =
     let all : EvaluatedAll = evaluated_all (trees_of args) p.slots p.state in
     let many : tree_count all.trees ≡ length args = as-many (trees_of args) p.slots p.state ∙ count-of args in
-    then-lasts Any (Left preds r f ⊤) (left-falls preds r f ⊤) d (function_by (small v) p.level name all.trees all.state)
+    then-lasts Any (Left preds r f ⊤) (left-falls preds r f ⊤) d (function_by (tabled v) p.level name all.trees all.state)
     (λ a. one (with_slot (in_state (after_arguments p all) a.state) into a.value))
     (applied-lasts preds r f d p.level h l name all.trees all.state (fits (callee true name (tree_count all.trees)) (ap (callee true name) many))
     (function_effect name all.trees all.state) (function-effect-lasts d name all.trees all.state))
@@ -318,46 +318,46 @@ tick-deepens preds r = ticking-deepens preds r
 mutual
   unfolding meaning Reaches Passes
 
-  pub goal-deepens : (preds : List PredTree) (r : TicksBetween preds) (v : View) (g : GoalTree) → Deepens preds r (meaning (small v) g) (λ c. Reaches c g) (Passes g)
+  pub goal-deepens : (preds : List PredTree) (r : TicksBetween preds) (v : View) (g : GoalTree) → Deepens preds r (meaning (tabled v) g) (λ c. Reaches c g) (Passes g)
   goal-deepens preds r v truth = draining-deepens preds r succeeding (λ c. ⊥) ⊤ (some-deepens preds r)
   goal-deepens preds r v fail = draining-deepens preds r failing (λ c. ⊥) ⊥ (none-deepens preds r)
   goal-deepens preds r v tick = draining-deepens preds r ticking (λ c. ⊥) ⊥ (tick-deepens preds r)
   goal-deepens preds r v (call name args) =
-      draining-deepens preds r (calling (small v) name args) (λ c. c ≡ callee false name (length args)) ⊤ (calling-deepens preds r v name args)
+      draining-deepens preds r (calling (tabled v) name args) (λ c. c ≡ callee false name (length args)) ⊤ (calling-deepens preds r v name args)
   goal-deepens preds r v (apply name args slot) =
-      draining-deepens preds r (applying (small v) name args slot) (λ c. c ≡ callee true name (length args)) ⊤ (applying-deepens preds r v name args slot)
-  goal-deepens preds r v (seq gs) = draining-deepens preds r (meaning_of_all (small v) gs) (λ c. ReachesInAll c gs) (PassesAll gs) (goals-deepen preds r v gs)
-  goal-deepens preds r v (alternatives gs) = draining-deepens preds r (meaning_of_any (small v) gs) (λ c. ReachesInAny c gs) (PassesAny gs) (branches-deepen preds r v gs)
+      draining-deepens preds r (applying (tabled v) name args slot) (λ c. c ≡ callee true name (length args)) ⊤ (applying-deepens preds r v name args slot)
+  goal-deepens preds r v (seq gs) = draining-deepens preds r (meaning_of_all (tabled v) gs) (λ c. ReachesInAll c gs) (PassesAll gs) (goals-deepen preds r v gs)
+  goal-deepens preds r v (alternatives gs) = draining-deepens preds r (meaning_of_any (tabled v) gs) (λ c. ReachesInAny c gs) (PassesAny gs) (branches-deepen preds r v gs)
   goal-deepens preds r v (if_else test yes_goal other) =
-      draining-deepens preds r (λ p. chosen (strictly (meaning (small v) test) p) (meaning (small v) yes_goal) (meaning (small v) other p))
+      draining-deepens preds r (λ p. chosen (strictly (meaning (tabled v) test) p) (meaning (tabled v) yes_goal) (meaning (tabled v) other p))
       (λ c. Reaches c test ⊎ ((Passes test × Reaches c yes_goal) ⊎ Reaches c other)) ((Passes test × Passes yes_goal) ⊎ Passes other)
-      (chosen-deepens preds r (meaning (small v) test) (meaning (small v) yes_goal) (meaning (small v) other) (λ c. Reaches c test) (λ c. Reaches c yes_goal) (λ c. Reaches c other)
+      (chosen-deepens preds r (meaning (tabled v) test) (meaning (tabled v) yes_goal) (meaning (tabled v) other) (λ c. Reaches c test) (λ c. Reaches c yes_goal) (λ c. Reaches c other)
       (Passes test) (Passes yes_goal) (Passes other) (goal-deepens preds r v test) (goal-deepens preds r v yes_goal) (goal-deepens preds r v other))
   goal-deepens preds r v (not g) =
-      draining-deepens preds r (λ p. negated (strictly (meaning (small v) g) p) p) (λ c. Reaches c g) ⊤
-      (negated-deepens preds r (meaning (small v) g) (λ c. Reaches c g) (Passes g) (goal-deepens preds r v g))
+      draining-deepens preds r (λ p. negated (strictly (meaning (tabled v) g) p) p) (λ c. Reaches c g) ⊤
+      (negated-deepens preds r (meaning (tabled v) g) (λ c. Reaches c g) (Passes g) (goal-deepens preds r v g))
   goal-deepens preds r v (once g) =
-      draining-deepens preds r (λ p. first (strictly (meaning (small v) g) p)) (λ c. Reaches c g) (Passes g)
-      (first-deepens preds r (meaning (small v) g) (λ c. Reaches c g) (Passes g) (goal-deepens preds r v g))
+      draining-deepens preds r (λ p. first (strictly (meaning (tabled v) g) p)) (λ c. Reaches c g) (Passes g)
+      (first-deepens preds r (meaning (tabled v) g) (λ c. Reaches c g) (Passes g) (goal-deepens preds r v g))
   goal-deepens preds r v (collect g k into) =
-      draining-deepens preds r (collecting (meaning (small v) g) k into) (λ c. Reaches c g) ⊤
-      (collecting-deepens preds r (meaning (small v) g) k into (λ c. Reaches c g) (Passes g) (goal-deepens preds r v g))
+      draining-deepens preds r (collecting (meaning (tabled v) g) k into) (λ c. Reaches c g) ⊤
+      (collecting-deepens preds r (meaning (tabled v) g) k into (λ c. Reaches c g) (Passes g) (goal-deepens preds r v g))
   goal-deepens preds r v (count g into) =
-      draining-deepens preds r (counting (meaning (small v) g) into) (λ c. Reaches c g) ⊤
-      (counting-deepens preds r (meaning (small v) g) into (λ c. Reaches c g) (Passes g) (goal-deepens preds r v g))
+      draining-deepens preds r (counting (meaning (tabled v) g) into) (λ c. Reaches c g) ⊤
+      (counting-deepens preds r (meaning (tabled v) g) into (λ c. Reaches c g) (Passes g) (goal-deepens preds r v g))
   goal-deepens preds r v (catch g ball handler) =
-      draining-deepens preds r (catching (meaning (small v) g) ball (meaning (small v) handler)) (λ c. Reaches c g ⊎ Reaches c handler) (Passes g ⊎ Passes handler)
-      (catching-deepens preds r (meaning (small v) g) ball (meaning (small v) handler) (λ c. Reaches c g) (λ c. Reaches c handler) (Passes g) (Passes handler)
+      draining-deepens preds r (catching (meaning (tabled v) g) ball (meaning (tabled v) handler)) (λ c. Reaches c g ⊎ Reaches c handler) (Passes g ⊎ Passes handler)
+      (catching-deepens preds r (meaning (tabled v) g) ball (meaning (tabled v) handler) (λ c. Reaches c g) (λ c. Reaches c handler) (Passes g) (Passes handler)
       (goal-deepens preds r v g) (goal-deepens preds r v handler))
 
-  goals-deepen : (preds : List PredTree) (r : TicksBetween preds) (v : View) (gs : GoalTrees) → Deepens preds r (meaning_of_all (small v) gs) (λ c. ReachesInAll c gs) (PassesAll gs)
+  goals-deepen : (preds : List PredTree) (r : TicksBetween preds) (v : View) (gs : GoalTrees) → Deepens preds r (meaning_of_all (tabled v) gs) (λ c. ReachesInAll c gs) (PassesAll gs)
   goals-deepen preds r v no_goals = some-deepens preds r
   goals-deepen preds r v (goal g gs) =
-      all-deepens preds r (meaning (small v) g) (meaning_of_all (small v) gs) (λ c. Reaches c g) (λ c. ReachesInAll c gs) (Passes g) (PassesAll gs)
+      all-deepens preds r (meaning (tabled v) g) (meaning_of_all (tabled v) gs) (λ c. Reaches c g) (λ c. ReachesInAll c gs) (Passes g) (PassesAll gs)
       (goal-deepens preds r v g) (goals-deepen preds r v gs)
 
-  branches-deepen : (preds : List PredTree) (r : TicksBetween preds) (v : View) (gs : GoalTrees) → Deepens preds r (meaning_of_any (small v) gs) (λ c. ReachesInAny c gs) (PassesAny gs)
+  branches-deepen : (preds : List PredTree) (r : TicksBetween preds) (v : View) (gs : GoalTrees) → Deepens preds r (meaning_of_any (tabled v) gs) (λ c. ReachesInAny c gs) (PassesAny gs)
   branches-deepen preds r v no_goals = none-deepens preds r
   branches-deepen preds r v (goal g gs) =
-      any-deepens preds r (meaning (small v) g) (meaning_of_any (small v) gs) (λ c. Reaches c g) (λ c. ReachesInAny c gs) (Passes g) (PassesAny gs)
+      any-deepens preds r (meaning (tabled v) g) (meaning_of_any (tabled v) gs) (λ c. Reaches c g) (λ c. ReachesInAny c gs) (Passes g) (PassesAny gs)
       (goal-deepens preds r v g) (branches-deepen preds r v gs)

@@ -10,7 +10,7 @@ use Rattle.pi_states.specs.State.{State, bindings}
 use Rattle.pi_traces.specs.Trace.{Trace, one, done, then}
 use Rattle.pi_traces.specs.Depth.{Cut, cut, CutWithoutDeep}
 use Rattle.pi_meaning.specs.View.{View}
-use Rattle.pi_meaning.specs.Instances.{small}
+use Rattle.pi_meaning.specs.Instances.{tabled}
 use Rattle.pi_meaning.specs.Settle.{settled_from}
 use Rattle.pi_meaning.specs.Drain.{drained}
 use Rattle.pi_states.specs.HeadMatch.{matched_all_in}
@@ -31,18 +31,18 @@ use Rattle.pi_meaning.proofs.QuietGoals.{depth, Fits, callee, CallsLast, LevelLa
 
 -- from an answer of a goal, what does not last by the level
 after-goal : {X : Type 0} (preds : List PredTree) (r : TicksBetween preds) (v : View) (g : GoalTree) (f : ℕ) (P : Type 0) → (P → (c : Callee) → Reaches c g → Fits preds r f c) →
-    (k : ℕ) (q : Point) → Left preds r f P k q → (h : Point → Trace X) → ((j : ℕ) (x : Point) → Lasts Any j (h x)) → Lasts Any k (then (strictly (meaning (small v) g) q) h)
+    (k : ℕ) (q : Point) → Left preds r f P k q → (h : Point → Trace X) → ((j : ℕ) (x : Point) → Lasts Any j (h x)) → Lasts Any k (then (strictly (meaning (tabled v) g) q) h)
 after-goal preds r v g f P fits k q o h a =
-    then-lasts (Left preds r f P) Any any-falls k (strictly (meaning (small v) g) q) h
-    (onward preds r f P P (strictly (meaning (small v) g)) (λ c. Reaches c g) (Passes g)
-    (strictly-deepens preds r (meaning (small v) g) (λ c. Reaches c g) (Passes g) (goal-deepens preds r v g)) fits (λ x y. x) k q o)
+    then-lasts (Left preds r f P) Any any-falls k (strictly (meaning (tabled v) g) q) h
+    (onward preds r f P P (strictly (meaning (tabled v) g)) (λ c. Reaches c g) (Passes g)
+    (strictly-deepens preds r (meaning (tabled v) g) (λ c. Reaches c g) (Passes g) (goal-deepens preds r v g)) fits (λ x y. x) k q o)
     (λ j x m n. a j x)
 
 after-body : {X : Type 0} (preds : List PredTree) (r : TicksBetween preds) (v : View) (g : GoalTree) (f : ℕ) (P : Type 0) → (P → (c : Callee) → Reaches c g → Fits preds r f c) →
-    (k : ℕ) (q : Point) → Left preds r f P k q → (h : Point → Trace X) → ((j : ℕ) (x : Point) → Lasts Any j (h x)) → Lasts Any k (then (meaning (small v) g q) h)
+    (k : ℕ) (q : Point) → Left preds r f P k q → (h : Point → Trace X) → ((j : ℕ) (x : Point) → Lasts Any j (h x)) → Lasts Any k (then (meaning (tabled v) g q) h)
 after-body preds r v g f P fits k q o h a =
-    then-lasts (Left preds r f P) Any any-falls k (meaning (small v) g q) h
-    (onward preds r f P P (meaning (small v) g) (λ c. Reaches c g) (Passes g) (goal-deepens preds r v g) fits (λ x y. x) k q o)
+    then-lasts (Left preds r f P) Any any-falls k (meaning (tabled v) g q) h
+    (onward preds r f P P (meaning (tabled v) g) (λ c. Reaches c g) (Passes g) (goal-deepens preds r v g) fits (λ x y. x) k q o)
     (λ j x m n. a j x)
 
 -- the calls that a way from the clause leads to may be made
@@ -58,38 +58,38 @@ chosen-rule-lasts d true t rest a b = alt-lasts Any any-falls d t rest a b
 chosen-rule-lasts d false t rest a b = a
 
 -- a rule's condition lasts as long as its level is deep
-guarded-deepens : (preds : List PredTree) (r : TicksBetween preds) (v : View) (g : GoalTree) → Deepens preds r (guarded (small v) g) (λ c. Reaches c g) (Passes g)
+guarded-deepens : (preds : List PredTree) (r : TicksBetween preds) (v : View) (g : GoalTree) → Deepens preds r (guarded (tabled v) g) (λ c. Reaches c g) (Passes g)
 unfolding Deepens Passes
 guarded-deepens preds r v truth f fits d p h l = one-lasts (Left preds r f ⊤) d p (h, inl (l, tt))
 guarded-deepens preds r v g f fits d p h l =
-    strictly-deepens preds r (meaning (small v) g) (λ c. Reaches c g) (Passes g) (goal-deepens preds r v g) f fits d p h l
+    strictly-deepens preds r (meaning (tabled v) g) (λ c. Reaches c g) (Passes g) (goal-deepens preds r v g) f fits d p h l
 
 rule-lasts : {X : Type 0} (preds : List PredTree) (r : TicksBetween preds) (v : View) (f d : ℕ) (l : Level) → d ≤ depth l → LevelLasts preds r f l →
     (c : ClauseTree) → ClauseFits preds r f c → (back : Bool) (does : Point → Trace X) → ((k : ℕ) (q : Point) → Left preds r f (Passes c.guard) k q → Lasts Any k (does q)) →
-    (s : State) (rest : Trace X) → Lasts Any d rest → (e : Option Places) → Lasts Any d (rule_before (small v) l c back does s rest e)
+    (s : State) (rest : Trace X) → Lasts Any d rest → (e : Option Places) → Lasts Any d (rule_before (tabled v) l c back does s rest e)
 unfolding Deepens
 rule-lasts preds r v f d l h last c fits back does a s rest b None = b
 rule-lasts preds r v f d l h last c fits back does a s rest b (Some e) =
     let p : Point = record { level = l; slots = e; state = s } in
-    chosen-lasts (Left preds r f (Passes c.guard)) Any any-falls d (guarded (small v) c.guard p) (λ q. chosen_rule back (does q) rest) rest
+    chosen-lasts (Left preds r f (Passes c.guard)) Any any-falls d (guarded (tabled v) c.guard p) (λ q. chosen_rule back (does q) rest) rest
     (guarded-deepens preds r v c.guard f (λ x reach. fits x (inl reach)) d p h last)
     (λ k q m o. chosen-rule-lasts k back (does q) rest (a k q o) (less-left Any any-falls d k m rest b)) b
 
 rules-last : {X : Type 0} (preds : List PredTree) (r : TicksBetween preds) (v : View) (f d : ℕ) (l : Level) → d ≤ depth l → LevelLasts preds r f l →
     (back : ClauseTree → Bool) (does : ℕ → ClauseTree → Point → Trace X) → DoesLast preds r f does → (i : ℕ) (cs : List ClauseTree) → ((c : ClauseTree) → Contains cs c → ClauseFits preds r f c) →
-    (ts : Trees) (s : State) → Lasts Any d (rules (small v) l back does i cs ts s)
+    (ts : Trees) (s : State) → Lasts Any d (rules (tabled v) l back does i cs ts s)
 unfolding rules
 rules-last preds r v f d l h last back does a i [] fits ts s = done-lasts Any d
 rules-last preds r v f d l h last back does a i (c ∷ cs) fits ts s =
     let this : ClauseFits preds r f c = fits c (0, omega arith, refl) in
-    rule-lasts preds r v f d l h last c this (back c) (does i c) (a i c this) s (rules (small v) l back does (suc i) cs ts s)
+    rule-lasts preds r v f d l h last c this (back c) (does i c) (a i c this) s (rules (tabled v) l back does (suc i) cs ts s)
     (rules-last preds r v f d l h last back does a (suc i) cs (λ x within. fits x (suc within.0, omega (arith, within.1), within.2)) ts s)
     (matched_all_in (bindings s) c.head ts (replicate c.slots None))
 
 -- Bodies, values, facts
 
 body-lasts : (preds : List PredTree) (r : TicksBetween preds) (v : View) (t : Tree) (f i : ℕ) (c : ClauseTree) → ClauseFits preds r f c → (ws : List SlotWatch) →
-    (k : ℕ) (q : Point) → Left preds r f (Passes c.guard) k q → Lasts Any k (body_or_agent (small v) t i c ws q)
+    (k : ℕ) (q : Point) → Left preds r f (Passes c.guard) k q → Lasts Any k (body_or_agent (tabled v) t i c ws q)
 body-lasts preds r v t f i c fits [] k q o =
     after-body preds r v c.body f (Passes c.guard) (λ z x reach. fits x (inr (z, reach))) k q o (λ x. one x.state) (λ j x. one-lasts Any j x.state tt)
 body-lasts preds r v t f i c fits (w ∷ ws) k q o = one-lasts Any k (suspended t i (w ∷ ws) q.slots q.state) tt
@@ -100,7 +100,7 @@ value-lasts j None x = done-lasts {A = Applied} Any j
 value-lasts j (Some t) x = (tt, λ is. cc)
 
 run-lasts : (preds : List PredTree) (r : TicksBetween preds) (v : View) (f : ℕ) (c : ClauseTree) → ClauseFits preds r f c →
-    (k : ℕ) (q : Point) → Left preds r f (Passes c.guard) k q → Lasts Any k (value_run (small v) c q)
+    (k : ℕ) (q : Point) → Left preds r f (Passes c.guard) k q → Lasts Any k (value_run (tabled v) c q)
 run-lasts preds r v f c fits k q o =
     after-goal preds r v c.body f (Passes c.guard) (λ z x reach. fits x (inr (z, reach))) k q o (value_at c.value) (λ j x. value-lasts j c.value x)
 
@@ -122,10 +122,10 @@ tested-lasts d false t a = done-lasts Any d
 -- Calls
 
 pred-lasts : (preds : List PredTree) (r : TicksBetween preds) (v : View) (f d : ℕ) (l : Level) → d ≤ depth l → LevelLasts preds r f l → (pred : PredTree) →
-    ((c : ClauseTree) → Contains pred.clauses c → ClauseFits preds r f c) → (index : Option (List (List Mode))) (ts : Trees) (s : State) → Lasts Any d (pred_run (small v) l pred index ts s)
+    ((c : ClauseTree) → Contains pred.clauses c → ClauseFits preds r f c) → (index : Option (List (List Mode))) (ts : Trees) (s : State) → Lasts Any d (pred_run (tabled v) l pred index ts s)
 unfolding pred_run
 pred-lasts preds r v f d l h last pred fits None ts s =
-    rules-last preds r v f d l h last (λ c. backtracks c.back c.watches) (λ i c p. body_or_agent (small v) (comp pred.name ts) i c c.watches p)
+    rules-last preds r v f d l h last (λ c. backtracks c.back c.watches) (λ i c p. body_or_agent (tabled v) (comp pred.name ts) i c c.watches p)
     (λ i c this k q o. body-lasts preds r v (comp pred.name ts) f i c this c.watches k q o) 0 pred.clauses fits ts s
 pred-lasts preds r v f d l h last pred fits (Some lists) ts s =
     tested-lasts d (list_any (λ modes. fits_modes (bindings s) modes ts) lists) (facts pred.clauses ts s) (facts-last d pred.clauses ts s)
@@ -135,12 +135,12 @@ unfolding raised_with
 unresolved-lasts d name t s = raise-lasts Any d (exception_with name t s)
 
 function-lasts : (preds : List PredTree) (r : TicksBetween preds) (v : View) (f d : ℕ) (l : Level) → d ≤ depth l → LevelLasts preds r f l → (pred : PredTree) →
-    ((c : ClauseTree) → Contains pred.clauses c → ClauseFits preds r f c) → (ts : Trees) (s : State) → Lasts Any d (function_run (small v) l pred ts s)
+    ((c : ClauseTree) → Contains pred.clauses c → ClauseFits preds r f c) → (ts : Trees) (s : State) → Lasts Any d (function_run (tabled v) l pred ts s)
 unfolding function_run
 function-lasts preds r v f d l h last pred fits ts s =
     let unresolved : Trace Applied = raised_with (codes "unresolved_function_call") (comp pred.name ts) s in
-    chosen-lasts Any Any any-falls d (rules (small v) l (λ c. false) (λ i c p. value_run (small v) c p) 0 pred.clauses ts s) (λ a. one a) unresolved
-    (rules-last preds r v f d l h last (λ c. false) (λ i c p. value_run (small v) c p) (λ i c this k q o. run-lasts preds r v f c this k q o) 0 pred.clauses fits ts s)
+    chosen-lasts Any Any any-falls d (rules (tabled v) l (λ c. false) (λ i c p. value_run (tabled v) c p) 0 pred.clauses ts s) (λ a. one a) unresolved
+    (rules-last preds r v f d l h last (λ c. false) (λ i c p. value_run (tabled v) c p) (λ i c this k q o. run-lasts preds r v f c this k q o) 0 pred.clauses fits ts s)
     (λ k a m o. one-lasts Any k a tt) (unresolved-lasts d (codes "unresolved_function_call") (comp pred.name ts) s)
 
 -- how deep it is above an optional level
@@ -181,18 +181,18 @@ entered-lasts preds r f (Some l) below b a c fits pred is run go true q =
 
 call-lasts : (preds : List PredTree) (r : TicksBetween preds) (v : View) (f : ℕ) (inner below : Option Level) → BelowLasts preds r below →
     InnerLasts preds r f (depth_over below) inner → (name : List ℕ) (ts : Trees) (s : State) → Fits preds r f (callee false name (tree_count ts)) →
-    (o : Option PredTree) → find_pred false name (tree_count ts) preds ≡ o → Lasts Any (depth_over below) (call_run (small v) inner below o ts s)
+    (o : Option PredTree) → find_pred false name (tree_count ts) preds ≡ o → Lasts Any (depth_over below) (call_run (tabled v) inner below o ts s)
 call-lasts preds r v f inner below b a name ts s fits None is = done-lasts Any (depth_over below)
 call-lasts preds r v f inner below b a name ts s fits (Some pred) is =
-    entered-lasts preds r f inner below b a (callee false name (tree_count ts)) fits pred is (λ l. pred_run (small v) l pred pred.index ts s)
+    entered-lasts preds r f inner below b a (callee false name (tree_count ts)) fits pred is (λ l. pred_run (tabled v) l pred pred.index ts s)
     (λ k d l h last this. pred-lasts preds r v k d l h last pred this pred.index ts s) pred.quiet refl
 
 application-lasts : (preds : List PredTree) (r : TicksBetween preds) (v : View) (f : ℕ) (inner below : Option Level) → BelowLasts preds r below →
     InnerLasts preds r f (depth_over below) inner → (name : List ℕ) (ts : Trees) (s : State) → Fits preds r f (callee true name (tree_count ts)) →
-    (o : Option PredTree) → find_pred true name (tree_count ts) preds ≡ o → Lasts Any (depth_over below) (application_run (small v) inner below o ts s)
+    (o : Option PredTree) → find_pred true name (tree_count ts) preds ≡ o → Lasts Any (depth_over below) (application_run (tabled v) inner below o ts s)
 application-lasts preds r v f inner below b a name ts s fits None is = done-lasts Any (depth_over below)
 application-lasts preds r v f inner below b a name ts s fits (Some pred) is =
-    entered-lasts preds r f inner below b a (callee true name (tree_count ts)) fits pred is (λ l. function_run (small v) l pred ts s)
+    entered-lasts preds r f inner below b a (callee true name (tree_count ts)) fits pred is (λ l. function_run (tabled v) l pred ts s)
     (λ k d l h last this. function-lasts preds r v k d l h last pred this ts s) pred.quiet refl
 
 drained-lasts : (d : ℕ) (s : State) → Lasts Any d (drained s)
@@ -200,7 +200,7 @@ unfolding drained
 drained-lasts d s = one-lasts Any d s tt
 
 calls-of-last : (preds : List PredTree) (r : TicksBetween preds) (v : View) (f : ℕ) (inner below : Option Level) → BelowLasts preds r below →
-    InnerLasts preds r f (depth_over below) inner → CallsLast preds r f (depth_over below) (calls_of (small v) preds inner below)
+    InnerLasts preds r f (depth_over below) inner → CallsLast preds r f (depth_over below) (calls_of (tabled v) preds inner below)
 unfolding calls_of
 calls-of-last preds r v f inner below b a = record {
   called = λ name ts s fits. call-lasts preds r v f inner below b a name ts s fits (find_pred false name (tree_count ts) preds) refl;
@@ -219,19 +219,19 @@ depth-of : (c : Calls) (below : Option Level) → depth (level_of c below) ≡ d
 depth-of c None = refl
 depth-of c (Some l) = refl
 
-quiet-depth : (v : View) (preds : List PredTree) (below : Option Level) (k : ℕ) → depth (quiet_level (small v) preds below k) ≡ depth_over below
+quiet-depth : (v : View) (preds : List PredTree) (below : Option Level) (k : ℕ) → depth (quiet_level (tabled v) preds below k) ≡ depth_over below
 unfolding quiet_level
-quiet-depth v preds below zero = depth-of (calls_of (small v) preds None below) below
-quiet-depth v preds below (suc k) = depth-of (calls_of (small v) preds (Some (quiet_level (small v) preds below k)) below) below
+quiet-depth v preds below zero = depth-of (calls_of (tabled v) preds None below) below
+quiet-depth v preds below (suc k) = depth-of (calls_of (tabled v) preds (Some (quiet_level (tabled v) preds below k)) below) below
 
-quiet-lasts : (preds : List PredTree) (r : TicksBetween preds) (v : View) (below : Option Level) → BelowLasts preds r below → (k : ℕ) → LevelLasts preds r k (quiet_level (small v) preds below k)
+quiet-lasts : (preds : List PredTree) (r : TicksBetween preds) (v : View) (below : Option Level) → BelowLasts preds r below → (k : ℕ) → LevelLasts preds r k (quiet_level (tabled v) preds below k)
 unfolding quiet_level InnerLasts
 quiet-lasts preds r v below b zero =
-    level-of-lasts preds r 0 (calls_of (small v) preds None below) below (calls-of-last preds r v 0 None below b refl) b
+    level-of-lasts preds r 0 (calls_of (tabled v) preds None below) below (calls-of-last preds r v 0 None below b refl) b
 quiet-lasts preds r v below b (suc k) =
-    let inner : Level = quiet_level (small v) preds below k in
+    let inner : Level = quiet_level (tabled v) preds below k in
     let same : depth inner ≡ depth_over below = quiet-depth v preds below k in
-    level-of-lasts preds r (suc k) (calls_of (small v) preds (Some inner) below) below
+    level-of-lasts preds r (suc k) (calls_of (tabled v) preds (Some inner) below) below
     (calls-of-last preds r v (suc k) (Some inner) below b (k, refl, omega (arith, same), quiet-lasts preds r v below b k)) b
 
 -- where more may nest, fewer may
@@ -246,18 +246,18 @@ fewer : (preds : List PredTree) (r : TicksBetween preds) (f k : ℕ) → k ≤ f
 fewer preds r f k h (lowest c) a = fewer-calls preds r f k 0 h c a
 fewer preds r f k h (over c l) a = (fewer-calls preds r f k (suc (depth l)) h c a.0, a.1)
 
-level-lasts : (preds : List PredTree) (r : TicksBetween preds) (v : View) (d : ℕ) → LevelLasts preds r (length preds) (level_at (small v) preds d)
+level-lasts : (preds : List PredTree) (r : TicksBetween preds) (v : View) (d : ℕ) → LevelLasts preds r (length preds) (level_at (tabled v) preds d)
 unfolding level_at
 level-lasts preds r v zero = quiet-lasts preds r v None tt (length preds)
 level-lasts preds r v (suc d) =
-    let below : Option Level = Some (level_at (small v) preds d) in
-    fewer preds r (suc (length preds + d)) (length preds) (omega arith) (quiet_level (small v) preds below (suc (length preds + d)))
+    let below : Option Level = Some (level_at (tabled v) preds d) in
+    fewer preds r (suc (length preds + d)) (length preds) (omega arith) (quiet_level (tabled v) preds below (suc (length preds + d)))
     (quiet-lasts preds r v below (level-lasts preds r v d) (suc (length preds + d)))
 
-level-depth : (v : View) (preds : List PredTree) (d : ℕ) → depth (level_at (small v) preds d) ≡ d
+level-depth : (v : View) (preds : List PredTree) (d : ℕ) → depth (level_at (tabled v) preds d) ≡ d
 unfolding level_at
 level-depth v preds zero = quiet-depth v preds None (length preds)
-level-depth v preds (suc d) = quiet-depth v preds (Some (level_at (small v) preds d)) (suc (length preds + d)) ∙ ap suc (level-depth v preds d)
+level-depth v preds (suc d) = quiet-depth v preds (Some (level_at (tabled v) preds d)) (suc (length preds + d)) ∙ ap suc (level-depth v preds d)
 
 -- Queries
 
@@ -266,25 +266,25 @@ unfolding told
 told-lasts j [] x t a = a
 told-lasts j (n ∷ names) x t a = within-lasts Any j (slot_value n.slot x.slots x.state) (told names x t) (told-lasts j names x t a)
 
-query-lasts : (v : View) (program : List PredTree) (q : QueryTree) → TicksBetween (program ++ q.helpers) → (d : ℕ) → Lasts Any d (query_trace (small v) program q d)
+query-lasts : (v : View) (program : List PredTree) (q : QueryTree) → TicksBetween (program ++ q.helpers) → (d : ℕ) → Lasts Any d (query_trace (tabled v) program q d)
 unfolding query_trace
 query-lasts v program q r d =
     let preds : List PredTree = program ++ q.helpers in
-    let l : Level = level_at (small v) preds d in
+    let l : Level = level_at (tabled v) preds d in
     let deep : depth l ≡ d = level-depth v preds d in
     after-goal preds r v q.goal (length preds) ⊤ (λ z c reach pred quiet. r.below c pred quiet) d (query_start l q)
     (omega (arith, deep), inl (level-lasts preds r v d, tt)) (answered_with q.names)
     (λ j x. told-lasts j q.names (solution x) (one (solution x)) (one-lasts Any j (solution x) tt))
 
 -- so far each Tick takes one from the depth and nothing else does, so that the depth n + 1 reaches to Tick number n + 1
-depth-after : (v : View) (program : List PredTree) (q : QueryTree) → TicksBetween (program ++ q.helpers) → (n : ℕ) → CutWithoutDeep n (query_trace (small v) program q (suc n))
-depth-after v program q r n = cut-lasts Any n (query_trace (small v) program q (suc n)) (query-lasts v program q r (suc n))
+depth-after : (v : View) (program : List PredTree) (q : QueryTree) → TicksBetween (program ++ q.helpers) → (n : ℕ) → CutWithoutDeep n (query_trace (tabled v) program q (suc n))
+depth-after v program q r n = cut-lasts Any n (query_trace (tabled v) program q (suc n)) (query-lasts v program q r (suc n))
 
 pub depth-reaches : (v : View) (program : List PredTree) (q : QueryTree) → TicksBetween (program ++ q.helpers) → (n : ℕ) →
-    (d : ℕ) × CutWithoutDeep n (query_trace (small v) program q d)
+    (d : ℕ) × CutWithoutDeep n (query_trace (tabled v) program q d)
 depth-reaches v program q r n = (suc n, depth-after v program q r n)
 
-pub query-runs : (v : View) (program : List PredTree) (q : QueryTree) → TicksBetween (program ++ q.helpers) → (n : ℕ) → (c : Cut Solution) × IsRunUnder (small v) program q n c
+pub query-runs : (v : View) (program : List PredTree) (q : QueryTree) → TicksBetween (program ++ q.helpers) → (n : ℕ) → (c : Cut Solution) × IsRunUnder (tabled v) program q n c
 query-runs v program q r n =
-    let deep : (d : ℕ) × CutWithoutDeep n (query_trace (small v) program q d) = depth-reaches v program q r n in
-    (cut n (query_trace (small v) program q deep.0), record { depth = deep.0; reaches = deep.1; is_cut = refl })
+    let deep : (d : ℕ) × CutWithoutDeep n (query_trace (tabled v) program q d) = depth-reaches v program q r n in
+    (cut n (query_trace (tabled v) program q deep.0), record { depth = deep.0; reaches = deep.1; is_cut = refl })

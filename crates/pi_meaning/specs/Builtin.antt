@@ -3,7 +3,7 @@ use Rattle.std.specs.Prelude.{ℕ, Bool, true, false, List, Option, option_map, 
 use Rattle.pi_terms.specs.Tree.{Trees, atom}
 use Rattle.pi_states.specs.State.{State}
 use Rattle.pi_effects.specs.Effect.{Effect, Succeeds, Fails, Writes, Raises, FunctionEffect, Gives, Refuses}
-use Rattle.pi_effects.specs.Builtin.{effect_of_predicate, effect_of_function}
+use Rattle.pi_effects.specs.BuiltIns.{built_in_predicate, built_in_function}
 use Rattle.pi_traces.specs.Trace.{Trace, end, note, Raise, Out, done, one, then}
 use Rattle.pi_meaning.specs.Settle.{settled}
 use Rattle.pi_meaning.specs.Within.{is_body}
@@ -30,10 +30,10 @@ function_trace (Refuses ball) = end (Raise ball)
 abbrev pub settled_effect : View → State → Effect → Trace State
 settled_effect v s e = then (effect_trace v e) (settled s)
 
--- what `=` and `throw` do under a view, from the state of their call; None for any other name
+-- what a predicate of the tables does under a view, from the state of its call; None for any other name
 unfoldable pub effect : View → List ℕ → Trees → State → Option (Trace State)
-effect v name ts s = option_map (settled_effect v s) (effect_of_predicate name ts s)
+effect v name ts s = option_map (settled_effect v s) (built_in_predicate name ts s)
 
--- the same of functions, of which there are none
+-- the same of functions
 unfoldable pub function_effect : List ℕ → Trees → State → Option (Trace Applied)
-function_effect name ts s = option_map function_trace (effect_of_function name ts s)
+function_effect name ts s = option_map function_trace (built_in_function name ts s)

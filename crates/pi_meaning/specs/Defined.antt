@@ -1,16 +1,17 @@
--- Programs for which `=` and `throw` are built-ins enough: they call nothing else but their own predicates and functions. (Own.)
+-- Programs for which the built-ins of the tables are enough: they call nothing else but their own predicates and functions. (Own.)
 use Rattle.std.specs.Prelude.{◌≡◌, ◌⊎◌, ◌++◌, ℕ, false, true, List, length, Contains, IsSome, IsTrue}
 use Rattle.pi_terms.specs.Tree.{Tree}
 use Rattle.pi_core.specs.GoalTree.{GoalTree, call, apply, subgoals}
 use Rattle.pi_core.specs.CoreTree.{ClauseTree, PredTree, QueryTree, find_pred}
-use Rattle.pi_effects.specs.Builtin.{is_built_in}
+use Rattle.pi_effects.specs.BuiltIns.{is_predicate, is_function}
 use Rattle.pi_meaning.specs.Names.{is_given}
 
--- each call in a goal is of a predicate of the program, or of `=` or `throw`; each call of a function is of one of the program
+-- each call in a goal is of a predicate of the program or of the tables, and each call of a function is of one of the program or of the tables
 pub record CallsDefined (preds : List PredTree) (g : GoalTree) : Type 0 where
   pub calls : (name : List ℕ) (args : List Tree) → Contains (subgoals g) (call name args) →
-      IsSome (find_pred false name (length args) preds) ⊎ IsTrue (is_built_in false name (length args))
-  pub functions : (name : List ℕ) (args : List Tree) (slot : ℕ) → Contains (subgoals g) (apply name args slot) → IsSome (find_pred true name (length args) preds)
+      IsSome (find_pred false name (length args) preds) ⊎ IsTrue (is_predicate name (length args))
+  pub functions : (name : List ℕ) (args : List Tree) (slot : ℕ) → Contains (subgoals g) (apply name args slot) →
+      IsSome (find_pred true name (length args) preds) ⊎ IsTrue (is_function name (length args))
 
 pub record ClauseCallsDefined (preds : List PredTree) (c : ClauseTree) : Type 0 where
   pub guard : CallsDefined preds c.guard

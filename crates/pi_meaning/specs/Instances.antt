@@ -1,4 +1,4 @@
--- The two kinds of built-ins that the core meaning is taken with: `=` and `throw` alone, which is what runs so far; and all of the language, for a program. (A User's
+-- The two kinds of built-ins that the core meaning is taken with: those of the tables, which is what a machine runs so far; and all of the language, for a program. (A User's
 -- Guide to Picat, 'Appendix: Predicates and Functions'; which names are there is own.)
 use Rattle.std.specs.Prelude.{ℕ, Bool, false, not, cond, List, Option, Some, None}
 use Rattle.pi_terms.specs.Tree.{Trees, tree_count}
@@ -13,9 +13,9 @@ use Rattle.pi_meaning.specs.Builtins.{Builtins}
 use Rattle.pi_meaning.specs.Given.{Later, Setting}
 use Rattle.pi_meaning.specs.Calls.{predicate_given, function_given, first_called}
 
--- `=` and `throw`
-abbrev pub small : View → Builtins
-small v = record { predicate = λ l name ts s. effect v name ts s; function = λ l name ts s. function_effect name ts s }
+-- what the tables of built-ins have
+abbrev pub tabled : View → Builtins
+tabled v = record { predicate = λ l name ts s. effect v name ts s; function = λ l name ts s. function_effect name ts s }
 
 -- `call` leads to a predicate of the program that isn't quiet
 abbrev pub is_called_by_name : Option PredTree → Bool

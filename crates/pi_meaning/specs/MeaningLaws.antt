@@ -1,5 +1,5 @@
--- The laws of the core meaning: more depth only adds, and so the run of a query is one; with `=` and `throw` alone each query has its run; and where a query calls
--- nothing else, that is its run with all names of the language.
+-- The laws of the core meaning: more depth only adds, and so the run of a query is one; with the built-ins of the tables each query has its run; and where a query
+-- calls nothing else, that is its run with all names of the language.
 use Rattle.std.specs.Prelude.{◌≡◌, ℕ, suc, ◌+◌, true, false, List, ◌++◌, Option, Some, is_some, length, Contains}
 use Rattle.pi_terms.specs.Tree.{Trees, tree_count}
 use Rattle.pi_terms.specs.Places.{Places}
@@ -12,7 +12,7 @@ use Rattle.pi_meaning.specs.View.{View, PlansAreGround}
 use Rattle.pi_meaning.specs.Names.{is_given}
 use Rattle.pi_meaning.specs.Builtins.{Builtins, BuiltinsOnlyAdd}
 use Rattle.pi_meaning.specs.Given.{Later, LaterOnlyAdds}
-use Rattle.pi_meaning.specs.Instances.{small, whole}
+use Rattle.pi_meaning.specs.Instances.{tabled, whole}
 use Rattle.pi_meaning.specs.Defined.{QueryCallsDefined, NamesAreFree}
 use Rattle.pi_core.specs.CoreTree.{PredTree, QueryTree}
 use Rattle.pi_meaning.specs.Level.{Level, lower, Point, LevelBelow, PointBelow}
@@ -24,9 +24,9 @@ use Rattle.pi_meaning.specs.Run.{Solution, query_trace, IsRunUnder}
 
 -- ---- more depth only adds
 
--- to calls by name, with `=` and `throw` alone, and with all names of the language, where it does to what later stages give
-abbrev pub SmallOnlyAdds : Type 0
-SmallOnlyAdds = (v : View) → BuiltinsOnlyAdd (small v)
+-- to calls by name, with the built-ins of the tables, and with all names of the language, where it does to what later stages give
+abbrev pub TabledOnlyAdds : Type 0
+TabledOnlyAdds = (v : View) → BuiltinsOnlyAdd (tabled v)
 
 abbrev pub WholeOnlyAdds : Type 0
 WholeOnlyAdds = (v : View) (later : Later) (preds : List PredTree) → LaterOnlyAdds later → BuiltinsOnlyAdd (whole v later preds)
@@ -70,7 +70,7 @@ abbrev pub DeeperRunsAreTheRun : Type 0
 DeeperRunsAreTheRun = (b : Builtins) → BuiltinsOnlyAdd b → (program : List PredTree) (q : QueryTree) (n : ℕ) (c : Cut Solution) (r : IsRunUnder b program q n c) (more : ℕ) →
     cut n (query_trace b program q (r.depth + more)) ≡ c
 
--- ---- with `=` and `throw` alone, under every view. Under `query_view log` runs are those under a log (`IsRun`).
+-- ---- with the built-ins of the tables, under every view. Under `query_view log` runs are those under a log (`IsRun`).
 
 -- two places have the same slots and state, whatever their levels are
 abbrev pub SameButLevel : Point → Point → Type 0
@@ -80,29 +80,29 @@ SameButLevel p q = (p.slots ≡ q.slots) × (p.state ≡ q.state)
 -- than where as many may nest as there are predicates. So that number is never felt.
 abbrev pub QuietCallsNestFreely : Type 0
 QuietCallsNestFreely = (v : View) (preds : List PredTree) → TicksBetween preds → (below : Option Level) (k : ℕ) (g : GoalTree) (e : Places) (s : State) →
-    BelowBy SameButLevel (meaning (small v) g (record { level = quiet_level (small v) preds below k; slots = e; state = s }))
-    (meaning (small v) g (record { level = quiet_level (small v) preds below (length preds); slots = e; state = s }))
+    BelowBy SameButLevel (meaning (tabled v) g (record { level = quiet_level (tabled v) preds below k; slots = e; state = s }))
+    (meaning (tabled v) g (record { level = quiet_level (tabled v) preds below (length preds); slots = e; state = s }))
 
 -- where Ticks stand between the calls of quiet predicates, there is a depth that reaches to each Tick of a query's trace
 abbrev pub DepthReachesTicks : Type 0
 DepthReachesTicks = (v : View) (program : List PredTree) (q : QueryTree) → TicksBetween (program ++ q.helpers) → (n : ℕ) →
-    (d : ℕ) × CutWithoutDeep n (query_trace (small v) program q d)
+    (d : ℕ) × CutWithoutDeep n (query_trace (tabled v) program q d)
 
 -- so each query has its run
 abbrev pub EachQueryRuns : Type 0
 EachQueryRuns = (v : View) (program : List PredTree) (q : QueryTree) → TicksBetween (program ++ q.helpers) → (n : ℕ) →
-    (c : Cut Solution) × IsRunUnder (small v) program q n c
+    (c : Cut Solution) × IsRunUnder (tabled v) program q n c
 
 -- and each sound query
 abbrev pub SoundQueriesRun : Type 0
 SoundQueriesRun = (v : View) (program : List PredTree) (q : QueryTree) → IsSoundQuery program q → (n : ℕ) →
-    (c : Cut Solution) × IsRunUnder (small v) program q n c
+    (c : Cut Solution) × IsRunUnder (tabled v) program q n c
 
 -- Where no plan of the log holds a variable, each answer of a sound query is a state, and its slots hold terms of variables
 -- that were made. (No goal reads the log here.)
 abbrev pub RunsKeepStates : Type 0
 RunsKeepStates = (v : View) (program : List PredTree) (q : QueryTree) → IsSoundQuery program q → PlansAreGround v → (depth : ℕ) (x : Solution) →
-    Contains (answers (query_trace (small v) program q depth)) x → IsState x.state × PlacesBelow (next x.state) x.slots
+    Contains (answers (query_trace (tabled v) program q depth)) x → IsState x.state × PlacesBelow (next x.state) x.slots
 
 -- ---- both
 
@@ -112,8 +112,8 @@ WholeKnowsWhatIsGiven = (v : View) (later : Later) (preds : List PredTree) (l : 
     (is_some ((whole v later preds).predicate l name ts s) ≡ is_given false name (tree_count ts))
     × (is_some ((whole v later preds).function l name ts s) ≡ is_given true name (tree_count ts))
 
--- A query that calls nothing but `=`, `throw` and what its program defines does the same with these built-ins alone as with all names of the language, whatever the view
+-- A query that calls nothing but the tables' built-ins and what its program defines does the same with these built-ins alone as with all names of the language, whatever the view
 -- is and whatever later stages give.
-abbrev pub SmallIsWhole : Type 0
-SmallIsWhole = (v : View) (later : Later) (program : List PredTree) (q : QueryTree) → QueryCallsDefined program q → NamesAreFree (program ++ q.helpers) → (d : ℕ) →
-    query_trace (whole v later (program ++ q.helpers)) program q d ≡ query_trace (small v) program q d
+abbrev pub TabledIsWhole : Type 0
+TabledIsWhole = (v : View) (later : Later) (program : List PredTree) (q : QueryTree) → QueryCallsDefined program q → NamesAreFree (program ++ q.helpers) → (d : ℕ) →
+    query_trace (whole v later (program ++ q.helpers)) program q d ≡ query_trace (tabled v) program q d

@@ -1,11 +1,11 @@
 -- The small language, which is all that programs and goals are so far: rules `Head => Body` and `Head ?=> Body`. A head is an
--- atom, or an atom with arguments; a body and a goal are one or more of `true`, `fail`, `T = U` and calls of the program's
--- predicates. T, U and arguments are variables, integers and atoms. (A User's Guide to Picat, 'Predicates and Functions';
+-- atom, or an atom with arguments; a body and a goal are one or more of `true`, `fail`, and calls of built-in predicates and of the
+-- program's. Arguments are variables, integers and atoms. (A User's Guide to Picat, 'Predicates and Functions';
 -- which part of it is here is own.)
 use Rattle.pi_syntax.specs.Signature.{signature, Signature, exp_count}
-use Rattle.std.specs.Prelude.{◌≡◌, ◌≢◌, ◌⊎◌, ℕ, false, List, [], ◌∷◌, map, Option, Some, None, All, Contains, codes, ⊤}
+use Rattle.std.specs.Prelude.{◌≡◌, ◌≢◌, ◌⊎◌, ℕ, true, false, List, [], ◌∷◌, map, Option, Some, None, All, Contains, codes, ⊤}
 use Rattle.pi_syntax.specs.ExpTree.{ExpTree, var, int, atom, call, and, ExpTrees, no_exps, exp}
-use Rattle.pi_effects.specs.Builtin.{is_built_in}
+use Rattle.pi_effects.specs.BuiltIns.{is_predicate}
 use Rattle.pi_meaning.specs.Names.{is_planner}
 use Rattle.pi_syntax.specs.ProgramTree.{RuleTree, WrittenClause, rule, function, fact, PartTree, ProgramTree}
 use Rattle.pi_syntax.specs.declared.program.Decl.{Decl}
@@ -38,7 +38,7 @@ AreSmallTerms (exp e es) = IsSmallTerm e × AreSmallTerms es
 
 -- no program defines what is built in, or will be for planning
 pub record IsFree (name : List ℕ) (k : ℕ) : Type 0 where
-  pub not_built_in : is_built_in false name k ≡ false
+  pub not_built_in : is_predicate name k ≡ false
   pub not_planner : is_planner name k ≡ false
   pub not_true : name ≡ codes "true" → k ≢ 0
   pub not_fail : name ≡ codes "fail" → k ≢ 0
@@ -48,16 +48,12 @@ IsSmallHead (atom name) = IsFree name 0
 IsSmallHead (call name es) = IsFree name (exp_count es) × AreSmallTerms es
 IsSmallHead e = ⊥
 
--- `true`, `fail` or the call of a predicate without arguments
-abbrev pub IsSmallAtom : List (Option Signature) → List ℕ → Type 0
-IsSmallAtom defined name = ((name ≡ codes "true") ⊎ (name ≡ codes "fail")) ⊎ Defines defined name 0
-
--- an equation, or the call of a predicate
+-- the call of a built-in predicate, or of one of the program
 abbrev pub IsSmallCall : List (Option Signature) → List ℕ → ℕ → Type 0
-IsSmallCall defined name k = ((name ≡ codes "=") × (k ≡ 2)) ⊎ Defines defined name k
+IsSmallCall defined name k = (is_predicate name k ≡ true) ⊎ Defines defined name k
 
 abbrev pub IsSmallGoal : List (Option Signature) → ExpTree → Type 0
-IsSmallGoal defined (atom name) = IsSmallAtom defined name
+IsSmallGoal defined (atom name) = IsSmallCall defined name 0
 IsSmallGoal defined (call name es) = IsSmallCall defined name (exp_count es) × AreSmallTerms es
 IsSmallGoal defined e = ⊥
 

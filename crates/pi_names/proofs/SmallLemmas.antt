@@ -1,18 +1,16 @@
 -- On the small language the whole meaning over names is that of `Surface`: expressions, goals and bodies.
-use Rattle.std.proofs.Common.{◌≡◌, inl, inr, ℕ, suc, Bool, true, false, cond, List, ◌++◌, refl, sym, ◌∙◌, ap, subst, arith}
+use Rattle.std.proofs.Common.{◌≡◌, inl, inr, ℕ, suc, Bool, true, false, cond, List, ◌++◌, refl, sym, ◌∙◌, ap, subst}
 use Rattle.std.proofs.Math.Path.{fun_ext}
-use Rattle.std.specs.Prelude.{◌&&◌, ◌||◌, Option, Some, None, codes, is_some, option_map, option_and_then}
+use Rattle.std.specs.Prelude.{◌&&◌, ◌==◌, nat_le, Option, Some, None, codes, is_some, option_map, option_and_then}
 use Rattle.std.specs.Option.{option_or}
 use Rattle.std.specs.Str.{bytes_eq}
-use Rattle.std.specs.Ordering.{is_eq}
-use Rattle.pi_terms.specs.Order.{name_order}
-use Rattle.pi_terms.specs.Tree.{Tree, Trees, tree, no_trees, tree_count}
+use Rattle.std.proofs.lemmas.Slice.Eq.{bytes_eq-Decides}
+use Rattle.std.proofs.lemmas.Bool.{false≢true}
+use Rattle.pi_terms.specs.Tree.{Trees, tree, no_trees, tree_count}
 use Rattle.pi_states.specs.Value.{Bindings}
 use Rattle.pi_states.specs.State.{State}
-use Rattle.pi_states.specs.Unify.{unified}
-use Rattle.pi_effects.specs.Effect.{Effect, succeeds_in}
-use Rattle.pi_effects.specs.Builtin.{effect_of_predicate, is_built_in}
-use Rattle.pi_effects.specs.Rows.{done_by}
+use Rattle.pi_effects.specs.Effect.{Effect}
+use Rattle.pi_effects.specs.Rows.{has_line}
 use Rattle.pi_effects.specs.Comparing.{comparing_tests}
 use Rattle.pi_effects.specs.Kinds.{kind_tests}
 use Rattle.pi_effects.specs.Texts.{writing_predicates}
@@ -26,7 +24,7 @@ use Rattle.pi_meaning.specs.View.{View}
 use Rattle.pi_meaning.specs.Drain.{drained}
 use Rattle.pi_meaning.specs.Level.{Level, calls_at, or_called}
 use Rattle.pi_meaning.specs.Builtin.{settled_effect, effect}
-use Rattle.pi_meaning.specs.Small.{Defines, IsSmallTerm, AreSmallTerms, IsSmallAtom, IsSmallCall, IsSmallGoal, AreSmallGoals, IsSmallBody}
+use Rattle.pi_meaning.specs.Small.{Defines, IsSmallTerm, AreSmallTerms, IsSmallCall, IsSmallGoal, AreSmallGoals, IsSmallBody}
 use Rattle.pi_meaning.specs.Environment.{Environment, known, argument_matched, head_matched, Valued, valued, ValuedAll, valued_all}
 use Rattle.pi_meaning.specs.Place.{Place, Doing, at_state}
 use Rattle.pi_meaning.specs.Surface.{Calling, draining_first, built_in_or_called, call_trace, atom_trace, goal_trace, goals_trace, body_trace, name_places, name_places_all}
@@ -88,7 +86,6 @@ pub record IsUntaken (name : List ℕ) (k : ℕ) : Type 0 where
   pub no_form : form_of name k ≡ None
   pub not_built_in : is_predicate name k ≡ false
   pub not_later : is_later_predicate name k ≡ false
-  pub not_small_built_in : is_built_in false name k ≡ false
 
 abbrev pub AllUntaken : Defined → Type 0
 AllUntaken defined = (name : List ℕ) (k : ℕ) → Defines defined name k → IsUntaken name k
@@ -104,43 +101,20 @@ given_or_called set l name ts s o = or_called (option_or (option_map (settled_ef
 none-built_in : (name : List ℕ) (ts : Trees) (s : State) → is_predicate name (tree_count ts) ≡ false → built_in_predicate name ts s ≡ None
 none-built_in name ts s h = none-of (built_in_predicate name ts s) (predicates-listed name ts s ∙ h)
 
-equals-built_in : (t u : Tree) (s : State) → built_in_predicate (codes "=") (tree t (tree u no_trees)) s ≡ Some (succeeds_in (unified s t u))
-unfolding built_in_predicate tests comparing_tests kind_tests writing_predicates other_predicates done_by
-equals-built_in t u s = refl
+-- a predicate that is built in
+first-given : (set : Setting) (l : Level) (calls : Calling) (name : List ℕ) (all : ValuedAll) (o : Option Effect) → is_some o ≡ true →
+    given_or_called set l name all.trees all.state o ≡ built_in_or_called (option_map (settled_effect set.view all.state) o) calls name all
+first-given set l calls name all None h = absurd cc
+first-given set l calls name all (Some e) h = refl
 
--- `=`, of two terms
-equation-same : (set : Setting) (l : Level) (calls : Calling) (es : ExpTrees) (e : Environment) (s : State) → exp_count es ≡ 2 →
-    predicate_called set l (codes "=") (valued_all es e s).trees (valued_all es e s).state
-    ≡ built_in_or_called (effect set.view (codes "=") (valued_all es e s).trees (valued_all es e s).state) calls (codes "=") (valued_all es e s)
-unfolding predicate_called predicate_given valued_all exp_count effect
-equation-same set l calls no_exps e s h = absurd (omega arith)
-equation-same set l calls (exp x no_exps) e s h = absurd (omega arith)
-equation-same set l calls (exp x (exp y no_exps)) e s h =
-    let all : ValuedAll = valued_all (exp x (exp y no_exps)) e s in
-    let t : Tree = (valued x e s).tree in
-    let u : Tree = (valued y (valued x e s).names (valued x e s).state).tree in
-    ap (λ (o : Option Effect). given_or_called set l (codes "=") all.trees all.state o) (equals-built_in t u all.state)
-equation-same set l calls (exp x (exp y (exp z es))) e s h = absurd (omega arith)
-
--- a name that is built in with none of its numbers of arguments does nothing there
-cond-first : {A : Type 0} (a b : Bool) (x : A) → ((a && true) || (b && false)) ≡ false → cond a (Some x) None ≡ None
-cond-first true b x h = absurd cc
-cond-first false b x h = refl
-
-cond-second : {A : Type 0} (a b : Bool) (x : A) → ((a && false) || (b && true)) ≡ false → cond b (Some x) None ≡ None
-cond-second true true x h = absurd cc
-cond-second false true x h = absurd cc
-cond-second a false x h = refl
-
-small-none : (name : List ℕ) (ts : Trees) (s : State) → is_built_in false name (tree_count ts) ≡ false → effect_of_predicate name ts s ≡ None
-unfolding tree_count
-small-none name no_trees s h = refl
-small-none name (tree t no_trees) s h = cond-first (is_eq (name_order name (codes "throw"))) (is_eq (name_order name (codes "="))) _ h
-small-none name (tree t (tree u no_trees)) s h = cond-second (is_eq (name_order name (codes "throw"))) (is_eq (name_order name (codes "="))) _ h
-small-none name (tree t (tree u (tree w ts))) s h = refl
+built-same : (set : Setting) (l : Level) (calls : Calling) (name : List ℕ) (all : ValuedAll) → is_predicate name (tree_count all.trees) ≡ true →
+    predicate_called set l name all.trees all.state ≡ built_in_or_called (effect set.view name all.trees all.state) calls name all
+unfolding predicate_called predicate_given effect
+built-same set l calls name all h =
+    first-given set l calls name all (built_in_predicate name all.trees all.state) (predicates-listed name all.trees all.state ∙ h)
 
 -- a predicate of the program
-effect-none : (v : View) (name : List ℕ) (ts : Trees) (s : State) → effect_of_predicate name ts s ≡ None → effect v name ts s ≡ None
+effect-none : (v : View) (name : List ℕ) (ts : Trees) (s : State) → built_in_predicate name ts s ≡ None → effect v name ts s ≡ None
 unfolding effect
 effect-none v name ts s h = rw h refl
 
@@ -149,20 +123,18 @@ defined-same : (set : Setting) (l : Level) (calls : Calling) (defined : Defined)
 unfolding predicate_called predicate_given
 defined-same set l calls defined free is name all known =
     let un : IsUntaken name (tree_count all.trees) = free name (tree_count all.trees) known in
-    ap (λ (o : Option Effect). given_or_called set l name all.trees all.state o) (none-built_in name all.trees all.state un.not_built_in)
+    let none : built_in_predicate name all.trees all.state ≡ None = none-built_in name all.trees all.state un.not_built_in in
+    ap (λ (o : Option Effect). given_or_called set l name all.trees all.state o) none
     ∙ ap (λ (b : Bool). or_called (cond b (Some (set.later.predicate set.view l name all.trees all.state)) None) l name all.trees all.state) un.not_later
     ∙ is.called name all.trees all.state known
-    ∙ sym (ap (λ (o : Option (Trace State)). built_in_or_called o calls name all)
-    (effect-none set.view name all.trees all.state (small-none name all.trees all.state un.not_small_built_in)))
+    ∙ sym (ap (λ (o : Option (Trace State)). built_in_or_called o calls name all) (effect-none set.view name all.trees all.state none))
 
 predicate-same : (set : Setting) (l : Level) (calls : Calling) (defined : Defined) → AllUntaken defined → SameCalls defined l calls → (name : List ℕ) (es : ExpTrees) (e : Environment) (s : State) →
     IsSmallCall defined name (exp_count es) →
     predicate_called set l name (valued_all es e s).trees (valued_all es e s).state
     ≡ built_in_or_called (effect set.view name (valued_all es e s).trees (valued_all es e s).state) calls name (valued_all es e s)
-predicate-same set l calls defined free is name es e s (inl equals) =
-    subst (λ (f : List ℕ). predicate_called set l f (valued_all es e s).trees (valued_all es e s).state
-    ≡ built_in_or_called (effect set.view f (valued_all es e s).trees (valued_all es e s).state) calls f (valued_all es e s)) (sym equals.0)
-    (equation-same set l calls es e s equals.1)
+predicate-same set l calls defined free is name es e s (inl built) =
+    built-same set l calls name (valued_all es e s) (ap (is_predicate name) (terms-count es e s) ∙ built)
 predicate-same set l calls defined free is name es e s (inr known) =
     defined-same set l calls defined free is name (valued_all es e s) (subst (Defines defined name) (sym (terms-count es e s)) known)
 
@@ -190,35 +162,51 @@ chosen-same true c p t u same = refl
 chosen-same false true p t u same = refl
 chosen-same false false p t u same = same refl refl
 
-bytes-itself : (name : List ℕ) → name ≡ codes "true" → bytes_eq name (codes "true") ≡ false → ⊥
-bytes-itself name e h = absurd (cc (subst (λ (n : List ℕ). bytes_eq n (codes "true") ≡ false) e h))
-
-bytes-other : (name : List ℕ) → name ≡ codes "fail" → bytes_eq name (codes "fail") ≡ false → ⊥
-bytes-other name e h = absurd (cc (subst (λ (n : List ℕ). bytes_eq n (codes "fail") ≡ false) e h))
-
-atom-known : (defined : Defined) (name : List ℕ) → IsSmallAtom defined name → bytes_eq name (codes "true") ≡ false → bytes_eq name (codes "fail") ≡ false → Defines defined name 0
-atom-known defined name (inl (inl e)) a b = absurd (bytes-itself name e a)
-atom-known defined name (inl (inr e)) a b = absurd (bytes-other name e b)
-atom-known defined name (inr known) a b = known
-
-bare-same : (set : Setting) (l : Level) (calls : Calling) (defined : Defined) → AllUntaken defined → SameCalls defined l calls → (name : List ℕ) → Defines defined name 0 → (p : Place) →
+bare-same : (set : Setting) (l : Level) (calls : Calling) (defined : Defined) → AllUntaken defined → SameCalls defined l calls → (name : List ℕ) → IsSmallCall defined name 0 → (p : Place) →
     called_with set name nothing l p ≡ call_trace set.view calls name no_exps p
 unfolding called_with exp_count valued_all
-bare-same set l calls defined free is name known p =
+bare-same set l calls defined free is name small p =
     let all : ValuedAll = valued_all no_exps p.names p.state in
     let on : ValuedAll → Trace Place = λ x. then (predicate_called set l name x.trees x.state) (λ s. one (record { names = x.names; state = s })) in
     then-of_one all on
-    ∙ ap (λ (t : Trace State). then t (λ s. one (record { names = all.names; state = s }))) (predicate-same set l calls defined free is name no_exps p.names p.state (inr known))
+    ∙ ap (λ (t : Trace State). then t (λ s. one (record { names = all.names; state = s }))) (predicate-same set l calls defined free is name no_exps p.names p.state small)
 
-atom-same : (set : Setting) (l : Level) (calls : Calling) (defined : Defined) → AllUntaken defined → SameCalls defined l calls → (name : List ℕ) → IsSmallAtom defined name → (p : Place) →
+atom-same : (set : Setting) (l : Level) (calls : Calling) (defined : Defined) → AllUntaken defined → SameCalls defined l calls → (name : List ℕ) → IsSmallCall defined name 0 → (p : Place) →
     atom_goal set name l p ≡ atom_trace set.view calls name p
 unfolding atom_goal
 atom-same set l calls defined free is name small p =
-    chosen-same (bytes_eq name (codes "true")) (bytes_eq name (codes "fail")) p _ _ (λ a b. bare-same set l calls defined free is name (atom-known defined name small a b) p)
+    chosen-same (bytes_eq name (codes "true")) (bytes_eq name (codes "fail")) p _ _ (λ a b. bare-same set l calls defined free is name small p)
+
+-- a name that is no form of control
+unlisted : (k : ℕ) →
+    (is_predicate (codes "not") k ≡ false) × (is_predicate (codes "once") k ≡ false) × (is_predicate (codes ":=") k ≡ false) × (is_predicate (codes "catch") k ≡ false)
+    × (is_predicate (codes "call") k ≡ false) × (is_predicate (codes "in") k ≡ false)
+unfolding is_predicate tests comparing_tests kind_tests writing_predicates other_predicates has_line
+unlisted k = (refl, refl, refl, refl, refl, refl)
+
+not-that : (name other : List ℕ) (k : ℕ) (many : Bool) → is_predicate name k ≡ true → is_predicate other k ≡ false → (many && bytes_eq name other) ≡ false
+not-that name other k true listed isnt = tested (bytes_eq name other) refl
+  where
+    tested : (b : Bool) → bytes_eq name other ≡ b → b ≡ false
+    tested true is = absurd (false≢true (sym isnt ∙ (sym (ap (λ (n : List ℕ). is_predicate n k) ((bytes_eq-Decides name other).0 is)) ∙ listed)))
+    tested false is = refl
+not-that name other k false listed isnt = refl
+
+predicates-no_form : (name : List ℕ) (k : ℕ) → is_predicate name k ≡ true → form_of name k ≡ None
+unfolding form_of
+predicates-no_form name k listed =
+    let all = unlisted k in
+    rw (
+      not-that name (codes "not") k (k == 1) listed all.0,
+      not-that name (codes "once") k (k == 1) listed all.1,
+      not-that name (codes ":=") k (k == 2) listed all.2,
+      not-that name (codes "catch") k (k == 3) listed all.3,
+      not-that name (codes "call") k (nat_le 1 k && nat_le k 8) listed all.4,
+      not-that name (codes "in") k (k == 2) listed all.5,
+    ) refl
 
 no-form : (defined : Defined) → AllUntaken defined → (name : List ℕ) (k : ℕ) → IsSmallCall defined name k → form_of name k ≡ None
-unfolding form_of
-no-form defined free name k (inl equals) = rw (equals.0, equals.1) refl
+no-form defined free name k (inl built) = predicates-no_form name k built
 no-form defined free name k (inr known) = (free name k known).no_form
 
 pub goal-same : (set : Setting) (l : Level) (calls : Calling) (defined : Defined) → AllUntaken defined → SameCalls defined l calls → (before : Names) (e : ExpTree) → IsSmallGoal defined e → (p : Place) →

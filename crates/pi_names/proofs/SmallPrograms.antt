@@ -1,6 +1,6 @@
 -- On the small language the whole meaning over names is that of `Surface`: rules, programs and queries.
-use Rattle.std.proofs.Common.{◌≡◌, ℕ, zero, suc, Bool, true, false, cond, List, [], ◌∷◌, ◌++◌, length, ◌<◌, refl, sym, ◌∙◌, ap, subst, arith}
-use Rattle.std.specs.Prelude.{Option, Some, None, filter, is_some, slice_index_or}
+use Rattle.std.proofs.Common.{◌≡◌, ℕ, zero, suc, Bool, true, false, cond, List, [], ◌∷◌, ◌++◌, refl, sym, ◌∙◌, ap, subst}
+use Rattle.std.specs.Prelude.{Option, Some, None, filter, is_some}
 use Rattle.std.specs.List.{cons_option, AllByRecursion}
 use Rattle.std.proofs.lemmas.Bool.{or_parts}
 use Rattle.std.proofs.lemmas.List.Elements.{recursion_from_All, filter-append, filter_map-append}
@@ -9,14 +9,12 @@ use Rattle.pi_states.specs.State.{State, bindings}
 use Rattle.pi_syntax.specs.ExpTree.{ExpTree}
 use Rattle.pi_syntax.specs.ProgramTree.{RuleTree, WrittenClause, rule, function, fact, ProgramTree}
 use Rattle.pi_syntax.specs.declared.program.Mode.{Mode}
-use Rattle.pi_syntax.specs.Signature.{Signature, signature}
-use Rattle.pi_effects.specs.Builtin.{is_built_in}
 use Rattle.pi_effects.specs.BuiltIns.{is_predicate}
 use Rattle.pi_traces.specs.Trace.{Trace, note, Tick, one, then}
 use Rattle.pi_traces.specs.Control.{chosen}
 use Rattle.pi_meaning.specs.Level.{Level}
 use Rattle.pi_meaning.specs.Rules.{chosen_rule}
-use Rattle.pi_meaning.specs.Small.{defined_by, heads, Defines, IsSmallHead, AreSmallTerms, IsSmallRule, IsSmallClause, IsSmallPart, IsSmallProgram}
+use Rattle.pi_meaning.specs.Small.{heads, Defines, IsSmallHead, AreSmallTerms, IsSmallRule, IsSmallClause, IsSmallPart, IsSmallProgram}
 use Rattle.pi_meaning.specs.Environment.{Environment, head_matched}
 use Rattle.pi_meaning.specs.Place.{Place}
 use Rattle.pi_meaning.specs.Surface.{Calling, rule_or_later, rules_trace, called_at, surface_from}
@@ -128,33 +126,13 @@ untaken name k h =
     let staged = or_parts (is_later_predicate name k) (means_prelude name k) named.1 in
     record { form = forms.0; predicate = named.0; later = staged.0; prelude = staged.1 }
 
--- no predicate of a small program is built in there
-abbrev IsFreeAt : Option Signature → Type 0
-IsFreeAt None = Unit {0}
-IsFreeAt (Some s) = is_built_in false s.name s.arity ≡ false
-
-head-free : (head : ExpTree) → IsSmallHead head → (s : Signature) → signature head ≡ Some s → is_built_in false s.name s.arity ≡ false
-head-free (ExpTree.atom name) small s h =
-    subst (λ (o : Option Signature). IsFreeAt o) h small.not_built_in
-head-free (ExpTree.call name es) small s h = subst (λ (o : Option Signature). IsFreeAt o) h small.0.not_built_in
-head-free e small s h = absurd small
-
-heads-free : (defined : Defined) (ps : ProgramTree) → AllByRecursion (IsSmallPart defined) ps → (s : Signature) (i : ℕ) → i < length (heads ps) → slice_index_or (heads ps) i (Some s) ≡ Some s →
-    is_built_in false s.name s.arity ≡ false
-heads-free defined [] h s i below found = absurd (omega arith)
-heads-free defined (p ∷ ps) h s zero below found =
-    let c : (r : RuleTree) × (p.clause ≡ Some (rule r)) × IsSmallRule defined r = clause-rule defined p.clause h.0.clause in
-    head-free c.0.head c.2.head s (sym (ap defined_by c.1) ∙ found)
-heads-free defined (p ∷ ps) h s (suc i) below found = heads-free defined ps h.1 s i (omega arith) found
-
-all-untaken : (program : ProgramTree) → IsSmallProgram program → HeadsAreFree program → AllUntaken (heads program)
-all-untaken program small free name k known =
+all-untaken : (program : ProgramTree) → HeadsAreFree program → AllUntaken (heads program)
+all-untaken program free name k known =
     let un : Untaken name k = untaken name k (free name k known) in
     record {
       no_form = none-of (form_of name k) un.form;
       not_built_in = un.predicate;
       not_later = un.later;
-      not_small_built_in = heads-free (heads program) program (recursion_from_All (IsSmallPart (heads program)) program small.parts) (record { name = name; arity = k }) known.0 known.1 known.2;
     }
 
 -- ---- depths
@@ -170,7 +148,7 @@ run-same v later program small free l calls is name ts s known =
     let un : Untaken name k = untaken name k (free name k known) in
     ap (λ (o : Option (List (List Mode))). predicate_run set (prelude ++ program) l name ts s o) (all-modes_none (heads program) name k program parts)
     ∙ ap (λ (rs : List RuleTree). rules_called set (comp name ts) 0 rs l ts s) (own-rules name k program un.prelude)
-    ∙ rules-same set l calls (heads program) (all-untaken program small free) is (comp name ts) 0 (filter (is_rule_of name k) (rules_of program))
+    ∙ rules-same set l calls (heads program) (all-untaken program free) is (comp name ts) 0 (filter (is_rule_of name k) (rules_of program))
     (filter-small (heads program) (is_rule_of name k) (rules_of program) (rules-small (heads program) program parts)) ts s
 
 calls-same : (v : View) (later : LaterStages) (program : ProgramTree) → IsSmallProgram program → HeadsAreFree program → (d : ℕ) →
@@ -194,6 +172,6 @@ small-is_surface v later program goal small asked free d p =
     let calls : Calling = called_at v program d in
     let is : SameCalls (heads program) l calls = calls-same v later program small free d in
     then-same _ _ _ _
-    (then-same _ _ _ _ (body-same (setting v later program).calls l calls (heads program) (all-untaken program small free) is [] goal asked p)
+    (then-same _ _ _ _ (body-same (setting v later program).calls l calls (heads program) (all-untaken program free) is [] goal asked p)
     (λ q. ap (λ (t : Trace State). then t (λ s. one (record { names = q.names; state = s }))) (is.drains q.state)))
     (λ q. ap (λ (names : Names). telling (told_behind [] names) q) (body-names (heads program) goal asked))

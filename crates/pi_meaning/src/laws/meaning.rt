@@ -1,10 +1,10 @@
 //! Laws of the core meaning.
-ghost use Rattle.pi_meaning.specs.MeaningLaws.{SmallOnlyAdds, WholeOnlyAdds, WholeKnowsWhatIsGiven, SmallIsWhole, GoalsDoMore, LevelsAreOrdered, LevelsAscend, QuietCallsStayAbove, QuietCallsKeepTheDepth, QuietCallsNestFreely, QueriesDoMore, WholeTracesStay, RunIsOne, DeeperRunsAreTheRun, DepthReachesTicks, EachQueryRuns, SoundQueriesRun, RunsKeepStates};
+ghost use Rattle.pi_meaning.specs.MeaningLaws.{TabledOnlyAdds, WholeOnlyAdds, WholeKnowsWhatIsGiven, TabledIsWhole, GoalsDoMore, LevelsAreOrdered, LevelsAscend, QuietCallsStayAbove, QuietCallsKeepTheDepth, QuietCallsNestFreely, QueriesDoMore, WholeTracesStay, RunIsOne, DeeperRunsAreTheRun, DepthReachesTicks, EachQueryRuns, SoundQueriesRun, RunsKeepStates};
 
-/// More depth only adds to calls by name, with `=` and `throw` alone, and with all names of the language where it does to what later
+/// More depth only adds to calls by name, with the built-ins of the tables, and with all names of the language where it does to what later
 /// stages give.
 pub fn built_ins_only_add()
-    ensures small { SmallOnlyAdds }
+    ensures tabled { TabledOnlyAdds }
     ensures whole { WholeOnlyAdds }
 {}
 
@@ -14,10 +14,10 @@ pub fn names_are_given()
     ensures { WholeKnowsWhatIsGiven }
 {}
 
-/// A query that calls nothing but `=`, `throw` and what its program defines, by names that the language doesn't give, has the same trace
+/// A query that calls nothing but built-ins of the tables and what its program defines, by names that the language doesn't give, has the same trace
 /// with these built-ins alone as with all names of the language.
-pub fn small_is_whole()
-    ensures { SmallIsWhole }
+pub fn tabled_is_whole()
+    ensures { TabledIsWhole }
 {}
 
 /// Where more depth only adds to calls by name, it does to all: a goal does the same and maybe more where calls do, which is
