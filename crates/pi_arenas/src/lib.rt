@@ -9,4 +9,4 @@ mod run;
 pub use arenas::{Arenas, Back, Entry, Kind, Strict, behind, behind_level};
 pub use blocks::{Blocks, BlocksMark, Written};
 pub use frames::{Frames, Point};
-pub use run::{End, Now, Run};
+pub use run::{End, Now, Run, Telling};

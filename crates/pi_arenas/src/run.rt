@@ -6,7 +6,7 @@ ghost use Rattle.pi_arenas.specs.Arenas.{no_arenas};
 use crate::arenas::Arenas;
 use crate::frames::Point;
 use pi_states::{Ref, StateStore};
-use pi_terms::Term;
+use pi_terms::{Term, Text};
 use pi_unify::Slots;
 use std::alloc::Global;
 
@@ -20,10 +20,19 @@ pub enum End {
     Memory,
 }
 
+/// A text that is written before goals go on.
+#[derive(Drop)]
+pub struct Telling {
+    pub text: Text,
+    pub point: Point,
+}
+
 /// What a run is about to do.
-#[derive(Debug, Drop)]
+#[derive(Drop)]
 pub enum Now {
     Going(Point),
+    /// A text is told next. It is boxed, so that no other step moves the room for it.
+    Telling(Box<Telling>),
     /// The newest entry is next.
     Failing,
     /// The newest open `catch` is next, with this ball.

@@ -1,5 +1,5 @@
 -- The tables of functions: each name is that of what stands beside it, and a function that is built in has one of them.
-use Rattle.std.proofs.Common.{◌≡◌, ◌≢◌, ℕ, zero, suc, Bool, true, false, List, [], ◌∷◌, refl, ap, arith}
+use Rattle.std.proofs.Common.{◌≡◌, ◌≢◌, ◌∙◌, ℕ, zero, suc, Bool, true, false, List, [], ◌∷◌, refl, ap, arith}
 use Rattle.std.specs.Prelude.{Some, None, is_some, codes}
 use Rattle.std.specs.Str.{bytes_eq}
 use Rattle.std.specs.List.{list_all}
@@ -22,7 +22,7 @@ use Rattle.pi_builtin.specs.declared.functions.FunctionOfCollection.{FunctionOfC
 use Rattle.pi_builtin.specs.declared.functions.FunctionOfOne.{FunctionOfOne}
 use Rattle.pi_builtin.specs.declared.functions.FunctionOfTwo.{FunctionOfTwo}
 use Rattle.pi_builtin.specs.declared.functions.Function.{Function}
-use Rattle.pi_builtin.proofs.NamedLemmas.{Each, found-same, is_there, knows, no-lines, neither, other-name}
+use Rattle.pi_builtin.proofs.NamedLemmas.{Each, found-same, found-known, is_there, knows, no-lines, neither, other-name}
 
 -- ---- the tables
 
@@ -101,11 +101,19 @@ same-of_two : Each SameOfTwo functions_of_two
 unfolding built_in_function done_by reading_functions integer_functions collection_functions sorting_functions index_functions range_functions naming_functions text_functions making_functions
 same-of_two = (λ t u s. refl, (λ t u s. refl, (λ t u s. refl, (λ t u s. refl, (λ t u s. refl, (λ t u s. refl, (λ t u s. refl, (λ t u s. refl, (λ t u s. refl, (λ t u s. refl, (λ t u s. refl, (λ t u s. refl, (λ t u s. refl, (λ t u s. refl, (λ t u s. refl, (λ t u s. refl, (λ t u s. refl, (λ t u s. refl, (λ t u s. refl, (λ t u s. refl, (λ t u s. refl, (λ t u s. refl, (λ t u s. refl, tt)))))))))))))))))))))))
 
+known-of_one : list_all (λ r. is_function r.0 1) functions_of_one ≡ true
+unfolding is_function has_line reading_functions integer_functions collection_functions sorting_functions index_functions range_functions naming_functions text_functions making_functions
+known-of_one = refl
+
+known-of_two : list_all (λ r. is_function r.0 2) functions_of_two ≡ true
+unfolding is_function has_line reading_functions integer_functions collection_functions sorting_functions index_functions range_functions naming_functions text_functions making_functions
+known-of_two = refl
+
 -- ---- what is resolved
 
 pub named-of_one : (name : List ℕ) (f : FunctionOfOne) → first_named name functions_of_one ≡ Some f → IsFunctionNamed name 1 (Function.OfOne f)
 unfolding tree_count
-named-of_one name f is = record { takes = refl; same = λ ts s e. apply ts s e }
+named-of_one name f is = record { known = found-known (λ n. is_function n 1) name functions_of_one f known-of_one is; takes = refl; same = λ ts s e. apply ts s e }
   where
     apply : (ts : Trees) (s : State) → tree_count ts ≡ 1 → built_in_function name ts s ≡ built_in_function (one_name f) ts s
     apply no_trees s e = absurd (omega (arith, e))
@@ -114,13 +122,20 @@ named-of_one name f is = record { takes = refl; same = λ ts s e. apply ts s e }
 
 pub named-of_two : (name : List ℕ) (f : FunctionOfTwo) → first_named name functions_of_two ≡ Some f → IsFunctionNamed name 2 (Function.OfTwo f)
 unfolding tree_count
-named-of_two name f is = record { takes = refl; same = λ ts s e. apply ts s e }
+named-of_two name f is = record { known = found-known (λ n. is_function n 2) name functions_of_two f known-of_two is; takes = refl; same = λ ts s e. apply ts s e }
   where
     apply : (ts : Trees) (s : State) → tree_count ts ≡ 2 → built_in_function name ts s ≡ built_in_function (two_name f) ts s
     apply no_trees s e = absurd (omega (arith, e))
     apply (tree t no_trees) s e = absurd (omega (arith, e))
     apply (tree t (tree u no_trees)) s e = found-same SameOfTwo name functions_of_two f same-of_two is t u s
     apply (tree t (tree u (tree w ts))) s e = absurd (omega (arith, e))
+
+range-known : is_function (codes "..") 3 ≡ true
+unfolding is_function has_line reading_functions integer_functions collection_functions sorting_functions index_functions range_functions naming_functions text_functions making_functions
+range-known = refl
+
+pub named-range : (name : List ℕ) → name ≡ codes ".." → IsFunctionNamed name 3 Function.RangeBy
+named-range name e = record { known = ap (λ n. is_function n 3) e ∙ range-known; takes = refl; same = λ ts s many. ap (λ n. built_in_function n ts s) e }
 
 -- ---- what isn't there
 

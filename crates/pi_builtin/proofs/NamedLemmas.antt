@@ -21,6 +21,10 @@ other-name a b not = tested (bytes_eq a b) refl
     tested true e = absurd (not (sym (bytes-same a b e)))
     tested false e = refl
 
+both : (a b : Bool) → (a && b) ≡ true → (a ≡ true) × (b ≡ true)
+both true b h = (refl, h)
+both false b h = absurd cc
+
 -- ---- what is found
 
 -- each row says the truth of its name
@@ -36,6 +40,18 @@ pub found-same : {F : Type 0} (Same : List ℕ → F → Type 0) (name : List �
 unfolding first_named
 found-same Same name [] f each is = absurd cc
 found-same Same name (r ∷ rows) f each is = found-here Same name r (first_named name rows) f (bytes_eq r.0 name) refl each.0 (found-same Same name rows f each.1) is
+
+-- each row has a name that is known
+known-here : {F : Type 0} (known : List ℕ → Bool) (name : List ℕ) (r : Named F) (rest : Option F) (f : F) (here : Bool) → bytes_eq r.0 name ≡ here → known r.0 ≡ true → (rest ≡ Some f → known name ≡ true) → cond here (Some r.1) rest ≡ Some f → known name ≡ true
+known-here known name r rest f true e one other is = ap known (sym (bytes-same r.0 name e)) ∙ one
+known-here known name r rest f false e one other is = other is
+
+pub found-known : {F : Type 0} (known : List ℕ → Bool) (name : List ℕ) (rows : List (Named F)) (f : F) → list_all (λ r. known r.0) rows ≡ true → first_named name rows ≡ Some f → known name ≡ true
+unfolding first_named
+found-known known name [] f all is = absurd cc
+found-known known name (r ∷ rows) f all is =
+    let parts = both (known r.0) (list_all (λ q. known q.0) rows) all in
+    known-here known name r (first_named name rows) f (bytes_eq r.0 name) refl parts.0 (found-known known name rows f parts.1) is
 
 -- ---- names that aren't there
 
@@ -58,10 +74,6 @@ no-line : {R : Type 0} (known : List ℕ → Bool) (k : ℕ) (l : Row R) (name :
 no-line known k l name true true e g is none = sym is ∙ or-false (known l.name) ∙ ap known (bytes-same l.name name e) ∙ none
 no-line known k l name true false e g is none = refl
 no-line known k l name false fit e g is none = refl
-
-both : (a b : Bool) → (a && b) ≡ true → (a ≡ true) × (b ≡ true)
-both true b h = (refl, h)
-both false b h = absurd cc
 
 pub neither : (a b : Bool) → a ≡ false → b ≡ false → (a || b) ≡ false
 neither a b h g = ap (λ q. q || b) h ∙ g

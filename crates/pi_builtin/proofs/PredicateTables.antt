@@ -19,7 +19,7 @@ use Rattle.pi_builtin.specs.declared.predicates.PredicateOfNone.{PredicateOfNone
 use Rattle.pi_builtin.specs.declared.predicates.PredicateOfOne.{PredicateOfOne}
 use Rattle.pi_builtin.specs.declared.predicates.PredicateOfTwo.{PredicateOfTwo}
 use Rattle.pi_builtin.specs.declared.predicates.Predicate.{Predicate}
-use Rattle.pi_builtin.proofs.NamedLemmas.{Each, found-same, is_there, knows, no-lines, neither, other-name}
+use Rattle.pi_builtin.proofs.NamedLemmas.{Each, found-same, found-known, is_there, knows, no-lines, neither, other-name}
 
 -- ---- the tables
 
@@ -90,11 +90,23 @@ same-of_one = (λ t s. refl, (λ t s. refl, (λ t s. refl, (λ t s. refl, (λ t 
 same-of_two : Each SameOfTwo predicates_of_two
 same-of_two = (λ t u s. refl, (λ t u s. refl, (λ t u s. refl, (λ t u s. refl, (λ t u s. refl, (λ t u s. refl, (λ t u s. refl, (λ t u s. refl, (λ t u s. refl, (λ t u s. refl, (λ t u s. refl, (λ t u s. refl, (λ t u s. refl, (λ t u s. refl, tt))))))))))))))
 
+known-of_none : list_all (λ r. is_predicate r.0 0) predicates_of_none ≡ true
+unfolding is_predicate has_line tests comparing_tests kind_tests writing_predicates other_predicates
+known-of_none = refl
+
+known-of_one : list_all (λ r. is_predicate r.0 1) predicates_of_one ≡ true
+unfolding is_predicate has_line tests comparing_tests kind_tests writing_predicates other_predicates
+known-of_one = refl
+
+known-of_two : list_all (λ r. is_predicate r.0 2) predicates_of_two ≡ true
+unfolding is_predicate has_line tests comparing_tests kind_tests writing_predicates other_predicates
+known-of_two = refl
+
 -- ---- what is resolved
 
 pub named-of_none : (name : List ℕ) (p : PredicateOfNone) → first_named name predicates_of_none ≡ Some p → IsPredicateNamed name 0 (Predicate.OfNone p)
 unfolding tree_count
-named-of_none name p is = record { takes = refl; same = λ ts s e. apply ts s e }
+named-of_none name p is = record { known = found-known (λ n. is_predicate n 0) name predicates_of_none p known-of_none is; takes = refl; same = λ ts s e. apply ts s e }
   where
     apply : (ts : Trees) (s : State) → tree_count ts ≡ 0 → built_in_predicate name ts s ≡ built_in_predicate (none_name p) ts s
     apply no_trees s e = found-same SameOfNone name predicates_of_none p same-of_none is s
@@ -102,7 +114,7 @@ named-of_none name p is = record { takes = refl; same = λ ts s e. apply ts s e 
 
 pub named-of_one : (name : List ℕ) (p : PredicateOfOne) → first_named name predicates_of_one ≡ Some p → IsPredicateNamed name 1 (Predicate.OfOne p)
 unfolding tree_count
-named-of_one name p is = record { takes = refl; same = λ ts s e. apply ts s e }
+named-of_one name p is = record { known = found-known (λ n. is_predicate n 1) name predicates_of_one p known-of_one is; takes = refl; same = λ ts s e. apply ts s e }
   where
     apply : (ts : Trees) (s : State) → tree_count ts ≡ 1 → built_in_predicate name ts s ≡ built_in_predicate (test_name p) ts s
     apply no_trees s e = absurd (omega (arith, e))
@@ -111,7 +123,7 @@ named-of_one name p is = record { takes = refl; same = λ ts s e. apply ts s e }
 
 pub named-of_two : (name : List ℕ) (p : PredicateOfTwo) → first_named name predicates_of_two ≡ Some p → IsPredicateNamed name 2 (Predicate.OfTwo p)
 unfolding tree_count
-named-of_two name p is = record { takes = refl; same = λ ts s e. apply ts s e }
+named-of_two name p is = record { known = found-known (λ n. is_predicate n 2) name predicates_of_two p known-of_two is; takes = refl; same = λ ts s e. apply ts s e }
   where
     apply : (ts : Trees) (s : State) → tree_count ts ≡ 2 → built_in_predicate name ts s ≡ built_in_predicate (pair_name p) ts s
     apply no_trees s e = absurd (omega (arith, e))
@@ -169,8 +181,12 @@ unfolding is_predicate has_line tests comparing_tests kind_tests writing_predica
 none-of_printf name zero e not = ap (λ n. is_predicate n 0) e
 none-of_printf name (suc k) e not = ap (λ n. is_predicate n (suc k)) e ∙ printf-lines k ∙ grind (arith, not)
 
+printf-known : (k : ℕ) → takes Predicate.Printf k ≡ true → is_predicate (codes "printf") k ≡ true
+printf-known zero takes_it = absurd cc
+printf-known (suc k) takes_it = printf-lines k ∙ grind (arith, takes_it)
+
 pub named-printf : (name : List ℕ) (k : ℕ) → name ≡ codes "printf" → takes Predicate.Printf k ≡ true → IsPredicateNamed name k Predicate.Printf
-named-printf name k e takes_it = record { takes = takes_it; same = λ ts s many. ap (λ n. built_in_predicate n ts s) e }
+named-printf name k e takes_it = record { known = ap (λ n. is_predicate n k) e ∙ printf-known k takes_it; takes = takes_it; same = λ ts s many. ap (λ n. built_in_predicate n ts s) e }
 
 -- what is told of a name that is `printf`
 pub printf-told : (name : List ℕ) (k : ℕ) (found : Option Predicate) → name ≡ codes "printf" → IfSome found (λ p. (p ≡ Predicate.Printf) × (takes Predicate.Printf k ≡ true)) → IfNone found (takes Predicate.Printf k ≡ false)

@@ -1,4 +1,4 @@
 mod FunctionCalls
 mod FunctionBodies
 mod PredicateBodies
-mod RunLemmas
+pub mod RunLemmas

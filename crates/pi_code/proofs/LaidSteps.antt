@@ -100,8 +100,10 @@ resolved-node preds t k (Node.Catch ball) is = tt
 resolved-node preds t k (Node.Unify left right) is = tt
 resolved-node preds t k (Node.Throw ball) is = tt
 resolved-node preds t k (Node.Call m first) is = (is.0, length is.1, is.3, is.4)
-resolved-node preds t k (Node.Apply m first slot) is = (is.0, length is.1, is.3)
+resolved-node preds t k (Node.Apply m first slot) is = (is.0, length is.1, is.3, is.4)
 resolved-node preds t k (Node.Value value) is = tt
+resolved-node preds t k (Node.BuiltIn p m first arity) is = tt
+resolved-node preds t k (Node.BuiltInValue f m first arity slot) is = tt
 
 pub resolved-more : (preds : List CorePred) (ss rs : List Step) (s : Step) → rs ≡ ss ++ s ∷ [] → IsResolved preds s.node → AreResolved preds ss → AreResolved preds rs
 resolved-more preds ss rs s e is are i r at =

@@ -9,3 +9,4 @@ pub mod LaidRuleLemmas
 pub mod LaidSteps
 pub mod LaidTests
 pub mod LaidWhole
+pub mod LaidBuiltIns

@@ -62,6 +62,10 @@ operand_tree t (Operand.Made from to) = first_tree (spelled_parts t (take (to - 
 abbrev pub arguments : Tables → ℕ → ℕ → List Tree
 arguments t predicate first = map (operand_tree t) (take (slice_index_or t.arities predicate 0) (drop first t.operands))
 
+-- the terms of so many operands from one on
+abbrev pub operand_trees : Tables → ℕ → ℕ → List Tree
+operand_trees t first count = map (operand_tree t) (take count (drop first t.operands))
+
 -- the kind of goal that a node is; the value behind a function's body is no goal, and counts as `true`
 unfoldable pub node_kind : Tables → Node → GoalKind
 node_kind t Node.True = GoalKind.True
@@ -80,6 +84,8 @@ node_kind t (Node.Throw ball) = GoalKind.Call (codes "throw") (operand_tree t ba
 node_kind t (Node.Call p first) = GoalKind.Call (slice_index_or t.called p []) (arguments t p first)
 node_kind t (Node.Apply p first slot) = GoalKind.Apply (slice_index_or t.called p []) (arguments t p first) slot
 node_kind t (Node.Value value) = GoalKind.True
+node_kind t (Node.BuiltIn p name first arity) = GoalKind.Call (slice_index_or t.names name []) (operand_trees t first arity)
+node_kind t (Node.BuiltInValue f name first arity slot) = GoalKind.Apply (slice_index_or t.names name []) (operand_trees t first arity) slot
 
 -- a step as a cell of a goal
 unfoldable pub step_cell : Tables → Step → GoalCell

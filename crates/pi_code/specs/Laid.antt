@@ -9,6 +9,10 @@ use Rattle.pi_core.specs.GoalCells.{kind_of}
 use Rattle.pi_core.specs.declared.goal_node.GoalKind.{GoalKind}
 use Rattle.pi_core.specs.declared.goal_node.GoalNode.{GoalNode}
 use Rattle.pi_core.specs.declared.core_program.CorePred.{CorePred}
+use Rattle.pi_effects.specs.BuiltIns.{is_function, is_predicate}
+use Rattle.pi_builtin.specs.declared.predicates.Predicate.{Predicate}
+use Rattle.pi_builtin.specs.Names.{may_bind}
+use Rattle.pi_builtin.specs.Resolved.{IsFunctionNamed, IsPredicateNamed}
 use Rattle.pi_code.specs.declared.code.Operand.{Operand}
 use Rattle.pi_code.specs.declared.code.Part.{Part}
 use Rattle.pi_code.specs.declared.code.Node.{Node}
@@ -110,15 +114,20 @@ pub record IsNamed (preds : List CorePred) (function : Bool) (n : ℕ) (name : L
 abbrev pub IsUnnamed : List CorePred → Bool → List ℕ → ℕ → Type 0
 IsUnnamed preds function name k = (n : ℕ) → IsNamed preds function n name k → ⊥
 
--- no predicate of this name with so many arguments is built in
-abbrev pub IsNotBuiltIn : List ℕ → ℕ → Type 0
-IsNotBuiltIn name k = (name ≡ codes "=" → k ≢ 2) × (name ≡ codes "throw" → k ≢ 1)
+-- no predicate or function of this name with so many arguments is built in
+abbrev pub IsNotBuiltIn : Bool → List ℕ → ℕ → Type 0
+IsNotBuiltIn false name k = is_predicate name k ≡ false
+IsNotBuiltIn true name k = is_function name k ≡ false
 
 -- what is called isn't there
 abbrev pub IsUnknown : List CorePred → GoalKind → Type 0
-IsUnknown preds (GoalKind.Call name args) = IsUnnamed preds false name (length args) × IsNotBuiltIn name (length args)
-IsUnknown preds (GoalKind.Apply name args slot) = IsUnnamed preds true name (length args)
+IsUnknown preds (GoalKind.Call name args) = IsUnnamed preds false name (length args) × IsNotBuiltIn false name (length args)
+IsUnknown preds (GoalKind.Apply name args slot) = IsUnnamed preds true name (length args) × IsNotBuiltIn true name (length args)
 IsUnknown preds kind = ⊥
+
+-- a built-in predicate does what a name does with so many arguments, and binds nothing
+abbrev pub IsEffectOf : List ℕ → ℕ → Predicate → Type 0
+IsEffectOf name k p = IsPredicateNamed name k p × (may_bind p ≡ false)
 
 -- ---- steps
 
@@ -138,10 +147,14 @@ IsNodeOf preds t k (Node.Catch ball) = (u : Tree) × (k ≡ GoalKind.Catch u) ×
 IsNodeOf preds t k (Node.Unify left right) = (u : Tree) × (w : Tree) × (k ≡ GoalKind.Call (codes "=") (u ∷ w ∷ [])) × IsOperand t u left × IsOperand t w right
 IsNodeOf preds t k (Node.Throw ball) = (u : Tree) × (k ≡ GoalKind.Call (codes "throw") (u ∷ [])) × IsOperand t u ball
 IsNodeOf preds t k (Node.Call n first) =
-    (name : List ℕ) × (us : List Tree) × (k ≡ GoalKind.Call name us) × IsNamed preds false n name (length us) × IsNotBuiltIn name (length us) × OperandsAt t first us
+    (name : List ℕ) × (us : List Tree) × (k ≡ GoalKind.Call name us) × IsNamed preds false n name (length us) × IsNotBuiltIn false name (length us) × OperandsAt t first us
 IsNodeOf preds t k (Node.Apply n first slot) =
-    (name : List ℕ) × (us : List Tree) × (k ≡ GoalKind.Apply name us slot) × IsNamed preds true n name (length us) × OperandsAt t first us
+    (name : List ℕ) × (us : List Tree) × (k ≡ GoalKind.Apply name us slot) × IsNamed preds true n name (length us) × IsNotBuiltIn true name (length us) × OperandsAt t first us
 IsNodeOf preds t k (Node.Value value) = ⊥
+IsNodeOf preds t k (Node.BuiltIn p n first arity) =
+    (name : List ℕ) × (us : List Tree) × (k ≡ GoalKind.Call name us) × (slice_get t.names n ≡ Some name) × (arity ≡ length us) × IsEffectOf name (length us) p × OperandsAt t first us
+IsNodeOf preds t k (Node.BuiltInValue f n first arity slot) =
+    (name : List ℕ) × (us : List Tree) × (k ≡ GoalKind.Apply name us slot) × (slice_get t.names n ≡ Some name) × (arity ≡ length us) × IsFunctionNamed name (length us) f × OperandsAt t first us
 
 -- a goal, and whether something is left to do behind it in its body
 pub record Marked : Type 0 where
@@ -222,10 +235,10 @@ pub record IsValueLaid (t : Tables) (steps : List Step) (first slots at : ℕ) (
   pub first_is : step.first_slot ≡ first
   pub slots_is : step.slots ≡ slots
 
--- the number of each call is that of a predicate that isn't built in, of each function call that of a function
+-- the number of each call is that of a predicate that isn't built in, of each function call that of such a function
 abbrev pub IsResolved : List CorePred → Node → Type 0
-IsResolved preds (Node.Call n first) = (name : List ℕ) × (k : ℕ) × IsNamed preds false n name k × IsNotBuiltIn name k
-IsResolved preds (Node.Apply n first slot) = (name : List ℕ) × (k : ℕ) × IsNamed preds true n name k
+IsResolved preds (Node.Call n first) = (name : List ℕ) × (k : ℕ) × IsNamed preds false n name k × IsNotBuiltIn false name k
+IsResolved preds (Node.Apply n first slot) = (name : List ℕ) × (k : ℕ) × IsNamed preds true n name k × IsNotBuiltIn true name k
 IsResolved preds node = ⊤
 
 abbrev pub AreResolved : List CorePred → List Step → Type 0

@@ -6,6 +6,7 @@ ghost use Rattle.pi_core.specs.GoalCells.{cell_of};
 ghost use Rattle.pi_core.specs.CoreTree.{ClauseTree, PredTree, pattern_trees, pred_tree};
 ghost use Rattle.pi_code.specs.Code.{tables_of, preds_of, step_cell, StandsAt, child_place};
 
+use pi_builtin::{Function, Predicate as BuiltInPredicate};
 use pi_core::{CorePred, CorePreds, CoreProgram, Pattern};
 use pi_states::Ref;
 use pi_terms::Text;
@@ -31,7 +32,7 @@ pub enum Part {
 }
 
 /// A goal's node with its names resolved.
-#[derive(Clone, Copy, Debug)]
+#[derive(Clone, Copy)]
 pub enum Node {
     True,
     Fail,
@@ -57,10 +58,15 @@ pub enum Node {
     Apply(u32, u32, u32),
     /// Behind a function's body: its value, which ends the call.
     Value(Operand),
+    /// A call of a built-in predicate, which binds nothing: the place of its name among the names, where its arguments begin
+    /// among the operands, and how many they are.
+    BuiltIn(BuiltInPredicate, u32, u32, u32),
+    /// The same of a built-in function, and the slot that takes its value.
+    BuiltInValue(Function, u32, u32, u32, u32),
 }
 
 /// A node at its place in the one table of all goals. A goal's child goals follow it, one behind the other.
-#[derive(Clone, Copy, Debug)]
+#[derive(Clone, Copy)]
 pub struct Step {
     pub node: Node,
     /// How many steps the goal takes that begins here: what follows it in a sequence comes so much later.
@@ -112,7 +118,7 @@ pub struct Predicate {
 
 /// A program and a goal in flat tables, with each call resolved. The patterns of heads stay where they are in the
 /// program.
-#[derive(Debug, Drop)]
+#[derive(Drop)]
 pub struct Code<'p> {
     pub core: &'p CoreProgram,
     /// The predicates that were made for the goal alone, behind those of the program.

@@ -16,14 +16,14 @@ use Rattle.pi_core.specs.declared.core_program.CorePred.{CorePred}
 use Rattle.pi_code.specs.declared.code.Node.{Node}
 use Rattle.pi_code.specs.declared.code.Step.{Step}
 use Rattle.pi_code.specs.declared.code.Code.{Code}
-use Rattle.pi_code.specs.Code.{Tables, node_kind, step_cell, operand_tree, arguments}
-use Rattle.pi_stands.specs.Here.{Block, NodeIsReadable, SaysLast, SayLast, LastOfAll, EachLast, IsHere, IsValueHere}
+use Rattle.pi_code.specs.Code.{Tables, node_kind, step_cell, operand_tree, operand_trees, arguments}
+use Rattle.pi_stands.specs.Here.{Block, AreReadable, NodeIsReadable, SaysLast, SayLast, LastOfAll, EachLast, IsHere, IsValueHere}
 use Rattle.pi_stands.specs.Stands.{HasNumber}
-use Rattle.pi_code.specs.Laid.{tables_for, IsNamed, IsNotBuiltIn, IsUnknown, IsNodeOf, OperandsAt, Marked, mark, marked, marked_seq, marked_each, IsStepFor, StepsAt, IsLaid, IsValueLaid, IsResolved, AreResolved}
-use Rattle.pi_effects.specs.Builtin.{is_built_in}
+use Rattle.pi_code.specs.Laid.{tables_for, IsNamed, IsNotBuiltIn, IsUnknown, IsEffectOf, IsNodeOf, OperandsAt, Marked, mark, marked, marked_seq, marked_each, IsStepFor, StepsAt, IsLaid, IsValueLaid, IsResolved, AreResolved}
+use Rattle.pi_builtin.specs.Resolved.{IsFunctionNamed}
 use Rattle.pi_code.proofs.LaidGoals.{goals-in, length-marked}
 use Rattle.pi_stands.proofs.ReadsHere.{drop-got, got-index, operand-reads, operands-read, operand-readable, operands-within, operands-readable}
-use Rattle.pi_stands.proofs.KnownGoals.{goal-known, built-in-not}
+use Rattle.pi_stands.proofs.KnownGoals.{goal-known}
 
 -- ---- nodes
 
@@ -31,6 +31,20 @@ use Rattle.pi_stands.proofs.KnownGoals.{goal-known, built-in-not}
 arguments-read : (ps : List CorePred) (terms : Terms) (code : Code) (m first : ℕ) (us : List Tree) (function : Bool) (name : List ℕ) → IsNamed ps function m name (length us) → OperandsAt (tables_for ps terms code) first us → arguments (tables_for ps terms code) m first ≡ us
 arguments-read ps terms code m first us function name named are =
     ap (λ n. map (operand_tree (tables_for ps terms code)) (take n (drop first code.operands.items))) (got-index (λ p. p.arity) ps m named.pred 0 named.is ∙ named.arity_is) ∙ operands-read (tables_for ps terms code) first us are
+
+-- the arguments and the name of a built-in
+operands-taken : (ps : List CorePred) (terms : Terms) (code : Code) (first arity : ℕ) (us : List Tree) → arity ≡ length us → OperandsAt (tables_for ps terms code) first us → operand_trees (tables_for ps terms code) first arity ≡ us
+operands-taken ps terms code first arity us many are = ap (operand_trees (tables_for ps terms code) first) many ∙ operands-read (tables_for ps terms code) first us are
+
+name-read : (t : Tables) (m : ℕ) (name : List ℕ) → slice_get t.names m ≡ Some name → slice_index_or t.names m [] ≡ name
+name-read t m name at = get_or_from_slice_get t.names m name [] at
+
+built-readable : (ps : List CorePred) (terms : Terms) (code : Code) (b : Block) (first arity : ℕ) (us : List Tree) → arity ≡ length us → OperandsAt (tables_for ps terms code) first us → ((u : Tree) → Contains us u → SpeaksBelow b.count u) →
+    AreReadable (tables_for ps terms code) b first arity
+built-readable ps terms code b first arity us many are below = (
+  omega (arith, many, operands-within (tables_for ps terms code) first us are),
+  λ i o within here. operands-readable (tables_for ps terms code) b first us are below i o (omega (arith, many, within)) here,
+)
 
 pub node-reads : (ps : List CorePred) (terms : Terms) (code : Code) (k : GoalKind) (n : Node) → IsNodeOf ps (tables_for ps terms code) k n → (IsUnknown ps k → ⊥) → node_kind (tables_for ps terms code) n ≡ k
 unfolding node_kind
@@ -55,8 +69,14 @@ node-reads ps terms code k (Node.Call m first) is known =
     ∙ ap (GoalKind.Call is.0) (arguments-read ps terms code m first is.1 false is.0 is.3 is.5) ∙ sym is.2
 node-reads ps terms code k (Node.Apply m first slot) is known =
     ap (λ name. GoalKind.Apply name (arguments (tables_for ps terms code) m first) slot) (got-index (λ p. p.name) ps m is.3.pred [] is.3.is ∙ is.3.name_is)
-    ∙ ap (λ us. GoalKind.Apply is.0 us slot) (arguments-read ps terms code m first is.1 true is.0 is.3 is.4) ∙ sym is.2
+    ∙ ap (λ us. GoalKind.Apply is.0 us slot) (arguments-read ps terms code m first is.1 true is.0 is.3 is.5) ∙ sym is.2
 node-reads ps terms code k (Node.Value value) is known = absurd is
+node-reads ps terms code k (Node.BuiltIn built m first arity) is known =
+    ap (λ name. GoalKind.Call name (operand_trees (tables_for ps terms code) first arity)) (name-read (tables_for ps terms code) m is.0 is.3)
+    ∙ ap (GoalKind.Call is.0) (operands-taken ps terms code first arity is.1 is.4 is.6) ∙ sym is.2
+node-reads ps terms code k (Node.BuiltInValue built m first arity slot) is known =
+    ap (λ name. GoalKind.Apply name (operand_trees (tables_for ps terms code) first arity) slot) (name-read (tables_for ps terms code) m is.0 is.3)
+    ∙ ap (λ us. GoalKind.Apply is.0 us slot) (operands-taken ps terms code first arity is.1 is.4 is.6) ∙ sym is.2
 
 -- the slots that a kind of goal names are below n
 abbrev KindBelow : ℕ → GoalKind → Type 0
@@ -110,12 +130,22 @@ node-readable ps terms code b k (Node.Apply m first slot) is below =
     let many : slice_index_or (map (λ (p : CorePred). p.arity) ps) m 0 ≡ length is.1 = got-index (λ p. p.arity) ps m is.3.pred 0 is.3.is ∙ is.3.arity_is in
     let all : ((u : Tree) → Contains is.1 u → SpeaksBelow b.count u) × (slot < b.count) = subst (KindBelow b.count) is.2 below in (
       (
-        omega (arith, many, operands-within (tables_for ps terms code) first is.1 is.4),
-        λ i o within here. operands-readable (tables_for ps terms code) b first is.1 is.4 all.0 i o (omega (arith, many, within)) here,
+        omega (arith, many, operands-within (tables_for ps terms code) first is.1 is.5),
+        λ i o within here. operands-readable (tables_for ps terms code) b first is.1 is.5 all.0 i o (omega (arith, many, within)) here,
       ),
       all.1,
     )
 node-readable ps terms code b k (Node.Value value) is below = absurd is
+node-readable ps terms code b k (Node.BuiltIn built m first arity) is below = (
+  built-readable ps terms code b first arity is.1 is.4 is.6 (subst (KindBelow b.count) is.2 below),
+  subst (λ n. IsEffectOf n arity built) (sym (name-read (tables_for ps terms code) m is.0 is.3)) (subst (λ n. IsEffectOf is.0 n built) (sym is.4) is.5),
+)
+node-readable ps terms code b k (Node.BuiltInValue built m first arity slot) is below =
+    let all : ((u : Tree) → Contains is.1 u → SpeaksBelow b.count u) × (slot < b.count) = subst (KindBelow b.count) is.2 below in (
+      built-readable ps terms code b first arity is.1 is.4 is.6 all.0,
+      subst (λ n. IsFunctionNamed n arity built) (sym (name-read (tables_for ps terms code) m is.0 is.3)) (subst (λ n. IsFunctionNamed is.0 n built) (sym is.4) is.5),
+      all.1,
+    )
 
 -- ---- steps
 
@@ -280,13 +310,9 @@ value-here ps terms code b at value laid below =
 
 -- ---- numbers
 
-never-true : (b : Bool) → (b ≡ true → ⊥) → b ≡ false
-never-true true h = absurd (h refl)
-never-true false h = refl
-
-not-built : (ps : List CorePred) (m : ℕ) (name : List ℕ) (k : ℕ) (named : IsNamed ps false m name k) → IsNotBuiltIn name k → is_built_in false named.pred.name named.pred.arity ≡ false
-not-built ps m name k named isnt =
-    ap (λ n. is_built_in false n named.pred.arity) named.name_is ∙ ap (λ n. is_built_in false name n) named.arity_is ∙ never-true (is_built_in false name k) (built-in-not name k isnt)
+not-built : (ps : List CorePred) (function : Bool) (m : ℕ) (name : List ℕ) (k : ℕ) (named : IsNamed ps function m name k) → IsNotBuiltIn function name k → IsNotBuiltIn function named.pred.name named.pred.arity
+not-built ps function m name k named isnt =
+    subst (λ n. IsNotBuiltIn function n named.pred.arity) (sym named.name_is) (subst (IsNotBuiltIn function name) (sym named.arity_is) isnt)
 
 has-number : (ps : List CorePred) (n : Node) → IsResolved ps n → HasNumber (map pred_tree ps) n
 has-number ps Node.True is = tt
@@ -302,9 +328,11 @@ has-number ps (Node.Count into) is = tt
 has-number ps (Node.Catch ball) is = tt
 has-number ps (Node.Unify left right) is = tt
 has-number ps (Node.Throw ball) is = tt
-has-number ps (Node.Call m first) is = (pred_tree is.2.pred, slice_get-map pred_tree ps m ∙ ap (option_map pred_tree) is.2.is, is.2.function_is, not-built ps m is.0 is.1 is.2 is.3)
-has-number ps (Node.Apply m first slot) is = (pred_tree is.2.pred, slice_get-map pred_tree ps m ∙ ap (option_map pred_tree) is.2.is, is.2.function_is, refl)
+has-number ps (Node.Call m first) is = (pred_tree is.2.pred, slice_get-map pred_tree ps m ∙ ap (option_map pred_tree) is.2.is, is.2.function_is, not-built ps false m is.0 is.1 is.2 is.3)
+has-number ps (Node.Apply m first slot) is = (pred_tree is.2.pred, slice_get-map pred_tree ps m ∙ ap (option_map pred_tree) is.2.is, is.2.function_is, not-built ps true m is.0 is.1 is.2 is.3)
 has-number ps (Node.Value value) is = tt
+has-number ps (Node.BuiltIn built m first arity) is = tt
+has-number ps (Node.BuiltInValue built m first arity slot) is = tt
 
 pub have-numbers : (ps : List CorePred) (steps : List Step) → AreResolved ps steps → (i : ℕ) (s : Step) → slice_get steps i ≡ Some s → HasNumber (map pred_tree ps) s.node
 have-numbers ps steps are i s at = has-number ps s.node (are i s at)

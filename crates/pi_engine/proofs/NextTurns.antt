@@ -1,7 +1,8 @@
 -- The turns of a call of `next`, and what the call comes to.
-use Rattle.std.proofs.Common.{Box, Global, ◌≡◌, ◌≢◌, ◌⊎◌, inl, inr, ℕ, List, Some, refl, sym, ◌∙◌, ap, subst}
+use Rattle.std.proofs.Common.{Box, Global, ◌≡◌, ◌≢◌, ◌⊎◌, inl, inr, ℕ, List, [], ◌∷◌, ◌++◌, Some, refl, sym, ◌∙◌, ap, subst}
 use Rattle.pi_terms.specs.Tree.{Tree}
 use Rattle.pi_meaning.specs.View.{View}
+use Rattle.pi_traces.specs.Trace.{Out, noted}
 use Rattle.pi_core.specs.declared.core_program.NameSlot.{NameSlot}
 use Rattle.pi_answers.specs.declared.answer.Answer.{Answer}
 use Rattle.pi_code.specs.declared.code.Code.{Code}
@@ -9,6 +10,7 @@ use Rattle.pi_machine.specs.declared.happening.Budget.{Budget}
 use Rattle.pi_machine.specs.declared.happening.Happening.{Happening}
 use Rattle.pi_machine.specs.declared.happening.Mode.{Mode}
 use Rattle.pi_arenas.specs.declared.run.End.{End as RunEnd}
+use Rattle.pi_arenas.specs.declared.run.Telling.{Telling}
 use Rattle.pi_arenas.specs.declared.run.Now.{Now}
 use Rattle.pi_engine.specs.declared.turns.Outcome.{Outcome as CodeOutcome}
 use Rattle.pi_stands.specs.Answers.{AreNames}
@@ -19,23 +21,26 @@ use Rattle.pi_machine.specs.Leads.{Leads}
 use Rattle.pi_stands.specs.Goes.{counted, IsAt, Goes, IsSpent, IsIn}
 use Rattle.pi_machine.specs.Next.{Tells, some_ticks, NextIs}
 use Rattle.pi_stands.specs.Stands.{World, Loaded}
+use Rattle.pi_stands.specs.Views.{Fits}
 use Rattle.pi_engine.specs.Seen.{MachineView, told_end, end_in, stopped}
 use Rattle.pi_engine.specs.Happens.{IsBuiltSoFar, IsRepeated}
 use Rattle.pi_engine.specs.Turns.{StepIs, IsRunning, NextComes, IsAnswered, RepeatsEnd, Lasts}
 use Rattle.pi_stands.proofs.GoalsGo.{none-counted}
 use Rattle.pi_machine.proofs.LeadLemmas.{leads-none}
-use Rattle.pi_engine.proofs.TurnsGo.{more-goes, answer-goes}
+use Rattle.pi_engine.proofs.TurnsGo.{more-goes, answer-goes, told-goes}
 
 -- ---- where a run has ended
 
 pub running-unspent : (mode : Mode) (b : Budget) (now : Now) → IsRunning now → IsSpent mode b now
 running-unspent mode b (Now.Going p) running = tt
+running-unspent mode b (Now.Telling told) running = tt
 running-unspent mode b Now.Failing running = tt
 running-unspent mode b (Now.Raising ball) running = tt
 running-unspent mode b (Now.Ended e) running = absurd running
 
 pub running-of : (now : Now) → ((e : RunEnd) → now ≢ Now.Ended e) → IsRunning now
 running-of (Now.Going p) other = tt
+running-of (Now.Telling told) other = tt
 running-of Now.Failing other = tt
 running-of (Now.Raising ball) other = tt
 running-of (Now.Ended e) other = other e refl
@@ -60,7 +65,7 @@ pub record Turned {M : Type 0} (v : View) (names : List NameSlot) (mode : Mode) 
 
 pub record SoFar {R M : Type 0} (code : Code) (names : List NameSlot) (mode : Mode) (a b : Budget) (first present : R) (before after : Loaded → World M) (old now : Now) (turn : ℕ) : Type 0 where
   pub counts : Counts mode a b
-  pub turns : (l : Loaded) → l.code ≡ code → AreNames l.query_slots names → (v : View) (c : Config) → IsIn v names (before l) old c → Turned v names mode a b (after l) old now c
+  pub turns : (l : Loaded) → l.code ≡ code → AreNames l.query_slots names → (v : View) → Fits mode v → (c : Config) → IsIn v names (before l) old c → Turned v names mode a b (after l) old now c
   pub still : (e : RunEnd) → old ≡ Now.Ended e → (present ≡ first) × (b ≡ a) × (turn ≡ 0)
 
 pub no-turns : {M : Type 0} (v : View) (names : List NameSlot) (mode : Mode) (b : Budget) (w : World M) (now : Now) (c : Config) → IsIn v names w now c → Turned v names mode b b w now now c
@@ -119,6 +124,14 @@ answer-comes v names mode a b d first w after old now next c told x unboxed from
     let goes = answer-goes v names mode a b d w after now next c told same one two it.goes step in
     record { comes = goes.2.comes; is = (goes.0, subst (Tells names goes.0) (sym unboxed) goes.1, goes.2.leads); good = goes.2.good; at = goes.2.is; spent = λ running. step.spent }
 
+-- a text
+pub told-comes : {M : Type 0} (v : View) (names : List NameSlot) (mode : Mode) (a b d : Budget) (first w after : World M) (old now next : Now) (c : Config) (told : Box Telling Global) (text : List ℕ) → text ≡ told.value.text → w.loaded ≡ first.loaded → w.loaded ≡ after.loaded → Counts mode a b → Counts mode b d → IsIn v names first old c →
+    (it : Turned v names mode a b w old now c) → (IsIn v names w now it.goes.comes → StepIs v names mode b d after next it.goes.comes (CodeOutcome.Told told)) → NextComes v names mode a d after old next c (Happening.Out text)
+told-comes v names mode a b d first w after old now next c told text unboxed from same one two is it steps =
+    let step = steps (record { is = it.goes.is; good = it.goes.good; rules = subst (λ l. AreOfRules l.preds) (sym from) is.rules }) in
+    let goes = told-goes v names mode a b d w after now next c told same one two it.goes step in
+    record { comes = goes.comes; is = subst (λ t. Leads v after.loaded.preds names (some_ticks (counted mode a d) ++ noted (Out t) ∷ []) c goes.comes) (sym unboxed) goes.leads; good = goes.good; at = goes.is; spent = λ running. step.spent }
+
 -- ---- an end that is answered again, as it is read of a machine
 
 -- of a run, by what it is part of
@@ -141,6 +154,7 @@ one-end x y same = cc
 pub repeated-as : {R M : Type 0} (f : R → MachineView M) (stop : R → R) (old new : R) (b c : Budget) (end h : Happening) → f (stop old) ≡ stopped (f old) → (now : Now) → end_in now ≡ Some end →
     ((e : RunEnd) → now ≡ Now.Ended e → RepeatsEnd stop e old new b c h) → IsRepeated end (f old) (f new) b c h
 repeated-as f stop old new b c end h stops (Now.Going p) at repeats = absurd cc
+repeated-as f stop old new b c end h stops (Now.Telling told) at repeats = absurd cc
 repeated-as f stop old new b c end h stops Now.Failing at repeats = absurd cc
 repeated-as f stop old new b c end h stops (Now.Raising ball) at repeats = absurd cc
 repeated-as f stop old new b c end h stops (Now.Ended e) at repeats =

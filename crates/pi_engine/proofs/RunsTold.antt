@@ -4,7 +4,7 @@ use Rattle.std.specs.Prelude.{Contains}
 use Rattle.pi_terms.specs.Tree.{Tree}
 use Rattle.pi_states.specs.Store.{StoreView}
 use Rattle.pi_meaning.specs.View.{View}
-use Rattle.pi_meaning.specs.Instances.{small}
+use Rattle.pi_meaning.specs.Instances.{tabled}
 use Rattle.pi_core.specs.CoreTree.{PredTree, QueryTree}
 use Rattle.pi_traces.specs.Depth.{Spent}
 use Rattle.pi_traces.specs.Trace.{End, Done, Raise, Tick, Load, Out, Emitted, noted, answered, count_ticks}
@@ -61,12 +61,14 @@ later m store arenas now = record { code = m.code; names = m.names; mode = m.mod
 
 pub running-in : (now : Now) → end_in now ≡ None → IsRunning now
 running-in (Now.Going p) on = tt
+running-in (Now.Telling told) on = tt
 running-in Now.Failing on = tt
 running-in (Now.Raising ball) on = tt
 running-in (Now.Ended e) on = absurd cc
 
 pub goes-on-in : (now : Now) → IsRunning now → end_in now ≡ None
 goes-on-in (Now.Going p) running = refl
+goes-on-in (Now.Telling told) running = refl
 goes-on-in Now.Failing running = refl
 goes-on-in (Now.Raising ball) running = refl
 goes-on-in (Now.Ended e) running = absurd running
@@ -86,6 +88,7 @@ lasting-in now Happening.Memory lasts = ap end_in lasts
 -- a run that has not ended stands for a configuration
 at-running : {M : Type 0} (v : View) (names : List NameSlot) (mode : Mode) (w : World M) (now : Now) (c : Config) → IsRunning now → HasComeTo v names mode w now c → IsAt v names w now c
 at-running v names mode w (Now.Going p) c running is = is
+at-running v names mode w (Now.Telling told) c running is = is
 at-running v names mode w Now.Failing c running is = is
 at-running v names mode w (Now.Raising ball) c running is = is
 at-running v names mode w (Now.Ended e) c running is = absurd running
@@ -93,6 +96,7 @@ at-running v names mode w (Now.Ended e) c running is = absurd running
 -- what the code's steps come to is where the run is then
 comes-to : {M : Type 0} (v : View) (names : List NameSlot) (mode : Mode) (b : Budget) (w : World M) (now : Now) (c : Config) → IsSpent mode b now → IsAt v names w now c → HasComeTo v names mode w now c
 comes-to v names mode b w (Now.Going p) c spent is = is
+comes-to v names mode b w (Now.Telling told) c spent is = is
 comes-to v names mode b w Now.Failing c spent is = is
 comes-to v names mode b w (Now.Raising ball) c spent is = is
 comes-to v names mode b w (Now.Ended RunEnd.Done) c spent is = is
@@ -135,9 +139,9 @@ ends-with v program q events more c d e leads then ends n less =
 
 -- it is about to count a Tick
 cut-off : (v : View) (program : List PredTree) (q : QueryTree) (events : List (Emitted Solution)) (k : ℕ) (c d : Config) → Leads v (program ++ q.helpers) q.names events (start q) c → Leads v (program ++ q.helpers) q.names (some_ticks k) c d →
-    IsAtTick v (program ++ q.helpers) q.names d → IsRunUnder (small v) program q (count_ticks events + k) (record { events = events ++ some_ticks k; stop = Spent })
+    IsAtTick v (program ++ q.helpers) q.names d → IsRunUnder (tabled v) program q (count_ticks events + k) (record { events = events ++ some_ticks k; stop = Spent })
 cut-off v program q events k c d leads then at =
-    subst (λ n. IsRunUnder (small v) program q n (record { events = events ++ some_ticks k; stop = Spent })) (count-added events k)
+    subst (λ n. IsRunUnder (tabled v) program q n (record { events = events ++ some_ticks k; stop = Spent })) (count-added events k)
     (spent-run v program q (events ++ some_ticks k) d (leads-on v (program ++ q.helpers) q.names events (some_ticks k) (start q) c d leads then) at)
 
 steps-used : (mode : Mode) (b : Budget) → mode ≡ Mode.Top → HasNone mode b → AreStepsUsed b
@@ -153,7 +157,8 @@ pub told-by : {M : Type 0} (v : View) (m : MachineView M) (program : List PredTr
 told-by v m program q events store arenas now old new (Happening.Answer a) on r it lasts =
     let x = it.is.0 in
     (x, it.is.1, runs-on v m program q events (some_ticks (counted m.mode old new) ++ answered x ∷ []) store arenas now old new (Happening.Answer a) on r it it.is.2)
-told-by v m program q events store arenas now old new (Happening.Out text) on r it lasts = absurd it.is
+told-by v m program q events store arenas now old new (Happening.Out text) on r it lasts =
+    runs-on v m program q events (some_ticks (counted m.mode old new) ++ noted (Out text) ∷ []) store arenas now old new (Happening.Out text) on r it it.is
 told-by v m program q events store arenas now old new (Happening.NeedPlan call) on r it lasts = absurd it.is
 told-by v m program q events store arenas now old new Happening.Done on r it lasts =
     let k : ℕ = counted m.mode old new in
@@ -184,6 +189,7 @@ told-by v m program q events store arenas now old new Happening.Memory on r it l
 
 done-there : (now : Now) → end_in now ≡ Some Happening.Done → now ≡ Now.Ended RunEnd.Done
 done-there (Now.Going p) ended = absurd cc
+done-there (Now.Telling told) ended = absurd cc
 done-there Now.Failing ended = absurd cc
 done-there (Now.Raising ball) ended = absurd cc
 done-there (Now.Ended RunEnd.Done) ended = refl
@@ -194,6 +200,7 @@ done-there (Now.Ended RunEnd.Memory) ended = absurd cc
 
 raised-there : (now : Now) (ball : Tree) → end_in now ≡ Some (Happening.Raised ball) → now ≡ Now.Ended (RunEnd.Raised ball)
 raised-there (Now.Going p) ball ended = absurd cc
+raised-there (Now.Telling told) ball ended = absurd cc
 raised-there Now.Failing ball ended = absurd cc
 raised-there (Now.Raising other) ball ended = absurd cc
 raised-there (Now.Ended RunEnd.Done) ball ended = absurd cc
@@ -230,6 +237,7 @@ names-below n (x ∷ names) below = (below x (contains-first x names), names-bel
 
 stands-there : {M : Type 0} (v : View) (names : List NameSlot) (mode : Mode) (w : World M) (now : Now) (c : Config) → Stands w now c → HasComeTo v names mode w now c
 stands-there v names mode w (Now.Going p) c stands = stands
+stands-there v names mode w (Now.Telling told) c stands = stands
 stands-there v names mode w Now.Failing c stands = stands
 stands-there v names mode w (Now.Raising ball) c stands = stands
 stands-there v names mode w (Now.Ended e) c stands = no-end w e c.now (HasComeTo v names mode w (Now.Ended e) c) stands.runs

@@ -2,31 +2,35 @@
 use Rattle.std.proofs.Common.{Box, Global, ◌≡◌, ℕ, ◌+◌, List, [], ◌∷◌, ◌++◌, refl, sym, ◌∙◌, ap, subst, append_assoc, arith}
 use Rattle.std.proofs.lemmas.List.{replicate-append-replicate}
 use Rattle.pi_terms.specs.Tree.{Tree}
+use Rattle.pi_terms.specs.Places.{Places}
+use Rattle.pi_states.specs.State.{State}
+use Rattle.pi_core.specs.GoalTree.{GoalTrees}
 use Rattle.pi_meaning.specs.View.{View}
 use Rattle.pi_core.specs.CoreTree.{PredTree}
-use Rattle.pi_traces.specs.Trace.{End, Done, Raise, Abort, Miss, Deep, Tick, noted, Emitted, answered}
+use Rattle.pi_traces.specs.Trace.{End, Done, Raise, Abort, Miss, Deep, Tick, Out, noted, Emitted, answered}
 use Rattle.pi_meaning.specs.Run.{Solution}
 use Rattle.pi_core.specs.declared.core_program.NameSlot.{NameSlot}
 use Rattle.pi_answers.specs.declared.answer.Answer.{Answer}
 use Rattle.pi_machine.specs.declared.happening.Budget.{Budget}
 use Rattle.pi_machine.specs.declared.happening.Mode.{Mode}
 use Rattle.pi_arenas.specs.declared.run.End.{End as RunEnd}
+use Rattle.pi_arenas.specs.declared.run.Telling.{Telling}
 use Rattle.pi_arenas.specs.declared.run.Now.{Now}
 use Rattle.pi_engine.specs.declared.turns.Outcome.{Outcome as CodeOutcome}
 use Rattle.pi_machine.specs.Budget.{Counts}
 use Rattle.pi_machine.specs.Built.{AreOfRules}
-use Rattle.pi_machine.specs.Configuration.{Config, config, failed, raising, Now as NowData}
+use Rattle.pi_machine.specs.Configuration.{Frame, Config, config, going, telling, failed, raising, Now as NowData}
 use Rattle.pi_stands.specs.Fails.{IsEnded, ComesTo, Fails}
 use Rattle.pi_stands.specs.Raises.{Raises}
 use Rattle.pi_stands.specs.Goes.{counted, IsAt, Goes, IsSpent, TicksOn, IsIn}
 use Rattle.pi_machine.specs.Leads.{Leads}
 use Rattle.pi_machine.specs.Next.{Tells, some_ticks}
 use Rattle.pi_machine.specs.Shape.{IsGood}
-use Rattle.pi_stands.specs.Stands.{World, NowIs, going_now, failing_now, raising_now, Stands}
-use Rattle.pi_machine.specs.Step.{Outcome, silently, with_tick, quietly, answering, ending, fail_step, raise_step, step}
+use Rattle.pi_stands.specs.Stands.{World, GoingIs, NowIs, going_now, telling_now, failing_now, raising_now, Stands}
+use Rattle.pi_machine.specs.Step.{Outcome, silently, with_tick, quietly, writing, answering, ending, fail_step, raise_step, step}
 use Rattle.pi_engine.specs.Turns.{StepIs, StepStops}
 use Rattle.pi_stands.proofs.GoalsGo.{is-at, none-counted, unspent, silent-goes}
-use Rattle.pi_machine.proofs.LeadLemmas.{leads-none, leads-on, step-ends}
+use Rattle.pi_machine.proofs.LeadLemmas.{leads-none, leads-on, step-ends, step-writes, good-writing}
 use Rattle.pi_stands.proofs.PointsDone.{GoesSilently}
 
 -- ---- no further answer, and exceptions
@@ -47,6 +51,7 @@ comes-to-goes : {M : Type 0} (v : View) (names : List NameSlot) (after : World M
 comes-to-goes v names after now c (silently d) rules good is stands = silent-goes v names after now c d rules good is (is-at v names after now d stands)
 comes-to-goes v names after now c (with_tick d) rules good is never = absurd never
 comes-to-goes v names after now c (quietly d) rules good is never = absurd never
+comes-to-goes v names after now c (writing text d) rules good is never = absurd never
 comes-to-goes v names after now c (answering x d) rules good is never = absurd never
 comes-to-goes v names after now c (ending e) rules good is ended = ends-so v names after now c e rules good is ended
 
@@ -61,6 +66,7 @@ comes-to-unspent : {M : Type 0} (after : World M) (mode : Mode) (b : Budget) (no
 comes-to-unspent after mode b now (silently d) stands = unspent after mode b now d stands
 comes-to-unspent after mode b now (with_tick d) never = absurd never
 comes-to-unspent after mode b now (quietly d) never = absurd never
+comes-to-unspent after mode b now (writing text d) never = absurd never
 comes-to-unspent after mode b now (answering x d) never = absurd never
 comes-to-unspent after mode b now (ending e) ended = ended-unspent mode b now e ended
 
@@ -81,6 +87,36 @@ pub answer-is : {M : Type 0} (v : View) (names : List NameSlot) (mode : Mode) (b
 answer-is v names mode b after c a it =
     record { is = (it.0, it.1, subst (λ k. Goes v names (some_ticks k ++ answered it.0 ∷ []) after Now.Failing c) (sym (none-counted mode b b refl)) it.2); spent = tt }
 
+-- a text is told
+telling-is : {M : Type 0} (w : World M) (x : NowData) (now : Now) (told : Box Telling Global) → now ≡ Now.Telling told → NowIs w now x →
+    (gs : GoalTrees) × (e : Places) × (k : List Frame) × (x ≡ telling told.value.text gs e w.store.now.state k) × GoingIs w told.value.point gs e k
+telling-is w x now told same (going_now is) = absurd cc
+telling-is w x now told same (telling_now {told = other} {gs = gs} {e = e} {k = k} is) =
+    let it : other ≡ told = cc in
+    (gs, e, k, ap (λ t. telling t.value.text gs e w.store.now.state k) it, subst (λ t. GoingIs w t.value.point gs e k) it is)
+telling-is w x now told same failing_now = absurd cc
+telling-is w x now told same raising_now = absurd cc
+
+tells-step : (v : View) (preds : List PredTree) (names : List NameSlot) (text : List ℕ) (gs : GoalTrees) (e : Places) (s : State) (k : List Frame) (c : Config) → c.now ≡ telling text gs e s k → step v preds names c ≡ writing text (config (going gs e s k) c.stack)
+unfolding step
+tells-step v preds names text gs e s k c is = ap (λ x. step v preds names (config x c.stack)) is
+
+pub told-is : {M : Type 0} (w : World M) (v : View) (names : List NameSlot) (mode : Mode) (b : Budget) (told : Box Telling Global) (c : Config) → IsIn v names w (Now.Telling told) c →
+    StepIs v names mode b b w (Now.Going told.value.point) c (CodeOutcome.Told told)
+told-is w v names mode b told c is =
+    let stands : Stands w (Now.Telling told) c = is.is in
+    let it = telling-is w c.now (Now.Telling told) told refl stands.runs in
+    let next : Config = config (going it.0 it.1 w.store.now.state it.2) c.stack in
+    let writes : step v w.loaded.preds names c ≡ writing told.value.text next = tells-step v w.loaded.preds names told.value.text it.0 it.1 w.store.now.state it.2 c it.3 in
+    let goes : Goes v names (noted (Out told.value.text) ∷ []) w (Now.Going told.value.point) c =
+    record {
+      comes = next;
+      leads = step-writes v w.loaded.preds names c next told.value.text is.rules is.good writes;
+      good = good-writing v w.loaded.preds names c next told.value.text is.good writes;
+      is = record { entries = stands.entries; runs = going_now it.4 };
+    } in
+    record { is = subst (λ k. Goes v names (some_ticks k ++ noted (Out told.value.text) ∷ []) w (Now.Going told.value.point) c) (sym (none-counted mode b b refl)) goes; spent = tt }
+
 -- a step that stops for want of memory, and counts no Tick
 pub stops-there : {M : Type 0} (v : View) (names : List NameSlot) (mode : Mode) (b : Budget) (w : World M) (c : Config) → IsGood c → StepStops v names mode b b w c
 stops-there v names mode b w c good =
@@ -89,6 +125,7 @@ stops-there v names mode b w c good =
 -- what fails
 failing-is : {M : Type 0} (w : World M) (x : NowData) (now : Now) → now ≡ Now.Failing → NowIs w now x → x ≡ failed
 failing-is w x now same (going_now is) = absurd cc
+failing-is w x now same (telling_now is) = absurd cc
 failing-is w x now same failing_now = refl
 failing-is w x now same raising_now = absurd cc
 
@@ -106,6 +143,7 @@ fails-is w after v names mode b now c same is fails =
 -- what raises
 raising-is : {M : Type 0} (w : World M) (x : NowData) (now : Now) (ball : Tree) → now ≡ Now.Raising ball → NowIs w now x → x ≡ raising ball
 raising-is w x now ball same (going_now is) = absurd cc
+raising-is w x now ball same (telling_now is) = absurd cc
 raising-is w x now ball same failing_now = absurd cc
 raising-is w x now ball same raising_now = cc
 
@@ -162,3 +200,12 @@ answer-goes v names mode a b d w after old now c told same first second it is =
           (sym (append_assoc (some_ticks m) (some_ticks n) (answered x ∷ [])) ∙ ap (λ es. es ++ answered x ∷ []) (ticks-joined m n ∙ ap some_ticks (counted-on mode a b d first second)))
           (goes-on v names (some_ticks m) (some_ticks n ++ answered x ∷ []) w after old now c same it is.is.2),
     )
+
+pub told-goes : {M : Type 0} (v : View) (names : List NameSlot) (mode : Mode) (a b d : Budget) (w after : World M) (old now : Now) (c : Config) (told : Box Telling Global) → w.loaded ≡ after.loaded → Counts mode a b → Counts mode b d → (it : Goes v names (some_ticks (counted mode a b)) w old c) →
+    StepIs v names mode b d after now it.comes (CodeOutcome.Told told) → Goes v names (some_ticks (counted mode a d) ++ noted (Out told.value.text) ∷ []) after now c
+told-goes v names mode a b d w after old now c told same first second it is =
+    let m : ℕ = counted mode a b in
+    let n : ℕ = counted mode b d in
+    subst (λ es. Goes v names es after now c)
+    (sym (append_assoc (some_ticks m) (some_ticks n) (noted (Out told.value.text) ∷ [])) ∙ ap (λ es. es ++ noted (Out told.value.text) ∷ []) (ticks-joined m n ∙ ap some_ticks (counted-on mode a b d first second)))
+    (goes-on v names (some_ticks m) (some_ticks n ++ noted (Out told.value.text) ∷ []) w after old now c same it is.is)

@@ -4,7 +4,7 @@ use Rattle.std.specs.Prelude.{◌≡◌, ◌⊎◌, ◌≤◌, ℕ, ◌+◌, Lis
 use Rattle.pi_traces.specs.Trace.{End, Done, Raise, Note, Tick, Load, Out, Emitted, noted, answered, count_ticks}
 use Rattle.pi_traces.specs.Depth.{Cut, Spent, with_events}
 use Rattle.pi_meaning.specs.View.{View}
-use Rattle.pi_meaning.specs.Instances.{small}
+use Rattle.pi_meaning.specs.Instances.{tabled}
 use Rattle.pi_meaning.specs.Run.{Solution, IsRunUnder}
 use Rattle.pi_core.specs.CoreTree.{PredTree, QueryTree}
 use Rattle.pi_machine.specs.declared.happening.Budget.{Budget}
@@ -53,9 +53,9 @@ pub record Adds (mode : Mode) (old new : Budget) (happening : Happening) (notes 
 
 -- these events are all that stands before a Tick; each run that is cut behind them goes on with this load
 abbrev pub StandsBefore : View → List PredTree → QueryTree → List (Emitted Solution) → Note → Type 0
-StandsBefore v program q events Tick = IsRunUnder (small v) program q (count_ticks events) (record { events = events; stop = Spent })
+StandsBefore v program q events Tick = IsRunUnder (tabled v) program q (count_ticks events) (record { events = events; stop = Spent })
 StandsBefore v program q events (Load k) =
-    (n : ℕ) (run : Cut Solution) → IsRunUnder (small v) program q (count_ticks events + n) run → (rest : Cut Solution) × (run ≡ with_events (events ++ noted (Load k) ∷ []) rest)
+    (n : ℕ) (run : Cut Solution) → IsRunUnder (tabled v) program q (count_ticks events + n) run → (rest : Cut Solution) × (run ≡ with_events (events ++ noted (Load k) ∷ []) rest)
 StandsBefore v program q events (Out text) = ⊥
 
 -- the run stops in front of a note for which the budget has no room
@@ -87,24 +87,23 @@ pub record Happens {M : Type 0} (v : View) (program : List PredTree) (q : QueryT
 -- Ticks that it counts alone, k of them, and stops in front of a Tick alone.
 abbrev pub ComesByTicks : {M : Type 0} → View → List PredTree → QueryTree → List (Emitted Solution) → ℕ → MachineView M → Budget → Happening → Type 0
 ComesByTicks v program q events k after new (Happening.Answer a) = (x : Solution) × Tells q.names x a × RunsTo v after program q (events ++ (some_ticks k ++ answered x ∷ []))
-ComesByTicks v program q events k after new (Happening.Out text) = ⊥
+ComesByTicks v program q events k after new (Happening.Out text) = RunsTo v after program q (events ++ (some_ticks k ++ noted (Out text) ∷ []))
 ComesByTicks v program q events k after new (Happening.NeedPlan call) = ⊥
 ComesByTicks v program q events k after new Happening.Done = EndsWith v program q (events ++ some_ticks k) Done × RunsTo v after program q (events ++ some_ticks k)
 ComesByTicks v program q events k after new (Happening.Raised ball) = EndsWith v program q (events ++ some_ticks k) (Raise ball) × RunsTo v after program q (events ++ some_ticks k)
 ComesByTicks v program q events k after new Happening.StepsSpent =
-    IsRunUnder (small v) program q (count_ticks events + k) (record { events = events ++ some_ticks k; stop = Spent }) × RunsTo v after program q (events ++ some_ticks k)
+    IsRunUnder (tabled v) program q (count_ticks events + k) (record { events = events ++ some_ticks k; stop = Spent }) × RunsTo v after program q (events ++ some_ticks k)
     × (mode_of after ≡ Mode.Top) × AreStepsUsed new
 ComesByTicks v program q events k after new Happening.WorkSpent =
-    IsRunUnder (small v) program q (count_ticks events + k) (record { events = events ++ some_ticks k; stop = Spent }) × RunsTo v after program q (events ++ some_ticks k)
+    IsRunUnder (tabled v) program q (count_ticks events + k) (record { events = events ++ some_ticks k; stop = Spent }) × RunsTo v after program q (events ++ some_ticks k)
     × IsInner (mode_of after) × IsWorkUsed new
 ComesByTicks v program q events k after new Happening.Memory = RunsTo v after program q (events ++ some_ticks k)
 
 abbrev pub HappensByTicks : {M : Type 0} → View → List PredTree → QueryTree → List (Emitted Solution) → MachineView M → MachineView M → Budget → Budget → Happening → Type 0
 HappensByTicks v program q events before after old new happening = ComesByTicks v program q events (counted (mode_of before) old new) after new happening
 
--- there are no outputs and no needs
+-- there are no needs
 abbrev pub IsBuiltSoFar : Happening → Type 0
-IsBuiltSoFar (Happening.Out text) = ⊥
 IsBuiltSoFar (Happening.NeedPlan call) = ⊥
 IsBuiltSoFar happening = ⊤
 

@@ -1,15 +1,14 @@
 -- A machine, as those that use it see it: what they read of it, and how its run may end.
-use Rattle.std.specs.Prelude.{◌≡◌, ◌⊎◌, ℕ, pos, negsuc, List, length, Option, Some, None, ⊤}
+use Rattle.std.specs.Prelude.{◌≡◌, ◌⊎◌, ℕ, List, length, Option, Some, None, ⊤}
 use Rattle.pi_states.specs.Store.{StoreView}
 use Rattle.pi_terms.specs.Tree.{Tree}
 use Rattle.pi_traces.specs.Trace.{End, Raise, Abort, Note, Tick, Load, Out}
-use Rattle.pi_meaning.specs.View.{View}
-use Rattle.pi_meaning.specs.Within.{a_query, a_body}
 use Rattle.pi_core.specs.declared.core_program.NameSlot.{NameSlot}
 use Rattle.pi_code.specs.declared.code.Code.{Code}
 use Rattle.pi_machine.specs.declared.happening.Happening.{Happening}
 use Rattle.pi_machine.specs.declared.happening.Mode.{Mode}
 use Rattle.pi_machine.specs.Budget.{IsInner}
+pub use Rattle.pi_stands.specs.Views.{Fits}
 use Rattle.pi_engine.specs.declared.machine.Kept.{Kept}
 use Rattle.pi_engine.specs.declared.machine.Machine.{Machine}
 use Rattle.pi_arenas.specs.declared.run.End.{End as RunEnd}
@@ -71,13 +70,6 @@ GoesOn m = end_of m ≡ None
 -- the machine as it was, but that its run has ended for want of memory
 abbrev pub stopped : {M : Type 0} → MachineView M → MachineView M
 stopped m = record { code = m.code; names = m.names; mode = m.mode; store = m.store; order = m.order; arenas = m.arenas; now = Now.Ended RunEnd.Memory }
-
--- The views under which a machine runs: a Top one runs a query, and an Inner one the body of a planner call with so much of
--- its limit left. That is a number from 0; with a negative one no view fits.
-abbrev pub Fits : Mode → View → Type 0
-Fits Mode.Top v = v.within ≡ a_query
-Fits (Mode.Inner (pos rest)) v = v.within ≡ a_body rest
-Fits (Mode.Inner (negsuc n)) v = ⊥
 
 -- ---- how a run may end
 

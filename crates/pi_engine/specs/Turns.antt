@@ -1,6 +1,6 @@
 -- What a step of the machine's code does, and what a call of `next` comes to.
 use Rattle.std.specs.Prelude.{◌≡◌, ◌⊎◌, List, [], ◌∷◌, ◌++◌, ⊤}
-use Rattle.pi_traces.specs.Trace.{Emitted, answered}
+use Rattle.pi_traces.specs.Trace.{Out, Emitted, noted, answered}
 use Rattle.pi_meaning.specs.View.{View}
 use Rattle.pi_meaning.specs.Run.{Solution}
 use Rattle.pi_core.specs.declared.core_program.NameSlot.{NameSlot}
@@ -19,10 +19,11 @@ use Rattle.pi_stands.specs.Goes.{counted, IsAt, Goes, IsSpent}
 
 -- ---- one step
 
--- a step with these events, and then with its answer, where it has one
+-- a step with these events, and then with its answer or its text, where it has one
 abbrev pub OutcomeIs : {M : Type 0} → View → List NameSlot → List (Emitted Solution) → World M → Now → Config → Outcome → Type 0
 OutcomeIs v names events after now c Outcome.More = Goes v names events after now c
 OutcomeIs v names events after now c (Outcome.Answered a) = (x : Solution) × Tells names x a.value × Goes v names (events ++ answered x ∷ []) after now c
+OutcomeIs v names events after now c (Outcome.Told told) = Goes v names (events ++ noted (Out told.value.text) ∷ []) after now c
 
 -- a step, with the Ticks that it counts
 pub record StepIs {M : Type 0} (v : View) (names : List NameSlot) (mode : Mode) (old new : Budget) (after : World M) (now : Now) (c : Config) (outcome : Outcome) : Type 0 where
@@ -52,10 +53,11 @@ pub record NextComes {M : Type 0} (v : View) (names : List NameSlot) (mode : Mod
   pub at : IsAt v names after now comes
   pub spent : IsRunning before → IsSpent mode new now
 
--- a run that has an answer goes on
+-- a run that has an answer, or a text, goes on
 abbrev pub RunsAfter : Outcome → Now → Type 0
 RunsAfter Outcome.More now = ⊤
 RunsAfter (Outcome.Answered a) now = IsRunning now
+RunsAfter (Outcome.Told told) now = IsRunning now
 
 -- the end of a run, as it is answered
 abbrev pub IsAnswered : RunEnd → Happening → Type 0

@@ -44,7 +44,7 @@ pub struct Kept {
 
 impl<'p, S: StateStore> Machine<'p, S> {
     /// A machine that is to run the query over an empty store. It runs each kind of goal, under predicates and functions
-    /// made of rules; `=` and `throw` are built in. Where memory is wanted, the store comes back as it was.
+    /// made of rules; those of the tables of `pi_builtin` are built in. Where memory is wanted, the store comes back as it was.
     pub fn new(
         alloc: Global,
         core: &'p CoreProgram,
@@ -83,7 +83,7 @@ impl<'p, S: StateStore> Machine<'p, S> {
 }
 
 impl<S: StateStore> Machine<'_, S> {
-    /// What comes next: an answer, or the end, which is answered for good.
+    /// What comes next: an answer, a text that is written, or the end, which is answered for good.
     pub fn next(&mut self, budget: &mut Budget) -> Happening
         ensures counts { Counts (mode_of (machine_view S.seen S.order self.old)) budget.old budget.new }
         ensures within { IsWithin budget.old → IsWithin budget.new }

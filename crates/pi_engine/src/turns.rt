@@ -1,5 +1,7 @@
 //! The turns of a machine: one step after the other, until there is an answer or an end.
-ghost use Rattle.std.specs.Prelude.{◌≡◌, Some, IfOk, IfErr};
+ghost use Rattle.std.specs.Prelude.{◌≡◌, Some, IfOk, IfErr, Box};
+ghost use Rattle.std.specs.Global.{Global};
+ghost use Rattle.pi_arenas.specs.declared.run.Telling.{Telling};
 ghost use Rattle.pi_meaning.specs.View.{View};
 ghost use Rattle.pi_machine.specs.declared.happening.Budget.{Budget};
 ghost use Rattle.pi_machine.specs.declared.happening.Mode.{Mode};
@@ -10,27 +12,32 @@ ghost use Rattle.pi_arenas.specs.Arenas.{view_of};
 ghost use Rattle.pi_machine.specs.Configuration.{Config};
 ghost use Rattle.pi_stands.specs.Answers.{AreNames};
 ghost use Rattle.pi_stands.specs.Stands.{Loaded, world};
+ghost use Rattle.pi_stands.specs.Views.{Fits};
 ghost use Rattle.pi_stands.specs.Makes.{GoesFrom};
 ghost use Rattle.pi_stands.specs.Goes.{IsIn, IsSpent, PointIsDone};
 ghost use Rattle.pi_engine.specs.Happens.{IsBuiltSoFar};
 ghost use Rattle.pi_engine.specs.Turns.{StepIs, StepStops, stopped_run, NextComes, IsRunning, RunsAfter, IsAnswered, RepeatsEnd, Lasts, IsRaised};
 
 use pi_answers::Answer;
-use pi_arenas::{End, Now, Point, Run};
+use pi_arenas::{End, Now, Point, Run, Telling};
 use pi_code::Code;
 use pi_core::NameSlot;
 use pi_machine::{Budget, Happening, Mode};
 use pi_states::StateStore;
 use pi_steps::{answer, answer_level, fail, run_goal, unwind};
+use pi_terms::Text;
 use std::alloc::{AllocError, Global};
+use std::mem;
 
-/// What a step comes to. An answer is boxed, since each step without one would move the room for it.
+/// What a step comes to. An answer and a text are boxed, since each step without one would move the room for it.
 pub enum Outcome {
     More,
     Answered(Box<Answer>),
+    /// A text is told.
+    Told(Box<Telling>),
 }
 
-/// What comes next in a run: an answer, or the end.
+/// What comes next in a run: an answer, a text, or the end.
 pub fn next_happening<S: StateStore>(
     code: &Code<'_>,
     mode: Mode,
@@ -39,7 +46,7 @@ pub fn next_happening<S: StateStore>(
     budget: &mut Budget,
 ) -> Happening
     ensures counts { Counts mode budget.old budget.new }
-    ensures comes { (l : Loaded) → l.code ≡ code.now → AreNames l.query_slots names.now → (v : View) (c : Config) → IsIn v names.now (world l (S.seen run.old.store) S.order (view_of run.old.arenas)) run.old.now c → NextComes v names.now mode budget.old budget.new (world l (S.seen run.new.store) S.order (view_of run.new.arenas)) run.old.now run.new.now c result }
+    ensures comes { (l : Loaded) → l.code ≡ code.now → AreNames l.query_slots names.now → (v : View) → Fits mode v → (c : Config) → IsIn v names.now (world l (S.seen run.old.store) S.order (view_of run.old.arenas)) run.old.now c → NextComes v names.now mode budget.old budget.new (world l (S.seen run.new.store) S.order (view_of run.new.arenas)) run.old.now run.new.now c result }
     ensures repeats { (e : End) → run.old.now ≡ Now.Ended e → RepeatsEnd stopped_run e run.old run.new budget.old budget.new result }
     ensures built { IsBuiltSoFar result }
     ensures lasts { Lasts result run.new.now }
@@ -57,9 +64,18 @@ pub fn next_happening<S: StateStore>(
         match outcome {
             Outcome::More => {}
             Outcome::Answered(answer) => return Happening::Answer(Box::into_inner(answer)),
+            Outcome::Told(told) => return Happening::Out(text_of(told)),
         }
     }
     memory_wanted(run)
+}
+
+/// The text that is told.
+fn text_of(told: Box<Telling>) -> Text
+    ensures { result ≡ told.value.text }
+{
+    let Telling { text, .. } = Box::into_inner(told);
+    text
 }
 
 /// Ends a run for want of memory, and changes nothing else of it.
@@ -82,8 +98,8 @@ fn step<S: StateStore>(
 ) -> Result<Outcome, AllocError>
     ensures counts { Counts mode budget.old budget.new }
     ensures answered { IfOk result (λ outcome. RunsAfter outcome run.new.now) }
-    ensures is { IfOk result (λ outcome. IsRunning run.old.now → (l : Loaded) → l.code ≡ code.now → AreNames l.query_slots names.now → (v : View) (c : Config) → IsIn v names.now (world l (S.seen run.old.store) S.order (view_of run.old.arenas)) run.old.now c → StepIs v names.now mode budget.old budget.new (world l (S.seen run.new.store) S.order (view_of run.new.arenas)) run.new.now c outcome) }
-    ensures stops { IfErr result (λ _. IsRunning run.old.now → (l : Loaded) → l.code ≡ code.now → (v : View) (c : Config) → IsIn v names.now (world l (S.seen run.old.store) S.order (view_of run.old.arenas)) run.old.now c → StepStops v names.now mode budget.old budget.new (world l (S.seen run.old.store) S.order (view_of run.old.arenas)) c) }
+    ensures is { IfOk result (λ outcome. IsRunning run.old.now → (l : Loaded) → l.code ≡ code.now → AreNames l.query_slots names.now → (v : View) → Fits mode v → (c : Config) → IsIn v names.now (world l (S.seen run.old.store) S.order (view_of run.old.arenas)) run.old.now c → StepIs v names.now mode budget.old budget.new (world l (S.seen run.new.store) S.order (view_of run.new.arenas)) run.new.now c outcome) }
+    ensures stops { IfErr result (λ _. IsRunning run.old.now → (l : Loaded) → l.code ≡ code.now → (v : View) → Fits mode v → (c : Config) → IsIn v names.now (world l (S.seen run.old.store) S.order (view_of run.old.arenas)) run.old.now c → StepStops v names.now mode budget.old budget.new (world l (S.seen run.old.store) S.order (view_of run.old.arenas)) c) }
 {
     match &run.now {
         Now::Going(at) => {
@@ -109,8 +125,23 @@ fn step<S: StateStore>(
             unwind(code, run)?;
             Ok(Outcome::More)
         }
+        Now::Telling(_) => Ok(tell(run)),
         Now::Ended(_) => Ok(Outcome::More),
     }
+}
+
+/// Tells a text, which is next, and goes on behind it.
+#[inline(never)]
+fn tell<S: StateStore>(run: &mut Run<S>) -> Outcome
+    ensures store { run.new.store ≡ run.old.store }
+    ensures arenas { run.new.arenas ≡ run.old.arenas }
+    ensures tells { (told : Box Telling Global) → run.old.now ≡ Now.Telling told → (result ≡ Outcome.Told told) × (run.new.now ≡ Now.Going told.value.point) }
+{
+    let Now::Telling(told) = mem::replace(&mut run.now, Now::Failing) else {
+        return Outcome::More;
+    };
+    run.now = Now::Going(told.point);
+    Outcome::Told(told)
 }
 
 /// Goes on behind goals that are done: with a frame, or with an answer of the newest open level or of the query.

@@ -141,7 +141,7 @@ kind-shifts l c d h t base frame slots from to over kind y lies (once_kind own o
 kind-shifts l c d h t base frame slots from to over kind y lies (not_kind own one) = absurd (lies _ _ refl)
 kind-shifts l c d h t base frame slots from to over kind y lies (if_kind own one) = absurd (lies _ _ refl)
 kind-shifts l c d h t base frame slots from to over kind y lies (guard_kind call fits one) = absurd (lies _ _ refl)
-kind-shifts l c d h t base frame slots from to over kind y lies (apply_kind own args fit one) = absurd (lies _ _ refl)
+kind-shifts l c d h t base frame slots from to over kind y lies (apply_kind own free args fit one) = absurd (lies _ _ refl)
 kind-shifts l c d h t base frame slots from to over kind y lies (collect_kind own order some) = absurd (lies _ _ refl)
 kind-shifts l c d h t base frame slots from to over kind y lies (count_kind own one) = absurd (lies _ _ refl)
 kind-shifts l c d h t base frame slots from to over kind y lies (catch_kind own stays one) = (catch_kind own stays refl, one)

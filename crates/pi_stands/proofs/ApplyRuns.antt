@@ -10,7 +10,7 @@ use Rattle.pi_states.specs.State.{State, IsState}
 use Rattle.pi_meaning.specs.View.{View}
 use Rattle.pi_core.specs.CoreTree.{find_pred, PredTree}
 use Rattle.pi_states.specs.Evaluation.{EvaluatedAll, evaluated_all}
-use Rattle.pi_meaning.specs.Builtin.{function_effect}
+use Rattle.pi_effects.specs.BuiltIns.{is_function}
 use Rattle.pi_core.specs.GoalTree.{GoalTree, GoalTrees, apply, goal, nodes}
 use Rattle.pi_states.specs.declared.store.Ref.{Ref}
 use Rattle.pi_arenas.specs.declared.frames.Point.{Point}
@@ -24,6 +24,7 @@ use Rattle.pi_arenas.specs.Blocks.{BlocksView, KeepsBlocks}
 use Rattle.pi_arenas.specs.Arenas.{ArenasView, entry_at, new_entry}
 use Rattle.pi_arenas.specs.declared.arenas.Entry.{Entry}
 use Rattle.pi_arenas.specs.Frames.{PushesBehind}
+use Rattle.pi_code.specs.Laid.{IsNotBuiltIn}
 use Rattle.pi_code.specs.Code.{Tables, arguments, node_kind}
 use Rattle.pi_machine.specs.Configuration.{Frame, Called, Config, behind, strict, value_level, Entry as EntryData}
 use Rattle.pi_machine.specs.Shape.{open_level}
@@ -43,7 +44,7 @@ use Rattle.pi_stands.proofs.EqualStands.{block_of, kind-of-node, stack-moved, go
 use Rattle.pi_stands.proofs.CallLemmas.{apply-of, evaluated-all-state}
 use Rattle.pi_stands.proofs.RulesTried.{IsFound}
 use Rattle.pi_stands.proofs.CallsTried.{below-ends, below-moves}
-use Rattle.pi_machine.proofs.CallFound.{found-by-number}
+use Rattle.pi_machine.proofs.CallFound.{found-by-number, apply-comes-to}
 use Rattle.pi_stands.proofs.CallMade.{front-more, arguments-added, arguments-long, all-left, stack-below, level-below, Made}
 use Rattle.pi_stands.proofs.CallRuns.{Numbered, numbered, arguments-of, args-count, all-count, stands-called}
 
@@ -63,15 +64,6 @@ applies w p s g gs e k es q operands into predicate node at stands known =
       goal_is = apply-of g _ _ into (kind-of-node w p s g gs e k (Node.Apply q operands into) at is node)
           ∙ ap (λ n. apply n (arguments (tables_in w.loaded) q operands) into) it.name ∙ ap (λ ts. apply it.pred.name ts into) (arguments-of w true q operands predicate it);
     }
-
--- what such a goal comes to
-apply-comes-to : (v : View) (preds : List PredTree) (name : List ℕ) (args : List Tree) (into : ℕ) (pred : PredTree) (gs : GoalTrees) (e : Places) (s : State) (k : List Frame) (es : List EntryData) →
-    let all : EvaluatedAll = evaluated_all (trees_of args) e s in
-    find_pred true name (tree_count all.trees) preds ≡ Some pred →
-    goal_step v preds (apply name args into) gs e s k es
-    ≡ call_step pred.quiet (try_rules (record { function = true; args = all.trees }) pred.clauses (back_to [] all.state []) (strict (value_level (comp pred.name all.trees) into) (back_to all.slots all.state (behind gs k)) ∷ es))
-unfolding goal_step function_effect
-apply-comes-to v preds name args into pred gs e s k es found = ap (λ p. function_step p (evaluated_all (trees_of args) e s) into (behind gs k) es) found
 
 -- ---- the caller stands, where slots behind its own are added
 
@@ -114,11 +106,11 @@ new-base es x z found = one-entry x z (sym (get_append_last es x) ∙ found)
 
 apply-made : {M : Type 0} (w : World M) (u : StoreView M) (mark : M) (p : Point) (s : Step) (n q base arity into : ℕ) (pred : PredTree) (predicate : Predicate) (args : List Tree) (ts : Trees) (e : Places) (k : List Frame) (es : List EntryData) →
     StackStands w es → Marks w.order w.store u mark → (in_it : Entered w p n (apply pred.name args into) e k) → slice_get (steps_of w.loaded) p.place ≡ Some s → slice_get w.loaded.preds q ≡ Some pred → slice_get w.loaded.code.predicates.items q ≡ Some predicate →
-    pred.function ≡ true → length args ≡ pred.arity → length w.arenas.blocks.slots ≡ base + pred.arity → block_end in_it.block ≤ base → HoldsArguments w.store.now.terms w.arenas.blocks.slots base pred.arity ts →
+    pred.function ≡ true → IsNotBuiltIn true pred.name pred.arity → length args ≡ pred.arity → length w.arenas.blocks.slots ≡ base + pred.arity → block_end in_it.block ≤ base → HoldsArguments w.store.now.terms w.arenas.blocks.slots base pred.arity ts →
     Made (entered_level w u mark base n (Kind.Strict (Strict.Apply p.place p.base))) q base 0 (record { function = true; args = ts }) pred.clauses []
     (strict (value_level (comp pred.name ts) into) (back_to e w.store.now.state k) ∷ es) predicate.first
 unfolding open_level
-apply-made w u mark p s n q base arity into pred predicate args ts e k es stands marks in_it at is_pred is_predicate function many long below holds =
+apply-made w u mark p s n q base arity into pred predicate args ts e k es stands marks in_it at is_pred is_predicate function not_built many long below holds =
     let kind : Kind = Kind.Strict (Strict.Apply p.place p.base) in
     let slots : ℕ = length w.arenas.blocks.slots in
     let after : World _ = entered_level w u mark base n kind in
@@ -127,7 +119,7 @@ apply-made w u mark p s n q base arity into pred predicate args ts e k es stands
     let held : HoldsArguments w.store.now.terms w.arenas.blocks.slots base (length args) ts = subst (λ m. HoldsArguments w.store.now.terms w.arenas.blocks.slots base m ts) (sym many) holds in
     let block : block_at w.loaded p.place p.base ≡ in_it.block = block-of-step w.loaded in_it.block p.place p.base (apply pred.name args into) in_it.at.own s in_it.at.here in_it.base at in
     let is : KindIs w.loaded w.arenas.collected (now_here w) w.store.now.state base n slots (length w.arenas.collected) (length w.arenas.collected) kind y =
-    apply_kind (goal-stands w p n s (apply pred.name args into) e k at in_it) held (subst (λ b. block_end b ≤ base) (sym block) below) refl in
+    apply_kind (goal-stands w p n s (apply pred.name args into) e k at in_it) (ap (is_function pred.name) many ∙ not_built) held (subst (λ b. block_end b ≤ base) (sym block) below) refl in
     let entered : StackStands after (y ∷ es) =
     stack-entered w u mark base n (length w.arenas.collected) kind y es stands marks in_it.agrees refl (kept-within w es stands) (omega arith) stands.stack is in
     let level : w.arenas.level ≤ length (entries_of w) = omega (arith, stands.level, open_level-within zero es, stack-length w (length (entries_of w)) (length w.arenas.collected) es stands.stack) in
@@ -207,11 +199,11 @@ apply-runs w v u mark a fs d rs p s q operands into n predicate view g gs e k es
       called = called;
       level = level;
       made = apply-made w3 u mark p s n q limit predicate.arity into pred predicate args all.trees all.slots (behind gs k) es (stack-below w2 (with_blocks w2.arenas d) limit es below stack2) marks own.it at
-          applies.it.is_pred applies.it.is_predicate applies.it.is_function many long own.within holds;
+          applies.it.is_pred applies.it.is_predicate applies.it.is_function applies.it.not_built many long own.within holds;
       step = λ now end ends.
           subst (StandsAfter end now)
           (sym (ap (λ h. goal_step view w.loaded.preds h gs e w.store.now.state k es) applies.goal_is
-          ∙ apply-comes-to view w.loaded.preds pred.name args into pred gs e w.store.now.state k es
+          ∙ apply-comes-to view w.loaded.preds pred.name args into pred gs e w.store.now.state k es (ap (is_function pred.name) (count ∙ applies.it.arity) ∙ applies.it.not_built)
           (ap (λ m. find_pred true pred.name m w.loaded.preds) (count ∙ applies.it.arity) ∙ found-by-number true w.loaded.preds q pred stands.entries.code.apart applies.it.is_pred applies.it.is_function)))
           (stands-called end now pred.quiet _
           (subst (λ r. Stands end now (try_rules called pred.clauses (back_to [] r []) (strict (value_level (comp pred.name all.trees) into) (back_to all.slots r (behind gs k)) ∷ es))) evaluates.writes.state
@@ -230,7 +222,7 @@ apply-form w q operands into predicate view g gs e k es applies code within =
     let count : tree_count all.trees ≡ predicate.arity = all-count T operands predicate.arity e w.store.now.state within in (
       next,
       ap (λ h. goal_step view w.loaded.preds h gs e w.store.now.state k es) applies.goal_is
-          ∙ apply-comes-to view w.loaded.preds applies.it.pred.name args into applies.it.pred gs e w.store.now.state k es
+          ∙ apply-comes-to view w.loaded.preds applies.it.pred.name args into applies.it.pred gs e w.store.now.state k es (ap (is_function applies.it.pred.name) (count ∙ applies.it.arity) ∙ applies.it.not_built)
           (ap (λ m. find_pred true applies.it.pred.name m w.loaded.preds) (count ∙ applies.it.arity) ∙ found-by-number true w.loaded.preds q applies.it.pred code.apart applies.it.is_pred applies.it.is_function)
           ∙ ap (λ b. call_step b next) (sym applies.it.quiet),
     )

@@ -6,11 +6,13 @@ use Rattle.pi_terms.specs.Places.{Places, held}
 use Rattle.pi_states.specs.State.{State, IsState, bindings}
 use Rattle.pi_meaning.specs.View.{View}
 use Rattle.pi_states.specs.Unify.{unified}
-use Rattle.pi_traces.specs.Trace.{alt, then}
-use Rattle.pi_meaning.specs.Settle.{settled}
 use Rattle.pi_effects.specs.Effect.{succeeds_in}
 use Rattle.pi_effects.specs.Exception.{thrown}
-use Rattle.pi_meaning.specs.Builtin.{settled_effect, effect}
+use Rattle.pi_effects.specs.Rows.{done_by}
+use Rattle.pi_effects.specs.Comparing.{comparing_tests}
+use Rattle.pi_effects.specs.Kinds.{kind_tests}
+use Rattle.pi_effects.specs.Texts.{writing_predicates}
+use Rattle.pi_effects.specs.BuiltIns.{tests, other_predicates, built_in_predicate}
 use Rattle.pi_states.specs.Evaluation.{Evaluated, slot_term, evaluated, evaluated_all}
 use Rattle.pi_core.specs.CoreTree.{PredTree}
 use Rattle.pi_core.specs.GoalTree.{GoalTree, truth, fail, tick, call, apply, seq, alternatives, if_else, not, once, collect, count, catch, GoalTrees}
@@ -20,7 +22,7 @@ use Rattle.pi_states.proofs.KeepsLemmas.{new-keeps}
 use Rattle.pi_states.specs.Value.{value}
 use Rattle.pi_stands.specs.Makes.{raised_for}
 use Rattle.pi_machine.specs.Configuration.{Frame, Entry, Now, going, failed, raising, config}
-use Rattle.pi_machine.specs.Step.{silently, after_effect, goal_step}
+use Rattle.pi_machine.specs.Step.{silently, done_now, goal_step}
 
 pub apply-of : (g : GoalTree) (name : List ℕ) (ts : List Tree) (into : ℕ) → GoalKind.Apply name ts into ≡ kind_of g → g ≡ apply name ts into
 unfolding kind_of
@@ -97,26 +99,24 @@ abbrev pub after_equal : Option State → GoalTrees → Places → List Frame �
 after_equal None gs e k = failed
 after_equal (Some r) gs e k = going gs e r k
 
-after-one : (v : View) (o : Option State) (s : State) (gs : GoalTrees) (e : Places) (k : List Frame) →
-    after_effect (settled_effect v s (succeeds_in o)) (λ r. going gs e r k) ≡ after_equal o gs e k
-unfolding after_effect then settled alt
-after-one v None s gs e k = refl
-after-one v (Some r) s gs e k = refl
+after-one : (v : View) (o : Option State) (gs : GoalTrees) (e : Places) (k : List Frame) → done_now v (succeeds_in o) gs e k ≡ after_equal o gs e k
+after-one v None gs e k = refl
+after-one v (Some r) gs e k = refl
 
 pub equal-comes-to : (v : View) (preds : List PredTree) (l r : Tree) (gs : GoalTrees) (e : Places) (s : State) (k : List Frame) (es : List Entry) →
     let x : Evaluated = evaluated l e s in
     let y : Evaluated = evaluated r x.slots x.state in
     goal_step v preds (call (codes "=") (l ∷ r ∷ [])) gs e s k es ≡ silently (config (after_equal (unified y.state x.tree y.tree) gs y.slots k) es)
-unfolding goal_step evaluated effect
+unfolding goal_step evaluated built_in_predicate tests comparing_tests kind_tests writing_predicates other_predicates done_by
 equal-comes-to v preds l r gs e s k es =
     let x : Evaluated = evaluated l e s in
     let y : Evaluated = evaluated r x.slots x.state in
-    ap (λ n. silently (config n es)) (after-one v (unified y.state x.tree y.tree) y.state gs y.slots k)
+    ap (λ n. silently (config n es)) (after-one v (unified y.state x.tree y.tree) gs y.slots k)
 
 -- ---- an exception
 
 pub throw-comes-to : (v : View) (preds : List PredTree) (t : Tree) (gs : GoalTrees) (e : Places) (s : State) (k : List Frame) (es : List Entry) →
     let x : Evaluated = evaluated t e s in
     goal_step v preds (call (codes "throw") (t ∷ [])) gs e s k es ≡ silently (config (raising (raised_for (value (bindings x.state) x.tree))) es)
-unfolding goal_step evaluated effect thrown after_effect then
+unfolding goal_step evaluated built_in_predicate tests comparing_tests kind_tests writing_predicates other_predicates done_by thrown
 throw-comes-to v preds t gs e s k es = refl

@@ -7,7 +7,7 @@ use Rattle.pi_terms.specs.Places.{Places}
 use Rattle.pi_states.specs.Store.{StoreView}
 use Rattle.pi_states.specs.State.{State, IsState}
 use Rattle.pi_meaning.specs.View.{View}
-use Rattle.pi_effects.specs.Builtin.{is_built_in}
+use Rattle.pi_effects.specs.BuiltIns.{is_predicate}
 use Rattle.pi_core.specs.CoreTree.{find_pred, PredTree, pred_tree}
 use Rattle.pi_states.specs.Evaluation.{evaluated, EvaluatedAll, evaluated_all}
 use Rattle.pi_core.specs.GoalTree.{GoalTree, GoalTrees, call, goal, nodes}
@@ -21,6 +21,7 @@ use Rattle.pi_arenas.specs.declared.run.Now.{Now}
 use Rattle.pi_arenas.specs.Blocks.{BlocksView, KeepsBlocks}
 use Rattle.pi_arenas.specs.Arenas.{ArenasView}
 use Rattle.pi_arenas.specs.Frames.{PushesBehind}
+use Rattle.pi_code.specs.Laid.{IsNotBuiltIn}
 use Rattle.pi_code.specs.Code.{Tables, preds_of, arguments, node_kind, operand_tree}
 use Rattle.pi_machine.specs.Configuration.{Frame, Called, Config, behind, returning, Entry as EntryData}
 use Rattle.pi_machine.specs.Step.{call_step, try_rules, goal_step, back_to}
@@ -50,7 +51,7 @@ unfolding tree_count
 trees-count [] = refl
 trees-count (t ∷ ts) = ap suc (trees-count ts)
 
-evaluated-count : (ts : Trees) (e : Places) (s : State) → tree_count (evaluated_all ts e s).trees ≡ tree_count ts
+pub evaluated-count : (ts : Trees) (e : Places) (s : State) → tree_count (evaluated_all ts e s).trees ≡ tree_count ts
 unfolding tree_count evaluated
 evaluated-count no_trees e s = refl
 evaluated-count (tree t ts) e s = ap suc (evaluated-count ts (evaluated t e s).slots (evaluated t e s).state)
@@ -65,7 +66,7 @@ pub record Numbered {M : Type 0} (w : World M) (function : Bool) (q : ℕ) (pred
   pub is_pred : slice_get w.loaded.preds q ≡ Some pred
   pub is_predicate : slice_get w.loaded.code.predicates.items q ≡ Some predicate
   pub is_function : pred.function ≡ function
-  pub not_built : is_built_in function pred.name pred.arity ≡ false
+  pub not_built : IsNotBuiltIn function pred.name pred.arity
   pub arity : predicate.arity ≡ pred.arity
   pub quiet : predicate.is_quiet ≡ pred.quiet
   pub name : slice_index_or (tables_in w.loaded).called q [] ≡ pred.name
@@ -183,7 +184,7 @@ call-runs w v a fs c d rs p s q operands n predicate view g gs e k es calls at s
     room-of a.blocks c in_it.block in_it.at.leaves s.is_last in_it.at.own p.base (behind gs k) in_it.base (omega (arith, in_it.base, in_it.slots.within)) (kept-within (with_new_frames w1 fs) es stack2) last in_it.at.own_leaves gives in
     let caller : Caller (with_new_frames w1 fs) in_it.block in_it.at.leaves n all.slots (behind gs k) es =
     record { stands = stack2; slots = in_it.slots; frames = in_it.at.frames; given = in_it.at.own_leaves.is_given refl; agrees = in_it.agrees } in
-    let none : is_built_in false calls.it.pred.name (tree_count all.trees) ≡ false = ap (is_built_in false calls.it.pred.name) (count ∙ calls.it.arity) ∙ calls.it.not_built in
+    let none : is_predicate calls.it.pred.name (tree_count all.trees) ≡ false = ap (is_predicate calls.it.pred.name) (count ∙ calls.it.arity) ∙ calls.it.not_built in
     record {
       pred = calls.it.pred;
       called = called;
@@ -210,7 +211,7 @@ call-form w q operands predicate view g gs e k es calls code within =
     let count : tree_count all.trees ≡ predicate.arity = all-count T operands predicate.arity e w.store.now.state within in (
       next,
       ap (λ h. goal_step view w.loaded.preds h gs e w.store.now.state k es) calls.goal_is
-          ∙ call-comes-to view w.loaded.preds calls.it.pred.name args calls.it.pred gs e w.store.now.state k es (ap (is_built_in false calls.it.pred.name) (count ∙ calls.it.arity) ∙ calls.it.not_built)
+          ∙ call-comes-to view w.loaded.preds calls.it.pred.name args calls.it.pred gs e w.store.now.state k es (ap (is_predicate calls.it.pred.name) (count ∙ calls.it.arity) ∙ calls.it.not_built)
           (ap (λ m. find_pred false calls.it.pred.name m w.loaded.preds) (count ∙ calls.it.arity) ∙ found-by-number false w.loaded.preds q calls.it.pred code.apart calls.it.is_pred calls.it.is_function)
           ∙ ap (λ b. call_step b next) (sym calls.it.quiet),
     )

@@ -58,7 +58,7 @@ no-strict l c h t base frame slots from to place kind s b named (once_kind own o
 no-strict l c h t base frame slots from to place kind s b named (not_kind own one) = cc
 no-strict l c h t base frame slots from to place kind s b named (if_kind own one) = cc
 no-strict l c h t base frame slots from to place kind s b named (guard_kind call over one) = cc
-no-strict l c h t base frame slots from to place kind s b named (apply_kind own args fit one) = cc
+no-strict l c h t base frame slots from to place kind s b named (apply_kind own free args fit one) = cc
 no-strict l c h t base frame slots from to place kind s b named (collect_kind own order some) = cc
 no-strict l c h t base frame slots from to place kind s b named (count_kind own one) = cc
 

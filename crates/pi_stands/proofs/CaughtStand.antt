@@ -88,6 +88,8 @@ catch-node t (Node.Count into) g handler wanted h = absurd cc
 catch-node t (Node.Catch operand) g handler wanted h = (operand, refl, cc)
 catch-node t (Node.Unify left right) g handler wanted h = absurd cc
 catch-node t (Node.Throw ball) g handler wanted h = absurd cc
+catch-node t (Node.BuiltIn built name first arity) g handler wanted h = absurd cc
+catch-node t (Node.BuiltInValue built name first arity slot) g handler wanted h = absurd cc
 catch-node t (Node.Call p first) g handler wanted h = absurd cc
 catch-node t (Node.Apply p first into) g handler wanted h = absurd cc
 catch-node t (Node.Value value) g handler wanted h = absurd cc
@@ -141,7 +143,7 @@ caught-in w u c back collected from place at_child slots code s kind ball found 
 caught-in w u c back collected from place at_child slots code s kind ball found now y es it named is_code step finds tells follows_it (not_kind own one) = absurd cc
 caught-in w u c back collected from place at_child slots code s kind ball found now y es it named is_code step finds tells follows_it (if_kind own one) = absurd cc
 caught-in w u c back collected from place at_child slots code s kind ball found now y es it named is_code step finds tells follows_it (guard_kind call fits one) = absurd cc
-caught-in w u c back collected from place at_child slots code s kind ball found now y es it named is_code step finds tells follows_it (apply_kind own args fit one) = absurd cc
+caught-in w u c back collected from place at_child slots code s kind ball found now y es it named is_code step finds tells follows_it (apply_kind own free args fit one) = absurd cc
 caught-in w u c back collected from place at_child slots code s kind ball found now y es it named is_code step finds tells follows_it (collect_kind own order some) = absurd cc
 caught-in w u c back collected from place at_child slots code s kind ball found now y es it named is_code step finds tells follows_it (count_kind own one) = absurd cc
 caught-in w u c back collected from place at_child slots code s kind ball found now y es it named is_code step finds tells follows_it (catch_kind {place = at} {g = g} {handler = h} {wanted = wanted} {e = e} {k = k} own stays one) =

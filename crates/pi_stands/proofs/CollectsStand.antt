@@ -59,6 +59,8 @@ collect-node t (Node.Count q) g v i h = absurd cc
 collect-node t (Node.Catch operand) g v i h = absurd cc
 collect-node t (Node.Unify left right) g v i h = absurd cc
 collect-node t (Node.Throw ball) g v i h = absurd cc
+collect-node t (Node.BuiltIn built name first arity) g v i h = absurd cc
+collect-node t (Node.BuiltInValue built name first arity slot) g v i h = absurd cc
 collect-node t (Node.Call p first) g v i h = absurd cc
 collect-node t (Node.Apply p first q) g v i h = absurd cc
 collect-node t (Node.Value u) g v i h = absurd cc
@@ -83,7 +85,7 @@ collects-at l c h t base frame slots from place first kind s b named (once_kind 
 collects-at l c h t base frame slots from place first kind s b named (not_kind own one) = absurd cc
 collects-at l c h t base frame slots from place first kind s b named (if_kind own one) = absurd cc
 collects-at l c h t base frame slots from place first kind s b named (guard_kind call over one) = absurd cc
-collects-at l c h t base frame slots from place first kind s b named (apply_kind own args fit one) = absurd cc
+collects-at l c h t base frame slots from place first kind s b named (apply_kind own free args fit one) = absurd cc
 collects-at l c h t base frame slots from place first kind s b named (collect_kind {place = at} {value = value} {into = into} {g = g} {e = e} {k = k} own order some) =
     let same : at ≡ place = cc in
     let starts : from ≡ first = cc in (
@@ -111,7 +113,7 @@ waits-more l c h t base frame slots from place first kind s b x value into got n
 waits-more l c h t base frame slots from place first kind s b x value into got named is (not_kind own one) = absurd cc
 waits-more l c h t base frame slots from place first kind s b x value into got named is (if_kind own one) = absurd cc
 waits-more l c h t base frame slots from place first kind s b x value into got named is (guard_kind call over one) = absurd cc
-waits-more l c h t base frame slots from place first kind s b x value into got named is (apply_kind own args fit one) = absurd cc
+waits-more l c h t base frame slots from place first kind s b x value into got named is (apply_kind own free args fit one) = absurd cc
 waits-more l c h t base frame slots from place first kind s b x value into got named is (collect_kind {place = at} {value = v} {into = i} {g = g} {e = e} {k = k} own order some) =
     let same_value : v ≡ value = cc in
     let same_into : i ≡ into = cc in

@@ -46,6 +46,8 @@ count-node t (Node.Count q) g into h = ap Node.Count cc
 count-node t (Node.Catch operand) g into h = absurd cc
 count-node t (Node.Unify left right) g into h = absurd cc
 count-node t (Node.Throw ball) g into h = absurd cc
+count-node t (Node.BuiltIn built name first many) g into h = absurd cc
+count-node t (Node.BuiltInValue built name first many q) g into h = absurd cc
 count-node t (Node.Call p first) g into h = absurd cc
 count-node t (Node.Apply p first q) g into h = absurd cc
 count-node t (Node.Value value) g into h = absurd cc
@@ -66,7 +68,7 @@ counts-at w back collected from to place n slots kind s b named (once_kind own o
 counts-at w back collected from to place n slots kind s b named (not_kind own one) = absurd cc
 counts-at w back collected from to place n slots kind s b named (if_kind own one) = absurd cc
 counts-at w back collected from to place n slots kind s b named (guard_kind call over one) = absurd cc
-counts-at w back collected from to place n slots kind s b named (apply_kind own args fit one) = absurd cc
+counts-at w back collected from to place n slots kind s b named (apply_kind own free args fit one) = absurd cc
 counts-at w back collected from to place n slots kind s b named (collect_kind own order some) = absurd cc
 counts-at w back collected from to place n slots kind s b named (count_kind {place = at} {into = into} {n = m} {g = g} {e = e} {k = k} own one) =
     let same : at ≡ place = cc in

@@ -59,7 +59,7 @@ counts-more l c h t base frame slots from to place n kind s b named (once_kind o
 counts-more l c h t base frame slots from to place n kind s b named (not_kind own one) = absurd cc
 counts-more l c h t base frame slots from to place n kind s b named (if_kind own one) = absurd cc
 counts-more l c h t base frame slots from to place n kind s b named (guard_kind call over one) = absurd cc
-counts-more l c h t base frame slots from to place n kind s b named (apply_kind own args fit one) = absurd cc
+counts-more l c h t base frame slots from to place n kind s b named (apply_kind own free args fit one) = absurd cc
 counts-more l c h t base frame slots from to place n kind s b named (collect_kind own order some) = absurd cc
 counts-more l c h t base frame slots from to place n kind s b named (count_kind {place = at} {into = into} {n = m} {g = g} {e = e} {k = k} own one) =
     let same : at ≡ place = cc in

@@ -143,7 +143,7 @@ passes w back collected from h t base frame slots kind y es it passed (once_kind
 passes w back collected from h t base frame slots kind y es it passed (not_kind own one) = absurd passed
 passes w back collected from h t base frame slots kind y es it passed (if_kind own one) = absurd passed
 passes w back collected from h t base frame slots kind y es it passed (guard_kind call fits one) = absurd passed
-passes w back collected from h t base frame slots kind y es it passed (apply_kind own args fit one) = absurd passed
+passes w back collected from h t base frame slots kind y es it passed (apply_kind own free args fit one) = absurd passed
 passes w back collected from h t base frame slots kind y es it passed (collect_kind own order some) = absurd passed
 passes w back collected from h t base frame slots kind y es it passed (count_kind own one) = absurd passed
 passes w back collected from h t base frame slots kind y es it passed (catch_kind own stays one) = record { entries = popped-stands w back collected from y es it one; runs = failing_now }
@@ -166,7 +166,7 @@ not-ends-in w back collected from place kind s b es it named (not_kind {place = 
     record { entries = popped-stands w back collected from (strict s b) es it one; runs = going_now (behind-level w back.base at back.frame _ e k own it.agrees) }
 not-ends-in w back collected from place kind s b es it named (if_kind own one) = absurd cc
 not-ends-in w back collected from place kind s b es it named (guard_kind call fits one) = absurd cc
-not-ends-in w back collected from place kind s b es it named (apply_kind own args fit one) = absurd cc
+not-ends-in w back collected from place kind s b es it named (apply_kind own free args fit one) = absurd cc
 not-ends-in w back collected from place kind s b es it named (collect_kind own order some) = absurd cc
 not-ends-in w back collected from place kind s b es it named (count_kind own one) = absurd cc
 
@@ -195,7 +195,7 @@ if-ends-in w back collected from place at_child code kind s b es it named is_cod
           (third-runs w back.base at back.frame test g other e k own it.agrees));
     }
 if-ends-in w back collected from place at_child code kind s b es it named is_code finds (guard_kind call fits one) = absurd cc
-if-ends-in w back collected from place at_child code kind s b es it named is_code finds (apply_kind own args fit one) = absurd cc
+if-ends-in w back collected from place at_child code kind s b es it named is_code finds (apply_kind own free args fit one) = absurd cc
 if-ends-in w back collected from place at_child code kind s b es it named is_code finds (collect_kind own order some) = absurd cc
 if-ends-in w back collected from place at_child code kind s b es it named is_code finds (count_kind own one) = absurd cc
 

@@ -28,7 +28,7 @@ branches-are l c h t base frame slots from to place n kind y named (once_kind ow
 branches-are l c h t base frame slots from to place n kind y named (not_kind own one) = absurd cc
 branches-are l c h t base frame slots from to place n kind y named (if_kind own one) = absurd cc
 branches-are l c h t base frame slots from to place n kind y named (guard_kind call fits one) = absurd cc
-branches-are l c h t base frame slots from to place n kind y named (apply_kind own args fit one) = absurd cc
+branches-are l c h t base frame slots from to place n kind y named (apply_kind own free args fit one) = absurd cc
 branches-are l c h t base frame slots from to place n kind y named (collect_kind own order some) = absurd cc
 branches-are l c h t base frame slots from to place n kind y named (count_kind own one) = absurd cc
 branches-are l c h t base frame slots from to place n kind y named (catch_kind own stays one) = absurd cc
@@ -52,7 +52,7 @@ strict-is l c h t base frame slots from to kind s y named (once_kind own one) = 
 strict-is l c h t base frame slots from to kind s y named (not_kind own one) = (_, _, refl)
 strict-is l c h t base frame slots from to kind s y named (if_kind own one) = (_, _, refl)
 strict-is l c h t base frame slots from to kind s y named (guard_kind call fits one) = (_, _, refl)
-strict-is l c h t base frame slots from to kind s y named (apply_kind own args fit one) = (_, _, refl)
+strict-is l c h t base frame slots from to kind s y named (apply_kind own free args fit one) = (_, _, refl)
 strict-is l c h t base frame slots from to kind s y named (collect_kind own order some) = (_, _, refl)
 strict-is l c h t base frame slots from to kind s y named (count_kind own one) = (_, _, refl)
 strict-is l c h t base frame slots from to kind s y named (catch_kind own stays one) = absurd cc

@@ -1,6 +1,6 @@
 -- Goals that are run, as parts of a run: by the Ticks that they count.
 use Rattle.std.proofs.Common.{◌≡◌, ◌≢◌, ℕ, ◌+◌, ◌≤◌, ◌<◌, ◌^◌, Bool, true, false, List, [], ◌∷◌, Option, Some, None, length, refl, sym, ◌∙◌, ap, subst, arith}
-use Rattle.std.specs.Prelude.{slice_get, codes}
+use Rattle.std.specs.Prelude.{slice_get}
 use Rattle.pi_terms.specs.Tree.{Tree}
 use Rattle.pi_terms.specs.Places.{Places}
 use Rattle.pi_meaning.specs.View.{View}
@@ -19,7 +19,7 @@ use Rattle.pi_machine.specs.declared.happening.Budget.{Budget}
 use Rattle.pi_machine.specs.declared.happening.Mode.{Mode}
 use Rattle.pi_arenas.specs.declared.run.End.{End as RunEnd}
 use Rattle.pi_arenas.specs.declared.run.Now.{Now}
-use Rattle.pi_code.specs.Code.{Tables, node_kind, operand_tree}
+use Rattle.pi_code.specs.Code.{Tables, node_kind}
 use Rattle.pi_arenas.specs.Frames.{point_behind}
 use Rattle.pi_machine.specs.Configuration.{Frame, Config, config, going, Now as NowData, Entry as EntryData}
 use Rattle.pi_machine.specs.Step.{Outcome, silently, with_tick, quietly, call_step, goal_step, step}
@@ -28,8 +28,8 @@ use Rattle.pi_machine.specs.Built.{AreOfRules}
 use Rattle.pi_machine.specs.Leads.{Leads}
 use Rattle.pi_machine.specs.Next.{some_ticks}
 use Rattle.pi_stands.specs.Here.{Block, AreHere, none_here, value_here}
-use Rattle.pi_stands.specs.Stands.{IsNumberOf, HasNumber, IsCodeOf, tables_in, World, steps_of, NowIs, going_now, failing_now, raising_now, StackStands, Stands, StandsGoing, GoingIs}
-use Rattle.pi_stands.specs.Makes.{StandsAfter, RunsGoal}
+use Rattle.pi_stands.specs.Stands.{IsNumberOf, HasNumber, IsCodeOf, tables_in, World, steps_of, NowIs, going_now, telling_now, failing_now, raising_now, StackStands, Stands, StandsGoing, GoingIs}
+use Rattle.pi_stands.specs.Makes.{StandsAfter, RunsGoal, RunsGoalIn}
 use Rattle.pi_stands.specs.Goes.{counted, spent, TicksUnless, HasNone, IsAt, Goes, IsSpent, TicksOn, AtGoal, GoalGoes, IsSilent}
 use Rattle.pi_stands.proofs.FramesStand.{going-of, going-size}
 use Rattle.pi_stands.proofs.EqualStands.{kind-of-node, going-behind, node-readable}
@@ -37,8 +37,8 @@ use Rattle.pi_code.specs.declared.code.Predicate.{Predicate}
 use Rattle.pi_machine.specs.StepLaws.{GoesOnGood}
 use Rattle.pi_stands.proofs.RulesTried.{IsFound}
 use Rattle.pi_stands.proofs.CallRuns.{Calls, calls, call-form}
+use Rattle.pi_stands.proofs.SilentSteps.{silent-step}
 use Rattle.pi_stands.proofs.ApplyRuns.{Applies, applies, apply-form}
-use Rattle.pi_stands.proofs.CallLemmas.{equal-comes-to, throw-comes-to}
 use Rattle.pi_machine.proofs.LeadLemmas.{leads-none, leads-silent, step-silent, step-ticks, step-enters, step-at_tick, good-silent, good-tick}
 use Rattle.pi_machine.proofs.GoodSteps.{step-good}
 
@@ -46,6 +46,7 @@ use Rattle.pi_machine.proofs.GoodSteps.{step-good}
 
 ended-not : {M : Type 0} (w : World M) (now : Now) (e : RunEnd) (x : NowData) (X : Type 0) → now ≡ Now.Ended e → NowIs w now x → X
 ended-not w now e x X same (going_now is) = absurd cc
+ended-not w now e x X same (telling_now is) = absurd cc
 ended-not w now e x X same failing_now = absurd cc
 ended-not w now e x X same raising_now = absurd cc
 
@@ -54,6 +55,7 @@ no-end w e x X is = ended-not w (Now.Ended e) e x X refl is
 
 pub is-at : {M : Type 0} (v : View) (names : List NameSlot) (w : World M) (now : Now) (c : Config) → Stands w now c → IsAt v names w now c
 is-at v names w (Now.Going p) c stands = stands
+is-at v names w (Now.Telling told) c stands = stands
 is-at v names w Now.Failing c stands = stands
 is-at v names w (Now.Raising ball) c stands = stands
 is-at v names w (Now.Ended e) c stands = no-end w e c.now (IsAt v names w (Now.Ended e) c) stands.runs
@@ -67,6 +69,7 @@ none-counted (Mode.Inner rest) old new same = omega (arith, ap (λ b. b.work.goa
 -- a run that stands for a configuration has not ended
 pub unspent : {M : Type 0} (w : World M) (mode : Mode) (b : Budget) (now : Now) (c : Config) → Stands w now c → IsSpent mode b now
 unspent w mode b (Now.Going p) c stands = tt
+unspent w mode b (Now.Telling told) c stands = tt
 unspent w mode b Now.Failing c stands = tt
 unspent w mode b (Now.Raising ball) c stands = tt
 unspent w mode b (Now.Ended e) c stands = no-end w e c.now (IsSpent mode b (Now.Ended e)) stands.runs
@@ -117,89 +120,6 @@ silent-goes v names after now c d rules good is at =
       is = at;
     }
 
--- which goals are silent, whatever their node is
-no-silent : (t : Tables) (n : Node) (k : GoalKind) (X : Type 0) → IsSilent n → node_kind t n ≡ k → (k ≡ GoalKind.Tick) → X
-unfolding node_kind
-no-silent t Node.True k X silent kind is = absurd cc
-no-silent t Node.Fail k X silent kind is = absurd cc
-no-silent t Node.Tick k X silent kind is = absurd silent
-no-silent t (Node.Seq n) k X silent kind is = absurd cc
-no-silent t (Node.Alt n) k X silent kind is = absurd cc
-no-silent t Node.If k X silent kind is = absurd cc
-no-silent t Node.Not k X silent kind is = absurd cc
-no-silent t Node.Once k X silent kind is = absurd cc
-no-silent t (Node.Collect value into) k X silent kind is = absurd cc
-no-silent t (Node.Count into) k X silent kind is = absurd cc
-no-silent t (Node.Catch ball) k X silent kind is = absurd cc
-no-silent t (Node.Unify left right) k X silent kind is = absurd cc
-no-silent t (Node.Throw ball) k X silent kind is = absurd cc
-no-silent t (Node.Call p first) k X silent kind is = absurd silent
-no-silent t (Node.Apply p first into) k X silent kind is = absurd silent
-no-silent t (Node.Value operand) k X silent kind is = absurd silent
-
-no-apply : (t : Tables) (n : Node) (k : GoalKind) (name : List ℕ) (args : List Tree) (into : ℕ) (X : Type 0) → IsSilent n → node_kind t n ≡ k → (k ≡ GoalKind.Apply name args into) → X
-unfolding node_kind
-no-apply t Node.True k name args into X silent kind is = absurd cc
-no-apply t Node.Fail k name args into X silent kind is = absurd cc
-no-apply t Node.Tick k name args into X silent kind is = absurd silent
-no-apply t (Node.Seq n) k name args into X silent kind is = absurd cc
-no-apply t (Node.Alt n) k name args into X silent kind is = absurd cc
-no-apply t Node.If k name args into X silent kind is = absurd cc
-no-apply t Node.Not k name args into X silent kind is = absurd cc
-no-apply t Node.Once k name args into X silent kind is = absurd cc
-no-apply t (Node.Collect value x) k name args into X silent kind is = absurd cc
-no-apply t (Node.Count x) k name args into X silent kind is = absurd cc
-no-apply t (Node.Catch ball) k name args into X silent kind is = absurd cc
-no-apply t (Node.Unify left right) k name args into X silent kind is = absurd cc
-no-apply t (Node.Throw ball) k name args into X silent kind is = absurd cc
-no-apply t (Node.Call p first) k name args into X silent kind is = absurd silent
-no-apply t (Node.Apply p first x) k name args into X silent kind is = absurd silent
-no-apply t (Node.Value operand) k name args into X silent kind is = absurd silent
-
--- a step comes to a configuration without a Tick
-abbrev StepsSilently : View → List PredTree → GoalTree → GoalTrees → Places → State → List Frame → List EntryData → Type 0
-StepsSilently v preds g gs e s k es = (d : Config) × (goal_step v preds g gs e s k es ≡ silently d)
-
-call-silent : (v : View) (preds : List PredTree) (t : Tables) (n : Node) (name : List ℕ) (args : List Tree) (gs : GoalTrees) (e : Places) (s : State) (k : List Frame) (es : List EntryData) → IsSilent n → node_kind t n ≡ GoalKind.Call name args →
-    StepsSilently v preds (call name args) gs e s k es
-unfolding node_kind
-call-silent v preds t Node.True name args gs e s k es silent kind = absurd cc
-call-silent v preds t Node.Fail name args gs e s k es silent kind = absurd cc
-call-silent v preds t Node.Tick name args gs e s k es silent kind = absurd silent
-call-silent v preds t (Node.Seq n) name args gs e s k es silent kind = absurd cc
-call-silent v preds t (Node.Alt n) name args gs e s k es silent kind = absurd cc
-call-silent v preds t Node.If name args gs e s k es silent kind = absurd cc
-call-silent v preds t Node.Not name args gs e s k es silent kind = absurd cc
-call-silent v preds t Node.Once name args gs e s k es silent kind = absurd cc
-call-silent v preds t (Node.Collect value into) name args gs e s k es silent kind = absurd cc
-call-silent v preds t (Node.Count into) name args gs e s k es silent kind = absurd cc
-call-silent v preds t (Node.Catch ball) name args gs e s k es silent kind = absurd cc
-call-silent v preds t (Node.Unify left right) name args gs e s k es silent kind =
-    let it : call (codes "=") (operand_tree t left ∷ operand_tree t right ∷ []) ≡ call name args = cc in
-    (_, sym (ap (λ g. goal_step v preds g gs e s k es) it) ∙ equal-comes-to v preds (operand_tree t left) (operand_tree t right) gs e s k es)
-call-silent v preds t (Node.Throw ball) name args gs e s k es silent kind =
-    let it : call (codes "throw") (operand_tree t ball ∷ []) ≡ call name args = cc in
-    (_, sym (ap (λ g. goal_step v preds g gs e s k es) it) ∙ throw-comes-to v preds (operand_tree t ball) gs e s k es)
-call-silent v preds t (Node.Call p first) name args gs e s k es silent kind = absurd silent
-call-silent v preds t (Node.Apply p first x) name args gs e s k es silent kind = absurd silent
-call-silent v preds t (Node.Value operand) name args gs e s k es silent kind = absurd silent
-
-pub silent-step : (v : View) (preds : List PredTree) (t : Tables) (n : Node) (g : GoalTree) (gs : GoalTrees) (e : Places) (s : State) (k : List Frame) (es : List EntryData) → IsSilent n → node_kind t n ≡ kind_of g → StepsSilently v preds g gs e s k es
-unfolding kind_of goal_step
-silent-step v preds t n truth gs e s k es silent kind = (_, refl)
-silent-step v preds t n fail gs e s k es silent kind = (_, refl)
-silent-step v preds t n tick gs e s k es silent kind = no-silent t n GoalKind.Tick _ silent kind refl
-silent-step v preds t n (call name args) gs e s k es silent kind = call-silent v preds t n name args gs e s k es silent kind
-silent-step v preds t n (apply name args into) gs e s k es silent kind = no-apply t n (GoalKind.Apply name args into) name args into _ silent kind refl
-silent-step v preds t n (seq hs) gs e s k es silent kind = (_, refl)
-silent-step v preds t n (alternatives hs) gs e s k es silent kind = (_, refl)
-silent-step v preds t n (if_else test g other) gs e s k es silent kind = (_, refl)
-silent-step v preds t n (not g) gs e s k es silent kind = (_, refl)
-silent-step v preds t n (once g) gs e s k es silent kind = (_, refl)
-silent-step v preds t n (collect g value into) gs e s k es silent kind = (_, refl)
-silent-step v preds t n (count g into) gs e s k es silent kind = (_, refl)
-silent-step v preds t n (catch g ball handler) gs e s k es silent kind = (_, refl)
-
 stands-silent : {M : Type 0} (w : World M) (now : Now) (o : Outcome) (d : Config) → o ≡ silently d → StandsAfter w now o → Stands w now d
 stands-silent w now o d same stands = subst (StandsAfter w now) same stands
 
@@ -207,14 +127,15 @@ not-silent : (n : Node) (o : Operand) → IsSilent n → n ≢ Node.Value o
 not-silent n o silent same = subst IsSilent same silent
 
 -- a silent goal is run
-pub runs-silent : {M : Type 0} (before after : World M) (p : Point) (s : Step) (now : Now) (mode : Mode) (b : Budget) → before.loaded ≡ after.loaded → IsSilent s.node → RunsGoal before after p s now → GoalGoes mode b b before after p s now
+pub runs-silent : {M : Type 0} (before after : World M) (p : Point) (s : Step) (now : Now) (mode : Mode) (b : Budget) → before.loaded ≡ after.loaded → IsSilent s.node → RunsGoalIn mode before after p s now → GoalGoes mode b b before after p s now
 unfolding step
-runs-silent before after p s now mode b same silent runs v names c is =
+runs-silent before after p s now mode b same silent runs v fits names c is =
     let it : GoalThere before p c = goal-there before p s c is (λ o. not-silent s.node o silent) in
     let preds : List PredTree = before.loaded.preds in
-    let x = silent-step v preds (tables_in before.loaded) s.node it.g it.gs it.e before.store.now.state it.k c.stack silent
-    (kind-of-node before p s it.g it.gs it.e it.k s.node is.at (going-of before p _ it.e before.store.now.state it.k it.stands.runs) refl) in
-    let stands : Stands after now x.0 = stands-silent after now _ x.0 x.1 (runs v it.g it.gs it.e it.k c.stack is.at it.stands) in
+    let going_it : GoingIs before p (goal it.g it.gs) it.e it.k = going-of before p _ it.e before.store.now.state it.k it.stands.runs in
+    let x = silent-step v preds (tables_in before.loaded) going_it.block s.node it.g it.gs it.e before.store.now.state it.k c.stack silent (node-readable before p s it.g it.gs it.e it.k s.node is.at going_it refl)
+    (kind-of-node before p s it.g it.gs it.e it.k s.node is.at going_it refl) in
+    let stands : Stands after now x.0 = stands-silent after now _ x.0 x.1 (runs v fits it.g it.gs it.e it.k c.stack is.at it.stands) in
     silent-ticks v names mode b after now c
     (silent-goes v names after now c x.0 (subst (λ l. AreOfRules l.preds) same is.rules) is.good
     (ap (λ l. step v l.preds names c) (sym same) ∙ ap (step v preds names) it.is ∙ x.1) (is-at v names after now x.0 stands))
@@ -269,7 +190,7 @@ tick-form w p s c v names is node it =
     (tick-of it.g (kind-of-node w p s it.g it.gs it.e it.k Node.Tick is.at (going-of w p _ it.e w.store.now.state it.k it.stands.runs) node))
 
 pub tick-passes : {M : Type 0} (w : World M) (p q : Point) (s : Step) (mode : Mode) (old new : Budget) → s.node ≡ Node.Tick → counted mode old new ≡ 1 → (p.place + s.size < 2 ^ 32 → q ≡ point_behind p s) → GoalGoes mode old new w w p s (Now.Going q)
-tick-passes w p q s mode old new node one next v names c is =
+tick-passes w p q s mode old new node one next v fits names c is =
     let it : GoalThere w p c = goal-there w p s c is (λ o. no-value s.node Node.Tick o node (λ h. absurd cc)) in
     let runs : GoingIs w p (goal it.g it.gs) it.e it.k = going-of w p _ it.e w.store.now.state it.k it.stands.runs in
     let size : (s.size ≡ nodes it.g) × (p.place + nodes it.g < 2 ^ 32) = going-size w p s it.g it.gs it.e it.k is.at runs in
@@ -282,7 +203,7 @@ tick-passes w p q s mode old new node one next v names c is =
     }
 
 pub tick-refused : {M : Type 0} (w : World M) (p : Point) (s : Step) (mode : Mode) (old new : Budget) (now : Now) → s.node ≡ Node.Tick → new ≡ old → now ≡ Now.Ended (spent mode) → HasNone mode old → GoalGoes mode old new w w p s now
-tick-refused w p s mode old new now node same ended none v names c is =
+tick-refused w p s mode old new now node same ended none v fits names c is =
     let it : GoalThere w p c = goal-there w p s c is (λ o. no-value s.node Node.Tick o node (λ h. absurd cc)) in
     record {
       goes = subst (λ k. Goes v names (some_ticks k) w now c) (sym (none-counted mode old new same))

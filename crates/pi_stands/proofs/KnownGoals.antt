@@ -1,13 +1,13 @@
 -- What the goals of a program call whose calls are defined is there.
-use Rattle.std.proofs.Common.{◌≡◌, ◌⊎◌, inl, inr, ℕ, suc, Bool, true, false, ◌==◌, ◌&&◌, ◌||◌, cond, List, [], ◌∷◌, Some, IsSome, length, map, refl}
-use Rattle.std.specs.Prelude.{Contains, IsTrue, codes}
+use Rattle.std.proofs.Common.{◌≡◌, ◌⊎◌, inl, inr, ℕ, suc, Bool, true, false, ◌==◌, ◌&&◌, cond, List, [], ◌∷◌, Some, IsSome, length, map, refl}
+use Rattle.std.specs.Prelude.{Contains, IsTrue}
 use Rattle.std.specs.Ordering.{is_eq}
 use Rattle.std.proofs.lemmas.Bool.Decides.{Decides-eqb}
 use Rattle.pi_terms.specs.Order.{name_order}
 use Rattle.pi_core.specs.GoalTree.{GoalTree, truth, fail, tick, call, apply, seq, alternatives, if_else, not, once, collect, count, catch, subgoals}
 use Rattle.pi_core.specs.GoalCells.{kind_of}
 use Rattle.pi_core.specs.CoreTree.{pred_tree, find_pred, is_pred}
-use Rattle.pi_effects.specs.Builtin.{is_built_in}
+use Rattle.pi_effects.specs.BuiltIns.{is_predicate, is_function}
 use Rattle.pi_meaning.specs.Defined.{CallsDefined}
 use Rattle.pi_core.specs.declared.core_program.CorePred.{CorePred}
 use Rattle.pi_states.proofs.MatchLemmas.{same_name}
@@ -26,10 +26,6 @@ found-later p ps function name k f =
 unless : (a b : Bool) → cond a false b ≡ true → (a ≡ false) × (b ≡ true)
 unless true b h = absurd cc
 unless false b h = (refl, h)
-
-either : (a b : Bool) → (a || b) ≡ true → (a ≡ true) ⊎ (b ≡ true)
-either true b h = inl refl
-either false b h = inr h
 
 named-first : (function : Bool) (name : List ℕ) (k : ℕ) (p : CorePred) → is_pred function name k (pred_tree p) ≡ true → (p.function ≡ function) × (p.name ≡ name) × (p.arity ≡ k)
 named-first true name k p h =
@@ -53,23 +49,16 @@ unfolding find_pred
 find-named [] function name k some = absurd cc
 find-named (p ∷ ps) function name k some = find-some (is_pred function name k (pred_tree p)) p ps function name k refl some (find-named ps function name k)
 
-throw-or-equal : (name : List ℕ) (k : ℕ) → IsNotBuiltIn name k → ((is_eq (name_order name (codes "throw")) && (k == 1)) ≡ true) ⊎ ((is_eq (name_order name (codes "=")) && (k == 2)) ≡ true) → ⊥
-throw-or-equal name k isnt (inl a) =
-    let b : (is_eq (name_order name (codes "throw")) ≡ true) × ((k == 1) ≡ true) = both (is_eq (name_order name (codes "throw"))) (k == 1) a in
-    isnt.1 (same_name name (codes "throw") b.0) ((Decides-eqb k 1).0 b.1)
-throw-or-equal name k isnt (inr a) =
-    let b : (is_eq (name_order name (codes "=")) ≡ true) × ((k == 2) ≡ true) = both (is_eq (name_order name (codes "="))) (k == 2) a in
-    isnt.0 (same_name name (codes "=") b.0) ((Decides-eqb k 2).0 b.1)
+not-both : (b : Bool) → b ≡ false → b ≡ true → ⊥
+not-both b isnt is = absurd cc
 
-pub built-in-not : (name : List ℕ) (k : ℕ) → IsNotBuiltIn name k → is_built_in false name k ≡ true → ⊥
-built-in-not name k isnt h = throw-or-equal name k isnt (either (is_eq (name_order name (codes "throw")) && (k == 1)) (is_eq (name_order name (codes "=")) && (k == 2)) h)
-
-known-call : (ps : List CorePred) (name : List ℕ) (k : ℕ) → IsSome (find_pred false name k (map pred_tree ps)) ⊎ IsTrue (is_built_in false name k) → IsUnnamed ps false name k → IsNotBuiltIn name k → ⊥
+known-call : (ps : List CorePred) (name : List ℕ) (k : ℕ) → IsSome (find_pred false name k (map pred_tree ps)) ⊎ IsTrue (is_predicate name k) → IsUnnamed ps false name k → IsNotBuiltIn false name k → ⊥
 known-call ps name k (inl some) none isnt = let f : Found ps false name k = find-named ps false name k some in none f.number f.is
-known-call ps name k (inr built) none isnt = built-in-not name k isnt built
+known-call ps name k (inr built) none isnt = not-both (is_predicate name k) isnt built
 
-known-function : (ps : List CorePred) (name : List ℕ) (k : ℕ) → IsSome (find_pred true name k (map pred_tree ps)) → IsUnnamed ps true name k → ⊥
-known-function ps name k some none = let f : Found ps true name k = find-named ps true name k some in none f.number f.is
+known-function : (ps : List CorePred) (name : List ℕ) (k : ℕ) → IsSome (find_pred true name k (map pred_tree ps)) ⊎ IsTrue (is_function name k) → IsUnnamed ps true name k → IsNotBuiltIn true name k → ⊥
+known-function ps name k (inl some) none isnt = let f : Found ps true name k = find-named ps true name k some in none f.number f.is
+known-function ps name k (inr built) none isnt = not-both (is_function name k) isnt built
 
 -- what a goal calls is there
 pub goal-known : (ps : List CorePred) (g h : GoalTree) → CallsDefined (map pred_tree ps) g → Contains (subgoals g) h → IsUnknown ps (kind_of h) → ⊥
@@ -78,7 +67,7 @@ goal-known ps g truth known at un = un
 goal-known ps g fail known at un = un
 goal-known ps g tick known at un = un
 goal-known ps g (call name args) known at un = known-call ps name (length args) (known.calls name args at) un.0 un.1
-goal-known ps g (apply name args slot) known at un = known-function ps name (length args) (known.functions name args slot at) un
+goal-known ps g (apply name args slot) known at un = known-function ps name (length args) (known.functions name args slot at) un.0 un.1
 goal-known ps g (seq gs) known at un = un
 goal-known ps g (alternatives gs) known at un = un
 goal-known ps g (if_else test then other) known at un = un

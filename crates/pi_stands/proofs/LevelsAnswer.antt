@@ -63,7 +63,7 @@ guard-makes w v b i from predicate number x back kind s d now es above below f s
       inside = subst (λ r. (z : Entry _) → entry_at (entries_of w) r.level ≡ Some z → z.back.base ≤ r.base) is_back
           (λ z found. level-begins w.loaded z (entry_at (entries_of w) x.back.level) x.back.base found (block-above (tables_in w.loaded) (steps_of w.loaded) (back_here w x) _ true x.back.frame k call.frames));
     }))
-guard-makes w v b i from predicate number x back kind s d now es above below f stands is_back at named is_kind stack long agrees holds takes (apply_kind own args fit one) = absurd cc
+guard-makes w v b i from predicate number x back kind s d now es above below f stands is_back at named is_kind stack long agrees holds takes (apply_kind own free args fit one) = absurd cc
 guard-makes w v b i from predicate number x back kind s d now es above below f stands is_back at named is_kind stack long agrees holds takes (collect_kind own order some) = absurd cc
 guard-makes w v b i from predicate number x back kind s d now es above below f stands is_back at named is_kind stack long agrees holds takes (count_kind own one) = absurd cc
 

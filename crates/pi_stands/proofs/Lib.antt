@@ -57,6 +57,8 @@ pub mod HeadsMatch
 pub mod HeadsTried
 pub mod CallMade
 pub mod CallRuns
+pub mod BuiltInStands
+pub mod SilentSteps
 pub mod ReadsHere
 pub mod ApplyRuns
 pub mod GoalsGo

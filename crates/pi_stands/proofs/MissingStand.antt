@@ -1,5 +1,5 @@
 -- A function call without a value: the exception that says so.
-use Rattle.std.proofs.Common.{◌≡◌, ℕ, zero, suc, ◌+◌, ◌≤◌, ◌<◌, List, [], ◌∷◌, ◌++◌, Option, Some, None, length, map, take, drop, get_or, refl, sym, ◌∙◌, ap, subst, arith}
+use Rattle.std.proofs.Common.{◌≡◌, ℕ, zero, suc, ◌+◌, ◌≤◌, ◌<◌, true, false, List, [], ◌∷◌, ◌++◌, Option, Some, None, length, map, take, drop, get_or, refl, sym, ◌∙◌, ap, subst, arith}
 use Rattle.std.specs.Prelude.{slice_get, slice_index_or}
 use Rattle.std.proofs.lemmas.List.{length-map, map-append, length-take-le, length-drop}
 use Rattle.std.proofs.lemmas.Option.{slice_get-get_or}
@@ -22,11 +22,13 @@ use Rattle.pi_code.specs.declared.code.Node.{Node}
 use Rattle.pi_code.specs.declared.code.Predicate.{Predicate}
 use Rattle.pi_code.specs.declared.code.Step.{Step}
 use Rattle.pi_arenas.specs.declared.run.Now.{Now}
-use Rattle.pi_code.specs.Code.{Tables, preds_of, arguments, node_kind, operand_tree}
+use Rattle.pi_effects.specs.BuiltIns.{is_function}
+use Rattle.pi_code.specs.Laid.{IsNotBuiltIn}
+use Rattle.pi_code.specs.Code.{Tables, preds_of, arguments, operand_trees, node_kind, operand_tree}
 use Rattle.pi_arenas.specs.Arenas.{ArenasView, DropsNewest}
 use Rattle.pi_machine.specs.Configuration.{Frame, Entry as EntryData, Strict, strict, value_level, Back as BackData, config, raising}
 use Rattle.pi_machine.specs.Step.{end_step}
-use Rattle.pi_stands.specs.Here.{block_end, Here, AreHeld, in_places, HoldsArguments, NodeIsReadable}
+use Rattle.pi_stands.specs.Here.{Block, block_end, Here, AreHeld, in_places, HoldsArguments, NodeIsReadable}
 use Rattle.pi_stands.specs.Stands.{World, Loaded, tables_in, steps_of, now_here, block_at, IsCodeOf, HasNumber, GoalStands, KindIs, once_kind, not_kind, if_kind, guard_kind, apply_kind, collect_kind, count_kind, StackStands, Stands, raising_now}
 use Rattle.pi_stands.specs.Makes.{unresolved_for}
 use Rattle.pi_stands.specs.Fails.{IsBack}
@@ -35,7 +37,7 @@ use Rattle.pi_stands.proofs.StandsLemmas.{moved, stack-moves}
 use Rattle.pi_stands.proofs.ProgramStands.{code-keeps}
 use Rattle.pi_stands.proofs.ArgumentsStand.{behind-first}
 use Rattle.pi_stands.proofs.BackStand.{back-kind, Popped, popped, popped-stands}
-use Rattle.pi_stands.proofs.CallRuns.{name-at}
+use Rattle.pi_stands.proofs.CallRuns.{name-at, args-count}
 use Rattle.pi_stands.proofs.WrittenGoals.{own-step, own-block}
 
 -- ---- the slots of a block
@@ -77,24 +79,31 @@ terms-of-held v (r ∷ rs) (tree t ts) held = (held.0, terms-of-held v rs ts hel
 
 -- ---- the call
 
-apply-node : (t : Tables) (node : Node) (name : List ℕ) (args : List Tree) (into : ℕ) → node_kind t node ≡ kind_of (apply name args into) → (p : ℕ) × (first : ℕ) × (node ≡ Node.Apply p first into) × (name ≡ slice_index_or t.called p []) × (args ≡ arguments t p first)
+apply-node : (t : Tables) (b : Block) (node : Node) (name : List ℕ) (args : List Tree) (into : ℕ) → NodeIsReadable t b node → IsNotBuiltIn true name (length args) → node_kind t node ≡ kind_of (apply name args into) → (p : ℕ) × (first : ℕ) × (node ≡ Node.Apply p first into) × (name ≡ slice_index_or t.called p []) × (args ≡ arguments t p first)
 unfolding node_kind kind_of
-apply-node t Node.True name args into h = absurd cc
-apply-node t Node.Fail name args into h = absurd cc
-apply-node t Node.Tick name args into h = absurd cc
-apply-node t (Node.Seq n) name args into h = absurd cc
-apply-node t (Node.Alt n) name args into h = absurd cc
-apply-node t Node.If name args into h = absurd cc
-apply-node t Node.Not name args into h = absurd cc
-apply-node t Node.Once name args into h = absurd cc
-apply-node t (Node.Collect q r) name args into h = absurd cc
-apply-node t (Node.Count q) name args into h = absurd cc
-apply-node t (Node.Catch operand) name args into h = absurd cc
-apply-node t (Node.Unify left right) name args into h = absurd cc
-apply-node t (Node.Throw ball) name args into h = absurd cc
-apply-node t (Node.Call p first) name args into h = absurd cc
-apply-node t (Node.Apply p first q) name args into h = (p, first, ap (Node.Apply p first) cc, cc, cc)
-apply-node t (Node.Value u) name args into h = absurd cc
+apply-node t b Node.True name args into reads free h = absurd cc
+apply-node t b Node.Fail name args into reads free h = absurd cc
+apply-node t b Node.Tick name args into reads free h = absurd cc
+apply-node t b (Node.Seq n) name args into reads free h = absurd cc
+apply-node t b (Node.Alt n) name args into reads free h = absurd cc
+apply-node t b Node.If name args into reads free h = absurd cc
+apply-node t b Node.Not name args into reads free h = absurd cc
+apply-node t b Node.Once name args into reads free h = absurd cc
+apply-node t b (Node.Collect q r) name args into reads free h = absurd cc
+apply-node t b (Node.Count q) name args into reads free h = absurd cc
+apply-node t b (Node.Catch operand) name args into reads free h = absurd cc
+apply-node t b (Node.Unify left right) name args into reads free h = absurd cc
+apply-node t b (Node.Throw ball) name args into reads free h = absurd cc
+apply-node t b (Node.Call p first) name args into reads free h = absurd cc
+apply-node t b (Node.Apply p first q) name args into reads free h = (p, first, ap (Node.Apply p first) cc, cc, cc)
+apply-node t b (Node.Value u) name args into reads free h = absurd cc
+apply-node t b (Node.BuiltIn built n first arity) name args into reads free h = absurd cc
+apply-node t b (Node.BuiltInValue built n first arity q) name args into reads free h =
+    let named : slice_index_or t.names n [] ≡ name = cc in
+    let these : operand_trees t first arity ≡ args = cc in
+    let many : arity ≡ length args = sym (args-count t first arity reads.0.0) ∙ ap length these in
+    let yes : true ≡ false = sym reads.1.known ∙ ap (λ x. is_function x arity) named ∙ ap (is_function name) many ∙ free in
+    absurd cc
 
 -- the level of the call
 pub record AppliesAt (l : Loaded) (h : Here) (t : State) (base caller place frame : ℕ) (s : Strict) (b : BackData) : Type 0 where
@@ -105,6 +114,7 @@ pub record AppliesAt (l : Loaded) (h : Here) (t : State) (base caller place fram
   pub places : Places
   pub frames : List Frame
   pub own : GoalStands l h caller place frame (apply name args into) places frames
+  pub free : IsNotBuiltIn true name (length args)
   pub holds : HoldsArguments h.terms h.slots base (length args) called
   pub below : block_end (block_at l place caller) ≤ base
   pub level : s ≡ value_level (comp name called) into
@@ -116,7 +126,7 @@ applies-at l c h t base frame slots from to place caller kind s b named (once_ki
 applies-at l c h t base frame slots from to place caller kind s b named (not_kind own one) = absurd cc
 applies-at l c h t base frame slots from to place caller kind s b named (if_kind own one) = absurd cc
 applies-at l c h t base frame slots from to place caller kind s b named (guard_kind call over one) = absurd cc
-applies-at l c h t base frame slots from to place caller kind s b named (apply_kind {place = at} {caller = outer} {into = into} {name = name} {args = args} {ts = ts} {e = e} {k = k} own holds fit one) =
+applies-at l c h t base frame slots from to place caller kind s b named (apply_kind {place = at} {caller = outer} {into = into} {name = name} {args = args} {ts = ts} {e = e} {k = k} own free holds fit one) =
     let same : at ≡ place = cc in
     let begins : outer ≡ caller = cc in (
       record {
@@ -127,6 +137,7 @@ applies-at l c h t base frame slots from to place caller kind s b named (apply_k
         places = e;
         frames = k;
         own = subst (λ q. GoalStands l h q place frame (apply name args into) e k) begins (subst (λ q. GoalStands l h outer q frame (apply name args into) e k) same own);
+        free = free;
         holds = holds;
         below = subst (λ q. block_end (block_at l place q) ≤ base) begins (subst (λ q. block_end (block_at l q outer) ≤ base) same fit);
         level = refl;
@@ -158,7 +169,7 @@ applied w base caller place frame code step s b is_code_of it is_code finds =
     let g : GoalTree = apply it.name it.args it.into in
     let there : (r : Step) × (slice_get (steps_of w.loaded) place ≡ Some r) = own-step w caller place frame g it.places it.frames it.own in
     let at : slice_get (steps_of w.loaded) place ≡ Some step = there.1 ∙ ap Some (sym (finds there.0 (ap (λ q. slice_get q.steps.items place) (sym is_code) ∙ there.1))) in
-    let shown : _ = apply-node (tables_in w.loaded) step.node it.name it.args it.into (kind-here (tables_in w.loaded) (steps_of w.loaded) (block_at w.loaded place caller) place g it.own.last step step.node it.own.goal at refl) in
+    let shown : _ = apply-node (tables_in w.loaded) (block_at w.loaded place caller) step.node it.name it.args it.into (own-block w caller place frame g it.places it.frames step it.own at).readable it.free (kind-here (tables_in w.loaded) (steps_of w.loaded) (block_at w.loaded place caller) place g it.own.last step step.node it.own.goal at refl) in
     let n : ℕ = shown.0 in
     let number : HasNumber w.loaded.preds (Node.Apply n shown.1 it.into) = subst (HasNumber w.loaded.preds) shown.2 (is_code_of.numbers place step at) in
     let found : _ = is_code_of.predicates n number.0 number.1 in

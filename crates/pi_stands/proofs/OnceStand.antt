@@ -145,7 +145,7 @@ once-makes w b i from place x kind s back es above fs e it is below named holds 
 once-makes w b i from place x kind s back es above fs e it is below named holds (not_kind own one) = absurd cc
 once-makes w b i from place x kind s back es above fs e it is below named holds (if_kind own one) = absurd cc
 once-makes w b i from place x kind s back es above fs e it is below named holds (guard_kind call over one) = absurd cc
-once-makes w b i from place x kind s back es above fs e it is below named holds (apply_kind own args fit one) = absurd cc
+once-makes w b i from place x kind s back es above fs e it is below named holds (apply_kind own free args fit one) = absurd cc
 once-makes w b i from place x kind s back es above fs e it is below named holds (collect_kind own order some) = absurd cc
 once-makes w b i from place x kind s back es above fs e it is below named holds (count_kind own one) = absurd cc
 
@@ -164,7 +164,7 @@ not-makes w b i from place x kind s back es above fs e it is below named holds (
     record { entries = left.entries; runs = failing_now }
 not-makes w b i from place x kind s back es above fs e it is below named holds (if_kind own one) = absurd cc
 not-makes w b i from place x kind s back es above fs e it is below named holds (guard_kind call over one) = absurd cc
-not-makes w b i from place x kind s back es above fs e it is below named holds (apply_kind own args fit one) = absurd cc
+not-makes w b i from place x kind s back es above fs e it is below named holds (apply_kind own free args fit one) = absurd cc
 not-makes w b i from place x kind s back es above fs e it is below named holds (collect_kind own order some) = absurd cc
 not-makes w b i from place x kind s back es above fs e it is below named holds (count_kind own one) = absurd cc
 
@@ -190,7 +190,7 @@ if-makes w b i from place at_child code x kind s back es above fs e is_code find
           (second-runs (moved w w.store b) x.back.base at x.back.frame test g other e k left.goal left.agrees));
     }
 if-makes w b i from place at_child code x kind s back es above fs e is_code finds it is below named holds (guard_kind call over one) = absurd cc
-if-makes w b i from place at_child code x kind s back es above fs e is_code finds it is below named holds (apply_kind own args fit one) = absurd cc
+if-makes w b i from place at_child code x kind s back es above fs e is_code finds it is below named holds (apply_kind own free args fit one) = absurd cc
 if-makes w b i from place at_child code x kind s back es above fs e is_code finds it is below named holds (collect_kind own order some) = absurd cc
 if-makes w b i from place at_child code x kind s back es above fs e is_code finds it is below named holds (count_kind own one) = absurd cc
 

@@ -57,7 +57,7 @@ strict-base l c h t base frame slots from to kind s b (once_kind {place = place}
 strict-base l c h t base frame slots from to kind s b (not_kind {place = place} is one) = at-base l place base (length h.slots) is.behind.slots.within
 strict-base l c h t base frame slots from to kind s b (if_kind {place = place} is one) = at-base l place base (length h.slots) is.behind.slots.within
 strict-base l c h t base frame slots from to kind s b (guard_kind is over one) = omega (arith, is.call.args.within)
-strict-base l c h t base frame slots from to kind s b (apply_kind is args fit one) = omega (arith, args.within)
+strict-base l c h t base frame slots from to kind s b (apply_kind is free args fit one) = omega (arith, args.within)
 strict-base l c h t base frame slots from to kind s b (collect_kind {place = place} is below some) = at-base l place base (length h.slots) is.behind.slots.within
 strict-base l c h t base frame slots from to kind s b (count_kind {place = place} is one) = at-base l place base (length h.slots) is.behind.slots.within
 

@@ -73,7 +73,7 @@ gone l c h t base frame slots from to kind ball y fs drops (once_kind own one) =
 gone l c h t base frame slots from to kind ball y fs drops (not_kind own one) = record { starts = one; steps = refl }
 gone l c h t base frame slots from to kind ball y fs drops (if_kind own one) = record { starts = one; steps = refl }
 gone l c h t base frame slots from to kind ball y fs drops (guard_kind call fits one) = record { starts = one; steps = refl }
-gone l c h t base frame slots from to kind ball y fs drops (apply_kind own args fit one) = record { starts = one; steps = refl }
+gone l c h t base frame slots from to kind ball y fs drops (apply_kind own free args fit one) = record { starts = one; steps = refl }
 gone l c h t base frame slots from to kind ball y fs drops (collect_kind own order some) = record { starts = refl; steps = refl }
 gone l c h t base frame slots from to kind ball y fs drops (count_kind own one) = record { starts = one; steps = refl }
 gone l c h t base frame slots from to kind ball y fs drops (catch_kind own stays one) = absurd drops
@@ -135,7 +135,7 @@ exit-is l c h t base frame slots from to kind y named (once_kind own one) = absu
 exit-is l c h t base frame slots from to kind y named (not_kind own one) = absurd cc
 exit-is l c h t base frame slots from to kind y named (if_kind own one) = absurd cc
 exit-is l c h t base frame slots from to kind y named (guard_kind call fits one) = absurd cc
-exit-is l c h t base frame slots from to kind y named (apply_kind own args fit one) = absurd cc
+exit-is l c h t base frame slots from to kind y named (apply_kind own free args fit one) = absurd cc
 exit-is l c h t base frame slots from to kind y named (collect_kind own order some) = absurd cc
 exit-is l c h t base frame slots from to kind y named (count_kind own one) = absurd cc
 exit-is l c h t base frame slots from to kind y named (catch_kind own stays one) = absurd cc

@@ -122,7 +122,7 @@ kind-moves l c d h s base frame slots from to kind y same enough (once_kind is o
 kind-moves l c d h s base frame slots from to kind y same enough (not_kind is one) = not_kind is one
 kind-moves l c d h s base frame slots from to kind y same enough (if_kind is one) = if_kind is one
 kind-moves l c d h s base frame slots from to kind y same enough (guard_kind is over one) = guard_kind is over one
-kind-moves l c d h s base frame slots from to kind y same enough (apply_kind is args fit one) = apply_kind is args fit one
+kind-moves l c d h s base frame slots from to kind y same enough (apply_kind is free args fit one) = apply_kind is free args fit one
 kind-moves l c d h s base frame slots from to kind y same enough (collect_kind {place = place} {value = value} {into = into} {e = e} {k = k} is below some) =
     subst (λ got. KindIs l d h s base frame slots from to kind (strict (list_level value into got) (record { slots = e; state = s; frames = k })))
     (part-agrees from (to - from) to d c (omega (arith, below)) (sym same))
@@ -139,7 +139,7 @@ kind-order l c h s base frame slots from to kind y (once_kind is one) = omega (a
 kind-order l c h s base frame slots from to kind y (not_kind is one) = omega (arith, one)
 kind-order l c h s base frame slots from to kind y (if_kind is one) = omega (arith, one)
 kind-order l c h s base frame slots from to kind y (guard_kind is over one) = omega (arith, one)
-kind-order l c h s base frame slots from to kind y (apply_kind is args fit one) = omega (arith, one)
+kind-order l c h s base frame slots from to kind y (apply_kind is free args fit one) = omega (arith, one)
 kind-order l c h s base frame slots from to kind y (collect_kind is below some) = below
 kind-order l c h s base frame slots from to kind y (count_kind is one) = omega (arith, one)
 kind-order l c h s base frame slots from to kind y (catch_kind is stays one) = omega (arith, one)

@@ -32,10 +32,10 @@ none-on v names mode old new w c same good = record {
 }
 
 pub goal-stops : {M : Type 0} (w : World M) (p : Point) (s : Step) (mode : Mode) (b : Budget) → GoalStops mode b b w p s
-goal-stops w p s mode b v names c is = none-on v names mode b b w c refl is.good
+goal-stops w p s mode b v fits names c is = none-on v names mode b b w c refl is.good
 
 pub point-stops : {M : Type 0} (w : World M) (p : Point) (mode : Mode) (b : Budget) → PointStops mode b b w p
-point-stops w p mode b v names c some stands good rules = none-on v names mode b b w c refl good
+point-stops w p mode b v fits names c some stands good rules = none-on v names mode b b w c refl good
 
 -- the Tick of a call was counted, where it has one
 pub call-stops : {M : Type 0} (w : World M) (p : Point) (s : Step) (c : Config) (v : View) (names : List NameSlot) (quiet : Bool) (mode : Mode) (old new : Budget) (x y : Now) → AtGoal w p s c → CallThere w p c v names quiet →

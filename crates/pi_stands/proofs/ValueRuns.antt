@@ -54,7 +54,7 @@ call-kind l c h t base frame slots from to start kind s b ends (once_kind own on
 call-kind l c h t base frame slots from to start kind s b ends (not_kind own one) = absurd cc
 call-kind l c h t base frame slots from to start kind s b ends (if_kind own one) = absurd cc
 call-kind l c h t base frame slots from to start kind s b ends (guard_kind call over one) = absurd cc
-call-kind l c h t base frame slots from to start kind s b ends (apply_kind {place = place} {caller = caller} own args fit one) = (place, caller, refl)
+call-kind l c h t base frame slots from to start kind s b ends (apply_kind {place = place} {caller = caller} own free args fit one) = (place, caller, refl)
 call-kind l c h t base frame slots from to start kind s b ends (collect_kind own order some) = absurd cc
 call-kind l c h t base frame slots from to start kind s b ends (count_kind own one) = absurd cc
 

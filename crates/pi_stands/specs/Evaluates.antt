@@ -8,7 +8,8 @@ use Rattle.pi_states.specs.Store.{StoreView, IsTerm, AreTerms, Keeps}
 use Rattle.pi_states.specs.Evaluation.{Evaluated, EvaluatedAll, slot_term}
 use Rattle.pi_states.specs.declared.store.Ref.{Ref}
 use Rattle.pi_code.specs.declared.code.Part.{Part}
-use Rattle.pi_code.specs.Code.{Tables, term_at, operand_tree}
+use Rattle.pi_code.specs.Code.{Tables, term_at}
+pub use Rattle.pi_code.specs.Code.{operand_trees}
 use Rattle.pi_arenas.specs.Blocks.{BlocksView, KeepsBlocks}
 use Rattle.pi_arenas.specs.Arenas.{ArenasView}
 use Rattle.pi_stands.specs.Here.{Block, block_end, Holds, IsReadablePart}
@@ -34,10 +35,6 @@ pub record Writes {M : Type 0} (b : Block) (v w : StoreView M) (a c : ArenasView
 pub record Evaluates {M : Type 0} (b : Block) (v w : StoreView M) (a c : ArenasView M) (x : Evaluated) (r : Ref) : Type 0 where
   pub writes : Writes b v w a c x.slots x.state
   pub term : IsTerm w r x.tree
-
--- the terms of so many operands from one on
-abbrev pub operand_trees : Tables → ℕ → ℕ → List Tree
-operand_trees t first count = map (operand_tree t) (take count (drop first t.operands))
 
 -- terms are evaluated from the left, and answered by their Refs
 pub record EvaluatesAll {M : Type 0} (b : Block) (v w : StoreView M) (a c : ArenasView M) (x : EvaluatedAll) (rs : List Ref) : Type 0 where

@@ -18,6 +18,7 @@ use Rattle.pi_code.specs.declared.code.Step.{Step}
 use Rattle.pi_arenas.specs.declared.frames.Point.{Point}
 use Rattle.pi_machine.specs.Built.{AreOfRules}
 use Rattle.pi_stands.specs.Stands.{World, steps_of, Stands}
+use Rattle.pi_stands.specs.Views.{Fits}
 
 -- ---- Ticks that are counted
 
@@ -89,14 +90,14 @@ pub record AtGoal {M : Type 0} (w : World M) (p : Point) (s : Step) (c : Config)
   pub good : IsGood c
   pub rules : AreOfRules w.loaded.preds
 
--- from it on, with the Ticks that are counted
+-- from it on, with the Ticks that are counted, under the views that fit a kind of machine
 abbrev pub GoalGoes : {M : Type 0} → Mode → Budget → Budget → World M → World M → Point → Step → Now → Type 0
-GoalGoes mode old new before after p s now = (v : View) (names : List NameSlot) (c : Config) → AtGoal before p s c → TicksOn v names mode old new after now c
+GoalGoes mode old new before after p s now = (v : View) → Fits mode v → (names : List NameSlot) (c : Config) → AtGoal before p s c → TicksOn v names mode old new after now c
 
 -- the same of a run at a point that has goals, or a function's value
 abbrev pub PointGoes : {M : Type 0} → Mode → Budget → Budget → World M → World M → Point → Now → Type 0
 PointGoes mode old new before after p now =
-    (v : View) (names : List NameSlot) (c : Config) → 0 < p.count → Stands before (Now.Going p) c → IsGood c → AreOfRules before.loaded.preds → TicksOn v names mode old new after now c
+    (v : View) → Fits mode v → (names : List NameSlot) (c : Config) → 0 < p.count → Stands before (Now.Going p) c → IsGood c → AreOfRules before.loaded.preds → TicksOn v names mode old new after now c
 
 -- Where its step stops for want of memory, the Ticks that it counted come next in the run all the same: as if it had ended there.
 abbrev pub GoalStops : {M : Type 0} → Mode → Budget → Budget → World M → Point → Step → Type 0

@@ -12,6 +12,8 @@ use Rattle.pi_code.specs.declared.code.Operand.{Operand}
 use Rattle.pi_code.specs.declared.code.Part.{Part}
 use Rattle.pi_code.specs.declared.code.Node.{Node}
 use Rattle.pi_code.specs.declared.code.Step.{Step}
+use Rattle.pi_builtin.specs.Resolved.{IsFunctionNamed}
+use Rattle.pi_code.specs.Laid.{IsEffectOf}
 use Rattle.pi_code.specs.Code.{Tables, operand_tree, spelled_parts, StandsAt}
 use Rattle.pi_arenas.specs.Frames.{frame_at}
 use Rattle.pi_machine.specs.Configuration.{Frame, return, give, behind}
@@ -72,7 +74,7 @@ abbrev pub AreReadable : Tables → Block → ℕ → ℕ → Type 0
 AreReadable t b first arity =
     (first + arity ≤ length t.operands) × ((i : ℕ) (o : Operand) → i < arity → slice_get t.operands (first + i) ≡ Some o → IsReadable t b o)
 
--- the same of all that a node reads; the value behind a function's body is no goal
+-- the same of all that a node reads, and a built-in is that of its name; the value behind a function's body is no goal
 abbrev pub NodeIsReadable : Tables → Block → Node → Type 0
 NodeIsReadable t b (Node.Unify left right) = IsReadable t b left × IsReadable t b right
 NodeIsReadable t b (Node.Throw ball) = IsReadable t b ball
@@ -82,6 +84,8 @@ NodeIsReadable t b (Node.Call p first) = AreReadable t b first (slice_index_or t
 NodeIsReadable t b (Node.Apply p first slot) = AreReadable t b first (slice_index_or t.arities p 0) × (slot < b.count)
 NodeIsReadable t b (Node.Collect value into) = (value < b.count) × (into < b.count)
 NodeIsReadable t b (Node.Count into) = into < b.count
+NodeIsReadable t b (Node.BuiltIn p name first arity) = AreReadable t b first arity × IsEffectOf (slice_index_or t.names name []) arity p
+NodeIsReadable t b (Node.BuiltInValue f name first arity into) = AreReadable t b first arity × IsFunctionNamed (slice_index_or t.names name []) arity f × (into < b.count)
 NodeIsReadable t b node = ⊤
 
 -- a step belongs to a clause with slots like those of a block, and its operands can be read

@@ -1,7 +1,9 @@
 pub mod Here
 pub mod Evaluates
 pub mod Stands
+pub mod Views
 pub mod Makes
+pub mod Does
 pub mod Fails
 pub mod Raises
 pub mod Lists

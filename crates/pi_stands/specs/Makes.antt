@@ -15,15 +15,18 @@ use Rattle.pi_arenas.specs.declared.arenas.Kind.{Kind}
 use Rattle.pi_arenas.specs.declared.arenas.Strict.{Strict}
 use Rattle.pi_arenas.specs.declared.run.Now.{Now}
 use Rattle.pi_machine.specs.Configuration.{Frame, Entry, Config, config, going, catch_level, behind}
-use Rattle.pi_machine.specs.Step.{Outcome, silently, with_tick, quietly, answering, ending, goal_step, step, inside, back_to}
+use Rattle.pi_machine.specs.Step.{Outcome, silently, with_tick, quietly, writing, answering, ending, goal_step, step, inside, back_to}
 use Rattle.pi_machine.specs.Shape.{IsBalanced}
+use Rattle.pi_machine.specs.declared.happening.Mode.{Mode}
 use Rattle.pi_stands.specs.Stands.{World, steps_of, Stands, StandsGoing}
+use Rattle.pi_stands.specs.Views.{Fits}
 
 -- a run stands for what a step comes to, where that is a configuration
 abbrev pub StandsAfter : {M : Type 0} → World M → Now → Outcome → Type 0
 StandsAfter w now (silently c) = Stands w now c
 StandsAfter w now (with_tick c) = Stands w now c
 StandsAfter w now (quietly c) = Stands w now c
+StandsAfter w now (writing text c) = ⊥
 StandsAfter w now (answering x c) = ⊥
 StandsAfter w now (ending e) = ⊥
 
@@ -32,6 +35,13 @@ StandsAfter w now (ending e) = ⊥
 abbrev pub RunsGoal : {M : Type 0} → World M → World M → Point → Step → Now → Type 0
 RunsGoal before after p s now =
     (view : View) (g : GoalTree) (gs : GoalTrees) (e : Places) (k : List Frame) (es : List Entry) →
+    slice_get (steps_of before.loaded) p.place ≡ Some s → StandsGoing before p (goal g gs) e k es →
+    StandsAfter after now (goal_step view before.loaded.preds g gs e before.store.now.state k es)
+
+-- the same under the views that fit a kind of machine: what a body of a planner call may not write it raises
+abbrev pub RunsGoalIn : {M : Type 0} → Mode → World M → World M → Point → Step → Now → Type 0
+RunsGoalIn mode before after p s now =
+    (view : View) → Fits mode view → (g : GoalTree) (gs : GoalTrees) (e : Places) (k : List Frame) (es : List Entry) →
     slice_get (steps_of before.loaded) p.place ≡ Some s → StandsGoing before p (goal g gs) e k es →
     StandsAfter after now (goal_step view before.loaded.preds g gs e before.store.now.state k es)
 

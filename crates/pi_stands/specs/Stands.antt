@@ -1,5 +1,6 @@
 -- What a run stands for: which configuration its store and its arenas are.
 use Rattle.pi_states.specs.Store.{Extend, Terms, StoreView, IsGood}
+use Rattle.pi_code.specs.Laid.{IsNotBuiltIn}
 use Rattle.pi_code.specs.LaidRules.{IsTestOf}
 use Rattle.std.specs.Prelude.{◌≡◌, ◌≢◌, ◌↔◌, ℕ, zero, suc, ◌+◌, ◌-◌, ◌≤◌, Bool, true, false, List, [], ◌∷◌, Option, Some, None, length, map, take, drop, slice_get, AllPairs, IsTrue, IsSome, ⊤}
 use Rattle.pi_terms.specs.Tree.{Tree, Trees, comp}
@@ -9,7 +10,6 @@ use Rattle.pi_core.specs.GoalTree.{GoalTree, GoalTrees, count_goals, truth, appl
 use Rattle.pi_terms.specs.PatternTree.{PatternTrees, no_patterns, pattern}
 use Rattle.pi_core.specs.CoreTree.{ClauseTree, PredTree, pred_tree, leaves_others}
 use Rattle.pi_states.specs.Evaluation.{evaluated}
-use Rattle.pi_effects.specs.Builtin.{is_built_in}
 use Rattle.pi_meaning.specs.Sound.{IsAnother, pattern_count}
 use Rattle.pi_code.specs.declared.code.Node.{Node}
 use Rattle.pi_code.specs.declared.code.Step.{Step}
@@ -20,6 +20,9 @@ use Rattle.pi_code.specs.declared.code.Code.{Code}
 use Rattle.pi_arenas.specs.declared.frames.Point.{Point}
 use Rattle.pi_arenas.specs.declared.arenas.Kind.{Kind}
 use Rattle.pi_arenas.specs.declared.arenas.Strict.{Strict}
+use Rattle.std.specs.Prelude.{Box}
+use Rattle.std.specs.Global.{Global}
+use Rattle.pi_arenas.specs.declared.run.Telling.{Telling}
 use Rattle.pi_arenas.specs.declared.run.Now.{Now}
 use Rattle.pi_code.specs.Code.{Tables, tables_of, preds_of}
 use Rattle.pi_arenas.specs.Blocks.{IsKept, IsOlder, brought_back}
@@ -27,7 +30,7 @@ use Rattle.pi_arenas.specs.Arenas.{ArenasView, entry_at, newest, slots_kept_by}
 use Rattle.pi_arenas.specs.declared.arenas.Entry.{Entry}
 use Rattle.pi_stands.specs.Here.{Block, block_end, Holds, HoldsArguments, IsHere, AreHere, AreBranches, valued, Ends, in_block, with_value, Here, LeftBehind, GoesOn}
 use Rattle.pi_machine.specs.Shape.{open_level}
-use Rattle.pi_machine.specs.Configuration.{Called, rules_left, branches_left, once_level, not_level, if_level, guard_level, value_level, list_level, number_level, Frame, Entry as EntryData, choice, strict, catch_level, left, Now as NowData, going, failed, raising, Config, config}
+use Rattle.pi_machine.specs.Configuration.{Called, rules_left, branches_left, once_level, not_level, if_level, guard_level, value_level, list_level, number_level, Frame, Entry as EntryData, choice, strict, catch_level, left, Now as NowData, going, telling, failed, raising, Config, config}
 
 -- ---- programs in tables
 
@@ -68,7 +71,7 @@ pub record IsPredicateOf (code : Code) (t : Tables) (names : List (List ℕ)) (p
 
 -- a call's number is that of a predicate that isn't built in, a function call's that of such a function
 abbrev pub IsNumberOf : List PredTree → Bool → ℕ → Type 0
-IsNumberOf preds function n = (pred : PredTree) × (slice_get preds n ≡ Some pred) × (pred.function ≡ function) × (is_built_in function pred.name pred.arity ≡ false)
+IsNumberOf preds function n = (pred : PredTree) × (slice_get preds n ≡ Some pred) × (pred.function ≡ function) × IsNotBuiltIn function pred.name pred.arity
 
 abbrev pub HasNumber : List PredTree → Node → Type 0
 HasNumber preds (Node.Call p first) = IsNumberOf preds false p
@@ -226,7 +229,7 @@ pub data KindIs (l : Loaded) (collected : List Tree) (h : Here) (s : State) (bas
       (stands : CallStands l h base frame p r called (c ∷ cs) k) → slots ≤ base + stands.call.pred.arity → from ≡ to →
       KindIs l collected h s base frame slots from to (Kind.Strict (Strict.Guard p r)) (strict (guard_level called c cs) (record { slots = []; state = s; frames = k }))
   apply_kind : {place caller into : ℕ} {name : List ℕ} {args : List Tree} {ts : Trees} {e : Places} {k : List Frame} →
-      GoalStands l h caller place frame (apply name args into) e k →
+      GoalStands l h caller place frame (apply name args into) e k → IsNotBuiltIn true name (length args) →
       HoldsArguments h.terms h.slots base (length args) ts → block_end (block_at l place caller) ≤ base → from ≡ to →
       KindIs l collected h s base frame slots from to (Kind.Strict (Strict.Apply place caller)) (strict (value_level (comp name ts) into) (record { slots = e; state = s; frames = k }))
   collect_kind : {place value into : ℕ} {g : GoalTree} {e : Places} {k : List Frame} → GoalStands l h base place frame (collect g value into) e k →
@@ -278,6 +281,7 @@ pub record GoingIs {M : Type 0} (w : World M) (p : Point) (gs : GoalTrees) (e : 
 -- what runs
 pub data NowIs {M : Type 0} (w : World M) : Now → NowData → Type 0 where
   going_now : {p : Point} {gs : GoalTrees} {e : Places} {k : List Frame} → GoingIs w p gs e k → NowIs w (Now.Going p) (going gs e w.store.now.state k)
+  telling_now : {told : Box Telling Global} {gs : GoalTrees} {e : Places} {k : List Frame} → GoingIs w told.value.point gs e k → NowIs w (Now.Telling told) (telling told.value.text gs e w.store.now.state k)
   failing_now : NowIs w Now.Failing failed
   raising_now : {ball : Tree} → NowIs w (Now.Raising ball) (raising ball)
 

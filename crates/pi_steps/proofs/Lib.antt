@@ -1,3 +1,4 @@
 pub mod ToldStand
 pub mod NamesStand
 pub mod RetriesStand
+pub mod CallsDone

@@ -114,7 +114,7 @@ rules-shape l c h t base frame slots from to p r kind y named (once_kind own one
 rules-shape l c h t base frame slots from to p r kind y named (not_kind own one) = absurd cc
 rules-shape l c h t base frame slots from to p r kind y named (if_kind own one) = absurd cc
 rules-shape l c h t base frame slots from to p r kind y named (guard_kind call fits one) = absurd cc
-rules-shape l c h t base frame slots from to p r kind y named (apply_kind own args fit one) = absurd cc
+rules-shape l c h t base frame slots from to p r kind y named (apply_kind own free args fit one) = absurd cc
 rules-shape l c h t base frame slots from to p r kind y named (collect_kind own order some) = absurd cc
 rules-shape l c h t base frame slots from to p r kind y named (count_kind own one) = absurd cc
 rules-shape l c h t base frame slots from to p r kind y named (catch_kind own stays one) = absurd cc
@@ -172,7 +172,7 @@ guard-shape l c h t base frame slots from to p r kind s b named (guard_kind {p =
     subst (λ m. GuardShape l h t base frame slots from to p m (guard_level called clause cs) (back_to [] t k)) rule
     (subst (λ m. GuardShape l h t base frame slots from to m n (guard_level called clause cs) (back_to [] t k)) same
     (record { called = called; clause = clause; rules = cs; frames = k; stands = stands; over = over; one = one; level = refl; back_is = refl }))
-guard-shape l c h t base frame slots from to p r kind s b named (apply_kind own args fit one) = absurd cc
+guard-shape l c h t base frame slots from to p r kind s b named (apply_kind own free args fit one) = absurd cc
 guard-shape l c h t base frame slots from to p r kind s b named (collect_kind own order some) = absurd cc
 guard-shape l c h t base frame slots from to p r kind s b named (count_kind own one) = absurd cc
 

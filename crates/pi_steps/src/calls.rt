@@ -116,7 +116,7 @@ pub fn apply<S: StateStore>(
 
 /// The arguments of a call, into the room for them.
 #[inline(always)]
-fn take_arguments<S: StateStore>(
+pub fn take_arguments<S: StateStore>(
     code: &Code<'_>,
     run: &mut Run<S>,
     first: usize,

@@ -4,9 +4,10 @@ ghost use Rattle.pi_code.specs.declared.code.Node.TheVariants.{True};
 ghost use Rattle.pi_machine.specs.Budget.{Counts};
 ghost use Rattle.pi_arenas.specs.Arenas.{view_of};
 ghost use Rattle.pi_stands.specs.Stands.{Loaded, world};
-ghost use Rattle.pi_stands.specs.Makes.{RunsGoal, level_kind};
+ghost use Rattle.pi_stands.specs.Makes.{RunsGoal, RunsGoalIn, level_kind};
 ghost use Rattle.pi_stands.specs.Goes.{GoalGoes, PointGoes, GoalStops, PointStops, IsSilent, IsOther};
 
+use crate::built_ins::{apply_built_in, call_built_in};
 use crate::calls::{apply, call, give_value, make_equal};
 use crate::choices::{enter_alternatives, enter_sequence};
 use crate::levels::enter_level;
@@ -71,7 +72,7 @@ fn run_other<S: StateStore>(
             )?;
         }
         Node::Value(operand) => give_value(code, run, point, *step, operand)?,
-        _ => run_silent(code, run, point, *step)?,
+        _ => run_silent(code, mode, run, point, *step)?,
     }
     Ok(())
 }
@@ -168,16 +169,23 @@ fn fail_here<S: StateStore>(run: &mut Run<S>, point: Point, step: Step)
 #[inline(never)]
 fn run_silent<S: StateStore>(
     code: &Code<'_>,
+    mode: Mode,
     run: &mut Run<S>,
     point: Point,
     step: Step,
 ) -> Result<(), AllocError>
-    ensures { IfOk result (λ _. (l : Loaded) → l.code ≡ code.now → IsOther step.node → IsSilent step.node → RunsGoal (world l (S.seen run.old.store) S.order (view_of run.old.arenas)) (world l (S.seen run.new.store) S.order (view_of run.new.arenas)) point step run.new.now) }
+    ensures { IfOk result (λ _. (l : Loaded) → l.code ≡ code.now → IsOther step.node → IsSilent step.node → RunsGoalIn mode (world l (S.seen run.old.store) S.order (view_of run.old.arenas)) (world l (S.seen run.new.store) S.order (view_of run.new.arenas)) point step run.new.now) }
 {
     match step.node {
         Node::Alt(count) => enter_alternatives(code, run, point, step, count)?,
         Node::Unify(left, right) => make_equal(code, run, point, step, left, right)?,
         Node::Throw(ball) => throw(code, run, point, step, ball)?,
+        Node::BuiltIn(predicate, _, operands, count) => {
+            call_built_in(code, mode, run, point, step, predicate, operands, count)?;
+        }
+        Node::BuiltInValue(function, _, operands, count, into) => {
+            apply_built_in(code, run, point, step, function, operands, count, into)?;
+        }
         Node::Catch(ball) => enter_catch(code, run, point, step, ball)?,
         Node::If => enter_strict(code, run, point, step, Strict::If(point.place))?,
         Node::Not => enter_strict(code, run, point, step, Strict::Not(point.place))?,

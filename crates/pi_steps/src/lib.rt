@@ -2,6 +2,7 @@
 #![tactic(auto)]
 
 mod answers;
+mod built_ins;
 mod calls;
 mod choices;
 mod goals;

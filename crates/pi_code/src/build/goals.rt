@@ -1,17 +1,18 @@
 //! Goals as steps.
-ghost use Rattle.std.specs.Prelude.{◌≡◌, ◌+◌, ◌-◌, ◌++◌, ℕ, List, false, true, replicate, IfOk, length};
+ghost use Rattle.std.specs.Prelude.{◌≡◌, ◌+◌, ◌-◌, ◌++◌, ◌∷◌, [], ℕ, List, false, true, replicate, IfOk, length};
 ghost use Rattle.pi_core.specs.GoalTree.{nodes, child_goals};
 ghost use Rattle.pi_core.specs.GoalCells.{kind_shown};
 ghost use Rattle.pi_states.specs.Store.{Keeps};
 ghost use Rattle.pi_core.specs.declared.core_program.CorePred.{CorePred};
 ghost use Rattle.pi_core.specs.declared.goal_node.GoalKind.TheVariants.{Call as CallKind, Apply as ApplyKind};
 ghost use Rattle.pi_code.specs.Numbers.{IsNumbering};
-ghost use Rattle.pi_code.specs.Laid.{tables_for, AddsOperands, AddsSteps, OperandsAt, IsNodeOf, StepsAt, IsLaid, IsValueLaid, AreResolved, marked, before_last, Sized};
+ghost use Rattle.pi_code.specs.Laid.{tables_for, Longer, AddsOperands, AddsSteps, OperandsAt, IsNodeOf, StepsAt, IsLaid, IsValueLaid, AreResolved, marked, before_last, Sized};
 
 use super::sizes::{child_count, sizes_of};
 use super::terms::operand_of;
 use super::{Builder, Shape, short};
 use crate::code::{Code, Node, Step};
+use pi_builtin::{function_named, predicate_named};
 use pi_core::{CoreGoal, GoalNode};
 use pi_states::StateStore;
 use pi_terms::{Args, Term, Text};
@@ -143,6 +144,11 @@ impl Builder<'_> {
             return Ok(Node::Throw(ball));
         }
         let operands = self.add_operands(code, store, args)?;
+        if let Some(predicate) = predicate_named(name.as_str(), args.len()) {
+            let name = self.add_name(&mut code.names, name)?;
+            let count = short(args.len())?;
+            return Ok(Node::BuiltIn(predicate, name, operands, count));
+        }
         match self.numbers.get(false, name, args.len())? {
             Some(number) => Ok(Node::Call(number, operands)),
             None => Ok(Node::Fail),
@@ -163,10 +169,26 @@ impl Builder<'_> {
         ensures is { IfOk result (λ made. (preds : List CorePred) → IsNumbering self.now.numbers preds → IsNodeOf preds (tables_for preds (S.seen store.new).now.terms code.new) (ApplyKind name.now args.now slot) made) }
     {
         let operands = self.add_operands(code, store, args)?;
+        if let Some(function) = function_named(name.as_str(), args.len()) {
+            let name = self.add_name(&mut code.names, name)?;
+            let count = short(args.len())?;
+            return Ok(Node::BuiltInValue(function, name, operands, count, slot));
+        }
         match self.numbers.get(true, name, args.len())? {
             Some(number) => Ok(Node::Apply(number, operands, slot)),
             None => Ok(Node::Fail),
         }
+    }
+
+    /// Adds a name to the names, and answers its place.
+    fn add_name(&self, names: &mut Vec<Text>, name: &Text) -> Result<u32, AllocError>
+        ensures place { IfOk result (λ place. place ≡ length names.old.items) }
+        ensures added { IfOk result (λ _. names.new.items ≡ names.old.items ++ name.now ∷ []) }
+        ensures longer { Longer names.old.items names.new.items }
+    {
+        let place = short(names.len())?;
+        names.push(Text::new(self.alloc, name.as_str())?)?;
+        Ok(place)
     }
 
     /// Adds the operands of a call, and answers where the first one stands.

@@ -2,7 +2,7 @@ use Rattle.std.proofs.Common.{◌≡◌, ◌∙◌, false, sym, subst, rules, co
 use Rattle.pi_effects.specs.BuiltIns.{is_function}
 use Rattle.pi_builtin.specs.Resolved.{IsFunctionNamed}
 use Rattle.pi_builtin.specs.declared.functions.Function.{Function}
-use Rattle.pi_builtin.proofs.FunctionTables.{named-of_one, named-of_two, none-of_one, none-of_two, none-of_three, none-of_other}
+use Rattle.pi_builtin.proofs.FunctionTables.{named-of_one, named-of_two, named-range, none-of_one, none-of_two, none-of_three, none-of_other}
 use Rattle.pi_builtin.proofs.lookup.function_named.Goals as goal
 
 pub returns-in-Some-clause-some : goal.returns-in-Some-clause-some
@@ -20,6 +20,11 @@ returns-in-Some-find-clause-some c =
 pub returns-in-None-find-clause-none : goal.returns-in-None-find-clause-none
 returns-in-None-find-clause-none c =
     subst (λ k. is_function c.args.name.now k ≡ false) (sym c.in-2.is) (none-of_two c.args.name.now (sym c.find-in-2.ensures ∙ c.in-None-find.is))
+
+pub returns-then-eq-clause-some : goal.returns-then-eq-clause-some
+returns-then-eq-clause-some c =
+    let is : c.args.name.now ≡ codes ".." = search rules in
+    subst (λ k. IsFunctionNamed c.args.name.now k Function.RangeBy) (sym c.in-3.is) (named-range c.args.name.now is)
 
 pub returns-else-eq-clause-none : goal.returns-else-eq-clause-none
 returns-else-eq-clause-none c =

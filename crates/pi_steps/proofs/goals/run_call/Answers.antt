@@ -9,14 +9,14 @@ use Rattle.pi_stands.proofs.RulesTried.{IsFound, found-there}
 use Rattle.pi_steps.proofs.goals.run_call.Goals as goal
 
 pub returns-in_default-clause-goes : goal.returns-in_default-clause-goes
-returns-in_default-clause-goes g c = λ node l is_code v names d is.
+returns-in_default-clause-goes g c = λ node l is_code v fits names d is.
     let run = c.args.run.now in
     let w : World _ = world l (g.S.StateStore.seen run.store) g.S.StateStore.order (view_of run.arenas) in
     no-predicate w c.args.predicate (call-found w c.args.point c.args.step d c.args.predicate c.args.operands is node)
     (ap (λ r. slice_get r.predicates.items c.args.predicate) is_code ∙ sym c.predicate_there.ensures ∙ ap option_copied c.in_default.is)
 
 pub returns-then-not-tick_call-clause-goes : goal.returns-then-not-tick_call-clause-goes
-returns-then-not-tick_call-clause-goes g c = λ node l is_code v names d is.
+returns-then-not-tick_call-clause-goes g c = λ node l is_code v fits names d is.
     let run = c.args.run.now in
     let w : World _ = world l (g.S.StateStore.seen run.store) g.S.StateStore.order (view_of run.arenas) in
     let called = c.in-Some.called.now in
@@ -27,7 +27,7 @@ returns-then-not-tick_call-clause-goes g c = λ node l is_code v names d is.
     (subst (TicksUnless called.is_quiet c.args.mode c.args.budget.now c.tick_call.new.budget run.now c.tick_call.new.now) c.if-not-tick_call.true c.tick_call.ensures.ticks)
 
 pub returns-clause-goes : goal.returns-clause-goes
-returns-clause-goes g c = λ node l is_code v names d is.
+returns-clause-goes g c = λ node l is_code v fits names d is.
     let run = c.args.run.now in
     let end = c.call.new.run in
     let w : World _ = world l (g.S.StateStore.seen run.store) g.S.StateStore.order (view_of run.arenas) in
@@ -41,7 +41,7 @@ returns-clause-goes g c = λ node l is_code v names d is.
     (subst (TicksUnless called.is_quiet c.args.mode c.args.budget.now c.tick_call.new.budget run.now c.tick_call.new.now) c.if-not-tick_call.false c.tick_call.ensures.ticks)
 
 pub returns-in_err-call-clause-stops : goal.returns-in_err-call-clause-stops
-returns-in_err-call-clause-stops g c = so-at-err _ c.from_residual.result (λ node l is_code v names d is.
+returns-in_err-call-clause-stops g c = so-at-err _ c.from_residual.result (λ node l is_code v fits names d is.
     let run = c.args.run.now in
     let w : World _ = world l (g.S.StateStore.seen run.store) g.S.StateStore.order (view_of run.arenas) in
     let called = c.in-Some.called.now in

@@ -9,29 +9,29 @@ use Rattle.pi_stands.proofs.StopsGo.{so-at-err, point-stops}
 use Rattle.pi_steps.proofs.goals.run_goal.Goals as goal
 
 pub returns-in_default-clause-goes : goal.returns-in_default-clause-goes
-returns-in_default-clause-goes g c = λ l is_code v names d some stands good rules.
+returns-in_default-clause-goes g c = λ l is_code v fits names d some stands good rules.
     let run = c.args.run.now in
     let w : World _ = world l (g.S.StateStore.seen run.store) g.S.StateStore.order (view_of run.arenas) in
     no-step w c.args.point c.args.code.now d is_code (sym c.step_there.ensures ∙ ap option_copied c.in_default.is) some stands
 
 pub returns-in-Tick-clause-goes : goal.returns-in-Tick-clause-goes
-returns-in-Tick-clause-goes g c = λ l is_code v names d some stands good rules.
+returns-in-Tick-clause-goes g c = λ l is_code v fits names d some stands good rules.
     let run = c.args.run.now in
     let w : World _ = world l (g.S.StateStore.seen run.store) g.S.StateStore.order (view_of run.arenas) in
     let s = c.in-Some.step.now in
     let found : slice_get c.args.code.now.steps.items c.args.point.place ≡ Some s = sym c.step_there.ensures ∙ ap option_copied c.in-Some.is in
-    c.run_tick.ensures.goes c.in-Tick.is l v names d (at-step w c.args.point c.args.code.now s d is_code found some stands good rules)
+    c.run_tick.ensures.goes c.in-Tick.is l v fits names d (at-step w c.args.point c.args.code.now s d is_code found some stands good rules)
 
 pub returns-in_ok-run_call-in-Call-clause-goes : goal.returns-in_ok-run_call-in-Call-clause-goes
-returns-in_ok-run_call-in-Call-clause-goes g c = λ l is_code v names d some stands good rules.
+returns-in_ok-run_call-in-Call-clause-goes g c = λ l is_code v fits names d some stands good rules.
     let run = c.args.run.now in
     let w : World _ = world l (g.S.StateStore.seen run.store) g.S.StateStore.order (view_of run.arenas) in
     let s = c.in-Some.step.now in
     let found : slice_get c.args.code.now.steps.items c.args.point.place ≡ Some s = sym c.step_there.ensures ∙ ap option_copied c.in-Some.is in
-    c.in_ok-run_call-in-Call.ensures.goes c.in-Call.is l is_code v names d (at-step w c.args.point c.args.code.now s d is_code found some stands good rules)
+    c.in_ok-run_call-in-Call.ensures.goes c.in-Call.is l is_code v fits names d (at-step w c.args.point c.args.code.now s d is_code found some stands good rules)
 
 pub returns-in-True-clause-goes : goal.returns-in-True-clause-goes
-returns-in-True-clause-goes g c = λ l is_code v names d some stands good rules.
+returns-in-True-clause-goes g c = λ l is_code v fits names d some stands good rules.
     let run = c.args.run.now in
     let end = c.pass.new.run in
     let w : World _ = world l (g.S.StateStore.seen run.store) g.S.StateStore.order (view_of run.arenas) in
@@ -39,10 +39,10 @@ returns-in-True-clause-goes g c = λ l is_code v names d some stands good rules.
     let s = c.in-Some.step.now in
     let found : slice_get c.args.code.now.steps.items c.args.point.place ≡ Some s = sym c.step_there.ensures ∙ ap option_copied c.in-Some.is in
     let silent : IsSilent s.node = subst IsSilent (sym c.in-True.is) tt in
-    runs-silent w after c.args.point s end.now c.args.mode c.args.budget.now refl silent (c.pass.ensures c.in-True.is l) v names d (at-step w c.args.point c.args.code.now s d is_code found some stands good rules)
+    runs-silent w after c.args.point s end.now c.args.mode c.args.budget.now refl silent (λ view fit. c.pass.ensures c.in-True.is l view) v fits names d (at-step w c.args.point c.args.code.now s d is_code found some stands good rules)
 
 pub returns-in-Fail-clause-goes : goal.returns-in-Fail-clause-goes
-returns-in-Fail-clause-goes g c = λ l is_code v names d some stands good rules.
+returns-in-Fail-clause-goes g c = λ l is_code v fits names d some stands good rules.
     let run = c.args.run.now in
     let end = c.fail_here.new.run in
     let w : World _ = world l (g.S.StateStore.seen run.store) g.S.StateStore.order (view_of run.arenas) in
@@ -50,10 +50,10 @@ returns-in-Fail-clause-goes g c = λ l is_code v names d some stands good rules.
     let s = c.in-Some.step.now in
     let found : slice_get c.args.code.now.steps.items c.args.point.place ≡ Some s = sym c.step_there.ensures ∙ ap option_copied c.in-Some.is in
     let silent : IsSilent s.node = subst IsSilent (sym c.in-Fail.is) tt in
-    runs-silent w after c.args.point s end.now c.args.mode c.args.budget.now refl silent (c.fail_here.ensures c.in-Fail.is l) v names d (at-step w c.args.point c.args.code.now s d is_code found some stands good rules)
+    runs-silent w after c.args.point s end.now c.args.mode c.args.budget.now refl silent (λ view fit. c.fail_here.ensures c.in-Fail.is l view) v fits names d (at-step w c.args.point c.args.code.now s d is_code found some stands good rules)
 
 pub returns-in_ok-enter_sequence-in-Seq-clause-goes : goal.returns-in_ok-enter_sequence-in-Seq-clause-goes
-returns-in_ok-enter_sequence-in-Seq-clause-goes g c = λ l is_code v names d some stands good rules.
+returns-in_ok-enter_sequence-in-Seq-clause-goes g c = λ l is_code v fits names d some stands good rules.
     let run = c.args.run.now in
     let end = c.enter_sequence.new.run in
     let w : World _ = world l (g.S.StateStore.seen run.store) g.S.StateStore.order (view_of run.arenas) in
@@ -61,24 +61,24 @@ returns-in_ok-enter_sequence-in-Seq-clause-goes g c = λ l is_code v names d som
     let s = c.in-Some.step.now in
     let found : slice_get c.args.code.now.steps.items c.args.point.place ≡ Some s = sym c.step_there.ensures ∙ ap option_copied c.in-Some.is in
     let silent : IsSilent s.node = subst IsSilent (sym c.in-Seq.is) tt in
-    runs-silent w after c.args.point s end.now c.args.mode c.args.budget.now refl silent (c.in_ok-enter_sequence-in-Seq.ensures c.in-Seq.is l) v names d (at-step w c.args.point c.args.code.now s d is_code found some stands good rules)
+    runs-silent w after c.args.point s end.now c.args.mode c.args.budget.now refl silent (λ view fit. c.in_ok-enter_sequence-in-Seq.ensures c.in-Seq.is l view) v fits names d (at-step w c.args.point c.args.code.now s d is_code found some stands good rules)
 
 pub returns-in_ok-run_other-in_default-node-clause-goes : goal.returns-in_ok-run_other-in_default-node-clause-goes
-returns-in_ok-run_other-in_default-node-clause-goes g c = λ l is_code v names d some stands good rules.
+returns-in_ok-run_other-in_default-node-clause-goes g c = λ l is_code v fits names d some stands good rules.
     let run = c.args.run.now in
     let w : World _ = world l (g.S.StateStore.seen run.store) g.S.StateStore.order (view_of run.arenas) in
     let s = c.in-Some.step.now in
     let found : slice_get c.args.code.now.steps.items c.args.point.place ≡ Some s = sym c.step_there.ensures ∙ ap option_copied c.in-Some.is in
-    c.in_ok-run_other-in_default-node.ensures.goes (other-node s.node c.in_default-node.not-True c.in_default-node.not-Fail c.in_default-node.not-Tick c.in_default-node.not-Seq c.in_default-node.not-Call) l is_code v names d
+    c.in_ok-run_other-in_default-node.ensures.goes (other-node s.node c.in_default-node.not-True c.in_default-node.not-Fail c.in_default-node.not-Tick c.in_default-node.not-Seq c.in_default-node.not-Call) l is_code v fits names d
     (at-step w c.args.point c.args.code.now s d is_code found some stands good rules)
 
 pub returns-in_err-run_call-in-Call-clause-stops : goal.returns-in_err-run_call-in-Call-clause-stops
-returns-in_err-run_call-in-Call-clause-stops g c = so-at-err _ c.from_residual.result (λ l is_code v names d some stands good rules.
+returns-in_err-run_call-in-Call-clause-stops g c = so-at-err _ c.from_residual.result (λ l is_code v fits names d some stands good rules.
     let run = c.args.run.now in
     let w : World _ = world l (g.S.StateStore.seen run.store) g.S.StateStore.order (view_of run.arenas) in
     let s = c.in-Some.step.now in
     let found : slice_get c.args.code.now.steps.items c.args.point.place ≡ Some s = sym c.step_there.ensures ∙ ap option_copied c.in-Some.is in
-    c.in_err-run_call-in-Call.ensures.stops c.in-Call.is l is_code v names d (at-step w c.args.point c.args.code.now s d is_code found some stands good rules))
+    c.in_err-run_call-in-Call.ensures.stops c.in-Call.is l is_code v fits names d (at-step w c.args.point c.args.code.now s d is_code found some stands good rules))
 
 pub returns-in_err-enter_sequence-in-Seq-clause-stops : goal.returns-in_err-enter_sequence-in-Seq-clause-stops
 returns-in_err-enter_sequence-in-Seq-clause-stops g c = so-at-err _ c.from_residual-in_err-enter_sequence-in-Seq.result (λ l is_code.
@@ -86,9 +86,9 @@ returns-in_err-enter_sequence-in-Seq-clause-stops g c = so-at-err _ c.from_resid
     point-stops (world l (g.S.StateStore.seen run.store) g.S.StateStore.order (view_of run.arenas)) c.args.point c.args.mode c.args.budget.now)
 
 pub returns-in_err-run_other-in_default-node-clause-stops : goal.returns-in_err-run_other-in_default-node-clause-stops
-returns-in_err-run_other-in_default-node-clause-stops g c = so-at-err _ c.from_residual-in_err-run_other-in_default-node.result (λ l is_code v names d some stands good rules.
+returns-in_err-run_other-in_default-node-clause-stops g c = so-at-err _ c.from_residual-in_err-run_other-in_default-node.result (λ l is_code v fits names d some stands good rules.
     let run = c.args.run.now in
     let w : World _ = world l (g.S.StateStore.seen run.store) g.S.StateStore.order (view_of run.arenas) in
     let s = c.in-Some.step.now in
     let found : slice_get c.args.code.now.steps.items c.args.point.place ≡ Some s = sym c.step_there.ensures ∙ ap option_copied c.in-Some.is in
-    c.in_err-run_other-in_default-node.ensures.stops l is_code v names d (at-step w c.args.point c.args.code.now s d is_code found some stands good rules))
+    c.in_err-run_other-in_default-node.ensures.stops l is_code v fits names d (at-step w c.args.point c.args.code.now s d is_code found some stands good rules))

@@ -11,7 +11,7 @@ pub returns-in_ok-run_apply-in-Apply-clause-goes : goal.returns-in_ok-run_apply-
 returns-in_ok-run_apply-in-Apply-clause-goes g c = λ other l is_code. c.in_ok-run_apply-in-Apply.ensures.goes c.in-Apply.is l is_code
 
 pub returns-in_ok-give_value-in-Value-clause-goes : goal.returns-in_ok-give_value-in-Value-clause-goes
-returns-in_ok-give_value-in-Value-clause-goes g c = λ other l is_code v names d at.
+returns-in_ok-give_value-in-Value-clause-goes g c = λ other l is_code v fits names d at.
     let run = c.args.run.now in
     let end = c.give_value.new.run in
     let w : World _ = world l (g.S.StateStore.seen run.store) g.S.StateStore.order (view_of run.arenas) in
@@ -19,14 +19,14 @@ returns-in_ok-give_value-in-Value-clause-goes g c = λ other l is_code v names d
     value-goes w after c.args.point c.args.step.now c.args.mode c.args.budget.now v names d end.now refl at (c.in_ok-give_value-in-Value.ensures c.in-Value.is l is_code v names d at)
 
 pub returns-in_ok-run_silent-in_default-clause-goes : goal.returns-in_ok-run_silent-in_default-clause-goes
-returns-in_ok-run_silent-in_default-clause-goes g c = λ other l is_code v names d at.
+returns-in_ok-run_silent-in_default-clause-goes g c = λ other l is_code v fits names d at.
     let run = c.args.run.now in
     let end = c.run_silent.new.run in
     let w : World _ = world l (g.S.StateStore.seen run.store) g.S.StateStore.order (view_of run.arenas) in
     let after : World _ = world l (g.S.StateStore.seen end.store) g.S.StateStore.order (view_of end.arenas) in
     let s = c.args.step.now in
     let silent : IsSilent s.node = silent-node s.node other c.in_default.not-Apply c.in_default.not-Value in
-    runs-silent w after c.args.point s end.now c.args.mode c.args.budget.now refl silent (c.in_ok-run_silent-in_default.ensures l is_code other silent) v names d at
+    runs-silent w after c.args.point s end.now c.args.mode c.args.budget.now refl silent (c.in_ok-run_silent-in_default.ensures l is_code other silent) v fits names d at
 
 pub returns-in_err-run_apply-in-Apply-clause-stops : goal.returns-in_err-run_apply-in-Apply-clause-stops
 returns-in_err-run_apply-in-Apply-clause-stops g c = so-at-err _ c.from_residual.result (λ l is_code. c.in_err-run_apply-in-Apply.ensures.stops c.in-Apply.is l is_code)

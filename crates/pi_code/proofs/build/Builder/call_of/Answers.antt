@@ -1,11 +1,14 @@
-use Rattle.std.proofs.Common.{◌≡◌, ℕ, Bool, true, List, length, inr, false, ◌∷◌, [], sym, ◌∙◌}
+use Rattle.std.proofs.Common.{◌≡◌, ℕ, Bool, true, List, length, inr, false, ◌∷◌, [], refl, sym, ◌∙◌, subst, IfSome, IfNone}
+use Rattle.pi_effects.specs.BuiltIns.{is_predicate}
+use Rattle.pi_builtin.specs.Resolved.{IsPredicateNamed}
 use Rattle.std.specs.Prelude.{codes}
 use Rattle.std.specs.Str.{bytes_eq}
 use Rattle.std.proofs.lemmas.Slice.Eq.{bytes_eq-Decides}
-use Rattle.pi_code.specs.Laid.{tables_for}
+use Rattle.pi_code.specs.Laid.{tables_for, IsNotBuiltIn}
+use Rattle.pi_code.proofs.LaidBuiltIns.{built-in-laid}
 use Rattle.pi_code.proofs.LaidTerms.{wider-added, operand-wider}
 use Rattle.pi_code.proofs.LaidOperands.{unnamed, two-terms, one-term, same-call}
-use Rattle.pi_code.proofs.build.Builder.call_of.Goals.{else-args-eq2-via-then-args-eq2+else-eq, else-args-eq2-via-else-args-eq2, else-args-eq1-via-then-args-eq1+else-eq-2, else-args-eq1-via-else-args-eq1}
+use Rattle.pi_code.proofs.build.Builder.call_of.Goals.{else-args-eq2-via-then-args-eq2+else-eq, else-args-eq2-via-else-args-eq2}
 use Rattle.pi_code.proofs.build.Builder.call_of.Goals as goal
 
 not-equal : (r : Bool) (shown name other : List ℕ) → r ≡ bytes_eq shown other → r ≡ false → shown ≡ name → name ≡ other → ⊥
@@ -28,20 +31,32 @@ returns-then-eq-2-clause-is g c = λ preds numbered. (
   c.in_ok-ball.ensures.is preds,
 )
 
+-- `=` with two arguments was told before
+pub returns-in-Some-clause-is : goal.returns-in-Some-clause-is
+returns-in-Some-clause-is g c = λ preds numbered.
+    let other : c.args.name.now ≡ codes "=" → length c.args.args.now ≡ 2 → ⊥ =
+    λ equal two.
+    elim c.else-args-eq2.branch [
+      | else-args-eq2-via-then-args-eq2+else-eq w ↦ not-equal w.eq.result w.as_str.result.now c.args.name.now (codes "=") w.eq.ensures w.if-eq.false w.as_str.ensures equal
+      | else-args-eq2-via-else-args-eq2 w ↦ w.if-args-eq2.false two
+    ] in
+    built-in-laid preds (g.S.StateStore.seen c.add_operands.new.store) c.add_operands.new.code
+    (record {
+      core = c.add_operands.new.code.core;
+      helpers = c.add_operands.new.code.helpers;
+      steps = c.add_operands.new.code.steps;
+      operands = c.add_operands.new.code.operands;
+      parts = c.add_operands.new.code.parts;
+      names = c.add_name.new.names;
+      tests = c.add_operands.new.code.tests;
+      rules = c.add_operands.new.code.rules;
+      predicates = c.add_operands.new.code.predicates;
+    }) c.args.name.now c.as_str-2.result.now c.args.args.now c.in-Some.predicate c.in_ok-name.name c.in_ok-operands.operands c.in_ok-count.count (length c.args.args.now) c.in_ok-name.ensures.added c.in_ok-name.ensures.place c.in_ok-count.ensures c.as_str-2.ensures refl
+    (subst (λ o. IfSome o (λ p. IsPredicateNamed c.as_str-2.result.now (length c.args.args.now) p)) c.in-Some.is c.predicate_named.ensures.some) other
+    (c.in_ok-operands.ensures.are preds)
+
 pub returns-in-None-clause-is : goal.returns-in-None-clause-is
 returns-in-None-clause-is g c = λ preds numbered.
-    inr (
-      unnamed c.args.self.now.numbers preds false c.args.name.now (length c.args.args.now) c.in_ok-number.field-0 numbered c.in_ok-number.ensures c.in-None.is,
-      (
-        λ equal two.
-            elim c.else-args-eq2.branch [
-              | else-args-eq2-via-then-args-eq2+else-eq w ↦ not-equal w.eq.result w.as_str.result.now c.args.name.now (codes "=") w.eq.ensures w.if-eq.false w.as_str.ensures equal
-              | else-args-eq2-via-else-args-eq2 w ↦ w.if-args-eq2.false two
-            ],
-        λ thrown one.
-            elim c.else-args-eq1.branch [
-              | else-args-eq1-via-then-args-eq1+else-eq-2 w ↦ not-equal w.eq-then-args-eq1.result w.as_str-then-args-eq1.result.now c.args.name.now (codes "throw") w.eq-then-args-eq1.ensures w.if-eq-2.false w.as_str-then-args-eq1.ensures thrown
-              | else-args-eq1-via-else-args-eq1 w ↦ w.if-args-eq1.false one
-            ],
-      ),
-    )
+    let none : is_predicate c.as_str-2.result.now (length c.args.args.now) ≡ false = subst (λ o. IfNone o (is_predicate c.as_str-2.result.now (length c.args.args.now) ≡ false)) c.in_default.is c.predicate_named.ensures.none in
+    let free : IsNotBuiltIn false c.args.name.now (length c.args.args.now) = subst (λ n. is_predicate n (length c.args.args.now) ≡ false) c.as_str-2.ensures none in
+    inr (unnamed c.args.self.now.numbers preds false c.args.name.now (length c.args.args.now) c.in_ok-number.field-0 numbered c.in_ok-number.ensures c.in-None.is, free)

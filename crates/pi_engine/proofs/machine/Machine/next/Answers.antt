@@ -26,7 +26,7 @@ returns-clause-ticks g c = λ on v program q events r.
     let names : c.as_slice.result.now ≡ q.names = c.as_slice.ensures ∙ p.names in
     told-by v m program q events (seen end.store) (view_of end.arenas) end.now a b c.next_happening.result on r
     (subst (λ ns. NextComes v ns m.mode a b (run_of (later m (seen end.store) (view_of end.arenas) end.now) l) m.now end.now p.config c.next_happening.result) names
-    (c.next_happening.ensures.comes l refl (subst (AreNames q.slots) (sym names) p.slots) v p.config (subst (λ ns. IsIn v ns (run_of m l) m.now p.config) (sym names) (placed-in v m program q events on p))))
+    (c.next_happening.ensures.comes l refl (subst (AreNames q.slots) (sym names) p.slots) v r.view p.config (subst (λ ns. IsIn v ns (run_of m l) m.now p.config) (sym names) (placed-in v m program q events on p))))
     c.next_happening.ensures.lasts
 
 pub returns-clause-steps : goal.returns-clause-steps

@@ -1,0 +1,14 @@
+use Rattle.std.proofs.Common.{subst}
+use Rattle.pi_calls.specs.Outcomes.{ShowsOutcome}
+use Rattle.pi_steps.proofs.CallsDone.{done-comes, raised-comes}
+use Rattle.pi_steps.proofs.built_ins.next_of.Goals as goal
+
+pub returns-in_ok-done-in-Ok : goal.returns-in_ok-done-in-Ok
+returns-in_ok-done-in-Ok g c = λ v e state shows.
+    let w = g.S.StateStore.seen c.args.store.now in
+    done-comes v w c.args.mode c.args.behind c.in-Ok.outcome e c.in_ok-done-in-Ok.field-0 (subst (λ r. ShowsOutcome v w r e) c.in-Ok.is shows) c.in_ok-done-in-Ok.ensures
+
+pub returns-in_ok-raised-in-Err : goal.returns-in_ok-raised-in-Err
+returns-in_ok-raised-in-Err g c = λ v e state shows.
+    let w = g.S.StateStore.seen c.args.store.now in
+    raised-comes v w c.args.mode c.args.behind c.in-Err.stop e c.in_ok-raised-in-Err.field-0 state (subst (λ r. ShowsOutcome v w r e) c.in-Err.is shows) c.in_ok-raised-in-Err.ensures
