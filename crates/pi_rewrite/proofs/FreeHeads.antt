@@ -22,7 +22,7 @@ no-kind : {X : Type 0} (o : Option X) → is_none o ≡ true → o ≡ None
 no-kind None h = refl
 no-kind (Some x) h = absurd cc
 
-own-free : (name : List ℕ) (k : ℕ) → is_own name k ≡ true → is_taken name k ≡ false
+pub own-free : (name : List ℕ) (k : ℕ) → is_own name k ≡ true → is_taken name k ≡ false
 own-free name k own =
     let parts : (not (is_form name k) ≡ true) × (is_none (kind_of name k) ≡ true) = and_parts (not (is_form name k)) (is_none (kind_of name k)) own in
     other-names-are_free name k (no-kind (kind_of name k) parts.1) (no-form (is_form name k) parts.0)

@@ -1,22 +1,25 @@
 -- Goals over names do what their lowered forms do over slots.
 use Rattle.std.proofs.Common.{◌≡◌, inl, inr, ℕ, ◌≤◌, Bool, true, false, cond, List, [], length, refl, sym, ◌∙◌, ap, subst, arith}
-use Rattle.std.specs.Prelude.{Option, Some, None, codes}
+use Rattle.std.specs.Prelude.{Option, Some, None, is_some, codes}
 use Rattle.std.specs.Str.{bytes_eq}
 use Rattle.std.proofs.lemmas.Bool.{false≢true}
-use Rattle.pi_terms.specs.Tree.{Trees, tree, no_trees, tree_count}
+use Rattle.pi_terms.specs.Tree.{Trees, tree_count}
 use Rattle.pi_states.specs.State.{State}
 use Rattle.pi_syntax.specs.ExpTree.{ExpTree, ExpTrees, no_exps, exp}
 use Rattle.pi_core.specs.GoalTree.{truth, fail, call}
 use Rattle.pi_traces.specs.Trace.{Trace, Done, done, one, then}
 use Rattle.pi_meaning.specs.View.{View}
-use Rattle.pi_meaning.specs.Instances.{small as builtins}
+use Rattle.pi_meaning.specs.Instances.{tabled as builtins}
 use Rattle.pi_meaning.specs.Drain.{drained}
 use Rattle.pi_meaning.specs.Level.{Level, calls_at, or_called, Point}
 use Rattle.pi_states.specs.Evaluation.{EvaluatedAll}
-use Rattle.pi_meaning.specs.Builtin.{effect}
+use Rattle.pi_meaning.specs.Builtin.{settled_effect, effect}
+use Rattle.pi_effects.specs.BuiltIns.{built_in_predicate, is_predicate}
+use Rattle.pi_effects.proofs.BuiltInLemmas.{predicates-listed}
+use Rattle.pi_effects.proofs.RowLemmas.{some-map}
 use Rattle.pi_meaning.specs.Meaning.{Action, in_state, draining, succeeding, failing, after_arguments, calling, meaning, meaning_of_all}
 use Rattle.pi_syntax.specs.Signature.{Signature, exp_count}
-use Rattle.pi_meaning.specs.Small.{Defines, AreSmallTerms, IsSmallAtom, IsSmallCall, IsSmallGoal, AreSmallGoals}
+use Rattle.pi_meaning.specs.Small.{Defines, AreSmallTerms, IsSmallCall, IsSmallGoal, AreSmallGoals}
 use Rattle.pi_traces.proofs.RelatedLemmas.{Same, same}
 use Rattle.pi_meaning.specs.Environment.{Environment, ValuedAll, valued_all}
 use Rattle.pi_meaning.specs.Place.{Place, Doing}
@@ -55,17 +58,14 @@ same-drained R l n e s act does drains each =
     after : (x y : State) → Same x y → SameBy R (act (at_slots l n e x)) (does (at_names e y))
     after _ _ (same x) = each x
 
--- `=` is built in
-equals-known : (v : View) (ts : Trees) (s : State) → tree_count ts ≡ 2 → effect v (codes "=") ts s ≡ None → ⊥
-unfolding effect tree_count
-equals-known v no_trees s h e = absurd cc
-equals-known v (tree t no_trees) s h e = absurd (omega arith)
-equals-known v (tree t (tree u no_trees)) s h e = absurd cc
-equals-known v (tree t (tree u (tree w ts))) s h e = absurd (omega arith)
+-- what is built in has an effect
+built-known : (v : View) (name : List ℕ) (ts : Trees) (s : State) → is_predicate name (tree_count ts) ≡ true → effect v name ts s ≡ None → ⊥
+unfolding effect
+built-known v name ts s built none =
+    absurd (false≢true (sym (ap is_some none) ∙ (some-map (settled_effect v s) (built_in_predicate name ts s) ∙ (predicates-listed name ts s ∙ built))))
 
 call-defined : (defined : Defined) (v : View) (name : List ℕ) (k : ℕ) (ts : Trees) (s : State) → IsSmallCall defined name k → tree_count ts ≡ k → effect v name ts s ≡ None → Defines defined name (tree_count ts)
-call-defined defined v name k ts s (inl equals) count none =
-    absurd (equals-known v ts s (count ∙ equals.1) (subst (λ (n : List ℕ). effect v n ts s ≡ None) equals.0 none))
+call-defined defined v name k ts s (inl built) count none = absurd (built-known v name ts s (ap (is_predicate name) count ∙ built) none)
 call-defined defined v name k ts s (inr known) count none = subst (Defines defined name) (sym count) known
 
 -- what a call does
@@ -96,14 +96,13 @@ same-call defined v l calls is name es small flat n e s room =
         SameBy (AtPlace l n after) (one (record { level = l; slots = slots_at n all.names; state = x })) (one (at_names all.names y))
     answer l n after all is p _ _ (same x) = same-one (AtPlace l n after) _ _ (at_place all.names x is)
 
-same-bare : (defined : Defined) (v : View) (l : Level) (calls : Calling) → SameCalls defined l calls → (name : List ℕ) (n : ℕ) (e : Environment) (s : State) → length (names_of e) ≤ n → Defines defined name 0 →
+same-bare : (defined : Defined) (v : View) (l : Level) (calls : Calling) → SameCalls defined l calls → (name : List ℕ) (n : ℕ) (e : Environment) (s : State) → length (names_of e) ≤ n → IsSmallCall defined name 0 →
     SameBy (AtPlace l n (names_of e)) (calling (builtins v) name [] (at_slots l n e s)) (call_trace v calls name no_exps (at_names e s))
 unfolding exp_count AreSmallTerms slots_after lowered_terms
-same-bare defined v l calls is name n e s room known = same-call defined v l calls is name no_exps (inr known) tt n e s room
+same-bare defined v l calls is name n e s room small = same-call defined v l calls is name no_exps small tt n e s room
 
 -- `true`, `fail`, or a call
-same-atom : (defined : Defined) (v : View) (l : Level) (calls : Calling) → SameCalls defined l calls → (name : List ℕ) (n : ℕ) (e : Environment) (s : State) → length (names_of e) ≤ n → (is_true is_fail : Bool) →
-    (is_true ≡ false → is_fail ≡ false → Defines defined name 0) →
+same-atom : (defined : Defined) (v : View) (l : Level) (calls : Calling) → SameCalls defined l calls → (name : List ℕ) (n : ℕ) (e : Environment) (s : State) → length (names_of e) ≤ n → (is_true is_fail : Bool) → IsSmallCall defined name 0 →
     SameBy (AtPlace l n (names_of e)) (meaning (builtins v) (cond is_true truth (cond is_fail fail (call name []))) (at_slots l n e s))
     (draining_first (λ p. cond is_true (one p) (cond is_fail done (call_trace v calls name no_exps p))) (at_names e s))
 unfolding meaning
@@ -111,18 +110,13 @@ same-atom defined v l calls is name n e s room true is_fail known =
     same-drained (AtPlace l n (names_of e)) l n e s succeeding (λ p. one p) is.drains (λ s. same-one (AtPlace l n (names_of e)) _ _ (at_place e s refl))
 same-atom defined v l calls is name n e s room false true known = same-drained (AtPlace l n (names_of e)) l n e s failing (λ p. done) is.drains (λ s. same_end Done)
 same-atom defined v l calls is name n e s room false false known =
-    same-drained (AtPlace l n (names_of e)) l n e s (calling (builtins v) name []) (call_trace v calls name no_exps) is.drains (λ s. same-bare defined v l calls is name n e s room (known refl refl))
-
-pub atom-known : (defined : Defined) (name : List ℕ) → IsSmallAtom defined name → bytes_eq name (codes "true") ≡ false → bytes_eq name (codes "fail") ≡ false → Defines defined name 0
-atom-known defined name (inl (inl is)) h k = absurd (false≢true (sym h ∙ ap (λ n. bytes_eq n (codes "true")) is))
-atom-known defined name (inl (inr is)) h k = absurd (false≢true (sym k ∙ ap (λ n. bytes_eq n (codes "fail")) is))
-atom-known defined name (inr is) h k = is
+    same-drained (AtPlace l n (names_of e)) l n e s (calling (builtins v) name []) (call_trace v calls name no_exps) is.drains (λ s. same-bare defined v l calls is name n e s room known)
 
 pub same-goal : (defined : Defined) (v : View) (l : Level) (calls : Calling) → SameCalls defined l calls → (g : ExpTree) → IsSmallGoal defined g → (n : ℕ) (e : Environment) (s : State) → length (slots_after g (names_of e)) ≤ n →
     SameBy (AtPlace l n (slots_after g (names_of e))) (meaning (builtins v) (lowered_goal g (names_of e)) (at_slots l n e s)) (goal_trace v calls g (at_names e s))
 unfolding slots_after meaning
 same-goal defined v l calls is (ExpTree.atom name) small n e s room =
-    same-atom defined v l calls is name n e s room (bytes_eq name (codes "true")) (bytes_eq name (codes "fail")) (atom-known defined name small)
+    same-atom defined v l calls is name n e s room (bytes_eq name (codes "true")) (bytes_eq name (codes "fail")) small
 same-goal defined v l calls is (ExpTree.call name es) small n e s room =
     same-drained (AtPlace l n (slots_after_all es (names_of e))) l n e s (calling (builtins v) name (lowered_terms es (names_of e))) (call_trace v calls name es) is.drains (λ s. same-call defined v l calls is name es small.0 small.1 n e s room)
 same-goal defined v l calls is g small n e s room = absurd small

@@ -5,7 +5,7 @@ use Rattle.pi_terms.specs.Tree.{Trees, comp, tree_count}
 use Rattle.pi_states.specs.State.{State}
 use Rattle.pi_traces.specs.Trace.{note, Tick}
 use Rattle.pi_meaning.specs.View.{View}
-use Rattle.pi_meaning.specs.Instances.{small as builtins}
+use Rattle.pi_meaning.specs.Instances.{tabled as builtins}
 use Rattle.pi_meaning.specs.Drain.{drained}
 use Rattle.pi_meaning.specs.Level.{Level, calls_at, ticked}
 use Rattle.pi_core.specs.CoreTree.{PredTree, find_pred}

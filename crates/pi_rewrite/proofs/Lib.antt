@@ -22,6 +22,7 @@ pub mod OverSurface
 pub mod CutLemmas
 pub mod LoweredLemmas
 pub mod BuiltTrees
+pub mod NamedBuilt
 pub mod ImportLemmas
 pub mod FreeHeads
 pub mod BuiltWithin

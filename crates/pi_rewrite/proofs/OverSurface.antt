@@ -8,7 +8,7 @@ use Rattle.pi_core.specs.CoreTree.{PredTree, QueryTree}
 use Rattle.pi_traces.specs.Trace.{Trace}
 use Rattle.pi_meaning.specs.View.{View}
 use Rattle.pi_meaning.specs.Level.{calls_at}
-use Rattle.pi_meaning.specs.Instances.{small as builtins}
+use Rattle.pi_meaning.specs.Instances.{tabled as builtins}
 use Rattle.pi_meaning.specs.Rules.{level_at}
 use Rattle.pi_meaning.specs.Small.{heads, Defines, IsSmallProgram, IsSmallQuery}
 use Rattle.pi_meaning.specs.Place.{Place, at_state, beginning}

@@ -11,7 +11,7 @@ use Rattle.pi_traces.specs.Trace.{Trace, end, one, then}
 use Rattle.pi_meaning.specs.Raise.{within_limit, too_large}
 use Rattle.pi_states.specs.Evaluation.{Evaluated, slot_term, evaluated}
 use Rattle.pi_meaning.specs.View.{View}
-use Rattle.pi_meaning.specs.Instances.{small as builtins}
+use Rattle.pi_meaning.specs.Instances.{tabled as builtins}
 use Rattle.pi_meaning.specs.Level.{Level, Point}
 use Rattle.pi_core.specs.CoreTree.{PredTree}
 use Rattle.pi_meaning.specs.Meaning.{draining, strictly, meaning}

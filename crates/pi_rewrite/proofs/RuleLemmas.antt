@@ -8,7 +8,7 @@ use Rattle.pi_syntax.specs.ExpTree.{ExpTree}
 use Rattle.pi_traces.specs.Trace.{Trace, one, alt, then}
 use Rattle.pi_traces.specs.Control.{chosen}
 use Rattle.pi_meaning.specs.View.{View}
-use Rattle.pi_meaning.specs.Instances.{small as builtins}
+use Rattle.pi_meaning.specs.Instances.{tabled as builtins}
 use Rattle.pi_meaning.specs.Drain.{drained}
 use Rattle.pi_states.specs.HeadMatch.{matched_all_in}
 use Rattle.pi_meaning.specs.Level.{Level, calls_at, Point}

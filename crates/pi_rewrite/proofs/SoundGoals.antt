@@ -1,6 +1,6 @@
 -- Lowered goals name slots that are there, and call what is there.
 use Rattle.std.proofs.Common.{◌≡◌, inl, inr, ℕ, suc, ◌<◌, ◌≤◌, Bool, true, false, cond, List, [], ◌∷◌, length, refl, sym, ◌∙◌, ap, subst, arith, length-append}
-use Rattle.std.specs.Prelude.{Option, Some, None, ◌⊎◌, option_map, codes, All, IsSome, IsTrue, ⊤}
+use Rattle.std.specs.Prelude.{Option, Some, None, ◌⊎◌, ◌||◌, option_map, codes, All, IsSome, IsTrue, ⊤}
 use Rattle.std.specs.Str.{bytes_eq}
 use Rattle.std.proofs.lemmas.Bool.{false≢true}
 use Rattle.std.proofs.lemmas.List.Elements.{All-nil, All-cons, All-append, All-contains}
@@ -11,20 +11,22 @@ use Rattle.pi_syntax.specs.ExpTree.{ExpTree, ExpTrees, no_exps, exp}
 use Rattle.pi_core.specs.GoalTree.{GoalTree, truth, fail, call, apply, seq, subgoals, subgoals_all}
 use Rattle.pi_terms.specs.PatternTree.{HasSlot, HaveSlot}
 use Rattle.pi_core.specs.CoreTree.{PredTree, find_pred}
-use Rattle.pi_effects.specs.Builtin.{is_built_in}
+use Rattle.std.specs.Ordering.{is_eq}
+use Rattle.pi_terms.specs.Order.{name_order}
+use Rattle.pi_states.proofs.MatchLemmas.{same_name}
 use Rattle.pi_effects.specs.Rows.{has_line}
 use Rattle.pi_effects.specs.Comparing.{comparing_tests}
 use Rattle.pi_effects.specs.Kinds.{kind_tests}
 use Rattle.pi_effects.specs.Texts.{writing_predicates}
 use Rattle.pi_effects.specs.BuiltIns.{tests, other_predicates, is_predicate}
 use Rattle.pi_meaning.specs.Sound.{NamesBelow, SlotsBelow, IsKnown, CallsKnown, pattern_count}
-use Rattle.pi_meaning.specs.Names.{is_planner, is_given}
+use Rattle.pi_meaning.specs.Names.{is_call, is_planner, is_later_predicate, is_given}
 use Rattle.pi_meaning.specs.Defined.{CallsDefined}
 use Rattle.pi_meaning.specs.Small.{Defines, AreSmallTerms, IsSmallTerm, IsSmallCall, IsSmallGoal, AreSmallGoals, IsSmallBody}
 use Rattle.pi_syntax.specs.Signature.{exp_count}
 use Rattle.pi_rewrite.specs.Lowered.{SlotNames, slot_of, slot_known, slot_or_next, slots_with, slots_after, slots_after_all, lowered_term, lowered_terms, lowered_pattern, lowered_patterns, lowered_goal, lowered_goals, lowered_body}
 use Rattle.pi_rewrite.proofs.ValuedLemmas.{terms-grow}
-use Rattle.pi_rewrite.proofs.GoalLemmas.{Defined, goals-grow, atom-known}
+use Rattle.pi_rewrite.proofs.GoalLemmas.{Defined, goals-grow}
 
 -- ---- slots
 
@@ -106,9 +108,9 @@ pub record Knows (defined : Defined) (preds : List PredTree) : Type 0 where
   pub known : (name : List ℕ) (k : ℕ) → Defines defined name k → IsSome (find_pred false name k preds)
   pub no_planner : (name : List ℕ) (k : ℕ) → Defines defined name k → is_planner name k ≡ false
 
--- a predicate of the program, or `=` or `throw`
+-- a predicate of the program, or of the tables
 abbrev IsDefined : List PredTree → List ℕ → ℕ → Type 0
-IsDefined preds name k = IsSome (find_pred false name k preds) ⊎ IsTrue (is_built_in false name k)
+IsDefined preds name k = IsSome (find_pred false name k preds) ⊎ IsTrue (is_predicate name k)
 
 -- what is called is known, is no planner call, and is defined
 abbrev IsCallable : List PredTree → List ℕ → ℕ → Type 0
@@ -123,18 +125,32 @@ Calls preds g = ⊤
 abbrev pub Good : List PredTree → ℕ → GoalTree → Type 0
 Good preds n g = NamesBelow n g × Calls preds g
 
--- the language gives `=`
-equals-given : is_given false (codes "=") 2 ≡ true
-unfolding is_predicate tests comparing_tests kind_tests writing_predicates other_predicates has_line
-equals-given = refl
+-- the language gives what is built in, and planner calls aren't
+or-second : (a b c : Bool) → b ≡ true → (a || (b || c)) ≡ true
+or-second true b c h = refl
+or-second false true c h = refl
+or-second false false c h = absurd cc
 
--- a call of what is defined, or an equation
+built-given : (name : List ℕ) (k : ℕ) → is_predicate name k ≡ true → is_given false name k ≡ true
+built-given name k built = or-second (is_call name k) (is_predicate name k) (is_later_predicate name k) built
+
+plans-unlisted : (k : ℕ) → (is_predicate (codes "plan") k ≡ false) × (is_predicate (codes "best_plan") k ≡ false)
+unfolding is_predicate tests comparing_tests kind_tests writing_predicates other_predicates has_line
+plans-unlisted k = (refl, refl)
+
+no-such : (name other : List ℕ) (k : ℕ) → is_predicate name k ≡ true → is_predicate other k ≡ false → is_eq (name_order name other) ≡ false
+no-such name other k built isnt = tested (is_eq (name_order name other)) refl
+  where
+    tested : (b : Bool) → is_eq (name_order name other) ≡ b → b ≡ false
+    tested true is = absurd (false≢true (sym isnt ∙ (sym (ap (λ (n : List ℕ). is_predicate n k) (same_name name other is)) ∙ built)))
+    tested false is = refl
+
+no-planner : (name : List ℕ) (k : ℕ) → is_predicate name k ≡ true → is_planner name k ≡ false
+no-planner name k built = rw (no-such name (codes "plan") k built (plans-unlisted k).0, no-such name (codes "best_plan") k built (plans-unlisted k).1) refl
+
+-- a call of what is defined, or built in
 call-known : (defined : Defined) (preds : List PredTree) → Knows defined preds → (name : List ℕ) (k : ℕ) → IsSmallCall defined name k → IsCallable preds name k
-call-known defined preds knows name k (inl is) = (
-  inr (ap (λ n. is_given false n k) is.0 ∙ ap (is_given false (codes "=")) is.1 ∙ equals-given),
-  ap (λ n. is_planner n k) is.0 ∙ ap (is_planner (codes "=")) is.1,
-  inr (ap (λ n. is_built_in false n k) is.0 ∙ ap (is_built_in false (codes "=")) is.1),
-)
+call-known defined preds knows name k (inl built) = (inr (built-given name k built), no-planner name k built, inr built)
 call-known defined preds knows name k (inr is) = (inl (knows.known name k is), knows.no_planner name k is, inl (knows.known name k is))
 
 call-good : (defined : Defined) (preds : List PredTree) → Knows defined preds → (name : List ℕ) (es : ExpTrees) → IsSmallCall defined name (exp_count es) → AreSmallTerms es → (ns : SlotNames) (n : ℕ) → length (slots_after_all es ns) ≤ n →
@@ -144,8 +160,8 @@ call-good defined preds knows name es small flat ns n room = (
   subst (IsCallable preds name) (sym (terms-length es ns)) (call-known defined preds knows name (exp_count es) small),
 )
 
-bare-good : (defined : Defined) (preds : List PredTree) → Knows defined preds → (name : List ℕ) (n : ℕ) → Defines defined name 0 → Good preds n (call name [])
-bare-good defined preds knows name n is = ((λ t there. absurd (omega (arith, there.1))), call-known defined preds knows name 0 (inr is))
+bare-good : (defined : Defined) (preds : List PredTree) → Knows defined preds → (name : List ℕ) (n : ℕ) → IsSmallCall defined name 0 → Good preds n (call name [])
+bare-good defined preds knows name n is = ((λ t there. absurd (omega (arith, there.1))), call-known defined preds knows name 0 is)
 
 alone : (preds : List PredTree) (n : ℕ) (g : GoalTree) → Good preds n g → subgoals g ≡ g ∷ [] → All (Good preds n) (subgoals g)
 alone preds n g h is = subst (All (Good preds n)) (sym is) (All-cons (Good preds n) g [] h (All-nil (Good preds n)))
@@ -154,16 +170,16 @@ pub truth-good : (preds : List PredTree) (n : ℕ) → All (Good preds n) (subgo
 unfolding subgoals
 truth-good preds n = alone preds n truth (tt, tt) refl
 
-atom-good : (defined : Defined) (preds : List PredTree) → Knows defined preds → (name : List ℕ) (n : ℕ) (is_true is_fail : Bool) → (is_true ≡ false → is_fail ≡ false → Defines defined name 0) →
+atom-good : (defined : Defined) (preds : List PredTree) → Knows defined preds → (name : List ℕ) (n : ℕ) (is_true is_fail : Bool) → IsSmallCall defined name 0 →
     All (Good preds n) (subgoals (cond is_true truth (cond is_fail fail (call name []))))
 unfolding subgoals
 atom-good defined preds knows name n true is_fail known = alone preds n truth (tt, tt) refl
 atom-good defined preds knows name n false true known = alone preds n fail (tt, tt) refl
-atom-good defined preds knows name n false false known = alone preds n (call name []) (bare-good defined preds knows name n (known refl refl)) refl
+atom-good defined preds knows name n false false known = alone preds n (call name []) (bare-good defined preds knows name n known) refl
 
 goal-good : (defined : Defined) (preds : List PredTree) → Knows defined preds → (g : ExpTree) → IsSmallGoal defined g → (ns : SlotNames) (n : ℕ) → length (slots_after g ns) ≤ n → All (Good preds n) (subgoals (lowered_goal g ns))
 unfolding slots_after subgoals
-goal-good defined preds knows (ExpTree.atom name) small ns n room = atom-good defined preds knows name n (bytes_eq name (codes "true")) (bytes_eq name (codes "fail")) (atom-known defined name small)
+goal-good defined preds knows (ExpTree.atom name) small ns n room = atom-good defined preds knows name n (bytes_eq name (codes "true")) (bytes_eq name (codes "fail")) small
 goal-good defined preds knows (ExpTree.call name es) small ns n room = alone preds n (call name (lowered_terms es ns)) (call-good defined preds knows name es small.0 small.1 ns n room) refl
 goal-good defined preds knows g small ns n room = absurd small
 

@@ -11,7 +11,7 @@ use Rattle.pi_traces.specs.Depth.{Cut}
 use Rattle.pi_meaning.specs.View.{View}
 use Rattle.pi_meaning.specs.Level.{calls_at}
 use Rattle.pi_meaning.specs.Builtins.{Builtins}
-use Rattle.pi_meaning.specs.Instances.{small}
+use Rattle.pi_meaning.specs.Instances.{tabled}
 use Rattle.pi_meaning.specs.Meaning.{in_state, meaning, strictly}
 use Rattle.pi_meaning.specs.Rules.{level_at}
 use Rattle.pi_meaning.specs.Run.{Solution, query_start, answered_with, IsRunUnder}
@@ -42,7 +42,7 @@ DefinesTheSame program preds = (name : List ℕ) (k : ℕ) → IsSome (find_pred
 -- loads and outputs, the same end, and in each answer the same state, so that variables have the same numbers.
 abbrev pub CallsTheSame : ProgramTree → List PredTree → Type 0
 CallsTheSame program preds = (v : View) (later : LaterStages) (d : ℕ) (name : List ℕ) (ts : Trees) (s : State) → Defines (heads program) name (tree_count ts) →
-    (calls_at (level_at (small v) preds d)).called name ts s ≡ (calls_at (program_level v later program d)).called name ts s
+    (calls_at (level_at (tabled v) preds d)).called name ts s ≡ (calls_at (program_level v later program d)).called name ts s
 
 -- a core program that keeps the meaning of a program, none of whose predicates has a name that means something else. It calls `=`, `throw` and what it defines.
 pub record IsLoweredProgram (program : ProgramTree) (preds : List PredTree) : Type 0 where
@@ -63,11 +63,11 @@ query_from b preds q d s = then (strictly (meaning b q.goal) (in_state (query_st
 -- the same values by the same names, and has the same state.
 abbrev pub MeansTheSame : ProgramTree → ExpTree → List PredTree → QueryTree → Type 0
 MeansTheSame program goal preds q = (v : View) (later : LaterStages) (d : ℕ) (s : State) →
-    told_trace (solution_told q.names) (query_from (small v) preds q d s) ≡ told_trace (place_told (answer_names goal)) (names_from v later program goal d (at_state beginning s))
+    told_trace (solution_told q.names) (query_from (tabled v) preds q d s) ≡ told_trace (place_told (answer_names goal)) (names_from v later program goal d (at_state beginning s))
 
 -- the runs of a query are those of a goal over its names
 abbrev pub RunsTheSame : ProgramTree → ExpTree → List PredTree → QueryTree → Type 0
-RunsTheSame program goal preds q = (v : View) (later : LaterStages) (n : ℕ) (c : Cut Solution) → IsRunUnder (small v) preds q n c →
+RunsTheSame program goal preds q = (v : View) (later : LaterStages) (n : ℕ) (c : Cut Solution) → IsRunUnder (tabled v) preds q n c →
     IsNamesRun v later program goal n (told_cut (solution_told q.names) c)
 
 -- a query that keeps the meaning of a goal that is asked of a program; it calls nothing else either

@@ -1,7 +1,7 @@
--- Which parts of a program and which goals are built: `import`, and what the small language has. A goal is `true`, `fail`, `T = U` or
--- the call of a name that isn't built in; T, U and arguments are variables, integers and atoms. (Own.)
-use Rattle.std.specs.Prelude.{ℕ, ◌+◌, ◌==◌, Bool, true, false, not, ◌&&◌, ◌||◌, if◌then◌else◌, List, [], ◌∷◌, filter, Option, Some, None, is_none, codes}
-use Rattle.std.specs.Str.{bytes_eq}
+-- Which parts of a program and which goals are built: `import`, and what the small language has. A goal is the call of a built-in predicate, or of a name that
+-- isn't built in; arguments are variables, integers and atoms. (Own.)
+use Rattle.std.specs.Prelude.{ℕ, ◌+◌, Bool, true, false, not, ◌&&◌, ◌||◌, if◌then◌else◌, List, [], ◌∷◌, filter, Option, Some, None, is_none}
+use Rattle.pi_effects.specs.BuiltIns.{is_predicate}
 use Rattle.pi_lib.specs.Forms.{is_form}
 use Rattle.pi_lib.specs.Names.{kind_of}
 use Rattle.pi_syntax.specs.ExpTree.{ExpTree, var, int, atom, call, and, ExpTrees, no_exps, exp}
@@ -31,16 +31,12 @@ is_built_head (atom name) = is_own name 0
 is_built_head (call name es) = is_own name (exp_count es) && are_built_terms es
 is_built_head e = false
 
--- `true`, `fail` or a call without arguments
-abbrev pub is_built_atom : List ℕ → Bool
-is_built_atom name = (bytes_eq name (codes "true") || bytes_eq name (codes "fail")) || is_own name 0
-
--- an equation, or a call
+-- the call of a built-in predicate, or of one of a program
 abbrev pub is_built_call : List ℕ → ℕ → Bool
-is_built_call name arity = (arity == 2 && bytes_eq name (codes "=")) || is_own name arity
+is_built_call name arity = is_predicate name arity || is_own name arity
 
 abbrev pub is_built_goal : ExpTree → Bool
-is_built_goal (atom name) = is_built_atom name
+is_built_goal (atom name) = is_built_call name 0
 is_built_goal (call name es) = is_built_call name (exp_count es) && are_built_terms es
 is_built_goal e = false
 

@@ -3,8 +3,10 @@ ghost use Rattle.std.specs.Prelude.{◌≡◌};
 ghost use Rattle.std.specs.List.{list_all};
 ghost use Rattle.pi_syntax.specs.ExpTree.{exp_tree};
 ghost use Rattle.pi_syntax.specs.ProgramTree.{part_tree, source_tree, written_clause};
+ghost use Rattle.pi_effects.specs.BuiltIns.{is_predicate};
 ghost use Rattle.pi_rewrite.specs.Unbuilt as spec;
 
+use pi_builtin::predicate_named;
 use pi_lib::{is_form, kind_of};
 use pi_syntax::{Clause, Decl, Exp, Part, Program};
 
@@ -87,7 +89,7 @@ fn is_built_goal(goal: &Exp) -> bool
     ensures { result ≡ spec.is_built_goal (exp_tree goal.now) }
 {
     match goal {
-        Exp::Atom(name) => is_built_atom(name.as_str()),
+        Exp::Atom(name) => is_built_call(name.as_str(), 0),
         Exp::Call(name, args) => {
             is_built_call(name.as_str(), args.len()) & are_built_terms(args.as_slice())
         }
@@ -95,16 +97,20 @@ fn is_built_goal(goal: &Exp) -> bool
     }
 }
 
-fn is_built_atom(name: &str) -> bool
-    ensures { result ≡ spec.is_built_atom name.now }
-{
-    name == "true" || name == "fail" || is_own(name, 0)
-}
-
 fn is_built_call(name: &str, arity: usize) -> bool
     ensures { result ≡ spec.is_built_call name.now arity }
 {
-    arity == 2 && name == "=" || is_own(name, arity)
+    is_predicate(name, arity) || is_own(name, arity)
+}
+
+/// Whether a predicate of this name is built in.
+fn is_predicate(name: &str, arity: usize) -> bool
+    ensures { result ≡ is_predicate name.now arity }
+{
+    match predicate_named(name, arity) {
+        Some(_) => true,
+        None => false,
+    }
 }
 
 fn are_built_terms(terms: &[Exp]) -> bool

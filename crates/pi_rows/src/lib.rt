@@ -6,6 +6,8 @@ mod faulty;
 #[cfg(test)]
 mod orders;
 #[cfg(test)]
+mod output;
+#[cfg(test)]
 mod row;
 #[cfg(test)]
 mod small;
@@ -19,7 +21,7 @@ mod tests {
     use crate::faulty::FAULTY;
     use crate::orders::ORDERS;
     use crate::row::{OPEN, Row, USAGE};
-    use crate::{small, text, words};
+    use crate::{output, small, text, words};
     use pi_outside::{MemoryFiles, MemorySink, SureSource};
     use pi_top::picatq;
     use std::alloc::Global;
@@ -81,6 +83,15 @@ mod tests {
     #[test]
     fn text_rows(rt: HostRuntime) -> Result<(), Fail> {
         for row in &text::ROWS {
+            let right = is_right(rt.alloc(), row, NOTHING)?;
+            assert!(rt; right, "{:?} {:?}", row.program, row.words);
+        }
+        Ok(())
+    }
+
+    #[test]
+    fn rows_of_output(rt: HostRuntime) -> Result<(), Fail> {
+        for row in &output::ROWS {
             let right = is_right(rt.alloc(), row, NOTHING)?;
             assert!(rt; right, "{:?} {:?}", row.program, row.words);
         }
@@ -176,6 +187,33 @@ mod tests {
             let row = Row {
                 program: Some(OPEN),
                 words: &["FILE", "p(X)"],
+                output,
+                status: 8,
+            };
+            assert!(rt;
+                is_right(rt.alloc(), &row, Failing { read: 0, write })?,
+                "{:?}",
+                write
+            );
+        }
+        Ok(())
+    }
+
+    /// The same where a text comes before each answer.
+    static FAILING_TEXTS: [(u64, &str); 5] = [
+        (1, ""),
+        (2, "1\n"),
+        (3, "1\nX = 1\n"),
+        (4, "1\nX = 1\nyes\n"),
+        (5, "1\nX = 1\nyes\n2\n"),
+    ];
+
+    #[test]
+    fn each_write_of_a_text_fails_in_turn(rt: HostRuntime) -> Result<(), Fail> {
+        for (write, output) in FAILING_TEXTS {
+            let row = Row {
+                program: Some(OPEN),
+                words: &["FILE", "p(X), println(X)"],
                 output,
                 status: 8,
             };

@@ -248,7 +248,7 @@ pub static ROWS: [Row<'static>; 46] = [
         status: 3,
     },
     Row {
-        program: Some("import cp. p => true. q(X) => println(X)."),
+        program: Some("import cp. p => true. q(X) => call(X)."),
         words: &["FILE", "X = 1 + 2"],
         output: "program: NotBuilt 3\n",
         status: 3,

@@ -1,18 +1,18 @@
 -- Goals and clauses that are built, and whose calls are known, are of the small language.
 use Rattle.std.proofs.Common.{◌≡◌, inl, inr, ℕ, ◌==◌, ◌&&◌, ◌||◌, Bool, true, false, if◌then◌else◌, List, [], ◌∷◌, ◌++◌, map, Option, Some, None, refl, ap, ◌∙◌, sym, subst, append_assoc}
-use Rattle.std.specs.Prelude.{codes, is_none}
-use Rattle.std.specs.Str.{bytes_eq}
-use Rattle.std.proofs.lemmas.Bool.{and_parts, or_cases, eqb-true}
+use Rattle.std.specs.Prelude.{is_none}
+use Rattle.std.proofs.lemmas.Bool.{and_parts, or_cases}
+use Rattle.pi_effects.specs.BuiltIns.{is_predicate}
 use Rattle.pi_lib.specs.Forms.{is_form}
 use Rattle.pi_syntax.specs.ExpTree.{ExpTree, var, int, atom, call, and, ExpTrees, no_exps, exp}
 use Rattle.pi_syntax.specs.ProgramTree.{RuleTree, WrittenClause, rule, function, fact}
 use Rattle.pi_syntax.specs.Signature.{exp_count}
-use Rattle.pi_meaning.specs.Small.{Defines, IsSmallTerm, AreSmallTerms, IsSmallHead, IsSmallAtom, IsSmallCall, IsSmallGoal, AreSmallGoals, IsSmallBody, IsSmallRule, IsSmallClause}
+use Rattle.pi_meaning.specs.Small.{Defines, IsSmallTerm, AreSmallTerms, IsSmallHead, IsSmallCall, IsSmallGoal, AreSmallGoals, IsSmallBody, IsSmallRule, IsSmallClause}
 use Rattle.pi_clauses.specs.Calls.{Named, named, is_planner_call, goal_calls, planner_calls, calls_of_goal, node_calls, calls_among, is_known, first_unknown}
 use Rattle.pi_clauses.specs.Places.{goal, Placed, test, placed, below, all_placed, placed_if, clause_placed}
-use Rattle.pi_rewrite.specs.Unbuilt.{is_own, is_built_term, are_built_terms, is_built_head, is_built_atom, is_built_call, is_built_goal, are_built_goals, is_built_body, are_none, is_built_rule, is_built_clause}
+use Rattle.pi_rewrite.specs.Unbuilt.{is_own, is_built_term, are_built_terms, is_built_head, is_built_call, is_built_goal, are_built_goals, is_built_body, are_none, is_built_rule, is_built_clause}
 use Rattle.pi_rewrite.proofs.BuiltTrees.{goes_on}
-use Rattle.pi_top.proofs.OwnNames.{same_bytes, no_form, own_is_free, known_is_defined, shown}
+use Rattle.pi_top.proofs.OwnNames.{no_form, own_is_free, known_is_defined, shown}
 
 -- ---- calls that are known
 
@@ -71,25 +71,14 @@ small_head _ h = absurd (cc)
 small_own : (defined : List Named) (name : List ℕ) (k : ℕ) → is_own name k ≡ true → first_unknown defined (goal_calls name k) ≡ None → Defines (map shown defined) name k
 small_own defined name k own known = known_is_defined defined name k own (goal_known defined name k (no_form name k own) known)
 
-small_atom : (defined : List Named) (name : List ℕ) → is_built_atom name ≡ true → first_unknown defined (goal_calls name 0) ≡ None → IsSmallAtom (map shown defined) name
-small_atom defined name h known = elim (or_cases (bytes_eq name (codes "true") || bytes_eq name (codes "fail")) (is_own name 0) h) [
-  | inl word ↦ elim (or_cases (bytes_eq name (codes "true")) (bytes_eq name (codes "fail")) word) [
-    | inl e ↦ inl (inl (same_bytes name (codes "true") e))
-    | inr e ↦ inl (inr (same_bytes name (codes "fail") e))
-  ]
-  | inr own ↦ inr (small_own defined name 0 own known)
-]
-
 small_call : (defined : List Named) (name : List ℕ) (k : ℕ) → is_built_call name k ≡ true → first_unknown defined (goal_calls name k) ≡ None → IsSmallCall (map shown defined) name k
-small_call defined name k h known = elim (or_cases (k == 2 && bytes_eq name (codes "=")) (is_own name k) h) [
-  | inl e ↦
-      let both = and_parts (k == 2) (bytes_eq name (codes "=")) e in
-      inl (same_bytes name (codes "=") both.1, eqb-true k 2 both.0)
+small_call defined name k h known = elim (or_cases (is_predicate name k) (is_own name k) h) [
+  | inl built_in ↦ inl built_in
   | inr own ↦ inr (small_own defined name k own known)
 ]
 
 small_goal : (defined : List Named) (e : ExpTree) → is_built_goal e ≡ true → first_unknown defined (calls_of_goal e) ≡ None → IsSmallGoal (map shown defined) e
-small_goal defined (atom name) h known = small_atom defined name h known
+small_goal defined (atom name) h known = small_call defined name 0 h known
 small_goal defined (call name es) h known =
     let both = and_parts (is_built_call name (exp_count es)) (are_built_terms es) h in
     (small_call defined name (exp_count es) both.0 known, small_terms es both.1)

@@ -101,3 +101,41 @@ answers-turn events k x =
 
 pub last-turn : (events : List (Emitted Solution)) (k : ℕ) (x : Solution) (given : ℕ) → count_answers (events ++ turn k x) ≡ given → EndsWithLast given (events ++ turn k x)
 last-turn events k x given all = record { front = events ++ some_ticks k; last = x; is = sym (append_assoc events (some_ticks k) (answered x ∷ [])); all = all }
+
+-- Ticks and a text
+abbrev pub text-turn : ℕ → List ℕ → List (Emitted Solution)
+text-turn k text = some_ticks k ++ noted (Out text) ∷ []
+
+text-alone : (names : List NameSlot) (text : List ℕ) → print_solutions names (noted (Out text) ∷ []) ≡ text ∷ []
+unfolding print_solutions
+text-alone names text = refl
+
+pub print-text : (names : List NameSlot) (events : List (Emitted Solution)) (k : ℕ) (text : List ℕ) → print_solutions names (events ++ text-turn k text) ≡ print_solutions names events ++ text ∷ []
+print-text names events k text =
+    print-append names events (text-turn k text)
+    ∙ ap (λ l. print_solutions names events ++ l)
+    (print-append names (some_ticks k) (noted (Out text) ∷ []) ∙ ap (λ l. l ++ print_solutions names (noted (Out text) ∷ [])) (print-of_ticks names k) ∙ text-alone names text)
+
+no-tick : (text : List ℕ) → count_ticks {A = Solution} (noted (Out text) ∷ []) ≡ 0
+unfolding count_ticks
+no-tick text = refl
+
+no-answer : (text : List ℕ) → count_answers {A = Solution} (noted (Out text) ∷ []) ≡ 0
+unfolding count_answers
+no-answer text = refl
+
+pub ticks-text : (events : List (Emitted Solution)) (k : ℕ) (text : List ℕ) → count_ticks (events ++ text-turn k text) ≡ count_ticks events + k
+ticks-text events k text =
+    let all = ticks-append events (text-turn k text) in
+    let inner = ticks-append (some_ticks k) (noted (Out text) ∷ []) in
+    let some = ticks-of_ticks k in
+    let none = no-tick text in
+    omega (arith, all, inner, some, none)
+
+pub answers-text : (events : List (Emitted Solution)) (k : ℕ) (text : List ℕ) → count_answers (events ++ text-turn k text) ≡ count_answers events
+answers-text events k text =
+    let all = answers-append events (text-turn k text) in
+    let inner = answers-append (some_ticks k) (noted (Out text) ∷ []) in
+    let some = answers-of_ticks k in
+    let none = no-answer text in
+    omega (arith, all, inner, some, none)

@@ -14,7 +14,7 @@ use Rattle.pi_meaning.specs.Told.{answer_of, solution_told}
 use Rattle.pi_meaning.specs.Telling.{Told, told_event, told_cut}
 use Rattle.pi_print.specs.PrintAnswer.{answer_lines}
 use Rattle.pi_rewrite.specs.Laws.{RunsTheSame}
-use Rattle.pi_top.specs.Headline.{IsPart, Headline, HowCut, in_answer, in_line, at_memory, IsCutOff}
+use Rattle.pi_top.specs.Headline.{IsPart, Headline, HowCut, in_answer, in_text, in_line, at_memory, IsCutOff}
 use Rattle.pi_top.specs.Prefix.{IsPrefix}
 use Rattle.pi_top.specs.Printing.{print}
 use Rattle.pi_top.specs.QueryEnd.{QueryEnd, Stopped, NoMore, No, Exception, StepsSpent, line_of, count_answers, EndsWithLast, IsWhole, Ends}
@@ -86,6 +86,10 @@ told-cut answers q run part ticks status writes (HowQueryIsCut.in_answer eight c
     let asked = told-answers q.names part in
     in_answer eight (count ∙ sym (told-ticks q.names part)) (told q.names earlier) (solution_told q.names x)
     (ap (told q.names) is ∙ map-append (told_event (solution_told q.names)) earlier (answered x ∷ [])) (omega (arith, asked, few)) (rw (told-prints q.names earlier) takes)
+told-cut answers q run part ticks status writes (HowQueryIsCut.in_text eight count earlier text is few takes) =
+    let asked = told-answers q.names part in
+    in_text eight (count ∙ sym (told-ticks q.names part)) (told q.names earlier) text
+    (ap (told q.names) is ∙ map-append (told_event (solution_told q.names)) earlier (noted (Out text) ∷ [])) (omega (arith, asked, few)) (rw (told-prints q.names earlier) takes)
 told-cut answers q run part ticks status writes (HowQueryIsCut.in_line eight count ending ends takes) =
     in_line eight (count ∙ sym (told-ticks q.names part)) ending (told-ends q.names answers part run ending ends) (rw (told-prints q.names part) takes)
 told-cut answers q run part ticks status writes (HowQueryIsCut.at_memory nine count few takes) =

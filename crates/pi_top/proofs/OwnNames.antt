@@ -1,20 +1,26 @@
 -- A name that isn't built in is free for a program, and where its call is known the program defines it.
 use Rattle.std.proofs.Common.{◌≡◌, inl, inr, ℕ, suc, ◌==◌, ◌&&◌, ◌||◌, not, Bool, true, false, List, [], ◌∷◌, map, Option, Some, None, refl, ap, ◌∙◌, sym, subst, arith}
-use Rattle.std.specs.Prelude.{Contains, codes, is_none}
+use Rattle.std.specs.Prelude.{Contains, codes, is_none, is_some}
 use Rattle.std.specs.List.{list_any}
 use Rattle.std.specs.Ordering.{is_eq}
 use Rattle.std.specs.Str.{bytes_eq}
-use Rattle.std.proofs.lemmas.Bool.{and_parts, or_cases, or_from, not-true, false_from_ne_true, eqb-true}
+use Rattle.std.proofs.lemmas.Bool.{and_parts, or_parts, or_cases, not-true, false_from_ne_true, eqb-true}
 use Rattle.std.proofs.lemmas.Slice.Eq.{bytes_eq-Decides}
 use Rattle.pi_lib.specs.declared.builtin.BuiltinKind.{BuiltinKind}
 use Rattle.pi_lib.specs.Forms.{is_form}
 use Rattle.pi_lib.specs.Names.{kind_of, function_rows, predicate_rows, prelude_rows}
 use Rattle.pi_terms.specs.Order.{name_order}
 use Rattle.pi_syntax.specs.Signature.{Signature}
+use Rattle.pi_effects.specs.BuiltIns.{is_predicate}
+use Rattle.pi_meaning.specs.Names.{is_later_predicate}
 use Rattle.pi_meaning.specs.Small.{IsFree}
+use Rattle.pi_names.specs.Forms.{form_of}
+use Rattle.pi_names.specs.Kinds.{means_prelude}
+use Rattle.pi_names.specs.NameLaws.{is_taken}
 use Rattle.pi_states.proofs.MatchLemmas.{same_name}
 use Rattle.pi_clauses.specs.Calls.{Named, named, is_kind, same_bool, same_named, is_known}
 use Rattle.pi_rewrite.specs.Unbuilt.{is_own}
+use Rattle.pi_rewrite.proofs.FreeHeads.{own-free}
 
 pub same_bytes : (a b : List ℕ) → bytes_eq a b ≡ true → a ≡ b
 same_bytes a b e = (bytes_eq-Decides a b).0 e
@@ -49,12 +55,16 @@ no_planner name k free other two three four same arity = elim (or_cases (k == 2)
   ]
 ]
 
-free_name : (name : List ℕ) (k : ℕ) → is_none (kind_of name k) ≡ true → IsFree name k
+no_predicate : (name : List ℕ) (k : ℕ) → is_taken name k ≡ false → is_predicate name k ≡ false
+unfolding is_taken
+no_predicate name k free =
+    let named : (is_predicate name k || (is_later_predicate name k || means_prelude name k)) ≡ false = (or_parts (is_some (form_of name k)) _ free).1 in
+    (or_parts (is_predicate name k) (is_later_predicate name k || means_prelude name k) named).0
+
+free_name : (name : List ℕ) (k : ℕ) → is_predicate name k ≡ false → is_none (kind_of name k) ≡ true → IsFree name k
 unfolding kind_of function_rows predicate_rows prelude_rows
-free_name name k free = record {
-  not_built_in = or_from (is_eq (name_order name (codes "throw")) && (k == 1)) (is_eq (name_order name (codes "=")) && (k == 2))
-      (not_both (is_eq (name_order name (codes "throw"))) (k == 1) (apart_by_test name k free (codes "throw") 1 refl))
-      (not_both (is_eq (name_order name (codes "="))) (k == 2) (apart_by_test name k free (codes "=") 2 refl));
+free_name name k other free = record {
+  not_built_in = other;
   not_planner = not_both (is_eq (name_order name (codes "plan")) || is_eq (name_order name (codes "best_plan"))) ((k == 2) || ((k == 3) || (k == 4)))
       (λ name_is arity. elim (or_cases (is_eq (name_order name (codes "plan"))) (is_eq (name_order name (codes "best_plan"))) name_is) [
         | inl e ↦ no_planner name k free (codes "plan") refl refl refl e arity
@@ -65,7 +75,7 @@ free_name name k free = record {
 }
 
 pub own_is_free : (name : List ℕ) (k : ℕ) → is_own name k ≡ true → IsFree name k
-own_is_free name k own = free_name name k (not_listed name k own)
+own_is_free name k own = free_name name k (no_predicate name k (own-free name k own)) (not_listed name k own)
 
 -- ---- defined
 

@@ -3,7 +3,7 @@ use Rattle.std.specs.Prelude.{IfErr}
 use Rattle.std.proofs.Common.{◌≡◌, ◌<◌, ◌≤◌, ℕ, suc, ◌+◌, ◌-◌, Bool, true, false, List, [], ◌∷◌, ◌++◌, Result, Ok, Err, refl, sym, ap, subst, ◌∙◌, arith, append_assoc, length, length-append, slice_set}
 use Rattle.std.proofs.lemmas.List.{append-nil}
 use Rattle.pi_outside.specs.Writes.{SinkWrite}
-use Rattle.pi_traces.specs.Trace.{Done, Raise, Emitted, answered, count_ticks}
+use Rattle.pi_traces.specs.Trace.{Done, Raise, Out, Emitted, noted, answered, count_ticks}
 use Rattle.pi_traces.specs.Depth.{Stop as CutStop, Cut, Ended, Spent, with_events}
 use Rattle.pi_meaning.specs.View.{query_view}
 use Rattle.pi_core.specs.CoreTree.{PredTree, QueryTree}
@@ -29,19 +29,13 @@ use Rattle.pi_top.specs.Ends.{status_of_stop}
 use Rattle.pi_top.specs.Runs.{run_of}
 use Rattle.pi_top.specs.Handing.{HandsAll, none, FailsIn}
 use Rattle.pi_top.specs.QueryEnd.{QueryEnd, Stopped, NoMore, No, Exception, StepsSpent, line_of, count_answers, IsWhole, Ends}
-use Rattle.pi_top.specs.Running.{print_solutions, IsQueryPart, QueryIsCut, in_answer, in_line, at_memory, IsAtStart, IsWritten, ComesTo, HasRun, was_asked}
+use Rattle.pi_top.specs.Running.{print_solutions, IsQueryPart, QueryIsCut, in_answer, in_text, in_line, at_memory, IsAtStart, IsSoFar, IsWritten, Called, ComesTo, HasRun, was_asked}
 use Rattle.pi_top.specs.Writing.{IsCutIn, WritesLine, WritesNothing, WritesEnd}
-use Rattle.pi_top.proofs.EventLemmas.{behind-ticks, ticks-behind, answers-behind, turn, print-turn, ticks-turn, answers-turn, last-turn}
+use Rattle.pi_top.proofs.EventLemmas.{behind-ticks, ticks-behind, answers-behind, turn, print-turn, ticks-turn, answers-turn, last-turn, text-turn, print-text, ticks-text, answers-text}
 use Rattle.pi_top.proofs.Fronts.{prefix-all}
 use Rattle.pi_top.proofs.HandedTexts.{hands-then, fails-then}
 
 -- ---- a query's run
-
--- the budget after a call of `next`, on a machine that counts Ticks
-pub record Called {M : Type 0} (m n : MachineView M) (b c : Budget) : Type 0 where
-  pub counts : Counts (mode_of m) b c
-  pub within : IsWithin b → IsWithin c
-  pub mode : mode_of n ≡ mode_of m
 
 counted-ticks : (mode : Mode) (b c : Budget) → mode ≡ Mode.Top → b.ticks ≤ c.ticks → b.ticks + counted mode b c ≡ c.ticks
 counted-ticks Mode.Top b c top more = omega (arith, more)
@@ -51,20 +45,22 @@ pub written-start : {M : Type 0} (m : MachineView M) (b : Budget) (answers : ℕ
     IsAtStart m b answers program q → IsWritten m b 0 program q []
 unfolding count_answers count_ticks print_solutions
 written-start m b answers program q is = record {
-  events = [];
-  runs = is.runs;
-  counts_ticks = is.counts_ticks;
-  running = is.running;
-  answers = refl;
+  so_far = record {
+    events = [];
+    runs = is.runs;
+    counts_ticks = is.counts_ticks;
+    running = is.running;
+    answers = refl;
+    ticks = is.unspent;
+    within = is.within;
+    written = none;
+  };
   last = λ some. absurd (omega (arith, some));
-  ticks = is.unspent;
-  within = is.within;
-  written = none;
 }
 
 -- after an answer whose lines were written
 pub written-answer : {M : Type 0} (m n : MachineView M) (b c : Budget) (given : ℕ) (program : List PredTree) (q : QueryTree) (a : Answer) (first second : List SinkWrite) →
-    (w : IsWritten m b given program q first) → Called m n b c → HappensByTicks (query_view []) program q w.events m n b c (Happening.Answer a) → GoesOn n →
+    (w : IsSoFar m b given program q first) → Called m n b c → HappensByTicks (query_view []) program q w.events m n b c (Happening.Answer a) → GoesOn n →
     HandsAll (answer_lines a) second → IsWritten n c (given + 1) program q (first ++ second)
 written-answer m n b c given program q a first second w called happens running handed =
     let k : ℕ = counted m.mode b c in
@@ -75,15 +71,38 @@ written-answer m n b c given program q a first second w called happens running h
     let one : count_answers events ≡ suc (count_answers w.events) = answers-turn w.events k x in
     let all : count_answers events ≡ given + 1 = omega (arith, one, w.answers) in
     record {
+      so_far = record {
+        events = events;
+        runs = happens.2;
+        counts_ticks = called.mode ∙ w.counts_ticks;
+        running = running;
+        answers = all;
+        ticks = omega (arith, w.ticks, more, ticks);
+        within = called.within w.within;
+        written = rw (print-turn q.names w.events k x a happens.1) (hands-then (print_solutions q.names w.events) (answer_lines a) first second w.written handed);
+      };
+      last = λ some. last-turn w.events k x (given + 1) all;
+    }
+
+-- after a text that was written
+pub written-text : {M : Type 0} (m n : MachineView M) (b c : Budget) (given : ℕ) (program : List PredTree) (q : QueryTree) (text : List ℕ) (first second : List SinkWrite) →
+    (w : IsSoFar m b given program q first) → Called m n b c → HappensByTicks (query_view []) program q w.events m n b c (Happening.Out text) → GoesOn n →
+    HandsAll (text ∷ []) second → IsSoFar n c given program q (first ++ second)
+written-text m n b c given program q text first second w called happens running handed =
+    let k : ℕ = counted m.mode b c in
+    let events : List (Emitted Solution) = w.events ++ text-turn k text in
+    let more : b.ticks + k ≡ c.ticks = counted-ticks m.mode b c w.counts_ticks called.counts.ticks in
+    let ticks : count_ticks events ≡ count_ticks w.events + k = ticks-text w.events k text in
+    let same : count_answers events ≡ count_answers w.events = answers-text w.events k text in
+    record {
       events = events;
-      runs = happens.2;
+      runs = happens;
       counts_ticks = called.mode ∙ w.counts_ticks;
       running = running;
-      answers = all;
-      last = λ some. last-turn w.events k x (given + 1) all;
+      answers = same ∙ w.answers;
       ticks = omega (arith, w.ticks, more, ticks);
       within = called.within w.within;
-      written = rw (print-turn q.names w.events k x a happens.1) (hands-then (print_solutions q.names w.events) (answer_lines a) first second w.written handed);
+      written = rw (print-text q.names w.events k text) (hands-then (print_solutions q.names w.events) (text ∷ []) first second w.written handed);
     }
 
 -- the events so far begin the query's run
@@ -125,7 +144,7 @@ record IsTail (events : List (Emitted Solution)) (k given total : ℕ) (names : 
   pub printed : print_solutions names (events ++ some_ticks k) ≡ print_solutions names events
 
 tail-of : {M : Type 0} (m n : MachineView M) (b c : Budget) (given : ℕ) (program : List PredTree) (q : QueryTree) (writes : List SinkWrite) →
-    (w : IsWritten m b given program q writes) → Called m n b c → IsTail w.events (counted m.mode b c) given c.ticks q.names
+    (w : IsSoFar m b given program q writes) → Called m n b c → IsTail w.events (counted m.mode b c) given c.ticks q.names
 tail-of m n b c given program q writes w called =
     let k : ℕ = counted m.mode b c in
     let more : b.ticks + k ≡ c.ticks = counted-ticks m.mode b c w.counts_ticks called.counts.ticks in
@@ -181,13 +200,14 @@ pub comes-stopped : {M : Type 0} (m : MachineView M) (b : Budget) (answers steps
     IsRunnable program q → 0 < answers → b.steps ≡ steps → IsWritten m b answers program q first → IfErr r (λ stop. stop ≡ Write) →
     WritesLine Stopped r second → ComesTo answers steps program q b.ticks r (first ++ second)
 comes-stopped m b answers steps program q r first second runnable some same w alone line =
-    let few : count_ticks w.events ≤ steps = omega (arith, w.ticks, w.within.ticks, same) in
-    let has : HasPart program q steps w.events = has-part m program q w.events steps runnable w.runs few in
-    comes-line answers steps program q w.events has.run Stopped b.ticks r first second has.is_part (w.last some) (λ memory. absurd (not-memory r alone memory)) w.ticks w.written line
+    let events : List (Emitted Solution) = w.so_far.events in
+    let few : count_ticks events ≤ steps = omega (arith, w.so_far.ticks, w.so_far.within.ticks, same) in
+    let has : HasPart program q steps events = has-part m program q events steps runnable w.so_far.runs few in
+    comes-line answers steps program q events has.run Stopped b.ticks r first second has.is_part (w.last some) (λ memory. absurd (not-memory r alone memory)) w.so_far.ticks w.so_far.written line
 
 -- the writing of an answer's lines is cut off
 pub comes-cut : {M : Type 0} (m n : MachineView M) (b c : Budget) (answers given steps : ℕ) (program : List PredTree) (q : QueryTree) (a : Answer) (stop : Stop) (first second : List SinkWrite) →
-    IsRunnable program q → (w : IsWritten m b given program q first) → Called m n b c → given < answers → c.steps ≡ steps →
+    IsRunnable program q → (w : IsSoFar m b given program q first) → Called m n b c → given < answers → c.steps ≡ steps →
     HappensByTicks (query_view []) program q w.events m n b c (Happening.Answer a) → IsCutIn (answer_lines a) second stop →
     QueryIsCut answers steps program q c.ticks (status_of_stop stop) (first ++ second)
 comes-cut m n b c answers given steps program q a Write first second runnable w called less same happens fails =
@@ -226,6 +246,38 @@ comes-cut m n b c answers given steps program q a Memory first second runnable w
       how = at_memory refl tail.ticks (omega (arith, tail.answers, less)) (rw (no_more, append-nil first, tail.printed) w.written);
     }
 
+-- the writing of a text is cut off
+pub text-cut : {M : Type 0} (m n : MachineView M) (b c : Budget) (answers given : ℕ) (program : List PredTree) (q : QueryTree) (text : List ℕ) (first second : List SinkWrite) →
+    IsRunnable program q → (w : IsSoFar m b given program q first) → Called m n b c → given < answers →
+    HappensByTicks (query_view []) program q w.events m n b c (Happening.Out text) → FailsIn [] (text ∷ []) second →
+    QueryIsCut answers c.steps program q c.ticks (status_of_stop Write) (first ++ second)
+text-cut m n b c answers given program q text first second runnable w called less happens fails =
+    let k : ℕ = counted m.mode b c in
+    let earlier : List (Emitted Solution) = w.events ++ some_ticks k in
+    let events : List (Emitted Solution) = w.events ++ text-turn k text in
+    let more : b.ticks + k ≡ c.ticks = counted-ticks m.mode b c w.counts_ticks called.counts.ticks in
+    let ticks : count_ticks events ≡ count_ticks w.events + k = ticks-text w.events k text in
+    let same : count_answers events ≡ count_answers w.events = answers-text w.events k text in
+    let within : IsWithin c = called.within w.within in
+    let few : count_ticks events ≤ c.steps = omega (arith, w.ticks, more, ticks, within.ticks) in
+    let has : HasPart program q c.steps events = has-part n program q events c.steps runnable happens few in
+    let written : HandsAll (print_solutions q.names earlier) first = rw (behind-ticks q.names w.events k) w.written in
+    let split : events ≡ earlier ++ noted (Out text) ∷ [] = sym (append_assoc w.events (some_ticks k) (noted (Out text) ∷ [])) in
+    record {
+      run = has.run;
+      part = events;
+      is_part = has.is_part;
+      how = in_text refl (omega (arith, w.ticks, more, ticks)) earlier text split (omega (arith, same, w.answers, less))
+          (fails-then (print_solutions q.names earlier) (text ∷ []) first second written fails);
+    }
+
+-- memory is wanted behind all that was written
+pub memory-cut : {M : Type 0} (m : MachineView M) (b : Budget) (answers given : ℕ) (program : List PredTree) (q : QueryTree) (writes : List SinkWrite) →
+    IsRunnable program q → (w : IsSoFar m b given program q writes) → given < answers → QueryIsCut answers b.steps program q b.ticks (status_of_stop Memory) writes
+memory-cut m b answers given program q writes runnable w less =
+    let has : HasPart program q b.steps w.events = has-part m program q w.events b.steps runnable w.runs (omega (arith, w.ticks, w.within.ticks)) in
+    record { run = has.run; part = w.events; is_part = has.is_part; how = at_memory refl w.ticks (omega (arith, w.answers, less)) w.written }
+
 -- memory is wanted behind these events
 comes-nothing : {M : Type 0} (n : MachineView M) (events : List (Emitted Solution)) (answers steps : ℕ) (program : List PredTree) (q : QueryTree) (ticks : ℕ) (r : Result ℕ Stop) (first second : List SinkWrite) →
     IsRunnable program q → RunsTo (query_view []) n program q events → ticks ≡ count_ticks events → ticks ≤ steps → count_answers events < answers → HandsAll (print_solutions q.names events) first → WritesNothing r second →
@@ -238,40 +290,40 @@ comes-nothing n events answers steps program q ticks (Err Memory) first second r
 
 -- a machine's end, behind so many answers
 pub comes-end : {M : Type 0} (m n : MachineView M) (b c : Budget) (answers given steps : ℕ) (program : List PredTree) (q : QueryTree) (happening : Happening) (has : Bool)
-    (r : Result ℕ Stop) (first second : List SinkWrite) → IsRunnable program q → (w : IsWritten m b given program q first) → Called m n b c → given < answers → c.steps ≡ steps →
-    (has ≡ true → 0 < given) → (has ≡ false → given ≡ 0) → ((a : Answer) → happening ≡ Happening.Answer a → ⊥) →
+    (r : Result ℕ Stop) (first second : List SinkWrite) → IsRunnable program q → (w : IsSoFar m b given program q first) → Called m n b c → given < answers → c.steps ≡ steps →
+    (has ≡ true → 0 < given) → (has ≡ false → given ≡ 0) → ((a : Answer) → happening ≡ Happening.Answer a → ⊥) → ((text : List ℕ) → happening ≡ Happening.Out text → ⊥) →
     HappensByTicks (query_view []) program q w.events m n b c happening → WritesEnd happening has r second → ComesTo answers steps program q c.ticks r (first ++ second)
-comes-end m n b c answers given steps program q (Happening.Answer a) has r first second runnable w called less same has_some has_none not_answer happens writes = absurd (not_answer a refl)
-comes-end m n b c answers given steps program q (Happening.Out text) has r first second runnable w called less same has_some has_none not_answer happens writes = absurd happens
-comes-end m n b c answers given steps program q (Happening.NeedPlan call) has r first second runnable w called less same has_some has_none not_answer happens writes = absurd happens
-comes-end m n b c answers given steps program q Happening.WorkSpent has r first second runnable w called less same has_some has_none not_answer happens writes =
+comes-end m n b c answers given steps program q (Happening.Answer a) has r first second runnable w called less same has_some has_none not_answer no_text happens writes = absurd (not_answer a refl)
+comes-end m n b c answers given steps program q (Happening.Out text) has r first second runnable w called less same has_some has_none not_answer no_text happens writes = absurd (no_text text refl)
+comes-end m n b c answers given steps program q (Happening.NeedPlan call) has r first second runnable w called less same has_some has_none not_answer no_text happens writes = absurd happens
+comes-end m n b c answers given steps program q Happening.WorkSpent has r first second runnable w called less same has_some has_none not_answer no_text happens writes =
     absurd (not-inner n.mode (called.mode ∙ w.counts_ticks) happens.2)
-comes-end m n b c answers given steps program q Happening.Memory has r first second runnable w called less same has_some has_none not_answer happens writes =
+comes-end m n b c answers given steps program q Happening.Memory has r first second runnable w called less same has_some has_none not_answer no_text happens writes =
     let k : ℕ = counted m.mode b c in
     let tail : IsTail w.events k given c.ticks q.names = tail-of m n b c given program q first w called in
     comes-nothing n (w.events ++ some_ticks k) answers steps program q c.ticks r first second runnable happens tail.ticks (omega (arith, (called.within w.within).ticks, same)) (omega (arith, tail.answers, less))
     (rw tail.printed w.written) writes
-comes-end m n b c answers given steps program q Happening.Done true r first second runnable w called less same has_some has_none not_answer happens writes =
+comes-end m n b c answers given steps program q Happening.Done true r first second runnable w called less same has_some has_none not_answer no_text happens writes =
     let k : ℕ = counted m.mode b c in
     let tail : IsTail w.events k given c.ticks q.names = tail-of m n b c given program q first w called in
     let whole = whole-of answers given (w.events ++ some_ticks k) (Ended Done) tail.answers less in
     comes-line answers steps program q (w.events ++ some_ticks k) _ NoMore c.ticks r first second
     (part-whole program q steps (w.events ++ some_ticks k) (Ended Done) (happens.0 steps (omega (arith, tail.ticks, (called.within w.within).ticks, same))))
     (whole, omega (arith, tail.answers, has_some refl)) (λ memory. omega (arith, tail.answers, less)) tail.ticks (rw tail.printed w.written) writes
-comes-end m n b c answers given steps program q Happening.Done false r first second runnable w called less same has_some has_none not_answer happens writes =
+comes-end m n b c answers given steps program q Happening.Done false r first second runnable w called less same has_some has_none not_answer no_text happens writes =
     let k : ℕ = counted m.mode b c in
     let tail : IsTail w.events k given c.ticks q.names = tail-of m n b c given program q first w called in
     let whole = whole-of answers given (w.events ++ some_ticks k) (Ended Done) tail.answers less in
     comes-line answers steps program q (w.events ++ some_ticks k) _ No c.ticks r first second
     (part-whole program q steps (w.events ++ some_ticks k) (Ended Done) (happens.0 steps (omega (arith, tail.ticks, (called.within w.within).ticks, same))))
     (whole, omega (arith, tail.answers, has_none refl)) (λ memory. omega (arith, tail.answers, less)) tail.ticks (rw tail.printed w.written) writes
-comes-end m n b c answers given steps program q (Happening.Raised ball) has r first second runnable w called less same has_some has_none not_answer happens writes =
+comes-end m n b c answers given steps program q (Happening.Raised ball) has r first second runnable w called less same has_some has_none not_answer no_text happens writes =
     let k : ℕ = counted m.mode b c in
     let tail : IsTail w.events k given c.ticks q.names = tail-of m n b c given program q first w called in
     comes-line answers steps program q (w.events ++ some_ticks k) _ (Exception ball) c.ticks r first second
     (part-whole program q steps (w.events ++ some_ticks k) (Ended (Raise ball)) (happens.0 steps (omega (arith, tail.ticks, (called.within w.within).ticks, same))))
     (whole-of answers given (w.events ++ some_ticks k) (Ended (Raise ball)) tail.answers less) (λ memory. omega (arith, tail.answers, less)) tail.ticks (rw tail.printed w.written) writes
-comes-end m n b c answers given steps program q Happening.StepsSpent has r first second runnable w called less same has_some has_none not_answer happens writes =
+comes-end m n b c answers given steps program q Happening.StepsSpent has r first second runnable w called less same has_some has_none not_answer no_text happens writes =
     let k : ℕ = counted m.mode b c in
     let tail : IsTail w.events k given c.ticks q.names = tail-of m n b c given program q first w called in
     let spent : c.steps ≤ c.ticks = happens.3 in

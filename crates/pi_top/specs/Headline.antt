@@ -2,7 +2,7 @@
 -- end. A run is that of the meaning over names, of the texts that were read.
 use Rattle.std.specs.Prelude.{◌≡◌, ◌<◌, ◌≤◌, ℕ, List, [], ◌∷◌, ◌++◌}
 use Rattle.pi_outside.specs.Writes.{SinkWrite}
-use Rattle.pi_traces.specs.Trace.{Emitted, answered, count_ticks}
+use Rattle.pi_traces.specs.Trace.{Out, Emitted, noted, answered, count_ticks}
 use Rattle.pi_traces.specs.Depth.{Cut}
 use Rattle.pi_syntax.specs.ExpTree.{ExpTree}
 use Rattle.pi_syntax.specs.ProgramTree.{ProgramTree}
@@ -35,10 +35,12 @@ pub record Headline (answers steps : ℕ) (program : ProgramTree) (goal : ExpTre
   pub written : texts ≡ print part ++ line_of ending ∷ []
 
 -- Where it was cut off behind a part of the run, with so many Ticks in it: a write of the lines of its last answer failed, or that of
--- the line of its end; or memory was wanted with fewer answers than are asked for.
+-- the text that it last wrote, or that of the line of its end; or memory was wanted with fewer answers than are asked for.
 pub data HowCut (answers : ℕ) (run : Cut Told) (part : List (Emitted Told)) (ticks status : ℕ) (writes : List SinkWrite) : Type 0 where
   in_answer : status ≡ 8 → ticks ≡ count_ticks part → (earlier : List (Emitted Told)) (x : Told) → part ≡ earlier ++ answered x ∷ [] → count_answers part ≤ answers →
       FailsIn (print earlier) (answer_lines (told_answer x)) writes → HowCut answers run part ticks status writes
+  in_text : status ≡ 8 → ticks ≡ count_ticks part → (earlier : List (Emitted Told)) (text : List ℕ) → part ≡ earlier ++ noted (Out text) ∷ [] → count_answers part < answers →
+      FailsIn (print earlier) (text ∷ []) writes → HowCut answers run part ticks status writes
   in_line : status ≡ 8 → ticks ≡ count_ticks part → (ending : QueryEnd) → Ends answers part run ending → FailsIn (print part) (line_of ending ∷ []) writes →
       HowCut answers run part ticks status writes
   at_memory : status ≡ 9 → ticks ≡ count_ticks part → count_answers part < answers → HandsAll (print part) writes → HowCut answers run part ticks status writes

@@ -11,10 +11,12 @@ use Rattle.pi_meaning.specs.Run.{Solution, IsRun}
 use Rattle.pi_meaning.specs.Told.{answer_of}
 use Rattle.pi_print.specs.PrintAnswer.{answer_lines}
 use Rattle.pi_machine.specs.declared.happening.Budget.{Budget}
+use Rattle.pi_machine.specs.declared.happening.Happening.{Happening}
 use Rattle.pi_machine.specs.declared.happening.Mode.{Mode}
-use Rattle.pi_machine.specs.Budget.{IsWithin}
+use Rattle.pi_machine.specs.Budget.{Counts, IsWithin}
 use Rattle.pi_machine.specs.Built.{IsRunnable}
-use Rattle.pi_engine.specs.Seen.{MachineView, mode_of, GoesOn}
+use Rattle.pi_engine.specs.Seen.{MachineView, mode_of, end_of, GoesOn}
+use Rattle.pi_engine.specs.Happens.{HappensByTicks, lasting}
 use Rattle.pi_engine.specs.Runs.{RunsTo}
 use Rattle.pi_top.specs.declared.outcome.QueryRun.{QueryRun}
 use Rattle.pi_top.specs.declared.query.Stop.{Stop}
@@ -54,6 +56,8 @@ pub record QueryEnds (answers steps : ℕ) (program : List PredTree) (q : QueryT
 pub data HowQueryIsCut (answers : ℕ) (q : QueryTree) (run : Cut Solution) (part : List (Emitted Solution)) (ticks status : ℕ) (writes : List SinkWrite) : Type 0 where
   in_answer : status ≡ 8 → ticks ≡ count_ticks part → (earlier : List (Emitted Solution)) (x : Solution) → part ≡ earlier ++ answered x ∷ [] → count_answers part ≤ answers →
       FailsIn (print_solutions q.names earlier) (answer_lines (answer_of q.names x)) writes → HowQueryIsCut answers q run part ticks status writes
+  in_text : status ≡ 8 → ticks ≡ count_ticks part → (earlier : List (Emitted Solution)) (text : List ℕ) → part ≡ earlier ++ noted (Out text) ∷ [] → count_answers part < answers →
+      FailsIn (print_solutions q.names earlier) (text ∷ []) writes → HowQueryIsCut answers q run part ticks status writes
   in_line : status ≡ 8 → ticks ≡ count_ticks part → (ending : QueryEnd) → Ends answers part run ending → FailsIn (print_solutions q.names part) (line_of ending ∷ []) writes →
       HowQueryIsCut answers q run part ticks status writes
   at_memory : status ≡ 9 → ticks ≡ count_ticks part → count_answers part < answers → HandsAll (print_solutions q.names part) writes →
@@ -79,16 +83,41 @@ pub record IsAtStart {M : Type 0} (m : MachineView M) (b : Budget) (answers : �
   pub asked : 0 < answers
 
 -- so many answers were written, and all that was run is printed
-pub record IsWritten {M : Type 0} (m : MachineView M) (b : Budget) (given : ℕ) (program : List PredTree) (q : QueryTree) (writes : List SinkWrite) : Type 0 where
+pub record IsSoFar {M : Type 0} (m : MachineView M) (b : Budget) (given : ℕ) (program : List PredTree) (q : QueryTree) (writes : List SinkWrite) : Type 0 where
   pub events : List (Emitted Solution)
   pub runs : RunsTo (query_view []) m program q events
   pub counts_ticks : mode_of m ≡ Mode.Top
   pub running : GoesOn m
   pub answers : count_answers events ≡ given
-  pub last : 0 < given → EndsWithLast given events
   pub ticks : b.ticks ≡ count_ticks events
   pub within : IsWithin b
   pub written : HandsAll (print_solutions q.names events) writes
+
+-- the same, where nothing comes behind the last answer
+pub record IsWritten {M : Type 0} (m : MachineView M) (b : Budget) (given : ℕ) (program : List PredTree) (q : QueryTree) (writes : List SinkWrite) : Type 0 where
+  pub so_far : IsSoFar m b given program q writes
+  pub last : 0 < given → EndsWithLast given so_far.events
+
+-- the budget after a call of `next`, on a machine that counts Ticks
+pub record Called {M : Type 0} (m n : MachineView M) (b c : Budget) : Type 0 where
+  pub counts : Counts (mode_of m) b c
+  pub within : IsWithin b → IsWithin c
+  pub mode : mode_of n ≡ mode_of m
+
+-- what comes next that is no text, behind all texts that were written before it
+pub record IsNext {M : Type 0} (n : MachineView M) (c : Budget) (given : ℕ) (program : List PredTree) (q : QueryTree) (happening : Happening) (writes : List SinkWrite) : Type 0 where
+  pub before : MachineView M
+  pub budget : Budget
+  pub so_far : IsSoFar before budget given program q writes
+  pub called : Called before n budget c
+  pub happens : HappensByTicks (query_view []) program q so_far.events before n budget c happening
+  pub no_text : (text : List ℕ) → happening ≡ Happening.Out text → ⊥
+  pub lasts : end_of n ≡ lasting happening
+
+-- that, or the writing of a text is cut off
+abbrev pub NextComes : {M : Type 0} → ℕ → ℕ → List PredTree → QueryTree → MachineView M → Budget → Result Happening Stop → List SinkWrite → Type 0
+NextComes answers given program q n c (Ok happening) writes = IsNext n c given program q happening writes
+NextComes answers given program q n c (Err stop) writes = QueryIsCut answers c.steps program q c.ticks (status_of_stop stop) writes
 
 -- what it comes to, by what is answered
 abbrev pub ComesTo : ℕ → ℕ → List PredTree → QueryTree → ℕ → Result ℕ Stop → List SinkWrite → Type 0

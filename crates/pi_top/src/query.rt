@@ -1,7 +1,7 @@
 //! Queries: a goal is asked, and its answers and its end are written.
-ghost use Rattle.std.specs.Prelude.{◌≡◌, ◌<◌, List, [], ◌∷◌, IfOk, IfErr};
+ghost use Rattle.std.specs.Prelude.{◌≡◌, ◌<◌, ℕ, List, [], ◌∷◌, ◌++◌, IfOk, IfErr};
 ghost use Rattle.std.specs.String.{string_bytes};
-ghost use Rattle.pi_outside.specs.Writes.{ByWrites};
+ghost use Rattle.pi_outside.specs.Writes.{ByWrites, SinkWrite};
 ghost use Rattle.pi_core.specs.CoreTree.{PredTree, QueryTree, program_tree, query_tree};
 ghost use Rattle.pi_print.specs.PrintAnswer.{answer_lines};
 ghost use Rattle.pi_states.specs.State.{empty_state};
@@ -12,7 +12,7 @@ ghost use Rattle.pi_engine.specs.Seen.{machine_view, mode_of};
 ghost use Rattle.pi_top.specs.declared.query.Stop.TheVariants.{Memory, Write};
 ghost use Rattle.pi_top.specs.Faults.{TellsWrites};
 ghost use Rattle.pi_top.specs.QueryEnd.{Exception, line_of};
-ghost use Rattle.pi_top.specs.Running.{IsAtStart, ComesTo, HasRun};
+ghost use Rattle.pi_top.specs.Running.{IsAtStart, IsSoFar, NextComes, ComesTo, HasRun};
 ghost use Rattle.pi_top.specs.Runs.{AllWithin};
 ghost use Rattle.pi_top.specs.Statuses.{IsRun};
 ghost use Rattle.pi_top.specs.Writing.{Writes, WritesLine, WritesEnd};
@@ -122,12 +122,35 @@ fn write_answers<S: StateStore, O: Sink>(
         → ComesTo answers budget.old.steps program q budget.new.ticks result writes) }
 {
     for given in 0..answers {
-        match machine.next(budget) {
+        match next_told(machine, budget, out)? {
             Happening::Answer(answer) => write_answer(alloc, out, &answer)?,
             end => return write_end(alloc, out, end, given > 0),
         }
     }
     ended(out, "stopped\n", 0)
+}
+
+/// The next answer or end of a machine, behind the texts that it writes before it.
+fn next_told<S: StateStore, O: Sink>(
+    machine: &mut Machine<'_, S>,
+    budget: &mut Budget,
+    out: &mut O,
+) -> Result<Happening, Stop>
+    ensures writes { TellsWrites (O.faults out.old) (O.faults out.new) result }
+    ensures within { IsWithin budget.old → IsWithin budget.new }
+    ensures steps { budget.new.steps ≡ budget.old.steps }
+    ensures mode { mode_of (machine_view S.seen S.order machine.new) ≡ mode_of (machine_view S.seen S.order machine.old) }
+    ensures work { mode_of (machine_view S.seen S.order machine.old) ≡ Mode.Top → budget.new.work ≡ budget.old.work }
+    ensures comes { ByWrites O.wrote O.taken out.old out.new (λ writes. (first : List SinkWrite) (answers given : ℕ) (program : List PredTree) (q : QueryTree) → IsSoFar (machine_view S.seen S.order machine.old) budget.old given program q first
+        → IsRunnable program q → given < answers → NextComes answers given program q (machine_view S.seen S.order machine.new) budget.new result (first ++ writes)) }
+{
+    for _turn in 0..u64::MAX {
+        match machine.next(budget) {
+            Happening::Out(text) => write_text(out, text.as_str())?,
+            happening => return Ok(happening),
+        }
+    }
+    Err(Stop::Memory)
 }
 
 fn run_of(budget: &Budget) -> QueryRun

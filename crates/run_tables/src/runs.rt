@@ -122,6 +122,10 @@ fn tell_happening(happening: &Happening, case: &mut Case<'_>) -> bool {
             tell_answer(answer, case);
             return false;
         }
+        Happening::Out(text) => {
+            tell_written(text.as_str(), case);
+            return false;
+        }
         Happening::Raised(ball) => {
             case.tell("raised ");
             case.tell_term(ball);
@@ -130,10 +134,21 @@ fn tell_happening(happening: &Happening, case: &mut Case<'_>) -> bool {
         Happening::StepsSpent => case.tell("steps spent"),
         Happening::WorkSpent => case.tell("work spent"),
         Happening::Memory => case.tell("want of memory"),
-        Happening::Out(_) => case.tell("output"),
         Happening::NeedPlan(_) => case.tell("a planner"),
     }
     true
+}
+
+/// Tells a text that is written, on one line.
+fn tell_written(text: &str, case: &mut Case<'_>) {
+    case.tell("writes ");
+    for c in text.chars() {
+        if c == '\n' {
+            case.tell("\\n");
+        } else {
+            case.tell_character(c);
+        }
+    }
 }
 
 /// Tells what a machine keeps beside its store.

@@ -1,11 +1,13 @@
-use Rattle.std.proofs.Common.{◌≡◌, [], refl, subst, ◌∙◌, arith}
+use Rattle.std.proofs.Common.{◌≡◌, ℕ, List, Ok, ◌++◌, refl, subst, ◌∙◌, arith}
 use Rattle.std.proofs.lemmas.Bool.Decides.{nat_tests}
 use Rattle.std.proofs.lemmas.Result.{err_from_is_err_and}
-use Rattle.pi_meaning.specs.View.{query_view}
+use Rattle.pi_core.specs.CoreTree.{PredTree, QueryTree}
 use Rattle.pi_engine.specs.Seen.{machine_view}
+use Rattle.pi_outside.specs.Writes.{ByWrites}
 use Rattle.pi_outside.proofs.WriteRuns.{ByWrites-none, ByWrites-then}
-use Rattle.pi_top.specs.Running.{IsWritten}
-use Rattle.pi_top.proofs.QueryRuns.{Called, written-start, written-answer, comes-stopped, comes-cut, comes-end}
+use Rattle.pi_top.specs.Ends.{status_of_stop}
+use Rattle.pi_top.specs.Running.{QueryIsCut, IsAtStart, IsWritten, NextComes}
+use Rattle.pi_top.proofs.QueryRuns.{written-start, written-answer, comes-stopped, comes-cut, comes-end}
 use Rattle.pi_top.proofs.query.write_answers.Goals as goal
 
 pub loop-given-init : goal.loop-given-init
@@ -19,60 +21,79 @@ loop-given-init g c = record {
       (λ program q is. written-start (machine_view g.S.StateStore.seen g.S.StateStore.order c.args.machine.now) c.args.budget.now c.args.answers program q is);
 }
 
+-- the writing of a text is cut off, or memory is wanted behind one
+pub returns-in_err-end-clause-comes : goal.returns-in_err-end-clause-comes
+returns-in_err-end-clause-comes g c =
+    let l = c.loop-given in
+    let next = c.in_err-end.ensures in
+    let p = err_from_is_err_and c.from_residual.result c.from_residual.ensures.1 in
+    let same : p.0 ≡ c.in_err-end.field-0.0 = p.2 in
+    rw (p.1, same)
+    (ByWrites-then l.invariant.so_far next.comes (λ first second so_far comes. λ program q is.
+    subst (λ (steps : ℕ). QueryIsCut c.args.answers steps program q c.next_told.new.budget.ticks (status_of_stop c.in_err-end.field-0.0) (first ++ second)) (next.steps ∙ l.invariant.steps)
+    (comes first c.args.answers l.given program q (so_far program q is).so_far is.runnable c.loop-given-test.true)))
+
 pub returns-in_err-write_answer-in-Answer-clause-comes : goal.returns-in_err-write_answer-in-Answer-clause-comes
 returns-in_err-write_answer-in-Answer-clause-comes g c =
     let l = c.loop-given in
-    let next = c.in-Answer.ensures in
-    let m = machine_view g.S.StateStore.seen g.S.StateStore.order l.machine in
-    let n = machine_view g.S.StateStore.seen g.S.StateStore.order c.next.new.self in
-    let called : Called m n l.budget c.next.new.budget = record { counts = next.counts; within = next.within; mode = next.mode } in
-    let p = err_from_is_err_and c.from_residual.result c.from_residual.ensures.1 in
+    let next = c.in_ok-end.ensures in
+    let n = machine_view g.S.StateStore.seen g.S.StateStore.order c.next_told.new.machine in
+    let asked : ByWrites g.O.Sink.wrote g.O.Sink.taken c.args.out.now c.next_told.new.out (λ writes. (program : List PredTree) (q : QueryTree) →
+    IsAtStart (machine_view g.S.StateStore.seen g.S.StateStore.order c.args.machine.now) c.args.budget.now c.args.answers program q →
+    NextComes c.args.answers l.given program q n c.next_told.new.budget (Ok c.in_ok-end.end) writes) =
+    ByWrites-then l.invariant.so_far next.comes (λ first second so_far comes. λ program q is.
+    comes first c.args.answers l.given program q (so_far program q is).so_far is.runnable c.loop-given-test.true) in
+    let p = err_from_is_err_and c.from_residual-in_err-write_answer-in-Answer.result c.from_residual-in_err-write_answer-in-Answer.ensures.1 in
     let same : p.0 ≡ c.in_err-write_answer-in-Answer.field-0.0 = p.2 in
     rw (p.1, same)
-    (ByWrites-then l.invariant.so_far c.in_err-write_answer-in-Answer.ensures.told (λ first second so_far told. λ program q is.
-    let w = so_far program q is in
-    comes-cut m n l.budget c.next.new.budget c.args.answers l.given c.args.budget.now.steps program q c.in-Answer.answer c.in_err-write_answer-in-Answer.field-0.0 first second
-    is.runnable w called c.loop-given-test.true (next.counts.steps ∙ l.invariant.steps) (next.ticks w.running (query_view []) program q w.events w.runs) told.cut))
+    (ByWrites-then asked c.in_err-write_answer-in-Answer.ensures.told (λ first second comes told. λ program q is.
+    let it = comes program q is in
+    comes-cut it.before n it.budget c.next_told.new.budget c.args.answers l.given c.args.budget.now.steps program q c.in-Answer.answer c.in_err-write_answer-in-Answer.field-0.0 first second
+    is.runnable it.so_far it.called c.loop-given-test.true (next.steps ∙ l.invariant.steps) (rw c.in-Answer.is at it.happens) told.cut))
 
 pub returns-in_default : goal.returns-in_default
 returns-in_default g c =
     let l = c.loop-given in
-    let next = c.next.ensures in
-    let m = machine_view g.S.StateStore.seen g.S.StateStore.order l.machine in
-    let n = machine_view g.S.StateStore.seen g.S.StateStore.order c.next.new.self in
-    let called : Called m n l.budget c.next.new.budget = record { counts = next.counts; within = next.within; mode = next.mode } in
+    let next = c.in_ok-end.ensures in
+    let n = machine_view g.S.StateStore.seen g.S.StateStore.order c.next_told.new.machine in
+    let asked : ByWrites g.O.Sink.wrote g.O.Sink.taken c.args.out.now c.next_told.new.out (λ writes. (program : List PredTree) (q : QueryTree) →
+    IsAtStart (machine_view g.S.StateStore.seen g.S.StateStore.order c.args.machine.now) c.args.budget.now c.args.answers program q →
+    NextComes c.args.answers l.given program q n c.next_told.new.budget (Ok c.in_ok-end.end) writes) =
+    ByWrites-then l.invariant.so_far next.comes (λ first second so_far comes. λ program q is.
+    comes first c.args.answers l.given program q (so_far program q is).so_far is.runnable c.loop-given-test.true) in
     record {
-      writes = rw (← l.invariant.no_fault) c.write_end.ensures.writes;
+      writes = rw (← l.invariant.no_fault, ← next.writes.no_fault) c.write_end.ensures.writes;
       status = c.write_end.ensures.status;
       within = λ h. next.within (l.invariant.within h);
-      steps = next.counts.steps ∙ l.invariant.steps;
-      work = λ top. next.counts.top (l.invariant.mode ∙ top) ∙ l.invariant.work top;
-      comes = ByWrites-then l.invariant.so_far c.write_end.ensures.told (λ first second so_far told. λ program q is.
-          let w = so_far program q is in
-          comes-end m n l.budget c.next.new.budget c.args.answers l.given c.args.budget.now.steps program q c.next.result _ c.write_end.result first second
-          is.runnable w called c.loop-given-test.true (next.counts.steps ∙ l.invariant.steps)
-          (λ e. grind (arith, nat_tests, e)) (λ e. grind (arith, nat_tests, e)) (λ a e. c.in_default.not-Answer a e)
-          (next.ticks w.running (query_view []) program q w.events w.runs)
-          told);
+      steps = next.steps ∙ l.invariant.steps;
+      work = λ top. next.work (l.invariant.mode ∙ top) ∙ l.invariant.work top;
+      comes = ByWrites-then asked c.write_end.ensures.told (λ first second comes told. λ program q is.
+          let it = comes program q is in
+          comes-end it.before n it.budget c.next_told.new.budget c.args.answers l.given c.args.budget.now.steps program q c.in_ok-end.end _ c.write_end.result first second
+          is.runnable it.so_far it.called c.loop-given-test.true (next.steps ∙ l.invariant.steps)
+          (λ e. grind (arith, nat_tests, e)) (λ e. grind (arith, nat_tests, e)) (λ a e. c.in_default.not-Answer a e) it.no_text it.happens told);
     }
 
 pub loop-given-preserved : goal.loop-given-preserved
 loop-given-preserved g c =
     let l = c.loop-given in
-    let next = c.in-Answer.ensures in
-    let m = machine_view g.S.StateStore.seen g.S.StateStore.order l.machine in
-    let n = machine_view g.S.StateStore.seen g.S.StateStore.order c.next.new.self in
-    let called : Called m n l.budget c.next.new.budget = record { counts = next.counts; within = next.within; mode = next.mode } in
+    let next = c.in_ok-end.ensures in
+    let n = machine_view g.S.StateStore.seen g.S.StateStore.order c.next_told.new.machine in
+    let asked : ByWrites g.O.Sink.wrote g.O.Sink.taken c.args.out.now c.next_told.new.out (λ writes. (program : List PredTree) (q : QueryTree) →
+    IsAtStart (machine_view g.S.StateStore.seen g.S.StateStore.order c.args.machine.now) c.args.budget.now c.args.answers program q →
+    NextComes c.args.answers l.given program q n c.next_told.new.budget (Ok c.in_ok-end.end) writes) =
+    ByWrites-then l.invariant.so_far next.comes (λ first second so_far comes. λ program q is.
+    comes first c.args.answers l.given program q (so_far program q is).so_far is.runnable c.loop-given-test.true) in
     record {
-      steps = next.counts.steps ∙ l.invariant.steps;
+      steps = next.steps ∙ l.invariant.steps;
       within = λ h. next.within (l.invariant.within h);
-      work = λ top. next.counts.top (l.invariant.mode ∙ top) ∙ l.invariant.work top;
+      work = λ top. next.work (l.invariant.mode ∙ top) ∙ l.invariant.work top;
       mode = next.mode ∙ l.invariant.mode;
-      no_fault = c.in_ok-write_answer-in-Answer.ensures.writes.no_fault ∙ l.invariant.no_fault;
-      so_far = ByWrites-then l.invariant.so_far c.in_ok-write_answer-in-Answer.ensures.told (λ first second so_far told. λ program q is.
-          let w = so_far program q is in
-          written-answer m n l.budget c.next.new.budget l.given program q c.in-Answer.answer first second
-          w called (next.ticks w.running (query_view []) program q w.events w.runs) next.lasts told.all);
+      no_fault = c.in_ok-write_answer-in-Answer.ensures.writes.no_fault ∙ (next.writes.no_fault ∙ l.invariant.no_fault);
+      so_far = ByWrites-then asked c.in_ok-write_answer-in-Answer.ensures.told (λ first second comes told. λ program q is.
+          let it = comes program q is in
+          written-answer it.before n it.budget c.next_told.new.budget l.given program q c.in-Answer.answer first second
+          it.so_far it.called (rw c.in-Answer.is at it.happens) (rw c.in-Answer.is at it.lasts) told.all);
     }
 
 pub returns-clause-comes : goal.returns-clause-comes
