@@ -223,6 +223,9 @@ read_all_one : {ss : List Stretch} {rs rs' : List Reading} → ReadAll ss rs →
 read_all_one none none = refl
 read_all_one (next {r = r} {rs = rs} h hs) (next {r = r'} h' hs') = ap (λ x. x ∷ rs) (reads_one h h') ∙ ap (λ xs. r' ∷ xs) (read_all_one hs hs')
 
+pub one_reading : (ss : List Stretch) (rs rs' : List Reading) → ReadAll ss rs → ReadAll ss rs' → rs ≡ rs'
+one_reading ss rs rs' h h' = read_all_one h h'
+
 -- ---- verdicts
 
 pub one_program : (tokens : List Token) (v w : Verdict) → HasVerdict tokens v → HasVerdict tokens w → v ≡ w

@@ -10,6 +10,7 @@ pub use goal::read_goal;
 pub use laws::one_verdict;
 pub use pi_clauses::ProgFault;
 pub use program::read_program;
+pub use reading::read_parts;
 
 /// The most different names that the variables of a part may have; all `_` count as one.
 pub const MAX_NAMES: usize = 4096;

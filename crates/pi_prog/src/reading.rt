@@ -42,8 +42,10 @@ pub(crate) struct MarkedClause {
     marks: Marks,
 }
 
-/// The parts of these tokens, in order.
-pub(crate) fn read_parts(alloc: Global, tokens: &Tokens) -> Result<Vec<PartReading>, AllocError>
+/// The parts of these tokens, in order, each by itself: what they are together isn't judged, so a part may define a name
+/// that the language builds in. A User's Guide to Picat, 'Predicates and Functions'; the limits are own. `Err` is want of
+/// memory.
+pub fn read_parts(alloc: Global, tokens: &Tokens) -> Result<Vec<PartReading>, AllocError>
     ensures { IfOk result (λ parts. (rs : List spec.Reading) × spec.ReadAll (stretches.stretches (kinds tokens.now)) rs × AreShown parts.items rs) }
 {
     let mut parts = Vec::new(alloc);

@@ -1,17 +1,20 @@
-//! The prelude's text, and its verdict as a program.
+//! The prelude's text, its parts, and its verdict as a program.
 
-use crate::programs::read;
+use crate::programs::{read, tell_kinds};
 use pi_cases::Case;
 use pi_lib::prelude;
+use pi_prelude::read_prelude;
 use std::alloc::{AllocError, Global};
 
-/// Tells what a case asks: how many `bytes` or `lines` the text has, a `line` by its number from 1 on, or what it is
-/// when it is `read` as a program, with the names renamed that stand behind the word, each with the new name.
+/// Tells what a case asks: how many `bytes` or `lines` the text has, a `line` by its number from 1 on, what its `parts`
+/// are, or what it is when it is `read` as a user's program, with the names renamed that stand behind the word, each with
+/// the new name.
 pub fn answer(case: &mut Case<'_>) {
     match case.take_word() {
         "bytes" => case.tell_count(prelude().len()),
         "lines" => case.tell_count(prelude().split_terminator('\n').count()),
         "line" => tell_line(case),
+        "parts" => tell_parts(case),
         "read" => tell_verdict(case),
         _ => case.lacks("what is asked of the prelude"),
     }
@@ -21,6 +24,13 @@ fn tell_line(case: &mut Case<'_>) {
     let number = case.take_count();
     let line = prelude().lines().nth(number.saturating_sub(1));
     case.tell(line.unwrap_or(""));
+}
+
+fn tell_parts(case: &mut Case<'_>) {
+    let program = read_prelude(case.alloc);
+    if let Some(program) = case.made(program) {
+        tell_kinds(program.parts.as_slice(), case);
+    }
 }
 
 fn tell_verdict(case: &mut Case<'_>) {

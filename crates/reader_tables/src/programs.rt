@@ -63,7 +63,8 @@ pub fn read(case: &mut Case<'_>, text: &str) -> Option<Program> {
     }
 }
 
-fn tell_kinds(parts: &[Part], case: &mut Case<'_>) {
+/// Tells what each of these parts is.
+pub fn tell_kinds(parts: &[Part], case: &mut Case<'_>) {
     if parts.is_empty() {
         case.tell("no part");
     }

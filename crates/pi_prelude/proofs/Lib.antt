@@ -1,0 +1,4 @@
+pub mod TokenLemmas
+pub mod ExpressionLemmas
+pub mod PartLemmas
+pub mod PreludeLemmas
