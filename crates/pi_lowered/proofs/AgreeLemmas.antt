@@ -1,0 +1,209 @@
+-- Slots against an environment: each name finds the same in both, and the slots that no text has come to are empty.
+use Rattle.std.proofs.Common.{◌≡◌, ℕ, zero, suc, ◌+◌, ◌<◌, ◌≤◌, Bool, true, false, cond, List, [], ◌∷◌, ◌++◌, length, refl, sym, ◌∙◌, ap, subst, arith, length-append, append_assoc}
+use Rattle.std.specs.Prelude.{Option, Some, None, option_map, option_and_then, IsSome, slice_set}
+use Rattle.std.specs.Str.{bytes_eq}
+use Rattle.std.proofs.lemmas.List.{length-set, append-nil}
+use Rattle.std.proofs.lemmas.Slice.Eq.{bytes_eq-Decides}
+use Rattle.pi_terms.specs.Tree.{Tree}
+use Rattle.pi_terms.specs.Places.{Places, held}
+use Rattle.pi_meaning.specs.Environment.{Environment, meant, known, with_name}
+use Rattle.pi_lowered.specs.Slots.{SlotNames, unnamed, slot_of, slot_known, slots_with, slots_for, with_value}
+
+pub text_itself : (a : List ℕ) → bytes_eq a a ≡ true
+text_itself a = (bytes_eq-Decides a a).1 refl
+
+pub text_same : (a b : List ℕ) → bytes_eq a b ≡ true → a ≡ b
+text_same a b h = (bytes_eq-Decides a b).0 h
+
+-- what stands first, else what stands behind
+abbrev pub or_last : {A : Type 0} → Option A → Option A → Option A
+or_last (Some k) last = Some k
+or_last None last = last
+
+-- ---- more slots
+
+-- slots that are added behind
+pub data Grows (ns : SlotNames) : SlotNames → Type 0 where
+  by : (more : SlotNames) → Grows ns (ns ++ more)
+
+pub grows-none : (ns : SlotNames) → Grows ns ns
+grows-none ns = subst (λ (ms : SlotNames). Grows ns ms) (append-nil ns) (by [])
+
+pub grows-then : (ns ms ks : SlotNames) → Grows ns ms → Grows ms ks → Grows ns ks
+grows-then ns _ _ (by more) (by further) = subst (λ (ms : SlotNames). Grows ns ms) (sym (append_assoc ns more further)) (by (more ++ further))
+
+pub grows-length : (ns ms : SlotNames) → Grows ns ms → length ns ≤ length ms
+grows-length ns _ (by more) = omega (arith, length-append ns more)
+
+pub grows-for : (name : List ℕ) (ns : SlotNames) → Grows ns (slots_for name ns)
+grows-for name ns = go (slot_known name ns)
+  where
+    go : (o : Option ℕ) → Grows ns (slots_with o name ns)
+    go None = by (name ∷ [])
+    go (Some k) = grows-none ns
+
+-- ---- what a name finds
+
+abbrev pub finds : List ℕ → SlotNames → Places → Option Tree
+finds name ns slots = option_and_then (held slots) (slot_of name ns)
+
+map-last : (found last : Option ℕ) → option_map (λ k. suc k) (or_last found last) ≡ or_last (option_map (λ k. suc k) found) (option_map (λ k. suc k) last)
+map-last (Some k) last = refl
+map-last None last = refl
+
+step : (b : Bool) (found last : Option ℕ) → cond b (Some 0) (or_last (option_map (λ k. suc k) found) last) ≡ or_last (cond b (Some 0) (option_map (λ k. suc k) found)) last
+step true found last = refl
+step false found last = refl
+
+later : (n : ℕ) (o : Option ℕ) → option_map (λ k. suc k) (option_map (λ k. n + k) o) ≡ option_map (λ k. suc n + k) o
+later n None = refl
+later n (Some k) = ap Some (omega arith)
+
+first-again : (o : Option ℕ) → o ≡ option_map (λ k. 0 + k) o
+first-again None = refl
+first-again (Some k) = ap Some (omega arith)
+
+-- the slot of a name among more
+pub slot-among : (name : List ℕ) (ns ms : SlotNames) → slot_of name (ns ++ ms) ≡ or_last (slot_of name ns) (option_map (λ k. length ns + k) (slot_of name ms))
+unfolding slot_of
+slot-among name [] ms = first-again (slot_of name ms)
+slot-among name (m ∷ ns) ms =
+    ap (λ o. cond (bytes_eq name m) (Some 0) (option_map (λ k. suc k) o)) (slot-among name ns ms)
+    ∙ ap (λ o. cond (bytes_eq name m) (Some 0) o) (map-last (slot_of name ns) (option_map (λ k. length ns + k) (slot_of name ms)) ∙ ap (or_last (option_map (λ k. suc k) (slot_of name ns))) (later (length ns) (slot_of name ms)))
+    ∙ step (bytes_eq name m) (slot_of name ns) (option_map (λ k. suc (length ns) + k) (slot_of name ms))
+
+abbrev some-value : Option ℕ → ℕ
+some-value None = 0
+some-value (Some j) = j
+
+some-inj : {i j : ℕ} → Some i ≡ Some j → i ≡ j
+some-inj h = ap some-value h
+
+-- a slot is one of those
+pub slot-below : (name : List ℕ) (ns : SlotNames) (k : ℕ) → slot_of name ns ≡ Some k → k < length ns
+unfolding slot_of
+slot-below name [] k e = absurd cc
+slot-below name (m ∷ ns) k e = go (bytes_eq name m) (slot_of name ns) (λ j at. slot-below name ns j at) e
+  where
+    go : (b : Bool) (o : Option ℕ) → ((j : ℕ) → o ≡ Some j → j < length ns) → cond b (Some 0) (option_map (λ j. suc j) o) ≡ Some k → k < suc (length ns)
+    go true o below h = let z : 0 ≡ k = some-inj h in omega arith
+    go false None below h = absurd cc
+    go false (Some j) below h = let z : suc j ≡ k = some-inj h in omega (arith, below j refl)
+
+-- what a slot has for its name: names that find one slot are one
+abbrev name_at : SlotNames → ℕ → List ℕ
+name_at [] k = []
+name_at (n ∷ ns) zero = n
+name_at (n ∷ ns) (suc k) = name_at ns k
+
+slot-name : (name : List ℕ) (ns : SlotNames) (k : ℕ) → slot_of name ns ≡ Some k → name_at ns k ≡ name
+unfolding slot_of
+slot-name name [] k e = absurd cc
+slot-name name (m ∷ ns) k e = go (bytes_eq name m) refl (slot_of name ns) (λ j at. slot-name name ns j at) e
+  where
+    go : (b : Bool) → bytes_eq name m ≡ b → (o : Option ℕ) → ((j : ℕ) → o ≡ Some j → name_at ns j ≡ name) → cond b (Some 0) (option_map (λ j. suc j) o) ≡ Some k → name_at (m ∷ ns) k ≡ name
+    go true same o below h = subst (λ (j : ℕ). name_at (m ∷ ns) j ≡ name) (some-inj h) (sym (text_same name m same))
+    go false other None below h = absurd cc
+    go false other (Some j) below h = subst (λ (j : ℕ). name_at (m ∷ ns) j ≡ name) (some-inj h) (below j refl)
+
+pub slot-one : (name other : List ℕ) (ns : SlotNames) (k : ℕ) → slot_of name ns ≡ Some k → slot_of other ns ≡ Some k → other ≡ name
+slot-one name other ns k a b = sym (slot-name other ns k b) ∙ slot-name name ns k a
+
+-- ---- the relation
+
+pub record Agrees (n h : ℕ) (ns : SlotNames) (e : Environment) (slots : Places) : Type 0 where
+  -- so many slots in all
+  pub long : length slots ≡ n
+  pub names : (name : List ℕ) → bytes_eq name unnamed ≡ false → meant name e ≡ finds name ns slots
+  -- those ahead
+  pub empty : (k : ℕ) → length ns ≤ k → held slots k ≡ None
+  -- those that the head fills
+  pub firm : (k : ℕ) → k < h → IsSome (held slots k)
+
+unnamed-known : (b : Bool) (o : Option ℕ) (slots : Places) → option_and_then (held slots) (cond b None o) ≡ cond b None (option_and_then (held slots) o)
+unnamed-known true o slots = refl
+unnamed-known false o slots = refl
+
+-- an occurrence finds the same
+pub agrees-known : (n h : ℕ) (ns : SlotNames) (e : Environment) (slots : Places) → Agrees n h ns e slots → (name : List ℕ) → known name e ≡ option_and_then (held slots) (slot_known name ns)
+agrees-known n h ns e slots a name = go (bytes_eq name unnamed) refl
+  where
+    go : (b : Bool) → bytes_eq name unnamed ≡ b → cond b None (meant name e) ≡ option_and_then (held slots) (cond b None (slot_of name ns))
+    go true is = refl
+    go false is = a.names name is
+
+-- ---- one more name
+
+pub meant-more : (name : List ℕ) (e : Environment) (other : List ℕ) (t : Tree) → meant name (with_name e other t) ≡ or_last (meant name e) (cond (bytes_eq name other) (Some t) None)
+unfolding meant
+meant-more name [] other t = refl
+meant-more name (m ∷ e) other t = go (bytes_eq name m.name) (meant-more name e other t)
+  where
+    go : (b : Bool) → meant name (with_name e other t) ≡ or_last (meant name e) (cond (bytes_eq name other) (Some t) None) →
+        cond b (Some m.tree) (meant name (with_name e other t)) ≡ or_last (cond b (Some m.tree) (meant name e)) (cond (bytes_eq name other) (Some t) None)
+    go true rest = refl
+    go false rest = rest
+
+pub set-other : (e : Places) (k : ℕ) (x : Option Tree) (i : ℕ) → (i ≡ k → ⊥) → held (slice_set e k x) i ≡ held e i
+set-other [] k x i apart = refl
+set-other (y ∷ e) zero x zero apart = absurd (apart refl)
+set-other (y ∷ e) zero x (suc i) apart = refl
+set-other (y ∷ e) (suc k) x zero apart = refl
+set-other (y ∷ e) (suc k) x (suc i) apart = set-other e k x i (λ same. apart (ap suc same))
+
+pub set-firm : (e : Places) (k : ℕ) (t : Tree) (i : ℕ) → IsSome (held e i) → IsSome (held (slice_set e k (Some t)) i)
+set-firm [] k t i h = h
+set-firm (y ∷ e) zero t zero h = refl
+set-firm (y ∷ e) zero t (suc i) h = h
+set-firm (y ∷ e) (suc k) t zero h = h
+set-firm (y ∷ e) (suc k) t (suc i) h = set-firm e k t i h
+
+-- slots ahead are found by no name, so that more of them change nothing
+pub finds-more : (name : List ℕ) (ns more : SlotNames) (slots : Places) → ((k : ℕ) → length ns ≤ k → held slots k ≡ None) → finds name (ns ++ more) slots ≡ finds name ns slots
+finds-more name ns more slots ahead = ap (option_and_then (held slots)) (slot-among name ns more) ∙ go (slot_of name ns) (slot_of name more)
+  where
+    go : (o p : Option ℕ) → option_and_then (held slots) (or_last o (option_map (λ k. length ns + k) p)) ≡ option_and_then (held slots) o
+    go (Some k) p = refl
+    go None None = refl
+    go None (Some k) = ahead (length ns + k) (omega arith)
+
+pub agrees-more : (n h : ℕ) (ns ms : SlotNames) (e : Environment) (slots : Places) → Grows ns ms → Agrees n h ns e slots → Agrees n h ms e slots
+agrees-more n h ns _ e slots (by more) a = record {
+  long = a.long;
+  names = λ name is. a.names name is ∙ sym (finds-more name ns more slots a.empty);
+  empty = λ k past. a.empty k (omega (arith, past, length-append ns more));
+  firm = a.firm;
+}
+
+pub slot-alone : (name other : List ℕ) → slot_of name (other ∷ []) ≡ cond (bytes_eq name other) (Some 0) None
+unfolding slot_of
+slot-alone name other = refl
+
+-- a value in the next slot
+pub agrees-value : (n h : ℕ) (ns : SlotNames) (e : Environment) (slots : Places) (t : Tree) → Agrees n h ns e slots → Agrees n h (with_value ns) e (slice_set slots (length ns) (Some t))
+agrees-value n h ns e slots t a = record {
+  long = length-set slots (length ns) (Some t) ∙ a.long;
+  names = λ name is. a.names name is ∙ other name is;
+  empty = λ k past. set-other slots (length ns) (Some t) k (λ same. beyond k past same) ∙ a.empty k (omega (arith, past, length-append ns (unnamed ∷ [])));
+  firm = λ k less. set-firm slots (length ns) t k (a.firm k less);
+}
+  where
+    beyond : (k : ℕ) → length (ns ++ unnamed ∷ []) ≤ k → k ≡ length ns → ⊥
+    beyond k past same = omega (arith, past, same, length-append ns (unnamed ∷ []))
+
+    apart : (name : List ℕ) (k : ℕ) → slot_of name ns ≡ Some k → k ≡ length ns → ⊥
+    apart name k at same = omega (arith, slot-below name ns k at, same)
+
+    kept : (name : List ℕ) (o : Option ℕ) → slot_of name ns ≡ o → option_and_then (held slots) o ≡ option_and_then (held (slice_set slots (length ns) (Some t))) o
+    kept name None at = refl
+    kept name (Some k) at = sym (set-other slots (length ns) (Some t) k (apart name k at))
+
+    last : (name : List ℕ) (o : Option ℕ) → bytes_eq name unnamed ≡ false → or_last o (option_map (λ k. length ns + k) (cond (bytes_eq name unnamed) (Some 0) None)) ≡ o
+    last name (Some k) is = refl
+    last name None is = ap (λ b. option_map (λ k. length ns + k) (cond b (Some 0) None)) is
+
+    slot-same : (name : List ℕ) → bytes_eq name unnamed ≡ false → slot_of name (ns ++ unnamed ∷ []) ≡ slot_of name ns
+    slot-same name is = slot-among name ns (unnamed ∷ []) ∙ ap (λ o. or_last (slot_of name ns) (option_map (λ k. length ns + k) o)) (slot-alone name unnamed) ∙ last name (slot_of name ns) is
+
+    other : (name : List ℕ) → bytes_eq name unnamed ≡ false → finds name ns slots ≡ finds name (ns ++ unnamed ∷ []) (slice_set slots (length ns) (Some t))
+    other name is = kept name (slot_of name ns) refl ∙ sym (ap (option_and_then (held (slice_set slots (length ns) (Some t)))) (slot-same name is))

@@ -1,0 +1,9 @@
+pub mod Slots
+pub mod Values
+pub mod Goals
+pub mod Lowered
+pub mod Forms
+pub mod Levels
+pub mod Within
+pub mod Clauses
+pub mod Laws

@@ -1,0 +1,9 @@
+pub mod ExpTrees
+pub mod TermLemmas
+pub mod TextLemmas
+pub mod SlotLemmas
+pub mod FlatLemmas
+pub mod CellLemmas
+pub mod PatternLemmas
+pub mod ArmLemmas
+pub mod HeadLemmas

@@ -1,0 +1,99 @@
+-- Each kind of expression by its lemma.
+use Rattle.std.proofs.Common.{◌≡◌, length, refl, rules}
+use Rattle.std.specs.Prelude.{codes}
+use Rattle.pi_terms.specs.Tree.{Tree}
+use Rattle.pi_terms.specs.ListNames.{nil}
+use Rattle.pi_print.specs.PrintTerm.{array_name}
+use Rattle.pi_syntax.specs.ExpTree.{exp_tree}
+use Rattle.pi_syntax.specs.ExpLists.{exps_of}
+use Rattle.pi_names.specs.Terms.{items_onto}
+use Rattle.pi_lowered.specs.Values.{slot_term, slot_terms, made_of, made_onto}
+use Rattle.pi_slots.proofs.TermLemmas.{terms-none, terms-more, terms-end, items-none, items-more, items-end}
+use Rattle.pi_slots.proofs.ArmLemmas.{term-list, term-onto, term-array, term-call, term-quote, term-range, term-range_by, two_terms, three_terms, cells-list, cells-onto, cells-comp, cells-same, cells-two, cells-three, names-as}
+use Rattle.pi_slots.proofs.terms.+standing.Goals as goal
+
+pub push_terms-loop-exp-init : goal.push_terms-loop-exp-init
+push_terms-loop-exp-init t c = terms-none c.args.exps.now c.args.slots.now c.args.cells.now.items
+
+pub push_terms-loop-exp-preserved : goal.push_terms-loop-exp-preserved
+push_terms-loop-exp-preserved t c =
+    terms-more c.args.exps.now c.loop-exp.exp-index c.exp-item.result c.args.slots.now c.loop-exp.slots c.push_term.new.slots c.args.cells.now.items c.loop-exp.cells.items c.push_term.new.cells.items c.loop-exp-test.true c.exp-item.is c.loop-exp.invariant
+    c.in_ok-push_term.ensures.cells c.in_ok-push_term.ensures.slots
+
+pub push_terms-returns-clause-cells : goal.push_terms-returns-clause-cells
+push_terms-returns-clause-cells t c = (terms-end c.args.exps.now c.loop-exp.exp-index c.args.slots.now c.loop-exp.slots c.args.cells.now.items c.loop-exp.cells.items c.loop-exp-test.false c.loop-exp.invariant).0
+
+pub push_terms-returns-clause-slots : goal.push_terms-returns-clause-slots
+push_terms-returns-clause-slots t c = (terms-end c.args.exps.now c.loop-exp.exp-index c.args.slots.now c.loop-exp.slots c.args.cells.now.items c.loop-exp.cells.items c.loop-exp-test.false c.loop-exp.invariant).1
+
+pub push_items-loop-exp-init : goal.push_items-loop-exp-init
+push_items-loop-exp-init t c = items-none c.args.exps.now c.args.slots.now c.args.cells.now.items
+
+pub push_items-loop-exp-preserved : goal.push_items-loop-exp-preserved
+push_items-loop-exp-preserved t c =
+    items-more c.args.exps.now c.loop-exp.exp-index c.exp-item.result c.args.slots.now c.loop-exp.slots c.push_term.new.slots c.args.cells.now.items c.loop-exp.cells.items c.push_list_cell.new.cells.items c.push_term.new.cells.items c.loop-exp-test.true c.exp-item.is c.loop-exp.invariant
+    c.in_ok-push_list_cell.ensures c.in_ok-push_term.ensures.cells c.in_ok-push_term.ensures.slots
+
+pub push_items-returns-clause-cells : goal.push_items-returns-clause-cells
+push_items-returns-clause-cells t c = (items-end c.args.exps.now c.loop-exp.exp-index c.args.slots.now c.loop-exp.slots c.args.cells.now.items c.loop-exp.cells.items c.loop-exp-test.false c.loop-exp.invariant).0
+
+pub push_items-returns-clause-slots : goal.push_items-returns-clause-slots
+push_items-returns-clause-slots t c = (items-end c.args.exps.now c.loop-exp.exp-index c.args.slots.now c.loop-exp.slots c.args.cells.now.items c.loop-exp.cells.items c.loop-exp-test.false c.loop-exp.invariant).1
+
+pub push_term-returns-in_ok-push_term-in-Some-clause-cells : goal.push_term-returns-in_ok-push_term-in-Some-clause-cells
+push_term-returns-in_ok-push_term-in-Some-clause-cells t c =
+    cells-onto (slot_term (exp_tree c.args.exp.now) c.args.slots.now) (slot_terms (exps_of c.as_slice.result.now) c.args.slots.now) (slot_term (exp_tree c.deref.result.now) c.push_items.new.slots) c.args.cells.now.items c.push_items.new.cells.items c.push_term.new.cells.items (term-onto c.args.exp.now c.in-List.items c.in-List.tail c.in-Some.tail c.as_slice.result.now c.deref.result.now c.args.slots.now c.push_items.new.slots c.in-List.is c.in-Some.is c.as_slice.ensures.value c.deref.ensures c.in_ok-push_items-in-Some.ensures.slots) c.in_ok-push_items-in-Some.ensures.cells c.in_ok-push_term-in-Some.ensures.cells
+
+pub push_term-returns-in_ok-push_term-in-Some-clause-slots : goal.push_term-returns-in_ok-push_term-in-Some-clause-slots
+push_term-returns-in_ok-push_term-in-Some-clause-slots t c =
+    names-as (slot_term (exp_tree c.args.exp.now) c.args.slots.now) (made_onto (slot_terms (exps_of c.as_slice.result.now) c.args.slots.now) (slot_term (exp_tree c.deref.result.now) c.push_items.new.slots)) c.push_term.new.slots (term-onto c.args.exp.now c.in-List.items c.in-List.tail c.in-Some.tail c.as_slice.result.now c.deref.result.now c.args.slots.now c.push_items.new.slots c.in-List.is c.in-Some.is c.as_slice.ensures.value c.deref.ensures c.in_ok-push_items-in-Some.ensures.slots) c.in_ok-push_term-in-Some.ensures.slots
+
+pub push_term-returns-in_ok-push_atom-in-None-clause-cells : goal.push_term-returns-in_ok-push_atom-in-None-clause-cells
+push_term-returns-in_ok-push_atom-in-None-clause-cells t c =
+    cells-list (slot_term (exp_tree c.args.exp.now) c.args.slots.now) (slot_terms (exps_of c.as_slice-in-None.result.now) c.args.slots.now) c.args.cells.now.items c.push_items-in-None.new.cells.items c.push_atom-in-None.new.cells.items nil (term-list c.args.exp.now c.in-List.items c.in-List.tail c.as_slice-in-None.result.now c.args.slots.now c.in-List.is c.in-None.is c.as_slice-in-None.ensures.value) refl c.in_ok-push_items-in-None.ensures.cells c.in_ok-push_atom-in-None.ensures
+
+pub push_term-returns-in_ok-push_atom-in-None-clause-slots : goal.push_term-returns-in_ok-push_atom-in-None-clause-slots
+push_term-returns-in_ok-push_atom-in-None-clause-slots t c =
+    names-as (slot_term (exp_tree c.args.exp.now) c.args.slots.now) (made_of (λ ts. items_onto ts (Tree.atom nil)) (slot_terms (exps_of c.as_slice-in-None.result.now) c.args.slots.now)) c.push_items-in-None.new.slots (term-list c.args.exp.now c.in-List.items c.in-List.tail c.as_slice-in-None.result.now c.args.slots.now c.in-List.is c.in-None.is c.as_slice-in-None.ensures.value) c.in_ok-push_items-in-None.ensures.slots
+
+pub push_term-returns-in_ok-push_terms-in-Array-clause-cells : goal.push_term-returns-in_ok-push_terms-in-Array-clause-cells
+push_term-returns-in_ok-push_terms-in-Array-clause-cells t c =
+    let count : c.len.result ≡ length c.as_slice-in-Array.result.now = search rules in
+    cells-comp (slot_term (exp_tree c.args.exp.now) c.args.slots.now) array_name array_name c.as_slice-in-Array.result.now c.args.slots.now c.len.result c.args.cells.now.items c.push_compound.new.cells.items c.push_terms.new.cells.items (term-array c.args.exp.now c.in-Array.items c.as_slice-in-Array.result.now c.args.slots.now c.in-Array.is c.as_slice-in-Array.ensures.value) refl count c.in_ok-push_compound-in-Array.ensures c.in_ok-push_terms-in-Array.ensures.cells
+
+pub push_term-returns-in_ok-push_terms-in-Array-clause-slots : goal.push_term-returns-in_ok-push_terms-in-Array-clause-slots
+push_term-returns-in_ok-push_terms-in-Array-clause-slots t c =
+    names-as (slot_term (exp_tree c.args.exp.now) c.args.slots.now) (made_of (Tree.comp array_name) (slot_terms (exps_of c.as_slice-in-Array.result.now) c.args.slots.now)) c.push_terms.new.slots (term-array c.args.exp.now c.in-Array.items c.as_slice-in-Array.result.now c.args.slots.now c.in-Array.is c.as_slice-in-Array.ensures.value) c.in_ok-push_terms-in-Array.ensures.slots
+
+pub push_term-returns-in_ok-push_terms-in-Call-clause-cells : goal.push_term-returns-in_ok-push_terms-in-Call-clause-cells
+push_term-returns-in_ok-push_terms-in-Call-clause-cells t c =
+    let count : c.len-in-Call.result ≡ length c.as_slice-in-Call.result.now = search rules in
+    cells-comp (slot_term (exp_tree c.args.exp.now) c.args.slots.now) c.in-Call.name c.as_str-in-Call.result.now c.as_slice-in-Call.result.now c.args.slots.now c.len-in-Call.result c.args.cells.now.items c.push_compound-in-Call.new.cells.items c.push_terms-in-Call.new.cells.items (term-call c.args.exp.now c.in-Call.name c.in-Call.args c.as_slice-in-Call.result.now c.args.slots.now c.in-Call.is c.as_slice-in-Call.ensures.value) c.as_str-in-Call.ensures count c.in_ok-push_compound-in-Call.ensures c.in_ok-push_terms-in-Call.ensures.cells
+
+pub push_term-returns-in_ok-push_terms-in-Call-clause-slots : goal.push_term-returns-in_ok-push_terms-in-Call-clause-slots
+push_term-returns-in_ok-push_terms-in-Call-clause-slots t c =
+    names-as (slot_term (exp_tree c.args.exp.now) c.args.slots.now) (made_of (Tree.comp c.in-Call.name) (slot_terms (exps_of c.as_slice-in-Call.result.now) c.args.slots.now)) c.push_terms-in-Call.new.slots (term-call c.args.exp.now c.in-Call.name c.in-Call.args c.as_slice-in-Call.result.now c.args.slots.now c.in-Call.is c.as_slice-in-Call.ensures.value) c.in_ok-push_terms-in-Call.ensures.slots
+
+pub push_term-returns-in_ok-push_term-in-Quote-clause-cells : goal.push_term-returns-in_ok-push_term-in-Quote-clause-cells
+push_term-returns-in_ok-push_term-in-Quote-clause-cells t c =
+    cells-same (slot_term (exp_tree c.args.exp.now) c.args.slots.now) (slot_term (exp_tree c.deref-in-Quote.result.now) c.args.slots.now) c.args.cells.now.items c.push_term-in-Quote.new.cells.items (term-quote c.args.exp.now c.in-Quote.inner c.deref-in-Quote.result.now c.args.slots.now c.in-Quote.is c.deref-in-Quote.ensures) c.in_ok-push_term-in-Quote.ensures.cells
+
+pub push_term-returns-in_ok-push_term-in-Quote-clause-slots : goal.push_term-returns-in_ok-push_term-in-Quote-clause-slots
+push_term-returns-in_ok-push_term-in-Quote-clause-slots t c =
+    names-as (slot_term (exp_tree c.args.exp.now) c.args.slots.now) (slot_term (exp_tree c.deref-in-Quote.result.now) c.args.slots.now) c.push_term-in-Quote.new.slots (term-quote c.args.exp.now c.in-Quote.inner c.deref-in-Quote.result.now c.args.slots.now c.in-Quote.is c.deref-in-Quote.ensures) c.in_ok-push_term-in-Quote.ensures.slots
+
+pub push_term-returns-in_ok-push_term-in-Some-step-3-clause-cells : goal.push_term-returns-in_ok-push_term-in-Some-step-3-clause-cells
+push_term-returns-in_ok-push_term-in-Some-step-3-clause-cells t c =
+    cells-three (slot_term (exp_tree c.args.exp.now) c.args.slots.now) (slot_term (exp_tree c.deref-in-Some-step.result.now) c.args.slots.now) (slot_term (exp_tree c.deref-in-Some-step-2.result.now) c.push_term-in-Some-step.new.slots) (slot_term (exp_tree c.deref-in-Some-step-3.result.now) c.push_term-in-Some-step-2.new.slots) (codes "..") c.args.cells.now.items c.push_compound-in-Some-step.new.cells.items c.push_term-in-Some-step.new.cells.items c.push_term-in-Some-step-2.new.cells.items c.push_term-in-Some-step-3.new.cells.items (term-range_by c.args.exp.now c.in-Range.first c.in-Range.step c.in-Range.last c.in-Some-step.step c.deref-in-Some-step.result.now c.deref-in-Some-step-2.result.now c.deref-in-Some-step-3.result.now c.args.slots.now c.push_term-in-Some-step.new.slots c.push_term-in-Some-step-2.new.slots c.in-Range.is c.in-Some-step.is c.deref-in-Some-step.ensures c.deref-in-Some-step-2.ensures c.deref-in-Some-step-3.ensures c.in_ok-push_term-in-Some-step.ensures.slots c.in_ok-push_term-in-Some-step-2.ensures.slots) refl c.in_ok-push_compound-in-Some-step.ensures c.in_ok-push_term-in-Some-step.ensures.cells c.in_ok-push_term-in-Some-step-2.ensures.cells c.in_ok-push_term-in-Some-step-3.ensures.cells
+
+pub push_term-returns-in_ok-push_term-in-Some-step-3-clause-slots : goal.push_term-returns-in_ok-push_term-in-Some-step-3-clause-slots
+push_term-returns-in_ok-push_term-in-Some-step-3-clause-slots t c =
+    names-as (slot_term (exp_tree c.args.exp.now) c.args.slots.now) (three_terms (slot_term (exp_tree c.deref-in-Some-step.result.now) c.args.slots.now) (slot_term (exp_tree c.deref-in-Some-step-2.result.now) c.push_term-in-Some-step.new.slots) (slot_term (exp_tree c.deref-in-Some-step-3.result.now) c.push_term-in-Some-step-2.new.slots)) c.push_term-in-Some-step-3.new.slots (term-range_by c.args.exp.now c.in-Range.first c.in-Range.step c.in-Range.last c.in-Some-step.step c.deref-in-Some-step.result.now c.deref-in-Some-step-2.result.now c.deref-in-Some-step-3.result.now c.args.slots.now c.push_term-in-Some-step.new.slots c.push_term-in-Some-step-2.new.slots c.in-Range.is c.in-Some-step.is c.deref-in-Some-step.ensures c.deref-in-Some-step-2.ensures c.deref-in-Some-step-3.ensures c.in_ok-push_term-in-Some-step.ensures.slots c.in_ok-push_term-in-Some-step-2.ensures.slots) c.in_ok-push_term-in-Some-step-3.ensures.slots
+
+pub push_term-returns-in_ok-push_term-in-None-step-2-clause-cells : goal.push_term-returns-in_ok-push_term-in-None-step-2-clause-cells
+push_term-returns-in_ok-push_term-in-None-step-2-clause-cells t c =
+    cells-two (slot_term (exp_tree c.args.exp.now) c.args.slots.now) (slot_term (exp_tree c.deref-in-None-step.result.now) c.args.slots.now) (slot_term (exp_tree c.deref-in-None-step-2.result.now) c.push_term-in-None-step.new.slots) (codes "..") c.args.cells.now.items c.push_compound-in-None-step.new.cells.items c.push_term-in-None-step.new.cells.items c.push_term-in-None-step-2.new.cells.items (term-range c.args.exp.now c.in-Range.first c.in-Range.step c.in-Range.last c.deref-in-None-step.result.now c.deref-in-None-step-2.result.now c.args.slots.now c.push_term-in-None-step.new.slots c.in-Range.is c.in-None-step.is c.deref-in-None-step.ensures c.deref-in-None-step-2.ensures c.in_ok-push_term-in-None-step.ensures.slots) refl c.in_ok-push_compound-in-None-step.ensures c.in_ok-push_term-in-None-step.ensures.cells c.in_ok-push_term-in-None-step-2.ensures.cells
+
+pub push_term-returns-in_ok-push_term-in-None-step-2-clause-slots : goal.push_term-returns-in_ok-push_term-in-None-step-2-clause-slots
+push_term-returns-in_ok-push_term-in-None-step-2-clause-slots t c =
+    names-as (slot_term (exp_tree c.args.exp.now) c.args.slots.now) (two_terms (slot_term (exp_tree c.deref-in-None-step.result.now) c.args.slots.now) (slot_term (exp_tree c.deref-in-None-step-2.result.now) c.push_term-in-None-step.new.slots)) c.push_term-in-None-step-2.new.slots (term-range c.args.exp.now c.in-Range.first c.in-Range.step c.in-Range.last c.deref-in-None-step.result.now c.deref-in-None-step-2.result.now c.args.slots.now c.push_term-in-None-step.new.slots c.in-Range.is c.in-None-step.is c.deref-in-None-step.ensures c.deref-in-None-step-2.ensures c.in_ok-push_term-in-None-step.ensures.slots) c.in_ok-push_term-in-None-step-2.ensures.slots

@@ -1,0 +1,6 @@
+-- The names that code holds.
+use Rattle.std.specs.Prelude.{ℕ, List, map}
+use Rattle.std.specs.Borrow.{Bor}
+
+abbrev pub names_in : List (Bor (List ℕ)) → List (List ℕ)
+names_in names = map (λ (name : Bor (List ℕ)). name.now) names

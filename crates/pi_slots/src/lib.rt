@@ -1,0 +1,13 @@
+//! Slots of a clause or a query, and terms and patterns over them.
+#![tactic(auto)]
+
+mod flat;
+mod letters;
+mod patterns;
+mod slots;
+mod terms;
+
+pub use flat::{are_flat, is_below, is_flat};
+pub use patterns::slot_patterns;
+pub use slots::Slots;
+pub use terms::{list_onto, slot_term};
