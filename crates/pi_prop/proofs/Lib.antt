@@ -1,0 +1,4 @@
+pub mod RootLemmas
+pub mod MeetLemmas
+pub mod LeftLemmas
+pub mod LimitLemmas
