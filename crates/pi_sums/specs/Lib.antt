@@ -1,0 +1,4 @@
+pub mod Signed
+pub mod Kept
+pub mod Changes
+pub mod Steps

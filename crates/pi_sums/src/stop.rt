@@ -1,0 +1,10 @@
+//! Why a sum isn't made.
+
+/// Why a sum isn't made.
+#[derive(Clone, Copy, Debug, PartialEq, Eq)]
+pub enum SumStop {
+    /// A coefficient or the constant needs more than 128 bits.
+    Wide,
+    /// Memory was wanted.
+    Memory,
+}
