@@ -7,6 +7,7 @@ use mir.Syntax.{w64, w128}
 use mir.Val.{to_z, of_z, SFits}
 use Rattle.pi_raw_terms.specs.Form.{form_with, form_of, number_of, IsFitting, IsSmall, small_of, small_number, header_with, header_of, comp_number, comp_word, wide_word, wide_top, wide_mid, wide_low, wide_sum, wide_of}
 use Rattle.std.specs.Prelude.{◌==◌}
+use Rattle.pi_trail.specs.Entry.{data_of}
 use Rattle.pi_raw_terms.specs.declared.form.Form.{Form}
 use Rattle.pi_raw_terms.specs.declared.header.Header.{Header}
 
@@ -47,6 +48,9 @@ comp_of name count x bit g few is lt e =
 pub header_of-comp_word : (name count : ℕ) (g : Bool) → count < 2 ^ 32 → header_of (comp_word name count g) ≡ Header.Comp name count g
 header_of-comp_word name count true few = header_at 15 (comp_number name count true) (lit< tt) ∙ comp_of name count (name * 2 ^ 32 + count) 1 true few refl (lit< tt) refl
 header_of-comp_word name count false few = header_at 15 (comp_number name count false) (lit< tt) ∙ comp_of name count (name * 2 ^ 32 + count) 0 false few refl (lit< tt) refl
+
+pub header_of-data_of : (n : ℕ) → header_of (data_of n) ≡ Header.Nothing
+header_of-data_of n = header_at 7 n (lit< tt)
 
 pub header_of-wide_word : (top : ℕ) → header_of (wide_word top) ≡ Header.Wide top
 header_of-wide_word top = header_at 23 top (lit< tt)

@@ -3,3 +3,6 @@ pub mod HeapLemmas
 pub mod PutLemmas
 pub mod LookLemmas
 pub mod PlacedLemmas
+pub mod RefLemmas
+pub mod WriteLemmas
+pub mod SpeakLemmas

@@ -70,12 +70,12 @@ all_have f (r ∷ rs) has =
     let rest = all_have f rs (λ i lt. has (suc i) (omega arith)) in
     (tree first.0 rest.0, front_from (f r) (all_trees f rs) first.0 rest.0 first.1 rest.1)
 
-same_is : (a b : Bool) → is_same a b ≡ true → b ≡ a
+pub same_is : (a b : Bool) → is_same a b ≡ true → b ≡ a
 same_is true b e = e
 same_is false true e = absurd (cc)
 same_is false false e = refl
 
-same_flag : (b : Bool) → is_same b b ≡ true
+pub same_flag : (b : Bool) → is_same b b ≡ true
 same_flag true = refl
 same_flag false = refl
 
@@ -83,7 +83,7 @@ same_flag false = refl
 abbrev Trees_below : (ℕ → Heap) → List ℕ → ℕ → Type 0
 Trees_below past words n = (m : ℕ) → m < n → (r : ℕ) → IsRefIn (past m) (form_of r) → (t : Tree) × (term_at (past m) r ≡ Some t)
 
-length_past : (past : ℕ → Heap) (words : List ℕ) → IsHistory past words → (n : ℕ) → n ≤ length words → length (past n).words ≡ n
+pub length_past : (past : ℕ → Heap) (words : List ℕ) → IsHistory past words → (n : ℕ) → n ≤ length words → length (past n).words ≡ n
 length_past past words is n le = ap length (is.front n le) ∙ length-take-le n words le
 
 read_past : (past : ℕ → Heap) (words : List ℕ) → IsHistory past words → (n i : ℕ) → n ≤ length words → i < n → slice_index (past n).words i ≡ slice_index words i
@@ -132,18 +132,28 @@ compound_has past words is n name place count flag text le within below named re
     )
 
 -- a header that says something stands within the words, and was right when it was written
-header_before : (past : ℕ → Heap) (words : List ℕ) → IsHistory past words → (n place : ℕ) (header : Header) → n ≤ length words → header_of (slice_index (past n).words place) ≡ header
+pub header_before : (past : ℕ → Heap) (words : List ℕ) → IsHistory past words → (n place : ℕ) (header : Header) → n ≤ length words → header_of (slice_index (past n).words place) ≡ header
     → (header ≡ Header.Nothing → ⊥) → place < n
 header_before past words is n place header le at says =
     let long : length (past n).words ≡ n = length_past past words is n le in
     ⊎_elim (λ l. l) (λ l. absurd (says (sym at ∙ ap header_of (get_or_past (past n).words place 0 (omega arith))))) (cases_lt place n)
 
-header_at : (past : ℕ → Heap) (words : List ℕ) → IsHistory past words → (n place : ℕ) (header : Header) → n ≤ length words → header_of (slice_index (past n).words place) ≡ header
+pub header_at : (past : ℕ → Heap) (words : List ℕ) → IsHistory past words → (n place : ℕ) (header : Header) → n ≤ length words → header_of (slice_index (past n).words place) ≡ header
     → (header ≡ Header.Nothing → ⊥) → IsHeaderIn (past place) header
 header_at past words is n place header le at says =
     let lt : place < n = header_before past words is n place header le at says in
     let word : slice_index (past n).words place ≡ slice_index words place = read_past past words is n place le lt in
     header_in (past place) (slice_index words place) header (is.written place (omega arith)) (ap header_of (sym word) ∙ at) says
+
+-- the words below a header are those that were there when it was written
+pub block_then : (past : ℕ → Heap) (words : List ℕ) → IsHistory past words → (n place count : ℕ) → place ≤ n → n ≤ length words → count ≤ length (past place).words
+    → block (past n).words (place - count) count ≡ block (past place).words (length (past place).words - count) count
+block_then past words is n place count before le within =
+    let first : length (past place).words ≡ place = length_past past words is place (omega arith) in
+    let start : length (past place).words - count ≡ place - count = omega arith in
+    let more = (is.grows place n before le).words in
+    ap (λ vs. block vs (place - count) count) more.1
+    ∙ (block_more (past place).words more.0 (place - count) count (omega arith) ∙ ap (λ s. block (past place).words s count) (sym start))
 
 headed_has : (past : ℕ → Heap) (words : List ℕ) → IsHistory past words → (n place : ℕ) (flag : Bool) (header : Header) → n ≤ length words → Trees_below past words n
     → header_of (slice_index (past n).words place) ≡ header → is_headed flag header ≡ true
@@ -161,12 +171,8 @@ headed_has past words is n place flag (Header.Comp name count own) le below at e
     let first : length (past place).words ≡ place = length_past past words is place (omega arith) in
     let within : count ≤ length (past place).words = heads.within in
     let flags : own ≡ flag = sym (same_is own flag e) in
-    let start : length (past place).words - count ≡ place - count = omega arith in
     let grown = is.grows place n (omega arith) le in
-    let more = grown.words in
-    let old : block (past n).words (place - count) count ≡ block (past place).words (length (past place).words - count) count =
-    ap (λ vs. block vs (place - count) count) more.1
-    ∙ (block_more (past place).words more.0 (place - count) count (omega arith) ∙ ap (λ s. block (past place).words s count) (sym start)) in
+    let old : block (past n).words (place - count) count ≡ block (past place).words (length (past place).words - count) count = block_then past words is n place count (omega arith) le within in
     let t = compound_has past words is n name (place - count) count flag heads.named.0 le (omega arith) below
     (grown.names name heads.named.0 heads.named.1) (ap all_refs old ∙ heads.refs) (ap all_ground old ∙ (heads.flag ∙ flags)) in
     (t.0, guarded_from (nat_le count place) (compound_at (tree_for (length (past n).words) (past n)) (past n) name (place - count) count flag) t.0 (le-leb count place (omega arith)) t.1)

@@ -70,7 +70,7 @@ ended h k name place args text ts ends named trees =
     (ap (all_trees (tree_for (length k.words) k)) ends.is
     ∙ all_more (term_at h) (tree_for (length k.words) k) (λ q u f. tree_more (suc (length h.words)) (length k.words) h k ends.grows (omega arith) q u f) args ts trees)
 
-grown : (h k : Heap) (ws : List ℕ) → k.names ≡ h.names → k.next ≡ h.next → k.words ≡ h.words ++ ws → Grows h k
+pub grown : (h k : Heap) (ws : List ℕ) → k.names ≡ h.names → k.next ≡ h.next → k.words ≡ h.words ++ ws → Grows h k
 grown h k ws names next words = record {
   names = λ j name e. ap (λ (ns : Names). ns j) names ∙ e;
   next = omega arith;

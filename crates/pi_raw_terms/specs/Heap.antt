@@ -1,6 +1,7 @@
 -- The trees of Refs over the words of a region.
-use Rattle.std.specs.Prelude.{◌≡◌, ℕ, zero, suc, ◌+◌, ◌-◌, ◌≤◌, nat_lt, nat_le, Bool, true, false, cond, ◌&&◌, List, [], ◌∷◌, ◌++◌, length, take, drop, Option, Some, None, option_map, slice_index}
+use Rattle.std.specs.Prelude.{◌≡◌, ℕ, zero, suc, ◌+◌, ◌-◌, ◌<◌, ◌≤◌, nat_lt, nat_le, Bool, true, false, cond, ◌&&◌, List, [], ◌∷◌, ◌++◌, length, take, drop, Option, Some, None, option_map, slice_index}
 use Rattle.pi_terms.specs.Tree.{Tree, var, int, atom, comp, Trees, no_trees, tree, args, arity}
+use Rattle.pi_terms.specs.Variables.{Occurs}
 use Rattle.pi_trail.specs.Image.{Image, appended}
 use Rattle.pi_states.specs.declared.store.Cell.{Cell}
 use Rattle.pi_trail.specs.Entry.{value_of}
@@ -107,3 +108,7 @@ pub record Grows (old new : Heap) : Type 0 where
 -- a Ref that has a tree has it still when there is more
 abbrev pub TreesStay : Type 0
 TreesStay = (old new : Heap) → Grows old new → (r : ℕ) (t : Tree) → term_at old r ≡ Some t → term_at new r ≡ Some t
+
+-- only variables that were made occur in a tree
+abbrev pub TreesSpeakBelow : Type 0
+TreesSpeakBelow = (h : Heap) (r : ℕ) (t : Tree) → term_at h r ≡ Some t → (n : ℕ) → Occurs n t → n < h.next

@@ -71,3 +71,18 @@ pub record IsHistory (past : ℕ → Heap) (words : List ℕ) : Type 0 where
 -- then each Ref of one of these heaps has a tree there
 abbrev pub RefsHaveTrees : Type 0
 RefsHaveTrees = (past : ℕ → Heap) (words : List ℕ) → IsHistory past words → (n : ℕ) → n ≤ length words → (r : ℕ) → IsRefIn (past n) (form_of r) → (t : Tree) × (term_at (past n) r ≡ Some t)
+
+-- and only Refs have one
+abbrev pub TreesAreRefs : Type 0
+TreesAreRefs = (past : ℕ → Heap) (words : List ℕ) → IsHistory past words → (n : ℕ) → n ≤ length words → (r : ℕ) (t : Tree) → term_at (past n) r ≡ Some t → IsRefIn (past n) (form_of r)
+
+-- a Ref is one still when there is more
+abbrev pub RefsStay : Type 0
+RefsStay = (old new : Heap) → Grows old new → (r : ℕ) → IsRefIn old (form_of r) → IsRefIn new (form_of r)
+
+abbrev pub AreRefsIn : Heap → List ℕ → Type 0
+AreRefsIn h rs = (i : ℕ) → i < length rs → IsRefIn h (form_of (slice_index rs i))
+
+-- these words are those of the heap and then others, each of which is right behind those before it
+abbrev pub WritesRight : Heap → List ℕ → Type 0
+WritesRight h words = (n : ℕ) → length h.words ≤ n → n < length words → IsWordIn (record h { words = take n words }) (slice_index words n)

@@ -7,7 +7,7 @@ pub mod laws;
 mod look;
 mod placed;
 mod put;
-mod wide;
+pub mod wide;
 
 pub use form::{Form, is_ref};
 pub use header::Header;

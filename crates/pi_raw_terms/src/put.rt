@@ -4,6 +4,7 @@ ghost use Rattle.pi_terms.specs.Tree.{var, int, atom};
 ghost use Rattle.pi_trail.specs.Image.{numbers_of};
 ghost use Rattle.pi_raw_terms.specs.Form.{all_ground};
 ghost use Rattle.pi_raw_terms.specs.Heap.{Heap, term_at, Makes, Appends};
+ghost use Rattle.pi_raw_terms.specs.Placed.{IsNamed, AreRefsIn, WritesRight};
 
 use crate::form::{Form, is_small};
 use crate::header::{comp, wide};
@@ -33,6 +34,7 @@ pub fn put_atom(name: u32) -> Ref
 pub fn put_int(words: &mut Trailed, n: i128) -> Result<Ref, AllocError>
     ensures ok { IfOk result (λ made. (h : Heap) → h.words ≡ words.new.region → term_at h made.number ≡ Some (int n)) }
     ensures appends { IfOk result (λ _. Appends words.old words.new) }
+    ensures right { IfOk result (λ _. (h : Heap) → h.words ≡ words.old.region → WritesRight h words.new.region) }
     ensures err { OnErr result (words.new ≡ words.old) }
 {
     if is_small(n) {
@@ -48,6 +50,7 @@ pub fn put_int(words: &mut Trailed, n: i128) -> Result<Ref, AllocError>
 pub fn put_compound(words: &mut Trailed, name: u32, args: &[Ref]) -> Result<Ref, AllocError>
     ensures ok { IfOk result (λ made. Makes words.old.region words.new.region name (numbers_of args.now) made.number) }
     ensures appends { IfOk result (λ _. Appends words.old words.new) }
+    ensures right { IfOk result (λ _. (h : Heap) → h.words ≡ words.old.region → IsNamed h.names name → AreRefsIn h (numbers_of args.now) → WritesRight h words.new.region) }
     ensures err { OnErr result (words.new ≡ words.old) }
 {
     if name == 0 && args.len() == 2 {
@@ -60,6 +63,7 @@ pub fn put_compound(words: &mut Trailed, name: u32, args: &[Ref]) -> Result<Ref,
 fn put_pair(words: &mut Trailed, first: Ref, second: Ref) -> Result<Ref, AllocError>
     ensures ok { IfOk result (λ made. Makes words.old.region words.new.region 0 (first.number ∷ second.number ∷ []) made.number) }
     ensures appends { IfOk result (λ _. Appends words.old words.new) }
+    ensures right { IfOk result (λ _. (h : Heap) → h.words ≡ words.old.region → IsNamed h.names 0 → AreRefsIn h (first.number ∷ second.number ∷ []) → WritesRight h words.new.region) }
     ensures err { OnErr result (words.new ≡ words.old) }
 {
     let place = words.len() as u64;
@@ -72,6 +76,7 @@ fn put_pair(words: &mut Trailed, first: Ref, second: Ref) -> Result<Ref, AllocEr
 fn put_block(words: &mut Trailed, name: u32, args: &[Ref]) -> Result<Ref, AllocError>
     ensures ok { IfOk result (λ made. Makes words.old.region words.new.region name (numbers_of args.now) made.number) }
     ensures appends { IfOk result (λ _. Appends words.old words.new) }
+    ensures right { IfOk result (λ _. (h : Heap) → h.words ≡ words.old.region → IsNamed h.names name → AreRefsIn h (numbers_of args.now) → WritesRight h words.new.region) }
     ensures err { OnErr result (words.new ≡ words.old) }
 {
     let is_ground = are_ground(args);

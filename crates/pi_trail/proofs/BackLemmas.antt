@@ -52,7 +52,7 @@ back_go len i h =
 region_without : (i : Image) (e : Entry) (place old : ℕ) → (without i e place old).region ≡ i.region
 region_without i e place old = region_with (record i { trail = min e.link (i.trail - 1) }) e.table (taken_back e.change (table_in i e.table) place old)
 
-region_once : (i : Image) → (back_once i).region ≡ i.region
+pub region_once : (i : Image) → (back_once i).region ≡ i.region
 unfolding back_once
 region_once i = region_without i (newest i) (newest_place i) (newest_old i)
 
@@ -65,6 +65,9 @@ region_back_for (suc k) len i h = ⊎_elim
     ap (λ (j : Image). j.region) (back_go len i l) ∙ (region_back_for k len (back_once i) c ∙ region_once i))
     (λ l. ap (λ (j : Image). j.region) (back_stop len i l))
     (cases_lt len i.trail)
+
+pub region_back : (len : ℕ) (i : Image) → (back len i).region ≡ i.region
+region_back len i = region_back_for i.trail len i (omega arith)
 
 trail_back_for : (k len : ℕ) (i : Image) → i.trail ≤ k → (back len i).trail ≤ len
 trail_back_for zero len i h = let l : i.trail ≤ len = omega arith in subst (λ (j : Image). j.trail ≤ len) (sym (back_stop len i l)) l
@@ -149,7 +152,7 @@ through i j k a b =
 
 -- a return to a length leaves the region as long, or as it was where it is shorter
 pub len_back : (len : ℕ) (i : Image) → length (at_length len i).region ≡ min len (length i.region)
-len_back len i = ap (λ r. length (take len r)) (region_back_for i.trail len i (omega arith)) ∙ length-take len i.region
+len_back len i = ap (λ r. length (take len r)) (region_back len i) ∙ length-take len i.region
 
 -- what was there at an earlier length is still led back to
 pub older : (len : ℕ) (i j : Image) → Advances i j → length i.region ≤ len → Advances i (at_length len j)

@@ -42,7 +42,7 @@ read_end : (r ws : List ℕ) (n k : ℕ) → n ≡ length r + k → slice_index 
 read_end r ws n k e = ap (slice_index (r ++ ws)) e ∙ get_or-append-add r ws k 0
 
 -- what the newest entry says
-once_by : (j : Image) (e : Entry) (place old : ℕ) → newest j ≡ e → newest_place j ≡ place → newest_old j ≡ old → back_once j ≡ without j e place old
+pub once_by : (j : Image) (e : Entry) (place old : ℕ) → newest j ≡ e → newest_place j ≡ place → newest_old j ≡ old → back_once j ≡ without j e place old
 unfolding back_once
 once_by j e place old a b c =
     ap (λ f. without j f (newest_place j) (newest_old j)) a ∙ (ap (λ p. without j e p (newest_old j)) b ∙ ap (λ o. without j e place o) c)

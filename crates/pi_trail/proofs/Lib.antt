@@ -3,3 +3,4 @@ pub mod TableLemmas
 pub mod BackLemmas
 pub mod ChangeLemmas
 pub mod SinceLemmas
+pub mod HistoryLemmas

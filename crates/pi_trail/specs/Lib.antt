@@ -2,3 +2,4 @@ pub mod Entry
 pub mod Image
 pub mod Back
 pub mod Since
+pub mod History

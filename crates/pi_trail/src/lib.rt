@@ -3,6 +3,7 @@
 #![tactic(auto)]
 
 mod entry;
+mod history;
 pub mod laws;
 mod trailed;
 mod word_list;

@@ -2,7 +2,7 @@
 ghost use Rattle.std.specs.Prelude.{◌≡◌, ℕ, ◌<◌, ◌≤◌, ◌^◌, [], ◌∷◌, ◌++◌, length, min, slice_index, slice_set, take, ◌-◌, IfOk, OnErr, IsFalse};
 ghost use Rattle.pi_trail.specs.Entry.{word_of};
 ghost use Rattle.pi_trail.specs.Image.{Image, table_in, with_table, numbers_of, appended, logged, pushed, replacing, replaced};
-ghost use Rattle.pi_trail.specs.Back.{Advances, newest_old, at_length, back_once};
+ghost use Rattle.pi_trail.specs.Back.{Advances, newest, newest_place, newest_old, at_length, back_once};
 
 use crate::entry::{Change, Entry, Table, data, value};
 use crate::word_list::WordList;
@@ -181,15 +181,29 @@ impl Trailed {
     }
 
     /// Where the newest entry ends.
-    fn end(&self) -> usize
+    pub(crate) fn end(&self) -> usize
         ensures { result ≡ self.now.trail }
     {
         self.trail
     }
 
-    /// The word that was there before the entry that ends here, where the entry has it.
-    fn old(&self, end: usize) -> u64
-        ensures { end ≡ self.now.trail → result ≡ newest_old self.now }
+    /// The entry that ends at a place.
+    pub(crate) fn entry_at(&self, end: usize) -> Entry
+        ensures { (j : Image) → j.region ≡ self.now.region → end ≡ j.trail → result ≡ newest j }
+    {
+        Entry::of(self.region.get(end.saturating_sub(1)))
+    }
+
+    /// The place that it names, where it names one.
+    pub(crate) fn place_at(&self, end: usize) -> usize
+        ensures { (j : Image) → j.region ≡ self.now.region → end ≡ j.trail → result ≡ newest_place j }
+    {
+        value(self.region.get(end.saturating_sub(2))) as usize
+    }
+
+    /// The word that was there before it, where it has that.
+    pub(crate) fn old(&self, end: usize) -> u64
+        ensures { (j : Image) → j.region ≡ self.now.region → end ≡ j.trail → result ≡ newest_old j }
     {
         let high = value(self.region.get(end.saturating_sub(4)));
         let low = value(self.region.get(end.saturating_sub(3)));
@@ -334,7 +348,7 @@ impl Trailed {
     }
 }
 
-fn lesser(a: usize, b: usize) -> usize
+pub(crate) fn lesser(a: usize, b: usize) -> usize
     ensures { result ≡ min a b }
 {
     min(a, b)

@@ -1,5 +1,4 @@
 pub mod TreeStoreWalkLemmas
-pub mod NameTableLemmas
 pub mod TreeStoreTrees
 pub mod TreeStoreSoundLemmas
 pub mod TreeStoreSpeaks

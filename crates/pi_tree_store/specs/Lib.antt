@@ -1,4 +1,3 @@
-pub mod TreeStoreNames
 pub mod TreeStore
 pub mod TreeStoreWalks
 pub mod TreeStoreSound

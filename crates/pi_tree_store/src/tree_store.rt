@@ -7,7 +7,6 @@ ghost use Rattle.pi_tree_store.specs.TreeStoreWalks.{changed, unbound_in};
 ghost use Rattle.pi_tree_store.specs.TreeStoreProps.{sound_prop};
 ghost use Rattle.pi_tree_store.specs.TreeStoreSound.{IsSound, IsSoundState, IsSoundTerm, IsMadeBelow, IsKnownBelow, IsAdvanced, IsSame};
 
-mod atoms;
 mod copied;
 mod places;
 mod queue;
@@ -15,9 +14,9 @@ mod read;
 mod state;
 mod terms;
 
-use crate::tree_store::atoms::Atoms;
 use crate::tree_store::copied::Copied;
 use crate::tree_store::state::{Change, Known, StoredAgent, StoredTerm, StoredVariable, TreeState};
+use pi_atoms::Atoms;
 use pi_constraints::{Constraint, Domain};
 use pi_states::{Activation, AgentView, Cell, Places, ReadStop, Ref, StateStore, Watches};
 use pi_terms::{Series, Term};

@@ -8,8 +8,8 @@ ghost use Rattle.pi_tree_store.specs.TreeStore.{trees_of, state_of};
 ghost use Rattle.pi_terms.specs.BareCells.{bare};
 ghost use Rattle.pi_tree_store.specs.TreeStoreRead.{entered_cell, entered_args, turned, IsReadable, StopsAt};
 
-use crate::tree_store::atoms::Atoms;
 use crate::tree_store::state::{StoredTerm, TreeState};
+use pi_atoms::Atoms;
 use pi_states::{ReadStop, Ref};
 use pi_terms::{Term, TermCell, Text};
 use std::alloc::{AllocError, Global};

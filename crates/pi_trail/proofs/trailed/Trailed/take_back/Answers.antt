@@ -15,4 +15,4 @@ returns-in-Filled c = rw (← c.self.view_is) (took _ _ c.of-entry.result Change
 
 pub returns-in-Replaced : goal.returns-in-Replaced
 returns-in-Replaced c = rw (← c.self.view_is) (took _ _ c.of-entry.result Change.Replaced _ _ _ _ _ c.old-old.result _
-    c.saturating_sub-last.ensures c.saturating_sub.ensures c.get.ensures c.of-entry.ensures c.get-2.ensures c.value-place.ensures (λ xs. ap (slice_set xs c.value-place.result) (c.old-old.ensures (ap (λ (v : Image). v.trail) c.self.view_is) ∙ ap newest_old (sym c.self.view_is))) c.lesser-self-inside.ensures c.in-Replaced.is c.put-in-Replaced.ensures)
+    c.saturating_sub-last.ensures c.saturating_sub.ensures c.get.ensures c.of-entry.ensures c.get-2.ensures c.value-place.ensures (λ xs. ap (slice_set xs c.value-place.result) (c.old-old.ensures c.args.self.now refl (ap (λ (v : Image). v.trail) c.self.view_is) ∙ ap newest_old (sym c.self.view_is))) c.lesser-self-inside.ensures c.in-Replaced.is c.put-in-Replaced.ensures)

@@ -1,0 +1,4 @@
+pub mod Items
+pub mod Terms
+pub mod Head
+pub mod Constraint

@@ -1,0 +1,12 @@
+//! Constraints as blocks of a region.
+#![tactic(auto)]
+
+mod head;
+mod items;
+pub mod laws;
+mod read;
+mod terms;
+mod write;
+
+pub use read::read_constraint;
+pub use write::write_constraint;

@@ -1,0 +1,10 @@
+//! Domains as blocks of a region.
+#![tactic(auto)]
+
+mod check;
+pub mod laws;
+mod read;
+mod write;
+
+pub use read::read_domain;
+pub use write::write_domain;

@@ -1,0 +1,4 @@
+pub mod PastLemmas
+pub mod RightLemmas
+pub mod KeptLemmas
+pub mod BoundLemmas

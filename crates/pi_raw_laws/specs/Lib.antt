@@ -1,0 +1,4 @@
+pub mod Past
+pub mod Right
+pub mod Kept
+pub mod Bound

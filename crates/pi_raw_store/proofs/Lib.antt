@@ -1,0 +1,9 @@
+pub mod WalkLemmas
+pub mod NameLemmas
+pub mod LookLemmas
+pub mod SoundLemmas
+pub mod KeepLemmas
+pub mod LeadLemmas
+pub mod RefLemmas
+pub mod BindLemmas
+pub mod ReadLemmas

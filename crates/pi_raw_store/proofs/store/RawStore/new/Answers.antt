@@ -1,0 +1,10 @@
+use Rattle.std.proofs.Common.{ap}
+use Rattle.pi_trail.specs.Image.{Image}
+use Rattle.pi_raw_names.specs.NameTable.{NameTable}
+use Rattle.pi_raw_store.proofs.SoundLemmas.{sound_new}
+use Rattle.pi_raw_store.proofs.store.RawStore.new.Goals as goal
+
+pub invariant_of-result : goal.invariant_of-result
+invariant_of-result c =
+    sound_new c.new.result c.new-2.result (ap (λ (t : NameTable). t.texts) c.new.ensures)
+    (ap (λ (i : Image). i.trail) c.new-2.ensures) (ap (λ (i : Image). i.region) c.new-2.ensures) (ap (λ (i : Image). i.variables) c.new-2.ensures)

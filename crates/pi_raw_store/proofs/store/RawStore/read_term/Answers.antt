@@ -1,0 +1,4 @@
+use Rattle.pi_raw_store.proofs.store.RawStore.read_term.Goals as goal
+
+pub returns : goal.returns
+returns c = rw (← c.self.view_is) (λ t is acyclic. c.read.ensures t (c.self.invariant, (is, acyclic)))

@@ -1,0 +1,12 @@
+//! A store over raw words: its names, terms, variables, bindings and marks.
+#![tactic(auto)]
+
+mod mark;
+mod named;
+mod read;
+mod refs;
+mod store;
+mod walk;
+
+pub use mark::RawMark;
+pub use store::RawStore;

@@ -1,0 +1,77 @@
+//! Which numbers are terms of a store, and bindings to them.
+ghost use Rattle.std.specs.Prelude.{◌≡◌, ◌↔◌, suc, ◌<◌, ◌^◌, Some, IsTrue, IfOk, OnErr, slice_get};
+ghost use Rattle.pi_terms.specs.ListNames.{cell_name};
+ghost use Rattle.pi_trail.specs.Image.{numbers_of, replaced};
+ghost use Rattle.pi_trail.specs.Back.{Advances};
+ghost use Rattle.pi_raw_terms.specs.Form.{form_of};
+ghost use Rattle.pi_raw_terms.specs.Placed.{IsNamed, IsRefIn, AreRefsIn};
+ghost use Rattle.pi_raw_names.specs.NameTable.{names_of};
+ghost use Rattle.pi_raw_store.specs.Holding.{heap_of};
+
+use pi_raw_names::RawNames;
+use pi_raw_terms::{Form, is_placed};
+use pi_states::Ref;
+use pi_trail::{Table, Trailed};
+use std::alloc::AllocError;
+
+/// How many variables can be bound. Binding one past them is want of memory.
+const MOST_BOUND: u64 = 576_460_752_303_423_488;
+
+/// Whether a term may have the name with this number. It takes no memory.
+fn is_named(names: &RawNames, number: u64, len: usize) -> bool
+    ensures { IsTrue result ↔ IsNamed (names_of names.now len) number }
+{
+    names.is_given(number, len)
+}
+
+/// Whether a number is a Ref of the store, in constant time. It takes no memory.
+pub fn has(names: &RawNames, words: &Trailed, r: Ref) -> bool
+    ensures { slice_get names.now.texts 0 ≡ Some cell_name → IsTrue result ↔ IsRefIn (heap_of names.now words.now) (form_of r.number) }
+{
+    match Form::of(r) {
+        Form::Var(n) => n < words.count(Table::Variables) as u64,
+        Form::Int(_) => true,
+        Form::Atom(name) => is_named(names, name, words.len()),
+        Form::Pair(_, _) => is_placed(words, r),
+        Form::Comp(_, _) => is_placed(words, r),
+        Form::Data(_) => false,
+    }
+}
+
+/// Whether all these numbers are Refs of the store. It takes no memory.
+pub fn has_all(names: &RawNames, words: &Trailed, refs: &[Ref]) -> bool
+    ensures { slice_get names.now.texts 0 ≡ Some cell_name → IsTrue result ↔ AreRefsIn (heap_of names.now words.now) (numbers_of refs.now) }
+{
+    for r in refs {
+        if !has(names, words, *r) {
+            return false;
+        }
+    }
+    true
+}
+
+/// These Refs, where all are Refs of the store, and else none. It takes no memory.
+pub fn known<'a>(names: &RawNames, words: &Trailed, refs: &'a [Ref]) -> &'a [Ref]
+    ensures are { slice_get names.now.texts 0 ≡ Some cell_name → AreRefsIn (heap_of names.now words.now) (numbers_of result.now) }
+    ensures all { slice_get names.now.texts 0 ≡ Some cell_name → AreRefsIn (heap_of names.now words.now) (numbers_of refs.now) → result.now ≡ refs.now }
+{
+    if has_all(names, words, refs) {
+        refs
+    } else {
+        &[]
+    }
+}
+
+/// Binds the variable with this number.
+pub fn bind_variable(words: &mut Trailed, n: u64, to: Ref) -> Result<(), AllocError>
+    requires { suc to.number < 2 ^ 64 }
+    ensures ok { IfOk result (λ _. words.new ≡ replaced words.old Table.Variables n (suc to.number)) }
+    ensures advances { IfOk result (λ _. Advances words.old words.new) }
+    ensures err { OnErr result (words.new ≡ words.old) }
+{
+    if n >= MOST_BOUND {
+        return Err(AllocError);
+    }
+    words.replace(Table::Variables, n as usize, to.number + 1)?;
+    Ok(())
+}
