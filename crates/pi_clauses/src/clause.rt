@@ -76,8 +76,14 @@ pub fn ruled_clause(
     ensures { IfOk result (λ formed. IsFormed formed (spec.ruled (exp_tree left) back (exp_tree right))) }
 {
     let units = units_in(alloc, left);
-    let split = split(alloc, units.others)?;
-    Ok(rule_of(units.first, split, back, right))
+    match split(alloc, units.others) {
+        Ok(split) => Ok(rule_of(units.first, split, back, right)),
+        Err(error) => {
+            drop(units.first);
+            drop(right);
+            Err(error)
+        }
+    }
 }
 
 /// The rule of a head and the units behind it.
@@ -127,6 +133,8 @@ fn read_headed_call(name: Text, args: Exps) -> Headed
     if is_equation(&name, &args) {
         let value = args.remove(1);
         let head = args.remove(0);
+        drop(name);
+        drop(args);
         Headed::Equation(head, value)
     } else {
         Headed::Alone(Exp::Call(name, args))
@@ -240,10 +248,12 @@ fn condition(conditions: Exps) -> Option<Exp>
     let mut conditions = conditions;
     let count = conditions.len();
     if count == 0 {
+        drop(conditions);
         return None;
     }
     if count == 1 {
         let condition = conditions.remove(0);
+        drop(conditions);
         return Some(condition);
     }
     Some(Exp::And(conditions))

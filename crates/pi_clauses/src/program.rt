@@ -24,9 +24,18 @@ fn add_part(parts: &mut Parts, reading: PartReading) -> Result<(), AllocError>
     ensures { IfOk result (λ _. map part_tree parts.new ≡ map part_tree parts.old ++ part_of (seen reading)) }
 {
     match reading {
-        PartReading::TooDeep => Ok(()),
-        PartReading::BadDeclaration => Ok(()),
-        PartReading::NoClause => Ok(()),
+        PartReading::TooDeep => {
+            drop(reading);
+            Ok(())
+        }
+        PartReading::BadDeclaration => {
+            drop(reading);
+            Ok(())
+        }
+        PartReading::NoClause => {
+            drop(reading);
+            Ok(())
+        }
         PartReading::Import(names) => {
             parts.push(Part {
                 decl: Decl::Import(names),

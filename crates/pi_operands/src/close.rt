@@ -21,10 +21,13 @@ pub(crate) fn resume_items<'a>(
     ensures { (fs : List machine.Frame) (c : machine.Closing) (es : ExpTrees) (e : ExpTree) → ShowsUnits closing.entry items c es → Shows built e → ShowsStep result fs (machine.resume (machine.items c es) fs e (terminals ts.now)) }
 {
     match behind(Mark::Comma, ts) {
-        Some(rest) => {
-            let more = items.with(built)?;
-            Ok(Turn::Open(Frame::Items(closing, more), rest))
-        }
+        Some(rest) => match items.with(built) {
+            Ok(more) => Ok(Turn::Open(Frame::Items(closing, more), rest)),
+            Err(error) => {
+                drop(closing);
+                Err(error)
+            }
+        },
         None => close_items(alloc, closing, items, built, ts),
     }
 }
@@ -128,10 +131,13 @@ fn close_by<'a>(
 {
     let closer = closing.closer();
     match behind(closer, ts) {
-        Some(rest) => {
-            let all = items.with(built)?;
-            closed(alloc, closing, all, rest)
-        }
+        Some(rest) => match items.with(built) {
+            Ok(all) => closed(alloc, closing, all, rest),
+            Err(error) => {
+                drop(closing);
+                Err(error)
+            }
+        },
         None => {
             drop(closing);
             drop(items);

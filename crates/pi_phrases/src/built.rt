@@ -1,5 +1,5 @@
 //! Trees with their levels.
-ghost use Rattle.std.specs.Prelude.{◌≡◌, suc};
+ghost use Rattle.std.specs.Prelude.{◌≡◌, suc, IfOk};
 ghost use Rattle.pi_syntax.specs.ExpTree.{ExpTree, ExpTrees, exp_tree, levels};
 ghost use Rattle.pi_syntax.specs.Grammar.{is_atom};
 ghost use Rattle.pi_phrases.specs.Trees.{Shows, ShowsItems, ShowsPair, ShowsWithItems};
@@ -14,6 +14,7 @@ pub use calls::{call, call_of_one, call_of_two};
 pub use control::{and, arrow, do_while, foreach, if_else, if_then, or, while_do};
 pub use leaves::{atom, integer, text, variable};
 use pi_syntax::{Exp, Exps};
+use std::alloc::{AllocError, Global};
 pub use terms::{array, at, collect, index, list, list_onto, quote, range, range_by};
 
 /// The most levels of a tree.
@@ -33,6 +34,7 @@ fn over(exp: Exp, below: u32) -> Built
     if below < MOST_LEVELS {
         Built::Tree(exp, below + 1)
     } else {
+        drop(exp);
         Built::Deep
     }
 }
@@ -51,6 +53,29 @@ enum WithItems {
     Deep,
 }
 
+/// Two trees on the heap.
+#[derive(Drop)]
+pub(crate) struct Boxes {
+    first: Box<Exp>,
+    second: Box<Exp>,
+}
+
+/// Both trees on the heap.
+fn boxed(alloc: Global, first: Exp, second: Exp) -> Result<Boxes, AllocError>
+    ensures { IfOk result (λ boxes. (exp_tree boxes.first.value ≡ exp_tree first) × (exp_tree boxes.second.value ≡ exp_tree second)) }
+{
+    match Box::new(alloc, first) {
+        Ok(first) => {
+            let second = Box::new(alloc, second)?;
+            Ok(Boxes { first, second })
+        }
+        Err(error) => {
+            drop(second);
+            Err(error.into())
+        }
+    }
+}
+
 /// Both trees.
 pub(crate) fn both(first: Built, second: Built) -> Pair
     ensures { (a b : ExpTree) → Shows first a → Shows second b → ShowsPair result a b }
@@ -58,9 +83,17 @@ pub(crate) fn both(first: Built, second: Built) -> Pair
     match first {
         Built::Tree(first, levels) => match second {
             Built::Tree(second, more) => Pair::Kept(first, second, levels.max(more)),
-            Built::Deep => Pair::Deep,
+            Built::Deep => {
+                drop(first);
+                drop(second);
+                Pair::Deep
+            }
         },
-        Built::Deep => Pair::Deep,
+        Built::Deep => {
+            drop(first);
+            drop(second);
+            Pair::Deep
+        }
     }
 }
 
@@ -71,9 +104,17 @@ fn with_items(first: Built, items: Items) -> WithItems
     match first {
         Built::Tree(first, levels) => match items {
             Items::Kept(exps, more) => WithItems::Kept(first, exps, levels.max(more)),
-            Items::Deep => WithItems::Deep,
+            Items::Deep => {
+                drop(first);
+                drop(items);
+                WithItems::Deep
+            }
         },
-        Built::Deep => WithItems::Deep,
+        Built::Deep => {
+            drop(first);
+            drop(items);
+            WithItems::Deep
+        }
     }
 }
 

@@ -29,7 +29,11 @@ impl Choices {
     {
         match self {
             Choices::Kept(branches, levels) => Choices::kept(branches, levels, condition, body),
-            Choices::Deep => Ok(Choices::Deep),
+            Choices::Deep => {
+                drop(condition);
+                drop(body);
+                Ok(Choices::Deep)
+            }
         }
     }
 
@@ -47,7 +51,10 @@ impl Choices {
                 branches.push((condition, body))?;
                 Ok(Choices::Kept(branches, levels.max(more)))
             }
-            Pair::Deep => Ok(Choices::Deep),
+            Pair::Deep => {
+                drop(branches);
+                Ok(Choices::Deep)
+            }
         }
     }
 }

@@ -24,25 +24,37 @@ pub fn closed<'a>(
 {
     match closing {
         Closing::Call(name) => {
+            drop(closing);
             let call = built::call(alloc, name, items)?;
             Ok(Turn::Found(Phrase::Prim, true, call, rest))
         }
         Closing::Quote(name) => {
+            drop(closing);
             let call = built::call(alloc, name, items)?;
             let quoted = built::quote(alloc, call)?;
             Ok(found(quoted, rest))
         }
         Closing::Method(name) => {
+            drop(closing);
             let call = built::call(alloc, name, items)?;
             Ok(Turn::Found(Phrase::Post, true, call, rest))
         }
-        Closing::List => Ok(found(built::list(items), rest)),
-        Closing::Array => Ok(found(built::array(items), rest)),
+        Closing::List => {
+            drop(closing);
+            Ok(found(built::list(items), rest))
+        }
+        Closing::Array => {
+            drop(closing);
+            Ok(found(built::array(items), rest))
+        }
         Closing::Collect(is_array, item) => {
             let all = built::collect(alloc, is_array, item, items)?;
             Ok(found(all, rest))
         }
-        Closing::Foreach => Ok(Turn::Open(Frame::ForeachBody(items), rest)),
+        Closing::Foreach => {
+            drop(closing);
+            Ok(Turn::Open(Frame::ForeachBody(items), rest))
+        }
     }
 }
 

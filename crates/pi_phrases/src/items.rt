@@ -37,7 +37,10 @@ impl Items {
     {
         match self {
             Items::Kept(exps, levels) => Items::kept(exps, levels, last),
-            Items::Deep => Ok(Items::Deep),
+            Items::Deep => {
+                drop(last);
+                Ok(Items::Deep)
+            }
         }
     }
 
@@ -60,7 +63,10 @@ impl Items {
                 exps.push(exp)?;
                 Ok(Items::Kept(exps, levels.max(more)))
             }
-            Built::Deep => Ok(Items::Deep),
+            Built::Deep => {
+                drop(exps);
+                Ok(Items::Deep)
+            }
         }
     }
 }

@@ -37,6 +37,7 @@ fn read_judged(alloc: Global, tokens: &Tokens, program: &Program) -> Result<Goal
     match read_body(alloc, tokens) {
         Ok(body) => {
             if let Err(fault) = judge_goal(alloc, tokens, &body, program) {
+                drop(body);
                 return Err(fault);
             }
             Ok(Goal { body })

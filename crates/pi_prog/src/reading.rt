@@ -192,11 +192,16 @@ fn read_clause(
     ensures fault { IfErr result (IsShapeFault (stretch (kinds tokens.now) start to)) }
 {
     let formed = read_formed(alloc, tokens, start, to)?;
-    let marks = marks_of(alloc, tokens, from, to, &formed)?;
-    Ok(MarkedClause {
-        clause: formed.clause,
-        marks,
-    })
+    match marks_of(alloc, tokens, from, to, &formed) {
+        Ok(marks) => Ok(MarkedClause {
+            clause: formed.clause,
+            marks,
+        }),
+        Err(_) => {
+            drop(formed);
+            Err(ExpFault::Memory)
+        }
+    }
 }
 
 fn marks_of(

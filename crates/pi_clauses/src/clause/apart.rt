@@ -23,7 +23,10 @@ pub(crate) fn take_apart(exp: Exp) -> Apart
         Exp::Array(items) => Apart::Array(items),
         Exp::Call(name, args) => Apart::Call(name, args),
         Exp::Var(name) => Apart::Other(Exp::Var(name)),
-        Exp::Int(n) => Apart::Other(Exp::Int(n)),
+        Exp::Int(n) => {
+            drop(exp);
+            Apart::Other(Exp::Int(n))
+        }
         Exp::Atom(name) => Apart::Other(Exp::Atom(name)),
         Exp::Str(text) => Apart::Other(Exp::Str(text)),
         Exp::List(items, tail) => Apart::Other(Exp::List(items, tail)),

@@ -48,7 +48,10 @@ fn negated<'a>(
     ensures { IfOk result (λ made. (e : ExpTree) → Shows built e → Shows made (negated (integer_alone (terminals start.now) (terminals ts.now)) e)) }
 {
     match integer_alone(start, ts) {
-        Some(natural) => Ok(built::integer(natural.negated())),
+        Some(natural) => {
+            drop(built);
+            Ok(built::integer(natural.negated()))
+        }
         None => {
             let call = built::call_of_one(alloc, "-", built)?;
             Ok(call)

@@ -42,8 +42,15 @@ pub fn call_of_two(
 ) -> Result<Built, AllocError>
     ensures { IfOk result (λ made. (a b : ExpTree) → Shows left a → Shows right b → Shows made (call_two name.now a b)) }
 {
-    let first = Items::one(alloc, left)?;
-    let items = first.with(right)?;
-    let call = call(alloc, name, items)?;
-    Ok(call)
+    match Items::one(alloc, left) {
+        Ok(first) => {
+            let items = first.with(right)?;
+            let call = call(alloc, name, items)?;
+            Ok(call)
+        }
+        Err(error) => {
+            drop(right);
+            Err(error)
+        }
+    }
 }

@@ -4,7 +4,7 @@ ghost use Rattle.pi_syntax.specs.ExpTree as tree;
 ghost use Rattle.pi_syntax.specs.ExpTree.{ExpTree, ExpTrees, ExpBranches};
 ghost use Rattle.pi_phrases.specs.Trees.{Shows, ShowsItems, ShowsChoices};
 
-use crate::built::{Built, Pair, WithItems, both, over, with_items};
+use crate::built::{Built, Pair, WithItems, both, boxed, over, with_items};
 use crate::choices::Choices;
 use crate::items::Items;
 use pi_syntax::Exp;
@@ -49,9 +49,8 @@ pub fn arrow(alloc: Global, condition: Built, body: Built) -> Result<Built, Allo
 {
     match both(condition, body) {
         Pair::Kept(first, second, levels) => {
-            let a = Box::new(alloc, first)?;
-            let b = Box::new(alloc, second)?;
-            Ok(over(Exp::Arrow(a, b), levels))
+            let boxes = boxed(alloc, first, second)?;
+            Ok(over(Exp::Arrow(boxes.first, boxes.second), levels))
         }
         Pair::Deep => Ok(Built::Deep),
     }
@@ -63,9 +62,8 @@ pub fn while_do(alloc: Global, test: Built, body: Built) -> Result<Built, AllocE
 {
     match both(test, body) {
         Pair::Kept(first, second, levels) => {
-            let a = Box::new(alloc, first)?;
-            let b = Box::new(alloc, second)?;
-            Ok(over(Exp::While(a, b), levels))
+            let boxes = boxed(alloc, first, second)?;
+            Ok(over(Exp::While(boxes.first, boxes.second), levels))
         }
         Pair::Deep => Ok(Built::Deep),
     }
@@ -77,9 +75,8 @@ pub fn do_while(alloc: Global, body: Built, test: Built) -> Result<Built, AllocE
 {
     match both(body, test) {
         Pair::Kept(first, second, levels) => {
-            let a = Box::new(alloc, first)?;
-            let b = Box::new(alloc, second)?;
-            Ok(over(Exp::DoWhile(a, b), levels))
+            let boxes = boxed(alloc, first, second)?;
+            Ok(over(Exp::DoWhile(boxes.first, boxes.second), levels))
         }
         Pair::Deep => Ok(Built::Deep),
     }
@@ -105,8 +102,14 @@ pub fn if_else(alloc: Global, choices: Choices, last: Built) -> Result<Built, Al
                 let inner = Box::new(alloc, exp)?;
                 Ok(over(Exp::If(branches, Some(inner)), most.max(levels)))
             }
-            Built::Deep => Ok(Built::Deep),
+            Built::Deep => {
+                drop(branches);
+                Ok(Built::Deep)
+            }
         },
-        Choices::Deep => Ok(Built::Deep),
+        Choices::Deep => {
+            drop(last);
+            Ok(Built::Deep)
+        }
     }
 }

@@ -4,7 +4,7 @@ ghost use Rattle.pi_syntax.specs.ExpTree as tree;
 ghost use Rattle.pi_syntax.specs.ExpTree.{ExpTree, ExpTrees, one_exp};
 ghost use Rattle.pi_phrases.specs.Trees.{Shows, ShowsItems};
 
-use crate::built::{Built, Pair, WithItems, both, over, with_items};
+use crate::built::{Built, Pair, WithItems, both, boxed, over, with_items};
 use crate::items::Items;
 use pi_syntax::Exp;
 use pi_terms::Text;
@@ -49,8 +49,8 @@ pub fn at(alloc: Global, name: &str, pattern: Built) -> Result<Built, AllocError
 {
     match pattern {
         Built::Tree(exp, levels) => {
-            let name = Text::new(alloc, name)?;
             let inner = Box::new(alloc, exp)?;
+            let name = Text::new(alloc, name)?;
             Ok(over(Exp::At(name, inner), levels))
         }
         Built::Deep => Ok(Built::Deep),
@@ -61,13 +61,18 @@ pub fn at(alloc: Global, name: &str, pattern: Built) -> Result<Built, AllocError
 pub fn index(alloc: Global, of: Built, at: Built) -> Result<Built, AllocError>
     ensures { IfOk result (λ made. (e i : ExpTree) → Shows of e → Shows at i → Shows made (tree.index e (one_exp i))) }
 {
-    let items = Items::one(alloc, at)?;
-    match with_items(of, items) {
-        WithItems::Kept(exp, exps, levels) => {
-            let inner = Box::new(alloc, exp)?;
-            Ok(over(Exp::Index(inner, exps), levels))
+    match Items::one(alloc, at) {
+        Ok(items) => match with_items(of, items) {
+            WithItems::Kept(exp, exps, levels) => {
+                let inner = Box::new(alloc, exp)?;
+                Ok(over(Exp::Index(inner, exps), levels))
+            }
+            WithItems::Deep => Ok(Built::Deep),
+        },
+        Err(error) => {
+            drop(of);
+            Err(error)
         }
-        WithItems::Deep => Ok(Built::Deep),
     }
 }
 
@@ -108,9 +113,8 @@ pub fn range(alloc: Global, first: Built, last: Built) -> Result<Built, AllocErr
 {
     match both(first, last) {
         Pair::Kept(first, second, levels) => {
-            let a = Box::new(alloc, first)?;
-            let b = Box::new(alloc, second)?;
-            Ok(over(Exp::Range(a, None, b), levels))
+            let boxes = boxed(alloc, first, second)?;
+            Ok(over(Exp::Range(boxes.first, None, boxes.second), levels))
         }
         Pair::Deep => Ok(Built::Deep),
     }
@@ -122,14 +126,28 @@ pub fn range_by(alloc: Global, first: Built, step: Built, last: Built) -> Result
 {
     match first {
         Built::Tree(first, most) => match both(step, last) {
-            Pair::Kept(step, last, levels) => {
-                let a = Box::new(alloc, first)?;
-                let b = Box::new(alloc, step)?;
-                let c = Box::new(alloc, last)?;
-                Ok(over(Exp::Range(a, Some(b), c), most.max(levels)))
+            Pair::Kept(step, last, levels) => match boxed(alloc, step, last) {
+                Ok(boxes) => {
+                    let a = Box::new(alloc, first)?;
+                    Ok(over(
+                        Exp::Range(a, Some(boxes.first), boxes.second),
+                        most.max(levels),
+                    ))
+                }
+                Err(error) => {
+                    drop(first);
+                    Err(error)
+                }
+            },
+            Pair::Deep => {
+                drop(first);
+                Ok(Built::Deep)
             }
-            Pair::Deep => Ok(Built::Deep),
         },
-        Built::Deep => Ok(Built::Deep),
+        Built::Deep => {
+            drop(step);
+            drop(last);
+            Ok(Built::Deep)
+        }
     }
 }
