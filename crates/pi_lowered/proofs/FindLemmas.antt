@@ -22,19 +22,19 @@ use Rattle.pi_lowered.proofs.HeadLemmas.{text_by_order}
 
 -- ---- which clauses are of what
 
-abbrev sign : List ℕ → ℕ → Signature
+abbrev pub sign : List ℕ → ℕ → Signature
 sign name k = record { name = name; arity = k }
 
-abbrev of : Bool → Signature → Key
+abbrev pub of : Bool → Signature → Key
 of kind s = record { kind = kind; named = Some s }
 
-abbrev key : Lowering → Key
+abbrev pub key : Lowering → Key
 key c = of c.is_function c.head
 
-abbrev matches : Bool → Signature → Bool → Signature → Bool
+abbrev pub matches : Bool → Signature → Bool → Signature → Bool
 matches kind s other t = same_kind kind other && is_signature s.name s.arity (Some t)
 
-abbrev pred_of : Bool → Signature → List ClauseTree → PredTree
+abbrev pub pred_of : Bool → Signature → List ClauseTree → PredTree
 pred_of kind s cs = record { name = s.name; arity = s.arity; function = kind; quiet = false; index = None; clauses = cs }
 
 abbrev chosen : Bool → Signature → List Lowering → List Lowering
@@ -56,13 +56,13 @@ kind-itself : (a : Bool) → same_kind a a ≡ true
 kind-itself true = refl
 kind-itself false = refl
 
-matches-same : (kind : Bool) (s : Signature) (other : Bool) (t : Signature) → matches kind s other t ≡ true → (other ≡ kind) × (t ≡ s)
+pub matches-same : (kind : Bool) (s : Signature) (other : Bool) (t : Signature) → matches kind s other t ≡ true → (other ≡ kind) × (t ≡ s)
 matches-same kind s other t h =
     let parts : (same_kind kind other ≡ true) × (is_signature s.name s.arity (Some t) ≡ true) = and_parts (same_kind kind other) (is_signature s.name s.arity (Some t)) h in
     let e : (t.name ≡ s.name) × (t.arity ≡ s.arity) = (sign-decides s.name s.arity t).0 parts.1 in
     (kind-same kind other parts.0, ap (λ n. sign n t.arity) e.0 ∙ ap (sign s.name) e.1)
 
-matches-itself : (kind : Bool) (s : Signature) → matches kind s kind s ≡ true
+pub matches-itself : (kind : Bool) (s : Signature) → matches kind s kind s ≡ true
 matches-itself kind s = ap (λ c. c && is_signature s.name s.arity (Some s)) (kind-itself kind) ∙ (sign-decides s.name s.arity s).1 (refl, refl)
 
 matches-not : (kind : Bool) (s : Signature) (other : Bool) (t : Signature) → (of other t ≡ of kind s → ⊥) → matches kind s other t ≡ false
@@ -93,15 +93,15 @@ find-nothing kind s = refl
 
 -- ---- groups
 
-grouped-none : (kind : Bool) (s : Signature) (ds : List ClauseTree) → grouped (pred_of kind s ds) [] ≡ pred_of kind s ds ∷ []
+pub grouped-none : (kind : Bool) (s : Signature) (ds : List ClauseTree) → grouped (pred_of kind s ds) [] ≡ pred_of kind s ds ∷ []
 unfolding grouped
 grouped-none kind s ds = refl
 
-grouped-same : (kind : Bool) (s : Signature) (ds : List ClauseTree) (c : Lowering) (cs : List Lowering) → matches kind s c.is_function c.head ≡ true → grouped (pred_of kind s ds) (c ∷ cs) ≡ grouped (pred_of kind s (ds ++ c.clause ∷ [])) cs
+pub grouped-same : (kind : Bool) (s : Signature) (ds : List ClauseTree) (c : Lowering) (cs : List Lowering) → matches kind s c.is_function c.head ≡ true → grouped (pred_of kind s ds) (c ∷ cs) ≡ grouped (pred_of kind s (ds ++ c.clause ∷ [])) cs
 unfolding grouped
 grouped-same kind s ds c cs h = cond-true (is_clause_of (pred_of kind s ds) c) _ _ h
 
-grouped-other : (kind : Bool) (s : Signature) (ds : List ClauseTree) (c : Lowering) (cs : List Lowering) → matches kind s c.is_function c.head ≡ false →
+pub grouped-other : (kind : Bool) (s : Signature) (ds : List ClauseTree) (c : Lowering) (cs : List Lowering) → matches kind s c.is_function c.head ≡ false →
     grouped (pred_of kind s ds) (c ∷ cs) ≡ pred_of kind s ds ∷ grouped (pred_of c.is_function c.head (c.clause ∷ [])) cs
 unfolding grouped
 grouped-other kind s ds c cs h = cond-false (is_clause_of (pred_of kind s ds) c) _ _ h
@@ -112,7 +112,7 @@ chosen-it kind s c cs h = cond-true (matches kind s c.is_function c.head) (c ∷
 chosen-not : (kind : Bool) (s : Signature) (c : Lowering) (cs : List Lowering) → matches kind s c.is_function c.head ≡ false → chosen kind s (c ∷ cs) ≡ chosen kind s cs
 chosen-not kind s c cs h = cond-false (matches kind s c.is_function c.head) (c ∷ chosen kind s cs) (chosen kind s cs) h
 
-abbrev keys_of : List Lowering → List Key
+abbrev pub keys_of : List Lowering → List Key
 keys_of cs = map key cs
 
 -- one that isn't the last doesn't come again
@@ -207,7 +207,7 @@ find-all kind s (c ∷ cs) together =
 
 -- ---- the clauses of a program
 
-keys-same : (known : Knows) (program : ProgramTree) → AllByRecursion (IsPart known) program → keys_of (lowerings program) ≡ keys program
+pub keys-same : (known : Knows) (program : ProgramTree) → AllByRecursion (IsPart known) program → keys_of (lowerings program) ≡ keys program
 keys-same known [] is = refl
 keys-same known (p ∷ ps) is = go p.clause is.0.clause (keys-same known ps is.1)
   where

@@ -28,11 +28,11 @@ use Rattle.pi_lowered.proofs.FineLemmas.{Fine, AllFine, FineGoals, FineValue, fi
 use Rattle.pi_lowered.proofs.FineGoals.{goal-fine, made-fine, fine-last}
 use Rattle.pi_lowered.proofs.SoundLemmas.{nothing-in, cons-cases, slots-below, patterns-below}
 
-or-none-fine : (known : Knows) (h : ℕ) (o : Option ExpTree) → IsGoalOrNone known o → FineGoals known (goals_or_none h o)
+pub or-none-fine : (known : Knows) (h : ℕ) (o : Option ExpTree) → IsGoalOrNone known o → FineGoals known (goals_or_none h o)
 or-none-fine known h None is = fine-nothing known
 or-none-fine known h (Some e) is = goal-fine known h e is
 
-guard-fine : (n : ℕ) (known : Knows) (o : Option ExpTree) (gs : SlotGoals) → AllFine n known gs.goals → Fine n known (guard_of o gs)
+pub guard-fine : (n : ℕ) (known : Knows) (o : Option ExpTree) (gs : SlotGoals) → AllFine n known gs.goals → Fine n known (guard_of o gs)
 unfolding Fine
 guard-fine n known None gs is = tt
 guard-fine n known (Some c) gs is = go (is_truth (in_turn gs.goals))

@@ -84,6 +84,8 @@ StandTogether before (a ∷ rest) = GoesOn before a × StandTogether (a ∷ befo
 pub record IsWithin (program : ProgramTree) : Type 0 where
   pub parts : All (IsPart (knows (prelude ++ program))) program
   pub together : StandTogether [] (keys (prelude ++ program))
+  -- no name is with one number of arguments both a predicate's and a function's
+  pub apart : (a b : Key) → Contains (keys (prelude ++ program)) a → Contains (keys (prelude ++ program)) b → a.named ≡ b.named → a.kind ≡ b.kind
 
 -- a goal that is asked of it
 abbrev pub IsAsked : ProgramTree → ExpTree → Type 0

@@ -1,0 +1,4 @@
+pub mod EachLemmas
+pub mod NodeLemmas
+pub mod CallLemmas
+pub mod PartLemmas

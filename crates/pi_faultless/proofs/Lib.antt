@@ -1,0 +1,13 @@
+mod KnownCalls
+mod BuiltTerms
+mod PlainNames
+mod CallPlaces
+mod BuiltCalls
+mod BuiltGoals
+mod KnownNames
+mod FreeHeads
+pub mod FaultlessParts
+mod ShownKeys
+mod AdjacentClauses
+pub mod FaultlessPrograms
+pub mod FaultlessGoals
