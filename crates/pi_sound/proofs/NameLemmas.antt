@@ -1,0 +1,126 @@
+-- Names that may be called where what stands is built, against those that the language gives: of these they are just what the tables of built-ins have.
+use Rattle.std.proofs.Common.{◌≡◌, ◌⊎◌, inl, inr, ℕ, Bool, true, false, List, [], ◌∷◌, refl, sym, subst}
+use Rattle.std.proofs.lemmas.Bool.{false≢true, and_parts, or_left, eqb-true}
+use Rattle.std.specs.Prelude.{not, codes, IsTrue, ◌==◌, ◌&&◌, ◌||◌, nat_le}
+use Rattle.std.specs.Str.{bytes_eq}
+use Rattle.pi_states.proofs.MatchLemmas.{same_name}
+use Rattle.pi_effects.specs.Rows.{has_line}
+use Rattle.pi_effects.specs.Integers.{integer_functions}
+use Rattle.pi_effects.specs.Comparing.{comparing_tests}
+use Rattle.pi_effects.specs.Kinds.{kind_tests}
+use Rattle.pi_effects.specs.Collections.{collection_functions}
+use Rattle.pi_effects.specs.Sorting.{sorting_functions}
+use Rattle.pi_effects.specs.Indexing.{index_functions}
+use Rattle.pi_effects.specs.Ranges.{range_functions}
+use Rattle.pi_effects.specs.Naming.{naming_functions}
+use Rattle.pi_effects.specs.Texts.{text_functions, writing_predicates}
+use Rattle.pi_effects.specs.Making.{making_functions}
+use Rattle.pi_effects.specs.Indexing.{index_name}
+use Rattle.pi_effects.specs.BuiltIns.{reading_functions, tests, other_predicates, is_predicate, is_function}
+use Rattle.pi_syntax.specs.Tokens.{is_one_of}
+use Rattle.pi_meaning.specs.Names.{later_predicates, is_later_predicate, is_later_function, is_resource, is_call, is_planner, is_given_predicate, is_given_function}
+use Rattle.pi_lib.specs.Names.{function_rows, predicate_rows, prelude_rows, row, kind_of}
+use Rattle.pi_names.proofs.TableLemmas.{same-name, one-of, each-spelled, spellings-hold, each-signed, signatures-hold, each-from, each-row, rows-hold}
+use Rattle.pi_coverage.specs.Built.{is_own, is_prelude_kind, is_built_predicate, is_built_function}
+
+-- ---- what lowering calls by itself
+
+pub equals-built : is_built_predicate (codes "=") 2 ≡ true
+unfolding is_predicate has_line tests comparing_tests kind_tests writing_predicates other_predicates
+equals-built = refl
+
+pub item-built : is_built_function index_name 2 ≡ true
+unfolding is_function has_line reading_functions integer_functions collection_functions sorting_functions index_functions range_functions naming_functions text_functions making_functions
+item-built = refl
+
+pub ranges-built : (is_built_function (codes "..") 2 ≡ true) × (is_built_function (codes "..") 3 ≡ true)
+unfolding is_function has_line reading_functions integer_functions collection_functions sorting_functions index_functions range_functions naming_functions text_functions making_functions
+ranges-built = (refl, refl)
+
+-- ---- predicates
+
+-- it isn't a name of the program, nor one of the prelude's predicates
+abbrev is_theirs : List ℕ → ℕ → Bool
+is_theirs name k = not (is_own name k || is_prelude_kind (kind_of name k))
+
+call-theirs : (name : List ℕ) (k : ℕ) → is_call name k ≡ true → is_theirs name k ≡ true
+unfolding kind_of function_rows predicate_rows prelude_rows each-row each-from
+call-theirs name k is =
+    let parts : ((nat_le 1 k && nat_le k 8) ≡ true) × (bytes_eq name (codes "call") ≡ true) = and_parts (nat_le 1 k && nat_le k 8) (bytes_eq name (codes "call")) is in
+    subst (λ (n : List ℕ). is_theirs n k ≡ true) (sym (same-name name (codes "call") parts.1))
+    (rows-hold (λ n j. is_theirs n j) (row (codes "call") 1 8 ∷ []) refl (codes "call") k (or_left (nat_le 1 k && nat_le k 8) false parts.0))
+
+later-theirs : (name : List ℕ) (k : ℕ) → is_later_predicate name k ≡ true → is_theirs name k ≡ true
+unfolding is_later_predicate later_predicates kind_of function_rows predicate_rows prelude_rows each-signed
+later-theirs name k is = signatures-hold (λ n j. is_theirs n j) later_predicates refl name k is
+
+-- of what is given, or what a program has, and may be called
+pub predicate-there : (name : List ℕ) (k : ℕ) (known : Bool) → IsTrue (is_given_predicate name k || known) → is_built_predicate name k ≡ true → IsTrue known ⊎ IsTrue (is_predicate name k)
+predicate-there name k known there may =
+    go (is_call name k) (is_predicate name k) (is_later_predicate name k) known (is_own name k || is_prelude_kind (kind_of name k)) (call-theirs name k) (later-theirs name k) there may
+  where
+    go : (by_term table later known other : Bool) → (by_term ≡ true → not other ≡ true) → (later ≡ true → not other ≡ true) → IsTrue ((by_term || (table || later)) || known) → (table || other) ≡ true → IsTrue known ⊎ IsTrue table
+    go by_term true later known other one two there may = inr refl
+    go true false later known true one two there may = absurd (false≢true (one refl))
+    go true false later known false one two there may = absurd (false≢true may)
+    go false false true known true one two there may = absurd (false≢true (two refl))
+    go false false true known false one two there may = absurd (false≢true may)
+    go false false false known other one two there may = inl there
+
+-- ---- functions
+
+abbrev is_not_own : List ℕ → ℕ → Bool
+is_not_own name k = not (is_own name k)
+
+resource-theirs : (name : List ℕ) (k : ℕ) → is_resource name k ≡ true → is_not_own name k ≡ true
+unfolding kind_of function_rows predicate_rows prelude_rows
+resource-theirs name k is =
+    let parts : ((k == 0) ≡ true) × (bytes_eq name (codes "current_resource") ≡ true) = and_parts (k == 0) (bytes_eq name (codes "current_resource")) is in
+    subst (λ (j : ℕ). is_not_own name j ≡ true) (sym (eqb-true k 0 parts.0)) (subst (λ (n : List ℕ). is_not_own n 0 ≡ true) (sym (same-name name (codes "current_resource") parts.1)) refl)
+
+domain-theirs : (name : List ℕ) (k : ℕ) → is_later_function name k ≡ true → is_not_own name k ≡ true
+unfolding is_later_function kind_of function_rows predicate_rows prelude_rows each-spelled
+domain-theirs name k is =
+    let spellings : List (List ℕ) = codes "fd_min" ∷ codes "fd_max" ∷ codes "fd_size" ∷ codes "fd_dom" ∷ [] in
+    let parts : ((k == 1) ≡ true) × (is_one_of spellings name ≡ true) = and_parts (k == 1) (is_one_of spellings name) is in
+    subst (λ (j : ℕ). is_not_own name j ≡ true) (sym (eqb-true k 1 parts.0)) (spellings-hold (λ n j. is_not_own n j) 1 spellings refl name parts.1)
+
+pub function-there : (name : List ℕ) (k : ℕ) (known : Bool) → IsTrue (is_given_function name k || known) → is_built_function name k ≡ true → IsTrue known ⊎ IsTrue (is_function name k)
+function-there name k known there may =
+    go (is_function name k) (is_resource name k) (is_later_function name k) known (is_own name k) (resource-theirs name k) (domain-theirs name k) there may
+  where
+    go : (table resource domain known own : Bool) → (resource ≡ true → not own ≡ true) → (domain ≡ true → not own ≡ true) → IsTrue ((table || (resource || domain)) || known) → (table || own) ≡ true → IsTrue known ⊎ IsTrue table
+    go true resource domain known own one two there may = inr refl
+    go false true domain known true one two there may = absurd (false≢true (one refl))
+    go false true domain known false one two there may = absurd (false≢true may)
+    go false false true known true one two there may = absurd (false≢true (two refl))
+    go false false true known false one two there may = absurd (false≢true may)
+    go false false false known own one two there may = inl there
+
+-- ---- planner calls
+
+abbrev may_not : List ℕ → ℕ → Bool
+may_not name k = not (is_built_predicate name k)
+
+planners-not : ((may_not (codes "plan") 2 ≡ true) × (may_not (codes "plan") 3 ≡ true) × (may_not (codes "plan") 4 ≡ true))
+    × ((may_not (codes "best_plan") 2 ≡ true) × (may_not (codes "best_plan") 3 ≡ true) × (may_not (codes "best_plan") 4 ≡ true))
+unfolding kind_of function_rows predicate_rows prelude_rows is_predicate has_line tests comparing_tests kind_tests writing_predicates other_predicates
+planners-not = ((refl, refl, refl), (refl, refl, refl))
+
+pub no-planner : (name : List ℕ) (k : ℕ) → is_planner name k ≡ true → is_built_predicate name k ≡ true → ⊥
+no-planner name k is may =
+    let parts = and_parts _ ((k == 2) || ((k == 3) || (k == 4))) is in
+    refuted (is_built_predicate name k) may
+    (one-of _ _ (may_not name k) (λ e. spelled (codes "plan") (same_name name (codes "plan") e) planners-not.0 parts.1) (λ e. spelled (codes "best_plan") (same_name name (codes "best_plan") e) planners-not.1 parts.1) parts.0)
+  where
+    refuted : (b : Bool) → b ≡ true → not b ≡ true → ⊥
+    refuted true is other = false≢true other
+    refuted false is other = false≢true is
+
+    numbered : (n : List ℕ) → (may_not n 2 ≡ true) × (may_not n 3 ≡ true) × (may_not n 4 ≡ true) → ((k == 2) || ((k == 3) || (k == 4))) ≡ true → may_not n k ≡ true
+    numbered n all found =
+        one-of (k == 2) _ (may_not n k) (λ e. subst (λ (j : ℕ). may_not n j ≡ true) (sym (eqb-true k 2 e)) all.0)
+        (one-of (k == 3) (k == 4) (may_not n k) (λ e. subst (λ (j : ℕ). may_not n j ≡ true) (sym (eqb-true k 3 e)) all.1) (λ e. subst (λ (j : ℕ). may_not n j ≡ true) (sym (eqb-true k 4 e)) all.2)) found
+
+    spelled : (n : List ℕ) → name ≡ n → (may_not n 2 ≡ true) × (may_not n 3 ≡ true) × (may_not n 4 ≡ true) → ((k == 2) || ((k == 3) || (k == 4))) ≡ true → may_not name k ≡ true
+    spelled n same all found = subst (λ (m : List ℕ). may_not m k ≡ true) (sym same) (numbered n all found)
