@@ -1,0 +1,7 @@
+pub mod ValueLemmas
+pub mod MadeLemmas
+pub mod GoalLemmas
+pub mod BranchLemmas
+pub mod PartLemmas
+pub mod FormLemmas
+pub mod JoinedLemmas
