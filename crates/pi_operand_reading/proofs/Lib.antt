@@ -1,0 +1,6 @@
+mod AfterLemmas
+mod RootLemmas
+mod NodeLemmas
+mod CollectionLemmas
+mod BelowLemmas
+mod TurnLemmas

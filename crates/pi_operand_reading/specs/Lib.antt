@@ -1,0 +1,3 @@
+pub mod Refs
+pub mod Nodes
+pub mod Frames
