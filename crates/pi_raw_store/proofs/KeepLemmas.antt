@@ -24,6 +24,7 @@ use Rattle.pi_raw_store.specs.Holding.{variable_in, heap_of, state_of, moment_of
 use Rattle.pi_raw_store.specs.Sound.{IsSound}
 use Rattle.pi_raw_store.specs.Changed.{KeepsNames, IsNumbered}
 use Rattle.pi_raw_store.proofs.NameLemmas.{stay, keeps_itself, heap_kept}
+use Rattle.pi_raw_store.proofs.PartLemmas.{stays_itself}
 use Rattle.pi_raw_store.proofs.LookLemmas.{HasBound, tree_is}
 use Rattle.pi_raw_store.proofs.SoundLemmas.{has_bound, sound_words}
 
@@ -73,9 +74,6 @@ stays_all t u i j s keeps a same = record {
   keeps = keeps_all t u i j keeps a;
   state = ap (state_of (heap_of u j)) same ∙ state_stays (heap_of t i) (heap_of u j) (heap_grows t u i j keeps a) i.variables (has_bound t i s);
 }
-
-pub stays_itself : (t : NameTable) (i : Image) → Stays (view_of t i) (view_of t i)
-stays_itself t i = record { keeps = record { good = λ m e. e; same = λ m e. refl; terms = λ r x e. e; names = λ k name e. e }; state = refl }
 
 -- A name that gets a number
 

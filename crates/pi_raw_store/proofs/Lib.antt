@@ -7,3 +7,4 @@ pub mod LeadLemmas
 pub mod RefLemmas
 pub mod BindLemmas
 pub mod ReadLemmas
+pub mod PartLemmas

@@ -5,6 +5,7 @@ mod mark;
 mod named;
 mod read;
 mod refs;
+mod state_store;
 mod store;
 mod walk;
 
