@@ -1,109 +1,103 @@
--- Clauses, and the predicates that they are added to.
-use Rattle.std.proofs.Common.{◌≡◌, ℕ, ◌+◌, suc, ◌<◌, Bool, true, false, List, [], ◌∷◌, ◌++◌, length, get_or, drop, map, refl, sym, ◌∙◌, ap, drop-cons, add-one}
-use Rattle.std.specs.Prelude.{Option, Some, None, IsSomeAnd}
-use Rattle.std.specs.List.{cons_option}
+-- Clauses and queries, from the parts that the code makes.
+use Rattle.std.proofs.Common.{◌≡◌, ℕ, ◌<◌, Bool, true, false, List, [], ◌∷◌, ◌++◌, length, refl, sym, ◌∙◌, ap, arith}
+use Rattle.std.specs.Prelude.{Some, None}
 use Rattle.std.proofs.lemmas.Bool.{cond-true, cond-false}
+use Rattle.pi_terms.specs.Tree.{Tree}
 use Rattle.pi_syntax.specs.ExpTree.{ExpTree}
-use Rattle.pi_core.specs.GoalTree.{truth}
-use Rattle.pi_core.specs.CoreTree.{ClauseTree, PredTree, pattern_trees, clause_tree, pred_tree}
-use Rattle.pi_syntax.specs.ProgramTree.{RuleTree, part_tree}
-use Rattle.pi_syntax.specs.Signature.{Signature, signature}
+use Rattle.pi_syntax.specs.ProgramTree.{RuleTree, FunctionTree}
+use Rattle.pi_core.specs.GoalTree.{GoalTree, truth, fail, tick, call, apply, seq, alternatives, if_else, not, once, collect, count, catch, goals_of, subgoals, subgoal, nodes, ShowsNode}
+use Rattle.pi_core.specs.CoreTree.{pattern_trees, clause_tree, query_tree}
+use Rattle.pi_core.specs.declared.goal_node.GoalNode.{GoalNode}
 use Rattle.pi_core.specs.declared.core_program.CoreClause.{CoreClause}
-use Rattle.pi_core.specs.declared.core_program.CorePred.{CorePred}
-use Rattle.pi_syntax.specs.declared.program.Part.{Part}
-use Rattle.pi_meaning.specs.WrittenRules.{head_arguments, rule_in, rules_of, is_signature}
-use Rattle.pi_rewrite.specs.Lowered.{slots_after, slots_of_head, lowered_patterns, lowered_body, lowered_clause, lowered_rule, head_signature, named_by, predicate, with_clause, grouped}
-use Rattle.pi_rewrite.specs.Built.{IsRule, Adds, lowered_behind}
+use Rattle.pi_core.specs.declared.core_program.CoreQuery.{CoreQuery}
+use Rattle.pi_core.proofs.GoalPlaces.{nodes-children}
+use Rattle.pi_meaning.specs.WrittenRules.{head_arguments}
+use Rattle.pi_names.specs.Run.{answer_names}
+use Rattle.pi_lowered.specs.Slots.{SlotNames, named_slots, slots_behind}
+use Rattle.pi_lowered.specs.Values.{slot_patterns, last_value}
+use Rattle.pi_lowered.specs.Goals.{in_turn, made, goal_of}
+use Rattle.pi_lowered.specs.Lowered.{is_truth, as_guard, goals_or_none, guard_of, lowered_rule, lowered_function, lowered_query}
+use Rattle.pi_rewrite.specs.Built.{is_true_node}
 
-pub clause-is : (c : CoreClause) (head body : ExpTree) (back : Bool) → pattern_trees c.head.items ≡ lowered_patterns (head_arguments head) [] → c.guard ≡ truth → c.back ≡ back → c.watches ≡ [] →
-    c.body ≡ lowered_body body (slots_of_head head) → c.value ≡ None → c.slots ≡ length (slots_after body (slots_of_head head)) → clause_tree c ≡ lowered_clause head back body
-unfolding lowered_clause
-clause-is c head body back h g b w d v s = cc
+-- ---- conditions
 
--- a clause begins a predicate where there is none
-pub behind-first : (r : RuleTree) (rs : List RuleTree) (p : PredTree) → p ≡ predicate (head_signature r.head) (lowered_rule r) → lowered_behind [] (r ∷ rs) ≡ lowered_behind (p ∷ []) rs
-unfolding lowered_behind
-behind-first r rs p is = ap (λ q. grouped q rs) (sym is)
+pub some-node : (g : GoalTree) → 0 < nodes g
+some-node g = omega (arith, nodes-children g)
 
--- it goes on with the last one
-pub behind-same : (r : RuleTree) (rs : List RuleTree) (p q : PredTree) → is_signature p.name p.arity (signature r.head) ≡ true → q ≡ with_clause p (lowered_rule r) → lowered_behind (p ∷ []) (r ∷ rs) ≡ lowered_behind (q ∷ []) rs
-unfolding lowered_behind grouped
-behind-same r rs p q h is =
-    cond-true (is_signature p.name p.arity (signature r.head)) (grouped (with_clause p (lowered_rule r)) rs) (p ∷ grouped (predicate (head_signature r.head) (lowered_rule r)) rs) h
-    ∙ ap (λ x. grouped x rs) (sym is)
+first-node : (g : GoalTree) → subgoal g 0 ≡ g
+unfolding subgoals
+first-node truth = refl
+first-node fail = refl
+first-node tick = refl
+first-node (call name args) = refl
+first-node (apply name args slot) = refl
+first-node (seq gs) = refl
+first-node (alternatives gs) = refl
+first-node (if_else test yes_goal other) = refl
+first-node (not g) = refl
+first-node (once g) = refl
+first-node (collect g value into) = refl
+first-node (count g into) = refl
+first-node (catch g ball handler) = refl
 
--- or begins another
-pub behind-other : (r : RuleTree) (rs : List RuleTree) (p q : PredTree) → is_signature p.name p.arity (signature r.head) ≡ false → q ≡ predicate (head_signature r.head) (lowered_rule r) → lowered_behind (p ∷ []) (r ∷ rs) ≡ lowered_behind (p ∷ q ∷ []) rs
-unfolding lowered_behind grouped
-behind-other r rs p q h is =
-    cond-false (is_signature p.name p.arity (signature r.head)) (grouped (with_clause p (lowered_rule r)) rs) (p ∷ grouped (predicate (head_signature r.head) (lowered_rule r)) rs) h
-    ∙ ap (λ x. p ∷ grouped x rs) (sym is)
+shown-truth : (g : GoalTree) (n : GoalNode) → ShowsNode g n → is_true_node n ≡ is_truth g
+shown-truth g GoalNode.True is = sym (ap is_truth is)
+shown-truth g GoalNode.Fail is = sym (ap is_truth is)
+shown-truth g GoalNode.Tick is = sym (ap is_truth is)
+shown-truth g (GoalNode.Call name args) is = sym (ap is_truth is)
+shown-truth g (GoalNode.Apply name args slot) is = sym (ap is_truth is)
+shown-truth g (GoalNode.Seq k) is = sym (ap is_truth is.0)
+shown-truth g (GoalNode.Alt k) is = sym (ap is_truth is.0)
+shown-truth g GoalNode.If is = sym (ap is_truth is)
+shown-truth g GoalNode.Not is = sym (ap is_truth is)
+shown-truth g GoalNode.Once is = sym (ap is_truth is)
+shown-truth g (GoalNode.Collect value into) is = sym (ap is_truth is)
+shown-truth g (GoalNode.Count into) is = sym (ap is_truth is)
+shown-truth g (GoalNode.Catch ball) is = sym (ap is_truth is)
 
--- behind others
-pub behind-others : (ps : List PredTree) (p q : PredTree) (qs : List PredTree) (rs rest : List RuleTree) → lowered_behind (p ∷ []) rs ≡ lowered_behind (q ∷ qs) rest → lowered_behind (ps ++ p ∷ []) rs ≡ lowered_behind (ps ++ q ∷ qs) rest
-unfolding lowered_behind
-behind-others [] p q qs rs rest e = e
-behind-others (a ∷ []) p q qs rs rest e = ap (λ x. a ∷ x) e
-behind-others (a ∷ b ∷ ps) p q qs rs rest e = ap (λ x. a ∷ x) (behind-others (b ∷ ps) p q qs rs rest e)
+pub truth-shown : (g : GoalTree) (n : GoalNode) (r : Bool) → ShowsNode (subgoal g 0) n → r ≡ is_true_node n → r ≡ is_truth g
+truth-shown g n r shows is = is ∙ (shown-truth (subgoal g 0) n shows ∙ ap is_truth (first-node g))
 
-pub behind-none : (ps : List PredTree) → lowered_behind ps [] ≡ ps
-unfolding lowered_behind grouped
-behind-none [] = refl
-behind-none (p ∷ []) = refl
-behind-none (p ∷ q ∷ ps) = ap (λ x. p ∷ x) (behind-none (q ∷ ps))
+the-truth : (g : GoalTree) → is_truth g ≡ true → g ≡ truth
+the-truth truth h = refl
+the-truth fail h = absurd cc
+the-truth tick h = absurd cc
+the-truth (call name args) h = absurd cc
+the-truth (apply name args slot) h = absurd cc
+the-truth (seq gs) h = absurd cc
+the-truth (alternatives gs) h = absurd cc
+the-truth (if_else test yes_goal other) h = absurd cc
+the-truth (not g) h = absurd cc
+the-truth (once g) h = absurd cc
+the-truth (collect g value into) h = absurd cc
+the-truth (count g into) h = absurd cc
+the-truth (catch g ball handler) h = absurd cc
 
-pub no-items : {A : Type 0} (xs : List A) → length xs ≡ 0 → xs ≡ []
-no-items [] h = refl
-no-items (x ∷ xs) h = cc
+pub guard-other : (g : GoalTree) → is_truth g ≡ false → g ≡ as_guard g
+guard-other g h = sym (cond-false (is_truth g) (seq (goals_of (truth ∷ []))) g h)
 
-map-push : {A B : Type 0} (f : A → B) (xs : List A) (x : A) → map f (xs ++ x ∷ []) ≡ map f xs ++ f x ∷ []
-map-push f [] x = refl
-map-push f (y ∷ xs) x = ap (λ ys. f y ∷ ys) (map-push f xs x)
+pub guard-truth : (g one : GoalTree) (start goals : List GoalTree) → is_truth g ≡ true → start ≡ [] → goals ≡ start ++ g ∷ [] → one ≡ seq (goals_of goals) → one ≡ as_guard g
+guard-truth g one start goals h none put is =
+    is ∙ (ap (λ gs. seq (goals_of gs)) (put ∙ ap (λ xs. xs ++ g ∷ []) none) ∙ (ap (λ x. seq (goals_of (x ∷ []))) (the-truth g h) ∙ sym (cond-true (is_truth g) (seq (goals_of (truth ∷ []))) g h)))
 
-map-push_two : {A B : Type 0} (f : A → B) (xs : List A) (x y : A) → map f ((xs ++ x ∷ []) ++ y ∷ []) ≡ map f xs ++ f x ∷ f y ∷ []
-map-push_two f [] x y = refl
-map-push_two f (z ∷ xs) x y = ap (λ ys. f z ∷ ys) (map-push_two f xs x y)
+-- ---- clauses
 
-named-is : (head : ExpTree) (s : Signature) (p : PredTree) (c : ClauseTree) (r : RuleTree) → signature head ≡ Some s → r.head ≡ head → lowered_rule r ≡ c → p ≡ predicate s c → p ≡ predicate (head_signature r.head) (lowered_rule r)
-named-is head s p c r is same made e = e ∙ ap (λ x. predicate x c) (sym (ap named_by (ap signature same ∙ is))) ∙ ap (predicate (head_signature r.head)) (sym made)
+pub rule-is : (c : CoreClause) (r : RuleTree) (zero one two three : SlotNames) (h : ℕ) → zero ≡ [] → pattern_trees c.head.items ≡ (slot_patterns (head_arguments r.head) zero).forms →
+    one ≡ (slot_patterns (head_arguments r.head) zero).names → h ≡ length one → c.guard ≡ guard_of r.cond (goals_or_none h r.cond one) → two ≡ (goals_or_none h r.cond one).names → c.back ≡ r.back → c.watches ≡ [] →
+    c.body ≡ in_turn (goal_of h r.body two).goals → three ≡ (goal_of h r.body two).names → c.value ≡ None → c.slots ≡ length three → clause_tree c ≡ lowered_rule r
+unfolding lowered_rule
+rule-is c r zero one two three h z head o k guard t back watches body e value slots = cc
 
-pub adds-first : (head : ExpTree) (s : Signature) (c : CoreClause) (made : CorePred) (before after : List CorePred) → signature head ≡ Some s → pred_tree made ≡ predicate s (clause_tree c) → before ≡ [] → after ≡ made ∷ [] →
-    Adds head (clause_tree c) (map pred_tree before) (map pred_tree after)
-adds-first head s c made before after is e none new r rs same lowers =
-    ap (λ ps. lowered_behind (map pred_tree ps) (r ∷ rs)) none
-    ∙ behind-first r rs (pred_tree made) (named-is head s (pred_tree made) (clause_tree c) r is same lowers e)
-    ∙ ap (λ ps. lowered_behind (map pred_tree ps) rs) (sym new)
+pub function-is : (c : CoreClause) (f : FunctionTree) (zero one two three four : SlotNames) (h : ℕ) (v : Tree) (some most all : List GoalTree) → zero ≡ [] → pattern_trees c.head.items ≡ (slot_patterns (head_arguments f.head) zero).forms →
+    one ≡ (slot_patterns (head_arguments f.head) zero).names → h ≡ length one → c.guard ≡ guard_of f.cond (goals_or_none h f.cond one) → two ≡ (goals_or_none h f.cond one).names → c.back ≡ false → c.watches ≡ [] →
+    some ≡ [] → most ≡ some ++ (goals_or_none h f.body two).goals → three ≡ (goals_or_none h f.body two).names → all ≡ most ++ (last_value f.value three (made h f.value three)).goals →
+    v ≡ (last_value f.value three (made h f.value three)).tree → four ≡ (last_value f.value three (made h f.value three)).names → c.body ≡ in_turn all → c.value ≡ Some v → c.slots ≡ length four → clause_tree c ≡ lowered_function f
+unfolding lowered_function
+function-is c f zero one two three four h v some most all z head o k guard t back watches none m e a tree n body value slots = cc
 
-pub adds-same : (head : ExpTree) (s : Signature) (c : CoreClause) (last made : CorePred) (front before after : List CorePred) → signature head ≡ Some s → is_signature last.name last.arity (Some s) ≡ true →
-    pred_tree made ≡ with_clause (pred_tree last) (clause_tree c) → before ≡ front ++ last ∷ [] → after ≡ front ++ made ∷ [] → Adds head (clause_tree c) (map pred_tree before) (map pred_tree after)
-adds-same head s c last made front before after is test e old new r rs same lowers =
-    let here : is_signature last.name last.arity (signature r.head) ≡ true = ap (is_signature last.name last.arity) (ap signature same ∙ is) ∙ test in
-    ap (λ ps. lowered_behind (map pred_tree ps) (r ∷ rs)) old
-    ∙ ap (λ ps. lowered_behind ps (r ∷ rs)) (map-push pred_tree front last)
-    ∙ behind-others (map pred_tree front) (pred_tree last) (pred_tree made) [] (r ∷ rs) rs (behind-same r rs (pred_tree last) (pred_tree made) here (e ∙ ap (with_clause (pred_tree last)) (sym lowers)))
-    ∙ ap (λ ps. lowered_behind ps rs) (sym (map-push pred_tree front made))
-    ∙ ap (λ ps. lowered_behind (map pred_tree ps) rs) (sym new)
+-- ---- queries
 
-pub adds-other : (head : ExpTree) (s : Signature) (c : CoreClause) (last made : CorePred) (front before after : List CorePred) → signature head ≡ Some s → is_signature last.name last.arity (Some s) ≡ false →
-    pred_tree made ≡ predicate s (clause_tree c) → before ≡ front ++ last ∷ [] → after ≡ (front ++ last ∷ []) ++ made ∷ [] → Adds head (clause_tree c) (map pred_tree before) (map pred_tree after)
-adds-other head s c last made front before after is test e old new r rs same lowers =
-    let here : is_signature last.name last.arity (signature r.head) ≡ false = ap (is_signature last.name last.arity) (ap signature same ∙ is) ∙ test in
-    ap (λ ps. lowered_behind (map pred_tree ps) (r ∷ rs)) old
-    ∙ ap (λ ps. lowered_behind ps (r ∷ rs)) (map-push pred_tree front last)
-    ∙ behind-others (map pred_tree front) (pred_tree last) (pred_tree last) (pred_tree made ∷ []) (r ∷ rs) rs (behind-other r rs (pred_tree last) (pred_tree made) here (named-is head s (pred_tree made) (clause_tree c) r is same lowers e))
-    ∙ ap (λ ps. lowered_behind ps rs) (sym (map-push_two pred_tree front last made))
-    ∙ ap (λ ps. lowered_behind (map pred_tree ps) rs) (sym new)
-
--- a part that is a rule is the next one
-rules-step : (o : Option RuleTree) (head : ExpTree) (back : Bool) (body : ExpTree) (rest : List RuleTree) (c : ClauseTree) (before after : List PredTree) → IsSomeAnd o (λ r. (r.head ≡ head) × (r.back ≡ back) × (r.body ≡ body)) →
-    c ≡ lowered_clause head back body → Adds head c before after → (all : List RuleTree) → all ≡ cons_option o rest → lowered_behind before all ≡ lowered_behind after rest
-rules-step None head back body rest c before after is made adds all e = absurd is
-rules-step (Some r) head back body rest c before after is made adds all e =
-    ap (lowered_behind before) e ∙ adds r rest is.0 (ap (λ h. lowered_clause h r.back r.body) is.0 ∙ ap (λ b. lowered_clause head b r.body) is.1 ∙ ap (lowered_clause head back) is.2 ∙ sym made)
-
-pub parts-step : (parts : List Part) (i : ℕ) (p : Part) (head : ExpTree) (back : Bool) (body : ExpTree) (c : ClauseTree) (before after : List PredTree) → i < length parts → p ≡ get_or parts i p → IsRule (part_tree p) head back body →
-    c ≡ lowered_clause head back body → Adds head c before after → lowered_behind before (rules_of (map part_tree (drop i parts))) ≡ lowered_behind after (rules_of (map part_tree (drop (i + 1) parts)))
-parts-step parts i p head back body c before after within here is made adds =
-    let all : drop i parts ≡ p ∷ drop (i + 1) parts = drop-cons parts i p within ∙ ap (λ x. x ∷ drop (suc i) parts) (sym here) ∙ ap (λ j. p ∷ drop j parts) (sym (add-one i)) in
-    rules-step (rule_in (part_tree p).clause) head back body (rules_of (map part_tree (drop (i + 1) parts))) c before after is made adds (rules_of (map part_tree (drop i parts)))
-    (ap (λ ps. rules_of (map part_tree ps)) all)
+pub query-is : (q : CoreQuery) (goal : ExpTree) (zero one two : SlotNames) (told : List (List ℕ)) → zero ≡ [] → q.goal ≡ in_turn (goal_of 0 goal zero).goals → one ≡ (goal_of 0 goal zero).names → told ≡ answer_names goal →
+    q.helpers ≡ [] → q.names ≡ named_slots told one → two ≡ slots_behind told one → q.slots ≡ length two → query_tree q ≡ lowered_query goal
+unfolding lowered_query
+query-is q goal zero one two told z body o t none names w slots = cc

@@ -13,7 +13,8 @@ use Rattle.pi_meaning.specs.Told.{solution_told}
 use Rattle.pi_meaning.proofs.ToldCuts.{cut-told, stop-told}
 use Rattle.pi_names.specs.Stages.{LaterStages}
 use Rattle.pi_names.specs.Run.{answer_names, names_trace}
-use Rattle.pi_rewrite.specs.Laws.{query_from, MeansTheSame, SameMeaningRunsTheSame}
+use Rattle.pi_lowered.specs.Laws.{query_from}
+use Rattle.pi_rewrite.specs.Laws.{MeansTheSame, SameMeaningRunsTheSame}
 
 -- from the empty state
 asked-means : (program : ProgramTree) (goal : ExpTree) (preds : List PredTree) (q : QueryTree) → MeansTheSame program goal preds q → (v : View) (later : LaterStages) (d : ℕ) →

@@ -1,88 +1,108 @@
--- What is known of a program of the small language: its rules are small, and each part is one.
-use Rattle.std.proofs.Common.{◌≡◌, ℕ, zero, suc, ◌<◌, Bool, true, false, List, [], ◌∷◌, length, get_or, map, refl, sym, ◌∙◌, ap, subst, arith}
-use Rattle.std.specs.Prelude.{Option, Some, None, Contains, IsSome, cond}
-use Rattle.std.specs.List.{cons_option, AllByRecursion}
-use Rattle.std.proofs.lemmas.Bool.{false≢true}
-use Rattle.std.proofs.lemmas.List.Elements.{recursion_from_All, Contains-append_right}
-use Rattle.pi_syntax.specs.ExpTree.{ExpTree}
-use Rattle.pi_syntax.specs.ProgramTree.{RuleTree, WrittenClause, rule, function, fact, ProgramTree}
-use Rattle.pi_syntax.specs.Signature.{Signature, signature, exp_count}
-use Rattle.pi_meaning.specs.Small.{defined_by, heads, IsSmallHead, IsSmallRule, IsSmallClause, IsSmallPart, IsSmallProgram, StandTogether}
-use Rattle.pi_meaning.specs.WrittenRules.{rule_in, rules_of, is_signature, is_rule_of}
-use Rattle.pi_rewrite.specs.Lowered.{lowered_rule}
-use Rattle.pi_rewrite.proofs.GoalLemmas.{Defined}
-use Rattle.pi_rewrite.proofs.RuleLemmas.{SmallRules, small-none, small-cons, small-first, small-rest}
-use Rattle.pi_rewrite.proofs.FindLemmas.{sign, signs, HaveNames, have-none, have-more, chosen_rules, pred_of, pred_with, chosen-it, chosen-not, sign-of, sign-itself}
+-- A core program that keeps the meaning of a program, with the built-ins of the tables and whatever later stages give; and the same with all names of the language, which queries go through.
+use Rattle.std.proofs.Common.{◌≡◌, ℕ, zero, suc, ◌+◌, ◌++◌, List, length, refl, sym, ◌∙◌, ap, subst}
+use Rattle.std.specs.Prelude.{Option, Some, None}
+use Rattle.pi_syntax.specs.ProgramTree.{ProgramTree}
+use Rattle.pi_core.specs.CoreTree.{PredTree}
+use Rattle.pi_meaning.specs.View.{View}
+use Rattle.pi_meaning.specs.Level.{Level, Calls, calls_at, level_of}
+use Rattle.pi_meaning.specs.Builtins.{Builtins}
+use Rattle.pi_meaning.specs.Instances.{whole}
+use Rattle.pi_meaning.specs.Rules.{quiet_level, level_at}
+use Rattle.pi_meaning.specs.Defined.{ProgramCallsDefined, NamesAreFree}
+use Rattle.pi_names.specs.Stages.{LaterStages, no_stages}
+use Rattle.pi_names.specs.Prelude.{prelude}
+use Rattle.pi_names.specs.Rules.{level_for}
+use Rattle.pi_names.specs.Run.{setting, program_level}
+use Rattle.pi_lowered.specs.Forms.{Knows}
+use Rattle.pi_lowered.specs.Levels.{SameCalls, SameLevels, GoesByCalls}
+use Rattle.pi_lowered.specs.Within.{IsWithin}
+use Rattle.pi_lowered.specs.Lowered.{lowered}
+use Rattle.pi_lowered.specs.Laws as over_whole
+use Rattle.pi_lowered.specs.Laws.{known_of}
+use Rattle.pi_lowered.proofs.AlikeLemmas.{calls-same}
+use Rattle.pi_lowered.proofs.LevelLemmas.{core-drains, names-drain}
+use Rattle.pi_lowered.proofs.LawLemmas.{lowered-keeps}
+use Rattle.pi_coverage.specs.Built.{unbuilt_part}
+use Rattle.pi_later.specs.LaterLaws.{LevelsAreTheSame}
+use Rattle.pi_sound.specs.Laws.{LoweredProgramsAreSound, LoweredProgramsAreClosed, LoweredProgramsArePlain}
+use Rattle.pi_rewrite.specs.Laws.{CallsTheSame, IsLoweredProgram}
+use Rattle.pi_rewrite.proofs.TabledLemmas.{called-tabled, applied-tabled}
 
-head-named : (head : ExpTree) → IsSmallHead head → (s : Signature) × (signature head ≡ Some s)
-head-named (ExpTree.atom name) small = (sign name 0, refl)
-head-named (ExpTree.call name es) small = (sign name (exp_count es), refl)
-head-named x small = absurd small
+-- what gives nothing asks for no call
+pub goes-by-nothing : (known : Knows) → GoesByCalls known no_stages.calls
+goes-by-nothing known v l m same name ts s = refl
 
-clause-rule : (defined : Defined) (o : Option WrittenClause) → IsSmallClause defined o → (r : RuleTree) × (o ≡ Some (rule r)) × IsSmallRule defined r
-clause-rule defined None small = absurd small
-clause-rule defined (Some (rule r)) small = (r, refl, small)
-clause-rule defined (Some (function f)) small = absurd small
-clause-rule defined (Some (fact head)) small = absurd small
+-- ---- with the built-ins of the tables
 
--- small rules, with these heads
-pub record AreRules (defined : Defined) (these : Defined) (rs : List RuleTree) : Type 0 where
-  pub small : SmallRules defined rs
-  pub heads : signs rs ≡ these
-  pub named : HaveNames rs
-
-parts-rules : (defined : Defined) (ps : ProgramTree) → AllByRecursion (IsSmallPart defined) ps → AreRules defined (heads ps) (rules_of ps)
-parts-rules defined [] h = record { small = small-none defined; heads = refl; named = have-none }
-parts-rules defined (p ∷ ps) h =
-    let c : (r : RuleTree) × (p.clause ≡ Some (rule r)) × IsSmallRule defined r = clause-rule defined p.clause h.0.clause in
-    let rest : AreRules defined (heads ps) (rules_of ps) = parts-rules defined ps h.1 in
-    let named : (s : Signature) × (signature c.0.head ≡ Some s) = head-named c.0.head c.2.head in
-    subst (AreRules defined (heads (p ∷ ps))) (sym (ap (λ o. cons_option (rule_in o) (rules_of ps)) c.1))
-    (record {
-      small = small-cons defined c.0 (rules_of ps) c.2 rest.small;
-      heads = ap (λ hs. signature c.0.head ∷ hs) rest.heads ∙ ap (λ h. h ∷ heads ps) (sym (ap defined_by c.1));
-      named = have-more c.0 (rules_of ps) named rest.named;
-    })
-
-pub program-rules : (program : ProgramTree) → IsSmallProgram program → AreRules (heads program) (heads program) (rules_of program)
-program-rules program small = parts-rules (heads program) program (recursion_from_All (IsSmallPart (heads program)) program small.parts)
-
-pub rules-together : (program : ProgramTree) → IsSmallProgram program → StandTogether [] (signs (rules_of program))
-rules-together program small = subst (StandTogether []) (sym (program-rules program small).heads) small.together
-
--- some of them
-pub small-chosen : (defined : Defined) (name : List ℕ) (k : ℕ) (rs : List RuleTree) → SmallRules defined rs → SmallRules defined (chosen_rules name k rs)
-small-chosen defined name k [] small = small-none defined
-small-chosen defined name k (r ∷ rs) small = tested (is_rule_of name k r) (small-chosen defined name k rs (small-rest defined r rs small))
+calls-kept : LevelsAreTheSame → (program : ProgramTree) → unbuilt_part program ≡ None → (preds : List PredTree) → over_whole.IsLoweredProgram program preds → ProgramCallsDefined preds → NamesAreFree preds →
+    CallsTheSame program preds
+calls-kept levels program built preds kept closed free = record {
+  predicates = λ v later d name ts s known.
+      sym (called-tabled v no_stages.calls preds closed free d name ts s) ∙ (at v d).called name ts s known ∙ ap (λ l. (calls_at l).called name ts s) (levels program built v no_stages later d);
+  functions = λ v later d name ts s known.
+      sym (applied-tabled v no_stages.calls preds closed free d name ts s) ∙ (at v d).applied name ts s known ∙ ap (λ l. (calls_at l).applied name ts s) (levels program built v no_stages later d);
+}
   where
-    tested : (b : Bool) → SmallRules defined (chosen_rules name k rs) → SmallRules defined (cond b (r ∷ chosen_rules name k rs) (chosen_rules name k rs))
-    tested true h = small-cons defined r (chosen_rules name k rs) (small-first defined r rs small) h
-    tested false h = h
+    at : (v : View) (d : ℕ) → SameCalls (known_of program) (calls_at (level_at (whole v no_stages.calls preds) preds d)) (calls_at (program_level v no_stages program d))
+    at v d = calls-same (known_of program) (level_at (whole v no_stages.calls preds) preds d) (program_level v no_stages program d) (kept.calls v no_stages (goes-by-nothing (known_of program)) d)
 
-pub in-tail : (x : Option Signature) (xs : Defined) (y : Option Signature) → (x ≡ y → ⊥) → (j : ℕ) → j < length (x ∷ xs) → get_or (x ∷ xs) j y ≡ y → Contains xs y
-in-tail x xs y other zero h e = absurd (other e)
-in-tail x xs y other (suc j) h e = (j, omega arith, e)
+pub program-kept : LevelsAreTheSame → LoweredProgramsAreSound → LoweredProgramsAreClosed → LoweredProgramsArePlain → (program : ProgramTree) → IsWithin program → unbuilt_part program ≡ None →
+    IsLoweredProgram program (lowered program)
+program-kept levels sound closed plain program within built =
+    let kept : over_whole.IsLoweredProgram program (lowered program) = lowered-keeps program within in
+    let calls : ProgramCallsDefined (lowered program) × NamesAreFree (lowered program) = closed program within built in
+    record {
+      sound = sound program within built;
+      plain = plain program within;
+      closed = calls.0;
+      free = calls.1;
+      defines = kept.defines;
+      calls = calls-kept levels program built (lowered program) kept calls.0 calls.1;
+    }
 
--- a predicate that has a rule is there
-pub defined-found : (name : List ℕ) (k : ℕ) (rs : List RuleTree) → Contains (signs rs) (Some (sign name k)) → pred_with name k (chosen_rules name k rs) ≡ Some (pred_of (sign name k) (map lowered_rule (chosen_rules name k rs)))
-defined-found name k [] there = absurd (omega (arith, there.1))
-defined-found name k (r ∷ rs) there = tested (is_signature name k (signature r.head)) refl (λ h. defined-found name k rs h)
+-- ---- with all names of the language
+
+quiet-is : (b : Builtins) (preds : List PredTree) (below : Option Level) (k : ℕ) → quiet_level b preds below k ≡ level_of (calls_at (quiet_level b preds below k)) below
+unfolding quiet_level
+quiet-is b preds None zero = refl
+quiet-is b preds (Some l) zero = refl
+quiet-is b preds None (suc k) = refl
+quiet-is b preds (Some l) (suc k) = refl
+
+whole-called : (program : ProgramTree) (preds : List PredTree) → IsLoweredProgram program preds → (v : View) (later : LaterStages) (d : ℕ) →
+    SameCalls (known_of program) (calls_at (level_at (whole v later.calls preds) preds d)) (calls_at (program_level v later program d))
+whole-called program preds kept v later d = record {
+  called = λ name ts s known. called-tabled v later.calls preds kept.closed kept.free d name ts s ∙ kept.calls.predicates v later d name ts s known;
+  applied = λ name ts s known. applied-tabled v later.calls preds kept.closed kept.free d name ts s ∙ kept.calls.functions v later d name ts s known;
+  drained = λ s. core-drains (whole v later.calls preds) preds d s ∙ sym (names-drain (setting v later program) (prelude ++ program) d s);
+}
+
+same-over : (known : Knows) (l m : Level) (c d : Calls) (j k : Level) → l ≡ level_of c (Some j) → m ≡ level_of d (Some k) → SameCalls known (calls_at l) (calls_at m) → SameLevels known j k → SameLevels known l m
+unfolding SameLevels
+same-over known l m c d j k p q here below = subst (λ (x : Level). SameLevels known x m) (sym p) (subst (λ (y : Level). SameLevels known (level_of c (Some j)) y) (sym q) (calls, below))
   where
-    tested : (b : Bool) → is_signature name k (signature r.head) ≡ b →
-        (Contains (signs rs) (Some (sign name k)) → pred_with name k (chosen_rules name k rs) ≡ Some (pred_of (sign name k) (map lowered_rule (chosen_rules name k rs)))) →
-        pred_with name k (chosen_rules name k (r ∷ rs)) ≡ Some (pred_of (sign name k) (map lowered_rule (chosen_rules name k (r ∷ rs))))
-    tested true h rest = ap (pred_with name k) (chosen-it name k r rs h) ∙ ap (λ xs. Some (pred_of (sign name k) (map lowered_rule xs))) (sym (chosen-it name k r rs h))
-    tested false h rest =
-        let other : signature r.head ≡ Some (sign name k) → ⊥ = λ e. false≢true (sym h ∙ ap (is_signature name k) e ∙ sign-itself (sign name k)) in
-        ap (pred_with name k) (chosen-not name k r rs h) ∙ rest (in-tail (signature r.head) (signs rs) (Some (sign name k)) other there.0 there.1 there.2)
-        ∙ ap (λ xs. Some (pred_of (sign name k) (map lowered_rule xs))) (sym (chosen-not name k r rs h))
+    calls : SameCalls known c d
+    calls = subst (λ (x : Level). SameCalls known (calls_at x) d) p (subst (λ (y : Level). SameCalls known (calls_at l) (calls_at y)) q here)
 
--- and one that is there has a rule
-pub found-defined : (name : List ℕ) (k : ℕ) (rs : List RuleTree) → IsSome (pred_with name k (chosen_rules name k rs)) → Contains (signs rs) (Some (sign name k))
-found-defined name k [] there = absurd (false≢true there)
-found-defined name k (r ∷ rs) there = tested (is_signature name k (signature r.head)) refl (λ h. found-defined name k rs h)
+same-lowest : (known : Knows) (l m : Level) (c d : Calls) → l ≡ level_of c None → m ≡ level_of d None → SameCalls known (calls_at l) (calls_at m) → SameLevels known l m
+unfolding SameLevels
+same-lowest known l m c d p q here = subst (λ (x : Level). SameLevels known x m) (sym p) (subst (λ (y : Level). SameLevels known (level_of c None) y) (sym q) calls)
   where
-    tested : (b : Bool) → is_signature name k (signature r.head) ≡ b → (IsSome (pred_with name k (chosen_rules name k rs)) → Contains (signs rs) (Some (sign name k))) → Contains (signs (r ∷ rs)) (Some (sign name k))
-    tested true h rest = (0, omega arith, sign-of name k (signature r.head) h)
-    tested false h rest =
-        Contains-append_right (signature r.head ∷ []) (signs rs) (Some (sign name k)) (rest (subst (λ (xs : List RuleTree). IsSome (pred_with name k xs)) (chosen-not name k r rs h) there))
+    calls : SameCalls known c d
+    calls = subst (λ (x : Level). SameCalls known (calls_at x) d) p (subst (λ (y : Level). SameCalls known (calls_at l) (calls_at y)) q here)
+
+whole-levels : (program : ProgramTree) (preds : List PredTree) → IsLoweredProgram program preds → (v : View) (later : LaterStages) (d : ℕ) →
+    SameLevels (known_of program) (level_at (whole v later.calls preds) preds d) (program_level v later program d)
+unfolding level_at level_for
+whole-levels program preds kept v later zero =
+    same-lowest (known_of program) _ _ _ _ (quiet-is (whole v later.calls preds) preds None (length preds)) refl (whole-called program preds kept v later zero)
+whole-levels program preds kept v later (suc d) =
+    same-over (known_of program) _ _ _ _ (level_at (whole v later.calls preds) preds d) (program_level v later program d)
+    (quiet-is (whole v later.calls preds) preds (Some (level_at (whole v later.calls preds) preds d)) (suc (length preds + d))) refl (whole-called program preds kept v later (suc d)) (whole-levels program preds kept v later d)
+
+pub program-over_whole : (program : ProgramTree) (preds : List PredTree) → IsLoweredProgram program preds → over_whole.IsLoweredProgram program preds
+program-over_whole program preds kept = record {
+  slots = λ pred there c inside. (kept.sound.clauses pred there c inside).slots;
+  defines = kept.defines;
+  calls = λ v later goes d. whole-levels program preds kept v later d;
+}

@@ -1,148 +1,133 @@
--- The trace of a goal over names is that of the query which it is lowered to.
-use Rattle.std.proofs.Common.{◌≡◌, ℕ, List, [], ◌∷◌, length, refl, sym, ◌∙◌, ap, subst, arith}
-use Rattle.std.specs.Prelude.{Option, Some, None, replicate, nat_lt, cond, Bool, true, false}
+-- Of a core program that keeps the meaning of a program, each goal has a query that keeps its meaning. What is called is known, and is closed, in any such core program as in another.
+use Rattle.std.proofs.Common.{◌≡◌, ◌⊎◌, inl, inr, ℕ, Bool, true, false, not, List, ◌++◌, refl, sym, ◌∙◌, ap, subst}
+use Rattle.std.specs.Prelude.{Option, Some, None, All, IsSome, codes}
 use Rattle.std.proofs.lemmas.List.{append-nil}
-use Rattle.pi_terms.specs.Tree.{Tree, cells, most_cells}
-use Rattle.pi_terms.specs.Places.{Places, held}
-use Rattle.pi_states.specs.Value.{value}
-use Rattle.pi_states.specs.State.{State, bindings}
+use Rattle.std.proofs.lemmas.List.Elements.{All-contains}
 use Rattle.pi_syntax.specs.ExpTree.{ExpTree}
-use Rattle.pi_traces.specs.Trace.{Trace, end, one, then}
-use Rattle.pi_meaning.specs.Raise.{within_limit, too_large}
-use Rattle.pi_states.specs.Evaluation.{Evaluated, slot_term, evaluated}
-use Rattle.pi_meaning.specs.View.{View}
-use Rattle.pi_meaning.specs.Instances.{tabled as builtins}
-use Rattle.pi_meaning.specs.Level.{Level, Point}
-use Rattle.pi_core.specs.CoreTree.{PredTree}
-use Rattle.pi_meaning.specs.Meaning.{draining, strictly, meaning}
-use Rattle.pi_meaning.specs.Rules.{level_at}
-use Rattle.pi_meaning.specs.Run.{Solution, told, answered_with}
 use Rattle.pi_syntax.specs.ProgramTree.{ProgramTree}
-use Rattle.pi_meaning.specs.Small.{heads, IsSmallQuery}
-use Rattle.pi_core.specs.declared.core_program.NameSlot.{NameSlot}
-use Rattle.pi_answers.specs.declared.answer.NamedTerm.{NamedTerm}
-use Rattle.pi_traces.proofs.RelatedLemmas.{Same, same}
-use Rattle.pi_meaning.specs.Environment.{Environment, Valued, known, name_valued, valued}
-use Rattle.pi_meaning.specs.Place.{Place}
-use Rattle.pi_meaning.specs.Surface.{Calling, draining_first, body_trace, called_at, surface_from}
-use Rattle.pi_meaning.specs.Telling.{told_values, if_tellable, telling, Told, place_told, told_trace}
-use Rattle.pi_rewrite.specs.Lowered.{SlotNames, slot_known, slots_after, lowered_body, name_slots}
-use Rattle.pi_meaning.specs.Told.{named_values, solution_told}
-use Rattle.pi_rewrite.specs.Laws.{query_from}
-use Rattle.pi_rewrite.proofs.OverSurface.{CallsAsSurface, MeansAsSurface}
-use Rattle.pi_rewrite.proofs.FilledLemmas.{names_of, slots_at, Seen, new, there, seen-known}
-use Rattle.pi_rewrite.proofs.SameLemmas.{SameBy, same_end, same-one, same-then, same-equal}
-use Rattle.pi_rewrite.proofs.GoalLemmas.{SameCalls, at_slots, at_names, AtPlace, at_place, same-drained}
-use Rattle.pi_rewrite.proofs.RuleLemmas.{same-body, all-empty}
-use Rattle.pi_rewrite.proofs.LevelLemmas.{same-calls}
-use Rattle.pi_rewrite.proofs.LoweredQuery.{lowered_query}
-use Rattle.pi_rewrite.proofs.ToldLemmas.{shown_names, told-names, Placed, goal-placed, placed-first, placed-rest}
+use Rattle.pi_core.specs.GoalTree.{GoalTree}
+use Rattle.pi_core.specs.CoreTree.{PredTree, find_pred}
+use Rattle.pi_meaning.specs.Instances.{is_called_by_name}
+use Rattle.pi_meaning.specs.Sound.{CallsKnown, PlansAreDefined, IsSound, IsSoundQuery}
+use Rattle.pi_meaning.specs.Defined.{CallsDefined, ProgramCallsDefined, QueryCallsDefined, NamesAreFree}
+use Rattle.pi_meaning.specs.Place.{at_state, beginning}
+use Rattle.pi_meaning.specs.Telling.{place_told, told_trace}
+use Rattle.pi_meaning.specs.Told.{solution_told}
+use Rattle.pi_meaning.proofs.DefinedLemmas.{found-pred}
+use Rattle.pi_names.specs.Stages.{no_stages}
+use Rattle.pi_names.specs.Run.{answer_names}
+use Rattle.pi_lowered.specs.Lowered.{lowered, lowered_query}
+use Rattle.pi_lowered.specs.Within.{IsWithin, IsAsked}
+use Rattle.pi_lowered.specs.Laws.{known_of, DefinesTheSame}
+use Rattle.pi_lowered.proofs.LawLemmas.{lowered-keeps, query-keeps}
+use Rattle.pi_coverage.specs.Built.{unbuilt_part, is_built_goal}
+use Rattle.pi_later.specs.LaterLaws.{GoalsAreTheSame}
+use Rattle.pi_sound.specs.Laws.{IsPlain, LoweredProgramsArePlain, LoweredQueriesAreSound}
+use Rattle.pi_rewrite.specs.Laws.{IsLoweredProgram, MeansTheSame, IsLowered}
+use Rattle.pi_rewrite.proofs.TabledLemmas.{query-tabled}
+use Rattle.pi_rewrite.proofs.ProgramLemmas.{goes-by-nothing, program-over_whole}
+use Rattle.pi_rewrite.proofs.CutLemmas.{same-meaning-runs-the-same}
 
--- what a name that has a slot stands for
-pub record Stands (slots : Places) (name : List ℕ) (k : ℕ) (e : Environment) : Type 0 where
-  pub tree : Tree
-  pub in_slot : held slots k ≡ Some tree
-  pub by_name : known name e ≡ Some tree
+-- ---- what one core program of a program has, another has too
 
-stands-seen : (slots : Places) (name : List ℕ) (k : ℕ) (e : Environment) (o : Option ℕ) (t : Option Tree) → Seen slots o t → o ≡ Some k → known name e ≡ t → Stands slots name k e
-stands-seen slots name k e _ _ new is by_name = absurd cc
-stands-seen slots name k e _ _ (there j t h) is by_name = record { tree = t; in_slot = ap (held slots) (sym (same_number j k is)) ∙ h; by_name = by_name }
+called-some : (o : Option PredTree) → is_called_by_name o ≡ true → IsSome o
+called-some None h = absurd cc
+called-some (Some pred) h = refl
+
+some-called : (o : Option PredTree) → IsSome o → ((pred : PredTree) → o ≡ Some pred → pred.quiet ≡ false) → is_called_by_name o ≡ true
+some-called None h plain = absurd cc
+some-called (Some pred) h plain = ap not (plain pred refl)
+
+loud-found : (preds : List PredTree) → All IsPlain preds → (name : List ℕ) (k : ℕ) (pred : PredTree) → find_pred false name k preds ≡ Some pred → pred.quiet ≡ false
+loud-found preds plain name k pred is = (All-contains IsPlain preds pred plain (found-pred preds false name k pred is).among).quiet
+
+found-too : (program : ProgramTree) (preds others : List PredTree) → DefinesTheSame program preds → All IsPlain preds → DefinesTheSame program others → (function : Bool) (name : List ℕ) (k : ℕ) →
+    IsSome (find_pred function name k preds) → IsSome (find_pred function name k others)
+found-too program preds others has plain same false name k there =
+    called-some (find_pred false name k others)
+    (same.predicates name k ∙ sym (has.predicates name k) ∙ some-called (find_pred false name k preds) there (loud-found preds plain name k))
+found-too program preds others has plain same true name k there = same.functions name k ∙ sym (has.functions name k) ∙ there
+
+-- ---- what is called
+
+abbrev Finds : List PredTree → List PredTree → Type 0
+Finds preds others = (function : Bool) (name : List ℕ) (k : ℕ) → IsSome (find_pred function name k preds) → IsSome (find_pred function name k others)
+
+found-or : {A : Type 0} (preds others : List PredTree) → Finds preds others → (function : Bool) (name : List ℕ) (k : ℕ) → IsSome (find_pred function name k preds) ⊎ A → IsSome (find_pred function name k others) ⊎ A
+found-or preds others finds function name k (inl there) = inl (finds function name k there)
+found-or preds others finds function name k (inr given) = inr given
+
+defined-too : (preds others : List PredTree) (g : GoalTree) → Finds preds others → CallsDefined preds g → CallsDefined others g
+defined-too preds others g finds are = record {
+  calls = λ name args at. found-or preds others finds false name _ (are.calls name args at);
+  functions = λ name args slot at. found-or preds others finds true name _ (are.functions name args slot at);
+}
+
+known-too : (preds others : List PredTree) (g : GoalTree) → Finds preds others → CallsKnown preds g → CallsKnown others g
+known-too preds others g finds are = record {
+  calls = λ name args at. found-or preds others finds false name _ (are.calls name args at);
+  functions = λ name args slot at. found-or preds others finds true name _ (are.functions name args slot at);
+  plans = λ name args at planner.
+      let there : PlansAreDefined preds = are.plans name args at planner in (finds false (codes "final") 1 there.0, finds false (codes "action") 4 there.1);
+}
+
+-- ---- a query
+
+-- what a query asks of its program, with no predicates of its own
+record Asks (preds : List PredTree) (goal : ExpTree) : Type 0 where
+  sound : IsSoundQuery preds (lowered_query goal)
+  closed : QueryCallsDefined preds (lowered_query goal)
+
+query-asks : LoweredProgramsArePlain → LoweredQueriesAreSound → (program : ProgramTree) (goal : ExpTree) (preds : List PredTree) → IsWithin program → unbuilt_part program ≡ None → IsAsked program goal →
+    is_built_goal goal ≡ true → IsLoweredProgram program preds → Asks preds goal
+unfolding lowered_query
+query-asks plain sound program goal preds within built asked built_goal kept =
+    let of : IsSoundQuery (lowered program) (lowered_query goal) × QueryCallsDefined (lowered program) (lowered_query goal) = sound program goal within built asked built_goal in
+    let finds : Finds (lowered program) preds = found-too program (lowered program) preds (lowered-keeps program within).defines (plain program within) kept.defines in
+    record {
+      sound = record {
+        preds = subst IsSound (sym (append-nil preds)) kept.sound;
+        slots = of.0.slots;
+        names = of.0.names;
+        calls = subst (λ (ps : List PredTree). CallsKnown ps (lowered_query goal).goal) (sym (append-nil preds))
+            (known-too (lowered program) preds (lowered_query goal).goal finds (subst (λ (ps : List PredTree). CallsKnown ps (lowered_query goal).goal) (append-nil (lowered program)) of.0.calls));
+      };
+      closed = record {
+        preds = subst ProgramCallsDefined (sym (append-nil preds)) kept.closed;
+        goal = subst (λ (ps : List PredTree). CallsDefined ps (lowered_query goal).goal) (sym (append-nil preds))
+            (defined-too (lowered program) preds (lowered_query goal).goal finds (subst (λ (ps : List PredTree). CallsDefined ps (lowered_query goal).goal) (append-nil (lowered program)) of.1.goal));
+      };
+    }
+
+-- a query has no predicates of its own
+
+free-with : (goal : ExpTree) (preds : List PredTree) → NamesAreFree preds → NamesAreFree (preds ++ (lowered_query goal).helpers)
+unfolding lowered_query
+free-with goal preds free = subst NamesAreFree (sym (append-nil preds)) free
+
+plain-with : (goal : ExpTree) (preds : List PredTree) → All IsPlain preds → All IsPlain (preds ++ (lowered_query goal).helpers)
+unfolding lowered_query
+plain-with goal preds plain = subst (All IsPlain) (sym (append-nil preds)) plain
+
+query-means : GoalsAreTheSame → (program : ProgramTree) (goal : ExpTree) (preds : List PredTree) → unbuilt_part program ≡ None → IsAsked program goal → is_built_goal goal ≡ true → IsLoweredProgram program preds →
+    QueryCallsDefined preds (lowered_query goal) → MeansTheSame program goal preds (lowered_query goal)
+query-means goals program goal preds built asked built_goal kept closed v later d s =
+    ap (told_trace (solution_told (lowered_query goal).names)) (sym (query-tabled v no_stages.calls preds (lowered_query goal) closed free d s))
+    ∙ ((query-keeps program goal preds (program-over_whole program preds kept) asked).means v no_stages (goes-by-nothing (known_of program)) d s
+    ∙ ap (told_trace (place_told (answer_names goal))) (goals program goal built built_goal v no_stages later d (at_state beginning s)))
   where
-    same_number : (j k : ℕ) → Some j ≡ Some k → j ≡ k
-    same_number j k h = cc
+    free : NamesAreFree (preds ++ (lowered_query goal).helpers)
+    free = free-with goal preds kept.free
 
-stands : (n : ℕ) (ns : SlotNames) (e : Environment) → names_of e ≡ ns → (name : List ℕ) (k : ℕ) → slot_known name ns ≡ Some k → Stands (slots_at n e) name k e
-stands n ns e is name k known_in = stands-seen (slots_at n e) name k e (slot_known name (names_of e)) (known name e) (seen-known name n e) (ap (slot_known name) is ∙ known_in) refl
-
-slot-evaluated : (slots : Places) (name : List ℕ) (k : ℕ) (e : Environment) (s : State) (h : Stands slots name k e) → evaluated (Tree.var k) slots s ≡ record { tree = h.tree; slots = slots; state = s }
-unfolding evaluated
-slot-evaluated slots name k e s h = ap (λ o. slot_term o k slots s) h.in_slot
-
-name-evaluated : (slots : Places) (name : List ℕ) (k : ℕ) (e : Environment) (s : State) (h : Stands slots name k e) → valued (ExpTree.var name) e s ≡ record { tree = h.tree; names = e; state = s }
-name-evaluated slots name k e s h = ap (λ t. name_valued t name e s) h.by_name
-
-abbrev value_before : List ℕ → Tree → State → List NamedTerm → List NamedTerm
-value_before name t s rest = record { name = name; value = value (bindings s) t } ∷ rest
-
-values-same : (n : ℕ) (ns : SlotNames) (e : Environment) (s : State) → names_of e ≡ ns → (xs : List NameSlot) → Placed ns xs → named_values xs (slots_at n e) s ≡ told_values (shown_names xs) e s
-unfolding named_values told_values
-values-same n ns e s is [] placed = refl
-values-same n ns e s is (x ∷ xs) placed =
-    let h : Stands (slots_at n e) x.name x.slot e = stands n ns e is x.name x.slot (placed-first ns x xs placed) in
-    ap (λ (r : Evaluated). value_before x.name r.tree r.state (named_values xs r.slots r.state)) (slot-evaluated (slots_at n e) x.name x.slot e s h)
-    ∙ ap (value_before x.name h.tree s) (values-same n ns e s is xs (placed-rest ns x xs placed))
-    ∙ sym (ap (λ (r : Valued). value_before x.name r.tree r.state (told_values (shown_names xs) r.names r.state)) (name-evaluated (slots_at n e) x.name x.slot e s h))
-
--- an answer and an answer that tell the same
-pub TellSame : List NameSlot → Solution → Place → Type 0
-TellSame xs x p = solution_told xs x ≡ place_told (shown_names xs) p
-
-limited : (R : Solution → Place → Type 0) (t : Tree) (a : Trace Solution) (b : Trace Place) → SameBy R a b → SameBy R (within_limit t a) (within_limit t b)
-limited R t a b h = tested (nat_lt most_cells (cells t))
-  where
-    tested : (c : Bool) → SameBy R (cond c (end too_large) a) (cond c (end too_large) b)
-    tested true = same_end too_large
-    tested false = h
-
-told-same : (R : Solution → Place → Type 0) (n : ℕ) (ns : SlotNames) (e : Environment) (s : State) → names_of e ≡ ns → (xs : List NameSlot) → Placed ns xs → (a : Trace Solution) (b : Trace Place) → SameBy R a b →
-    SameBy R (told xs (record { slots = slots_at n e; state = s }) a) (if_tellable (shown_names xs) (at_names e s) b)
-unfolding told if_tellable
-told-same R n ns e s is [] placed a b h = h
-told-same R n ns e s is (x ∷ xs) placed a b h =
-    let there : Stands (slots_at n e) x.name x.slot e = stands n ns e is x.name x.slot (placed-first ns x xs placed) in
-    let rest : SameBy R (told xs (record { slots = slots_at n e; state = s }) a) (if_tellable (shown_names xs) (at_names e s) b) = told-same R n ns e s is xs (placed-rest ns x xs placed) a b h in
-    let first : Evaluated → Trace Solution = λ (r : Evaluated). within_limit (value (bindings r.state) r.tree) (told xs (record { slots = slots_at n e; state = s }) a) in
-    let second : Valued → Trace Place = λ (r : Valued). within_limit (value (bindings r.state) r.tree) (if_tellable (shown_names xs) (at_names e s) b) in
-    subst (λ (r : Evaluated). SameBy R (first r) (second (valued (ExpTree.var x.name) e s))) (sym (slot-evaluated (slots_at n e) x.name x.slot e s there))
-    (subst (λ (r : Valued). SameBy R (first (record { tree = there.tree; slots = slots_at n e; state = s })) (second r)) (sym (name-evaluated (slots_at n e) x.name x.slot e s there))
-    (limited R (value (bindings s) there.tree) _ _ rest))
-
-answered-same : (l : Level) (n : ℕ) (ns : SlotNames) (xs : List NameSlot) → Placed ns xs → (p : Point) (q : Place) → AtPlace l n ns p q → SameBy (TellSame xs) (answered_with xs p) (telling (shown_names xs) q)
-unfolding TellSame
-answered-same l n ns xs placed _ _ (at_place e s is) =
-    told-same (TellSame xs) n ns e s is xs placed (one (record { slots = slots_at n e; state = s })) (one (at_names e s))
-    (same-one (TellSame xs) _ _ (ap (λ (vs : List NamedTerm). record { values = vs; state = s }) (values-same n ns e s is xs placed)))
-
-told-one : (xs : List NameSlot) (x : Solution) (p : Place) → TellSame xs x p → SameBy Same (one (solution_told xs x)) (one (place_told (shown_names xs) p))
-unfolding TellSame
-told-one xs x p e = subst (λ (t : Told). SameBy Same (one (solution_told xs x)) (one t)) e (same-one Same _ _ (same (solution_told xs x)))
-
--- the goal, and then what waits
-strictly-same : (program : ProgramTree) (goal : ExpTree) → IsSmallQuery program goal → (v : View) (l : Level) (calls : Calling) → SameCalls (heads program) l calls → (n : ℕ) → n ≡ length (slots_after goal []) → (s : State) →
-    SameBy (AtPlace l n (slots_after goal [])) (strictly (meaning (builtins v) (lowered_body goal [])) (at_slots l n [] s)) (then (body_trace v calls goal (at_names [] s)) (draining_first (λ p. one p)))
-unfolding strictly
-strictly-same program goal small v l calls is n here s =
-    same-then (AtPlace l n (slots_after goal [])) (AtPlace l n (slots_after goal [])) (meaning (builtins v) (lowered_body goal []) (at_slots l n [] s)) (body_trace v calls goal (at_names [] s)) (draining (λ q. one q)) (draining_first (λ p. one p))
-    (same-body (heads program) v l calls is goal small n [] (omega (arith, here)) [] s refl)
-    (waits l n (slots_after goal []) is.drains)
-  where
-    waits : (l : Level) (n : ℕ) (ns : SlotNames) → ((s : State) → (Rattle.pi_meaning.specs.Level.calls_at l).drained s ≡ Rattle.pi_meaning.specs.Drain.drained s) → (p : Point) (q : Place) → AtPlace l n ns p q →
-        SameBy (AtPlace l n ns) (draining (λ q. one q) p) (draining_first (λ p. one p) q)
-    waits l n ns drains _ _ (at_place e s is) = same-drained (AtPlace l n ns) l n e s (λ q. one q) (λ p. one p) drains (λ s. same-one (AtPlace l n ns) _ _ (at_place e s is))
-
--- the core query with its parts
-core-trace : (v : View) (preds : List PredTree) (goal : ExpTree) (d : ℕ) (s : State) →
-    query_from (builtins v) preds (lowered_query goal) d s
-    ≡ then (strictly (meaning (builtins v) (lowered_body goal [])) (at_slots (level_at (builtins v) preds d) (length (slots_after goal [])) [] s)) (answered_with (name_slots 0 (slots_after goal [])))
-unfolding query_from
-core-trace v preds goal d s =
-    let n : ℕ = length (slots_after goal []) in
-    let from : List PredTree → Places → Trace Solution = λ (ps : List PredTree) (slots : Places). then (strictly (meaning (builtins v) (lowered_body goal [])) (record { level = level_at (builtins v) ps d; slots = slots; state = s })) (answered_with (name_slots 0 (slots_after goal []))) in
-    ap (λ ps. from ps (replicate n None)) (append-nil preds) ∙ ap (from preds) (sym (all-empty n))
-
--- where calls do the same, so does a goal
-pub goal-keeps-the-trace : (program : ProgramTree) (goal : ExpTree) (preds : List PredTree) → CallsAsSurface program preds → IsSmallQuery program goal → MeansAsSurface program goal preds (lowered_query goal)
-unfolding surface_from
-goal-keeps-the-trace program goal preds kept asked v d s =
-    let ns : SlotNames = slots_after goal [] in
-    let n : ℕ = length ns in
-    let xs : List NameSlot = name_slots 0 ns in
-    let l : Level = level_at (builtins v) preds d in
-    let calls : Calling = called_at v program d in
-    let core : Trace Point = strictly (meaning (builtins v) (lowered_body goal [])) (at_slots l n [] s) in
-    let names : Trace Place = then (body_trace v calls goal (at_names [] s)) (draining_first (λ p. one p)) in
-    ap (told_trace (solution_told xs)) (core-trace v preds goal d s)
-    ∙ same-equal _ _ (same-then (TellSame xs) Same (then core (answered_with xs)) (then names (telling (shown_names xs))) (λ x. one (solution_told xs x)) (λ p. one (place_told (shown_names xs) p))
-    (same-then (AtPlace l n ns) (TellSame xs) core names (answered_with xs) (telling (shown_names xs)) (strictly-same program goal asked v l calls (same-calls program preds kept v d) n refl s) (answered-same l n ns xs (goal-placed goal)))
-    (told-one xs))
-    ∙ ap (λ (told : List (List ℕ)). told_trace (place_told told) (then names (telling told))) (sym (told-names goal))
+pub query-kept : GoalsAreTheSame → LoweredProgramsArePlain → LoweredQueriesAreSound → (program : ProgramTree) (goal : ExpTree) (preds : List PredTree) → IsWithin program → unbuilt_part program ≡ None →
+    IsAsked program goal → is_built_goal goal ≡ true → IsLoweredProgram program preds → IsLowered program goal preds (lowered_query goal)
+query-kept goals plain sound program goal preds within built asked built_goal kept =
+    let asks : Asks preds goal = query-asks plain sound program goal preds within built asked built_goal kept in
+    let means : MeansTheSame program goal preds (lowered_query goal) = query-means goals program goal preds built asked built_goal kept asks.closed in
+    record {
+      sound = asks.sound;
+      plain = plain-with goal preds kept.plain;
+      closed = asks.closed;
+      means = means;
+      runs = same-meaning-runs-the-same program goal preds (lowered_query goal) means;
+    }

@@ -1,132 +1,119 @@
-//! Bodies and goals.
-ghost use Rattle.std.specs.Prelude.{◌≡◌, true, IfOk};
+//! Bodies, conditions and heads: what clauses are made of.
+ghost use Rattle.std.specs.Prelude.{◌≡◌, ◌++◌, option_map, IfOk};
 ghost use Rattle.pi_syntax.specs.ExpTree.{exp_tree};
-ghost use Rattle.pi_core.specs.GoalTree.{goals_of};
-ghost use Rattle.pi_rewrite.specs.Lowered.{SlotNames, slots_after, slots_after_all, lowered_term, lowered_terms, lowered_atom as atom_lowered, lowered_goal, lowered_goals, lowered_body};
-ghost use Rattle.pi_rewrite.specs.Built.{IsSlots};
-ghost use Rattle.pi_rewrite.specs.Unbuilt.{is_built_term, are_built_terms, is_built_goal, are_built_goals, is_built_body};
-ghost use Rattle.pi_syntax.specs.ExpLists.{exps_of};
+ghost use Rattle.pi_core.specs.CoreTree.{pattern_trees};
+ghost use Rattle.pi_meaning.specs.WrittenRules.{head_arguments};
+ghost use Rattle.pi_lowered.specs.Values.{slot_patterns as patterns_of};
+ghost use Rattle.pi_lowered.specs.Goals.{in_turn as turn_of, goal_of};
+ghost use Rattle.pi_lowered.specs.Lowered.{as_guard as guard_as, goals_or_none, guard_of, is_truth as is_truth_tree};
+ghost use Rattle.pi_rewrite.specs.Built.{is_true_node};
 
-use crate::slots::Slots;
-use pi_core::CoreGoal;
-use pi_syntax::{Exp, Exps};
-use pi_terms::Term;
+use pi_core::{CoreGoal, GoalNode, Patterns};
+use pi_lowering::{in_turn, lower_goal};
+use pi_slots::{Slots, slot_patterns};
+use pi_syntax::Exp;
 use std::alloc::{AllocError, Global};
 
-/// The goal that a body is: that of its one goal, or its goals one after the other.
-#[tactic(auto, unfolding(pi_syntax::specs::ExpTree::exp_tree))]
+/// The patterns of a head's arguments.
+#[tactic(auto, unfolding(pi_syntax::specs::ExpTree::exp_tree, pi_core::specs::CoreTree::pattern_trees, pi_lowered::specs::Values::slot_patterns))]
+pub(crate) fn lower_head<'a>(
+    alloc: Global,
+    head: &'a Exp,
+    slots: &mut Slots<'a>,
+) -> Result<Patterns, AllocError>
+    ensures are { IfOk result (λ made. pattern_trees made.items ≡ (patterns_of (head_arguments (exp_tree head.now)) slots.old).forms) }
+    ensures slots { IfOk result (λ _. slots.new ≡ (patterns_of (head_arguments (exp_tree head.now)) slots.old).names) }
+{
+    match head {
+        Exp::Call(_, args) => {
+            let made = slot_patterns(alloc, args.as_slice(), slots)?;
+            Ok(made)
+        }
+        _ => Ok(Patterns::new(alloc)),
+    }
+}
+
+/// The goal that a body is, where the head fills the first `filled` slots.
 pub(crate) fn lower_body<'a>(
     alloc: Global,
+    filled: u32,
     body: &'a Exp,
     slots: &mut Slots<'a>,
 ) -> Result<CoreGoal, AllocError>
-    requires { is_built_body (exp_tree body.now) ≡ true }
-    ensures is { IfOk result (λ made. (ns : SlotNames) → IsSlots slots.old ns → made ≡ lowered_body (exp_tree body.now) ns) }
-    ensures slots { IfOk result (λ _. (ns : SlotNames) → IsSlots slots.old ns → IsSlots slots.new (slots_after (exp_tree body.now) ns)) }
+    ensures is { IfOk result (λ made. made ≡ turn_of (goal_of filled (exp_tree body.now) slots.old).goals) }
+    ensures slots { IfOk result (λ _. slots.new ≡ (goal_of filled (exp_tree body.now) slots.old).names) }
 {
-    match body {
-        Exp::And(goals) => {
-            let lowered = lower_goals(alloc, goals, slots)?;
-            let made = CoreGoal::seq(alloc, &lowered)?;
-            Ok(made)
-        }
-        _ => {
-            let made = lower_goal(alloc, body, slots)?;
-            Ok(made)
-        }
-    }
+    let mut goals = Vec::new(alloc);
+    lower_goal(alloc, filled, body, slots, &mut goals)?;
+    let made = in_turn(alloc, goals)?;
+    Ok(made)
 }
 
-/// Goals of a body, in order.
-fn lower_goals<'a>(
+/// The condition of a clause; `truth` where there is none.
+pub(crate) fn lower_guard<'a>(
     alloc: Global,
-    goals: &'a Exps,
-    slots: &mut Slots<'a>,
-) -> Result<Vec<CoreGoal>, AllocError>
-    requires { are_built_goals (exps_of goals.now.items) ≡ true }
-    ensures are { IfOk result (λ made. (ns : SlotNames) → IsSlots slots.old ns → goals_of made.items ≡ lowered_goals (exps_of goals.now.items) ns) }
-    ensures slots { IfOk result (λ _. (ns : SlotNames) → IsSlots slots.old ns → IsSlots slots.new (slots_after_all (exps_of goals.now.items) ns)) }
-{
-    let mut lowered = Vec::new(alloc);
-    for goal in goals {
-        lowered.push(lower_goal(alloc, goal, slots)?)?;
-    }
-    Ok(lowered)
-}
-
-#[tactic(auto, unfolding(pi_syntax::specs::ExpTree::exp_tree))]
-fn lower_goal<'a>(
-    alloc: Global,
-    goal: &'a Exp,
+    filled: u32,
+    cond: &'a Option<Exp>,
     slots: &mut Slots<'a>,
 ) -> Result<CoreGoal, AllocError>
-    requires { is_built_goal (exp_tree goal.now) ≡ true }
-    ensures is { IfOk result (λ made. (ns : SlotNames) → IsSlots slots.old ns → made ≡ lowered_goal (exp_tree goal.now) ns) }
-    ensures slots { IfOk result (λ _. (ns : SlotNames) → IsSlots slots.old ns → IsSlots slots.new (slots_after (exp_tree goal.now) ns)) }
+    ensures is { IfOk result (λ made. made ≡ guard_of (option_map exp_tree cond.now) (goals_or_none filled (option_map exp_tree cond.now) slots.old)) }
+    ensures slots { IfOk result (λ _. slots.new ≡ (goals_or_none filled (option_map exp_tree cond.now) slots.old).names) }
 {
-    match goal {
-        Exp::Atom(name) => {
-            let made = lower_atom(alloc, name.as_str())?;
+    match cond {
+        None => {
+            let made = CoreGoal::truth(alloc)?;
             Ok(made)
         }
-        Exp::Call(name, args) => {
-            let terms = lower_args(alloc, args, slots)?;
-            let made = CoreGoal::call(alloc, name.as_str(), &terms)?;
+        Some(cond) => {
+            let goal = lower_body(alloc, filled, cond, slots)?;
+            let made = as_guard(alloc, goal)?;
             Ok(made)
         }
-        _ => unreachable!(),
     }
 }
 
-/// `true`, `fail` or the call of a predicate without arguments.
-fn lower_atom(alloc: Global, name: &str) -> Result<CoreGoal, AllocError>
-    ensures { IfOk result (λ made. made ≡ atom_lowered name.now) }
+/// The goal as a condition: `truth` alone would stand for none.
+fn as_guard(alloc: Global, goal: CoreGoal) -> Result<CoreGoal, AllocError>
+    ensures { IfOk result (λ made. made ≡ guard_as goal) }
 {
-    if name == "true" {
-        return CoreGoal::truth(alloc);
+    if !is_truth(&goal) {
+        return Ok(goal);
     }
-    if name == "fail" {
-        return CoreGoal::fail(alloc);
-    }
-    CoreGoal::call(alloc, name, &[])
+    let mut goals = Vec::new(alloc);
+    goals.push(goal)?;
+    let made = CoreGoal::seq(alloc, goals.as_slice())?;
+    Ok(made)
 }
 
-fn lower_args<'a>(
+/// Whether a goal is `truth`.
+fn is_truth(goal: &CoreGoal) -> bool
+    ensures { result ≡ is_truth_tree goal.now }
+{
+    is_true_node(goal.node(0))
+}
+
+fn is_true_node(node: GoalNode<'_>) -> bool
+    ensures { result ≡ is_true_node node.entry }
+{
+    matches!(node, GoalNode::True)
+}
+
+/// Goals that may be left out, behind those that stand before them.
+pub(crate) fn lower_goal_or_none<'a>(
     alloc: Global,
-    args: &'a Exps,
+    filled: u32,
+    body: &'a Option<Exp>,
     slots: &mut Slots<'a>,
-) -> Result<Vec<Term>, AllocError>
-    requires { are_built_terms (exps_of args.now.items) ≡ true }
-    ensures are { IfOk result (λ made. (ns : SlotNames) → IsSlots slots.old ns → made.items ≡ lowered_terms (exps_of args.now.items) ns) }
-    ensures slots { IfOk result (λ _. (ns : SlotNames) → IsSlots slots.old ns → IsSlots slots.new (slots_after_all (exps_of args.now.items) ns)) }
+    goals: &mut Vec<CoreGoal>,
+) -> Result<(), AllocError>
+    ensures goals { IfOk result (λ _. goals.new.items ≡ goals.old.items ++ (goals_or_none filled (option_map exp_tree body.now) slots.old).goals) }
+    ensures slots { IfOk result (λ _. slots.new ≡ (goals_or_none filled (option_map exp_tree body.now) slots.old).names) }
 {
-    let mut terms = Vec::new(alloc);
-    for arg in args {
-        terms.push(lower_term(alloc, arg, slots)?)?;
-    }
-    Ok(terms)
-}
-
-#[tactic(auto, unfolding(pi_syntax::specs::ExpTree::exp_tree, crate::specs::Lowered::slots_after))]
-fn lower_term<'a>(alloc: Global, term: &'a Exp, slots: &mut Slots<'a>) -> Result<Term, AllocError>
-    requires { is_built_term (exp_tree term.now) ≡ true }
-    ensures is { IfOk result (λ made. (ns : SlotNames) → IsSlots slots.old ns → made ≡ lowered_term (exp_tree term.now) ns) }
-    ensures slots { IfOk result (λ _. (ns : SlotNames) → IsSlots slots.old ns → IsSlots slots.new (slots_after (exp_tree term.now) ns)) }
-{
-    match term {
-        Exp::Var(name) => {
-            let slot = slots.slot_of(name.as_str())?;
-            let made = Term::var(alloc, u64::from(slot))?;
-            Ok(made)
+    match body {
+        None => Ok(()),
+        Some(body) => {
+            lower_goal(alloc, filled, body, slots, goals)?;
+            Ok(())
         }
-        Exp::Int(value) => {
-            let made = Term::int(alloc, *value)?;
-            Ok(made)
-        }
-        Exp::Atom(name) => {
-            let made = Term::atom(alloc, name.as_str())?;
-            Ok(made)
-        }
-        _ => unreachable!(),
     }
 }

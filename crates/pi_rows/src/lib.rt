@@ -8,9 +8,13 @@ mod orders;
 #[cfg(test)]
 mod output;
 #[cfg(test)]
+mod programs;
+#[cfg(test)]
 mod row;
 #[cfg(test)]
 mod small;
+#[cfg(test)]
+mod terms;
 #[cfg(test)]
 mod text;
 #[cfg(test)]
@@ -21,14 +25,14 @@ mod tests {
     use crate::faulty::FAULTY;
     use crate::orders::ORDERS;
     use crate::row::{OPEN, Row, USAGE};
-    use crate::{output, small, text, words};
+    use crate::{output, programs, small, terms, text, words};
     use pi_outside::{MemoryFiles, MemorySink, SureSource};
     use pi_top::picatq;
     use std::alloc::Global;
     use std::test::Fail;
 
     /// Which read and which write fail, by their numbers from 1 on; 0 is none.
-    #[derive(Clone, Copy, Debug)]
+    #[derive(Clone, Copy)]
     struct Failing {
         read: u64,
         write: u64,
@@ -44,6 +48,16 @@ mod tests {
         }
         let words = words.as_slice();
         comes_to(alloc, row.program, words, row.output, row.status, failing)
+    }
+
+    /// Fails at the first row that isn't right.
+    fn are_right(alloc: Global, rows: &[Row<'_>], failing: Failing) -> Result<(), Fail> {
+        for row in rows {
+            if !is_right(alloc, row, failing)? {
+                return Err(Fail::new(format_args!("{:?} {:?}", row.program, row.words)));
+            }
+        }
+        Ok(())
     }
 
     /// Whether a run of a program with these words writes this output and ends with this status.
@@ -63,7 +77,7 @@ mod tests {
             files.fail_at(failing.read)?;
         }
         let mut input = SureSource::new(alloc, b"", 1)?;
-        let mut out = MemorySink::new(alloc, 1_000)?;
+        let mut out = MemorySink::new(alloc, 4_000)?;
         if failing.write > 0 {
             out.fail_at(failing.write)?;
         }
@@ -73,35 +87,31 @@ mod tests {
 
     #[test]
     fn small_rows(rt: HostRuntime) -> Result<(), Fail> {
-        for row in &small::ROWS {
-            let right = is_right(rt.alloc(), row, NOTHING)?;
-            assert!(rt; right, "{:?} {:?}", row.program, row.words);
-        }
-        Ok(())
+        are_right(rt.alloc(), &small::ROWS, NOTHING)
     }
 
     #[test]
     fn text_rows(rt: HostRuntime) -> Result<(), Fail> {
-        for row in &text::ROWS {
-            let right = is_right(rt.alloc(), row, NOTHING)?;
-            assert!(rt; right, "{:?} {:?}", row.program, row.words);
-        }
-        Ok(())
+        are_right(rt.alloc(), &text::ROWS, NOTHING)
+    }
+
+    #[test]
+    fn rows_of_terms(rt: HostRuntime) -> Result<(), Fail> {
+        are_right(rt.alloc(), &terms::ROWS, NOTHING)
+    }
+
+    #[test]
+    fn rows_of_programs(rt: HostRuntime) -> Result<(), Fail> {
+        are_right(rt.alloc(), &programs::ROWS, NOTHING)
     }
 
     #[test]
     fn rows_of_output(rt: HostRuntime) -> Result<(), Fail> {
-        for row in &output::ROWS {
-            let right = is_right(rt.alloc(), row, NOTHING)?;
-            assert!(rt; right, "{:?} {:?}", row.program, row.words);
-        }
-        Ok(())
+        are_right(rt.alloc(), &output::ROWS, NOTHING)
     }
 
-    /// The goal `X = ` with so many signs, and the line that it writes.
-    static NESTED: [(&str, usize, &str); 3] = [
-        // 1,000 levels are read, and a list isn't built yet.
-        ("[", 998, "goal: NotBuilt 1\n"),
+    /// The goal `X = ` with so many signs, too many to be read, and the line that it writes.
+    static NESTED: [(&str, usize, &str); 2] = [
         ("[", 999, "goal: TooDeep 1\n"),
         // Crowded tokens are too deep, whatever else they hold.
         ("(", 1_001, "goal: TooDeep 1\n"),
@@ -135,12 +145,28 @@ mod tests {
     }
 
     #[test]
-    fn rows_of_words(rt: HostRuntime) -> Result<(), Fail> {
-        for row in &words::ROWS {
-            let right = is_right(rt.alloc(), row, NOTHING)?;
-            assert!(rt; right, "{:?} {:?}", row.program, row.words);
-        }
+    fn most_brackets(rt: HostRuntime) -> Result<(), Fail> {
+        let goal = nested(rt.alloc(), "[", 998)?;
+        let mut output = String::from_str(rt.alloc(), goal.as_str())?;
+        output.push_str("\nyes\nno more\n")?;
+        let mut words = Vec::new(rt.alloc());
+        words.push(String::from_str(rt.alloc(), "FILE")?)?;
+        words.push(goal)?;
+        let right = comes_to(
+            rt.alloc(),
+            Some(""),
+            words.as_slice(),
+            output.as_str(),
+            0,
+            NOTHING,
+        )?;
+        assert!(rt; right, "998");
         Ok(())
+    }
+
+    #[test]
+    fn rows_of_words(rt: HostRuntime) -> Result<(), Fail> {
+        are_right(rt.alloc(), &words::ROWS, NOTHING)
     }
 
     #[test]
@@ -152,7 +178,7 @@ mod tests {
                 output: USAGE,
                 status: 2,
             };
-            assert!(rt; is_right(rt.alloc(), &row, NOTHING)?, "{:?}", words);
+            are_right(rt.alloc(), &[row], NOTHING)?;
         }
         Ok(())
     }
@@ -167,7 +193,7 @@ mod tests {
                 output: "X = 1\nyes\nstopped\n",
                 status: 0,
             };
-            assert!(rt; is_right(rt.alloc(), &row, NOTHING)?, "{:?}", line);
+            are_right(rt.alloc(), &[row], NOTHING)?;
         }
         Ok(())
     }
@@ -190,11 +216,7 @@ mod tests {
                 output,
                 status: 8,
             };
-            assert!(rt;
-                is_right(rt.alloc(), &row, Failing { read: 0, write })?,
-                "{:?}",
-                write
-            );
+            are_right(rt.alloc(), &[row], Failing { read: 0, write })?;
         }
         Ok(())
     }
@@ -217,11 +239,7 @@ mod tests {
                 output,
                 status: 8,
             };
-            assert!(rt;
-                is_right(rt.alloc(), &row, Failing { read: 0, write })?,
-                "{:?}",
-                write
-            );
+            are_right(rt.alloc(), &[row], Failing { read: 0, write })?;
         }
         Ok(())
     }
@@ -242,11 +260,7 @@ mod tests {
                 output,
                 status,
             };
-            assert!(rt;
-                is_right(rt.alloc(), &row, Failing { read, write: 0 })?,
-                "{:?}",
-                read
-            );
+            are_right(rt.alloc(), &[row], Failing { read, write: 0 })?;
         }
         Ok(())
     }
@@ -287,10 +301,6 @@ mod tests {
 
     #[test]
     fn the_write_of_a_fault_line_fails(rt: HostRuntime) -> Result<(), Fail> {
-        for row in &FIRST_LINES {
-            let right = is_right(rt.alloc(), row, Failing { read: 0, write: 1 })?;
-            assert!(rt; right, "{:?} {:?}", row.program, row.words);
-        }
-        Ok(())
+        are_right(rt.alloc(), &FIRST_LINES, Failing { read: 0, write: 1 })
     }
 }

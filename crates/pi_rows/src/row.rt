@@ -1,6 +1,6 @@
 //! A run as a row of a table.
 /// A run: the program's text (none: the file is absent), the words, the bytes that are written, and the status.
-#[derive(Clone, Copy, Debug)]
+#[derive(Clone, Copy)]
 pub struct Row<'a> {
     pub program: Option<&'a str>,
     pub words: &'a [&'a str],

@@ -1,7 +1,7 @@
-//! Runs of the small language.
+//! Runs of rules over variables, integers and atoms.
 use crate::row::{OPEN, Row};
 
-/// Runs of the small language.
+/// Runs of rules over variables, integers and atoms.
 pub static ROWS: [Row<'static>; 12] = [
     // A backtrackable rule leaves the later ones as alternatives, a committed one doesn't.
     Row {

@@ -260,21 +260,21 @@ pub static ROWS: [Row<'static>; 46] = [
         status: 3,
     },
     Row {
-        program: Some("p(X), X > 1 => true."),
-        words: &["FILE", "p(2)"],
-        output: "program: NotBuilt 1\n",
-        status: 3,
-    },
-    Row {
-        program: Some("f(X) = X."),
+        program: Some("p(X), {ins(X)} => true."),
         words: &["FILE", "true"],
         output: "program: NotBuilt 1\n",
         status: 3,
     },
     Row {
-        program: Some("p(f(X)) => true."),
+        program: Some("p(\"ab\") => true."),
         words: &["FILE", "true"],
         output: "program: NotBuilt 1\n",
+        status: 3,
+    },
+    Row {
+        program: Some(""),
+        words: &["FILE", "X :: 1..2"],
+        output: "goal: NotBuilt 1\n",
         status: 3,
     },
     Row {
@@ -285,7 +285,7 @@ pub static ROWS: [Row<'static>; 46] = [
     },
     Row {
         program: Some("p => true."),
-        words: &["FILE", "p, X = [1]"],
+        words: &["FILE", "p, L = [X : X in 1..2]"],
         output: "goal: NotBuilt 1\n",
         status: 3,
     },

@@ -74,7 +74,7 @@ text-ran asked text goal program q old new (Ok status) writes none is (not_asked
 text-ran asked text goal program q old new (Ok status) writes none is (was_asked has) =
     widens writes (λ texts comes. ran is.source is.asked is.asks comes)
     (has-ran asked.answers asked.steps has.ticks is.source is.asked new status writes (rw none at has.listed)
-    (ends-over-names asked.answers asked.steps is.source is.asked program q has.ticks status writes is.runs has.comes))
+    (ends-over-names asked.answers asked.steps is.source is.asked program q has.ticks status writes is.lowered.runs has.comes))
 text-ran asked text goal program q old new (Err stop) writes none is (not_asked memory listed nothing) =
     let want : stop ≡ Memory = cc in
     cut.nothing (record { memory = rw want refl; none_asked = listed ∙ none; nothing = nothing })
@@ -82,7 +82,7 @@ text-ran asked text goal program q old new (Err stop) writes none is (was_asked 
   ticks = has.ticks;
   listed = rw none at has.listed;
   within = has.within;
-  cut = cut-over-names asked.answers asked.steps is.source is.asked program q has.ticks (status_of_stop stop) writes is.runs has.comes;
+  cut = cut-over-names asked.answers asked.steps is.source is.asked program q has.ticks (status_of_stop stop) writes is.lowered.runs has.comes;
 })
 
 -- ---- in the mode `query`

@@ -1,24 +1,23 @@
 -- No predicate of a program without a fault has a name that means something else.
-use Rattle.std.proofs.Common.{◌≡◌, ℕ, ◌==◌, ◌&&◌, ◌||◌, not, Bool, true, false, if◌then◌else◌, List, [], ◌∷◌, ◌++◌, map, Option, Some, None, refl, ap, sym, subst, arith}
+use Rattle.std.proofs.Common.{◌≡◌, ℕ, zero, suc, ◌==◌, ◌&&◌, ◌||◌, not, Bool, true, false, List, [], ◌∷◌, map, Option, Some, None, refl, sym, subst, arith}
 use Rattle.std.specs.Prelude.{is_some, codes}
 use Rattle.std.specs.Str.{bytes_eq}
-use Rattle.std.proofs.lemmas.Bool.{and_parts, or_parts, not-true, false_from_ne_true, eqb-true}
+use Rattle.std.proofs.lemmas.Bool.{and_parts, not-true, false_from_ne_true, eqb-true}
 use Rattle.pi_syntax.specs.ExpTree.{ExpTree, atom, call}
 use Rattle.pi_syntax.specs.ProgramTree.{WrittenClause, rule, function, fact, ProgramTree}
 use Rattle.pi_syntax.specs.Signature.{Signature, signature, exp_count}
 use Rattle.pi_syntax.specs.Tokens.{Token}
-use Rattle.pi_meaning.specs.Small.{defined_by, heads}
+use Rattle.pi_meaning.specs.Small.{defined_by, heads, Defines}
 use Rattle.pi_lib.specs.Forms.{is_form}
 use Rattle.pi_lib.specs.Names.{kind_of}
 use Rattle.pi_clauses.specs.Calls.{Named}
-use Rattle.pi_clauses.specs.Items.{head_of, is_head, has_bad_head}
+use Rattle.pi_clauses.specs.Items.{head_of, is_head}
 use Rattle.pi_clauses.specs.Operators.{is_goal_sign, is_relation, is_reified, is_membership, is_operator}
-use Rattle.pi_clauses.specs.Reading.{Reading, too_deep, misdeclared_part, no_clause, imports_part, written, WrittenPart}
-use Rattle.pi_clauses.specs.Verdict.{PartFault, Faulty, Unknown, Verdict, a_program, part_is_faulty, is_scattered, is_unknown, JudgedPart, libraries, one_clause, judged_clause, judged, clause_in, is_built_in, is_built_in_signature, declares_badly, is_bad_clause, clause_fault, part_fault, faulty_or, first_faulty, first_apart, first_unknown_in, all_defined, parts_of, verdict_by, verdict, HasVerdict}
+use Rattle.pi_clauses.specs.Verdict.{a_program, JudgedPart, refused, libraries, one_clause, judged, is_built_in_signature, all_defined, parts_of, HasVerdict}
 use Rattle.pi_names.specs.NameLaws.{is_taken, HeadsAreFree}
 use Rattle.pi_names.proofs.TableLemmas.{same-name, one-of}
 use Rattle.pi_names.proofs.BuiltInNames.{other-names-are_free}
-use Rattle.pi_rewrite.proofs.FreeHeads.{one-more}
+use Rattle.pi_faultless.proofs.FaultlessParts.{AreGood, IsFaultless, faultless}
 
 -- ---- forms are signs of the grammar
 
@@ -69,60 +68,20 @@ clause-free (fact head) good own s e = absurd cc
 
 -- ---- parts
 
-no-fault : {X : Type 0} (a b c : Bool) (x y z : X) → (if a then Some x else if b then Some y else if c then Some z else None) ≡ None → b ≡ false
-no-fault true b c x y z h = absurd cc
-no-fault false true c x y z h = absurd cc
-no-fault false false c x y z h = refl
+one-more : (x : Option Signature) (xs : List (Option Signature)) → ((s : Signature) → x ≡ Some s → is_taken s.name s.arity ≡ false) →
+    ((name : List ℕ) (k : ℕ) → Defines xs name k → is_taken name k ≡ false) → (name : List ℕ) (k : ℕ) → Defines (x ∷ xs) name k → is_taken name k ≡ false
+one-more x xs here rest name k (zero, below, is) = here (record { name = name; arity = k }) is
+one-more x xs here rest name k (suc i, below, is) = rest name k (i, omega (arith, below), is)
 
-none-faulty : (o : Option PartFault) (number : ℕ) (later : Option Faulty) → faulty_or o number later ≡ None → (o ≡ None) × (later ≡ None)
-none-faulty None number later h = (refl, h)
-none-faulty (Some fault) number later h = absurd cc
-
-good-head : (c : WrittenClause) → has_bad_head c ≡ false → is_head (head_of c) ≡ true
-unfolding has_bad_head
-good-head c h = is-good (is_head (head_of c)) _ h
-  where
-    is-good : (a b : Bool) → (not a || b) ≡ false → a ≡ true
-    is-good true b h = refl
-    is-good false b h = absurd cc
-
-written-free : (all : List Named) (before : List JudgedPart) (w : WrittenPart) → clause_fault all before (judged_clause w) ≡ None → (s : Signature) → defined_by (Some (clause_in w)) ≡ Some s → is_taken s.name s.arity ≡ false
-written-free all before w none =
-    let bad : is_bad_clause all before (judged_clause w) ≡ false = no-fault (declares_badly (all_defined before) (judged_clause w)) (is_bad_clause all before (judged_clause w)) _ _ _ _ none in
-    let parts = or_parts _ _ bad in
-    let heads_good = or_parts (has_bad_head (clause_in w)) _ (or_parts _ _ parts.0).1 in
-    let own = or_parts (is_built_in (judged_clause w)) _ (or_parts _ _ parts.1).0 in
-    clause-free (clause_in w) (good-head (clause_in w) heads_good.0) own.0
-
-parts-free : (all : List Named) (before : List JudgedPart) (rs : List Reading) → first_faulty all before (map judged rs) ≡ None → HeadsAreFree (parts_of (map judged rs))
-parts-free all before [] none = λ name k known. absurd (omega (arith, known.1))
-parts-free all before (too_deep ∷ rs) none = absurd cc
-parts-free all before (misdeclared_part ∷ rs) none = absurd cc
-parts-free all before (no_clause ∷ rs) none = absurd cc
-parts-free all before (imports_part names ∷ rs) none =
-    one-more None (heads (parts_of (map judged rs))) (λ s e. absurd cc) (parts-free all (before ++ libraries names ∷ []) rs none)
-parts-free all before (written w ∷ rs) none =
-    let both = none-faulty (part_fault all before (one_clause (judged_clause w))) _ (first_faulty all (before ++ one_clause (judged_clause w) ∷ []) (map judged rs)) none in
-    one-more (defined_by (Some (clause_in w))) (heads (parts_of (map judged rs))) (written-free all before w both.0) (parts-free all (before ++ one_clause (judged_clause w) ∷ []) rs both.1)
-
--- ---- the verdict
-
-program_in : Verdict → ProgramTree
-program_in (a_program p) = p
-program_in (part_is_faulty f) = []
-program_in (is_scattered d) = []
-program_in (is_unknown u) = []
-
-by-first : (p : ProgramTree) (js : List JudgedPart) (f : Option Faulty) (d : Option Named) (u : Option Unknown) → a_program p ≡ verdict_by js f d u → (f ≡ None) × (p ≡ parts_of js)
-unfolding program_in
-by-first p js (Some f) d u e = absurd (cc)
-by-first p js None (Some d) u e = absurd (cc)
-by-first p js None None (Some u) e = absurd (cc)
-by-first p js None None None e = (refl, ap program_in e)
+parts-free : (all : List Named) (js : List JudgedPart) → AreGood all js → HeadsAreFree (parts_of js)
+parts-free all [] good = λ name k known. absurd (omega (arith, known.1))
+parts-free all (refused fault ∷ js) good = absurd good
+parts-free all (libraries names ∷ js) good = one-more None (heads (parts_of js)) (λ s e. absurd cc) (parts-free all js good)
+parts-free all (one_clause j ∷ js) good =
+    one-more (defined_by (Some j.clause)) (heads (parts_of js)) (clause-free j.clause good.0.head good.0.own) (parts-free all js good.1)
 
 pub faultless-heads-are-free : (tokens : List Token) (program : ProgramTree) → HasVerdict tokens (a_program program) → HeadsAreFree program
-unfolding verdict
 faultless-heads-are-free tokens program has =
     let js : List JudgedPart = map judged has.readings in
-    let both = by-first program js (first_faulty (all_defined js) [] js) (first_apart [] (all_defined js)) (first_unknown_in (all_defined js) 0 js) has.is in
-    subst HeadsAreFree (sym both.1) (parts-free (all_defined js) [] has.readings both.0)
+    let is : IsFaultless program js = faultless tokens program has in
+    subst HeadsAreFree (sym is.parts) (parts-free (all_defined js) js is.good)

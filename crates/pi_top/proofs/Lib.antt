@@ -1,9 +1,6 @@
 pub mod AskedAnswers
 pub mod AskedTexts
 pub mod Asking
-pub mod BuiltGoals
-pub mod BuiltPrograms
-pub mod BuiltQueries
 pub mod Completing
 pub mod EndStatuses
 pub mod EndingLemmas
@@ -13,11 +10,9 @@ pub mod FaultlessHeads
 pub mod FileReads
 pub mod Fronts
 pub mod HandedTexts
-pub mod Imports
 pub mod Judging
 pub mod Modes
 pub mod OverNames
-pub mod OwnNames
 pub mod QueryRuns
 pub mod Refusing
 pub mod Runnable

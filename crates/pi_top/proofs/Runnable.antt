@@ -1,4 +1,4 @@
--- What a program and a goal of the small language are lowered to is what the machine runs.
+-- What a program and a goal are lowered to is what the machine runs.
 use Rattle.std.proofs.Common.{◌≡◌, ℕ, List, [], ◌∷◌, ◌++◌}
 use Rattle.std.specs.Prelude.{All}
 use Rattle.std.proofs.lemmas.List.Elements.{All-head, All-tail}
@@ -6,8 +6,8 @@ use Rattle.pi_core.specs.CoreTree.{ClauseTree, PredTree, QueryTree}
 use Rattle.pi_syntax.specs.ExpTree.{ExpTree}
 use Rattle.pi_syntax.specs.ProgramTree.{ProgramTree}
 use Rattle.pi_machine.specs.Built.{WithoutEvents, AreOfRules, AreCounted, IsRunnable}
-use Rattle.pi_rewrite.specs.Laws.{IsPlain, IsLowered}
-use Rattle.pi_rewrite.specs.Unbuilt.{without_imports}
+use Rattle.pi_sound.specs.Laws.{IsPlain}
+use Rattle.pi_rewrite.specs.Laws.{IsLowered}
 use Rattle.pi_top.specs.JudgedCode.{IsAsked}
 
 without-events : (cs : List ClauseTree) → All (λ (c : ClauseTree). c.watches ≡ []) cs → WithoutEvents cs
@@ -36,4 +36,4 @@ lowered-runnable source asked program q is =
     record { sound = is.sound; calls = is.closed; rules = of-rules (program ++ q.helpers) is.plain; counted = counted (program ++ q.helpers) is.plain }
 
 pub asked-runnable : (text goal : List ℕ) (program : List PredTree) (q : QueryTree) → IsAsked text goal program q → IsRunnable program q
-asked-runnable text goal program q is = lowered-runnable (without_imports is.source) is.asked program q is.lowered
+asked-runnable text goal program q is = lowered-runnable is.source is.asked program q is.lowered

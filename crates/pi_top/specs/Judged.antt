@@ -6,8 +6,8 @@ use Rattle.pi_syntax.specs.ProgramTree.{ProgramTree}
 use Rattle.pi_syntax.specs.Tokens.{Token, Located, Fault, HasTokens, HasFault}
 use Rattle.pi_clauses.specs.GoalVerdict.{GoalVerdict, a_goal, HasGoalVerdict}
 use Rattle.pi_clauses.specs.Verdict.{Verdict, a_program, HasVerdict}
+use Rattle.pi_coverage.specs.Built.{unbuilt_part, is_built_goal}
 use Rattle.pi_top.specs.FaultLines.{token_line, verdict_line, goal_verdict_line, not_built_line, of_program, of_goal}
-use Rattle.pi_rewrite.specs.Unbuilt.{unbuilt_part, is_built_body}
 
 -- the line on what isn't built: the number of the first such part, or the goal
 abbrev pub unbuilt_line_of : Option ℕ → Bool → Option (List ℕ)
@@ -17,7 +17,7 @@ unbuilt_line_of None true = None
 
 -- of a program and a goal without a fault
 abbrev pub unbuilt_line : ProgramTree → ExpTree → Option (List ℕ)
-unbuilt_line program asked = unbuilt_line_of (unbuilt_part program) (is_built_body asked)
+unbuilt_line program asked = unbuilt_line_of (unbuilt_part program) (is_built_goal asked)
 
 -- a text has tokens, of which this holds
 pub record OfTokens (text : List ℕ) (P : List Token → Type 0) : Type 0 where

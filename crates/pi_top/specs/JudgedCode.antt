@@ -4,21 +4,18 @@ use Rattle.std.specs.String.{string_bytes}
 use Rattle.pi_core.specs.CoreTree.{PredTree, QueryTree, program_tree, query_tree}
 use Rattle.pi_syntax.specs.ExpTree.{ExpTree}
 use Rattle.pi_syntax.specs.ProgramTree.{ProgramTree}
-use Rattle.pi_rewrite.specs.Laws.{RunsTheSame, IsLowered}
-use Rattle.pi_rewrite.specs.Unbuilt.{without_imports}
+use Rattle.pi_rewrite.specs.Laws.{IsLowered}
 use Rattle.pi_top.specs.declared.judgement.Judged.{Judged}
 use Rattle.pi_top.specs.declared.judgement.Refusal.{Refusal}
 use Rattle.pi_top.specs.Judged.{IsProgramLine, IsGoalLine, Refused, Asks}
 
 -- What is run of a program's text and a goal's: neither has a fault, all of both is built, and a program and a query of the core
--- language mean over their slots what this program without its `import` parts and this goal do over names. The runs are those of the
--- goal of the whole program.
+-- language mean over their slots what this program, with the prelude in front, and this goal do over names.
 pub record IsAsked (text goal : List ℕ) (program : List PredTree) (q : QueryTree) : Type 0 where
   pub source : ProgramTree
   pub asked : ExpTree
   pub asks : Asks text goal source asked
-  pub lowered : IsLowered (without_imports source) asked program q
-  pub runs : RunsTheSame source asked program q
+  pub lowered : IsLowered source asked program q
 
 -- of two texts
 abbrev pub ShowsJudged : List ℕ → List ℕ → Judged → Type 0

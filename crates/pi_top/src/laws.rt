@@ -1,13 +1,10 @@
 //! Laws of the definitions of what picatq answers.
-ghost use Rattle.std.specs.Prelude.{◌≡◌, ◌≢◌, ℕ, List, None, true};
+ghost use Rattle.std.specs.Prelude.{◌≡◌, ◌≢◌, ℕ, List};
 ghost use Rattle.pi_syntax.specs.ExpTree.{ExpTree};
 ghost use Rattle.pi_syntax.specs.ProgramTree.{ProgramTree};
 ghost use Rattle.pi_syntax.specs.Tokens.{Token};
-ghost use Rattle.pi_clauses.specs.GoalVerdict.{HasGoalVerdict, a_goal};
 ghost use Rattle.pi_clauses.specs.Verdict.{HasVerdict, a_program};
-ghost use Rattle.pi_meaning.specs.Small.{IsSmallProgram, IsSmallQuery};
 ghost use Rattle.pi_names.specs.NameLaws.{HeadsAreFree};
-ghost use Rattle.pi_rewrite.specs.Unbuilt.{unbuilt_part, is_built_body, without_imports};
 ghost use Rattle.pi_answers.specs.declared.log.LogEntry.{LogEntry};
 ghost use Rattle.pi_top.specs.declared.outcome.QueryRun.{QueryRun};
 ghost use Rattle.pi_top.specs.declared.words.Options.{Options};
@@ -48,14 +45,6 @@ pub fn outcomes_are_one()
     one_reading();
     one_verdict();
 }
-
-/// What tokens without a fault write, and what is built of it, is of the small language without its `import` parts: so that what
-/// lowering says of it holds.
-pub fn what_is_built_is_small()
-    ensures program { (tokens : List Token) (program : ProgramTree) → HasVerdict tokens (a_program program) → unbuilt_part program ≡ None → IsSmallProgram (without_imports program) }
-    ensures goal { (tokens : List Token) (program : ProgramTree) (goal : ExpTree) → HasGoalVerdict tokens program (a_goal goal) → unbuilt_part program ≡ None
-        → is_built_body goal ≡ true → IsSmallQuery (without_imports program) goal }
-{}
 
 /// No predicate of a program without a fault has a name that means something else: that of a form of control, of something built in, or
 /// of a predicate of the prelude. So its calls mean what its rules say.

@@ -25,9 +25,10 @@ use pi_core::{CoreProgram, CoreQuery};
 use pi_engine::{Budget, Happening, Machine, Mode};
 use pi_outside::{Failed, Sink};
 use pi_print::{answer_text, term_text};
+use pi_raw_store::RawStore;
+use pi_region::Words;
 use pi_states::StateStore;
 use pi_terms::Term;
-use pi_tree_store::TreeStore;
 use std::alloc::{AllocError, Global};
 
 /// What ends a run without a line of its own.
@@ -68,7 +69,7 @@ pub fn run_query<O: Sink>(
     ensures comes { ByWrites O.wrote O.taken out.old out.new (λ writes. IsRunnable (program_tree core.now) (query_tree query) → 0 < asked.now.answers
         → HasRun asked.now.answers asked.now.steps (program_tree core.now) (query_tree query) queries.old queries.new result writes) }
 {
-    let store = TreeStore::new(alloc)?;
+    let store = RawStore::new(alloc, Words::new(alloc));
     run_over(alloc, core, query, store, asked, out, queries)
 }
 

@@ -1,4 +1,4 @@
-//! Programs and goals of the small language in the core language: `program HEAD => BODY ; HEAD ?=> BODY ..` and
+//! Programs and goals in the core language, without the prelude's predicates: `program HEAD => BODY ; HEAD ?=> BODY ..` and
 //! `goal BODY`.
 
 use crate::expressions::expression_of;
@@ -28,9 +28,24 @@ fn tell_program(case: &mut Case<'_>) {
         }
         case.take_step_end();
     }
+    let before = prelude_preds(case);
     match lower(case.alloc, &Program { parts }) {
-        Ok(core) => tell_preds(core.preds.as_slice(), case),
+        Ok(core) => tell_preds(core.preds.as_slice(), before, case),
         Err(fault) => tell_fault(fault, case),
+    }
+}
+
+/// How many predicates the prelude has, which stand before those of a program.
+fn prelude_preds(case: &mut Case<'_>) -> usize {
+    let none = Program {
+        parts: Parts::new(case.alloc),
+    };
+    match lower(case.alloc, &none) {
+        Ok(core) => core.preds.len(),
+        Err(fault) => {
+            tell_fault(fault, case);
+            0
+        }
     }
 }
 
@@ -53,10 +68,13 @@ fn take_rule(case: &mut Case<'_>) -> Option<Part> {
     })
 }
 
-/// Tells predicates: their names, the numbers of their arguments, and their clauses.
-fn tell_preds(preds: &[CorePred], case: &mut Case<'_>) {
+/// Tells predicates behind so many: their names, the numbers of their arguments, and their clauses.
+fn tell_preds(preds: &[CorePred], before: usize, case: &mut Case<'_>) {
     for (i, pred) in preds.iter().enumerate() {
-        case.tell_between(i, " ; ");
+        if i < before {
+            continue;
+        }
+        case.tell_between(i - before, " ; ");
         case.tell_called(pred.name.as_str(), pred.arity as usize);
         case.tell(":");
         for clause in pred.clauses.as_slice() {

@@ -5,9 +5,10 @@ use crate::goals::goal_of;
 use crate::programs::program_of;
 use pi_cases::{Case, Problem, tell_domains};
 use pi_engine::{Budget, Happening, Kept, Machine, Mode};
+use pi_raw_store::RawStore;
+use pi_region::Words;
 use pi_types::{
-    Answer, CorePreds, CoreProgram, CoreQuery, NameSlot, NameSlots, StateStore, Text, TreeStore,
-    Work,
+    Answer, CorePreds, CoreProgram, CoreQuery, NameSlot, NameSlots, StateStore, Text, Work,
 };
 use std::alloc::{AllocError, Global};
 
@@ -69,10 +70,7 @@ fn run(
     budget: &mut Budget,
     tells_kept: bool,
 ) {
-    let store = TreeStore::new(case.alloc);
-    let Some(store) = case.made(store) else {
-        return;
-    };
+    let store = RawStore::new(case.alloc, Words::new(case.alloc));
     match Machine::new(case.alloc, core, query, store, Mode::Top) {
         Ok(mut machine) => tell_all(case, &mut machine, budget, tells_kept),
         Err(_) => case.fail(Problem::Memory),

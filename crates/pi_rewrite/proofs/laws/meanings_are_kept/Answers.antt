@@ -1,4 +1,4 @@
-use Rattle.pi_rewrite.proofs.LoweredLemmas.{programs-have-core-programs, goals-have-queries}
+use Rattle.pi_rewrite.proofs.LawLemmas.{programs-have-core-programs, goals-have-queries}
 use Rattle.pi_rewrite.proofs.laws.meanings_are_kept.Goals as goal
 
 pub returns-clause-programs : goal.returns-clause-programs

@@ -1,0 +1,12 @@
+use Rattle.std.proofs.Common.{[], sym, ◌∙◌}
+use Rattle.pi_rewrite.proofs.TellLemmas.{told-found, told-more, told-all}
+use Rattle.pi_rewrite.proofs.telling.is_among.Goals as goal
+
+pub returns-then-eq : goal.returns-then-eq
+returns-then-eq c = told-found c.args.name.now c.args.names.now c.loop-k.k (record { ref_ptr = (0, 0); now = [] }) c.loop-k-test.true (sym c.eq.ensures ∙ c.if-eq.true) c.loop-k.invariant
+
+pub loop-k-preserved : goal.loop-k-preserved
+loop-k-preserved c = told-more c.args.name.now c.args.names.now c.loop-k.k (record { ref_ptr = (0, 0); now = [] }) c.loop-k-test.true (sym c.eq.ensures ∙ c.if-eq.false) c.loop-k.invariant
+
+pub returns : goal.returns
+returns c = told-all c.args.name.now c.args.names.now c.loop-k.k c.loop-k-test.false c.loop-k.invariant

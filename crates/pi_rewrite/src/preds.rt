@@ -1,0 +1,174 @@
+//! Parts, and the predicates and functions that their clauses make.
+ghost use Rattle.std.specs.Prelude.{◌≡◌, ◌∷◌, ◌++◌, [], map, List, IfOk};
+ghost use Rattle.std.specs.List.{cons_option};
+ghost use Rattle.pi_syntax.specs.ExpTree.{exp_tree};
+ghost use Rattle.pi_syntax.specs.ProgramTree.{part_tree, source_tree};
+ghost use Rattle.pi_syntax.specs.Signature.{signature as signature_of};
+ghost use Rattle.pi_core.specs.CoreTree.{clause_tree, pred_tree};
+ghost use Rattle.pi_lowered.specs.Lowered.{Lowering, named_by, lowered_clause, lowerings, with_first, with_next, is_clause_of, lowered, lowered_rule, lowered_function};
+ghost use Rattle.pi_rewrite.specs.Built.{lowered_behind, is_clause_named};
+
+use crate::clauses::{lower_function, lower_rule};
+use pi_core::{CoreClause, CoreClauses, CorePred, CorePreds};
+use pi_prelude::read_prelude;
+use pi_syntax::{Clause, Decl, Exp, Part, Program};
+use pi_terms::Text;
+use std::alloc::{AllocError, Global};
+
+/// What a clause is of: a predicate or a function, with its number of arguments.
+#[derive(Drop)]
+struct Named<'a> {
+    name: &'a str,
+    arity: u32,
+    function: bool,
+}
+
+/// The predicates and functions of a program, behind those of the prelude.
+pub(crate) fn lower_program(alloc: Global, program: &Program) -> Result<CorePreds, AllocError>
+    ensures { IfOk result (λ preds. map pred_tree preds ≡ lowered (source_tree program.now)) }
+{
+    let prelude = read_prelude(alloc)?;
+    let mut preds = Vec::new(alloc);
+    lower_parts(alloc, prelude.parts.as_slice(), &mut preds)?;
+    lower_parts(alloc, program.parts.as_slice(), &mut preds)?;
+    Ok(CorePreds::from_vec(preds))
+}
+
+/// Adds the clauses of these parts, in order. A part without a clause, as `import` is, adds none.
+fn lower_parts(alloc: Global, parts: &[Part], preds: &mut Vec<CorePred>) -> Result<(), AllocError>
+    ensures { IfOk result (λ _. (rest : List Lowering) → lowered_behind (map pred_tree preds.old.items) (lowerings (map part_tree parts.now) ++ rest) ≡ lowered_behind (map pred_tree preds.new.items) rest) }
+{
+    for part in parts {
+        lower_part(alloc, part, preds)?;
+    }
+    Ok(())
+}
+
+/// Adds the clause of a part, where it has one.
+fn lower_part(alloc: Global, part: &Part, preds: &mut Vec<CorePred>) -> Result<(), AllocError>
+    ensures { IfOk result (λ _. (rest : List Lowering) → lowered_behind (map pred_tree preds.old.items) (cons_option (lowered_clause (part_tree part.now).clause) rest) ≡ lowered_behind (map pred_tree preds.new.items) rest) }
+{
+    match &part.clause {
+        Some(
+            Clause::Rule {
+                head,
+                cond,
+                back,
+                body,
+                ..
+            },
+        ) => {
+            let clause = lower_rule(alloc, head, cond, *back, body)?;
+            let named = signature(head, false)?;
+            add_clause(alloc, preds, named, clause)?;
+            Ok(())
+        }
+        Some(
+            Clause::Function {
+                head,
+                value,
+                cond,
+                body,
+            },
+        ) => {
+            let clause = lower_function(alloc, head, value, cond, body)?;
+            let named = signature(head, true)?;
+            add_clause(alloc, preds, named, clause)?;
+            Ok(())
+        }
+        Some(Clause::Fact { .. }) => Ok(()),
+        None => Ok(()),
+    }
+}
+
+/// Adds a clause to the last predicate or function where it is one of that, else to a new one.
+fn add_clause(
+    alloc: Global,
+    preds: &mut Vec<CorePred>,
+    named: Named<'_>,
+    clause: CoreClause,
+) -> Result<(), AllocError>
+    ensures { IfOk result (λ _. (rest : List Lowering) → lowered_behind (map pred_tree preds.old.items) (record { is_function = named.entry.function; head = record { name = named.entry.name.now; arity = named.entry.arity }; clause = clause_tree clause } ∷ rest) ≡ lowered_behind (map pred_tree preds.new.items) rest) }
+{
+    let Some(last) = preds.pop() else {
+        let made = new_pred(alloc, named, clause)?;
+        preds.push(made)?;
+        return Ok(());
+    };
+    if is_of(&last, &named) {
+        let more = one_more(last, clause)?;
+        preds.push(more)?;
+        return Ok(());
+    }
+    let made = new_pred(alloc, named, clause)?;
+    preds.push(last)?;
+    preds.push(made)?;
+    Ok(())
+}
+
+/// Whether the predicate or function is what a head names.
+fn is_of(pred: &CorePred, named: &Named<'_>) -> bool
+    ensures { result ≡ is_clause_named (pred_tree pred.now) named.now.function (record { name = named.now.name.now; arity = named.now.arity }) }
+{
+    named.function == pred.function && named.name == pred.name.as_str() && named.arity == pred.arity
+}
+
+/// A predicate or function with this clause.
+fn new_pred(alloc: Global, named: Named<'_>, clause: CoreClause) -> Result<CorePred, AllocError>
+    ensures { IfOk result (λ made. pred_tree made ≡ with_first (record { is_function = named.entry.function; head = record { name = named.entry.name.now; arity = named.entry.arity }; clause = clause_tree clause })) }
+{
+    let mut clauses = CoreClauses::new(alloc);
+    clauses.push(clause)?;
+    Ok(CorePred {
+        name: Text::new(alloc, named.name)?,
+        arity: named.arity,
+        function: named.function,
+        quiet: false,
+        decl: Decl::Plain,
+        clauses,
+    })
+}
+
+/// The predicate or function with one more clause.
+fn one_more(pred: CorePred, clause: CoreClause) -> Result<CorePred, AllocError>
+    ensures { IfOk result (λ made. pred_tree made ≡ with_next (pred_tree pred) (clause_tree clause)) }
+{
+    let mut pred = pred;
+    pred.clauses.push(clause)?;
+    Ok(pred)
+}
+
+/// The name that a head gives, and its number of arguments.
+#[tactic(auto, unfolding(pi_syntax::specs::ExpTree::exp_tree))]
+fn signature(head: &Exp, function: bool) -> Result<Named<'_>, AllocError>
+    ensures named { IfOk result (λ named. named_by (signature_of (exp_tree head.now)) ≡ record { name = named.name.now; arity = named.arity }) }
+    ensures function { IfOk result (λ named. named.function ≡ function) }
+{
+    match head {
+        Exp::Atom(name) => Ok(Named {
+            name: name.as_str(),
+            arity: 0,
+            function,
+        }),
+        Exp::Call(name, args) => {
+            let arity = short(args.len())?;
+            Ok(Named {
+                name: name.as_str(),
+                arity,
+                function,
+            })
+        }
+        _ => Ok(Named {
+            name: "",
+            arity: 0,
+            function,
+        }),
+    }
+}
+
+/// A number of arguments, which has 32 bits: for more of them memory is wanted.
+fn short(count: usize) -> Result<u32, AllocError>
+    ensures { IfOk result (λ made. made ≡ count) }
+{
+    u32::try_from(count).map_err(|_| AllocError)
+}

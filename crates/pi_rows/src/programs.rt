@@ -1,0 +1,268 @@
+//! The programs of `examples`, with runs of theirs.
+use crate::row::Row;
+
+const FAMILY: &str = "% A family: who stands in which relation to whom.
+
+parent(P, C) ?=> P = ann, C = bob.
+parent(P, C) ?=> P = ann, C = cleo.
+parent(P, C) ?=> P = dan, C = bob.
+parent(P, C) ?=> P = dan, C = cleo.
+parent(P, C) ?=> P = bob, C = eve.
+parent(P, C) ?=> P = bob, C = fred.
+parent(P, C) => P = cleo, C = gus.
+
+born(ann) = 1931.
+born(dan) = 1929.
+born(bob) = 1958.
+born(cleo) = 1961.
+born(eve) = 1984.
+born(fred) = 1990.
+born(gus) = 1988.
+
+% The years of a person in a year; nobody is younger than 0.
+age(Who, Year) = Year - born(Who), Year >= born(Who) => true.
+age(_, _) = unborn.
+
+sibling(A, B) => parent(P, A), parent(P, B), A !== B, not (parent(Q, A), Q @< P, parent(Q, B)).
+
+ancestor(A, D) ?=> parent(A, D).
+ancestor(A, D) => parent(A, C), ancestor(C, D).
+
+grandparent(A, C) => parent(A, B), parent(B, C).
+
+cousin(A, B) => parent(P, A), sibling(P, Q), parent(Q, B).
+
+children(P) = sort_remove_dups(find_all(C, parent(P, C))).
+
+% The eldest of some people.
+eldest([P]) = P.
+eldest([P|Ps]) = Older => Q = eldest(Ps), if born(P) < born(Q) then Older = P else Older = Q end.
+
+about(Who) =>
+    printf(\"%w, born in %d\", Who, born(Who)),
+    Cs = children(Who),
+    if Cs == [] then
+        println(\", has no children\")
+    elseif Cs = [C] then
+        printf(\", has a child, %w%n\", C)
+    else
+        printf(\", has %d children: %w%n\", len(Cs), Cs)
+    end.
+";
+
+const LISTS: &str = "% A bank of small functions on lists, each by rules.
+
+% The numbers from L to U.
+numbers(L, U) = [], L > U => true.
+numbers(L, U) = [L|numbers(L+1, U)].
+
+take(0, _) = [].
+take(_, []) = [].
+take(N, [X|Xs]) = [X|take(N-1, Xs)].
+
+drop(0, Xs) = Xs.
+drop(_, []) = [].
+drop(N, [_|Xs]) = drop(N-1, Xs).
+
+% The items in which a list is cut, each of N items but the last.
+chunks(_, []) = [].
+chunks(N, Xs) = [take(N, Xs)|chunks(N, drop(N, Xs))], N > 0 => true.
+chunks(N, _) = [] => throw($bad_size(N)).
+
+flat([]) = [].
+flat([X|Xs]) = flat(X) ++ flat(Xs).
+flat(X) = [X].
+
+% Pairs of an item and how often it stands there, in order of the items.
+counts(Xs) = counted(sort(Xs)).
+
+counted([]) = [].
+counted([X|Xs]) = [{X, N}|counted(Rest)] => N = 1 + same(X, Xs), Rest = drop(N-1, Xs).
+
+same(X, [X|Xs]) = 1 + same(X, Xs).
+same(_, _) = 0.
+
+% Quicksort, by what is below the first item and what isn't.
+quick([]) = [].
+quick([X|Xs]) = quick(Below) ++ [X|quick(Above)] => Below = find_all(Y, (member(Y, Xs), Y @< X)), Above = find_all(Y, (member(Y, Xs), Y @>= X)).
+
+% All orders of a list, one an answer.
+order([], Ys) => Ys = [].
+order(Xs, Ys) => select(X, Xs, Rest), Ys = [X|Zs], order(Rest, Zs).
+
+% The dot product of two lists of integers that are as long.
+dot([], []) = 0.
+dot([X|Xs], [Y|Ys]) = X*Y + dot(Xs, Ys).
+";
+
+const SIMPLIFY: &str =
+    "% Simplifies and differentiates expressions over x, y, .., which are terms: integers, atoms, and sums, products and powers.
+
+simplify(A + B) = sum_of(simplify(A), simplify(B)).
+simplify(A - B) = difference(simplify(A), simplify(B)).
+simplify(A * B) = product(simplify(A), simplify(B)).
+simplify(A ** N) = power(simplify(A), N), integer(N) => true.
+simplify(-A) = difference(0, simplify(A)).
+simplify(E) = E, atomic(E) => true.
+simplify(E) = E => throw($no_expression(E)).
+
+sum_of(A, B) = A + B, integer(A), integer(B) => true.
+sum_of(0, B) = B.
+sum_of(A, 0) = A.
+sum_of(A, A) = product(2, A).
+sum_of(A, B) = $(B + A), integer(B) => true.
+sum_of(A, B) = $(A + B).
+
+difference(A, B) = A - B, integer(A), integer(B) => true.
+difference(A, 0) = A.
+difference(A, A) = 0.
+difference(A, B) = $(A - B).
+
+product(A, B) = A * B, integer(A), integer(B) => true.
+product(0, _) = 0.
+product(_, 0) = 0.
+product(1, B) = B.
+product(A, 1) = A.
+product(A, A) = $(A ** 2).
+product(A, B) = product(B, A), integer(B) => true.
+product(A, B * C) = product(A * B, C), integer(A), integer(B) => true.
+product(A, B) = $(A * B).
+
+power(_, 0) = 1.
+power(A, 1) = A.
+power(A, N) = A ** N, integer(A) => true.
+power(A, N) = $(A ** N).
+
+% The derivative by an atom.
+derived(N, _) = 0, integer(N) => true.
+derived(X, X) = 1.
+derived(A, _) = 0, atom(A) => true.
+derived(A + B, X) = $(DA + DB) => DA = derived(A, X), DB = derived(B, X).
+derived(A - B, X) = $(DA - DB) => DA = derived(A, X), DB = derived(B, X).
+derived(A * B, X) = $(DA * B + A * DB) => DA = derived(A, X), DB = derived(B, X).
+derived(A ** N, X) = $(N * A ** M * DA) => M = N - 1, DA = derived(A, X).
+
+slope(E, X) = simplify(derived(E, X)).
+";
+
+const REPORT: &str =
+    "% A report of what a shop sold: a line an article, with its total, and the sum at the end.
+
+sold() = [{\"pens\", 12, 150}, {\"paper\", 3, 420}, {\"ink\", 2, 1875}, {\"folders\", 0, 95}].
+
+report => println(\"article      pieces      each     total\"), Total = lines(sold()), rule_off, printf(\"%s%s%n\", left(\"total\", 29), right(money(Total), 10)).
+
+rule_off => println(\"---------------------------------------\").
+
+% Writes the lines of the articles that were sold, and answers what they come to.
+lines([]) = 0.
+lines([{Name, Pieces, Each}|Rest]) = Pieces * Each + lines(Rest) =>
+    if Pieces > 0 then
+        printf(\"%s%s%s%s%n\", left(Name, 13), right(to_string(Pieces), 6), right(money(Each), 10), right(money(Pieces * Each), 10))
+    else
+        printf(\"%s  none%n\", left(Name, 13))
+    end.
+
+% Cents as a text.
+money(Cents) = to_string(Cents // 100) ++ \".\" ++ digits(Cents rem 100).
+
+digits(N) = to_string(N), N >= 10 => true.
+digits(N) = \"0\" ++ to_string(N).
+
+% A text in so many places, at the left or at the right.
+left(Text, Width) = Text ++ blanks(Width - len(Text)).
+right(Text, Width) = blanks(Width - len(Text)) ++ Text.
+
+blanks(N) = \"\", N =< 0 => true.
+blanks(N) = \" \" ++ blanks(N-1).
+";
+
+const QUEENS: &str =
+    "% Puzzles by choice and test. Queens: one a column, so that no two stand in one row or diagonal. Sums: digits for letters.
+
+queens(N, Rows) => place(numbers(1, N), [], Rows).
+
+numbers(L, U) = [], L > U => true.
+numbers(L, U) = [L|numbers(L+1, U)].
+
+% Takes a row that is free for the next column, which those behind it don't attack.
+place([], Placed, Rows) => Rows = Placed.
+place(Free, Placed, Rows) => select(R, Free, Rest), safe(R, 1, Placed), place(Rest, [R|Placed], Rows).
+
+safe(_, _, []) => true.
+safe(R, D, [Q|Qs]), abs(R - Q) =\\= D => safe(R, D+1, Qs).
+
+% Different digits, so that TO + GO = OUT.
+sums(T, O, G, U) =>
+    Digits = numbers(0, 9),
+    select(O, Digits, D1),
+    select(T, D1, D2), T > 0,
+    select(U, D2, D3),
+    Units = O + O, T =:= Units mod 10,
+    select(G, D3, _), G > 0,
+    10*T + O + 10*G + O =:= 100*O + 10*U + T.
+";
+
+/// Runs of the programs of `examples`.
+pub static ROWS: [Row<'static>; 10] = [
+    Row {
+        program: Some(FAMILY),
+        words: &["FILE", "about(dan), fail"],
+        output: "dan, born in 1929, has 2 children: [bob,cleo]\nno\n",
+        status: 1,
+    },
+    Row {
+        program: Some(FAMILY),
+        words: &["FILE", "cousin(A, B), A @< B"],
+        output: "A = eve\nB = gus\nyes\nA = fred\nB = gus\nyes\nno more\n",
+        status: 0,
+    },
+    Row {
+        program: Some(FAMILY),
+        words: &["FILE", "X = eldest(children(dan)), Y = age(gus, 1980)"],
+        output: "X = bob\nY = unborn\nyes\nno more\n",
+        status: 0,
+    },
+    Row {
+        program: Some(LISTS),
+        words: &["FILE", "X = chunks(2, [a,b,c,d,e]), Y = counts([b,a,b])"],
+        output: "X = [[a,b],[c,d],[e]]\nY = [{a,1},{b,2}]\nyes\nno more\n",
+        status: 0,
+    },
+    Row {
+        program: Some(LISTS),
+        words: &["FILE", "order([a,b,c], X)"],
+        output: "X = [a,b,c]\nyes\nX = [a,c,b]\nyes\nX = [b,a,c]\nyes\nX = [b,c,a]\nyes\nX = [c,a,b]\nyes\nX = [c,b,a]\nyes\nno more\n",
+        status: 0,
+    },
+    Row {
+        program: Some(SIMPLIFY),
+        words: &["FILE", "X = slope($(x**3 + 2*x*y + 5), x)"],
+        output: "X = '+'('*'(3,'**'(x,2)),'*'(2,y))\nyes\nno more\n",
+        status: 0,
+    },
+    Row {
+        program: Some(SIMPLIFY),
+        words: &["FILE", "X = simplify($f(x))"],
+        output: "exception: no_expression(f(x))\n",
+        status: 4,
+    },
+    Row {
+        program: Some(REPORT),
+        words: &["FILE", "report"],
+        output: "article      pieces      each     total\npens             12      1.50     18.00\npaper             3      4.20     12.60\nink               2     18.75     37.50\nfolders        none\n---------------------------------------\ntotal                             68.10\nyes\nno more\n",
+        status: 0,
+    },
+    Row {
+        program: Some(QUEENS),
+        words: &["FILE", "queens(6, Q)"],
+        output: "Q = [5,3,1,6,4,2]\nyes\nQ = [4,1,5,2,6,3]\nyes\nQ = [3,6,2,5,1,4]\nyes\nQ = [2,4,6,1,3,5]\nyes\nno more\n",
+        status: 0,
+    },
+    Row {
+        program: Some(QUEENS),
+        words: &["FILE", "sums(T, O, G, U)"],
+        output: "T = 2\nO = 1\nG = 8\nU = 0\nyes\nno more\n",
+        status: 0,
+    },
+];
