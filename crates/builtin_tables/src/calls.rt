@@ -11,9 +11,14 @@ use store_tables::{Bench, show, take_store_step, tell_read};
 pub fn answer(case: &mut Case<'_>) {
     let store = TreeStore::new(case.alloc);
     if let Some(store) = case.made(store) {
-        let mut bench = Bench::new(case.alloc, store);
-        take_steps(case, &mut bench);
+        take_all(case, store);
     }
+}
+
+/// The same on any store.
+fn take_all<S: StateStore>(case: &mut Case<'_>, store: S) {
+    let mut bench = Bench::new(case.alloc, store);
+    take_steps(case, &mut bench);
 }
 
 fn take_steps<S: StateStore>(case: &mut Case<'_>, bench: &mut Bench<S>) {

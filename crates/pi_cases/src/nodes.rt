@@ -1,6 +1,6 @@
 //! Words of terms: a term is written as its nodes in prefix order, each a word.
 
-/// What a word of a term is. The last four are for terms that are put into a store.
+/// What a word of a term is. The last five are for terms that are put into a store.
 #[derive(Clone, Copy)]
 pub enum Node<'a> {
     /// `_7`
@@ -18,6 +18,8 @@ pub enum Node<'a> {
     Nest(usize),
     /// `twice:9`: so many pairs, each twice the one before.
     Twice(usize),
+    /// `row:9`: an array of so many times an item.
+    Row(usize),
 }
 
 /// What a word is.
@@ -51,6 +53,7 @@ fn repeated_of(word: &str) -> Node<'_> {
         ("list", Ok(count)) => Node::List(count),
         ("nest", Ok(count)) => Node::Nest(count),
         ("twice", Ok(count)) => Node::Twice(count),
+        ("row", Ok(count)) => Node::Row(count),
         _ => Node::Atom(word),
     }
 }
@@ -66,7 +69,7 @@ impl Node<'_> {
         match self {
             Node::Comp(_, count) => count,
             Node::List(_) | Node::Nest(_) => 2,
-            Node::Twice(_) => 1,
+            Node::Twice(_) | Node::Row(_) => 1,
             _ => 0,
         }
     }

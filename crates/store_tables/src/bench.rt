@@ -7,6 +7,9 @@ use std::alloc::Global;
 /// The name of pairs of lists.
 const PAIR: &str = "[|]";
 
+/// The name of arrays.
+const ARRAY: &str = "{}";
+
 /// How an empty slot is written.
 pub const EMPTY: &str = "-";
 
@@ -86,6 +89,10 @@ impl<S: StateStore> Bench<S> {
                 let inner = taken(case, built);
                 self.put_pairs(case, count, inner, None, None)
             }
+            Node::Row(count) => {
+                let item = taken(case, built);
+                self.put_row(case, count, item)
+            }
         }
     }
 
@@ -143,6 +150,16 @@ impl<S: StateStore> Bench<S> {
             made = case.made(over)?;
         }
         Some(made)
+    }
+
+    /// An array of so many times an item.
+    fn put_row(&mut self, case: &mut Case<'_>, count: usize, item: Ref) -> Option<Ref> {
+        let mut items = Vec::new(case.alloc);
+        for _ in 0..count {
+            case.keep(Some(item), &mut items);
+        }
+        let made = self.store.put_comp(ARRAY, items.as_slice());
+        case.made(made)
     }
 }
 

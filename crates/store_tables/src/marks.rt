@@ -8,6 +8,7 @@ pub fn answer(case: &mut Case<'_>) {
     let store = TreeStore::new(case.alloc);
     if let Some(mut store) = case.made(store) {
         take_words(case, &mut store);
+        drop(store);
     }
 }
 

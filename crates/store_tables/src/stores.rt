@@ -19,9 +19,14 @@ pub use showing::{show, tell_read};
 pub fn answer(case: &mut Case<'_>) {
     let store = TreeStore::new(case.alloc);
     if let Some(store) = case.made(store) {
-        let mut bench = Bench::new(case.alloc, store);
-        take_steps(case, &mut bench);
+        take_all(case, store);
     }
+}
+
+/// The same on any store: its owner is generic, so that no proof goes through the parts of one kind of store where it is dropped.
+fn take_all<S: StateStore>(case: &mut Case<'_>, store: S) {
+    let mut bench = Bench::new(case.alloc, store);
+    take_steps(case, &mut bench);
 }
 
 /// Tells what steps show that are taken on a store.

@@ -15,11 +15,16 @@ pub fn answer(case: &mut Case<'_>, text: &str) {
     let names = take_names(case);
     let store = TreeStore::new(case.alloc);
     if let Some(store) = case.made(store) {
-        let mut bench = Bench::new(case.alloc, store);
-        match begin(case.alloc, &mut bench, text) {
-            None => tell_answer(case, bench, names.as_slice()),
-            Some(problem) => case.fail(problem),
-        }
+        answer_on(case, text, store, names.as_slice());
+    }
+}
+
+/// Tells the domains of an answer on any store.
+fn answer_on<S: StateStore>(case: &mut Case<'_>, text: &str, store: S, names: &[NameSlot]) {
+    let mut bench = Bench::new(case.alloc, store);
+    match begin(case.alloc, &mut bench, text) {
+        None => tell_answer(case, bench, names),
+        Some(problem) => case.fail(problem),
     }
 }
 
