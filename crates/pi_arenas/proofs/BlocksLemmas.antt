@@ -1,6 +1,6 @@
 -- What a mark of the blocks brings back, over writes, pushes and cuts.
-use Rattle.std.proofs.Common.{◌≡◌, ℕ, ◌+◌, ◌≤◌, ◌<◌, List, [], ◌∷◌, ◌++◌, Option, Some, length, take, drop, set, get_or, min, refl, sym, ◌∙◌, ap, subst, map, append_assoc, arith}
-use Rattle.std.proofs.lemmas.List.{take-set-le, set-get_or, take-append-le, drop-append-le, take-append-drop, length-take, length-set, length-append, set_past, drop_all, map-append, take_more}
+use Rattle.std.proofs.Common.{◌≡◌, ℕ, ◌+◌, ◌-◌, ◌≤◌, ◌<◌, List, [], ◌∷◌, ◌++◌, Option, Some, length, take, drop, set, get_or, min, refl, sym, ◌∙◌, ap, subst, map, replicate, append_assoc, arith}
+use Rattle.std.proofs.lemmas.List.{take-set-le, set-get_or, take-append-le, drop-append-le, take-append-drop, length-take, length-set, length-append, set_past, drop_all, map-append, take_more, append-nil, take_all}
 use Rattle.pi_states.specs.declared.store.Ref.{Ref}
 use Rattle.pi_arenas.specs.declared.blocks.Written.{Written}
 use Rattle.pi_arenas.specs.declared.blocks.BlocksMark.{BlocksMark}
@@ -109,6 +109,15 @@ keeps_more old new more slots trail kept m h =
           ∙ ap (λ r. slots_before (drop m.trail old.trail) r) (take-append-le m.slots old.slots more h.within)
           ∙ sym (brought_back-is m old),
     )
+
+-- slots that stay
+pub keeps_slots : (old new : BlocksView) → new.slots ≡ old.slots → new.trail ≡ old.trail → new.kept ≡ old.kept → KeepsBlocks old new
+keeps_slots old new slots trail kept = keeps_more old new [] (slots ∙ sym (append-nil old.slots)) trail kept
+
+-- empty slots up to an end
+pub filled_up : (old new : Slots) (count end : ℕ) (d : Option Ref) → end ≡ length old + count → new ≡ take end old ++ replicate (end - length old) d → new ≡ old ++ replicate count d
+filled_up old new count end d at is =
+    is ∙ (ap (λ r. r ++ replicate (end - length old) d) (take_all end old (omega (arith, at))) ∙ ap (λ k. old ++ replicate k d) (let e : end - length old ≡ count = omega (arith, at) in e))
 
 -- fewer slots, but not fewer than are protected
 pub keeps_fewer : (old new : BlocksView) (n : ℕ) → old.kept ≤ n

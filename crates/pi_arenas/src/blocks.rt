@@ -94,15 +94,16 @@ impl Blocks {
     }
 
     /// Adds empty slots.
-    #[tactic(auto, using(crate::proofs::BlocksLemmas::keeps_same, crate::proofs::BlocksLemmas::keeps_then))]
+    #[tactic(auto, using(crate::proofs::BlocksLemmas::keeps_same, crate::proofs::BlocksLemmas::keeps_more))]
     pub fn push_empty(&mut self, count: u32) -> Result<(), AllocError>
         ensures ok { IfOk result (λ _. self.new.slots ≡ self.old.slots ++ replicate count None) }
         ensures kept { self.new.kept ≡ self.old.kept }
         ensures keeps { KeepsBlocks self.old self.new }
     {
-        for _ in 0..count {
-            self.push(None)?;
-        }
+        let Some(end) = self.slots.len().checked_add(count as usize) else {
+            return Err(AllocError);
+        };
+        self.slots.resize(end, None)?;
         Ok(())
     }
 
@@ -120,15 +121,13 @@ impl Blocks {
     }
 
     /// Adds slots with these contents.
-    #[tactic(auto, using(crate::proofs::BlocksLemmas::keeps_same, crate::proofs::BlocksLemmas::keeps_then))]
+    #[tactic(auto, using(crate::proofs::BlocksLemmas::keeps_same, crate::proofs::BlocksLemmas::keeps_more))]
     pub fn push_slots(&mut self, slots: &[Option<Ref>]) -> Result<(), AllocError>
         ensures ok { IfOk result (λ _. self.new.slots ≡ self.old.slots ++ slots.now) }
         ensures kept { self.new.kept ≡ self.old.kept }
         ensures keeps { KeepsBlocks self.old self.new }
     {
-        for slot in slots {
-            self.push(*slot)?;
-        }
+        self.slots.extend_from_slice(slots)?;
         Ok(())
     }
 

@@ -11,6 +11,7 @@ pub mod PatternLemmas
 pub mod SlotLemmas
 pub mod MatchingLemmas
 pub mod MatchLoopLemmas
+pub mod ArgumentLemmas
 pub mod KeepsLemmas
 pub mod BuildLemmas
 pub mod PlaceLemmas

@@ -42,11 +42,11 @@ pub record Rooted {M : Type 0} (v : StoreView M) (p : Pending) (slots new : List
   pub given : HoldAllGiven v new
   pub tells : TellsMatch found (root_match (bindings v.now.state) (pattern_tree p.pattern.now) (term_of v p.term) (slot_terms v slots)) (slot_terms v new)
 
-true_told : (found : Bool) (o : Option Places) (after : Places) → found ≡ true → TellsMatch found o after → o ≡ Some after
+pub true_told : (found : Bool) (o : Option Places) (after : Places) → found ≡ true → TellsMatch found o after → o ≡ Some after
 true_told true o after e told = told
 true_told false o after e told = cc
 
-false_told : (found : Bool) (o : Option Places) (after : Places) → found ≡ false → TellsMatch found o after → o ≡ None
+pub false_told : (found : Bool) (o : Option Places) (after : Places) → found ≡ false → TellsMatch found o after → o ≡ None
 false_told true o after e told = cc
 false_told false o after e told = told
 
@@ -72,12 +72,9 @@ pub all_found : {M : Type 0} (v : StoreView M) (fs : List Arguments) (p : Pendin
 all_found v fs p q w old slots new found goes e rooted ends = sym goes.match_is ∙ ends (slot_terms v slots) (slot_terms v new) (true_told found _ (slot_terms v new) e rooted.tells)
 
 -- a match in a state tells of values
-values_told : (found : Bool) (b : Bindings) (p : PatternTree) (t : Tree) (e after : Places) → IsAcyclic b → TellsMatch found (matched_in b p t e) after → TellsMatch found (matched p (value b t) (slot_values b e)) (slot_values b after)
+pub values_told : (found : Bool) (b : Bindings) (p : PatternTree) (t : Tree) (e after : Places) → IsAcyclic b → TellsMatch found (matched_in b p t e) after → TellsMatch found (matched p (value b t) (slot_values b e)) (slot_values b after)
 values_told true b p t e after a told = sym (matches-by_value b p t e a) ∙ ap (option_map (slot_values b)) told
 values_told false b p t e after a told = sym (matches-by_value b p t e a) ∙ ap (option_map (slot_values b)) told
 
 pub terms_are_told : {M : Type 0} (v : StoreView M) (found : Bool) (q : PatternTree) (r : Ref) (t : Tree) (e after : Places) → IsTerm v r t → TellsMatch found (matched_in (bindings v.now.state) q (term_of v r) e) after → TellsMatch found (matched_in (bindings v.now.state) q t e) after
 terms_are_told v found q r t e after is told = subst (λ (u : Tree). TellsMatch found (matched_in (bindings v.now.state) q u e) after) (term_is v r t is) told
-
-pub values_are_told : {M : Type 0} (v : StoreView M) (found : Bool) (q : PatternTree) (r : Ref) (t : Tree) (e after : Places) → HoldsNoCycle v → IsTerm v r t → TellsMatch found (matched_in (bindings v.now.state) q (term_of v r) e) after → TellsMatch found (matched q (value (bindings v.now.state) t) (slot_values (bindings v.now.state) e)) (slot_values (bindings v.now.state) after)
-values_are_told v found q r t e after a is told = values_told found (bindings v.now.state) q t e after a (terms_are_told v found q r t e after is told)

@@ -109,11 +109,11 @@ next_is v f p a own left is answers =
       patterns = pattern_is f p own is;
     }
 
-abbrev behind_match : {M : Type 0} → StoreView M → Arguments → Places → Option Places
+abbrev pub behind_match : {M : Type 0} → StoreView M → Arguments → Places → Option Places
 behind_match v f e =
     matched_all_in (bindings v.now.state) (pattern_trees (drop (suc f.next) f.patterns.now)) (drop_trees (suc f.next) (args (followed (bindings v.now.state) (term_of v f.of)))) e
 
-left_from_next : {M : Type 0} (v : StoreView M) (f : Arguments) (p : Pending) (e : Places) → IsNext v f p → left_match v f e ≡ option_and_then (behind_match v f) (pending_match v p e)
+pub left_from_next : {M : Type 0} (v : StoreView M) (f : Arguments) (p : Pending) (e : Places) → IsNext v f p → left_match v f e ≡ option_and_then (behind_match v f) (pending_match v p e)
 unfolding matched_in pattern_trees
 left_from_next v f p e next =
     let b : Bindings = bindings v.now.state in
@@ -128,7 +128,7 @@ nodes_from_next f p is = ap (λ ps. nodes_of_all (pattern_trees ps)) is
 abbrev pub after : Arguments → Arguments
 after f = record { patterns = f.patterns; of = f.of; next = f.next + 1; count = f.count }
 
-after_match : {M : Type 0} (v : StoreView M) (f : Arguments) (e : Places) → left_match v (after f) e ≡ behind_match v f e
+pub after_match : {M : Type 0} (v : StoreView M) (f : Arguments) (e : Places) → left_match v (after f) e ≡ behind_match v f e
 after_match v f e = ap (λ k. matched_all_in (bindings v.now.state) (pattern_trees (drop k f.patterns.now)) (drop_trees k (args (followed (bindings v.now.state) (term_of v f.of)))) e) (add-one f.next)
 
 after_nodes : (f : Arguments) → own_nodes (after f) ≡ nodes_of_all (pattern_trees (drop (suc f.next) f.patterns.now))
@@ -160,14 +160,14 @@ leaves_more old fs new f p was is all more at =
       nodes = omega (arith, ap nodes_left was, ap nodes_left is, nodes_left-more fs f, nodes_left-more fs (after f), nodes_from_next f p at, after_nodes f);
     }
 
-drop_all_trees : (ts : Trees) (k : ℕ) → tree_count ts ≡ k → drop_trees k ts ≡ no_trees
+pub drop_all_trees : (ts : Trees) (k : ℕ) → tree_count ts ≡ k → drop_trees k ts ≡ no_trees
 unfolding tree_count
 drop_all_trees no_trees zero e = refl
 drop_all_trees no_trees (suc k) e = refl
 drop_all_trees (tree t ts) zero e = cc
 drop_all_trees (tree t ts) (suc k) e = drop_all_trees ts k (omega arith)
 
-drop_all : (ps : List Pattern) (k : ℕ) → length ps ≡ k → drop k ps ≡ []
+pub drop_all : (ps : List Pattern) (k : ℕ) → length ps ≡ k → drop k ps ≡ []
 drop_all [] zero e = refl
 drop_all [] (suc k) e = refl
 drop_all (p ∷ ps) zero e = cc
@@ -223,7 +223,7 @@ and_true true true e = (refl, refl)
 and_true true false e = cc
 and_true false d e = cc
 
-passed : (c : Bool) (e after : Places) → cond c (Some e) None ≡ Some after → (c ≡ true) × (e ≡ after)
+pub passed : (c : Bool) (e after : Places) → cond c (Some e) None ≡ Some after → (c ≡ true) × (e ≡ after)
 passed true e after h = (refl, cc)
 passed false e after h = cc
 
@@ -232,9 +232,9 @@ failed true e h = cc
 failed false e h = refl
 
 -- a compound of the pattern's name
-record Fitting (b : Bindings) (f : List ℕ) (ps : PatternTrees) (t : Tree) : Type 0 where
-  many : arity (followed b t) ≡ pattern_count ps
-  inside : (e : Places) → matched_in b (compound f ps) t e ≡ matched_all_in b ps (args (followed b t)) e
+pub record Fitting (b : Bindings) (f : List ℕ) (ps : PatternTrees) (t : Tree) : Type 0 where
+  pub many : arity (followed b t) ≡ pattern_count ps
+  pub inside : (e : Places) → matched_in b (compound f ps) t e ≡ matched_all_in b ps (args (followed b t)) e
 
 fitting_at : (b : Bindings) (f : List ℕ) (ps : PatternTrees) (t u : Tree) → followed b t ≡ u → is_compound_of f (pattern_count ps) u ≡ true → Fitting b f ps t
 unfolding matched_in
@@ -250,7 +250,7 @@ fitting_at b f ps t (comp h ts) is e =
           ∙ (ap (λ c. cond c (matched_all_in b ps ts s) None) both.0 ∙ ap (λ w. matched_all_in b ps (args w) s) (sym is));
     }
 
-fitting : (b : Bindings) (f : List ℕ) (ps : PatternTrees) (t : Tree) → FitsRoot b (compound f ps) t → Fitting b f ps t
+pub fitting : (b : Bindings) (f : List ℕ) (ps : PatternTrees) (t : Tree) → FitsRoot b (compound f ps) t → Fitting b f ps t
 fitting b f ps t fits = fitting_at b f ps t (followed b t) refl fits
 
 pub fits_from_match : (b : Bindings) (p : PatternTree) (t : Tree) (e after : Places) → root_match b p t e ≡ Some after → FitsRoot b p t
@@ -304,14 +304,14 @@ pub record Behind {M : Type 0} (v : StoreView M) (p : PatternTree) (t : Tree) (o
   pub match_is : (e after : Places) → root_match (bindings v.now.state) p t e ≡ Some after → match_with v old (matched_in (bindings v.now.state) p t e) ≡ match_with v new (Some after)
 
 -- a pattern without parts
-abbrev IsBare : PatternTree → Type 0
+abbrev pub IsBare : PatternTree → Type 0
 IsBare (slot k) = Unit {0}
 IsBare (exact_int n) = Unit {0}
 IsBare (exact_atom name) = Unit {0}
 IsBare (compound f ps) = ⊥
 IsBare (named k p) = ⊥
 
-bare_match : (b : Bindings) (p : PatternTree) (t : Tree) (e : Places) → IsBare p → matched_in b p t e ≡ root_match b p t e
+pub bare_match : (b : Bindings) (p : PatternTree) (t : Tree) (e : Places) → IsBare p → matched_in b p t e ≡ root_match b p t e
 unfolding matched_in
 bare_match b (slot k) t e bare = refl
 bare_match b (exact_int n) t e bare = refl
@@ -326,10 +326,10 @@ behind_bare v p t fs bare all = record {
 }
 
 -- a pattern that is a slot, an integer or an atom
-abbrev IsLeaf : Pattern → Type 0
+abbrev pub IsLeaf : Pattern → Type 0
 IsLeaf p = ((k : ℕ) × (p ≡ Slot k)) ⊎ (((n : ℤ) × (p ≡ Int n)) ⊎ ((name : List ℕ) × (p ≡ Atom name)))
 
-leaf_bare : (p : Pattern) → IsLeaf p → IsBare (pattern_tree p)
+pub leaf_bare : (p : Pattern) → IsLeaf p → IsBare (pattern_tree p)
 leaf_bare p (inl (k, is)) = subst IsBare (sym (ap pattern_tree is ∙ pattern_tree-slot k)) tt
 leaf_bare p (inr (inl (n, is))) = subst IsBare (sym (ap pattern_tree is ∙ pattern_tree-int n)) tt
 leaf_bare p (inr (inr (name, is))) = subst IsBare (sym (ap pattern_tree is ∙ pattern_tree-atom name)) tt

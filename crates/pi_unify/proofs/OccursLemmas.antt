@@ -1,27 +1,27 @@
 -- Whether a variable occurs in the value of one of several terms.
-use Rattle.std.proofs.Common.{◌≡◌, ◌≢◌, ℕ, suc, ◌+◌, ◌<◌, ◌==◌, Bool, true, false, ◌||◌, List, [], ◌∷◌, ◌++◌, refl, ap, sym, ◌∙◌, subst, inl, inr, arith, eq-eqb}
+use Rattle.std.proofs.Common.{◌≡◌, ◌≢◌, ℕ, suc, ◌+◌, ◌<◌, ◌≤◌, ◌==◌, Some, add-one, Bool, true, false, ◌||◌, List, [], ◌∷◌, ◌++◌, refl, ap, sym, ◌∙◌, subst, inl, inr, arith, eq-eqb}
 use Rattle.std.specs.List.{list_any}
 use Rattle.std.proofs.lemmas.Bool.Decides.{nat_tests}
 use Rattle.std.proofs.lemmas.List.Folds.{list_any-append}
-use Rattle.pi_terms.specs.Tree.{Tree, var, int, atom, comp, Trees, no_trees, tree, cells, cells_all, args, arity, tree_count}
+use Rattle.pi_terms.specs.Tree.{Tree, var, int, atom, comp, Trees, no_trees, tree, cells, cells_all, args, arg_at, arity, tree_count, tree_at, drop_trees}
 use Rattle.pi_terms.specs.Variables.{occurrences, occurrences_all, IsGround, firsts}
 use Rattle.pi_terms.specs.Substitution.{instance, instances}
-use Rattle.pi_states.specs.Value.{Bindings, value}
-use Rattle.pi_states.specs.State.{bindings, IsState}
-use Rattle.pi_states.specs.Store.{StoreView, ShowsCell}
+use Rattle.pi_states.specs.Value.{Bindings, IsAcyclic, value}
+use Rattle.pi_states.specs.State.{bindings, followed, IsState}
+use Rattle.pi_states.specs.Store.{StoreView, IsTerm, ShowsCell}
 use Rattle.pi_states.specs.Unify.{does_occur}
 use Rattle.pi_states.specs.declared.store.Ref.{Ref}
 use Rattle.pi_states.specs.declared.store.Cell.{Cell}
 use Rattle.pi_states.proofs.ValueLemmas.{value_goes_by_variables, unbound_is_its_own_value, ground_is_its_own_value}
 use Rattle.pi_states.proofs.FollowLemmas.{followed_value}
 use Rattle.pi_states.proofs.UnifyCells.{some_cells}
-use Rattle.pi_unify.specs.Refs.{IsRef, term_of, root_of}
-use Rattle.pi_unify.specs.Ahead.{in_list, args_on, IsArgs, AreArgs, term_and, some_hold, cells_of_values}
+use Rattle.pi_unify.specs.Refs.{IsRef, term_of, root_of, args_from}
+use Rattle.pi_unify.specs.Ahead.{in_list, args_on, IsArgs, AreArgs, term_and, some_hold, cells_of_values, HoldsNot}
 use Rattle.pi_unify.specs.Answers.{TakesArg, LooksFor}
 use Rattle.pi_unify.specs.declared.ahead.Rest.{Rest}
 use Rattle.pi_unify.specs.Rests.{with_all}
 use Rattle.pi_unify.specs.declared.occurs.Look.{Look}
-use Rattle.pi_unify.proofs.RefLemmas.{ref_root}
+use Rattle.pi_unify.proofs.RefLemmas.{ref_root, term_is, arg_ref, drop_at, drop_all}
 use Rattle.pi_unify.proofs.RestLemmas.{IsPut, put}
 use Rattle.pi_unify.proofs.AheadLemmas.{args_on-push, are_args-push}
 
@@ -93,7 +93,7 @@ cells_append b [] us = omega arith
 cells_append b (t ∷ ts) us = let rest : cells_of_values b (ts ++ us) ≡ cells_of_values b ts + cells_of_values b us = cells_append b ts us in omega arith
 
 -- a term at a root, by its arguments; a variable is another matter
-record ByArgs (b : Bindings) (n : ℕ) (t : Tree) : Type 0 where
+pub record ByArgs (b : Bindings) (n : ℕ) (t : Tree) : Type 0 where
   pub holds : does_occur n (value b t) ≡ some_hold b n (in_list (args t))
   pub size : cells_of_values b (in_list (args t)) < cells (value b t)
 
@@ -192,3 +192,28 @@ looking_first v n r fs none ref = record {
   args = subst (λ (gs : List (Rest Ref)). AreArgs v gs) none tt;
   same = ap (λ (gs : List (Rest Ref)). some_hold (bindings v.now.state) n (term_and v r gs)) (sym none) ∙ one_held (bindings v.now.state) n (term_of v r);
 }
+
+-- ---- a compound that is seen to hold others alone
+
+pub others_first : {M : Type 0} (v : StoreView M) (n : ℕ) (r : Ref) → some_hold (bindings v.now.state) n (in_list (args (root_of v r))) ≡ some_hold (bindings v.now.state) n (in_list (args_from v r 0))
+others_first v n r = refl
+
+-- the arguments from a number on hold what all do
+pub others_next : {M : Type 0} (v : StoreView M) (n i k : ℕ) (r x : Ref) → IsState v.now.state → IsRef v r → arity (root_of v r) ≡ k → i < k → ((t u : Tree) → IsTerm v r t → IsAcyclic (bindings v.now.state) → arg_at (followed (bindings v.now.state) t) i ≡ Some u → IsTerm v x u) → (IsState v.now.state → IsRef v x → HoldsNot v n x) → some_hold (bindings v.now.state) n (in_list (args_from v r i)) ≡ some_hold (bindings v.now.state) n (in_list (args_from v r (i + 1)))
+unfolding in_list
+others_next v n i k r x is ref size less says apart =
+    let b : Bindings = bindings v.now.state in
+    let ts : Trees = args (root_of v r) in
+    let at : (u : Tree) × (tree_at ts i ≡ Some u) × (drop_trees i ts ≡ tree u (drop_trees (suc i) ts)) = drop_at ts i (omega (arith, size)) in
+    let term : IsTerm v x at.0 = says (term_of v r) at.0 ref.is is.acyclic at.1 in
+    let none : does_occur n (value b at.0) ≡ false = subst (λ (u : Tree). does_occur n (value b u) ≡ false) (term_is v x at.0 term) (apart is (arg_ref v r x i at.0 is ref at.1 term)) in
+    ap (λ (us : Trees). some_hold b n (in_list us)) at.2
+    ∙ (passed_over b n at.0 (in_list (drop_trees (suc i) ts)) none ∙ ap (λ (j : ℕ). some_hold b n (in_list (drop_trees j ts))) (sym (add-one i)))
+
+pub others_end : {M : Type 0} (v : StoreView M) (n i k : ℕ) (r : Ref) → arity (root_of v r) ≡ k → k ≤ i → some_hold (bindings v.now.state) n (in_list (args_from v r i)) ≡ false
+unfolding in_list
+others_end v n i k r size most = ap (λ (us : Trees). some_hold (bindings v.now.state) n (in_list us)) (drop_all (args (root_of v r)) i (omega (arith, size)))
+
+-- so the variable isn't in the compound
+pub apart_by_args : {M : Type 0} (v : StoreView M) (n : ℕ) (r : Ref) → IsState v.now.state → ((m : ℕ) → root_of v r ≡ var m → ⊥) → some_hold (bindings v.now.state) n (in_list (args (root_of v r))) ≡ false → HoldsNot v n r
+apart_by_args v n r is other none = ap (does_occur n) (value_of_root v r is) ∙ ((by_args (bindings v.now.state) n (root_of v r) other).holds ∙ none)

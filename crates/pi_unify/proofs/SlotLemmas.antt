@@ -13,7 +13,9 @@ use Rattle.pi_states.specs.Store.{StoreView, IsTerm, IsName, ShowsCell}
 use Rattle.pi_states.specs.HeadMatch.{taken_in, filled_in}
 use Rattle.pi_states.specs.declared.store.Ref.{Ref}
 use Rattle.pi_states.specs.declared.store.Cell.{Cell}
-use Rattle.pi_states.proofs.MatchLemmas.{same_from_identical, identical_from_same}
+use Rattle.std.specs.Str.{bytes_eq}
+use Rattle.std.proofs.lemmas.Slice.Eq.{bytes_eq-Decides}
+use Rattle.pi_states.proofs.MatchLemmas.{same_from_identical, identical_from_same, same_name, name_itself}
 use Rattle.pi_unify.specs.Terms.{IsGiven, term_of}
 use Rattle.pi_unify.specs.Matching.{slot_term, slot_terms, HoldsGiven, HoldAllGiven, FillsEmpty, TellsMatch, is_int_in}
 use Rattle.pi_unify.proofs.TermValues.{given_term}
@@ -129,3 +131,13 @@ no_atom_told v t (Cell.Var m) name other h = sym (ap (identical (atom name)) h)
 no_atom_told v t (Cell.Int m) name other h = sym (ap (identical (atom name)) h)
 no_atom_told v t (Cell.Atom k) name other h = absurd (other k refl)
 no_atom_told v t (Cell.Comp k count) name other (f, is, h, many) = sym (ap (identical (atom name)) h)
+
+-- names that are the same are equal in their order
+pub names_told : (f g : List ℕ) → bytes_eq f g ≡ is_eq (name_order f g)
+names_told f g = elim (cases_Bool (bytes_eq f g)) [
+  | inl hit ↦ hit ∙ sym (subst (λ (h : List ℕ). is_eq (name_order f h) ≡ true) ((bytes_eq-Decides f g).0 hit) (name_itself f))
+  | inr miss ↦ elim (cases_Bool (is_eq (name_order f g))) [
+    | inl other ↦ absurd (let same : bytes_eq f g ≡ true = (bytes_eq-Decides f g).1 (same_name f g other) in cc)
+    | inr other ↦ miss ∙ sym other
+  ]
+]

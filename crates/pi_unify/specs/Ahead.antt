@@ -1,8 +1,9 @@
 -- What a stack leaves to be looked at: the arguments of compounds, each from one on. The newest stands last.
-use Rattle.std.specs.Prelude.{◌≡◌, ℕ, ◌+◌, ◌<◌, Bool, List, [], ◌∷◌, ◌++◌, ⊤}
+use Rattle.std.specs.Prelude.{◌≡◌, ℕ, ◌+◌, ◌<◌, Bool, false, List, [], ◌∷◌, ◌++◌, ⊤}
 use Rattle.std.specs.List.{list_any}
 use Rattle.pi_terms.specs.Tree.{Tree, cells, Trees, no_trees, tree, arity}
 use Rattle.pi_states.specs.Value.{Bindings, value}
+use Rattle.pi_states.specs.State.{bindings}
 use Rattle.pi_states.specs.Store.{StoreView}
 use Rattle.pi_states.specs.Unify.{Pair, in_pairs, does_occur}
 use Rattle.pi_states.specs.declared.store.Ref.{Ref}
@@ -68,6 +69,10 @@ term_and v r fs = term_of v r ∷ args_on v fs []
 -- a variable occurs in the value of one of the terms
 abbrev pub some_hold : Bindings → ℕ → List Tree → Bool
 some_hold b n ts = list_any (λ t. does_occur n (value b t)) ts
+
+-- a variable doesn't occur in the value of a term
+abbrev pub HoldsNot : {M : Type 0} → StoreView M → ℕ → Ref → Type 0
+HoldsNot v n r = does_occur n (value (bindings v.now.state) (term_of v r)) ≡ false
 
 -- the cells of their values
 unfoldable pub cells_of_values : Bindings → List Tree → ℕ

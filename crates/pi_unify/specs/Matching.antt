@@ -106,6 +106,14 @@ abbrev pub left_match : {M : Type 0} → StoreView M → Arguments → Places �
 left_match v f e =
     matched_all_in (bindings v.now.state) (pattern_trees (drop f.next f.patterns.now)) (drop_trees f.next (args (followed (bindings v.now.state) (term_of v f.of)))) e
 
+-- a term has as many arguments as there are patterns
+abbrev pub HasAsMany : {M : Type 0} → StoreView M → Ref → List Pattern → Type 0
+HasAsMany v of ps = arity (followed (bindings v.now.state) (term_of v of)) ≡ length ps
+
+-- the match of these patterns and its arguments
+abbrev pub arguments_match : {M : Type 0} → StoreView M → List Pattern → Ref → Places → Option Places
+arguments_match v ps of e = matched_all_in (bindings v.now.state) (pattern_trees ps) (args (followed (bindings v.now.state) (term_of v of))) e
+
 -- the slots in the end, where all but these came to o
 unfoldable pub match_with : {M : Type 0} → StoreView M → List Arguments → Option Places → Option Places
 match_with v [] o = o

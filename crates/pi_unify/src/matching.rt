@@ -10,7 +10,7 @@ ghost use Rattle.pi_states.specs.Match.{matched};
 ghost use Rattle.pi_states.specs.HeadMatch.{matched_in, filled_in, slot_values};
 ghost use Rattle.pi_core.specs.CoreTree.{pattern_tree};
 ghost use Rattle.pi_unify.specs.Terms.{IsGiven, HoldsNoCycle, term_of};
-ghost use Rattle.pi_unify.specs.Matching.{slot_terms, HoldAllGiven, FillsEmpty, TellsMatch, root_match, is_compound_of, AreWithin, AreLeft, nodes, nodes_left, LeavesNodes, LeavesFewer, TakesPending, ComesBehind, Pushes, FitsRoot, is_int_in};
+ghost use Rattle.pi_unify.specs.Matching.{slot_terms, HoldAllGiven, FillsEmpty, TellsMatch, root_match, is_compound_of, AreWithin, AreLeft, nodes, nodes_left, LeavesNodes, LeavesFewer, TakesPending, ComesBehind, Pushes, FitsRoot, is_int_in, HasAsMany, arguments_match};
 
 use crate::order::compare;
 use pi_core::Pattern;
@@ -51,6 +51,86 @@ pub fn match_head<S: StateStore>(
     ensures given { IsGiven (S.seen s.now) r → HoldsNoCycle (S.seen s.now) → HoldAllGiven (S.seen s.now) slots.old.items → HoldAllGiven (S.seen s.now) slots.new.items }
     ensures terms { IfOk result (λ found. (t : Tree) → IsTerm (S.seen s.now) r t → HoldsNoCycle (S.seen s.now) → HoldAllGiven (S.seen s.now) slots.old.items → TellsMatch found (matched_in (bindings (S.seen s.now).now.state) (pattern_tree p.now) t (slot_terms (S.seen s.now) slots.old.items)) (slot_terms (S.seen s.now) slots.new.items)) }
     ensures values { IfOk result (λ found. (t : Tree) → IsTerm (S.seen s.now) r t → HoldsNoCycle (S.seen s.now) → HoldAllGiven (S.seen s.now) slots.old.items → let b = bindings (S.seen s.now).now.state in TellsMatch found (matched (pattern_tree p.now) (value b t) (slot_values b (slot_terms (S.seen s.now) slots.old.items))) (slot_values b (slot_terms (S.seen s.now) slots.new.items))) }
+{
+    match_pattern(alloc, s, p, r, slots)
+}
+
+/// The same by the pattern: the patterns in a compound are matched one after the other, each by itself.
+fn match_pattern<S: StateStore>(
+    alloc: Global,
+    s: &S,
+    p: &Pattern,
+    r: Ref,
+    slots: &mut Slots,
+) -> Result<bool, AllocError>
+    ensures fills { FillsEmpty slots.old.items slots.new.items }
+    ensures given { IsGiven (S.seen s.now) r → HoldsNoCycle (S.seen s.now) → HoldAllGiven (S.seen s.now) slots.old.items → HoldAllGiven (S.seen s.now) slots.new.items }
+    ensures terms { IfOk result (λ found. (t : Tree) → IsTerm (S.seen s.now) r t → HoldsNoCycle (S.seen s.now) → HoldAllGiven (S.seen s.now) slots.old.items → TellsMatch found (matched_in (bindings (S.seen s.now).now.state) (pattern_tree p.now) t (slot_terms (S.seen s.now) slots.old.items)) (slot_terms (S.seen s.now) slots.new.items)) }
+{
+    match p {
+        Pattern::Comp(_, patterns) => {
+            if !matches_at_root(alloc, s, p, r, slots)? {
+                return Ok(false);
+            }
+            match_arguments(alloc, s, patterns.as_slice(), r, slots)
+        }
+        _ => match_part(alloc, s, p, r, slots),
+    }
+}
+
+/// Whether the arguments of a term, of which there are as many as patterns, are instances of these. It keeps no stack.
+fn match_arguments<S: StateStore>(
+    alloc: Global,
+    s: &S,
+    patterns: &[Pattern],
+    of: Ref,
+    slots: &mut Slots,
+) -> Result<bool, AllocError>
+    ensures fills { FillsEmpty slots.old.items slots.new.items }
+    ensures given { IsGiven (S.seen s.now) of → HoldsNoCycle (S.seen s.now) → HasAsMany (S.seen s.now) of patterns.now → HoldAllGiven (S.seen s.now) slots.old.items → HoldAllGiven (S.seen s.now) slots.new.items }
+    ensures found { IfOk result (λ found. IsGiven (S.seen s.now) of → HoldsNoCycle (S.seen s.now) → HasAsMany (S.seen s.now) of patterns.now → HoldAllGiven (S.seen s.now) slots.old.items → TellsMatch found (arguments_match (S.seen s.now) patterns.now of (slot_terms (S.seen s.now) slots.old.items)) (slot_terms (S.seen s.now) slots.new.items)) }
+{
+    for i in 0..patterns.len() {
+        let pattern = pattern_at(patterns, i);
+        let term = s.arg(of, i as u64);
+        if !match_part(alloc, s, pattern, term, slots)? {
+            return Ok(false);
+        }
+    }
+    Ok(true)
+}
+
+/// Whether a term is an instance of a pattern: at sight where the pattern has no parts.
+fn match_part<S: StateStore>(
+    alloc: Global,
+    s: &S,
+    p: &Pattern,
+    r: Ref,
+    slots: &mut Slots,
+) -> Result<bool, AllocError>
+    ensures fills { FillsEmpty slots.old.items slots.new.items }
+    ensures given { IsGiven (S.seen s.now) r → HoldsNoCycle (S.seen s.now) → HoldAllGiven (S.seen s.now) slots.old.items → HoldAllGiven (S.seen s.now) slots.new.items }
+    ensures terms { IfOk result (λ found. (t : Tree) → IsTerm (S.seen s.now) r t → HoldsNoCycle (S.seen s.now) → HoldAllGiven (S.seen s.now) slots.old.items → TellsMatch found (matched_in (bindings (S.seen s.now).now.state) (pattern_tree p.now) t (slot_terms (S.seen s.now) slots.old.items)) (slot_terms (S.seen s.now) slots.new.items)) }
+{
+    match p {
+        Pattern::Slot(_) | Pattern::Int(_) | Pattern::Atom(_) => {
+            matches_at_root(alloc, s, p, r, slots)
+        }
+        Pattern::Comp(_, _) | Pattern::Named(_, _) => match_nested(alloc, s, p, r, slots),
+    }
+}
+
+/// Whether a term is an instance of a pattern with patterns in it, which are kept on a stack.
+fn match_nested<S: StateStore>(
+    alloc: Global,
+    s: &S,
+    p: &Pattern,
+    r: Ref,
+    slots: &mut Slots,
+) -> Result<bool, AllocError>
+    ensures fills { FillsEmpty slots.old.items slots.new.items }
+    ensures given { IsGiven (S.seen s.now) r → HoldsNoCycle (S.seen s.now) → HoldAllGiven (S.seen s.now) slots.old.items → HoldAllGiven (S.seen s.now) slots.new.items }
+    ensures terms { IfOk result (λ found. (t : Tree) → IsTerm (S.seen s.now) r t → HoldsNoCycle (S.seen s.now) → HoldAllGiven (S.seen s.now) slots.old.items → TellsMatch found (matched_in (bindings (S.seen s.now).now.state) (pattern_tree p.now) t (slot_terms (S.seen s.now) slots.old.items)) (slot_terms (S.seen s.now) slots.new.items)) }
 {
     let mut left = Vec::new(alloc);
     let mut at = Pending {
@@ -128,7 +208,7 @@ fn is_compound<S: StateStore>(s: &S, cell: Cell, name: &str, count: usize) -> bo
 fn has_name<S: StateStore>(s: &S, k: u64, name: &str) -> bool
     ensures { (f : List ℕ) → IsName (S.seen s.now) k f → result ≡ is_eq (name_order name.now f) }
 {
-    name.cmp(s.name(k)).is_eq()
+    name == s.name(k)
 }
 
 /// Whether a slot takes a term: an empty one does, and a filled one where the terms have one value.

@@ -1,10 +1,11 @@
 //! Whether a variable occurs in a term.
-ghost use Rattle.std.specs.Prelude.{◌≡◌, ℕ, ◌∷◌, IfOk};
+ghost use Rattle.std.specs.Prelude.{◌≡◌, ℕ, ◌∷◌, true, false, IfOk};
+ghost use Rattle.pi_terms.specs.Tree.{args, arity};
 ghost use Rattle.pi_states.specs.Value.{value};
 ghost use Rattle.pi_states.specs.State.{bindings, IsState};
 ghost use Rattle.pi_states.specs.Unify.{does_occur};
-ghost use Rattle.pi_unify.specs.Refs.{IsRef, term_of};
-ghost use Rattle.pi_unify.specs.Ahead.{AreArgs, term_and};
+ghost use Rattle.pi_unify.specs.Refs.{IsRef, term_of, root_of};
+ghost use Rattle.pi_unify.specs.Ahead.{AreArgs, term_and, in_list, some_hold, HoldsNot};
 ghost use Rattle.pi_unify.specs.Answers.{LooksFor, TakesArg};
 
 use crate::ahead::{Rest, leave_all, next_term};
@@ -29,6 +30,9 @@ pub(crate) fn occurs<S: StateStore>(
 ) -> Result<bool, AllocError>
     ensures { IfOk result (λ found. IsState (S.seen s.now).now.state → IsRef (S.seen s.now) r → found ≡ does_occur v (value (bindings (S.seen s.now).now.state) (term_of (S.seen s.now) r))) }
 {
+    if is_apart(s, v, r) {
+        return Ok(false);
+    }
     let mut ahead = Vec::new(alloc);
     let mut at = r;
     for _ in 0..u64::MAX {
@@ -39,6 +43,50 @@ pub(crate) fn occurs<S: StateStore>(
         }
     }
     Err(AllocError)
+}
+
+/// Whether it is seen at once that a variable doesn't occur in a term: it is ground, or a compound of ground terms and other
+/// variables, as most are that are made for a call.
+fn is_apart<S: StateStore>(s: &S, v: u64, r: Ref) -> bool
+    ensures { result ≡ true → IsState (S.seen s.now).now.state → IsRef (S.seen s.now) r → HoldsNot (S.seen s.now) v r }
+{
+    if s.is_ground(r) {
+        return true;
+    }
+    match s.look(r) {
+        Cell::Comp(_, count) => are_others(s, v, r, count),
+        _ => false,
+    }
+}
+
+/// Whether all arguments of a compound, so many, are ground terms and other variables.
+fn are_others<S: StateStore>(s: &S, v: u64, of: Ref, count: u64) -> bool
+    ensures { result ≡ true → IsState (S.seen s.now).now.state → IsRef (S.seen s.now) of → arity (root_of (S.seen s.now) of) ≡ count → some_hold (bindings (S.seen s.now).now.state) v (in_list (args (root_of (S.seen s.now) of))) ≡ false }
+{
+    for i in 0..count {
+        if !is_another(s, v, s.arg(of, i)) {
+            return false;
+        }
+    }
+    true
+}
+
+/// Whether a term is ground or another variable, in which a variable can't occur.
+fn is_another<S: StateStore>(s: &S, v: u64, r: Ref) -> bool
+    ensures { result ≡ true → IsState (S.seen s.now).now.state → IsRef (S.seen s.now) r → HoldsNot (S.seen s.now) v r }
+{
+    if s.is_ground(r) {
+        return true;
+    }
+    match s.look(r) {
+        Cell::Var(n) => {
+            if n == v {
+                return false;
+            }
+            true
+        }
+        _ => false,
+    }
 }
 
 fn look_for<S: StateStore>(

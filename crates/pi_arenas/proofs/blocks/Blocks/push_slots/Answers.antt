@@ -1,10 +1,9 @@
-use Rattle.std.proofs.Common.{rules, None}
-use Rattle.pi_arenas.proofs.BlocksLemmas.{keeps_then, one_more}
+use Rattle.std.proofs.Common.{rules}
+use Rattle.pi_arenas.proofs.BlocksLemmas.{keeps_more, keeps_slots}
 use Rattle.pi_arenas.proofs.blocks.Blocks.push_slots.Goals as goal
 
-pub loop-slot-preserved : goal.loop-slot-preserved
-loop-slot-preserved c = (
-  one_more c.args.self.now.slots c.loop-slot.self.slots c.push.new.self.slots c.args.slots.now c.loop-slot.slot-index None c.loop-slot-test.true c.loop-slot.invariant.0 c.in_ok-push.ensures.ok,
-  search rules,
-  keeps_then c.args.self.now c.loop-slot.self c.push.new.self (search rules) c.push.ensures.keeps,
-)
+pub returns-clause-keeps : goal.returns-clause-keeps
+returns-clause-keeps c = keeps_more _ _ c.args.slots.now (search rules) (search rules) (search rules)
+
+pub returns-in_err-extend_from_slice-clause-keeps : goal.returns-in_err-extend_from_slice-clause-keeps
+returns-in_err-extend_from_slice-clause-keeps c = keeps_slots _ _ (search rules) (search rules) (search rules)

@@ -3,7 +3,7 @@ use Rattle.pi_core.specs.CoreTree.{pattern_tree}
 use Rattle.pi_unify.specs.Terms.{IsGiven, HoldsNoCycle, term_of}
 use Rattle.pi_unify.specs.Matching.{HoldAllGiven, FillsEmpty, AreWithin, nodes, nodes_left}
 use Rattle.pi_unify.proofs.MatchLoopLemmas.{Goes}
-use Rattle.pi_unify.proofs.matching.match_head.Given as goal
+use Rattle.pi_unify.proofs.matching.match_nested.Given as goal
 
 abbrev pub invariant-loop-left : goal.invariant-loop-left
 invariant-loop-left g l =
