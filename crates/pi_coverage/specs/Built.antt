@@ -1,6 +1,6 @@
--- Which parts of a program and which goals are built, by what is written alone: all forms but loops, comprehensions, `:=`, `index` and facts, events, `call`, constraints, labelling and
--- what planning gives; `V@P` behind `$`, and texts in heads. A name that is called is one of the tables of built-in predicates and functions, one of the prelude's predicates, or one
--- that the language doesn't give. (Own.)
+-- Which parts of a program and which goals are built, by what is written alone: all forms but loops, comprehensions, `index` and facts, events, `call`, constraints, labelling and what
+-- planning gives (and `V@P` behind `$`, which no text without a fault has). A name that is called is one of the tables of built-in predicates and functions, one of the prelude's
+-- predicates, or one that the language doesn't give. (Own.)
 use Rattle.std.specs.Prelude.{ℕ, zero, suc, ◌+◌, Bool, true, false, not, ◌&&◌, ◌||◌, cond, if◌then◌else◌, List, [], ◌∷◌, Option, Some, None, is_none, codes}
 use Rattle.std.specs.Str.{bytes_eq}
 use Rattle.pi_effects.specs.BuiltIns.{is_predicate, is_function}
@@ -60,6 +60,7 @@ unfoldable mutual
   is_built_pattern (var name) = true
   is_built_pattern (int n) = true
   is_built_pattern (atom name) = true
+  is_built_pattern (str text) = true
   is_built_pattern (list es) = are_built_patterns es
   is_built_pattern (list_onto es e) = are_built_patterns es && is_built_pattern e
   is_built_pattern (array es) = are_built_patterns es
@@ -90,7 +91,7 @@ abbrev pub is_built_form : Option Form → List ℕ → ℕ → Bool → (ℕ �
 is_built_form None name k exps value goal = exps && is_built_predicate name k
 is_built_form (Some negation) name k exps value goal = goal 0
 is_built_form (Some once) name k exps value goal = goal 0
-is_built_form (Some assignment) name k exps value goal = false
+is_built_form (Some assignment) name k exps value goal = value 1
 is_built_form (Some catch) name k exps value goal = goal 0 && (value 1 && goal 2)
 is_built_form (Some by_term) name k exps value goal = false
 is_built_form (Some membership) name k exps value goal = false

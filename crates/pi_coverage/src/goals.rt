@@ -111,7 +111,7 @@ fn is_built_call(name: &str, args: &[Exp]) -> bool
         Some(form) => match form {
             Form::Negation => is_built_goal_at(args, 0),
             Form::Once => is_built_goal_at(args, 0),
-            Form::Assignment => false,
+            Form::Assignment => is_built_value_at(args, 1),
             Form::Catch => {
                 is_built_goal_at(args, 0) & (is_built_value_at(args, 1) & is_built_goal_at(args, 2))
             }

@@ -45,6 +45,7 @@ fn is_built_pattern(exp: &Exp) -> bool
         Exp::Var(_) => true,
         Exp::Int(_) => true,
         Exp::Atom(_) => true,
+        Exp::Str(_) => true,
         Exp::List(items, tail) => match tail {
             Some(tail) => are_built_patterns(items.as_slice()) & is_built_pattern(tail),
             None => are_built_patterns(items.as_slice()),
@@ -59,7 +60,15 @@ fn is_built_pattern(exp: &Exp) -> bool
             None => is_built_pattern(first) & is_built_pattern(last),
         },
         Exp::At(_, inner) => is_built_pattern(inner),
-        _ => false,
+        Exp::Index(_, _) => false,
+        Exp::Collect(_, _, _) => false,
+        Exp::And(_) => false,
+        Exp::Or(_) => false,
+        Exp::Arrow(_, _) => false,
+        Exp::If(_, _) => false,
+        Exp::Foreach(_, _) => false,
+        Exp::While(_, _) => false,
+        Exp::DoWhile(_, _) => false,
     }
 }
 

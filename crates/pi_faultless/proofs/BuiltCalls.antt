@@ -14,7 +14,7 @@ use Rattle.pi_clauses.specs.Places.{asked, expression}
 use Rattle.pi_coverage.specs.Built.{is_own, is_prelude_kind, is_built_predicate, is_built_function, is_built_value_call, is_built_form, is_built_atom}
 use Rattle.pi_lowered.specs.Forms.{Knows, IsFunctionCall, IsPredicateCall, IsAtomGoal}
 use Rattle.pi_faultless.proofs.KnownCalls.{AreKnown, goal-known}
-use Rattle.pi_faultless.proofs.PlainNames.{has_places, own-form, built-plain, function-built-plain}
+use Rattle.pi_faultless.proofs.PlainNames.{has_places, own-form, term-plain, built-plain, function-built-plain}
 use Rattle.pi_faultless.proofs.CallPlaces.{place_behind}
 
 -- What is there has each predicate and each function that a call of a name of its own finds defined, and the prelude's.
@@ -78,6 +78,10 @@ find-places : (name : List ℕ) (k : ℕ) → IsSpelled name k (codes "find_all"
 unfolding is_goal_sign is_membership is_reified
 find-places name k is = by-spelling (λ n j. (place_behind n j 0 0 ≡ expression) × (place_behind n j 0 1 ≡ asked)) name k (codes "find_all") 2 is (refl, refl)
 
+assigned-place : (name : List ℕ) (k : ℕ) → IsSpelled name k (codes ":=") 2 → place_behind name k 0 1 ≡ expression
+unfolding is_goal_sign is_membership is_reified
+assigned-place name k is = by-spelling (λ n j. place_behind n j 0 1 ≡ expression) name k (codes ":=") 2 is refl
+
 catch-places : (name : List ℕ) (k : ℕ) → IsSpelled name k (codes "catch") 3 → ((place_behind name k 0 0 ≡ asked) × (place_behind name k 0 1 ≡ expression)) × (place_behind name k 0 2 ≡ asked)
 unfolding is_goal_sign is_membership is_reified
 catch-places name k is =
@@ -112,25 +116,25 @@ function-of defined known has name k exps value goal Exps Value Goal arguments c
 -- ---- predicates
 
 -- what a form says of the tests of names
-abbrev IsTested : Option Form → Bool → Bool → Bool → Type 0
-IsTested None negated single caught = ⊤
-IsTested (Some Form.negation) negated single caught = negated ≡ true
-IsTested (Some Form.once) negated single caught = single ≡ true
-IsTested (Some Form.assignment) negated single caught = ⊤
-IsTested (Some Form.catch) negated single caught = caught ≡ true
-IsTested (Some Form.by_term) negated single caught = ⊤
-IsTested (Some Form.membership) negated single caught = ⊤
+abbrev IsTested : Option Form → Bool → Bool → Bool → Bool → Bool → Type 0
+IsTested None negated single assigns caught termed = ⊤
+IsTested (Some Form.negation) negated single assigns caught termed = negated ≡ true
+IsTested (Some Form.once) negated single assigns caught termed = single ≡ true
+IsTested (Some Form.assignment) negated single assigns caught termed = assigns ≡ true
+IsTested (Some Form.catch) negated single assigns caught termed = caught ≡ true
+IsTested (Some Form.by_term) negated single assigns caught termed = termed ≡ true
+IsTested (Some Form.membership) negated single assigns caught termed = ⊤
 
-tested : (a b c d e f : Bool) → IsTested (cond a (Some negation) (cond b (Some once) (cond c (Some assignment) (cond d (Some catch) (cond e (Some by_term) (cond f (Some membership) None)))))) a b d
+tested : (a b c d e f : Bool) → IsTested (cond a (Some negation) (cond b (Some once) (cond c (Some assignment) (cond d (Some catch) (cond e (Some by_term) (cond f (Some membership) None)))))) a b c d e
 tested true b c d e f = refl
 tested false true c d e f = refl
-tested false false true d e f = tt
+tested false false true d e f = refl
 tested false false false true e f = refl
-tested false false false false true f = tt
+tested false false false false true f = refl
 tested false false false false false true = tt
 tested false false false false false false = tt
 
-form-tested : (name : List ℕ) (k : ℕ) → IsTested (form_of name k) (k == 1 && bytes_eq name (codes "not")) (k == 1 && bytes_eq name (codes "once")) (is_catch name k)
+form-tested : (name : List ℕ) (k : ℕ) → IsTested (form_of name k) (k == 1 && bytes_eq name (codes "not")) (k == 1 && bytes_eq name (codes "once")) (k == 2 && bytes_eq name (codes ":=")) (is_catch name k) (is_call name k)
 unfolding form_of
 form-tested name k = tested (k == 1 && bytes_eq name (codes "not")) (k == 1 && bytes_eq name (codes "once")) (k == 2 && bytes_eq name (codes ":=")) (is_catch name k) (is_call name k) (k == 2 && bytes_eq name (codes "in"))
 
@@ -139,7 +143,7 @@ pub predicate-of : (defined : List Named) (known : Knows) → Has defined known 
     IsPredicateCall known (form_of name k) name k Exps Value Goal
 predicate-of defined known has name k exps value goal Exps Value Goal arguments calls built = go (form_of name k) (form-tested name k) built
   where
-    go : (form : Option Form) → IsTested form (k == 1 && bytes_eq name (codes "not")) (k == 1 && bytes_eq name (codes "once")) (is_catch name k) → is_built_form form name k exps value goal ≡ true →
+    go : (form : Option Form) → IsTested form (k == 1 && bytes_eq name (codes "not")) (k == 1 && bytes_eq name (codes "once")) (k == 2 && bytes_eq name (codes ":=")) (is_catch name k) (is_call name k) → is_built_form form name k exps value goal ≡ true →
         IsPredicateCall known form name k Exps Value Goal
     go None is h =
         let both = and_parts exps (is_built_predicate name k) h in
@@ -147,7 +151,7 @@ predicate-of defined known has name k exps value goal Exps Value Goal arguments 
         (arguments.all plain.0 both.0, plain.1, predicate-there defined known has name k both.1 calls)
     go (Some Form.negation) is h = arguments.inner 0 (negation-place name k is) h
     go (Some Form.once) is h = arguments.inner 0 (once-place name k is) h
-    go (Some Form.assignment) is h = absurd cc
+    go (Some Form.assignment) is h = arguments.one 1 (assigned-place name k is) h
     go (Some Form.catch) is h =
         let both = and_parts (goal 0) (value 1 && goal 2) h in
         let rest = and_parts (value 1) (goal 2) both.1 in

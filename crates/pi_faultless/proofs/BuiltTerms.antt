@@ -36,6 +36,7 @@ mutual
   pattern-of (var name) h = tt
   pattern-of (int n) h = tt
   pattern-of (atom name) h = tt
+  pattern-of (str text) h = tt
   pattern-of (list es) h = patterns-of es h
   pattern-of (list_onto es e) h = let both = and_parts (are_built_patterns es) (is_built_pattern e) h in (patterns-of es both.0, pattern-of e both.1)
   pattern-of (array es) h = patterns-of es h

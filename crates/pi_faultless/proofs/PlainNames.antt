@@ -1,8 +1,8 @@
 -- Names that are built have plain calls: none of their arguments stands as a goal, as a pattern or between the signs of constraints, and a predicate reads each as an expression.
 use Rattle.std.proofs.Common.{◌≡◌, ℕ, Bool, true, false, cond, if◌then◌else◌, List, [], ◌∷◌, refl, sym, subst}
-use Rattle.std.specs.Prelude.{◌==◌, ◌&&◌, ◌||◌, not, Option, Some, None, is_none, is_some, codes}
+use Rattle.std.specs.Prelude.{◌==◌, ◌&&◌, ◌||◌, nat_le, not, Option, Some, None, is_none, is_some, codes}
 use Rattle.std.specs.Str.{bytes_eq}
-use Rattle.std.proofs.lemmas.Bool.{and_parts, or_from, not-true, eqb-true}
+use Rattle.std.proofs.lemmas.Bool.{and_parts, or_left, or_from, not-true, eqb-true}
 use Rattle.pi_effects.specs.Rows.{has_line}
 use Rattle.pi_effects.specs.Integers.{integer_functions}
 use Rattle.pi_effects.specs.Comparing.{comparing_tests}
@@ -16,10 +16,10 @@ use Rattle.pi_effects.specs.Texts.{text_functions, writing_predicates}
 use Rattle.pi_effects.specs.Making.{making_functions}
 use Rattle.pi_effects.specs.BuiltIns.{reading_functions, is_function, tests, other_predicates, is_predicate}
 use Rattle.pi_lib.specs.Forms.{is_form}
-use Rattle.pi_lib.specs.Names.{function_rows, predicate_rows, prelude_rows, is_listed, kind_of}
+use Rattle.pi_lib.specs.Names.{function_rows, predicate_rows, prelude_rows, row, is_listed, kind_of}
 use Rattle.pi_lib.specs.declared.builtin.BuiltinKind.{BuiltinKind}
 use Rattle.pi_syntax.specs.Tokens.{is_one_of}
-use Rattle.pi_meaning.specs.Names.{is_catch}
+use Rattle.pi_meaning.specs.Names.{is_catch, is_call}
 use Rattle.pi_names.specs.Forms.{Reading, is_constraint, is_connective, is_within, readings, is_find_all, is_count_all}
 use Rattle.pi_names.proofs.TableLemmas.{Test, same-name, one-of, each-spelled, spellings-hold, each-below, body-holds, each-line, lines-hold, each-from, each-row, rows-hold}
 use Rattle.pi_clauses.specs.Operators.{is_goal_sign, is_membership, is_reified}
@@ -156,12 +156,24 @@ own-plain name k own =
 
 -- ---- names that are built
 
-pub built-plain : (name : List ℕ) (k : ℕ) → is_built_predicate name k ≡ true → (has_places name k ≡ false) × (readings name k ≡ [])
-built-plain name k built =
-    let plain : is_plain name k ≡ true =
-    one-of (is_predicate name k) _ (is_plain name k) (predicate-plain name k) (one-of (is_own name k) (is_prelude_kind (kind_of name k)) (is_plain name k) (own-plain name k) (prelude-plain name k)) built in
+-- a name with a plain test
+plain-parts : (name : List ℕ) (k : ℕ) → is_plain name k ≡ true → (has_places name k ≡ false) × (readings name k ≡ [])
+plain-parts name k plain =
     let parts : (not (has_places name k) ≡ true) × (are_plain (readings name k) ≡ true) = and_parts (not (has_places name k)) (are_plain (readings name k)) plain in
     (not-true (has_places name k) parts.0, no-readings (readings name k) parts.1)
+
+-- `call` with any of its numbers of arguments
+pub term-plain : (name : List ℕ) (k : ℕ) → is_call name k ≡ true → (has_places name k ≡ false) × (readings name k ≡ [])
+unfolding each-row each-from readings is_goal_sign is_membership is_reified
+term-plain name k is =
+    let parts : ((nat_le 1 k && nat_le k 8) ≡ true) × (bytes_eq name (codes "call") ≡ true) = and_parts (nat_le 1 k && nat_le k 8) (bytes_eq name (codes "call")) is in
+    plain-parts name k (subst (λ (n : List ℕ). is_plain n k ≡ true) (sym (same-name name (codes "call") parts.1))
+    (rows-hold (λ n j. is_plain n j) (row (codes "call") 1 8 ∷ []) refl (codes "call") k (or_left (nat_le 1 k && nat_le k 8) false parts.0)))
+
+pub built-plain : (name : List ℕ) (k : ℕ) → is_built_predicate name k ≡ true → (has_places name k ≡ false) × (readings name k ≡ [])
+built-plain name k built =
+    plain-parts name k
+    (one-of (is_predicate name k) _ (is_plain name k) (predicate-plain name k) (one-of (is_own name k) (is_prelude_kind (kind_of name k)) (is_plain name k) (own-plain name k) (prelude-plain name k)) built)
 
 but-for : (a b : Bool) → (not a || b) ≡ true → b ≡ false → a ≡ false
 but-for true b h e = absurd cc

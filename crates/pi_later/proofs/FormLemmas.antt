@@ -6,30 +6,36 @@ use Rattle.pi_terms.specs.Tree.{comp}
 use Rattle.pi_traces.specs.Trace.{done, one}
 use Rattle.pi_meaning.specs.Environment.{Valued}
 use Rattle.pi_meaning.specs.Place.{Place}
+use Rattle.pi_meaning.specs.Names.{is_call}
 use Rattle.pi_meaning.specs.Given.{Setting}
-use Rattle.pi_names.specs.Control.{Goal, Value, Values, nothing, made_of, applied_to, all_found, all_counted, called_with, denying, taken_once, catching, goal_at, value_at}
-use Rattle.pi_names.specs.Forms.{Form, negation, once, assignment, catch, by_term, membership, Parts, call_goal, atom_goal, Reading, plain, operand, boolean, ranged, is_operand_node, is_sum, is_connective, is_constraint, is_find_all, is_count_all, call_value, range_value}
+use Rattle.pi_names.specs.Control.{Goal, Value, Values, nothing, made_of, applied_to, all_found, all_counted, called_with, assigning, denying, taken_once, catching, goal_at, value_at}
+use Rattle.pi_names.specs.Forms.{Form, negation, once, assignment, catch, by_term, membership, form_of, Parts, call_goal, atom_goal, Reading, plain, operand, boolean, ranged, is_operand_node, is_sum, is_connective, is_constraint, is_find_all, is_count_all, call_value, range_value}
+use Rattle.pi_names.proofs.FormNames.{by_term-named}
 use Rattle.pi_coverage.specs.Built.{is_built_predicate, is_built_function, is_built_value_call, is_built_form, is_built_atom}
 use Rattle.pi_later.proofs.BuiltNames.{node-of_none, sign-of_none}
 use Rattle.pi_later.proofs.CallLemmas.{CallsAlike, Counted, nothing-counted, called-alike, applied-alike}
 
 -- ---- goals
 
-pub form-alike : (a b : Setting) → CallsAlike a b → (o : Option Form) (name : List ℕ) (k : ℕ) (x y : Parts) (exps : Bool) (value goal : ℕ → Bool) → is_built_form o name k exps value goal ≡ true →
-    Counted Place k x.all → (exps ≡ true → x.all ≡ y.all) → ((i : ℕ) → value i ≡ true → value_at x.values i ≡ value_at y.values i) →
+-- a name that is no `call` with so many arguments has another form
+pub no-term : (name : List ℕ) (k : ℕ) → is_call name k ≡ false → form_of name k ≡ Some by_term → ⊥
+no-term name k other is = let named : is_call name k ≡ true = by_term-named name k is in absurd cc
+
+pub form-alike : (a b : Setting) → CallsAlike a b → (o : Option Form) (name : List ℕ) (k : ℕ) (x y : Parts) (exps : Bool) (value goal : ℕ → Bool) → (o ≡ Some by_term → ⊥) → is_built_form o name k exps value goal ≡ true →
+    Counted Place k x.all → x.variable ≡ y.variable → (exps ≡ true → x.all ≡ y.all) → ((i : ℕ) → value i ≡ true → value_at x.values i ≡ value_at y.values i) →
     ((i : ℕ) → goal i ≡ true → goal_at x.goals i ≡ goal_at y.goals i) → call_goal a name o x ≡ call_goal b name o y
-form-alike a b h None name k x y exps value goal built counted all values goals =
+form-alike a b h None name k x y exps value goal other built counted same all values goals =
     let parts = and_parts exps (is_built_predicate name k) built in
     called-alike a b h name k parts.1 x.all y.all counted (all parts.0)
-form-alike a b h (Some negation) name k x y exps value goal built counted all values goals = λ i. denying (goals 0 built i)
-form-alike a b h (Some once) name k x y exps value goal built counted all values goals = λ i. taken_once (goals 0 built i)
-form-alike a b h (Some assignment) name k x y exps value goal built counted all values goals = absurd cc
-form-alike a b h (Some catch) name k x y exps value goal built counted all values goals =
+form-alike a b h (Some negation) name k x y exps value goal other built counted same all values goals = λ i. denying (goals 0 built i)
+form-alike a b h (Some once) name k x y exps value goal other built counted same all values goals = λ i. taken_once (goals 0 built i)
+form-alike a b h (Some assignment) name k x y exps value goal other built counted same all values goals = λ i. assigning (same i) (values 1 built i)
+form-alike a b h (Some catch) name k x y exps value goal other built counted same all values goals =
     let parts = and_parts (goal 0) (value 1 && goal 2) built in
     let rest = and_parts (value 1) (goal 2) parts.1 in
     λ i. catching (goals 0 parts.0 i) (values 1 rest.0 i) (goals 2 rest.1 i)
-form-alike a b h (Some by_term) name k x y exps value goal built counted all values goals = absurd cc
-form-alike a b h (Some membership) name k x y exps value goal built counted all values goals = absurd cc
+form-alike a b h (Some by_term) name k x y exps value goal other built counted same all values goals = absurd (other refl)
+form-alike a b h (Some membership) name k x y exps value goal other built counted same all values goals = absurd cc
 
 -- what an atom does, by whether it is `true` or `fail`
 abbrev atom-by : Setting → List ℕ → Bool → Bool → Goal

@@ -1,6 +1,6 @@
--- Goals and expressions that are built mean the same where calls of names that are built do.
-use Rattle.std.specs.Prelude.{◌≡◌, ◌++◌, ◌&&◌, ℕ, zero, suc, true, List, [], Some, refl}
-use Rattle.std.proofs.lemmas.Bool.{and_parts}
+-- Goals and expressions that are built, and call no term, mean the same where calls of names that are built do.
+use Rattle.std.specs.Prelude.{◌≡◌, ◌++◌, ◌&&◌, ◌||◌, ℕ, zero, suc, true, false, List, [], Some, refl}
+use Rattle.std.proofs.lemmas.Bool.{and_parts, or_parts}
 use Rattle.pi_terms.specs.Tree.{Tree, comp}
 use Rattle.pi_terms.specs.ListNames.{nil}
 use Rattle.pi_print.specs.PrintTerm.{array_name}
@@ -9,6 +9,7 @@ use Rattle.pi_syntax.specs.ExpTree.{ExpTree, var, int, atom, str, list, list_ont
 use Rattle.pi_syntax.specs.Signature.{exp_count}
 use Rattle.pi_traces.specs.Trace.{one}
 use Rattle.pi_meaning.specs.Environment.{Valued}
+use Rattle.pi_meaning.specs.Names.{is_call}
 use Rattle.pi_meaning.specs.Given.{Setting}
 use Rattle.pi_names.specs.Texts.{Names, places, places_all, places_behind, places_caught, places_of_branches, behind, variable_first}
 use Rattle.pi_names.specs.Terms.{items_onto}
@@ -16,9 +17,10 @@ use Rattle.pi_names.specs.Control.{Goal, Value, Values, draining, nothing, in_fr
 use Rattle.pi_names.specs.Forms.{form_of, Parts, Reading, plain, readings, first_reading, later_readings, operand_readings, indexed_by}
 use Rattle.pi_names.specs.Goals.{value_of, values_of, values_in, values_apart, goals_in, goal_of, all_of, any_of, arrow_in, branches_of}
 use Rattle.pi_coverage.specs.Built.{are_some, is_built_value, are_built_values, is_built_value_at, is_built_goal_at, is_built_goal, are_built_goals, are_built_branches, is_built_branch, have_built_goals}
+use Rattle.pi_coverage.specs.TermCalls.{calls_terms, some_call_terms, some_branch_calls_terms}
 use Rattle.pi_later.proofs.BuiltNames.{ranges-built, index-built}
 use Rattle.pi_later.proofs.CallLemmas.{CallsAlike, Counted, nothing-counted, front-counted, values-counted, applied-alike}
-use Rattle.pi_later.proofs.FormLemmas.{form-alike, atom-alike, call-value-alike, range-alike}
+use Rattle.pi_later.proofs.FormLemmas.{no-term, form-alike, atom-alike, call-value-alike, range-alike}
 
 -- two values in front of no more, and three
 two-counted : (v w : Value) → Counted Valued 2 (in_front v (in_front w nothing))
@@ -41,19 +43,20 @@ branch-goal a b before e n same = absurd cc
 
 mutual
   unfolding value_of values_of values_in values_apart goals_in goal_of all_of any_of arrow_in branches_of indexed_by value_at goal_at is_built_value are_built_values is_built_value_at is_built_goal_at is_built_goal
-      are_built_goals are_built_branches is_built_branch have_built_goals
+      are_built_goals are_built_branches is_built_branch have_built_goals calls_terms some_call_terms some_branch_calls_terms
 
-  pub value-alike : (a b : Setting) → CallsAlike a b → (r : Reading) (before : Names) (e : ExpTree) → is_built_value e ≡ true → value_of a r before e ≡ value_of b r before e
-  value-alike a b h r before (var name) n = refl
-  value-alike a b h r before (int i) n = refl
-  value-alike a b h r before (atom name) n = refl
-  value-alike a b h r before (str text) n = refl
-  value-alike a b h r before (list es) n = λ i l p. made_of (λ ts. items_onto ts (Tree.atom nil)) (values-alike a b h [] before es n i) l p
-  value-alike a b h r before (list_onto es e) n =
+  pub value-alike : (a b : Setting) → CallsAlike a b → (r : Reading) (before : Names) (e : ExpTree) → is_built_value e ≡ true → calls_terms e ≡ false → value_of a r before e ≡ value_of b r before e
+  value-alike a b h r before (var name) n z = refl
+  value-alike a b h r before (int i) n z = refl
+  value-alike a b h r before (atom name) n z = refl
+  value-alike a b h r before (str text) n z = refl
+  value-alike a b h r before (list es) n z = λ i l p. made_of (λ ts. items_onto ts (Tree.atom nil)) (values-alike a b h [] before es n z i) l p
+  value-alike a b h r before (list_onto es e) n z =
       let parts = and_parts (are_built_values es) (is_built_value e) n in
-      λ i l p. made_onto items_onto (values-alike a b h [] before es parts.0 i) (value-alike a b h plain (behind before (places_all es)) e parts.1 i) l p
-  value-alike a b h r before (array es) n = λ i l p. made_of (comp array_name) (values-alike a b h [] before es n i) l p
-  value-alike a b h r before (call name es) n =
+      let free = or_parts (some_call_terms es) (calls_terms e) z in
+      λ i l p. made_onto items_onto (values-alike a b h [] before es parts.0 free.0 i) (value-alike a b h plain (behind before (places_all es)) e parts.1 free.1 i) l p
+  value-alike a b h r before (array es) n z = λ i l p. made_of (comp array_name) (values-alike a b h [] before es n z i) l p
+  value-alike a b h r before (call name es) n z =
       let parts : Setting → Parts = λ set. record {
         variable = variable_first es;
         goals = goals_in set before es;
@@ -61,72 +64,79 @@ mutual
         late = values_apart set (behind before (places_behind es)) es;
         all = values_of set (operand_readings r name (exp_count es)) before es;
       } in
+      let free = or_parts (is_call name (exp_count es)) (some_call_terms es) z in
       λ i l p. call-value-alike a b h name (exp_count es) (parts a) (parts b) (are_built_values es) (is_built_value_at es) (is_built_goal_at es)
-      (values-counted a (operand_readings r name (exp_count es)) before es) (λ m. values-alike a b h (operand_readings r name (exp_count es)) before es m)
-      (λ k m. late-alike a b h (behind before (places_behind es)) es k m) (λ k m. goal-at-alike a b h before es k m) r n i l p
-  value-alike a b h r before (quote e) n = refl
-  value-alike a b h r before (index e es) n =
+      (values-counted a (operand_readings r name (exp_count es)) before es) (λ m. values-alike a b h (operand_readings r name (exp_count es)) before es m free.1)
+      (λ k m. late-alike a b h (behind before (places_behind es)) es k m free.1) (λ k m. goal-at-alike a b h before es k m free.1) r n i l p
+  value-alike a b h r before (quote e) n z = refl
+  value-alike a b h r before (index e es) n z =
       let parts = and_parts (is_built_value e) (are_built_values es && are_some es) n in
-      λ i l p. indexed-alike a b h (behind before (places e)) es (and_parts (are_built_values es) (are_some es) parts.1).0 (value_of a plain before e) (value_of b plain before e)
-      (value-alike a b h plain before e parts.0) i l p
-  value-alike a b h r before (range first last) n =
+      let free = or_parts (calls_terms e) (some_call_terms es) z in
+      λ i l p. indexed-alike a b h (behind before (places e)) es (and_parts (are_built_values es) (are_some es) parts.1).0 free.1 (value_of a plain before e) (value_of b plain before e)
+      (value-alike a b h plain before e parts.0 free.0) i l p
+  value-alike a b h r before (range first last) n z =
       let parts = and_parts (is_built_value first) (is_built_value last) n in
+      let free = or_parts (calls_terms first) (calls_terms last) z in
       λ i l p. range-alike a b h r 2 ranges-built.0
       (in_front (value_of a plain before first) (in_front (value_of a plain (behind before (places first)) last) nothing)) (in_front (value_of b plain before first) (in_front (value_of b plain (behind before (places first)) last) nothing))
       (two-counted (value_of a plain before first) (value_of a plain (behind before (places first)) last))
-      (λ j. in_front (value-alike a b h plain before first parts.0 j) (in_front (value-alike a b h plain (behind before (places first)) last parts.1 j) nothing)) i l p
-  value-alike a b h r before (range_by first step last) n =
+      (λ j. in_front (value-alike a b h plain before first parts.0 free.0 j) (in_front (value-alike a b h plain (behind before (places first)) last parts.1 free.1 j) nothing)) i l p
+  value-alike a b h r before (range_by first step last) n z =
       let parts = and_parts (is_built_value first) (is_built_value step && is_built_value last) n in
       let rest = and_parts (is_built_value step) (is_built_value last) parts.1 in
+      let free = or_parts (calls_terms first) (calls_terms step || calls_terms last) z in
+      let others = or_parts (calls_terms step) (calls_terms last) free.1 in
       let bounds : Setting → Values = λ set. in_front (value_of set plain before first) (in_front (value_of set plain (behind before (places first)) step) (in_front (value_of set plain (behind before (places first ++ places step)) last) nothing)) in
       λ i l p. range-alike a b h r 3 ranges-built.1 (bounds a) (bounds b)
       (three-counted (value_of a plain before first) (value_of a plain (behind before (places first)) step) (value_of a plain (behind before (places first ++ places step)) last))
-      (λ j. in_front (value-alike a b h plain before first parts.0 j)
-      (in_front (value-alike a b h plain (behind before (places first)) step rest.0 j) (in_front (value-alike a b h plain (behind before (places first ++ places step)) last rest.1 j) nothing))) i l p
-  value-alike a b h r before (collect is_array e es) n = absurd cc
-  value-alike a b h r before (at name e) n = refl
-  value-alike a b h r before (and es) n = refl
-  value-alike a b h r before (or es) n = refl
-  value-alike a b h r before (arrow c e) n = refl
-  value-alike a b h r before (if_then bs) n = refl
-  value-alike a b h r before (if_else bs e) n = refl
-  value-alike a b h r before (foreach es e) n = refl
-  value-alike a b h r before (while_do c e) n = refl
-  value-alike a b h r before (do_while e c) n = refl
+      (λ j. in_front (value-alike a b h plain before first parts.0 free.0 j)
+      (in_front (value-alike a b h plain (behind before (places first)) step rest.0 others.0 j) (in_front (value-alike a b h plain (behind before (places first ++ places step)) last rest.1 others.1 j) nothing))) i l p
+  value-alike a b h r before (collect is_array e es) n z = absurd cc
+  value-alike a b h r before (at name e) n z = refl
+  value-alike a b h r before (and es) n z = refl
+  value-alike a b h r before (or es) n z = refl
+  value-alike a b h r before (arrow c e) n z = refl
+  value-alike a b h r before (if_then bs) n z = refl
+  value-alike a b h r before (if_else bs e) n z = refl
+  value-alike a b h r before (foreach es e) n z = refl
+  value-alike a b h r before (while_do c e) n z = refl
+  value-alike a b h r before (do_while e c) n z = refl
 
-  values-alike : (a b : Setting) → CallsAlike a b → (rs : List Reading) (before : Names) (es : ExpTrees) → are_built_values es ≡ true → values_of a rs before es ≡ values_of b rs before es
-  values-alike a b h rs before no_exps n = refl
-  values-alike a b h rs before (exp e es) n =
+  values-alike : (a b : Setting) → CallsAlike a b → (rs : List Reading) (before : Names) (es : ExpTrees) → are_built_values es ≡ true → some_call_terms es ≡ false → values_of a rs before es ≡ values_of b rs before es
+  values-alike a b h rs before no_exps n z = refl
+  values-alike a b h rs before (exp e es) n z =
       let parts = and_parts (is_built_value e) (are_built_values es) n in
-      λ i l p. in_front (value-alike a b h (first_reading rs) before e parts.0 i) (values-alike a b h (later_readings rs) (behind before (places e)) es parts.1 i) l p
+      let free = or_parts (calls_terms e) (some_call_terms es) z in
+      λ i l p. in_front (value-alike a b h (first_reading rs) before e parts.0 free.0 i) (values-alike a b h (later_readings rs) (behind before (places e)) es parts.1 free.1 i) l p
 
-  indexed-alike : (a b : Setting) → CallsAlike a b → (before : Names) (es : ExpTrees) → are_built_values es ≡ true → (v w : Value) → v ≡ w → indexed_by a v (values_in a before es) ≡ indexed_by b w (values_in b before es)
-  indexed-alike a b h before no_exps n v w d = d
-  indexed-alike a b h before (exp e es) n v w d =
+  indexed-alike : (a b : Setting) → CallsAlike a b → (before : Names) (es : ExpTrees) → are_built_values es ≡ true → some_call_terms es ≡ false → (v w : Value) → v ≡ w → indexed_by a v (values_in a before es) ≡ indexed_by b w (values_in b before es)
+  indexed-alike a b h before no_exps n z v w d = d
+  indexed-alike a b h before (exp e es) n z v w d =
       let parts = and_parts (is_built_value e) (are_built_values es) n in
-      indexed-alike a b h (behind before (places e)) es parts.1 (applied_to a index_name (in_front v (in_front (value_of a plain before e) nothing))) (applied_to b index_name (in_front w (in_front (value_of b plain before e) nothing)))
+      let free = or_parts (calls_terms e) (some_call_terms es) z in
+      indexed-alike a b h (behind before (places e)) es parts.1 free.1 (applied_to a index_name (in_front v (in_front (value_of a plain before e) nothing))) (applied_to b index_name (in_front w (in_front (value_of b plain before e) nothing)))
       (applied-alike a b h index_name 2 index-built (in_front v (in_front (value_of a plain before e) nothing)) (in_front w (in_front (value_of b plain before e) nothing)) (two-counted v (value_of a plain before e))
-      (λ i. in_front (d i) (in_front (value-alike a b h plain before e parts.0 i) nothing)))
+      (λ i. in_front (d i) (in_front (value-alike a b h plain before e parts.0 free.0 i) nothing)))
 
   -- the one with this number
-  value-at-alike : (a b : Setting) → CallsAlike a b → (before : Names) (es : ExpTrees) (k : ℕ) → is_built_value_at es k ≡ true → value_at (values_in a before es) k ≡ value_at (values_in b before es) k
-  value-at-alike a b h before no_exps k n = absurd cc
-  value-at-alike a b h before (exp e es) zero n = value-alike a b h plain before e n
-  value-at-alike a b h before (exp e es) (suc k) n = value-at-alike a b h (behind before (places e)) es k n
+  value-at-alike : (a b : Setting) → CallsAlike a b → (before : Names) (es : ExpTrees) (k : ℕ) → is_built_value_at es k ≡ true → some_call_terms es ≡ false → value_at (values_in a before es) k ≡ value_at (values_in b before es) k
+  value-at-alike a b h before no_exps k n z = absurd cc
+  value-at-alike a b h before (exp e es) zero n z = value-alike a b h plain before e n (or_parts (calls_terms e) (some_call_terms es) z).0
+  value-at-alike a b h before (exp e es) (suc k) n z = value-at-alike a b h (behind before (places e)) es k n (or_parts (calls_terms e) (some_call_terms es) z).1
 
-  late-alike : (a b : Setting) → CallsAlike a b → (before : Names) (es : ExpTrees) (k : ℕ) → is_built_value_at es k ≡ true → value_at (values_apart a before es) k ≡ value_at (values_apart b before es) k
-  late-alike a b h before no_exps k n = absurd cc
-  late-alike a b h before (exp e es) zero n = value-alike a b h plain before e n
-  late-alike a b h before (exp e es) (suc k) n = late-alike a b h before es k n
+  late-alike : (a b : Setting) → CallsAlike a b → (before : Names) (es : ExpTrees) (k : ℕ) → is_built_value_at es k ≡ true → some_call_terms es ≡ false → value_at (values_apart a before es) k ≡ value_at (values_apart b before es) k
+  late-alike a b h before no_exps k n z = absurd cc
+  late-alike a b h before (exp e es) zero n z = value-alike a b h plain before e n (or_parts (calls_terms e) (some_call_terms es) z).0
+  late-alike a b h before (exp e es) (suc k) n z = late-alike a b h before es k n (or_parts (calls_terms e) (some_call_terms es) z).1
 
-  goal-at-alike : (a b : Setting) → CallsAlike a b → (before : Names) (es : ExpTrees) (k : ℕ) → is_built_goal_at es k ≡ true → goal_at (goals_in a before es) k ≡ goal_at (goals_in b before es) k
-  goal-at-alike a b h before no_exps k n = absurd cc
-  goal-at-alike a b h before (exp e es) zero n = goal-alike a b h before e n
-  goal-at-alike a b h before (exp e es) (suc k) n = goal-at-alike a b h (behind before (places e)) es k n
+  goal-at-alike : (a b : Setting) → CallsAlike a b → (before : Names) (es : ExpTrees) (k : ℕ) → is_built_goal_at es k ≡ true → some_call_terms es ≡ false → goal_at (goals_in a before es) k ≡ goal_at (goals_in b before es) k
+  goal-at-alike a b h before no_exps k n z = absurd cc
+  goal-at-alike a b h before (exp e es) zero n z = goal-alike a b h before e n (or_parts (calls_terms e) (some_call_terms es) z).0
+  goal-at-alike a b h before (exp e es) (suc k) n z = goal-at-alike a b h (behind before (places e)) es k n (or_parts (calls_terms e) (some_call_terms es) z).1
 
-  pub goal-alike : (a b : Setting) → CallsAlike a b → (before : Names) (e : ExpTree) → is_built_goal e ≡ true → goal_of a before e ≡ goal_of b before e
-  goal-alike a b h before (atom name) n = λ i l p. draining (atom-alike a b h name n i) l p
-  goal-alike a b h before (call name es) n =
+  pub goal-alike : (a b : Setting) → CallsAlike a b → (before : Names) (e : ExpTree) → is_built_goal e ≡ true → calls_terms e ≡ false → goal_of a before e ≡ goal_of b before e
+  goal-alike a b h before (atom name) n z = λ i l p. draining (atom-alike a b h name n i) l p
+  goal-alike a b h before (call name es) n z =
       let parts : Setting → Parts = λ set. record {
         variable = variable_first es;
         goals = goals_in set (behind before (places_caught name es)) es;
@@ -134,56 +144,63 @@ mutual
         late = values_apart set (behind before (places_behind es)) es;
         all = values_of set (readings name (exp_count es)) before es;
       } in
-      λ i l p. draining (form-alike a b h (form_of name (exp_count es)) name (exp_count es) (parts a) (parts b) (are_built_values es) (is_built_value_at es) (is_built_goal_at es) n
-      (values-counted a (readings name (exp_count es)) before es) (λ m. values-alike a b h (readings name (exp_count es)) before es m)
-      (λ k m. value-at-alike a b h before es k m) (λ k m. goal-at-alike a b h (behind before (places_caught name es)) es k m) i) l p
-  goal-alike a b h before (and es) n = λ i l p. all-alike a b h before es n i l p
-  goal-alike a b h before (or es) n = λ i l p. draining (any-alike a b h before es n i) l p
-  goal-alike a b h before (if_then bs) n = λ i l p. draining (branches-alike a b h before bs n (λ m q. one q) (λ m q. one q) refl i) l p
-  goal-alike a b h before (if_else bs e) n =
+      let free = or_parts (is_call name (exp_count es)) (some_call_terms es) z in
+      λ i l p. draining (form-alike a b h (form_of name (exp_count es)) name (exp_count es) (parts a) (parts b) (are_built_values es) (is_built_value_at es) (is_built_goal_at es) (no-term name (exp_count es) free.0) n
+      (values-counted a (readings name (exp_count es)) before es) refl (λ m. values-alike a b h (readings name (exp_count es)) before es m free.1)
+      (λ k m. value-at-alike a b h before es k m free.1) (λ k m. goal-at-alike a b h (behind before (places_caught name es)) es k m free.1) i) l p
+  goal-alike a b h before (and es) n z = λ i l p. all-alike a b h before es n z i l p
+  goal-alike a b h before (or es) n z = λ i l p. draining (any-alike a b h before es n z i) l p
+  goal-alike a b h before (if_then bs) n z = λ i l p. draining (branches-alike a b h before bs n z (λ m q. one q) (λ m q. one q) refl i) l p
+  goal-alike a b h before (if_else bs e) n z =
       let parts = and_parts (have_built_goals bs) (is_built_goal e) n in
-      λ i l p. draining (branches-alike a b h before bs parts.0 (goal_of a (behind before (places_of_branches bs)) e) (goal_of b (behind before (places_of_branches bs)) e)
-      (goal-alike a b h (behind before (places_of_branches bs)) e parts.1) i) l p
-  goal-alike a b h before (foreach es e) n = absurd cc
-  goal-alike a b h before (while_do c e) n = absurd cc
-  goal-alike a b h before (do_while e c) n = absurd cc
-  goal-alike a b h before (var name) n = refl
-  goal-alike a b h before (int i) n = refl
-  goal-alike a b h before (str text) n = refl
-  goal-alike a b h before (list es) n = refl
-  goal-alike a b h before (list_onto es e) n = refl
-  goal-alike a b h before (array es) n = refl
-  goal-alike a b h before (quote e) n = refl
-  goal-alike a b h before (index e es) n = refl
-  goal-alike a b h before (range first last) n = refl
-  goal-alike a b h before (range_by first step last) n = refl
-  goal-alike a b h before (at name e) n = refl
-  goal-alike a b h before (collect is_array e es) n = refl
-  goal-alike a b h before (arrow c e) n = refl
+      let free = or_parts (some_branch_calls_terms bs) (calls_terms e) z in
+      λ i l p. draining (branches-alike a b h before bs parts.0 free.0 (goal_of a (behind before (places_of_branches bs)) e) (goal_of b (behind before (places_of_branches bs)) e)
+      (goal-alike a b h (behind before (places_of_branches bs)) e parts.1 free.1) i) l p
+  goal-alike a b h before (foreach es e) n z = absurd cc
+  goal-alike a b h before (while_do c e) n z = absurd cc
+  goal-alike a b h before (do_while e c) n z = absurd cc
+  goal-alike a b h before (var name) n z = refl
+  goal-alike a b h before (int i) n z = refl
+  goal-alike a b h before (str text) n z = refl
+  goal-alike a b h before (list es) n z = refl
+  goal-alike a b h before (list_onto es e) n z = refl
+  goal-alike a b h before (array es) n z = refl
+  goal-alike a b h before (quote e) n z = refl
+  goal-alike a b h before (index e es) n z = refl
+  goal-alike a b h before (range first last) n z = refl
+  goal-alike a b h before (range_by first step last) n z = refl
+  goal-alike a b h before (at name e) n z = refl
+  goal-alike a b h before (collect is_array e es) n z = refl
+  goal-alike a b h before (arrow c e) n z = refl
 
-  all-alike : (a b : Setting) → CallsAlike a b → (before : Names) (es : ExpTrees) → are_built_goals es ≡ true → all_of a before es ≡ all_of b before es
-  all-alike a b h before no_exps n = refl
-  all-alike a b h before (exp e es) n =
+  all-alike : (a b : Setting) → CallsAlike a b → (before : Names) (es : ExpTrees) → are_built_goals es ≡ true → some_call_terms es ≡ false → all_of a before es ≡ all_of b before es
+  all-alike a b h before no_exps n z = refl
+  all-alike a b h before (exp e es) n z =
       let parts = and_parts (is_built_goal e) (are_built_goals es) n in
-      λ i l p. following (goal-alike a b h before e parts.0 i) (all-alike a b h (behind before (places e)) es parts.1 i) l p
+      let free = or_parts (calls_terms e) (some_call_terms es) z in
+      λ i l p. following (goal-alike a b h before e parts.0 free.0 i) (all-alike a b h (behind before (places e)) es parts.1 free.1 i) l p
 
-  any-alike : (a b : Setting) → CallsAlike a b → (before : Names) (es : ExpTrees) → are_built_branches es ≡ true → any_of a before es ≡ any_of b before es
-  any-alike a b h before no_exps n = refl
-  any-alike a b h before (exp e es) n =
+  any-alike : (a b : Setting) → CallsAlike a b → (before : Names) (es : ExpTrees) → are_built_branches es ≡ true → some_call_terms es ≡ false → any_of a before es ≡ any_of b before es
+  any-alike a b h before no_exps n z = refl
+  any-alike a b h before (exp e es) n z =
       let parts = and_parts (is_built_branch e) (are_built_branches es) n in
-      λ i l p. branch_before (arrow-alike a b h before e parts.0 i) (branch-goal a b before e parts.0 (λ m. goal-alike a b h before e m) i) (any-alike a b h (behind before (places e)) es parts.1 i) l p
+      let free = or_parts (calls_terms e) (some_call_terms es) z in
+      λ i l p. branch_before (arrow-alike a b h before e parts.0 free.0 i) (branch-goal a b before e parts.0 (λ m. goal-alike a b h before e m free.0) i) (any-alike a b h (behind before (places e)) es parts.1 free.1 i) l p
 
-  arrow-alike : (a b : Setting) → CallsAlike a b → (before : Names) (e : ExpTree) → is_built_branch e ≡ true → arrow_in a before e ≡ arrow_in b before e
-  arrow-alike a b h before (arrow c e) n =
+  arrow-alike : (a b : Setting) → CallsAlike a b → (before : Names) (e : ExpTree) → is_built_branch e ≡ true → calls_terms e ≡ false → arrow_in a before e ≡ arrow_in b before e
+  arrow-alike a b h before (arrow c e) n z =
       let parts = and_parts (is_built_goal c) (is_built_goal e) n in
-      λ i. Some (record { test = goal-alike a b h before c parts.0 i; body = goal-alike a b h (behind before (places c)) e parts.1 i })
-  arrow-alike a b h before e n = refl
+      let free = or_parts (calls_terms c) (calls_terms e) z in
+      λ i. Some (record { test = goal-alike a b h before c parts.0 free.0 i; body = goal-alike a b h (behind before (places c)) e parts.1 free.1 i })
+  arrow-alike a b h before e n z = refl
 
-  branches-alike : (a b : Setting) → CallsAlike a b → (before : Names) (bs : ExpBranches) → have_built_goals bs ≡ true → (other last : Goal) → other ≡ last →
+  branches-alike : (a b : Setting) → CallsAlike a b → (before : Names) (bs : ExpBranches) → have_built_goals bs ≡ true → some_branch_calls_terms bs ≡ false → (other last : Goal) → other ≡ last →
       branches_of a before bs other ≡ branches_of b before bs last
-  branches-alike a b h before no_branches n other last d = λ i l p. d i l p
-  branches-alike a b h before (branch c e bs) n other last d =
+  branches-alike a b h before no_branches n z other last d = λ i l p. d i l p
+  branches-alike a b h before (branch c e bs) n z other last d =
       let parts = and_parts (is_built_goal c) (is_built_goal e && have_built_goals bs) n in
       let rest = and_parts (is_built_goal e) (have_built_goals bs) parts.1 in
-      λ i l p. choosing (goal-alike a b h before c parts.0 i) (goal-alike a b h (behind before (places c)) e rest.0 i)
-      (branches-alike a b h (behind before (places c ++ places e)) bs rest.1 other last d i) l p
+      let free = or_parts (calls_terms c) (calls_terms e || some_branch_calls_terms bs) z in
+      let others = or_parts (calls_terms e) (some_branch_calls_terms bs) free.1 in
+      λ i l p. choosing (goal-alike a b h before c parts.0 free.0 i) (goal-alike a b h (behind before (places c)) e rest.0 others.0 i)
+      (branches-alike a b h (behind before (places c ++ places e)) bs rest.1 others.1 other last d i) l p

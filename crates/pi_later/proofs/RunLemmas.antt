@@ -18,6 +18,7 @@ use Rattle.pi_lowered.specs.Forms.{Knows}
 use Rattle.pi_lowered.specs.Levels.{SameCalls, SameLevels}
 use Rattle.pi_lowered.specs.Laws.{known_of}
 use Rattle.pi_coverage.specs.Built.{is_built_goal, unbuilt_part}
+use Rattle.pi_coverage.specs.TermCalls.{CallNoTerms}
 use Rattle.pi_later.specs.LaterLaws.{LevelsAreTheSame, CallsAreTheSame, GoalsAreTheSame, RunsAreTheSame}
 use Rattle.pi_later.proofs.CallLemmas.{CallsAlike, stages-alike}
 use Rattle.pi_later.proofs.GoalLemmas.{goal-alike}
@@ -28,8 +29,8 @@ settings-alike : (v : View) (a b : LaterStages) (program : ProgramTree) → Call
 settings-alike v a b program = stages-alike v (λ name k. is_some_head (heads_named name k (prelude ++ program))) a.calls b.calls
 
 pub levels-are-the-same : LevelsAreTheSame
-levels-are-the-same program built v a b d =
-    level-alike (setting v a program) (setting v b program) (settings-alike v a b program) (prelude ++ program) (both-built prelude program prelude-built (parts-built 1 program built)) d
+levels-are-the-same program built none v a b d =
+    level-alike (setting v a program) (setting v b program) (settings-alike v a b program) (prelude ++ program) (both-built prelude program prelude-built (parts-built 1 program built none)) d
 
 -- ---- calls
 
@@ -42,23 +43,23 @@ same-level known (lowest c) = same-calls known c
 same-level known (over c l) = (same-calls known c, same-level known l)
 
 pub calls-are-the-same : CallsAreTheSame
-calls-are-the-same program built v a b d =
-    subst (λ (l : Level). SameLevels (known_of program) (program_level v a program d) l) (levels-are-the-same program built v a b d) (same-level (known_of program) (program_level v a program d))
+calls-are-the-same program built none v a b d =
+    subst (λ (l : Level). SameLevels (known_of program) (program_level v a program d) l) (levels-are-the-same program built none v a b d) (same-level (known_of program) (program_level v a program d))
 
 -- ---- goals
 
 pub goals-are-the-same : GoalsAreTheSame
 unfolding names_from
-goals-are-the-same program goal built is_built v a b d p = λ i.
-    then (strictly (goal-alike (setting v a program).calls (setting v b program).calls (settings-alike v a b program) [] goal is_built i) (levels-are-the-same program built v a b d i) p) (telling (answer_names goal))
+goals-are-the-same program goal built is_built none v a b d p = λ i.
+    then (strictly (goal-alike (setting v a program).calls (setting v b program).calls (settings-alike v a b program) [] goal is_built none.1 i) (levels-are-the-same program built none.0 v a b d i) p) (telling (answer_names goal))
 
-trace-same : (program : ProgramTree) (goal : ExpTree) → unbuilt_part program ≡ None → is_built_goal goal ≡ true → (v : View) (a b : LaterStages) (d : ℕ) → names_trace v a program goal d ≡ names_trace v b program goal d
+trace-same : (program : ProgramTree) (goal : ExpTree) → unbuilt_part program ≡ None → is_built_goal goal ≡ true → CallNoTerms program goal → (v : View) (a b : LaterStages) (d : ℕ) → names_trace v a program goal d ≡ names_trace v b program goal d
 unfolding names_trace
-trace-same program goal built is_built v a b d = goals-are-the-same program goal built is_built v a b d beginning
+trace-same program goal built is_built none v a b d = goals-are-the-same program goal built is_built none v a b d beginning
 
 pub runs-are-the-same : RunsAreTheSame
-runs-are-the-same program goal built is_built v a b n c run =
-    let same = trace-same program goal built is_built v a b run.depth in
+runs-are-the-same program goal built is_built none v a b n c run =
+    let same = trace-same program goal built is_built none v a b run.depth in
     record {
       depth = run.depth;
       reaches = subst (λ (t : Trace Place). CutWithoutDeep n t) same run.reaches;

@@ -2,12 +2,15 @@
 use Rattle.std.proofs.Common.{◌≡◌, ℕ, zero, suc, ◌+◌, ◌<◌, ◌≤◌, Bool, true, false, cond, List, [], ◌∷◌, ◌++◌, length, refl, sym, ◌∙◌, ap, subst, arith, length-append, append_assoc}
 use Rattle.std.specs.Prelude.{Option, Some, None, option_map, option_and_then, IsSome, slice_set}
 use Rattle.std.specs.Str.{bytes_eq}
-use Rattle.std.proofs.lemmas.List.{length-set, append-nil}
+use Rattle.std.proofs.lemmas.List.{length-set, append-nil, get_or-set_same}
+use Rattle.std.proofs.lemmas.Bool.{true≢false}
 use Rattle.std.proofs.lemmas.Slice.Eq.{bytes_eq-Decides}
 use Rattle.pi_terms.specs.Tree.{Tree}
 use Rattle.pi_terms.specs.Places.{Places, held}
 use Rattle.pi_meaning.specs.Environment.{Environment, meant, known, with_name}
-use Rattle.pi_lowered.specs.Slots.{SlotNames, unnamed, slot_of, slot_known, slots_with, slots_for, with_value}
+use Rattle.pi_names.specs.Assigning as assigning
+use Rattle.pi_names.proofs.OtherEnvironments.{meant-value}
+use Rattle.pi_lowered.specs.Slots.{SlotNames, unnamed, slot_of, slot_known, slot_or_next, slots_with, slot_for, slots_for, with_value}
 
 pub text_itself : (a : List ℕ) → bytes_eq a a ≡ true
 text_itself a = (bytes_eq-Decides a a).1 refl
@@ -207,3 +210,69 @@ agrees-value n h ns e slots t a = record {
 
     other : (name : List ℕ) → bytes_eq name unnamed ≡ false → finds name ns slots ≡ finds name (ns ++ unnamed ∷ []) (slice_set slots (length ns) (Some t))
     other name is = kept name (slot_of name ns) refl ∙ sym (ap (option_and_then (held (slice_set slots (length ns) (Some t)))) (slot-same name is))
+
+-- ---- a name that stands for another value from here on
+
+known-some : (name : List ℕ) (ns : SlotNames) (k : ℕ) → slot_known name ns ≡ Some k → slot_of name ns ≡ Some k
+known-some name ns k is = go (bytes_eq name unnamed) is
+  where
+    go : (b : Bool) → cond b None (slot_of name ns) ≡ Some k → slot_of name ns ≡ Some k
+    go true h = absurd cc
+    go false h = h
+
+known-none : (name : List ℕ) (ns : SlotNames) → bytes_eq name unnamed ≡ false → slot_known name ns ≡ None → slot_of name ns ≡ None
+known-none name ns named is = sym (ap (λ b. cond b None (slot_of name ns)) named) ∙ is
+
+-- the slot that it has, or the next one, has the value, and each other name has its own
+assigned-finds : (n h : ℕ) (ns : SlotNames) (e : Environment) (slots : Places) (name : List ℕ) (t : Tree) → Agrees n h ns e slots → (o : Option ℕ) → slot_known name ns ≡ o → length (slots_with o name ns) ≤ n →
+    (other : List ℕ) → bytes_eq other unnamed ≡ false → (b : Bool) → bytes_eq other name ≡ b →
+    cond b (Some t) (meant other e) ≡ finds other (slots_with o name ns) (slice_set slots (slot_or_next o ns) (Some t))
+assigned-finds n h ns e slots name t a (Some k) at room other is true same =
+    let found : slot_of other ns ≡ Some k = ap (λ x. slot_of x ns) (text_same other name same) ∙ known-some name ns k at in
+    sym (ap (option_and_then (held (slice_set slots k (Some t)))) found ∙ get_or-set_same slots k (Some t) None (omega (arith, slot-below other ns k found, room, a.long)))
+assigned-finds n h ns e slots name t a (Some k) at room other is false apart = a.names other is ∙ kept (slot_of other ns) refl
+  where
+    differs : (i : ℕ) → slot_of other ns ≡ Some i → i ≡ k → ⊥
+    differs i found same =
+        let one : other ≡ name = slot-one name other ns k (known-some name ns k at) (found ∙ ap Some same) in
+        absurd (true≢false (sym (text_itself name) ∙ ap (λ x. bytes_eq x name) (sym one) ∙ apart))
+
+    kept : (p : Option ℕ) → slot_of other ns ≡ p → option_and_then (held slots) p ≡ option_and_then (held (slice_set slots k (Some t))) p
+    kept None found = refl
+    kept (Some i) found = sym (set-other slots k (Some t) i (differs i found))
+assigned-finds n h ns e slots name t a None at room other is true same =
+    let one : other ≡ name = text_same other name same in
+    let new : slot_of other ns ≡ None = ap (λ x. slot_of x ns) one ∙ known-none name ns (ap (λ x. bytes_eq x unnamed) (sym one) ∙ is) at in
+    let found : slot_of other (ns ++ name ∷ []) ≡ Some (length ns + 0) =
+    slot-among other ns (name ∷ []) ∙ ap (λ p. or_last p (option_map (λ k. length ns + k) (slot_of other (name ∷ [])))) new
+    ∙ ap (λ p. option_map (λ k. length ns + k) p) (slot-alone other name ∙ ap (λ b. cond b (Some 0) None) same) in
+    let next : length ns + 0 ≡ length ns = omega arith in
+    sym (ap (option_and_then (held (slice_set slots (length ns) (Some t)))) (found ∙ ap Some next)
+    ∙ get_or-set_same slots (length ns) (Some t) None (omega (arith, room, a.long, length-append ns (name ∷ []))))
+assigned-finds n h ns e slots name t a None at room other is false apart = a.names other is ∙ kept (slot_of other ns) refl ∙ sym (ap (option_and_then (held (slice_set slots (length ns) (Some t)))) same)
+  where
+    kept : (p : Option ℕ) → slot_of other ns ≡ p → option_and_then (held slots) p ≡ option_and_then (held (slice_set slots (length ns) (Some t))) p
+    kept None found = refl
+    kept (Some i) found = sym (set-other slots (length ns) (Some t) i (λ beyond. omega (arith, slot-below other ns i found, beyond)))
+
+    last : (p : Option ℕ) → or_last p (option_map (λ k. length ns + k) (cond (bytes_eq other name) (Some 0) None)) ≡ p
+    last (Some k) = refl
+    last None = ap (λ b. option_map (λ k. length ns + k) (cond b (Some 0) None)) apart
+
+    same : slot_of other (ns ++ name ∷ []) ≡ slot_of other ns
+    same = slot-among other ns (name ∷ []) ∙ ap (λ p. or_last (slot_of other ns) (option_map (λ k. length ns + k) p)) (slot-alone other name) ∙ last (slot_of other ns)
+
+assigned-empty : (n h : ℕ) (ns : SlotNames) (e : Environment) (slots : Places) (name : List ℕ) (t : Tree) → Agrees n h ns e slots → (o : Option ℕ) → slot_known name ns ≡ o → (k : ℕ) → length (slots_with o name ns) ≤ k →
+    held (slice_set slots (slot_or_next o ns) (Some t)) k ≡ None
+assigned-empty n h ns e slots name t a (Some j) at k past = set-other slots j (Some t) k (λ same. omega (arith, slot-below name ns j (known-some name ns j at), past, same)) ∙ a.empty k past
+assigned-empty n h ns e slots name t a None at k past =
+    set-other slots (length ns) (Some t) k (λ same. omega (arith, past, same, length-append ns (name ∷ []))) ∙ a.empty k (omega (arith, past, length-append ns (name ∷ [])))
+
+pub agrees-assigned : (n h : ℕ) (ns : SlotNames) (e : Environment) (slots : Places) (name : List ℕ) (t : Tree) → Agrees n h ns e slots → length (slots_for name ns) ≤ n →
+    Agrees n h (slots_for name ns) (assigning.with_value e name t) (slice_set slots (slot_for name ns) (Some t))
+agrees-assigned n h ns e slots name t a room = record {
+  long = length-set slots (slot_for name ns) (Some t) ∙ a.long;
+  names = λ other is. meant-value other name t e ∙ assigned-finds n h ns e slots name t a (slot_known name ns) refl room other is (bytes_eq other name) refl;
+  empty = λ k past. assigned-empty n h ns e slots name t a (slot_known name ns) refl k past;
+  firm = λ k less. set-firm slots (slot_for name ns) t k (a.firm k less);
+}

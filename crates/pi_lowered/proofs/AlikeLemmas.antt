@@ -1,27 +1,25 @@
 -- Calls by name do the same at two levels at which calls of what a program has do the same.
-use Rattle.std.proofs.Common.{◌≡◌, ◌⊎◌, inl, inr, ℕ, Bool, true, false, cond, List, [], refl, sym, ◌∙◌, ap}
-use Rattle.std.specs.Prelude.{Option, Some, None, ◌||◌, ◌==◌, IsTrue, is_some, option_map, codes}
+use Rattle.std.proofs.Common.{◌≡◌, ℕ, Bool, true, false, cond, List, [], refl, sym, ◌∙◌, ap}
+use Rattle.std.specs.Prelude.{Option, Some, None, ◌||◌, IsTrue, is_some, option_map}
 use Rattle.std.specs.Option.{option_or}
-use Rattle.std.specs.Ordering.{is_eq}
-use Rattle.std.proofs.lemmas.Bool.{false≢true, and_parts, or_cases, eqb-true}
+use Rattle.std.proofs.lemmas.Bool.{false≢true}
 use Rattle.pi_terms.specs.Tree.{Tree, Trees, no_trees, tree, tree_count}
-use Rattle.pi_terms.specs.Order.{name_order}
 use Rattle.pi_states.specs.State.{State, bindings, followed}
-use Rattle.pi_states.proofs.MatchLemmas.{same_name}
 use Rattle.pi_effects.specs.Items.{each_tree}
 use Rattle.pi_effects.specs.BuiltIns.{built_in_predicate, built_in_function, is_predicate, is_function}
 use Rattle.pi_effects.proofs.BuiltInLemmas.{functions-listed, predicates-listed}
 use Rattle.pi_core.specs.CoreTree.{PredTree, find_pred}
-use Rattle.pi_traces.specs.Trace.{Trace, end, Deep, one, then}
+use Rattle.pi_traces.specs.Trace.{Trace, end, note, Deep, Tick, one, then}
 use Rattle.pi_traces.specs.Control.{caught}
 use Rattle.pi_meaning.specs.View.{View}
 use Rattle.pi_meaning.specs.Level.{Level, lowest, over, Applied, calls_at, or_called, or_applied}
 use Rattle.pi_meaning.specs.Builtin.{settled_effect, function_trace}
-use Rattle.pi_meaning.specs.Names.{is_later_predicate, is_later_function, is_planner, is_resource, is_catch, is_call, is_given_function, later_predicates}
+use Rattle.pi_meaning.specs.Names.{is_later_predicate, is_later_function, is_planner, is_resource, is_catch, is_call, is_given_function}
 use Rattle.pi_meaning.specs.Given.{Later, Setting}
 use Rattle.pi_meaning.specs.Handling.{handling}
 use Rattle.pi_meaning.specs.Calls.{built_in, given_later, predicate_given, predicate_called, function_later, function_given, function_called, Called, called_by, unknown_name, with_planner, is_known, known_called, catch_called, again_called, term_called, called_at_level, first_called}
 use Rattle.pi_meaning.specs.Instances.{is_called_by_name, core_setting, whole}
+use Rattle.pi_meaning.proofs.KnownLemmas.{planner-later}
 use Rattle.pi_lowered.specs.Forms.{Knows}
 use Rattle.pi_lowered.specs.Levels.{SameCalls, SameLevels, GoesByCalls}
 use Rattle.pi_lowered.proofs.RunLemmas.{Alike}
@@ -79,34 +77,6 @@ called-same known set goes l m same name ts s there =
 
 -- ---- `call`
 
-plans-later : ((is_later_predicate (codes "plan") 2 ≡ true) × (is_later_predicate (codes "plan") 3 ≡ true) × (is_later_predicate (codes "plan") 4 ≡ true))
-    × ((is_later_predicate (codes "best_plan") 2 ≡ true) × (is_later_predicate (codes "best_plan") 3 ≡ true) × (is_later_predicate (codes "best_plan") 4 ≡ true))
-unfolding is_later_predicate later_predicates
-plans-later = ((refl, refl, refl), (refl, refl, refl))
-
-later-by : (name : List ℕ) (k : ℕ) (known : List ℕ) → name ≡ known → (is_later_predicate known 2 ≡ true) × (is_later_predicate known 3 ≡ true) × (is_later_predicate known 4 ≡ true) →
-    (k == 2) || ((k == 3) || (k == 4)) ≡ true → is_later_predicate name k ≡ true
-later-by name k known is all count = ap (λ n. is_later_predicate n k) is ∙ number (or_cases (k == 2) ((k == 3) || (k == 4)) count)
-  where
-    further : ((k == 3) ≡ true) ⊎ ((k == 4) ≡ true) → is_later_predicate known k ≡ true
-    further (inl three) = ap (is_later_predicate known) (eqb-true k 3 three) ∙ all.1
-    further (inr four) = ap (is_later_predicate known) (eqb-true k 4 four) ∙ all.2
-
-    number : ((k == 2) ≡ true) ⊎ (((k == 3) || (k == 4)) ≡ true) → is_later_predicate known k ≡ true
-    number (inl two) = ap (is_later_predicate known) (eqb-true k 2 two) ∙ all.0
-    number (inr more) = further (or_cases (k == 3) (k == 4) more)
-
--- planner calls are of later stages
-planner-later : (name : List ℕ) (k : ℕ) → is_planner name k ≡ true → is_later_predicate name k ≡ true
-planner-later name k is = named (or_cases (is_eq (name_order name (codes "plan"))) (is_eq (name_order name (codes "best_plan"))) parts.0)
-  where
-    parts : ((is_eq (name_order name (codes "plan")) || is_eq (name_order name (codes "best_plan"))) ≡ true) × (((k == 2) || ((k == 3) || (k == 4))) ≡ true)
-    parts = and_parts (is_eq (name_order name (codes "plan")) || is_eq (name_order name (codes "best_plan"))) ((k == 2) || ((k == 3) || (k == 4))) is
-
-    named : (is_eq (name_order name (codes "plan")) ≡ true) ⊎ (is_eq (name_order name (codes "best_plan")) ≡ true) → is_later_predicate name k ≡ true
-    named (inl plan) = later-by name k (codes "plan") (same_name name (codes "plan") plan) plans-later.0 parts.1
-    named (inr best) = later-by name k (codes "best_plan") (same_name name (codes "best_plan") best) plans-later.1 parts.1
-
 -- what names do that `call` finds
 known-same : (known : Knows) (set : Setting) → GoesByCalls known set.later → ((name : List ℕ) (k : ℕ) → set.defines name k ≡ known.predicate name k) → (l m : Level) → SameLevels known l m → (name : List ℕ) (ts : Trees) (s : State) →
     known_called set l name ts s ≡ known_called set m name ts s
@@ -162,9 +132,9 @@ term-same : (known : Knows) (set : Setting) → GoesByCalls known set.later → 
     term_called set l f t s o ≡ term_called set m g t s o
 term-same known set goes defines l m same f g deeper t s None = refl
 term-same known set goes defines l m same f g deeper t s (Some c) =
-    ap (λ (u : Trace State). cond (is_catch c.name (tree_count c.args)) u (cond (is_call c.name (tree_count c.args)) (again_called l f c.args s) (known_called set l c.name c.args s))) (catch-same l m f g drains deeper c.args s)
-    ∙ ap (λ (u : Trace State). cond (is_catch c.name (tree_count c.args)) (catch_called m g c.args s) (cond (is_call c.name (tree_count c.args)) u (known_called set l c.name c.args s))) (again-same l m f g drains deeper c.args s)
-    ∙ ap (λ (u : Trace State). cond (is_catch c.name (tree_count c.args)) (catch_called m g c.args s) (cond (is_call c.name (tree_count c.args)) (again_called m g c.args s) u)) (known-same known set goes defines l m same c.name c.args s)
+    ap (λ (u : Trace State). cond (is_catch c.name (tree_count c.args)) (note Tick u) (cond (is_call c.name (tree_count c.args)) (note Tick (again_called l f c.args s)) (known_called set l c.name c.args s))) (catch-same l m f g drains deeper c.args s)
+    ∙ ap (λ (u : Trace State). cond (is_catch c.name (tree_count c.args)) (note Tick (catch_called m g c.args s)) (cond (is_call c.name (tree_count c.args)) (note Tick u) (known_called set l c.name c.args s))) (again-same l m f g drains deeper c.args s)
+    ∙ ap (λ (u : Trace State). cond (is_catch c.name (tree_count c.args)) (note Tick (catch_called m g c.args s)) (cond (is_call c.name (tree_count c.args)) (note Tick (again_called m g c.args s)) u)) (known-same known set goes defines l m same c.name c.args s)
   where
     drains : (calls_at l).drained ≡ (calls_at m).drained
     drains = λ i r. (calls-same known l m same).drained r i

@@ -94,7 +94,7 @@ unified-new s = go (pairs-some (bindings (with_new s)) (var (next s)) (var (next
 
 -- ---- `=`
 
-equals-called : (set : Setting) (m : Level) (t u : Tree) (s : State) →
+pub equals-called : (set : Setting) (m : Level) (t u : Tree) (s : State) →
     predicate_called set m (codes "=") (tree t (tree u no_trees)) s ≡ then (effect_trace set.view (succeeds_in (unified s t u))) (settled s)
 unfolding predicate_called predicate_given built_in_predicate done_by tests comparing_tests kind_tests writing_predicates other_predicates
 equals-called set m t u s = refl

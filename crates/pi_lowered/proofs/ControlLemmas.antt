@@ -24,7 +24,6 @@ use Rattle.pi_lowered.specs.Values.{SlotValue}
 use Rattle.pi_lowered.specs.Goals.{SlotGoals, SlotBranches, SlotArrow, in_turn, either_of, just, never, goal_by, catching as slots_catching, joined, choosing as slots_choosing, as_goals, in_front, one_branch, branch_before as slots_branch_before}
 use Rattle.pi_lowered.specs.Forms.{Knows}
 use Rattle.pi_lowered.proofs.SameLemmas.{SameBy, same_end, same-one, same-map, same-alt, same-then, same-first, same-negated, same-chosen, same-caught, same-then_same}
-use Rattle.pi_lowered.proofs.FilledLemmas.{extends-none}
 use Rattle.pi_lowered.proofs.AgreeLemmas.{Grows, grows-none, grows-then, grows-length, Agrees, agrees-more}
 use Rattle.pi_lowered.proofs.RunLemmas.{Alike, point, place, AtPlace, at_place, AtValue, at_value, runs, SameGoals, SameLast, place-wider, runs-append, runs-one, not-drained, turn-runs, same-strictly}
 
@@ -33,26 +32,22 @@ Drains l = (s : State) → (calls_at l).drained s ≡ one s
 
 -- ---- from the place of an answer
 
-pub goals-from : (b : Builtins) (l m : Level) (h : ℕ) (g : Goal) (lowered : SlotNames → SlotGoals) → SameGoals b l m h g lowered → (n : ℕ) (ns : SlotNames) (start : Places) → length (lowered ns).names ≤ n →
-    (p : Point) (q : Place) → AtPlace l n h ns start p q → SameBy (AtPlace l n h (lowered ns).names start) (runs b (lowered ns).goals p) (g m q)
-goals-from b l m h g lowered is n ns start room _ _ (at_place e slots s a extends) =
-    same-map (AtPlace l n h (lowered ns).names slots) (AtPlace l n h (lowered ns).names start) (place-wider l n h (lowered ns).names (lowered ns).names slots start (grows-none _) extends) _ _
-    (is.same n ns e slots s a room)
+pub goals-from : (b : Builtins) (l m : Level) (h : ℕ) (g : Goal) (lowered : SlotNames → SlotGoals) → SameGoals b l m h g lowered → (n : ℕ) (ns : SlotNames) → length (lowered ns).names ≤ n →
+    (p : Point) (q : Place) → AtPlace l n h ns p q → SameBy (AtPlace l n h (lowered ns).names) (runs b (lowered ns).goals p) (g m q)
+goals-from b l m h g lowered is n ns room _ _ (at_place e slots s a) = is.same n ns e slots s a room
 
 pub turn-same : (b : Builtins) (l m : Level) (h : ℕ) (g : Goal) (lowered : SlotNames → SlotGoals) → Drains l → SameGoals b l m h g lowered → (n : ℕ) (ns : SlotNames) (e : Environment) (slots : Places) (s : State) → Agrees n h ns e slots →
-    length (lowered ns).names ≤ n → SameBy (AtPlace l n h (lowered ns).names slots) (meaning b (in_turn (lowered ns).goals) (point l slots s)) (g m (place e s))
+    length (lowered ns).names ≤ n → SameBy (AtPlace l n h (lowered ns).names) (meaning b (in_turn (lowered ns).goals) (point l slots s)) (g m (place e s))
 turn-same b l m h g lowered drains is n ns e slots s a room =
-    subst (λ (t : Trace Point). SameBy (AtPlace l n h (lowered ns).names slots) t (g m (place e s))) (sym (turn-runs b l drains (lowered ns).goals slots s)) (is.same n ns e slots s a room)
+    subst (λ (t : Trace Point). SameBy (AtPlace l n h (lowered ns).names) t (g m (place e s))) (sym (turn-runs b l drains (lowered ns).goals slots s)) (is.same n ns e slots s a room)
 
-pub turn-from : (b : Builtins) (l m : Level) (h : ℕ) (g : Goal) (lowered : SlotNames → SlotGoals) → Drains l → SameGoals b l m h g lowered → (n : ℕ) (ns : SlotNames) (start : Places) → length (lowered ns).names ≤ n →
-    (p : Point) (q : Place) → AtPlace l n h ns start p q → SameBy (AtPlace l n h (lowered ns).names start) (meaning b (in_turn (lowered ns).goals) p) (g m q)
-turn-from b l m h g lowered drains is n ns start room _ _ (at_place e slots s a extends) =
-    same-map (AtPlace l n h (lowered ns).names slots) (AtPlace l n h (lowered ns).names start) (place-wider l n h (lowered ns).names (lowered ns).names slots start (grows-none _) extends) _ _
-    (turn-same b l m h g lowered drains is n ns e slots s a room)
+pub turn-from : (b : Builtins) (l m : Level) (h : ℕ) (g : Goal) (lowered : SlotNames → SlotGoals) → Drains l → SameGoals b l m h g lowered → (n : ℕ) (ns : SlotNames) → length (lowered ns).names ≤ n →
+    (p : Point) (q : Place) → AtPlace l n h ns p q → SameBy (AtPlace l n h (lowered ns).names) (meaning b (in_turn (lowered ns).goals) p) (g m q)
+turn-from b l m h g lowered drains is n ns room _ _ (at_place e slots s a) = turn-same b l m h g lowered drains is n ns e slots s a room
 
 -- wider slots
-pub wider : (l : Level) (n h : ℕ) (ns ms : SlotNames) (start : Places) → Grows ns ms → (t : Trace Point) (u : Trace Place) → SameBy (AtPlace l n h ns start) t u → SameBy (AtPlace l n h ms start) t u
-wider l n h ns ms start grows t u is = same-map (AtPlace l n h ns start) (AtPlace l n h ms start) (place-wider l n h ns ms start start grows (extends-none start)) t u is
+pub wider : (l : Level) (n h : ℕ) (ns ms : SlotNames) → Grows ns ms → (t : Trace Point) (u : Trace Place) → SameBy (AtPlace l n h ns) t u → SameBy (AtPlace l n h ms) t u
+wider l n h ns ms grows t u is = same-map (AtPlace l n h ns) (AtPlace l n h ms) (place-wider l n h ns ms grows) t u is
 
 -- a goal by itself
 pub just-same : {B : Type 0} (R : Point → B → Type 0) (b : Builtins) (l : Level) → Drains l → (g : GoalTree) (act : Action) → meaning b g ≡ draining act → (slots : Places) (s : State) (t : Trace B) →
@@ -64,7 +59,7 @@ just-same R b l drains g act is slots s t same =
 
 pub none-goals : (b : Builtins) (l m : Level) (h : ℕ) → SameGoals b l m h (λ k p. one p) (λ ns. record { goals = []; names = ns })
 unfolding meaning
-none-goals b l m h = record { grows = grows-none; same = λ n ns e slots s a room. same-one (AtPlace l n h ns slots) _ _ (at_place e slots s a (extends-none slots)) }
+none-goals b l m h = record { grows = grows-none; same = λ n ns e slots s a room. same-one (AtPlace l n h ns) _ _ (at_place e slots s a) }
 
 pub joined-goals : (b : Builtins) (l m : Level) (h : ℕ) (f g : Goal) (lf lg : SlotNames → SlotGoals) → SameGoals b l m h f lf → SameGoals b l m h g lg →
     SameGoals b l m h (following f g) (λ ns. joined (lf ns) (lg (lf ns).names))
@@ -72,9 +67,9 @@ joined-goals b l m h f g lf lg is are = record {
   grows = λ ns. grows-then ns _ _ (is.grows ns) (are.grows (lf ns).names);
   same = λ n ns e slots s a room.
       let after : SlotNames = (lg (lf ns).names).names in
-      subst (λ (t : Trace Point). SameBy (AtPlace l n h after slots) t (following f g m (place e s))) (sym (runs-append b (lf ns).goals (lg (lf ns).names).goals (point l slots s)))
-      (same-then (AtPlace l n h (lf ns).names slots) (AtPlace l n h after slots) _ _ _ _ (is.same n ns e slots s a (omega (arith, room, grows-length (lf ns).names _ (are.grows (lf ns).names))))
-      (goals-from b l m h g lg are n (lf ns).names slots room));
+      subst (λ (t : Trace Point). SameBy (AtPlace l n h after) t (following f g m (place e s))) (sym (runs-append b (lf ns).goals (lg (lf ns).names).goals (point l slots s)))
+      (same-then (AtPlace l n h (lf ns).names) (AtPlace l n h after) _ _ _ _ (is.same n ns e slots s a (omega (arith, room, grows-length (lf ns).names _ (are.grows (lf ns).names))))
+      (goals-from b l m h g lg are n (lf ns).names room));
 }
 
 -- `true`, and what fails
@@ -82,14 +77,14 @@ pub true-goals : (b : Builtins) (l m : Level) (h : ℕ) → Drains l → SameGoa
 unfolding meaning
 true-goals b l m h drains = record {
   grows = grows-none;
-  same = λ n ns e slots s a room. just-same (AtPlace l n h ns slots) b l drains GoalTree.truth (λ p. one p) refl slots s _ (same-one (AtPlace l n h ns slots) _ _ (at_place e slots s a (extends-none slots)));
+  same = λ n ns e slots s a room. just-same (AtPlace l n h ns) b l drains GoalTree.truth (λ p. one p) refl slots s _ (same-one (AtPlace l n h ns) _ _ (at_place e slots s a));
 }
 
 pub fail-goals : (b : Builtins) (l m : Level) (h : ℕ) → Drains l → SameGoals b l m h no_goal never
 unfolding meaning
 fail-goals b l m h drains = record {
   grows = grows-none;
-  same = λ n ns e slots s a room. just-same (AtPlace l n h ns slots) b l drains GoalTree.fail failing refl slots s _ (same_end _);
+  same = λ n ns e slots s a room. just-same (AtPlace l n h ns) b l drains GoalTree.fail failing refl slots s _ (same_end _);
 }
 
 -- ---- `not`, `once`, choices
@@ -100,9 +95,9 @@ unfolding meaning denying
 denied-goals known set b l m h g lowered alike is = record {
   grows = is.grows;
   same = λ n ns e slots s a room.
-      just-same (AtPlace l n h (lowered ns).names slots) b l alike.core_drains (GoalTree.not (in_turn (lowered ns).goals)) (λ p. negated (strictly (meaning b (in_turn (lowered ns).goals)) p) p) refl slots s _
-      (same-negated (AtPlace l n h (lowered ns).names slots) (AtPlace l n h (lowered ns).names slots) _ _ _ _ (same-strictly known set b l m h g lowered alike is n ns e slots s a room)
-      (at_place e slots s (agrees-more n h ns (lowered ns).names e slots (is.grows ns) a) (extends-none slots)));
+      just-same (AtPlace l n h (lowered ns).names) b l alike.core_drains (GoalTree.not (in_turn (lowered ns).goals)) (λ p. negated (strictly (meaning b (in_turn (lowered ns).goals)) p) p) refl slots s _
+      (same-negated (AtPlace l n h (lowered ns).names) (AtPlace l n h (lowered ns).names) _ _ _ _ (same-strictly known set b l m h g lowered alike is n ns e slots s a room)
+      (at_place e slots s (agrees-more n h ns (lowered ns).names e slots (is.grows ns) a)));
 }
 
 pub once-goals : (known : Knows) (set : Setting) (b : Builtins) (l m : Level) (h : ℕ) (g : Goal) (lowered : SlotNames → SlotGoals) → Alike known set b l m → SameGoals b l m h g lowered →
@@ -111,8 +106,8 @@ unfolding meaning taken_once
 once-goals known set b l m h g lowered alike is = record {
   grows = is.grows;
   same = λ n ns e slots s a room.
-      just-same (AtPlace l n h (lowered ns).names slots) b l alike.core_drains (GoalTree.once (in_turn (lowered ns).goals)) (λ p. first (strictly (meaning b (in_turn (lowered ns).goals)) p)) refl slots s _
-      (same-first (AtPlace l n h (lowered ns).names slots) _ _ (same-strictly known set b l m h g lowered alike is n ns e slots s a room));
+      just-same (AtPlace l n h (lowered ns).names) b l alike.core_drains (GoalTree.once (in_turn (lowered ns).goals)) (λ p. first (strictly (meaning b (in_turn (lowered ns).goals)) p)) refl slots s _
+      (same-first (AtPlace l n h (lowered ns).names) _ _ (same-strictly known set b l m h g lowered alike is n ns e slots s a room));
 }
 
 pub chosen-goals : (known : Knows) (set : Setting) (b : Builtins) (l m : Level) (h : ℕ) (test holds other : Goal) (lt lh lo : SlotNames → SlotGoals) → Alike known set b l m →
@@ -126,10 +121,10 @@ chosen-goals known set b l m h test holds other lt lh lo alike t g o = record {
       let js : SlotNames = (lo ks).names in
       let room-k : length ks ≤ n = omega (arith, room, grows-length ks js (o.grows ks)) in
       let room-m : length ms ≤ n = omega (arith, room-k, grows-length ms ks (g.grows ms)) in
-      just-same (AtPlace l n h js slots) b l alike.core_drains (GoalTree.if_else (in_turn (lt ns).goals) (in_turn (lh ms).goals) (in_turn (lo ks).goals))
+      just-same (AtPlace l n h js) b l alike.core_drains (GoalTree.if_else (in_turn (lt ns).goals) (in_turn (lh ms).goals) (in_turn (lo ks).goals))
       (λ p. chosen (strictly (meaning b (in_turn (lt ns).goals)) p) (meaning b (in_turn (lh ms).goals)) (meaning b (in_turn (lo ks).goals) p)) refl slots s _
-      (same-chosen (AtPlace l n h ms slots) (AtPlace l n h js slots) _ _ _ _ _ _ (same-strictly known set b l m h test lt alike t n ns e slots s a room-m)
-      (λ p q at. wider l n h ks js slots (o.grows ks) _ _ (turn-from b l m h holds lh alike.core_drains g n ms slots room-k p q at))
+      (same-chosen (AtPlace l n h ms) (AtPlace l n h js) _ _ _ _ _ _ (same-strictly known set b l m h test lt alike t n ns e slots s a room-m)
+      (λ p q at. wider l n h ks js (o.grows ks) _ _ (turn-from b l m h holds lh alike.core_drains g n ms room-k p q at))
       (turn-same b l m h other lo alike.core_drains o n ks e slots s (agrees-more n h ns ks e slots (grows-then ns ms ks (t.grows ns) (g.grows ms)) a) room));
 }
 
@@ -138,7 +133,7 @@ chosen-goals known set b l m h test holds other lt lh lo alike t g o = record {
 pub record SameBranches (b : Builtins) (l m : Level) (h : ℕ) (g : Goal) (lowered : SlotNames → SlotBranches) : Type 0 where
   pub grows : (ns : SlotNames) → Grows ns (lowered ns).names
   pub same : (n : ℕ) (ns : SlotNames) (e : Environment) (slots : Places) (s : State) → Agrees n h ns e slots → length (lowered ns).names ≤ n →
-      SameBy (AtPlace l n h (lowered ns).names slots) (meaning_of_any b (goals_of (lowered ns).branches) (point l slots s)) (g m (place e s))
+      SameBy (AtPlace l n h (lowered ns).names) (meaning_of_any b (goals_of (lowered ns).branches) (point l slots s)) (g m (place e s))
 
 pub none-branches : (b : Builtins) (l m : Level) (h : ℕ) → SameBranches b l m h (λ k p. done) (λ ns. record { branches = []; names = ns })
 unfolding meaning
@@ -152,8 +147,8 @@ front-branches b l m h g others lg lo drains is are = record {
   same = λ n ns e slots s a room.
       let ms : SlotNames = (lg ns).names in
       let ks : SlotNames = (lo ms).names in
-      same-alt (AtPlace l n h ks slots) _ _ _ _
-      (wider l n h ms ks slots (are.grows ms) _ _ (turn-same b l m h g lg drains is n ns e slots s a (omega (arith, room, grows-length ms ks (are.grows ms)))))
+      same-alt (AtPlace l n h ks) _ _ _ _
+      (wider l n h ms ks (are.grows ms) _ _ (turn-same b l m h g lg drains is n ns e slots s a (omega (arith, room, grows-length ms ks (are.grows ms)))))
       (are.same n ms e slots s (agrees-more n h ns ms e slots (is.grows ns) a) room);
 }
 
@@ -163,7 +158,7 @@ unfolding meaning
 one-branches b l m h g lg after is = record {
   grows = is.grows;
   same = λ n ns e slots s a room.
-      subst (λ (t : Trace Point). SameBy (AtPlace l n h (after ns) slots) t (g m (place e s))) (runs-one b (lg ns) (point l slots s) ∙ sym (alt-done (meaning b (lg ns) (point l slots s))))
+      subst (λ (t : Trace Point). SameBy (AtPlace l n h (after ns)) t (g m (place e s))) (runs-one b (lg ns) (point l slots s) ∙ sym (alt-done (meaning b (lg ns) (point l slots s))))
       (is.same n ns e slots s a room);
 }
 
@@ -177,7 +172,7 @@ pub branches-goals : (b : Builtins) (l m : Level) (h : ℕ) (g : Goal) (lowered 
 branches-goals b l m h g lowered drains is = record {
   grows = is.grows;
   same = λ n ns e slots s a room.
-      subst (λ (t : Trace Point). SameBy (AtPlace l n h (lowered ns).names slots) t (g m (place e s)))
+      subst (λ (t : Trace Point). SameBy (AtPlace l n h (lowered ns).names) t (g m (place e s)))
       (sym (either-runs b l drains (lowered ns).branches slots s) ∙ sym (runs-one b (either_of (lowered ns).branches) (point l slots s))) (is.same n ns e slots s a room);
 }
 
@@ -212,29 +207,26 @@ caught-goals known set b l m h g v handler lg lh lv alike is value handles = rec
 }
   where
     behind : (n : ℕ) (ms : SlotNames) (t : Tree) (start : Places) → length (lh (lg ms).names).names ≤ n → (p : Point) (x : Valued) → AtValue l n h ms t start p x →
-        SameBy (AtPlace l n h (lh (lg ms).names).names start) (runs b (GoalTree.catch (in_turn (lg ms).goals) t (in_turn (lh (lg ms).names).goals) ∷ []) p)
+        SameBy (AtPlace l n h (lh (lg ms).names).names) (runs b (GoalTree.catch (in_turn (lg ms).goals) t (in_turn (lh (lg ms).names).goals) ∷ []) p)
         (caught (names_strictly g m (place_of x)) (handling x.state x.tree (λ r. handler m (at_state (place_of x) r))))
     behind n ms t start room _ _ (at_value slots s x c extends) =
         let ks : SlotNames = (lg ms).names in
         let js : SlotNames = (lh ks).names in
         let act : Action = meaning b (in_turn (lg ms).goals) in
         let hand : Action = meaning b (in_turn (lh ks).goals) in
-        let further : (p : Point) (q : Place) → AtPlace l n h js c.after p q → AtPlace l n h js start p q =
-        place-wider l n h js js c.after start (grows-none js) (λ k u at. c.extends k u (extends k u at)) in
-        just-same (AtPlace l n h js start) b l alike.core_drains (GoalTree.catch (in_turn (lg ms).goals) t (in_turn (lh ks).goals)) (core_catching act t hand) refl slots s _
-        (subst (λ (y : Evaluated). SameBy (AtPlace l n h js start) (caught (strictly act (point l y.slots y.state)) (handling y.state y.tree (λ r. hand (point l y.slots r))))
+        just-same (AtPlace l n h js) b l alike.core_drains (GoalTree.catch (in_turn (lg ms).goals) t (in_turn (lh ks).goals)) (core_catching act t hand) refl slots s _
+        (subst (λ (y : Evaluated). SameBy (AtPlace l n h js) (caught (strictly act (point l y.slots y.state)) (handling y.state y.tree (λ r. hand (point l y.slots r))))
         (caught (names_strictly g m (place_of x)) (handling x.state x.tree (λ r. handler m (at_state (place_of x) r))))) (sym c.comes)
-        (same-map (AtPlace l n h js c.after) (AtPlace l n h js start) further _ _
-        (same-caught (AtPlace l n h js c.after) _ _ _ _
-        (wider l n h ks js c.after (handles.grows ks) _ _ (same-strictly known set b l m h g lg alike is n ms x.names c.after x.state c.agrees (omega (arith, room, grows-length ks js (handles.grows ks)))))
-        (same-handling (AtPlace l n h js c.after) x.state x.tree _ _
-        (λ r. turn-same b l m h handler lh alike.core_drains handles n ks x.names c.after r (agrees-more n h ms ks x.names c.after (is.grows ms) c.agrees) room)))))
+        (same-caught (AtPlace l n h js) _ _ _ _
+        (wider l n h ks js (handles.grows ks) _ _ (same-strictly known set b l m h g lg alike is n ms x.names c.after x.state c.agrees (omega (arith, room, grows-length ks js (handles.grows ks)))))
+        (same-handling (AtPlace l n h js) x.state x.tree _ _
+        (λ r. turn-same b l m h handler lh alike.core_drains handles n ks x.names c.after r (agrees-more n h ms ks x.names c.after (is.grows ms) c.agrees) room))))
 
     whole : (n : ℕ) (ns : SlotNames) (e : Environment) (slots : Places) (s : State) → Agrees n h ns e slots → length (lh (lg (lv ns).names).names).names ≤ n →
-        SameBy (AtPlace l n h (lh (lg (lv ns).names).names).names slots) (runs b (slots_catching lg lh (lv ns)).goals (point l slots s)) (catching g v handler m (place e s))
+        SameBy (AtPlace l n h (lh (lg (lv ns).names).names).names) (runs b (slots_catching lg lh (lv ns)).goals (point l slots s)) (catching g v handler m (place e s))
     whole n ns e slots s a room =
         let ms : SlotNames = (lv ns).names in
         let js : SlotNames = (lh (lg ms).names).names in
         let fits : length ms ≤ n = omega (arith, room, grows-length ms _ (is.grows ms), grows-length (lg ms).names _ (handles.grows (lg ms).names)) in
-        subst (λ (t : Trace Point). SameBy (AtPlace l n h js slots) t (catching g v handler m (place e s))) (sym (runs-append b (lv ns).goals _ (point l slots s)))
-        (same-then (AtValue l n h ms (lv ns).tree slots) (AtPlace l n h js slots) _ _ _ _ (value.same n ns e slots s a fits) (behind n ms (lv ns).tree slots room))
+        subst (λ (t : Trace Point). SameBy (AtPlace l n h js) t (catching g v handler m (place e s))) (sym (runs-append b (lv ns).goals _ (point l slots s)))
+        (same-then (AtValue l n h ms (lv ns).tree slots) (AtPlace l n h js) _ _ _ _ (value.same n ns e slots s a fits) (behind n ms (lv ns).tree slots room))

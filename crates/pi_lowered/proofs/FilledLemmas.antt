@@ -28,6 +28,9 @@ Extends e f = (k : ℕ) (t : Tree) → held e k ≡ Some t → held f k ≡ Some
 pub extends-none : (e : Places) → Extends e e
 extends-none e k t h = h
 
+pub extends-nothing : (f : Places) → Extends [] f
+extends-nothing f k t h = absurd cc
+
 pub extends-then : (e f g : Places) → Extends e f → Extends f g → Extends e g
 extends-then e f g a b k t h = b k t (a k t h)
 

@@ -17,6 +17,7 @@ use Rattle.pi_syntax.specs.ExpTree.{ExpTree, var, int, atom, str, list, list_ont
 use Rattle.pi_syntax.specs.Signature.{exp_count}
 use Rattle.pi_core.specs.GoalTree as core
 use Rattle.pi_meaning.specs.Names.{is_call, is_later_predicate, is_given_predicate, is_given_function}
+use Rattle.pi_names.specs.Texts.{variable_first}
 use Rattle.pi_names.specs.Forms.{Form, negation, once, assignment, catch, by_term, membership, form_of, is_find_all, is_count_all}
 use Rattle.pi_names.specs.Terms.{items_onto}
 use Rattle.pi_lowered.specs.Slots.{SlotNames}
@@ -28,7 +29,7 @@ use Rattle.pi_lowered.proofs.AgreeLemmas.{grows-length}
 use Rattle.pi_lowered.proofs.TermLemmas.{name-room, term-grows, terms-grow}
 use Rattle.pi_lowered.proofs.BuiltInLemmas.{equals-known, item-given, range-given}
 use Rattle.pi_lowered.proofs.FormLemmas.{arguments-count, a-term}
-use Rattle.pi_lowered.proofs.FineLemmas.{Fine, AllFine, fine-none, fine-one, FineGoals, FineValue, FineValues, FineBranches, none-below, front-below, var-below, atom-below, items-below, fine-nothing, fine-just, fine-joined, fine-not, fine-once, fine-choosing, fine-no-branches, fine-branches, FineArrow, no_fine_arrow, a_fine_arrow, fine-branch, fine-catching, fine-called, fine-applied, fine-no-values, fine-front, fine-parts, fine-onto, fine-found, fine-counted}
+use Rattle.pi_lowered.proofs.FineLemmas.{Fine, AllFine, fine-none, fine-one, FineGoals, FineValue, FineValues, FineBranches, none-below, front-below, var-below, atom-below, items-below, fine-nothing, fine-just, fine-joined, fine-not, fine-once, fine-choosing, fine-no-branches, fine-branches, FineArrow, no_fine_arrow, a_fine_arrow, fine-branch, fine-catching, fine-called, fine-assigned, fine-applied, fine-no-values, fine-front, fine-parts, fine-onto, fine-found, fine-counted}
 
 -- ---- terms
 
@@ -138,16 +139,16 @@ term-given : (known : Knows) (name : List ℕ) (k : ℕ) → is_call name k ≡ 
 term-given known name k is = first-of-three (is_call name k) (is_predicate name k || is_later_predicate name k) (known.predicate name k) is
 
 fine-call : (known : Knows) (name : List ℕ) (k : ℕ) (form : Option Form) → form_of name k ≡ form → (exps : Type 0) (value goal : ℕ → Type 0) → IsPredicateCall known form name k exps value goal →
-    (lgs : List (SlotNames → SlotGoals)) (lvs : List (SlotNames → SlotValue)) (lall : SlotNames → SlotValues) → FineParts known goal value lgs lvs → (exps → FineValues known lall) → ((ns : SlotNames) → tree_count (trees_of (lall ns).trees) ≡ k) →
-    FineGoals known (slots.call_goals name form (record { goals = lgs; values = lvs; all = lall }))
-fine-call known name k None form exps value goal is lgs lvs lall same args long = fine-called known name k lall (args is.0) long is.2
-fine-call known name k (Some negation) form exps value goal is lgs lvs lall same args long = fine-not known (slots.goals_at lgs 0) (same.goals 0 is)
-fine-call known name k (Some once) form exps value goal is lgs lvs lall same args long = fine-once known (slots.goals_at lgs 0) (same.goals 0 is)
-fine-call known name k (Some assignment) form exps value goal is lgs lvs lall same args long = absurd is
-fine-call known name k (Some catch) form exps value goal is lgs lvs lall same args long =
+    (variable : Option (List ℕ)) (lgs : List (SlotNames → SlotGoals)) (lvs : List (SlotNames → SlotValue)) (lall : SlotNames → SlotValues) → FineParts known goal value lgs lvs → (exps → FineValues known lall) → ((ns : SlotNames) → tree_count (trees_of (lall ns).trees) ≡ k) →
+    FineGoals known (slots.call_goals name form (record { variable = variable; goals = lgs; values = lvs; all = lall }))
+fine-call known name k None form exps value goal is variable lgs lvs lall same args long = fine-called known name k lall (args is.0) long is.2
+fine-call known name k (Some negation) form exps value goal is variable lgs lvs lall same args long = fine-not known (slots.goals_at lgs 0) (same.goals 0 is)
+fine-call known name k (Some once) form exps value goal is variable lgs lvs lall same args long = fine-once known (slots.goals_at lgs 0) (same.goals 0 is)
+fine-call known name k (Some assignment) form exps value goal is variable lgs lvs lall same args long = fine-assigned known variable (slots.value_at lvs 1) (same.values 1 is)
+fine-call known name k (Some catch) form exps value goal is variable lgs lvs lall same args long =
     fine-catching known (slots.goals_at lgs 0) (slots.goals_at lgs 2) (slots.value_at lvs 1) (same.goals 0 is.0) (same.goals 2 is.2) (same.values 1 is.1)
-fine-call known name k (Some by_term) form exps value goal is lgs lvs lall same args long = fine-called known name k lall (args is.0) long (term-given known name k (a-term name k form))
-fine-call known name k (Some membership) form exps value goal is lgs lvs lall same args long = absurd is
+fine-call known name k (Some by_term) form exps value goal is variable lgs lvs lall same args long = fine-called known name k lall (args is.0) long (term-given known name k (a-term name k form))
+fine-call known name k (Some membership) form exps value goal is variable lgs lvs lall same args long = absurd is
 
 fine-atom : (known : Knows) (name : List ℕ) (is_true is_fail : Bool) → IsAtomGoal known is_true is_fail name → FineGoals known (λ ns. slots.just (cond is_true core.truth (cond is_fail core.fail (core.call name []))) ns)
 unfolding Fine tree_count
@@ -241,7 +242,7 @@ mutual
   pub goal-fine : (known : Knows) (h : ℕ) (e : ExpTree) → IsGoal known e → FineGoals known (slots.goal_of h e)
   goal-fine known h (atom name) is = fine-atom known name (bytes_eq name (codes "true")) (bytes_eq name (codes "fail")) is
   goal-fine known h (call name es) is =
-      fine-call known name (exp_count es) (form_of name (exp_count es)) refl (AreExpressions known es) (IsExpressionAt known es) (IsGoalAt known es) is (slots.goals_in h es) (slots.values_in h es) (arguments h es)
+      fine-call known name (exp_count es) (form_of name (exp_count es)) refl (AreExpressions known es) (IsExpressionAt known es) (IsGoalAt known es) is (variable_first es) (slots.goals_in h es) (slots.values_in h es) (arguments h es)
       (record { goals = λ i at. goals-fine known h es i at; values = λ i at. values-fine known h es i at }) (λ are. arguments-fine known h es are) (arguments-count h es)
   goal-fine known h (and es) is = and-fine known h es is
   goal-fine known h (or es) is = fine-branches known (slots.any_of h es) (or-fine known h es is)

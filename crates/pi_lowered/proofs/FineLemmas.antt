@@ -11,11 +11,12 @@ use Rattle.pi_effects.specs.Indexing.{index_name}
 use Rattle.pi_core.specs.GoalTree.{GoalTree, truth, fail, tick, call, apply, seq, alternatives, if_else, not, once, collect, count, catch, GoalTrees, no_goals, goal, goals_of}
 use Rattle.pi_meaning.specs.Names.{is_given_predicate, is_given_function}
 use Rattle.pi_names.specs.Terms.{items_onto}
-use Rattle.pi_lowered.specs.Slots.{SlotNames, unnamed, with_value}
+use Rattle.pi_lowered.specs.Slots.{SlotNames, unnamed, slot_for, slots_for, with_value}
 use Rattle.pi_lowered.specs.Values.{SlotValue, SlotValues, Slotted, no_values, before_values, value_of_parts, value_onto, applied, first_item, slotted}
-use Rattle.pi_lowered.specs.Goals.{SlotGoals, SlotBranches, SlotArrow, in_turn, either_of, just, never, goal_by, catching, joined, choosing, as_goals, branch_before, called, found_by, all_counted}
+use Rattle.pi_lowered.specs.Goals.{SlotGoals, SlotBranches, SlotArrow, in_turn, either_of, just, never, goal_by, catching, joined, choosing, as_goals, branch_before, called, assigned, found_by, all_counted}
 use Rattle.pi_lowered.specs.Forms.{Knows}
-use Rattle.pi_lowered.proofs.AgreeLemmas.{by, Grows, grows-none, grows-then, grows-length}
+use Rattle.pi_lowered.proofs.AgreeLemmas.{by, Grows, grows-none, grows-then, grows-length, grows-for}
+use Rattle.pi_lowered.proofs.TermLemmas.{name-room}
 use Rattle.pi_lowered.proofs.BuiltInLemmas.{item-known}
 
 -- ---- goals
@@ -255,13 +256,25 @@ fine-onto known vs v are is = record {
     here : (n : ℕ) (ns : SlotNames) → length (v (vs ns).names).names ≤ n → length (vs ns).names ≤ n
     here n ns room = omega (arith, room, grows-length (vs ns).names _ (is.grows (vs ns).names))
 
--- ---- `find_all` and `count_all`
+-- ---- a value that goes into a slot
 
-item-fine : (known : Knows) (n : ℕ) (goals : List GoalTree) (t : Tree) (ns : SlotNames) → AllFine n known goals → SpeaksBelow n t → length (with_value ns) ≤ n → AllFine n known (goals ++ apply index_name (first_item t) (length ns) ∷ [])
+item-fine : (known : Knows) (n : ℕ) (goals : List GoalTree) (t : Tree) (k : ℕ) → AllFine n known goals → SpeaksBelow n t → k < n → AllFine n known (goals ++ apply index_name (first_item t) k ∷ [])
 unfolding Fine tree_count
-item-fine known n goals t ns are below room =
-    fine-append n known goals _ are (fine-one n known (apply index_name (first_item t) (length ns))
-    (front-below n _ _ (comp-below n array_name _ (front-below n t no_trees below (none-below n))) (front-below n (Tree.int (pos 1)) no_trees (int-below n (pos 1)) (none-below n)), next-room n ns room, item-known (known.function index_name 2)))
+item-fine known n goals t k are below less =
+    fine-append n known goals _ are (fine-one n known (apply index_name (first_item t) k)
+    (front-below n _ _ (comp-below n array_name _ (front-below n t no_trees below (none-below n))) (front-below n (Tree.int (pos 1)) no_trees (int-below n (pos 1)) (none-below n)), less, item-known (known.function index_name 2)))
+
+pub fine-assigned : (known : Knows) (variable : Option (List ℕ)) (v : SlotNames → SlotValue) → FineValue known v → FineGoals known (λ ns. assigned variable (v ns))
+unfolding Fine
+fine-assigned known None v is = record { grows = is.grows; fine = λ n ns room. fine-append n known (v ns).goals (fail ∷ []) (is.fine n ns room) (fine-one n known fail tt) }
+fine-assigned known (Some name) v is = record {
+  grows = λ ns. grows-then ns _ _ (is.grows ns) (grows-for name (v ns).names);
+  fine = λ n ns room.
+      let fits : length (v ns).names ≤ n = omega (arith, room, grows-length (v ns).names _ (grows-for name (v ns).names)) in
+      item-fine known n (v ns).goals (v ns).tree (slot_for name (v ns).names) (is.fine n ns fits) (is.below n ns fits) (name-room name (v ns).names n room);
+}
+
+-- ---- `find_all` and `count_all`
 
 slotted-grows : (goals : List GoalTree) (t : Tree) (ns : SlotNames) → Grows ns (slotted goals t ns).names
 slotted-grows goals (Tree.var k) ns = grows-none ns
@@ -272,9 +285,9 @@ slotted-grows goals (comp name ts) ns = by (unnamed ∷ [])
 slotted-fine : (known : Knows) (n : ℕ) (goals : List GoalTree) (t : Tree) (ns : SlotNames) → AllFine n known goals → SpeaksBelow n t → length (slotted goals t ns).names ≤ n →
     AllFine n known (slotted goals t ns).goals × ((slotted goals t ns).place < n)
 slotted-fine known n goals (Tree.var k) ns are below room = (are, below-var n k below)
-slotted-fine known n goals (Tree.int i) ns are below room = (item-fine known n goals (Tree.int i) ns are below room, next-room n ns room)
-slotted-fine known n goals (Tree.atom name) ns are below room = (item-fine known n goals (Tree.atom name) ns are below room, next-room n ns room)
-slotted-fine known n goals (comp name ts) ns are below room = (item-fine known n goals (comp name ts) ns are below room, next-room n ns room)
+slotted-fine known n goals (Tree.int i) ns are below room = (item-fine known n goals (Tree.int i) (length ns) are below (next-room n ns room), next-room n ns room)
+slotted-fine known n goals (Tree.atom name) ns are below room = (item-fine known n goals (Tree.atom name) (length ns) are below (next-room n ns room), next-room n ns room)
+slotted-fine known n goals (comp name ts) ns are below room = (item-fine known n goals (comp name ts) (length ns) are below (next-room n ns room), next-room n ns room)
 
 pub fine-found : (known : Knows) (g : SlotNames → SlotGoals) (v : SlotNames → SlotValue) → FineGoals known g → FineValue known v → FineValue known (λ ns. found_by (g ns) v)
 unfolding Fine

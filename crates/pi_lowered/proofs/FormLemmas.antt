@@ -29,6 +29,7 @@ use Rattle.pi_lowered.proofs.FlatLemmas.{both, flat-term, flat-terms, flat-value
 use Rattle.pi_lowered.proofs.TouchLemmas.{flat-last, flat-filled}
 use Rattle.pi_lowered.proofs.ValueLemmas.{called-goals, terms-goals, applied-value, no-arguments, front-arguments, flat_values, last-arguments}
 use Rattle.pi_lowered.proofs.FoundLemmas.{found-value, counted-value}
+use Rattle.pi_lowered.proofs.AssignLemmas.{assigned-goals}
 
 -- ---- an expression by itself, of what it comes to where it has a call
 
@@ -154,7 +155,7 @@ pub call-goals : (known : Knows) (set : Setting) (b : Builtins) (l m : Level) (h
     IsPredicateCall known form name k exps value goal → (before : Names) (es : ExpTrees) (variable : Option (List ℕ)) (gs : List Goal) (vs late : List Value) (lgs : List (SlotNames → SlotGoals)) (lvs : List (SlotNames → SlotValue)) (lall : SlotNames → SlotValues) →
     SameCallParts b l m h goal value gs vs lgs lvs → (exps → SameArguments b l m h (values_of set [] before es) lall) → ((ns : SlotNames) → tree_count (trees_of (lall ns).trees) ≡ k) →
     SameGoals b l m h (call_goal set name form (record { variable = variable; goals = gs; values = vs; late = late; all = values_of set (readings name k) before es }))
-    (slots.call_goals name form (record { goals = lgs; values = lvs; all = lall }))
+    (slots.call_goals name form (record { variable = variable; goals = lgs; values = lvs; all = lall }))
 call-goals known set b l m h alike name k None form exps value goal is before es variable gs vs late lgs lvs lall same args long =
     subst (λ (rs : List Reading). SameGoals b l m h (called_with set name (values_of set rs before es)) (λ ns. slots.called name (lall ns))) (sym is.1)
     (called-goals known set b l m h name k (values_of set [] before es) lall alike (args is.0) long (no-term name k form) is.2)
@@ -162,7 +163,8 @@ call-goals known set b l m h alike name k (Some negation) form exps value goal i
     denied-goals known set b l m h (goal_at gs 0) (slots.goals_at lgs 0) alike (same.goals 0 is)
 call-goals known set b l m h alike name k (Some once) form exps value goal is before es variable gs vs late lgs lvs lall same args long =
     once-goals known set b l m h (goal_at gs 0) (slots.goals_at lgs 0) alike (same.goals 0 is)
-call-goals known set b l m h alike name k (Some assignment) form exps value goal is before es variable gs vs late lgs lvs lall same args long = absurd is
+call-goals known set b l m h alike name k (Some assignment) form exps value goal is before es variable gs vs late lgs lvs lall same args long =
+    assigned-goals known set b l m h variable (value_at vs 1) (slots.value_at lvs 1) alike (same.values 1 is)
 call-goals known set b l m h alike name k (Some catch) form exps value goal is before es variable gs vs late lgs lvs lall same args long =
     caught-goals known set b l m h (goal_at gs 0) (value_at vs 1) (goal_at gs 2) (slots.goals_at lgs 0) (slots.goals_at lgs 2) (slots.value_at lvs 1) alike (same.goals 0 is.0) (same.values 1 is.1) (same.goals 2 is.2)
 call-goals known set b l m h alike name k (Some by_term) form exps value goal is before es variable gs vs late lgs lvs lall same args long =

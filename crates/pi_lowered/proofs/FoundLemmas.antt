@@ -26,7 +26,7 @@ use Rattle.pi_lowered.specs.Values.{SlotValue, first_item, slotted}
 use Rattle.pi_lowered.specs.Goals.{SlotGoals, in_turn, found_by, all_counted as slots_counted}
 use Rattle.pi_lowered.specs.Forms.{Knows}
 use Rattle.pi_lowered.proofs.SameLemmas.{SameBy, same-equals, same-one, same-map, same-then, same-collected, same-counted}
-use Rattle.pi_lowered.proofs.FilledLemmas.{in_slot, is_int, Extends, extends-then, set-keeps}
+use Rattle.pi_lowered.proofs.FilledLemmas.{in_slot, is_int, Extends, extends-nothing, extends-then, set-keeps}
 use Rattle.pi_lowered.proofs.AgreeLemmas.{by, Grows, grows-none, grows-then, grows-length, Agrees, agrees-more, agrees-value}
 use Rattle.pi_lowered.proofs.TermLemmas.{Comes, ComesAll, filled-comes-to, nothing-comes, front-comes, structure-comes}
 use Rattle.pi_lowered.proofs.RunLemmas.{Alike, point, place, AtPlace, at_place, AtValue, at_value, at_values, AtFilled, at_filled, runs, SameGoals, SameLast, SameFilled, filled-value, then-of-one, runs-append, not-drained, names-not-drained, turn-runs, same-strictly}
@@ -36,27 +36,26 @@ use Rattle.pi_lowered.proofs.BuiltInLemmas.{first-item-called, item-known}
 
 -- ---- a value that stands in a slot
 
--- the first item of an array of it
+-- an array of it, and the number of its item
+pub item-comes : (n h : ℕ) (ms : SlotNames) (t : Tree) (slots : Places) (s : State) (x : Valued) → Comes n h ms t slots s x →
+    ComesAll n h ms (trees_of (first_item t)) slots s (record { trees = tree (Tree.comp array_name (tree x.tree no_trees)) (tree (Tree.int (pos 1)) no_trees); names = x.names; state = x.state })
+item-comes n h ms t slots s x c =
+    let inside : ComesAll n h ms (tree t no_trees) slots s (record { trees = tree x.tree no_trees; names = x.names; state = x.state }) =
+    front-comes n h ms ms t no_trees slots s x _ c (nothing-comes n h ms x.names c.after x.state c.agrees) in
+    let array : Comes n h ms (Tree.comp array_name (tree t no_trees)) slots s (record { tree = Tree.comp array_name (tree x.tree no_trees); names = x.names; state = x.state }) =
+    structure-comes n h ms array_name (tree t no_trees) slots s _ inside in
+    let number : Comes n h ms (Tree.int (pos 1)) array.after x.state (record { tree = Tree.int (pos 1); names = x.names; state = x.state }) =
+    filled-comes-to n h ms x.names array.after x.state array.agrees (Tree.int (pos 1)) (Tree.int (pos 1)) (is_int (pos 1)) in
+    front-comes n h ms ms _ _ slots s _ _ array (front-comes n h ms ms _ _ array.after x.state _ _ number (nothing-comes n h ms x.names number.after x.state number.agrees))
+
+-- its first item
 item-answer : (known : Knows) (set : Setting) (b : Builtins) (l m : Level) (n h : ℕ) (ms : SlotNames) (t : Tree) (start : Places) → Alike known set b l m → length (with_value ms) ≤ n →
     (q : Point) (x : Valued) → AtValue l n h ms t start q x → SameBy (AtFilled l n h (with_value ms) (Tree.var (length ms)) start) (runs b (GoalTree.apply index_name (first_item t) (length ms) ∷ []) q) (one x)
 unfolding tree_count
 item-answer known set b l m n h ms t start alike room _ _ (at_value slots s x c extends) =
     subst (λ (w : Trace Valued). SameBy (AtFilled l n h (with_value ms) (Tree.var (length ms)) start) (runs b (GoalTree.apply index_name (first_item t) (length ms) ∷ []) (point l slots s)) w)
     (ap (λ (w : Trace Applied). then w (λ a. one (record { tree = a.value; names = x.names; state = a.state }))) (first-item-called set m x.tree x.state) ∙ then-of-one (record { value = x.tree; state = x.state }) _)
-    (applied-answer known set b l m n h ms index_name (first_item t) start alike room (item-known (known.function index_name 2)) (point l slots s) all (at_values slots s all comes extends))
-  where
-    all : ValuedAll
-    all = record { trees = tree (Tree.comp array_name (tree x.tree no_trees)) (tree (Tree.int (pos 1)) no_trees); names = x.names; state = x.state }
-
-    comes : ComesAll n h ms (trees_of (first_item t)) slots s all
-    comes =
-        let inside : ComesAll n h ms (tree t no_trees) slots s (record { trees = tree x.tree no_trees; names = x.names; state = x.state }) =
-        front-comes n h ms ms t no_trees slots s x _ c (nothing-comes n h ms x.names c.after x.state c.agrees) in
-        let array : Comes n h ms (Tree.comp array_name (tree t no_trees)) slots s (record { tree = Tree.comp array_name (tree x.tree no_trees); names = x.names; state = x.state }) =
-        structure-comes n h ms array_name (tree t no_trees) slots s _ inside in
-        let number : Comes n h ms (Tree.int (pos 1)) array.after x.state (record { tree = Tree.int (pos 1); names = x.names; state = x.state }) =
-        filled-comes-to n h ms x.names array.after x.state array.agrees (Tree.int (pos 1)) (Tree.int (pos 1)) (is_int (pos 1)) in
-        front-comes n h ms ms _ _ slots s _ _ array (front-comes n h ms ms _ _ array.after x.state _ _ number (nothing-comes n h ms x.names number.after x.state number.agrees))
+    (applied-answer known set b l m n h ms index_name (first_item t) start alike room (item-known (known.function index_name 2)) (point l slots s) _ (at_values slots s _ (item-comes n h ms t slots s x c) extends))
 
 -- goals with a slot in which their value stands
 abbrev pub slot_value_of : SlotValue → SlotValue
@@ -93,15 +92,15 @@ slotted-last known set b l m h v lv alike is = record {
       (is.same n ns e slots s a (omega (arith, room, grows-length (lv ns).names _ (slotted-grows (lv ns).goals (lv ns).tree (lv ns).names))));
 }
 
--- ---- the expression behind each answer
+-- ---- the expression behind each answer, where nothing says what stayed in slots
 
 value-wider : (l : Level) (n h : ℕ) (ns : SlotNames) (t : Tree) (start first : Places) → Extends first start → (p : Point) (x : Valued) → AtValue l n h ns t start p x → AtValue l n h ns t first p x
 value-wider l n h ns t start first more _ _ (at_value slots s x c extends) = at_value slots s x c (extends-then first start slots more extends)
 
-pub value-from : (b : Builtins) (l m : Level) (h : ℕ) (v : Value) (lv : SlotNames → SlotValue) → SameLast b l m h v lv → (n : ℕ) (ns : SlotNames) (start : Places) → length (lv ns).names ≤ n → (p : Point) (q : Place) → AtPlace l n h ns start p q →
-    SameBy (AtValue l n h (lv ns).names (lv ns).tree start) (runs b (lv ns).goals p) (v m q)
-value-from b l m h v lv is n ns start room _ _ (at_place e slots s a extends) =
-    same-map (AtValue l n h (lv ns).names (lv ns).tree slots) (AtValue l n h (lv ns).names (lv ns).tree start) (value-wider l n h (lv ns).names (lv ns).tree slots start extends) _ _ (is.same n ns e slots s a room)
+pub value-from : (b : Builtins) (l m : Level) (h : ℕ) (v : Value) (lv : SlotNames → SlotValue) → SameLast b l m h v lv → (n : ℕ) (ns : SlotNames) → length (lv ns).names ≤ n → (p : Point) (q : Place) → AtPlace l n h ns p q →
+    SameBy (AtValue l n h (lv ns).names (lv ns).tree []) (runs b (lv ns).goals p) (v m q)
+value-from b l m h v lv is n ns room _ _ (at_place e slots s a) =
+    same-map (AtValue l n h (lv ns).names (lv ns).tree slots) (AtValue l n h (lv ns).names (lv ns).tree []) (value-wider l n h (lv ns).names (lv ns).tree slots [] (extends-nothing slots)) _ _ (is.same n ns e slots s a room)
 
 pub names-strict : (g : Goal) (m : Level) → Drains m → (p : Place) → names_strictly g m p ≡ g m p
 unfolding names_strictly
@@ -119,15 +118,15 @@ strict-left l n h ns t start drains w u is =
 
 pub values-behind : (known : Knows) (set : Setting) (b : Builtins) (l m : Level) (h : ℕ) (g : Goal) (v : Value) (lg : SlotNames → SlotGoals) (lv : SlotNames → SlotValue) → Alike known set b l m → SameGoals b l m h g lg → SameLast b l m h v lv →
     (n : ℕ) (ns : SlotNames) (e : Environment) (slots : Places) (s : State) → Agrees n h ns e slots → length (lv (lg ns).names).names ≤ n →
-    SameBy (AtValue l n h (lv (lg ns).names).names (lv (lg ns).names).tree slots) (strictly (meaning b (in_turn ((lg ns).goals ++ (lv (lg ns).names).goals))) (point l slots s)) (then (names_strictly g m (place e s)) (v m))
+    SameBy (AtValue l n h (lv (lg ns).names).names (lv (lg ns).names).tree []) (strictly (meaning b (in_turn ((lg ns).goals ++ (lv (lg ns).names).goals))) (point l slots s)) (then (names_strictly g m (place e s)) (v m))
 unfolding strictly
 values-behind known set b l m h g v lg lv alike is value n ns e slots s a room =
     let ms : SlotNames = (lg ns).names in
-    let R : Point → Valued → Type 0 = AtValue l n h (lv ms).names (lv ms).tree slots in
-    strict-left l n h (lv ms).names (lv ms).tree slots alike.core_drains _ _
+    let R : Point → Valued → Type 0 = AtValue l n h (lv ms).names (lv ms).tree [] in
+    strict-left l n h (lv ms).names (lv ms).tree [] alike.core_drains _ _
     (subst (λ (t : Trace Point). SameBy R t (then (names_strictly g m (place e s)) (v m))) (sym (turn-runs b l alike.core_drains ((lg ns).goals ++ (lv ms).goals) slots s ∙ runs-append b (lg ns).goals (lv ms).goals (point l slots s)))
     (subst (λ (u : Trace Place). SameBy R (then (runs b (lg ns).goals (point l slots s)) (runs b (lv ms).goals)) (then u (v m))) (sym (names-strict g m alike.names_drain (place e s)))
-    (same-then (AtPlace l n h ms slots) R _ _ (runs b (lv ms).goals) (v m) (is.same n ns e slots s a (omega (arith, room, grows-length ms _ (value.grows ms)))) (value-from b l m h v lv value n ms slots room))))
+    (same-then (AtPlace l n h ms) R _ _ (runs b (lv ms).goals) (v m) (is.same n ns e slots s a (omega (arith, room, grows-length ms _ (value.grows ms)))) (value-from b l m h v lv value n ms room))))
 
 copied : (l : Level) (n h : ℕ) (ns : SlotNames) (k : ℕ) (start : Places) (p : Point) (x : Valued) → AtValue l n h ns (Tree.var k) start p x →
     SameBy Same (copyable (slot_value k p.slots p.state)) (copyable (value (bindings x.state) x.tree))
@@ -156,8 +155,8 @@ found-value known set b l m h g v lg lv alike is gives = record {
       let R : Point → Valued → Type 0 = AtFilled l n h (with_value w.names) (Tree.var (length w.names)) places in
       just-same R b l alike.core_drains (GoalTree.collect goals k (length w.names)) (collecting (meaning b goals) k (length w.names)) refl places s _
       (same-collected R _ _ _ _
-      (same-then (AtValue l n h w.names (Tree.var k) places) Same _ _ (λ q. copyable (slot_value k q.slots q.state)) (λ x. copyable (value (bindings x.state) x.tree))
-      (values-behind known set b l m h g v lg (λ ns. slot_value_of (lv ns)) alike is slots n ns e places s a (omega (arith, room, length-append w.names (unnamed ∷ [])))) (copied l n h w.names k places))
+      (same-then (AtValue l n h w.names (Tree.var k) []) Same _ _ (λ q. copyable (slot_value k q.slots q.state)) (λ x. copyable (value (bindings x.state) x.tree))
+      (values-behind known set b l m h g v lg (λ ns. slot_value_of (lv ns)) alike is slots n ns e places s a (omega (arith, room, length-append w.names (unnamed ∷ [])))) (copied l n h w.names k []))
       (λ ts. same-one R _ _ (next-filled l n h ns w.names e places (with_new_variables (new_in_all ts) s) (list_of_copies (next s) ts) a (grows-then ns _ _ (is.grows ns) (slots.grows ms)) room)));
 }
   where
@@ -173,6 +172,6 @@ counted-value known set b l m h g lg alike is = record {
       let ms : SlotNames = (lg ns).names in
       let R : Point → Valued → Type 0 = AtFilled l n h (with_value ms) (Tree.var (length ms)) slots in
       just-same R b l alike.core_drains (GoalTree.count (in_turn (lg ns).goals) (length ms)) (counting (meaning b (in_turn (lg ns).goals)) (length ms)) refl slots s _
-      (same-counted (AtPlace l n h ms slots) R _ _ _ _ (same-strictly known set b l m h g lg alike is n ns e slots s a (omega (arith, room, length-append ms (unnamed ∷ []))))
+      (same-counted (AtPlace l n h ms) R _ _ _ _ (same-strictly known set b l m h g lg alike is n ns e slots s a (omega (arith, room, length-append ms (unnamed ∷ []))))
       (λ k. same-one R _ _ (next-filled l n h ns ms e slots s (Tree.int (pos k)) a (is.grows ns) room)));
 }

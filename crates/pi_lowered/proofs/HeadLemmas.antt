@@ -1,7 +1,8 @@
 -- Heads over names match where their patterns match over slots, and then they stand for the same.
 use Rattle.std.proofs.Common.{◌≡◌, ℕ, suc, ◌≤◌, ◌<◌, ◌⊎◌, inl, inr, Bool, true, false, cond, List, [], ◌∷◌, length, refl, sym, ◌∙◌, ap, subst, arith, length-append, nat_lt}
-use Rattle.std.specs.Prelude.{Option, Some, None, option_and_then, slice_set, IsSome, is_some, codes}
-use Rattle.std.specs.Str.{bytes_eq}
+use Rattle.std.specs.Prelude.{Option, Some, None, option_and_then, slice_set, IsSome, is_some, map, codes}
+use Rattle.std.specs.Char.{encode_utf8}
+use Rattle.std.specs.Str.{bytes_eq, chars}
 use Rattle.std.specs.Ordering.{is_eq}
 use Rattle.std.specs.Bool.{Decides}
 use Rattle.std.proofs.lemmas.Bool.{cond-true, cases_eq}
@@ -18,12 +19,12 @@ use Rattle.pi_states.specs.State.{followed}
 use Rattle.pi_states.specs.HeadMatch.{taken_in, filled_in, compound_in, matched_in, matched_all_in}
 use Rattle.pi_states.proofs.MatchLemmas.{same_name, name_itself}
 use Rattle.pi_print.specs.PrintTerm.{array_name}
-use Rattle.pi_effects.specs.Items.{cell_parts}
-use Rattle.pi_syntax.specs.ExpTree.{ExpTree, var, int, atom, list, list_onto, array, call, quote, range, range_by, at, ExpTrees, no_exps, exp}
+use Rattle.pi_effects.specs.Items.{list_onto as list_before, list_of, cell_parts}
+use Rattle.pi_syntax.specs.ExpTree.{ExpTree, var, int, atom, str, list, list_onto, array, call, quote, range, range_by, at, ExpTrees, no_exps, exp}
 use Rattle.pi_meaning.specs.Environment.{Environment, known, with_name, name_matched}
-use Rattle.pi_names.specs.Heads.{Matching, compound_matched, one_before, no_more, cell_matched, pattern_matched, patterns_matched, items_matched}
+use Rattle.pi_names.specs.Heads.{Matching, compound_matched, one_before, no_more, cell_matched, atom_matched, characters_matched, pattern_matched, patterns_matched, items_matched}
 use Rattle.pi_lowered.specs.Slots.{SlotNames, slot_known, slot_or_next, slots_with, slot_for, slots_for}
-use Rattle.pi_lowered.specs.Values.{cells_onto, slot_pattern, slot_patterns}
+use Rattle.pi_lowered.specs.Values.{cells_onto, exact_term, slot_pattern, slot_patterns}
 use Rattle.pi_lowered.specs.Forms.{IsPattern, ArePatterns}
 use Rattle.pi_lowered.proofs.AgreeLemmas.{Grows, grows-none, grows-then, grows-length, grows-for, Agrees, agrees-known, set-other}
 use Rattle.pi_lowered.proofs.NewNameLemmas.{new-empty, agrees-new}
@@ -214,6 +215,19 @@ cell-match b n ns ms ks p q m r first rest e slots a t = go (followed b t)
         (sym (text_by_order cell_name f ∙ text_turned cell_name f)) (two (bytes_eq f cell_name) x y)
     go (comp f (tree x (tree y (tree z ts)))) = neither-by (is_eq (name_order cell_name f)) n ks _ (nothing-behind (λ s. matched_in b q y s) (matched_in b p x slots))
 
+-- ---- texts
+
+atom-match : (b : Bindings) (n : ℕ) (ns : SlotNames) (name : List ℕ) → Matches b n ns ns (exact_atom name) (atom_matched b name)
+unfolding matched_in
+atom-match b n ns name = λ e slots a t. both-by (identical (Tree.atom name) (followed b t)) n ns (Some slots) (Some e) (both_match e slots a)
+
+-- the list of a text's characters, cell by cell
+text-match : (b : Bindings) (n : ℕ) (ns : SlotNames) (cs : List ℕ) → Matches b n ns ns (exact_term (list_of (map (λ c. Tree.atom (encode_utf8 c)) cs))) (characters_matched b cs)
+unfolding exact_term list_before characters_matched
+text-match b n ns [] = atom-match b n ns nil
+text-match b n ns (c ∷ cs) =
+    cell-match b n ns ns ns (exact_atom (encode_utf8 c)) (exact_term (list_of (map (λ x. Tree.atom (encode_utf8 x)) cs))) (atom_matched b (encode_utf8 c)) (characters_matched b cs) (atom-match b n ns (encode_utf8 c)) (text-match b n ns cs)
+
 -- ---- patterns
 
 mutual
@@ -222,10 +236,10 @@ mutual
   pub pattern-match : (b : Bindings) (n : ℕ) (p : ExpTree) → IsPattern p → (ns : SlotNames) → length (slot_pattern p ns).names ≤ n → Matches b n ns (slot_pattern p ns).names (slot_pattern p ns).form (pattern_matched b p)
   pattern-match b n (var name) is ns room = λ e slots a t. name-both b n ns e slots a name t room
   pattern-match b n (int k) is ns room = λ e slots a t. both-by (identical (Tree.int k) (followed b t)) n ns (Some slots) (Some e) (both_match e slots a)
-  pattern-match b n (atom name) is ns room = λ e slots a t. both-by (identical (Tree.atom name) (followed b t)) n ns (Some slots) (Some e) (both_match e slots a)
+  pattern-match b n (atom name) is ns room = atom-match b n ns name
+  pattern-match b n (str text) is ns room = text-match b n ns (chars text)
   pattern-match b n (list ps) is ns room =
-      items-match b n ps is ns (slot_patterns ps ns).names (exact_atom nil) (λ u f. cond (identical (Tree.atom nil) (followed b u)) (Some f) None) room
-      (λ e slots a t. both-by (identical (Tree.atom nil) (followed b t)) n (slot_patterns ps ns).names (Some slots) (Some e) (both_match e slots a))
+      items-match b n ps is ns (slot_patterns ps ns).names (exact_atom nil) (atom_matched b nil) room (atom-match b n (slot_patterns ps ns).names nil)
   pattern-match b n (list_onto ps p) is ns room =
       let ms : SlotNames = (slot_patterns ps ns).names in
       items-match b n ps is.0 ns (slot_pattern p ms).names (slot_pattern p ms).form (pattern_matched b p) (omega (arith, room, grows-length ms _ (pattern-grows p ms))) (pattern-match b n p is.1 ms room)

@@ -33,7 +33,7 @@ use Rattle.pi_lowered.specs.Slots.{SlotNames, named_slots, slots_behind}
 use Rattle.pi_lowered.specs.Goals as over_slots
 use Rattle.pi_lowered.specs.Goals.{SlotGoals, in_turn}
 use Rattle.pi_lowered.specs.Lowered.{lowered_rule, lowered_function, lowerings, grouped_all, lowered, lowered_query}
-use Rattle.pi_lowered.specs.Levels.{GoesByCalls}
+use Rattle.pi_lowered.specs.Levels.{SameLevels, GoesByCalls}
 use Rattle.pi_lowered.specs.Within.{is_some_function, IsPart, IsWithin, IsAsked}
 use Rattle.pi_lowered.specs.Clauses.{pred_with, HasClauses}
 use Rattle.pi_lowered.specs.Laws.{known_of, DefinesTheSame, CallsTheSame, IsLoweredProgram, query_from, MeansTheSame, RunsTheSame, IsLowered, ProgramsHaveCorePrograms, GoalsHaveQueries}
@@ -87,23 +87,28 @@ programs-have-core-programs program within = (lowered program, lowered-keeps pro
 
 -- ---- goals
 
-alike-program : (program : ProgramTree) (preds : List PredTree) → IsLoweredProgram program preds → (v : View) (later : LaterStages) → GoesByCalls (known_of program) later.calls → (d : ℕ) →
+-- where calls of what the program has do the same at the levels of a depth, so do all calls
+abbrev LevelsSame : ProgramTree → List PredTree → View → LaterStages → ℕ → Type 0
+LevelsSame program preds v later d = SameLevels (known_of program) (level_at (whole v later.calls preds) preds d) (program_level v later program d)
+
+alike-program : (program : ProgramTree) (preds : List PredTree) → DefinesTheSame program preds → (v : View) (later : LaterStages) → GoesByCalls (known_of program) later.calls → (d : ℕ) → LevelsSame program preds v later d →
     Alike (known_of program) (setting v later program).calls (whole v later.calls preds) (level_at (whole v later.calls preds) preds d) (program_level v later program d)
-alike-program program preds is v later goes d =
-    alike-levels (known_of program) v later.calls preds (λ name k. is_some_head (heads_named name k (prelude ++ program))) goes (λ name k. refl) is.defines.predicates _ _ (is.calls v later goes d)
+alike-program program preds defines v later goes d same =
+    alike-levels (known_of program) v later.calls preds (λ name k. is_some_head (heads_named name k (prelude ++ program))) goes (λ name k. refl) defines.predicates _ _ same
     (core-drains (whole v later.calls preds) preds d) (names-drain (setting v later program) (prelude ++ program) d)
 
 -- the goal, and what its answers tell
-goal-means : (program : ProgramTree) (goal : ExpTree) (preds : List PredTree) → IsLoweredProgram program preds → IsAsked program goal → (v : View) (later : LaterStages) → GoesByCalls (known_of program) later.calls → (d : ℕ) (s : State) →
+goal-means : (program : ProgramTree) (goal : ExpTree) (preds : List PredTree) → DefinesTheSame program preds → IsAsked program goal → (v : View) (later : LaterStages) → GoesByCalls (known_of program) later.calls → (d : ℕ) → LevelsSame program preds v later d →
+    (s : State) →
     told_trace (solution_told (lowered_query goal).names)
     (then (strictly (meaning (whole v later.calls preds) (lowered_query goal).goal) (point (level_at (whole v later.calls preds) preds d) (replicate (lowered_query goal).slots None) s)) (answered_with (lowered_query goal).names))
     ≡ told_trace (place_told (answer_names goal)) (names_from v later program goal d (at_state beginning s))
 unfolding lowered_query names_from
-goal-means program goal preds is asked v later goes d s =
+goal-means program goal preds defines asked v later goes d same s =
     same-equal _ _ (same-then (TellSame told ns) Same _ _ (λ x. one (solution_told (named_slots told ns) x)) (λ p. one (place_told told p))
-    (same-then (AtPlace l n 0 ns (replicate n None)) (TellSame told ns) _ _ (answered_with (named_slots told ns)) (telling told)
+    (same-then (AtPlace l n 0 ns) (TellSame told ns) _ _ (answered_with (named_slots told ns)) (telling told)
     (same-strictly (known_of program) set b l m 0 (goal_of set [] goal) (over_slots.goal_of 0 goal) alike (goal-same (known_of program) set b l m 0 alike [] goal asked) n [] [] (replicate n None) s (agrees-nothing n) fits)
-    (answered-same told l n 0 ns (replicate n None) (omega arith))) (told-one told ns))
+    (answered-same told l n 0 ns (omega arith))) (told-one told ns))
   where
     set : Setting
     set = (setting v later program).calls
@@ -118,7 +123,7 @@ goal-means program goal preds is asked v later goes d s =
     m = program_level v later program d
 
     alike : Alike (known_of program) (setting v later program).calls (whole v later.calls preds) (level_at (whole v later.calls preds) preds d) (program_level v later program d)
-    alike = alike-program program preds is v later goes d
+    alike = alike-program program preds defines v later goes d same
 
     told : Names
     told = answer_names goal
@@ -132,12 +137,17 @@ goal-means program goal preds is asked v later goes d s =
     fits : length ns ≤ n
     fits = grows-length ns _ (behind-grows told ns)
 
-query-means : (program : ProgramTree) (goal : ExpTree) (preds : List PredTree) → IsLoweredProgram program preds → IsAsked program goal → MeansTheSame program goal preds (lowered_query goal)
+pub query-at : (program : ProgramTree) (goal : ExpTree) (preds : List PredTree) → DefinesTheSame program preds → IsAsked program goal → (v : View) (later : LaterStages) → GoesByCalls (known_of program) later.calls → (d : ℕ) → LevelsSame program preds v later d →
+    (s : State) → told_trace (solution_told (lowered_query goal).names) (query_from (whole v later.calls (preds ++ (lowered_query goal).helpers)) preds (lowered_query goal) d s)
+    ≡ told_trace (place_told (answer_names goal)) (names_from v later program goal d (at_state beginning s))
 unfolding query_from lowered_query
-query-means program goal preds is asked v later goes d s =
+query-at program goal preds defines asked v later goes d same s =
     ap (λ (ps : List PredTree). told_trace (solution_told (lowered_query goal).names)
     (then (strictly (meaning (whole v later.calls ps) (lowered_query goal).goal) (point (level_at (whole v later.calls ps) ps d) (replicate (lowered_query goal).slots None) s)) (answered_with (lowered_query goal).names))) (append-nil preds)
-    ∙ goal-means program goal preds is asked v later goes d s
+    ∙ goal-means program goal preds defines asked v later goes d same s
+
+query-means : (program : ProgramTree) (goal : ExpTree) (preds : List PredTree) → IsLoweredProgram program preds → IsAsked program goal → MeansTheSame program goal preds (lowered_query goal)
+query-means program goal preds is asked v later goes d s = query-at program goal preds is.defines asked v later goes d (is.calls v later goes d) s
 
 -- where a query means what a goal means, its runs are those of the goal
 runs-the-same : (program : ProgramTree) (goal : ExpTree) (preds : List PredTree) (q : QueryTree) → MeansTheSame program goal preds q → RunsTheSame program goal preds q

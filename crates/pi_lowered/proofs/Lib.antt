@@ -10,8 +10,10 @@ pub mod FlatLemmas
 pub mod TouchLemmas
 pub mod ValueLemmas
 pub mod FoundLemmas
+pub mod AssignLemmas
 pub mod FormLemmas
 pub mod GoalLemmas
+pub mod LoopLemmas
 pub mod HeadLemmas
 pub mod RuleLemmas
 pub mod AlikeLemmas
@@ -25,3 +27,4 @@ pub mod FineGoals
 pub mod SoundLemmas
 pub mod SoundClauses
 pub mod Examples
+pub mod LoopExamples

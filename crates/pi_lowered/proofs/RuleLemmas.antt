@@ -38,7 +38,6 @@ use Rattle.pi_lowered.specs.Lowered.{head_forms, head_slots, is_truth, as_guard,
 use Rattle.pi_lowered.specs.Forms.{Knows, IsGoal, ArePatterns}
 use Rattle.pi_lowered.specs.Within.{IsGoalOrNone, IsRule, IsFunction}
 use Rattle.pi_lowered.proofs.SameLemmas.{SameBy, same-equals, same-one, same-then, same-chosen, same-equal}
-use Rattle.pi_lowered.proofs.FilledLemmas.{extends-none}
 use Rattle.pi_lowered.proofs.AgreeLemmas.{Grows, grows-length, Agrees}
 use Rattle.pi_lowered.proofs.NewNameLemmas.{agrees-nothing}
 use Rattle.pi_lowered.proofs.RunLemmas.{Alike, point, place, AtPlace, at_place, AtValue, at_value, SameGoals, SameLast, not-drained, same-strictly}
@@ -100,10 +99,10 @@ body-same known set b l m h alike before (Some e) is = goal-same known set.calls
 -- a condition is a strict place
 guard-same : (known : Knows) (set : RulesSetting) (b : Builtins) (l m : Level) (h : ℕ) → Alike known set.calls b l m → (before : Names) (o : Option ExpTree) → IsGoalOrNone known o →
     (n : ℕ) (ns : SlotNames) (e : Environment) (slots : Places) (s : State) → Agrees n h ns e slots → length (goals_or_none h o ns).names ≤ n →
-    SameBy (AtPlace l n h (goals_or_none h o ns).names slots) (guarded b (guard_of o (goals_or_none h o ns)) (point l slots s)) (over_names.guarded set before o m (place e s))
-guard-same known set b l m h alike before None is n ns e slots s a room = same-one (AtPlace l n h ns slots) _ _ (at_place e slots s a (extends-none slots))
+    SameBy (AtPlace l n h (goals_or_none h o ns).names) (guarded b (guard_of o (goals_or_none h o ns)) (point l slots s)) (over_names.guarded set before o m (place e s))
+guard-same known set b l m h alike before None is n ns e slots s a room = same-one (AtPlace l n h ns) _ _ (at_place e slots s a)
 guard-same known set b l m h alike before (Some c) is n ns e slots s a room =
-    subst (λ (t : Trace Point). SameBy (AtPlace l n h (over_slots.goal_of h c ns).names slots) t (names_strictly (goal_of set.calls before c) m (place e s)))
+    subst (λ (t : Trace Point). SameBy (AtPlace l n h (over_slots.goal_of h c ns).names) t (names_strictly (goal_of set.calls before c) m (place e s)))
     (sym (guard-runs b l alike.core_drains (in_turn (over_slots.goal_of h c ns).goals) slots s))
     (same-strictly known set.calls b l m h (goal_of set.calls before c) (over_slots.goal_of h c) alike (goal-same known set.calls b l m h alike before c is) n ns e slots s a room)
 
@@ -112,20 +111,20 @@ guard-grows known set b l m h alike before o is ns = (body-same known set b l m 
 
 -- ---- the states of answers
 
-state-same : (l : Level) (n h : ℕ) (ns : SlotNames) (start : Places) (p : Point) (q : Place) → AtPlace l n h ns start p q → SameBy Same (one p.state) (one q.state)
-state-same l n h ns start _ _ (at_place e slots s a extends) = same-one Same s s (same s)
+state-same : (l : Level) (n h : ℕ) (ns : SlotNames) (p : Point) (q : Place) → AtPlace l n h ns p q → SameBy Same (one p.state) (one q.state)
+state-same l n h ns _ _ (at_place e slots s a) = same-one Same s s (same s)
 
 value-same : (l : Level) (n h : ℕ) (ns : SlotNames) (t : Tree) (start : Places) (p : Point) (x : Valued) → AtValue l n h ns t start p x → SameBy Same (value_at (Some t) p) (one (applied x))
 value-same l n h ns t start _ _ (at_value slots s x c extends) =
     subst (λ (y : Evaluated). SameBy Same (one (record { value = y.tree; state = y.state })) (one (applied x))) (sym c.comes) (same-one Same _ _ (same (applied x)))
 
 -- the body of a rule
-rule-body : (known : Knows) (set : RulesSetting) (b : Builtins) (l m : Level) (h : ℕ) → Alike known set.calls b l m → (before : Names) (e : ExpTree) → IsGoal known e → (n : ℕ) (ns : SlotNames) (start : Places) → length (over_slots.goal_of h e ns).names ≤ n →
-    (p : Point) (q : Place) → AtPlace l n h ns start p q →
+rule-body : (known : Knows) (set : RulesSetting) (b : Builtins) (l m : Level) (h : ℕ) → Alike known set.calls b l m → (before : Names) (e : ExpTree) → IsGoal known e → (n : ℕ) (ns : SlotNames) → length (over_slots.goal_of h e ns).names ≤ n →
+    (p : Point) (q : Place) → AtPlace l n h ns p q →
     then (meaning b (in_turn (over_slots.goal_of h e ns).goals) p) (λ r. one r.state) ≡ then (goal_of set.calls before e m q) (λ r. one r.state)
-rule-body known set b l m h alike before e is n ns start room p q at =
-    same-equal _ _ (same-then (AtPlace l n h (over_slots.goal_of h e ns).names start) Same _ _ (λ r. one r.state) (λ r. one r.state)
-    (turn-from b l m h (goal_of set.calls before e) (over_slots.goal_of h e) alike.core_drains (goal-same known set.calls b l m h alike before e is) n ns start room p q at) (state-same l n h (over_slots.goal_of h e ns).names start))
+rule-body known set b l m h alike before e is n ns room p q at =
+    same-equal _ _ (same-then (AtPlace l n h (over_slots.goal_of h e ns).names) Same _ _ (λ r. one r.state) (λ r. one r.state)
+    (turn-from b l m h (goal_of set.calls before e) (over_slots.goal_of h e) alike.core_drains (goal-same known set.calls b l m h alike before e is) n ns room p q at) (state-same l n h (over_slots.goal_of h e ns).names))
 
 -- ---- rules
 
@@ -135,9 +134,9 @@ rule-answer : (known : Knows) (set : RulesSetting) (b : Builtins) (l m : Level) 
 unfolding lowered_rule
 rule-answer known set b l m alike r is the_call i s rest later e _ _ neither = e
 rule-answer known set b l m alike r is the_call i s rest later e _ _ (both_match names slots a) =
-    same-equal _ _ (same-chosen (AtPlace l n h ms slots) Same _ _ _ _ _ _
+    same-equal _ _ (same-chosen (AtPlace l n h ms) Same _ _ _ _ _ _
     (guard-same known set b l m h alike (behind [] (places r.head)) r.cond is.cond n (head_forms r.head).names names slots s a (omega (arith, grows-length ms _ (body.grows ms))))
-    (λ p q at. same-equals _ _ (ap (λ (t : Trace State). chosen_rule r.back t rest) (rule-body known set b l m h alike (names_before r.head r.cond) r.body is.body n ms slots (omega arith) p q at)
+    (λ p q at. same-equals _ _ (ap (λ (t : Trace State). chosen_rule r.back t rest) (rule-body known set b l m h alike (names_before r.head r.cond) r.body is.body n ms (omega arith) p q at)
     ∙ ap (chosen_rule r.back (then (goal_of set.calls (names_before r.head r.cond) r.body m q) (λ x. one x.state))) e))
     (same-equals _ _ e))
     ∙ ap (λ (es : List ExpTree). chosen (over_names.guarded set (behind [] (places r.head)) r.cond m (place names s)) (λ q. chosen_rule (over_names.leaves_later r es) (over_names.body_or_agent set the_call i r es m q) later) later) (sym is.events)
@@ -188,20 +187,20 @@ rules-same known set b l m alike (r ∷ rs) is the_call i ts s =
 -- ---- functions
 
 -- a function's body, and behind it its value
-run-same : (known : Knows) (set : RulesSetting) (b : Builtins) (l m : Level) (h : ℕ) → Alike known set.calls b l m → (f : FunctionTree) → IsFunction known f → (n : ℕ) (ns : SlotNames) (start : Places) →
-    length (last_value f.value (goals_or_none h f.body ns).names (made h f.value (goals_or_none h f.body ns).names)).names ≤ n → (p : Point) (q : Place) → AtPlace l n h ns start p q →
+run-same : (known : Knows) (set : RulesSetting) (b : Builtins) (l m : Level) (h : ℕ) → Alike known set.calls b l m → (f : FunctionTree) → IsFunction known f → (n : ℕ) (ns : SlotNames) →
+    length (last_value f.value (goals_or_none h f.body ns).names (made h f.value (goals_or_none h f.body ns).names)).names ≤ n → (p : Point) (q : Place) → AtPlace l n h ns p q →
     then (strictly (meaning b (in_turn ((goals_or_none h f.body ns).goals ++ (last_value f.value (goals_or_none h f.body ns).names (made h f.value (goals_or_none h f.body ns).names)).goals))) p)
     (value_at (Some (last_value f.value (goals_or_none h f.body ns).names (made h f.value (goals_or_none h f.body ns).names)).tree))
     ≡ over_names.value_run set f m q
-run-same known set b l m h alike f is n ns start room _ _ (at_place e slots s a extends) =
+run-same known set b l m h alike f is n ns room _ _ (at_place e slots s a) =
     let before : Names = behind (function_names f) (places_in f.cond) in
     let within : Names = behind (names_before f.head f.cond) (places_in f.body) in
     let ms : SlotNames = (goals_or_none h f.body ns).names in
     let lv : SlotNames → SlotValue = λ ks. last_value f.value ks (made h f.value ks) in
     let value : SameLast b l m h (value_of set.calls plain within f.value) lv = value-last known set.calls b l m h within f.value is.value (made-same known set.calls b l m h alike within f.value is.value) in
-    same-equal _ _ (same-then (AtValue l n h (lv ms).names (lv ms).tree slots) Same _ _ (value_at (Some (lv ms).tree)) (λ x. one (applied x))
+    same-equal _ _ (same-then (AtValue l n h (lv ms).names (lv ms).tree []) Same _ _ (value_at (Some (lv ms).tree)) (λ x. one (applied x))
     (values-behind known set.calls b l m h (body_or_none set before f.body) (value_of set.calls plain within f.value) (goals_or_none h f.body) lv alike (body-same known set b l m h alike before f.body is.body) value n ns e slots s a room)
-    (value-same l n h (lv ms).names (lv ms).tree slots))
+    (value-same l n h (lv ms).names (lv ms).tree []))
     ∙ then-assoc (names_strictly (body_or_none set before f.body) m (place e s)) (value_of set.calls plain within f.value m) (λ x. one (applied x))
 
 function-answer : (known : Knows) (set : RulesSetting) (b : Builtins) (l m : Level) → Alike known set.calls b l m → (f : FunctionTree) → IsFunction known f → (s : State) (rest later : Trace Applied) → rest ≡ later →
@@ -210,9 +209,9 @@ function-answer : (known : Knows) (set : RulesSetting) (b : Builtins) (l m : Lev
 unfolding lowered_function
 function-answer known set b l m alike f is s rest later e _ _ neither = e
 function-answer known set b l m alike f is s rest later e _ _ (both_match names slots a) =
-    same-equal _ _ (same-chosen (AtPlace l n h ms slots) Same _ _ _ _ _ _
+    same-equal _ _ (same-chosen (AtPlace l n h ms) Same _ _ _ _ _ _
     (guard-same known set b l m h alike (function_names f) f.cond is.cond n (head_forms f.head).names names slots s a (omega (arith, grows-length ms ks (body.grows ms), grows-length ks _ (value.grows ks))))
-    (λ p q at. same-equals _ _ (run-same known set b l m h alike f is n ms slots (omega arith) p q at))
+    (λ p q at. same-equals _ _ (run-same known set b l m h alike f is n ms (omega arith) p q at))
     (same-equals _ _ e))
   where
     h : ℕ

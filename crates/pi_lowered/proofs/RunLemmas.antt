@@ -21,7 +21,7 @@ use Rattle.pi_lowered.specs.Values.{SlotValue, SlotValues}
 use Rattle.pi_lowered.specs.Goals.{SlotGoals, in_turn}
 use Rattle.pi_lowered.specs.Forms.{Knows}
 use Rattle.pi_lowered.proofs.SameLemmas.{SameBy, same-one, same-then, same-map}
-use Rattle.pi_lowered.proofs.FilledLemmas.{Filled, AllFilled, Extends, extends-then}
+use Rattle.pi_lowered.proofs.FilledLemmas.{Filled, AllFilled, Extends}
 use Rattle.pi_lowered.proofs.AgreeLemmas.{Grows, Agrees, agrees-more}
 use Rattle.pi_lowered.proofs.TermLemmas.{Comes, ComesAll, filled-comes-to}
 
@@ -44,8 +44,8 @@ place e s = record { names = e; state = s }
 -- ---- answers
 
 -- the answers of a goal
-pub data AtPlace (l : Level) (n h : ℕ) (ns : SlotNames) (start : Places) : Point → Place → Type 0 where
-  at_place : (e : Environment) (slots : Places) (s : State) → Agrees n h ns e slots → Extends start slots → AtPlace l n h ns start (point l slots s) (place e s)
+pub data AtPlace (l : Level) (n h : ℕ) (ns : SlotNames) : Point → Place → Type 0 where
+  at_place : (e : Environment) (slots : Places) (s : State) → Agrees n h ns e slots → AtPlace l n h ns (point l slots s) (place e s)
 
 -- a value that is evaluated where it is used
 pub data AtValue (l : Level) (n h : ℕ) (ns : SlotNames) (t : Tree) (start : Places) : Point → Valued → Type 0 where
@@ -72,7 +72,7 @@ runs b gs p = meaning_of_all b (goals_of gs) p
 pub record SameGoals (b : Builtins) (l m : Level) (h : ℕ) (g : Goal) (lowered : SlotNames → SlotGoals) : Type 0 where
   pub grows : (ns : SlotNames) → Grows ns (lowered ns).names
   pub same : (n : ℕ) (ns : SlotNames) (e : Environment) (slots : Places) (s : State) → Agrees n h ns e slots → length (lowered ns).names ≤ n →
-      SameBy (AtPlace l n h (lowered ns).names slots) (runs b (lowered ns).goals (point l slots s)) (g m (place e s))
+      SameBy (AtPlace l n h (lowered ns).names) (runs b (lowered ns).goals (point l slots s)) (g m (place e s))
 
 pub record SameLast (b : Builtins) (l m : Level) (h : ℕ) (v : Value) (lowered : SlotNames → SlotValue) : Type 0 where
   pub grows : (ns : SlotNames) → Grows ns (lowered ns).names
@@ -96,9 +96,8 @@ pub record SameParts (b : Builtins) (l m : Level) (h : ℕ) (vs : Values) (lower
 
 -- ---- widening
 
-pub place-wider : (l : Level) (n h : ℕ) (ns ms : SlotNames) (start first : Places) → Grows ns ms → Extends first start → (p : Point) (q : Place) → AtPlace l n h ns start p q → AtPlace l n h ms first p q
-place-wider l n h ns ms start first grows more _ _ (at_place e slots s a extends) =
-    at_place e slots s (agrees-more n h ns ms e slots grows a) (extends-then first start slots more extends)
+pub place-wider : (l : Level) (n h : ℕ) (ns ms : SlotNames) → Grows ns ms → (p : Point) (q : Place) → AtPlace l n h ns p q → AtPlace l n h ms p q
+place-wider l n h ns ms grows _ _ (at_place e slots s a) = at_place e slots s (agrees-more n h ns ms e slots grows a)
 
 pub filled-value : (l : Level) (n h : ℕ) (ns : SlotNames) (t : Tree) (start : Places) (p : Point) (x : Valued) → AtFilled l n h ns t start p x → AtValue l n h ns t start p x
 filled-value l n h ns t start _ _ (at_filled e slots s u a extends f) = at_value slots s _ (filled-comes-to n h ns e slots s a t u f) extends
@@ -149,23 +148,23 @@ pub goals-drained : (known : Knows) (set : Setting) (b : Builtins) (l m : Level)
 goals-drained known set b l m h g lowered alike is = record {
   grows = is.grows;
   same = λ n ns e slots s a room.
-      subst (λ (t : Trace Place). SameBy (AtPlace l n h (lowered ns).names slots) (runs b (lowered ns).goals (point l slots s)) t) (sym (names-not-drained g m (place e s) alike.names_drain))
+      subst (λ (t : Trace Place). SameBy (AtPlace l n h (lowered ns).names) (runs b (lowered ns).goals (point l slots s)) t) (sym (names-not-drained g m (place e s) alike.names_drain))
       (is.same n ns e slots s a room);
 }
 
 -- a strict place
-strict-answer : (l m : Level) (n h : ℕ) (ns : SlotNames) (start : Places) → ((s : State) → (calls_at l).drained s ≡ one s) → ((s : State) → (calls_at m).drained s ≡ one s) →
-    (p : Point) (q : Place) → AtPlace l n h ns start p q → SameBy (AtPlace l n h ns start) (draining (λ r. one r) p) (names_draining (λ k r. one r) m q)
-strict-answer l m n h ns start drains drain _ _ (at_place e slots s a extends) =
-    subst (λ (t : Trace Point). SameBy (AtPlace l n h ns start) t (names_draining (λ k r. one r) m (place e s))) (sym (not-drained (λ r. one r) (point l slots s) drains))
-    (subst (λ (u : Trace Place). SameBy (AtPlace l n h ns start) (one (point l slots s)) u) (sym (names-not-drained (λ k r. one r) m (place e s) drain))
-    (same-one (AtPlace l n h ns start) _ _ (at_place e slots s a extends)))
+strict-answer : (l m : Level) (n h : ℕ) (ns : SlotNames) → ((s : State) → (calls_at l).drained s ≡ one s) → ((s : State) → (calls_at m).drained s ≡ one s) →
+    (p : Point) (q : Place) → AtPlace l n h ns p q → SameBy (AtPlace l n h ns) (draining (λ r. one r) p) (names_draining (λ k r. one r) m q)
+strict-answer l m n h ns drains drain _ _ (at_place e slots s a) =
+    subst (λ (t : Trace Point). SameBy (AtPlace l n h ns) t (names_draining (λ k r. one r) m (place e s))) (sym (not-drained (λ r. one r) (point l slots s) drains))
+    (subst (λ (u : Trace Place). SameBy (AtPlace l n h ns) (one (point l slots s)) u) (sym (names-not-drained (λ k r. one r) m (place e s) drain))
+    (same-one (AtPlace l n h ns) _ _ (at_place e slots s a)))
 
 pub same-strictly : (known : Knows) (set : Setting) (b : Builtins) (l m : Level) (h : ℕ) (g : Goal) (lowered : SlotNames → SlotGoals) → Alike known set b l m → SameGoals b l m h g lowered →
     (n : ℕ) (ns : SlotNames) (e : Environment) (slots : Places) (s : State) → Agrees n h ns e slots → length (lowered ns).names ≤ n →
-    SameBy (AtPlace l n h (lowered ns).names slots) (strictly (meaning b (in_turn (lowered ns).goals)) (point l slots s)) (names_strictly g m (place e s))
+    SameBy (AtPlace l n h (lowered ns).names) (strictly (meaning b (in_turn (lowered ns).goals)) (point l slots s)) (names_strictly g m (place e s))
 unfolding strictly names_strictly
 same-strictly known set b l m h g lowered alike is n ns e slots s a room =
-    same-then (AtPlace l n h (lowered ns).names slots) (AtPlace l n h (lowered ns).names slots) _ _ (draining (λ r. one r)) (names_draining (λ k r. one r) m)
-    (subst (λ (t : Trace Point). SameBy (AtPlace l n h (lowered ns).names slots) t (g m (place e s))) (sym (turn-runs b l alike.core_drains (lowered ns).goals slots s)) (is.same n ns e slots s a room))
-    (strict-answer l m n h (lowered ns).names slots alike.core_drains alike.names_drain)
+    same-then (AtPlace l n h (lowered ns).names) (AtPlace l n h (lowered ns).names) _ _ (draining (λ r. one r)) (names_draining (λ k r. one r) m)
+    (subst (λ (t : Trace Point). SameBy (AtPlace l n h (lowered ns).names) t (g m (place e s))) (sym (turn-runs b l alike.core_drains (lowered ns).goals slots s)) (is.same n ns e slots s a room))
+    (strict-answer l m n h (lowered ns).names alike.core_drains alike.names_drain)

@@ -1,10 +1,13 @@
 -- Slots of clauses and queries that are lowered are those that they have.
 use Rattle.std.proofs.Common.{◌≡◌, ◌⊎◌, inl, inr, ℕ, suc, ◌≤◌, ◌<◌, List, [], ◌∷◌, ◌++◌, length, refl, ap, subst, arith}
-use Rattle.std.specs.Prelude.{Contains}
+use Rattle.std.specs.Prelude.{Contains, map}
+use Rattle.std.specs.Char.{encode_utf8}
+use Rattle.std.specs.Str.{chars}
 use Rattle.std.proofs.lemmas.List.Elements.{Contains-append_cases, Contains-push_cases}
 use Rattle.pi_terms.specs.Tree.{Tree, trees_of}
 use Rattle.pi_terms.specs.PatternTree.{PatternTree, exact_atom, PatternTrees, no_patterns, pattern, HasSlot, HaveSlot}
 use Rattle.pi_states.specs.State.{SpeaksBelow}
+use Rattle.pi_effects.specs.Items.{list_onto as list_before, list_of}
 use Rattle.pi_states.proofs.KeepsLemmas.{TreesBelow}
 use Rattle.pi_core.specs.GoalTree.{GoalTree, truth, fail, tick, call, apply, seq, alternatives, if_else, not, once, collect, count, catch, GoalTrees, no_goals, goal, subgoals, subgoals_all}
 use Rattle.pi_syntax.specs.ExpTree.{ExpTree, var, int, atom, str, list, list_onto, array, quote, range, range_by, at, ExpTrees, no_exps, exp}
@@ -12,7 +15,7 @@ use Rattle.pi_syntax.specs.ExpTree as written
 use Rattle.pi_syntax.specs.Signature.{exp_count}
 use Rattle.pi_meaning.specs.Sound.{NamesBelow, SlotsBelow, pattern_count}
 use Rattle.pi_lowered.specs.Slots.{SlotNames, slots_for}
-use Rattle.pi_lowered.specs.Values.{cells_onto, slot_pattern, slot_patterns}
+use Rattle.pi_lowered.specs.Values.{cells_onto, exact_term, slot_pattern, slot_patterns}
 use Rattle.pi_lowered.specs.Forms.{Knows, IsPattern, ArePatterns}
 use Rattle.pi_lowered.proofs.AgreeLemmas.{grows-length}
 use Rattle.pi_lowered.proofs.TermLemmas.{name-room}
@@ -117,6 +120,14 @@ cells-below n (pattern p ps) rest items last k (inl first) = items k (inl first)
 cells-below n (pattern p ps) rest items last k (inr (inl later)) = cells-below n ps rest (λ j at. items j (inr at)) last k later
 cells-below n (pattern p ps) rest items last k (inr (inr none)) = absurd none
 
+-- a text has no slot
+text-slots : (cs : List ℕ) (k : ℕ) → HasSlot (exact_term (list_of (map (λ c. Tree.atom (encode_utf8 c)) cs))) k → ⊥
+unfolding exact_term list_before HasSlot
+text-slots [] k there = there
+text-slots (c ∷ cs) k (inl character) = character
+text-slots (c ∷ cs) k (inr (inl later)) = text-slots cs k later
+text-slots (c ∷ cs) k (inr (inr none)) = none
+
 mutual
   unfolding slot_pattern HasSlot IsPattern
 
@@ -124,6 +135,7 @@ mutual
   pattern-below n (var name) is ns room k there = subst (λ (j : ℕ). j < n) there (name-room name ns n room)
   pattern-below n (int i) is ns room k there = absurd there
   pattern-below n (atom name) is ns room k there = absurd there
+  pattern-below n (str text) is ns room k there = absurd (text-slots (chars text) k there)
   pattern-below n (list es) is ns room k there = cells-below n (slot_patterns es ns).forms (exact_atom _) (patterns-below n es is ns room) (λ j none. absurd none) k there
   pattern-below n (list_onto es e) is ns room k there =
       let ms : SlotNames = (slot_patterns es ns).names in

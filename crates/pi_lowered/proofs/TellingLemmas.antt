@@ -64,9 +64,9 @@ told-same R (name ∷ names) n h ns e slots s agrees room a b is =
 pub data TellSame (names : Names) (ns : SlotNames) : Solution → Place → Type 0 where
   tell_same : (x : Solution) (p : Place) → solution_told (named_slots names ns) x ≡ place_told names p → TellSame names ns x p
 
-pub answered-same : (names : Names) (l : Level) (n h : ℕ) (ns : SlotNames) (start : Places) → length (slots_behind names ns) ≤ n → (p : Point) (q : Place) → AtPlace l n h ns start p q →
+pub answered-same : (names : Names) (l : Level) (n h : ℕ) (ns : SlotNames) → length (slots_behind names ns) ≤ n → (p : Point) (q : Place) → AtPlace l n h ns p q →
     SameBy (TellSame names ns) (answered_with (named_slots names ns) p) (telling names q)
-answered-same names l n h ns start room _ _ (at_place e slots s a extends) =
+answered-same names l n h ns room _ _ (at_place e slots s a) =
     told-same (TellSame names ns) names n h ns e slots s a room (one (record { slots = slots; state = s })) (one (place e s))
     (same-one (TellSame names ns) _ _ (tell_same _ _ (ap (λ (vs : List NamedTerm). record { values = vs; state = s }) (values-same names n h ns e slots s a room))))
 

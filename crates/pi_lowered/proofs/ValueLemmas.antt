@@ -55,13 +55,13 @@ states_then e t = then t (λ s. one (record { names = e; state = s }))
 
 called-answer : (known : Knows) (set : Setting) (b : Builtins) (l m : Level) (n h : ℕ) (ns : SlotNames) (name : List ℕ) (args : List Tree) (start : Places) (does : Trees → State → Trace State) → Alike known set b l m →
     ((ts : Trees) (s : State) → tree_count ts ≡ tree_count (trees_of args) → predicate_by b l name ts s ≡ does ts s) → (q : Point) (x : ValuedAll) → AtValues l n h ns (trees_of args) start q x →
-    SameBy (AtPlace l n h ns start) (runs b (GoalTree.call name args ∷ []) q) (states_then x.names (does x.trees x.state))
+    SameBy (AtPlace l n h ns) (runs b (GoalTree.call name args ∷ []) q) (states_then x.names (does x.trees x.state))
 unfolding meaning calling
 called-answer known set b l m n h ns name args start does alike is _ _ (at_values slots s x c extends) =
-    just-same (AtPlace l n h ns start) b l alike.core_drains (GoalTree.call name args) (calling b name args) refl slots s _
-    (subst (λ (y : EvaluatedAll). SameBy (AtPlace l n h ns start) (then (predicate_by b l name y.trees y.state) (λ r. one (point l y.slots r))) (states_then x.names (does x.trees x.state))) (sym c.comes)
-    (same-then_same (AtPlace l n h ns start) _ _ (λ r. one (point l c.after r)) (λ r. one (place x.names r)) (is x.trees x.state (filled-count c.after (trees_of args) x.trees c.filled))
-    (λ r. same-one (AtPlace l n h ns start) _ _ (at_place x.names c.after r c.agrees (extends-then start slots c.after extends c.extends)))))
+    just-same (AtPlace l n h ns) b l alike.core_drains (GoalTree.call name args) (calling b name args) refl slots s _
+    (subst (λ (y : EvaluatedAll). SameBy (AtPlace l n h ns) (then (predicate_by b l name y.trees y.state) (λ r. one (point l y.slots r))) (states_then x.names (does x.trees x.state))) (sym c.comes)
+    (same-then_same (AtPlace l n h ns) _ _ (λ r. one (point l c.after r)) (λ r. one (place x.names r)) (is x.trees x.state (filled-count c.after (trees_of args) x.trees c.filled))
+    (λ r. same-one (AtPlace l n h ns) _ _ (at_place x.names c.after r c.agrees))))
 
 pub called-goals : (known : Knows) (set : Setting) (b : Builtins) (l m : Level) (h : ℕ) (name : List ℕ) (k : ℕ) (vs : Values) (lvs : SlotNames → SlotValues) → Alike known set b l m → SameArguments b l m h vs lvs →
     ((ns : SlotNames) → tree_count (trees_of (lvs ns).trees) ≡ k) → is_call name k ≡ false → IsTrue (is_given_predicate name k || known.predicate name k) →
@@ -70,7 +70,7 @@ unfolding called_with
 called-goals known set b l m h name k vs lvs alike are count apart there = record {
   grows = are.grows;
   same = λ n ns e slots s a room.
-      behind-arguments (AtPlace l n h (lvs ns).names slots) b l m h vs lvs are (GoalTree.call name (lvs ns).trees) (λ all. then (predicate_called set m name all.trees all.state) (λ s. one (record { names = all.names; state = s }))) n ns e slots s a room
+      behind-arguments (AtPlace l n h (lvs ns).names) b l m h vs lvs are (GoalTree.call name (lvs ns).trees) (λ all. then (predicate_called set m name all.trees all.state) (λ s. one (record { names = all.names; state = s }))) n ns e slots s a room
       (called-answer known set b l m n h (lvs ns).names name (lvs ns).trees slots (predicate_called set m name) alike
       (λ ts r long. alike.predicates name ts r (ap (is_call name) (long ∙ count ns) ∙ apart) (subst (λ (j : ℕ). IsTrue (is_given_predicate name j || known.predicate name j)) (sym (long ∙ count ns)) there)));
 }
@@ -81,7 +81,7 @@ unfolding calling_term
 terms-goals known set b l m h name k vs lvs alike are count is = record {
   grows = are.grows;
   same = λ n ns e slots s a room.
-      behind-arguments (AtPlace l n h (lvs ns).names slots) b l m h vs lvs are (GoalTree.call name (lvs ns).trees) (λ all. then (first_called set m all.trees all.state) (λ s. one (record { names = all.names; state = s }))) n ns e slots s a room
+      behind-arguments (AtPlace l n h (lvs ns).names) b l m h vs lvs are (GoalTree.call name (lvs ns).trees) (λ all. then (first_called set m all.trees all.state) (λ s. one (record { names = all.names; state = s }))) n ns e slots s a room
       (called-answer known set b l m n h (lvs ns).names name (lvs ns).trees slots (first_called set m) alike (λ ts r long. alike.terms name ts r (ap (is_call name) (long ∙ count ns) ∙ is)));
 }
 

@@ -1,4 +1,4 @@
--- Which expressions and goals are lowered: what a text without a fault has that holds no loop, no comprehension, no `:=`, and no constraint whose sides are read as structure. Each name
+-- Which expressions and goals are lowered: what a text without a fault has that holds no loop, no comprehension, and no constraint whose sides are read as structure. Each name
 -- that is called is one that the language gives, or one that the program has. (Own.)
 use Rattle.std.specs.Prelude.{◌≡◌, ◌≢◌, ℕ, zero, suc, ◌||◌, Bool, true, false, List, [], Option, Some, None, IsTrue, codes, ⊤}
 use Rattle.std.specs.Str.{bytes_eq}
@@ -34,12 +34,13 @@ unfoldable mutual
   AreTerms no_exps = ⊤
   AreTerms (exp e es) = IsTerm e × AreTerms es
 
--- an argument of a head. (A text that isn't empty may be none yet.)
+-- an argument of a head
 unfoldable mutual
   pub IsPattern : ExpTree → Type 0
   IsPattern (var name) = ⊤
   IsPattern (int n) = ⊤
   IsPattern (atom name) = ⊤
+  IsPattern (str text) = ⊤
   IsPattern (list es) = ArePatterns es
   IsPattern (list_onto es e) = ArePatterns es × IsPattern e
   IsPattern (array es) = ArePatterns es
@@ -66,7 +67,7 @@ abbrev pub IsPredicateCall : Knows → Option Form → List ℕ → ℕ → Type
 IsPredicateCall known None name k exps value goal = exps × (readings name k ≡ []) × IsTrue (is_given_predicate name k || known.predicate name k)
 IsPredicateCall known (Some negation) name k exps value goal = goal 0
 IsPredicateCall known (Some once) name k exps value goal = goal 0
-IsPredicateCall known (Some assignment) name k exps value goal = ⊥
+IsPredicateCall known (Some assignment) name k exps value goal = value 1
 IsPredicateCall known (Some catch) name k exps value goal = goal 0 × value 1 × goal 2
 IsPredicateCall known (Some by_term) name k exps value goal = exps × (readings name k ≡ [])
 IsPredicateCall known (Some membership) name k exps value goal = ⊥

@@ -11,8 +11,9 @@ use Rattle.pi_syntax.specs.Signature.{exp_count}
 use Rattle.pi_core.specs.GoalTree.{GoalTree, goals_of}
 use Rattle.pi_names.specs.Terms.{items_onto}
 use Rattle.pi_names.specs.Forms.{Form, negation, once, assignment, catch, by_term, membership, form_of, is_find_all, is_count_all}
-use Rattle.pi_lowered.specs.Slots.{SlotNames, with_value}
-use Rattle.pi_lowered.specs.Values.{is_flat, are_flat, SlotValue, SlotValues, last_value, value_before, value_by, no_values, before_values, value_of_parts, value_onto, applied, Slotted, slotted}
+use Rattle.pi_names.specs.Texts.{variable_first}
+use Rattle.pi_lowered.specs.Slots.{SlotNames, slot_for, slots_for, with_value}
+use Rattle.pi_lowered.specs.Values.{is_flat, are_flat, SlotValue, SlotValues, last_value, value_before, value_by, no_values, before_values, value_of_parts, value_onto, applied, first_item, Slotted, slotted}
 
 -- ---- goals
 
@@ -54,8 +55,9 @@ goal_by make gs = just (make (in_turn gs.goals)) gs.names
 
 -- ---- calls
 
--- a call's arguments: each as a goal and as an expression that is the last to be evaluated, and all of them as arguments
+-- a call's arguments: the variable that stands first, where one does; each as a goal and as an expression that is the last to be evaluated; and all of them as arguments
 pub record SlotParts : Type 0 where
+  pub variable : Option (List ℕ)
   pub goals : List (SlotNames → SlotGoals)
   pub values : List (SlotNames → SlotValue)
   pub all : SlotNames → SlotValues
@@ -81,11 +83,17 @@ catching g handler ball =
       names = (handler (g ball.names).names).names;
     }
 
+-- `X := E`: the slot of X has another value from here on. So it has one slot behind branches of which only some assign it, and one that no branch has come to stays empty.
+abbrev pub assigned : Option (List ℕ) → SlotValue → SlotGoals
+assigned None v = record { goals = v.goals ++ GoalTree.fail ∷ []; names = v.names }
+assigned (Some name) v =
+    record { goals = v.goals ++ GoalTree.apply index_name (first_item v.tree) (slot_for name v.names) ∷ []; names = slots_for name v.names }
+
 abbrev pub call_goals : List ℕ → Option Form → SlotParts → SlotNames → SlotGoals
 call_goals name None parts ns = called name (parts.all ns)
 call_goals name (Some negation) parts ns = goal_by GoalTree.not (goals_at parts.goals 0 ns)
 call_goals name (Some once) parts ns = goal_by GoalTree.once (goals_at parts.goals 0 ns)
-call_goals name (Some assignment) parts ns = never ns
+call_goals name (Some assignment) parts ns = assigned parts.variable (value_at parts.values 1 ns)
 call_goals name (Some catch) parts ns = catching (goals_at parts.goals 0) (goals_at parts.goals 2) (value_at parts.values 1 ns)
 call_goals name (Some by_term) parts ns = called name (parts.all ns)
 call_goals name (Some membership) parts ns = never ns
@@ -169,7 +177,7 @@ unfoldable mutual
   made h (list es) ns = value_of_parts (λ ts. items_onto ts (Tree.atom nil)) (parts h es ns)
   made h (list_onto es e) ns = value_onto (parts h es ns) (value_before h e (parts h es ns).names (made h e (parts h es ns).names))
   made h (array es) ns = value_of_parts (comp array_name) (parts h es ns)
-  made h (call name es) ns = call_value name (exp_count es) (record { goals = goals_in h es; values = values_in h es; all = arguments h es }) ns
+  made h (call name es) ns = call_value name (exp_count es) (record { variable = variable_first es; goals = goals_in h es; values = values_in h es; all = arguments h es }) ns
   made h (index e es) ns = indexed_by (value_by (begins_flat es) h e ns (made h e ns)) (values_in h es)
   made h (range first last) ns = range_of_two (value_by (is_flat last) h first ns (made h first ns)) (λ ms. last_value last ms (made h last ms))
   made h (range_by first step last) ns =
@@ -214,7 +222,7 @@ unfoldable mutual
   -- a goal
   pub goal_of : ℕ → ExpTree → SlotNames → SlotGoals
   goal_of h (atom name) ns = atom_goals name ns
-  goal_of h (call name es) ns = call_goals name (form_of name (exp_count es)) (record { goals = goals_in h es; values = values_in h es; all = arguments h es }) ns
+  goal_of h (call name es) ns = call_goals name (form_of name (exp_count es)) (record { variable = variable_first es; goals = goals_in h es; values = values_in h es; all = arguments h es }) ns
   goal_of h (and es) ns = all_of h es ns
   goal_of h (or es) ns = as_goals (any_of h es ns)
   goal_of h (if_then bs) ns = branches_of h bs (λ ms. just GoalTree.truth ms) ns

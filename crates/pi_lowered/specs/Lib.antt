@@ -1,6 +1,8 @@
 pub mod Slots
 pub mod Values
 pub mod Goals
+pub mod Loops
+pub mod Iterators
 pub mod Lowered
 pub mod Forms
 pub mod Levels

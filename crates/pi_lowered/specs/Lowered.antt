@@ -1,4 +1,4 @@
--- What a program and a goal are lowered to: all forms but loops, comprehensions, `:=`, facts, action rules and what later stages of the language give. (Own.)
+-- What a program and a goal are lowered to: all forms but loops, comprehensions, facts, action rules and what later stages of the language give. (Own.)
 use Rattle.std.specs.Prelude.{ℕ, Bool, true, false, ◌&&◌, cond, List, [], ◌∷◌, ◌++◌, length, filter_map, Option, Some, None}
 use Rattle.pi_syntax.specs.ExpTree.{ExpTree}
 use Rattle.pi_syntax.specs.ProgramTree.{RuleTree, FunctionTree, WrittenClause, rule, function, fact, ProgramTree}

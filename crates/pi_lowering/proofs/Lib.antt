@@ -1,6 +1,7 @@
 pub mod ValueLemmas
 pub mod MadeLemmas
 pub mod GoalLemmas
+pub mod AssignLemmas
 pub mod BranchLemmas
 pub mod PartLemmas
 pub mod FormLemmas

@@ -3,17 +3,19 @@ use Rattle.std.specs.Prelude.{ℕ, ◌==◌, ◌&&◌, cond, List, [], ◌∷◌
 use Rattle.std.specs.Str.{bytes_eq}
 use Rattle.pi_terms.specs.Tree.{Tree}
 use Rattle.pi_core.specs.GoalTree.{GoalTree}
+use Rattle.pi_syntax.specs.ExpTree.{ExpTree, var}
 use Rattle.pi_meaning.specs.Names.{is_call}
 use Rattle.pi_names.specs.Forms.{Form, by_term, membership}
 use Rattle.pi_lowered.specs.Slots.{SlotNames, with_value}
 use Rattle.pi_lowered.specs.Values.{SlotValue, slotted}
-use Rattle.pi_lowered.specs.Goals.{SlotGoals, SlotParts, never, goal_by, all_found, goals_at, value_at, catching, called}
+use Rattle.pi_lowered.specs.Goals.{SlotGoals, SlotParts, never, goal_by, all_found, goals_at, value_at, catching, assigned, called}
 use Rattle.pi_lowering.specs.declared.calls.CallForm.{CallForm}
-use Rattle.pi_lowering.specs.declared.calls.CallForm.TheVariants.{Negation, Once, Catch, Never, Plain}
+use Rattle.pi_lowering.specs.declared.calls.CallForm.TheVariants.{Negation, Once, Assignment, Catch, Never, Plain}
 
 abbrev pub goals_by : CallForm → List ℕ → SlotParts → SlotNames → SlotGoals
 goals_by Negation name parts ns = goal_by GoalTree.not (goals_at parts.goals 0 ns)
 goals_by Once name parts ns = goal_by GoalTree.once (goals_at parts.goals 0 ns)
+goals_by Assignment name parts ns = assigned parts.variable (value_at parts.values 1 ns)
 goals_by Catch name parts ns = catching (goals_at parts.goals 0) (goals_at parts.goals 2) (value_at parts.values 1 ns)
 goals_by Never name parts ns = never ns
 goals_by Plain name parts ns = called name (parts.all ns)
@@ -30,9 +32,15 @@ atom_tree name = cond (bytes_eq name (codes "true")) GoalTree.truth (cond (bytes
 abbrev pub form_arity : CallForm → ℕ
 form_arity Negation = 1
 form_arity Once = 1
+form_arity Assignment = 2
 form_arity Catch = 3
 form_arity Never = 0
 form_arity Plain = 0
+
+-- a value that is assigned to what stands at the left; what is no variable is assigned nothing
+abbrev pub assigned_to : ExpTree → SlotValue → SlotGoals
+assigned_to (var name) v = assigned (Some name) v
+assigned_to e v = assigned None v
 
 -- a term collected after goals, and answers of a goal counted
 abbrev pub collected_of : List GoalTree → Tree → SlotNames → SlotValue

@@ -5,6 +5,7 @@ use Rattle.pi_core.specs.GoalTree.{GoalTree}
 use Rattle.pi_syntax.specs.ExpTree.{ExpTree, ExpTrees}
 use Rattle.pi_syntax.specs.ExpLists.{exps_of}
 use Rattle.pi_syntax.specs.Signature.{exp_count}
+use Rattle.pi_names.specs.Texts.{variable_first}
 use Rattle.pi_names.specs.Forms.{form_of}
 use Rattle.pi_syntax.specs.declared.exp.Exp.{Exp}
 use Rattle.pi_lowered.specs.Slots.{SlotNames}
@@ -55,7 +56,7 @@ values_of are_parts h es ns = cond are_parts (parts h es ns) (arguments h es ns)
 
 -- a call's arguments
 abbrev pub parts_of : ℕ → ExpTrees → SlotParts
-parts_of h es = record { goals = goals_in h es; values = values_in h es; all = arguments h es }
+parts_of h es = record { variable = variable_first es; goals = goals_in h es; values = values_in h es; all = arguments h es }
 
 -- a call as a goal, and as an expression
 unfoldable pub call_as_goal : ℕ → List ℕ → ExpTrees → SlotNames → SlotGoals

@@ -9,6 +9,7 @@ ghost use Rattle.pi_lowered.specs.Goals.{SlotParts, call_goals};
 ghost use Rattle.pi_lowering.specs.Lowering.{AreGoals, IsValue, call_as_goal, call_as_value};
 ghost use Rattle.pi_lowering.specs.Calls.{form_arity, goals_by, atom_tree, term_form, collected_of, counted_of};
 
+use crate::assigned::push_assigned;
 use crate::goals::{alone, push_goal};
 use crate::joined::{in_turn, push_fail};
 use crate::slotted::{applied, slotted};
@@ -24,6 +25,7 @@ use std::alloc::{AllocError, Global};
 pub(crate) enum CallForm {
     Negation,
     Once,
+    Assignment,
     Catch,
     /// What stands in no such place.
     Never,
@@ -49,7 +51,7 @@ fn call_form(name: &str, count: usize) -> CallForm
         return CallForm::Once;
     }
     if is_call_of(name, count, ":=", 2) {
-        return CallForm::Never;
+        return CallForm::Assignment;
     }
     if is_call_of(name, count, "catch", 3) {
         return CallForm::Catch;
@@ -114,6 +116,11 @@ pub(crate) fn push_call<'a>(
             let goal = alone(alloc, head, &args[0], slots)?;
             let made = CoreGoal::once(alloc, goal)?;
             goals.push(made)?;
+            Ok(())
+        }
+        CallForm::Assignment => {
+            let term = value(alloc, true, head, &args[1], slots, goals)?;
+            push_assigned(alloc, &args[0], term, slots, goals)?;
             Ok(())
         }
         CallForm::Catch => {

@@ -1,6 +1,7 @@
 //! Goals and expressions, lowered.
 #![tactic(auto)]
 
+mod assigned;
 mod branches;
 mod calls;
 mod goals;

@@ -100,10 +100,23 @@ fn first_item<'a>(
     ensures goals { IfOk result (λ _. goals.new.items ≡ goals.old.items ++ GoalTree.apply index_name (first_item_of value) (length slots.old) ∷ []) }
     ensures slots { IfOk result (λ _. slots.new ≡ with_value slots.old) }
 {
+    let slot = slots.value_slot()?;
+    push_item(alloc, value, slot, goals)?;
+    Ok(slot)
+}
+
+/// Puts the call behind the others that takes the value out of an array of one item, into a slot.
+pub(crate) fn push_item(
+    alloc: Global,
+    value: Term,
+    slot: u32,
+    goals: &mut Vec<CoreGoal>,
+) -> Result<(), AllocError>
+    ensures { IfOk result (λ _. goals.new.items ≡ goals.old.items ++ GoalTree.apply index_name (first_item_of value) slot ∷ []) }
+{
     let item = Term::comp(alloc, "{}", &[value])?;
     let place = Term::int(alloc, 1)?;
-    let slot = slots.value_slot()?;
     let goal = CoreGoal::apply(alloc, "in", &[item, place], slot)?;
     goals.push(goal)?;
-    Ok(slot)
+    Ok(())
 }

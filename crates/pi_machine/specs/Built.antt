@@ -2,7 +2,7 @@
 use Rattle.std.specs.Prelude.{◌≡◌, false, List, [], ◌∷◌, ◌++◌, None, ⊤}
 use Rattle.pi_core.specs.CoreTree.{ClauseTree, PredTree, QueryTree}
 use Rattle.pi_meaning.specs.Sound.{IsSoundQuery}
-use Rattle.pi_meaning.specs.Defined.{QueryCallsDefined}
+use Rattle.pi_meaning.specs.Defined.{QueryCallsDefined, NamesAreFree}
 
 -- no clause is an action rule
 unfoldable pub WithoutEvents : List ClauseTree → Type 0
@@ -27,5 +27,6 @@ AreCounted (pred ∷ preds) = (pred.quiet ≡ false) × AreCounted preds
 pub record IsRunnable (program : List PredTree) (q : QueryTree) : Type 0 where
   pub sound : IsSoundQuery program q
   pub calls : QueryCallsDefined program q
+  pub free : NamesAreFree (program ++ q.helpers)
   pub rules : AreOfRules (program ++ q.helpers)
   pub counted : AreCounted (program ++ q.helpers)

@@ -1,12 +1,12 @@
--- Calls by name do the same and maybe more at a higher level, where what later stages give does.
+-- Calls by name do the same and maybe more at a higher level, where what later stages give does, as it does where none is there.
 use Rattle.std.proofs.Common.{ℕ, Bool, true, false, cond, List, []}
 use Rattle.std.specs.Prelude.{Option, Some, None, codes, ⊤}
 use Rattle.std.specs.Option.{option_or}
 use Rattle.pi_terms.specs.Tree.{Tree, Trees, no_trees, tree, tree_count}
 use Rattle.pi_states.specs.State.{State, bindings, followed}
 use Rattle.pi_effects.specs.Items.{each_tree}
-use Rattle.pi_traces.specs.Trace.{Trace, end, Deep, done}
-use Rattle.pi_traces.specs.Depth.{Below, deeper}
+use Rattle.pi_traces.specs.Trace.{Trace, end, Deep, Tick, done}
+use Rattle.pi_traces.specs.Depth.{Below, deeper, same_note}
 use Rattle.pi_meaning.specs.Settle.{settled}
 use Rattle.pi_meaning.specs.Level.{Level, lowest, over, Applied, LevelBelow, or_called, or_applied}
 use Rattle.pi_meaning.specs.Names.{is_later_predicate, is_planner, is_catch, is_call}
@@ -14,7 +14,7 @@ use Rattle.pi_meaning.specs.Builtin.{effect, function_effect}
 use Rattle.pi_meaning.specs.Given.{Setting, LaterOnlyAdds}
 use Rattle.pi_meaning.specs.Handling.{handled_in, handling}
 use Rattle.pi_meaning.specs.Calls.{built_in, given_later, predicate_given, predicate_called, function_given, function_called, Called, called_by, with_planner, is_known, known_called, call_goal, catch_called, again_called, term_called, called_at_level, called_below, first_called, unknown_name}
-use Rattle.pi_meaning.specs.Instances.{core_setting, predicate_or_call}
+use Rattle.pi_meaning.specs.Instances.{core_setting, predicate_or_call, no_later}
 use Rattle.pi_meaning.specs.MeaningLaws.{TabledOnlyAdds, WholeOnlyAdds}
 use Rattle.pi_traces.proofs.BelowLemmas.{below-refl, below-then, below-caught}
 use Rattle.pi_meaning.proofs.MeaningLemmas.{calls-below}
@@ -127,8 +127,8 @@ known-below set adds l m b name ts s =
 term-below : (set : Setting) → LaterOnlyAdds set.later → (l m : Level) → LevelBelow l m → (f g : Deeper) → DeeperBelow f g → (t : Tree) (s : State) (o : Option Called) → Below (term_called set l f t s o) (term_called set m g t s o)
 term-below set adds l m b f g each t s None = below-refl _
 term-below set adds l m b f g each t s (Some c) =
-    cond-below (is_catch c.name (tree_count c.args)) _ _ _ _ (catch-below l m b f g each c.args s)
-    (cond-below (is_call c.name (tree_count c.args)) _ _ _ _ (again-below l m b f g each c.args s) (known-below set adds l m b c.name c.args s))
+    cond-below (is_catch c.name (tree_count c.args)) _ _ _ _ (same_note Tick (catch-below l m b f g each c.args s))
+    (cond-below (is_call c.name (tree_count c.args)) _ _ _ _ (same_note Tick (again-below l m b f g each c.args s)) (known-below set adds l m b c.name c.args s))
 
 abbrev no-depth : Trace State
 no-depth = end Deep
@@ -169,6 +169,9 @@ or-call-below : (set : Setting) → LaterOnlyAdds set.later → (l m : Level) �
 or-call-below set adds l m h name ts s =
     some-below (is_call name (tree_count ts)) (first_called set l ts s) (first_called set m ts s) (predicate_given set l name ts s) (predicate_given set m name ts s)
     (first-below set adds l m h ts s) (given-below set adds l m h name ts s)
+
+pub no-later-adds : LaterOnlyAdds no_later
+no-later-adds v l m h name ts s = below-refl (unknown_name name (tree_count ts))
 
 pub whole-adds : WholeOnlyAdds
 whole-adds v later preds adds = record {

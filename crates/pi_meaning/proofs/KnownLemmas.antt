@@ -1,13 +1,17 @@
--- Which names do something by themselves, with all names of the language.
-use Rattle.std.proofs.Common.{◌≡◌, ℕ, Bool, true, false, cond, ◌||◌, List, refl, ap, ◌∙◌}
-use Rattle.std.specs.Prelude.{Option, Some, None, is_some, option_map}
+-- Which names do something by themselves, with all names of the language; and that planner calls are of a later stage.
+use Rattle.std.proofs.Common.{◌≡◌, ◌⊎◌, inl, inr, ℕ, Bool, true, false, cond, ◌||◌, ◌==◌, List, refl, ap, ◌∙◌}
+use Rattle.std.specs.Prelude.{Option, Some, None, is_some, option_map, codes}
+use Rattle.std.specs.Ordering.{is_eq}
+use Rattle.std.proofs.lemmas.Bool.{and_parts, or_cases, eqb-true}
 use Rattle.pi_terms.specs.Tree.{Trees, tree_count}
+use Rattle.pi_terms.specs.Order.{name_order}
 use Rattle.pi_states.specs.State.{State}
+use Rattle.pi_states.proofs.MatchLemmas.{same_name}
 use Rattle.pi_effects.specs.BuiltIns.{built_in_predicate, built_in_function, is_predicate, is_function}
 use Rattle.pi_effects.proofs.BuiltInLemmas.{predicates-listed, functions-listed}
 use Rattle.pi_effects.proofs.RowLemmas.{some-or, some-map}
 use Rattle.pi_meaning.specs.Level.{Level}
-use Rattle.pi_meaning.specs.Names.{is_later_predicate, is_later_function, is_resource, is_call, is_given}
+use Rattle.pi_meaning.specs.Names.{later_predicates, is_later_predicate, is_later_function, is_planner, is_resource, is_call, is_given}
 use Rattle.pi_meaning.specs.Builtin.{settled_effect, function_trace}
 use Rattle.pi_meaning.specs.Given.{Setting}
 use Rattle.pi_meaning.specs.Calls.{built_in, given_later, predicate_given, function_later, function_given, first_called}
@@ -32,7 +36,7 @@ later-known : (set : Setting) (l : Level) (name : List ℕ) (ts : Trees) (s : St
 later-known set l name ts s =
     some-cond (is_later_predicate name (tree_count ts)) (set.later.predicate set.view l name ts s) None ∙ none-behind (is_later_predicate name (tree_count ts))
 
-given-known : (set : Setting) (l : Level) (name : List ℕ) (ts : Trees) (s : State) →
+pub given-known : (set : Setting) (l : Level) (name : List ℕ) (ts : Trees) (s : State) →
     is_some (predicate_given set l name ts s) ≡ (is_predicate name (tree_count ts) || is_later_predicate name (tree_count ts))
 unfolding predicate_given
 given-known set l name ts s =
@@ -61,3 +65,33 @@ function-known set name ts s =
 
 pub whole-knows : WholeKnowsWhatIsGiven
 whole-knows v later preds l name ts s = (predicate-known (core_setting v later preds) l name ts s, function-known (core_setting v later preds) name ts s)
+
+-- ---- planner calls
+
+plans-later : ((is_later_predicate (codes "plan") 2 ≡ true) × (is_later_predicate (codes "plan") 3 ≡ true) × (is_later_predicate (codes "plan") 4 ≡ true))
+    × ((is_later_predicate (codes "best_plan") 2 ≡ true) × (is_later_predicate (codes "best_plan") 3 ≡ true) × (is_later_predicate (codes "best_plan") 4 ≡ true))
+unfolding is_later_predicate later_predicates
+plans-later = ((refl, refl, refl), (refl, refl, refl))
+
+later-by : (name : List ℕ) (k : ℕ) (known : List ℕ) → name ≡ known → (is_later_predicate known 2 ≡ true) × (is_later_predicate known 3 ≡ true) × (is_later_predicate known 4 ≡ true) →
+    (k == 2) || ((k == 3) || (k == 4)) ≡ true → is_later_predicate name k ≡ true
+later-by name k known is all count = ap (λ n. is_later_predicate n k) is ∙ number (or_cases (k == 2) ((k == 3) || (k == 4)) count)
+  where
+    further : ((k == 3) ≡ true) ⊎ ((k == 4) ≡ true) → is_later_predicate known k ≡ true
+    further (inl three) = ap (is_later_predicate known) (eqb-true k 3 three) ∙ all.1
+    further (inr four) = ap (is_later_predicate known) (eqb-true k 4 four) ∙ all.2
+
+    number : ((k == 2) ≡ true) ⊎ (((k == 3) || (k == 4)) ≡ true) → is_later_predicate known k ≡ true
+    number (inl two) = ap (is_later_predicate known) (eqb-true k 2 two) ∙ all.0
+    number (inr more) = further (or_cases (k == 3) (k == 4) more)
+
+-- planner calls are of later stages
+pub planner-later : (name : List ℕ) (k : ℕ) → is_planner name k ≡ true → is_later_predicate name k ≡ true
+planner-later name k is = named (or_cases (is_eq (name_order name (codes "plan"))) (is_eq (name_order name (codes "best_plan"))) parts.0)
+  where
+    parts : ((is_eq (name_order name (codes "plan")) || is_eq (name_order name (codes "best_plan"))) ≡ true) × (((k == 2) || ((k == 3) || (k == 4))) ≡ true)
+    parts = and_parts (is_eq (name_order name (codes "plan")) || is_eq (name_order name (codes "best_plan"))) ((k == 2) || ((k == 3) || (k == 4))) is
+
+    named : (is_eq (name_order name (codes "plan")) ≡ true) ⊎ (is_eq (name_order name (codes "best_plan")) ≡ true) → is_later_predicate name k ≡ true
+    named (inl plan) = later-by name k (codes "plan") (same_name name (codes "plan") plan) plans-later.0 parts.1
+    named (inr best) = later-by name k (codes "best_plan") (same_name name (codes "best_plan") best) plans-later.1 parts.1

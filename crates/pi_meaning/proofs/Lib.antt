@@ -13,6 +13,7 @@ pub mod FunctionsKeep
 pub mod KeepsGoals
 pub mod KeepsRules
 pub mod QuietGoals
+pub mod QuietCalls
 pub mod QuietRules
 pub mod NestGoals
 pub mod NestRules

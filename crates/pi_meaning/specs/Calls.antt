@@ -7,7 +7,7 @@ use Rattle.pi_states.specs.State.{State, bindings, followed}
 use Rattle.pi_effects.specs.Exception.{type_error}
 use Rattle.pi_effects.specs.Items.{each_tree}
 use Rattle.pi_effects.specs.BuiltIns.{built_in_predicate, built_in_function, is_predicate}
-use Rattle.pi_traces.specs.Trace.{Trace, end, Raise, Deep, done, then}
+use Rattle.pi_traces.specs.Trace.{Trace, end, note, Raise, Deep, Tick, done, then}
 use Rattle.pi_traces.specs.Control.{caught}
 use Rattle.pi_meaning.specs.Builtin.{settled_effect, function_trace}
 use Rattle.pi_meaning.specs.Level.{Level, lowest, over, Applied, calls_at, or_called, or_applied}
@@ -93,11 +93,12 @@ abbrev pub again_called : Level → (Tree → List Tree → State → Trace Stat
 again_called l deeper no_trees s = done
 again_called l deeper (tree t ts) s = call_goal l deeper t (each_tree ts) s
 
--- what a name does that `call` led to at this level; `deeper` is `call` one level down
+-- What a name does that `call` led to at this level; `deeper` is `call` one level down. `catch` and `call` go on with terms that a run makes, which could be for ever: so each of
+-- them counts a Tick there. Anything else is what it is as a goal.
 abbrev pub name_called : Setting → Level → (Tree → List Tree → State → Trace State) → List ℕ → Trees → State → Trace State
 name_called set l deeper name ts s =
-    cond (is_catch name (tree_count ts)) (catch_called l deeper ts s)
-    (cond (is_call name (tree_count ts)) (again_called l deeper ts s) (known_called set l name ts s))
+    cond (is_catch name (tree_count ts)) (note Tick (catch_called l deeper ts s))
+    (cond (is_call name (tree_count ts)) (note Tick (again_called l deeper ts s)) (known_called set l name ts s))
 
 abbrev pub term_called : Setting → Level → (Tree → List Tree → State → Trace State) → Tree → State → Option Called → Trace State
 term_called set l deeper t s None = end (Raise (type_error (codes "callable") t s))
@@ -108,7 +109,7 @@ unfoldable pub called_at_level : Setting → Level → Tree → List Tree → St
 called_at_level set (lowest c) t more s = term_called set (lowest c) (λ u us r. end Deep) t s (called_by (followed (bindings s) t) more)
 called_at_level set (over c l) t more s = term_called set (over c l) (called_at_level set l) t s (called_by (followed (bindings s) t) more)
 
--- `call` takes one from the depth, without a Tick
+-- `call` takes one from the depth, and counts no Tick by itself
 abbrev pub called_below : Setting → Level → Tree → List Tree → State → Trace State
 called_below set (lowest c) t more s = end Deep
 called_below set (over c l) t more s = called_at_level set l t more s

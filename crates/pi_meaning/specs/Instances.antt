@@ -4,14 +4,14 @@ use Rattle.std.specs.Prelude.{ℕ, Bool, false, not, cond, List, Option, Some, N
 use Rattle.pi_terms.specs.Tree.{Trees, tree_count}
 use Rattle.pi_states.specs.State.{State}
 use Rattle.pi_core.specs.CoreTree.{PredTree, find_pred}
-use Rattle.pi_traces.specs.Trace.{Trace}
+use Rattle.pi_traces.specs.Trace.{Trace, done}
 use Rattle.pi_meaning.specs.View.{View}
 use Rattle.pi_meaning.specs.Level.{Level}
 use Rattle.pi_meaning.specs.Names.{is_call}
 use Rattle.pi_meaning.specs.Builtin.{effect, function_effect}
 use Rattle.pi_meaning.specs.Builtins.{Builtins}
 use Rattle.pi_meaning.specs.Given.{Later, Setting}
-use Rattle.pi_meaning.specs.Calls.{predicate_given, function_given, first_called}
+use Rattle.pi_meaning.specs.Calls.{predicate_given, function_given, first_called, unknown_name}
 
 -- what the tables of built-ins have
 abbrev pub tabled : View → Builtins
@@ -28,6 +28,10 @@ core_setting v later preds = record { view = v; later = later; defines = λ name
 -- `call` calls a term, and any other name does what it does by itself
 abbrev pub predicate_or_call : Setting → Level → List ℕ → Trees → State → Option (Trace State)
 predicate_or_call set l name ts s = cond (is_call name (tree_count ts)) (Some (first_called set l ts s)) (predicate_given set l name ts s)
+
+-- No later stage is there: what it will give is as unknown to `call` as a name that nothing has.
+abbrev pub no_later : Later
+no_later = record { predicate = λ v l name ts s. unknown_name name (tree_count ts); function = λ name ts s. done }
 
 -- all names of the language, for a program
 abbrev pub whole : View → Later → List PredTree → Builtins

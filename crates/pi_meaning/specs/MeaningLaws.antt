@@ -1,10 +1,11 @@
--- The laws of the core meaning: more depth only adds, and so the run of a query is one; with the built-ins of the tables each query has its run; and where a query
--- calls nothing else, that is its run with all names of the language.
+-- The laws of the core meaning: more depth only adds, and so the run of a query is one; where no later stage is there, each query has its run; and where a query calls
+-- nothing but built-ins of the tables, that is its run with these alone.
 use Rattle.std.specs.Prelude.{◌≡◌, ℕ, suc, ◌+◌, true, false, List, ◌++◌, Option, Some, is_some, length, Contains}
 use Rattle.pi_terms.specs.Tree.{Trees, tree_count}
 use Rattle.pi_terms.specs.Places.{Places}
 use Rattle.pi_states.specs.State.{State, next, IsState, PlacesBelow}
 use Rattle.pi_core.specs.GoalTree.{GoalTree}
+use Rattle.pi_effects.specs.BuiltIns.{is_predicate}
 use Rattle.pi_traces.specs.Trace.{WithoutDeep, answers}
 use Rattle.pi_traces.specs.Depth.{DepthOnlyAdds, Cut, cut, CutWithoutDeep}
 use Rattle.pi_traces.specs.Related.{BelowBy}
@@ -12,8 +13,8 @@ use Rattle.pi_meaning.specs.View.{View, PlansAreGround}
 use Rattle.pi_meaning.specs.Names.{is_given}
 use Rattle.pi_meaning.specs.Builtins.{Builtins, BuiltinsOnlyAdd}
 use Rattle.pi_meaning.specs.Given.{Later, LaterOnlyAdds}
-use Rattle.pi_meaning.specs.Instances.{tabled, whole}
-use Rattle.pi_meaning.specs.Defined.{QueryCallsDefined, NamesAreFree}
+use Rattle.pi_meaning.specs.Instances.{tabled, no_later, whole}
+use Rattle.pi_meaning.specs.Defined.{QueryCallsAmong, NamesAreFree}
 use Rattle.pi_core.specs.CoreTree.{PredTree, QueryTree}
 use Rattle.pi_meaning.specs.Level.{Level, lower, Point, LevelBelow, PointBelow}
 use Rattle.pi_meaning.specs.Meaning.{meaning}
@@ -70,7 +71,7 @@ abbrev pub DeeperRunsAreTheRun : Type 0
 DeeperRunsAreTheRun = (b : Builtins) → BuiltinsOnlyAdd b → (program : List PredTree) (q : QueryTree) (n : ℕ) (c : Cut Solution) (r : IsRunUnder b program q n c) (more : ℕ) →
     cut n (query_trace b program q (r.depth + more)) ≡ c
 
--- ---- with the built-ins of the tables, under every view. Under `query_view log` runs are those under a log (`IsRun`).
+-- ---- with the built-ins of the tables, under every view
 
 -- two places have the same slots and state, whatever their levels are
 abbrev pub SameButLevel : Point → Point → Type 0
@@ -83,26 +84,28 @@ QuietCallsNestFreely = (v : View) (preds : List PredTree) → TicksBetween preds
     BelowBy SameButLevel (meaning (tabled v) g (record { level = quiet_level (tabled v) preds below k; slots = e; state = s }))
     (meaning (tabled v) g (record { level = quiet_level (tabled v) preds below (length preds); slots = e; state = s }))
 
--- where Ticks stand between the calls of quiet predicates, there is a depth that reaches to each Tick of a query's trace
-abbrev pub DepthReachesTicks : Type 0
-DepthReachesTicks = (v : View) (program : List PredTree) (q : QueryTree) → TicksBetween (program ++ q.helpers) → (n : ℕ) →
-    (d : ℕ) × CutWithoutDeep n (query_trace (tabled v) program q d)
-
--- so each query has its run
-abbrev pub EachQueryRuns : Type 0
-EachQueryRuns = (v : View) (program : List PredTree) (q : QueryTree) → TicksBetween (program ++ q.helpers) → (n : ℕ) →
-    (c : Cut Solution) × IsRunUnder (tabled v) program q n c
-
--- and each sound query
-abbrev pub SoundQueriesRun : Type 0
-SoundQueriesRun = (v : View) (program : List PredTree) (q : QueryTree) → IsSoundQuery program q → (n : ℕ) →
-    (c : Cut Solution) × IsRunUnder (tabled v) program q n c
-
 -- Where no plan of the log holds a variable, each answer of a sound query is a state, and its slots hold terms of variables
 -- that were made. (No goal reads the log here.)
 abbrev pub RunsKeepStates : Type 0
 RunsKeepStates = (v : View) (program : List PredTree) (q : QueryTree) → IsSoundQuery program q → PlansAreGround v → (depth : ℕ) (x : Solution) →
     Contains (answers (query_trace (tabled v) program q depth)) x → IsState x.state × PlacesBelow (next x.state) x.slots
+
+-- ---- where no later stage is there, under every view. Under `query_view log` runs are those under a log (`IsRun`).
+
+-- Where Ticks stand between the calls of quiet predicates, there is a depth that reaches to each Tick of a query's trace: also where `call` goes on with terms that a run makes.
+abbrev pub DepthReachesTicks : Type 0
+DepthReachesTicks = (v : View) (program : List PredTree) (q : QueryTree) → TicksBetween (program ++ q.helpers) → (n : ℕ) →
+    (d : ℕ) × CutWithoutDeep n (query_trace (whole v no_later (program ++ q.helpers)) program q d)
+
+-- so each query has its run
+abbrev pub EachQueryRuns : Type 0
+EachQueryRuns = (v : View) (program : List PredTree) (q : QueryTree) → TicksBetween (program ++ q.helpers) → (n : ℕ) →
+    (c : Cut Solution) × IsRunUnder (whole v no_later (program ++ q.helpers)) program q n c
+
+-- and each sound query
+abbrev pub SoundQueriesRun : Type 0
+SoundQueriesRun = (v : View) (program : List PredTree) (q : QueryTree) → IsSoundQuery program q → (n : ℕ) →
+    (c : Cut Solution) × IsRunUnder (whole v no_later (program ++ q.helpers)) program q n c
 
 -- ---- both
 
@@ -115,5 +118,5 @@ WholeKnowsWhatIsGiven = (v : View) (later : Later) (preds : List PredTree) (l : 
 -- A query that calls nothing but the tables' built-ins and what its program defines does the same with these built-ins alone as with all names of the language, whatever the view
 -- is and whatever later stages give.
 abbrev pub TabledIsWhole : Type 0
-TabledIsWhole = (v : View) (later : Later) (program : List PredTree) (q : QueryTree) → QueryCallsDefined program q → NamesAreFree (program ++ q.helpers) → (d : ℕ) →
+TabledIsWhole = (v : View) (later : Later) (program : List PredTree) (q : QueryTree) → QueryCallsAmong is_predicate program q → NamesAreFree (program ++ q.helpers) → (d : ℕ) →
     query_trace (whole v later (program ++ q.helpers)) program q d ≡ query_trace (tabled v) program q d

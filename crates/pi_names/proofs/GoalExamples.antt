@@ -1,6 +1,6 @@
 -- Goals without loops, worked out: what the definitions are meant to say of them.
 use Rattle.std.proofs.Common.{◌≡◌, ℕ, zero, suc, List, [], ◌∷◌, refl}
-use Rattle.std.specs.Prelude.{pos, negsuc, Some, None, codes}
+use Rattle.std.specs.Prelude.{false, pos, negsuc, Some, None, codes}
 use Rattle.pi_terms.specs.Tree.{Tree, int, atom, var as variable}
 use Rattle.pi_effects.specs.Items.{list_of, list_onto as list_before}
 use Rattle.pi_syntax.specs.ExpTree.{ExpTree, list, or, arrow, if_then, quote, branch, no_branches, atom as name, int as number, str}
@@ -9,7 +9,7 @@ use Rattle.pi_syntax.specs.declared.program.Decl.{Decl}
 use Rattle.pi_traces.specs.Trace.{Tick, Out, Done, Raise, Deep}
 use Rattle.pi_traces.specs.Depth.{Ended}
 use Rattle.pi_meaning.specs.Within.{a_body}
-use Rattle.pi_names.specs.Prelude.{calls, exps, v, equal, all}
+use Rattle.pi_names.specs.Prelude.{calls, exps, v, equal, all, part}
 use Rattle.pi_names.proofs.Worked.{Outcome, Seen, seen, told, run_in, run_of, n, compound, is}
 
 abbrev i : ℕ → ExpTree
@@ -135,6 +135,28 @@ names-unknown :
 unfolding run_of
 names-unknown = refl
 
+-- call('#=', 1, 1): what a later stage will give is unknown where none is there
+later-unknown :
+    run_of [] (calls (codes "call") (name (codes "#=") ∷ i 1 ∷ i 1 ∷ [])) 9 2
+    ≡ raised_with [] (compound (codes "unknown_name") (atom (codes "#=") ∷ n 2 ∷ []))
+unfolding run_of
+later-unknown = refl
+
+-- p("ab") => true.
+abbrev text_program : ProgramTree
+text_program = part (calls (codes "p") (str (codes "ab") ∷ [])) None false (name (codes "true")) ∷ []
+
+-- X = a, p([X,b]): items are followed one by one; p(ab) and p([a]) have no rule
+texts-match :
+    (run_of text_program (all (equal (v (codes "X")) (name (codes "a")) ∷ calls (codes "p") (items (v (codes "X") ∷ name (codes "b") ∷ []) ∷ []) ∷ [])) 9 9
+    ≡ done_with (seen Tick ∷ told (is (codes "X") (atom (codes "a")) ∷ []) ∷ []))
+    × (run_of text_program (calls (codes "p") (str (codes "ab") ∷ [])) 9 9 ≡ done_with (seen Tick ∷ told [] ∷ []))
+    × (run_of text_program (calls (codes "p") (name (codes "ab") ∷ [])) 9 9 ≡ done_with (seen Tick ∷ []))
+    × (run_of text_program (calls (codes "p") (items (name (codes "a") ∷ []) ∷ [])) 9 9 ≡ done_with (seen Tick ∷ []))
+    × (run_of text_program (calls (codes "p") (items (v (codes "_Y") ∷ name (codes "b") ∷ []) ∷ [])) 9 9 ≡ done_with (seen Tick ∷ []))
+unfolding run_of
+texts-match = (refl, refl, refl, refl, refl)
+
 -- M = find_all(_Y, member(_Y,[c,a])), K = count_all(member(_,[c,a]))
 abbrev ca : ExpTree
 ca = items (name (codes "c") ∷ name (codes "a") ∷ [])
@@ -168,15 +190,15 @@ copies-are_new :
 unfolding run_of list_before
 copies-are_new = refl
 
--- call(true) takes one from the depth, and call($call(true)) two
+-- call(true) takes one from the depth, and call($call(true)) two, with a Tick for the `call` to which `call` leads
 abbrev called_goal : ExpTree
 called_goal = calls (codes "call") (name (codes "true") ∷ [])
 
 calls-take_depth :
     (run_of [] called_goal 9 0 ≡ record { events = []; stop = Ended Deep })
     × (run_of [] called_goal 9 1 ≡ done_with (told [] ∷ []))
-    × (run_of [] (calls (codes "call") (quote called_goal ∷ [])) 9 1 ≡ record { events = []; stop = Ended Deep })
-    × (run_of [] (calls (codes "call") (quote called_goal ∷ [])) 9 2 ≡ done_with (told [] ∷ []))
+    × (run_of [] (calls (codes "call") (quote called_goal ∷ [])) 9 1 ≡ record { events = seen Tick ∷ []; stop = Ended Deep })
+    × (run_of [] (calls (codes "call") (quote called_goal ∷ [])) 9 2 ≡ done_with (seen Tick ∷ told [] ∷ []))
 unfolding run_of
 calls-take_depth = (refl, refl, refl, refl)
 

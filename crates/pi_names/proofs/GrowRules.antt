@@ -16,6 +16,7 @@ use Rattle.pi_meaning.specs.Environment.{Environment}
 use Rattle.pi_meaning.specs.Place.{Place, beginning}
 use Rattle.pi_meaning.specs.WrittenRules.{head_arguments}
 use Rattle.pi_meaning.specs.Telling.{telling, place_told, told_trace, told_cut}
+use Rattle.pi_meaning.proofs.CallLemmas.{no-later-adds}
 use Rattle.pi_meaning.proofs.ToldCuts.{cut-told}
 use Rattle.pi_meaning.specs.View.{View}
 use Rattle.pi_names.specs.Texts.{Names, places, behind}
@@ -121,7 +122,7 @@ names-deeper v later adds program goal d =
 
 -- where there is no later stage, more depth only adds
 pub no-stages-add : LaterOnlyAdds no_stages.calls
-no-stages-add = λ v l m b name ts s. below-refl done
+no-stages-add = no-later-adds
 
 -- ---- runs
 

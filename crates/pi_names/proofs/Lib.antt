@@ -9,6 +9,8 @@ pub mod GrowGoals
 pub mod GrowRules
 pub mod ValueLemmas
 pub mod ClausalLemmas
+pub mod TextLemmas
+pub mod FormNames
 pub mod OtherEnvironments
 pub mod OtherControl
 pub mod OtherLoops

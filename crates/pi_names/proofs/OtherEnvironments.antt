@@ -65,7 +65,7 @@ cond-meant : (name : List ℕ) (b : Bool) (e f : Environment) → meant name (co
 cond-meant name true e f = refl
 cond-meant name false e f = refl
 
-meant-value : (n m : List ℕ) (t : Tree) (e : Environment) → meant n (with_value e m t) ≡ cond (bytes_eq n m) (Some t) (meant n e)
+pub meant-value : (n m : List ℕ) (t : Tree) (e : Environment) → meant n (with_value e m t) ≡ cond (bytes_eq n m) (Some t) (meant n e)
 unfolding meant with_value
 meant-value n m t [] = refl
 meant-value n m t (a ∷ e) =

@@ -167,14 +167,14 @@ terms-written :
 unfolding run_of
 terms-written = refl
 
--- call(append([a]),[b],X); call of a `catch`; call of what is no predicate, and of what is no name
+-- call(append([a]),[b],X); call of a `catch`, which counts a Tick; call of what is no predicate, and of what is no name
 abbrev by_call : List ExpTree → ExpTree
 by_call es = calls (codes "call") es
 
 calls-by_term :
     (run_of [] (by_call (quote (calls (codes "append") (items (a (codes "a") ∷ []) ∷ [])) ∷ items (a (codes "b") ∷ []) ∷ X ∷ [])) 9 9
     ≡ done_with (seen Tick ∷ seen Tick ∷ told (is (codes "X") (list_of (atom (codes "a") ∷ atom (codes "b") ∷ [])) ∷ []) ∷ []))
-    × (run_of [] (by_call (quote (calls (codes "catch") (calls (codes "throw") (a (codes "e") ∷ []) ∷ X ∷ a (codes "true") ∷ [])) ∷ [])) 9 9 ≡ done_with (told (is (codes "X") (atom (codes "e")) ∷ []) ∷ []))
+    × (run_of [] (by_call (quote (calls (codes "catch") (calls (codes "throw") (a (codes "e") ∷ []) ∷ X ∷ a (codes "true") ∷ [])) ∷ [])) 9 9 ≡ done_with (seen Tick ∷ told (is (codes "X") (atom (codes "e")) ∷ []) ∷ []))
     × (run_of [] (by_call (quote (calls (codes "not") (a (codes "fail") ∷ [])) ∷ [])) 9 9 ≡ raised_with [] (compound (codes "unknown_name") (atom (codes "not") ∷ n 1 ∷ [])))
     × (run_of [] (by_call (i 1 ∷ [])) 9 9 ≡ raised_with [] (compound (codes "type_error") (atom (codes "callable") ∷ n 1 ∷ [])))
     × (run_of [] (by_call (quote (calls (codes "plan") (X ∷ Y ∷ [])) ∷ [])) 9 9 ≡ raised_with [] (compound (codes "unknown_name") (atom (codes "final") ∷ n 1 ∷ [])))

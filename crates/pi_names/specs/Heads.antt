@@ -1,15 +1,15 @@
 -- Matching: an argument of a head, or the pattern of an iterator, against a term whose variables may be bound, none of which it binds (A User's Guide to Picat,
 -- 'Pattern-Matching'). A name takes the part of the term as it stands; one that occurs twice takes terms of one value.
-use Rattle.std.specs.Prelude.{ℕ, cond, List, Option, Some, None, option_and_then, codes}
-use Rattle.std.specs.Str.{bytes_eq}
+use Rattle.std.specs.Prelude.{ℕ, cond, List, [], ◌∷◌, Option, Some, None, option_and_then, codes}
+use Rattle.std.specs.Char.{encode_utf8}
+use Rattle.std.specs.Str.{bytes_eq, chars}
 use Rattle.pi_terms.specs.Tree.{Tree, comp, Trees, no_trees, tree}
 use Rattle.pi_terms.specs.ListNames.{nil}
 use Rattle.pi_terms.specs.Order.{identical}
-use Rattle.pi_states.specs.Value.{Bindings, value}
+use Rattle.pi_states.specs.Value.{Bindings}
 use Rattle.pi_states.specs.State.{followed}
 use Rattle.pi_print.specs.PrintTerm.{array_name}
 use Rattle.pi_effects.specs.Items.{cell_parts}
-use Rattle.pi_effects.specs.Texts.{text_list}
 use Rattle.pi_syntax.specs.ExpTree.{ExpTree, var, int, atom, str, list, list_onto, array, call, quote, index, range, range_by, at, collect, and, or, arrow, if_then, if_else, foreach, while_do, do_while, ExpTrees, no_exps, exp}
 use Rattle.pi_meaning.specs.Environment.{Environment, known, name_matched}
 
@@ -38,13 +38,22 @@ abbrev pub cell_matched : Matching → Matching → Option (Tree × Tree) → En
 cell_matched first rest None e = None
 cell_matched first rest (Some p) e = option_and_then (rest p.1) (first p.0 e)
 
+-- an atom at the root
+abbrev pub atom_matched : Bindings → List ℕ → Matching
+atom_matched b name t e = cond (identical (Tree.atom name) (followed b t)) (Some e) None
+
+-- A text is the list of its characters, each as an atom: it matches as the list of these atoms does, cell by cell.
+unfoldable pub characters_matched : Bindings → List ℕ → Matching
+characters_matched b [] t e = atom_matched b nil t e
+characters_matched b (c ∷ cs) t e = cell_matched (atom_matched b (encode_utf8 c)) (characters_matched b cs) (cell_parts (followed b t)) e
+
 unfoldable mutual
   pub pattern_matched : Bindings → ExpTree → Matching
   pattern_matched b (var name) t e = name_matched b (known name e) name t e
   pattern_matched b (int n) t e = cond (identical (Tree.int n) (followed b t)) (Some e) None
-  pattern_matched b (atom name) t e = cond (identical (Tree.atom name) (followed b t)) (Some e) None
-  pattern_matched b (str text) t e = cond (identical (text_list text) (value b t)) (Some e) None
-  pattern_matched b (list ps) t e = items_matched b ps (λ u f. cond (identical (Tree.atom nil) (followed b u)) (Some f) None) t e
+  pattern_matched b (atom name) t e = atom_matched b name t e
+  pattern_matched b (str text) t e = characters_matched b (chars text) t e
+  pattern_matched b (list ps) t e = items_matched b ps (atom_matched b nil) t e
   pattern_matched b (list_onto ps p) t e = items_matched b ps (pattern_matched b p) t e
   pattern_matched b (array ps) t e = compound_matched array_name (patterns_matched b ps) (followed b t) e
   pattern_matched b (call name ps) t e = compound_matched name (patterns_matched b ps) (followed b t) e

@@ -1,8 +1,11 @@
 -- The laws of the meaning over names.
-use Rattle.std.specs.Prelude.{◌≡◌, ℕ, ◌||◌, Bool, false, List, filter, None, is_some}
-use Rattle.pi_terms.specs.Tree.{Trees, tree_count}
+use Rattle.std.specs.Prelude.{◌≡◌, ℕ, ◌||◌, Bool, false, List, [], ◌∷◌, filter, None, is_some}
+use Rattle.std.specs.Char.{encode_utf8}
+use Rattle.std.specs.Str.{chars}
+use Rattle.pi_terms.specs.Tree.{Tree, Trees, tree_count}
+use Rattle.pi_states.specs.Value.{Bindings}
 use Rattle.pi_states.specs.State.{State}
-use Rattle.pi_syntax.specs.ExpTree.{ExpTree, ExpTrees, call}
+use Rattle.pi_syntax.specs.ExpTree.{ExpTree, atom, str, list, call, ExpTrees, no_exps, exp}
 use Rattle.pi_syntax.specs.ProgramTree.{ProgramTree}
 use Rattle.pi_syntax.specs.Signature.{exp_count}
 use Rattle.pi_effects.specs.BuiltIns.{is_predicate}
@@ -12,7 +15,7 @@ use Rattle.pi_meaning.specs.View.{View}
 use Rattle.pi_meaning.specs.Level.{Level, Applied, calls_at}
 use Rattle.pi_meaning.specs.Names.{is_later_predicate}
 use Rattle.pi_meaning.specs.Given.{Setting, LaterOnlyAdds}
-use Rattle.pi_meaning.specs.Environment.{Valued}
+use Rattle.pi_meaning.specs.Environment.{Environment, Valued}
 use Rattle.pi_meaning.specs.Small.{heads, Defines, IsSmallProgram, IsSmallQuery}
 use Rattle.pi_meaning.specs.Place.{Place}
 use Rattle.pi_meaning.specs.Surface.{called_at, surface_from}
@@ -21,6 +24,7 @@ use Rattle.pi_lib.specs.Names.{kind_of}
 use Rattle.pi_lib.specs.Forms.{is_form}
 use Rattle.pi_names.specs.Texts.{Names}
 use Rattle.pi_names.specs.Stages.{LaterStages}
+use Rattle.pi_names.specs.Heads.{pattern_matched}
 use Rattle.pi_names.specs.Control.{Values, draining, applied_to, called_with}
 use Rattle.pi_names.specs.Forms.{form_of, readings}
 use Rattle.pi_names.specs.Goals.{values_of, goal_of}
@@ -97,6 +101,18 @@ FunctionsGoByValues = (set : Setting) (l : Level) (name : List ℕ) (vs ws : Val
 abbrev pub GoalsAreCalls : Type 0
 GoalsAreCalls = (set : Setting) (before : Names) (name : List ℕ) (es : ExpTrees) (l : Level) (p : Place) → form_of name (exp_count es) ≡ None →
     goal_of set before (call name es) l p ≡ draining (called_with set name (values_of set (readings name (exp_count es)) before es)) l p
+
+-- ---- texts in heads
+
+-- the one-character atoms of a text, as items of a list that is written
+abbrev pub character_items : List ℕ → ExpTrees
+character_items [] = no_exps
+character_items (c ∷ cs) = exp (atom (encode_utf8 c)) (character_items cs)
+
+-- a text as a pattern is the list pattern of these atoms
+abbrev pub TextsMatchAsLists : Type 0
+TextsMatchAsLists = (b : Bindings) (text : List ℕ) (t : Tree) (e : Environment) →
+    pattern_matched b (str text) t e ≡ pattern_matched b (list (character_items (chars text))) t e
 
 -- ---- programs
 

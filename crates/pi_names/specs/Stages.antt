@@ -6,6 +6,7 @@ use Rattle.pi_states.specs.State.{State}
 use Rattle.pi_syntax.specs.ExpTree.{ExpTree}
 use Rattle.pi_traces.specs.Trace.{Trace, done}
 use Rattle.pi_meaning.specs.Given.{Later, Setting}
+use Rattle.pi_meaning.specs.Instances.{no_later}
 use Rattle.pi_meaning.specs.Place.{Place}
 
 -- an action rule that applies: its call, its number and its events, and the place behind its condition
@@ -17,9 +18,9 @@ pub record LaterStages : Type 0 where
   pub calls : Later
   pub agent : Agent
 
--- no later stage is there
+-- No later stage is there: what it will give is as unknown to `call` as a name that nothing has.
 abbrev pub no_stages : LaterStages
-no_stages = record { calls = record { predicate = λ v l name ts s. done; function = λ name ts s. done }; agent = λ call i es p. done }
+no_stages = record { calls = no_later; agent = λ call i es p. done }
 
 -- what calls by name are, and what action rules do
 pub record RulesSetting : Type 0 where

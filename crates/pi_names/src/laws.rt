@@ -1,7 +1,7 @@
 //! Laws of the meaning over names.
 ghost use Rattle.pi_names.specs.OtherNames.{OtherNamesChangeNothing};
 ghost use Rattle.pi_names.specs.Kinds.{NamesHaveTheirKinds};
-ghost use Rattle.pi_names.specs.NameLaws.{CallsGoByValues, ClausesCountAlone, FunctionsGoByValues, GoalsAreCalls, NamesDoMore, NamesRunsAreOne, NamesRunsReach, OtherNamesAreFree, SmallCallsAreSurface, SmallIsSurface};
+ghost use Rattle.pi_names.specs.NameLaws.{CallsGoByValues, ClausesCountAlone, FunctionsGoByValues, GoalsAreCalls, NamesDoMore, NamesRunsAreOne, NamesRunsReach, OtherNamesAreFree, SmallCallsAreSurface, SmallIsSurface, TextsMatchAsLists};
 
 /// On the small language, of variables, integers, atoms, `=`, `true`, `fail`, calls and conjunctions, the meaning over names is that of
 /// `Surface`, which the proofs of lowering go through: for a goal from each place, and for each call.
@@ -36,6 +36,11 @@ pub fn calls_go_by_values()
 /// A name that occurs neither in a goal nor before it changes nothing: the goal does the same whatever the environment has for it.
 pub fn other_names_change_nothing()
     ensures { OtherNamesChangeNothing }
+{}
+
+/// A text in a head, or as the pattern of an iterator, matches what the list of its characters, each as an atom, matches.
+pub fn texts_match_as_lists()
+    ensures { TextsMatchAsLists }
 {}
 
 /// Parts of a program that have no clause count for nothing.

@@ -6,7 +6,7 @@ use Rattle.pi_states.specs.State.{State, bindings, followed}
 use Rattle.pi_effects.specs.Effect.{Effect, Succeeds, Fails, Writes, Raises}
 use Rattle.pi_effects.specs.Items.{each_tree}
 use Rattle.pi_effects.specs.BuiltIns.{built_in_predicate, built_in_function}
-use Rattle.pi_traces.specs.Trace.{Trace, Call, end, Deep}
+use Rattle.pi_traces.specs.Trace.{Trace, Call, end, note, Deep, Tick}
 use Rattle.pi_answers.specs.declared.log.LogEntry.{LogEntry}
 use Rattle.pi_meaning.specs.Builtin.{settled_effect, function_trace}
 use Rattle.pi_meaning.specs.Level.{Level, lowest, over, Applied, or_called, or_applied}
@@ -69,8 +69,8 @@ Deeper = Tree → List Tree → State → Trace State
 name-alike : (log : List LogEntry) (waiting : List Call) (later : Later) (defines : List ℕ → ℕ → Bool) → IgnoresRests later → (q r : ℕ) (l : Level) (f g : Deeper) → f ≡ g → (name : List ℕ) (ts : Trees) (s : State) →
     name_called (resting log waiting later defines q) l f name ts s ≡ name_called (resting log waiting later defines r) l g name ts s
 name-alike log waiting later defines ignores q r l f g same name ts s =
-    λ i. cond (is_catch name (tree_count ts)) (catch_called l (same i) ts s)
-    (cond (is_call name (tree_count ts)) (again_called l (same i) ts s)
+    λ i. cond (is_catch name (tree_count ts)) (note Tick (catch_called l (same i) ts s))
+    (cond (is_call name (tree_count ts)) (note Tick (again_called l (same i) ts s))
     (cond (is_planner name (tree_count ts)) (with_planner (resting log waiting later defines q) (called-alike log waiting later defines ignores q r l name ts s i))
     (cond (is_known (resting log waiting later defines q) name (tree_count ts)) (called-alike log waiting later defines ignores q r l name ts s i) (unknown_name name (tree_count ts)))))
 

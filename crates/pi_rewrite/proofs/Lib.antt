@@ -1,4 +1,3 @@
-pub mod TabledLemmas
 pub mod CutLemmas
 pub mod ProgramLemmas
 pub mod QueryLemmas

@@ -10,22 +10,22 @@ use Rattle.pi_core.specs.CoreTree.{PredTree, find_pred}
 use Rattle.pi_meaning.specs.Instances.{is_called_by_name}
 use Rattle.pi_meaning.specs.Sound.{CallsKnown, PlansAreDefined, IsSound, IsSoundQuery}
 use Rattle.pi_meaning.specs.Defined.{CallsDefined, ProgramCallsDefined, QueryCallsDefined, NamesAreFree}
-use Rattle.pi_meaning.specs.Place.{at_state, beginning}
+use Rattle.pi_meaning.specs.View.{View}
+use Rattle.pi_meaning.specs.Place.{Place, at_state, beginning}
 use Rattle.pi_meaning.specs.Telling.{place_told, told_trace}
-use Rattle.pi_meaning.specs.Told.{solution_told}
 use Rattle.pi_meaning.proofs.DefinedLemmas.{found-pred}
-use Rattle.pi_names.specs.Stages.{no_stages}
-use Rattle.pi_names.specs.Run.{answer_names}
+use Rattle.pi_names.specs.Stages.{LaterStages, no_stages}
+use Rattle.pi_names.specs.Run.{answer_names, names_from}
 use Rattle.pi_lowered.specs.Lowered.{lowered, lowered_query}
 use Rattle.pi_lowered.specs.Within.{IsWithin, IsAsked}
 use Rattle.pi_lowered.specs.Laws.{known_of, DefinesTheSame}
-use Rattle.pi_lowered.proofs.LawLemmas.{lowered-keeps, query-keeps}
+use Rattle.pi_lowered.proofs.LawLemmas.{lowered-keeps, query-at}
 use Rattle.pi_coverage.specs.Built.{unbuilt_part, is_built_goal}
+use Rattle.pi_coverage.specs.TermCalls.{Allows}
 use Rattle.pi_later.specs.LaterLaws.{GoalsAreTheSame}
 use Rattle.pi_sound.specs.Laws.{IsPlain, LoweredProgramsArePlain, LoweredQueriesAreSound}
 use Rattle.pi_rewrite.specs.Laws.{IsLoweredProgram, MeansTheSame, IsLowered}
-use Rattle.pi_rewrite.proofs.TabledLemmas.{query-tabled}
-use Rattle.pi_rewrite.proofs.ProgramLemmas.{goes-by-nothing, program-over_whole}
+use Rattle.pi_rewrite.proofs.ProgramLemmas.{goes-by-nothing, levels-whole}
 use Rattle.pi_rewrite.proofs.CutLemmas.{same-meaning-runs-the-same}
 
 -- ---- what one core program of a program has, another has too
@@ -101,33 +101,35 @@ query-asks plain sound program goal preds within built asked built_goal kept =
 
 -- a query has no predicates of its own
 
-free-with : (goal : ExpTree) (preds : List PredTree) → NamesAreFree preds → NamesAreFree (preds ++ (lowered_query goal).helpers)
-unfolding lowered_query
-free-with goal preds free = subst NamesAreFree (sym (append-nil preds)) free
-
 plain-with : (goal : ExpTree) (preds : List PredTree) → All IsPlain preds → All IsPlain (preds ++ (lowered_query goal).helpers)
 unfolding lowered_query
 plain-with goal preds plain = subst (All IsPlain) (sym (append-nil preds)) plain
 
+free-with : (goal : ExpTree) (preds : List PredTree) → NamesAreFree preds → NamesAreFree (preds ++ (lowered_query goal).helpers)
+unfolding lowered_query
+free-with goal preds free = subst NamesAreFree (sym (append-nil preds)) free
+
+goals-allowed : GoalsAreTheSame → (program : ProgramTree) (goal : ExpTree) → unbuilt_part program ≡ None → is_built_goal goal ≡ true → (v : View) (later : LaterStages) → Allows later program goal → (d : ℕ) (p : Place) →
+    names_from v no_stages program goal d p ≡ names_from v later program goal d p
+goals-allowed goals program goal built built_goal v later (inl none) d p = goals program goal built built_goal none v no_stages later d p
+goals-allowed goals program goal built built_goal v later (inr is) d p = ap (λ (stages : LaterStages). names_from v stages program goal d p) (sym is)
+
 query-means : GoalsAreTheSame → (program : ProgramTree) (goal : ExpTree) (preds : List PredTree) → unbuilt_part program ≡ None → IsAsked program goal → is_built_goal goal ≡ true → IsLoweredProgram program preds →
-    QueryCallsDefined preds (lowered_query goal) → MeansTheSame program goal preds (lowered_query goal)
-query-means goals program goal preds built asked built_goal kept closed v later d s =
-    ap (told_trace (solution_told (lowered_query goal).names)) (sym (query-tabled v no_stages.calls preds (lowered_query goal) closed free d s))
-    ∙ ((query-keeps program goal preds (program-over_whole program preds kept) asked).means v no_stages (goes-by-nothing (known_of program)) d s
-    ∙ ap (told_trace (place_told (answer_names goal))) (goals program goal built built_goal v no_stages later d (at_state beginning s)))
-  where
-    free : NamesAreFree (preds ++ (lowered_query goal).helpers)
-    free = free-with goal preds kept.free
+    MeansTheSame program goal preds (lowered_query goal)
+query-means goals program goal preds built asked built_goal kept v later allows d s =
+    query-at program goal preds kept.defines asked v no_stages (goes-by-nothing (known_of program)) d (levels-whole program preds kept v d) s
+    ∙ ap (told_trace (place_told (answer_names goal))) (goals-allowed goals program goal built built_goal v later allows d (at_state beginning s))
 
 pub query-kept : GoalsAreTheSame → LoweredProgramsArePlain → LoweredQueriesAreSound → (program : ProgramTree) (goal : ExpTree) (preds : List PredTree) → IsWithin program → unbuilt_part program ≡ None →
     IsAsked program goal → is_built_goal goal ≡ true → IsLoweredProgram program preds → IsLowered program goal preds (lowered_query goal)
 query-kept goals plain sound program goal preds within built asked built_goal kept =
     let asks : Asks preds goal = query-asks plain sound program goal preds within built asked built_goal kept in
-    let means : MeansTheSame program goal preds (lowered_query goal) = query-means goals program goal preds built asked built_goal kept asks.closed in
+    let means : MeansTheSame program goal preds (lowered_query goal) = query-means goals program goal preds built asked built_goal kept in
     record {
       sound = asks.sound;
       plain = plain-with goal preds kept.plain;
       closed = asks.closed;
+      free = free-with goal preds kept.free;
       means = means;
       runs = same-meaning-runs-the-same program goal preds (lowered_query goal) means;
     }

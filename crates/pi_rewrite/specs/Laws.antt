@@ -1,5 +1,5 @@
--- What lowering keeps. A core program keeps the meaning of a program, and a query that of a goal: both are sound, and what they do with the built-ins of the tables, which are all that
--- they call beside what they define, is what is done over names, with the prelude in front, whatever later stages of the language give. What they are stands in `Lowered` of `pi_lowered`.
+-- What lowering keeps. A core program keeps the meaning of a program, and a query that of a goal: both are sound, and what they do where no later stage of the language is there is what is
+-- done over names, with the prelude in front, whatever later stages give (`Allows` says where one of them calls terms). What they are stands in `Lowered` of `pi_lowered`.
 use Rattle.std.specs.Prelude.{◌≡◌, ℕ, true, List, ◌++◌, None, All, IsTrue}
 use Rattle.pi_terms.specs.Tree.{Trees, tree_count}
 use Rattle.pi_states.specs.State.{State}
@@ -9,7 +9,7 @@ use Rattle.pi_core.specs.CoreTree.{PredTree, QueryTree}
 use Rattle.pi_traces.specs.Depth.{Cut}
 use Rattle.pi_meaning.specs.View.{View}
 use Rattle.pi_meaning.specs.Level.{calls_at}
-use Rattle.pi_meaning.specs.Instances.{tabled}
+use Rattle.pi_meaning.specs.Instances.{no_later, whole}
 use Rattle.pi_meaning.specs.Rules.{level_at}
 use Rattle.pi_meaning.specs.Run.{Solution, IsRunUnder}
 use Rattle.pi_meaning.specs.Sound.{IsSound, IsSoundQuery}
@@ -22,20 +22,21 @@ use Rattle.pi_names.specs.Run.{program_level, answer_names, names_from, IsNamesR
 use Rattle.pi_lowered.specs.Within.{IsWithin, IsAsked}
 use Rattle.pi_lowered.specs.Laws.{known_of, DefinesTheSame, query_from}
 use Rattle.pi_coverage.specs.Built.{unbuilt_part, is_built_goal}
+use Rattle.pi_coverage.specs.TermCalls.{ProgramAllows, Allows}
 use Rattle.pi_sound.specs.Laws.{IsPlain}
 
 -- ---- programs
 
--- A call of what the program or the prelude has does what the call over names does, under every view, whatever later stages of the language give, at each depth and from each state: the same
--- Ticks, loads and outputs, the same end, and in each answer the same value and the same state, so that variables have the same numbers.
+-- A call of what the program or the prelude has does what the call over names does, under every view, whatever later stages of the language give that it allows, at each depth and from each
+-- state: the same Ticks, loads and outputs, the same end, and in each answer the same value and the same state, so that variables have the same numbers.
 pub record CallsTheSame (program : ProgramTree) (preds : List PredTree) : Type 0 where
-  pub predicates : (v : View) (later : LaterStages) (d : ℕ) (name : List ℕ) (ts : Trees) (s : State) → IsTrue ((known_of program).predicate name (tree_count ts)) →
-      (calls_at (level_at (tabled v) preds d)).called name ts s ≡ (calls_at (program_level v later program d)).called name ts s
-  pub functions : (v : View) (later : LaterStages) (d : ℕ) (name : List ℕ) (ts : Trees) (s : State) → IsTrue ((known_of program).function name (tree_count ts)) →
-      (calls_at (level_at (tabled v) preds d)).applied name ts s ≡ (calls_at (program_level v later program d)).applied name ts s
+  pub predicates : (v : View) (later : LaterStages) → ProgramAllows later program → (d : ℕ) (name : List ℕ) (ts : Trees) (s : State) → IsTrue ((known_of program).predicate name (tree_count ts)) →
+      (calls_at (level_at (whole v no_later preds) preds d)).called name ts s ≡ (calls_at (program_level v later program d)).called name ts s
+  pub functions : (v : View) (later : LaterStages) → ProgramAllows later program → (d : ℕ) (name : List ℕ) (ts : Trees) (s : State) → IsTrue ((known_of program).function name (tree_count ts)) →
+      (calls_at (level_at (whole v no_later preds) preds d)).applied name ts s ≡ (calls_at (program_level v later program d)).applied name ts s
 
--- A core program that keeps the meaning of a program. It calls built-ins of the tables and what it defines: what the program or the prelude has clauses of, and nothing by a name that the
--- language gives.
+-- A core program that keeps the meaning of a program. It calls built-ins of the tables, `call`, and what it defines: what the program or the prelude has clauses of, and nothing by a name that
+-- the language gives.
 pub record IsLoweredProgram (program : ProgramTree) (preds : List PredTree) : Type 0 where
   pub sound : IsSound preds
   pub plain : All IsPlain preds
@@ -46,22 +47,23 @@ pub record IsLoweredProgram (program : ProgramTree) (preds : List PredTree) : Ty
 
 -- ---- goals
 
--- Under every view, whatever later stages give, at each depth and from each state a query does what a goal does over its names, but for how an answer is kept: each answer tells
--- the same values by the same names, and has the same state.
+-- Under every view, whatever later stages give that program and goal allow, at each depth and from each state a query does what a goal does over its names, but for how an answer is kept:
+-- each answer tells the same values by the same names, and has the same state.
 abbrev pub MeansTheSame : ProgramTree → ExpTree → List PredTree → QueryTree → Type 0
-MeansTheSame program goal preds q = (v : View) (later : LaterStages) (d : ℕ) (s : State) →
-    told_trace (solution_told q.names) (query_from (tabled v) preds q d s) ≡ told_trace (place_told (answer_names goal)) (names_from v later program goal d (at_state beginning s))
+MeansTheSame program goal preds q = (v : View) (later : LaterStages) → Allows later program goal → (d : ℕ) (s : State) →
+    told_trace (solution_told q.names) (query_from (whole v no_later (preds ++ q.helpers)) preds q d s) ≡ told_trace (place_told (answer_names goal)) (names_from v later program goal d (at_state beginning s))
 
 -- the runs of a query are those of a goal over its names
 abbrev pub RunsTheSame : ProgramTree → ExpTree → List PredTree → QueryTree → Type 0
-RunsTheSame program goal preds q = (v : View) (later : LaterStages) (n : ℕ) (c : Cut Solution) → IsRunUnder (tabled v) preds q n c →
+RunsTheSame program goal preds q = (v : View) (later : LaterStages) → Allows later program goal → (n : ℕ) (c : Cut Solution) → IsRunUnder (whole v no_later (preds ++ q.helpers)) preds q n c →
     IsNamesRun v later program goal n (told_cut (solution_told q.names) c)
 
--- a query that keeps the meaning of a goal that is asked of a program; it calls nothing else either
+-- a query that keeps the meaning of a goal that is asked of a program; it calls nothing else either, and nothing of both has a name that the language gives
 pub record IsLowered (program : ProgramTree) (goal : ExpTree) (preds : List PredTree) (q : QueryTree) : Type 0 where
   pub sound : IsSoundQuery preds q
   pub plain : All IsPlain (preds ++ q.helpers)
   pub closed : QueryCallsDefined preds q
+  pub free : NamesAreFree (preds ++ q.helpers)
   pub means : MeansTheSame program goal preds q
   pub runs : RunsTheSame program goal preds q
 

@@ -4,6 +4,8 @@
 #[cfg(test)]
 mod faulty;
 #[cfg(test)]
+mod large;
+#[cfg(test)]
 mod orders;
 #[cfg(test)]
 mod output;
@@ -25,7 +27,7 @@ mod tests {
     use crate::faulty::FAULTY;
     use crate::orders::ORDERS;
     use crate::row::{OPEN, Row, USAGE};
-    use crate::{output, programs, small, terms, text, words};
+    use crate::{large, output, programs, small, terms, text, words};
     use pi_outside::{MemoryFiles, MemorySink, SureSource};
     use pi_top::picatq;
     use std::alloc::Global;
@@ -101,8 +103,18 @@ mod tests {
     }
 
     #[test]
+    fn rows_of_texts_in_heads(rt: HostRuntime) -> Result<(), Fail> {
+        are_right(rt.alloc(), &terms::TEXTS, NOTHING)
+    }
+
+    #[test]
     fn rows_of_programs(rt: HostRuntime) -> Result<(), Fail> {
         are_right(rt.alloc(), &programs::ROWS, NOTHING)
+    }
+
+    #[test]
+    fn rows_of_large_terms(rt: HostRuntime) -> Result<(), Fail> {
+        are_right(rt.alloc(), &large::ROWS, NOTHING)
     }
 
     #[test]

@@ -2,7 +2,7 @@
 use crate::row::Row;
 
 /// Runs over terms.
-pub static ROWS: [Row<'static>; 21] = [
+pub static ROWS: [Row<'static>; 26] = [
     // Arithmetic, up to both ends of what an integer may be.
     Row {
         program: Some(""),
@@ -146,6 +146,79 @@ pub static ROWS: [Row<'static>; 21] = [
             "L = find_all(_X, member(_X,[a,b])), N = count_all(member(_,[a,b]))",
         ],
         output: "L = [a,b]\nN = 2\nyes\nno more\n",
+        status: 0,
+    },
+    // Assignments, in bodies and in branches, of which each has its own value, or none.
+    Row {
+        program: Some("least(X,Y) => Z = X, (Z > 3 -> Z := 3 ; true), Y = Z."),
+        words: &["FILE", "least(5,A), least(2,B)"],
+        output: "A = 3\nB = 2\nyes\nno more\n",
+        status: 0,
+    },
+    Row {
+        program: Some("twice(X,Y) => (X = 1 ; X := 2), X := [X,X], Y = X."),
+        words: &["FILE", "twice(X,Y)"],
+        output: "X = 1\nY = [1,1]\nyes\nX = _1\nY = [2,2]\nyes\nno more\n",
+        status: 0,
+    },
+    Row {
+        program: Some(
+            "kind(X,Y) => if X > 0 then Z := more elseif X < 0 then Z := less end, Y = [Z].",
+        ),
+        words: &["FILE", "kind(4,A), kind(-4,B), kind(0,C)"],
+        output: "A = [more]\nB = [less]\nC = [_1]\nyes\nno more\n",
+        status: 0,
+    },
+    Row {
+        program: Some("step(A,B) = {C,D} => C = A, D = B, T = C+D, C := D, D := T."),
+        words: &["FILE", "X = step(3,5)"],
+        output: "X = {5,8}\nyes\nno more\n",
+        status: 0,
+    },
+    Row {
+        program: Some(""),
+        words: &["FILE", "X := Y, Y := a, Z = X, X := 1//0"],
+        output: "exception: zero_divisor\n",
+        status: 4,
+    },
+];
+
+/// Runs of texts in heads: each is the list of its characters, and binds nothing.
+pub static TEXTS: [Row<'static>; 6] = [
+    Row {
+        program: Some("p(\"ab\") => true."),
+        words: &["FILE", "p(\"ab\"), X = a, p([X,b])"],
+        output: "X = a\nyes\nno more\n",
+        status: 0,
+    },
+    Row {
+        program: Some("p(\"ab\") => true."),
+        words: &["FILE", "p([a])"],
+        output: "no\n",
+        status: 1,
+    },
+    Row {
+        program: Some("p(\"ab\") => true."),
+        words: &["FILE", "p(\"abc\")"],
+        output: "no\n",
+        status: 1,
+    },
+    Row {
+        program: Some("p(\"ab\") => true."),
+        words: &["FILE", "p([a|T])"],
+        output: "no\n",
+        status: 1,
+    },
+    Row {
+        program: Some("p(\"\") => true."),
+        words: &["FILE", "p([])"],
+        output: "yes\nno more\n",
+        status: 0,
+    },
+    Row {
+        program: Some("f(\"on\") = 1. f(\"off\") = 0. f(T@\"is\") = T."),
+        words: &["FILE", "X = f(\"off\"), Y = f([i,s])"],
+        output: "X = 0\nY = [i,s]\nyes\nno more\n",
         status: 0,
     },
 ];

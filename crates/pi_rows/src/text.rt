@@ -248,7 +248,13 @@ pub static ROWS: [Row<'static>; 46] = [
         status: 3,
     },
     Row {
-        program: Some("import cp. p => true. q(X) => call(X)."),
+        program: Some("p => true."),
+        words: &["FILE", "call(p)"],
+        output: "goal: NotBuilt 1\n",
+        status: 3,
+    },
+    Row {
+        program: Some("import cp. p => true. q(X) => X #> 1."),
         words: &["FILE", "X = 1 + 2"],
         output: "program: NotBuilt 3\n",
         status: 3,
@@ -261,12 +267,6 @@ pub static ROWS: [Row<'static>; 46] = [
     },
     Row {
         program: Some("p(X), {ins(X)} => true."),
-        words: &["FILE", "true"],
-        output: "program: NotBuilt 1\n",
-        status: 3,
-    },
-    Row {
-        program: Some("p(\"ab\") => true."),
         words: &["FILE", "true"],
         output: "program: NotBuilt 1\n",
         status: 3,

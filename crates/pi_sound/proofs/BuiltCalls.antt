@@ -157,7 +157,7 @@ filled-may h m t = go (is_below h t.tree)
     go true = none-may
     go false = one-may (filling m t.tree) (filling-may m t.tree)
 
-item-may : (goals : List GoalTree) (t : Tree) (n : ℕ) → MayRunAll goals → MayRunAll (goals ++ apply index_name (first_item t) n ∷ [])
+pub item-may : (goals : List GoalTree) (t : Tree) (n : ℕ) → MayRunAll goals → MayRunAll (goals ++ apply index_name (first_item t) n ∷ [])
 item-may goals t n may = append-may goals (apply index_name (first_item t) n ∷ []) may (one-may (apply index_name (first_item t) n) (apply-may index_name (first_item t) n item-built))
 
 pub slotted-may : (goals : List GoalTree) (t : Tree) (ns : SlotNames) → MayRunAll goals → MayRunAll (slotted goals t ns).goals

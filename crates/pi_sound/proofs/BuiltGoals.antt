@@ -9,15 +9,16 @@ use Rattle.pi_syntax.specs.ExpTree.{ExpTree, var, int, atom, str, list, list_ont
 use Rattle.pi_syntax.specs.Signature.{exp_count}
 use Rattle.pi_core.specs.GoalTree as core
 use Rattle.pi_meaning.proofs.MeaningLemmas.{count-of}
+use Rattle.pi_names.specs.Texts.{variable_first}
 use Rattle.pi_names.specs.Forms.{Form, negation, once, assignment, catch, by_term, membership, form_of, is_find_all, is_count_all}
-use Rattle.pi_lowered.specs.Slots.{SlotNames}
+use Rattle.pi_lowered.specs.Slots.{SlotNames, slot_for}
 use Rattle.pi_lowered.specs.Values.{SlotValue, SlotValues, slot_term, is_flat, are_flat, as_it_stands, filled_before, last_value, value_before, value_by, no_values, before_values, applied, slotted}
 use Rattle.pi_lowered.specs.Goals as slots
 use Rattle.pi_lowered.specs.Goals.{SlotGoals, SlotBranches, made, parts, arguments}
 use Rattle.pi_lowered.proofs.FormLemmas.{arguments-count}
 use Rattle.pi_coverage.specs.Built.{is_built_predicate, is_built_function, is_built_form, is_built_value, are_built_values, is_built_value_at, is_built_goal_at, is_built_goal, are_built_goals, are_built_branches, is_built_branch, have_built_goals}
 use Rattle.pi_sound.proofs.NameLemmas.{item-built, ranges-built}
-use Rattle.pi_sound.proofs.BuiltCalls.{MayRunAll, none-may, one-may, append-may, truth-may, fail-may, call-may, apply-may, turn-may, not-may, once-may, collect-may, count-may, catch-may, choosing-may, as-goals-may, ArrowMay, no_arrow_may, an_arrow_may, branch-may, filled-may, slotted-may}
+use Rattle.pi_sound.proofs.BuiltCalls.{MayRunAll, none-may, one-may, append-may, truth-may, fail-may, call-may, apply-may, turn-may, not-may, once-may, collect-may, count-may, catch-may, choosing-may, as-goals-may, ArrowMay, no_arrow_may, an_arrow_may, branch-may, filled-may, item-may, slotted-may}
 
 -- ---- expressions with and without a call
 
@@ -83,7 +84,14 @@ goal-call-may name k None exps value goal is parts may ns =
     called-may name (parts.all ns) (may.all both.0 ns) (subst (λ (j : ℕ). is_built_predicate name j ≡ true) (may.long ns) both.1)
 goal-call-may name k (Some negation) exps value goal is parts may ns = one-may _ (not-may _ (turn-may (slots.goals_at parts.goals 0 ns).goals (may.goals 0 is ns)))
 goal-call-may name k (Some once) exps value goal is parts may ns = one-may _ (once-may _ (turn-may (slots.goals_at parts.goals 0 ns).goals (may.goals 0 is ns)))
-goal-call-may name k (Some assignment) exps value goal is parts may ns = absurd (false≢true is)
+goal-call-may name k (Some assignment) exps value goal is parts may ns = go parts.variable
+  where
+    v : SlotValue
+    v = slots.value_at parts.values 1 ns
+
+    go : (o : Option (List ℕ)) → MayRunAll (slots.assigned o v).goals
+    go None = append-may v.goals (core.fail ∷ []) (may.values 1 is ns) (one-may core.fail fail-may)
+    go (Some x) = item-may v.goals v.tree (slot_for x v.names) (may.values 1 is ns)
 goal-call-may name k (Some catch) exps value goal is parts may ns =
     let first : (goal 0 ≡ true) × ((value 1 && goal 2) ≡ true) = and_parts (goal 0) (value 1 && goal 2) is in
     let rest : (value 1 ≡ true) × (goal 2 ≡ true) = and_parts (value 1) (goal 2) first.1 in
@@ -137,7 +145,7 @@ mutual
   made-may h (array es) is ns = parts-may h es is ns
   made-may h (call name es) is ns =
       value-call-may (is_find_all name (exp_count es)) (is_count_all name (exp_count es)) name (exp_count es) (are_built_values es) (is_built_value_at es) (is_built_goal_at es) is
-      (record { goals = slots.goals_in h es; values = slots.values_in h es; all = arguments h es })
+      (record { variable = variable_first es; goals = slots.goals_in h es; values = slots.values_in h es; all = arguments h es })
       (record { goals = λ i at ns. goals-may h es i at ns; values = λ i at ns. values-may h es i at ns; all = λ are ns. arguments-may h es are ns; long = counted h es }) ns
   made-may h (index e es) is ns =
       let both : (is_built_value e ≡ true) × ((are_built_values es && _) ≡ true) = and_parts (is_built_value e) _ is in
@@ -193,7 +201,7 @@ mutual
   pub goal-may : (h : ℕ) (e : ExpTree) → is_built_goal e ≡ true → (ns : SlotNames) → MayRunAll (slots.goal_of h e ns).goals
   goal-may h (atom name) is ns = atom-may name (bytes_eq name (codes "true")) (bytes_eq name (codes "fail")) is
   goal-may h (call name es) is ns =
-      goal-call-may name (exp_count es) (form_of name (exp_count es)) (are_built_values es) (is_built_value_at es) (is_built_goal_at es) is (record { goals = slots.goals_in h es; values = slots.values_in h es; all = arguments h es })
+      goal-call-may name (exp_count es) (form_of name (exp_count es)) (are_built_values es) (is_built_value_at es) (is_built_goal_at es) is (record { variable = variable_first es; goals = slots.goals_in h es; values = slots.values_in h es; all = arguments h es })
       (record { goals = λ i at ns. goals-may h es i at ns; values = λ i at ns. values-may h es i at ns; all = λ are ns. arguments-may h es are ns; long = counted h es }) ns
   goal-may h (and es) is ns = and-may h es is ns
   goal-may h (or es) is ns = as-goals-may (slots.any_of h es ns) (or-may h es is ns)

@@ -101,7 +101,7 @@ told-cut answers q run part ticks status writes (HowQueryIsCut.at_memory nine co
 part-over-names : (program : ProgramTree) (goal : ExpTree) (preds : List PredTree) (q : QueryTree) (steps : ℕ) (run : Cut Solution) (part : List (Emitted Solution)) →
     RunsTheSame program goal preds q → IsQueryPart preds q steps run part → IsPart program goal [] steps (told_cut (solution_told q.names) run) (told q.names part)
 part-over-names program goal preds q steps run part is has = record {
-  is_run = λ later. is (query_view []) later steps run has.is_run;
+  is_run = λ later allows. is (query_view []) later allows steps run has.is_run;
   begins = told-prefix q.names part run.events has.begins;
 }
 

@@ -1,5 +1,5 @@
 -- Where two texts come to a line, that is what is written; where they ask a goal of a program, it is run. And what they come to is one.
-use Rattle.std.proofs.Common.{◌≡◌, ◌≢◌, ◌+◌, ℕ, suc, List, [], ◌∷◌, ◌++◌, refl, sym, ap, subst, ◌∙◌, arith}
+use Rattle.std.proofs.Common.{◌≡◌, ◌≢◌, ◌+◌, inr, ℕ, suc, List, [], ◌∷◌, ◌++◌, refl, sym, ap, subst, ◌∙◌, arith}
 use Rattle.pi_syntax.specs.ExpTree.{ExpTree}
 use Rattle.pi_syntax.specs.ProgramTree.{ProgramTree}
 use Rattle.pi_answers.specs.declared.log.LogEntry.{LogEntry}
@@ -125,7 +125,7 @@ record AreSame (ticks others status other : ℕ) (texts more : List (List ℕ)) 
 one-headline : (answers steps : ℕ) (program : ProgramTree) (goal : ExpTree) (log : List LogEntry) (ticks others status other : ℕ) (texts more : List (List ℕ)) →
     Headline answers steps program goal log ticks status texts → Headline answers steps program goal log others other more → AreSame ticks others status other texts more
 one-headline answers steps program goal log ticks others status other texts more a b =
-    let run : a.run ≡ b.run = names-runs-are-one (query_view log) no_stages no-stages-add program goal steps a.run b.run (a.is_part.is_run no_stages) (b.is_part.is_run no_stages) in
+    let run : a.run ≡ b.run = names-runs-are-one (query_view log) no_stages no-stages-add program goal steps a.run b.run (a.is_part.is_run no_stages (inr refl)) (b.is_part.is_run no_stages (inr refl)) in
     let begins : IsPrefix b.part a.run.events = rw (← run) at b.is_part.begins in
     let ends : Ends answers b.part a.run b.ending = rw (← run) at b.ends in
     let part : a.part ≡ b.part =

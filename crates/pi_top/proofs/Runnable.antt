@@ -33,7 +33,7 @@ counted (p ∷ ps) all =
 
 lowered-runnable : (source : ProgramTree) (asked : ExpTree) (program : List PredTree) (q : QueryTree) → IsLowered source asked program q → IsRunnable program q
 lowered-runnable source asked program q is =
-    record { sound = is.sound; calls = is.closed; rules = of-rules (program ++ q.helpers) is.plain; counted = counted (program ++ q.helpers) is.plain }
+    record { sound = is.sound; calls = is.closed; free = is.free; rules = of-rules (program ++ q.helpers) is.plain; counted = counted (program ++ q.helpers) is.plain }
 
 pub asked-runnable : (text goal : List ℕ) (program : List PredTree) (q : QueryTree) → IsAsked text goal program q → IsRunnable program q
 asked-runnable text goal program q is = lowered-runnable is.source is.asked program q is.lowered

@@ -10,6 +10,7 @@ use Rattle.pi_meaning.specs.View.{query_view}
 use Rattle.pi_meaning.specs.Telling.{Told, told_answer}
 use Rattle.pi_names.specs.Stages.{LaterStages}
 use Rattle.pi_names.specs.Run.{IsNamesRun}
+use Rattle.pi_coverage.specs.TermCalls.{Allows}
 use Rattle.pi_print.specs.PrintAnswer.{answer_lines}
 use Rattle.pi_answers.specs.declared.log.LogEntry.{LogEntry}
 use Rattle.pi_top.specs.Handing.{HandsAll, FailsIn}
@@ -17,9 +18,10 @@ use Rattle.pi_top.specs.Prefix.{IsPrefix}
 use Rattle.pi_top.specs.Printing.{print}
 use Rattle.pi_top.specs.QueryEnd.{QueryEnd, line_of, status_of, count_answers, Ends}
 
--- a part of the run of a goal under a log of planner calls, whatever later stages of the language give: of its trace, cut before the Tick that is one more than it may take
+-- a part of the run of a goal under a log of planner calls, whatever later stages of the language give that program and goal allow: of its trace, cut before the Tick that is one more
+-- than it may take
 pub record IsPart (program : ProgramTree) (goal : ExpTree) (log : List LogEntry) (steps : ℕ) (run : Cut Told) (part : List (Emitted Told)) : Type 0 where
-  pub is_run : (later : LaterStages) → IsNamesRun (query_view log) later program goal steps run
+  pub is_run : (later : LaterStages) → Allows later program goal → IsNamesRun (query_view log) later program goal steps run
   pub begins : IsPrefix part run.events
 
 -- Where so many answers are asked for before so many Ticks are spent: a part of the run, so many Ticks in it, its end with

@@ -11,6 +11,7 @@ use Rattle.pi_lowering.specs.Lowering.{call_as_goal, values_of}
 use Rattle.pi_lowering.proofs.ValueLemmas.{goals-as}
 use Rattle.pi_lowering.proofs.PartLemmas.{all-more, all-end, place-flat, place-made, values-none, values-step, values-last, indexed-none, indexed-more, indexed-end}
 use Rattle.pi_lowering.proofs.GoalLemmas.{is-alone, put-atom, goal-call, goal-and, put-or, put-if_else, put-if_then, put-not, put-once, put-no-call, put-plain, put-caught}
+use Rattle.pi_lowering.proofs.AssignLemmas.{put-assigned}
 use Rattle.pi_lowering.proofs.BranchLemmas.{arrow-is, no-arrow, arrow-branch, goal-branch, branches-more, branches-end, conditions-more, conditions-end}
 use Rattle.pi_lowering.proofs.MadeLemmas.{put-made_onto, put-made_list, put-made_array, put-made_call, put-made_index, put-made_range, put-made_range_by, flip-and, no_value-as, none-var, none-int, none-atom, none-str, none-quote, none-at, none-collect, none-and, none-or, none-arrow, none-if, none-foreach, none-while, none-do_while, put-call_found, put-call_counted, put-call_applied}
 use Rattle.pi_lowering.proofs.+lowering.Goals as goal
@@ -244,10 +245,15 @@ pub calls::push_call-returns-in_ok-push-in-Once : goal.calls::push_call-returns-
 calls::push_call-returns-in_ok-push-in-Once t c =
     put-once c.args.head c.args.name.now c.args.args.now (length c.args.args.now) c.call_form.result c.index-args-0-in-Once.result c.args.slots.now c.alone-in-Once.new.slots c.args.goals.now.items c.push-in-Once.new.self.items c.in_ok-goal-in-Once.goal c.in_ok-made-in-Once.made refl c.call_form.ensures.has c.call_form.ensures.is c.in-Once.is c.index-args-0-in-Once.is c.in_ok-goal-in-Once.ensures c.in_ok-made-in-Once.ensures.ok c.in_ok-push-in-Once.ensures.items
 
+pub calls::push_call-returns-in_ok-push_assigned-in-Assignment : goal.calls::push_call-returns-in_ok-push_assigned-in-Assignment
+calls::push_call-returns-in_ok-push_assigned-in-Assignment t c =
+    put-assigned c.args.head c.args.name.now c.args.args.now (length c.args.args.now) c.call_form.result c.index-args-0-in-Assignment.result c.index-args-1.result c.args.slots.now c.value.new.slots c.push_assigned.new.slots c.args.goals.now.items c.value.new.goals.items c.push_assigned.new.goals.items c.in_ok-term-in-Assignment.term
+    refl c.call_form.ensures.has c.call_form.ensures.is c.in-Assignment.is c.index-args-0-in-Assignment.is c.index-args-1.is c.in_ok-term-in-Assignment.ensures c.in_ok-push_assigned-in-Assignment.ensures
+
 pub calls::push_call-returns-in_ok-push-in-Catch : goal.calls::push_call-returns-in_ok-push-in-Catch
 calls::push_call-returns-in_ok-push-in-Catch t c =
-    put-caught c.args.head c.args.name.now c.args.args.now (length c.args.args.now) c.call_form.result c.index-args-0-in-Catch.result c.index-args-1.result c.index-args-2.result c.args.slots.now c.value.new.slots c.alone-in-Catch.new.slots c.alone-in-Catch-2.new.slots c.args.goals.now.items c.value.new.goals.items c.push-in-Catch.new.self.items c.in_ok-ball-in-Catch.ball c.in_ok-goal-in-Catch.goal c.in_ok-handler-in-Catch.handler c.in_ok-made-in-Catch.made
-    refl c.call_form.ensures.has c.call_form.ensures.is c.in-Catch.is c.index-args-0-in-Catch.is c.index-args-1.is c.index-args-2.is c.in_ok-ball-in-Catch.ensures c.in_ok-goal-in-Catch.ensures c.in_ok-handler-in-Catch.ensures c.in_ok-made-in-Catch.ensures.ok c.in_ok-push-in-Catch.ensures.items
+    put-caught c.args.head c.args.name.now c.args.args.now (length c.args.args.now) c.call_form.result c.index-args-0-in-Catch.result c.index-args-1-in-Catch.result c.index-args-2.result c.args.slots.now c.value-in-Catch.new.slots c.alone-in-Catch.new.slots c.alone-in-Catch-2.new.slots c.args.goals.now.items c.value-in-Catch.new.goals.items c.push-in-Catch.new.self.items c.in_ok-ball-in-Catch.ball c.in_ok-goal-in-Catch.goal c.in_ok-handler-in-Catch.handler c.in_ok-made-in-Catch.made
+    refl c.call_form.ensures.has c.call_form.ensures.is c.in-Catch.is c.index-args-0-in-Catch.is c.index-args-1-in-Catch.is c.index-args-2.is c.in_ok-ball-in-Catch.ensures c.in_ok-goal-in-Catch.ensures c.in_ok-handler-in-Catch.ensures c.in_ok-made-in-Catch.ensures.ok c.in_ok-push-in-Catch.ensures.items
 
 pub calls::push_call-returns-in_ok-push_fail-in-Never : goal.calls::push_call-returns-in_ok-push_fail-in-Never
 calls::push_call-returns-in_ok-push_fail-in-Never t c =

@@ -46,7 +46,7 @@ pub fn runs_are_one()
     ensures deeper { DeeperRunsAreTheRun }
 {}
 
-/// Where Ticks stand between the calls of quiet predicates, there is a depth that reaches to each Tick of a query's trace,
+/// Where no later stage is there, and Ticks stand between the calls of quiet predicates, there is a depth that reaches to each Tick of a query's trace,
 /// and so each query has its run.
 pub fn queries_run()
     ensures reaches { DepthReachesTicks }

@@ -165,11 +165,11 @@ is_built_call-returns-in-Once t c =
 
 pub is_built_call-returns-in-Assignment : goal.is_built_call-returns-in-Assignment
 is_built_call-returns-in-Assignment t c =
-    goal-of c.args.name.now c.args.args.now (length c.args.args.now) c.form_of.result c.in-Some.form Form.Assignment false refl c.form_of.ensures c.in-Some.is c.in-Assignment.is refl
+    goal-of c.args.name.now c.args.args.now (length c.args.args.now) c.form_of.result c.in-Some.form Form.Assignment c.is_built_value_at.result refl c.form_of.ensures c.in-Some.is c.in-Assignment.is c.is_built_value_at.ensures
 
 pub is_built_call-returns-in-Catch : goal.is_built_call-returns-in-Catch
 is_built_call-returns-in-Catch t c =
-    goal-of c.args.name.now c.args.args.now (length c.args.args.now) c.form_of.result c.in-Some.form Form.Catch _ refl c.form_of.ensures c.in-Some.is c.in-Catch.is (both _ _ _ _ c.is_built_goal_at-in-Catch.ensures (both _ _ _ _ c.is_built_value_at.ensures c.is_built_goal_at-in-Catch-2.ensures))
+    goal-of c.args.name.now c.args.args.now (length c.args.args.now) c.form_of.result c.in-Some.form Form.Catch _ refl c.form_of.ensures c.in-Some.is c.in-Catch.is (both _ _ _ _ c.is_built_goal_at-in-Catch.ensures (both _ _ _ _ c.is_built_value_at-in-Catch.ensures c.is_built_goal_at-in-Catch-2.ensures))
 
 pub is_built_call-returns-in-ByTerm : goal.is_built_call-returns-in-ByTerm
 is_built_call-returns-in-ByTerm t c =
