@@ -1,3 +1,4 @@
 mod NamedLemmas
 mod FunctionTables
 mod PredicateTables
+mod NamesLemmas

@@ -10,7 +10,7 @@ use Rattle.pi_builtin.specs.Resolved.{Named, first_named}
 same-some : {F : Type 0} {x y : F} → Some x ≡ Some y → x ≡ y
 same-some h = cc
 
-bytes-same : (a b : List ℕ) → bytes_eq a b ≡ true → a ≡ b
+pub bytes-same : (a b : List ℕ) → bytes_eq a b ≡ true → a ≡ b
 bytes-same a b e = (bytes_eq-Decides a b).0 e
 
 -- another name, told the other way round

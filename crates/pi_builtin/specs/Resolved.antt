@@ -32,3 +32,7 @@ rows_shown rows = map (λ r. (r.0.now, r.1)) rows
 unfoldable pub first_named : {T : Type 0} → List ℕ → List (Named T) → Option T
 first_named name [] = None
 first_named name (r ∷ rows) = cond (bytes_eq r.0 name) (Some r.1) (first_named name rows)
+
+-- the names of rows, each with so many arguments
+abbrev pub named_with : {T : Type 0} → ℕ → List (Named T) → List (Named ℕ)
+named_with k rows = map (λ r. (r.0, k)) rows

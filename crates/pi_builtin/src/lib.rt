@@ -6,5 +6,5 @@ mod lookup;
 mod predicates;
 
 pub use functions::{Function, FunctionOfCollection, FunctionOfOne, FunctionOfTwo};
-pub use lookup::{function_named, predicate_named};
+pub use lookup::{function_named, predicate_named, predicate_names};
 pub use predicates::{Predicate, PredicateOfNone, PredicateOfOne, PredicateOfTwo};

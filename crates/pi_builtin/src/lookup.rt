@@ -1,14 +1,15 @@
 //! Which built-in a name is.
-ghost use Rattle.std.specs.Prelude.{◌≡◌, true, false, IfSome, IfNone};
+ghost use Rattle.std.specs.Prelude.{◌≡◌, ◌↔◌, ◌++◌, ℕ, List, true, false, IfSome, IfNone, IfOk, IsTrue, Contains};
 ghost use Rattle.pi_effects.specs.BuiltIns.{is_function, is_predicate};
 ghost use Rattle.pi_builtin.specs.Names.{takes};
-ghost use Rattle.pi_builtin.specs.Resolved.{IsFunctionNamed, IsPredicateNamed, rows_shown, first_named};
+ghost use Rattle.pi_builtin.specs.Resolved.{IsFunctionNamed, IsPredicateNamed, rows_shown, first_named, named_with};
 
 use crate::functions::{Function, FunctionOfCollection, FunctionOfOne, FunctionOfTwo};
 use crate::predicates::{Predicate, PredicateOfNone, PredicateOfOne, PredicateOfTwo};
 use pi_arith::Op;
 use pi_kinds::{TermKind, TermRelation};
 use pi_numbers::Relation;
+use std::alloc::{AllocError, Global};
 
 /// A name, with what it is.
 type Row<T> = (&'static str, T);
@@ -204,6 +205,34 @@ pub fn predicate_named(name: &str, arity: usize) -> Option<Predicate>
         },
         _ => None,
     }
+}
+
+/// All names of built-in predicates, each with a number of arguments.
+pub fn predicate_names<'n>(alloc: Global) -> Result<Vec<(&'n str, u32)>, AllocError>
+    ensures { IfOk result (λ made. (name : List ℕ) (k : ℕ) → IsTrue (is_predicate name k) ↔ Contains (rows_shown made.items) (name, k)) }
+{
+    let mut names = Vec::new(alloc);
+    push_names(&mut names, &PREDICATES_OF_NONE, 0)?;
+    push_names(&mut names, &PREDICATES_OF_ONE, 1)?;
+    push_names(&mut names, &PREDICATES_OF_TWO, 2)?;
+    for more in 0..16 {
+        names.push(("printf", more + 1))?;
+    }
+    Ok(names)
+}
+
+/// Pushes the names of rows, each with this number of arguments.
+fn push_names<'n, T: Copy>(
+    names: &mut Vec<(&'n str, u32)>,
+    rows: &[Row<T>],
+    arity: u32,
+) -> Result<(), AllocError>
+    ensures { IfOk result (λ _. rows_shown names.new.items ≡ rows_shown names.old.items ++ named_with arity (rows_shown rows.now)) }
+{
+    for row in rows {
+        names.push((row.0, arity))?;
+    }
+    Ok(())
 }
 
 /// `printf`, where it has this number of arguments.

@@ -38,7 +38,7 @@ use Rattle.pi_meaning.proofs.QueryLemmas.{query-below}
 
 -- ---- a predicate of the program is none that the language gives
 
-free-found : (preds : List PredTree) → NamesAreFree preds → (function : Bool) (name : List ℕ) (k : ℕ) (o : Option PredTree) → find_pred function name k preds ≡ o → IsSome o →
+pub free-found : (preds : List PredTree) → NamesAreFree preds → (function : Bool) (name : List ℕ) (k : ℕ) (o : Option PredTree) → find_pred function name k preds ≡ o → IsSome o →
     is_given function name k ≡ false
 free-found preds free function name k None h some = absurd cc
 free-found preds free function name k (Some pred) h some =

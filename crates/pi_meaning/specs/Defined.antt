@@ -1,10 +1,10 @@
--- Programs for which the built-ins of the tables are enough: they call nothing else but their own predicates and functions. (Own.)
-use Rattle.std.specs.Prelude.{◌≡◌, ◌⊎◌, ◌++◌, ℕ, Bool, false, true, List, length, Contains, IsSome, IsTrue}
+-- Programs that call nothing but their own predicates and functions, the built-ins of the tables, and `call`. (Own.)
+use Rattle.std.specs.Prelude.{◌≡◌, ◌⊎◌, ◌++◌, ◌||◌, ℕ, Bool, false, true, List, length, Contains, IsSome, IsTrue}
 use Rattle.pi_terms.specs.Tree.{Tree}
 use Rattle.pi_core.specs.GoalTree.{GoalTree, call, apply, subgoals}
 use Rattle.pi_core.specs.CoreTree.{ClauseTree, PredTree, QueryTree, find_pred}
 use Rattle.pi_effects.specs.BuiltIns.{is_predicate, is_function}
-use Rattle.pi_meaning.specs.Names.{is_given}
+use Rattle.pi_meaning.specs.Names.{is_call, is_given}
 
 -- each call in a goal is of a predicate of the program or of one that is given so, and each call of a function is of one of the program or of the tables
 pub record CallsAmong (given : List ℕ → ℕ → Bool) (preds : List PredTree) (g : GoalTree) : Type 0 where
@@ -25,18 +25,22 @@ pub record QueryCallsAmong (given : List ℕ → ℕ → Bool) (program : List P
   pub preds : ProgramCallsAmong given (program ++ q.helpers)
   pub goal : CallsAmong given (program ++ q.helpers) q.goal
 
--- they call what they define and the tables' built-ins
+-- the predicates that the machine has: those of the tables, and `call`
+abbrev pub is_machine_predicate : List ℕ → ℕ → Bool
+is_machine_predicate name k = is_call name k || is_predicate name k
+
+-- they call what they define and what the machine has
 abbrev pub CallsDefined : List PredTree → GoalTree → Type 0
-CallsDefined preds g = CallsAmong is_predicate preds g
+CallsDefined preds g = CallsAmong is_machine_predicate preds g
 
 abbrev pub ClauseCallsDefined : List PredTree → ClauseTree → Type 0
-ClauseCallsDefined preds c = ClauseCallsAmong is_predicate preds c
+ClauseCallsDefined preds c = ClauseCallsAmong is_machine_predicate preds c
 
 abbrev pub ProgramCallsDefined : List PredTree → Type 0
-ProgramCallsDefined preds = ProgramCallsAmong is_predicate preds
+ProgramCallsDefined preds = ProgramCallsAmong is_machine_predicate preds
 
 abbrev pub QueryCallsDefined : List PredTree → QueryTree → Type 0
-QueryCallsDefined program q = QueryCallsAmong is_predicate program q
+QueryCallsDefined program q = QueryCallsAmong is_machine_predicate program q
 
 -- no predicate and no function of a program has a name that the language gives
 abbrev pub NamesAreFree : List PredTree → Type 0
