@@ -8,8 +8,7 @@ use Rattle.pi_states.specs.Unify.{unified}
 use Rattle.pi_core.specs.GoalTree.{GoalTree}
 use Rattle.pi_traces.specs.Trace.{end, Raise, done, one, alt, then, first}
 use Rattle.pi_traces.specs.Control.{negated, chosen, collected, counted, caught}
-use Rattle.pi_meaning.specs.View.{View}
-use Rattle.pi_meaning.specs.Instances.{tabled}
+use Rattle.pi_meaning.specs.Builtins.{Builtins}
 use Rattle.pi_meaning.specs.Settle.{settled}
 use Rattle.pi_states.specs.Evaluation.{with_new_variables}
 use Rattle.pi_effects.specs.Exception.{exception_with}
@@ -30,68 +29,68 @@ use Rattle.pi_machine.proofs.AnswerSteps.{goes-on, append-none}
 
 -- ---- no further answer
 
-pub choice-ends : (v : View) (l : Level) (c : Choice) (b : Back) (es : List Entry) → Is v l (choice c b ∷ es) done (choice_step c b es)
+pub choice-ends : (given : Builtins) (l : Level) (c : Choice) (b : Back) (es : List Entry) → Is given l (choice c b ∷ es) done (choice_step c b es)
 unfolding around choice_trace alt
-choice-ends v l (rules_left called cs) b es = rules-tried v l called cs b es
-choice-ends v l (branches_left gs) b es = branch-is v l gs b es
+choice-ends given l (rules_left called cs) b es = rules-tried given l called cs b es
+choice-ends given l (branches_left gs) b es = branch-is given l gs b es
 
 -- a function call without an answer
 pub unresolved-raise : (A : Type 0) (called : Tree) (s : State) → raised_with {A = A} (codes "unresolved_function_call") called s ≡ end (Raise (unresolved called s))
 unfolding raised_with exception_with
 unresolved-raise A called s = refl
 
-pub strict-ends : (v : View) (l : Level) (level : Strict) (b : Back) (es : List Entry) → Is v l (strict level b ∷ es) done (end_step level b es)
+pub strict-ends : (given : Builtins) (l : Level) (level : Strict) (b : Back) (es : List Entry) → Is given l (strict level b ∷ es) done (end_step level b es)
 unfolding around level_trace end_step now_trace then first negated chosen collected counted alt
-strict-ends v l once_level b es = refl
-strict-ends v l not_level b es = ap (λ u. around v l es u []) (goes-on v l b.frames b.slots b.state)
-strict-ends v l (if_level g other) b es = ap (λ u. around v l es u []) (sym (goal-alone v l other b.slots b.state b.frames))
-strict-ends v l (guard_level called c cs) b es = rules-tried v l called cs b es
-strict-ends v l (value_level called into) b es =
-    ap (λ u. around v l es (then u (continued v l b.frames)) []) (unresolved-raise Point called b.state)
-strict-ends v l (list_level slot into got) b es =
-    ap (λ us. around v l es (then (one (with_list (start_of l b) into us)) (continued v l b.frames)) []) (append-none got)
-    ∙ ap (λ u. around v l es u []) (goes-on v l b.frames (slice_set b.slots into (Some (list_of_copies (next b.state) got))) (with_new_variables (new_in_all got) b.state))
-strict-ends v l (number_level into n) b es =
-    ap (λ m. around v l es (then (one (with_slot (start_of l b) into (int (pos m)))) (continued v l b.frames)) []) (omega arith)
-    ∙ ap (λ u. around v l es u []) (goes-on v l b.frames (slice_set b.slots into (Some (int (pos n)))) b.state)
+strict-ends given l once_level b es = refl
+strict-ends given l not_level b es = ap (λ u. around given l es u []) (goes-on given l b.frames b.slots b.state)
+strict-ends given l (if_level g other) b es = ap (λ u. around given l es u []) (sym (goal-alone given l other b.slots b.state b.frames))
+strict-ends given l (guard_level called c cs) b es = rules-tried given l called cs b es
+strict-ends given l (value_level called into) b es =
+    ap (λ u. around given l es (then u (continued given l b.frames)) []) (unresolved-raise Point called b.state)
+strict-ends given l (list_level slot into got) b es =
+    ap (λ us. around given l es (then (one (with_list (start_of l b) into us)) (continued given l b.frames)) []) (append-none got)
+    ∙ ap (λ u. around given l es u []) (goes-on given l b.frames (slice_set b.slots into (Some (list_of_copies (next b.state) got))) (with_new_variables (new_in_all got) b.state))
+strict-ends given l (number_level into n) b es =
+    ap (λ m. around given l es (then (one (with_slot (start_of l b) into (int (pos m)))) (continued given l b.frames)) []) (omega arith)
+    ∙ ap (λ u. around given l es u []) (goes-on given l b.frames (slice_set b.slots into (Some (int (pos n)))) b.state)
 
-pub catch-ends : (v : View) (l : Level) (ball : Tree) (handler : GoalTree) (b : Back) (es : List Entry) → Is v l (catch_level ball handler b ∷ es) done (config failed es)
+pub catch-ends : (given : Builtins) (l : Level) (ball : Tree) (handler : GoalTree) (b : Back) (es : List Entry) → Is given l (catch_level ball handler b ∷ es) done (config failed es)
 unfolding around catch_trace now_trace then caught alt
-catch-ends v l ball handler b es = refl
+catch-ends given l ball handler b es = refl
 
-pub left-ends : (v : View) (l : Level) (es : List Entry) → Is v l (left ∷ es) done (config failed es)
+pub left-ends : (given : Builtins) (l : Level) (es : List Entry) → Is given l (left ∷ es) done (config failed es)
 unfolding around now_trace
-left-ends v l es = exit-passes v l es done []
+left-ends given l es = exit-passes given l es done []
 
 -- ---- exceptions
 
-pub choice-raises : (v : View) (l : Level) (c : Choice) (b : Back) (es : List Entry) (ball : Tree) → Is v l (choice c b ∷ es) (end (Raise ball)) (config (raising ball) es)
+pub choice-raises : (given : Builtins) (l : Level) (c : Choice) (b : Back) (es : List Entry) (ball : Tree) → Is given l (choice c b ∷ es) (end (Raise ball)) (config (raising ball) es)
 unfolding around now_trace alt
-choice-raises v l c b es ball = refl
+choice-raises given l c b es ball = refl
 
-pub strict-raises : (v : View) (l : Level) (level : Strict) (b : Back) (es : List Entry) (ball : Tree) → Is v l (strict level b ∷ es) (end (Raise ball)) (config (raising ball) es)
+pub strict-raises : (given : Builtins) (l : Level) (level : Strict) (b : Back) (es : List Entry) (ball : Tree) → Is given l (strict level b ∷ es) (end (Raise ball)) (config (raising ball) es)
 unfolding around level_trace now_trace then first negated chosen collected counted
-strict-raises v l once_level b es ball = refl
-strict-raises v l not_level b es ball = refl
-strict-raises v l (if_level g other) b es ball = refl
-strict-raises v l (guard_level called c cs) b es ball = refl
-strict-raises v l (value_level called into) b es ball = refl
-strict-raises v l (list_level slot into got) b es ball = refl
-strict-raises v l (number_level into n) b es ball = refl
+strict-raises given l once_level b es ball = refl
+strict-raises given l not_level b es ball = refl
+strict-raises given l (if_level g other) b es ball = refl
+strict-raises given l (guard_level called c cs) b es ball = refl
+strict-raises given l (value_level called into) b es ball = refl
+strict-raises given l (list_level slot into got) b es ball = refl
+strict-raises given l (number_level into n) b es ball = refl
 
-handler-runs : (v : View) (l : Level) (handler : GoalTree) (b : Back) (raised : Tree) (o : Option State) →
-    then (handled_in b.state raised (λ s. meaning (tabled v) handler (point l b.slots s)) o) (continued v l b.frames) ≡ now_trace v l (handler_step handler b raised o)
+handler-runs : (given : Builtins) (l : Level) (handler : GoalTree) (b : Back) (raised : Tree) (o : Option State) →
+    then (handled_in b.state raised (λ s. meaning given handler (point l b.slots s)) o) (continued given l b.frames) ≡ now_trace given l (handler_step handler b raised o)
 unfolding now_trace then alt settled
-handler-runs v l handler b raised None = refl
-handler-runs v l handler b raised (Some s) =
-    ap (λ t. then t (continued v l b.frames)) (alt-done (meaning (tabled v) handler (point l b.slots s))) ∙ sym (goal-alone v l handler b.slots s b.frames)
+handler-runs given l handler b raised None = refl
+handler-runs given l handler b raised (Some s) =
+    ap (λ t. then t (continued given l b.frames)) (alt-done (meaning given handler (point l b.slots s))) ∙ sym (goal-alone given l handler b.slots s b.frames)
 
-pub catch-raises : (v : View) (l : Level) (ball : Tree) (handler : GoalTree) (b : Back) (es : List Entry) (raised : Tree) →
-    Is v l (catch_level ball handler b ∷ es) (end (Raise raised))
+pub catch-raises : (given : Builtins) (l : Level) (ball : Tree) (handler : GoalTree) (b : Back) (es : List Entry) (raised : Tree) →
+    Is given l (catch_level ball handler b ∷ es) (end (Raise raised))
     (config (handler_step handler b raised (unified (with_new_variables (new_variables raised) b.state) ball (copy (next b.state) raised))) es)
 unfolding around catch_trace caught alt
-catch-raises v l ball handler b es raised =
-    ap (λ u. around v l es u []) (handler-runs v l handler b raised (unified (with_new_variables (new_variables raised) b.state) ball (copy (next b.state) raised)))
+catch-raises given l ball handler b es raised =
+    ap (λ u. around given l es u []) (handler-runs given l handler b raised (unified (with_new_variables (new_variables raised) b.state) ball (copy (next b.state) raised)))
 
 -- the catch that was left below so many marks
 unfoldable pub IsMatched : ℕ → List Entry → Open → Type 0
@@ -115,16 +114,16 @@ left-matched (suc n) (catch_level ball handler b ∷ es) h =
     matched-beneath n (suc n) (catch_level ball handler b) es (λ above a. a) (newest_open n es) (left-matched n es h)
 left-matched n (left ∷ es) h = matched-beneath (suc n) n left es (λ above a. a) (newest_open (suc n) es) (left-matched (suc n) es h)
 
-left-raises-below : (v : View) (l : Level) (es : List Entry) (ball : Tree) (o : Open) → IsMatched 0 es o →
-    around v l es done (end (Raise ball) ∷ []) ≡ around v l (below_left o es) (end (Raise ball)) []
+left-raises-below : (given : Builtins) (l : Level) (es : List Entry) (ball : Tree) (o : Open) → IsMatched 0 es o →
+    around given l es done (end (Raise ball) ∷ []) ≡ around given l (below_left o es) (end (Raise ball)) []
 unfolding IsMatched around alt
-left-raises-below v l es ball none_open h = absurd h
-left-raises-below v l es ball (strict_open above level b below) h = absurd h
-left-raises-below v l es ball (catch_open above t handler b below) h =
-    let r : Reach v l above done = reach v l above h.1 done in
-    ap (λ xs. around v l xs done (end (Raise ball) ∷ [])) h.0 ∙ r.1 done (end (Raise ball) ∷ []) (catch_level t handler b ∷ below)
+left-raises-below given l es ball none_open h = absurd h
+left-raises-below given l es ball (strict_open above level b below) h = absurd h
+left-raises-below given l es ball (catch_open above t handler b below) h =
+    let r : Reach given l above done = reach given l above h.1 done in
+    ap (λ xs. around given l xs done (end (Raise ball) ∷ [])) h.0 ∙ r.1 done (end (Raise ball) ∷ []) (catch_level t handler b ∷ below)
 
-pub left-raises : (v : View) (l : Level) (es : List Entry) → IsBalanced 1 es → (ball : Tree) →
-    Is v l (left ∷ es) (end (Raise ball)) (config (raising ball) (below_left (newest_open zero es) es))
+pub left-raises : (given : Builtins) (l : Level) (es : List Entry) → IsBalanced 1 es → (ball : Tree) →
+    Is given l (left ∷ es) (end (Raise ball)) (config (raising ball) (below_left (newest_open zero es) es))
 unfolding around now_trace
-left-raises v l es h ball = left-raises-below v l es ball (newest_open zero es) (left-matched 0 es h)
+left-raises given l es h ball = left-raises-below given l es ball (newest_open zero es) (left-matched 0 es h)

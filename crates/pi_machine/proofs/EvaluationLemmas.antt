@@ -100,14 +100,14 @@ in_front_of x all = record { trees = tree x.tree all.trees; slots = all.slots; s
 mutual
   unfolding evaluated
 
-  filled-again : (f : Places) (t u : Tree) → Filled f t u → (q : State) → evaluated t f q ≡ record { tree = u; slots = f; state = q }
+  pub filled-again : (f : Places) (t u : Tree) → Filled f t u → (q : State) → evaluated t f q ≡ record { tree = u; slots = f; state = q }
   filled-again f _ _ (in_slot k u h) q = ap (λ o. slot_term o k f q) h
   filled-again f _ _ (is_int n) q = refl
   filled-again f _ _ (is_atom name) q = refl
   filled-again f _ _ (is_comp name {ts = ts} {us = us} a) q =
       ap (λ (all : EvaluatedAll). record { tree = comp name all.trees; slots = all.slots; state = all.state }) (all-filled-again f ts us a q)
 
-  all-filled-again : (f : Places) (ts us : Trees) → AllFilled f ts us → (q : State) → evaluated_all ts f q ≡ record { trees = us; slots = f; state = q }
+  pub all-filled-again : (f : Places) (ts us : Trees) → AllFilled f ts us → (q : State) → evaluated_all ts f q ≡ record { trees = us; slots = f; state = q }
   all-filled-again f _ _ none q = refl
   all-filled-again f _ _ (one_more {t = t} {u = u} {ts = ts} {us = us} a b) q =
       ap (λ (x : Evaluated). in_front_of x (evaluated_all ts x.slots x.state)) (filled-again f t u a q)

@@ -7,12 +7,13 @@ use Rattle.pi_states.specs.State.{State, bindings}
 use Rattle.pi_core.specs.GoalTree.{GoalTree, truth, fail, tick, call, apply, seq, alternatives, if_else, not, once, collect, count, catch, GoalTrees, no_goals, goal}
 use Rattle.pi_core.specs.CoreTree.{ClauseTree, PredTree, find_pred, leaves_others}
 use Rattle.pi_meaning.specs.View.{View}
+use Rattle.pi_meaning.specs.Names.{is_later_predicate, is_later_function, is_resource, is_call}
 use Rattle.pi_states.specs.Evaluation.{EvaluatedAll, evaluated_all}
 use Rattle.pi_states.specs.HeadMatch.{matched_all_in}
 use Rattle.pi_meaning.specs.Run.{Solution}
 use Rattle.pi_core.specs.declared.core_program.NameSlot.{NameSlot}
 use Rattle.pi_machine.specs.Configuration.{Frame, more, return, give, Back, Called, Choice, rules_left, branches_left, Strict, once_level, not_level, if_level, guard_level, value_level, list_level, number_level, Entry, choice, strict, catch_level, left, Now, going, failed, raising, Config, behind, telling}
-use Rattle.pi_machine.specs.Step.{back_to, branch, guarding, tried, try_rules, later_rules, call_step, predicate_step, effect_step, function_step, value_step, goal_step, frame_step, Open, none_open, strict_open, catch_open, newest_open, strict_step, leave, fits, told_step, answer_step, choice_step, end_step, fail_step, below_left, raise_step, now_step, step}
+use Rattle.pi_machine.specs.Step.{back_to, branch, guarding, tried, try_rules, later_rules, call_step, predicate_step, effect_step, function_step, value_step, goal_step, frame_step, Open, none_open, strict_open, catch_open, newest_open, strict_step, leave, fits, told_step, answer_step, choice_step, end_step, fail_step, below_left, raise_step, now_step, step, later_step, name_step, later_value, other_value}
 use Rattle.pi_machine.specs.Shape.{IsBalanced, IsGood}
 use Rattle.pi_machine.specs.StepLaws.{GoesOnGood}
 use Rattle.pi_machine.proofs.StackLemmas.{IsClosed, IsFound, newest-found}
@@ -92,20 +93,40 @@ predicate-good : (o : Option PredTree) (all : EvaluatedAll) (k : List Frame) (es
 predicate-good None all k es h = record { balanced = h }
 predicate-good (Some pred) all k es h = call-good pred.quiet _ (record { balanced = rules-keep _ _ _ _ h })
 
+later-good : (later : Bool) (preds : List PredTree) (name : List ℕ) (all : EvaluatedAll) (k : List Frame) (es : List Entry) → IsBalanced 0 es →
+    GoesOnGood (later_step later preds name all k es)
+later-good true preds name all k es h = record { balanced = h }
+later-good false preds name all k es h = predicate-good (find_pred false name (tree_count all.trees) preds) all k es h
+
 effect-good : (v : View) (o : Option Effect) (preds : List PredTree) (name : List ℕ) (all : EvaluatedAll) (gs : GoalTrees) (k : List Frame) (es : List Entry) → IsBalanced 0 es →
     GoesOnGood (effect_step v o preds name all gs k es)
-effect-good v None preds name all gs k es h = predicate-good (find_pred false name (tree_count all.trees) preds) all (behind gs k) es h
+effect-good v None preds name all gs k es h = later-good (is_later_predicate name (tree_count all.trees)) preds name all (behind gs k) es h
 effect-good v (Some d) preds name all gs k es h = record { balanced = h }
+
+name-good : (called : Bool) (v : View) (preds : List PredTree) (name : List ℕ) (all : EvaluatedAll) (gs : GoalTrees) (k : List Frame) (es : List Entry) → IsBalanced 0 es →
+    GoesOnGood (name_step called v preds name all gs k es)
+name-good true v preds name all gs k es h = record { balanced = h }
+name-good false v preds name all gs k es h = effect-good v (built_in_predicate name all.trees all.state) preds name all gs k es h
 
 function-good : (o : Option PredTree) (all : EvaluatedAll) (into : ℕ) (k : List Frame) (es : List Entry) → IsBalanced 0 es → GoesOnGood (function_step o all into k es)
 unfolding IsBalanced
 function-good None all into k es h = record { balanced = h }
 function-good (Some pred) all into k es h = call-good pred.quiet _ (record { balanced = rules-keep _ _ _ _ h })
 
-value-good : (o : Option FunctionEffect) (preds : List PredTree) (name : List ℕ) (all : EvaluatedAll) (into : ℕ) (gs : GoalTrees) (k : List Frame) (es : List Entry) → IsBalanced 0 es →
-    GoesOnGood (value_step o preds name all into gs k es)
-value-good None preds name all into gs k es h = function-good (find_pred true name (tree_count all.trees) preds) all into (behind gs k) es h
-value-good (Some d) preds name all into gs k es h = record { balanced = h }
+later-value-good : (later : Bool) (preds : List PredTree) (name : List ℕ) (all : EvaluatedAll) (into : ℕ) (k : List Frame) (es : List Entry) → IsBalanced 0 es →
+    GoesOnGood (later_value later preds name all into k es)
+later-value-good true preds name all into k es h = record { balanced = h }
+later-value-good false preds name all into k es h = function-good (find_pred true name (tree_count all.trees) preds) all into k es h
+
+other-value-good : (resource : Bool) (v : View) (preds : List PredTree) (name : List ℕ) (all : EvaluatedAll) (into : ℕ) (gs : GoalTrees) (k : List Frame) (es : List Entry) → IsBalanced 0 es →
+    GoesOnGood (other_value resource v preds name all into gs k es)
+other-value-good true v preds name all into gs k es h = record { balanced = h }
+other-value-good false v preds name all into gs k es h = later-value-good (is_later_function name (tree_count all.trees)) preds name all into (behind gs k) es h
+
+value-good : (v : View) (o : Option FunctionEffect) (preds : List PredTree) (name : List ℕ) (all : EvaluatedAll) (into : ℕ) (gs : GoalTrees) (k : List Frame) (es : List Entry) → IsBalanced 0 es →
+    GoesOnGood (value_step v o preds name all into gs k es)
+value-good v None preds name all into gs k es h = other-value-good (is_resource name (tree_count all.trees)) v preds name all into gs k es h
+value-good v (Some d) preds name all into gs k es h = record { balanced = h }
 
 goal-good : (v : View) (preds : List PredTree) (g : GoalTree) (gs : GoalTrees) (e : Places) (s : State) (k : List Frame) (es : List Entry) → IsBalanced 0 es →
     GoesOnGood (goal_step v preds g gs e s k es)
@@ -114,9 +135,9 @@ goal-good v preds truth gs e s k es h = record { balanced = h }
 goal-good v preds fail gs e s k es h = record { balanced = h }
 goal-good v preds tick gs e s k es h = record { balanced = h }
 goal-good v preds (call name args) gs e s k es h =
-    let all : EvaluatedAll = evaluated_all (trees_of args) e s in effect-good v (built_in_predicate name all.trees all.state) preds name all gs k es h
+    let all : EvaluatedAll = evaluated_all (trees_of args) e s in name-good (is_call name (tree_count all.trees)) v preds name all gs k es h
 goal-good v preds (apply name args into) gs e s k es h =
-    let all : EvaluatedAll = evaluated_all (trees_of args) e s in value-good (built_in_function name all.trees all.state) preds name all into gs k es h
+    let all : EvaluatedAll = evaluated_all (trees_of args) e s in value-good v (built_in_function name all.trees all.state) preds name all into gs k es h
 goal-good v preds (seq hs) gs e s k es h = record { balanced = h }
 goal-good v preds (alternatives hs) gs e s k es h = record { balanced = branch-keeps hs (back_to e s (behind gs k)) es h }
 goal-good v preds (if_else test g other) gs e s k es h = record { balanced = h }

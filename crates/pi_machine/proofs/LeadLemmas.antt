@@ -6,17 +6,18 @@ use Rattle.pi_core.specs.CoreTree.{PredTree, QueryTree}
 use Rattle.pi_traces.specs.Trace.{Trace, end, note, ans, End, Deep, Note, Tick, Emitted, noted, answered, then, emit, end_of, events_of, Out}
 use Rattle.pi_traces.specs.Depth.{Below, same_note, DepthOnlyAdds}
 use Rattle.pi_meaning.specs.View.{View}
-use Rattle.pi_meaning.specs.Instances.{tabled}
+use Rattle.pi_meaning.specs.Builtins.{Builtins, BuiltinsOnlyAdd}
+use Rattle.pi_meaning.specs.Instances.{no_later, whole}
 use Rattle.pi_meaning.specs.Rules.{level_at}
 use Rattle.pi_meaning.specs.Run.{Solution, answered_with, query_trace}
 use Rattle.pi_core.specs.declared.core_program.NameSlot.{NameSlot}
 use Rattle.pi_traces.proofs.TraceLemmas.{emit-append}
 use Rattle.pi_traces.proofs.BelowLemmas.{below-refl, below-trans, below-whole, below-emit, below-events, below-later}
 use Rattle.pi_meaning.proofs.RuleLemmas.{level-below}
-use Rattle.pi_meaning.proofs.CallLemmas.{tabled-adds}
+use Rattle.pi_meaning.proofs.CallLemmas.{no-later-adds, whole-adds}
 use Rattle.pi_machine.specs.Configuration.{Config}
 use Rattle.pi_machine.specs.Remaining.{around, now_trace, remaining_at, remaining}
-use Rattle.pi_machine.specs.Step.{silently, with_tick, quietly, answering, ending, step, start, writing}
+use Rattle.pi_machine.specs.Step.{silently, with_tick, quietly, answering, ending, step, start, writing, deeper}
 use Rattle.pi_machine.specs.Shape.{IsBalanced, IsGood}
 use Rattle.pi_machine.specs.Built.{AreOfRules}
 use Rattle.pi_machine.specs.StepLaws.{Comes, GoesOnGood}
@@ -29,16 +30,19 @@ use Rattle.pi_machine.proofs.GoodSteps.{step-good}
 use Rattle.pi_machine.proofs.WeightSteps.{step-lighter}
 
 pub remaining-deeper : (v : View) (preds : List PredTree) (names : List NameSlot) (c : Config) → DepthOnlyAdds (λ d. remaining v preds names d c)
-remaining-deeper v preds names c d = remaining-below v (level_at (tabled v) preds d) (level_at (tabled v) preds (suc d)) (level-below (tabled v) (tabled-adds v) preds d) names c
+remaining-deeper v preds names c d =
+    let given : Builtins = whole v no_later preds in
+    let adds : BuiltinsOnlyAdd given = whole-adds v no_later preds no-later-adds in
+    remaining-below given adds (level_at given preds d) (level_at given preds (suc d)) (level-below given adds preds d) names c
 
 -- at each depth from one on
 later : (v : View) (preds : List PredTree) (names : List NameSlot) (c : Config) (d more : ℕ) → Below (remaining v preds names d c) (remaining v preds names (d + more) c)
 later v preds names c d more = below-later (λ d. remaining v preds names d c) (remaining-deeper v preds names c) d more (d + more) refl
 
-pub starts : (v : View) (program : List PredTree) (q : QueryTree) (d : ℕ) → remaining v (program ++ q.helpers) q.names d (start q) ≡ query_trace (tabled v) program q d
+pub starts : (v : View) (program : List PredTree) (q : QueryTree) (d : ℕ) → remaining v (program ++ q.helpers) q.names d (start q) ≡ query_trace (whole v no_later (program ++ q.helpers)) program q d
 unfolding remaining_at around now_trace query_trace
 starts v program q d =
-    ap (λ t. then t (answered_with q.names)) (goal-strict v (level_at (tabled v) (program ++ q.helpers) d) q.goal (replicate q.slots None) empty_state)
+    ap (λ t. then t (answered_with q.names)) (goal-strict (whole v no_later (program ++ q.helpers)) (level_at (whole v no_later (program ++ q.helpers)) (program ++ q.helpers) d) q.goal (replicate q.slots None) empty_state)
 
 pub start-good : (q : QueryTree) → IsGood (start q)
 unfolding IsBalanced
@@ -153,6 +157,9 @@ step-ticks v preds names c after sound good h = tick-leads_on v preds names c af
 pub step-enters : (v : View) (preds : List PredTree) (names : List NameSlot) (c after : Config) → AreOfRules preds → IsGood c → step v preds names c ≡ quietly after → Leads v preds names [] c after
 step-enters v preds names c after sound good h = quiet-leads v preds names c after (subst (Comes v preds names c) h (step-comes v preds names c sound good))
 
+pub step-deepens : (v : View) (preds : List PredTree) (names : List NameSlot) (c after : Config) → AreOfRules preds → IsGood c → step v preds names c ≡ deeper after → Leads v preds names [] c after
+step-deepens v preds names c after sound good h = quiet-leads v preds names c after (subst (Comes v preds names c) h (step-comes v preds names c sound good))
+
 pub step-answers : (v : View) (preds : List PredTree) (names : List NameSlot) (c after : Config) (x : Solution) → AreOfRules preds → IsGood c → step v preds names c ≡ answering x after →
     Leads v preds names (answered x ∷ []) c after
 step-answers v preds names c after x sound good h = answer-leads v preds names c after x (subst (Comes v preds names c) h (step-comes v preds names c sound good))
@@ -186,6 +193,9 @@ good-silent v preds names c after good h = subst GoesOnGood h (step-good v preds
 
 pub good-tick : (v : View) (preds : List PredTree) (names : List NameSlot) (c after : Config) → IsGood c → step v preds names c ≡ with_tick after → IsGood after
 good-tick v preds names c after good h = subst GoesOnGood h (step-good v preds names c good)
+
+pub good-deeper : (v : View) (preds : List PredTree) (names : List NameSlot) (c after : Config) → IsGood c → step v preds names c ≡ deeper after → IsGood after
+good-deeper v preds names c after good h = subst GoesOnGood h (step-good v preds names c good)
 
 pub good-answer : (v : View) (preds : List PredTree) (names : List NameSlot) (c after : Config) (x : Solution) → IsGood c → step v preds names c ≡ answering x after → IsGood after
 good-answer v preds names c after x good h = subst GoesOnGood h (step-good v preds names c good)

@@ -18,3 +18,7 @@ pub mod EvaluationLemmas
 pub mod MachineExamples
 pub mod LaterStates
 pub mod CallFound
+pub mod NamedWeights
+pub mod NamesGiven
+pub mod TermSteps
+pub mod NamedRuns

@@ -9,17 +9,18 @@ use Rattle.pi_core.specs.CoreTree.{PredTree, QueryTree, find_pred}
 use Rattle.pi_traces.specs.Trace.{Trace, end, note, End, Deep, Tick, Emitted, emit, end_of, count_ticks, ticks}
 use Rattle.pi_traces.specs.Depth.{Below, Cut, Ended, Spent, with_events, cut, CutWithoutDeep}
 use Rattle.pi_meaning.specs.View.{View}
-use Rattle.pi_meaning.specs.Instances.{tabled}
+use Rattle.pi_meaning.specs.Names.{is_later_predicate, is_later_function, is_resource, is_call}
+use Rattle.pi_meaning.specs.Instances.{no_later, whole}
 use Rattle.pi_states.specs.Evaluation.{EvaluatedAll, evaluated_all}
 use Rattle.pi_meaning.specs.Run.{Solution, query_trace, IsRunUnder}
 use Rattle.pi_core.specs.declared.core_program.NameSlot.{NameSlot}
 use Rattle.pi_traces.proofs.BelowLemmas.{below-events}
 use Rattle.pi_traces.proofs.CutLemmas.{cut-below, cut-emit, cut-all, cut-at_tick}
 use Rattle.pi_meaning.proofs.QueryLemmas.{run-deeper}
-use Rattle.pi_meaning.proofs.CallLemmas.{tabled-adds}
+use Rattle.pi_meaning.proofs.CallLemmas.{no-later-adds, whole-adds}
 use Rattle.pi_machine.specs.Configuration.{Frame, Entry, choice, strict, catch_level, left, Now, going, failed, raising, Config, behind, telling}
 use Rattle.pi_machine.specs.Remaining.{remaining}
-use Rattle.pi_machine.specs.Step.{Outcome, silently, with_tick, quietly, answering, ending, call_step, predicate_step, effect_step, function_step, value_step, goal_step, Open, none_open, strict_open, catch_open, newest_open, fits, told_step, answer_step, fail_step, raise_step, now_step, step, start, writing}
+use Rattle.pi_machine.specs.Step.{Outcome, silently, with_tick, quietly, answering, ending, call_step, predicate_step, effect_step, function_step, value_step, goal_step, Open, none_open, strict_open, catch_open, newest_open, fits, told_step, answer_step, fail_step, raise_step, now_step, step, start, writing, deeper, later_step, name_step, later_value, other_value}
 use Rattle.pi_machine.specs.Shape.{IsGood}
 use Rattle.pi_machine.specs.Built.{AreOfRules, AreCounted}
 use Rattle.pi_machine.specs.StepLaws.{Comes, GoesOnGood}
@@ -40,6 +41,7 @@ abbrev pub IsProper : Outcome → Type 0
 IsProper (silently next) = ⊤
 IsProper (with_tick next) = ⊤
 IsProper (quietly next) = ⊥
+IsProper (deeper next) = ⊤
 IsProper (writing text next) = ⊤
 IsProper (answering x next) = ⊤
 IsProper (ending e) = e ≢ Deep
@@ -54,10 +56,20 @@ predicate-proper name preds counted all k es None h = tt
 predicate-proper name preds counted all k es (Some pred) h =
     call-proper pred.quiet (found-counted false name (tree_count all.trees) preds pred counted h) _
 
+later-proper : (name : List ℕ) (preds : List PredTree) → AreCounted preds → (all : EvaluatedAll) (k : List Frame) (es : List Entry) (later : Bool) →
+    IsProper (later_step later preds name all k es)
+later-proper name preds counted all k es true = tt
+later-proper name preds counted all k es false = predicate-proper name preds counted all k es (find_pred false name (tree_count all.trees) preds) refl
+
 effect-proper : (v : View) (name : List ℕ) (preds : List PredTree) → AreCounted preds → (all : EvaluatedAll) (gs : GoalTrees) (k : List Frame) (es : List Entry) (o : Option Effect) →
     IsProper (effect_step v o preds name all gs k es)
-effect-proper v name preds counted all gs k es None = predicate-proper name preds counted all (behind gs k) es (find_pred false name (tree_count all.trees) preds) refl
+effect-proper v name preds counted all gs k es None = later-proper name preds counted all (behind gs k) es (is_later_predicate name (tree_count all.trees))
 effect-proper v name preds counted all gs k es (Some d) = tt
+
+name-proper : (v : View) (name : List ℕ) (preds : List PredTree) → AreCounted preds → (all : EvaluatedAll) (gs : GoalTrees) (k : List Frame) (es : List Entry) (called : Bool) →
+    IsProper (name_step called v preds name all gs k es)
+name-proper v name preds counted all gs k es true = tt
+name-proper v name preds counted all gs k es false = effect-proper v name preds counted all gs k es (built_in_predicate name all.trees all.state)
 
 function-proper : (name : List ℕ) (preds : List PredTree) → AreCounted preds → (all : EvaluatedAll) (into : ℕ) (k : List Frame) (es : List Entry) (o : Option PredTree) →
     find_pred true name (tree_count all.trees) preds ≡ o → IsProper (function_step o all into k es)
@@ -65,10 +77,20 @@ function-proper name preds counted all into k es None h = tt
 function-proper name preds counted all into k es (Some pred) h =
     call-proper pred.quiet (found-counted true name (tree_count all.trees) preds pred counted h) _
 
-value-proper : (name : List ℕ) (preds : List PredTree) → AreCounted preds → (all : EvaluatedAll) (into : ℕ) (gs : GoalTrees) (k : List Frame) (es : List Entry) (o : Option FunctionEffect) →
-    IsProper (value_step o preds name all into gs k es)
-value-proper name preds counted all into gs k es None = function-proper name preds counted all into (behind gs k) es (find_pred true name (tree_count all.trees) preds) refl
-value-proper name preds counted all into gs k es (Some d) = tt
+later-value-proper : (name : List ℕ) (preds : List PredTree) → AreCounted preds → (all : EvaluatedAll) (into : ℕ) (k : List Frame) (es : List Entry) (later : Bool) →
+    IsProper (later_value later preds name all into k es)
+later-value-proper name preds counted all into k es true = tt
+later-value-proper name preds counted all into k es false = function-proper name preds counted all into k es (find_pred true name (tree_count all.trees) preds) refl
+
+other-value-proper : (v : View) (name : List ℕ) (preds : List PredTree) → AreCounted preds → (all : EvaluatedAll) (into : ℕ) (gs : GoalTrees) (k : List Frame) (es : List Entry) (resource : Bool) →
+    IsProper (other_value resource v preds name all into gs k es)
+other-value-proper v name preds counted all into gs k es true = tt
+other-value-proper v name preds counted all into gs k es false = later-value-proper name preds counted all into (behind gs k) es (is_later_function name (tree_count all.trees))
+
+value-proper : (v : View) (name : List ℕ) (preds : List PredTree) → AreCounted preds → (all : EvaluatedAll) (into : ℕ) (gs : GoalTrees) (k : List Frame) (es : List Entry) (o : Option FunctionEffect) →
+    IsProper (value_step v o preds name all into gs k es)
+value-proper v name preds counted all into gs k es None = other-value-proper v name preds counted all into gs k es (is_resource name (tree_count all.trees))
+value-proper v name preds counted all into gs k es (Some d) = tt
 
 goal-proper : (v : View) (preds : List PredTree) → AreCounted preds → (g : GoalTree) (gs : GoalTrees) (e : Places) (s : State) (k : List Frame) (es : List Entry) →
     IsProper (goal_step v preds g gs e s k es)
@@ -77,9 +99,9 @@ goal-proper v preds counted truth gs e s k es = tt
 goal-proper v preds counted fail gs e s k es = tt
 goal-proper v preds counted tick gs e s k es = tt
 goal-proper v preds counted (call name args) gs e s k es =
-    let all : EvaluatedAll = evaluated_all (trees_of args) e s in effect-proper v name preds counted all gs k es (built_in_predicate name all.trees all.state)
+    let all : EvaluatedAll = evaluated_all (trees_of args) e s in name-proper v name preds counted all gs k es (is_call name (tree_count all.trees))
 goal-proper v preds counted (apply name args into) gs e s k es =
-    let all : EvaluatedAll = evaluated_all (trees_of args) e s in value-proper name preds counted all into gs k es (built_in_function name all.trees all.state)
+    let all : EvaluatedAll = evaluated_all (trees_of args) e s in value-proper v name preds counted all into gs k es (built_in_function name all.trees all.state)
 goal-proper v preds counted (seq hs) gs e s k es = tt
 goal-proper v preds counted (alternatives hs) gs e s k es = tt
 goal-proper v preds counted (if_else test g other) gs e s k es = tt
@@ -158,6 +180,9 @@ outcome-reaches v preds names n ticks w c h rec (silently after) comes good ligh
     (r.0, subst (λ t. CutWithoutDeep n t) (sym (comes r.0)) r.1)
 outcome-reaches v preds names n ticks w c h rec (with_tick after) comes good lighter proper = tick-reaches v preds names n c after comes (ticks after good)
 outcome-reaches v preds names n ticks w c h rec (quietly after) comes good lighter proper = absurd proper
+outcome-reaches v preds names n ticks w c h rec (deeper after) comes good lighter proper =
+    let r : DepthReaches v preds names n after = rec after (omega arith) good in
+    (suc r.0, above-cut n (remaining v preds names r.0 after) (remaining v preds names (suc r.0) c) (comes r.0) r.1)
 outcome-reaches v preds names n ticks w c h rec (writing text after) comes good lighter proper =
     let r : DepthReaches v preds names n after = rec after (omega arith) good in
     (r.0, subst (λ t. CutWithoutDeep n t) (sym (comes r.0)) r.1)
@@ -187,14 +212,14 @@ ended-same e f h = cc
 
 pub ended-run : (v : View) (program : List PredTree) (q : QueryTree) (events : List (Emitted Solution)) (c : Config) (e : End) (n : ℕ) →
     Leads v (program ++ q.helpers) q.names events (start q) c → IsAtEnd v (program ++ q.helpers) q.names e c → count_ticks events ≤ n →
-    IsRunUnder (tabled v) program q n (record { events = events; stop = Ended e })
+    IsRunUnder (whole v no_later (program ++ q.helpers)) program q n (record { events = events; stop = Ended e })
 ended-run v program q events c e n h k less =
     let all : (depth : ℕ) × ((more : ℕ) → remaining v (program ++ q.helpers) q.names (depth + more) (start q) ≡ emit events (end e)) =
     ended-all v (program ++ q.helpers) q.names events (start q) c e h k in
     let depth : ℕ = all.0 + 0 in
-    let trace : query_trace (tabled v) program q depth ≡ emit events (end e) = sym (starts v program q depth) ∙ all.1 0 in
+    let trace : query_trace (whole v no_later (program ++ q.helpers)) program q depth ≡ emit events (end e) = sym (starts v program q depth) ∙ all.1 0 in
     let few : ticks (emit events (end e)) ≤ n = subst (λ es. count_ticks es ≤ n) (sym (events-before events e)) less in
-    let is_cut : record { events = events; stop = Ended e } ≡ cut n (query_trace (tabled v) program q depth) =
+    let is_cut : record { events = events; stop = Ended e } ≡ cut n (query_trace (whole v no_later (program ++ q.helpers)) program q depth) =
     sym (ap (cut n) trace ∙ (cut-all n (emit events (end e)) few
     ∙ (ap (λ es. record { events = es; stop = Ended (end_of (emit events (end e))) }) (events-before events e)
     ∙ ap (λ x. record { events = events; stop = Ended x }) (end-behind events e)))) in
@@ -205,41 +230,41 @@ spent-not_deep h = cc
 
 pub spent-run : (v : View) (program : List PredTree) (q : QueryTree) (events : List (Emitted Solution)) (c : Config) →
     Leads v (program ++ q.helpers) q.names events (start q) c → IsAtTick v (program ++ q.helpers) q.names c →
-    IsRunUnder (tabled v) program q (count_ticks events) (record { events = events; stop = Spent })
+    IsRunUnder (whole v no_later (program ++ q.helpers)) program q (count_ticks events) (record { events = events; stop = Spent })
 spent-run v program q events c h k =
     let all : (depth : ℕ) × ((more : ℕ) → (rest : Trace Solution) × (remaining v (program ++ q.helpers) q.names (depth + more) (start q) ≡ emit events (note Tick rest))) =
     tick-begins v (program ++ q.helpers) q.names events (start q) c h k in
     let depth : ℕ = all.0 + 0 in
     let begins : (rest : Trace Solution) × (remaining v (program ++ q.helpers) q.names depth (start q) ≡ emit events (note Tick rest)) = all.1 0 in
-    let is_cut : record { events = events; stop = Spent } ≡ cut (count_ticks events) (query_trace (tabled v) program q depth) =
+    let is_cut : record { events = events; stop = Spent } ≡ cut (count_ticks events) (query_trace (whole v no_later (program ++ q.helpers)) program q depth) =
     sym (ap (cut (count_ticks events)) (sym (starts v program q depth) ∙ begins.1) ∙ cut-at_tick events begins.0) in
     record { depth = depth; reaches = λ deep. spent-not_deep (ap (λ c. c.stop) is_cut ∙ deep); is_cut = is_cut }
 
 -- a query's run at a greater depth
-run-later : (v : View) (program : List PredTree) (q : QueryTree) (n : ℕ) (run : Cut Solution) → (r : IsRunUnder (tabled v) program q n run) → (more later : ℕ) → more + r.depth ≡ later →
-    cut n (query_trace (tabled v) program q later) ≡ run
+run-later : (v : View) (program : List PredTree) (q : QueryTree) (n : ℕ) (run : Cut Solution) → (r : IsRunUnder (whole v no_later (program ++ q.helpers)) program q n run) → (more later : ℕ) → more + r.depth ≡ later →
+    cut n (query_trace (whole v no_later (program ++ q.helpers)) program q later) ≡ run
 run-later v program q n run r more later e =
-    subst (λ d. cut n (query_trace (tabled v) program q d) ≡ run) (omega arith) (run-deeper (tabled v) (tabled-adds v) program q n run r more)
+    subst (λ d. cut n (query_trace (whole v no_later (program ++ q.helpers)) program q d) ≡ run) (omega arith) (run-deeper (whole v no_later (program ++ q.helpers)) (whole-adds v no_later (program ++ q.helpers) no-later-adds) program q n run r more)
 
 pub run-prefix : (v : View) (program : List PredTree) (q : QueryTree) (events : List (Emitted Solution)) (c : Config) (n : ℕ) (run : Cut Solution) →
-    Leads v (program ++ q.helpers) q.names events (start q) c → IsRunUnder (tabled v) program q (count_ticks events + n) run →
+    Leads v (program ++ q.helpers) q.names events (start q) c → IsRunUnder (whole v no_later (program ++ q.helpers)) program q (count_ticks events + n) run →
     (rest : Cut Solution) × (run ≡ with_events events rest)
 run-prefix v program q events c n run h r =
     let preds : List PredTree = program ++ q.helpers in
     let depth : ℕ = h.depth 0 + r.depth in
     let t : Trace Solution = remaining v preds q.names 0 c in
-    let below : Below (emit events t) (query_trace (tabled v) program q depth) =
+    let below : Below (emit events t) (query_trace (whole v no_later (program ++ q.helpers)) program q depth) =
     subst (λ u. Below (emit events t) u) (starts v program q depth) (led v preds q.names events (start q) c h 0 r.depth) in
-    let found : (rest : Trace Solution) × (query_trace (tabled v) program q depth ≡ emit events rest) × Below t rest = below-events events t (query_trace (tabled v) program q depth) below in (
+    let found : (rest : Trace Solution) × (query_trace (whole v no_later (program ++ q.helpers)) program q depth ≡ emit events rest) × Below t rest = below-events events t (query_trace (whole v no_later (program ++ q.helpers)) program q depth) below in (
       cut n found.0,
       sym (run-later v program q (count_ticks events + n) run r (h.depth 0) depth refl)
           ∙ (ap (cut (count_ticks events + n)) found.1 ∙ cut-emit events n found.0),
     )
 
 -- the run of a query before each Tick
-pub each-run : (v : View) (program : List PredTree) (q : QueryTree) → AreOfRules (program ++ q.helpers) → AreCounted (program ++ q.helpers) → (n : ℕ) → (run : Cut Solution) × IsRunUnder (tabled v) program q n run
+pub each-run : (v : View) (program : List PredTree) (q : QueryTree) → AreOfRules (program ++ q.helpers) → AreCounted (program ++ q.helpers) → (n : ℕ) → (run : Cut Solution) × IsRunUnder (whole v no_later (program ++ q.helpers)) program q n run
 each-run v program q sound counted n =
     let k : DepthReaches v (program ++ q.helpers) q.names n (start q) = depth-suffices v (program ++ q.helpers) q.names (start q) sound counted (start-good q) n in (
-      cut n (query_trace (tabled v) program q k.0),
+      cut n (query_trace (whole v no_later (program ++ q.helpers)) program q k.0),
       record { depth = k.0; reaches = subst (λ t. CutWithoutDeep n t) (starts v program q k.0) k.1; is_cut = refl },
     )

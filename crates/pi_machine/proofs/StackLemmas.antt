@@ -5,7 +5,7 @@ use Rattle.pi_terms.specs.Tree.{Tree}
 use Rattle.pi_core.specs.GoalTree.{GoalTree}
 use Rattle.pi_traces.specs.Trace.{Trace, note, Note, done, alt, then, first}
 use Rattle.pi_traces.specs.Control.{negated, chosen, collected, counted, caught}
-use Rattle.pi_meaning.specs.View.{View}
+use Rattle.pi_meaning.specs.Builtins.{Builtins}
 use Rattle.pi_meaning.specs.Level.{Level, Point}
 use Rattle.pi_traces.proofs.TraceLemmas.{alt-assoc}
 use Rattle.pi_machine.specs.Configuration.{Back, Choice, Strict, once_level, not_level, if_level, guard_level, value_level, list_level, number_level, Entry, choice, strict, catch_level, left}
@@ -25,85 +25,85 @@ IsClosed n (left ∷ es) = IsClosed (suc n) es
 
 -- What lies above a level adds the same to each trace that reaches it.
 
-abbrev pub Reach : View → Level → List Entry → Trace Point → Type 0
-Reach v l above x =
+abbrev pub Reach : Builtins → Level → List Entry → Trace Point → Type 0
+Reach given l above x =
     (extra : Trace Point) × ((t : Trace Point) (outs : List (Trace Point)) (rest : List Entry) →
-    around v l (above ++ rest) (alt t x) outs ≡ around v l rest (alt t extra) outs)
+    around given l (above ++ rest) (alt t x) outs ≡ around given l rest (alt t extra) outs)
 
-abbrev ReachBehind : View → Level → List Entry → List (Trace Point) → Trace Point → Trace Point → Type 0
-ReachBehind v l above os u x =
+abbrev ReachBehind : Builtins → Level → List Entry → List (Trace Point) → Trace Point → Trace Point → Type 0
+ReachBehind given l above os u x =
     (extra : Trace Point) × ((t : Trace Point) (outs : List (Trace Point)) (rest : List Entry) →
-    around v l (above ++ rest) u (os ++ (alt t x ∷ outs)) ≡ around v l rest (alt t extra) outs)
+    around given l (above ++ rest) u (os ++ (alt t x ∷ outs)) ≡ around given l rest (alt t extra) outs)
 
 mutual
   unfolding IsClosed around alt
 
-  pub reach : (v : View) (l : Level) (above : List Entry) → IsClosed 0 above → (x : Trace Point) → Reach v l above x
-  reach v l [] h x = (x, λ t outs rest. refl)
-  reach v l (choice c b ∷ es) h x =
-      let r : Reach v l es (alt x (choice_trace v l c b)) = reach v l es h (alt x (choice_trace v l c b)) in
-      (r.0, λ t outs rest. ap (λ u. around v l (es ++ rest) u outs) (alt-assoc t x (choice_trace v l c b)) ∙ r.1 t outs rest)
-  reach v l (strict s b ∷ es) h x = absurd h
-  reach v l (catch_level ball handler b ∷ es) h x = absurd h
-  reach v l (left ∷ es) h x = reach-behind v l es [] h done x
+  pub reach : (given : Builtins) (l : Level) (above : List Entry) → IsClosed 0 above → (x : Trace Point) → Reach given l above x
+  reach given l [] h x = (x, λ t outs rest. refl)
+  reach given l (choice c b ∷ es) h x =
+      let r : Reach given l es (alt x (choice_trace given l c b)) = reach given l es h (alt x (choice_trace given l c b)) in
+      (r.0, λ t outs rest. ap (λ u. around given l (es ++ rest) u outs) (alt-assoc t x (choice_trace given l c b)) ∙ r.1 t outs rest)
+  reach given l (strict s b ∷ es) h x = absurd h
+  reach given l (catch_level ball handler b ∷ es) h x = absurd h
+  reach given l (left ∷ es) h x = reach-behind given l es [] h done x
 
-  reach-behind : (v : View) (l : Level) (above : List Entry) (os : List (Trace Point)) → IsClosed (suc (length os)) above → (u x : Trace Point) → ReachBehind v l above os u x
-  reach-behind v l [] os h u x = absurd h
-  reach-behind v l (choice c b ∷ es) os h u x = reach-behind v l es os h (alt u (choice_trace v l c b)) x
-  reach-behind v l (strict s b ∷ es) os h u x = absurd h
-  reach-behind v l (catch_level ball handler b ∷ es) [] h u x =
-      let y : Trace Point = catch_trace v l ball handler b u in
-      let r : Reach v l es (alt x y) = reach v l es h (alt x y) in
-      (r.0, λ t outs rest. ap (λ w. around v l (es ++ rest) w outs) (alt-assoc t x y) ∙ r.1 t outs rest)
-  reach-behind v l (catch_level ball handler b ∷ es) (o ∷ os) h u x = reach-behind v l es os h (alt o (catch_trace v l ball handler b u)) x
-  reach-behind v l (left ∷ es) os h u x = reach-behind v l es (u ∷ os) h done x
+  reach-behind : (given : Builtins) (l : Level) (above : List Entry) (os : List (Trace Point)) → IsClosed (suc (length os)) above → (u x : Trace Point) → ReachBehind given l above os u x
+  reach-behind given l [] os h u x = absurd h
+  reach-behind given l (choice c b ∷ es) os h u x = reach-behind given l es os h (alt u (choice_trace given l c b)) x
+  reach-behind given l (strict s b ∷ es) os h u x = absurd h
+  reach-behind given l (catch_level ball handler b ∷ es) [] h u x =
+      let y : Trace Point = catch_trace given l ball handler b u in
+      let r : Reach given l es (alt x y) = reach given l es h (alt x y) in
+      (r.0, λ t outs rest. ap (λ w. around given l (es ++ rest) w outs) (alt-assoc t x y) ∙ r.1 t outs rest)
+  reach-behind given l (catch_level ball handler b ∷ es) (o ∷ os) h u x = reach-behind given l es os h (alt o (catch_trace given l ball handler b u)) x
+  reach-behind given l (left ∷ es) os h u x = reach-behind given l es (u ∷ os) h done x
 
 -- A note passes the whole stack.
 
-level-note : (v : View) (l : Level) (s : Strict) (b : Back) (n : Note) (t : Trace Point) → level_trace v l s b (note n t) ≡ note n (level_trace v l s b t)
+level-note : (given : Builtins) (l : Level) (s : Strict) (b : Back) (n : Note) (t : Trace Point) → level_trace given l s b (note n t) ≡ note n (level_trace given l s b t)
 unfolding level_trace then first negated chosen collected counted
-level-note v l once_level b n t = refl
-level-note v l not_level b n t = refl
-level-note v l (if_level g other) b n t = refl
-level-note v l (guard_level call c cs) b n t = refl
-level-note v l (value_level call into) b n t = refl
-level-note v l (list_level k into got) b n t = refl
-level-note v l (number_level into k) b n t = refl
+level-note given l once_level b n t = refl
+level-note given l not_level b n t = refl
+level-note given l (if_level g other) b n t = refl
+level-note given l (guard_level call c cs) b n t = refl
+level-note given l (value_level call into) b n t = refl
+level-note given l (list_level k into got) b n t = refl
+level-note given l (number_level into k) b n t = refl
 
-catch-note : (v : View) (l : Level) (ball : Tree) (handler : GoalTree) (b : Back) (n : Note) (t : Trace Point) → catch_trace v l ball handler b (note n t) ≡ note n (catch_trace v l ball handler b t)
+catch-note : (given : Builtins) (l : Level) (ball : Tree) (handler : GoalTree) (b : Back) (n : Note) (t : Trace Point) → catch_trace given l ball handler b (note n t) ≡ note n (catch_trace given l ball handler b t)
 unfolding catch_trace then caught
-catch-note v l ball handler b n t = refl
+catch-note given l ball handler b n t = refl
 
 mutual
   unfolding IsBalanced around alt
 
-  pub note-passes : (v : View) (l : Level) (es : List Entry) → IsBalanced 0 es → (n : Note) (t : Trace Point) → around v l es (note n t) [] ≡ note n (around v l es t [])
-  note-passes v l [] h n t = refl
-  note-passes v l (choice c b ∷ es) h n t = note-passes v l es h n (alt t (choice_trace v l c b))
-  note-passes v l (strict s b ∷ es) h n t =
-      ap (λ u. around v l es u []) (level-note v l s b n t) ∙ note-passes v l es h n (level_trace v l s b t)
-  note-passes v l (catch_level ball handler b ∷ es) h n t =
-      ap (λ u. around v l es u []) (catch-note v l ball handler b n t) ∙ note-passes v l es h n (catch_trace v l ball handler b t)
-  note-passes v l (left ∷ es) h n t = note-passes-behind v l es [] h done n t
+  pub note-passes : (given : Builtins) (l : Level) (es : List Entry) → IsBalanced 0 es → (n : Note) (t : Trace Point) → around given l es (note n t) [] ≡ note n (around given l es t [])
+  note-passes given l [] h n t = refl
+  note-passes given l (choice c b ∷ es) h n t = note-passes given l es h n (alt t (choice_trace given l c b))
+  note-passes given l (strict s b ∷ es) h n t =
+      ap (λ u. around given l es u []) (level-note given l s b n t) ∙ note-passes given l es h n (level_trace given l s b t)
+  note-passes given l (catch_level ball handler b ∷ es) h n t =
+      ap (λ u. around given l es u []) (catch-note given l ball handler b n t) ∙ note-passes given l es h n (catch_trace given l ball handler b t)
+  note-passes given l (left ∷ es) h n t = note-passes-behind given l es [] h done n t
 
-  note-passes-behind : (v : View) (l : Level) (es : List Entry) (os : List (Trace Point)) → IsBalanced (suc (length os)) es → (u : Trace Point) (n : Note) (t : Trace Point) →
-      around v l es u (os ++ note n t ∷ []) ≡ note n (around v l es u (os ++ t ∷ []))
-  note-passes-behind v l [] os h u n t = absurd h
-  note-passes-behind v l (choice c b ∷ es) os h u n t = note-passes-behind v l es os h (alt u (choice_trace v l c b)) n t
-  note-passes-behind v l (strict s b ∷ es) os h u n t = absurd h
-  note-passes-behind v l (catch_level ball handler b ∷ es) [] h u n t = note-passes v l es h n (alt t (catch_trace v l ball handler b u))
-  note-passes-behind v l (catch_level ball handler b ∷ es) (o ∷ os) h u n t = note-passes-behind v l es os h (alt o (catch_trace v l ball handler b u)) n t
-  note-passes-behind v l (left ∷ es) os h u n t = note-passes-behind v l es (u ∷ os) h done n t
+  note-passes-behind : (given : Builtins) (l : Level) (es : List Entry) (os : List (Trace Point)) → IsBalanced (suc (length os)) es → (u : Trace Point) (n : Note) (t : Trace Point) →
+      around given l es u (os ++ note n t ∷ []) ≡ note n (around given l es u (os ++ t ∷ []))
+  note-passes-behind given l [] os h u n t = absurd h
+  note-passes-behind given l (choice c b ∷ es) os h u n t = note-passes-behind given l es os h (alt u (choice_trace given l c b)) n t
+  note-passes-behind given l (strict s b ∷ es) os h u n t = absurd h
+  note-passes-behind given l (catch_level ball handler b ∷ es) [] h u n t = note-passes given l es h n (alt t (catch_trace given l ball handler b u))
+  note-passes-behind given l (catch_level ball handler b ∷ es) (o ∷ os) h u n t = note-passes-behind given l es os h (alt o (catch_trace given l ball handler b u)) n t
+  note-passes-behind given l (left ∷ es) os h u n t = note-passes-behind given l es (u ∷ os) h done n t
 
 -- Where nothing waits outside of the outermost catch that was left, it is as if it had not been left.
-pub exit-passes : (v : View) (l : Level) (es : List Entry) (u : Trace Point) (os : List (Trace Point)) → around v l es u (os ++ done ∷ []) ≡ around v l es u os
+pub exit-passes : (given : Builtins) (l : Level) (es : List Entry) (u : Trace Point) (os : List (Trace Point)) → around given l es u (os ++ done ∷ []) ≡ around given l es u os
 unfolding around alt
-exit-passes v l [] u os = refl
-exit-passes v l (choice c b ∷ es) u os = exit-passes v l es (alt u (choice_trace v l c b)) os
-exit-passes v l (strict s b ∷ es) u os = exit-passes v l es (level_trace v l s b u) os
-exit-passes v l (catch_level ball handler b ∷ es) u [] = refl
-exit-passes v l (catch_level ball handler b ∷ es) u (o ∷ os) = exit-passes v l es (alt o (catch_trace v l ball handler b u)) os
-exit-passes v l (left ∷ es) u os = exit-passes v l es done (u ∷ os)
+exit-passes given l [] u os = refl
+exit-passes given l (choice c b ∷ es) u os = exit-passes given l es (alt u (choice_trace given l c b)) os
+exit-passes given l (strict s b ∷ es) u os = exit-passes given l es (level_trace given l s b u) os
+exit-passes given l (catch_level ball handler b ∷ es) u [] = refl
+exit-passes given l (catch_level ball handler b ∷ es) u (o ∷ os) = exit-passes given l es (alt o (catch_trace given l ball handler b u)) os
+exit-passes given l (left ∷ es) u os = exit-passes given l es done (u ∷ os)
 
 -- The newest open level of a stack
 

@@ -1,5 +1,5 @@
 -- The weight of a configuration falls at each step that counts no Tick: each kind of step.
-use Rattle.std.proofs.Common.{◌≡◌, ℕ, zero, suc, ◌+◌, ◌≤◌, ◌<◌, List, [], ◌∷◌, ◌++◌, refl, sym, subst, arith}
+use Rattle.std.proofs.Common.{◌≡◌, ℕ, zero, suc, ◌+◌, ◌≤◌, ◌<◌, List, [], ◌∷◌, ◌++◌, length, refl, ap, sym, subst, ◌∙◌, arith}
 use Rattle.std.specs.Prelude.{Bool, true, false, Option, Some, None, cond, codes, nat_lt, replicate}
 use Rattle.pi_terms.specs.Tree.{Tree, atom, cells, tree_count, trees_of, most_cells}
 use Rattle.pi_terms.specs.Places.{Places}
@@ -9,17 +9,19 @@ use Rattle.pi_states.specs.Unify.{unified}
 use Rattle.pi_core.specs.GoalTree.{GoalTree, truth, fail, tick, call, apply, seq, alternatives, if_else, not, once, collect, count, catch, GoalTrees, no_goals, goal}
 use Rattle.pi_core.specs.CoreTree.{ClauseTree, PredTree, find_pred, leaves_others}
 use Rattle.pi_meaning.specs.View.{View}
+use Rattle.pi_meaning.specs.Names.{is_later_predicate, is_later_function, is_resource, is_call}
 use Rattle.pi_states.specs.Evaluation.{EvaluatedAll, evaluated_all, with_new_variables}
 use Rattle.pi_states.specs.HeadMatch.{matched_all_in}
 use Rattle.pi_meaning.specs.Meaning.{slot_value}
 use Rattle.pi_meaning.specs.Run.{Solution}
 use Rattle.pi_core.specs.declared.core_program.NameSlot.{NameSlot}
-use Rattle.pi_machine.specs.Configuration.{Frame, more, return, give, Back, Called, Choice, rules_left, branches_left, Strict, once_level, not_level, if_level, guard_level, value_level, list_level, number_level, Entry, choice, strict, catch_level, left, Now, going, failed, raising, Config, config, behind, telling}
-use Rattle.pi_machine.specs.Step.{back_to, branch, taken, guarding, tried, try_rules, later_rules, call_step, predicate_step, effect_step, function_step, goal_step, frame_step, Open, none_open, strict_open, catch_open, newest_open, strict_step, leave, fits, told_step, answer_step, choice_step, end_step, fail_step, handler_step, below_left, raise_step, now_step, step, written_now, done_now, given_now, value_step}
+use Rattle.pi_machine.specs.Configuration.{Frame, more, return, give, Back, Called, Choice, rules_left, branches_left, Strict, once_level, not_level, if_level, guard_level, value_level, list_level, number_level, Entry, choice, strict, catch_level, left, Now, going, failed, raising, Config, config, behind, returning, telling}
+use Rattle.pi_machine.specs.Step.{back_to, branch, taken, guarding, tried, try_rules, later_rules, call_step, predicate_step, effect_step, function_step, goal_step, frame_step, Open, none_open, strict_open, catch_open, newest_open, strict_step, leave, fits, told_step, answer_step, choice_step, end_step, fail_step, handler_step, below_left, raise_step, now_step, step, written_now, done_now, given_now, value_step, later_step, name_step, later_value, other_value, resource_effect, silently}
 use Rattle.pi_machine.specs.Shape.{IsBalanced, IsGood}
-use Rattle.pi_machine.specs.Weight.{goal_weight, goals_weight, branches_weight, going_weight, frames_weight, body_behind, rules_weight, strict_answer_weight, answer_weight, choice_weight, strict_weight, stack_weight, now_weight, weight, GetsLighter}
+use Rattle.pi_machine.specs.Weight.{goal_weight, goals_weight, branches_weight, going_weight, frames_weight, body_behind, rules_weight, strict_answer_weight, answer_weight, choice_weight, strict_weight, stack_weight, now_weight, weight, GetsLighter, call_weight}
 use Rattle.pi_machine.proofs.StackLemmas.{IsClosed, IsFound, newest-found}
 use Rattle.pi_machine.proofs.EndSteps.{IsMatched, left-matched}
+use Rattle.pi_machine.proofs.NamedWeights.{call-heavy, given-many, returning-weight, first-lighter}
 use Rattle.pi_machine.proofs.WeightLemmas.{behind-weight, going-below, after-weight, closed-answer, left-answer, below-weight, SameWeight, same-weight}
 use Rattle.pi_effects.specs.Effect.{Effect, Succeeds, Fails, Writes, Raises, FunctionEffect, Gives, Refuses}
 use Rattle.pi_effects.specs.BuiltIns.{built_in_predicate, built_in_function}
@@ -69,27 +71,69 @@ unfolding weight now_weight
 function-lighter None all into k es c h = omega arith
 function-lighter (Some pred) all into k es c h = call-lighter pred.quiet c _
 
+later-lighter : (later : Bool) (preds : List PredTree) (name : List ℕ) (all : EvaluatedAll) (k : List Frame) (es : List Entry) (c : Config) → suc (stack_weight es) < weight c →
+    GetsLighter c (later_step later preds name all k es)
+unfolding weight now_weight
+later-lighter true preds name all k es c h = omega arith
+later-lighter false preds name all k es c h = predicate-lighter (find_pred false name (tree_count all.trees) preds) all k es c (omega arith)
+
 effect-step-lighter : (v : View) (o : Option Effect) (preds : List PredTree) (name : List ℕ) (args : List Tree) (e : Places) (s : State) (all : EvaluatedAll) (gs : GoalTrees) (k : List Frame) (es : List Entry) →
     GetsLighter (config (going (goal (call name args) gs) e s k) es) (effect_step v o preds name all gs k es)
 unfolding weight now_weight goal_weight
 effect-step-lighter v None preds name args e s all gs k es =
-    predicate-lighter (find_pred false name (tree_count all.trees) preds) all (behind gs k) es (config (going (goal (call name args) gs) e s k) es) (omega arith)
+    let heavy : _ = call-heavy (is_call name (length args)) (goals_weight gs (frames_weight k (answer_weight 0 es))) in
+    later-lighter (is_later_predicate name (tree_count all.trees)) preds name all (behind gs k) es (config (going (goal (call name args) gs) e s k) es) (omega arith)
 effect-step-lighter v (Some d) preds name args e s all gs k es =
     let a : ℕ = answer_weight 0 es in
+    let heavy : _ = call-heavy (is_call name (length args)) (goals_weight gs (frames_weight k a)) in
     let h : going_weight gs (frames_weight k a) ≤ goals_weight gs (frames_weight k a) = going-below gs (frames_weight k a) in
     let w : now_weight (done_now v d gs all.slots k) a ≤ suc (going_weight gs (frames_weight k a)) = done-lighter v d gs all.slots k a in
     omega arith
 
-value-step-lighter : (o : Option FunctionEffect) (preds : List PredTree) (name : List ℕ) (args : List Tree) (into : ℕ) (e : Places) (s : State) (all : EvaluatedAll) (gs : GoalTrees) (k : List Frame) (es : List Entry) →
-    GetsLighter (config (going (goal (apply name args into) gs) e s k) es) (value_step o preds name all into gs k es)
+-- `call`, and any other name
+name-lighter : (called : Bool) (v : View) (preds : List PredTree) (name : List ℕ) (args : List Tree) (e : Places) (s : State) (gs : GoalTrees) (k : List Frame) (es : List Entry) →
+    let all : EvaluatedAll = evaluated_all (trees_of args) e s in
+    is_call name (tree_count all.trees) ≡ called → GetsLighter (config (going (goal (call name args) gs) e s k) es) (name_step called v preds name all gs k es)
 unfolding weight now_weight goal_weight
-value-step-lighter None preds name args into e s all gs k es =
-    function-lighter (find_pred true name (tree_count all.trees) preds) all into (behind gs k) es (config (going (goal (apply name args into) gs) e s k) es) (omega arith)
-value-step-lighter (Some d) preds name args into e s all gs k es =
+name-lighter true v preds name args e s gs k es is =
+    let all : EvaluatedAll = evaluated_all (trees_of args) e s in
+    let a : ℕ = answer_weight 0 es in
+    let r : ℕ = goals_weight gs (frames_weight k a) in
+    let heavy : call_weight (is_call name (length args)) r ≡ suc (suc (suc (suc (suc r)))) = ap (λ n. call_weight (is_call name n) r) (sym (given-many args e s)) ∙ ap (λ b. call_weight b r) is in
+    let light : _ = first-lighter preds all.trees all.state (returning all.slots (behind gs k)) a in
+    let back : _ = returning-weight all.slots (behind gs k) a in
+    let same : frames_weight (behind gs k) a ≡ r = behind-weight gs k a in
+    omega arith
+name-lighter false v preds name args e s gs k es is =
+    let all : EvaluatedAll = evaluated_all (trees_of args) e s in
+    effect-step-lighter v (built_in_predicate name all.trees all.state) preds name args e s all gs k es
+
+later-value-lighter : (later : Bool) (preds : List PredTree) (name : List ℕ) (all : EvaluatedAll) (into : ℕ) (k : List Frame) (es : List Entry) (c : Config) → stack_weight es < weight c →
+    GetsLighter c (later_value later preds name all into k es)
+unfolding weight now_weight
+later-value-lighter true preds name all into k es c h = omega arith
+later-value-lighter false preds name all into k es c h = function-lighter (find_pred true name (tree_count all.trees) preds) all into k es c h
+
+value-given-lighter : (d : FunctionEffect) (name : List ℕ) (args : List Tree) (into : ℕ) (e : Places) (s : State) (all : EvaluatedAll) (gs : GoalTrees) (k : List Frame) (es : List Entry) →
+    GetsLighter (config (going (goal (apply name args into) gs) e s k) es) (silently (config (given_now d into gs all.slots k) es))
+unfolding weight now_weight goal_weight
+value-given-lighter d name args into e s all gs k es =
     let a : ℕ = answer_weight 0 es in
     let h : going_weight gs (frames_weight k a) ≤ goals_weight gs (frames_weight k a) = going-below gs (frames_weight k a) in
     let w : now_weight (given_now d into gs all.slots k) a ≤ suc (going_weight gs (frames_weight k a)) = given-lighter d into gs all.slots k a in
     omega arith
+
+other-value-lighter : (resource : Bool) (v : View) (preds : List PredTree) (name : List ℕ) (args : List Tree) (into : ℕ) (e : Places) (s : State) (all : EvaluatedAll) (gs : GoalTrees) (k : List Frame) (es : List Entry) →
+    GetsLighter (config (going (goal (apply name args into) gs) e s k) es) (other_value resource v preds name all into gs k es)
+unfolding weight now_weight goal_weight
+other-value-lighter true v preds name args into e s all gs k es = value-given-lighter (resource_effect v.within all.state) name args into e s all gs k es
+other-value-lighter false v preds name args into e s all gs k es =
+    later-value-lighter (is_later_function name (tree_count all.trees)) preds name all into (behind gs k) es (config (going (goal (apply name args into) gs) e s k) es) (omega arith)
+
+value-step-lighter : (v : View) (o : Option FunctionEffect) (preds : List PredTree) (name : List ℕ) (args : List Tree) (into : ℕ) (e : Places) (s : State) (all : EvaluatedAll) (gs : GoalTrees) (k : List Frame) (es : List Entry) →
+    GetsLighter (config (going (goal (apply name args into) gs) e s k) es) (value_step v o preds name all into gs k es)
+value-step-lighter v None preds name args into e s all gs k es = other-value-lighter (is_resource name (tree_count all.trees)) v preds name args into e s all gs k es
+value-step-lighter v (Some d) preds name args into e s all gs k es = value-given-lighter d name args into e s all gs k es
 
 goal-lighter : (v : View) (preds : List PredTree) (g : GoalTree) (gs : GoalTrees) (e : Places) (s : State) (k : List Frame) (es : List Entry) →
     GetsLighter (config (going (goal g gs) e s k) es) (goal_step v preds g gs e s k es)
@@ -100,10 +144,10 @@ goal-lighter v preds fail gs e s k es = omega arith
 goal-lighter v preds tick gs e s k es = tt
 goal-lighter v preds (call name args) gs e s k es =
     let all : EvaluatedAll = evaluated_all (trees_of args) e s in
-    effect-step-lighter v (built_in_predicate name all.trees all.state) preds name args e s all gs k es
+    name-lighter (is_call name (tree_count all.trees)) v preds name args e s gs k es refl
 goal-lighter v preds (apply name args into) gs e s k es =
     let all : EvaluatedAll = evaluated_all (trees_of args) e s in
-    value-step-lighter (built_in_function name all.trees all.state) preds name args into e s all gs k es
+    value-step-lighter v (built_in_function name all.trees all.state) preds name args into e s all gs k es
 goal-lighter v preds (seq hs) gs e s k es =
     let a : ℕ = answer_weight 0 es in
     let h : going_weight hs (frames_weight (behind gs k) a) ≤ goals_weight hs (frames_weight (behind gs k) a) = going-below hs (frames_weight (behind gs k) a) in

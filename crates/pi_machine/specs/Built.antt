@@ -1,4 +1,4 @@
--- Programs of what the machine runs so far: rules, and no facts and action rules; calls of what they define and of what the tables of built-ins have, and no others.
+-- Programs of what the machine runs so far: rules, and no facts and action rules; calls of what they define and of what the tables of built-ins have, `call`, and no others.
 use Rattle.std.specs.Prelude.{◌≡◌, false, List, [], ◌∷◌, ◌++◌, None, ⊤}
 use Rattle.pi_core.specs.CoreTree.{ClauseTree, PredTree, QueryTree}
 use Rattle.pi_meaning.specs.Sound.{IsSoundQuery}

@@ -1,7 +1,7 @@
 -- The machine as data: what it is about to do, and one stack of what waits, the newest first. A choice keeps what is left
 -- to be tried; a level waits for the answers of the goal that runs inside of it. (The machine is own.)
-use Rattle.std.specs.Prelude.{ℕ, Bool, true, false, List, [], ◌∷◌, Option}
-use Rattle.pi_terms.specs.Tree.{Tree, Trees}
+use Rattle.std.specs.Prelude.{ℕ, Bool, true, false, List, [], ◌∷◌, Option, Some}
+use Rattle.pi_terms.specs.Tree.{Tree, Trees, no_trees, tree}
 use Rattle.pi_terms.specs.Places.{Places}
 use Rattle.pi_states.specs.State.{State}
 use Rattle.pi_core.specs.GoalTree.{GoalTree, GoalTrees, no_goals, goal}
@@ -81,3 +81,8 @@ returning e (give t ∷ k) = return e ∷ give t ∷ k
 abbrev pub after_body : Bool → ClauseTree → List Frame → List Frame
 after_body true c k = give c.value ∷ k
 after_body false c k = k
+
+-- slots that hold the arguments of a call, one behind the other
+unfoldable pub in_places : Trees → Places
+in_places no_trees = []
+in_places (tree t ts) = Some t ∷ in_places ts

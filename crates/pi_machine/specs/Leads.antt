@@ -6,7 +6,7 @@ use Rattle.pi_traces.specs.Trace.{Trace, end, note, End, Call, Deep, Note, Tick,
 use Rattle.pi_traces.specs.Depth.{Below, DepthOnlyAdds, Cut, Ended, Spent, with_events, CutWithoutDeep}
 use Rattle.pi_states.specs.State.{State}
 use Rattle.pi_meaning.specs.View.{View, Wanted, reading}
-use Rattle.pi_meaning.specs.Instances.{tabled}
+use Rattle.pi_meaning.specs.Instances.{no_later, whole}
 use Rattle.pi_meaning.specs.Level.{Point}
 use Rattle.pi_meaning.specs.Rules.{level_at}
 use Rattle.pi_meaning.specs.Run.{Solution, answered_with, query_trace, IsRunUnder}
@@ -49,7 +49,7 @@ pub record IsAtCall (v : View) (preds : List PredTree) (names : List NameSlot) (
   pub state : State
   pub follows : ℕ → State → Trace Point
   pub begins : (d : ℕ) → remaining v preds names d c ≡
-      then (around v (level_at (tabled v) preds d) c.stack (then (reading v waiting wanted state) (follows d)) []) (answered_with names)
+      then (around (whole v no_later preds) (level_at (whole v no_later preds) preds d) c.stack (then (reading v waiting wanted state) (follows d)) []) (answered_with names)
 
 -- ---- laws
 
@@ -60,7 +60,7 @@ RemainingDoesMore = (v : View) (preds : List PredTree) (names : List NameSlot) (
 -- at the beginning the meaning of the query remains
 abbrev pub StartsWithTheMeaning : Type 0
 StartsWithTheMeaning = (v : View) (program : List PredTree) (q : QueryTree) (d : ℕ) →
-    remaining v (program ++ q.helpers) q.names d (start q) ≡ query_trace (tabled v) program q d
+    remaining v (program ++ q.helpers) q.names d (start q) ≡ query_trace (whole v no_later (program ++ q.helpers)) program q d
 
 -- one run after another
 abbrev pub LeadsOn : Type 0
@@ -88,16 +88,16 @@ RunBeforeTickBegins = (v : View) (preds : List PredTree) (names : List NameSlot)
 abbrev pub EndedRunIsTheRun : Type 0
 EndedRunIsTheRun = (v : View) (program : List PredTree) (q : QueryTree) (events : List (Emitted Solution)) (c : Config) (e : End) (n : ℕ) →
     Leads v (program ++ q.helpers) q.names events (start q) c → IsAtEnd v (program ++ q.helpers) q.names e c → count_ticks events ≤ n →
-    IsRunUnder (tabled v) program q n (record { events = events; stop = Ended e })
+    IsRunUnder (whole v no_later (program ++ q.helpers)) program q n (record { events = events; stop = Ended e })
 
 -- those of a run that is about to count a Tick are the query's run before that Tick,
 abbrev pub SpentRunIsTheRun : Type 0
 SpentRunIsTheRun = (v : View) (program : List PredTree) (q : QueryTree) (events : List (Emitted Solution)) (c : Config) →
     Leads v (program ++ q.helpers) q.names events (start q) c → IsAtTick v (program ++ q.helpers) q.names c →
-    IsRunUnder (tabled v) program q (count_ticks events) (record { events = events; stop = Spent })
+    IsRunUnder (whole v no_later (program ++ q.helpers)) program q (count_ticks events) (record { events = events; stop = Spent })
 
 -- and those of any run begin the query's run before each Tick that comes later.
 abbrev pub RunIsAPrefix : Type 0
 RunIsAPrefix = (v : View) (program : List PredTree) (q : QueryTree) (events : List (Emitted Solution)) (c : Config) (n : ℕ) (run : Cut Solution) →
-    Leads v (program ++ q.helpers) q.names events (start q) c → IsRunUnder (tabled v) program q (count_ticks events + n) run →
+    Leads v (program ++ q.helpers) q.names events (start q) c → IsRunUnder (whole v no_later (program ++ q.helpers)) program q (count_ticks events + n) run →
     (rest : Cut Solution) × (run ≡ with_events events rest)

@@ -9,7 +9,8 @@ use Rattle.pi_core.specs.CoreTree.{ClauseTree, PredTree, leaves_others}
 use Rattle.pi_traces.specs.Trace.{Trace, end, note, Raise, Out, done, one, alt, then, first}
 use Rattle.pi_traces.specs.Control.{negated, chosen, collected, counted, caught}
 use Rattle.pi_meaning.specs.View.{View}
-use Rattle.pi_meaning.specs.Instances.{tabled}
+use Rattle.pi_meaning.specs.Builtins.{Builtins}
+use Rattle.pi_meaning.specs.Instances.{no_later, whole}
 use Rattle.pi_meaning.specs.Raise.{raised_with}
 use Rattle.pi_meaning.specs.Level.{Level, Applied, Point}
 use Rattle.pi_meaning.specs.Meaning.{Action, draining, with_slot, slot_value, copyable, with_list, meaning, meaning_of_all, meaning_of_any}
@@ -28,52 +29,52 @@ valued l a = point l (Some a.value ∷ []) a.state
 
 -- What the frames do behind an answer. With none left it is an answer of the level, which counts when nothing waits; so is
 -- a function's value, behind which no frame counts.
-unfoldable pub continued : View → Level → List Frame → Action
-continued v l [] p = draining (λ q. one q) p
-continued v l (more gs ∷ k) p = then (meaning_of_all (tabled v) gs p) (continued v l k)
-continued v l (return e ∷ k) p = continued v l k (point l e p.state)
-continued v l (give t ∷ k) p = then (draining (λ q. one q) p) (λ q. then (value_at t q) (λ a. one (valued l a)))
+unfoldable pub continued : Builtins → Level → List Frame → Action
+continued given l [] p = draining (λ q. one q) p
+continued given l (more gs ∷ k) p = then (meaning_of_all given gs p) (continued given l k)
+continued given l (return e ∷ k) p = continued given l k (point l e p.state)
+continued given l (give t ∷ k) p = then (draining (λ q. one q) p) (λ q. then (value_at t q) (λ a. one (valued l a)))
 
 -- the goals of a block and the frames behind them
-abbrev pub run_from : View → Level → GoalTrees → Places → State → List Frame → Trace Point
-run_from v l gs e s k = then (meaning_of_all (tabled v) gs (point l e s)) (continued v l k)
+abbrev pub run_from : Builtins → Level → GoalTrees → Places → State → List Frame → Trace Point
+run_from given l gs e s k = then (meaning_of_all given gs (point l e s)) (continued given l k)
 
 -- what an entry comes back to
 abbrev pub start_of : Level → Back → Point
 start_of l b = point l b.slots b.state
 
 -- the body of a rule that applies, and what follows
-abbrev pub body_of : View → Level → Called → Back → ClauseTree → Action
-body_of v l call b c p = then (meaning (tabled v) c.body p) (continued v l (after_body call.function c b.frames))
+abbrev pub body_of : Builtins → Level → Called → Back → ClauseTree → Action
+body_of given l call b c p = then (meaning given c.body p) (continued given l (after_body call.function c b.frames))
 
 -- the rules that are left of a call
-unfoldable pub rules_trace : View → Level → Called → List ClauseTree → Back → Trace Point
-rules_trace v l call cs b = rules (tabled v) l (λ c. leaves_others call.function c) (λ i c p. body_of v l call b c p) 0 cs call.args b.state
+unfoldable pub rules_trace : Builtins → Level → Called → List ClauseTree → Back → Trace Point
+rules_trace given l call cs b = rules given l (λ c. leaves_others call.function c) (λ i c p. body_of given l call b c p) 0 cs call.args b.state
 
 -- what a choice keeps
-unfoldable pub choice_trace : View → Level → Choice → Back → Trace Point
-choice_trace v l (rules_left call cs) b = rules_trace v l call cs b
-choice_trace v l (branches_left gs) b = then (meaning_of_any (tabled v) gs (start_of l b)) (continued v l b.frames)
+unfoldable pub choice_trace : Builtins → Level → Choice → Back → Trace Point
+choice_trace given l (rules_left call cs) b = rules_trace given l call cs b
+choice_trace given l (branches_left gs) b = then (meaning_of_any given gs (start_of l b)) (continued given l b.frames)
 
 -- what a level makes of the trace inside of it
-unfoldable pub level_trace : View → Level → Strict → Back → Trace Point → Trace Point
-level_trace v l once_level b t = then (first t) (continued v l b.frames)
-level_trace v l not_level b t = then (negated t (start_of l b)) (continued v l b.frames)
-level_trace v l (if_level g other) b t = then (chosen t (meaning (tabled v) g) (meaning (tabled v) other (start_of l b))) (continued v l b.frames)
-level_trace v l (guard_level call c cs) b t =
-    chosen t (λ p. chosen_rule (leaves_others call.function c) (body_of v l call b c p) (rules_trace v l call cs b)) (rules_trace v l call cs b)
-level_trace v l (value_level call into) b t =
+unfoldable pub level_trace : Builtins → Level → Strict → Back → Trace Point → Trace Point
+level_trace given l once_level b t = then (first t) (continued given l b.frames)
+level_trace given l not_level b t = then (negated t (start_of l b)) (continued given l b.frames)
+level_trace given l (if_level g other) b t = then (chosen t (meaning given g) (meaning given other (start_of l b))) (continued given l b.frames)
+level_trace given l (guard_level call c cs) b t =
+    chosen t (λ p. chosen_rule (leaves_others call.function c) (body_of given l call b c p) (rules_trace given l call cs b)) (rules_trace given l call cs b)
+level_trace given l (value_level call into) b t =
     then (chosen t (λ q. one (point l (slice_set b.slots into (held q.slots 0)) q.state)) (raised_with (codes "unresolved_function_call") call b.state))
-    (continued v l b.frames)
-level_trace v l (list_level k into got) b t =
+    (continued given l b.frames)
+level_trace given l (list_level k into got) b t =
     then (collected (then t (λ q. copyable (slot_value k q.slots q.state))) (λ x. x) (λ ts. one (with_list (start_of l b) into (got ++ ts))))
-    (continued v l b.frames)
-level_trace v l (number_level into n) b t =
-    then (counted t (λ k. one (with_slot (start_of l b) into (int (pos (n + k)))))) (continued v l b.frames)
+    (continued given l b.frames)
+level_trace given l (number_level into n) b t =
+    then (counted t (λ k. one (with_slot (start_of l b) into (int (pos (n + k)))))) (continued given l b.frames)
 
 -- what a `catch` makes of the trace inside of it
-unfoldable pub catch_trace : View → Level → Tree → GoalTree → Back → Trace Point → Trace Point
-catch_trace v l ball handler b t = then (caught t (handling b.state ball (λ s. meaning (tabled v) handler (point l b.slots s)))) (continued v l b.frames)
+unfoldable pub catch_trace : Builtins → Level → Tree → GoalTree → Back → Trace Point → Trace Point
+catch_trace given l ball handler b t = then (caught t (handling b.state ball (λ s. meaning given handler (point l b.slots s)))) (continued given l b.frames)
 
 -- the trace that waits outside of the newest `catch` that was left, and those further outside
 abbrev pub outside : List (Trace Point) → Trace Point
@@ -86,24 +87,24 @@ further (t ∷ ts) = ts
 
 -- What the entries make of a trace. The mark of a `catch` that was left lets the trace wait, since it runs outside; in
 -- the `catch` only its choices are left, and what they come to follows the trace.
-unfoldable pub around : View → Level → List Entry → Trace Point → List (Trace Point) → Trace Point
-around v l [] t outs = t
-around v l (choice c b ∷ es) t outs = around v l es (alt t (choice_trace v l c b)) outs
-around v l (strict s b ∷ es) t outs = around v l es (level_trace v l s b t) outs
-around v l (catch_level ball handler b ∷ es) t outs = around v l es (alt (outside outs) (catch_trace v l ball handler b t)) (further outs)
-around v l (left ∷ es) t outs = around v l es done (t ∷ outs)
+unfoldable pub around : Builtins → Level → List Entry → Trace Point → List (Trace Point) → Trace Point
+around given l [] t outs = t
+around given l (choice c b ∷ es) t outs = around given l es (alt t (choice_trace given l c b)) outs
+around given l (strict s b ∷ es) t outs = around given l es (level_trace given l s b t) outs
+around given l (catch_level ball handler b ∷ es) t outs = around given l es (alt (outside outs) (catch_trace given l ball handler b t)) (further outs)
+around given l (left ∷ es) t outs = around given l es done (t ∷ outs)
 
 -- what runs
-unfoldable pub now_trace : View → Level → Now → Trace Point
-now_trace v l (going gs e s k) = run_from v l gs e s k
-now_trace v l (telling text gs e s k) = note (Out text) (run_from v l gs e s k)
-now_trace v l failed = done
-now_trace v l (raising ball) = end (Raise ball)
+unfoldable pub now_trace : Builtins → Level → Now → Trace Point
+now_trace given l (going gs e s k) = run_from given l gs e s k
+now_trace given l (telling text gs e s k) = note (Out text) (run_from given l gs e s k)
+now_trace given l failed = done
+now_trace given l (raising ball) = end (Raise ball)
 
 -- what remains where all goals run at a level
-unfoldable pub remaining_at : View → Level → List NameSlot → Config → Trace Solution
-remaining_at v l names c = then (around v l c.stack (now_trace v l c.now) []) (answered_with names)
+unfoldable pub remaining_at : Builtins → Level → List NameSlot → Config → Trace Solution
+remaining_at given l names c = then (around given l c.stack (now_trace given l c.now) []) (answered_with names)
 
 -- what remains of a run of a program at a depth, under a view; answers tell these names
 abbrev pub remaining : View → List PredTree → List NameSlot → ℕ → Config → Trace Solution
-remaining v preds names d c = remaining_at v (level_at (tabled v) preds d) names c
+remaining v preds names d c = remaining_at (whole v no_later preds) (level_at (whole v no_later preds) preds d) names c

@@ -1,17 +1,23 @@
 -- One step of the machine.
 use Rattle.std.specs.Prelude.{ℕ, zero, suc, nat_lt, cond, pos, Bool, true, false, List, [], ◌∷◌, ◌++◌, Option, Some, None, codes, slice_set, replicate}
-use Rattle.pi_terms.specs.Tree.{Tree, int, atom, comp, no_trees, tree, trees_of, tree_count, cells, most_cells}
+use Rattle.pi_terms.specs.Tree.{Tree, int, atom, comp, Trees, no_trees, tree, trees_of, tree_count, cells, most_cells}
 use Rattle.pi_terms.specs.Places.{Places, held}
 use Rattle.pi_terms.specs.Copy.{copy, new_variables}
 use Rattle.pi_states.specs.Value.{value}
-use Rattle.pi_states.specs.State.{State, bindings, next, empty_state}
+use Rattle.pi_states.specs.State.{State, bindings, next, empty_state, followed}
 use Rattle.pi_states.specs.Unify.{unified}
 use Rattle.pi_core.specs.GoalTree.{GoalTree, truth, fail, tick, call, apply, seq, alternatives, if_else, not, once, collect, count, catch, GoalTrees, no_goals, goal}
 use Rattle.pi_core.specs.CoreTree.{ClauseTree, PredTree, QueryTree, find_pred, leaves_others}
 use Rattle.pi_traces.specs.Trace.{End, Done, Raise}
 use Rattle.pi_effects.specs.Effect.{Effect, Succeeds, Fails, Writes, Raises, FunctionEffect, Gives, Refuses}
 use Rattle.pi_effects.specs.BuiltIns.{built_in_predicate, built_in_function}
-use Rattle.pi_meaning.specs.Within.{is_body}
+use Rattle.pi_effects.specs.Exception.{type_error}
+use Rattle.pi_effects.specs.Items.{each_tree}
+use Rattle.pi_meaning.specs.Names.{is_later_predicate, is_later_function, is_planner, is_resource, is_call}
+use Rattle.pi_meaning.specs.Calls.{Called as Named, called_by}
+use Rattle.pi_meaning.specs.Instances.{is_called_by_name}
+use Rattle.pi_named_goals.specs.NamedGoals.{goal_by_name}
+use Rattle.pi_meaning.specs.Within.{Within, a_query, a_body, is_body}
 use Rattle.pi_meaning.specs.View.{View}
 use Rattle.pi_states.specs.Evaluation.{Evaluated, evaluated, EvaluatedAll, evaluated_all, with_new_variables}
 use Rattle.pi_states.specs.HeadMatch.{matched_all_in}
@@ -19,14 +25,15 @@ use Rattle.pi_meaning.specs.Meaning.{slot_value}
 use Rattle.pi_terms.specs.ListCopies.{list_of_copies, new_in_all}
 use Rattle.pi_meaning.specs.Run.{Solution}
 use Rattle.pi_core.specs.declared.core_program.NameSlot.{NameSlot}
-use Rattle.pi_machine.specs.Configuration.{Frame, more, return, give, Back, Called, Choice, rules_left, branches_left, Strict, once_level, not_level, if_level, guard_level, value_level, list_level, number_level, Entry, choice, strict, catch_level, left, Now, going, telling, failed, raising, Config, config, behind, returning, after_body}
+use Rattle.pi_machine.specs.Configuration.{Frame, more, return, give, Back, Called, Choice, rules_left, branches_left, Strict, once_level, not_level, if_level, guard_level, value_level, list_level, number_level, Entry, choice, strict, catch_level, left, Now, going, telling, failed, raising, Config, config, behind, returning, after_body, in_places}
 
--- what a step comes to: the next configuration; the same after a Tick; the same, where a quiet call was entered; a text that is written and the
--- next configuration; an answer and the next one; the end
+-- what a step comes to: the next configuration; the same after a Tick; the same, where a quiet call was entered; the same, where `call` has led one
+-- down; a text that is written and the next configuration; an answer and the next one; the end
 pub data Outcome : Type 0 where
   silently : Config → Outcome
   with_tick : Config → Outcome
   quietly : Config → Outcome
+  deeper : Config → Outcome
   writing : List ℕ → Config → Outcome
   answering : Solution → Config → Outcome
   ending : End → Outcome
@@ -101,6 +108,10 @@ abbrev pub given_now : FunctionEffect → ℕ → GoalTrees → Places → List 
 given_now (Gives t s) into gs e k = going gs (slice_set e into (Some t)) s k
 given_now (Refuses ball) into gs e k = raising ball
 
+-- what is raised of a name with so many arguments that isn't known
+abbrev pub unknown_ball : List ℕ → ℕ → Tree
+unknown_ball name k = comp (codes "unknown_name") (tree (atom name) (tree (int (pos k)) no_trees))
+
 -- a call of a predicate of the program
 abbrev pub call_step : Bool → Config → Outcome
 call_step true c = quietly c
@@ -111,9 +122,50 @@ predicate_step None all k es = silently (config failed es)
 predicate_step (Some pred) all k es =
     call_step pred.quiet (try_rules (record { function = false; args = all.trees }) pred.clauses (back_to [] all.state (returning all.slots k)) es)
 
+-- what a later stage of the language gives isn't there
+abbrev pub later_step : Bool → List PredTree → List ℕ → EvaluatedAll → List Frame → List Entry → Outcome
+later_step true preds name all k es = silently (config (raising (unknown_ball name (tree_count all.trees))) es)
+later_step false preds name all k es = predicate_step (find_pred false name (tree_count all.trees) preds) all k es
+
 abbrev pub effect_step : View → Option Effect → List PredTree → List ℕ → EvaluatedAll → GoalTrees → List Frame → List Entry → Outcome
 effect_step v (Some e) preds name all gs k es = silently (config (done_now v e gs all.slots k) es)
-effect_step v None preds name all gs k es = predicate_step (find_pred false name (tree_count all.trees) preds) all (behind gs k) es
+effect_step v None preds name all gs k es = later_step (is_later_predicate name (tree_count all.trees)) preds name all (behind gs k) es
+
+-- ---- `call`
+
+abbrev pub is_defined : List PredTree → List ℕ → ℕ → Bool
+is_defined preds name k = is_called_by_name (find_pred false name k preds)
+
+-- what is raised of a name that `call` finds nothing for; of a planner call it tells the first predicate that such a call wants and the program lacks
+unfoldable pub unknown_by : List PredTree → List ℕ → ℕ → Tree
+unknown_by preds name k =
+    cond (is_planner name k)
+    (cond (is_defined preds (codes "final") 1) (cond (is_defined preds (codes "action") 4) (unknown_ball name k) (unknown_ball (codes "action") 4)) (unknown_ball (codes "final") 1))
+    (unknown_ball name k)
+
+-- the goal by which a name is called; a planner call has none
+abbrev pub goal_called : List PredTree → List ℕ → ℕ → Option GoalTree
+goal_called preds name k = cond (is_planner name k) None (goal_by_name preds name k)
+
+-- a goal by a name runs in slots of its own, with these arguments
+abbrev pub named_now : Option GoalTree → Tree → Trees → State → List Frame → Now
+named_now None ball args s k = raising ball
+named_now (Some g) ball args s k = run_goal g (in_places args) s k
+
+-- a term that is called, by what it names
+abbrev pub term_now : List PredTree → Tree → State → List Frame → Option Named → Now
+term_now preds t s k None = raising (type_error (codes "callable") t s)
+term_now preds t s k (Some c) = named_now (goal_called preds c.name (tree_count c.args)) (unknown_by preds c.name (tree_count c.args)) c.args s k
+
+-- of the arguments of `call` the first is called, and the others are arguments behind its own
+unfoldable pub first_now : List PredTree → Trees → State → List Frame → Now
+first_now preds no_trees s k = failed
+first_now preds (tree t ts) s k = term_now preds t s k (called_by (followed (bindings s) t) (each_tree ts))
+
+-- a goal by its name: `call`, or any other
+abbrev pub name_step : Bool → View → List PredTree → List ℕ → EvaluatedAll → GoalTrees → List Frame → List Entry → Outcome
+name_step true v preds name all gs k es = deeper (config (first_now preds all.trees all.state (returning all.slots (behind gs k))) es)
+name_step false v preds name all gs k es = effect_step v (built_in_predicate name all.trees all.state) preds name all gs k es
 
 -- a call of a function of the program, inside of a level
 abbrev pub function_step : Option PredTree → EvaluatedAll → ℕ → List Frame → List Entry → Outcome
@@ -122,9 +174,23 @@ function_step (Some pred) all into k es =
     call_step pred.quiet (try_rules (record { function = true; args = all.trees }) pred.clauses (back_to [] all.state [])
     (strict (value_level (comp pred.name all.trees) into) (back_to all.slots all.state k) ∷ es))
 
-abbrev pub value_step : Option FunctionEffect → List PredTree → List ℕ → EvaluatedAll → ℕ → GoalTrees → List Frame → List Entry → Outcome
-value_step (Some e) preds name all into gs k es = silently (config (given_now e into gs all.slots k) es)
-value_step None preds name all into gs k es = function_step (find_pred true name (tree_count all.trees) preds) all into (behind gs k) es
+-- `current_resource()`
+abbrev pub resource_effect : Within → State → FunctionEffect
+resource_effect a_query s = Refuses (atom (codes "no_resource"))
+resource_effect (a_body n) s = Gives (int (pos n)) s
+
+-- what a later stage of the language gives has no answer
+abbrev pub later_value : Bool → List PredTree → List ℕ → EvaluatedAll → ℕ → List Frame → List Entry → Outcome
+later_value true preds name all into k es = silently (config failed es)
+later_value false preds name all into k es = function_step (find_pred true name (tree_count all.trees) preds) all into k es
+
+abbrev pub other_value : Bool → View → List PredTree → List ℕ → EvaluatedAll → ℕ → GoalTrees → List Frame → List Entry → Outcome
+other_value true v preds name all into gs k es = silently (config (given_now (resource_effect v.within all.state) into gs all.slots k) es)
+other_value false v preds name all into gs k es = later_value (is_later_function name (tree_count all.trees)) preds name all into (behind gs k) es
+
+abbrev pub value_step : View → Option FunctionEffect → List PredTree → List ℕ → EvaluatedAll → ℕ → GoalTrees → List Frame → List Entry → Outcome
+value_step v (Some e) preds name all into gs k es = silently (config (given_now e into gs all.slots k) es)
+value_step v None preds name all into gs k es = other_value (is_resource name (tree_count all.trees)) v preds name all into gs k es
 
 -- a goal, the goals and frames behind it
 unfoldable pub goal_step : View → List PredTree → GoalTree → GoalTrees → Places → State → List Frame → List Entry → Outcome
@@ -132,9 +198,9 @@ goal_step v preds truth gs e s k es = silently (config (going gs e s k) es)
 goal_step v preds fail gs e s k es = silently (config failed es)
 goal_step v preds tick gs e s k es = with_tick (config (going gs e s k) es)
 goal_step v preds (call name args) gs e s k es =
-    let all : EvaluatedAll = evaluated_all (trees_of args) e s in effect_step v (built_in_predicate name all.trees all.state) preds name all gs k es
+    let all : EvaluatedAll = evaluated_all (trees_of args) e s in name_step (is_call name (tree_count all.trees)) v preds name all gs k es
 goal_step v preds (apply name args into) gs e s k es =
-    let all : EvaluatedAll = evaluated_all (trees_of args) e s in value_step (built_in_function name all.trees all.state) preds name all into gs k es
+    let all : EvaluatedAll = evaluated_all (trees_of args) e s in value_step v (built_in_function name all.trees all.state) preds name all into gs k es
 goal_step v preds (seq hs) gs e s k es = silently (config (going hs e s (behind gs k)) es)
 goal_step v preds (alternatives hs) gs e s k es = silently (branch hs (back_to e s (behind gs k)) es)
 goal_step v preds (if_else test g other) gs e s k es = silently (inside test e s (strict (if_level g other) (back_to e s (behind gs k))) es)

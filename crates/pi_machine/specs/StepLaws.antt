@@ -11,7 +11,7 @@ use Rattle.pi_meaning.specs.View.{View}
 use Rattle.pi_core.specs.declared.core_program.NameSlot.{NameSlot}
 use Rattle.pi_machine.specs.Configuration.{Back, Called, once_level, not_level, if_level, guard_level, value_level, Entry, Config}
 use Rattle.pi_machine.specs.Remaining.{remaining}
-use Rattle.pi_machine.specs.Step.{Outcome, silently, with_tick, quietly, writing, answering, ending, branch, strict_step, leave, step}
+use Rattle.pi_machine.specs.Step.{Outcome, silently, with_tick, quietly, deeper, writing, answering, ending, branch, strict_step, leave, step}
 use Rattle.pi_machine.specs.Shape.{IsGood}
 use Rattle.pi_machine.specs.Built.{AreOfRules}
 use Rattle.pi_machine.specs.Weight.{GetsLighter}
@@ -22,6 +22,7 @@ abbrev pub Comes : View → List PredTree → List NameSlot → Config → Outco
 Comes v preds names c (silently next) = (d : ℕ) → remaining v preds names d c ≡ remaining v preds names d next
 Comes v preds names c (with_tick next) = (d : ℕ) → Below (note Tick (remaining v preds names d next)) (remaining v preds names (suc d) c)
 Comes v preds names c (quietly next) = (d : ℕ) → Below (remaining v preds names d next) (remaining v preds names (suc d) c)
+Comes v preds names c (deeper next) = (d : ℕ) → Below (remaining v preds names d next) (remaining v preds names (suc d) c)
 Comes v preds names c (writing text next) = (d : ℕ) → remaining v preds names d c ≡ note (Out text) (remaining v preds names d next)
 Comes v preds names c (answering x next) = (d : ℕ) → remaining v preds names d c ≡ ans x (remaining v preds names d next)
 Comes v preds names c (ending e) = (d : ℕ) → remaining v preds names d c ≡ end e
@@ -30,6 +31,7 @@ abbrev pub GoesOnGood : Outcome → Type 0
 GoesOnGood (silently next) = IsGood next
 GoesOnGood (with_tick next) = IsGood next
 GoesOnGood (quietly next) = IsGood next
+GoesOnGood (deeper next) = IsGood next
 GoesOnGood (writing text next) = IsGood next
 GoesOnGood (answering x next) = IsGood next
 GoesOnGood (ending e) = ⊤

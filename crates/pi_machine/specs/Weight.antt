@@ -1,18 +1,24 @@
 -- A weight of configurations, which falls at each step that counts no Tick: so between two Ticks there are only so many
 -- steps. What a goal weighs goes by what is behind an answer of it weighs, `behind`; how many answers it can have before a
 -- Tick is in that.
-use Rattle.std.specs.Prelude.{ℕ, zero, suc, ◌+◌, ◌<◌, Bool, true, false, List, [], ◌∷◌, ⊤}
+use Rattle.std.specs.Prelude.{ℕ, zero, suc, ◌+◌, ◌<◌, Bool, true, false, List, [], ◌∷◌, length, ⊤}
 use Rattle.pi_core.specs.GoalTree.{GoalTree, truth, fail, tick, call, apply, seq, alternatives, if_else, not, once, collect, count, catch, GoalTrees, no_goals, goal}
 use Rattle.pi_core.specs.CoreTree.{ClauseTree}
+use Rattle.pi_meaning.specs.Names.{is_call}
 use Rattle.pi_machine.specs.Configuration.{Frame, more, return, give, Choice, rules_left, branches_left, Strict, once_level, not_level, if_level, guard_level, value_level, list_level, number_level, Entry, choice, strict, catch_level, left, Now, going, telling, failed, raising, Config}
-use Rattle.pi_machine.specs.Step.{Outcome, silently, with_tick, quietly, writing, answering, ending}
+use Rattle.pi_machine.specs.Step.{Outcome, silently, with_tick, quietly, deeper, writing, answering, ending}
+
+-- `call` weighs more than the goals by a name that it leads to
+abbrev pub call_weight : Bool → ℕ → ℕ
+call_weight true behind = suc (suc (suc (suc (suc behind))))
+call_weight false behind = suc (suc (suc behind))
 
 unfoldable mutual
   pub goal_weight : GoalTree → ℕ → ℕ
   goal_weight truth behind = suc behind
   goal_weight fail behind = 1
   goal_weight tick behind = 1
-  goal_weight (call name args) behind = suc (suc (suc behind))
+  goal_weight (call name args) behind = call_weight (is_call name (length args)) behind
   goal_weight (apply name args slot) behind = suc (suc behind)
   goal_weight (seq gs) behind = suc (goals_weight gs behind)
   goal_weight (alternatives gs) behind = suc (branches_weight gs behind)
@@ -106,11 +112,12 @@ now_weight (raising ball) answer = 1
 unfoldable pub weight : Config → ℕ
 weight c = now_weight c.now (answer_weight zero c.stack) + stack_weight c.stack
 
--- a step that takes nothing from the depth
+-- a step that neither counts a Tick nor enters a quiet call
 abbrev pub GetsLighter : Config → Outcome → Type 0
 GetsLighter c (silently next) = weight next < weight c
 GetsLighter c (with_tick next) = ⊤
 GetsLighter c (quietly next) = ⊤
+GetsLighter c (deeper next) = weight next < weight c
 GetsLighter c (writing text next) = weight next < weight c
 GetsLighter c (answering x next) = weight next < weight c
 GetsLighter c (ending e) = ⊤
