@@ -1,11 +1,11 @@
 -- Calls of what is built in: a name that stands among the names, and the predicates that bind nothing.
-use Rattle.std.proofs.Common.{◌≡◌, ◌≢◌, ℕ, ◌+◌, Bool, true, false, cond, List, [], ◌∷◌, ◌++◌, Option, Some, None, length, option_map, refl, sym, ◌∙◌, ap, subst}
-use Rattle.std.specs.Prelude.{codes, slice_get, ◌==◌, Result, Ok, Err}
+use Rattle.std.proofs.Common.{◌≡◌, ◌≢◌, ℕ, Bool, true, false, cond, List, [], ◌∷◌, ◌++◌, Option, Some, None, length, option_map, refl, sym, ◌∙◌, ap, subst}
+use Rattle.std.specs.Prelude.{codes, slice_get, Ok, Err}
 use Rattle.std.specs.Option.{option_or}
 use Rattle.std.specs.Str.{bytes_eq}
 use Rattle.std.proofs.lemmas.Bool.Decides.{Decides-eqb}
 use Rattle.std.proofs.lemmas.Slice.Eq.{bytes_eq-Decides}
-use Rattle.pi_terms.specs.Tree.{Tree, Trees, no_trees, tree, tree_count, var, atom, cells}
+use Rattle.pi_terms.specs.Tree.{Tree, no_trees, tree, tree_count, var, atom, cells}
 use Rattle.pi_terms.specs.Variables.{occurrences}
 use Rattle.pi_terms.specs.Substitution.{instance}
 use Rattle.pi_states.specs.Value.{rounds, value}
@@ -19,7 +19,7 @@ use Rattle.pi_effects.specs.Comparing.{comparing_tests}
 use Rattle.pi_effects.specs.Kinds.{kind_tests}
 use Rattle.pi_effects.specs.Texts.{writing_predicates}
 use Rattle.pi_effects.specs.BuiltIns.{tests, test_in, writing_in, other_predicates, built_in_predicate}
-use Rattle.pi_builtin.specs.Names.{takes, may_bind}
+use Rattle.pi_builtin.specs.Names.{may_bind}
 use Rattle.pi_builtin.specs.Resolved.{IsFunctionNamed, IsPredicateNamed}
 use Rattle.pi_builtin.specs.declared.functions.Function.{Function}
 use Rattle.pi_builtin.specs.declared.predicates.Predicate.{Predicate}
@@ -38,7 +38,7 @@ use Rattle.pi_code.proofs.LaidTerms.{wider-added, operands-wider}
 
 -- the tables with the names of others
 abbrev pub with_names : Code → Code → Code
-with_names d e = record { core = d.core; helpers = d.helpers; steps = d.steps; operands = d.operands; parts = d.parts; names = e.names; tests = d.tests; rules = d.rules; predicates = d.predicates }
+with_names d e = record { core = d.core; helpers = d.helpers; steps = d.steps; operands = d.operands; parts = d.parts; names = e.names; tests = d.tests; rules = d.rules; predicates = d.predicates; callables = d.callables }
 
 pub name-pushed : {M : Type 0} (v : StoreView M) (d e : Code) (name : List ℕ) → e.names.items ≡ d.names.items ++ name ∷ [] → AddsOperands v v d (with_names d e)
 name-pushed v d e name pushed =

@@ -104,6 +104,7 @@ resolved-node preds t k (Node.Apply m first slot) is = (is.0, length is.1, is.3,
 resolved-node preds t k (Node.Value value) is = tt
 resolved-node preds t k (Node.BuiltIn p m first arity) is = tt
 resolved-node preds t k (Node.BuiltInValue f m first arity slot) is = tt
+resolved-node preds t k (Node.CallTerm first arity) is = tt
 
 pub resolved-more : (preds : List CorePred) (ss rs : List Step) (s : Step) → rs ≡ ss ++ s ∷ [] → IsResolved preds s.node → AreResolved preds ss → AreResolved preds rs
 resolved-more preds ss rs s e is are i r at =
@@ -113,7 +114,7 @@ resolved-more preds ss rs s e is are i r at =
     ]
 
 abbrev with_steps : Code → Code → Code
-with_steps d e = record { core = d.core; helpers = d.helpers; steps = e.steps; operands = d.operands; parts = d.parts; names = d.names; tests = d.tests; rules = d.rules; predicates = d.predicates }
+with_steps d e = record { core = d.core; helpers = d.helpers; steps = e.steps; operands = d.operands; parts = d.parts; names = d.names; tests = d.tests; rules = d.rules; predicates = d.predicates; callables = d.callables }
 
 pub step-pushed : {M : Type 0} (v : StoreView M) (d e : Code) (s : Step) → e.steps.items ≡ d.steps.items ++ s ∷ [] → AddsSteps v v d (with_steps d e)
 step-pushed v d e s pushed =

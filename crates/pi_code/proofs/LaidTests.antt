@@ -3,10 +3,11 @@ use Rattle.pi_terms.specs.PatternTree.{PatternTree, PatternTrees, no_patterns, p
 use Rattle.std.proofs.Common.{◌≡◌, ◌≢◌, ℕ, zero, suc, ◌+◌, ◌<◌, ◌≤◌, Bool, false, List, [], ◌∷◌, ◌++◌, Some, length, take, get_or, refl, sym, ◌∙◌, ap, subst, arith, length-append}
 use Rattle.std.specs.Prelude.{slice_get}
 use Rattle.std.proofs.lemmas.List.{take_more, take_all}
-use Rattle.pi_terms.specs.Tree.{atom}
+use Rattle.pi_terms.specs.Tree.{Tree, atom}
 use Rattle.pi_states.specs.State.{bindings, followed, followed_for}
 use Rattle.pi_states.specs.Value.{Bindings, IsAcyclic}
-use Rattle.pi_states.specs.Store.{StoreView, Stays}
+use Rattle.pi_states.specs.Store.{StoreView, ShowsCell, IsName, Stays}
+use Rattle.pi_states.specs.declared.store.Cell.{Cell}
 use Rattle.pi_core.specs.GoalCells.{kind_of, kind_shown, subgoals-children}
 use Rattle.pi_core.specs.declared.goal_node.GoalKind.{GoalKind}
 use Rattle.pi_core.specs.declared.goal_node.GoalNode.{GoalNode}
@@ -62,6 +63,28 @@ unfolding pattern_tree followed
 atom-test p name put shown b is same e =
     let shows : atom put ≡ atom shown = sym (followed-atom (length b) b put) ∙ e in ap pattern_tree is ∙ cc
 
+-- the number of an atom, as it was put
+put-shown : (name shown : List ℕ) (b : Bindings) → followed b (atom name) ≡ atom shown → name ≡ shown
+unfolding followed
+put-shown name shown b e = let same : atom name ≡ atom shown = sym (followed-atom (length b) b name) ∙ e in cc
+
+pub number-shown : {M : Type 0} (v : StoreView M) (name : List ℕ) (b : Bindings) (k : ℕ) → ShowsCell v (followed b (atom name)) (Cell.Atom k) → IsName v k name
+number-shown v name b k (shown, named, e) = subst (IsName v k) (sym (put-shown name shown b e)) named
+
+atom-is : (name : List ℕ) (b : Bindings) → followed b (atom name) ≡ atom name
+unfolding followed
+atom-is name b = followed-atom (length b) b name
+
+no-cell : {M : Type 0} (v : StoreView M) (name : List ℕ) (t : Tree) (cell : Cell) → t ≡ atom name → ShowsCell v t cell → ((k : ℕ) → cell ≡ Cell.Atom k → ⊥) → ⊥
+no-cell v name t (Cell.Var n) is shows other = cc (is, shows)
+no-cell v name t (Cell.Int n) is shows other = cc (is, shows)
+no-cell v name t (Cell.Atom k) is shows other = other k refl
+no-cell v name t (Cell.Comp k count) is shows other = cc (is, shows.2)
+
+-- it is shown as one
+pub atom-shown : {M : Type 0} (v : StoreView M) (name : List ℕ) (b : Bindings) (cell : Cell) → ShowsCell v (followed b (atom name)) cell → ((k : ℕ) → cell ≡ Cell.Atom k → ⊥) → ⊥
+atom-shown v name b cell shows other = no-cell v name (followed b (atom name)) cell (atom-is name b) shows other
+
 -- so many tests were added
 pub record TestsAdded {M : Type 0} (v w : StoreView M) (c d : Code) (head : List Pattern) (deep : Bool) (i : ℕ) : Type 0 where
   pub stays : Stays v w
@@ -82,7 +105,7 @@ pub rule-by-steps : {M : Type 0} (v w : StoreView M) (c d : Code) → AddsSteps 
 rule-by-steps v w c d a = record { adds = a.adds; rules = a.rules; predicates = a.predicates }
 
 abbrev with_tests : Code → Code → Code
-with_tests d e = record { core = d.core; helpers = d.helpers; steps = d.steps; operands = d.operands; parts = d.parts; names = d.names; tests = e.tests; rules = d.rules; predicates = d.predicates }
+with_tests d e = record { core = d.core; helpers = d.helpers; steps = d.steps; operands = d.operands; parts = d.parts; names = d.names; tests = e.tests; rules = d.rules; predicates = d.predicates; callables = d.callables }
 
 pub test-added : {M : Type 0} (v w x : StoreView M) (c d e : Code) (head : List Pattern) (deep own deeper : Bool) (i : ℕ) (p : Pattern) (t : HeadTest) → TestsAdded v w c d head deep i → i < length head → p ≡ get_or head i p → Stays w x →
     (IsAcyclic (bindings w.now.state) → IsTestOf x.names (pattern_tree p) t) → (own ≡ false → t ≢ HeadTest.Deep) → (deeper ≡ false → (deep ≡ false) × (own ≡ false)) → e.tests.items ≡ d.tests.items ++ t ∷ [] → TestsAdded v x c (with_tests d e) head deeper (i + 1)

@@ -10,3 +10,5 @@ pub mod LaidSteps
 pub mod LaidTests
 pub mod LaidWhole
 pub mod LaidBuiltIns
+pub mod CalledNames
+pub mod LaidNames

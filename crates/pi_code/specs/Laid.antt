@@ -1,6 +1,6 @@
 -- A program and a goal laid out in tables that only grow: what operands, nodes and steps stand for in tables as they are at
 -- one moment, and in all longer ones.
-use Rattle.std.specs.Prelude.{◌≡◌, ◌≢◌, ◌⊎◌, ℕ, suc, ◌+◌, ◌-◌, ◌≤◌, ◌<◌, ℤ, Bool, true, false, List, [], ◌∷◌, ◌++◌, Some, length, map, slice_get, slice_index_or, codes, ⊤}
+use Rattle.std.specs.Prelude.{◌≡◌, ◌⊎◌, ℕ, suc, ◌+◌, ◌-◌, ◌≤◌, ◌<◌, ℤ, Bool, true, false, List, [], ◌∷◌, ◌++◌, Some, length, map, slice_get, slice_index_or, codes, ⊤}
 use Rattle.pi_terms.specs.Tree.{Tree, var, int, atom, comp, cells, subterms, args, arity}
 use Rattle.pi_terms.specs.Variables.{IsGround}
 use Rattle.pi_states.specs.Store.{Terms, StoreView, Stays}
@@ -10,6 +10,7 @@ use Rattle.pi_core.specs.declared.goal_node.GoalKind.{GoalKind}
 use Rattle.pi_core.specs.declared.goal_node.GoalNode.{GoalNode}
 use Rattle.pi_core.specs.declared.core_program.CorePred.{CorePred}
 use Rattle.pi_effects.specs.BuiltIns.{is_function, is_predicate}
+use Rattle.pi_meaning.specs.Names.{is_call}
 use Rattle.pi_builtin.specs.declared.predicates.Predicate.{Predicate}
 use Rattle.pi_builtin.specs.Names.{may_bind}
 use Rattle.pi_builtin.specs.Resolved.{IsFunctionNamed, IsPredicateNamed}
@@ -114,9 +115,9 @@ pub record IsNamed (preds : List CorePred) (function : Bool) (n : ℕ) (name : L
 abbrev pub IsUnnamed : List CorePred → Bool → List ℕ → ℕ → Type 0
 IsUnnamed preds function name k = (n : ℕ) → IsNamed preds function n name k → ⊥
 
--- no predicate or function of this name with so many arguments is built in
+-- no predicate or function of this name with so many arguments is built in, and it calls no term
 abbrev pub IsNotBuiltIn : Bool → List ℕ → ℕ → Type 0
-IsNotBuiltIn false name k = is_predicate name k ≡ false
+IsNotBuiltIn false name k = (is_predicate name k ≡ false) × (is_call name k ≡ false)
 IsNotBuiltIn true name k = is_function name k ≡ false
 
 -- what is called isn't there
@@ -155,6 +156,8 @@ IsNodeOf preds t k (Node.BuiltIn p n first arity) =
     (name : List ℕ) × (us : List Tree) × (k ≡ GoalKind.Call name us) × (slice_get t.names n ≡ Some name) × (arity ≡ length us) × IsEffectOf name (length us) p × OperandsAt t first us
 IsNodeOf preds t k (Node.BuiltInValue f n first arity slot) =
     (name : List ℕ) × (us : List Tree) × (k ≡ GoalKind.Apply name us slot) × (slice_get t.names n ≡ Some name) × (arity ≡ length us) × IsFunctionNamed name (length us) f × OperandsAt t first us
+IsNodeOf preds t k (Node.CallTerm first arity) =
+    (us : List Tree) × (k ≡ GoalKind.Call (codes "call") us) × (arity ≡ length us) × (is_call (codes "call") (length us) ≡ true) × OperandsAt t first us
 
 -- a goal, and whether something is left to do behind it in its body
 pub record Marked : Type 0 where

@@ -1,6 +1,6 @@
 -- Rules and predicates laid out in tables that only grow.
 use Rattle.pi_terms.specs.PatternTree.{PatternTree, slot, exact_int, exact_atom, PatternTrees, no_patterns, pattern}
-use Rattle.std.specs.Prelude.{◌≡◌, ◌≢◌, ℕ, suc, ◌+◌, Bool, false, List, [], ◌∷◌, Option, Some, None, length, map, is_none, slice_get, ⊤}
+use Rattle.std.specs.Prelude.{◌≡◌, ◌≢◌, ℕ, suc, ◌+◌, Bool, false, List, [], ◌∷◌, Option, Some, None, length, map, is_none, slice_get, AllPairs, ⊤}
 use Rattle.pi_terms.specs.Tree.{Tree}
 use Rattle.pi_states.specs.Store.{StoreView}
 use Rattle.pi_core.specs.GoalTree.{GoalTree, truth, nodes}
@@ -12,6 +12,8 @@ use Rattle.pi_code.specs.declared.code.Rule.{Rule}
 use Rattle.pi_code.specs.declared.code.Predicate.{Predicate}
 use Rattle.pi_code.specs.declared.code.Code.{Code}
 use Rattle.pi_code.specs.Code.{Tables}
+use Rattle.pi_meaning.specs.Sound.{IsAnother}
+use Rattle.pi_code.specs.Callables.{AreCallable}
 use Rattle.pi_code.specs.Laid.{Adds, IsLaid, IsValueLaid, AreResolved}
 
 -- a test is that of a pattern; a pattern that needs more is looked up in the program
@@ -78,8 +80,10 @@ PredicatesAt preds t names code at [] = ⊤
 PredicatesAt preds t names code at (pred ∷ more) =
     ((p : Predicate) × (slice_get code.predicates.items at ≡ Some p) × IsPredicateLaid preds t names code pred p) × PredicatesAt preds t names code (suc at) more
 
--- the predicates of a program and its query's own are laid out, and the query's goal at a place; each call is resolved
+-- the predicates of a program and its query's own are laid out, and the query's goal at a place; each call is resolved, and where no two predicates are alike, the goals by
+-- which names are called have their places
 pub record IsFilled (all : List CorePred) (t : Tables) (names : List (List ℕ)) (code : Code) (goal : GoalTree) (slots place : ℕ) : Type 0 where
   pub predicates : PredicatesAt all t names code 0 (map pred_tree all)
   pub goal_is : IsLaid all t code.steps.items 0 slots place goal false
   pub resolved : AreResolved all code.steps.items
+  pub callables : AllPairs IsAnother (map pred_tree all) → AreCallable all t names code.steps.items code.callables

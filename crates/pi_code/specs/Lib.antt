@@ -2,3 +2,4 @@ pub mod Code
 pub mod Laid
 pub mod Numbers
 pub mod LaidRules
+pub mod Callables

@@ -8,11 +8,13 @@ ghost use Rattle.pi_code.specs.Laid.{tables_for};
 ghost use Rattle.pi_code.specs.LaidRules.{IsFilled};
 
 mod goals;
+mod named;
 mod numbers;
 mod rules;
 mod sizes;
 mod terms;
 
+use crate::callables::Callables;
 use crate::code::Code;
 use numbers::Numbers;
 use pi_core::{CoreGoal, CorePred, CorePreds, CoreProgram};
@@ -66,6 +68,8 @@ fn fill<'p, S: StateStore>(
         slots,
     };
     let place = builder.add_goal(&mut code, store, goal, shape, false)?;
+    let callables = builder.add_callables(&mut code, store, preds, helpers)?;
+    code.callables = callables;
     Ok((code, place))
 }
 
@@ -85,6 +89,7 @@ fn no_code(alloc: Global, core: &CoreProgram) -> Code<'_>
         tests: Vec::new(alloc),
         rules: Vec::new(alloc),
         predicates: Vec::new(alloc),
+        callables: Callables::new(alloc),
     }
 }
 

@@ -4,8 +4,10 @@ ghost use Rattle.pi_terms.specs.Tree.{Tree};
 ghost use Rattle.pi_core.specs.GoalTree.{GoalTree, nodes, child_count};
 ghost use Rattle.pi_core.specs.GoalCells.{cell_of};
 ghost use Rattle.pi_core.specs.CoreTree.{ClauseTree, PredTree, pattern_trees, pred_tree};
+ghost use Rattle.pi_code.specs.Callables.{place_in};
 ghost use Rattle.pi_code.specs.Code.{tables_of, preds_of, step_cell, StandsAt, child_place};
 
+use crate::callables::Callables;
 use pi_builtin::{Function, Predicate as BuiltInPredicate};
 use pi_core::{CorePred, CorePreds, CoreProgram, Pattern};
 use pi_states::Ref;
@@ -63,6 +65,8 @@ pub enum Node {
     BuiltIn(BuiltInPredicate, u32, u32, u32),
     /// The same of a built-in function, and the slot that takes its value.
     BuiltInValue(Function, u32, u32, u32, u32),
+    /// `call` of a term with more arguments: where these operands begin, and how many they are.
+    CallTerm(u32, u32),
 }
 
 /// A node at its place in the one table of all goals. A goal's child goals follow it, one behind the other.
@@ -130,6 +134,8 @@ pub struct Code<'p> {
     pub tests: Vec<HeadTest>,
     pub rules: Vec<Rule>,
     pub predicates: Vec<Predicate>,
+    /// Where the goals stand by which `call` runs what a term names.
+    pub callables: Callables,
 }
 
 impl Code<'_> {
@@ -236,6 +242,14 @@ impl Code<'_> {
         self.tests
             .get(first..first.saturating_add(count as usize))
             .unwrap_or(&[])
+    }
+
+    /// The place of the goal by which the name with this number is called with so many arguments, where there is one. All
+    /// slots that it has are its arguments.
+    pub fn goal_named(&self, name: u64, arity: u64) -> Option<u32>
+        ensures { result ≡ place_in self.now.callables name arity }
+    {
+        self.callables.place(name, arity)
     }
 
     /// The predicate with this number as it stands in the program or among the goal's own.

@@ -2,7 +2,9 @@
 #![tactic(auto)]
 
 mod build;
+mod callables;
 mod code;
 
 pub use build::build_code;
+pub use callables::{Callable, Callables};
 pub use code::{Code, HeadTest, Node, Operand, Part, Predicate, Rule, Step};

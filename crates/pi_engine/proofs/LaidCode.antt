@@ -9,7 +9,7 @@ use Rattle.pi_core.specs.GoalTree.{GoalTree, no_goals, goal, nodes}
 use Rattle.pi_terms.specs.PatternTree.{PatternTrees, no_patterns, pattern}
 use Rattle.pi_core.specs.CoreTree.{ClauseTree, PredTree, pred_tree}
 use Rattle.pi_meaning.specs.Sound.{IsSound, IsSoundClause, pattern_count}
-use Rattle.pi_meaning.specs.Defined.{ClauseCallsDefined, ProgramCallsDefined}
+use Rattle.pi_meaning.specs.Defined.{ClauseCallsDefined, ProgramCallsDefined, NamesAreFree}
 use Rattle.pi_core.specs.declared.core_program.CorePred.{CorePred}
 use Rattle.pi_code.specs.declared.code.HeadTest.{HeadTest}
 use Rattle.pi_code.specs.declared.code.Rule.{Rule}
@@ -22,6 +22,7 @@ use Rattle.pi_code.specs.Laid.{tables_for, IsLaid}
 use Rattle.pi_code.specs.LaidRules.{TestsAt, IsGuardLaid, IsBodyEnd, IsRuleLaid, RulesAt, IsPredicateLaid, PredicatesAt, IsFilled}
 use Rattle.pi_stands.proofs.ReadsHere.{drop-got}
 use Rattle.pi_engine.proofs.LaidHere.{goal-here, value-here, have-numbers}
+use Rattle.pi_engine.proofs.NamedLaid.{named-stand}
 
 -- ---- tests
 
@@ -120,12 +121,13 @@ predicates-got all t names code at (q ∷ ps) (suc i) pred (first, rest) here =
     let more : (p : Predicate) × (slice_get code.predicates.items (suc at + i) ≡ Some p) × IsPredicateLaid all t names code pred p = predicates-got all t names code (suc at) ps i pred rest here in
     (more.0, ap (slice_get code.predicates.items) (omega arith) ∙ more.1, more.2)
 
-pub code-stands : (terms : Terms) (names : List (List ℕ)) (code : Code) (g : GoalTree) (slots place : ℕ) → IsFilled (preds_of code) (tables_of terms code) names code g slots place → IsSound (map pred_tree (preds_of code)) → ProgramCallsDefined (map pred_tree (preds_of code)) →
+pub code-stands : (terms : Terms) (names : List (List ℕ)) (code : Code) (g : GoalTree) (slots place : ℕ) → IsFilled (preds_of code) (tables_of terms code) names code g slots place → IsSound (map pred_tree (preds_of code)) → ProgramCallsDefined (map pred_tree (preds_of code)) → NamesAreFree (map pred_tree (preds_of code)) →
     IsCodeOf code (tables_of terms code) names (map pred_tree (preds_of code))
-code-stands terms names code g slots place filled sound calls =
+code-stands terms names code g slots place filled sound calls free =
     record {
       source = refl;
       apart = sound.apart;
+      free = free;
       predicates = λ n pred at.
           (let got : (p : Predicate) × (slice_get code.predicates.items (0 + n) ≡ Some p) × IsPredicateLaid (preds_of code) (tables_of terms code) names code pred p =
           predicates-got (preds_of code) (tables_of terms code) names code 0 (map pred_tree (preds_of code)) n pred filled.predicates at in (
@@ -134,6 +136,7 @@ code-stands terms names code g slots place filled sound calls =
             predicate-stands (preds_of code) terms names code pred got.0 got.2 (sound.clauses pred (member (map pred_tree (preds_of code)) n pred at)) (calls pred (member (map pred_tree (preds_of code)) n pred at)),
           ));
       numbers = have-numbers (preds_of code) code.steps.items filled.resolved;
+      named = named-stand terms names code (filled.callables sound.apart);
     }
 
 -- ---- filling

@@ -9,6 +9,7 @@ use Rattle.pi_core.specs.GoalTree.{GoalTree, truth, fail, tick, call, apply, seq
 use Rattle.pi_core.specs.GoalCells.{kind_of, cell_of, flat}
 use Rattle.pi_core.specs.CoreTree.{pred_tree}
 use Rattle.pi_meaning.specs.Sound.{SlotsBelow, NamesBelow}
+use Rattle.pi_meaning.specs.Names.{is_call}
 use Rattle.pi_meaning.specs.Defined.{CallsDefined}
 use Rattle.pi_core.specs.declared.goal_node.GoalCell.{GoalCell}
 use Rattle.pi_core.specs.declared.goal_node.GoalKind.{GoalKind}
@@ -77,6 +78,7 @@ node-reads ps terms code k (Node.BuiltIn built m first arity) is known =
 node-reads ps terms code k (Node.BuiltInValue built m first arity slot) is known =
     ap (λ name. GoalKind.Apply name (operand_trees (tables_for ps terms code) first arity) slot) (name-read (tables_for ps terms code) m is.0 is.3)
     ∙ ap (λ us. GoalKind.Apply is.0 us slot) (operands-taken ps terms code first arity is.1 is.4 is.6) ∙ sym is.2
+node-reads ps terms code k (Node.CallTerm first arity) is known = ap (GoalKind.Call (codes "call")) (operands-taken ps terms code first arity is.0 is.2 is.4) ∙ sym is.1
 
 -- the slots that a kind of goal names are below n
 abbrev KindBelow : ℕ → GoalKind → Type 0
@@ -146,6 +148,8 @@ node-readable ps terms code b k (Node.BuiltInValue built m first arity slot) is 
       subst (λ n. IsFunctionNamed n arity built) (sym (name-read (tables_for ps terms code) m is.0 is.3)) (subst (λ n. IsFunctionNamed is.0 n built) (sym is.4) is.5),
       all.1,
     )
+node-readable ps terms code b k (Node.CallTerm first arity) is below =
+    (built-readable ps terms code b first arity is.0 is.2 is.4 (subst (KindBelow b.count) is.1 below), ap (is_call (codes "call")) is.2 ∙ is.3)
 
 -- ---- steps
 
@@ -333,6 +337,7 @@ has-number ps (Node.Apply m first slot) is = (pred_tree is.2.pred, slice_get-map
 has-number ps (Node.Value value) is = tt
 has-number ps (Node.BuiltIn built m first arity) is = tt
 has-number ps (Node.BuiltInValue built m first arity slot) is = tt
+has-number ps (Node.CallTerm first arity) is = tt
 
 pub have-numbers : (ps : List CorePred) (steps : List Step) → AreResolved ps steps → (i : ℕ) (s : Step) → slice_get steps i ≡ Some s → HasNumber (map pred_tree ps) s.node
 have-numbers ps steps are i s at = has-number ps s.node (are i s at)

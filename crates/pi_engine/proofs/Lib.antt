@@ -6,3 +6,4 @@ pub mod NextTurns
 pub mod RunsTold
 pub mod TicksHappen
 mod AddsExamples
+mod NamedLaid

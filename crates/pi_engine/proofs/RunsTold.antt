@@ -4,7 +4,7 @@ use Rattle.std.specs.Prelude.{Contains}
 use Rattle.pi_terms.specs.Tree.{Tree}
 use Rattle.pi_states.specs.Store.{StoreView}
 use Rattle.pi_meaning.specs.View.{View}
-use Rattle.pi_meaning.specs.Instances.{tabled}
+use Rattle.pi_meaning.specs.Instances.{no_later, whole}
 use Rattle.pi_core.specs.CoreTree.{PredTree, QueryTree}
 use Rattle.pi_traces.specs.Depth.{Spent}
 use Rattle.pi_traces.specs.Trace.{End, Done, Raise, Tick, Load, Out, Emitted, noted, answered, count_ticks}
@@ -139,9 +139,9 @@ ends-with v program q events more c d e leads then ends n less =
 
 -- it is about to count a Tick
 cut-off : (v : View) (program : List PredTree) (q : QueryTree) (events : List (Emitted Solution)) (k : ℕ) (c d : Config) → Leads v (program ++ q.helpers) q.names events (start q) c → Leads v (program ++ q.helpers) q.names (some_ticks k) c d →
-    IsAtTick v (program ++ q.helpers) q.names d → IsRunUnder (tabled v) program q (count_ticks events + k) (record { events = events ++ some_ticks k; stop = Spent })
+    IsAtTick v (program ++ q.helpers) q.names d → IsRunUnder (whole v no_later (program ++ q.helpers)) program q (count_ticks events + k) (record { events = events ++ some_ticks k; stop = Spent })
 cut-off v program q events k c d leads then at =
-    subst (λ n. IsRunUnder (tabled v) program q n (record { events = events ++ some_ticks k; stop = Spent })) (count-added events k)
+    subst (λ n. IsRunUnder (whole v no_later (program ++ q.helpers)) program q n (record { events = events ++ some_ticks k; stop = Spent })) (count-added events k)
     (spent-run v program q (events ++ some_ticks k) d (leads-on v (program ++ q.helpers) q.names events (some_ticks k) (start q) c d leads then) at)
 
 steps-used : (mode : Mode) (b : Budget) → mode ≡ Mode.Top → HasNone mode b → AreStepsUsed b

@@ -1,7 +1,7 @@
 -- What a call of `next` comes to that adds Ticks alone, as one of all that it may come to.
 use Rattle.std.proofs.Common.{inl, ℕ, zero, suc, ◌+◌, List, [], ◌∷◌, ◌++◌, refl, sym, subst, append_assoc, arith}
 use Rattle.pi_meaning.specs.View.{View}
-use Rattle.pi_meaning.specs.Instances.{tabled}
+use Rattle.pi_meaning.specs.Instances.{no_later, whole}
 use Rattle.pi_core.specs.CoreTree.{PredTree, QueryTree}
 use Rattle.pi_traces.specs.Depth.{Spent}
 use Rattle.pi_traces.specs.Trace.{Raise, Tick, Out, Emitted, noted, answered, count_ticks}
@@ -45,10 +45,10 @@ ticks-added mode old new h counts = record {
 }
 
 stops-at : {M : Type 0} (v : View) (program : List PredTree) (q : QueryTree) (events : List (Emitted Solution)) (k : ℕ) (m : MachineView M) →
-    IsRunUnder (tabled v) program q (count_ticks events + k) (record { events = events ++ some_ticks k; stop = Spent }) → RunsTo v m program q (events ++ some_ticks k) →
+    IsRunUnder (whole v no_later (program ++ q.helpers)) program q (count_ticks events + k) (record { events = events ++ some_ticks k; stop = Spent }) → RunsTo v m program q (events ++ some_ticks k) →
     StopsBefore v program q (events ++ some_ticks k) m Tick
 stops-at v program q events k m is runs =
-    record { next = subst (λ n. IsRunUnder (tabled v) program q n (record { events = events ++ some_ticks k; stop = Spent })) (sym (count-added events k)) is; runs = runs }
+    record { next = subst (λ n. IsRunUnder (whole v no_later (program ++ q.helpers)) program q n (record { events = events ++ some_ticks k; stop = Spent })) (sym (count-added events k)) is; runs = runs }
 
 ticks-come : {M : Type 0} (v : View) (program : List PredTree) (q : QueryTree) (events : List (Emitted Solution)) (k : ℕ) (after : MachineView M) (new : Budget) (h : Happening) →
     ComesByTicks v program q events k after new h → Comes v program q (events ++ some_ticks k) after new h

@@ -27,7 +27,7 @@ use Rattle.pi_machine.specs.Leads.{Leads}
 use Rattle.pi_machine.specs.Next.{Tells, some_ticks}
 use Rattle.pi_machine.specs.Shape.{IsGood}
 use Rattle.pi_stands.specs.Stands.{World, GoingIs, NowIs, going_now, telling_now, failing_now, raising_now, Stands}
-use Rattle.pi_machine.specs.Step.{Outcome, silently, with_tick, quietly, writing, answering, ending, fail_step, raise_step, step}
+use Rattle.pi_machine.specs.Step.{Outcome, silently, with_tick, quietly, deeper, writing, answering, ending, fail_step, raise_step, step}
 use Rattle.pi_engine.specs.Turns.{StepIs, StepStops}
 use Rattle.pi_stands.proofs.GoalsGo.{is-at, none-counted, unspent, silent-goes}
 use Rattle.pi_machine.proofs.LeadLemmas.{leads-none, leads-on, step-ends, step-writes, good-writing}
@@ -51,6 +51,7 @@ comes-to-goes : {M : Type 0} (v : View) (names : List NameSlot) (after : World M
 comes-to-goes v names after now c (silently d) rules good is stands = silent-goes v names after now c d rules good is (is-at v names after now d stands)
 comes-to-goes v names after now c (with_tick d) rules good is never = absurd never
 comes-to-goes v names after now c (quietly d) rules good is never = absurd never
+comes-to-goes v names after now c (deeper d) rules good is never = absurd never
 comes-to-goes v names after now c (writing text d) rules good is never = absurd never
 comes-to-goes v names after now c (answering x d) rules good is never = absurd never
 comes-to-goes v names after now c (ending e) rules good is ended = ends-so v names after now c e rules good is ended
@@ -66,6 +67,7 @@ comes-to-unspent : {M : Type 0} (after : World M) (mode : Mode) (b : Budget) (no
 comes-to-unspent after mode b now (silently d) stands = unspent after mode b now d stands
 comes-to-unspent after mode b now (with_tick d) never = absurd never
 comes-to-unspent after mode b now (quietly d) never = absurd never
+comes-to-unspent after mode b now (deeper d) never = absurd never
 comes-to-unspent after mode b now (writing text d) never = absurd never
 comes-to-unspent after mode b now (answering x d) never = absurd never
 comes-to-unspent after mode b now (ending e) ended = ended-unspent mode b now e ended

@@ -4,7 +4,7 @@ use Rattle.std.specs.Prelude.{◌≡◌, ◌⊎◌, ◌≤◌, ℕ, ◌+◌, Lis
 use Rattle.pi_traces.specs.Trace.{End, Done, Raise, Note, Tick, Load, Out, Emitted, noted, answered, count_ticks}
 use Rattle.pi_traces.specs.Depth.{Cut, Spent, with_events}
 use Rattle.pi_meaning.specs.View.{View}
-use Rattle.pi_meaning.specs.Instances.{tabled}
+use Rattle.pi_meaning.specs.Instances.{no_later, whole}
 use Rattle.pi_meaning.specs.Run.{Solution, IsRunUnder}
 use Rattle.pi_core.specs.CoreTree.{PredTree, QueryTree}
 use Rattle.pi_machine.specs.declared.happening.Budget.{Budget}
@@ -53,9 +53,9 @@ pub record Adds (mode : Mode) (old new : Budget) (happening : Happening) (notes 
 
 -- these events are all that stands before a Tick; each run that is cut behind them goes on with this load
 abbrev pub StandsBefore : View → List PredTree → QueryTree → List (Emitted Solution) → Note → Type 0
-StandsBefore v program q events Tick = IsRunUnder (tabled v) program q (count_ticks events) (record { events = events; stop = Spent })
+StandsBefore v program q events Tick = IsRunUnder (whole v no_later (program ++ q.helpers)) program q (count_ticks events) (record { events = events; stop = Spent })
 StandsBefore v program q events (Load k) =
-    (n : ℕ) (run : Cut Solution) → IsRunUnder (tabled v) program q (count_ticks events + n) run → (rest : Cut Solution) × (run ≡ with_events (events ++ noted (Load k) ∷ []) rest)
+    (n : ℕ) (run : Cut Solution) → IsRunUnder (whole v no_later (program ++ q.helpers)) program q (count_ticks events + n) run → (rest : Cut Solution) × (run ≡ with_events (events ++ noted (Load k) ∷ []) rest)
 StandsBefore v program q events (Out text) = ⊥
 
 -- the run stops in front of a note for which the budget has no room
@@ -92,10 +92,10 @@ ComesByTicks v program q events k after new (Happening.NeedPlan call) = ⊥
 ComesByTicks v program q events k after new Happening.Done = EndsWith v program q (events ++ some_ticks k) Done × RunsTo v after program q (events ++ some_ticks k)
 ComesByTicks v program q events k after new (Happening.Raised ball) = EndsWith v program q (events ++ some_ticks k) (Raise ball) × RunsTo v after program q (events ++ some_ticks k)
 ComesByTicks v program q events k after new Happening.StepsSpent =
-    IsRunUnder (tabled v) program q (count_ticks events + k) (record { events = events ++ some_ticks k; stop = Spent }) × RunsTo v after program q (events ++ some_ticks k)
+    IsRunUnder (whole v no_later (program ++ q.helpers)) program q (count_ticks events + k) (record { events = events ++ some_ticks k; stop = Spent }) × RunsTo v after program q (events ++ some_ticks k)
     × (mode_of after ≡ Mode.Top) × AreStepsUsed new
 ComesByTicks v program q events k after new Happening.WorkSpent =
-    IsRunUnder (tabled v) program q (count_ticks events + k) (record { events = events ++ some_ticks k; stop = Spent }) × RunsTo v after program q (events ++ some_ticks k)
+    IsRunUnder (whole v no_later (program ++ q.helpers)) program q (count_ticks events + k) (record { events = events ++ some_ticks k; stop = Spent }) × RunsTo v after program q (events ++ some_ticks k)
     × IsInner (mode_of after) × IsWorkUsed new
 ComesByTicks v program q events k after new Happening.Memory = RunsTo v after program q (events ++ some_ticks k)
 

@@ -5,7 +5,7 @@ ghost use Rattle.pi_states.specs.Store.{Stays};
 ghost use Rattle.pi_core.specs.CoreTree.{PredTree, QueryTree, program_tree, query_tree};
 ghost use Rattle.pi_meaning.specs.Run.{Solution};
 ghost use Rattle.pi_meaning.specs.Sound.{IsSoundQuery};
-ghost use Rattle.pi_meaning.specs.Defined.{QueryCallsDefined};
+ghost use Rattle.pi_meaning.specs.Defined.{QueryCallsDefined, NamesAreFree};
 ghost use Rattle.pi_traces.specs.Trace.{Emitted};
 ghost use Rattle.pi_meaning.specs.View.{View};
 ghost use Rattle.pi_machine.specs.Budget.{Counts, IsWithin};
@@ -52,7 +52,7 @@ impl<'p, S: StateStore> Machine<'p, S> {
         store: S,
         mode: Mode,
     ) -> Result<Machine<'p, S>, S>
-        ensures runs { IfOk result (λ machine. (S.seen store).now.state ≡ empty_state → IsSoundQuery (program_tree core.now) (query_tree query) → QueryCallsDefined (program_tree core.now) (query_tree query) → AreOfRules (program_tree core.now ++ (query_tree query).helpers) → (v : View) → Fits mode v → RunsTo v (machine_view S.seen S.order machine) (program_tree core.now) (query_tree query) []) }
+        ensures runs { IfOk result (λ machine. (S.seen store).now.state ≡ empty_state → IsSoundQuery (program_tree core.now) (query_tree query) → QueryCallsDefined (program_tree core.now) (query_tree query) → NamesAreFree (program_tree core.now ++ (query_tree query).helpers) → AreOfRules (program_tree core.now ++ (query_tree query).helpers) → (v : View) → Fits mode v → RunsTo v (machine_view S.seen S.order machine) (program_tree core.now) (query_tree query) []) }
         ensures mode { IfOk result (λ machine. mode_of (machine_view S.seen S.order machine) ≡ mode) }
         ensures running { IfOk result (λ machine. GoesOn (machine_view S.seen S.order machine)) }
         ensures err { IfErr result (λ given. Stays (S.seen store) (S.seen given)) }

@@ -6,8 +6,9 @@ use Rattle.pi_terms.proofs.GetLemmas.{get_append_last}
 use Rattle.pi_terms.specs.Tree.{Tree, Trees, comp, trees_of, tree_count}
 use Rattle.pi_terms.specs.Places.{Places}
 use Rattle.pi_states.specs.Store.{StoreView, Marks, Extend}
-use Rattle.pi_states.specs.State.{State, IsState}
+use Rattle.pi_states.specs.State.{IsState}
 use Rattle.pi_meaning.specs.View.{View}
+use Rattle.pi_meaning.specs.Names.{is_given}
 use Rattle.pi_core.specs.CoreTree.{find_pred, PredTree}
 use Rattle.pi_states.specs.Evaluation.{EvaluatedAll, evaluated_all}
 use Rattle.pi_effects.specs.BuiltIns.{is_function}
@@ -28,7 +29,7 @@ use Rattle.pi_code.specs.Laid.{IsNotBuiltIn}
 use Rattle.pi_code.specs.Code.{Tables, arguments, node_kind}
 use Rattle.pi_machine.specs.Configuration.{Frame, Called, Config, behind, strict, value_level, Entry as EntryData}
 use Rattle.pi_machine.specs.Shape.{open_level}
-use Rattle.pi_machine.specs.Step.{call_step, function_step, try_rules, goal_step, back_to}
+use Rattle.pi_machine.specs.Step.{call_step, try_rules, goal_step, back_to}
 use Rattle.pi_stands.specs.Here.{block_end, AreReadable, HoldsArguments, GoesOn, gives}
 use Rattle.pi_stands.specs.Stands.{World, tables_in, steps_of, block_at, entries_of, now_here, HasNumber, IsCodeOf, KindIs, apply_kind, StackStands, Stands, StandsGoing, GoingIs}
 use Rattle.pi_stands.specs.Evaluates.{with_blocks, operand_trees, EvaluatesAll}
@@ -44,7 +45,8 @@ use Rattle.pi_stands.proofs.EqualStands.{block_of, kind-of-node, stack-moved, go
 use Rattle.pi_stands.proofs.CallLemmas.{apply-of, evaluated-all-state}
 use Rattle.pi_stands.proofs.RulesTried.{IsFound}
 use Rattle.pi_stands.proofs.CallsTried.{below-ends, below-moves}
-use Rattle.pi_machine.proofs.CallFound.{found-by-number, apply-comes-to}
+use Rattle.pi_named_goals.proofs.FoundLemmas.{found-by-number}
+use Rattle.pi_machine.proofs.CallFound.{apply-comes-to}
 use Rattle.pi_stands.proofs.CallMade.{front-more, arguments-added, arguments-long, all-left, stack-below, level-below, Made}
 use Rattle.pi_stands.proofs.CallRuns.{Numbered, numbered, arguments-of, args-count, all-count, stands-called}
 
@@ -203,7 +205,7 @@ apply-runs w v u mark a fs d rs p s q operands into n predicate view g gs e k es
       step = λ now end ends.
           subst (StandsAfter end now)
           (sym (ap (λ h. goal_step view w.loaded.preds h gs e w.store.now.state k es) applies.goal_is
-          ∙ apply-comes-to view w.loaded.preds pred.name args into pred gs e w.store.now.state k es (ap (is_function pred.name) (count ∙ applies.it.arity) ∙ applies.it.not_built)
+          ∙ apply-comes-to view w.loaded.preds pred.name args into pred gs e w.store.now.state k es (ap (λ n. is_given true pred.name n) (count ∙ applies.it.arity) ∙ applies.it.not_given)
           (ap (λ m. find_pred true pred.name m w.loaded.preds) (count ∙ applies.it.arity) ∙ found-by-number true w.loaded.preds q pred stands.entries.code.apart applies.it.is_pred applies.it.is_function)))
           (stands-called end now pred.quiet _
           (subst (λ r. Stands end now (try_rules called pred.clauses (back_to [] r []) (strict (value_level (comp pred.name all.trees) into) (back_to all.slots r (behind gs k)) ∷ es))) evaluates.writes.state
@@ -222,7 +224,7 @@ apply-form w q operands into predicate view g gs e k es applies code within =
     let count : tree_count all.trees ≡ predicate.arity = all-count T operands predicate.arity e w.store.now.state within in (
       next,
       ap (λ h. goal_step view w.loaded.preds h gs e w.store.now.state k es) applies.goal_is
-          ∙ apply-comes-to view w.loaded.preds applies.it.pred.name args into applies.it.pred gs e w.store.now.state k es (ap (is_function applies.it.pred.name) (count ∙ applies.it.arity) ∙ applies.it.not_built)
+          ∙ apply-comes-to view w.loaded.preds applies.it.pred.name args into applies.it.pred gs e w.store.now.state k es (ap (λ n. is_given true applies.it.pred.name n) (count ∙ applies.it.arity) ∙ applies.it.not_given)
           (ap (λ m. find_pred true applies.it.pred.name m w.loaded.preds) (count ∙ applies.it.arity) ∙ found-by-number true w.loaded.preds q applies.it.pred code.apart applies.it.is_pred applies.it.is_function)
           ∙ ap (λ b. call_step b next) (sym applies.it.quiet),
     )

@@ -1,7 +1,7 @@
 -- A call of what is built in, as a step of the machine.
-use Rattle.std.proofs.Common.{◌≡◌, ℕ, ◌+◌, ◌≤◌, ◌<◌, ◌^◌, Bool, true, false, List, [], ◌∷◌, Option, Some, None, is_some, length, refl, sym, ◌∙◌, ap, subst, arith}
+use Rattle.std.proofs.Common.{◌≡◌, ℕ, ◌+◌, ◌≤◌, ◌<◌, true, List, [], Option, Some, None, is_some, length, refl, sym, ◌∙◌, ap, subst}
 use Rattle.std.specs.Prelude.{slice_get, slice_set, slice_index_or, pos, negsuc}
-use Rattle.pi_terms.specs.Tree.{Tree, Trees, trees_of, tree_count}
+use Rattle.pi_terms.specs.Tree.{Tree, trees_of, tree_count}
 use Rattle.pi_terms.specs.Places.{Places}
 use Rattle.pi_states.specs.State.{State, IsState}
 use Rattle.pi_states.specs.Store.{StoreView, Stays, Gives as GivesTerm}
@@ -16,10 +16,10 @@ use Rattle.pi_builtin.specs.declared.functions.Function.{Function}
 use Rattle.pi_builtin.specs.Resolved.{IsFunctionNamed}
 use Rattle.pi_meaning.specs.View.{View}
 use Rattle.pi_meaning.specs.Within.{is_body}
-use Rattle.pi_core.specs.GoalTree.{GoalTree, GoalTrees, goal, call, apply, nodes}
+use Rattle.pi_core.specs.GoalTree.{GoalTree, GoalTrees, goal, call, apply}
 use Rattle.pi_code.specs.declared.code.Node.{Node}
 use Rattle.pi_code.specs.declared.code.Step.{Step}
-use Rattle.pi_code.specs.Code.{Tables, node_kind, operand_trees}
+use Rattle.pi_code.specs.Code.{node_kind, operand_trees}
 use Rattle.pi_code.specs.Laid.{IsEffectOf}
 use Rattle.pi_arenas.specs.declared.frames.Point.{Point}
 use Rattle.pi_arenas.specs.declared.run.Now.{Now}
@@ -27,11 +27,11 @@ use Rattle.pi_arenas.specs.Blocks.{BlocksView, KeepsBlocks}
 use Rattle.pi_arenas.specs.Arenas.{ArenasView}
 use Rattle.pi_arenas.specs.Frames.{point_behind, slot_number}
 use Rattle.pi_machine.specs.declared.happening.Mode.{Mode}
-use Rattle.pi_machine.specs.Configuration.{Frame, config, going, telling, failed, raising, Entry as EntryData}
-use Rattle.pi_machine.specs.Step.{done_now, written_now, given_now, goal_step}
+use Rattle.pi_machine.specs.Configuration.{Frame, going, telling, failed, raising, Entry as EntryData}
+use Rattle.pi_machine.specs.Step.{done_now, written_now, goal_step}
 use Rattle.pi_machine.proofs.CallFound.{effect-comes-to, value-comes-to}
 use Rattle.pi_stands.specs.Here.{Block}
-use Rattle.pi_stands.specs.Stands.{World, tables_in, steps_of, StackStands, Stands, StandsGoing, GoingIs, NowIs, going_now, telling_now, failing_now, raising_now}
+use Rattle.pi_stands.specs.Stands.{World, tables_in, steps_of, StandsGoing, GoingIs, NowIs, going_now, telling_now, failing_now, raising_now}
 use Rattle.pi_stands.specs.Evaluates.{with_blocks, Writes, EvaluatesAll}
 use Rattle.pi_stands.specs.Views.{Fits}
 use Rattle.pi_stands.specs.Makes.{StandsAfter}

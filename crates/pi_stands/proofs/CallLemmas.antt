@@ -1,7 +1,7 @@
 -- Which calls a node is, and what the built-in ones come to.
 use Rattle.std.proofs.Common.{◌≡◌, ℕ, List, [], ◌∷◌, Option, Some, None, refl, ap}
 use Rattle.std.specs.Prelude.{codes}
-use Rattle.pi_terms.specs.Tree.{Tree, Trees, no_trees, tree, var, int, atom, comp}
+use Rattle.pi_terms.specs.Tree.{Tree, Trees, no_trees, tree, tree_count, var, int, atom, comp}
 use Rattle.pi_terms.specs.Places.{Places, held}
 use Rattle.pi_states.specs.State.{State, IsState, bindings}
 use Rattle.pi_meaning.specs.View.{View}
@@ -107,7 +107,7 @@ pub equal-comes-to : (v : View) (preds : List PredTree) (l r : Tree) (gs : GoalT
     let x : Evaluated = evaluated l e s in
     let y : Evaluated = evaluated r x.slots x.state in
     goal_step v preds (call (codes "=") (l ∷ r ∷ [])) gs e s k es ≡ silently (config (after_equal (unified y.state x.tree y.tree) gs y.slots k) es)
-unfolding goal_step evaluated built_in_predicate tests comparing_tests kind_tests writing_predicates other_predicates done_by
+unfolding goal_step evaluated built_in_predicate tests comparing_tests kind_tests writing_predicates other_predicates done_by tree_count
 equal-comes-to v preds l r gs e s k es =
     let x : Evaluated = evaluated l e s in
     let y : Evaluated = evaluated r x.slots x.state in
@@ -118,5 +118,5 @@ equal-comes-to v preds l r gs e s k es =
 pub throw-comes-to : (v : View) (preds : List PredTree) (t : Tree) (gs : GoalTrees) (e : Places) (s : State) (k : List Frame) (es : List Entry) →
     let x : Evaluated = evaluated t e s in
     goal_step v preds (call (codes "throw") (t ∷ [])) gs e s k es ≡ silently (config (raising (raised_for (value (bindings x.state) x.tree))) es)
-unfolding goal_step evaluated built_in_predicate tests comparing_tests kind_tests writing_predicates other_predicates done_by thrown
+unfolding goal_step evaluated built_in_predicate tests comparing_tests kind_tests writing_predicates other_predicates done_by tree_count thrown
 throw-comes-to v preds t gs e s k es = refl

@@ -15,8 +15,8 @@ use Rattle.pi_code.specs.Code.{Tables}
 use Rattle.pi_arenas.specs.Blocks.{BlocksView, KeepsBlocks}
 use Rattle.pi_arenas.specs.Arenas.{ArenasView, entry_at, newest, slots_kept_by}
 use Rattle.pi_arenas.specs.declared.arenas.Entry.{Entry}
-use Rattle.pi_machine.specs.Configuration.{Frame, more, return, give, Called, behind, returning, Entry as EntryData}
-use Rattle.pi_stands.specs.Here.{Block, block_end, Here, Holds, AreHeld, in_places, HoldsArguments, AreHere, none_here, value_here, last_here, more_here, valued, GoesOn, answers, gives, returns_to_end, more_of_block, returns_to}
+use Rattle.pi_machine.specs.Configuration.{Frame, more, return, give, Called, behind, returning, Entry as EntryData, in_places}
+use Rattle.pi_stands.specs.Here.{Block, block_end, Here, Holds, AreHeld, HoldsArguments, AreHere, none_here, value_here, last_here, more_here, valued, GoesOn, answers, gives, returns_to_end, more_of_block, returns_to}
 use Rattle.pi_stands.specs.Stands.{World, tables_in, steps_of, entries_of, now_here, Agrees, agrees_from, StackIs, StackStands}
 use Rattle.pi_stands.specs.Evaluates.{with_blocks}
 use Rattle.pi_stands.specs.Tries.{RulesLeft, no_entry, CallIs, KeepsFront, KeepsBelow, HasArguments}
@@ -105,15 +105,15 @@ pub data Room (a c : BlocksView) (b : Block) (leaves : Bool) (limit : ℕ) : Typ
   kept_whole : c ≡ a → limit ≡ length a.slots → Room a c b leaves limit
   given_back : leaves ≡ true → limit ≡ b.base → KeepsFront a c limit → c.kept ≤ length c.slots → Room a c b leaves limit
 
-room-front : (a c : BlocksView) (b : Block) (leaves : Bool) (limit : ℕ) → Room a c b leaves limit → KeepsFront a c limit
+pub room-front : (a c : BlocksView) (b : Block) (leaves : Bool) (limit : ℕ) → Room a c b leaves limit → KeepsFront a c limit
 room-front a c b leaves limit (kept_whole same all) = subst (λ r. KeepsFront a r limit) (sym same) (front-none a limit (omega (arith, all)))
 room-front a c b leaves limit (given_back out at front over) = front
 
-room-limit : (a c : BlocksView) (b : Block) (leaves : Bool) (limit : ℕ) → b.base ≤ length a.slots → Room a c b leaves limit → (b.base ≤ limit) × (limit ≤ length c.slots)
+pub room-limit : (a c : BlocksView) (b : Block) (leaves : Bool) (limit : ℕ) → b.base ≤ length a.slots → Room a c b leaves limit → (b.base ≤ limit) × (limit ≤ length c.slots)
 room-limit a c b leaves limit fits (kept_whole same all) = (omega (arith, fits, all), omega (arith, all, ap (λ r. length r.slots) same))
 room-limit a c b leaves limit fits (given_back out at front over) = (omega (arith, at), front.long)
 
-room-over : (a c : BlocksView) (b : Block) (leaves : Bool) (limit : ℕ) → a.kept ≤ length a.slots → Room a c b leaves limit → c.kept ≤ length c.slots
+pub room-over : (a c : BlocksView) (b : Block) (leaves : Bool) (limit : ℕ) → a.kept ≤ length a.slots → Room a c b leaves limit → c.kept ≤ length c.slots
 room-over a c b leaves limit over (kept_whole same all) = subst (λ r. r.kept ≤ length r.slots) (sym same) over
 room-over a c b leaves limit over (given_back out at front kept) = kept
 
@@ -138,16 +138,17 @@ pub record Caller {M : Type 0} (w : World M) (b : Block) (leaves : Bool) (n : �
   pub given : leaves ≡ true → k ≢ []
   pub agrees : Agrees w w.arenas.level (now_here w)
 
-frames-made : {M : Type 0} (w : World M) (c d : BlocksView) (b : Block) (leaves : Bool) (limit n arity : ℕ) (e : Places) (k : List Frame) (es : List EntryData) → Caller w b leaves n e k es → Room w.arenas.blocks c b leaves limit →
+-- what is left behind a block that is made behind what the caller keeps
+pub frames-made : {M : Type 0} (w : World M) (c d : BlocksView) (b : Block) (leaves : Bool) (limit n first many : ℕ) (e : Places) (k : List Frame) (es : List EntryData) → Caller w b leaves n e k es → Room w.arenas.blocks c b leaves limit →
     KeepsBelow w.arenas (with_blocks w.arenas d) limit → limit ≤ length c.slots →
-    GoesOn (tables_in w.loaded) (steps_of w.loaded) (now_here (moved w w.store (with_blocks w.arenas d))) (record { base = length c.slots; first = arity; count = 0 }) true n (returning e k)
-frames-made w c d b leaves limit n arity e k es caller (kept_whole same all) keeps within =
-    goes_on-moves (tables_in w.loaded) (steps_of w.loaded) (now_here w) (now_here (moved w w.store (with_blocks w.arenas d))) (record { base = length c.slots; first = arity; count = 0 }) true n (returning e k) limit n
+    GoesOn (tables_in w.loaded) (steps_of w.loaded) (now_here (moved w w.store (with_blocks w.arenas d))) (record { base = length c.slots; first = first; count = many }) true n (returning e k)
+frames-made w c d b leaves limit n first many e k es caller (kept_whole same all) keeps within =
+    goes_on-moves (tables_in w.loaded) (steps_of w.loaded) (now_here w) (now_here (moved w w.store (with_blocks w.arenas d))) (record { base = length c.slots; first = first; count = many }) true n (returning e k) limit n
     (omega (arith, all, ap (λ r. length r.slots) same)) (omega arith) (below-moves w (with_blocks w.arenas d) limit n keeps) (below-ends w (with_blocks w.arenas d) limit keeps)
-    (goes_on-return (tables_in w.loaded) (steps_of w.loaded) (now_here w) b (record { base = length c.slots; first = arity; count = 0 }) leaves n k e caller.given caller.slots
+    (goes_on-return (tables_in w.loaded) (steps_of w.loaded) (now_here w) b (record { base = length c.slots; first = first; count = many }) leaves n k e caller.given caller.slots
     (omega (arith, caller.slots.within, ap (λ r. length r.slots) same)) caller.frames)
-frames-made w c d b leaves limit n arity e k es caller (given_back out at front over) keeps within =
-    goes_on-leave (tables_in w.loaded) (steps_of w.loaded) (now_here (moved w w.store (with_blocks w.arenas d))) b (record { base = length c.slots; first = arity; count = 0 }) leaves n k e out (caller.given out) (omega (arith, at, within))
+frames-made w c d b leaves limit n first many e k es caller (given_back out at front over) keeps within =
+    goes_on-leave (tables_in w.loaded) (steps_of w.loaded) (now_here (moved w w.store (with_blocks w.arenas d))) b (record { base = length c.slots; first = first; count = many }) leaves n k e out (caller.given out) (omega (arith, at, within))
     (goes_on-moves (tables_in w.loaded) (steps_of w.loaded) (now_here w) (now_here (moved w w.store (with_blocks w.arenas d))) b leaves n k limit n
     (omega (arith, at)) (omega arith) (below-moves w (with_blocks w.arenas d) limit n keeps) (below-ends w (with_blocks w.arenas d) limit keeps) caller.frames)
 
@@ -205,7 +206,7 @@ call-made w c d rs b leaves limit n p pred predicate called e k es caller room n
     let left : RulesLeft w.loaded p predicate.first called pred.clauses =
     record { pred = pred; predicate = predicate; is_pred = is_pred; is_predicate = is_predicate; function = function; from = omega arith; rules = all-left pred.clauses predicate.first } in
     let goes : GoesOn (tables_in w.loaded) (steps_of w.loaded) (now_here after) (record { base = length c.slots; first = pred.arity; count = 0 }) true n (returning e k) =
-    frames-made w c d b leaves limit n pred.arity e k es caller room keeps lies.1 in
+    frames-made w c d b leaves limit n pred.arity 0 e k es caller room keeps lies.1 in
     let begins : (z : Entry _) → entry_at (entries_of w) w.arenas.level ≡ Some z → z.back.base ≤ limit =
     λ z found. omega (arith, lies.0, level-begins w.loaded z (entry_at (entries_of w) w.arenas.level) b.base found (block-above (tables_in w.loaded) (steps_of w.loaded) (now_here w) b leaves n k caller.frames)) in
     let stands : StackStands after es = stack-below w (with_blocks w.arenas d) limit es keeps caller.stands in

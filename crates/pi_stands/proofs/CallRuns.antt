@@ -2,12 +2,13 @@
 use Rattle.std.proofs.Common.{◌≡◌, ℕ, zero, suc, ◌+◌, ◌≤◌, ◌<◌, ◌^◌, Bool, true, false, List, [], ◌∷◌, ◌++◌, Some, None, length, take, drop, map, get_or, refl, sym, ◌∙◌, ap, subst, arith}
 use Rattle.std.specs.Prelude.{slice_get, slice_index_or, max}
 use Rattle.std.proofs.lemmas.List.{length-take-le, length-drop}
+use Rattle.std.proofs.lemmas.Option.{slice_get_within, get_or_from_slice_get}
 use Rattle.pi_terms.specs.Tree.{Tree, Trees, no_trees, tree, trees_of, tree_count}
 use Rattle.pi_terms.specs.Places.{Places}
 use Rattle.pi_states.specs.Store.{StoreView}
 use Rattle.pi_states.specs.State.{State, IsState}
 use Rattle.pi_meaning.specs.View.{View}
-use Rattle.pi_effects.specs.BuiltIns.{is_predicate}
+use Rattle.pi_meaning.specs.Names.{is_given}
 use Rattle.pi_core.specs.CoreTree.{find_pred, PredTree, pred_tree}
 use Rattle.pi_states.specs.Evaluation.{evaluated, EvaluatedAll, evaluated_all}
 use Rattle.pi_core.specs.GoalTree.{GoalTree, GoalTrees, call, goal, nodes}
@@ -35,7 +36,8 @@ use Rattle.pi_stands.proofs.FramesStand.{MoreFrames, pushes-more, framed, with_n
 use Rattle.pi_stands.proofs.EqualStands.{block_of, kind-of-node, stack-moved, going-moved}
 use Rattle.pi_stands.proofs.CallLemmas.{call-of, evaluated-all-state}
 use Rattle.pi_stands.proofs.RulesTried.{IsFound}
-use Rattle.pi_machine.proofs.CallFound.{found-by-number, call-comes-to}
+use Rattle.pi_named_goals.proofs.FoundLemmas.{found-by-number}
+use Rattle.pi_machine.proofs.CallFound.{call-comes-to}
 use Rattle.pi_stands.proofs.CallMade.{Room, kept_whole, given_back, cut-back, Caller, Made, call-made}
 use Rattle.pi_stands.proofs.LevelSteps.{kept-within}
 
@@ -67,6 +69,7 @@ pub record Numbered {M : Type 0} (w : World M) (function : Bool) (q : ℕ) (pred
   pub is_predicate : slice_get w.loaded.code.predicates.items q ≡ Some predicate
   pub is_function : pred.function ≡ function
   pub not_built : IsNotBuiltIn function pred.name pred.arity
+  pub not_given : is_given function pred.name pred.arity ≡ false
   pub arity : predicate.arity ≡ pred.arity
   pub quiet : predicate.is_quiet ≡ pred.quiet
   pub name : slice_index_or (tables_in w.loaded).called q [] ≡ pred.name
@@ -85,6 +88,7 @@ numbered w function q predicate code number known =
       is_predicate = found.1 ∙ ap (λ r. Some r) (sym same);
       is_function = number.2;
       not_built = number.3;
+      not_given = sym (ap (λ b. is_given b pred.name pred.arity) number.2) ∙ code.free pred (q, slice_get_within w.loaded.preds q pred number.1, get_or_from_slice_get w.loaded.preds q pred pred number.1);
       arity = arity;
       quiet = ap (λ r. r.is_quiet) same ∙ found.2.quiet;
       name = names.0;
@@ -134,11 +138,11 @@ gives-cut a x c base last is same cut keeps kept =
 pub gives-whole : (a c : BlocksView) (base : ℕ) (last : Bool) → last ≡ false → c ≡ a → GivesBack a c base last
 gives-whole a c base last is same = record { whole = λ not. same; cut = λ yes. absurd cc }
 
-said-last : (steps : List Step) (place : ℕ) (g : GoalTree) (name : List ℕ) (args : List Tree) (own : Bool) (s : Step) → g ≡ call name args → SayLast steps place g own → slice_get steps place ≡ Some s → s.is_last ≡ own
+pub said-last : (steps : List Step) (place : ℕ) (g : GoalTree) (name : List ℕ) (args : List Tree) (own : Bool) (s : Step) → g ≡ call name args → SayLast steps place g own → slice_get steps place ≡ Some s → s.is_last ≡ own
 unfolding SayLast
 said-last steps place g name args own s is says at = subst (λ h. SayLast steps place h own) is says s at
 
-room-of : (a c : BlocksView) (b : Block) (leaves last own : Bool) (base : ℕ) (k : List Frame) → b.base ≡ base → base ≤ length a.slots → a.kept ≤ length a.slots → last ≡ own → LeftBehind None own leaves k → GivesBack a c base last → (limit : ℕ) × Room a c b leaves limit
+pub room-of : (a c : BlocksView) (b : Block) (leaves last own : Bool) (base : ℕ) (k : List Frame) → b.base ≡ base → base ≤ length a.slots → a.kept ≤ length a.slots → last ≡ own → LeftBehind None own leaves k → GivesBack a c base last → (limit : ℕ) × Room a c b leaves limit
 room-of a c b leaves false own base k begins fits over same left gives = (length a.slots, kept_whole (gives.whole refl) refl)
 room-of a c b leaves true own base k begins fits over same left gives =
     let cut = gives.cut refl in
@@ -184,7 +188,7 @@ call-runs w v a fs c d rs p s q operands n predicate view g gs e k es calls at s
     room-of a.blocks c in_it.block in_it.at.leaves s.is_last in_it.at.own p.base (behind gs k) in_it.base (omega (arith, in_it.base, in_it.slots.within)) (kept-within (with_new_frames w1 fs) es stack2) last in_it.at.own_leaves gives in
     let caller : Caller (with_new_frames w1 fs) in_it.block in_it.at.leaves n all.slots (behind gs k) es =
     record { stands = stack2; slots = in_it.slots; frames = in_it.at.frames; given = in_it.at.own_leaves.is_given refl; agrees = in_it.agrees } in
-    let none : is_predicate calls.it.pred.name (tree_count all.trees) ≡ false = ap (is_predicate calls.it.pred.name) (count ∙ calls.it.arity) ∙ calls.it.not_built in
+    let none : is_given false calls.it.pred.name (tree_count all.trees) ≡ false = ap (λ n. is_given false calls.it.pred.name n) (count ∙ calls.it.arity) ∙ calls.it.not_given in
     record {
       pred = calls.it.pred;
       called = called;
@@ -211,7 +215,7 @@ call-form w q operands predicate view g gs e k es calls code within =
     let count : tree_count all.trees ≡ predicate.arity = all-count T operands predicate.arity e w.store.now.state within in (
       next,
       ap (λ h. goal_step view w.loaded.preds h gs e w.store.now.state k es) calls.goal_is
-          ∙ call-comes-to view w.loaded.preds calls.it.pred.name args calls.it.pred gs e w.store.now.state k es (ap (is_predicate calls.it.pred.name) (count ∙ calls.it.arity) ∙ calls.it.not_built)
+          ∙ call-comes-to view w.loaded.preds calls.it.pred.name args calls.it.pred gs e w.store.now.state k es (ap (λ n. is_given false calls.it.pred.name n) (count ∙ calls.it.arity) ∙ calls.it.not_given)
           (ap (λ m. find_pred false calls.it.pred.name m w.loaded.preds) (count ∙ calls.it.arity) ∙ found-by-number false w.loaded.preds q calls.it.pred code.apart calls.it.is_pred calls.it.is_function)
           ∙ ap (λ b. call_step b next) (sym calls.it.quiet),
     )

@@ -93,6 +93,7 @@ catch-node t (Node.BuiltInValue built name first arity slot) g handler wanted h 
 catch-node t (Node.Call p first) g handler wanted h = absurd cc
 catch-node t (Node.Apply p first into) g handler wanted h = absurd cc
 catch-node t (Node.Value value) g handler wanted h = absurd cc
+catch-node t (Node.CallTerm first arity) g handler wanted h = absurd cc
 
 pub catch-at : {M : Type 0} (w : World M) (base place frame : ℕ) (g handler : GoalTree) (wanted : Tree) (e : Places) (k : List Frame) (s : Step) → GoalStands w.loaded (now_here w) base place frame (catch g wanted handler) e k →
     slice_get (steps_of w.loaded) place ≡ Some s → (operand : Operand) × (s.node ≡ Node.Catch operand) × (wanted ≡ operand_tree (tables_in w.loaded) operand)

@@ -64,6 +64,7 @@ collect-node t (Node.BuiltInValue built name first arity slot) g v i h = absurd 
 collect-node t (Node.Call p first) g v i h = absurd cc
 collect-node t (Node.Apply p first q) g v i h = absurd cc
 collect-node t (Node.Value u) g v i h = absurd cc
+collect-node t (Node.CallTerm first arity) g v i h = absurd cc
 
 -- ---- one value more
 

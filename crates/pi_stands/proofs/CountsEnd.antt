@@ -51,6 +51,7 @@ count-node t (Node.BuiltInValue built name first many q) g into h = absurd cc
 count-node t (Node.Call p first) g into h = absurd cc
 count-node t (Node.Apply p first q) g into h = absurd cc
 count-node t (Node.Value value) g into h = absurd cc
+count-node t (Node.CallTerm first arity) g into h = absurd cc
 
 -- the level that counts, in what is there: its goal and its slot
 pub record CountsAt {M : Type 0} (w : World M) (back : Back) (place n : ℕ) (s : Strict) (b : BackData) : Type 0 where

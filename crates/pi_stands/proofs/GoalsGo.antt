@@ -4,7 +4,6 @@ use Rattle.std.specs.Prelude.{slice_get}
 use Rattle.pi_terms.specs.Tree.{Tree}
 use Rattle.pi_terms.specs.Places.{Places}
 use Rattle.pi_meaning.specs.View.{View}
-use Rattle.pi_states.specs.State.{State}
 use Rattle.pi_core.specs.CoreTree.{PredTree}
 use Rattle.pi_traces.specs.Trace.{Tick, noted}
 use Rattle.pi_core.specs.declared.core_program.NameSlot.{NameSlot}
@@ -22,7 +21,7 @@ use Rattle.pi_arenas.specs.declared.run.Now.{Now}
 use Rattle.pi_code.specs.Code.{Tables, node_kind}
 use Rattle.pi_arenas.specs.Frames.{point_behind}
 use Rattle.pi_machine.specs.Configuration.{Frame, Config, config, going, Now as NowData, Entry as EntryData}
-use Rattle.pi_machine.specs.Step.{Outcome, silently, with_tick, quietly, call_step, goal_step, step}
+use Rattle.pi_machine.specs.Step.{Outcome, silently, with_tick, quietly, call_step, goal_step, step, deeper}
 use Rattle.pi_machine.specs.Shape.{IsGood}
 use Rattle.pi_machine.specs.Built.{AreOfRules}
 use Rattle.pi_machine.specs.Leads.{Leads}
@@ -39,7 +38,7 @@ use Rattle.pi_stands.proofs.RulesTried.{IsFound}
 use Rattle.pi_stands.proofs.CallRuns.{Calls, calls, call-form}
 use Rattle.pi_stands.proofs.SilentSteps.{silent-step}
 use Rattle.pi_stands.proofs.ApplyRuns.{Applies, applies, apply-form}
-use Rattle.pi_machine.proofs.LeadLemmas.{leads-none, leads-silent, step-silent, step-ticks, step-enters, step-at_tick, good-silent, good-tick}
+use Rattle.pi_machine.proofs.LeadLemmas.{leads-none, leads-silent, step-silent, step-ticks, step-enters, step-at_tick, good-silent, good-tick, step-deepens, good-deeper}
 use Rattle.pi_machine.proofs.GoodSteps.{step-good}
 
 -- ---- where a run is
@@ -153,6 +152,10 @@ ticks-on v names after now c d rules good is stands =
 pub quiet-on : {M : Type 0} (v : View) (names : List NameSlot) (after : World M) (now : Now) (c d : Config) → AreOfRules after.loaded.preds → IsGood c → step v after.loaded.preds names c ≡ quietly d → Stands after now d → Goes v names (some_ticks 0) after now c
 quiet-on v names after now c d rules good is stands =
     record { comes = d; leads = step-enters v after.loaded.preds names c d rules good is; good = subst GoesOnGood is (step-good v after.loaded.preds names c good); is = is-at v names after now d stands }
+
+pub deeper-on : {M : Type 0} (v : View) (names : List NameSlot) (after : World M) (now : Now) (c d : Config) → AreOfRules after.loaded.preds → IsGood c → step v after.loaded.preds names c ≡ deeper d → Stands after now d → Goes v names (some_ticks 0) after now c
+deeper-on v names after now c d rules good is stands =
+    record { comes = d; leads = step-deepens v after.loaded.preds names c d rules good is; good = good-deeper v after.loaded.preds names c d good is; is = is-at v names after now d stands }
 
 -- the budget has no Tick left
 pub ticks-out : {M : Type 0} (v : View) (names : List NameSlot) (mode : Mode) (after : World M) (now : Now) (c d : Config) → AreOfRules after.loaded.preds → IsGood c → step v after.loaded.preds names c ≡ with_tick d → now ≡ Now.Ended (spent mode) → Goes v names (some_ticks 0) after now c

@@ -1,5 +1,5 @@
 -- What the goals of a program call whose calls are defined is there.
-use Rattle.std.proofs.Common.{◌≡◌, ◌⊎◌, inl, inr, ℕ, suc, Bool, true, false, ◌==◌, ◌&&◌, cond, List, [], ◌∷◌, Some, IsSome, length, map, refl}
+use Rattle.std.proofs.Common.{◌≡◌, ◌⊎◌, inl, inr, ℕ, suc, Bool, true, false, ◌==◌, ◌&&◌, ◌||◌, cond, List, [], ◌∷◌, Some, IsSome, length, map, refl}
 use Rattle.std.specs.Prelude.{Contains, IsTrue}
 use Rattle.std.specs.Ordering.{is_eq}
 use Rattle.std.proofs.lemmas.Bool.Decides.{Decides-eqb}
@@ -8,7 +8,8 @@ use Rattle.pi_core.specs.GoalTree.{GoalTree, truth, fail, tick, call, apply, seq
 use Rattle.pi_core.specs.GoalCells.{kind_of}
 use Rattle.pi_core.specs.CoreTree.{pred_tree, find_pred, is_pred}
 use Rattle.pi_effects.specs.BuiltIns.{is_predicate, is_function}
-use Rattle.pi_meaning.specs.Defined.{CallsDefined}
+use Rattle.pi_meaning.specs.Names.{is_call}
+use Rattle.pi_meaning.specs.Defined.{is_machine_predicate, CallsDefined}
 use Rattle.pi_core.specs.declared.core_program.CorePred.{CorePred}
 use Rattle.pi_states.proofs.MatchLemmas.{same_name}
 use Rattle.pi_code.specs.Laid.{IsNamed, IsUnnamed, IsNotBuiltIn, IsUnknown}
@@ -52,9 +53,14 @@ find-named (p ∷ ps) function name k some = find-some (is_pred function name k 
 not-both : (b : Bool) → b ≡ false → b ≡ true → ⊥
 not-both b isnt is = absurd cc
 
-known-call : (ps : List CorePred) (name : List ℕ) (k : ℕ) → IsSome (find_pred false name k (map pred_tree ps)) ⊎ IsTrue (is_predicate name k) → IsUnnamed ps false name k → IsNotBuiltIn false name k → ⊥
+neither : (a b : Bool) → a ≡ false → b ≡ false → (a || b) ≡ true → ⊥
+neither true b isnt none is = absurd cc
+neither false true isnt none is = absurd cc
+neither false false isnt none is = absurd cc
+
+known-call : (ps : List CorePred) (name : List ℕ) (k : ℕ) → IsSome (find_pred false name k (map pred_tree ps)) ⊎ IsTrue (is_machine_predicate name k) → IsUnnamed ps false name k → IsNotBuiltIn false name k → ⊥
 known-call ps name k (inl some) none isnt = let f : Found ps false name k = find-named ps false name k some in none f.number f.is
-known-call ps name k (inr built) none isnt = not-both (is_predicate name k) isnt built
+known-call ps name k (inr built) none isnt = neither (is_call name k) (is_predicate name k) isnt.1 isnt.0 built
 
 known-function : (ps : List CorePred) (name : List ℕ) (k : ℕ) → IsSome (find_pred true name k (map pred_tree ps)) ⊎ IsTrue (is_function name k) → IsUnnamed ps true name k → IsNotBuiltIn true name k → ⊥
 known-function ps name k (inl some) none isnt = let f : Found ps true name k = find-named ps true name k some in none f.number f.is

@@ -196,6 +196,7 @@ level-step w v mark p s fs n (Node.BuiltInValue built name first arity slot) kin
 level-step w v mark p s fs n (Node.Call q first) kind view g gs e k es pushed marks is level stands = absurd cc
 level-step w v mark p s fs n (Node.Apply q first into) kind view g gs e k es pushed marks is level stands = absurd cc
 level-step w v mark p s fs n (Node.Value value) kind view g gs e k es pushed marks is level stands = absurd cc
+level-step w v mark p s fs n (Node.CallTerm first arity) kind view g gs e k es pushed marks is level stands = absurd cc
 
 -- ---- the point of a level's goal
 
@@ -219,6 +220,7 @@ has-child t place collected (Node.BuiltInValue built name first arity slot) kind
 has-child t place collected (Node.Call q first) kind g level shown = absurd cc
 has-child t place collected (Node.Apply q first into) kind g level shown = absurd cc
 has-child t place collected (Node.Value value) kind g level shown = absurd cc
+has-child t place collected (Node.CallTerm first arity) kind g level shown = absurd cc
 
 -- where a goal that has one begins its first child goal
 pub first-point-of : {M : Type 0} (w : World M) (p : Point) (s : Step) (g : GoalTree) (gs : GoalTrees) (e : Places) (k : List Frame) (es : List EntryData) (code : Code) (at_child : ℕ) (now : Now) →

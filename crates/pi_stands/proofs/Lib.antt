@@ -67,3 +67,5 @@ pub mod KnownGoals
 pub mod MissingStand
 pub mod FailsStand
 pub mod PointsDone
+pub mod NamedStands
+pub mod TermRuns

@@ -26,9 +26,9 @@ use Rattle.pi_effects.specs.BuiltIns.{is_function}
 use Rattle.pi_code.specs.Laid.{IsNotBuiltIn}
 use Rattle.pi_code.specs.Code.{Tables, preds_of, arguments, operand_trees, node_kind, operand_tree}
 use Rattle.pi_arenas.specs.Arenas.{ArenasView, DropsNewest}
-use Rattle.pi_machine.specs.Configuration.{Frame, Entry as EntryData, Strict, strict, value_level, Back as BackData, config, raising}
+use Rattle.pi_machine.specs.Configuration.{Frame, Entry as EntryData, Strict, strict, value_level, Back as BackData, config, raising, in_places}
 use Rattle.pi_machine.specs.Step.{end_step}
-use Rattle.pi_stands.specs.Here.{Block, block_end, Here, AreHeld, in_places, HoldsArguments, NodeIsReadable}
+use Rattle.pi_stands.specs.Here.{Block, block_end, Here, AreHeld, HoldsArguments, NodeIsReadable}
 use Rattle.pi_stands.specs.Stands.{World, Loaded, tables_in, steps_of, now_here, block_at, IsCodeOf, HasNumber, GoalStands, KindIs, once_kind, not_kind, if_kind, guard_kind, apply_kind, collect_kind, count_kind, StackStands, Stands, raising_now}
 use Rattle.pi_stands.specs.Makes.{unresolved_for}
 use Rattle.pi_stands.specs.Fails.{IsBack}
@@ -97,6 +97,7 @@ apply-node t b (Node.Throw ball) name args into reads free h = absurd cc
 apply-node t b (Node.Call p first) name args into reads free h = absurd cc
 apply-node t b (Node.Apply p first q) name args into reads free h = (p, first, ap (Node.Apply p first) cc, cc, cc)
 apply-node t b (Node.Value u) name args into reads free h = absurd cc
+apply-node t b (Node.CallTerm first arity) name args into reads free h = absurd cc
 apply-node t b (Node.BuiltIn built n first arity) name args into reads free h = absurd cc
 apply-node t b (Node.BuiltInValue built n first arity q) name args into reads free h =
     let named : slice_index_or t.names n [] ≡ name = cc in

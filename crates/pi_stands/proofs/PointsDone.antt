@@ -210,27 +210,29 @@ other-node (Node.BuiltInValue built name first arity slot) no_true no_fail no_ti
 other-node (Node.Call p first) no_true no_fail no_tick no_seq no_call = no_call p first refl
 other-node (Node.Apply p first into) no_true no_fail no_tick no_seq no_call = tt
 other-node (Node.Value o) no_true no_fail no_tick no_seq no_call = tt
+other-node (Node.CallTerm first arity) no_true no_fail no_tick no_seq no_call = tt
 
--- one of them that is no function's call and no value counts no Tick
-pub silent-node : (n : Node) → IsOther n → ((p first into : ℕ) → n ≢ Node.Apply p first into) → ((o : Operand) → n ≢ Node.Value o) → IsSilent n
-silent-node Node.True other no_apply no_value = tt
-silent-node Node.Fail other no_apply no_value = tt
-silent-node Node.Tick other no_apply no_value = other
-silent-node (Node.Seq n) other no_apply no_value = tt
-silent-node (Node.Alt n) other no_apply no_value = tt
-silent-node Node.If other no_apply no_value = tt
-silent-node Node.Not other no_apply no_value = tt
-silent-node Node.Once other no_apply no_value = tt
-silent-node (Node.Collect value into) other no_apply no_value = tt
-silent-node (Node.Count into) other no_apply no_value = tt
-silent-node (Node.Catch ball) other no_apply no_value = tt
-silent-node (Node.Unify left right) other no_apply no_value = tt
-silent-node (Node.Throw ball) other no_apply no_value = tt
-silent-node (Node.BuiltIn built name first arity) other no_apply no_value = tt
-silent-node (Node.BuiltInValue built name first arity slot) other no_apply no_value = tt
-silent-node (Node.Call p first) other no_apply no_value = other
-silent-node (Node.Apply p first into) other no_apply no_value = no_apply p first into refl
-silent-node (Node.Value o) other no_apply no_value = no_value o refl
+-- one of them that is no call, of a function or of a term, and no value counts no Tick
+pub silent-node : (n : Node) → IsOther n → ((p first into : ℕ) → n ≢ Node.Apply p first into) → ((o : Operand) → n ≢ Node.Value o) → ((first arity : ℕ) → n ≢ Node.CallTerm first arity) → IsSilent n
+silent-node Node.True other no_apply no_value no_term = tt
+silent-node Node.Fail other no_apply no_value no_term = tt
+silent-node Node.Tick other no_apply no_value no_term = other
+silent-node (Node.Seq n) other no_apply no_value no_term = tt
+silent-node (Node.Alt n) other no_apply no_value no_term = tt
+silent-node Node.If other no_apply no_value no_term = tt
+silent-node Node.Not other no_apply no_value no_term = tt
+silent-node Node.Once other no_apply no_value no_term = tt
+silent-node (Node.Collect value into) other no_apply no_value no_term = tt
+silent-node (Node.Count into) other no_apply no_value no_term = tt
+silent-node (Node.Catch ball) other no_apply no_value no_term = tt
+silent-node (Node.Unify left right) other no_apply no_value no_term = tt
+silent-node (Node.Throw ball) other no_apply no_value no_term = tt
+silent-node (Node.BuiltIn built name first arity) other no_apply no_value no_term = tt
+silent-node (Node.BuiltInValue built name first arity slot) other no_apply no_value no_term = tt
+silent-node (Node.Call p first) other no_apply no_value no_term = other
+silent-node (Node.Apply p first into) other no_apply no_value no_term = no_apply p first into refl
+silent-node (Node.Value o) other no_apply no_value no_term = no_value o refl
+silent-node (Node.CallTerm first arity) other no_apply no_value no_term = no_term first arity refl
 
 -- a function's value, which its level has as its answer
 pub value-goes : {M : Type 0} (w after : World M) (p : Point) (s : Step) (mode : Mode) (b : Budget) (v : View) (names : List NameSlot) (c : Config) (now : Now) → w.loaded ≡ after.loaded → AtGoal w p s c → (d : Config) × SilentlyTo v w.loaded.preds names c d × Stands after now d →

@@ -40,6 +40,7 @@ no-silent t (Node.BuiltInValue built n first arity slot) k X silent kind is = ab
 no-silent t (Node.Call p first) k X silent kind is = absurd silent
 no-silent t (Node.Apply p first into) k X silent kind is = absurd silent
 no-silent t (Node.Value operand) k X silent kind is = absurd silent
+no-silent t (Node.CallTerm first arity) k X silent kind is = absurd silent
 
 -- a step comes to a configuration without a Tick
 abbrev StepsSilently : View → List PredTree → GoalTree → GoalTrees → Places → State → List Frame → List EntryData → Type 0
@@ -68,6 +69,7 @@ call-silent v preds t b (Node.Throw ball) name args gs e s k es silent reads kin
 call-silent v preds t b (Node.Call p first) name args gs e s k es silent reads kind = absurd silent
 call-silent v preds t b (Node.Apply p first x) name args gs e s k es silent reads kind = absurd silent
 call-silent v preds t b (Node.Value operand) name args gs e s k es silent reads kind = absurd silent
+call-silent v preds t b (Node.CallTerm first arity) name args gs e s k es silent reads kind = absurd silent
 call-silent v preds t b (Node.BuiltIn built n first arity) name args gs e s k es silent reads kind =
     let it : call (slice_index_or t.names n []) (operand_trees t first arity) ≡ call name args = cc in
     let does = effect-there (slice_index_or t.names n []) arity built (operand_trees t first arity) e s (args-count t first arity reads.0.0) reads.1 in
@@ -93,6 +95,7 @@ apply-silent v preds t b (Node.Throw ball) name args into gs e s k es silent rea
 apply-silent v preds t b (Node.Call p first) name args into gs e s k es silent reads kind = absurd silent
 apply-silent v preds t b (Node.Apply p first x) name args into gs e s k es silent reads kind = absurd silent
 apply-silent v preds t b (Node.Value operand) name args into gs e s k es silent reads kind = absurd silent
+apply-silent v preds t b (Node.CallTerm first arity) name args into gs e s k es silent reads kind = absurd silent
 apply-silent v preds t b (Node.BuiltIn built n first arity) name args into gs e s k es silent reads kind = absurd cc
 apply-silent v preds t b (Node.BuiltInValue built n first arity slot) name args into gs e s k es silent reads kind =
     let it : apply (slice_index_or t.names n []) (operand_trees t first arity) slot ≡ apply name args into = cc in

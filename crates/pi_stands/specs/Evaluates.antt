@@ -1,5 +1,5 @@
 -- What the evaluation of an operand does to a store and to the slots of a block.
-use Rattle.std.specs.Prelude.{◌≡◌, ℕ, ◌+◌, List, [], ◌∷◌, Some, length, map, take, drop, slice_get, slice_index_or, ⊤, ◌-◌}
+use Rattle.std.specs.Prelude.{◌≡◌, ℕ, ◌+◌, List, [], ◌∷◌, Some, length, take, drop, slice_get, slice_index_or, ⊤, ◌-◌}
 use Rattle.pi_terms.specs.Tree.{Tree, Trees, tree, comp, drop_trees}
 use Rattle.pi_terms.specs.TermCells.{take_trees}
 use Rattle.pi_terms.specs.Places.{Places, held}

@@ -113,12 +113,13 @@ pub record PointIsDone {M : Type 0} (w : World M) (p : Point) (c : Config) : Typ
   pub good : IsGood c
   pub rules : AreOfRules w.loaded.preds
 
--- goals that count no Tick: neither Ticks themselves nor calls, nor a value
+-- goals whose step takes nothing from the depth: neither Ticks themselves nor calls, of terms too, nor a value
 abbrev pub IsSilent : Node → Type 0
 IsSilent Node.Tick = ⊥
 IsSilent (Node.Call p first) = ⊥
 IsSilent (Node.Apply p first into) = ⊥
 IsSilent (Node.Value operand) = ⊥
+IsSilent (Node.CallTerm first arity) = ⊥
 IsSilent node = ⊤
 
 -- goals that a turn doesn't run at sight: neither `true`, `fail`, Ticks, sequences nor calls of predicates

@@ -1,6 +1,6 @@
 -- What a run's arenas stand for, at one moment: the slots of a block, the goals at a place of the tables, what the frames
 -- say. Nothing here speaks of the store but for the terms that Refs stand for.
-use Rattle.std.specs.Prelude.{◌≡◌, ◌≢◌, ℕ, suc, ◌+◌, ◌-◌, ◌≤◌, ◌<◌, Bool, true, false, List, [], ◌∷◌, Option, Some, None, length, take, drop, slice_get, slice_index_or, ⊤}
+use Rattle.std.specs.Prelude.{◌≡◌, ◌≢◌, ℕ, suc, ◌+◌, ◌-◌, ◌≤◌, ◌<◌, Bool, true, false, List, [], ◌∷◌, Option, Some, None, length, take, drop, slice_get, slice_index_or, ⊤, codes}
 use Rattle.pi_terms.specs.Tree.{Tree, Trees, no_trees, tree}
 use Rattle.pi_terms.specs.Places.{Places}
 use Rattle.pi_terms.specs.Variables.{IsGround}
@@ -14,9 +14,10 @@ use Rattle.pi_code.specs.declared.code.Node.{Node}
 use Rattle.pi_code.specs.declared.code.Step.{Step}
 use Rattle.pi_builtin.specs.Resolved.{IsFunctionNamed}
 use Rattle.pi_code.specs.Laid.{IsEffectOf}
+use Rattle.pi_meaning.specs.Names.{is_call}
 use Rattle.pi_code.specs.Code.{Tables, operand_tree, spelled_parts, StandsAt}
 use Rattle.pi_arenas.specs.Frames.{frame_at}
-use Rattle.pi_machine.specs.Configuration.{Frame, return, give, behind}
+use Rattle.pi_machine.specs.Configuration.{Frame, return, give, behind, in_places}
 
 -- ---- slots
 
@@ -46,10 +47,6 @@ pub record Holds (t : Terms) (slots : List (Option Ref)) (b : Block) (e : Places
   pub held : AreHeld t (take b.count (drop (b.base + b.first) slots)) e
 
 -- the arguments of the call of a block, which has so many
-unfoldable pub in_places : Trees → Places
-in_places no_trees = []
-in_places (tree t ts) = Some t ∷ in_places ts
-
 pub record HoldsArguments (t : Terms) (slots : List (Option Ref)) (base arity : ℕ) (ts : Trees) : Type 0 where
   pub within : base + arity ≤ length slots
   pub held : AreHeld t (take arity (drop base slots)) (in_places ts)
@@ -74,7 +71,7 @@ abbrev pub AreReadable : Tables → Block → ℕ → ℕ → Type 0
 AreReadable t b first arity =
     (first + arity ≤ length t.operands) × ((i : ℕ) (o : Operand) → i < arity → slice_get t.operands (first + i) ≡ Some o → IsReadable t b o)
 
--- the same of all that a node reads, and a built-in is that of its name; the value behind a function's body is no goal
+-- the same of all that a node reads, a built-in is that of its name, and `call` has as many arguments as it may; the value behind a function's body is no goal
 abbrev pub NodeIsReadable : Tables → Block → Node → Type 0
 NodeIsReadable t b (Node.Unify left right) = IsReadable t b left × IsReadable t b right
 NodeIsReadable t b (Node.Throw ball) = IsReadable t b ball
@@ -86,6 +83,7 @@ NodeIsReadable t b (Node.Collect value into) = (value < b.count) × (into < b.co
 NodeIsReadable t b (Node.Count into) = into < b.count
 NodeIsReadable t b (Node.BuiltIn p name first arity) = AreReadable t b first arity × IsEffectOf (slice_index_or t.names name []) arity p
 NodeIsReadable t b (Node.BuiltInValue f name first arity into) = AreReadable t b first arity × IsFunctionNamed (slice_index_or t.names name []) arity f × (into < b.count)
+NodeIsReadable t b (Node.CallTerm first arity) = AreReadable t b first arity × (is_call (codes "call") arity ≡ true)
 NodeIsReadable t b node = ⊤
 
 -- a step belongs to a clause with slots like those of a block, and its operands can be read

@@ -15,7 +15,7 @@ use Rattle.pi_arenas.specs.declared.arenas.Kind.{Kind}
 use Rattle.pi_arenas.specs.declared.arenas.Strict.{Strict}
 use Rattle.pi_arenas.specs.declared.run.Now.{Now}
 use Rattle.pi_machine.specs.Configuration.{Frame, Entry, Config, config, going, catch_level, behind}
-use Rattle.pi_machine.specs.Step.{Outcome, silently, with_tick, quietly, writing, answering, ending, goal_step, step, inside, back_to}
+use Rattle.pi_machine.specs.Step.{Outcome, silently, with_tick, quietly, writing, answering, ending, goal_step, step, inside, back_to, deeper}
 use Rattle.pi_machine.specs.Shape.{IsBalanced}
 use Rattle.pi_machine.specs.declared.happening.Mode.{Mode}
 use Rattle.pi_stands.specs.Stands.{World, steps_of, Stands, StandsGoing}
@@ -26,6 +26,7 @@ abbrev pub StandsAfter : {M : Type 0} → World M → Now → Outcome → Type 0
 StandsAfter w now (silently c) = Stands w now c
 StandsAfter w now (with_tick c) = Stands w now c
 StandsAfter w now (quietly c) = Stands w now c
+StandsAfter w now (deeper c) = Stands w now c
 StandsAfter w now (writing text c) = ⊥
 StandsAfter w now (answering x c) = ⊥
 StandsAfter w now (ending e) = ⊥

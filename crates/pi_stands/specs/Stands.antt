@@ -11,6 +11,9 @@ use Rattle.pi_terms.specs.PatternTree.{PatternTrees, no_patterns, pattern}
 use Rattle.pi_core.specs.CoreTree.{ClauseTree, PredTree, pred_tree, leaves_others}
 use Rattle.pi_states.specs.Evaluation.{evaluated}
 use Rattle.pi_meaning.specs.Sound.{IsAnother, pattern_count}
+use Rattle.pi_meaning.specs.Defined.{NamesAreFree}
+use Rattle.pi_named_goals.specs.NamedGoals.{goal_by_name}
+use Rattle.pi_code.specs.Callables.{place_in, HasPlace}
 use Rattle.pi_code.specs.declared.code.Node.{Node}
 use Rattle.pi_code.specs.declared.code.Step.{Step}
 use Rattle.pi_code.specs.declared.code.HeadTest.{HeadTest}
@@ -78,12 +81,27 @@ HasNumber preds (Node.Call p first) = IsNumberOf preds false p
 HasNumber preds (Node.Apply p first into) = IsNumberOf preds true p
 HasNumber preds node = ⊤
 
--- the predicates of a program and a query's own stand in the tables
+-- the goal by which the name with a number is called with so many arguments stands at a place, in a block that has just the arguments
+pub record NamedHere (code : Code) (t : Tables) (names : List (List ℕ)) (preds : List PredTree) (n k place : ℕ) : Type 0 where
+  pub name : List ℕ
+  pub name_is : slice_get names n ≡ Some name
+  pub it : GoalTree
+  pub is : goal_by_name preds name k ≡ Some it
+  pub here : (base : ℕ) → IsHere t code.steps.items (record { base = base; first = 0; count = k }) place it true
+
+-- where a place is found for a name that goal stands there, and for each name with such a goal a place is found
+pub record AreNamed (code : Code) (t : Tables) (names : List (List ℕ)) (preds : List PredTree) : Type 0 where
+  pub right : (n k place : ℕ) → place_in code.callables n k ≡ Some place → NamedHere code t names preds n k place
+  pub each : (name : List ℕ) (k : ℕ) (g : GoalTree) → goal_by_name preds name k ≡ Some g → HasPlace names code.callables name k
+
+-- the predicates of a program and a query's own stand in the tables, and the goals by which names are called
 pub record IsCodeOf (code : Code) (t : Tables) (names : List (List ℕ)) (preds : List PredTree) : Type 0 where
   pub source : preds ≡ map pred_tree (preds_of code)
   pub apart : AllPairs IsAnother preds
+  pub free : NamesAreFree preds
   pub predicates : (n : ℕ) (pred : PredTree) → slice_get preds n ≡ Some pred → (p : Predicate) × (slice_get code.predicates.items n ≡ Some p) × IsPredicateOf code t names pred p
   pub numbers : (i : ℕ) (s : Step) → slice_get code.steps.items i ≡ Some s → HasNumber preds s.node
+  pub named : AreNamed code t names preds
 
 -- ---- a run
 

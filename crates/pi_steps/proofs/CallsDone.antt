@@ -1,5 +1,5 @@
 -- What is next behind a call of a built-in predicate.
-use Rattle.std.proofs.Common.{◌≡◌, List, Ok, Err, refl, sym, subst}
+use Rattle.std.proofs.Common.{Ok, Err, refl, sym, subst}
 use Rattle.pi_terms.specs.Tree.{Tree}
 use Rattle.pi_states.specs.State.{IsState}
 use Rattle.pi_states.specs.Store.{StoreView}

@@ -2,3 +2,4 @@ pub mod ToldStand
 pub mod NamesStand
 pub mod RetriesStand
 pub mod CallsDone
+pub mod TermsCalled

@@ -13,6 +13,7 @@ use crate::choices::{enter_alternatives, enter_sequence};
 use crate::levels::enter_level;
 use crate::lists::count_collected;
 use crate::raises::{enter_catch, throw};
+use crate::terms::call_term;
 use crate::ticks::{tick, tick_call};
 use pi_arenas::{Kind, Now, Point, Run, Strict, behind};
 use pi_code::{Code, Node, Step};
@@ -72,6 +73,9 @@ fn run_other<S: StateStore>(
             )?;
         }
         Node::Value(operand) => give_value(code, run, point, *step, operand)?,
+        Node::CallTerm(operands, count) => {
+            call_term(code, run, point, *step, operands, count)?;
+        }
         _ => run_silent(code, mode, run, point, *step)?,
     }
     Ok(())

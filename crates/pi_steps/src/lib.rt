@@ -11,6 +11,7 @@ mod levels;
 mod lists;
 mod raises;
 mod rules;
+mod terms;
 mod ticks;
 mod values;
 

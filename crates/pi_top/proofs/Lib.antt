@@ -17,6 +17,5 @@ pub mod QueryRuns
 pub mod Refusing
 pub mod Runnable
 pub mod Runs
-pub mod TabledRuns
 pub mod TextWrites
 pub mod UnbuiltLines

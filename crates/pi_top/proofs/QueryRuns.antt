@@ -7,8 +7,7 @@ use Rattle.pi_traces.specs.Trace.{Done, Raise, Out, Emitted, noted, answered, co
 use Rattle.pi_traces.specs.Depth.{Stop as CutStop, Cut, Ended, Spent, with_events}
 use Rattle.pi_meaning.specs.View.{query_view}
 use Rattle.pi_core.specs.CoreTree.{PredTree, QueryTree}
-use Rattle.pi_meaning.specs.Instances.{tabled}
-use Rattle.pi_meaning.specs.Run.{Solution, IsRun, IsRunUnder}
+use Rattle.pi_meaning.specs.Run.{Solution, IsRun}
 use Rattle.pi_print.specs.PrintAnswer.{answer_lines}
 use Rattle.pi_answers.specs.declared.answer.Answer.{Answer}
 use Rattle.pi_core.specs.declared.core_program.NameSlot.{NameSlot}
@@ -18,7 +17,6 @@ use Rattle.pi_machine.specs.declared.happening.Happening.{Happening}
 use Rattle.pi_machine.specs.declared.happening.Mode.{Mode}
 use Rattle.pi_machine.specs.Budget.{Counts, IsWithin, IsInner}
 use Rattle.pi_machine.specs.Built.{IsRunnable}
-use Rattle.pi_top.proofs.TabledRuns.{whole-tabled, tabled-whole}
 use Rattle.pi_stands.specs.Goes.{counted}
 use Rattle.pi_machine.specs.Next.{some_ticks}
 use Rattle.pi_engine.specs.Seen.{MachineView, mode_of, GoesOn}
@@ -109,12 +107,12 @@ written-text m n b c given program q text first second w called happens running 
 
 -- the events so far begin the query's run
 prefix-of : {M : Type 0} (m : MachineView M) (program : List PredTree) (q : QueryTree) (events : List (Emitted Solution)) (steps : ℕ) (run : Cut Solution) → RunsTo (query_view []) m program q events →
-    IsRunnable program q → IsRun program q [] steps run → count_ticks events ≤ steps → IsQueryPart program q steps run events
-prefix-of m program q events steps run runs runnable is few =
+    IsRun program q [] steps run → count_ticks events ≤ steps → IsQueryPart program q steps run events
+prefix-of m program q events steps run runs is few =
     let left : ℕ = steps - count_ticks events in
     let same : steps ≡ count_ticks events + left = omega (arith, few) in
     let split : (rest : Cut Solution) × (run ≡ with_events events rest) =
-    runs.begins left run (whole-tabled (query_view []) program q runnable (count_ticks events + left) run (subst (λ n. IsRun program q [] n run) same is)) in
+    runs.begins left run (subst (λ n. IsRun program q [] n run) same is) in
     record { is_run = is; begins = record { rest = split.0.events; whole_is = ap (λ (r : Cut Solution). r.events) split.1 } }
 
 -- a part without its last events
@@ -136,7 +134,7 @@ has-part : {M : Type 0} (m : MachineView M) (program : List PredTree) (q : Query
     count_ticks events ≤ steps → HasPart program q steps events
 has-part m program q events steps runnable runs few =
     let found : (run : Cut Solution) × IsRun program q [] steps run = query-runs (query_view []) program q runnable.sound.preds.ticks steps in
-    record { run = found.0; is_part = prefix-of m program q events steps found.0 runs runnable found.1 few }
+    record { run = found.0; is_part = prefix-of m program q events steps found.0 runs found.1 few }
 
 -- Ticks behind what was written: they print nothing
 record IsTail (events : List (Emitted Solution)) (k given total : ℕ) (names : List NameSlot) : Type 0 where
@@ -158,10 +156,9 @@ tail-of m n b c given program q writes w called =
       printed = behind-ticks q.names w.events k;
     }
 
-part-whole : (program : List PredTree) (q : QueryTree) (steps : ℕ) (events : List (Emitted Solution)) (stop : CutStop) → IsRunnable program q →
-    IsRunUnder (tabled (query_view [])) program q steps (record { events = events; stop = stop }) → IsQueryPart program q steps (record { events = events; stop = stop }) events
-part-whole program q steps events stop runnable is =
-    record { is_run = tabled-whole (query_view []) program q runnable steps (record { events = events; stop = stop }) is; begins = prefix-all events }
+part-whole : (program : List PredTree) (q : QueryTree) (steps : ℕ) (events : List (Emitted Solution)) (stop : CutStop) →
+    IsRun program q [] steps (record { events = events; stop = stop }) → IsQueryPart program q steps (record { events = events; stop = stop }) events
+part-whole program q steps events stop is = record { is_run = is; begins = prefix-all events }
 
 whole-of : (answers given : ℕ) (events : List (Emitted Solution)) (stop : CutStop) → count_answers events ≡ given → given < answers →
     IsWhole answers events (record { events = events; stop = stop }) stop
@@ -311,20 +308,20 @@ comes-end m n b c answers given steps program q Happening.Done true r first seco
     let tail : IsTail w.events k given c.ticks q.names = tail-of m n b c given program q first w called in
     let whole = whole-of answers given (w.events ++ some_ticks k) (Ended Done) tail.answers less in
     comes-line answers steps program q (w.events ++ some_ticks k) _ NoMore c.ticks r first second
-    (part-whole program q steps (w.events ++ some_ticks k) (Ended Done) runnable (happens.0 steps (omega (arith, tail.ticks, (called.within w.within).ticks, same))))
+    (part-whole program q steps (w.events ++ some_ticks k) (Ended Done) (happens.0 steps (omega (arith, tail.ticks, (called.within w.within).ticks, same))))
     (whole, omega (arith, tail.answers, has_some refl)) (λ memory. omega (arith, tail.answers, less)) tail.ticks (rw tail.printed w.written) writes
 comes-end m n b c answers given steps program q Happening.Done false r first second runnable w called less same has_some has_none not_answer no_text happens writes =
     let k : ℕ = counted m.mode b c in
     let tail : IsTail w.events k given c.ticks q.names = tail-of m n b c given program q first w called in
     let whole = whole-of answers given (w.events ++ some_ticks k) (Ended Done) tail.answers less in
     comes-line answers steps program q (w.events ++ some_ticks k) _ No c.ticks r first second
-    (part-whole program q steps (w.events ++ some_ticks k) (Ended Done) runnable (happens.0 steps (omega (arith, tail.ticks, (called.within w.within).ticks, same))))
+    (part-whole program q steps (w.events ++ some_ticks k) (Ended Done) (happens.0 steps (omega (arith, tail.ticks, (called.within w.within).ticks, same))))
     (whole, omega (arith, tail.answers, has_none refl)) (λ memory. omega (arith, tail.answers, less)) tail.ticks (rw tail.printed w.written) writes
 comes-end m n b c answers given steps program q (Happening.Raised ball) has r first second runnable w called less same has_some has_none not_answer no_text happens writes =
     let k : ℕ = counted m.mode b c in
     let tail : IsTail w.events k given c.ticks q.names = tail-of m n b c given program q first w called in
     comes-line answers steps program q (w.events ++ some_ticks k) _ (Exception ball) c.ticks r first second
-    (part-whole program q steps (w.events ++ some_ticks k) (Ended (Raise ball)) runnable (happens.0 steps (omega (arith, tail.ticks, (called.within w.within).ticks, same))))
+    (part-whole program q steps (w.events ++ some_ticks k) (Ended (Raise ball)) (happens.0 steps (omega (arith, tail.ticks, (called.within w.within).ticks, same))))
     (whole-of answers given (w.events ++ some_ticks k) (Ended (Raise ball)) tail.answers less) (λ memory. omega (arith, tail.answers, less)) tail.ticks (rw tail.printed w.written) writes
 comes-end m n b c answers given steps program q Happening.StepsSpent has r first second runnable w called less same has_some has_none not_answer no_text happens writes =
     let k : ℕ = counted m.mode b c in
@@ -332,7 +329,7 @@ comes-end m n b c answers given steps program q Happening.StepsSpent has r first
     let spent : c.steps ≤ c.ticks = happens.3 in
     let ticks : count_ticks w.events + k ≡ steps = omega (arith, tail.so_many, (called.within w.within).ticks, same, spent) in
     comes-line answers steps program q (w.events ++ some_ticks k) _ StepsSpent c.ticks r first second
-    (part-whole program q steps (w.events ++ some_ticks k) Spent runnable (subst (λ s. IsRunUnder (tabled (query_view [])) program q s (record { events = w.events ++ some_ticks k; stop = Spent })) ticks happens.0))
+    (part-whole program q steps (w.events ++ some_ticks k) Spent (subst (λ s. IsRun program q [] s (record { events = w.events ++ some_ticks k; stop = Spent })) ticks happens.0))
     (whole-of answers given (w.events ++ some_ticks k) Spent tail.answers less) (λ memory. omega (arith, tail.answers, less)) tail.ticks (rw tail.printed w.written) writes
 
 -- ---- the list of queries

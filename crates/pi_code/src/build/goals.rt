@@ -14,6 +14,7 @@ use super::{Builder, Shape, short};
 use crate::code::{Code, Node, Step};
 use pi_builtin::{function_named, predicate_named};
 use pi_core::{CoreGoal, GoalNode};
+use pi_named_goals::is_call;
 use pi_states::StateStore;
 use pi_terms::{Args, Term, Text};
 use std::alloc::AllocError;
@@ -122,7 +123,7 @@ impl Builder<'_> {
         }
     }
 
-    /// A call: of a built-in predicate, or of one that has a number. A name that is neither is no sound program's.
+    /// A call: of a term, of a built-in predicate, or of one that has a number. A name that is neither is no sound program's.
     fn call_of<S: StateStore>(
         &self,
         code: &mut Code<'_>,
@@ -144,6 +145,9 @@ impl Builder<'_> {
             return Ok(Node::Throw(ball));
         }
         let operands = self.add_operands(code, store, args)?;
+        if is_call(name.as_str(), args.len()) {
+            return Ok(Node::CallTerm(operands, short(args.len())?));
+        }
         if let Some(predicate) = predicate_named(name.as_str(), args.len()) {
             let name = self.add_name(&mut code.names, name)?;
             let count = short(args.len())?;

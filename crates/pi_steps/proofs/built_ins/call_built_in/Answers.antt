@@ -9,7 +9,7 @@ use Rattle.pi_builtin.specs.Names.{takes, predicate_name}
 use Rattle.pi_code.specs.declared.code.Node.{Node}
 use Rattle.pi_code.specs.Code.{tables_of, operand_trees}
 use Rattle.pi_arenas.specs.Arenas.{view_of}
-use Rattle.pi_arenas.specs.Frames.{slot_number, point_behind}
+use Rattle.pi_arenas.specs.Frames.{slot_number}
 use Rattle.pi_stands.specs.Here.{AreReadable}
 use Rattle.pi_stands.specs.Stands.{tables_in, world}
 use Rattle.pi_stands.specs.Evaluates.{EvaluatesAll}

@@ -4,6 +4,7 @@ use Rattle.pi_stands.specs.Stands.{World, world}
 use Rattle.pi_stands.specs.Goes.{IsSilent}
 use Rattle.pi_stands.proofs.GoalsGo.{runs-silent}
 use Rattle.pi_stands.proofs.PointsDone.{silent-node, value-goes}
+use Rattle.pi_stands.proofs.TermRuns.{term-goes}
 use Rattle.pi_stands.proofs.StopsGo.{so-at-err, goal-stops}
 use Rattle.pi_steps.proofs.goals.run_other.Goals as goal
 
@@ -18,6 +19,14 @@ returns-in_ok-give_value-in-Value-clause-goes g c = λ other l is_code v fits na
     let after : World _ = world l (g.S.StateStore.seen end.store) g.S.StateStore.order (view_of end.arenas) in
     value-goes w after c.args.point c.args.step.now c.args.mode c.args.budget.now v names d end.now refl at (c.in_ok-give_value-in-Value.ensures c.in-Value.is l is_code v names d at)
 
+pub returns-in_ok-call_term-in-CallTerm-clause-goes : goal.returns-in_ok-call_term-in-CallTerm-clause-goes
+returns-in_ok-call_term-in-CallTerm-clause-goes g c = λ other l is_code.
+    let run = c.args.run.now in
+    let end = c.call_term.new.run in
+    let w : World _ = world l (g.S.StateStore.seen run.store) g.S.StateStore.order (view_of run.arenas) in
+    let after : World _ = world l (g.S.StateStore.seen end.store) g.S.StateStore.order (view_of end.arenas) in
+    term-goes w after c.args.point c.args.step.now c.in-CallTerm.operands c.in-CallTerm.count end.now c.args.mode c.args.budget.now refl c.in-CallTerm.is (c.in_ok-call_term-in-CallTerm.ensures c.in-CallTerm.is l is_code)
+
 pub returns-in_ok-run_silent-in_default-clause-goes : goal.returns-in_ok-run_silent-in_default-clause-goes
 returns-in_ok-run_silent-in_default-clause-goes g c = λ other l is_code v fits names d at.
     let run = c.args.run.now in
@@ -25,7 +34,7 @@ returns-in_ok-run_silent-in_default-clause-goes g c = λ other l is_code v fits 
     let w : World _ = world l (g.S.StateStore.seen run.store) g.S.StateStore.order (view_of run.arenas) in
     let after : World _ = world l (g.S.StateStore.seen end.store) g.S.StateStore.order (view_of end.arenas) in
     let s = c.args.step.now in
-    let silent : IsSilent s.node = silent-node s.node other c.in_default.not-Apply c.in_default.not-Value in
+    let silent : IsSilent s.node = silent-node s.node other c.in_default.not-Apply c.in_default.not-Value c.in_default.not-CallTerm in
     runs-silent w after c.args.point s end.now c.args.mode c.args.budget.now refl silent (c.in_ok-run_silent-in_default.ensures l is_code other silent) v fits names d at
 
 pub returns-in_err-run_apply-in-Apply-clause-stops : goal.returns-in_err-run_apply-in-Apply-clause-stops
@@ -33,6 +42,11 @@ returns-in_err-run_apply-in-Apply-clause-stops g c = so-at-err _ c.from_residual
 
 pub returns-in_err-give_value-in-Value-clause-stops : goal.returns-in_err-give_value-in-Value-clause-stops
 returns-in_err-give_value-in-Value-clause-stops g c = so-at-err _ c.from_residual-in_err-give_value-in-Value.result (λ l is_code.
+    let run = c.args.run.now in
+    goal-stops (world l (g.S.StateStore.seen run.store) g.S.StateStore.order (view_of run.arenas)) c.args.point c.args.step.now c.args.mode c.args.budget.now)
+
+pub returns-in_err-call_term-in-CallTerm-clause-stops : goal.returns-in_err-call_term-in-CallTerm-clause-stops
+returns-in_err-call_term-in-CallTerm-clause-stops g c = so-at-err _ c.from_residual-in_err-call_term-in-CallTerm.result (λ l is_code.
     let run = c.args.run.now in
     goal-stops (world l (g.S.StateStore.seen run.store) g.S.StateStore.order (view_of run.arenas)) c.args.point c.args.step.now c.args.mode c.args.budget.now)
 

@@ -44,7 +44,7 @@ returns-clause-comes g c =
     (comes program q
     (record {
       runnable = runnable;
-      runs = c.in-Ok.ensures.runs empty runnable.sound runnable.calls runnable.rules (query_view []) refl;
+      runs = c.in-Ok.ensures.runs empty runnable.sound runnable.calls runnable.free runnable.rules (query_view []) refl;
       counts_ticks = c.in-Ok.ensures.mode;
       running = c.in-Ok.ensures.running;
       unspent = refl;

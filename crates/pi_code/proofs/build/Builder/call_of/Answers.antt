@@ -1,10 +1,12 @@
-use Rattle.std.proofs.Common.{◌≡◌, ℕ, Bool, true, List, length, inr, false, ◌∷◌, [], refl, sym, ◌∙◌, subst, IfSome, IfNone}
+use Rattle.std.proofs.Common.{rules, ◌≡◌, ℕ, Bool, true, List, length, inr, false, ◌∷◌, [], refl, sym, ◌∙◌, subst, IfSome, IfNone}
 use Rattle.pi_effects.specs.BuiltIns.{is_predicate}
+use Rattle.pi_meaning.specs.Names.{is_call}
 use Rattle.pi_builtin.specs.Resolved.{IsPredicateNamed}
 use Rattle.std.specs.Prelude.{codes}
 use Rattle.std.specs.Str.{bytes_eq}
 use Rattle.std.proofs.lemmas.Slice.Eq.{bytes_eq-Decides}
 use Rattle.pi_code.specs.Laid.{tables_for, IsNotBuiltIn}
+use Rattle.pi_code.proofs.CalledNames.{is-call}
 use Rattle.pi_code.proofs.LaidBuiltIns.{built-in-laid}
 use Rattle.pi_code.proofs.LaidTerms.{wider-added, operand-wider}
 use Rattle.pi_code.proofs.LaidOperands.{unnamed, two-terms, one-term, same-call}
@@ -51,12 +53,27 @@ returns-in-Some-clause-is g c = λ preds numbered.
       tests = c.add_operands.new.code.tests;
       rules = c.add_operands.new.code.rules;
       predicates = c.add_operands.new.code.predicates;
-    }) c.args.name.now c.as_str-2.result.now c.args.args.now c.in-Some.predicate c.in_ok-name.name c.in_ok-operands.operands c.in_ok-count.count (length c.args.args.now) c.in_ok-name.ensures.added c.in_ok-name.ensures.place c.in_ok-count.ensures c.as_str-2.ensures refl
-    (subst (λ o. IfSome o (λ p. IsPredicateNamed c.as_str-2.result.now (length c.args.args.now) p)) c.in-Some.is c.predicate_named.ensures.some) other
+      callables = c.add_operands.new.code.callables;
+    }) c.args.name.now c.as_str-3.result.now c.args.args.now c.in-Some.predicate c.in_ok-name.name c.in_ok-operands.operands c.in_ok-count.count (length c.args.args.now) c.in_ok-name.ensures.added c.in_ok-name.ensures.place c.in_ok-count.ensures c.as_str-3.ensures refl
+    (subst (λ o. IfSome o (λ p. IsPredicateNamed c.as_str-3.result.now (length c.args.args.now) p)) c.in-Some.is c.predicate_named.ensures.some) other
     (c.in_ok-operands.ensures.are preds)
 
 pub returns-in-None-clause-is : goal.returns-in-None-clause-is
 returns-in-None-clause-is g c = λ preds numbered.
-    let none : is_predicate c.as_str-2.result.now (length c.args.args.now) ≡ false = subst (λ o. IfNone o (is_predicate c.as_str-2.result.now (length c.args.args.now) ≡ false)) c.in_default.is c.predicate_named.ensures.none in
-    let free : IsNotBuiltIn false c.args.name.now (length c.args.args.now) = subst (λ n. is_predicate n (length c.args.args.now) ≡ false) c.as_str-2.ensures none in
+    let none : is_predicate c.as_str-3.result.now (length c.args.args.now) ≡ false = subst (λ o. IfNone o (is_predicate c.as_str-3.result.now (length c.args.args.now) ≡ false)) c.in_default.is c.predicate_named.ensures.none in
+    let free : IsNotBuiltIn false c.args.name.now (length c.args.args.now) = (
+      subst (λ n. is_predicate n (length c.args.args.now) ≡ false) c.as_str-3.ensures none,
+      subst (λ n. is_call n (length c.args.args.now) ≡ false) c.as_str-2.ensures (sym c.is_call.ensures ∙ c.if-is_call.false),
+    ) in
     inr (unnamed c.args.self.now.numbers preds false c.args.name.now (length c.args.args.now) c.in_ok-number.field-0 numbered c.in_ok-number.ensures c.in-None.is, free)
+
+pub returns-then-is_call-clause-is : goal.returns-then-is_call-clause-is
+returns-then-is_call-clause-is g c = λ preds numbered.
+    let called : is_call c.as_str-2.result.now (length c.args.args.now) ≡ true = sym c.is_call.ensures ∙ c.if-is_call.true in
+    let name_is : c.args.name.now ≡ codes "call" = sym c.as_str-2.ensures ∙ (is-call c.as_str-2.result.now (length c.args.args.now) called).0 in (
+      c.args.args.now,
+      same-call c.args.name.now (codes "call") c.args.args.now c.args.args.now name_is refl,
+      search rules,
+      subst (λ n. is_call n (length c.args.args.now) ≡ true) (c.as_str-2.ensures ∙ name_is) called,
+      c.in_ok-operands.ensures.are preds,
+    )

@@ -7,10 +7,10 @@ use Rattle.pi_engine.proofs.RunBegins.{undone-stays}
 use Rattle.pi_engine.proofs.machine.Machine.new.Goals as goal
 
 pub returns-in-Ok-begin-clause-runs : goal.returns-in-Ok-begin-clause-runs
-returns-in-Ok-begin-clause-runs g c = λ empty sound calls rules v view.
+returns-in-Ok-begin-clause-runs g c = λ empty sound calls free rules v view.
     new-runs v (record { code = c.in-Ok-begin.code; names = c.args.query.names; mode = c.args.mode; store = g.S.StateStore.seen c.begin.new.run.store; order = g.S.StateStore.order; arenas = view_of c.begin.new.run.arenas; now = c.begin.new.run.now })
     (program_tree c.args.core.now) (query_tree c.args.query) view refl sound rules
-    (c.in-Ok-begin.ensures.begins c.args.query.names (c.in-Ok.ensures.ok.stays.state ∙ ap (λ s. (g.S.StateStore.seen s).now.state) c.new-run.ensures.store ∙ empty) c.new-run.ensures.arenas sound calls)
+    (c.in-Ok-begin.ensures.begins c.args.query.names (c.in-Ok.ensures.ok.stays.state ∙ ap (λ s. (g.S.StateStore.seen s).now.state) c.new-run.ensures.store ∙ empty) c.new-run.ensures.arenas sound calls free)
 
 pub returns-in-Ok-begin-clause-running : goal.returns-in-Ok-begin-clause-running
 returns-in-Ok-begin-clause-running g c = goes-on-in c.begin.new.run.now c.in-Ok-begin.ensures.running

@@ -1,0 +1,2 @@
+mod CalledLemmas
+mod NameTests
