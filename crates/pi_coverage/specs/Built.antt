@@ -1,4 +1,4 @@
--- Which parts of a program and which goals are built, by what is written alone: all forms but loops, comprehensions, `index` and facts, events, `call`, constraints, labelling and what
+-- Which parts of a program and which goals are built, by what is written alone: all forms but loops, comprehensions, `index` and facts, events, constraints, labelling and what
 -- planning gives (and `V@P` behind `$`, which no text without a fault has). A name that is called is one of the tables of built-in predicates and functions, one of the prelude's
 -- predicates, or one that the language doesn't give. (Own.)
 use Rattle.std.specs.Prelude.{ℕ, zero, suc, ◌+◌, Bool, true, false, not, ◌&&◌, ◌||◌, cond, if◌then◌else◌, List, [], ◌∷◌, Option, Some, None, is_none, codes}
@@ -93,7 +93,7 @@ is_built_form (Some negation) name k exps value goal = goal 0
 is_built_form (Some once) name k exps value goal = goal 0
 is_built_form (Some assignment) name k exps value goal = value 1
 is_built_form (Some catch) name k exps value goal = goal 0 && (value 1 && goal 2)
-is_built_form (Some by_term) name k exps value goal = false
+is_built_form (Some by_term) name k exps value goal = exps
 is_built_form (Some membership) name k exps value goal = false
 
 -- `true`, `fail` or the call of a predicate without arguments

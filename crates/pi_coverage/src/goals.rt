@@ -115,7 +115,7 @@ fn is_built_call(name: &str, args: &[Exp]) -> bool
             Form::Catch => {
                 is_built_goal_at(args, 0) & (is_built_value_at(args, 1) & is_built_goal_at(args, 2))
             }
-            Form::ByTerm => false,
+            Form::ByTerm => are_built_values(args),
             Form::Membership => false,
         },
         None => are_built_values(args) & is_built_predicate(name, count),

@@ -157,7 +157,7 @@ predicate-of defined known has name k exps value goal Exps Value Goal arguments 
         let rest = and_parts (value 1) (goal 2) both.1 in
         let places = catch-places name k is in
         (arguments.inner 0 places.0.0 both.0, arguments.one 1 places.0.1 rest.0, arguments.inner 2 places.1 rest.1)
-    go (Some Form.by_term) is h = absurd cc
+    go (Some Form.by_term) is h = let plain = term-plain name k is in (arguments.all plain.0 h, plain.1)
     go (Some Form.membership) is h = absurd cc
 
 -- ---- atoms

@@ -2,6 +2,8 @@
 #![tactic(auto)]
 
 #[cfg(test)]
+mod calls;
+#[cfg(test)]
 mod faulty;
 #[cfg(test)]
 mod large;
@@ -27,7 +29,7 @@ mod tests {
     use crate::faulty::FAULTY;
     use crate::orders::ORDERS;
     use crate::row::{OPEN, Row, USAGE};
-    use crate::{large, output, programs, small, terms, text, words};
+    use crate::{calls, large, output, programs, small, terms, text, words};
     use pi_outside::{MemoryFiles, MemorySink, SureSource};
     use pi_top::picatq;
     use std::alloc::Global;
@@ -100,6 +102,11 @@ mod tests {
     #[test]
     fn rows_of_terms(rt: HostRuntime) -> Result<(), Fail> {
         are_right(rt.alloc(), &terms::ROWS, NOTHING)
+    }
+
+    #[test]
+    fn rows_of_calls(rt: HostRuntime) -> Result<(), Fail> {
+        are_right(rt.alloc(), &calls::ROWS, NOTHING)
     }
 
     #[test]

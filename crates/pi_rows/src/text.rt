@@ -249,7 +249,7 @@ pub static ROWS: [Row<'static>; 46] = [
     },
     Row {
         program: Some("p => true."),
-        words: &["FILE", "call(p)"],
+        words: &["FILE", "call(p), solve([X])"],
         output: "goal: NotBuilt 1\n",
         status: 3,
     },

@@ -1,6 +1,7 @@
 -- What is called in goals that are lowered: where only what is built stands, names that may be called. Goals one after the other are those of a list.
 use Rattle.std.proofs.Common.{◌≡◌, ℕ, Bool, true, false, cond, List, [], ◌∷◌, ◌++◌, length, refl, sym, subst, nat_lt}
 use Rattle.std.specs.Prelude.{Option, Some, None, All, codes, ⊤}
+use Rattle.std.proofs.lemmas.Bool.{or_left, or_right}
 use Rattle.std.proofs.lemmas.List.Elements.{All-nil, All-cons, All-head, All-tail, All-append}
 use Rattle.pi_terms.specs.Tree.{Tree, comp}
 use Rattle.pi_effects.specs.Indexing.{index_name}
@@ -10,12 +11,13 @@ use Rattle.pi_lowered.specs.Values.{SlotTerm, first_item, slotted, is_below, eva
 use Rattle.pi_lowered.specs.Goals.{SlotGoals, SlotBranches, SlotArrow, in_turn, either_of, choosing, as_goals, branch_before}
 use Rattle.pi_lowered.specs.Lowered.{is_truth, guard_of}
 use Rattle.pi_syntax.specs.ExpTree.{ExpTree}
+use Rattle.pi_meaning.specs.Names.{is_call}
 use Rattle.pi_coverage.specs.Built.{is_built_predicate, is_built_function}
-use Rattle.pi_sound.proofs.NameLemmas.{item-built, equals-built}
+use Rattle.pi_sound.proofs.NameLemmas.{may_be_called, item-built, equals-built}
 
 -- a call is of a name that may be called
 abbrev pub MayCall : GoalTree → Type 0
-MayCall (call name args) = is_built_predicate name (length args) ≡ true
+MayCall (call name args) = may_be_called name (length args) ≡ true
 MayCall (apply name args slot) = is_built_function name (length args) ≡ true
 MayCall g = ⊤
 
@@ -56,7 +58,11 @@ fail-may = leaf-may fail refl tt
 
 pub call-may : (name : List ℕ) (args : List Tree) → is_built_predicate name (length args) ≡ true → MayRun (call name args)
 unfolding subgoals
-call-may name args may = leaf-may (call name args) refl may
+call-may name args may = leaf-may (call name args) refl (or_right (is_call name (length args)) (is_built_predicate name (length args)) may)
+
+pub term-may : (name : List ℕ) (args : List Tree) → is_call name (length args) ≡ true → MayRun (call name args)
+unfolding subgoals
+term-may name args may = leaf-may (call name args) refl (or_left (is_call name (length args)) (is_built_predicate name (length args)) may)
 
 pub apply-may : (name : List ℕ) (args : List Tree) (slot : ℕ) → is_built_function name (length args) ≡ true → MayRun (apply name args slot)
 unfolding subgoals

@@ -1,5 +1,5 @@
 -- Each goal and each expression that is built calls names that may be called.
-use Rattle.std.proofs.Common.{◌≡◌, ℕ, zero, suc, Bool, true, false, cond, List, [], ◌∷◌, ◌++◌, length, sym, ◌∙◌, subst}
+use Rattle.std.proofs.Common.{◌≡◌, ℕ, zero, suc, Bool, true, false, cond, List, [], ◌∷◌, ◌++◌, length, refl, sym, ◌∙◌, subst}
 use Rattle.std.specs.Prelude.{Option, Some, None, codes, All, ◌||◌, ◌&&◌}
 use Rattle.std.specs.Str.{bytes_eq}
 use Rattle.std.proofs.lemmas.Bool.{false≢true, and_parts}
@@ -9,16 +9,17 @@ use Rattle.pi_syntax.specs.ExpTree.{ExpTree, var, int, atom, str, list, list_ont
 use Rattle.pi_syntax.specs.Signature.{exp_count}
 use Rattle.pi_core.specs.GoalTree as core
 use Rattle.pi_meaning.proofs.MeaningLemmas.{count-of}
+use Rattle.pi_meaning.specs.Names.{is_call}
 use Rattle.pi_names.specs.Texts.{variable_first}
 use Rattle.pi_names.specs.Forms.{Form, negation, once, assignment, catch, by_term, membership, form_of, is_find_all, is_count_all}
 use Rattle.pi_lowered.specs.Slots.{SlotNames, slot_for}
 use Rattle.pi_lowered.specs.Values.{SlotValue, SlotValues, slot_term, is_flat, are_flat, as_it_stands, filled_before, last_value, value_before, value_by, no_values, before_values, applied, slotted}
 use Rattle.pi_lowered.specs.Goals as slots
 use Rattle.pi_lowered.specs.Goals.{SlotGoals, SlotBranches, made, parts, arguments}
-use Rattle.pi_lowered.proofs.FormLemmas.{arguments-count}
+use Rattle.pi_lowered.proofs.FormLemmas.{a-term, arguments-count}
 use Rattle.pi_coverage.specs.Built.{is_built_predicate, is_built_function, is_built_form, is_built_value, are_built_values, is_built_value_at, is_built_goal_at, is_built_goal, are_built_goals, are_built_branches, is_built_branch, have_built_goals}
 use Rattle.pi_sound.proofs.NameLemmas.{item-built, ranges-built}
-use Rattle.pi_sound.proofs.BuiltCalls.{MayRunAll, none-may, one-may, append-may, truth-may, fail-may, call-may, apply-may, turn-may, not-may, once-may, collect-may, count-may, catch-may, choosing-may, as-goals-may, ArrowMay, no_arrow_may, an_arrow_may, branch-may, filled-may, item-may, slotted-may}
+use Rattle.pi_sound.proofs.BuiltCalls.{MayRunAll, none-may, one-may, append-may, truth-may, fail-may, call-may, apply-may, term-may, turn-may, not-may, once-may, collect-may, count-may, catch-may, choosing-may, as-goals-may, ArrowMay, no_arrow_may, an_arrow_may, branch-may, filled-may, item-may, slotted-may}
 
 -- ---- expressions with and without a call
 
@@ -47,6 +48,9 @@ applied-may name vs may is = append-may vs.goals (core.apply name vs.trees (leng
 
 called-may : (name : List ℕ) (vs : SlotValues) → MayRunAll vs.goals → is_built_predicate name (length vs.trees) ≡ true → MayRunAll (slots.called name vs).goals
 called-may name vs may is = append-may vs.goals (core.call name vs.trees ∷ []) may (one-may (core.call name vs.trees) (call-may name vs.trees is))
+
+term-called-may : (name : List ℕ) (vs : SlotValues) → MayRunAll vs.goals → is_call name (length vs.trees) ≡ true → MayRunAll (slots.called name vs).goals
+term-called-may name vs may is = append-may vs.goals (core.call name vs.trees ∷ []) may (one-may (core.call name vs.trees) (term-may name vs.trees is))
 
 pair-may : (v w : SlotValue) → MayRunAll v.goals → MayRunAll w.goals → MayRunAll (before_values v (before_values w (no_values w.names))).goals
 pair-may v w one two = append-may v.goals (w.goals ++ []) one (append-may w.goals [] two none-may)
@@ -77,14 +81,14 @@ value-call-may false false name k exps value goal is parts may ns =
     let both : (exps ≡ true) × (is_built_function name k ≡ true) = and_parts exps (is_built_function name k) is in
     applied-may name (parts.all ns) (may.all both.0 ns) (subst (λ (j : ℕ). is_built_function name j ≡ true) (may.long ns) both.1)
 
-goal-call-may : (name : List ℕ) (k : ℕ) (form : Option Form) (exps : Bool) (value goal : ℕ → Bool) → is_built_form form name k exps value goal ≡ true → (parts : slots.SlotParts) → PartsMay exps value goal k parts → (ns : SlotNames) →
+goal-call-may : (name : List ℕ) (k : ℕ) (form : Option Form) → (form ≡ Some by_term → is_call name k ≡ true) → (exps : Bool) (value goal : ℕ → Bool) → is_built_form form name k exps value goal ≡ true → (parts : slots.SlotParts) → PartsMay exps value goal k parts → (ns : SlotNames) →
     MayRunAll (slots.call_goals name form parts ns).goals
-goal-call-may name k None exps value goal is parts may ns =
+goal-call-may name k None named exps value goal is parts may ns =
     let both : (exps ≡ true) × (is_built_predicate name k ≡ true) = and_parts exps (is_built_predicate name k) is in
     called-may name (parts.all ns) (may.all both.0 ns) (subst (λ (j : ℕ). is_built_predicate name j ≡ true) (may.long ns) both.1)
-goal-call-may name k (Some negation) exps value goal is parts may ns = one-may _ (not-may _ (turn-may (slots.goals_at parts.goals 0 ns).goals (may.goals 0 is ns)))
-goal-call-may name k (Some once) exps value goal is parts may ns = one-may _ (once-may _ (turn-may (slots.goals_at parts.goals 0 ns).goals (may.goals 0 is ns)))
-goal-call-may name k (Some assignment) exps value goal is parts may ns = go parts.variable
+goal-call-may name k (Some negation) named exps value goal is parts may ns = one-may _ (not-may _ (turn-may (slots.goals_at parts.goals 0 ns).goals (may.goals 0 is ns)))
+goal-call-may name k (Some once) named exps value goal is parts may ns = one-may _ (once-may _ (turn-may (slots.goals_at parts.goals 0 ns).goals (may.goals 0 is ns)))
+goal-call-may name k (Some assignment) named exps value goal is parts may ns = go parts.variable
   where
     v : SlotValue
     v = slots.value_at parts.values 1 ns
@@ -92,15 +96,16 @@ goal-call-may name k (Some assignment) exps value goal is parts may ns = go part
     go : (o : Option (List ℕ)) → MayRunAll (slots.assigned o v).goals
     go None = append-may v.goals (core.fail ∷ []) (may.values 1 is ns) (one-may core.fail fail-may)
     go (Some x) = item-may v.goals v.tree (slot_for x v.names) (may.values 1 is ns)
-goal-call-may name k (Some catch) exps value goal is parts may ns =
+goal-call-may name k (Some catch) named exps value goal is parts may ns =
     let first : (goal 0 ≡ true) × ((value 1 && goal 2) ≡ true) = and_parts (goal 0) (value 1 && goal 2) is in
     let rest : (value 1 ≡ true) × (goal 2 ≡ true) = and_parts (value 1) (goal 2) first.1 in
     let ball : SlotValue = slots.value_at parts.values 1 ns in
     let held : SlotGoals = slots.goals_at parts.goals 0 ball.names in
     append-may ball.goals _ (may.values 1 rest.0 ns)
     (one-may _ (catch-may (slots.in_turn held.goals) ball.tree (slots.in_turn (slots.goals_at parts.goals 2 held.names).goals) (turn-may held.goals (may.goals 0 first.0 ball.names)) (turn-may (slots.goals_at parts.goals 2 held.names).goals (may.goals 2 rest.1 held.names))))
-goal-call-may name k (Some by_term) exps value goal is parts may ns = absurd (false≢true is)
-goal-call-may name k (Some membership) exps value goal is parts may ns = absurd (false≢true is)
+goal-call-may name k (Some by_term) named exps value goal is parts may ns =
+    term-called-may name (parts.all ns) (may.all is ns) (subst (λ (j : ℕ). is_call name j ≡ true) (may.long ns) (named refl))
+goal-call-may name k (Some membership) named exps value goal is parts may ns = absurd (false≢true is)
 
 atom-may : (name : List ℕ) (is_true is_fail : Bool) → (is_true || (is_fail || is_built_predicate name 0)) ≡ true → MayRunAll (cond is_true core.truth (cond is_fail core.fail (core.call name [])) ∷ [])
 atom-may name true is_fail is = one-may core.truth truth-may
@@ -201,7 +206,7 @@ mutual
   pub goal-may : (h : ℕ) (e : ExpTree) → is_built_goal e ≡ true → (ns : SlotNames) → MayRunAll (slots.goal_of h e ns).goals
   goal-may h (atom name) is ns = atom-may name (bytes_eq name (codes "true")) (bytes_eq name (codes "fail")) is
   goal-may h (call name es) is ns =
-      goal-call-may name (exp_count es) (form_of name (exp_count es)) (are_built_values es) (is_built_value_at es) (is_built_goal_at es) is (record { variable = variable_first es; goals = slots.goals_in h es; values = slots.values_in h es; all = arguments h es })
+      goal-call-may name (exp_count es) (form_of name (exp_count es)) (a-term name (exp_count es)) (are_built_values es) (is_built_value_at es) (is_built_goal_at es) is (record { variable = variable_first es; goals = slots.goals_in h es; values = slots.values_in h es; all = arguments h es })
       (record { goals = λ i at ns. goals-may h es i at ns; values = λ i at ns. values-may h es i at ns; all = λ are ns. arguments-may h es are ns; long = counted h es }) ns
   goal-may h (and es) is ns = and-may h es is ns
   goal-may h (or es) is ns = as-goals-may (slots.any_of h es ns) (or-may h es is ns)

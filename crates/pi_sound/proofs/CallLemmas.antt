@@ -15,8 +15,7 @@ use Rattle.pi_meaning.proofs.MeaningLemmas.{count-of}
 use Rattle.pi_lowered.specs.Laws.{known_of, DefinesTheSame}
 use Rattle.pi_lowered.proofs.FineLemmas.{Fine}
 use Rattle.pi_lowered.proofs.SoundLemmas.{subgoal-fine}
-use Rattle.pi_coverage.specs.Built.{is_built_predicate}
-use Rattle.pi_sound.proofs.NameLemmas.{predicate-there, function-there, no-planner}
+use Rattle.pi_sound.proofs.NameLemmas.{may_be_called, predicate-there, function-there, no-planner}
 use Rattle.pi_sound.proofs.BuiltCalls.{MayCall, MayRun}
 
 called-is-some : (o : Option PredTree) → is_called_by_name o ≡ true → IsSome o
@@ -76,5 +75,5 @@ goal-good program preds defines n g fine may = record {
   };
 }
   where
-    called : (name : List ℕ) (args : List Tree) → Contains (subgoals g) (call name args) → is_built_predicate name (length args) ≡ true
+    called : (name : List ℕ) (args : List Tree) → Contains (subgoals g) (call name args) → may_be_called name (length args) ≡ true
     called name args there = All-contains MayCall (subgoals g) (call name args) may there

@@ -19,6 +19,7 @@ use Rattle.pi_effects.specs.Indexing.{index_name}
 use Rattle.pi_effects.specs.BuiltIns.{reading_functions, tests, other_predicates, is_predicate, is_function}
 use Rattle.pi_syntax.specs.Tokens.{is_one_of}
 use Rattle.pi_meaning.specs.Names.{later_predicates, is_later_predicate, is_later_function, is_resource, is_call, is_planner, is_given_predicate, is_given_function}
+use Rattle.pi_meaning.specs.Defined.{is_machine_predicate}
 use Rattle.pi_lib.specs.Names.{function_rows, predicate_rows, prelude_rows, row, kind_of}
 use Rattle.pi_names.proofs.TableLemmas.{same-name, one-of, each-spelled, spellings-hold, each-signed, signatures-hold, each-from, each-row, rows-hold}
 use Rattle.pi_coverage.specs.Built.{is_own, is_prelude_kind, is_built_predicate, is_built_function}
@@ -39,33 +40,29 @@ ranges-built = (refl, refl)
 
 -- ---- predicates
 
+-- `call`, or what is built as a call of a predicate
+abbrev pub may_be_called : List ℕ → ℕ → Bool
+may_be_called name k = is_call name k || is_built_predicate name k
+
 -- it isn't a name of the program, nor one of the prelude's predicates
 abbrev is_theirs : List ℕ → ℕ → Bool
 is_theirs name k = not (is_own name k || is_prelude_kind (kind_of name k))
-
-call-theirs : (name : List ℕ) (k : ℕ) → is_call name k ≡ true → is_theirs name k ≡ true
-unfolding kind_of function_rows predicate_rows prelude_rows each-row each-from
-call-theirs name k is =
-    let parts : ((nat_le 1 k && nat_le k 8) ≡ true) × (bytes_eq name (codes "call") ≡ true) = and_parts (nat_le 1 k && nat_le k 8) (bytes_eq name (codes "call")) is in
-    subst (λ (n : List ℕ). is_theirs n k ≡ true) (sym (same-name name (codes "call") parts.1))
-    (rows-hold (λ n j. is_theirs n j) (row (codes "call") 1 8 ∷ []) refl (codes "call") k (or_left (nat_le 1 k && nat_le k 8) false parts.0))
 
 later-theirs : (name : List ℕ) (k : ℕ) → is_later_predicate name k ≡ true → is_theirs name k ≡ true
 unfolding is_later_predicate later_predicates kind_of function_rows predicate_rows prelude_rows each-signed
 later-theirs name k is = signatures-hold (λ n j. is_theirs n j) later_predicates refl name k is
 
 -- of what is given, or what a program has, and may be called
-pub predicate-there : (name : List ℕ) (k : ℕ) (known : Bool) → IsTrue (is_given_predicate name k || known) → is_built_predicate name k ≡ true → IsTrue known ⊎ IsTrue (is_predicate name k)
+pub predicate-there : (name : List ℕ) (k : ℕ) (known : Bool) → IsTrue (is_given_predicate name k || known) → may_be_called name k ≡ true → IsTrue known ⊎ IsTrue (is_machine_predicate name k)
 predicate-there name k known there may =
-    go (is_call name k) (is_predicate name k) (is_later_predicate name k) known (is_own name k || is_prelude_kind (kind_of name k)) (call-theirs name k) (later-theirs name k) there may
+    go (is_call name k) (is_predicate name k) (is_later_predicate name k) known (is_own name k || is_prelude_kind (kind_of name k)) (later-theirs name k) there may
   where
-    go : (by_term table later known other : Bool) → (by_term ≡ true → not other ≡ true) → (later ≡ true → not other ≡ true) → IsTrue ((by_term || (table || later)) || known) → (table || other) ≡ true → IsTrue known ⊎ IsTrue table
-    go by_term true later known other one two there may = inr refl
-    go true false later known true one two there may = absurd (false≢true (one refl))
-    go true false later known false one two there may = absurd (false≢true may)
-    go false false true known true one two there may = absurd (false≢true (two refl))
-    go false false true known false one two there may = absurd (false≢true may)
-    go false false false known other one two there may = inl there
+    go : (by_term table later known other : Bool) → (later ≡ true → not other ≡ true) → IsTrue ((by_term || (table || later)) || known) → (by_term || (table || other)) ≡ true → IsTrue known ⊎ IsTrue (by_term || table)
+    go true table later known other theirs there may = inr refl
+    go false true later known other theirs there may = inr refl
+    go false false true known true theirs there may = absurd (false≢true (theirs refl))
+    go false false true known false theirs there may = absurd (false≢true may)
+    go false false false known other theirs there may = inl there
 
 -- ---- functions
 
@@ -100,17 +97,17 @@ function-there name k known there may =
 -- ---- planner calls
 
 abbrev may_not : List ℕ → ℕ → Bool
-may_not name k = not (is_built_predicate name k)
+may_not name k = not (may_be_called name k)
 
 planners-not : ((may_not (codes "plan") 2 ≡ true) × (may_not (codes "plan") 3 ≡ true) × (may_not (codes "plan") 4 ≡ true))
     × ((may_not (codes "best_plan") 2 ≡ true) × (may_not (codes "best_plan") 3 ≡ true) × (may_not (codes "best_plan") 4 ≡ true))
 unfolding kind_of function_rows predicate_rows prelude_rows is_predicate has_line tests comparing_tests kind_tests writing_predicates other_predicates
 planners-not = ((refl, refl, refl), (refl, refl, refl))
 
-pub no-planner : (name : List ℕ) (k : ℕ) → is_planner name k ≡ true → is_built_predicate name k ≡ true → ⊥
+pub no-planner : (name : List ℕ) (k : ℕ) → is_planner name k ≡ true → may_be_called name k ≡ true → ⊥
 no-planner name k is may =
     let parts = and_parts _ ((k == 2) || ((k == 3) || (k == 4))) is in
-    refuted (is_built_predicate name k) may
+    refuted (may_be_called name k) may
     (one-of _ _ (may_not name k) (λ e. spelled (codes "plan") (same_name name (codes "plan") e) planners-not.0 parts.1) (λ e. spelled (codes "best_plan") (same_name name (codes "best_plan") e) planners-not.1 parts.1) parts.0)
   where
     refuted : (b : Bool) → b ≡ true → not b ≡ true → ⊥

@@ -1,5 +1,5 @@
--- What a program and a goal are lowered to is sound where all of it is built: slots, calls and clauses fit each other, and nothing is called but what the program defines and
--- what the tables of built-ins have. (Own.)
+-- What a program and a goal are lowered to is sound where all of it is built: slots, calls and clauses fit each other, and nothing is called but what the program defines, what
+-- the tables of built-ins have, and `call`. (Own.)
 use Rattle.std.specs.Prelude.{◌≡◌, ◌++◌, true, false, [], None, All}
 use Rattle.pi_syntax.specs.ExpTree.{ExpTree}
 use Rattle.pi_syntax.specs.ProgramTree.{ProgramTree}
@@ -24,7 +24,7 @@ pub record IsPlain (pred : PredTree) : Type 0 where
 abbrev pub LoweredProgramsAreSound : Type 0
 LoweredProgramsAreSound = (program : ProgramTree) → IsWithin program → unbuilt_part program ≡ None → IsSound (lowered program)
 
--- they call what they define and what the tables have, and nothing that they define has a name that the language gives
+-- they call what they define, what the tables have, and `call`, and nothing that they define has a name that the language gives
 abbrev pub LoweredProgramsAreClosed : Type 0
 LoweredProgramsAreClosed = (program : ProgramTree) → IsWithin program → unbuilt_part program ≡ None → ProgramCallsDefined (lowered program) × NamesAreFree (lowered program)
 

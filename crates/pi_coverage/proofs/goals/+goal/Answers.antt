@@ -173,7 +173,7 @@ is_built_call-returns-in-Catch t c =
 
 pub is_built_call-returns-in-ByTerm : goal.is_built_call-returns-in-ByTerm
 is_built_call-returns-in-ByTerm t c =
-    goal-of c.args.name.now c.args.args.now (length c.args.args.now) c.form_of.result c.in-Some.form Form.ByTerm false refl c.form_of.ensures c.in-Some.is c.in-ByTerm.is refl
+    goal-of c.args.name.now c.args.args.now (length c.args.args.now) c.form_of.result c.in-Some.form Form.ByTerm c.are_built_values.result refl c.form_of.ensures c.in-Some.is c.in-ByTerm.is c.are_built_values.ensures
 
 pub is_built_call-returns-in-Membership : goal.is_built_call-returns-in-Membership
 is_built_call-returns-in-Membership t c =
@@ -181,7 +181,7 @@ is_built_call-returns-in-Membership t c =
 
 pub is_built_call-returns-in-None : goal.is_built_call-returns-in-None
 is_built_call-returns-in-None t c =
-    goal-of-none c.args.name.now c.args.args.now (length c.args.args.now) c.form_of.result _ refl c.form_of.ensures c.in-None.is (both _ _ _ _ c.are_built_values.ensures c.is_built_predicate.ensures)
+    goal-of-none c.args.name.now c.args.args.now (length c.args.args.now) c.form_of.result _ refl c.form_of.ensures c.in-None.is (both _ _ _ _ c.are_built_values-in-None.ensures c.is_built_predicate.ensures)
 
 pub is_built_value_call-returns-then-is_find_all : goal.is_built_value_call-returns-then-is_find_all
 is_built_value_call-returns-then-is_find_all t c =
