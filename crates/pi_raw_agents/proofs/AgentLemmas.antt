@@ -1,12 +1,12 @@
 -- Agents read back, and stay behind what follows.
-use Rattle.std.proofs.Common.{◌≡◌, ℕ, zero, suc, ◌+◌, ◌-◌, ◌*◌, ◌%◌, ◌^◌, ◌<◌, ◌≤◌, min, List, [], ◌∷◌, ◌++◌, length, take, drop, refl, ap, sym, subst, ◌∙◌, arith, length-append, append_assoc}
+use Rattle.std.proofs.Common.{◌≡◌, ℕ, ◌+◌, ◌-◌, ◌*◌, ◌^◌, ◌<◌, ◌≤◌, min, List, ◌++◌, length, take, drop, refl, ap, sym, subst, ◌∙◌, arith, length-append, append_assoc}
 use Rattle.std.specs.Prelude.{slice_index}
 use Rattle.std.proofs.lemmas.List.{get_or-take, get_or-append-add, take-take, take_at, drop_at, length-take}
 use Rattle.pi_states.specs.declared.store.Ref.{Ref}
 use Rattle.pi_states.specs.declared.event.Watch.{Watch}
 use Rattle.pi_trail.specs.Entry.{data_of, value_of}
 use Rattle.pi_trail.specs.Image.{Image, appended}
-use Rattle.pi_trail.specs.Back.{Advances, at_length}
+use Rattle.pi_trail.specs.Back.{Advances}
 use Rattle.pi_trail.proofs.EntryLemmas.{value_of-data_of}
 use Rattle.pi_trail.proofs.BackLemmas.{region_back}
 use Rattle.pi_trail.proofs.ChangeLemmas.{appended_advances}
@@ -54,6 +54,19 @@ outlast old new end a some le =
       call = sym (call_cut len end new.region some le) ∙ ap (λ l. call_at l end) cut;
       rule = sym (rule_cut len end new.region some le) ∙ ap (λ l. rule_at l end) cut;
       watches = sym (watches_cut len end new.region some le longer) ∙ ap (λ l. watches_at l end) cut;
+    }
+
+-- and where there are more words behind them
+pub in_more : (ws more : Words) (end : ℕ) → 0 < end → end ≤ length ws → IsAgentAt (ws ++ more) end (call_at ws end) (rule_at ws end) (watches_at ws end)
+in_more ws more end some le =
+    let all : Words = ws ++ more in
+    let len : ℕ = length ws in
+    let cut : take len all ≡ ws = take_at ws more len refl in
+    let longer : len ≤ length all = omega (arith, length-append ws more) in
+    record {
+      call = sym (call_cut len end all some le) ∙ ap (λ l. call_at l end) cut;
+      rule = sym (rule_cut len end all some le) ∙ ap (λ l. rule_at l end) cut;
+      watches = sym (watches_cut len end all some le longer) ∙ ap (λ l. watches_at l end) cut;
     }
 
 -- the words behind the events

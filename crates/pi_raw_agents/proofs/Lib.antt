@@ -1,2 +1,4 @@
 pub mod EventLemmas
 pub mod AgentLemmas
+pub mod RightLemmas
+pub mod TableLemmas

@@ -37,6 +37,10 @@ in_cut : (len end : ℕ) (ws : Numbers) → end ≤ len → block_at (take len w
 in_cut len zero ws le = refl
 in_cut len (suc last) ws le = closed_in_cut len last ws le
 
+-- and where there are more words behind them
+pub in_more : (ws more : Numbers) (end : ℕ) → end ≤ length ws → block_at (ws ++ more) end ≡ block_at ws end
+in_more ws more end le = sym (in_cut (length ws) end (ws ++ more) le) ∙ ap (λ l. block_at l end) (take_at ws more (length ws) refl)
+
 pub come_back : BlocksComeBack
 come_back len end i le within = ap (λ ws. block_at (take len ws) end) (region_back len i) ∙ in_cut len end i.region le
 

@@ -1,3 +1,4 @@
 pub mod ItemLemmas
 pub mod TermLemmas
 pub mod RoundLemmas
+pub mod TableLemmas

@@ -1,9 +1,7 @@
 -- Constraints read back from their numbers.
-use Rattle.std.proofs.Common.{◌≡◌, ◌⊎◌, inl, inr, ℕ, ◌^◌, ◌<◌, ◌≤◌, ℤ, pos, negsuc, nat_abs, refl, ap, ◌∙◌, arith}
+use Rattle.std.proofs.Common.{◌≡◌, inl, inr, ◌^◌, ◌≤◌, ℤ, pos, negsuc, nat_abs, refl, ap, ◌∙◌, arith}
 use Rattle.pi_constraints.specs.declared.constraint.Constraint.{Constraint}
 use Rattle.pi_constraints.specs.declared.constraint.Rel.{Rel}
-use Rattle.pi_constraints.specs.declared.constraint.Item.{Item}
-use Rattle.pi_constraints.specs.Constraint.{SpeaksOf, IsWithinLimits}
 use Rattle.pi_raw_terms.specs.Form.{wide_top, wide_mid, wide_low, wide_of}
 use Rattle.pi_raw_terms.proofs.FormLemmas.{wide_of-parts}
 use Rattle.pi_raw_constraints.specs.Items.{item_number, item_of, item_numbers, items_of}

@@ -5,8 +5,10 @@ mod head;
 mod items;
 pub mod laws;
 mod read;
+mod table;
 mod terms;
 mod write;
 
 pub use read::read_constraint;
+pub use table::{add_constraint, numbered_constraint};
 pub use write::write_constraint;

@@ -1,5 +1,5 @@
 -- The way back leaves the region, and makes neither the trail nor the variables longer; so heaps only grow.
-use Rattle.std.proofs.Common.{◌≡◌, ℕ, zero, suc, ◌+◌, ◌-◌, ◌<◌, ◌≤◌, ⊎_elim, min, List, [], ◌∷◌, ◌++◌, length, take, drop, slice_index, slice_set, refl, ap, sym, subst, ◌∙◌, arith, length-append}
+use Rattle.std.proofs.Common.{◌≡◌, ℕ, zero, suc, ◌+◌, ◌-◌, ◌<◌, ◌≤◌, ⊎_elim, min, List, ◌++◌, length, take, drop, slice_index, slice_set, ap, sym, subst, ◌∙◌, arith}
 use Rattle.std.proofs.Math.Seq.{take-append-add}
 use Rattle.std.proofs.Math.ListN.{length-set}
 use Rattle.std.proofs.lemmas.Bool.{cases_lt}
@@ -9,8 +9,7 @@ use Rattle.pi_trail.specs.Back.{taken_back, newest, newest_place, newest_old, ba
 use Rattle.pi_trail.specs.declared.entry.Table.{Table}
 use Rattle.pi_trail.specs.declared.entry.Change.{Change}
 use Rattle.pi_trail.proofs.BackLemmas.{trail_once, back_stop, back_go, region_back, trail_back, two_parts, from_itself, len_back}
-use Rattle.pi_raw_terms.specs.Heap.{Heap, Grows}
-use Rattle.pi_raw_laws.specs.Past.{NamesAt, NamesStay, heap_at, past_of, HeapsGrow}
+use Rattle.pi_raw_laws.specs.Past.{NamesAt, heap_at, past_of, HeapsGrow}
 
 -- The way back
 

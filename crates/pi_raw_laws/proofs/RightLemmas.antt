@@ -1,11 +1,11 @@
 -- What keeps the words of a region right.
-use Rattle.std.proofs.Common.{◌≡◌, ℕ, zero, suc, ◌+◌, ◌-◌, ◌/◌, ◌%◌, ◌<◌, ◌≤◌, ⊎_elim, min, List, [], ◌∷◌, ◌++◌, length, take, slice_index, Some, refl, ap, sym, subst, ◌∙◌, arith, length-append}
+use Rattle.std.proofs.Common.{◌≡◌, ℕ, zero, suc, ◌+◌, ◌-◌, ◌<◌, ◌≤◌, ⊎_elim, min, List, [], ◌∷◌, ◌++◌, length, take, slice_index, Some, refl, ap, sym, subst, ◌∙◌, arith, length-append}
 use Rattle.std.proofs.lemmas.Bool.{cases_lt}
 use Rattle.std.proofs.lemmas.List.{append-nil, get_or-take, get_or-append-add, length-take-le}
 use Rattle.pi_terms.specs.Tree.{Tree}
 use Rattle.pi_trail.specs.Entry.{data_of}
 use Rattle.pi_trail.specs.Image.{Image, appended, pushed, replacing, replaced, table_in}
-use Rattle.pi_trail.specs.Back.{back, at_length, Advances}
+use Rattle.pi_trail.specs.Back.{at_length, Advances}
 use Rattle.pi_trail.specs.declared.entry.Table.{Table}
 use Rattle.pi_trail.specs.declared.entry.Entry.{Entry}
 use Rattle.pi_trail.proofs.BackLemmas.{back_stop, len_back}
@@ -13,13 +13,13 @@ use Rattle.pi_trail.proofs.ChangeLemmas.{Logs, logs_advance, appended_advances, 
 use Rattle.pi_raw_terms.specs.declared.form.Form.{Form}
 use Rattle.pi_raw_terms.specs.declared.header.Header.{Header}
 use Rattle.pi_raw_terms.specs.Form.{form_of, header_of}
-use Rattle.pi_raw_terms.specs.Heap.{Heap, Names, term_at, Grows}
-use Rattle.pi_raw_terms.specs.Placed.{IsRefIn, Heads, IsHeaderIn, IsWordOf, IsWordIn, WritesRight, IsHistory}
+use Rattle.pi_raw_terms.specs.Heap.{Heap, Names, term_at}
+use Rattle.pi_raw_terms.specs.Placed.{IsRefIn, IsHeaderIn, IsWordOf, IsWordIn}
 use Rattle.pi_raw_terms.proofs.PlacedLemmas.{refs_have_trees}
 use Rattle.pi_raw_terms.proofs.RefLemmas.{trees_are_refs}
 use Rattle.pi_raw_terms.proofs.WriteLemmas.{data_word, writes_by}
-use Rattle.pi_raw_laws.specs.Past.{NamesAt, NamesStay, heap_at, past_of}
-use Rattle.pi_raw_laws.specs.Right.{IsRight, RightIsHistory, RightRefsHaveTrees, RightTreesAreRefs, RightByUndo, RightByWrites, RightByWord, RightByPush, RightByReplace, HasMoreNames, RightByNames}
+use Rattle.pi_raw_laws.specs.Past.{NamesAt, heap_at, past_of}
+use Rattle.pi_raw_laws.specs.Right.{IsRight, RightIsHistory, RightRefsHaveTrees, RightTreesAreRefs, RightByUndo, RightByWrites, RightByWord, RightByPush, RightByReplace, RightByNames}
 use Rattle.pi_raw_laws.proofs.PastLemmas.{words_then, now_is, trail_within, before, word_before, past_then, heaps_grow, advances_past}
 
 -- Heaps that there were

@@ -1,5 +1,5 @@
 -- What is so of each word of a table, now and at each length that the region had.
-use Rattle.std.specs.Prelude.{◌≡◌, ℕ, List, length, slice_index}
+use Rattle.std.specs.Prelude.{ℕ, slice_index}
 use Rattle.pi_trail.specs.Image.{Image, table_in}
 use Rattle.pi_trail.specs.Back.{at_length}
 use Rattle.pi_trail.specs.declared.entry.Table.{Table}

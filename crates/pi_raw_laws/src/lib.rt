@@ -3,7 +3,7 @@
 
 ghost use Rattle.pi_raw_laws.specs.Past.{HeapsGrow};
 ghost use Rattle.pi_raw_laws.specs.Right.{RightIsHistory, RightRefsHaveTrees, RightTreesAreRefs, RightByUndo, RightByWrites, RightByWord, RightByPush, RightByReplace, RightByNames};
-ghost use Rattle.pi_raw_laws.specs.Bound.{BoundHaveTrees, BoundAreRefs, BoundByUndo, BoundByWords, BoundByNew, BoundByPush, BoundByReplace, BoundByBinding, BoundByNames};
+ghost use Rattle.pi_raw_laws.specs.Bound.{BoundHaveTrees, BoundAreRefs, BoundByUndo, BoundByWords, BoundByNew, BoundByPush, BoundByReplace, BoundByBinding, BoundByDomain, BoundByNames};
 
 /// Where each word was right when it was written, just the Refs have trees, and each change and each return keeps that.
 pub fn words_stay_right()
@@ -19,7 +19,7 @@ pub fn words_stay_right()
     ensures names { RightByNames }
 {}
 
-/// What variables are bound to has a tree, and each change and each return keeps that.
+/// What variables are bound to has a tree, blocks of their domains stand in the region, and each change and each return keeps that.
 pub fn bindings_stay_right()
     ensures have_trees { BoundHaveTrees }
     ensures are_refs { BoundAreRefs }
@@ -29,5 +29,6 @@ pub fn bindings_stay_right()
     ensures push { BoundByPush }
     ensures replace { BoundByReplace }
     ensures binding { BoundByBinding }
+    ensures domain { BoundByDomain }
     ensures names { BoundByNames }
 {}

@@ -1,6 +1,7 @@
 -- What a binding does.
-use Rattle.std.proofs.Common.{◌≡◌, ℕ, zero, suc, List, [], length, Some, None, map, slice_index, slice_set, refl, ap, sym, ◌∙◌}
+use Rattle.std.proofs.Common.{◌≡◌, ℕ, suc, List, length, Some, None, map, slice_index, slice_set, refl, ap, sym, ◌∙◌, ◌≢◌, ◌-◌, ◌%◌, ◌==◌, Bool, true, false, arith}
 use Rattle.std.specs.Prelude.{option_map}
+use Rattle.std.proofs.lemmas.Bool.Decides.{nat_tests}
 use Rattle.pi_terms.specs.Tree.{Tree, var}
 use Rattle.pi_terms.specs.Places.{held}
 use Rattle.pi_terms.proofs.GetLemmas.{map_set}
@@ -15,14 +16,15 @@ use Rattle.pi_raw_terms.specs.Form.{form_of}
 use Rattle.pi_raw_terms.specs.Heap.{Heap, term_at, Grows}
 use Rattle.pi_raw_terms.specs.Placed.{IsRefIn}
 use Rattle.pi_raw_terms.proofs.HeapLemmas.{trees_stay}
+use Rattle.pi_raw_laws.proofs.BoundLemmas.{no_data}
 use Rattle.pi_raw_names.specs.NameTable.{NameTable}
-use Rattle.pi_raw_store.specs.Walk.{bound_ref, variable_of, unless_bound, free_of_any, followed_at, free_at}
-use Rattle.pi_raw_store.specs.Holding.{tree_of, variable_in, heap_of, view_of}
+use Rattle.pi_raw_store.specs.Walk.{bound_ref_by, variable_of, unless_bound_by, free_of_any, followed_at, free_at}
+use Rattle.pi_raw_store.specs.Holding.{tree_of, variable_by, variable_in, heap_of, view_of}
 use Rattle.pi_raw_store.specs.Sound.{IsSound}
 use Rattle.pi_raw_store.proofs.NameLemmas.{keeps_itself}
 use Rattle.pi_raw_store.proofs.LookLemmas.{bound_in, tree_at_ref, held_is, followed_to, form_var, tree_is}
 use Rattle.pi_raw_store.proofs.SoundLemmas.{has_bound, term_is_ref, ref_has_term}
-use Rattle.pi_raw_store.proofs.KeepLemmas.{heap_grows, keeps_all, variables_stay}
+use Rattle.pi_raw_store.proofs.KeepLemmas.{heap_grows, keeps_all, same_states, same_parts, parts_stay}
 
 -- what a Ref is followed to is a Ref
 pub followed_ref : (t : NameTable) (i : Image) (r q : Ref) → IsSound t i → IsRefIn (heap_of t i) (form_of r.number) → q ≡ followed_at i.variables r → IsRefIn (heap_of t i) (form_of q.number)
@@ -32,19 +34,29 @@ followed_ref t i r q s is to =
 
 -- the free variable that a term is at its root
 
-word_of_free : (w : ℕ) (h : Heap) → option_map (tree_at_ref h) (bound_ref w) ≡ None → w ≡ 0
-word_of_free zero h e = refl
-word_of_free (suc r) h e = absurd (cc)
+word_of_free : (b : Bool) (w n : ℕ) (h : Heap) → option_map (tree_at_ref h) (bound_ref_by b w) ≡ None → unless_bound_by b n ≡ Some n
+word_of_free true w n h e = refl
+word_of_free false w n h e = absurd (cc)
 
-free_is : (t : NameTable) (i : Image) (r : Ref) (x : Tree) (n : ℕ) → IsSound t i → term_at (heap_of t i) r.number ≡ Some x → followed (bound_in (heap_of t i) i.variables) x ≡ var n → held (bound_in (heap_of t i) i.variables) n ≡ None
+pub free_is : (t : NameTable) (i : Image) (r : Ref) (x : Tree) (n : ℕ) → IsSound t i → term_at (heap_of t i) r.number ≡ Some x → followed (bound_in (heap_of t i) i.variables) x ≡ var n → held (bound_in (heap_of t i) i.variables) n ≡ None
     → free_at i.variables r ≡ Some n
 free_is t i r x n s is root none =
     let h : Heap = heap_of t i in
     let vs : List ℕ = i.variables in
+    let w : ℕ = slice_index vs n in
     let last : Ref = followed_at i.variables r in
     let form : form_of last.number ≡ Form.Var n = form_var h last.number n (followed_to h vs (has_bound t i s) r last x refl is ∙ ap Some root) in
-    let word : slice_index vs n ≡ 0 = word_of_free (slice_index vs n) h (sym (held_is h vs n) ∙ none) in
-    ap (λ f. free_of_any vs (variable_of f)) form ∙ ap (unless_bound n) word
+    ap (λ f. free_of_any vs (variable_of f)) form ∙ word_of_free (w % 8 == 0) w n h (sym (held_is h vs n) ∙ none)
+
+-- the word of a variable that is bound to a Ref
+bound_word : (h k : Heap) (r : ℕ) → IsRefIn h (form_of r) → variable_in k (suc r) ≡ bound (tree_of k r)
+bound_word h k r is =
+    let e : (suc r % 8 == 0) ≡ false = other (suc r % 8) (λ z. let seven : r % 8 ≡ 7 = omega arith in no_data h r is seven) in
+    let one : suc r - 1 ≡ r = omega arith in
+    ap (λ b. variable_by b k (suc r)) e ∙ ap (λ q. bound (tree_of k q)) one
+  where
+    other : (n : ℕ) → n ≢ 0 → (n == 0) ≡ false
+    other n ne = grind (arith, nat_tests)
 
 -- nothing is bound where the one is no term, or the other no free variable
 
@@ -68,14 +80,18 @@ binds_to t i j v q to n s free is words a = λ m x y at bt root may.
     let y_last : Tree = followed (bound_in (heap_of t i) i.variables) y in
     let here : term_at h to.number ≡ Some y_last = followed_to h vs (has_bound t i s) q to y is bt in
     let there : tree_of k to.number ≡ y_last = tree_is k to.number y_last (trees_stay h k grows to.number y_last here) in
+    let ref : IsRefIn h (form_of to.number) = term_is_ref t i s to.number y_last here in
     let vars : j.variables ≡ slice_set vs n (suc to.number) = ap (λ (l : Image). l.variables) words in
+    let p = parts_stay t t i j s grows in
+    let q = same_parts h k i j p in
     let all : map (variable_in k) j.variables ≡ slice_set (map (variable_in h) vs) m (bound y_last) =
     ap (map (variable_in k)) vars
     ∙ (map_set (variable_in k) vs n (suc to.number)
-    ∙ (ap (λ ws. slice_set ws n (bound (tree_of k to.number))) (variables_stay h k grows vs (has_bound t i s))
+    ∙ (ap (slice_set (map (variable_in k) vs) n) (bound_word h k to.number ref)
+    ∙ (ap (λ ws. slice_set ws n (bound (tree_of k to.number))) p.variables
     ∙ (ap (λ z. slice_set (map (variable_in h) vs) n (bound z)) there
-    ∙ ap (λ p. slice_set (map (variable_in h) vs) p (bound y_last)) same))) in
+    ∙ ap (λ p. slice_set (map (variable_in h) vs) p (bound y_last)) same)))) in
     record {
       keeps = keeps_all t t i j (keeps_itself t (length i.region)) a;
-      state = ap (λ xs. record { variables = xs; constraints = []; agents = []; waiting = [] }) all;
+      state = same_states _ _ all (q.constraints (ap (λ (l : Image). l.constraints) words)) (q.agents (ap (λ (l : Image). l.agents) words)) refl;
     }

@@ -113,7 +113,7 @@ leads_back h vs has r (suc k) n v below l = elim (heads (bound_in h vs) l) [
 ]
 
 -- a variable leads to another one exactly where the chain comes to it
-leads_is : (h : Heap) (vs : List ℕ) → HasBound h vs → (n v : ℕ) → IsAcyclic (bound_in h vs) → IsTrue (leads_at vs n v) ↔ LeadsTo (bound_in h vs) (var n) v
+pub leads_is : (h : Heap) (vs : List ℕ) → HasBound h vs → (n v : ℕ) → IsAcyclic (bound_in h vs) → IsTrue (leads_at vs n v) ↔ LeadsTo (bound_in h vs) (var n) v
 leads_is h vs has n v a =
     let r : Ranked (bound_in h vs) = ranked (bound_in h vs) a in
     let l : length (bound_in h vs) ≡ length vs = length_bound h vs in

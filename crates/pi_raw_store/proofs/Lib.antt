@@ -1,10 +1,17 @@
 pub mod WalkLemmas
 pub mod NameLemmas
+pub mod TableLemmas
 pub mod LookLemmas
 pub mod SoundLemmas
+pub mod AgentLemmas
 pub mod KeepLemmas
+pub mod SuspendLemmas
+pub mod PostLemmas
 pub mod LeadLemmas
+pub mod FoundLemmas
+pub mod PostedLemmas
 pub mod RefLemmas
 pub mod BindLemmas
+pub mod DomainLemmas
 pub mod ReadLemmas
 pub mod PartLemmas

@@ -1,11 +1,11 @@
 -- What a store shows of a term: bindings are followed through the words of the variables.
-use Rattle.std.proofs.Common.{◌≡◌, ℕ, zero, suc, ◌<◌, List, [], ◌∷◌, length, Option, Some, None, map, slice_index, refl, ap, sym, subst, ◌∙◌, ℤ, pos}
+use Rattle.std.proofs.Common.{◌≡◌, ℕ, zero, suc, ◌/◌, ◌%◌, ◌==◌, ◌<◌, Bool, true, false, List, [], ◌∷◌, length, Option, Some, None, map, slice_index, refl, ap, sym, subst, ◌∙◌, ℤ, pos}
 use Rattle.std.specs.Prelude.{unwrap_or, option_map}
 use Rattle.std.proofs.lemmas.List.{length-map}
 use Rattle.pi_terms.specs.Tree.{Tree, var, int, atom, comp, Trees, args}
 use Rattle.pi_terms.specs.Places.{held}
 use Rattle.pi_states.specs.Value.{Bindings}
-use Rattle.pi_states.specs.State.{SpeaksBelow, binding, bindings, next, followed, followed_for}
+use Rattle.pi_states.specs.State.{SpeaksBelow, binding, next, followed, followed_for}
 use Rattle.pi_states.specs.Store.{ShowsCell}
 use Rattle.pi_states.specs.declared.store.Ref.{Ref}
 use Rattle.pi_states.specs.declared.store.Cell.{Cell}
@@ -18,16 +18,16 @@ use Rattle.pi_raw_terms.specs.Look.{headed_cell}
 use Rattle.pi_raw_terms.proofs.LookLemmas.{shows_var, shows_int, shows_atom, shows_pair, shows_comp, no_data}
 use Rattle.pi_raw_terms.proofs.SpeakLemmas.{trees_speak_below}
 use Rattle.pi_raw_names.specs.NameTable.{NameTable, names_of}
-use Rattle.pi_raw_store.specs.Walk.{bound_ref, binding_at, variable_of, binding_of_any, step_at, steps_at, followed_at}
-use Rattle.pi_raw_store.specs.Holding.{tree_of, variable_in, state_of, view_of}
+use Rattle.pi_raw_store.specs.Walk.{bound_ref_by, bound_ref, binding_at, variable_of, binding_of_any, step_at, steps_at, followed_at}
+use Rattle.pi_raw_store.specs.Holding.{tree_of, unbound_at, variable_by, variable_in, state_of, view_of}
 use Rattle.pi_raw_store.proofs.NameLemmas.{text_of}
 
 -- what variables are bound to has trees
 abbrev pub HasBound : Heap → List ℕ → Type 0
-HasBound h vs = (n r : ℕ) → slice_index vs n ≡ suc r → (t : Tree) × (term_at h r ≡ Some t)
+HasBound h vs = (n : ℕ) (q : Ref) → binding_at vs n ≡ Some q → (t : Tree) × (term_at h q.number ≡ Some t)
 
 abbrev pub bound_in : Heap → List ℕ → Bindings
-bound_in h vs = bindings (state_of h vs)
+bound_in h vs = map binding (map (variable_in h) vs)
 
 abbrev pub tree_at_ref : Heap → Ref → Tree
 tree_at_ref h r = tree_of h r.number
@@ -37,9 +37,16 @@ tree_is h r t e = ap (λ o. unwrap_or o (int (pos 0))) e
 
 -- What a variable is bound to
 
+unbound_word : (h : Heap) (end : ℕ) → binding (unbound_at h end) ≡ None
+unbound_word h zero = refl
+unbound_word h (suc last) = refl
+
+held_word_by : (b : Bool) (h : Heap) (w : ℕ) → binding (variable_by b h w) ≡ option_map (tree_at_ref h) (bound_ref_by b w)
+held_word_by true h w = unbound_word h (w / 8)
+held_word_by false h w = refl
+
 held_word : (h : Heap) (w : ℕ) → binding (variable_in h w) ≡ option_map (tree_at_ref h) (bound_ref w)
-held_word h zero = refl
-held_word h (suc r) = refl
+held_word h w = held_word_by (w % 8 == 0) h w
 
 held_by : (h : Heap) (vs : List ℕ) (n : ℕ) → held (map binding (map (variable_in h) vs)) n ≡ option_map (tree_at_ref h) (bound_ref (slice_index vs n))
 held_by h [] n = refl
@@ -49,17 +56,10 @@ held_by h (v ∷ vs) (suc n) = held_by h vs n
 pub held_is : (h : Heap) (vs : List ℕ) (n : ℕ) → held (bound_in h vs) n ≡ option_map (tree_at_ref h) (binding_at vs n)
 held_is h vs n = held_by h vs n
 
-word_bound : (w : ℕ) (q : Ref) → bound_ref w ≡ Some q → w ≡ suc q.number
-word_bound zero q e = absurd (cc)
-word_bound (suc r) q e = let same : record { number = r } ≡ q = some_same (record { number = r }) q e in ap (λ (x : Ref). suc x.number) same
-  where
-    some_same : (a b : Ref) → Some a ≡ Some b → a ≡ b
-    some_same a b e = cc
-
 -- the Ref that a variable is bound to has a tree
 pub binding_tree : (h : Heap) (vs : List ℕ) → HasBound h vs → (n : ℕ) (q : Ref) → binding_at vs n ≡ Some q → term_at h q.number ≡ Some (tree_at_ref h q)
 binding_tree h vs has n q e =
-    let t = has n q.number (word_bound (slice_index vs n) q e) in
+    let t = has n q e in
     t.1 ∙ ap Some (sym (tree_is h q.number t.0 t.1))
 
 -- Following
@@ -176,11 +176,11 @@ form_var h r m is = var_form h r m (form_of r) refl is
 
 -- only variables that were made occur in a term
 
-pub next_is : (h : Heap) (vs : List ℕ) → next (state_of h vs) ≡ length vs
-next_is h vs = length-map vs (variable_in h)
+pub next_is : (h : Heap) (i : Image) → next (state_of h i) ≡ length i.variables
+next_is h i = length-map i.variables (variable_in h)
 
-pub below_next : (h : Heap) (vs : List ℕ) (n : ℕ) → n < next (state_of h vs) → n < length vs
-below_next h vs n lt = subst (λ (m : ℕ). n < m) (next_is h vs) lt
+pub below_next : (h : Heap) (i : Image) (n : ℕ) → n < next (state_of h i) → n < length i.variables
+below_next h i n lt = subst (λ (m : ℕ). n < m) (next_is h i) lt
 
-pub speaks_below : (h : Heap) (vs : List ℕ) (r : ℕ) (t : Tree) → h.next ≡ length vs → term_at h r ≡ Some t → SpeaksBelow (next (state_of h vs)) t
-speaks_below h vs r t same is n occurs = subst (λ (m : ℕ). n < m) (same ∙ sym (next_is h vs)) (trees_speak_below h r t is n occurs)
+pub speaks_below : (h : Heap) (i : Image) (r : ℕ) (t : Tree) → h.next ≡ length i.variables → term_at h r ≡ Some t → SpeaksBelow (next (state_of h i)) t
+speaks_below h i r t same is n occurs = subst (λ (m : ℕ). n < m) (same ∙ sym (next_is h i)) (trees_speak_below h r t is n occurs)

@@ -20,7 +20,7 @@ use Rattle.pi_raw_store.specs.Sound.{IsSound}
 use Rattle.pi_raw_store.specs.Changed.{IsNumbered}
 use Rattle.pi_raw_store.proofs.NameLemmas.{stay, given_text, given_of}
 use Rattle.pi_raw_store.proofs.SoundLemmas.{sound_numbered, term_is_ref}
-use Rattle.pi_raw_store.proofs.KeepLemmas.{heap_grows, stays_all, advances_numbered, variables_numbered, advances_appends}
+use Rattle.pi_raw_store.proofs.KeepLemmas.{heap_grows, stays_all, same_then, same_appended, advances_numbered, tables_numbered, advances_appends}
 
 -- A test of a Ref
 
@@ -84,7 +84,7 @@ pub compound_stays : (t u : NameTable) (i j l : Image) (name : List ℕ) → IsS
 compound_stays t u i j l name s is more =
     let v : IsSound u j = sound_numbered t u i j name is s in
     stays_all t u i l s is.keeps (through i j l (advances_numbered t u i j name is s) (advances_appends j l v.right.trail more))
-    (ap (λ (k : Image). k.variables) more.1 ∙ variables_numbered t u i j name is)
+    (same_then i j l (tables_numbered t u i j name is) (same_appended j l more))
 
 pub compound_made : (t u : NameTable) (i j l : Image) (name : List ℕ) (k r : ℕ) (rs args : List Ref) (ts : Trees) → IsSound t i → IsNumbered t u i j name → Appends j l
     → names_of u (length j.region) k ≡ Some name → (AreRefsIn (heap_of u j) (numbers_of args) → rs ≡ args) → Makes j.region l.region k (numbers_of rs) r → AreTerms (view_of t i) args ts

@@ -1,11 +1,13 @@
 -- What keeps a store over raw words sound.
-use Rattle.std.proofs.Common.{◌≡◌, ⊎_elim, ℕ, zero, suc, ◌/◌, ◌%◌, ◌^◌, ◌<◌, ◌≤◌, List, [], ◌∷◌, ◌++◌, length, slice_get, slice_index, Some, refl, ap, sym, subst, ◌∙◌, arith}
+use Rattle.std.proofs.Common.{◌≡◌, ⊎_elim, ℕ, zero, suc, ◌/◌, ◌%◌, ◌^◌, ◌<◌, ◌≤◌, List, [], ◌∷◌, ◌++◌, length, slice_get, slice_index, Some, refl, ap, sym, subst, ◌∙◌, arith, ◌≢◌, ◌*◌, ◌-◌, ◌==◌, Bool, true, false}
 use Rattle.std.proofs.lemmas.Bool.{cases_lt}
+use Rattle.std.proofs.lemmas.Bool.Decides.{nat_tests}
 use Rattle.pi_terms.specs.Tree.{Tree}
 use Rattle.pi_terms.specs.ListNames.{cell_name}
 use Rattle.pi_trail.specs.Entry.{data_of}
-use Rattle.pi_trail.specs.Image.{Image, appended, pushed, replaced}
-use Rattle.pi_trail.specs.Back.{at_length}
+use Rattle.pi_trail.specs.Image.{Image, table_in, appended, pushed, replaced}
+use Rattle.pi_trail.specs.Back.{cut, at_length}
+use Rattle.pi_trail.proofs.BackLemmas.{back_stop}
 use Rattle.pi_trail.specs.declared.entry.Table.{Table}
 use Rattle.pi_raw_terms.specs.Form.{form_with, form_of}
 use Rattle.pi_raw_terms.specs.Heap.{Heap, term_at}
@@ -14,15 +16,22 @@ use Rattle.pi_raw_terms.proofs.WriteLemmas.{data_word}
 use Rattle.pi_raw_laws.specs.Right.{HasMoreNames}
 use Rattle.pi_raw_laws.specs.Past.{past_of}
 use Rattle.pi_raw_laws.specs.Bound.{IsBoundIn}
-use Rattle.pi_raw_laws.proofs.PastLemmas.{fewer_variables}
+use Rattle.pi_raw_laws.specs.Kept.{AreKept}
+use Rattle.pi_raw_laws.proofs.KeptLemmas as kept
 use Rattle.pi_raw_laws.proofs.RightLemmas as right
 use Rattle.pi_raw_laws.proofs.BoundLemmas as bound
+use Rattle.pi_raw_constraints.specs.Table.{IsConstraintIn}
+use Rattle.pi_raw_constraints.proofs.TableLemmas.{constraint_stays}
+use Rattle.pi_raw_agents.specs.Table.{IsAgentIn}
+use Rattle.pi_raw_agents.proofs.TableLemmas.{agent_stays}
 use Rattle.pi_atoms.specs.Names.{HasDistinct}
 use Rattle.pi_raw_names.specs.NameTable.{NameTable, names_of}
 use Rattle.pi_raw_store.specs.Holding.{heap_of}
 use Rattle.pi_raw_store.specs.Sound.{IsSound}
 use Rattle.pi_raw_store.specs.Changed.{KeepsNames, IsNumbered}
 use Rattle.pi_raw_store.proofs.NameLemmas.{stay}
+use Rattle.pi_states.specs.declared.store.Ref.{Ref}
+use Rattle.pi_raw_store.specs.Walk.{bound_ref_by}
 use Rattle.pi_raw_store.proofs.LookLemmas.{HasBound}
 
 -- nothing at all
@@ -34,26 +43,34 @@ one_distinct name = record { same = one }
     one zero (suc k) x p q = absurd (cc)
     one (suc j) k x p q = absurd (cc)
 
-pub sound_new : (t : NameTable) (i : Image) → t.texts ≡ cell_name ∷ [] → i.trail ≡ 0 → i.region ≡ [] → i.variables ≡ [] → IsSound t i
-sound_new t i texts trail region variables = record {
+-- the tables are empty at each length
+none_there : (P : Heap → ℕ → Type 0) (table : Table) (t : NameTable) (i : Image) → ((h : Heap) → P h 0) → i.trail ≡ 0 → table_in i table ≡ [] → AreKept P table (names_of t) i
+none_there P table t i none trail empty = record {
+  at = λ len n.
+      let same : at_length len i ≡ cut len i = ap (cut len) (back_stop len i (omega arith)) in
+      let words : table_in (at_length len i) table ≡ [] = ap (λ (j : Image). table_in j table) same ∙ (table_cut len i table ∙ empty) in
+      subst (λ (ws : List ℕ). P (past_of (names_of t) i len) (slice_index ws n)) (sym words) (none (past_of (names_of t) i len));
+}
+  where
+    table_cut : (len : ℕ) (i : Image) (table : Table) → table_in (cut len i) table ≡ table_in i table
+    table_cut len i Table.Variables = refl
+    table_cut len i Table.Constraints = refl
+    table_cut len i Table.Agents = refl
+    table_cut len i Table.Waiting = refl
+    table_cut len i Table.Heads = refl
+
+pub sound_new : (t : NameTable) (i : Image) → t.texts ≡ cell_name ∷ [] → i.trail ≡ 0 → i.region ≡ [] → i.variables ≡ [] → i.constraints ≡ [] → i.agents ≡ [] → IsSound t i
+sound_new t i texts trail region variables constraints agents = record {
   cells = ap (λ xs. slice_get xs 0) texts;
   distinct = subst HasDistinct (sym texts) (one_distinct cell_name);
   right = record {
     trail = omega arith;
     written = λ n lt. let l : length i.region ≡ 0 = ap length region in absurd (omega arith);
   };
-  bound = record {
-    at = λ len n.
-        let few : length (at_length len i).variables ≤ length i.variables = fewer_variables len i in
-        let l : length i.variables ≡ 0 = ap length variables in
-        let none : (at_length len i).variables ≡ [] = empty (at_length len i).variables (omega arith) in
-        subst (λ (vs : List ℕ). IsBoundIn (past_of (names_of t) i len) (slice_index vs n)) (sym none) tt;
-  };
+  bound = none_there IsBoundIn Table.Variables t i bound.free_in trail variables;
+  constraints = none_there IsConstraintIn Table.Constraints t i (λ h. let least : 0 ≤ length h.words = omega arith in least) trail constraints;
+  agents = none_there IsAgentIn Table.Agents t i (λ h. tt) trail agents;
 }
-  where
-    empty : (xs : List ℕ) → length xs ≤ 0 → xs ≡ []
-    empty [] le = refl
-    empty (x ∷ xs) le = absurd (omega arith)
 
 -- more names
 
@@ -65,6 +82,8 @@ sound_names t u i keeps distinct s =
       distinct = distinct s.distinct;
       right = right.by_names (names_of t) (names_of u) i more s.right;
       bound = bound.by_names (names_of t) (names_of u) i more s.bound;
+      constraints = kept.by_names IsConstraintIn constraint_stays Table.Constraints (names_of t) (names_of u) i more s.constraints;
+      agents = kept.by_names IsAgentIn agent_stays Table.Agents (names_of t) (names_of u) i more s.agents;
     }
 
 -- more words
@@ -75,6 +94,8 @@ sound_words t i ws writes s = record {
   distinct = s.distinct;
   right = right.by_writes (names_of t) i ws (stay t) s.right writes;
   bound = bound.by_words (names_of t) i ws (stay t) s.right s.bound;
+  constraints = kept.by_words IsConstraintIn constraint_stays Table.Constraints (names_of t) i s.right.trail s.constraints (stay t) ws;
+  agents = kept.by_words IsAgentIn agent_stays Table.Agents (names_of t) i s.right.trail s.agents (stay t) ws;
 }
 
 sound_data : (t : NameTable) (i : Image) → IsSound t i → IsSound t (appended i (data_of 0 ∷ []))
@@ -83,6 +104,8 @@ sound_data t i s = record {
   distinct = s.distinct;
   right = right.by_word (names_of t) i (data_of 0) (stay t) s.right (data_word (heap_of t i) 0);
   bound = bound.by_words (names_of t) i (data_of 0 ∷ []) (stay t) s.right s.bound;
+  constraints = kept.by_words IsConstraintIn constraint_stays Table.Constraints (names_of t) i s.right.trail s.constraints (stay t) (data_of 0 ∷ []);
+  agents = kept.by_words IsAgentIn agent_stays Table.Agents (names_of t) i s.right.trail s.agents (stay t) (data_of 0 ∷ []);
 }
 
 pub sound_numbered : (t u : NameTable) (i j : Image) (name : List ℕ) → IsNumbered t u i j name → IsSound t i → IsSound u j
@@ -101,6 +124,8 @@ sound_variable t i s = record {
   distinct = s.distinct;
   right = right.by_push (names_of t) i Table.Variables 0 s.right;
   bound = bound.by_new (names_of t) i (stay t) s.right s.bound;
+  constraints = kept.by_other_push IsConstraintIn constraint_stays Table.Constraints (names_of t) i s.right.trail s.constraints (stay t) Table.Variables 0 (λ e. absurd (cc));
+  agents = kept.by_other_push IsAgentIn agent_stays Table.Agents (names_of t) i s.right.trail s.agents (stay t) Table.Variables 0 (λ e. absurd (cc));
 }
 
 pub sound_binding : (t : NameTable) (i : Image) (n r : ℕ) → IsRefIn (heap_of t i) (form_of r) → IsSound t i → IsSound t (replaced i Table.Variables n (suc r))
@@ -109,6 +134,8 @@ sound_binding t i n r is s = record {
   distinct = s.distinct;
   right = right.by_replace (names_of t) i Table.Variables n (suc r) s.right;
   bound = bound.by_binding (names_of t) i n r (stay t) s.right s.bound is;
+  constraints = kept.by_other_replace IsConstraintIn constraint_stays Table.Constraints (names_of t) i s.right.trail s.constraints (stay t) Table.Variables n (suc r) (λ e. absurd (cc));
+  agents = kept.by_other_replace IsAgentIn agent_stays Table.Agents (names_of t) i s.right.trail s.agents (stay t) Table.Variables n (suc r) (λ e. absurd (cc));
 }
 
 pub sound_undo : (t : NameTable) (i : Image) (n : ℕ) → IsSound t i → IsSound t (at_length n i)
@@ -117,12 +144,83 @@ sound_undo t i n s = record {
   distinct = s.distinct;
   right = right.by_undo (names_of t) i s.right n;
   bound = bound.by_undo (names_of t) i s.right s.bound n;
+  constraints = kept.by_undo IsConstraintIn constraint_stays Table.Constraints (names_of t) i s.right.trail s.constraints n;
+  agents = kept.by_undo IsAgentIn agent_stays Table.Agents (names_of t) i s.right.trail s.agents n;
+}
+
+pub sound_domain : (t : NameTable) (i : Image) (n end : ℕ) → end ≤ length i.region → IsSound t i → IsSound t (replaced i Table.Variables n (8 * end))
+sound_domain t i n end le s = record {
+  cells = s.cells;
+  distinct = s.distinct;
+  right = right.by_replace (names_of t) i Table.Variables n (8 * end) s.right;
+  bound = bound.by_domain (names_of t) i n end (stay t) s.right s.bound le;
+  constraints = kept.by_other_replace IsConstraintIn constraint_stays Table.Constraints (names_of t) i s.right.trail s.constraints (stay t) Table.Variables n (8 * end) (λ e. absurd (cc));
+  agents = kept.by_other_replace IsAgentIn agent_stays Table.Agents (names_of t) i s.right.trail s.agents (stay t) Table.Variables n (8 * end) (λ e. absurd (cc));
+}
+
+-- one more constraint
+
+pub sound_constraint : (t : NameTable) (i : Image) (w : ℕ) → IsConstraintIn (heap_of t (pushed i Table.Constraints w)) w → IsSound t i → IsSound t (pushed i Table.Constraints w)
+sound_constraint t i w is s = record {
+  cells = s.cells;
+  distinct = s.distinct;
+  right = right.by_push (names_of t) i Table.Constraints w s.right;
+  bound = bound.by_push (names_of t) i Table.Constraints w (λ e. absurd (cc)) (stay t) s.right s.bound;
+  constraints = kept.by_push IsConstraintIn constraint_stays Table.Constraints (names_of t) i s.right.trail s.constraints (stay t) w is;
+  agents = kept.by_other_push IsAgentIn agent_stays Table.Agents (names_of t) i s.right.trail s.agents (stay t) Table.Constraints w (λ e. absurd (cc));
+}
+
+-- agents
+
+-- one more word of the agents, and another one in its place
+pub sound_agent : (t : NameTable) (i : Image) (w : ℕ) → IsAgentIn (heap_of t (pushed i Table.Agents w)) w → IsSound t i → IsSound t (pushed i Table.Agents w)
+sound_agent t i w is s = record {
+  cells = s.cells;
+  distinct = s.distinct;
+  right = right.by_push (names_of t) i Table.Agents w s.right;
+  bound = bound.by_push (names_of t) i Table.Agents w (λ e. absurd (cc)) (stay t) s.right s.bound;
+  constraints = kept.by_other_push IsConstraintIn constraint_stays Table.Constraints (names_of t) i s.right.trail s.constraints (stay t) Table.Agents w (λ e. absurd (cc));
+  agents = kept.by_push IsAgentIn agent_stays Table.Agents (names_of t) i s.right.trail s.agents (stay t) w is;
+}
+
+pub sound_agent_for : (t : NameTable) (i : Image) (n w : ℕ) → IsAgentIn (heap_of t (replaced i Table.Agents n w)) w → IsSound t i → IsSound t (replaced i Table.Agents n w)
+sound_agent_for t i n w is s = record {
+  cells = s.cells;
+  distinct = s.distinct;
+  right = right.by_replace (names_of t) i Table.Agents n w s.right;
+  bound = bound.by_replace (names_of t) i Table.Agents n w (λ e. absurd (cc)) (stay t) s.right s.bound;
+  constraints = kept.by_other_replace IsConstraintIn constraint_stays Table.Constraints (names_of t) i s.right.trail s.constraints (stay t) Table.Agents n w (λ e. absurd (cc));
+  agents = kept.by_replace IsAgentIn agent_stays Table.Agents (names_of t) i s.right.trail s.agents (stay t) n w is;
 }
 
 -- What it gives
 
+pub has_constraints : (t : NameTable) (i : Image) → IsSound t i → (n : ℕ) → IsConstraintIn (heap_of t i) (slice_index i.constraints n)
+has_constraints t i s n = kept.kept_now IsConstraintIn constraint_stays Table.Constraints (names_of t) i s.right.trail s.constraints n
+
+pub has_agents : (t : NameTable) (i : Image) → IsSound t i → (n : ℕ) → IsAgentIn (heap_of t i) (slice_index i.agents n)
+has_agents t i s n = kept.kept_now IsAgentIn agent_stays Table.Agents (names_of t) i s.right.trail s.agents n
+
+pub has_words : (t : NameTable) (i : Image) → IsSound t i → (n : ℕ) → IsBoundIn (heap_of t i) (slice_index i.variables n)
+has_words t i s n = bound.kept_at (names_of t) i s.right s.bound n
+
+-- the word of a variable that is bound
+bound_by : (b : Bool) (w : ℕ) (q : Ref) → (w % 8 == 0) ≡ b → bound_ref_by b w ≡ Some q → (w % 8 ≢ 0) × (q.number ≡ w - 1)
+bound_by true w q e is = absurd (cc)
+bound_by false w q e is = (not_none (w % 8) e, number is)
+  where
+    not_none : (n : ℕ) → (n == 0) ≡ false → n ≢ 0
+    not_none n e = grind (arith, nat_tests)
+
+    number : Some (record { number = w - 1 }) ≡ Some q → q.number ≡ w - 1
+    number is = let same : record { number = w - 1 } ≡ q = cc in ap (λ (r : Ref). r.number) (sym same)
+
 pub has_bound : (t : NameTable) (i : Image) → IsSound t i → HasBound (heap_of t i) i.variables
-has_bound t i s n r e = bound.bound_trees (names_of t) i (stay t) s.right s.bound n r e
+has_bound t i s n q e =
+    let w : ℕ = slice_index i.variables n in
+    let b = bound_by (w % 8 == 0) w q refl e in
+    let x = bound.bound_trees (names_of t) i (stay t) s.right s.bound n b.0 in
+    (x.0, ap (term_at (heap_of t i)) b.1 ∙ x.1)
 
 pub term_is_ref : (t : NameTable) (i : Image) → IsSound t i → (r : ℕ) (u : Tree) → term_at (heap_of t i) r ≡ Some u → IsRefIn (heap_of t i) (form_of r)
 term_is_ref t i s r u e = right.are_refs (names_of t) i (stay t) s.right r u e

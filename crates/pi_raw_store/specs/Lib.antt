@@ -1,4 +1,6 @@
 pub mod Walk
+pub mod Posted
+pub mod Domains
 pub mod Holding
 pub mod Sound
 pub mod Changed

@@ -58,7 +58,7 @@ HaveTrees h [] = ⊤
 HaveTrees h (r ∷ rs) = ((t : Tree) × (term_at h r.number ≡ Some t)) × HaveTrees h rs
 
 abbrev pub bindings_of : NameTable → Image → Bindings
-bindings_of t i = bindings (state_of (heap_of t i) i.variables)
+bindings_of t i = bindings (state_of (heap_of t i) i)
 
 abbrev pub IsReadable : NameTable → Image → Ref → Tree → Type 0
 IsReadable t i r x = IsSound t i × ((term_at (heap_of t i) r.number ≡ Some x) × IsAcyclic (bindings_of t i))

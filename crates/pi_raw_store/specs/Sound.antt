@@ -2,14 +2,21 @@
 use Rattle.std.specs.Prelude.{◌≡◌, Some, slice_get}
 use Rattle.pi_terms.specs.ListNames.{cell_name}
 use Rattle.pi_trail.specs.Image.{Image}
+use Rattle.pi_trail.specs.declared.entry.Table.{Table}
 use Rattle.pi_atoms.specs.Names.{HasDistinct}
 use Rattle.pi_raw_laws.specs.Right.{IsRight}
 use Rattle.pi_raw_laws.specs.Bound.{AreBound}
+use Rattle.pi_raw_laws.specs.Kept.{AreKept}
+use Rattle.pi_raw_constraints.specs.Table.{IsConstraintIn}
+use Rattle.pi_raw_agents.specs.Table.{IsAgentIn}
 use Rattle.pi_raw_names.specs.NameTable.{NameTable, names_of}
 
--- the first name is that of list cells, no name has two numbers, each word was right when it was written, and variables are bound to Refs
+-- the first name is that of list cells, no name has two numbers, each word was right when it was written, variables are bound to Refs,
+-- blocks of domains and constraints stand in the region, and what agents say are Refs
 pub record IsSound (t : NameTable) (i : Image) : Type 0 where
   pub cells : slice_get t.texts 0 ≡ Some cell_name
   pub distinct : HasDistinct t.texts
   pub right : IsRight (names_of t) i
   pub bound : AreBound (names_of t) i
+  pub constraints : AreKept IsConstraintIn Table.Constraints (names_of t) i
+  pub agents : AreKept IsAgentIn Table.Agents (names_of t) i

@@ -1,13 +1,16 @@
 -- What variables lead to, by the words of the variables alone.
-use Rattle.std.specs.Prelude.{ℕ, zero, suc, ◌==◌, Bool, true, false, cond, List, length, Option, Some, None, unwrap_or, slice_index}
+use Rattle.std.specs.Prelude.{ℕ, zero, suc, ◌-◌, ◌%◌, ◌==◌, Bool, true, false, cond, List, length, Option, Some, None, unwrap_or, slice_index}
 use Rattle.pi_states.specs.declared.store.Ref.{Ref}
 use Rattle.pi_raw_terms.specs.Form.{form_of}
 use Rattle.pi_raw_terms.specs.declared.form.Form.{Form}
 
--- what a variable with this word is bound to: nothing where it is 0, and else the Ref before it
+-- what a variable with this word is bound to: nothing where it is a multiple of 8, and else the Ref before it
+abbrev pub bound_ref_by : Bool → ℕ → Option Ref
+bound_ref_by true w = None
+bound_ref_by false w = Some (record { number = w - 1 })
+
 abbrev pub bound_ref : ℕ → Option Ref
-bound_ref zero = None
-bound_ref (suc r) = Some (record { number = r })
+bound_ref w = bound_ref_by (w % 8 == 0) w
 
 abbrev pub binding_at : List ℕ → ℕ → Option Ref
 binding_at vs n = bound_ref (slice_index vs n)
@@ -43,16 +46,19 @@ steps_at (suc k) vs r = steps_at k vs (step_at vs r)
 abbrev pub followed_at : List ℕ → Ref → Ref
 followed_at vs r = steps_at (length vs) vs r
 
--- the number itself where it is that of a free variable
+-- the number itself where it is that of a variable that isn't bound
+abbrev pub unless_bound_by : Bool → ℕ → Option ℕ
+unless_bound_by true n = Some n
+unless_bound_by false n = None
+
 abbrev pub unless_bound : ℕ → ℕ → Option ℕ
-unless_bound n zero = Some n
-unless_bound n (suc r) = None
+unless_bound n w = unless_bound_by (w % 8 == 0) n
 
 abbrev pub free_of_any : List ℕ → Option ℕ → Option ℕ
 free_of_any vs None = None
 free_of_any vs (Some n) = unless_bound n (slice_index vs n)
 
--- the free variable that a term is at its root
+-- the variable that a term is at its root and that isn't bound
 abbrev pub free_at : List ℕ → Ref → Option ℕ
 free_at vs r = free_of_any vs (variable_at (followed_at vs r))
 

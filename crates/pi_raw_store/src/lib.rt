@@ -1,8 +1,10 @@
 //! A store over raw words: its names, terms, variables, bindings and marks.
 #![tactic(auto)]
 
+mod domains;
 mod mark;
 mod named;
+mod posted;
 mod read;
 mod refs;
 mod state_store;

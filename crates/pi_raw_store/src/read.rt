@@ -21,7 +21,7 @@ const MOST_CELLS: usize = 16777216;
 
 /// A term with bindings replaced throughout.
 pub fn read(alloc: Global, names: &RawNames, words: &Trailed, r: Ref) -> Result<Term, ReadStop>
-    ensures { (t : Tree) → IsReadable names.now words.now r t → ShowsRead (value (bindings (state_of (heap_of names.now words.now) words.now.variables)) t) result }
+    ensures { (t : Tree) → IsReadable names.now words.now r t → ShowsRead (value (bindings (state_of (heap_of names.now words.now) words.now)) t) result }
 {
     let cells = bare_cells(alloc, names, words, r)?;
     Ok(Term::from_bare(cells))
@@ -35,7 +35,7 @@ fn bare_cells(
     r: Ref,
 ) -> Result<Vec<TermCell>, ReadStop>
     ensures spelt { IfOk result (λ made. (u : Tree) × (made.items ≡ bare u)) }
-    ensures reads { (t : Tree) → IsReadable names.now words.now r t → MatchResult result (λ made. (made.items ≡ bare (value (bindings (state_of (heap_of names.now words.now) words.now.variables)) t)) × (cells (value (bindings (state_of (heap_of names.now words.now) words.now.variables)) t) ≤ most_cells)) (StopsAt (value (bindings (state_of (heap_of names.now words.now) words.now.variables)) t)) }
+    ensures reads { (t : Tree) → IsReadable names.now words.now r t → MatchResult result (λ made. (made.items ≡ bare (value (bindings (state_of (heap_of names.now words.now) words.now)) t)) × (cells (value (bindings (state_of (heap_of names.now words.now) words.now)) t) ≤ most_cells)) (StopsAt (value (bindings (state_of (heap_of names.now words.now) words.now)) t)) }
 {
     let mut read = Vec::new(alloc);
     let mut stack = Vec::new(alloc);

@@ -5,12 +5,14 @@ ghost use Rattle.pi_trail.specs.Image.{numbers_of, replaced};
 ghost use Rattle.pi_trail.specs.Back.{Advances};
 ghost use Rattle.pi_raw_terms.specs.Form.{form_of};
 ghost use Rattle.pi_raw_terms.specs.Placed.{IsNamed, IsRefIn, AreRefsIn};
+ghost use Rattle.pi_raw_agents.specs.Table.{AreEventsIn};
 ghost use Rattle.pi_raw_names.specs.NameTable.{names_of};
 ghost use Rattle.pi_raw_store.specs.Holding.{heap_of};
 
+use pi_raw_agents::watched;
 use pi_raw_names::RawNames;
 use pi_raw_terms::{Form, is_placed};
-use pi_states::Ref;
+use pi_states::{Ref, Watch};
 use pi_trail::{Table, Trailed};
 use std::alloc::AllocError;
 
@@ -44,6 +46,18 @@ pub fn has_all(names: &RawNames, words: &Trailed, refs: &[Ref]) -> bool
 {
     for r in refs {
         if !has(names, words, *r) {
+            return false;
+        }
+    }
+    true
+}
+
+/// Whether the terms of all these events are Refs of the store. It takes no memory.
+pub fn has_events(names: &RawNames, words: &Trailed, watches: &[Watch]) -> bool
+    ensures { slice_get names.now.texts 0 ≡ Some cell_name → IsTrue result ↔ AreEventsIn (heap_of names.now words.now) watches.now }
+{
+    for watch in watches {
+        if !has(names, words, watched(*watch)) {
             return false;
         }
     }

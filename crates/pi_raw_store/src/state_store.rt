@@ -1,12 +1,12 @@
-//! The store over raw words as a store of states. Domains, constraints, agents and activations aren't kept yet: a call
-//! that would make one is want of memory, and a call that shows them says that there are none.
+//! The store over raw words as a store of states. Activations aren't kept yet: a call that would make
+//! one is want of memory, and a call that takes one says that there is none. Nor is told what changed since a mark.
 ghost use Rattle.pi_raw_store.specs.Holding.{view_of};
 
 use crate::mark::RawMark;
 use crate::store::RawStore;
 use pi_constraints::{Constraint, Domain};
 use pi_states::{Activation, AgentView, Cell, Places, ReadStop, Ref, StateStore, Watches};
-use pi_terms::{Series, Term};
+use pi_terms::Term;
 use std::alloc::{AllocError, Global};
 
 impl StateStore for RawStore {
@@ -69,58 +69,55 @@ impl StateStore for RawStore {
         Ok(())
     }
 
-    /// None: domains aren't kept yet.
-    fn domain(&self, _alloc: Global, _v: Ref) -> Result<Option<Domain>, AllocError> {
-        Ok(None)
+    fn domain(&self, alloc: Global, v: Ref) -> Result<Option<Domain>, AllocError> {
+        let found = self.domain(alloc, v)?;
+        Ok(found)
     }
 
-    /// Want of memory: domains aren't kept yet.
-    fn set_domain(&mut self, _v: Ref, _d: &Domain) -> Result<(), AllocError> {
-        Err(AllocError)
+    fn set_domain(&mut self, v: Ref, d: &Domain) -> Result<(), AllocError> {
+        self.set_domain(v, d)?;
+        Ok(())
     }
 
-    /// Want of memory: constraints aren't kept yet.
-    fn post(&mut self, _c: &Constraint) -> Result<(), AllocError> {
-        Err(AllocError)
+    fn post(&mut self, c: &Constraint) -> Result<(), AllocError> {
+        self.post(c)?;
+        Ok(())
     }
 
-    /// 0: constraints aren't kept yet.
     fn constraints(&self) -> u64 {
-        0
+        self.constraints()
     }
 
-    /// One of no items, as for any number past the last constraint: constraints aren't kept yet.
-    fn constraint(&self, alloc: Global, _i: u64) -> Result<Constraint, AllocError> {
-        Ok(Constraint::Different(Series::new(alloc)))
+    fn constraint(&self, alloc: Global, i: u64) -> Result<Constraint, AllocError> {
+        let found = self.constraint(alloc, i)?;
+        Ok(found)
     }
 
-    /// None: constraints aren't kept yet.
-    fn posted_on(&self, alloc: Global, _v: u64) -> Result<Places, AllocError> {
-        Ok(Series::new(alloc))
+    fn posted_on(&self, alloc: Global, v: u64) -> Result<Places, AllocError> {
+        let found = self.posted_on(alloc, v)?;
+        Ok(found)
     }
 
-    /// Want of memory: agents aren't kept yet.
-    fn suspend(&mut self, _call: Ref, _rule: u64, _watches: &Watches) -> Result<u64, AllocError> {
-        Err(AllocError)
+    fn suspend(&mut self, call: Ref, rule: u64, watches: &Watches) -> Result<u64, AllocError> {
+        let made = self.suspend(call, rule, watches)?;
+        Ok(made)
     }
 
-    /// 0: agents aren't kept yet.
     fn agents(&self) -> u64 {
-        0
+        self.agents()
     }
 
-    /// None: agents aren't kept yet.
-    fn agent(&self, _n: u64) -> Option<AgentView> {
-        None
+    fn agent(&self, n: u64) -> Option<AgentView> {
+        self.agent(n)
     }
 
-    /// None, as for an agent that wasn't made: agents aren't kept yet.
-    fn watches(&self, alloc: Global, _n: u64) -> Result<Watches, AllocError> {
-        Ok(Series::new(alloc))
+    fn watches(&self, alloc: Global, n: u64) -> Result<Watches, AllocError> {
+        let found = self.watches(alloc, n)?;
+        Ok(found)
     }
 
-    /// It changes nothing: agents aren't kept yet.
-    fn retire(&mut self, _n: u64) -> Result<(), AllocError> {
+    fn retire(&mut self, n: u64) -> Result<(), AllocError> {
+        self.retire(n)?;
         Ok(())
     }
 
@@ -147,14 +144,9 @@ impl StateStore for RawStore {
         Err(AllocError)
     }
 
-    /// None: domains aren't kept yet.
-    fn domain_at(
-        &self,
-        _alloc: Global,
-        _m: &RawMark,
-        _v: u64,
-    ) -> Result<Option<Domain>, AllocError> {
-        Ok(None)
+    fn domain_at(&self, alloc: Global, m: &RawMark, v: u64) -> Result<Option<Domain>, AllocError> {
+        let found = self.domain_at(alloc, m, v)?;
+        Ok(found)
     }
 
     fn read_term(&self, alloc: Global, r: Ref) -> Result<Term, ReadStop> {

@@ -3,23 +3,34 @@ ghost use Rattle.std.specs.Prelude.{◌≡◌, ◌↔◌, ℕ, ◌<◌, List, []
 ghost use Rattle.pi_terms.specs.Tree.{Tree, Trees, var, int, atom, comp, arg_at};
 ghost use Rattle.pi_terms.specs.Variables.{IsGround};
 ghost use Rattle.pi_states.specs.Value.{IsAcyclic, value};
-ghost use Rattle.pi_states.specs.State.{SpeaksBelow, empty_state, bindings, next, followed, LeadsTo, with_new};
-ghost use Rattle.pi_states.specs.Store.{IsGood, IsTerm, AreTerms, IsName, ShowsCell, Keeps, Stays, Gives, Binds, Marks, Returns, ShowsRead};
+ghost use Rattle.pi_states.specs.State.{Agent, SpeaksBelow, MayPost, empty_state, bindings, next, followed, LeadsTo, domain_at_root, with_new, with_constraint, with_ended};
+ghost use Rattle.pi_states.specs.State.{domain_of as state_domain};
+ghost use Rattle.pi_states.specs.Store.{IsGood, IsTerm, AreTerms, AreWatches, IsName, ShowsCell, ShowsAgent, Keeps, Stays, Changes, Gives, Binds, Confines, Suspends, Marks, Returns, Lists, IsPostedOn, ShowsRead};
 ghost use Rattle.pi_raw_store.specs.Holding.{seen, order};
 
+use crate::domains::{confine, domain_by, domain_of};
 use crate::mark::RawMark;
 use crate::named::numbered;
+use crate::posted::posted_on;
 use crate::read::read;
-use crate::refs::{bind_variable, has, known};
+use crate::refs::{bind_variable, has, has_events, known};
 use crate::walk;
+use pi_constraints::{Constraint, Domain};
+use pi_raw_agents::{
+    add_agent, agent_call, agent_end, agent_rule, end_agent, is_alive, read_watches,
+};
+use pi_raw_constraints::{add_constraint, numbered_constraint};
 use pi_raw_names::RawNames;
 use pi_raw_terms as terms;
 use pi_region::Words;
-use pi_states::{Cell, ReadStop, Ref};
+use pi_states::{AgentView, Cell, Places, ReadStop, Ref, Watches};
 use pi_terms::Term;
 use pi_trail::{Table, Trailed};
 use std::alloc::{AllocError, Global};
 use std::marker::Model;
+
+/// How many variables constraints tell apart. Posting one where there are more is want of memory.
+const MOST_IN_CONSTRAINTS: usize = 288_230_376_151_711_744;
 
 /// A store as words of one region, with a trail by which each change is taken back: a change costs what it changes, and a
 /// return what was changed since.
@@ -179,6 +190,134 @@ impl RawStore {
         };
         let to = walk::followed(&self.words, t);
         bind_variable(&mut self.words, n, to)?;
+        Ok(())
+    }
+
+    /// The domain of an unbound variable that has one.
+    pub fn domain(&self, alloc: Global, v: Ref) -> Result<Option<Domain>, AllocError>
+        ensures { IfOk result (λ found. (t : Tree) → IsTerm (seen self.now) v t → found ≡ domain_at_root (seen self.now).now.state (followed (bindings (seen self.now).now.state) t)) }
+    {
+        let found = domain_of(alloc, &self.words, v)?;
+        Ok(found)
+    }
+
+    /// Gives an unbound variable a domain of two or more values.
+    pub fn set_domain(&mut self, v: Ref, d: &Domain) -> Result<(), AllocError>
+        ensures keeps { Keeps (seen self.old) (seen self.new) }
+        ensures ok { IfOk result (λ _. Confines (seen self.old) (seen self.new) v d.now) }
+        ensures err { OnErr result (Stays (seen self.old) (seen self.new)) }
+    {
+        let Some(n) = walk::free_variable(&self.words, v) else {
+            return Ok(());
+        };
+        confine(&mut self.words, n, d)?;
+        Ok(())
+    }
+
+    /// The domain that a variable had at a mark at which it was unbound. It costs what changed since.
+    pub fn domain_at(
+        &self,
+        alloc: Global,
+        m: &RawMark,
+        v: u64,
+    ) -> Result<Option<Domain>, AllocError>
+        ensures { IfOk result (λ found. IsGood (seen self.now) m.now → found ≡ state_domain ((seen self.now).at_mark m.now).state v) }
+    {
+        let word = self.words.word_at(m.length, v as usize);
+        let found = domain_by(alloc, &self.words, word)?;
+        Ok(found)
+    }
+
+    /// One more constraint.
+    pub fn post(&mut self, c: &Constraint) -> Result<(), AllocError>
+        ensures keeps { Keeps (seen self.old) (seen self.new) }
+        ensures ok { IfOk result (λ _. MayPost (seen self.old).now.state c.now → Changes (seen self.old) (seen self.new) (with_constraint (seen self.old).now.state c.now)) }
+        ensures err { OnErr result (Stays (seen self.old) (seen self.new)) }
+    {
+        if self.words.count(Table::Variables) > MOST_IN_CONSTRAINTS {
+            return Err(AllocError);
+        }
+        add_constraint(&mut self.words, c)?;
+        Ok(())
+    }
+
+    /// How many constraints were posted. It takes no memory.
+    pub fn constraints(&self) -> u64
+        ensures { result ≡ length (seen self.now).now.state.constraints }
+    {
+        self.words.count(Table::Constraints) as u64
+    }
+
+    /// The constraint with this number.
+    pub fn constraint(&self, alloc: Global, i: u64) -> Result<Constraint, AllocError>
+        ensures { IfOk result (λ found. i < length (seen self.now).now.state.constraints → slice_get (seen self.now).now.state.constraints i ≡ Some found) }
+    {
+        let found = numbered_constraint(alloc, &self.words, i)?;
+        Ok(found)
+    }
+
+    /// The numbers of the constraints in which this variable occurs, or one that is bound to it directly or through
+    /// others; ascending.
+    pub fn posted_on(&self, alloc: Global, v: u64) -> Result<Places, AllocError>
+        ensures { IfOk result (λ found. IsAcyclic (bindings (seen self.now).now.state) → Lists (IsPostedOn (seen self.now).now.state v) found) }
+    {
+        let found = posted_on(alloc, &self.words, v)?;
+        Ok(found)
+    }
+
+    /// Makes a call an agent, by the number of the rule that applied, and answers the agent's number.
+    pub fn suspend(&mut self, call: Ref, rule: u64, watches: &Watches) -> Result<u64, AllocError>
+        ensures keeps { Keeps (seen self.old) (seen self.new) }
+        ensures ok { IfOk result (λ made. Suspends (seen self.old) (seen self.new) call rule watches.now made) }
+        ensures err { OnErr result (Stays (seen self.old) (seen self.new)) }
+    {
+        let number = self.words.count(Table::Agents) as u64;
+        if !has(&self.names, &self.words, call) {
+            return Ok(number);
+        }
+        if !has_events(&self.names, &self.words, watches.as_slice()) {
+            return Ok(number);
+        }
+        add_agent(&mut self.words, call, rule, watches)?;
+        Ok(number)
+    }
+
+    /// How many agents were made, ended ones among them. It takes no memory.
+    pub fn agents(&self) -> u64
+        ensures { result ≡ length (seen self.now).now.state.agents }
+    {
+        self.words.count(Table::Agents) as u64
+    }
+
+    /// An agent; None exactly for one that has ended or wasn't made. It takes no memory.
+    pub fn agent(&self, n: u64) -> Option<AgentView>
+        ensures { ShowsAgent (seen self.now) n result }
+    {
+        if !is_alive(&self.words, n) {
+            return None;
+        }
+        let end = agent_end(&self.words, n);
+        Some(AgentView {
+            call: agent_call(&self.words, end),
+            rule: agent_rule(&self.words, end),
+        })
+    }
+
+    /// The events that an agent waits for.
+    pub fn watches(&self, alloc: Global, n: u64) -> Result<Watches, AllocError>
+        ensures { IfOk result (λ found. (a : Agent) → slice_get (seen self.now).now.state.agents n ≡ Some a → AreWatches (seen self.now) found a.watches) }
+    {
+        let watches = read_watches(alloc, &self.words, agent_end(&self.words, n))?;
+        Ok(watches)
+    }
+
+    /// Ends an agent.
+    pub fn retire(&mut self, n: u64) -> Result<(), AllocError>
+        ensures keeps { Keeps (seen self.old) (seen self.new) }
+        ensures ok { IfOk result (λ _. Changes (seen self.old) (seen self.new) (with_ended (seen self.old).now.state n)) }
+        ensures err { OnErr result (Stays (seen self.old) (seen self.new)) }
+    {
+        end_agent(&mut self.words, n)?;
         Ok(())
     }
 

@@ -11,14 +11,14 @@ fn binding(words: &Trailed, n: u64) -> Option<Ref>
     ensures { result ≡ binding_at words.now.variables n }
 {
     let word = words.get(Table::Variables, n as usize);
-    if word == 0 {
+    if word % 8 == 0 {
         return None;
     }
     Some(Ref { number: word - 1 })
 }
 
 /// The variable that a Ref is.
-fn variable(r: Ref) -> Option<u64>
+pub fn variable(r: Ref) -> Option<u64>
     ensures { result ≡ variable_at r }
 {
     match Form::of(r) {
@@ -55,17 +55,17 @@ pub fn followed(words: &Trailed, r: Ref) -> Ref
     at
 }
 
-/// The number itself, where it is that of a free variable.
+/// The number itself, where it is that of a variable that isn't bound.
 fn unless_bound(words: &Trailed, n: u64) -> Option<u64>
     ensures { result ≡ unless_bound n (slice_index words.now.variables n) }
 {
-    if words.get(Table::Variables, n as usize) == 0 {
+    if words.get(Table::Variables, n as usize) % 8 == 0 {
         return Some(n);
     }
     None
 }
 
-/// The free variable that a term is at its root. It takes no memory.
+/// The variable that a term is at its root and that isn't bound. It takes no memory.
 pub fn free_variable(words: &Trailed, r: Ref) -> Option<u64>
     ensures { result ≡ free_at words.now.variables r }
 {
@@ -86,7 +86,7 @@ fn next_variable(words: &Trailed, n: u64) -> Option<u64>
 }
 
 /// Whether a variable is the second one, or bound to it directly or through others.
-fn variable_leads_to(words: &Trailed, n: u64, v: u64) -> bool
+pub fn variable_leads_to(words: &Trailed, n: u64, v: u64) -> bool
     ensures { result ≡ leads_at words.now.variables n v }
 {
     let mut at = n;

@@ -11,5 +11,6 @@ returns c = record {
   push = lemmas.by_push;
   replace = lemmas.by_replace;
   binding = lemmas.by_binding;
+  domain = lemmas.by_domain;
   names = lemmas.by_names;
 }

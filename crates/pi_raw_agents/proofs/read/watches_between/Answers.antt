@@ -1,8 +1,6 @@
-use Rattle.std.proofs.Common.{◌≡◌, ◌+◌, ◌*◌, ◌<◌, ◌≤◌, min, List, ℕ, length, take, slice_index, ap, sym, ◌∙◌, arith}
+use Rattle.std.proofs.Common.{◌≡◌, ◌+◌, ◌*◌, ◌<◌, ◌≤◌, min, List, ℕ, length, take, sym, ◌∙◌, arith}
 use Rattle.std.proofs.lemmas.List.{length-take}
-use Rattle.pi_trail.specs.Entry.{value_of}
-use Rattle.pi_raw_agents.specs.Events.{watch_of}
-use Rattle.pi_raw_agents.proofs.EventLemmas.{watch_in, watch_read, watches_read, watch_cut}
+use Rattle.pi_raw_agents.proofs.EventLemmas.{watch_read, watches_read, watch_cut}
 use Rattle.pi_raw_agents.proofs.read.watches_between.Goals as goal
 
 pub loop-k-preserved : goal.loop-k-preserved

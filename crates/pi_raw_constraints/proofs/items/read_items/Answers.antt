@@ -1,4 +1,4 @@
-use Rattle.std.proofs.Common.{◌≡◌, ◌+◌, ◌<◌, ◌≤◌, length, ap, ◌∙◌, arith}
+use Rattle.std.proofs.Common.{◌<◌, ◌≤◌, length, ap, ◌∙◌, arith}
 use Rattle.pi_raw_constraints.specs.Items.{item_of}
 use Rattle.pi_raw_constraints.proofs.ItemLemmas.{item_read, items_read}
 use Rattle.pi_raw_constraints.proofs.items.read_items.Goals as goal

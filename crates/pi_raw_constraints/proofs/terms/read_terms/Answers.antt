@@ -1,4 +1,4 @@
-use Rattle.std.proofs.Common.{◌≡◌, ◌+◌, ◌*◌, ◌<◌, ◌≤◌, length, arith}
+use Rattle.std.proofs.Common.{◌+◌, ◌*◌, ◌<◌, ◌≤◌, length, arith}
 use Rattle.pi_raw_constraints.proofs.TermLemmas.{term_read, terms_read}
 use Rattle.pi_raw_constraints.proofs.terms.read_terms.Goals as goal
 

@@ -17,7 +17,7 @@ pub returns-clause-below : goal.returns-clause-below
 returns-clause-below c =
     let t = c.self.inside.names in
     let i = c.self.inside.words in
-    rw (← c.self.view_is) (λ q x is. speaks_below (heap_of t i) i.variables q.number x refl is)
+    rw (← c.self.view_is) (λ q x is. speaks_below (heap_of t i) i q.number x refl is)
 
 pub returns-clause-distinct : goal.returns-clause-distinct
 returns-clause-distinct c = rw (← c.self.view_is) c.self.invariant.distinct.same

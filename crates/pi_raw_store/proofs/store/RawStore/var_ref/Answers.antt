@@ -8,4 +8,4 @@ returns c =
     let t = c.self.inside.names in
     let i = c.self.inside.words in
     let few : length i.variables < 2 ^ 61 = omega (arith, c.count-count.ensures.len, c.count-count.ensures.small) in
-    rw (← c.self.view_is) (λ lt. c.var_ref.ensures (heap_of t i) (below_next (heap_of t i) i.variables c.args.n lt) few)
+    rw (← c.self.view_is) (λ lt. c.var_ref.ensures (heap_of t i) (below_next (heap_of t i) i c.args.n lt) few)

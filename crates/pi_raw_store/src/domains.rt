@@ -1,0 +1,66 @@
+//! Domains of variables.
+ghost use Rattle.std.specs.Prelude.{◌≡◌, IfOk, OnErr};
+ghost use Rattle.pi_raw_store.specs.Domains.{domain_end, domain_by, domain_of, Confined};
+
+use crate::walk::{followed, variable};
+use pi_constraints::Domain;
+use pi_raw_blocks::give_up;
+use pi_raw_domains::{read_domain, write_domain};
+use pi_states::Ref;
+use pi_trail::{Table, Trailed};
+use std::alloc::{AllocError, Global};
+
+/// How many variables can have a domain. Giving one past them a domain is want of memory.
+const MOST_CONFINED: u64 = 576_460_752_303_423_488;
+
+/// Where the block of a domain ends that the word of a variable names; 0 where it names none.
+fn domain_end(word: u64) -> usize
+    ensures { result ≡ domain_end word }
+{
+    if word % 8 == 0 {
+        (word / 8) as usize
+    } else {
+        0
+    }
+}
+
+/// The domain of a variable with this word.
+pub fn domain_by(alloc: Global, words: &Trailed, word: u64) -> Result<Option<Domain>, AllocError>
+    ensures { IfOk result (λ found. found ≡ domain_by words.now.region word) }
+{
+    let end = domain_end(word);
+    if end == 0 {
+        return Ok(None);
+    }
+    let found = read_domain(alloc, words, end)?;
+    Ok(Some(found))
+}
+
+/// The domain of the variable that a term is at its root.
+pub fn domain_of(alloc: Global, words: &Trailed, r: Ref) -> Result<Option<Domain>, AllocError>
+    ensures { IfOk result (λ found. found ≡ domain_of words.now r) }
+{
+    let Some(n) = variable(followed(words, r)) else {
+        return Ok(None);
+    };
+    let found = domain_by(alloc, words, words.get(Table::Variables, n as usize))?;
+    Ok(found)
+}
+
+/// Gives the variable with this number a domain.
+pub fn confine(words: &mut Trailed, n: u64, d: &Domain) -> Result<(), AllocError>
+    ensures ok { IfOk result (λ _. Confined words.old words.new n d.now) }
+    ensures err { OnErr result (words.new ≡ words.old) }
+{
+    if n >= MOST_CONFINED {
+        return Err(AllocError);
+    }
+    let start = words.len();
+    let _spans = d.spans();
+    let _end = write_domain(words, d)?;
+    let word = words.len() as u64 * 8;
+    match words.replace(Table::Variables, n as usize, word) {
+        Ok(()) => Ok(()),
+        Err(refused) => Err(give_up(words, start, refused)),
+    }
+}
