@@ -1,9 +1,10 @@
 -- Slots against an environment: each name finds the same in both, and the slots that no text has come to are empty.
-use Rattle.std.proofs.Common.{◌≡◌, ℕ, zero, suc, ◌+◌, ◌<◌, ◌≤◌, Bool, true, false, cond, List, [], ◌∷◌, ◌++◌, length, refl, sym, ◌∙◌, ap, subst, arith, length-append, append_assoc}
-use Rattle.std.specs.Prelude.{Option, Some, None, option_map, option_and_then, IsSome, slice_set}
+use Rattle.std.proofs.Common.{◌≡◌, ℕ, zero, suc, ◌+◌, ◌<◌, ◌≤◌, Bool, true, false, cond, List, [], ◌∷◌, ◌++◌, length, refl, sym, ◌∙◌, ap, subst, arith, length-append, append_assoc, nat_lt}
+use Rattle.std.specs.Prelude.{◌==◌, Option, Some, None, option_map, option_and_then, IsSome, slice_set}
 use Rattle.std.specs.Str.{bytes_eq}
 use Rattle.std.proofs.lemmas.List.{length-set, append-nil, get_or-set_same}
 use Rattle.std.proofs.lemmas.Bool.{true≢false}
+use Rattle.std.proofs.lemmas.Bool.Decides.{Decides-eqb, Decides-ltb}
 use Rattle.std.proofs.lemmas.Slice.Eq.{bytes_eq-Decides}
 use Rattle.pi_terms.specs.Tree.{Tree}
 use Rattle.pi_terms.specs.Places.{Places, held}
@@ -94,12 +95,12 @@ slot-below name (m ∷ ns) k e = go (bytes_eq name m) (slot_of name ns) (λ j at
     go false (Some j) below h = let z : suc j ≡ k = some-inj h in omega (arith, below j refl)
 
 -- what a slot has for its name: names that find one slot are one
-abbrev name_at : SlotNames → ℕ → List ℕ
+abbrev pub name_at : SlotNames → ℕ → List ℕ
 name_at [] k = []
 name_at (n ∷ ns) zero = n
 name_at (n ∷ ns) (suc k) = name_at ns k
 
-slot-name : (name : List ℕ) (ns : SlotNames) (k : ℕ) → slot_of name ns ≡ Some k → name_at ns k ≡ name
+pub slot-name : (name : List ℕ) (ns : SlotNames) (k : ℕ) → slot_of name ns ≡ Some k → name_at ns k ≡ name
 unfolding slot_of
 slot-name name [] k e = absurd cc
 slot-name name (m ∷ ns) k e = go (bytes_eq name m) refl (slot_of name ns) (λ j at. slot-name name ns j at) e
@@ -114,21 +115,38 @@ slot-one name other ns k a b = sym (slot-name other ns k b) ∙ slot-name name n
 
 -- ---- the relation
 
-pub record Agrees (n h : ℕ) (ns : SlotNames) (e : Environment) (slots : Places) : Type 0 where
+-- the slots of a clause: how many there are, and what those have that stay as they are, filled or empty
+pub record Room : Type 0 where
+  pub slots : ℕ
+  pub fixed : ℕ → Option (Option Tree)
+
+-- no slots stay
+abbrev pub free_room : ℕ → Room
+free_room n = record { slots = n; fixed = λ k. None }
+
+-- no name finds a slot, so that no assignment goes there
+pub record Fixed (k : ℕ) (t : Option Tree) (ns : SlotNames) (slots : Places) : Type 0 where
+  pub has : held slots k ≡ t
+  pub below : k < length ns
+  pub nameless : (name : List ℕ) → bytes_eq name unnamed ≡ false → slot_of name ns ≡ Some k → ⊥
+
+pub record Agrees (n : Room) (h : ℕ) (ns : SlotNames) (e : Environment) (slots : Places) : Type 0 where
   -- so many slots in all
-  pub long : length slots ≡ n
+  pub long : length slots ≡ n.slots
   pub names : (name : List ℕ) → bytes_eq name unnamed ≡ false → meant name e ≡ finds name ns slots
   -- those ahead
   pub empty : (k : ℕ) → length ns ≤ k → held slots k ≡ None
   -- those that the head fills
   pub firm : (k : ℕ) → k < h → IsSome (held slots k)
+  -- those that stay
+  pub fixed : (k : ℕ) (t : Option Tree) → n.fixed k ≡ Some t → Fixed k t ns slots
 
 unnamed-known : (b : Bool) (o : Option ℕ) (slots : Places) → option_and_then (held slots) (cond b None o) ≡ cond b None (option_and_then (held slots) o)
 unnamed-known true o slots = refl
 unnamed-known false o slots = refl
 
 -- an occurrence finds the same
-pub agrees-known : (n h : ℕ) (ns : SlotNames) (e : Environment) (slots : Places) → Agrees n h ns e slots → (name : List ℕ) → known name e ≡ option_and_then (held slots) (slot_known name ns)
+pub agrees-known : (n : Room) (h : ℕ) (ns : SlotNames) (e : Environment) (slots : Places) → Agrees n h ns e slots → (name : List ℕ) → known name e ≡ option_and_then (held slots) (slot_known name ns)
 agrees-known n h ns e slots a name = go (bytes_eq name unnamed) refl
   where
     go : (b : Bool) → bytes_eq name unnamed ≡ b → cond b None (meant name e) ≡ option_and_then (held slots) (cond b None (slot_of name ns))
@@ -170,12 +188,39 @@ finds-more name ns more slots ahead = ap (option_and_then (held slots)) (slot-am
     go None None = refl
     go None (Some k) = ahead (length ns + k) (omega arith)
 
-pub agrees-more : (n h : ℕ) (ns ms : SlotNames) (e : Environment) (slots : Places) → Grows ns ms → Agrees n h ns e slots → Agrees n h ms e slots
+pub fixed-more : (k : ℕ) (t : Option Tree) (ns ms : SlotNames) (slots : Places) → Grows ns ms → Fixed k t ns slots → Fixed k t ms slots
+fixed-more k t ns _ slots (by more) f =
+    record { has = f.has; below = omega (arith, f.below, length-append ns more); nameless = λ name is at. go name is (slot_of name ns) refl (slot_of name more) (sym (slot-among name ns more) ∙ at) }
+  where
+    go : (name : List ℕ) → bytes_eq name unnamed ≡ false → (o : Option ℕ) → slot_of name ns ≡ o → (p : Option ℕ) → or_last (slot_of name ns) (option_map (λ j. length ns + j) p) ≡ Some k → ⊥
+    go name is (Some j) at p found = f.nameless name is (at ∙ sym (ap (λ o. or_last o (option_map (λ j. length ns + j) p)) at) ∙ found)
+    go name is None at None found = absurd (cc (sym (ap (λ o. or_last o None) at) ∙ found))
+    go name is None at (Some j) found = let past : length ns + j ≡ k = some-inj (sym (ap (λ o. or_last o (Some (length ns + j))) at) ∙ found) in omega (arith, past, f.below)
+
+pub fixed-set : (k : ℕ) (t : Option Tree) (ns : SlotNames) (slots : Places) (j : ℕ) (x : Option Tree) → (k ≡ j → ⊥) → Fixed k t ns slots → Fixed k t ns (slice_set slots j x)
+fixed-set k t ns slots j x apart f = record { has = set-other slots j x k apart ∙ f.has; below = f.below; nameless = f.nameless }
+
+-- the slot of a name is another one
+pub fixed-apart : (k : ℕ) (t : Option Tree) (name : List ℕ) (ns : SlotNames) (slots : Places) → Fixed k t ns slots → k ≡ slot_for name ns → ⊥
+fixed-apart k t name ns slots f same = go (bytes_eq name unnamed) refl (slot_of name ns) refl
+  where
+    go : (b : Bool) → bytes_eq name unnamed ≡ b → (o : Option ℕ) → slot_of name ns ≡ o → ⊥
+    go true is o at = let last : k ≡ length ns = same ∙ ap (λ (c : Bool). slot_or_next (cond c None (slot_of name ns)) ns) is in omega (arith, f.below, last)
+    go false is None at =
+        let last : k ≡ length ns = same ∙ ap (λ (c : Bool). slot_or_next (cond c None (slot_of name ns)) ns) is ∙ ap (λ (o : Option ℕ). slot_or_next o ns) at in omega (arith, f.below, last)
+    go false is (Some j) at = f.nameless name is (at ∙ ap Some (sym (same ∙ ap (λ (c : Bool). slot_or_next (cond c None (slot_of name ns)) ns) is ∙ ap (λ (o : Option ℕ). slot_or_next o ns) at)))
+
+pub fixed-for : (k : ℕ) (t : Option Tree) (name : List ℕ) (ns : SlotNames) (slots : Places) (x : Option Tree) → Fixed k t ns slots → Fixed k t (slots_for name ns) (slice_set slots (slot_for name ns) x)
+fixed-for k t name ns slots x f =
+    fixed-set k t (slots_for name ns) slots (slot_for name ns) x (fixed-apart k t name ns slots f) (fixed-more k t ns (slots_for name ns) slots (grows-for name ns) f)
+
+pub agrees-more : (n : Room) (h : ℕ) (ns ms : SlotNames) (e : Environment) (slots : Places) → Grows ns ms → Agrees n h ns e slots → Agrees n h ms e slots
 agrees-more n h ns _ e slots (by more) a = record {
   long = a.long;
   names = λ name is. a.names name is ∙ sym (finds-more name ns more slots a.empty);
   empty = λ k past. a.empty k (omega (arith, past, length-append ns more));
   firm = a.firm;
+  fixed = λ k t is. fixed-more k t ns (ns ++ more) slots (by more) (a.fixed k t is);
 }
 
 pub slot-alone : (name other : List ℕ) → slot_of name (other ∷ []) ≡ cond (bytes_eq name other) (Some 0) None
@@ -183,12 +228,13 @@ unfolding slot_of
 slot-alone name other = refl
 
 -- a value in the next slot
-pub agrees-value : (n h : ℕ) (ns : SlotNames) (e : Environment) (slots : Places) (t : Tree) → Agrees n h ns e slots → Agrees n h (with_value ns) e (slice_set slots (length ns) (Some t))
+pub agrees-value : (n : Room) (h : ℕ) (ns : SlotNames) (e : Environment) (slots : Places) (t : Tree) → Agrees n h ns e slots → Agrees n h (with_value ns) e (slice_set slots (length ns) (Some t))
 agrees-value n h ns e slots t a = record {
   long = length-set slots (length ns) (Some t) ∙ a.long;
   names = λ name is. a.names name is ∙ other name is;
   empty = λ k past. set-other slots (length ns) (Some t) k (λ same. beyond k past same) ∙ a.empty k (omega (arith, past, length-append ns (unnamed ∷ [])));
   firm = λ k less. set-firm slots (length ns) t k (a.firm k less);
+  fixed = λ k u is. fixed-set k u (with_value ns) slots (length ns) (Some t) (λ same. omega (arith, same, (a.fixed k u is).below)) (fixed-more k u ns (with_value ns) slots (by (unnamed ∷ [])) (a.fixed k u is));
 }
   where
     beyond : (k : ℕ) → length (ns ++ unnamed ∷ []) ≤ k → k ≡ length ns → ⊥
@@ -224,7 +270,7 @@ known-none : (name : List ℕ) (ns : SlotNames) → bytes_eq name unnamed ≡ fa
 known-none name ns named is = sym (ap (λ b. cond b None (slot_of name ns)) named) ∙ is
 
 -- the slot that it has, or the next one, has the value, and each other name has its own
-assigned-finds : (n h : ℕ) (ns : SlotNames) (e : Environment) (slots : Places) (name : List ℕ) (t : Tree) → Agrees n h ns e slots → (o : Option ℕ) → slot_known name ns ≡ o → length (slots_with o name ns) ≤ n →
+assigned-finds : (n : Room) (h : ℕ) (ns : SlotNames) (e : Environment) (slots : Places) (name : List ℕ) (t : Tree) → Agrees n h ns e slots → (o : Option ℕ) → slot_known name ns ≡ o → length (slots_with o name ns) ≤ n.slots →
     (other : List ℕ) → bytes_eq other unnamed ≡ false → (b : Bool) → bytes_eq other name ≡ b →
     cond b (Some t) (meant other e) ≡ finds other (slots_with o name ns) (slice_set slots (slot_or_next o ns) (Some t))
 assigned-finds n h ns e slots name t a (Some k) at room other is true same =
@@ -262,17 +308,70 @@ assigned-finds n h ns e slots name t a None at room other is false apart = a.nam
     same : slot_of other (ns ++ name ∷ []) ≡ slot_of other ns
     same = slot-among other ns (name ∷ []) ∙ ap (λ p. or_last (slot_of other ns) (option_map (λ k. length ns + k) p)) (slot-alone other name) ∙ last (slot_of other ns)
 
-assigned-empty : (n h : ℕ) (ns : SlotNames) (e : Environment) (slots : Places) (name : List ℕ) (t : Tree) → Agrees n h ns e slots → (o : Option ℕ) → slot_known name ns ≡ o → (k : ℕ) → length (slots_with o name ns) ≤ k →
+assigned-empty : (n : Room) (h : ℕ) (ns : SlotNames) (e : Environment) (slots : Places) (name : List ℕ) (t : Tree) → Agrees n h ns e slots → (o : Option ℕ) → slot_known name ns ≡ o → (k : ℕ) → length (slots_with o name ns) ≤ k →
     held (slice_set slots (slot_or_next o ns) (Some t)) k ≡ None
 assigned-empty n h ns e slots name t a (Some j) at k past = set-other slots j (Some t) k (λ same. omega (arith, slot-below name ns j (known-some name ns j at), past, same)) ∙ a.empty k past
 assigned-empty n h ns e slots name t a None at k past =
     set-other slots (length ns) (Some t) k (λ same. omega (arith, past, same, length-append ns (name ∷ []))) ∙ a.empty k (omega (arith, past, length-append ns (name ∷ [])))
 
-pub agrees-assigned : (n h : ℕ) (ns : SlotNames) (e : Environment) (slots : Places) (name : List ℕ) (t : Tree) → Agrees n h ns e slots → length (slots_for name ns) ≤ n →
+pub agrees-assigned : (n : Room) (h : ℕ) (ns : SlotNames) (e : Environment) (slots : Places) (name : List ℕ) (t : Tree) → Agrees n h ns e slots → length (slots_for name ns) ≤ n.slots →
     Agrees n h (slots_for name ns) (assigning.with_value e name t) (slice_set slots (slot_for name ns) (Some t))
 agrees-assigned n h ns e slots name t a room = record {
   long = length-set slots (slot_for name ns) (Some t) ∙ a.long;
   names = λ other is. meant-value other name t e ∙ assigned-finds n h ns e slots name t a (slot_known name ns) refl room other is (bytes_eq other name) refl;
   empty = λ k past. assigned-empty n h ns e slots name t a (slot_known name ns) refl k past;
   firm = λ k less. set-firm slots (slot_for name ns) t k (a.firm k less);
+  fixed = λ k u is. fixed-for k u name ns slots (Some t) (a.fixed k u is);
 }
+
+-- ---- slots without names
+
+name-at-below : (ns : SlotNames) (k : ℕ) → bytes_eq (name_at ns k) unnamed ≡ true → k < length ns
+name-at-below [] k is = absurd (true≢false (sym is))
+name-at-below (n ∷ ns) zero is = omega arith
+name-at-below (n ∷ ns) (suc k) is = omega (arith, name-at-below ns k is)
+
+-- a name finds this slot
+abbrev is_slot : Option ℕ → ℕ → Bool
+is_slot None k = false
+is_slot (Some j) k = j == k
+
+abbrev pub is_found : SlotNames → ℕ → Bool
+is_found ns k = cond (bytes_eq (name_at ns k) unnamed) false (is_slot (slot_of (name_at ns k) ns) k)
+
+-- a room in which all slots that no name finds stay as they are
+abbrev pub holding : Room → SlotNames → Places → Room
+holding n ns slots = record { slots = n.slots; fixed = λ k. cond (nat_lt k (length ns)) (cond (is_found ns k) None (Some (held slots k))) None }
+
+pub finds-slot : (name : List ℕ) (ns : SlotNames) (k : ℕ) → bytes_eq name unnamed ≡ false → slot_of name ns ≡ Some k → is_found ns k ≡ true
+finds-slot name ns k named at =
+    ap (λ (x : List ℕ). cond (bytes_eq x unnamed) false (is_slot (slot_of x ns) k)) (slot-name name ns k at) ∙ ap (λ (b : Bool). cond b false (is_slot (slot_of name ns) k)) named ∙ ap (λ (o : Option ℕ). is_slot o k) at ∙ (Decides-eqb k k).1 refl
+
+-- and a slot that is found has the name that finds it
+pub found-slot : (ns : SlotNames) (k : ℕ) → is_found ns k ≡ true → (bytes_eq (name_at ns k) unnamed ≡ false) × (slot_of (name_at ns k) ns ≡ Some k)
+found-slot ns k is = go (bytes_eq (name_at ns k) unnamed) refl (slot_of (name_at ns k) ns) refl is
+  where
+    go : (b : Bool) → bytes_eq (name_at ns k) unnamed ≡ b → (o : Option ℕ) → slot_of (name_at ns k) ns ≡ o → cond b false (is_slot o k) ≡ true → (b ≡ false) × (o ≡ Some k)
+    go true named o at h = absurd (true≢false (sym h))
+    go false named None at h = absurd (true≢false (sym h))
+    go false named (Some j) at h = (refl, ap Some ((Decides-eqb j k).0 h))
+
+pub agrees-holding : (n : Room) (h : ℕ) (ns : SlotNames) (e : Environment) (slots : Places) → Agrees n h ns e slots → Agrees (holding n ns slots) h ns e slots
+agrees-holding n h ns e slots a = record { long = a.long; names = a.names; empty = a.empty; firm = a.firm; fixed = λ k t is. go k t (nat_lt k (length ns)) refl (is_found ns k) refl is }
+  where
+    value : Option (Option Tree) → Option Tree
+    value None = None
+    value (Some t) = t
+
+    go : (k : ℕ) (t : Option Tree) (b : Bool) → nat_lt k (length ns) ≡ b → (c : Bool) → is_found ns k ≡ c → cond b (cond c None (Some (held slots k))) None ≡ Some t → Fixed k t ns slots
+    go k t true less false other found = record { has = ap value found; below = (Decides-ltb k (length ns)).0 less; nameless = λ name named at. true≢false (sym (finds-slot name ns k named at) ∙ other) }
+    go k t true less true is found = absurd (cc found)
+    go k t false past c is found = absurd (cc found)
+
+-- what stays
+pub held-still : (n : Room) (h : ℕ) (ns ms : SlotNames) (e : Environment) (slots after : Places) → Agrees (holding n ns slots) h ms e after → (k : ℕ) → k < length ns → is_found ns k ≡ false → held after k ≡ held slots k
+held-still n h ns ms e slots after a k less other =
+    (a.fixed k (held slots k) (ap (λ (b : Bool). cond b (cond (is_found ns k) None (Some (held slots k))) None) ((Decides-ltb k (length ns)).1 less) ∙ ap (λ (b : Bool). cond b None (Some (held slots k))) other)).has
+
+pub unnamed-still : (n : Room) (h : ℕ) (ns ms : SlotNames) (e : Environment) (slots after : Places) → Agrees (holding n ns slots) h ms e after → (k : ℕ) → bytes_eq (name_at ns k) unnamed ≡ true → held after k ≡ held slots k
+unnamed-still n h ns ms e slots after a k is = held-still n h ns ms e slots after a k (name-at-below ns k is) (ap (λ (b : Bool). cond b false (is_slot (slot_of (name_at ns k) ns) k)) is)

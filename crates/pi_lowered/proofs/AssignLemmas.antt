@@ -21,7 +21,7 @@ use Rattle.pi_lowered.specs.Values.{SlotValue, first_item}
 use Rattle.pi_lowered.specs.Goals.{assigned}
 use Rattle.pi_lowered.specs.Forms.{Knows}
 use Rattle.pi_lowered.proofs.SameLemmas.{SameBy, same_end, same-one, same-then}
-use Rattle.pi_lowered.proofs.AgreeLemmas.{grows-then, grows-length, grows-for, agrees-assigned}
+use Rattle.pi_lowered.proofs.AgreeLemmas.{Room, grows-then, grows-length, grows-for, agrees-assigned}
 use Rattle.pi_lowered.proofs.TermLemmas.{ComesAll}
 use Rattle.pi_lowered.proofs.RunLemmas.{Alike, point, place, AtPlace, at_place, AtValue, at_value, runs, SameGoals, SameLast, then-of-one, runs-append}
 use Rattle.pi_lowered.proofs.ControlLemmas.{just-same}
@@ -29,7 +29,7 @@ use Rattle.pi_lowered.proofs.BuiltInLemmas.{first-item-called, item-known}
 use Rattle.pi_lowered.proofs.FoundLemmas.{item-comes}
 
 -- the slot of a name has the value
-assigned-answer : (known : Knows) (set : Setting) (b : Builtins) (l m : Level) (n h : ℕ) (ms : SlotNames) (t : Tree) (start : Places) (name : List ℕ) → Alike known set b l m → length (slots_for name ms) ≤ n →
+assigned-answer : (known : Knows) (set : Setting) (b : Builtins) (l m : Level) (n : Room) (h : ℕ) (ms : SlotNames) (t : Tree) (start : Places) (name : List ℕ) → Alike known set b l m → length (slots_for name ms) ≤ n.slots →
     (q : Point) (x : Valued) → AtValue l n h ms t start q x → SameBy (AtPlace l n h (slots_for name ms)) (runs b (GoalTree.apply index_name (first_item t) (slot_for name ms) ∷ []) q) (with_assigned (Some name) x)
 unfolding meaning applying tree_count
 assigned-answer known set b l m n h ms t start name alike room _ _ (at_value slots s x c extends) =
@@ -65,7 +65,7 @@ assigned-goals known set b l m h None v lv alike is = record {
       (λ q x at. fails n (lv ns).names (lv ns).tree slots q x at));
 }
   where
-    fails : (n : ℕ) (ms : SlotNames) (t : Tree) (start : Places) (q : Point) (x : Valued) → AtValue l n h ms t start q x → SameBy (AtPlace l n h ms) (runs b (GoalTree.fail ∷ []) q) done
+    fails : (n : Room) (ms : SlotNames) (t : Tree) (start : Places) (q : Point) (x : Valued) → AtValue l n h ms t start q x → SameBy (AtPlace l n h ms) (runs b (GoalTree.fail ∷ []) q) done
     fails n ms t start _ _ (at_value slots s x c extends) = just-same (AtPlace l n h ms) b l alike.core_drains GoalTree.fail failing refl slots s _ (same_end _)
 assigned-goals known set b l m h (Some name) v lv alike is = record {
   grows = λ ns. grows-then ns _ _ (is.grows ns) (grows-for name (lv ns).names);

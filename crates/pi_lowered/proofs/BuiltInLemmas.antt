@@ -109,7 +109,7 @@ equals-given : is_predicate (codes "=") 2 ≡ true
 unfolding is_predicate has_line tests comparing_tests kind_tests writing_predicates other_predicates
 equals-given = refl
 
-given-first : (a b c : Bool) → a ≡ true → IsTrue ((a || b) || c)
+pub given-first : (a b c : Bool) → a ≡ true → IsTrue ((a || b) || c)
 given-first true b c is = refl
 given-first false b c is = absurd (false≢true is)
 
@@ -121,10 +121,10 @@ not-less k n is = ltb-false k n is
 
 -- ---- an item
 
-no-variable : (name : List ℕ) (ts : Trees) (n : ℕ) → comp name ts ≡ var n → ⊥
+pub no-variable : (name : List ℕ) (ts : Trees) (n : ℕ) → comp name ts ≡ var n → ⊥
 no-variable name ts n e = absurd cc
 
-no-number : (i : _) (n : ℕ) → int i ≡ var n → ⊥
+pub no-number : (i : _) (n : ℕ) → int i ≡ var n → ⊥
 no-number i n e = absurd cc
 
 item-found : (s : State) (t : Tree) → indexed s (comp array_name (tree t no_trees)) (int (pos 1)) ≡ Ok t
@@ -134,7 +134,7 @@ item-found s t =
     (λ ts. integer_then s (int (pos 1)) (λ n. or_raised (item_at ts n) (bad_index (int (pos 1)) s)))) (followed_other (bindings s) (comp array_name (tree t no_trees)) (no-variable array_name (tree t no_trees)))
     ∙ ap (λ (u : Tree). found_or (integer_at u) (type_error (codes "integer") (int (pos 1)) s) (λ n. or_raised (item_at (t ∷ []) n) (bad_index (int (pos 1)) s))) (followed_other (bindings s) (int (pos 1)) (no-number (pos 1)))
 
-item-called : (set : Setting) (m : Level) (t u : Tree) (s : State) → function_called set m index_name (tree t (tree u no_trees)) s ≡ function_trace (answer_in s (indexed s t u))
+pub item-called : (set : Setting) (m : Level) (t u : Tree) (s : State) → function_called set m index_name (tree t (tree u no_trees)) s ≡ function_trace (answer_in s (indexed s t u))
 unfolding function_called function_given built_in_function done_by reading_functions integer_functions collection_functions sorting_functions index_functions range_functions naming_functions text_functions
 item-called set m t u s = refl
 
@@ -151,7 +151,7 @@ ranges-listed : (is_function (codes "..") 2 ≡ true) × (is_function (codes "..
 unfolding is_function has_line reading_functions integer_functions collection_functions sorting_functions index_functions range_functions naming_functions text_functions
 ranges-listed = (refl, refl)
 
-given-of : (a b : Bool) → a ≡ true → IsTrue (a || b)
+pub given-of : (a b : Bool) → a ≡ true → IsTrue (a || b)
 given-of true b is = refl
 given-of false b is = absurd (false≢true is)
 

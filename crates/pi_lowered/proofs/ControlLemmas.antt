@@ -24,7 +24,7 @@ use Rattle.pi_lowered.specs.Values.{SlotValue}
 use Rattle.pi_lowered.specs.Goals.{SlotGoals, SlotBranches, SlotArrow, in_turn, either_of, just, never, goal_by, catching as slots_catching, joined, choosing as slots_choosing, as_goals, in_front, one_branch, branch_before as slots_branch_before}
 use Rattle.pi_lowered.specs.Forms.{Knows}
 use Rattle.pi_lowered.proofs.SameLemmas.{SameBy, same_end, same-one, same-map, same-alt, same-then, same-first, same-negated, same-chosen, same-caught, same-then_same}
-use Rattle.pi_lowered.proofs.AgreeLemmas.{Grows, grows-none, grows-then, grows-length, Agrees, agrees-more}
+use Rattle.pi_lowered.proofs.AgreeLemmas.{Room, Grows, grows-none, grows-then, grows-length, Agrees, agrees-more}
 use Rattle.pi_lowered.proofs.RunLemmas.{Alike, point, place, AtPlace, at_place, AtValue, at_value, runs, SameGoals, SameLast, place-wider, runs-append, runs-one, not-drained, turn-runs, same-strictly}
 
 abbrev pub Drains : Level → Type 0
@@ -32,21 +32,21 @@ Drains l = (s : State) → (calls_at l).drained s ≡ one s
 
 -- ---- from the place of an answer
 
-pub goals-from : (b : Builtins) (l m : Level) (h : ℕ) (g : Goal) (lowered : SlotNames → SlotGoals) → SameGoals b l m h g lowered → (n : ℕ) (ns : SlotNames) → length (lowered ns).names ≤ n →
+pub goals-from : (b : Builtins) (l m : Level) (h : ℕ) (g : Goal) (lowered : SlotNames → SlotGoals) → SameGoals b l m h g lowered → (n : Room) (ns : SlotNames) → length (lowered ns).names ≤ n.slots →
     (p : Point) (q : Place) → AtPlace l n h ns p q → SameBy (AtPlace l n h (lowered ns).names) (runs b (lowered ns).goals p) (g m q)
 goals-from b l m h g lowered is n ns room _ _ (at_place e slots s a) = is.same n ns e slots s a room
 
-pub turn-same : (b : Builtins) (l m : Level) (h : ℕ) (g : Goal) (lowered : SlotNames → SlotGoals) → Drains l → SameGoals b l m h g lowered → (n : ℕ) (ns : SlotNames) (e : Environment) (slots : Places) (s : State) → Agrees n h ns e slots →
-    length (lowered ns).names ≤ n → SameBy (AtPlace l n h (lowered ns).names) (meaning b (in_turn (lowered ns).goals) (point l slots s)) (g m (place e s))
+pub turn-same : (b : Builtins) (l m : Level) (h : ℕ) (g : Goal) (lowered : SlotNames → SlotGoals) → Drains l → SameGoals b l m h g lowered → (n : Room) (ns : SlotNames) (e : Environment) (slots : Places) (s : State) → Agrees n h ns e slots →
+    length (lowered ns).names ≤ n.slots → SameBy (AtPlace l n h (lowered ns).names) (meaning b (in_turn (lowered ns).goals) (point l slots s)) (g m (place e s))
 turn-same b l m h g lowered drains is n ns e slots s a room =
     subst (λ (t : Trace Point). SameBy (AtPlace l n h (lowered ns).names) t (g m (place e s))) (sym (turn-runs b l drains (lowered ns).goals slots s)) (is.same n ns e slots s a room)
 
-pub turn-from : (b : Builtins) (l m : Level) (h : ℕ) (g : Goal) (lowered : SlotNames → SlotGoals) → Drains l → SameGoals b l m h g lowered → (n : ℕ) (ns : SlotNames) → length (lowered ns).names ≤ n →
+pub turn-from : (b : Builtins) (l m : Level) (h : ℕ) (g : Goal) (lowered : SlotNames → SlotGoals) → Drains l → SameGoals b l m h g lowered → (n : Room) (ns : SlotNames) → length (lowered ns).names ≤ n.slots →
     (p : Point) (q : Place) → AtPlace l n h ns p q → SameBy (AtPlace l n h (lowered ns).names) (meaning b (in_turn (lowered ns).goals) p) (g m q)
 turn-from b l m h g lowered drains is n ns room _ _ (at_place e slots s a) = turn-same b l m h g lowered drains is n ns e slots s a room
 
 -- wider slots
-pub wider : (l : Level) (n h : ℕ) (ns ms : SlotNames) → Grows ns ms → (t : Trace Point) (u : Trace Place) → SameBy (AtPlace l n h ns) t u → SameBy (AtPlace l n h ms) t u
+pub wider : (l : Level) (n : Room) (h : ℕ) (ns ms : SlotNames) → Grows ns ms → (t : Trace Point) (u : Trace Place) → SameBy (AtPlace l n h ns) t u → SameBy (AtPlace l n h ms) t u
 wider l n h ns ms grows t u is = same-map (AtPlace l n h ns) (AtPlace l n h ms) (place-wider l n h ns ms grows) t u is
 
 -- a goal by itself
@@ -119,8 +119,8 @@ chosen-goals known set b l m h test holds other lt lh lo alike t g o = record {
       let ms : SlotNames = (lt ns).names in
       let ks : SlotNames = (lh ms).names in
       let js : SlotNames = (lo ks).names in
-      let room-k : length ks ≤ n = omega (arith, room, grows-length ks js (o.grows ks)) in
-      let room-m : length ms ≤ n = omega (arith, room-k, grows-length ms ks (g.grows ms)) in
+      let room-k : length ks ≤ n.slots = omega (arith, room, grows-length ks js (o.grows ks)) in
+      let room-m : length ms ≤ n.slots = omega (arith, room-k, grows-length ms ks (g.grows ms)) in
       just-same (AtPlace l n h js) b l alike.core_drains (GoalTree.if_else (in_turn (lt ns).goals) (in_turn (lh ms).goals) (in_turn (lo ks).goals))
       (λ p. chosen (strictly (meaning b (in_turn (lt ns).goals)) p) (meaning b (in_turn (lh ms).goals)) (meaning b (in_turn (lo ks).goals) p)) refl slots s _
       (same-chosen (AtPlace l n h ms) (AtPlace l n h js) _ _ _ _ _ _ (same-strictly known set b l m h test lt alike t n ns e slots s a room-m)
@@ -132,7 +132,7 @@ chosen-goals known set b l m h test holds other lt lh lo alike t g o = record {
 
 pub record SameBranches (b : Builtins) (l m : Level) (h : ℕ) (g : Goal) (lowered : SlotNames → SlotBranches) : Type 0 where
   pub grows : (ns : SlotNames) → Grows ns (lowered ns).names
-  pub same : (n : ℕ) (ns : SlotNames) (e : Environment) (slots : Places) (s : State) → Agrees n h ns e slots → length (lowered ns).names ≤ n →
+  pub same : (n : Room) (ns : SlotNames) (e : Environment) (slots : Places) (s : State) → Agrees n h ns e slots → length (lowered ns).names ≤ n.slots →
       SameBy (AtPlace l n h (lowered ns).names) (meaning_of_any b (goals_of (lowered ns).branches) (point l slots s)) (g m (place e s))
 
 pub none-branches : (b : Builtins) (l m : Level) (h : ℕ) → SameBranches b l m h (λ k p. done) (λ ns. record { branches = []; names = ns })
@@ -206,7 +206,7 @@ caught-goals known set b l m h g v handler lg lh lv alike is value handles = rec
   same = λ n ns e slots s a room. whole n ns e slots s a room;
 }
   where
-    behind : (n : ℕ) (ms : SlotNames) (t : Tree) (start : Places) → length (lh (lg ms).names).names ≤ n → (p : Point) (x : Valued) → AtValue l n h ms t start p x →
+    behind : (n : Room) (ms : SlotNames) (t : Tree) (start : Places) → length (lh (lg ms).names).names ≤ n.slots → (p : Point) (x : Valued) → AtValue l n h ms t start p x →
         SameBy (AtPlace l n h (lh (lg ms).names).names) (runs b (GoalTree.catch (in_turn (lg ms).goals) t (in_turn (lh (lg ms).names).goals) ∷ []) p)
         (caught (names_strictly g m (place_of x)) (handling x.state x.tree (λ r. handler m (at_state (place_of x) r))))
     behind n ms t start room _ _ (at_value slots s x c extends) =
@@ -222,11 +222,11 @@ caught-goals known set b l m h g v handler lg lh lv alike is value handles = rec
         (same-handling (AtPlace l n h js) x.state x.tree _ _
         (λ r. turn-same b l m h handler lh alike.core_drains handles n ks x.names c.after r (agrees-more n h ms ks x.names c.after (is.grows ms) c.agrees) room))))
 
-    whole : (n : ℕ) (ns : SlotNames) (e : Environment) (slots : Places) (s : State) → Agrees n h ns e slots → length (lh (lg (lv ns).names).names).names ≤ n →
+    whole : (n : Room) (ns : SlotNames) (e : Environment) (slots : Places) (s : State) → Agrees n h ns e slots → length (lh (lg (lv ns).names).names).names ≤ n.slots →
         SameBy (AtPlace l n h (lh (lg (lv ns).names).names).names) (runs b (slots_catching lg lh (lv ns)).goals (point l slots s)) (catching g v handler m (place e s))
     whole n ns e slots s a room =
         let ms : SlotNames = (lv ns).names in
         let js : SlotNames = (lh (lg ms).names).names in
-        let fits : length ms ≤ n = omega (arith, room, grows-length ms _ (is.grows ms), grows-length (lg ms).names _ (handles.grows (lg ms).names)) in
+        let fits : length ms ≤ n.slots = omega (arith, room, grows-length ms _ (is.grows ms), grows-length (lg ms).names _ (handles.grows (lg ms).names)) in
         subst (λ (t : Trace Point). SameBy (AtPlace l n h js) t (catching g v handler m (place e s))) (sym (runs-append b (lv ns).goals _ (point l slots s)))
         (same-then (AtValue l n h ms (lv ns).tree slots) (AtPlace l n h js) _ _ _ _ (value.same n ns e slots s a fits) (behind n ms (lv ns).tree slots room))

@@ -27,7 +27,7 @@ use Rattle.pi_lowered.specs.Goals.{SlotGoals, in_turn, found_by, all_counted as 
 use Rattle.pi_lowered.specs.Forms.{Knows}
 use Rattle.pi_lowered.proofs.SameLemmas.{SameBy, same-equals, same-one, same-map, same-then, same-collected, same-counted}
 use Rattle.pi_lowered.proofs.FilledLemmas.{in_slot, is_int, Extends, extends-nothing, extends-then, set-keeps}
-use Rattle.pi_lowered.proofs.AgreeLemmas.{by, Grows, grows-none, grows-then, grows-length, Agrees, agrees-more, agrees-value}
+use Rattle.pi_lowered.proofs.AgreeLemmas.{Room, by, Grows, grows-none, grows-then, grows-length, Agrees, agrees-more, agrees-value}
 use Rattle.pi_lowered.proofs.TermLemmas.{Comes, ComesAll, filled-comes-to, nothing-comes, front-comes, structure-comes}
 use Rattle.pi_lowered.proofs.RunLemmas.{Alike, point, place, AtPlace, at_place, AtValue, at_value, at_values, AtFilled, at_filled, runs, SameGoals, SameLast, SameFilled, filled-value, then-of-one, runs-append, not-drained, names-not-drained, turn-runs, same-strictly}
 use Rattle.pi_lowered.proofs.ControlLemmas.{Drains, just-same}
@@ -37,7 +37,7 @@ use Rattle.pi_lowered.proofs.BuiltInLemmas.{first-item-called, item-known}
 -- ---- a value that stands in a slot
 
 -- an array of it, and the number of its item
-pub item-comes : (n h : ℕ) (ms : SlotNames) (t : Tree) (slots : Places) (s : State) (x : Valued) → Comes n h ms t slots s x →
+pub item-comes : (n : Room) (h : ℕ) (ms : SlotNames) (t : Tree) (slots : Places) (s : State) (x : Valued) → Comes n h ms t slots s x →
     ComesAll n h ms (trees_of (first_item t)) slots s (record { trees = tree (Tree.comp array_name (tree x.tree no_trees)) (tree (Tree.int (pos 1)) no_trees); names = x.names; state = x.state })
 item-comes n h ms t slots s x c =
     let inside : ComesAll n h ms (tree t no_trees) slots s (record { trees = tree x.tree no_trees; names = x.names; state = x.state }) =
@@ -49,7 +49,7 @@ item-comes n h ms t slots s x c =
     front-comes n h ms ms _ _ slots s _ _ array (front-comes n h ms ms _ _ array.after x.state _ _ number (nothing-comes n h ms x.names number.after x.state number.agrees))
 
 -- its first item
-item-answer : (known : Knows) (set : Setting) (b : Builtins) (l m : Level) (n h : ℕ) (ms : SlotNames) (t : Tree) (start : Places) → Alike known set b l m → length (with_value ms) ≤ n →
+item-answer : (known : Knows) (set : Setting) (b : Builtins) (l m : Level) (n : Room) (h : ℕ) (ms : SlotNames) (t : Tree) (start : Places) → Alike known set b l m → length (with_value ms) ≤ n.slots →
     (q : Point) (x : Valued) → AtValue l n h ms t start q x → SameBy (AtFilled l n h (with_value ms) (Tree.var (length ms)) start) (runs b (GoalTree.apply index_name (first_item t) (length ms) ∷ []) q) (one x)
 unfolding tree_count
 item-answer known set b l m n h ms t start alike room _ _ (at_value slots s x c extends) =
@@ -68,7 +68,7 @@ slotted-grows goals (Tree.int i) ms = by (unnamed ∷ [])
 slotted-grows goals (Tree.atom name) ms = by (unnamed ∷ [])
 slotted-grows goals (Tree.comp name ts) ms = by (unnamed ∷ [])
 
-item-same : (known : Knows) (set : Setting) (b : Builtins) (l m : Level) (n h : ℕ) (ms : SlotNames) (t : Tree) (start : Places) → Alike known set b l m → length (with_value ms) ≤ n → (goals : List GoalTree) (p : Point) (u : Trace Valued) →
+item-same : (known : Knows) (set : Setting) (b : Builtins) (l m : Level) (n : Room) (h : ℕ) (ms : SlotNames) (t : Tree) (start : Places) → Alike known set b l m → length (with_value ms) ≤ n.slots → (goals : List GoalTree) (p : Point) (u : Trace Valued) →
     SameBy (AtValue l n h ms t start) (runs b goals p) u → SameBy (AtValue l n h (with_value ms) (Tree.var (length ms)) start) (runs b (goals ++ GoalTree.apply index_name (first_item t) (length ms) ∷ []) p) u
 item-same known set b l m n h ms t start alike room goals p u is =
     subst (λ (w : Trace Point). SameBy (AtValue l n h (with_value ms) (Tree.var (length ms)) start) w u) (sym (runs-append b goals _ p))
@@ -77,7 +77,7 @@ item-same known set b l m n h ms t start alike room goals p u is =
     (λ q x at. same-map (AtFilled l n h (with_value ms) (Tree.var (length ms)) start) (AtValue l n h (with_value ms) (Tree.var (length ms)) start) (filled-value l n h (with_value ms) (Tree.var (length ms)) start) _ _
     (item-answer known set b l m n h ms t start alike room q x at))))
 
-slotted-same : (known : Knows) (set : Setting) (b : Builtins) (l m : Level) (n h : ℕ) (ms : SlotNames) (t : Tree) (start : Places) → Alike known set b l m → (goals : List GoalTree) → length (slotted goals t ms).names ≤ n → (p : Point) (u : Trace Valued) →
+slotted-same : (known : Knows) (set : Setting) (b : Builtins) (l m : Level) (n : Room) (h : ℕ) (ms : SlotNames) (t : Tree) (start : Places) → Alike known set b l m → (goals : List GoalTree) → length (slotted goals t ms).names ≤ n.slots → (p : Point) (u : Trace Valued) →
     SameBy (AtValue l n h ms t start) (runs b goals p) u → SameBy (AtValue l n h (slotted goals t ms).names (Tree.var (slotted goals t ms).place) start) (runs b (slotted goals t ms).goals p) u
 slotted-same known set b l m n h ms (Tree.var k) start alike goals room p u is = is
 slotted-same known set b l m n h ms (Tree.int i) start alike goals room p u is = item-same known set b l m n h ms (Tree.int i) start alike room goals p u is
@@ -94,10 +94,10 @@ slotted-last known set b l m h v lv alike is = record {
 
 -- ---- the expression behind each answer, where nothing says what stayed in slots
 
-value-wider : (l : Level) (n h : ℕ) (ns : SlotNames) (t : Tree) (start first : Places) → Extends first start → (p : Point) (x : Valued) → AtValue l n h ns t start p x → AtValue l n h ns t first p x
+value-wider : (l : Level) (n : Room) (h : ℕ) (ns : SlotNames) (t : Tree) (start first : Places) → Extends first start → (p : Point) (x : Valued) → AtValue l n h ns t start p x → AtValue l n h ns t first p x
 value-wider l n h ns t start first more _ _ (at_value slots s x c extends) = at_value slots s x c (extends-then first start slots more extends)
 
-pub value-from : (b : Builtins) (l m : Level) (h : ℕ) (v : Value) (lv : SlotNames → SlotValue) → SameLast b l m h v lv → (n : ℕ) (ns : SlotNames) → length (lv ns).names ≤ n → (p : Point) (q : Place) → AtPlace l n h ns p q →
+pub value-from : (b : Builtins) (l m : Level) (h : ℕ) (v : Value) (lv : SlotNames → SlotValue) → SameLast b l m h v lv → (n : Room) (ns : SlotNames) → length (lv ns).names ≤ n.slots → (p : Point) (q : Place) → AtPlace l n h ns p q →
     SameBy (AtValue l n h (lv ns).names (lv ns).tree []) (runs b (lv ns).goals p) (v m q)
 value-from b l m h v lv is n ns room _ _ (at_place e slots s a) =
     same-map (AtValue l n h (lv ns).names (lv ns).tree slots) (AtValue l n h (lv ns).names (lv ns).tree []) (value-wider l n h (lv ns).names (lv ns).tree slots [] (extends-nothing slots)) _ _ (is.same n ns e slots s a room)
@@ -107,7 +107,7 @@ unfolding names_strictly
 names-strict g m drains p = ap (then (g m p)) (λ i q. names-not-drained (λ k r. one r) m q drains i) ∙ then-one (g m p)
 
 -- each answer counts, since nothing waits
-pub strict-left : (l : Level) (n h : ℕ) (ns : SlotNames) (t : Tree) (start : Places) → Drains l → (w : Trace Point) (u : Trace Valued) → SameBy (AtValue l n h ns t start) w u → SameBy (AtValue l n h ns t start) (then w (draining (λ r. one r))) u
+pub strict-left : (l : Level) (n : Room) (h : ℕ) (ns : SlotNames) (t : Tree) (start : Places) → Drains l → (w : Trace Point) (u : Trace Valued) → SameBy (AtValue l n h ns t start) w u → SameBy (AtValue l n h ns t start) (then w (draining (λ r. one r))) u
 strict-left l n h ns t start drains w u is =
     subst (λ (x : Trace Valued). SameBy (AtValue l n h ns t start) (then w (draining (λ r. one r))) x) (then-one u)
     (same-then (AtValue l n h ns t start) (AtValue l n h ns t start) w u (draining (λ r. one r)) (λ x. one x) is answer)
@@ -117,7 +117,7 @@ strict-left l n h ns t start drains w u is =
         subst (λ (y : Trace Point). SameBy (AtValue l n h ns t start) y (one x)) (sym (not-drained (λ r. one r) (point l slots s) drains)) (same-one (AtValue l n h ns t start) _ _ (at_value slots s x c extends))
 
 pub values-behind : (known : Knows) (set : Setting) (b : Builtins) (l m : Level) (h : ℕ) (g : Goal) (v : Value) (lg : SlotNames → SlotGoals) (lv : SlotNames → SlotValue) → Alike known set b l m → SameGoals b l m h g lg → SameLast b l m h v lv →
-    (n : ℕ) (ns : SlotNames) (e : Environment) (slots : Places) (s : State) → Agrees n h ns e slots → length (lv (lg ns).names).names ≤ n →
+    (n : Room) (ns : SlotNames) (e : Environment) (slots : Places) (s : State) → Agrees n h ns e slots → length (lv (lg ns).names).names ≤ n.slots →
     SameBy (AtValue l n h (lv (lg ns).names).names (lv (lg ns).names).tree []) (strictly (meaning b (in_turn ((lg ns).goals ++ (lv (lg ns).names).goals))) (point l slots s)) (then (names_strictly g m (place e s)) (v m))
 unfolding strictly
 values-behind known set b l m h g v lg lv alike is value n ns e slots s a room =
@@ -128,13 +128,13 @@ values-behind known set b l m h g v lg lv alike is value n ns e slots s a room =
     (subst (λ (u : Trace Place). SameBy R (then (runs b (lg ns).goals (point l slots s)) (runs b (lv ms).goals)) (then u (v m))) (sym (names-strict g m alike.names_drain (place e s)))
     (same-then (AtPlace l n h ms) R _ _ (runs b (lv ms).goals) (v m) (is.same n ns e slots s a (omega (arith, room, grows-length ms _ (value.grows ms)))) (value-from b l m h v lv value n ms room))))
 
-copied : (l : Level) (n h : ℕ) (ns : SlotNames) (k : ℕ) (start : Places) (p : Point) (x : Valued) → AtValue l n h ns (Tree.var k) start p x →
+copied : (l : Level) (n : Room) (h : ℕ) (ns : SlotNames) (k : ℕ) (start : Places) (p : Point) (x : Valued) → AtValue l n h ns (Tree.var k) start p x →
     SameBy Same (copyable (slot_value k p.slots p.state)) (copyable (value (bindings x.state) x.tree))
 copied l n h ns k start _ _ (at_value slots s x c extends) =
     same-equals _ _ (ap (λ (y : Evaluated). copyable (value (bindings y.state) y.tree)) c.comes)
 
 -- a value in the next slot
-next-filled : (l : Level) (n h : ℕ) (ns ms : SlotNames) (e : Environment) (slots : Places) (s : State) (t : Tree) → Agrees n h ns e slots → Grows ns ms → length (with_value ms) ≤ n →
+next-filled : (l : Level) (n : Room) (h : ℕ) (ns ms : SlotNames) (e : Environment) (slots : Places) (s : State) (t : Tree) → Agrees n h ns e slots → Grows ns ms → length (with_value ms) ≤ n.slots →
     AtFilled l n h (with_value ms) (Tree.var (length ms)) slots (point l (slice_set slots (length ms) (Some t)) s) (record { tree = t; names = e; state = s })
 next-filled l n h ns ms e slots s t a grows room =
     let wide : Agrees n h ms e slots = agrees-more n h ns ms e slots grows a in

@@ -26,7 +26,7 @@ use Rattle.pi_names.specs.Heads.{Matching, compound_matched, one_before, no_more
 use Rattle.pi_lowered.specs.Slots.{SlotNames, slot_known, slot_or_next, slots_with, slot_for, slots_for}
 use Rattle.pi_lowered.specs.Values.{cells_onto, exact_term, slot_pattern, slot_patterns}
 use Rattle.pi_lowered.specs.Forms.{IsPattern, ArePatterns}
-use Rattle.pi_lowered.proofs.AgreeLemmas.{Grows, grows-none, grows-then, grows-length, grows-for, Agrees, agrees-known, set-other}
+use Rattle.pi_lowered.proofs.AgreeLemmas.{Room, Grows, grows-none, grows-then, grows-length, grows-for, Agrees, agrees-known, set-other}
 use Rattle.pi_lowered.proofs.NewNameLemmas.{new-empty, agrees-new}
 use Rattle.pi_lowered.proofs.TermLemmas.{name-room}
 
@@ -44,31 +44,31 @@ text_turned a b = same_from_decides (bytes_eq a b) (bytes_eq b a) (bytes_eq-Deci
     turned d = (λ h. sym (d.0 h), λ e. d.1 (sym e))
 
 -- all slots so far are filled
-abbrev pub AllFirm : ℕ → SlotNames → Environment → Places → Type 0
+abbrev pub AllFirm : Room → SlotNames → Environment → Places → Type 0
 AllFirm n ns e slots = Agrees n (length ns) ns e slots
 
 -- both match, or neither
-pub data Both (n : ℕ) (ns : SlotNames) : Option Places → Option Environment → Type 0 where
+pub data Both (n : Room) (ns : SlotNames) : Option Places → Option Environment → Type 0 where
   neither : Both n ns None None
   both_match : (e : Environment) (slots : Places) → AllFirm n ns e slots → Both n ns (Some slots) (Some e)
 
-both-by : (b : Bool) (n : ℕ) (ns : SlotNames) (o : Option Places) (p : Option Environment) → Both n ns o p → Both n ns (cond b o None) (cond b p None)
+both-by : (b : Bool) (n : Room) (ns : SlotNames) (o : Option Places) (p : Option Environment) → Both n ns o p → Both n ns (cond b o None) (cond b p None)
 both-by true n ns o p is = is
 both-by false n ns o p is = neither
 
 -- what follows where both match
-both-then : (n : ℕ) (ns ms : SlotNames) (f : Places → Option Places) (g : Environment → Option Environment) → ((e : Environment) (slots : Places) → AllFirm n ns e slots → Both n ms (f slots) (g e)) →
+both-then : (n : Room) (ns ms : SlotNames) (f : Places → Option Places) (g : Environment → Option Environment) → ((e : Environment) (slots : Places) → AllFirm n ns e slots → Both n ms (f slots) (g e)) →
     (o : Option Places) (p : Option Environment) → Both n ns o p → Both n ms (option_and_then f o) (option_and_then g p)
 both-then n ns ms f g each _ _ neither = neither
 both-then n ns ms f g each _ _ (both_match e slots a) = each e slots a
 
 -- ---- a name
 
-firm-new : (n : ℕ) (ns : SlotNames) (e : Environment) (slots : Places) → AllFirm n ns e slots → (name : List ℕ) (t : Tree) → known name e ≡ None → slot_for name ns < n →
+firm-new : (n : Room) (ns : SlotNames) (e : Environment) (slots : Places) → AllFirm n ns e slots → (name : List ℕ) (t : Tree) → known name e ≡ None → slot_for name ns < n.slots →
     AllFirm n (slots_for name ns) (with_name e name t) (slice_set slots (slot_for name ns) (Some t))
 firm-new n ns e slots a name t new room =
     let r : Agrees n (length ns) (slots_for name ns) (with_name e name t) (slice_set slots (slot_for name ns) (Some t)) = agrees-new n (length ns) ns e slots a name t new room in
-    record { long = r.long; names = r.names; empty = r.empty; firm = λ k less. firm k less (cases_eq k (slot_for name ns)) }
+    record { long = r.long; names = r.names; empty = r.empty; fixed = r.fixed; firm = λ k less. firm k less (cases_eq k (slot_for name ns)) }
   where
     fits : slot_for name ns < length slots
     fits = subst (λ (m : ℕ). slot_for name ns < m) (sym a.long) room
@@ -95,7 +95,7 @@ firm-new n ns e slots a name t new room =
     firm k less (inr apart) =
         subst (λ (o : Option Tree). IsSome o) (sym (set-other slots (slot_for name ns) (Some t) k apart)) (a.firm k (below k less apart (slot_known name ns) refl))
 
-pub name-both : (b : Bindings) (n : ℕ) (ns : SlotNames) (e : Environment) (slots : Places) → AllFirm n ns e slots → (name : List ℕ) (t : Tree) → length (slots_for name ns) ≤ n →
+pub name-both : (b : Bindings) (n : Room) (ns : SlotNames) (e : Environment) (slots : Places) → AllFirm n ns e slots → (name : List ℕ) (t : Tree) → length (slots_for name ns) ≤ n.slots →
     Both n (slots_for name ns) (filled_in b (slot_for name ns) t slots) (name_matched b (known name e) name t e)
 name-both b n ns e slots a name t room = go (known name e) refl
   where
@@ -103,7 +103,7 @@ name-both b n ns e slots a name t room = go (known name e) refl
     k = slot_for name ns
 
     fits : nat_lt k (length slots) ≡ true
-    fits = (Decides-ltb k (length slots)).1 (subst (λ (m : ℕ). k < m) (sym a.long) (name-room name ns n room))
+    fits = (Decides-ltb k (length slots)).1 (subst (λ (m : ℕ). k < m) (sym a.long) (name-room name ns n.slots room))
 
     -- a name that is known has a slot
     at : (u : Tree) (o : Option ℕ) → option_and_then (held slots) o ≡ Some u → (held slots (slot_or_next o ns) ≡ Some u) × (slots_with o name ns ≡ ns)
@@ -119,7 +119,7 @@ name-both b n ns e slots a name t room = go (known name e) refl
     go None is =
         subst (λ (o : Option Tree). Both n (slots_for name ns) (taken_in b o slots k t) (Some (with_name e name t))) (sym (new-empty n (length ns) ns e slots a name is))
         (subst (λ (o : Option Places). Both n (slots_for name ns) o (Some (with_name e name t))) (sym (cond-true (nat_lt k (length slots)) (Some (slice_set slots k (Some t))) None fits))
-        (both_match (with_name e name t) (slice_set slots k (Some t)) (firm-new n ns e slots a name t is (name-room name ns n room))))
+        (both_match (with_name e name t) (slice_set slots k (Some t)) (firm-new n ns e slots a name t is (name-room name ns n.slots room))))
 
 -- ---- slots are only added
 
@@ -147,25 +147,25 @@ mutual
 -- ---- structures
 
 -- what a pattern, and what several, match at a place of the text
-abbrev Matches : Bindings → ℕ → SlotNames → SlotNames → PatternTree → Matching → Type 0
+abbrev Matches : Bindings → Room → SlotNames → SlotNames → PatternTree → Matching → Type 0
 Matches b n ns ms p m = (e : Environment) (slots : Places) → AllFirm n ns e slots → (t : Tree) → Both n ms (matched_in b p t slots) (m t e)
 
-abbrev MatchAll : Bindings → ℕ → SlotNames → SlotNames → PatternTrees → (Trees → Environment → Option Environment) → Type 0
+abbrev MatchAll : Bindings → Room → SlotNames → SlotNames → PatternTrees → (Trees → Environment → Option Environment) → Type 0
 MatchAll b n ns ms ps m = (e : Environment) (slots : Places) → AllFirm n ns e slots → (ts : Trees) → Both n ms (matched_all_in b ps ts slots) (m ts e)
 
-none-match : (b : Bindings) (n : ℕ) (ns : SlotNames) → MatchAll b n ns ns no_patterns no_more
+none-match : (b : Bindings) (n : Room) (ns : SlotNames) → MatchAll b n ns ns no_patterns no_more
 unfolding matched_in
 none-match b n ns e slots a no_trees = both_match e slots a
 none-match b n ns e slots a (tree t ts) = neither
 
-front-match : (b : Bindings) (n : ℕ) (ns ms ks : SlotNames) (p : PatternTree) (ps : PatternTrees) (m : Matching) (ms' : Trees → Environment → Option Environment) → Matches b n ns ms p m → MatchAll b n ms ks ps ms' →
+front-match : (b : Bindings) (n : Room) (ns ms ks : SlotNames) (p : PatternTree) (ps : PatternTrees) (m : Matching) (ms' : Trees → Environment → Option Environment) → Matches b n ns ms p m → MatchAll b n ms ks ps ms' →
     MatchAll b n ns ks (pattern p ps) (one_before m ms')
 unfolding matched_in
 front-match b n ns ms ks p ps m ms' first rest e slots a no_trees = neither
 front-match b n ns ms ks p ps m ms' first rest e slots a (tree t ts) =
     both-then n ms ks (matched_all_in b ps ts) (ms' ts) (λ e' slots' a'. rest e' slots' a' ts) _ _ (first e slots a t)
 
-structure-match : (b : Bindings) (n : ℕ) (ns ms : SlotNames) (name : List ℕ) (ps : PatternTrees) (m : Trees → Environment → Option Environment) → MatchAll b n ns ms ps m →
+structure-match : (b : Bindings) (n : Room) (ns ms : SlotNames) (name : List ℕ) (ps : PatternTrees) (m : Trees → Environment → Option Environment) → MatchAll b n ns ms ps m →
     Matches b n ns ms (compound name ps) (λ t e. compound_matched name m (followed b t) e)
 unfolding matched_in
 structure-match b n ns ms name ps m all e slots a t = go (followed b t)
@@ -186,15 +186,15 @@ nothing-behind : (f : Places → Option Places) (o : Option Places) → option_a
 nothing-behind f None = refl
 nothing-behind f (Some s) = nothing-then (f s)
 
-neither-by : (c : Bool) (n : ℕ) (ns : SlotNames) (o : Option Places) → o ≡ None → Both n ns (cond c o None) None
+neither-by : (c : Bool) (n : Room) (ns : SlotNames) (o : Option Places) → o ≡ None → Both n ns (cond c o None) None
 neither-by true n ns o is = subst (λ (x : Option Places). Both n ns x None) (sym is) neither
 neither-by false n ns o is = neither
 
-last-match : (n : ℕ) (ns : SlotNames) (o : Option Places) (p : Option Environment) → Both n ns o p → Both n ns (option_and_then (λ s. Some s) o) p
+last-match : (n : Room) (ns : SlotNames) (o : Option Places) (p : Option Environment) → Both n ns o p → Both n ns (option_and_then (λ s. Some s) o) p
 last-match n ns _ _ neither = neither
 last-match n ns _ _ (both_match e slots a) = both_match e slots a
 
-cell-match : (b : Bindings) (n : ℕ) (ns ms ks : SlotNames) (p q : PatternTree) (m r : Matching) → Matches b n ns ms p m → Matches b n ms ks q r →
+cell-match : (b : Bindings) (n : Room) (ns ms ks : SlotNames) (p q : PatternTree) (m r : Matching) → Matches b n ns ms p m → Matches b n ms ks q r →
     Matches b n ns ks (compound cell_name (pattern p (pattern q no_patterns))) (λ t e. cell_matched m r (cell_parts (followed b t)) e)
 unfolding matched_in
 cell-match b n ns ms ks p q m r first rest e slots a t = go (followed b t)
@@ -217,12 +217,12 @@ cell-match b n ns ms ks p q m r first rest e slots a t = go (followed b t)
 
 -- ---- texts
 
-atom-match : (b : Bindings) (n : ℕ) (ns : SlotNames) (name : List ℕ) → Matches b n ns ns (exact_atom name) (atom_matched b name)
+atom-match : (b : Bindings) (n : Room) (ns : SlotNames) (name : List ℕ) → Matches b n ns ns (exact_atom name) (atom_matched b name)
 unfolding matched_in
 atom-match b n ns name = λ e slots a t. both-by (identical (Tree.atom name) (followed b t)) n ns (Some slots) (Some e) (both_match e slots a)
 
 -- the list of a text's characters, cell by cell
-text-match : (b : Bindings) (n : ℕ) (ns : SlotNames) (cs : List ℕ) → Matches b n ns ns (exact_term (list_of (map (λ c. Tree.atom (encode_utf8 c)) cs))) (characters_matched b cs)
+text-match : (b : Bindings) (n : Room) (ns : SlotNames) (cs : List ℕ) → Matches b n ns ns (exact_term (list_of (map (λ c. Tree.atom (encode_utf8 c)) cs))) (characters_matched b cs)
 unfolding exact_term list_before characters_matched
 text-match b n ns [] = atom-match b n ns nil
 text-match b n ns (c ∷ cs) =
@@ -233,7 +233,7 @@ text-match b n ns (c ∷ cs) =
 mutual
   unfolding slot_pattern pattern_matched matched_in IsPattern cells_onto
 
-  pub pattern-match : (b : Bindings) (n : ℕ) (p : ExpTree) → IsPattern p → (ns : SlotNames) → length (slot_pattern p ns).names ≤ n → Matches b n ns (slot_pattern p ns).names (slot_pattern p ns).form (pattern_matched b p)
+  pub pattern-match : (b : Bindings) (n : Room) (p : ExpTree) → IsPattern p → (ns : SlotNames) → length (slot_pattern p ns).names ≤ n.slots → Matches b n ns (slot_pattern p ns).names (slot_pattern p ns).form (pattern_matched b p)
   pattern-match b n (var name) is ns room = λ e slots a t. name-both b n ns e slots a name t room
   pattern-match b n (int k) is ns room = λ e slots a t. both-by (identical (Tree.int k) (followed b t)) n ns (Some slots) (Some e) (both_match e slots a)
   pattern-match b n (atom name) is ns room = atom-match b n ns name
@@ -258,7 +258,7 @@ mutual
       let ms : SlotNames = (slot_pattern first ns).names in
       let ks : SlotNames = (slot_pattern step ms).names in
       let js : SlotNames = (slot_pattern last ks).names in
-      let room-k : length ks ≤ n = omega (arith, room, grows-length ks js (pattern-grows last ks)) in
+      let room-k : length ks ≤ n.slots = omega (arith, room, grows-length ks js (pattern-grows last ks)) in
       let f : PatternTree = (slot_pattern first ns).form in
       let g : PatternTree = (slot_pattern step ms).form in
       let i : PatternTree = (slot_pattern last ks).form in
@@ -274,13 +274,13 @@ mutual
       (name-both b n ns e slots a name t (omega (arith, room, grows-length ms ks (pattern-grows p ms))))
   pattern-match b n p is ns room = λ e slots a t. absurd is
 
-  pub patterns-match : (b : Bindings) (n : ℕ) (ps : ExpTrees) → ArePatterns ps → (ns : SlotNames) → length (slot_patterns ps ns).names ≤ n → MatchAll b n ns (slot_patterns ps ns).names (slot_patterns ps ns).forms (patterns_matched b ps)
+  pub patterns-match : (b : Bindings) (n : Room) (ps : ExpTrees) → ArePatterns ps → (ns : SlotNames) → length (slot_patterns ps ns).names ≤ n.slots → MatchAll b n ns (slot_patterns ps ns).names (slot_patterns ps ns).forms (patterns_matched b ps)
   patterns-match b n no_exps is ns room = none-match b n ns
   patterns-match b n (exp p ps) is ns room =
       let ms : SlotNames = (slot_pattern p ns).names in
       front-match b n ns ms (slot_patterns ps ms).names (slot_pattern p ns).form (slot_patterns ps ms).forms (pattern_matched b p) (patterns_matched b ps) (pattern-match b n p is.0 ns (omega (arith, room, grows-length ms _ (patterns-grow ps ms)))) (patterns-match b n ps is.1 ms room)
 
-  items-match : (b : Bindings) (n : ℕ) (ps : ExpTrees) → ArePatterns ps → (ns ks : SlotNames) (rest : PatternTree) (r : Matching) → length (slot_patterns ps ns).names ≤ n → Matches b n (slot_patterns ps ns).names ks rest r →
+  items-match : (b : Bindings) (n : Room) (ps : ExpTrees) → ArePatterns ps → (ns ks : SlotNames) (rest : PatternTree) (r : Matching) → length (slot_patterns ps ns).names ≤ n.slots → Matches b n (slot_patterns ps ns).names ks rest r →
       Matches b n ns ks (cells_onto (slot_patterns ps ns).forms rest) (items_matched b ps r)
   items-match b n no_exps is ns ks rest r room last = last
   items-match b n (exp p ps) is ns ks rest r room last =

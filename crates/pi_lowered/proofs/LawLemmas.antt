@@ -38,7 +38,7 @@ use Rattle.pi_lowered.specs.Within.{is_some_function, IsPart, IsWithin, IsAsked}
 use Rattle.pi_lowered.specs.Clauses.{pred_with, HasClauses}
 use Rattle.pi_lowered.specs.Laws.{known_of, DefinesTheSame, CallsTheSame, IsLoweredProgram, query_from, MeansTheSame, RunsTheSame, IsLowered, ProgramsHaveCorePrograms, GoalsHaveQueries}
 use Rattle.pi_lowered.proofs.SameLemmas.{same-then, same-equal}
-use Rattle.pi_lowered.proofs.AgreeLemmas.{grows-length}
+use Rattle.pi_lowered.proofs.AgreeLemmas.{Room, free_room, grows-length}
 use Rattle.pi_lowered.proofs.NewNameLemmas.{agrees-nothing}
 use Rattle.pi_lowered.proofs.RunLemmas.{Alike, point, AtPlace, same-strictly}
 use Rattle.pi_lowered.proofs.GoalLemmas.{goal-same}
@@ -70,7 +70,7 @@ calls-the-same program preds parts has v later goes d =
     (depths-same (known_of program) (setting v later program) (whole v later.calls preds) (prelude ++ program) preds
     (record {
       parts = parts;
-      clauses = has;
+      clauses = record { predicates = λ name k there. has.predicates name k; functions = λ name k there. has.functions name k };
       is_known = refl;
       alike = λ l m same core names. alike-levels (known_of program) v later.calls preds (λ name k. is_some_head (heads_named name k (prelude ++ program))) goes (λ name k. refl) (defines-the-same program preds parts has).predicates l m same core names;
     }) d).levels
@@ -107,7 +107,7 @@ unfolding lowered_query names_from
 goal-means program goal preds defines asked v later goes d same s =
     same-equal _ _ (same-then (TellSame told ns) Same _ _ (λ x. one (solution_told (named_slots told ns) x)) (λ p. one (place_told told p))
     (same-then (AtPlace l n 0 ns) (TellSame told ns) _ _ (answered_with (named_slots told ns)) (telling told)
-    (same-strictly (known_of program) set b l m 0 (goal_of set [] goal) (over_slots.goal_of 0 goal) alike (goal-same (known_of program) set b l m 0 alike [] goal asked) n [] [] (replicate n None) s (agrees-nothing n) fits)
+    (same-strictly (known_of program) set b l m 0 (goal_of set [] goal) (over_slots.goal_of 0 goal) alike (goal-same (known_of program) set b l m 0 alike [] goal asked) n [] [] (replicate n.slots None) s (agrees-nothing n.slots) fits)
     (answered-same told l n 0 ns (omega arith))) (told-one told ns))
   where
     set : Setting
@@ -131,10 +131,10 @@ goal-means program goal preds defines asked v later goes d same s =
     ns : SlotNames
     ns = (over_slots.goal_of 0 goal []).names
 
-    n : ℕ
-    n = length (slots_behind told ns)
+    n : Room
+    n = free_room (length (slots_behind told ns))
 
-    fits : length ns ≤ n
+    fits : length ns ≤ n.slots
     fits = grows-length ns _ (behind-grows told ns)
 
 pub query-at : (program : ProgramTree) (goal : ExpTree) (preds : List PredTree) → DefinesTheSame program preds → IsAsked program goal → (v : View) (later : LaterStages) → GoesByCalls (known_of program) later.calls → (d : ℕ) → LevelsSame program preds v later d →

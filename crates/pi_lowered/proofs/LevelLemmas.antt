@@ -8,7 +8,7 @@ use Rattle.pi_states.specs.State.{State}
 use Rattle.pi_syntax.specs.ExpTree.{ExpTree}
 use Rattle.pi_syntax.specs.ProgramTree.{RuleTree, FunctionTree, WrittenClause, rule, function, fact, ProgramTree}
 use Rattle.pi_syntax.specs.declared.program.Mode.{Mode}
-use Rattle.pi_core.specs.CoreTree.{PredTree}
+use Rattle.pi_core.specs.CoreTree.{PredTree, find_pred}
 use Rattle.pi_traces.specs.Trace.{Trace, note, Tick, one}
 use Rattle.pi_traces.specs.Control.{chosen}
 use Rattle.pi_meaning.specs.Drain.{drained}
@@ -25,7 +25,7 @@ use Rattle.pi_lowered.specs.Lowered.{lowered_rule, lowered_function}
 use Rattle.pi_lowered.specs.Forms.{Knows}
 use Rattle.pi_lowered.specs.Levels.{SameCalls, SameLevels}
 use Rattle.pi_lowered.specs.Within.{is_some_function, knows, IsRule, IsFunction, IsClause, IsPart}
-use Rattle.pi_lowered.specs.Clauses.{pred_with, HasClauses}
+use Rattle.pi_lowered.specs.Clauses.{pred_with}
 use Rattle.pi_lowered.proofs.RunLemmas.{Alike}
 use Rattle.pi_lowered.proofs.RuleLemmas.{EachRule, rules-same, EachFunction, functions-same}
 
@@ -101,10 +101,15 @@ ticked-same : {A : Type 0} (known : Knows) (below above : Option Level) (f g : L
 ticked-same known _ _ f g both_lowest each = refl
 ticked-same known _ _ f g (both_over l m same core names) each = ap (note Tick) (each l m same core names)
 
+-- A core program has the lowered clauses of each predicate and function of a program. What else it has, as the helpers of loops, is no matter.
+pub record HasKnown (known : Knows) (program : ProgramTree) (preds : List PredTree) : Type 0 where
+  pub predicates : (name : List ℕ) (k : ℕ) → IsTrue (known.predicate name k) → find_pred false name k preds ≡ pred_with false name k (map lowered_rule (rules_named name k program))
+  pub functions : (name : List ℕ) (k : ℕ) → IsTrue (known.function name k) → find_pred true name k preds ≡ pred_with true name k (map lowered_function (functions_named name k program))
+
 -- what is fixed: a program, its core program, and what they are handed
 pub record Fixed (known : Knows) (set : RulesSetting) (b : Builtins) (program : ProgramTree) (preds : List PredTree) : Type 0 where
   pub parts : Parts known program
-  pub clauses : HasClauses program preds
+  pub clauses : HasKnown known program preds
   pub is_known : known ≡ knows program
   pub alike : (l m : Level) → SameLevels known l m → ((s : State) → (calls_at l).drained s ≡ one s) → ((s : State) → (calls_at m).drained s ≡ one s) → Alike known set.calls b l m
 
@@ -137,11 +142,11 @@ calls-known : (known : Knows) (set : RulesSetting) (b : Builtins) (program : Pro
 unfolding calls_of calls_by
 calls-known known set b program preds fixed inner below above ordered = record {
   called = λ name ts s there.
-      ap (λ (o : Option PredTree). call_run b inner below o ts s) (fixed.clauses.predicates name (tree_count ts))
+      ap (λ (o : Option PredTree). call_run b inner below o ts s) (fixed.clauses.predicates name (tree_count ts) there)
       ∙ rules-run known set b program preds fixed inner below above ordered name ts s (rules_named name (tree_count ts) program) refl
       (sym (heads-rules known name (tree_count ts) program fixed.parts) ∙ subst (λ (x : Knows). IsTrue (x.predicate name (tree_count ts))) fixed.is_known there);
   applied = λ name ts s there.
-      ap (λ (o : Option PredTree). application_run b inner below o ts s) (fixed.clauses.functions name (tree_count ts))
+      ap (λ (o : Option PredTree). application_run b inner below o ts s) (fixed.clauses.functions name (tree_count ts) there)
       ∙ functions-run known set b program preds fixed inner below above ordered name ts s (functions_named name (tree_count ts) program) refl
       (subst (λ (x : Knows). IsTrue (x.function name (tree_count ts))) fixed.is_known there);
   drained = λ s. refl;
@@ -154,7 +159,7 @@ pub record SameDepths (known : Knows) (l m : Level) : Type 0 where
   pub core : (s : State) → (calls_at l).drained s ≡ one s
   pub names : (s : State) → (calls_at m).drained s ≡ one s
 
-quiet-same : (known : Knows) (set : RulesSetting) (b : Builtins) (program : ProgramTree) (preds : List PredTree) → Fixed known set b program preds → (below above : Option Level) → Ordered known below above → (k : ℕ) →
+pub quiet-same : (known : Knows) (set : RulesSetting) (b : Builtins) (program : ProgramTree) (preds : List PredTree) → Fixed known set b program preds → (below above : Option Level) → Ordered known below above → (k : ℕ) →
     SameDepths known (quiet_level b preds below k) (level_of (calls_by set program above) above)
 unfolding quiet_level SameLevels calls_of calls_by drained
 quiet-same known set b program preds fixed _ _ both_lowest zero =

@@ -34,7 +34,7 @@ use Rattle.pi_lowered.specs.Forms.{Knows, IsTerm, AreTerms}
 use Rattle.pi_lowered.specs.Loops.{as_it_is, closing, as_written, started, kept_goals}
 use Rattle.pi_lowered.proofs.SameLemmas.{SameBy, same-one, same-then}
 use Rattle.pi_lowered.proofs.FilledLemmas.{in_slot, is_int, is_comp, one_filled, none_filled, all-filled-comes}
-use Rattle.pi_lowered.proofs.AgreeLemmas.{Agrees, set-other, agrees-assigned}
+use Rattle.pi_lowered.proofs.AgreeLemmas.{Room, Grows, Agrees, set-other, agrees-assigned}
 use Rattle.pi_lowered.proofs.RunLemmas.{Alike, point, place, AtPlace, at_place, AtFilled, at_filled, runs, SameFilled, then-of-one, runs-one, not-drained}
 use Rattle.pi_lowered.proofs.BuiltInLemmas.{equals-called, equals-known, first-item-called, item-known}
 use Rattle.pi_lowered.proofs.TouchLemmas.{flat-filled}
@@ -92,9 +92,12 @@ array-comes set m before names p =
     ap (λ (t : Trace ValuedAll). then t (λ all. one (record { tree = comp array_name all.trees; names = all.names; state = all.state }))) (names-come set m before names p)
     ∙ then-of-one (written_values names p) (λ all. one (record { tree = comp array_name all.trees; names = all.names; state = all.state }))
 
+pub started-grows : (known : Knows) (set : Setting) (b : Builtins) (l m : Level) (h : ℕ) → Alike known set b l m → (before : Names) (ns : SlotNames) → Grows ns (started h before ns).names
+started-grows known set b l m h alike before ns = (flat-filled known set b l m h before (array (as_written before)) alike (array-is-term before) (array-is-flat before)).grows ns
+
 -- All of them are there when the loop starts.
-pub started-same : (known : Knows) (set : Setting) (b : Builtins) (l m : Level) (h : ℕ) → Alike known set b l m → (before : Names) (n : ℕ) (ns : SlotNames) (e : Environment) (slots : Places) (s : State) → Agrees n h ns e slots →
-    length (started h before ns).names ≤ n → SameBy (AtPlace l n h (started h before ns).names) (runs b (started h before ns).goals (point l slots s)) (one (with_names before (place e s)))
+pub started-same : (known : Knows) (set : Setting) (b : Builtins) (l m : Level) (h : ℕ) → Alike known set b l m → (before : Names) (n : Room) (ns : SlotNames) (e : Environment) (slots : Places) (s : State) → Agrees n h ns e slots →
+    length (started h before ns).names ≤ n.slots → SameBy (AtPlace l n h (started h before ns).names) (runs b (started h before ns).goals (point l slots s)) (one (with_names before (place e s)))
 started-same known set b l m h alike before n ns e slots s a room =
     subst (λ (t : Trace Point). SameBy R t (one (with_names before (place e s)))) (then-one (runs b (started h before ns).goals (point l slots s)))
     (subst (λ (u : Trace Place). SameBy R (then (runs b (started h before ns).goals (point l slots s)) (λ p. one p)) u)
@@ -247,19 +250,19 @@ all-put known set b l m alike (name ∷ names) k base ns slots s are have =
     there : slot_for name ns ≡ have.0.slot
     there = ap (λ o. slot_or_next o ns) have.0.is
 
-put-agrees : (n h : ℕ) (names : Names) (k base : ℕ) (ns : SlotNames) (e : Environment) (slots : Places) → Agrees n h ns e slots → length ns ≤ n → HaveSlots names k ns → Agrees n h ns (kept_environment names base e) (put_all names base ns slots)
+put-agrees : (n : Room) (h : ℕ) (names : Names) (k base : ℕ) (ns : SlotNames) (e : Environment) (slots : Places) → Agrees n h ns e slots → length ns ≤ n.slots → HaveSlots names k ns → Agrees n h ns (kept_environment names base e) (put_all names base ns slots)
 unfolding put_all kept_environment HaveSlots
 put-agrees n h [] k base ns e slots a room have = a
 put-agrees n h (name ∷ names) k base ns e slots a room have =
     put-agrees n h names (suc k) (suc base) ns (with_value e name (Tree.var base)) (slice_set slots (slot_for name ns) (Some (Tree.var base)))
     (subst (λ (ms : SlotNames). Agrees n h ms (with_value e name (Tree.var base)) (slice_set slots (slot_for name ns) (Some (Tree.var base)))) stays
-    (agrees-assigned n h ns e slots name (Tree.var base) a (subst (λ (ms : SlotNames). length ms ≤ n) (sym stays) room))) room have.1
+    (agrees-assigned n h ns e slots name (Tree.var base) a (subst (λ (ms : SlotNames). length ms ≤ n.slots) (sym stays) room))) room have.1
   where
     stays : slots_for name ns ≡ ns
     stays = ap (λ o. slots_with o name ns) have.0.is
 
 -- Behind the loop the names that it keeps stand for their variables.
-pub kept-same : (known : Knows) (set : Setting) (b : Builtins) (l m : Level) (n h : ℕ) → Alike known set b l m → (names : Names) (k base : ℕ) (ns : SlotNames) (e : Environment) (slots : Places) (s : State) → Agrees n h ns e slots → length ns ≤ n →
+pub kept-same : (known : Knows) (set : Setting) (b : Builtins) (l m : Level) (n : Room) (h : ℕ) → Alike known set b l m → (names : Names) (k base : ℕ) (ns : SlotNames) (e : Environment) (slots : Places) (s : State) → Agrees n h ns e slots → length ns ≤ n.slots →
     InSlots names k base slots → HaveSlots names k ns → SameBy (AtPlace l n h ns) (runs b (kept_goals names k ns) (point l slots s)) (one (place (kept_environment names base e) s))
 kept-same known set b l m n h alike names k base ns e slots s a room are have =
     subst (λ (t : Trace Point). SameBy (AtPlace l n h ns) t (one (place (kept_environment names base e) s))) (sym (all-put known set b l m alike names k base ns slots s are have))

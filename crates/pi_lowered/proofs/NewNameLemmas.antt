@@ -8,10 +8,10 @@ use Rattle.pi_terms.specs.Tree.{Tree}
 use Rattle.pi_terms.specs.Places.{Places, held}
 use Rattle.pi_meaning.specs.Environment.{Environment, meant, known, with_name}
 use Rattle.pi_lowered.specs.Slots.{SlotNames, unnamed, slot_of, slot_known, slot_or_next, slots_with, slot_for, slots_for}
-use Rattle.pi_lowered.proofs.AgreeLemmas.{text_itself, text_same, or_last, finds, slot-among, slot-below, slot-alone, slot-one, Agrees, agrees-known, meant-more, set-other, set-firm}
+use Rattle.pi_lowered.proofs.AgreeLemmas.{Room, free_room, fixed-for, text_itself, text_same, or_last, finds, slot-among, slot-below, slot-alone, slot-one, Agrees, agrees-known, meant-more, set-other, set-firm}
 
 -- the slot of a name that is new is empty
-pub new-empty : (n h : ℕ) (ns : SlotNames) (e : Environment) (slots : Places) → Agrees n h ns e slots → (name : List ℕ) → known name e ≡ None → held slots (slot_for name ns) ≡ None
+pub new-empty : (n : Room) (h : ℕ) (ns : SlotNames) (e : Environment) (slots : Places) → Agrees n h ns e slots → (name : List ℕ) → known name e ≡ None → held slots (slot_for name ns) ≡ None
 new-empty n h ns e slots a name new = go (slot_known name ns) (sym (agrees-known n h ns e slots a name) ∙ new)
   where
     go : (o : Option ℕ) → option_and_then (held slots) o ≡ None → held slots (slot_or_next o ns) ≡ None
@@ -86,13 +86,14 @@ kept slots k x (Some j) apart = set-other slots k x j (apart j refl)
 named-known : (name : List ℕ) (e : Environment) → bytes_eq name unnamed ≡ false → known name e ≡ meant name e
 named-known name e is = cond-false (bytes_eq name unnamed) None (meant name e) is
 
-pub agrees-new : (n h : ℕ) (ns : SlotNames) (e : Environment) (slots : Places) → Agrees n h ns e slots → (name : List ℕ) (t : Tree) → known name e ≡ None → slot_for name ns < n →
+pub agrees-new : (n : Room) (h : ℕ) (ns : SlotNames) (e : Environment) (slots : Places) → Agrees n h ns e slots → (name : List ℕ) (t : Tree) → known name e ≡ None → slot_for name ns < n.slots →
     Agrees n h (slots_for name ns) (with_name e name t) (slice_set slots (slot_for name ns) (Some t))
 agrees-new n h ns e slots a name t new room = record {
   long = length-set slots (slot_for name ns) (Some t) ∙ a.long;
   names = λ other is. found other is (bytes_eq other name) refl;
   empty = λ k past. ahead k past;
   firm = λ k less. set-firm slots (slot_for name ns) t k (a.firm k less);
+  fixed = λ k u is. fixed-for k u name ns slots (Some t) (a.fixed k u is);
 }
   where
     fits : slot_for name ns < length slots
@@ -149,11 +150,12 @@ replicate-length : (m : ℕ) → length (replicate {A = Option Tree} m None) ≡
 replicate-length zero = refl
 replicate-length (suc m) = ap suc (replicate-length m)
 
-pub agrees-nothing : (n : ℕ) → Agrees n 0 [] [] (replicate n None)
+pub agrees-nothing : (n : ℕ) → Agrees (free_room n) 0 [] [] (replicate n None)
 unfolding slot_of meant
 agrees-nothing n = record {
   long = replicate-length n;
   names = λ name is. refl;
   empty = λ k past. empty-held n k;
   firm = λ k less. absurd (omega (arith, less));
+  fixed = λ k t is. absurd (cc is);
 }

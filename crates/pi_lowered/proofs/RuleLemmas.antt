@@ -38,7 +38,7 @@ use Rattle.pi_lowered.specs.Lowered.{head_forms, head_slots, is_truth, as_guard,
 use Rattle.pi_lowered.specs.Forms.{Knows, IsGoal, ArePatterns}
 use Rattle.pi_lowered.specs.Within.{IsGoalOrNone, IsRule, IsFunction}
 use Rattle.pi_lowered.proofs.SameLemmas.{SameBy, same-equals, same-one, same-then, same-chosen, same-equal}
-use Rattle.pi_lowered.proofs.AgreeLemmas.{Grows, grows-length, Agrees}
+use Rattle.pi_lowered.proofs.AgreeLemmas.{Room, free_room, Grows, grows-length, Agrees}
 use Rattle.pi_lowered.proofs.NewNameLemmas.{agrees-nothing}
 use Rattle.pi_lowered.proofs.RunLemmas.{Alike, point, place, AtPlace, at_place, AtValue, at_value, SameGoals, SameLast, not-drained, same-strictly}
 use Rattle.pi_lowered.proofs.ControlLemmas.{Drains, none-goals, turn-from}
@@ -98,7 +98,7 @@ body-same known set b l m h alike before (Some e) is = goal-same known set.calls
 
 -- a condition is a strict place
 guard-same : (known : Knows) (set : RulesSetting) (b : Builtins) (l m : Level) (h : ℕ) → Alike known set.calls b l m → (before : Names) (o : Option ExpTree) → IsGoalOrNone known o →
-    (n : ℕ) (ns : SlotNames) (e : Environment) (slots : Places) (s : State) → Agrees n h ns e slots → length (goals_or_none h o ns).names ≤ n →
+    (n : Room) (ns : SlotNames) (e : Environment) (slots : Places) (s : State) → Agrees n h ns e slots → length (goals_or_none h o ns).names ≤ n.slots →
     SameBy (AtPlace l n h (goals_or_none h o ns).names) (guarded b (guard_of o (goals_or_none h o ns)) (point l slots s)) (over_names.guarded set before o m (place e s))
 guard-same known set b l m h alike before None is n ns e slots s a room = same-one (AtPlace l n h ns) _ _ (at_place e slots s a)
 guard-same known set b l m h alike before (Some c) is n ns e slots s a room =
@@ -111,15 +111,15 @@ guard-grows known set b l m h alike before o is ns = (body-same known set b l m 
 
 -- ---- the states of answers
 
-state-same : (l : Level) (n h : ℕ) (ns : SlotNames) (p : Point) (q : Place) → AtPlace l n h ns p q → SameBy Same (one p.state) (one q.state)
+state-same : (l : Level) (n : Room) (h : ℕ) (ns : SlotNames) (p : Point) (q : Place) → AtPlace l n h ns p q → SameBy Same (one p.state) (one q.state)
 state-same l n h ns _ _ (at_place e slots s a) = same-one Same s s (same s)
 
-value-same : (l : Level) (n h : ℕ) (ns : SlotNames) (t : Tree) (start : Places) (p : Point) (x : Valued) → AtValue l n h ns t start p x → SameBy Same (value_at (Some t) p) (one (applied x))
+value-same : (l : Level) (n : Room) (h : ℕ) (ns : SlotNames) (t : Tree) (start : Places) (p : Point) (x : Valued) → AtValue l n h ns t start p x → SameBy Same (value_at (Some t) p) (one (applied x))
 value-same l n h ns t start _ _ (at_value slots s x c extends) =
     subst (λ (y : Evaluated). SameBy Same (one (record { value = y.tree; state = y.state })) (one (applied x))) (sym c.comes) (same-one Same _ _ (same (applied x)))
 
 -- the body of a rule
-rule-body : (known : Knows) (set : RulesSetting) (b : Builtins) (l m : Level) (h : ℕ) → Alike known set.calls b l m → (before : Names) (e : ExpTree) → IsGoal known e → (n : ℕ) (ns : SlotNames) → length (over_slots.goal_of h e ns).names ≤ n →
+rule-body : (known : Knows) (set : RulesSetting) (b : Builtins) (l m : Level) (h : ℕ) → Alike known set.calls b l m → (before : Names) (e : ExpTree) → IsGoal known e → (n : Room) (ns : SlotNames) → length (over_slots.goal_of h e ns).names ≤ n.slots →
     (p : Point) (q : Place) → AtPlace l n h ns p q →
     then (meaning b (in_turn (over_slots.goal_of h e ns).goals) p) (λ r. one r.state) ≡ then (goal_of set.calls before e m q) (λ r. one r.state)
 rule-body known set b l m h alike before e is n ns room p q at =
@@ -129,7 +129,7 @@ rule-body known set b l m h alike before e is n ns room p q at =
 -- ---- rules
 
 rule-answer : (known : Knows) (set : RulesSetting) (b : Builtins) (l m : Level) → Alike known set.calls b l m → (r : RuleTree) → IsRule known r → (the_call : Tree) (i : ℕ) (s : State) (rest later : Trace State) → rest ≡ later →
-    (o : Option Places) (p : Option Environment) → Both (lowered_rule r).slots (head_forms r.head).names o p →
+    (o : Option Places) (p : Option Environment) → Both (free_room (lowered_rule r).slots) (head_forms r.head).names o p →
     rule_before b l (lowered_rule r) r.back (λ q. body_or_agent b the_call i (lowered_rule r) [] q) s rest o ≡ rule_or_later set the_call i r m s later p
 unfolding lowered_rule
 rule-answer known set b l m alike r is the_call i s rest later e _ _ neither = e
@@ -147,16 +147,16 @@ rule-answer known set b l m alike r is the_call i s rest later e _ _ (both_match
     ms : SlotNames
     ms = (goals_or_none h r.cond (head_forms r.head).names).names
 
-    n : ℕ
-    n = length (over_slots.goal_of h r.body ms).names
+    n : Room
+    n = free_room (length (over_slots.goal_of h r.body ms).names)
 
     body : SameGoals b l m h (goal_of set.calls (names_before r.head r.cond) r.body) (over_slots.goal_of h r.body)
     body = goal-same known set.calls b l m h alike (names_before r.head r.cond) r.body is.body
 
 -- what a head comes to, from empty slots
 head-tried : (s : State) (head : ExpTree) → ArePatterns (head_arguments head) → (n : ℕ) → length (head_forms head).names ≤ n → (ts : Trees) →
-    Both n (head_forms head).names (matched_all_in (bindings s) (head_forms head).forms ts (replicate n None)) (patterns_matched (bindings s) (head_arguments head) ts [])
-head-tried s head is n room ts = patterns-match (bindings s) n (head_arguments head) is [] room [] (replicate n None) (agrees-nothing n) ts
+    Both (free_room n) (head_forms head).names (matched_all_in (bindings s) (head_forms head).forms ts (replicate n None)) (patterns_matched (bindings s) (head_arguments head) ts [])
+head-tried s head is n room ts = patterns-match (bindings s) (free_room n) (head_arguments head) is [] room [] (replicate n None) (agrees-nothing n) ts
 
 -- slots enough for the head
 rule-room : (known : Knows) (set : RulesSetting) (b : Builtins) (l m : Level) → Alike known set.calls b l m → (r : RuleTree) → IsRule known r → length (head_forms r.head).names ≤ (lowered_rule r).slots
@@ -187,8 +187,8 @@ rules-same known set b l m alike (r ∷ rs) is the_call i ts s =
 -- ---- functions
 
 -- a function's body, and behind it its value
-run-same : (known : Knows) (set : RulesSetting) (b : Builtins) (l m : Level) (h : ℕ) → Alike known set.calls b l m → (f : FunctionTree) → IsFunction known f → (n : ℕ) (ns : SlotNames) →
-    length (last_value f.value (goals_or_none h f.body ns).names (made h f.value (goals_or_none h f.body ns).names)).names ≤ n → (p : Point) (q : Place) → AtPlace l n h ns p q →
+run-same : (known : Knows) (set : RulesSetting) (b : Builtins) (l m : Level) (h : ℕ) → Alike known set.calls b l m → (f : FunctionTree) → IsFunction known f → (n : Room) (ns : SlotNames) →
+    length (last_value f.value (goals_or_none h f.body ns).names (made h f.value (goals_or_none h f.body ns).names)).names ≤ n.slots → (p : Point) (q : Place) → AtPlace l n h ns p q →
     then (strictly (meaning b (in_turn ((goals_or_none h f.body ns).goals ++ (last_value f.value (goals_or_none h f.body ns).names (made h f.value (goals_or_none h f.body ns).names)).goals))) p)
     (value_at (Some (last_value f.value (goals_or_none h f.body ns).names (made h f.value (goals_or_none h f.body ns).names)).tree))
     ≡ over_names.value_run set f m q
@@ -204,7 +204,7 @@ run-same known set b l m h alike f is n ns room _ _ (at_place e slots s a) =
     ∙ then-assoc (names_strictly (body_or_none set before f.body) m (place e s)) (value_of set.calls plain within f.value m) (λ x. one (applied x))
 
 function-answer : (known : Knows) (set : RulesSetting) (b : Builtins) (l m : Level) → Alike known set.calls b l m → (f : FunctionTree) → IsFunction known f → (s : State) (rest later : Trace Applied) → rest ≡ later →
-    (o : Option Places) (p : Option Environment) → Both (lowered_function f).slots (head_forms f.head).names o p →
+    (o : Option Places) (p : Option Environment) → Both (free_room (lowered_function f).slots) (head_forms f.head).names o p →
     rule_before b l (lowered_function f) false (λ q. value_run b (lowered_function f) q) s rest o ≡ function_or_later set f m s later p
 unfolding lowered_function
 function-answer known set b l m alike f is s rest later e _ _ neither = e
@@ -223,8 +223,8 @@ function-answer known set b l m alike f is s rest later e _ _ (both_match names 
     ks : SlotNames
     ks = (goals_or_none h f.body ms).names
 
-    n : ℕ
-    n = length (last_value f.value ks (made h f.value ks)).names
+    n : Room
+    n = free_room (length (last_value f.value ks (made h f.value ks)).names)
 
     body : SameGoals b l m h (body_or_none set [] f.body) (goals_or_none h f.body)
     body = body-same known set b l m h alike [] f.body is.body

@@ -22,7 +22,7 @@ use Rattle.pi_lowered.specs.Goals.{SlotGoals, in_turn}
 use Rattle.pi_lowered.specs.Forms.{Knows}
 use Rattle.pi_lowered.proofs.SameLemmas.{SameBy, same-one, same-then, same-map}
 use Rattle.pi_lowered.proofs.FilledLemmas.{Filled, AllFilled, Extends}
-use Rattle.pi_lowered.proofs.AgreeLemmas.{Grows, Agrees, agrees-more}
+use Rattle.pi_lowered.proofs.AgreeLemmas.{Room, Grows, Agrees, agrees-more}
 use Rattle.pi_lowered.proofs.TermLemmas.{Comes, ComesAll, filled-comes-to}
 
 -- what two levels have to have in common: calls by name do the same, and nothing waits
@@ -44,22 +44,22 @@ place e s = record { names = e; state = s }
 -- ---- answers
 
 -- the answers of a goal
-pub data AtPlace (l : Level) (n h : ℕ) (ns : SlotNames) : Point → Place → Type 0 where
+pub data AtPlace (l : Level) (n : Room) (h : ℕ) (ns : SlotNames) : Point → Place → Type 0 where
   at_place : (e : Environment) (slots : Places) (s : State) → Agrees n h ns e slots → AtPlace l n h ns (point l slots s) (place e s)
 
 -- a value that is evaluated where it is used
-pub data AtValue (l : Level) (n h : ℕ) (ns : SlotNames) (t : Tree) (start : Places) : Point → Valued → Type 0 where
+pub data AtValue (l : Level) (n : Room) (h : ℕ) (ns : SlotNames) (t : Tree) (start : Places) : Point → Valued → Type 0 where
   at_value : (slots : Places) (s : State) (x : Valued) → Comes n h ns t slots s x → Extends start slots → AtValue l n h ns t start (point l slots s) x
 
-pub data AtValues (l : Level) (n h : ℕ) (ns : SlotNames) (ts : Trees) (start : Places) : Point → ValuedAll → Type 0 where
+pub data AtValues (l : Level) (n : Room) (h : ℕ) (ns : SlotNames) (ts : Trees) (start : Places) : Point → ValuedAll → Type 0 where
   at_values : (slots : Places) (s : State) (x : ValuedAll) → ComesAll n h ns ts slots s x → Extends start slots → AtValues l n h ns ts start (point l slots s) x
 
 -- a value whose slots are filled
-pub data AtFilled (l : Level) (n h : ℕ) (ns : SlotNames) (t : Tree) (start : Places) : Point → Valued → Type 0 where
+pub data AtFilled (l : Level) (n : Room) (h : ℕ) (ns : SlotNames) (t : Tree) (start : Places) : Point → Valued → Type 0 where
   at_filled : (e : Environment) (slots : Places) (s : State) (u : Tree) → Agrees n h ns e slots → Extends start slots → Filled slots t u →
       AtFilled l n h ns t start (point l slots s) (record { tree = u; names = e; state = s })
 
-pub data AllAtFilled (l : Level) (n h : ℕ) (ns : SlotNames) (ts : Trees) (start : Places) : Point → ValuedAll → Type 0 where
+pub data AllAtFilled (l : Level) (n : Room) (h : ℕ) (ns : SlotNames) (ts : Trees) (start : Places) : Point → ValuedAll → Type 0 where
   all_at_filled : (e : Environment) (slots : Places) (s : State) (us : Trees) → Agrees n h ns e slots → Extends start slots → AllFilled slots ts us →
       AllAtFilled l n h ns ts start (point l slots s) (record { trees = us; names = e; state = s })
 
@@ -71,35 +71,35 @@ runs b gs p = meaning_of_all b (goals_of gs) p
 
 pub record SameGoals (b : Builtins) (l m : Level) (h : ℕ) (g : Goal) (lowered : SlotNames → SlotGoals) : Type 0 where
   pub grows : (ns : SlotNames) → Grows ns (lowered ns).names
-  pub same : (n : ℕ) (ns : SlotNames) (e : Environment) (slots : Places) (s : State) → Agrees n h ns e slots → length (lowered ns).names ≤ n →
+  pub same : (n : Room) (ns : SlotNames) (e : Environment) (slots : Places) (s : State) → Agrees n h ns e slots → length (lowered ns).names ≤ n.slots →
       SameBy (AtPlace l n h (lowered ns).names) (runs b (lowered ns).goals (point l slots s)) (g m (place e s))
 
 pub record SameLast (b : Builtins) (l m : Level) (h : ℕ) (v : Value) (lowered : SlotNames → SlotValue) : Type 0 where
   pub grows : (ns : SlotNames) → Grows ns (lowered ns).names
-  pub same : (n : ℕ) (ns : SlotNames) (e : Environment) (slots : Places) (s : State) → Agrees n h ns e slots → length (lowered ns).names ≤ n →
+  pub same : (n : Room) (ns : SlotNames) (e : Environment) (slots : Places) (s : State) → Agrees n h ns e slots → length (lowered ns).names ≤ n.slots →
       SameBy (AtValue l n h (lowered ns).names (lowered ns).tree slots) (runs b (lowered ns).goals (point l slots s)) (v m (place e s))
 
 pub record SameFilled (b : Builtins) (l m : Level) (h : ℕ) (v : Value) (lowered : SlotNames → SlotValue) : Type 0 where
   pub grows : (ns : SlotNames) → Grows ns (lowered ns).names
-  pub same : (n : ℕ) (ns : SlotNames) (e : Environment) (slots : Places) (s : State) → Agrees n h ns e slots → length (lowered ns).names ≤ n →
+  pub same : (n : Room) (ns : SlotNames) (e : Environment) (slots : Places) (s : State) → Agrees n h ns e slots → length (lowered ns).names ≤ n.slots →
       SameBy (AtFilled l n h (lowered ns).names (lowered ns).tree slots) (runs b (lowered ns).goals (point l slots s)) (v m (place e s))
 
 pub record SameArguments (b : Builtins) (l m : Level) (h : ℕ) (vs : Values) (lowered : SlotNames → SlotValues) : Type 0 where
   pub grows : (ns : SlotNames) → Grows ns (lowered ns).names
-  pub same : (n : ℕ) (ns : SlotNames) (e : Environment) (slots : Places) (s : State) → Agrees n h ns e slots → length (lowered ns).names ≤ n →
+  pub same : (n : Room) (ns : SlotNames) (e : Environment) (slots : Places) (s : State) → Agrees n h ns e slots → length (lowered ns).names ≤ n.slots →
       SameBy (AtValues l n h (lowered ns).names (trees_of (lowered ns).trees) slots) (runs b (lowered ns).goals (point l slots s)) (vs m (place e s))
 
 pub record SameParts (b : Builtins) (l m : Level) (h : ℕ) (vs : Values) (lowered : SlotNames → SlotValues) : Type 0 where
   pub grows : (ns : SlotNames) → Grows ns (lowered ns).names
-  pub same : (n : ℕ) (ns : SlotNames) (e : Environment) (slots : Places) (s : State) → Agrees n h ns e slots → length (lowered ns).names ≤ n →
+  pub same : (n : Room) (ns : SlotNames) (e : Environment) (slots : Places) (s : State) → Agrees n h ns e slots → length (lowered ns).names ≤ n.slots →
       SameBy (AllAtFilled l n h (lowered ns).names (trees_of (lowered ns).trees) slots) (runs b (lowered ns).goals (point l slots s)) (vs m (place e s))
 
 -- ---- widening
 
-pub place-wider : (l : Level) (n h : ℕ) (ns ms : SlotNames) → Grows ns ms → (p : Point) (q : Place) → AtPlace l n h ns p q → AtPlace l n h ms p q
+pub place-wider : (l : Level) (n : Room) (h : ℕ) (ns ms : SlotNames) → Grows ns ms → (p : Point) (q : Place) → AtPlace l n h ns p q → AtPlace l n h ms p q
 place-wider l n h ns ms grows _ _ (at_place e slots s a) = at_place e slots s (agrees-more n h ns ms e slots grows a)
 
-pub filled-value : (l : Level) (n h : ℕ) (ns : SlotNames) (t : Tree) (start : Places) (p : Point) (x : Valued) → AtFilled l n h ns t start p x → AtValue l n h ns t start p x
+pub filled-value : (l : Level) (n : Room) (h : ℕ) (ns : SlotNames) (t : Tree) (start : Places) (p : Point) (x : Valued) → AtFilled l n h ns t start p x → AtValue l n h ns t start p x
 filled-value l n h ns t start _ _ (at_filled e slots s u a extends f) = at_value slots s _ (filled-comes-to n h ns e slots s a t u f) extends
 
 pub filled-last : (b : Builtins) (l m : Level) (h : ℕ) (v : Value) (lowered : SlotNames → SlotValue) → SameFilled b l m h v lowered → SameLast b l m h v lowered
@@ -153,7 +153,7 @@ goals-drained known set b l m h g lowered alike is = record {
 }
 
 -- a strict place
-strict-answer : (l m : Level) (n h : ℕ) (ns : SlotNames) → ((s : State) → (calls_at l).drained s ≡ one s) → ((s : State) → (calls_at m).drained s ≡ one s) →
+strict-answer : (l m : Level) (n : Room) (h : ℕ) (ns : SlotNames) → ((s : State) → (calls_at l).drained s ≡ one s) → ((s : State) → (calls_at m).drained s ≡ one s) →
     (p : Point) (q : Place) → AtPlace l n h ns p q → SameBy (AtPlace l n h ns) (draining (λ r. one r) p) (names_draining (λ k r. one r) m q)
 strict-answer l m n h ns drains drain _ _ (at_place e slots s a) =
     subst (λ (t : Trace Point). SameBy (AtPlace l n h ns) t (names_draining (λ k r. one r) m (place e s))) (sym (not-drained (λ r. one r) (point l slots s) drains))
@@ -161,7 +161,7 @@ strict-answer l m n h ns drains drain _ _ (at_place e slots s a) =
     (same-one (AtPlace l n h ns) _ _ (at_place e slots s a)))
 
 pub same-strictly : (known : Knows) (set : Setting) (b : Builtins) (l m : Level) (h : ℕ) (g : Goal) (lowered : SlotNames → SlotGoals) → Alike known set b l m → SameGoals b l m h g lowered →
-    (n : ℕ) (ns : SlotNames) (e : Environment) (slots : Places) (s : State) → Agrees n h ns e slots → length (lowered ns).names ≤ n →
+    (n : Room) (ns : SlotNames) (e : Environment) (slots : Places) (s : State) → Agrees n h ns e slots → length (lowered ns).names ≤ n.slots →
     SameBy (AtPlace l n h (lowered ns).names) (strictly (meaning b (in_turn (lowered ns).goals)) (point l slots s)) (names_strictly g m (place e s))
 unfolding strictly names_strictly
 same-strictly known set b l m h g lowered alike is n ns e slots s a room =

@@ -18,7 +18,7 @@ use Rattle.pi_meaning.specs.Told.{named_values, solution_told}
 use Rattle.pi_names.specs.Texts.{Names}
 use Rattle.pi_lowered.specs.Slots.{SlotNames, slot_for, slots_for, named_slots, slots_behind}
 use Rattle.pi_lowered.proofs.SameLemmas.{SameBy, same_end, same-one}
-use Rattle.pi_lowered.proofs.AgreeLemmas.{Grows, grows-none, grows-then, grows-length, grows-for, Agrees, agrees-more}
+use Rattle.pi_lowered.proofs.AgreeLemmas.{Room, Grows, grows-none, grows-then, grows-length, grows-for, Agrees, agrees-more}
 use Rattle.pi_lowered.proofs.TermLemmas.{Comes, name-comes}
 use Rattle.pi_lowered.proofs.RunLemmas.{place, AtPlace, at_place}
 
@@ -31,7 +31,7 @@ behind-grows (name ∷ names) ns = grows-then ns _ _ (grows-for name ns) (behind
 abbrev value_before : List ℕ → Tree → State → List NamedTerm → List NamedTerm
 value_before name t s rest = record { name = name; value = value (bindings s) t } ∷ rest
 
-values-same : (names : Names) (n h : ℕ) (ns : SlotNames) (e : Environment) (slots : Places) (s : State) → Agrees n h ns e slots → length (slots_behind names ns) ≤ n →
+values-same : (names : Names) (n : Room) (h : ℕ) (ns : SlotNames) (e : Environment) (slots : Places) (s : State) → Agrees n h ns e slots → length (slots_behind names ns) ≤ n.slots →
     named_values (named_slots names ns) slots s ≡ told_values names e s
 unfolding named_values named_slots told_values slots_behind
 values-same [] n h ns e slots s a room = refl
@@ -49,7 +49,7 @@ limited R t a b h = tested (nat_lt most_cells (cells t))
     tested true = same_end too_large
     tested false = h
 
-told-same : (R : Solution → Place → Type 0) (names : Names) (n h : ℕ) (ns : SlotNames) (e : Environment) (slots : Places) (s : State) → Agrees n h ns e slots → length (slots_behind names ns) ≤ n → (a : Trace Solution) (b : Trace Place) → SameBy R a b →
+told-same : (R : Solution → Place → Type 0) (names : Names) (n : Room) (h : ℕ) (ns : SlotNames) (e : Environment) (slots : Places) (s : State) → Agrees n h ns e slots → length (slots_behind names ns) ≤ n.slots → (a : Trace Solution) (b : Trace Place) → SameBy R a b →
     SameBy R (told (named_slots names ns) (record { slots = slots; state = s }) a) (if_tellable names (place e s) b)
 unfolding told named_slots if_tellable slots_behind
 told-same R [] n h ns e slots s agrees room a b is = is
@@ -64,7 +64,7 @@ told-same R (name ∷ names) n h ns e slots s agrees room a b is =
 pub data TellSame (names : Names) (ns : SlotNames) : Solution → Place → Type 0 where
   tell_same : (x : Solution) (p : Place) → solution_told (named_slots names ns) x ≡ place_told names p → TellSame names ns x p
 
-pub answered-same : (names : Names) (l : Level) (n h : ℕ) (ns : SlotNames) → length (slots_behind names ns) ≤ n → (p : Point) (q : Place) → AtPlace l n h ns p q →
+pub answered-same : (names : Names) (l : Level) (n : Room) (h : ℕ) (ns : SlotNames) → length (slots_behind names ns) ≤ n.slots → (p : Point) (q : Place) → AtPlace l n h ns p q →
     SameBy (TellSame names ns) (answered_with (named_slots names ns) p) (telling names q)
 answered-same names l n h ns room _ _ (at_place e slots s a) =
     told-same (TellSame names ns) names n h ns e slots s a room (one (record { slots = slots; state = s })) (one (place e s))

@@ -18,18 +18,18 @@ use Rattle.pi_lowered.specs.Slots.{SlotNames, slot_known, slot_or_next, slots_wi
 use Rattle.pi_lowered.specs.Values.{SlotTerm, SlotTerms, slot_term, slot_terms}
 use Rattle.pi_lowered.specs.Forms.{IsTerm, AreTerms}
 use Rattle.pi_lowered.proofs.FilledLemmas.{Filled, in_slot, is_int, is_atom, is_comp, AllFilled, none_filled, one_filled, Extends, extends-none, extends-then, set-keeps, filled-more, all-filled-more, term_at, terms_at, in_front_of, filled-comes, items-filled, atoms-filled, onto_evaluated, items-evaluated}
-use Rattle.pi_lowered.proofs.AgreeLemmas.{Grows, grows-none, grows-then, grows-length, grows-for, Agrees, agrees-known, agrees-more, slot-below}
+use Rattle.pi_lowered.proofs.AgreeLemmas.{Room, Grows, grows-none, grows-then, grows-length, grows-for, Agrees, agrees-known, agrees-more, slot-below}
 use Rattle.pi_lowered.proofs.NewNameLemmas.{from_known, new-empty, agrees-new}
 
 -- what a term over slots comes to, against what it comes to over names
-pub record Comes (n h : ℕ) (ns : SlotNames) (t : Tree) (slots : Places) (s : State) (x : Valued) : Type 0 where
+pub record Comes (n : Room) (h : ℕ) (ns : SlotNames) (t : Tree) (slots : Places) (s : State) (x : Valued) : Type 0 where
   pub after : Places
   pub comes : evaluated t slots s ≡ term_at x.tree after x.state
   pub agrees : Agrees n h ns x.names after
   pub extends : Extends slots after
   pub filled : Filled after t x.tree
 
-pub record ComesAll (n h : ℕ) (ns : SlotNames) (ts : Trees) (slots : Places) (s : State) (x : ValuedAll) : Type 0 where
+pub record ComesAll (n : Room) (h : ℕ) (ns : SlotNames) (ts : Trees) (slots : Places) (s : State) (x : ValuedAll) : Type 0 where
   pub after : Places
   pub comes : evaluated_all ts slots s ≡ terms_at x.trees after x.state
   pub agrees : Agrees n h ns x.names after
@@ -37,12 +37,12 @@ pub record ComesAll (n h : ℕ) (ns : SlotNames) (ts : Trees) (slots : Places) (
   pub filled : AllFilled after ts x.trees
 
 -- the same of a term that may be none over names
-pub record ComesTo (n h : ℕ) (t : SlotTerm) (slots : Places) (s : State) (o : Option Valued) : Type 0 where
+pub record ComesTo (n : Room) (h : ℕ) (t : SlotTerm) (slots : Places) (s : State) (o : Option Valued) : Type 0 where
   pub value : Valued
   pub there : o ≡ Some value
   pub comes : Comes n h t.names t.tree slots s value
 
-pub record ComeTo (n h : ℕ) (ts : SlotTerms) (slots : Places) (s : State) (o : Option ValuedAll) : Type 0 where
+pub record ComeTo (n : Room) (h : ℕ) (ts : SlotTerms) (slots : Places) (s : State) (o : Option ValuedAll) : Type 0 where
   pub values : ValuedAll
   pub there : o ≡ Some values
   pub comes : ComesAll n h ts.names (trees_of ts.trees) slots s values
@@ -85,7 +85,7 @@ name-room name ns n room = go (slot_known name ns) refl
         let it : slot_for name ns ≡ j = ap (λ (q : Option ℕ). slot_or_next q ns) e in
         omega (arith, room, long, it, slot-below name ns j (from_known _ _ j e))
 
-pub name-comes : (n h : ℕ) (ns : SlotNames) (e : Environment) (slots : Places) (s : State) → Agrees n h ns e slots → (name : List ℕ) → length (slots_for name ns) ≤ n →
+pub name-comes : (n : Room) (h : ℕ) (ns : SlotNames) (e : Environment) (slots : Places) (s : State) → Agrees n h ns e slots → (name : List ℕ) → length (slots_for name ns) ≤ n.slots →
     Comes n h (slots_for name ns) (Tree.var (slot_for name ns)) slots s (name_valued (known name e) name e s)
 unfolding evaluated
 name-comes n h ns e slots s a name room = go (known name e) refl
@@ -111,26 +111,26 @@ name-comes n h ns e slots s a name room = go (known name e) refl
     go None is = subst (λ (o : Option Tree). Comes n h (slots_for name ns) (Tree.var k) slots s (name_valued o name e s)) (sym is) (record {
       after = slice_set slots k (Some (Tree.var (next s)));
       comes = ap (λ o. slot_comes o k slots s) (new-empty n h ns e slots a name is);
-      agrees = agrees-new n h ns e slots a name (Tree.var (next s)) is (name-room name ns n room);
+      agrees = agrees-new n h ns e slots a name (Tree.var (next s)) is (name-room name ns n.slots room);
       extends = set-keeps slots k (Tree.var (next s)) (new-empty n h ns e slots a name is);
-      filled = in_slot k (Tree.var (next s)) (get_or-set_same slots k (Some (Tree.var (next s))) None (subst (λ (m : ℕ). k < m) (sym a.long) (name-room name ns n room)));
+      filled = in_slot k (Tree.var (next s)) (get_or-set_same slots k (Some (Tree.var (next s))) None (subst (λ (m : ℕ). k < m) (sym a.long) (name-room name ns n.slots room)));
     })
 
 -- what holds no variable
-pub filled-comes-to : (n h : ℕ) (ns : SlotNames) (e : Environment) (slots : Places) (s : State) → Agrees n h ns e slots → (t u : Tree) → Filled slots t u →
+pub filled-comes-to : (n : Room) (h : ℕ) (ns : SlotNames) (e : Environment) (slots : Places) (s : State) → Agrees n h ns e slots → (t u : Tree) → Filled slots t u →
     Comes n h ns t slots s (record { tree = u; names = e; state = s })
 filled-comes-to n h ns e slots s a t u f = record { after = slots; comes = filled-comes slots t u f s; agrees = a; extends = extends-none slots; filled = f }
 
-constant-to : (n h : ℕ) (ns : SlotNames) (e : Environment) (slots : Places) (s : State) → Agrees n h ns e slots → (t : Tree) → Filled slots t t →
+constant-to : (n : Room) (h : ℕ) (ns : SlotNames) (e : Environment) (slots : Places) (s : State) → Agrees n h ns e slots → (t : Tree) → Filled slots t t →
     ComesTo n h (record { tree = t; names = ns }) slots s (Some (constant t e s))
 constant-to n h ns e slots s a t f = record { value = constant t e s; there = refl; comes = filled-comes-to n h ns e slots s a t t f }
 
-pub nothing-comes : (n h : ℕ) (ns : SlotNames) (e : Environment) (slots : Places) (s : State) → Agrees n h ns e slots → ComesAll n h ns no_trees slots s (record { trees = no_trees; names = e; state = s })
+pub nothing-comes : (n : Room) (h : ℕ) (ns : SlotNames) (e : Environment) (slots : Places) (s : State) → Agrees n h ns e slots → ComesAll n h ns no_trees slots s (record { trees = no_trees; names = e; state = s })
 unfolding evaluated
 nothing-comes n h ns e slots s a = record { after = slots; comes = refl; agrees = a; extends = extends-none slots; filled = none_filled }
 
 -- one, and then those behind it
-pub front-comes : (n h : ℕ) (ns ms : SlotNames) (t : Tree) (ts : Trees) (slots : Places) (s : State) (x : Valued) (all : ValuedAll) (one : Comes n h ns t slots s x) → ComesAll n h ms ts one.after x.state all →
+pub front-comes : (n : Room) (h : ℕ) (ns ms : SlotNames) (t : Tree) (ts : Trees) (slots : Places) (s : State) (x : Valued) (all : ValuedAll) (one : Comes n h ns t slots s x) → ComesAll n h ms ts one.after x.state all →
     ComesAll n h ms (tree t ts) slots s (record { trees = tree x.tree all.trees; names = all.names; state = all.state })
 unfolding evaluated
 front-comes n h ns ms t ts slots s x all one rest = record {
@@ -142,7 +142,7 @@ front-comes n h ns ms t ts slots s x all one rest = record {
 }
 
 -- a structure, and items in front of a term
-pub structure-comes : (n h : ℕ) (ns : SlotNames) (name : List ℕ) (ts : Trees) (slots : Places) (s : State) (all : ValuedAll) → ComesAll n h ns ts slots s all →
+pub structure-comes : (n : Room) (h : ℕ) (ns : SlotNames) (name : List ℕ) (ts : Trees) (slots : Places) (s : State) (all : ValuedAll) → ComesAll n h ns ts slots s all →
     Comes n h ns (comp name ts) slots s (record { tree = comp name all.trees; names = all.names; state = all.state })
 unfolding evaluated
 structure-comes n h ns name ts slots s all c = record {
@@ -153,7 +153,7 @@ structure-comes n h ns name ts slots s all c = record {
   filled = is_comp name c.filled;
 }
 
-pub onto-comes : (n h : ℕ) (ns ms : SlotNames) (ts : Trees) (t : Tree) (slots : Places) (s : State) (all : ValuedAll) (x : Valued) (c : ComesAll n h ns ts slots s all) → Comes n h ms t c.after all.state x →
+pub onto-comes : (n : Room) (h : ℕ) (ns ms : SlotNames) (ts : Trees) (t : Tree) (slots : Places) (s : State) (all : ValuedAll) (x : Valued) (c : ComesAll n h ns ts slots s all) → Comes n h ms t c.after all.state x →
     Comes n h ms (items_onto ts t) slots s (record { tree = items_onto all.trees x.tree; names = x.names; state = x.state })
 onto-comes n h ns ms ts t slots s all x c d = record {
   after = d.after;
@@ -166,7 +166,7 @@ onto-comes n h ns ms ts t slots s all x c d = record {
 }
 
 -- a proper list
-pub list-comes : (n h : ℕ) (ns : SlotNames) (ts : Trees) (slots : Places) (s : State) (all : ValuedAll) → ComesAll n h ns ts slots s all →
+pub list-comes : (n : Room) (h : ℕ) (ns : SlotNames) (ts : Trees) (slots : Places) (s : State) (all : ValuedAll) → ComesAll n h ns ts slots s all →
     Comes n h ns (items_onto ts (Tree.atom nil)) slots s (record { tree = items_onto all.trees (Tree.atom nil); names = all.names; state = all.state })
 list-comes n h ns ts slots s all c =
     onto-comes n h ns ns ts (Tree.atom nil) slots s all (record { tree = Tree.atom nil; names = all.names; state = all.state }) c
@@ -192,7 +192,7 @@ three-there f g o x y z a b c =
 mutual
   unfolding slot_term written_term IsTerm
 
-  pub term-comes : (x : ExpTree) → IsTerm x → (n h : ℕ) (ns : SlotNames) (e : Environment) (slots : Places) (s : State) → Agrees n h ns e slots → length (slot_term x ns).names ≤ n →
+  pub term-comes : (x : ExpTree) → IsTerm x → (n : Room) (h : ℕ) (ns : SlotNames) (e : Environment) (slots : Places) (s : State) → Agrees n h ns e slots → length (slot_term x ns).names ≤ n.slots →
       ComesTo n h (slot_term x ns) slots s (written_term x e s)
   term-comes (var name) is n h ns e slots s a room = record { value = name_valued (known name e) name e s; there = refl; comes = name-comes n h ns e slots s a name room }
   term-comes (int k) is n h ns e slots s a room = constant-to n h ns e slots s a (Tree.int k) (is_int k)
@@ -253,7 +253,7 @@ mutual
       }
   term-comes x is n h ns e slots s a room = absurd is
 
-  pub terms-come : (xs : ExpTrees) → AreTerms xs → (n h : ℕ) (ns : SlotNames) (e : Environment) (slots : Places) (s : State) → Agrees n h ns e slots → length (slot_terms xs ns).names ≤ n →
+  pub terms-come : (xs : ExpTrees) → AreTerms xs → (n : Room) (h : ℕ) (ns : SlotNames) (e : Environment) (slots : Places) (s : State) → Agrees n h ns e slots → length (slot_terms xs ns).names ≤ n.slots →
       ComeTo n h (slot_terms xs ns) slots s (written_terms xs e s)
   terms-come no_exps is n h ns e slots s a room = record { values = _; there = refl; comes = nothing-comes n h ns e slots s a }
   terms-come (exp x xs) is n h ns e slots s a room =

@@ -28,7 +28,7 @@ use Rattle.pi_lowered.specs.Values.{SlotTerm, slot_term, is_flat, as_it_stands, 
 use Rattle.pi_lowered.specs.Forms.{Knows, IsTerm}
 use Rattle.pi_lowered.proofs.SameLemmas.{SameBy, same-one}
 use Rattle.pi_lowered.proofs.FilledLemmas.{Filled, in_slot, is_int, is_atom, is_comp, AllFilled, none_filled, one_filled, extends-none, term_at, terms_at, in_front_of, filled-comes, all-filled-comes}
-use Rattle.pi_lowered.proofs.AgreeLemmas.{Agrees}
+use Rattle.pi_lowered.proofs.AgreeLemmas.{Room, Agrees}
 use Rattle.pi_lowered.proofs.TermLemmas.{Comes, ComesTo, term-grows, term-comes}
 use Rattle.pi_lowered.proofs.RunLemmas.{Alike, point, place, AtValue, at_value, AtFilled, at_filled, runs, SameLast, SameFilled, then-of-one, runs-one, not-drained}
 use Rattle.pi_lowered.proofs.BuiltInLemmas.{equals-itself, equals-known, not-less}
@@ -56,7 +56,7 @@ mutual
       (tree first.0 rest.0, one_filled first.1 rest.1)
 
 -- where a term was evaluated
-at-evaluated : (l : Level) (n h : ℕ) (ns : SlotNames) (t : Tree) (slots : Places) (s : State) (x : Valued) (c : Comes n h ns t slots s x) → (y : Evaluated) → evaluated t slots s ≡ y → y ≡ term_at y.tree slots s →
+at-evaluated : (l : Level) (n : Room) (h : ℕ) (ns : SlotNames) (t : Tree) (slots : Places) (s : State) (x : Valued) (c : Comes n h ns t slots s x) → (y : Evaluated) → evaluated t slots s ≡ y → y ≡ term_at y.tree slots s →
     AtFilled l n h ns t slots (point l slots s) x
 at-evaluated l n h ns t slots s x c y is stays =
     subst (λ (z : Evaluated). AtFilled l n h ns t slots (point l z.slots z.state) x) (sym c.comes ∙ is ∙ stays) (at_filled x.names c.after x.state x.tree c.agrees c.extends c.filled)
@@ -95,7 +95,7 @@ equals-runs known set b l m alike k slots after s r u free comes filled =
     itself : predicate_called set m (codes "=") (tree u (tree u no_trees)) r ≡ one r
     itself = subst (λ (y : Evaluated). predicate_called set m (codes "=") (tree y.tree (tree y.tree no_trees)) y.state ≡ one y.state) new (equals-itself set m s)
 
-filling-runs : (known : Knows) (set : Setting) (b : Builtins) (l m : Level) → Alike known set b l m → (n h : ℕ) (ns ms : SlotNames) (e : Environment) (t : Tree) (slots : Places) (s : State) (x : Valued) → Agrees n h ns e slots →
+filling-runs : (known : Knows) (set : Setting) (b : Builtins) (l m : Level) → Alike known set b l m → (n : Room) (h : ℕ) (ns ms : SlotNames) (e : Environment) (t : Tree) (slots : Places) (s : State) (x : Valued) → Agrees n h ns e slots →
     (c : Comes n h ms t slots s x) → runs b (filling (length ns) t ∷ []) (point l slots s) ≡ one (point l c.after x.state)
 filling-runs known set b l m alike n h ns ms e (Tree.var k) slots s x a c = go (nat_lt k (length ns)) refl
   where
@@ -131,7 +131,7 @@ flat-filled known set b l m h before e alike is flat = record {
       (sym (flat-value set before e flat m (place env s) ∙ ap term_value c.there)) (go n ns env slots s a t c.value c.comes (is_below h t.tree) refl);
 }
   where
-    go : (n : ℕ) (ns : SlotNames) (env : Environment) (slots : Places) (s : State) → Agrees n h ns env slots → (t : SlotTerm) (x : Valued) → Comes n h t.names t.tree slots s x → (test : Bool) → is_below h t.tree ≡ test →
+    go : (n : Room) (ns : SlotNames) (env : Environment) (slots : Places) (s : State) → Agrees n h ns env slots → (t : SlotTerm) (x : Valued) → Comes n h t.names t.tree slots s x → (test : Bool) → is_below h t.tree ≡ test →
         SameBy (AtFilled l n h t.names t.tree slots) (runs b (cond test [] (filling (length ns) t.tree ∷ [])) (point l slots s)) (one x)
     go n ns env slots s a t x c true below =
         let filled : (u : Tree) × Filled slots t.tree u = below-filled h slots a.firm t.tree below in

@@ -27,7 +27,7 @@ use Rattle.pi_lowered.specs.Goals.{called}
 use Rattle.pi_lowered.specs.Forms.{Knows, AreTerms}
 use Rattle.pi_lowered.proofs.SameLemmas.{SameBy, same-one, same-then, same-then_same}
 use Rattle.pi_lowered.proofs.FilledLemmas.{Filled, in_slot, AllFilled, none_filled, one_filled, extends-none, extends-then, set-keeps, filled-more, all-filled-more, filled-comes, items-filled, term_at, in_front_of}
-use Rattle.pi_lowered.proofs.AgreeLemmas.{by, grows-none, grows-then, grows-length, Agrees, agrees-value}
+use Rattle.pi_lowered.proofs.AgreeLemmas.{Room, by, grows-none, grows-then, grows-length, Agrees, agrees-value}
 use Rattle.pi_lowered.proofs.TermLemmas.{ComeTo, terms-grow, terms-come, nothing-comes, front-comes}
 use Rattle.pi_lowered.proofs.RunLemmas.{Alike, point, place, AtPlace, at_place, AtValue, at_value, AtValues, at_values, AtFilled, at_filled, AllAtFilled, all_at_filled, runs, SameGoals, SameLast, SameFilled, SameArguments, SameParts, then-of-one, runs-append}
 use Rattle.pi_lowered.proofs.ControlLemmas.{just-same}
@@ -42,7 +42,7 @@ filled-count f _ _ (one_filled {ts = ts} {us = us} a b) = ap suc (filled-count f
 
 -- a goal behind arguments
 behind-arguments : {B : Type 0} (R : Point → B → Type 0) (b : Builtins) (l m : Level) (h : ℕ) (vs : Values) (lvs : SlotNames → SlotValues) → SameArguments b l m h vs lvs → (g : GoalTree) (after : ValuedAll → Trace B) →
-    (n : ℕ) (ns : SlotNames) (e : Environment) (slots : Places) (s : State) → Agrees n h ns e slots → length (lvs ns).names ≤ n →
+    (n : Room) (ns : SlotNames) (e : Environment) (slots : Places) (s : State) → Agrees n h ns e slots → length (lvs ns).names ≤ n.slots →
     ((q : Point) (x : ValuedAll) → AtValues l n h (lvs ns).names (trees_of (lvs ns).trees) slots q x → SameBy R (runs b (g ∷ []) q) (after x)) →
     SameBy R (runs b ((lvs ns).goals ++ g ∷ []) (point l slots s)) (then (vs m (place e s)) after)
 behind-arguments R b l m h vs lvs are g after n ns e slots s a room each =
@@ -53,7 +53,7 @@ behind-arguments R b l m h vs lvs are g after n ns e slots s a room each =
 abbrev states_then : Environment → Trace State → Trace Place
 states_then e t = then t (λ s. one (record { names = e; state = s }))
 
-called-answer : (known : Knows) (set : Setting) (b : Builtins) (l m : Level) (n h : ℕ) (ns : SlotNames) (name : List ℕ) (args : List Tree) (start : Places) (does : Trees → State → Trace State) → Alike known set b l m →
+called-answer : (known : Knows) (set : Setting) (b : Builtins) (l m : Level) (n : Room) (h : ℕ) (ns : SlotNames) (name : List ℕ) (args : List Tree) (start : Places) (does : Trees → State → Trace State) → Alike known set b l m →
     ((ts : Trees) (s : State) → tree_count ts ≡ tree_count (trees_of args) → predicate_by b l name ts s ≡ does ts s) → (q : Point) (x : ValuedAll) → AtValues l n h ns (trees_of args) start q x →
     SameBy (AtPlace l n h ns) (runs b (GoalTree.call name args ∷ []) q) (states_then x.names (does x.trees x.state))
 unfolding meaning calling
@@ -86,7 +86,7 @@ terms-goals known set b l m h name k vs lvs alike are count is = record {
 }
 
 -- the call of a function: its value stands in a slot of its own
-pub applied-answer : (known : Knows) (set : Setting) (b : Builtins) (l m : Level) (n h : ℕ) (ns : SlotNames) (name : List ℕ) (args : List Tree) (start : Places) → Alike known set b l m → length (with_value ns) ≤ n →
+pub applied-answer : (known : Knows) (set : Setting) (b : Builtins) (l m : Level) (n : Room) (h : ℕ) (ns : SlotNames) (name : List ℕ) (args : List Tree) (start : Places) → Alike known set b l m → length (with_value ns) ≤ n.slots →
     IsTrue (is_given_function name (tree_count (trees_of args)) || known.function name (tree_count (trees_of args))) → (q : Point) (x : ValuedAll) → AtValues l n h ns (trees_of args) start q x →
     SameBy (AtFilled l n h (with_value ns) (Tree.var (length ns)) start) (runs b (GoalTree.apply name args (length ns) ∷ []) q)
     (then (function_called set m name x.trees x.state) (λ a. one (record { tree = a.value; names = x.names; state = a.state })))
@@ -143,7 +143,7 @@ abbrev with_rest : Values → Level → Valued → Trace ValuedAll
 with_rest vs m x = then (vs m (place_of x)) (λ all. one (record { trees = tree x.tree all.trees; names = all.names; state = all.state }))
 
 -- a filled one before others
-filled-before-arguments : (b : Builtins) (l m : Level) (h : ℕ) (vs : Values) (lvs : SlotNames → SlotValues) → SameArguments b l m h vs lvs → (n : ℕ) (ms : SlotNames) (t : Tree) (start : Places) → length (lvs ms).names ≤ n →
+filled-before-arguments : (b : Builtins) (l m : Level) (h : ℕ) (vs : Values) (lvs : SlotNames → SlotValues) → SameArguments b l m h vs lvs → (n : Room) (ms : SlotNames) (t : Tree) (start : Places) → length (lvs ms).names ≤ n.slots →
     (q : Point) (x : Valued) → AtFilled l n h ms t start q x →
     SameBy (AtValues l n h (lvs ms).names (tree t (trees_of (lvs ms).trees)) start) (runs b (lvs ms).goals q) (with_rest vs m x)
 unfolding evaluated
@@ -177,7 +177,7 @@ front-arguments b l m h v vs lv lvs is are = record {
 }
 
 -- parts, each of which is filled
-filled-before-parts : (b : Builtins) (l m : Level) (h : ℕ) (vs : Values) (lvs : SlotNames → SlotValues) → SameParts b l m h vs lvs → (n : ℕ) (ms : SlotNames) (t : Tree) (start : Places) → length (lvs ms).names ≤ n →
+filled-before-parts : (b : Builtins) (l m : Level) (h : ℕ) (vs : Values) (lvs : SlotNames → SlotValues) → SameParts b l m h vs lvs → (n : Room) (ms : SlotNames) (t : Tree) (start : Places) → length (lvs ms).names ≤ n.slots →
     (q : Point) (x : Valued) → AtFilled l n h ms t start q x →
     SameBy (AllAtFilled l n h (lvs ms).names (tree t (trees_of (lvs ms).trees)) start) (runs b (lvs ms).goals q) (with_rest vs m x)
 filled-before-parts b l m h vs lvs are n ms t start room _ _ (at_filled e slots s u a extends f) =
@@ -204,7 +204,7 @@ front-parts b l m h v vs lv lvs is are = record {
 }
 
 -- the last one with a call in it, or none: those behind it are evaluated by the call that uses them
-last-answer : (l m : Level) (n h : ℕ) (ms : SlotNames) (t : Tree) (es : ExpTrees) (vs : Values) (start : Places) → AreTerms es → ((p : Place) → vs m p ≡ terms_value (written_terms es p.names p.state)) → length (slot_terms es ms).names ≤ n →
+last-answer : (l m : Level) (n : Room) (h : ℕ) (ms : SlotNames) (t : Tree) (es : ExpTrees) (vs : Values) (start : Places) → AreTerms es → ((p : Place) → vs m p ≡ terms_value (written_terms es p.names p.state)) → length (slot_terms es ms).names ≤ n.slots →
     (q : Point) (x : Valued) → AtValue l n h ms t start q x →
     SameBy (AtValues l n h (slot_terms es ms).names (tree t (trees_of (slot_terms es ms).trees)) start) (one q) (with_rest vs m x)
 last-answer l m n h ms t es vs start terms is room _ _ (at_value slots s x c extends) =
@@ -244,12 +244,12 @@ parts-value b l m h make vs lvs fill are = record {
       (step n (lvs ns).names (trees_of (lvs ns).trees) slots));
 }
   where
-    step : (n : ℕ) (ms : SlotNames) (ts : Trees) (start : Places) (q : Point) (all : ValuedAll) → AllAtFilled l n h ms ts start q all →
+    step : (n : Room) (ms : SlotNames) (ts : Trees) (start : Places) (q : Point) (all : ValuedAll) → AllAtFilled l n h ms ts start q all →
         SameBy (AtFilled l n h ms (make ts) start) (one q) (one (record { tree = make all.trees; names = all.names; state = all.state }))
     step n ms ts start _ _ (all_at_filled e slots s us a extends fs) = same-one (AtFilled l n h ms (make ts) start) _ _ (at_filled e slots s (make us) a extends (fill slots ts us fs))
 
 -- items in front of a value
-onto-answer : (b : Builtins) (l m : Level) (h : ℕ) (v : Value) (lv : SlotNames → SlotValue) → SameFilled b l m h v lv → (n : ℕ) (ms : SlotNames) (ts : Trees) (start : Places) → length (lv ms).names ≤ n →
+onto-answer : (b : Builtins) (l m : Level) (h : ℕ) (v : Value) (lv : SlotNames → SlotValue) → SameFilled b l m h v lv → (n : Room) (ms : SlotNames) (ts : Trees) (start : Places) → length (lv ms).names ≤ n.slots →
     (q : Point) (all : ValuedAll) → AllAtFilled l n h ms ts start q all →
     SameBy (AtFilled l n h (lv ms).names (items_onto ts (lv ms).tree) start) (runs b (lv ms).goals q)
     (then (v m (behind_all all)) (λ x. one (record { tree = items_onto all.trees x.tree; names = x.names; state = x.state })))

@@ -1,5 +1,5 @@
 -- Iterators as quiet helpers: one that takes the next element, and one that matches it. A list is walked by its cells and an array by an index, both in place. (Own.)
-use Rattle.std.specs.Prelude.{ℕ, suc, ◌+◌, ◌-◌, pos, List, [], ◌∷◌, ◌++◌, length, replicate, codes}
+use Rattle.std.specs.Prelude.{ℕ, suc, ◌+◌, ◌-◌, cond, pos, List, [], ◌∷◌, ◌++◌, length, map, replicate, codes}
 use Rattle.pi_terms.specs.Tree.{Tree}
 use Rattle.pi_terms.specs.ListNames.{nil, cell_name}
 use Rattle.pi_terms.specs.PatternTree.{PatternTree, slot, exact_atom, compound, no_patterns, pattern}
@@ -7,7 +7,7 @@ use Rattle.pi_effects.specs.Indexing.{index_name}
 use Rattle.pi_syntax.specs.ExpTree.{ExpTree}
 use Rattle.pi_core.specs.GoalTree.{GoalTree}
 use Rattle.pi_core.specs.CoreTree.{ClauseTree, PredTree}
-use Rattle.pi_names.specs.Texts.{Names}
+use Rattle.pi_names.specs.Texts.{Names, is_among}
 use Rattle.pi_lowered.specs.Slots.{SlotNames, unnamed, with_value}
 use Rattle.pi_lowered.specs.Values.{SlotPattern, slot_pattern, SlotValue, first_item}
 use Rattle.pi_lowered.specs.Goals.{SlotGoals, in_turn}
@@ -15,14 +15,14 @@ use Rattle.pi_lowered.specs.Loops.{Loop, Ending, slots_from, slots_head, with_va
 
 -- ---- slots
 
--- what a helper is handed in front of the names: what is left of a list, or the array; the number of the next item, and of all
+-- what a helper is handed in front of the names: what is left of a list, or the array; the number of the next item, and the first one past all
 abbrev pub walk_slots : ℕ
 walk_slots = 3
 
 abbrev pub handed : Loop → ℕ
 handed l = walk_slots + length l.shared + length l.kept
 
--- The slots of a turn: those of the pattern, of the walk, of what is handed on, and of the variables of the names that the loop keeps. A name that is handed on and that the pattern has too finds the pattern's slot, which stands first.
+-- The slots of a turn: those of the pattern, of the walk, of what is handed on, and of the variables of the names that the loop keeps.
 abbrev pub turn_slots : Loop → SlotPattern → SlotNames
 turn_slots l p = with_values l.kept (p.names ++ replicate walk_slots unnamed ++ l.shared)
 
@@ -66,7 +66,7 @@ array_clause turn l =
     let ns : SlotNames = end_slots walk_slots l in
     let item : ℕ = length ns in
     clause_of (slots_head 0 (handed l))
-    (GoalTree.if_else (GoalTree.call (codes "=<") (Tree.var 1 ∷ Tree.var 2 ∷ []))
+    (GoalTree.if_else (GoalTree.call (codes "<") (Tree.var 1 ∷ Tree.var 2 ∷ []))
     (tick_then (GoalTree.apply index_name (Tree.var 0 ∷ Tree.var 1 ∷ []) item ∷ GoalTree.apply (codes "+") (Tree.var 1 ∷ Tree.int (pos 1) ∷ []) (suc item)
     ∷ GoalTree.call turn (Tree.var item ∷ Tree.var 0 ∷ Tree.var (suc item) ∷ slots_from 2 (handed l - 2)) ∷ []))
     (in_turn (closing l.ending l.kept (walk_slots + length l.shared) (item + 2) ns))) (closing_slots l.kept (item + 2))
@@ -76,15 +76,20 @@ element_helper turn l = helper l.name (handed l) (cell_clause turn l ∷ nil_cla
 
 -- ---- where the loop stands
 
--- What the iterator goes over has names of its own: behind it no name finds their slots.
+-- What the iterator goes over has names of its own. It finds the slots of those names alone that stand before the loop, and behind it no name finds those that it took.
+abbrev pub only : Names → SlotNames → SlotNames
+only before ns = map (λ name. cond (is_among before name) name unnamed) ns
+
 abbrev pub behind_collection : SlotNames → SlotNames → SlotNames
 behind_collection ns after = ns ++ replicate (length after - length ns) unnamed
 
 abbrev pub walked : SlotNames → SlotValue → SlotValue
 walked ns v = record {
-  goals = v.goals ++ GoalTree.apply (codes "length") (v.tree ∷ []) (length v.names) ∷ [];
+  goals =
+      v.goals ++ GoalTree.apply (codes "length") (v.tree ∷ []) (length v.names)
+      ∷ GoalTree.apply (codes "+") (Tree.var (length v.names) ∷ Tree.int (pos 1) ∷ []) (suc (length v.names)) ∷ [];
   tree = v.tree;
-  names = behind_collection ns (with_value v.names);
+  names = behind_collection ns (with_value (with_value v.names));
 }
 
 abbrev pub over : Loop → List GoalTree → SlotValue → SlotGoals
@@ -93,4 +98,4 @@ over l goals v = entered l (goals ++ v.goals) (v.tree ∷ Tree.int (pos 1) ∷ T
 abbrev pub iterator_goals : ℕ → Names → Loop → (SlotNames → SlotValue) → SlotNames → SlotGoals
 iterator_goals h before l collection ns =
     let start : SlotValue = started h before ns in
-    over l start.goals (walked start.names (collection start.names))
+    over l start.goals (walked start.names (collection (only before start.names)))

@@ -9,7 +9,7 @@ use Rattle.pi_traces.specs.Trace.{Trace, done, one}
 use Rattle.pi_traces.proofs.BelowLemmas.{below-refl}
 use Rattle.pi_meaning.specs.Level.{Level}
 use Rattle.pi_meaning.specs.Place.{Place}
-use Rattle.pi_names.specs.Texts.{Names, places, places_all, places_behind, places_caught, places_of_branches, behind, iterated, unit_places, begins_with_iterator, assigned, kept_names}
+use Rattle.pi_names.specs.Texts.{Names, places, places_all, places_behind, places_caught, places_of_branches, occurring, occurring_all, behind, iterated, unit_places, begins_with_iterator, shared_names, names_inside, assigned, kept_names}
 use Rattle.pi_meaning.specs.Given.{Setting, LaterOnlyAdds}
 use Rattle.pi_names.specs.Control.{Goal, Values, nothing, made_of, applied_to, all_found, all_counted, goal_at, value_at}
 use Rattle.pi_names.specs.Loops.{Finish, as_it_is, hidden, in_order}
@@ -95,8 +95,8 @@ mutual
       range-grows set r _ (front-grows _ _ (value-grows set adds plain before first) (front-grows _ _ (value-grows set adds plain (behind before (places first)) step)
       (front-grows _ nothing (value-grows set adds plain (behind before (places first ++ places step)) last) nothing-grows)))
   value-grows set adds r before (collect is_array e es) =
-      comprehended-grows before _ (started-grows (begins_with_iterator es) (in_order is_array) (before ++ hidden ∷ []) (hidden ∷ []) _
-      (λ finish. units-grow set adds finish (before ++ hidden ∷ []) (hidden ∷ []) es _ (λ names. adding-grows _ (value-grows set adds plain names e))))
+      comprehended-grows before _ (started-grows (begins_with_iterator es) (in_order is_array) (before ++ hidden ∷ []) _ (hidden ∷ []) _
+      (λ finish inside. units-grow set adds finish inside (hidden ∷ []) (hidden ∷ occurring e) es _ (λ names. adding-grows _ (value-grows set adds plain names e))))
   value-grows set adds r before (at name e) = stays _
   value-grows set adds r before (and es) = stays _
   value-grows set adds r before (or es) = stays _
@@ -133,14 +133,14 @@ mutual
   goal-grows set adds before (if_then bs) = draining-grows _ (branches-grow set adds before bs (λ m q. one q) (stays (λ q. one q)))
   goal-grows set adds before (if_else bs e) = draining-grows _ (branches-grow set adds before bs _ (goal-grows set adds (behind before (places_of_branches bs)) e))
   goal-grows set adds before (foreach es e) =
-      draining-grows _ (started-grows (begins_with_iterator es) as_it_is before (kept_names before es (assigned e)) _
-      (λ finish. units-grow set adds finish before (assigned e) es _ (λ names. goal-grows set adds names e)))
+      draining-grows _ (started-grows (begins_with_iterator es) as_it_is before _ (kept_names before es (assigned e)) _
+      (λ finish inside. units-grow set adds finish inside (assigned e) (occurring e) es _ (λ names. goal-grows set adds names e)))
   goal-grows set adds before (while_do c e) =
-      draining-grows _ (turning-grows as_it_is before (kept_names before no_exps (assigned e)) _
-      (while-grows (kept_names before no_exps (assigned e)) _ _ (goal-grows set adds before c) (goal-grows set adds (behind before (places c)) e)))
+      let inside : Names = shared_names before (occurring c ++ occurring e) in
+      draining-grows _ (turning-grows as_it_is before inside (kept_names before no_exps (assigned e)) _ (while-grows inside _ _ (goal-grows set adds inside c) (goal-grows set adds (behind inside (places c)) e)))
   goal-grows set adds before (do_while e c) =
-      draining-grows _ (turning-grows as_it_is before (kept_names before no_exps (assigned e)) _
-      (do-grows (kept_names before no_exps (assigned e)) _ _ (goal-grows set adds before e) (goal-grows set adds (behind before (places e)) c)))
+      let inside : Names = shared_names before (occurring e ++ occurring c) in
+      draining-grows _ (turning-grows as_it_is before inside (kept_names before no_exps (assigned e)) _ (do-grows inside _ _ (goal-grows set adds inside e) (goal-grows set adds (behind inside (places e)) c)))
   goal-grows set adds before (var name) = stays _
   goal-grows set adds before (int n) = stays _
   goal-grows set adds before (str text) = stays _
@@ -172,11 +172,12 @@ mutual
   branches-grow set adds before (branch c e bs) other h =
       choosing-grows _ _ _ (goal-grows set adds before c) (goal-grows set adds (behind before (places c)) e) (branches-grow set adds (behind before (places c ++ places e)) bs other h)
 
-  units-grow : (set : Setting) → LaterOnlyAdds set.later → (finish : Finish) (before names : Names) (us : ExpTrees) (body : Names → Goal) → ((ns : Names) → Grows (body ns)) → Grows (units_of set finish before names us body)
-  units-grow set adds finish before names no_exps body h = h before
-  units-grow set adds finish before names (exp u us) body h =
-      unit-grows finish before (kept_names before (exp u us) names) (iterated u) _ _ _ (collection-grows set adds before u) (goal-grows set adds before u)
-      (units-grow set adds as_it_is (behind before (unit_places (iterated u) u)) names us body h)
+  units-grow : (set : Setting) → LaterOnlyAdds set.later → (finish : Finish) (before names used : Names) (us : ExpTrees) (body : Names → Goal) → ((ns : Names) → Grows (body ns)) → Grows (units_of set finish before names used us body)
+  units-grow set adds finish before names used no_exps body h = h before
+  units-grow set adds finish before names used (exp u us) body h =
+      let inside : Names = names_inside before (iterated u) (occurring_all us ++ used) in
+      unit-grows finish before inside (kept_names before (exp u us) names) (iterated u) _ _ _ (collection-grows set adds before u) (goal-grows set adds before u)
+      (units-grow set adds as_it_is (behind inside (unit_places (iterated u) u)) names used us body h)
 
   collection-grows : (set : Setting) → LaterOnlyAdds set.later → (before : Names) (e : ExpTree) → Grows (collection_of set before e)
   collection-grows set adds before (call name es) = value-at-grows _ 1 (values-apart-grow set adds before es)

@@ -1,8 +1,11 @@
 -- More depth only adds: loops and comprehensions, over whatever grows with the depth.
 use Rattle.std.proofs.Common.{ℕ, suc, Bool, true, false, List, [], ◌∷◌}
-use Rattle.std.specs.Prelude.{Option, Some, None}
+use Rattle.std.specs.Prelude.{Option, Some, None, length, pos, Ok, Err}
 use Rattle.pi_terms.specs.Tree.{Tree}
 use Rattle.pi_states.specs.State.{State, bindings, next}
+use Rattle.pi_arith.specs.Range.{Outcome}
+use Rattle.pi_arith.specs.Value.{value_of}
+use Rattle.pi_arith.specs.declared.operation.Op.TheVariants.{Add}
 use Rattle.pi_effects.specs.Items.{collection_items}
 use Rattle.pi_syntax.specs.ExpTree.{ExpTree}
 use Rattle.pi_traces.specs.Trace.{Trace, Tick, one}
@@ -17,7 +20,7 @@ use Rattle.pi_names.specs.Assigning.{with_names, carried}
 use Rattle.pi_names.specs.Heads.{pattern_matched}
 use Rattle.pi_meaning.specs.Given.{Setting}
 use Rattle.pi_names.specs.Control.{Goal, Value, draining, strictly, choosing, nothing, in_front, applied_to}
-use Rattle.pi_names.specs.Loops.{Finish, as_it_is, closed, opened, framed, matched_turn, element, elements, items_then, iterating, turning, unit, while_turns, do_turns, adding, comprehended}
+use Rattle.pi_names.specs.Loops.{Finish, as_it_is, closed, opened, framed, matched_turn, element, elements, if_numbered, items_then, iterating, turning, unit, while_turns, do_turns, adding, comprehended}
 use Rattle.pi_names.specs.Forms.{indexed_by}
 use Rattle.pi_names.specs.Goals.{started}
 use Rattle.pi_effects.specs.Indexing.{index_name}
@@ -29,13 +32,13 @@ closed-grows finish [] k e l m b p = below-refl _
 closed-grows finish (name ∷ names) k e l m b p =
     below-then _ _ _ _ ((calls-below l m b).drained p.state) (λ s. below-then _ _ _ _ (below-refl _) (λ r. closed-grows finish names (suc k) _ l m b _))
 
-framed-grows : (finish : Finish) (kept : Names) (turns : Goal) → Grows turns → Grows (framed finish kept turns)
-framed-grows finish kept turns grows l m b p = below-then _ _ _ _ (grows l m b (opened kept p)) (closed-grows finish kept (next p.state) p.names l m b)
+framed-grows : (finish : Finish) (inside kept : Names) (turns : Goal) → Grows turns → Grows (framed finish inside kept turns)
+framed-grows finish inside kept turns grows l m b p = below-then _ _ _ _ (grows l m b (opened inside kept p)) (closed-grows finish kept (next p.state) p.names l m b)
 
-matched-grows : (kept : Names) (body others : Goal) → Grows body → Grows others → (l m : Level) → LevelBelow l m → (p : Place) (o : Option Environment) →
-    Below (matched_turn kept body others l p o) (matched_turn kept body others m p o)
-matched-grows kept body others grows more l m b p None = more l m b p
-matched-grows kept body others grows more l m b p (Some e) = below-then _ _ _ _ (grows l m b _) (λ q. more l m b (carried kept p q))
+matched-grows : (inside : Names) (body others : Goal) → Grows body → Grows others → (l m : Level) → LevelBelow l m → (p : Place) (o : Option Environment) →
+    Below (matched_turn inside body others l p o) (matched_turn inside body others m p o)
+matched-grows inside body others grows more l m b p None = more l m b p
+matched-grows inside body others grows more l m b p (Some e) = below-then _ _ _ _ (grows l m b _) (λ q. more l m b (carried inside q))
 
 -- a Tick, and what follows at the lower level
 ticked-grows : (g : Goal) → Grows g → (l m : Level) → LevelBelow l m → (p : Place) → Below (ticked (lower l) (λ k. g k p)) (ticked (lower m) (λ k. g k p))
@@ -43,31 +46,35 @@ ticked-grows g grows (lowest c) m b p = deeper _
 ticked-grows g grows (over c l) (lowest d) b p = absurd b
 ticked-grows g grows (over c l) (over d m) b p = same_note Tick (grows l m b.1 p)
 
-elements-grow : (kept : Names) (pattern : ExpTree) (body : Goal) → Grows body → (ts : List Tree) → Grows (elements kept pattern body ts)
+elements-grow : (inside : Names) (pattern : ExpTree) (body : Goal) → Grows body → (ts : List Tree) → Grows (elements inside pattern body ts)
 unfolding elements
-elements-grow kept pattern body grows [] = draining-grows (λ m q. one q) (stays (λ q. one q))
-elements-grow kept pattern body grows (t ∷ ts) =
-    let turn : Goal = element kept pattern body t (elements kept pattern body ts) in
-    let grown : Grows turn = λ l m b p. matched-grows kept body (elements kept pattern body ts) grows (elements-grow kept pattern body grows ts) l m b p (pattern_matched (bindings p.state) pattern t []) in
+elements-grow inside pattern body grows [] = draining-grows (λ m q. one q) (stays (λ q. one q))
+elements-grow inside pattern body grows (t ∷ ts) =
+    let turn : Goal = element inside pattern body t (elements inside pattern body ts) in
+    let grown : Grows turn = λ l m b p. matched-grows inside body (elements inside pattern body ts) grows (elements-grow inside pattern body grows ts) l m b p (pattern_matched (bindings p.state) pattern t []) in
     draining-grows (λ m q. ticked (lower m) (λ k. turn k q)) (λ l m b p. ticked-grows turn grown l m b p)
 
 items-below : (f g : List Tree → Trace Place) → ((ts : List Tree) → Below (f ts) (g ts)) → (d : Tree) (s : State) (o : Option (List Tree)) → Below (items_then f d s o) (items_then g d s o)
 items-below f g each d s None = below-refl _
-items-below f g each d s (Some ts) = each ts
+items-below f g each d s (Some ts) = numbered (value_of Add (pos (length ts)) (pos 1))
+  where
+    numbered : (o : Outcome) → Below (if_numbered o (f ts)) (if_numbered o (g ts))
+    numbered (Ok n) = each ts
+    numbered (Err fault) = below-refl _
 
-pub iterating-grows : (finish : Finish) (before kept : Names) (pattern : ExpTree) (collection : Value) (body : Goal) → Grows collection → Grows body → Grows (iterating finish before kept pattern collection body)
+pub iterating-grows : (finish : Finish) (before inside kept : Names) (pattern : ExpTree) (collection : Value) (body : Goal) → Grows collection → Grows body → Grows (iterating finish before inside kept pattern collection body)
 unfolding iterating
-iterating-grows finish before kept pattern collection body a c l m b p =
-    below-then _ _ _ _ (a l m b (with_names before p))
-    (λ x. items-below _ _ (λ ts. framed-grows finish kept (elements kept pattern body ts) (elements-grow kept pattern body c ts) l m b _) x.tree x.state (collection_items (bindings x.state) x.tree))
+iterating-grows finish before inside kept pattern collection body a c l m b p =
+    below-then _ _ _ _ (a l m b (carried before (with_names before p)))
+    (λ x. items-below _ _ (λ ts. framed-grows finish inside kept (elements inside pattern body ts) (elements-grow inside pattern body c ts) l m b _) x.tree x.state (collection_items (bindings x.state) x.tree))
 
-pub turning-grows : (finish : Finish) (before kept : Names) (turns : Goal) → Grows turns → Grows (turning finish before kept turns)
+pub turning-grows : (finish : Finish) (before inside kept : Names) (turns : Goal) → Grows turns → Grows (turning finish before inside kept turns)
 unfolding turning
-turning-grows finish before kept turns grows l m b p = framed-grows finish kept turns grows l m b (with_names before p)
+turning-grows finish before inside kept turns grows l m b p = framed-grows finish inside kept turns grows l m b (with_names before p)
 
-pub unit-grows : (finish : Finish) (before kept : Names) (o : Option ExpTree) (collection : Value) (test rest : Goal) → Grows collection → Grows test → Grows rest → Grows (unit finish before kept o collection test rest)
-unit-grows finish before kept (Some pattern) collection test rest a c d = iterating-grows finish before kept pattern collection rest a d
-unit-grows finish before kept None collection test rest a c d = choosing-grows test rest (λ l p. one p) c d (stays (λ p. one p))
+pub unit-grows : (finish : Finish) (before inside kept : Names) (o : Option ExpTree) (collection : Value) (test rest : Goal) → Grows collection → Grows test → Grows rest → Grows (unit finish before inside kept o collection test rest)
+unit-grows finish before inside kept (Some pattern) collection test rest a c d = iterating-grows finish before inside kept pattern collection rest a d
+unit-grows finish before inside kept None collection test rest a c d = choosing-grows test rest (λ l p. one p) c d (stays (λ p. one p))
 
 -- a form of control whose parts differ from one level to the next
 choosing-below : (test f g h : Goal) → Grows test → (l m : Level) → LevelBelow l m → ((q : Place) → Below (f l q) (g m q)) → ((q : Place) → Below (h l q) (h m q)) → (p : Place) →
@@ -79,27 +86,27 @@ draining-below : (f g : Goal) (l m : Level) → LevelBelow l m → ((q : Place) 
 unfolding draining
 draining-below f g l m b each p = below-then _ _ _ _ ((calls-below l m b).drained p.state) (λ s. each _)
 
-pub while-grows : (kept : Names) (test body : Goal) → Grows test → Grows body → Grows (while_turns kept test body)
+pub while-grows : (inside : Names) (test body : Goal) → Grows test → Grows body → Grows (while_turns inside test body)
 unfolding while_turns
-while-grows kept test body a c (lowest k) (lowest d) b p = draining-below _ _ (lowest k) (lowest d) b (λ q. choosing-below test _ _ (λ m u. one u) a (lowest k) (lowest d) b (λ u. deeper _) (λ u. below-refl _) q) p
-while-grows kept test body a c (lowest k) (over d m) b p = draining-below _ _ (lowest k) (over d m) b (λ q. choosing-below test _ _ (λ m u. one u) a (lowest k) (over d m) b (λ u. deeper _) (λ u. below-refl _) q) p
-while-grows kept test body a c (over k l) (lowest d) b p = absurd b
-while-grows kept test body a c (over k l) (over d m) b p =
+while-grows inside test body a c (lowest k) (lowest d) b p = draining-below _ _ (lowest k) (lowest d) b (λ q. choosing-below test _ _ (λ m u. one u) a (lowest k) (lowest d) b (λ u. deeper _) (λ u. below-refl _) q) p
+while-grows inside test body a c (lowest k) (over d m) b p = draining-below _ _ (lowest k) (over d m) b (λ q. choosing-below test _ _ (λ m u. one u) a (lowest k) (over d m) b (λ u. deeper _) (λ u. below-refl _) q) p
+while-grows inside test body a c (over k l) (lowest d) b p = absurd b
+while-grows inside test body a c (over k l) (over d m) b p =
     draining-below _ _ (over k l) (over d m) b (λ q. choosing-below test _ _ (λ m u. one u) a (over k l) (over d m) b
-    (λ u. same_note Tick (below-then _ _ _ _ (c l m b.1 u) (λ r. while-grows kept test body a c l m b.1 (carried kept p r)))) (λ u. below-refl _) q) p
+    (λ u. same_note Tick (below-then _ _ _ _ (c l m b.1 u) (λ r. while-grows inside test body a c l m b.1 (carried inside r)))) (λ u. below-refl _) q) p
 
-do-lowest : (kept : Names) (body test : Goal) (k : Calls) (m : Level) → LevelBelow (lowest k) m → (p : Place) → Below (do_turns kept body test (lowest k) p) (do_turns kept body test m p)
+do-lowest : (inside : Names) (body test : Goal) (k : Calls) (m : Level) → LevelBelow (lowest k) m → (p : Place) → Below (do_turns inside body test (lowest k) p) (do_turns inside body test m p)
 unfolding do_turns
-do-lowest kept body test k (lowest d) b p = draining-below _ _ (lowest k) (lowest d) b (λ q. deeper _) p
-do-lowest kept body test k (over d m) b p = draining-below _ _ (lowest k) (over d m) b (λ q. deeper _) p
+do-lowest inside body test k (lowest d) b p = draining-below _ _ (lowest k) (lowest d) b (λ q. deeper _) p
+do-lowest inside body test k (over d m) b p = draining-below _ _ (lowest k) (over d m) b (λ q. deeper _) p
 
-pub do-grows : (kept : Names) (body test : Goal) → Grows body → Grows test → Grows (do_turns kept body test)
+pub do-grows : (inside : Names) (body test : Goal) → Grows body → Grows test → Grows (do_turns inside body test)
 unfolding do_turns
-do-grows kept body test a c (lowest k) m b p = do-lowest kept body test k m b p
-do-grows kept body test a c (over k l) (lowest d) b p = absurd b
-do-grows kept body test a c (over k l) (over d m) b p =
+do-grows inside body test a c (lowest k) m b p = do-lowest inside body test k m b p
+do-grows inside body test a c (over k l) (lowest d) b p = absurd b
+do-grows inside body test a c (over k l) (over d m) b p =
     draining-below _ _ (over k l) (over d m) b (λ q. same_note Tick (below-then _ _ _ _ (a l m b.1 q)
-    (λ r. draining-below _ _ l m b.1 (λ u. choosing-below test _ _ (λ k u. one u) c l m b.1 (λ w. do-grows kept body test a c l m b.1 (carried kept p w)) (λ w. below-refl _) u) r))) p
+    (λ r. draining-below _ _ l m b.1 (λ u. choosing-below test _ _ (λ k u. one u) c l m b.1 (λ w. do-grows inside body test a c l m b.1 (carried inside w)) (λ w. below-refl _) u) r))) p
 
 pub adding-grows : (item : Value) → Grows item → Grows (adding item)
 adding-grows item grows l m b p = below-then _ _ _ _ (grows l m b p) (λ x. below-refl _)
@@ -108,9 +115,9 @@ pub comprehended-grows : (before : Names) (loop : Goal) → Grows loop → Grows
 unfolding comprehended
 comprehended-grows before loop grows l m b p = below-then _ _ _ _ (grows l m b _) (λ q. below-refl _)
 
-pub started-grows : (begins : Bool) (finish : Finish) (before kept : Names) (turns : Finish → Goal) → ((f : Finish) → Grows (turns f)) → Grows (started begins finish before kept turns)
-started-grows true finish before kept turns grows = grows finish
-started-grows false finish before kept turns grows = turning-grows finish before kept (strictly (turns as_it_is)) (strictly-grows (turns as_it_is) (grows as_it_is))
+pub started-grows : (begins : Bool) (finish : Finish) (before inside kept : Names) (turns : Finish → Names → Goal) → ((f : Finish) (names : Names) → Grows (turns f names)) → Grows (started begins finish before inside kept turns)
+started-grows true finish before inside kept turns grows = grows finish before
+started-grows false finish before inside kept turns grows = turning-grows finish before inside kept (strictly (turns as_it_is inside)) (strictly-grows (turns as_it_is inside) (grows as_it_is inside))
 
 pub indexed-grows : (set : Setting) (v : Value) (is : List Value) → Grows v → AllGrow is → Grows (indexed_by set v is)
 unfolding indexed_by

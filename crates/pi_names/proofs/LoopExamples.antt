@@ -1,9 +1,9 @@
 -- Loops, assignments, comprehensions and facts, worked out: what the definitions are meant to say of them.
 use Rattle.std.proofs.Common.{◌≡◌, ℕ, zero, suc, List, [], ◌∷◌, refl}
 use Rattle.std.specs.Prelude.{pos, true, false, Some, codes}
-use Rattle.pi_terms.specs.Tree.{atom, var as variable}
+use Rattle.pi_terms.specs.Tree.{Tree, atom, var as variable}
 use Rattle.pi_effects.specs.Items.{list_of, list_onto as list_before}
-use Rattle.pi_syntax.specs.ExpTree.{ExpTree, list, or, range, collect, foreach, while_do, do_while, quote, atom as name, int as number}
+use Rattle.pi_syntax.specs.ExpTree.{ExpTree, no_exps, list, array, or, range, collect, foreach, while_do, do_while, quote, atom as name, int as number}
 use Rattle.pi_syntax.specs.ProgramTree.{fact, ProgramTree}
 use Rattle.pi_syntax.specs.declared.program.Decl.{Decl}
 use Rattle.pi_syntax.specs.declared.program.Mode.{Mode}
@@ -168,3 +168,27 @@ patterns-stand_behind :
     ≡ done_with (seen Tick ∷ seen Tick ∷ told (is (codes "Y") (variable 0) ∷ is (codes "Z") (variable 2) ∷ []) ∷ [])
 unfolding run_of
 patterns-stand_behind = refl
+
+-- L = find_all({[{Z,Y} : Z in 1..2], Y}, foreach(I in []) true end): the comprehension stands before the Y behind it, so that each of its turns has one of its own, also where the loop of the
+-- goal made a variable of that Y; and so it is where no loop did. Likewise what an iterator goes over: of [Z : Z in [Y]] the Y is another one than that behind it.
+abbrev found_by : ExpTree → ExpTree
+found_by goal =
+    equal (v (codes "L")) (calls (codes "find_all") (array (exps (collect false (array (exps (Z ∷ Y ∷ []))) (exps (goes_over Z (from_to 1 2) ∷ [])) ∷ Y ∷ [])) ∷ goal ∷ []))
+
+abbrev gone_over : ExpTree → ExpTree
+gone_over goal = equal (v (codes "L")) (calls (codes "find_all") (array (exps (collect false Z (exps (goes_over Z (list (exps (Y ∷ []))) ∷ [])) ∷ Y ∷ [])) ∷ goal ∷ []))
+
+abbrev pair : ℕ → ℕ → Tree
+pair j k = compound (codes "{}") (n j ∷ variable k ∷ [])
+
+names-further_behind :
+    (run_of [] (found_by (foreach (exps (goes_over I (list no_exps) ∷ [])) (name (codes "true")))) 9 9
+    ≡ done_with (seen Tick ∷ seen Tick ∷ told (is (codes "L") (list_of (compound (codes "{}") (list_of (pair 1 1 ∷ pair 2 2 ∷ []) ∷ variable 3 ∷ []) ∷ [])) ∷ is (codes "Y") (variable 4) ∷ []) ∷ []))
+    × (run_of [] (found_by (name (codes "true"))) 9 9
+    ≡ done_with (seen Tick ∷ seen Tick ∷ told (is (codes "L") (list_of (compound (codes "{}") (list_of (pair 1 1 ∷ pair 2 2 ∷ []) ∷ variable 3 ∷ []) ∷ [])) ∷ is (codes "Y") (variable 4) ∷ []) ∷ []))
+    × (run_of [] (gone_over (foreach (exps (goes_over I (list no_exps) ∷ [])) (name (codes "true")))) 9 9
+    ≡ done_with (seen Tick ∷ told (is (codes "L") (list_of (compound (codes "{}") (list_of (variable 1 ∷ []) ∷ variable 2 ∷ []) ∷ [])) ∷ is (codes "Y") (variable 3) ∷ []) ∷ []))
+    × (run_of [] (gone_over (name (codes "true"))) 9 9
+    ≡ done_with (seen Tick ∷ told (is (codes "L") (list_of (compound (codes "{}") (list_of (variable 1 ∷ []) ∷ variable 2 ∷ []) ∷ [])) ∷ is (codes "Y") (variable 3) ∷ []) ∷ []))
+unfolding run_of
+names-further_behind = (refl, refl, refl, refl)

@@ -8,8 +8,8 @@ use Rattle.pi_states.specs.State.{State, next, with_new}
 use Rattle.pi_syntax.specs.ExpTree.{ExpTree, var, int, atom, str, list, list_onto, array, call, quote, index, range, range_by, at, collect, and, or, arrow, if_then, if_else, foreach, while_do, do_while, ExpTrees, no_exps, exp, ExpBranches, no_branches, branch}
 use Rattle.pi_meaning.specs.Environment.{Environment, meant, known, Valued, ValuedAll, name_valued}
 use Rattle.pi_meaning.specs.Place.{Place}
-use Rattle.pi_names.specs.Texts.{Names, is_among, is_blank, places, places_all, places_behind, places_caught, places_of_branches, with_one, behind, unit_places, patterns_of, without, variable_first, the_name, assigned, assigned_all, assigned_in_branches, kept_names}
-use Rattle.pi_names.specs.Assigning.{with_value, place_of, with_names, with_value_of, with_values_of, carried}
+use Rattle.pi_names.specs.Texts.{Names, is_among, is_blank, places, places_all, places_behind, places_caught, places_of_branches, with_one, behind, unit_places, patterns_of, without, shared_names, names_inside, variable_first, the_name, assigned, assigned_all, assigned_in_branches, kept_names}
+use Rattle.pi_names.specs.Assigning.{with_value, place_of, with_names, narrowed, carried}
 use Rattle.pi_names.specs.OtherNames.{IsOther, AreOther, Lacks, LackAll, LackBranches, Agree, AgreeAt, agree_at}
 
 -- values, and several of them, with one state
@@ -79,6 +79,33 @@ pub agree-value : (x : List ℕ) (m : List ℕ) (t : Tree) (e f : Environment) �
 agree-value x m t e f a name other =
     meant-value name m t e ∙ ap (λ (o : Option Tree). cond (bytes_eq name m) (Some t) o) (a name other) ∙ sym (meant-value name m t f)
 
+-- of the entries with one name either all are left or none
+left : (t : Tree) (o : Option Tree) (a b c : Bool) → (b ≡ true → c ≡ a) → cond a (cond b (Some t) (cond c o None)) (cond c o None) ≡ cond c (cond b (Some t) o) None
+left t o true true true same = refl
+left t o true true false same = absurd (cc (same refl))
+left t o true false true same = refl
+left t o true false false same = refl
+left t o false true true same = absurd (cc (same refl))
+left t o false true false same = refl
+left t o false false true same = refl
+left t o false false false same = refl
+
+no-entry : (b : Bool) (o : Option Tree) → o ≡ cond b o o
+no-entry true o = refl
+no-entry false o = refl
+
+pub meant-narrowed : (name : List ℕ) (names : Names) (e : Environment) → meant name (narrowed names e) ≡ cond (is_among names name) (meant name e) None
+unfolding meant
+meant-narrowed name names [] = no-entry (is_among names name) None
+meant-narrowed name names (m ∷ e) =
+    cond-meant name (is_among names m.name) (m ∷ narrowed names e) (narrowed names e)
+    ∙ ap (λ (o : Option Tree). cond (is_among names m.name) (cond (bytes_eq name m.name) (Some m.tree) o) o) (meant-narrowed name names e)
+    ∙ left m.tree (meant name e) (is_among names m.name) (bytes_eq name m.name) (is_among names name) (λ is. ap (is_among names) (equal-bytes name m.name is))
+
+pub agree-narrowed : (x : List ℕ) (names : Names) (e f : Environment) → Agree x e f → Agree x (narrowed names e) (narrowed names f)
+agree-narrowed x names e f a name other =
+    meant-narrowed name names e ∙ ap (λ (o : Option Tree). cond (is_among names name) o None) (a name other) ∙ sym (meant-narrowed name names f)
+
 pub agree-itself : (x : List ℕ) (e : Environment) → Agree x e e
 agree-itself x e name other = refl
 
@@ -106,19 +133,8 @@ names-agree x [] other p q a = a
 names-agree x (name ∷ names) other _ _ (agree_at e f a s) =
     names-agree x names other.1 _ _ (place-agrees x _ _ (name-agrees x name e f a other.0 s))
 
-value-of-agrees : (x : List ℕ) (o : Option Tree) (name : List ℕ) (e f : Environment) → Agree x e f → Agree x (with_value_of o e name) (with_value_of o f name)
-value-of-agrees x None name e f a = a
-value-of-agrees x (Some t) name e f a = agree-value x name t e f a
-
-pub values-of-agree : (x : List ℕ) (names : Names) → AreOther x names → (from on e f : Environment) → Agree x from on → Agree x e f → Agree x (with_values_of names from e) (with_values_of names on f)
-unfolding with_values_of AreOther
-values-of-agree x [] other from on e f a b = b
-values-of-agree x (name ∷ names) other from on e f a b =
-    values-of-agree x names other.1 from on _ _ a
-    (subst (λ (o : Option Tree). Agree x (with_value_of (meant name from) e name) (with_value_of o f name)) (a name other.0) (value-of-agrees x (meant name from) name e f b))
-
-pub carried-agree : (x : List ℕ) (kept : Names) → AreOther x kept → (p q p' q' : Place) → AgreeAt x p p' → AgreeAt x q q' → AgreeAt x (carried kept p q) (carried kept p' q')
-carried-agree x kept other _ _ _ _ (agree_at e f a s) (agree_at g h b r) = agree_at _ _ (values-of-agree x kept other g h e f b a) r
+pub carried-agree : (x : List ℕ) (inside : Names) (p q : Place) → AgreeAt x p q → AgreeAt x (carried inside p) (carried inside q)
+carried-agree x inside _ _ (agree_at e f a s) = agree_at _ _ (agree-narrowed x inside e f a) s
 
 -- ---- names of texts
 
@@ -239,6 +255,13 @@ unfolding AreOther
 other-kept x before us names h =
     other-filter x (is_among before) (behind [] (without names (patterns_of us)))
     (other-behind x [] (without names (patterns_of us)) tt (other-filter x (λ name. not (is_among (patterns_of us) name)) names h))
+
+pub other-shared : (x : List ℕ) (before used : Names) → AreOther x before → AreOther x (shared_names before used)
+other-shared x before used h = other-filter x (is_among used) before h
+
+pub other-inside : (x : List ℕ) (before : Names) (o : Option ExpTree) (used : Names) → AreOther x before → AreOther x (names_inside before o used)
+other-inside x before None used h = h
+other-inside x before (Some e) used h = other-filter x (λ name. not (is_among (places e) name)) (shared_names before used) (other-shared x before used h)
 
 pub lacks-unit : (x : List ℕ) (u : ExpTree) → Lacks x u → (o : Option ExpTree) → ((e : ExpTree) → o ≡ Some e → Lacks x e) → AreOther x (unit_places o u)
 lacks-unit x u h None part = lacks-places x u h

@@ -9,14 +9,14 @@ use Rattle.pi_traces.specs.Trace.{Trace, one}
 use Rattle.pi_traces.specs.Related.{BelowBy}
 use Rattle.pi_meaning.specs.Level.{Level}
 use Rattle.pi_meaning.specs.Place.{Place}
-use Rattle.pi_names.specs.Texts.{Names, places, places_all, places_behind, places_caught, places_of_branches, behind, iterated, unit_places, begins_with_iterator, assigned, kept_names}
+use Rattle.pi_names.specs.Texts.{Names, places, places_all, places_behind, places_caught, places_of_branches, occurring, occurring_all, behind, iterated, unit_places, begins_with_iterator, shared_names, names_inside, assigned, kept_names}
 use Rattle.pi_meaning.specs.Given.{Setting}
 use Rattle.pi_names.specs.Control.{Goal, Values, nothing, made_of, applied_to, all_found, all_counted, goal_at, value_at}
 use Rattle.pi_names.specs.Loops.{Finish, as_it_is, hidden, in_order}
 use Rattle.pi_names.specs.Forms.{Form, negation, once, assignment, catch, by_term, membership, form_of, Parts, call_goal, atom_goal, Reading, plain, operand, boolean, ranged, readings, first_reading, later_readings, is_operand_node, is_sum, is_connective, is_constraint, operand_readings, function_value, call_value, range_value}
 use Rattle.pi_names.specs.Goals.{value_of, values_of, values_in, values_apart, goals_in, goal_of, all_of, any_of, arrow_in, branches_of, units_of, collection_of}
 use Rattle.pi_names.specs.OtherNames.{IsOther, AreOther, Lacks, LackAll, LackBranches, AgreeAt, agree_at, OtherNamesChangeNothing}
-use Rattle.pi_names.proofs.OtherEnvironments.{AgreeValued, agree-back, other-append, other-behind, other-kept, lacks-places, lacks-all-places, lacks-behind, lacks-caught, lacks-branch-places, lacks-assigned, lacks-unit}
+use Rattle.pi_names.proofs.OtherEnvironments.{AgreeValued, agree-back, other-append, other-behind, other-kept, other-shared, other-inside, lacks-places, lacks-all-places, lacks-behind, lacks-caught, lacks-branch-places, lacks-assigned, lacks-unit}
 use Rattle.pi_names.proofs.OtherControl.{Steady, SteadyGoal, SteadyValue, SteadyValues, no-answer, no-valued, one-answer, quoted-steady, draining-steady, constantly-steady, name-steady, nothing-steady, front-steady, made-steady, onto-steady, applied-steady, called-steady, calling-steady, found-steady, counted-steady, following-steady, choosing-steady, denying-steady, once-steady, assigning-steady, catching-steady, SteadyArrow, no_arrow, an_arrow, branch-steady, AllSteady, goal-at-steady, value-at-steady}
 use Rattle.pi_names.proofs.OtherLoops.{turning-steady, unit-steady, while-steady, do-steady, adding-steady, comprehended-steady, started-steady, indexed-steady}
 
@@ -129,8 +129,8 @@ mutual
       (other-behind x before (places first ++ places step) o (other-append x (places first) (places step) (lacks-places x first h.0) (lacks-places x step h.1))) last h.2) (nothing-steady x))))
   value-steady x n set r before o (collect is_array e es) h =
       let inside : AreOther x (before ++ hidden ∷ []) = other-append x before (hidden ∷ []) o (hidden-other x n) in
-      comprehended-steady x n before o _ (started-steady x (begins_with_iterator es) (in_order is_array) (before ++ hidden ∷ []) (hidden ∷ []) inside (hidden-other x n) _
-      (λ finish. units-steady x n set finish (before ++ hidden ∷ []) inside (hidden ∷ []) (hidden-other x n) es h.1 _ (λ names other. adding-steady x n _ (value-steady x n set plain names other e h.0))))
+      comprehended-steady x n before o _ (started-steady x (begins_with_iterator es) (in_order is_array) (before ++ hidden ∷ []) _ (hidden ∷ []) inside (other-shared x (before ++ hidden ∷ []) (occurring_all es ++ hidden ∷ occurring e) inside) (hidden-other x n) _
+      (λ finish names others. units-steady x n set finish names others (hidden ∷ []) (hidden-other x n) (hidden ∷ occurring e) es h.1 _ (λ ns other. adding-steady x n _ (value-steady x n set plain ns other e h.0))))
   value-steady x n set r before o (at name e) h = no-valued x
   value-steady x n set r before o (and es) h = no-valued x
   value-steady x n set r before o (or es) h = no-valued x
@@ -170,14 +170,18 @@ mutual
       draining-steady x _ (branches-steady x n set before o bs h.0 _
       (goal-steady x n set (behind before (places_of_branches bs)) (other-behind x before (places_of_branches bs) o (lacks-branch-places x bs h.0)) e h.1))
   goal-steady x n set before o (foreach es e) h =
-      draining-steady x _ (started-steady x (begins_with_iterator es) as_it_is before (kept_names before es (assigned e)) o (kept-other x before es e h.1) _
-      (λ finish. units-steady x n set finish before o (assigned e) (lacks-assigned x e h.1) es h.0 _ (λ names other. goal-steady x n set names other e h.1)))
+      draining-steady x _ (started-steady x (begins_with_iterator es) as_it_is before _ (kept_names before es (assigned e)) o (other-shared x before (occurring_all es ++ occurring e) o) (kept-other x before es e h.1) _
+      (λ finish names others. units-steady x n set finish names others (assigned e) (lacks-assigned x e h.1) (occurring e) es h.0 _ (λ ns other. goal-steady x n set ns other e h.1)))
   goal-steady x n set before o (while_do c e) h =
-      draining-steady x _ (turning-steady x as_it_is before (kept_names before no_exps (assigned e)) o (kept-other x before no_exps e h.1) _
-      (while-steady x (kept_names before no_exps (assigned e)) (kept-other x before no_exps e h.1) _ _ (goal-steady x n set before o c h.0) (goal-steady x n set (behind before (places c)) (behind-places x before o c h.0) e h.1)))
+      let inside : Names = shared_names before (occurring c ++ occurring e) in
+      let others : AreOther x inside = other-shared x before (occurring c ++ occurring e) o in
+      draining-steady x _ (turning-steady x as_it_is before inside (kept_names before no_exps (assigned e)) o (kept-other x before no_exps e h.1) _
+      (while-steady x inside _ _ (goal-steady x n set inside others c h.0) (goal-steady x n set (behind inside (places c)) (behind-places x inside others c h.0) e h.1)))
   goal-steady x n set before o (do_while e c) h =
-      draining-steady x _ (turning-steady x as_it_is before (kept_names before no_exps (assigned e)) o (kept-other x before no_exps e h.0) _
-      (do-steady x (kept_names before no_exps (assigned e)) (kept-other x before no_exps e h.0) _ _ (goal-steady x n set before o e h.0) (goal-steady x n set (behind before (places e)) (behind-places x before o e h.0) c h.1)))
+      let inside : Names = shared_names before (occurring e ++ occurring c) in
+      let others : AreOther x inside = other-shared x before (occurring e ++ occurring c) o in
+      draining-steady x _ (turning-steady x as_it_is before inside (kept_names before no_exps (assigned e)) o (kept-other x before no_exps e h.0) _
+      (do-steady x inside _ _ (goal-steady x n set inside others e h.0) (goal-steady x n set (behind inside (places e)) (behind-places x inside others e h.0) c h.1)))
   goal-steady x n set before o (var name) h = no-answer x
   goal-steady x n set before o (int i) h = no-answer x
   goal-steady x n set before o (str text) h = no-answer x
@@ -211,13 +215,15 @@ mutual
       choosing-steady x _ _ _ (goal-steady x n set before o c h.0) (goal-steady x n set (behind before (places c)) (behind-places x before o c h.0) e h.1)
       (branches-steady x n set (behind before (places c ++ places e)) (other-behind x before (places c ++ places e) o (other-append x (places c) (places e) (lacks-places x c h.0) (lacks-places x e h.1))) bs h.2 other s)
 
-  units-steady : (x : List ℕ) → IsOther x hidden → (set : Setting) (finish : Finish) (before : Names) → AreOther x before → (names : Names) → AreOther x names → (us : ExpTrees) → LackAll x us → (body : Names → Goal) →
-      ((ns : Names) → AreOther x ns → SteadyGoal x (body ns)) → SteadyGoal x (units_of set finish before names us body)
-  units-steady x n set finish before o names m no_exps h body s = s before o
-  units-steady x n set finish before o names m (exp u us) h body s =
-      unit-steady x finish before (kept_names before (exp u us) names) o (other-kept x before (exp u us) names m) (iterated u) _ _ _
+  units-steady : (x : List ℕ) → IsOther x hidden → (set : Setting) (finish : Finish) (before : Names) → AreOther x before → (names : Names) → AreOther x names → (used : Names) (us : ExpTrees) → LackAll x us → (body : Names → Goal) →
+      ((ns : Names) → AreOther x ns → SteadyGoal x (body ns)) → SteadyGoal x (units_of set finish before names used us body)
+  units-steady x n set finish before o names m used no_exps h body s = s before o
+  units-steady x n set finish before o names m used (exp u us) h body s =
+      let inside : Names = names_inside before (iterated u) (occurring_all us ++ used) in
+      let others : AreOther x inside = other-inside x before (iterated u) (occurring_all us ++ used) o in
+      unit-steady x finish before inside (kept_names before (exp u us) names) o (other-kept x before (exp u us) names m) (iterated u) _ _ _
       (collection-steady x n set before o u h.0) (goal-steady x n set before o u h.0)
-      (units-steady x n set as_it_is (behind before (unit_places (iterated u) u)) (other-behind x before (unit_places (iterated u) u) o (lacks-unit x u h.0 (iterated u) (iterated-lacks x u h.0))) names m us h.1 body s)
+      (units-steady x n set as_it_is (behind inside (unit_places (iterated u) u)) (other-behind x inside (unit_places (iterated u) u) others (lacks-unit x u h.0 (iterated u) (iterated-lacks x u h.0))) names m used us h.1 body s)
 
   collection-steady : (x : List ℕ) → IsOther x hidden → (set : Setting) (before : Names) → AreOther x before → (e : ExpTree) → Lacks x e → SteadyValue x (collection_of set before e)
   collection-steady x n set before o (call name es) h = value-at-steady x _ 1 (values-apart-steady x n set before o es h)

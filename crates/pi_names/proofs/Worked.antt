@@ -47,9 +47,9 @@ use Rattle.pi_meaning.specs.Facts.{fits_modes}
 use Rattle.pi_meaning.specs.Telling.{told_behind, told_values, if_tellable, Told, told_trace, place_told}
 use Rattle.pi_answers.specs.declared.answer.NamedTerm.{NamedTerm}
 use Rattle.pi_meaning.specs.View.{View, query_view}
-use Rattle.pi_names.specs.Texts.{places, places_all, places_caught, places_of_branches, behind, patterns_of, assigned as assigned_names, assigned_all, assigned_in_branches}
+use Rattle.pi_names.specs.Texts.{places, places_all, places_caught, places_of_branches, occurring, occurring_all, occurring_in_branches, behind, patterns_of, assigned as assigned_names, assigned_all, assigned_in_branches}
 use Rattle.pi_names.specs.Stages.{LaterStages, no_stages}
-use Rattle.pi_names.specs.Assigning.{with_value, with_names, with_values_of}
+use Rattle.pi_names.specs.Assigning.{with_value, with_names}
 use Rattle.pi_names.specs.Terms.{items_onto, written_term, written_terms}
 use Rattle.pi_names.specs.Heads.{characters_matched, pattern_matched, patterns_matched, items_matched}
 use Rattle.pi_meaning.specs.Names.{later_predicates, is_later_predicate, is_later_function}
@@ -84,7 +84,7 @@ pub record Outcome : Type 0 where
 
 -- the run of a goal, cut before Tick number n + 1, taken at a depth
 unfoldable pub run_with : LaterStages → View → ProgramTree → ExpTree → ℕ → ℕ → Outcome
-unfolding places_caught names_trace names_from told_behind told_values if_tellable then alt first negated chosen collected counted caught cut settled drained raised_with meant fits_modes places places_all places_of_branches behind patterns_of assigned_names assigned_all assigned_in_branches with_value with_names with_values_of items_onto written_term written_terms characters_matched pattern_matched patterns_matched items_matched later_predicates is_later_predicate is_later_function predicate_given predicate_called function_given function_called called_at_level first_called draining strictly applied_to all_found all_counted called_with calling_term choosing denying taken_once catching goal_at value_at closed elements iterating turning while_turns do_turns comprehended form_of atom_goal readings operand_readings call_value range_value indexed_by value_of values_of values_in values_apart goals_in goal_of all_of any_of arrow_in branches_of units_of collection_of modes_named rules_called facts_called functions_called calls_by level_for prelude exp_count list_of_copies new_in_all built_in_function built_in_predicate is_predicate has_line tests comparing_tests kind_tests writing_predicates other_predicates pieces filled_in formatted reading_functions done_by integer_functions collection_functions sorting_functions index_functions range_functions naming_functions text_functions making_functions total inserted sorted each_once indexed values_by new_rows each_tree list_onto items_for list_items thrown exception_with type_error tree_count cells order occurrences firsts instance copy rounds value followed_for followed in_pairs assigned joined outcome unified_for unbound_in cells_of_pairs most_pairs all_unified with_new_variables power operation is_reserved is_unquoted_atom stands_bare atom_text is_characters characters written chars encode_utf8 digits
+unfolding places_caught names_trace names_from told_behind told_values if_tellable then alt first negated chosen collected counted caught cut settled drained raised_with meant fits_modes places places_all places_of_branches occurring occurring_all occurring_in_branches behind patterns_of assigned_names assigned_all assigned_in_branches with_value with_names items_onto written_term written_terms characters_matched pattern_matched patterns_matched items_matched later_predicates is_later_predicate is_later_function predicate_given predicate_called function_given function_called called_at_level first_called draining strictly applied_to all_found all_counted called_with calling_term choosing denying taken_once catching goal_at value_at closed elements iterating turning while_turns do_turns comprehended form_of atom_goal readings operand_readings call_value range_value indexed_by value_of values_of values_in values_apart goals_in goal_of all_of any_of arrow_in branches_of units_of collection_of modes_named rules_called facts_called functions_called calls_by level_for prelude exp_count list_of_copies new_in_all built_in_function built_in_predicate is_predicate has_line tests comparing_tests kind_tests writing_predicates other_predicates pieces filled_in formatted reading_functions done_by integer_functions collection_functions sorting_functions index_functions range_functions naming_functions text_functions making_functions total inserted sorted each_once indexed values_by new_rows each_tree list_onto items_for list_items thrown exception_with type_error tree_count cells order occurrences firsts instance copy rounds value followed_for followed in_pairs assigned joined outcome unified_for unbound_in cells_of_pairs most_pairs all_unified with_new_variables power operation is_reserved is_unquoted_atom stands_bare atom_text is_characters characters written chars encode_utf8 digits
 run_with later v program goal n depth =
     let c : Cut Told = cut n (told_trace (place_told (answer_names goal)) (names_trace v later program goal depth)) in
     record { events = map seen_of c.events; stop = c.stop }

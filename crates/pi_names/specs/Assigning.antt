@@ -1,11 +1,11 @@
 -- What loops and assignments do with environments (A User's Guide to Picat, 'Assignments and Loops'). An environment is a finite map: of two entries with one name
 -- the first one counts.
-use Rattle.std.specs.Prelude.{ℕ, cond, List, [], ◌∷◌, Option, Some, None}
+use Rattle.std.specs.Prelude.{ℕ, cond, List, [], ◌∷◌, filter}
 use Rattle.std.specs.Str.{bytes_eq}
 use Rattle.pi_terms.specs.Tree.{Tree}
-use Rattle.pi_meaning.specs.Environment.{Environment, meant, known, Valued, name_valued}
+use Rattle.pi_meaning.specs.Environment.{Environment, known, Valued, name_valued}
 use Rattle.pi_meaning.specs.Place.{Place}
-use Rattle.pi_names.specs.Texts.{Names}
+use Rattle.pi_names.specs.Texts.{Names, is_among}
 
 -- a name stands for another term from here on
 unfoldable pub with_value : Environment → List ℕ → Tree → Environment
@@ -21,15 +21,10 @@ unfoldable pub with_names : Names → Place → Place
 with_names [] p = p
 with_names (name ∷ names) p = with_names names (place_of (name_valued (known name p.names) name p.names p.state))
 
-abbrev pub with_value_of : Option Tree → Environment → List ℕ → Environment
-with_value_of None e name = e
-with_value_of (Some t) e name = with_value e name t
+-- what an environment has for these names
+abbrev pub narrowed : Names → Environment → Environment
+narrowed names e = filter (λ m. is_among names m.name) e
 
--- an environment in which these names have the values that they have in another one
-unfoldable pub with_values_of : Names → Environment → Environment → Environment
-with_values_of [] from e = e
-with_values_of (name ∷ names) from e = with_values_of names from (with_value_of (meant name from) e name)
-
--- The place in which the next turn begins, where a turn began in the first place and has come to the second: of its names only those that are kept have other values.
-abbrev pub carried : Names → Place → Place → Place
-carried kept p q = record { names = with_values_of kept q.names p.names; state = q.state }
+-- A place with these names alone: what is carried into a loop, and from the end of a turn into the next one.
+abbrev pub carried : Names → Place → Place
+carried names p = record { names = narrowed names p.names; state = p.state }

@@ -11,7 +11,7 @@ use Rattle.pi_syntax.specs.Signature.{exp_count}
 use Rattle.pi_traces.specs.Trace.{Trace, done, one}
 use Rattle.pi_meaning.specs.Given.{Setting}
 use Rattle.pi_meaning.specs.Environment.{known, Valued, name_valued}
-use Rattle.pi_names.specs.Texts.{Names, places, places_all, places_behind, places_caught, places_of_branches, behind, iterated, unit_places, begins_with_iterator, variable_first, assigned, kept_names}
+use Rattle.pi_names.specs.Texts.{Names, places, places_all, places_behind, places_caught, places_of_branches, occurring, occurring_all, behind, iterated, unit_places, begins_with_iterator, shared_names, names_inside, variable_first, assigned, kept_names}
 use Rattle.pi_names.specs.Terms.{items_onto, written_term}
 use Rattle.pi_names.specs.Control.{Goal, Value, Values, no_goal, no_value, draining, strictly, constantly, nothing, in_front, made_of, made_onto, following, Arrow, branch_before, choosing, value_at}
 use Rattle.pi_names.specs.Loops.{Finish, as_it_is, turning, unit, while_turns, do_turns, hidden, adding, in_order, comprehended}
@@ -30,8 +30,8 @@ abbrev pub quoted_value : ExpTree → Value
 quoted_value e l p = term_value (written_term e p.names p.state)
 
 -- a loop from its iterators and tests on: where the first is an iterator the loop starts with it
-abbrev pub started : Bool → Finish → Names → Names → (Finish → Goal) → Goal
-started begins finish before kept turns = cond begins (turns finish) (turning finish before kept (strictly (turns as_it_is)))
+abbrev pub started : Bool → Finish → Names → Names → Names → (Finish → Names → Goal) → Goal
+started begins finish before inside kept turns = cond begins (turns finish before) (turning finish before inside kept (strictly (turns as_it_is inside)))
 
 unfoldable mutual
   -- an expression
@@ -59,8 +59,8 @@ unfoldable mutual
       range_value set r (in_front (value_of set plain before first) (in_front (value_of set plain (behind before (places first)) step)
       (in_front (value_of set plain (behind before (places first ++ places step)) last) nothing))) l p
   value_of set r before (collect is_array e es) l p =
-      comprehended before (started (begins_with_iterator es) (in_order is_array) (before ++ hidden ∷ []) (hidden ∷ [])
-      (λ finish. units_of set finish (before ++ hidden ∷ []) (hidden ∷ []) es (λ names. adding (value_of set plain names e)))) l p
+      comprehended before (started (begins_with_iterator es) (in_order is_array) (before ++ hidden ∷ []) (shared_names (before ++ hidden ∷ []) (occurring_all es ++ hidden ∷ occurring e)) (hidden ∷ [])
+      (λ finish inside. units_of set finish inside (hidden ∷ []) (hidden ∷ occurring e) es (λ names. adding (value_of set plain names e)))) l p
   value_of set r before (at name e) l p = no_value l p
   value_of set r before (and es) l p = no_value l p
   value_of set r before (or es) l p = no_value l p
@@ -107,11 +107,14 @@ unfoldable mutual
   goal_of set before (if_then bs) l p = draining (branches_of set before bs (λ m q. one q)) l p
   goal_of set before (if_else bs e) l p = draining (branches_of set before bs (goal_of set (behind before (places_of_branches bs)) e)) l p
   goal_of set before (foreach es e) l p =
-      draining (started (begins_with_iterator es) as_it_is before (kept_names before es (assigned e)) (λ finish. units_of set finish before (assigned e) es (λ names. goal_of set names e))) l p
+      draining (started (begins_with_iterator es) as_it_is before (shared_names before (occurring_all es ++ occurring e)) (kept_names before es (assigned e))
+      (λ finish inside. units_of set finish inside (assigned e) (occurring e) es (λ names. goal_of set names e))) l p
   goal_of set before (while_do c e) l p =
-      draining (turning as_it_is before (kept_names before no_exps (assigned e)) (while_turns (kept_names before no_exps (assigned e)) (goal_of set before c) (goal_of set (behind before (places c)) e))) l p
+      let inside : Names = shared_names before (occurring c ++ occurring e) in
+      draining (turning as_it_is before inside (kept_names before no_exps (assigned e)) (while_turns inside (goal_of set inside c) (goal_of set (behind inside (places c)) e))) l p
   goal_of set before (do_while e c) l p =
-      draining (turning as_it_is before (kept_names before no_exps (assigned e)) (do_turns (kept_names before no_exps (assigned e)) (goal_of set before e) (goal_of set (behind before (places e)) c))) l p
+      let inside : Names = shared_names before (occurring e ++ occurring c) in
+      draining (turning as_it_is before inside (kept_names before no_exps (assigned e)) (do_turns inside (goal_of set inside e) (goal_of set (behind inside (places e)) c))) l p
   goal_of set before (var name) l p = no_goal l p
   goal_of set before (int n) l p = no_goal l p
   goal_of set before (str text) l p = no_goal l p
@@ -146,12 +149,13 @@ unfoldable mutual
   branches_of set before (branch c e bs) other l p =
       choosing (goal_of set before c) (goal_of set (behind before (places c)) e) (branches_of set (behind before (places c ++ places e)) bs other) l p
 
-  -- iterators and tests from the left, and then what stands in the loop
-  pub units_of : Setting → Finish → Names → Names → ExpTrees → (Names → Goal) → Goal
-  units_of set finish before names no_exps body l p = body before l p
-  units_of set finish before names (exp u us) body l p =
-      unit finish before (kept_names before (exp u us) names) (iterated u) (collection_of set before u) (goal_of set before u)
-      (units_of set as_it_is (behind before (unit_places (iterated u) u)) names us body) l p
+  -- iterators and tests from the left, and then what stands in the loop, which assigns some names and in which some occur
+  pub units_of : Setting → Finish → Names → Names → Names → ExpTrees → (Names → Goal) → Goal
+  units_of set finish before names used no_exps body l p = body before l p
+  units_of set finish before names used (exp u us) body l p =
+      let inside : Names = names_inside before (iterated u) (occurring_all us ++ used) in
+      unit finish before inside (kept_names before (exp u us) names) (iterated u) (collection_of set before u) (goal_of set before u)
+      (units_of set as_it_is (behind inside (unit_places (iterated u) u)) names used us body) l p
 
   -- what an iterator goes over; the names of its pattern are those of the turns, and stand behind it
   pub collection_of : Setting → Names → ExpTree → Value

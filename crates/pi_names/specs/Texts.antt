@@ -62,6 +62,44 @@ unfoldable pub places_caught : List ℕ → ExpTrees → Names
 places_caught name (exp e (exp ball (exp handler no_exps))) = cond (bytes_eq name (codes "catch")) (places ball) []
 places_caught name es = []
 
+-- ---- names anywhere
+
+-- the names at all places of an expression, those in loops and comprehensions among them
+unfoldable mutual
+  pub occurring : ExpTree → Names
+  occurring (var name) = name ∷ []
+  occurring (int n) = []
+  occurring (atom name) = []
+  occurring (str text) = []
+  occurring (list es) = occurring_all es
+  occurring (list_onto es e) = occurring_all es ++ occurring e
+  occurring (array es) = occurring_all es
+  occurring (call name es) = occurring_all es
+  occurring (quote e) = occurring e
+  occurring (index e es) = occurring e ++ occurring_all es
+  occurring (range first last) = occurring first ++ occurring last
+  occurring (range_by first step last) = occurring first ++ (occurring step ++ occurring last)
+  occurring (at name e) = name ∷ occurring e
+  occurring (collect is_array e es) = occurring_all es ++ occurring e
+  occurring (and es) = occurring_all es
+  occurring (or es) = occurring_all es
+  occurring (arrow c e) = occurring c ++ occurring e
+  occurring (if_then bs) = occurring_in_branches bs
+  occurring (if_else bs e) = occurring_in_branches bs ++ occurring e
+  occurring (foreach es e) = occurring_all es ++ occurring e
+  occurring (while_do c e) = occurring c ++ occurring e
+  occurring (do_while e c) = occurring e ++ occurring c
+
+  pub occurring_all : ExpTrees → Names
+  occurring_all no_exps = []
+  occurring_all (exp e es) = occurring e ++ occurring_all es
+
+  pub occurring_in_branches : ExpBranches → Names
+  occurring_in_branches no_branches = []
+  occurring_in_branches (branch c e bs) = occurring c ++ (occurring e ++ occurring_in_branches bs)
+
+-- ---- names before a place
+
 -- a name behind those before it, where it is none of them
 abbrev pub with_one : Names → List ℕ → Names
 with_one before name = cond (is_blank name || is_among before name) before (before ++ name ∷ [])
@@ -101,6 +139,15 @@ begins_with_iterator (exp u us) = is_some (iterated u)
 -- these names but for some
 abbrev pub without : Names → Names → Names
 without names some = filter (λ name. not (is_among some name)) names
+
+-- Of the names that stand before a loop those that occur in it: of these alone a turn knows. All others are local to each turn.
+abbrev pub shared_names : Names → Names → Names
+shared_names before used = filter (is_among used) before
+
+-- The names that stand before what is behind an iterator or a test, but for its own, where these are used there. An iterator begins a loop, in whose turns the names of its pattern are new.
+abbrev pub names_inside : Names → Option ExpTree → Names → Names
+names_inside before None used = before
+names_inside before (Some e) used = without (shared_names before used) (places e)
 
 -- `X := E` stands in a call of two arguments, of which the first is X
 abbrev pub variable_first : ExpTrees → Option (List ℕ)
@@ -146,7 +193,7 @@ unfoldable mutual
   assigned_in_branches no_branches = []
   assigned_in_branches (branch c e bs) = assigned e ++ assigned_in_branches bs
 
--- The names whose values a turn leaves to the next: those that the loop assigns and that stand before it, each once by first assignment. `us` are the iterators and
--- tests that the loop has from here on.
+-- The names that have other values behind a loop: those that it assigns and that stand before it, each once by first assignment. `us` are the iterators and tests that
+-- the loop has from here on.
 abbrev pub kept_names : Names → ExpTrees → Names → Names
 kept_names before us names = filter (is_among before) (behind [] (without names (patterns_of us)))

@@ -19,7 +19,7 @@ use Rattle.pi_meaning.specs.Names.{is_resource}
 use Rattle.pi_meaning.specs.Given.{Setting}
 use Rattle.pi_meaning.specs.Calls.{predicate_called, function_called, first_called}
 use Rattle.pi_names.specs.Assigning.{place_of}
-use Rattle.pi_names.specs.Texts.{Names, places, places_all, places_behind, places_caught, places_of_branches, behind, iterated, unit_places, begins_with_iterator, variable_first, assigned, kept_names}
+use Rattle.pi_names.specs.Texts.{Names, places, places_all, places_behind, places_caught, places_of_branches, occurring, occurring_all, behind, iterated, unit_places, begins_with_iterator, shared_names, names_inside, variable_first, assigned, kept_names}
 use Rattle.pi_names.specs.Terms.{items_onto}
 use Rattle.pi_names.specs.Control.{Goal, Value, Values, draining, nothing, in_front, made_of, made_onto, applied_to, all_found, all_counted, called_with, calling_term, following, choosing, branch_before, denying, taken_once, assigning, catching, goal_at, value_at}
 use Rattle.pi_names.specs.Loops.{Finish, as_it_is, turning, unit, while_turns, do_turns, hidden, adding, in_order, comprehended}
@@ -148,8 +148,8 @@ mutual
       λ i l p. range-alike a b h r _ _ _ _ (value-alike a b h plain before first n.0)
       (λ j. in_front (value-alike a b h plain (behind before (places first)) step n.1 j) (in_front (value-alike a b h plain (behind before (places first ++ places step)) last n.2 j) nothing)) i l p
   value-alike a b h r before (collect is_array e es) n =
-      λ i l p. comprehended before (started (begins_with_iterator es) (in_order is_array) (before ++ hidden ∷ []) (hidden ∷ [])
-      (λ finish. units-alike a b h finish (before ++ hidden ∷ []) (hidden ∷ []) es n.1 (λ names. adding (value_of a plain names e)) (λ names. adding (value_of b plain names e))
+      λ i l p. comprehended before (started (begins_with_iterator es) (in_order is_array) (before ++ hidden ∷ []) (shared_names (before ++ hidden ∷ []) (occurring_all es ++ hidden ∷ occurring e)) (hidden ∷ [])
+      (λ finish inside. units-alike a b h finish inside (hidden ∷ []) (hidden ∷ occurring e) es n.1 (λ names. adding (value_of a plain names e)) (λ names. adding (value_of b plain names e))
       (λ j names. adding (value-alike a b h plain names e n.0 j)) i)) l p
   value-alike a b h r before (at name e) n = refl
   value-alike a b h r before (and es) n = refl
@@ -217,14 +217,14 @@ mutual
       λ i l p. draining (branches-alike a b h before bs n.0 (goal_of a (behind before (places_of_branches bs)) e) (goal_of b (behind before (places_of_branches bs)) e)
       (goal-alike a b h (behind before (places_of_branches bs)) e n.1) i) l p
   goal-alike a b h before (foreach es e) n =
-      λ i l p. draining (started (begins_with_iterator es) as_it_is before (kept_names before es (assigned e))
-      (λ finish. units-alike a b h finish before (assigned e) es n.0 (λ names. goal_of a names e) (λ names. goal_of b names e) (λ j names. goal-alike a b h names e n.1 j) i)) l p
+      λ i l p. draining (started (begins_with_iterator es) as_it_is before (shared_names before (occurring_all es ++ occurring e)) (kept_names before es (assigned e))
+      (λ finish inside. units-alike a b h finish inside (assigned e) (occurring e) es n.0 (λ names. goal_of a names e) (λ names. goal_of b names e) (λ j names. goal-alike a b h names e n.1 j) i)) l p
   goal-alike a b h before (while_do c e) n =
-      λ i l p. draining (turning as_it_is before (kept_names before no_exps (assigned e))
-      (while_turns (kept_names before no_exps (assigned e)) (goal-alike a b h before c n.0 i) (goal-alike a b h (behind before (places c)) e n.1 i))) l p
+      let inside : Names = shared_names before (occurring c ++ occurring e) in
+      λ i l p. draining (turning as_it_is before inside (kept_names before no_exps (assigned e)) (while_turns inside (goal-alike a b h inside c n.0 i) (goal-alike a b h (behind inside (places c)) e n.1 i))) l p
   goal-alike a b h before (do_while e c) n =
-      λ i l p. draining (turning as_it_is before (kept_names before no_exps (assigned e))
-      (do_turns (kept_names before no_exps (assigned e)) (goal-alike a b h before e n.0 i) (goal-alike a b h (behind before (places e)) c n.1 i))) l p
+      let inside : Names = shared_names before (occurring e ++ occurring c) in
+      λ i l p. draining (turning as_it_is before inside (kept_names before no_exps (assigned e)) (do_turns inside (goal-alike a b h inside e n.0 i) (goal-alike a b h (behind inside (places e)) c n.1 i))) l p
   goal-alike a b h before (var name) n = refl
   goal-alike a b h before (int i) n = refl
   goal-alike a b h before (str text) n = refl
@@ -258,12 +258,13 @@ mutual
   branches-alike a b h before (branch c e bs) n other last d =
       λ i l p. choosing (goal-alike a b h before c n.0 i) (goal-alike a b h (behind before (places c)) e n.1 i) (branches-alike a b h (behind before (places c ++ places e)) bs n.2 other last d i) l p
 
-  units-alike : (a b : Setting) → CallsAlike a b → (finish : Finish) (before names : Names) (us : ExpTrees) → AskNone us → (body other : Names → Goal) → body ≡ other →
-      units_of a finish before names us body ≡ units_of b finish before names us other
-  units-alike a b h finish before names no_exps n body other d = λ i l p. d i before l p
-  units-alike a b h finish before names (exp u us) n body other d =
-      λ i l p. unit finish before (kept_names before (exp u us) names) (iterated u) (collection-alike a b h before u n.0 i) (goal-alike a b h before u n.0 i)
-      (units-alike a b h as_it_is (behind before (unit_places (iterated u) u)) names us n.1 body other d i) l p
+  units-alike : (a b : Setting) → CallsAlike a b → (finish : Finish) (before names used : Names) (us : ExpTrees) → AskNone us → (body other : Names → Goal) → body ≡ other →
+      units_of a finish before names used us body ≡ units_of b finish before names used us other
+  units-alike a b h finish before names used no_exps n body other d = λ i l p. d i before l p
+  units-alike a b h finish before names used (exp u us) n body other d =
+      let inside : Names = names_inside before (iterated u) (occurring_all us ++ used) in
+      λ i l p. unit finish before inside (kept_names before (exp u us) names) (iterated u) (collection-alike a b h before u n.0 i) (goal-alike a b h before u n.0 i)
+      (units-alike a b h as_it_is (behind inside (unit_places (iterated u) u)) names used us n.1 body other d i) l p
 
   collection-alike : (a b : Setting) → CallsAlike a b → (before : Names) (e : ExpTree) → AsksNone e → collection_of a before e ≡ collection_of b before e
   collection-alike a b h before (call name es) n = λ i l p. value_at (values-apart-alike a b h before es n.1 i) 1 l p

@@ -1,0 +1,174 @@
+-- An iterator's second helper, called with an element: it matches and has its turn, or is passed over.
+use Rattle.std.proofs.Common.{◌≡◌, ℕ, zero, suc, ◌+◌, ◌-◌, ◌≤◌, ◌<◌, Bool, true, false, cond, List, [], ◌∷◌, ◌++◌, length, map, refl, sym, ◌∙◌, ap, subst, arith, length-append, append_assoc}
+use Rattle.std.specs.Prelude.{Option, Some, None, option_and_then, option_map, IsSome, replicate, ⊤, unwrap_or}
+use Rattle.std.specs.Str.{bytes_eq}
+use Rattle.std.proofs.lemmas.List.{map-append}
+use Rattle.pi_terms.specs.Tree.{Tree, Trees, no_trees, tree, trees_of, tree_count}
+use Rattle.pi_terms.specs.Places.{Places, held}
+use Rattle.pi_terms.specs.PatternTree.{pattern}
+use Rattle.pi_states.specs.State.{State, bindings}
+use Rattle.pi_states.specs.HeadMatch.{matched_in, matched_all_in}
+use Rattle.pi_states.specs.Evaluation.{evaluated_all}
+use Rattle.pi_syntax.specs.ExpTree.{ExpTree}
+use Rattle.pi_core.specs.GoalTree.{GoalTree}
+use Rattle.pi_core.specs.CoreTree.{ClauseTree, PredTree}
+use Rattle.pi_traces.specs.Trace.{Trace, one, then, done}
+use Rattle.pi_traces.specs.Control.{chosen}
+use Rattle.pi_traces.proofs.TraceLemmas.{then-one, then-assoc}
+use Rattle.pi_meaning.specs.Level.{Level, Point}
+use Rattle.pi_meaning.specs.Builtins.{Builtins, predicate_by}
+use Rattle.pi_meaning.specs.Given.{Setting}
+use Rattle.pi_meaning.specs.Meaning.{meaning}
+use Rattle.pi_meaning.specs.Rules.{pred_run, rules, rule_before}
+use Rattle.pi_meaning.specs.Environment.{Environment, meant}
+use Rattle.pi_meaning.specs.Place.{Place}
+use Rattle.pi_names.specs.Heads.{pattern_matched}
+use Rattle.pi_names.specs.Control.{Goal}
+use Rattle.pi_names.specs.Loops.{matched_turn}
+use Rattle.pi_lowered.specs.Slots.{SlotNames, unnamed, slot_of}
+use Rattle.pi_lowered.specs.Values.{SlotPattern, slot_pattern}
+use Rattle.pi_lowered.specs.Forms.{Knows, IsPattern}
+use Rattle.pi_lowered.specs.Goals.{SlotGoals}
+use Rattle.pi_lowered.specs.Loops.{slots_from, slots_head, clause_of, Loop, loop_slots}
+use Rattle.pi_lowered.specs.Iterators.{handed, turn_slots, turn_clause, turn_helper}
+use Rattle.pi_lowered.proofs.FilledLemmas.{AllFilled, none_filled, one_filled, in_slot, terms_at, all-filled-comes}
+use Rattle.pi_lowered.proofs.AgreeLemmas.{free_room, Grows, grows-length, slot-below}
+use Rattle.pi_lowered.proofs.NewNameLemmas.{agrees-nothing}
+use Rattle.pi_lowered.proofs.HeadLemmas.{Both, neither, both_match, pattern-match}
+use Rattle.pi_lowered.proofs.RunLemmas.{point, place, then-of-one}
+use Rattle.pi_lowered.proofs.ControlLemmas.{Drains}
+use Rattle.pi_lowered.proofs.HandedLemmas.{entered, empties-stand, entered-held, head-takes, head-entered, values_from, values-count}
+use Rattle.pi_lowered.proofs.EnteredLemmas.{values-long, values-grow}
+use Rattle.pi_lowered.proofs.CarriedLemmas.{Handed, behind_front, held-front, Apart}
+use Rattle.pi_lowered.proofs.HelperLemmas.{state_of, HelperCalled, count-trees, called-runs}
+use Rattle.pi_lowered.proofs.ElementLemmas.{roots-stay-itself, matched-slots, held-again, turn_front, TurnSame, handed-long, front-long, walked, asks, in_front, turn-goes-on}
+
+-- ---- slots that are handed on as they are
+
+seam-held : (us : List Tree) (v : Tree) (vs : List Tree) (m : ℕ) → held (entered (us ++ v ∷ vs) m) (length us) ≡ Some v
+seam-held [] v vs m = refl
+seam-held (u ∷ us) v vs m = seam-held us v vs m
+
+pub slots-hold : (us vs : List Tree) (m : ℕ) → AllFilled (entered (us ++ vs) m) (trees_of (slots_from (length us) (length vs))) (trees_of vs)
+unfolding slots_from
+slots-hold us [] m = none_filled
+slots-hold us (v ∷ vs) m =
+    one_filled (in_slot (length us) v (seam-held us v vs m))
+    (subst (λ (k : ℕ). AllFilled (entered (us ++ v ∷ vs) m) (trees_of (slots_from k (length vs))) (trees_of vs)) longer
+    (subst (λ (ws : List Tree). AllFilled (entered ws m) (trees_of (slots_from (length (us ++ v ∷ [])) (length vs))) (trees_of vs)) (append_assoc us (v ∷ []) vs) (slots-hold (us ++ v ∷ []) vs m)))
+  where
+    longer : length (us ++ v ∷ []) ≡ suc (length us)
+    longer = length-append us (v ∷ []) ∙ omega arith
+
+-- a call with slots that a head has filled
+pub hands-on : (b : Builtins) (l : Level) → Drains l → (name : List ℕ) (us vs : List Tree) (m j k : ℕ) (s : State) → length us ≡ j → length vs ≡ k →
+    then (meaning b (GoalTree.call name (slots_from j k)) (point l (entered (us ++ vs) m) s)) state_of ≡ predicate_by b l name (trees_of vs) s
+hands-on b l drains name us vs m j k s is many =
+    ap (λ (i : ℕ). then (meaning b (GoalTree.call name (slots_from i k)) (point l (entered (us ++ vs) m) s)) state_of) (sym is)
+    ∙ ap (λ (i : ℕ). then (meaning b (GoalTree.call name (slots_from (length us) i)) (point l (entered (us ++ vs) m) s)) state_of) (sym many)
+    ∙ ap (λ (t : Trace Point). then t state_of) (called-runs b l drains name (slots_from (length us) (length vs)) vs (entered (us ++ vs) m) (entered (us ++ vs) m) s s (all-filled-comes _ _ _ (slots-hold us vs m) s))
+    ∙ then-assoc (predicate_by b l name (trees_of vs) s) (λ q. one (point l (entered (us ++ vs) m) q)) state_of
+    ∙ ap (then (predicate_by b l name (trees_of vs) s)) (λ i q. then-of-one (point l (entered (us ++ vs) m) q) state_of i)
+    ∙ then-one (predicate_by b l name (trees_of vs) s)
+
+-- ---- an element
+
+pub walked-long : (w : Loop) (base : ℕ) (e : Environment) (hs : List Tree) → Handed w base e hs → (rest i all : Tree) → length (walked rest i all hs) ≡ handed w
+walked-long w base e hs given rest i all = omega (arith, given.count, handed-long w)
+
+-- one that doesn't match
+passed-over : (b : Builtins) (l : Level) → Drains l → (name : List ℕ) (x : Tree) (vs : List Tree) (k : ℕ) (s : State) → length vs ≡ k → (rest : Trace State) →
+    rule_before b l (clause_of (slots_head 0 (suc k)) (GoalTree.call name (slots_from 1 k)) (suc k)) false (λ p. then (meaning b (GoalTree.call name (slots_from 1 k)) p) state_of) s rest
+    (matched_all_in (bindings s) (slots_head 0 (suc k)) (tree x (trees_of vs)) (replicate (suc k) None))
+    ≡ predicate_by b l name (trees_of vs) s
+unfolding chosen
+passed-over b l drains name x vs k s count rest =
+    ap (rule_before b l (clause_of (slots_head 0 (suc k)) (GoalTree.call name (slots_from 1 k)) (suc k)) false (λ p. then (meaning b (GoalTree.call name (slots_from 1 k)) p) state_of) s rest) taken
+    ∙ hands-on b l drains name (x ∷ []) vs 0 1 k s refl count
+  where
+    taken : matched_all_in (bindings s) (slots_head 0 (suc k)) (tree x (trees_of vs)) (replicate (suc k) None) ≡ Some (entered (x ∷ vs) 0)
+    taken =
+        ap (λ (j : ℕ). matched_all_in (bindings s) (slots_head 0 (suc j)) (tree x (trees_of vs)) (replicate (suc k) None)) (sym count)
+        ∙ head-entered (bindings s) (x ∷ vs) (suc k) 0 (omega (arith, count))
+
+-- the first clause, by whether the pattern matches
+turn-answer : (known : Knows) (set : Setting) (b : Builtins) (w : Loop) (e0 : ExpTree) (body others : Goal) (lb : SlotNames → SlotGoals) (l k : Level) → TurnSame known set b w (slot_pattern e0 []) body lb l k → Apart w (turn_front (slot_pattern e0 [])) → (base : ℕ)
+    (ends : Place → Trace State) (e : Environment) (hs : List Tree) (rest i all : Tree) (s : State) → Handed w base e hs → asks b l w base rest i all s (λ q. then (others k q) ends) → (later : Trace State) → later ≡ then (others k (place e s)) ends → (n : ℕ) →
+    n ≡ length (lb (turn_slots w (slot_pattern e0 []))).names → (o : Option Places) (q : Option Environment) → Both (free_room n) (slot_pattern e0 []).names o q →
+    rule_before b l (turn_clause w (slot_pattern e0 []) (lb (turn_slots w (slot_pattern e0 [])))) false (λ p. then (meaning b (turn_clause w (slot_pattern e0 []) (lb (turn_slots w (slot_pattern e0 [])))).body p) state_of) s later
+    (option_and_then (matched_all_in (bindings s) (slots_head (length (slot_pattern e0 []).names) (handed w)) (trees_of (walked rest i all hs))) o)
+    ≡ then (matched_turn w.shared body others k (place e s) q) ends
+unfolding chosen
+turn-answer known set b w e0 body others lb l k same apart base ends e hs rest i all s given asked later passed n is _ _ neither = passed
+turn-answer known set b w e0 body others lb l k same apart base ends e hs rest i all s given asked later passed n is _ _ (both_match f slots a) =
+    ap (rule_before b l (turn_clause w p (lb (turn_slots w p))) false (λ x. then (meaning b (turn_clause w p (lb (turn_slots w p))).body x) state_of) s later) taken
+    ∙ turn-goes-on known set b w p body lb l k same apart base (others k) ends e f us hs rest i all s given (values-count 0 (length p.names) slots) found n m fits (omega (arith, is)) asked
+  where
+    p : SlotPattern
+    p = slot_pattern e0 []
+
+    us : List Tree
+    us = values_from 0 (length (slot_pattern e0 []).names) slots
+
+    m : ℕ
+    m = n - (length (turn_front (slot_pattern e0 [])) + length (loop_slots w))
+
+    wide : length (turn_front (slot_pattern e0 [])) + length (loop_slots w) ≤ n
+    wide = omega (arith, is, grows-length (turn_slots w (slot_pattern e0 [])) _ (same.turn.grows (turn_slots w (slot_pattern e0 []))), values-long w.kept (turn_front (slot_pattern e0 []) ++ w.shared), length-append (turn_front (slot_pattern e0 [])) w.shared, values-long w.kept w.shared)
+
+    fits : n ≡ (length (turn_front (slot_pattern e0 [])) + length (loop_slots w)) + (n - (length (turn_front (slot_pattern e0 [])) + length (loop_slots w)))
+    fits = omega (arith, wide)
+
+    found : (name : List ℕ) → bytes_eq name unnamed ≡ false → meant name f ≡ option_and_then (held (map Some (values_from 0 (length (slot_pattern e0 []).names) slots))) (slot_of name (slot_pattern e0 []).names)
+    found name named = a.names name named ∙ go (slot_of name (slot_pattern e0 []).names) refl
+      where
+        go : (o : Option ℕ) → slot_of name (slot_pattern e0 []).names ≡ o → option_and_then (held slots) o ≡ option_and_then (held (map Some (values_from 0 (length (slot_pattern e0 []).names) slots))) o
+        go None at = refl
+        go (Some j) at = sym (held-again slots (length (slot_pattern e0 []).names) j a.firm (slot-below name (slot_pattern e0 []).names j at))
+
+    vs : List Tree
+    vs = walked rest i all hs
+
+    taken : matched_all_in (bindings s) (slots_head (length (slot_pattern e0 []).names) (handed w)) (trees_of (walked rest i all hs)) slots
+        ≡ Some (entered (in_front (values_from 0 (length (slot_pattern e0 []).names) slots) rest i all ++ hs) (n - (length (turn_front (slot_pattern e0 [])) + length (loop_slots w))))
+    taken =
+        ap (λ (j : ℕ). matched_all_in (bindings s) (slots_head (length p.names) j) (trees_of vs) slots) (sym (walked-long w base e hs given rest i all))
+        ∙ ap (λ (j : ℕ). matched_all_in (bindings s) (slots_head j (length vs)) (trees_of vs) slots) (sym many)
+        ∙ ap (matched_all_in (bindings s) (slots_head (length (map {B = Option Tree} Some us)) (length vs)) (trees_of vs))
+        (matched-slots n (length p.names) p.names f slots a refl (omega (arith, wide, front-long p))
+        ∙ ap (λ (j : ℕ). map Some us ++ replicate {A = Option Tree} j None) room ∙ ap (λ (ps : Places). map Some us ++ ps) (empties-stand vs m))
+        ∙ head-takes (bindings s) (map Some us) vs (replicate m None)
+        ∙ ap Some (sym (append_assoc (map Some us) (map Some vs) (replicate m None)) ∙ ap (λ (ps : Places). ps ++ replicate m None) (sym (map-append Some us vs) ∙ ap (map Some) (sym (append_assoc us (rest ∷ i ∷ all ∷ []) hs))))
+      where
+        many : length (map {B = Option Tree} Some (values_from 0 (length (slot_pattern e0 []).names) slots)) ≡ length (slot_pattern e0 []).names
+        many = length-map us ∙ values-count 0 (length p.names) slots
+          where
+            length-map : (us : List Tree) → length (map {B = Option Tree} Some us) ≡ length us
+            length-map [] = refl
+            length-map (u ∷ us) = ap suc (length-map us)
+
+        room : n - length (slot_pattern e0 []).names ≡ length (walked rest i all hs) + (n - (length (turn_front (slot_pattern e0 [])) + length (loop_slots w)))
+        room = omega (arith, wide, front-long p, given.count)
+
+-- A call of the second helper does what the element's turn does over names, and then what follows it.
+pub element-called : (known : Knows) (set : Setting) (b : Builtins) (w : Loop) (name : List ℕ) (e0 : ExpTree) → IsPattern e0 → (body others : Goal) (lb : SlotNames → SlotGoals) (l inside k : Level) → HelperCalled b l (turn_helper name w e0 lb) inside →
+    TurnSame known set b w (slot_pattern e0 []) body lb inside k → Apart w (turn_front (slot_pattern e0 [])) → (base : ℕ) (ends : Place → Trace State) (e : Environment) (x : Tree) (hs : List Tree) (rest i all : Tree) (s : State) → Handed w base e hs →
+    asks b inside w base rest i all s (λ q. then (others k q) ends) →
+    predicate_by b l name (trees_of (x ∷ walked rest i all hs)) s ≡ then (matched_turn w.shared body others k (place e s) (pattern_matched (bindings s) e0 x [])) ends
+unfolding pred_run rules matched_in
+element-called known set b w name e0 is-pattern body others lb l inside k called same apart base ends e x hs rest i all s given asked =
+    called (trees_of (x ∷ walked rest i all hs)) s (count-trees (x ∷ walked rest i all hs) ∙ ap suc (walked-long w base e hs given rest i all))
+    ∙ turn-answer known set b w e0 body others lb inside k same apart base ends e hs rest i all s given asked _
+    (passed-over b inside same.alike.core_drains w.name x (walked rest i all hs) (handed w) s (walked-long w base e hs given rest i all) done ∙ asked e hs s (roots-stay-itself s) given) (length (lb (turn_slots w (slot_pattern e0 []))).names) refl
+    (matched_in (bindings s) (slot_pattern e0 []).form x (replicate (length (lb (turn_slots w (slot_pattern e0 []))).names) None)) (pattern_matched (bindings s) e0 x [])
+    (pattern-match (bindings s) (free_room (length (lb (turn_slots w (slot_pattern e0 []))).names)) e0 is-pattern [] room [] (replicate (length (lb (turn_slots w (slot_pattern e0 []))).names) None)
+    (agrees-nothing (length (lb (turn_slots w (slot_pattern e0 []))).names)) x)
+  where
+    room : length (slot_pattern e0 []).names ≤ length (lb (turn_slots w (slot_pattern e0 []))).names
+    room = omega (
+      arith,
+      grows-length (turn_slots w (slot_pattern e0 [])) _ (same.turn.grows (turn_slots w (slot_pattern e0 []))),
+      values-long w.kept (turn_front (slot_pattern e0 []) ++ w.shared),
+      length-append (turn_front (slot_pattern e0 [])) w.shared,
+      front-long (slot_pattern e0 []),
+    )

@@ -1,0 +1,107 @@
+-- The levels of a loop's turns, at each depth: where so many quiet calls may nest that its helper can be called, and what stands in a turn does the same at the level inside, the loop has its turns.
+use Rattle.std.proofs.Common.{◌≡◌, ℕ, zero, suc, ◌+◌, ◌≤◌, true, false, List, [], ◌∷◌, length, refl, sym, ◌∙◌, ap, subst, arith}
+use Rattle.std.specs.Prelude.{Option, Some, None}
+use Rattle.pi_terms.specs.Tree.{Trees, tree_count}
+use Rattle.pi_states.specs.State.{State}
+use Rattle.pi_core.specs.CoreTree.{PredTree, find_pred}
+use Rattle.pi_syntax.specs.ProgramTree.{ProgramTree}
+use Rattle.pi_traces.specs.Trace.{Trace}
+use Rattle.pi_meaning.specs.Level.{Level, lowest, over, lower, or_called}
+use Rattle.pi_meaning.specs.Builtins.{Builtins, predicate_by}
+use Rattle.pi_meaning.specs.Rules.{call_run, entered, pred_run, calls_of, quiet_level, level_at}
+use Rattle.pi_names.specs.Stages.{RulesSetting}
+use Rattle.pi_names.specs.Rules.{calls_by, level_for}
+use Rattle.pi_lowered.specs.Forms.{Knows}
+use Rattle.pi_lowered.proofs.RunLemmas.{Alike}
+use Rattle.pi_lowered.proofs.LevelLemmas.{Fixed, SameDepths, both_lowest, both_over, quiet-same, depths-same}
+use Rattle.pi_lowered.proofs.HelperLemmas.{HelperCalled}
+use Rattle.pi_lowered.proofs.WhileLemmas.{Turns, last_turn, one_more}
+
+-- the level of a depth at which so many quiet calls may still nest
+unfoldable pub core_level : Builtins → List PredTree → ℕ → ℕ → Level
+core_level b preds zero k = quiet_level b preds None k
+core_level b preds (suc d) k = quiet_level b preds (Some (level_at b preds d)) k
+
+-- and as many as may at first
+abbrev pub quiet_calls : List PredTree → ℕ → ℕ
+quiet_calls preds zero = length preds
+quiet_calls preds (suc d) = suc (length preds + d)
+
+pub level-is : (b : Builtins) (preds : List PredTree) (d : ℕ) → level_at b preds d ≡ core_level b preds d (quiet_calls preds d)
+unfolding level_at core_level
+level-is b preds zero = refl
+level-is b preds (suc d) = refl
+
+-- the core program has a helper, whose name does nothing by itself
+pub record HasHelper (b : Builtins) (preds : List PredTree) (p : PredTree) : Type 0 where
+  pub found : find_pred false p.name p.arity preds ≡ Some p
+  pub quiet : p.quiet ≡ true
+  pub index : p.index ≡ None
+  pub own : (l : Level) (ts : Trees) (s : State) → tree_count ts ≡ p.arity → b.predicate l p.name ts s ≡ None
+
+-- a call of it does its clauses one quiet call further inside
+helper-called : (b : Builtins) (preds : List PredTree) (p : PredTree) → HasHelper b preds p → (below : Option Level) (k : ℕ) → HelperCalled b (quiet_level b preds below (suc k)) p (quiet_level b preds below k)
+unfolding quiet_level calls_of
+helper-called b preds p has None k ts s count =
+    ap (λ (o : Option (Trace State)). or_called o (quiet_level b preds None (suc k)) p.name ts s) (has.own (quiet_level b preds None (suc k)) ts s count)
+    ∙ ap (λ (n : ℕ). call_run b (Some (quiet_level b preds None k)) None (find_pred false p.name n preds) ts s) count
+    ∙ ap (λ (o : Option PredTree). call_run b (Some (quiet_level b preds None k)) None o ts s) has.found
+    ∙ ap (λ c. entered c (Some (quiet_level b preds None k)) None (λ l. pred_run b l p p.index ts s)) has.quiet
+    ∙ ap (λ o. pred_run b (quiet_level b preds None k) p o ts s) has.index
+helper-called b preds p has (Some l) k ts s count =
+    ap (λ (o : Option (Trace State)). or_called o (quiet_level b preds (Some l) (suc k)) p.name ts s) (has.own (quiet_level b preds (Some l) (suc k)) ts s count)
+    ∙ ap (λ (n : ℕ). call_run b (Some (quiet_level b preds (Some l) k)) (Some l) (find_pred false p.name n preds) ts s) count
+    ∙ ap (λ (o : Option PredTree). call_run b (Some (quiet_level b preds (Some l) k)) (Some l) o ts s) has.found
+    ∙ ap (λ c. entered c (Some (quiet_level b preds (Some l) k)) (Some l) (λ j. pred_run b j p p.index ts s)) has.quiet
+    ∙ ap (λ o. pred_run b (quiet_level b preds (Some l) k) p o ts s) has.index
+
+pub helper-called-at : (b : Builtins) (preds : List PredTree) (p : PredTree) → HasHelper b preds p → (d k : ℕ) → HelperCalled b (core_level b preds d (suc k)) p (core_level b preds d k)
+unfolding core_level
+helper-called-at b preds p has zero k = helper-called b preds p has None k
+helper-called-at b preds p has (suc d) k = helper-called b preds p has (Some (level_at b preds d)) k
+
+quiet-lower : (b : Builtins) (preds : List PredTree) (below : Option Level) (k : ℕ) → lower (quiet_level b preds below k) ≡ below
+unfolding quiet_level
+quiet-lower b preds None zero = refl
+quiet-lower b preds None (suc k) = refl
+quiet-lower b preds (Some l) zero = refl
+quiet-lower b preds (Some l) (suc k) = refl
+
+pub lowest-level : (b : Builtins) (preds : List PredTree) (k : ℕ) → lower (core_level b preds zero k) ≡ None
+unfolding core_level
+lowest-level b preds k = quiet-lower b preds None k
+
+pub lower-level : (b : Builtins) (preds : List PredTree) (d k : ℕ) → lower (core_level b preds (suc d) k) ≡ Some (level_at b preds d)
+unfolding core_level
+lower-level b preds d k = quiet-lower b preds (Some (level_at b preds d)) k
+
+-- what holds at each depth where so many quiet calls may still nest
+abbrev pub EachLevel : Builtins → List PredTree → RulesSetting → ProgramTree → (Level → Level → Type 0) → ℕ → Type 0
+EachLevel b preds set program At rank = (d k : ℕ) → rank ≤ k → At (core_level b preds d k) (level_for set program d)
+
+-- A loop's turns have their levels, where one quiet call more may nest than those in a turn.
+pub turns-at : (b : Builtins) (preds : List PredTree) (set : RulesSetting) (program : ProgramTree) (p : PredTree) → HasHelper b preds p → (At : Level → Level → Type 0) (rank : ℕ) → suc rank ≤ length preds → EachLevel b preds set program At rank →
+    EachLevel b preds set program (Turns b p At) (suc rank)
+unfolding level_for
+turns-at b preds set program p has At rank fits each d zero less = absurd (omega (arith, less))
+turns-at b preds set program p has At rank fits each zero (suc k) less =
+    last_turn (core_level b preds zero (suc k)) (core_level b preds zero k) (calls_by set program None) (helper-called-at b preds p has zero k) (lowest-level b preds k) (each zero k (omega (arith, less)))
+turns-at b preds set program p has At rank fits each (suc d) (suc k) less =
+    one_more (core_level b preds (suc d) (suc k)) (core_level b preds (suc d) k) (level_at b preds d) (calls_by set program (Some (level_for set program d))) (level_for set program d) (helper-called-at b preds p has (suc d) k) (lower-level b preds d k)
+    (each (suc d) k (omega (arith, less))) (subst (λ (l : Level). At l (level_for set program d)) (sym (level-is b preds d)) (each d (quiet_calls preds d) (enough d rank (omega (arith, fits)))))
+    (subst (λ (l : Level). Turns b p At l (level_for set program d)) (sym (level-is b preds d)) (turns-at b preds set program p has At rank fits each d (quiet_calls preds d) (enough d (suc rank) fits)))
+  where
+    enough : (e n : ℕ) → n ≤ length preds → n ≤ quiet_calls preds e
+    enough zero n few = few
+    enough (suc e) n few = omega (arith, few)
+
+-- Calls by name do the same at each of these levels, where the core program has what the program has.
+pub levels-same : (known : Knows) (set : RulesSetting) (b : Builtins) (program : ProgramTree) (preds : List PredTree) → Fixed known set b program preds → EachLevel b preds set program (λ l m. Alike known set.calls b l m) 0
+unfolding core_level level_for
+levels-same known set b program preds fixed zero k few =
+    let same : SameDepths known (quiet_level b preds None k) _ = quiet-same known set b program preds fixed None None both_lowest k in fixed.alike _ _ same.levels same.core same.names
+levels-same known set b program preds fixed (suc d) k few =
+    let below : SameDepths known (level_at b preds d) (level_for set program d) = depths-same known set b program preds fixed d in
+    let same : SameDepths known (quiet_level b preds (Some (level_at b preds d)) k) _ =
+    quiet-same known set b program preds fixed (Some (level_at b preds d)) (Some (level_for set program d)) (both_over (level_at b preds d) (level_for set program d) below.levels below.core below.names) k in
+    fixed.alike _ _ same.levels same.core same.names
