@@ -1,6 +1,6 @@
 //! Words that aren't those of a command line.
 /// Words that aren't those of a command line.
-pub static FAULTY: [&[&str]; 39] = [
+pub static FAULTY: [&[&str]; 47] = [
     // Past the ranges.
     &["--answers", "0", "FILE", "p(X)"],
     &["--answers", "1000000001", "FILE", "p(X)"],
@@ -32,20 +32,29 @@ pub static FAULTY: [&[&str]; 39] = [
         "FILE",
         "p(X)",
     ],
-    // Words that are missing, in another order, or of no option.
+    // Words that are missing, too many, or of no option.
     &[],
     &["--answers"],
     &["--answers", "1"],
     &["--answers", "1", "FILE"],
     &["FILE"],
     &["FILE", "p(X)", "p(X)"],
-    &["FILE", "--answers", "1", "p(X)"],
-    &["FILE", "p(X)", "--answers", "1"],
-    &["--answers=1", "FILE", "p(X)"],
+    &["--answers=", "FILE", "p(X)"],
+    &["--answers=1", "FILE", "p(X)", "--answers", "1"],
     &["--Answers", "1", "FILE", "p(X)"],
+    &["--answer", "1", "FILE", "p(X)"],
+    &["-a", "1", "FILE", "p(X)"],
     &["--help"],
-    &["--", "FILE", "p(X)"],
+    &["--help", "FILE", "p(X)"],
+    &["FILE", "p(X)", "-h"],
+    &["--version"],
+    &["-V", "FILE", "p(X)"],
+    // What begins with `-` is taken for an option.
     &["--file", "p(X)"],
+    &["-file", "p(X)"],
+    &["FILE", "--X"],
+    &["FILE", "-1 = X"],
+    &["--", "FILE", "p(X)", "--answers", "1"],
     // A mode with other words than its own.
     &["--mode", "demo", "0"],
     &["--mode", "demo", "401"],

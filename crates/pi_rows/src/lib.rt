@@ -189,6 +189,11 @@ mod tests {
     }
 
     #[test]
+    fn rows_of_runs(rt: HostRuntime) -> Result<(), Fail> {
+        are_right(rt.alloc(), &words::RUNS, NOTHING)
+    }
+
+    #[test]
     fn faulty_words(rt: HostRuntime) -> Result<(), Fail> {
         for words in &FAULTY {
             let row = Row {
@@ -255,6 +260,23 @@ mod tests {
             let row = Row {
                 program: Some(OPEN),
                 words: &["FILE", "p(X), println(X)"],
+                output,
+                status: 8,
+            };
+            are_right(rt.alloc(), &[row], Failing { read: 0, write })?;
+        }
+        Ok(())
+    }
+
+    /// The number of the write that fails in a run of `main`, and what was written before.
+    static FAILING_RUNS: [(u64, &str); 2] = [(1, ""), (2, "1\n")];
+
+    #[test]
+    fn each_write_of_a_run_fails_in_turn(rt: HostRuntime) -> Result<(), Fail> {
+        for (write, output) in FAILING_RUNS {
+            let row = Row {
+                program: Some("main => println(1), println(2)."),
+                words: &["--mode", "run", "FILE"],
                 output,
                 status: 8,
             };

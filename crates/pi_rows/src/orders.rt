@@ -1,6 +1,6 @@
 //! The options in each order.
-/// The four options in each order, before a file and a goal with more than one answer.
-pub static ORDERS: [&str; 24] = [
+/// The four options in each order, before a file and a goal with more than one answer; and options behind them, and written with `=`.
+pub static ORDERS: [&str; 31] = [
     "--answers 1 --steps 9 --work 0 --mode query FILE p(X)",
     "--answers 1 --steps 9 --mode query --work 0 FILE p(X)",
     "--answers 1 --work 0 --steps 9 --mode query FILE p(X)",
@@ -25,4 +25,11 @@ pub static ORDERS: [&str; 24] = [
     "--mode query --steps 9 --work 0 --answers 1 FILE p(X)",
     "--mode query --work 0 --answers 1 --steps 9 FILE p(X)",
     "--mode query --work 0 --steps 9 --answers 1 FILE p(X)",
+    "FILE --answers 1 p(X)",
+    "FILE p(X) --answers 1",
+    "--answers=1 FILE p(X)",
+    "FILE --answers=1 p(X)",
+    "--mode=query FILE p(X) --answers=1",
+    "--answers 1 -- FILE p(X)",
+    "FILE --answers=1 -- p(X)",
 ];

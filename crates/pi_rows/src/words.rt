@@ -2,7 +2,7 @@
 use crate::row::{OPEN, Row};
 
 /// Runs by the words of the command line.
-pub static ROWS: [Row<'static>; 20] = [
+pub static ROWS: [Row<'static>; 19] = [
     // As many answers as are asked for, and the search isn't known to be at its end.
     Row {
         program: Some(OPEN),
@@ -77,16 +77,34 @@ pub static ROWS: [Row<'static>; 20] = [
         output: "X = 1\nyes\nstopped\n",
         status: 0,
     },
-    // A file's name may begin with one `-`, and a goal with two.
+    // Behind `--` a file's name and a goal may begin with `-`, and `-` alone and no characters are words.
     Row {
         program: Some(OPEN),
-        words: &["-file", "p(X)"],
+        words: &["--", "--file", "p(X)"],
         output: "read fault\n",
         status: 7,
     },
     Row {
         program: Some(OPEN),
-        words: &["FILE", "--X"],
+        words: &["-", "p(X)"],
+        output: "read fault\n",
+        status: 7,
+    },
+    Row {
+        program: Some(OPEN),
+        words: &["FILE", ""],
+        output: "goal: BadClause 1\n",
+        status: 3,
+    },
+    Row {
+        program: Some(OPEN),
+        words: &["FILE", "--", "-1 = X"],
+        output: "X = -1\nyes\nno more\n",
+        status: 0,
+    },
+    Row {
+        program: Some(OPEN),
+        words: &["--", "FILE", "--X"],
         output: "goal: BadClause 1\n",
         status: 3,
     },
@@ -96,12 +114,6 @@ pub static ROWS: [Row<'static>; 20] = [
         words: &["--mode", "query", "FILE", "p(X)"],
         output: "X = 1\nyes\nX = 2\nyes\nno more\n",
         status: 0,
-    },
-    Row {
-        program: Some(OPEN),
-        words: &["--mode", "run", "FILE"],
-        output: "mode: NotBuilt\n",
-        status: 3,
     },
     Row {
         program: Some(OPEN),
@@ -117,26 +129,93 @@ pub static ROWS: [Row<'static>; 20] = [
     },
     Row {
         program: Some(OPEN),
+        words: &["--mode=session", "absent"],
+        output: "mode: NotBuilt\n",
+        status: 3,
+    },
+];
+
+/// Runs in the modes `run` and `demo`.
+pub static RUNS: [Row<'static>; 13] = [
+    Row {
+        program: Some("main => println(a)."),
+        words: &["--mode", "run", "FILE"],
+        output: "a\n",
+        status: 0,
+    },
+    // One answer, whatever is asked for, and nothing is written of it.
+    Row {
+        program: Some("main ?=> println(a). main => println(b)."),
+        words: &["FILE", "--mode=run", "--answers=2"],
+        output: "a\n",
+        status: 0,
+    },
+    Row {
+        program: Some("main => p(X), println(X). p(X) ?=> X = 1. p(X) => X = 2."),
+        words: &["--mode", "run", "FILE"],
+        output: "1\n",
+        status: 0,
+    },
+    Row {
+        program: Some("main => println(a), fail."),
+        words: &["--mode", "run", "FILE"],
+        output: "a\nno\n",
+        status: 1,
+    },
+    Row {
+        program: Some("main => println(a), throw(e)."),
+        words: &["--mode", "run", "FILE"],
+        output: "a\nexception: e\n",
+        status: 4,
+    },
+    Row {
+        program: Some("main => println(a), p. p => println(b)."),
+        words: &["--mode", "run", "--steps", "1", "FILE"],
+        output: "a\nsteps spent\n",
+        status: 5,
+    },
+    // Faults come as in the mode `query`, and the goal is `main`.
+    Row {
+        program: Some(OPEN),
+        words: &["--mode", "run", "FILE"],
+        output: "goal: UnknownName main/0 in 1\n",
+        status: 3,
+    },
+    Row {
+        program: Some("main(X) => X = 1."),
+        words: &["--mode", "run", "FILE"],
+        output: "goal: UnknownName main/0 in 1\n",
+        status: 3,
+    },
+    Row {
+        program: Some("main => p."),
+        words: &["--mode", "run", "FILE"],
+        output: "program: UnknownName p/0 in 1\n",
+        status: 3,
+    },
+    Row {
+        program: Some("main => true."),
         words: &["--mode", "run", "absent"],
-        output: "mode: NotBuilt\n",
-        status: 3,
+        output: "read fault\n",
+        status: 7,
     },
+    // The program of `demo` calls the planner. No file is read.
     Row {
-        program: Some(OPEN),
+        program: None,
         words: &["--mode", "demo", "1"],
-        output: "mode: NotBuilt\n",
+        output: "program: NotBuilt 2\n",
         status: 3,
     },
     Row {
-        program: Some(OPEN),
-        words: &["--mode", "demo", "400"],
-        output: "mode: NotBuilt\n",
+        program: None,
+        words: &["--mode=demo", "400"],
+        output: "program: NotBuilt 2\n",
         status: 3,
     },
     Row {
-        program: Some(OPEN),
-        words: &["--steps", "5", "--mode", "run", "--answers", "2", "FILE"],
-        output: "mode: NotBuilt\n",
+        program: None,
+        words: &["0010", "--mode", "demo"],
+        output: "program: NotBuilt 2\n",
         status: 3,
     },
 ];

@@ -6,21 +6,24 @@ use Rattle.pi_outside.specs.Held.{Holding}
 use Rattle.pi_outside.specs.Reads.{FileRead}
 use Rattle.pi_outside.specs.Writes.{SinkWrite}
 use Rattle.pi_answers.specs.declared.log.LogEntry.{LogEntry}
+use Rattle.pi_top.specs.declared.manner.Manner.{Manner}
 use Rattle.pi_top.specs.declared.outcome.QueryRun.{QueryRun}
 use Rattle.pi_top.specs.declared.query.Stop.{Stop}
 use Rattle.pi_top.specs.declared.query.Stop.TheVariants.{Memory, Write}
-use Rattle.pi_top.specs.declared.run_mode.RunMode.{RunMode}
-use Rattle.pi_top.specs.declared.run_mode.RunMode.TheVariants.{Query, Run, Session, Print, Demo}
-use Rattle.pi_top.specs.declared.words.Options.{Options}
-use Rattle.pi_top.specs.CutOff.{CutQuery, CutLine, CutIn, CutBy}
+use Rattle.pi_words.specs.declared.run_mode.RunMode.{RunMode}
+use Rattle.pi_words.specs.declared.run_mode.RunMode.TheVariants.{Query, Run, Session, Print, Demo}
+use Rattle.pi_words.specs.declared.asked.Options.{Options}
+use Rattle.pi_top.specs.CutOff.{CutFile, CutMade, CutLine, CutIn, CutBy}
 use Rattle.pi_top.specs.CutOff as cut
 use Rattle.pi_top.specs.Ends.{Ends, all_written, write_failed, memory_wanted, WritesMemory, all_of_it, front_of_it, AnswersBy, GivesStatus}
 use Rattle.pi_top.specs.Faults.{FaultCount, counted, Stands, Rises, TellsWrites}
 use Rattle.pi_top.specs.Handing.{HandsText}
+use Rattle.pi_demo.specs.Demo.{demo_program}
+use Rattle.pi_top.specs.Manner.{manner_of, goal_of}
 use Rattle.pi_top.specs.QueryEnd.{QueryEnd, Stopped, NoMore, No, Exception, StepsSpent, status_of}
-use Rattle.pi_top.specs.Statuses.{ComesText, ComesQuery, ComesIn, ComesBy, memory_line}
+use Rattle.pi_top.specs.Statuses.{ComesText, ComesFile, ComesMade, ComesIn, ComesBy, memory_line}
 use Rattle.pi_top.specs.Statuses as whole
-use Rattle.pi_top.specs.Words.{options}
+use Rattle.pi_words.specs.Words.{options}
 use Rattle.pi_outside.specs.declared.failed.Failed.{Failed}
 
 -- what was answered, and then its status: the sink's count between both is that behind the first
@@ -63,9 +66,9 @@ query-status No = omega arith
 query-status (Exception ball) = omega arith
 query-status StepsSpent = omega arith
 
-text-status : (asked : Options) (text goal : List ℕ) (queries : List QueryRun) (log : List LogEntry) (status : ℕ) (texts : List (List ℕ)) → ComesText asked text goal queries log status texts → status < 7
-text-status asked text goal queries log status texts (whole.refused line is written) = omega (arith, written.is_its)
-text-status asked text goal queries log status texts (whole.ran program of_program asks has) =
+text-status : (manner : Manner) (text goal : List ℕ) (queries : List QueryRun) (log : List LogEntry) (status : ℕ) (texts : List (List ℕ)) → ComesText manner text goal queries log status texts → status < 7
+text-status manner text goal queries log status texts (whole.refused line is written) = omega (arith, written.is_its)
+text-status manner text goal queries log status texts (whole.ran program of_program asks has) =
     let less = query-status has.headline.ending in omega (arith, less, has.headline.its_status)
 
 -- with 7 a read failed, and with each other status none did
@@ -74,12 +77,12 @@ record ReadsTell (files : FaultCount) (status : ℕ) : Type 0 where
   pub failed : status ≡ 7 → Rises files
   pub well : status ≢ 7 → Stands files
 
-query-reads : (asked : Options) (held : Option Holding) (files : FaultCount) (reads : List FileRead) (queries : List QueryRun) (log : List LogEntry) (status : ℕ) (texts : List (List ℕ)) →
-    ComesQuery asked held files reads queries log status texts → ReadsTell files status
-query-reads asked held files reads queries log status texts (whole.read_fault rose fails line) =
+file-reads : (asked : Options) (held : Option Holding) (files : FaultCount) (reads : List FileRead) (queries : List QueryRun) (log : List LogEntry) (status : ℕ) (texts : List (List ℕ)) →
+    ComesFile asked held files reads queries log status texts → ReadsTell files status
+file-reads asked held files reads queries log status texts (whole.read_fault rose fails line) =
     record { below = omega (arith, line.is_its); failed = λ seven. rose; well = λ other. absurd (other line.is_its) }
-query-reads asked held files reads queries log status texts (whole.was_read stands text goal all_read read has comes) =
-    let less = text-status asked text goal queries log status texts comes in
+file-reads asked held files reads queries log status texts (whole.was_read stands text all_read read comes) =
+    let less = text-status (manner_of asked) text (goal_of asked) queries log status texts comes in
     record { below = omega (arith, less); failed = λ seven. absurd (omega (arith, less, seven)); well = λ other. stands }
 
 line-reads : (line : List ℕ) (its : ℕ) (files : FaultCount) (reads : List FileRead) (queries : List QueryRun) (status : ℕ) (texts : List (List ℕ)) → its < 7 →
@@ -90,13 +93,19 @@ line-reads line its files reads queries status texts less is = record {
   well = λ other. is.unread.stands;
 }
 
+made-reads : (asked : Options) (files : FaultCount) (reads : List FileRead) (queries : List QueryRun) (log : List LogEntry) (status : ℕ) (texts : List (List ℕ)) →
+    ComesMade asked files reads queries log status texts → ReadsTell files status
+made-reads asked files reads queries log status texts is =
+    let less = text-status (manner_of asked) (demo_program is.places) (goal_of asked) queries log status texts is.comes in
+    record { below = omega (arith, less); failed = λ seven. absurd (omega (arith, less, seven)); well = λ other. is.unread.stands }
+
 in-reads : (mode : RunMode) (asked : Options) (held : Option Holding) (files : FaultCount) (reads : List FileRead) (queries : List QueryRun) (log : List LogEntry) (status : ℕ) (texts : List (List ℕ)) →
     ComesIn mode asked held files reads queries log status texts → ReadsTell files status
-in-reads Query asked held files reads queries log status texts comes = query-reads asked held files reads queries log status texts comes
-in-reads Run asked held files reads queries log status texts line = line-reads whole.mode_line 3 files reads queries status texts (omega arith) line
+in-reads Query asked held files reads queries log status texts comes = file-reads asked held files reads queries log status texts comes
+in-reads Run asked held files reads queries log status texts comes = file-reads asked held files reads queries log status texts comes
 in-reads Session asked held files reads queries log status texts line = line-reads whole.mode_line 3 files reads queries status texts (omega arith) line
 in-reads Print asked held files reads queries log status texts line = line-reads whole.mode_line 3 files reads queries status texts (omega arith) line
-in-reads Demo asked held files reads queries log status texts line = line-reads whole.mode_line 3 files reads queries status texts (omega arith) line
+in-reads Demo asked held files reads queries log status texts comes = made-reads asked files reads queries log status texts comes
 
 by-reads : (o : Option Options) (held : Option Holding) (files : FaultCount) (reads : List FileRead) (queries : List QueryRun) (log : List LogEntry) (status : ℕ) (texts : List (List ℕ)) →
     ComesBy o held files reads queries log status texts → ReadsTell files status
@@ -105,22 +114,27 @@ by-reads (Some asked) held files reads queries log status texts comes = in-reads
 
 -- where memory was wanted no read failed
 cut-reads : (asked : Options) (held : Option Holding) (files : FaultCount) (reads : List FileRead) (queries : List QueryRun) (log : List LogEntry) (status : ℕ) (writes : List SinkWrite) → status ≢ 8 →
-    CutQuery asked held files reads queries log status writes → Stands files
+    CutFile asked held files reads queries log status writes → Stands files
 cut-reads asked held files reads queries log status writes other (cut.nothing stands some_read is) = stands
 cut-reads asked held files reads queries log status writes other (cut.read_fault rose fails is) = absurd (other is.write)
-cut-reads asked held files reads queries log status writes other (cut.was_read stands text goal all_read read has is) = stands
+cut-reads asked held files reads queries log status writes other (cut.was_read stands text all_read read is) = stands
 
 cut-line-reads : (line : List ℕ) (files : FaultCount) (reads : List FileRead) (queries : List QueryRun) (status : ℕ) (writes : List SinkWrite) → CutLine line files reads queries status writes → Stands files
 cut-line-reads line files reads queries status writes (CutLine.nothing unread is) = unread.stands
 cut-line-reads line files reads queries status writes (cut.front_of unread is) = unread.stands
 
+cut-made-reads : (asked : Options) (files : FaultCount) (reads : List FileRead) (queries : List QueryRun) (log : List LogEntry) (status : ℕ) (writes : List SinkWrite) →
+    CutMade asked files reads queries log status writes → Stands files
+cut-made-reads asked files reads queries log status writes (CutMade.nothing unread is) = unread.stands
+cut-made-reads asked files reads queries log status writes (CutMade.was_made unread places number is) = unread.stands
+
 cut-in-reads : (mode : RunMode) (asked : Options) (held : Option Holding) (files : FaultCount) (reads : List FileRead) (queries : List QueryRun) (log : List LogEntry) (status : ℕ) (writes : List SinkWrite) → status ≢ 8 →
     CutIn mode asked held files reads queries log status writes → Stands files
 cut-in-reads Query asked held files reads queries log status writes other is = cut-reads asked held files reads queries log status writes other is
-cut-in-reads Run asked held files reads queries log status writes other is = cut-line-reads whole.mode_line files reads queries status writes is
+cut-in-reads Run asked held files reads queries log status writes other is = cut-reads asked held files reads queries log status writes other is
 cut-in-reads Session asked held files reads queries log status writes other is = cut-line-reads whole.mode_line files reads queries status writes is
 cut-in-reads Print asked held files reads queries log status writes other is = cut-line-reads whole.mode_line files reads queries status writes is
-cut-in-reads Demo asked held files reads queries log status writes other is = cut-line-reads whole.mode_line files reads queries status writes is
+cut-in-reads Demo asked held files reads queries log status writes other is = cut-made-reads asked files reads queries log status writes is
 
 cut-by-reads : (o : Option Options) (held : Option Holding) (files : FaultCount) (reads : List FileRead) (queries : List QueryRun) (log : List LogEntry) (status : ℕ) (writes : List SinkWrite) → status ≢ 8 →
     CutBy o held files reads queries log status writes → Stands files

@@ -1,34 +1,36 @@
 -- How a run ends, from what its parts wrote and answered.
-use Rattle.std.proofs.Common.{◌≡◌, ◌≢◌, ℕ, List, [], ◌∷◌, Option, None, Some, Result, Ok, Err, IfOk, IfErr, refl, sym, subst, ◌∙◌}
+use Rattle.std.proofs.Common.{◌≡◌, ℕ, true, false, List, [], ◌∷◌, Option, None, Some, Result, Ok, Err, IfOk, IfErr, refl, sym, ap, subst, ◌∙◌, true≢false}
 use Rattle.pi_outside.specs.Held.{Holding}
 use Rattle.pi_outside.specs.Reads.{FileRead}
 use Rattle.pi_outside.specs.Writes.{SinkWrite}
 use Rattle.pi_core.specs.CoreTree.{PredTree, QueryTree}
 use Rattle.pi_syntax.specs.ExpTree.{ExpTree}
 use Rattle.pi_syntax.specs.ProgramTree.{ProgramTree}
+use Rattle.pi_top.specs.declared.manner.Manner.{Manner}
 use Rattle.pi_top.specs.declared.outcome.QueryRun.{QueryRun}
 use Rattle.pi_top.specs.declared.query.Stop.{Stop}
 use Rattle.pi_top.specs.declared.query.Stop.TheVariants.{Memory, Write}
-use Rattle.pi_top.specs.declared.run_mode.RunMode.{RunMode}
-use Rattle.pi_top.specs.declared.run_mode.RunMode.TheVariants.{Query, Run, Session, Print, Demo}
-use Rattle.pi_top.specs.declared.words.Options.{Options}
-use Rattle.pi_top.specs.CutOff.{IsNothing, IsFront, CutText, CutQuery, CutLine, CutIn, CutBy, running, front_of}
+use Rattle.pi_words.specs.declared.run_mode.RunMode.{RunMode}
+use Rattle.pi_words.specs.declared.run_mode.RunMode.TheVariants.{Query, Run, Session, Print, Demo}
+use Rattle.pi_words.specs.declared.asked.Options.{Options}
+use Rattle.pi_top.specs.CutOff.{IsNothing, IsFront, CutText, CutFile, CutMade, CutLine, CutIn, CutBy, running, front_of}
 use Rattle.pi_top.specs.CutOff as cut
-use Rattle.pi_top.specs.Ends.{ReadsNoFile, AnswersText, AnswersQuery, AnswersBy, status_of_stop}
+use Rattle.pi_top.specs.Ends.{reads_file, ReadsNoFile, AnswersText, AnswersFile, AnswersMade, AnswersBy, status_of_stop}
 use Rattle.pi_top.specs.Faults.{FaultCount, Stands, Rises}
 use Rattle.pi_top.specs.Handing.{HandsAll}
 use Rattle.pi_top.specs.Headline.{Headline}
 use Rattle.pi_top.specs.Judged.{Refused}
 use Rattle.pi_top.specs.JudgedCode.{IsAsked}
+use Rattle.pi_demo.specs.Demo.{demo_program}
+use Rattle.pi_top.specs.Manner.{manner_of, goal_of}
 use Rattle.pi_top.specs.Reading.{ReadsText, FailsReading, StopsReading, nothing as nothing_read}
 use Rattle.pi_top.specs.Running.{HasRun, not_asked, was_asked}
 use Rattle.pi_top.specs.Runs.{HasRan, run_of}
 use Rattle.pi_top.specs.Statuses as whole
 use Rattle.pi_top.specs.Statuses.{IsLine, ComesIn, IsUnread, ran, Written, usage_line, mode_line, read_fault_line}
 use Rattle.pi_top.specs.Texts.{IsRead}
-use Rattle.pi_top.specs.Words.{options}
+use Rattle.pi_words.specs.Words.{options, places_of}
 use Rattle.pi_top.specs.Writing.{IsCutIn, Writes}
-use Rattle.pi_top.proofs.Modes.{GoalByMode, goal_by_mode}
 use Rattle.pi_top.proofs.OverNames.{ends-over-names, cut-over-names}
 
 -- a line was written, or its write failed
@@ -51,121 +53,139 @@ widens writes f w = record { texts = w.texts; comes = f w.texts w.comes; handed 
 
 -- ---- with two texts
 
-pub text-refused : (asked : Options) (text goal line : List ℕ) (queries : List QueryRun) (r : Result ℕ Stop) (writes : List SinkWrite) → Refused text goal line → queries ≡ [] →
-    IfOk r (λ given. given ≡ 3) → IfErr r (λ stop. stop ≡ Write) → Writes (line ∷ []) r writes → AnswersText asked text goal queries [] r writes
-text-refused asked text goal line queries (Ok status) writes is none three stops written =
+pub text-refused : (manner : Manner) (text goal line : List ℕ) (queries : List QueryRun) (r : Result ℕ Stop) (writes : List SinkWrite) → Refused text goal line → queries ≡ [] →
+    IfOk r (λ given. given ≡ 3) → IfErr r (λ stop. stop ≡ Write) → Writes (line ∷ []) r writes → AnswersText manner text goal queries [] r writes
+text-refused manner text goal line queries (Ok status) writes is none three stops written =
     widens writes (λ texts comes. whole.refused line is comes) (line-all line 3 status queries writes none three written.all)
-text-refused asked text goal line queries (Err stop) writes is none three stops written =
+text-refused manner text goal line queries (Err stop) writes is none three stops written =
     cut.refused line is (line-front line stop queries writes none stops written.cut)
 
 -- nothing was written yet
-pub text-nothing : (asked : Options) (text goal : List ℕ) (queries : List QueryRun) → queries ≡ [] → CutText asked text goal queries [] 9 []
-text-nothing asked text goal queries none = cut.nothing (is-nothing queries none)
+pub text-nothing : (manner : Manner) (text goal : List ℕ) (queries : List QueryRun) → queries ≡ [] → CutText manner text goal queries [] 9 []
+text-nothing manner text goal queries none = cut.nothing (is-nothing queries none)
 
 -- a goal was run
-has-ran : (answers steps ticks : ℕ) (is : ProgramTree) (goal : ExpTree) (queries : List QueryRun) (status : ℕ) (writes : List SinkWrite) → queries ≡ run_of ticks ∷ [] →
-    Written (Headline answers steps is goal [] ticks status) writes → Written (HasRan answers steps is goal [] queries status) writes
-has-ran answers steps ticks is goal queries status writes listed w =
+has-ran : (manner : Manner) (ticks : ℕ) (is : ProgramTree) (goal : ExpTree) (queries : List QueryRun) (status : ℕ) (writes : List SinkWrite) → queries ≡ run_of ticks ∷ [] →
+    Written (Headline manner is goal [] ticks status) writes → Written (HasRan manner is goal [] queries status) writes
+has-ran manner ticks is goal queries status writes listed w =
     widens writes (λ texts headline. record { ticks = ticks; listed = listed; headline = headline }) w
 
-pub text-ran : (asked : Options) (text goal : List ℕ) (program : List PredTree) (q : QueryTree) (old new : List QueryRun) (r : Result ℕ Stop) (writes : List SinkWrite) →
-    old ≡ [] → IsAsked text goal program q → HasRun asked.answers asked.steps program q old new r writes → AnswersText asked text goal new [] r writes
-text-ran asked text goal program q old new (Ok status) writes none is (not_asked memory listed nothing) = absurd (cc)
-text-ran asked text goal program q old new (Ok status) writes none is (was_asked has) =
+pub text-ran : (manner : Manner) (text goal : List ℕ) (program : List PredTree) (q : QueryTree) (old new : List QueryRun) (r : Result ℕ Stop) (writes : List SinkWrite) →
+    old ≡ [] → IsAsked text goal program q → HasRun manner.lines manner.answers manner.steps program q old new r writes → AnswersText manner text goal new [] r writes
+text-ran manner text goal program q old new (Ok status) writes none is (not_asked memory listed nothing) = absurd (cc)
+text-ran manner text goal program q old new (Ok status) writes none is (was_asked has) =
     widens writes (λ texts comes. ran is.source is.asked is.asks comes)
-    (has-ran asked.answers asked.steps has.ticks is.source is.asked new status writes (rw none at has.listed)
-    (ends-over-names asked.answers asked.steps is.source is.asked program q has.ticks status writes is.lowered.runs has.comes))
-text-ran asked text goal program q old new (Err stop) writes none is (not_asked memory listed nothing) =
+    (has-ran manner has.ticks is.source is.asked new status writes (rw none at has.listed)
+    (ends-over-names manner is.source is.asked program q has.ticks status writes is.lowered.runs has.comes))
+text-ran manner text goal program q old new (Err stop) writes none is (not_asked memory listed nothing) =
     let want : stop ≡ Memory = cc in
     cut.nothing (record { memory = rw want refl; none_asked = listed ∙ none; nothing = nothing })
-text-ran asked text goal program q old new (Err stop) writes none is (was_asked has) = running is.source is.asked is.asks (record {
+text-ran manner text goal program q old new (Err stop) writes none is (was_asked has) = running is.source is.asked is.asks (record {
   ticks = has.ticks;
   listed = rw none at has.listed;
   within = has.within;
-  cut = cut-over-names asked.answers asked.steps is.source is.asked program q has.ticks (status_of_stop stop) writes is.lowered.runs has.comes;
+  cut = cut-over-names manner is.source is.asked program q has.ticks (status_of_stop stop) writes is.lowered.runs has.comes;
 })
 
--- ---- in the mode `query`
+-- ---- with a program that is in a file
 
-pub query-fault : (asked : Options) (held : Option Holding) (files : FaultCount) (queries : List QueryRun) (r : Result ℕ Stop) (reads : List FileRead) (writes : List SinkWrite) → Rises files →
+pub file-fault : (asked : Options) (held : Option Holding) (files : FaultCount) (queries : List QueryRun) (r : Result ℕ Stop) (reads : List FileRead) (writes : List SinkWrite) → Rises files →
     FailsReading asked.file reads → queries ≡ [] → IfOk r (λ given. given ≡ 7) → IfErr r (λ stop. stop ≡ Write) → Writes (read_fault_line ∷ []) r writes →
-    AnswersQuery asked held files queries [] r reads writes
-query-fault asked held files queries (Ok status) reads writes rose fails none is stops written =
+    AnswersFile asked held files queries [] r reads writes
+file-fault asked held files queries (Ok status) reads writes rose fails none is stops written =
     widens writes (λ texts comes. whole.read_fault rose fails comes) (line-all read_fault_line 7 status queries writes none is written.all)
-query-fault asked held files queries (Err stop) reads writes rose fails none is stops written =
+file-fault asked held files queries (Err stop) reads writes rose fails none is stops written =
     cut.read_fault rose fails (line-front read_fault_line stop queries writes none stops written.cut)
 
-pub query-nothing : (asked : Options) (held : Option Holding) (files : FaultCount) (queries : List QueryRun) (reads : List FileRead) → Stands files → StopsReading asked.file reads → queries ≡ [] →
-    CutQuery asked held files reads queries [] 9 []
-query-nothing asked held files queries reads stands some_read none = cut.nothing stands some_read (is-nothing queries none)
+pub file-nothing : (asked : Options) (held : Option Holding) (files : FaultCount) (queries : List QueryRun) (reads : List FileRead) → Stands files → StopsReading asked.file reads → queries ≡ [] →
+    CutFile asked held files reads queries [] 9 []
+file-nothing asked held files queries reads stands some_read none = cut.nothing stands some_read (is-nothing queries none)
 
-pub query-read : (asked : Options) (held : Option Holding) (files : FaultCount) (text goal : List ℕ) (queries : List QueryRun) (r : Result ℕ Stop) (reads : List FileRead) (writes : List SinkWrite) →
-    Stands files → ReadsText asked.file text reads → IsRead held asked.file text → asked.goal ≡ Some goal → AnswersText asked text goal queries [] r writes →
-    AnswersQuery asked held files queries [] r reads writes
-query-read asked held files text goal queries (Ok status) reads writes stands all_read read has ends =
-    widens writes (λ texts comes. whole.was_read stands text goal all_read read has comes) ends
-query-read asked held files text goal queries (Err stop) reads writes stands all_read read has ends = cut.was_read stands text goal all_read read has ends
+pub file-read : (asked : Options) (held : Option Holding) (files : FaultCount) (text : List ℕ) (queries : List QueryRun) (r : Result ℕ Stop) (reads : List FileRead) (writes : List SinkWrite) →
+    Stands files → ReadsText asked.file text reads → IsRead held asked.file text → AnswersText (manner_of asked) text (goal_of asked) queries [] r writes →
+    AnswersFile asked held files queries [] r reads writes
+file-read asked held files text queries (Ok status) reads writes stands all_read read ends =
+    widens writes (λ texts comes. whole.was_read stands text all_read read comes) ends
+file-read asked held files text queries (Err stop) reads writes stands all_read read ends = cut.was_read stands text all_read read ends
 
--- ---- by the words
+-- ---- with one that is made of a number
 
-goal-in : (mode : RunMode) (asked : Options) (held : Option Holding) (files : FaultCount) (queries : List QueryRun) (goal : List ℕ) (r : Result ℕ Stop) (reads : List FileRead) (writes : List SinkWrite) →
-    asked.mode ≡ mode → GoalByMode mode (Some goal) → AnswersQuery asked held files queries [] r reads writes → AnswersBy (Some asked) held files queries [] r reads writes
-goal-in Query asked held files queries goal (Ok status) reads writes is given ends =
-    subst (λ m. Written (λ texts. ComesIn m asked held files reads queries [] status texts) writes) (sym is) ends
-goal-in Query asked held files queries goal (Err stop) reads writes is given ends =
-    subst (λ m. CutIn m asked held files reads queries [] (status_of_stop stop) writes) (sym is) ends
-goal-in Run asked held files queries goal r reads writes is given ends = absurd given
-goal-in Session asked held files queries goal r reads writes is given ends = absurd given
-goal-in Print asked held files queries goal r reads writes is given ends = absurd given
-goal-in Demo asked held files queries goal r reads writes is given ends = absurd given
-
--- words with a goal are of the mode that reads a file
-in-query : (mode : RunMode) (goal : List ℕ) → GoalByMode mode (Some goal) → mode ≢ Query → ⊥
-in-query Query goal given other = other refl
-in-query Run goal given other = absurd given
-in-query Session goal given other = absurd given
-in-query Print goal given other = absurd given
-in-query Demo goal given other = absurd given
-
-pub goal-mode : (words : List (List ℕ)) (asked : Options) (goal : List ℕ) → options words ≡ Some asked → asked.goal ≡ Some goal → ReadsNoFile (options words) → ⊥
-goal-mode words asked goal is has none =
-    in-query asked.mode goal (rw has at (goal_by_mode words asked is)) (subst ReadsNoFile is none)
-
-pub by-goal : (words : List (List ℕ)) (asked : Options) (goal : List ℕ) (held : Option Holding) (files : FaultCount) (queries : List QueryRun) (r : Result ℕ Stop) (reads : List FileRead)
-    (writes : List SinkWrite) → options words ≡ Some asked → asked.goal ≡ Some goal → AnswersQuery asked held files queries [] r reads writes →
-    AnswersBy (options words) held files queries [] r reads writes
-by-goal words asked goal held files queries r reads writes is has ends =
-    let given : GoalByMode asked.mode (Some goal) = rw has at (goal_by_mode words asked is) in
-    subst (λ o. AnswersBy o held files queries [] r reads writes) (sym is) (goal-in asked.mode asked held files queries goal r reads writes refl given ends)
-
--- a line, where no file is read
+-- no file is read
 no-read : (files : FaultCount) → Stands files → IsUnread files []
 no-read files stands = record { stands = stands; no_read = refl }
 
+pub made-nothing : (asked : Options) (files : FaultCount) (queries : List QueryRun) → Stands files → queries ≡ [] → CutMade asked files [] queries [] 9 []
+made-nothing asked files queries stands none = CutMade.nothing (no-read files stands) (is-nothing queries none)
+
+pub made-text : (asked : Options) (files : FaultCount) (places : ℕ) (text : List ℕ) (queries : List QueryRun) (r : Result ℕ Stop) (writes : List SinkWrite) →
+    Stands files → places_of asked ≡ Some places → text ≡ demo_program places → AnswersText (manner_of asked) text (goal_of asked) queries [] r writes →
+    AnswersMade asked files queries [] r [] writes
+made-text asked files places text queries (Ok status) writes stands number made ends =
+    widens writes (λ texts comes. record { unread = no-read files stands; places = places; number = number; comes = comes }) (rw made at ends)
+made-text asked files places text queries (Err stop) writes stands number made ends = CutMade.was_made (no-read files stands) places number (rw made at ends)
+
+-- ---- by the words
+
+file-in : (mode : RunMode) (asked : Options) (held : Option Holding) (files : FaultCount) (queries : List QueryRun) (r : Result ℕ Stop) (reads : List FileRead) (writes : List SinkWrite) →
+    asked.mode ≡ mode → reads_file mode ≡ true → AnswersFile asked held files queries [] r reads writes → AnswersBy (Some asked) held files queries [] r reads writes
+file-in Query asked held files queries (Ok status) reads writes is reads_one ends = subst (λ m. Written (λ texts. ComesIn m asked held files reads queries [] status texts) writes) (sym is) ends
+file-in Query asked held files queries (Err stop) reads writes is reads_one ends = subst (λ m. CutIn m asked held files reads queries [] (status_of_stop stop) writes) (sym is) ends
+file-in Run asked held files queries (Ok status) reads writes is reads_one ends = subst (λ m. Written (λ texts. ComesIn m asked held files reads queries [] status texts) writes) (sym is) ends
+file-in Run asked held files queries (Err stop) reads writes is reads_one ends = subst (λ m. CutIn m asked held files reads queries [] (status_of_stop stop) writes) (sym is) ends
+file-in Session asked held files queries r reads writes is reads_one ends = absurd cc
+file-in Print asked held files queries r reads writes is reads_one ends = absurd cc
+file-in Demo asked held files queries r reads writes is reads_one ends = absurd cc
+
+pub by-file : (words : List (List ℕ)) (asked : Options) (held : Option Holding) (files : FaultCount) (queries : List QueryRun) (r : Result ℕ Stop) (reads : List FileRead) (writes : List SinkWrite) →
+    options words ≡ Some asked → (mode : RunMode) → asked.mode ≡ mode → reads_file mode ≡ true → AnswersFile asked held files queries [] r reads writes →
+    AnswersBy (options words) held files queries [] r reads writes
+by-file words asked held files queries r reads writes is mode in_mode reads_one ends =
+    subst (λ o. AnswersBy o held files queries [] r reads writes) (sym is) (file-in mode asked held files queries r reads writes in_mode reads_one ends)
+
+demo-in : (asked : Options) (held : Option Holding) (files : FaultCount) (queries : List QueryRun) (r : Result ℕ Stop) (writes : List SinkWrite) →
+    asked.mode ≡ Demo → AnswersMade asked files queries [] r [] writes → AnswersBy (Some asked) held files queries [] r [] writes
+demo-in asked held files queries (Ok status) writes is ends = subst (λ m. Written (λ texts. ComesIn m asked held files [] queries [] status texts) writes) (sym is) ends
+demo-in asked held files queries (Err stop) writes is ends = subst (λ m. CutIn m asked held files [] queries [] (status_of_stop stop) writes) (sym is) ends
+
+pub by-demo : (words : List (List ℕ)) (asked : Options) (held : Option Holding) (files : FaultCount) (queries : List QueryRun) (r : Result ℕ Stop) (writes : List SinkWrite) →
+    options words ≡ Some asked → asked.mode ≡ Demo → AnswersMade asked files queries [] r [] writes → AnswersBy (options words) held files queries [] r [] writes
+by-demo words asked held files queries r writes is in_mode ends =
+    subst (λ o. AnswersBy o held files queries [] r [] writes) (sym is) (demo-in asked held files queries r writes in_mode ends)
+
+-- the words ask for what reads a file
+pub no-unread : (words : List (List ℕ)) (asked : Options) (mode : RunMode) → options words ≡ Some asked → asked.mode ≡ mode → reads_file mode ≡ true → ReadsNoFile (options words) → ⊥
+no-unread words asked mode is in_mode reads_one none =
+    let unread : reads_file asked.mode ≡ false = subst ReadsNoFile is none in
+    true≢false (sym reads_one ∙ (ap reads_file (sym in_mode) ∙ unread))
+
+-- a line, where no file is read
 line-unread : (line : List ℕ) (its status : ℕ) (files : FaultCount) (queries : List QueryRun) (writes : List SinkWrite) → Stands files → queries ≡ [] → status ≡ its →
     HandsAll (line ∷ []) writes → Written (whole.IsLineUnread line its files [] queries status) writes
 line-unread line its status files queries writes stands none is handed =
     widens writes (λ texts comes. record { unread = no-read files stands; is = comes }) (line-all line its status queries writes none is handed)
 
-line-in : (mode : RunMode) (asked : Options) (held : Option Holding) (files : FaultCount) (queries : List QueryRun) (r : Result ℕ Stop) (writes : List SinkWrite) →
-    asked.mode ≡ mode → GoalByMode mode None → Stands files → queries ≡ [] → IfOk r (λ given. given ≡ 3) → IfErr r (λ stop. stop ≡ Write) → Writes (mode_line ∷ []) r writes →
-    AnswersBy (Some asked) held files queries [] r [] writes
-line-in Query asked held files queries r writes is given stands none three stops written = absurd given
-line-in Run asked held files queries (Ok status) writes is given stands none three stops written = rw is (line-unread mode_line 3 status files queries writes stands none three written.all)
-line-in Session asked held files queries (Ok status) writes is given stands none three stops written = rw is (line-unread mode_line 3 status files queries writes stands none three written.all)
-line-in Print asked held files queries (Ok status) writes is given stands none three stops written = rw is (line-unread mode_line 3 status files queries writes stands none three written.all)
-line-in Demo asked held files queries (Ok status) writes is given stands none three stops written = rw is (line-unread mode_line 3 status files queries writes stands none three written.all)
-line-in Run asked held files queries (Err stop) writes is given stands none three stops written = rw is (front_of (no-read files stands) (line-front mode_line stop queries writes none stops written.cut))
-line-in Session asked held files queries (Err stop) writes is given stands none three stops written = rw is (front_of (no-read files stands) (line-front mode_line stop queries writes none stops written.cut))
-line-in Print asked held files queries (Err stop) writes is given stands none three stops written = rw is (front_of (no-read files stands) (line-front mode_line stop queries writes none stops written.cut))
-line-in Demo asked held files queries (Err stop) writes is given stands none three stops written = rw is (front_of (no-read files stands) (line-front mode_line stop queries writes none stops written.cut))
+-- the mode isn't built
+abbrev pub IsUnbuilt : RunMode → Type 0
+IsUnbuilt Session = Unit {0}
+IsUnbuilt Print = Unit {0}
+IsUnbuilt other = ⊥
 
-pub by-mode : (words : List (List ℕ)) (asked : Options) (held : Option Holding) (files : FaultCount) (queries : List QueryRun) (r : Result ℕ Stop) (writes : List SinkWrite) →
-    options words ≡ Some asked → asked.goal ≡ None → Stands files → queries ≡ [] → IfOk r (λ given. given ≡ 3) → IfErr r (λ stop. stop ≡ Write) → Writes (mode_line ∷ []) r writes →
+line-in : (mode : RunMode) (asked : Options) (held : Option Holding) (files : FaultCount) (queries : List QueryRun) (r : Result ℕ Stop) (writes : List SinkWrite) →
+    asked.mode ≡ mode → IsUnbuilt mode → Stands files → queries ≡ [] → IfOk r (λ given. given ≡ 3) → IfErr r (λ stop. stop ≡ Write) → Writes (mode_line ∷ []) r writes →
+    AnswersBy (Some asked) held files queries [] r [] writes
+line-in Query asked held files queries r writes is unbuilt stands none three stops written = absurd unbuilt
+line-in Run asked held files queries r writes is unbuilt stands none three stops written = absurd unbuilt
+line-in Demo asked held files queries r writes is unbuilt stands none three stops written = absurd unbuilt
+line-in Session asked held files queries (Ok status) writes is unbuilt stands none three stops written = rw is (line-unread mode_line 3 status files queries writes stands none three written.all)
+line-in Print asked held files queries (Ok status) writes is unbuilt stands none three stops written = rw is (line-unread mode_line 3 status files queries writes stands none three written.all)
+line-in Session asked held files queries (Err stop) writes is unbuilt stands none three stops written = rw is (front_of (no-read files stands) (line-front mode_line stop queries writes none stops written.cut))
+line-in Print asked held files queries (Err stop) writes is unbuilt stands none three stops written = rw is (front_of (no-read files stands) (line-front mode_line stop queries writes none stops written.cut))
+
+pub by-mode : (words : List (List ℕ)) (asked : Options) (mode : RunMode) (held : Option Holding) (files : FaultCount) (queries : List QueryRun) (r : Result ℕ Stop) (writes : List SinkWrite) →
+    options words ≡ Some asked → asked.mode ≡ mode → IsUnbuilt mode → Stands files → queries ≡ [] → IfOk r (λ given. given ≡ 3) → IfErr r (λ stop. stop ≡ Write) → Writes (mode_line ∷ []) r writes →
     AnswersBy (options words) held files queries [] r [] writes
-by-mode words asked held files queries r writes is has stands none three stops written =
-    let given : GoalByMode asked.mode None = rw has at (goal_by_mode words asked is) in
-    subst (λ o. AnswersBy o held files queries [] r [] writes) (sym is) (line-in asked.mode asked held files queries r writes refl given stands none three stops written)
+by-mode words asked mode held files queries r writes is in_mode unbuilt stands none three stops written =
+    subst (λ o. AnswersBy o held files queries [] r [] writes) (sym is) (line-in mode asked held files queries r writes in_mode unbuilt stands none three stops written)
 
 pub by-usage : (words : List (List ℕ)) (held : Option Holding) (files : FaultCount) (queries : List QueryRun) (r : Result ℕ Stop) (writes : List SinkWrite) → options words ≡ None →
     Stands files → queries ≡ [] → IfOk r (λ given. given ≡ 2) → IfErr r (λ stop. stop ≡ Write) → Writes (usage_line ∷ []) r writes → AnswersBy (options words) held files queries [] r [] writes
@@ -175,11 +195,11 @@ by-usage words held files queries (Err stop) writes is stands none two stops wri
     subst (λ o. CutBy o held files [] queries [] (status_of_stop stop) writes) (sym is) (front_of (no-read files stands) (line-front usage_line stop queries writes none stops written.cut))
 
 nothing-in : (mode : RunMode) (asked : Options) (held : Option Holding) (files : FaultCount) (queries : List QueryRun) → Stands files → queries ≡ [] → CutIn mode asked held files [] queries [] 9 []
-nothing-in Query asked held files queries stands none = query-nothing asked held files queries [] stands (record { text = []; read = nothing_read }) none
-nothing-in Run asked held files queries stands none = CutLine.nothing (no-read files stands) (is-nothing queries none)
+nothing-in Query asked held files queries stands none = file-nothing asked held files queries [] stands (record { text = []; read = nothing_read }) none
+nothing-in Run asked held files queries stands none = file-nothing asked held files queries [] stands (record { text = []; read = nothing_read }) none
+nothing-in Demo asked held files queries stands none = made-nothing asked files queries stands none
 nothing-in Session asked held files queries stands none = CutLine.nothing (no-read files stands) (is-nothing queries none)
 nothing-in Print asked held files queries stands none = CutLine.nothing (no-read files stands) (is-nothing queries none)
-nothing-in Demo asked held files queries stands none = CutLine.nothing (no-read files stands) (is-nothing queries none)
 
 pub by-nothing : (o : Option Options) (held : Option Holding) (files : FaultCount) (queries : List QueryRun) → Stands files → queries ≡ [] → CutBy o held files [] queries [] 9 []
 by-nothing None held files queries stands none = CutLine.nothing (no-read files stands) (is-nothing queries none)

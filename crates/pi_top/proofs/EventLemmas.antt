@@ -8,7 +8,9 @@ use Rattle.pi_meaning.specs.Told.{answer_of}
 use Rattle.pi_answers.specs.declared.answer.Answer.{Answer}
 use Rattle.pi_core.specs.declared.core_program.NameSlot.{NameSlot}
 use Rattle.pi_machine.specs.Next.{some_ticks}
+use Rattle.pi_top.specs.declared.manner.Lines.{Lines}
 use Rattle.pi_top.specs.Running.{print_solutions}
+use Rattle.pi_top.specs.ToldLines.{where_told}
 use Rattle.pi_top.specs.QueryEnd.{count_answers, EndsWithLast}
 
 pub ticks-append : {A : Type 0} (events more : List (Emitted A)) → count_ticks (events ++ more) ≡ count_ticks events + count_ticks more
@@ -25,15 +27,15 @@ answers-append [] more = omega arith
 answers-append (noted n ∷ events) more = answers-append events more
 answers-append (answered x ∷ events) more = let rest = answers-append events more in omega (arith, rest)
 
-pub print-append : (names : List NameSlot) (events more : List (Emitted Solution)) → print_solutions names (events ++ more) ≡ print_solutions names events ++ print_solutions names more
+pub print-append : (lines : Lines) (names : List NameSlot) (events more : List (Emitted Solution)) → print_solutions lines names (events ++ more) ≡ print_solutions lines names events ++ print_solutions lines names more
 unfolding print_solutions
-print-append names [] more = refl
-print-append names (noted Tick ∷ events) more = print-append names events more
-print-append names (noted (Load k) ∷ events) more = print-append names events more
-print-append names (noted (Out text) ∷ events) more = ap (λ l. text ∷ l) (print-append names events more)
-print-append names (answered x ∷ events) more =
-    let lines : List (List ℕ) = answer_lines (answer_of names x) in
-    ap (λ l. lines ++ l) (print-append names events more) ∙ sym (append_assoc lines (print_solutions names events) (print_solutions names more))
+print-append lines names [] more = refl
+print-append lines names (noted Tick ∷ events) more = print-append lines names events more
+print-append lines names (noted (Load k) ∷ events) more = print-append lines names events more
+print-append lines names (noted (Out text) ∷ events) more = ap (λ l. text ∷ l) (print-append lines names events more)
+print-append lines names (answered x ∷ events) more =
+    let told : List (List ℕ) = where_told lines (answer_lines (answer_of names x)) in
+    ap (λ l. told ++ l) (print-append lines names events more) ∙ sym (append_assoc told (print_solutions lines names events) (print_solutions lines names more))
 
 pub ticks-of_ticks : (k : ℕ) → count_ticks (some_ticks k) ≡ k
 unfolding count_ticks
@@ -45,14 +47,14 @@ unfolding count_answers
 answers-of_ticks zero = refl
 answers-of_ticks (suc k) = answers-of_ticks k
 
-pub print-of_ticks : (names : List NameSlot) (k : ℕ) → print_solutions names (some_ticks k) ≡ []
+pub print-of_ticks : (lines : Lines) (names : List NameSlot) (k : ℕ) → print_solutions lines names (some_ticks k) ≡ []
 unfolding print_solutions
-print-of_ticks names zero = refl
-print-of_ticks names (suc k) = print-of_ticks names k
+print-of_ticks lines names zero = refl
+print-of_ticks lines names (suc k) = print-of_ticks lines names k
 
 -- Ticks behind events
-pub behind-ticks : (names : List NameSlot) (events : List (Emitted Solution)) (k : ℕ) → print_solutions names (events ++ some_ticks k) ≡ print_solutions names events
-behind-ticks names events k = print-append names events (some_ticks k) ∙ ap (λ l. print_solutions names events ++ l) (print-of_ticks names k) ∙ append-nil (print_solutions names events)
+pub behind-ticks : (lines : Lines) (names : List NameSlot) (events : List (Emitted Solution)) (k : ℕ) → print_solutions lines names (events ++ some_ticks k) ≡ print_solutions lines names events
+behind-ticks lines names events k = print-append lines names events (some_ticks k) ∙ ap (λ l. print_solutions lines names events ++ l) (print-of_ticks lines names k) ∙ append-nil (print_solutions lines names events)
 
 pub ticks-behind : (events : List (Emitted Solution)) (k : ℕ) → count_ticks (events ++ some_ticks k) ≡ count_ticks events + k
 ticks-behind events k = ticks-append events (some_ticks k) ∙ ap (λ n. count_ticks events + n) (ticks-of_ticks k)
@@ -64,16 +66,16 @@ answers-behind events k = let all = answers-append events (some_ticks k) in let 
 abbrev pub turn : ℕ → Solution → List (Emitted Solution)
 turn k x = some_ticks k ++ answered x ∷ []
 
-print-one : (names : List NameSlot) (x : Solution) → print_solutions names (answered x ∷ []) ≡ answer_lines (answer_of names x)
+print-one : (lines : Lines) (names : List NameSlot) (x : Solution) → print_solutions lines names (answered x ∷ []) ≡ where_told lines (answer_lines (answer_of names x))
 unfolding print_solutions
-print-one names x = append-nil (answer_lines (answer_of names x))
+print-one lines names x = append-nil (where_told lines (answer_lines (answer_of names x)))
 
-pub print-turn : (names : List NameSlot) (events : List (Emitted Solution)) (k : ℕ) (x : Solution) (a : Answer) → a ≡ answer_of names x →
-    print_solutions names (events ++ turn k x) ≡ print_solutions names events ++ answer_lines a
-print-turn names events k x a is =
-    print-append names events (turn k x)
-    ∙ ap (λ l. print_solutions names events ++ l) (print-append names (some_ticks k) (answered x ∷ []) ∙ ap (λ l. l ++ print_solutions names (answered x ∷ [])) (print-of_ticks names k) ∙ print-one names x)
-    ∙ ap (λ b. print_solutions names events ++ answer_lines b) (sym is)
+pub print-turn : (lines : Lines) (names : List NameSlot) (events : List (Emitted Solution)) (k : ℕ) (x : Solution) (a : Answer) → a ≡ answer_of names x →
+    print_solutions lines names (events ++ turn k x) ≡ print_solutions lines names events ++ where_told lines (answer_lines a)
+print-turn lines names events k x a is =
+    print-append lines names events (turn k x)
+    ∙ ap (λ l. print_solutions lines names events ++ l) (print-append lines names (some_ticks k) (answered x ∷ []) ∙ ap (λ l. l ++ print_solutions lines names (answered x ∷ [])) (print-of_ticks lines names k) ∙ print-one lines names x)
+    ∙ ap (λ b. print_solutions lines names events ++ where_told lines (answer_lines b)) (sym is)
 
 one-tick : (x : Solution) → count_ticks (answered x ∷ []) ≡ 0
 unfolding count_ticks
@@ -106,15 +108,15 @@ last-turn events k x given all = record { front = events ++ some_ticks k; last =
 abbrev pub text-turn : ℕ → List ℕ → List (Emitted Solution)
 text-turn k text = some_ticks k ++ noted (Out text) ∷ []
 
-text-alone : (names : List NameSlot) (text : List ℕ) → print_solutions names (noted (Out text) ∷ []) ≡ text ∷ []
+text-alone : (lines : Lines) (names : List NameSlot) (text : List ℕ) → print_solutions lines names (noted (Out text) ∷ []) ≡ text ∷ []
 unfolding print_solutions
-text-alone names text = refl
+text-alone lines names text = refl
 
-pub print-text : (names : List NameSlot) (events : List (Emitted Solution)) (k : ℕ) (text : List ℕ) → print_solutions names (events ++ text-turn k text) ≡ print_solutions names events ++ text ∷ []
-print-text names events k text =
-    print-append names events (text-turn k text)
-    ∙ ap (λ l. print_solutions names events ++ l)
-    (print-append names (some_ticks k) (noted (Out text) ∷ []) ∙ ap (λ l. l ++ print_solutions names (noted (Out text) ∷ [])) (print-of_ticks names k) ∙ text-alone names text)
+pub print-text : (lines : Lines) (names : List NameSlot) (events : List (Emitted Solution)) (k : ℕ) (text : List ℕ) → print_solutions lines names (events ++ text-turn k text) ≡ print_solutions lines names events ++ text ∷ []
+print-text lines names events k text =
+    print-append lines names events (text-turn k text)
+    ∙ ap (λ l. print_solutions lines names events ++ l)
+    (print-append lines names (some_ticks k) (noted (Out text) ∷ []) ∙ ap (λ l. l ++ print_solutions lines names (noted (Out text) ∷ [])) (print-of_ticks lines names k) ∙ text-alone lines names text)
 
 no-tick : (text : List ℕ) → count_ticks {A = Solution} (noted (Out text) ∷ []) ≡ 0
 unfolding count_ticks

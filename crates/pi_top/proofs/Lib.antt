@@ -1,6 +1,4 @@
-pub mod AskedAnswers
 pub mod AskedTexts
-pub mod Asking
 pub mod Completing
 pub mod EndStatuses
 pub mod EndingLemmas
@@ -11,7 +9,7 @@ pub mod FileReads
 pub mod Fronts
 pub mod HandedTexts
 pub mod Judging
-pub mod Modes
+pub mod Manners
 pub mod OverNames
 pub mod QueryRuns
 pub mod Refusing

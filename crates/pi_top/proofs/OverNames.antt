@@ -14,24 +14,27 @@ use Rattle.pi_meaning.specs.Told.{answer_of, solution_told}
 use Rattle.pi_meaning.specs.Telling.{Told, told_event, told_cut}
 use Rattle.pi_print.specs.PrintAnswer.{answer_lines}
 use Rattle.pi_rewrite.specs.Laws.{RunsTheSame}
+use Rattle.pi_top.specs.declared.manner.Lines.{Lines}
+use Rattle.pi_top.specs.declared.manner.Manner.{Manner}
 use Rattle.pi_top.specs.Headline.{IsPart, Headline, HowCut, in_answer, in_text, in_line, at_memory, IsCutOff}
 use Rattle.pi_top.specs.Prefix.{IsPrefix}
 use Rattle.pi_top.specs.Printing.{print}
-use Rattle.pi_top.specs.QueryEnd.{QueryEnd, Stopped, NoMore, No, Exception, StepsSpent, line_of, count_answers, EndsWithLast, IsWhole, Ends}
+use Rattle.pi_top.specs.QueryEnd.{QueryEnd, Stopped, NoMore, No, Exception, StepsSpent, count_answers, EndsWithLast, IsWhole, Ends}
 use Rattle.pi_top.specs.Running.{print_solutions, IsQueryPart, QueryEnds, HowQueryIsCut, QueryIsCut}
 use Rattle.pi_top.specs.Statuses.{Written}
+use Rattle.pi_top.specs.ToldLines.{where_told, end_lines}
 
 -- what the events of a query tell
 abbrev told : List NameSlot → List (Emitted Solution) → List (Emitted Told)
 told names events = map (told_event (solution_told names)) events
 
-told-prints : (names : List NameSlot) (events : List (Emitted Solution)) → print (told names events) ≡ print_solutions names events
+told-prints : (lines : Lines) (names : List NameSlot) (events : List (Emitted Solution)) → print lines (told names events) ≡ print_solutions lines names events
 unfolding print print_solutions answer_of
-told-prints names [] = refl
-told-prints names (noted Tick ∷ events) = told-prints names events
-told-prints names (noted (Load k) ∷ events) = told-prints names events
-told-prints names (noted (Out text) ∷ events) = ap (λ l. text ∷ l) (told-prints names events)
-told-prints names (answered x ∷ events) = ap (λ l. answer_lines (answer_of names x) ++ l) (told-prints names events)
+told-prints lines names [] = refl
+told-prints lines names (noted Tick ∷ events) = told-prints lines names events
+told-prints lines names (noted (Load k) ∷ events) = told-prints lines names events
+told-prints lines names (noted (Out text) ∷ events) = ap (λ l. text ∷ l) (told-prints lines names events)
+told-prints lines names (answered x ∷ events) = ap (λ l. where_told lines (answer_lines (answer_of names x)) ++ l) (told-prints lines names events)
 
 told-ticks : (names : List NameSlot) (events : List (Emitted Solution)) → count_ticks (told names events) ≡ count_ticks events
 unfolding count_ticks
@@ -79,22 +82,22 @@ told-ends names asked part run No is = (told-whole names asked part run (Ended D
 told-ends names asked part run (Exception ball) is = told-whole names asked part run (Ended (Raise ball)) is
 told-ends names asked part run StepsSpent is = told-whole names asked part run Spent is
 
-told-cut : (answers : ℕ) (q : QueryTree) (run : Cut Solution) (part : List (Emitted Solution)) (ticks status : ℕ) (writes : List SinkWrite) →
-    HowQueryIsCut answers q run part ticks status writes → HowCut answers (told_cut (solution_told q.names) run) (told q.names part) ticks status writes
+told-cut : (manner : Manner) (q : QueryTree) (run : Cut Solution) (part : List (Emitted Solution)) (ticks status : ℕ) (writes : List SinkWrite) →
+    HowQueryIsCut manner.lines manner.answers q run part ticks status writes → HowCut manner (told_cut (solution_told q.names) run) (told q.names part) ticks status writes
 unfolding answer_of
-told-cut answers q run part ticks status writes (HowQueryIsCut.in_answer eight count earlier x is few takes) =
+told-cut manner q run part ticks status writes (HowQueryIsCut.in_answer eight count earlier x is few takes) =
     let asked = told-answers q.names part in
     in_answer eight (count ∙ sym (told-ticks q.names part)) (told q.names earlier) (solution_told q.names x)
-    (ap (told q.names) is ∙ map-append (told_event (solution_told q.names)) earlier (answered x ∷ [])) (omega (arith, asked, few)) (rw (told-prints q.names earlier) takes)
-told-cut answers q run part ticks status writes (HowQueryIsCut.in_text eight count earlier text is few takes) =
+    (ap (told q.names) is ∙ map-append (told_event (solution_told q.names)) earlier (answered x ∷ [])) (omega (arith, asked, few)) (rw (told-prints manner.lines q.names earlier) takes)
+told-cut manner q run part ticks status writes (HowQueryIsCut.in_text eight count earlier text is few takes) =
     let asked = told-answers q.names part in
     in_text eight (count ∙ sym (told-ticks q.names part)) (told q.names earlier) text
-    (ap (told q.names) is ∙ map-append (told_event (solution_told q.names)) earlier (noted (Out text) ∷ [])) (omega (arith, asked, few)) (rw (told-prints q.names earlier) takes)
-told-cut answers q run part ticks status writes (HowQueryIsCut.in_line eight count ending ends takes) =
-    in_line eight (count ∙ sym (told-ticks q.names part)) ending (told-ends q.names answers part run ending ends) (rw (told-prints q.names part) takes)
-told-cut answers q run part ticks status writes (HowQueryIsCut.at_memory nine count few takes) =
+    (ap (told q.names) is ∙ map-append (told_event (solution_told q.names)) earlier (noted (Out text) ∷ [])) (omega (arith, asked, few)) (rw (told-prints manner.lines q.names earlier) takes)
+told-cut manner q run part ticks status writes (HowQueryIsCut.in_line eight count ending ends takes) =
+    in_line eight (count ∙ sym (told-ticks q.names part)) ending (told-ends q.names manner.answers part run ending ends) (rw (told-prints manner.lines q.names part) takes)
+told-cut manner q run part ticks status writes (HowQueryIsCut.at_memory nine count few takes) =
     let asked = told-answers q.names part in
-    at_memory nine (count ∙ sym (told-ticks q.names part)) (omega (arith, asked, few)) (rw (told-prints q.names part) takes)
+    at_memory nine (count ∙ sym (told-ticks q.names part)) (omega (arith, asked, few)) (rw (told-prints manner.lines q.names part) takes)
 
 -- ---- what it comes to
 
@@ -105,29 +108,29 @@ part-over-names program goal preds q steps run part is has = record {
   begins = told-prefix q.names part run.events has.begins;
 }
 
-pub ends-over-names : (answers steps : ℕ) (program : ProgramTree) (goal : ExpTree) (preds : List PredTree) (q : QueryTree) (ticks status : ℕ) (writes : List SinkWrite) →
-    RunsTheSame program goal preds q → QueryEnds answers steps preds q ticks status writes →
-    Written (Headline answers steps program goal [] ticks status) writes
-ends-over-names answers steps program goal preds q ticks status writes is has = record {
-  texts = print_solutions q.names has.part ++ line_of has.ending ∷ [];
+pub ends-over-names : (manner : Manner) (program : ProgramTree) (goal : ExpTree) (preds : List PredTree) (q : QueryTree) (ticks status : ℕ) (writes : List SinkWrite) →
+    RunsTheSame program goal preds q → QueryEnds manner.lines manner.answers manner.steps preds q ticks status writes →
+    Written (Headline manner program goal [] ticks status) writes
+ends-over-names manner program goal preds q ticks status writes is has = record {
+  texts = print_solutions manner.lines q.names has.part ++ end_lines manner.lines has.ending;
   comes = record {
     run = told_cut (solution_told q.names) has.run;
     part = told q.names has.part;
-    is_part = part-over-names program goal preds q steps has.run has.part is has.is_part;
+    is_part = part-over-names program goal preds q manner.steps has.run has.part is has.is_part;
     ticks_in_it = has.ticks_in_it ∙ sym (told-ticks q.names has.part);
     ending = has.ending;
-    ends = told-ends q.names answers has.part has.run has.ending has.ends;
+    ends = told-ends q.names manner.answers has.part has.run has.ending has.ends;
     its_status = has.its_status;
-    written = ap (λ l. l ++ line_of has.ending ∷ []) (sym (told-prints q.names has.part));
+    written = ap (λ l. l ++ end_lines manner.lines has.ending) (sym (told-prints manner.lines q.names has.part));
   };
   handed = has.written;
 }
 
-pub cut-over-names : (answers steps : ℕ) (program : ProgramTree) (goal : ExpTree) (preds : List PredTree) (q : QueryTree) (ticks status : ℕ) (writes : List SinkWrite) →
-    RunsTheSame program goal preds q → QueryIsCut answers steps preds q ticks status writes → IsCutOff answers steps program goal [] ticks status writes
-cut-over-names answers steps program goal preds q ticks status writes is has = record {
+pub cut-over-names : (manner : Manner) (program : ProgramTree) (goal : ExpTree) (preds : List PredTree) (q : QueryTree) (ticks status : ℕ) (writes : List SinkWrite) →
+    RunsTheSame program goal preds q → QueryIsCut manner.lines manner.answers manner.steps preds q ticks status writes → IsCutOff manner program goal [] ticks status writes
+cut-over-names manner program goal preds q ticks status writes is has = record {
   run = told_cut (solution_told q.names) has.run;
   part = told q.names has.part;
-  is_part = part-over-names program goal preds q steps has.run has.part is has.is_part;
-  how = told-cut answers q has.run has.part ticks status writes has.how;
+  is_part = part-over-names program goal preds q manner.steps has.run has.part is has.is_part;
+  how = told-cut manner q has.run has.part ticks status writes has.how;
 }

@@ -15,21 +15,23 @@ use Rattle.pi_meaning.proofs.QuietRules.{query-runs}
 use Rattle.pi_machine.specs.declared.happening.Budget.{Budget}
 use Rattle.pi_machine.specs.declared.happening.Happening.{Happening}
 use Rattle.pi_machine.specs.declared.happening.Mode.{Mode}
-use Rattle.pi_machine.specs.Budget.{Counts, IsWithin, IsInner}
+use Rattle.pi_machine.specs.Budget.{IsWithin, IsInner}
 use Rattle.pi_machine.specs.Built.{IsRunnable}
 use Rattle.pi_stands.specs.Goes.{counted}
 use Rattle.pi_machine.specs.Next.{some_ticks}
-use Rattle.pi_engine.specs.Seen.{MachineView, mode_of, GoesOn}
+use Rattle.pi_engine.specs.Seen.{MachineView, GoesOn}
 use Rattle.pi_engine.specs.Runs.{RunsTo}
 use Rattle.pi_engine.specs.Happens.{HappensByTicks}
+use Rattle.pi_top.specs.declared.manner.Lines.{Lines}
 use Rattle.pi_top.specs.declared.outcome.QueryRun.{QueryRun}
 use Rattle.pi_top.specs.declared.query.Stop.{Stop}
 use Rattle.pi_top.specs.declared.query.Stop.TheVariants.{Write, Memory}
 use Rattle.pi_top.specs.Ends.{status_of_stop}
 use Rattle.pi_top.specs.Runs.{run_of}
 use Rattle.pi_top.specs.Handing.{HandsAll, none, FailsIn}
-use Rattle.pi_top.specs.QueryEnd.{QueryEnd, Stopped, NoMore, No, Exception, StepsSpent, line_of, count_answers, IsWhole, Ends}
+use Rattle.pi_top.specs.QueryEnd.{QueryEnd, Stopped, NoMore, No, Exception, StepsSpent, count_answers, IsWhole, Ends}
 use Rattle.pi_top.specs.Running.{print_solutions, IsQueryPart, QueryIsCut, in_answer, in_text, in_line, at_memory, IsAtStart, IsSoFar, IsWritten, Called, ComesTo, HasRun, was_asked}
+use Rattle.pi_top.specs.ToldLines.{where_told, end_lines}
 use Rattle.pi_top.specs.Writing.{IsCutIn, WritesLine, WritesNothing, WritesEnd}
 use Rattle.pi_top.proofs.EventLemmas.{behind-ticks, ticks-behind, answers-behind, turn, print-turn, ticks-turn, answers-turn, last-turn, text-turn, print-text, ticks-text, answers-text}
 use Rattle.pi_top.proofs.Fronts.{prefix-all}
@@ -41,10 +43,10 @@ counted-ticks : (mode : Mode) (b c : Budget) → mode ≡ Mode.Top → b.ticks �
 counted-ticks Mode.Top b c top more = omega (arith, more)
 counted-ticks (Mode.Inner rest) b c top more = absurd (cc)
 
-pub written-start : {M : Type 0} (m : MachineView M) (b : Budget) (answers : ℕ) (program : List PredTree) (q : QueryTree) →
-    IsAtStart m b answers program q → IsWritten m b 0 program q []
+pub written-start : {M : Type 0} (lines : Lines) (m : MachineView M) (b : Budget) (answers : ℕ) (program : List PredTree) (q : QueryTree) →
+    IsAtStart m b answers program q → IsWritten lines m b 0 program q []
 unfolding count_answers count_ticks print_solutions
-written-start m b answers program q is = record {
+written-start lines m b answers program q is = record {
   so_far = record {
     events = [];
     runs = is.runs;
@@ -59,10 +61,10 @@ written-start m b answers program q is = record {
 }
 
 -- after an answer whose lines were written
-pub written-answer : {M : Type 0} (m n : MachineView M) (b c : Budget) (given : ℕ) (program : List PredTree) (q : QueryTree) (a : Answer) (first second : List SinkWrite) →
-    (w : IsSoFar m b given program q first) → Called m n b c → HappensByTicks (query_view []) program q w.events m n b c (Happening.Answer a) → GoesOn n →
-    HandsAll (answer_lines a) second → IsWritten n c (given + 1) program q (first ++ second)
-written-answer m n b c given program q a first second w called happens running handed =
+pub written-answer : {M : Type 0} (lines : Lines) (m n : MachineView M) (b c : Budget) (given : ℕ) (program : List PredTree) (q : QueryTree) (a : Answer) (first second : List SinkWrite) →
+    (w : IsSoFar lines m b given program q first) → Called m n b c → HappensByTicks (query_view []) program q w.events m n b c (Happening.Answer a) → GoesOn n →
+    HandsAll (where_told lines (answer_lines a)) second → IsWritten lines n c (given + 1) program q (first ++ second)
+written-answer lines m n b c given program q a first second w called happens running handed =
     let k : ℕ = counted m.mode b c in
     let x : Solution = happens.0 in
     let events : List (Emitted Solution) = w.events ++ turn k x in
@@ -79,16 +81,16 @@ written-answer m n b c given program q a first second w called happens running h
         answers = all;
         ticks = omega (arith, w.ticks, more, ticks);
         within = called.within w.within;
-        written = rw (print-turn q.names w.events k x a happens.1) (hands-then (print_solutions q.names w.events) (answer_lines a) first second w.written handed);
+        written = rw (print-turn lines q.names w.events k x a happens.1) (hands-then (print_solutions lines q.names w.events) (where_told lines (answer_lines a)) first second w.written handed);
       };
       last = λ some. last-turn w.events k x (given + 1) all;
     }
 
 -- after a text that was written
-pub written-text : {M : Type 0} (m n : MachineView M) (b c : Budget) (given : ℕ) (program : List PredTree) (q : QueryTree) (text : List ℕ) (first second : List SinkWrite) →
-    (w : IsSoFar m b given program q first) → Called m n b c → HappensByTicks (query_view []) program q w.events m n b c (Happening.Out text) → GoesOn n →
-    HandsAll (text ∷ []) second → IsSoFar n c given program q (first ++ second)
-written-text m n b c given program q text first second w called happens running handed =
+pub written-text : {M : Type 0} (lines : Lines) (m n : MachineView M) (b c : Budget) (given : ℕ) (program : List PredTree) (q : QueryTree) (text : List ℕ) (first second : List SinkWrite) →
+    (w : IsSoFar lines m b given program q first) → Called m n b c → HappensByTicks (query_view []) program q w.events m n b c (Happening.Out text) → GoesOn n →
+    HandsAll (text ∷ []) second → IsSoFar lines n c given program q (first ++ second)
+written-text lines m n b c given program q text first second w called happens running handed =
     let k : ℕ = counted m.mode b c in
     let events : List (Emitted Solution) = w.events ++ text-turn k text in
     let more : b.ticks + k ≡ c.ticks = counted-ticks m.mode b c w.counts_ticks called.counts.ticks in
@@ -102,7 +104,7 @@ written-text m n b c given program q text first second w called happens running 
       answers = same ∙ w.answers;
       ticks = omega (arith, w.ticks, more, ticks);
       within = called.within w.within;
-      written = rw (print-text q.names w.events k text) (hands-then (print_solutions q.names w.events) (text ∷ []) first second w.written handed);
+      written = rw (print-text lines q.names w.events k text) (hands-then (print_solutions lines q.names w.events) (text ∷ []) first second w.written handed);
     }
 
 -- the events so far begin the query's run
@@ -137,15 +139,15 @@ has-part m program q events steps runnable runs few =
     record { run = found.0; is_part = prefix-of m program q events steps found.0 runs found.1 few }
 
 -- Ticks behind what was written: they print nothing
-record IsTail (events : List (Emitted Solution)) (k given total : ℕ) (names : List NameSlot) : Type 0 where
+record IsTail (lines : Lines) (events : List (Emitted Solution)) (k given total : ℕ) (names : List NameSlot) : Type 0 where
   pub so_many : count_ticks events + k ≡ total
   pub ticks : total ≡ count_ticks (events ++ some_ticks k)
   pub answers : count_answers (events ++ some_ticks k) ≡ given
-  pub printed : print_solutions names (events ++ some_ticks k) ≡ print_solutions names events
+  pub printed : print_solutions lines names (events ++ some_ticks k) ≡ print_solutions lines names events
 
-tail-of : {M : Type 0} (m n : MachineView M) (b c : Budget) (given : ℕ) (program : List PredTree) (q : QueryTree) (writes : List SinkWrite) →
-    (w : IsSoFar m b given program q writes) → Called m n b c → IsTail w.events (counted m.mode b c) given c.ticks q.names
-tail-of m n b c given program q writes w called =
+tail-of : {M : Type 0} (lines : Lines) (m n : MachineView M) (b c : Budget) (given : ℕ) (program : List PredTree) (q : QueryTree) (writes : List SinkWrite) →
+    (w : IsSoFar lines m b given program q writes) → Called m n b c → IsTail lines w.events (counted m.mode b c) given c.ticks q.names
+tail-of lines m n b c given program q writes w called =
     let k : ℕ = counted m.mode b c in
     let more : b.ticks + k ≡ c.ticks = counted-ticks m.mode b c w.counts_ticks called.counts.ticks in
     let ticks : count_ticks (w.events ++ some_ticks k) ≡ count_ticks w.events + k = ticks-behind w.events k in
@@ -153,7 +155,7 @@ tail-of m n b c given program q writes w called =
       so_many = omega (arith, more, w.ticks);
       ticks = omega (arith, more, w.ticks, ticks);
       answers = answers-behind w.events k ∙ w.answers;
-      printed = behind-ticks q.names w.events k;
+      printed = behind-ticks lines q.names w.events k;
     }
 
 part-whole : (program : List PredTree) (q : QueryTree) (steps : ℕ) (events : List (Emitted Solution)) (stop : CutStop) →
@@ -171,9 +173,9 @@ not-inner (Mode.Inner rest) top inner = absurd (cc)
 -- ---- what a query comes to
 
 -- a part with its end, whose line was to be written
-comes-line : (answers steps : ℕ) (program : List PredTree) (q : QueryTree) (events : List (Emitted Solution)) (run : Cut Solution) (ending : QueryEnd) (ticks : ℕ) (r : Result ℕ Stop) (first second : List SinkWrite) → IsQueryPart program q steps run events → Ends answers events run ending → (r ≡ Err Memory → count_answers events < answers) → ticks ≡ count_ticks events → HandsAll (print_solutions q.names events) first →
-    WritesLine ending r second → ComesTo answers steps program q ticks r (first ++ second)
-comes-line answers steps program q events run ending ticks (Ok status) first second part ends few count handed line = record {
+comes-line : (lines : Lines) (answers steps : ℕ) (program : List PredTree) (q : QueryTree) (events : List (Emitted Solution)) (run : Cut Solution) (ending : QueryEnd) (ticks : ℕ) (r : Result ℕ Stop) (first second : List SinkWrite) → IsQueryPart program q steps run events → Ends answers events run ending → (r ≡ Err Memory → count_answers events < answers) → ticks ≡ count_ticks events → HandsAll (print_solutions lines q.names events) first →
+    WritesLine lines ending r second → ComesTo lines answers steps program q ticks r (first ++ second)
+comes-line lines answers steps program q events run ending ticks (Ok status) first second part ends few count handed line = record {
   run = run;
   part = events;
   is_part = part;
@@ -181,11 +183,11 @@ comes-line answers steps program q events run ending ticks (Ok status) first sec
   ending = ending;
   ends = ends;
   its_status = line.its_status;
-  written = hands-then (print_solutions q.names events) (line_of ending ∷ []) first second handed line.line.all;
+  written = hands-then (print_solutions lines q.names events) (end_lines lines ending) first second handed line.line.all;
 }
-comes-line answers steps program q events run ending ticks (Err Write) first second part ends few count handed line =
-    record { run = run; part = events; is_part = part; how = in_line refl count ending ends (fails-then (print_solutions q.names events) (line_of ending ∷ []) first second handed line.line.cut) }
-comes-line answers steps program q events run ending ticks (Err Memory) first second part ends few count handed line =
+comes-line lines answers steps program q events run ending ticks (Err Write) first second part ends few count handed line =
+    record { run = run; part = events; is_part = part; how = in_line refl count ending ends (fails-then (print_solutions lines q.names events) (end_lines lines ending) first second handed line.line.cut) }
+comes-line lines answers steps program q events run ending ticks (Err Memory) first second part ends few count handed line =
     let no_more : second ≡ [] = line.line.cut in
     record { run = run; part = events; is_part = part; how = at_memory refl count (few refl) (rw (no_more, append-nil first) handed) }
 
@@ -196,21 +198,21 @@ not-memory r alone is =
     absurd (cc)
 
 -- as many answers were written as are asked for
-pub comes-stopped : {M : Type 0} (m : MachineView M) (b : Budget) (answers steps : ℕ) (program : List PredTree) (q : QueryTree) (r : Result ℕ Stop) (first second : List SinkWrite) →
-    IsRunnable program q → 0 < answers → b.steps ≡ steps → IsWritten m b answers program q first → IfErr r (λ stop. stop ≡ Write) →
-    WritesLine Stopped r second → ComesTo answers steps program q b.ticks r (first ++ second)
-comes-stopped m b answers steps program q r first second runnable some same w alone line =
+pub comes-stopped : {M : Type 0} (lines : Lines) (m : MachineView M) (b : Budget) (answers steps : ℕ) (program : List PredTree) (q : QueryTree) (r : Result ℕ Stop) (first second : List SinkWrite) →
+    IsRunnable program q → 0 < answers → b.steps ≡ steps → IsWritten lines m b answers program q first → IfErr r (λ stop. stop ≡ Write) →
+    WritesLine lines Stopped r second → ComesTo lines answers steps program q b.ticks r (first ++ second)
+comes-stopped lines m b answers steps program q r first second runnable some same w alone line =
     let events : List (Emitted Solution) = w.so_far.events in
     let few : count_ticks events ≤ steps = omega (arith, w.so_far.ticks, w.so_far.within.ticks, same) in
     let has : HasPart program q steps events = has-part m program q events steps runnable w.so_far.runs few in
-    comes-line answers steps program q events has.run Stopped b.ticks r first second has.is_part (w.last some) (λ memory. absurd (not-memory r alone memory)) w.so_far.ticks w.so_far.written line
+    comes-line lines answers steps program q events has.run Stopped b.ticks r first second has.is_part (w.last some) (λ memory. absurd (not-memory r alone memory)) w.so_far.ticks w.so_far.written line
 
 -- the writing of an answer's lines is cut off
-pub comes-cut : {M : Type 0} (m n : MachineView M) (b c : Budget) (answers given steps : ℕ) (program : List PredTree) (q : QueryTree) (a : Answer) (stop : Stop) (first second : List SinkWrite) →
-    IsRunnable program q → (w : IsSoFar m b given program q first) → Called m n b c → given < answers → c.steps ≡ steps →
-    HappensByTicks (query_view []) program q w.events m n b c (Happening.Answer a) → IsCutIn (answer_lines a) second stop →
-    QueryIsCut answers steps program q c.ticks (status_of_stop stop) (first ++ second)
-comes-cut m n b c answers given steps program q a Write first second runnable w called less same happens fails =
+pub comes-cut : {M : Type 0} (lines : Lines) (m n : MachineView M) (b c : Budget) (answers given steps : ℕ) (program : List PredTree) (q : QueryTree) (a : Answer) (stop : Stop) (first second : List SinkWrite) →
+    IsRunnable program q → (w : IsSoFar lines m b given program q first) → Called m n b c → given < answers → c.steps ≡ steps →
+    HappensByTicks (query_view []) program q w.events m n b c (Happening.Answer a) → IsCutIn (where_told lines (answer_lines a)) second stop →
+    QueryIsCut lines answers steps program q c.ticks (status_of_stop stop) (first ++ second)
+comes-cut lines m n b c answers given steps program q a Write first second runnable w called less same happens fails =
     let k : ℕ = counted m.mode b c in
     let x : Solution = happens.0 in
     let earlier : List (Emitted Solution) = w.events ++ some_ticks k in
@@ -221,21 +223,21 @@ comes-cut m n b c answers given steps program q a Write first second runnable w 
     let within : IsWithin c = called.within w.within in
     let few : count_ticks events ≤ steps = omega (arith, w.ticks, more, ticks, within.ticks, same) in
     let has : HasPart program q steps events = has-part n program q events steps runnable happens.2 few in
-    let written : HandsAll (print_solutions q.names earlier) first = rw (behind-ticks q.names w.events k) w.written in
+    let written : HandsAll (print_solutions lines q.names earlier) first = rw (behind-ticks lines q.names w.events k) w.written in
     let split : events ≡ earlier ++ answered x ∷ [] = sym (append_assoc w.events (some_ticks k) (answered x ∷ [])) in
     record {
       run = has.run;
       part = events;
       is_part = has.is_part;
       how = in_answer refl (omega (arith, w.ticks, more, ticks)) earlier x split (omega (arith, one, w.answers, less))
-          (subst (λ (t : Answer). FailsIn (print_solutions q.names earlier) (answer_lines t) (first ++ second)) happens.1
-          (fails-then (print_solutions q.names earlier) (answer_lines a) first second written fails));
+          (subst (λ (t : Answer). FailsIn (print_solutions lines q.names earlier) (where_told lines (answer_lines t)) (first ++ second)) happens.1
+          (fails-then (print_solutions lines q.names earlier) (where_told lines (answer_lines a)) first second written fails));
     }
-comes-cut m n b c answers given steps program q a Memory first second runnable w called less same happens nothing =
+comes-cut lines m n b c answers given steps program q a Memory first second runnable w called less same happens nothing =
     let no_more : second ≡ [] = nothing in
     let k : ℕ = counted m.mode b c in
     let earlier : List (Emitted Solution) = w.events ++ some_ticks k in
-    let tail : IsTail w.events k given c.ticks q.names = tail-of m n b c given program q first w called in
+    let tail : IsTail lines w.events k given c.ticks q.names = tail-of lines m n b c given program q first w called in
     let ticks : count_ticks (w.events ++ turn k happens.0) ≡ count_ticks w.events + k = ticks-turn w.events k happens.0 in
     let few : count_ticks (w.events ++ turn k happens.0) ≤ steps = omega (arith, ticks, tail.so_many, (called.within w.within).ticks, same) in
     let has : HasPart program q steps (w.events ++ turn k happens.0) = has-part n program q (w.events ++ turn k happens.0) steps runnable happens.2 few in
@@ -247,11 +249,11 @@ comes-cut m n b c answers given steps program q a Memory first second runnable w
     }
 
 -- the writing of a text is cut off
-pub text-cut : {M : Type 0} (m n : MachineView M) (b c : Budget) (answers given : ℕ) (program : List PredTree) (q : QueryTree) (text : List ℕ) (first second : List SinkWrite) →
-    IsRunnable program q → (w : IsSoFar m b given program q first) → Called m n b c → given < answers →
+pub text-cut : {M : Type 0} (lines : Lines) (m n : MachineView M) (b c : Budget) (answers given : ℕ) (program : List PredTree) (q : QueryTree) (text : List ℕ) (first second : List SinkWrite) →
+    IsRunnable program q → (w : IsSoFar lines m b given program q first) → Called m n b c → given < answers →
     HappensByTicks (query_view []) program q w.events m n b c (Happening.Out text) → FailsIn [] (text ∷ []) second →
-    QueryIsCut answers c.steps program q c.ticks (status_of_stop Write) (first ++ second)
-text-cut m n b c answers given program q text first second runnable w called less happens fails =
+    QueryIsCut lines answers c.steps program q c.ticks (status_of_stop Write) (first ++ second)
+text-cut lines m n b c answers given program q text first second runnable w called less happens fails =
     let k : ℕ = counted m.mode b c in
     let earlier : List (Emitted Solution) = w.events ++ some_ticks k in
     let events : List (Emitted Solution) = w.events ++ text-turn k text in
@@ -261,74 +263,74 @@ text-cut m n b c answers given program q text first second runnable w called les
     let within : IsWithin c = called.within w.within in
     let few : count_ticks events ≤ c.steps = omega (arith, w.ticks, more, ticks, within.ticks) in
     let has : HasPart program q c.steps events = has-part n program q events c.steps runnable happens few in
-    let written : HandsAll (print_solutions q.names earlier) first = rw (behind-ticks q.names w.events k) w.written in
+    let written : HandsAll (print_solutions lines q.names earlier) first = rw (behind-ticks lines q.names w.events k) w.written in
     let split : events ≡ earlier ++ noted (Out text) ∷ [] = sym (append_assoc w.events (some_ticks k) (noted (Out text) ∷ [])) in
     record {
       run = has.run;
       part = events;
       is_part = has.is_part;
       how = in_text refl (omega (arith, w.ticks, more, ticks)) earlier text split (omega (arith, same, w.answers, less))
-          (fails-then (print_solutions q.names earlier) (text ∷ []) first second written fails);
+          (fails-then (print_solutions lines q.names earlier) (text ∷ []) first second written fails);
     }
 
 -- memory is wanted behind all that was written
-pub memory-cut : {M : Type 0} (m : MachineView M) (b : Budget) (answers given : ℕ) (program : List PredTree) (q : QueryTree) (writes : List SinkWrite) →
-    IsRunnable program q → (w : IsSoFar m b given program q writes) → given < answers → QueryIsCut answers b.steps program q b.ticks (status_of_stop Memory) writes
-memory-cut m b answers given program q writes runnable w less =
+pub memory-cut : {M : Type 0} (lines : Lines) (m : MachineView M) (b : Budget) (answers given : ℕ) (program : List PredTree) (q : QueryTree) (writes : List SinkWrite) →
+    IsRunnable program q → (w : IsSoFar lines m b given program q writes) → given < answers → QueryIsCut lines answers b.steps program q b.ticks (status_of_stop Memory) writes
+memory-cut lines m b answers given program q writes runnable w less =
     let has : HasPart program q b.steps w.events = has-part m program q w.events b.steps runnable w.runs (omega (arith, w.ticks, w.within.ticks)) in
     record { run = has.run; part = w.events; is_part = has.is_part; how = at_memory refl w.ticks (omega (arith, w.answers, less)) w.written }
 
 -- memory is wanted behind these events
-comes-nothing : {M : Type 0} (n : MachineView M) (events : List (Emitted Solution)) (answers steps : ℕ) (program : List PredTree) (q : QueryTree) (ticks : ℕ) (r : Result ℕ Stop) (first second : List SinkWrite) →
-    IsRunnable program q → RunsTo (query_view []) n program q events → ticks ≡ count_ticks events → ticks ≤ steps → count_answers events < answers → HandsAll (print_solutions q.names events) first → WritesNothing r second →
-    ComesTo answers steps program q ticks r (first ++ second)
-comes-nothing n events answers steps program q ticks (Ok status) first second runnable runs count few asked handed nothing = absurd nothing.stops
-comes-nothing n events answers steps program q ticks (Err Write) first second runnable runs count few asked handed nothing = let memory : Write ≡ Memory = nothing.memory in absurd (cc)
-comes-nothing n events answers steps program q ticks (Err Memory) first second runnable runs count few asked handed nothing =
+comes-nothing : {M : Type 0} (lines : Lines) (n : MachineView M) (events : List (Emitted Solution)) (answers steps : ℕ) (program : List PredTree) (q : QueryTree) (ticks : ℕ) (r : Result ℕ Stop) (first second : List SinkWrite) →
+    IsRunnable program q → RunsTo (query_view []) n program q events → ticks ≡ count_ticks events → ticks ≤ steps → count_answers events < answers → HandsAll (print_solutions lines q.names events) first → WritesNothing r second →
+    ComesTo lines answers steps program q ticks r (first ++ second)
+comes-nothing lines n events answers steps program q ticks (Ok status) first second runnable runs count few asked handed nothing = absurd nothing.stops
+comes-nothing lines n events answers steps program q ticks (Err Write) first second runnable runs count few asked handed nothing = let memory : Write ≡ Memory = nothing.memory in absurd (cc)
+comes-nothing lines n events answers steps program q ticks (Err Memory) first second runnable runs count few asked handed nothing =
     let has : HasPart program q steps events = has-part n program q events steps runnable runs (omega (arith, count, few)) in
     record { run = has.run; part = events; is_part = has.is_part; how = at_memory refl count asked (rw (nothing.nothing, append-nil first) handed) }
 
 -- a machine's end, behind so many answers
-pub comes-end : {M : Type 0} (m n : MachineView M) (b c : Budget) (answers given steps : ℕ) (program : List PredTree) (q : QueryTree) (happening : Happening) (has : Bool)
-    (r : Result ℕ Stop) (first second : List SinkWrite) → IsRunnable program q → (w : IsSoFar m b given program q first) → Called m n b c → given < answers → c.steps ≡ steps →
+pub comes-end : {M : Type 0} (lines : Lines) (m n : MachineView M) (b c : Budget) (answers given steps : ℕ) (program : List PredTree) (q : QueryTree) (happening : Happening) (has : Bool)
+    (r : Result ℕ Stop) (first second : List SinkWrite) → IsRunnable program q → (w : IsSoFar lines m b given program q first) → Called m n b c → given < answers → c.steps ≡ steps →
     (has ≡ true → 0 < given) → (has ≡ false → given ≡ 0) → ((a : Answer) → happening ≡ Happening.Answer a → ⊥) → ((text : List ℕ) → happening ≡ Happening.Out text → ⊥) →
-    HappensByTicks (query_view []) program q w.events m n b c happening → WritesEnd happening has r second → ComesTo answers steps program q c.ticks r (first ++ second)
-comes-end m n b c answers given steps program q (Happening.Answer a) has r first second runnable w called less same has_some has_none not_answer no_text happens writes = absurd (not_answer a refl)
-comes-end m n b c answers given steps program q (Happening.Out text) has r first second runnable w called less same has_some has_none not_answer no_text happens writes = absurd (no_text text refl)
-comes-end m n b c answers given steps program q (Happening.NeedPlan call) has r first second runnable w called less same has_some has_none not_answer no_text happens writes = absurd happens
-comes-end m n b c answers given steps program q Happening.WorkSpent has r first second runnable w called less same has_some has_none not_answer no_text happens writes =
+    HappensByTicks (query_view []) program q w.events m n b c happening → WritesEnd lines happening has r second → ComesTo lines answers steps program q c.ticks r (first ++ second)
+comes-end lines m n b c answers given steps program q (Happening.Answer a) has r first second runnable w called less same has_some has_none not_answer no_text happens writes = absurd (not_answer a refl)
+comes-end lines m n b c answers given steps program q (Happening.Out text) has r first second runnable w called less same has_some has_none not_answer no_text happens writes = absurd (no_text text refl)
+comes-end lines m n b c answers given steps program q (Happening.NeedPlan call) has r first second runnable w called less same has_some has_none not_answer no_text happens writes = absurd happens
+comes-end lines m n b c answers given steps program q Happening.WorkSpent has r first second runnable w called less same has_some has_none not_answer no_text happens writes =
     absurd (not-inner n.mode (called.mode ∙ w.counts_ticks) happens.2)
-comes-end m n b c answers given steps program q Happening.Memory has r first second runnable w called less same has_some has_none not_answer no_text happens writes =
+comes-end lines m n b c answers given steps program q Happening.Memory has r first second runnable w called less same has_some has_none not_answer no_text happens writes =
     let k : ℕ = counted m.mode b c in
-    let tail : IsTail w.events k given c.ticks q.names = tail-of m n b c given program q first w called in
-    comes-nothing n (w.events ++ some_ticks k) answers steps program q c.ticks r first second runnable happens tail.ticks (omega (arith, (called.within w.within).ticks, same)) (omega (arith, tail.answers, less))
+    let tail : IsTail lines w.events k given c.ticks q.names = tail-of lines m n b c given program q first w called in
+    comes-nothing lines n (w.events ++ some_ticks k) answers steps program q c.ticks r first second runnable happens tail.ticks (omega (arith, (called.within w.within).ticks, same)) (omega (arith, tail.answers, less))
     (rw tail.printed w.written) writes
-comes-end m n b c answers given steps program q Happening.Done true r first second runnable w called less same has_some has_none not_answer no_text happens writes =
+comes-end lines m n b c answers given steps program q Happening.Done true r first second runnable w called less same has_some has_none not_answer no_text happens writes =
     let k : ℕ = counted m.mode b c in
-    let tail : IsTail w.events k given c.ticks q.names = tail-of m n b c given program q first w called in
+    let tail : IsTail lines w.events k given c.ticks q.names = tail-of lines m n b c given program q first w called in
     let whole = whole-of answers given (w.events ++ some_ticks k) (Ended Done) tail.answers less in
-    comes-line answers steps program q (w.events ++ some_ticks k) _ NoMore c.ticks r first second
+    comes-line lines answers steps program q (w.events ++ some_ticks k) _ NoMore c.ticks r first second
     (part-whole program q steps (w.events ++ some_ticks k) (Ended Done) (happens.0 steps (omega (arith, tail.ticks, (called.within w.within).ticks, same))))
     (whole, omega (arith, tail.answers, has_some refl)) (λ memory. omega (arith, tail.answers, less)) tail.ticks (rw tail.printed w.written) writes
-comes-end m n b c answers given steps program q Happening.Done false r first second runnable w called less same has_some has_none not_answer no_text happens writes =
+comes-end lines m n b c answers given steps program q Happening.Done false r first second runnable w called less same has_some has_none not_answer no_text happens writes =
     let k : ℕ = counted m.mode b c in
-    let tail : IsTail w.events k given c.ticks q.names = tail-of m n b c given program q first w called in
+    let tail : IsTail lines w.events k given c.ticks q.names = tail-of lines m n b c given program q first w called in
     let whole = whole-of answers given (w.events ++ some_ticks k) (Ended Done) tail.answers less in
-    comes-line answers steps program q (w.events ++ some_ticks k) _ No c.ticks r first second
+    comes-line lines answers steps program q (w.events ++ some_ticks k) _ No c.ticks r first second
     (part-whole program q steps (w.events ++ some_ticks k) (Ended Done) (happens.0 steps (omega (arith, tail.ticks, (called.within w.within).ticks, same))))
     (whole, omega (arith, tail.answers, has_none refl)) (λ memory. omega (arith, tail.answers, less)) tail.ticks (rw tail.printed w.written) writes
-comes-end m n b c answers given steps program q (Happening.Raised ball) has r first second runnable w called less same has_some has_none not_answer no_text happens writes =
+comes-end lines m n b c answers given steps program q (Happening.Raised ball) has r first second runnable w called less same has_some has_none not_answer no_text happens writes =
     let k : ℕ = counted m.mode b c in
-    let tail : IsTail w.events k given c.ticks q.names = tail-of m n b c given program q first w called in
-    comes-line answers steps program q (w.events ++ some_ticks k) _ (Exception ball) c.ticks r first second
+    let tail : IsTail lines w.events k given c.ticks q.names = tail-of lines m n b c given program q first w called in
+    comes-line lines answers steps program q (w.events ++ some_ticks k) _ (Exception ball) c.ticks r first second
     (part-whole program q steps (w.events ++ some_ticks k) (Ended (Raise ball)) (happens.0 steps (omega (arith, tail.ticks, (called.within w.within).ticks, same))))
     (whole-of answers given (w.events ++ some_ticks k) (Ended (Raise ball)) tail.answers less) (λ memory. omega (arith, tail.answers, less)) tail.ticks (rw tail.printed w.written) writes
-comes-end m n b c answers given steps program q Happening.StepsSpent has r first second runnable w called less same has_some has_none not_answer no_text happens writes =
+comes-end lines m n b c answers given steps program q Happening.StepsSpent has r first second runnable w called less same has_some has_none not_answer no_text happens writes =
     let k : ℕ = counted m.mode b c in
-    let tail : IsTail w.events k given c.ticks q.names = tail-of m n b c given program q first w called in
+    let tail : IsTail lines w.events k given c.ticks q.names = tail-of lines m n b c given program q first w called in
     let spent : c.steps ≤ c.ticks = happens.3 in
     let ticks : count_ticks w.events + k ≡ steps = omega (arith, tail.so_many, (called.within w.within).ticks, same, spent) in
-    comes-line answers steps program q (w.events ++ some_ticks k) _ StepsSpent c.ticks r first second
+    comes-line lines answers steps program q (w.events ++ some_ticks k) _ StepsSpent c.ticks r first second
     (part-whole program q steps (w.events ++ some_ticks k) Spent (subst (λ s. IsRun program q [] s (record { events = w.events ++ some_ticks k; stop = Spent })) ticks happens.0))
     (whole-of answers given (w.events ++ some_ticks k) Spent tail.answers less) (λ memory. omega (arith, tail.answers, less)) tail.ticks (rw tail.printed w.written) writes
 
@@ -346,10 +348,10 @@ set-last runs listed new a b pushed set =
     set ∙ ap (λ n. slice_set listed n b) last ∙ ap (λ (l : List QueryRun). slice_set l (length runs) b) pushed ∙ set-end runs a b
 
 -- a query that was asked is listed last
-pub has-run : (answers steps : ℕ) (program : List PredTree) (q : QueryTree) (old listed new : List QueryRun) (a run : QueryRun) (ticks : ℕ) (r : Result ℕ Stop) (writes : List SinkWrite) →
-    listed ≡ old ++ a ∷ [] → new ≡ slice_set listed (length listed - 1) run → run ≡ run_of ticks → ticks ≤ steps → ComesTo answers steps program q ticks r writes →
-    HasRun answers steps program q old new r writes
-has-run answers steps program q old listed new a run ticks r writes pushed set is within comes = was_asked (record {
+pub has-run : (lines : Lines) (answers steps : ℕ) (program : List PredTree) (q : QueryTree) (old listed new : List QueryRun) (a run : QueryRun) (ticks : ℕ) (r : Result ℕ Stop) (writes : List SinkWrite) →
+    listed ≡ old ++ a ∷ [] → new ≡ slice_set listed (length listed - 1) run → run ≡ run_of ticks → ticks ≤ steps → ComesTo lines answers steps program q ticks r writes →
+    HasRun lines answers steps program q old new r writes
+has-run lines answers steps program q old listed new a run ticks r writes pushed set is within comes = was_asked (record {
   ticks = ticks;
   listed = set-last old listed new a run pushed set ∙ ap (λ (x : QueryRun). old ++ x ∷ []) is;
   within = within;

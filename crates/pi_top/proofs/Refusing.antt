@@ -10,14 +10,15 @@ use Rattle.pi_meaning.specs.Telling.{Told}
 use Rattle.pi_names.specs.Stages.{no_stages}
 use Rattle.pi_names.proofs.GrowRules.{no-stages-add, names-runs-are-one}
 use Rattle.pi_top.specs.declared.outcome.QueryRun.{QueryRun}
-use Rattle.pi_top.specs.declared.words.Options.{Options}
+use Rattle.pi_top.specs.declared.manner.Manner.{Manner}
 use Rattle.pi_top.specs.Headline.{Headline}
 use Rattle.pi_top.specs.Judged.{Refused, Asks}
 use Rattle.pi_top.specs.Prefix.{IsPrefix}
 use Rattle.pi_top.specs.Printing.{print}
-use Rattle.pi_top.specs.QueryEnd.{QueryEnd, Stopped, NoMore, No, Exception, StepsSpent, line_of, status_of, count_answers, EndsWithLast, IsWhole, Ends}
+use Rattle.pi_top.specs.QueryEnd.{QueryEnd, Stopped, NoMore, No, Exception, StepsSpent, status_of, count_answers, EndsWithLast, IsWhole, Ends}
 use Rattle.pi_top.specs.Runs.{HasRan, run_of}
 use Rattle.pi_top.specs.Statuses.{IsLine, ComesText, refused, ran}
+use Rattle.pi_top.specs.ToldLines.{end_lines}
 use Rattle.pi_top.proofs.EndingLemmas.{ending-is-one}
 use Rattle.pi_top.proofs.EventLemmas.{answers-append}
 use Rattle.pi_top.proofs.Judging.{AreOne, one-line, not-both, one-asked}
@@ -29,16 +30,16 @@ no-three No e = absurd (omega (arith, e))
 no-three (Exception ball) e = absurd (omega (arith, e))
 no-three StepsSpent e = absurd (omega (arith, e))
 
-pub refused-written : (o : AreOne) (asked : Options) (text goal line : List ℕ) (texts : List (List ℕ)) (queries : List QueryRun) (log : List LogEntry) (status : ℕ) → Refused text goal line →
-    ComesText asked text goal queries log status texts → IsLine line 3 status queries texts
-refused-written o asked text goal line texts queries log status is (refused other that written) =
+pub refused-written : (o : AreOne) (manner : Manner) (text goal line : List ℕ) (texts : List (List ℕ)) (queries : List QueryRun) (log : List LogEntry) (status : ℕ) → Refused text goal line →
+    ComesText manner text goal queries log status texts → IsLine line 3 status queries texts
+refused-written o manner text goal line texts queries log status is (refused other that written) =
     subst (λ (l : List ℕ). IsLine l 3 status queries texts) (one-line o text goal other line that is) written
-refused-written o asked text goal line texts queries log status is (ran program of_program asks has) = absurd (not-both o text goal line program of_program is asks)
+refused-written o manner text goal line texts queries log status is (ran program of_program asks has) = absurd (not-both o text goal line program of_program is asks)
 
-pub asked-run : (o : AreOne) (asked : Options) (text goal : List ℕ) (texts : List (List ℕ)) (p : ProgramTree) (e : ExpTree) (queries : List QueryRun) (log : List LogEntry) (status : ℕ) →
-    Asks text goal p e → ComesText asked text goal queries log status texts → status ≢ 3
-asked-run o asked text goal texts p e queries log status is (refused line that written) three = absurd (not-both o text goal line p e that is)
-asked-run o asked text goal texts p e queries log status is (ran program of_program asks has) three = no-three has.headline.ending (sym has.headline.its_status ∙ three)
+pub asked-run : (o : AreOne) (manner : Manner) (text goal : List ℕ) (texts : List (List ℕ)) (p : ProgramTree) (e : ExpTree) (queries : List QueryRun) (log : List LogEntry) (status : ℕ) →
+    Asks text goal p e → ComesText manner text goal queries log status texts → status ≢ 3
+asked-run o manner text goal texts p e queries log status is (refused line that written) three = absurd (not-both o text goal line p e that is)
+asked-run o manner text goal texts p e queries log status is (ran program of_program asks has) three = no-three has.headline.ending (sym has.headline.its_status ∙ three)
 
 -- ---- one part of a run
 
@@ -122,19 +123,19 @@ record AreSame (ticks others status other : ℕ) (texts more : List (List ℕ)) 
   pub same_status : status ≡ other
   pub same_texts : texts ≡ more
 
-one-headline : (answers steps : ℕ) (program : ProgramTree) (goal : ExpTree) (log : List LogEntry) (ticks others status other : ℕ) (texts more : List (List ℕ)) →
-    Headline answers steps program goal log ticks status texts → Headline answers steps program goal log others other more → AreSame ticks others status other texts more
-one-headline answers steps program goal log ticks others status other texts more a b =
-    let run : a.run ≡ b.run = names-runs-are-one (query_view log) no_stages no-stages-add program goal steps a.run b.run (a.is_part.is_run no_stages (inr refl)) (b.is_part.is_run no_stages (inr refl)) in
+one-headline : (manner : Manner) (program : ProgramTree) (goal : ExpTree) (log : List LogEntry) (ticks others status other : ℕ) (texts more : List (List ℕ)) →
+    Headline manner program goal log ticks status texts → Headline manner program goal log others other more → AreSame ticks others status other texts more
+one-headline manner program goal log ticks others status other texts more a b =
+    let run : a.run ≡ b.run = names-runs-are-one (query_view log) no_stages no-stages-add program goal manner.steps a.run b.run (a.is_part.is_run no_stages (inr refl)) (b.is_part.is_run no_stages (inr refl)) in
     let begins : IsPrefix b.part a.run.events = rw (← run) at b.is_part.begins in
-    let ends : Ends answers b.part a.run b.ending = rw (← run) at b.ends in
+    let ends : Ends manner.answers b.part a.run b.ending = rw (← run) at b.ends in
     let part : a.part ≡ b.part =
-    one-part answers a.part b.part a.run a.is_part.begins begins (stands answers a.part a.run a.ending a.ends) (stands answers b.part a.run b.ending ends) in
-    let ending : a.ending ≡ b.ending = ending-is-one answers a.part a.run a.ending b.ending a.ends (subst (λ p. Ends answers p a.run b.ending) (sym part) ends) in
+    one-part manner.answers a.part b.part a.run a.is_part.begins begins (stands manner.answers a.part a.run a.ending a.ends) (stands manner.answers b.part a.run b.ending ends) in
+    let ending : a.ending ≡ b.ending = ending-is-one manner.answers a.part a.run a.ending b.ending a.ends (subst (λ p. Ends manner.answers p a.run b.ending) (sym part) ends) in
     record {
       same_ticks = a.ticks_in_it ∙ ap count_ticks part ∙ sym b.ticks_in_it;
       same_status = a.its_status ∙ ap status_of ending ∙ sym b.its_status;
-      same_texts = a.written ∙ ap (λ p. print p ++ line_of a.ending ∷ []) part ∙ ap (λ e. print b.part ++ line_of e ∷ []) ending ∙ sym b.written;
+      same_texts = a.written ∙ ap (λ p. print manner.lines p ++ end_lines manner.lines a.ending) part ∙ ap (λ e. print manner.lines b.part ++ end_lines manner.lines e) ending ∙ sym b.written;
     }
 
 pub record AreOneOutcome (queries runs : List QueryRun) (status other : ℕ) (texts more : List (List ℕ)) : Type 0 where
@@ -142,26 +143,26 @@ pub record AreOneOutcome (queries runs : List QueryRun) (status other : ℕ) (te
   pub same_status : status ≡ other
   pub same_texts : texts ≡ more
 
-one-ran : (asked : Options) (log : List LogEntry) (p q : ProgramTree) (e f : ExpTree) (queries runs : List QueryRun) (status other : ℕ) (texts more : List (List ℕ)) → q ≡ p → f ≡ e →
-    HasRan asked.answers asked.steps p e log queries status texts → HasRan asked.answers asked.steps q f log runs other more → AreOneOutcome queries runs status other texts more
-one-ran asked log p q e f queries runs status other texts more program goal a b =
-    let head : Headline asked.answers asked.steps p e log b.ticks other more = rw (program, goal) at b.headline in
-    let same = one-headline asked.answers asked.steps p e log a.ticks b.ticks status other texts more a.headline head in
+one-ran : (manner : Manner) (log : List LogEntry) (p q : ProgramTree) (e f : ExpTree) (queries runs : List QueryRun) (status other : ℕ) (texts more : List (List ℕ)) → q ≡ p → f ≡ e →
+    HasRan manner p e log queries status texts → HasRan manner q f log runs other more → AreOneOutcome queries runs status other texts more
+one-ran manner log p q e f queries runs status other texts more program goal a b =
+    let head : Headline manner p e log b.ticks other more = rw (program, goal) at b.headline in
+    let same = one-headline manner p e log a.ticks b.ticks status other texts more a.headline head in
     record {
       same_queries = a.listed ∙ ap (λ n. run_of n ∷ []) same.same_ticks ∙ sym b.listed;
       same_status = same.same_status;
       same_texts = same.same_texts;
     }
 
-pub one-outcome : (o : AreOne) (asked : Options) (text goal : List ℕ) (texts more : List (List ℕ)) (queries runs : List QueryRun) (log : List LogEntry) (status other : ℕ) →
-    ComesText asked text goal queries log status texts → ComesText asked text goal runs log other more → AreOneOutcome queries runs status other texts more
-one-outcome o asked text goal texts more queries runs log status other (refused line is a) (refused lines are b) = record {
+pub one-outcome : (o : AreOne) (manner : Manner) (text goal : List ℕ) (texts more : List (List ℕ)) (queries runs : List QueryRun) (log : List LogEntry) (status other : ℕ) →
+    ComesText manner text goal queries log status texts → ComesText manner text goal runs log other more → AreOneOutcome queries runs status other texts more
+one-outcome o manner text goal texts more queries runs log status other (refused line is a) (refused lines are b) = record {
   same_queries = a.none_ran ∙ sym b.none_ran;
   same_status = a.is_its ∙ sym b.is_its;
   same_texts = a.written ∙ ap (λ (l : List ℕ). l ∷ []) (one-line o text goal line lines is are) ∙ sym b.written;
 }
-one-outcome o asked text goal texts more queries runs log status other (refused line is a) (ran q f asks b) = absurd (not-both o text goal line q f is asks)
-one-outcome o asked text goal texts more queries runs log status other (ran p e asks a) (refused line is b) = absurd (not-both o text goal line p e is asks)
-one-outcome o asked text goal texts more queries runs log status other (ran p e asks a) (ran q f ask b) =
+one-outcome o manner text goal texts more queries runs log status other (refused line is a) (ran q f asks b) = absurd (not-both o text goal line q f is asks)
+one-outcome o manner text goal texts more queries runs log status other (ran p e asks a) (refused line is b) = absurd (not-both o text goal line p e is asks)
+one-outcome o manner text goal texts more queries runs log status other (ran p e asks a) (ran q f ask b) =
     let same : (q ≡ p) × (f ≡ e) = one-asked o text goal q p f e ask.faultless asks.faultless in
-    one-ran asked log p q e f queries runs status other texts more same.0 same.1 a b
+    one-ran manner log p q e f queries runs status other texts more same.0 same.1 a b

@@ -6,33 +6,38 @@ use Rattle.pi_syntax.specs.ExpTree.{ExpTree}
 use Rattle.pi_syntax.specs.ProgramTree.{ProgramTree}
 use Rattle.pi_answers.specs.declared.log.LogEntry.{LogEntry}
 use Rattle.pi_top.specs.declared.outcome.QueryRun.{QueryRun}
-use Rattle.pi_top.specs.declared.run_mode.RunMode.TheVariants.{Query}
-use Rattle.pi_top.specs.declared.words.Options.{Options}
+use Rattle.pi_words.specs.declared.run_mode.RunMode.{RunMode}
+use Rattle.pi_words.specs.declared.run_mode.RunMode.TheVariants.{Demo}
+use Rattle.pi_words.specs.declared.asked.Options.{Options}
 use Rattle.pi_top.specs.Faults.{FaultCount, Rises}
 use Rattle.pi_top.specs.Judged.{Asks}
+use Rattle.pi_top.specs.Manner.{manner_of, goal_of}
 use Rattle.pi_top.specs.Runs.{HasRan}
 use Rattle.pi_top.specs.Statuses.{Written}
 use Rattle.pi_top.specs.Texts.{IsRead}
-use Rattle.pi_top.specs.Words.{options}
+use Rattle.pi_words.specs.Words.{options, places_of}
+use Rattle.pi_demo.specs.Demo.{demo_program}
 
--- the words ask a goal, neither text has a fault, and neither count of faults rose: that of the files, and that of the sink
+-- the words are those of a command line, neither text has a fault, and neither count of faults rose: that of the files, and that of the sink
 pub record NothingFails (words : List (List ℕ)) (asked : Options) (status : ℕ) (files sink : FaultCount) : Type 0 where
   pub asks : options words ≡ Some asked
-  pub a_goal : asked.mode ≡ Query
   pub no_fault : status ≢ 3
   pub no_read_fails : Rises files → ⊥
   pub no_write_fails : Rises sink → ⊥
 
+-- this is the text of the program
+abbrev pub IsText : RunMode → Options → Option Holding → List ℕ → Type 0
+IsText Demo asked held text = (places : ℕ) × (places_of asked ≡ Some places) × (text ≡ demo_program places)
+IsText other asked held text = IsRead held asked.file text
+
 -- the goal was run to its end: its status is 0, 1, 4 or 5
 pub record IsComplete (asked : Options) (held : Option Holding) (queries : List QueryRun) (log : List LogEntry) (status : ℕ) (writes : List SinkWrite) : Type 0 where
   pub text : List ℕ
-  pub goal : List ℕ
-  pub is_read : IsRead held asked.file text
-  pub is_goal : asked.goal ≡ Some goal
+  pub is_text : IsText asked.mode asked held text
   pub program : ProgramTree
   pub of_program : ExpTree
-  pub asks : Asks text goal program of_program
-  pub ran : Written (HasRan asked.answers asked.steps program of_program log queries status) writes
+  pub asks : Asks text (goal_of asked) program of_program
+  pub ran : Written (HasRan (manner_of asked) program of_program log queries status) writes
 
 abbrev pub Completes : Options → Option Holding → List QueryRun → List LogEntry → ℕ → List SinkWrite → Type 0
 Completes asked held queries log status writes = (status ≡ 9) ⊎ IsComplete asked held queries log status writes

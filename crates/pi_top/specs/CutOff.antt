@@ -7,12 +7,16 @@ use Rattle.pi_syntax.specs.ExpTree.{ExpTree}
 use Rattle.pi_syntax.specs.ProgramTree.{ProgramTree}
 use Rattle.pi_answers.specs.declared.log.LogEntry.{LogEntry}
 use Rattle.pi_top.specs.declared.outcome.QueryRun.{QueryRun}
-use Rattle.pi_top.specs.declared.run_mode.RunMode.{RunMode}
-use Rattle.pi_top.specs.declared.run_mode.RunMode.TheVariants.{Query}
-use Rattle.pi_top.specs.declared.words.Options.{Options}
+use Rattle.pi_words.specs.declared.run_mode.RunMode.{RunMode}
+use Rattle.pi_words.specs.declared.run_mode.RunMode.TheVariants.{Query, Run, Demo}
+use Rattle.pi_words.specs.declared.asked.Options.{Options}
+use Rattle.pi_words.specs.Words.{places_of}
+use Rattle.pi_demo.specs.Demo.{demo_program}
+use Rattle.pi_top.specs.declared.manner.Manner.{Manner}
 use Rattle.pi_top.specs.Faults.{FaultCount, Stands, Rises}
 use Rattle.pi_top.specs.Handing.{FailsIn}
 use Rattle.pi_top.specs.Judged.{Refused, Asks}
+use Rattle.pi_top.specs.Manner.{manner_of, goal_of}
 use Rattle.pi_top.specs.Reading.{ReadsText, FailsReading, StopsReading}
 use Rattle.pi_top.specs.Runs.{WasCutOff}
 use Rattle.pi_top.specs.Statuses.{IsUnread, usage_line, mode_line, read_fault_line}
@@ -31,18 +35,24 @@ pub record IsFront (line : List ℕ) (queries : List QueryRun) (status : ℕ) (w
   pub front : FailsIn [] (line ∷ []) writes
 
 -- with a program's text and a goal's
-pub data CutText (asked : Options) (text goal : List ℕ) (queries : List QueryRun) (log : List LogEntry) (status : ℕ) (writes : List SinkWrite) : Type 0 where
-  nothing : IsNothing queries status writes → CutText asked text goal queries log status writes
-  refused : (line : List ℕ) → Refused text goal line → IsFront line queries status writes → CutText asked text goal queries log status writes
+pub data CutText (manner : Manner) (text goal : List ℕ) (queries : List QueryRun) (log : List LogEntry) (status : ℕ) (writes : List SinkWrite) : Type 0 where
+  nothing : IsNothing queries status writes → CutText manner text goal queries log status writes
+  refused : (line : List ℕ) → Refused text goal line → IsFront line queries status writes → CutText manner text goal queries log status writes
   running : (program : ProgramTree) (of_program : ExpTree) → Asks text goal program of_program →
-      WasCutOff asked.answers asked.steps program of_program log queries status writes → CutText asked text goal queries log status writes
+      WasCutOff manner program of_program log queries status writes → CutText manner text goal queries log status writes
 
--- in the mode `query`
-pub data CutQuery (asked : Options) (held : Option Holding) (files : FaultCount) (reads : List FileRead) (queries : List QueryRun) (log : List LogEntry) (status : ℕ) (writes : List SinkWrite) : Type 0 where
-  nothing : Stands files → StopsReading asked.file reads → IsNothing queries status writes → CutQuery asked held files reads queries log status writes
-  read_fault : Rises files → FailsReading asked.file reads → IsFront read_fault_line queries status writes → CutQuery asked held files reads queries log status writes
-  was_read : Stands files → (text goal : List ℕ) → ReadsText asked.file text reads → IsRead held asked.file text → asked.goal ≡ Some goal → CutText asked text goal queries log status writes →
-      CutQuery asked held files reads queries log status writes
+-- with a program that is in a file
+pub data CutFile (asked : Options) (held : Option Holding) (files : FaultCount) (reads : List FileRead) (queries : List QueryRun) (log : List LogEntry) (status : ℕ) (writes : List SinkWrite) : Type 0 where
+  nothing : Stands files → StopsReading asked.file reads → IsNothing queries status writes → CutFile asked held files reads queries log status writes
+  read_fault : Rises files → FailsReading asked.file reads → IsFront read_fault_line queries status writes → CutFile asked held files reads queries log status writes
+  was_read : Stands files → (text : List ℕ) → ReadsText asked.file text reads → IsRead held asked.file text → CutText (manner_of asked) text (goal_of asked) queries log status writes →
+      CutFile asked held files reads queries log status writes
+
+-- with a program that is made of a number
+pub data CutMade (asked : Options) (files : FaultCount) (reads : List FileRead) (queries : List QueryRun) (log : List LogEntry) (status : ℕ) (writes : List SinkWrite) : Type 0 where
+  nothing : IsUnread files reads → IsNothing queries status writes → CutMade asked files reads queries log status writes
+  was_made : IsUnread files reads → (places : ℕ) → places_of asked ≡ Some places → CutText (manner_of asked) (demo_program places) (goal_of asked) queries log status writes →
+      CutMade asked files reads queries log status writes
 
 -- where no file is read and this line is to be written
 pub data CutLine (line : List ℕ) (files : FaultCount) (reads : List FileRead) (queries : List QueryRun) (status : ℕ) (writes : List SinkWrite) : Type 0 where
@@ -51,7 +61,9 @@ pub data CutLine (line : List ℕ) (files : FaultCount) (reads : List FileRead) 
 
 -- in a mode
 abbrev pub CutIn : RunMode → Options → Option Holding → FaultCount → List FileRead → List QueryRun → List LogEntry → ℕ → List SinkWrite → Type 0
-CutIn Query asked held files reads queries log status writes = CutQuery asked held files reads queries log status writes
+CutIn Query asked held files reads queries log status writes = CutFile asked held files reads queries log status writes
+CutIn Run asked held files reads queries log status writes = CutFile asked held files reads queries log status writes
+CutIn Demo asked held files reads queries log status writes = CutMade asked files reads queries log status writes
 CutIn other asked held files reads queries log status writes = CutLine mode_line files reads queries status writes
 
 -- by what the words ask

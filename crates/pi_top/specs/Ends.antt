@@ -1,5 +1,5 @@
 -- How a run ends, by its words.
-use Rattle.std.specs.Prelude.{◌≡◌, ◌≢◌, ℕ, List, [], ◌++◌, Option, None, Some, Result, Ok, Err}
+use Rattle.std.specs.Prelude.{◌≡◌, ℕ, Bool, true, false, List, [], ◌++◌, Option, None, Some, Result, Ok, Err}
 use Rattle.pi_outside.specs.Held.{Holding}
 use Rattle.pi_outside.specs.Reads.{FileRead}
 use Rattle.pi_outside.specs.Writes.{SinkWrite}
@@ -7,13 +7,15 @@ use Rattle.pi_answers.specs.declared.log.LogEntry.{LogEntry}
 use Rattle.pi_top.specs.declared.outcome.QueryRun.{QueryRun}
 use Rattle.pi_top.specs.declared.query.Stop.{Stop}
 use Rattle.pi_top.specs.declared.query.Stop.TheVariants.{Memory, Write}
-use Rattle.pi_top.specs.declared.run_mode.RunMode.TheVariants.{Query}
-use Rattle.pi_top.specs.declared.words.Options.{Options}
-use Rattle.pi_top.specs.CutOff.{CutText, CutQuery, CutBy}
+use Rattle.pi_words.specs.declared.run_mode.RunMode.{RunMode}
+use Rattle.pi_words.specs.declared.run_mode.RunMode.TheVariants.{Query, Run}
+use Rattle.pi_words.specs.declared.asked.Options.{Options}
+use Rattle.pi_top.specs.declared.manner.Manner.{Manner}
+use Rattle.pi_top.specs.CutOff.{CutText, CutFile, CutMade, CutBy}
 use Rattle.pi_top.specs.Faults.{FaultCount, Stands, Rises}
 use Rattle.pi_top.specs.Handing.{Hands, Fails}
-use Rattle.pi_top.specs.Statuses.{ComesText, ComesQuery, ComesBy, Written, memory_line}
-use Rattle.pi_top.specs.Words.{options}
+use Rattle.pi_top.specs.Statuses.{ComesText, ComesFile, ComesMade, ComesBy, Written, memory_line}
+use Rattle.pi_words.specs.Words.{options}
 
 -- the line on want of memory was written, or its write failed and a front of it was
 pub data WritesMemory (sink : FaultCount) (writes : List SinkWrite) : Type 0 where
@@ -29,10 +31,16 @@ pub data Ends (words : List (List ℕ)) (held : Option Holding) (queries : List 
   memory_wanted : status ≡ 9 → (earlier line : List SinkWrite) → writes ≡ earlier ++ line → CutBy (options words) held files reads queries log status earlier → WritesMemory sink line →
       Ends words held queries log status files sink reads writes
 
+-- the program is in a file
+abbrev pub reads_file : RunMode → Bool
+reads_file Query = true
+reads_file Run = true
+reads_file other = false
+
 -- what the words ask reads no file
 abbrev pub ReadsNoFile : Option Options → Type 0
 ReadsNoFile None = Unit {0}
-ReadsNoFile (Some asked) = asked.mode ≢ Query
+ReadsNoFile (Some asked) = reads_file asked.mode ≡ false
 
 -- ---- the same of the parts of a run, by what they answer
 
@@ -41,13 +49,17 @@ abbrev pub status_of_stop : Stop → ℕ
 status_of_stop Write = 8
 status_of_stop Memory = 9
 
-abbrev pub AnswersText : Options → List ℕ → List ℕ → List QueryRun → List LogEntry → Result ℕ Stop → List SinkWrite → Type 0
-AnswersText asked text goal queries log (Ok status) writes = Written (ComesText asked text goal queries log status) writes
-AnswersText asked text goal queries log (Err stop) writes = CutText asked text goal queries log (status_of_stop stop) writes
+abbrev pub AnswersText : Manner → List ℕ → List ℕ → List QueryRun → List LogEntry → Result ℕ Stop → List SinkWrite → Type 0
+AnswersText manner text goal queries log (Ok status) writes = Written (ComesText manner text goal queries log status) writes
+AnswersText manner text goal queries log (Err stop) writes = CutText manner text goal queries log (status_of_stop stop) writes
 
-abbrev pub AnswersQuery : Options → Option Holding → FaultCount → List QueryRun → List LogEntry → Result ℕ Stop → List FileRead → List SinkWrite → Type 0
-AnswersQuery asked held files queries log (Ok status) reads writes = Written (ComesQuery asked held files reads queries log status) writes
-AnswersQuery asked held files queries log (Err stop) reads writes = CutQuery asked held files reads queries log (status_of_stop stop) writes
+abbrev pub AnswersFile : Options → Option Holding → FaultCount → List QueryRun → List LogEntry → Result ℕ Stop → List FileRead → List SinkWrite → Type 0
+AnswersFile asked held files queries log (Ok status) reads writes = Written (ComesFile asked held files reads queries log status) writes
+AnswersFile asked held files queries log (Err stop) reads writes = CutFile asked held files reads queries log (status_of_stop stop) writes
+
+abbrev pub AnswersMade : Options → FaultCount → List QueryRun → List LogEntry → Result ℕ Stop → List FileRead → List SinkWrite → Type 0
+AnswersMade asked files queries log (Ok status) reads writes = Written (ComesMade asked files reads queries log status) writes
+AnswersMade asked files queries log (Err stop) reads writes = CutMade asked files reads queries log (status_of_stop stop) writes
 
 abbrev pub AnswersBy : Option Options → Option Holding → FaultCount → List QueryRun → List LogEntry → Result ℕ Stop → List FileRead → List SinkWrite → Type 0
 AnswersBy asked held files queries log (Ok status) reads writes = Written (ComesBy asked held files reads queries log status) writes

@@ -7,15 +7,15 @@ pub mod Handing
 pub mod Headline
 pub mod Judged
 pub mod JudgedCode
+pub mod Manner
 pub mod Prefix
 pub mod Printing
 pub mod QueryEnd
 pub mod Reading
 pub mod Running
 pub mod Runs
-pub mod Settings
 pub mod ShownFaults
 pub mod Statuses
 pub mod Texts
-pub mod Words
+pub mod ToldLines
 pub mod Writing

@@ -8,12 +8,16 @@ use Rattle.pi_syntax.specs.ExpTree.{ExpTree}
 use Rattle.pi_syntax.specs.ProgramTree.{ProgramTree}
 use Rattle.pi_answers.specs.declared.log.LogEntry.{LogEntry}
 use Rattle.pi_top.specs.declared.outcome.QueryRun.{QueryRun}
-use Rattle.pi_top.specs.declared.run_mode.RunMode.{RunMode}
-use Rattle.pi_top.specs.declared.run_mode.RunMode.TheVariants.{Query}
-use Rattle.pi_top.specs.declared.words.Options.{Options}
+use Rattle.pi_words.specs.declared.run_mode.RunMode.{RunMode}
+use Rattle.pi_words.specs.declared.run_mode.RunMode.TheVariants.{Query, Run, Demo}
+use Rattle.pi_words.specs.declared.asked.Options.{Options}
+use Rattle.pi_words.specs.Words.{places_of}
+use Rattle.pi_demo.specs.Demo.{demo_program}
+use Rattle.pi_top.specs.declared.manner.Manner.{Manner}
 use Rattle.pi_top.specs.Faults.{FaultCount, Stands, Rises}
 use Rattle.pi_top.specs.Handing.{HandsAll}
 use Rattle.pi_top.specs.Judged.{Refused, Asks}
+use Rattle.pi_top.specs.Manner.{manner_of, goal_of}
 use Rattle.pi_top.specs.Reading.{ReadsText, FailsReading}
 use Rattle.pi_top.specs.Runs.{HasRan}
 use Rattle.pi_top.specs.Texts.{IsRead}
@@ -37,30 +41,39 @@ pub record IsLine (line : List ℕ) (its status : ℕ) (queries : List QueryRun)
   pub written : texts ≡ line ∷ []
 
 -- with a program's text and a goal's: the line that says why nothing is run, or the goal was run
-pub data ComesText (asked : Options) (text goal : List ℕ) (queries : List QueryRun) (log : List LogEntry) (status : ℕ) (texts : List (List ℕ)) : Type 0 where
-  refused : (line : List ℕ) → Refused text goal line → IsLine line 3 status queries texts → ComesText asked text goal queries log status texts
+pub data ComesText (manner : Manner) (text goal : List ℕ) (queries : List QueryRun) (log : List LogEntry) (status : ℕ) (texts : List (List ℕ)) : Type 0 where
+  refused : (line : List ℕ) → Refused text goal line → IsLine line 3 status queries texts → ComesText manner text goal queries log status texts
   ran : (program : ProgramTree) (of_program : ExpTree) → Asks text goal program of_program →
-      HasRan asked.answers asked.steps program of_program log queries status texts → ComesText asked text goal queries log status texts
+      HasRan manner program of_program log queries status texts → ComesText manner text goal queries log status texts
 
--- in the mode `query`: a read of the file failed, and was the last, or its text was read and none failed
-pub data ComesQuery (asked : Options) (held : Option Holding) (files : FaultCount) (reads : List FileRead) (queries : List QueryRun) (log : List LogEntry) (status : ℕ) (texts : List (List ℕ)) : Type 0 where
-  read_fault : Rises files → FailsReading asked.file reads → IsLine read_fault_line 7 status queries texts → ComesQuery asked held files reads queries log status texts
-  was_read : Stands files → (text goal : List ℕ) → ReadsText asked.file text reads → IsRead held asked.file text → asked.goal ≡ Some goal → ComesText asked text goal queries log status texts →
-      ComesQuery asked held files reads queries log status texts
+-- with a program that is in a file: a read of it failed, and was the last, or its text was read and none failed
+pub data ComesFile (asked : Options) (held : Option Holding) (files : FaultCount) (reads : List FileRead) (queries : List QueryRun) (log : List LogEntry) (status : ℕ) (texts : List (List ℕ)) : Type 0 where
+  read_fault : Rises files → FailsReading asked.file reads → IsLine read_fault_line 7 status queries texts → ComesFile asked held files reads queries log status texts
+  was_read : Stands files → (text : List ℕ) → ReadsText asked.file text reads → IsRead held asked.file text → ComesText (manner_of asked) text (goal_of asked) queries log status texts →
+      ComesFile asked held files reads queries log status texts
 
 -- no file was read
 pub record IsUnread (files : FaultCount) (reads : List FileRead) : Type 0 where
   pub stands : Stands files
   pub no_read : reads ≡ []
 
+-- with a program that is made of a number, and no file was read
+pub record ComesMade (asked : Options) (files : FaultCount) (reads : List FileRead) (queries : List QueryRun) (log : List LogEntry) (status : ℕ) (texts : List (List ℕ)) : Type 0 where
+  pub unread : IsUnread files reads
+  pub places : ℕ
+  pub number : places_of asked ≡ Some places
+  pub comes : ComesText (manner_of asked) (demo_program places) (goal_of asked) queries log status texts
+
 -- no file was read, and this line is all that is written
 pub record IsLineUnread (line : List ℕ) (its : ℕ) (files : FaultCount) (reads : List FileRead) (queries : List QueryRun) (status : ℕ) (texts : List (List ℕ)) : Type 0 where
   pub unread : IsUnread files reads
   pub is : IsLine line its status queries texts
 
--- in a mode; only `query` is built
+-- in a mode; `session` and `print` aren't built
 abbrev pub ComesIn : RunMode → Options → Option Holding → FaultCount → List FileRead → List QueryRun → List LogEntry → ℕ → List (List ℕ) → Type 0
-ComesIn Query asked held files reads queries log status texts = ComesQuery asked held files reads queries log status texts
+ComesIn Query asked held files reads queries log status texts = ComesFile asked held files reads queries log status texts
+ComesIn Run asked held files reads queries log status texts = ComesFile asked held files reads queries log status texts
+ComesIn Demo asked held files reads queries log status texts = ComesMade asked files reads queries log status texts
 ComesIn other asked held files reads queries log status texts = IsLineUnread mode_line 3 files reads queries status texts
 
 -- by what the words ask: the usage line exactly where that is nothing

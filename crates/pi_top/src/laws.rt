@@ -6,8 +6,8 @@ ghost use Rattle.pi_syntax.specs.Tokens.{Token};
 ghost use Rattle.pi_clauses.specs.Verdict.{HasVerdict, a_program};
 ghost use Rattle.pi_names.specs.NameLaws.{HeadsAreFree};
 ghost use Rattle.pi_answers.specs.declared.log.LogEntry.{LogEntry};
+ghost use Rattle.pi_top.specs.declared.manner.Manner.{Manner};
 ghost use Rattle.pi_top.specs.declared.outcome.QueryRun.{QueryRun};
-ghost use Rattle.pi_top.specs.declared.words.Options.{Options};
 ghost use Rattle.pi_top.specs.Judged.{Refused, Asks, AreFaultless};
 ghost use Rattle.pi_top.specs.QueryEnd.{EndingIsOne};
 ghost use Rattle.pi_top.specs.Statuses.{IsLine, ComesText};
@@ -26,21 +26,21 @@ pub fn judgements_are_one()
     one_verdict();
 }
 
-/// No two endings fit one part of one run. In the mode `query` 3 comes exactly where the texts come to a line, and this line is then
-/// all that is written. And where neither a read nor a write fails and memory isn't wanted, the two texts, the options and the log
+/// No two endings fit one part of one run. Where a goal is asked 3 comes exactly where the texts come to a line, and this line is then
+/// all that is written. And where neither a read nor a write fails and memory isn't wanted, the two texts, the manner of asking and the log
 /// decide the status, the goals that were run with their Ticks, and the texts that are written.
 pub fn outcomes_are_one()
     ensures endings { EndingIsOne }
-    ensures refused { (asked : Options) (text goal line : List ℕ) (texts : List (List ℕ)) (queries : List QueryRun) (log : List LogEntry) (status : ℕ)
-        → Refused text goal line → ComesText asked text goal queries log status texts → IsLine line 3 status queries texts }
-    ensures run { (asked : Options) (text goal : List ℕ) (texts : List (List ℕ)) (program : ProgramTree) (of_program : ExpTree) (queries : List QueryRun) (log : List LogEntry) (status : ℕ)
-        → Asks text goal program of_program → ComesText asked text goal queries log status texts → status ≢ 3 }
-    ensures status { (asked : Options) (text goal : List ℕ) (texts others : List (List ℕ)) (queries runs : List QueryRun) (log : List LogEntry) (status other : ℕ)
-        → ComesText asked text goal queries log status texts → ComesText asked text goal runs log other others → status ≡ other }
-    ensures queries { (asked : Options) (text goal : List ℕ) (texts others : List (List ℕ)) (queries runs : List QueryRun) (log : List LogEntry) (status other : ℕ)
-        → ComesText asked text goal queries log status texts → ComesText asked text goal runs log other others → queries ≡ runs }
-    ensures texts { (asked : Options) (text goal : List ℕ) (texts others : List (List ℕ)) (queries runs : List QueryRun) (log : List LogEntry) (status other : ℕ)
-        → ComesText asked text goal queries log status texts → ComesText asked text goal runs log other others → texts ≡ others }
+    ensures refused { (manner : Manner) (text goal line : List ℕ) (texts : List (List ℕ)) (queries : List QueryRun) (log : List LogEntry) (status : ℕ)
+        → Refused text goal line → ComesText manner text goal queries log status texts → IsLine line 3 status queries texts }
+    ensures run { (manner : Manner) (text goal : List ℕ) (texts : List (List ℕ)) (program : ProgramTree) (of_program : ExpTree) (queries : List QueryRun) (log : List LogEntry) (status : ℕ)
+        → Asks text goal program of_program → ComesText manner text goal queries log status texts → status ≢ 3 }
+    ensures status { (manner : Manner) (text goal : List ℕ) (texts others : List (List ℕ)) (queries runs : List QueryRun) (log : List LogEntry) (status other : ℕ)
+        → ComesText manner text goal queries log status texts → ComesText manner text goal runs log other others → status ≡ other }
+    ensures queries { (manner : Manner) (text goal : List ℕ) (texts others : List (List ℕ)) (queries runs : List QueryRun) (log : List LogEntry) (status other : ℕ)
+        → ComesText manner text goal queries log status texts → ComesText manner text goal runs log other others → queries ≡ runs }
+    ensures texts { (manner : Manner) (text goal : List ℕ) (texts others : List (List ℕ)) (queries runs : List QueryRun) (log : List LogEntry) (status other : ℕ)
+        → ComesText manner text goal queries log status texts → ComesText manner text goal runs log other others → texts ≡ others }
 {
     one_reading();
     one_verdict();

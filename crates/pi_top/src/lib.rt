@@ -6,14 +6,11 @@ mod files;
 mod judgement;
 pub mod laws;
 mod lines;
+mod manner;
 mod outcome;
 mod query;
-mod run_mode;
-mod settings;
 mod top;
-mod words;
 
 pub use outcome::{Outcome, Queries, QueryRun};
-pub use run_mode::RunMode;
+pub use pi_words::{Options, RunMode, WordsFault, read_words};
 pub use top::picatq;
-pub use words::{Options, WordsFault, read_words};

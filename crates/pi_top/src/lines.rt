@@ -10,7 +10,7 @@ use pi_outside::{Failed, Sink};
 pub const USAGE: &str =
     "usage: picatq [--answers N] [--steps N] [--work N] [--mode query|run|session|print|demo] FILE [GOAL]\n";
 
-/// What is written where the mode isn't `query`.
+/// What is written where the mode isn't built.
 pub const MODE_NOT_BUILT: &str = "mode: NotBuilt\n";
 
 /// What is written where a read failed.

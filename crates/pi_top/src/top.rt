@@ -1,25 +1,28 @@
 //! The top call.
-ghost use Rattle.std.specs.Prelude.{◌≡◌, ◌≢◌, ◌<◌, ◌≤◌, [], map, IfOk, IfErr, Some};
+ghost use Rattle.std.specs.Prelude.{◌≡◌, ◌≢◌, ◌<◌, ◌≤◌, [], map, is_some, true, IfOk, IfErr, Some};
 ghost use Rattle.std.specs.String.{string_bytes};
 ghost use Rattle.pi_outside.specs.Faults.{NeverFalls, Rose};
 ghost use Rattle.pi_outside.specs.Reads.{ByReads};
 ghost use Rattle.pi_outside.specs.Writes.{ByWrites};
 ghost use Rattle.pi_top.specs.Completeness.{NothingFails, Completes};
-ghost use Rattle.pi_top.specs.Ends.{Ends, ReadsNoFile, AnswersText, AnswersQuery, AnswersBy, GivesStatus};
-ghost use Rattle.pi_top.specs.Faults.{counted, TellsWrites};
+ghost use Rattle.pi_top.specs.Ends.{Ends, ReadsNoFile, AnswersText, AnswersFile, AnswersMade, AnswersBy, GivesStatus};
+ghost use Rattle.pi_top.specs.Faults.{FaultCount, Stands, counted, TellsWrites};
+ghost use Rattle.pi_top.specs.Manner.{goal_of, manner_of};
 ghost use Rattle.pi_top.specs.Runs.{AllWithin};
 ghost use Rattle.pi_top.specs.Texts.{IsRead};
-ghost use Rattle.pi_top.specs.Words.{options};
-ghost use Rattle.pi_top.specs.declared.words.Options.{Options};
+ghost use Rattle.pi_words.specs.Words.{options, places_of};
+ghost use Rattle.pi_words.specs.declared.asked.Options.{Options};
 
 use crate::files::{FileStop, read_file};
 use crate::judgement::{Judged, judge};
 use crate::lines::{MEMORY, MODE_NOT_BUILT, READ_FAULT, USAGE, write_text};
+use crate::manner::{Manner, goal_of};
 use crate::outcome::{Outcome, Queries};
 use crate::query::{Stop, ended, run_query};
-use crate::words::{Options, WordsFault, read_words};
+use pi_demo::demo_text;
 use pi_outside::{Files, Sink, Source};
 use pi_terms::Series;
+use pi_words::{Options, RunMode, WordsFault, read_words};
 use std::alloc::Global;
 
 /// Runs picatq on the words behind the program's name: reads the program from `files`, asks its goal, and writes what
@@ -97,10 +100,12 @@ fn answered<F: Files, O: Sink>(
         Err(WordsFault::NoRecord) => return ended(out, USAGE, 2),
         Err(WordsFault::Memory) => return Err(Stop::Memory),
     };
-    // A goal stands in the words exactly in the mode `query`.
-    match &asked.goal {
-        Some(goal) => asked_of_file(alloc, &asked, goal.as_str(), files, out, queries),
-        None => ended(out, MODE_NOT_BUILT, 3),
+    match asked.mode {
+        RunMode::Query => asked_of_file(alloc, &asked, files, out, queries),
+        RunMode::Run => asked_of_file(alloc, &asked, files, out, queries),
+        RunMode::Demo => asked_of_demo(alloc, &asked, out, queries),
+        RunMode::Session => ended(out, MODE_NOT_BUILT, 3),
+        RunMode::Print => ended(out, MODE_NOT_BUILT, 3),
     }
 }
 
@@ -108,7 +113,6 @@ fn answered<F: Files, O: Sink>(
 fn asked_of_file<F: Files, O: Sink>(
     alloc: Global,
     asked: &Options,
-    goal: &str,
     files: &mut F,
     out: &mut O,
     queries: &mut Queries,
@@ -116,8 +120,8 @@ fn asked_of_file<F: Files, O: Sink>(
     ensures writes { TellsWrites (O.faults out.old) (O.faults out.new) result }
     ensures reads { IfOk result (λ status. status ≡ 7 → Rose (F.faults files.old) (F.faults files.new)) }
     ensures status { IfOk result (λ status. status < 8) }
-    ensures answers { ByReads F.has_read files.old files.new (λ reads. ByWrites O.wrote O.taken out.old out.new (λ writes. 0 < asked.now.answers → asked.now.goal ≡ Some goal.now → queries.old ≡ []
-        → AnswersQuery asked.now (F.held files.new) (counted (F.faults files.old) (F.faults files.new)) queries.new [] result reads writes)) }
+    ensures answers { ByReads F.has_read files.old files.new (λ reads. ByWrites O.wrote O.taken out.old out.new (λ writes. 0 < asked.now.answers → queries.old ≡ []
+        → AnswersFile asked.now (F.held files.new) (counted (F.faults files.old) (F.faults files.new)) queries.new [] result reads writes)) }
     ensures ran { AllWithin asked.now.steps queries.old → AllWithin asked.now.steps queries.new }
 {
     let text = match read_file(alloc, files, asked.file.as_str()) {
@@ -125,26 +129,48 @@ fn asked_of_file<F: Files, O: Sink>(
         Err(FileStop::Fault) => return ended(out, READ_FAULT, 7),
         Err(FileStop::Memory) => return Err(Stop::Memory),
     };
-    asked_of_text(alloc, text.as_slice(), asked, goal, out, queries)
+    asked_of_text(alloc, text.as_slice(), asked, out, queries)
 }
 
-/// Asks the goal that a text is of the program that another one is, where neither has a fault and all of both is built.
-fn asked_of_text<O: Sink>(
+/// Asks a goal of the program that is made of a number.
+fn asked_of_demo<O: Sink>(
     alloc: Global,
-    text: &[u8],
     asked: &Options,
-    goal: &str,
     out: &mut O,
     queries: &mut Queries,
 ) -> Result<u8, Stop>
     ensures writes { TellsWrites (O.faults out.old) (O.faults out.new) result }
     ensures no_read { IfOk result (λ status. status < 7) }
-    ensures answers { ByWrites O.wrote O.taken out.old out.new (λ writes. 0 < asked.now.answers → queries.old ≡ [] → AnswersText asked.now text.now goal.now queries.new [] result writes) }
+    ensures answers { ByWrites O.wrote O.taken out.old out.new (λ writes. 0 < asked.now.answers → is_some (places_of asked.now) ≡ true → queries.old ≡ []
+        → (files : FaultCount) → Stands files → AnswersMade asked.now files queries.new [] result [] writes) }
     ensures ran { AllWithin asked.now.steps queries.old → AllWithin asked.now.steps queries.new }
 {
+    let Some(places) = asked.places() else {
+        return ended(out, USAGE, 2);
+    };
+    let text = demo_text(alloc, places)?;
+    asked_of_text(alloc, text.as_str().as_bytes(), asked, out, queries)
+}
+
+/// Asks a goal of the program that a text is, where neither has a fault and all of both is built.
+fn asked_of_text<O: Sink>(
+    alloc: Global,
+    text: &[u8],
+    asked: &Options,
+    out: &mut O,
+    queries: &mut Queries,
+) -> Result<u8, Stop>
+    ensures writes { TellsWrites (O.faults out.old) (O.faults out.new) result }
+    ensures no_read { IfOk result (λ status. status < 7) }
+    ensures answers { ByWrites O.wrote O.taken out.old out.new (λ writes. 0 < asked.now.answers → queries.old ≡ []
+        → AnswersText (manner_of asked.now) text.now (goal_of asked.now) queries.new [] result writes) }
+    ensures ran { AllWithin asked.now.steps queries.old → AllWithin asked.now.steps queries.new }
+{
+    let goal = goal_of(asked);
     let judged = judge(alloc, text, goal.as_bytes())?;
+    let manner = Manner::of(asked);
     match judged {
         Judged::Refused(line) => ended(out, line.as_str(), 3),
-        Judged::Asks { core, query } => run_query(alloc, &core, query, asked, out, queries),
+        Judged::Asks { core, query } => run_query(alloc, &core, query, &manner, out, queries),
     }
 }

@@ -17,7 +17,7 @@ loop-turn-init g c = record {
   work = λ top. refl;
   mode = refl;
   no_fault = refl;
-  so_far = ByWrites-none g.O.Sink.wrote g.O.Sink.taken c.args.out.now _ (λ first given program q so_far. rw (append-nil first) so_far);
+  so_far = ByWrites-none g.O.Sink.wrote g.O.Sink.taken c.args.out.now _ (λ lines first given program q so_far. rw (append-nil first) so_far);
 }
 
 pub loop-turn-preserved : goal.loop-turn-preserved
@@ -33,10 +33,10 @@ loop-turn-preserved g c =
       work = λ top. next.counts.top (l.invariant.mode ∙ top) ∙ l.invariant.work top;
       mode = next.mode ∙ l.invariant.mode;
       no_fault = c.in_ok-write_text-in-Out.ensures.no_fault ∙ l.invariant.no_fault;
-      so_far = ByWrites-then l.invariant.so_far (rw c.as_str.ensures at c.in_ok-write_text-in-Out.ensures.hands) (λ before its earlier handed. λ first given program q start.
-          let w = earlier first given program q start in
-          subst (IsSoFar n c.next.new.budget given program q) (append_assoc first before its)
-          (written-text m n l.budget c.next.new.budget given program q c.in-Out.text (first ++ before) its
+      so_far = ByWrites-then l.invariant.so_far (rw c.as_str.ensures at c.in_ok-write_text-in-Out.ensures.hands) (λ before its earlier handed. λ lines first given program q start.
+          let w = earlier lines first given program q start in
+          subst (IsSoFar lines n c.next.new.budget given program q) (append_assoc first before its)
+          (written-text lines m n l.budget c.next.new.budget given program q c.in-Out.text (first ++ before) its
           w called (next.ticks w.running (query_view []) program q w.events w.runs) next.lasts (hands-one c.in-Out.text its handed)));
     }
 
@@ -50,10 +50,10 @@ returns-in_err-write_text-in-Out-clause-comes g c =
     let p = err_from_is_err_and c.from_residual.result c.from_residual.ensures.1 in
     let write : p.0 ≡ Write = p.2 in
     rw (p.1, write)
-    (ByWrites-then l.invariant.so_far (rw c.as_str.ensures at c.in_err-write_text-in-Out.ensures.hands) (λ before its earlier fails. λ first answers given program q start runnable less.
-    let w = earlier first given program q start in
-    subst (NextComes answers given program q n c.next.new.budget (Err Write)) (append_assoc first before its)
-    (text-cut m n l.budget c.next.new.budget answers given program q c.in-Out.text (first ++ before) its
+    (ByWrites-then l.invariant.so_far (rw c.as_str.ensures at c.in_err-write_text-in-Out.ensures.hands) (λ before its earlier fails. λ lines first answers given program q start runnable less.
+    let w = earlier lines first given program q start in
+    subst (NextComes lines answers given program q n c.next.new.budget (Err Write)) (append_assoc first before its)
+    (text-cut lines m n l.budget c.next.new.budget answers given program q c.in-Out.text (first ++ before) its
     runnable w called less (next.ticks w.running (query_view []) program q w.events w.runs) (fails-one c.in-Out.text its fails))))
 
 pub returns-in_default : goal.returns-in_default
@@ -68,8 +68,8 @@ returns-in_default g c =
       steps = next.counts.steps ∙ l.invariant.steps;
       mode = next.mode ∙ l.invariant.mode;
       work = λ top. next.counts.top (l.invariant.mode ∙ top) ∙ l.invariant.work top;
-      comes = ByWrites-so l.invariant.so_far (λ writes earlier. λ first answers given program q start runnable less.
-          let w = earlier first given program q start in
+      comes = ByWrites-so l.invariant.so_far (λ writes earlier. λ lines first answers given program q start runnable less.
+          let w = earlier lines first given program q start in
           record {
             before = m;
             budget = l.budget;
@@ -85,5 +85,5 @@ pub returns-clause-comes : goal.returns-clause-comes
 returns-clause-comes g c =
     let l = c.loop-turn in
     let m = machine_view g.S.StateStore.seen g.S.StateStore.order l.machine in
-    ByWrites-so l.invariant.so_far (λ writes earlier. λ first answers given program q start runnable less.
-    memory-cut m l.budget answers given program q (first ++ writes) runnable (earlier first given program q start) less)
+    ByWrites-so l.invariant.so_far (λ writes earlier. λ lines first answers given program q start runnable less.
+    memory-cut lines m l.budget answers given program q (first ++ writes) runnable (earlier lines first given program q start) less)

@@ -4,6 +4,7 @@ use Rattle.pi_machine.specs.declared.happening.Mode.{Mode}
 use Rattle.pi_machine.specs.Budget.{IsWithin}
 use Rattle.pi_engine.specs.Seen.{machine_view, mode_of}
 use Rattle.pi_outside.specs.Writes.{ByWrites, SinkWrite}
+use Rattle.pi_top.specs.declared.manner.Lines.{Lines}
 use Rattle.pi_top.specs.Running.{IsSoFar}
 use Rattle.pi_top.proofs.query.next_told.Given as goal
 
@@ -14,7 +15,7 @@ invariant-loop-turn g l = record {
   work : mode_of (machine_view g.S.StateStore.seen g.S.StateStore.order l.initial.machine) ≡ Mode.Top → l.budget.work ≡ l.initial.budget.work;
   mode : mode_of (machine_view g.S.StateStore.seen g.S.StateStore.order l.machine) ≡ mode_of (machine_view g.S.StateStore.seen g.S.StateStore.order l.initial.machine);
   no_fault : g.O.Sink.faults l.out ≡ g.O.Sink.faults l.initial.out;
-  so_far : ByWrites g.O.Sink.wrote g.O.Sink.taken l.initial.out l.out (λ writes. (first : List SinkWrite) (given : ℕ) (program : List PredTree) (q : QueryTree) →
-      IsSoFar (machine_view g.S.StateStore.seen g.S.StateStore.order l.initial.machine) l.initial.budget given program q first →
-      IsSoFar (machine_view g.S.StateStore.seen g.S.StateStore.order l.machine) l.budget given program q (first ++ writes));
+  so_far : ByWrites g.O.Sink.wrote g.O.Sink.taken l.initial.out l.out (λ writes. (lines : Lines) (first : List SinkWrite) (given : ℕ) (program : List PredTree) (q : QueryTree) →
+      IsSoFar lines (machine_view g.S.StateStore.seen g.S.StateStore.order l.initial.machine) l.initial.budget given program q first →
+      IsSoFar lines (machine_view g.S.StateStore.seen g.S.StateStore.order l.machine) l.budget given program q (first ++ writes));
 }

@@ -22,10 +22,10 @@ returns-clause-ran g c =
     let run = c.write_answers-status.ensures in
     let within : IsWithin c.write_answers-status.new.budget = run.within (record { ticks = omega arith; work = search rules }) in
     let ticks = ap (λ (r : QueryRun). r.ticks) c.run_of-2.ensures in
-    let few : c.run_of-2.result.ticks ≤ c.args.asked.now.steps = omega (arith, within.ticks, run.steps, ticks) in
+    let few : c.run_of-2.result.ticks ≤ c.args.manner.now.steps = omega (arith, within.ticks, run.steps, ticks) in
     let listed : c.set_last.new.self ≡ c.args.queries.now ++ c.run_of-2.result ∷ [] =
     set-last c.args.queries.now c.push.new.self c.set_last.new.self c.run_of.result c.run_of-2.result c.in-Ok-push.ensures.ok c.set_last.ensures in
-    λ all. subst (AllWithin c.args.asked.now.steps) (sym listed) (AllWithin-push c.args.asked.now.steps c.args.queries.now c.run_of-2.result few all)
+    λ all. subst (AllWithin c.args.manner.now.steps) (sym listed) (AllWithin-push c.args.manner.now.steps c.args.queries.now c.run_of-2.result few all)
 
 pub returns-clause-comes : goal.returns-clause-comes
 returns-clause-comes g c =
@@ -34,11 +34,11 @@ returns-clause-comes g c =
     let q = query_tree c.args.query in
     let budget = c.write_answers-status.new.budget in
     let within : IsWithin budget = run.within (record { ticks = omega arith; work = search rules }) in
-    let few : budget.ticks ≤ c.args.asked.now.steps = omega (arith, within.ticks, run.steps) in
+    let few : budget.ticks ≤ c.args.manner.now.steps = omega (arith, within.ticks, run.steps) in
     let work : budget.work ≡ no_work = run.work c.in-Ok.ensures.mode in
     let listed : c.run_of-2.result ≡ run_of budget.ticks = c.run_of-2.ensures ∙ ap (λ (w : Work). record { ticks = budget.ticks; work = w; known = 0; first = 0 }) work in
     ByWrites-so run.comes (λ writes comes. λ empty runnable asked.
-    has-run c.args.asked.now.answers c.args.asked.now.steps program q c.args.queries.now c.push.new.self c.set_last.new.self c.run_of.result c.run_of-2.result
+    has-run c.args.manner.now.lines c.args.manner.now.answers c.args.manner.now.steps program q c.args.queries.now c.push.new.self c.set_last.new.self c.run_of.result c.run_of-2.result
     c.write_answers-status.new.budget.ticks c.write_answers-status.result writes c.in-Ok-push.ensures.ok
     c.set_last.ensures listed few
     (comes program q

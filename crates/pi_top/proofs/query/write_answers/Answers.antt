@@ -18,7 +18,7 @@ loop-given-init g c = record {
   mode = refl;
   no_fault = refl;
   so_far = ByWrites-none g.O.Sink.wrote g.O.Sink.taken c.args.out.now _
-      (λ program q is. written-start (machine_view g.S.StateStore.seen g.S.StateStore.order c.args.machine.now) c.args.budget.now c.args.answers program q is);
+      (λ program q is. written-start c.args.manner.now.lines (machine_view g.S.StateStore.seen g.S.StateStore.order c.args.machine.now) c.args.budget.now c.args.manner.now.answers program q is);
 }
 
 -- the writing of a text is cut off, or memory is wanted behind one
@@ -30,8 +30,8 @@ returns-in_err-end-clause-comes g c =
     let same : p.0 ≡ c.in_err-end.field-0.0 = p.2 in
     rw (p.1, same)
     (ByWrites-then l.invariant.so_far next.comes (λ first second so_far comes. λ program q is.
-    subst (λ (steps : ℕ). QueryIsCut c.args.answers steps program q c.next_told.new.budget.ticks (status_of_stop c.in_err-end.field-0.0) (first ++ second)) (next.steps ∙ l.invariant.steps)
-    (comes first c.args.answers l.given program q (so_far program q is).so_far is.runnable c.loop-given-test.true)))
+    subst (λ (steps : ℕ). QueryIsCut c.args.manner.now.lines c.args.manner.now.answers steps program q c.next_told.new.budget.ticks (status_of_stop c.in_err-end.field-0.0) (first ++ second)) (next.steps ∙ l.invariant.steps)
+    (comes c.args.manner.now.lines first c.args.manner.now.answers l.given program q (so_far program q is).so_far is.runnable c.loop-given-test.true)))
 
 pub returns-in_err-write_answer-in-Answer-clause-comes : goal.returns-in_err-write_answer-in-Answer-clause-comes
 returns-in_err-write_answer-in-Answer-clause-comes g c =
@@ -39,16 +39,16 @@ returns-in_err-write_answer-in-Answer-clause-comes g c =
     let next = c.in_ok-end.ensures in
     let n = machine_view g.S.StateStore.seen g.S.StateStore.order c.next_told.new.machine in
     let asked : ByWrites g.O.Sink.wrote g.O.Sink.taken c.args.out.now c.next_told.new.out (λ writes. (program : List PredTree) (q : QueryTree) →
-    IsAtStart (machine_view g.S.StateStore.seen g.S.StateStore.order c.args.machine.now) c.args.budget.now c.args.answers program q →
-    NextComes c.args.answers l.given program q n c.next_told.new.budget (Ok c.in_ok-end.end) writes) =
+    IsAtStart (machine_view g.S.StateStore.seen g.S.StateStore.order c.args.machine.now) c.args.budget.now c.args.manner.now.answers program q →
+    NextComes c.args.manner.now.lines c.args.manner.now.answers l.given program q n c.next_told.new.budget (Ok c.in_ok-end.end) writes) =
     ByWrites-then l.invariant.so_far next.comes (λ first second so_far comes. λ program q is.
-    comes first c.args.answers l.given program q (so_far program q is).so_far is.runnable c.loop-given-test.true) in
+    comes c.args.manner.now.lines first c.args.manner.now.answers l.given program q (so_far program q is).so_far is.runnable c.loop-given-test.true) in
     let p = err_from_is_err_and c.from_residual-in_err-write_answer-in-Answer.result c.from_residual-in_err-write_answer-in-Answer.ensures.1 in
     let same : p.0 ≡ c.in_err-write_answer-in-Answer.field-0.0 = p.2 in
     rw (p.1, same)
     (ByWrites-then asked c.in_err-write_answer-in-Answer.ensures.told (λ first second comes told. λ program q is.
     let it = comes program q is in
-    comes-cut it.before n it.budget c.next_told.new.budget c.args.answers l.given c.args.budget.now.steps program q c.in-Answer.answer c.in_err-write_answer-in-Answer.field-0.0 first second
+    comes-cut c.args.manner.now.lines it.before n it.budget c.next_told.new.budget c.args.manner.now.answers l.given c.args.budget.now.steps program q c.in-Answer.answer c.in_err-write_answer-in-Answer.field-0.0 first second
     is.runnable it.so_far it.called c.loop-given-test.true (next.steps ∙ l.invariant.steps) (rw c.in-Answer.is at it.happens) told.cut))
 
 pub returns-in_default : goal.returns-in_default
@@ -57,10 +57,10 @@ returns-in_default g c =
     let next = c.in_ok-end.ensures in
     let n = machine_view g.S.StateStore.seen g.S.StateStore.order c.next_told.new.machine in
     let asked : ByWrites g.O.Sink.wrote g.O.Sink.taken c.args.out.now c.next_told.new.out (λ writes. (program : List PredTree) (q : QueryTree) →
-    IsAtStart (machine_view g.S.StateStore.seen g.S.StateStore.order c.args.machine.now) c.args.budget.now c.args.answers program q →
-    NextComes c.args.answers l.given program q n c.next_told.new.budget (Ok c.in_ok-end.end) writes) =
+    IsAtStart (machine_view g.S.StateStore.seen g.S.StateStore.order c.args.machine.now) c.args.budget.now c.args.manner.now.answers program q →
+    NextComes c.args.manner.now.lines c.args.manner.now.answers l.given program q n c.next_told.new.budget (Ok c.in_ok-end.end) writes) =
     ByWrites-then l.invariant.so_far next.comes (λ first second so_far comes. λ program q is.
-    comes first c.args.answers l.given program q (so_far program q is).so_far is.runnable c.loop-given-test.true) in
+    comes c.args.manner.now.lines first c.args.manner.now.answers l.given program q (so_far program q is).so_far is.runnable c.loop-given-test.true) in
     record {
       writes = rw (← l.invariant.no_fault, ← next.writes.no_fault) c.write_end.ensures.writes;
       status = c.write_end.ensures.status;
@@ -69,7 +69,7 @@ returns-in_default g c =
       work = λ top. next.work (l.invariant.mode ∙ top) ∙ l.invariant.work top;
       comes = ByWrites-then asked c.write_end.ensures.told (λ first second comes told. λ program q is.
           let it = comes program q is in
-          comes-end it.before n it.budget c.next_told.new.budget c.args.answers l.given c.args.budget.now.steps program q c.in_ok-end.end _ c.write_end.result first second
+          comes-end c.args.manner.now.lines it.before n it.budget c.next_told.new.budget c.args.manner.now.answers l.given c.args.budget.now.steps program q c.in_ok-end.end _ c.write_end.result first second
           is.runnable it.so_far it.called c.loop-given-test.true (next.steps ∙ l.invariant.steps)
           (λ e. grind (arith, nat_tests, e)) (λ e. grind (arith, nat_tests, e)) (λ a e. c.in_default.not-Answer a e) it.no_text it.happens told);
     }
@@ -80,10 +80,10 @@ loop-given-preserved g c =
     let next = c.in_ok-end.ensures in
     let n = machine_view g.S.StateStore.seen g.S.StateStore.order c.next_told.new.machine in
     let asked : ByWrites g.O.Sink.wrote g.O.Sink.taken c.args.out.now c.next_told.new.out (λ writes. (program : List PredTree) (q : QueryTree) →
-    IsAtStart (machine_view g.S.StateStore.seen g.S.StateStore.order c.args.machine.now) c.args.budget.now c.args.answers program q →
-    NextComes c.args.answers l.given program q n c.next_told.new.budget (Ok c.in_ok-end.end) writes) =
+    IsAtStart (machine_view g.S.StateStore.seen g.S.StateStore.order c.args.machine.now) c.args.budget.now c.args.manner.now.answers program q →
+    NextComes c.args.manner.now.lines c.args.manner.now.answers l.given program q n c.next_told.new.budget (Ok c.in_ok-end.end) writes) =
     ByWrites-then l.invariant.so_far next.comes (λ first second so_far comes. λ program q is.
-    comes first c.args.answers l.given program q (so_far program q is).so_far is.runnable c.loop-given-test.true) in
+    comes c.args.manner.now.lines first c.args.manner.now.answers l.given program q (so_far program q is).so_far is.runnable c.loop-given-test.true) in
     record {
       steps = next.steps ∙ l.invariant.steps;
       within = λ h. next.within (l.invariant.within h);
@@ -92,7 +92,7 @@ loop-given-preserved g c =
       no_fault = c.in_ok-write_answer-in-Answer.ensures.writes.no_fault ∙ (next.writes.no_fault ∙ l.invariant.no_fault);
       so_far = ByWrites-then asked c.in_ok-write_answer-in-Answer.ensures.told (λ first second comes told. λ program q is.
           let it = comes program q is in
-          written-answer it.before n it.budget c.next_told.new.budget l.given program q c.in-Answer.answer first second
+          written-answer c.args.manner.now.lines it.before n it.budget c.next_told.new.budget l.given program q c.in-Answer.answer first second
           it.so_far it.called (rw c.in-Answer.is at it.happens) (rw c.in-Answer.is at it.lasts) told.all);
     }
 
@@ -100,8 +100,8 @@ pub returns-clause-comes : goal.returns-clause-comes
 returns-clause-comes g c =
     let l = c.loop-given in
     let m = machine_view g.S.StateStore.seen g.S.StateStore.order l.machine in
-    let all : l.given ≡ c.args.answers = omega (arith, c.loop-given-test.false, l.auto.given-end) in
-    ByWrites-then l.invariant.so_far c.ended.ensures.told (λ first second so_far told. λ program q is.
-    let w : IsWritten m l.budget c.args.answers program q first = subst (λ given. IsWritten m l.budget given program q first) all (so_far program q is) in
-    comes-stopped m l.budget c.args.answers c.args.budget.now.steps program q c.ended.result first second is.runnable is.asked l.invariant.steps w c.ended.ensures.stops
-    (record { line = told; its_status = c.ended.ensures.status }))
+    let all : l.given ≡ c.args.manner.now.answers = omega (arith, c.loop-given-test.false, l.auto.given-end) in
+    ByWrites-then l.invariant.so_far c.ended_behind_answers.ensures.told (λ first second so_far told. λ program q is.
+    let w : IsWritten c.args.manner.now.lines m l.budget c.args.manner.now.answers program q first = subst (λ given. IsWritten c.args.manner.now.lines m l.budget given program q first) all (so_far program q is) in
+    comes-stopped c.args.manner.now.lines m l.budget c.args.manner.now.answers c.args.budget.now.steps program q c.ended_behind_answers.result first second is.runnable is.asked l.invariant.steps w c.ended_behind_answers.ensures.stops
+    (record { line = told; its_status = c.ended_behind_answers.ensures.status }))

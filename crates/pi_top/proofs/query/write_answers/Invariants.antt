@@ -15,6 +15,6 @@ invariant-loop-given g l = record {
   mode : mode_of (machine_view g.S.StateStore.seen g.S.StateStore.order l.machine) ≡ mode_of (machine_view g.S.StateStore.seen g.S.StateStore.order l.initial.machine);
   no_fault : g.O.Sink.faults l.out ≡ g.O.Sink.faults l.initial.out;
   so_far : ByWrites g.O.Sink.wrote g.O.Sink.taken l.initial.out l.out (λ writes. (program : List PredTree) (q : QueryTree) →
-      IsAtStart (machine_view g.S.StateStore.seen g.S.StateStore.order l.initial.machine) l.initial.budget l.fn.answers program q →
-      IsWritten (machine_view g.S.StateStore.seen g.S.StateStore.order l.machine) l.budget l.given program q writes);
+      IsAtStart (machine_view g.S.StateStore.seen g.S.StateStore.order l.initial.machine) l.initial.budget l.fn.manner.answers program q →
+      IsWritten l.fn.manner.lines (machine_view g.S.StateStore.seen g.S.StateStore.order l.machine) l.budget l.given program q writes);
 }

@@ -1,7 +1,7 @@
 use Rattle.pi_outside.proofs.ReadRuns.{ByReads-so}
 use Rattle.pi_outside.proofs.WriteRuns.{ByWrites-none, ByWrites-so}
 use Rattle.pi_top.specs.Faults.{counted}
-use Rattle.pi_top.proofs.Endings.{query-fault, query-nothing, query-read}
+use Rattle.pi_top.proofs.Endings.{file-fault, file-nothing, file-read}
 use Rattle.pi_top.proofs.top.asked_of_file.Goals as goal
 
 pub returns-in-Err-Fault-clause-answers : goal.returns-in-Err-Fault-clause-answers
@@ -9,21 +9,21 @@ returns-in-Err-Fault-clause-answers g c =
     let file = c.in-Err-Fault.ensures in
     let line = c.ended.ensures in
     let files = counted (g.F.Files.faults c.args.files.now) (g.F.Files.faults c.read_file.new.files) in
-    ByReads-so (rw c.in-Err-Fault.field-0-is at file.reads) (λ reads fails. ByWrites-so line.told (λ writes told. λ some has none.
-    query-fault c.args.asked.now (g.F.Files.held c.read_file.new.files) files c.args.queries.now c.ended.result reads writes (file.fault c.in-Err-Fault.field-0-is)
+    ByReads-so (rw c.in-Err-Fault.field-0-is at file.reads) (λ reads fails. ByWrites-so line.told (λ writes told. λ some none.
+    file-fault c.args.asked.now (g.F.Files.held c.read_file.new.files) files c.args.queries.now c.ended.result reads writes (file.fault c.in-Err-Fault.field-0-is)
     (rw (← c.as_str.ensures) fails) none line.status line.stops told))
 
 pub returns-in-Err-Memory-clause-answers : goal.returns-in-Err-Memory-clause-answers
 returns-in-Err-Memory-clause-answers g c =
     let file = c.in-Err-Memory.ensures in
     let files = counted (g.F.Files.faults c.args.files.now) (g.F.Files.faults c.read_file.new.files) in
-    ByReads-so (rw c.in-Err-Memory.field-0-is at file.reads) (λ reads stops. ByWrites-none g.O.Sink.wrote g.O.Sink.taken c.args.out.now _ (λ some has none.
-    query-nothing c.args.asked.now (g.F.Files.held c.read_file.new.files) files c.args.queries.now reads (file.memory c.in-Err-Memory.field-0-is) (rw (← c.as_str.ensures) stops) none))
+    ByReads-so (rw c.in-Err-Memory.field-0-is at file.reads) (λ reads stops. ByWrites-none g.O.Sink.wrote g.O.Sink.taken c.args.out.now _ (λ some none.
+    file-nothing c.args.asked.now (g.F.Files.held c.read_file.new.files) files c.args.queries.now reads (file.memory c.in-Err-Memory.field-0-is) (rw (← c.as_str.ensures) stops) none))
 
 pub returns-clause-answers : goal.returns-clause-answers
 returns-clause-answers g c =
     let file = c.in-Ok.ensures in
     let files = counted (g.F.Files.faults c.args.files.now) (g.F.Files.faults c.read_file.new.files) in
-    ByReads-so file.reads (λ reads all_read. ByWrites-so c.asked_of_text.ensures.answers (λ writes answers. λ some has none.
-    query-read c.args.asked.now (g.F.Files.held c.read_file.new.files) files c.as_slice.result.now c.args.goal.now c.asked_of_text.new.queries c.asked_of_text.result reads writes file.no_fault
-    (rw (c.as_slice.ensures.value, ← c.as_str.ensures) all_read) (rw (c.as_slice.ensures.value, ← c.as_str.ensures) file.read) has (answers some none)))
+    ByReads-so file.reads (λ reads all_read. ByWrites-so c.asked_of_text.ensures.answers (λ writes answers. λ some none.
+    file-read c.args.asked.now (g.F.Files.held c.read_file.new.files) files c.as_slice.result.now c.asked_of_text.new.queries c.asked_of_text.result reads writes file.no_fault
+    (rw (c.as_slice.ensures.value, ← c.as_str.ensures) all_read) (rw (c.as_slice.ensures.value, ← c.as_str.ensures) file.read) (answers some none)))

@@ -1,7 +1,7 @@
 use Rattle.std.proofs.Common.{◌≡◌, take}
 use Rattle.pi_outside.specs.Writes.{ByWrites}
 use Rattle.pi_top.specs.Handing.{HandsAll}
-use Rattle.pi_top.proofs.query.write_answer.Given as goal
+use Rattle.pi_top.proofs.query.write_lines.Given as goal
 
 abbrev pub invariant-loop-line : goal.invariant-loop-line
 invariant-loop-line g l = record {

@@ -5,8 +5,8 @@ use Rattle.std.proofs.lemmas.Str.Parse.{IsNumeralModel, IsDigitsTest, numerals_b
 use Rattle.std.specs.Char.{is_ascii_digit}
 use Rattle.std.specs.List.{list_all}
 use Rattle.std.specs.Str.Parse.{ParsesUnsigned, digits_value}
-use Rattle.pi_top.specs.Words.{is_number}
-use Rattle.pi_top.proofs.settings.number_within.Goals as goal
+use Rattle.pi_words.specs.Words.{is_number}
+use Rattle.pi_words.proofs.numbers.number_within.Goals as goal
 
 tells : IsDigitsTest (λ ds. list_all is_ascii_digit ds ≡ true)
 tells = search rules
