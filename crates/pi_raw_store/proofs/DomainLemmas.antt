@@ -74,7 +74,7 @@ shows_domain t i s r found is x term =
 
 -- What was there at a mark
 
-none_zero : (n : ℕ) → (n == 0) ≡ true → n ≡ 0
+pub none_zero : (n : ℕ) → (n == 0) ≡ true → n ≡ 0
 none_zero n e = grind (arith, nat_tests)
 
 end_within : (h : Heap) (b : Bool) (w : ℕ) → (w % 8 == 0) ≡ b → IsBoundIn h w → cond b (w / 8) 0 ≤ length h.words
@@ -127,7 +127,7 @@ some_at : (k : Heap) (end : ℕ) → 0 < end → unbound_at k end ≡ within (do
 some_at k zero some = absurd (omega arith)
 some_at k (suc last) some = refl
 
-is_zero : (n : ℕ) → n ≡ 0 → (n == 0) ≡ true
+pub is_zero : (n : ℕ) → n ≡ 0 → (n == 0) ≡ true
 is_zero n e = grind (arith, nat_tests)
 
 place_word : (k : Heap) (end : ℕ) → 0 < end → variable_in k (8 * end) ≡ within (domain_at k.words end)

@@ -17,11 +17,11 @@ ascend_more least i (m ∷ ns) h l below =
     let first : m < i = below m (0, omega arith, refl) in
     (h.0, ascend_more (suc m) i ns h.1 (omega arith) (λ n c. below n (Contains-append_right (m ∷ []) ns n c)))
 
-one_is : (i n : ℕ) → Contains (i ∷ []) n → i ≡ n
+pub one_is : (i n : ℕ) → Contains (i ∷ []) n → i ≡ n
 one_is i n (zero, l, e) = e
 one_is i n (suc k, l, e) = absurd (omega arith)
 
-has_one : (i : ℕ) → Contains (i ∷ []) i
+pub has_one : (i : ℕ) → Contains (i ∷ []) i
 has_one i = (0, omega arith, refl)
 
 last_by : (n i : ℕ) (b : Bool) → nat_lt n i ≡ b → n < i + 1 → (n < i) ⊎ (n ≡ i)

@@ -13,5 +13,6 @@ pub mod PostedLemmas
 pub mod RefLemmas
 pub mod BindLemmas
 pub mod DomainLemmas
+pub mod SinceLemmas
 pub mod ReadLemmas
 pub mod PartLemmas

@@ -7,6 +7,7 @@ mod named;
 mod posted;
 mod read;
 mod refs;
+mod since;
 mod state_store;
 mod store;
 mod walk;

@@ -80,7 +80,7 @@ fn is_posted(alloc: Global, words: &Trailed, n: u64, v: u64) -> Result<bool, All
 }
 
 /// One more number, where it is one of those that are looked for.
-fn push_if(found: &mut Places, number: u64, is_one: bool) -> Result<(), AllocError>
+pub fn push_if(found: &mut Places, number: u64, is_one: bool) -> Result<(), AllocError>
     ensures { IfOk result (λ _. found.new ≡ cond is_one (found.old ++ number ∷ []) found.old) }
 {
     if is_one {

@@ -1,5 +1,5 @@
 //! The store over raw words as a store of states. Activations aren't kept yet: a call that would make
-//! one is want of memory, and a call that takes one says that there is none. Nor is told what changed since a mark.
+//! one is want of memory, and a call that takes one says that there is none.
 ghost use Rattle.pi_raw_store.specs.Holding.{view_of};
 
 use crate::mark::RawMark;
@@ -139,9 +139,9 @@ impl StateStore for RawStore {
         self.undo(m);
     }
 
-    /// Want of memory: what changed since a mark isn't told yet.
-    fn changed_since(&self, _alloc: Global, _m: &RawMark) -> Result<Places, AllocError> {
-        Err(AllocError)
+    fn changed_since(&self, alloc: Global, m: &RawMark) -> Result<Places, AllocError> {
+        let found = self.changed_since(alloc, m)?;
+        Ok(found)
     }
 
     fn domain_at(&self, alloc: Global, m: &RawMark, v: u64) -> Result<Option<Domain>, AllocError> {

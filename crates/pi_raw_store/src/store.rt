@@ -5,7 +5,7 @@ ghost use Rattle.pi_terms.specs.Variables.{IsGround};
 ghost use Rattle.pi_states.specs.Value.{IsAcyclic, value};
 ghost use Rattle.pi_states.specs.State.{Agent, SpeaksBelow, MayPost, empty_state, bindings, next, followed, LeadsTo, domain_at_root, with_new, with_constraint, with_ended};
 ghost use Rattle.pi_states.specs.State.{domain_of as state_domain};
-ghost use Rattle.pi_states.specs.Store.{IsGood, IsTerm, AreTerms, AreWatches, IsName, ShowsCell, ShowsAgent, Keeps, Stays, Changes, Gives, Binds, Confines, Suspends, Marks, Returns, Lists, IsPostedOn, ShowsRead};
+ghost use Rattle.pi_states.specs.Store.{IsGood, IsTerm, AreTerms, AreWatches, IsName, ShowsCell, ShowsAgent, Keeps, Stays, Changes, Gives, Binds, Confines, Suspends, Marks, Returns, Lists, IsPostedOn, HasChanged, ShowsRead};
 ghost use Rattle.pi_raw_store.specs.Holding.{seen, order};
 
 use crate::domains::{confine, domain_by, domain_of};
@@ -14,6 +14,7 @@ use crate::named::numbered;
 use crate::posted::posted_on;
 use crate::read::read;
 use crate::refs::{bind_variable, has, has_events, known};
+use crate::since::changed_since;
 use crate::walk;
 use pi_constraints::{Constraint, Domain};
 use pi_raw_agents::{
@@ -336,6 +337,15 @@ impl RawStore {
         ensures { IsGood (seen self.old) m.now → Returns order (seen self.old) (seen self.new) m.now }
     {
         self.words.undo(m.length);
+    }
+
+    /// The variables that were unbound at a mark and are bound now or have another domain; ascending, each once. It costs
+    /// what changed since.
+    pub fn changed_since(&self, alloc: Global, m: &RawMark) -> Result<Places, AllocError>
+        ensures { IfOk result (λ found. IsGood (seen self.now) m.now → Lists (HasChanged ((seen self.now).at_mark m.now).state (seen self.now).now.state) found) }
+    {
+        let found = changed_since(alloc, &self.words, m.length)?;
+        Ok(found)
     }
 
     /// The term as it is written down, with bindings replaced throughout. `TooLarge` exactly where it has more than

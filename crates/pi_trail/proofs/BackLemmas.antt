@@ -1,5 +1,5 @@
 -- The way back along the trail: it stops at its length, needs no more steps than there are words, and may be taken in two parts.
-use Rattle.std.proofs.Common.{◌≡◌, ℕ, zero, suc, ◌+◌, ◌-◌, ◌*◌, ◌%◌, ◌<◌, ◌≤◌, ◌⊎◌, inl, inr, ⊎_elim, min, List, length, take, slice_index, refl, ap, sym, subst, ◌∙◌, arith, cond, nat_le}
+use Rattle.std.proofs.Common.{◌≡◌, ℕ, zero, suc, ◌+◌, ◌-◌, ◌*◌, ◌%◌, ◌<◌, ◌≤◌, ⊎_elim, min, List, length, take, slice_index, refl, ap, sym, subst, ◌∙◌, arith, nat_le}
 use Rattle.std.proofs.lemmas.Bool.{cases_lt, le-leb, lt-leb, cond-true, cond-false}
 use Rattle.std.proofs.lemmas.List.{get_or-take, take-take, take_all, length-take}
 use Rattle.pi_trail.specs.Entry.{value_of, entry_of}

@@ -1,14 +1,14 @@
 -- Each change of an image can be taken back.
-use Rattle.std.proofs.Common.{◌≡◌, ℕ, zero, suc, ◌+◌, ◌-◌, ◌*◌, ◌/◌, ◌%◌, ◌<◌, ◌≤◌, min, List, [], ◌∷◌, ◌++◌, length, take, slice_index, slice_set, refl, ap, sym, subst, ◌∙◌, arith, length-append}
-use Rattle.std.proofs.lemmas.List.{get_or-append-add, set-set, set-get_or, take_at, take_all}
+use Rattle.std.proofs.Common.{◌≡◌, ℕ, zero, suc, ◌+◌, ◌-◌, ◌*◌, ◌/◌, ◌%◌, ◌<◌, ◌≤◌, min, List, [], ◌∷◌, ◌++◌, length, slice_index, slice_set, refl, ap, sym, subst, ◌∙◌, arith, length-append}
+use Rattle.std.proofs.lemmas.List.{get_or-append-add, set-set, set-get_or, take_at}
 use Rattle.pi_trail.specs.Entry.{data_of, value_of, word_of, entry_of}
 use Rattle.pi_trail.specs.Image.{Image, table_in, with_table, appended, logged, pushed, replacing, replaced}
-use Rattle.pi_trail.specs.Back.{taken_back, without, newest, newest_place, newest_old, back_once, back, cut, at_length, Advances}
+use Rattle.pi_trail.specs.Back.{taken_back, without, newest, newest_place, newest_old, back_once, cut, at_length, Advances}
 use Rattle.pi_trail.specs.declared.entry.Table.{Table}
 use Rattle.pi_trail.specs.declared.entry.Change.{Change}
 use Rattle.pi_trail.specs.declared.entry.Entry.{Entry}
 use Rattle.pi_trail.proofs.EntryLemmas.{value_of-data_of, entry_of-word_of}
-use Rattle.pi_trail.proofs.TableLemmas.{region_with, trail_with, table_with, table_at, with_same, with_at, with_back}
+use Rattle.pi_trail.proofs.TableLemmas.{region_with, table_with, table_at, with_same, with_at, with_back}
 use Rattle.pi_trail.proofs.BackLemmas.{back_stop, back_go}
 
 pub appended_advances : (i : Image) (ws : List ℕ) → i.trail ≤ length i.region → Advances i (appended i ws)

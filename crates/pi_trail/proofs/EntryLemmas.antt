@@ -1,5 +1,5 @@
 -- An entry is what its word says.
-use Rattle.std.proofs.Common.{◌≡◌, ℕ, ◌+◌, ◌*◌, ◌/◌, ◌%◌, ◌<◌, refl, ap, sym, ◌∙◌, lit<, arith, add_assoc}
+use Rattle.std.proofs.Common.{◌≡◌, ℕ, ◌+◌, ◌*◌, ◌/◌, ◌%◌, ◌<◌, refl, ap, ◌∙◌, lit<, add_assoc}
 use Rattle.std.proofs.lemmas.Nat.{div-mul-add, mod-mul-add}
 use Rattle.pi_trail.specs.Entry.{table_number, table_of, change_number, change_of, data_of, value_of, entry_number, numbered, word_of, entry_of}
 use Rattle.pi_trail.specs.declared.entry.Table.{Table}

@@ -1,5 +1,5 @@
 -- The walk back along the trail: what it holds before an entry.
-use Rattle.std.proofs.Common.{◌≡◌, ℕ, zero, suc, ◌+◌, ◌-◌, ◌<◌, ◌≤◌, ◌⊎◌, ⊎_elim, Bool, true, false, cond, nat_lt, min, List, [], ◌∷◌, length, take, slice_index, slice_set, refl, ap, sym, subst, ◌∙◌, arith}
+use Rattle.std.proofs.Common.{◌≡◌, ℕ, ◌-◌, ◌<◌, ◌≤◌, ⊎_elim, false, cond, nat_lt, min, List, length, take, slice_index, slice_set, refl, ap, sym, subst, ◌∙◌, arith}
 use Rattle.std.specs.Prelude.{◌==◌}
 use Rattle.std.proofs.lemmas.Bool.{cases_lt, cases_eq, cond-true, cond-false, lt-ltb, le-ltb, eq-eqb, ne_eqb}
 use Rattle.std.proofs.lemmas.List.{get_or-take, get_or_past, get_or-set_other, length-take, length-set}
@@ -12,12 +12,12 @@ use Rattle.pi_trail.specs.declared.entry.Table.{Table}
 use Rattle.pi_trail.specs.declared.entry.Change.{Change}
 use Rattle.pi_trail.specs.declared.entry.Entry.{Entry}
 use Rattle.pi_trail.specs.declared.history.Past.{Past}
-use Rattle.pi_trail.proofs.TableLemmas.{region_with, trail_with}
+use Rattle.pi_trail.proofs.TableLemmas.{trail_with}
 use Rattle.pi_trail.proofs.BackLemmas.{back_stop, back_go, trail_once, region_once}
 use Rattle.pi_trail.proofs.ChangeLemmas.{once_by}
 
 -- a table that gets back what it had, read at a place
-set_read : (xs : List ℕ) (place old n : ℕ) → slice_index (slice_set xs place old) n ≡ cond (n == place) (cond (nat_lt n (length xs)) old (slice_index xs n)) (slice_index xs n)
+pub set_read : (xs : List ℕ) (place old n : ℕ) → slice_index (slice_set xs place old) n ≡ cond (n == place) (cond (nat_lt n (length xs)) old (slice_index xs n)) (slice_index xs n)
 set_read xs place old n =
     let ys : List ℕ = slice_set xs place old in
     let many : length ys ≡ length xs = length-set xs place old in
@@ -30,7 +30,7 @@ set_read xs place old n =
     (λ other. get_or-set_other xs place n old 0 other ∙ sym (cond-false (n == place) inner (slice_index xs n) (ne_eqb n place other)))
     (cases_eq n place)
 
-cut_read : (xs : List ℕ) (n : ℕ) → slice_index (take (length xs - 1) xs) n ≡ cond (nat_lt n (length xs - 1)) (slice_index xs n) 0
+pub cut_read : (xs : List ℕ) (n : ℕ) → slice_index (take (length xs - 1) xs) n ≡ cond (nat_lt n (length xs - 1)) (slice_index xs n) 0
 cut_read xs n =
     let many : length (take (length xs - 1) xs) ≡ min (length xs - 1) (length xs) = length-take (length xs - 1) xs in
     ⊎_elim
@@ -42,7 +42,7 @@ cut_read xs n =
 once : (j : Image) → back_once j ≡ without j (newest j) (newest_place j) (newest_old j)
 once j = once_by j (newest j) (newest_place j) (newest_old j) refl refl refl
 
-back_trail : (j : Image) → (back_once j).trail ≡ min (newest j).link (j.trail - 1)
+pub back_trail : (j : Image) → (back_once j).trail ≡ min (newest j).link (j.trail - 1)
 back_trail j =
     ap (λ (v : Image). v.trail) (once j)
     ∙ trail_with (record j { trail = min (newest j).link (j.trail - 1) }) (newest j).table (taken_back (newest j).change (table_in j (newest j).table) (newest_place j) (newest_old j))
@@ -54,12 +54,12 @@ variables_with i Table.Agents xs e = refl
 variables_with i Table.Waiting xs e = refl
 variables_with i Table.Heads xs e = refl
 
-other_variables : (j : Image) → is_variables (newest j).table ≡ false → (back_once j).variables ≡ j.variables
+pub other_variables : (j : Image) → is_variables (newest j).table ≡ false → (back_once j).variables ≡ j.variables
 other_variables j e =
     ap (λ (v : Image). v.variables) (once j)
     ∙ variables_with (record j { trail = min (newest j).link (j.trail - 1) }) (newest j).table (taken_back (newest j).change (table_in j (newest j).table) (newest_place j) (newest_old j)) e
 
-own_variables : (j : Image) (c : Change) → (newest j).table ≡ Table.Variables → (newest j).change ≡ c → (back_once j).variables ≡ taken_back c j.variables (newest_place j) (newest_old j)
+pub own_variables : (j : Image) (c : Change) → (newest j).table ≡ Table.Variables → (newest j).change ≡ c → (back_once j).variables ≡ taken_back c j.variables (newest_place j) (newest_old j)
 own_variables j c t e =
     ap (λ (v : Image). v.variables) (once j)
     ∙ (ap (λ x. (with_table (record j { trail = min (newest j).link (j.trail - 1) }) x (taken_back (newest j).change (table_in j x) (newest_place j) (newest_old j))).variables) t

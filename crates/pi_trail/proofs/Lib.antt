@@ -4,3 +4,4 @@ pub mod BackLemmas
 pub mod ChangeLemmas
 pub mod SinceLemmas
 pub mod HistoryLemmas
+pub mod NotedLemmas

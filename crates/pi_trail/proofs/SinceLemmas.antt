@@ -1,13 +1,12 @@
 -- Since when a variable has its word: more words, and entries about others, leave it.
-use Rattle.std.proofs.Common.{◌≡◌, ◌≢◌, ℕ, zero, suc, ◌+◌, ◌-◌, ◌<◌, ◌≤◌, ◌⊎◌, inl, inr, ⊎_elim, Bool, true, false, ◌&&◌, cond, List, [], ◌∷◌, ◌++◌, length, take, slice_index, refl, ap, sym, subst, ◌∙◌, arith, length-append}
+use Rattle.std.proofs.Common.{◌≡◌, ◌≢◌, ℕ, zero, suc, ◌+◌, ◌-◌, ◌<◌, ◌≤◌, ◌⊎◌, inl, inr, ⊎_elim, Bool, true, false, ◌&&◌, cond, List, ◌++◌, length, slice_index, refl, ap, sym, subst, ◌∙◌, arith, length-append}
 use Rattle.std.specs.Prelude.{◌==◌}
-use Rattle.std.proofs.lemmas.Bool.{cond-true, cond-false, cases_Bool, ne_eqb, eq-eqb, and_left, and_right}
+use Rattle.std.proofs.lemmas.Bool.{cond-true, cond-false, cases_Bool, ne_eqb, eq-eqb, and_right}
 use Rattle.std.proofs.lemmas.List.{take_at}
 use Rattle.pi_trail.specs.Image.{Image, appended, pushed, replacing, replaced}
 use Rattle.pi_trail.specs.Back.{newest, newest_place, back_once, cut}
 use Rattle.pi_trail.specs.Since.{is_variables, is_set, is_about, since_for, since}
 use Rattle.pi_trail.specs.declared.entry.Table.{Table}
-use Rattle.pi_trail.specs.declared.entry.Change.{Change}
 use Rattle.pi_trail.specs.declared.entry.Entry.{Entry}
 use Rattle.pi_trail.proofs.BackLemmas.{trail_once, newest_cut, place_cut, once_cut}
 use Rattle.pi_trail.proofs.ChangeLemmas.{Logs, pushed_logs, replaced_logs, replace_change}

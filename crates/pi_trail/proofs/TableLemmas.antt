@@ -1,5 +1,5 @@
 -- Tables of an image: another table, region or trail leaves the rest.
-use Rattle.std.proofs.Common.{◌≡◌, ℕ, List, take, refl}
+use Rattle.std.proofs.Common.{◌≡◌, ℕ, List, refl}
 use Rattle.pi_trail.specs.Image.{Image, table_in, with_table}
 use Rattle.pi_trail.specs.Back.{cut}
 use Rattle.pi_trail.specs.declared.entry.Table.{Table}

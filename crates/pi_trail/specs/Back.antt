@@ -1,8 +1,7 @@
 -- The way back along the trail: what the words were when the region had a length.
-use Rattle.std.specs.Prelude.{◌≡◌, ℕ, zero, suc, ◌+◌, ◌-◌, ◌*◌, ◌%◌, ◌≤◌, Bool, nat_le, cond, min, List, length, take, slice_index, slice_set}
+use Rattle.std.specs.Prelude.{◌≡◌, ℕ, zero, suc, ◌+◌, ◌-◌, ◌*◌, ◌%◌, ◌≤◌, nat_le, cond, min, List, length, take, slice_index, slice_set}
 use Rattle.pi_trail.specs.Entry.{value_of, entry_of}
 use Rattle.pi_trail.specs.Image.{Image, table_in, with_table, appended}
-use Rattle.pi_trail.specs.declared.entry.Table.{Table}
 use Rattle.pi_trail.specs.declared.entry.Change.{Change}
 use Rattle.pi_trail.specs.declared.entry.Entry.{Entry}
 

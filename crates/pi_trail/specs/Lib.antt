@@ -3,3 +3,4 @@ pub mod Image
 pub mod Back
 pub mod Since
 pub mod History
+pub mod Changes

@@ -2,12 +2,14 @@
 //! what changed.
 #![tactic(auto)]
 
+mod changes;
 mod entry;
 mod history;
 pub mod laws;
 mod trailed;
 mod word_list;
 
+pub use changes::Changes;
 pub use entry::{Table, data, value};
 pub use trailed::Trailed;
 pub use word_list::WordList;

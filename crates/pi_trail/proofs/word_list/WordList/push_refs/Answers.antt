@@ -1,4 +1,4 @@
-use Rattle.std.proofs.Common.{◌≡◌, ◌≤◌, List, ℕ, [], ◌∷◌, ◌++◌, ◌∙◌, length, take, ap, sym, arith, append_assoc}
+use Rattle.std.proofs.Common.{◌≡◌, List, ℕ, [], ◌∷◌, ◌++◌, ◌∙◌, take, ap, arith, append_assoc}
 use Rattle.std.proofs.lemmas.List.{take_all}
 use Rattle.pi_states.specs.declared.store.Ref.{Ref}
 use Rattle.pi_trail.specs.Image.{numbers_of}
