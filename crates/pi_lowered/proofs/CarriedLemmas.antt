@@ -1,20 +1,19 @@
 -- What helpers of an iterator hand on: the names of the loop and the variables of those that it keeps, behind other slots, from clause to clause.
-use Rattle.std.proofs.Common.{◌≡◌, ℕ, zero, suc, ◌+◌, ◌-◌, ◌≤◌, ◌<◌, Bool, true, false, cond, List, [], ◌∷◌, ◌++◌, length, map, refl, sym, ◌∙◌, ap, subst, arith, length-append, append_assoc}
-use Rattle.std.specs.Prelude.{Option, Some, None, option_and_then, option_map, IsSome, is_some, replicate, ⊤, unwrap_or}
+use Rattle.std.proofs.Common.{◌≡◌, ℕ, zero, suc, ◌+◌, ◌-◌, ◌≤◌, ◌<◌, Bool, true, false, cond, List, [], ◌∷◌, ◌++◌, length, map, refl, sym, ◌∙◌, ap, arith, length-append, append_assoc}
+use Rattle.std.specs.Prelude.{Option, Some, None, option_and_then, option_map, IsSome, is_some, replicate}
 use Rattle.std.specs.Str.{bytes_eq}
-use Rattle.std.proofs.lemmas.Bool.{true≢false}
 use Rattle.std.proofs.lemmas.List.{get_or_append_left, get_or-append-add, map-append}
 use Rattle.pi_terms.specs.Tree.{Tree}
 use Rattle.pi_terms.specs.Places.{Places, held}
 use Rattle.pi_meaning.specs.Environment.{Environment, meant}
-use Rattle.pi_names.specs.Texts.{Names, is_among}
+use Rattle.pi_names.specs.Texts.{Names}
 use Rattle.pi_names.specs.Assigning.{narrowed}
 use Rattle.pi_names.proofs.OtherEnvironments.{meant-narrowed}
 use Rattle.pi_lowered.specs.Slots.{SlotNames, unnamed, slot_of, with_value}
 use Rattle.pi_lowered.specs.Loops.{with_values, Loop, loop_slots}
-use Rattle.pi_lowered.proofs.AgreeLemmas.{Room, free_room, text_itself, Grows, by, or_last, finds, slot-among, slot-below, name_at, Agrees, holding, unnamed-still}
-use Rattle.pi_lowered.proofs.HandedLemmas.{entered, entered-long, entered-empty, entered-held, entered-firm, values_from, values-count, values-held}
-use Rattle.pi_lowered.proofs.EnteredLemmas.{slot-values, values-long, values-grow, among-slot, slot-stays, variables_from, variables-within}
+use Rattle.pi_lowered.proofs.AgreeLemmas.{Room, free_room, text_itself, Grows, or_last, finds, slot-among, slot-below, name_at, Agrees, holding, unnamed-still}
+use Rattle.pi_lowered.proofs.HandedLemmas.{entered, entered-long, entered-empty, entered-held, entered-firm, values_from, values-count, values-held, some-long, some-held}
+use Rattle.pi_lowered.proofs.EnteredLemmas.{slot-values, values-long, among-slot, slot-stays, variables_from, variables-within}
 
 -- what is handed on, as the names have it
 pub record Handed (w : Loop) (base : ℕ) (e : Environment) (hs : List Tree) : Type 0 where
@@ -83,15 +82,11 @@ meant-behind name (m ∷ f) e = go (bytes_eq name m.name) (meant-behind name f e
     go true rest = refl
     go false rest = rest
 
-map-length : (us : List Tree) → length (map {B = Option Tree} Some us) ≡ length us
-map-length [] = refl
-map-length (u ∷ us) = ap suc (map-length us)
-
 pub held-front : (us hs : List Tree) (k : ℕ) → k < length us → held (map Some (us ++ hs)) k ≡ held (map Some us) k
-held-front us hs k less = ap (λ (ps : Places). held ps k) (map-append Some us hs) ∙ get_or_append_left (map Some us) (map Some hs) None k (omega (arith, less, map-length us))
+held-front us hs k less = ap (λ (ps : Places). held ps k) (map-append Some us hs) ∙ get_or_append_left (map Some us) (map Some hs) None k (omega (arith, less, some-long us))
 
 pub held-behind : (us hs : List Tree) (k : ℕ) → held (map Some (us ++ hs)) (length us + k) ≡ held (map Some hs) k
-held-behind us hs k = ap (λ (ps : Places). held ps (length us + k)) (map-append Some us hs) ∙ ap (λ (j : ℕ). held (map Some us ++ map Some hs) (j + k)) (sym (map-length us)) ∙ get_or-append-add (map Some us) (map Some hs) k None
+held-behind us hs k = ap (λ (ps : Places). held ps (length us + k)) (map-append Some us hs) ∙ ap (λ (j : ℕ). held (map Some us ++ map Some hs) (j + k)) (sym (some-long us)) ∙ get_or-append-add (map Some us) (map Some hs) k None
 
 -- with slots in front that have what some names have, which hide those that are handed on
 pub clause-agrees : (w : Loop) (base : ℕ) (e : Environment) (hs : List Tree) → Handed w base e hs → (front : SlotNames) (us : List Tree) → length us ≡ length front → (f : Environment) →
@@ -112,11 +107,6 @@ clause-agrees w base e hs handed front us count f fronts n m is = record {
     some-stays None p is = absurd cc
     some-stays (Some t) p is = refl
 
-    is-there : (us : List Tree) (k : ℕ) → k < length us → IsSome (held (map Some us) k)
-    is-there [] k less = absurd (omega (arith, less))
-    is-there (u ∷ us) zero less = refl
-    is-there (u ∷ us) (suc k) less = is-there us k (omega (arith, less))
-
     slot : (name : List ℕ) → bytes_eq name unnamed ≡ false → slot_of name (behind_front w front) ≡ or_last (slot_of name front) (option_map (λ k. length front + k) (slot_of name w.shared))
     slot name named = slot-values w.kept name (front ++ w.shared) named ∙ slot-among name front w.shared
 
@@ -130,7 +120,7 @@ clause-agrees w base e hs handed front us count f fronts n m is = record {
     found name named (Some k) at =
         let less : k < length us = omega (arith, slot-below name front k at, count) in
         let is-k : meant name f ≡ held (map Some us) k = fronts name named ∙ ap (option_and_then (held (map Some us))) at in
-        ap (λ (o : Option Tree). or_last o (meant name e)) is-k ∙ some-stays (held (map Some us) k) (meant name e) (is-there us k less)
+        ap (λ (o : Option Tree). or_last o (meant name e)) is-k ∙ some-stays (held (map Some us) k) (meant name e) (some-held us k less)
         ∙ sym (held-front us hs k less) ∙ sym (entered-held (us ++ hs) m k (omega (arith, less, all, count)))
         ∙ sym (ap (option_and_then (held (entered (us ++ hs) m))) (slot name named ∙ ap (λ (o : Option ℕ). or_last o (option_map (λ k. length front + k) (slot_of name w.shared))) at))
     found name named None at =

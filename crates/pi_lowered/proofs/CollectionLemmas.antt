@@ -1,10 +1,9 @@
 -- What an iterator goes over finds the slots of names that stand before the loop alone, and behind it all slots are as they were.
-use Rattle.std.proofs.Common.{◌≡◌, ℕ, zero, suc, ◌+◌, ◌-◌, ◌≤◌, ◌<◌, Bool, true, false, cond, List, [], ◌∷◌, ◌++◌, length, map, refl, sym, ◌∙◌, ap, subst, arith, length-append, nat_lt}
-use Rattle.std.specs.Prelude.{Option, Some, None, option_and_then, option_map, IsSome, is_some, replicate, slice_set, ◌||◌, ⊤}
+use Rattle.std.proofs.Common.{◌≡◌, ℕ, suc, ◌+◌, ◌≤◌, ◌<◌, Bool, true, false, cond, List, [], ◌∷◌, ◌++◌, length, refl, sym, ◌∙◌, ap, subst, arith, length-append, nat_lt}
+use Rattle.std.specs.Prelude.{Option, Some, None, option_and_then, option_map, IsSome, replicate}
 use Rattle.std.specs.Str.{bytes_eq}
-use Rattle.std.proofs.lemmas.Bool.{true≢false, ltb-false}
+use Rattle.std.proofs.lemmas.Bool.{ltb-false}
 use Rattle.std.proofs.lemmas.Bool.Decides.{Decides-ltb}
-use Rattle.std.proofs.lemmas.List.{length-set}
 use Rattle.pi_terms.specs.Tree.{Tree}
 use Rattle.pi_terms.specs.Places.{Places, held}
 use Rattle.pi_meaning.specs.Environment.{Environment, meant}
@@ -12,15 +11,15 @@ use Rattle.pi_names.specs.Texts.{Names, is_among}
 use Rattle.pi_names.specs.Assigning.{narrowed}
 use Rattle.pi_names.proofs.OtherEnvironments.{meant-narrowed}
 use Rattle.pi_lowered.specs.Slots.{SlotNames, unnamed, slot_of}
-use Rattle.pi_lowered.specs.Iterators.{only, behind_collection}
+use Rattle.pi_lowered.specs.Iterators.{only}
 use Rattle.pi_lowered.proofs.FilledLemmas.{Extends}
-use Rattle.pi_lowered.proofs.AgreeLemmas.{Room, Fixed, text_same, by, or_last, finds, slot-among, name_at, fixed-more, slot-below, set-other, Agrees, holding, is_found, found-slot, agrees-holding, held-still}
+use Rattle.pi_lowered.proofs.AgreeLemmas.{Room, Fixed, text_same, by, or_last, finds, slot-among, name_at, fixed-more, slot-below, Agrees, holding, is_found, found-slot, agrees-holding, held-still}
 use Rattle.pi_lowered.proofs.EnterLemmas.{AllThere}
-use Rattle.pi_lowered.proofs.ElementLemmas.{unnamed-none}
+use Rattle.pi_lowered.proofs.ElementLemmas.{unnamed-none, unnamed-long}
 
 -- ---- names that stand before
 
-only-long : (before : Names) (ns : SlotNames) → length (only before ns) ≡ length ns
+pub only-long : (before : Names) (ns : SlotNames) → length (only before ns) ≡ length ns
 only-long before [] = refl
 only-long before (n ∷ ns) = ap suc (only-long before ns)
 
@@ -120,17 +119,13 @@ pub still-agrees : (n : Room) (h more : ℕ) (ns : SlotNames) (e : Environment) 
 still-agrees n h more ns e slots after a long still empty = record {
   long = long;
   names = λ name named. a.names name named ∙ found name named (slot_of name ns) refl;
-  empty = λ k past. empty k (omega (arith, past, length-append ns (replicate more unnamed), many more));
+  empty = λ k past. empty k (omega (arith, past, length-append ns (replicate more unnamed), unnamed-long more));
   firm = λ k less. subst (λ (o : Option Tree). IsSome o) (sym (still k (firm-below n h ns e slots a k less))) (a.firm k less);
   fixed = λ k t is.
       let f : Fixed k t (ns ++ replicate more unnamed) slots = fixed-more k t ns (ns ++ replicate more unnamed) slots (by (replicate more unnamed)) (a.fixed k t is) in
       record { has = still k (a.fixed k t is).below ∙ f.has; below = f.below; nameless = f.nameless };
 }
   where
-    many : (k : ℕ) → length (replicate {A = List ℕ} k unnamed) ≡ k
-    many zero = refl
-    many (suc k) = ap suc (many k)
-
     none : (name : List ℕ) → bytes_eq name unnamed ≡ false → (k : ℕ) → slot_of name (replicate k unnamed) ≡ None
     none name named k = unnamed-none name k named
 

@@ -1,19 +1,13 @@
 -- An iterator's second helper: an element that matches has its turn, and one that doesn't is passed over.
-use Rattle.std.proofs.Common.{◌≡◌, ℕ, zero, suc, ◌+◌, ◌-◌, ◌≤◌, ◌<◌, Bool, true, false, cond, List, [], ◌∷◌, ◌++◌, length, map, refl, sym, ◌∙◌, ap, subst, arith, length-append, append_assoc}
-use Rattle.std.specs.Prelude.{Option, Some, None, option_and_then, option_map, IsSome, replicate, ⊤, unwrap_or}
+use Rattle.std.proofs.Common.{◌≡◌, ℕ, zero, suc, ◌+◌, ◌-◌, ◌≤◌, ◌<◌, Bool, false, cond, List, [], ◌∷◌, ◌++◌, length, map, refl, sym, ◌∙◌, ap, arith, length-append}
+use Rattle.std.specs.Prelude.{Option, Some, None, option_and_then, option_map, IsSome, replicate, unwrap_or}
 use Rattle.std.specs.Str.{bytes_eq}
-use Rattle.std.proofs.lemmas.List.{map-append}
-use Rattle.pi_terms.specs.Tree.{Tree, comp, Trees, tree, trees_of, tree_count}
+use Rattle.pi_terms.specs.Tree.{Tree, comp, Trees, trees_of}
 use Rattle.pi_terms.specs.Places.{Places, held}
-use Rattle.pi_terms.specs.PatternTree.{pattern}
 use Rattle.pi_states.specs.State.{State, bindings, followed}
-use Rattle.pi_states.specs.HeadMatch.{matched_in, matched_all_in}
 use Rattle.pi_states.specs.Evaluation.{evaluated_all}
-use Rattle.pi_syntax.specs.ExpTree.{ExpTree}
 use Rattle.pi_core.specs.GoalTree.{GoalTree}
-use Rattle.pi_core.specs.CoreTree.{ClauseTree, PredTree}
-use Rattle.pi_traces.specs.Trace.{Trace, end, note, ans, one, then, done}
-use Rattle.pi_traces.specs.Control.{chosen}
+use Rattle.pi_traces.specs.Trace.{Trace, one, then}
 use Rattle.pi_traces.proofs.RelatedLemmas.{Same}
 use Rattle.pi_traces.proofs.TraceLemmas.{then-one, then-assoc}
 use Rattle.pi_traces.proofs.AnswerLemmas.{EachAnswer}
@@ -21,30 +15,25 @@ use Rattle.pi_meaning.specs.Level.{Level, Point}
 use Rattle.pi_meaning.specs.Builtins.{Builtins, predicate_by}
 use Rattle.pi_meaning.specs.Given.{Setting}
 use Rattle.pi_meaning.specs.Meaning.{meaning}
-use Rattle.pi_meaning.specs.Rules.{pred_run, rules, rule_before}
 use Rattle.pi_meaning.specs.Environment.{Environment, meant}
 use Rattle.pi_meaning.specs.Place.{Place}
-use Rattle.pi_names.specs.Texts.{Names}
 use Rattle.pi_names.specs.Assigning.{carried, narrowed}
-use Rattle.pi_names.specs.Heads.{pattern_matched}
 use Rattle.pi_names.specs.Control.{Goal}
-use Rattle.pi_names.specs.Loops.{matched_turn}
 use Rattle.pi_lowered.specs.Slots.{SlotNames, unnamed, slot_of}
-use Rattle.pi_lowered.specs.Values.{SlotPattern, slot_pattern}
-use Rattle.pi_lowered.specs.Forms.{Knows, IsPattern}
+use Rattle.pi_lowered.specs.Values.{SlotPattern}
+use Rattle.pi_lowered.specs.Forms.{Knows}
 use Rattle.pi_lowered.specs.Goals.{SlotGoals, in_turn}
-use Rattle.pi_lowered.specs.Loops.{slots_from, slots_head, with_values, clause_of, Loop, loop_slots}
-use Rattle.pi_lowered.specs.Iterators.{walk_slots, handed, turn_slots, turn_clause, turn_helper}
-use Rattle.pi_lowered.proofs.SameLemmas.{SameBy, same_end, same_note, same_answer, same-then, same-equal, same-equals}
+use Rattle.pi_lowered.specs.Loops.{slots_from, Loop, loop_slots}
+use Rattle.pi_lowered.specs.Iterators.{walk_slots, handed, turn_slots}
+use Rattle.pi_lowered.proofs.SameLemmas.{SameBy, same-then, same-equal, same-equals, same-each-left}
 use Rattle.pi_lowered.proofs.FilledLemmas.{terms_at, all-filled-comes}
-use Rattle.pi_lowered.proofs.AgreeLemmas.{Room, free_room, text_itself, Grows, grows-length, or_last, slot-among, slot-below, Agrees, holding, agrees-holding, unnamed-still}
-use Rattle.pi_lowered.proofs.NewNameLemmas.{agrees-nothing}
-use Rattle.pi_lowered.proofs.HeadLemmas.{AllFirm, Both, neither, both_match, pattern-match, pattern-grows}
+use Rattle.pi_lowered.proofs.AgreeLemmas.{Room, free_room, text_itself, or_last, slot-among, slot-below, Agrees, holding, agrees-holding, unnamed-still}
+use Rattle.pi_lowered.proofs.HeadLemmas.{AllFirm}
 use Rattle.pi_lowered.proofs.RunLemmas.{Alike, point, place, AtPlace, at_place, runs, SameGoals, then-of-one, runs-append, runs-one, turn-runs}
-use Rattle.pi_lowered.proofs.HandedLemmas.{entered, entered-held, head-takes, some-again, values_from, values-count, slots-filled, handed-held}
+use Rattle.pi_lowered.proofs.HandedLemmas.{entered, entered-held, some-again, values_from, slots-filled, handed-held}
 use Rattle.pi_lowered.proofs.EnteredLemmas.{values-long}
-use Rattle.pi_lowered.proofs.CarriedLemmas.{Handed, behind_front, name-at-behind, name-at-unnamed, front-unnamed, held-front, held-behind, clause-agrees, Apart, carried-on}
-use Rattle.pi_lowered.proofs.HelperLemmas.{state_of, HelperCalled, count-trees, called-runs}
+use Rattle.pi_lowered.proofs.CarriedLemmas.{Handed, name-at-behind, name-at-unnamed, front-unnamed, held-front, held-behind, clause-agrees, Apart, carried-on}
+use Rattle.pi_lowered.proofs.HelperLemmas.{state_of, called-runs}
 
 -- ---- states
 
@@ -55,12 +44,6 @@ pub record RootsStay (s r : State) : Type 0 where
 
 pub roots-stay-itself : (s : State) → RootsStay s s
 roots-stay-itself s = record { compounds = λ t f ts is. is; atoms = λ t name is. is }
-
-pub same-each-left : {A B : Type 0} (R : A → B → Type 0) (P : A → Type 0) (t : Trace A) (u : Trace B) → SameBy R t u → EachAnswer P t → SameBy (λ x y. R x y × P x) t u
-unfolding EachAnswer
-same-each-left R P _ _ (same_end e) each = same_end e
-same-each-left R P _ _ (same_note n {t = t} {u = u} a) each = same_note n (same-each-left R P t u a each)
-same-each-left R P _ _ (same_answer {x = x} {y = y} {t = t} {u = u} r a) each = same_answer (r, each.0) (same-each-left R P t u a each.1)
 
 -- ---- slots that a pattern fills
 
@@ -129,6 +112,10 @@ in_front us rest i all = us ++ rest ∷ i ∷ all ∷ []
 
 in-front-long : (us : List Tree) (rest i all : Tree) → length (in_front us rest i all) ≡ length us + 3
 in-front-long us rest i all = length-append us (rest ∷ i ∷ all ∷ []) ∙ omega arith
+
+pub unnamed-long : (k : ℕ) → length (replicate {A = List ℕ} k unnamed) ≡ k
+unnamed-long zero = refl
+unnamed-long (suc k) = ap suc (unnamed-long k)
 
 pub unnamed-none : (name : List ℕ) (k : ℕ) → bytes_eq name unnamed ≡ false → slot_of name (replicate k unnamed) ≡ None
 unfolding slot_of

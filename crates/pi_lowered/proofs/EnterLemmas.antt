@@ -1,42 +1,29 @@
 -- A loop is entered: names that stand before it are handed on, variables are made for those that it keeps, and behind it these stand for them.
-use Rattle.std.proofs.Common.{◌≡◌, ℕ, zero, suc, ◌+◌, ◌≤◌, ◌<◌, Bool, true, false, cond, List, [], ◌∷◌, ◌++◌, length, map, refl, sym, ◌∙◌, ap, subst, arith, length-append, append_assoc}
+use Rattle.std.proofs.Common.{◌≡◌, ℕ, suc, ◌+◌, ◌≤◌, ◌<◌, Bool, true, false, cond, List, [], ◌∷◌, ◌++◌, length, map, refl, sym, ◌∙◌, ap, subst, arith, length-append, append_assoc}
 use Rattle.std.specs.Prelude.{Option, Some, None, option_and_then, option_map, IsSome, is_some, slice_set, ◌==◌, ◌||◌, ⊤, unwrap_or}
 use Rattle.std.specs.Str.{bytes_eq}
 use Rattle.std.proofs.lemmas.Bool.{true≢false}
 use Rattle.std.proofs.lemmas.Bool.Decides.{Decides-eqb}
 use Rattle.std.proofs.lemmas.List.{get_or-set_same}
-use Rattle.pi_terms.specs.Tree.{Tree, Trees, tree, trees_of}
+use Rattle.pi_terms.specs.Tree.{Tree, trees_of}
 use Rattle.pi_terms.specs.Places.{Places, held}
 use Rattle.pi_states.specs.State.{State, next, with_new}
-use Rattle.pi_states.specs.Evaluation.{Evaluated, EvaluatedAll, slot_term, evaluated, evaluated_all, with_new_variables}
+use Rattle.pi_states.specs.Evaluation.{Evaluated, slot_term, evaluated, evaluated_all, with_new_variables}
 use Rattle.pi_states.proofs.KeepsLemmas.{new-next}
-use Rattle.pi_core.specs.GoalTree.{GoalTree}
-use Rattle.pi_traces.specs.Trace.{Trace, end, note, ans, one, then}
-use Rattle.pi_traces.proofs.TraceLemmas.{then-assoc}
-use Rattle.pi_meaning.specs.Level.{Level, Point}
-use Rattle.pi_meaning.specs.Builtins.{Builtins, predicate_by}
-use Rattle.pi_meaning.specs.Given.{Setting}
-use Rattle.pi_meaning.specs.Meaning.{meaning}
-use Rattle.pi_meaning.specs.Environment.{Environment, meant, known, with_name, name_valued}
+use Rattle.pi_meaning.specs.Environment.{Environment, meant, known, name_valued}
 use Rattle.pi_meaning.specs.Place.{Place}
 use Rattle.pi_names.specs.Texts.{Names, is_among}
 use Rattle.pi_names.specs.Assigning.{place_of, with_names, narrowed}
-use Rattle.pi_names.specs.Control.{Goal}
-use Rattle.pi_names.specs.Loops as over_names
 use Rattle.pi_names.specs.Loops.{now}
 use Rattle.pi_lowered.specs.Slots.{SlotNames, unnamed, slot_of, slot_known, slot_or_next, slot_for, with_value}
-use Rattle.pi_lowered.specs.Forms.{Knows}
-use Rattle.pi_lowered.specs.Goals.{SlotGoals}
-use Rattle.pi_lowered.specs.Loops.{slots_from, slots_for_names, with_values, Loop, loop_slots, started, kept_goals, loop_goals}
-use Rattle.pi_lowered.proofs.SameLemmas.{SameBy, same_end, same_note, same_answer, same-then, same-then_same}
+use Rattle.pi_lowered.specs.Loops.{slots_from, slots_for_names, with_values, Loop, loop_slots}
 use Rattle.pi_lowered.proofs.FilledLemmas.{Filled, in_slot, term_at, terms_at, in_front_of, filled-comes}
-use Rattle.pi_lowered.proofs.AgreeLemmas.{Room, text_itself, text_same, or_last, Grows, grows-then, grows-length, slot-below, Agrees, agrees-known, meant-more, set-other, agrees-value}
+use Rattle.pi_lowered.proofs.AgreeLemmas.{Room, text_itself, text_same, or_last, slot-below, Agrees, agrees-known, meant-more, set-other, agrees-value}
 use Rattle.pi_lowered.proofs.NewNameLemmas.{from_known}
-use Rattle.pi_lowered.proofs.RunLemmas.{Alike, point, place, AtPlace, at_place, runs, SameGoals, then-of-one, runs-append}
-use Rattle.pi_lowered.proofs.LoopLemmas.{started-same, closed-places, states_of, kept_environment, InSlots, HasSlot, HaveSlots, kept-same}
+use Rattle.pi_lowered.proofs.LoopLemmas.{InSlots}
 use Rattle.pi_lowered.proofs.HandedLemmas.{entered, some-again}
-use Rattle.pi_lowered.proofs.EnteredLemmas.{values-long, values-grow, among-slot, slot-stays, variables_from, helper_room, entered-agrees}
-use Rattle.pi_lowered.proofs.HelperLemmas.{called-runs, endings, closed-ends, AreAmong}
+use Rattle.pi_lowered.proofs.EnteredLemmas.{values-long, among-slot, variables_from, helper_room, entered-agrees}
+use Rattle.pi_lowered.proofs.HelperLemmas.{AreAmong}
 
 -- ---- names that stand before a loop are there
 
@@ -184,7 +171,7 @@ names-filled n h ns e slots a before (name ∷ names) among there =
     (in_slot (slot_for name ns) (now name e) (ap (λ (o : Option ℕ). held slots (slot_or_next o ns)) k.is ∙ k.holds), names-filled n h ns e slots a before names among.2 there)
 
 -- where a name stands among those, its value does
-values-stand : (names : Names) (e : Environment) (more : List Tree) (name : List ℕ) (k : ℕ) → slot_of name names ≡ Some k → held (map Some (values_now names e ++ more)) k ≡ Some (now name e)
+pub values-stand : (names : Names) (e : Environment) (more : List Tree) (name : List ℕ) (k : ℕ) → slot_of name names ≡ Some k → held (map Some (values_now names e ++ more)) k ≡ Some (now name e)
 unfolding slot_of
 values-stand [] e more name k is = absurd (cc is)
 values-stand (other ∷ names) e more name k is = tested (λ j at. values-stand names e more name j at) (bytes_eq name other) refl (slot_of name names) refl is
@@ -204,7 +191,7 @@ seam-held [] x ys = refl
 seam-held (u ∷ us) x ys = seam-held us x ys
 
 -- and so do the variables behind
-variables-handed : (us : List Tree) (base : ℕ) (names : Names) (k : ℕ) (t : Tree) → variables_from (length us) base names k ≡ Some t → held (map Some (us ++ new_variables base names)) k ≡ Some t
+pub variables-handed : (us : List Tree) (base : ℕ) (names : Names) (k : ℕ) (t : Tree) → variables_from (length us) base names k ≡ Some t → held (map Some (us ++ new_variables base names)) k ≡ Some t
 unfolding variables_from new_variables
 variables-handed us base [] k t is = absurd (cc is)
 variables-handed us base (name ∷ names) k t is = tested (λ at. variables-handed (us ++ Tree.var base ∷ []) (suc base) names k t at) (k == length us) ((Decides-eqb k (length us)).0) is
@@ -224,7 +211,7 @@ unfolding new_variables
 variables-count base [] = refl
 variables-count base (name ∷ names) = ap suc (variables-count (suc base) names)
 
-now-count : (names : Names) (e : Environment) → length (values_now names e) ≡ length names
+pub now-count : (names : Names) (e : Environment) → length (values_now names e) ≡ length names
 now-count [] e = refl
 now-count (name ∷ names) e = ap suc (now-count names e)
 

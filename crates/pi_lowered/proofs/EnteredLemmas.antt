@@ -1,8 +1,7 @@
 -- A turn of a loop begins with slots that have what the names have that it is handed.
-use Rattle.std.proofs.Common.{◌≡◌, ℕ, zero, suc, ◌+◌, ◌≤◌, ◌<◌, Bool, true, false, cond, List, [], ◌∷◌, ◌++◌, length, map, refl, sym, ◌∙◌, ap, subst, arith, length-append, append_assoc}
-use Rattle.std.specs.Prelude.{Option, Some, None, option_and_then, option_map, IsSome, is_some, ◌==◌, ◌||◌, ⊤}
+use Rattle.std.proofs.Common.{◌≡◌, ℕ, suc, ◌+◌, ◌≤◌, ◌<◌, Bool, true, false, cond, List, [], ◌∷◌, length, map, refl, sym, ◌∙◌, ap, arith, length-append}
+use Rattle.std.specs.Prelude.{Option, Some, None, option_and_then, option_map, is_some, ◌==◌, ◌||◌}
 use Rattle.std.specs.Str.{bytes_eq}
-use Rattle.std.proofs.lemmas.Bool.{true≢false}
 use Rattle.std.proofs.lemmas.Bool.Decides.{Decides-eqb}
 use Rattle.pi_terms.specs.Tree.{Tree}
 use Rattle.pi_terms.specs.Places.{Places, held}
@@ -12,7 +11,7 @@ use Rattle.pi_names.specs.Assigning.{narrowed}
 use Rattle.pi_names.proofs.OtherEnvironments.{meant-narrowed}
 use Rattle.pi_lowered.specs.Slots.{SlotNames, unnamed, slot_of, with_value}
 use Rattle.pi_lowered.specs.Loops.{with_values, Loop, loop_slots}
-use Rattle.pi_lowered.proofs.AgreeLemmas.{Room, Fixed, Grows, by, grows-none, grows-then, grows-length, or_last, finds, slot-among, slot-alone, slot-below, Agrees}
+use Rattle.pi_lowered.proofs.AgreeLemmas.{Room, Fixed, Grows, by, grows-none, grows-then, or_last, finds, slot-among, slot-alone, slot-below, Agrees}
 use Rattle.pi_lowered.proofs.LoopLemmas.{InSlots}
 use Rattle.pi_lowered.proofs.HandedLemmas.{entered, entered-long, entered-empty, entered-held, entered-firm, values_from, values-count, handed-held}
 

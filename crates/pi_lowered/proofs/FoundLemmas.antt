@@ -18,7 +18,7 @@ use Rattle.pi_meaning.specs.Level.{Level, Applied, Point}
 use Rattle.pi_meaning.specs.Builtins.{Builtins}
 use Rattle.pi_meaning.specs.Given.{Setting}
 use Rattle.pi_meaning.specs.Meaning.{draining, strictly, slot_value, copyable, collecting, counting, meaning}
-use Rattle.pi_meaning.specs.Environment.{Environment, Valued, ValuedAll}
+use Rattle.pi_meaning.specs.Environment.{Environment, Valued}
 use Rattle.pi_meaning.specs.Place.{Place}
 use Rattle.pi_names.specs.Control.{Goal, Value, all_found, all_counted, strictly as names_strictly}
 use Rattle.pi_lowered.specs.Slots.{SlotNames, unnamed, with_value}

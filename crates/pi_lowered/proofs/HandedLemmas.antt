@@ -1,20 +1,18 @@
 -- What a helper of a loop is handed: values for the slots of its head, by the slots from one on.
-use Rattle.std.proofs.Common.{◌≡◌, ℕ, zero, suc, ◌+◌, ◌≤◌, ◌<◌, Bool, true, false, cond, List, [], ◌∷◌, ◌++◌, length, map, refl, sym, ◌∙◌, ap, subst, arith, length-append, append_assoc, nat_lt}
-use Rattle.std.specs.Prelude.{Option, Some, None, option_and_then, option_map, IsSome, is_some, filter, replicate, slice_set, ⊤, unwrap_or}
-use Rattle.std.specs.Str.{bytes_eq}
+use Rattle.std.proofs.Common.{◌≡◌, ℕ, zero, suc, ◌+◌, ◌≤◌, ◌<◌, List, [], ◌∷◌, ◌++◌, length, map, refl, sym, ◌∙◌, ap, arith, length-append, append_assoc, nat_lt}
+use Rattle.std.specs.Prelude.{Option, Some, None, option_and_then, IsSome, replicate, slice_set, unwrap_or}
 use Rattle.std.proofs.lemmas.Bool.{cond-true}
 use Rattle.std.proofs.lemmas.Bool.Decides.{Decides-ltb}
-use Rattle.std.proofs.lemmas.List.{get_or_append_left, get_or-append-add}
 use Rattle.std.proofs.Math.Seq.{get_or-append_seam}
-use Rattle.pi_terms.specs.Tree.{Tree, Trees, no_trees, tree, trees_of, tree_count}
+use Rattle.pi_terms.specs.Tree.{Tree, trees_of}
 use Rattle.pi_terms.specs.Places.{Places, held}
-use Rattle.pi_terms.specs.PatternTree.{slot, PatternTrees, no_patterns, pattern}
+use Rattle.pi_terms.specs.PatternTree.{slot}
 use Rattle.pi_states.specs.Value.{Bindings}
 use Rattle.pi_states.specs.State.{State}
 use Rattle.pi_states.specs.HeadMatch.{matched_in, matched_all_in, taken_in}
-use Rattle.pi_states.specs.Evaluation.{EvaluatedAll, evaluated_all}
+use Rattle.pi_states.specs.Evaluation.{evaluated_all}
 use Rattle.pi_lowered.specs.Loops.{slots_from, slots_head}
-use Rattle.pi_lowered.proofs.FilledLemmas.{Filled, in_slot, AllFilled, none_filled, one_filled, terms_at, all-filled-comes}
+use Rattle.pi_lowered.proofs.FilledLemmas.{in_slot, AllFilled, none_filled, one_filled, terms_at, all-filled-comes}
 
 -- ---- what a head takes
 
@@ -84,6 +82,16 @@ pub entered-firm : (vs : List Tree) (m k : ℕ) → k < length vs → IsSome (he
 entered-firm [] m k less = absurd (omega (arith, less))
 entered-firm (v ∷ vs) m zero less = refl
 entered-firm (v ∷ vs) m (suc k) less = entered-firm vs m k (omega (arith, less))
+
+-- values as filled slots
+pub some-long : (us : List Tree) → length (map {B = Option Tree} Some us) ≡ length us
+some-long [] = refl
+some-long (u ∷ us) = ap suc (some-long us)
+
+pub some-held : (us : List Tree) (k : ℕ) → k < length us → IsSome (held (map Some us) k)
+some-held [] k less = absurd (omega (arith, less))
+some-held (u ∷ us) zero less = refl
+some-held (u ∷ us) (suc k) less = some-held us k (omega (arith, less))
 
 -- ---- what slots hand on
 

@@ -1,42 +1,40 @@
 -- Calls of a loop's helper: what its clause does, that it is called again, and where the loop ends.
-use Rattle.std.proofs.Common.{◌≡◌, ℕ, zero, suc, ◌+◌, ◌≤◌, ◌<◌, Bool, true, false, cond, List, [], ◌∷◌, ◌++◌, length, refl, sym, ◌∙◌, ap, subst, arith}
-use Rattle.std.specs.Prelude.{Option, Some, None, option_and_then, IsSome, is_some, replicate, ⊤, unwrap_or, codes}
+use Rattle.std.proofs.Common.{◌≡◌, ℕ, suc, ◌+◌, ◌<◌, Bool, true, false, cond, List, [], ◌∷◌, length, refl, sym, ◌∙◌, ap}
+use Rattle.std.specs.Prelude.{Option, Some, None, option_and_then, IsSome, is_some, replicate, ⊤, unwrap_or}
 use Rattle.std.specs.Str.{bytes_eq}
 use Rattle.std.proofs.lemmas.Bool.{true≢false}
-use Rattle.pi_terms.specs.Tree.{Tree, Trees, tree, trees_of, tree_count}
+use Rattle.pi_terms.specs.Tree.{Tree, Trees, trees_of, tree_count}
 use Rattle.pi_terms.specs.Places.{Places, held}
 use Rattle.pi_states.specs.State.{State, bindings}
 use Rattle.pi_states.specs.HeadMatch.{matched_all_in}
 use Rattle.pi_states.specs.Evaluation.{EvaluatedAll, evaluated_all}
 use Rattle.pi_states.specs.Unify.{unified}
 use Rattle.pi_core.specs.GoalTree.{GoalTree}
-use Rattle.pi_core.specs.CoreTree.{ClauseTree, PredTree}
+use Rattle.pi_core.specs.CoreTree.{PredTree}
 use Rattle.pi_traces.specs.Trace.{Trace, end, note, ans, Done, one, then, done}
 use Rattle.pi_traces.specs.Control.{chosen}
 use Rattle.pi_traces.proofs.TraceLemmas.{then-one, then-assoc}
 use Rattle.pi_meaning.specs.Settle.{settled_from}
-use Rattle.pi_meaning.specs.Level.{Level, lowest, over, Calls, calls_at, lower, Point}
+use Rattle.pi_meaning.specs.Level.{Level, Point}
 use Rattle.pi_meaning.specs.Builtins.{Builtins, predicate_by}
 use Rattle.pi_meaning.specs.Given.{Setting}
 use Rattle.pi_meaning.specs.Meaning.{calling, meaning}
 use Rattle.pi_meaning.specs.Rules.{pred_run, rules, rule_before}
-use Rattle.pi_meaning.specs.Environment.{Environment, meant}
+use Rattle.pi_meaning.specs.Environment.{Environment}
 use Rattle.pi_meaning.specs.Place.{Place}
 use Rattle.pi_names.specs.Texts.{Names, is_among}
 use Rattle.pi_names.specs.Assigning.{with_value}
-use Rattle.pi_names.specs.Control.{Goal}
 use Rattle.pi_names.specs.Loops as over_names
 use Rattle.pi_names.specs.Loops.{now}
 use Rattle.pi_lowered.specs.Slots.{SlotNames, unnamed, slot_of, slot_or_next, slot_for}
 use Rattle.pi_lowered.specs.Forms.{Knows}
-use Rattle.pi_lowered.specs.Goals.{SlotGoals}
 use Rattle.pi_lowered.specs.Loops.{slots_from, slots_head, as_it_is, closing, clause_of, helper, Loop, loop_slots, again}
 use Rattle.pi_lowered.proofs.FilledLemmas.{terms_at}
 use Rattle.pi_lowered.proofs.AgreeLemmas.{Room, Grows, Agrees, slot-below}
-use Rattle.pi_lowered.proofs.RunLemmas.{Alike, point, place, runs, SameGoals, then-of-one, runs-one, not-drained}
+use Rattle.pi_lowered.proofs.RunLemmas.{Alike, point, place, runs, then-of-one, runs-one, not-drained}
 use Rattle.pi_lowered.proofs.ControlLemmas.{Drains}
 use Rattle.pi_lowered.proofs.LoopLemmas.{Stand, closing-same, states_of, InSlots}
-use Rattle.pi_lowered.proofs.HandedLemmas.{entered, head-entered, some-again, values_from, values-count, slots-come}
+use Rattle.pi_lowered.proofs.HandedLemmas.{entered, head-entered, some-again, values_from, slots-come}
 use Rattle.pi_lowered.proofs.EnteredLemmas.{among-slot, slot-values, slot-stays}
 
 -- of a call only the state counts

@@ -31,6 +31,13 @@ pub mod WalkArrays
 pub mod WalkTurns
 pub mod StayLemmas
 pub mod CollectionLemmas
+pub mod IteratorLemmas
+pub mod WholeIterators
+pub mod LoopTexts
+pub mod RootGoals
+pub mod RootRules
+pub mod RootNames
+pub mod RootUnify
 pub mod TurnLevels
 pub mod HeadLemmas
 pub mod RuleLemmas

@@ -1,6 +1,6 @@
 -- Loops with their helpers, worked out: at each of these depths a query does what the goal does over its names.
-use Rattle.std.proofs.Common.{◌≡◌, ℕ, suc, List, [], ◌∷◌, ◌++◌, length, refl}
-use Rattle.std.specs.Prelude.{pos, true, false, Some, None, codes}
+use Rattle.std.proofs.Common.{◌≡◌, ℕ, List, [], ◌∷◌, ◌++◌, refl}
+use Rattle.std.specs.Prelude.{pos, false, Some, codes}
 use Rattle.pi_terms.specs.Tree.{Tree, tree_count, cells}
 use Rattle.pi_terms.specs.Order.{order}
 use Rattle.pi_terms.specs.Variables.{occurrences, firsts}
@@ -66,12 +66,12 @@ use Rattle.pi_names.specs.Rules.{modes_named, rules_called, facts_called, functi
 use Rattle.pi_names.specs.Prelude.{prelude, calls, exps, v, equal, all}
 use Rattle.pi_names.specs.Run.{names_from, names_trace, answer_names}
 use Rattle.pi_lowered.specs.Slots.{SlotNames, slot_of, slot_for, named_slots, slots_behind}
-use Rattle.pi_lowered.specs.Values.{SlotValue, slot_term, slot_terms, is_flat, is_below, slot_pattern, as_it_stands}
+use Rattle.pi_lowered.specs.Values.{SlotValue, slot_term, is_flat, is_below, slot_pattern, as_it_stands}
 use Rattle.pi_lowered.specs.Goals as slots
 use Rattle.pi_lowered.specs.Goals.{SlotGoals, made}
 use Rattle.pi_lowered.specs.Lowered.{query_of}
 use Rattle.pi_lowered.specs.Laws.{query_from}
-use Rattle.pi_lowered.specs.Loops.{Loop, Ending, as_it_is, in_order, slots_from, slots_head, with_values, closing, closing_slots, as_written, kept_goals, while_helper, do_helper, loop_goals}
+use Rattle.pi_lowered.specs.Loops.{Loop, as_it_is, in_order, slots_from, slots_head, with_values, closing, closing_slots, as_written, kept_goals, while_helper, do_helper, loop_goals}
 use Rattle.pi_lowered.specs.Iterators.{turn_helper, element_helper, iterator_goals}
 
 -- ---- both meanings

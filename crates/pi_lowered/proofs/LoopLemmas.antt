@@ -1,12 +1,12 @@
 -- Parts of loops do over slots what they do over names: what is there when a loop starts, where it ends, and what stands behind it.
-use Rattle.std.proofs.Common.{◌≡◌, ℕ, zero, suc, ◌+◌, ◌≤◌, ◌<◌, true, false, List, [], ◌∷◌, ◌++◌, length, refl, sym, ◌∙◌, ap, subst, arith}
+use Rattle.std.proofs.Common.{◌≡◌, ℕ, suc, ◌+◌, ◌≤◌, ◌<◌, true, List, [], ◌∷◌, length, refl, sym, ◌∙◌, ap, subst, arith}
 use Rattle.std.specs.Prelude.{Option, Some, None, slice_set, pos, codes, ⊤}
 use Rattle.pi_terms.specs.Tree.{Tree, Trees, no_trees, tree, trees_of, tree_count, comp}
 use Rattle.pi_terms.specs.Places.{Places, held}
 use Rattle.pi_print.specs.PrintTerm.{array_name}
 use Rattle.pi_states.specs.State.{State, bindings}
 use Rattle.pi_states.specs.Unify.{unified}
-use Rattle.pi_states.specs.Evaluation.{EvaluatedAll, evaluated_all}
+use Rattle.pi_states.specs.Evaluation.{EvaluatedAll}
 use Rattle.pi_effects.specs.Effect.{succeeds_in}
 use Rattle.pi_effects.specs.Indexing.{index_name}
 use Rattle.pi_syntax.specs.ExpTree.{ExpTrees, array}
@@ -35,7 +35,7 @@ use Rattle.pi_lowered.specs.Loops.{as_it_is, closing, as_written, started, kept_
 use Rattle.pi_lowered.proofs.SameLemmas.{SameBy, same-one, same-then}
 use Rattle.pi_lowered.proofs.FilledLemmas.{in_slot, is_int, is_comp, one_filled, none_filled, all-filled-comes}
 use Rattle.pi_lowered.proofs.AgreeLemmas.{Room, Grows, Agrees, set-other, agrees-assigned}
-use Rattle.pi_lowered.proofs.RunLemmas.{Alike, point, place, AtPlace, at_place, AtFilled, at_filled, runs, SameFilled, then-of-one, runs-one, not-drained}
+use Rattle.pi_lowered.proofs.RunLemmas.{Alike, point, place, AtPlace, at_place, AtFilled, at_filled, runs, SameFilled, then-of-one, not-drained}
 use Rattle.pi_lowered.proofs.BuiltInLemmas.{equals-called, equals-known, first-item-called, item-known}
 use Rattle.pi_lowered.proofs.TouchLemmas.{flat-filled}
 

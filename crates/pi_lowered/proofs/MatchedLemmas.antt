@@ -1,17 +1,14 @@
 -- An iterator's second helper, called with an element: it matches and has its turn, or is passed over.
-use Rattle.std.proofs.Common.{◌≡◌, ℕ, zero, suc, ◌+◌, ◌-◌, ◌≤◌, ◌<◌, Bool, true, false, cond, List, [], ◌∷◌, ◌++◌, length, map, refl, sym, ◌∙◌, ap, subst, arith, length-append, append_assoc}
-use Rattle.std.specs.Prelude.{Option, Some, None, option_and_then, option_map, IsSome, replicate, ⊤, unwrap_or}
+use Rattle.std.proofs.Common.{◌≡◌, ℕ, suc, ◌+◌, ◌-◌, ◌≤◌, false, List, [], ◌∷◌, ◌++◌, length, map, refl, sym, ◌∙◌, ap, subst, arith, length-append, append_assoc}
+use Rattle.std.specs.Prelude.{Option, Some, None, option_and_then, replicate}
 use Rattle.std.specs.Str.{bytes_eq}
 use Rattle.std.proofs.lemmas.List.{map-append}
-use Rattle.pi_terms.specs.Tree.{Tree, Trees, no_trees, tree, trees_of, tree_count}
+use Rattle.pi_terms.specs.Tree.{Tree, tree, trees_of}
 use Rattle.pi_terms.specs.Places.{Places, held}
-use Rattle.pi_terms.specs.PatternTree.{pattern}
 use Rattle.pi_states.specs.State.{State, bindings}
 use Rattle.pi_states.specs.HeadMatch.{matched_in, matched_all_in}
-use Rattle.pi_states.specs.Evaluation.{evaluated_all}
 use Rattle.pi_syntax.specs.ExpTree.{ExpTree}
 use Rattle.pi_core.specs.GoalTree.{GoalTree}
-use Rattle.pi_core.specs.CoreTree.{ClauseTree, PredTree}
 use Rattle.pi_traces.specs.Trace.{Trace, one, then, done}
 use Rattle.pi_traces.specs.Control.{chosen}
 use Rattle.pi_traces.proofs.TraceLemmas.{then-one, then-assoc}
@@ -31,15 +28,15 @@ use Rattle.pi_lowered.specs.Forms.{Knows, IsPattern}
 use Rattle.pi_lowered.specs.Goals.{SlotGoals}
 use Rattle.pi_lowered.specs.Loops.{slots_from, slots_head, clause_of, Loop, loop_slots}
 use Rattle.pi_lowered.specs.Iterators.{handed, turn_slots, turn_clause, turn_helper}
-use Rattle.pi_lowered.proofs.FilledLemmas.{AllFilled, none_filled, one_filled, in_slot, terms_at, all-filled-comes}
-use Rattle.pi_lowered.proofs.AgreeLemmas.{free_room, Grows, grows-length, slot-below}
+use Rattle.pi_lowered.proofs.FilledLemmas.{AllFilled, none_filled, one_filled, in_slot, all-filled-comes}
+use Rattle.pi_lowered.proofs.AgreeLemmas.{free_room, grows-length, slot-below}
 use Rattle.pi_lowered.proofs.NewNameLemmas.{agrees-nothing}
 use Rattle.pi_lowered.proofs.HeadLemmas.{Both, neither, both_match, pattern-match}
 use Rattle.pi_lowered.proofs.RunLemmas.{point, place, then-of-one}
 use Rattle.pi_lowered.proofs.ControlLemmas.{Drains}
-use Rattle.pi_lowered.proofs.HandedLemmas.{entered, empties-stand, entered-held, head-takes, head-entered, values_from, values-count}
-use Rattle.pi_lowered.proofs.EnteredLemmas.{values-long, values-grow}
-use Rattle.pi_lowered.proofs.CarriedLemmas.{Handed, behind_front, held-front, Apart}
+use Rattle.pi_lowered.proofs.HandedLemmas.{entered, empties-stand, head-takes, head-entered, values_from, values-count, some-long}
+use Rattle.pi_lowered.proofs.EnteredLemmas.{values-long}
+use Rattle.pi_lowered.proofs.CarriedLemmas.{Handed, Apart}
 use Rattle.pi_lowered.proofs.HelperLemmas.{state_of, HelperCalled, count-trees, called-runs}
 use Rattle.pi_lowered.proofs.ElementLemmas.{roots-stay-itself, matched-slots, held-again, turn_front, TurnSame, handed-long, front-long, walked, asks, in_front, turn-goes-on}
 
@@ -141,11 +138,7 @@ turn-answer known set b w e0 body others lb l k same apart base ends e hs rest i
         ∙ ap Some (sym (append_assoc (map Some us) (map Some vs) (replicate m None)) ∙ ap (λ (ps : Places). ps ++ replicate m None) (sym (map-append Some us vs) ∙ ap (map Some) (sym (append_assoc us (rest ∷ i ∷ all ∷ []) hs))))
       where
         many : length (map {B = Option Tree} Some (values_from 0 (length (slot_pattern e0 []).names) slots)) ≡ length (slot_pattern e0 []).names
-        many = length-map us ∙ values-count 0 (length p.names) slots
-          where
-            length-map : (us : List Tree) → length (map {B = Option Tree} Some us) ≡ length us
-            length-map [] = refl
-            length-map (u ∷ us) = ap suc (length-map us)
+        many = some-long us ∙ values-count 0 (length p.names) slots
 
         room : n - length (slot_pattern e0 []).names ≡ length (walked rest i all hs) + (n - (length (turn_front (slot_pattern e0 [])) + length (loop_slots w)))
         room = omega (arith, wide, front-long p, given.count)

@@ -1,8 +1,8 @@
 -- Numbers of items: where the number of all and one more is an integer, each number up to it has a next one.
-use Rattle.std.proofs.Common.{◌≡◌, ℕ, zero, suc, ◌+◌, ◌≤◌, ◌<◌, Bool, true, false, cond, refl, sym, ◌∙◌, ap, arith, nat_lt}
-use Rattle.std.specs.Prelude.{ℤ, ◌^◌, pos, neg_ℤ, int_lt, int_le, ◌+ℤ◌, ◌&&◌, if◌then◌else◌, Result, Ok, Err}
+use Rattle.std.proofs.Common.{◌≡◌, ℕ, suc, ◌≤◌, Bool, true, false, refl, sym, ◌∙◌, ap, arith, nat_lt}
+use Rattle.std.specs.Prelude.{ℤ, ◌^◌, pos, int_lt, if◌then◌else◌, Ok, Err}
 use Rattle.std.proofs.lemmas.Bool.Decides.{Decides-ltb}
-use Rattle.pi_arith.specs.Range.{Outcome, has_128_bits, bounded}
+use Rattle.pi_arith.specs.Range.{has_128_bits, bounded}
 use Rattle.pi_arith.specs.Value.{value_of}
 use Rattle.pi_arith.specs.declared.fault.ArithFault.TheVariants.{Overflow}
 use Rattle.pi_arith.specs.declared.operation.Op.TheVariants.{Add}

@@ -4,6 +4,7 @@ use Rattle.pi_terms.specs.Tree.{Tree}
 use Rattle.pi_traces.specs.Trace.{Trace, end, note, ans, End, Done, Raise, Note, one, alt, then, first}
 use Rattle.pi_traces.specs.Control.{negated, chosen, collected, counted, caught}
 use Rattle.pi_traces.proofs.RelatedLemmas.{Same, same}
+use Rattle.pi_traces.proofs.AnswerLemmas.{EachAnswer}
 
 pub data SameBy {A B : Type 0} (R : A → B → Type 0) : Trace A → Trace B → Type 0 where
   same_end : (e : End) → SameBy R (end e) (end e)
@@ -102,3 +103,16 @@ follow-same S f g b _ _ (same x) = b x
 pub same-then_same : {A C D : Type 0} (S : C → D → Type 0) (t t' : Trace A) (f : A → Trace C) (g : A → Trace D) →
     t ≡ t' → ((x : A) → SameBy S (f x) (g x)) → SameBy S (then t f) (then t' g)
 same-then_same S t t' f g e b = same-then Same S t t' f g (same-equals t t' e) (follow-same S f g b)
+
+-- with what holds of each answer of one of them
+pub same-each : {A B : Type 0} (R : A → B → Type 0) (P : B → Type 0) (t : Trace A) (u : Trace B) → SameBy R t u → EachAnswer P u → SameBy (λ x y. R x y × P y) t u
+unfolding EachAnswer
+same-each R P _ _ (same_end e) each = same_end e
+same-each R P _ _ (same_note n {t = t} {u = u} a) each = same_note n (same-each R P t u a each)
+same-each R P _ _ (same_answer {x = x} {y = y} {t = t} {u = u} r a) each = same_answer (r, each.0) (same-each R P t u a each.1)
+
+pub same-each-left : {A B : Type 0} (R : A → B → Type 0) (P : A → Type 0) (t : Trace A) (u : Trace B) → SameBy R t u → EachAnswer P t → SameBy (λ x y. R x y × P x) t u
+unfolding EachAnswer
+same-each-left R P _ _ (same_end e) each = same_end e
+same-each-left R P _ _ (same_note n {t = t} {u = u} a) each = same_note n (same-each-left R P t u a each)
+same-each-left R P _ _ (same_answer {x = x} {y = y} {t = t} {u = u} r a) each = same_answer (r, each.0) (same-each-left R P t u a each.1)

@@ -1,8 +1,8 @@
 -- What a term is followed to stays where bindings are only added, as by new variables.
-use Rattle.std.proofs.Common.{◌≡◌, ℕ, zero, suc, ◌+◌, ◌≤◌, ◌<◌, List, [], ◌∷◌, ◌++◌, length, map, refl, sym, ◌∙◌, ap, subst, arith}
+use Rattle.std.proofs.Common.{◌≡◌, ℕ, zero, suc, ◌≤◌, [], ◌∷◌, ◌++◌, length, refl, sym, ◌∙◌, ap, subst, arith}
 use Rattle.std.specs.Prelude.{Option, Some, None, ⊤, unwrap_or}
 use Rattle.std.proofs.lemmas.List.{length-append, map-append}
-use Rattle.pi_terms.specs.Tree.{Tree, var, int, atom, comp, Trees}
+use Rattle.pi_terms.specs.Tree.{Tree, var, int, atom, comp}
 use Rattle.pi_terms.specs.Places.{Places, held}
 use Rattle.pi_states.specs.Value.{Bindings}
 use Rattle.pi_states.specs.State.{State, free, binding, bindings, followed_for, followed, with_new}
@@ -10,7 +10,7 @@ use Rattle.pi_states.specs.Evaluation.{with_new_variables}
 use Rattle.pi_lowered.proofs.ElementLemmas.{RootsStay, roots-stay-itself}
 
 -- no variable
-abbrev IsRooted : Tree → Type 0
+abbrev pub IsRooted : Tree → Type 0
 IsRooted (var n) = ⊥
 IsRooted (int n) = ⊤
 IsRooted (atom name) = ⊤
@@ -28,7 +28,7 @@ rooted-itself (suc k) c (int n) is = refl
 rooted-itself (suc k) c (atom name) is = refl
 rooted-itself (suc k) c (comp name ts) is = refl
 
-unbound-itself : (k : ℕ) (b : Bindings) (n : ℕ) → held b n ≡ None → followed_for k b (var n) ≡ var n
+pub unbound-itself : (k : ℕ) (b : Bindings) (n : ℕ) → held b n ≡ None → followed_for k b (var n) ≡ var n
 unfolding followed_for
 unbound-itself zero b n is = refl
 unbound-itself (suc k) b n is = ap (λ (o : Option Tree). followed_for k b (unwrap_or o (var n))) is ∙ unbound-itself k b n is
@@ -62,7 +62,7 @@ held-more (x ∷ xs) ys zero u is = is
 held-more (x ∷ xs) ys (suc n) u is = held-more xs ys n u is
 
 -- one more variable binds nothing
-new-stays : (s : State) → RootsStay s (with_new s)
+pub new-stays : (s : State) → RootsStay s (with_new s)
 new-stays s = roots-stay s (with_new s) (subst (λ (bs : Bindings). length (bindings s) ≤ length bs) (sym (map-append binding s.variables (free ∷ []))) (omega (arith, length-append (bindings s) (None ∷ []))))
     (λ n u is. subst (λ (bs : Bindings). held bs n ≡ Some u) (sym (map-append binding s.variables (free ∷ []))) (held-more (bindings s) (None ∷ []) n u is))
 

@@ -1,13 +1,13 @@
 -- The levels of a loop's turns, at each depth: where so many quiet calls may nest that its helper can be called, and what stands in a turn does the same at the level inside, the loop has its turns.
-use Rattle.std.proofs.Common.{◌≡◌, ℕ, zero, suc, ◌+◌, ◌≤◌, true, false, List, [], ◌∷◌, length, refl, sym, ◌∙◌, ap, subst, arith}
+use Rattle.std.proofs.Common.{◌≡◌, ℕ, zero, suc, ◌+◌, ◌≤◌, true, false, List, length, refl, sym, ◌∙◌, ap, subst, arith}
 use Rattle.std.specs.Prelude.{Option, Some, None}
 use Rattle.pi_terms.specs.Tree.{Trees, tree_count}
 use Rattle.pi_states.specs.State.{State}
 use Rattle.pi_core.specs.CoreTree.{PredTree, find_pred}
 use Rattle.pi_syntax.specs.ProgramTree.{ProgramTree}
 use Rattle.pi_traces.specs.Trace.{Trace}
-use Rattle.pi_meaning.specs.Level.{Level, lowest, over, lower, or_called}
-use Rattle.pi_meaning.specs.Builtins.{Builtins, predicate_by}
+use Rattle.pi_meaning.specs.Level.{Level, lower, or_called}
+use Rattle.pi_meaning.specs.Builtins.{Builtins}
 use Rattle.pi_meaning.specs.Rules.{call_run, entered, pred_run, calls_of, quiet_level, level_at}
 use Rattle.pi_names.specs.Stages.{RulesSetting}
 use Rattle.pi_names.specs.Rules.{calls_by, level_for}
@@ -16,6 +16,7 @@ use Rattle.pi_lowered.proofs.RunLemmas.{Alike}
 use Rattle.pi_lowered.proofs.LevelLemmas.{Fixed, SameDepths, both_lowest, both_over, quiet-same, depths-same}
 use Rattle.pi_lowered.proofs.HelperLemmas.{HelperCalled}
 use Rattle.pi_lowered.proofs.WhileLemmas.{Turns, last_turn, one_more}
+use Rattle.pi_lowered.proofs.WalkTurns.{Walks, last_walk, next_walk}
 
 -- the level of a depth at which so many quiet calls may still nest
 unfoldable pub core_level : Builtins → List PredTree → ℕ → ℕ → Level
@@ -105,3 +106,26 @@ levels-same known set b program preds fixed (suc d) k few =
     let same : SameDepths known (quiet_level b preds (Some (level_at b preds d)) k) _ =
     quiet-same known set b program preds fixed (Some (level_at b preds d)) (Some (level_for set program d)) (both_over (level_at b preds d) (level_for set program d) below.levels below.core below.names) k in
     fixed.alike _ _ same.levels same.core same.names
+
+-- A walk has its levels, where two quiet calls more may nest: the second helper calls the first one again.
+pub walks-at : (b : Builtins) (preds : List PredTree) (set : RulesSetting) (program : ProgramTree) (h t : PredTree) → HasHelper b preds h → HasHelper b preds t → (At : Level → Level → Type 0) (rank : ℕ) → suc (suc rank) ≤ length preds → EachLevel b preds set program At rank →
+    EachLevel b preds set program (Walks b h t At) (suc rank)
+unfolding level_for
+walks-at b preds set program h t has second At rank fits each d zero less = absurd (omega (arith, less))
+walks-at b preds set program h t has second At rank fits each zero (suc k) less =
+    last_walk (core_level b preds zero (suc k)) (core_level b preds zero k) (calls_by set program None) (helper-called-at b preds h has zero k) (lowest-level b preds k) (each zero k (omega (arith, less)))
+walks-at b preds set program h t has second At rank fits each (suc d) (suc k) less = inside (quiet_calls preds d) refl (λ j few. walks-at b preds set program h t has second At rank fits each d j few)
+  where
+    enough : (e : ℕ) → suc (suc rank) ≤ quiet_calls preds e
+    enough zero = fits
+    enough (suc e) = omega (arith, fits)
+
+    inside : (n : ℕ) → quiet_calls preds d ≡ n → ((j : ℕ) → suc rank ≤ j → Walks b h t At (core_level b preds d j) (level_for set program d)) → Walks b h t At (core_level b preds (suc d) (suc k)) (level_for set program (suc d))
+    inside zero is walks = absurd (omega (arith, is, enough d))
+    inside (suc n) is walks =
+        next_walk (core_level b preds (suc d) (suc k)) (core_level b preds (suc d) k) (level_at b preds d) (core_level b preds d n) (calls_by set program (Some (level_for set program d))) (level_for set program d) (helper-called-at b preds h has (suc d) k)
+        (lower-level b preds d k) (each (suc d) k (omega (arith, less))) (subst (λ (l : Level). At l (level_for set program d)) (sym there) (each d (suc n) (omega (arith, is, enough d))))
+        (subst (λ (l : Level). HelperCalled b l t (core_level b preds d n)) (sym there) (helper-called-at b preds t second d n)) (each d n (omega (arith, is, enough d))) (walks n (omega (arith, is, enough d)))
+      where
+        there : level_at b preds d ≡ core_level b preds d (suc n)
+        there = level-is b preds d ∙ ap (core_level b preds d) is

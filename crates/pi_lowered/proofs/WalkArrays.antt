@@ -1,13 +1,13 @@
 -- An array is walked by an index.
-use Rattle.std.proofs.Common.{◌≡◌, ℕ, zero, suc, ◌+◌, ◌-◌, ◌≤◌, ◌<◌, Bool, true, false, cond, List, [], ◌∷◌, ◌++◌, length, map, refl, sym, ◌∙◌, ap, subst, arith, length-append, nat_lt}
-use Rattle.std.specs.Prelude.{ℤ, Option, Some, None, Ok, IsSome, replicate, slice_set, slice_get, pos, int_lt, ⊤, codes, unwrap_or}
+use Rattle.std.proofs.Common.{◌≡◌, ℕ, suc, ◌+◌, ◌-◌, ◌≤◌, ◌<◌, Bool, true, false, cond, List, [], ◌∷◌, ◌++◌, length, refl, ◌∙◌, ap, subst, arith, length-append, nat_lt}
+use Rattle.std.specs.Prelude.{ℤ, Some, None, Ok, replicate, slice_set, slice_get, pos, int_lt, codes}
 use Rattle.std.proofs.lemmas.Bool.{cond-true, cond-false}
 use Rattle.std.proofs.lemmas.Bool.Decides.{Decides-ltb}
 use Rattle.std.proofs.lemmas.List.{length-set, get_or-set_same}
 use Rattle.pi_terms.specs.Tree.{Tree, comp, Trees, no_trees, tree, trees_of, tree_count}
 use Rattle.pi_terms.specs.Places.{Places, held}
 use Rattle.pi_states.specs.State.{State, bindings, followed}
-use Rattle.pi_states.specs.Evaluation.{EvaluatedAll, evaluated_all}
+use Rattle.pi_states.specs.Evaluation.{EvaluatedAll}
 use Rattle.pi_print.specs.PrintTerm.{array_name}
 use Rattle.pi_arith.specs.Value.{value_of}
 use Rattle.pi_arith.specs.declared.operation.Op.TheVariants.{Add}
@@ -19,17 +19,15 @@ use Rattle.pi_core.specs.GoalTree.{GoalTree}
 use Rattle.pi_traces.specs.Trace.{Trace, end, note, Deep, Tick, one, then, done}
 use Rattle.pi_traces.specs.Control.{chosen}
 use Rattle.pi_traces.proofs.TraceLemmas.{then-one, then-assoc}
-use Rattle.pi_meaning.specs.Level.{Level, Applied, lower, calls_at, Point}
+use Rattle.pi_meaning.specs.Level.{Level, Applied, lower, Point}
 use Rattle.pi_meaning.specs.Builtin.{function_trace}
 use Rattle.pi_meaning.specs.Builtins.{Builtins, predicate_by, function_by}
 use Rattle.pi_meaning.specs.Given.{Setting}
-use Rattle.pi_meaning.specs.Meaning.{calling, applying, meaning, strictly, draining}
+use Rattle.pi_meaning.specs.Meaning.{applying, meaning, strictly, draining}
 use Rattle.pi_meaning.specs.Environment.{Environment}
-use Rattle.pi_meaning.specs.Place.{Place}
-use Rattle.pi_lowered.specs.Slots.{SlotNames, unnamed}
+use Rattle.pi_lowered.specs.Slots.{unnamed}
 use Rattle.pi_lowered.specs.Forms.{Knows}
-use Rattle.pi_lowered.specs.Goals.{in_turn}
-use Rattle.pi_lowered.specs.Loops.{as_it_is, slots_from, closing, closing_slots, Loop, loop_slots}
+use Rattle.pi_lowered.specs.Loops.{as_it_is, slots_from, closing_slots, Loop, loop_slots}
 use Rattle.pi_lowered.specs.Iterators.{walk_slots, handed, end_slots, array_clause, element_helper}
 use Rattle.pi_lowered.proofs.FilledLemmas.{AllFilled, none_filled, one_filled, in_slot, is_int, Extends, extends-then, set-keeps, all-filled-more, all-filled-comes}
 use Rattle.pi_lowered.proofs.AgreeLemmas.{set-other}

@@ -1,16 +1,15 @@
 -- The calls by which a walk goes on: how many items there are, the next number, whether that is past the last one, and the item of a number.
-use Rattle.std.proofs.Common.{◌≡◌, ℕ, zero, suc, ◌+◌, ◌≤◌, ◌<◌, Bool, true, false, cond, List, [], ◌∷◌, length, refl, sym, ◌∙◌, ap, subst, arith}
-use Rattle.std.specs.Prelude.{ℤ, Option, Some, None, Ok, Err, pos, codes, int_lt, ◌||◌, IsTrue, slice_get}
+use Rattle.std.proofs.Common.{◌≡◌, ℕ, suc, Bool, true, false, cond, List, refl, ◌∙◌, ap}
+use Rattle.std.specs.Prelude.{ℤ, Option, Some, Ok, pos, codes, int_lt, ◌||◌, IsTrue, slice_get}
 use Rattle.std.specs.Option.{option_or}
-use Rattle.pi_terms.specs.Tree.{Tree, var, int, comp, Trees, no_trees, tree}
+use Rattle.pi_terms.specs.Tree.{Tree, int, comp, Trees, no_trees, tree}
 use Rattle.pi_states.specs.State.{State, bindings, followed}
 use Rattle.pi_states.proofs.FollowLemmas.{followed_other}
 use Rattle.pi_print.specs.PrintTerm.{array_name}
 use Rattle.pi_arith.specs.Value.{value_of}
 use Rattle.pi_arith.specs.declared.operation.Op.TheVariants.{Add}
-use Rattle.pi_effects.specs.Effect.{FunctionEffect}
 use Rattle.pi_effects.specs.Answer.{Answer, found_or, or_raised, integer_at, integer_then}
-use Rattle.pi_effects.specs.Items.{each_tree, array_parts, structure_parts, list_items}
+use Rattle.pi_effects.specs.Items.{each_tree, structure_parts, list_items}
 use Rattle.pi_effects.specs.Exception.{type_error, bad_index}
 use Rattle.pi_effects.specs.Rows.{done_by, has_line}
 use Rattle.pi_effects.specs.Integers.{integer_functions, outcome_then, number}
@@ -23,14 +22,14 @@ use Rattle.pi_effects.specs.Ranges.{range_functions}
 use Rattle.pi_effects.specs.Naming.{naming_functions}
 use Rattle.pi_effects.specs.Texts.{text_functions, writing_predicates}
 use Rattle.pi_effects.specs.BuiltIns.{reading_functions, built_in_function, tests, other_predicates, built_in_predicate, is_predicate, is_function, answer_in, test_in}
-use Rattle.pi_traces.specs.Trace.{Trace, one, then, alt, done}
+use Rattle.pi_traces.specs.Trace.{one, then, alt, done}
 use Rattle.pi_meaning.specs.Settle.{settled}
-use Rattle.pi_meaning.specs.Level.{Level, Applied}
+use Rattle.pi_meaning.specs.Level.{Level}
 use Rattle.pi_meaning.specs.Builtin.{effect_trace, function_trace}
 use Rattle.pi_meaning.specs.Given.{Setting}
 use Rattle.pi_meaning.specs.Names.{is_given_predicate, is_later_predicate, is_given_function, is_resource, is_later_function}
 use Rattle.pi_meaning.specs.Calls.{predicate_given, predicate_called, function_given, function_called}
-use Rattle.pi_lowered.proofs.BuiltInLemmas.{given-first, given-of, no-variable, no-number, item-called}
+use Rattle.pi_lowered.proofs.BuiltInLemmas.{given-first, given-of, no-number, item-called}
 
 -- ---- `<`
 

@@ -1,6 +1,6 @@
 -- Where a walk ends: the loop's variables are unified with what its names have, as they stand behind the slots of the walk.
-use Rattle.std.proofs.Common.{◌≡◌, ℕ, zero, suc, ◌+◌, ◌-◌, ◌≤◌, ◌<◌, Bool, true, false, cond, List, [], ◌∷◌, ◌++◌, length, map, refl, sym, ◌∙◌, ap, subst, arith, length-append}
-use Rattle.std.specs.Prelude.{Option, Some, None, option_and_then, option_map, IsSome, is_some, replicate, ◌==◌, ⊤, unwrap_or}
+use Rattle.std.proofs.Common.{◌≡◌, ℕ, suc, ◌+◌, ◌-◌, ◌<◌, Bool, true, false, cond, List, [], ◌∷◌, ◌++◌, length, map, refl, sym, ◌∙◌, ap, subst, arith, length-append}
+use Rattle.std.specs.Prelude.{Option, Some, None, option_map, is_some, replicate, ◌==◌, unwrap_or}
 use Rattle.std.specs.Str.{bytes_eq}
 use Rattle.std.proofs.lemmas.Bool.{true≢false}
 use Rattle.std.proofs.lemmas.Bool.Decides.{Decides-eqb}
@@ -8,29 +8,28 @@ use Rattle.pi_terms.specs.Tree.{Tree, trees_of}
 use Rattle.pi_terms.specs.ListNames.{nil}
 use Rattle.pi_terms.specs.Places.{Places, held}
 use Rattle.pi_states.specs.State.{State, bindings, followed}
-use Rattle.pi_traces.specs.Trace.{Trace, one, then}
+use Rattle.pi_traces.specs.Trace.{Trace, then}
 use Rattle.pi_meaning.specs.Level.{Level, Point}
 use Rattle.pi_meaning.specs.Builtins.{Builtins, predicate_by}
 use Rattle.pi_meaning.specs.Given.{Setting}
 use Rattle.pi_meaning.specs.Meaning.{meaning}
-use Rattle.pi_meaning.specs.Environment.{Environment, meant}
-use Rattle.pi_meaning.specs.Place.{Place}
+use Rattle.pi_meaning.specs.Environment.{Environment}
 use Rattle.pi_names.specs.Texts.{Names, is_among}
 use Rattle.pi_names.specs.Loops.{now}
 use Rattle.pi_lowered.specs.Slots.{SlotNames, unnamed, slot_of, slot_or_next, slot_for}
 use Rattle.pi_lowered.specs.Forms.{Knows}
 use Rattle.pi_lowered.specs.Goals.{in_turn}
-use Rattle.pi_lowered.specs.Loops.{Ending, as_it_is, closing, closing_slots, Loop, loop_slots}
-use Rattle.pi_lowered.specs.Iterators.{handed, end_slots, nil_clause, element_helper}
+use Rattle.pi_lowered.specs.Loops.{Ending, as_it_is, closing, closing_slots, Loop}
+use Rattle.pi_lowered.specs.Iterators.{handed, end_slots, element_helper}
 use Rattle.pi_lowered.proofs.AgreeLemmas.{or_last, slot-among, slot-below}
 use Rattle.pi_lowered.proofs.RunLemmas.{Alike, point, place, runs, turn-runs}
 use Rattle.pi_lowered.proofs.LoopLemmas.{Stand, InSlots}
-use Rattle.pi_lowered.proofs.HandedLemmas.{entered, entered-held, some-again}
+use Rattle.pi_lowered.proofs.HandedLemmas.{entered, entered-held, some-again, some-held}
 use Rattle.pi_lowered.proofs.EnteredLemmas.{slot-values, among-slot, values-long, variables_from, variables-within}
-use Rattle.pi_lowered.proofs.CarriedLemmas.{Handed, behind_front, held-behind, front-long}
+use Rattle.pi_lowered.proofs.CarriedLemmas.{Handed, behind_front, held-behind}
 use Rattle.pi_lowered.proofs.HelperLemmas.{state_of, HelperCalled, count-trees, endings, AreAmong, closing-ends}
 use Rattle.pi_lowered.proofs.WhileLemmas.{closing-room}
-use Rattle.pi_lowered.proofs.ElementLemmas.{walked, handed-long, unnamed-none}
+use Rattle.pi_lowered.proofs.ElementLemmas.{walked, unnamed-none, unnamed-long}
 use Rattle.pi_lowered.proofs.MatchedLemmas.{walked-long}
 use Rattle.pi_lowered.proofs.WalkLemmas.{nil-runs}
 
@@ -50,11 +49,6 @@ variables-further j k base (name ∷ names) slots each = (
     other i t is true same = let one : i ≡ k = same refl in absurd (omega (arith, one, (variables-within (suc k) (suc base) names i t is).0))
     other i t is false same = is
 
-there : (us : List Tree) (k : ℕ) → k < length us → IsSome (held (map Some us) k)
-there [] k less = absurd (omega (arith, less))
-there (u ∷ us) zero less = refl
-there (u ∷ us) (suc k) less = there us k (omega (arith, less))
-
 -- what a name has, behind slots without names
 name-stands : (w : Loop) (base : ℕ) (e : Environment) (hs : List Tree) → Handed w base e hs → (j : ℕ) (us : List Tree) → length us ≡ j → (m : ℕ) (name : List ℕ) → is_among w.shared name ≡ true → bytes_eq name unnamed ≡ false →
     held (entered (us ++ hs) m) (slot_for name (behind_front w (replicate j unnamed))) ≡ Some (now name e)
@@ -64,11 +58,7 @@ name-stands w base e hs given j us count m name among named = go (slot_of name w
     front = replicate j unnamed
 
     long : length (replicate {A = List ℕ} j unnamed) ≡ j
-    long = all-long j
-      where
-        all-long : (n : ℕ) → length (replicate {A = List ℕ} n unnamed) ≡ n
-        all-long zero = refl
-        all-long (suc n) = ap suc (all-long n)
+    long = unnamed-long j
 
     go : (o : Option ℕ) → slot_of name w.shared ≡ o → held (entered (us ++ hs) m) (slot_for name (behind_front w (replicate j unnamed))) ≡ Some (now name e)
     go None at = absurd (true≢false (sym among ∙ among-slot name w.shared ∙ ap is_some at))
@@ -80,7 +70,7 @@ name-stands w base e hs given j us count m name among named = go (slot_of name w
         let is : slot_for name (behind_front w front) ≡ length us + k =
         ap (λ (c : Bool). slot_or_next (cond c None (slot_of name (behind_front w front))) (behind_front w front)) named ∙ ap (λ (o : Option ℕ). slot_or_next o (behind_front w front)) found ∙ omega (arith, long, count) in
         ap (held (entered (us ++ hs) m)) is ∙ entered-held (us ++ hs) m (length us + k) (omega (arith, less, length-append us hs)) ∙ held-behind us hs k
-        ∙ some-again (held (map Some hs) k) (there hs k less) ∙ ap (λ (o : Option Tree). Some (unwrap_or o (Tree.atom []))) (sym (given.values name named k at))
+        ∙ some-again (held (map Some hs) k) (some-held hs k less) ∙ ap (λ (o : Option Tree). Some (unwrap_or o (Tree.atom []))) (sym (given.values name named k at))
 
 names-stand : (w : Loop) (base : ℕ) (e : Environment) (hs : List Tree) → Handed w base e hs → (j : ℕ) (us : List Tree) → length us ≡ j → (m : ℕ) (names : Names) → AreAmong w.shared names → (k first : ℕ) → InSlots names k first (entered (us ++ hs) m) →
     Stand names k first (behind_front w (replicate j unnamed)) e (entered (us ++ hs) m)

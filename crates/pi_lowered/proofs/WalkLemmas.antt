@@ -1,11 +1,9 @@
 -- An iterator's first helper, by what is left: a list cell, the end of a list, or an array.
-use Rattle.std.proofs.Common.{◌≡◌, ℕ, zero, suc, ◌+◌, ◌-◌, ◌≤◌, ◌<◌, Bool, true, false, cond, List, [], ◌∷◌, ◌++◌, length, map, refl, sym, ◌∙◌, ap, subst, arith, length-append}
-use Rattle.std.specs.Prelude.{Option, Some, None, option_and_then, IsSome, replicate, ⊤, codes, pos}
-use Rattle.std.specs.Str.{bytes_eq}
-use Rattle.std.specs.Ordering.{is_eq}
+use Rattle.std.proofs.Common.{◌≡◌, ℕ, suc, ◌+◌, ◌-◌, Bool, false, cond, List, [], ◌∷◌, length, refl, sym, ◌∙◌, ap, arith}
+use Rattle.std.specs.Prelude.{Some, None, option_and_then, replicate}
 use Rattle.pi_terms.specs.Tree.{Tree, comp, Trees, no_trees, tree, trees_of}
 use Rattle.pi_terms.specs.ListNames.{nil, cell_name}
-use Rattle.pi_terms.specs.Order.{name_order, order, identical}
+use Rattle.pi_terms.specs.Order.{order, identical}
 use Rattle.pi_terms.specs.Places.{Places}
 use Rattle.pi_terms.specs.PatternTree.{PatternTree, slot, exact_atom, compound, no_patterns, pattern}
 use Rattle.pi_states.specs.Value.{Bindings}
@@ -14,26 +12,22 @@ use Rattle.pi_states.specs.HeadMatch.{compound_in, matched_in, matched_all_in}
 use Rattle.pi_states.proofs.MatchLemmas.{name_itself}
 use Rattle.pi_print.specs.PrintTerm.{array_name}
 use Rattle.pi_core.specs.GoalTree.{GoalTree}
-use Rattle.pi_core.specs.CoreTree.{ClauseTree, PredTree}
-use Rattle.pi_traces.specs.Trace.{Trace, end, note, Deep, Tick, one, then, done}
+use Rattle.pi_traces.specs.Trace.{Trace, end, note, Deep, Tick, then, done}
 use Rattle.pi_traces.specs.Control.{chosen}
 use Rattle.pi_meaning.specs.Level.{Level, lower, Point}
 use Rattle.pi_meaning.specs.Builtins.{Builtins, predicate_by}
 use Rattle.pi_meaning.specs.Meaning.{meaning}
 use Rattle.pi_meaning.specs.Rules.{pred_run, rules, rule_before}
 use Rattle.pi_meaning.specs.Environment.{Environment}
-use Rattle.pi_lowered.specs.Slots.{SlotNames}
-use Rattle.pi_lowered.specs.Goals.{in_turn}
-use Rattle.pi_lowered.specs.Loops.{slots_from, slots_head, clause_of, closing_slots, Loop, loop_slots}
-use Rattle.pi_lowered.specs.Iterators.{walk_slots, handed, end_slots, tick_then, cell_clause, nil_clause, array_clause, element_helper}
-use Rattle.pi_lowered.proofs.RunLemmas.{point, runs, runs-one, turn-runs}
+use Rattle.pi_lowered.specs.Loops.{slots_from, slots_head, Loop}
+use Rattle.pi_lowered.specs.Iterators.{handed, tick_then, cell_clause, nil_clause, array_clause, element_helper}
+use Rattle.pi_lowered.proofs.RunLemmas.{point, runs-one, turn-runs}
 use Rattle.pi_lowered.proofs.ControlLemmas.{Drains}
 use Rattle.pi_lowered.proofs.HeadLemmas.{text_by_order}
 use Rattle.pi_lowered.proofs.HandedLemmas.{entered, empties-stand, head-takes, head-entered}
-use Rattle.pi_lowered.proofs.EnteredLemmas.{values-long}
 use Rattle.pi_lowered.proofs.CarriedLemmas.{Handed}
 use Rattle.pi_lowered.proofs.HelperLemmas.{state_of, HelperCalled, count-trees}
-use Rattle.pi_lowered.proofs.WhileLemmas.{tick-runs, tick-stops, closing-room}
+use Rattle.pi_lowered.proofs.WhileLemmas.{tick-runs, tick-stops}
 use Rattle.pi_lowered.proofs.ElementLemmas.{walked, handed-long}
 use Rattle.pi_lowered.proofs.MatchedLemmas.{hands-on, walked-long}
 

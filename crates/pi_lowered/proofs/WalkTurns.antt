@@ -1,6 +1,6 @@
 -- An iterator's helpers do over slots what its elements do over names: a collection is walked in place, in the state of each turn, and meets the items that it had when the loop started.
-use Rattle.std.proofs.Common.{◌≡◌, ℕ, zero, suc, ◌+◌, ◌-◌, ◌≤◌, ◌<◌, Bool, true, false, cond, List, [], ◌∷◌, ◌++◌, length, map, refl, sym, ◌∙◌, ap, subst, arith}
-use Rattle.std.specs.Prelude.{ℤ, Option, Some, None, option_and_then, option_map, Ok, drop, slice_get, pos, ⊤}
+use Rattle.std.proofs.Common.{◌≡◌, ℕ, zero, suc, ◌≤◌, Bool, true, false, cond, List, [], ◌∷◌, length, refl, sym, ◌∙◌, ap, subst, arith}
+use Rattle.std.specs.Prelude.{ℤ, Option, Some, None, option_and_then, option_map, Ok, drop, slice_get, pos}
 use Rattle.std.specs.Option.{option_or}
 use Rattle.std.specs.Str.{bytes_eq}
 use Rattle.std.proofs.lemmas.Slice.Eq.{bytes_eq-Decides}
@@ -11,7 +11,7 @@ use Rattle.pi_states.specs.State.{State, bindings, followed}
 use Rattle.pi_print.specs.PrintTerm.{array_name}
 use Rattle.pi_arith.specs.Value.{value_of}
 use Rattle.pi_arith.specs.declared.operation.Op.TheVariants.{Add}
-use Rattle.pi_effects.specs.Items.{each_tree, is_nil, cell_parts, in_front_of, items_of_root, items_for}
+use Rattle.pi_effects.specs.Items.{each_tree, in_front_of, items_of_root, items_for}
 use Rattle.pi_syntax.specs.ExpTree.{ExpTree}
 use Rattle.pi_core.specs.CoreTree.{PredTree}
 use Rattle.pi_traces.specs.Trace.{Trace, end, note, Deep, Tick, one, then}
@@ -28,7 +28,7 @@ use Rattle.pi_lowered.specs.Forms.{Knows, IsPattern}
 use Rattle.pi_lowered.specs.Goals.{SlotGoals}
 use Rattle.pi_lowered.specs.Loops.{as_it_is, Loop}
 use Rattle.pi_lowered.specs.Iterators.{turn_helper, element_helper}
-use Rattle.pi_lowered.proofs.RunLemmas.{Alike, place, then-of-one, names-not-drained}
+use Rattle.pi_lowered.proofs.RunLemmas.{place, then-of-one, names-not-drained}
 use Rattle.pi_lowered.proofs.CarriedLemmas.{Handed, Apart}
 use Rattle.pi_lowered.proofs.HelperLemmas.{HelperCalled, endings, AreAmong}
 use Rattle.pi_lowered.proofs.ElementLemmas.{RootsStay, turn_front, TurnSame, walked}

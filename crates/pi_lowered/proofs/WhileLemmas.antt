@@ -1,8 +1,8 @@
 -- A `while` over slots does what it does over names, turn by turn.
-use Rattle.std.proofs.Common.{◌≡◌, ℕ, suc, ◌+◌, ◌≤◌, ◌<◌, List, [], ◌∷◌, ◌++◌, length, refl, sym, ◌∙◌, ap, subst, arith}
-use Rattle.std.specs.Prelude.{Option, Some, None, option_map, IsSome}
+use Rattle.std.proofs.Common.{◌≡◌, ℕ, ◌+◌, ◌≤◌, List, [], ◌∷◌, ◌++◌, length, sym, ◌∙◌, ap, subst, arith}
+use Rattle.std.specs.Prelude.{Option, Some, None, option_map}
 use Rattle.pi_terms.specs.Tree.{Tree, trees_of}
-use Rattle.pi_terms.specs.Places.{Places, held}
+use Rattle.pi_terms.specs.Places.{Places}
 use Rattle.pi_states.specs.State.{State}
 use Rattle.pi_core.specs.GoalTree.{GoalTree}
 use Rattle.pi_core.specs.CoreTree.{PredTree}
@@ -24,13 +24,13 @@ use Rattle.pi_lowered.specs.Slots.{SlotNames}
 use Rattle.pi_lowered.specs.Forms.{Knows}
 use Rattle.pi_lowered.specs.Goals.{SlotGoals, in_turn}
 use Rattle.pi_lowered.specs.Loops.{Ending, as_it_is, closing, closing_slots, Loop, loop_slots, again, while_helper, do_helper}
-use Rattle.pi_lowered.proofs.SameLemmas.{SameBy, same_end, same_note, same-then, same-chosen, same-equal, same-equals}
+use Rattle.pi_lowered.proofs.SameLemmas.{SameBy, same_note, same-then, same-chosen, same-equal, same-equals}
 use Rattle.pi_lowered.proofs.AgreeLemmas.{Room, Grows, grows-none, grows-then, grows-length, Agrees}
 use Rattle.pi_lowered.proofs.RunLemmas.{Alike, point, place, AtPlace, at_place, runs, SameGoals, then-of-one, runs-append, runs-one, not-drained, names-not-drained, turn-runs, same-strictly}
 use Rattle.pi_lowered.proofs.ControlLemmas.{Drains}
 use Rattle.pi_lowered.proofs.LoopLemmas.{Stand}
 use Rattle.pi_lowered.proofs.HandedLemmas.{entered, values_from, values-count}
-use Rattle.pi_lowered.proofs.EnteredLemmas.{values-long, helper_room, variables_from, variables-in, again-agrees}
+use Rattle.pi_lowered.proofs.EnteredLemmas.{values-long, helper_room, variables-in, again-agrees}
 use Rattle.pi_lowered.proofs.HelperLemmas.{state_of, HelperCalled, count-trees, helper-runs, again-runs, endings, AreAmong, stand-entered, closing-ends, chosen-followed}
 
 -- ---- levels

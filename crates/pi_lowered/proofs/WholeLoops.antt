@@ -1,6 +1,6 @@
 -- A `while` and a `do` as goals do over slots what they do over names.
-use Rattle.std.proofs.Common.{◌≡◌, ℕ, suc, ◌+◌, ◌-◌, ◌≤◌, ◌<◌, Bool, true, false, cond, List, [], ◌∷◌, ◌++◌, length, refl, sym, ◌∙◌, ap, subst, arith}
-use Rattle.std.specs.Prelude.{Option, Some, None, IsSome, ◌||◌, ⊤}
+use Rattle.std.proofs.Common.{◌≡◌, ℕ, suc, ◌+◌, ◌-◌, ◌≤◌, Bool, true, false, cond, List, [], ◌∷◌, ◌++◌, length, refl, sym, ◌∙◌, ap, subst, arith}
+use Rattle.std.specs.Prelude.{Option, None, IsSome, ◌||◌, ⊤}
 use Rattle.std.specs.Str.{bytes_eq}
 use Rattle.std.proofs.lemmas.Bool.{true≢false}
 use Rattle.pi_terms.specs.Tree.{Tree, trees_of}
@@ -9,7 +9,7 @@ use Rattle.pi_states.specs.State.{State, next}
 use Rattle.pi_states.specs.Evaluation.{with_new_variables}
 use Rattle.pi_effects.specs.Indexing.{index_name}
 use Rattle.pi_core.specs.GoalTree.{GoalTree}
-use Rattle.pi_traces.specs.Trace.{Trace, end, note, ans, one, then}
+use Rattle.pi_traces.specs.Trace.{Trace, one, then}
 use Rattle.pi_traces.proofs.TraceLemmas.{then-assoc}
 use Rattle.pi_traces.proofs.AnswerLemmas.{EachAnswer}
 use Rattle.pi_meaning.specs.Level.{Level, Point}
@@ -22,17 +22,17 @@ use Rattle.pi_names.specs.Texts.{Names, is_among}
 use Rattle.pi_names.specs.Assigning.{with_names, narrowed}
 use Rattle.pi_names.specs.Control.{Goal}
 use Rattle.pi_names.specs.Loops as over_names
-use Rattle.pi_lowered.specs.Slots.{SlotNames, unnamed, slot_of, slot_known, slot_or_next, slot_for}
+use Rattle.pi_lowered.specs.Slots.{SlotNames, unnamed, slot_of, slot_or_next, slot_for}
 use Rattle.pi_lowered.specs.Values.{first_item}
 use Rattle.pi_lowered.specs.Forms.{Knows}
 use Rattle.pi_lowered.specs.Goals.{SlotGoals}
 use Rattle.pi_lowered.specs.Loops.{as_it_is, slots_from, slots_for_names, with_values, Loop, loop_slots, while_helper, do_helper, started, kept_goals, loop_goals}
-use Rattle.pi_lowered.proofs.SameLemmas.{SameBy, same_end, same_note, same_answer, same-then, same-then_same}
+use Rattle.pi_lowered.proofs.SameLemmas.{SameBy, same-then, same-then_same, same-each}
 use Rattle.pi_lowered.proofs.AgreeLemmas.{Room, text_same, Grows, grows-then, grows-length, Agrees}
 use Rattle.pi_lowered.proofs.NewNameLemmas.{from_known}
 use Rattle.pi_lowered.proofs.ControlLemmas.{Drains}
 use Rattle.pi_lowered.proofs.RunLemmas.{Alike, point, place, AtPlace, at_place, runs, SameGoals, then-of-one, runs-append}
-use Rattle.pi_lowered.proofs.LoopLemmas.{started-grows, started-same, closed-places, states_of, kept_environment, InSlots, HasSlot, HaveSlots, kept-same}
+use Rattle.pi_lowered.proofs.LoopLemmas.{started-grows, started-same, closed-places, kept_environment, HaveSlots, kept-same}
 use Rattle.pi_lowered.proofs.HandedLemmas.{entered}
 use Rattle.pi_lowered.proofs.EnteredLemmas.{values-long, values-grow, slot-stays, helper_room}
 use Rattle.pi_lowered.proofs.HelperLemmas.{called-runs, endings, closed-ends, AreAmong}
@@ -97,12 +97,6 @@ have-wider (name ∷ names) k ns ms grows named have = (
 )
 
 -- ---- a loop is entered
-
-pub same-each : {A B : Type 0} (R : A → B → Type 0) (P : B → Type 0) (t : Trace A) (u : Trace B) → SameBy R t u → EachAnswer P u → SameBy (λ x y. R x y × P y) t u
-unfolding EachAnswer
-same-each R P _ _ (same_end e) each = same_end e
-same-each R P _ _ (same_note n {t = t} {u = u} a) each = same_note n (same-each R P t u a each)
-same-each R P _ _ (same_answer {x = x} {y = y} {t = t} {u = u} r a) each = same_answer (r, each.0) (same-each R P t u a each.1)
 
 -- what a loop over names does, where the names before it are there: states, in each of which the names that it keeps stand for their variables
 framed-places : (k : Level) → Drains k → (inside kept : Names) (turns : Goal) (p : Place) →

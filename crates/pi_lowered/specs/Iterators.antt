@@ -2,16 +2,16 @@
 use Rattle.std.specs.Prelude.{ℕ, suc, ◌+◌, ◌-◌, cond, pos, List, [], ◌∷◌, ◌++◌, length, map, replicate, codes}
 use Rattle.pi_terms.specs.Tree.{Tree}
 use Rattle.pi_terms.specs.ListNames.{nil, cell_name}
-use Rattle.pi_terms.specs.PatternTree.{PatternTree, slot, exact_atom, compound, no_patterns, pattern}
+use Rattle.pi_terms.specs.PatternTree.{slot, exact_atom, compound, no_patterns, pattern}
 use Rattle.pi_effects.specs.Indexing.{index_name}
 use Rattle.pi_syntax.specs.ExpTree.{ExpTree}
 use Rattle.pi_core.specs.GoalTree.{GoalTree}
 use Rattle.pi_core.specs.CoreTree.{ClauseTree, PredTree}
 use Rattle.pi_names.specs.Texts.{Names, is_among}
 use Rattle.pi_lowered.specs.Slots.{SlotNames, unnamed, with_value}
-use Rattle.pi_lowered.specs.Values.{SlotPattern, slot_pattern, SlotValue, first_item}
+use Rattle.pi_lowered.specs.Values.{SlotPattern, slot_pattern, SlotValue}
 use Rattle.pi_lowered.specs.Goals.{SlotGoals, in_turn}
-use Rattle.pi_lowered.specs.Loops.{Loop, Ending, slots_from, slots_head, with_values, closing, closing_slots, clause_of, helper, started, entered}
+use Rattle.pi_lowered.specs.Loops.{Loop, slots_from, slots_head, with_values, closing, closing_slots, clause_of, helper, started, entered}
 
 -- ---- slots
 

@@ -15,6 +15,7 @@ pub mod OtherEnvironments
 pub mod OtherControl
 pub mod OtherLoops
 pub mod OtherGoals
+pub mod LoopNames
 pub mod GoalExamples
 pub mod LoopExamples
 pub mod ReadingExamples
