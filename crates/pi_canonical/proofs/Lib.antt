@@ -1,0 +1,5 @@
+pub mod PartedLemmas
+pub mod ExpTrees
+pub mod ExpTexts
+pub mod ClauseLemmas
+mod CanonicalExamples

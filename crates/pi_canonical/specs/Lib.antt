@@ -1,0 +1,6 @@
+pub mod Signs
+pub mod Texts
+pub mod CanonicalExp
+pub mod Canonical
+pub mod Words
+pub mod Branches
