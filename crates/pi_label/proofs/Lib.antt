@@ -1,0 +1,4 @@
+pub mod PickLemmas
+pub mod ChoiceLemmas
+pub mod WordLemmas
+pub mod PlaceLemmas
