@@ -22,7 +22,8 @@ use Rattle.pi_raw_store.specs.Walk.{bound_ref_by, variable_of, unless_bound_by, 
 use Rattle.pi_raw_store.specs.Holding.{tree_of, variable_by, variable_in, heap_of, view_of}
 use Rattle.pi_raw_store.specs.Sound.{IsSound}
 use Rattle.pi_raw_store.proofs.NameLemmas.{keeps_itself}
-use Rattle.pi_raw_store.proofs.LookLemmas.{bound_in, tree_at_ref, held_is, followed_to, form_var, tree_is}
+use Rattle.pi_raw_store.specs.Bindings.{bound_in}
+use Rattle.pi_raw_store.proofs.LookLemmas.{tree_at_ref, held_is, followed_to, form_var, tree_is}
 use Rattle.pi_raw_store.proofs.SoundLemmas.{has_bound, term_is_ref, ref_has_term}
 use Rattle.pi_raw_store.proofs.KeepLemmas.{heap_grows, keeps_all, same_states, same_parts, parts_stay}
 
@@ -93,5 +94,5 @@ binds_to t i j v q to n s free is words a = λ m x y at bt root may.
     ∙ ap (λ p. slice_set (map (variable_in h) vs) p (bound y_last)) same)))) in
     record {
       keeps = keeps_all t t i j (keeps_itself t (length i.region)) a;
-      state = same_states _ _ all (q.constraints (ap (λ (l : Image). l.constraints) words)) (q.agents (ap (λ (l : Image). l.agents) words)) refl;
+      state = same_states _ _ all (q.constraints (ap (λ (l : Image). l.constraints) words)) (q.agents (ap (λ (l : Image). l.agents) words)) (q.waiting (ap (λ (l : Image). l.waiting) words) (ap (λ (l : Image). l.heads) words));
     }

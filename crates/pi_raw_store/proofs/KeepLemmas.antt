@@ -1,5 +1,5 @@
 -- What calls of a store keep: good marks, terms and names; and the state, where no table changes.
-use Rattle.std.proofs.Common.{◌≡◌, ◌≢◌, ℕ, zero, suc, ◌-◌, ◌/◌, ◌%◌, ◌==◌, ◌≤◌, ⊎_elim, min, Bool, true, false, List, [], ◌∷◌, ◌++◌, length, map, slice_index, Some, refl, ap, sym, subst, ◌∙◌, arith}
+use Rattle.std.proofs.Common.{◌≡◌, ◌≢◌, ℕ, zero, suc, ◌-◌, ◌/◌, ◌%◌, ◌==◌, ◌≤◌, ⊎_elim, min, Bool, true, false, List, [], ◌∷◌, ◌++◌, length, map, drop, slice_index, Some, refl, ap, sym, subst, ◌∙◌, arith}
 use Rattle.std.proofs.lemmas.Bool.{leb-true, le-leb}
 use Rattle.std.proofs.lemmas.Bool.Decides.{nat_tests}
 use Rattle.std.proofs.lemmas.List.{map-append, length-map}
@@ -27,12 +27,13 @@ use Rattle.pi_raw_constraints.specs.Table.{constraint_at, IsConstraintIn}
 use Rattle.pi_raw_constraints.proofs.TableLemmas.{same_constraint}
 use Rattle.pi_raw_names.specs.NameTable.{NameTable, names_of}
 use Rattle.pi_raw_store.specs.declared.mark.RawMark.{RawMark}
-use Rattle.pi_raw_store.specs.Holding.{unbound_at, variable_by, variable_in, agent_in, heap_of, state_of, moment_of, view_of, order}
+use Rattle.pi_raw_store.specs.Waiting.{activation_of, IsWaitingIn}
+use Rattle.pi_raw_store.specs.Holding.{unbound_at, variable_by, variable_in, agent_in, activation_in, waiting_in, heap_of, state_of, moment_of, view_of, order}
 use Rattle.pi_raw_store.specs.Sound.{IsSound}
 use Rattle.pi_raw_store.specs.Changed.{KeepsNames, IsNumbered}
 use Rattle.pi_raw_store.proofs.NameLemmas.{stay, keeps_itself, heap_kept}
 use Rattle.pi_raw_store.proofs.PartLemmas.{stays_itself}
-use Rattle.pi_raw_store.proofs.SoundLemmas.{has_words, has_constraints, has_agents, ref_has_term, sound_words}
+use Rattle.pi_raw_store.proofs.SoundLemmas.{has_words, has_constraints, has_agents, has_waiting, ref_has_term, sound_words}
 use Rattle.pi_raw_store.proofs.AgentLemmas.{RefsHaveTrees, tree_stays, agents_stay}
 
 -- Moments
@@ -82,6 +83,13 @@ variables_stay : (h k : Heap) → Grows h k → RefsHaveTrees h → (vs : List �
 variables_stay h k grows has vs are =
     map_same (variable_in k) (variable_in h) vs (λ n w e. variable_stays h k grows has (w % 8 == 0) w refl (subst (IsBoundIn h) (get_or_from_slice_get vs n w 0 e) (are n)))
 
+activation_stays : (h k : Heap) → Grows h k → RefsHaveTrees h → (w : ℕ) → IsWaitingIn h w → activation_in k w ≡ activation_in h w
+activation_stays h k grows has zero is = refl
+activation_stays h k grows has (suc w) is = ap activation_of (tree_stays h k grows has (suc w) is)
+
+waiting_stays : (h k : Heap) → Grows h k → RefsHaveTrees h → (ws : List ℕ) → ((n : ℕ) → IsWaitingIn h (slice_index ws n)) → map (activation_in k) ws ≡ map (activation_in h) ws
+waiting_stays h k grows has ws are = map_same (activation_in k) (activation_in h) ws (λ n w e. activation_stays h k grows has w (subst (IsWaitingIn h) (get_or_from_slice_get ws n w 0 e) (are n)))
+
 -- a state by its parts
 pub same_states : (r q : State) → r.variables ≡ q.variables → r.constraints ≡ q.constraints → r.agents ≡ q.agents → r.waiting ≡ q.waiting → r ≡ q
 same_states r q v c a w =
@@ -93,21 +101,30 @@ pub record SameTables (i j : Image) : Type 0 where
   pub variables : j.variables ≡ i.variables
   pub constraints : j.constraints ≡ i.constraints
   pub agents : j.agents ≡ i.agents
+  pub waiting : j.waiting ≡ i.waiting
+  pub heads : j.heads ≡ i.heads
 
 pub same_itself : (i : Image) → SameTables i i
-same_itself i = record { variables = refl; constraints = refl; agents = refl }
+same_itself i = record { variables = refl; constraints = refl; agents = refl; waiting = refl; heads = refl }
 
 pub same_then : (i j k : Image) → SameTables i j → SameTables j k → SameTables i k
-same_then i j k s q = record { variables = q.variables ∙ s.variables; constraints = q.constraints ∙ s.constraints; agents = q.agents ∙ s.agents }
+same_then i j k s q = record {
+  variables = q.variables ∙ s.variables;
+  constraints = q.constraints ∙ s.constraints;
+  agents = q.agents ∙ s.agents;
+  waiting = q.waiting ∙ s.waiting;
+  heads = q.heads ∙ s.heads;
+}
 
 pub same_appended : (i j : Image) → Appends i j → SameTables i j
-same_appended i j more = subst (SameTables i) (sym more.1) (record { variables = refl; constraints = refl; agents = refl })
+same_appended i j more = subst (SameTables i) (sym more.1) (record { variables = refl; constraints = refl; agents = refl; waiting = refl; heads = refl })
 
 -- what the tables of the first image say is the same in what terms are read from behind it
 pub record PartsStay (h k : Heap) (i : Image) : Type 0 where
   pub variables : map (variable_in k) i.variables ≡ map (variable_in h) i.variables
   pub constraints : map (constraint_at k.words) i.constraints ≡ map (constraint_at h.words) i.constraints
   pub agents : map (agent_in k) i.agents ≡ map (agent_in h) i.agents
+  pub waiting : map (activation_in k) i.waiting ≡ map (activation_in h) i.waiting
 
 pub parts_stay : (t u : NameTable) (i j : Image) → IsSound t i → Grows (heap_of t i) (heap_of u j) → PartsStay (heap_of t i) (heap_of u j) i
 parts_stay t u i j s grows =
@@ -117,6 +134,7 @@ parts_stay t u i j s grows =
       variables = variables_stay h k grows (ref_has_term t i s) i.variables (has_words t i s);
       constraints = map_same (constraint_at k.words) (constraint_at h.words) i.constraints (λ n w e. same_constraint h k grows w (subst (IsConstraintIn h) (get_or_from_slice_get i.constraints n w 0 e) (has_constraints t i s n)));
       agents = agents_stay h k grows (ref_has_term t i s) i.agents (has_agents t i s);
+      waiting = waiting_stays h k grows (ref_has_term t i s) i.waiting (has_waiting t i s);
     }
 
 -- the tables of the second one say the same where they are the same
@@ -124,12 +142,14 @@ pub record SameParts (h k : Heap) (i j : Image) : Type 0 where
   pub variables : j.variables ≡ i.variables → map (variable_in k) j.variables ≡ map (variable_in h) i.variables
   pub constraints : j.constraints ≡ i.constraints → map (constraint_at k.words) j.constraints ≡ map (constraint_at h.words) i.constraints
   pub agents : j.agents ≡ i.agents → map (agent_in k) j.agents ≡ map (agent_in h) i.agents
+  pub waiting : j.waiting ≡ i.waiting → j.heads ≡ i.heads → waiting_in k j ≡ waiting_in h i
 
 pub same_parts : (h k : Heap) (i j : Image) → PartsStay h k i → SameParts h k i j
 same_parts h k i j p = record {
   variables = λ e. ap (map (variable_in k)) e ∙ p.variables;
   constraints = λ e. ap (map (constraint_at k.words)) e ∙ p.constraints;
   agents = λ e. ap (map (agent_in k)) e ∙ p.agents;
+  waiting = λ e f. ap (λ ws. drop (length ws) (map (activation_in k) j.waiting)) f ∙ (ap (λ ws. drop (length i.heads) (map (activation_in k) ws)) e ∙ ap (drop (length i.heads)) p.waiting);
 }
 
 pub stays_all : (t u : NameTable) (i j : Image) → IsSound t i → KeepsNames t u (length i.region) → Advances i j → SameTables i j → Stays (view_of t i) (view_of u j)
@@ -137,7 +157,7 @@ stays_all t u i j s keeps a same =
     let p = same_parts (heap_of t i) (heap_of u j) i j (parts_stay t u i j s (heap_grows t u i j keeps a)) in
     record {
       keeps = keeps_all t u i j keeps a;
-      state = same_states _ _ (p.variables same.variables) (p.constraints same.constraints) (p.agents same.agents) refl;
+      state = same_states _ _ (p.variables same.variables) (p.constraints same.constraints) (p.agents same.agents) (p.waiting same.waiting same.heads);
     }
 
 -- A name that gets a number
@@ -182,7 +202,7 @@ gives_variable t i j r s is a term =
     let all : map (variable_in (heap_of t j)) j.variables ≡ map (variable_in (heap_of t i)) i.variables ++ free ∷ [] =
     ap (map (variable_in (heap_of t j))) more ∙ (map-append (variable_in (heap_of t j)) i.variables (0 ∷ []) ∙ ap (λ xs. xs ++ free ∷ []) p.variables) in
     record {
-      changes = record { keeps = keeps_all t t i j keeps a; state = same_states _ _ all (q.constraints (ap (λ (k : Image). k.constraints) is)) (q.agents (ap (λ (k : Image). k.agents) is)) refl };
+      changes = record { keeps = keeps_all t t i j keeps a; state = same_states _ _ all (q.constraints (ap (λ (k : Image). k.constraints) is)) (q.agents (ap (λ (k : Image). k.agents) is)) (q.waiting (ap (λ (k : Image). k.waiting) is) (ap (λ (k : Image). k.heads) is)) };
       term = term ∙ ap (λ n. Some (var n)) (sym (length-map i.variables (variable_in (heap_of t i))));
     }
 

@@ -14,7 +14,8 @@ use Rattle.pi_raw_terms.specs.Form.{form_of}
 use Rattle.pi_raw_terms.specs.Heap.{Heap, term_at}
 use Rattle.pi_raw_terms.proofs.LookLemmas.{shows_var}
 use Rattle.pi_raw_store.specs.Walk.{binding_at, variable_of, variable_at, variable_of_any, next_at, any_of, leads_for, leads_at}
-use Rattle.pi_raw_store.proofs.LookLemmas.{HasBound, bound_in, tree_at_ref, held_is, binding_tree, length_bound, form_var}
+use Rattle.pi_raw_store.specs.Bindings.{HasBound, bound_in}
+use Rattle.pi_raw_store.proofs.LookLemmas.{tree_at_ref, held_is, binding_tree, length_bound, form_var}
 
 -- One step of a chain, by words and by terms
 

@@ -2,6 +2,7 @@ pub mod WalkLemmas
 pub mod NameLemmas
 pub mod TableLemmas
 pub mod LookLemmas
+pub mod TakenLemmas
 pub mod SoundLemmas
 pub mod AgentLemmas
 pub mod KeepLemmas
@@ -15,4 +16,6 @@ pub mod BindLemmas
 pub mod DomainLemmas
 pub mod SinceLemmas
 pub mod ReadLemmas
+pub mod RestorationLemmas
 pub mod PartLemmas
+pub mod WaitLemmas

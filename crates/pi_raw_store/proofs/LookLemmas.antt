@@ -20,14 +20,8 @@ use Rattle.pi_raw_terms.proofs.SpeakLemmas.{trees_speak_below}
 use Rattle.pi_raw_names.specs.NameTable.{NameTable, names_of}
 use Rattle.pi_raw_store.specs.Walk.{bound_ref_by, bound_ref, binding_at, variable_of, binding_of_any, step_at, steps_at, followed_at}
 use Rattle.pi_raw_store.specs.Holding.{tree_of, unbound_at, variable_by, variable_in, state_of, view_of}
+use Rattle.pi_raw_store.specs.Bindings.{HasBound, bound_in}
 use Rattle.pi_raw_store.proofs.NameLemmas.{text_of}
-
--- what variables are bound to has trees
-abbrev pub HasBound : Heap → List ℕ → Type 0
-HasBound h vs = (n : ℕ) (q : Ref) → binding_at vs n ≡ Some q → (t : Tree) × (term_at h q.number ≡ Some t)
-
-abbrev pub bound_in : Heap → List ℕ → Bindings
-bound_in h vs = map binding (map (variable_in h) vs)
 
 abbrev pub tree_at_ref : Heap → Ref → Tree
 tree_at_ref h r = tree_of h r.number

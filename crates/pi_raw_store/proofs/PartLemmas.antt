@@ -1,6 +1,7 @@
--- Calls of a store over raw words that change nothing, and parts of a state that it doesn't keep yet: it has no domains and no activations.
-use Rattle.std.proofs.Common.{None, refl}
-use Rattle.pi_states.specs.Store.{Stays, TakesFirst}
+-- Calls of a store over raw words that change nothing.
+use Rattle.std.proofs.Common.{◌≡◌, Result, Ok, Err, refl, sym, subst}
+use Rattle.std.specs.Result.{OnErr}
+use Rattle.pi_states.specs.Store.{Stays}
 use Rattle.pi_trail.specs.Image.{Image}
 use Rattle.pi_raw_names.specs.NameTable.{NameTable}
 use Rattle.pi_raw_store.specs.Holding.{view_of}
@@ -9,6 +10,11 @@ use Rattle.pi_raw_store.specs.Holding.{view_of}
 pub stays_itself : (t : NameTable) (i : Image) → Stays (view_of t i) (view_of t i)
 stays_itself t i = record { keeps = record { good = λ m e. e; same = λ m e. refl; terms = λ r x e. e; names = λ k name e. e }; state = refl }
 
--- none waits
-pub none_waits : (t : NameTable) (i : Image) → TakesFirst (view_of t i) (view_of t i) None
-none_waits t i = (refl, stays_itself t i)
+-- a call that is refused leaves all as it was
+pub refused : {A E : Type 0} (r : Result A E) (t : NameTable) (i j : Image) → j ≡ i → OnErr r (Stays (view_of t i) (view_of t j))
+refused (Ok x) t i j same = tt
+refused (Err e) t i j same = subst (λ (k : Image). Stays (view_of t i) (view_of t k)) (sym same) (stays_itself t i)
+
+pub on_err : {A E : Type 0} (r : Result A E) (P : Type 0) → P → OnErr r P
+on_err (Ok x) P h = tt
+on_err (Err e) P h = h

@@ -1,5 +1,5 @@
 -- What a constraint that is posted changes.
-use Rattle.std.proofs.Common.{◌≡◌, ℕ, ◌^◌, ◌<◌, ◌≤◌, [], ◌∷◌, ◌++◌, length, map, Some, refl, ap, sym, subst, ◌∙◌, arith}
+use Rattle.std.proofs.Common.{◌≡◌, ℕ, ◌^◌, ◌<◌, ◌≤◌, [], ◌∷◌, ◌++◌, length, map, Some, ap, sym, subst, ◌∙◌, arith}
 use Rattle.std.specs.Prelude.{slice_get, slice_index}
 use Rattle.std.proofs.lemmas.List.{map-append}
 use Rattle.pi_constraints.specs.declared.constraint.Constraint.{Constraint}
@@ -42,7 +42,8 @@ posts_to t i j c s few a may =
     record {
       keeps = keeps_all t t i j keeps a.advances;
       state = same_states _ _ (q.variables (ap (λ (l : Image). l.variables) a.added ∙ ap (λ (l : Image). l.variables) a.written.words)) all
-          (q.agents (ap (λ (l : Image). l.agents) a.added ∙ ap (λ (l : Image). l.agents) a.written.words)) refl;
+          (q.agents (ap (λ (l : Image). l.agents) a.added ∙ ap (λ (l : Image). l.agents) a.written.words))
+          (q.waiting (ap (λ (l : Image). l.waiting) a.added ∙ ap (λ (l : Image). l.waiting) a.written.words) (ap (λ (l : Image). l.heads) a.added ∙ ap (λ (l : Image). l.heads) a.written.words));
     }
 
 -- the constraint with a number

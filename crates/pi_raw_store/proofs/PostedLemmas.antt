@@ -15,7 +15,7 @@ use Rattle.pi_raw_names.specs.NameTable.{NameTable}
 use Rattle.pi_raw_store.specs.Walk.{leads_at}
 use Rattle.pi_raw_store.specs.Posted.{item_leads, items_lead, sum_leads, constraint_leads, posted_at, ListsBelow}
 use Rattle.pi_raw_store.specs.Holding.{heap_of, view_of}
-use Rattle.pi_raw_store.proofs.LookLemmas.{HasBound, bound_in}
+use Rattle.pi_raw_store.specs.Bindings.{HasBound, bound_in}
 use Rattle.pi_raw_store.proofs.LeadLemmas.{leads_is}
 use Rattle.pi_raw_store.proofs.TableLemmas.{get_mapped, mapped}
 use Rattle.pi_raw_store.proofs.FoundLemmas.{lists_all}

@@ -10,7 +10,7 @@ use Rattle.pi_terms.specs.Places.{held}
 use Rattle.pi_terms.specs.declared.term.TermCell.{TermCell}
 use Rattle.pi_terms.specs.declared.term.TermCell.TheVariants.{Var, Int, Atom, Comp}
 use Rattle.pi_terms.proofs.TermLemmas.{length_flat, cells-positive, TreeAt, tree_at-below}
-use Rattle.pi_states.specs.Value.{Bindings, value}
+use Rattle.pi_states.specs.Value.{Bindings, IsAcyclic, value, rounds}
 use Rattle.pi_states.specs.State.{followed}
 use Rattle.pi_states.specs.declared.store.Ref.{Ref}
 use Rattle.pi_states.specs.declared.store.Cell.{Cell}
@@ -23,10 +23,10 @@ use Rattle.pi_raw_terms.proofs.HeapLemmas.{front_is, front_from}
 use Rattle.pi_raw_names.specs.NameTable.{NameTable}
 use Rattle.pi_raw_store.specs.Walk.{followed_at}
 use Rattle.pi_raw_store.specs.Holding.{tree_of, heap_of}
-use Rattle.pi_raw_store.specs.Read.{name_at, entered_cell, arity_of, turned, Pushes, read_cells, open_cells, HaveTrees, bindings_of, IsReadable, IsReading}
+use Rattle.pi_raw_store.specs.Read.{name_at, entered_cell, arity_of, turned, Pushes, read_cells, open_cells, HaveTrees, IsReadable, IsReading}
 use Rattle.pi_raw_store.proofs.NameLemmas.{text_of}
-use Rattle.pi_raw_store.proofs.LookLemmas.{bound_in, tree_is, followed_to}
-use Rattle.pi_raw_store.proofs.SoundLemmas.{has_bound}
+use Rattle.pi_raw_store.specs.Bindings.{HasBound, bound_in}
+use Rattle.pi_raw_store.proofs.LookLemmas.{tree_is, followed_to}
 
 -- Stacks
 
@@ -156,7 +156,7 @@ enters texts b h u (Cell.Comp k count) refs names free many trees s =
 abbrev pub CellIs : List ℕ → Ref → Cell → Type 0
 CellIs words r cell = (h : Heap) (u : Tree) → h.words ≡ words → term_at h r.number ≡ Some u → Shows h.names u cell
 
-shown_arity : (names : Names) (u : Tree) (cell : Cell) → Shows names u cell → arity_of cell ≡ arity u
+pub shown_arity : (names : Names) (u : Tree) (cell : Cell) → Shows names u cell → arity_of cell ≡ arity u
 unfolding tree_count
 shown_arity names u (Cell.Var n) s = ap arity (sym s)
 shown_arity names u (Cell.Int n) s = ap arity (sym s)
@@ -164,23 +164,23 @@ shown_arity names u (Cell.Atom k) s = ap arity (sym s.2)
 shown_arity names u (Cell.Comp k count) s = s.3
 
 -- a term at the top of the stack, and what takes its place
-record Top (t : NameTable) (i : Image) (at : Ref) (cell : Cell) (refs : List Ref) : Type 0 where
+record Top (t : NameTable) (i : Image) (vs : List ℕ) (at : Ref) (cell : Cell) (refs : List Ref) : Type 0 where
   trees : HaveTrees (heap_of t i) (turned refs)
-  cells : read_cells (bindings_of t i) (heap_of t i) at ≡ entered_cell t.texts cell ∷ row_cells (bindings_of t i) (heap_of t i) refs
+  cells : read_cells (bound_in (heap_of t i) vs) (heap_of t i) at ≡ entered_cell t.texts cell ∷ row_cells (bound_in (heap_of t i) vs) (heap_of t i) refs
 
-top : (t : NameTable) (i : Image) (r at last : Ref) (cell : Cell) (ahead stack : List Ref) (x y : Tree) → IsReadable t i r x → term_at (heap_of t i) at.number ≡ Some y → last ≡ followed_at i.variables at → CellIs i.region last cell
-    → (p : Pushes i.region last (arity_of cell) 0 ahead stack) → Top t i at cell p.refs
-top t i r at last cell ahead stack x y g is to shown p =
+top : (t : NameTable) (i : Image) (vs : List ℕ) (r at last : Ref) (cell : Cell) (ahead stack : List Ref) (x y : Tree) → IsReadable t i vs r x → term_at (heap_of t i) at.number ≡ Some y → last ≡ followed_at vs at → CellIs i.region last cell
+    → (p : Pushes i.region last (arity_of cell) 0 ahead stack) → Top t i vs at cell p.refs
+top t i vs r at last cell ahead stack x y g is to shown p =
     let h : Heap = heap_of t i in
-    let b : Bindings = bindings_of t i in
-    let u : Tree = followed (bound_in (heap_of t i) i.variables) y in
-    let d : term_at h last.number ≡ Some u = followed_to h i.variables (has_bound t i g.0) at last y to is in
+    let b : Bindings = bound_in (heap_of t i) vs in
+    let u : Tree = followed (bound_in (heap_of t i) vs) y in
+    let d : term_at h last.number ≡ Some u = followed_to h vs g.0 at last y to is in
     let s : Shows h.names u cell = shown h u refl d in
     let all : all_trees (term_at h) (numbers_of p.refs) ≡ Some (args u) = p.trees h u refl d (shown_arity h.names u cell s) in
     let many : length p.refs + 0 ≡ arity_of cell = p.many in
     record {
       trees = have_turned h p.refs (args u) all;
-      cells = ap (λ v. bare (value (bindings_of t i) v)) (tree_is h at.number y is)
+      cells = ap (λ v. bare (value (bound_in (heap_of t i) vs) v)) (tree_is h at.number y is)
           ∙ (ap bare (sym (followed_value b y g.1.1))
           ∙ enters t.texts b h u cell p.refs (λ k name e. text_of t (length i.region) k name e) (λ m e. followed_unbound b y m g.1.1 e) (omega arith) (λ e. all) s);
     }
@@ -234,28 +234,28 @@ spelt_one no_trees e = absurd (cc)
 spelt_one (tree t no_trees) e = (t, ap (λ cs. map (λ c. with_size c 0) cs) (append-nil (flat t)))
 spelt_one (tree t (tree u ts)) e = absurd (cc)
 
-starts : (t : NameTable) (i : Image) (r : Ref) → IsReading t i r [] (r ∷ [])
+starts : (t : NameTable) (i : Image) (vs : List ℕ) (r : Ref) → IsReading t i vs r [] (r ∷ [])
 unfolding HaveTrees open_cells
-starts t i r = record {
+starts t i vs r = record {
   room = omega arith;
   spelt = λ ts e. spelt_one ts e;
   valid = λ x g. ((x, g.1.0), tt);
-  reads = λ x g. ap (λ u. bare (value (bindings_of t i) u)) (tree_is (heap_of t i) r.number x g.1.0);
+  reads = λ x g. ap (λ u. bare (value (bound_in (heap_of t i) vs) u)) (tree_is (heap_of t i) r.number x g.1.0);
 }
 
-pub reading_start : (t : NameTable) (i : Image) (r : Ref) (read : List TermCell) (stack : List Ref) → read ≡ [] → stack ≡ r ∷ [] → IsReading t i r read stack
-reading_start t i r read stack e f =
-    let P : List TermCell → Type 0 = λ x. IsReading t i r x stack in
-    let Q : List Ref → Type 0 = λ x. IsReading t i r [] x in
-    subst P (sym e) (subst Q (sym f) (starts t i r))
+pub reading_start : (t : NameTable) (i : Image) (vs : List ℕ) (r : Ref) (read : List TermCell) (stack : List Ref) → read ≡ [] → stack ≡ r ∷ [] → IsReading t i vs r read stack
+reading_start t i vs r read stack e f =
+    let P : List TermCell → Type 0 = λ x. IsReading t i vs r x stack in
+    let Q : List Ref → Type 0 = λ x. IsReading t i vs r [] x in
+    subst P (sym e) (subst Q (sym f) (starts t i vs r))
 
 one_more : (b : Bindings) (k : Heap) (ahead : List Ref) (at : Ref) → read_cells b k at ++ open_cells b k ahead ≡ open_cells b k (ahead ++ at ∷ [])
 unfolding open_cells
 one_more b k ahead at = sym (open_append b k ahead (at ∷ []))
 
-steps_on : (t : NameTable) (i : Image) (r : Ref) (read : List TermCell) (ahead stack : List Ref) (at last : Ref) (cell : Cell) → IsReading t i r read (ahead ++ at ∷ []) → last ≡ followed_at i.variables at → CellIs i.region last cell
-    → (p : Pushes i.region last (arity_of cell) 0 ahead stack) → length read + 1 + length ahead + arity_of cell ≤ most_cells → IsReading t i r (read ++ entered_cell t.texts cell ∷ []) (ahead ++ turned p.refs)
-steps_on t i r read ahead stack at last cell h to shown p l =
+steps_on : (t : NameTable) (i : Image) (vs : List ℕ) (r : Ref) (read : List TermCell) (ahead stack : List Ref) (at last : Ref) (cell : Cell) → IsReading t i vs r read (ahead ++ at ∷ []) → last ≡ followed_at vs at → CellIs i.region last cell
+    → (p : Pushes i.region last (arity_of cell) 0 ahead stack) → length read + 1 + length ahead + arity_of cell ≤ most_cells → IsReading t i vs r (read ++ entered_cell t.texts cell ∷ []) (ahead ++ turned p.refs)
+steps_on t i vs r read ahead stack at last cell h to shown p l =
     let c : TermCell = entered_cell t.texts cell in
     let refs : List Ref = p.refs in
     let many : length p.refs + 0 ≡ arity_of cell = p.many in
@@ -270,40 +270,40 @@ steps_on t i r read ahead stack at last cell h to shown p l =
           (u.0, append_assoc read (c ∷ []) (bare_all ts) ∙ (ap (λ cs. read ++ cs) (sym f.is) ∙ u.1));
       valid = λ x g.
           let y = have_last (heap_of t i) ahead at (h.valid x g) in
-          have_append (heap_of t i) ahead (turned p.refs) (have_front (heap_of t i) ahead (at ∷ []) (h.valid x g)) (top t i r at last cell ahead stack x y.0 g y.1 to shown p).trees;
+          have_append (heap_of t i) ahead (turned p.refs) (have_front (heap_of t i) ahead (at ∷ []) (h.valid x g)) (top t i vs r at last cell ahead stack x y.0 g y.1 to shown p).trees;
       reads = λ x g.
-          let b : Bindings = bindings_of t i in
+          let b : Bindings = bound_in (heap_of t i) vs in
           let k : Heap = heap_of t i in
           let y = have_last (heap_of t i) ahead at (h.valid x g) in
-          let v = (top t i r at last cell ahead stack x y.0 g y.1 to shown p).cells in
+          let v = (top t i vs r at last cell ahead stack x y.0 g y.1 to shown p).cells in
           append_assoc read (c ∷ []) (open_cells b k (ahead ++ turned p.refs))
           ∙ (ap (λ cs. read ++ c ∷ cs) (open_append b k ahead (turned p.refs) ∙ ap (λ cs. cs ++ open_cells b k ahead) (open_turned b k p.refs))
           ∙ (ap (λ cs. read ++ (cs ++ open_cells b k ahead)) (sym v)
           ∙ (ap (λ cs. read ++ cs) (one_more b k ahead at) ∙ h.reads x g)));
     }
 
-pub reading_step : (t : NameTable) (i : Image) (r : Ref) (read read' : List TermCell) (stack ahead stack' : List Ref) (at last : Ref) (cell : Cell) → IsReading t i r read stack → stack ≡ ahead ++ at ∷ [] → last ≡ followed_at i.variables at
-    → CellIs i.region last cell → length read + 1 + length ahead + arity_of cell ≤ most_cells → read' ≡ read ++ entered_cell t.texts cell ∷ [] → Pushes i.region last (arity_of cell) 0 ahead stack' → IsReading t i r read' stack'
-reading_step t i r read read' stack ahead stack' at last cell h k to shown l f p =
-    let P : List TermCell → Type 0 = λ x. IsReading t i r x stack' in
-    let Q : List Ref → Type 0 = λ x. IsReading t i r (read ++ entered_cell t.texts cell ∷ []) x in
-    let R : List Ref → Type 0 = λ x. IsReading t i r read x in
-    subst P (sym f) (subst Q (sym p.pushed) (steps_on t i r read ahead stack' at last cell (subst R k h) to shown p l))
+pub reading_step : (t : NameTable) (i : Image) (vs : List ℕ) (r : Ref) (read read' : List TermCell) (stack ahead stack' : List Ref) (at last : Ref) (cell : Cell) → IsReading t i vs r read stack → stack ≡ ahead ++ at ∷ [] → last ≡ followed_at vs at
+    → CellIs i.region last cell → length read + 1 + length ahead + arity_of cell ≤ most_cells → read' ≡ read ++ entered_cell t.texts cell ∷ [] → Pushes i.region last (arity_of cell) 0 ahead stack' → IsReading t i vs r read' stack'
+reading_step t i vs r read read' stack ahead stack' at last cell h k to shown l f p =
+    let P : List TermCell → Type 0 = λ x. IsReading t i vs r x stack' in
+    let Q : List Ref → Type 0 = λ x. IsReading t i vs r (read ++ entered_cell t.texts cell ∷ []) x in
+    let R : List Ref → Type 0 = λ x. IsReading t i vs r read x in
+    subst P (sym f) (subst Q (sym p.pushed) (steps_on t i vs r read ahead stack' at last cell (subst R k h) to shown p l))
 
-pub reading_spelt : (t : NameTable) (i : Image) (r : Ref) (read : List TermCell) (stack : List Ref) → IsReading t i r read stack → length stack ≡ 0 → (u : Tree) × (read ≡ bare u)
+pub reading_spelt : (t : NameTable) (i : Image) (vs : List ℕ) (r : Ref) (read : List TermCell) (stack : List Ref) → IsReading t i vs r read stack → length stack ≡ 0 → (u : Tree) × (read ≡ bare u)
 unfolding tree_count flat_all
-reading_spelt t i r read stack h e = let q = h.spelt no_trees (sym e) in (q.0, sym (append-nil read) ∙ q.1)
+reading_spelt t i vs r read stack h e = let q = h.spelt no_trees (sym e) in (q.0, sym (append-nil read) ∙ q.1)
 
 length_bare : (x : Tree) → length (bare x) ≡ cells x
 length_bare x = length-map (flat x) (λ c. with_size c 0) ∙ length_flat x
 
-pub reading_done : (t : NameTable) (i : Image) (r : Ref) (read : List TermCell) (stack : List Ref) → IsReading t i r read stack → length stack ≡ 0 → (x : Tree) → IsReadable t i r x
-    → (read ≡ bare (value (bindings_of t i) x)) × (cells (value (bindings_of t i) x) ≤ most_cells)
+pub reading_done : (t : NameTable) (i : Image) (vs : List ℕ) (r : Ref) (read : List TermCell) (stack : List Ref) → IsReading t i vs r read stack → length stack ≡ 0 → (x : Tree) → IsReadable t i vs r x
+    → (read ≡ bare (value (bound_in (heap_of t i) vs) x)) × (cells (value (bound_in (heap_of t i) vs) x) ≤ most_cells)
 unfolding open_cells
-reading_done t i r read stack h e = λ x g.
+reading_done t i vs r read stack h e = λ x g.
     let none : stack ≡ [] = none_left stack e in
-    let q : read ≡ bare (value (bindings_of t i) x) = sym (append-nil read) ∙ (ap (λ rs. read ++ open_cells (bindings_of t i) (heap_of t i) rs) (sym none) ∙ h.reads x g) in
-    let l : length read ≡ cells (value (bindings_of t i) x) = ap length q ∙ length_bare (value (bindings_of t i) x) in
+    let q : read ≡ bare (value (bound_in (heap_of t i) vs) x) = sym (append-nil read) ∙ (ap (λ rs. read ++ open_cells (bound_in (heap_of t i) vs) (heap_of t i) rs) (sym none) ∙ h.reads x g) in
+    let l : length read ≡ cells (value (bound_in (heap_of t i) vs) x) = ap length q ∙ length_bare (value (bound_in (heap_of t i) vs) x) in
     let m : length read + length stack ≤ most_cells = h.room in
     (q, omega arith)
 
@@ -342,23 +342,38 @@ least_value b (comp name ts) n e free =
     let w : length (bare (value b (comp name ts))) ≡ suc (length (bare_all (with_values b ts))) = ap (λ x. length (bare x)) (value_comp b name ts) in
     omega arith
 
-pub reading_large : (t : NameTable) (i : Image) (r : Ref) (read : List TermCell) (stack ahead : List Ref) (at last : Ref) (cell : Cell) → IsReading t i r read stack → stack ≡ ahead ++ at ∷ [] → last ≡ followed_at i.variables at
-    → CellIs i.region last cell → most_cells < length read + 1 + length ahead + arity_of cell → (x : Tree) → IsReadable t i r x → most_cells < cells (value (bindings_of t i) x)
+pub reading_large : (t : NameTable) (i : Image) (vs : List ℕ) (r : Ref) (read : List TermCell) (stack ahead : List Ref) (at last : Ref) (cell : Cell) → IsReading t i vs r read stack → stack ≡ ahead ++ at ∷ [] → last ≡ followed_at vs at
+    → CellIs i.region last cell → most_cells < length read + 1 + length ahead + arity_of cell → (x : Tree) → IsReadable t i vs r x → most_cells < cells (value (bound_in (heap_of t i) vs) x)
 unfolding open_cells
-reading_large t i r read stack ahead at last cell h k to shown l = λ x g.
-    let b : Bindings = bindings_of t i in
+reading_large t i vs r read stack ahead at last cell h k to shown l = λ x g.
+    let b : Bindings = bound_in (heap_of t i) vs in
     let hp : Heap = heap_of t i in
-    let R : List Ref → Type 0 = λ rs. IsReading t i r read rs in
-    let j : IsReading t i r read (ahead ++ at ∷ []) = subst R k h in
+    let R : List Ref → Type 0 = λ rs. IsReading t i vs r read rs in
+    let j : IsReading t i vs r read (ahead ++ at ∷ []) = subst R k h in
     let y = have_last (heap_of t i) ahead at (j.valid x g) in
-    let u : Tree = followed (bound_in (heap_of t i) i.variables) y.0 in
-    let d : term_at hp last.number ≡ Some u = followed_to hp i.variables (has_bound t i g.0) at last y.0 to y.1 in
+    let u : Tree = followed (bound_in (heap_of t i) vs) y.0 in
+    let d : term_at hp last.number ≡ Some u = followed_to hp vs g.0 at last y.0 to y.1 in
     let s : Shows hp.names u cell = shown hp u refl d in
-    let least : suc (arity_of cell) ≤ length (bare (value (bindings_of t i) u)) = least_value b u (arity_of cell) (shown_arity hp.names u cell s) (λ m e. followed_unbound b y.0 m g.1.1 e) in
-    let same : read_cells b hp at ≡ bare (value (bindings_of t i) u) = ap (λ v. bare (value b v)) (tree_is hp at.number y.0 y.1) ∙ ap bare (sym (followed_value b y.0 g.1.1)) in
-    let n0 : length (read_cells (bindings_of t i) (heap_of t i) at) ≡ length (bare (value (bindings_of t i) u)) = ap length same in
-    let whole : read ++ (read_cells (bindings_of t i) (heap_of t i) at ++ open_cells (bindings_of t i) (heap_of t i) ahead) ≡ bare (value (bindings_of t i) x) =
+    let least : suc (arity_of cell) ≤ length (bare (value (bound_in (heap_of t i) vs) u)) = least_value b u (arity_of cell) (shown_arity hp.names u cell s) (λ m e. followed_unbound b y.0 m g.1.1 e) in
+    let same : read_cells b hp at ≡ bare (value (bound_in (heap_of t i) vs) u) = ap (λ v. bare (value b v)) (tree_is hp at.number y.0 y.1) ∙ ap bare (sym (followed_value b y.0 g.1.1)) in
+    let n0 : length (read_cells (bound_in (heap_of t i) vs) (heap_of t i) at) ≡ length (bare (value (bound_in (heap_of t i) vs) u)) = ap length same in
+    let whole : read ++ (read_cells (bound_in (heap_of t i) vs) (heap_of t i) at ++ open_cells (bound_in (heap_of t i) vs) (heap_of t i) ahead) ≡ bare (value (bound_in (heap_of t i) vs) x) =
     ap (λ cs. read ++ cs) (sym (open_append b hp ahead (at ∷ []))) ∙ j.reads x g in
-    let n1 : length (read ++ (read_cells (bindings_of t i) (heap_of t i) at ++ open_cells (bindings_of t i) (heap_of t i) ahead)) ≡ cells (value (bindings_of t i) x) = ap length whole ∙ length_bare (value (bindings_of t i) x) in
-    let n4 : length ahead ≤ length (open_cells (bindings_of t i) (heap_of t i) ahead) = open_least (bindings_of t i) (heap_of t i) ahead in
-    omega (arith, length-append read (read_cells (bindings_of t i) (heap_of t i) at ++ open_cells (bindings_of t i) (heap_of t i) ahead), length-append (read_cells (bindings_of t i) (heap_of t i) at) (open_cells (bindings_of t i) (heap_of t i) ahead))
+    let n1 : length (read ++ (read_cells (bound_in (heap_of t i) vs) (heap_of t i) at ++ open_cells (bound_in (heap_of t i) vs) (heap_of t i) ahead)) ≡ cells (value (bound_in (heap_of t i) vs) x) = ap length whole ∙ length_bare (value (bound_in (heap_of t i) vs) x) in
+    let n4 : length ahead ≤ length (open_cells (bound_in (heap_of t i) vs) (heap_of t i) ahead) = open_least (bound_in (heap_of t i) vs) (heap_of t i) ahead in
+    omega (arith, length-append read (read_cells (bound_in (heap_of t i) vs) (heap_of t i) at ++ open_cells (bound_in (heap_of t i) vs) (heap_of t i) ahead), length-append (read_cells (bound_in (heap_of t i) vs) (heap_of t i) at) (open_cells (bound_in (heap_of t i) vs) (heap_of t i) ahead))
+
+-- A term as it was made: no variable is followed
+
+none_bound : (h : Heap) → HasBound h []
+none_bound h n q e = absurd (cc)
+
+none_cyclic : IsAcyclic []
+none_cyclic = record { rank = λ n. 0; falls = λ n m u e. absurd (cc) }
+
+pub made_readable : (t : NameTable) (i : Image) (r : Ref) (x : Tree) → term_at (heap_of t i) r.number ≡ Some x → IsReadable t i [] r x
+made_readable t i r x is = (none_bound (heap_of t i), (is, none_cyclic))
+
+pub made_value : (x : Tree) → value [] x ≡ x
+unfolding value rounds
+made_value x = refl

@@ -16,7 +16,8 @@ use Rattle.pi_raw_store.specs.Domains.{domain_by}
 use Rattle.pi_raw_store.specs.Since.{IsChanged, Picks, AreSince}
 use Rattle.pi_raw_store.specs.Holding.{variable_in, heap_of, state_of}
 use Rattle.pi_raw_store.specs.Sound.{IsSound}
-use Rattle.pi_raw_store.proofs.LookLemmas.{bound_in, tree_at_ref, held_is}
+use Rattle.pi_raw_store.specs.Bindings.{bound_in}
+use Rattle.pi_raw_store.proofs.LookLemmas.{tree_at_ref, held_is}
 use Rattle.pi_raw_store.proofs.FoundLemmas.{one_is, has_one}
 use Rattle.pi_raw_store.proofs.DomainLemmas.{none_zero, is_zero, domain_is, shows_past}
 

@@ -1,5 +1,5 @@
 -- What keeps a store over raw words sound.
-use Rattle.std.proofs.Common.{◌≡◌, ⊎_elim, ℕ, zero, suc, ◌/◌, ◌%◌, ◌^◌, ◌<◌, ◌≤◌, List, [], ◌∷◌, ◌++◌, length, slice_get, slice_index, Some, refl, ap, sym, subst, ◌∙◌, arith, ◌≢◌, ◌*◌, ◌-◌, ◌==◌, Bool, true, false}
+use Rattle.std.proofs.Common.{◌≡◌, ⊎_elim, ℕ, zero, suc, ◌/◌, ◌%◌, ◌^◌, ◌<◌, ◌≤◌, List, [], ◌∷◌, ◌++◌, length, slice_get, slice_index, Some, refl, ap, sym, subst, ◌∙◌, arith, length-append, ◌≢◌, ◌*◌, ◌-◌, ◌==◌, Bool, true, false}
 use Rattle.std.proofs.lemmas.Bool.{cases_lt}
 use Rattle.std.proofs.lemmas.Bool.Decides.{nat_tests}
 use Rattle.pi_terms.specs.Tree.{Tree}
@@ -10,8 +10,9 @@ use Rattle.pi_trail.specs.Back.{cut, at_length}
 use Rattle.pi_trail.proofs.BackLemmas.{back_stop}
 use Rattle.pi_trail.specs.declared.entry.Table.{Table}
 use Rattle.pi_raw_terms.specs.Form.{form_with, form_of}
-use Rattle.pi_raw_terms.specs.Heap.{Heap, term_at}
+use Rattle.pi_raw_terms.specs.Heap.{Heap, Grows, term_at}
 use Rattle.pi_raw_terms.specs.Placed.{IsRefIn, WritesRight}
+use Rattle.pi_raw_terms.proofs.RefLemmas.{form_stays}
 use Rattle.pi_raw_terms.proofs.WriteLemmas.{data_word}
 use Rattle.pi_raw_laws.specs.Right.{HasMoreNames}
 use Rattle.pi_raw_laws.specs.Past.{past_of}
@@ -27,12 +28,19 @@ use Rattle.pi_raw_agents.proofs.TableLemmas.{agent_stays}
 use Rattle.pi_atoms.specs.Names.{HasDistinct}
 use Rattle.pi_raw_names.specs.NameTable.{NameTable, names_of}
 use Rattle.pi_raw_store.specs.Holding.{heap_of}
+use Rattle.pi_raw_store.specs.Waiting.{IsWaitingIn}
 use Rattle.pi_raw_store.specs.Sound.{IsSound}
 use Rattle.pi_raw_store.specs.Changed.{KeepsNames, IsNumbered}
 use Rattle.pi_raw_store.proofs.NameLemmas.{stay}
+use Rattle.pi_raw_store.proofs.TakenLemmas as taken
 use Rattle.pi_states.specs.declared.store.Ref.{Ref}
 use Rattle.pi_raw_store.specs.Walk.{bound_ref_by}
-use Rattle.pi_raw_store.proofs.LookLemmas.{HasBound}
+use Rattle.pi_raw_store.specs.Bindings.{HasBound}
+
+-- a word of what waits is one still when there is more
+waiting_stays : (h k : Heap) → Grows h k → (w : ℕ) → IsWaitingIn h w → IsWaitingIn k w
+waiting_stays h k grows zero is = tt
+waiting_stays h k grows (suc w) is = form_stays h k grows (form_of (suc w)) is
 
 -- nothing at all
 one_distinct : (name : List ℕ) → HasDistinct (name ∷ [])
@@ -59,8 +67,8 @@ none_there P table t i none trail empty = record {
     table_cut len i Table.Waiting = refl
     table_cut len i Table.Heads = refl
 
-pub sound_new : (t : NameTable) (i : Image) → t.texts ≡ cell_name ∷ [] → i.trail ≡ 0 → i.region ≡ [] → i.variables ≡ [] → i.constraints ≡ [] → i.agents ≡ [] → IsSound t i
-sound_new t i texts trail region variables constraints agents = record {
+pub sound_new : (t : NameTable) (i : Image) → t.texts ≡ cell_name ∷ [] → i.trail ≡ 0 → i.region ≡ [] → i.variables ≡ [] → i.constraints ≡ [] → i.agents ≡ [] → i.waiting ≡ [] → i.heads ≡ [] → IsSound t i
+sound_new t i texts trail region variables constraints agents waiting heads = record {
   cells = ap (λ xs. slice_get xs 0) texts;
   distinct = subst HasDistinct (sym texts) (one_distinct cell_name);
   right = record {
@@ -70,6 +78,8 @@ sound_new t i texts trail region variables constraints agents = record {
   bound = none_there IsBoundIn Table.Variables t i bound.free_in trail variables;
   constraints = none_there IsConstraintIn Table.Constraints t i (λ h. let least : 0 ≤ length h.words = omega arith in least) trail constraints;
   agents = none_there IsAgentIn Table.Agents t i (λ h. tt) trail agents;
+  waiting = none_there IsWaitingIn Table.Waiting t i (λ h. tt) trail waiting;
+  taken = λ len. subst (λ (j : Image). length j.heads ≤ length j.waiting) (sym (ap (cut len) (back_stop len i (omega arith)))) (let none : length i.heads ≡ 0 = ap length heads in omega arith);
 }
 
 -- more names
@@ -84,6 +94,8 @@ sound_names t u i keeps distinct s =
       bound = bound.by_names (names_of t) (names_of u) i more s.bound;
       constraints = kept.by_names IsConstraintIn constraint_stays Table.Constraints (names_of t) (names_of u) i more s.constraints;
       agents = kept.by_names IsAgentIn agent_stays Table.Agents (names_of t) (names_of u) i more s.agents;
+      waiting = kept.by_names IsWaitingIn waiting_stays Table.Waiting (names_of t) (names_of u) i more s.waiting;
+      taken = s.taken;
     }
 
 -- more words
@@ -96,6 +108,8 @@ sound_words t i ws writes s = record {
   bound = bound.by_words (names_of t) i ws (stay t) s.right s.bound;
   constraints = kept.by_words IsConstraintIn constraint_stays Table.Constraints (names_of t) i s.right.trail s.constraints (stay t) ws;
   agents = kept.by_words IsAgentIn agent_stays Table.Agents (names_of t) i s.right.trail s.agents (stay t) ws;
+  waiting = kept.by_words IsWaitingIn waiting_stays Table.Waiting (names_of t) i s.right.trail s.waiting (stay t) ws;
+  taken = taken.by_words i s.right.trail s.taken ws;
 }
 
 sound_data : (t : NameTable) (i : Image) → IsSound t i → IsSound t (appended i (data_of 0 ∷ []))
@@ -106,6 +120,8 @@ sound_data t i s = record {
   bound = bound.by_words (names_of t) i (data_of 0 ∷ []) (stay t) s.right s.bound;
   constraints = kept.by_words IsConstraintIn constraint_stays Table.Constraints (names_of t) i s.right.trail s.constraints (stay t) (data_of 0 ∷ []);
   agents = kept.by_words IsAgentIn agent_stays Table.Agents (names_of t) i s.right.trail s.agents (stay t) (data_of 0 ∷ []);
+  waiting = kept.by_words IsWaitingIn waiting_stays Table.Waiting (names_of t) i s.right.trail s.waiting (stay t) (data_of 0 ∷ []);
+  taken = taken.by_words i s.right.trail s.taken (data_of 0 ∷ []);
 }
 
 pub sound_numbered : (t u : NameTable) (i j : Image) (name : List ℕ) → IsNumbered t u i j name → IsSound t i → IsSound u j
@@ -126,6 +142,8 @@ sound_variable t i s = record {
   bound = bound.by_new (names_of t) i (stay t) s.right s.bound;
   constraints = kept.by_other_push IsConstraintIn constraint_stays Table.Constraints (names_of t) i s.right.trail s.constraints (stay t) Table.Variables 0 (λ e. absurd (cc));
   agents = kept.by_other_push IsAgentIn agent_stays Table.Agents (names_of t) i s.right.trail s.agents (stay t) Table.Variables 0 (λ e. absurd (cc));
+  waiting = kept.by_other_push IsWaitingIn waiting_stays Table.Waiting (names_of t) i s.right.trail s.waiting (stay t) Table.Variables 0 (λ e. absurd (cc));
+  taken = taken.by_push i s.right.trail s.taken Table.Variables 0 (taken.now i s.right.trail s.taken);
 }
 
 pub sound_binding : (t : NameTable) (i : Image) (n r : ℕ) → IsRefIn (heap_of t i) (form_of r) → IsSound t i → IsSound t (replaced i Table.Variables n (suc r))
@@ -136,6 +154,8 @@ sound_binding t i n r is s = record {
   bound = bound.by_binding (names_of t) i n r (stay t) s.right s.bound is;
   constraints = kept.by_other_replace IsConstraintIn constraint_stays Table.Constraints (names_of t) i s.right.trail s.constraints (stay t) Table.Variables n (suc r) (λ e. absurd (cc));
   agents = kept.by_other_replace IsAgentIn agent_stays Table.Agents (names_of t) i s.right.trail s.agents (stay t) Table.Variables n (suc r) (λ e. absurd (cc));
+  waiting = kept.by_other_replace IsWaitingIn waiting_stays Table.Waiting (names_of t) i s.right.trail s.waiting (stay t) Table.Variables n (suc r) (λ e. absurd (cc));
+  taken = taken.by_replace i s.right.trail s.taken Table.Variables n (suc r) (taken.now i s.right.trail s.taken);
 }
 
 pub sound_undo : (t : NameTable) (i : Image) (n : ℕ) → IsSound t i → IsSound t (at_length n i)
@@ -146,6 +166,8 @@ sound_undo t i n s = record {
   bound = bound.by_undo (names_of t) i s.right s.bound n;
   constraints = kept.by_undo IsConstraintIn constraint_stays Table.Constraints (names_of t) i s.right.trail s.constraints n;
   agents = kept.by_undo IsAgentIn agent_stays Table.Agents (names_of t) i s.right.trail s.agents n;
+  waiting = kept.by_undo IsWaitingIn waiting_stays Table.Waiting (names_of t) i s.right.trail s.waiting n;
+  taken = taken.by_undo i s.right.trail s.taken n;
 }
 
 pub sound_domain : (t : NameTable) (i : Image) (n end : ℕ) → end ≤ length i.region → IsSound t i → IsSound t (replaced i Table.Variables n (8 * end))
@@ -156,6 +178,8 @@ sound_domain t i n end le s = record {
   bound = bound.by_domain (names_of t) i n end (stay t) s.right s.bound le;
   constraints = kept.by_other_replace IsConstraintIn constraint_stays Table.Constraints (names_of t) i s.right.trail s.constraints (stay t) Table.Variables n (8 * end) (λ e. absurd (cc));
   agents = kept.by_other_replace IsAgentIn agent_stays Table.Agents (names_of t) i s.right.trail s.agents (stay t) Table.Variables n (8 * end) (λ e. absurd (cc));
+  waiting = kept.by_other_replace IsWaitingIn waiting_stays Table.Waiting (names_of t) i s.right.trail s.waiting (stay t) Table.Variables n (8 * end) (λ e. absurd (cc));
+  taken = taken.by_replace i s.right.trail s.taken Table.Variables n (8 * end) (taken.now i s.right.trail s.taken);
 }
 
 -- one more constraint
@@ -168,6 +192,8 @@ sound_constraint t i w is s = record {
   bound = bound.by_push (names_of t) i Table.Constraints w (λ e. absurd (cc)) (stay t) s.right s.bound;
   constraints = kept.by_push IsConstraintIn constraint_stays Table.Constraints (names_of t) i s.right.trail s.constraints (stay t) w is;
   agents = kept.by_other_push IsAgentIn agent_stays Table.Agents (names_of t) i s.right.trail s.agents (stay t) Table.Constraints w (λ e. absurd (cc));
+  waiting = kept.by_other_push IsWaitingIn waiting_stays Table.Waiting (names_of t) i s.right.trail s.waiting (stay t) Table.Constraints w (λ e. absurd (cc));
+  taken = taken.by_push i s.right.trail s.taken Table.Constraints w (taken.now i s.right.trail s.taken);
 }
 
 -- agents
@@ -181,6 +207,8 @@ sound_agent t i w is s = record {
   bound = bound.by_push (names_of t) i Table.Agents w (λ e. absurd (cc)) (stay t) s.right s.bound;
   constraints = kept.by_other_push IsConstraintIn constraint_stays Table.Constraints (names_of t) i s.right.trail s.constraints (stay t) Table.Agents w (λ e. absurd (cc));
   agents = kept.by_push IsAgentIn agent_stays Table.Agents (names_of t) i s.right.trail s.agents (stay t) w is;
+  waiting = kept.by_other_push IsWaitingIn waiting_stays Table.Waiting (names_of t) i s.right.trail s.waiting (stay t) Table.Agents w (λ e. absurd (cc));
+  taken = taken.by_push i s.right.trail s.taken Table.Agents w (taken.now i s.right.trail s.taken);
 }
 
 pub sound_agent_for : (t : NameTable) (i : Image) (n w : ℕ) → IsAgentIn (heap_of t (replaced i Table.Agents n w)) w → IsSound t i → IsSound t (replaced i Table.Agents n w)
@@ -191,6 +219,34 @@ sound_agent_for t i n w is s = record {
   bound = bound.by_replace (names_of t) i Table.Agents n w (λ e. absurd (cc)) (stay t) s.right s.bound;
   constraints = kept.by_other_replace IsConstraintIn constraint_stays Table.Constraints (names_of t) i s.right.trail s.constraints (stay t) Table.Agents n w (λ e. absurd (cc));
   agents = kept.by_replace IsAgentIn agent_stays Table.Agents (names_of t) i s.right.trail s.agents (stay t) n w is;
+  waiting = kept.by_other_replace IsWaitingIn waiting_stays Table.Waiting (names_of t) i s.right.trail s.waiting (stay t) Table.Agents n w (λ e. absurd (cc));
+  taken = taken.by_replace i s.right.trail s.taken Table.Agents n w (taken.now i s.right.trail s.taken);
+}
+
+-- what waits: one more, and one more that is taken
+
+pub sound_waiting : (t : NameTable) (i : Image) (w : ℕ) → IsWaitingIn (heap_of t (pushed i Table.Waiting w)) w → IsSound t i → IsSound t (pushed i Table.Waiting w)
+sound_waiting t i w is s = record {
+  cells = s.cells;
+  distinct = s.distinct;
+  right = right.by_push (names_of t) i Table.Waiting w s.right;
+  bound = bound.by_push (names_of t) i Table.Waiting w (λ e. absurd (cc)) (stay t) s.right s.bound;
+  constraints = kept.by_other_push IsConstraintIn constraint_stays Table.Constraints (names_of t) i s.right.trail s.constraints (stay t) Table.Waiting w (λ e. absurd (cc));
+  agents = kept.by_other_push IsAgentIn agent_stays Table.Agents (names_of t) i s.right.trail s.agents (stay t) Table.Waiting w (λ e. absurd (cc));
+  waiting = kept.by_push IsWaitingIn waiting_stays Table.Waiting (names_of t) i s.right.trail s.waiting (stay t) w is;
+  taken = taken.by_push i s.right.trail s.taken Table.Waiting w (let before : length i.heads ≤ length i.waiting = taken.now i s.right.trail s.taken in omega (arith, length-append i.waiting (w ∷ [])));
+}
+
+pub sound_taken : (t : NameTable) (i : Image) (w : ℕ) → length i.heads < length i.waiting → IsSound t i → IsSound t (pushed i Table.Heads w)
+sound_taken t i w more s = record {
+  cells = s.cells;
+  distinct = s.distinct;
+  right = right.by_push (names_of t) i Table.Heads w s.right;
+  bound = bound.by_push (names_of t) i Table.Heads w (λ e. absurd (cc)) (stay t) s.right s.bound;
+  constraints = kept.by_other_push IsConstraintIn constraint_stays Table.Constraints (names_of t) i s.right.trail s.constraints (stay t) Table.Heads w (λ e. absurd (cc));
+  agents = kept.by_other_push IsAgentIn agent_stays Table.Agents (names_of t) i s.right.trail s.agents (stay t) Table.Heads w (λ e. absurd (cc));
+  waiting = kept.by_other_push IsWaitingIn waiting_stays Table.Waiting (names_of t) i s.right.trail s.waiting (stay t) Table.Heads w (λ e. absurd (cc));
+  taken = taken.by_push i s.right.trail s.taken Table.Heads w (omega (arith, length-append i.heads (w ∷ [])));
 }
 
 -- What it gives
@@ -200,6 +256,12 @@ has_constraints t i s n = kept.kept_now IsConstraintIn constraint_stays Table.Co
 
 pub has_agents : (t : NameTable) (i : Image) → IsSound t i → (n : ℕ) → IsAgentIn (heap_of t i) (slice_index i.agents n)
 has_agents t i s n = kept.kept_now IsAgentIn agent_stays Table.Agents (names_of t) i s.right.trail s.agents n
+
+pub has_waiting : (t : NameTable) (i : Image) → IsSound t i → (n : ℕ) → IsWaitingIn (heap_of t i) (slice_index i.waiting n)
+has_waiting t i s n = kept.kept_now IsWaitingIn waiting_stays Table.Waiting (names_of t) i s.right.trail s.waiting n
+
+pub has_taken : (t : NameTable) (i : Image) → IsSound t i → length i.heads ≤ length i.waiting
+has_taken t i s = taken.now i s.right.trail s.taken
 
 pub has_words : (t : NameTable) (i : Image) → IsSound t i → (n : ℕ) → IsBoundIn (heap_of t i) (slice_index i.variables n)
 has_words t i s n = bound.kept_at (names_of t) i s.right s.bound n

@@ -80,7 +80,8 @@ suspends_to t i j call rule watches made s a many =
       number = many ∙ sym (length-map i.agents (agent_in h));
       agent = λ x ws is are. record {
         keeps = keeps_all t t i j keeps a.advances;
-        state = same_states _ _ (q.variables vars) (q.constraints others) (before ∙ ap (λ b. map (agent_in h) i.agents ++ b ∷ []) (added_agent t i j call rule watches a x ws is are)) refl;
+        state = same_states _ _ (q.variables vars) (q.constraints others) (before ∙ ap (λ b. map (agent_in h) i.agents ++ b ∷ []) (added_agent t i j call rule watches a x ws is are))
+            (q.waiting (ap (λ (l : Image). l.waiting) a.added ∙ ap (λ (l : Image). l.waiting) a.written.words) (ap (λ (l : Image). l.heads) a.added ∙ ap (λ (l : Image). l.heads) a.written.words));
       };
     }
 
@@ -104,6 +105,11 @@ sound_if t i j n true s alive a is =
 pub sound_ended : (t : NameTable) (i j : Image) (n : ℕ) → IsSound t i → Advances i j → j ≡ with_ended i n → IsSound t j
 sound_ended t i j n s a is = sound_if t i j n (is_alive (slice_index i.agents n)) s refl a is
 
+-- what waits is left
+waiting_if : (i j : Image) (n w : ℕ) (test : Bool) → j ≡ with_ended_if test i n w → (j.waiting ≡ i.waiting) × (j.heads ≡ i.heads)
+waiting_if i j n w false is = (ap (λ (l : Image). l.waiting) is, ap (λ (l : Image). l.heads) is)
+waiting_if i j n w true is = (ap (λ (l : Image). l.waiting) is, ap (λ (l : Image). l.heads) is)
+
 agents_if : (t : NameTable) (i j : Image) (n : ℕ) (test : Bool) → IsSound t i → is_alive (slice_index i.agents n) ≡ test → Advances i j → j ≡ with_ended_if test i n (slice_index i.agents n)
     → (j.variables ≡ i.variables) × (j.constraints ≡ i.constraints) × (map (agent_in (heap_of t j)) j.agents ≡ end_agent (map (agent_in (heap_of t i)) i.agents) n)
 agents_if t i j n false s alive a is =
@@ -120,4 +126,5 @@ ends_to t i j n s a is =
     let keeps = keeps_itself t (length i.region) in
     let p = same_parts (heap_of t i) (heap_of t j) i j (parts_stay t t i j s (heap_grows t t i j keeps a)) in
     let q = agents_if t i j n (is_alive (slice_index i.agents n)) s refl a is in
-    record { keeps = keeps_all t t i j keeps a; state = same_states _ _ (p.variables q.0) (p.constraints q.1) q.2 refl }
+    let left = waiting_if i j n (slice_index i.agents n) (is_alive (slice_index i.agents n)) is in
+    record { keeps = keeps_all t t i j keeps a; state = same_states _ _ (p.variables q.0) (p.constraints q.1) q.2 (p.waiting left.0 left.1) }

@@ -1,9 +1,10 @@
 -- What a store over raw words holds, and what the trait of stores sees of it.
-use Rattle.std.specs.Prelude.{ℕ, zero, suc, ◌-◌, ◌/◌, ◌%◌, ◌==◌, nat_le, Bool, true, false, [], length, map, unwrap_or, pos}
+use Rattle.std.specs.Prelude.{ℕ, zero, suc, ◌-◌, ◌/◌, ◌%◌, ◌==◌, nat_le, Bool, true, false, List, [], length, map, drop, None, unwrap_or, pos}
 use Rattle.pi_terms.specs.Tree.{Tree, int}
 use Rattle.pi_states.specs.State.{Variable, free, within, bound, WatchTree, on_ins, on_bound, on_dom, on_dom_any, on_posted, Agent, State}
 use Rattle.pi_states.specs.Store.{Moment, StoreView}
 use Rattle.pi_states.specs.declared.event.Watch.{Watch}
+use Rattle.pi_states.specs.declared.event.Activation.{Activation}
 use Rattle.pi_trail.specs.Image.{Image}
 use Rattle.pi_trail.specs.Back.{at_length}
 use Rattle.pi_raw_terms.specs.Heap.{Heap, term_at}
@@ -12,6 +13,7 @@ use Rattle.pi_raw_agents.specs.Agent.{call_at, rule_at, watches_at}
 use Rattle.pi_raw_agents.specs.Table.{end_of, is_alive}
 use Rattle.pi_raw_constraints.specs.Table.{constraint_at}
 use Rattle.pi_raw_store.specs.Domains.{domain_at}
+use Rattle.pi_raw_store.specs.Waiting.{activation_of}
 use Rattle.pi_raw_names.specs.NameTable.{NameTable, names_of}
 use Rattle.pi_raw_store.specs.declared.mark.RawMark.{RawMark}
 
@@ -58,9 +60,18 @@ abbrev pub agent_in : Heap → ℕ → Agent
 agent_in h zero = record { call = int (pos 0); rule = 0; watches = []; alive = false }
 agent_in h (suc w) = agent_at h (end_of (suc w)) (is_alive (suc w))
 
--- the state that the words say, over what terms are read from; so far without what waits
+-- an activation by its word: that of its term
+abbrev pub activation_in : Heap → ℕ → Activation
+activation_in h zero = record { agent = 0; watch = 0; value = None }
+activation_in h (suc w) = activation_of (tree_of h (suc w))
+
+-- what waits: those of the table, of which the first were taken, as many as the heads are
+abbrev pub waiting_in : Heap → Image → List Activation
+waiting_in h i = drop (length i.heads) (map (activation_in h) i.waiting)
+
+-- the state that the words say, over what terms are read from
 abbrev pub state_of : Heap → Image → State
-state_of h i = record { variables = map (variable_in h) i.variables; constraints = map (constraint_at h.words) i.constraints; agents = map (agent_in h) i.agents; waiting = [] }
+state_of h i = record { variables = map (variable_in h) i.variables; constraints = map (constraint_at h.words) i.constraints; agents = map (agent_in h) i.agents; waiting = waiting_in h i }
 
 abbrev pub moment_of : NameTable → Image → Moment
 moment_of t i = record { state = state_of (heap_of t i) i; terms = term_at (heap_of t i) }

@@ -2,7 +2,10 @@ pub mod Walk
 pub mod Posted
 pub mod Domains
 pub mod Since
+pub mod Waiting
 pub mod Holding
+pub mod Bindings
 pub mod Sound
 pub mod Changed
 pub mod Read
+pub mod Restoration

@@ -5,15 +5,15 @@ use Rattle.pi_terms.specs.BareCells.{bare, bare_all}
 use Rattle.pi_terms.specs.declared.term.TermCell.{TermCell}
 use Rattle.pi_terms.specs.declared.term.TermCell.TheVariants.{Var, Int, Atom, Comp}
 use Rattle.pi_states.specs.Value.{Bindings, IsAcyclic, value}
-use Rattle.pi_states.specs.State.{bindings}
 use Rattle.pi_states.specs.declared.store.Ref.{Ref}
 use Rattle.pi_states.specs.declared.store.Cell.{Cell}
 use Rattle.pi_states.specs.declared.store.ReadStop.{ReadStop}
 use Rattle.pi_trail.specs.Image.{Image, numbers_of}
 use Rattle.pi_raw_terms.specs.Heap.{Heap, all_trees, term_at}
 use Rattle.pi_raw_names.specs.NameTable.{NameTable}
-use Rattle.pi_raw_store.specs.Holding.{tree_of, heap_of, state_of}
-use Rattle.pi_raw_store.specs.Sound.{IsSound}
+use Rattle.pi_raw_store.specs.Holding.{tree_of, heap_of}
+use Rattle.pi_raw_store.specs.Bindings.{HasBound, bound_in}
+use Rattle.pi_raw_store.specs.declared.read.Reading.{Reading}
 
 -- the cell of a term by what it is at its root, without its size; a number without a name has an empty one
 abbrev pub name_at : List (List ℕ) → ℕ → List ℕ
@@ -57,18 +57,21 @@ unfoldable pub HaveTrees : Heap → List Ref → Type 0
 HaveTrees h [] = ⊤
 HaveTrees h (r ∷ rs) = ((t : Tree) × (term_at h r.number ≡ Some t)) × HaveTrees h rs
 
-abbrev pub bindings_of : NameTable → Image → Bindings
-bindings_of t i = bindings (state_of (heap_of t i) i)
+-- the words of the variables whose bindings are followed: all, or none
+abbrev pub followed_words : Reading → List ℕ → List ℕ
+followed_words Reading.Value vs = vs
+followed_words Reading.Made vs = []
 
-abbrev pub IsReadable : NameTable → Image → Ref → Tree → Type 0
-IsReadable t i r x = IsSound t i × ((term_at (heap_of t i) r.number ≡ Some x) × IsAcyclic (bindings_of t i))
+-- a term, and variables that are followed, of which none holds itself
+abbrev pub IsReadable : NameTable → Image → List ℕ → Ref → Tree → Type 0
+IsReadable t i vs r x = HasBound (heap_of t i) vs × ((term_at (heap_of t i) r.number ≡ Some x) × IsAcyclic (bound_in (heap_of t i) vs))
 
 -- so far: the cells that were read, and the stack of those to be read next
-pub record IsReading (t : NameTable) (i : Image) (r : Ref) (read : List TermCell) (stack : List Ref) : Type 0 where
+pub record IsReading (t : NameTable) (i : Image) (vs : List ℕ) (r : Ref) (read : List TermCell) (stack : List Ref) : Type 0 where
   pub room : length read + length stack ≤ most_cells
   pub spelt : (ts : Trees) → tree_count ts ≡ length stack → (u : Tree) × (read ++ bare_all ts ≡ bare u)
-  pub valid : (x : Tree) → IsReadable t i r x → HaveTrees (heap_of t i) stack
-  pub reads : (x : Tree) → IsReadable t i r x → read ++ open_cells (bindings_of t i) (heap_of t i) stack ≡ bare (value (bindings_of t i) x)
+  pub valid : (x : Tree) → IsReadable t i vs r x → HaveTrees (heap_of t i) stack
+  pub reads : (x : Tree) → IsReadable t i vs r x → read ++ open_cells (bound_in (heap_of t i) vs) (heap_of t i) stack ≡ bare (value (bound_in (heap_of t i) vs) x)
 
 -- why a term was not read
 abbrev pub StopsAt : Tree → ReadStop → Type 0

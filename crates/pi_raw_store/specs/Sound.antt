@@ -1,7 +1,8 @@
 -- What is true of each store over raw words.
-use Rattle.std.specs.Prelude.{◌≡◌, Some, slice_get}
+use Rattle.std.specs.Prelude.{◌≡◌, ℕ, ◌≤◌, Some, length, slice_get}
 use Rattle.pi_terms.specs.ListNames.{cell_name}
 use Rattle.pi_trail.specs.Image.{Image}
+use Rattle.pi_trail.specs.Back.{at_length}
 use Rattle.pi_trail.specs.declared.entry.Table.{Table}
 use Rattle.pi_atoms.specs.Names.{HasDistinct}
 use Rattle.pi_raw_laws.specs.Right.{IsRight}
@@ -10,9 +11,14 @@ use Rattle.pi_raw_laws.specs.Kept.{AreKept}
 use Rattle.pi_raw_constraints.specs.Table.{IsConstraintIn}
 use Rattle.pi_raw_agents.specs.Table.{IsAgentIn}
 use Rattle.pi_raw_names.specs.NameTable.{NameTable, names_of}
+use Rattle.pi_raw_store.specs.Waiting.{IsWaitingIn}
+
+-- no more activations were taken than were to wait, now and at each length that the region had
+abbrev pub AreTakenWithin : Image → Type 0
+AreTakenWithin i = (len : ℕ) → length (at_length len i).heads ≤ length (at_length len i).waiting
 
 -- the first name is that of list cells, no name has two numbers, each word was right when it was written, variables are bound to Refs,
--- blocks of domains and constraints stand in the region, and what agents say are Refs
+-- blocks of domains and constraints stand in the region, and what agents say and what waits are Refs
 pub record IsSound (t : NameTable) (i : Image) : Type 0 where
   pub cells : slice_get t.texts 0 ≡ Some cell_name
   pub distinct : HasDistinct t.texts
@@ -20,3 +26,5 @@ pub record IsSound (t : NameTable) (i : Image) : Type 0 where
   pub bound : AreBound (names_of t) i
   pub constraints : AreKept IsConstraintIn Table.Constraints (names_of t) i
   pub agents : AreKept IsAgentIn Table.Agents (names_of t) i
+  pub waiting : AreKept IsWaitingIn Table.Waiting (names_of t) i
+  pub taken : AreTakenWithin i

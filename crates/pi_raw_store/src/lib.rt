@@ -2,6 +2,7 @@
 #![tactic(auto)]
 
 mod domains;
+pub mod laws;
 mod mark;
 mod named;
 mod posted;
@@ -10,6 +11,7 @@ mod refs;
 mod since;
 mod state_store;
 mod store;
+mod waiting;
 mod walk;
 
 pub use mark::RawMark;

@@ -3,10 +3,11 @@ ghost use Rattle.std.specs.Prelude.{◌≡◌, ◌≤◌, ◌++◌, ◌∷◌, [
 ghost use Rattle.pi_terms.specs.Tree.{Tree, cells, most_cells};
 ghost use Rattle.pi_terms.specs.BareCells.{bare};
 ghost use Rattle.pi_states.specs.Value.{value};
-ghost use Rattle.pi_states.specs.State.{bindings};
 ghost use Rattle.pi_states.specs.Store.{ShowsRead};
-ghost use Rattle.pi_raw_store.specs.Holding.{heap_of, state_of};
-ghost use Rattle.pi_raw_store.specs.Read.{entered_cell, arity_of, Pushes, IsReadable, StopsAt};
+ghost use Rattle.pi_raw_store.specs.Walk.{followed_at};
+ghost use Rattle.pi_raw_store.specs.Holding.{heap_of};
+ghost use Rattle.pi_raw_store.specs.Bindings.{bound_in};
+ghost use Rattle.pi_raw_store.specs.Read.{entered_cell, arity_of, followed_words, Pushes, IsReadable, StopsAt};
 
 use crate::walk::followed;
 use pi_raw_names::RawNames;
@@ -19,11 +20,26 @@ use std::alloc::{AllocError, Global};
 /// The most cells of a term that is read. The number is own.
 const MOST_CELLS: usize = 16777216;
 
-/// A term with bindings replaced throughout.
-pub fn read(alloc: Global, names: &RawNames, words: &Trailed, r: Ref) -> Result<Term, ReadStop>
-    ensures { (t : Tree) → IsReadable names.now words.now r t → ShowsRead (value (bindings (state_of (heap_of names.now words.now) words.now)) t) result }
+/// How a term is read.
+#[derive(Clone, Copy)]
+pub enum Reading {
+    /// With bindings replaced throughout.
+    Value,
+    /// As it was made.
+    Made,
+}
+
+/// A term as it is read.
+pub fn read(
+    alloc: Global,
+    names: &RawNames,
+    words: &Trailed,
+    reading: Reading,
+    r: Ref,
+) -> Result<Term, ReadStop>
+    ensures { (t : Tree) → IsReadable names.now words.now (followed_words reading words.now.variables) r t → ShowsRead (value (bound_in (heap_of names.now words.now) (followed_words reading words.now.variables)) t) result }
 {
-    let cells = bare_cells(alloc, names, words, r)?;
+    let cells = bare_cells(alloc, names, words, reading, r)?;
     Ok(Term::from_bare(cells))
 }
 
@@ -32,10 +48,11 @@ fn bare_cells(
     alloc: Global,
     names: &RawNames,
     words: &Trailed,
+    reading: Reading,
     r: Ref,
 ) -> Result<Vec<TermCell>, ReadStop>
     ensures spelt { IfOk result (λ made. (u : Tree) × (made.items ≡ bare u)) }
-    ensures reads { (t : Tree) → IsReadable names.now words.now r t → MatchResult result (λ made. (made.items ≡ bare (value (bindings (state_of (heap_of names.now words.now) words.now)) t)) × (cells (value (bindings (state_of (heap_of names.now words.now) words.now)) t) ≤ most_cells)) (StopsAt (value (bindings (state_of (heap_of names.now words.now) words.now)) t)) }
+    ensures reads { (t : Tree) → IsReadable names.now words.now (followed_words reading words.now.variables) r t → MatchResult result (λ made. (made.items ≡ bare (value (bound_in (heap_of names.now words.now) (followed_words reading words.now.variables)) t)) × (cells (value (bound_in (heap_of names.now words.now) (followed_words reading words.now.variables)) t) ≤ most_cells)) (StopsAt (value (bound_in (heap_of names.now words.now) (followed_words reading words.now.variables)) t)) }
 {
     let mut read = Vec::new(alloc);
     let mut stack = Vec::new(alloc);
@@ -43,7 +60,7 @@ fn bare_cells(
         return Err(ReadStop::Memory);
     };
     while let Some(at) = stack.pop() {
-        let last = followed(words, at);
+        let last = root(words, reading, at);
         let cell = terms::cell(words, last);
         if arity(cell) > (MOST_CELLS - 1 - read.len() - stack.len()) as u64 {
             return Err(ReadStop::TooLarge);
@@ -53,6 +70,17 @@ fn bare_cells(
         };
     }
     Ok(read)
+}
+
+/// The term itself, or what it is bound to, directly or through others, as it is read.
+#[tactic(auto, unfolding(crate::specs::Walk::steps_at))]
+fn root(words: &Trailed, reading: Reading, r: Ref) -> Ref
+    ensures { result ≡ followed_at (followed_words reading words.now.variables) r }
+{
+    match reading {
+        Reading::Value => followed(words, r),
+        Reading::Made => r,
+    }
 }
 
 /// Puts the cell of a term behind those that were read, and its arguments on the stack.
@@ -75,7 +103,7 @@ fn enter(
 }
 
 /// How many arguments a term has, by what it is at its root.
-fn arity(cell: Cell) -> u64
+pub fn arity(cell: Cell) -> u64
     ensures { result ≡ arity_of cell }
 {
     match cell {

@@ -1,5 +1,4 @@
-//! The store over raw words as a store of states. Activations aren't kept yet: a call that would make
-//! one is want of memory, and a call that takes one says that there is none.
+//! The store over raw words as a store of states.
 ghost use Rattle.pi_raw_store.specs.Holding.{view_of};
 
 use crate::mark::RawMark;
@@ -121,14 +120,14 @@ impl StateStore for RawStore {
         Ok(())
     }
 
-    /// Want of memory: activations aren't kept yet.
-    fn wait(&mut self, _a: &Activation) -> Result<(), AllocError> {
-        Err(AllocError)
+    fn wait(&mut self, a: &Activation) -> Result<(), AllocError> {
+        self.wait(a)?;
+        Ok(())
     }
 
-    /// None: activations aren't kept yet.
     fn take_waiting(&mut self) -> Result<Option<Activation>, AllocError> {
-        Ok(None)
+        let taken = self.take_waiting()?;
+        Ok(taken)
     }
 
     fn mark(&mut self) -> Result<RawMark, AllocError> {

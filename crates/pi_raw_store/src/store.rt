@@ -1,5 +1,5 @@
 //! A store over raw words.
-ghost use Rattle.std.specs.Prelude.{◌≡◌, ◌↔◌, ℕ, ◌<◌, List, [], Some, length, slice_get, IfOk, OnErr, IsTrue};
+ghost use Rattle.std.specs.Prelude.{◌≡◌, ◌↔◌, ℕ, ◌<◌, List, [], Some, length, min, slice_get, IfOk, OnErr, IsTrue};
 ghost use Rattle.pi_terms.specs.Tree.{Tree, Trees, var, int, atom, comp, arg_at};
 ghost use Rattle.pi_terms.specs.Variables.{IsGround};
 ghost use Rattle.pi_states.specs.Value.{IsAcyclic, value};
@@ -8,11 +8,13 @@ ghost use Rattle.pi_states.specs.State.{domain_of as state_domain};
 ghost use Rattle.pi_states.specs.Store.{IsGood, IsTerm, AreTerms, AreWatches, IsName, ShowsCell, ShowsAgent, Keeps, Stays, Changes, Gives, Binds, Confines, Suspends, Marks, Returns, Lists, IsPostedOn, HasChanged, ShowsRead};
 ghost use Rattle.pi_raw_store.specs.Holding.{seen, order};
 
+mod waiting;
+
 use crate::domains::{confine, domain_by, domain_of};
 use crate::mark::RawMark;
 use crate::named::numbered;
 use crate::posted::posted_on;
-use crate::read::read;
+use crate::read::{Reading, read};
 use crate::refs::{bind_variable, has, has_events, known};
 use crate::since::changed_since;
 use crate::walk;
@@ -331,10 +333,11 @@ impl RawStore {
         }
     }
 
-    /// Brings back what the store held at a mark that was made at or before the present state and not undone past. It
-    /// takes no memory.
+    /// Brings back what the store held at a mark that was made at or before the present state and not undone past, and the
+    /// length that the region had then. It takes no memory.
     pub fn undo(&mut self, m: &RawMark)
-        ensures { IsGood (seen self.old) m.now → Returns order (seen self.old) (seen self.new) m.now }
+        ensures returns { IsGood (seen self.old) m.now → Returns order (seen self.old) (seen self.new) m.now }
+        ensures cut { length self.new.image.region ≡ min m.now.length (length self.old.image.region) }
     {
         self.words.undo(m.length);
     }
@@ -353,6 +356,6 @@ impl RawStore {
     pub fn read_term(&self, alloc: Global, r: Ref) -> Result<Term, ReadStop>
         ensures { (t : Tree) → IsTerm (seen self.now) r t → IsAcyclic (bindings (seen self.now).now.state) → ShowsRead (value (bindings (seen self.now).now.state) t) result }
     {
-        read(alloc, &self.names, &self.words, r)
+        read(alloc, &self.names, &self.words, Reading::Value, r)
     }
 }

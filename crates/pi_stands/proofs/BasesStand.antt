@@ -32,6 +32,7 @@ ends-begin l (Kind.Strict (Strict.Collect place first)) base = shape-base (slice
 ends-begin l (Kind.Strict (Strict.Count place n)) base = shape-base (slice_get (steps_of l) place) base
 ends-begin l (Kind.Catch place) base = shape-base (slice_get (steps_of l) place) base
 ends-begin l (Kind.Rules p r) base = refl
+ends-begin l (Kind.Facts p r) base = refl
 ends-begin l (Kind.Branches place n) base = refl
 ends-begin l Kind.Exit base = refl
 

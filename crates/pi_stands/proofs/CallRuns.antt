@@ -1,5 +1,5 @@
 -- A call of a predicate as a step of the machine.
-use Rattle.std.proofs.Common.{◌≡◌, ℕ, zero, suc, ◌+◌, ◌≤◌, ◌<◌, ◌^◌, Bool, true, false, List, [], ◌∷◌, ◌++◌, Some, None, length, take, drop, map, get_or, refl, sym, ◌∙◌, ap, subst, arith}
+use Rattle.std.proofs.Common.{◌≡◌, ℕ, zero, suc, ◌+◌, ◌≤◌, ◌<◌, ◌^◌, Bool, true, false, List, [], ◌∷◌, ◌++◌, Option, Some, None, length, take, drop, map, get_or, refl, sym, ◌∙◌, ap, subst, arith}
 use Rattle.std.specs.Prelude.{slice_get, slice_index_or, max}
 use Rattle.std.proofs.lemmas.List.{length-take-le, length-drop}
 use Rattle.std.proofs.lemmas.Option.{slice_get_within, get_or_from_slice_get}
@@ -25,7 +25,7 @@ use Rattle.pi_arenas.specs.Frames.{PushesBehind}
 use Rattle.pi_code.specs.Laid.{IsNotBuiltIn}
 use Rattle.pi_code.specs.Code.{Tables, preds_of, arguments, node_kind, operand_tree}
 use Rattle.pi_machine.specs.Configuration.{Frame, Called, Config, behind, returning, Entry as EntryData}
-use Rattle.pi_machine.specs.Step.{call_step, try_rules, goal_step, back_to}
+use Rattle.pi_machine.specs.Step.{call_step, try_clauses, goal_step, back_to}
 use Rattle.pi_stands.specs.Here.{Block, SayLast, AreReadable, LeftBehind}
 use Rattle.pi_stands.specs.Stands.{World, tables_in, steps_of, IsNumberOf, HasNumber, IsCodeOf, StackStands, Stands, StandsGoing, GoingIs}
 use Rattle.pi_stands.specs.Evaluates.{with_blocks, operand_trees, EvaluatesAll}
@@ -155,13 +155,17 @@ pub stands-called : {M : Type 0} (w : World M) (now : Now) (quiet : Bool) (c : C
 stands-called w now true c stands = stands
 stands-called w now false c stands = stands
 
+one-pred : (r : Option PredTree) (p q : PredTree) → r ≡ Some p → r ≡ Some q → p ≡ q
+one-pred r p q h k = cc
+
 -- what is there once a call is made
 pub record CallRuns {M : Type 0} (w after : World M) (q base frame : ℕ) (predicate : Predicate) (view : View) (g : GoalTree) (gs : GoalTrees) (e : Places) (k : List Frame) (es : List EntryData) : Type 0 where
   pub pred : PredTree
-  pub called : Called
+  pub args : Trees
   pub frames : List Frame
-  pub made : Made after q base frame called pred.clauses frames es predicate.first
-  pub step : (now : Now) (end : World M) → Stands end now (try_rules called pred.clauses (back_to [] after.store.now.state frames) es) → StandsAfter end now (goal_step view w.loaded.preds g gs e w.store.now.state k es)
+  pub made : Made after q base frame (record { function = false; args = args }) pred.clauses frames es predicate.first
+  pub pred_is : made.is.call.call.pred ≡ pred
+  pub step : (now : Now) (end : World M) → Stands end now (try_clauses pred.index pred.clauses args (back_to [] after.store.now.state frames) es) → StandsAfter end now (goal_step view w.loaded.preds g gs e w.store.now.state k es)
 
 pub call-runs : {M : Type 0} (w : World M) (v : StoreView M) (a : ArenasView M) (fs : List Point) (c d : BlocksView) (rs : List Ref) (p : Point) (s : Step) (q operands n : ℕ) (predicate : Predicate) (view : View) (g : GoalTree) (gs : GoalTrees) (e : Places) (k : List Frame) (es : List EntryData) →
     Calls w g q operands predicate → slice_get (steps_of w.loaded) p.place ≡ Some s → (stands : StandsGoing w p (goal g gs) e k es) → AreReadable (tables_in w.loaded) (block_of w p g gs e k es stands) operands predicate.arity →
@@ -189,18 +193,21 @@ call-runs w v a fs c d rs p s q operands n predicate view g gs e k es calls at s
     let caller : Caller (with_new_frames w1 fs) in_it.block in_it.at.leaves n all.slots (behind gs k) es =
     record { stands = stack2; slots = in_it.slots; frames = in_it.at.frames; given = in_it.at.own_leaves.is_given refl; agrees = in_it.agrees } in
     let none : is_given false calls.it.pred.name (tree_count all.trees) ≡ false = ap (λ n. is_given false calls.it.pred.name n) (count ∙ calls.it.arity) ∙ calls.it.not_given in
+    let made : Made (moved w v (with_blocks (framed a fs) d)) q (length c.slots) n called calls.it.pred.clauses (returning all.slots (behind gs k)) es predicate.first =
+    call-made (with_new_frames w1 fs) c d rs in_it.block in_it.at.leaves room.0 n q calls.it.pred predicate called all.slots (behind gs k) es caller room.1 new keeps kept calls.it.is_pred calls.it.is_predicate (sym calls.it.is_function) refl evaluates.terms (count ∙ calls.it.arity) in
     record {
       pred = calls.it.pred;
-      called = called;
+      args = all.trees;
       frames = returning all.slots (behind gs k);
-      made = call-made (with_new_frames w1 fs) c d rs in_it.block in_it.at.leaves room.0 n q calls.it.pred predicate called all.slots (behind gs k) es caller room.1 new keeps kept calls.it.is_pred calls.it.is_predicate (sym calls.it.is_function) refl evaluates.terms (count ∙ calls.it.arity);
+      made = made;
       step = λ now end ends.
           subst (StandsAfter end now)
           (sym (ap (λ h. goal_step view w.loaded.preds h gs e w.store.now.state k es) calls.goal_is
           ∙ call-comes-to view w.loaded.preds calls.it.pred.name args calls.it.pred gs e w.store.now.state k es none
           (ap (λ m. find_pred false calls.it.pred.name m w.loaded.preds) (count ∙ calls.it.arity) ∙ found-by-number false w.loaded.preds q calls.it.pred stands.entries.code.apart calls.it.is_pred calls.it.is_function)))
-          (stands-called end now calls.it.pred.quiet (try_rules called calls.it.pred.clauses (back_to [] all.state (returning all.slots (behind gs k))) es)
-          (subst (λ r. Stands end now (try_rules called calls.it.pred.clauses (back_to [] r (returning all.slots (behind gs k))) es)) evaluates.writes.state ends));
+          (stands-called end now calls.it.pred.quiet (try_clauses calls.it.pred.index calls.it.pred.clauses all.trees (back_to [] all.state (returning all.slots (behind gs k))) es)
+          (subst (λ r. Stands end now (try_clauses calls.it.pred.index calls.it.pred.clauses all.trees (back_to [] r (returning all.slots (behind gs k))) es)) evaluates.writes.state ends));
+      pred_is = one-pred (slice_get w.loaded.preds q) made.is.call.call.pred calls.it.pred made.is.call.call.is_pred calls.it.is_pred;
     }
 
 -- what the step of such a goal is
@@ -211,7 +218,7 @@ call-form w q operands predicate view g gs e k es calls code within =
     let T : Tables = tables_in w.loaded in
     let args : List Tree = operand_trees T operands predicate.arity in
     let all : EvaluatedAll = evaluated_all (trees_of args) e w.store.now.state in
-    let next : Config = try_rules (record { function = false; args = all.trees }) calls.it.pred.clauses (back_to [] all.state (returning all.slots (behind gs k))) es in
+    let next : Config = try_clauses calls.it.pred.index calls.it.pred.clauses all.trees (back_to [] all.state (returning all.slots (behind gs k))) es in
     let count : tree_count all.trees ≡ predicate.arity = all-count T operands predicate.arity e w.store.now.state within in (
       next,
       ap (λ h. goal_step view w.loaded.preds h gs e w.store.now.state k es) calls.goal_is

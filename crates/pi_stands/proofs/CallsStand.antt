@@ -119,7 +119,7 @@ moves-pass w v a m limit top passes fit =
       frames = λ n p h at. subst (λ fs. frame_at fs n ≡ Some p) (sym passes.frames) at;
     }
 
-agrees-extends : {M : Type 0} (w : World M) (r : Option (Entry M)) (h g : Here) → Extend h.terms g.terms → g.slots ≡ h.slots → g.frames ≡ h.frames → agrees_from w r h → agrees_from w r g
+pub agrees-extends : {M : Type 0} (w : World M) (r : Option (Entry M)) (h g : Here) → Extend h.terms g.terms → g.slots ≡ h.slots → g.frames ≡ h.frames → agrees_from w r h → agrees_from w r g
 agrees-extends w None h g terms slots frames agrees = tt
 agrees-extends w (Some x) h g terms slots frames agrees = (
   λ n t is. terms n t (agrees.0 n t is),

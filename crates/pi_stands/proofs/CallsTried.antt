@@ -53,7 +53,7 @@ arity-same : {M : Type 0} (w : World M) (g h : Here) (p base frame number : ℕ)
     is.call.pred.arity ≡ also.call.pred.arity
 arity-same w g h p base frame number called cs k is also = ap (λ q. q.arity) (one-pred (slice_get w.loaded.preds p) is.call.pred also.call.pred is.call.is_pred also.call.is_pred)
 
-own-over : {M : Type 0} (w : World M) (g h : Here) (p base frame number slots : ℕ) (called : Called) (cs : List ClauseTree) (k : List Frame) (same : h ≡ g) → (is : CallStands w.loaded h base frame p number called cs k) →
+pub own-over : {M : Type 0} (w : World M) (g h : Here) (p base frame number slots : ℕ) (called : Called) (cs : List ClauseTree) (k : List Frame) (same : h ≡ g) → (is : CallStands w.loaded h base frame p number called cs k) →
     slots ≤ base + is.call.pred.arity → slots ≤ base + (subst (λ q. CallStands w.loaded q base frame p number called cs k) same is).call.pred.arity
 own-over w g h p base frame number slots called cs k same is over = omega (arith, over, arity-same w g h p base frame number called cs k is (subst (λ q. CallStands w.loaded q base frame p number called cs k) same is))
 

@@ -27,7 +27,7 @@ use Rattle.pi_arenas.specs.Arenas.{ArenasView, DropsNewest}
 use Rattle.pi_machine.specs.Configuration.{Frame, Entry as EntryData, config, raising}
 use Rattle.pi_machine.specs.Step.{raise_step, handler_step, run_goal}
 use Rattle.pi_stands.specs.Here.{Block, SayLast, Holds}
-use Rattle.pi_stands.specs.Stands.{World, tables_in, steps_of, now_here, block_at, Agrees, GoalStands, KindIs, rules_kind, branches_kind, once_kind, not_kind, if_kind, guard_kind, apply_kind, collect_kind, count_kind, catch_kind, exit_kind, StackStands, Stands, NowIs, going_now, raising_now, GoingIs}
+use Rattle.pi_stands.specs.Stands.{World, tables_in, steps_of, now_here, block_at, Agrees, GoalStands, KindIs, rules_kind, facts_kind, branches_kind, once_kind, not_kind, if_kind, guard_kind, apply_kind, collect_kind, count_kind, catch_kind, exit_kind, StackStands, Stands, NowIs, going_now, raising_now, GoingIs}
 use Rattle.pi_stands.specs.Evaluates.{Writes, Evaluates}
 use Rattle.pi_stands.specs.Fails.{ComesTo, IsBack}
 use Rattle.pi_stands.specs.Raises.{TellsCaught}
@@ -139,6 +139,7 @@ caught-in : {M : Type 0} (w : World M) (u : StoreView M) (c : ArenasView M) (bac
     KindIs w.loaded collected (now_here w) w.store.now.state back.base back.frame slots from (length collected) kind y → ComesTo (moved w u c) now (raise_step ball (y ∷ es))
 unfolding raise_step
 caught-in w u c back collected from place at_child slots code s kind ball found now y es it named is_code step finds tells follows_it (rules_kind is fits one) = absurd cc
+caught-in w u c back collected from place at_child slots code s kind ball found now y es it named is_code step finds tells follows_it (facts_kind is fits one) = absurd cc
 caught-in w u c back collected from place at_child slots code s kind ball found now y es it named is_code step finds tells follows_it (branches_kind is at here last count one) = absurd cc
 caught-in w u c back collected from place at_child slots code s kind ball found now y es it named is_code step finds tells follows_it (once_kind own one) = absurd cc
 caught-in w u c back collected from place at_child slots code s kind ball found now y es it named is_code step finds tells follows_it (not_kind own one) = absurd cc

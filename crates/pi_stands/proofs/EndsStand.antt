@@ -17,7 +17,7 @@ use Rattle.pi_arenas.specs.Arenas.{ArenasView, DropsNewest}
 use Rattle.pi_machine.specs.Configuration.{Frame, Entry as EntryData, Strict, strict, Back as BackData}
 use Rattle.pi_machine.specs.Step.{end_step, fail_step}
 use Rattle.pi_stands.specs.Here.{Block, Here, SayLast, IsHere, none_here, last_here}
-use Rattle.pi_stands.specs.Stands.{World, Loaded, tables_in, steps_of, now_here, block_at, Agrees, GoalStands, KindIs, rules_kind, branches_kind, once_kind, not_kind, if_kind, guard_kind, apply_kind, collect_kind, count_kind, catch_kind, exit_kind, Stands, going_now, failing_now, GoingIs}
+use Rattle.pi_stands.specs.Stands.{World, Loaded, tables_in, steps_of, now_here, block_at, Agrees, GoalStands, KindIs, rules_kind, facts_kind, branches_kind, once_kind, not_kind, if_kind, guard_kind, apply_kind, collect_kind, count_kind, catch_kind, exit_kind, Stands, going_now, failing_now, GoingIs}
 use Rattle.pi_stands.specs.Makes.{IsPassed}
 use Rattle.pi_stands.specs.Fails.{ComesTo, IsBack}
 use Rattle.pi_code.proofs.CodeLemmas.{stands-child, nodes-fit, child_place-first, child_place-more}
@@ -138,6 +138,7 @@ passes : {M : Type 0} (w : World M) (back : Back) (collected : List Tree) (from 
     Popped w back collected from y es → IsPassed kind → KindIs w.loaded collected h t base frame slots from (length collected) kind y → ComesTo w Now.Failing (fail_step (y ∷ es))
 unfolding fail_step end_step
 passes w back collected from h t base frame slots kind y es it passed (rules_kind is fits one) = absurd passed
+passes w back collected from h t base frame slots kind y es it passed (facts_kind is fits one) = absurd passed
 passes w back collected from h t base frame slots kind y es it passed (branches_kind is at here last count one) = absurd passed
 passes w back collected from h t base frame slots kind y es it passed (once_kind own one) = record { entries = popped-stands w back collected from y es it one; runs = failing_now }
 passes w back collected from h t base frame slots kind y es it passed (not_kind own one) = absurd passed

@@ -11,7 +11,7 @@ use Rattle.pi_arenas.specs.declared.run.Now.{Now}
 use Rattle.pi_machine.specs.Configuration.{Entry as EntryData, choice, branches_left, Strict, strict, Back as BackData}
 use Rattle.pi_machine.specs.Step.{silently, branch, end_step, fail_step}
 use Rattle.pi_stands.specs.Here.{Here}
-use Rattle.pi_stands.specs.Stands.{World, Loaded, now_here, KindIs, rules_kind, branches_kind, once_kind, not_kind, if_kind, guard_kind, apply_kind, collect_kind, count_kind, catch_kind, exit_kind, Stands}
+use Rattle.pi_stands.specs.Stands.{World, Loaded, now_here, KindIs, rules_kind, facts_kind, branches_kind, once_kind, not_kind, if_kind, guard_kind, apply_kind, collect_kind, count_kind, catch_kind, exit_kind, Stands}
 use Rattle.pi_stands.specs.Fails.{ComesTo, IsBack, GoesOnWithBranch, EndsLevel}
 use Rattle.pi_stands.proofs.BackStand.{back-kind}
 
@@ -23,6 +23,7 @@ fail-none w now es none ended = subst (λ r. ComesTo w now (fail_step r)) (sym n
 branches-are : (l : Loaded) (c : List Tree) (h : Here) (t : State) (base frame slots from to place n : ℕ) (kind : Kind) (y : EntryData) → kind ≡ Kind.Branches place n → KindIs l c h t base frame slots from to kind y →
     (gs : GoalTrees) × (b : BackData) × (y ≡ choice (branches_left gs) b)
 branches-are l c h t base frame slots from to place n kind y named (rules_kind is fits one) = absurd cc
+branches-are l c h t base frame slots from to place n kind y named (facts_kind is fits one) = absurd cc
 branches-are l c h t base frame slots from to place n kind y named (branches_kind is at here last count one) = (_, _, refl)
 branches-are l c h t base frame slots from to place n kind y named (once_kind own one) = absurd cc
 branches-are l c h t base frame slots from to place n kind y named (not_kind own one) = absurd cc
@@ -47,6 +48,7 @@ branches-fail w after back place n y es now named it goes =
 strict-is : (l : Loaded) (c : List Tree) (h : Here) (t : State) (base frame slots from to : ℕ) (kind : Kind) (s : StrictKind) (y : EntryData) → kind ≡ Kind.Strict s → KindIs l c h t base frame slots from to kind y →
     (level : Strict) × (b : BackData) × (y ≡ strict level b)
 strict-is l c h t base frame slots from to kind s y named (rules_kind is fits one) = absurd cc
+strict-is l c h t base frame slots from to kind s y named (facts_kind is fits one) = absurd cc
 strict-is l c h t base frame slots from to kind s y named (branches_kind is at here last count one) = absurd cc
 strict-is l c h t base frame slots from to kind s y named (once_kind own one) = (_, _, refl)
 strict-is l c h t base frame slots from to kind s y named (not_kind own one) = (_, _, refl)

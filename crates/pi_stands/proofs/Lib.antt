@@ -69,3 +69,6 @@ pub mod FailsStand
 pub mod PointsDone
 pub mod NamedStands
 pub mod TermRuns
+pub mod ComesBackLemmas
+pub mod CallsStay
+pub mod FactsStand

@@ -70,7 +70,7 @@ block-there t slots first count i ts below holds none =
     slot-there t (take count (drop first slots)) ts i holds.held
     (slot-of-part (drop first slots) count i below ∙ behind-first slots first i ∙ slice_get-get_or slots (first + i) None (omega (arith, below, holds.within)) ∙ ap Some none)
 
-terms-of-held : {M : Type 0} (v : StoreView M) (rs : List Ref) (ts : Trees) → AreHeld v.now.terms (map (λ r. Some r) rs) (in_places ts) → AreTerms v rs ts
+pub terms-of-held : {M : Type 0} (v : StoreView M) (rs : List Ref) (ts : Trees) → AreHeld v.now.terms (map (λ r. Some r) rs) (in_places ts) → AreTerms v rs ts
 unfolding AreHeld in_places AreTerms
 terms-of-held v [] no_trees held = tt
 terms-of-held v [] (tree t ts) held = absurd held

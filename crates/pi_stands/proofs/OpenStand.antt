@@ -12,7 +12,7 @@ use Rattle.pi_machine.specs.Configuration.{Entry as EntryData, choice, strict, c
 use Rattle.pi_machine.specs.Step.{Open, none_open, strict_open, catch_open, beneath, newest_open}
 use Rattle.pi_machine.specs.Shape.{open_level, IsBalanced}
 use Rattle.pi_stands.specs.Here.{Here, block_end}
-use Rattle.pi_stands.specs.Stands.{World, Loaded, steps_of, entries_of, back_here, KindIs, rules_kind, branches_kind, once_kind, not_kind, if_kind, guard_kind, apply_kind, collect_kind, count_kind, catch_kind, exit_kind, block_at, EntryIs, StackIs, no_entries, entry_above, StackStands}
+use Rattle.pi_stands.specs.Stands.{World, Loaded, steps_of, entries_of, back_here, KindIs, rules_kind, facts_kind, branches_kind, once_kind, not_kind, if_kind, guard_kind, apply_kind, collect_kind, count_kind, catch_kind, exit_kind, block_at, EntryIs, StackIs, no_entries, entry_above, StackStands}
 use Rattle.pi_arenas.proofs.BlocksLemmas.{length-slots_before, brought_back-is}
 use Rattle.pi_stands.proofs.StandsLemmas.{stack-length, open_level-within}
 use Rattle.pi_stands.proofs.BasesStand.{shape-base}
@@ -95,6 +95,7 @@ level-base w es stands x at =
 
 choice-none : (l : Loaded) (c : List Tree) (h : Here) (t : State) (base frame slots from to : ℕ) (kind : Kind) (x : Choice) (b : Back) → KindIs l c h t base frame slots from to kind (choice x b) → from ≡ to
 choice-none l c h t base frame slots from to kind x b (rules_kind is over one) = one
+choice-none l c h t base frame slots from to kind x b (facts_kind is over one) = one
 choice-none l c h t base frame slots from to kind x b (branches_kind is at here last count one) = one
 
 catch-none : (l : Loaded) (c : List Tree) (h : Here) (t : State) (base frame slots from to : ℕ) (kind : Kind) (ball : Tree) (handler : GoalTree) (b : Back) → KindIs l c h t base frame slots from to kind (catch_level ball handler b) → from ≡ to

@@ -36,6 +36,7 @@ pred-keeps code t names others pred p more is =
     record {
       arity = is.arity;
       quiet = is.quiet;
+      facts = is.facts;
       rules = is.rules;
       each = λ i c at. ((is.each i c at).0, (is.each i c at).1, rule-keeps code t names others pred c (is.each i c at).0 more (is.each i c at).2);
     }

@@ -16,7 +16,7 @@ use Rattle.pi_machine.specs.Configuration.{Entry as EntryData, choice, strict, c
 use Rattle.pi_machine.specs.Step.{silently, raise_step, below_left, Open, none_open, strict_open, newest_open}
 use Rattle.pi_machine.specs.Shape.{open_level, IsBalanced}
 use Rattle.pi_stands.specs.Here.{Here}
-use Rattle.pi_stands.specs.Stands.{World, Loaded, entries_of, back_here, KindIs, rules_kind, branches_kind, once_kind, not_kind, if_kind, guard_kind, apply_kind, collect_kind, count_kind, catch_kind, exit_kind, IsAbove, StackIs, no_entries, entry_above, StackStands, raising_now}
+use Rattle.pi_stands.specs.Stands.{World, Loaded, entries_of, back_here, KindIs, rules_kind, facts_kind, branches_kind, once_kind, not_kind, if_kind, guard_kind, apply_kind, collect_kind, count_kind, catch_kind, exit_kind, IsAbove, StackIs, no_entries, entry_above, StackStands, raising_now}
 use Rattle.pi_stands.specs.Raises.{IsDropped, collected_below}
 use Rattle.pi_stands.specs.Fails.{ComesTo}
 use Rattle.pi_terms.proofs.ListLemmas.{take-take}
@@ -68,6 +68,7 @@ gone : (l : Loaded) (c : List Tree) (h : Here) (t : State) (base frame slots fro
     KindIs l c h t base frame slots from to kind y → IsGone ball from to kind y fs
 unfolding raise_step
 gone l c h t base frame slots from to kind ball y fs drops (rules_kind is fits one) = record { starts = one; steps = refl }
+gone l c h t base frame slots from to kind ball y fs drops (facts_kind is fits one) = record { starts = one; steps = refl }
 gone l c h t base frame slots from to kind ball y fs drops (branches_kind is at here last count one) = record { starts = one; steps = refl }
 gone l c h t base frame slots from to kind ball y fs drops (once_kind own one) = record { starts = one; steps = refl }
 gone l c h t base frame slots from to kind ball y fs drops (not_kind own one) = record { starts = one; steps = refl }
@@ -130,6 +131,7 @@ catch-begins l c h t base frame slots from to kind ball handler b (catch_kind ow
 
 exit-is : (l : Loaded) (c : List Tree) (h : Here) (t : State) (base frame slots from to : ℕ) (kind : Kind) (y : EntryData) → kind ≡ Kind.Exit → KindIs l c h t base frame slots from to kind y → (y ≡ left) × (from ≡ to)
 exit-is l c h t base frame slots from to kind y named (rules_kind is fits one) = absurd cc
+exit-is l c h t base frame slots from to kind y named (facts_kind is fits one) = absurd cc
 exit-is l c h t base frame slots from to kind y named (branches_kind is at here last count one) = absurd cc
 exit-is l c h t base frame slots from to kind y named (once_kind own one) = absurd cc
 exit-is l c h t base frame slots from to kind y named (not_kind own one) = absurd cc

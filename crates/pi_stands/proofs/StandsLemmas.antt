@@ -13,7 +13,7 @@ use Rattle.pi_arenas.specs.declared.arenas.Entry.{Entry}
 use Rattle.pi_machine.specs.Configuration.{Entry as EntryData, choice, strict, catch_level, left, list_level}
 use Rattle.pi_machine.specs.Shape.{open_level}
 use Rattle.pi_stands.specs.Here.{Here, Ends}
-use Rattle.pi_stands.specs.Stands.{World, entries_of, entry_ends, level_ends, back_here, Agrees, agrees_from, KindIs, rules_kind, branches_kind, once_kind, not_kind, if_kind, guard_kind, apply_kind, collect_kind, count_kind, catch_kind, exit_kind, EntryIs, IsAbove, StackIs, no_entries, entry_above, Loaded}
+use Rattle.pi_stands.specs.Stands.{World, entries_of, entry_ends, level_ends, back_here, Agrees, agrees_from, KindIs, rules_kind, facts_kind, branches_kind, once_kind, not_kind, if_kind, guard_kind, apply_kind, collect_kind, count_kind, catch_kind, exit_kind, EntryIs, IsAbove, StackIs, no_entries, entry_above, Loaded}
 use Rattle.pi_stands.proofs.HereLemmas.{part-agrees, take-agrees}
 
 -- the same run with another store and other arenas
@@ -117,6 +117,7 @@ back-stays w s a n top i x leaves within at facts =
 pub kind-moves : (l : Loaded) (c d : List Tree) (h : Here) (s : State) (base frame slots from to : ℕ) (kind : Kind) (y : EntryData) → take to c ≡ take to d → to ≤ length d →
     KindIs l c h s base frame slots from to kind y → KindIs l d h s base frame slots from to kind y
 kind-moves l c d h s base frame slots from to kind y same enough (rules_kind is over one) = rules_kind is over one
+kind-moves l c d h s base frame slots from to kind y same enough (facts_kind is over one) = facts_kind is over one
 kind-moves l c d h s base frame slots from to kind y same enough (branches_kind is at here last count one) = branches_kind is at here last count one
 kind-moves l c d h s base frame slots from to kind y same enough (once_kind is one) = once_kind is one
 kind-moves l c d h s base frame slots from to kind y same enough (not_kind is one) = not_kind is one
@@ -134,6 +135,7 @@ kind-moves l c d h s base frame slots from to kind y same enough (exit_kind one)
 pub kind-order : (l : Loaded) (c : List Tree) (h : Here) (s : State) (base frame slots from to : ℕ) (kind : Kind) (y : EntryData) →
     KindIs l c h s base frame slots from to kind y → from ≤ to
 kind-order l c h s base frame slots from to kind y (rules_kind is over one) = omega (arith, one)
+kind-order l c h s base frame slots from to kind y (facts_kind is over one) = omega (arith, one)
 kind-order l c h s base frame slots from to kind y (branches_kind is at here last count one) = omega (arith, one)
 kind-order l c h s base frame slots from to kind y (once_kind is one) = omega (arith, one)
 kind-order l c h s base frame slots from to kind y (not_kind is one) = omega (arith, one)

@@ -11,3 +11,4 @@ pub mod Answers
 pub mod Tries
 pub mod Gives
 pub mod Goes
+pub mod ComesBack

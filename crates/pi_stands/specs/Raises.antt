@@ -35,6 +35,7 @@ RaisesFrom before after back old now = (x : Entry _) → newest (entries_of befo
 -- entries that catch nothing, and pass nothing
 abbrev pub IsDropped : Kind → Type 0
 IsDropped (Kind.Rules p r) = ⊤
+IsDropped (Kind.Facts p r) = ⊤
 IsDropped (Kind.Branches place n) = ⊤
 IsDropped (Kind.Strict s) = ⊤
 IsDropped kind = ⊥

@@ -2,7 +2,7 @@
 use Rattle.pi_states.specs.Store.{Extend, Terms, StoreView, IsGood}
 use Rattle.pi_code.specs.Laid.{IsNotBuiltIn}
 use Rattle.pi_code.specs.LaidRules.{IsTestOf}
-use Rattle.std.specs.Prelude.{◌≡◌, ◌≢◌, ◌↔◌, ℕ, zero, suc, ◌+◌, ◌-◌, ◌≤◌, Bool, true, false, List, [], ◌∷◌, Option, Some, None, length, map, take, drop, slice_get, AllPairs, IsTrue, IsSome, ⊤}
+use Rattle.std.specs.Prelude.{◌≡◌, ◌≢◌, ◌↔◌, ℕ, zero, suc, ◌+◌, ◌-◌, ◌≤◌, Bool, true, false, List, [], ◌∷◌, Option, Some, None, length, map, take, drop, slice_get, AllPairs, IsTrue, IsSome, is_some, ⊤}
 use Rattle.pi_terms.specs.Tree.{Tree, Trees, comp}
 use Rattle.pi_terms.specs.Places.{Places}
 use Rattle.pi_states.specs.State.{State, IsState}
@@ -33,7 +33,7 @@ use Rattle.pi_arenas.specs.Arenas.{ArenasView, entry_at, newest, slots_kept_by}
 use Rattle.pi_arenas.specs.declared.arenas.Entry.{Entry}
 use Rattle.pi_stands.specs.Here.{Block, block_end, Holds, HoldsArguments, IsHere, AreHere, AreBranches, valued, Ends, in_block, with_value, Here, LeftBehind, GoesOn}
 use Rattle.pi_machine.specs.Shape.{open_level}
-use Rattle.pi_machine.specs.Configuration.{Called, rules_left, branches_left, once_level, not_level, if_level, guard_level, value_level, list_level, number_level, Frame, Entry as EntryData, choice, strict, catch_level, left, Now as NowData, going, telling, failed, raising, Config, config}
+use Rattle.pi_machine.specs.Configuration.{Called, rules_left, facts_left, branches_left, once_level, not_level, if_level, guard_level, value_level, list_level, number_level, Frame, Entry as EntryData, choice, strict, catch_level, left, Now as NowData, going, telling, failed, raising, Config, config}
 
 -- ---- programs in tables
 
@@ -69,6 +69,7 @@ pub record IsRuleOf (code : Code) (t : Tables) (names : List (List ℕ)) (pred :
 pub record IsPredicateOf (code : Code) (t : Tables) (names : List (List ℕ)) (pred : PredTree) (p : Predicate) : Type 0 where
   pub arity : p.arity ≡ pred.arity
   pub quiet : p.is_quiet ≡ pred.quiet
+  pub facts : p.is_facts ≡ is_some pred.index
   pub rules : p.end ≡ p.first + length pred.clauses
   pub each : (i : ℕ) (c : ClauseTree) → slice_get pred.clauses i ≡ Some c → (r : Rule) × (slice_get code.rules.items (p.first + i) ≡ Some r) × IsRuleOf code t names pred c r
 
@@ -159,6 +160,7 @@ ends_of l (Kind.Strict (Strict.Collect place first)) base = in_block (block_at l
 ends_of l (Kind.Strict (Strict.Count place n)) base = in_block (block_at l place base)
 ends_of l (Kind.Catch place) base = in_block (block_at l place base)
 ends_of l (Kind.Rules p r) base = with_value base
+ends_of l (Kind.Facts p r) base = with_value base
 ends_of l (Kind.Branches place n) base = with_value base
 ends_of l Kind.Exit base = with_value base
 
@@ -234,6 +236,9 @@ pub data KindIs (l : Loaded) (collected : List Tree) (h : Here) (s : State) (bas
   rules_kind : {p r : ℕ} {called : Called} {cs : List ClauseTree} {k : List Frame} →
       (stands : CallStands l h base frame p r called cs k) → slots ≤ base + stands.call.pred.arity → from ≡ to →
       KindIs l collected h s base frame slots from to (Kind.Rules p r) (choice (rules_left called cs) (record { slots = []; state = s; frames = k }))
+  facts_kind : {p r : ℕ} {ts : Trees} {cs : List ClauseTree} {k : List Frame} →
+      (stands : CallStands l h base frame p r (record { function = false; args = ts }) cs k) → slots ≤ base + stands.call.pred.arity → from ≡ to →
+      KindIs l collected h s base frame slots from to (Kind.Facts p r) (choice (facts_left ts cs) (record { slots = []; state = s; frames = k }))
   branches_kind : {place n : ℕ} {b : Block} {g : GoalTree} {gs : GoalTrees} {last : Bool} {e : Places} {k : List Frame} → (behind : StandsBehind l h b frame e k) →
       b.base ≡ base → AreBranches (tables_in l) (steps_of l) b place (goal g gs) last → LeftBehind None last behind.leaves k → count_goals (goal g gs) ≡ n → from ≡ to →
       KindIs l collected h s base frame slots from to (Kind.Branches place n) (choice (branches_left (goal g gs)) (record { slots = e; state = s; frames = k }))

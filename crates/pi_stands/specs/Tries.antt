@@ -1,5 +1,6 @@
 -- The rules of a call that are tried: what a run has for them.
 use Rattle.std.specs.Prelude.{◌≡◌, ℕ, suc, ◌+◌, ◌-◌, ◌≤◌, ◌==◌, ◌≢◌, Bool, true, false, List, [], ◌∷◌, Option, Some, None, length, take, drop, max, slice_get, slice_set, replicate, ⊤}
+use Rattle.pi_terms.specs.Tree.{Trees}
 use Rattle.pi_terms.specs.Places.{Places}
 use Rattle.pi_states.specs.State.{State, IsState, bindings}
 use Rattle.pi_states.specs.HeadMatch.{matched_all_in}
@@ -15,13 +16,13 @@ use Rattle.pi_arenas.specs.Blocks.{BlocksView, IsKept, KeepsBlocks, brought_back
 use Rattle.pi_code.specs.declared.code.Predicate.{Predicate}
 use Rattle.pi_code.specs.declared.code.Rule.{Rule}
 use Rattle.pi_arenas.specs.declared.run.Now.{Now}
-use Rattle.pi_arenas.specs.Arenas.{ArenasView, entry_at, newest, slots_kept_by, noted_by, with_kind, PushesEntry}
+use Rattle.pi_arenas.specs.Arenas.{ArenasView, entry_at, newest, slots_kept_by, noted_by, with_kind, PushesEntry, DropsNewest}
 use Rattle.pi_arenas.specs.declared.arenas.Entry.{Entry}
 use Rattle.pi_machine.specs.Configuration.{Frame, Called, strict, guard_level, Entry as EntryData}
 use Rattle.pi_machine.specs.Shape.{open_level}
 use Rattle.pi_stands.specs.Here.{Block, block_end, Here, Holds, HoldsArguments, GoesOn}
 use Rattle.pi_stands.specs.Stands.{Loaded, World, tables_in, steps_of, entries_of, back_here, now_here, Agrees, agrees_from, IsCodeOf, IsRuleOf, clause_block, rule_block, CallStands, EntryIs, StackIs, Stands}
-use Rattle.pi_machine.specs.Step.{taken, guarding, try_rules, back_to}
+use Rattle.pi_machine.specs.Step.{taken, guarding, try_rules, try_facts, try_clauses, back_to}
 
 -- the rules of a predicate from one on, with which a call goes on
 pub record RulesLeft (l : Loaded) (p r : ℕ) (called : Called) (cs : List ClauseTree) : Type 0 where
@@ -214,3 +215,20 @@ AppliesRule before after p base frame number again predicate rule now =
     (called : Called) (c : ClauseTree) (cs : List ClauseTree) (s : State) (k : List Frame) (es : List EntryData) (e : Places) →
     Applies before p base frame number called c cs s k es again predicate rule e → s ≡ before.store.now.state →
     Stands after now (guarding c.guard called c cs (back_to [] s k) es e)
+
+-- the facts of a call from one on are tried
+abbrev pub TriesFacts : {M : Type 0} → World M → World M → ℕ → ℕ → ℕ → ℕ → Bool → Now → Type 0
+TriesFacts before after p base frame from again now =
+    (ts : Trees) (cs : List ClauseTree) (s : State) (k : List Frame) (es : List EntryData) → (is : CallIs before p base frame from (record { function = false; args = ts }) cs s k es again) →
+    HasArguments before base is.call.call.pred.arity (record { function = false; args = ts }) → s ≡ before.store.now.state → Stands after now (try_facts ts cs (back_to [] s k) es)
+
+-- the clauses of a call that was made just now
+abbrev pub TriesClauses : {M : Type 0} → World M → World M → ℕ → ℕ → ℕ → ℕ → Now → Type 0
+TriesClauses before after p base frame from now =
+    (ts : Trees) (cs : List ClauseTree) (s : State) (k : List Frame) (es : List EntryData) → (is : CallIs before p base frame from (record { function = false; args = ts }) cs s k es false) →
+    HasArguments before base is.call.call.pred.arity (record { function = false; args = ts }) → s ≡ before.store.now.state → Stands after now (try_clauses is.call.call.pred.index cs ts (back_to [] s k) es)
+
+-- a call's entry waits for the fact with a number, or is gone where none is left
+abbrev pub LeavesLater : {M : Type 0} → (M → ℕ) → StoreView M → StoreView M → ArenasView M → ArenasView M → ℕ → ℕ → ℕ → ℕ → Bool → Option ℕ → Type 0
+LeavesLater order v w a b slots p base frame again (Some next) = KeepsCall order v w a b slots base frame (Kind.Facts p next) again
+LeavesLater order v w a b slots p base frame again None = (w ≡ v) × (again ≡ true → DropsNewest a b) × (again ≡ false → b ≡ a)

@@ -1,7 +1,8 @@
 use Rattle.std.proofs.Common.{refl}
 use Rattle.pi_states.specs.State.{followed}
 use Rattle.pi_raw_store.specs.Holding.{heap_of}
-use Rattle.pi_raw_store.proofs.LookLemmas.{bound_in, followed_to}
+use Rattle.pi_raw_store.specs.Bindings.{bound_in}
+use Rattle.pi_raw_store.proofs.LookLemmas.{followed_to}
 use Rattle.pi_raw_store.proofs.SoundLemmas.{has_bound}
 use Rattle.pi_raw_store.proofs.store.RawStore.arg.Goals as goal
 

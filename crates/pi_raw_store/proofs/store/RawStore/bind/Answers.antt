@@ -5,7 +5,11 @@ use Rattle.pi_raw_store.proofs.NameLemmas.{keeps_itself}
 use Rattle.pi_raw_store.proofs.SoundLemmas.{sound_binding, ref_below}
 use Rattle.pi_raw_store.proofs.KeepLemmas.{keeps_all}
 use Rattle.pi_raw_store.proofs.BindLemmas.{followed_ref, binds_no_term, binds_no_variable, binds_to}
+use Rattle.pi_raw_store.proofs.PartLemmas.{refused}
 use Rattle.pi_raw_store.proofs.store.RawStore.bind.Goals as goal
+
+pub returns-in_err-bind_variable-clause-err : goal.returns-in_err-bind_variable-clause-err
+returns-in_err-bind_variable-clause-err c = rw (← c.self.view_is) (refused c.from_residual.result c.self.inside.names c.self.inside.words c.bind_variable.new.words c.in_err-bind_variable.ensures.err)
 
 pub returns-then-not-has-clause-ok : goal.returns-then-not-has-clause-ok
 returns-then-not-has-clause-ok c =

@@ -5,7 +5,11 @@ use Rattle.pi_raw_store.specs.Holding.{heap_of}
 use Rattle.pi_raw_store.specs.Sound.{IsSound}
 use Rattle.pi_raw_store.proofs.SoundLemmas.{sound_variable}
 use Rattle.pi_raw_store.proofs.KeepLemmas.{gives_variable}
+use Rattle.pi_raw_store.proofs.PartLemmas.{refused}
 use Rattle.pi_raw_store.proofs.store.RawStore.new_var.Goals as goal
+
+pub returns-in_err-push-clause-err : goal.returns-in_err-push-clause-err
+returns-in_err-push-clause-err c = rw (← c.self.view_is) (refused c.from_residual.result c.self.inside.names c.self.inside.words c.push.new.self c.in_err-push.ensures.err)
 
 pub invariant_of-self-2 : goal.invariant_of-self-2
 invariant_of-self-2 c = subst (IsSound c.self.inside.names) (sym c.in_ok-push.ensures.ok) (sound_variable c.self.inside.names c.self.inside.words c.self.invariant)

@@ -2,7 +2,11 @@ use Rattle.std.proofs.Common.{◌≤◌, ◌^◌, length, arith}
 use Rattle.pi_raw_store.proofs.NameLemmas.{keeps_itself}
 use Rattle.pi_raw_store.proofs.KeepLemmas.{keeps_all}
 use Rattle.pi_raw_store.proofs.PostLemmas.{sound_posted, posts_to}
+use Rattle.pi_raw_store.proofs.PartLemmas.{refused}
 use Rattle.pi_raw_store.proofs.store.RawStore.post.Goals as goal
+
+pub returns-in_err-add_constraint-clause-err : goal.returns-in_err-add_constraint-clause-err
+returns-in_err-add_constraint-clause-err c = rw (← c.self.view_is) (refused c.from_residual.result c.self.inside.names c.self.inside.words c.add_constraint.new.words c.in_err-add_constraint.ensures.err)
 
 pub invariant_of-self-2 : goal.invariant_of-self-2
 invariant_of-self-2 c = sound_posted c.self.inside.names c.self.inside.words c.add_constraint.new.words c.args.c.now c.self.invariant c.in_ok-add_constraint.ensures.ok

@@ -2,7 +2,11 @@ use Rattle.std.proofs.Common.{Some, refl, ap, ◌∙◌, rules}
 use Rattle.pi_terms.specs.Tree.{int}
 use Rattle.pi_raw_store.specs.Holding.{heap_of}
 use Rattle.pi_raw_store.proofs.KeepLemmas.{sound_appends, gives_appended}
+use Rattle.pi_raw_store.proofs.PartLemmas.{refused}
 use Rattle.pi_raw_store.proofs.store.RawStore.put_int.Goals as goal
+
+pub returns-in_err-made-clause-err : goal.returns-in_err-made-clause-err
+returns-in_err-made-clause-err c = rw (← c.self.view_is) (refused c.from_residual.result c.self.inside.names c.self.inside.words c.put_int.new.words c.in_err-made.ensures.err)
 
 pub invariant_of-self-2 : goal.invariant_of-self-2
 invariant_of-self-2 c =

@@ -2,7 +2,11 @@ use Rattle.std.proofs.Common.{◌∙◌, length, sym}
 use Rattle.pi_raw_store.proofs.NameLemmas.{keeps_itself}
 use Rattle.pi_raw_store.proofs.KeepLemmas.{keeps_all}
 use Rattle.pi_raw_store.proofs.DomainLemmas.{confines_none, sound_confined, confines_to}
+use Rattle.pi_raw_store.proofs.PartLemmas.{refused}
 use Rattle.pi_raw_store.proofs.store.RawStore.set_domain.Goals as goal
+
+pub returns-in_err-confine-clause-err : goal.returns-in_err-confine-clause-err
+returns-in_err-confine-clause-err c = rw (← c.self.view_is) (refused c.from_residual.result c.self.inside.names c.self.inside.words c.confine.new.words c.in_err-confine.ensures.err)
 
 pub returns-in_default-clause-ok : goal.returns-in_default-clause-ok
 returns-in_default-clause-ok c = rw (← c.self.view_is) (confines_none c.self.inside.names c.self.inside.words c.args.v c.args.d.now c.self.invariant (sym c.free_variable.ensures ∙ c.in_default.is))

@@ -4,7 +4,11 @@ use Rattle.pi_raw_store.specs.Holding.{heap_of}
 use Rattle.pi_raw_store.proofs.NameLemmas.{keeps_itself}
 use Rattle.pi_raw_store.proofs.KeepLemmas.{keeps_all}
 use Rattle.pi_raw_store.proofs.SuspendLemmas.{sound_added, suspends_to, suspends_none}
+use Rattle.pi_raw_store.proofs.PartLemmas.{refused}
 use Rattle.pi_raw_store.proofs.store.RawStore.suspend.Goals as goal
+
+pub returns-in_err-add_agent-clause-err : goal.returns-in_err-add_agent-clause-err
+returns-in_err-add_agent-clause-err c = rw (← c.self.view_is) (refused c.from_residual.result c.self.inside.names c.self.inside.words c.add_agent.new.words c.in_err-add_agent.ensures.err)
 
 pub returns-then-not-has-clause-ok : goal.returns-then-not-has-clause-ok
 returns-then-not-has-clause-ok c =
