@@ -55,6 +55,8 @@ functions_of_one =
     (codes "new_list", FunctionOfOne.NewList) ∷
     (codes "new_array", FunctionOfOne.NewArray) ∷
     (codes "copy_term", FunctionOfOne.CopyTerm) ∷
+    (codes "once", FunctionOfOne.Itself) ∷
+    (codes "not", FunctionOfOne.InOrder) ∷
     []
 
 abbrev pub functions_of_two : List (Named FunctionOfTwo)
@@ -82,6 +84,7 @@ functions_of_two =
     (codes "in", FunctionOfTwo.Item) ∷
     (codes "..", FunctionOfTwo.Range) ∷
     (codes "new_array", FunctionOfTwo.NewGrid) ∷
+    (codes ":=", FunctionOfTwo.RangeCount) ∷
     []
 
 -- ---- what their rows say
@@ -95,11 +98,11 @@ SameOfTwo name f = (t u : Tree) (s : State) → built_in_function name (tree t (
 
 same-of_one : Each SameOfOne functions_of_one
 unfolding built_in_function done_by reading_functions integer_functions collection_functions sorting_functions index_functions range_functions naming_functions text_functions making_functions
-same-of_one = (λ t s. refl, (λ t s. refl, (λ t s. refl, (λ t s. refl, (λ t s. refl, (λ t s. refl, (λ t s. refl, (λ t s. refl, (λ t s. refl, (λ t s. refl, (λ t s. refl, (λ t s. refl, (λ t s. refl, (λ t s. refl, (λ t s. refl, (λ t s. refl, (λ t s. refl, (λ t s. refl, (λ t s. refl, (λ t s. refl, (λ t s. refl, (λ t s. refl, (λ t s. refl, (λ t s. refl, (λ t s. refl, (λ t s. refl, (λ t s. refl, tt)))))))))))))))))))))))))))
+same-of_one = (λ t s. refl, (λ t s. refl, (λ t s. refl, (λ t s. refl, (λ t s. refl, (λ t s. refl, (λ t s. refl, (λ t s. refl, (λ t s. refl, (λ t s. refl, (λ t s. refl, (λ t s. refl, (λ t s. refl, (λ t s. refl, (λ t s. refl, (λ t s. refl, (λ t s. refl, (λ t s. refl, (λ t s. refl, (λ t s. refl, (λ t s. refl, (λ t s. refl, (λ t s. refl, (λ t s. refl, (λ t s. refl, (λ t s. refl, (λ t s. refl, (λ t s. refl, (λ t s. refl, tt)))))))))))))))))))))))))))))
 
 same-of_two : Each SameOfTwo functions_of_two
 unfolding built_in_function done_by reading_functions integer_functions collection_functions sorting_functions index_functions range_functions naming_functions text_functions making_functions
-same-of_two = (λ t u s. refl, (λ t u s. refl, (λ t u s. refl, (λ t u s. refl, (λ t u s. refl, (λ t u s. refl, (λ t u s. refl, (λ t u s. refl, (λ t u s. refl, (λ t u s. refl, (λ t u s. refl, (λ t u s. refl, (λ t u s. refl, (λ t u s. refl, (λ t u s. refl, (λ t u s. refl, (λ t u s. refl, (λ t u s. refl, (λ t u s. refl, (λ t u s. refl, (λ t u s. refl, (λ t u s. refl, (λ t u s. refl, tt)))))))))))))))))))))))
+same-of_two = (λ t u s. refl, (λ t u s. refl, (λ t u s. refl, (λ t u s. refl, (λ t u s. refl, (λ t u s. refl, (λ t u s. refl, (λ t u s. refl, (λ t u s. refl, (λ t u s. refl, (λ t u s. refl, (λ t u s. refl, (λ t u s. refl, (λ t u s. refl, (λ t u s. refl, (λ t u s. refl, (λ t u s. refl, (λ t u s. refl, (λ t u s. refl, (λ t u s. refl, (λ t u s. refl, (λ t u s. refl, (λ t u s. refl, (λ t u s. refl, tt))))))))))))))))))))))))
 
 known-of_one : list_all (λ r. is_function r.0 1) functions_of_one ≡ true
 unfolding is_function has_line reading_functions integer_functions collection_functions sorting_functions index_functions range_functions naming_functions text_functions making_functions

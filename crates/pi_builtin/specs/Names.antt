@@ -6,6 +6,7 @@ use Rattle.pi_numbers.specs.declared.relations.Relation.{Relation}
 use Rattle.pi_kinds.specs.declared.kinds.TermKind.{TermKind}
 use Rattle.pi_kinds.specs.declared.ordering.TermRelation.{TermRelation}
 use Rattle.pi_effects.specs.Indexing.{index_name}
+use Rattle.pi_effects.specs.Inner.{itself_name, in_order_name, range_count_name}
 use Rattle.pi_builtin.specs.declared.functions.FunctionOfCollection.{FunctionOfCollection}
 use Rattle.pi_builtin.specs.declared.functions.FunctionOfOne.{FunctionOfOne}
 use Rattle.pi_builtin.specs.declared.functions.FunctionOfTwo.{FunctionOfTwo}
@@ -48,6 +49,8 @@ one_name FunctionOfOne.ToString = codes "to_string"
 one_name FunctionOfOne.NewList = codes "new_list"
 one_name FunctionOfOne.NewArray = codes "new_array"
 one_name FunctionOfOne.CopyTerm = codes "copy_term"
+one_name FunctionOfOne.Itself = itself_name
+one_name FunctionOfOne.InOrder = in_order_name
 
 -- an operation on two integers; those on one have no name here
 abbrev pub operation_name : Op → List ℕ
@@ -80,6 +83,7 @@ two_name FunctionOfTwo.Zip = codes "zip"
 two_name FunctionOfTwo.Item = index_name
 two_name FunctionOfTwo.Range = codes ".."
 two_name FunctionOfTwo.NewGrid = codes "new_array"
+two_name FunctionOfTwo.RangeCount = range_count_name
 
 -- the name of a function with so many arguments
 abbrev pub function_name : Function → List ℕ

@@ -42,6 +42,10 @@ pub enum FunctionOfOne {
     NewList,
     NewArray,
     CopyTerm,
+    /// The term as it stands, for what programs are lowered to: it has the name `once`.
+    Itself,
+    /// The items of a proper list, the last one first, for what programs are lowered to: it has the name `not`.
+    InOrder,
 }
 
 /// A function with two arguments.
@@ -63,6 +67,8 @@ pub enum FunctionOfTwo {
     Range,
     /// `new_array`, of two sizes
     NewGrid,
+    /// How many values a range has, for what programs are lowered to: it has the name `:=`.
+    RangeCount,
 }
 
 /// A function that is built in, by its number of arguments.

@@ -14,7 +14,7 @@ use std::alloc::{AllocError, Global};
 /// A name, with what it is.
 type Row<T> = (&'static str, T);
 
-const FUNCTIONS_OF_ONE: [Row<FunctionOfOne>; 27] = [
+const FUNCTIONS_OF_ONE: [Row<FunctionOfOne>; 29] = [
     ("+", FunctionOfOne::Same),
     ("-", FunctionOfOne::Negate),
     ("abs", FunctionOfOne::Magnitude),
@@ -87,9 +87,11 @@ const FUNCTIONS_OF_ONE: [Row<FunctionOfOne>; 27] = [
     ("new_list", FunctionOfOne::NewList),
     ("new_array", FunctionOfOne::NewArray),
     ("copy_term", FunctionOfOne::CopyTerm),
+    ("once", FunctionOfOne::Itself),
+    ("not", FunctionOfOne::InOrder),
 ];
 
-const FUNCTIONS_OF_TWO: [Row<FunctionOfTwo>; 23] = [
+const FUNCTIONS_OF_TWO: [Row<FunctionOfTwo>; 24] = [
     ("+", FunctionOfTwo::Operation(Op::Add)),
     ("-", FunctionOfTwo::Operation(Op::Sub)),
     ("*", FunctionOfTwo::Operation(Op::Mul)),
@@ -113,6 +115,7 @@ const FUNCTIONS_OF_TWO: [Row<FunctionOfTwo>; 23] = [
     ("in", FunctionOfTwo::Item),
     ("..", FunctionOfTwo::Range),
     ("new_array", FunctionOfTwo::NewGrid),
+    (":=", FunctionOfTwo::RangeCount),
 ];
 
 const PREDICATES_OF_NONE: [Row<PredicateOfNone>; 3] = [

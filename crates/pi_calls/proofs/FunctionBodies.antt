@@ -20,6 +20,7 @@ use Rattle.pi_effects.specs.Collections.{collection_functions, list_then, collec
 use Rattle.pi_effects.specs.Sorting.{sorting_functions, sorted, each_once, least, greatest}
 use Rattle.pi_effects.specs.Indexing.{index_functions, indexed}
 use Rattle.pi_effects.specs.Ranges.{range_functions, range, range_by}
+use Rattle.pi_effects.specs.Inner.{itself, in_order, range_count}
 use Rattle.pi_effects.specs.Naming.{naming_functions, name_at, arity_at}
 use Rattle.pi_effects.specs.Texts.{text_functions, plain_text_list}
 use Rattle.pi_effects.specs.Making.{making_functions, new_items, new_grid, copied}
@@ -64,6 +65,8 @@ one_done FunctionOfOne.ToString s t = answer_in s (plain_text_list s t)
 one_done FunctionOfOne.NewList s t = new_items list_of s t
 one_done FunctionOfOne.NewArray s t = new_items array_of s t
 one_done FunctionOfOne.CopyTerm s t = copied s (value (bindings s) t)
+one_done FunctionOfOne.Itself s t = answer_in s (itself s t)
+one_done FunctionOfOne.InOrder s t = answer_in s (in_order s t)
 
 abbrev pub two_done : FunctionOfTwo → State → Tree → Tree → FunctionEffect
 two_done (FunctionOfTwo.Operation op) s t u = answer_in s (integers_then s t u (λ m n. outcome_then (value_of op m n) number))
@@ -75,6 +78,7 @@ two_done FunctionOfTwo.Zip s t u = answer_in s (list_then s t (λ ts. list_then 
 two_done FunctionOfTwo.Item s t u = answer_in s (indexed s t u)
 two_done FunctionOfTwo.Range s t u = answer_in s (integers_then s t u (λ low high. range low (pos 1) high))
 two_done FunctionOfTwo.NewGrid s t u = new_grid s t u
+two_done FunctionOfTwo.RangeCount s t u = answer_in s (range_count s t u)
 
 -- ---- by name
 
@@ -110,6 +114,8 @@ one-by_name FunctionOfOne.ToString t s = refl
 one-by_name FunctionOfOne.NewList t s = refl
 one-by_name FunctionOfOne.NewArray t s = refl
 one-by_name FunctionOfOne.CopyTerm t s = refl
+one-by_name FunctionOfOne.Itself t s = refl
+one-by_name FunctionOfOne.InOrder t s = refl
 
 -- an operation on one integer has no name among those on two
 some-operation : (op : Op) (t u : Tree) (s : State) (e : FunctionEffect) → built_in_function (two_name (FunctionOfTwo.Operation op)) (tree t (tree u no_trees)) s ≡ Some e → Some e ≡ Some (two_done (FunctionOfTwo.Operation op) s t u)
@@ -144,6 +150,7 @@ two-by_name FunctionOfTwo.Zip t u s e h = sym h
 two-by_name FunctionOfTwo.Item t u s e h = sym h
 two-by_name FunctionOfTwo.Range t u s e h = sym h
 two-by_name FunctionOfTwo.NewGrid t u s e h = sym h
+two-by_name FunctionOfTwo.RangeCount t u s e h = sym h
 
 -- ---- what a body shows
 

@@ -15,8 +15,8 @@ use pi_arith::Op;
 use pi_builtin::{Function, FunctionOfOne, FunctionOfTwo};
 use pi_faults::Stop;
 use pi_kinds::{arity_of, name_of};
-use pi_lists::{append, delete_all, item_at, zip};
-use pi_making::{copy_term, new_array, new_grid, new_list, range, range_by};
+use pi_lists::{append, delete_all, in_order, item_at, zip};
+use pi_making::{copy_term, new_array, new_grid, new_list, range, range_by, range_count};
 use pi_numbers::{evaluate_one, evaluate_two, greatest, least, same_integer};
 use pi_states::{Ref, StateStore};
 use pi_texts::to_string;
@@ -72,6 +72,8 @@ fn call_of_one<S: StateStore>(
         FunctionOfOne::NewList => new_list(s, a),
         FunctionOfOne::NewArray => new_array(alloc, s, a),
         FunctionOfOne::CopyTerm => copy_term(alloc, s, a),
+        FunctionOfOne::Itself => Ok(a),
+        FunctionOfOne::InOrder => in_order(alloc, s, a),
     }
 }
 
@@ -96,5 +98,6 @@ fn call_of_two<S: StateStore>(
         FunctionOfTwo::Item => item_at(alloc, s, a, b),
         FunctionOfTwo::Range => range(s, a, b),
         FunctionOfTwo::NewGrid => new_grid(alloc, s, a, b),
+        FunctionOfTwo::RangeCount => range_count(s, a, b),
     }
 }

@@ -26,6 +26,11 @@ impl<'a> Case<'a> {
         }
     }
 
+    /// Another case, of the words that are left of this one.
+    pub fn again(&self) -> Case<'a> {
+        Case::new(self.alloc, self.ahead())
+    }
+
     /// The first fault so far.
     pub fn problem(&self) -> Option<Problem> {
         self.problem

@@ -59,6 +59,19 @@ impl Case<'_> {
         }
     }
 
+    /// Writes what this case tells over the raw store, where that is something else, and notes its fault. That they differ stands at the end too, which is
+    /// told of a long answer.
+    pub fn tell_raw(&mut self, raw: &Case<'_>) {
+        if let Some(problem) = raw.problem() {
+            self.fail(problem);
+        }
+        if self.answer.as_str() != raw.answer.as_str() {
+            self.tell(" BUT OVER THE RAW STORE ");
+            self.tell(raw.answer.as_str());
+            self.tell(", NOT THE SAME");
+        }
+    }
+
     /// Writes what stands between things, in front of each but the first one, whose number is 0.
     pub fn tell_between(&mut self, i: usize, between: &str) {
         if i > 0 {

@@ -99,9 +99,10 @@ pub ranges : gives_term (codes "..") (n 1 ∷ n 3 ∷ []) (list_of (n 1 ∷ n 2 
     × gives_term (codes "..") (n 1 ∷ int (negsuc 1) ∷ int (negsuc 3) ∷ []) (list_of (n 1 ∷ int (negsuc 0) ∷ int (negsuc 2) ∷ []))
     × raises (codes "..") (n 1 ∷ n 0 ∷ n 1 ∷ []) (atom (codes "bad_range"))
     × raises (codes "..") (n 1 ∷ n 16777217 ∷ []) (atom (codes "range_too_long"))
+    × raises (codes "..") (int (pos (2 ^ 127)) ∷ int (pos (2 ^ 127)) ∷ []) (atom (codes "integer_overflow"))
     × raises (codes "..") (n 1 ∷ a ∷ b ∷ []) (raised_type (codes "integer") a)
 unfolding gives
-ranges = (refl, refl, refl, refl, refl, refl, refl)
+ranges = (refl, refl, refl, refl, refl, refl, refl, refl)
 
 pub names : gives_term (codes "name") (compound (codes "f") (a ∷ []) ∷ []) (atom (codes "f")) × gives_term (codes "arity") (compound (codes "f") (a ∷ []) ∷ []) (n 1)
     × gives_term (codes "name") (a ∷ []) a × gives_term (codes "arity") (a ∷ []) (n 0)

@@ -1,4 +1,5 @@
 pub mod ItemLemmas
+pub mod RangeLemmas
 pub mod SortLemmas
 pub mod RowLemmas
 pub mod BuiltInLemmas
@@ -7,6 +8,7 @@ pub mod IntegerExamples
 pub mod ComparingExamples
 pub mod KindExamples
 pub mod CollectionExamples
+pub mod InnerExamples
 pub mod SortingExamples
 pub mod MakingExamples
 pub mod TextExamples

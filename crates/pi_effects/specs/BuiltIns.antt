@@ -20,6 +20,7 @@ use Rattle.pi_effects.specs.Indexing.{index_functions}
 use Rattle.pi_effects.specs.Ranges.{range_functions}
 use Rattle.pi_effects.specs.Naming.{naming_functions}
 use Rattle.pi_effects.specs.Texts.{text_functions, writing_predicates}
+use Rattle.pi_effects.specs.Inner.{inner_functions}
 use Rattle.pi_effects.specs.Making.{making_functions}
 
 -- ---- functions
@@ -27,7 +28,7 @@ use Rattle.pi_effects.specs.Making.{making_functions}
 -- those that leave the state as it is
 unfoldable pub reading_functions : List (Row (Answer Tree))
 reading_functions =
-    integer_functions ++ (collection_functions ++ (sorting_functions ++ (index_functions ++ (range_functions ++ (naming_functions ++ text_functions)))))
+    integer_functions ++ (collection_functions ++ (sorting_functions ++ (index_functions ++ (range_functions ++ (naming_functions ++ (text_functions ++ inner_functions))))))
 
 abbrev pub answer_in : State → Answer Tree → FunctionEffect
 answer_in s (Ok t) = Gives t s

@@ -10,6 +10,7 @@ pub mod Collections
 pub mod Sorting
 pub mod Indexing
 pub mod Ranges
+pub mod Inner
 pub mod Naming
 pub mod Format
 pub mod Texts

@@ -1,10 +1,13 @@
 -- Ranges as lists of their values (A User's Guide to Picat, 'Data Types, Operators, and Built-ins'; the limit and what is raised are own).
-use Rattle.std.specs.Prelude.{ℕ, zero, suc, ◌/◌, nat_lt, cond, ℤ, pos, negsuc, ◌+ℤ◌, int_le, List, [], ◌∷◌, codes, Ok, Err}
+use Rattle.std.specs.Prelude.{ℕ, zero, suc, ◌/◌, nat_lt, ◌&&◌, cond, ℤ, pos, negsuc, ◌+ℤ◌, int_le, List, [], ◌∷◌, codes, Ok, Err}
 use Rattle.std.specs.Int.{int_gap}
 use Rattle.pi_terms.specs.Tree.{Tree, int}
+use Rattle.pi_arith.specs.Range.{has_128_bits}
+use Rattle.pi_arith.specs.declared.fault.ArithFault.TheVariants.{Overflow}
 use Rattle.pi_effects.specs.Exception.{bad_range, range_too_long}
 use Rattle.pi_effects.specs.Answer.{Answer, integer_then, integers_then}
 use Rattle.pi_effects.specs.Items.{list_of}
+use Rattle.pi_effects.specs.Integers.{fault_term}
 use Rattle.pi_effects.specs.Rows.{of_two, of_three, Row, line}
 
 -- the most values of a range, and the most items of a list or an array of new variables (own)
@@ -22,16 +25,24 @@ unfoldable pub values_by : ℕ → ℤ → ℤ → List Tree
 values_by zero low step = []
 values_by (suc k) low step = int low ∷ values_by k (low +ℤ step) step
 
-abbrev pub range : ℤ → ℤ → ℤ → Answer Tree
-range low step high =
+-- what is made of the number of values, where these are no more than a list has; a bound of more than 128 bits is no number of the language, and raises what a sum does that
+-- comes to one
+abbrev pub counted : {A : Type 0} → (ℕ → A) → ℤ → ℤ → ℤ → Answer A
+counted make low step high =
     let count : ℕ = count_by low step high in
-    cond (nat_lt most_items count) (Err range_too_long) (Ok (list_of (values_by count low step)))
+    cond (nat_lt most_items count) (Err range_too_long) (cond (has_128_bits low && has_128_bits high) (Ok (make count)) (Err (fault_term Overflow)))
 
--- a range with a step, which isn't 0
+-- the same for a step that may be 0, by which there is no range
+abbrev pub counted_by : {A : Type 0} → (ℕ → A) → ℤ → ℤ → ℤ → Answer A
+counted_by make low (pos zero) high = Err bad_range
+counted_by make low (pos (suc n)) high = counted make low (pos (suc n)) high
+counted_by make low (negsuc n) high = counted make low (negsuc n) high
+
+abbrev pub range : ℤ → ℤ → ℤ → Answer Tree
+range low step high = counted (λ count. list_of (values_by count low step)) low step high
+
 abbrev pub range_by : ℤ → ℤ → ℤ → Answer Tree
-range_by low (pos zero) high = Err bad_range
-range_by low (pos (suc n)) high = range low (pos (suc n)) high
-range_by low (negsuc n) high = range low (negsuc n) high
+range_by low step high = counted_by (λ count. list_of (values_by count low step)) low step high
 
 -- bounds and step in the order in which they are written, the first that is no integer is told
 unfoldable pub range_functions : List (Row (Answer Tree))

@@ -14,7 +14,7 @@ use Rattle.pi_clauses.specs.Places.{asked, expression}
 use Rattle.pi_coverage.specs.Built.{is_own, is_prelude_kind, is_built_predicate, is_built_function, is_built_value_call, is_built_form, is_built_atom}
 use Rattle.pi_lowered.specs.Forms.{Knows, IsFunctionCall, IsPredicateCall, IsAtomGoal}
 use Rattle.pi_faultless.proofs.KnownCalls.{AreKnown, goal-known}
-use Rattle.pi_faultless.proofs.PlainNames.{has_places, own-form, term-plain, built-plain, function-built-plain}
+use Rattle.pi_faultless.proofs.PlainNames.{is_no_expression, has_places, own-form, term-plain, built-plain, function-built-plain}
 use Rattle.pi_faultless.proofs.CallPlaces.{place_behind}
 
 -- What is there has each predicate and each function that a call of a name of its own finds defined, and the prelude's.
@@ -98,9 +98,9 @@ pub record Arguments (name : List ℕ) (k : ℕ) (exps : Bool) (value goal : ℕ
 -- ---- functions
 
 pub function-of : (defined : List Named) (known : Knows) → Has defined known → (name : List ℕ) (k : ℕ) (exps : Bool) (value goal : ℕ → Bool) (Exps : Type 0) (Value Goal : ℕ → Type 0) →
-    Arguments name k exps value goal Exps Value Goal → is_known defined (named name k true) ≡ true → is_membership name k ≡ false → is_built_value_call name k exps value goal ≡ true →
+    Arguments name k exps value goal Exps Value Goal → is_known defined (named name k true) ≡ true → is_no_expression name k ≡ false → is_built_value_call name k exps value goal ≡ true →
     IsFunctionCall known (is_find_all name k) (is_count_all name k) name k Exps Value Goal
-function-of defined known has name k exps value goal Exps Value Goal arguments call no-membership built = go (is_find_all name k) (is_count_all name k) refl refl built
+function-of defined known has name k exps value goal Exps Value Goal arguments call expression-call built = go (is_find_all name k) (is_count_all name k) refl refl built
   where
     go : (find count : Bool) → is_find_all name k ≡ find → is_count_all name k ≡ count → cond find (value 0 && goal 1) (cond count (goal 0) (exps && is_built_function name k)) ≡ true →
         IsFunctionCall known find count name k Exps Value Goal
@@ -111,7 +111,7 @@ function-of defined known has name k exps value goal Exps Value Goal arguments c
     go false true other is h = arguments.inner 0 (count-place name k is) h
     go false false find count h =
         let both = and_parts exps (is_built_function name k) h in
-        (arguments.all (function-built-plain name k both.1 no-membership) both.0, function-there defined known has name k both.1 call)
+        (arguments.all (function-built-plain name k both.1 expression-call) both.0, function-there defined known has name k both.1 call)
 
 -- ---- predicates
 

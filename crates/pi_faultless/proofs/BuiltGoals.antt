@@ -5,11 +5,9 @@ use Rattle.std.proofs.lemmas.Bool.{and_parts}
 use Rattle.pi_syntax.specs.ExpTree.{ExpTree, var, int, atom, str, list, list_onto, array, call, quote, index, range, range_by, and, or, arrow, if_then, if_else, ExpTrees, no_exps, exp, ExpBranches, no_branches, branch}
 use Rattle.pi_syntax.specs.Signature.{exp_count}
 use Rattle.pi_clauses.specs.Calls.{Named, calls_of_goal}
-use Rattle.pi_clauses.specs.Operators.{is_goal_call, is_membership}
 use Rattle.pi_clauses.specs.Places.{goal, asked, expression, placed, called, below, all_placed, arguments_placed, branches_placed}
 use Rattle.pi_coverage.specs.Built.{are_some, is_built_value, are_built_values, is_built_value_at, is_built_goal_at, is_built_goal, are_built_goals, are_built_branches, is_built_branch, have_built_goals}
 use Rattle.pi_lowered.specs.Forms.{Knows, IsExpression, AreExpressions, IsExpressionAt, IsGoalAt, IsGoal, AreGoals, AreBranches, IsBranch, HaveGoals}
-use Rattle.std.proofs.lemmas.Bool.{or_parts}
 use Rattle.pi_faultless.proofs.KnownCalls.{AreKnown, AreFine, nodes-apart}
 use Rattle.pi_faultless.proofs.BuiltTerms.{term-of}
 use Rattle.pi_faultless.proofs.CallPlaces.{plain-arguments, goal-arguments, below-asked, place_behind}
@@ -45,7 +43,7 @@ mutual
         all = λ plain all. values-of defined known has es all (subst (AreFine defined) (plain-arguments name k 0 es plain) fine.1);
         one = λ i place is. value-at defined known has name k 0 es i place is fine.1;
         inner = λ i place is. goal-at defined known has name k 0 es i place is fine.1;
-      }) fine.0.0.0 (or_parts (is_goal_call name k) (is_membership name k) fine.0.1).1 built
+      }) fine.0.0.0 fine.0.1 built
   value-of defined known has (quote e) built fine = term-of e built
   value-of defined known has (index e es) built fine =
       let both = and_parts (is_built_value e) (are_built_values es && are_some es) built in

@@ -4,7 +4,7 @@ use Rattle.std.specs.Prelude.{◌==◌, ◌&&◌, ◌||◌, not, Option, Some, N
 use Rattle.std.specs.Str.{bytes_eq}
 use Rattle.std.proofs.lemmas.Bool.{and_parts, or_parts, or_from, not-true, eqb-true}
 use Rattle.pi_effects.specs.BuiltIns.{is_function, is_predicate}
-use Rattle.pi_effects.specs.Indexing.{index_name}
+use Rattle.pi_lib.specs.Forms.{is_form}
 use Rattle.pi_lib.specs.Names.{kind_of}
 use Rattle.pi_lib.specs.declared.builtin.BuiltinKind.{BuiltinKind}
 use Rattle.pi_lib.specs.declared.builtin.BuiltinKind.TheVariants.{Predicate, Function, Prelude}
@@ -16,7 +16,7 @@ use Rattle.pi_names.specs.Kinds.{is_unwritten, means_function, means_predicate, 
 use Rattle.pi_names.proofs.TableLemmas.{same-name, one-of}
 use Rattle.pi_names.proofs.BuiltInNames.{names-have-their-kinds}
 use Rattle.pi_clauses.specs.Items.{is_head}
-use Rattle.pi_clauses.specs.Operators.{is_goal_sign, is_relation, is_reified, is_membership, is_arithmetic, is_operator}
+use Rattle.pi_clauses.specs.Operators.{is_goal_sign, is_assignment, is_relation, is_reified, is_membership, is_arithmetic, is_operator}
 use Rattle.pi_clauses.specs.Verdict.{is_built_in_signature}
 use Rattle.pi_lowered.specs.Within.{IsFree}
 
@@ -27,12 +27,16 @@ sign-spelled name spelling k j same equal h =
     subst (λ (i : ℕ). is_operator name i ≡ true) (sym (eqb-true k j same)) (subst (λ (n : List ℕ). is_operator n j ≡ true) (sym (same-name name spelling equal)) h)
 
 unwritten-is-sign : (name : List ℕ) (k : ℕ) → is_unwritten name k ≡ true → is_operator name k ≡ true
-unfolding is_operator is_goal_sign is_relation is_reified is_membership is_arithmetic
+unfolding is_operator is_goal_sign is_assignment is_relation is_reified is_membership is_arithmetic
 unwritten-is-sign name k h =
-    one-of (k == 2 && bytes_eq name index_name) ((k == 2 || k == 3) && bytes_eq name (codes "..")) (is_operator name k)
-    (λ e. let parts = and_parts (k == 2) (bytes_eq name index_name) e in sign-spelled name index_name k 2 parts.0 parts.1 refl)
+    let spelled : (spelling : List ℕ) (j : ℕ) → is_operator spelling j ≡ true → (k == j) ≡ true → bytes_eq name spelling ≡ true → is_operator name k ≡ true =
+    λ spelling j sign same equal. sign-spelled name spelling k j same equal sign in
+    one-of (is_form name k) ((k == 2 || k == 3) && bytes_eq name (codes "..")) (is_operator name k)
+    (one-of (k == 1 && (bytes_eq name (codes "not") || bytes_eq name (codes "once"))) _ (is_operator name k)
+    (λ e. let parts = and_parts (k == 1) _ e in one-of (bytes_eq name (codes "not")) (bytes_eq name (codes "once")) (is_operator name k) (spelled (codes "not") 1 refl parts.0) (spelled (codes "once") 1 refl parts.0) parts.1)
+    (λ e. let parts = and_parts (k == 2) _ e in one-of (bytes_eq name (codes ":=")) (bytes_eq name (codes "in")) (is_operator name k) (spelled (codes ":=") 2 refl parts.0) (spelled (codes "in") 2 refl parts.0) parts.1))
     (λ e. let parts = and_parts (k == 2 || k == 3) (bytes_eq name (codes "..")) e in
-    one-of (k == 2) (k == 3) (is_operator name k) (λ two. sign-spelled name (codes "..") k 2 two parts.1 refl) (λ three. sign-spelled name (codes "..") k 3 three parts.1 refl) parts.0) h
+    one-of (k == 2) (k == 3) (is_operator name k) (λ two. spelled (codes "..") 2 refl two parts.1) (λ three. spelled (codes "..") 3 refl three parts.1) parts.0) h
 
 -- ---- a name that isn't built in
 

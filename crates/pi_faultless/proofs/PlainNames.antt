@@ -22,10 +22,14 @@ use Rattle.pi_syntax.specs.Tokens.{is_one_of}
 use Rattle.pi_meaning.specs.Names.{is_catch, is_call}
 use Rattle.pi_names.specs.Forms.{Reading, is_constraint, is_connective, is_within, readings, is_find_all, is_count_all}
 use Rattle.pi_names.proofs.TableLemmas.{Test, same-name, one-of, each-spelled, spellings-hold, each-below, body-holds, each-line, lines-hold, each-from, each-row, rows-hold}
-use Rattle.pi_clauses.specs.Operators.{is_goal_sign, is_membership, is_reified}
+use Rattle.pi_clauses.specs.Operators.{is_goal_sign, is_relation, is_membership, is_reified, is_goal_call}
 use Rattle.pi_coverage.specs.Built.{is_own, is_prelude_kind, is_built_predicate, is_built_function}
 
 -- ---- which calls aren't plain
+
+-- a call of such a name is no expression
+abbrev pub is_no_expression : Test
+is_no_expression name k = is_goal_call name k || is_membership name k
 
 -- some argument of such a call stands as a goal, as a pattern or between the signs of constraints
 abbrev pub has_places : Test
@@ -43,9 +47,9 @@ no-readings (r ∷ rs) h = absurd cc
 abbrev pub is_plain : Test
 is_plain name k = not (has_places name k) && are_plain (readings name k)
 
--- a function's; `in` is the name of one, which no text calls
+-- a function's; the names of some are those of forms, which no text calls as functions
 abbrev pub is_plain_function : Test
-is_plain_function name k = not (has_places name k) || is_membership name k
+is_plain_function name k = not (has_places name k) || is_no_expression name k
 
 -- ---- names of the tables
 
@@ -57,7 +61,7 @@ predicate-plain name k found =
     (one-of (has_line writing_predicates name k) (has_line other_predicates name k) (P name k) (lines-hold P writing_predicates refl name k) (lines-hold P other_predicates refl name k)) found
 
 function-plain : (name : List ℕ) (k : ℕ) → is_function name k ≡ true → is_plain_function name k ≡ true
-unfolding is_function reading_functions integer_functions collection_functions sorting_functions index_functions range_functions naming_functions text_functions making_functions each-line body-holds each-below is_goal_sign is_membership is_reified
+unfolding is_function reading_functions integer_functions collection_functions sorting_functions index_functions range_functions naming_functions text_functions making_functions each-line body-holds each-below is_goal_sign is_relation is_membership is_reified
 function-plain name k found =
     let P : Test = λ n j. is_plain_function n j in
     one-of (has_line reading_functions name k) (has_line making_functions name k) (P name k) (lines-hold P reading_functions refl name k) (lines-hold P making_functions refl name k) found
@@ -183,8 +187,8 @@ first-of : (a b : Bool) → a ≡ true → (a || b) ≡ true
 first-of true b h = refl
 first-of false b h = absurd cc
 
-pub function-built-plain : (name : List ℕ) (k : ℕ) → is_built_function name k ≡ true → is_membership name k ≡ false → has_places name k ≡ false
-function-built-plain name k built no-membership =
-    but-for (has_places name k) (is_membership name k)
+pub function-built-plain : (name : List ℕ) (k : ℕ) → is_built_function name k ≡ true → is_no_expression name k ≡ false → has_places name k ≡ false
+function-built-plain name k built expression =
+    but-for (has_places name k) (is_no_expression name k)
     (one-of (is_function name k) (is_own name k) (is_plain_function name k) (function-plain name k)
-    (λ own. first-of (not (has_places name k)) (is_membership name k) (and_parts (not (has_places name k)) (are_plain (readings name k)) (own-plain name k own)).0) built) no-membership
+    (λ own. first-of (not (has_places name k)) (is_no_expression name k) (and_parts (not (has_places name k)) (are_plain (readings name k)) (own-plain name k own)).0) built) expression

@@ -16,6 +16,7 @@ kind_name Kind.Integer = codes "integer"
 kind_name Kind.ProperList = codes "list"
 kind_name Kind.Collection = codes "collection"
 kind_name Kind.Callable = codes "callable"
+kind_name Kind.Pair = codes "array"
 
 -- a term that is raised tells the term of a Ref
 abbrev pub Tells : {M : Type 0} → StoreView M → Ref → (Tree → State → Tree) → Tree → Type 0

@@ -88,6 +88,7 @@ fn name_of(kind: Kind) -> &'static str
         Kind::ProperList => "list",
         Kind::Collection => "collection",
         Kind::Callable => "callable",
+        Kind::Pair => "array",
     }
 }
 

@@ -17,6 +17,8 @@ pub enum Kind {
     Collection,
     /// An atom or a compound.
     Callable,
+    /// An array of two items.
+    Pair,
 }
 
 /// What a built-in raises: a copy of a term is made of it only where it is needed. A `Ref` is that of the term which is told.

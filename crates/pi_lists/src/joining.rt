@@ -4,13 +4,14 @@ ghost use Rattle.pi_terms.specs.Tree.{Tree};
 ghost use Rattle.pi_states.specs.Store.{IsTerm, Stays};
 ghost use Rattle.pi_effects.specs.Items.{list_of, array_of};
 ghost use Rattle.pi_effects.specs.Collections.{list_then, collection_then, joined, without, pair};
+ghost use Rattle.pi_effects.specs.Inner.{in_order as items_in_order};
 ghost use Rattle.pi_faults.specs.Results.{ShowsTerm};
 ghost use Rattle.pi_unify.specs.Terms.{HoldsNoCycle};
 ghost use Rattle.pi_lists.specs.Items.{AreItems};
 
 use crate::building::{put_array, put_list, put_onto};
 use crate::collection::collection_items;
-use crate::walk::list_items;
+use crate::walk::{list_items, walk};
 use pi_faults::Stop;
 use pi_states::{Ref, StateStore};
 use pi_unify::compare;
@@ -23,6 +24,18 @@ pub fn reverse<S: StateStore>(alloc: Global, s: &mut S, list: Ref) -> Result<Ref
 {
     let items = list_items(alloc, s, list)?;
     Ok(put_reversed(s, &items)?)
+}
+
+/// `not/1`, which lowered programs call: the items of a proper list from the last one, none of any other term.
+pub fn in_order<S: StateStore>(alloc: Global, s: &mut S, list: Ref) -> Result<Ref, Stop>
+    ensures stays { Stays (S.seen s.old) (S.seen s.new) }
+    ensures shows { (t : Tree) → HoldsNoCycle (S.seen s.old) → IsTerm (S.seen s.old) list t → ShowsTerm (S.seen s.old) (S.seen s.new) result (items_in_order (S.seen s.old).now.state t) }
+{
+    let found = walk(alloc, s, list)?;
+    match found {
+        Some(items) => Ok(put_reversed(s, &items)?),
+        None => Ok(s.put_atom("[]")?),
+    }
 }
 
 /// `++`: a proper list in front of another, which is shared.

@@ -11,7 +11,7 @@ mod walk;
 
 pub use building::{put_array, put_list};
 pub use collection::collection_items;
-pub use joining::{append, delete_all, reverse, to_array, to_list, zip};
+pub use joining::{append, delete_all, in_order, reverse, to_array, to_list, zip};
 pub use reading::{first, head, item_at, last, length, tail};
 pub use totals::{product, sum};
 pub use walk::list_items;

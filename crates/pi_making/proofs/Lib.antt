@@ -1,4 +1,5 @@
 mod StoreLemmas
+mod PairLemmas
 mod RangeLemmas
 mod SizeLemmas
 mod ListLemmas

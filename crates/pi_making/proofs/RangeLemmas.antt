@@ -1,18 +1,22 @@
 -- Values of a range by their numbers, and how many they are.
-use Rattle.std.proofs.Common.{◌≡◌, ◌≢◌, ℕ, zero, suc, ◌+◌, ◌-◌, ◌*◌, ◌/◌, ◌<◌, ◌≤◌, cond, Bool, true, false, [], ◌∷◌, Some, refl, ap, sym, ◌∙◌, subst, arith}
-use Rattle.std.specs.Prelude.{ℤ, pos, negsuc, ◌+ℤ◌, ◌*ℤ◌, int_le, FitsSigned}
-use Rattle.std.specs.Int.{w128, int_gap}
+use Rattle.std.proofs.Common.{◌≡◌, ◌≢◌, ℕ, zero, suc, ◌+◌, ◌-◌, ◌≤◌, [], ◌∷◌, Some, refl, ap, sym, ◌∙◌, subst, arith}
+use Rattle.std.specs.Prelude.{ℤ, pos, negsuc, ◌+ℤ◌, ◌*ℤ◌, FitsSigned, Option, codes}
+use Rattle.std.specs.Int.{w128}
 use Rattle.std.proofs.lemmas.Int.{ints}
-use Rattle.std.proofs.Math.Nat.{mul-le-mul_left}
 use Rattle.pi_terms.specs.Tree.{Tree, Trees, int, atom, comp}
 use Rattle.pi_terms.specs.ListNames.{nil, cell_name}
 use Rattle.pi_terms.specs.ListCopies.{list_cell}
 use Rattle.pi_making.proofs.StoreLemmas.{cell_put}
-use lib.IntN.{suc_ℤ-*ℤ, zero-*ℤ, neg_ℤ}
+use lib.IntN.{suc_ℤ-*ℤ, zero-*ℤ}
+use Rattle.pi_states.specs.State.{State, bindings, followed}
 use Rattle.pi_states.specs.Store.{StoreView, IsTerm, AreTerms, Keeps}
 use Rattle.pi_states.specs.declared.store.Ref.{Ref}
 use Rattle.pi_effects.specs.Items.{list_onto, list_of}
-use Rattle.pi_effects.specs.Ranges.{count_by, values_by, range, range_by}
+use Rattle.pi_effects.specs.Exception.{type_error}
+use Rattle.pi_effects.specs.Answer.{Answer, found_or, integers_then}
+use Rattle.pi_effects.specs.Ranges.{count_by, values_by, counted, counted_by}
+use Rattle.pi_effects.specs.Inner.{pair_parts}
+use Rattle.pi_effects.proofs.RangeLemmas.{value-fits}
 use Rattle.pi_making.specs.Steps.{value_after, AllFit}
 
 pub first_value : (low step : ℤ) → value_after low step 0 ≡ low
@@ -26,36 +30,9 @@ pub values_from : (low step : ℤ) (j k : ℕ) → values_by (suc j) (value_afte
 unfolding values_by
 values_from low step j k = ap (λ v. int (value_after low step k) ∷ values_by j v step) (sym (next_value low step k))
 
--- ---- values lie between the bounds
-
-up_to : (low high : ℤ) → int_le low high ≡ true → low +ℤ pos (int_gap low high) ≡ high
-up_to (pos a) (pos b) h = omega (arith, ints)
-up_to (pos a) (negsuc b) h = cc
-up_to (negsuc a) (pos b) h = omega (arith, ints)
-up_to (negsuc a) (negsuc b) h = omega (arith, ints)
-
-between : (low high : ℤ) (m : ℕ) → FitsSigned w128 low → FitsSigned w128 high → int_le low high ≡ true → m ≤ int_gap low high → FitsSigned w128 (low +ℤ pos m)
-between low high m f g h few = let up : low +ℤ pos (int_gap low high) ≡ high = up_to low high h in omega (arith, ints)
-
-below : (low high : ℤ) (m : ℕ) → FitsSigned w128 low → FitsSigned w128 high → int_le high low ≡ true → m ≤ int_gap high low → FitsSigned w128 (low +ℤ neg_ℤ (pos m))
-below low high m f g h few = let down : high +ℤ pos (int_gap high low) ≡ low = up_to high low h in omega (arith, ints)
-
-quotient : (k g n : ℕ) → k < suc (g / suc n) → k * suc n ≤ g
-quotient k g n h = let few : k ≤ g / suc n = omega arith in omega (arith, mul-le-mul_left (suc n) few)
-
-in_range : (c : Bool) (k q : ℕ) → k < cond c (suc q) 0 → (c ≡ true) × (k < suc q)
-in_range true k q h = (refl, h)
-in_range false k q h = absurd (omega arith)
-
 -- each value of a range fits
 pub values_fit : (low step high : ℤ) → FitsSigned w128 low → FitsSigned w128 high → AllFit low step (count_by low step high)
-values_fit low (pos zero) high f g k h = absurd (omega arith)
-values_fit low (pos (suc n)) high f g k h =
-    let there = in_range (int_le low high) k (int_gap low high / suc n) h in
-    between low high (k * suc n) f g there.0 (quotient k (int_gap low high) n there.1)
-values_fit low (negsuc n) high f g k h =
-    let there = in_range (int_le high low) k (int_gap high low / suc n) h in
-    below low high (k * suc n) f g there.0 (quotient k (int_gap high low) n there.1)
+values_fit low step high f g k h = value-fits low step high f g k h
 
 -- ---- values that are put, from the last one on
 
@@ -82,7 +59,20 @@ all_put w list low step count k e is =
 
 -- ---- ranges
 
-pub step_counts : (low step high : ℤ) → step ≢ pos 0 → range_by low step high ≡ range low step high
-step_counts low (pos zero) high other = absurd (other refl)
-step_counts low (pos (suc n)) high other = refl
-step_counts low (negsuc n) high other = refl
+-- a step that isn't 0
+pub step_counts : {A : Type 0} (make : ℕ → A) (low step high : ℤ) → step ≢ pos 0 → counted_by make low step high ≡ counted make low step high
+step_counts make low (pos zero) high other = absurd (other refl)
+step_counts make low (pos (suc n)) high other = refl
+step_counts make low (negsuc n) high other = refl
+
+-- ---- how many values a range has
+
+abbrev pub number_of : ℕ → Tree
+number_of count = int (pos count)
+
+-- what follows from the first number and from what an array has
+abbrev pub pair_then : State → Tree → ℤ → Option (Tree × Tree) → Answer Tree
+pair_then s u low pair = found_or pair (type_error (codes "array") u s) (λ p. integers_then s p.0 p.1 (λ step high. counted_by number_of low step high))
+
+abbrev pub pair_counted : State → Tree → ℤ → Answer Tree
+pair_counted s u low = pair_then s u low (pair_parts (followed (bindings s) u))

@@ -1,18 +1,20 @@
 //! Ranges: lists of integers in steps.
 ghost use Rattle.std.specs.Prelude.{◌≡◌, ◌≢◌, ℕ, ◌<◌, ◌≤◌, pos, ◌+ℤ◌, ◌*ℤ◌, FitsSigned, IfOk, MatchOption};
 ghost use Rattle.std.specs.Int.{w128};
-ghost use Rattle.pi_terms.specs.Tree.{Tree};
+ghost use Rattle.pi_terms.specs.Tree.{Tree, int};
 ghost use Rattle.pi_states.specs.Value.{IsAcyclic};
 ghost use Rattle.pi_states.specs.State.{bindings};
 ghost use Rattle.pi_states.specs.Store.{IsTerm, Stays};
 ghost use Rattle.pi_effects.specs.Answer.{integer_then, integers_then};
 ghost use Rattle.pi_effects.specs.Items.{list_of};
 ghost use Rattle.pi_effects.specs.Ranges as spec;
+ghost use Rattle.pi_effects.specs.Inner.{range_count as count_in};
 ghost use Rattle.pi_faults.specs.Results.{ShowsTerm};
 ghost use Rattle.pi_making.specs.Steps.{value_after, AllFit};
 
+use crate::pairs::pair_at;
 use crate::sizes::MOST_ITEMS;
-use pi_faults::{Fault, Stop, integer};
+use pi_faults::{Fault, Kind, Stop, integer};
 use pi_states::{Ref, StateStore};
 use std::alloc::AllocError;
 
@@ -42,6 +44,36 @@ pub fn range_by<S: StateStore>(s: &mut S, low: Ref, step: Ref, high: Ref) -> Res
         return Err(Stop::Raised(Fault::BadRange));
     }
     put_range(s, low, step, high)
+}
+
+/// `':='/2`, which lowered programs call: how many values the range from a number by a step to another has, these two in an
+/// array. What is raised is what the range itself raises; what is no array of two raises `type_error`, behind the first number.
+pub fn range_count<S: StateStore>(s: &mut S, low: Ref, step_and_high: Ref) -> Result<Ref, Stop>
+    ensures stays { Stays (S.seen s.old) (S.seen s.new) }
+    ensures shows { (t u : Tree) → IsAcyclic (bindings (S.seen s.old).now.state) → IsTerm (S.seen s.old) low t → IsTerm (S.seen s.old) step_and_high u → ShowsTerm (S.seen s.old) (S.seen s.new) result (count_in (S.seen s.old).now.state t u) }
+{
+    let low = integer(s, low)?;
+    let Some((step, high)) = pair_at(s, step_and_high) else {
+        return Err(Stop::Raised(Fault::WrongKind(Kind::Pair, step_and_high)));
+    };
+    let step = integer(s, step)?;
+    let high = integer(s, high)?;
+    if step == 0 {
+        return Err(Stop::Raised(Fault::BadRange));
+    }
+    put_count(s, low, step, high)
+}
+
+/// Puts how many values a range has.
+fn put_count<S: StateStore>(s: &mut S, low: i128, step: i128, high: i128) -> Result<Ref, Stop>
+    requires { step ≢ pos 0 }
+    ensures stays { Stays (S.seen s.old) (S.seen s.new) }
+    ensures shows { ShowsTerm (S.seen s.old) (S.seen s.new) result (spec.counted (λ count. int (pos count)) low step high) }
+{
+    match count_by(low, step, high) {
+        Some(count) => Ok(s.put_int(i128::from(count))?),
+        None => Err(Stop::Raised(Fault::RangeTooLong)),
+    }
 }
 
 /// Puts the list of the values of a range.

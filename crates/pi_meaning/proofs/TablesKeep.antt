@@ -1,27 +1,30 @@
 -- Values of built-in functions that leave the state as it is speak of variables that were made, table by table.
 use Rattle.std.proofs.Common.{ℕ, ℤ, List, [], ◌∷◌, map, reverse}
-use Rattle.std.specs.Prelude.{nat_lt, not, Option, Some, None, option_map, pos, zero, suc, negsuc, slice_get, zip, Ok}
+use Rattle.std.specs.Prelude.{nat_lt, ◌&&◌, Bool, true, false, cond, Err, not, Option, Some, None, option_map, pos, zero, suc, negsuc, slice_get, zip, Ok, unwrap_or}
 use Rattle.std.specs.Int.{int_min, int_max}
 use Rattle.std.specs.Char.{encode_utf8}
 use Rattle.std.specs.Str.{chars}
 use Rattle.std.specs.List.{last_or}
 use Rattle.std.specs.Ordering.{is_lt}
 use Rattle.std.proofs.lemmas.List.Sorted.{IsPermutation-reverse}
-use Rattle.pi_terms.specs.Tree.{Tree, atom, cells, most_cells}
+use Rattle.pi_terms.specs.Tree.{Tree, int, atom, cells, most_cells}
 use Rattle.pi_states.specs.Value.{Bindings, value}
 use Rattle.pi_states.specs.State.{State, bindings, next, followed, SpeaksBelow, IsState}
+use Rattle.pi_arith.specs.Range.{has_128_bits}
 use Rattle.pi_arith.specs.Value.{value_of}
+use Rattle.pi_arith.specs.declared.fault.ArithFault.TheVariants.{Overflow}
 use Rattle.pi_arith.specs.declared.operation.Op.{Op}
 use Rattle.pi_arith.specs.declared.operation.Op.TheVariants.{Add, Sub, Mul, Quot, Floor, Ceil, Mod, Rem, Pow, ShiftLeft, ShiftRight, And, Or, Xor, Neg, Not, Abs, Sign}
-use Rattle.pi_effects.specs.Answer.{Answer, or_raised, integer_then, integers_then}
+use Rattle.pi_effects.specs.Answer.{Answer, found_or, or_raised, integer_then, integers_then}
 use Rattle.pi_effects.specs.Exception.{term_too_large, bad_index, range_too_long}
 use Rattle.pi_effects.specs.Items.{list_onto, list_of, array_of, cell_parts, list_items, collection_items, indexed_items}
 use Rattle.pi_effects.specs.Comparing.{value_order, is_same}
-use Rattle.pi_effects.specs.Integers.{outcome_then, number, integer_functions}
+use Rattle.pi_effects.specs.Integers.{fault_term, outcome_then, number, integer_functions}
 use Rattle.pi_effects.specs.Collections.{list_then, collection_then, count, cell_part, item_or_first_index, joined, without, pair, total, collection_functions}
 use Rattle.pi_effects.specs.Sorting.{sorted, each_once, lesser, greater, least, greatest, sorting_functions}
 use Rattle.pi_effects.specs.Indexing.{item_at, indexed, index_functions}
-use Rattle.pi_effects.specs.Ranges.{most_items, count_by, values_by, range, range_by, range_functions}
+use Rattle.pi_effects.specs.Ranges.{most_items, count_by, values_by, counted, counted_by, range, range_by, range_functions}
+use Rattle.pi_effects.specs.Inner.{in_order, pair_parts, range_count, inner_functions}
 use Rattle.pi_effects.specs.Naming.{name_at, arity_at, naming_functions}
 use Rattle.pi_effects.specs.Texts.{text_list, text_functions}
 use Rattle.pi_effects.specs.Rows.{Row}
@@ -30,7 +33,7 @@ use Rattle.pi_effects.proofs.SortLemmas.{sorting-keeps_items}
 use Rattle.pi_states.proofs.FollowLemmas.{followed_below}
 use Rattle.pi_states.proofs.StateLemmas.{bound_below}
 use Rattle.pi_states.proofs.KeepsLemmas.{BindingsBelow, atom-below}
-use Rattle.pi_meaning.proofs.ItemsBelow.{ItemsBelow, PairBelow, SomeBelow, SomePairBelow, chosen-below, array-below, onto-below, list-below, parts-below, name-below, arity-below, list-items-below, collection-items-below, indexed-items-below, permuted-below, filtered-below, mapped-below, pairs-below, item-below, numbered-below, last-below, reduced-below, values-below}
+use Rattle.pi_meaning.proofs.ItemsBelow.{ItemsBelow, PairBelow, SomeBelow, SomePairBelow, SomeItemsBelow, chosen-below, array-below, onto-below, list-below, parts-below, name-below, arity-below, list-items-below, collection-items-below, indexed-items-below, permuted-below, filtered-below, mapped-below, pairs-below, item-below, numbered-below, last-below, reduced-below, values-below}
 use Rattle.pi_meaning.proofs.AnswersBelow.{AnswerBelow, items-found-below, raised-below, unless-below, number-below, outcome-below, integer-below, integers-below, LinesKeep, ◌&◌, both-keep}
 
 -- what is said of a table, where the state is one
@@ -195,15 +198,25 @@ unfolding index_functions
 indexes-keep s is =
     indexed-below s is & tt
 
-range-below : (n : ℕ) (low step high : ℤ) → AnswerBelow n (range low step high)
-range-below n low step high =
+where-below : (n : ℕ) (c : Bool) (ball : Tree) (a : Answer Tree) → AnswerBelow n a → AnswerBelow n (cond c a (Err ball))
+where-below n true ball a below = below
+where-below n false ball a below = tt
+
+made-below : (n : ℕ) (make : ℕ → Tree) → ((count : ℕ) → SpeaksBelow n (make count)) → (low step high : ℤ) → AnswerBelow n (counted make low step high)
+made-below n make each low step high =
     let count : ℕ = count_by low step high in
-    unless-below n (nat_lt most_items count) range_too_long (Ok (list_of (values_by count low step))) (list-below n (values_by count low step) (values-below n count low step))
+    unless-below n (nat_lt most_items count) range_too_long _ (where-below n (has_128_bits low && has_128_bits high) (fault_term Overflow) (Ok (make count)) (each count))
+
+made-by-below : (n : ℕ) (make : ℕ → Tree) → ((count : ℕ) → SpeaksBelow n (make count)) → (low step high : ℤ) → AnswerBelow n (counted_by make low step high)
+made-by-below n make each low (pos zero) high = tt
+made-by-below n make each low (pos (suc k)) high = made-below n make each low (pos (suc k)) high
+made-by-below n make each low (negsuc k) high = made-below n make each low (negsuc k) high
+
+range-below : (n : ℕ) (low step high : ℤ) → AnswerBelow n (range low step high)
+range-below n low step high = made-below n (λ count. list_of (values_by count low step)) (λ count. list-below n (values_by count low step) (values-below n count low step)) low step high
 
 range-by-below : (n : ℕ) (low step high : ℤ) → AnswerBelow n (range_by low step high)
-range-by-below n low (pos zero) high = tt
-range-by-below n low (pos (suc k)) high = range-below n low (pos (suc k)) high
-range-by-below n low (negsuc k) high = range-below n low (negsuc k) high
+range-by-below n low step high = made-by-below n (λ count. list_of (values_by count low step)) (λ count. list-below n (values_by count low step) (values-below n count low step)) low step high
 
 stepped-below : (s : State) (t u w : Tree) → AnswerBelow (next s) (integer_then s t (λ low. integers_then s u w (λ step high. range_by low step high)))
 stepped-below s t u w =
@@ -232,6 +245,38 @@ unfolding text_functions
 texts-keep s is =
     (λ t below. unless-below (next s) (nat_lt most_cells (cells (value (bindings s) t))) term_too_large (Ok (text_list _)) (text-below (next s) _)) & tt
 
+-- ---- what programs are lowered to
+
+gathered-below : (n : ℕ) (o : Option (List Tree)) → SomeItemsBelow n o → ItemsBelow n (unwrap_or o [])
+gathered-below n None all = tt
+gathered-below n (Some ts) all = all
+
+ordered-below : (s : State) → IsState s → (t : Tree) → SpeaksBelow (next s) t → AnswerBelow (next s) (in_order s t)
+ordered-below s is t below =
+    let items : List Tree = unwrap_or (list_items (bindings s) t) [] in
+    list-below (next s) (reverse items) (reversed-below (next s) items (gathered-below (next s) (list_items (bindings s) t) (list-items-below (next s) (bindings s) (bindings-below s is) t below)))
+
+found-below : {A : Type 0} (n : ℕ) (o : Option A) (ball : Tree) (f : A → Answer Tree) → ((x : A) → AnswerBelow n (f x)) → AnswerBelow n (found_or o ball f)
+found-below n None ball f each = tt
+found-below n (Some x) ball f each = each x
+
+number-made : (n : ℕ) (count : ℕ) → SpeaksBelow n (int (pos count))
+number-made n count = number-below n (pos count)
+
+range-count-below : (s : State) (t u : Tree) → SpeaksBelow (next s) t → SpeaksBelow (next s) u → AnswerBelow (next s) (range_count s t u)
+range-count-below s t u below other =
+    let n : ℕ = next s in
+    let by : ℤ → Tree × Tree → Answer Tree = λ low p. integers_then s p.0 p.1 (λ step high. counted_by (λ count. int (pos count)) low step high) in
+    integer-below n s t (λ low. found_or (pair_parts (followed (bindings s) u)) _ (by low))
+    (λ low. found-below n (pair_parts (followed (bindings s) u)) _ (by low) (λ p. integers-below n s p.0 p.1 _ (made-by-below n (λ count. int (pos count)) (number-made n) low)))
+
+inner-keeps : TableKeeps inner_functions
+inner-keeps s is =
+    (λ t below. below) &
+    ordered-below s is &
+    range-count-below s &
+    tt
+
 -- ---- all of them
 
 pub reading-keeps : TableKeeps reading_functions
@@ -242,4 +287,6 @@ reading-keeps s is =
     (both-keep P s collection_functions _ (collections-keep s is)
     (both-keep P s sorting_functions _ (sorting-keeps s is)
     (both-keep P s index_functions _ (indexes-keep s is)
-    (both-keep P s range_functions _ (ranges-keep s is) (both-keep P s naming_functions text_functions (naming-keeps s is) (texts-keep s is))))))
+    (both-keep P s range_functions _ (ranges-keep s is)
+    (both-keep P s naming_functions _ (naming-keeps s is)
+    (both-keep P s text_functions inner_functions (texts-keep s is) (inner-keeps s is)))))))

@@ -17,14 +17,15 @@ use Rattle.pi_meaning.specs.Environment.{Environment}
 use Rattle.pi_meaning.specs.Place.{Place}
 use Rattle.pi_names.specs.Texts.{Names}
 use Rattle.pi_names.specs.Assigning.{with_names, carried}
+use Rattle.pi_names.specs.Terms.{items_onto}
 use Rattle.pi_names.specs.Heads.{pattern_matched}
 use Rattle.pi_meaning.specs.Given.{Setting}
 use Rattle.pi_names.specs.Control.{Goal, Value, draining, strictly, choosing, nothing, in_front, applied_to}
-use Rattle.pi_names.specs.Loops.{Finish, as_it_is, closed, opened, framed, matched_turn, element, elements, if_numbered, items_then, iterating, turning, unit, while_turns, do_turns, adding, comprehended}
+use Rattle.pi_names.specs.Loops.{Finish, as_it_is, closed, opened, framed, matched_turn, element, elements, if_numbered, items_then, iterating, turning, unit, while_turns, do_turns, hidden, so_far, adding, comprehended}
 use Rattle.pi_names.specs.Forms.{indexed_by}
 use Rattle.pi_names.specs.Goals.{started}
 use Rattle.pi_effects.specs.Indexing.{index_name}
-use Rattle.pi_names.proofs.GrowControl.{Grows, stays, draining-grows, strictly-grows, choosing-grows, front-grows, applied-grows, AllGrow}
+use Rattle.pi_names.proofs.GrowControl.{Grows, stays, draining-grows, strictly-grows, choosing-grows, front-grows, onto-grows, applied-grows, assigning-grows, AllGrow}
 
 closed-grows : (finish : Finish) (names : Names) (k : ℕ) (e : Environment) → Grows (closed finish names k e)
 unfolding closed
@@ -109,7 +110,7 @@ do-grows inside body test a c (over k l) (over d m) b p =
     (λ r. draining-below _ _ l m b.1 (λ u. choosing-below test _ _ (λ k u. one u) c l m b.1 (λ w. do-grows inside body test a c l m b.1 (carried inside w)) (λ w. below-refl _) u) r))) p
 
 pub adding-grows : (item : Value) → Grows item → Grows (adding item)
-adding-grows item grows l m b p = below-then _ _ _ _ (grows l m b p) (λ x. below-refl _)
+adding-grows item grows = assigning-grows (Some hidden) _ (onto-grows items_onto (in_front item nothing) so_far (front-grows item nothing grows (stays _)) (stays _))
 
 pub comprehended-grows : (before : Names) (loop : Goal) → Grows loop → Grows (comprehended before loop)
 unfolding comprehended

@@ -3,7 +3,6 @@ use Rattle.std.proofs.Common.{◌≡◌, ℕ, suc, Bool, true, false, List, [], 
 use Rattle.std.specs.Prelude.{Option, Some, None, unwrap_or, length, pos, Ok, Err}
 use Rattle.pi_terms.specs.Tree.{Tree, atom, var as variable}
 use Rattle.pi_terms.specs.ListNames.{nil}
-use Rattle.pi_terms.specs.ListCopies.{list_cell}
 use Rattle.pi_states.specs.State.{State, bindings, next}
 use Rattle.pi_states.specs.Unify.{unified}
 use Rattle.pi_arith.specs.Range.{Outcome}
@@ -21,15 +20,16 @@ use Rattle.pi_meaning.specs.Environment.{Environment, Valued}
 use Rattle.pi_meaning.specs.Place.{Place}
 use Rattle.pi_names.specs.Texts.{Names}
 use Rattle.pi_names.specs.Assigning.{with_value, with_names}
+use Rattle.pi_names.specs.Terms.{items_onto}
 use Rattle.pi_names.specs.Heads.{pattern_matched}
 use Rattle.pi_meaning.specs.Given.{Setting}
 use Rattle.pi_names.specs.Control.{Goal, Value, draining, strictly, nothing, in_front, applied_to, choosing}
-use Rattle.pi_names.specs.Loops.{Finish, as_it_is, now, closed, framed, matched_turn, element, elements, if_numbered, items_then, iterating, turning, unit, while_turns, do_turns, hidden, adding, comprehended}
+use Rattle.pi_names.specs.Loops.{Finish, as_it_is, now, closed, framed, matched_turn, element, elements, if_numbered, items_then, iterating, turning, unit, while_turns, do_turns, hidden, so_far, adding, comprehended}
 use Rattle.pi_names.specs.Forms.{indexed_by}
 use Rattle.pi_names.specs.Goals.{started}
 use Rattle.pi_names.specs.OtherNames.{IsOther, AreOther, Agree, AgreeAt, agree_at}
 use Rattle.pi_names.proofs.OtherEnvironments.{AgreeValued, agree_valued, agree-append, agree-value, agree-itself, agree-narrowed, names-agree, carried-agree}
-use Rattle.pi_names.proofs.OtherControl.{SteadyGoal, SteadyValue, one-answer, by-state, draining-steady, strictly-steady, choosing-steady, front-steady, applied-steady, nothing-steady, AllSteady}
+use Rattle.pi_names.proofs.OtherControl.{SteadyGoal, SteadyValue, one-answer, by-state, draining-steady, strictly-steady, choosing-steady, front-steady, onto-steady, applied-steady, name-steady, nothing-steady, assigning-steady, AllSteady}
 
 now-agrees : (x name : List ℕ) (e f : Environment) → Agree x e f → IsOther x name → now name e ≡ now name f
 now-agrees x name e f a other = ap (λ (o : Option Tree). unwrap_or o (atom [])) (a name other)
@@ -132,13 +132,8 @@ do-steady x inside body test a c (over k l) p q r =
     (λ y z d. choice-steady x test _ _ c l y z d (λ g h m. do-steady x inside body test a c l _ _ (carried-agree x inside g h m)))))
 
 pub adding-steady : (x : List ℕ) → IsOther x hidden → (item : Value) → SteadyValue x item → SteadyGoal x (adding item)
-adding-steady x other item steady l p q a = by-then (AgreeValued x) (AgreeAt x) _ _ _ _ (steady l p q a) after
-  where
-    after : (u w : Valued) → AgreeValued x u w → BelowBy (AgreeAt x) (one (record { names = with_value u.names hidden (list_cell u.tree (now hidden u.names)); state = u.state }))
-        (one (record { names = with_value w.names hidden (list_cell w.tree (now hidden w.names)); state = w.state }))
-    after _ _ (agree_valued t e f b s) =
-        by-one (AgreeAt x) _ _ (subst (λ (v : Tree). AgreeAt x (record { names = with_value e hidden (list_cell t (now hidden e)); state = s }) (record { names = with_value f hidden (list_cell t v); state = s }))
-        (now-agrees x hidden e f b other) (agree_at _ _ (agree-value x hidden (list_cell t (now hidden e)) e f b) s))
+adding-steady x other item steady =
+    assigning-steady x (Some hidden) _ (onto-steady x items_onto (in_front item nothing) so_far (front-steady x item nothing steady (nothing-steady x)) (name-steady x hidden other))
 
 pub comprehended-steady : (x : List ℕ) → IsOther x hidden → (before : Names) → AreOther x before → (loop : Goal) → SteadyGoal x loop → SteadyValue x (comprehended before loop)
 unfolding comprehended

@@ -1,9 +1,9 @@
 -- What kind of name the language builds in, said by what calls of names mean: functions, predicates, and predicates of the prelude. (Own.)
 use Rattle.std.specs.Prelude.{◌≡◌, ℕ, ◌==◌, ◌&&◌, ◌||◌, Bool, true, false, not, cond, List, [], ◌∷◌, Option, Some, None, codes}
 use Rattle.std.specs.Str.{bytes_eq}
-use Rattle.pi_effects.specs.Indexing.{index_name}
 use Rattle.pi_effects.specs.BuiltIns.{is_function, is_predicate}
 use Rattle.pi_syntax.specs.ProgramTree.{RuleTree}
+use Rattle.pi_lib.specs.Forms.{is_form}
 use Rattle.pi_lib.specs.Names.{kind_of}
 use Rattle.pi_lib.specs.declared.builtin.BuiltinKind.{BuiltinKind}
 use Rattle.pi_lib.specs.declared.builtin.BuiltinKind.TheVariants.{Predicate, Function, Prelude}
@@ -12,9 +12,9 @@ use Rattle.pi_names.specs.Forms.{is_find_all, is_count_all}
 use Rattle.pi_names.specs.Rules.{rules_named}
 use Rattle.pi_names.specs.Prelude.{prelude}
 
--- `X[I]` and ranges are functions of the tables that no program calls by their names
+-- functions of the tables that no program calls by their names: those that have the name of a form, `X[I]` among them, and ranges
 abbrev pub is_unwritten : List ℕ → ℕ → Bool
-is_unwritten name k = (k == 2 && bytes_eq name index_name) || ((k == 2 || k == 3) && bytes_eq name (codes ".."))
+is_unwritten name k = is_form name k || ((k == 2 || k == 3) && bytes_eq name (codes ".."))
 
 -- functions: the others of the tables, those of later stages, what is left of a limit, and those with a goal in them
 abbrev pub means_function : List ℕ → ℕ → Bool

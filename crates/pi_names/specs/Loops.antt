@@ -3,7 +3,6 @@
 use Rattle.std.specs.Prelude.{ℕ, suc, Bool, true, false, List, [], ◌∷◌, ◌++◌, length, reverse, Option, Some, None, unwrap_or, pos, codes, Ok, Err}
 use Rattle.pi_terms.specs.Tree.{Tree, var, atom}
 use Rattle.pi_terms.specs.ListNames.{nil}
-use Rattle.pi_terms.specs.ListCopies.{list_cell}
 use Rattle.pi_states.specs.Value.{Bindings}
 use Rattle.pi_states.specs.State.{State, bindings, next}
 use Rattle.pi_states.specs.Unify.{unified}
@@ -18,12 +17,13 @@ use Rattle.pi_syntax.specs.ExpTree.{ExpTree}
 use Rattle.pi_traces.specs.Trace.{Trace, end, note, Tick, Deep, Raise, one, then}
 use Rattle.pi_meaning.specs.Settle.{settled_from}
 use Rattle.pi_meaning.specs.Level.{Level, lowest, over, calls_at, lower, ticked}
-use Rattle.pi_meaning.specs.Environment.{Environment, meant}
+use Rattle.pi_meaning.specs.Environment.{Environment, meant, known, name_valued}
 use Rattle.pi_meaning.specs.Place.{Place}
 use Rattle.pi_names.specs.Texts.{Names}
 use Rattle.pi_names.specs.Assigning.{with_value, with_names, narrowed, carried}
+use Rattle.pi_names.specs.Terms.{items_onto}
 use Rattle.pi_names.specs.Heads.{pattern_matched}
-use Rattle.pi_names.specs.Control.{Goal, Value, draining, choosing}
+use Rattle.pi_names.specs.Control.{Goal, Value, draining, nothing, in_front, made_onto, choosing, assigning}
 
 -- ---- what stands behind a loop
 
@@ -111,12 +111,15 @@ do_turns inside body test (over c l) p =
 
 -- ---- comprehensions
 
--- A comprehension is a loop that assigns a name which no text has: the items so far, the last one first.
+-- A comprehension is a loop that assigns a name which no text has, X say: the items so far, the last one first. Each turn is `X := [E|X]`.
 abbrev pub hidden : List ℕ
 hidden = []
 
+abbrev pub so_far : Value
+so_far l p = one (name_valued (known hidden p.names) hidden p.names p.state)
+
 abbrev pub adding : Value → Goal
-adding item l p = then (item l p) (λ x. one (record { names = with_value x.names hidden (list_cell x.tree (now hidden x.names)); state = x.state }))
+adding item = assigning (Some hidden) (made_onto items_onto (in_front item nothing) so_far)
 
 -- behind the loop they stand in order, as a list or an array
 abbrev pub in_order : Bool → Finish

@@ -1,4 +1,6 @@
-use Rattle.std.proofs.Common.{refl}
+use Rattle.std.proofs.Common.{Ok, refl}
+use Rattle.pi_unify.proofs.KeepsLemmas.{keeps_none}
+use Rattle.pi_states.specs.Store.{Stays}
 use Rattle.pi_builtin.specs.declared.functions.FunctionOfOne.{FunctionOfOne}
 use Rattle.pi_calls.proofs.FunctionBodies.{one-shown, one-made}
 use Rattle.pi_calls.proofs.functions.call_of_one.Goals as goal
@@ -55,3 +57,13 @@ returns-in-CopyTerm-clause-shows g c = λ t e a is done.
 
 pub returns-in-CopyTerm-clause-keeps : goal.returns-in-CopyTerm-clause-keeps
 returns-in-CopyTerm-clause-keeps g c = c.copy_term.ensures.makes.1.keeps
+
+pub returns-in-Itself-clause-shows : goal.returns-in-Itself-clause-shows
+returns-in-Itself-clause-shows g c = λ t e a is done.
+    let v = g.S.StateStore.seen c.args.s.now in
+    let stays : Stays v v = record { keeps = keeps_none v; state = refl } in
+    one-shown v v (Ok c.args.a) c.args.function FunctionOfOne.Itself t e _ c.in-Itself.is refl stays (t, refl, is) done
+
+pub returns-in-InOrder-clause-shows : goal.returns-in-InOrder-clause-shows
+returns-in-InOrder-clause-shows g c = λ t e a is done.
+    one-shown (g.S.StateStore.seen c.args.s.now) (g.S.StateStore.seen c.in_order.new.s) c.in_order.result c.args.function FunctionOfOne.InOrder t e _ c.in-InOrder.is refl c.in_order.ensures.stays (c.in_order.ensures.shows t a is) done

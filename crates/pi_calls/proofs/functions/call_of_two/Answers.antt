@@ -45,3 +45,7 @@ returns-in-NewGrid-clause-shows g c = λ t u e a left right done.
 
 pub returns-in-NewGrid-clause-keeps : goal.returns-in-NewGrid-clause-keeps
 returns-in-NewGrid-clause-keeps g c = c.new_grid.ensures.makes.1.keeps
+
+pub returns-in-RangeCount-clause-shows : goal.returns-in-RangeCount-clause-shows
+returns-in-RangeCount-clause-shows g c = λ t u e a left right done.
+    two-shown (g.S.StateStore.seen c.args.s.now) (g.S.StateStore.seen c.range_count.new.s) c.range_count.result c.args.function FunctionOfTwo.RangeCount t u e _ c.in-RangeCount.is refl c.range_count.ensures.stays (c.range_count.ensures.shows t u a left right) done

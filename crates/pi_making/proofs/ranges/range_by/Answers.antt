@@ -1,7 +1,8 @@
 use Rattle.std.proofs.Common.{◌≡◌, ap, sym, ◌∙◌, subst, rules, to_z, of_z}
 use Rattle.std.specs.Int.{w128}
 use Rattle.pi_effects.specs.Answer.{integer_then, integers_then}
-use Rattle.pi_effects.specs.Ranges.{range, range_by}
+use Rattle.pi_effects.specs.Items.{list_of}
+use Rattle.pi_effects.specs.Ranges.{values_by, range, range_by}
 use Rattle.pi_faults.specs.Results.{ShowsTerm}
 use Rattle.pi_faults.proofs.FaultLemmas.{integer-is}
 use Rattle.pi_making.proofs.RangeLemmas.{step_counts}
@@ -18,7 +19,7 @@ returns-clause-shows g c = λ t u w a first second third.
     let whole : integer_then s t (λ l. integers_then s u w (λ n h. range_by l n h)) ≡ range low step high =
     integer-is s t (λ l. integers_then s u w (λ n h. range_by l n h)) low (c.in_ok-low.ensures t a first)
     ∙ (integer-is s u (λ n. integer_then s w (λ h. range_by low n h)) step (c.in_ok-step.ensures u a second)
-    ∙ (integer-is s w (λ h. range_by low step h) high (c.in_ok-high.ensures w a third) ∙ step_counts low step high (λ e. c.if-step-eq0.false (ap (of_z w128) e)))) in
+    ∙ (integer-is s w (λ h. range_by low step h) high (c.in_ok-high.ensures w a third) ∙ step_counts (λ count. list_of (values_by count low step)) low step high (λ e. c.if-step-eq0.false (ap (of_z w128) e)))) in
     let low_is : to_z w128 (of_z w128 low) ≡ low = search rules in
     let step_is : to_z w128 (of_z w128 step) ≡ step = search rules in
     let high_is : to_z w128 (of_z w128 high) ≡ high = search rules in
