@@ -11,7 +11,7 @@ use Rattle.pi_names.specs.Texts.{Names, is_among}
 use Rattle.pi_names.specs.Assigning.{narrowed}
 use Rattle.pi_names.proofs.OtherEnvironments.{meant-narrowed}
 use Rattle.pi_lowered.specs.Slots.{SlotNames, unnamed, slot_of}
-use Rattle.pi_lowered.specs.Iterators.{only}
+use Rattle.pi_lowered.specs.Iterators.{found_by, only}
 use Rattle.pi_lowered.proofs.FilledLemmas.{Extends}
 use Rattle.pi_lowered.proofs.AgreeLemmas.{Room, Fixed, text_same, by, or_last, finds, slot-among, name_at, fixed-more, slot-below, Agrees, holding, is_found, found-slot, agrees-holding, held-still}
 use Rattle.pi_lowered.proofs.EnterLemmas.{AllThere}
@@ -19,39 +19,45 @@ use Rattle.pi_lowered.proofs.ElementLemmas.{unnamed-none, unnamed-long}
 
 -- ---- names that stand before
 
+pub found-long : (finds : List ℕ → Bool) (ns : SlotNames) → length (found_by finds ns) ≡ length ns
+found-long finds [] = refl
+found-long finds (n ∷ ns) = ap suc (found-long finds ns)
+
 pub only-long : (before : Names) (ns : SlotNames) → length (only before ns) ≡ length ns
-only-long before [] = refl
-only-long before (n ∷ ns) = ap suc (only-long before ns)
+only-long before ns = found-long (is_among before) ns
 
 none-either : {A B : Type 0} (c : Bool) (f : A → B) (o : Option A) → option_map f (cond c o None) ≡ cond c (option_map f o) None
 none-either true f o = refl
 none-either false f o = refl
 
--- a name finds the slot that it has, where it stands before
-only-slot : (before : Names) (ns : SlotNames) (name : List ℕ) → bytes_eq name unnamed ≡ false → slot_of name (only before ns) ≡ cond (is_among before name) (slot_of name ns) None
+-- a name finds the slot that it has, where it is one of these
+pub found-slots : (these : List ℕ → Bool) (ns : SlotNames) (name : List ℕ) → bytes_eq name unnamed ≡ false → slot_of name (found_by these ns) ≡ cond (these name) (slot_of name ns) None
 unfolding slot_of
-only-slot before [] name named = same (is_among before name) None
+found-slots these [] name named = same (these name) None
   where
     same : (c : Bool) (o : Option ℕ) → o ≡ cond c o o
     same true o = refl
     same false o = refl
-only-slot before (n ∷ ns) name named =
-    ap (λ (o : Option ℕ). cond (bytes_eq name (cond (is_among before n) n unnamed)) (Some 0) (option_map (λ k. suc k) o)) (only-slot before ns name named)
-    ∙ ap (λ (o : Option ℕ). cond (bytes_eq name (cond (is_among before n) n unnamed)) (Some 0) o) (none-either (is_among before name) (λ k. suc k) (slot_of name ns))
-    ∙ go (bytes_eq name n) refl (is_among before n) refl
+found-slots these (n ∷ ns) name named =
+    ap (λ (o : Option ℕ). cond (bytes_eq name (cond (these n) n unnamed)) (Some 0) (option_map (λ k. suc k) o)) (found-slots these ns name named)
+    ∙ ap (λ (o : Option ℕ). cond (bytes_eq name (cond (these n) n unnamed)) (Some 0) o) (none-either (these name) (λ k. suc k) (slot_of name ns))
+    ∙ go (bytes_eq name n) refl (these n) refl
   where
     rest : Option ℕ
     rest = option_map (λ k. suc k) (slot_of name ns)
 
-    go : (b : Bool) → bytes_eq name n ≡ b → (c : Bool) → is_among before n ≡ c →
-        cond (bytes_eq name (cond c n unnamed)) (Some 0) (cond (is_among before name) (option_map (λ k. suc k) (slot_of name ns)) None) ≡ cond (is_among before name) (cond b (Some 0) (option_map (λ k. suc k) (slot_of name ns))) None
+    go : (b : Bool) → bytes_eq name n ≡ b → (c : Bool) → these n ≡ c →
+        cond (bytes_eq name (cond c n unnamed)) (Some 0) (cond (these name) (option_map (λ k. suc k) (slot_of name ns)) None) ≡ cond (these name) (cond b (Some 0) (option_map (λ k. suc k) (slot_of name ns))) None
     go true same true is =
-        ap (λ (d : Bool). cond d (Some 0) (cond (is_among before name) rest None)) same ∙ sym (ap (λ (d : Bool). cond d (Some 0) None) (ap (is_among before) (text_same name n same) ∙ is))
+        ap (λ (d : Bool). cond d (Some 0) (cond (these name) rest None)) same ∙ sym (ap (λ (d : Bool). cond d (Some 0) None) (ap these (text_same name n same) ∙ is))
     go true same false is =
-        ap (λ (d : Bool). cond d (Some 0) (cond (is_among before name) rest None)) named ∙ ap (λ (d : Bool). cond d rest None) (ap (is_among before) (text_same name n same) ∙ is)
-        ∙ sym (ap (λ (d : Bool). cond d (Some 0) None) (ap (is_among before) (text_same name n same) ∙ is))
-    go false other true is = ap (λ (d : Bool). cond d (Some 0) (cond (is_among before name) rest None)) other
-    go false other false is = ap (λ (d : Bool). cond d (Some 0) (cond (is_among before name) rest None)) named
+        ap (λ (d : Bool). cond d (Some 0) (cond (these name) rest None)) named ∙ ap (λ (d : Bool). cond d rest None) (ap these (text_same name n same) ∙ is)
+        ∙ sym (ap (λ (d : Bool). cond d (Some 0) None) (ap these (text_same name n same) ∙ is))
+    go false other true is = ap (λ (d : Bool). cond d (Some 0) (cond (these name) rest None)) other
+    go false other false is = ap (λ (d : Bool). cond d (Some 0) (cond (these name) rest None)) named
+
+only-slot : (before : Names) (ns : SlotNames) (name : List ℕ) → bytes_eq name unnamed ≡ false → slot_of name (only before ns) ≡ cond (is_among before name) (slot_of name ns) None
+only-slot before ns name named = found-slots (is_among before) ns name named
 
 pub only-agrees : (before : Names) (n : Room) (h : ℕ) (ns : SlotNames) (e : Environment) (slots : Places) → Agrees n h ns e slots → Agrees (holding n (only before ns) slots) h (only before ns) (narrowed before e) slots
 only-agrees before n h ns e slots a = agrees-holding n h (only before ns) (narrowed before e) slots (record {

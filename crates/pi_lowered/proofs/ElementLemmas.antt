@@ -2,9 +2,9 @@
 use Rattle.std.proofs.Common.{◌≡◌, ℕ, zero, suc, ◌+◌, ◌-◌, ◌≤◌, ◌<◌, Bool, false, cond, List, [], ◌∷◌, ◌++◌, length, map, refl, sym, ◌∙◌, ap, arith, length-append}
 use Rattle.std.specs.Prelude.{Option, Some, None, option_and_then, option_map, IsSome, replicate, unwrap_or}
 use Rattle.std.specs.Str.{bytes_eq}
-use Rattle.pi_terms.specs.Tree.{Tree, comp, Trees, trees_of}
+use Rattle.pi_terms.specs.Tree.{Tree, trees_of}
 use Rattle.pi_terms.specs.Places.{Places, held}
-use Rattle.pi_states.specs.State.{State, bindings, followed}
+use Rattle.pi_states.specs.State.{State}
 use Rattle.pi_states.specs.Evaluation.{evaluated_all}
 use Rattle.pi_core.specs.GoalTree.{GoalTree}
 use Rattle.pi_traces.specs.Trace.{Trace, one, then}
@@ -22,6 +22,7 @@ use Rattle.pi_names.specs.Control.{Goal}
 use Rattle.pi_lowered.specs.Slots.{SlotNames, unnamed, slot_of}
 use Rattle.pi_lowered.specs.Values.{SlotPattern}
 use Rattle.pi_lowered.specs.Forms.{Knows}
+use Rattle.pi_lowered.specs.Roots.{RootsStay}
 use Rattle.pi_lowered.specs.Goals.{SlotGoals, in_turn}
 use Rattle.pi_lowered.specs.Loops.{slots_from, Loop, loop_slots}
 use Rattle.pi_lowered.specs.Iterators.{walk_slots, handed, turn_slots}
@@ -30,17 +31,13 @@ use Rattle.pi_lowered.proofs.FilledLemmas.{terms_at, all-filled-comes}
 use Rattle.pi_lowered.proofs.AgreeLemmas.{Room, free_room, text_itself, or_last, slot-among, slot-below, Agrees, holding, agrees-holding, unnamed-still}
 use Rattle.pi_lowered.proofs.HeadLemmas.{AllFirm}
 use Rattle.pi_lowered.proofs.RunLemmas.{Alike, point, place, AtPlace, at_place, runs, SameGoals, then-of-one, runs-append, runs-one, turn-runs}
+use Rattle.pi_lowered.proofs.ControlLemmas.{Drains}
 use Rattle.pi_lowered.proofs.HandedLemmas.{entered, entered-held, some-again, values_from, slots-filled, handed-held}
 use Rattle.pi_lowered.proofs.EnteredLemmas.{values-long}
 use Rattle.pi_lowered.proofs.CarriedLemmas.{Handed, name-at-behind, name-at-unnamed, front-unnamed, held-front, held-behind, clause-agrees, Apart, carried-on}
 use Rattle.pi_lowered.proofs.HelperLemmas.{state_of, called-runs}
 
 -- ---- states
-
--- what a term is followed to stays, where that is no variable
-pub record RootsStay (s r : State) : Type 0 where
-  pub compounds : (t : Tree) (f : List ℕ) (ts : Trees) → followed (bindings s) t ≡ comp f ts → followed (bindings r) t ≡ comp f ts
-  pub atoms : (t : Tree) (name : List ℕ) → followed (bindings s) t ≡ Tree.atom name → followed (bindings r) t ≡ Tree.atom name
 
 pub roots-stay-itself : (s : State) → RootsStay s s
 roots-stay-itself s = record { compounds = λ t f ts is. is; atoms = λ t name is. is }
@@ -158,16 +155,22 @@ handed-again w p base e after us hs rest i all given count n m ms slots a =
     stays : (k : ℕ) (x : Tree) (j : ℕ) → k < 3 → length p.names + k ≡ j → held (map Some (rest ∷ i ∷ all ∷ [])) k ≡ Some x → unwrap_or (held slots j) (Tree.atom []) ≡ x
     stays k x j less is at = ap (λ (o : Option Tree). unwrap_or o (Tree.atom [])) (ap (held slots) (sym is) ∙ walk-stays w p base e after us hs rest i all given count n m ms slots a k x less at)
 
--- goals of a turn, and then the next one
+-- What stands last in a turn, behind its goals: by what slots have where these have come to, from `free` on nothing.
+abbrev pub LastDoes : Builtins → Level → Loop → SlotPattern → ℕ → ℕ → ℕ → Tree → Tree → Tree → State → GoalTree → (Place → Trace State) → Type 0
+LastDoes b l w p base n free rest i all s last next = (after : Environment) (places : Places) (r : State) → RootsStay s r → length places ≡ n → ((j : ℕ) → j < length (turn_front p) + length (loop_slots w) → IsSome (held places j)) → ((j : ℕ) → free ≤ j → held places j ≡ None) →
+    values_from (length p.names) (handed w) places ≡ walked rest i all (values_from (length (turn_front p)) (length (loop_slots w)) places) → Handed w base (narrowed w.shared after) (values_from (length (turn_front p)) (length (loop_slots w)) places) →
+    then (meaning b last (point l places r)) state_of ≡ next (place (narrowed w.shared after) r)
+
+-- goals of a turn, and then what stands last
 pub turn-goes-on : (known : Knows) (set : Setting) (b : Builtins) (w : Loop) (p : SlotPattern) (body : Goal) (lb : SlotNames → SlotGoals) (l k : Level) → TurnSame known set b w p body lb l k → Apart w (turn_front p) → (base : ℕ) (others : Place → Trace Place)
     (ends : Place → Trace State) (e f : Environment) (us hs : List Tree) (rest i all : Tree) (s : State) → Handed w base e hs → length us ≡ length p.names → ((name : List ℕ) → bytes_eq name unnamed ≡ false → meant name f ≡ option_and_then (held (map Some us)) (slot_of name p.names)) →
-    (n m : ℕ) → n ≡ (length (turn_front p) + length (loop_slots w)) + m → length (lb (turn_slots w p)).names ≤ n → asks b l w base rest i all s (λ q. then (others q) ends) →
-    then (meaning b (in_turn ((lb (turn_slots w p)).goals ++ GoalTree.call w.name (slots_from (length p.names) (handed w)) ∷ [])) (point l (entered (in_front us rest i all ++ hs) m) s)) state_of
+    (n m : ℕ) → n ≡ (length (turn_front p) + length (loop_slots w)) + m → length (lb (turn_slots w p)).names ≤ n → (last : GoalTree) → LastDoes b l w p base n (length (lb (turn_slots w p)).names) rest i all s last (λ q. then (others q) ends) →
+    then (meaning b (in_turn ((lb (turn_slots w p)).goals ++ last ∷ [])) (point l (entered (in_front us rest i all ++ hs) m) s)) state_of
     ≡ then (then (body k (place (f ++ e) s)) (λ q. others (carried w.shared q))) ends
-turn-goes-on known set b w p body lb l k same apart base others ends e f us hs rest i all s given count found n m is room asked =
-    ap (λ (t : Trace Point). then t state_of) (turn-runs b l same.alike.core_drains (goals ++ again ∷ []) slots s ∙ runs-append b goals (again ∷ []) (point l slots s))
-    ∙ then-assoc (runs b goals (point l slots s)) (runs b (again ∷ [])) state_of
-    ∙ same-equal _ _ (same-then (λ x y. AtPlace l R (length front + length (loop_slots w)) (lb (turn_slots w p)).names x y × RootsStay s x.state) Same _ _ (λ x. then (runs b (again ∷ []) x) state_of) (λ q. then (others (carried w.shared q)) ends)
+turn-goes-on known set b w p body lb l k same apart base others ends e f us hs rest i all s given count found n m is room last does =
+    ap (λ (t : Trace Point). then t state_of) (turn-runs b l same.alike.core_drains (goals ++ last ∷ []) slots s ∙ runs-append b goals (last ∷ []) (point l slots s))
+    ∙ then-assoc (runs b goals (point l slots s)) (runs b (last ∷ [])) state_of
+    ∙ same-equal _ _ (same-then (λ x y. AtPlace l R (length front + length (loop_slots w)) (lb (turn_slots w p)).names x y × RootsStay s x.state) Same _ _ (λ x. then (runs b (last ∷ []) x) state_of) (λ q. then (others (carried w.shared q)) ends)
     (same-each-left (AtPlace l R (length front + length (loop_slots w)) (lb (turn_slots w p)).names) (λ x. RootsStay s x.state) _ _ (same.turn.same R (turn_slots w p) (f ++ e) slots s agrees room) (same.roots slots s)) next)
     ∙ sym (then-assoc (body k (place (f ++ e) s)) (λ q. others (carried w.shared q)) ends)
   where
@@ -179,9 +182,6 @@ turn-goes-on known set b w p body lb l k same apart base others ends e f us hs r
 
     goals : List GoalTree
     goals = (lb (turn_slots w p)).goals
-
-    again : GoalTree
-    again = GoalTree.call w.name (slots_from (length p.names) (handed w))
 
     R : Room
     R = holding (free_room n) (turn_slots w p) (entered (in_front us rest i all ++ hs) m)
@@ -201,19 +201,26 @@ turn-goes-on known set b w p body lb l k same apart base others ends e f us hs r
         (clause-agrees w base e hs given (turn_front p) (in_front us rest i all) long f fronts n m is)
 
     next : (x : Point) (y : Place) → AtPlace l (holding (free_room n) (turn_slots w p) (entered (in_front us rest i all ++ hs) m)) (length (turn_front p) + length (loop_slots w)) (lb (turn_slots w p)).names x y × RootsStay s x.state →
-        SameBy Same (then (runs b (GoalTree.call w.name (slots_from (length p.names) (handed w)) ∷ []) x) state_of) (then (others (carried w.shared y)) ends)
+        SameBy Same (then (runs b (last ∷ []) x) state_of) (then (others (carried w.shared y)) ends)
     next _ _ (at_place after places r a, stay) =
-        same-equals _ _ (ap (λ (t : Trace Point). then t state_of) (runs-one b again (point l places r) ∙ called-runs b l same.alike.core_drains w.name (slots_from (length p.names) (handed w)) vs places places r r come)
-        ∙ then-assoc (predicate_by b l w.name (trees_of vs) r) (λ q. one (point l places q)) state_of
-        ∙ ap (then (predicate_by b l w.name (trees_of vs) r)) (λ j q. then-of-one (point l places q) state_of j)
-        ∙ then-one (predicate_by b l w.name (trees_of vs) r)
-        ∙ ap (λ (us : List Tree). predicate_by b l w.name (trees_of us) r) (handed-again w p base e after us hs rest i all given count n m (lb (turn_slots w p)).names places a)
-        ∙ asked (narrowed w.shared after) (values_from (length (turn_front p)) (length (loop_slots w)) places) r stay
+        same-equals _ _ (ap (λ (t : Trace Point). then t state_of) (runs-one b last (point l places r))
+        ∙ does after places r stay a.long (λ j less. a.firm j less) (λ j past. a.empty j past) (handed-again w p base e after us hs rest i all given count n m (lb (turn_slots w p)).names places a)
         (carried-on w base e after hs given (turn_front p) (in_front us rest i all) long apart (free_room n) m (lb (turn_slots w p)).names places (same.turn.grows (turn_slots w p)) a))
-      where
-        vs : List Tree
-        vs = values_from (length p.names) (handed w) places
 
-        come : evaluated_all (trees_of (slots_from (length p.names) (handed w))) places r ≡ terms_at (trees_of (values_from (length p.names) (handed w) places)) places r
-        come = all-filled-comes places (trees_of (slots_from (length p.names) (handed w))) (trees_of (values_from (length p.names) (handed w) places))
-            (slots-filled (length p.names) (handed w) places (λ j from less. a.firm j (omega (arith, less, handed-long w, front-long p)))) r
+-- the next element is asked for by a call of the first helper
+pub asked-last : (b : Builtins) (l : Level) → Drains l → (w : Loop) (p : SlotPattern) (base n free : ℕ) (rest i all : Tree) (s : State) (next : Place → Trace State) → asks b l w base rest i all s next →
+    LastDoes b l w p base n free rest i all s (GoalTree.call w.name (slots_from (length p.names) (handed w))) next
+asked-last b l drains w p base n free rest i all s next asked after places r stay long firm empty again given =
+    ap (λ (t : Trace Point). then t state_of) (called-runs b l drains w.name (slots_from (length p.names) (handed w)) vs places places r r come)
+    ∙ then-assoc (predicate_by b l w.name (trees_of vs) r) (λ q. one (point l places q)) state_of
+    ∙ ap (then (predicate_by b l w.name (trees_of vs) r)) (λ j q. then-of-one (point l places q) state_of j)
+    ∙ then-one (predicate_by b l w.name (trees_of vs) r)
+    ∙ ap (λ (us : List Tree). predicate_by b l w.name (trees_of us) r) again
+    ∙ asked (narrowed w.shared after) (values_from (length (turn_front p)) (length (loop_slots w)) places) r stay given
+  where
+    vs : List Tree
+    vs = values_from (length p.names) (handed w) places
+
+    come : evaluated_all (trees_of (slots_from (length p.names) (handed w))) places r ≡ terms_at (trees_of (values_from (length p.names) (handed w) places)) places r
+    come = all-filled-comes places (trees_of (slots_from (length p.names) (handed w))) (trees_of (values_from (length p.names) (handed w) places))
+        (slots-filled (length p.names) (handed w) places (λ j from less. firm j (omega (arith, less, handed-long w, front-long p)))) r

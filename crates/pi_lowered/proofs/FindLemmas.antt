@@ -37,10 +37,10 @@ matches kind s other t = same_kind kind other && is_signature s.name s.arity (So
 abbrev pub pred_of : Bool → Signature → List ClauseTree → PredTree
 pred_of kind s cs = record { name = s.name; arity = s.arity; function = kind; quiet = false; index = None; clauses = cs }
 
-abbrev chosen : Bool → Signature → List Lowering → List Lowering
+abbrev pub chosen : Bool → Signature → List Lowering → List Lowering
 chosen kind s cs = filter (λ c. matches kind s c.is_function c.head) cs
 
-abbrev clauses : List Lowering → List ClauseTree
+abbrev pub clauses : List Lowering → List ClauseTree
 clauses cs = map (λ c. c.clause) cs
 
 sign-decides : (name : List ℕ) (k : ℕ) (s : Signature) → Decides (is_signature name k (Some s)) ((s.name ≡ name) × (s.arity ≡ k))
@@ -160,7 +160,7 @@ find-here kind s ds (c ∷ cs) before together = tested (matches kind s c.is_fun
         reversed e =
             ap (λ (x : Key). matches kind s x.kind (signed x.named)) e ∙ matches-itself kind s
 
-abbrev pred_from : Bool → Signature → List ClauseTree → Option PredTree
+abbrev pub pred_from : Bool → Signature → List ClauseTree → Option PredTree
 pred_from kind s cs = pred_with kind s.name s.arity cs
 
 -- one that begins here
@@ -199,7 +199,7 @@ find-later kind s other t ds (c ∷ cs) before together apart =
         ∙ find-behind kind s other t ds _ apart
         ∙ find-begun kind s c cs (of other t ∷ before) together.1 (next together.1) (matches kind s c.is_function c.head) refl
 
-find-all : (kind : Bool) (s : Signature) (cs : List Lowering) → StandTogether [] (keys_of cs) → find_pred kind s.name s.arity (grouped_all cs) ≡ pred_from kind s (clauses (chosen kind s cs))
+pub find-all : (kind : Bool) (s : Signature) (cs : List Lowering) → StandTogether [] (keys_of cs) → find_pred kind s.name s.arity (grouped_all cs) ≡ pred_from kind s (clauses (chosen kind s cs))
 unfolding StandTogether
 find-all kind s [] together = find-nothing kind s
 find-all kind s (c ∷ cs) together =

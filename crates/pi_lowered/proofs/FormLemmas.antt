@@ -21,7 +21,7 @@ use Rattle.pi_lowered.specs.Slots.{SlotNames}
 use Rattle.pi_lowered.specs.Values.{SlotValue, SlotValues, slot_term, slot_terms, is_flat, are_flat, as_it_stands, last_value, value_before, value_by, filled_before, no_values, before_values, applied}
 use Rattle.pi_lowered.specs.Goals as slots
 use Rattle.pi_lowered.specs.Goals.{SlotGoals, SlotParts, made, parts, arguments}
-use Rattle.pi_lowered.specs.Forms.{Knows, IsTerm, IsFunctionCall, IsPredicateCall, IsAtomGoal, IsExpression, AreExpressions}
+use Rattle.pi_lowered.specs.Forms.{Knows, IsTerm, AreTerms, IsFunctionCall, IsPredicateCall, IsAtomGoal, IsExpression, AreExpressions}
 use Rattle.pi_lowered.proofs.RunLemmas.{Alike, SameGoals, SameLast, SameFilled, SameArguments, filled-last}
 use Rattle.pi_lowered.proofs.ControlLemmas.{true-goals, fail-goals, denied-goals, once-goals, caught-goals}
 use Rattle.pi_lowered.proofs.BuiltInLemmas.{item-given}
@@ -33,61 +33,81 @@ use Rattle.pi_lowered.proofs.AssignLemmas.{assigned-goals}
 
 -- ---- an expression by itself, of what it comes to where it has a call
 
+pub before-value : (known : Knows) (set : Setting) (b : Builtins) (l m : Level) (h : ℕ) → Alike known set b l m → (before : Names) (e : ExpTree) → (is_flat e ≡ true → IsTerm e) → (mk : SlotNames → SlotValue) →
+    (is_flat e ≡ false → SameFilled b l m h (value_of set plain before e) mk) → SameFilled b l m h (value_of set plain before e) (λ ns. value_before h e ns (mk ns))
+before-value known set b l m h alike before e is mk other = go (is_flat e) refl
+  where
+    go : (test : Bool) → is_flat e ≡ test → SameFilled b l m h (value_of set plain before e) (λ ns. value_before h e ns (mk ns))
+    go true flat =
+        subst (λ (test : Bool). SameFilled b l m h (value_of set plain before e) (λ ns. cond test (filled_before h (length ns) (slot_term e ns)) (mk ns))) (sym flat)
+        (flat-filled known set b l m h before e alike (is flat) flat)
+    go false flat =
+        subst (λ (test : Bool). SameFilled b l m h (value_of set plain before e) (λ ns. cond test (filled_before h (length ns) (slot_term e ns)) (mk ns))) (sym flat) (other flat)
+
+pub last-value : (known : Knows) (set : Setting) (b : Builtins) (l m : Level) (h : ℕ) (before : Names) (e : ExpTree) → (is_flat e ≡ true → IsTerm e) → (mk : SlotNames → SlotValue) →
+    (is_flat e ≡ false → SameFilled b l m h (value_of set plain before e) mk) → SameLast b l m h (value_of set plain before e) (λ ns. last_value e ns (mk ns))
+last-value known set b l m h before e is mk other = go (is_flat e) refl
+  where
+    go : (test : Bool) → is_flat e ≡ test → SameLast b l m h (value_of set plain before e) (λ ns. last_value e ns (mk ns))
+    go true flat =
+        subst (λ (test : Bool). SameLast b l m h (value_of set plain before e) (λ ns. cond test (as_it_stands (slot_term e ns)) (mk ns))) (sym flat)
+        (flat-last set b l m h before e (is flat) flat)
+    go false flat =
+        subst (λ (test : Bool). SameLast b l m h (value_of set plain before e) (λ ns. cond test (as_it_stands (slot_term e ns)) (mk ns))) (sym flat)
+        (filled-last b l m h (value_of set plain before e) mk (other flat))
+
 pub value-before : (known : Knows) (set : Setting) (b : Builtins) (l m : Level) (h : ℕ) → Alike known set b l m → (before : Names) (e : ExpTree) → IsExpression known e →
     (is_flat e ≡ false → SameFilled b l m h (value_of set plain before e) (made h e)) → SameFilled b l m h (value_of set plain before e) (λ ns. value_before h e ns (made h e ns))
-value-before known set b l m h alike before e is other = go (is_flat e) refl
-  where
-    go : (test : Bool) → is_flat e ≡ test → SameFilled b l m h (value_of set plain before e) (λ ns. value_before h e ns (made h e ns))
-    go true flat =
-        subst (λ (test : Bool). SameFilled b l m h (value_of set plain before e) (λ ns. cond test (filled_before h (length ns) (slot_term e ns)) (made h e ns))) (sym flat)
-        (flat-filled known set b l m h before e alike (flat-term known e flat is) flat)
-    go false flat =
-        subst (λ (test : Bool). SameFilled b l m h (value_of set plain before e) (λ ns. cond test (filled_before h (length ns) (slot_term e ns)) (made h e ns))) (sym flat) (other flat)
+value-before known set b l m h alike before e is other = before-value known set b l m h alike before e (λ flat. flat-term known e flat is) (made h e) other
 
 pub value-last : (known : Knows) (set : Setting) (b : Builtins) (l m : Level) (h : ℕ) (before : Names) (e : ExpTree) → IsExpression known e →
     (is_flat e ≡ false → SameFilled b l m h (value_of set plain before e) (made h e)) → SameLast b l m h (value_of set plain before e) (λ ns. last_value e ns (made h e ns))
-value-last known set b l m h before e is other = go (is_flat e) refl
-  where
-    go : (test : Bool) → is_flat e ≡ test → SameLast b l m h (value_of set plain before e) (λ ns. last_value e ns (made h e ns))
-    go true flat =
-        subst (λ (test : Bool). SameLast b l m h (value_of set plain before e) (λ ns. cond test (as_it_stands (slot_term e ns)) (made h e ns))) (sym flat)
-        (flat-last set b l m h before e (flat-term known e flat is) flat)
-    go false flat =
-        subst (λ (test : Bool). SameLast b l m h (value_of set plain before e) (λ ns. cond test (as_it_stands (slot_term e ns)) (made h e ns))) (sym flat)
-        (filled-last b l m h (value_of set plain before e) (made h e) (other flat))
+value-last known set b l m h before e is other = last-value known set b l m h before e (λ flat. flat-term known e flat is) (made h e) other
 
 -- ---- arguments
 
--- those without a call
+-- those without a call, of which one stands first
+pub first-flat : (h : ℕ) (e : ExpTree) (es : ExpTrees) → are_flat (exp e es) ≡ true → (mk : SlotNames → SlotValue) (args : SlotNames → SlotValues) → ((ms : SlotNames) → args ms ≡ flat_values (slot_terms es ms)) →
+    (ns : SlotNames) → before_values (value_by (are_flat es) h e ns (mk ns)) (args (value_by (are_flat es) h e ns (mk ns)).names) ≡ flat_values (slot_terms (exp e es) ns)
+unfolding are_flat slot_terms
+first-flat h e es flat mk args rest ns =
+    ap (λ (v : SlotValue). before_values v (args v.names)) (first (both (is_flat e) (are_flat es) flat).0 (both (is_flat e) (are_flat es) flat).1)
+    ∙ ap (before_values (as_it_stands (slot_term e ns))) (rest (slot_term e ns).names)
+  where
+    first : is_flat e ≡ true → are_flat es ≡ true → value_by (are_flat es) h e ns (mk ns) ≡ as_it_stands (slot_term e ns)
+    first one all = ap (λ (c : Bool). value_by c h e ns (mk ns)) all ∙ ap (λ (c : Bool). cond c (as_it_stands (slot_term e ns)) (mk ns)) one
+
 flat-arguments : (h : ℕ) (es : ExpTrees) → are_flat es ≡ true → (ns : SlotNames) → arguments h es ns ≡ flat_values (slot_terms es ns)
 unfolding arguments are_flat slot_terms
 flat-arguments h no_exps flat ns = refl
-flat-arguments h (exp e es) flat ns =
-    ap (λ (v : SlotValue). before_values v (arguments h es v.names)) (first (both (is_flat e) (are_flat es) flat).0 (both (is_flat e) (are_flat es) flat).1)
-    ∙ ap (before_values (as_it_stands (slot_term e ns))) (flat-arguments h es (both (is_flat e) (are_flat es) flat).1 (slot_term e ns).names)
+flat-arguments h (exp e es) flat ns = first-flat h e es flat (made h e) (arguments h es) (λ ms. flat-arguments h es (both (is_flat e) (are_flat es) flat).1 ms) ns
+
+pub first-arguments : (known : Knows) (set : Setting) (b : Builtins) (l m : Level) (h : ℕ) → Alike known set b l m → (before : Names) (e : ExpTree) (es : ExpTrees) → (is_flat e ≡ true → IsTerm e) → (are_flat es ≡ true → AreTerms es) →
+    (mk : SlotNames → SlotValue) (args : SlotNames → SlotValues) → (are_flat es ≡ true → (ms : SlotNames) → args ms ≡ flat_values (slot_terms es ms)) →
+    (is_flat e ≡ false → SameFilled b l m h (value_of set plain before e) mk) → SameArguments b l m h (values_of set [] (behind before (places e)) es) args →
+    SameArguments b l m h (in_front (value_of set plain before e) (values_of set [] (behind before (places e)) es)) (λ ns. before_values (value_by (are_flat es) h e ns (mk ns)) (args (value_by (are_flat es) h e ns (mk ns)).names))
+first-arguments known set b l m h alike before e es is are mk args flats other rest = go (are_flat es) refl
   where
-    first : is_flat e ≡ true → are_flat es ≡ true → value_by (are_flat es) h e ns (made h e ns) ≡ as_it_stands (slot_term e ns)
-    first one all = ap (λ (c : Bool). value_by c h e ns (made h e ns)) all ∙ ap (λ (c : Bool). cond c (as_it_stands (slot_term e ns)) (made h e ns)) one
+    vs : Values
+    vs = values_of set [] (behind before (places e)) es
+
+    go : (test : Bool) → are_flat es ≡ test →
+        SameArguments b l m h (in_front (value_of set plain before e) (values_of set [] (behind before (places e)) es)) (λ ns. before_values (value_by (are_flat es) h e ns (mk ns)) (args (value_by (are_flat es) h e ns (mk ns)).names))
+    go true flat =
+        subst (λ (test : Bool). SameArguments b l m h (in_front (value_of set plain before e) vs) (λ ns. before_values (value_by test h e ns (mk ns)) (args (value_by test h e ns (mk ns)).names))) (sym flat)
+        (subst (λ (f : SlotNames → SlotValues). SameArguments b l m h (in_front (value_of set plain before e) vs) (λ ns. before_values (last_value e ns (mk ns)) (f (last_value e ns (mk ns)).names)))
+        (λ i ns. sym (flats flat ns) i)
+        (last-arguments b l m h (value_of set plain before e) vs (λ ns. last_value e ns (mk ns)) es (last-value known set b l m h before e is mk other) (are flat)
+        (λ p. flat-values set (behind before (places e)) es flat m p)))
+    go false flat =
+        subst (λ (test : Bool). SameArguments b l m h (in_front (value_of set plain before e) vs) (λ ns. before_values (value_by test h e ns (mk ns)) (args (value_by test h e ns (mk ns)).names))) (sym flat)
+        (front-arguments b l m h (value_of set plain before e) vs (λ ns. value_before h e ns (mk ns)) args (before-value known set b l m h alike before e is mk other) rest)
 
 pub arguments-first : (known : Knows) (set : Setting) (b : Builtins) (l m : Level) (h : ℕ) → Alike known set b l m → (before : Names) (e : ExpTree) (es : ExpTrees) → IsExpression known e → AreExpressions known es →
     (is_flat e ≡ false → SameFilled b l m h (value_of set plain before e) (made h e)) → SameArguments b l m h (values_of set [] (behind before (places e)) es) (arguments h es) →
     SameArguments b l m h (in_front (value_of set plain before e) (values_of set [] (behind before (places e)) es)) (arguments h (exp e es))
 unfolding arguments
-arguments-first known set b l m h alike before e es is are other rest = go (are_flat es) refl
-  where
-    vs : Values
-    vs = values_of set [] (behind before (places e)) es
-
-    go : (test : Bool) → are_flat es ≡ test → SameArguments b l m h (in_front (value_of set plain before e) (values_of set [] (behind before (places e)) es)) (arguments h (exp e es))
-    go true flat =
-        subst (λ (test : Bool). SameArguments b l m h (in_front (value_of set plain before e) vs) (λ ns. before_values (value_by test h e ns (made h e ns)) (arguments h es (value_by test h e ns (made h e ns)).names))) (sym flat)
-        (subst (λ (f : SlotNames → SlotValues). SameArguments b l m h (in_front (value_of set plain before e) vs) (λ ns. before_values (last_value e ns (made h e ns)) (f (last_value e ns (made h e ns)).names)))
-        (λ i ns. sym (flat-arguments h es flat ns) i)
-        (last-arguments b l m h (value_of set plain before e) vs (λ ns. last_value e ns (made h e ns)) es (value-last known set b l m h before e is other) (flat-terms known es flat are)
-        (λ p. flat-values set (behind before (places e)) es flat m p)))
-    go false flat =
-        subst (λ (test : Bool). SameArguments b l m h (in_front (value_of set plain before e) vs) (λ ns. before_values (value_by test h e ns (made h e ns)) (arguments h es (value_by test h e ns (made h e ns)).names))) (sym flat)
-        (front-arguments b l m h (value_of set plain before e) vs (λ ns. value_before h e ns (made h e ns)) (arguments h es) (value-before known set b l m h alike before e is other) rest)
+arguments-first known set b l m h alike before e es is are other rest = first-arguments known set b l m h alike before e es (λ flat. flat-term known e flat is) (λ flat. flat-terms known es flat are) (made h e) (arguments h es) (flat-arguments h es) other rest
 
 -- how many they are
 pub arguments-count : (h : ℕ) (es : ExpTrees) (ns : SlotNames) → tree_count (trees_of (arguments h es ns).trees) ≡ exp_count es

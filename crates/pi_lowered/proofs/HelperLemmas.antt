@@ -1,5 +1,5 @@
 -- Calls of a loop's helper: what its clause does, that it is called again, and where the loop ends.
-use Rattle.std.proofs.Common.{◌≡◌, ℕ, suc, ◌+◌, ◌<◌, Bool, true, false, cond, List, [], ◌∷◌, length, refl, sym, ◌∙◌, ap}
+use Rattle.std.proofs.Common.{◌≡◌, ℕ, suc, ◌+◌, ◌≤◌, ◌<◌, Bool, true, false, cond, List, [], ◌∷◌, length, refl, sym, ◌∙◌, ap}
 use Rattle.std.specs.Prelude.{Option, Some, None, option_and_then, IsSome, is_some, replicate, ⊤, unwrap_or}
 use Rattle.std.specs.Str.{bytes_eq}
 use Rattle.std.proofs.lemmas.Bool.{true≢false}
@@ -25,15 +25,16 @@ use Rattle.pi_meaning.specs.Place.{Place}
 use Rattle.pi_names.specs.Texts.{Names, is_among}
 use Rattle.pi_names.specs.Assigning.{with_value}
 use Rattle.pi_names.specs.Loops as over_names
-use Rattle.pi_names.specs.Loops.{now}
+use Rattle.pi_names.specs.Loops.{Finish, now}
 use Rattle.pi_lowered.specs.Slots.{SlotNames, unnamed, slot_of, slot_or_next, slot_for}
 use Rattle.pi_lowered.specs.Forms.{Knows}
-use Rattle.pi_lowered.specs.Loops.{slots_from, slots_head, as_it_is, closing, clause_of, helper, Loop, loop_slots, again}
+use Rattle.pi_lowered.specs.Loops.{slots_from, slots_head, Ending, closing, closing_slots, clause_of, helper, Loop, loop_slots, again}
 use Rattle.pi_lowered.proofs.FilledLemmas.{terms_at}
 use Rattle.pi_lowered.proofs.AgreeLemmas.{Room, Grows, Agrees, slot-below}
 use Rattle.pi_lowered.proofs.RunLemmas.{Alike, point, place, runs, then-of-one, runs-one, not-drained}
 use Rattle.pi_lowered.proofs.ControlLemmas.{Drains}
-use Rattle.pi_lowered.proofs.LoopLemmas.{Stand, closing-same, states_of, InSlots}
+use Rattle.pi_lowered.proofs.EndLemmas.{finish_of, Stand, closing-same, states_of}
+use Rattle.pi_lowered.proofs.LoopLemmas.{InSlots}
 use Rattle.pi_lowered.proofs.HandedLemmas.{entered, head-entered, some-again, values_from, slots-come}
 use Rattle.pi_lowered.proofs.EnteredLemmas.{among-slot, slot-values, slot-stays}
 
@@ -83,24 +84,27 @@ again-runs b l drains w slots s firm =
 
 -- ---- where a loop ends
 
--- the loop's variables are unified with what its names have, one after the other
-unfoldable pub endings : Names → ℕ → Place → Trace State
-endings [] base p = one p.state
-endings (name ∷ names) base p = then (settled_from p.state (unified p.state (Tree.var base) (now name p.names))) (λ r. endings names (suc base) (place p.names r))
+-- the loop's variables are unified with what is made of what its names have, one after the other
+unfoldable pub endings : Finish → Names → ℕ → Place → Trace State
+endings finish [] base p = one p.state
+endings finish (name ∷ names) base p = then (settled_from p.state (unified p.state (Tree.var base) (finish (bindings p.state) (now name p.names)))) (λ r. endings finish names (suc base) (place p.names r))
 
-pub closed-ends : (m : Level) → Drains m → (names : Names) (base : ℕ) (after : Environment) (p : Place) → states_of (over_names.closed over_names.as_it_is names base after m p) ≡ endings names base p
+pub closed-ends : (m : Level) → Drains m → (finish : Finish) (names : Names) (base : ℕ) (after : Environment) (p : Place) → states_of (over_names.closed finish names base after m p) ≡ endings finish names base p
 unfolding over_names.closed endings
-closed-ends m drains [] base after p = then-of-one (place after p.state) (λ q. one q.state)
-closed-ends m drains (name ∷ names) base after p =
+closed-ends m drains finish [] base after p = then-of-one (place after p.state) (λ q. one q.state)
+closed-ends m drains finish (name ∷ names) base after p =
     ap states_of (ap (λ (t : Trace State). then t turn) (drains p.state) ∙ then-of-one p.state turn)
-    ∙ then-assoc (settled_from p.state (unified p.state (Tree.var base) (now name p.names))) rest (λ q. one q.state)
-    ∙ ap (then (settled_from p.state (unified p.state (Tree.var base) (now name p.names)))) (λ i r. closed-ends m drains names (suc base) (with_value after name (Tree.var base)) (place p.names r) i)
+    ∙ then-assoc ends rest (λ q. one q.state)
+    ∙ ap (then ends) (λ i r. closed-ends m drains finish names (suc base) (with_value after name (Tree.var base)) (place p.names r) i)
   where
+    ends : Trace State
+    ends = settled_from p.state (unified p.state (Tree.var base) (finish (bindings p.state) (now name p.names)))
+
     rest : State → Trace Place
-    rest r = over_names.closed over_names.as_it_is names (suc base) (with_value after name (Tree.var base)) m (place p.names r)
+    rest r = over_names.closed finish names (suc base) (with_value after name (Tree.var base)) m (place p.names r)
 
     turn : State → Trace Place
-    turn s = then (settled_from s (unified s (Tree.var base) (now name p.names))) rest
+    turn s = then (settled_from s (unified s (Tree.var base) (finish (bindings s) (now name p.names)))) rest
 
 -- names that are among others, each of which a slot can have
 unfoldable pub AreAmong : Names → Names → Type 0
@@ -129,10 +133,10 @@ stand-entered w (name ∷ names) are k base n h ms grows e slots a firm ins =
     (ins.0, shared-slot w name are.0 are.1 n h ms grows e slots a firm, stand-entered w names are.2 (suc k) (suc base) n h ms grows e slots a firm ins.1)
 
 -- So a turn after which there is no other ends the loop as it ends over names.
-pub closing-ends : (known : Knows) (set : Setting) (b : Builtins) (l m : Level) → Alike known set b l m → (names : Names) (k base next : ℕ) (ns : SlotNames) (e : Environment) (slots : Places) (s : State) → Stand names k base ns e slots →
-    then (runs b (closing as_it_is names k next ns) (point l slots s)) state_of ≡ endings names base (place e s)
-closing-ends known set b l m alike names k base next ns e slots s stand =
-    closing-same known set b l m alike names k base next ns e e slots s stand ∙ closed-ends m alike.names_drain names base e (place e s)
+pub closing-ends : (known : Knows) (set : Setting) (b : Builtins) (l m : Level) → Alike known set b l m → (o : Ending) (names : Names) (k base next : ℕ) (ns : SlotNames) (e : Environment) (slots : Places) (s : State) → Stand names k base ns e slots →
+    ((i : ℕ) → next ≤ i → held slots i ≡ None) → closing_slots names next ≤ length slots → then (runs b (closing o names k next ns) (point l slots s)) state_of ≡ endings (finish_of o) names base (place e s)
+closing-ends known set b l m alike o names k base next ns e slots s stand empty room =
+    closing-same known set b l m alike o names k base next ns e e slots s stand empty room ∙ closed-ends m alike.names_drain (finish_of o) names base e (place e s)
 
 -- ---- traces
 

@@ -86,7 +86,7 @@ first-ahead s t ts n is numbered = go (followed (bindings s) t) refl is
     go (comp name us) root found = of-array name us root (bytes_eq name array_name) refl found
 
 -- a function's value goes into a slot, behind what its arguments fill
-applied-comes : (b : Builtins) (l : Level) → Drains l → (name : List ℕ) (args vs : List Tree) (into : ℕ) (slots after : Places) (s r : State) (t : Trace Applied) → evaluated_all (trees_of args) slots s ≡ terms_at (trees_of vs) after r → function_by b l name (trees_of vs) r ≡ t →
+pub applied-comes : (b : Builtins) (l : Level) → Drains l → (name : List ℕ) (args vs : List Tree) (into : ℕ) (slots after : Places) (s r : State) (t : Trace Applied) → evaluated_all (trees_of args) slots s ≡ terms_at (trees_of vs) after r → function_by b l name (trees_of vs) r ≡ t →
     meaning b (GoalTree.apply name args into) (point l slots s) ≡ then t (λ a. one (point l (slice_set after into (Some a.value)) a.state))
 unfolding meaning applying
 applied-comes b l drains name args vs into slots after s r t is calls =
@@ -94,7 +94,7 @@ applied-comes b l drains name args vs into slots after s r t is calls =
     ∙ ap (λ (y : EvaluatedAll). then (function_by b l name y.trees y.state) (λ a. one (point l (slice_set y.slots into (Some a.value)) a.state))) is
     ∙ ap (λ (u : Trace Applied). then u (λ a. one (point l (slice_set after into (Some a.value)) a.state))) calls
 
-one-comes : (t u : Tree) (slots after : Places) (s r : State) → evaluated t slots s ≡ term_at u after r → evaluated_all (trees_of (t ∷ [])) slots s ≡ terms_at (trees_of (u ∷ [])) after r
+pub one-comes : (t u : Tree) (slots after : Places) (s r : State) → evaluated t slots s ≡ term_at u after r → evaluated_all (trees_of (t ∷ [])) slots s ≡ terms_at (trees_of (u ∷ [])) after r
 unfolding evaluated
 one-comes t u slots after s r is = ap (λ (x : Evaluated). in_front_of x (evaluated_all no_trees x.slots x.state)) is
 

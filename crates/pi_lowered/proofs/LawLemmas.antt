@@ -66,7 +66,7 @@ defines-the-same program preds parts has = record {
 }
 
 calls-the-same : (program : ProgramTree) (preds : List PredTree) → AllByRecursion (IsPart (known_of program)) (prelude ++ program) → HasClauses (prelude ++ program) preds → CallsTheSame program preds
-calls-the-same program preds parts has v later goes d =
+calls-the-same program preds parts has v later goes roots d =
     (depths-same (known_of program) (setting v later program) (whole v later.calls preds) (prelude ++ program) preds
     (record {
       parts = parts;
@@ -147,14 +147,14 @@ query-at program goal preds defines asked v later goes d same s =
     ∙ goal-means program goal preds defines asked v later goes d same s
 
 query-means : (program : ProgramTree) (goal : ExpTree) (preds : List PredTree) → IsLoweredProgram program preds → IsAsked program goal → MeansTheSame program goal preds (lowered_query goal)
-query-means program goal preds is asked v later goes d s = query-at program goal preds is.defines asked v later goes d (is.calls v later goes d) s
+query-means program goal preds is asked v later goes roots d s = query-at program goal preds is.defines asked v later goes d (is.calls v later goes roots d) s
 
 -- where a query means what a goal means, its runs are those of the goal
-runs-the-same : (program : ProgramTree) (goal : ExpTree) (preds : List PredTree) (q : QueryTree) → MeansTheSame program goal preds q → RunsTheSame program goal preds q
+pub runs-the-same : (program : ProgramTree) (goal : ExpTree) (preds : List PredTree) (q : QueryTree) → MeansTheSame program goal preds q → RunsTheSame program goal preds q
 unfolding query_from query_trace names_trace
-runs-the-same program goal preds q means v later goes n c run =
+runs-the-same program goal preds q means v later goes roots n c run =
     let b : Builtins = whole v later.calls (preds ++ q.helpers) in
-    let e : told_trace (solution_told q.names) (query_trace b preds q run.depth) ≡ told_trace (place_told (answer_names goal)) (names_trace v later program goal run.depth) = means v later goes run.depth empty_state in
+    let e : told_trace (solution_told q.names) (query_trace b preds q run.depth) ≡ told_trace (place_told (answer_names goal)) (names_trace v later program goal run.depth) = means v later goes roots run.depth empty_state in
     let stops : (cut n (names_trace v later program goal run.depth)).stop ≡ (cut n (query_trace b preds q run.depth)).stop =
     sym (stop-told (place_told (answer_names goal)) n (names_trace v later program goal run.depth)) ∙ ap (λ t. (cut n t).stop) (sym e)
     ∙ stop-told (solution_told q.names) n (query_trace b preds q run.depth) in

@@ -96,7 +96,7 @@ pub data Ordered (known : Knows) : Option Level → Option Level → Type 0 wher
   both_lowest : Ordered known None None
   both_over : (l m : Level) → SameLevels known l m → ((s : State) → (calls_at l).drained s ≡ one s) → ((s : State) → (calls_at m).drained s ≡ one s) → Ordered known (Some l) (Some m)
 
-ticked-same : {A : Type 0} (known : Knows) (below above : Option Level) (f g : Level → Trace A) → Ordered known below above →
+pub ticked-same : {A : Type 0} (known : Knows) (below above : Option Level) (f g : Level → Trace A) → Ordered known below above →
     ((l m : Level) → SameLevels known l m → ((s : State) → (calls_at l).drained s ≡ one s) → ((s : State) → (calls_at m).drained s ≡ one s) → f l ≡ g m) → ticked below f ≡ ticked above g
 ticked-same known _ _ f g both_lowest each = refl
 ticked-same known _ _ f g (both_over l m same core names) each = ap (note Tick) (each l m same core names)
@@ -137,19 +137,28 @@ functions-run known set b program preds fixed inner below above ordered name ts 
     (functions-same known set b l m (fixed.alike l m same core names) (f ∷ fs) (subst (λ (xs : List FunctionTree). EachFunction known xs) (sym is) (functions-each known name (tree_count ts) program fixed.parts)) 0 ts s
     ∙ ap (λ (xs : List FunctionTree). functions_called set xs m ts s) is))
 
-calls-known : (known : Knows) (set : RulesSetting) (b : Builtins) (program : ProgramTree) (preds : List PredTree) → Fixed known set b program preds → (inner below above : Option Level) → Ordered known below above →
+-- what calls of what is known do at a level above another one, whichever level their own quiet calls run at
+pub record CallsAre (known : Knows) (set : RulesSetting) (b : Builtins) (program : ProgramTree) (preds : List PredTree) (below above : Option Level) : Type 0 where
+  pub called : (inner : Option Level) (name : List ℕ) (ts : Trees) (s : State) → IsTrue (known.predicate name (tree_count ts)) →
+      call_run b inner below (find_pred false name (tree_count ts) preds) ts s ≡ ticked above (λ l. predicate_run set program l name ts s (modes_named name (tree_count ts) program))
+  pub applied : (inner : Option Level) (name : List ℕ) (ts : Trees) (s : State) → IsTrue (known.function name (tree_count ts)) →
+      application_run b inner below (find_pred true name (tree_count ts) preds) ts s ≡ ticked above (λ l. over_names.function_run set program l name ts s)
+
+calls-known : (known : Knows) (set : RulesSetting) (b : Builtins) (program : ProgramTree) (preds : List PredTree) (below above : Option Level) → CallsAre known set b program preds below above → (inner : Option Level) →
     SameCalls known (calls_of b preds inner below) (calls_by set program above)
 unfolding calls_of calls_by
-calls-known known set b program preds fixed inner below above ordered = record {
-  called = λ name ts s there.
+calls-known known set b program preds below above are inner = record { called = λ name ts s there. are.called inner name ts s there; applied = λ name ts s there. are.applied inner name ts s there; drained = λ s. refl }
+
+fixed-calls : (known : Knows) (set : RulesSetting) (b : Builtins) (program : ProgramTree) (preds : List PredTree) → Fixed known set b program preds → (below above : Option Level) → Ordered known below above → CallsAre known set b program preds below above
+fixed-calls known set b program preds fixed below above ordered = record {
+  called = λ inner name ts s there.
       ap (λ (o : Option PredTree). call_run b inner below o ts s) (fixed.clauses.predicates name (tree_count ts) there)
       ∙ rules-run known set b program preds fixed inner below above ordered name ts s (rules_named name (tree_count ts) program) refl
       (sym (heads-rules known name (tree_count ts) program fixed.parts) ∙ subst (λ (x : Knows). IsTrue (x.predicate name (tree_count ts))) fixed.is_known there);
-  applied = λ name ts s there.
+  applied = λ inner name ts s there.
       ap (λ (o : Option PredTree). application_run b inner below o ts s) (fixed.clauses.functions name (tree_count ts) there)
       ∙ functions-run known set b program preds fixed inner below above ordered name ts s (functions_named name (tree_count ts) program) refl
       (subst (λ (x : Knows). IsTrue (x.function name (tree_count ts))) fixed.is_known there);
-  drained = λ s. refl;
 }
 
 -- ---- depths
@@ -159,17 +168,19 @@ pub record SameDepths (known : Knows) (l m : Level) : Type 0 where
   pub core : (s : State) → (calls_at l).drained s ≡ one s
   pub names : (s : State) → (calls_at m).drained s ≡ one s
 
-pub quiet-same : (known : Knows) (set : RulesSetting) (b : Builtins) (program : ProgramTree) (preds : List PredTree) → Fixed known set b program preds → (below above : Option Level) → Ordered known below above → (k : ℕ) →
+pub levels-quiet : (known : Knows) (set : RulesSetting) (b : Builtins) (program : ProgramTree) (preds : List PredTree) (below above : Option Level) → CallsAre known set b program preds below above → Ordered known below above → (k : ℕ) →
     SameDepths known (quiet_level b preds below k) (level_of (calls_by set program above) above)
 unfolding quiet_level SameLevels calls_of calls_by drained
-quiet-same known set b program preds fixed _ _ both_lowest zero =
-    record { levels = calls-known known set b program preds fixed None None None both_lowest; core = λ s. refl; names = λ s. refl }
-quiet-same known set b program preds fixed _ _ both_lowest (suc k) =
-    record { levels = calls-known known set b program preds fixed (Some (quiet_level b preds None k)) None None both_lowest; core = λ s. refl; names = λ s. refl }
-quiet-same known set b program preds fixed _ _ (both_over l m same core names) zero =
-    record { levels = (calls-known known set b program preds fixed None (Some l) (Some m) (both_over l m same core names), same); core = λ s. refl; names = λ s. refl }
-quiet-same known set b program preds fixed _ _ (both_over l m same core names) (suc k) =
-    record { levels = (calls-known known set b program preds fixed (Some (quiet_level b preds (Some l) k)) (Some l) (Some m) (both_over l m same core names), same); core = λ s. refl; names = λ s. refl }
+levels-quiet known set b program preds _ _ are both_lowest zero = record { levels = calls-known known set b program preds None None are None; core = λ s. refl; names = λ s. refl }
+levels-quiet known set b program preds _ _ are both_lowest (suc k) = record { levels = calls-known known set b program preds None None are (Some (quiet_level b preds None k)); core = λ s. refl; names = λ s. refl }
+levels-quiet known set b program preds _ _ are (both_over l m same core names) zero =
+    record { levels = (calls-known known set b program preds (Some l) (Some m) are None, same); core = λ s. refl; names = λ s. refl }
+levels-quiet known set b program preds _ _ are (both_over l m same core names) (suc k) =
+    record { levels = (calls-known known set b program preds (Some l) (Some m) are (Some (quiet_level b preds (Some l) k)), same); core = λ s. refl; names = λ s. refl }
+
+pub quiet-same : (known : Knows) (set : RulesSetting) (b : Builtins) (program : ProgramTree) (preds : List PredTree) → Fixed known set b program preds → (below above : Option Level) → Ordered known below above → (k : ℕ) →
+    SameDepths known (quiet_level b preds below k) (level_of (calls_by set program above) above)
+quiet-same known set b program preds fixed below above ordered k = levels-quiet known set b program preds below above (fixed-calls known set b program preds fixed below above ordered) ordered k
 
 pub depths-same : (known : Knows) (set : RulesSetting) (b : Builtins) (program : ProgramTree) (preds : List PredTree) → Fixed known set b program preds → (d : ℕ) → SameDepths known (level_at b preds d) (level_for set program d)
 unfolding level_at level_for

@@ -1,13 +1,12 @@
 -- Loops with their helpers, worked out: at each of these depths a query does what the goal does over its names.
-use Rattle.std.proofs.Common.{◌≡◌, ℕ, List, [], ◌∷◌, ◌++◌, refl}
-use Rattle.std.specs.Prelude.{pos, false, Some, codes}
+use Rattle.std.proofs.Common.{◌≡◌, ℕ, Bool, true, List, [], ◌∷◌, ◌++◌, refl, suc, length}
+use Rattle.std.specs.Prelude.{pos, false, codes, negsuc}
 use Rattle.pi_terms.specs.Tree.{Tree, tree_count, cells}
 use Rattle.pi_terms.specs.Order.{order}
 use Rattle.pi_terms.specs.Variables.{occurrences, firsts}
 use Rattle.pi_terms.specs.Substitution.{instance}
 use Rattle.pi_terms.specs.Copy.{copy}
-use Rattle.pi_terms.specs.ListNames.{nil}
-use Rattle.pi_terms.specs.ListCopies.{list_cell, list_of_copies, new_in_all}
+use Rattle.pi_terms.specs.ListCopies.{list_of_copies, new_in_all}
 use Rattle.pi_states.specs.Value.{rounds, value}
 use Rattle.pi_states.specs.State.{empty_state, followed_for, followed}
 use Rattle.pi_states.specs.Unify.{in_pairs, assigned, joined, outcome, unified_for, unbound_in, cells_of_pairs, most_pairs, all_unified}
@@ -18,7 +17,7 @@ use Rattle.std.specs.Char.{encode_utf8}
 use Rattle.std.specs.Fmt.{digits}
 use Rattle.pi_arith.specs.Power.{power}
 use Rattle.pi_arith.specs.Value.{value_of as operation}
-use Rattle.pi_syntax.specs.ExpTree.{ExpTree, list, array, quote, collect, foreach, while_do, do_while, atom as name, int as number}
+use Rattle.pi_syntax.specs.ExpTree.{ExpTree, list, array, quote, range, range_by, collect, foreach, while_do, do_while, atom as name, int as number}
 use Rattle.pi_syntax.specs.Signature.{exp_count}
 use Rattle.pi_syntax.specs.Tokens.{is_reserved}
 use Rattle.pi_print.specs.PrintAtom.{is_unquoted_atom, stands_bare, atom_text}
@@ -65,14 +64,16 @@ use Rattle.pi_names.specs.Goals.{value_of, values_of, values_in, values_apart, g
 use Rattle.pi_names.specs.Rules.{modes_named, rules_called, facts_called, functions_called, calls_by, level_for}
 use Rattle.pi_names.specs.Prelude.{prelude, calls, exps, v, equal, all}
 use Rattle.pi_names.specs.Run.{names_from, names_trace, answer_names}
-use Rattle.pi_lowered.specs.Slots.{SlotNames, slot_of, slot_for, named_slots, slots_behind}
-use Rattle.pi_lowered.specs.Values.{SlotValue, slot_term, is_flat, is_below, slot_pattern, as_it_stands}
+use Rattle.pi_lowered.specs.Slots.{SlotNames, slot_of, named_slots, slots_behind, slot_for}
+use Rattle.pi_lowered.specs.Values.{SlotValue, slot_term, is_flat, is_below, slot_pattern, as_it_stands, SlotValues}
 use Rattle.pi_lowered.specs.Goals as slots
 use Rattle.pi_lowered.specs.Goals.{SlotGoals, made}
 use Rattle.pi_lowered.specs.Lowered.{query_of}
 use Rattle.pi_lowered.specs.Laws.{query_from}
-use Rattle.pi_lowered.specs.Loops.{Loop, as_it_is, in_order, slots_from, slots_head, with_values, closing, closing_slots, as_written, kept_goals, while_helper, do_helper, loop_goals}
-use Rattle.pi_lowered.specs.Iterators.{turn_helper, element_helper, iterator_goals}
+use Rattle.pi_lowered.specs.Loops.{Loop, as_it_is, in_order, slots_from, slots_head, with_values, closing, closing_slots, as_written, kept_goals, while_helper, do_helper, only_turn_helper, loop_goals}
+use Rattle.pi_lowered.specs.Iterators.{turn_helper, element_helper, iterator_goals, tested}
+use Rattle.pi_lowered.specs.Comprehensions.{adding, comprehension}
+use Rattle.pi_lowered.specs.Ranges.{step_helper, range_helper, range_goals}
 
 -- ---- both meanings
 
@@ -249,22 +250,116 @@ collections-have_names : SameAtAll (element_helper (codes "~1") (loop (codes "~0
 unfolding over_slots over_names
 collections-have_names = (refl, refl, refl, refl)
 
+-- foreach(I in 1..2) print(I) end, and I = 3, foreach(J in I.. -1..2) I := I+J, J := 0 end: values of a range, what is kept, and a pattern's name that is assigned
+abbrev two_values : SlotNames → SlotValues
+two_values ns = record { goals = []; trees = Tree.int (pos 1) ∷ Tree.int (pos 2) ∷ []; names = ns }
+
+ranges-are_walked : SameAtAll (range_helper (codes "~1") (loop (codes "~0") [] []) ∷ step_helper (codes "~1") (loop (codes "~0") [] []) I (slots.goal_of 4 (print I)) ∷ []) (range_goals 0 [] (loop (codes "~0") [] []) two_values [])
+    (foreach (exps (goes_over I (range (i 1) (i 2)) ∷ [])) (print I))
+unfolding over_slots over_names
+ranges-are_walked = (refl, refl, refl, refl)
+
+abbrev down : SlotNames → SlotValues
+down ns = record { goals = []; trees = Tree.var (slot_for (codes "I") ns) ∷ Tree.int (negsuc 0) ∷ Tree.int (pos 2) ∷ []; names = ns }
+
+abbrev down_step : ExpTree
+down_step = all (to I (plus I J) ∷ to J (i 0) ∷ [])
+
+abbrev counts_down : ExpTree
+counts_down = all (equal I (i 3) ∷ foreach (exps (goes_over J (range_by I (number (negsuc 0)) (i 2)) ∷ [])) down_step ∷ [])
+
+ranges-go_down : SameAtAll (range_helper (codes "~1") sums ∷ step_helper (codes "~1") sums J (slots.goal_of 6 down_step) ∷ []) (one_after (slots.goal_of 0 (equal I (i 3))) (range_goals 0 is_I sums down) []) counts_down
+unfolding over_slots over_names
+ranges-go_down = (refl, refl, refl, refl)
+
+-- foreach(2 in 1..2) print(x) end, and a range without values: a value that isn't matched is passed over behind its Tick
+abbrev none : Loop
+none = loop (codes "~0") [] []
+
+abbrev three_to_one : SlotNames → SlotValues
+three_to_one ns = record { goals = []; trees = Tree.int (pos 3) ∷ Tree.int (pos 1) ∷ []; names = ns }
+
+values-are_passed_over : SameAtAll (range_helper (codes "~1") none ∷ step_helper (codes "~1") none (i 2) (slots.goal_of 3 (print (name (codes "x")))) ∷ []) (range_goals 0 [] none two_values []) (foreach (exps (goes_over (i 2) (range (i 1) (i 2)) ∷ [])) (print (name (codes "x"))))
+    × SameAtAll (range_helper (codes "~1") none ∷ step_helper (codes "~1") none I (slots.goal_of 4 (print I)) ∷ []) (range_goals 0 [] none three_to_one []) (foreach (exps (goes_over I (range (i 3) (i 1)) ∷ [])) (print I))
+unfolding over_slots over_names
+values-are_passed_over = ((refl, refl, refl, refl), (refl, refl, refl, refl))
+
+-- foreach(I in X..Y) true end, and foreach(I in 1..0..Y) true end: the first wrong one is told, and the step behind the numbers
+abbrev open_bounds : SlotNames → SlotValues
+open_bounds ns = record { goals = []; trees = Tree.var (length ns) ∷ Tree.var (suc (length ns)) ∷ []; names = ns ++ codes "X" ∷ codes "Y" ∷ [] }
+
+abbrev no_step : SlotNames → SlotValues
+no_step ns = record { goals = []; trees = Tree.int (pos 1) ∷ Tree.int (pos 0) ∷ Tree.int (pos 2) ∷ []; names = ns }
+
+bounds-are_told : SameAtAll (range_helper (codes "~1") none ∷ step_helper (codes "~1") none I (slots.goal_of 4 (name (codes "true"))) ∷ []) (range_goals 0 [] none open_bounds []) (foreach (exps (goes_over I (range X Y) ∷ [])) (name (codes "true")))
+    × SameAtAll (range_helper (codes "~1") none ∷ step_helper (codes "~1") none I (slots.goal_of 4 (name (codes "true"))) ∷ []) (range_goals 0 [] none no_step []) (foreach (exps (goes_over I (range_by (i 1) (i 0) (i 2)) ∷ [])) (name (codes "true")))
+unfolding over_slots over_names
+bounds-are_told = ((refl, refl, refl, refl), (refl, refl, refl, refl))
+
+-- foreach(I = 1, J in [I,2]) print(J) end: a loop that begins with a test
+abbrev begins : Loop
+begins = loop (codes "~0") [] []
+
+abbrev goes_inside : Loop
+goes_inside = loop (codes "~1") [] []
+
+abbrev tested_first : SlotNames → SlotGoals
+tested_first ns = tested (slots.goal_of 0 (equal I (i 1)) ns) (iterator_goals 0 is_I goes_inside (λ ms. as_it_stands (slot_term (items (I ∷ i 2 ∷ [])) ms)))
+
+tests-come_first : SameAtAll (only_turn_helper begins tested_first ∷ element_helper (codes "~2") goes_inside ∷ turn_helper (codes "~2") goes_inside J (slots.goal_of 4 (print J)) ∷ []) (loop_goals 0 [] begins [])
+    (foreach (exps (equal I (i 1) ∷ goes_over J (items (I ∷ i 2 ∷ [])) ∷ [])) (print J))
+unfolding over_slots over_names
+tests-come_first = (refl, refl, refl, refl)
+
 -- ---- comprehensions
 
--- X = [I+1 : I in [1,2]]: the items so far stand for a name that no text has
-abbrev gathers : Loop
-gathers = record { name = codes "~0"; shared = hidden ∷ []; kept = hidden ∷ []; ending = in_order false }
+-- the items so far stand for a name that no text has
+abbrev gathers : Bool → Loop
+gathers is_array = record { name = codes "~0"; shared = hidden ∷ []; kept = hidden ∷ []; ending = in_order is_array }
 
-abbrev with_item : SlotValue → SlotGoals
-with_item x = slots.assigned (Some hidden) (record { goals = x.goals; tree = list_cell x.tree (Tree.var (slot_for hidden x.names)); names = x.names })
+-- X = [E : I in D], where X stands in the first slot
+abbrev is_X : Names
+is_X = codes "X" ∷ []
 
-abbrev gathered : ExpTree → SlotNames → SlotGoals
-gathered e = one_after (λ ns. slots.assigned (Some hidden) (record { goals = []; tree = Tree.atom nil; names = ns })) (iterator_goals 0 (hidden ∷ []) gathers (λ ns. as_it_stands (slot_term e ns)))
+abbrev gathered : Bool → ExpTree → SlotValue
+gathered is_array d = comprehension 0 is_X (iterator_goals 0 (is_X ++ hidden ∷ []) (gathers is_array) (λ ns. as_it_stands (slot_term d ns))) is_X
 
-abbrev equals_gathered : SlotGoals → SlotGoals
-equals_gathered gs = record { goals = Rattle.pi_core.specs.GoalTree.call (codes "=") (Tree.var 0 ∷ Tree.var 0 ∷ []) ∷ gs.goals ++ Rattle.pi_core.specs.GoalTree.call (codes "=") (Tree.var 0 ∷ Tree.var (slot_for hidden gs.names) ∷ []) ∷ []; names = gs.names }
+abbrev equals_gathered : SlotValue → SlotGoals
+equals_gathered x = record { goals = Rattle.pi_core.specs.GoalTree.call (codes "=") (Tree.var 0 ∷ Tree.var 0 ∷ []) ∷ x.goals ++ Rattle.pi_core.specs.GoalTree.call (codes "=") (Tree.var 0 ∷ x.tree ∷ []) ∷ []; names = x.names }
 
-comprehensions-gather : SameAtAll (element_helper (codes "~1") gathers ∷ turn_helper (codes "~1") gathers I (λ ns. with_item (made 6 (plus I (i 1)) ns)) ∷ [])
-    (equals_gathered (gathered (items (i 1 ∷ i 2 ∷ [])) (codes "X" ∷ []))) (equal X (collect false (plus I (i 1)) (exps (goes_over I (items (i 1 ∷ i 2 ∷ [])) ∷ []))))
+-- X = [I+1 : I in [1,2]]
+comprehensions-gather : SameAtAll (element_helper (codes "~1") (gathers false) ∷ turn_helper (codes "~1") (gathers false) I (λ ns. adding (made 6 (plus I (i 1)) ns)) ∷ [])
+    (equals_gathered (gathered false (items (i 1 ∷ i 2 ∷ [])))) (equal X (collect false (plus I (i 1)) (exps (goes_over I (items (i 1 ∷ i 2 ∷ [])) ∷ []))))
 unfolding over_slots over_names
 comprehensions-gather = (refl, refl, refl, refl)
+
+-- X = {I : I in {1,2,J}, I != 2}: as an array, over an array, with a test
+abbrev three : ExpTree
+three = array (exps (i 1 ∷ i 2 ∷ J ∷ []))
+
+abbrev no_two : ExpTree
+no_two = calls (codes "!==") (I ∷ i 2 ∷ [])
+
+arrays-gather : SameAtAll (element_helper (codes "~1") (gathers true) ∷ turn_helper (codes "~1") (gathers true) I (λ ns. tested (slots.goal_of 6 no_two ns) (λ ms. adding (as_it_stands (slot_term I ms)))) ∷ [])
+    (equals_gathered (gathered true three)) (equal X (collect true I (exps (goes_over I three ∷ no_two ∷ []))))
+unfolding over_slots over_names
+arrays-gather = (refl, refl, refl, refl)
+
+-- X = [[J : J in [I]] : I in [1]]: the items of the inner one stand in a slot of their own
+abbrev inner_names : Names
+inner_names = hidden ∷ codes "I" ∷ []
+
+abbrev gathers_inside : Loop
+gathers_inside = record { name = codes "~2"; shared = hidden ∷ hidden ∷ []; kept = hidden ∷ []; ending = in_order false }
+
+abbrev gathered_inside : SlotNames → SlotValue
+gathered_inside = comprehension 6 inner_names (iterator_goals 6 (inner_names ++ hidden ∷ []) gathers_inside (λ ns. as_it_stands (slot_term (items (I ∷ [])) ns)))
+
+abbrev nested : ℕ → Type 0
+nested = Same (element_helper (codes "~1") (gathers false) ∷ turn_helper (codes "~1") (gathers false) I (λ ns. adding (gathered_inside ns))
+    ∷ element_helper (codes "~3") gathers_inside ∷ turn_helper (codes "~3") gathers_inside J (λ ns. adding (as_it_stands (slot_term J ns))) ∷ [])
+    (equals_gathered (gathered false (items (i 1 ∷ [])))) (equal X (collect false (collect false J (exps (goes_over J (items (I ∷ [])) ∷ []))) (exps (goes_over I (items (i 1 ∷ [])) ∷ []))))
+
+comprehensions-nest : nested 1 × nested 2
+unfolding over_slots over_names
+comprehensions-nest = (refl, refl)

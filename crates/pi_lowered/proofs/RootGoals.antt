@@ -1,6 +1,7 @@
 -- Goals keep what terms are followed to, where calls by name do and unification does: from any state, at each level.
 use Rattle.std.proofs.Common.{◌≡◌, ℕ, List, refl}
-use Rattle.std.specs.Prelude.{Option, Some, None, pos}
+use Rattle.std.specs.Prelude.{Option, Some, None, pos, All}
+use Rattle.std.proofs.lemmas.List.Elements.{All-nil, All-cons, All-head, All-tail}
 use Rattle.pi_terms.specs.Tree.{Tree, var, int, atom, comp, Trees, no_trees, tree, trees_of}
 use Rattle.pi_terms.specs.Places.{Places, held}
 use Rattle.pi_terms.specs.ListCopies.{new_in_all}
@@ -9,7 +10,7 @@ use Rattle.pi_states.specs.State.{State, next}
 use Rattle.pi_states.specs.Unify.{unified}
 use Rattle.pi_states.specs.Evaluation.{Evaluated, EvaluatedAll, slot_term, evaluated, evaluated_all, with_new_variables}
 use Rattle.pi_core.specs.GoalTree.{GoalTree, truth, fail, tick, call, apply, seq, alternatives, if_else, not, once, collect, count, catch, GoalTrees, no_goals, goal}
-use Rattle.pi_traces.specs.Trace.{Trace, one, alt, then, first}
+use Rattle.pi_traces.specs.Trace.{Trace, end, note, ans, one, alt, then, first, answers}
 use Rattle.pi_traces.specs.Control.{negated, chosen, caught}
 use Rattle.pi_traces.proofs.AnswerLemmas.{EachAnswer, each-map, each-one, each-alt, each-then, each-first, each-negated, each-chosen, each-collected, each-counted, each-caught}
 use Rattle.pi_meaning.specs.Settle.{settled}
@@ -17,26 +18,43 @@ use Rattle.pi_meaning.specs.Level.{Level, lowest, over, Calls, Applied, Point, c
 use Rattle.pi_meaning.specs.Handling.{handled_in, handling}
 use Rattle.pi_meaning.specs.Builtins.{Builtins, predicate_by, function_by}
 use Rattle.pi_meaning.specs.Meaning.{Action, in_state, with_slot, draining, strictly, succeeding, failing, ticking, calling, applying, after_arguments, after_term, slot_value, copyable, with_list, collecting, counting, catching, meaning, meaning_of_all, meaning_of_any}
-use Rattle.pi_lowered.proofs.ElementLemmas.{RootsStay, roots-stay-itself}
+use Rattle.pi_lowered.specs.Roots.{RootsStay, RootsStayIn, CallsKeepRoots, LevelKeepsRoots}
+use Rattle.pi_lowered.proofs.ElementLemmas.{roots-stay-itself}
 use Rattle.pi_lowered.proofs.StayLemmas.{roots-stay-then, new-variables-stay, new-stays}
 
 -- what unification owes, in any state
 abbrev pub UnifyingKeepsRoots : Type 0
 UnifyingKeepsRoots = (s r : State) (t u : Tree) → unified s t u ≡ Some r → RootsStay s r
 
--- what calls do keeps roots, at a level and at those below it
-pub record CallsKeepRoots (c : Calls) : Type 0 where
+-- what holds of all answers holds of each, and back
+pub each-of-all : {A : Type 0} (P : A → Type 0) (t : Trace A) → All P (answers t) → EachAnswer P t
+unfolding EachAnswer answers
+each-of-all P (end e) h = tt
+each-of-all P (note n t) h = each-of-all P t h
+each-of-all P (ans x t) h = (All-head P x (answers t) h, each-of-all P t (All-tail P x (answers t) h))
+
+pub all-of-each : {A : Type 0} (P : A → Type 0) (t : Trace A) → EachAnswer P t → All P (answers t)
+unfolding EachAnswer answers
+all-of-each P (end e) h = All-nil P
+all-of-each P (note n t) h = all-of-each P t h
+all-of-each P (ans x t) h = All-cons P x (answers t) h.0 (all-of-each P t h.1)
+
+-- each answer of what calls do keeps roots
+pub record EachCallKeeps (c : Calls) : Type 0 where
   pub called : (name : List ℕ) (ts : Trees) (s : State) → EachAnswer (RootsStay s) (c.called name ts s)
-  pub applied : (name : List ℕ) (ts : Trees) (s : State) → EachAnswer (λ (a : Applied). RootsStay s a.state) (c.applied name ts s)
+  pub applied : (name : List ℕ) (ts : Trees) (s : State) → EachAnswer (RootsStayIn s) (c.applied name ts s)
   pub drained : (s : State) → EachAnswer (RootsStay s) (c.drained s)
 
-abbrev pub LevelKeepsRoots : Level → Type 0
-LevelKeepsRoots (lowest c) = CallsKeepRoots c
-LevelKeepsRoots (over c l) = CallsKeepRoots c × LevelKeepsRoots l
+pub each-call : (c : Calls) → CallsKeepRoots c → EachCallKeeps c
+each-call c h = record {
+  called = λ name ts s. each-of-all (RootsStay s) (c.called name ts s) (h.called name ts s);
+  applied = λ name ts s. each-of-all (RootsStayIn s) (c.applied name ts s) (h.applied name ts s);
+  drained = λ s. each-of-all (RootsStay s) (c.drained s) (h.drained s);
+}
 
-pub calls-keep-roots : (l : Level) → LevelKeepsRoots l → CallsKeepRoots (calls_at l)
-calls-keep-roots (lowest c) h = h
-calls-keep-roots (over c l) h = h.0
+pub calls-keep-roots : (l : Level) → LevelKeepsRoots l → EachCallKeeps (calls_at l)
+calls-keep-roots (lowest c) h = each-call c h
+calls-keep-roots (over c l) h = each-call c h.0
 
 -- and so do calls by name
 pub record NamesKeepRoots (b : Builtins) : Type 0 where

@@ -2,6 +2,7 @@
 use Rattle.std.proofs.Common.{◌≡◌, ℕ, Bool, true, false, cond, List, [], inl, inr, refl, sym, subst}
 use Rattle.std.specs.Prelude.{Option, Some, None, option_map, codes}
 use Rattle.std.specs.Option.{option_or}
+use Rattle.std.proofs.lemmas.List.Elements.{All-nil}
 use Rattle.pi_terms.specs.Tree.{Tree, Trees, no_trees, tree, tree_count}
 use Rattle.pi_terms.specs.Copy.{copy, new_variables}
 use Rattle.pi_states.specs.State.{State, next, bindings, followed}
@@ -12,26 +13,22 @@ use Rattle.pi_effects.specs.BuiltIns.{built_in_predicate, built_in_function, Onl
 use Rattle.pi_effects.specs.Items.{each_tree}
 use Rattle.pi_effects.proofs.BuiltInLemmas.{functions-make, predicates-unify}
 use Rattle.pi_core.specs.CoreTree.{PredTree}
-use Rattle.pi_traces.specs.Trace.{Trace, end, note, Deep, Tick, alt, then}
+use Rattle.pi_traces.specs.Trace.{Trace, end, note, Deep, Tick, alt, then, answers}
 use Rattle.pi_traces.proofs.AnswerLemmas.{EachAnswer, each-map, each-one, each-then, each-caught}
 use Rattle.pi_meaning.specs.Settle.{settled}
 use Rattle.pi_meaning.specs.View.{View}
-use Rattle.pi_meaning.specs.Level.{Level, lowest, over, Applied, calls_at, or_called, or_applied}
+use Rattle.pi_meaning.specs.Level.{Level, lowest, over, calls_at, or_called, or_applied}
 use Rattle.pi_meaning.specs.Builtin.{written, settled_effect, function_trace}
 use Rattle.pi_meaning.specs.Within.{Within, a_query, a_body, resource_left, is_body}
 use Rattle.pi_meaning.specs.Names.{is_later_predicate, is_later_function, is_planner, is_resource, is_catch, is_call}
 use Rattle.pi_meaning.specs.Given.{Later, Setting}
 use Rattle.pi_meaning.specs.Handling.{handled_in, handling}
 use Rattle.pi_meaning.specs.Calls.{unknown_name, given_later, predicate_given, predicate_called, function_later, function_given, function_called, Called, called_by, with_planner, is_known, known_called, call_goal, catch_called, again_called, term_called, called_at_level, first_called}
-use Rattle.pi_meaning.specs.Instances.{core_setting, whole}
-use Rattle.pi_lowered.proofs.ElementLemmas.{RootsStay, roots-stay-itself}
+use Rattle.pi_meaning.specs.Instances.{core_setting, no_later, whole}
+use Rattle.pi_lowered.specs.Roots.{RootsStay, RootsStayIn, LevelKeepsRoots, LaterKeepsRoots}
+use Rattle.pi_lowered.proofs.ElementLemmas.{roots-stay-itself}
 use Rattle.pi_lowered.proofs.StayLemmas.{roots-stay-then, new-variables-stay}
-use Rattle.pi_lowered.proofs.RootGoals.{UnifyingKeepsRoots, LevelKeepsRoots, calls-keep-roots, NamesKeepRoots}
-
--- what later stages owe
-pub record LaterKeepsRoots (later : Later) : Type 0 where
-  pub predicates : (v : View) (l : Level) → LevelKeepsRoots l → (name : List ℕ) (ts : Trees) (s : State) → EachAnswer (RootsStay s) (later.predicate v l name ts s)
-  pub functions : (name : List ℕ) (ts : Trees) (s : State) → EachAnswer (λ (a : Applied). RootsStay s a.state) (later.function name ts s)
+use Rattle.pi_lowered.proofs.RootGoals.{UnifyingKeepsRoots, each-of-all, calls-keep-roots, NamesKeepRoots}
 
 -- ---- built-ins
 
@@ -47,7 +44,7 @@ effect-keeps u v s (Writes text r) same = go (is_body v.within)
     go false = (subst (λ (q : State). RootsStay s q) (sym same) (roots-stay-itself s), tt)
 effect-keeps u v s (Raises ball) is = tt
 
-function-effect-keeps : (s : State) (e : FunctionEffect) → OnlyMakesVariables s e → EachAnswer (λ (a : Applied). RootsStay s a.state) (function_trace e)
+function-effect-keeps : (s : State) (e : FunctionEffect) → OnlyMakesVariables s e → EachAnswer (RootsStayIn s) (function_trace e)
 unfolding EachAnswer
 function-effect-keeps s (Gives t r) (k, is) = (subst (λ (q : State). RootsStay s q) (sym is) (new-variables-stay k s), tt)
 function-effect-keeps s (Refuses ball) is = tt
@@ -59,30 +56,30 @@ unfolding predicate_called predicate_given
 predicate-keeps u set later l h name ts s = go (built_in_predicate name ts s) refl
   where
     other : (c : Bool) → EachAnswer (RootsStay s) (or_called (cond c (Some (set.later.predicate set.view l name ts s)) None) l name ts s)
-    other true = later.predicates set.view l h name ts s
+    other true = each-of-all (RootsStay s) (set.later.predicate set.view l name ts s) (later.predicates set.view l h name ts s)
     other false = (calls-keep-roots l h).called name ts s
 
     go : (o : Option Effect) → built_in_predicate name ts s ≡ o → EachAnswer (RootsStay s) (or_called (option_or (option_map (settled_effect set.view s) o) (given_later set l name ts s)) l name ts s)
     go (Some e) is = effect-keeps u set.view s e (predicates-unify name ts s e is)
     go None is = other (is_later_predicate name (tree_count ts))
 
-pub function-keeps : (set : Setting) → LaterKeepsRoots set.later → (l : Level) → LevelKeepsRoots l → (name : List ℕ) (ts : Trees) (s : State) → EachAnswer (λ (a : Applied). RootsStay s a.state) (function_called set l name ts s)
+pub function-keeps : (set : Setting) → LaterKeepsRoots set.later → (l : Level) → LevelKeepsRoots l → (name : List ℕ) (ts : Trees) (s : State) → EachAnswer (RootsStayIn s) (function_called set l name ts s)
 unfolding function_called function_given EachAnswer
 function-keeps set later l h name ts s = go (built_in_function name ts s) refl
   where
-    left : (x : Within) → EachAnswer (λ (a : Applied). RootsStay s a.state) (resource_left x s)
+    left : (x : Within) → EachAnswer (RootsStayIn s) (resource_left x s)
     left a_query = tt
     left (a_body n) = (roots-stay-itself s, tt)
 
-    other : (c : Bool) → EachAnswer (λ (a : Applied). RootsStay s a.state) (or_applied (cond c (Some (set.later.function name ts s)) None) l name ts s)
-    other true = later.functions name ts s
+    other : (c : Bool) → EachAnswer (RootsStayIn s) (or_applied (cond c (Some (set.later.function name ts s)) None) l name ts s)
+    other true = each-of-all (RootsStayIn s) (set.later.function name ts s) (later.functions name ts s)
     other false = (calls-keep-roots l h).applied name ts s
 
-    rest : (c : Bool) → EachAnswer (λ (a : Applied). RootsStay s a.state) (or_applied (cond c (Some (resource_left set.view.within s)) (cond (is_later_function name (tree_count ts)) (Some (set.later.function name ts s)) None)) l name ts s)
+    rest : (c : Bool) → EachAnswer (RootsStayIn s) (or_applied (cond c (Some (resource_left set.view.within s)) (cond (is_later_function name (tree_count ts)) (Some (set.later.function name ts s)) None)) l name ts s)
     rest true = left set.view.within
     rest false = other (is_later_function name (tree_count ts))
 
-    go : (o : Option FunctionEffect) → built_in_function name ts s ≡ o → EachAnswer (λ (a : Applied). RootsStay s a.state) (or_applied (option_or (option_map function_trace o) (function_later set name ts s)) l name ts s)
+    go : (o : Option FunctionEffect) → built_in_function name ts s ≡ o → EachAnswer (RootsStayIn s) (or_applied (option_or (option_map function_trace o) (function_later set name ts s)) l name ts s)
     go (Some e) is = function-effect-keeps s e (functions-make name ts s e is)
     go None is = rest (is_resource name (tree_count ts))
 
@@ -161,6 +158,11 @@ unfolding first_called EachAnswer
 first-keeps u set later l h no_trees s = tt
 first-keeps u set later (lowest c) h (tree t ts) s = tt
 first-keeps u set later (over c l) h (tree t ts) s = called-keeps u set later l h.1 t (each_tree ts) s
+
+-- where no later stage is there, nothing has an answer
+pub no-later-keeps : LaterKeepsRoots no_later
+unfolding answers
+no-later-keeps = record { predicates = λ v l h name ts s. All-nil (RootsStay s); functions = λ name ts s. All-nil (RootsStayIn s) }
 
 -- All names of the language keep roots.
 pub whole-keeps-roots : UnifyingKeepsRoots → (v : View) (later : Later) → LaterKeepsRoots later → (preds : List PredTree) → NamesKeepRoots (whole v later preds)

@@ -23,9 +23,10 @@ use Rattle.pi_meaning.specs.Builtins.{Builtins}
 use Rattle.pi_meaning.specs.Meaning.{meaning, strictly}
 use Rattle.pi_meaning.specs.Facts.{fits_modes, also_named, with_name, in_front, fact_term, fact_terms, unified_with, facts, facts_called}
 use Rattle.pi_meaning.specs.Rules.{guarded, chosen_rule, rule_before, rules, slot_of, suspended, body_or_agent, pred_run, value_at, value_run, function_run, entered, call_run, application_run, calls_of, quiet_level, level_at}
-use Rattle.pi_lowered.proofs.ElementLemmas.{RootsStay, roots-stay-itself}
+use Rattle.pi_lowered.specs.Roots.{RootsStay, RootsStayIn, CallsKeepRoots, LevelKeepsRoots}
+use Rattle.pi_lowered.proofs.ElementLemmas.{roots-stay-itself}
 use Rattle.pi_lowered.proofs.StayLemmas.{roots-stay-then, new-stays}
-use Rattle.pi_lowered.proofs.RootGoals.{UnifyingKeepsRoots, CallsKeepRoots, LevelKeepsRoots, NamesKeepRoots, RootsBehind, KeepsRoots, behind-itself, strictly-keeps, evaluation-stays, evaluations-stay, goal-keeps, goals-keep}
+use Rattle.pi_lowered.proofs.RootGoals.{UnifyingKeepsRoots, all-of-each, NamesKeepRoots, RootsBehind, KeepsRoots, behind-itself, strictly-keeps, evaluation-stays, evaluations-stay, goal-keeps, goals-keep}
 use Rattle.pi_lowered.proofs.RunLemmas.{point, runs}
 use Rattle.pi_lowered.proofs.TurnLevels.{core_level}
 
@@ -176,7 +177,11 @@ entered-keeps P false inner (Some l) a c f each = each l c
 
 calls-keep : UnifyingKeepsRoots → (b : Builtins) → NamesKeepRoots b → (preds : List PredTree) (inner below : Option Level) → SomeLevel inner → SomeLevel below → CallsKeepRoots (calls_of b preds inner below)
 unfolding calls_of drained EachAnswer
-calls-keep u b n preds inner below a c = record { called = λ name ts s. called ts s (find_pred false name (tree_count ts) preds); applied = λ name ts s. applied ts s (find_pred true name (tree_count ts) preds); drained = λ s. each-one (RootsStay s) s (roots-stay-itself s) }
+calls-keep u b n preds inner below a c = record {
+  called = λ name ts s. all-of-each (RootsStay s) _ (called ts s (find_pred false name (tree_count ts) preds));
+  applied = λ name ts s. all-of-each (RootsStayIn s) _ (applied ts s (find_pred true name (tree_count ts) preds));
+  drained = λ s. all-of-each (RootsStay s) _ (each-one (RootsStay s) s (roots-stay-itself s));
+}
   where
     called : (ts : Trees) (s : State) (o : Option PredTree) → EachAnswer (RootsStay s) (call_run b inner below o ts s)
     called ts s None = tt

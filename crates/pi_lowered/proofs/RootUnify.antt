@@ -13,7 +13,8 @@ use Rattle.pi_constraints.specs.Domain.{values_of, common}
 use Rattle.pi_constraints.specs.declared.domain.Span.{Span}
 use Rattle.pi_states.specs.State.{State, Variable, within, bound, binding, bindings, domain_of, followed_for, followed, with_variable, with_binding}
 use Rattle.pi_states.specs.Unify.{Pair, Outcome, clash, changed, parts, in_pairs, assigned, confined, joined_with, joined, outcome, go_on, unified_for, pairs_ahead, all_unified}
-use Rattle.pi_lowered.proofs.ElementLemmas.{RootsStay, roots-stay-itself}
+use Rattle.pi_lowered.specs.Roots.{RootsStay}
+use Rattle.pi_lowered.proofs.ElementLemmas.{roots-stay-itself}
 use Rattle.pi_lowered.proofs.StayLemmas.{IsRooted, unbound-itself, roots-stay-then}
 use Rattle.pi_lowered.proofs.RootGoals.{UnifyingKeepsRoots}
 

@@ -7,7 +7,8 @@ use Rattle.pi_terms.specs.Places.{Places, held}
 use Rattle.pi_states.specs.Value.{Bindings}
 use Rattle.pi_states.specs.State.{State, free, binding, bindings, followed_for, followed, with_new}
 use Rattle.pi_states.specs.Evaluation.{with_new_variables}
-use Rattle.pi_lowered.proofs.ElementLemmas.{RootsStay, roots-stay-itself}
+use Rattle.pi_lowered.specs.Roots.{RootsStay}
+use Rattle.pi_lowered.proofs.ElementLemmas.{roots-stay-itself}
 
 -- no variable
 abbrev pub IsRooted : Tree → Type 0

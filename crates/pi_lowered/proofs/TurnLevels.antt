@@ -11,12 +11,12 @@ use Rattle.pi_meaning.specs.Builtins.{Builtins}
 use Rattle.pi_meaning.specs.Rules.{call_run, entered, pred_run, calls_of, quiet_level, level_at}
 use Rattle.pi_names.specs.Stages.{RulesSetting}
 use Rattle.pi_names.specs.Rules.{calls_by, level_for}
-use Rattle.pi_lowered.specs.Forms.{Knows}
-use Rattle.pi_lowered.proofs.RunLemmas.{Alike}
-use Rattle.pi_lowered.proofs.LevelLemmas.{Fixed, SameDepths, both_lowest, both_over, quiet-same, depths-same}
+use Rattle.pi_lowered.proofs.LevelLemmas.{core-drains}
 use Rattle.pi_lowered.proofs.HelperLemmas.{HelperCalled}
 use Rattle.pi_lowered.proofs.WhileLemmas.{Turns, last_turn, one_more}
+use Rattle.pi_lowered.proofs.OnlyTurns.{OnlyTurn, in_call}
 use Rattle.pi_lowered.proofs.WalkTurns.{Walks, last_walk, next_walk}
+use Rattle.pi_lowered.proofs.RangeTurns.{StepTurns, last_step, next_step, Steps, no_steps, some_steps}
 
 -- the level of a depth at which so many quiet calls may still nest
 unfoldable pub core_level : Builtins → List PredTree → ℕ → ℕ → Level
@@ -76,56 +76,88 @@ pub lower-level : (b : Builtins) (preds : List PredTree) (d k : ℕ) → lower (
 unfolding core_level
 lower-level b preds d k = quiet-lower b preds (Some (level_at b preds d)) k
 
--- what holds at each depth where so many quiet calls may still nest
-abbrev pub EachLevel : Builtins → List PredTree → RulesSetting → ProgramTree → (Level → Level → Type 0) → ℕ → Type 0
-EachLevel b preds set program At rank = (d k : ℕ) → rank ≤ k → At (core_level b preds d k) (level_for set program d)
+-- at first all helpers may nest
+pub enough-calls : (preds : List PredTree) (d n : ℕ) → n ≤ length preds → n ≤ quiet_calls preds d
+enough-calls preds zero n few = few
+enough-calls preds (suc d) n few = omega (arith, few)
+
+-- what holds at each depth up to one where so many quiet calls may still nest
+abbrev pub EachLevel : Builtins → List PredTree → RulesSetting → ProgramTree → ℕ → (Level → Level → Type 0) → ℕ → Type 0
+EachLevel b preds set program most At rank = (d k : ℕ) → d ≤ most → rank ≤ k → At (core_level b preds d k) (level_for set program d)
 
 -- A loop's turns have their levels, where one quiet call more may nest than those in a turn.
-pub turns-at : (b : Builtins) (preds : List PredTree) (set : RulesSetting) (program : ProgramTree) (p : PredTree) → HasHelper b preds p → (At : Level → Level → Type 0) (rank : ℕ) → suc rank ≤ length preds → EachLevel b preds set program At rank →
-    EachLevel b preds set program (Turns b p At) (suc rank)
+pub turns-at : (b : Builtins) (preds : List PredTree) (set : RulesSetting) (program : ProgramTree) (most : ℕ) (p : PredTree) → HasHelper b preds p → (At : Level → Level → Type 0) (rank : ℕ) → suc rank ≤ length preds → EachLevel b preds set program most At rank →
+    EachLevel b preds set program most (Turns b p At) (suc rank)
 unfolding level_for
-turns-at b preds set program p has At rank fits each d zero less = absurd (omega (arith, less))
-turns-at b preds set program p has At rank fits each zero (suc k) less =
-    last_turn (core_level b preds zero (suc k)) (core_level b preds zero k) (calls_by set program None) (helper-called-at b preds p has zero k) (lowest-level b preds k) (each zero k (omega (arith, less)))
-turns-at b preds set program p has At rank fits each (suc d) (suc k) less =
+turns-at b preds set program most p has At rank fits each d zero up less = absurd (omega (arith, less))
+turns-at b preds set program most p has At rank fits each zero (suc k) up less =
+    last_turn (core_level b preds zero (suc k)) (core_level b preds zero k) (calls_by set program None) (helper-called-at b preds p has zero k) (lowest-level b preds k) (each zero k up (omega (arith, less)))
+turns-at b preds set program most p has At rank fits each (suc d) (suc k) up less =
     one_more (core_level b preds (suc d) (suc k)) (core_level b preds (suc d) k) (level_at b preds d) (calls_by set program (Some (level_for set program d))) (level_for set program d) (helper-called-at b preds p has (suc d) k) (lower-level b preds d k)
-    (each (suc d) k (omega (arith, less))) (subst (λ (l : Level). At l (level_for set program d)) (sym (level-is b preds d)) (each d (quiet_calls preds d) (enough d rank (omega (arith, fits)))))
-    (subst (λ (l : Level). Turns b p At l (level_for set program d)) (sym (level-is b preds d)) (turns-at b preds set program p has At rank fits each d (quiet_calls preds d) (enough d (suc rank) fits)))
-  where
-    enough : (e n : ℕ) → n ≤ length preds → n ≤ quiet_calls preds e
-    enough zero n few = few
-    enough (suc e) n few = omega (arith, few)
+    (each (suc d) k up (omega (arith, less))) (subst (λ (l : Level). At l (level_for set program d)) (sym (level-is b preds d)) (each d (quiet_calls preds d) (omega (arith, up)) (enough-calls preds d rank (omega (arith, fits)))))
+    (subst (λ (l : Level). Turns b p At l (level_for set program d)) (sym (level-is b preds d))
+    (turns-at b preds set program most p has At rank fits each d (quiet_calls preds d) (omega (arith, up)) (enough-calls preds d (suc rank) fits)))
 
--- Calls by name do the same at each of these levels, where the core program has what the program has.
-pub levels-same : (known : Knows) (set : RulesSetting) (b : Builtins) (program : ProgramTree) (preds : List PredTree) → Fixed known set b program preds → EachLevel b preds set program (λ l m. Alike known set.calls b l m) 0
-unfolding core_level level_for
-levels-same known set b program preds fixed zero k few =
-    let same : SameDepths known (quiet_level b preds None k) _ = quiet-same known set b program preds fixed None None both_lowest k in fixed.alike _ _ same.levels same.core same.names
-levels-same known set b program preds fixed (suc d) k few =
-    let below : SameDepths known (level_at b preds d) (level_for set program d) = depths-same known set b program preds fixed d in
-    let same : SameDepths known (quiet_level b preds (Some (level_at b preds d)) k) _ =
-    quiet-same known set b program preds fixed (Some (level_at b preds d)) (Some (level_for set program d)) (both_over (level_at b preds d) (level_for set program d) below.levels below.core below.names) k in
-    fixed.alike _ _ same.levels same.core same.names
+-- The turn of a loop that begins with a test has its level likewise.
+pub only-at : (b : Builtins) (preds : List PredTree) (set : RulesSetting) (program : ProgramTree) (most : ℕ) (p : PredTree) → HasHelper b preds p → (At : Level → Level → Type 0) (rank : ℕ) → EachLevel b preds set program most At rank →
+    EachLevel b preds set program most (OnlyTurn b p At) (suc rank)
+only-at b preds set program most p has At rank each d zero up less = absurd (omega (arith, less))
+only-at b preds set program most p has At rank each d (suc k) up less =
+    in_call (core_level b preds d (suc k)) (core_level b preds d k) (level_for set program d) (helper-called-at b preds p has d k) (each d k up (omega (arith, less)))
 
 -- A walk has its levels, where two quiet calls more may nest: the second helper calls the first one again.
-pub walks-at : (b : Builtins) (preds : List PredTree) (set : RulesSetting) (program : ProgramTree) (h t : PredTree) → HasHelper b preds h → HasHelper b preds t → (At : Level → Level → Type 0) (rank : ℕ) → suc (suc rank) ≤ length preds → EachLevel b preds set program At rank →
-    EachLevel b preds set program (Walks b h t At) (suc rank)
+pub walks-at : (b : Builtins) (preds : List PredTree) (set : RulesSetting) (program : ProgramTree) (most : ℕ) (h t : PredTree) → HasHelper b preds h → HasHelper b preds t → (At : Level → Level → Type 0) (rank : ℕ) → suc (suc rank) ≤ length preds →
+    EachLevel b preds set program most At rank → EachLevel b preds set program most (Walks b h t At) (suc rank)
 unfolding level_for
-walks-at b preds set program h t has second At rank fits each d zero less = absurd (omega (arith, less))
-walks-at b preds set program h t has second At rank fits each zero (suc k) less =
-    last_walk (core_level b preds zero (suc k)) (core_level b preds zero k) (calls_by set program None) (helper-called-at b preds h has zero k) (lowest-level b preds k) (each zero k (omega (arith, less)))
-walks-at b preds set program h t has second At rank fits each (suc d) (suc k) less = inside (quiet_calls preds d) refl (λ j few. walks-at b preds set program h t has second At rank fits each d j few)
+walks-at b preds set program most h t has second At rank fits each d zero up less = absurd (omega (arith, less))
+walks-at b preds set program most h t has second At rank fits each zero (suc k) up less =
+    last_walk (core_level b preds zero (suc k)) (core_level b preds zero k) (calls_by set program None) (helper-called-at b preds h has zero k) (lowest-level b preds k) (each zero k up (omega (arith, less)))
+walks-at b preds set program most h t has second At rank fits each (suc d) (suc k) up less =
+    inside (quiet_calls preds d) refl (λ j few. walks-at b preds set program most h t has second At rank fits each d j (omega (arith, up)) few)
   where
-    enough : (e : ℕ) → suc (suc rank) ≤ quiet_calls preds e
-    enough zero = fits
-    enough (suc e) = omega (arith, fits)
+    lower_up : d ≤ most
+    lower_up = omega (arith, up)
 
     inside : (n : ℕ) → quiet_calls preds d ≡ n → ((j : ℕ) → suc rank ≤ j → Walks b h t At (core_level b preds d j) (level_for set program d)) → Walks b h t At (core_level b preds (suc d) (suc k)) (level_for set program (suc d))
-    inside zero is walks = absurd (omega (arith, is, enough d))
+    inside zero is walks = absurd (omega (arith, is, enough-calls preds d (suc (suc rank)) fits))
     inside (suc n) is walks =
         next_walk (core_level b preds (suc d) (suc k)) (core_level b preds (suc d) k) (level_at b preds d) (core_level b preds d n) (calls_by set program (Some (level_for set program d))) (level_for set program d) (helper-called-at b preds h has (suc d) k)
-        (lower-level b preds d k) (each (suc d) k (omega (arith, less))) (subst (λ (l : Level). At l (level_for set program d)) (sym there) (each d (suc n) (omega (arith, is, enough d))))
-        (subst (λ (l : Level). HelperCalled b l t (core_level b preds d n)) (sym there) (helper-called-at b preds t second d n)) (each d n (omega (arith, is, enough d))) (walks n (omega (arith, is, enough d)))
+        (lower-level b preds d k) (each (suc d) k up (omega (arith, less))) (subst (λ (l : Level). At l (level_for set program d)) (sym there) (each d (suc n) lower_up (omega (arith, is, enough-calls preds d (suc (suc rank)) fits))))
+        (subst (λ (l : Level). HelperCalled b l t (core_level b preds d n)) (sym there) (helper-called-at b preds t second d n)) (each d n lower_up (omega (arith, is, enough-calls preds d (suc (suc rank)) fits)))
+        (walks n (omega (arith, is, enough-calls preds d (suc (suc rank)) fits)))
       where
         there : level_at b preds d ≡ core_level b preds d (suc n)
         there = level-is b preds d ∙ ap (core_level b preds d) is
+
+-- The turns of a range have theirs, where two quiet calls more may nest: the first helper ends the loop from inside the second one.
+step-turns-at : (b : Builtins) (preds : List PredTree) (set : RulesSetting) (program : ProgramTree) (most : ℕ) (h t : PredTree) → HasHelper b preds h → HasHelper b preds t → (At : Level → Level → Type 0) (rank : ℕ) → suc (suc rank) ≤ length preds → EachLevel b preds set program most At rank → (d : ℕ) → d ≤ most →
+    StepTurns b h t At (level_at b preds d) (level_for set program d)
+unfolding level_for
+step-turns-at b preds set program most h t has second At rank fits each zero up = inside (quiet_calls preds zero) refl
+  where
+    inside : (n : ℕ) → quiet_calls preds zero ≡ n → StepTurns b h t At (level_at b preds zero) (level_for set program zero)
+    inside zero is = absurd (omega (arith, is, fits))
+    inside (suc zero) is = absurd (omega (arith, is, fits))
+    inside (suc (suc n)) is =
+        subst (λ (l : Level). StepTurns b h t At l (level_for set program zero)) (sym (level-is b preds zero ∙ ap (core_level b preds zero) is))
+        (last_step (core_level b preds zero (suc (suc n))) (core_level b preds zero (suc n)) (core_level b preds zero n) (calls_by set program None) (helper-called-at b preds t second zero (suc n)) (lowest-level b preds (suc n))
+        (each zero (suc n) up (omega (arith, is, fits))) (helper-called-at b preds h has zero n) (each zero n up (omega (arith, is, fits))))
+step-turns-at b preds set program most h t has second At rank fits each (suc d) up = inside (quiet_calls preds (suc d)) refl (step-turns-at b preds set program most h t has second At rank fits each d (omega (arith, up)))
+  where
+    inside : (n : ℕ) → quiet_calls preds (suc d) ≡ n → StepTurns b h t At (level_at b preds d) (level_for set program d) → StepTurns b h t At (level_at b preds (suc d)) (level_for set program (suc d))
+    inside zero is turns = absurd (omega (arith, is, fits))
+    inside (suc zero) is turns = absurd (omega (arith, is, fits))
+    inside (suc (suc n)) is turns =
+        subst (λ (l : Level). StepTurns b h t At l (level_for set program (suc d))) (sym (level-is b preds (suc d) ∙ ap (core_level b preds (suc d)) is))
+        (next_step (core_level b preds (suc d) (suc (suc n))) (core_level b preds (suc d) (suc n)) (level_at b preds d) (core_level b preds (suc d) n) (calls_by set program (Some (level_for set program d))) (level_for set program d)
+        (helper-called-at b preds t second (suc d) (suc n)) (lower-level b preds d (suc n)) (core-drains b preds d) (each (suc d) (suc n) up (omega (arith, is, fits))) (helper-called-at b preds h has (suc d) n) (each (suc d) n up (omega (arith, is, fits))) turns)
+
+pub steps-at : (b : Builtins) (preds : List PredTree) (set : RulesSetting) (program : ProgramTree) (most : ℕ) (h t : PredTree) → HasHelper b preds h → HasHelper b preds t → (At : Level → Level → Type 0) (rank : ℕ) → suc (suc rank) ≤ length preds → EachLevel b preds set program most At rank →
+    EachLevel b preds set program most (Steps b h t At) (suc rank)
+unfolding level_for
+steps-at b preds set program most h t has second At rank fits each d zero up less = absurd (omega (arith, less))
+steps-at b preds set program most h t has second At rank fits each zero (suc k) up less =
+    no_steps (core_level b preds zero (suc k)) (core_level b preds zero k) (calls_by set program None) (helper-called-at b preds h has zero k) (lowest-level b preds k) (each zero k up (omega (arith, less)))
+steps-at b preds set program most h t has second At rank fits each (suc d) (suc k) up less =
+    some_steps (core_level b preds (suc d) (suc k)) (core_level b preds (suc d) k) (level_at b preds d) (calls_by set program (Some (level_for set program d))) (level_for set program d) (helper-called-at b preds h has (suc d) k) (lower-level b preds d k) (core-drains b preds d)
+    (each (suc d) k up (omega (arith, less))) (step-turns-at b preds set program most h t has second At rank fits each d (omega (arith, up)))

@@ -7,7 +7,6 @@ use Rattle.std.proofs.lemmas.List.{length-set, get_or-set_same}
 use Rattle.pi_terms.specs.Tree.{Tree, comp, Trees, no_trees, tree, trees_of, tree_count}
 use Rattle.pi_terms.specs.Places.{Places, held}
 use Rattle.pi_states.specs.State.{State, bindings, followed}
-use Rattle.pi_states.specs.Evaluation.{EvaluatedAll}
 use Rattle.pi_print.specs.PrintTerm.{array_name}
 use Rattle.pi_arith.specs.Value.{value_of}
 use Rattle.pi_arith.specs.declared.operation.Op.TheVariants.{Add}
@@ -19,25 +18,26 @@ use Rattle.pi_core.specs.GoalTree.{GoalTree}
 use Rattle.pi_traces.specs.Trace.{Trace, end, note, Deep, Tick, one, then, done}
 use Rattle.pi_traces.specs.Control.{chosen}
 use Rattle.pi_traces.proofs.TraceLemmas.{then-one, then-assoc}
-use Rattle.pi_meaning.specs.Level.{Level, Applied, lower, Point}
+use Rattle.pi_meaning.specs.Level.{Level, lower, Point}
 use Rattle.pi_meaning.specs.Builtin.{function_trace}
-use Rattle.pi_meaning.specs.Builtins.{Builtins, predicate_by, function_by}
+use Rattle.pi_meaning.specs.Builtins.{Builtins, predicate_by}
 use Rattle.pi_meaning.specs.Given.{Setting}
-use Rattle.pi_meaning.specs.Meaning.{applying, meaning, strictly, draining}
+use Rattle.pi_meaning.specs.Meaning.{meaning, strictly, draining}
 use Rattle.pi_meaning.specs.Environment.{Environment}
 use Rattle.pi_lowered.specs.Slots.{unnamed}
 use Rattle.pi_lowered.specs.Forms.{Knows}
-use Rattle.pi_lowered.specs.Loops.{as_it_is, slots_from, closing_slots, Loop, loop_slots}
+use Rattle.pi_lowered.specs.Loops.{slots_from, closing_slots, Loop, loop_slots}
 use Rattle.pi_lowered.specs.Iterators.{walk_slots, handed, end_slots, array_clause, element_helper}
 use Rattle.pi_lowered.proofs.FilledLemmas.{AllFilled, none_filled, one_filled, in_slot, is_int, Extends, extends-then, set-keeps, all-filled-more, all-filled-comes}
 use Rattle.pi_lowered.proofs.AgreeLemmas.{set-other}
 use Rattle.pi_lowered.proofs.RunLemmas.{Alike, point, place, runs, then-of-one, runs-one, not-drained, turn-runs}
 use Rattle.pi_lowered.proofs.ControlLemmas.{Drains}
+use Rattle.pi_lowered.proofs.EndLemmas.{applied-runs, finish_of, closing-room}
 use Rattle.pi_lowered.proofs.HandedLemmas.{entered, entered-long, entered-empty}
 use Rattle.pi_lowered.proofs.EnteredLemmas.{values-long}
 use Rattle.pi_lowered.proofs.CarriedLemmas.{Handed}
 use Rattle.pi_lowered.proofs.HelperLemmas.{state_of, HelperCalled, count-trees, called-runs, endings, AreAmong}
-use Rattle.pi_lowered.proofs.WhileLemmas.{tick-runs, tick-stops, closing-room}
+use Rattle.pi_lowered.proofs.WhileLemmas.{tick-runs, tick-stops}
 use Rattle.pi_lowered.proofs.ElementLemmas.{walked, handed-long}
 use Rattle.pi_lowered.proofs.MatchedLemmas.{slots-hold, walked-long}
 use Rattle.pi_lowered.proofs.WalkCalls.{less-called, less-known, sum-called, sum-known, array-item-called}
@@ -48,18 +48,8 @@ use Rattle.pi_lowered.proofs.BuiltInLemmas.{item-known}
 
 -- ---- calls over slots
 
--- a function's value goes into a slot
-pub applied-runs : (b : Builtins) (l : Level) → Drains l → (name : List ℕ) (args vs : List Tree) (into : ℕ) (slots : Places) (s : State) (x : Tree) → AllFilled slots (trees_of args) (trees_of vs) →
-    function_by b l name (trees_of vs) s ≡ one (record { value = x; state = s }) → meaning b (GoalTree.apply name args into) (point l slots s) ≡ one (point l (slice_set slots into (Some x)) s)
-unfolding meaning applying
-applied-runs b l drains name args vs into slots s x filled is =
-    not-drained (applying b name args into) (point l slots s) drains
-    ∙ ap (λ (y : EvaluatedAll). then (function_by b l name y.trees y.state) (λ a. one (point l (slice_set y.slots into (Some a.value)) a.state))) (all-filled-comes slots (trees_of args) (trees_of vs) filled s)
-    ∙ ap (λ (t : Trace Applied). then t (λ a. one (point l (slice_set slots into (Some a.value)) a.state))) is
-    ∙ then-of-one (record { value = x; state = s }) (λ a. one (point l (slice_set slots into (Some a.value)) a.state))
-
 -- a test with one answer in the state in which it began, or with none
-tested-runs : (b : Builtins) (l : Level) → Drains l → (name : List ℕ) (args vs : List Tree) (slots : Places) (s : State) (holds : Bool) → AllFilled slots (trees_of args) (trees_of vs) → predicate_by b l name (trees_of vs) s ≡ cond holds (one s) done →
+pub tested-runs : (b : Builtins) (l : Level) → Drains l → (name : List ℕ) (args vs : List Tree) (slots : Places) (s : State) (holds : Bool) → AllFilled slots (trees_of args) (trees_of vs) → predicate_by b l name (trees_of vs) s ≡ cond holds (one s) done →
     strictly (meaning b (GoalTree.call name args)) (point l slots s) ≡ cond holds (one (point l slots s)) done
 unfolding strictly then
 tested-runs b l drains name args vs slots s holds filled is =
@@ -82,7 +72,7 @@ array_slots w = closing_slots w.kept (length (end_slots walk_slots w) + 2)
 abbrev spare : Loop → ℕ
 spare w = array_slots w - handed w
 
-item-slot : (w : Loop) → length (end_slots walk_slots w) ≡ handed w
+pub item-slot : (w : Loop) → length (end_slots walk_slots w) ≡ handed w
 item-slot w = values-long w.kept (replicate walk_slots unnamed ++ w.shared) ∙ omega (arith, length-append (replicate {A = List ℕ} walk_slots unnamed) w.shared)
 
 wide : (w : Loop) → handed w + 2 ≤ array_slots w
@@ -221,13 +211,14 @@ array-stops known set b l inner k w turn called alike is base e hs given d ts j 
     ∙ tick-stops b inner alike.core_drains is (item_goals w turn) (entered (walked d (number_of (suc j)) (number_of (suc total)) hs) (spare w)) s)
 
 -- The end of an array.
-pub array-ends : (known : Knows) (set : Setting) (b : Builtins) (l inner k : Level) (w : Loop) (turn : List ℕ) → HelperCalled b l (element_helper turn w) inner → Alike known set b inner k → w.ending ≡ as_it_is → AreAmong w.shared w.kept →
+pub array-ends : (known : Knows) (set : Setting) (b : Builtins) (l inner k : Level) (w : Loop) (turn : List ℕ) → HelperCalled b l (element_helper turn w) inner → Alike known set b inner k → AreAmong w.shared w.kept →
     (base : ℕ) (e : Environment) (hs : List Tree) → Handed w base e hs → (d : Tree) (ts : Trees) (total : ℕ) (s : State) → followed (bindings s) d ≡ comp array_name ts →
-    predicate_by b l w.name (trees_of (walked d (number_of (suc total)) (number_of (suc total)) hs)) s ≡ endings w.kept base (place e s)
-array-ends known set b l inner k w turn called alike ending among base e hs given d ts total s root =
+    predicate_by b l w.name (trees_of (walked d (number_of (suc total)) (number_of (suc total)) hs)) s ≡ endings (finish_of w.ending) w.kept base (place e s)
+array-ends known set b l inner k w turn called alike among base e hs given d ts total s root =
     array-turns known set b l inner k w turn called alike base e hs given d ts (pos (suc total)) (pos (suc total)) s root _ _ refl
     ∙ cond-false (int_lt (pos (suc total)) (pos (suc total))) _ _ (less-natural (suc total) (suc total) ∙ ltb-irrefl (suc total))
-    ∙ walk-closes known set b inner k alike w ending among base e hs given 3 (d ∷ number_of (suc total) ∷ number_of (suc total) ∷ []) refl (spare w) (length (end_slots walk_slots w) + 2) s
+    ∙ walk-closes known set b inner k alike w among base e hs given 3 (d ∷ number_of (suc total) ∷ number_of (suc total) ∷ []) refl (spare w) (length (end_slots walk_slots w) + 2) s
+    (omega (arith, item-slot w, handed-long w, given.count)) (omega (arith, wide w, handed-long w, given.count))
   where
     ltb-irrefl : (a : ℕ) → nat_lt a a ≡ false
     ltb-irrefl a = go (nat_lt a a) refl

@@ -38,7 +38,7 @@ less-tested : (set : Setting) (m : Level) (t u : Tree) (s : State) →
 unfolding predicate_called predicate_given built_in_predicate done_by tests comparing_tests kind_tests writing_predicates other_predicates
 less-tested set m t u s = refl
 
-integers-there : {A : Type 0} (s : State) (a : ℤ) (f : ℤ → Answer A) → integer_then s (int a) f ≡ f a
+pub integers-there : {A : Type 0} (s : State) (a : ℤ) (f : ℤ → Answer A) → integer_then s (int a) f ≡ f a
 integers-there s a f = ap (λ (t : Tree). found_or (integer_at t) (type_error (codes "integer") (int a) s) f) (followed_other (bindings s) (int a) (no-number a))
 
 pub less-called : (set : Setting) (m : Level) (a c : ℤ) (s : State) → predicate_called set m (codes "<") (tree (int a) (tree (int c) no_trees)) s ≡ cond (int_lt a c) (one s) done

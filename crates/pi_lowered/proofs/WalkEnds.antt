@@ -1,5 +1,5 @@
 -- Where a walk ends: the loop's variables are unified with what its names have, as they stand behind the slots of the walk.
-use Rattle.std.proofs.Common.{◌≡◌, ℕ, suc, ◌+◌, ◌-◌, ◌<◌, Bool, true, false, cond, List, [], ◌∷◌, ◌++◌, length, map, refl, sym, ◌∙◌, ap, subst, arith, length-append}
+use Rattle.std.proofs.Common.{◌≡◌, ℕ, suc, ◌+◌, ◌-◌, ◌≤◌, ◌<◌, Bool, true, false, cond, List, [], ◌∷◌, ◌++◌, length, map, refl, sym, ◌∙◌, ap, subst, arith, length-append}
 use Rattle.std.specs.Prelude.{Option, Some, None, option_map, is_some, replicate, ◌==◌, unwrap_or}
 use Rattle.std.specs.Str.{bytes_eq}
 use Rattle.std.proofs.lemmas.Bool.{true≢false}
@@ -19,16 +19,16 @@ use Rattle.pi_names.specs.Loops.{now}
 use Rattle.pi_lowered.specs.Slots.{SlotNames, unnamed, slot_of, slot_or_next, slot_for}
 use Rattle.pi_lowered.specs.Forms.{Knows}
 use Rattle.pi_lowered.specs.Goals.{in_turn}
-use Rattle.pi_lowered.specs.Loops.{Ending, as_it_is, closing, closing_slots, Loop}
+use Rattle.pi_lowered.specs.Loops.{closing, closing_slots, Loop, loop_slots}
 use Rattle.pi_lowered.specs.Iterators.{handed, end_slots, element_helper}
 use Rattle.pi_lowered.proofs.AgreeLemmas.{or_last, slot-among, slot-below}
-use Rattle.pi_lowered.proofs.RunLemmas.{Alike, point, place, runs, turn-runs}
-use Rattle.pi_lowered.proofs.LoopLemmas.{Stand, InSlots}
-use Rattle.pi_lowered.proofs.HandedLemmas.{entered, entered-held, some-again, some-held}
+use Rattle.pi_lowered.proofs.RunLemmas.{Alike, point, place, turn-runs}
+use Rattle.pi_lowered.proofs.EndLemmas.{finish_of, Stand, closing-room}
+use Rattle.pi_lowered.proofs.LoopLemmas.{InSlots}
+use Rattle.pi_lowered.proofs.HandedLemmas.{entered, entered-long, entered-empty, entered-held, some-again, some-held}
 use Rattle.pi_lowered.proofs.EnteredLemmas.{slot-values, among-slot, values-long, variables_from, variables-within}
 use Rattle.pi_lowered.proofs.CarriedLemmas.{Handed, behind_front, held-behind}
 use Rattle.pi_lowered.proofs.HelperLemmas.{state_of, HelperCalled, count-trees, endings, AreAmong, closing-ends}
-use Rattle.pi_lowered.proofs.WhileLemmas.{closing-room}
 use Rattle.pi_lowered.proofs.ElementLemmas.{walked, unnamed-none, unnamed-long}
 use Rattle.pi_lowered.proofs.MatchedLemmas.{walked-long}
 use Rattle.pi_lowered.proofs.WalkLemmas.{nil-runs}
@@ -80,24 +80,39 @@ names-stand w base e hs given j us count m (name ∷ names) among k first ins =
     (ins.0, name-stands w base e hs given j us count m name among.0 among.1, names-stand w base e hs given j us count m names among.2 (suc k) (suc first) ins.1)
 
 -- The end, where so many slots of the walk stand in front.
-pub walk-closes : (known : Knows) (set : Setting) (b : Builtins) (l k : Level) → Alike known set b l k → (w : Loop) → w.ending ≡ as_it_is → AreAmong w.shared w.kept → (base : ℕ) (e : Environment) (hs : List Tree) → Handed w base e hs → (j : ℕ) (us : List Tree) → length us ≡ j →
-    (m next : ℕ) (s : State) → then (meaning b (in_turn (closing w.ending w.kept (j + length w.shared) next (behind_front w (replicate j unnamed)))) (point l (entered (us ++ hs) m) s)) state_of ≡ endings w.kept base (place e s)
-walk-closes known set b l k alike w ending among base e hs given j us count m next s =
+pub walk-closes : (known : Knows) (set : Setting) (b : Builtins) (l k : Level) → Alike known set b l k → (w : Loop) → AreAmong w.shared w.kept → (base : ℕ) (e : Environment) (hs : List Tree) → Handed w base e hs → (j : ℕ) (us : List Tree) → length us ≡ j →
+    (m next : ℕ) (s : State) → j + length hs ≤ next → closing_slots w.kept next ≤ j + length hs + m →
+    then (meaning b (in_turn (closing w.ending w.kept (j + length w.shared) next (behind_front w (replicate j unnamed)))) (point l (entered (us ++ hs) m) s)) state_of ≡ endings (finish_of w.ending) w.kept base (place e s)
+walk-closes known set b l k alike w among base e hs given j us count m next s far room =
     ap (λ (t : Trace Point). then t state_of) (turn-runs b l alike.core_drains (closing w.ending w.kept (j + length w.shared) next (behind_front w (replicate j unnamed))) (entered (us ++ hs) m) s)
-    ∙ ap (λ (o : Ending). then (runs b (closing o w.kept (j + length w.shared) next (behind_front w (replicate j unnamed))) (point l (entered (us ++ hs) m) s)) state_of) ending
-    ∙ closing-ends known set b l k alike w.kept (j + length w.shared) base next (behind_front w (replicate j unnamed)) e (entered (us ++ hs) m) s
+    ∙ closing-ends known set b l k alike w.ending w.kept (j + length w.shared) base next (behind_front w (replicate j unnamed)) e (entered (us ++ hs) m) s
     (names-stand w base e hs given j us count m w.kept among (j + length w.shared) base (variables-further j (length w.shared) base w.kept (entered (us ++ hs) m) held-there))
+    (λ i past. entered-empty (us ++ hs) m i (omega (arith, all, past, far))) (omega (arith, room, entered-long (us ++ hs) m, all))
   where
+    all : length (us ++ hs) ≡ j + length hs
+    all = length-append us hs ∙ omega (arith, count)
+
     held-there : (i : ℕ) (t : Tree) → variables_from (length w.shared) base w.kept i ≡ Some t → held (entered (us ++ hs) m) (j + i) ≡ Some t
     held-there i t at =
         let less : i < length hs = omega (arith, given.count, (variables-within (length w.shared) base w.kept i t at).1, values-long w.kept w.shared) in
         ap (λ (n : ℕ). held (entered (us ++ hs) m) (n + i)) (sym count) ∙ entered-held (us ++ hs) m (length us + i) (omega (arith, less, length-append us hs)) ∙ held-behind us hs i ∙ given.variables i t at
 
 -- The end of a list.
-pub nil-ends : (known : Knows) (set : Setting) (b : Builtins) (l inner k : Level) (w : Loop) (turn : List ℕ) → HelperCalled b l (element_helper turn w) inner → Alike known set b inner k → w.ending ≡ as_it_is → AreAmong w.shared w.kept → (base : ℕ) (e : Environment) (hs : List Tree) →
-    Handed w base e hs → (t i all : Tree) (s : State) → followed (bindings s) t ≡ Tree.atom nil → predicate_by b l w.name (trees_of (walked t i all hs)) s ≡ endings w.kept base (place e s)
-nil-ends known set b l inner k w turn called alike ending among base e hs given t i all s root =
+pub nil-ends : (known : Knows) (set : Setting) (b : Builtins) (l inner k : Level) (w : Loop) (turn : List ℕ) → HelperCalled b l (element_helper turn w) inner → Alike known set b inner k → AreAmong w.shared w.kept → (base : ℕ) (e : Environment) (hs : List Tree) →
+    Handed w base e hs → (t i all : Tree) (s : State) → followed (bindings s) t ≡ Tree.atom nil → predicate_by b l w.name (trees_of (walked t i all hs)) s ≡ endings (finish_of w.ending) w.kept base (place e s)
+nil-ends known set b l inner k w turn called alike among base e hs given t i all s root =
     called (trees_of (walked t i all hs)) s (count-trees (walked t i all hs) ∙ walked-long w base e hs given t i all)
-    ∙ nil-runs b inner w turn base e hs given t i all s (closing_slots w.kept (length (end_slots 2 w)) - (handed w - 1)) root
-    (omega (arith, closing-room w.kept (length (end_slots 2 w)), values-long w.kept (replicate 2 unnamed ++ w.shared), length-append (replicate {A = List ℕ} 2 unnamed) w.shared))
-    ∙ walk-closes known set b inner k alike w ending among base e hs given 2 (i ∷ all ∷ []) refl (closing_slots w.kept (length (end_slots 2 w)) - (handed w - 1)) (length (end_slots 2 w)) s
+    ∙ nil-runs b inner w turn base e hs given t i all s spare root (omega (arith, room, long, values-long w.kept w.shared))
+    ∙ walk-closes known set b inner k alike w among base e hs given 2 (i ∷ all ∷ []) refl spare next s (omega (arith, given.count, long)) (omega (arith, room, long, given.count, values-long w.kept w.shared))
+  where
+    next : ℕ
+    next = length (end_slots 2 w)
+
+    spare : ℕ
+    spare = closing_slots w.kept (length (end_slots 2 w)) - (handed w - 1)
+
+    long : length (end_slots 2 w) ≡ 2 + length (loop_slots w)
+    long = values-long w.kept (replicate 2 unnamed ++ w.shared) ∙ omega (arith, length-append (replicate {A = List ℕ} 2 unnamed) w.shared, values-long w.kept w.shared)
+
+    room : length (end_slots 2 w) ≤ closing_slots w.kept (length (end_slots 2 w))
+    room = closing-room w.kept (length (end_slots 2 w))

@@ -26,12 +26,14 @@ use Rattle.pi_lowered.specs.Slots.{SlotNames}
 use Rattle.pi_lowered.specs.Values.{slot_pattern}
 use Rattle.pi_lowered.specs.Forms.{Knows, IsPattern}
 use Rattle.pi_lowered.specs.Goals.{SlotGoals}
-use Rattle.pi_lowered.specs.Loops.{as_it_is, Loop}
+use Rattle.pi_lowered.specs.Loops.{Loop}
 use Rattle.pi_lowered.specs.Iterators.{turn_helper, element_helper}
 use Rattle.pi_lowered.proofs.RunLemmas.{place, then-of-one, names-not-drained}
+use Rattle.pi_lowered.proofs.EndLemmas.{finish_of}
 use Rattle.pi_lowered.proofs.CarriedLemmas.{Handed, Apart}
 use Rattle.pi_lowered.proofs.HelperLemmas.{HelperCalled, endings, AreAmong}
-use Rattle.pi_lowered.proofs.ElementLemmas.{RootsStay, turn_front, TurnSame, walked}
+use Rattle.pi_lowered.specs.Roots.{RootsStay}
+use Rattle.pi_lowered.proofs.ElementLemmas.{turn_front, TurnSame, walked}
 use Rattle.pi_lowered.proofs.MatchedLemmas.{element-called}
 use Rattle.pi_lowered.proofs.WalkLemmas.{cell-goes-on, cell-stops}
 use Rattle.pi_lowered.proofs.WalkEnds.{nil-ends}
@@ -149,16 +151,16 @@ abbrev turn_at : Loop → ExpTree → Goal → Tree → List Tree → Goal
 turn_at w e0 body x ts = element w.shared e0 body x (elements w.shared e0 body ts)
 
 -- no item is left
-ends : (known : Knows) (set : Setting) (b : Builtins) (w : Loop) (turn : List ℕ) (body : Goal) (lb : SlotNames → SlotGoals) (e0 : ExpTree) → w.ending ≡ as_it_is → AreAmong w.shared w.kept → (l inner k : Level) → HelperCalled b l (element_helper turn w) inner →
+ends : (known : Knows) (set : Setting) (b : Builtins) (w : Loop) (turn : List ℕ) (body : Goal) (lb : SlotNames → SlotGoals) (e0 : ExpTree) → AreAmong w.shared w.kept → (l inner k : Level) → HelperCalled b l (element_helper turn w) inner →
     TurnSame known set b w (slot_pattern e0 []) body lb inner k → (base : ℕ) (e : Environment) (hs : List Tree) (t i all : Tree) (s : State) → Handed w base e hs → Ahead s t i all [] →
-    predicate_by b l w.name (trees_of (walked t i all hs)) s ≡ endings w.kept base (place e s)
-ends known set b w turn body lb e0 ending among l inner k called at base e hs _ _ _ s given (list_ahead t i all n _ is) = go (list-root n (bindings s) t [] is)
+    predicate_by b l w.name (trees_of (walked t i all hs)) s ≡ endings (finish_of w.ending) w.kept base (place e s)
+ends known set b w turn body lb e0 among l inner k called at base e hs _ _ _ s given (list_ahead t i all n _ is) = go (list-root n (bindings s) t [] is)
   where
-    go : ListRoot (bindings s) t [] → predicate_by b l w.name (trees_of (walked t i all hs)) s ≡ endings w.kept base (place e s)
-    go (at_end root) = nil-ends known set b l inner k w turn called at.alike ending among base e hs given t i all s root
-ends known set b w turn body lb e0 ending among l inner k called at base e hs _ _ _ s given (array_ahead d us j n _ root few numbered left) =
+    go : ListRoot (bindings s) t [] → predicate_by b l w.name (trees_of (walked t i all hs)) s ≡ endings (finish_of w.ending) w.kept base (place e s)
+    go (at_end root) = nil-ends known set b l inner k w turn called at.alike among base e hs given t i all s root
+ends known set b w turn body lb e0 among l inner k called at base e hs _ _ _ s given (array_ahead d us j n _ root few numbered left) =
     ap (λ (i : ℕ). predicate_by b l w.name (trees_of (walked d (number_of (suc i)) (number_of (suc (length (each_tree us)))) hs)) s) (drop-none (each_tree us) j few left)
-    ∙ array-ends known set b l inner k w turn called at.alike ending among base e hs given d us (length (each_tree us)) s root
+    ∙ array-ends known set b l inner k w turn called at.alike among base e hs given d us (length (each_tree us)) s root
 
 -- one is left, and no depth
 stops : (known : Knows) (set : Setting) (b : Builtins) (w : Loop) (turn : List ℕ) (body : Goal) (lb : SlotNames → SlotGoals) (e0 : ExpTree) (l inner k : Level) → HelperCalled b l (element_helper turn w) inner → TurnSame known set b w (slot_pattern e0 []) body lb inner k →
@@ -184,21 +186,21 @@ goes-on known set b w turn body lb e0 l inner below k m called at deeper under b
     ∙ ap (note Tick) (each d (number_of (suc (suc j))) (array_ahead d us (suc j) n ts root item.1 numbered item.2))
 
 -- A call of the first helper does what the elements that are left do over names, and ends the loop.
-pub walk-calls : (known : Knows) (set : Setting) (b : Builtins) (w : Loop) (turn : List ℕ) (e0 : ExpTree) → IsPattern e0 → (body : Goal) (lb : SlotNames → SlotGoals) → w.ending ≡ as_it_is → AreAmong w.shared w.kept → Apart w (turn_front (slot_pattern e0 [])) → (l k : Level) →
+pub walk-calls : (known : Knows) (set : Setting) (b : Builtins) (w : Loop) (turn : List ℕ) (e0 : ExpTree) → IsPattern e0 → (body : Goal) (lb : SlotNames → SlotGoals) → AreAmong w.shared w.kept → Apart w (turn_front (slot_pattern e0 [])) → (l k : Level) →
     Walks b (element_helper turn w) (turn_helper turn w e0 lb) (TurnSame known set b w (slot_pattern e0 []) body lb) l k → (base : ℕ) (ts : List Tree) (e : Environment) (hs : List Tree) (t i all : Tree) (s : State) → Handed w base e hs → Ahead s t i all ts →
-    predicate_by b l w.name (trees_of (walked t i all hs)) s ≡ then (elements w.shared e0 body ts k (place e s)) (endings w.kept base)
+    predicate_by b l w.name (trees_of (walked t i all hs)) s ≡ then (elements w.shared e0 body ts k (place e s)) (endings (finish_of w.ending) w.kept base)
 unfolding elements then
-walk-calls known set b w turn e0 is-pattern body lb ending among apart l _ (last_walk _ inner c called bottom at) base [] e hs t i all s given ahead =
-    ends known set b w turn body lb e0 ending among l inner (lowest c) called at base e hs t i all s given ahead
-    ∙ sym (ap (λ (u : Trace Place). then u (endings w.kept base)) (names-not-drained (λ m q. one q) (lowest c) (place e s) at.alike.names_drain) ∙ then-of-one (place e s) (endings w.kept base))
-walk-calls known set b w turn e0 is-pattern body lb ending among apart l _ (last_walk _ inner c called bottom at) base (x ∷ ts) e hs t i all s given ahead =
+walk-calls known set b w turn e0 is-pattern body lb among apart l _ (last_walk _ inner c called bottom at) base [] e hs t i all s given ahead =
+    ends known set b w turn body lb e0 among l inner (lowest c) called at base e hs t i all s given ahead
+    ∙ sym (ap (λ (u : Trace Place). then u (endings (finish_of w.ending) w.kept base)) (names-not-drained (λ m q. one q) (lowest c) (place e s) at.alike.names_drain) ∙ then-of-one (place e s) (endings (finish_of w.ending) w.kept base))
+walk-calls known set b w turn e0 is-pattern body lb among apart l _ (last_walk _ inner c called bottom at) base (x ∷ ts) e hs t i all s given ahead =
     stops known set b w turn body lb e0 l inner (lowest c) called at bottom base e hs t i all x ts s given ahead
-    ∙ sym (ap (λ (u : Trace Place). then u (endings w.kept base)) (names-not-drained (λ m q. ticked (lower m) (λ j. turn_at w e0 body x ts j q)) (lowest c) (place e s) at.alike.names_drain))
-walk-calls known set b w turn e0 is-pattern body lb ending among apart l _ (next_walk _ inner below inside c k called deeper at under second within walks) base [] e hs t i all s given ahead =
-    ends known set b w turn body lb e0 ending among l inner (over c k) called at base e hs t i all s given ahead
-    ∙ sym (ap (λ (u : Trace Place). then u (endings w.kept base)) (names-not-drained (λ m q. one q) (over c k) (place e s) at.alike.names_drain) ∙ then-of-one (place e s) (endings w.kept base))
-walk-calls known set b w turn e0 is-pattern body lb ending among apart l _ (next_walk _ inner below inside c k called deeper at under second within walks) base (x ∷ ts) e hs t i all s given ahead =
-    goes-on known set b w turn body lb e0 l inner below (over c k) k called at deeper under base e hs t i all x ts s given ahead (then (turn_at w e0 body x ts k (place e s)) (endings w.kept base))
-    (λ rest j left. element-called known set b w turn e0 is-pattern body (elements w.shared e0 body ts) lb below inside k second within apart base (endings w.kept base) e x hs rest j all s given
-    (λ f us r stays handed. walk-calls known set b w turn e0 is-pattern body lb ending among apart inside k walks base ts f us rest j all r handed (ahead-later s r stays rest j all ts left)))
-    ∙ sym (ap (λ (u : Trace Place). then u (endings w.kept base)) (names-not-drained (λ m q. ticked (lower m) (λ j. turn_at w e0 body x ts j q)) (over c k) (place e s) at.alike.names_drain))
+    ∙ sym (ap (λ (u : Trace Place). then u (endings (finish_of w.ending) w.kept base)) (names-not-drained (λ m q. ticked (lower m) (λ j. turn_at w e0 body x ts j q)) (lowest c) (place e s) at.alike.names_drain))
+walk-calls known set b w turn e0 is-pattern body lb among apart l _ (next_walk _ inner below inside c k called deeper at under second within walks) base [] e hs t i all s given ahead =
+    ends known set b w turn body lb e0 among l inner (over c k) called at base e hs t i all s given ahead
+    ∙ sym (ap (λ (u : Trace Place). then u (endings (finish_of w.ending) w.kept base)) (names-not-drained (λ m q. one q) (over c k) (place e s) at.alike.names_drain) ∙ then-of-one (place e s) (endings (finish_of w.ending) w.kept base))
+walk-calls known set b w turn e0 is-pattern body lb among apart l _ (next_walk _ inner below inside c k called deeper at under second within walks) base (x ∷ ts) e hs t i all s given ahead =
+    goes-on known set b w turn body lb e0 l inner below (over c k) k called at deeper under base e hs t i all x ts s given ahead (then (turn_at w e0 body x ts k (place e s)) (endings (finish_of w.ending) w.kept base))
+    (λ rest j left. element-called known set b w turn e0 is-pattern body (elements w.shared e0 body ts) lb below inside k second within apart base (endings (finish_of w.ending) w.kept base) e x hs rest j all s given
+    (λ f us r stays handed. walk-calls known set b w turn e0 is-pattern body lb among apart inside k walks base ts f us rest j all r handed (ahead-later s r stays rest j all ts left)))
+    ∙ sym (ap (λ (u : Trace Place). then u (endings (finish_of w.ending) w.kept base)) (names-not-drained (λ m q. ticked (lower m) (λ j. turn_at w e0 body x ts j q)) (over c k) (place e s) at.alike.names_drain))

@@ -16,19 +16,18 @@ use Rattle.pi_meaning.specs.Given.{Setting}
 use Rattle.pi_meaning.specs.Meaning.{ticking, meaning, strictly}
 use Rattle.pi_meaning.specs.Environment.{Environment}
 use Rattle.pi_meaning.specs.Place.{Place}
-use Rattle.pi_names.specs.Texts.{Names}
 use Rattle.pi_names.specs.Assigning.{carried}
 use Rattle.pi_names.specs.Control.{Goal, choosing, draining as names_draining, strictly as names_strictly}
 use Rattle.pi_names.specs.Loops as over_names
 use Rattle.pi_lowered.specs.Slots.{SlotNames}
 use Rattle.pi_lowered.specs.Forms.{Knows}
 use Rattle.pi_lowered.specs.Goals.{SlotGoals, in_turn}
-use Rattle.pi_lowered.specs.Loops.{Ending, as_it_is, closing, closing_slots, Loop, loop_slots, again, while_helper, do_helper}
+use Rattle.pi_lowered.specs.Loops.{closing, closing_slots, Loop, loop_slots, again, while_helper, do_helper}
 use Rattle.pi_lowered.proofs.SameLemmas.{SameBy, same_note, same-then, same-chosen, same-equal, same-equals}
 use Rattle.pi_lowered.proofs.AgreeLemmas.{Room, Grows, grows-none, grows-then, grows-length, Agrees}
 use Rattle.pi_lowered.proofs.RunLemmas.{Alike, point, place, AtPlace, at_place, runs, SameGoals, then-of-one, runs-append, runs-one, not-drained, names-not-drained, turn-runs, same-strictly}
 use Rattle.pi_lowered.proofs.ControlLemmas.{Drains}
-use Rattle.pi_lowered.proofs.LoopLemmas.{Stand}
+use Rattle.pi_lowered.proofs.EndLemmas.{finish_of, Stand, closing-room}
 use Rattle.pi_lowered.proofs.HandedLemmas.{entered, values_from, values-count}
 use Rattle.pi_lowered.proofs.EnteredLemmas.{values-long, helper_room, variables-in, again-agrees}
 use Rattle.pi_lowered.proofs.HelperLemmas.{state_of, HelperCalled, count-trees, helper-runs, again-runs, endings, AreAmong, stand-entered, closing-ends, chosen-followed}
@@ -51,10 +50,10 @@ abbrev pub Closes : Knows → Setting → Builtins → Loop → ℕ → ℕ → 
 Closes known set b w n base ends = (l m : Level) → Alike known set b l m → (ms : SlotNames) → Grows (loop_slots w) ms → (next : ℕ) → length ms ≤ next → closing_slots w.kept next ≤ n → (e : Environment) (slots : Places) (s : State) →
     Agrees (helper_room w n base) (length (loop_slots w)) ms e slots → then (runs b (closing w.ending w.kept (length w.shared) next (loop_slots w)) (point l slots s)) state_of ≡ ends (place e s)
 
--- names that the loop keeps stand for what they have at last
-pub closes-as-it-is : (known : Knows) (set : Setting) (b : Builtins) (w : Loop) (n base : ℕ) → w.ending ≡ as_it_is → AreAmong w.shared w.kept → Closes known set b w n base (endings w.kept base)
-closes-as-it-is known set b w n base is among l m alike ms grows next far room e slots s a =
-    ap (λ (o : Ending). then (runs b (closing o w.kept (length w.shared) next (loop_slots w)) (point l slots s)) state_of) is ∙ closing-ends known set b l m alike w.kept (length w.shared) base next (loop_slots w) e slots s stand
+-- names that the loop keeps stand for what is made of what they have at last
+pub closes-ends : (known : Knows) (set : Setting) (b : Builtins) (w : Loop) (n base : ℕ) → AreAmong w.shared w.kept → Closes known set b w n base (endings (finish_of w.ending) w.kept base)
+closes-ends known set b w n base among l m alike ms grows next far room e slots s a =
+    closing-ends known set b l m alike w.ending w.kept (length w.shared) base next (loop_slots w) e slots s stand (λ i past. a.empty i (omega (arith, far, past))) (omega (arith, room, a.long))
   where
     stand : Stand w.kept (length w.shared) base (loop_slots w) e slots
     stand = stand-entered w w.kept among (length w.shared) base (helper_room w n base) (length (loop_slots w)) ms grows e slots a (λ i less. a.firm i (omega (arith, less, values-long w.kept w.shared)))
@@ -85,11 +84,6 @@ tick-stops b l drains is gs slots s = ap (λ (t : Trace Point). then t (runs b g
 -- the slots behind test and body
 abbrev pub while_slots : Loop → (SlotNames → SlotGoals) → (SlotNames → SlotGoals) → SlotNames
 while_slots w lt lb = (lb (lt (loop_slots w)).names).names
-
-pub closing-room : (names : Names) (next : ℕ) → next ≤ closing_slots names next
-unfolding closing_slots
-closing-room [] next = omega arith
-closing-room (name ∷ names) next = omega (arith, closing-room names (next + 2))
 
 -- A test, and where it fails the end: the same where what stands behind the test is.
 pub tested-same : (known : Knows) (set : Setting) (b : Builtins) (w : Loop) (test : Goal) (lt : SlotNames → SlotGoals) (l k : Level) → Alike known set b l k → SameGoals b l k (length (loop_slots w)) test lt → (n base next : ℕ) (ends : Place → Trace State) →

@@ -25,12 +25,13 @@ use Rattle.pi_lowered.specs.Slots.{SlotNames, unnamed, with_value}
 use Rattle.pi_lowered.specs.Values.{SlotValue, slot_pattern}
 use Rattle.pi_lowered.specs.Forms.{Knows, IsPattern}
 use Rattle.pi_lowered.specs.Goals.{SlotGoals}
-use Rattle.pi_lowered.specs.Loops.{as_it_is, slots_from, slots_for_names, with_values, Loop, started, kept_goals}
+use Rattle.pi_lowered.specs.Loops.{slots_from, slots_for_names, with_values, Loop, started, kept_goals}
 use Rattle.pi_lowered.specs.Iterators.{turn_helper, element_helper, only, behind_collection, iterator_goals}
 use Rattle.pi_lowered.proofs.SameLemmas.{SameBy, same-then, same-each}
 use Rattle.pi_lowered.proofs.FilledLemmas.{in_slot, is_int, Extends, extends-then, set-keeps, filled-more}
 use Rattle.pi_lowered.proofs.AgreeLemmas.{Room, Grows, by, grows-then, grows-length, Agrees, holding, set-other}
 use Rattle.pi_lowered.proofs.RunLemmas.{Alike, point, place, AtPlace, at_place, AtValue, at_value, runs, SameGoals, SameLast, then-of-one, runs-append}
+use Rattle.pi_lowered.proofs.EndLemmas.{finish_of}
 use Rattle.pi_lowered.proofs.LoopLemmas.{started-grows, started-same}
 use Rattle.pi_lowered.proofs.EnteredLemmas.{values-long, values-grow}
 use Rattle.pi_lowered.proofs.CarriedLemmas.{Apart}
@@ -60,21 +61,21 @@ last_goals w ns v =
     GoalTree.call w.name (((v.tree ∷ Tree.int (pos 1) ∷ Tree.var (length (gone_over ns v) - 1) ∷ []) ++ slots_for_names w.shared (gone_over ns v)) ++ slots_from (length (gone_over ns v)) (length w.kept)) ∷ kept_goals w.kept (length (gone_over ns v)) (gone_over ns v)
 
 -- behind the evaluation of what is gone over: its items are counted, and the first helper is called
-behind-same : (known : Knows) (set : Setting) (b : Builtins) (l k : Level) (h : ℕ) → Alike known set b l k → (w : Loop) (turn : List ℕ) (before : Names) (e0 : ExpTree) → IsPattern e0 → (body : Goal) (lb : SlotNames → SlotGoals) → w.ending ≡ as_it_is →
+behind-same : (known : Knows) (set : Setting) (b : Builtins) (l k : Level) (h : ℕ) → Alike known set b l k → (w : Loop) (turn : List ℕ) (before : Names) (e0 : ExpTree) → IsPattern e0 → (body : Goal) (lb : SlotNames → SlotGoals) →
     AreAmong before w.shared → AreAmong before w.kept → AreAmong w.shared w.kept → Apart w (turn_front (slot_pattern e0 [])) → Walks b (element_helper turn w) (turn_helper turn w e0 lb) (TurnSame known set b w (slot_pattern e0 []) body lb) l k →
     (n : Room) (ns : SlotNames) (v : SlotValue) (e : Environment) (slots : Places) → Agrees n h ns e slots → AllThere before e → Grows (only before ns) v.names → length (with_values w.kept (gone_over ns v)) ≤ n.slots →
     (p : Point) (x : Valued) → AtValue l (holding n (only before ns) slots) h v.names v.tree slots p x →
     SameBy (AtPlace l n h (with_values w.kept (gone_over ns v)))
     (then (runs b (counting_goals v.tree (length v.names)) p)
     (runs b (last_goals w ns v)))
-    (over_names.items_then (λ ts. over_names.framed over_names.as_it_is w.shared w.kept (over_names.elements w.shared e0 body ts) k (place e x.state)) x.tree x.state (collection_items (bindings x.state) x.tree))
+    (over_names.items_then (λ ts. over_names.framed (finish_of w.ending) w.shared w.kept (over_names.elements w.shared e0 body ts) k (place e x.state)) x.tree x.state (collection_items (bindings x.state) x.tree))
 unfolding AreFilled
-behind-same known set b l k h alike w turn before e0 is-pattern body lb ending shared kept among apart walks n ns v e slots a there grows room _ _ (at_value places s x c extends) =
+behind-same known set b l k h alike w turn before e0 is-pattern body lb shared kept among apart walks n ns v e slots a there grows room _ _ (at_value places s x c extends) =
     counted-same known set b l k alike v.tree x.tree (length v.names) places c.after s x.state c.comes (omega (arith, room, values-long w.kept (gone_over ns v), behind-long ns v longer, c.agrees.long)) (last_goals w ns v) _ (AtPlace l n h (with_values w.kept (gone_over ns v)))
     (λ ts m found numbered. entered-same known set b l k alike w before (over_names.elements w.shared e0 body ts) shared kept n h (gone_over ns v) e (counted_slots c.after (length v.names) (length ts)) x.state (agrees ts) there room
     (v.tree ∷ Tree.int (pos 1) ∷ Tree.var (length (gone_over ns v) - 1) ∷ []) (x.tree ∷ number_of 1 ∷ number_of (suc (length ts)) ∷ [])
     (filled-more c.after (counted_slots c.after (length v.names) (length ts)) (stays ts) v.tree x.tree c.filled, (is_int (pos 1), (in_slot (length (gone_over ns v) - 1) (number_of (suc (length ts))) (last ts), tt)))
-    (walk-calls known set b w turn e0 is-pattern body lb ending among apart l k walks (next x.state) ts (narrowed w.shared e) (handed_on w (next x.state) e) x.tree (number_of 1) (number_of (suc (length ts))) (with_new_variables (length w.kept) x.state)
+    (walk-calls known set b w turn e0 is-pattern body lb among apart l k walks (next x.state) ts (narrowed w.shared e) (handed_on w (next x.state) e) x.tree (number_of 1) (number_of (suc (length ts))) (with_new_variables (length w.kept) x.state)
     (first-handed w (next x.state) e (among-there before w.shared e shared there))
     (ahead-later x.state (with_new_variables (length w.kept) x.state) (new-variables-stay (length w.kept) x.state) x.tree (number_of 1) (number_of (suc (length ts))) ts (first-ahead x.state x.tree ts m found numbered))))
   where
@@ -107,18 +108,18 @@ behind-same known set b l k h alike w turn before e0 is-pattern body lb ending s
         (λ i past. far ts i (λ same. omega (arith, same, past, longer, two-longer v.names)) (λ same. omega (arith, same, past, longer, two-longer v.names)) ∙ c.agrees.empty i (omega (arith, past, longer, two-longer v.names)))
 
 pub iterator-same : (known : Knows) (set : Setting) (b : Builtins) (l k : Level) (h : ℕ) → Alike known set b l k → (w : Loop) (turn : List ℕ) (before : Names) (e0 : ExpTree) → IsPattern e0 → (collection : Value) (lc : SlotNames → SlotValue) → SameLast b l k h collection lc →
-    (body : Goal) (lb : SlotNames → SlotGoals) → w.ending ≡ as_it_is → AreAmong before w.shared → AreAmong before w.kept → AreAmong w.shared w.kept → Apart w (turn_front (slot_pattern e0 [])) →
+    (body : Goal) (lb : SlotNames → SlotGoals) → AreAmong before w.shared → AreAmong before w.kept → AreAmong w.shared w.kept → Apart w (turn_front (slot_pattern e0 [])) →
     Walks b (element_helper turn w) (turn_helper turn w e0 lb) (TurnSame known set b w (slot_pattern e0 []) body lb) l k →
-    SameGoals b l k h (over_names.iterating over_names.as_it_is before w.shared w.kept e0 collection body) (iterator_goals h before w lc)
+    SameGoals b l k h (over_names.iterating (finish_of w.ending) before w.shared w.kept e0 collection body) (iterator_goals h before w lc)
 unfolding over_names.iterating EachAnswer
-iterator-same known set b l k h alike w turn before e0 is-pattern collection lc is body lb ending shared kept among apart walks = record {
+iterator-same known set b l k h alike w turn before e0 is-pattern collection lc is body lb shared kept among apart walks = record {
   grows = λ ns. grows-then ns _ _ (started-grows known set b l k h alike before ns) (grows-then (started h before ns).names _ _ (by _) (values-grow w.kept (gone_over (started h before ns).names (lc (only before (started h before ns).names)))));
   same = λ n ns e slots s a room. whole n ns e slots s a room;
 }
   where
     -- over names, from where all that stand before the loop are there
     goes_over : Place → Trace Place
-    goes_over start = then (collection k (carried before start)) (λ x. over_names.items_then (λ ts. over_names.framed over_names.as_it_is w.shared w.kept (over_names.elements w.shared e0 body ts) k (record { names = start.names; state = x.state })) x.tree x.state
+    goes_over start = then (collection k (carried before start)) (λ x. over_names.items_then (λ ts. over_names.framed (finish_of w.ending) w.shared w.kept (over_names.elements w.shared e0 body ts) k (record { names = start.names; state = x.state })) x.tree x.state
         (collection_items (bindings x.state) x.tree))
 
     counts : SlotNames → SlotValue → Point → Trace Point
@@ -130,7 +131,7 @@ iterator-same known set b l k h alike w turn before e0 is-pattern collection lc 
         same-then (AtValue l (holding n (only before ns) slots) h (lc (only before ns)).names (lc (only before ns)).tree slots) (AtPlace l n h (with_values w.kept (gone_over ns (lc (only before ns))))) _ _ (counts ns (lc (only before ns))) _
         (is.same (holding n (only before ns) slots) (only before ns) (narrowed before e) slots s (only-agrees before n h ns e slots a)
         (omega (arith, room, values-long w.kept (gone_over ns (lc (only before ns))), behind-long ns (lc (only before ns)) (omega (arith, only-long before ns, grows-length (only before ns) _ (is.grows (only before ns)))))))
-        (behind-same known set b l k h alike w turn before e0 is-pattern body lb ending shared kept among apart walks n ns (lc (only before ns)) e slots a there (is.grows (only before ns)) room)
+        (behind-same known set b l k h alike w turn before e0 is-pattern body lb shared kept among apart walks n ns (lc (only before ns)) e slots a there (is.grows (only before ns)) room)
 
     whole : (n : Room) (ns : SlotNames) (e : Environment) (slots : Places) (s : State) → Agrees n h ns e slots → length (iterator_goals h before w lc ns).names ≤ n.slots →
         SameBy (AtPlace l n h (iterator_goals h before w lc ns).names) (runs b (iterator_goals h before w lc ns).goals (point l slots s)) (goes_over (with_names before (place e s)))

@@ -1,5 +1,5 @@
 -- Iterators as quiet helpers: one that takes the next element, and one that matches it. A list is walked by its cells and an array by an index, both in place. (Own.)
-use Rattle.std.specs.Prelude.{ℕ, suc, ◌+◌, ◌-◌, cond, pos, List, [], ◌∷◌, ◌++◌, length, map, replicate, codes}
+use Rattle.std.specs.Prelude.{Bool, ℕ, suc, ◌+◌, ◌-◌, cond, pos, List, [], ◌∷◌, ◌++◌, length, map, replicate, codes}
 use Rattle.pi_terms.specs.Tree.{Tree}
 use Rattle.pi_terms.specs.ListNames.{nil, cell_name}
 use Rattle.pi_terms.specs.PatternTree.{slot, exact_atom, compound, no_patterns, pattern}
@@ -10,7 +10,7 @@ use Rattle.pi_core.specs.CoreTree.{ClauseTree, PredTree}
 use Rattle.pi_names.specs.Texts.{Names, is_among}
 use Rattle.pi_lowered.specs.Slots.{SlotNames, unnamed, with_value}
 use Rattle.pi_lowered.specs.Values.{SlotPattern, slot_pattern, SlotValue}
-use Rattle.pi_lowered.specs.Goals.{SlotGoals, in_turn}
+use Rattle.pi_lowered.specs.Goals.{SlotGoals, in_turn, just, choosing}
 use Rattle.pi_lowered.specs.Loops.{Loop, slots_from, slots_head, with_values, closing, closing_slots, clause_of, helper, started, entered}
 
 -- ---- slots
@@ -76,9 +76,13 @@ element_helper turn l = helper l.name (handed l) (cell_clause turn l ∷ nil_cla
 
 -- ---- where the loop stands
 
+-- slots that are found by these names alone
+abbrev pub found_by : (List ℕ → Bool) → SlotNames → SlotNames
+found_by finds ns = map (λ name. cond (finds name) name unnamed) ns
+
 -- What the iterator goes over has names of its own. It finds the slots of those names alone that stand before the loop, and behind it no name finds those that it took.
 abbrev pub only : Names → SlotNames → SlotNames
-only before ns = map (λ name. cond (is_among before name) name unnamed) ns
+only before ns = found_by (is_among before) ns
 
 abbrev pub behind_collection : SlotNames → SlotNames → SlotNames
 behind_collection ns after = ns ++ replicate (length after - length ns) unnamed
@@ -99,3 +103,9 @@ abbrev pub iterator_goals : ℕ → Names → Loop → (SlotNames → SlotValue)
 iterator_goals h before l collection ns =
     let start : SlotValue = started h before ns in
     over l start.goals (walked start.names (collection (only before start.names)))
+
+-- ---- tests
+
+-- a test, and what stands behind it; where it fails the turn is passed over
+abbrev pub tested : SlotGoals → (SlotNames → SlotGoals) → SlotGoals
+tested test rest = choosing test rest (λ ns. just GoalTree.truth ns)

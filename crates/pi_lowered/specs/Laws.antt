@@ -1,5 +1,5 @@
 -- What lowering keeps. A core program keeps the meaning of a program, and a query that of a goal: with all names of the language as built-ins, what they do is what is done over names,
--- whatever the view is, and whatever later stages give that goes by calls. Which core program and which query they are doesn't count.
+-- whatever the view is, and whatever later stages give that goes by calls and keeps what terms are followed to. Which core program and which query they are doesn't count.
 use Rattle.std.specs.Prelude.{◌≡◌, ◌<◌, ℕ, Contains, List, ◌++◌, is_some, true, false}
 use Rattle.pi_states.specs.State.{State}
 use Rattle.pi_syntax.specs.ExpTree.{ExpTree}
@@ -23,6 +23,7 @@ use Rattle.pi_names.specs.Stages.{LaterStages}
 use Rattle.pi_names.specs.Run.{program_level, answer_names, names_from, IsNamesRun}
 use Rattle.pi_lowered.specs.Forms.{Knows}
 use Rattle.pi_lowered.specs.Levels.{SameLevels, GoesByCalls}
+use Rattle.pi_lowered.specs.Roots.{LaterKeepsRoots}
 use Rattle.pi_lowered.specs.Within.{knows, IsWithin, IsAsked}
 
 -- what a program has, with the prelude
@@ -39,7 +40,7 @@ pub record DefinesTheSame (program : ProgramTree) (preds : List PredTree) : Type
 -- A call of such a predicate or function does what the call over names does, under every view, at each depth and from each state: the same Ticks, loads and outputs, the same end, and in
 -- each answer the same value and the same state, so that variables have the same numbers.
 abbrev pub CallsTheSame : ProgramTree → List PredTree → Type 0
-CallsTheSame program preds = (v : View) (later : LaterStages) → GoesByCalls (known_of program) later.calls → (d : ℕ) →
+CallsTheSame program preds = (v : View) (later : LaterStages) → GoesByCalls (known_of program) later.calls → LaterKeepsRoots later.calls → (d : ℕ) →
     SameLevels (known_of program) (level_at (whole v later.calls preds) preds d) (program_level v later program d)
 
 -- a core program that keeps the meaning of a program, each clause of which names slots that it has
@@ -56,12 +57,12 @@ query_from b preds q d s = then (strictly (meaning b q.goal) (in_state (query_st
 
 -- At each depth and from each state a query does what a goal does over its names, but for how an answer is kept: each answer tells the same values by the same names, and has the same state.
 abbrev pub MeansTheSame : ProgramTree → ExpTree → List PredTree → QueryTree → Type 0
-MeansTheSame program goal preds q = (v : View) (later : LaterStages) → GoesByCalls (known_of program) later.calls → (d : ℕ) (s : State) →
+MeansTheSame program goal preds q = (v : View) (later : LaterStages) → GoesByCalls (known_of program) later.calls → LaterKeepsRoots later.calls → (d : ℕ) (s : State) →
     told_trace (solution_told q.names) (query_from (whole v later.calls (preds ++ q.helpers)) preds q d s) ≡ told_trace (place_told (answer_names goal)) (names_from v later program goal d (at_state beginning s))
 
 -- the runs of a query are those of a goal over its names
 abbrev pub RunsTheSame : ProgramTree → ExpTree → List PredTree → QueryTree → Type 0
-RunsTheSame program goal preds q = (v : View) (later : LaterStages) → GoesByCalls (known_of program) later.calls → (n : ℕ) (c : Cut Solution) → IsRunUnder (whole v later.calls (preds ++ q.helpers)) preds q n c →
+RunsTheSame program goal preds q = (v : View) (later : LaterStages) → GoesByCalls (known_of program) later.calls → LaterKeepsRoots later.calls → (n : ℕ) (c : Cut Solution) → IsRunUnder (whole v later.calls (preds ++ q.helpers)) preds q n c →
     IsNamesRun v later program goal n (told_cut (solution_told q.names) c)
 
 -- a query that keeps the meaning of a goal that is asked of a program, and names slots that it has

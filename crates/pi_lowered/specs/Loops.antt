@@ -3,13 +3,13 @@
 use Rattle.std.specs.Prelude.{ℕ, zero, suc, ◌+◌, Bool, true, false, List, [], ◌∷◌, ◌++◌, length, map, None, codes}
 use Rattle.pi_terms.specs.Tree.{Tree}
 use Rattle.pi_terms.specs.PatternTree.{slot, PatternTrees, no_patterns, pattern}
-use Rattle.pi_effects.specs.Indexing.{index_name}
+use Rattle.pi_effects.specs.Inner.{itself_name, in_order_name}
 use Rattle.pi_syntax.specs.ExpTree.{var, array, ExpTrees, no_exps, exp}
 use Rattle.pi_core.specs.GoalTree.{GoalTree}
 use Rattle.pi_core.specs.CoreTree.{ClauseTree, PredTree}
 use Rattle.pi_names.specs.Texts.{Names}
 use Rattle.pi_lowered.specs.Slots.{SlotNames, with_value, slot_for}
-use Rattle.pi_lowered.specs.Values.{SlotValue, slot_term, filled_before, first_item}
+use Rattle.pi_lowered.specs.Values.{SlotValue, slot_term, filled_before}
 use Rattle.pi_lowered.specs.Goals.{SlotGoals, in_turn}
 
 -- ---- slots
@@ -42,9 +42,9 @@ pub data Ending : Type 0 where
 -- a variable in one slot is unified with the value in another; `next` is the first slot that is free
 abbrev pub ended : Ending → ℕ → ℕ → ℕ → List GoalTree
 ended as_it_is variable value next = GoalTree.call (codes "=") (Tree.var variable ∷ Tree.var value ∷ []) ∷ []
-ended (in_order false) variable value next = GoalTree.apply (codes "reverse") (Tree.var value ∷ []) next ∷ GoalTree.call (codes "=") (Tree.var variable ∷ Tree.var next ∷ []) ∷ []
+ended (in_order false) variable value next = GoalTree.apply in_order_name (Tree.var value ∷ []) next ∷ GoalTree.call (codes "=") (Tree.var variable ∷ Tree.var next ∷ []) ∷ []
 ended (in_order true) variable value next =
-    GoalTree.apply (codes "reverse") (Tree.var value ∷ []) next ∷ GoalTree.apply (codes "to_array") (Tree.var next ∷ []) (suc next)
+    GoalTree.apply in_order_name (Tree.var value ∷ []) next ∷ GoalTree.apply (codes "to_array") (Tree.var next ∷ []) (suc next)
     ∷ GoalTree.call (codes "=") (Tree.var variable ∷ Tree.var (suc next) ∷ []) ∷ []
 
 -- The loop's variables, from slot k on, are unified with what the names have, one after the other.
@@ -104,6 +104,16 @@ do_turn l turn test =
 abbrev pub do_helper : Loop → (SlotNames → SlotGoals) → (SlotNames → SlotGoals) → PredTree
 do_helper l body test = do_turn l (body (loop_slots l)) test
 
+-- One turn, without a Tick: of a loop that begins with a test.
+abbrev pub only_turn : Loop → SlotGoals → PredTree
+only_turn l turn =
+    let ns : SlotNames = loop_slots l in
+    helper l.name (length ns)
+    (clause_of (slots_head 0 (length ns)) (in_turn (turn.goals ++ closing l.ending l.kept (length l.shared) (length turn.names) ns)) (closing_slots l.kept (length turn.names)) ∷ [])
+
+abbrev pub only_turn_helper : Loop → (SlotNames → SlotGoals) → PredTree
+only_turn_helper l body = only_turn l (body (loop_slots l))
+
 -- ---- where the loop stands
 
 -- names as they are written
@@ -118,7 +128,7 @@ started h before ns = filled_before h (length ns) (slot_term (array (as_written 
 -- behind the loop the names that it keeps stand for their variables
 unfoldable pub kept_goals : Names → ℕ → SlotNames → List GoalTree
 kept_goals [] k ns = []
-kept_goals (name ∷ names) k ns = GoalTree.apply index_name (first_item (Tree.var k)) (slot_for name ns) ∷ kept_goals names (suc k) ns
+kept_goals (name ∷ names) k ns = GoalTree.apply itself_name (Tree.var k ∷ []) (slot_for name ns) ∷ kept_goals names (suc k) ns
 
 -- the helper is called, with these in front of what is handed on
 abbrev pub entered : Loop → List GoalTree → List Tree → SlotNames → SlotGoals
@@ -127,6 +137,6 @@ entered l goals first ns = record {
   names = with_values l.kept ns;
 }
 
--- a `while` or a `do`
+-- a `while`, a `do`, or a loop that begins with a test
 abbrev pub loop_goals : ℕ → Names → Loop → SlotNames → SlotGoals
 loop_goals h before l ns = entered l (started h before ns).goals [] (started h before ns).names
