@@ -16,6 +16,8 @@ use std::alloc::{AllocError, Global};
 pub enum Kind {
     /// A choice: the rules of a call from this one on, by the numbers of its predicate and of the rule.
     Rules(u32, u32),
+    /// A choice: the facts that a call may still unify with, from this one on, by the numbers of its predicate and of the fact.
+    Facts(u32, u32),
     /// A choice: so many branches from a place on.
     Branches(u32, u32),
     /// A level whose goal is run for its first answer, or for all of them.

@@ -64,7 +64,7 @@ rules-wider all v w c d pred at (k ∷ ks) adds (first, rest) =
     ((first.0, adds.rules at first.0 first.1, rule-wider all v w c d pred k first.0 adds first.2), rules-wider all v w c d pred (suc at) ks adds rest)
 
 pub predicate-wider : {M : Type 0} (all : List CorePred) (v w : StoreView M) (c d : Code) (pred : PredTree) (p : Predicate) → Adds v w c d → IsPredicateLaid all (tables_for all v.now.terms c) v.names c pred p → IsPredicateLaid all (tables_for all w.now.terms d) w.names d pred p
-predicate-wider all v w c d pred p adds is = record { arity = is.arity; quiet = is.quiet; rules = is.rules; each = rules-wider all v w c d pred p.first pred.clauses adds is.each }
+predicate-wider all v w c d pred p adds is = record { arity = is.arity; quiet = is.quiet; facts = is.facts; rules = is.rules; each = rules-wider all v w c d pred p.first pred.clauses adds is.each }
 
 pub predicates-wider : {M : Type 0} (all : List CorePred) (v w : StoreView M) (c d : Code) (at : ℕ) (ps : List PredTree) → Adds v w c d → PredicatesAt all (tables_for all v.now.terms c) v.names c at ps → PredicatesAt all (tables_for all w.now.terms d) w.names d at ps
 unfolding PredicatesAt

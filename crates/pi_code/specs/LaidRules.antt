@@ -1,6 +1,6 @@
 -- Rules and predicates laid out in tables that only grow.
 use Rattle.pi_terms.specs.PatternTree.{PatternTree, slot, exact_int, exact_atom, PatternTrees, no_patterns, pattern}
-use Rattle.std.specs.Prelude.{◌≡◌, ◌≢◌, ℕ, suc, ◌+◌, Bool, false, List, [], ◌∷◌, Option, Some, None, length, map, is_none, slice_get, AllPairs, ⊤}
+use Rattle.std.specs.Prelude.{◌≡◌, ◌≢◌, ℕ, suc, ◌+◌, Bool, false, List, [], ◌∷◌, Option, Some, None, length, map, is_none, is_some, slice_get, AllPairs, ⊤}
 use Rattle.pi_terms.specs.Tree.{Tree}
 use Rattle.pi_states.specs.Store.{StoreView}
 use Rattle.pi_core.specs.GoalTree.{GoalTree, truth, nodes}
@@ -71,6 +71,7 @@ RulesAt preds t names code pred at (c ∷ cs) =
 pub record IsPredicateLaid (preds : List CorePred) (t : Tables) (names : List (List ℕ)) (code : Code) (pred : PredTree) (p : Predicate) : Type 0 where
   pub arity : p.arity ≡ pred.arity
   pub quiet : p.is_quiet ≡ pred.quiet
+  pub facts : p.is_facts ≡ is_some pred.index
   pub rules : p.end ≡ p.first + length pred.clauses
   pub each : RulesAt preds t names code pred p.first pred.clauses
 

@@ -118,6 +118,8 @@ pub struct Predicate {
     pub end: u32,
     /// Its calls count no Tick.
     pub is_quiet: bool,
+    /// Its clauses are facts.
+    pub is_facts: bool,
 }
 
 /// A program and a goal in flat tables, with each call resolved. The patterns of heads stay where they are in the
@@ -215,6 +217,7 @@ impl Code<'_> {
                 first: 0,
                 end: 0,
                 is_quiet: false,
+                is_facts: false,
             },
         }
     }

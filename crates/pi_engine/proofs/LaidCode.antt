@@ -104,6 +104,7 @@ predicate-stands all terms names code pred p laid sound calls =
     record {
       arity = laid.arity;
       quiet = laid.quiet;
+      facts = laid.facts;
       rules = laid.rules;
       each = λ i c at.
           (let got : (r : Rule) × (slice_get code.rules.items (p.first + i) ≡ Some r) × IsRuleLaid all (tables_for all terms code) names code.steps.items code.tests.items pred c r =

@@ -14,7 +14,7 @@ use Rattle.pi_states.specs.Evaluation.{EvaluatedAll, evaluated_all}
 use Rattle.pi_meaning.specs.Names.{is_later_predicate, is_later_function, is_resource, is_call, is_given}
 use Rattle.pi_named_goals.proofs.NamesApart.{predicate-no_call}
 use Rattle.pi_machine.specs.Configuration.{Frame, Entry, config, behind, returning}
-use Rattle.pi_machine.specs.Step.{silently, deeper, first_now, done_now, given_now, call_step, predicate_step, function_step, later_step, effect_step, name_step, later_value, other_value, value_step, try_rules, goal_step, back_to}
+use Rattle.pi_machine.specs.Step.{silently, deeper, first_now, done_now, given_now, call_step, predicate_step, function_step, later_step, effect_step, name_step, later_value, other_value, value_step, try_clauses, goal_step, back_to}
 
 none-listed : {A : Type 0} (o : Option A) (listed : Bool) → is_some o ≡ listed → listed ≡ false → o ≡ None
 none-listed None listed is none = refl
@@ -38,7 +38,7 @@ neither false b h = (refl, h)
 pub call-comes-to : (v : View) (preds : List PredTree) (name : List ℕ) (args : List Tree) (pred : PredTree) (gs : GoalTrees) (e : Places) (s : State) (k : List Frame) (es : List Entry) →
     let all : EvaluatedAll = evaluated_all (trees_of args) e s in
     is_given false name (tree_count all.trees) ≡ false → find_pred false name (tree_count all.trees) preds ≡ Some pred →
-    goal_step v preds (call name args) gs e s k es ≡ call_step pred.quiet (try_rules (record { function = false; args = all.trees }) pred.clauses (back_to [] all.state (returning all.slots (behind gs k))) es)
+    goal_step v preds (call name args) gs e s k es ≡ call_step pred.quiet (try_clauses pred.index pred.clauses all.trees (back_to [] all.state (returning all.slots (behind gs k))) es)
 unfolding goal_step
 call-comes-to v preds name args pred gs e s k es none found =
     let all : EvaluatedAll = evaluated_all (trees_of args) e s in

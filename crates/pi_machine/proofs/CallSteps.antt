@@ -1,9 +1,10 @@
 -- Lemmas on steps that take from the depth: a goal `Tick`, and calls of the program's predicates and functions.
 use Rattle.std.proofs.Common.{◌≡◌, ℕ, suc, ◌+◌, List, [], ◌∷◌, length, refl, ap, sym, subst, ◌∙◌}
-use Rattle.std.specs.Prelude.{Bool, true, false, Option, Some, None, codes, slice_set}
+use Rattle.std.specs.Prelude.{Bool, true, false, cond, Option, Some, None, codes, slice_set}
+use Rattle.std.specs.List.{list_any}
 use Rattle.pi_terms.specs.Tree.{Tree, Trees, comp, trees_of, tree_count}
 use Rattle.pi_terms.specs.Places.{Places, held}
-use Rattle.pi_states.specs.State.{State}
+use Rattle.pi_states.specs.State.{State, bindings}
 use Rattle.pi_core.specs.GoalTree.{tick, call, apply, GoalTrees, goal}
 use Rattle.pi_core.specs.CoreTree.{ClauseTree, PredTree, find_pred, leaves_others}
 use Rattle.pi_traces.specs.Trace.{Trace, end, note, Done, Raise, Tick, done, one, alt, then}
@@ -17,28 +18,31 @@ use Rattle.pi_states.specs.Evaluation.{Evaluated, evaluated, EvaluatedAll, evalu
 use Rattle.pi_meaning.specs.Raise.{raised_with}
 use Rattle.pi_meaning.specs.Level.{Level, Applied, Point, LevelBelow, PointBelow, same_but_level, calls_at, or_called, or_applied}
 use Rattle.pi_meaning.specs.Meaning.{Action, strictly, draining, ticking, calling, applying, meaning}
+use Rattle.pi_meaning.specs.Facts.{facts, fits_modes}
 use Rattle.pi_meaning.specs.Rules.{rules, body_run, pred_run, value_at, value_run, function_run, entered, call_run, application_run, calls_of, quiet_level, level_at}
 use Rattle.pi_meaning.specs.Run.{Solution, answered_with}
 use Rattle.pi_meaning.specs.Calls.{function_given}
 use Rattle.pi_core.specs.declared.core_program.NameSlot.{NameSlot}
+use Rattle.pi_syntax.specs.declared.program.Mode.{Mode}
 use Rattle.pi_traces.proofs.TraceLemmas.{then-assoc, alt-done}
 use Rattle.pi_meaning.proofs.LevelLemmas.{level-itself}
 use Rattle.pi_meaning.proofs.RuleLemmas.{level-below, quiet-deeper}
 use Rattle.pi_meaning.proofs.MeaningLemmas.{meaning-below, strict-below}
 use Rattle.pi_meaning.proofs.CallLemmas.{no-later-adds, whole-adds}
-use Rattle.pi_traces.proofs.RelatedLemmas.{Same, same, by-alt, by-then, by-chosen}
-use Rattle.pi_machine.specs.Configuration.{Frame, give, Back, Called, Strict, value_level, Entry, strict, going, config, behind, returning}
-use Rattle.pi_machine.specs.Remaining.{point, valued, continued, run_from, body_of, rules_trace, level_trace, around, now_trace, remaining_at}
-use Rattle.pi_machine.specs.Step.{back_to, unresolved, try_rules, call_step}
+use Rattle.pi_traces.proofs.RelatedLemmas.{Same, same, by-same, by-alt, by-then, by-chosen}
+use Rattle.pi_machine.specs.Configuration.{Frame, give, Back, Called, Strict, value_level, Entry, strict, going, failed, config, behind, returning}
+use Rattle.pi_machine.specs.Remaining.{point, valued, continued, run_from, body_of, rules_trace, facts_trace, level_trace, around, now_trace, remaining_at}
+use Rattle.pi_machine.specs.Step.{back_to, unresolved, try_rules, try_facts, try_clauses, call_step}
 use Rattle.pi_machine.specs.StepLaws.{Comes}
 use Rattle.pi_machine.proofs.EndSteps.{unresolved-raise}
 use Rattle.pi_machine.specs.Shape.{IsBalanced}
-use Rattle.pi_machine.specs.Built.{IsOfRules}
+use Rattle.pi_machine.specs.Built.{WithoutEvents, IsOfRules}
 use Rattle.pi_machine.proofs.RuleForms.{then-same, chosen-followed, chosen-renamed, rules-followed, rules-same, RulesDoSame, rules-run}
 use Rattle.pi_machine.proofs.StackLemmas.{note-passes}
 use Rattle.pi_machine.proofs.RunLemmas.{calls-are, returning-continued, behind-continued}
-use Rattle.pi_machine.proofs.GoalSteps.{goal-does, one-goes_on, rules-tried}
-use Rattle.pi_machine.proofs.HigherLemmas.{Under, points-same, rules-by, continued-under, stack-under, told-below}
+use Rattle.pi_machine.proofs.GoalSteps.{Is, goal-does, one-goes_on, rules-tried}
+use Rattle.pi_machine.proofs.FactSteps.{facts-tried}
+use Rattle.pi_machine.proofs.HigherLemmas.{Under, points-same, rules-by, states-under, continued-under, stack-under, told-below}
 
 -- What runs at a depth goes under what ran before it, behind a Tick: so does what remains.
 pub tick-leads : (given : Builtins) (adds : BuiltinsOnlyAdd given) (l m : Level) → LevelBelow l m → (names : List NameSlot) (es : List Entry) → IsBalanced 0 es → (t u w : Trace Point) →
@@ -80,32 +84,28 @@ tick-comes given adds preds names d gs e s k es b =
 
 -- what a call of a predicate does that is found: one that is counted, and a quiet one
 called-counted : (given : Builtins) (preds : List PredTree) (d : ℕ) (name : List ℕ) (ts : Trees) (s : State) (pred : PredTree) →
-    find_pred false name (tree_count ts) preds ≡ Some pred → IsOfRules pred → pred.quiet ≡ false →
-    (calls_at (level_at given preds (suc d))).called name ts s ≡ note Tick (rules given (level_at given preds d) (λ c. leaves_others false c) (λ i c p. body_run given c p) 0 pred.clauses ts s)
-unfolding level_at quiet_level calls_of pred_run
-called-counted given preds d name ts s pred f h counted =
+    find_pred false name (tree_count ts) preds ≡ Some pred → pred.quiet ≡ false →
+    (calls_at (level_at given preds (suc d))).called name ts s ≡ note Tick (pred_run given (level_at given preds d) pred pred.index ts s)
+unfolding level_at quiet_level calls_of
+called-counted given preds d name ts s pred f counted =
     let below : Option Level = Some (level_at given preds d) in
     let inner : Option Level = Some (quiet_level given preds below (length preds + d)) in
     ap (λ o. call_run given inner below o ts s) f
-    ∙ (ap (λ q. entered q inner below (λ l. pred_run given l pred pred.index ts s)) counted
-    ∙ (ap (λ i. note Tick (pred_run given (level_at given preds d) pred i ts s)) h.rules
-    ∙ ap (note Tick) (rules-run given (level_at given preds d) (λ c. leaves_others false c) (comp pred.name ts) pred.clauses ts s h.without_events)))
+    ∙ ap (λ q. entered q inner below (λ l. pred_run given l pred pred.index ts s)) counted
 
 -- the level of a quiet call
 abbrev pub inner_level : Builtins → List PredTree → ℕ → Level
 inner_level given preds d = quiet_level given preds (Some (level_at given preds d)) (length preds + d)
 
 called-quiet : (given : Builtins) (preds : List PredTree) (d : ℕ) (name : List ℕ) (ts : Trees) (s : State) (pred : PredTree) →
-    find_pred false name (tree_count ts) preds ≡ Some pred → IsOfRules pred → pred.quiet ≡ true →
-    (calls_at (level_at given preds (suc d))).called name ts s ≡ rules given (inner_level given preds d) (λ c. leaves_others false c) (λ i c p. body_run given c p) 0 pred.clauses ts s
-unfolding level_at quiet_level calls_of pred_run
-called-quiet given preds d name ts s pred f h quiet =
+    find_pred false name (tree_count ts) preds ≡ Some pred → pred.quiet ≡ true →
+    (calls_at (level_at given preds (suc d))).called name ts s ≡ pred_run given (inner_level given preds d) pred pred.index ts s
+unfolding level_at quiet_level calls_of
+called-quiet given preds d name ts s pred f quiet =
     let below : Option Level = Some (level_at given preds d) in
     let inner : Option Level = Some (quiet_level given preds below (length preds + d)) in
     ap (λ o. call_run given inner below o ts s) f
-    ∙ (ap (λ q. entered q inner below (λ l. pred_run given l pred pred.index ts s)) quiet
-    ∙ (ap (λ i. pred_run given (quiet_level given preds below (length preds + d)) pred i ts s) h.rules
-    ∙ rules-run given (quiet_level given preds below (length preds + d)) (λ c. leaves_others false c) (comp pred.name ts) pred.clauses ts s h.without_events))
+    ∙ ap (λ q. entered q inner below (λ l. pred_run given l pred pred.index ts s)) quiet
 
 body-returns : (given : Builtins) (l : Level) (e : Places) (k : List Frame) (c : ClauseTree) (p : Point) →
     then (body_run given c p) (λ r. continued given l k (point l e r)) ≡ then (meaning given c.body p) (continued given l (returning e k))
@@ -145,10 +145,10 @@ body-run-under given adds l m h e k c p q r =
     (λ s. continued-under given adds l m h k (point l e s) (point m e s) (same_but_level h e s)))
 
 -- the rules of a call under those at a higher level, with the return at another one
-predicate-under : (given : Builtins) (adds : BuiltinsOnlyAdd given) (l n m : Level) → LevelBelow l n → LevelBelow l m → (e : Places) (k : List Frame) (ts : Trees) (s : State) (cs : List ClauseTree) →
+rules-return-under : (given : Builtins) (adds : BuiltinsOnlyAdd given) (l n m : Level) → LevelBelow l n → LevelBelow l m → (e : Places) (k : List Frame) (ts : Trees) (s : State) (cs : List ClauseTree) →
     Under (rules_trace given l (record { function = false; args = ts }) cs (back_to [] s (returning e k)))
     (then (rules given n (λ c. leaves_others false c) (λ i c p. body_run given c p) 0 cs ts s) (λ r. continued given m k (point m e r)))
-predicate-under given adds l n m a b e k ts s cs =
+rules-return-under given adds l n m a b e k ts s cs =
     let f : State → Trace Point = λ r. continued given l k (point l e r) in
     let g : State → Trace Point = λ r. continued given m k (point m e r) in
     subst (λ t. Under t (then (rules given n (λ c. leaves_others false c) (λ i c p. body_run given c p) 0 cs ts s) g)) (rules-return given l e k ts s cs)
@@ -156,6 +156,52 @@ predicate-under given adds l n m a b e k ts s cs =
     (subst (λ t. Under (rules given l (λ c. leaves_others false c) (λ i c p. then (body_run given c p) f) 0 cs ts s) t) (sym (rules-followed given n (λ c. leaves_others false c) (λ i c p. body_run given c p) 0 cs ts s g))
     (rules-by PointBelow given adds l n a (λ c. leaves_others false c) (λ i c p. then (body_run given c p) f) (λ i c p. then (body_run given c p) g)
     (λ i c p q r. body-run-under given adds l m b e k c p q r) 0 cs ts s)))
+
+-- facts are the same at each level, and so is the return from them but for its own
+facts-return-under : (given : Builtins) (adds : BuiltinsOnlyAdd given) (l m : Level) → LevelBelow l m → (e : Places) (k : List Frame) (ts : Trees) (s : State) (cs : List ClauseTree) →
+    Under (facts_trace given l ts cs (back_to [] s (returning e k))) (then (facts cs ts s) (λ r. continued given m k (point m e r)))
+unfolding facts_trace
+facts-return-under given adds l m h e k ts s cs =
+    let f : State → Trace Point = λ r. continued given l (returning e k) (point l [] r) in
+    let g : State → Trace Point = λ r. continued given m k (point m e r) in
+    by-then Same PointBelow (facts cs ts s) (facts cs ts s) f g (by-same (facts cs ts s))
+    (states-under f g (λ r. subst (λ t. Under t (g r)) (sym (returning-continued given l e k (point l [] r)))
+    (continued-under given adds l m h k (point l e r) (point m e r) (same_but_level h e r))))
+
+-- the clauses of a predicate, as they wait for a call to go on
+unfoldable clauses_trace : Option (List (List Mode)) → Builtins → Level → List ClauseTree → Trees → Back → Trace Point
+clauses_trace None given l cs ts b = rules_trace given l (record { function = false; args = ts }) cs b
+clauses_trace (Some lists) given l cs ts b = cond (list_any (λ modes. fits_modes (bindings b.state) modes ts) lists) (facts_trace given l ts cs b) done
+
+fitting-tried : (given : Builtins) (l : Level) (fits : Bool) (ts : Trees) (cs : List ClauseTree) (b : Back) (es : List Entry) →
+    Is given l es (cond fits (facts_trace given l ts cs b) done) (cond fits (try_facts ts cs b es) (config failed es))
+unfolding now_trace
+fitting-tried given l true ts cs b es = facts-tried given l ts cs b es
+fitting-tried given l false ts cs b es = refl
+
+clauses-tried : (index : Option (List (List Mode))) (given : Builtins) (l : Level) (cs : List ClauseTree) (ts : Trees) (b : Back) (es : List Entry) →
+    Is given l es (clauses_trace index given l cs ts b) (try_clauses index cs ts b es)
+unfolding clauses_trace try_clauses
+clauses-tried None given l cs ts b es = rules-tried given l (record { function = false; args = ts }) cs b es
+clauses-tried (Some lists) given l cs ts b es = fitting-tried given l (list_any (λ modes. fits_modes (bindings b.state) modes ts) lists) ts cs b es
+
+fitting-under : (given : Builtins) (adds : BuiltinsOnlyAdd given) (l m : Level) → LevelBelow l m → (fits : Bool) (e : Places) (k : List Frame) (ts : Trees) (s : State) (cs : List ClauseTree) →
+    Under (cond fits (facts_trace given l ts cs (back_to [] s (returning e k))) done) (then (cond fits (facts cs ts s) done) (λ r. continued given m k (point m e r)))
+unfolding then
+fitting-under given adds l m h true e k ts s cs = facts-return-under given adds l m h e k ts s cs
+fitting-under given adds l m h false e k ts s cs = end_by Done
+
+-- the clauses of a call under those at a higher level, with the return at another one
+predicate-under : (given : Builtins) (adds : BuiltinsOnlyAdd given) (l n m : Level) → LevelBelow l n → LevelBelow l m → (e : Places) (k : List Frame) (ts : Trees) (s : State) (pred : PredTree) →
+    WithoutEvents pred.clauses → (index : Option (List (List Mode))) →
+    Under (clauses_trace index given l pred.clauses ts (back_to [] s (returning e k))) (then (pred_run given n pred index ts s) (λ r. continued given m k (point m e r)))
+unfolding clauses_trace pred_run
+predicate-under given adds l n m a b e k ts s pred h None =
+    subst (λ t. Under (rules_trace given l (record { function = false; args = ts }) pred.clauses (back_to [] s (returning e k))) (then t (λ r. continued given m k (point m e r))))
+    (sym (rules-run given n (λ c. leaves_others false c) (comp pred.name ts) pred.clauses ts s h))
+    (rules-return-under given adds l n m a b e k ts s pred.clauses)
+predicate-under given adds l n m a b e k ts s pred h (Some lists) =
+    fitting-under given adds l m b (list_any (λ modes. fits_modes (bindings s) modes ts) lists) e k ts s pred.clauses
 
 -- a goal by its name, and what is behind it
 pub name-ran : (given : Builtins) (preds : List PredTree) (d : ℕ) (name : List ℕ) (args : List Tree) (gs : GoalTrees) (e : Places) (s : State) (k : List Frame) →
@@ -192,41 +238,39 @@ pub predicate-comes : (v : View) (preds : List PredTree) (names : List NameSlot)
     (es : List Entry) (pred : PredTree) → IsBalanced 0 es →
     let all : EvaluatedAll = evaluated_all (trees_of args) e s in
     ((l : Level) → (whole v no_later preds).predicate l name all.trees all.state ≡ None) → find_pred false name (tree_count all.trees) preds ≡ Some pred → IsOfRules pred →
-    let called : Called = record { function = false; args = all.trees } in
     let b : Back = back_to [] all.state (returning all.slots (behind gs k)) in
-    (quiet : Bool) → pred.quiet ≡ quiet → Comes v preds names (config (going (goal (call name args) gs) e s k) es) (call_step quiet (try_rules called pred.clauses b es))
+    (quiet : Bool) → pred.quiet ≡ quiet → Comes v preds names (config (going (goal (call name args) gs) e s k) es) (call_step quiet (try_clauses pred.index pred.clauses all.trees b es))
 unfolding remaining_at now_trace then
 predicate-comes v preds names name args gs e s k es pred balanced none f h false counted = λ d.
     let given : Builtins = whole v no_later preds in
     let adds : BuiltinsOnlyAdd given = whole-adds v no_later preds no-later-adds in
     let all : EvaluatedAll = evaluated_all (trees_of args) e s in
-    let called : Called = record { function = false; args = all.trees } in
     let b : Back = back_to [] all.state (returning all.slots (behind gs k)) in
     let l : Level = level_at given preds d in
     let m : Level = level_at given preds (suc d) in
-    let bodies : Trace State = rules given l (λ c. leaves_others false c) (λ i c p. body_run given c p) 0 pred.clauses all.trees all.state in
+    let bodies : Trace State = pred_run given l pred pred.index all.trees all.state in
     let onward : State → Trace Point = λ r. continued given m (behind gs k) (point m all.slots r) in
     subst (λ t. Below (note Tick (then t (answered_with names))) (Told given m names es (run_from given m (goal (call name args) gs) e s k)))
-    (rules-tried given l called pred.clauses b es)
-    (tick-leads given adds l m (level-below given adds preds d) names es balanced (rules_trace given l called pred.clauses b) (then bodies onward) (run_from given m (goal (call name args) gs) e s k)
-    (predicate-ran given preds d name args gs e s k (note Tick bodies) (none m) (called-counted given preds d name all.trees all.state pred f h counted))
-    (predicate-under given adds l l m (level-itself l) (level-below given adds preds d) all.slots (behind gs k) all.trees all.state pred.clauses))
+    (clauses-tried pred.index given l pred.clauses all.trees b es)
+    (tick-leads given adds l m (level-below given adds preds d) names es balanced (clauses_trace pred.index given l pred.clauses all.trees b) (then bodies onward) (run_from given m (goal (call name args) gs) e s k)
+    (predicate-ran given preds d name args gs e s k (note Tick bodies) (none m) (called-counted given preds d name all.trees all.state pred f counted))
+    (predicate-under given adds l l m (level-itself l) (level-below given adds preds d) all.slots (behind gs k) all.trees all.state pred h.without_events pred.index))
 predicate-comes v preds names name args gs e s k es pred balanced none f h true quiet = λ d.
     let given : Builtins = whole v no_later preds in
     let adds : BuiltinsOnlyAdd given = whole-adds v no_later preds no-later-adds in
     let all : EvaluatedAll = evaluated_all (trees_of args) e s in
-    let called : Called = record { function = false; args = all.trees } in
     let b : Back = back_to [] all.state (returning all.slots (behind gs k)) in
     let l : Level = level_at given preds d in
     let n : Level = inner_level given preds d in
     let m : Level = level_at given preds (suc d) in
-    let bodies : Trace State = rules given n (λ c. leaves_others false c) (λ i c p. body_run given c p) 0 pred.clauses all.trees all.state in
+    let bodies : Trace State = pred_run given n pred pred.index all.trees all.state in
+    let waiting : Trace Point = clauses_trace pred.index given l pred.clauses all.trees b in
     subst (λ t. Below (then t (answered_with names)) (Told given m names es (run_from given m (goal (call name args) gs) e s k)))
-    (rules-tried given l called pred.clauses b es)
-    (quiet-leads given adds l m (level-below given adds preds d) names es (rules_trace given l called pred.clauses b) (run_from given m (goal (call name args) gs) e s k)
-    (subst (λ t. Under (rules_trace given l called pred.clauses b) t)
-    (sym (predicate-ran given preds d name args gs e s k bodies (none m) (called-quiet given preds d name all.trees all.state pred f h quiet)))
-    (predicate-under given adds l n m (quiet-deeper given adds preds d) (level-below given adds preds d) all.slots (behind gs k) all.trees all.state pred.clauses)))
+    (clauses-tried pred.index given l pred.clauses all.trees b es)
+    (quiet-leads given adds l m (level-below given adds preds d) names es waiting (run_from given m (goal (call name args) gs) e s k)
+    (subst (λ t. Under waiting t)
+    (sym (predicate-ran given preds d name args gs e s k bodies (none m) (called-quiet given preds d name all.trees all.state pred f quiet)))
+    (predicate-under given adds l n m (quiet-deeper given adds preds d) (level-below given adds preds d) all.slots (behind gs k) all.trees all.state pred h.without_events pred.index)))
 
 -- ---- functions
 

@@ -18,13 +18,14 @@ use Rattle.pi_meaning.specs.Meaning.{with_slot, with_list, meaning}
 use Rattle.pi_meaning.specs.Handling.{handled_in}
 use Rattle.pi_terms.specs.ListCopies.{list_of_copies, new_in_all}
 use Rattle.pi_traces.proofs.TraceLemmas.{alt-done}
-use Rattle.pi_machine.specs.Configuration.{Back, Choice, rules_left, branches_left, Strict, once_level, not_level, if_level, guard_level, value_level, list_level, number_level, Entry, choice, strict, catch_level, left, failed, raising, config}
+use Rattle.pi_machine.specs.Configuration.{Back, Choice, rules_left, facts_left, branches_left, Strict, once_level, not_level, if_level, guard_level, value_level, list_level, number_level, Entry, choice, strict, catch_level, left, failed, raising, config}
 use Rattle.pi_machine.specs.Remaining.{point, continued, start_of, choice_trace, level_trace, catch_trace, around, now_trace}
 use Rattle.pi_machine.specs.Step.{unresolved, choice_step, end_step, handler_step, Open, none_open, strict_open, catch_open, beneath, newest_open, below_left}
 use Rattle.pi_machine.specs.Shape.{IsBalanced}
 use Rattle.pi_machine.proofs.StackLemmas.{IsClosed, Reach, reach, exit-passes}
 use Rattle.pi_machine.proofs.RunLemmas.{goal-alone}
 use Rattle.pi_machine.proofs.GoalSteps.{Is, branch-is, rules-tried}
+use Rattle.pi_machine.proofs.FactSteps.{facts-tried}
 use Rattle.pi_machine.proofs.AnswerSteps.{goes-on, append-none}
 
 -- ---- no further answer
@@ -32,6 +33,7 @@ use Rattle.pi_machine.proofs.AnswerSteps.{goes-on, append-none}
 pub choice-ends : (given : Builtins) (l : Level) (c : Choice) (b : Back) (es : List Entry) → Is given l (choice c b ∷ es) done (choice_step c b es)
 unfolding around choice_trace alt
 choice-ends given l (rules_left called cs) b es = rules-tried given l called cs b es
+choice-ends given l (facts_left ts cs) b es = facts-tried given l ts cs b es
 choice-ends given l (branches_left gs) b es = branch-is given l gs b es
 
 -- a function call without an answer

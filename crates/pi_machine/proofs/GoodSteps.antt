@@ -1,7 +1,8 @@
 -- Each step leaves a stack in which each mark of a `catch` that was left has its `catch`.
 use Rattle.std.proofs.Common.{ℕ, zero, suc, List, [], ◌∷◌, ◌++◌, subst}
-use Rattle.std.specs.Prelude.{Bool, true, false, Option, Some, None, replicate}
-use Rattle.pi_terms.specs.Tree.{Tree, tree_count, trees_of}
+use Rattle.std.specs.Prelude.{Bool, true, false, Option, Some, None, cond, replicate}
+use Rattle.std.specs.List.{list_any}
+use Rattle.pi_terms.specs.Tree.{Tree, Trees, tree_count, trees_of}
 use Rattle.pi_terms.specs.Places.{Places}
 use Rattle.pi_states.specs.State.{State, bindings}
 use Rattle.pi_core.specs.GoalTree.{GoalTree, truth, fail, tick, call, apply, seq, alternatives, if_else, not, once, collect, count, catch, GoalTrees, no_goals, goal}
@@ -10,10 +11,12 @@ use Rattle.pi_meaning.specs.View.{View}
 use Rattle.pi_meaning.specs.Names.{is_later_predicate, is_later_function, is_resource, is_call}
 use Rattle.pi_states.specs.Evaluation.{EvaluatedAll, evaluated_all}
 use Rattle.pi_states.specs.HeadMatch.{matched_all_in}
+use Rattle.pi_meaning.specs.Facts.{fits_modes}
 use Rattle.pi_meaning.specs.Run.{Solution}
+use Rattle.pi_syntax.specs.declared.program.Mode.{Mode}
 use Rattle.pi_core.specs.declared.core_program.NameSlot.{NameSlot}
-use Rattle.pi_machine.specs.Configuration.{Frame, more, return, give, Back, Called, Choice, rules_left, branches_left, Strict, once_level, not_level, if_level, guard_level, value_level, list_level, number_level, Entry, choice, strict, catch_level, left, Now, going, failed, raising, Config, behind, telling}
-use Rattle.pi_machine.specs.Step.{back_to, branch, guarding, tried, try_rules, later_rules, call_step, predicate_step, effect_step, function_step, value_step, goal_step, frame_step, Open, none_open, strict_open, catch_open, newest_open, strict_step, leave, fits, told_step, answer_step, choice_step, end_step, fail_step, below_left, raise_step, now_step, step, later_step, name_step, later_value, other_value}
+use Rattle.pi_machine.specs.Configuration.{Frame, more, return, give, Back, Called, Choice, rules_left, facts_left, branches_left, Strict, once_level, not_level, if_level, guard_level, value_level, list_level, number_level, Entry, choice, strict, catch_level, left, Now, going, failed, raising, Config, config, behind, telling}
+use Rattle.pi_machine.specs.Step.{back_to, branch, guarding, tried, try_rules, with_fact, from_unifying, later_facts, fact_tried, try_facts, try_clauses, later_rules, call_step, predicate_step, effect_step, function_step, value_step, goal_step, frame_step, Open, none_open, strict_open, catch_open, newest_open, strict_step, leave, fits, told_step, answer_step, choice_step, end_step, fail_step, below_left, raise_step, now_step, step, later_step, name_step, later_value, other_value}
 use Rattle.pi_machine.specs.Shape.{IsBalanced, IsGood}
 use Rattle.pi_machine.specs.StepLaws.{GoesOnGood}
 use Rattle.pi_machine.proofs.StackLemmas.{IsClosed, IsFound, newest-found}
@@ -85,13 +88,36 @@ rules-keep called [] b es h = h
 rules-keep called (c ∷ cs) b es h =
     tried-keeps called c cs b es (matched_all_in (bindings b.state) c.head called.args (replicate c.slots None)) (try_rules called cs b es) h (rules-keep called cs b es h)
 
+later-facts-keep : (ts : Trees) (cs : List ClauseTree) (b : Back) (es : List Entry) → IsBalanced 0 es → IsBalanced 0 (later_facts ts cs b es)
+unfolding IsBalanced
+later-facts-keep ts [] b es h = h
+later-facts-keep ts (c ∷ cs) b es h = h
+
+fact-keeps : (ts : Trees) (cs : List ClauseTree) (b : Back) (es : List Entry) (o : Option State) (otherwise : Config) → IsBalanced 0 es → Keeps otherwise → Keeps (fact_tried ts cs b es o otherwise)
+fact-keeps ts cs b es None otherwise h k = k
+fact-keeps ts cs b es (Some r) otherwise h k = later-facts-keep ts (from_unifying ts b.state cs) b es h
+
+facts-keep : (ts : Trees) (cs : List ClauseTree) (b : Back) (es : List Entry) → IsBalanced 0 es → Keeps (try_facts ts cs b es)
+unfolding try_facts
+facts-keep ts [] b es h = h
+facts-keep ts (c ∷ cs) b es h = fact-keeps ts cs b es (with_fact ts b.state c) (try_facts ts cs b es) h (facts-keep ts cs b es h)
+
+fitting-keeps : (fits : Bool) (ts : Trees) (cs : List ClauseTree) (b : Back) (es : List Entry) → IsBalanced 0 es → Keeps (cond fits (try_facts ts cs b es) (config failed es))
+fitting-keeps true ts cs b es h = facts-keep ts cs b es h
+fitting-keeps false ts cs b es h = h
+
+clauses-keep : (index : Option (List (List Mode))) (cs : List ClauseTree) (ts : Trees) (b : Back) (es : List Entry) → IsBalanced 0 es → Keeps (try_clauses index cs ts b es)
+unfolding try_clauses
+clauses-keep None cs ts b es h = rules-keep (record { function = false; args = ts }) cs b es h
+clauses-keep (Some lists) cs ts b es h = fitting-keeps (list_any (λ modes. fits_modes (bindings b.state) modes ts) lists) ts cs b es h
+
 call-good : (quiet : Bool) (c : Config) → IsGood c → GoesOnGood (call_step quiet c)
 call-good true c h = h
 call-good false c h = h
 
 predicate-good : (o : Option PredTree) (all : EvaluatedAll) (k : List Frame) (es : List Entry) → IsBalanced 0 es → GoesOnGood (predicate_step o all k es)
 predicate-good None all k es h = record { balanced = h }
-predicate-good (Some pred) all k es h = call-good pred.quiet _ (record { balanced = rules-keep _ _ _ _ h })
+predicate-good (Some pred) all k es h = call-good pred.quiet _ (record { balanced = clauses-keep pred.index pred.clauses all.trees _ _ h })
 
 later-good : (later : Bool) (preds : List PredTree) (name : List ℕ) (all : EvaluatedAll) (k : List Frame) (es : List Entry) → IsBalanced 0 es →
     GoesOnGood (later_step later preds name all k es)
@@ -196,6 +222,7 @@ end-keeps (number_level into n) b es h = h
 
 choice-keeps : (c : Choice) (b : Back) (es : List Entry) → IsBalanced 0 es → Keeps (choice_step c b es)
 choice-keeps (rules_left called cs) b es h = rules-keep called cs b es h
+choice-keeps (facts_left ts cs) b es h = facts-keep ts cs b es h
 choice-keeps (branches_left gs) b es h = branch-keeps gs b es h
 
 -- a mark of a `catch` that was left counts for nothing at the top

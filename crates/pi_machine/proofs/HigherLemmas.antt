@@ -20,16 +20,18 @@ use Rattle.pi_meaning.specs.Raise.{raised_with}
 use Rattle.pi_meaning.specs.Level.{Level, Point, LevelBelow, PointBelow, same_but_level, calls_at}
 use Rattle.pi_meaning.specs.Meaning.{Action, draining, with_slot, slot_value, copyable, with_list, meaning, meaning_of_all, meaning_of_any}
 use Rattle.pi_meaning.specs.Handling.{handled_in, handling}
+use Rattle.pi_meaning.specs.Facts.{facts}
 use Rattle.pi_meaning.specs.Rules.{guarded, chosen_rule, rule_before, rules, value_at}
 use Rattle.pi_meaning.specs.Run.{answered_with}
 use Rattle.pi_core.specs.declared.core_program.NameSlot.{NameSlot}
 use Rattle.pi_traces.proofs.BelowLemmas.{below-refl}
-use Rattle.pi_traces.proofs.RelatedLemmas.{Same, below-by, by-same, by-one, by-alt, by-then, by-then_same, by-first, by-negated, by-chosen, by-collected, by-counted, by-caught}
+use Rattle.pi_traces.proofs.RelatedLemmas.{Same, same, below-by, by-same, by-one, by-alt, by-then, by-then_same, by-first, by-negated, by-chosen, by-collected, by-counted, by-caught}
 use Rattle.pi_meaning.proofs.MeaningLemmas.{calls-below, at-points, all-monotone, any-monotone, meaning-below, strict-below}
-use Rattle.pi_machine.specs.Configuration.{Frame, more, return, give, Back, Called, Choice, rules_left, branches_left, Strict, once_level, not_level, if_level, guard_level, value_level, list_level, number_level, Entry, choice, strict, catch_level, left, Now, going, failed, raising, Config, after_body, telling}
+use Rattle.pi_machine.specs.Configuration.{Frame, more, return, give, Back, Called, Choice, rules_left, facts_left, branches_left, Strict, once_level, not_level, if_level, guard_level, value_level, list_level, number_level, Entry, choice, strict, catch_level, left, Now, going, failed, raising, Config, after_body, telling}
 use Rattle.pi_machine.specs.Step.{unresolved}
 use Rattle.pi_machine.proofs.EndSteps.{unresolved-raise}
-use Rattle.pi_machine.specs.Remaining.{point, valued, continued, run_from, start_of, body_of, rules_trace, choice_trace, level_trace, catch_trace, outside, further, around, now_trace, remaining_at}
+use Rattle.pi_machine.proofs.FactSteps.{behind_fact}
+use Rattle.pi_machine.specs.Remaining.{point, valued, continued, run_from, start_of, body_of, rules_trace, facts_trace, choice_trace, level_trace, catch_trace, outside, further, around, now_trace, remaining_at}
 
 -- the same trace at a higher level, and maybe more
 abbrev pub Under : Trace Point → Trace Point → Type 0
@@ -132,11 +134,18 @@ applies-under given adds l m h called b c t t' rest rest' a r =
     by-chosen PointBelow PointBelow t t' (λ p. chosen_rule (leaves_others called.function c) (body_of given l called b c p) rest) (λ p. chosen_rule (leaves_others called.function c) (body_of given m called b c p) rest') rest rest' a
     (λ p q x. chosen-by PointBelow (leaves_others called.function c) (body_of given l called b c p) (body_of given m called b c q) rest rest' (body-under given adds l m h called b c p q x) r) r
 
+-- what is behind a state at a higher level
+pub states-under : (f g : State → Trace Point) → ((s : State) → Under (f s) (g s)) → (s r : State) → Same s r → Under (f s) (g r)
+states-under f g h _ _ (same s) = h s
+
 -- ---- entries
 
 choice-under : (given : Builtins) (adds : BuiltinsOnlyAdd given) (l m : Level) → LevelBelow l m → (c : Choice) (b : Back) → Under (choice_trace given l c b) (choice_trace given m c b)
-unfolding choice_trace
+unfolding choice_trace facts_trace
 choice-under given adds l m h (rules_left called cs) b = rules-under given adds l m h called cs b
+choice-under given adds l m h (facts_left ts cs) b =
+    by-then Same PointBelow (facts cs ts b.state) (facts cs ts b.state) (behind_fact given l b) (behind_fact given m b) (by-same (facts cs ts b.state))
+    (states-under (behind_fact given l b) (behind_fact given m b) (λ r. continued-under given adds l m h b.frames (point l b.slots r) (point m b.slots r) (same_but_level h b.slots r)))
 choice-under given adds l m h (branches_left gs) b =
     then-under given adds l m h b.frames (meaning_of_any given gs (start_of l b)) (meaning_of_any given gs (start_of m b))
     (at-points (meaning_of_any given gs) (any-monotone given adds gs) (start_of l b) (start_of m b) (same_but_level h b.slots b.state))

@@ -5,6 +5,7 @@ pub mod GoalSteps
 pub mod RuleForms
 pub mod RunLemmas
 pub mod StackLemmas
+pub mod FactSteps
 pub mod CallSteps
 pub mod GoodSteps
 pub mod HigherLemmas

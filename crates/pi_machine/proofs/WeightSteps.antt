@@ -1,7 +1,7 @@
 -- The weight of a configuration falls at each step that counts no Tick: each kind of step.
 use Rattle.std.proofs.Common.{◌≡◌, ℕ, zero, suc, ◌+◌, ◌≤◌, ◌<◌, List, [], ◌∷◌, ◌++◌, length, refl, ap, sym, subst, ◌∙◌, arith}
-use Rattle.std.specs.Prelude.{Bool, true, false, Option, Some, None, cond, codes, nat_lt, replicate}
-use Rattle.pi_terms.specs.Tree.{Tree, atom, cells, tree_count, trees_of, most_cells}
+use Rattle.std.specs.Prelude.{Bool, true, false, Option, Some, None, is_some, cond, codes, nat_lt, replicate}
+use Rattle.pi_terms.specs.Tree.{Tree, Trees, atom, cells, tree_count, trees_of, most_cells}
 use Rattle.pi_terms.specs.Places.{Places}
 use Rattle.pi_states.specs.State.{State, bindings, next}
 use Rattle.pi_terms.specs.Copy.{copy, new_variables}
@@ -15,10 +15,10 @@ use Rattle.pi_states.specs.HeadMatch.{matched_all_in}
 use Rattle.pi_meaning.specs.Meaning.{slot_value}
 use Rattle.pi_meaning.specs.Run.{Solution}
 use Rattle.pi_core.specs.declared.core_program.NameSlot.{NameSlot}
-use Rattle.pi_machine.specs.Configuration.{Frame, more, return, give, Back, Called, Choice, rules_left, branches_left, Strict, once_level, not_level, if_level, guard_level, value_level, list_level, number_level, Entry, choice, strict, catch_level, left, Now, going, failed, raising, Config, config, behind, returning, telling}
-use Rattle.pi_machine.specs.Step.{back_to, branch, taken, guarding, tried, try_rules, later_rules, call_step, predicate_step, effect_step, function_step, goal_step, frame_step, Open, none_open, strict_open, catch_open, newest_open, strict_step, leave, fits, told_step, answer_step, choice_step, end_step, fail_step, handler_step, below_left, raise_step, now_step, step, written_now, done_now, given_now, value_step, later_step, name_step, later_value, other_value, resource_effect, silently}
+use Rattle.pi_machine.specs.Configuration.{Frame, more, return, give, Back, Called, Choice, rules_left, facts_left, branches_left, Strict, once_level, not_level, if_level, guard_level, value_level, list_level, number_level, Entry, choice, strict, catch_level, left, Now, going, failed, raising, Config, config, behind, returning, telling}
+use Rattle.pi_machine.specs.Step.{back_to, branch, taken, guarding, tried, try_rules, with_fact, from_unifying, later_facts, fact_tried, try_facts, later_rules, call_step, predicate_step, effect_step, function_step, goal_step, frame_step, Open, none_open, strict_open, catch_open, newest_open, strict_step, leave, fits, told_step, answer_step, choice_step, end_step, fail_step, handler_step, below_left, raise_step, now_step, step, written_now, done_now, given_now, value_step, later_step, name_step, later_value, other_value, resource_effect, silently}
 use Rattle.pi_machine.specs.Shape.{IsBalanced, IsGood}
-use Rattle.pi_machine.specs.Weight.{goal_weight, goals_weight, branches_weight, going_weight, frames_weight, body_behind, rules_weight, strict_answer_weight, answer_weight, choice_weight, strict_weight, stack_weight, now_weight, weight, GetsLighter, call_weight}
+use Rattle.pi_machine.specs.Weight.{goal_weight, goals_weight, branches_weight, going_weight, frames_weight, body_behind, rules_weight, facts_weight, strict_answer_weight, answer_weight, choice_weight, strict_weight, stack_weight, now_weight, weight, GetsLighter, call_weight}
 use Rattle.pi_machine.proofs.StackLemmas.{IsClosed, IsFound, newest-found}
 use Rattle.pi_machine.proofs.EndSteps.{IsMatched, left-matched}
 use Rattle.pi_machine.proofs.NamedWeights.{call-heavy, given-many, returning-weight, first-lighter}
@@ -207,6 +207,43 @@ rules-lighter called [] b es = omega arith
 rules-lighter called (c ∷ cs) b es =
     tried-lighter called c cs b es (matched_all_in (bindings b.state) c.head called.args (replicate c.slots None)) (try_rules called cs b es) (rules-lighter called cs b es)
 
+later-facts-answer : (ts : Trees) (cs : List ClauseTree) (b : Back) (es : List Entry) → answer_weight 0 (later_facts ts cs b es) ≡ answer_weight 0 es
+unfolding answer_weight
+later-facts-answer ts [] b es = refl
+later-facts-answer ts (c ∷ cs) b es = refl
+
+later-facts-weight : (ts : Trees) (cs : List ClauseTree) (b : Back) (es : List Entry) →
+    stack_weight (later_facts ts cs b es) ≤ suc (facts_weight cs (frames_weight b.frames (answer_weight 0 es))) + stack_weight es
+unfolding stack_weight choice_weight
+later-facts-weight ts [] b es = omega arith
+later-facts-weight ts (c ∷ cs) b es = omega arith
+
+fewer-weigh : (found : Bool) (c : ClauseTree) (cs ds : List ClauseTree) (w : ℕ) → facts_weight ds w ≤ facts_weight cs w → facts_weight (cond found (c ∷ cs) ds) w ≤ facts_weight (c ∷ cs) w
+unfolding facts_weight
+fewer-weigh true c cs ds w h = omega arith
+fewer-weigh false c cs ds w h = omega arith
+
+unifying-weigh : (ts : Trees) (s : State) (cs : List ClauseTree) (w : ℕ) → facts_weight (from_unifying ts s cs) w ≤ facts_weight cs w
+unfolding from_unifying
+unifying-weigh ts s [] w = omega arith
+unifying-weigh ts s (c ∷ cs) w = fewer-weigh (is_some (with_fact ts s c)) c cs (from_unifying ts s cs) w (unifying-weigh ts s cs w)
+
+fact-lighter : (ts : Trees) (c : ClauseTree) (cs : List ClauseTree) (b : Back) (es : List Entry) (o : Option State) (otherwise : Config) →
+    let w : ℕ = frames_weight b.frames (answer_weight 0 es) in
+    weight otherwise ≤ facts_weight cs w + stack_weight es → weight (fact_tried ts cs b es o otherwise) ≤ facts_weight (c ∷ cs) w + stack_weight es
+unfolding facts_weight weight now_weight
+fact-lighter ts c cs b es None otherwise h = omega arith
+fact-lighter ts c cs b es (Some r) otherwise h =
+    let k : _ = later-facts-weight ts (from_unifying ts b.state cs) b es in
+    let m : _ = unifying-weigh ts b.state cs (frames_weight b.frames (answer_weight 0 es)) in
+    rw (later-facts-answer ts (from_unifying ts b.state cs) b es) (omega arith)
+
+facts-lighter : (ts : Trees) (cs : List ClauseTree) (b : Back) (es : List Entry) →
+    weight (try_facts ts cs b es) ≤ facts_weight cs (frames_weight b.frames (answer_weight 0 es)) + stack_weight es
+unfolding try_facts weight now_weight facts_weight
+facts-lighter ts [] b es = omega arith
+facts-lighter ts (c ∷ cs) b es = fact-lighter ts c cs b es (with_fact ts b.state c) (try_facts ts cs b es) (facts-lighter ts cs b es)
+
 frame-lighter : (f : Frame) (e : Places) (s : State) (k : List Frame) (es : List Entry) → Lighter (frame_step f e s k es) (weight (config (going no_goals e s (f ∷ k)) es))
 unfolding frame_step weight now_weight frames_weight
 frame-lighter (more gs) e s k es = omega arith
@@ -311,6 +348,7 @@ answer-lighter names e s es h (catch_open above ball handler b below) f =
 choice-lighter : (c : Choice) (b : Back) (es : List Entry) → Lighter (choice_step c b es) (weight (config failed (choice c b ∷ es)))
 unfolding weight now_weight stack_weight choice_weight
 choice-lighter (rules_left called cs) b es = let h : _ = rules-lighter called cs b es in omega arith
+choice-lighter (facts_left ts cs) b es = let h : _ = facts-lighter ts cs b es in omega arith
 choice-lighter (branches_left gs) b es = let h : _ = branch-lighter gs b es in omega arith
 
 end-lighter : (level : Strict) (b : Back) (es : List Entry) → Lighter (end_step level b es) (weight (config failed (strict level b ∷ es)))
@@ -334,6 +372,7 @@ fail-lighter (left ∷ es) = omega arith
 choice-weighs : (c : Choice) (r a : ℕ) → 1 ≤ choice_weight c r a
 unfolding choice_weight
 choice-weighs (rules_left called cs) r a = omega arith
+choice-weighs (facts_left ts cs) r a = omega arith
 choice-weighs (branches_left gs) r a = omega arith
 
 strict-weighs : (level : Strict) (r a : ℕ) → 1 ≤ strict_weight level r a

@@ -1,5 +1,5 @@
--- Programs of what the machine runs so far: rules, and no facts and action rules; calls of what they define and of what the tables of built-ins have, `call`, and no others.
-use Rattle.std.specs.Prelude.{◌≡◌, false, List, [], ◌∷◌, ◌++◌, None, ⊤}
+-- Programs of what the machine runs so far: rules and facts, and no action rules; calls of what they define and of what the tables of built-ins have, `call`, and no others.
+use Rattle.std.specs.Prelude.{◌≡◌, false, List, [], ◌∷◌, ◌++◌, ⊤}
 use Rattle.pi_core.specs.CoreTree.{ClauseTree, PredTree, QueryTree}
 use Rattle.pi_meaning.specs.Sound.{IsSoundQuery}
 use Rattle.pi_meaning.specs.Defined.{QueryCallsDefined, NamesAreFree}
@@ -9,9 +9,8 @@ unfoldable pub WithoutEvents : List ClauseTree → Type 0
 WithoutEvents [] = ⊤
 WithoutEvents (c ∷ cs) = (c.watches ≡ []) × WithoutEvents cs
 
--- the clauses are rules
+-- the clauses are rules, or facts
 pub record IsOfRules (pred : PredTree) : Type 0 where
-  pub rules : pred.index ≡ None
   pub without_events : WithoutEvents pred.clauses
 
 unfoldable pub AreOfRules : List PredTree → Type 0

@@ -26,9 +26,11 @@ pub record Called : Type 0 where
   pub function : Bool
   pub args : Trees
 
--- a choice: the rules that are left of a call; the branches that are left of alternatives
+-- a choice: the rules that are left of a call; the facts that are left of a call with these arguments; the branches that are
+-- left of alternatives
 pub data Choice : Type 0 where
   rules_left : Called → List ClauseTree → Choice
+  facts_left : Trees → List ClauseTree → Choice
   branches_left : GoalTrees → Choice
 
 -- a level of which no exception is caught: `once`; `not`; `if` with both goals; the guard of a rule, with the rules behind

@@ -1,7 +1,7 @@
 -- What remains of a run: the trace of what runs, and around it what the entries of the stack make of it, from the newest
 -- outwards. All goals that the machine still has to run do so at one level.
 use Rattle.std.specs.Prelude.{ℕ, ◌+◌, pos, List, [], ◌∷◌, ◌++◌, Some, codes, slice_set}
-use Rattle.pi_terms.specs.Tree.{Tree, int}
+use Rattle.pi_terms.specs.Tree.{Tree, Trees, int}
 use Rattle.pi_terms.specs.Places.{Places, held}
 use Rattle.pi_states.specs.State.{State}
 use Rattle.pi_core.specs.GoalTree.{GoalTree, GoalTrees}
@@ -15,10 +15,11 @@ use Rattle.pi_meaning.specs.Raise.{raised_with}
 use Rattle.pi_meaning.specs.Level.{Level, Applied, Point}
 use Rattle.pi_meaning.specs.Meaning.{Action, draining, with_slot, slot_value, copyable, with_list, meaning, meaning_of_all, meaning_of_any}
 use Rattle.pi_meaning.specs.Handling.{handling}
+use Rattle.pi_meaning.specs.Facts.{facts}
 use Rattle.pi_meaning.specs.Rules.{chosen_rule, rules, value_at, level_at}
 use Rattle.pi_meaning.specs.Run.{Solution, answered_with}
 use Rattle.pi_core.specs.declared.core_program.NameSlot.{NameSlot}
-use Rattle.pi_machine.specs.Configuration.{Frame, more, return, give, Back, Called, Choice, rules_left, branches_left, Strict, once_level, not_level, if_level, guard_level, value_level, list_level, number_level, Entry, choice, strict, catch_level, left, Now, going, telling, failed, raising, Config, after_body}
+use Rattle.pi_machine.specs.Configuration.{Frame, more, return, give, Back, Called, Choice, rules_left, facts_left, branches_left, Strict, once_level, not_level, if_level, guard_level, value_level, list_level, number_level, Entry, choice, strict, catch_level, left, Now, going, telling, failed, raising, Config, after_body}
 
 abbrev pub point : Level → Places → State → Point
 point l e s = record { level = l; slots = e; state = s }
@@ -51,9 +52,14 @@ body_of given l call b c p = then (meaning given c.body p) (continued given l (a
 unfoldable pub rules_trace : Builtins → Level → Called → List ClauseTree → Back → Trace Point
 rules_trace given l call cs b = rules given l (λ c. leaves_others call.function c) (λ i c p. body_of given l call b c p) 0 cs call.args b.state
 
+-- the facts that are left of a call
+unfoldable pub facts_trace : Builtins → Level → Trees → List ClauseTree → Back → Trace Point
+facts_trace given l ts cs b = then (facts cs ts b.state) (λ r. continued given l b.frames (point l b.slots r))
+
 -- what a choice keeps
 unfoldable pub choice_trace : Builtins → Level → Choice → Back → Trace Point
 choice_trace given l (rules_left call cs) b = rules_trace given l call cs b
+choice_trace given l (facts_left ts cs) b = facts_trace given l ts cs b
 choice_trace given l (branches_left gs) b = then (meaning_of_any given gs (start_of l b)) (continued given l b.frames)
 
 -- what a level makes of the trace inside of it

@@ -1,5 +1,6 @@
 -- One step of the machine.
-use Rattle.std.specs.Prelude.{ℕ, zero, suc, nat_lt, cond, pos, Bool, true, false, List, [], ◌∷◌, ◌++◌, Option, Some, None, codes, slice_set, replicate}
+use Rattle.std.specs.Prelude.{ℕ, zero, suc, nat_lt, cond, pos, Bool, true, false, List, [], ◌∷◌, ◌++◌, Option, Some, None, option_and_then, is_some, codes, slice_set, replicate}
+use Rattle.std.specs.List.{list_any}
 use Rattle.pi_terms.specs.Tree.{Tree, int, atom, comp, Trees, no_trees, tree, trees_of, tree_count, cells, most_cells}
 use Rattle.pi_terms.specs.Places.{Places, held}
 use Rattle.pi_terms.specs.Copy.{copy, new_variables}
@@ -21,11 +22,13 @@ use Rattle.pi_meaning.specs.Within.{Within, a_query, a_body, is_body}
 use Rattle.pi_meaning.specs.View.{View}
 use Rattle.pi_states.specs.Evaluation.{Evaluated, evaluated, EvaluatedAll, evaluated_all, with_new_variables}
 use Rattle.pi_states.specs.HeadMatch.{matched_all_in}
+use Rattle.pi_meaning.specs.Facts.{fact_terms, unified_with, fits_modes}
 use Rattle.pi_meaning.specs.Meaning.{slot_value}
+use Rattle.pi_syntax.specs.declared.program.Mode.{Mode}
 use Rattle.pi_terms.specs.ListCopies.{list_of_copies, new_in_all}
 use Rattle.pi_meaning.specs.Run.{Solution}
 use Rattle.pi_core.specs.declared.core_program.NameSlot.{NameSlot}
-use Rattle.pi_machine.specs.Configuration.{Frame, more, return, give, Back, Called, Choice, rules_left, branches_left, Strict, once_level, not_level, if_level, guard_level, value_level, list_level, number_level, Entry, choice, strict, catch_level, left, Now, going, telling, failed, raising, Config, config, behind, returning, after_body, in_places}
+use Rattle.pi_machine.specs.Configuration.{Frame, more, return, give, Back, Called, Choice, rules_left, facts_left, branches_left, Strict, once_level, not_level, if_level, guard_level, value_level, list_level, number_level, Entry, choice, strict, catch_level, left, Now, going, telling, failed, raising, Config, config, behind, returning, after_body, in_places}
 
 -- what a step comes to: the next configuration; the same after a Tick; the same, where a quiet call was entered; the same, where `call` has led one
 -- down; a text that is written and the next configuration; an answer and the next one; the end
@@ -82,6 +85,38 @@ try_rules called [] b es = config failed es
 try_rules called (c ∷ cs) b es =
     tried called c cs b es (matched_all_in (bindings b.state) c.head called.args (replicate c.slots None)) (try_rules called cs b es)
 
+-- ---- facts
+
+-- the state in which a call's arguments are those of a fact
+abbrev pub with_fact : Trees → State → ClauseTree → Option State
+with_fact ts s c = option_and_then (unified_with ts) (fact_terms c.head (replicate c.slots None) s)
+
+-- the facts from the first one on that unifies with a call
+unfoldable pub from_unifying : Trees → State → List ClauseTree → List ClauseTree
+from_unifying ts s [] = []
+from_unifying ts s (c ∷ cs) = cond (is_some (with_fact ts s c)) (c ∷ cs) (from_unifying ts s cs)
+
+-- facts are kept where there are any
+abbrev pub later_facts : Trees → List ClauseTree → Back → List Entry → List Entry
+later_facts ts [] b es = es
+later_facts ts (c ∷ cs) b es = choice (facts_left ts (c ∷ cs)) b ∷ es
+
+-- A fact that unifies: what is behind the call goes on. Those behind the fact stay from the next one on that unifies too, so
+-- that nothing is left where none does.
+abbrev pub fact_tried : Trees → List ClauseTree → Back → List Entry → Option State → Config → Config
+fact_tried ts cs b es None otherwise = otherwise
+fact_tried ts cs b es (Some r) otherwise = config (going no_goals b.slots r b.frames) (later_facts ts (from_unifying ts b.state cs) b es)
+
+-- the first fact that unifies
+unfoldable pub try_facts : Trees → List ClauseTree → Back → List Entry → Config
+try_facts ts [] b es = config failed es
+try_facts ts (c ∷ cs) b es = fact_tried ts cs b es (with_fact ts b.state c) (try_facts ts cs b es)
+
+-- the clauses of a predicate: rules, or facts, of which a call fails that no mode list fits
+unfoldable pub try_clauses : Option (List (List Mode)) → List ClauseTree → Trees → Back → List Entry → Config
+try_clauses None cs ts b es = try_rules (record { function = false; args = ts }) cs b es
+try_clauses (Some lists) cs ts b es = cond (list_any (λ modes. fits_modes (bindings b.state) modes ts) lists) (try_facts ts cs b es) (config failed es)
+
 -- what is raised where a term is too large to be copied
 abbrev pub ball_of : Tree → Tree → Tree
 ball_of t ball = cond (nat_lt most_cells (cells t)) (atom (codes "term_too_large")) ball
@@ -120,7 +155,7 @@ call_step false c = with_tick c
 abbrev pub predicate_step : Option PredTree → EvaluatedAll → List Frame → List Entry → Outcome
 predicate_step None all k es = silently (config failed es)
 predicate_step (Some pred) all k es =
-    call_step pred.quiet (try_rules (record { function = false; args = all.trees }) pred.clauses (back_to [] all.state (returning all.slots k)) es)
+    call_step pred.quiet (try_clauses pred.index pred.clauses all.trees (back_to [] all.state (returning all.slots k)) es)
 
 -- what a later stage of the language gives isn't there
 abbrev pub later_step : Bool → List PredTree → List ℕ → EvaluatedAll → List Frame → List Entry → Outcome
@@ -285,6 +320,7 @@ answer_step names e s es (catch_open above ball handler b below) =
 
 abbrev pub choice_step : Choice → Back → List Entry → Config
 choice_step (rules_left called cs) b es = try_rules called cs b es
+choice_step (facts_left ts cs) b es = try_facts ts cs b es
 choice_step (branches_left gs) b es = branch gs b es
 
 unfoldable pub end_step : Strict → Back → List Entry → Config

@@ -5,7 +5,7 @@ use Rattle.std.specs.Prelude.{ℕ, zero, suc, ◌+◌, ◌<◌, Bool, true, fals
 use Rattle.pi_core.specs.GoalTree.{GoalTree, truth, fail, tick, call, apply, seq, alternatives, if_else, not, once, collect, count, catch, GoalTrees, no_goals, goal}
 use Rattle.pi_core.specs.CoreTree.{ClauseTree}
 use Rattle.pi_meaning.specs.Names.{is_call}
-use Rattle.pi_machine.specs.Configuration.{Frame, more, return, give, Choice, rules_left, branches_left, Strict, once_level, not_level, if_level, guard_level, value_level, list_level, number_level, Entry, choice, strict, catch_level, left, Now, going, telling, failed, raising, Config}
+use Rattle.pi_machine.specs.Configuration.{Frame, more, return, give, Choice, rules_left, facts_left, branches_left, Strict, once_level, not_level, if_level, guard_level, value_level, list_level, number_level, Entry, choice, strict, catch_level, left, Now, going, telling, failed, raising, Config}
 use Rattle.pi_machine.specs.Step.{Outcome, silently, with_tick, quietly, deeper, writing, answering, ending}
 
 -- `call` weighs more than the goals by a name that it leads to
@@ -61,6 +61,11 @@ unfoldable pub rules_weight : List ClauseTree → ℕ → ℕ
 rules_weight [] behind = 0
 rules_weight (c ∷ cs) behind = goal_weight c.guard (suc (goal_weight c.body behind)) + suc (rules_weight cs behind)
 
+-- facts that are tried
+unfoldable pub facts_weight : List ClauseTree → ℕ → ℕ
+facts_weight [] behind = 0
+facts_weight (c ∷ cs) behind = behind + suc (facts_weight cs behind)
+
 -- an answer of a level
 unfoldable pub strict_answer_weight : Strict → ℕ → ℕ → ℕ
 strict_answer_weight once_level behind answer = suc behind
@@ -84,6 +89,7 @@ answer_weight n (left ∷ es) = answer_weight (suc n) es
 -- what an entry keeps
 unfoldable pub choice_weight : Choice → ℕ → ℕ → ℕ
 choice_weight (rules_left called cs) behind answer = suc (rules_weight cs (body_behind called.function behind answer))
+choice_weight (facts_left ts cs) behind answer = suc (facts_weight cs behind)
 choice_weight (branches_left gs) behind answer = suc (branches_weight gs behind)
 
 unfoldable pub strict_weight : Strict → ℕ → ℕ → ℕ

@@ -21,6 +21,7 @@ use Rattle.pi_lowered.specs.Laws as over_whole
 use Rattle.pi_lowered.specs.Laws.{known_of}
 use Rattle.pi_lowered.proofs.AlikeLemmas.{calls-same}
 use Rattle.pi_lowered.proofs.LevelLemmas.{core-drains, names-drain}
+use Rattle.pi_lowered.proofs.RootNames.{no-later-keeps}
 use Rattle.pi_lowered.proofs.LawLemmas.{lowered-keeps}
 use Rattle.pi_coverage.specs.Built.{unbuilt_part}
 use Rattle.pi_coverage.specs.TermCalls.{ProgramAllows}
@@ -46,7 +47,7 @@ calls-kept levels program built preds kept = record {
 }
   where
     at : (v : View) (d : ℕ) → SameCalls (known_of program) (calls_at (level_at (whole v no_later preds) preds d)) (calls_at (program_level v no_stages program d))
-    at v d = calls-same (known_of program) (level_at (whole v no_later preds) preds d) (program_level v no_stages program d) (kept.calls v no_stages (goes-by-nothing (known_of program)) d)
+    at v d = calls-same (known_of program) (level_at (whole v no_later preds) preds d) (program_level v no_stages program d) (kept.calls v no_stages (goes-by-nothing (known_of program)) no-later-keeps d)
 
 pub program-kept : LevelsAreTheSame → LoweredProgramsAreSound → LoweredProgramsAreClosed → LoweredProgramsArePlain → (program : ProgramTree) → IsWithin program → unbuilt_part program ≡ None →
     IsLoweredProgram program (lowered program)

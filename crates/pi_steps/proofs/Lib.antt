@@ -3,3 +3,4 @@ pub mod NamesStand
 pub mod RetriesStand
 pub mod CallsDone
 pub mod TermsCalled
+pub mod FactsTried

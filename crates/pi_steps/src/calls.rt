@@ -17,6 +17,7 @@ ghost use Rattle.pi_stands.specs.Makes.{RunsGoal, apply_at};
 ghost use Rattle.pi_stands.specs.Gives.{GivesValue, without_call};
 
 use crate::choices::push_entry;
+use crate::facts::try_clauses;
 use crate::rules::{Call, try_rules};
 use crate::values::{slot_at, value};
 use pi_arenas::{Back, BlocksMark, Kind, Now, Point, Run, Strict, behind};
@@ -78,7 +79,7 @@ pub fn call<S: StateStore>(
         base,
         frame,
     };
-    try_rules(code, run, &call, called, called.first, false)?;
+    try_clauses(code, run, &call, called)?;
     Ok(())
 }
 
@@ -182,6 +183,7 @@ fn call_site(kind: Kind) -> Option<CallSite>
     match kind {
         Kind::Strict(strict) => call_site_of_level(strict),
         Kind::Rules(_, _) => None,
+        Kind::Facts(_, _) => None,
         Kind::Branches(_, _) => None,
         Kind::Catch(_) => None,
         Kind::Exit => None,

@@ -8,6 +8,7 @@ ghost use Rattle.pi_arenas.specs.declared.arenas.Back.{Back};
 ghost use Rattle.pi_stands.specs.Fails.{Fails, PassesOver, EndsLevel};
 
 use crate::choices::{come_back, next_branch, one_goal, push_entry};
+use crate::facts::retry_facts;
 use crate::lists::{add_value, give_list};
 use crate::raises::no_value;
 use crate::rules::{call_of, retry, take_guarded};
@@ -51,6 +52,7 @@ pub fn answer_level<S: StateStore>(code: &Code<'_>, run: &mut Run<S>) -> Result<
         Kind::Strict(strict) => answer_strict(code, run, level, back, strict)?,
         Kind::Catch(_) => leave_catch(run, level, back)?,
         Kind::Rules(_, _) => run.now = Now::Failing,
+        Kind::Facts(_, _) => run.now = Now::Failing,
         Kind::Branches(_, _) => run.now = Now::Failing,
         Kind::Exit => run.now = Now::Failing,
     }
@@ -170,6 +172,7 @@ fn go_on_with<S: StateStore>(
 {
     match back.kind {
         Kind::Rules(_, _) => run.now = Now::Failing,
+        Kind::Facts(predicate, next) => retry_facts(code, run, back, predicate, next)?,
         Kind::Branches(place, count) => next_branch(code, run, back, place, count),
         Kind::Strict(strict) => end_strict(code, run, back, strict)?,
         Kind::Catch(_) => pass_over(run, back),

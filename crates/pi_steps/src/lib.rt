@@ -5,6 +5,7 @@ mod answers;
 mod built_ins;
 mod calls;
 mod choices;
+mod facts;
 mod goals;
 mod heads;
 mod levels;

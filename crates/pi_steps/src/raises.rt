@@ -112,7 +112,7 @@ fn unresolved<S: StateStore>(run: &Run<S>, call: Ref) -> Result<Term, AllocError
 }
 
 /// What so many slots from one on hold, into the room for terms.
-fn take_block(
+pub fn take_block(
     blocks: &Blocks,
     first: usize,
     count: u32,
@@ -160,6 +160,7 @@ pub fn unwind<S: StateStore>(code: &Code<'_>, run: &mut Run<S>) -> Result<(), Al
         Kind::Catch(place) => try_catch(code, run, place)?,
         Kind::Exit => pass_left(run, back),
         Kind::Rules(_, _) => drop_entry(run, back),
+        Kind::Facts(_, _) => drop_entry(run, back),
         Kind::Branches(_, _) => drop_entry(run, back),
         Kind::Strict(_) => drop_entry(run, back),
     }
@@ -192,6 +193,7 @@ fn collected_before(kind: Kind, count: usize) -> usize
     match kind {
         Kind::Strict(strict) => collected_before_level(strict, count),
         Kind::Rules(_, _) => count,
+        Kind::Facts(_, _) => count,
         Kind::Branches(_, _) => count,
         Kind::Catch(_) => count,
         Kind::Exit => count,

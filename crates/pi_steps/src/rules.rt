@@ -163,7 +163,7 @@ fn enter_guard<S: StateStore>(
 }
 
 /// Keeps the call as it was made, its arguments alone, in the newest entry where that is the call's, else in one more.
-fn keep<S: StateStore>(
+pub fn keep<S: StateStore>(
     run: &mut Run<S>,
     call: &Call,
     arity: u32,

@@ -22,7 +22,7 @@ unfolding AreOfRules
 of-rules [] all = tt
 of-rules (p ∷ ps) all =
     let plain : IsPlain p = All-head IsPlain p ps all in
-    (record { rules = plain.index; without_events = without-events p.clauses plain.watches }, of-rules ps (All-tail IsPlain p ps all))
+    (record { without_events = without-events p.clauses plain.watches }, of-rules ps (All-tail IsPlain p ps all))
 
 counted : (ps : List PredTree) → All IsPlain ps → AreCounted ps
 unfolding AreCounted

@@ -1,10 +1,10 @@
 //! Predicates and their rules in tables.
-ghost use Rattle.std.specs.Prelude.{◌≡◌, ◌≢◌, ◌+◌, List, false, length, map, is_none, IfOk};
+ghost use Rattle.std.specs.Prelude.{◌≡◌, ◌≢◌, ◌+◌, List, false, length, map, is_none, is_some, IfOk};
 ghost use Rattle.pi_states.specs.State.{bindings};
 ghost use Rattle.pi_states.specs.Value.{IsAcyclic};
 ghost use Rattle.pi_states.specs.Store.{Keeps, Stays};
 ghost use Rattle.pi_core.specs.GoalTree.{nodes};
-ghost use Rattle.pi_core.specs.CoreTree.{pattern_tree, pattern_trees, clause_tree, pred_tree};
+ghost use Rattle.pi_core.specs.CoreTree.{index_of, pattern_tree, pattern_trees, clause_tree, pred_tree};
 ghost use Rattle.pi_core.specs.declared.core_program.CorePred.{CorePred as Pred};
 ghost use Rattle.pi_code.specs.declared.code.HeadTest.TheVariants.{Deep};
 ghost use Rattle.pi_core.specs.CoreTree.{leaves_others};
@@ -17,6 +17,7 @@ use super::{Builder, Shape, short};
 use crate::code::{Code, HeadTest, Predicate, Rule};
 use pi_core::{CoreClause, CoreGoal, CorePred, GoalNode, Pattern};
 use pi_states::{Cell, StateStore};
+use pi_syntax::Decl;
 use std::alloc::AllocError;
 
 impl Builder<'_> {
@@ -62,6 +63,7 @@ impl Builder<'_> {
             first,
             end: short(code.rules.len())?,
             is_quiet: pred.quiet,
+            is_facts: has_index(&pred.decl),
         })
     }
 
@@ -151,6 +153,16 @@ fn leaves_others(clause: &CoreClause, pred: &CorePred) -> bool
     ensures { result ≡ leaves_others pred.now.function (clause_tree clause.now) }
 {
     clause.back && !pred.function && clause.watches.as_slice().is_empty()
+}
+
+/// Whether clauses behind a declaration are facts.
+fn has_index(decl: &Decl) -> bool
+    ensures { result ≡ is_some (index_of decl.now) }
+{
+    match decl {
+        Decl::Index(_) => true,
+        Decl::Plain | Decl::Import(_) => false,
+    }
 }
 
 /// Adds the tests of a head, and answers whether there is a deep one.

@@ -1,4 +1,4 @@
-use Rattle.std.proofs.Common.{◌≡◌, ◌++◌, ◌∙◌, sym, ap, subst, refl, map, Some, []}
+use Rattle.std.proofs.Common.{◌≡◌, ◌++◌, ◌∙◌, sym, ap, subst, refl, map, Some, [], false}
 use Rattle.std.specs.Prelude.{slice_get}
 use Rattle.pi_terms.specs.Tree.{trees_of}
 use Rattle.pi_states.specs.Evaluation.{evaluated_all}
@@ -7,13 +7,15 @@ use Rattle.pi_arenas.specs.Arenas.{view_of}
 use Rattle.pi_code.specs.Code.{tables_of}
 use Rattle.pi_stands.specs.Here.{Block, AreReadable}
 use Rattle.pi_stands.specs.Stands.{World, tables_in, world, Stands}
-use Rattle.pi_machine.specs.Step.{try_rules, back_to}
+use Rattle.pi_machine.specs.Step.{try_clauses, back_to}
 use Rattle.pi_stands.specs.Evaluates.{operand_trees, EvaluatesAll, with_blocks}
 use Rattle.pi_stands.proofs.FramesStand.{framed, arenas-framed, going-of}
 use Rattle.pi_stands.proofs.EqualStands.{block_of, first-slot-of, node-readable}
 use Rattle.pi_stands.proofs.CallRuns.{Calls, CallRuns, GivesBack, gives-cut, gives-whole, calls, call-runs}
 use Rattle.pi_stands.proofs.CallMade.{Made}
 use Rattle.pi_stands.proofs.RulesTried.{found-there}
+use Rattle.pi_machine.specs.Configuration.{Called}
+use Rattle.pi_steps.proofs.FactsTried.{same-pred}
 use Rattle.pi_steps.proofs.calls.call.Goals as goal
 use Rattle.pi_steps.proofs.calls.call.Goals.{then-step, else-step}
 
@@ -76,10 +78,14 @@ returns g c = λ node l is_code has view goal gs e k es at stands.
     (call-runs w u b fs run.arenas.blocks after c.take_arguments.new.run.terms.items p s q c.args.operands c.in_ok-frame.frame predicate view goal gs e k es it at stands readable evaluates c.in_ok-frame.ensures.ok gives
     (c.in_ok-push_terms.ensures.ok ∙ ap (λ rs. run.arenas.blocks.slots ++ map (λ r. Some r) rs) (c.deref.ensures.value ∙ same_terms)) c.push_terms.ensures.keeps c.push_terms.ensures.kept) in
     let here : World _ = world l (seen run.store) order (with_blocks (view_of run.arenas) after) in
-    let made : Made here q c.count-base.result c.in_ok-frame.frame runs.called runs.pred.clauses runs.frames es predicate.first =
-    subst (λ r. Made (world l (seen run.store) order r) q c.count-base.result c.in_ok-frame.frame runs.called runs.pred.clauses runs.frames es predicate.first) same_arenas
-    (subst (λ r. Made (world l r order (with_blocks (framed b fs) after)) q c.count-base.result c.in_ok-frame.frame runs.called runs.pred.clauses runs.frames es predicate.first) (sym same_store) runs.made) in
-    let end = c.try_rules.new.run in
+    let called : Called = record { function = false; args = runs.args } in
+    let made : Made here q c.count-base.result c.in_ok-frame.frame called runs.pred.clauses runs.frames es predicate.first =
+    subst (λ r. Made (world l (seen run.store) order r) q c.count-base.result c.in_ok-frame.frame called runs.pred.clauses runs.frames es predicate.first) same_arenas
+    (subst (λ r. Made (world l r order (with_blocks (framed b fs) after)) q c.count-base.result c.in_ok-frame.frame called runs.pred.clauses runs.frames es predicate.first) (sym same_store) runs.made) in
+    let pred_is : made.is.call.call.pred ≡ runs.pred =
+    same-pred (slice_get l.preds q) made.is.call.call.pred runs.pred made.is.call.call.is_pred (runs.made.is.call.call.is_pred ∙ ap (λ x. Some x) runs.pred_is) in
+    let end = c.try_clauses.new.run in
     runs.step end.now (world l (seen end.store) order (view_of end.arenas))
-    (subst (λ r. Stands (world l (seen end.store) order (view_of end.arenas)) end.now (try_rules runs.called runs.pred.clauses (back_to [] r.now.state runs.frames) es)) same_store
-    (c.in_ok-try_rules.ensures l is_code has runs.called runs.pred.clauses (seen run.store).now.state runs.frames es made.is made.args refl))
+    (subst (λ r. Stands (world l (seen end.store) order (view_of end.arenas)) end.now (try_clauses runs.pred.index runs.pred.clauses runs.args (back_to [] r.now.state runs.frames) es)) same_store
+    (subst (λ r. Stands (world l (seen end.store) order (view_of end.arenas)) end.now (try_clauses r.index runs.pred.clauses runs.args (back_to [] (seen run.store).now.state runs.frames) es)) pred_is
+    (c.in_ok-try_clauses.ensures l is_code has runs.args runs.pred.clauses (seen run.store).now.state runs.frames es made.is made.args refl)))

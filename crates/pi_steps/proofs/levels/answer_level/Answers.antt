@@ -16,6 +16,13 @@ returns-in-Rules g c = λ l is_code some view names p e k es stands none last ba
     let is : IsLevel (view_of run.arenas) run.arenas.level back = record { entry = c.in-Some.entry.now; at = c.in-Some.ensures.some; back_is = refl; is_open = refl } in
     absurd (no-value-answer (world l (g.S.StateStore.seen run.store) g.S.StateStore.order (view_of run.arenas)) run.arenas.level back (Kind.Rules c.in-Rules.field-0 c.in-Rules.field-1) p e k es is c.in-Rules.is (λ base. refl) stands none last)
 
+pub returns-in-Facts : goal.returns-in-Facts
+returns-in-Facts g c = λ l is_code some view names p e k es stands none last balanced.
+    let run = c.args.run.now in
+    let back = c.in-Some.entry.now.back in
+    let is : IsLevel (view_of run.arenas) run.arenas.level back = record { entry = c.in-Some.entry.now; at = c.in-Some.ensures.some; back_is = refl; is_open = refl } in
+    absurd (no-value-answer (world l (g.S.StateStore.seen run.store) g.S.StateStore.order (view_of run.arenas)) run.arenas.level back (Kind.Facts c.in-Facts.field-0 c.in-Facts.field-1) p e k es is c.in-Facts.is (λ base. refl) stands none last)
+
 pub returns-in-Branches : goal.returns-in-Branches
 returns-in-Branches g c = λ l is_code some view names p e k es stands none last balanced.
     let run = c.args.run.now in

@@ -8,6 +8,9 @@ use Rattle.pi_steps.proofs.levels.go_on_with.Goals as goal
 pub returns-in-Rules : goal.returns-in-Rules
 returns-in-Rules g c = λ l is_code no_rules y es it. absurd (no_rules _ _ c.in-Rules.is)
 
+pub returns-in_ok-retry_facts-in-Facts : goal.returns-in_ok-retry_facts-in-Facts
+returns-in_ok-retry_facts-in-Facts g c = λ l is_code no_rules. c.in_ok-retry_facts-in-Facts.ensures l is_code c.in-Facts.is
+
 pub returns-in-Branches : goal.returns-in-Branches
 returns-in-Branches g c = λ l is_code no_rules y es it.
     let seen = g.S.StateStore.seen in

@@ -17,6 +17,9 @@ returns-in-Exit g c = λ l is_code ball es raising stands balanced. c.pass_left.
 pub returns-in-Rules : goal.returns-in-Rules
 returns-in-Rules g c = λ l is_code ball es raising stands balanced. c.drop_entry.ensures l (subst IsDropped (sym c.in-Rules.is) tt) c.in-Some.entry.now c.in-Some.ensures.some refl ball es raising stands balanced
 
+pub returns-in-Facts : goal.returns-in-Facts
+returns-in-Facts g c = λ l is_code ball es raising stands balanced. c.drop_entry-in-Facts.ensures l (subst IsDropped (sym c.in-Facts.is) tt) c.in-Some.entry.now c.in-Some.ensures.some refl ball es raising stands balanced
+
 pub returns-in-Branches : goal.returns-in-Branches
 returns-in-Branches g c = λ l is_code ball es raising stands balanced. c.drop_entry-in-Branches.ensures l (subst IsDropped (sym c.in-Branches.is) tt) c.in-Some.entry.now c.in-Some.ensures.some refl ball es raising stands balanced
 

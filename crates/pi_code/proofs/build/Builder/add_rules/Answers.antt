@@ -51,6 +51,7 @@ returns-clause-laid g c = λ all numbered acyclic.
     record {
       arity = refl;
       quiet = refl;
+      facts = c.has_index.ensures;
       rules = c.in_ok-short.ensures ∙ omega (arith, c.len-2.ensures) ∙ c.loop-clause.invariant.long ∙ ap (λ n. n + c.loop-clause.clause-index) first
           ∙ ap (λ n. c.in_ok-first.first + n) (count ∙ ap length c.as_slice-clause-items.ensures ∙ sym (length-map c.args.pred.now.clauses clause_tree));
       each = subst (λ n. RulesAt all (tables_for all (g.S.StateStore.seen c.loop-clause.store).now.terms c.loop-clause.code) (g.S.StateStore.seen c.loop-clause.store).names c.loop-clause.code (pred_tree c.args.pred.now) n (pred_tree c.args.pred.now).clauses) first

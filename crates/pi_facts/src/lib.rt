@@ -1,0 +1,10 @@
+//! The facts of a predicate and the arguments of a call: which facts unify with them.
+#![tactic(auto)]
+
+mod heads;
+mod modes;
+mod trying;
+
+pub use heads::unify_fact;
+pub use modes::fits_call;
+pub use trying::{next_unifying, unifies};

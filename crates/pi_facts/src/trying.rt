@@ -1,0 +1,69 @@
+//! Facts that are tried one after the other: the next one that unifies with a call.
+ghost use Rattle.std.specs.Prelude.{◌≡◌, ◌+◌, ◌≤◌, [], Some, map, is_some, length, slice_get, IfOk};
+ghost use Rattle.pi_terms.specs.Tree.{Trees, comp};
+ghost use Rattle.pi_states.specs.State.{IsState};
+ghost use Rattle.pi_states.specs.Store.{IsTerm, Stays};
+ghost use Rattle.pi_core.specs.CoreTree.{clause_tree};
+ghost use Rattle.pi_core.specs.declared.core_program.CoreClause.{CoreClause as Clause};
+ghost use Rattle.pi_machine.specs.Step.{with_fact};
+ghost use Rattle.pi_facts.specs.Trying.{IsNext};
+
+use crate::heads::unify_fact;
+use pi_core::CoreClause;
+use pi_states::{Ref, StateStore};
+use std::alloc::{AllocError, Global};
+
+/// Whether a fact unifies with a call, whose arguments are those of a compound without a name. The state stays.
+pub fn unifies<S: StateStore>(
+    alloc: Global,
+    s: &mut S,
+    fact: &CoreClause,
+    call: Ref,
+) -> Result<bool, AllocError>
+    ensures stays { IfOk result (λ _. (ts : Trees) → IsState (S.seen s.old).now.state → IsTerm (S.seen s.old) call (comp [] ts) → Stays (S.seen s.old) (S.seen s.new)) }
+    ensures tells { IfOk result (λ one. (ts : Trees) → IsState (S.seen s.old).now.state → IsTerm (S.seen s.old) call (comp [] ts) → one ≡ is_some (with_fact ts (S.seen s.old).now.state (clause_tree fact.now))) }
+{
+    let mark = s.mark()?;
+    let one = unify_fact(alloc, s, fact.head.as_slice(), fact.slots, call)?;
+    s.undo(&mark);
+    Ok(one)
+}
+
+/// The first fact from a number on that unifies with a call, where these facts have numbers from `first` on. The state stays.
+pub fn next_unifying<S: StateStore>(
+    alloc: Global,
+    s: &mut S,
+    facts: &[CoreClause],
+    first: u32,
+    from: u32,
+    end: u32,
+    call: Ref,
+) -> Result<Option<u32>, AllocError>
+    ensures stays { IfOk result (λ _. (ts : Trees) → IsState (S.seen s.old).now.state → IsTerm (S.seen s.old) call (comp [] ts) → Stays (S.seen s.old) (S.seen s.new)) }
+    ensures found { IfOk result (λ found. (ts : Trees) → IsState (S.seen s.old).now.state → IsTerm (S.seen s.old) call (comp [] ts) → first ≤ from → end ≡ first + length facts.now → IsNext ts (S.seen s.old).now.state (map clause_tree facts.now) first from end found) }
+{
+    for number in from..end {
+        if unifies_at(alloc, s, facts, number.saturating_sub(first), call)? {
+            return Ok(Some(number));
+        }
+    }
+    Ok(None)
+}
+
+/// Whether the fact in a place unifies with a call, where there is one. The state stays.
+fn unifies_at<S: StateStore>(
+    alloc: Global,
+    s: &mut S,
+    facts: &[CoreClause],
+    place: u32,
+    call: Ref,
+) -> Result<bool, AllocError>
+    ensures stays { IfOk result (λ _. (ts : Trees) → IsState (S.seen s.old).now.state → IsTerm (S.seen s.old) call (comp [] ts) → Stays (S.seen s.old) (S.seen s.new)) }
+    ensures tells { IfOk result (λ one. (ts : Trees) (d : Clause) → IsState (S.seen s.old).now.state → IsTerm (S.seen s.old) call (comp [] ts) → slice_get facts.now place ≡ Some d → one ≡ is_some (with_fact ts (S.seen s.old).now.state (clause_tree d))) }
+{
+    let Some(fact) = facts.get(place as usize) else {
+        return Ok(false);
+    };
+    let one = unifies(alloc, s, fact, call)?;
+    Ok(one)
+}

@@ -1,0 +1,24 @@
+use Rattle.std.proofs.Common.{◌≡◌, ◌∙◌, sym, ap, [], true, false, Some}
+use Rattle.std.specs.Prelude.{slice_get}
+use Rattle.pi_arenas.specs.Arenas.{view_of}
+use Rattle.pi_machine.specs.Step.{back_to}
+use Rattle.pi_stands.specs.Stands.{World, world}
+use Rattle.pi_steps.proofs.FactsTried.{there-of, by-rules}
+use Rattle.pi_steps.proofs.facts.try_clauses.Goals as goal
+
+pub returns-in_ok-call_facts : goal.returns-in_ok-call_facts
+returns-in_ok-call_facts g c = λ l is_code has. c.in_ok-call_facts.ensures l is_code has c.if-predicate.true
+
+pub returns-in_ok-try_rules : goal.returns-in_ok-try_rules
+returns-in_ok-try_rules g c = λ l is_code has ts cs s k es is args same.
+    let seen = g.S.StateStore.seen in
+    let order = g.S.StateStore.order in
+    let run = c.args.run.now in
+    let end = c.try_rules.new.run in
+    let call = c.args.call.now in
+    let predicate = c.args.predicate.now in
+    let w : World _ = world l (seen run.store) order (view_of run.arenas) in
+    let there : slice_get l.code.predicates.items call.predicate ≡ Some predicate = ap (λ p. slice_get p.predicates.items call.predicate) is_code ∙ has in
+    by-rules (world l (seen end.store) order (view_of end.arenas)) end.now is.call.call.pred.index ts cs (back_to [] s k) es
+    (sym (there-of w call.predicate call.base call.frame predicate.first (record { function = false; args = ts }) cs s k es false predicate is there).facts ∙ c.if-predicate.false)
+    (c.in_ok-try_rules.ensures l is_code has (record { function = false; args = ts }) cs s k es is args same)
