@@ -12,7 +12,7 @@ use Rattle.pi_finished.specs.declared.limits.Limit.{Limit}
 use Rattle.pi_finished.specs.declared.making.Making.{Making}
 use Rattle.pi_finished.specs.Making.{refusal_for, Shows, Reads, AllBelow, with_constraint, with_variable}
 
-in_front_some : (c : ℤ) (n : ℕ) (ts : List (ℤ × ℕ)) → c ≢ pos 0 → in_front c n ts ≡ (c, n) ∷ ts
+pub in_front_some : (c : ℤ) (n : ℕ) (ts : List (ℤ × ℕ)) → c ≢ pos 0 → in_front c n ts ≡ (c, n) ∷ ts
 in_front_some (pos zero) n ts h = absurd (h refl)
 in_front_some (pos (suc c)) n ts h = refl
 in_front_some (negsuc c) n ts h = refl

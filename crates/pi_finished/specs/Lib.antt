@@ -1,1 +1,4 @@
 pub mod Making
+pub mod ToZero
+pub mod Items
+pub mod Finished

@@ -1,5 +1,6 @@
 -- What was made so far, as it is kept: all constraints until one is refused, and from then on why. (Own.)
-use Rattle.std.specs.Prelude.{◌≡◌, ⊤, ℕ, ℤ, ◌<◌, Result, Ok, Err, ◌^◌, ◌&&◌, suc, nat_le, nat_abs, List, [], ◌∷◌, ◌++◌, length, Option, Some, None}
+use Rattle.std.specs.Prelude.{◌≡◌, ⊤, ℕ, ℤ, ◌<◌, Result, Ok, Err, ◌^◌, ◌&&◌, suc, nat_le, nat_abs, List, [], ◌∷◌, ◌++◌, length, Bool, false, Option, Some, None}
+use Rattle.pi_arith.specs.Range.{has_128_bits}
 use Rattle.pi_constraints.specs.declared.constraint.Constraint.{Constraint}
 use Rattle.pi_postings.specs.Sums.{Sum}
 use Rattle.pi_postings.specs.Steps.{Refusal, too_many_terms, wide_coefficient, Made, Reading, then, side, product_variable, absolute_variable}
@@ -13,9 +14,19 @@ abbrev pub refusal_for : Limit → Refusal
 refusal_for Limit.Terms = too_many_terms
 refusal_for Limit.Width = wide_coefficient
 
--- why a constraint over a sum is refused, whatever it says of the sum
-abbrev pub sum_refusal : Sum → Option Refusal
-sum_refusal u = refusal_by (length u.terms) (are_narrow u.terms && nat_le (nat_abs u.constant) (2 ^ 100))
+-- why a constraint over a sum of these terms and this constant is refused, whatever it says of the sum
+abbrev pub sum_refusal : List (ℤ × ℕ) → ℤ → Option Refusal
+sum_refusal terms k = refusal_by (length terms) (are_narrow terms && nat_le (nat_abs k) (2 ^ 100))
+
+-- a number, or none where it needs more than 128 bits
+abbrev pub IsNumber : Option ℤ → ℤ → Type 0
+IsNumber (Some made) k = made ≡ k
+IsNumber None k = has_128_bits k ≡ false
+
+-- the constant, where a constraint over a sum with these terms keeps its limits, or the limit that it doesn't keep
+abbrev pub ShowsWithin : Result ℤ Limit → List (ℤ × ℕ) → Option ℤ → Type 0
+ShowsWithin (Ok k) terms constant = (constant ≡ Some k) × (sum_refusal terms k ≡ None)
+ShowsWithin (Err limit) terms constant = (k : ℤ) → IsNumber constant k → sum_refusal terms k ≡ Some (refusal_for limit)
 
 -- the constraints that were made: all of them are kept, or the first refusal is
 abbrev pub AreKept : Option Limit → List Constraint → List Constraint → Type 0

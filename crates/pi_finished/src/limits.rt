@@ -1,7 +1,5 @@
 //! The limits of finished constraints.
-ghost use Rattle.std.specs.Prelude.{◌≡◌};
-ghost use Rattle.std.specs.Option.{option_map};
-ghost use Rattle.pi_finished.specs.Making.{refusal_for, sum_refusal};
+ghost use Rattle.pi_finished.specs.Making.{ShowsWithin};
 
 use pi_sums::JoinedSum;
 
@@ -20,18 +18,22 @@ pub enum Limit {
     Width,
 }
 
-/// The limit that a constraint over a sum doesn't keep: first the number of its terms, then its coefficients and its constant.
-pub(crate) fn limit_of(sum: &JoinedSum) -> Option<Limit>
-    ensures { option_map refusal_for result ≡ sum_refusal sum.now }
+/// The constant of a constraint that has the terms of a sum and this constant, where it has 128 bits; or the limit that the
+/// constraint doesn't keep: first the number of its terms, then its coefficients and its constant.
+pub(crate) fn within(sum: &JoinedSum, constant: Option<i128>) -> Result<i128, Limit>
+    ensures { ShowsWithin result sum.now.terms constant }
 {
     if MAX_TERMS < sum.len() {
-        return Some(Limit::Terms);
+        return Err(Limit::Terms);
     }
     if !sum.has_narrow_terms() {
-        return Some(Limit::Width);
+        return Err(Limit::Width);
     }
-    if MAX_CONSTANT < sum.constant().unsigned_abs() {
-        return Some(Limit::Width);
+    let Some(constant) = constant else {
+        return Err(Limit::Width);
+    };
+    if MAX_CONSTANT < constant.unsigned_abs() {
+        return Err(Limit::Width);
     }
-    None
+    Ok(constant)
 }

@@ -1,12 +1,14 @@
 //! What was made so far.
-ghost use Rattle.std.specs.Prelude.{◌≡◌, Some, None, suc, IfOk};
+ghost use Rattle.std.specs.Prelude.{◌≡◌, ℤ, Some, None, suc, IfOk};
 ghost use Rattle.pi_constraints.specs.declared.constraint.Constraint.{Constraint};
 ghost use Rattle.pi_postings.specs.Steps.{Made, linear};
-ghost use Rattle.pi_postings.specs.Limits.{refusal_of};
-ghost use Rattle.pi_postings.specs.Postings.{nothing_made};
-ghost use Rattle.pi_finished.specs.Making.{refusal_for, Shows, with_constraint, with_variable};
+ghost use Rattle.pi_postings.specs.Limits.{refusal_of, first_refusal};
+ghost use Rattle.pi_postings.specs.Postings.{nothing_made, posting_unless};
+ghost use Rattle.pi_finished.specs.Making.{refusal_for, IsNumber, Shows, with_constraint, with_variable};
+ghost use Rattle.pi_finished.specs.Finished.{ShowsFinished};
 
-use crate::limits::{Limit, limit_of};
+use crate::limits::{Limit, within};
+use crate::posting::Posting;
 use pi_constraints::{Constraint, Constraints, Rel};
 use pi_sums::JoinedSum;
 use std::alloc::{AllocError, Global};
@@ -55,9 +57,8 @@ impl Making {
     }
 
     /// A constraint that keeps its limits.
-    pub fn keep(&mut self, constraint: Constraint) -> Result<(), AllocError>
-        requires { refusal_of constraint ≡ None }
-        ensures { IfOk result (λ _. (m : Made) → Shows self.old m → Shows self.new (with_constraint m constraint)) }
+    pub(crate) fn keep(&mut self, constraint: Constraint) -> Result<(), AllocError>
+        ensures { IfOk result (λ _. (m : Made) → refusal_of constraint ≡ None → Shows self.old m → Shows self.new (with_constraint m constraint)) }
     {
         match self.refused {
             None => {
@@ -68,24 +69,51 @@ impl Making {
         }
     }
 
-    /// A sum that stands so to 0.
-    pub fn post_sum(&mut self, alloc: Global, rel: Rel, sum: &JoinedSum) -> Result<(), AllocError>
-        ensures { IfOk result (λ _. (m : Made) → Shows self.old m → Shows self.new (with_constraint m (linear rel sum.now))) }
+    /// The terms of a sum and a constant, where it has 128 bits, stand so to 0.
+    pub(crate) fn post_linear(
+        &mut self,
+        alloc: Global,
+        rel: Rel,
+        sum: &JoinedSum,
+        constant: Option<i128>,
+    ) -> Result<(), AllocError>
+        ensures { IfOk result (λ _. (m : Made) (k : ℤ) → Shows self.old m → IsNumber constant k → Shows self.new (with_constraint m (Constraint.Linear rel sum.now.terms k))) }
     {
-        match limit_of(sum) {
-            Some(limit) => {
-                self.refuse(limit);
-                Ok(())
-            }
-            None => {
+        match within(sum, constant) {
+            Ok(constant) => {
                 let terms = sum.terms(alloc)?;
                 self.keep(Constraint::Linear {
                     rel,
                     terms,
-                    constant: sum.constant(),
+                    constant,
                 })?;
                 Ok(())
             }
+            Err(limit) => {
+                self.refuse(limit);
+                Ok(())
+            }
+        }
+    }
+
+    /// A sum that stands so to 0.
+    pub fn post_sum(&mut self, alloc: Global, rel: Rel, sum: &JoinedSum) -> Result<(), AllocError>
+        ensures { IfOk result (λ _. (m : Made) → Shows self.old m → Shows self.new (with_constraint m (linear rel sum.now))) }
+    {
+        self.post_linear(alloc, rel, sum, Some(sum.constant()))?;
+        Ok(())
+    }
+
+    /// What was made behind so many variables, or the first limit that a constraint doesn't keep.
+    pub fn finish(self, made: u64) -> Result<Posting, Limit>
+        ensures { (m : Made) → Shows self m → ShowsFinished result (posting_unless (first_refusal m.constraints) made m) }
+    {
+        match self.refused {
+            None => Ok(Posting {
+                fresh: self.unused.saturating_sub(made),
+                list: self.constraints,
+            }),
+            Some(limit) => Err(limit),
         }
     }
 }

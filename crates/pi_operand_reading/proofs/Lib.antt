@@ -1,6 +1,6 @@
-mod AfterLemmas
-mod RootLemmas
-mod NodeLemmas
-mod CollectionLemmas
-mod BelowLemmas
-mod TurnLemmas
+pub mod AfterLemmas
+pub mod RootLemmas
+pub mod NodeLemmas
+pub mod CollectionLemmas
+pub mod BelowLemmas
+pub mod TurnLemmas

@@ -102,7 +102,7 @@ pub record HasOne {M : Type 0} (v : StoreView M) (r q : Ref) (text : List ℕ) :
   pub value : value_at v.now r ≡ comp text (tree (value_at v.now q) no_trees)
   pub first : IsThere v.now q
 
-argument-value : (w : Moment) (q : Ref) (x : Tree) → w.terms q.number ≡ Some x → instance (λ n. value (bindings w.state) (var n)) x ≡ value_at w q
+pub argument-value : (w : Moment) (q : Ref) (x : Tree) → w.terms q.number ≡ Some x → instance (λ n. value (bindings w.state) (var n)) x ≡ value_at w q
 argument-value w q x is = sym (value_goes_by_variables (bindings w.state) x) ∙ sym (value_is w q x is)
 
 pub has-one : {M : Type 0} (v : StoreView M) (r q : Ref) (count : ℕ) (text : List ℕ) → IsAcyclic (bindings v.now.state) → IsThere v.now r → IsCompound v r text count → count ≡ 1 → IsArg v r 0 q → HasOne v r q text

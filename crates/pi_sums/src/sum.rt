@@ -1,9 +1,9 @@
 //! Sums of variables and a constant.
-ghost use Rattle.std.specs.Prelude.{◌≡◌, length, IfOk};
+ghost use Rattle.std.specs.Prelude.{◌≡◌, length, true, IfOk};
 ghost use Rattle.pi_postings.specs.Sums.{Sum, of_number, of_variable, added, difference, opposite, scaled, Ascend};
 ghost use Rattle.pi_postings.specs.Steps.{constant_of, variable_of};
 ghost use Rattle.pi_postings.specs.Limits.{are_narrow};
-ghost use Rattle.pi_sums.specs.Steps.{ShowsStep, IsStepTo};
+ghost use Rattle.pi_sums.specs.Steps.{fits, ShowsStep, IsStepTo};
 
 use crate::coefficient::Coefficient;
 use crate::stop::SumStop;
@@ -78,6 +78,14 @@ impl JoinedSum {
         let mut terms = self.terms;
         terms.negate();
         step(Ok(terms), constant)
+    }
+
+    /// The sum again, as a step of its own. It is never too wide, since a sum that was made fits.
+    pub fn positive(self) -> JoinedSum
+        ensures sum { result ≡ self }
+        ensures fits { fits self ≡ true }
+    {
+        self
     }
 
     /// A number times the sum; `Wide` exactly where a coefficient or the constant needs more than 128 bits. Factors of 1 and -1

@@ -1,0 +1,3 @@
+mod NodeLemmas
+mod ItemLemmas
+mod GoalLemmas

@@ -1,0 +1,14 @@
+use Rattle.std.proofs.Common.{drop}
+use Rattle.pi_states.specs.State.{IsState}
+use Rattle.pi_postings.specs.Steps.{Made}
+use Rattle.pi_postings.specs.Lists.{read_each}
+use Rattle.pi_operand_reading.specs.Frames.{AreThere}
+use Rattle.pi_reading.specs.Items.{values_at}
+use Rattle.pi_reading.proofs.ItemLemmas.{EachSoFar}
+use Rattle.pi_reading.proofs.items.items_at.Given as goal
+
+-- the items before one were read
+abbrev pub invariant-loop-i : goal.invariant-loop-i
+invariant-loop-i g l =
+    let w = (g.S.StateStore.seen l.s).now in
+    (m : Made) → IsState w.state → AreThere w l.terms → EachSoFar w m l.items (drop l.i l.terms) (read_each (values_at w l.terms) m)

@@ -1,0 +1,4 @@
+pub mod Nodes
+pub mod Items
+pub mod Goals
+pub mod Faults

@@ -1,0 +1,3 @@
+pub mod NodeLemmas
+mod JoinedLemmas
+mod TurnLemmas
