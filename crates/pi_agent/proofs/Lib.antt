@@ -1,0 +1,3 @@
+pub mod LossLemmas
+pub mod WakeLemmas
+pub mod EventLemmas

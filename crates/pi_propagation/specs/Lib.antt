@@ -1,0 +1,4 @@
+pub mod Narrowed
+pub mod Run
+pub mod Runs
+pub mod PropagationLaws
