@@ -5,14 +5,17 @@ use pi_builtin::function_named;
 use pi_calls::{LibStep, LibValue, run_function, run_predicate};
 use pi_cases::{Case, Problem};
 use pi_types::{Cell, Ref, StateStore, Term, Text, TreeStore};
-use store_tables::{Bench, show, take_store_step, tell_read};
+use store_tables::{Bench, raw_store, show, take_store_step, tell_read};
 
-/// Tells what the steps of a case show, taken on a `TreeStore`.
+/// Tells what the steps of a case show, taken on a `TreeStore`, and where the same steps on a `RawStore` show something else, that too.
 pub fn answer(case: &mut Case<'_>) {
+    let mut raw = case.again();
+    take_all(&mut raw, raw_store(case.alloc));
     let store = TreeStore::new(case.alloc);
     if let Some(store) = case.made(store) {
         take_all(case, store);
     }
+    case.tell_raw(&raw);
 }
 
 /// The same on any store.

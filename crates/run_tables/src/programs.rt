@@ -1,10 +1,13 @@
 //! Programs of the core language: lines `& predicate p/1`, `& function f/1` or `& quiet p/1`, each followed by its rules
 //! `& rule SLOTS : HEAD : GUARD : BODY`, with ` : VALUE` for a function. `choice` in place of `rule` leaves the later rules
-//! as alternatives.
+//! as alternatives. A predicate of facts has its mode lists in lines `& index +-`, and then each fact: `& fact SLOTS : HEAD`.
 
 use crate::goals::goal_of;
 use pi_cases::{Case, Node, Problem, node_of, patterns_of, term_of, words_of};
-use pi_types::{CoreClause, CoreClauses, CorePred, CorePreds, CoreProgram, Decl, SlotWatches};
+use pi_types::{
+    CoreClause, CoreClauses, CorePred, CorePreds, CoreProgram, Decl, Mode, ModeLists, Modes,
+    SlotWatches,
+};
 use std::alloc::Global;
 
 /// The program that a file gives for its cases.
@@ -25,6 +28,8 @@ fn add_line(alloc: Global, line: &str, preds: &mut CorePreds) -> Result<(), Prob
     match case.take_word() {
         "rule" => add_rule(&mut case, false, preds),
         "choice" => add_rule(&mut case, true, preds),
+        "index" => add_modes(&mut case, preds),
+        "fact" => add_fact(&mut case, preds),
         kind => add_pred(&mut case, kind, preds),
     }
     case.take_end();
@@ -67,6 +72,59 @@ fn add_rule(case: &mut Case<'_>, back: bool, preds: &mut CorePreds) {
     }
     let added = preds.push(pred);
     case.done(added);
+}
+
+/// Adds a mode list to the newest predicate.
+fn add_modes(case: &mut Case<'_>, preds: &mut CorePreds) {
+    let Some(mut pred) = preds.pop() else {
+        return case.lacks("a predicate before its modes");
+    };
+    let mut modes = Modes::new(case.alloc);
+    let word = case.take_word();
+    for c in word.chars() {
+        let added = modes.push(if c == '+' { Mode::Plus } else { Mode::Minus });
+        case.done(added);
+    }
+    let mut lists = match pred.decl {
+        Decl::Index(lists) => lists,
+        _ => ModeLists::new(case.alloc),
+    };
+    let added = lists.push(modes);
+    case.done(added);
+    pred.decl = Decl::Index(lists);
+    let added = preds.push(pred);
+    case.done(added);
+}
+
+/// Adds a fact to the newest predicate.
+fn add_fact(case: &mut Case<'_>, preds: &mut CorePreds) {
+    let Some(mut pred) = preds.pop() else {
+        return case.lacks("a predicate before its facts");
+    };
+    if let Some(fact) = take_fact(case) {
+        let added = pred.clauses.push(fact);
+        case.done(added);
+    }
+    let added = preds.push(pred);
+    case.done(added);
+}
+
+/// Takes the words of a fact.
+fn take_fact(case: &mut Case<'_>) -> Option<CoreClause> {
+    let slots = case.take_slot();
+    case.expect(":");
+    let head = case.take_rest();
+    let guard = goal_of(case, &["TRUE"])?;
+    let body = goal_of(case, &["TRUE"])?;
+    Some(CoreClause {
+        head: patterns_of(case, head),
+        guard,
+        back: false,
+        watches: SlotWatches::new(case.alloc),
+        body,
+        value: None,
+        slots,
+    })
 }
 
 /// Takes the words of a rule.

@@ -4,6 +4,7 @@
 mod answers;
 mod bench;
 mod constraints;
+mod kinds;
 mod marks;
 mod stores;
 mod terms;
@@ -11,6 +12,8 @@ mod told;
 mod words;
 
 pub use bench::Bench;
+pub use constraints::tell_constraint;
+pub use kinds::raw_store;
 use pi_cases::Case;
 pub use stores::{show, take_store_step, tell_read};
 

@@ -11,16 +11,20 @@ mod state;
 mod terms;
 
 use crate::bench::Bench;
+use crate::kinds::raw_store;
 use pi_cases::Case;
 use pi_types::{StateStore, TreeStore};
 pub use showing::{show, tell_read};
 
-/// Tells what the steps of a case show, taken on a `TreeStore`.
+/// Tells what the steps of a case show, taken on a `TreeStore`, and where the same steps on a `RawStore` show something else, that too.
 pub fn answer(case: &mut Case<'_>) {
+    let mut raw = case.again();
+    take_all(&mut raw, raw_store(case.alloc));
     let store = TreeStore::new(case.alloc);
     if let Some(store) = case.made(store) {
         take_all(case, store);
     }
+    case.tell_raw(&raw);
 }
 
 /// The same on any store: its owner is generic, so that no proof goes through the parts of one kind of store where it is dropped.

@@ -2,6 +2,7 @@
 //! those of a query. A case `names 0 2` tells the domains of the answer in which these slots are named.
 
 use crate::bench::Bench;
+use crate::kinds::raw_store;
 use crate::stores::take_steps;
 use pi_arenas::Run;
 use pi_cases::{Case, Problem, tell_domains, words_of};
@@ -9,14 +10,17 @@ use pi_steps::answer as answer_of;
 use pi_types::{NameSlot, NameSlots, Ref, StateStore, Text, TreeStore};
 use std::alloc::Global;
 
-/// Tells the domains of an answer.
+/// Tells the domains of an answer over a `TreeStore`, and where they are others over a `RawStore`, those too.
 pub fn answer(case: &mut Case<'_>, text: &str) {
     case.expect("names");
     let names = take_names(case);
+    let mut raw = case.again();
+    answer_on(&mut raw, text, raw_store(case.alloc), names.as_slice());
     let store = TreeStore::new(case.alloc);
     if let Some(store) = case.made(store) {
         answer_on(case, text, store, names.as_slice());
     }
+    case.tell_raw(&raw);
 }
 
 /// Tells the domains of an answer on any store.
