@@ -9,6 +9,7 @@ use pi_types::{
     SlotWatches,
 };
 use std::alloc::Global;
+use std::mem;
 
 /// The program that a file gives for its cases.
 pub fn program_of(alloc: Global, text: &str) -> Result<CoreProgram, Problem> {
@@ -79,21 +80,32 @@ fn add_modes(case: &mut Case<'_>, preds: &mut CorePreds) {
     let Some(mut pred) = preds.pop() else {
         return case.lacks("a predicate before its modes");
     };
-    let mut modes = Modes::new(case.alloc);
-    let word = case.take_word();
-    for c in word.chars() {
-        let added = modes.push(if c == '+' { Mode::Plus } else { Mode::Minus });
-        case.done(added);
-    }
-    let mut lists = match pred.decl {
-        Decl::Index(lists) => lists,
-        _ => ModeLists::new(case.alloc),
-    };
+    let modes = take_modes(case);
+    let mut lists = lists_of(case.alloc, mem::replace(&mut pred.decl, Decl::Plain));
     let added = lists.push(modes);
     case.done(added);
     pred.decl = Decl::Index(lists);
     let added = preds.push(pred);
     case.done(added);
+}
+
+/// Takes the word of a mode list.
+fn take_modes(case: &mut Case<'_>) -> Modes {
+    let mut modes = Modes::new(case.alloc);
+    for c in case.take_word().chars() {
+        let mode = if c == '+' { Mode::Plus } else { Mode::Minus };
+        let added = modes.push(mode);
+        case.done(added);
+    }
+    modes
+}
+
+/// The mode lists of a predicate so far.
+fn lists_of(alloc: Global, decl: Decl) -> ModeLists {
+    match decl {
+        Decl::Index(lists) => lists,
+        _ => ModeLists::new(alloc),
+    }
 }
 
 /// Adds a fact to the newest predicate.
