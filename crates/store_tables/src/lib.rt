@@ -25,6 +25,7 @@ pub fn answer_words(subject: &str, text: &str, case: &mut Case<'_>) -> bool {
         "answers" => answers::answer(case),
         "marks" => marks::answer(case),
         "stores" => stores::answer(case),
+        "greatest" => stores::answer_copying(case),
         "told" => told::answer(case, text),
         _ => return false,
     }
