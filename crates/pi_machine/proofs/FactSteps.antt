@@ -1,21 +1,17 @@
 -- Lemmas on facts: what a call of a predicate of facts goes on with.
-use Rattle.std.proofs.Common.{◌≡◌, ℕ, List, [], ◌∷◌, refl, ap, sym, ◌∙◌}
-use Rattle.std.specs.Prelude.{Bool, true, false, cond, Option, Some, None, is_some}
-use Rattle.std.specs.List.{list_any}
-use Rattle.pi_terms.specs.Tree.{Trees, Tree, comp}
-use Rattle.pi_terms.specs.Places.{Places}
-use Rattle.pi_states.specs.State.{State, bindings}
-use Rattle.pi_core.specs.GoalTree.{no_goals}
-use Rattle.pi_core.specs.CoreTree.{ClauseTree, PredTree, leaves_others}
-use Rattle.pi_traces.specs.Trace.{Trace, done, alt, then}
-use Rattle.pi_meaning.specs.Builtins.{Builtins, BuiltinsOnlyAdd}
+use Rattle.std.proofs.Common.{◌≡◌, List, [], ◌∷◌, refl, ap, sym, ◌∙◌}
+use Rattle.std.specs.Prelude.{cond, Option, Some, None, is_some}
+use Rattle.pi_terms.specs.Tree.{Trees}
+use Rattle.pi_states.specs.State.{State}
+use Rattle.pi_core.specs.CoreTree.{ClauseTree}
+use Rattle.pi_traces.specs.Trace.{Trace, alt, then}
+use Rattle.pi_meaning.specs.Builtins.{Builtins}
 use Rattle.pi_meaning.specs.Settle.{settled, settled_from}
-use Rattle.pi_meaning.specs.Facts.{facts, facts_called, fits_modes}
-use Rattle.pi_meaning.specs.Level.{Level, Point, LevelBelow, same_but_level}
-use Rattle.pi_syntax.specs.declared.program.Mode.{Mode}
+use Rattle.pi_meaning.specs.Facts.{facts}
+use Rattle.pi_meaning.specs.Level.{Level, Point}
 use Rattle.pi_traces.proofs.TraceLemmas.{alt-done}
-use Rattle.pi_machine.specs.Configuration.{Frame, Back, Entry}
-use Rattle.pi_machine.specs.Remaining.{point, continued, run_from, facts_trace, choice_trace, around, now_trace}
+use Rattle.pi_machine.specs.Configuration.{Back, Entry}
+use Rattle.pi_machine.specs.Remaining.{point, continued, facts_trace, choice_trace, around, now_trace}
 use Rattle.pi_machine.specs.Step.{with_fact, from_unifying, later_facts, fact_tried, try_facts}
 use Rattle.pi_machine.proofs.GoalSteps.{Is}
 use Rattle.pi_machine.proofs.RunLemmas.{no-goal}

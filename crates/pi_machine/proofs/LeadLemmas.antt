@@ -143,12 +143,12 @@ tick-begins v preds names events before after h k = (
 -- ---- steps, and runs that go on with one more
 
 pub silent-on : (v : View) (preds : List PredTree) (names : List NameSlot) (a b c : Config) → Silent v preds names a b → Silent v preds names b c → Silent v preds names a c
-silent-on v preds names a b c h k = record { same = λ d. h.same d ∙ k.same d; lighter = let x : weight b < weight a = h.lighter in let y : weight c < weight b = k.lighter in omega arith }
+silent-on v preds names a b c h k = record { same = λ d. h.same d ∙ k.same d; lighter = let x : weight preds b < weight preds a = h.lighter in let y : weight preds c < weight preds b = k.lighter in omega arith }
 
 pub step-silent : (v : View) (preds : List PredTree) (names : List NameSlot) (c after : Config) → AreOfRules preds → IsGood c → step v preds names c ≡ silently after → Silent v preds names c after
 step-silent v preds names c after sound good h = record {
   same = subst (Comes v preds names c) h (step-comes v preds names c sound good);
-  lighter = subst (GetsLighter c) h (step-lighter v preds names c good);
+  lighter = subst (GetsLighter preds c) h (step-lighter v preds names c good);
 }
 
 pub step-ticks : (v : View) (preds : List PredTree) (names : List NameSlot) (c after : Config) → AreOfRules preds → IsGood c → step v preds names c ≡ with_tick after → Leads v preds names (noted Tick ∷ []) c after

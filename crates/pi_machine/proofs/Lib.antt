@@ -23,3 +23,5 @@ pub mod NamedWeights
 pub mod NamesGiven
 pub mod TermSteps
 pub mod NamedRuns
+pub mod QuietWeights
+pub mod WeightParts

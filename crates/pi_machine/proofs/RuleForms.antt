@@ -13,7 +13,7 @@ use Rattle.pi_meaning.specs.Level.{Level, Point}
 use Rattle.pi_core.specs.CoreTree.{ClauseTree, PredTree, find_pred, is_pred}
 use Rattle.pi_meaning.specs.Rules.{guarded, chosen_rule, rule_before, rules, body_run, body_or_agent}
 use Rattle.pi_traces.proofs.TraceLemmas.{then-alt}
-use Rattle.pi_machine.specs.Built.{WithoutEvents, IsOfRules, AreOfRules, AreCounted}
+use Rattle.pi_machine.specs.Built.{WithoutEvents, IsOfRules, AreOfRules}
 
 pub chosen-followed : {A B C : Type 0} (t : Trace A) (f : A → Trace B) (u : Trace B) (g : B → Trace C) →
     then (chosen t f u) g ≡ chosen t (λ x. then (f x) g) (then u g)
@@ -110,10 +110,3 @@ found-of-rules function name k [] pred h e = absurd cc
 found-of-rules function name k (q ∷ qs) pred h e =
     elim (found-by (is_pred function name k q) q pred (find_pred function name k qs) e) as (λ w. IsOfRules pred)
     [ inl same ↦ subst IsOfRules same h.0 | inr later ↦ found-of-rules function name k qs pred h.1 later ]
-
-pub found-counted : (function : Bool) (name : List ℕ) (k : ℕ) (preds : List PredTree) (pred : PredTree) → AreCounted preds → find_pred function name k preds ≡ Some pred → pred.quiet ≡ false
-unfolding AreCounted find_pred
-found-counted function name k [] pred h e = absurd cc
-found-counted function name k (q ∷ qs) pred h e =
-    elim (found-by (is_pred function name k q) q pred (find_pred function name k qs) e) as (λ w. pred.quiet ≡ false)
-    [ inl same ↦ subst (λ p. p.quiet ≡ false) same h.0 | inr later ↦ found-counted function name k qs pred h.1 later ]

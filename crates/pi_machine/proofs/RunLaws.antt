@@ -12,6 +12,7 @@ use Rattle.pi_meaning.specs.View.{View}
 use Rattle.pi_meaning.specs.Names.{is_later_predicate, is_later_function, is_resource, is_call}
 use Rattle.pi_meaning.specs.Instances.{no_later, whole}
 use Rattle.pi_states.specs.Evaluation.{EvaluatedAll, evaluated_all}
+use Rattle.pi_meaning.specs.Quiet.{TicksBetween}
 use Rattle.pi_meaning.specs.Run.{Solution, query_trace, IsRunUnder}
 use Rattle.pi_core.specs.declared.core_program.NameSlot.{NameSlot}
 use Rattle.pi_traces.proofs.BelowLemmas.{below-events}
@@ -22,94 +23,83 @@ use Rattle.pi_machine.specs.Configuration.{Frame, Entry, choice, strict, catch_l
 use Rattle.pi_machine.specs.Remaining.{remaining}
 use Rattle.pi_machine.specs.Step.{Outcome, silently, with_tick, quietly, answering, ending, call_step, predicate_step, effect_step, function_step, value_step, goal_step, Open, none_open, strict_open, catch_open, newest_open, fits, told_step, answer_step, fail_step, raise_step, now_step, step, start, writing, deeper, later_step, name_step, later_value, other_value}
 use Rattle.pi_machine.specs.Shape.{IsGood}
-use Rattle.pi_machine.specs.Built.{AreOfRules, AreCounted}
+use Rattle.pi_machine.specs.Built.{AreOfRules}
 use Rattle.pi_machine.specs.StepLaws.{Comes, GoesOnGood}
 use Rattle.pi_machine.specs.Weight.{weight, GetsLighter}
 use Rattle.pi_machine.specs.Leads.{Leads, IsAtTick, IsAtEnd}
-use Rattle.pi_machine.proofs.RuleForms.{found-counted}
 use Rattle.pi_machine.proofs.MachineSteps.{step-comes}
 use Rattle.pi_machine.proofs.GoodSteps.{step-good}
 use Rattle.pi_machine.proofs.WeightSteps.{step-lighter}
-use Rattle.pi_machine.proofs.LeadLemmas.{start-good, starts, ended-all, tick-begins, end-behind, events-before, led}
+use Rattle.pi_machine.proofs.LeadLemmas.{starts, ended-all, tick-begins, end-behind, events-before, led}
 use Rattle.pi_effects.specs.Effect.{FunctionEffect, Effect}
 use Rattle.pi_effects.specs.BuiltIns.{built_in_predicate, built_in_function}
 
 -- ---- which steps there are
 
--- no quiet call, and no end in Deep
+-- no end in Deep
 abbrev pub IsProper : Outcome → Type 0
 IsProper (silently next) = ⊤
 IsProper (with_tick next) = ⊤
-IsProper (quietly next) = ⊥
+IsProper (quietly next) = ⊤
 IsProper (deeper next) = ⊤
 IsProper (writing text next) = ⊤
 IsProper (answering x next) = ⊤
 IsProper (ending e) = e ≢ Deep
 
-call-proper : (quiet : Bool) → quiet ≡ false → (c : Config) → IsProper (call_step quiet c)
-call-proper true h c = absurd cc
-call-proper false h c = tt
+call-proper : (quiet : Bool) (c : Config) → IsProper (call_step quiet c)
+call-proper true c = tt
+call-proper false c = tt
 
-predicate-proper : (name : List ℕ) (preds : List PredTree) → AreCounted preds → (all : EvaluatedAll) (k : List Frame) (es : List Entry) (o : Option PredTree) →
-    find_pred false name (tree_count all.trees) preds ≡ o → IsProper (predicate_step o all k es)
-predicate-proper name preds counted all k es None h = tt
-predicate-proper name preds counted all k es (Some pred) h =
-    call-proper pred.quiet (found-counted false name (tree_count all.trees) preds pred counted h) _
+predicate-proper : (o : Option PredTree) (all : EvaluatedAll) (k : List Frame) (es : List Entry) → IsProper (predicate_step o all k es)
+predicate-proper None all k es = tt
+predicate-proper (Some pred) all k es = call-proper pred.quiet _
 
-later-proper : (name : List ℕ) (preds : List PredTree) → AreCounted preds → (all : EvaluatedAll) (k : List Frame) (es : List Entry) (later : Bool) →
-    IsProper (later_step later preds name all k es)
-later-proper name preds counted all k es true = tt
-later-proper name preds counted all k es false = predicate-proper name preds counted all k es (find_pred false name (tree_count all.trees) preds) refl
+later-proper : (later : Bool) (preds : List PredTree) (name : List ℕ) (all : EvaluatedAll) (k : List Frame) (es : List Entry) → IsProper (later_step later preds name all k es)
+later-proper true preds name all k es = tt
+later-proper false preds name all k es = predicate-proper (find_pred false name (tree_count all.trees) preds) all k es
 
-effect-proper : (v : View) (name : List ℕ) (preds : List PredTree) → AreCounted preds → (all : EvaluatedAll) (gs : GoalTrees) (k : List Frame) (es : List Entry) (o : Option Effect) →
-    IsProper (effect_step v o preds name all gs k es)
-effect-proper v name preds counted all gs k es None = later-proper name preds counted all (behind gs k) es (is_later_predicate name (tree_count all.trees))
-effect-proper v name preds counted all gs k es (Some d) = tt
+effect-proper : (v : View) (o : Option Effect) (preds : List PredTree) (name : List ℕ) (all : EvaluatedAll) (gs : GoalTrees) (k : List Frame) (es : List Entry) → IsProper (effect_step v o preds name all gs k es)
+effect-proper v None preds name all gs k es = later-proper (is_later_predicate name (tree_count all.trees)) preds name all (behind gs k) es
+effect-proper v (Some d) preds name all gs k es = tt
 
-name-proper : (v : View) (name : List ℕ) (preds : List PredTree) → AreCounted preds → (all : EvaluatedAll) (gs : GoalTrees) (k : List Frame) (es : List Entry) (called : Bool) →
-    IsProper (name_step called v preds name all gs k es)
-name-proper v name preds counted all gs k es true = tt
-name-proper v name preds counted all gs k es false = effect-proper v name preds counted all gs k es (built_in_predicate name all.trees all.state)
+name-proper : (called : Bool) (v : View) (preds : List PredTree) (name : List ℕ) (all : EvaluatedAll) (gs : GoalTrees) (k : List Frame) (es : List Entry) → IsProper (name_step called v preds name all gs k es)
+name-proper true v preds name all gs k es = tt
+name-proper false v preds name all gs k es = effect-proper v (built_in_predicate name all.trees all.state) preds name all gs k es
 
-function-proper : (name : List ℕ) (preds : List PredTree) → AreCounted preds → (all : EvaluatedAll) (into : ℕ) (k : List Frame) (es : List Entry) (o : Option PredTree) →
-    find_pred true name (tree_count all.trees) preds ≡ o → IsProper (function_step o all into k es)
-function-proper name preds counted all into k es None h = tt
-function-proper name preds counted all into k es (Some pred) h =
-    call-proper pred.quiet (found-counted true name (tree_count all.trees) preds pred counted h) _
+function-proper : (o : Option PredTree) (all : EvaluatedAll) (into : ℕ) (k : List Frame) (es : List Entry) → IsProper (function_step o all into k es)
+function-proper None all into k es = tt
+function-proper (Some pred) all into k es = call-proper pred.quiet _
 
-later-value-proper : (name : List ℕ) (preds : List PredTree) → AreCounted preds → (all : EvaluatedAll) (into : ℕ) (k : List Frame) (es : List Entry) (later : Bool) →
-    IsProper (later_value later preds name all into k es)
-later-value-proper name preds counted all into k es true = tt
-later-value-proper name preds counted all into k es false = function-proper name preds counted all into k es (find_pred true name (tree_count all.trees) preds) refl
+later-value-proper : (later : Bool) (preds : List PredTree) (name : List ℕ) (all : EvaluatedAll) (into : ℕ) (k : List Frame) (es : List Entry) → IsProper (later_value later preds name all into k es)
+later-value-proper true preds name all into k es = tt
+later-value-proper false preds name all into k es = function-proper (find_pred true name (tree_count all.trees) preds) all into k es
 
-other-value-proper : (v : View) (name : List ℕ) (preds : List PredTree) → AreCounted preds → (all : EvaluatedAll) (into : ℕ) (gs : GoalTrees) (k : List Frame) (es : List Entry) (resource : Bool) →
+other-value-proper : (resource : Bool) (v : View) (preds : List PredTree) (name : List ℕ) (all : EvaluatedAll) (into : ℕ) (gs : GoalTrees) (k : List Frame) (es : List Entry) →
     IsProper (other_value resource v preds name all into gs k es)
-other-value-proper v name preds counted all into gs k es true = tt
-other-value-proper v name preds counted all into gs k es false = later-value-proper name preds counted all into (behind gs k) es (is_later_function name (tree_count all.trees))
+other-value-proper true v preds name all into gs k es = tt
+other-value-proper false v preds name all into gs k es = later-value-proper (is_later_function name (tree_count all.trees)) preds name all into (behind gs k) es
 
-value-proper : (v : View) (name : List ℕ) (preds : List PredTree) → AreCounted preds → (all : EvaluatedAll) (into : ℕ) (gs : GoalTrees) (k : List Frame) (es : List Entry) (o : Option FunctionEffect) →
-    IsProper (value_step v o preds name all into gs k es)
-value-proper v name preds counted all into gs k es None = other-value-proper v name preds counted all into gs k es (is_resource name (tree_count all.trees))
-value-proper v name preds counted all into gs k es (Some d) = tt
+value-proper : (v : View) (o : Option FunctionEffect) (preds : List PredTree) (name : List ℕ) (all : EvaluatedAll) (into : ℕ) (gs : GoalTrees) (k : List Frame) (es : List Entry) → IsProper (value_step v o preds name all into gs k es)
+value-proper v None preds name all into gs k es = other-value-proper (is_resource name (tree_count all.trees)) v preds name all into gs k es
+value-proper v (Some d) preds name all into gs k es = tt
 
-goal-proper : (v : View) (preds : List PredTree) → AreCounted preds → (g : GoalTree) (gs : GoalTrees) (e : Places) (s : State) (k : List Frame) (es : List Entry) →
-    IsProper (goal_step v preds g gs e s k es)
+goal-proper : (v : View) (preds : List PredTree) (g : GoalTree) (gs : GoalTrees) (e : Places) (s : State) (k : List Frame) (es : List Entry) → IsProper (goal_step v preds g gs e s k es)
 unfolding goal_step
-goal-proper v preds counted truth gs e s k es = tt
-goal-proper v preds counted fail gs e s k es = tt
-goal-proper v preds counted tick gs e s k es = tt
-goal-proper v preds counted (call name args) gs e s k es =
-    let all : EvaluatedAll = evaluated_all (trees_of args) e s in name-proper v name preds counted all gs k es (is_call name (tree_count all.trees))
-goal-proper v preds counted (apply name args into) gs e s k es =
-    let all : EvaluatedAll = evaluated_all (trees_of args) e s in value-proper v name preds counted all into gs k es (built_in_function name all.trees all.state)
-goal-proper v preds counted (seq hs) gs e s k es = tt
-goal-proper v preds counted (alternatives hs) gs e s k es = tt
-goal-proper v preds counted (if_else test g other) gs e s k es = tt
-goal-proper v preds counted (not g) gs e s k es = tt
-goal-proper v preds counted (once g) gs e s k es = tt
-goal-proper v preds counted (collect g slot into) gs e s k es = tt
-goal-proper v preds counted (count g into) gs e s k es = tt
-goal-proper v preds counted (catch g ball handler) gs e s k es = tt
+goal-proper v preds truth gs e s k es = tt
+goal-proper v preds fail gs e s k es = tt
+goal-proper v preds tick gs e s k es = tt
+goal-proper v preds (call name args) gs e s k es =
+    let all : EvaluatedAll = evaluated_all (trees_of args) e s in name-proper (is_call name (tree_count all.trees)) v preds name all gs k es
+goal-proper v preds (apply name args into) gs e s k es =
+    let all : EvaluatedAll = evaluated_all (trees_of args) e s in value-proper v (built_in_function name all.trees all.state) preds name all into gs k es
+goal-proper v preds (seq hs) gs e s k es = tt
+goal-proper v preds (alternatives hs) gs e s k es = tt
+goal-proper v preds (if_else test g other) gs e s k es = tt
+goal-proper v preds (not g) gs e s k es = tt
+goal-proper v preds (once g) gs e s k es = tt
+goal-proper v preds (collect g slot into) gs e s k es = tt
+goal-proper v preds (count g into) gs e s k es = tt
+goal-proper v preds (catch g ball handler) gs e s k es = tt
 
 told-proper : (fit : Bool) (x : Solution) (es : List Entry) → IsProper (told_step fit x es)
 told-proper true x es = tt
@@ -137,17 +127,17 @@ raise-proper raised (strict level b ∷ es) = tt
 raise-proper raised (catch_level ball handler b ∷ es) = tt
 raise-proper raised (left ∷ es) = tt
 
-now-proper : (v : View) (preds : List PredTree) (names : List NameSlot) → AreCounted preds → (now : Now) (es : List Entry) → IsProper (now_step v preds names now es)
-now-proper v preds names counted (going (goal g gs) e s k) es = goal-proper v preds counted g gs e s k es
-now-proper v preds names counted (going no_goals e s []) es = answer-proper names e s es (newest_open zero es)
-now-proper v preds names counted (going no_goals e s (f ∷ k)) es = tt
-now-proper v preds names counted (telling text gs e s k) es = tt
-now-proper v preds names counted failed es = fail-proper es
-now-proper v preds names counted (raising raised) es = raise-proper raised es
+now-proper : (v : View) (preds : List PredTree) (names : List NameSlot) (now : Now) (es : List Entry) → IsProper (now_step v preds names now es)
+now-proper v preds names (going (goal g gs) e s k) es = goal-proper v preds g gs e s k es
+now-proper v preds names (going no_goals e s []) es = answer-proper names e s es (newest_open zero es)
+now-proper v preds names (going no_goals e s (f ∷ k)) es = tt
+now-proper v preds names (telling text gs e s k) es = tt
+now-proper v preds names failed es = fail-proper es
+now-proper v preds names (raising raised) es = raise-proper raised es
 
-pub step-proper : (v : View) (preds : List PredTree) (names : List NameSlot) (c : Config) → AreCounted preds → IsProper (step v preds names c)
+pub step-proper : (v : View) (preds : List PredTree) (names : List NameSlot) (c : Config) → IsProper (step v preds names c)
 unfolding step
-step-proper v preds names c counted = now-proper v preds names counted c.now c.stack
+step-proper v preds names c = now-proper v preds names c.now c.stack
 
 -- ---- a depth suffices
 
@@ -171,39 +161,42 @@ tick-reaches v preds names zero c after h k =
 tick-reaches v preds names (suc n) c after h k =
     (suc k.0, above-cut (suc n) (note Tick (remaining v preds names k.0 after)) (remaining v preds names (suc k.0) c) (h k.0) k.1)
 
-outcome-reaches : (v : View) (preds : List PredTree) (names : List NameSlot) (n : ℕ) → ((after : Config) → IsGood after → AfterTick v preds names n after) →
-    (w : ℕ) (c : Config) → weight c < suc w → ((after : Config) → weight after < w → IsGood after → DepthReaches v preds names n after) →
-    (o : Outcome) → Comes v preds names c o → GoesOnGood o → GetsLighter c o → IsProper o → DepthReaches v preds names n c
+outcome-reaches : (v : View) (preds : List PredTree) (names : List NameSlot) → TicksBetween preds → (n : ℕ) → ((after : Config) → IsGood after → AfterTick v preds names n after) →
+    (w : ℕ) (c : Config) → weight preds c < suc w → ((after : Config) → weight preds after < w → IsGood after → DepthReaches v preds names n after) →
+    (o : Outcome) → Comes v preds names c o → GoesOnGood o → GetsLighter preds c o → IsProper o → DepthReaches v preds names n c
 unfolding cut
-outcome-reaches v preds names n ticks w c h rec (silently after) comes good lighter proper =
+outcome-reaches v preds names between n ticks w c h rec (silently after) comes good lighter proper =
     let r : DepthReaches v preds names n after = rec after (omega arith) good in
     (r.0, subst (λ t. CutWithoutDeep n t) (sym (comes r.0)) r.1)
-outcome-reaches v preds names n ticks w c h rec (with_tick after) comes good lighter proper = tick-reaches v preds names n c after comes (ticks after good)
-outcome-reaches v preds names n ticks w c h rec (quietly after) comes good lighter proper = absurd proper
-outcome-reaches v preds names n ticks w c h rec (deeper after) comes good lighter proper =
+outcome-reaches v preds names between n ticks w c h rec (with_tick after) comes good lighter proper = tick-reaches v preds names n c after comes (ticks after good)
+outcome-reaches v preds names between n ticks w c h rec (quietly after) comes good lighter proper =
+    let lower : weight preds after < weight preds c = lighter between in
     let r : DepthReaches v preds names n after = rec after (omega arith) good in
     (suc r.0, above-cut n (remaining v preds names r.0 after) (remaining v preds names (suc r.0) c) (comes r.0) r.1)
-outcome-reaches v preds names n ticks w c h rec (writing text after) comes good lighter proper =
+outcome-reaches v preds names between n ticks w c h rec (deeper after) comes good lighter proper =
+    let r : DepthReaches v preds names n after = rec after (omega arith) good in
+    (suc r.0, above-cut n (remaining v preds names r.0 after) (remaining v preds names (suc r.0) c) (comes r.0) r.1)
+outcome-reaches v preds names between n ticks w c h rec (writing text after) comes good lighter proper =
     let r : DepthReaches v preds names n after = rec after (omega arith) good in
     (r.0, subst (λ t. CutWithoutDeep n t) (sym (comes r.0)) r.1)
-outcome-reaches v preds names n ticks w c h rec (answering x after) comes good lighter proper =
+outcome-reaches v preds names between n ticks w c h rec (answering x after) comes good lighter proper =
     let r : DepthReaches v preds names n after = rec after (omega arith) good in
     (r.0, subst (λ t. CutWithoutDeep n t) (sym (comes r.0)) r.1)
-outcome-reaches v preds names n ticks w c h rec (ending e) comes good lighter proper =
+outcome-reaches v preds names between n ticks w c h rec (ending e) comes good lighter proper =
     (0, subst (λ t. CutWithoutDeep n t) (sym (comes 0)) (λ deep. proper cc))
 
 -- before the next Tick
-steps-reach : (v : View) (preds : List PredTree) (names : List NameSlot) → AreOfRules preds → AreCounted preds → (n : ℕ) → ((after : Config) → IsGood after → AfterTick v preds names n after) →
-    (w : ℕ) (c : Config) → weight c < w → IsGood c → DepthReaches v preds names n c
-steps-reach v preds names sound counted n ticks zero c h good = absurd (omega (arith, h))
-steps-reach v preds names sound counted n ticks (suc w) c h good =
-    outcome-reaches v preds names n ticks w c h (λ after less keeps. steps-reach v preds names sound counted n ticks w after less keeps)
-    (step v preds names c) (step-comes v preds names c sound good) (step-good v preds names c good) (step-lighter v preds names c good) (step-proper v preds names c counted)
+steps-reach : (v : View) (preds : List PredTree) (names : List NameSlot) → AreOfRules preds → TicksBetween preds → (n : ℕ) → ((after : Config) → IsGood after → AfterTick v preds names n after) →
+    (w : ℕ) (c : Config) → weight preds c < w → IsGood c → DepthReaches v preds names n c
+steps-reach v preds names sound between n ticks zero c h good = absurd (omega (arith, h))
+steps-reach v preds names sound between n ticks (suc w) c h good =
+    outcome-reaches v preds names between n ticks w c h (λ after less keeps. steps-reach v preds names sound between n ticks w after less keeps)
+    (step v preds names c) (step-comes v preds names c sound good) (step-good v preds names c good) (step-lighter v preds names c good) (step-proper v preds names c)
 
-pub depth-suffices : (v : View) (preds : List PredTree) (names : List NameSlot) (c : Config) → AreOfRules preds → AreCounted preds → IsGood c → (n : ℕ) → DepthReaches v preds names n c
-depth-suffices v preds names c sound counted good zero = steps-reach v preds names sound counted 0 (λ after keeps. tt) (suc (weight c)) c (omega arith) good
-depth-suffices v preds names c sound counted good (suc n) =
-    steps-reach v preds names sound counted (suc n) (λ after keeps. depth-suffices v preds names after sound counted keeps n) (suc (weight c)) c (omega arith) good
+pub depth-suffices : (v : View) (preds : List PredTree) (names : List NameSlot) (c : Config) → AreOfRules preds → TicksBetween preds → IsGood c → (n : ℕ) → DepthReaches v preds names n c
+depth-suffices v preds names c sound between good zero = steps-reach v preds names sound between 0 (λ after keeps. tt) (suc (weight preds c)) c (omega arith) good
+depth-suffices v preds names c sound between good (suc n) =
+    steps-reach v preds names sound between (suc n) (λ after keeps. depth-suffices v preds names after sound between keeps n) (suc (weight preds c)) c (omega arith) good
 
 -- ---- a query's run
 
@@ -259,12 +252,4 @@ run-prefix v program q events c n run h r =
       cut n found.0,
       sym (run-later v program q (count_ticks events + n) run r (h.depth 0) depth refl)
           ∙ (ap (cut (count_ticks events + n)) found.1 ∙ cut-emit events n found.0),
-    )
-
--- the run of a query before each Tick
-pub each-run : (v : View) (program : List PredTree) (q : QueryTree) → AreOfRules (program ++ q.helpers) → AreCounted (program ++ q.helpers) → (n : ℕ) → (run : Cut Solution) × IsRunUnder (whole v no_later (program ++ q.helpers)) program q n run
-each-run v program q sound counted n =
-    let k : DepthReaches v (program ++ q.helpers) q.names n (start q) = depth-suffices v (program ++ q.helpers) q.names (start q) sound counted (start-good q) n in (
-      cut n (query_trace (whole v no_later (program ++ q.helpers)) program q k.0),
-      record { depth = k.0; reaches = subst (λ t. CutWithoutDeep n t) (starts v program q k.0) k.1; is_cut = refl },
     )

@@ -1,5 +1,5 @@
--- Programs of what the machine runs so far: rules and facts, and no action rules; calls of what they define and of what the tables of built-ins have, `call`, and no others.
-use Rattle.std.specs.Prelude.{◌≡◌, false, List, [], ◌∷◌, ◌++◌, ⊤}
+-- Programs of what the machine runs so far: rules and facts, and no action rules; predicates whose calls are counted, and quiet ones, with a Tick on each way round (`IsSound`); calls of what they define and of what the tables of built-ins have, `call`, and no others.
+use Rattle.std.specs.Prelude.{◌≡◌, List, [], ◌∷◌, ◌++◌, ⊤}
 use Rattle.pi_core.specs.CoreTree.{ClauseTree, PredTree, QueryTree}
 use Rattle.pi_meaning.specs.Sound.{IsSoundQuery}
 use Rattle.pi_meaning.specs.Defined.{QueryCallsDefined, NamesAreFree}
@@ -17,15 +17,9 @@ unfoldable pub AreOfRules : List PredTree → Type 0
 AreOfRules [] = ⊤
 AreOfRules (pred ∷ preds) = IsOfRules pred × AreOfRules preds
 
--- no call is quiet
-unfoldable pub AreCounted : List PredTree → Type 0
-AreCounted [] = ⊤
-AreCounted (pred ∷ preds) = (pred.quiet ≡ false) × AreCounted preds
-
 -- a query that the machine runs so far
 pub record IsRunnable (program : List PredTree) (q : QueryTree) : Type 0 where
   pub sound : IsSoundQuery program q
   pub calls : QueryCallsDefined program q
   pub free : NamesAreFree (program ++ q.helpers)
   pub rules : AreOfRules (program ++ q.helpers)
-  pub counted : AreCounted (program ++ q.helpers)

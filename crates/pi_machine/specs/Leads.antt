@@ -9,19 +9,20 @@ use Rattle.pi_meaning.specs.View.{View, Wanted, reading}
 use Rattle.pi_meaning.specs.Instances.{no_later, whole}
 use Rattle.pi_meaning.specs.Level.{Point}
 use Rattle.pi_meaning.specs.Rules.{level_at}
+use Rattle.pi_meaning.specs.Quiet.{TicksBetween}
 use Rattle.pi_meaning.specs.Run.{Solution, answered_with, query_trace, IsRunUnder}
 use Rattle.pi_core.specs.declared.core_program.NameSlot.{NameSlot}
 use Rattle.pi_machine.specs.Configuration.{Config}
 use Rattle.pi_machine.specs.Remaining.{around, remaining}
 use Rattle.pi_machine.specs.Step.{start}
 use Rattle.pi_machine.specs.Shape.{IsGood}
-use Rattle.pi_machine.specs.Built.{AreOfRules, AreCounted}
+use Rattle.pi_machine.specs.Built.{AreOfRules}
 use Rattle.pi_machine.specs.Weight.{weight}
 
 -- a step that does nothing but go on, of which there are only so many in a row
 pub record Silent (v : View) (preds : List PredTree) (names : List NameSlot) (before after : Config) : Type 0 where
   pub same : (d : ℕ) → remaining v preds names d before ≡ remaining v preds names d after
-  pub lighter : weight after < weight before
+  pub lighter : weight preds after < weight preds before
 
 -- steps with these events
 pub record Leads (v : View) (preds : List PredTree) (names : List NameSlot) (events : List (Emitted Solution)) (before after : Config) : Type 0 where
@@ -67,9 +68,9 @@ abbrev pub LeadsOn : Type 0
 LeadsOn = (v : View) (preds : List PredTree) (names : List NameSlot) (front back : List (Emitted Solution)) (a b c : Config) →
     Leads v preds names front a b → Leads v preds names back b c → Leads v preds names (front ++ back) a c
 
--- For each configuration and each number of Ticks there is a depth that reaches so far, where no call is quiet.
+-- For each configuration and each number of Ticks there is a depth that reaches so far, where Ticks stand between the calls of quiet predicates.
 abbrev pub DepthSuffices : Type 0
-DepthSuffices = (v : View) (preds : List PredTree) (names : List NameSlot) (c : Config) → AreOfRules preds → AreCounted preds → IsGood c → (n : ℕ) →
+DepthSuffices = (v : View) (preds : List PredTree) (names : List NameSlot) (c : Config) → AreOfRules preds → TicksBetween preds → IsGood c → (n : ℕ) →
     (d : ℕ) × CutWithoutDeep n (remaining v preds names d c)
 
 -- Where a run has ended, what remained before it was its events and that end, at each depth from some one on.

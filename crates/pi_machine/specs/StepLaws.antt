@@ -43,9 +43,9 @@ StepsAreRight = (v : View) (preds : List PredTree) (names : List NameSlot) (c : 
 abbrev pub StepsStayGood : Type 0
 StepsStayGood = (v : View) (preds : List PredTree) (names : List NameSlot) (c : Config) → IsGood c → GoesOnGood (step v preds names c)
 
--- so between two Ticks there are only so many steps
+-- so between two Ticks there are only so many steps, where Ticks stand between the calls of quiet predicates
 abbrev pub StepsGetLighter : Type 0
-StepsGetLighter = (v : View) (preds : List PredTree) (names : List NameSlot) (c : Config) → IsGood c → GetsLighter c (step v preds names c)
+StepsGetLighter = (v : View) (preds : List PredTree) (names : List NameSlot) (c : Config) → IsGood c → GetsLighter preds c (step v preds names c)
 
 -- A level that is left by an answer is gone, with all that lay above it; so is a `catch` without choices in it, and the
 -- call of a rule that leaves no others. What takes the last branch keeps no choice.

@@ -5,7 +5,7 @@ use Rattle.std.proofs.lemmas.List.Elements.{All-head, All-tail}
 use Rattle.pi_core.specs.CoreTree.{ClauseTree, PredTree, QueryTree}
 use Rattle.pi_syntax.specs.ExpTree.{ExpTree}
 use Rattle.pi_syntax.specs.ProgramTree.{ProgramTree}
-use Rattle.pi_machine.specs.Built.{WithoutEvents, AreOfRules, AreCounted, IsRunnable}
+use Rattle.pi_machine.specs.Built.{WithoutEvents, AreOfRules, IsRunnable}
 use Rattle.pi_sound.specs.Laws.{IsPlain}
 use Rattle.pi_rewrite.specs.Laws.{IsLowered}
 use Rattle.pi_top.specs.JudgedCode.{IsAsked}
@@ -24,16 +24,9 @@ of-rules (p ∷ ps) all =
     let plain : IsPlain p = All-head IsPlain p ps all in
     (record { without_events = without-events p.clauses plain.watches }, of-rules ps (All-tail IsPlain p ps all))
 
-counted : (ps : List PredTree) → All IsPlain ps → AreCounted ps
-unfolding AreCounted
-counted [] all = tt
-counted (p ∷ ps) all =
-    let plain : IsPlain p = All-head IsPlain p ps all in
-    (plain.quiet, counted ps (All-tail IsPlain p ps all))
-
 lowered-runnable : (source : ProgramTree) (asked : ExpTree) (program : List PredTree) (q : QueryTree) → IsLowered source asked program q → IsRunnable program q
 lowered-runnable source asked program q is =
-    record { sound = is.sound; calls = is.closed; free = is.free; rules = of-rules (program ++ q.helpers) is.plain; counted = counted (program ++ q.helpers) is.plain }
+    record { sound = is.sound; calls = is.closed; free = is.free; rules = of-rules (program ++ q.helpers) is.plain }
 
 pub asked-runnable : (text goal : List ℕ) (program : List PredTree) (q : QueryTree) → IsAsked text goal program q → IsRunnable program q
 asked-runnable text goal program q is = lowered-runnable is.source is.asked program q is.lowered
