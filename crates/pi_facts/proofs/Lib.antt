@@ -1,3 +1,6 @@
 pub mod HeadLemmas
 pub mod TryingLemmas
 pub mod ModeLemmas
+pub mod LeaveLemmas
+pub mod CellLemmas
+pub mod RootLemmas

@@ -1,3 +1,4 @@
 pub mod Heads
 pub mod Trying
 pub mod Modes
+pub mod Roots

@@ -3,6 +3,7 @@
 
 mod heads;
 mod modes;
+mod roots;
 mod trying;
 
 pub use heads::unify_fact;

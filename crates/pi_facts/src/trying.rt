@@ -9,6 +9,7 @@ ghost use Rattle.pi_machine.specs.Step.{with_fact};
 ghost use Rattle.pi_facts.specs.Trying.{IsNext};
 
 use crate::heads::unify_fact;
+use crate::roots::differs;
 use pi_core::CoreClause;
 use pi_states::{Ref, StateStore};
 use std::alloc::{AllocError, Global};
@@ -23,8 +24,12 @@ pub fn unifies<S: StateStore>(
     ensures stays { IfOk result (λ _. (ts : Trees) → IsState (S.seen s.old).now.state → IsTerm (S.seen s.old) call (comp [] ts) → Stays (S.seen s.old) (S.seen s.new)) }
     ensures tells { IfOk result (λ one. (ts : Trees) → IsState (S.seen s.old).now.state → IsTerm (S.seen s.old) call (comp [] ts) → one ≡ is_some (with_fact ts (S.seen s.old).now.state (clause_tree fact.now))) }
 {
+    let head = fact.head.as_slice();
+    if differs(s, head, call) {
+        return Ok(false);
+    }
     let mark = s.mark()?;
-    let one = unify_fact(alloc, s, fact.head.as_slice(), fact.slots, call)?;
+    let one = unify_fact(alloc, s, head, fact.slots, call)?;
     s.undo(&mark);
     Ok(one)
 }
