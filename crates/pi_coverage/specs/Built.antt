@@ -1,4 +1,4 @@
--- Which parts of a program and which goals are built, by what is written alone: all forms but loops, comprehensions, `index` and facts, events, constraints, labelling and what
+-- Which parts of a program and which goals are built, by what is written alone: all forms but loops, comprehensions, events, constraints, labelling and what
 -- planning gives (and `V@P` behind `$`, which no text without a fault has). A name that is called is one of the tables of built-in predicates and functions, one of the prelude's
 -- predicates, or one that the language doesn't give. (Own.)
 use Rattle.std.specs.Prelude.{ℕ, zero, suc, ◌+◌, Bool, true, false, not, ◌&&◌, ◌||◌, cond, if◌then◌else◌, List, [], ◌∷◌, Option, Some, None, is_none, codes}
@@ -186,13 +186,18 @@ is_built_function_rule f =
 abbrev pub is_built_clause : WrittenClause → Bool
 is_built_clause (rule r) = is_built_rule r
 is_built_clause (function f) = is_built_function_rule f
-is_built_clause (fact head) = false
+is_built_clause (fact head) = are_built_patterns (head_arguments head)
+
+abbrev pub has_built_clause : Option WrittenClause → Bool
+has_built_clause None = false
+has_built_clause (Some c) = is_built_clause c
 
 -- by what a part declares and by its clause
 abbrev pub is_built : Decl → Option WrittenClause → Bool
-is_built Decl.Plain (Some c) = is_built_clause c
+is_built Decl.Plain o = has_built_clause o
 is_built (Decl.Import names) None = true
-is_built _ _ = false
+is_built (Decl.Import names) (Some c) = false
+is_built (Decl.Index lists) o = has_built_clause o
 
 abbrev pub is_built_part : PartTree → Bool
 is_built_part p = is_built p.decl p.clause

@@ -25,12 +25,18 @@ fn is_built_part(part: &Part) -> bool
     ensures { result ≡ spec.is_built_part (part_tree part.now) }
 {
     match &part.decl {
-        Decl::Plain => match &part.clause {
-            Some(clause) => is_built_clause(clause),
-            None => false,
-        },
+        Decl::Plain => has_built_clause(&part.clause),
         Decl::Import(_) => part.clause.is_none(),
-        Decl::Index(_) => false,
+        Decl::Index(_) => has_built_clause(&part.clause),
+    }
+}
+
+fn has_built_clause(clause: &Option<Clause>) -> bool
+    ensures { result ≡ spec.has_built_clause (option_map written_clause clause.now) }
+{
+    match clause {
+        Some(clause) => is_built_clause(clause),
+        None => false,
     }
 }
 
@@ -58,7 +64,7 @@ fn is_built_clause(clause: &Clause) -> bool
                 & (is_built_goal_or_none(cond)
                     & (is_built_goal_or_none(body) & is_built_value(value)))
         }
-        Clause::Fact { .. } => false,
+        Clause::Fact { head } => is_built_head(head),
     }
 }
 

@@ -12,7 +12,7 @@ use Rattle.pi_names.specs.Prelude.{prelude}
 use Rattle.pi_clauses.specs.Calls.{Named, calls_among, first_unknown}
 use Rattle.pi_clauses.specs.GoalVerdict.{defined_by_program}
 use Rattle.pi_clauses.specs.Places.{goal, expression, test, placed, placed_if, clause_placed}
-use Rattle.pi_clauses.specs.Verdict.{Unknown, JudgedPart, refused, libraries, one_clause, judged, as_list, definition, all_defined, part_calls, unknown_or, first_unknown_in, decl_of, parts_of}
+use Rattle.pi_clauses.specs.Verdict.{Unknown, JudgedClause, JudgedPart, refused, libraries, one_clause, judged, as_list, definition, all_defined, part_calls, unknown_or, first_unknown_in, decl_of, parts_of}
 use Rattle.pi_coverage.specs.Built.{are_built_patterns, is_built_goal, is_built_value, is_built_goal_or_none, are_none, is_built_rule, is_built_function_rule, is_built_clause, is_built, is_built_part, unbuilt_from, unbuilt_part}
 use Rattle.pi_lowered.specs.Forms.{Knows}
 use Rattle.pi_lowered.specs.Within.{knows, IsGoalOrNone, IsRule, IsFunction, IsClause, IsPart, IsWithin}
@@ -23,7 +23,8 @@ use Rattle.pi_faultless.proofs.BuiltCalls.{Has}
 use Rattle.pi_faultless.proofs.BuiltGoals.{value-of, goal-of}
 use Rattle.pi_faultless.proofs.KnownNames.{program-has}
 use Rattle.pi_faultless.proofs.FreeHeads.{head-free}
-use Rattle.pi_faultless.proofs.FaultlessParts.{IsGood, AreGood, IsFaultless, faultless}
+use Rattle.pi_faultless.proofs.FaultlessParts.{IsGood, AreGood, IsIndexedWell, AreIndexedWell, IsFaultless, faultless}
+use Rattle.pi_faultless.proofs.IndexedFacts.{modes-fit, program-indexed}
 use Rattle.pi_faultless.proofs.AdjacentClauses.{program-together, program-apart}
 
 -- ---- clauses
@@ -66,33 +67,39 @@ function-of defined known has f built fine =
 clause-of : (defined : List Named) (known : Knows) → Has defined known → (c : WrittenClause) → is_built_clause c ≡ true → IsGood defined c → AreFine defined (clause_placed c) → IsClause known (Some c)
 clause-of defined known has (rule r) built good fine = (rule-of defined known has r built fine, head-free r.head good.head good.own)
 clause-of defined known has (function f) built good fine = (function-of defined known has f built fine, head-free f.head good.head good.own)
-clause-of defined known has (fact head) built good fine = absurd cc
+clause-of defined known has (fact head) built good fine = (patterns-of (head_arguments head) built, head-free head good.head good.own)
 
 -- ---- parts
 
-part-of : (defined : List Named) (known : Knows) → Has defined known → (modes : Option (List (List Mode))) (c : WrittenClause) → is_built (decl_of modes) (Some c) ≡ true → IsGood defined c →
-    first_unknown defined (calls_among (clause_placed c)) ≡ None → IsPart known (record { decl = decl_of modes; clause = Some c })
-part-of defined known has None c built good none = record { index = refl; clause = clause-of defined known has c built good (nodes-fine defined (clause_placed c) none good.placed) }
-part-of defined known has (Some lists) c built good none = absurd cc
+clause-built : (modes : Option (List (List Mode))) (c : WrittenClause) → is_built (decl_of modes) (Some c) ≡ true → is_built_clause c ≡ true
+clause-built None c built = built
+clause-built (Some lists) c built = built
+
+part-of : (defined : List Named) (known : Knows) → Has defined known → (before : List JudgedPart) (j : JudgedClause) → is_built (decl_of j.modes) (Some j.clause) ≡ true → IsGood defined j.clause → IsIndexedWell before j →
+    first_unknown defined (calls_among (clause_placed j.clause)) ≡ None → IsPart known (record { decl = decl_of j.modes; clause = Some j.clause })
+part-of defined known has before j built good well none = record {
+  modes = modes-fit defined before j good well;
+  clause = clause-of defined known has j.clause (clause-built j.modes j.clause built) good (nodes-fine defined (clause_placed j.clause) none good.placed);
+}
 
 none-behind : (o : Option Named) (number : ℕ) (later : Option Unknown) → unknown_or o number later ≡ None → (o ≡ None) × (later ≡ None)
 none-behind None number later e = (refl, e)
 none-behind (Some c) number later e = absurd cc
 
-parts-within : (defined : List Named) (known : Knows) → Has defined known → (number before : ℕ) (js : List JudgedPart) → AreGood defined js → unbuilt_from number (parts_of js) ≡ None →
-    first_unknown_in defined before js ≡ None → All (IsPart known) (parts_of js)
+parts-within : (defined : List Named) (known : Knows) → Has defined known → (number count : ℕ) (before js : List JudgedPart) → AreGood defined js → AreIndexedWell before js → unbuilt_from number (parts_of js) ≡ None →
+    first_unknown_in defined count js ≡ None → All (IsPart known) (parts_of js)
 unfolding unbuilt_from
-parts-within defined known has number before [] good built none = All-nil (IsPart known)
-parts-within defined known has number before (refused fault ∷ js) good built none = absurd good
-parts-within defined known has number before (libraries names ∷ js) good built none =
-    All-cons (IsPart known) (record { decl = Decl.Import names; clause = None }) (parts_of js) (record { index = refl; clause = tt })
-    (parts-within defined known has (number + 1) (before + 1) js good built none)
-parts-within defined known has number before (one_clause j ∷ js) good built none =
+parts-within defined known has number count before [] good well built none = All-nil (IsPart known)
+parts-within defined known has number count before (refused fault ∷ js) good well built none = absurd good
+parts-within defined known has number count before (libraries names ∷ js) good well built none =
+    All-cons (IsPart known) (record { decl = Decl.Import names; clause = None }) (parts_of js) (record { modes = tt; clause = tt })
+    (parts-within defined known has (number + 1) (count + 1) (before ++ libraries names ∷ []) js good well built none)
+parts-within defined known has number count before (one_clause j ∷ js) good well built none =
     let part : PartTree = record { decl = decl_of j.modes; clause = Some j.clause } in
     let built_here = goes-on (is_built_part part) (unbuilt_from (number + 1) (parts_of js)) number built in
-    let known_here = none-behind (first_unknown defined (part_calls (one_clause j))) (before + 1) (first_unknown_in defined (before + 1) js) none in
-    All-cons (IsPart known) part (parts_of js) (part-of defined known has j.modes j.clause built_here.0 good.0 known_here.0)
-    (parts-within defined known has (number + 1) (before + 1) js good.1 built_here.1 known_here.1)
+    let known_here = none-behind (first_unknown defined (part_calls (one_clause j))) (count + 1) (first_unknown_in defined (count + 1) js) none in
+    All-cons (IsPart known) part (parts_of js) (part-of defined known has before j built_here.0 good.0 well.0 known_here.0)
+    (parts-within defined known has (number + 1) (count + 1) (before ++ one_clause j ∷ []) js good.1 well.1 built_here.1 known_here.1)
 
 -- ---- the whole
 
@@ -107,8 +114,9 @@ within program js is built =
     let known : Knows = knows (prelude ++ parts_of js) in
     let has : Has (all_defined js) known = subst (λ ds. Has ds known) (parts-define js) (program-has (parts_of js)) in
     let judged_parts : IsWithin (parts_of js) = record {
-      parts = parts-within (all_defined js) known has 1 0 js is.good (subst (λ p. unbuilt_part p ≡ None) is.parts built) is.known;
+      parts = parts-within (all_defined js) known has 1 0 [] js is.good is.indexed (subst (λ p. unbuilt_part p ≡ None) is.parts built) is.known;
       together = program-together js is.good is.adjacent;
+      indexed = program-indexed (all_defined js) js is.good is.indexed;
       apart = program-apart js is.good;
     } in
     subst IsWithin (sym is.parts) judged_parts

@@ -9,5 +9,6 @@ mod FreeHeads
 pub mod FaultlessParts
 mod ShownKeys
 mod AdjacentClauses
+mod IndexedFacts
 pub mod FaultlessPrograms
 pub mod FaultlessGoals

@@ -159,7 +159,7 @@ not-prelude-before name k own =
     false_from_ne_true (list_any (is_key_of name k) prelude-before)
     (λ h. false≢true (sym own ∙ signatures-hold (λ n j. is_some (kind_of n j)) before-signed refl name k h))
 
-not-prelude : (name : List ℕ) (k : ℕ) → is_some (kind_of name k) ≡ false → list_any (is_key_of name k) (keys prelude) ≡ false
+pub not-prelude : (name : List ℕ) (k : ℕ) → is_some (kind_of name k) ≡ false → list_any (is_key_of name k) (keys prelude) ≡ false
 unfolding prelude exp_count front-signed each-signed kind_of function_rows predicate_rows prelude_rows
 not-prelude name k own =
     false_from_ne_true (list_any (is_key_of name k) (keys prelude))

@@ -70,7 +70,7 @@ unfolding RulesAreBuilt
 part-rules d None ps h none rest = rest
 part-rules Decl.Plain (Some (rule r)) ps h none rest = ((h, none), rest)
 part-rules (Decl.Import names) (Some (rule r)) ps h none rest = absurd cc
-part-rules (Decl.Index lists) (Some (rule r)) ps h none rest = absurd cc
+part-rules (Decl.Index lists) (Some (rule r)) ps h none rest = ((h, none), rest)
 part-rules d (Some (function f)) ps h none rest = rest
 part-rules d (Some (fact head)) ps h none rest = rest
 
@@ -100,7 +100,7 @@ part-functions d None ps h none rest = rest
 part-functions d (Some (rule r)) ps h none rest = rest
 part-functions Decl.Plain (Some (function f)) ps h none rest = ((h, none), rest)
 part-functions (Decl.Import names) (Some (function f)) ps h none rest = absurd cc
-part-functions (Decl.Index lists) (Some (function f)) ps h none rest = absurd cc
+part-functions (Decl.Index lists) (Some (function f)) ps h none rest = ((h, none), rest)
 part-functions d (Some (fact head)) ps h none rest = rest
 
 pub functions-built : (ps : ProgramTree) → PartsAreBuilt ps → FunctionsAreBuilt (functions_of ps)

@@ -1,23 +1,20 @@
--- The predicates and functions of a lowered program: each has all clauses of its name and number of arguments, in order.
-use Rattle.std.proofs.Common.{◌≡◌, inl, inr, ℕ, Bool, true, false, cond, List, [], ◌∷◌, ◌++◌, map, refl, sym, ◌∙◌, ap, subst, arith, append_assoc}
-use Rattle.std.specs.Prelude.{Option, Some, None, filter, filter_map, Contains, ◌==◌, ◌&&◌}
+-- The predicates and functions that clauses make: each has all clauses of its name and number of arguments, in order, and the mode lists of the first.
+use Rattle.std.proofs.Common.{◌≡◌, inl, inr, ℕ, Bool, true, false, List, [], ◌∷◌, ◌++◌, map, refl, sym, ◌∙◌, ap, subst, arith, append_assoc}
+use Rattle.std.specs.Prelude.{Option, Some, None, filter, Contains, ◌==◌, ◌&&◌}
 use Rattle.std.specs.Str.{bytes_eq}
 use Rattle.std.specs.Bool.{Decides}
-use Rattle.std.specs.List.{AllByRecursion, cons_option}
 use Rattle.std.proofs.lemmas.Bool.{cond-true, cond-false, false≢true, and_parts}
 use Rattle.std.proofs.lemmas.Bool.Decides.{Decides-eqb, Decides-and}
 use Rattle.std.proofs.lemmas.Slice.Eq.{bytes_eq-Decides}
 use Rattle.std.proofs.lemmas.List.Elements.{Contains-append_right}
 use Rattle.std.proofs.lemmas.List.{append-nil}
 use Rattle.pi_core.specs.CoreTree.{ClauseTree, PredTree, is_pred, find_pred}
-use Rattle.pi_syntax.specs.ProgramTree.{WrittenClause, rule, function, fact, ProgramTree}
-use Rattle.pi_syntax.specs.Signature.{Signature, signature}
-use Rattle.pi_meaning.specs.WrittenRules.{is_signature, is_rule_of, rule_in, rules_of}
-use Rattle.pi_names.specs.Rules.{is_head_of, function_in, rules_named, functions_named}
-use Rattle.pi_lowered.specs.Lowered.{lowered_rule, lowered_function, named_by, Lowering, lowered_clause, lowerings, same_kind, is_clause_of, grouped, grouped_all}
-use Rattle.pi_lowered.specs.Forms.{Knows}
-use Rattle.pi_lowered.specs.Within.{IsClause, IsPart, Key, key_of, keys, GoesOn, StandTogether}
-use Rattle.pi_lowered.specs.Clauses.{pred_with, HasClauses}
+use Rattle.pi_syntax.specs.Signature.{Signature}
+use Rattle.pi_syntax.specs.declared.program.Mode.{Mode}
+use Rattle.pi_meaning.specs.WrittenRules.{is_signature}
+use Rattle.pi_lowered.specs.Lowered.{Lowering, same_kind, is_clause_of, grouped, grouped_all}
+use Rattle.pi_lowered.specs.Within.{Key, GoesOn, StandTogether}
+use Rattle.pi_lowered.specs.Clauses.{pred_with}
 use Rattle.pi_lowered.proofs.HeadLemmas.{text_by_order}
 
 -- ---- which clauses are of what
@@ -34,14 +31,22 @@ key c = of c.is_function c.head
 abbrev pub matches : Bool → Signature → Bool → Signature → Bool
 matches kind s other t = same_kind kind other && is_signature s.name s.arity (Some t)
 
-abbrev pub pred_of : Bool → Signature → List ClauseTree → PredTree
-pred_of kind s cs = record { name = s.name; arity = s.arity; function = kind; quiet = false; index = None; clauses = cs }
+abbrev pub Modes : Type 0
+Modes = Option (List (List Mode))
+
+abbrev pub pred_of : Bool → Signature → Modes → List ClauseTree → PredTree
+pred_of kind s m cs = record { name = s.name; arity = s.arity; function = kind; quiet = false; index = m; clauses = cs }
 
 abbrev pub chosen : Bool → Signature → List Lowering → List Lowering
 chosen kind s cs = filter (λ c. matches kind s c.is_function c.head) cs
 
 abbrev pub clauses : List Lowering → List ClauseTree
 clauses cs = map (λ c. c.clause) cs
+
+-- the mode lists of the first
+abbrev pub modes_in : List Lowering → Modes
+modes_in [] = None
+modes_in (c ∷ cs) = c.modes
 
 sign-decides : (name : List ℕ) (k : ℕ) (s : Signature) → Decides (is_signature name k (Some s)) ((s.name ≡ name) × (s.arity ≡ k))
 sign-decides name k s = Decides-and (bytes_eq s.name name) (s.arity == k) (bytes_eq-Decides s.name name) (Decides-eqb s.arity k)
@@ -74,18 +79,18 @@ matches-not kind s other t apart = go (matches kind s other t) refl
 
 -- ---- looking up
 
-is-it : (kind : Bool) (s : Signature) (other : Bool) (t : Signature) (cs : List ClauseTree) → is_pred kind s.name s.arity (pred_of other t cs) ≡ matches kind s other t
-is-it true s other t cs = ap (λ b. other && (b && (t.arity == s.arity))) (text_by_order t.name s.name)
-is-it false s true t cs = refl
-is-it false s false t cs = ap (λ b. b && (t.arity == s.arity)) (text_by_order t.name s.name)
+is-it : (kind : Bool) (s : Signature) (other : Bool) (t : Signature) (m : Modes) (cs : List ClauseTree) → is_pred kind s.name s.arity (pred_of other t m cs) ≡ matches kind s other t
+is-it true s other t m cs = ap (λ b. other && (b && (t.arity == s.arity))) (text_by_order t.name s.name)
+is-it false s true t m cs = refl
+is-it false s false t m cs = ap (λ b. b && (t.arity == s.arity)) (text_by_order t.name s.name)
 
-find-first : (kind : Bool) (s : Signature) (other : Bool) (t : Signature) (cs : List ClauseTree) (ps : List PredTree) → matches kind s other t ≡ true → find_pred kind s.name s.arity (pred_of other t cs ∷ ps) ≡ Some (pred_of other t cs)
+find-first : (kind : Bool) (s : Signature) (other : Bool) (t : Signature) (m : Modes) (cs : List ClauseTree) (ps : List PredTree) → matches kind s other t ≡ true → find_pred kind s.name s.arity (pred_of other t m cs ∷ ps) ≡ Some (pred_of other t m cs)
 unfolding find_pred
-find-first kind s other t cs ps h = cond-true (is_pred kind s.name s.arity (pred_of other t cs)) (Some (pred_of other t cs)) (find_pred kind s.name s.arity ps) (is-it kind s other t cs ∙ h)
+find-first kind s other t m cs ps h = cond-true (is_pred kind s.name s.arity (pred_of other t m cs)) (Some (pred_of other t m cs)) (find_pred kind s.name s.arity ps) (is-it kind s other t m cs ∙ h)
 
-find-behind : (kind : Bool) (s : Signature) (other : Bool) (t : Signature) (cs : List ClauseTree) (ps : List PredTree) → matches kind s other t ≡ false → find_pred kind s.name s.arity (pred_of other t cs ∷ ps) ≡ find_pred kind s.name s.arity ps
+find-behind : (kind : Bool) (s : Signature) (other : Bool) (t : Signature) (m : Modes) (cs : List ClauseTree) (ps : List PredTree) → matches kind s other t ≡ false → find_pred kind s.name s.arity (pred_of other t m cs ∷ ps) ≡ find_pred kind s.name s.arity ps
 unfolding find_pred
-find-behind kind s other t cs ps h = cond-false (is_pred kind s.name s.arity (pred_of other t cs)) (Some (pred_of other t cs)) (find_pred kind s.name s.arity ps) (is-it kind s other t cs ∙ h)
+find-behind kind s other t m cs ps h = cond-false (is_pred kind s.name s.arity (pred_of other t m cs)) (Some (pred_of other t m cs)) (find_pred kind s.name s.arity ps) (is-it kind s other t m cs ∙ h)
 
 find-nothing : (kind : Bool) (s : Signature) → find_pred kind s.name s.arity [] ≡ None
 unfolding find_pred
@@ -93,18 +98,18 @@ find-nothing kind s = refl
 
 -- ---- groups
 
-pub grouped-none : (kind : Bool) (s : Signature) (ds : List ClauseTree) → grouped (pred_of kind s ds) [] ≡ pred_of kind s ds ∷ []
+pub grouped-none : (kind : Bool) (s : Signature) (m : Modes) (ds : List ClauseTree) → grouped (pred_of kind s m ds) [] ≡ pred_of kind s m ds ∷ []
 unfolding grouped
-grouped-none kind s ds = refl
+grouped-none kind s m ds = refl
 
-pub grouped-same : (kind : Bool) (s : Signature) (ds : List ClauseTree) (c : Lowering) (cs : List Lowering) → matches kind s c.is_function c.head ≡ true → grouped (pred_of kind s ds) (c ∷ cs) ≡ grouped (pred_of kind s (ds ++ c.clause ∷ [])) cs
+pub grouped-same : (kind : Bool) (s : Signature) (m : Modes) (ds : List ClauseTree) (c : Lowering) (cs : List Lowering) → matches kind s c.is_function c.head ≡ true → grouped (pred_of kind s m ds) (c ∷ cs) ≡ grouped (pred_of kind s m (ds ++ c.clause ∷ [])) cs
 unfolding grouped
-grouped-same kind s ds c cs h = cond-true (is_clause_of (pred_of kind s ds) c) _ _ h
+grouped-same kind s m ds c cs h = cond-true (is_clause_of (pred_of kind s m ds) c) _ _ h
 
-pub grouped-other : (kind : Bool) (s : Signature) (ds : List ClauseTree) (c : Lowering) (cs : List Lowering) → matches kind s c.is_function c.head ≡ false →
-    grouped (pred_of kind s ds) (c ∷ cs) ≡ pred_of kind s ds ∷ grouped (pred_of c.is_function c.head (c.clause ∷ [])) cs
+pub grouped-other : (kind : Bool) (s : Signature) (m : Modes) (ds : List ClauseTree) (c : Lowering) (cs : List Lowering) → matches kind s c.is_function c.head ≡ false →
+    grouped (pred_of kind s m ds) (c ∷ cs) ≡ pred_of kind s m ds ∷ grouped (pred_of c.is_function c.head c.modes (c.clause ∷ [])) cs
 unfolding grouped
-grouped-other kind s ds c cs h = cond-false (is_clause_of (pred_of kind s ds) c) _ _ h
+grouped-other kind s m ds c cs h = cond-false (is_clause_of (pred_of kind s m ds) c) _ _ h
 
 chosen-it : (kind : Bool) (s : Signature) (c : Lowering) (cs : List Lowering) → matches kind s c.is_function c.head ≡ true → chosen kind s (c ∷ cs) ≡ c ∷ chosen kind s cs
 chosen-it kind s c cs h = cond-true (matches kind s c.is_function c.head) (c ∷ chosen kind s cs) (chosen kind s cs) h
@@ -129,28 +134,28 @@ none-ahead kind s last before (c ∷ cs) other there together =
     go (inr new) e = new (subst (λ (x : Key). Contains (last ∷ before) x) (sym e) there)
 
 -- the one that is being made has all its clauses
-find-here : (kind : Bool) (s : Signature) (ds : List ClauseTree) (cs : List Lowering) (before : List Key) → StandTogether (of kind s ∷ before) (keys_of cs) →
-    find_pred kind s.name s.arity (grouped (pred_of kind s ds) cs) ≡ Some (pred_of kind s (ds ++ clauses (chosen kind s cs)))
+find-here : (kind : Bool) (s : Signature) (m : Modes) (ds : List ClauseTree) (cs : List Lowering) (before : List Key) → StandTogether (of kind s ∷ before) (keys_of cs) →
+    find_pred kind s.name s.arity (grouped (pred_of kind s m ds) cs) ≡ Some (pred_of kind s m (ds ++ clauses (chosen kind s cs)))
 unfolding StandTogether
-find-here kind s ds [] before together =
-    ap (find_pred kind s.name s.arity) (grouped-none kind s ds) ∙ find-first kind s kind s ds [] (matches-itself kind s) ∙ ap (λ xs. Some (pred_of kind s xs)) (sym (append-nil ds))
-find-here kind s ds (c ∷ cs) before together = tested (matches kind s c.is_function c.head) refl (λ same. find-here kind s (ds ++ c.clause ∷ []) cs (of kind s ∷ before) same)
+find-here kind s m ds [] before together =
+    ap (find_pred kind s.name s.arity) (grouped-none kind s m ds) ∙ find-first kind s kind s m ds [] (matches-itself kind s) ∙ ap (λ xs. Some (pred_of kind s m xs)) (sym (append-nil ds))
+find-here kind s m ds (c ∷ cs) before together = tested (matches kind s c.is_function c.head) refl (λ same. find-here kind s m (ds ++ c.clause ∷ []) cs (of kind s ∷ before) same)
   where
     tested : (b : Bool) → matches kind s c.is_function c.head ≡ b →
-        (StandTogether (of kind s ∷ of kind s ∷ before) (keys_of cs) → find_pred kind s.name s.arity (grouped (pred_of kind s (ds ++ c.clause ∷ [])) cs) ≡ Some (pred_of kind s ((ds ++ c.clause ∷ []) ++ clauses (chosen kind s cs)))) →
-        find_pred kind s.name s.arity (grouped (pred_of kind s ds) (c ∷ cs)) ≡ Some (pred_of kind s (ds ++ clauses (chosen kind s (c ∷ cs))))
+        (StandTogether (of kind s ∷ of kind s ∷ before) (keys_of cs) → find_pred kind s.name s.arity (grouped (pred_of kind s m (ds ++ c.clause ∷ [])) cs) ≡ Some (pred_of kind s m ((ds ++ c.clause ∷ []) ++ clauses (chosen kind s cs)))) →
+        find_pred kind s.name s.arity (grouped (pred_of kind s m ds) (c ∷ cs)) ≡ Some (pred_of kind s m (ds ++ clauses (chosen kind s (c ∷ cs))))
     tested true h more =
         let e : (c.is_function ≡ kind) × (c.head ≡ s) = matches-same kind s c.is_function c.head h in
-        ap (find_pred kind s.name s.arity) (grouped-same kind s ds c cs h)
+        ap (find_pred kind s.name s.arity) (grouped-same kind s m ds c cs h)
         ∙ more (subst (λ (x : Key). StandTogether (x ∷ of kind s ∷ before) (keys_of cs)) (ap (λ k. of k c.head) e.0 ∙ ap (of kind) e.1) together.1)
-        ∙ ap (λ xs. Some (pred_of kind s xs)) (append_assoc ds (c.clause ∷ []) (clauses (chosen kind s cs)))
-        ∙ ap (λ xs. Some (pred_of kind s (ds ++ clauses xs))) (sym (chosen-it kind s c cs h))
+        ∙ ap (λ xs. Some (pred_of kind s m xs)) (append_assoc ds (c.clause ∷ []) (clauses (chosen kind s cs)))
+        ∙ ap (λ xs. Some (pred_of kind s m (ds ++ clauses xs))) (sym (chosen-it kind s c cs h))
     tested false h more =
         let other : key c ≡ of kind s → ⊥ = λ e. false≢true (sym h ∙ reversed e) in
-        ap (find_pred kind s.name s.arity) (grouped-other kind s ds c cs h)
-        ∙ find-first kind s kind s ds _ (matches-itself kind s)
-        ∙ ap (λ xs. Some (pred_of kind s xs)) (sym (append-nil ds))
-        ∙ ap (λ xs. Some (pred_of kind s (ds ++ clauses xs))) (sym (chosen-not kind s c cs h ∙ none-ahead kind s (key c) (of kind s ∷ before) cs other (1, omega arith, refl) together.1))
+        ap (find_pred kind s.name s.arity) (grouped-other kind s m ds c cs h)
+        ∙ find-first kind s kind s m ds _ (matches-itself kind s)
+        ∙ ap (λ xs. Some (pred_of kind s m xs)) (sym (append-nil ds))
+        ∙ ap (λ xs. Some (pred_of kind s m (ds ++ clauses xs))) (sym (chosen-not kind s c cs h ∙ none-ahead kind s (key c) (of kind s ∷ before) cs other (1, omega arith, refl) together.1))
       where
         signed : Option Signature → Signature
         signed None = s
@@ -160,100 +165,47 @@ find-here kind s ds (c ∷ cs) before together = tested (matches kind s c.is_fun
         reversed e =
             ap (λ (x : Key). matches kind s x.kind (signed x.named)) e ∙ matches-itself kind s
 
-abbrev pub pred_from : Bool → Signature → List ClauseTree → Option PredTree
-pred_from kind s cs = pred_with kind s.name s.arity cs
+abbrev pub pred_from : Bool → Signature → List Lowering → Option PredTree
+pred_from kind s cs = pred_with kind s.name s.arity (modes_in cs) (clauses cs)
 
 -- one that begins here
 find-begun : (kind : Bool) (s : Signature) (c : Lowering) (cs : List Lowering) (before : List Key) → StandTogether (key c ∷ before) (keys_of cs) →
-    (matches kind s c.is_function c.head ≡ false → find_pred kind s.name s.arity (grouped (pred_of c.is_function c.head (c.clause ∷ [])) cs) ≡ pred_from kind s (clauses (chosen kind s cs))) → (b : Bool) → matches kind s c.is_function c.head ≡ b →
-    find_pred kind s.name s.arity (grouped (pred_of c.is_function c.head (c.clause ∷ [])) cs) ≡ pred_from kind s (clauses (chosen kind s (c ∷ cs)))
+    (matches kind s c.is_function c.head ≡ false → find_pred kind s.name s.arity (grouped (pred_of c.is_function c.head c.modes (c.clause ∷ [])) cs) ≡ pred_from kind s (chosen kind s cs)) → (b : Bool) → matches kind s c.is_function c.head ≡ b →
+    find_pred kind s.name s.arity (grouped (pred_of c.is_function c.head c.modes (c.clause ∷ [])) cs) ≡ pred_from kind s (chosen kind s (c ∷ cs))
 find-begun kind s c cs before together later true h =
     let e : (c.is_function ≡ kind) × (c.head ≡ s) = matches-same kind s c.is_function c.head h in
     let same : key c ≡ of kind s = ap (λ k. of k c.head) e.0 ∙ ap (of kind) e.1 in
-    ap (λ (k : Bool). find_pred kind s.name s.arity (grouped (pred_of k c.head (c.clause ∷ [])) cs)) e.0
-    ∙ ap (λ (t : Signature). find_pred kind s.name s.arity (grouped (pred_of kind t (c.clause ∷ [])) cs)) e.1
-    ∙ find-here kind s (c.clause ∷ []) cs before (subst (λ (x : Key). StandTogether (x ∷ before) (keys_of cs)) same together)
-    ∙ ap (λ xs. pred_from kind s (clauses xs)) (sym (chosen-it kind s c cs h))
-find-begun kind s c cs before together later false h = later h ∙ ap (λ xs. pred_from kind s (clauses xs)) (sym (chosen-not kind s c cs h))
+    ap (λ (k : Bool). find_pred kind s.name s.arity (grouped (pred_of k c.head c.modes (c.clause ∷ [])) cs)) e.0
+    ∙ ap (λ (t : Signature). find_pred kind s.name s.arity (grouped (pred_of kind t c.modes (c.clause ∷ [])) cs)) e.1
+    ∙ find-here kind s c.modes (c.clause ∷ []) cs before (subst (λ (x : Key). StandTogether (x ∷ before) (keys_of cs)) same together)
+    ∙ ap (λ xs. pred_from kind s xs) (sym (chosen-it kind s c cs h))
+find-begun kind s c cs before together later false h = later h ∙ ap (λ xs. pred_from kind s xs) (sym (chosen-not kind s c cs h))
 
 -- another than the one that is being made
-find-later : (kind : Bool) (s : Signature) (other : Bool) (t : Signature) (ds : List ClauseTree) (cs : List Lowering) (before : List Key) → StandTogether (of other t ∷ before) (keys_of cs) → matches kind s other t ≡ false →
-    find_pred kind s.name s.arity (grouped (pred_of other t ds) cs) ≡ pred_from kind s (clauses (chosen kind s cs))
+find-later : (kind : Bool) (s : Signature) (other : Bool) (t : Signature) (m : Modes) (ds : List ClauseTree) (cs : List Lowering) (before : List Key) → StandTogether (of other t ∷ before) (keys_of cs) → matches kind s other t ≡ false →
+    find_pred kind s.name s.arity (grouped (pred_of other t m ds) cs) ≡ pred_from kind s (chosen kind s cs)
 unfolding StandTogether
-find-later kind s other t ds [] before together apart = ap (find_pred kind s.name s.arity) (grouped-none other t ds) ∙ find-behind kind s other t ds [] apart ∙ find-nothing kind s
-find-later kind s other t ds (c ∷ cs) before together apart =
-    tested (matches other t c.is_function c.head) refl (λ more. find-later kind s other t (ds ++ c.clause ∷ []) cs (of other t ∷ before) more apart)
-    (λ more not. find-later kind s c.is_function c.head (c.clause ∷ []) cs (of other t ∷ before) more not)
+find-later kind s other t m ds [] before together apart = ap (find_pred kind s.name s.arity) (grouped-none other t m ds) ∙ find-behind kind s other t m ds [] apart ∙ find-nothing kind s
+find-later kind s other t m ds (c ∷ cs) before together apart =
+    tested (matches other t c.is_function c.head) refl (λ more. find-later kind s other t m (ds ++ c.clause ∷ []) cs (of other t ∷ before) more apart)
+    (λ more not. find-later kind s c.is_function c.head c.modes (c.clause ∷ []) cs (of other t ∷ before) more not)
   where
     tested : (b : Bool) → matches other t c.is_function c.head ≡ b →
-        (StandTogether (of other t ∷ of other t ∷ before) (keys_of cs) → find_pred kind s.name s.arity (grouped (pred_of other t (ds ++ c.clause ∷ [])) cs) ≡ pred_from kind s (clauses (chosen kind s cs))) →
-        (StandTogether (key c ∷ of other t ∷ before) (keys_of cs) → matches kind s c.is_function c.head ≡ false → find_pred kind s.name s.arity (grouped (pred_of c.is_function c.head (c.clause ∷ [])) cs) ≡ pred_from kind s (clauses (chosen kind s cs))) →
-        find_pred kind s.name s.arity (grouped (pred_of other t ds) (c ∷ cs)) ≡ pred_from kind s (clauses (chosen kind s (c ∷ cs)))
+        (StandTogether (of other t ∷ of other t ∷ before) (keys_of cs) → find_pred kind s.name s.arity (grouped (pred_of other t m (ds ++ c.clause ∷ [])) cs) ≡ pred_from kind s (chosen kind s cs)) →
+        (StandTogether (key c ∷ of other t ∷ before) (keys_of cs) → matches kind s c.is_function c.head ≡ false → find_pred kind s.name s.arity (grouped (pred_of c.is_function c.head c.modes (c.clause ∷ [])) cs) ≡ pred_from kind s (chosen kind s cs)) →
+        find_pred kind s.name s.arity (grouped (pred_of other t m ds) (c ∷ cs)) ≡ pred_from kind s (chosen kind s (c ∷ cs))
     tested true h same next =
         let e : (c.is_function ≡ other) × (c.head ≡ t) = matches-same other t c.is_function c.head h in
-        ap (find_pred kind s.name s.arity) (grouped-same other t ds c cs h)
+        ap (find_pred kind s.name s.arity) (grouped-same other t m ds c cs h)
         ∙ same (subst (λ (x : Key). StandTogether (x ∷ of other t ∷ before) (keys_of cs)) (ap (λ k. of k c.head) e.0 ∙ ap (of other) e.1) together.1)
-        ∙ ap (λ xs. pred_from kind s (clauses xs)) (sym (chosen-not kind s c cs (ap (λ k. matches kind s k c.head) e.0 ∙ ap (matches kind s other) e.1 ∙ apart)))
+        ∙ ap (λ xs. pred_from kind s xs) (sym (chosen-not kind s c cs (ap (λ k. matches kind s k c.head) e.0 ∙ ap (matches kind s other) e.1 ∙ apart)))
     tested false h same next =
-        ap (find_pred kind s.name s.arity) (grouped-other other t ds c cs h)
-        ∙ find-behind kind s other t ds _ apart
+        ap (find_pred kind s.name s.arity) (grouped-other other t m ds c cs h)
+        ∙ find-behind kind s other t m ds _ apart
         ∙ find-begun kind s c cs (of other t ∷ before) together.1 (next together.1) (matches kind s c.is_function c.head) refl
 
-pub find-all : (kind : Bool) (s : Signature) (cs : List Lowering) → StandTogether [] (keys_of cs) → find_pred kind s.name s.arity (grouped_all cs) ≡ pred_from kind s (clauses (chosen kind s cs))
+pub find-all : (kind : Bool) (s : Signature) (cs : List Lowering) → StandTogether [] (keys_of cs) → find_pred kind s.name s.arity (grouped_all cs) ≡ pred_from kind s (chosen kind s cs)
 unfolding StandTogether
 find-all kind s [] together = find-nothing kind s
 find-all kind s (c ∷ cs) together =
-    find-begun kind s c cs [] together.1 (λ not. find-later kind s c.is_function c.head (c.clause ∷ []) cs [] together.1 not) (matches kind s c.is_function c.head) refl
-
--- ---- the clauses of a program
-
-pub keys-same : (known : Knows) (program : ProgramTree) → AllByRecursion (IsPart known) program → keys_of (lowerings program) ≡ keys program
-keys-same known [] is = refl
-keys-same known (p ∷ ps) is = go p.clause is.0.clause (keys-same known ps is.1)
-  where
-    go : (o : Option WrittenClause) → IsClause known o → keys_of (lowerings ps) ≡ keys ps → keys_of (cons_option (lowered_clause o) (lowerings ps)) ≡ cons_option (key_of o) (keys ps)
-    go None c rest = rest
-    go (Some (rule r)) c rest = ap (λ xs. of false (named_by (signature r.head)) ∷ xs) rest ∙ ap (λ n. record { kind = false; named = n } ∷ keys ps) (ap (λ n. Some (named_by n)) c.1.is_named ∙ sym c.1.is_named)
-    go (Some (function f)) c rest = ap (λ xs. of true (named_by (signature f.head)) ∷ xs) rest ∙ ap (λ n. record { kind = true; named = n } ∷ keys ps) (ap (λ n. Some (named_by n)) c.1.is_named ∙ sym c.1.is_named)
-    go (Some (fact head)) c rest = absurd c
-
-one-more : {A : Type 0} (c d : Bool) (f : A → ClauseTree) (x : A) (xs : List A) (y : Lowering) (ys : List Lowering) → d ≡ c → y.clause ≡ f x → clauses ys ≡ map f xs → clauses (cond d (y ∷ ys) ys) ≡ map f (cond c (x ∷ xs) xs)
-one-more true true f x xs y ys same head rest = ap (λ z. z ∷ clauses ys) head ∙ ap (λ zs. f x ∷ zs) rest
-one-more true false f x xs y ys same head rest = absurd (false≢true same)
-one-more false true f x xs y ys same head rest = absurd (false≢true (sym same))
-one-more false false f x xs y ys same head rest = rest
-
-rules-chosen : (known : Knows) (s : Signature) (program : ProgramTree) → AllByRecursion (IsPart known) program → clauses (chosen false s (lowerings program)) ≡ map lowered_rule (rules_named s.name s.arity program)
-rules-chosen known s [] is = refl
-rules-chosen known s (p ∷ ps) is = go p.clause is.0.clause (rules-chosen known s ps is.1)
-  where
-    go : (o : Option WrittenClause) → IsClause known o → clauses (chosen false s (lowerings ps)) ≡ map lowered_rule (rules_named s.name s.arity ps) →
-        clauses (chosen false s (cons_option (lowered_clause o) (lowerings ps))) ≡ map lowered_rule (filter (is_rule_of s.name s.arity) (cons_option (rule_in o) (rules_of ps)))
-    go None c rest = rest
-    go (Some (rule r)) c rest =
-        one-more (is_rule_of s.name s.arity r) (matches false s false (named_by (signature r.head))) lowered_rule r (rules_named s.name s.arity ps) _ (chosen false s (lowerings ps))
-        (ap (λ n. is_signature s.name s.arity (Some (named_by n))) c.1.is_named ∙ sym (ap (is_signature s.name s.arity) c.1.is_named)) refl rest
-    go (Some (function f)) c rest = rest
-    go (Some (fact head)) c rest = absurd c
-
-functions-chosen : (known : Knows) (s : Signature) (program : ProgramTree) → AllByRecursion (IsPart known) program → clauses (chosen true s (lowerings program)) ≡ map lowered_function (functions_named s.name s.arity program)
-functions-chosen known s [] is = refl
-functions-chosen known s (p ∷ ps) is = go p.clause is.0.clause (functions-chosen known s ps is.1)
-  where
-    go : (o : Option WrittenClause) → IsClause known o → clauses (chosen true s (lowerings ps)) ≡ map lowered_function (functions_named s.name s.arity ps) →
-        clauses (chosen true s (cons_option (lowered_clause o) (lowerings ps))) ≡ map lowered_function (filter (λ f. is_head_of s.name s.arity f.head) (cons_option (function_in o) (filter_map (λ p. function_in p.clause) ps)))
-    go None c rest = rest
-    go (Some (rule r)) c rest = rest
-    go (Some (function f)) c rest =
-        one-more (is_head_of s.name s.arity f.head) (matches true s true (named_by (signature f.head))) lowered_function f (functions_named s.name s.arity ps) _ (chosen true s (lowerings ps))
-        (ap (λ n. is_signature s.name s.arity (Some (named_by n))) c.1.is_named ∙ sym (ap (is_signature s.name s.arity) c.1.is_named)) refl rest
-    go (Some (fact head)) c rest = absurd c
-
-pub has-clauses : (known : Knows) (program : ProgramTree) → AllByRecursion (IsPart known) program → StandTogether [] (keys program) → HasClauses program (grouped_all (lowerings program))
-has-clauses known program is together = record {
-  predicates = λ name k. find-all false (sign name k) (lowerings program) stand ∙ ap (pred_with false name k) (rules-chosen known (sign name k) program is);
-  functions = λ name k. find-all true (sign name k) (lowerings program) stand ∙ ap (pred_with true name k) (functions-chosen known (sign name k) program is);
-}
-  where
-    stand : StandTogether [] (keys_of (lowerings program))
-    stand = subst (λ (xs : List Key). StandTogether [] xs) (sym (keys-same known program is)) together
+    find-begun kind s c cs [] together.1 (λ not. find-later kind s c.is_function c.head c.modes (c.clause ∷ []) cs [] together.1 not) (matches kind s c.is_function c.head) refl

@@ -1,13 +1,14 @@
 -- Programs that are lowered have core programs that keep their meaning, and goals have queries.
 use Rattle.std.proofs.Common.{◌≡◌, ℕ, ◌≤◌, true, false, List, [], ◌∷◌, ◌++◌, length, map, refl, sym, ◌∙◌, ap, arith}
-use Rattle.std.specs.Prelude.{None, is_some, replicate}
+use Rattle.std.specs.Prelude.{Option, None, is_some, replicate}
 use Rattle.std.specs.List.{AllByRecursion}
 use Rattle.std.proofs.lemmas.List.{append-nil}
 use Rattle.std.proofs.lemmas.List.Elements.{recursion_from_All}
 use Rattle.pi_states.specs.State.{State, empty_state}
 use Rattle.pi_syntax.specs.ExpTree.{ExpTree}
-use Rattle.pi_syntax.specs.ProgramTree.{RuleTree, FunctionTree, ProgramTree}
-use Rattle.pi_core.specs.CoreTree.{PredTree, QueryTree}
+use Rattle.pi_syntax.specs.ProgramTree.{FunctionTree, ProgramTree}
+use Rattle.pi_syntax.specs.declared.program.Mode.{Mode}
+use Rattle.pi_core.specs.CoreTree.{ClauseTree, PredTree, QueryTree}
 use Rattle.pi_traces.specs.Trace.{one, then}
 use Rattle.pi_traces.specs.Depth.{cut}
 use Rattle.pi_traces.proofs.RelatedLemmas.{Same}
@@ -27,12 +28,12 @@ use Rattle.pi_names.specs.Texts.{Names}
 use Rattle.pi_names.specs.Prelude.{prelude}
 use Rattle.pi_names.specs.Stages.{LaterStages}
 use Rattle.pi_names.specs.Goals.{goal_of}
-use Rattle.pi_names.specs.Rules.{heads_named, functions_named, rules_named}
+use Rattle.pi_names.specs.Rules.{heads_named, functions_named, modes_named}
 use Rattle.pi_names.specs.Run.{is_some_head, setting, program_level, answer_names, names_from, names_trace}
 use Rattle.pi_lowered.specs.Slots.{SlotNames, named_slots, slots_behind}
 use Rattle.pi_lowered.specs.Goals as over_slots
 use Rattle.pi_lowered.specs.Goals.{SlotGoals, in_turn}
-use Rattle.pi_lowered.specs.Lowered.{lowered_rule, lowered_function, lowerings, grouped_all, lowered, lowered_query}
+use Rattle.pi_lowered.specs.Lowered.{lowered_function, lowerings, grouped_all, lowered, lowered_query}
 use Rattle.pi_lowered.specs.Levels.{SameLevels, GoesByCalls}
 use Rattle.pi_lowered.specs.Within.{is_some_function, IsPart, IsWithin, IsAsked}
 use Rattle.pi_lowered.specs.Clauses.{pred_with, HasClauses}
@@ -43,44 +44,46 @@ use Rattle.pi_lowered.proofs.NewNameLemmas.{agrees-nothing}
 use Rattle.pi_lowered.proofs.RunLemmas.{Alike, point, AtPlace, same-strictly}
 use Rattle.pi_lowered.proofs.GoalLemmas.{goal-same}
 use Rattle.pi_lowered.proofs.AlikeLemmas.{alike-levels}
-use Rattle.pi_lowered.proofs.LevelLemmas.{core-drains, names-drain, depths-same, heads-rules, is_some_rule}
-use Rattle.pi_lowered.proofs.FindLemmas.{has-clauses}
+use Rattle.pi_lowered.proofs.LevelLemmas.{core-drains, names-drain, depths-same}
+use Rattle.pi_lowered.proofs.FactParts.{is_some_clause}
+use Rattle.pi_lowered.proofs.ProgramClauses.{has-clauses, some-same}
 use Rattle.pi_lowered.proofs.PreludeLemmas.{prelude-parts}
 use Rattle.pi_lowered.proofs.SoundClauses.{clauses-keep, query-slots, query-names}
 use Rattle.pi_lowered.proofs.TellingLemmas.{TellSame, answered-same, told-one, behind-grows}
 
 -- ---- programs
 
-predicate-there : (name : List ℕ) (k : ℕ) (rs : List RuleTree) → is_called_by_name (pred_with false name k (map lowered_rule rs)) ≡ is_some_rule rs
-predicate-there name k [] = refl
-predicate-there name k (r ∷ rs) = refl
+predicate-there : (name : List ℕ) (k : ℕ) (m : Option (List (List Mode))) (cs : List ClauseTree) → is_called_by_name (pred_with false name k m cs) ≡ is_some_clause cs
+predicate-there name k m [] = refl
+predicate-there name k m (c ∷ cs) = refl
 
-function-there : (name : List ℕ) (k : ℕ) (fs : List FunctionTree) → is_some (pred_with true name k (map lowered_function fs)) ≡ is_some_function fs
+function-there : (name : List ℕ) (k : ℕ) (fs : List FunctionTree) → is_some (pred_with true name k None (map lowered_function fs)) ≡ is_some_function fs
 function-there name k [] = refl
 function-there name k (f ∷ fs) = refl
 
-defines-the-same : (program : ProgramTree) (preds : List PredTree) → AllByRecursion (IsPart (known_of program)) (prelude ++ program) → HasClauses (prelude ++ program) preds → DefinesTheSame program preds
-defines-the-same program preds parts has = record {
-  predicates = λ name k. ap is_called_by_name (has.predicates name k) ∙ predicate-there name k (rules_named name k (prelude ++ program)) ∙ sym (heads-rules (known_of program) name k (prelude ++ program) parts);
+defines-the-same : (program : ProgramTree) (preds : List PredTree) → IsWithin program → AllByRecursion (IsPart (known_of program)) (prelude ++ program) → HasClauses (prelude ++ program) preds → DefinesTheSame program preds
+defines-the-same program preds within parts has = record {
+  predicates = λ name k. ap is_called_by_name (has.predicates name k) ∙ predicate-there name k (modes_named name k (prelude ++ program)) _ ∙ some-same (known_of program) (prelude ++ program) parts (within.indexed name k);
   functions = λ name k. ap is_some (has.functions name k) ∙ function-there name k (functions_named name k (prelude ++ program));
 }
 
-calls-the-same : (program : ProgramTree) (preds : List PredTree) → AllByRecursion (IsPart (known_of program)) (prelude ++ program) → HasClauses (prelude ++ program) preds → CallsTheSame program preds
-calls-the-same program preds parts has v later goes roots d =
+calls-the-same : (program : ProgramTree) (preds : List PredTree) → IsWithin program → AllByRecursion (IsPart (known_of program)) (prelude ++ program) → HasClauses (prelude ++ program) preds → CallsTheSame program preds
+calls-the-same program preds within parts has v later goes roots d =
     (depths-same (known_of program) (setting v later program) (whole v later.calls preds) (prelude ++ program) preds
     (record {
       parts = parts;
       clauses = record { predicates = λ name k there. has.predicates name k; functions = λ name k there. has.functions name k };
       is_known = refl;
-      alike = λ l m same core names. alike-levels (known_of program) v later.calls preds (λ name k. is_some_head (heads_named name k (prelude ++ program))) goes (λ name k. refl) (defines-the-same program preds parts has).predicates l m same core names;
+      some = λ name k there. some-same (known_of program) (prelude ++ program) parts (within.indexed name k) ∙ there;
+      alike = λ l m same core names. alike-levels (known_of program) v later.calls preds (λ name k. is_some_head (heads_named name k (prelude ++ program))) goes (λ name k. refl) (defines-the-same program preds within parts has).predicates l m same core names;
     }) d).levels
 
 pub lowered-keeps : (program : ProgramTree) → IsWithin program → IsLoweredProgram program (lowered program)
 unfolding lowered
 lowered-keeps program within =
     let parts : AllByRecursion (IsPart (known_of program)) (prelude ++ program) = prelude-parts program (recursion_from_All (IsPart (known_of program)) program within.parts) in
-    let has : HasClauses (prelude ++ program) (grouped_all (lowerings (prelude ++ program))) = has-clauses (known_of program) (prelude ++ program) parts within.together in
-    record { slots = clauses-keep (known_of program) (prelude ++ program) parts; defines = defines-the-same program (grouped_all (lowerings (prelude ++ program))) parts has; calls = calls-the-same program (grouped_all (lowerings (prelude ++ program))) parts has }
+    let has : HasClauses (prelude ++ program) (grouped_all (lowerings (prelude ++ program))) = has-clauses (known_of program) (prelude ++ program) parts within.together within.indexed in
+    record { slots = clauses-keep (known_of program) (prelude ++ program) parts; defines = defines-the-same program (grouped_all (lowerings (prelude ++ program))) within parts has; calls = calls-the-same program (grouped_all (lowerings (prelude ++ program))) within parts has }
 
 pub programs-have-core-programs : ProgramsHaveCorePrograms
 programs-have-core-programs program within = (lowered program, lowered-keeps program within)

@@ -67,6 +67,9 @@ pub mod LevelsSame
 pub mod TextLevels
 pub mod TextPrograms
 pub mod FindLemmas
+pub mod FactLemmas
+pub mod FactParts
+pub mod ProgramClauses
 pub mod TellingLemmas
 pub mod LawLemmas
 pub mod TextLawLemmas

@@ -74,25 +74,25 @@ sum program = ((tt, (tt, tt)), first-there (is_given_function (codes "+") 2) ((k
 pub prelude-parts : (program : ProgramTree) → AllByRecursion (IsPart (known_of program)) program → AllByRecursion (IsPart (known_of program)) (prelude ++ program)
 unfolding prelude IsExpression IsPattern form_of readings exp_count
 prelude-parts program is = (
-  record { index = refl; clause = (record { head = (tt, (((tt, tt), tt), tt)); cond = tt; events = refl; body = goal-there (known_of program) (codes "=") (exp (var (codes "X")) (exp (var (codes "Y")) no_exps)) refl (tt, (tt, tt)) refl (first-there (is_given_predicate (codes "=") 2) ((known_of program).predicate (codes "=") 2) names-there.0) }, free-of (codes "member") 2 names-free.0 _ refl) },
+  record { modes = tt; clause = (record { head = (tt, (((tt, tt), tt), tt)); cond = tt; events = refl; body = goal-there (known_of program) (codes "=") (exp (var (codes "X")) (exp (var (codes "Y")) no_exps)) refl (tt, (tt, tt)) refl (first-there (is_given_predicate (codes "=") 2) ((known_of program).predicate (codes "=") 2) names-there.0) }, free-of (codes "member") 2 names-free.0 _ refl) },
   (
-    record { index = refl; clause = (record { head = (tt, (((tt, tt), tt), tt)); cond = tt; events = refl; body = goal-there (known_of program) (codes "member") (exp (var (codes "X")) (exp (var (codes "L")) no_exps)) refl (tt, (tt, tt)) refl (second-there (is_given_predicate (codes "member") 2) ((known_of program).predicate (codes "member") 2) (own-names program).0) }, free-of (codes "member") 2 names-free.0 _ refl) },
+    record { modes = tt; clause = (record { head = (tt, (((tt, tt), tt), tt)); cond = tt; events = refl; body = goal-there (known_of program) (codes "member") (exp (var (codes "X")) (exp (var (codes "L")) no_exps)) refl (tt, (tt, tt)) refl (second-there (is_given_predicate (codes "member") 2) ((known_of program).predicate (codes "member") 2) (own-names program).0) }, free-of (codes "member") 2 names-free.0 _ refl) },
     (
-      record { index = refl; clause = (record { head = (tt, (tt, (tt, tt))); cond = goal-there (known_of program) (codes "var") (exp (var (codes "Xs")) no_exps) refl (tt, tt) refl (first-there (is_given_predicate (codes "var") 1) ((known_of program).predicate (codes "var") 1) names-there.1); events = refl; body = (goal-there (known_of program) (codes "=") (exp (var (codes "Xs")) (exp (list no_exps) no_exps)) refl (tt, (tt, tt)) refl (first-there (is_given_predicate (codes "=") 2) ((known_of program).predicate (codes "=") 2) names-there.0), (goal-there (known_of program) (codes "=") (exp (var (codes "Ys")) (exp (var (codes "Zs")) no_exps)) refl (tt, (tt, tt)) refl (first-there (is_given_predicate (codes "=") 2) ((known_of program).predicate (codes "=") 2) names-there.0), tt)) }, free-of (codes "append") 3 names-free.1 _ refl) },
+      record { modes = tt; clause = (record { head = (tt, (tt, (tt, tt))); cond = goal-there (known_of program) (codes "var") (exp (var (codes "Xs")) no_exps) refl (tt, tt) refl (first-there (is_given_predicate (codes "var") 1) ((known_of program).predicate (codes "var") 1) names-there.1); events = refl; body = (goal-there (known_of program) (codes "=") (exp (var (codes "Xs")) (exp (list no_exps) no_exps)) refl (tt, (tt, tt)) refl (first-there (is_given_predicate (codes "=") 2) ((known_of program).predicate (codes "=") 2) names-there.0), (goal-there (known_of program) (codes "=") (exp (var (codes "Ys")) (exp (var (codes "Zs")) no_exps)) refl (tt, (tt, tt)) refl (first-there (is_given_predicate (codes "=") 2) ((known_of program).predicate (codes "=") 2) names-there.0), tt)) }, free-of (codes "append") 3 names-free.1 _ refl) },
       (
-        record { index = refl; clause = (record { head = (tt, (tt, (tt, tt))); cond = goal-there (known_of program) (codes "var") (exp (var (codes "Xs")) no_exps) refl (tt, tt) refl (first-there (is_given_predicate (codes "var") 1) ((known_of program).predicate (codes "var") 1) names-there.1); events = refl; body = (goal-there (known_of program) (codes "=") (exp (var (codes "Xs")) (exp (cell (var (codes "X")) (var (codes "R"))) no_exps)) refl (tt, (((tt, tt), tt), tt)) refl (first-there (is_given_predicate (codes "=") 2) ((known_of program).predicate (codes "=") 2) names-there.0), (goal-there (known_of program) (codes "=") (exp (var (codes "Zs")) (exp (cell (var (codes "X")) (var (codes "S"))) no_exps)) refl (tt, (((tt, tt), tt), tt)) refl (first-there (is_given_predicate (codes "=") 2) ((known_of program).predicate (codes "=") 2) names-there.0), (goal-there (known_of program) (codes "append") (exp (var (codes "R")) (exp (var (codes "Ys")) (exp (var (codes "S")) no_exps))) refl (tt, (tt, (tt, tt))) refl (second-there (is_given_predicate (codes "append") 3) ((known_of program).predicate (codes "append") 3) (own-names program).1), tt))) }, free-of (codes "append") 3 names-free.1 _ refl) },
+        record { modes = tt; clause = (record { head = (tt, (tt, (tt, tt))); cond = goal-there (known_of program) (codes "var") (exp (var (codes "Xs")) no_exps) refl (tt, tt) refl (first-there (is_given_predicate (codes "var") 1) ((known_of program).predicate (codes "var") 1) names-there.1); events = refl; body = (goal-there (known_of program) (codes "=") (exp (var (codes "Xs")) (exp (cell (var (codes "X")) (var (codes "R"))) no_exps)) refl (tt, (((tt, tt), tt), tt)) refl (first-there (is_given_predicate (codes "=") 2) ((known_of program).predicate (codes "=") 2) names-there.0), (goal-there (known_of program) (codes "=") (exp (var (codes "Zs")) (exp (cell (var (codes "X")) (var (codes "S"))) no_exps)) refl (tt, (((tt, tt), tt), tt)) refl (first-there (is_given_predicate (codes "=") 2) ((known_of program).predicate (codes "=") 2) names-there.0), (goal-there (known_of program) (codes "append") (exp (var (codes "R")) (exp (var (codes "Ys")) (exp (var (codes "S")) no_exps))) refl (tt, (tt, (tt, tt))) refl (second-there (is_given_predicate (codes "append") 3) ((known_of program).predicate (codes "append") 3) (own-names program).1), tt))) }, free-of (codes "append") 3 names-free.1 _ refl) },
         (
-          record { index = refl; clause = (record { head = (tt, (tt, (tt, tt))); cond = tt; events = refl; body = goal-there (known_of program) (codes "=") (exp (var (codes "Ys")) (exp (var (codes "Zs")) no_exps)) refl (tt, (tt, tt)) refl (first-there (is_given_predicate (codes "=") 2) ((known_of program).predicate (codes "=") 2) names-there.0) }, free-of (codes "append") 3 names-free.1 _ refl) },
+          record { modes = tt; clause = (record { head = (tt, (tt, (tt, tt))); cond = tt; events = refl; body = goal-there (known_of program) (codes "=") (exp (var (codes "Ys")) (exp (var (codes "Zs")) no_exps)) refl (tt, (tt, tt)) refl (first-there (is_given_predicate (codes "=") 2) ((known_of program).predicate (codes "=") 2) names-there.0) }, free-of (codes "append") 3 names-free.1 _ refl) },
           (
-            record { index = refl; clause = (record { head = (((tt, tt), tt), (tt, (tt, tt))); cond = tt; events = refl; body = (goal-there (known_of program) (codes "=") (exp (var (codes "Zs")) (exp (cell (var (codes "X")) (var (codes "S"))) no_exps)) refl (tt, (((tt, tt), tt), tt)) refl (first-there (is_given_predicate (codes "=") 2) ((known_of program).predicate (codes "=") 2) names-there.0), (goal-there (known_of program) (codes "append") (exp (var (codes "Xs")) (exp (var (codes "Ys")) (exp (var (codes "S")) no_exps))) refl (tt, (tt, (tt, tt))) refl (second-there (is_given_predicate (codes "append") 3) ((known_of program).predicate (codes "append") 3) (own-names program).1), tt)) }, free-of (codes "append") 3 names-free.1 _ refl) },
+            record { modes = tt; clause = (record { head = (((tt, tt), tt), (tt, (tt, tt))); cond = tt; events = refl; body = (goal-there (known_of program) (codes "=") (exp (var (codes "Zs")) (exp (cell (var (codes "X")) (var (codes "S"))) no_exps)) refl (tt, (((tt, tt), tt), tt)) refl (first-there (is_given_predicate (codes "=") 2) ((known_of program).predicate (codes "=") 2) names-there.0), (goal-there (known_of program) (codes "append") (exp (var (codes "Xs")) (exp (var (codes "Ys")) (exp (var (codes "S")) no_exps))) refl (tt, (tt, (tt, tt))) refl (second-there (is_given_predicate (codes "append") 3) ((known_of program).predicate (codes "append") 3) (own-names program).1), tt)) }, free-of (codes "append") 3 names-free.1 _ refl) },
             (
-              record { index = refl; clause = (record { head = (tt, (((tt, tt), tt), (tt, tt))); cond = tt; events = refl; body = (goal-there (known_of program) (codes "=") (exp (var (codes "X")) (exp (var (codes "Y")) no_exps)) refl (tt, (tt, tt)) refl (first-there (is_given_predicate (codes "=") 2) ((known_of program).predicate (codes "=") 2) names-there.0), (goal-there (known_of program) (codes "=") (exp (var (codes "R")) (exp (var (codes "L")) no_exps)) refl (tt, (tt, tt)) refl (first-there (is_given_predicate (codes "=") 2) ((known_of program).predicate (codes "=") 2) names-there.0), tt)) }, free-of (codes "select") 3 names-free.2 _ refl) },
+              record { modes = tt; clause = (record { head = (tt, (((tt, tt), tt), (tt, tt))); cond = tt; events = refl; body = (goal-there (known_of program) (codes "=") (exp (var (codes "X")) (exp (var (codes "Y")) no_exps)) refl (tt, (tt, tt)) refl (first-there (is_given_predicate (codes "=") 2) ((known_of program).predicate (codes "=") 2) names-there.0), (goal-there (known_of program) (codes "=") (exp (var (codes "R")) (exp (var (codes "L")) no_exps)) refl (tt, (tt, tt)) refl (first-there (is_given_predicate (codes "=") 2) ((known_of program).predicate (codes "=") 2) names-there.0), tt)) }, free-of (codes "select") 3 names-free.2 _ refl) },
               (
-                record { index = refl; clause = (record { head = (tt, (((tt, tt), tt), (tt, tt))); cond = tt; events = refl; body = (goal-there (known_of program) (codes "=") (exp (var (codes "R")) (exp (cell (var (codes "Y")) (var (codes "S"))) no_exps)) refl (tt, (((tt, tt), tt), tt)) refl (first-there (is_given_predicate (codes "=") 2) ((known_of program).predicate (codes "=") 2) names-there.0), (goal-there (known_of program) (codes "select") (exp (var (codes "X")) (exp (var (codes "L")) (exp (var (codes "S")) no_exps))) refl (tt, (tt, (tt, tt))) refl (second-there (is_given_predicate (codes "select") 3) ((known_of program).predicate (codes "select") 3) (own-names program).2), tt)) }, free-of (codes "select") 3 names-free.2 _ refl) },
+                record { modes = tt; clause = (record { head = (tt, (((tt, tt), tt), (tt, tt))); cond = tt; events = refl; body = (goal-there (known_of program) (codes "=") (exp (var (codes "R")) (exp (cell (var (codes "Y")) (var (codes "S"))) no_exps)) refl (tt, (((tt, tt), tt), tt)) refl (first-there (is_given_predicate (codes "=") 2) ((known_of program).predicate (codes "=") 2) names-there.0), (goal-there (known_of program) (codes "select") (exp (var (codes "X")) (exp (var (codes "L")) (exp (var (codes "S")) no_exps))) refl (tt, (tt, (tt, tt))) refl (second-there (is_given_predicate (codes "select") 3) ((known_of program).predicate (codes "select") 3) (own-names program).2), tt)) }, free-of (codes "select") 3 names-free.2 _ refl) },
                 (
-                  record { index = refl; clause = (record { head = (tt, (tt, (tt, tt))); cond = goal-there (known_of program) (codes "=<") (exp (var (codes "L")) (exp (var (codes "U")) no_exps)) refl (tt, (tt, tt)) refl (first-there (is_given_predicate (codes "=<") 2) ((known_of program).predicate (codes "=<") 2) names-there.2); events = refl; body = goal-there (known_of program) (codes "=") (exp (var (codes "X")) (exp (var (codes "L")) no_exps)) refl (tt, (tt, tt)) refl (first-there (is_given_predicate (codes "=") 2) ((known_of program).predicate (codes "=") 2) names-there.0) }, free-of (codes "between") 3 names-free.3 _ refl) },
+                  record { modes = tt; clause = (record { head = (tt, (tt, (tt, tt))); cond = goal-there (known_of program) (codes "=<") (exp (var (codes "L")) (exp (var (codes "U")) no_exps)) refl (tt, (tt, tt)) refl (first-there (is_given_predicate (codes "=<") 2) ((known_of program).predicate (codes "=<") 2) names-there.2); events = refl; body = goal-there (known_of program) (codes "=") (exp (var (codes "X")) (exp (var (codes "L")) no_exps)) refl (tt, (tt, tt)) refl (first-there (is_given_predicate (codes "=") 2) ((known_of program).predicate (codes "=") 2) names-there.0) }, free-of (codes "between") 3 names-free.3 _ refl) },
                   (
-                    record { index = refl; clause = (record { head = (tt, (tt, (tt, tt))); cond = goal-there (known_of program) (codes "<") (exp (var (codes "L")) (exp (var (codes "U")) no_exps)) refl (tt, (tt, tt)) refl (first-there (is_given_predicate (codes "<") 2) ((known_of program).predicate (codes "<") 2) names-there.3); events = refl; body = goal-there (known_of program) (codes "between") (exp one_more (exp (var (codes "U")) (exp (var (codes "X")) no_exps))) refl (sum program, (tt, (tt, tt))) refl (second-there (is_given_predicate (codes "between") 3) ((known_of program).predicate (codes "between") 3) (own-names program).3) }, free-of (codes "between") 3 names-free.3 _ refl) },
+                    record { modes = tt; clause = (record { head = (tt, (tt, (tt, tt))); cond = goal-there (known_of program) (codes "<") (exp (var (codes "L")) (exp (var (codes "U")) no_exps)) refl (tt, (tt, tt)) refl (first-there (is_given_predicate (codes "<") 2) ((known_of program).predicate (codes "<") 2) names-there.3); events = refl; body = goal-there (known_of program) (codes "between") (exp one_more (exp (var (codes "U")) (exp (var (codes "X")) no_exps))) refl (sum program, (tt, (tt, tt))) refl (second-there (is_given_predicate (codes "between") 3) ((known_of program).predicate (codes "between") 3) (own-names program).3) }, free-of (codes "between") 3 names-free.3 _ refl) },
                     is,
                   ),
                 ),

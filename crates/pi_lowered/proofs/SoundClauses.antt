@@ -8,7 +8,8 @@ use Rattle.pi_states.specs.State.{SpeaksBelow}
 use Rattle.pi_syntax.specs.ExpTree.{ExpTree}
 use Rattle.pi_syntax.specs.ProgramTree.{RuleTree, FunctionTree, WrittenClause, rule, function, fact, ProgramTree}
 use Rattle.pi_core.specs.GoalTree.{truth, seq, goals_of}
-use Rattle.pi_core.specs.CoreTree.{ClauseTree, PredTree}
+use Rattle.pi_syntax.specs.declared.program.Mode.{Mode}
+use Rattle.pi_core.specs.CoreTree.{ClauseTree, PredTree, index_of}
 use Rattle.pi_core.specs.declared.core_program.NameSlot.{NameSlot}
 use Rattle.pi_meaning.specs.WrittenRules.{head_arguments}
 use Rattle.pi_meaning.specs.Sound.{SlotsBelow, KeepsSlots}
@@ -18,8 +19,8 @@ use Rattle.pi_lowered.specs.Slots.{SlotNames, slot_for, slots_for, named_slots, 
 use Rattle.pi_lowered.specs.Values.{last_value}
 use Rattle.pi_lowered.specs.Goals as over_slots
 use Rattle.pi_lowered.specs.Goals.{SlotGoals, in_turn, made}
-use Rattle.pi_lowered.specs.Lowered.{head_forms, head_slots, is_truth, goals_or_none, guard_of, lowered_rule, lowered_function, Lowering, lowered_clause, lowerings, with_first, with_next, is_clause_of, grouped, grouped_all, lowered_query}
-use Rattle.pi_lowered.specs.Forms.{Knows, IsGoal}
+use Rattle.pi_lowered.specs.Lowered.{head_forms, head_slots, is_truth, goals_or_none, guard_of, lowered_rule, lowered_function, lowered_fact, Lowering, lowered_clause, lowerings, with_first, with_next, is_clause_of, grouped, grouped_all, lowered_query}
+use Rattle.pi_lowered.specs.Forms.{Knows, ArePatterns, IsGoal}
 use Rattle.pi_lowered.specs.Within.{IsGoalOrNone, IsRule, IsFunction, IsClause, IsPart}
 use Rattle.pi_lowered.proofs.AgreeLemmas.{grows-length}
 use Rattle.pi_lowered.proofs.TermLemmas.{name-room}
@@ -108,6 +109,16 @@ function-slots known f is = record {
     value : FineValue known (λ ns. last_value f.value ns (made h f.value ns))
     value = fine-last known h f.value (made-fine known h f.value is.value)
 
+pub fact-slots : (known : Knows) (head : ExpTree) → ArePatterns (head_arguments head) → KeepsSlots (lowered_fact head)
+unfolding lowered_fact Fine
+fact-slots known head is = record {
+  head = λ k there. patterns-below (head_slots head) (head_arguments head) is [] (omega arith) k there;
+  guard = slots-below (head_slots head) known truth tt;
+  watches = λ w there. absurd (nothing-in w there);
+  body = slots-below (head_slots head) known truth tt;
+  value = λ t e. absurd cc;
+}
+
 -- ---- queries
 
 named-below : (names : Names) (ns : SlotNames) (n : ℕ) → length (slots_behind names ns) ≤ n → (x : NameSlot) → Contains (named_slots names ns) x → x.slot < n
@@ -191,17 +202,17 @@ all-each P (c ∷ cs) rest =
 
 lowerings-keep : (known : Knows) (program : ProgramTree) → AllByRecursion (IsPart known) program → EachLowering KeepsSlots (lowerings program)
 lowerings-keep known [] is c there = absurd (nothing-in c there)
-lowerings-keep known (p ∷ ps) is c there = go p.clause is.0.clause (lowerings-keep known ps is.1 c) there
+lowerings-keep known (p ∷ ps) is c there = go (index_of p.decl) p.clause is.0.clause (lowerings-keep known ps is.1 c) there
   where
     first : (d : Lowering) → KeepsSlots d.clause → (Contains (lowerings ps) c → KeepsSlots c.clause) → (d ≡ c) ⊎ Contains (lowerings ps) c → KeepsSlots c.clause
     first d is rest (inl same) = subst (λ (x : Lowering). KeepsSlots x.clause) same is
     first d is rest (inr later) = rest later
 
-    go : (o : Option WrittenClause) → IsClause known o → (Contains (lowerings ps) c → KeepsSlots c.clause) → Contains (cons_option (lowered_clause o) (lowerings ps)) c → KeepsSlots c.clause
-    go None is rest there = rest there
-    go (Some (rule r)) is rest there = first _ (rule-slots known r is.0) rest (cons-cases _ (lowerings ps) c there)
-    go (Some (function f)) is rest there = first _ (function-slots known f is.0) rest (cons-cases _ (lowerings ps) c there)
-    go (Some (fact head)) is rest there = absurd is
+    go : (m : Option (List (List Mode))) (o : Option WrittenClause) → IsClause known o → (Contains (lowerings ps) c → KeepsSlots c.clause) → Contains (cons_option (lowered_clause m o) (lowerings ps)) c → KeepsSlots c.clause
+    go m None is rest there = rest there
+    go m (Some (rule r)) is rest there = first _ (rule-slots known r is.0) rest (cons-cases _ (lowerings ps) c there)
+    go m (Some (function f)) is rest there = first _ (function-slots known f is.0) rest (cons-cases _ (lowerings ps) c there)
+    go m (Some (fact head)) is rest there = first _ (fact-slots known head is.0) rest (cons-cases _ (lowerings ps) c there)
 
 pub clauses-keep : (known : Knows) (program : ProgramTree) → AllByRecursion (IsPart known) program → (pred : PredTree) → Contains (grouped_all (lowerings program)) pred → (c : ClauseTree) → Contains pred.clauses c → KeepsSlots c
 clauses-keep known program is = all-each KeepsSlots (lowerings program) (lowerings-keep known program is)

@@ -1,6 +1,6 @@
 -- Programs and goals with loops keep their meaning.
-use Rattle.std.proofs.Common.{◌≡◌, ℕ, suc, ◌≤◌, Bool, true, false, List, [], ◌∷◌, ◌++◌, length, refl, sym, ◌∙◌, ap, subst, arith, length-append, append_assoc}
-use Rattle.std.specs.Prelude.{Option, None, is_some, replicate, IsTrue}
+use Rattle.std.proofs.Common.{◌≡◌, ◌⊎◌, inl, inr, ℕ, suc, ◌≤◌, Bool, true, false, List, [], ◌∷◌, ◌++◌, length, map, refl, sym, ◌∙◌, ap, subst, arith, length-append, append_assoc}
+use Rattle.std.specs.Prelude.{Option, Some, None, is_some, replicate, IsTrue}
 use Rattle.std.specs.Option.{option_or}
 use Rattle.std.proofs.lemmas.Bool.{false≢true}
 use Rattle.std.proofs.lemmas.List.{append-nil}
@@ -22,10 +22,10 @@ use Rattle.pi_names.specs.Texts.{Names}
 use Rattle.pi_names.specs.Prelude.{prelude}
 use Rattle.pi_names.specs.Stages.{LaterStages, RulesSetting}
 use Rattle.pi_names.specs.Goals.{goal_of}
-use Rattle.pi_names.specs.Rules.{heads_named, functions_named, rules_named, level_for}
+use Rattle.pi_names.specs.Rules.{heads_named, functions_named, facts_named, rules_named, modes_named, level_for}
 use Rattle.pi_names.specs.Run.{is_some_head, setting, program_level, answer_names, names_from}
 use Rattle.pi_lowered.specs.Slots.{SlotNames, named_slots, slots_behind}
-use Rattle.pi_lowered.specs.Lowered.{grouped_all}
+use Rattle.pi_lowered.specs.Lowered.{lowered_fact, Lowering, grouped_all}
 use Rattle.pi_lowered.specs.Forms.{Knows}
 use Rattle.pi_lowered.specs.Sites.{Site, helpers_in}
 use Rattle.pi_lowered.specs.Written as written
@@ -33,7 +33,7 @@ use Rattle.pi_lowered.specs.Helpers.{goal_helpers}
 use Rattle.pi_lowered.specs.Programs.{Naming, clauses_of, helpers_of, core_program, query_site, core_query}
 use Rattle.pi_lowered.specs.Levels.{SameLevels, GoesByCalls}
 use Rattle.pi_lowered.specs.Roots.{LaterKeepsRoots}
-use Rattle.pi_lowered.specs.Within.{is_some_function, StandTogether}
+use Rattle.pi_lowered.specs.Within.{is_some_function, StandTogether, IsIndexed}
 use Rattle.pi_lowered.specs.WithinLoops.{IsPart, IsWithin, IsAsked, AreOwn, AreQuiet}
 use Rattle.pi_lowered.specs.Clauses.{pred_with}
 use Rattle.pi_lowered.specs.Laws.{known_of, DefinesTheSame, query_from, MeansTheSame}
@@ -45,74 +45,88 @@ use Rattle.pi_lowered.proofs.RunLemmas.{Alike, AtPlace, SameGoals, same-strictly
 use Rattle.pi_lowered.proofs.AlikeLemmas.{alike-levels}
 use Rattle.pi_lowered.proofs.RootNames.{whole-keeps-roots}
 use Rattle.pi_lowered.proofs.RootUnify.{unifying-keeps-roots}
-use Rattle.pi_lowered.proofs.LevelLemmas.{SameDepths, is_some_rule}
-use Rattle.pi_lowered.proofs.FindLemmas.{sign, chosen, clauses, find-all}
+use Rattle.pi_lowered.proofs.LevelLemmas.{SameDepths}
+use Rattle.pi_lowered.proofs.FindLemmas.{Modes, sign, chosen, clauses, modes_in, pred_from, find-all}
+use Rattle.pi_lowered.proofs.FactLemmas.{EachFact}
+use Rattle.pi_lowered.proofs.FactParts.{LowersAll, modes-none, rules-modes, functions-modes, facts-chosen, facts-modes, facts-none, is_some_clause, heads-clauses}
 use Rattle.pi_lowered.proofs.TurnLevels.{core_level, quiet_calls, level-is, enough-calls}
 use Rattle.pi_lowered.proofs.StandsLemmas.{Fixture, Here, AlikeUpTo, HaveHelpers, Stands}
 use Rattle.pi_lowered.proofs.NumberedLemmas.{Numbered, goal-numbered}
 use Rattle.pi_lowered.proofs.OwnLemmas.{AllHelp, find-append, LacksFrom, helpers-found, quiet-found, named-quiet, both-quiet, no-function}
 use Rattle.pi_lowered.proofs.TextLemmas.{goal-same}
-use Rattle.pi_lowered.proofs.TextLevels.{nothing-named, PredicateAt, FunctionAt, HasText, alike-up, texts-same}
-use Rattle.pi_lowered.proofs.TextPrograms.{Parts, program-numbered, RulesFrom, FunctionsFrom, rules-from, functions-from, keys-written, heads-written, modes-none}
+use Rattle.pi_lowered.proofs.TextLevels.{nothing-named, PredicateAt, of_rules, of_facts, FunctionAt, HasText, alike-up, texts-same}
+use Rattle.pi_lowered.proofs.TextPrograms.{Parts, program-numbered, RulesFrom, FunctionsFrom, rules-from, functions-from, keys-written, parts-lower, facts-each}
 use Rattle.pi_lowered.proofs.TellingLemmas.{TellSame, answered-same, told-one, behind-grows}
 use Rattle.pi_lowered.proofs.LawLemmas.{runs-the-same}
 
 -- ---- what a core program has
 
 -- no clause, and some
-no-clauses : (cs : List ClauseTree) → length cs ≡ 0 → cs ≡ []
+no-clauses : (cs : List ClauseTree) → is_some_clause cs ≡ false → cs ≡ []
 no-clauses [] is = refl
-no-clauses (c ∷ cs) is = absurd (omega (arith, is))
+no-clauses (c ∷ cs) is = absurd (false≢true (sym is))
 
 -- what is found first is found among more
-first-found : (kind : Bool) (name : List ℕ) (k : ℕ) (cs : List ClauseTree) (n : ℕ) → length cs ≡ suc n → (o : Option PredTree) → option_or (pred_with kind name k cs) o ≡ pred_with kind name k cs
-first-found kind name k [] n is o = absurd (omega (arith, is))
-first-found kind name k (c ∷ cs) n is o = refl
+first-found : (kind : Bool) (name : List ℕ) (k : ℕ) (m : Modes) (cs : List ClauseTree) → is_some_clause cs ≡ true → (o : Option PredTree) → option_or (pred_with kind name k m cs) o ≡ pred_with kind name k m cs
+first-found kind name k m [] is o = absurd (false≢true is)
+first-found kind name k m (c ∷ cs) is o = refl
+
+some-counted : (cs : List ClauseTree) (n : ℕ) → length cs ≡ suc n → is_some_clause cs ≡ true
+some-counted [] n is = absurd (omega (arith, is))
+some-counted (c ∷ cs) n is = refl
+
+none-counted : (cs : List ClauseTree) → length cs ≡ 0 → is_some_clause cs ≡ false
+none-counted [] is = refl
+none-counted (c ∷ cs) is = absurd (omega (arith, is))
 
 -- the groups of a program's clauses, and quiet predicates behind them
 pub record Core (program : ProgramTree) (called : Naming) (rest preds : List PredTree) : Type 0 where
   pub parts : Parts (known_of program) (prelude ++ program)
   pub own : AreOwn (known_of program) called
+  pub indexed : (name : List ℕ) (k : ℕ) → IsIndexed name k (prelude ++ program)
   pub groups : List PredTree
-  pub found : (kind : Bool) (name : List ℕ) (k : ℕ) → find_pred kind name k groups ≡ pred_with kind name k (clauses (chosen kind (sign name k) (clauses_of called 0 (prelude ++ program))))
+  pub found : (kind : Bool) (name : List ℕ) (k : ℕ) → find_pred kind name k groups ≡ pred_from kind (sign name k) (chosen kind (sign name k) (clauses_of called 0 (prelude ++ program)))
   pub is : preds ≡ groups ++ rest
   pub quiet : AreQuiet rest
 
 looked-up : (program : ProgramTree) (called : Naming) (rest preds : List PredTree) → (c : Core program called rest preds) → (kind : Bool) (name : List ℕ) (k : ℕ) →
-    find_pred kind name k preds ≡ option_or (pred_with kind name k (clauses (chosen kind (sign name k) (clauses_of called 0 (prelude ++ program))))) (find_pred kind name k rest)
+    find_pred kind name k preds ≡ option_or (pred_from kind (sign name k) (chosen kind (sign name k) (clauses_of called 0 (prelude ++ program)))) (find_pred kind name k rest)
 looked-up program called rest preds c kind name k =
     ap (find_pred kind name k) c.is ∙ find-append kind name k c.groups rest ∙ ap (λ (o : Option PredTree). option_or o (find_pred kind name k rest)) (c.found kind name k)
 
-rules-of : (program : ProgramTree) (called : Naming) → Parts (known_of program) (prelude ++ program) → (name : List ℕ) (k : ℕ) →
+rules-of : (program : ProgramTree) (called : Naming) → Parts (known_of program) (prelude ++ program) → (name : List ℕ) (k : ℕ) → facts_named name k (prelude ++ program) ≡ [] →
     RulesFrom (known_of program) called (helpers_of called 0 (prelude ++ program)) (rules_named name k (prelude ++ program)) (clauses (chosen false (sign name k) (clauses_of called 0 (prelude ++ program))))
-rules-of program called parts name k = rules-from (known_of program) called (sign name k) 0 (prelude ++ program) parts
+rules-of program called parts name k none = rules-from (known_of program) called (sign name k) 0 (prelude ++ program) parts none
 
 functions-of : (program : ProgramTree) (called : Naming) → Parts (known_of program) (prelude ++ program) → (name : List ℕ) (k : ℕ) →
     FunctionsFrom (known_of program) called (helpers_of called 0 (prelude ++ program)) (functions_named name k (prelude ++ program)) (clauses (chosen true (sign name k) (clauses_of called 0 (prelude ++ program))))
 functions-of program called parts name k = functions-from (known_of program) called (sign name k) 0 (prelude ++ program) parts
 
+-- a predicate has clauses where the program has heads of it
+some-heads : (program : ProgramTree) (called : Naming) → Parts (known_of program) (prelude ++ program) → (name : List ℕ) (k : ℕ) →
+    is_some_clause (clauses (chosen false (sign name k) (clauses_of called 0 (prelude ++ program)))) ≡ is_some_head (heads_named name k (prelude ++ program))
+some-heads program called parts name k = sym (heads-clauses (sign name k) (prelude ++ program) (clauses_of called 0 (prelude ++ program)) (parts-lower (known_of program) called 0 (prelude ++ program) parts))
+
 pub defines : (program : ProgramTree) (called : Naming) (rest preds : List PredTree) → Core program called rest preds → DefinesTheSame program preds
 defines program called rest preds c = record {
   predicates = λ name k.
       ap is_called_by_name (looked-up program called rest preds c false name k)
-      ∙ predicate name k (rules_named name k (prelude ++ program)) (clauses (chosen false (sign name k) (clauses_of called 0 (prelude ++ program)))) (rules-of program called c.parts name k).long
-      ∙ sym (heads-written (known_of program) name k (prelude ++ program) c.parts);
+      ∙ predicate name k _ (clauses (chosen false (sign name k) (clauses_of called 0 (prelude ++ program))))
+      ∙ some-heads program called c.parts name k;
   functions = λ name k.
       ap is_some (looked-up program called rest preds c true name k)
-      ∙ a-function name k (functions_named name k (prelude ++ program)) (clauses (chosen true (sign name k) (clauses_of called 0 (prelude ++ program)))) (functions-of program called c.parts name k).long;
+      ∙ a-function name k _ (functions_named name k (prelude ++ program)) (clauses (chosen true (sign name k) (clauses_of called 0 (prelude ++ program)))) (functions-of program called c.parts name k).long;
 }
   where
-    predicate : (name : List ℕ) (k : ℕ) (rs : List RuleTree) (cs : List ClauseTree) → length cs ≡ length rs → is_called_by_name (option_or (pred_with false name k cs) (find_pred false name k rest)) ≡ is_some_rule rs
-    predicate name k [] [] is = quiet-found name k rest c.quiet
-    predicate name k [] (x ∷ cs) is = absurd (omega (arith, is))
-    predicate name k (r ∷ rs) [] is = absurd (omega (arith, is))
-    predicate name k (r ∷ rs) (x ∷ cs) is = refl
+    predicate : (name : List ℕ) (k : ℕ) (m : Modes) (cs : List ClauseTree) → is_called_by_name (option_or (pred_with false name k m cs) (find_pred false name k rest)) ≡ is_some_clause cs
+    predicate name k m [] = quiet-found name k rest c.quiet
+    predicate name k m (x ∷ cs) = refl
 
-    a-function : (name : List ℕ) (k : ℕ) (fs : List FunctionTree) (cs : List ClauseTree) → length cs ≡ length fs → is_some (option_or (pred_with true name k cs) (find_pred true name k rest)) ≡ is_some_function fs
-    a-function name k [] [] is = ap is_some (no-function name k rest c.quiet)
-    a-function name k [] (x ∷ cs) is = absurd (omega (arith, is))
-    a-function name k (f ∷ fs) [] is = absurd (omega (arith, is))
-    a-function name k (f ∷ fs) (x ∷ cs) is = refl
+    a-function : (name : List ℕ) (k : ℕ) (m : Modes) (fs : List FunctionTree) (cs : List ClauseTree) → length cs ≡ length fs → is_some (option_or (pred_with true name k m cs) (find_pred true name k rest)) ≡ is_some_function fs
+    a-function name k m [] [] is = ap is_some (no-function name k rest c.quiet)
+    a-function name k m [] (x ∷ cs) is = absurd (omega (arith, is))
+    a-function name k m (f ∷ fs) [] is = absurd (omega (arith, is))
+    a-function name k m (f ∷ fs) (x ∷ cs) is = refl
 
 -- ---- its calls
 
@@ -124,18 +138,13 @@ all-have c (p ∷ ps) has = (has.0, all-have c ps has.1)
 groups-lack : (program : ProgramTree) (called : Naming) (rest preds : List PredTree) → (c : Core program called rest preds) → LacksFrom called 0 c.groups
 groups-lack program called rest preds c m k more =
     c.found false (called m) k
-    ∙ ap (pred_with false (called m) k) (no-clauses _ ((rules-of program called c.parts (called m) k).long ∙ none (rules_named (called m) k (prelude ++ program))
-    (sym (heads-written (known_of program) (called m) k (prelude ++ program) c.parts) ∙ c.own.unknown m k)))
-  where
-    none : (rs : List RuleTree) → is_some_rule rs ≡ false → length rs ≡ 0
-    none [] is = refl
-    none (r ∷ rs) is = absurd (false≢true (sym is))
+    ∙ ap (pred_with false (called m) k _) (no-clauses (clauses (chosen false (sign (called m) k) (clauses_of called 0 (prelude ++ program)))) (some-heads program called c.parts (called m) k ∙ c.own.unknown m k))
 
 -- what a core program has with its helpers behind its groups, and more behind these
 pub has-text : (program : ProgramTree) (called : Naming) (more preds : List PredTree) → Core program called (helpers_of called 0 (prelude ++ program) ++ more) preds → (v : View) (later : LaterStages) → GoesByCalls (known_of program) later.calls →
     LaterKeepsRoots later.calls → HasText (known_of program) (setting v later program) (whole v later.calls preds) (prelude ++ program) preds called
 has-text program called more preds c v later goes roots = record {
-  predicates = λ most name k there. a-predicate most name k there (rules_named name k (prelude ++ program)) refl;
+  predicates = λ most name k there. a-predicate most name k (some-heads program called c.parts name k ∙ there) (modes_named name k (prelude ++ program)) refl;
   functions = λ most name k there. a-function most name k there (functions_named name k (prelude ++ program)) refl;
   alike = λ l m same core names. alike-levels known v later.calls preds (λ name k. is_some_head (heads_named name k (prelude ++ program))) goes (λ name k. refl) (defines program called rest preds c).predicates l m same core names;
   roots = whole-keeps-roots unifying-keeps-roots v later.calls roots preds;
@@ -162,21 +171,51 @@ has-text program called more preds c v later goes roots = record {
     few : length (helpers_of called 0 (prelude ++ program)) ≤ length preds
     few = omega (arith, ap length c.is, length-append c.groups rest, length-append helpers more)
 
-    a-predicate : (most : ℕ) (name : List ℕ) (k : ℕ) → IsTrue ((known_of program).predicate name k) → (rs : List RuleTree) → rules_named name k (prelude ++ program) ≡ rs →
+    here : List ℕ → ℕ → List Lowering
+    here name k = chosen false (sign name k) (clauses_of called 0 (prelude ++ program))
+
+    lower : LowersAll (prelude ++ program) (clauses_of called 0 (prelude ++ program))
+    lower = parts-lower (known_of program) called 0 (prelude ++ program) c.parts
+
+    found-as : (name : List ℕ) (k : ℕ) (m : Modes) (cs : List ClauseTree) → modes_in (chosen false (sign name k) (clauses_of called 0 (prelude ++ program))) ≡ m → clauses (chosen false (sign name k) (clauses_of called 0 (prelude ++ program))) ≡ cs →
+        is_some_clause cs ≡ true → find_pred false name k preds ≡ pred_with false name k m cs
+    found-as name k m cs modes same some =
+        looked-up program called rest preds c false name k
+        ∙ ap (λ n. option_or (pred_with false name k n (clauses (chosen false (sign name k) (clauses_of called 0 (prelude ++ program))))) (find_pred false name k rest)) modes
+        ∙ ap (λ xs. option_or (pred_with false name k m xs) (find_pred false name k rest)) same ∙ first-found false name k m cs some (find_pred false name k rest)
+
+    a-predicate : (most : ℕ) (name : List ℕ) (k : ℕ) → is_some_clause (clauses (chosen false (sign name k) (clauses_of called 0 (prelude ++ program)))) ≡ true → (m : Modes) → modes_named name k (prelude ++ program) ≡ m →
         PredicateAt (record { known = known_of program; set = setting v later program; builtins = whole v later.calls preds; program = prelude ++ program; preds = preds; most = most }) called name k
-    a-predicate most name k there [] is = absurd (false≢true (sym (ap is_some_rule is) ∙ sym (heads-written known name k (prelude ++ program) c.parts) ∙ there))
-    a-predicate most name k there (r ∷ rs) is =
-        let from : RulesFrom known called helpers (r ∷ rs) (clauses (chosen false (sign name k) (clauses_of called 0 (prelude ++ program)))) =
-        subst (λ (xs : List RuleTree). RulesFrom known called helpers xs (clauses (chosen false (sign name k) (clauses_of called 0 (prelude ++ program))))) is (rules-of program called c.parts name k) in
-        record {
-          first = r;
-          others = rs;
-          clauses = clauses (chosen false (sign name k) (clauses_of called 0 (prelude ++ program)));
-          named = is;
-          found = looked-up program called rest preds c false name k ∙ first-found false name k (clauses (chosen false (sign name k) (clauses_of called 0 (prelude ++ program)))) (length rs) from.long (find_pred false name k rest);
-          at = from.at (fix most) refl (all-have (fix most) helpers there-all) few;
-          no_modes = modes-none known name k (prelude ++ program) c.parts;
-        }
+    a-predicate most name k some None none = by-rules (rules_named name k (prelude ++ program)) refl
+      where
+        no_facts : facts_named name k (prelude ++ program) ≡ []
+        no_facts = facts-none name k (prelude ++ program) (c.indexed name k).first none
+
+        by-rules : (rs : List RuleTree) → rules_named name k (prelude ++ program) ≡ rs →
+            PredicateAt (record { known = known_of program; set = setting v later program; builtins = whole v later.calls preds; program = prelude ++ program; preds = preds; most = most }) called name k
+        by-rules [] is =
+            absurd (false≢true (sym (none-counted (clauses (chosen false (sign name k) (clauses_of called 0 (prelude ++ program)))) ((rules-of program called c.parts name k no_facts).long ∙ ap length is)) ∙ some))
+        by-rules (r ∷ rs) is =
+            let from : RulesFrom known called helpers (r ∷ rs) (clauses (chosen false (sign name k) (clauses_of called 0 (prelude ++ program)))) =
+            subst (λ (xs : List RuleTree). RulesFrom known called helpers xs (clauses (chosen false (sign name k) (clauses_of called 0 (prelude ++ program))))) is (rules-of program called c.parts name k no_facts) in
+            of_rules r rs (clauses (chosen false (sign name k) (clauses_of called 0 (prelude ++ program)))) is (found-as name k None _ (rules-modes (sign name k) (prelude ++ program) (clauses_of called 0 (prelude ++ program)) lower no_facts) refl some)
+            (from.at (fix most) refl (all-have (fix most) helpers there-all) few) none
+    a-predicate most name k some (Some lists) modes = alone (c.indexed name k).alone
+      where
+        by-facts : rules_named name k (prelude ++ program) ≡ [] → (heads : List ExpTree) → facts_named name k (prelude ++ program) ≡ heads →
+            PredicateAt (record { known = known_of program; set = setting v later program; builtins = whole v later.calls preds; program = prelude ++ program; preds = preds; most = most }) called name k
+        by-facts no_rules [] is =
+            absurd (false≢true (sym (ap is_some_clause (facts-chosen (sign name k) (prelude ++ program) (clauses_of called 0 (prelude ++ program)) lower no_rules ∙ ap (λ hs. map lowered_fact hs) is)) ∙ some))
+        by-facts no_rules (head ∷ heads) is =
+            of_facts lists head heads is
+            (found-as name k (Some lists) (map lowered_fact (head ∷ heads)) (facts-modes (sign name k) (prelude ++ program) (clauses_of called 0 (prelude ++ program)) lower no_rules (c.indexed name k).first ∙ modes)
+            (facts-chosen (sign name k) (prelude ++ program) (clauses_of called 0 (prelude ++ program)) lower no_rules ∙ ap (λ hs. map lowered_fact hs) is) refl)
+            (subst EachFact is (facts-each (known_of program) name k (prelude ++ program) c.parts)) modes
+
+        alone : (rules_named name k (prelude ++ program) ≡ []) ⊎ (facts_named name k (prelude ++ program) ≡ []) →
+            PredicateAt (record { known = known_of program; set = setting v later program; builtins = whole v later.calls preds; program = prelude ++ program; preds = preds; most = most }) called name k
+        alone (inl no_rules) = by-facts no_rules (facts_named name k (prelude ++ program)) refl
+        alone (inr no_facts) = absurd (cc (sym modes ∙ modes-none name k (prelude ++ program) no_facts))
 
     a-function : (most : ℕ) (name : List ℕ) (k : ℕ) → IsTrue ((known_of program).function name k) → (fs : List FunctionTree) → functions_named name k (prelude ++ program) ≡ fs →
         FunctionAt (record { known = known_of program; set = setting v later program; builtins = whole v later.calls preds; program = prelude ++ program; preds = preds; most = most }) called name k
@@ -189,7 +228,9 @@ has-text program called more preds c v later goes roots = record {
           others = fs;
           clauses = clauses (chosen true (sign name k) (clauses_of called 0 (prelude ++ program)));
           named = is;
-          found = looked-up program called rest preds c true name k ∙ first-found true name k (clauses (chosen true (sign name k) (clauses_of called 0 (prelude ++ program)))) (length fs) from.long (find_pred true name k rest);
+          found = looked-up program called rest preds c true name k
+              ∙ ap (λ n. option_or (pred_with true name k n (clauses (chosen true (sign name k) (clauses_of called 0 (prelude ++ program))))) (find_pred true name k rest)) (functions-modes (sign name k) (prelude ++ program) (clauses_of called 0 (prelude ++ program)) lower)
+              ∙ first-found true name k None (clauses (chosen true (sign name k) (clauses_of called 0 (prelude ++ program)))) (some-counted _ (length fs) from.long) (find_pred true name k rest);
           at = from.at (fix most) refl (all-have (fix most) helpers there-all) few;
         }
 
@@ -203,6 +244,7 @@ core-has program within called own more quiet =
     record {
       parts = parts;
       own = own;
+      indexed = within.indexed;
       groups = grouped_all (clauses_of called 0 (prelude ++ program));
       found = λ kind name k. find-all kind (sign name k) (clauses_of called 0 (prelude ++ program)) (subst (λ (xs : _). StandTogether [] xs) (sym (keys-written (known_of program) called 0 (prelude ++ program) parts)) within.together);
       is = append_assoc (grouped_all (clauses_of called 0 (prelude ++ program))) (helpers_of called 0 (prelude ++ program)) more;

@@ -1,11 +1,12 @@
 -- Calls of what a program with loops has do the same over slots and over names, at each depth.
-use Rattle.std.proofs.Common.{◌≡◌, ℕ, zero, suc, ◌≤◌, true, false, List, [], ◌∷◌, ◌++◌, length, refl, sym, ◌∙◌, ap, subst, arith}
+use Rattle.std.proofs.Common.{◌≡◌, ℕ, zero, suc, ◌≤◌, true, false, List, [], ◌∷◌, ◌++◌, length, map, refl, sym, ◌∙◌, ap, subst, arith}
 use Rattle.std.specs.Prelude.{Option, Some, None, IsTrue, codes}
 use Rattle.std.proofs.lemmas.Bool.{false≢true}
 use Rattle.pi_terms.specs.Tree.{Trees, comp, tree_count}
 use Rattle.pi_states.specs.State.{State}
 use Rattle.pi_syntax.specs.ExpTree.{ExpTree}
 use Rattle.pi_syntax.specs.ProgramTree.{RuleTree, FunctionTree, ProgramTree}
+use Rattle.pi_syntax.specs.declared.program.Mode.{Mode}
 use Rattle.pi_core.specs.CoreTree.{ClauseTree, PredTree, find_pred}
 use Rattle.pi_traces.specs.Trace.{Trace, note, Tick, one}
 use Rattle.pi_traces.specs.Control.{chosen}
@@ -16,7 +17,7 @@ use Rattle.pi_meaning.specs.Rules.{pred_run, function_run, call_run, application
 use Rattle.pi_names.specs.Texts.{behind, places}
 use Rattle.pi_names.specs.Stages.{RulesSetting}
 use Rattle.pi_names.specs.Rules as over_names
-use Rattle.pi_names.specs.Rules.{places_in, names_before, function_names, rules_named, functions_named, modes_named, predicate_run, functions_called, body_or_none, level_for}
+use Rattle.pi_names.specs.Rules.{places_in, names_before, function_names, rules_named, facts_named, functions_named, modes_named, predicate_run, functions_called, body_or_none, level_for}
 use Rattle.pi_names.proofs.LoopNames.{AreNamed, behind-named}
 use Rattle.pi_lowered.specs.Values.{last_value}
 use Rattle.pi_lowered.specs.Forms.{Knows}
@@ -24,6 +25,7 @@ use Rattle.pi_lowered.specs.Sites.{Site}
 use Rattle.pi_lowered.specs.Written as written
 use Rattle.pi_lowered.specs.Written.{made}
 use Rattle.pi_lowered.specs.Helpers.{value_helpers, goal_helpers}
+use Rattle.pi_lowered.specs.Lowered.{lowered_fact}
 use Rattle.pi_lowered.specs.Programs.{Naming, option_goals, option_count, option_helpers, behind_option, rule_site, written_rule, rule_count, rule_helpers, function_site, value_site, written_function, function_count, function_helpers}
 use Rattle.pi_lowered.specs.WithinLoops.{IsGoalOrNone, IsRule, IsFunction}
 use Rattle.pi_lowered.specs.Clauses.{pred_with}
@@ -37,7 +39,8 @@ use Rattle.pi_lowered.proofs.StandsLemmas.{Fixture, Here, slots_level, names_lev
 use Rattle.pi_lowered.proofs.TextCalls.{flat-term}
 use Rattle.pi_lowered.proofs.TextLemmas.{goal-same, made-same}
 use Rattle.pi_lowered.proofs.RuleLemmas.{GuardSame, no_guard, a_guard, same_rule, RulesSame, no_rules, more_rules, clauses-same, FunctionsSame, no_functions, more_functions, values-same}
-use Rattle.pi_lowered.proofs.LevelLemmas.{both_lowest, both_over, CallsAre, SameDepths, levels-quiet}
+use Rattle.pi_lowered.proofs.FactLemmas.{EachFact}
+use Rattle.pi_lowered.proofs.LevelLemmas.{facts-called, both_lowest, both_over, CallsAre, SameDepths, levels-quiet}
 
 -- ---- clauses whose helpers are there
 
@@ -105,22 +108,20 @@ functions-written c each called w all _ _ (one_more_function n f fs cs is few ha
 
 -- ---- calls
 
--- what a core program has of a predicate, and of a function: the clauses of its rules
-pub record PredicateAt (c : Fixture) (called : Naming) (name : List ℕ) (k : ℕ) : Type 0 where
-  pub first : RuleTree
-  pub others : List RuleTree
-  pub clauses : List ClauseTree
-  pub named : rules_named name k c.program ≡ first ∷ others
-  pub found : find_pred false name k c.preds ≡ pred_with false name k clauses
-  pub at : RulesAt c called (first ∷ others) clauses
-  pub no_modes : modes_named name k c.program ≡ None
+-- what a core program has of a predicate: the clauses of its rules, or those of its facts behind the mode lists
+pub data PredicateAt (c : Fixture) (called : Naming) (name : List ℕ) (k : ℕ) : Type 0 where
+  of_rules : (r : RuleTree) (rs : List RuleTree) (cs : List ClauseTree) → rules_named name k c.program ≡ r ∷ rs → find_pred false name k c.preds ≡ pred_with false name k None cs → RulesAt c called (r ∷ rs) cs → modes_named name k c.program ≡ None →
+      PredicateAt c called name k
+  of_facts : (lists : List (List Mode)) (head : ExpTree) (heads : List ExpTree) → facts_named name k c.program ≡ head ∷ heads → find_pred false name k c.preds ≡ pred_with false name k (Some lists) (map lowered_fact (head ∷ heads)) →
+      EachFact (head ∷ heads) → modes_named name k c.program ≡ Some lists → PredicateAt c called name k
 
+-- and of a function
 pub record FunctionAt (c : Fixture) (called : Naming) (name : List ℕ) (k : ℕ) : Type 0 where
   pub first : FunctionTree
   pub others : List FunctionTree
   pub clauses : List ClauseTree
   pub named : functions_named name k c.program ≡ first ∷ others
-  pub found : find_pred true name k c.preds ≡ pred_with true name k clauses
+  pub found : find_pred true name k c.preds ≡ pred_with true name k None clauses
   pub at : FunctionsAt c called (first ∷ others) clauses
 
 -- and of all that the program has; whatever the depth is
@@ -137,34 +138,38 @@ fixture known set b program preds most = record { known = known; set = set; buil
 
 called-lowest : (c : Fixture) (called : Naming) (inner : Option Level) (name : List ℕ) (ts : Trees) (s : State) → PredicateAt c called name (tree_count ts) →
     call_run c.builtins inner None (find_pred false name (tree_count ts) c.preds) ts s ≡ ticked None (λ l. predicate_run c.set c.program l name ts s (modes_named name (tree_count ts) c.program))
-called-lowest c called inner name ts s has = ap (λ (o : Option PredTree). call_run c.builtins inner None o ts s) has.found ∙ go has.clauses has.at
+called-lowest c called inner name ts s (of_rules r rs cs named found at none) = ap (λ (o : Option PredTree). call_run c.builtins inner None o ts s) found ∙ go cs at
   where
-    go : (cs : List ClauseTree) → RulesAt c called (has.first ∷ has.others) cs →
-        call_run c.builtins inner None (pred_with false name (tree_count ts) cs) ts s ≡ ticked None (λ l. predicate_run c.set c.program l name ts s (modes_named name (tree_count ts) c.program))
+    go : (cs : List ClauseTree) → RulesAt c called (r ∷ rs) cs →
+        call_run c.builtins inner None (pred_with false name (tree_count ts) None cs) ts s ≡ ticked None (λ l. predicate_run c.set c.program l name ts s (modes_named name (tree_count ts) c.program))
     go _ (one_more n r rs cs is few helpers rest) = refl
+called-lowest c called inner name ts s (of_facts lists head heads named found each modes) = ap (λ (o : Option PredTree). call_run c.builtins inner None o ts s) found
 
 applied-lowest : (c : Fixture) (called : Naming) (inner : Option Level) (name : List ℕ) (ts : Trees) (s : State) → FunctionAt c called name (tree_count ts) →
     application_run c.builtins inner None (find_pred true name (tree_count ts) c.preds) ts s ≡ ticked None (λ l. over_names.function_run c.set c.program l name ts s)
 applied-lowest c called inner name ts s has = ap (λ (o : Option PredTree). application_run c.builtins inner None o ts s) has.found ∙ go has.clauses has.at
   where
     go : (cs : List ClauseTree) → FunctionsAt c called (has.first ∷ has.others) cs →
-        application_run c.builtins inner None (pred_with true name (tree_count ts) cs) ts s ≡ ticked None (λ l. over_names.function_run c.set c.program l name ts s)
+        application_run c.builtins inner None (pred_with true name (tree_count ts) None cs) ts s ≡ ticked None (λ l. over_names.function_run c.set c.program l name ts s)
     go _ (one_more_function n f fs cs is few helpers rest) = refl
 
 called-over : (c : Fixture) (each : AlikeUpTo c) (called : Naming) (w : Here c) → length c.preds ≤ w.calls → (inner : Option Level) (name : List ℕ) (ts : Trees) (s : State) → PredicateAt c called name (tree_count ts) →
     call_run c.builtins inner (Some (slots_level c w)) (find_pred false name (tree_count ts) c.preds) ts s
     ≡ ticked (Some (names_level c w)) (λ l. predicate_run c.set c.program l name ts s (modes_named name (tree_count ts) c.program))
 unfolding pred_run
-called-over c each called w all inner name ts s has = ap (λ (o : Option PredTree). call_run c.builtins inner (Some (slots_level c w)) o ts s) has.found ∙ go has.first has.others has.clauses has.at has.named
+called-over c each called w all inner name ts s (of_rules first others clauses named found at none) = ap (λ (o : Option PredTree). call_run c.builtins inner (Some (slots_level c w)) o ts s) found ∙ go first others clauses at named
   where
     go : (r : RuleTree) (rs : List RuleTree) (cs : List ClauseTree) → RulesAt c called (r ∷ rs) cs → rules_named name (tree_count ts) c.program ≡ r ∷ rs →
-        call_run c.builtins inner (Some (slots_level c w)) (pred_with false name (tree_count ts) cs) ts s
+        call_run c.builtins inner (Some (slots_level c w)) (pred_with false name (tree_count ts) None cs) ts s
         ≡ ticked (Some (names_level c w)) (λ l. predicate_run c.set c.program l name ts s (modes_named name (tree_count ts) c.program))
     go _ _ _ (one_more n r rs cs is few helpers rest) named =
         ap (note Tick)
         (clauses-same c.known c.set c.builtins (slots_level c w) (names_level c w) (alike-here c each w) (r ∷ rs) (written_rule called n r ∷ cs) (rules-written c each called w all (r ∷ rs) _ (one_more n r rs cs is few helpers rest)) (comp name ts) 0 ts s
         ∙ ap (λ (xs : List RuleTree). over_names.rules_called c.set (comp name ts) 0 xs (names_level c w) ts s) (sym named)
-        ∙ ap (predicate_run c.set c.program (names_level c w) name ts s) (sym has.no_modes))
+        ∙ ap (predicate_run c.set c.program (names_level c w) name ts s) (sym none))
+called-over c each called w all inner name ts s (of_facts lists head heads named found is modes) =
+    ap (λ (o : Option PredTree). call_run c.builtins inner (Some (slots_level c w)) o ts s) found
+    ∙ ap (note Tick) (facts-called c.set c.program (names_level c w) name ts s lists (head ∷ heads) (sym named) is modes)
 
 applied-over : (c : Fixture) (each : AlikeUpTo c) (called : Naming) (w : Here c) → length c.preds ≤ w.calls → (inner : Option Level) (name : List ℕ) (ts : Trees) (s : State) → FunctionAt c called name (tree_count ts) →
     application_run c.builtins inner (Some (slots_level c w)) (find_pred true name (tree_count ts) c.preds) ts s ≡ ticked (Some (names_level c w)) (λ l. over_names.function_run c.set c.program l name ts s)
@@ -172,7 +177,7 @@ unfolding function_run
 applied-over c each called w all inner name ts s has = ap (λ (o : Option PredTree). application_run c.builtins inner (Some (slots_level c w)) o ts s) has.found ∙ go has.first has.others has.clauses has.at has.named
   where
     go : (f : FunctionTree) (fs : List FunctionTree) (cs : List ClauseTree) → FunctionsAt c called (f ∷ fs) cs → functions_named name (tree_count ts) c.program ≡ f ∷ fs →
-        application_run c.builtins inner (Some (slots_level c w)) (pred_with true name (tree_count ts) cs) ts s ≡ ticked (Some (names_level c w)) (λ l. over_names.function_run c.set c.program l name ts s)
+        application_run c.builtins inner (Some (slots_level c w)) (pred_with true name (tree_count ts) None cs) ts s ≡ ticked (Some (names_level c w)) (λ l. over_names.function_run c.set c.program l name ts s)
     go _ _ _ (one_more_function n f fs cs is few helpers rest) named =
         ap (note Tick)
         (ap (λ (t : Trace Applied). chosen t (λ a. one a) (raised_with (codes "unresolved_function_call") (comp name ts) s))

@@ -6,20 +6,19 @@ use Rattle.std.proofs.lemmas.Bool.{false≢true}
 use Rattle.pi_syntax.specs.ExpTree.{ExpTree}
 use Rattle.pi_syntax.specs.ProgramTree.{RuleTree, FunctionTree, WrittenClause, rule, function, fact, ProgramTree}
 use Rattle.pi_syntax.specs.Signature.{Signature, signature}
-use Rattle.pi_syntax.specs.declared.program.Mode.{Mode}
-use Rattle.pi_core.specs.CoreTree.{ClauseTree, PredTree}
-use Rattle.pi_meaning.specs.WrittenRules.{is_signature, is_rule_of, rule_in, rules_of}
-use Rattle.pi_names.specs.Rules.{predicate_head, function_in, is_head_of, rules_named, functions_named, heads_named, modes_before, first_modes, modes_named}
-use Rattle.pi_names.specs.Run.{is_some_head}
-use Rattle.pi_lowered.specs.Forms.{Knows}
+use Rattle.pi_core.specs.CoreTree.{ClauseTree, PredTree, index_of}
+use Rattle.pi_meaning.specs.WrittenRules.{is_signature, is_rule_of, rule_in, rules_of, head_arguments}
+use Rattle.pi_names.specs.Rules.{function_in, fact_head, is_head_of, rules_named, facts_named, functions_named}
+use Rattle.pi_lowered.specs.Forms.{Knows, ArePatterns}
 use Rattle.pi_lowered.specs.Lowered.{named_by, Lowering}
 use Rattle.pi_lowered.specs.Helpers.{value_helpers, goal_helpers}
 use Rattle.pi_lowered.specs.Sites.{Site, helpers_in}
 use Rattle.pi_lowered.specs.Programs.{Naming, option_count, option_helpers, behind_option, rule_site, written_rule, rule_count, rule_helpers, function_site, value_site, written_function, function_count, function_helpers, clause_count, written_clause, clause_helpers, clauses_of, helpers_of}
 use Rattle.pi_lowered.specs.WithinLoops.{IsGoalOrNone, IsRule, IsFunction, IsClause, IsPart}
-use Rattle.pi_lowered.specs.Within.{key_of, keys}
-use Rattle.pi_lowered.proofs.FindLemmas.{of, matches, keys_of, chosen, clauses}
-use Rattle.pi_lowered.proofs.LevelLemmas.{is_some_rule}
+use Rattle.pi_lowered.specs.Within.{Key, key_of, keys}
+use Rattle.pi_lowered.proofs.FindLemmas.{Modes, of, matches, keys_of, chosen, clauses}
+use Rattle.pi_lowered.proofs.FactLemmas.{EachFact}
+use Rattle.pi_lowered.proofs.FactParts.{Lowers, no_clause, a_rule, a_function, a_fact, LowersAll, no_parts, one_part, same-named, none-kept, passed-clauses}
 use Rattle.pi_lowered.proofs.NumberedLemmas.{Numbered, none-numbered, both-numbered, value-numbered, goal-numbered}
 use Rattle.pi_lowered.proofs.StandsLemmas.{Fixture, HaveHelpers, have-first, have-last}
 use Rattle.pi_lowered.proofs.TextLevels.{RulesAt, no_more, one_more, FunctionsAt, no_more_functions, one_more_function}
@@ -52,7 +51,7 @@ clause-numbered : (known : Knows) (called : Naming) (n : ℕ) (o : Option Writte
 clause-numbered known called n None is = none-numbered called n
 clause-numbered known called n (Some (rule r)) is = rule-numbered known called n r is.0
 clause-numbered known called n (Some (function f)) is = function-numbered known called n f is.0
-clause-numbered known called n (Some (fact head)) is = absurd is
+clause-numbered known called n (Some (fact head)) is = none-numbered called n
 
 unfoldable pub count_of : ProgramTree → ℕ
 count_of [] = 0
@@ -111,72 +110,85 @@ function-first known called n helpers f fs y ys is head true false same rest = a
 function-first known called n helpers f fs y ys is head false true same rest = absurd (false≢true (sym same))
 function-first known called n helpers f fs y ys is head false false same rest = functions-later known called (function_helpers called n f) helpers fs (clauses ys) rest
 
-pub rules-from : (known : Knows) (called : Naming) (s : Signature) (n : ℕ) (program : ProgramTree) → Parts known program → RulesFrom known called (helpers_of called n program) (rules_named s.name s.arity program) (clauses (chosen false s (clauses_of called n program)))
+-- of a predicate without facts
+pub rules-from : (known : Knows) (called : Naming) (s : Signature) (n : ℕ) (program : ProgramTree) → Parts known program → facts_named s.name s.arity program ≡ [] → RulesFrom known called (helpers_of called n program) (rules_named s.name s.arity program) (clauses (chosen false s (clauses_of called n program)))
 unfolding helpers_of clauses_of
-rules-from known called s n [] is = record { at = λ c same has few. no_more; long = refl }
-rules-from known called s n (p ∷ ps) is = go p.clause is.0.clause (λ m. rules-from known called s m ps is.1)
+rules-from known called s n [] is none = record { at = λ c same has few. no_more; long = refl }
+rules-from known called s n (p ∷ ps) is none = go (index_of p.decl) p.clause is.0.clause none (λ m no_more. rules-from known called s m ps is.1 no_more)
   where
-    go : (o : Option WrittenClause) → IsClause known o → ((m : ℕ) → RulesFrom known called (helpers_of called m ps) (rules_named s.name s.arity ps) (clauses (chosen false s (clauses_of called m ps)))) →
+    go : (m : Modes) (o : Option WrittenClause) → IsClause known o → filter (is_head_of s.name s.arity) (cons_option (fact_head o) (filter_map (λ q. fact_head q.clause) ps)) ≡ [] →
+        ((m : ℕ) → facts_named s.name s.arity ps ≡ [] → RulesFrom known called (helpers_of called m ps) (rules_named s.name s.arity ps) (clauses (chosen false s (clauses_of called m ps)))) →
         RulesFrom known called (clause_helpers called n o ++ helpers_of called (n + clause_count o) ps) (filter (is_rule_of s.name s.arity) (cons_option (rule_in o) (rules_of ps)))
-        (clauses (chosen false s (cons_option (written_clause called n o) (clauses_of called (n + clause_count o) ps))))
-    go None c rest = rest (n + 0)
-    go (Some (rule r)) c rest =
+        (clauses (chosen false s (cons_option (written_clause called n m o) (clauses_of called (n + clause_count o) ps))))
+    go m None c none rest = rest (n + 0) none
+    go m (Some (rule r)) c none rest =
         rule-first known called n (helpers_of called (n + rule_count r) ps) r (rules_named s.name s.arity ps) _ (chosen false s (clauses_of called (n + rule_count r) ps)) c.0 refl (is_rule_of s.name s.arity r)
-        (matches false s false (named_by (signature r.head))) (ap (λ o. is_signature s.name s.arity (Some (named_by o))) c.1.is_named ∙ sym (ap (is_signature s.name s.arity) c.1.is_named)) (rest (n + rule_count r))
-    go (Some (function f)) c rest =
-        rules-later known called (function_helpers called n f) (helpers_of called (n + function_count f) ps) (rules_named s.name s.arity ps) (clauses (chosen false s (clauses_of called (n + function_count f) ps))) (rest (n + function_count f))
-    go (Some (fact head)) c rest = absurd c
+        (matches false s false (named_by (signature r.head))) (ap (λ o. is_signature s.name s.arity (Some (named_by o))) c.1.is_named ∙ sym (ap (is_signature s.name s.arity) c.1.is_named)) (rest (n + rule_count r) none)
+    go m (Some (function f)) c none rest =
+        rules-later known called (function_helpers called n f) (helpers_of called (n + function_count f) ps) (rules_named s.name s.arity ps) (clauses (chosen false s (clauses_of called (n + function_count f) ps))) (rest (n + function_count f) none)
+    go m (Some (fact head)) c none rest =
+        let out : (is_head_of s.name s.arity head ≡ false) × (facts_named s.name s.arity ps ≡ []) = none-kept (is_head_of s.name s.arity head) head (facts_named s.name s.arity ps) none in
+        subst (RulesFrom known called (helpers_of called (n + 0) ps) (rules_named s.name s.arity ps))
+        (sym (passed-clauses (matches false s false (named_by (signature head))) _ (chosen false s (clauses_of called (n + 0) ps)) (same-named s c.1.named head c.1.is_named ∙ out.0))) (rest (n + 0) out.1)
 
 pub functions-from : (known : Knows) (called : Naming) (s : Signature) (n : ℕ) (program : ProgramTree) → Parts known program →
     FunctionsFrom known called (helpers_of called n program) (functions_named s.name s.arity program) (clauses (chosen true s (clauses_of called n program)))
 unfolding helpers_of clauses_of
 functions-from known called s n [] is = record { at = λ c same has few. no_more_functions; long = refl }
-functions-from known called s n (p ∷ ps) is = go p.clause is.0.clause (λ m. functions-from known called s m ps is.1)
+functions-from known called s n (p ∷ ps) is = go (index_of p.decl) p.clause is.0.clause (λ m. functions-from known called s m ps is.1)
   where
-    go : (o : Option WrittenClause) → IsClause known o → ((m : ℕ) → FunctionsFrom known called (helpers_of called m ps) (functions_named s.name s.arity ps) (clauses (chosen true s (clauses_of called m ps)))) →
+    go : (m : Modes) (o : Option WrittenClause) → IsClause known o → ((m : ℕ) → FunctionsFrom known called (helpers_of called m ps) (functions_named s.name s.arity ps) (clauses (chosen true s (clauses_of called m ps)))) →
         FunctionsFrom known called (clause_helpers called n o ++ helpers_of called (n + clause_count o) ps) (filter (λ f. is_head_of s.name s.arity f.head) (cons_option (function_in o) (filter_map (λ p. function_in p.clause) ps)))
-        (clauses (chosen true s (cons_option (written_clause called n o) (clauses_of called (n + clause_count o) ps))))
-    go None c rest = rest (n + 0)
-    go (Some (rule r)) c rest =
+        (clauses (chosen true s (cons_option (written_clause called n m o) (clauses_of called (n + clause_count o) ps))))
+    go m None c rest = rest (n + 0)
+    go m (Some (rule r)) c rest =
         functions-later known called (rule_helpers called n r) (helpers_of called (n + rule_count r) ps) (functions_named s.name s.arity ps) (clauses (chosen true s (clauses_of called (n + rule_count r) ps))) (rest (n + rule_count r))
-    go (Some (function f)) c rest =
+    go m (Some (function f)) c rest =
         function-first known called n (helpers_of called (n + function_count f) ps) f (functions_named s.name s.arity ps) _ (chosen true s (clauses_of called (n + function_count f) ps)) c.0 refl (is_head_of s.name s.arity f.head)
         (matches true s true (named_by (signature f.head))) (ap (λ o. is_signature s.name s.arity (Some (named_by o))) c.1.is_named ∙ sym (ap (is_signature s.name s.arity) c.1.is_named)) (rest (n + function_count f))
-    go (Some (fact head)) c rest = absurd c
+    go m (Some (fact head)) c rest = rest (n + 0)
 
 -- ---- what stands together stands together
+
+signed : (kind : Bool) (head : ExpTree) (s : Signature) (ks rest : List Key) → signature head ≡ Some s → rest ≡ ks → (of kind (named_by (signature head)) ∷ rest) ≡ record { kind = kind; named = signature head } ∷ ks
+signed kind head s ks rest is same = ap (λ xs. of kind (named_by (signature head)) ∷ xs) same ∙ ap (λ n. record { kind = kind; named = n } ∷ ks) (ap (λ n. Some (named_by n)) is ∙ sym is)
 
 pub keys-written : (known : Knows) (called : Naming) (n : ℕ) (program : ProgramTree) → Parts known program → keys_of (clauses_of called n program) ≡ keys program
 unfolding clauses_of
 keys-written known called n [] is = refl
-keys-written known called n (p ∷ ps) is = go p.clause is.0.clause (λ m. keys-written known called m ps is.1)
+keys-written known called n (p ∷ ps) is = go (index_of p.decl) p.clause is.0.clause (λ m. keys-written known called m ps is.1)
   where
-    go : (o : Option WrittenClause) → IsClause known o → ((m : ℕ) → keys_of (clauses_of called m ps) ≡ keys ps) → keys_of (cons_option (written_clause called n o) (clauses_of called (n + clause_count o) ps)) ≡ cons_option (key_of o) (keys ps)
-    go None c rest = rest (n + 0)
-    go (Some (rule r)) c rest =
-        ap (λ xs. of false (named_by (signature r.head)) ∷ xs) (rest (n + rule_count r)) ∙ ap (λ o. record { kind = false; named = o } ∷ keys ps) (ap (λ o. Some (named_by o)) c.1.is_named ∙ sym c.1.is_named)
-    go (Some (function f)) c rest =
-        ap (λ xs. of true (named_by (signature f.head)) ∷ xs) (rest (n + function_count f)) ∙ ap (λ o. record { kind = true; named = o } ∷ keys ps) (ap (λ o. Some (named_by o)) c.1.is_named ∙ sym c.1.is_named)
-    go (Some (fact head)) c rest = absurd c
+    go : (m : Modes) (o : Option WrittenClause) → IsClause known o → ((m : ℕ) → keys_of (clauses_of called m ps) ≡ keys ps) → keys_of (cons_option (written_clause called n m o) (clauses_of called (n + clause_count o) ps)) ≡ cons_option (key_of o) (keys ps)
+    go m None c rest = rest (n + 0)
+    go m (Some (rule r)) c rest = signed false r.head c.1.named (keys ps) _ c.1.is_named (rest (n + rule_count r))
+    go m (Some (function f)) c rest = signed true f.head c.1.named (keys ps) _ c.1.is_named (rest (n + function_count f))
+    go m (Some (fact head)) c rest = signed false head c.1.named (keys ps) _ c.1.is_named (rest (n + 0))
 
--- ---- what a program defines
+-- ---- facts
 
-pub heads-written : (known : Knows) (name : List ℕ) (k : ℕ) (program : ProgramTree) → Parts known program → is_some_head (heads_named name k program) ≡ is_some_rule (rules_named name k program)
-heads-written known name k [] is = refl
-heads-written known name k (p ∷ ps) is = go p.clause is.0.clause (heads-written known name k ps is.1)
+clause-lowers : (known : Knows) (called : Naming) (n : ℕ) (m : Modes) (w : Option WrittenClause) → IsClause known w → Lowers m w (written_clause called n m w)
+clause-lowers known called n m None is = no_clause
+clause-lowers known called n m (Some (rule r)) is = a_rule r (written_rule called n r) is.1.named is.1.is_named
+clause-lowers known called n m (Some (function f)) is = a_function f (written_function called n f)
+clause-lowers known called n m (Some (fact head)) is = a_fact head is.1.named is.1.is_named
+
+pub parts-lower : (known : Knows) (called : Naming) (n : ℕ) (program : ProgramTree) → Parts known program → LowersAll program (clauses_of called n program)
+unfolding clauses_of
+parts-lower known called n [] is = no_parts
+parts-lower known called n (p ∷ ps) is =
+    one_part p.decl p.clause (written_clause called n (index_of p.decl) p.clause) ps (clauses_of called (n + clause_count p.clause) ps) (clause-lowers known called n (index_of p.decl) p.clause is.0.clause)
+    (parts-lower known called (n + clause_count p.clause) ps is.1)
+
+pub facts-each : (known : Knows) (name : List ℕ) (k : ℕ) (program : ProgramTree) → Parts known program → EachFact (facts_named name k program)
+facts-each known name k [] is = tt
+facts-each known name k (p ∷ ps) is = go p.clause is.0.clause (facts-each known name k ps is.1)
   where
-    chosen-one : (c : Bool) (r : RuleTree) (hs : List ExpTree) (rs : List RuleTree) → is_some_head hs ≡ is_some_rule rs → is_some_head (cond c (r.head ∷ hs) hs) ≡ is_some_rule (cond c (r ∷ rs) rs)
-    chosen-one true r hs rs same = refl
-    chosen-one false r hs rs same = same
+    chosen-one : (c : Bool) (head : ExpTree) (heads : List ExpTree) → ArePatterns (head_arguments head) → EachFact heads → EachFact (cond c (head ∷ heads) heads)
+    chosen-one true head heads one each = (one, each)
+    chosen-one false head heads one each = each
 
-    go : (o : Option WrittenClause) → IsClause known o → is_some_head (heads_named name k ps) ≡ is_some_rule (rules_named name k ps) →
-        is_some_head (filter (is_head_of name k) (cons_option (predicate_head o) (filter_map (λ p. predicate_head p.clause) ps))) ≡ is_some_rule (filter (is_rule_of name k) (cons_option (rule_in o) (rules_of ps)))
-    go None c same = same
-    go (Some (rule r)) c same = chosen-one (is_rule_of name k r) r (heads_named name k ps) (rules_named name k ps) same
-    go (Some (function f)) c same = same
-    go (Some (fact head)) c same = absurd c
-
-pub modes-none : (known : Knows) (name : List ℕ) (k : ℕ) (program : ProgramTree) → Parts known program → modes_named name k program ≡ None
-unfolding modes_named
-modes-none known name k [] is = refl
-modes-none known name k (p ∷ ps) is = ap (λ (o : Option (List (List Mode))). first_modes (modes_before name k p o) (modes_named name k ps)) is.0.index ∙ modes-none known name k ps is.1
+    go : (o : Option WrittenClause) → IsClause known o → EachFact (facts_named name k ps) → EachFact (filter (is_head_of name k) (cons_option (fact_head o) (filter_map (λ q. fact_head q.clause) ps)))
+    go None c each = each
+    go (Some (rule r)) c each = each
+    go (Some (function f)) c each = each
+    go (Some (fact head)) c each = chosen-one (is_head_of name k head) head (facts_named name k ps) c.0 each

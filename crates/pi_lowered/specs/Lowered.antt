@@ -1,10 +1,11 @@
--- What a program and a goal are lowered to: all forms but loops, comprehensions, facts, action rules and what later stages of the language give. (Own.)
+-- What a program and a goal are lowered to: all forms but loops, comprehensions, action rules and what later stages of the language give. (Own.)
 use Rattle.std.specs.Prelude.{ℕ, Bool, true, false, ◌&&◌, cond, List, [], ◌∷◌, ◌++◌, length, filter_map, Option, Some, None}
 use Rattle.pi_syntax.specs.ExpTree.{ExpTree}
-use Rattle.pi_syntax.specs.ProgramTree.{RuleTree, FunctionTree, WrittenClause, rule, function, fact, ProgramTree}
+use Rattle.pi_syntax.specs.ProgramTree.{RuleTree, FunctionTree, WrittenClause, rule, function, fact, PartTree, ProgramTree}
 use Rattle.pi_syntax.specs.Signature.{Signature, signature}
+use Rattle.pi_syntax.specs.declared.program.Mode.{Mode}
 use Rattle.pi_core.specs.GoalTree.{GoalTree, truth, seq, goals_of}
-use Rattle.pi_core.specs.CoreTree.{ClauseTree, PredTree, QueryTree}
+use Rattle.pi_core.specs.CoreTree.{ClauseTree, PredTree, QueryTree, index_of}
 use Rattle.pi_meaning.specs.WrittenRules.{is_signature, head_arguments}
 use Rattle.pi_names.specs.Texts.{Names}
 use Rattle.pi_names.specs.Prelude.{prelude}
@@ -76,6 +77,10 @@ lowered_function f =
     let body : SlotGoals = goals_or_none h f.body guard.names in
     function_with f (head_forms f.head) guard body (last_value f.value body.names (made h f.value body.names))
 
+-- A fact is a head, whose patterns are unified with a call.
+unfoldable pub lowered_fact : ExpTree → ClauseTree
+lowered_fact head = record { head = (head_forms head).forms; guard = truth; back = false; watches = []; body = truth; value = None; slots = head_slots head }
+
 -- ---- programs
 
 -- the predicate or the function of a head; of what is none, one without a name
@@ -83,25 +88,30 @@ abbrev pub named_by : Option Signature → Signature
 named_by None = record { name = []; arity = 0 }
 named_by (Some s) = s
 
--- a clause with what it is of
+-- a clause with what it is of, and of a fact the mode lists before it
 pub record Lowering : Type 0 where
   pub is_function : Bool
   pub head : Signature
+  pub modes : Option (List (List Mode))
   pub clause : ClauseTree
 
-abbrev pub lowered_clause : Option WrittenClause → Option Lowering
-lowered_clause None = None
-lowered_clause (Some (rule r)) = Some (record { is_function = false; head = named_by (signature r.head); clause = lowered_rule r })
-lowered_clause (Some (function f)) = Some (record { is_function = true; head = named_by (signature f.head); clause = lowered_function f })
-lowered_clause (Some (fact head)) = None
+-- a clause, with the mode lists that its part declares
+abbrev pub lowered_clause : Option (List (List Mode)) → Option WrittenClause → Option Lowering
+lowered_clause modes None = None
+lowered_clause modes (Some (rule r)) = Some (record { is_function = false; head = named_by (signature r.head); modes = None; clause = lowered_rule r })
+lowered_clause modes (Some (function f)) = Some (record { is_function = true; head = named_by (signature f.head); modes = None; clause = lowered_function f })
+lowered_clause modes (Some (fact head)) = Some (record { is_function = false; head = named_by (signature head); modes = modes; clause = lowered_fact head })
+
+abbrev pub lowered_part : PartTree → Option Lowering
+lowered_part p = lowered_clause (index_of p.decl) p.clause
 
 -- the clauses of a program, in order
 abbrev pub lowerings : ProgramTree → List Lowering
-lowerings program = filter_map (λ p. lowered_clause p.clause) program
+lowerings program = filter_map (λ p. lowered_part p) program
 
--- a predicate or function with this clause, and with one clause more
+-- A predicate or function with this clause, and with one clause more. The mode lists of a predicate stand before its first fact.
 abbrev pub with_first : Lowering → PredTree
-with_first c = record { name = c.head.name; arity = c.head.arity; function = c.is_function; quiet = false; index = None; clauses = c.clause ∷ [] }
+with_first c = record { name = c.head.name; arity = c.head.arity; function = c.is_function; quiet = false; index = c.modes; clauses = c.clause ∷ [] }
 
 abbrev pub with_next : PredTree → ClauseTree → PredTree
 with_next p c = record { name = p.name; arity = p.arity; function = p.function; quiet = p.quiet; index = p.index; clauses = p.clauses ++ c ∷ [] }

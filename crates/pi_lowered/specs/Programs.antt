@@ -4,7 +4,8 @@ use Rattle.std.specs.List.{cons_option}
 use Rattle.pi_syntax.specs.ExpTree.{ExpTree}
 use Rattle.pi_syntax.specs.ProgramTree.{RuleTree, FunctionTree, WrittenClause, rule, function, fact, ProgramTree}
 use Rattle.pi_syntax.specs.Signature.{signature}
-use Rattle.pi_core.specs.CoreTree.{ClauseTree, PredTree, QueryTree}
+use Rattle.pi_syntax.specs.declared.program.Mode.{Mode}
+use Rattle.pi_core.specs.CoreTree.{ClauseTree, PredTree, QueryTree, index_of}
 use Rattle.pi_names.specs.Texts.{Names, places, behind}
 use Rattle.pi_names.specs.Rules.{places_in, names_before, function_names}
 use Rattle.pi_names.specs.Prelude.{prelude}
@@ -15,7 +16,7 @@ use Rattle.pi_lowered.specs.Goals.{SlotGoals, in_turn}
 use Rattle.pi_lowered.specs.Sites.{Site, helpers_in, behind_site}
 use Rattle.pi_lowered.specs.Written.{made, goal_of}
 use Rattle.pi_lowered.specs.Helpers.{value_helpers, goal_helpers}
-use Rattle.pi_lowered.specs.Lowered.{head_forms, head_slots, rule_with, function_with, named_by, Lowering, grouped_all}
+use Rattle.pi_lowered.specs.Lowered.{head_forms, head_slots, rule_with, function_with, lowered_fact, named_by, Lowering, grouped_all}
 
 -- what helpers are called, by their numbers
 abbrev pub Naming : Type 0
@@ -88,11 +89,12 @@ clause_count (Some (rule r)) = rule_count r
 clause_count (Some (function f)) = function_count f
 clause_count (Some (fact head)) = 0
 
-abbrev pub written_clause : Naming → ℕ → Option WrittenClause → Option Lowering
-written_clause called n None = None
-written_clause called n (Some (rule r)) = Some (record { is_function = false; head = named_by (signature r.head); clause = written_rule called n r })
-written_clause called n (Some (function f)) = Some (record { is_function = true; head = named_by (signature f.head); clause = written_function called n f })
-written_clause called n (Some (fact head)) = None
+-- a clause, with the mode lists that its part declares
+abbrev pub written_clause : Naming → ℕ → Option (List (List Mode)) → Option WrittenClause → Option Lowering
+written_clause called n modes None = None
+written_clause called n modes (Some (rule r)) = Some (record { is_function = false; head = named_by (signature r.head); modes = None; clause = written_rule called n r })
+written_clause called n modes (Some (function f)) = Some (record { is_function = true; head = named_by (signature f.head); modes = None; clause = written_function called n f })
+written_clause called n modes (Some (fact head)) = Some (record { is_function = false; head = named_by (signature head); modes = modes; clause = lowered_fact head })
 
 abbrev pub clause_helpers : Naming → ℕ → Option WrittenClause → List PredTree
 clause_helpers called n None = []
@@ -102,7 +104,7 @@ clause_helpers called n (Some (fact head)) = []
 
 unfoldable pub clauses_of : Naming → ℕ → ProgramTree → List Lowering
 clauses_of called n [] = []
-clauses_of called n (p ∷ program) = cons_option (written_clause called n p.clause) (clauses_of called (n + clause_count p.clause) program)
+clauses_of called n (p ∷ program) = cons_option (written_clause called n (index_of p.decl) p.clause) (clauses_of called (n + clause_count p.clause) program)
 
 unfoldable pub helpers_of : Naming → ℕ → ProgramTree → List PredTree
 helpers_of called n [] = []

@@ -1,13 +1,14 @@
--- Which programs and goals are lowered: rules and functions alone, each of forms that are lowered, with a head whose name means nothing else, and the clauses of each predicate and function
+-- Which programs and goals are lowered: rules, facts and functions, each of forms that are lowered, with a head whose name means nothing else, and the clauses of each predicate and function
 -- together. (Own.)
-use Rattle.std.specs.Prelude.{◌≡◌, ◌⊎◌, Bool, true, false, ◌||◌, List, [], ◌∷◌, ◌++◌, filter_map, Option, Some, None, All, Contains, ⊤}
+use Rattle.std.specs.Prelude.{◌≡◌, ◌⊎◌, ℕ, Bool, true, false, ◌||◌, List, [], ◌∷◌, ◌++◌, length, filter_map, Option, Some, None, IsSome, All, Contains, ⊤}
 use Rattle.pi_syntax.specs.ExpTree.{ExpTree}
 use Rattle.pi_syntax.specs.ProgramTree.{RuleTree, FunctionTree, WrittenClause, rule, function, fact, PartTree, ProgramTree}
-use Rattle.pi_syntax.specs.Signature.{Signature, signature}
+use Rattle.pi_syntax.specs.Signature.{Signature, signature, exp_count}
+use Rattle.pi_syntax.specs.declared.program.Mode.{Mode}
 use Rattle.pi_core.specs.CoreTree.{index_of}
 use Rattle.pi_meaning.specs.Names.{is_given_predicate, is_given_function}
 use Rattle.pi_meaning.specs.WrittenRules.{head_arguments}
-use Rattle.pi_names.specs.Rules.{heads_named, functions_named}
+use Rattle.pi_names.specs.Rules.{fact_head, is_head_in, rules_named, facts_named, heads_named, functions_named}
 use Rattle.pi_names.specs.Prelude.{prelude}
 use Rattle.pi_names.specs.Run.{is_some_head}
 use Rattle.pi_lowered.specs.Forms.{Knows, IsExpression, IsGoal, ArePatterns}
@@ -49,10 +50,16 @@ abbrev pub IsClause : Knows → Option WrittenClause → Type 0
 IsClause known None = ⊤
 IsClause known (Some (rule r)) = IsRule known r × IsFree r.head
 IsClause known (Some (function f)) = IsFunction known f × IsFree f.head
-IsClause known (Some (fact head)) = ⊥
+IsClause known (Some (fact head)) = ArePatterns (head_arguments head) × IsFree head
+
+-- mode lists stand before a fact alone, each as long as this has arguments
+abbrev pub AreModes : Option (List (List Mode)) → Option WrittenClause → Type 0
+AreModes None c = ⊤
+AreModes (Some lists) (Some (fact head)) = All (λ modes. length modes ≡ exp_count (head_arguments head)) lists
+AreModes (Some lists) c = ⊥
 
 pub record IsPart (known : Knows) (p : PartTree) : Type 0 where
-  pub index : index_of p.decl ≡ None
+  pub modes : AreModes (index_of p.decl) p.clause
   pub clause : IsClause known p.clause
 
 -- a predicate, or a function where the first is true
@@ -80,10 +87,30 @@ unfoldable pub StandTogether : List Key → List Key → Type 0
 StandTogether before [] = ⊤
 StandTogether before (a ∷ rest) = GoesOn before a × StandTogether (a ∷ before) rest
 
+-- ---- facts
+
+-- what stands before each fact of a predicate
+abbrev pub declared_if : Bool → Option (List (List Mode)) → Option (Option (List (List Mode)))
+declared_if true modes = Some modes
+declared_if false modes = None
+
+abbrev pub declared_before : List ℕ → ℕ → ProgramTree → List (Option (List (List Mode)))
+declared_before name k program = filter_map (λ p. declared_if (is_head_in name k (fact_head p.clause)) (index_of p.decl)) program
+
+abbrev pub BeginsWithModes : List (Option (List (List Mode))) → Type 0
+BeginsWithModes [] = ⊤
+BeginsWithModes (modes ∷ rest) = IsSome modes
+
+-- The clauses of a predicate are rules alone or facts alone, and before the first fact stands an `index`.
+pub record IsIndexed (name : List ℕ) (k : ℕ) (program : ProgramTree) : Type 0 where
+  pub alone : (rules_named name k program ≡ []) ⊎ (facts_named name k program ≡ [])
+  pub first : BeginsWithModes (declared_before name k program)
+
 -- A program that is lowered. The clauses of the prelude stand in front of its own, so that what these define is known, and no clause of its own is of one of theirs.
 pub record IsWithin (program : ProgramTree) : Type 0 where
   pub parts : All (IsPart (knows (prelude ++ program))) program
   pub together : StandTogether [] (keys (prelude ++ program))
+  pub indexed : (name : List ℕ) (k : ℕ) → IsIndexed name k (prelude ++ program)
   -- no name is with one number of arguments both a predicate's and a function's
   pub apart : (a b : Key) → Contains (keys (prelude ++ program)) a → Contains (keys (prelude ++ program)) b → a.named ≡ b.named → a.kind ≡ b.kind
 

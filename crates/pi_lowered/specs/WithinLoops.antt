@@ -8,7 +8,7 @@ use Rattle.pi_meaning.specs.WrittenRules.{head_arguments}
 use Rattle.pi_names.specs.Prelude.{prelude}
 use Rattle.pi_lowered.specs.Forms.{Knows, ArePatterns}
 use Rattle.pi_lowered.specs.WithLoops.{IsExpression, IsGoal}
-use Rattle.pi_lowered.specs.Within.{knows, IsFree, keys, StandTogether}
+use Rattle.pi_lowered.specs.Within.{knows, IsFree, AreModes, keys, StandTogether, IsIndexed}
 use Rattle.pi_lowered.specs.Programs.{Naming}
 
 abbrev pub IsGoalOrNone : Knows → Option ExpTree → Type 0
@@ -31,15 +31,16 @@ abbrev pub IsClause : Knows → Option WrittenClause → Type 0
 IsClause known None = ⊤
 IsClause known (Some (rule r)) = IsRule known r × IsFree r.head
 IsClause known (Some (function f)) = IsFunction known f × IsFree f.head
-IsClause known (Some (fact head)) = ⊥
+IsClause known (Some (fact head)) = ArePatterns (head_arguments head) × IsFree head
 
 pub record IsPart (known : Knows) (p : PartTree) : Type 0 where
-  pub index : index_of p.decl ≡ None
+  pub modes : AreModes (index_of p.decl) p.clause
   pub clause : IsClause known p.clause
 
 pub record IsWithin (program : ProgramTree) : Type 0 where
   pub parts : All (IsPart (knows (prelude ++ program))) (prelude ++ program)
   pub together : StandTogether [] (keys (prelude ++ program))
+  pub indexed : (name : List ℕ) (k : ℕ) → IsIndexed name k (prelude ++ program)
 
 abbrev pub IsAsked : ProgramTree → ExpTree → Type 0
 IsAsked program goal = IsGoal (knows (prelude ++ program)) goal

@@ -16,7 +16,7 @@ use Rattle.pi_names.specs.Run.{answer_names}
 use Rattle.pi_lowered.specs.Slots.{SlotNames, named_slots, slots_behind}
 use Rattle.pi_lowered.specs.Values.{slot_patterns, last_value}
 use Rattle.pi_lowered.specs.Goals.{in_turn, made, goal_of}
-use Rattle.pi_lowered.specs.Lowered.{is_truth, as_guard, goals_or_none, guard_of, lowered_rule, lowered_function, lowered_query}
+use Rattle.pi_lowered.specs.Lowered.{is_truth, as_guard, goals_or_none, guard_of, lowered_rule, lowered_fact, lowered_function, lowered_query}
 use Rattle.pi_rewrite.specs.Built.{is_true_node}
 
 -- ---- conditions
@@ -87,6 +87,11 @@ pub rule-is : (c : CoreClause) (r : RuleTree) (zero one two three : SlotNames) (
     c.body ≡ in_turn (goal_of h r.body two).goals → three ≡ (goal_of h r.body two).names → c.value ≡ None → c.slots ≡ length three → clause_tree c ≡ lowered_rule r
 unfolding lowered_rule
 rule-is c r zero one two three h z head o k guard t back watches body e value slots = cc
+
+pub fact-is : (c : CoreClause) (head : ExpTree) (zero one : SlotNames) → zero ≡ [] → pattern_trees c.head.items ≡ (slot_patterns (head_arguments head) zero).forms → one ≡ (slot_patterns (head_arguments head) zero).names →
+    c.guard ≡ truth → c.back ≡ false → c.watches ≡ [] → c.body ≡ truth → c.value ≡ None → c.slots ≡ length one → clause_tree c ≡ lowered_fact head
+unfolding lowered_fact
+fact-is c head zero one z patterns o guard back watches body value slots = cc
 
 pub function-is : (c : CoreClause) (f : FunctionTree) (zero one two three four : SlotNames) (h : ℕ) (v : Tree) (some most all : List GoalTree) → zero ≡ [] → pattern_trees c.head.items ≡ (slot_patterns (head_arguments f.head) zero).forms →
     one ≡ (slot_patterns (head_arguments f.head) zero).names → h ≡ length one → c.guard ≡ guard_of f.cond (goals_or_none h f.cond one) → two ≡ (goals_or_none h f.cond one).names → c.back ≡ false → c.watches ≡ [] →

@@ -12,10 +12,11 @@ use Rattle.pi_syntax.specs.Signature.{Signature, signature}
 use Rattle.pi_syntax.specs.declared.exp.Exp.{Exp}
 use Rattle.pi_syntax.specs.declared.program.Clause.{Clause}
 use Rattle.pi_syntax.specs.declared.program.Part.{Part}
-use Rattle.pi_core.specs.CoreTree.{ClauseTree, PredTree, pred_tree}
+use Rattle.pi_syntax.specs.declared.program.Mode.{Mode}
+use Rattle.pi_core.specs.CoreTree.{ClauseTree, PredTree, index_of, pred_tree}
 use Rattle.pi_core.specs.declared.core_program.CorePred.{CorePred}
 use Rattle.pi_names.specs.Prelude.{prelude}
-use Rattle.pi_lowered.specs.Lowered.{Lowering, named_by, lowered_rule, lowered_function, lowered_clause, lowerings, with_first, with_next, is_clause_of, grouped, grouped_all, lowered}
+use Rattle.pi_lowered.specs.Lowered.{Lowering, named_by, lowered_rule, lowered_fact, lowered_function, lowered_clause, lowered_part, lowerings, with_first, with_next, is_clause_of, grouped, grouped_all, lowered}
 use Rattle.pi_rewrite.specs.Built.{lowered_behind}
 
 -- ---- a clause
@@ -77,41 +78,47 @@ adds-other c last made front before after test e old new rest =
 
 -- ---- a part
 
-abbrev lowering : Bool → Signature → ClauseTree → Lowering
-lowering function s c = record { is_function = function; head = s; clause = c }
+abbrev Modes : Type 0
+Modes = Option (List (List Mode))
 
-same-lowering : (function other : Bool) (s t : Signature) (c d : ClauseTree) → function ≡ other → s ≡ t → c ≡ d → lowering function s c ≡ lowering other t d
-same-lowering function other s t c d p q r = cc
+abbrev lowering : Bool → Signature → Modes → ClauseTree → Lowering
+lowering function s m c = record { is_function = function; head = s; modes = m; clause = c }
+
+same-lowering : (function other : Bool) (s t : Signature) (m n : Modes) (c d : ClauseTree) → function ≡ other → s ≡ t → m ≡ n → c ≡ d → lowering function s m c ≡ lowering other t n d
+same-lowering function other s t m n c d p q o r = cc
 
 part-adds : (o : Option Lowering) (l m : Lowering) (before after : List PredTree) → o ≡ Some l → l ≡ m → ((rest : List Lowering) → lowered_behind before (m ∷ rest) ≡ lowered_behind after rest) →
     (rest : List Lowering) → lowered_behind before (cons_option o rest) ≡ lowered_behind after rest
 part-adds o l m before after is same adds rest = ap (λ x. lowered_behind before (cons_option x rest)) is ∙ (ap (λ x. lowered_behind before (x ∷ rest)) same ∙ adds rest)
 
-pub rule-adds : (p : Part) (head : Exp) (cond : Option Exp) (events : Vec Exp Global) (back : Bool) (body : Exp) (function : Bool) (s : Signature) (made : ClauseTree) (before after : List PredTree) →
-    p.clause ≡ Some (Clause.Rule head cond events back body) → named_by (signature (exp_tree head)) ≡ s → function ≡ false →
+pub rule-adds : (p : Part) (head : Exp) (cond : Option Exp) (events : Vec Exp Global) (back : Bool) (body : Exp) (function : Bool) (s : Signature) (modes : Modes) (made : ClauseTree) (before after : List PredTree) →
+    p.clause ≡ Some (Clause.Rule head cond events back body) → named_by (signature (exp_tree head)) ≡ s → function ≡ false → modes ≡ None →
     made ≡ lowered_rule (record { head = exp_tree head; cond = option_map exp_tree cond; events = map exp_tree events.items; back = back; body = exp_tree body }) →
-    ((rest : List Lowering) → lowered_behind before (lowering function s made ∷ rest) ≡ lowered_behind after rest) →
-    (rest : List Lowering) → lowered_behind before (cons_option (lowered_clause (part_tree p).clause) rest) ≡ lowered_behind after rest
-rule-adds p head cond events back body function s made before after is named kind lowers adds =
-    part-adds (lowered_clause (part_tree p).clause) _ _ before after (ap (λ o. lowered_clause (option_map written_clause o)) is) (sym (same-lowering function false s _ made _ kind (sym named) lowers)) adds
+    ((rest : List Lowering) → lowered_behind before (lowering function s modes made ∷ rest) ≡ lowered_behind after rest) →
+    (rest : List Lowering) → lowered_behind before (cons_option (lowered_part (part_tree p)) rest) ≡ lowered_behind after rest
+rule-adds p head cond events back body function s modes made before after is named kind none lowers adds =
+    part-adds (lowered_part (part_tree p)) _ _ before after (ap (λ o. lowered_clause (index_of p.decl) (option_map written_clause o)) is) (sym (same-lowering function false s _ modes None made _ kind (sym named) none lowers)) adds
 
-pub function-adds : (p : Part) (head value : Exp) (cond body : Option Exp) (function : Bool) (s : Signature) (made : ClauseTree) (before after : List PredTree) → p.clause ≡ Some (Clause.Function head value cond body) →
-    named_by (signature (exp_tree head)) ≡ s → function ≡ true → made ≡ lowered_function (record { head = exp_tree head; value = exp_tree value; cond = option_map exp_tree cond; body = option_map exp_tree body }) →
-    ((rest : List Lowering) → lowered_behind before (lowering function s made ∷ rest) ≡ lowered_behind after rest) →
-    (rest : List Lowering) → lowered_behind before (cons_option (lowered_clause (part_tree p).clause) rest) ≡ lowered_behind after rest
-function-adds p head value cond body function s made before after is named kind lowers adds =
-    part-adds (lowered_clause (part_tree p).clause) _ _ before after (ap (λ o. lowered_clause (option_map written_clause o)) is) (sym (same-lowering function true s _ made _ kind (sym named) lowers)) adds
+pub function-adds : (p : Part) (head value : Exp) (cond body : Option Exp) (function : Bool) (s : Signature) (modes : Modes) (made : ClauseTree) (before after : List PredTree) → p.clause ≡ Some (Clause.Function head value cond body) →
+    named_by (signature (exp_tree head)) ≡ s → function ≡ true → modes ≡ None → made ≡ lowered_function (record { head = exp_tree head; value = exp_tree value; cond = option_map exp_tree cond; body = option_map exp_tree body }) →
+    ((rest : List Lowering) → lowered_behind before (lowering function s modes made ∷ rest) ≡ lowered_behind after rest) →
+    (rest : List Lowering) → lowered_behind before (cons_option (lowered_part (part_tree p)) rest) ≡ lowered_behind after rest
+function-adds p head value cond body function s modes made before after is named kind none lowers adds =
+    part-adds (lowered_part (part_tree p)) _ _ before after (ap (λ o. lowered_clause (index_of p.decl) (option_map written_clause o)) is) (sym (same-lowering function true s _ modes None made _ kind (sym named) none lowers)) adds
 
 nothing-added : (o : Option Lowering) (before after : List PredTree) → o ≡ None → after ≡ before → (rest : List Lowering) → lowered_behind before (cons_option o rest) ≡ lowered_behind after rest
 nothing-added o before after is same rest = ap (λ x. lowered_behind before (cons_option x rest)) is ∙ ap (λ ps. lowered_behind ps rest) (sym same)
 
-pub fact-adds : (p : Part) (head : Exp) (before after : List PredTree) → p.clause ≡ Some (Clause.Fact head) → after ≡ before → (rest : List Lowering) →
-    lowered_behind before (cons_option (lowered_clause (part_tree p).clause) rest) ≡ lowered_behind after rest
-fact-adds p head before after is same = nothing-added (lowered_clause (part_tree p).clause) before after (ap (λ o. lowered_clause (option_map written_clause o)) is) same
+pub fact-adds : (p : Part) (head : Exp) (function : Bool) (s : Signature) (modes : Modes) (made : ClauseTree) (before after : List PredTree) → p.clause ≡ Some (Clause.Fact head) → named_by (signature (exp_tree head)) ≡ s → function ≡ false →
+    modes ≡ index_of p.decl → made ≡ lowered_fact (exp_tree head) → ((rest : List Lowering) → lowered_behind before (lowering function s modes made ∷ rest) ≡ lowered_behind after rest) →
+    (rest : List Lowering) → lowered_behind before (cons_option (lowered_part (part_tree p)) rest) ≡ lowered_behind after rest
+fact-adds p head function s modes made before after is named kind lists lowers adds =
+    part-adds (lowered_part (part_tree p)) _ _ before after (ap (λ o. lowered_clause (index_of p.decl) (option_map written_clause o)) is)
+    (sym (same-lowering function false s _ modes (index_of p.decl) made _ kind (sym named) lists lowers)) adds
 
 pub none-adds : (p : Part) (before after : List PredTree) → p.clause ≡ None → after ≡ before → (rest : List Lowering) →
-    lowered_behind before (cons_option (lowered_clause (part_tree p).clause) rest) ≡ lowered_behind after rest
-none-adds p before after is same = nothing-added (lowered_clause (part_tree p).clause) before after (ap (λ o. lowered_clause (option_map written_clause o)) is) same
+    lowered_behind before (cons_option (lowered_part (part_tree p)) rest) ≡ lowered_behind after rest
+none-adds p before after is same = nothing-added (lowered_part (part_tree p)) before after (ap (λ o. lowered_clause (index_of p.decl) (option_map written_clause o)) is) same
 
 -- ---- parts in order
 
@@ -127,11 +134,11 @@ cons-append None xs ys = refl
 cons-append (Some x) xs ys = refl
 
 pub parts-more : (parts : List Part) (i : ℕ) (p : Part) (before now after : List PredTree) → i < length parts → p ≡ get_or parts i p →
-    ((rest : List Lowering) → lowered_behind now (cons_option (lowered_clause (part_tree p).clause) rest) ≡ lowered_behind after rest) → Ahead before parts now (drop i parts) → Ahead before parts after (drop (i + 1) parts)
+    ((rest : List Lowering) → lowered_behind now (cons_option (lowered_part (part_tree p)) rest) ≡ lowered_behind after rest) → Ahead before parts now (drop i parts) → Ahead before parts after (drop (i + 1) parts)
 parts-more parts i p before now after h is adds so rest =
     so rest
     ∙ (ap (λ ps. lowered_behind now (clauses_of ps ++ rest)) (drop_more parts i p h ∙ ap (λ q. q ∷ drop (i + 1) parts) (sym is))
-    ∙ (ap (lowered_behind now) (cons-append (lowered_clause (part_tree p).clause) (clauses_of (drop (i + 1) parts)) rest) ∙ adds (clauses_of (drop (i + 1) parts) ++ rest)))
+    ∙ (ap (lowered_behind now) (cons-append (lowered_part (part_tree p)) (clauses_of (drop (i + 1) parts)) rest) ∙ adds (clauses_of (drop (i + 1) parts) ++ rest)))
 
 pub parts-end : (parts : List Part) (i : ℕ) (before now : List PredTree) → length parts ≤ i → Ahead before parts now (drop i parts) → (rest : List Lowering) →
     lowered_behind before (lowerings (map part_tree parts) ++ rest) ≡ lowered_behind now rest
@@ -141,7 +148,7 @@ parts-end parts i before now h so rest = so rest ∙ ap (λ ps. lowered_behind n
 
 lowerings-append : (a b : ProgramTree) → lowerings (a ++ b) ≡ lowerings a ++ lowerings b
 lowerings-append [] b = refl
-lowerings-append (p ∷ a) b = ap (cons_option (lowered_clause p.clause)) (lowerings-append a b) ∙ sym (cons-append (lowered_clause p.clause) (lowerings a) (lowerings b))
+lowerings-append (p ∷ a) b = ap (cons_option (lowered_part p)) (lowerings-append a b) ∙ sym (cons-append (lowered_part p) (lowerings a) (lowerings b))
 
 pub program-is : (pre parts : List Part) (start mid preds : List PredTree) → map part_tree pre ≡ prelude → start ≡ [] →
     ((rest : List Lowering) → lowered_behind start (lowerings (map part_tree pre) ++ rest) ≡ lowered_behind mid rest) →

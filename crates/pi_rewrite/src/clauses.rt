@@ -1,11 +1,11 @@
-//! Rules as clauses, of predicates and of functions.
+//! Rules and facts as clauses, of predicates and of functions.
 ghost use Rattle.std.specs.Prelude.{◌≡◌, option_map, List, IfOk};
 ghost use Rattle.pi_syntax.specs.ExpTree.{ExpTree, exp_tree};
 ghost use Rattle.pi_core.specs.CoreTree.{clause_tree};
-ghost use Rattle.pi_lowered.specs.Lowered.{lowered_rule, lowered_function};
+ghost use Rattle.pi_lowered.specs.Lowered.{lowered_rule, lowered_fact, lowered_function};
 
 use crate::goals::{lower_body, lower_goal_or_none, lower_guard, lower_head};
-use pi_core::{CoreClause, SlotWatches};
+use pi_core::{CoreClause, CoreGoal, SlotWatches};
 use pi_lowering::{in_turn, lower_value};
 use pi_slots::Slots;
 use pi_syntax::Exp;
@@ -31,6 +31,26 @@ pub(crate) fn lower_rule(
         head,
         guard,
         back,
+        watches: SlotWatches::new(alloc),
+        body,
+        value: None,
+        slots: count,
+    })
+}
+
+/// A fact as a clause, which has just a head.
+pub(crate) fn lower_fact(alloc: Global, head: &Exp) -> Result<CoreClause, AllocError>
+    ensures { IfOk result (λ clause. clause_tree clause ≡ lowered_fact (exp_tree head.now)) }
+{
+    let mut slots = Slots::new(alloc);
+    let head = lower_head(alloc, head, &mut slots)?;
+    let guard = CoreGoal::truth(alloc)?;
+    let body = CoreGoal::truth(alloc)?;
+    let count = slots.count()?;
+    Ok(CoreClause {
+        head,
+        guard,
+        back: false,
         watches: SlotWatches::new(alloc),
         body,
         value: None,

@@ -1,17 +1,17 @@
 //! Parts, and the predicates and functions that their clauses make.
-ghost use Rattle.std.specs.Prelude.{◌≡◌, ◌∷◌, ◌++◌, [], map, List, IfOk};
+ghost use Rattle.std.specs.Prelude.{◌≡◌, ◌∷◌, ◌++◌, [], map, List, None, IfOk, option_copied};
 ghost use Rattle.std.specs.List.{cons_option};
 ghost use Rattle.pi_syntax.specs.ExpTree.{exp_tree};
 ghost use Rattle.pi_syntax.specs.ProgramTree.{part_tree, source_tree};
 ghost use Rattle.pi_syntax.specs.Signature.{signature as signature_of};
-ghost use Rattle.pi_core.specs.CoreTree.{clause_tree, pred_tree};
-ghost use Rattle.pi_lowered.specs.Lowered.{Lowering, named_by, lowered_clause, lowerings, with_first, with_next, is_clause_of, lowered, lowered_rule, lowered_function};
+ghost use Rattle.pi_core.specs.CoreTree.{clause_tree, pred_tree, index_of};
+ghost use Rattle.pi_lowered.specs.Lowered.{Lowering, named_by, lowered_part, lowerings, with_first, with_next, is_clause_of, lowered, lowered_rule, lowered_function};
 ghost use Rattle.pi_rewrite.specs.Built.{lowered_behind, is_clause_named};
 
-use crate::clauses::{lower_function, lower_rule};
+use crate::clauses::{lower_fact, lower_function, lower_rule};
 use pi_core::{CoreClause, CoreClauses, CorePred, CorePreds};
 use pi_prelude::read_prelude;
-use pi_syntax::{Clause, Decl, Exp, Part, Program};
+use pi_syntax::{Clause, Decl, Exp, ModeLists, Modes, Part, Program};
 use pi_terms::Text;
 use std::alloc::{AllocError, Global};
 
@@ -46,7 +46,7 @@ fn lower_parts(alloc: Global, parts: &[Part], preds: &mut Vec<CorePred>) -> Resu
 
 /// Adds the clause of a part, where it has one.
 fn lower_part(alloc: Global, part: &Part, preds: &mut Vec<CorePred>) -> Result<(), AllocError>
-    ensures { IfOk result (λ _. (rest : List Lowering) → lowered_behind (map pred_tree preds.old.items) (cons_option (lowered_clause (part_tree part.now).clause) rest) ≡ lowered_behind (map pred_tree preds.new.items) rest) }
+    ensures { IfOk result (λ _. (rest : List Lowering) → lowered_behind (map pred_tree preds.old.items) (cons_option (lowered_part (part_tree part.now)) rest) ≡ lowered_behind (map pred_tree preds.new.items) rest) }
 {
     match &part.clause {
         Some(
@@ -60,7 +60,7 @@ fn lower_part(alloc: Global, part: &Part, preds: &mut Vec<CorePred>) -> Result<(
         ) => {
             let clause = lower_rule(alloc, head, cond, *back, body)?;
             let named = signature(head, false)?;
-            add_clause(alloc, preds, named, clause)?;
+            add_clause(alloc, preds, named, None, clause)?;
             Ok(())
         }
         Some(
@@ -73,25 +73,43 @@ fn lower_part(alloc: Global, part: &Part, preds: &mut Vec<CorePred>) -> Result<(
         ) => {
             let clause = lower_function(alloc, head, value, cond, body)?;
             let named = signature(head, true)?;
-            add_clause(alloc, preds, named, clause)?;
+            add_clause(alloc, preds, named, None, clause)?;
             Ok(())
         }
-        Some(Clause::Fact { .. }) => Ok(()),
+        Some(Clause::Fact { head }) => {
+            let clause = lower_fact(alloc, head)?;
+            let named = signature(head, false)?;
+            let modes = mode_lists(&part.decl);
+            add_clause(alloc, preds, named, modes, clause)?;
+            Ok(())
+        }
         None => Ok(()),
     }
 }
 
-/// Adds a clause to the last predicate or function where it is one of that, else to a new one.
+/// The mode lists that a part declares.
+fn mode_lists(decl: &Decl) -> Option<&ModeLists>
+    ensures { option_copied result ≡ index_of decl.now }
+{
+    match decl {
+        Decl::Plain => None,
+        Decl::Import(_) => None,
+        Decl::Index(lists) => Some(lists),
+    }
+}
+
+/// Adds a clause to the last predicate or function where it is one of that, else to a new one, which has these mode lists.
 fn add_clause(
     alloc: Global,
     preds: &mut Vec<CorePred>,
     named: Named<'_>,
+    modes: Option<&ModeLists>,
     clause: CoreClause,
 ) -> Result<(), AllocError>
-    ensures { IfOk result (λ _. (rest : List Lowering) → lowered_behind (map pred_tree preds.old.items) (record { is_function = named.entry.function; head = record { name = named.entry.name.now; arity = named.entry.arity }; clause = clause_tree clause } ∷ rest) ≡ lowered_behind (map pred_tree preds.new.items) rest) }
+    ensures { IfOk result (λ _. (rest : List Lowering) → lowered_behind (map pred_tree preds.old.items) (record { is_function = named.entry.function; head = record { name = named.entry.name.now; arity = named.entry.arity }; modes = option_copied modes; clause = clause_tree clause } ∷ rest) ≡ lowered_behind (map pred_tree preds.new.items) rest) }
 {
     let Some(last) = preds.pop() else {
-        let made = new_pred(alloc, named, clause)?;
+        let made = new_pred(alloc, named, modes, clause)?;
         preds.push(made)?;
         return Ok(());
     };
@@ -100,7 +118,7 @@ fn add_clause(
         preds.push(more)?;
         return Ok(());
     }
-    let made = new_pred(alloc, named, clause)?;
+    let made = new_pred(alloc, named, modes, clause)?;
     preds.push(last)?;
     preds.push(made)?;
     Ok(())
@@ -113,10 +131,16 @@ fn is_of(pred: &CorePred, named: &Named<'_>) -> bool
     named.function == pred.function && named.name == pred.name.as_str() && named.arity == pred.arity
 }
 
-/// A predicate or function with this clause.
-fn new_pred(alloc: Global, named: Named<'_>, clause: CoreClause) -> Result<CorePred, AllocError>
-    ensures { IfOk result (λ made. pred_tree made ≡ with_first (record { is_function = named.entry.function; head = record { name = named.entry.name.now; arity = named.entry.arity }; clause = clause_tree clause })) }
+/// A predicate or function with this clause, behind these mode lists.
+fn new_pred(
+    alloc: Global,
+    named: Named<'_>,
+    modes: Option<&ModeLists>,
+    clause: CoreClause,
+) -> Result<CorePred, AllocError>
+    ensures { IfOk result (λ made. pred_tree made ≡ with_first (record { is_function = named.entry.function; head = record { name = named.entry.name.now; arity = named.entry.arity }; modes = option_copied modes; clause = clause_tree clause })) }
 {
+    let decl = declared(alloc, modes)?;
     let mut clauses = CoreClauses::new(alloc);
     clauses.push(clause)?;
     Ok(CorePred {
@@ -124,9 +148,33 @@ fn new_pred(alloc: Global, named: Named<'_>, clause: CoreClause) -> Result<CoreP
         arity: named.arity,
         function: named.function,
         quiet: false,
-        decl: Decl::Plain,
+        decl,
         clauses,
     })
+}
+
+/// An `index` with these mode lists, where there are some.
+fn declared(alloc: Global, modes: Option<&ModeLists>) -> Result<Decl, AllocError>
+    ensures { IfOk result (λ made. index_of made ≡ option_copied modes) }
+{
+    match modes {
+        Some(lists) => {
+            let made = copied(alloc, lists.as_slice())?;
+            Ok(Decl::Index(made))
+        }
+        None => Ok(Decl::Plain),
+    }
+}
+
+/// Mode lists like these.
+fn copied(alloc: Global, lists: &[Modes]) -> Result<ModeLists, AllocError>
+    ensures { IfOk result (λ made. made ≡ lists.now) }
+{
+    let mut made = ModeLists::new(alloc);
+    for modes in lists {
+        made.push(modes.copy(alloc)?)?;
+    }
+    Ok(made)
 }
 
 /// The predicate or function with one more clause.

@@ -4,6 +4,8 @@
 #[cfg(test)]
 mod calls;
 #[cfg(test)]
+mod facts;
+#[cfg(test)]
 mod faulty;
 #[cfg(test)]
 mod large;
@@ -29,7 +31,7 @@ mod tests {
     use crate::faulty::FAULTY;
     use crate::orders::ORDERS;
     use crate::row::{OPEN, Row, USAGE};
-    use crate::{calls, large, output, programs, small, terms, text, words};
+    use crate::{calls, facts, large, output, programs, small, terms, text, words};
     use pi_outside::{MemoryFiles, MemorySink, SureSource};
     use pi_top::picatq;
     use std::alloc::Global;
@@ -117,6 +119,11 @@ mod tests {
     #[test]
     fn rows_of_programs(rt: HostRuntime) -> Result<(), Fail> {
         are_right(rt.alloc(), &programs::ROWS, NOTHING)
+    }
+
+    #[test]
+    fn rows_of_facts(rt: HostRuntime) -> Result<(), Fail> {
+        are_right(rt.alloc(), &facts::ROWS, NOTHING)
     }
 
     #[test]

@@ -203,8 +203,51 @@ sums(T, O, G, U) =>
     10*T + O + 10*G + O =:= 100*O + 10*U + T.
 ";
 
+const GRADEBOOK: &str = "% A grade book: who has which mark in what, as facts, and what is asked of it.
+
+% The marks of a student, or all.
+index (+,-,-) (-,-,-)
+mark(ann, maths, 17).
+mark(ann, physics, 12).
+mark(ben, maths, 7).
+mark(ben, music, 15).
+mark(cleo, maths, 16).
+mark(cleo, physics, 16).
+mark(cleo, music, 18).
+
+% How much a subject counts.
+index (+,-) (-,-)
+weight(maths, 3).
+weight(physics, 2).
+weight(music, 1).
+
+students() = sort_remove_dups(find_all(S, mark(S, _, _))).
+
+% A student's marks and weights in all subjects, each as a sum.
+points(S) = sum(find_all(M*W, (mark(S, Subject, M), weight(Subject, W)))).
+weights(S) = sum(find_all(W, (mark(S, Subject, _), weight(Subject, W)))).
+
+% The average in tenths, rounded.
+average(S) = (10*points(S) + weights(S)//2) // weights(S).
+
+grade(Tenths) = excellent, Tenths >= 160 => true.
+grade(Tenths) = passed, Tenths >= 100 => true.
+grade(_) = failed.
+
+% Who has the highest mark in a subject.
+best(Subject, S) => Top = max(find_all(M, mark(_, Subject, M))), mark(S, Subject, Top).
+
+report => lines(students()).
+
+lines([]) => true.
+lines([S|Ss]) =>
+    A = average(S),
+    printf(\"%w: %d.%d, %w%n\", S, A // 10, A rem 10, grade(A)),
+    lines(Ss).
+";
+
 /// Runs of the programs of `examples`.
-pub static ROWS: [Row<'static>; 10] = [
+pub static ROWS: [Row<'static>; 12] = [
     Row {
         program: Some(FAMILY),
         words: &["FILE", "about(dan), fail"],
@@ -263,6 +306,18 @@ pub static ROWS: [Row<'static>; 10] = [
         program: Some(QUEENS),
         words: &["FILE", "sums(T, O, G, U)"],
         output: "T = 2\nO = 1\nG = 8\nU = 0\nyes\nno more\n",
+        status: 0,
+    },
+    Row {
+        program: Some(GRADEBOOK),
+        words: &["FILE", "report"],
+        output: "ann: 15.0, passed\nben: 9.0, failed\ncleo: 16.3, excellent\nyes\nno more\n",
+        status: 0,
+    },
+    Row {
+        program: Some(GRADEBOOK),
+        words: &["FILE", "best(music, S), X = grade(average(S))"],
+        output: "S = cleo\nX = excellent\nyes\nno more\n",
         status: 0,
     },
 ];

@@ -260,9 +260,9 @@ pub static ROWS: [Row<'static>; 46] = [
         status: 3,
     },
     Row {
-        program: Some("index (+) g(f(1))."),
+        program: Some("index (+) g(f(1)). p(X), {ins(X)} => true."),
         words: &["FILE", "g($f(X))"],
-        output: "program: NotBuilt 1\n",
+        output: "program: NotBuilt 2\n",
         status: 3,
     },
     Row {

@@ -13,14 +13,15 @@ use Rattle.pi_lowered.specs.Slots.{SlotNames}
 use Rattle.pi_lowered.specs.Values.{SlotValue, last_value}
 use Rattle.pi_lowered.specs.Goals as over_slots
 use Rattle.pi_lowered.specs.Goals.{SlotGoals, in_turn, made}
-use Rattle.pi_lowered.specs.Lowered.{head_forms, head_slots, goals_or_none, guard_of, lowered_rule, lowered_function, named_by}
+use Rattle.pi_lowered.specs.Forms.{ArePatterns}
+use Rattle.pi_lowered.specs.Lowered.{head_forms, head_slots, goals_or_none, guard_of, lowered_rule, lowered_function, lowered_fact, named_by}
 use Rattle.pi_lowered.specs.Within.{IsGoalOrNone, IsRule, IsFunction, IsFree}
 use Rattle.pi_lowered.specs.Laws.{known_of, DefinesTheSame}
 use Rattle.pi_lowered.proofs.AgreeLemmas.{grows-length}
-use Rattle.pi_lowered.proofs.FineLemmas.{AllFine, FineGoals, FineValue, fine-append, fine-turn}
+use Rattle.pi_lowered.proofs.FineLemmas.{AllFine, FineGoals, FineValue, fine-append, fine-turn, fine-nothing}
 use Rattle.pi_lowered.proofs.FineGoals.{goal-fine, made-fine, fine-last}
 use Rattle.pi_lowered.proofs.SoundLemmas.{patterns-count}
-use Rattle.pi_lowered.proofs.SoundClauses.{or-none-fine, guard-fine, rule-slots, function-slots}
+use Rattle.pi_lowered.proofs.SoundClauses.{or-none-fine, guard-fine, rule-slots, function-slots, fact-slots}
 use Rattle.pi_coverage.specs.Built.{are_built_patterns, are_none, is_built_value, is_built_goal, is_built_goal_or_none, is_built_rule, is_built_function_rule}
 use Rattle.pi_sound.proofs.BuiltCalls.{MayRunAll, none-may, append-may, turn-may, guard-may}
 use Rattle.pi_sound.proofs.BuiltGoals.{goal-may, last-value-may}
@@ -36,7 +37,7 @@ pub record GoodClause (preds : List PredTree) (kind : Bool) (s : Signature) (c :
 
 -- ---- heads
 
-head-count : (head : ExpTree) (s : Signature) → signature head ≡ Some s → exp_count (head_arguments head) ≡ s.arity
+pub head-count : (head : ExpTree) (s : Signature) → signature head ≡ Some s → exp_count (head_arguments head) ≡ s.arity
 unfolding exp_count
 head-count (ExpTree.atom n) s e = let is : record { name = n; arity = 0 } ≡ s = cc in ap (λ (t : Signature). t.arity) is
 head-count (ExpTree.call n es) s e = let is : record { name = n; arity = exp_count es } ≡ s = cc in ap (λ (t : Signature). t.arity) is
@@ -87,6 +88,18 @@ rule-good program preds defines r is free built = record {
 
     goals : (is_built_goal_or_none r.cond ≡ true) × (is_built_goal r.body ≡ true)
     goals = and_parts (is_built_goal_or_none r.cond) (is_built_goal r.body) patterns.1
+
+-- ---- facts
+
+pub fact-good : (program : ProgramTree) (preds : List PredTree) → DefinesTheSame program preds → (head : ExpTree) → ArePatterns (head_arguments head) → IsFree head → GoodClause preds false (named_by (signature head)) (lowered_fact head)
+unfolding lowered_fact
+fact-good program preds defines head is free = record {
+  slots = fact-slots (known_of program) head is;
+  arity = head-fits head free;
+  value = ((λ e. absurd (false≢true e)), (λ e. absurd (false≢true e)));
+  guard = turn-good program preds defines 0 [] ((fine-nothing (known_of program)).fine 0 [] (omega arith)) none-may;
+  body = turn-good program preds defines 0 [] ((fine-nothing (known_of program)).fine 0 [] (omega arith)) none-may;
+}
 
 -- ---- functions
 

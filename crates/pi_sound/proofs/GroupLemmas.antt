@@ -9,53 +9,52 @@ use Rattle.pi_syntax.specs.Signature.{Signature}
 use Rattle.pi_lowered.specs.Lowered.{Lowering, grouped, grouped_all}
 use Rattle.pi_lowered.specs.Within.{Key, GoesOn, StandTogether}
 use Rattle.pi_lowered.proofs.SoundLemmas.{nothing-in, cons-cases}
-use Rattle.pi_lowered.proofs.FindLemmas.{sign, of, key, matches, pred_of, matches-same, matches-itself, grouped-none, grouped-same, grouped-other, keys_of}
+use Rattle.pi_lowered.proofs.FindLemmas.{Modes, sign, of, key, matches, pred_of, matches-same, matches-itself, grouped-none, grouped-same, grouped-other, keys_of}
 
 -- ---- each of them
 
--- what holds of clauses and of what they are of, and what then holds of predicates and functions
-pub record Holds (R : Bool → Signature → Type 0) (Q : Bool → Signature → ClauseTree → Type 0) (c : Lowering) : Type 0 where
-  pub named : R c.is_function c.head
+-- what holds of clauses, of what they are of and of mode lists, and what then holds of predicates and functions
+pub record Holds (R : Bool → Signature → Modes → Type 0) (Q : Bool → Signature → ClauseTree → Type 0) (c : Lowering) : Type 0 where
+  pub named : R c.is_function c.head c.modes
   pub clause : Q c.is_function c.head c.clause
 
-pub record HoldsOf (R : Bool → Signature → Type 0) (Q : Bool → Signature → ClauseTree → Type 0) (p : PredTree) : Type 0 where
+pub record HoldsOf (R : Bool → Signature → Modes → Type 0) (Q : Bool → Signature → ClauseTree → Type 0) (p : PredTree) : Type 0 where
   pub quiet : p.quiet ≡ false
-  pub index : p.index ≡ None
-  pub named : R p.function (sign p.name p.arity)
+  pub named : R p.function (sign p.name p.arity) p.index
   pub clauses : All (Q p.function (sign p.name p.arity)) p.clauses
 
-module _ (R : Bool → Signature → Type 0) (Q : Bool → Signature → ClauseTree → Type 0) where
-  of-clauses : (kind : Bool) (s : Signature) (ds : List ClauseTree) → R kind s → All (Q kind s) ds → HoldsOf R Q (pred_of kind s ds)
-  of-clauses kind s ds named all = record { quiet = refl; index = refl; named = named; clauses = all }
+module _ (R : Bool → Signature → Modes → Type 0) (Q : Bool → Signature → ClauseTree → Type 0) where
+  of-clauses : (kind : Bool) (s : Signature) (m : Modes) (ds : List ClauseTree) → R kind s m → All (Q kind s) ds → HoldsOf R Q (pred_of kind s m ds)
+  of-clauses kind s m ds named all = record { quiet = refl; named = named; clauses = all }
 
   first-clause : (c : Lowering) → Holds R Q c → All (Q c.is_function c.head) (c.clause ∷ [])
   first-clause c is = All-cons (Q c.is_function c.head) c.clause [] is.clause (All-nil (Q c.is_function c.head))
 
-  grouped-hold : (kind : Bool) (s : Signature) (ds : List ClauseTree) (cs : List Lowering) → R kind s → All (Q kind s) ds → All (Holds R Q) cs → All (HoldsOf R Q) (grouped (pred_of kind s ds) cs)
-  grouped-hold kind s ds [] named all rest =
-      subst (All (HoldsOf R Q)) (sym (grouped-none kind s ds)) (All-cons (HoldsOf R Q) (pred_of kind s ds) [] (of-clauses kind s ds named all) (All-nil (HoldsOf R Q)))
-  grouped-hold kind s ds (c ∷ cs) named all rest =
-      tested (matches kind s c.is_function c.head) refl (λ more. grouped-hold kind s (ds ++ c.clause ∷ []) cs named more (All-tail (Holds R Q) c cs rest))
-      (grouped-hold c.is_function c.head (c.clause ∷ []) cs here.named (first-clause c here) (All-tail (Holds R Q) c cs rest))
+  grouped-hold : (kind : Bool) (s : Signature) (m : Modes) (ds : List ClauseTree) (cs : List Lowering) → R kind s m → All (Q kind s) ds → All (Holds R Q) cs → All (HoldsOf R Q) (grouped (pred_of kind s m ds) cs)
+  grouped-hold kind s m ds [] named all rest =
+      subst (All (HoldsOf R Q)) (sym (grouped-none kind s m ds)) (All-cons (HoldsOf R Q) (pred_of kind s m ds) [] (of-clauses kind s m ds named all) (All-nil (HoldsOf R Q)))
+  grouped-hold kind s m ds (c ∷ cs) named all rest =
+      tested (matches kind s c.is_function c.head) refl (λ more. grouped-hold kind s m (ds ++ c.clause ∷ []) cs named more (All-tail (Holds R Q) c cs rest))
+      (grouped-hold c.is_function c.head c.modes (c.clause ∷ []) cs here.named (first-clause c here) (All-tail (Holds R Q) c cs rest))
     where
       here : Holds R Q c
       here = All-head (Holds R Q) c cs rest
 
-      tested : (b : Bool) → matches kind s c.is_function c.head ≡ b → (All (Q kind s) (ds ++ c.clause ∷ []) → All (HoldsOf R Q) (grouped (pred_of kind s (ds ++ c.clause ∷ [])) cs)) →
-          All (HoldsOf R Q) (grouped (pred_of c.is_function c.head (c.clause ∷ [])) cs) → All (HoldsOf R Q) (grouped (pred_of kind s ds) (c ∷ cs))
+      tested : (b : Bool) → matches kind s c.is_function c.head ≡ b → (All (Q kind s) (ds ++ c.clause ∷ []) → All (HoldsOf R Q) (grouped (pred_of kind s m (ds ++ c.clause ∷ [])) cs)) →
+          All (HoldsOf R Q) (grouped (pred_of c.is_function c.head c.modes (c.clause ∷ [])) cs) → All (HoldsOf R Q) (grouped (pred_of kind s m ds) (c ∷ cs))
       tested true h same next =
           let e : (c.is_function ≡ kind) × (c.head ≡ s) = matches-same kind s c.is_function c.head h in
           let one : Q kind s c.clause = subst (λ (t : Signature). Q kind t c.clause) e.1 (subst (λ (k : Bool). Q k c.head c.clause) e.0 here.clause) in
-          subst (All (HoldsOf R Q)) (sym (grouped-same kind s ds c cs h)) (same (All-push (Q kind s) ds c.clause all one))
+          subst (All (HoldsOf R Q)) (sym (grouped-same kind s m ds c cs h)) (same (All-push (Q kind s) ds c.clause all one))
       tested false h same next =
-          subst (All (HoldsOf R Q)) (sym (grouped-other kind s ds c cs h))
-          (All-cons (HoldsOf R Q) (pred_of kind s ds) (grouped (pred_of c.is_function c.head (c.clause ∷ [])) cs) (of-clauses kind s ds named all) next)
+          subst (All (HoldsOf R Q)) (sym (grouped-other kind s m ds c cs h))
+          (All-cons (HoldsOf R Q) (pred_of kind s m ds) (grouped (pred_of c.is_function c.head c.modes (c.clause ∷ [])) cs) (of-clauses kind s m ds named all) next)
 
   pub groups-hold : (cs : List Lowering) → All (Holds R Q) cs → All (HoldsOf R Q) (grouped_all cs)
   groups-hold [] all = All-nil (HoldsOf R Q)
   groups-hold (c ∷ cs) all =
       let here : Holds R Q c = All-head (Holds R Q) c cs all in
-      grouped-hold c.is_function c.head (c.clause ∷ []) cs here.named (first-clause c here) (All-tail (Holds R Q) c cs all)
+      grouped-hold c.is_function c.head c.modes (c.clause ∷ []) cs here.named (first-clause c here) (All-tail (Holds R Q) c cs all)
 
 -- ---- no two are one
 
@@ -81,8 +80,8 @@ not-ahead k last before (b ∷ rest) other there together a inside same =
     go (inr later) behind = behind later
 
 -- keys of predicates are among those of the clauses
-abbrev IsAmong : List Key → Bool → Signature → Type 0
-IsAmong ks kind s = Contains ks (of kind s)
+abbrev IsAmong : List Key → Bool → Signature → Modes → Type 0
+IsAmong ks kind s m = Contains ks (of kind s)
 
 abbrev Any : Bool → Signature → ClauseTree → Type 0
 Any kind s c = c ≡ c
@@ -93,11 +92,11 @@ among ks (c ∷ cs) all =
     All-cons (Holds (IsAmong ks) Any) c cs (record { named = all (key c) (0, omega arith, refl); clause = refl })
     (among ks cs (λ a there. all a (Contains-append_right (key c ∷ []) (keys_of cs) a there)))
 
-differ-behind : (kind : Bool) (s : Signature) (ds : List ClauseTree) (c : Lowering) (cs : List Lowering) (before : List Key) → matches kind s c.is_function c.head ≡ false → StandTogether (of kind s ∷ before) (keys_of (c ∷ cs)) →
-    All (Differ (pred_of kind s ds)) (grouped (pred_of c.is_function c.head (c.clause ∷ [])) cs)
+differ-behind : (kind : Bool) (s : Signature) (m : Modes) (ds : List ClauseTree) (c : Lowering) (cs : List Lowering) (before : List Key) → matches kind s c.is_function c.head ≡ false → StandTogether (of kind s ∷ before) (keys_of (c ∷ cs)) →
+    All (Differ (pred_of kind s m ds)) (grouped (pred_of c.is_function c.head c.modes (c.clause ∷ [])) cs)
 unfolding StandTogether
-differ-behind kind s ds c cs before h together =
-    All-weaker (HoldsOf (IsAmong (keys_of (c ∷ cs))) Any) (Differ (pred_of kind s ds)) (λ p is. ahead (pred_key p) is.named) (grouped (pred_of c.is_function c.head (c.clause ∷ [])) cs)
+differ-behind kind s m ds c cs before h together =
+    All-weaker (HoldsOf (IsAmong (keys_of (c ∷ cs))) Any) (Differ (pred_of kind s m ds)) (λ p is. ahead (pred_key p) is.named) (grouped (pred_of c.is_function c.head c.modes (c.clause ∷ [])) cs)
     (groups-hold (IsAmong (keys_of (c ∷ cs))) Any (c ∷ cs) (among (keys_of (c ∷ cs)) (c ∷ cs) (λ a there. there)))
   where
     signed : Option Signature → Signature
@@ -120,27 +119,27 @@ differ-behind kind s ds c cs before h together =
 no-pairs : AllPairs Differ []
 no-pairs = λ i j d below within. absurd (omega arith)
 
-grouped-differ : (kind : Bool) (s : Signature) (ds : List ClauseTree) (cs : List Lowering) (before : List Key) → StandTogether (of kind s ∷ before) (keys_of cs) → AllPairs Differ (grouped (pred_of kind s ds) cs)
+grouped-differ : (kind : Bool) (s : Signature) (m : Modes) (ds : List ClauseTree) (cs : List Lowering) (before : List Key) → StandTogether (of kind s ∷ before) (keys_of cs) → AllPairs Differ (grouped (pred_of kind s m ds) cs)
 unfolding StandTogether
-grouped-differ kind s ds [] before together =
-    subst (AllPairs Differ) (sym (grouped-none kind s ds)) (AllPairs-cons Differ (pred_of kind s ds) [] (All-nil (Differ (pred_of kind s ds))) no-pairs)
-grouped-differ kind s ds (c ∷ cs) before together =
-    tested (matches kind s c.is_function c.head) refl (λ more. grouped-differ kind s (ds ++ c.clause ∷ []) cs (of kind s ∷ before) more)
-    (grouped-differ c.is_function c.head (c.clause ∷ []) cs (of kind s ∷ before) together.1)
+grouped-differ kind s m ds [] before together =
+    subst (AllPairs Differ) (sym (grouped-none kind s m ds)) (AllPairs-cons Differ (pred_of kind s m ds) [] (All-nil (Differ (pred_of kind s m ds))) no-pairs)
+grouped-differ kind s m ds (c ∷ cs) before together =
+    tested (matches kind s c.is_function c.head) refl (λ more. grouped-differ kind s m (ds ++ c.clause ∷ []) cs (of kind s ∷ before) more)
+    (grouped-differ c.is_function c.head c.modes (c.clause ∷ []) cs (of kind s ∷ before) together.1)
   where
-    tested : (b : Bool) → matches kind s c.is_function c.head ≡ b → (StandTogether (of kind s ∷ of kind s ∷ before) (keys_of cs) → AllPairs Differ (grouped (pred_of kind s (ds ++ c.clause ∷ [])) cs)) →
-        AllPairs Differ (grouped (pred_of c.is_function c.head (c.clause ∷ [])) cs) → AllPairs Differ (grouped (pred_of kind s ds) (c ∷ cs))
+    tested : (b : Bool) → matches kind s c.is_function c.head ≡ b → (StandTogether (of kind s ∷ of kind s ∷ before) (keys_of cs) → AllPairs Differ (grouped (pred_of kind s m (ds ++ c.clause ∷ [])) cs)) →
+        AllPairs Differ (grouped (pred_of c.is_function c.head c.modes (c.clause ∷ [])) cs) → AllPairs Differ (grouped (pred_of kind s m ds) (c ∷ cs))
     tested true h same next =
         let e : (c.is_function ≡ kind) × (c.head ≡ s) = matches-same kind s c.is_function c.head h in
-        subst (AllPairs Differ) (sym (grouped-same kind s ds c cs h)) (same (subst (λ (x : Key). StandTogether (x ∷ of kind s ∷ before) (keys_of cs)) (ap (λ k. of k c.head) e.0 ∙ ap (of kind) e.1) together.1))
+        subst (AllPairs Differ) (sym (grouped-same kind s m ds c cs h)) (same (subst (λ (x : Key). StandTogether (x ∷ of kind s ∷ before) (keys_of cs)) (ap (λ k. of k c.head) e.0 ∙ ap (of kind) e.1) together.1))
     tested false h same next =
-        subst (AllPairs Differ) (sym (grouped-other kind s ds c cs h))
-        (AllPairs-cons Differ (pred_of kind s ds) (grouped (pred_of c.is_function c.head (c.clause ∷ [])) cs) (differ-behind kind s ds c cs before h together) next)
+        subst (AllPairs Differ) (sym (grouped-other kind s m ds c cs h))
+        (AllPairs-cons Differ (pred_of kind s m ds) (grouped (pred_of c.is_function c.head c.modes (c.clause ∷ [])) cs) (differ-behind kind s m ds c cs before h together) next)
 
 pub groups-differ : (cs : List Lowering) → StandTogether [] (keys_of cs) → AllPairs Differ (grouped_all cs)
 unfolding StandTogether
 groups-differ [] together = no-pairs
-groups-differ (c ∷ cs) together = grouped-differ c.is_function c.head (c.clause ∷ []) cs [] together.1
+groups-differ (c ∷ cs) together = grouped-differ c.is_function c.head c.modes (c.clause ∷ []) cs [] together.1
 
 -- keys of predicates are those of clauses
 pub groups-among : (cs : List Lowering) → All (HoldsOf (IsAmong (keys_of cs)) Any) (grouped_all cs)

@@ -5,23 +5,26 @@ use Rattle.std.specs.Prelude.{Option, Some, None, All, AllPairs, Contains, slice
 use Rattle.std.specs.List.{AllByRecursion, cons_option}
 use Rattle.std.proofs.lemmas.List.{append-nil}
 use Rattle.std.proofs.lemmas.List.Elements.{All-nil, All-cons, All-head, All-tail, All-weaker, All-contains, recursion_from_All}
-use Rattle.pi_core.specs.CoreTree.{ClauseTree, PredTree, is_pred, find_pred}
+use Rattle.pi_core.specs.CoreTree.{ClauseTree, PredTree, index_of, is_pred, find_pred}
 use Rattle.pi_syntax.specs.ExpTree.{ExpTree}
 use Rattle.pi_syntax.specs.ProgramTree.{RuleTree, FunctionTree, WrittenClause, rule, function, fact, ProgramTree}
-use Rattle.pi_syntax.specs.Signature.{Signature, signature}
+use Rattle.pi_syntax.specs.Signature.{Signature, signature, exp_count}
 use Rattle.pi_syntax.specs.declared.program.Decl.{Decl}
+use Rattle.pi_syntax.specs.declared.program.Mode.{Mode}
 use Rattle.pi_meaning.specs.Names.{is_given_predicate, is_given_function, is_given}
 use Rattle.pi_meaning.specs.Quiet.{Callee, IsQuiet, TicksBetween}
-use Rattle.pi_meaning.specs.Sound.{CallsKnown, IsSoundClause, IsAnother, IsSound}
+use Rattle.pi_meaning.specs.WrittenRules.{head_arguments}
+use Rattle.pi_meaning.specs.Sound.{CallsKnown, IsSoundClause, IsAnother, IsSoundIndex, IsSound}
 use Rattle.pi_meaning.specs.Defined.{CallsDefined, ClauseCallsDefined, ProgramCallsDefined}
 use Rattle.pi_names.specs.Prelude.{prelude}
 use Rattle.pi_lowered.specs.Goals as over_slots
-use Rattle.pi_lowered.specs.Lowered.{lowered_rule, lowered_function, named_by, Lowering, lowered_clause, lowerings, grouped_all, lowered, lowered_query}
+use Rattle.pi_lowered.specs.Lowered.{lowered_rule, lowered_function, lowered_fact, named_by, Lowering, lowered_clause, lowerings, grouped_all, lowered, lowered_query}
 use Rattle.pi_lowered.specs.Forms.{Knows}
-use Rattle.pi_lowered.specs.Within.{IsFree, IsClause, IsPart, Key, StandTogether, IsWithin, IsAsked}
+use Rattle.pi_lowered.specs.Within.{IsFree, IsClause, AreModes, IsPart, Key, StandTogether, IsWithin, IsAsked}
 use Rattle.pi_lowered.specs.Laws.{known_of, DefinesTheSame}
 use Rattle.pi_lowered.proofs.FineGoals.{goal-fine}
-use Rattle.pi_lowered.proofs.FindLemmas.{sign, of, keys_of, keys-same, has-clauses}
+use Rattle.pi_lowered.proofs.FindLemmas.{Modes, sign, of, keys_of}
+use Rattle.pi_lowered.proofs.ProgramClauses.{keys-same, has-clauses}
 use Rattle.pi_lowered.proofs.PreludeLemmas.{prelude-parts}
 use Rattle.pi_lowered.proofs.SoundClauses.{query-slots, query-names}
 use Rattle.pi_lowered.proofs.LawLemmas.{lowered-keeps}
@@ -29,7 +32,7 @@ use Rattle.pi_coverage.specs.Built.{is_built_clause, is_built, is_built_part, un
 use Rattle.pi_sound.specs.Laws.{IsPlain, LoweredProgramsAreSound, LoweredProgramsAreClosed, LoweredProgramsArePlain, LoweredProgramsHaveClauses, LoweredQueriesAreSound}
 use Rattle.pi_sound.proofs.BuiltGoals.{goal-may}
 use Rattle.pi_sound.proofs.CallLemmas.{GoodGoal}
-use Rattle.pi_sound.proofs.ClauseLemmas.{GoodClause, rule-good, function-good, turn-good}
+use Rattle.pi_sound.proofs.ClauseLemmas.{GoodClause, head-count, rule-good, fact-good, function-good, turn-good}
 use Rattle.pi_sound.proofs.PreludeBuilt.{AreBuilt, prelude-built}
 use Rattle.pi_sound.proofs.GroupLemmas.{Holds, HoldsOf, groups-hold, pred_key, Differ, groups-differ, groups-among}
 
@@ -47,36 +50,65 @@ all-built n (p ∷ ps) none = go (is_built_part p) refl none (λ rest. all-built
 clause-built : (d : Decl) (c : WrittenClause) → is_built d (Some c) ≡ true → is_built_clause c ≡ true
 clause-built Decl.Plain c is = is
 clause-built (Decl.Import names) c is = absurd (false≢true is)
-clause-built (Decl.Index lists) c is = absurd (false≢true is)
+clause-built (Decl.Index lists) c is = is
 
 -- ---- what the clauses are
 
-abbrev IsFreeName : Bool → Signature → Type 0
-IsFreeName kind s = is_given kind s.name s.arity ≡ false
-
-free-name : (kind : Bool) (head : ExpTree) → IsFree head → IsFreeName kind (named_by (signature head))
-free-name kind head free = subst (λ (o : Option Signature). IsFreeName kind (named_by o)) (sym free.is_named) (go kind)
+free-name : (kind : Bool) (head : ExpTree) → IsFree head → is_given kind (named_by (signature head)).name (named_by (signature head)).arity ≡ false
+free-name kind head free = subst (λ (o : Option Signature). is_given kind (named_by o).name (named_by o).arity ≡ false) (sym free.is_named) (go kind)
   where
     both : (is_given_predicate free.named.name free.named.arity ≡ false) × (is_given_function free.named.name free.named.arity ≡ false)
     both = or_parts (is_given_predicate free.named.name free.named.arity) (is_given_function free.named.name free.named.arity) free.free
 
-    go : (b : Bool) → IsFreeName b free.named
+    go : (b : Bool) → is_given b free.named.name free.named.arity ≡ false
     go true = both.1
     go false = both.0
+
+-- mode lists are as long as the arguments, and stand before no function
+record FitModes (kind : Bool) (s : Signature) (m : Modes) : Type 0 where
+  long : (lists : List (List Mode)) → m ≡ Some lists → (modes : List Mode) → Contains lists modes → length modes ≡ s.arity
+  no_function : (lists : List (List Mode)) → m ≡ Some lists → kind ≡ false
+
+-- the name of a predicate or function is free, and its mode lists fit
+record IsFreeName (kind : Bool) (s : Signature) (m : Modes) : Type 0 where
+  free : is_given kind s.name s.arity ≡ false
+  fit : FitModes kind s m
+
+none-some : {A : Type 0} (x : A) → None ≡ Some x → ⊥
+none-some x e = cc
+
+without-modes : (kind : Bool) (head : ExpTree) → IsFree head → IsFreeName kind (named_by (signature head)) None
+without-modes kind head free = record { free = free-name kind head free; fit = record { long = λ lists is. absurd (none-some lists is); no_function = λ lists is. absurd (none-some lists is) } }
+
+same-lists : (some : List (List Mode)) (lists : List (List Mode)) → Some some ≡ Some lists → some ≡ lists
+same-lists some lists is = cc
+
+with-modes : (head : ExpTree) → IsFree head → (m : Modes) → AreModes m (Some (fact head)) → IsFreeName false (named_by (signature head)) m
+with-modes head free None are = without-modes false head free
+with-modes head free (Some some) are = record {
+  free = free-name false head free;
+  fit = record {
+    long = λ lists is modes there.
+        All-contains (λ modes. length modes ≡ exp_count (head_arguments head)) lists modes (subst (All (λ modes. length modes ≡ exp_count (head_arguments head))) (same-lists some lists is) are) there
+        ∙ head-count head free.named free.is_named ∙ sym (ap (λ (o : Option Signature). (named_by o).arity) free.is_named);
+    no_function = λ lists is. refl;
+  };
+}
 
 lowerings-good : (program : ProgramTree) (preds : List PredTree) → DefinesTheSame program preds → (parts : ProgramTree) → AllByRecursion (IsPart (known_of program)) parts → AreBuilt parts →
     All (Holds IsFreeName (GoodClause preds)) (lowerings parts)
 lowerings-good program preds defines [] are built = All-nil (Holds IsFreeName (GoodClause preds))
-lowerings-good program preds defines (p ∷ ps) are built = go p.decl p.clause are.0.clause built.0 (lowerings-good program preds defines ps are.1 built.1)
+lowerings-good program preds defines (p ∷ ps) are built = go p.decl p.clause are.0.modes are.0.clause built.0 (lowerings-good program preds defines ps are.1 built.1)
   where
-    go : (d : Decl) (o : Option WrittenClause) → IsClause (known_of program) o → is_built d o ≡ true → All (Holds IsFreeName (GoodClause preds)) (lowerings ps) →
-        All (Holds IsFreeName (GoodClause preds)) (cons_option (lowered_clause o) (lowerings ps))
-    go d None is built rest = rest
-    go d (Some (rule r)) is built rest =
-        All-cons (Holds IsFreeName (GoodClause preds)) _ (lowerings ps) (record { named = free-name false r.head is.1; clause = rule-good program preds defines r is.0 is.1 (clause-built d (rule r) built) }) rest
-    go d (Some (function f)) is built rest =
-        All-cons (Holds IsFreeName (GoodClause preds)) _ (lowerings ps) (record { named = free-name true f.head is.1; clause = function-good program preds defines f is.0 is.1 (clause-built d (function f) built) }) rest
-    go d (Some (fact head)) is built rest = absurd is
+    go : (d : Decl) (o : Option WrittenClause) → AreModes (index_of d) o → IsClause (known_of program) o → is_built d o ≡ true → All (Holds IsFreeName (GoodClause preds)) (lowerings ps) →
+        All (Holds IsFreeName (GoodClause preds)) (cons_option (lowered_clause (index_of d) o) (lowerings ps))
+    go d None modes is built rest = rest
+    go d (Some (rule r)) modes is built rest =
+        All-cons (Holds IsFreeName (GoodClause preds)) _ (lowerings ps) (record { named = without-modes false r.head is.1; clause = rule-good program preds defines r is.0 is.1 (clause-built d (rule r) built) }) rest
+    go d (Some (function f)) modes is built rest =
+        All-cons (Holds IsFreeName (GoodClause preds)) _ (lowerings ps) (record { named = without-modes true f.head is.1; clause = function-good program preds defines f is.0 is.1 (clause-built d (function f) built) }) rest
+    go d (Some (fact head)) modes is built rest =
+        All-cons (Holds IsFreeName (GoodClause preds)) _ (lowerings ps) (record { named = with-modes head is.1 (index_of d) modes; clause = fact-good program preds defines head is.0 is.1 }) rest
 
 -- ---- what the predicates are
 
@@ -112,14 +144,14 @@ ticks preds all = record {
     loud : (c : Callee) (p : PredTree) → IsQuiet preds c p → ⊥
     loud c p is = false≢true (sym (find-all (IsGood preds) c.function c.name c.arity preds all p is.0).quiet ∙ is.1)
 
-none-some : {A : Type 0} (x : A) → None ≡ Some x → ⊥
-none-some x e = cc
+index-sound : (preds : List PredTree) (p : PredTree) → IsGood preds p → (lists : List (List Mode)) → p.index ≡ Some lists → IsSoundIndex p lists
+index-sound preds p is lists at = record { long = is.named.fit.long lists at; no_function = is.named.fit.no_function lists at; not_quiet = is.quiet }
 
 program-sound : (preds : List PredTree) → AllPairs IsAnother preds → All (IsGood preds) preds → IsSound preds
 program-sound preds apart all = record {
   apart = apart;
   clauses = λ p there c inside. clause-sound preds p (All-contains (IsGood preds) preds p all there) c inside;
-  index = λ p there lists is. absurd (none-some lists (sym (All-contains (IsGood preds) preds p all there).index ∙ is));
+  index = λ p there lists is. index-sound preds p (All-contains (IsGood preds) preds p all there) lists is;
   ticks = ticks preds all;
 }
 
@@ -160,7 +192,7 @@ pub programs-sound : LoweredProgramsAreSound
 programs-sound program within built = program-sound (lowered program) (all-apart program within) (all-good program within built)
 
 pub programs-closed : LoweredProgramsAreClosed
-programs-closed program within built = (λ p there c inside. clause-closed (lowered program) p (good p there) c inside, λ p there. (good p there).named)
+programs-closed program within built = (λ p there c inside. clause-closed (lowered program) p (good p there) c inside, λ p there. (good p there).named.free)
   where
     good : (p : PredTree) → Contains (lowered program) p → IsGood (lowered program) p
     good p there = All-contains (IsGood (lowered program)) (lowered program) p (all-good program within built) there
@@ -170,8 +202,8 @@ programs-closed program within built = (λ p there c inside. clause-closed (lowe
 abbrev WithoutEvents : Bool → Signature → ClauseTree → Type 0
 WithoutEvents kind s c = c.watches ≡ []
 
-abbrev AnyName : Bool → Signature → Type 0
-AnyName kind s = s ≡ s
+abbrev AnyName : Bool → Signature → Modes → Type 0
+AnyName kind s m = s ≡ s
 
 rule-plain : (r : RuleTree) → (lowered_rule r).watches ≡ []
 unfolding lowered_rule
@@ -181,25 +213,29 @@ function-plain : (f : FunctionTree) → (lowered_function f).watches ≡ []
 unfolding lowered_function
 function-plain f = refl
 
+fact-plain : (head : ExpTree) → (lowered_fact head).watches ≡ []
+unfolding lowered_fact
+fact-plain head = refl
+
 plain-clauses : (known : Knows) (parts : ProgramTree) → AllByRecursion (IsPart known) parts → All (Holds AnyName WithoutEvents) (lowerings parts)
 plain-clauses known [] are = All-nil (Holds AnyName WithoutEvents)
-plain-clauses known (p ∷ ps) are = go p.clause are.0.clause (plain-clauses known ps are.1)
+plain-clauses known (p ∷ ps) are = go (index_of p.decl) p.clause are.0.clause (plain-clauses known ps are.1)
   where
-    go : (o : Option WrittenClause) → IsClause known o → All (Holds AnyName WithoutEvents) (lowerings ps) → All (Holds AnyName WithoutEvents) (cons_option (lowered_clause o) (lowerings ps))
-    go None is rest = rest
-    go (Some (rule r)) is rest = All-cons (Holds AnyName WithoutEvents) _ (lowerings ps) (record { named = refl; clause = rule-plain r }) rest
-    go (Some (function f)) is rest = All-cons (Holds AnyName WithoutEvents) _ (lowerings ps) (record { named = refl; clause = function-plain f }) rest
-    go (Some (fact head)) is rest = absurd is
+    go : (m : Modes) (o : Option WrittenClause) → IsClause known o → All (Holds AnyName WithoutEvents) (lowerings ps) → All (Holds AnyName WithoutEvents) (cons_option (lowered_clause m o) (lowerings ps))
+    go m None is rest = rest
+    go m (Some (rule r)) is rest = All-cons (Holds AnyName WithoutEvents) _ (lowerings ps) (record { named = refl; clause = rule-plain r }) rest
+    go m (Some (function f)) is rest = All-cons (Holds AnyName WithoutEvents) _ (lowerings ps) (record { named = refl; clause = function-plain f }) rest
+    go m (Some (fact head)) is rest = All-cons (Holds AnyName WithoutEvents) _ (lowerings ps) (record { named = refl; clause = fact-plain head }) rest
 
 pub programs-plain : LoweredProgramsArePlain
 unfolding lowered
 programs-plain program within =
-    All-weaker (HoldsOf AnyName WithoutEvents) IsPlain (λ p is. record { quiet = is.quiet; index = is.index; watches = is.clauses }) (grouped_all (lowerings (prelude ++ program)))
+    All-weaker (HoldsOf AnyName WithoutEvents) IsPlain (λ p is. record { quiet = is.quiet; watches = is.clauses }) (grouped_all (lowerings (prelude ++ program)))
     (groups-hold AnyName WithoutEvents (lowerings (prelude ++ program)) (plain-clauses (known_of program) (prelude ++ program) (parts-within program within)))
 
 pub programs-have-clauses : LoweredProgramsHaveClauses
 unfolding lowered
-programs-have-clauses program within = has-clauses (known_of program) (prelude ++ program) (parts-within program within) within.together
+programs-have-clauses program within = has-clauses (known_of program) (prelude ++ program) (parts-within program within) within.together within.indexed
 
 -- ---- lowered goals
 

@@ -14,10 +14,9 @@ use Rattle.pi_coverage.specs.Built.{unbuilt_part, is_built_goal}
 
 -- ---- programs
 
--- a predicate or function of rules without events, whose calls count
+-- a predicate or function whose clauses have no events, and whose calls count
 pub record IsPlain (pred : PredTree) : Type 0 where
   pub quiet : pred.quiet ≡ false
-  pub index : pred.index ≡ None
   pub watches : All (λ c. c.watches ≡ []) pred.clauses
 
 -- each call is of what is there with so many arguments, slots are those that a clause has, and no two predicates or functions have one name and number of arguments

@@ -1,13 +1,14 @@
 //! Programs and goals in the core language, without the prelude's predicates: `program HEAD => BODY ; HEAD ?=> BODY ..` and
-//! `goal BODY`.
+//! `goal BODY`. A fact is `fact : HEAD`, the first of a predicate with its mode lists: `fact +- -+ : HEAD`.
 
 use crate::expressions::expression_of;
 use crate::goals::tell_goal;
+use crate::programs::modes_of;
 use pi_cases::{Case, Problem, tell_flat};
 use pi_rewrite::{LowerFault, lower, lower_goal};
 use pi_types::{
-    Clause, CoreClause, CorePred, CorePreds, CoreProgram, CoreQuery, Decl, Goal, Part, Parts,
-    Program,
+    Clause, CoreClause, CorePred, CorePreds, CoreProgram, CoreQuery, Decl, Goal, Mode, ModeLists,
+    Part, Parts, Program,
 };
 
 /// Tells what a program or a goal is in the core language.
@@ -22,8 +23,8 @@ pub fn answer(case: &mut Case<'_>) {
 fn tell_program(case: &mut Case<'_>) {
     let mut parts = Parts::new(case.alloc);
     for _ in 0..case.steps() {
-        if let Some(rule) = take_rule(case) {
-            let added = parts.push(rule);
+        if let Some(part) = take_part(case) {
+            let added = parts.push(part);
             case.done(added);
         }
         case.take_step_end();
@@ -47,6 +48,37 @@ fn prelude_preds(case: &mut Case<'_>) -> usize {
             0
         }
     }
+}
+
+/// Takes a part: a fact or a rule.
+fn take_part(case: &mut Case<'_>) -> Option<Part> {
+    if case.skip("fact") {
+        take_fact(case)
+    } else {
+        take_rule(case)
+    }
+}
+
+/// Takes the part that is a fact in words, behind its mode lists.
+fn take_fact(case: &mut Case<'_>) -> Option<Part> {
+    let mut lists = ModeLists::new(case.alloc);
+    let words = case.take_until(":");
+    for word in words {
+        let modes = modes_of(case, word);
+        let added = lists.push(modes);
+        case.done(added);
+    }
+    let head = case.take_rest();
+    let head = expression_of(case, head)?;
+    let decl = if lists.len() > 0 {
+        Decl::Index(lists)
+    } else {
+        Decl::Plain
+    };
+    Some(Part {
+        decl,
+        clause: Some(Clause::Fact { head }),
+    })
 }
 
 /// Takes the part that is a rule in words.
@@ -77,8 +109,25 @@ fn tell_preds(preds: &[CorePred], before: usize, case: &mut Case<'_>) {
         case.tell_between(i - before, " ; ");
         case.tell_called(pred.name.as_str(), pred.arity as usize);
         case.tell(":");
+        tell_modes(&pred.decl, case);
         for clause in pred.clauses.as_slice() {
             tell_clause(clause, case);
+        }
+    }
+}
+
+/// Tells the mode lists of a predicate of facts.
+fn tell_modes(decl: &Decl, case: &mut Case<'_>) {
+    let Decl::Index(lists) = decl else {
+        return;
+    };
+    for modes in lists.as_slice() {
+        case.tell(" ");
+        for mode in modes.as_slice() {
+            case.tell(match mode {
+                Mode::Plus => "+",
+                Mode::Minus => "-",
+            });
         }
     }
 }

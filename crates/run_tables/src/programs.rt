@@ -80,7 +80,8 @@ fn add_modes(case: &mut Case<'_>, preds: &mut CorePreds) {
     let Some(mut pred) = preds.pop() else {
         return case.lacks("a predicate before its modes");
     };
-    let modes = take_modes(case);
+    let word = case.take_word();
+    let modes = modes_of(case, word);
     let mut lists = lists_of(case.alloc, mem::replace(&mut pred.decl, Decl::Plain));
     let added = lists.push(modes);
     case.done(added);
@@ -89,10 +90,10 @@ fn add_modes(case: &mut Case<'_>, preds: &mut CorePreds) {
     case.done(added);
 }
 
-/// Takes the word of a mode list.
-fn take_modes(case: &mut Case<'_>) -> Modes {
+/// The mode list of a word of `+` and `-`.
+pub(crate) fn modes_of(case: &mut Case<'_>, word: &str) -> Modes {
     let mut modes = Modes::new(case.alloc);
-    for c in case.take_word().chars() {
+    for c in word.chars() {
         let mode = if c == '+' { Mode::Plus } else { Mode::Minus };
         let added = modes.push(mode);
         case.done(added);
