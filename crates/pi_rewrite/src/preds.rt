@@ -106,7 +106,7 @@ fn add_clause(
     modes: Option<&ModeLists>,
     clause: CoreClause,
 ) -> Result<(), AllocError>
-    ensures { IfOk result (λ _. (rest : List Lowering) → lowered_behind (map pred_tree preds.old.items) (record { is_function = named.entry.function; head = record { name = named.entry.name.now; arity = named.entry.arity }; modes = option_copied modes; clause = clause_tree clause } ∷ rest) ≡ lowered_behind (map pred_tree preds.new.items) rest) }
+    ensures { IfOk result (λ _. (rest : List Lowering) → lowered_behind (map pred_tree preds.old.items) (record { is_function = named.entry.function; head = record { name = named.entry.name.now; arity = named.entry.arity }; modes = option_copied modes.entry; clause = clause_tree clause } ∷ rest) ≡ lowered_behind (map pred_tree preds.new.items) rest) }
 {
     let Some(last) = preds.pop() else {
         let made = new_pred(alloc, named, modes, clause)?;
@@ -138,7 +138,7 @@ fn new_pred(
     modes: Option<&ModeLists>,
     clause: CoreClause,
 ) -> Result<CorePred, AllocError>
-    ensures { IfOk result (λ made. pred_tree made ≡ with_first (record { is_function = named.entry.function; head = record { name = named.entry.name.now; arity = named.entry.arity }; modes = option_copied modes; clause = clause_tree clause })) }
+    ensures { IfOk result (λ made. pred_tree made ≡ with_first (record { is_function = named.entry.function; head = record { name = named.entry.name.now; arity = named.entry.arity }; modes = option_copied modes.entry; clause = clause_tree clause })) }
 {
     let decl = declared(alloc, modes)?;
     let mut clauses = CoreClauses::new(alloc);
@@ -155,7 +155,7 @@ fn new_pred(
 
 /// An `index` with these mode lists, where there are some.
 fn declared(alloc: Global, modes: Option<&ModeLists>) -> Result<Decl, AllocError>
-    ensures { IfOk result (λ made. index_of made ≡ option_copied modes) }
+    ensures { IfOk result (λ made. index_of made ≡ option_copied modes.entry) }
 {
     match modes {
         Some(lists) => {

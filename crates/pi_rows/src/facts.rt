@@ -98,7 +98,9 @@ pub static ROWS: [Row<'static>; 19] = [
         status: 0,
     },
     Row {
-        program: Some("import basic. index (+,-) e(a,1). e(b,2). p(X, Y), e(X, Y), Y > 1 => true. p(_, Y) => Y = none."),
+        program: Some(
+            "import basic. index (+,-) e(a,1). e(b,2). p(X, Y), e(X, Y), Y > 1 => true. p(_, Y) => Y = none.",
+        ),
         words: &["FILE", "p(a, X), p(b, Y)"],
         output: "X = none\nY = 2\nyes\nno more\n",
         status: 0,

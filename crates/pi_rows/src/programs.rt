@@ -203,7 +203,8 @@ sums(T, O, G, U) =>
     10*T + O + 10*G + O =:= 100*O + 10*U + T.
 ";
 
-const GRADEBOOK: &str = "% A grade book: who has which mark in what, as facts, and what is asked of it.
+const GRADEBOOK: &str =
+    "% A grade book: who has which mark in what, as facts, and what is asked of it.
 
 % The marks of a student, or all.
 index (+,-,-) (-,-,-)
