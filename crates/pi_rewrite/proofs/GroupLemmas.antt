@@ -1,5 +1,5 @@
 -- Clauses, and the predicates and functions that they are added to.
-use Rattle.std.proofs.Common.{◌≡◌, ℕ, ◌+◌, ◌<◌, ◌≤◌, Bool, true, false, List, [], ◌∷◌, ◌++◌, length, get_or, drop, map, refl, sym, ◌∙◌, ap}
+use Rattle.std.proofs.Common.{◌≡◌, ℕ, ◌+◌, ◌<◌, ◌≤◌, Bool, true, false, List, [], ◌∷◌, ◌++◌, length, get_or, drop, map, refl, sym, ◌∙◌, ap, append_assoc}
 use Rattle.std.specs.Prelude.{Option, Some, None, option_map}
 use Rattle.std.specs.List.{cons_option}
 use Rattle.std.proofs.lemmas.Bool.{cond-true, cond-false}
@@ -119,6 +119,15 @@ fact-adds p head function s modes made before after is named kind lists lowers a
 pub none-adds : (p : Part) (before after : List PredTree) → p.clause ≡ None → after ≡ before → (rest : List Lowering) →
     lowered_behind before (cons_option (lowered_part (part_tree p)) rest) ≡ lowered_behind after rest
 none-adds p before after is same = nothing-added (lowered_part (part_tree p)) before after (ap (λ o. lowered_clause (index_of p.decl) (option_map written_clause o)) is) same
+
+-- ---- mode lists
+
+pub copied-more : {A : Type 0} (xs made new : List A) (i : ℕ) (x y : A) → i < length xs → x ≡ get_or xs i x → y ≡ x → new ≡ made ++ y ∷ [] → made ++ drop i xs ≡ xs → new ++ drop (i + 1) xs ≡ xs
+copied-more xs made new i x y h is same put so =
+    ap (λ zs. zs ++ drop (i + 1) xs) put ∙ (append_assoc made (y ∷ []) (drop (i + 1) xs) ∙ (ap (λ z. made ++ z ∷ drop (i + 1) xs) (same ∙ is) ∙ (sym (ap (λ zs. made ++ zs) (drop_more xs i x h)) ∙ so)))
+
+pub copied-all : {A : Type 0} (xs made : List A) (i : ℕ) → length xs ≤ i → made ++ drop i xs ≡ xs → made ≡ xs
+copied-all xs made i h so = sym (append-nil made) ∙ (sym (ap (λ zs. made ++ zs) (drop_all i xs h)) ∙ so)
 
 -- ---- parts in order
 

@@ -172,7 +172,8 @@ fn copied(alloc: Global, lists: &[Modes]) -> Result<ModeLists, AllocError>
 {
     let mut made = ModeLists::new(alloc);
     for modes in lists {
-        made.push(modes.copy(alloc)?)?;
+        let copy = modes.copy(alloc)?;
+        made.push(copy)?;
     }
     Ok(made)
 }
