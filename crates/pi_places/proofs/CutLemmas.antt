@@ -1,17 +1,10 @@
 -- Domains at places that are cut one after another.
-use Rattle.std.specs.Prelude.{◌≡◌, ◌↔◌, ℕ, ◌+◌, ◌<◌, Bool, true, false, ◌&&◌, IsTrue, List, [], length, slice_get, slice_set, Some, None, ℤ, ◌≤ℤ◌, int_le, not, refl}
-use Rattle.std.proofs.Common.{arith, sym, ◌∙◌, ap, subst, inl, inr, length-set, get_or-set_same, get_or-set_other}
-use Rattle.std.proofs.lemmas.Bool.{cases_eq, cases_Bool, false≢true, and_parts, and_from}
-use Rattle.std.proofs.lemmas.Bool.Decides.{Decides-int_eq}
-use Rattle.std.proofs.lemmas.Int.{ints}
-use Rattle.std.specs.Ordering.{int_eq}
-use Rattle.std.proofs.lemmas.Option.{slice_get_within, get_or_from_slice_get}
+use Rattle.std.specs.Prelude.{◌≡◌, ◌↔◌, ℕ, zero, suc, ◌+◌, ◌<◌, ◌≤◌, Bool, true, false, ◌&&◌, IsTrue, List, [], ◌∷◌, length, ℤ, refl}
+use Rattle.std.proofs.Common.{arith, sym, ◌∙◌, ap, subst, inl, inr}
+use Rattle.std.proofs.lemmas.Bool.{cases_eq, and_parts, and_from}
 use Rattle.pi_constraints.specs.declared.domain.Span.{Span}
-use Rattle.pi_constraints.specs.Domain.{IsDomain, has_value}
-use Rattle.pi_filters.specs.Ends.{least_of, greatest_of}
-use Rattle.pi_filters.proofs.EndLemmas.{least-below, greatest-above}
+use Rattle.pi_constraints.specs.Domain.{has_value}
 use Rattle.pi_filters.specs.Places.{domain_at}
-use Rattle.pi_places.proofs.DomainLemmas.{nowhere}
 use Rattle.pi_places.specs.Changes.{IsCutAt, AreCutFrom, AreFilteredFrom}
 
 and_true : (b : Bool) → b ≡ (b && true)
@@ -22,59 +15,21 @@ and_assoc : (a b c : Bool) → ((a && b) && c) ≡ (a && (b && c))
 and_assoc true b c = refl
 and_assoc false b c = refl
 
--- a domain takes the place of another
-pub cut_at : (ds : List (List Span)) (k : ℕ) (d cut : List Span) (test : ℤ → Bool) → slice_get ds k ≡ Some d → ((n : ℤ) → has_value cut n ≡ (has_value d n && test n)) → IsCutAt k test ds (slice_set ds k cut)
-cut_at ds k d cut test at h =
-    let new : domain_at (slice_set ds k cut) k ≡ cut = get_or-set_same ds k cut [] (slice_get_within ds k d at) in
-    let old : domain_at ds k ≡ d = get_or_from_slice_get ds k d [] at in
-    record {
-      count = length-set ds k cut;
-      here = λ n. ap (λ (x : List Span). has_value x n) new ∙ (h n ∙ ap (λ (x : List Span). has_value x n && test n) (sym old));
-      others = λ j o. get_or-set_other ds k j cut [] o;
-    }
+past : (ds : List (List Span)) (k : ℕ) → length ds ≤ k → domain_at ds k ≡ []
+past [] k l = refl
+past (d ∷ ds) zero l = absurd (omega arith)
+past (d ∷ ds) (suc k) l = past ds k (omega arith)
 
 -- where there is no such place, nothing changes
-pub cut_nowhere : (ds : List (List Span)) (k : ℕ) (test : ℤ → Bool) → slice_get ds k ≡ None → IsCutAt k test ds ds
+pub cut_past : (ds : List (List Span)) (k : ℕ) (test : ℤ → Bool) → length ds ≤ k → IsCutAt k test ds ds
 unfolding has_value
-cut_nowhere ds k test at =
-    let none : domain_at ds k ≡ [] = nowhere ds k at in
+cut_past ds k test l =
+    let none : domain_at ds k ≡ [] = past ds k l in
     record {
       count = refl;
       here = λ n. let empty : has_value (domain_at ds k) n ≡ false = ap (λ (x : List Span). has_value x n) none in empty ∙ ap (λ (b : Bool). b && test n) (sym empty);
       others = λ j o. refl;
     }
-
-idle_value : (b c : Bool) → (b ≡ true → c ≡ true) → b ≡ (b && c)
-idle_value true c h = sym (h refl)
-idle_value false c h = refl
-
-passes_le : (x y z : ℤ) → x ≤ℤ y → y ≤ℤ z → int_le x z ≡ true
-passes_le x y z h k = let l : x ≤ℤ z = omega (arith, ints) in grind (arith, ints)
-
-other_value : (d : List Span) (m n : ℤ) → has_value d n ≡ false → IsTrue (has_value d m) → IsTrue (not (int_eq m n))
-other_value d m n none h = elim (cases_Bool (int_eq m n)) [
-  | inl e ↦ absurd (false≢true (sym none ∙ subst (λ (x : ℤ). has_value d x ≡ true) ((Decides-int_eq m n).0 e) h))
-  | inr e ↦ ap not e
-]
-
--- where each value passes, nothing changes
-cut_idle : (ds : List (List Span)) (k : ℕ) (d : List Span) (test : ℤ → Bool) → slice_get ds k ≡ Some d → ((n : ℤ) → IsTrue (has_value d n) → IsTrue (test n)) → IsCutAt k test ds ds
-cut_idle ds k d test at all =
-    let here : domain_at ds k ≡ d = get_or_from_slice_get ds k d [] at in
-    record {
-      count = refl;
-      here = λ n. idle_value (has_value (domain_at ds k) n) (test n) (λ h. all n (subst (λ (x : List Span). IsTrue (has_value x n)) here h));
-      others = λ j o. refl;
-    }
-
-pub cut_below_idle : (ds : List (List Span)) (k : ℕ) (d : List Span) (n : ℤ) → slice_get ds k ≡ Some d → IsDomain d → n ≤ℤ least_of d → IsCutAt k (λ m. int_le n m) ds ds
-cut_below_idle ds k d n at up l = cut_idle ds k d (λ m. int_le n m) at (λ m h. let b = least-below d m up h in passes_le n (least_of d) m l b)
-
-pub cut_above_idle : (ds : List (List Span)) (k : ℕ) (d : List Span) (n : ℤ) → slice_get ds k ≡ Some d → IsDomain d → greatest_of d ≤ℤ n → IsCutAt k (λ m. int_le m n) ds ds
-cut_above_idle ds k d n at up l = cut_idle ds k d (λ m. int_le m n) at (λ m h. let b = greatest-above d m up h in passes_le m (greatest_of d) n b l)
-
-pub remove_idle : (ds : List (List Span)) (k : ℕ) (d : List Span) (n : ℤ) → slice_get ds k ≡ Some d → has_value d n ≡ false → IsCutAt k (λ m. not (int_eq m n)) ds ds
-remove_idle ds k d n at none = cut_idle ds k d (λ m. not (int_eq m n)) at (λ m h. other_value d m n none h)
 
 pub cut_none : (ds : List (List Span)) (k : ℕ) → IsCutAt k (λ n. true) ds ds
 cut_none ds k = record { count = refl; here = λ n. and_true (has_value (domain_at ds k) n); others = λ j o. refl }

@@ -4,10 +4,11 @@ ghost use Rattle.pi_constraints.specs.Domain.{IsDomain};
 ghost use Rattle.pi_filters.specs.Rules.{ShareAValue};
 ghost use Rattle.pi_places.specs.Reads.{HasValueBetween};
 
-use pi_constraints::{Domain, Span};
+use pi_constraints::Span;
+use pi_narrowed::Narrowed;
 
 /// Whether a domain has a value from `lo` to `hi`. It looks at no more spans than their number has binary digits.
-pub(crate) fn has_value_between(domain: &Domain, lo: i128, hi: i128) -> bool
+pub(crate) fn has_value_between(domain: &Narrowed, lo: i128, hi: i128) -> bool
     ensures { IsTrue result ↔ HasValueBetween domain.now lo hi }
 {
     if hi < lo {
@@ -19,7 +20,7 @@ pub(crate) fn has_value_between(domain: &Domain, lo: i128, hi: i128) -> bool
 }
 
 /// Whether two domains have a value in common. It looks once at each span, up to the first value that they share.
-pub(crate) fn share(d: &Domain, e: &Domain) -> bool
+pub(crate) fn share(d: &Narrowed, e: &Narrowed) -> bool
     ensures { IsTrue result ↔ ShareAValue d.now e.now }
 {
     spans_share(d.spans(), e.spans())

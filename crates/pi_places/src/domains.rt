@@ -1,61 +1,62 @@
-//! A list of domains as places.
-ghost use Rattle.std.specs.Prelude.{◌≡◌, ◌↔◌, IsTrue, []};
+//! Domains that are narrowed where they stand, as places.
+ghost use Rattle.std.specs.Prelude.{◌≡◌, ◌↔◌, IsTrue, [], option_copied, slice_get};
 ghost use Rattle.pi_constraints.specs.Domain.{IsDomain, IsWithinBounds};
 ghost use Rattle.pi_filters.specs.Ends.{least_of, greatest_of};
 
 use crate::asks::{has_value_between, share};
 use crate::places::Places;
-use pi_constraints::{Domain, Domains, Span};
+use pi_constraints::{Domain, Span};
+use pi_narrowed::Narrowed;
 use std::alloc::{AllocError, Global};
 
-impl Places for Domains {
+impl Places for Vec<Narrowed> {
     ghost use Rattle.std.specs.Prelude.{List};
     ghost use Rattle.pi_constraints.specs.declared.domain.Span.{Span};
 
-    ghost domains = { λ ds. ds };
+    ghost domains = { λ ds. ds.items };
 
     fn count(&self) -> usize {
         self.len()
     }
 
     fn is_empty(&self, k: usize) -> bool {
-        match self.get(k) {
+        match narrowed_at(self, k) {
             Some(domain) => has_none(domain),
             None => true,
         }
     }
 
     fn least(&self, k: usize) -> i64 {
-        match self.get(k) {
+        match narrowed_at(self, k) {
             Some(domain) => first(domain),
             None => 0,
         }
     }
 
     fn greatest(&self, k: usize) -> i64 {
-        match self.get(k) {
+        match narrowed_at(self, k) {
             Some(domain) => last(domain),
             None => 0,
         }
     }
 
     fn has(&self, k: usize, n: i128) -> bool {
-        match self.get(k) {
-            Some(domain) => pi_dom::contains(domain, n),
+        match narrowed_at(self, k) {
+            Some(domain) => has_value_between(domain, n, n),
             None => false,
         }
     }
 
     fn has_between(&self, k: usize, lo: i128, hi: i128) -> bool {
-        match self.get(k) {
+        match narrowed_at(self, k) {
             Some(domain) => has_value_between(domain, lo, hi),
             None => false,
         }
     }
 
     fn shares(&self, j: usize, k: usize) -> bool {
-        match self.get(j) {
-            Some(first) => match self.get(k) {
+        match narrowed_at(self, j) {
+            Some(first) => match narrowed_at(self, k) {
                 Some(second) => share(first, second),
                 None => false,
             },
@@ -64,7 +65,7 @@ impl Places for Domains {
     }
 
     fn push_spans(&self, k: usize, spans: &mut Vec<Span>) -> Result<(), AllocError> {
-        match self.get(k) {
+        match narrowed_at(self, k) {
             Some(domain) => {
                 spans.extend_from_slice(domain.spans())?;
                 Ok(())
@@ -74,7 +75,7 @@ impl Places for Domains {
     }
 
     fn domain(&self, alloc: Global, k: usize) -> Result<Domain, AllocError> {
-        match self.get(k) {
+        match narrowed_at(self, k) {
             Some(domain) => {
                 let made = domain.copy(alloc)?;
                 Ok(made)
@@ -83,62 +84,48 @@ impl Places for Domains {
         }
     }
 
-    fn cut_below(&mut self, alloc: Global, k: usize, n: i128) -> Result<(), AllocError> {
-        match self.get(k) {
-            Some(domain) => {
-                if n <= i128::from(first(domain)) {
-                    return Ok(());
-                }
-                let cut = pi_dom::cut_below(alloc, domain, n)?;
-                self.set(k, cut);
-                Ok(())
-            }
-            None => Ok(()),
+    fn cut_below(&mut self, _alloc: Global, k: usize, n: i128) -> Result<(), AllocError> {
+        if self.len() <= k {
+            return Ok(());
         }
+        self[k].cut_below(n);
+        Ok(())
     }
 
-    fn cut_above(&mut self, alloc: Global, k: usize, n: i128) -> Result<(), AllocError> {
-        match self.get(k) {
-            Some(domain) => {
-                if i128::from(last(domain)) <= n {
-                    return Ok(());
-                }
-                let cut = pi_dom::cut_above(alloc, domain, n)?;
-                self.set(k, cut);
-                Ok(())
-            }
-            None => Ok(()),
+    fn cut_above(&mut self, _alloc: Global, k: usize, n: i128) -> Result<(), AllocError> {
+        if self.len() <= k {
+            return Ok(());
         }
+        self[k].cut_above(n);
+        Ok(())
     }
 
-    fn remove(&mut self, alloc: Global, k: usize, n: i128) -> Result<(), AllocError> {
-        match self.get(k) {
-            Some(domain) => {
-                if !pi_dom::contains(domain, n) {
-                    return Ok(());
-                }
-                let cut = pi_dom::remove(alloc, domain, n)?;
-                self.set(k, cut);
-                Ok(())
-            }
-            None => Ok(()),
+    fn remove(&mut self, _alloc: Global, k: usize, n: i128) -> Result<(), AllocError> {
+        if self.len() <= k {
+            return Ok(());
         }
+        self[k].remove(n)?;
+        Ok(())
     }
 
     fn keep(&mut self, alloc: Global, k: usize, kept: &Domain) -> Result<(), AllocError> {
-        match self.get(k) {
-            Some(domain) => {
-                let cut = pi_dom::meet(alloc, domain, kept)?;
-                self.set(k, cut);
-                Ok(())
-            }
-            None => Ok(()),
+        if self.len() <= k {
+            return Ok(());
         }
+        self[k].keep(alloc, kept)?;
+        Ok(())
     }
 }
 
+/// The domain at a place, where there is one.
+fn narrowed_at(all: &Vec<Narrowed>, k: usize) -> Option<&Narrowed>
+    ensures { option_copied result ≡ slice_get all.now.items k }
+{
+    all.as_slice().get(k)
+}
+
 /// Whether a domain has no value.
-fn has_none(domain: &Domain) -> bool
+fn has_none(domain: &Narrowed) -> bool
     ensures { IsTrue result ↔ (domain.now ≡ []) }
 {
     domain.spans().is_empty()
@@ -153,7 +140,7 @@ pub(crate) fn nothing(alloc: Global) -> Domain
 }
 
 /// The least value of a domain; 0 where there is none.
-fn first(domain: &Domain) -> i64
+fn first(domain: &Narrowed) -> i64
     ensures is { result ≡ least_of domain.now }
     ensures within { IsWithinBounds result }
     ensures spans { IsDomain domain.now }
@@ -165,7 +152,7 @@ fn first(domain: &Domain) -> i64
 }
 
 /// The greatest value of a domain; 0 where there is none.
-fn last(domain: &Domain) -> i64
+fn last(domain: &Narrowed) -> i64
     ensures is { result ≡ greatest_of domain.now }
     ensures within { IsWithinBounds result }
     ensures spans { IsDomain domain.now }

@@ -1,8 +1,7 @@
 -- What is left by the filter of a constraint, from what its rule keeps at each place and what places of one variable have together.
-use Rattle.std.specs.Prelude.{◌≡◌, ◌↔◌, ℕ, zero, suc, ◌+◌, ◌<◌, ◌≤◌, IsTrue, slice_get, Some, List, [], ◌∷◌, ◌++◌, length, take, get_or, ℤ, pos, refl}
+use Rattle.std.specs.Prelude.{◌≡◌, ◌↔◌, ℕ, zero, suc, ◌+◌, ◌<◌, ◌≤◌, IsTrue, slice_get, Some, List, [], ◌∷◌, ◌++◌, length, take, ℤ, refl}
 use Rattle.std.proofs.Common.{arith, sym, ◌∙◌, ap, subst, inl, inr}
 use Rattle.std.proofs.lemmas.Bool.{false≢true}
-use Rattle.std.proofs.lemmas.List.{take_more}
 use Rattle.pi_constraints.specs.declared.constraint.Rel.{Rel}
 use Rattle.pi_constraints.specs.declared.constraint.Item.{Item}
 use Rattle.pi_constraints.specs.declared.constraint.Constraint.{Constraint}
@@ -13,8 +12,9 @@ use Rattle.pi_filters.specs.Places.{domain_at, HaveValues, HaveOneVariable, plac
 use Rattle.pi_filters.specs.Filter.{RuleKeeps}
 use Rattle.pi_filters.proofs.SumLemmas.{variable_at}
 use Rattle.pi_places.specs.Changes.{AreFiltered, AreFilteredFrom, AreEmptied}
-use Rattle.pi_prop.specs.Variables.{AreMet}
+use Rattle.pi_prop.specs.Variables.{AreMet, AreApart}
 use Rattle.pi_prop.proofs.RootLemmas.{some_item, variable_same}
+use Rattle.pi_prop.proofs.ApartLemmas.{apart_met, sum_places-take_more}
 use Rattle.pi_prop.specs.Left.{AreLeft}
 
 -- ---- kinds
@@ -37,19 +37,13 @@ reified_count c truth rel ts m n e count =
     let places : length (places_of c) ≡ suc (length (sum_places ts)) = ap (λ (x : Constraint). length (places_of x)) e in
     omega (arith, length-sum_places ts)
 
-sum_places-push : (ts : List (ℤ × ℕ)) (t : ℤ × ℕ) → sum_places (ts ++ t ∷ []) ≡ sum_places ts ++ Item.Var t.1 ∷ []
-unfolding sum_places
-sum_places-push [] t = refl
-sum_places-push (u ∷ ts) t = ap (λ (is : List Item). Item.Var u.1 ∷ is) (sum_places-push ts t)
-
 pub no_terms_taken : (truth : Item) (ts : List (ℤ × ℕ)) (all : List Item) → all ≡ truth ∷ [] → all ≡ truth ∷ sum_places (take 0 ts)
 unfolding sum_places
 no_terms_taken truth ts all e = e
 
 pub term_taken : (truth : Item) (ts : List (ℤ × ℕ)) (i : ℕ) (old new : List Item) → i < length ts → old ≡ truth ∷ sum_places (take i ts) → new ≡ old ++ Item.Var (variable_at ts i) ∷ [] → new ≡ truth ∷ sum_places (take (i + 1) ts)
 term_taken truth ts i old new l e f =
-    let more : sum_places (take (i + 1) ts) ≡ sum_places (take i ts) ++ Item.Var (variable_at ts i) ∷ [] = ap sum_places (take_more ts i (pos 0, 0) l) ∙ sum_places-push (take i ts) (get_or ts i (pos 0, 0)) in
-    f ∙ (ap (λ (is : List Item). is ++ Item.Var (variable_at ts i) ∷ []) e ∙ ap (λ (is : List Item). truth ∷ is) (sym more))
+    f ∙ (ap (λ (is : List Item). is ++ Item.Var (variable_at ts i) ∷ []) e ∙ ap (λ (is : List Item). truth ∷ is) (sym (sum_places-take_more ts i l)))
 
 -- ---- the terms of a sum have different variables
 
@@ -70,23 +64,14 @@ one_term least ((c, m) ∷ ts) zero (suc k) n s e f = let same : m ≡ n = first
 one_term least ((c, m) ∷ ts) (suc j) zero n s e f = let same : m ≡ n = first_variable m n f in let next : suc m ≤ n = not_below (suc m) ts j n s.3 e in absurd (omega arith)
 one_term least ((c, m) ∷ ts) (suc j) (suc k) n s e f = ap suc (one_term (suc m) ts j k n s.3 e f)
 
-alone : (ts : List (ℤ × ℕ)) (j k : ℕ) → IsSum 0 ts → HaveOneVariable (sum_places ts) j k → j ≡ k
-alone ts j k s (inl e) = e
-alone ts j k s (inr h) = one_term 0 ts j k h.0 s h.1 h.2
-
-pub sum_met : (ts : List (ℤ × ℕ)) (ds : List (List Span)) → IsSum 0 ts → length ds ≡ length (sum_places ts) → AreMet (sum_places ts) ds ds
-sum_met ts ds s c = record {
-  count = refl;
-  values = λ k n l. (
-    λ t j b one. subst (λ (i : ℕ). IsTrue (has_value (domain_at ds i) n)) (sym (alone ts j k s one)) t,
-    λ h. h k (omega (arith, c)) (inl refl),
-  );
-}
+pub sum_apart : (ts : List (ℤ × ℕ)) → IsSum 0 ts → AreApart (sum_places ts)
+sum_apart ts s j k (inl e) = e
+sum_apart ts s j k (inr h) = one_term 0 ts j k h.0 s h.1 h.2
 
 pub linear_met : (c : Constraint) (rel : Rel) (ts : List (ℤ × ℕ)) (m : ℤ) (ds : List (List Span)) → c ≡ Constraint.Linear rel ts m → IsWithinLimits c → length ds ≡ length (places_of c) → AreMet (places_of c) ds ds
 linear_met c rel ts m ds e limits count =
     let within : IsSumWithinLimits ts m = subst IsWithinLimits e limits in
-    subst (λ (x : Constraint). AreMet (places_of x) ds ds) (sym e) (sum_met ts ds within.2 (subst (λ (x : Constraint). length ds ≡ length (places_of x)) e count))
+    subst (λ (x : Constraint). AreMet (places_of x) ds ds) (sym e) (apart_met (sum_places ts) ds (sum_apart ts within.2) (subst (λ (x : Constraint). length ds ≡ length (places_of x)) e count))
 
 -- ---- all kinds
 

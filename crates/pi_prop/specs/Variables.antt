@@ -1,5 +1,5 @@
 -- Places of one variable. The definitions are own.
-use Rattle.std.specs.Prelude.{◌≡◌, ◌↔◌, ℕ, ◌<◌, IsTrue, nat_eq, cond, Option, Some, unwrap_or, List, length, get_or, ℤ}
+use Rattle.std.specs.Prelude.{◌≡◌, ◌↔◌, ℕ, ◌<◌, IsTrue, nat_eq, cond, Option, Some, unwrap_or, List, length, slice_get, get_or, ℤ}
 use Rattle.pi_constraints.specs.declared.constraint.Item.{Item}
 use Rattle.pi_constraints.specs.declared.domain.Span.{Span}
 use Rattle.pi_constraints.specs.Domain.{has_value}
@@ -39,3 +39,20 @@ pub record AreSpread (many : ℕ) (roots : List ℕ) (old new : List (List Span)
 pub record AreMet (items : List Item) (old new : List (List Span)) : Type 0 where
   pub count : length new ≡ length old
   pub values : (k : ℕ) (n : ℤ) → k < length old → IsTrue (has_value (domain_at new k) n) ↔ ((j : ℕ) → j < length items → HaveOneVariable items j k → IsTrue (has_value (domain_at old j) n))
+
+-- no two places have one variable
+abbrev pub AreApart : List Item → Type 0
+AreApart items = (j k : ℕ) → HaveOneVariable items j k → j ≡ k
+
+-- no two of the first so many places have one variable, and `next` is above all their variables
+pub record AreApartBelow (items : List Item) (many next : ℕ) : Type 0 where
+  pub apart : (j k v : ℕ) → j < many → k < many → slice_get items j ≡ Some (Item.Var v) → slice_get items k ≡ Some (Item.Var v) → j ≡ k
+  pub below : (k v : ℕ) → k < many → slice_get items k ≡ Some (Item.Var v) → v < next
+
+-- one of the first so many places has a variable
+abbrev pub StandsBefore : List Item → ℕ → ℕ → Type 0
+StandsBefore items many v = (k : ℕ) × (k < many) × (slice_get items k ≡ Some (Item.Var v))
+
+-- none of the places has the variable of an item
+abbrev pub IsNew : List Item → Item → Type 0
+IsNew items item = (k v : ℕ) → item ≡ Item.Var v → slice_get items k ≡ Some (Item.Var v) → ⊥

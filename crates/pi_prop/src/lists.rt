@@ -5,10 +5,9 @@ ghost use Rattle.pi_filters.specs.Places.{places_of};
 ghost use Rattle.pi_places.specs.Changes.{AreFiltered};
 ghost use Rattle.pi_prop.specs.Left.{AreLeft, DistinctLeaves, IsReified};
 
-use crate::kinds::filter_places;
-use crate::meeting::meet_places;
+use crate::narrowing::{narrow, narrow_distinct};
 use pi_constraints::{Constraint, Domains};
-use pi_places::{have_values, take_all};
+use pi_narrowed::Narrowed;
 use std::alloc::{AllocError, Global};
 
 /// The domains at the places of a constraint, narrowed by its filter. There is a domain for each place, in order; at the
@@ -22,14 +21,10 @@ pub fn filter(
     requires count { length domains.now ≡ length (places_of constraint.now) }
     ensures { IfOk result (λ made. AreLeft constraint.now domains.now made) }
 {
-    let mut left = copied(alloc, domains)?;
-    if !have_values(&left) {
-        take_all(alloc, &mut left)?;
-        return Ok(left);
-    }
-    filter_places(alloc, constraint, &mut left)?;
-    meet_places(alloc, constraint, &mut left)?;
-    Ok(left)
+    let mut left = narrowed(alloc, domains)?;
+    narrow(alloc, constraint, &mut left)?;
+    let made = finished(alloc, left)?;
+    Ok(made)
 }
 
 /// The same of a reified sum.
@@ -50,22 +45,30 @@ pub fn filter_reified(
 pub fn filter_distinct(alloc: Global, domains: &Domains) -> Result<Domains, AllocError>
     ensures { IfOk result (λ made. AreFiltered (DistinctLeaves domains.now) domains.now made) }
 {
-    let mut left = copied(alloc, domains)?;
-    if !have_values(&left) {
-        take_all(alloc, &mut left)?;
-        return Ok(left);
-    }
-    pi_distinct::filter_distinct(alloc, &mut left)?;
-    Ok(left)
+    let mut left = narrowed(alloc, domains)?;
+    narrow_distinct(alloc, &mut left)?;
+    let made = finished(alloc, left)?;
+    Ok(made)
 }
 
-/// Other domains with the same values.
-fn copied(alloc: Global, domains: &Domains) -> Result<Domains, AllocError>
-    ensures { IfOk result (λ made. made ≡ domains.now) }
+/// Domains that are to be narrowed.
+fn narrowed(alloc: Global, domains: &Domains) -> Result<Vec<Narrowed>, AllocError>
+    ensures { IfOk result (λ made. made.items ≡ domains.now) }
 {
-    let mut copies = Vec::new(alloc);
+    let mut all = Vec::new(alloc);
     for domain in domains.as_slice() {
-        copies.push(domain.copy(alloc)?)?;
+        all.push(Narrowed::of(alloc, domain)?)?;
     }
-    Ok(Domains::from_vec(copies))
+    Ok(all)
+}
+
+/// What is left of them.
+fn finished(alloc: Global, left: Vec<Narrowed>) -> Result<Domains, AllocError>
+    ensures { IfOk result (λ made. made ≡ left.items) }
+{
+    let mut domains = Vec::new(alloc);
+    for one in left {
+        domains.push(one.into_domain())?;
+    }
+    Ok(Domains::from_vec(domains))
 }

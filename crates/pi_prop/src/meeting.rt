@@ -1,11 +1,12 @@
 //! Places of one variable are left what all of them have.
 ghost use Rattle.std.specs.Prelude.{◌≡◌, ◌∷◌, ◌++◌, [], IfOk, length};
-ghost use Rattle.pi_constraints.specs.Constraint.{IsWithinLimits};
+ghost use Rattle.pi_constraints.specs.Constraint.{IsSum, IsWithinLimits};
 ghost use Rattle.pi_constraints.specs.Domain.{has_value};
 ghost use Rattle.pi_filters.specs.Places.{domain_at, places_of, sum_places};
 ghost use Rattle.pi_places.specs.Changes.{IsCutAt};
 ghost use Rattle.pi_prop.specs.Variables.{AreMet, AreGathered, AreSpread, AreSettled};
 
+use crate::apart::{are_apart, is_element_apart, is_truth_apart};
 use crate::variables::roots_of;
 use pi_constraints::{Constraint, Item, LinTerm};
 use pi_places::Places;
@@ -50,6 +51,9 @@ fn meet_element<P: Places>(
     requires { length (P.domains places.old) ≡ length (index ∷ (items.now ++ value ∷ [])) }
     ensures { IfOk result (λ _. AreMet (index ∷ (items.now ++ value ∷ [])) (P.domains places.old) (P.domains places.new)) }
 {
+    if is_element_apart(index, items, value) {
+        return Ok(());
+    }
     let mut all = Vec::new(alloc);
     all.push(index)?;
     all.extend_from_slice(items)?;
@@ -65,9 +69,13 @@ fn meet_reified<P: Places>(
     terms: &[LinTerm],
     places: &mut P,
 ) -> Result<(), AllocError>
-    requires { length (P.domains places.old) ≡ length (truth ∷ sum_places terms.now) }
+    requires count { length (P.domains places.old) ≡ length (truth ∷ sum_places terms.now) }
+    requires sum { IsSum 0 terms.now }
     ensures { IfOk result (λ _. AreMet (truth ∷ sum_places terms.now) (P.domains places.old) (P.domains places.new)) }
 {
+    if is_truth_apart(truth, terms) {
+        return Ok(());
+    }
     let mut all = Vec::new(alloc);
     all.push(truth)?;
     for i in 0..terms.len() {
@@ -78,12 +86,15 @@ fn meet_reified<P: Places>(
     Ok(())
 }
 
-/// Leaves each place the values that all places of its variable have. The first place of a variable takes what all of them
-/// have, and then each takes what that one has.
+/// Leaves each place the values that all places of its variable have. Where two places may have one variable, the first place of
+/// a variable takes what all of them have, and then each takes what that one has.
 fn meet_items<P: Places>(alloc: Global, items: &[Item], places: &mut P) -> Result<(), AllocError>
     requires { length (P.domains places.old) ≡ length items.now }
     ensures { IfOk result (λ _. AreMet items.now (P.domains places.old) (P.domains places.new)) }
 {
+    if are_apart(items) {
+        return Ok(());
+    }
     let roots = roots_of(alloc, items)?;
     gather(alloc, places, roots.as_slice())?;
     spread(alloc, places, roots.as_slice())?;

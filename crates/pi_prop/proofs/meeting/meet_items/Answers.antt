@@ -2,7 +2,11 @@ use Rattle.std.proofs.Common.{◌∙◌, ℕ, List, length, subst, sym}
 use Rattle.pi_prop.specs.Variables.{AreRoots, AreSettled, AreSpread}
 use Rattle.pi_prop.proofs.RootLemmas.{roots_settled}
 use Rattle.pi_prop.proofs.MeetLemmas.{places_met}
+use Rattle.pi_prop.proofs.ApartLemmas.{apart_met}
 use Rattle.pi_prop.proofs.meeting.meet_items.Goals as goal
+
+pub returns-then-are_apart : goal.returns-then-are_apart
+returns-then-are_apart g c = apart_met _ (g.P.Places.domains c.args.places.now) (c.are_apart.ensures c.if-are_apart.true) c.requires
 
 pub gather-requires : goal.gather-requires
 gather-requires g c = subst AreSettled (sym c.as_slice.ensures.value) (roots_settled c.args.items.now (length c.args.items.now) _ c.in_ok-roots.ensures)
