@@ -1,9 +1,6 @@
-use Rattle.std.proofs.Common.{rules, arith, ◌≡◌, ◌≤◌, ◌+◌, ◌-◌, ◌<◌, ◌++◌, ℤ, ◌≤ℤ◌, ◌<ℤ◌, pos, neg_ℤ, int_le, ◌&&◌, length, drop, take, get_or, List, w64, to_z, of_z, FitsSigned, subst, sym, ap, ◌∙◌}
+use Rattle.std.proofs.Common.{rules, arith, ◌<ℤ◌, pos, get_or, w64, to_z, of_z, FitsSigned}
 use Rattle.std.specs.Int.{w128}
-use Rattle.std.proofs.lemmas.Int.{ints, to_z-of_z}
-use Rattle.pi_constraints.specs.declared.domain.TheConstants.{MAX_VALUE}
-use Rattle.pi_constraints.specs.declared.domain.Span.{Span}
-use Rattle.pi_constraints.specs.Domain.{IsDomain, has_value}
+use Rattle.std.proofs.lemmas.Int.{ints}
 use Rattle.pi_narrowed.proofs.CutLemmas.{from_to, SameFrom-more}
 use Rattle.pi_narrowed.proofs.cuts.count_below.Goals as goal
 

@@ -1,11 +1,10 @@
-use Rattle.std.proofs.Common.{rules, arith, ◌≡◌, ◌≤◌, ◌+◌, ◌-◌, ◌<◌, ◌++◌, ℤ, ◌≤ℤ◌, ◌<ℤ◌, pos, neg_ℤ, int_le, ◌&&◌, length, drop, take, get_or, List, w64, to_z, of_z, FitsSigned, subst, sym, ap, ◌∙◌}
+use Rattle.std.proofs.Common.{◌≤◌, ◌<◌, ◌≤ℤ◌, neg_ℤ, length, get_or, List, to_z, of_z, subst, sym, ◌∙◌}
 use Rattle.std.specs.Int.{w128}
-use Rattle.std.proofs.lemmas.Int.{ints, to_z-of_z}
 use Rattle.pi_constraints.specs.declared.domain.TheConstants.{MAX_VALUE}
 use Rattle.pi_constraints.specs.declared.domain.Span.{Span}
-use Rattle.pi_constraints.specs.Domain.{IsDomain, has_value}
+use Rattle.pi_constraints.specs.Domain.{IsDomain}
 use Rattle.pi_constraints.proofs.SpanLemmas.{AscendFrom-drop}
-use Rattle.pi_narrowed.proofs.CutLemmas.{SameFrom, turned_off, next_left, below_left}
+use Rattle.pi_narrowed.proofs.CutLemmas.{turned_off, next_left}
 use Rattle.pi_narrowed.proofs.cuts.drop_below.Goals as goal
 
 pub raise_first-requires-clause-domain : goal.raise_first-requires-clause-domain

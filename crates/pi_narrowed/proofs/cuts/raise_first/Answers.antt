@@ -1,4 +1,4 @@
-use Rattle.std.proofs.Common.{rules, arith, ◌≡◌, ◌<◌, ◌-◌, ◌+◌, ℕ, List, subst, sym, ℤ, ◌≤ℤ◌, int_le, length, w64, to_z, of_z, FitsSigned}
+use Rattle.std.proofs.Common.{rules, arith, ◌<◌, subst, sym, ◌≤ℤ◌, int_le, length, w64, FitsSigned}
 use Rattle.std.proofs.lemmas.Int.{ints}
 use Rattle.pi_constraints.specs.declared.domain.Span.{Span}
 use Rattle.pi_narrowed.proofs.CutLemmas.{none_there, raised_is, raised_has, raised_none}

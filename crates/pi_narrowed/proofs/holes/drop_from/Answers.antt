@@ -1,4 +1,4 @@
-use Rattle.std.proofs.Common.{rules, arith, ◌≡◌, ◌<◌, ◌≤◌, ℤ, ◌≤ℤ◌, ◌<ℤ◌, pos, ◌-ℤ◌, ◌+ℤ◌, length, get_or, w64, to_z, of_z, FitsSigned, subst, sym, ap, ◌∙◌}
+use Rattle.std.proofs.Common.{rules, arith, ℤ, ◌≤ℤ◌, pos, ◌-ℤ◌, w64, FitsSigned, subst, sym}
 use Rattle.std.proofs.lemmas.Int.{ints, to_z-of_z}
 use Rattle.pi_constraints.specs.declared.domain.Span.{Span}
 use Rattle.pi_narrowed.proofs.HoleLemmas.{within_span, fits_narrow, removed_is, removed_has, first_is, first_has, last_is, last_has, middle_is, middle_has}

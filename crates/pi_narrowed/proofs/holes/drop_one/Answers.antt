@@ -1,9 +1,9 @@
-use Rattle.std.proofs.Common.{rules, arith, ◌≡◌, ◌<◌, ◌≤◌, ℤ, ◌≤ℤ◌, ◌<ℤ◌, pos, ◌-ℤ◌, ◌+ℤ◌, length, get_or, w64, to_z, of_z, FitsSigned, subst, sym, ap, ◌∙◌}
+use Rattle.std.proofs.Common.{rules, arith, ◌≡◌, ◌<◌, ℤ, ◌≤ℤ◌, length, get_or, w64, to_z, of_z, FitsSigned, subst, sym, ap, ◌∙◌}
 use Rattle.std.specs.Int.{w128}
 use Rattle.std.proofs.lemmas.Int.{ints, to_z-of_z}
 use Rattle.pi_constraints.specs.declared.domain.Span.{Span}
 use Rattle.pi_constraints.specs.Domain.{has_value}
-use Rattle.std.specs.Prelude.{drop, not, ◌&&◌}
+use Rattle.std.specs.Prelude.{not, ◌&&◌}
 use Rattle.std.specs.Ordering.{int_eq}
 use Rattle.pi_narrowed.proofs.HoleLemmas.{none_behind, next_above, at_any, within_span, fits_narrow}
 use Rattle.pi_narrowed.proofs.holes.drop_one.Goals as goal

@@ -1,6 +1,5 @@
 use Rattle.std.proofs.Common.{rules, arith, pos}
 use Rattle.std.proofs.lemmas.Int.{ints}
-use Rattle.pi_constraints.specs.declared.domain.Span.{Span}
 use Rattle.pi_narrowed.proofs.CutLemmas.{from_to}
 use Rattle.pi_narrowed.proofs.SharedLemmas.{none_are, one_more, all_are}
 use Rattle.pi_narrowed.proofs.shared.are_within.Goals as goal
