@@ -201,6 +201,11 @@ mod tests {
     }
 
     #[test]
+    fn rows_of_prints(rt: HostRuntime) -> Result<(), Fail> {
+        are_right(rt.alloc(), &words::PRINTS, NOTHING)
+    }
+
+    #[test]
     fn faulty_words(rt: HostRuntime) -> Result<(), Fail> {
         for words in &FAULTY {
             let row = Row {
@@ -313,8 +318,8 @@ mod tests {
         Ok(())
     }
 
-    /// Lines that are the first write of their run.
-    static FIRST_LINES: [Row<'static>; 5] = [
+    /// Runs whose first write fails: of a line, or of a program's text.
+    static FIRST_LINES: [Row<'static>; 6] = [
         Row {
             program: Some(OPEN),
             words: &[],
@@ -324,6 +329,12 @@ mod tests {
         Row {
             program: Some(OPEN),
             words: &["--mode", "run", "FILE"],
+            output: "",
+            status: 8,
+        },
+        Row {
+            program: Some(OPEN),
+            words: &["--mode", "print", "FILE"],
             output: "",
             status: 8,
         },

@@ -1,8 +1,8 @@
 //! Runs by the words of the command line.
-use crate::row::{OPEN, Row};
+use crate::row::{OPEN, Row, USAGE};
 
 /// Runs by the words of the command line.
-pub static ROWS: [Row<'static>; 19] = [
+pub static ROWS: [Row<'static>; 18] = [
     // As many answers as are asked for, and the search isn't known to be at its end.
     Row {
         program: Some(OPEN),
@@ -123,12 +123,6 @@ pub static ROWS: [Row<'static>; 19] = [
     },
     Row {
         program: Some(OPEN),
-        words: &["--mode", "print", "FILE"],
-        output: "mode: NotBuilt\n",
-        status: 3,
-    },
-    Row {
-        program: Some(OPEN),
         words: &["--mode=session", "absent"],
         output: "mode: NotBuilt\n",
         status: 3,
@@ -217,5 +211,60 @@ pub static RUNS: [Row<'static>; 13] = [
         words: &["0010", "--mode", "demo"],
         output: "program: NotBuilt 2\n",
         status: 3,
+    },
+];
+
+/// Programs that are printed: no goal is asked of them, and nothing of them has to be built.
+pub static PRINTS: [Row<'static>; 8] = [
+    Row {
+        program: Some("p(X),X>1=>Y=X+1,q(Y).\nq(_)=>true."),
+        words: &["--mode", "print", "FILE"],
+        output: "p(X), (X > 1) => (Y = (X + 1)), q(Y).\nq(_) => true.\n",
+        status: 0,
+    },
+    Row {
+        program: Some(""),
+        words: &["--mode", "print", "FILE"],
+        output: "",
+        status: 0,
+    },
+    Row {
+        program: Some("p(X) => Y = X[1,2], Y = 1."),
+        words: &["FILE", "--mode=print"],
+        output: "p(X) => (Y = X[1][2]), (Y = 1).\n",
+        status: 0,
+    },
+    // What isn't built is printed all the same.
+    Row {
+        program: Some("index (+,-) e(a,'B c'). e(b,\"d\"). w(X), {ins(X)} => X #> 1."),
+        words: &["--mode", "print", "FILE"],
+        output: "index (+,-)\ne(a, 'B c').\ne(b, \"d\").\nw(X), {ins(X)} => (X #> 1).\n",
+        status: 0,
+    },
+    // Faults of the program alone.
+    Row {
+        program: Some("p => q."),
+        words: &["--mode", "print", "FILE"],
+        output: "program: UnknownName q/0 in 1\n",
+        status: 3,
+    },
+    Row {
+        program: Some("p => 'ab"),
+        words: &["--mode", "print", "FILE"],
+        output: "program: BadToken line 1\n",
+        status: 3,
+    },
+    Row {
+        program: Some(OPEN),
+        words: &["--mode", "print", "absent"],
+        output: "read fault\n",
+        status: 7,
+    },
+    // No goal stands beside the file.
+    Row {
+        program: Some(OPEN),
+        words: &["--mode", "print", "FILE", "p(X)"],
+        output: USAGE,
+        status: 2,
     },
 ];

@@ -1,5 +1,5 @@
 -- A run is complete where nothing fails.
-use Rattle.std.proofs.Common.{◌≡◌, ◌≢◌, ℕ, List, Option, inl, inr, refl, subst}
+use Rattle.std.proofs.Common.{◌≡◌, ◌≢◌, ℕ, true, List, Option, inl, inr, refl, subst}
 use Rattle.pi_demo.specs.Demo.{demo_program}
 use Rattle.pi_outside.specs.Held.{Holding}
 use Rattle.pi_answers.specs.declared.log.LogEntry.{LogEntry}
@@ -7,12 +7,12 @@ use Rattle.pi_top.specs.declared.outcome.QueryRun.{QueryRun}
 use Rattle.pi_words.specs.declared.run_mode.RunMode.{RunMode}
 use Rattle.pi_words.specs.declared.run_mode.RunMode.TheVariants.{Query, Run, Session, Print, Demo}
 use Rattle.pi_words.specs.declared.asked.Options.{Options}
-use Rattle.pi_top.specs.Completeness.{NothingFails, IsText, IsComplete, Completes}
-use Rattle.pi_top.specs.Ends.{Ends, all_written, write_failed, memory_wanted}
+use Rattle.pi_top.specs.Completeness.{NothingFails, IsText, IsComplete, IsPrinted, CompletesIn, Completes}
+use Rattle.pi_top.specs.Ends.{Ends, all_written, write_failed, memory_wanted, reads_file}
 use Rattle.pi_top.specs.Faults.{FaultCount, Rises}
 use Rattle.pi_top.specs.Handing.{HandsAll}
 use Rattle.pi_top.specs.Manner.{manner_of, goal_of}
-use Rattle.pi_top.specs.Statuses.{ComesText, refused, ran, ComesFile, read_fault, was_read, ComesIn, ComesBy}
+use Rattle.pi_top.specs.Statuses.{ComesText, refused, ran, ComesPrinted, faulty, printed, ComesOf, ComesFile, read_fault, was_read, ComesIn, ComesBy}
 use Rattle.pi_top.specs.Texts.{IsRead}
 use Rattle.pi_outside.specs.Reads.{FileRead}
 use Rattle.pi_outside.specs.Writes.{SinkWrite}
@@ -29,22 +29,42 @@ text-complete asked held text queries log status texts writes sound is_text hand
   ran = record { texts = texts; comes = has; handed = handed };
 }
 
-file-complete : (asked : Options) (held : Option Holding) (files : FaultCount) (reads : List FileRead) (queries : List QueryRun) (log : List LogEntry) (status : ℕ) (texts : List (List ℕ)) (writes : List SinkWrite) → status ≢ 3 →
-    (Rises files → ⊥) → ((text : List ℕ) → IsRead held asked.file text → IsText asked.mode asked held text) → HandsAll texts writes → ComesFile asked held files reads queries log status texts →
-    IsComplete asked held queries log status writes
-file-complete asked held files reads queries log status texts writes sound whole of_file handed (read_fault rose fails line) = absurd (whole rose)
-file-complete asked held files reads queries log status texts writes sound whole of_file handed (was_read stands text all_read is_read comes) =
-    text-complete asked held text queries log status texts writes sound (of_file text is_read) handed comes
+printed-complete : (asked : Options) (held : Option Holding) (text : List ℕ) (queries : List QueryRun) (status : ℕ) (texts : List (List ℕ)) (writes : List SinkWrite) → status ≢ 3 →
+    IsRead held asked.file text → HandsAll texts writes → ComesPrinted text queries status texts → IsPrinted asked held queries status writes
+printed-complete asked held text queries status texts writes sound is_text handed (faulty fault is written) = absurd (sound written.is_its)
+printed-complete asked held text queries status texts writes sound is_text handed (printed program is written) = record {
+  text = text;
+  is_text = is_text;
+  program = program;
+  is_program = is;
+  printed = record { texts = texts; comes = written; handed = handed };
+}
+
+-- what a mode with a file makes of a text
+of-complete : (mode : RunMode) (asked : Options) (held : Option Holding) (text : List ℕ) (queries : List QueryRun) (log : List LogEntry) (status : ℕ) (texts : List (List ℕ)) (writes : List SinkWrite) → asked.mode ≡ mode →
+    status ≢ 3 → reads_file mode ≡ true → IsRead held asked.file text → HandsAll texts writes → ComesOf mode asked text queries log status texts → CompletesIn mode asked held queries log status writes
+of-complete Query asked held text queries log status texts writes is sound reads_one read handed comes = text-complete asked held text queries log status texts writes sound (rw is read) handed comes
+of-complete Run asked held text queries log status texts writes is sound reads_one read handed comes = text-complete asked held text queries log status texts writes sound (rw is read) handed comes
+of-complete Print asked held text queries log status texts writes is sound reads_one read handed comes = printed-complete asked held text queries status texts writes sound read handed comes
+of-complete Session asked held text queries log status texts writes is sound reads_one read handed comes = absurd cc
+of-complete Demo asked held text queries log status texts writes is sound reads_one read handed comes = absurd cc
+
+file-complete : (mode : RunMode) (asked : Options) (held : Option Holding) (files : FaultCount) (reads : List FileRead) (queries : List QueryRun) (log : List LogEntry) (status : ℕ) (texts : List (List ℕ)) (writes : List SinkWrite) → asked.mode ≡ mode → status ≢ 3 →
+    (Rises files → ⊥) → reads_file mode ≡ true → HandsAll texts writes → ComesFile asked held files reads queries log status texts → CompletesIn mode asked held queries log status writes
+file-complete mode asked held files reads queries log status texts writes is sound whole reads_one handed (read_fault rose fails line) = absurd (whole rose)
+file-complete mode asked held files reads queries log status texts writes is sound whole reads_one handed (was_read stands text all_read is_read comes) =
+    of-complete mode asked held text queries log status texts writes is sound reads_one is_read handed (rw is at comes)
 
 -- a text that is read is the program's in a mode with a file
 in-complete : (mode : RunMode) (asked : Options) (held : Option Holding) (files : FaultCount) (reads : List FileRead) (queries : List QueryRun) (log : List LogEntry) (status : ℕ) (texts : List (List ℕ)) (writes : List SinkWrite) →
-    asked.mode ≡ mode → status ≢ 3 → (Rises files → ⊥) → HandsAll texts writes → ComesIn mode asked held files reads queries log status texts → IsComplete asked held queries log status writes
+    asked.mode ≡ mode → status ≢ 3 → (Rises files → ⊥) → HandsAll texts writes → ComesIn mode asked held files reads queries log status texts → CompletesIn mode asked held queries log status writes
 in-complete Query asked held files reads queries log status texts writes is sound whole handed comes =
-    file-complete asked held files reads queries log status texts writes sound whole (λ text read. rw is read) handed comes
+    file-complete Query asked held files reads queries log status texts writes is sound whole refl handed comes
 in-complete Run asked held files reads queries log status texts writes is sound whole handed comes =
-    file-complete asked held files reads queries log status texts writes sound whole (λ text read. rw is read) handed comes
+    file-complete Run asked held files reads queries log status texts writes is sound whole refl handed comes
 in-complete Session asked held files reads queries log status texts writes is sound whole handed line = absurd (sound line.is.is_its)
-in-complete Print asked held files reads queries log status texts writes is sound whole handed line = absurd (sound line.is.is_its)
+in-complete Print asked held files reads queries log status texts writes is sound whole handed comes =
+    file-complete Print asked held files reads queries log status texts writes is sound whole refl handed comes
 in-complete Demo asked held files reads queries log status texts writes is sound whole handed comes =
     text-complete asked held (demo_program comes.places) queries log status texts writes sound (rw is (comes.places, comes.number, refl)) handed comes.comes
 

@@ -21,7 +21,7 @@ use Rattle.pi_top.specs.Handing.{HandsText}
 use Rattle.pi_demo.specs.Demo.{demo_program}
 use Rattle.pi_top.specs.Manner.{manner_of, goal_of}
 use Rattle.pi_top.specs.QueryEnd.{QueryEnd, Stopped, NoMore, No, Exception, StepsSpent, status_of}
-use Rattle.pi_top.specs.Statuses.{ComesText, ComesFile, ComesMade, ComesIn, ComesBy, memory_line}
+use Rattle.pi_top.specs.Statuses.{ComesText, ComesPrinted, ComesOf, ComesFile, ComesMade, ComesIn, ComesBy, memory_line}
 use Rattle.pi_top.specs.Statuses as whole
 use Rattle.pi_words.specs.Words.{options}
 use Rattle.pi_outside.specs.declared.failed.Failed.{Failed}
@@ -71,6 +71,18 @@ text-status manner text goal queries log status texts (whole.refused line is wri
 text-status manner text goal queries log status texts (whole.ran program of_program asks has) =
     let less = query-status has.headline.ending in omega (arith, less, has.headline.its_status)
 
+printed-status : (text : List ℕ) (queries : List QueryRun) (status : ℕ) (texts : List (List ℕ)) → ComesPrinted text queries status texts → status < 7
+printed-status text queries status texts (whole.faulty fault is written) = omega (arith, written.is_its)
+printed-status text queries status texts (whole.printed program is written) = omega (arith, written.is_its)
+
+of-status : (mode : RunMode) (asked : Options) (text : List ℕ) (queries : List QueryRun) (log : List LogEntry) (status : ℕ) (texts : List (List ℕ)) →
+    ComesOf mode asked text queries log status texts → status < 7
+of-status Query asked text queries log status texts comes = text-status (manner_of asked) text (goal_of asked) queries log status texts comes
+of-status Run asked text queries log status texts comes = text-status (manner_of asked) text (goal_of asked) queries log status texts comes
+of-status Session asked text queries log status texts comes = text-status (manner_of asked) text (goal_of asked) queries log status texts comes
+of-status Print asked text queries log status texts comes = printed-status text queries status texts comes
+of-status Demo asked text queries log status texts comes = text-status (manner_of asked) text (goal_of asked) queries log status texts comes
+
 -- with 7 a read failed, and with each other status none did
 record ReadsTell (files : FaultCount) (status : ℕ) : Type 0 where
   pub below : status < 8
@@ -82,7 +94,7 @@ file-reads : (asked : Options) (held : Option Holding) (files : FaultCount) (rea
 file-reads asked held files reads queries log status texts (whole.read_fault rose fails line) =
     record { below = omega (arith, line.is_its); failed = λ seven. rose; well = λ other. absurd (other line.is_its) }
 file-reads asked held files reads queries log status texts (whole.was_read stands text all_read read comes) =
-    let less = text-status (manner_of asked) text (goal_of asked) queries log status texts comes in
+    let less = of-status asked.mode asked text queries log status texts comes in
     record { below = omega (arith, less); failed = λ seven. absurd (omega (arith, less, seven)); well = λ other. stands }
 
 line-reads : (line : List ℕ) (its : ℕ) (files : FaultCount) (reads : List FileRead) (queries : List QueryRun) (status : ℕ) (texts : List (List ℕ)) → its < 7 →
@@ -104,7 +116,7 @@ in-reads : (mode : RunMode) (asked : Options) (held : Option Holding) (files : F
 in-reads Query asked held files reads queries log status texts comes = file-reads asked held files reads queries log status texts comes
 in-reads Run asked held files reads queries log status texts comes = file-reads asked held files reads queries log status texts comes
 in-reads Session asked held files reads queries log status texts line = line-reads whole.mode_line 3 files reads queries status texts (omega arith) line
-in-reads Print asked held files reads queries log status texts line = line-reads whole.mode_line 3 files reads queries status texts (omega arith) line
+in-reads Print asked held files reads queries log status texts comes = file-reads asked held files reads queries log status texts comes
 in-reads Demo asked held files reads queries log status texts comes = made-reads asked files reads queries log status texts comes
 
 by-reads : (o : Option Options) (held : Option Holding) (files : FaultCount) (reads : List FileRead) (queries : List QueryRun) (log : List LogEntry) (status : ℕ) (texts : List (List ℕ)) →
@@ -133,7 +145,7 @@ cut-in-reads : (mode : RunMode) (asked : Options) (held : Option Holding) (files
 cut-in-reads Query asked held files reads queries log status writes other is = cut-reads asked held files reads queries log status writes other is
 cut-in-reads Run asked held files reads queries log status writes other is = cut-reads asked held files reads queries log status writes other is
 cut-in-reads Session asked held files reads queries log status writes other is = cut-line-reads whole.mode_line files reads queries status writes is
-cut-in-reads Print asked held files reads queries log status writes other is = cut-line-reads whole.mode_line files reads queries status writes is
+cut-in-reads Print asked held files reads queries log status writes other is = cut-reads asked held files reads queries log status writes other is
 cut-in-reads Demo asked held files reads queries log status writes other is = cut-made-reads asked files reads queries log status writes is
 
 cut-by-reads : (o : Option Options) (held : Option Holding) (files : FaultCount) (reads : List FileRead) (queries : List QueryRun) (log : List LogEntry) (status : ℕ) (writes : List SinkWrite) → status ≢ 8 →

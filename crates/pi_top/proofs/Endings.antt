@@ -6,6 +6,7 @@ use Rattle.pi_outside.specs.Writes.{SinkWrite}
 use Rattle.pi_core.specs.CoreTree.{PredTree, QueryTree}
 use Rattle.pi_syntax.specs.ExpTree.{ExpTree}
 use Rattle.pi_syntax.specs.ProgramTree.{ProgramTree}
+use Rattle.pi_canonical.specs.Canonical.{canonical_text}
 use Rattle.pi_top.specs.declared.manner.Manner.{Manner}
 use Rattle.pi_top.specs.declared.outcome.QueryRun.{QueryRun}
 use Rattle.pi_top.specs.declared.query.Stop.{Stop}
@@ -13,21 +14,22 @@ use Rattle.pi_top.specs.declared.query.Stop.TheVariants.{Memory, Write}
 use Rattle.pi_words.specs.declared.run_mode.RunMode.{RunMode}
 use Rattle.pi_words.specs.declared.run_mode.RunMode.TheVariants.{Query, Run, Session, Print, Demo}
 use Rattle.pi_words.specs.declared.asked.Options.{Options}
-use Rattle.pi_top.specs.CutOff.{IsNothing, IsFront, CutText, CutFile, CutMade, CutLine, CutIn, CutBy, running, front_of}
+use Rattle.pi_top.specs.CutOff.{IsNothing, IsFront, CutText, CutPrinted, CutOf, CutFile, CutMade, CutLine, CutIn, CutBy, running, front_of}
 use Rattle.pi_top.specs.CutOff as cut
-use Rattle.pi_top.specs.Ends.{reads_file, ReadsNoFile, AnswersText, AnswersFile, AnswersMade, AnswersBy, status_of_stop}
+use Rattle.pi_top.specs.Ends.{reads_file, ReadsNoFile, AnswersText, AnswersPrinted, AnswersOf, AnswersFile, AnswersMade, AnswersBy, status_of_stop}
 use Rattle.pi_top.specs.Faults.{FaultCount, Stands, Rises}
 use Rattle.pi_top.specs.Handing.{HandsAll}
 use Rattle.pi_top.specs.Headline.{Headline}
+use Rattle.pi_top.specs.FaultLines.{of_program}
 use Rattle.pi_top.specs.Judged.{Refused}
-use Rattle.pi_top.specs.JudgedCode.{IsAsked}
+use Rattle.pi_top.specs.JudgedCode.{IsAsked, IsCanonical, IsFaulty}
 use Rattle.pi_demo.specs.Demo.{demo_program}
 use Rattle.pi_top.specs.Manner.{manner_of, goal_of}
 use Rattle.pi_top.specs.Reading.{ReadsText, FailsReading, StopsReading, nothing as nothing_read}
 use Rattle.pi_top.specs.Running.{HasRun, not_asked, was_asked}
 use Rattle.pi_top.specs.Runs.{HasRan, run_of}
 use Rattle.pi_top.specs.Statuses as whole
-use Rattle.pi_top.specs.Statuses.{IsLine, ComesIn, IsUnread, ran, Written, usage_line, mode_line, read_fault_line}
+use Rattle.pi_top.specs.Statuses.{IsLine, ComesOf, ComesIn, IsUnread, ran, Written, usage_line, mode_line, read_fault_line}
 use Rattle.pi_top.specs.Texts.{IsRead}
 use Rattle.pi_words.specs.Words.{options, places_of}
 use Rattle.pi_top.specs.Writing.{IsCutIn, Writes}
@@ -87,6 +89,48 @@ text-ran manner text goal program q old new (Err stop) writes none is (was_asked
   cut = cut-over-names manner is.source is.asked program q has.ticks (status_of_stop stop) writes is.lowered.runs has.comes;
 })
 
+-- ---- with a text that is printed
+
+pub printed-nothing : (text : List ℕ) (queries : List QueryRun) → queries ≡ [] → CutPrinted text queries 9 []
+printed-nothing text queries none = cut.nothing (is-nothing queries none)
+
+pub printed-faulty : (text line : List ℕ) (queries : List QueryRun) (r : Result ℕ Stop) (writes : List SinkWrite) → IsFaulty text line → queries ≡ [] →
+    IfOk r (λ given. given ≡ 3) → IfErr r (λ stop. stop ≡ Write) → Writes (line ∷ []) r writes → AnswersPrinted text queries r writes
+printed-faulty text line queries (Ok status) writes is none three stops written =
+    widens writes (λ texts comes. whole.faulty is.fault is.is_fault comes) (line-all (of_program is.fault) 3 status queries writes none three (rw is.is at written.all))
+printed-faulty text line queries (Err stop) writes is none three stops written =
+    cut.faulty is.fault is.is_fault (line-front (of_program is.fault) stop queries writes none stops (rw is.is at written.cut))
+
+pub printed-whole : (text shown : List ℕ) (queries : List QueryRun) (r : Result ℕ Stop) (writes : List SinkWrite) → IsCanonical text shown → queries ≡ [] →
+    IfOk r (λ given. given ≡ 0) → IfErr r (λ stop. stop ≡ Write) → Writes (shown ∷ []) r writes → AnswersPrinted text queries r writes
+printed-whole text shown queries (Ok status) writes is none zero stops written =
+    widens writes (λ texts comes. whole.printed is.program is.is_program comes) (line-all (canonical_text is.program) 0 status queries writes none zero (rw is.is at written.all))
+printed-whole text shown queries (Err stop) writes is none zero stops written =
+    cut.printing is.program is.is_program (line-front (canonical_text is.program) stop queries writes none stops (rw is.is at written.cut))
+
+-- ---- with a text, in a mode with a file
+
+text-of : (mode : RunMode) (asked : Options) (text : List ℕ) (queries : List QueryRun) (r : Result ℕ Stop) (writes : List SinkWrite) → (mode ≡ Print → ⊥) →
+    AnswersText (manner_of asked) text (goal_of asked) queries [] r writes → AnswersOf mode asked text queries [] r writes
+text-of Query asked text queries (Ok status) writes other is = is
+text-of Query asked text queries (Err stop) writes other is = is
+text-of Run asked text queries (Ok status) writes other is = is
+text-of Run asked text queries (Err stop) writes other is = is
+text-of Session asked text queries (Ok status) writes other is = is
+text-of Session asked text queries (Err stop) writes other is = is
+text-of Demo asked text queries (Ok status) writes other is = is
+text-of Demo asked text queries (Err stop) writes other is = is
+text-of Print asked text queries r writes other is = absurd (other refl)
+
+pub of-text : (asked : Options) (text : List ℕ) (queries : List QueryRun) (r : Result ℕ Stop) (writes : List SinkWrite) → (asked.mode ≡ Print → ⊥) →
+    AnswersText (manner_of asked) text (goal_of asked) queries [] r writes → AnswersOf asked.mode asked text queries [] r writes
+of-text asked text queries r writes other is = text-of asked.mode asked text queries r writes other is
+
+pub of-printed : (asked : Options) (text : List ℕ) (queries : List QueryRun) (r : Result ℕ Stop) (writes : List SinkWrite) → asked.mode ≡ Print → AnswersPrinted text queries r writes →
+    AnswersOf asked.mode asked text queries [] r writes
+of-printed asked text queries (Ok status) writes in_mode is = rw in_mode is
+of-printed asked text queries (Err stop) writes in_mode is = rw in_mode is
+
 -- ---- with a program that is in a file
 
 pub file-fault : (asked : Options) (held : Option Holding) (files : FaultCount) (queries : List QueryRun) (r : Result ℕ Stop) (reads : List FileRead) (writes : List SinkWrite) → Rises files →
@@ -102,7 +146,7 @@ pub file-nothing : (asked : Options) (held : Option Holding) (files : FaultCount
 file-nothing asked held files queries reads stands some_read none = cut.nothing stands some_read (is-nothing queries none)
 
 pub file-read : (asked : Options) (held : Option Holding) (files : FaultCount) (text : List ℕ) (queries : List QueryRun) (r : Result ℕ Stop) (reads : List FileRead) (writes : List SinkWrite) →
-    Stands files → ReadsText asked.file text reads → IsRead held asked.file text → AnswersText (manner_of asked) text (goal_of asked) queries [] r writes →
+    Stands files → ReadsText asked.file text reads → IsRead held asked.file text → AnswersOf asked.mode asked text queries [] r writes →
     AnswersFile asked held files queries [] r reads writes
 file-read asked held files text queries (Ok status) reads writes stands all_read read ends =
     widens writes (λ texts comes. whole.was_read stands text all_read read comes) ends
@@ -133,7 +177,8 @@ file-in Query asked held files queries (Err stop) reads writes is reads_one ends
 file-in Run asked held files queries (Ok status) reads writes is reads_one ends = subst (λ m. Written (λ texts. ComesIn m asked held files reads queries [] status texts) writes) (sym is) ends
 file-in Run asked held files queries (Err stop) reads writes is reads_one ends = subst (λ m. CutIn m asked held files reads queries [] (status_of_stop stop) writes) (sym is) ends
 file-in Session asked held files queries r reads writes is reads_one ends = absurd cc
-file-in Print asked held files queries r reads writes is reads_one ends = absurd cc
+file-in Print asked held files queries (Ok status) reads writes is reads_one ends = subst (λ m. Written (λ texts. ComesIn m asked held files reads queries [] status texts) writes) (sym is) ends
+file-in Print asked held files queries (Err stop) reads writes is reads_one ends = subst (λ m. CutIn m asked held files reads queries [] (status_of_stop stop) writes) (sym is) ends
 file-in Demo asked held files queries r reads writes is reads_one ends = absurd cc
 
 pub by-file : (words : List (List ℕ)) (asked : Options) (held : Option Holding) (files : FaultCount) (queries : List QueryRun) (r : Result ℕ Stop) (reads : List FileRead) (writes : List SinkWrite) →
@@ -167,7 +212,6 @@ line-unread line its status files queries writes stands none is handed =
 -- the mode isn't built
 abbrev pub IsUnbuilt : RunMode → Type 0
 IsUnbuilt Session = Unit {0}
-IsUnbuilt Print = Unit {0}
 IsUnbuilt other = ⊥
 
 line-in : (mode : RunMode) (asked : Options) (held : Option Holding) (files : FaultCount) (queries : List QueryRun) (r : Result ℕ Stop) (writes : List SinkWrite) →
@@ -176,10 +220,9 @@ line-in : (mode : RunMode) (asked : Options) (held : Option Holding) (files : Fa
 line-in Query asked held files queries r writes is unbuilt stands none three stops written = absurd unbuilt
 line-in Run asked held files queries r writes is unbuilt stands none three stops written = absurd unbuilt
 line-in Demo asked held files queries r writes is unbuilt stands none three stops written = absurd unbuilt
+line-in Print asked held files queries r writes is unbuilt stands none three stops written = absurd unbuilt
 line-in Session asked held files queries (Ok status) writes is unbuilt stands none three stops written = rw is (line-unread mode_line 3 status files queries writes stands none three written.all)
-line-in Print asked held files queries (Ok status) writes is unbuilt stands none three stops written = rw is (line-unread mode_line 3 status files queries writes stands none three written.all)
 line-in Session asked held files queries (Err stop) writes is unbuilt stands none three stops written = rw is (front_of (no-read files stands) (line-front mode_line stop queries writes none stops written.cut))
-line-in Print asked held files queries (Err stop) writes is unbuilt stands none three stops written = rw is (front_of (no-read files stands) (line-front mode_line stop queries writes none stops written.cut))
 
 pub by-mode : (words : List (List ℕ)) (asked : Options) (mode : RunMode) (held : Option Holding) (files : FaultCount) (queries : List QueryRun) (r : Result ℕ Stop) (writes : List SinkWrite) →
     options words ≡ Some asked → asked.mode ≡ mode → IsUnbuilt mode → Stands files → queries ≡ [] → IfOk r (λ given. given ≡ 3) → IfErr r (λ stop. stop ≡ Write) → Writes (mode_line ∷ []) r writes →
@@ -197,9 +240,9 @@ by-usage words held files queries (Err stop) writes is stands none two stops wri
 nothing-in : (mode : RunMode) (asked : Options) (held : Option Holding) (files : FaultCount) (queries : List QueryRun) → Stands files → queries ≡ [] → CutIn mode asked held files [] queries [] 9 []
 nothing-in Query asked held files queries stands none = file-nothing asked held files queries [] stands (record { text = []; read = nothing_read }) none
 nothing-in Run asked held files queries stands none = file-nothing asked held files queries [] stands (record { text = []; read = nothing_read }) none
+nothing-in Print asked held files queries stands none = file-nothing asked held files queries [] stands (record { text = []; read = nothing_read }) none
 nothing-in Demo asked held files queries stands none = made-nothing asked files queries stands none
 nothing-in Session asked held files queries stands none = CutLine.nothing (no-read files stands) (is-nothing queries none)
-nothing-in Print asked held files queries stands none = CutLine.nothing (no-read files stands) (is-nothing queries none)
 
 pub by-nothing : (o : Option Options) (held : Option Holding) (files : FaultCount) (queries : List QueryRun) → Stands files → queries ≡ [] → CutBy o held files [] queries [] 9 []
 by-nothing None held files queries stands none = CutLine.nothing (no-read files stands) (is-nothing queries none)

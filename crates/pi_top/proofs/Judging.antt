@@ -60,7 +60,7 @@ one-token-line o text line other a b =
 
 -- ---- a program
 
-one-program : (o : AreOne) (text : List ℕ) (p q : ProgramTree) → IsProgramText text p → IsProgramText text q → p ≡ q
+pub one-program : (o : AreOne) (text : List ℕ) (p q : ProgramTree) → IsProgramText text p → IsProgramText text q → p ≡ q
 one-program o text p q a b =
     let P : List Token → Type 0 = λ ts. HasVerdict ts (a_program p) in
     let Q : List Token → Type 0 = λ ts. HasVerdict ts (a_program q) in
@@ -69,7 +69,7 @@ one-program o text p q a b =
 program-no-verdict-line : (o : AreOne) (ts : List Token) (p : ProgramTree) (line : List ℕ) → HasVerdict ts (a_program p) → HasVerdictLine ts line → ⊥
 program-no-verdict-line o ts p line a b = none-some line (ap verdict_line (o.verdict ts (a_program p) b.verdict a b.has) ∙ b.is)
 
-program-no-line : (o : AreOne) (text line : List ℕ) (p : ProgramTree) → IsProgramText text p → IsProgramLine text line → ⊥
+pub program-no-line : (o : AreOne) (text line : List ℕ) (p : ProgramTree) → IsProgramText text p → IsProgramLine text line → ⊥
 program-no-line o text line p a (inl b) = tokens-no-line o text line (λ ts. HasVerdict ts (a_program p)) a b
 program-no-line o text line p a (inr b) =
     let P : List Token → Type 0 = λ ts. HasVerdict ts (a_program p) in
@@ -79,7 +79,7 @@ program-no-line o text line p a (inr b) =
 one-verdict-line : (o : AreOne) (ts : List Token) (line other : List ℕ) → HasVerdictLine ts line → HasVerdictLine ts other → line ≡ other
 one-verdict-line o ts line other a b = some-in line other (sym a.is ∙ ap verdict_line (o.verdict ts a.verdict b.verdict a.has b.has) ∙ b.is)
 
-one-program-line : (o : AreOne) (text line other : List ℕ) → IsProgramLine text line → IsProgramLine text other → line ≡ other
+pub one-program-line : (o : AreOne) (text line other : List ℕ) → IsProgramLine text line → IsProgramLine text other → line ≡ other
 one-program-line o text line other (inl a) (inl b) = one-token-line o text line other a b
 one-program-line o text line other (inl a) (inr b) = absurd (tokens-no-line o text line (λ ts. HasVerdictLine ts other) b a)
 one-program-line o text line other (inr a) (inl b) = absurd (tokens-no-line o text other (λ ts. HasVerdictLine ts line) a b)

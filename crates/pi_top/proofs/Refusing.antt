@@ -2,6 +2,7 @@
 use Rattle.std.proofs.Common.{◌≡◌, ◌≢◌, ◌+◌, inr, ℕ, suc, List, [], ◌∷◌, ◌++◌, refl, sym, ap, subst, ◌∙◌, arith}
 use Rattle.pi_syntax.specs.ExpTree.{ExpTree}
 use Rattle.pi_syntax.specs.ProgramTree.{ProgramTree}
+use Rattle.pi_canonical.specs.Canonical.{canonical_text}
 use Rattle.pi_answers.specs.declared.log.LogEntry.{LogEntry}
 use Rattle.pi_traces.specs.Trace.{Done, Raise, Emitted, noted, answered, count_ticks}
 use Rattle.pi_traces.specs.Depth.{Cut, Stop, Ended, Spent}
@@ -11,17 +12,18 @@ use Rattle.pi_names.specs.Stages.{no_stages}
 use Rattle.pi_names.proofs.GrowRules.{no-stages-add, names-runs-are-one}
 use Rattle.pi_top.specs.declared.outcome.QueryRun.{QueryRun}
 use Rattle.pi_top.specs.declared.manner.Manner.{Manner}
+use Rattle.pi_top.specs.FaultLines.{of_program}
 use Rattle.pi_top.specs.Headline.{Headline}
 use Rattle.pi_top.specs.Judged.{Refused, Asks}
 use Rattle.pi_top.specs.Prefix.{IsPrefix}
 use Rattle.pi_top.specs.Printing.{print}
 use Rattle.pi_top.specs.QueryEnd.{QueryEnd, Stopped, NoMore, No, Exception, StepsSpent, status_of, count_answers, EndsWithLast, IsWhole, Ends}
 use Rattle.pi_top.specs.Runs.{HasRan, run_of}
-use Rattle.pi_top.specs.Statuses.{IsLine, ComesText, refused, ran}
+use Rattle.pi_top.specs.Statuses.{IsLine, ComesText, refused, ran, ComesPrinted, faulty, printed}
 use Rattle.pi_top.specs.ToldLines.{end_lines}
 use Rattle.pi_top.proofs.EndingLemmas.{ending-is-one}
 use Rattle.pi_top.proofs.EventLemmas.{answers-append}
-use Rattle.pi_top.proofs.Judging.{AreOne, one-line, not-both, one-asked}
+use Rattle.pi_top.proofs.Judging.{AreOne, one-line, not-both, one-asked, one-program, one-program-line, program-no-line}
 
 no-three : (ending : QueryEnd) → status_of ending ≢ 3
 no-three Stopped e = absurd (omega (arith, e))
@@ -166,3 +168,22 @@ one-outcome o manner text goal texts more queries runs log status other (ran p e
 one-outcome o manner text goal texts more queries runs log status other (ran p e asks a) (ran q f ask b) =
     let same : (q ≡ p) × (f ≡ e) = one-asked o text goal q p f e ask.faultless asks.faultless in
     one-ran manner log p q e f queries runs status other texts more same.0 same.1 a b
+
+-- ---- one print
+
+one-text : (text other : List ℕ) (its another status more : ℕ) (queries runs : List QueryRun) (texts others : List (List ℕ)) → text ≡ other → its ≡ another →
+    IsLine text its status queries texts → IsLine other another more runs others → AreOneOutcome queries runs status more texts others
+one-text text other its another status more queries runs texts others same its_same a b = record {
+  same_queries = a.none_ran ∙ sym b.none_ran;
+  same_status = a.is_its ∙ its_same ∙ sym b.is_its;
+  same_texts = a.written ∙ ap (λ (l : List ℕ). l ∷ []) same ∙ sym b.written;
+}
+
+pub one-printed : (o : AreOne) (text : List ℕ) (queries runs : List QueryRun) (status other : ℕ) (texts more : List (List ℕ)) → ComesPrinted text queries status texts → ComesPrinted text runs other more →
+    AreOneOutcome queries runs status other texts more
+one-printed o text queries runs status other texts more (faulty x a is) (faulty y b is') =
+    one-text (of_program x) (of_program y) 3 3 status other queries runs texts more (ap of_program (one-program-line o text x y a b)) refl is is'
+one-printed o text queries runs status other texts more (faulty x a is) (printed q b is') = absurd (program-no-line o text x q b a)
+one-printed o text queries runs status other texts more (printed p a is) (faulty y b is') = absurd (program-no-line o text y p a b)
+one-printed o text queries runs status other texts more (printed p a is) (printed q b is') =
+    one-text (canonical_text p) (canonical_text q) 0 0 status other queries runs texts more (ap canonical_text (one-program o text p q a b)) refl is is'

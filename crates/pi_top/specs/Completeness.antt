@@ -1,19 +1,20 @@
--- Completeness: where nothing fails, a goal that is asked is run to an end of its own, or memory is wanted.
+-- Completeness: where nothing fails, a goal that is asked is run to an end of its own, a program that is printed is printed whole, or memory is wanted.
 use Rattle.std.specs.Prelude.{◌≡◌, ◌≢◌, ◌⊎◌, ℕ, List, Option, Some}
 use Rattle.pi_outside.specs.Held.{Holding}
 use Rattle.pi_outside.specs.Writes.{SinkWrite}
 use Rattle.pi_syntax.specs.ExpTree.{ExpTree}
 use Rattle.pi_syntax.specs.ProgramTree.{ProgramTree}
+use Rattle.pi_canonical.specs.Canonical.{canonical_text}
 use Rattle.pi_answers.specs.declared.log.LogEntry.{LogEntry}
 use Rattle.pi_top.specs.declared.outcome.QueryRun.{QueryRun}
 use Rattle.pi_words.specs.declared.run_mode.RunMode.{RunMode}
-use Rattle.pi_words.specs.declared.run_mode.RunMode.TheVariants.{Demo}
+use Rattle.pi_words.specs.declared.run_mode.RunMode.TheVariants.{Print, Demo}
 use Rattle.pi_words.specs.declared.asked.Options.{Options}
 use Rattle.pi_top.specs.Faults.{FaultCount, Rises}
-use Rattle.pi_top.specs.Judged.{Asks}
+use Rattle.pi_top.specs.Judged.{IsProgramText, Asks}
 use Rattle.pi_top.specs.Manner.{manner_of, goal_of}
 use Rattle.pi_top.specs.Runs.{HasRan}
-use Rattle.pi_top.specs.Statuses.{Written}
+use Rattle.pi_top.specs.Statuses.{IsLine, Written}
 use Rattle.pi_top.specs.Texts.{IsRead}
 use Rattle.pi_words.specs.Words.{options, places_of}
 use Rattle.pi_demo.specs.Demo.{demo_program}
@@ -39,5 +40,18 @@ pub record IsComplete (asked : Options) (held : Option Holding) (queries : List 
   pub asks : Asks text (goal_of asked) program of_program
   pub ran : Written (HasRan (manner_of asked) program of_program log queries status) writes
 
+-- the program was printed whole: its status is 0
+pub record IsPrinted (asked : Options) (held : Option Holding) (queries : List QueryRun) (status : ℕ) (writes : List SinkWrite) : Type 0 where
+  pub text : List ℕ
+  pub is_text : IsRead held asked.file text
+  pub program : ProgramTree
+  pub is_program : IsProgramText text program
+  pub printed : Written (IsLine (canonical_text program) 0 status queries) writes
+
+-- in a mode
+abbrev pub CompletesIn : RunMode → Options → Option Holding → List QueryRun → List LogEntry → ℕ → List SinkWrite → Type 0
+CompletesIn Print asked held queries log status writes = IsPrinted asked held queries status writes
+CompletesIn other asked held queries log status writes = IsComplete asked held queries log status writes
+
 abbrev pub Completes : Options → Option Holding → List QueryRun → List LogEntry → ℕ → List SinkWrite → Type 0
-Completes asked held queries log status writes = (status ≡ 9) ⊎ IsComplete asked held queries log status writes
+Completes asked held queries log status writes = (status ≡ 9) ⊎ CompletesIn asked.mode asked held queries log status writes

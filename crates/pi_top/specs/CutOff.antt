@@ -5,17 +5,19 @@ use Rattle.pi_outside.specs.Reads.{FileRead}
 use Rattle.pi_outside.specs.Writes.{SinkWrite}
 use Rattle.pi_syntax.specs.ExpTree.{ExpTree}
 use Rattle.pi_syntax.specs.ProgramTree.{ProgramTree}
+use Rattle.pi_canonical.specs.Canonical.{canonical_text}
 use Rattle.pi_answers.specs.declared.log.LogEntry.{LogEntry}
 use Rattle.pi_top.specs.declared.outcome.QueryRun.{QueryRun}
 use Rattle.pi_words.specs.declared.run_mode.RunMode.{RunMode}
-use Rattle.pi_words.specs.declared.run_mode.RunMode.TheVariants.{Query, Run, Demo}
+use Rattle.pi_words.specs.declared.run_mode.RunMode.TheVariants.{Query, Run, Print, Demo}
 use Rattle.pi_words.specs.declared.asked.Options.{Options}
 use Rattle.pi_words.specs.Words.{places_of}
 use Rattle.pi_demo.specs.Demo.{demo_program}
 use Rattle.pi_top.specs.declared.manner.Manner.{Manner}
 use Rattle.pi_top.specs.Faults.{FaultCount, Stands, Rises}
+use Rattle.pi_top.specs.FaultLines.{of_program}
 use Rattle.pi_top.specs.Handing.{FailsIn}
-use Rattle.pi_top.specs.Judged.{Refused, Asks}
+use Rattle.pi_top.specs.Judged.{IsProgramLine, IsProgramText, Refused, Asks}
 use Rattle.pi_top.specs.Manner.{manner_of, goal_of}
 use Rattle.pi_top.specs.Reading.{ReadsText, FailsReading, StopsReading}
 use Rattle.pi_top.specs.Runs.{WasCutOff}
@@ -28,7 +30,7 @@ pub record IsNothing (queries : List QueryRun) (status : ℕ) (writes : List Sin
   pub none_asked : queries ≡ []
   pub nothing : writes ≡ []
 
--- the write of a line failed, before which nothing was written, and no goal is listed
+-- the write of a line, or of a text, failed, before which nothing was written, and no goal is listed
 pub record IsFront (line : List ℕ) (queries : List QueryRun) (status : ℕ) (writes : List SinkWrite) : Type 0 where
   pub write : status ≡ 8
   pub none_asked : queries ≡ []
@@ -41,11 +43,22 @@ pub data CutText (manner : Manner) (text goal : List ℕ) (queries : List QueryR
   running : (program : ProgramTree) (of_program : ExpTree) → Asks text goal program of_program →
       WasCutOff manner program of_program log queries status writes → CutText manner text goal queries log status writes
 
+-- with a program's text that is printed
+pub data CutPrinted (text : List ℕ) (queries : List QueryRun) (status : ℕ) (writes : List SinkWrite) : Type 0 where
+  nothing : IsNothing queries status writes → CutPrinted text queries status writes
+  faulty : (fault : List ℕ) → IsProgramLine text fault → IsFront (of_program fault) queries status writes → CutPrinted text queries status writes
+  printing : (program : ProgramTree) → IsProgramText text program → IsFront (canonical_text program) queries status writes → CutPrinted text queries status writes
+
+-- with a program's text, in a mode with a file
+abbrev pub CutOf : RunMode → Options → List ℕ → List QueryRun → List LogEntry → ℕ → List SinkWrite → Type 0
+CutOf Print asked text queries log status writes = CutPrinted text queries status writes
+CutOf other asked text queries log status writes = CutText (manner_of asked) text (goal_of asked) queries log status writes
+
 -- with a program that is in a file
 pub data CutFile (asked : Options) (held : Option Holding) (files : FaultCount) (reads : List FileRead) (queries : List QueryRun) (log : List LogEntry) (status : ℕ) (writes : List SinkWrite) : Type 0 where
   nothing : Stands files → StopsReading asked.file reads → IsNothing queries status writes → CutFile asked held files reads queries log status writes
   read_fault : Rises files → FailsReading asked.file reads → IsFront read_fault_line queries status writes → CutFile asked held files reads queries log status writes
-  was_read : Stands files → (text : List ℕ) → ReadsText asked.file text reads → IsRead held asked.file text → CutText (manner_of asked) text (goal_of asked) queries log status writes →
+  was_read : Stands files → (text : List ℕ) → ReadsText asked.file text reads → IsRead held asked.file text → CutOf asked.mode asked text queries log status writes →
       CutFile asked held files reads queries log status writes
 
 -- with a program that is made of a number
@@ -63,6 +76,7 @@ pub data CutLine (line : List ℕ) (files : FaultCount) (reads : List FileRead) 
 abbrev pub CutIn : RunMode → Options → Option Holding → FaultCount → List FileRead → List QueryRun → List LogEntry → ℕ → List SinkWrite → Type 0
 CutIn Query asked held files reads queries log status writes = CutFile asked held files reads queries log status writes
 CutIn Run asked held files reads queries log status writes = CutFile asked held files reads queries log status writes
+CutIn Print asked held files reads queries log status writes = CutFile asked held files reads queries log status writes
 CutIn Demo asked held files reads queries log status writes = CutMade asked files reads queries log status writes
 CutIn other asked held files reads queries log status writes = CutLine mode_line files reads queries status writes
 

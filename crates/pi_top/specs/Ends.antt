@@ -8,13 +8,13 @@ use Rattle.pi_top.specs.declared.outcome.QueryRun.{QueryRun}
 use Rattle.pi_top.specs.declared.query.Stop.{Stop}
 use Rattle.pi_top.specs.declared.query.Stop.TheVariants.{Memory, Write}
 use Rattle.pi_words.specs.declared.run_mode.RunMode.{RunMode}
-use Rattle.pi_words.specs.declared.run_mode.RunMode.TheVariants.{Query, Run}
+use Rattle.pi_words.specs.declared.run_mode.RunMode.TheVariants.{Query, Run, Print}
 use Rattle.pi_words.specs.declared.asked.Options.{Options}
 use Rattle.pi_top.specs.declared.manner.Manner.{Manner}
-use Rattle.pi_top.specs.CutOff.{CutText, CutFile, CutMade, CutBy}
+use Rattle.pi_top.specs.CutOff.{CutText, CutPrinted, CutOf, CutFile, CutMade, CutBy}
 use Rattle.pi_top.specs.Faults.{FaultCount, Stands, Rises}
 use Rattle.pi_top.specs.Handing.{Hands, Fails}
-use Rattle.pi_top.specs.Statuses.{ComesText, ComesFile, ComesMade, ComesBy, Written, memory_line}
+use Rattle.pi_top.specs.Statuses.{ComesText, ComesPrinted, ComesOf, ComesFile, ComesMade, ComesBy, Written, memory_line}
 use Rattle.pi_words.specs.Words.{options}
 
 -- the line on want of memory was written, or its write failed and a front of it was
@@ -35,6 +35,7 @@ pub data Ends (words : List (List ℕ)) (held : Option Holding) (queries : List 
 abbrev pub reads_file : RunMode → Bool
 reads_file Query = true
 reads_file Run = true
+reads_file Print = true
 reads_file other = false
 
 -- what the words ask reads no file
@@ -52,6 +53,14 @@ status_of_stop Memory = 9
 abbrev pub AnswersText : Manner → List ℕ → List ℕ → List QueryRun → List LogEntry → Result ℕ Stop → List SinkWrite → Type 0
 AnswersText manner text goal queries log (Ok status) writes = Written (ComesText manner text goal queries log status) writes
 AnswersText manner text goal queries log (Err stop) writes = CutText manner text goal queries log (status_of_stop stop) writes
+
+abbrev pub AnswersPrinted : List ℕ → List QueryRun → Result ℕ Stop → List SinkWrite → Type 0
+AnswersPrinted text queries (Ok status) writes = Written (ComesPrinted text queries status) writes
+AnswersPrinted text queries (Err stop) writes = CutPrinted text queries (status_of_stop stop) writes
+
+abbrev pub AnswersOf : RunMode → Options → List ℕ → List QueryRun → List LogEntry → Result ℕ Stop → List SinkWrite → Type 0
+AnswersOf mode asked text queries log (Ok status) writes = Written (ComesOf mode asked text queries log status) writes
+AnswersOf mode asked text queries log (Err stop) writes = CutOf mode asked text queries log (status_of_stop stop) writes
 
 abbrev pub AnswersFile : Options → Option Holding → FaultCount → List QueryRun → List LogEntry → Result ℕ Stop → List FileRead → List SinkWrite → Type 0
 AnswersFile asked held files queries log (Ok status) reads writes = Written (ComesFile asked held files reads queries log status) writes

@@ -1,13 +1,16 @@
 -- What the answers on a program's text and a goal's say of them.
-use Rattle.std.specs.Prelude.{ℕ, List}
+use Rattle.std.specs.Prelude.{◌≡◌, ℕ, List}
 use Rattle.std.specs.String.{string_bytes}
+use Rattle.pi_canonical.specs.Canonical.{canonical_text}
 use Rattle.pi_core.specs.CoreTree.{PredTree, QueryTree, program_tree, query_tree}
 use Rattle.pi_syntax.specs.ExpTree.{ExpTree}
 use Rattle.pi_syntax.specs.ProgramTree.{ProgramTree}
 use Rattle.pi_rewrite.specs.Laws.{IsLowered}
 use Rattle.pi_top.specs.declared.judgement.Judged.{Judged}
 use Rattle.pi_top.specs.declared.judgement.Refusal.{Refusal}
-use Rattle.pi_top.specs.Judged.{IsProgramLine, IsGoalLine, Refused, Asks}
+use Rattle.pi_top.specs.declared.printing.Printed.{Printed}
+use Rattle.pi_top.specs.FaultLines.{of_program}
+use Rattle.pi_top.specs.Judged.{IsProgramText, IsProgramLine, IsGoalLine, Refused, Asks}
 
 -- What is run of a program's text and a goal's: neither has a fault, all of both is built, and a program and a query of the core
 -- language mean over their slots what this program, with the prelude in front, and this goal do over names.
@@ -31,3 +34,20 @@ ShowsProgramLine text Refusal.Memory = Unit {0}
 abbrev pub ShowsGoalLine : List ℕ → ProgramTree → Refusal → Type 0
 ShowsGoalLine text program (Refusal.Line line) = IsGoalLine text program (string_bytes line)
 ShowsGoalLine text program Refusal.Memory = Unit {0}
+
+-- a text is this program, whose canonical text this is
+pub record IsCanonical (text whole : List ℕ) : Type 0 where
+  pub program : ProgramTree
+  pub is_program : IsProgramText text program
+  pub is : whole ≡ canonical_text program
+
+-- a program's text has a fault, whose whole line this is
+pub record IsFaulty (text line : List ℕ) : Type 0 where
+  pub fault : List ℕ
+  pub is_fault : IsProgramLine text fault
+  pub is : line ≡ of_program fault
+
+-- of a program's text that is printed
+abbrev pub ShowsPrinted : List ℕ → Printed → Type 0
+ShowsPrinted text (Printed.Canonical whole) = IsCanonical text whole
+ShowsPrinted text (Printed.Refused line) = IsFaulty text (string_bytes line)

@@ -6,17 +6,19 @@ use Rattle.pi_outside.specs.Reads.{FileRead}
 use Rattle.pi_outside.specs.Writes.{SinkWrite}
 use Rattle.pi_syntax.specs.ExpTree.{ExpTree}
 use Rattle.pi_syntax.specs.ProgramTree.{ProgramTree}
+use Rattle.pi_canonical.specs.Canonical.{canonical_text}
 use Rattle.pi_answers.specs.declared.log.LogEntry.{LogEntry}
 use Rattle.pi_top.specs.declared.outcome.QueryRun.{QueryRun}
 use Rattle.pi_words.specs.declared.run_mode.RunMode.{RunMode}
-use Rattle.pi_words.specs.declared.run_mode.RunMode.TheVariants.{Query, Run, Demo}
+use Rattle.pi_words.specs.declared.run_mode.RunMode.TheVariants.{Query, Run, Print, Demo}
 use Rattle.pi_words.specs.declared.asked.Options.{Options}
 use Rattle.pi_words.specs.Words.{places_of}
 use Rattle.pi_demo.specs.Demo.{demo_program}
 use Rattle.pi_top.specs.declared.manner.Manner.{Manner}
 use Rattle.pi_top.specs.Faults.{FaultCount, Stands, Rises}
+use Rattle.pi_top.specs.FaultLines.{of_program}
 use Rattle.pi_top.specs.Handing.{HandsAll}
-use Rattle.pi_top.specs.Judged.{Refused, Asks}
+use Rattle.pi_top.specs.Judged.{IsProgramLine, IsProgramText, Refused, Asks}
 use Rattle.pi_top.specs.Manner.{manner_of, goal_of}
 use Rattle.pi_top.specs.Reading.{ReadsText, FailsReading}
 use Rattle.pi_top.specs.Runs.{HasRan}
@@ -34,7 +36,7 @@ read_fault_line = codes "read fault\n"
 abbrev pub memory_line : List ℕ
 memory_line = codes "want of memory\n"
 
--- this line is all that is written, this is its status, and no goal was run
+-- this line, or this text, is all that is written, this is its status, and no goal was run
 pub record IsLine (line : List ℕ) (its status : ℕ) (queries : List QueryRun) (texts : List (List ℕ)) : Type 0 where
   pub is_its : status ≡ its
   pub none_ran : queries ≡ []
@@ -46,10 +48,20 @@ pub data ComesText (manner : Manner) (text goal : List ℕ) (queries : List Quer
   ran : (program : ProgramTree) (of_program : ExpTree) → Asks text goal program of_program →
       HasRan manner program of_program log queries status texts → ComesText manner text goal queries log status texts
 
+-- with a program's text that is printed: the line of its fault, or the canonical text of the program that it is
+pub data ComesPrinted (text : List ℕ) (queries : List QueryRun) (status : ℕ) (texts : List (List ℕ)) : Type 0 where
+  faulty : (fault : List ℕ) → IsProgramLine text fault → IsLine (of_program fault) 3 status queries texts → ComesPrinted text queries status texts
+  printed : (program : ProgramTree) → IsProgramText text program → IsLine (canonical_text program) 0 status queries texts → ComesPrinted text queries status texts
+
+-- with a program's text, in a mode with a file
+abbrev pub ComesOf : RunMode → Options → List ℕ → List QueryRun → List LogEntry → ℕ → List (List ℕ) → Type 0
+ComesOf Print asked text queries log status texts = ComesPrinted text queries status texts
+ComesOf other asked text queries log status texts = ComesText (manner_of asked) text (goal_of asked) queries log status texts
+
 -- with a program that is in a file: a read of it failed, and was the last, or its text was read and none failed
 pub data ComesFile (asked : Options) (held : Option Holding) (files : FaultCount) (reads : List FileRead) (queries : List QueryRun) (log : List LogEntry) (status : ℕ) (texts : List (List ℕ)) : Type 0 where
   read_fault : Rises files → FailsReading asked.file reads → IsLine read_fault_line 7 status queries texts → ComesFile asked held files reads queries log status texts
-  was_read : Stands files → (text : List ℕ) → ReadsText asked.file text reads → IsRead held asked.file text → ComesText (manner_of asked) text (goal_of asked) queries log status texts →
+  was_read : Stands files → (text : List ℕ) → ReadsText asked.file text reads → IsRead held asked.file text → ComesOf asked.mode asked text queries log status texts →
       ComesFile asked held files reads queries log status texts
 
 -- no file was read
@@ -69,10 +81,11 @@ pub record IsLineUnread (line : List ℕ) (its : ℕ) (files : FaultCount) (read
   pub unread : IsUnread files reads
   pub is : IsLine line its status queries texts
 
--- in a mode; `session` and `print` aren't built
+-- in a mode; `session` isn't built
 abbrev pub ComesIn : RunMode → Options → Option Holding → FaultCount → List FileRead → List QueryRun → List LogEntry → ℕ → List (List ℕ) → Type 0
 ComesIn Query asked held files reads queries log status texts = ComesFile asked held files reads queries log status texts
 ComesIn Run asked held files reads queries log status texts = ComesFile asked held files reads queries log status texts
+ComesIn Print asked held files reads queries log status texts = ComesFile asked held files reads queries log status texts
 ComesIn Demo asked held files reads queries log status texts = ComesMade asked files reads queries log status texts
 ComesIn other asked held files reads queries log status texts = IsLineUnread mode_line 3 files reads queries status texts
 

@@ -77,7 +77,7 @@ fn lowered(alloc: Global, program: &Program, goal: &Goal) -> Result<Judged, Allo
 }
 
 /// The program that a text is.
-fn program_of(alloc: Global, text: &[u8]) -> Result<Program, Refusal>
+pub(crate) fn program_of(alloc: Global, text: &[u8]) -> Result<Program, Refusal>
     ensures program { IfOk result (λ program. IsProgramText text.now (source_tree program)) }
     ensures line { IfErr result (ShowsProgramLine text.now) }
 {

@@ -10,7 +10,7 @@ ghost use Rattle.pi_top.specs.declared.manner.Manner.{Manner};
 ghost use Rattle.pi_top.specs.declared.outcome.QueryRun.{QueryRun};
 ghost use Rattle.pi_top.specs.Judged.{Refused, Asks, AreFaultless};
 ghost use Rattle.pi_top.specs.QueryEnd.{EndingIsOne};
-ghost use Rattle.pi_top.specs.Statuses.{IsLine, ComesText};
+ghost use Rattle.pi_top.specs.Statuses.{IsLine, ComesText, ComesPrinted};
 
 use pi_lex::one_reading;
 use pi_prog::one_verdict;
@@ -28,7 +28,7 @@ pub fn judgements_are_one()
 
 /// No two endings fit one part of one run. Where a goal is asked 3 comes exactly where the texts come to a line, and this line is then
 /// all that is written. And where neither a read nor a write fails and memory isn't wanted, the two texts, the manner of asking and the log
-/// decide the status, the goals that were run with their Ticks, and the texts that are written.
+/// decide the status, the goals that were run with their Ticks, and the texts that are written; and so does a program's text where it is printed.
 pub fn outcomes_are_one()
     ensures endings { EndingIsOne }
     ensures refused { (manner : Manner) (text goal line : List ℕ) (texts : List (List ℕ)) (queries : List QueryRun) (log : List LogEntry) (status : ℕ)
@@ -41,6 +41,8 @@ pub fn outcomes_are_one()
         → ComesText manner text goal queries log status texts → ComesText manner text goal runs log other others → queries ≡ runs }
     ensures texts { (manner : Manner) (text goal : List ℕ) (texts others : List (List ℕ)) (queries runs : List QueryRun) (log : List LogEntry) (status other : ℕ)
         → ComesText manner text goal queries log status texts → ComesText manner text goal runs log other others → texts ≡ others }
+    ensures printed { (text : List ℕ) (texts others : List (List ℕ)) (queries runs : List QueryRun) (status other : ℕ)
+        → ComesPrinted text queries status texts → ComesPrinted text runs other others → (queries ≡ runs) × (status ≡ other) × (texts ≡ others) }
 {
     one_reading();
     one_verdict();

@@ -8,6 +8,7 @@ pub mod laws;
 mod lines;
 mod manner;
 mod outcome;
+mod printing;
 mod query;
 mod top;
 

@@ -18,6 +18,7 @@ use crate::judgement::{Judged, judge};
 use crate::lines::{MEMORY, MODE_NOT_BUILT, READ_FAULT, USAGE, write_text};
 use crate::manner::{Manner, goal_of};
 use crate::outcome::{Outcome, Queries};
+use crate::printing::print_text;
 use crate::query::{Stop, ended, run_query};
 use pi_demo::demo_text;
 use pi_outside::{Files, Sink, Source};
@@ -103,13 +104,13 @@ fn answered<F: Files, O: Sink>(
     match asked.mode {
         RunMode::Query => asked_of_file(alloc, &asked, files, out, queries),
         RunMode::Run => asked_of_file(alloc, &asked, files, out, queries),
+        RunMode::Print => asked_of_file(alloc, &asked, files, out, queries),
         RunMode::Demo => asked_of_demo(alloc, &asked, out, queries),
         RunMode::Session => ended(out, MODE_NOT_BUILT, 3),
-        RunMode::Print => ended(out, MODE_NOT_BUILT, 3),
     }
 }
 
-/// Asks a goal of the program in a file.
+/// Asks a goal of the program in a file, or prints it.
 fn asked_of_file<F: Files, O: Sink>(
     alloc: Global,
     asked: &Options,
@@ -129,7 +130,10 @@ fn asked_of_file<F: Files, O: Sink>(
         Err(FileStop::Fault) => return ended(out, READ_FAULT, 7),
         Err(FileStop::Memory) => return Err(Stop::Memory),
     };
-    asked_of_text(alloc, text.as_slice(), asked, out, queries)
+    match asked.mode {
+        RunMode::Print => print_text(alloc, text.as_slice(), out),
+        _ => asked_of_text(alloc, text.as_slice(), asked, out, queries),
+    }
 }
 
 /// Asks a goal of the program that is made of a number.

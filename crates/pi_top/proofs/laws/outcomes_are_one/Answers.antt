@@ -1,6 +1,6 @@
 use Rattle.pi_top.proofs.EndingLemmas.{ending-is-one}
 use Rattle.pi_top.proofs.Judging.{AreOne}
-use Rattle.pi_top.proofs.Refusing.{refused-written, asked-run, one-outcome}
+use Rattle.pi_top.proofs.Refusing.{refused-written, asked-run, one-outcome, one-printed}
 use Rattle.pi_top.proofs.laws.outcomes_are_one.Goals as goal
 
 pub returns : goal.returns
@@ -12,5 +12,6 @@ returns c =
       run = asked-run o;
       status = λ asked text goal texts more queries runs log status other a b. (one-outcome o asked text goal texts more queries runs log status other a b).same_status;
       queries = λ asked text goal texts more queries runs log status other a b. (one-outcome o asked text goal texts more queries runs log status other a b).same_queries;
+      printed = λ text texts more queries runs status other a b. let is = one-printed o text queries runs status other texts more a b in (is.same_queries, is.same_status, is.same_texts);
       texts = λ asked text goal texts more queries runs log status other a b. (one-outcome o asked text goal texts more queries runs log status other a b).same_texts;
     }

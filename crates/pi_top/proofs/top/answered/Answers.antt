@@ -46,6 +46,18 @@ returns-in-Run-clause-answers g c =
     by-file words c.in-Ok.asked (g.F.Files.held run.new.files) files run.new.queries run.result reads writes c.in-Ok.ensures.ok Run c.in-Run.is refl
     (answers (some-answer words c.in-Ok.asked c.in-Ok.ensures.ok) none)))
 
+pub returns-in-Print-clause-unread : goal.returns-in-Print-clause-unread
+returns-in-Print-clause-unread g c = λ none. absurd (no-unread (map string_bytes c.args.words.now) c.in-Ok.asked Print c.in-Ok.ensures.ok c.in-Print.is refl none)
+
+pub returns-in-Print-clause-answers : goal.returns-in-Print-clause-answers
+returns-in-Print-clause-answers g c =
+    let words = map string_bytes c.args.words.now in
+    let run = c.asked_of_file-in-Print in
+    let files = counted (g.F.Files.faults c.args.files.now) (g.F.Files.faults run.new.files) in
+    ByReads-so run.ensures.answers (λ reads by. ByWrites-so by (λ writes answers. λ none.
+    by-file words c.in-Ok.asked (g.F.Files.held run.new.files) files run.new.queries run.result reads writes c.in-Ok.ensures.ok Print c.in-Print.is refl
+    (answers (some-answer words c.in-Ok.asked c.in-Ok.ensures.ok) none)))
+
 pub returns-in-Demo-clause-answers : goal.returns-in-Demo-clause-answers
 returns-in-Demo-clause-answers g c =
     let words = map string_bytes c.args.words.now in
@@ -54,18 +66,10 @@ returns-in-Demo-clause-answers g c =
     by-demo words c.in-Ok.asked (g.F.Files.held c.args.files.now) files c.asked_of_demo.new.queries c.asked_of_demo.result writes c.in-Ok.ensures.ok c.in-Demo.is
     (answers (some-answer words c.in-Ok.asked c.in-Ok.ensures.ok) (demo-places words c.in-Ok.asked c.in-Ok.ensures.ok c.in-Demo.is) none files refl)))
 
-pub returns-in-Session-clause-answers : goal.returns-in-Session-clause-answers
-returns-in-Session-clause-answers g c =
+pub returns-clause-answers : goal.returns-clause-answers
+returns-clause-answers g c =
     let files = counted (g.F.Files.faults c.args.files.now) (g.F.Files.faults c.args.files.now) in
     let ended = c.ended-in-Session in
     ByReads-none g.F.Files.has_read c.args.files.now _ (ByWrites-so ended.ensures.told (λ writes told. λ none.
     by-mode (map string_bytes c.args.words.now) c.in-Ok.asked Session (g.F.Files.held c.args.files.now) files c.args.queries.now ended.result writes c.in-Ok.ensures.ok c.in-Session.is tt refl none
-    ended.ensures.status ended.ensures.stops told))
-
-pub returns-clause-answers : goal.returns-clause-answers
-returns-clause-answers g c =
-    let files = counted (g.F.Files.faults c.args.files.now) (g.F.Files.faults c.args.files.now) in
-    let ended = c.ended-in-Print in
-    ByReads-none g.F.Files.has_read c.args.files.now _ (ByWrites-so ended.ensures.told (λ writes told. λ none.
-    by-mode (map string_bytes c.args.words.now) c.in-Ok.asked Print (g.F.Files.held c.args.files.now) files c.args.queries.now ended.result writes c.in-Ok.ensures.ok c.in-Print.is tt refl none
     ended.ensures.status ended.ensures.stops told))
