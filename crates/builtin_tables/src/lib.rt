@@ -7,9 +7,10 @@ use pi_cases::Case;
 
 /// Answers a case of calls, and tells whether the subject is one.
 pub fn answer_words(subject: &str, case: &mut Case<'_>) -> bool {
-    let is_calls = subject == "calls";
-    if is_calls {
-        calls::answer(case);
+    match subject {
+        "calls" => calls::answer(case),
+        "greatest_calls" => calls::answer_copying(case),
+        _ => return false,
     }
-    is_calls
+    true
 }
