@@ -28,14 +28,14 @@ pub(crate) fn print_text<O: Sink>(alloc: Global, text: &[u8], out: &mut O) -> Re
     ensures no_read { IfOk result (λ status. status < 7) }
     ensures answers { ByWrites O.wrote O.taken out.old out.new (λ writes. (queries : List QueryRun) → queries ≡ [] → AnswersPrinted text.now queries result writes) }
 {
-    match printed(alloc, text)? {
+    match canonical_of(alloc, text)? {
         Printed::Canonical(whole) => ended(out, whole.as_str(), 0),
         Printed::Refused(line) => ended(out, line.as_str(), 3),
     }
 }
 
 /// What a program's text is printed as.
-fn printed(alloc: Global, text: &[u8]) -> Result<Printed, AllocError>
+fn canonical_of(alloc: Global, text: &[u8]) -> Result<Printed, AllocError>
     ensures { IfOk result (ShowsPrinted text.now) }
 {
     match program_of(alloc, text) {

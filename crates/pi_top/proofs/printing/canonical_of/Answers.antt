@@ -3,7 +3,7 @@ use Rattle.std.specs.String.{string_bytes}
 use Rattle.pi_syntax.specs.ProgramTree.{source_tree}
 use Rattle.pi_top.specs.FaultLines.{of_program}
 use Rattle.pi_top.specs.Judged.{IsProgramLine}
-use Rattle.pi_top.proofs.printing.printed.Goals as goal
+use Rattle.pi_top.proofs.printing.canonical_of.Goals as goal
 
 pub returns-in-Ok : goal.returns-in-Ok
 returns-in-Ok c = record { program = source_tree c.in-Ok.program; is_program = c.in-Ok.ensures.program; is = c.in_ok-program_text.ensures.ok }
