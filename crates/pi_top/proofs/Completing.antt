@@ -53,7 +53,7 @@ file-complete : (mode : RunMode) (asked : Options) (held : Option Holding) (file
     (Rises files → ⊥) → reads_file mode ≡ true → HandsAll texts writes → ComesFile asked held files reads queries log status texts → CompletesIn mode asked held queries log status writes
 file-complete mode asked held files reads queries log status texts writes is sound whole reads_one handed (read_fault rose fails line) = absurd (whole rose)
 file-complete mode asked held files reads queries log status texts writes is sound whole reads_one handed (was_read stands text all_read is_read comes) =
-    of-complete mode asked held text queries log status texts writes is sound reads_one is_read handed (rw is at comes)
+    of-complete mode asked held text queries log status texts writes is sound reads_one is_read handed (subst (λ m. ComesOf m asked text queries log status texts) is comes)
 
 -- a text that is read is the program's in a mode with a file
 in-complete : (mode : RunMode) (asked : Options) (held : Option Holding) (files : FaultCount) (reads : List FileRead) (queries : List QueryRun) (log : List LogEntry) (status : ℕ) (texts : List (List ℕ)) (writes : List SinkWrite) →

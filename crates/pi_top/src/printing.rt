@@ -28,7 +28,8 @@ pub(crate) fn print_text<O: Sink>(alloc: Global, text: &[u8], out: &mut O) -> Re
     ensures no_read { IfOk result (λ status. status < 7) }
     ensures answers { ByWrites O.wrote O.taken out.old out.new (λ writes. (queries : List QueryRun) → queries ≡ [] → AnswersPrinted text.now queries result writes) }
 {
-    match canonical_of(alloc, text)? {
+    let printed = canonical_of(alloc, text)?;
+    match printed {
         Printed::Canonical(whole) => ended(out, whole.as_str(), 0),
         Printed::Refused(line) => ended(out, line.as_str(), 3),
     }
@@ -38,9 +39,11 @@ pub(crate) fn print_text<O: Sink>(alloc: Global, text: &[u8], out: &mut O) -> Re
 fn canonical_of(alloc: Global, text: &[u8]) -> Result<Printed, AllocError>
     ensures { IfOk result (ShowsPrinted text.now) }
 {
-    match program_of(alloc, text) {
-        Ok(program) => Ok(Printed::Canonical(program_text(alloc, &program)?)),
-        Err(Refusal::Line(line)) => Ok(Printed::Refused(of_program(alloc, line.as_str())?)),
-        Err(Refusal::Memory) => Err(AllocError),
-    }
+    let program = match program_of(alloc, text) {
+        Ok(program) => program,
+        Err(Refusal::Line(line)) => return Ok(Printed::Refused(of_program(alloc, line.as_str())?)),
+        Err(Refusal::Memory) => return Err(AllocError),
+    };
+    let whole = program_text(alloc, &program)?;
+    Ok(Printed::Canonical(whole))
 }

@@ -8,15 +8,15 @@ use Rattle.pi_top.specs.Writing.{Writes}
 use Rattle.pi_top.proofs.Endings.{printed-faulty, printed-nothing, printed-whole}
 use Rattle.pi_top.proofs.printing.print_text.Goals as goal
 
-pub returns-in_err-canonical_of-clause-answers : goal.returns-in_err-canonical_of-clause-answers
-returns-in_err-canonical_of-clause-answers g c =
+pub returns-in_err-printed-clause-answers : goal.returns-in_err-printed-clause-answers
+returns-in_err-printed-clause-answers g c =
     let p = err_from_is_err_and c.from_residual.result c.from_residual.ensures.1 in
     let memory : p.0 ≡ Memory = p.2 in
     rw (p.1, memory) (ByWrites-none g.O.Sink.wrote g.O.Sink.taken c.args.out.now _ (λ queries none. printed-nothing c.args.text.now queries none))
 
 pub returns-in-Canonical-clause-answers : goal.returns-in-Canonical-clause-answers
 returns-in-Canonical-clause-answers g c =
-    let is : IsCanonical c.args.text.now c.in-Canonical.whole = rw c.in-Canonical.is at c.in_ok-canonical_of.ensures in
+    let is : IsCanonical c.args.text.now c.in-Canonical.whole = rw c.in-Canonical.is at c.in_ok-printed.ensures in
     ByWrites-so c.ended.ensures.told (λ writes told. λ queries none.
     printed-whole c.args.text.now c.in-Canonical.whole queries c.ended.result writes is none c.ended.ensures.status c.ended.ensures.stops
     (subst (λ (l : List ℕ). Writes (l ∷ []) c.ended.result writes) c.as_str.ensures told))
@@ -25,7 +25,7 @@ pub returns-in-Refused-clause-answers : goal.returns-in-Refused-clause-answers
 returns-in-Refused-clause-answers g c =
     let line = string_bytes c.in-Refused.line in
     let ended = c.ended-in-Refused in
-    let is : IsFaulty c.args.text.now line = rw c.in-Refused.is at c.in_ok-canonical_of.ensures in
+    let is : IsFaulty c.args.text.now line = rw c.in-Refused.is at c.in_ok-printed.ensures in
     ByWrites-so ended.ensures.told (λ writes told. λ queries none.
     printed-faulty c.args.text.now line queries ended.result writes is none ended.ensures.status ended.ensures.stops
     (subst (λ (l : List ℕ). Writes (l ∷ []) ended.result writes) c.as_str-in-Refused.ensures.value told))
