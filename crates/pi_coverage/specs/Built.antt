@@ -102,10 +102,14 @@ is_built_form (Some catch) name k exps value goal = goal 0 && (value 1 && goal 2
 is_built_form (Some by_term) name k exps value goal = exps
 is_built_form (Some membership) name k exps value goal = false
 
+abbrev pub is_variable : ExpTree → Bool
+is_variable (var name) = true
+is_variable e = false
+
 -- what is assigned is a variable
 abbrev pub is_assigned : Option Form → ExpTrees → Bool
-is_assigned (Some assignment) (exp (var name) es) = true
-is_assigned (Some assignment) es = false
+is_assigned (Some assignment) (exp e es) = is_variable e
+is_assigned (Some assignment) no_exps = false
 is_assigned form es = true
 
 -- an iterator, whose pattern is one of a head, or a test
