@@ -1,3 +1,4 @@
 pub mod Built
 pub mod Shown
 pub mod TermCalls
+pub mod Within
