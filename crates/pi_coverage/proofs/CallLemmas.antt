@@ -6,17 +6,17 @@ use Rattle.pi_syntax.specs.ExpLists.{exps_of}
 use Rattle.pi_syntax.specs.Signature.{exp_count}
 use Rattle.pi_syntax.specs.declared.exp.Exp.{Exp}
 use Rattle.pi_syntax.proofs.ExpListLemmas.{exp_count-exps_of}
-use Rattle.pi_names.specs.Forms.{form_of, is_find_all, is_count_all}
+use Rattle.pi_names.specs.Forms.{form_of, is_find_all, is_count_all, Form}
 use Rattle.pi_coverage.specs.declared.forms.Form as code
 use Rattle.pi_coverage.specs.Shown.{form_shown}
-use Rattle.pi_coverage.specs.Built.{is_built_function, are_some, is_built_form, is_built_value_call, is_built_value, are_built_values, is_built_value_at, is_built_goal, is_built_goal_at}
+use Rattle.pi_coverage.specs.Built.{is_built_function, are_some, is_built_form, is_built_value_call, is_built_value, are_built_values, is_built_value_at, is_built_goal, is_built_goal_at, is_assigned, is_named}
 
 -- a call as an expression, and as a goal
 abbrev pub value_called : List ℕ → ExpTrees → Bool
 value_called name ts = is_built_value_call name (exp_count ts) (are_built_values ts) (is_built_value_at ts) (is_built_goal_at ts)
 
 abbrev pub goal_called : List ℕ → ExpTrees → Bool
-goal_called name ts = is_built_form (form_of name (exp_count ts)) name (exp_count ts) (are_built_values ts) (is_built_value_at ts) (is_built_goal_at ts)
+goal_called name ts = is_built_form (form_of name (exp_count ts)) name (exp_count ts) (are_built_values ts) (is_built_value_at ts) (is_built_goal_at ts) && is_assigned (form_of name (exp_count ts)) ts
 
 -- with the number of arguments that the vector has
 pub value-counted : (name : List ℕ) (es : List Exp) (k : ℕ) (r : Bool) → k ≡ length es
@@ -25,20 +25,34 @@ value-counted name es k r count is =
     is ∙ ap (λ n. is_built_value_call name n (are_built_values (exps_of es)) (is_built_value_at (exps_of es)) (is_built_goal_at (exps_of es))) (count ∙ sym (exp_count-exps_of es))
 
 -- by the form that the code finds
-pub goal-formed : (name : List ℕ) (es : List Exp) (k : ℕ) (form : Option code.Form) (r : Bool) → k ≡ length es → form_shown form ≡ form_of name k
-    → r ≡ is_built_form (form_shown form) name k (are_built_values (exps_of es)) (is_built_value_at (exps_of es)) (is_built_goal_at (exps_of es)) → r ≡ goal_called name (exps_of es)
-goal-formed name es k form r count formed is =
-    is ∙ (ap (λ f. is_built_form f name k (are_built_values (exps_of es)) (is_built_value_at (exps_of es)) (is_built_goal_at (exps_of es))) formed
-    ∙ ap (λ n. is_built_form (form_of name n) name n (are_built_values (exps_of es)) (is_built_value_at (exps_of es)) (is_built_goal_at (exps_of es))) (count ∙ sym (exp_count-exps_of es)))
+abbrev tested_by : Option Form → List ℕ → List Exp → ℕ → Bool
+tested_by form name es k = is_built_form form name k (are_built_values (exps_of es)) (is_built_value_at (exps_of es)) (is_built_goal_at (exps_of es)) && is_assigned form (exps_of es)
 
-pub goal-of : (name : List ℕ) (es : List Exp) (k : ℕ) (form : Option code.Form) (some kind : code.Form) (r : Bool) → k ≡ length es → form_shown form ≡ form_of name k → form ≡ Some some → some ≡ kind
-    → r ≡ is_built_form (form_shown (Some kind)) name k (are_built_values (exps_of es)) (is_built_value_at (exps_of es)) (is_built_goal_at (exps_of es)) → r ≡ goal_called name (exps_of es)
-goal-of name es k form some kind r count formed is so tested =
+goal-formed : (name : List ℕ) (es : List Exp) (k : ℕ) (form : Option code.Form) (r : Bool) → k ≡ length es → form_shown form ≡ form_of name k → r ≡ tested_by (form_shown form) name es k → r ≡ goal_called name (exps_of es)
+goal-formed name es k form r count formed is =
+    is ∙ (ap (λ f. tested_by f name es k) formed ∙ ap (λ n. tested_by (form_of name n) name es n) (count ∙ sym (exp_count-exps_of es)))
+
+pub goal-assigns : (name : List ℕ) (es : List Exp) (k : ℕ) (form : Option code.Form) (some kind : code.Form) (r : Bool) → k ≡ length es → form_shown form ≡ form_of name k → form ≡ Some some → some ≡ kind
+    → r ≡ tested_by (form_shown (Some kind)) name es k → r ≡ goal_called name (exps_of es)
+goal-assigns name es k form some kind r count formed is so tested =
     goal-formed name es k (Some kind) r count (sym (ap form_shown (is ∙ ap Some so)) ∙ formed) tested
+
+and-no-more : (a b : Bool) → b ≡ true → a ≡ (a && b)
+and-no-more true b h = sym h
+and-no-more false b h = refl
+
+-- of what is no assignment nothing more is asked
+pub goal-of : (name : List ℕ) (es : List Exp) (k : ℕ) (form : Option code.Form) (some kind : code.Form) (r : Bool) → k ≡ length es → form_shown form ≡ form_of name k → form ≡ Some some → some ≡ kind → is_assigned (form_shown (Some kind)) (exps_of es) ≡ true
+    → r ≡ is_built_form (form_shown (Some kind)) name k (are_built_values (exps_of es)) (is_built_value_at (exps_of es)) (is_built_goal_at (exps_of es)) → r ≡ goal_called name (exps_of es)
+goal-of name es k form some kind r count formed is so none tested =
+    goal-assigns name es k form some kind r count formed is so
+    (tested ∙ and-no-more (is_built_form (form_shown (Some kind)) name k (are_built_values (exps_of es)) (is_built_value_at (exps_of es)) (is_built_goal_at (exps_of es))) (is_assigned (form_shown (Some kind)) (exps_of es)) none)
 
 pub goal-of-none : (name : List ℕ) (es : List Exp) (k : ℕ) (form : Option code.Form) (r : Bool) → k ≡ length es → form_shown form ≡ form_of name k → form ≡ None
     → r ≡ is_built_form None name k (are_built_values (exps_of es)) (is_built_value_at (exps_of es)) (is_built_goal_at (exps_of es)) → r ≡ goal_called name (exps_of es)
-goal-of-none name es k form r count formed is tested = goal-formed name es k None r count (sym (ap form_shown is) ∙ formed) tested
+goal-of-none name es k form r count formed is tested =
+    goal-formed name es k None r count (sym (ap form_shown is) ∙ formed)
+    (tested ∙ and-no-more (is_built_form None name k (are_built_values (exps_of es)) (is_built_value_at (exps_of es)) (is_built_goal_at (exps_of es))) true refl)
 
 -- the three kinds of calls as an expression
 pub finds : (name : List ℕ) (k : ℕ) (all : Bool) (value goal : ℕ → Bool) (find r s : Bool) → find ≡ is_find_all name k → find ≡ true → r ≡ value 0 → s ≡ goal 1 → (r && s) ≡ is_built_value_call name k all value goal
@@ -89,3 +103,7 @@ one-more n = ap not (false_from_ne_true (suc n == 0) (λ e. let h : suc n ≡ 0 
 pub some-listed : (es : List Exp) → not (length es == 0) ≡ are_some (exps_of es)
 some-listed [] = refl
 some-listed (x ∷ es) = one-more (length es)
+
+pub named-listed : (name : List ℕ) → not (length name == 0) ≡ is_named name
+named-listed [] = refl
+named-listed (c ∷ name) = one-more (length name)

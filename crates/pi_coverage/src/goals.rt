@@ -1,14 +1,16 @@
 //! Which goals and expressions are built.
-ghost use Rattle.std.specs.Prelude.{◌≡◌};
-ghost use Rattle.pi_syntax.specs.ExpTree.{exp_tree};
+ghost use Rattle.std.specs.Prelude.{◌≡◌, ◌&&◌, Some};
+ghost use Rattle.pi_syntax.specs.ExpTree.{exp_tree, call};
 ghost use Rattle.pi_syntax.specs.ExpLists.{exps_of};
 ghost use Rattle.pi_syntax.specs.Signature.{exp_count};
-ghost use Rattle.pi_names.specs.Forms.{form_of as form_in_names};
+ghost use Rattle.pi_names.specs.Texts.{iterated};
+ghost use Rattle.pi_names.specs.Forms.{assignment, form_of as form_in_names};
 ghost use Rattle.pi_slots.specs.Branches.{branches_in};
 ghost use Rattle.pi_coverage.specs.Built as spec;
 
 use crate::forms::{Form, form_of, is_count_all, is_find_all};
 use crate::names::{is_built_function, is_built_predicate};
+use crate::patterns::is_built_pattern;
 use crate::terms::is_built_term;
 use pi_syntax::Exp;
 
@@ -38,7 +40,7 @@ pub(crate) fn is_built_value(exp: &Exp) -> bool
             None => is_built_value(first) & is_built_value(last),
         },
         Exp::At(_, _) => false,
-        Exp::Collect(_, _, _) => false,
+        Exp::Collect(_, item, units) => are_built_units(units.as_slice()) & is_built_value(item),
         Exp::And(_) => false,
         Exp::Or(_) => false,
         Exp::Arrow(_, _) => false,
@@ -104,14 +106,14 @@ fn is_built_value_call(name: &str, args: &[Exp]) -> bool
 /// Whether a call is built as a goal.
 #[cycle(goal)]
 fn is_built_call(name: &str, args: &[Exp]) -> bool
-    ensures { result ≡ spec.is_built_form (form_in_names name.now (exp_count (exps_of args.now))) name.now (exp_count (exps_of args.now)) (spec.are_built_values (exps_of args.now)) (spec.is_built_value_at (exps_of args.now)) (spec.is_built_goal_at (exps_of args.now)) }
+    ensures { result ≡ spec.is_built_form (form_in_names name.now (exp_count (exps_of args.now))) name.now (exp_count (exps_of args.now)) (spec.are_built_values (exps_of args.now)) (spec.is_built_value_at (exps_of args.now)) (spec.is_built_goal_at (exps_of args.now)) && spec.is_assigned (form_in_names name.now (exp_count (exps_of args.now))) (exps_of args.now) }
 {
     let count = args.len();
     match form_of(name, count) {
         Some(form) => match form {
             Form::Negation => is_built_goal_at(args, 0),
             Form::Once => is_built_goal_at(args, 0),
-            Form::Assignment => is_built_value_at(args, 1),
+            Form::Assignment => is_built_value_at(args, 1) & is_assigned(args),
             Form::Catch => {
                 is_built_goal_at(args, 0) & (is_built_value_at(args, 1) & is_built_goal_at(args, 2))
             }
@@ -137,6 +139,9 @@ pub fn is_built_goal(exp: &Exp) -> bool
             Some(last) => have_built_goals(branches.as_slice()) & is_built_goal(last),
             None => have_built_goals(branches.as_slice()),
         },
+        Exp::Foreach(units, body) => are_built_units(units.as_slice()) & is_built_goal(body),
+        Exp::While(test, body) => is_built_goal(test) & is_built_goal(body),
+        Exp::DoWhile(body, test) => is_built_goal(body) & is_built_goal(test),
         _ => false,
     }
 }
@@ -183,6 +188,9 @@ fn is_built_branch(exp: &Exp) -> bool
             Some(last) => have_built_goals(branches.as_slice()) & is_built_goal(last),
             None => have_built_goals(branches.as_slice()),
         },
+        Exp::Foreach(units, body) => are_built_units(units.as_slice()) & is_built_goal(body),
+        Exp::While(test, body) => is_built_goal(test) & is_built_goal(body),
+        Exp::DoWhile(body, test) => is_built_goal(body) & is_built_goal(test),
         _ => false,
     }
 }
@@ -203,6 +211,42 @@ fn have_built_goals(branches: &[(Exp, Exp)]) -> bool
     true
 }
 
+/// Whether all iterators and tests of a loop are built.
+#[cycle(goal)]
+fn are_built_units(units: &[Exp]) -> bool
+    ensures { result ≡ spec.are_built_units (exps_of units.now) }
+{
+    for unit in units {
+        if !is_built_unit(unit) {
+            return false;
+        }
+    }
+    true
+}
+
+/// Whether an iterator or a test is built.
+#[cycle(goal)]
+#[tactic(auto, unfolding(pi_syntax::specs::ExpTree::exp_tree))]
+fn is_built_unit(unit: &Exp) -> bool
+    ensures { result ≡ spec.is_built_unit (iterated (exp_tree unit.now)) (spec.is_built_collection (exp_tree unit.now)) (spec.is_built_goal (exp_tree unit.now)) }
+{
+    match unit {
+        Exp::Call(name, args) => is_built_unit_call(name.as_str(), args.as_slice()),
+        _ => is_built_goal(unit),
+    }
+}
+
+/// Whether a call is built as an iterator, of a pattern and of what it goes over, or else as a test.
+#[cycle(goal)]
+fn is_built_unit_call(name: &str, args: &[Exp]) -> bool
+    ensures { result ≡ spec.is_built_unit (iterated (call name.now (exps_of args.now))) (spec.is_built_value_at (exps_of args.now) 1) (spec.is_built_goal (call name.now (exps_of args.now))) }
+{
+    if (args.len() == 2) & (name == "in") {
+        return is_built_pattern(&args[0]) & is_built_value_at(args, 1);
+    }
+    is_built_call(name, args)
+}
+
 /// Whether an atom is built as a goal: `true`, `fail` or the call of a predicate without arguments.
 fn is_built_atom(name: &str) -> bool
     ensures { result ≡ spec.is_built_atom name.now }
@@ -215,4 +259,24 @@ fn are_some(exps: &[Exp]) -> bool
     ensures { result ≡ spec.are_some (exps_of exps.now) }
 {
     !exps.is_empty()
+}
+
+/// Whether what stands first is a variable, as what is assigned is.
+fn is_assigned(args: &[Exp]) -> bool
+    ensures { result ≡ spec.is_assigned (Some assignment) (exps_of args.now) }
+{
+    if args.is_empty() {
+        return false;
+    }
+    is_variable(&args[0])
+}
+
+#[tactic(auto, unfolding(pi_syntax::specs::ExpTree::exp_tree))]
+fn is_variable(exp: &Exp) -> bool
+    ensures { result ≡ spec.is_variable (exp_tree exp.now) }
+{
+    match exp {
+        Exp::Var(_) => true,
+        _ => false,
+    }
 }

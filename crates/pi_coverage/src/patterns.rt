@@ -1,4 +1,4 @@
-//! What may stand in a head.
+//! What may stand in a head, or as the pattern of an iterator.
 ghost use Rattle.std.specs.Prelude.{◌≡◌};
 ghost use Rattle.pi_syntax.specs.ExpTree.{exp_tree};
 ghost use Rattle.pi_syntax.specs.ExpLists.{exps_of};
@@ -35,14 +35,14 @@ pub(crate) fn is_built_head(head: &Exp) -> bool
     }
 }
 
-/// Whether an argument of a head is built.
+/// Whether an argument of a head, or the pattern of an iterator, is built.
 #[cycle(pattern)]
 #[tactic(auto, unfolding(pi_syntax::specs::ExpTree::exp_tree, crate::specs::Built::is_built_pattern))]
-fn is_built_pattern(exp: &Exp) -> bool
+pub(crate) fn is_built_pattern(exp: &Exp) -> bool
     ensures { result ≡ spec.is_built_pattern (exp_tree exp.now) }
 {
     match exp {
-        Exp::Var(_) => true,
+        Exp::Var(name) => is_named(name.as_str()),
         Exp::Int(_) => true,
         Exp::Atom(_) => true,
         Exp::Str(_) => true,
@@ -59,7 +59,7 @@ fn is_built_pattern(exp: &Exp) -> bool
             }
             None => is_built_pattern(first) & is_built_pattern(last),
         },
-        Exp::At(_, inner) => is_built_pattern(inner),
+        Exp::At(name, inner) => is_named(name.as_str()) & is_built_pattern(inner),
         Exp::Index(_, _) => false,
         Exp::Collect(_, _, _) => false,
         Exp::And(_) => false,
@@ -83,4 +83,11 @@ fn are_built_patterns(exps: &[Exp]) -> bool
         }
     }
     true
+}
+
+/// Whether a name isn't empty.
+fn is_named(name: &str) -> bool
+    ensures { result ≡ spec.is_named name.now }
+{
+    !name.is_empty()
 }
