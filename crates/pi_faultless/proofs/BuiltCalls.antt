@@ -1,18 +1,22 @@
 -- Calls that are built, and known, are of the forms that are lowered.
-use Rattle.std.proofs.Common.{◌≡◌, inl, inr, ℕ, Bool, true, false, cond, List, refl, sym, subst}
+use Rattle.std.proofs.Common.{◌≡◌, inl, inr, ℕ, suc, Bool, true, false, cond, List, refl, sym, subst, arith}
 use Rattle.std.specs.Prelude.{◌==◌, ◌&&◌, ◌||◌, Option, Some, None, IsTrue, codes, ⊤}
 use Rattle.std.specs.Str.{bytes_eq}
 use Rattle.std.proofs.lemmas.Bool.{and_parts, or_cases, eqb-true}
 use Rattle.pi_effects.specs.BuiltIns.{is_predicate, is_function}
 use Rattle.pi_lib.specs.Names.{kind_of}
 use Rattle.pi_meaning.specs.Names.{is_catch, is_call, is_later_predicate, is_given_predicate, is_later_function, is_resource, is_given_function}
+use Rattle.pi_syntax.specs.ExpTree.{ExpTree, var, ExpTrees, no_exps, exp}
+use Rattle.pi_syntax.specs.Signature.{exp_count}
+use Rattle.pi_names.specs.Texts.{iterated}
 use Rattle.pi_names.specs.Forms.{Form, negation, once, assignment, catch, by_term, membership, form_of, is_find_all, is_count_all}
 use Rattle.pi_names.proofs.TableLemmas.{same-name}
 use Rattle.pi_clauses.specs.Calls.{Named, named, goal_calls, is_known}
 use Rattle.pi_clauses.specs.Operators.{is_goal_sign, is_membership, is_reified}
 use Rattle.pi_clauses.specs.Places.{asked, expression}
-use Rattle.pi_coverage.specs.Built.{is_own, is_prelude_kind, is_built_predicate, is_built_function, is_built_value_call, is_built_form, is_built_atom}
+use Rattle.pi_coverage.specs.Built.{is_own, is_prelude_kind, is_built_predicate, is_built_function, is_built_value_call, is_built_form, is_built_atom, is_variable, is_assigned}
 use Rattle.pi_lowered.specs.Forms.{Knows, IsFunctionCall, IsPredicateCall, IsAtomGoal}
+use Rattle.pi_lowered.specs.WithLoops.{IsAssigned}
 use Rattle.pi_faultless.proofs.KnownCalls.{AreKnown, goal-known}
 use Rattle.pi_faultless.proofs.PlainNames.{is_no_expression, has_places, own-form, term-plain, built-plain, function-built-plain}
 use Rattle.pi_faultless.proofs.CallPlaces.{place_behind}
@@ -87,6 +91,25 @@ unfolding is_goal_sign is_membership is_reified
 catch-places name k is =
     by-spelling (λ n j. ((place_behind n j 0 0 ≡ asked) × (place_behind n j 0 1 ≡ expression)) × (place_behind n j 0 2 ≡ asked)) name k (codes "catch") 3 is ((refl, refl), refl)
 
+-- what an iterator goes over
+membership-place : (name : List ℕ) (k : ℕ) → IsSpelled name k (codes "in") 2 → place_behind name k 0 1 ≡ expression
+unfolding is_goal_sign is_membership is_reified
+membership-place name k is = by-spelling (λ n j. place_behind n j 0 1 ≡ expression) name k (codes "in") 2 is refl
+
+in-sign : (b : Bool) (e d : ExpTree) → cond b (Some e) None ≡ Some d → b ≡ true
+in-sign true e d is = refl
+in-sign false e d is = absurd cc
+
+iterator-named : (name : List ℕ) (es : ExpTrees) (e : ExpTree) → iterated (ExpTree.call name es) ≡ Some e → IsSpelled name (exp_count es) (codes "in") 2
+unfolding exp_count
+iterator-named name no_exps e is = absurd cc
+iterator-named name (exp a no_exps) e is = absurd cc
+iterator-named name (exp a (exp b no_exps)) e is = in-sign (bytes_eq name (codes "in")) a e is
+iterator-named name (exp a (exp b (exp c es))) e is = absurd cc
+
+pub collection-place : (name : List ℕ) (es : ExpTrees) (e : ExpTree) → iterated (ExpTree.call name es) ≡ Some e → place_behind name (exp_count es) 0 1 ≡ expression
+collection-place name es e is = membership-place name (exp_count es) (iterator-named name es e is)
+
 -- ---- a call's arguments
 
 -- of a call of this name, what its arguments being built comes to: all of them as expressions, one as an expression, one as a goal
@@ -159,6 +182,34 @@ predicate-of defined known has name k exps value goal Exps Value Goal arguments 
         (arguments.inner 0 places.0.0 both.0, arguments.one 1 places.0.1 rest.0, arguments.inner 2 places.1 rest.1)
     go (Some Form.by_term) is h = let plain = term-plain name k is in (arguments.all plain.0 h, plain.1)
     go (Some Form.membership) is h = absurd cc
+
+-- ---- assignments
+
+-- what is assigned, in a call of two arguments
+two-assigned : (e d : ExpTree) → is_variable e ≡ true → IsAssigned (Some Form.assignment) (exp e (exp d no_exps))
+two-assigned (var name) d h = tt
+two-assigned e d h = absurd cc
+
+assigned-in : (name : List ℕ) (es : ExpTrees) → IsSpelled name (exp_count es) (codes ":=") 2 → is_assigned (Some Form.assignment) es ≡ true → IsAssigned (Some Form.assignment) es
+unfolding exp_count
+assigned-in name no_exps is h = absurd cc
+assigned-in name (exp e no_exps) is h = absurd cc
+assigned-in name (exp e (exp d no_exps)) is h = two-assigned e d h
+assigned-in name (exp e (exp d (exp c es))) is h =
+    let more : suc (suc (suc (exp_count es))) ≡ 2 = eqb-true (suc (suc (suc (exp_count es)))) 2 (and_parts (suc (suc (suc (exp_count es))) == 2) (bytes_eq name (codes ":=")) is).0 in absurd (omega arith)
+
+pub assigned-of : (name : List ℕ) (es : ExpTrees) → is_assigned (form_of name (exp_count es)) es ≡ true → IsAssigned (form_of name (exp_count es)) es
+assigned-of name es h = go (form_of name (exp_count es)) (form-tested name (exp_count es)) h
+  where
+    go : (form : Option Form) → IsTested form (exp_count es == 1 && bytes_eq name (codes "not")) (exp_count es == 1 && bytes_eq name (codes "once")) (exp_count es == 2 && bytes_eq name (codes ":=")) (is_catch name (exp_count es)) (is_call name (exp_count es)) →
+        is_assigned form es ≡ true → IsAssigned form es
+    go None is h = tt
+    go (Some Form.negation) is h = tt
+    go (Some Form.once) is h = tt
+    go (Some Form.assignment) is h = assigned-in name es is h
+    go (Some Form.catch) is h = tt
+    go (Some Form.by_term) is h = tt
+    go (Some Form.membership) is h = tt
 
 -- ---- atoms
 

@@ -2,7 +2,7 @@
 use Rattle.std.proofs.Common.{◌≡◌, ◌&&◌, true}
 use Rattle.std.proofs.lemmas.Bool.{and_parts}
 use Rattle.pi_syntax.specs.ExpTree.{ExpTree, var, int, atom, str, list, list_onto, array, call, quote, range, range_by, at, ExpTrees, no_exps, exp}
-use Rattle.pi_coverage.specs.Built.{is_built_term, are_built_terms, is_built_pattern, are_built_patterns}
+use Rattle.pi_coverage.specs.Built.{is_built_term, are_built_terms, is_named, is_built_pattern, are_built_patterns}
 use Rattle.pi_lowered.specs.Forms.{IsTerm, AreTerms, IsPattern, ArePatterns}
 
 mutual
@@ -32,7 +32,7 @@ mutual
 mutual
   unfolding is_built_pattern IsPattern
 
-  pattern-of : (e : ExpTree) → is_built_pattern e ≡ true → IsPattern e
+  pub pattern-of : (e : ExpTree) → is_built_pattern e ≡ true → IsPattern e
   pattern-of (var name) h = tt
   pattern-of (int n) h = tt
   pattern-of (atom name) h = tt
@@ -47,7 +47,7 @@ mutual
       let both = and_parts (is_built_pattern first) (is_built_pattern step && is_built_pattern last) h in
       let rest = and_parts (is_built_pattern step) (is_built_pattern last) both.1 in
       (pattern-of first both.0, pattern-of step rest.0, pattern-of last rest.1)
-  pattern-of (at name e) h = pattern-of e h
+  pattern-of (at name e) h = pattern-of e (and_parts (is_named name) (is_built_pattern e) h).1
   pattern-of e h = absurd cc
 
   pub patterns-of : (es : ExpTrees) → are_built_patterns es ≡ true → ArePatterns es

@@ -1,5 +1,5 @@
 -- Where the arguments of calls stand.
-use Rattle.std.proofs.Common.{◌≡◌, ℕ, zero, suc, Bool, true, false, if◌then◌else◌, List, ◌++◌, refl, ap, ◌∙◌}
+use Rattle.std.proofs.Common.{◌≡◌, ℕ, zero, suc, Bool, true, false, if◌then◌else◌, List, ◌++◌, refl, ap, sym, ◌∙◌}
 use Rattle.std.specs.Prelude.{◌==◌, ◌&&◌, ◌||◌, codes}
 use Rattle.std.specs.Str.{bytes_eq}
 use Rattle.std.proofs.lemmas.Bool.{or_parts, or_from}
@@ -8,7 +8,7 @@ use Rattle.pi_syntax.specs.Signature.{exp_count}
 use Rattle.pi_meaning.specs.Names.{is_catch}
 use Rattle.pi_names.specs.Forms.{is_find_all, is_count_all}
 use Rattle.pi_clauses.specs.Operators.{is_goal_sign, is_membership, is_reified}
-use Rattle.pi_clauses.specs.Places.{Place, goal, asked, expression, operand, pattern, placed, is_asked, called, below, all_placed, arguments_placed, branches_placed}
+use Rattle.pi_clauses.specs.Places.{Place, goal, asked, expression, operand, iterator, term, pattern, inside, quoted, body, placed, is_asked, called, argument, below, all_placed, arguments_placed, branches_placed}
 use Rattle.pi_faultless.proofs.PlainNames.{has_places}
 
 -- ---- a call with no such places
@@ -52,47 +52,63 @@ plain-arguments name k from (exp e es) none =
 
 -- ---- by what the call stands as
 
+-- Below a node that stands so, all stands as below a test.
+pub record GoesBelow (p : Place) : Type 0 where
+  pub inside_is : inside p ≡ expression
+  pub quoted_is : quoted p ≡ term
+  pub body_is : body p ≡ goal false
+  pub argument_is : (name : List ℕ) (k i : ℕ) → argument p name k i ≡ called name k i
+
+pub arguments-below : (p : Place) → ((name : List ℕ) (k i : ℕ) → argument p name k i ≡ called name k i) → (name : List ℕ) (k from : ℕ) (es : ExpTrees) → arguments_placed p name k from es ≡ arguments_placed expression name k from es
+unfolding arguments_placed
+arguments-below p is name k from no_exps = refl
+arguments-below p is name k from (exp e es) =
+    ap (λ q. placed q e ++ arguments_placed p name k (suc from) es) (is name k from) ∙ ap (λ ns. placed (called name k from) e ++ ns) (arguments-below p is name k (suc from) es)
+
 -- arguments stand in a goal as they do in an expression
 pub goal-arguments : (assigns : Bool) (name : List ℕ) (k from : ℕ) (es : ExpTrees) → arguments_placed (goal assigns) name k from es ≡ arguments_placed expression name k from es
-unfolding arguments_placed
-goal-arguments assigns name k from no_exps = refl
-goal-arguments assigns name k from (exp e es) = ap (λ ns. placed (called name k from) e ++ ns) (goal-arguments assigns name k (suc from) es)
+goal-arguments assigns name k from es = arguments-below (goal assigns) (λ n j i. refl) name k from es
 
-asked-arguments : (name : List ℕ) (k from : ℕ) (es : ExpTrees) → arguments_placed asked name k from es ≡ arguments_placed (goal false) name k from es
-unfolding arguments_placed
-asked-arguments name k from no_exps = refl
-asked-arguments name k from (exp e es) = ap (λ ns. placed (called name k from) e ++ ns) (asked-arguments name k (suc from) es)
-
-asked-branches : (bs : ExpBranches) → branches_placed asked bs ≡ branches_placed (goal false) bs
+branches-below : (p : Place) → body p ≡ goal false → (bs : ExpBranches) → branches_placed p bs ≡ branches_placed (goal false) bs
 unfolding branches_placed
-asked-branches no_branches = refl
-asked-branches (branch c e bs) = ap (λ ns. placed (goal false) c ++ (placed (goal false) e ++ ns)) (asked-branches bs)
+branches-below p is no_branches = refl
+branches-below p is (branch c e bs) =
+    ap (λ q. placed (goal false) c ++ (placed q e ++ branches_placed p bs)) is ∙ ap (λ ns. placed (goal false) c ++ (placed (goal false) e ++ ns)) (branches-below p is bs)
 
--- what stands below a goal that is asked stands as in any goal
-pub below-asked : (e : ExpTree) → below asked e ≡ below (goal false) e
+below-test : (p : Place) → GoesBelow p → (e : ExpTree) → below p e ≡ below (goal false) e
 unfolding below
-below-asked (var name) = refl
-below-asked (int n) = refl
-below-asked (atom name) = refl
-below-asked (str text) = refl
-below-asked (list es) = refl
-below-asked (list_onto es e) = refl
-below-asked (array es) = refl
-below-asked (call name es) = asked-arguments name (exp_count es) 0 es
-below-asked (quote e) = refl
-below-asked (index e es) = refl
-below-asked (range first last) = refl
-below-asked (range_by first step last) = refl
-below-asked (at name e) = refl
-below-asked (collect is_array e es) = refl
-below-asked (and es) = refl
-below-asked (or es) = refl
-below-asked (arrow c e) = refl
-below-asked (if_then bs) = asked-branches bs
-below-asked (if_else bs e) = ap (λ ns. ns ++ placed (goal false) e) (asked-branches bs)
-below-asked (foreach es e) = refl
-below-asked (while_do c e) = refl
-below-asked (do_while e c) = refl
+below-test p is (var name) = refl
+below-test p is (int n) = refl
+below-test p is (atom name) = refl
+below-test p is (str text) = refl
+below-test p is (list es) = ap (λ q. all_placed q es) is.inside_is
+below-test p is (list_onto es e) = ap (λ q. all_placed q es ++ placed q e) is.inside_is
+below-test p is (array es) = ap (λ q. all_placed q es) is.inside_is
+below-test p is (call name es) = arguments-below p is.argument_is name (exp_count es) 0 es ∙ sym (goal-arguments false name (exp_count es) 0 es)
+below-test p is (quote e) = ap (λ q. placed q e) is.quoted_is
+below-test p is (index e es) = ap (λ q. placed q e ++ all_placed q es) is.inside_is
+below-test p is (range first last) = ap (λ q. placed q first ++ placed q last) is.inside_is
+below-test p is (range_by first step last) = ap (λ q. placed q first ++ (placed q step ++ placed q last)) is.inside_is
+below-test p is (at name e) = ap (λ q. placed q e) is.inside_is
+below-test p is (collect is_array e es) = ap (λ q. placed q e ++ all_placed iterator es) is.inside_is
+below-test p is (and es) = ap (λ q. all_placed q es) is.body_is
+below-test p is (or es) = ap (λ q. all_placed q es) is.body_is
+below-test p is (arrow c e) = ap (λ q. placed (goal false) c ++ placed q e) is.body_is
+below-test p is (if_then bs) = branches-below p is.body_is bs
+below-test p is (if_else bs e) = ap (λ ns. ns ++ placed (body p) e) (branches-below p is.body_is bs) ∙ ap (λ q. branches_placed (goal false) bs ++ placed q e) is.body_is
+below-test p is (foreach es e) = ap (λ q. all_placed iterator es ++ placed q e) is.body_is
+below-test p is (while_do c e) = ap (λ q. placed (goal false) c ++ placed q e) is.body_is
+below-test p is (do_while e c) = ap (λ q. placed q e ++ placed (goal false) c) is.body_is
+
+-- so of a goal that is asked, and of an iterator or a test of a loop
+pub below-asked : (e : ExpTree) → below asked e ≡ below (goal false) e
+below-asked e = below-test asked (record { inside_is = refl; quoted_is = refl; body_is = refl; argument_is = λ name k i. refl }) e
+
+pub below-iterator : (e : ExpTree) → below iterator e ≡ below (goal false) e
+below-iterator e = below-test iterator (record { inside_is = refl; quoted_is = refl; body_is = refl; argument_is = λ name k i. refl }) e
+
+pub iterator-arguments : (name : List ℕ) (k from : ℕ) (es : ExpTrees) → arguments_placed iterator name k from es ≡ arguments_placed expression name k from es
+iterator-arguments name k from es = arguments-below iterator (λ n j i. refl) name k from es
 
 -- where the argument stands that is so far behind one
 abbrev pub place_behind : List ℕ → ℕ → ℕ → ℕ → Place

@@ -2,7 +2,7 @@
 use Rattle.std.proofs.Common.{◌≡◌, ℕ, ◌+◌, Bool, true, false, List, [], ◌∷◌, ◌++◌, map, refl, ap, sym, subst}
 use Rattle.std.specs.Prelude.{◌&&◌, Option, Some, None, All}
 use Rattle.std.proofs.lemmas.Bool.{and_parts}
-use Rattle.std.proofs.lemmas.List.Elements.{All-nil, All-cons}
+use Rattle.std.proofs.lemmas.List.Elements.{All-nil, All-cons, All-from_recursion, recursion_from_All}
 use Rattle.pi_syntax.specs.ExpTree.{ExpTree}
 use Rattle.pi_syntax.specs.ProgramTree.{RuleTree, FunctionTree, WrittenClause, rule, function, fact, PartTree, ProgramTree}
 use Rattle.pi_syntax.specs.declared.program.Decl.{Decl}
@@ -15,13 +15,16 @@ use Rattle.pi_clauses.specs.Places.{goal, expression, test, placed, placed_if, c
 use Rattle.pi_clauses.specs.Verdict.{Unknown, JudgedClause, JudgedPart, refused, libraries, one_clause, judged, as_list, definition, all_defined, part_calls, unknown_or, first_unknown_in, decl_of, parts_of}
 use Rattle.pi_coverage.specs.Built.{are_built_patterns, is_built_goal, is_built_value, is_built_goal_or_none, are_none, is_built_rule, is_built_function_rule, is_built_clause, is_built, is_built_part, unbuilt_from, unbuilt_part}
 use Rattle.pi_lowered.specs.Forms.{Knows}
-use Rattle.pi_lowered.specs.Within.{knows, IsGoalOrNone, IsRule, IsFunction, IsClause, IsPart, IsWithin}
+use Rattle.pi_lowered.specs.Within.{knows}
+use Rattle.pi_lowered.specs.WithinLoops.{IsGoalOrNone, IsRule, IsFunction, IsClause, IsPart}
+use Rattle.pi_coverage.specs.Within.{IsWithin}
 use Rattle.pi_faultless.specs.Laws.{FaultlessProgramsAreWithin}
 use Rattle.pi_faultless.proofs.KnownCalls.{goes-on, AreFine, nodes-apart, nodes-fine}
 use Rattle.pi_faultless.proofs.BuiltTerms.{patterns-of}
 use Rattle.pi_faultless.proofs.BuiltCalls.{Has}
 use Rattle.pi_faultless.proofs.BuiltGoals.{value-of, goal-of}
 use Rattle.pi_faultless.proofs.KnownNames.{program-has}
+use Rattle.pi_faultless.proofs.PreludeParts.{prelude-parts}
 use Rattle.pi_faultless.proofs.FreeHeads.{head-free}
 use Rattle.pi_faultless.proofs.FaultlessParts.{IsGood, AreGood, IsIndexedWell, AreIndexedWell, IsFaultless, faultless}
 use Rattle.pi_faultless.proofs.IndexedFacts.{modes-fit, program-indexed}
@@ -113,10 +116,13 @@ within : (program : ProgramTree) (js : List JudgedPart) → IsFaultless program 
 within program js is built =
     let known : Knows = knows (prelude ++ parts_of js) in
     let has : Has (all_defined js) known = subst (λ ds. Has ds known) (parts-define js) (program-has (parts_of js)) in
+    let own : All (IsPart known) (parts_of js) = parts-within (all_defined js) known has 1 0 [] js is.good is.indexed (subst (λ p. unbuilt_part p ≡ None) is.parts built) is.known in
     let judged_parts : IsWithin (parts_of js) = record {
-      parts = parts-within (all_defined js) known has 1 0 [] js is.good is.indexed (subst (λ p. unbuilt_part p ≡ None) is.parts built) is.known;
-      together = program-together js is.good is.adjacent;
-      indexed = program-indexed (all_defined js) js is.good is.indexed;
+      forms = record {
+        parts = All-from_recursion (IsPart known) (prelude ++ parts_of js) (prelude-parts (parts_of js) (recursion_from_All (IsPart known) (parts_of js) own));
+        together = program-together js is.good is.adjacent;
+        indexed = program-indexed (all_defined js) js is.good is.indexed;
+      };
       apart = program-apart js is.good;
     } in
     subst IsWithin (sym is.parts) judged_parts

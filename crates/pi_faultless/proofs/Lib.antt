@@ -3,6 +3,7 @@ mod BuiltTerms
 mod PlainNames
 mod CallPlaces
 mod BuiltCalls
+mod NamedPatterns
 mod BuiltGoals
 mod KnownNames
 mod FreeHeads
@@ -10,5 +11,6 @@ pub mod FaultlessParts
 mod ShownKeys
 mod AdjacentClauses
 mod IndexedFacts
+mod PreludeParts
 pub mod FaultlessPrograms
 pub mod FaultlessGoals
