@@ -1,0 +1,14 @@
+//! Numbers of helpers, which have 64 bits.
+ghost use Rattle.std.specs.Prelude.{◌≡◌, ◌+◌, IfOk};
+
+use std::alloc::AllocError;
+
+/// How many helpers there are together. For more than 64 bits hold memory is wanted.
+pub(crate) fn together(some: u64, more: u64) -> Result<u64, AllocError>
+    ensures { IfOk result (λ all. all ≡ some + more) }
+{
+    match some.checked_add(more) {
+        Some(all) => Ok(all),
+        None => Err(AllocError),
+    }
+}
