@@ -1,7 +1,7 @@
 -- Names of a text, as code asks for them.
-use Rattle.std.specs.Prelude.{Bool, true, false, filter, Option, Some, None, []}
+use Rattle.std.specs.Prelude.{Bool, true, false, filter, [], Option, Some, None}
 use Rattle.std.specs.Borrow.{Bor}
-use Rattle.pi_syntax.specs.ExpTree.{ExpTree, ExpTrees, ExpBranches, exp_tree}
+use Rattle.pi_syntax.specs.ExpTree.{ExpTree, ExpTrees, no_exps, exp, ExpBranches, exp_tree}
 use Rattle.pi_syntax.specs.declared.exp.Exp.{Exp}
 use Rattle.pi_names.specs.Texts.{Names, is_among, without, behind, places, places_all, places_of_branches, occurring, occurring_all, occurring_in_branches}
 
@@ -31,3 +31,8 @@ kept_of before patterns names = filter (is_among before) (behind [] (without nam
 abbrev pub tree_in : Option (Bor Exp) → Option ExpTree
 tree_in None = None
 tree_in (Some e) = Some (exp_tree e.now)
+
+-- the first of two expressions
+abbrev pub first_in : ExpTrees → Option ExpTree
+first_in (exp e (exp d no_exps)) = Some e
+first_in es = None

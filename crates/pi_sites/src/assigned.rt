@@ -51,7 +51,9 @@ pub fn push_assigned<'a>(
             }
         },
         Exp::Foreach(units, body) => {
-            push_assigned_in_turn(alloc, units.as_slice(), body, names)?;
+            let mut inner = Vec::new(alloc);
+            push_assigned(alloc, body, &mut inner)?;
+            push_outer(alloc, units.as_slice(), inner.as_slice(), names)?;
             Ok(())
         }
         Exp::While(_, body) => {
@@ -80,9 +82,17 @@ pub fn push_assigned<'a>(
 fn push_first<'a>(name: &str, args: &'a [Exp], names: &mut Vec<&'a str>) -> Result<(), AllocError>
     ensures { IfOk result (λ _. names_in names.new.items ≡ names_in names.old.items ++ assigned_of (call name.now (exps_of args.now))) }
 {
-    if name != ":=" {
+    if name == ":=" {
+        push_variable_of(args, names)?;
         return Ok(());
     }
+    Ok(())
+}
+
+/// Puts the name of the variable that stands first behind others, where one does.
+fn push_variable_of<'a>(args: &'a [Exp], names: &mut Vec<&'a str>) -> Result<(), AllocError>
+    ensures { IfOk result (λ _. names_in names.new.items ≡ names_in names.old.items ++ the_name (variable_first (exps_of args.now))) }
+{
     if args.is_empty() {
         return Ok(());
     }
@@ -134,21 +144,18 @@ fn push_assigned_in_branches<'a>(
     Ok(())
 }
 
-/// Puts the names that the turns of iterators assign behind others, but for those of their patterns.
-#[cycle(assigned)]
-fn push_assigned_in_turn<'a>(
+/// Puts names that a turn assigns behind others, but for those of the iterators' patterns.
+fn push_outer<'a>(
     alloc: Global,
     units: &'a [Exp],
-    body: &'a Exp,
+    inner: &[&'a str],
     names: &mut Vec<&'a str>,
 ) -> Result<(), AllocError>
-    ensures { IfOk result (λ _. names_in names.new.items ≡ names_in names.old.items ++ without (assigned_of (exp_tree body.now)) (patterns_of (exps_of units.now))) }
+    ensures { IfOk result (λ _. names_in names.new.items ≡ names_in names.old.items ++ without (names_in inner.now) (patterns_of (exps_of units.now))) }
 {
-    let mut inner = Vec::new(alloc);
-    push_assigned(alloc, body, &mut inner)?;
     let mut patterns = Vec::new(alloc);
     push_patterns(units, &mut patterns)?;
-    let mut outer = those(alloc, inner.as_slice(), patterns.as_slice(), false)?;
+    let mut outer = those(alloc, inner, patterns.as_slice(), false)?;
     names.append(&mut outer)?;
     Ok(())
 }

@@ -26,17 +26,28 @@ pub fn helpers_in(exp: &Exp) -> Result<u64, AllocError>
             Some(tail) => {
                 let one = helpers_in_all(items.as_slice())?;
                 let other = helpers_in(tail)?;
-                together(one, other)
+                let all = together(one, other)?;
+                Ok(all)
             }
-            None => helpers_in_all(items.as_slice()),
+            None => {
+                let all = helpers_in_all(items.as_slice())?;
+                Ok(all)
+            }
         },
-        Exp::Array(items) => helpers_in_all(items.as_slice()),
-        Exp::Call(_, args) => helpers_in_all(args.as_slice()),
+        Exp::Array(items) => {
+            let all = helpers_in_all(items.as_slice())?;
+            Ok(all)
+        }
+        Exp::Call(_, args) => {
+            let all = helpers_in_all(args.as_slice())?;
+            Ok(all)
+        }
         Exp::Quote(_) => Ok(0),
         Exp::Index(of, places) => {
             let one = helpers_in(of)?;
             let other = helpers_in_all(places.as_slice())?;
-            together(one, other)
+            let all = together(one, other)?;
+            Ok(all)
         }
         Exp::Range(first, step, last) => match step {
             Some(step) => {
@@ -44,56 +55,79 @@ pub fn helpers_in(exp: &Exp) -> Result<u64, AllocError>
                 let two = helpers_in(step)?;
                 let three = helpers_in(last)?;
                 let other = together(two, three)?;
-                together(one, other)
+                let all = together(one, other)?;
+                Ok(all)
             }
             None => {
                 let one = helpers_in(first)?;
                 let other = helpers_in(last)?;
-                together(one, other)
+                let all = together(one, other)?;
+                Ok(all)
             }
         },
         Exp::At(_, _) => Ok(0),
-        Exp::Collect(_, item, units) => helpers_in_loop(units.as_slice(), item),
-        Exp::And(parts) => helpers_in_all(parts.as_slice()),
-        Exp::Or(parts) => helpers_in_all(parts.as_slice()),
+        Exp::Collect(_, item, units) => {
+            let one = helpers_in_units(units.as_slice())?;
+            let other = helpers_in(item)?;
+            let all = with_start(units.as_slice(), one, other)?;
+            Ok(all)
+        }
+        Exp::And(parts) => {
+            let all = helpers_in_all(parts.as_slice())?;
+            Ok(all)
+        }
+        Exp::Or(parts) => {
+            let all = helpers_in_all(parts.as_slice())?;
+            Ok(all)
+        }
         Exp::Arrow(test, body) => {
             let one = helpers_in(test)?;
             let other = helpers_in(body)?;
-            together(one, other)
+            let all = together(one, other)?;
+            Ok(all)
         }
         Exp::If(branches, other) => match other {
             Some(other) => {
                 let one = helpers_in_branches(branches.as_slice())?;
                 let more = helpers_in(other)?;
-                together(one, more)
+                let all = together(one, more)?;
+                Ok(all)
             }
-            None => helpers_in_branches(branches.as_slice()),
+            None => {
+                let all = helpers_in_branches(branches.as_slice())?;
+                Ok(all)
+            }
         },
-        Exp::Foreach(units, body) => helpers_in_loop(units.as_slice(), body),
+        Exp::Foreach(units, body) => {
+            let one = helpers_in_units(units.as_slice())?;
+            let other = helpers_in(body)?;
+            let all = with_start(units.as_slice(), one, other)?;
+            Ok(all)
+        }
         Exp::While(test, body) => {
             let one = helpers_in(test)?;
             let other = helpers_in(body)?;
-            let all = together(one, other)?;
-            together(all, 1)
+            let both = together(one, other)?;
+            let all = together(both, 1)?;
+            Ok(all)
         }
         Exp::DoWhile(body, test) => {
             let one = helpers_in(body)?;
             let other = helpers_in(test)?;
-            let all = together(one, other)?;
-            together(all, 1)
+            let both = together(one, other)?;
+            let all = together(both, 1)?;
+            Ok(all)
         }
     }
 }
 
-/// How many helpers a loop has with these iterators and tests, and what stands in it among the rest.
-#[cycle(counts)]
-fn helpers_in_loop(units: &[Exp], inner: &Exp) -> Result<u64, AllocError>
-    ensures { IfOk result (λ count. count ≡ (helpers_of_units (exps_of units.now) + helpers_of (exp_tree inner.now)) + start_helpers_of (exps_of units.now)) }
+/// How many helpers a loop has, by those of its iterators and tests and of what stands in it.
+fn with_start(units: &[Exp], one: u64, other: u64) -> Result<u64, AllocError>
+    ensures { IfOk result (λ count. count ≡ (one + other) + start_helpers_of (exps_of units.now)) }
 {
-    let one = helpers_in_units(units)?;
-    let other = helpers_in(inner)?;
-    let all = together(one, other)?;
-    together(all, start_helpers(units))
+    let both = together(one, other)?;
+    let all = together(both, start_helpers(units))?;
+    Ok(all)
 }
 
 /// A loop that begins with no iterator has one helper, for its one turn.

@@ -4,7 +4,7 @@ ghost use Rattle.pi_syntax.specs.ExpTree.{exp_tree, call};
 ghost use Rattle.pi_syntax.specs.ExpLists.{exps_of};
 ghost use Rattle.pi_names.specs.Texts.{iterated as iterated_of, begins_with_iterator as begins_of, patterns_of, pattern_places};
 ghost use Rattle.pi_slots.specs.Indexed.{names_in};
-ghost use Rattle.pi_sites.specs.TextNames.{tree_in};
+ghost use Rattle.pi_sites.specs.TextNames.{tree_in, first_in};
 
 use crate::places::push_names;
 use pi_syntax::Exp;
@@ -25,13 +25,20 @@ pub fn iterated(unit: &Exp) -> Option<&Exp>
 fn in_sign<'a>(name: &str, args: &'a [Exp]) -> Option<&'a Exp>
     ensures { tree_in result ≡ iterated_of (call name.now (exps_of args.now)) }
 {
-    if args.len() != 2 {
-        return None;
+    if name == "in" {
+        return first_of_two(args);
     }
-    if name != "in" {
-        return None;
+    None
+}
+
+/// The first of two expressions; None for any other number of them.
+fn first_of_two(exps: &[Exp]) -> Option<&Exp>
+    ensures { tree_in result ≡ first_in (exps_of exps.now) }
+{
+    if exps.len() == 2 {
+        return Some(&exps[0]);
     }
-    Some(&args[0])
+    None
 }
 
 /// Whether a loop with these iterators and tests begins with an iterator.
