@@ -5,3 +5,4 @@ pub mod AssignedLemmas
 pub mod CountLemmas
 pub mod UnitLemmas
 pub mod SiteLemmas
+pub mod DigitLemmas
