@@ -1,42 +1,20 @@
 -- Names that may be called where what stands is built, against those that the language gives: of these they are just what the tables of built-ins have.
 use Rattle.std.proofs.Common.{◌≡◌, ◌⊎◌, inl, inr, ℕ, Bool, true, false, List, [], ◌∷◌, refl, sym, subst}
 use Rattle.std.proofs.lemmas.Bool.{false≢true, and_parts, or_left, eqb-true}
-use Rattle.std.specs.Prelude.{not, codes, IsTrue, ◌==◌, ◌&&◌, ◌||◌, nat_le}
+use Rattle.std.specs.Prelude.{not, codes, IsTrue, ◌==◌, ◌||◌}
 use Rattle.std.specs.Str.{bytes_eq}
 use Rattle.pi_states.proofs.MatchLemmas.{same_name}
 use Rattle.pi_effects.specs.Rows.{has_line}
-use Rattle.pi_effects.specs.Integers.{integer_functions}
 use Rattle.pi_effects.specs.Comparing.{comparing_tests}
 use Rattle.pi_effects.specs.Kinds.{kind_tests}
-use Rattle.pi_effects.specs.Collections.{collection_functions}
-use Rattle.pi_effects.specs.Sorting.{sorting_functions}
-use Rattle.pi_effects.specs.Indexing.{index_functions}
-use Rattle.pi_effects.specs.Ranges.{range_functions}
-use Rattle.pi_effects.specs.Naming.{naming_functions}
-use Rattle.pi_effects.specs.Texts.{text_functions, writing_predicates}
-use Rattle.pi_effects.specs.Making.{making_functions}
-use Rattle.pi_effects.specs.Indexing.{index_name}
-use Rattle.pi_effects.specs.BuiltIns.{reading_functions, tests, other_predicates, is_predicate, is_function}
+use Rattle.pi_effects.specs.Texts.{writing_predicates}
+use Rattle.pi_effects.specs.BuiltIns.{tests, other_predicates, is_predicate, is_function}
 use Rattle.pi_syntax.specs.Tokens.{is_one_of}
 use Rattle.pi_meaning.specs.Names.{later_predicates, is_later_predicate, is_later_function, is_resource, is_call, is_planner, is_given_predicate, is_given_function}
 use Rattle.pi_meaning.specs.Defined.{is_machine_predicate}
-use Rattle.pi_lib.specs.Names.{function_rows, predicate_rows, prelude_rows, row, kind_of}
-use Rattle.pi_names.proofs.TableLemmas.{same-name, one-of, each-spelled, spellings-hold, each-signed, signatures-hold, each-from, each-row, rows-hold}
+use Rattle.pi_lib.specs.Names.{function_rows, predicate_rows, prelude_rows, kind_of}
+use Rattle.pi_names.proofs.TableLemmas.{same-name, one-of, each-spelled, spellings-hold, each-signed, signatures-hold}
 use Rattle.pi_coverage.specs.Built.{is_own, is_prelude_kind, is_built_predicate, is_built_function}
-
--- ---- what lowering calls by itself
-
-pub equals-built : is_built_predicate (codes "=") 2 ≡ true
-unfolding is_predicate has_line tests comparing_tests kind_tests writing_predicates other_predicates
-equals-built = refl
-
-pub item-built : is_built_function index_name 2 ≡ true
-unfolding is_function has_line reading_functions integer_functions collection_functions sorting_functions index_functions range_functions naming_functions text_functions making_functions
-item-built = refl
-
-pub ranges-built : (is_built_function (codes "..") 2 ≡ true) × (is_built_function (codes "..") 3 ≡ true)
-unfolding is_function has_line reading_functions integer_functions collection_functions sorting_functions index_functions range_functions naming_functions text_functions making_functions
-ranges-built = (refl, refl)
 
 -- ---- predicates
 
@@ -96,28 +74,55 @@ function-there name k known there may =
 
 -- ---- planner calls
 
-abbrev may_not : List ℕ → ℕ → Bool
-may_not name k = not (may_be_called name k)
+-- each of their names, with so many arguments
+abbrev OfPlanners : (List ℕ → ℕ → Bool) → Type 0
+OfPlanners P =
+    ((P (codes "plan") 2 ≡ true) × (P (codes "plan") 3 ≡ true) × (P (codes "plan") 4 ≡ true)) × ((P (codes "best_plan") 2 ≡ true) × (P (codes "best_plan") 3 ≡ true) × (P (codes "best_plan") 4 ≡ true))
 
-planners-not : ((may_not (codes "plan") 2 ≡ true) × (may_not (codes "plan") 3 ≡ true) × (may_not (codes "plan") 4 ≡ true))
-    × ((may_not (codes "best_plan") 2 ≡ true) × (may_not (codes "best_plan") 3 ≡ true) × (may_not (codes "best_plan") 4 ≡ true))
-unfolding kind_of function_rows predicate_rows prelude_rows is_predicate has_line tests comparing_tests kind_tests writing_predicates other_predicates
+planner-is : (P : List ℕ → ℕ → Bool) → OfPlanners P → (name : List ℕ) (k : ℕ) → is_planner name k ≡ true → P name k ≡ true
+planner-is P all name k is =
+    let parts = and_parts _ ((k == 2) || ((k == 3) || (k == 4))) is in
+    one-of _ _ (P name k) (λ e. spelled (codes "plan") (same_name name (codes "plan") e) all.0 parts.1) (λ e. spelled (codes "best_plan") (same_name name (codes "best_plan") e) all.1 parts.1) parts.0
+  where
+    numbered : (n : List ℕ) → (P n 2 ≡ true) × (P n 3 ≡ true) × (P n 4 ≡ true) → ((k == 2) || ((k == 3) || (k == 4))) ≡ true → P n k ≡ true
+    numbered n all found =
+        one-of (k == 2) _ (P n k) (λ e. subst (λ (j : ℕ). P n j ≡ true) (sym (eqb-true k 2 e)) all.0)
+        (one-of (k == 3) (k == 4) (P n k) (λ e. subst (λ (j : ℕ). P n j ≡ true) (sym (eqb-true k 3 e)) all.1) (λ e. subst (λ (j : ℕ). P n j ≡ true) (sym (eqb-true k 4 e)) all.2)) found
+
+    spelled : (n : List ℕ) → name ≡ n → (P n 2 ≡ true) × (P n 3 ≡ true) × (P n 4 ≡ true) → ((k == 2) || ((k == 3) || (k == 4))) ≡ true → P name k ≡ true
+    spelled n same all found = subst (λ (m : List ℕ). P m k ≡ true) (sym same) (numbered n all found)
+
+abbrev no_machine : List ℕ → ℕ → Bool
+no_machine name k = not (is_machine_predicate name k)
+
+planners-not : OfPlanners no_machine
+unfolding is_predicate has_line tests comparing_tests kind_tests writing_predicates other_predicates
 planners-not = ((refl, refl, refl), (refl, refl, refl))
 
-pub no-planner : (name : List ℕ) (k : ℕ) → is_planner name k ≡ true → may_be_called name k ≡ true → ⊥
-no-planner name k is may =
-    let parts = and_parts _ ((k == 2) || ((k == 3) || (k == 4))) is in
-    refuted (may_be_called name k) may
-    (one-of _ _ (may_not name k) (λ e. spelled (codes "plan") (same_name name (codes "plan") e) planners-not.0 parts.1) (λ e. spelled (codes "best_plan") (same_name name (codes "best_plan") e) planners-not.1 parts.1) parts.0)
+planners-given : OfPlanners is_given_predicate
+unfolding is_predicate has_line tests comparing_tests kind_tests writing_predicates other_predicates is_later_predicate later_predicates
+planners-given = ((refl, refl, refl), (refl, refl, refl))
+
+-- the machine has none, and the language gives them
+pub no-planner : (name : List ℕ) (k : ℕ) → is_planner name k ≡ true → IsTrue (is_machine_predicate name k) → ⊥
+no-planner name k is machine = refuted (is_machine_predicate name k) machine (planner-is no_machine planners-not name k is)
   where
     refuted : (b : Bool) → b ≡ true → not b ≡ true → ⊥
     refuted true is other = false≢true other
     refuted false is other = false≢true is
 
-    numbered : (n : List ℕ) → (may_not n 2 ≡ true) × (may_not n 3 ≡ true) × (may_not n 4 ≡ true) → ((k == 2) || ((k == 3) || (k == 4))) ≡ true → may_not n k ≡ true
-    numbered n all found =
-        one-of (k == 2) _ (may_not n k) (λ e. subst (λ (j : ℕ). may_not n j ≡ true) (sym (eqb-true k 2 e)) all.0)
-        (one-of (k == 3) (k == 4) (may_not n k) (λ e. subst (λ (j : ℕ). may_not n j ≡ true) (sym (eqb-true k 3 e)) all.1) (λ e. subst (λ (j : ℕ). may_not n j ≡ true) (sym (eqb-true k 4 e)) all.2)) found
+pub planner-given : (name : List ℕ) (k : ℕ) → is_planner name k ≡ true → is_given_predicate name k ≡ true
+planner-given name k is = planner-is is_given_predicate planners-given name k is
 
-    spelled : (n : List ℕ) → name ≡ n → (may_not n 2 ≡ true) × (may_not n 3 ≡ true) × (may_not n 4 ≡ true) → ((k == 2) || ((k == 3) || (k == 4))) ≡ true → may_not name k ≡ true
-    spelled n same all found = subst (λ (m : List ℕ). may_not m k ≡ true) (sym same) (numbered n all found)
+-- ---- what the machine has is given
+
+pub machine-given : (name : List ℕ) (k : ℕ) → IsTrue (is_machine_predicate name k) → IsTrue (is_given_predicate name k)
+machine-given name k is = go (is_call name k) (is_predicate name k) (is_later_predicate name k) is
+  where
+    go : (a b c : Bool) → IsTrue (a || b) → IsTrue (a || (b || c))
+    go true b c h = refl
+    go false true c h = refl
+    go false false c h = absurd (false≢true h)
+
+pub table-given : (name : List ℕ) (k : ℕ) → IsTrue (is_function name k) → IsTrue (is_given_function name k)
+table-given name k is = or_left (is_function name k) (is_resource name k || is_later_function name k) is

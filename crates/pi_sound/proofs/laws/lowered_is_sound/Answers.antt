@@ -1,4 +1,6 @@
-use Rattle.pi_sound.proofs.ProgramLemmas.{programs-sound, programs-closed, programs-plain, programs-have-clauses, queries-sound}
+use Rattle.pi_sound.proofs.ProgramLemmas.{programs-sound, programs-closed, programs-have-clauses}
+use Rattle.pi_sound.proofs.PlainLemmas.{programs-plain}
+use Rattle.pi_sound.proofs.QueryLemmas.{queries-sound}
 use Rattle.pi_sound.proofs.laws.lowered_is_sound.Goals as goal
 
 pub returns-clause-programs : goal.returns-clause-programs
