@@ -8,7 +8,9 @@ use Rattle.pi_names.specs.Forms.{Form, negation, once, assignment, catch, by_ter
 use Rattle.pi_lowered.specs.Slots.{SlotNames}
 use Rattle.pi_lowered.specs.Values.{applied}
 use Rattle.pi_lowered.specs.Goals.{SlotParts, call_value, found_by, all_counted, goals_at, value_at}
-use Rattle.pi_lowering.specs.Calls.{term_form}
+use Rattle.pi_lowering.specs.Calls.{term_form, HasCount, IsTermForm}
+use Rattle.pi_lowering.specs.declared.calls.CallForm.{CallForm}
+use Rattle.pi_lowering.specs.declared.calls.CallForm.TheVariants.{Negation, Once, Assignment, Catch, Never, Plain}
 
 abbrev catch_form : List ℕ → ℕ → Option Form
 catch_form name k = cond (is_catch name k) (Some catch) (term_form name k)
@@ -71,3 +73,13 @@ value-counted name k n parts ns same fails holds =
 pub value-applied : (name : List ℕ) (k n : ℕ) (parts : SlotParts) (ns : SlotNames) → n ≡ k → (n == 2 && bytes_eq name (codes "find_all")) ≡ false → (n == 1 && bytes_eq name (codes "count_all")) ≡ false → call_value name k parts ns ≡ applied name (parts.all ns)
 value-applied name k n parts ns same fails nor =
     behind-found name k n parts ns same fails ∙ cond-false (is_count_all name k) (all_counted (goals_at parts.goals 0 ns)) (applied name (parts.all ns)) (ap (λ i. is_count_all name i) (sym same) ∙ nor)
+
+-- ---- forms as code has them
+
+pub term-count : (f : CallForm) (n : ℕ) → IsTermForm f → HasCount f n
+term-count Negation n term = absurd term
+term-count Once n term = absurd term
+term-count Assignment n term = absurd term
+term-count Catch n term = absurd term
+term-count Never n term = tt
+term-count Plain n term = tt

@@ -1,6 +1,9 @@
 pub mod ValueLemmas
 pub mod MadeLemmas
+pub mod HelperLemmas
+pub mod CallLemmas
 pub mod GoalLemmas
+pub mod NeverLemmas
 pub mod AssignLemmas
 pub mod BranchLemmas
 pub mod PartLemmas

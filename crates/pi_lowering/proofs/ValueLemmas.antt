@@ -8,7 +8,9 @@ use Rattle.pi_names.specs.Terms.{items_onto}
 use Rattle.pi_lowered.specs.Slots.{SlotNames, with_value}
 use Rattle.pi_lowered.specs.Values.{SlotValue, SlotValues, applied, slotted, first_item, Slotted, no_values, before_values, value_of_parts, value_onto}
 use Rattle.pi_effects.specs.Indexing.{index_name}
-use Rattle.pi_lowered.specs.Goals.{made, SlotGoals, in_turn, no_value, indexed, found_by, all_found, all_counted}
+use Rattle.pi_lowered.specs.Sites.{Site}
+use Rattle.pi_lowered.specs.Written.{made}
+use Rattle.pi_lowered.specs.Goals.{SlotGoals, in_turn, no_value, indexed, found_by, all_found, all_counted}
 use Rattle.pi_lowering.specs.Lowering.{IsValue, AreValues, AreGoals, IsAlone, IsSlotted, value_of}
 use Rattle.pi_lowering.specs.Calls.{collected_of, counted_of}
 
@@ -90,11 +92,11 @@ three-values a b c old one two new t u w m n k first second third =
       names = rest.names;
     }
 
-pub put-indexed : (h : ℕ) (e : ExpTree) (v : SlotValue) (old one two new : List GoalTree) (t u w : Tree) (m n k : SlotNames) → IsValue v old one t m → IsValue (value_of h e m) one two u n →
-    IsValue (applied index_name (record { goals = []; trees = t ∷ u ∷ []; names = n })) two new w k → IsValue (indexed v (λ ns. value_of h e ns)) old new w k
-put-indexed h e v old one two new t u w m n k whole place is =
-    let here : IsValue (value_of h e v.names) one two u n = value-as (value_of h e v.names) (value_of h e m) one two u n (ap (λ ns. value_of h e ns) (sym whole.names)) place in
-    put-applied index_name (before_values v (before_values (value_of h e v.names) (no_values (value_of h e v.names).names))) old two new (t ∷ u ∷ []) w n k (two-values v (value_of h e v.names) old one two t u m n whole here) is
+pub put-indexed : (s : Site) (e : ExpTree) (v : SlotValue) (old one two new : List GoalTree) (t u w : Tree) (m n k : SlotNames) → IsValue v old one t m → IsValue (value_of s e m) one two u n →
+    IsValue (applied index_name (record { goals = []; trees = t ∷ u ∷ []; names = n })) two new w k → IsValue (indexed v (λ ns. value_of s e ns)) old new w k
+put-indexed s e v old one two new t u w m n k whole place is =
+    let here : IsValue (value_of s e v.names) one two u n = value-as (value_of s e v.names) (value_of s e m) one two u n (ap (λ ns. value_of s e ns) (sym whole.names)) place in
+    put-applied index_name (before_values v (before_values (value_of s e v.names) (no_values (value_of s e v.names).names))) old two new (t ∷ u ∷ []) w n k (two-values v (value_of s e v.names) old one two t u m n whole here) is
 
 -- ---- a value that stands in a slot
 

@@ -1,9 +1,11 @@
 -- Branches that are lowered, and the goals that they come to.
-use Rattle.std.specs.Prelude.{◌≡◌, ℕ, List, [], ◌∷◌}
+use Rattle.std.specs.Prelude.{◌≡◌, List, [], ◌∷◌}
 use Rattle.pi_core.specs.GoalTree.{GoalTree, if_else}
 use Rattle.pi_syntax.specs.ExpTree.{ExpTree, ExpTrees, ExpBranches}
 use Rattle.pi_lowered.specs.Slots.{SlotNames}
-use Rattle.pi_lowered.specs.Goals.{SlotGoals, SlotBranches, in_turn, either_of, goal_of, any_of, arrow_in, branch_before, branches_of}
+use Rattle.pi_lowered.specs.Goals.{SlotGoals, SlotBranches, in_turn, either_of, branch_before}
+use Rattle.pi_lowered.specs.Sites.{Site}
+use Rattle.pi_lowered.specs.Written.{goal_of, any_of, arrow_in, branches_of}
 use Rattle.pi_lowering.specs.declared.branches.Branch.{Branch}
 use Rattle.pi_lowering.specs.declared.branches.Branch.TheVariants.{Goal, Choice}
 use Rattle.pi_lowering.specs.declared.branches.Condition.{Condition}
@@ -27,13 +29,13 @@ abbrev pub chosen_onto : List Condition → SlotGoals → SlotGoals
 chosen_onto cs g = record { goals = chosen cs g.goals; names = g.names }
 
 -- a branch, whatever stands behind it
-pub record IsBranch (h : ℕ) (e : ExpTree) (old : SlotNames) (b : Branch) (ns : SlotNames) : Type 0 where
-  pub is : (others : SlotNames → SlotBranches) → branch_before (arrow_in h e) (goal_of h e) others old ≡ branches_onto (b ∷ []) (others ns)
+pub record IsBranch (s : Site) (e : ExpTree) (old : SlotNames) (b : Branch) (ns : SlotNames) : Type 0 where
+  pub is : (others : SlotNames → SlotBranches) → branch_before (arrow_in s e) (goal_of s e) others old ≡ branches_onto (b ∷ []) (others ns)
 
 -- the branches of a disjunction, with the slots behind them
-pub record AreBranches (h : ℕ) (es : ExpTrees) (old : SlotNames) (bs : List Branch) (ns : SlotNames) : Type 0 where
-  pub are : any_of h es old ≡ branches_onto bs (record { branches = []; names = ns })
+pub record AreBranches (s : Site) (es : ExpTrees) (old : SlotNames) (bs : List Branch) (ns : SlotNames) : Type 0 where
+  pub are : any_of s es old ≡ branches_onto bs (record { branches = []; names = ns })
 
 -- conditions with their bodies, whatever is done where none holds
-pub record AreConditions (h : ℕ) (bs : ExpBranches) (old : SlotNames) (cs : List Condition) (ns : SlotNames) : Type 0 where
-  pub are : (other : SlotNames → SlotGoals) → branches_of h bs other old ≡ chosen_onto cs (other ns)
+pub record AreConditions (s : Site) (bs : ExpBranches) (old : SlotNames) (cs : List Condition) (ns : SlotNames) : Type 0 where
+  pub are : (other : SlotNames → SlotGoals) → branches_of s bs other old ≡ chosen_onto cs (other ns)

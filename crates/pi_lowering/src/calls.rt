@@ -1,20 +1,20 @@
 //! Calls, by their form.
-ghost use Rattle.std.specs.Prelude.{◌≡◌, ◌≤◌, ◌==◌, ◌&&◌, IfOk};
+ghost use Rattle.std.specs.Prelude.{◌≡◌, ◌==◌, ◌&&◌, IfOk};
 ghost use Rattle.std.specs.Str.{bytes_eq};
 ghost use Rattle.pi_syntax.specs.ExpLists.{exps_of};
 ghost use Rattle.pi_meaning.specs.Names.{is_call};
 ghost use Rattle.pi_names.specs.Forms.{form_of};
-ghost use Rattle.pi_lowered.specs.Slots.{SlotNames};
-ghost use Rattle.pi_lowered.specs.Goals.{SlotParts, call_goals};
-ghost use Rattle.pi_lowering.specs.Lowering.{AreGoals, IsValue, call_as_goal, call_as_value};
-ghost use Rattle.pi_lowering.specs.Calls.{form_arity, goals_by, atom_tree, term_form, collected_of, counted_of};
+ghost use Rattle.pi_sites.specs.SiteOf.{site_of};
+ghost use Rattle.pi_lowering.specs.Lowering.{With, AreGoals, IsValue, call_as_goal, call_as_value, call_goal_helpers, call_value_helpers};
+ghost use Rattle.pi_lowering.specs.Calls.{HasCount, IsForm, IsTermForm, atom_tree, term_form, collected_of, counted_of};
 
 use crate::assigned::push_assigned;
 use crate::goals::{alone, push_goal};
 use crate::joined::{in_turn, push_fail};
 use crate::slotted::{applied, slotted};
 use crate::values::{value, values};
-use pi_core::CoreGoal;
+use pi_core::{CoreGoal, CorePred};
+use pi_sites::Site;
 use pi_slots::Slots;
 use pi_syntax::Exp;
 use pi_terms::Term;
@@ -41,8 +41,8 @@ fn is_call_of(name: &str, count: usize, other: &str, arity: usize) -> bool
 
 /// The form of a call.
 fn call_form(name: &str, count: usize) -> CallForm
-    ensures has { form_arity result ≤ count }
-    ensures is { (parts : SlotParts) (ns : SlotNames) → call_goals name.now (form_of name.now count) parts ns ≡ goals_by result name.now parts ns }
+    ensures has { HasCount result count }
+    ensures is { IsForm result (form_of name.now count) }
 {
     if is_call_of(name, count, "not", 1) {
         return CallForm::Negation;
@@ -61,8 +61,8 @@ fn call_form(name: &str, count: usize) -> CallForm
 
 /// The form of a call that is none of those that have goals in them.
 fn other_form(name: &str, count: usize) -> CallForm
-    ensures has { form_arity result ≤ 0 }
-    ensures is { (parts : SlotParts) (ns : SlotNames) → call_goals name.now (term_form name.now count) parts ns ≡ goals_by result name.now parts ns }
+    ensures has { IsTermForm result }
+    ensures is { IsForm result (term_form name.now count) }
 {
     if is_by_term(name, count) {
         return CallForm::Plain;
@@ -97,37 +97,46 @@ pub(crate) fn atom_goal(alloc: Global, name: &str) -> Result<CoreGoal, AllocErro
 #[cycle(lowering)]
 pub(crate) fn push_call<'a>(
     alloc: Global,
-    head: u32,
+    site: &Site<'a>,
     name: &str,
     args: &'a [Exp],
     slots: &mut Slots<'a>,
     goals: &mut Vec<CoreGoal>,
+    helpers: &mut Vec<CorePred>,
 ) -> Result<(), AllocError>
-    ensures { IfOk result (λ _. AreGoals (call_as_goal head name.now (exps_of args.now) slots.old) goals.old.items goals.new.items slots.new) }
+    ensures { IfOk result (λ _. With (AreGoals (call_as_goal (site_of site.now) name.now (exps_of args.now) slots.old) goals.old.items goals.new.items slots.new) helpers.old.items helpers.new.items (call_goal_helpers (site_of site.now) name.now (exps_of args.now))) }
 {
     match call_form(name, args.len()) {
         CallForm::Negation => {
-            let goal = alone(alloc, head, &args[0], slots)?;
+            let goal = alone(alloc, site, &args[0], slots, helpers)?;
             let made = CoreGoal::not(alloc, goal)?;
             goals.push(made)?;
             Ok(())
         }
         CallForm::Once => {
-            let goal = alone(alloc, head, &args[0], slots)?;
+            let goal = alone(alloc, site, &args[0], slots, helpers)?;
             let made = CoreGoal::once(alloc, goal)?;
             goals.push(made)?;
             Ok(())
         }
         CallForm::Assignment => {
-            let term = value(alloc, true, head, &args[1], slots, goals)?;
-            push_assigned(alloc, &args[0], term, slots, goals)?;
+            let to = &args[0];
+            let behind = site.behind(alloc, to)?;
+            let term = value(alloc, true, &behind, &args[1], slots, goals, helpers)?;
+            push_assigned(alloc, to, term, slots, goals)?;
             Ok(())
         }
         CallForm::Catch => {
-            let ball = value(alloc, true, head, &args[1], slots, goals)?;
-            let goal = alone(alloc, head, &args[0], slots)?;
-            let handler = alone(alloc, head, &args[2], slots)?;
-            let made = CoreGoal::catch(alloc, goal, &ball, handler)?;
+            let goal = &args[0];
+            let ball = &args[1];
+            let first = site.behind_names(alloc, goal)?;
+            let term = value(alloc, true, &first, ball, slots, goals, helpers)?;
+            let second = site.behind(alloc, ball)?;
+            let one = alone(alloc, &second, goal, slots, helpers)?;
+            let third = second.behind(alloc, goal)?;
+            let last = third.behind_names(alloc, ball)?;
+            let other = alone(alloc, &last, &args[2], slots, helpers)?;
+            let made = CoreGoal::catch(alloc, one, &term, other)?;
             goals.push(made)?;
             Ok(())
         }
@@ -136,7 +145,7 @@ pub(crate) fn push_call<'a>(
             Ok(())
         }
         CallForm::Plain => {
-            let terms = values(alloc, false, head, args, slots, goals)?;
+            let terms = values(alloc, false, site, args, slots, goals, helpers)?;
             let made = CoreGoal::call(alloc, name, &terms)?;
             goals.push(made)?;
             Ok(())
@@ -148,27 +157,32 @@ pub(crate) fn push_call<'a>(
 #[cycle(lowering)]
 pub(crate) fn call_value<'a>(
     alloc: Global,
-    head: u32,
+    site: &Site<'a>,
     name: &str,
     args: &'a [Exp],
     slots: &mut Slots<'a>,
     goals: &mut Vec<CoreGoal>,
+    helpers: &mut Vec<CorePred>,
 ) -> Result<Term, AllocError>
-    ensures { IfOk result (λ term. IsValue (call_as_value head name.now (exps_of args.now) slots.old) goals.old.items goals.new.items term slots.new) }
+    ensures { IfOk result (λ term. With (IsValue (call_as_value (site_of site.now) name.now (exps_of args.now) slots.old) goals.old.items goals.new.items term slots.new) helpers.old.items helpers.new.items (call_value_helpers (site_of site.now) name.now (exps_of args.now))) }
 {
     if is_call_of(name, args.len(), "find_all", 2) {
+        let item = &args[0];
+        let goal = &args[1];
+        let first = site.behind_names(alloc, item)?;
         let mut inner = Vec::new(alloc);
-        push_goal(alloc, head, &args[1], slots, &mut inner)?;
-        let term = value(alloc, true, head, &args[0], slots, &mut inner)?;
+        push_goal(alloc, &first, goal, slots, &mut inner, helpers)?;
+        let behind = site.behind(alloc, goal)?;
+        let term = value(alloc, true, &behind, item, slots, &mut inner, helpers)?;
         let list = collected(alloc, term, inner, slots, goals)?;
         return Ok(list);
     }
     if is_call_of(name, args.len(), "count_all", 1) {
-        let goal = alone(alloc, head, &args[0], slots)?;
+        let goal = alone(alloc, site, &args[0], slots, helpers)?;
         let number = counted(alloc, goal, slots, goals)?;
         return Ok(number);
     }
-    let terms = values(alloc, false, head, args, slots, goals)?;
+    let terms = values(alloc, false, site, args, slots, goals, helpers)?;
     let made = applied(alloc, name, &terms, slots, goals)?;
     Ok(made)
 }

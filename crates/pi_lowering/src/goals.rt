@@ -1,47 +1,52 @@
 //! Goals: each is put behind those that stand before.
-ghost use Rattle.std.specs.Prelude.{◌≡◌, ◌++◌, ◌∷◌, [], IfOk};
-ghost use Rattle.pi_core.specs.GoalTree.{GoalTree};
+ghost use Rattle.std.specs.Prelude.{◌≡◌, ◌++◌, map, IfOk};
+ghost use Rattle.pi_core.specs.CoreTree.{pred_tree};
 ghost use Rattle.pi_syntax.specs.ExpTree.{exp_tree};
 ghost use Rattle.pi_syntax.specs.ExpLists.{exps_of};
 ghost use Rattle.pi_slots.specs.Branches.{branches_in};
-ghost use Rattle.pi_lowered.specs.Goals.{goal_of, all_of};
-ghost use Rattle.pi_lowering.specs.Lowering.{AreGoals, IsAlone};
+ghost use Rattle.pi_lowered.specs.Written.{goal_of, all_of};
+ghost use Rattle.pi_lowered.specs.Helpers.{goal_helpers, conjunct_helpers, branch_helpers};
+ghost use Rattle.pi_sites.specs.SiteOf.{site_of};
+ghost use Rattle.pi_lowering.specs.Lowering.{With, AreGoals, IsAlone};
 ghost use Rattle.pi_lowering.specs.Joined.{chosen as chosen_of, IsBranch, AreBranches, AreConditions};
 
 use crate::branches::{Branch, Condition, chosen, closed};
 use crate::calls::{atom_goal, push_call};
 use crate::joined::{in_turn, push_fail};
-use pi_core::CoreGoal;
+use pi_core::{CoreGoal, CorePred};
+use pi_sites::Site;
 use pi_slots::Slots;
 use pi_syntax::Exp;
 use std::alloc::{AllocError, Global};
 
-/// Puts the goals that a goal comes to behind the others. `head` is how many slots the head of the rule fills. Errors: no
+/// Puts the goals that a goal comes to behind the others, and the helpers of its loops behind those before. Errors: no
 /// memory.
 pub fn lower_goal<'a>(
     alloc: Global,
-    head: u32,
+    site: &Site<'a>,
     exp: &'a Exp,
     slots: &mut Slots<'a>,
     goals: &mut Vec<CoreGoal>,
+    helpers: &mut Vec<CorePred>,
 ) -> Result<(), AllocError>
-    ensures goals { IfOk result (λ _. goals.new.items ≡ goals.old.items ++ (goal_of head (exp_tree exp.now) slots.old).goals) }
-    ensures slots { IfOk result (λ _. slots.new ≡ (goal_of head (exp_tree exp.now) slots.old).names) }
+    ensures goals { IfOk result (λ _. goals.new.items ≡ goals.old.items ++ (goal_of (site_of site.now) (exp_tree exp.now) slots.old).goals) }
+    ensures slots { IfOk result (λ _. slots.new ≡ (goal_of (site_of site.now) (exp_tree exp.now) slots.old).names) }
+    ensures helpers { IfOk result (λ _. map pred_tree helpers.new.items ≡ map pred_tree helpers.old.items ++ goal_helpers (site_of site.now) (exp_tree exp.now)) }
 {
-    push_goal(alloc, head, exp, slots, goals)?;
+    push_goal(alloc, site, exp, slots, goals, helpers)?;
     Ok(())
 }
 
 #[cycle(lowering)]
-#[tactic(auto, unfolding(pi_syntax::specs::ExpTree::exp_tree, pi_lowered::specs::Goals::made))]
 pub(crate) fn push_goal<'a>(
     alloc: Global,
-    head: u32,
+    site: &Site<'a>,
     exp: &'a Exp,
     slots: &mut Slots<'a>,
     goals: &mut Vec<CoreGoal>,
+    helpers: &mut Vec<CorePred>,
 ) -> Result<(), AllocError>
-    ensures { IfOk result (λ _. AreGoals (goal_of head (exp_tree exp.now) slots.old) goals.old.items goals.new.items slots.new) }
+    ensures { IfOk result (λ _. With (AreGoals (goal_of (site_of site.now) (exp_tree exp.now) slots.old) goals.old.items goals.new.items slots.new) helpers.old.items helpers.new.items (goal_helpers (site_of site.now) (exp_tree exp.now))) }
 {
     match exp {
         Exp::Atom(name) => {
@@ -50,29 +55,38 @@ pub(crate) fn push_goal<'a>(
             Ok(())
         }
         Exp::Call(name, args) => {
-            push_call(alloc, head, name.as_str(), args.as_slice(), slots, goals)?;
+            push_call(
+                alloc,
+                site,
+                name.as_str(),
+                args.as_slice(),
+                slots,
+                goals,
+                helpers,
+            )?;
             Ok(())
         }
         Exp::And(parts) => {
-            push_all(alloc, head, parts.as_slice(), slots, goals)?;
+            push_all(alloc, site, parts.as_slice(), slots, goals, helpers)?;
             Ok(())
         }
         Exp::Or(parts) => {
-            let branches = branches(alloc, head, parts.as_slice(), slots)?;
+            let branches = branches(alloc, site, parts.as_slice(), slots, helpers)?;
             let goal = closed(alloc, branches)?;
             goals.push(goal)?;
             Ok(())
         }
         Exp::If(parts, other) => match other {
             Some(other) => {
-                let conditions = conditions(alloc, head, parts.as_slice(), slots)?;
+                let conditions = conditions(alloc, site, parts.as_slice(), slots, helpers)?;
+                let behind = site.behind_branches(alloc, parts.as_slice())?;
                 let mut last = Vec::new(alloc);
-                push_goal(alloc, head, other, slots, &mut last)?;
+                push_goal(alloc, &behind, other, slots, &mut last, helpers)?;
                 push_chosen(alloc, conditions, last, goals)?;
                 Ok(())
             }
             None => {
-                let conditions = conditions(alloc, head, parts.as_slice(), slots)?;
+                let conditions = conditions(alloc, site, parts.as_slice(), slots, helpers)?;
                 let mut last = Vec::new(alloc);
                 let truth = CoreGoal::truth(alloc)?;
                 last.push(truth)?;
@@ -90,10 +104,19 @@ pub(crate) fn push_goal<'a>(
         Exp::Range(_, _, _) => push_fail(alloc, goals),
         Exp::At(_, _) => push_fail(alloc, goals),
         Exp::Collect(_, _, _) => push_fail(alloc, goals),
-        Exp::Arrow(_, _) => push_fail(alloc, goals),
-        Exp::Foreach(_, _) => push_fail(alloc, goals),
-        Exp::While(_, _) => push_fail(alloc, goals),
-        Exp::DoWhile(_, _) => push_fail(alloc, goals),
+        // No goal stands here, though loops in it have their helpers.
+        Exp::Arrow(test, body) => {
+            let mut aside = Slots::new(alloc);
+            let mut unused = Vec::new(alloc);
+            push_goal(alloc, site, test, &mut aside, &mut unused, helpers)?;
+            let behind = site.behind(alloc, test)?;
+            push_goal(alloc, &behind, body, &mut aside, &mut unused, helpers)?;
+            push_fail(alloc, goals)?;
+            Ok(())
+        }
+        Exp::Foreach(_, _) => Err(AllocError),
+        Exp::While(_, _) => Err(AllocError),
+        Exp::DoWhile(_, _) => Err(AllocError),
     }
 }
 
@@ -115,14 +138,15 @@ fn push_chosen(
 #[cycle(lowering)]
 pub(crate) fn alone<'a>(
     alloc: Global,
-    head: u32,
+    site: &Site<'a>,
     exp: &'a Exp,
     slots: &mut Slots<'a>,
+    helpers: &mut Vec<CorePred>,
 ) -> Result<CoreGoal, AllocError>
-    ensures { IfOk result (λ goal. IsAlone (goal_of head (exp_tree exp.now) slots.old) goal slots.new) }
+    ensures { IfOk result (λ goal. With (IsAlone (goal_of (site_of site.now) (exp_tree exp.now) slots.old) goal slots.new) helpers.old.items helpers.new.items (goal_helpers (site_of site.now) (exp_tree exp.now))) }
 {
     let mut goals = Vec::new(alloc);
-    push_goal(alloc, head, exp, slots, &mut goals)?;
+    push_goal(alloc, site, exp, slots, &mut goals, helpers)?;
     let goal = in_turn(alloc, goals)?;
     Ok(goal)
 }
@@ -131,15 +155,18 @@ pub(crate) fn alone<'a>(
 #[cycle(lowering)]
 fn push_all<'a>(
     alloc: Global,
-    head: u32,
+    site: &Site<'a>,
     exps: &'a [Exp],
     slots: &mut Slots<'a>,
     goals: &mut Vec<CoreGoal>,
+    helpers: &mut Vec<CorePred>,
 ) -> Result<(), AllocError>
-    ensures { IfOk result (λ _. AreGoals (all_of head (exps_of exps.now) slots.old) goals.old.items goals.new.items slots.new) }
+    ensures { IfOk result (λ _. With (AreGoals (all_of (site_of site.now) (exps_of exps.now) slots.old) goals.old.items goals.new.items slots.new) helpers.old.items helpers.new.items (conjunct_helpers (site_of site.now) (exps_of exps.now))) }
 {
+    let mut here = site.copy(alloc)?;
     for exp in exps {
-        push_goal(alloc, head, exp, slots, goals)?;
+        push_goal(alloc, &here, exp, slots, goals, helpers)?;
+        here.pass(alloc, exp)?;
     }
     Ok(())
 }
@@ -148,16 +175,19 @@ fn push_all<'a>(
 #[cycle(lowering)]
 fn branches<'a>(
     alloc: Global,
-    head: u32,
+    site: &Site<'a>,
     exps: &'a [Exp],
     slots: &mut Slots<'a>,
+    helpers: &mut Vec<CorePred>,
 ) -> Result<Vec<Branch>, AllocError>
-    ensures { IfOk result (λ made. AreBranches head (exps_of exps.now) slots.old made.items slots.new) }
+    ensures { IfOk result (λ made. With (AreBranches (site_of site.now) (exps_of exps.now) slots.old made.items slots.new) helpers.old.items helpers.new.items (conjunct_helpers (site_of site.now) (exps_of exps.now))) }
 {
+    let mut here = site.copy(alloc)?;
     let mut made = Vec::new(alloc);
     for exp in exps {
-        let branch = branch_of(alloc, head, exp, slots)?;
+        let branch = branch_of(alloc, &here, exp, slots, helpers)?;
         made.push(branch)?;
+        here.pass(alloc, exp)?;
     }
     Ok(made)
 }
@@ -166,20 +196,22 @@ fn branches<'a>(
 #[cycle(lowering)]
 fn branch_of<'a>(
     alloc: Global,
-    head: u32,
+    site: &Site<'a>,
     exp: &'a Exp,
     slots: &mut Slots<'a>,
+    helpers: &mut Vec<CorePred>,
 ) -> Result<Branch, AllocError>
-    ensures { IfOk result (λ made. IsBranch head (exp_tree exp.now) slots.old made slots.new) }
+    ensures { IfOk result (λ made. With (IsBranch (site_of site.now) (exp_tree exp.now) slots.old made slots.new) helpers.old.items helpers.new.items (goal_helpers (site_of site.now) (exp_tree exp.now))) }
 {
     match exp {
         Exp::Arrow(test, body) => {
-            let test = alone(alloc, head, test, slots)?;
-            let body = alone(alloc, head, body, slots)?;
+            let behind = site.behind(alloc, test)?;
+            let test = alone(alloc, site, test, slots, helpers)?;
+            let body = alone(alloc, &behind, body, slots, helpers)?;
             Ok(Branch::Choice(test, body))
         }
         _ => {
-            let goal = alone(alloc, head, exp, slots)?;
+            let goal = alone(alloc, site, exp, slots, helpers)?;
             Ok(Branch::Goal(goal))
         }
     }
@@ -189,16 +221,20 @@ fn branch_of<'a>(
 #[cycle(lowering)]
 fn conditions<'a>(
     alloc: Global,
-    head: u32,
+    site: &Site<'a>,
     branches: &'a [(Exp, Exp)],
     slots: &mut Slots<'a>,
+    helpers: &mut Vec<CorePred>,
 ) -> Result<Vec<Condition>, AllocError>
-    ensures { IfOk result (λ made. AreConditions head (branches_in branches.now) slots.old made.items slots.new) }
+    ensures { IfOk result (λ made. With (AreConditions (site_of site.now) (branches_in branches.now) slots.old made.items slots.new) helpers.old.items helpers.new.items (branch_helpers (site_of site.now) (branches_in branches.now))) }
 {
+    let mut here = site.copy(alloc)?;
     let mut made = Vec::new(alloc);
     for branch in branches {
-        let test = alone(alloc, head, &branch.0, slots)?;
-        let body = alone(alloc, head, &branch.1, slots)?;
+        let test = alone(alloc, &here, &branch.0, slots, helpers)?;
+        here.pass(alloc, &branch.0)?;
+        let body = alone(alloc, &here, &branch.1, slots, helpers)?;
+        here.pass(alloc, &branch.1)?;
         made.push(Condition { test, body })?;
     }
     Ok(made)

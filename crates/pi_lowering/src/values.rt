@@ -1,38 +1,46 @@
 //! Values: terms whose goals stand before their use.
-ghost use Rattle.std.specs.Prelude.{◌≡◌, ◌+◌, List, cond, false, drop, ◌++◌, ◌∷◌, [], IfOk};
+ghost use Rattle.std.specs.Prelude.{◌≡◌, ◌+◌, List, cond, false, drop, map, ◌++◌, ◌∷◌, [], IfOk};
 ghost use Rattle.pi_terms.specs.Tree.{Tree};
 ghost use Rattle.pi_core.specs.GoalTree.{GoalTree};
 ghost use Rattle.pi_syntax.specs.ExpTree.{exp_tree};
 ghost use Rattle.pi_syntax.specs.ExpLists.{exps_of};
 ghost use Rattle.pi_syntax.specs.declared.exp.Exp.{Exp};
 ghost use Rattle.pi_lowered.specs.Values.{SlotValue, are_flat};
-ghost use Rattle.pi_lowered.specs.Goals.{made as made_of, indexed_by as indexed_by_of, begins_flat as begins_flat_tree, values_in};
-ghost use Rattle.pi_lowering.specs.Lowering.{IsValue, AreValues, EndsCalls, value_of, by_place, flat_by, values_of};
+ghost use Rattle.pi_core.specs.CoreTree.{pred_tree};
+ghost use Rattle.pi_lowered.specs.Goals.{indexed_by as indexed_by_of, begins_flat as begins_flat_tree};
+ghost use Rattle.pi_lowered.specs.Sites.{following_sites};
+ghost use Rattle.pi_lowered.specs.Written.{made as made_of, values_in};
+ghost use Rattle.pi_lowered.specs.Helpers.{value_helpers, all_helpers};
+ghost use Rattle.pi_sites.specs.SiteOf.{site_of};
+ghost use Rattle.pi_lowering.specs.Lowering.{With, IsValue, AreValues, EndsCalls, value_of, by_place, flat_by, values_of};
 
 use crate::calls::call_value;
 use crate::joined::{push_fail, push_filling};
 use crate::slotted::{applied_to_three, applied_to_two};
-use pi_core::CoreGoal;
+use pi_core::{CoreGoal, CorePred};
+use pi_sites::Site;
 use pi_slots::{Slots, is_flat, list_onto, slot_term};
 use pi_syntax::Exp;
 use pi_terms::Term;
 use std::alloc::{AllocError, Global};
 
 /// The term that an expression comes to as the last one that is evaluated. The goals that make its calls' values are put
-/// behind the others. `head` is how many slots the head of the rule fills. Errors: no memory.
+/// behind the others, and the helpers of its loops behind those before. Errors: no memory.
 #[tactic(auto, unfolding(crate::specs::Lowering::by_place))]
 pub fn lower_value<'a>(
     alloc: Global,
-    head: u32,
+    site: &Site<'a>,
     exp: &'a Exp,
     slots: &mut Slots<'a>,
     goals: &mut Vec<CoreGoal>,
+    helpers: &mut Vec<CorePred>,
 ) -> Result<Term, AllocError>
-    ensures goals { IfOk result (λ _. goals.new.items ≡ goals.old.items ++ (value_of head (exp_tree exp.now) slots.old).goals) }
-    ensures is { IfOk result (λ term. term ≡ (value_of head (exp_tree exp.now) slots.old).tree) }
-    ensures slots { IfOk result (λ _. slots.new ≡ (value_of head (exp_tree exp.now) slots.old).names) }
+    ensures goals { IfOk result (λ _. goals.new.items ≡ goals.old.items ++ (value_of (site_of site.now) (exp_tree exp.now) slots.old).goals) }
+    ensures is { IfOk result (λ term. term ≡ (value_of (site_of site.now) (exp_tree exp.now) slots.old).tree) }
+    ensures slots { IfOk result (λ _. slots.new ≡ (value_of (site_of site.now) (exp_tree exp.now) slots.old).names) }
+    ensures helpers { IfOk result (λ _. map pred_tree helpers.new.items ≡ map pred_tree helpers.old.items ++ value_helpers (site_of site.now) (exp_tree exp.now)) }
 {
-    let term = value(alloc, true, head, exp, slots, goals)?;
+    let term = value(alloc, true, site, exp, slots, goals, helpers)?;
     Ok(term)
 }
 
@@ -41,18 +49,19 @@ pub fn lower_value<'a>(
 pub(crate) fn value<'a>(
     alloc: Global,
     is_last: bool,
-    head: u32,
+    site: &Site<'a>,
     exp: &'a Exp,
     slots: &mut Slots<'a>,
     goals: &mut Vec<CoreGoal>,
+    helpers: &mut Vec<CorePred>,
 ) -> Result<Term, AllocError>
-    ensures { IfOk result (λ term. IsValue (by_place is_last head (exp_tree exp.now) slots.old) goals.old.items goals.new.items term slots.new) }
+    ensures { IfOk result (λ term. With (IsValue (by_place is_last (site_of site.now) (exp_tree exp.now) slots.old) goals.old.items goals.new.items term slots.new) helpers.old.items helpers.new.items (value_helpers (site_of site.now) (exp_tree exp.now))) }
 {
     if is_flat(exp) {
-        let term = flat_value(alloc, is_last, head, exp, slots, goals)?;
+        let term = flat_value(alloc, is_last, site.filled, exp, slots, goals)?;
         return Ok(term);
     }
-    let term = made(alloc, head, exp, slots, goals)?;
+    let term = made(alloc, site, exp, slots, goals, helpers)?;
     Ok(term)
 }
 
@@ -79,60 +88,81 @@ fn flat_value<'a>(
 
 /// An expression with a call in it.
 #[cycle(lowering)]
-#[tactic(auto, unfolding(pi_syntax::specs::ExpTree::exp_tree, pi_lowered::specs::Goals::made))]
 fn made<'a>(
     alloc: Global,
-    head: u32,
+    site: &Site<'a>,
     exp: &'a Exp,
     slots: &mut Slots<'a>,
     goals: &mut Vec<CoreGoal>,
+    helpers: &mut Vec<CorePred>,
 ) -> Result<Term, AllocError>
-    ensures { IfOk result (λ term. IsValue (made_of head (exp_tree exp.now) slots.old) goals.old.items goals.new.items term slots.new) }
+    ensures { IfOk result (λ term. With (IsValue (made_of (site_of site.now) (exp_tree exp.now) slots.old) goals.old.items goals.new.items term slots.new) helpers.old.items helpers.new.items (value_helpers (site_of site.now) (exp_tree exp.now))) }
 {
     match exp {
         Exp::List(items, tail) => match tail {
             Some(tail) => {
-                let parts = values(alloc, true, head, items.as_slice(), slots, goals)?;
-                let rest = value(alloc, false, head, tail, slots, goals)?;
+                let parts = values(alloc, true, site, items.as_slice(), slots, goals, helpers)?;
+                let behind = site.behind_all(alloc, items.as_slice())?;
+                let rest = value(alloc, false, &behind, tail, slots, goals, helpers)?;
                 let list = list_onto(alloc, &parts, &rest)?;
                 Ok(list)
             }
             None => {
-                let parts = values(alloc, true, head, items.as_slice(), slots, goals)?;
+                let parts = values(alloc, true, site, items.as_slice(), slots, goals, helpers)?;
                 let rest = Term::atom(alloc, "[]")?;
                 let list = list_onto(alloc, &parts, &rest)?;
                 Ok(list)
             }
         },
         Exp::Array(items) => {
-            let parts = values(alloc, true, head, items.as_slice(), slots, goals)?;
+            let parts = values(alloc, true, site, items.as_slice(), slots, goals, helpers)?;
             let array = Term::comp(alloc, "{}", &parts)?;
             Ok(array)
         }
         Exp::Call(name, args) => {
-            let value = call_value(alloc, head, name.as_str(), args.as_slice(), slots, goals)?;
+            let value = call_value(
+                alloc,
+                site,
+                name.as_str(),
+                args.as_slice(),
+                slots,
+                goals,
+                helpers,
+            )?;
             Ok(value)
         }
         Exp::Index(of, places) => {
             let is_last = begins_flat(places.as_slice());
-            let whole = value(alloc, is_last, head, of, slots, goals)?;
-            let item = indexed_by(alloc, head, whole, places.as_slice(), slots, goals)?;
+            let whole = value(alloc, is_last, site, of, slots, goals, helpers)?;
+            let mut behind = site.behind(alloc, of)?;
+            let item = indexed_by(
+                alloc,
+                &mut behind,
+                whole,
+                places.as_slice(),
+                slots,
+                goals,
+                helpers,
+            )?;
             Ok(item)
         }
         Exp::Range(first, step, last) => match step {
             Some(step) => {
                 let is_last = is_flat(last);
                 let is_end = is_last & is_flat(step);
-                let one = value(alloc, is_end, head, first, slots, goals)?;
-                let two = value(alloc, is_last, head, step, slots, goals)?;
-                let three = value(alloc, true, head, last, slots, goals)?;
+                let one = value(alloc, is_end, site, first, slots, goals, helpers)?;
+                let second = site.behind(alloc, first)?;
+                let two = value(alloc, is_last, &second, step, slots, goals, helpers)?;
+                let third = second.behind(alloc, step)?;
+                let three = value(alloc, true, &third, last, slots, goals, helpers)?;
                 let range = applied_to_three(alloc, "..", one, two, three, slots, goals)?;
                 Ok(range)
             }
             None => {
                 let is_last = is_flat(last);
-                let one = value(alloc, is_last, head, first, slots, goals)?;
-                let two = value(alloc, true, head, last, slots, goals)?;
+                let one = value(alloc, is_last, site, first, slots, goals, helpers)?;
+                let behind = site.behind(alloc, first)?;
+                let two = value(alloc, true, &behind, last, slots, goals, helpers)?;
                 let range = applied_to_two(alloc, "..", one, two, slots, goals)?;
                 Ok(range)
             }
@@ -143,7 +173,7 @@ fn made<'a>(
         Exp::Str(_) => no_value(alloc, goals),
         Exp::Quote(_) => no_value(alloc, goals),
         Exp::At(_, _) => no_value(alloc, goals),
-        Exp::Collect(_, _, _) => no_value(alloc, goals),
+        Exp::Collect(_, _, _) => Err(AllocError),
         Exp::And(_) => no_value(alloc, goals),
         Exp::Or(_) => no_value(alloc, goals),
         Exp::Arrow(_, _) => no_value(alloc, goals),
@@ -180,19 +210,22 @@ fn begins_flat(exps: &[Exp]) -> bool
 pub(crate) fn values<'a>(
     alloc: Global,
     are_parts: bool,
-    head: u32,
+    site: &Site<'a>,
     exps: &'a [Exp],
     slots: &mut Slots<'a>,
     goals: &mut Vec<CoreGoal>,
+    helpers: &mut Vec<CorePred>,
 ) -> Result<Vec<Term>, AllocError>
-    ensures { IfOk result (λ terms. AreValues (values_of are_parts head (exps_of exps.now) slots.old) goals.old.items goals.new.items terms.items slots.new) }
+    ensures { IfOk result (λ terms. With (AreValues (values_of are_parts (site_of site.now) (exps_of exps.now) slots.old) goals.old.items goals.new.items terms.items slots.new) helpers.old.items helpers.new.items (all_helpers (site_of site.now) (exps_of exps.now))) }
 {
     let end = calls_end(exps);
+    let mut here = site.copy(alloc)?;
     let mut terms = Vec::new(alloc);
     for (i, exp) in exps.iter().enumerate() {
         let is_last = is_behind(are_parts, end, i);
-        let term = value(alloc, is_last, head, exp, slots, goals)?;
+        let term = value(alloc, is_last, &here, exp, slots, goals, helpers)?;
         terms.push(term)?;
+        here.pass(alloc, exp)?;
     }
     Ok(terms)
 }
@@ -221,21 +254,23 @@ fn calls_end(exps: &[Exp]) -> usize
     end
 }
 
-/// A value that is indexed by one place after the other.
+/// A value that is indexed by one place after the other, from a site that goes on.
 #[cycle(lowering)]
 fn indexed_by<'a>(
     alloc: Global,
-    head: u32,
+    site: &mut Site<'a>,
     whole: Term,
     places: &'a [Exp],
     slots: &mut Slots<'a>,
     goals: &mut Vec<CoreGoal>,
+    helpers: &mut Vec<CorePred>,
 ) -> Result<Term, AllocError>
-    ensures { IfOk result (λ term. (v : SlotValue) (before : List GoalTree) → IsValue v before goals.old.items whole slots.old → IsValue (indexed_by_of v (values_in head (exps_of places.now))) before goals.new.items term slots.new) }
+    ensures { IfOk result (λ term. With ((v : SlotValue) (before : List GoalTree) → IsValue v before goals.old.items whole slots.old → IsValue (indexed_by_of v (values_in (following_sites (site_of site.old) (exps_of places.now)) (exps_of places.now))) before goals.new.items term slots.new) helpers.old.items helpers.new.items (all_helpers (site_of site.old) (exps_of places.now))) }
 {
     let mut item = whole;
-    for place in places {
-        let place = value(alloc, true, head, place, slots, goals)?;
+    for exp in places {
+        let place = value(alloc, true, site, exp, slots, goals, helpers)?;
+        site.pass(alloc, exp)?;
         item = applied_to_two(alloc, "in", item, place, slots, goals)?;
     }
     Ok(item)

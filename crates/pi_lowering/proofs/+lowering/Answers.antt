@@ -1,110 +1,161 @@
 -- Each kind of goal and expression by its lemma.
-use Rattle.std.specs.Prelude.{◌&&◌}
-use Rattle.std.proofs.Common.{◌≡◌, length, refl, ◌∙◌, ap, rules, sym}
+use Rattle.std.specs.Prelude.{◌&&◌, map}
+use Rattle.std.proofs.Common.{◌≡◌, ◌+◌, ◌++◌, length, drop, refl, sym, ◌∙◌, ap, rules}
 use Rattle.pi_core.specs.GoalTree.{GoalTree}
+use Rattle.pi_core.specs.CoreTree.{pred_tree}
 use Rattle.pi_syntax.specs.ExpTree.{exp_tree}
 use Rattle.pi_syntax.specs.ExpLists.{exps_of}
 use Rattle.pi_syntax.specs.declared.exp.Exp as e
-use Rattle.pi_lowered.specs.Goals.{goal_of, all_of, begins_flat, indexed_by, values_in}
+use Rattle.pi_names.specs.Texts.{places, places_all, places_of_branches}
 use Rattle.pi_lowered.specs.Values.{is_flat}
-use Rattle.pi_lowering.specs.Lowering.{call_as_goal, values_of}
-use Rattle.pi_lowering.proofs.ValueLemmas.{goals-as}
-use Rattle.pi_lowering.proofs.PartLemmas.{all-more, all-end, place-flat, place-made, values-none, values-step, values-last, indexed-none, indexed-more, indexed-end}
-use Rattle.pi_lowering.proofs.GoalLemmas.{is-alone, put-atom, goal-call, goal-and, put-or, put-if_else, put-if_then, put-not, put-once, put-no-call, put-plain, put-caught}
+use Rattle.pi_lowered.specs.Goals.{begins_flat, indexed_by}
+use Rattle.pi_lowered.specs.Sites.{helpers_in_all, helpers_in_branches, behind_site, behind_exp}
+use Rattle.pi_lowered.specs.Written.{made, goal_of, all_of}
+use Rattle.pi_lowered.specs.Helpers.{value_helpers, all_helpers, goal_helpers, conjunct_helpers, branch_helpers}
+use Rattle.pi_slots.specs.Branches.{branches_in}
+use Rattle.pi_sites.specs.SiteOf.{site_of}
+use Rattle.pi_sites.proofs.NowTrees.{atom-now, onto-now, list-now, array-now, call-now, index-now, range-now, range_by-now, and-now, or-now, arrow-now, if_then-now, if_else-now}
+use Rattle.pi_lowering.specs.Lowering.{call_as_goal, call_as_value, call_goal_helpers, call_value_helpers, values_of}
+use Rattle.pi_lowering.proofs.ValueLemmas.{value-as, goals-as}
+use Rattle.pi_lowering.proofs.PartLemmas.{places_in, goals-none, all-more, all-end, place-flat, place-made, values-none, values-step, values-last, indexed-none, indexed-more, indexed-end}
+use Rattle.pi_lowering.proofs.HelperLemmas.{no-helpers, same-helpers, two-helpers, three-helpers, going-more, going-end, all-start, all-next, all-none, conjunct-start, conjunct-next, conjunct-none, branch-start, branch-next, branch-none, flat-helpers, helpers-onto, helpers-list, helpers-array, helpers-index, helpers-range, helpers-range_by, helpers-and, helpers-or, helpers-atom, helpers-arrow, helpers-if_then, helpers-if_else}
+use Rattle.pi_lowering.proofs.CallLemmas.{Found, helpers-not, helpers-once, helpers-assigned, helpers-catch, caught-helpers, helpers-never, helpers-plain, helpers-collected, helpers-count, helpers-apply, goal-call-helpers, value-call-helpers}
+use Rattle.pi_lowering.proofs.GoalLemmas.{is-alone, put-atom, goal-call, goal-and, put-or, put-if_else, put-if_then, put-not, put-once, put-no-call, put-plain, put-caught, put-never, never-as}
+use Rattle.pi_lowering.proofs.NeverLemmas.{never-var, never-int, never-str, never-list, never-array, never-quote, never-index, never-range, never-at, never-collect, never-arrow, idle-var, idle-int, idle-str, idle-list, idle-array, idle-quote, idle-index, idle-range, idle-at, idle-collect}
 use Rattle.pi_lowering.proofs.AssignLemmas.{put-assigned}
-use Rattle.pi_lowering.proofs.BranchLemmas.{arrow-is, no-arrow, arrow-branch, goal-branch, branches-more, branches-end, conditions-more, conditions-end}
-use Rattle.pi_lowering.proofs.MadeLemmas.{put-made_onto, put-made_list, put-made_array, put-made_call, put-made_index, put-made_range, put-made_range_by, flip-and, no_value-as, none-var, none-int, none-atom, none-str, none-quote, none-at, none-collect, none-and, none-or, none-arrow, none-if, none-foreach, none-while, none-do_while, put-call_found, put-call_counted, put-call_applied}
+use Rattle.pi_lowering.proofs.BranchLemmas.{no-arrow, arrow-branch, goal-branch, branches-none, branches-more, branches-end, conditions-none, conditions-more, conditions-end}
+use Rattle.pi_lowering.proofs.MadeLemmas.{put-made_onto, put-made_list, put-made_array, made-call, put-made_index, put-made_range, put-made_range_by, flip-and, no_value-as, none-var, none-int, none-atom, none-str, none-quote, none-at, none-and, none-or, none-arrow, none-if, none-foreach, none-while, none-do_while, bare-var, bare-int, bare-atom, bare-str, bare-quote, bare-at, bare-and, bare-or, bare-arrow, bare-if, bare-foreach, bare-while, bare-do_while, put-call_found, put-call_counted, put-call_applied}
 use Rattle.pi_lowering.proofs.+lowering.Goals as goal
 
 pub values::value-returns-then-is_flat : goal.values::value-returns-then-is_flat
-values::value-returns-then-is_flat t c =
-    place-flat c.args.is_last c.args.head (exp_tree c.args.exp.now) c.args.slots.now c.args.goals.now.items c.flat_value.new.goals.items c.in_ok-term.term c.flat_value.new.slots (sym c.is_flat.ensures ∙ c.if-is_flat.true) c.in_ok-term.ensures
+values::value-returns-then-is_flat t c = record {
+  is = place-flat c.args.is_last (site_of c.args.site.now) (exp_tree c.args.exp.now) c.args.slots.now c.args.goals.now.items c.flat_value.new.goals.items c.in_ok-term.term c.flat_value.new.slots (sym c.is_flat.ensures ∙ c.if-is_flat.true) c.in_ok-term.ensures;
+  helpers = no-helpers (map pred_tree c.args.helpers.now.items) (value_helpers (site_of c.args.site.now) (exp_tree c.args.exp.now)) (flat-helpers (site_of c.args.site.now) (exp_tree c.args.exp.now) (sym c.is_flat.ensures ∙ c.if-is_flat.true));
+}
 
 pub values::value-returns : goal.values::value-returns
-values::value-returns t c =
-    place-made c.args.is_last c.args.head (exp_tree c.args.exp.now) c.args.slots.now c.args.goals.now.items c.made.new.goals.items c.in_ok-term-2.term c.made.new.slots (sym c.is_flat.ensures ∙ c.if-is_flat.false) c.in_ok-term-2.ensures
+values::value-returns t c = record {
+  is = place-made c.args.is_last (site_of c.args.site.now) (exp_tree c.args.exp.now) c.args.slots.now c.args.goals.now.items c.made.new.goals.items c.in_ok-term-2.term c.made.new.slots (sym c.is_flat.ensures ∙ c.if-is_flat.false) c.in_ok-term-2.ensures.is;
+  helpers = c.in_ok-term-2.ensures.helpers;
+}
 
 pub values::values-loop-i-init : goal.values::values-loop-i-init
-values::values-loop-i-init t c =
-    values-none (values_of c.args.are_parts c.args.head (exps_of c.args.exps.now) c.args.slots.now) c.args.goals.now.items c.new-terms.result.items c.new-terms.ensures.items
+values::values-loop-i-init t c = record {
+  is = values-none c.args.are_parts (site_of c.args.site.now) (site_of c.in_ok-here.here) c.args.exps.now c.args.slots.now c.args.goals.now.items c.new-terms.result.items c.in_ok-here.ensures c.new-terms.ensures.items;
+  helpers = all-start (site_of c.args.site.now) (site_of c.in_ok-here.here) c.args.exps.now (map pred_tree c.args.helpers.now.items) c.in_ok-here.ensures;
+}
 
 pub values::values-loop-i-preserved : goal.values::values-loop-i-preserved
-values::values-loop-i-preserved t c =
-    values-step c.args.are_parts c.args.head c.args.exps.now c.loop-i.i c.index-exps-i.result c.is_behind-is_last.result (values_of c.args.are_parts c.args.head (exps_of c.args.exps.now) c.args.slots.now) c.loop-i.slots c.value.new.slots c.args.goals.now.items c.loop-i.goals.items c.value.new.goals.items c.loop-i.terms.items c.push.new.self.items c.in_ok-term.term
-    c.loop-i-test.true c.index-exps-i.is (c.is_behind-is_last.ensures c.args.exps.now c.calls_end-end.ensures) c.in_ok-term.ensures c.in_ok-push.ensures.items c.loop-i.invariant
+values::values-loop-i-preserved t c = record {
+  is = values-step c.args.are_parts (site_of c.loop-i.here) (site_of c.pass.new.self) c.args.exps.now c.loop-i.i c.index-exps-i.result c.is_behind-is_last.result (values_of c.args.are_parts (site_of c.args.site.now) (exps_of c.args.exps.now) c.args.slots.now) c.loop-i.slots c.value.new.slots c.args.goals.now.items c.loop-i.goals.items c.value.new.goals.items c.loop-i.terms.items c.push.new.self.items c.in_ok-term.term
+      c.loop-i-test.true c.index-exps-i.is c.in_ok-pass.ensures (c.is_behind-is_last.ensures c.args.exps.now c.calls_end-end.ensures) c.in_ok-term.ensures.is c.in_ok-push.ensures.items c.loop-i.invariant.is;
+  helpers = going-more (map pred_tree c.args.helpers.now.items) (map pred_tree c.loop-i.helpers.items) (map pred_tree c.value.new.helpers.items) (all_helpers (site_of c.args.site.now) (exps_of c.args.exps.now)) (all_helpers (site_of c.loop-i.here) (exps_of (drop c.loop-i.i c.args.exps.now))) (value_helpers (site_of c.loop-i.here) (exp_tree c.index-exps-i.result)) (all_helpers (site_of c.pass.new.self) (exps_of (drop (c.loop-i.i + 1) c.args.exps.now)))
+      (all-next (site_of c.loop-i.here) (site_of c.pass.new.self) c.args.exps.now c.loop-i.i c.index-exps-i.result c.loop-i-test.true c.index-exps-i.is c.in_ok-pass.ensures) c.in_ok-term.ensures.helpers c.loop-i.invariant.helpers;
+}
 
 pub values::values-returns : goal.values::values-returns
-values::values-returns t c =
-    values-last c.args.are_parts c.args.head c.args.exps.now c.loop-i.i (values_of c.args.are_parts c.args.head (exps_of c.args.exps.now) c.args.slots.now) c.loop-i.slots c.args.goals.now.items c.loop-i.goals.items c.loop-i.terms.items c.loop-i-test.false c.loop-i.invariant
+values::values-returns t c = record {
+  is = values-last c.args.are_parts (site_of c.loop-i.here) c.args.exps.now c.loop-i.i (values_of c.args.are_parts (site_of c.args.site.now) (exps_of c.args.exps.now) c.args.slots.now) c.loop-i.slots c.args.goals.now.items c.loop-i.goals.items c.loop-i.terms.items c.loop-i-test.false c.loop-i.invariant.is;
+  helpers = going-end (map pred_tree c.args.helpers.now.items) (map pred_tree c.loop-i.helpers.items) (all_helpers (site_of c.args.site.now) (exps_of c.args.exps.now)) (all_helpers (site_of c.loop-i.here) (exps_of (drop c.loop-i.i c.args.exps.now))) (all-none (site_of c.loop-i.here) c.args.exps.now c.loop-i.i c.loop-i-test.false) c.loop-i.invariant.helpers;
+}
 
-pub values::indexed_by-loop-place-init : goal.values::indexed_by-loop-place-init
-values::indexed_by-loop-place-init t c v before is = indexed-none v (values_in c.args.head (exps_of c.args.places.now)) before c.args.goals.now.items c.args.whole c.args.slots.now is
+pub values::indexed_by-loop-exp-init : goal.values::indexed_by-loop-exp-init
+values::indexed_by-loop-exp-init t c = record {
+  is = λ v before is. indexed-none (site_of c.args.site.now) (site_of c.args.site.now) c.args.places.now v before c.args.goals.now.items c.args.whole c.args.slots.now refl is;
+  helpers = refl;
+}
 
-pub values::indexed_by-loop-place-preserved : goal.values::indexed_by-loop-place-preserved
-values::indexed_by-loop-place-preserved t c v before is =
-    indexed-more c.args.head c.args.places.now c.loop-place.place-index c.place-item.result (indexed_by v (values_in c.args.head (exps_of c.args.places.now))) before c.loop-place.goals.items c.value.new.goals.items c.applied_to_two.new.goals.items c.loop-place.item c.in_ok-place.place c.in_ok-item.item c.loop-place.slots c.value.new.slots c.applied_to_two.new.slots
-    c.loop-place-test.true c.place-item.is c.in_ok-place.ensures c.in_ok-item.ensures (c.loop-place.invariant v before is)
+pub values::indexed_by-loop-exp-preserved : goal.values::indexed_by-loop-exp-preserved
+values::indexed_by-loop-exp-preserved t c = record {
+  is = λ v before is.
+      indexed-more (site_of c.loop-exp.site) (site_of c.pass.new.self) c.args.places.now c.loop-exp.exp-index c.exp-item.result (indexed_by v (places_in (site_of c.args.site.now) (exps_of c.args.places.now))) before c.loop-exp.goals.items c.value.new.goals.items c.applied_to_two.new.goals.items c.loop-exp.item c.in_ok-place.place c.in_ok-item.item c.loop-exp.slots c.value.new.slots c.applied_to_two.new.slots
+      c.loop-exp-test.true c.exp-item.is c.in_ok-pass.ensures c.in_ok-place.ensures.is c.in_ok-item.ensures (c.loop-exp.invariant.is v before is);
+  helpers = going-more (map pred_tree c.args.helpers.now.items) (map pred_tree c.loop-exp.helpers.items) (map pred_tree c.value.new.helpers.items) (all_helpers (site_of c.args.site.now) (exps_of c.args.places.now)) (all_helpers (site_of c.loop-exp.site) (exps_of (drop c.loop-exp.exp-index c.args.places.now))) (value_helpers (site_of c.loop-exp.site) (exp_tree c.exp-item.result)) (all_helpers (site_of c.pass.new.self) (exps_of (drop (c.loop-exp.exp-index + 1) c.args.places.now)))
+      (all-next (site_of c.loop-exp.site) (site_of c.pass.new.self) c.args.places.now c.loop-exp.exp-index c.exp-item.result c.loop-exp-test.true c.exp-item.is c.in_ok-pass.ensures) c.in_ok-place.ensures.helpers c.loop-exp.invariant.helpers;
+}
 
 pub values::indexed_by-returns : goal.values::indexed_by-returns
-values::indexed_by-returns t c v before is =
-    indexed-end c.args.head c.args.places.now c.loop-place.place-index (indexed_by v (values_in c.args.head (exps_of c.args.places.now))) before c.loop-place.goals.items c.loop-place.item c.loop-place.slots c.loop-place-test.false (c.loop-place.invariant v before is)
+values::indexed_by-returns t c = record {
+  is = λ v before is. indexed-end (site_of c.loop-exp.site) c.args.places.now c.loop-exp.exp-index (indexed_by v (places_in (site_of c.args.site.now) (exps_of c.args.places.now))) before c.loop-exp.goals.items c.loop-exp.item c.loop-exp.slots c.loop-exp-test.false (c.loop-exp.invariant.is v before is);
+  helpers = going-end (map pred_tree c.args.helpers.now.items) (map pred_tree c.loop-exp.helpers.items) (all_helpers (site_of c.args.site.now) (exps_of c.args.places.now)) (all_helpers (site_of c.loop-exp.site) (exps_of (drop c.loop-exp.exp-index c.args.places.now))) (all-none (site_of c.loop-exp.site) c.args.places.now c.loop-exp.exp-index c.loop-exp-test.false) c.loop-exp.invariant.helpers;
+}
+
+pub values::indexed_by-same-item : goal.values::indexed_by-same-item
+values::indexed_by-same-item t c = refl
 
 pub calls::call_value-returns-then-is_call_of : goal.calls::call_value-returns-then-is_call_of
-calls::call_value-returns-then-is_call_of t c =
-    put-call_found c.args.head c.args.name.now c.args.args.now c.index-args-1.result c.index-args-0.result c.args.slots.now c.push_goal.new.slots c.value.new.slots c.collected.new.slots c.new-inner.result.items c.push_goal.new.goals.items c.value.new.goals.items c.args.goals.now.items c.collected.new.goals.items c.in_ok-term.term c.in_ok-list.list
-    (sym c.is_call_of.ensures ∙ c.if-is_call_of.true) c.index-args-1.is c.index-args-0.is c.new-inner.ensures.items c.in_ok-push_goal.ensures c.in_ok-term.ensures c.in_ok-list.ensures
+calls::call_value-returns-then-is_call_of t c = record {
+  is = put-call_found (site_of c.args.site.now) (site_of c.in_ok-first.first) (site_of c.in_ok-behind.behind) c.args.name.now c.args.args.now c.index-args-0.result c.index-args-1.result c.args.slots.now c.push_goal.new.slots c.value.new.slots c.collected.new.slots c.new-inner.result.items c.push_goal.new.goals.items c.value.new.goals.items c.args.goals.now.items c.collected.new.goals.items c.in_ok-term.term c.in_ok-list.list
+      (sym c.is_call_of.ensures ∙ c.if-is_call_of.true) c.index-args-0.is c.index-args-1.is c.in_ok-first.ensures c.in_ok-behind.ensures c.new-inner.ensures.items c.in_ok-push_goal.ensures.is c.in_ok-term.ensures.is c.in_ok-list.ensures;
+  helpers = two-helpers (map pred_tree c.args.helpers.now.items) (map pred_tree c.push_goal.new.helpers.items) (map pred_tree c.value.new.helpers.items) (goal_helpers (site_of c.in_ok-first.first) (exp_tree c.index-args-1.result)) (value_helpers (site_of c.in_ok-behind.behind) (exp_tree c.index-args-0.result)) (call_value_helpers (site_of c.args.site.now) c.args.name.now (exps_of c.args.args.now))
+      (helpers-collected (site_of c.args.site.now) c.args.name.now c.args.args.now c.index-args-0.result c.index-args-1.result (sym c.is_call_of.ensures ∙ c.if-is_call_of.true) c.index-args-0.is c.index-args-1.is ∙ (ap (λ z. goal_helpers z (exp_tree c.index-args-1.result) ++ value_helpers (behind_exp (site_of c.args.site.now) (exp_tree c.index-args-1.result)) (exp_tree c.index-args-0.result)) (sym c.in_ok-first.ensures) ∙ ap (λ z. goal_helpers (site_of c.in_ok-first.first) (exp_tree c.index-args-1.result) ++ value_helpers z (exp_tree c.index-args-0.result)) (sym c.in_ok-behind.ensures)))
+      c.in_ok-push_goal.ensures.helpers c.in_ok-term.ensures.helpers;
+}
 
 pub calls::call_value-returns-then-is_call_of-2 : goal.calls::call_value-returns-then-is_call_of-2
-calls::call_value-returns-then-is_call_of-2 t c =
-    put-call_counted c.args.head c.args.name.now c.args.args.now c.index-args-0-then-is_call_of-2.result c.args.slots.now c.alone.new.slots c.counted.new.slots c.in_ok-goal.goal c.args.goals.now.items c.counted.new.goals.items c.in_ok-number.number
-    (sym c.is_call_of.ensures ∙ c.if-is_call_of.false) (sym c.is_call_of-2.ensures ∙ c.if-is_call_of-2.true) c.index-args-0-then-is_call_of-2.is c.in_ok-goal.ensures c.in_ok-number.ensures
+calls::call_value-returns-then-is_call_of-2 t c = record {
+  is = put-call_counted (site_of c.args.site.now) c.args.name.now c.args.args.now c.index-args-0-then-is_call_of-2.result c.args.slots.now c.alone.new.slots c.counted.new.slots c.in_ok-goal.goal c.args.goals.now.items c.counted.new.goals.items c.in_ok-number.number
+      (sym c.is_call_of.ensures ∙ c.if-is_call_of.false) (sym c.is_call_of-2.ensures ∙ c.if-is_call_of-2.true) c.index-args-0-then-is_call_of-2.is c.in_ok-goal.ensures.is c.in_ok-number.ensures;
+  helpers = same-helpers (map pred_tree c.args.helpers.now.items) (map pred_tree c.alone.new.helpers.items) (goal_helpers (site_of c.args.site.now) (exp_tree c.index-args-0-then-is_call_of-2.result)) (call_value_helpers (site_of c.args.site.now) c.args.name.now (exps_of c.args.args.now)) (helpers-count (site_of c.args.site.now) c.args.name.now c.args.args.now c.index-args-0-then-is_call_of-2.result (sym c.is_call_of.ensures ∙ c.if-is_call_of.false) (sym c.is_call_of-2.ensures ∙ c.if-is_call_of-2.true) c.index-args-0-then-is_call_of-2.is) c.in_ok-goal.ensures.helpers;
+}
 
 pub calls::call_value-returns : goal.calls::call_value-returns
-calls::call_value-returns t c =
-    put-call_applied c.args.head c.args.name.now c.args.args.now c.args.slots.now c.values.new.slots c.applied.new.slots c.args.goals.now.items c.values.new.goals.items c.applied.new.goals.items c.in_ok-terms.terms.items c.deref.result.now c.in_ok-made.made
-    (sym c.is_call_of.ensures ∙ c.if-is_call_of.false) (sym c.is_call_of-2.ensures ∙ c.if-is_call_of-2.false) c.in_ok-terms.ensures c.deref.ensures.value c.in_ok-made.ensures
+calls::call_value-returns t c = record {
+  is = put-call_applied (site_of c.args.site.now) c.args.name.now c.args.args.now c.args.slots.now c.values.new.slots c.applied.new.slots c.args.goals.now.items c.values.new.goals.items c.applied.new.goals.items c.in_ok-terms.terms.items c.deref.result.now c.in_ok-made.made
+      (sym c.is_call_of.ensures ∙ c.if-is_call_of.false) (sym c.is_call_of-2.ensures ∙ c.if-is_call_of-2.false) c.in_ok-terms.ensures.is c.deref.ensures.value c.in_ok-made.ensures;
+  helpers = same-helpers (map pred_tree c.args.helpers.now.items) (map pred_tree c.values.new.helpers.items) (all_helpers (site_of c.args.site.now) (exps_of c.args.args.now)) (call_value_helpers (site_of c.args.site.now) c.args.name.now (exps_of c.args.args.now)) (helpers-apply (site_of c.args.site.now) c.args.name.now c.args.args.now (sym c.is_call_of.ensures ∙ c.if-is_call_of.false) (sym c.is_call_of-2.ensures ∙ c.if-is_call_of-2.false)) c.in_ok-terms.ensures.helpers;
+}
 
 pub values::made-returns-in_ok-list-in-Some : goal.values::made-returns-in_ok-list-in-Some
-values::made-returns-in_ok-list-in-Some t c =
-    put-made_onto c.args.head c.args.exp.now c.in-List.items c.in-List.tail c.in-Some.tail c.as_slice.result.now c.deref.result.now c.args.slots.now c.values.new.slots c.value.new.slots c.args.goals.now.items c.values.new.goals.items c.value.new.goals.items c.in_ok-parts-in-Some.parts.items c.deref-in-Some.result.now c.in_ok-rest-in-Some.rest c.in_ok-list-in-Some.list
-    c.in-List.is c.in-Some.is c.as_slice.ensures.value c.deref.ensures c.in_ok-parts-in-Some.ensures c.in_ok-rest-in-Some.ensures c.deref-in-Some.ensures.value c.in_ok-list-in-Some.ensures
+values::made-returns-in_ok-list-in-Some t c = record {
+  is = put-made_onto (site_of c.args.site.now) (site_of c.in_ok-behind-in-Some.behind) (exp_tree c.args.exp.now) (exps_of c.as_slice.result.now) (exp_tree c.deref.result.now) c.args.slots.now c.values.new.slots c.value.new.slots c.args.goals.now.items c.values.new.goals.items c.value.new.goals.items c.in_ok-parts-in-Some.parts.items c.deref-in-Some.result.now c.in_ok-rest-in-Some.rest c.in_ok-list-in-Some.list
+      (onto-now c.args.exp.now c.in-List.items c.in-List.tail c.in-Some.tail c.as_slice.result.now c.deref.result.now c.in-List.is c.in-Some.is c.as_slice.ensures.value c.deref.ensures) c.in_ok-parts-in-Some.ensures.is (c.in_ok-behind-in-Some.ensures ∙ ap (λ xs. behind_site (site_of c.args.site.now) (places_all (exps_of xs)) (helpers_in_all (exps_of xs))) (c.as_slice-in-Some.ensures.value ∙ sym c.as_slice.ensures.value)) c.in_ok-rest-in-Some.ensures.is c.deref-in-Some.ensures.value c.in_ok-list-in-Some.ensures;
+  helpers = two-helpers (map pred_tree c.args.helpers.now.items) (map pred_tree c.values.new.helpers.items) (map pred_tree c.value.new.helpers.items) (all_helpers (site_of c.args.site.now) (exps_of c.as_slice.result.now)) (value_helpers (site_of c.in_ok-behind-in-Some.behind) (exp_tree c.deref.result.now)) (value_helpers (site_of c.args.site.now) (exp_tree c.args.exp.now)) (helpers-onto (site_of c.args.site.now) (site_of c.in_ok-behind-in-Some.behind) (exp_tree c.args.exp.now) (exps_of c.as_slice.result.now) (exp_tree c.deref.result.now) (onto-now c.args.exp.now c.in-List.items c.in-List.tail c.in-Some.tail c.as_slice.result.now c.deref.result.now c.in-List.is c.in-Some.is c.as_slice.ensures.value c.deref.ensures) (c.in_ok-behind-in-Some.ensures ∙ ap (λ xs. behind_site (site_of c.args.site.now) (places_all (exps_of xs)) (helpers_in_all (exps_of xs))) (c.as_slice-in-Some.ensures.value ∙ sym c.as_slice.ensures.value))) c.in_ok-parts-in-Some.ensures.helpers c.in_ok-rest-in-Some.ensures.helpers;
+}
 
 pub values::made-returns-in_ok-list-in-None : goal.values::made-returns-in_ok-list-in-None
-values::made-returns-in_ok-list-in-None t c =
-    put-made_list c.args.head c.args.exp.now c.in-List.items c.in-List.tail c.as_slice-in-None.result.now c.args.slots.now c.values-in-None.new.slots c.args.goals.now.items c.values-in-None.new.goals.items c.in_ok-parts-in-None.parts.items c.deref-in-None.result.now c.in_ok-rest-in-None.rest c.in_ok-list-in-None.list
-    c.in-List.is c.in-None.is c.as_slice-in-None.ensures.value c.in_ok-parts-in-None.ensures c.deref-in-None.ensures.value c.in_ok-rest-in-None.ensures.ok c.in_ok-list-in-None.ensures
+values::made-returns-in_ok-list-in-None t c = record {
+  is = put-made_list (site_of c.args.site.now) (exp_tree c.args.exp.now) (exps_of c.as_slice-in-None.result.now) c.args.slots.now c.values-in-None.new.slots c.args.goals.now.items c.values-in-None.new.goals.items c.in_ok-parts-in-None.parts.items c.deref-in-None.result.now c.in_ok-rest-in-None.rest c.in_ok-list-in-None.list
+      (list-now c.args.exp.now c.in-List.items c.in-List.tail c.as_slice-in-None.result.now c.in-List.is c.in-None.is c.as_slice-in-None.ensures.value) c.in_ok-parts-in-None.ensures.is c.deref-in-None.ensures.value c.in_ok-rest-in-None.ensures.ok c.in_ok-list-in-None.ensures;
+  helpers = same-helpers (map pred_tree c.args.helpers.now.items) (map pred_tree c.values-in-None.new.helpers.items) (all_helpers (site_of c.args.site.now) (exps_of c.as_slice-in-None.result.now)) (value_helpers (site_of c.args.site.now) (exp_tree c.args.exp.now)) (helpers-list (site_of c.args.site.now) (exp_tree c.args.exp.now) (exps_of c.as_slice-in-None.result.now) (list-now c.args.exp.now c.in-List.items c.in-List.tail c.as_slice-in-None.result.now c.in-List.is c.in-None.is c.as_slice-in-None.ensures.value)) c.in_ok-parts-in-None.ensures.helpers;
+}
 
 pub values::made-returns-in_ok-array-in-Array : goal.values::made-returns-in_ok-array-in-Array
-values::made-returns-in_ok-array-in-Array t c =
-    put-made_array c.args.head c.args.exp.now c.in-Array.items c.as_slice-in-Array.result.now c.args.slots.now c.values-in-Array.new.slots c.args.goals.now.items c.values-in-Array.new.goals.items c.in_ok-parts-in-Array.parts.items c.deref-in-Array.result.now c.in_ok-array-in-Array.array
-    c.in-Array.is c.as_slice-in-Array.ensures.value c.in_ok-parts-in-Array.ensures c.deref-in-Array.ensures.value c.in_ok-array-in-Array.ensures.ok
+values::made-returns-in_ok-array-in-Array t c = record {
+  is = put-made_array (site_of c.args.site.now) (exp_tree c.args.exp.now) (exps_of c.as_slice-in-Array.result.now) c.args.slots.now c.values-in-Array.new.slots c.args.goals.now.items c.values-in-Array.new.goals.items c.in_ok-parts-in-Array.parts.items c.deref-in-Array.result.now c.in_ok-array-in-Array.array
+      (array-now c.args.exp.now c.in-Array.items c.as_slice-in-Array.result.now c.in-Array.is c.as_slice-in-Array.ensures.value) c.in_ok-parts-in-Array.ensures.is c.deref-in-Array.ensures.value c.in_ok-array-in-Array.ensures.ok;
+  helpers = same-helpers (map pred_tree c.args.helpers.now.items) (map pred_tree c.values-in-Array.new.helpers.items) (all_helpers (site_of c.args.site.now) (exps_of c.as_slice-in-Array.result.now)) (value_helpers (site_of c.args.site.now) (exp_tree c.args.exp.now)) (helpers-array (site_of c.args.site.now) (exp_tree c.args.exp.now) (exps_of c.as_slice-in-Array.result.now) (array-now c.args.exp.now c.in-Array.items c.as_slice-in-Array.result.now c.in-Array.is c.as_slice-in-Array.ensures.value)) c.in_ok-parts-in-Array.ensures.helpers;
+}
 
 pub values::made-returns-in_ok-value-in-Call : goal.values::made-returns-in_ok-value-in-Call
-values::made-returns-in_ok-value-in-Call t c =
-    put-made_call c.args.head c.args.exp.now c.in-Call.name c.as_str.result.now c.in-Call.args c.as_slice-in-Call.result.now c.args.slots.now c.call_value.new.slots c.args.goals.now.items c.call_value.new.goals.items c.in_ok-value-in-Call.value
-    c.in-Call.is c.as_str.ensures c.as_slice-in-Call.ensures.value c.in_ok-value-in-Call.ensures
+values::made-returns-in_ok-value-in-Call t c = record {
+  is = value-as (made (site_of c.args.site.now) (exp_tree c.args.exp.now) c.args.slots.now) (call_as_value (site_of c.args.site.now) c.as_str.result.now (exps_of c.as_slice-in-Call.result.now) c.args.slots.now) c.args.goals.now.items c.call_value.new.goals.items c.in_ok-value-in-Call.value c.call_value.new.slots (made-call (site_of c.args.site.now) (exp_tree c.args.exp.now) c.in-Call.name c.as_str.result.now (exps_of c.as_slice-in-Call.result.now) c.args.slots.now (call-now c.args.exp.now c.in-Call.name c.in-Call.args c.as_slice-in-Call.result.now c.in-Call.is c.as_slice-in-Call.ensures.value) c.as_str.ensures) c.in_ok-value-in-Call.ensures.is;
+  helpers = same-helpers (map pred_tree c.args.helpers.now.items) (map pred_tree c.call_value.new.helpers.items) (call_value_helpers (site_of c.args.site.now) c.as_str.result.now (exps_of c.as_slice-in-Call.result.now)) (value_helpers (site_of c.args.site.now) (exp_tree c.args.exp.now)) (value-call-helpers (site_of c.args.site.now) (exp_tree c.args.exp.now) c.in-Call.name c.as_str.result.now (exps_of c.as_slice-in-Call.result.now) (call-now c.args.exp.now c.in-Call.name c.in-Call.args c.as_slice-in-Call.result.now c.in-Call.is c.as_slice-in-Call.ensures.value) c.as_str.ensures) c.in_ok-value-in-Call.ensures.helpers;
+}
 
 pub values::made-returns-in_ok-item-in-Index : goal.values::made-returns-in_ok-item-in-Index
-values::made-returns-in_ok-item-in-Index t c =
-    put-made_index c.args.head c.args.exp.now c.in-Index.of c.in-Index.places c.as_slice-in-Index-2.result.now c.deref-in-Index.result.now c.begins_flat-is_last.result c.args.slots.now c.value-in-Index.new.slots c.indexed_by.new.slots c.args.goals.now.items c.value-in-Index.new.goals.items c.indexed_by.new.goals.items c.in_ok-whole-in-Index.whole c.in_ok-item-in-Index.item
-    c.in-Index.is c.as_slice-in-Index-2.ensures.value c.deref-in-Index.ensures (c.begins_flat-is_last.ensures ∙ ap (λ xs. begins_flat (exps_of xs)) (c.as_slice-in-Index.ensures.value ∙ sym c.as_slice-in-Index-2.ensures.value)) c.in_ok-whole-in-Index.ensures c.in_ok-item-in-Index.ensures
+values::made-returns-in_ok-item-in-Index t c = record {
+  is = put-made_index (site_of c.args.site.now) (site_of c.in_ok-behind-in-Index.behind) (exp_tree c.args.exp.now) (exp_tree c.deref-in-Index.result.now) (exps_of c.as_slice-in-Index-2.result.now) c.begins_flat-is_last.result c.args.slots.now c.value-in-Index.new.slots c.indexed_by.new.slots c.args.goals.now.items c.value-in-Index.new.goals.items c.indexed_by.new.goals.items c.in_ok-whole-in-Index.whole c.in_ok-item-in-Index.item
+      (index-now c.args.exp.now c.in-Index.of c.in-Index.places c.as_slice-in-Index-2.result.now c.deref-in-Index.result.now c.in-Index.is c.as_slice-in-Index-2.ensures.value c.deref-in-Index.ensures) (c.begins_flat-is_last.ensures ∙ ap (λ xs. begins_flat (exps_of xs)) (c.as_slice-in-Index.ensures.value ∙ sym c.as_slice-in-Index-2.ensures.value)) c.in_ok-whole-in-Index.ensures.is (c.in_ok-behind-in-Index.ensures ∙ ap (λ z. behind_exp (site_of c.args.site.now) (exp_tree z)) (c.deref-in-Index-2.ensures ∙ sym c.deref-in-Index.ensures)) c.in_ok-item-in-Index.ensures.is;
+  helpers = two-helpers (map pred_tree c.args.helpers.now.items) (map pred_tree c.value-in-Index.new.helpers.items) (map pred_tree c.indexed_by.new.helpers.items) (value_helpers (site_of c.args.site.now) (exp_tree c.deref-in-Index.result.now)) (all_helpers (site_of c.in_ok-behind-in-Index.behind) (exps_of c.as_slice-in-Index-2.result.now)) (value_helpers (site_of c.args.site.now) (exp_tree c.args.exp.now)) (helpers-index (site_of c.args.site.now) (site_of c.in_ok-behind-in-Index.behind) (exp_tree c.args.exp.now) (exp_tree c.deref-in-Index.result.now) (exps_of c.as_slice-in-Index-2.result.now) (index-now c.args.exp.now c.in-Index.of c.in-Index.places c.as_slice-in-Index-2.result.now c.deref-in-Index.result.now c.in-Index.is c.as_slice-in-Index-2.ensures.value c.deref-in-Index.ensures) (c.in_ok-behind-in-Index.ensures ∙ ap (λ z. behind_exp (site_of c.args.site.now) (exp_tree z)) (c.deref-in-Index-2.ensures ∙ sym c.deref-in-Index.ensures))) c.in_ok-whole-in-Index.ensures.helpers c.in_ok-item-in-Index.ensures.helpers;
+}
 
 pub values::made-returns-in_ok-range-in-Some-step : goal.values::made-returns-in_ok-range-in-Some-step
-values::made-returns-in_ok-range-in-Some-step t c =
-    put-made_range_by c.args.head c.args.exp.now c.in-Range.first c.in-Range.step c.in-Range.last c.in-Some-step.step c.deref-in-Some-step-3.result.now c.deref-in-Some-step-4.result.now c.deref-in-Some-step-5.result.now c.is_flat-is_last.result (c.is_flat-is_last.result && c.is_flat.result)
-    c.args.slots.now c.value-in-Some-step.new.slots c.value-in-Some-step-2.new.slots c.value-in-Some-step-3.new.slots c.applied_to_three.new.slots c.args.goals.now.items c.value-in-Some-step.new.goals.items c.value-in-Some-step-2.new.goals.items c.value-in-Some-step-3.new.goals.items c.applied_to_three.new.goals.items
-    c.in_ok-one-in-Some-step.one c.in_ok-two-in-Some-step.two c.in_ok-three-in-Some-step.three c.in_ok-range-in-Some-step.range c.in-Range.is c.in-Some-step.is c.deref-in-Some-step-3.ensures c.deref-in-Some-step-4.ensures c.deref-in-Some-step-5.ensures
-    (c.is_flat-is_last.ensures ∙ ap (λ z. is_flat (exp_tree z)) (c.deref-in-Some-step.ensures ∙ sym c.deref-in-Some-step-5.ensures))
-    (flip-and c.is_flat-is_last.result c.is_flat.result (is_flat (exp_tree c.deref-in-Some-step-4.result.now)) (c.is_flat.ensures ∙ ap (λ z. is_flat (exp_tree z)) (c.deref-in-Some-step-2.ensures ∙ sym c.deref-in-Some-step-4.ensures)))
-    c.in_ok-one-in-Some-step.ensures c.in_ok-two-in-Some-step.ensures c.in_ok-three-in-Some-step.ensures c.in_ok-range-in-Some-step.ensures
+values::made-returns-in_ok-range-in-Some-step t c = record {
+  is = put-made_range_by (site_of c.args.site.now) (site_of c.in_ok-second-in-Some-step.second) (site_of c.in_ok-third-in-Some-step.third) (exp_tree c.args.exp.now) (exp_tree c.deref-in-Some-step-3.result.now) (exp_tree c.deref-in-Some-step-5.result.now) (exp_tree c.deref-in-Some-step-7.result.now) c.is_flat-is_last.result (c.is_flat-is_last.result && c.is_flat.result) c.args.slots.now c.value-in-Some-step.new.slots c.value-in-Some-step-2.new.slots c.value-in-Some-step-3.new.slots c.applied_to_three.new.slots c.args.goals.now.items c.value-in-Some-step.new.goals.items c.value-in-Some-step-2.new.goals.items c.value-in-Some-step-3.new.goals.items c.applied_to_three.new.goals.items
+      c.in_ok-one-in-Some-step.one c.in_ok-two-in-Some-step.two c.in_ok-three-in-Some-step.three c.in_ok-range-in-Some-step.range (range_by-now c.args.exp.now c.in-Range.first c.in-Range.step c.in-Range.last c.in-Some-step.step c.deref-in-Some-step-3.result.now c.deref-in-Some-step-5.result.now c.deref-in-Some-step-7.result.now c.in-Range.is c.in-Some-step.is c.deref-in-Some-step-3.ensures c.deref-in-Some-step-5.ensures c.deref-in-Some-step-7.ensures)
+      (c.is_flat-is_last.ensures ∙ ap (λ z. is_flat (exp_tree z)) (c.deref-in-Some-step.ensures ∙ sym c.deref-in-Some-step-7.ensures))
+      (flip-and c.is_flat-is_last.result c.is_flat.result (is_flat (exp_tree c.deref-in-Some-step-5.result.now)) (c.is_flat.ensures ∙ ap (λ z. is_flat (exp_tree z)) (c.deref-in-Some-step-2.ensures ∙ sym c.deref-in-Some-step-5.ensures)))
+      (c.in_ok-second-in-Some-step.ensures ∙ ap (λ z. behind_exp (site_of c.args.site.now) (exp_tree z)) (c.deref-in-Some-step-4.ensures ∙ sym c.deref-in-Some-step-3.ensures)) (c.in_ok-third-in-Some-step.ensures ∙ ap (λ z. behind_exp (site_of c.in_ok-second-in-Some-step.second) (exp_tree z)) (c.deref-in-Some-step-6.ensures ∙ sym c.deref-in-Some-step-5.ensures)) c.in_ok-one-in-Some-step.ensures.is c.in_ok-two-in-Some-step.ensures.is c.in_ok-three-in-Some-step.ensures.is c.in_ok-range-in-Some-step.ensures;
+  helpers = three-helpers (map pred_tree c.args.helpers.now.items) (map pred_tree c.value-in-Some-step.new.helpers.items) (map pred_tree c.value-in-Some-step-2.new.helpers.items) (map pred_tree c.value-in-Some-step-3.new.helpers.items) (value_helpers (site_of c.args.site.now) (exp_tree c.deref-in-Some-step-3.result.now)) (value_helpers (site_of c.in_ok-second-in-Some-step.second) (exp_tree c.deref-in-Some-step-5.result.now)) (value_helpers (site_of c.in_ok-third-in-Some-step.third) (exp_tree c.deref-in-Some-step-7.result.now)) (value_helpers (site_of c.args.site.now) (exp_tree c.args.exp.now)) (helpers-range_by (site_of c.args.site.now) (site_of c.in_ok-second-in-Some-step.second) (site_of c.in_ok-third-in-Some-step.third) (exp_tree c.args.exp.now) (exp_tree c.deref-in-Some-step-3.result.now) (exp_tree c.deref-in-Some-step-5.result.now) (exp_tree c.deref-in-Some-step-7.result.now) (range_by-now c.args.exp.now c.in-Range.first c.in-Range.step c.in-Range.last c.in-Some-step.step c.deref-in-Some-step-3.result.now c.deref-in-Some-step-5.result.now c.deref-in-Some-step-7.result.now c.in-Range.is c.in-Some-step.is c.deref-in-Some-step-3.ensures c.deref-in-Some-step-5.ensures c.deref-in-Some-step-7.ensures) (c.in_ok-second-in-Some-step.ensures ∙ ap (λ z. behind_exp (site_of c.args.site.now) (exp_tree z)) (c.deref-in-Some-step-4.ensures ∙ sym c.deref-in-Some-step-3.ensures)) (c.in_ok-third-in-Some-step.ensures ∙ ap (λ z. behind_exp (site_of c.in_ok-second-in-Some-step.second) (exp_tree z)) (c.deref-in-Some-step-6.ensures ∙ sym c.deref-in-Some-step-5.ensures))) c.in_ok-one-in-Some-step.ensures.helpers c.in_ok-two-in-Some-step.ensures.helpers c.in_ok-three-in-Some-step.ensures.helpers;
+}
 
 pub values::made-returns-in_ok-range-in-None-step : goal.values::made-returns-in_ok-range-in-None-step
-values::made-returns-in_ok-range-in-None-step t c =
-    put-made_range c.args.head c.args.exp.now c.in-Range.first c.in-Range.step c.in-Range.last c.deref-in-None-step-2.result.now c.deref-in-None-step-3.result.now c.is_flat-is_last-in-None-step.result
-    c.args.slots.now c.value-in-None-step.new.slots c.value-in-None-step-2.new.slots c.applied_to_two.new.slots c.args.goals.now.items c.value-in-None-step.new.goals.items c.value-in-None-step-2.new.goals.items c.applied_to_two.new.goals.items
-    c.in_ok-one-in-None-step.one c.in_ok-two-in-None-step.two c.in_ok-range-in-None-step.range c.in-Range.is c.in-None-step.is c.deref-in-None-step-2.ensures c.deref-in-None-step-3.ensures
-    (c.is_flat-is_last-in-None-step.ensures ∙ ap (λ z. is_flat (exp_tree z)) (c.deref-in-None-step.ensures ∙ sym c.deref-in-None-step-3.ensures))
-    c.in_ok-one-in-None-step.ensures c.in_ok-two-in-None-step.ensures c.in_ok-range-in-None-step.ensures
+values::made-returns-in_ok-range-in-None-step t c = record {
+  is = put-made_range (site_of c.args.site.now) (site_of c.in_ok-behind-in-None-step.behind) (exp_tree c.args.exp.now) (exp_tree c.deref-in-None-step-2.result.now) (exp_tree c.deref-in-None-step-4.result.now) c.is_flat-is_last-in-None-step.result c.args.slots.now c.value-in-None-step.new.slots c.value-in-None-step-2.new.slots c.applied_to_two.new.slots c.args.goals.now.items c.value-in-None-step.new.goals.items c.value-in-None-step-2.new.goals.items c.applied_to_two.new.goals.items c.in_ok-one-in-None-step.one c.in_ok-two-in-None-step.two c.in_ok-range-in-None-step.range
+      (range-now c.args.exp.now c.in-Range.first c.in-Range.step c.in-Range.last c.deref-in-None-step-2.result.now c.deref-in-None-step-4.result.now c.in-Range.is c.in-None-step.is c.deref-in-None-step-2.ensures c.deref-in-None-step-4.ensures) (c.is_flat-is_last-in-None-step.ensures ∙ ap (λ z. is_flat (exp_tree z)) (c.deref-in-None-step.ensures ∙ sym c.deref-in-None-step-4.ensures)) (c.in_ok-behind-in-None-step.ensures ∙ ap (λ z. behind_exp (site_of c.args.site.now) (exp_tree z)) (c.deref-in-None-step-3.ensures ∙ sym c.deref-in-None-step-2.ensures)) c.in_ok-one-in-None-step.ensures.is c.in_ok-two-in-None-step.ensures.is c.in_ok-range-in-None-step.ensures;
+  helpers = two-helpers (map pred_tree c.args.helpers.now.items) (map pred_tree c.value-in-None-step.new.helpers.items) (map pred_tree c.value-in-None-step-2.new.helpers.items) (value_helpers (site_of c.args.site.now) (exp_tree c.deref-in-None-step-2.result.now)) (value_helpers (site_of c.in_ok-behind-in-None-step.behind) (exp_tree c.deref-in-None-step-4.result.now)) (value_helpers (site_of c.args.site.now) (exp_tree c.args.exp.now)) (helpers-range (site_of c.args.site.now) (site_of c.in_ok-behind-in-None-step.behind) (exp_tree c.args.exp.now) (exp_tree c.deref-in-None-step-2.result.now) (exp_tree c.deref-in-None-step-4.result.now) (range-now c.args.exp.now c.in-Range.first c.in-Range.step c.in-Range.last c.deref-in-None-step-2.result.now c.deref-in-None-step-4.result.now c.in-Range.is c.in-None-step.is c.deref-in-None-step-2.ensures c.deref-in-None-step-4.ensures) (c.in_ok-behind-in-None-step.ensures ∙ ap (λ z. behind_exp (site_of c.args.site.now) (exp_tree z)) (c.deref-in-None-step-3.ensures ∙ sym c.deref-in-None-step-2.ensures))) c.in_ok-one-in-None-step.ensures.helpers c.in_ok-two-in-None-step.ensures.helpers;
+}
 
 pub values::made-same-one : goal.values::made-same-one
 values::made-same-one t c = refl
@@ -115,151 +166,239 @@ values::made-same-two t c = refl
 pub values::made-same-one-in-None-step : goal.values::made-same-one-in-None-step
 values::made-same-one-in-None-step t c = refl
 
-pub values::indexed_by-same-item : goal.values::indexed_by-same-item
-values::indexed_by-same-item t c = refl
-
 pub values::made-returns-in-Var : goal.values::made-returns-in-Var
-values::made-returns-in-Var t c =
-    no_value-as c.args.head c.args.exp.now (e.Var c.in-Var.field-0) c.args.slots.now c.args.goals.now.items c.no_value.new.goals.items c.no_value.result c.in-Var.is (none-var c.args.head c.in-Var.field-0 c.args.slots.now) c.no_value.ensures.goals c.no_value.ensures.is
+values::made-returns-in-Var t c = no_value-as (site_of c.args.site.now) c.args.exp.now (e.Var c.in-Var.field-0) c.args.slots.now c.args.goals.now.items c.no_value.new.goals.items c.args.helpers.now.items c.no_value.result c.in-Var.is (none-var (site_of c.args.site.now) c.in-Var.field-0 c.args.slots.now) (bare-var (site_of c.args.site.now) c.in-Var.field-0) c.no_value.ensures.goals c.no_value.ensures.is
 
 pub values::made-returns-in-Int : goal.values::made-returns-in-Int
-values::made-returns-in-Int t c =
-    no_value-as c.args.head c.args.exp.now (e.Int c.in-Int.field-0) c.args.slots.now c.args.goals.now.items c.no_value-in-Int.new.goals.items c.no_value-in-Int.result c.in-Int.is (none-int c.args.head c.in-Int.field-0 c.args.slots.now) c.no_value-in-Int.ensures.goals c.no_value-in-Int.ensures.is
+values::made-returns-in-Int t c = no_value-as (site_of c.args.site.now) c.args.exp.now (e.Int c.in-Int.field-0) c.args.slots.now c.args.goals.now.items c.no_value-in-Int.new.goals.items c.args.helpers.now.items c.no_value-in-Int.result c.in-Int.is (none-int (site_of c.args.site.now) c.in-Int.field-0 c.args.slots.now) (bare-int (site_of c.args.site.now) c.in-Int.field-0) c.no_value-in-Int.ensures.goals c.no_value-in-Int.ensures.is
 
 pub values::made-returns-in-Atom : goal.values::made-returns-in-Atom
-values::made-returns-in-Atom t c =
-    no_value-as c.args.head c.args.exp.now (e.Atom c.in-Atom.field-0) c.args.slots.now c.args.goals.now.items c.no_value-in-Atom.new.goals.items c.no_value-in-Atom.result c.in-Atom.is (none-atom c.args.head c.in-Atom.field-0 c.args.slots.now) c.no_value-in-Atom.ensures.goals c.no_value-in-Atom.ensures.is
+values::made-returns-in-Atom t c = no_value-as (site_of c.args.site.now) c.args.exp.now (e.Atom c.in-Atom.field-0) c.args.slots.now c.args.goals.now.items c.no_value-in-Atom.new.goals.items c.args.helpers.now.items c.no_value-in-Atom.result c.in-Atom.is (none-atom (site_of c.args.site.now) c.in-Atom.field-0 c.args.slots.now) (bare-atom (site_of c.args.site.now) c.in-Atom.field-0) c.no_value-in-Atom.ensures.goals c.no_value-in-Atom.ensures.is
 
 pub values::made-returns-in-Str : goal.values::made-returns-in-Str
-values::made-returns-in-Str t c =
-    no_value-as c.args.head c.args.exp.now (e.Str c.in-Str.field-0) c.args.slots.now c.args.goals.now.items c.no_value-in-Str.new.goals.items c.no_value-in-Str.result c.in-Str.is (none-str c.args.head c.in-Str.field-0 c.args.slots.now) c.no_value-in-Str.ensures.goals c.no_value-in-Str.ensures.is
+values::made-returns-in-Str t c = no_value-as (site_of c.args.site.now) c.args.exp.now (e.Str c.in-Str.field-0) c.args.slots.now c.args.goals.now.items c.no_value-in-Str.new.goals.items c.args.helpers.now.items c.no_value-in-Str.result c.in-Str.is (none-str (site_of c.args.site.now) c.in-Str.field-0 c.args.slots.now) (bare-str (site_of c.args.site.now) c.in-Str.field-0) c.no_value-in-Str.ensures.goals c.no_value-in-Str.ensures.is
 
 pub values::made-returns-in-Quote : goal.values::made-returns-in-Quote
-values::made-returns-in-Quote t c =
-    no_value-as c.args.head c.args.exp.now (e.Quote c.in-Quote.field-0) c.args.slots.now c.args.goals.now.items c.no_value-in-Quote.new.goals.items c.no_value-in-Quote.result c.in-Quote.is (none-quote c.args.head c.in-Quote.field-0 c.args.slots.now) c.no_value-in-Quote.ensures.goals c.no_value-in-Quote.ensures.is
+values::made-returns-in-Quote t c = no_value-as (site_of c.args.site.now) c.args.exp.now (e.Quote c.in-Quote.field-0) c.args.slots.now c.args.goals.now.items c.no_value-in-Quote.new.goals.items c.args.helpers.now.items c.no_value-in-Quote.result c.in-Quote.is (none-quote (site_of c.args.site.now) c.in-Quote.field-0 c.args.slots.now) (bare-quote (site_of c.args.site.now) c.in-Quote.field-0) c.no_value-in-Quote.ensures.goals c.no_value-in-Quote.ensures.is
 
 pub values::made-returns-in-At : goal.values::made-returns-in-At
-values::made-returns-in-At t c =
-    no_value-as c.args.head c.args.exp.now (e.At c.in-At.field-0 c.in-At.field-1) c.args.slots.now c.args.goals.now.items c.no_value-in-At.new.goals.items c.no_value-in-At.result c.in-At.is (none-at c.args.head c.in-At.field-0 c.in-At.field-1 c.args.slots.now) c.no_value-in-At.ensures.goals c.no_value-in-At.ensures.is
-
-pub values::made-returns-in-Collect : goal.values::made-returns-in-Collect
-values::made-returns-in-Collect t c =
-    no_value-as c.args.head c.args.exp.now (e.Collect c.in-Collect.field-0 c.in-Collect.field-1 c.in-Collect.field-2) c.args.slots.now c.args.goals.now.items c.no_value-in-Collect.new.goals.items c.no_value-in-Collect.result c.in-Collect.is (none-collect c.args.head c.in-Collect.field-0 c.in-Collect.field-1 c.in-Collect.field-2 c.args.slots.now) c.no_value-in-Collect.ensures.goals c.no_value-in-Collect.ensures.is
+values::made-returns-in-At t c = no_value-as (site_of c.args.site.now) c.args.exp.now (e.At c.in-At.field-0 c.in-At.field-1) c.args.slots.now c.args.goals.now.items c.no_value-in-At.new.goals.items c.args.helpers.now.items c.no_value-in-At.result c.in-At.is (none-at (site_of c.args.site.now) c.in-At.field-0 c.in-At.field-1 c.args.slots.now) (bare-at (site_of c.args.site.now) c.in-At.field-0 c.in-At.field-1) c.no_value-in-At.ensures.goals c.no_value-in-At.ensures.is
 
 pub values::made-returns-in-And : goal.values::made-returns-in-And
-values::made-returns-in-And t c =
-    no_value-as c.args.head c.args.exp.now (e.And c.in-And.field-0) c.args.slots.now c.args.goals.now.items c.no_value-in-And.new.goals.items c.no_value-in-And.result c.in-And.is (none-and c.args.head c.in-And.field-0 c.args.slots.now) c.no_value-in-And.ensures.goals c.no_value-in-And.ensures.is
+values::made-returns-in-And t c = no_value-as (site_of c.args.site.now) c.args.exp.now (e.And c.in-And.field-0) c.args.slots.now c.args.goals.now.items c.no_value-in-And.new.goals.items c.args.helpers.now.items c.no_value-in-And.result c.in-And.is (none-and (site_of c.args.site.now) c.in-And.field-0 c.args.slots.now) (bare-and (site_of c.args.site.now) c.in-And.field-0) c.no_value-in-And.ensures.goals c.no_value-in-And.ensures.is
 
 pub values::made-returns-in-Or : goal.values::made-returns-in-Or
-values::made-returns-in-Or t c =
-    no_value-as c.args.head c.args.exp.now (e.Or c.in-Or.field-0) c.args.slots.now c.args.goals.now.items c.no_value-in-Or.new.goals.items c.no_value-in-Or.result c.in-Or.is (none-or c.args.head c.in-Or.field-0 c.args.slots.now) c.no_value-in-Or.ensures.goals c.no_value-in-Or.ensures.is
+values::made-returns-in-Or t c = no_value-as (site_of c.args.site.now) c.args.exp.now (e.Or c.in-Or.field-0) c.args.slots.now c.args.goals.now.items c.no_value-in-Or.new.goals.items c.args.helpers.now.items c.no_value-in-Or.result c.in-Or.is (none-or (site_of c.args.site.now) c.in-Or.field-0 c.args.slots.now) (bare-or (site_of c.args.site.now) c.in-Or.field-0) c.no_value-in-Or.ensures.goals c.no_value-in-Or.ensures.is
 
 pub values::made-returns-in-Arrow : goal.values::made-returns-in-Arrow
-values::made-returns-in-Arrow t c =
-    no_value-as c.args.head c.args.exp.now (e.Arrow c.in-Arrow.field-0 c.in-Arrow.field-1) c.args.slots.now c.args.goals.now.items c.no_value-in-Arrow.new.goals.items c.no_value-in-Arrow.result c.in-Arrow.is (none-arrow c.args.head c.in-Arrow.field-0 c.in-Arrow.field-1 c.args.slots.now) c.no_value-in-Arrow.ensures.goals c.no_value-in-Arrow.ensures.is
+values::made-returns-in-Arrow t c = no_value-as (site_of c.args.site.now) c.args.exp.now (e.Arrow c.in-Arrow.field-0 c.in-Arrow.field-1) c.args.slots.now c.args.goals.now.items c.no_value-in-Arrow.new.goals.items c.args.helpers.now.items c.no_value-in-Arrow.result c.in-Arrow.is (none-arrow (site_of c.args.site.now) c.in-Arrow.field-0 c.in-Arrow.field-1 c.args.slots.now) (bare-arrow (site_of c.args.site.now) c.in-Arrow.field-0 c.in-Arrow.field-1) c.no_value-in-Arrow.ensures.goals c.no_value-in-Arrow.ensures.is
 
 pub values::made-returns-in-If : goal.values::made-returns-in-If
-values::made-returns-in-If t c =
-    no_value-as c.args.head c.args.exp.now (e.If c.in-If.field-0 c.in-If.field-1) c.args.slots.now c.args.goals.now.items c.no_value-in-If.new.goals.items c.no_value-in-If.result c.in-If.is (none-if c.args.head c.in-If.field-0 c.in-If.field-1 c.args.slots.now) c.no_value-in-If.ensures.goals c.no_value-in-If.ensures.is
+values::made-returns-in-If t c = no_value-as (site_of c.args.site.now) c.args.exp.now (e.If c.in-If.field-0 c.in-If.field-1) c.args.slots.now c.args.goals.now.items c.no_value-in-If.new.goals.items c.args.helpers.now.items c.no_value-in-If.result c.in-If.is (none-if (site_of c.args.site.now) c.in-If.field-0 c.in-If.field-1 c.args.slots.now) (bare-if (site_of c.args.site.now) c.in-If.field-0 c.in-If.field-1) c.no_value-in-If.ensures.goals c.no_value-in-If.ensures.is
 
 pub values::made-returns-in-Foreach : goal.values::made-returns-in-Foreach
-values::made-returns-in-Foreach t c =
-    no_value-as c.args.head c.args.exp.now (e.Foreach c.in-Foreach.field-0 c.in-Foreach.field-1) c.args.slots.now c.args.goals.now.items c.no_value-in-Foreach.new.goals.items c.no_value-in-Foreach.result c.in-Foreach.is (none-foreach c.args.head c.in-Foreach.field-0 c.in-Foreach.field-1 c.args.slots.now) c.no_value-in-Foreach.ensures.goals c.no_value-in-Foreach.ensures.is
+values::made-returns-in-Foreach t c = no_value-as (site_of c.args.site.now) c.args.exp.now (e.Foreach c.in-Foreach.field-0 c.in-Foreach.field-1) c.args.slots.now c.args.goals.now.items c.no_value-in-Foreach.new.goals.items c.args.helpers.now.items c.no_value-in-Foreach.result c.in-Foreach.is (none-foreach (site_of c.args.site.now) c.in-Foreach.field-0 c.in-Foreach.field-1 c.args.slots.now) (bare-foreach (site_of c.args.site.now) c.in-Foreach.field-0 c.in-Foreach.field-1) c.no_value-in-Foreach.ensures.goals c.no_value-in-Foreach.ensures.is
 
 pub values::made-returns-in-While : goal.values::made-returns-in-While
-values::made-returns-in-While t c =
-    no_value-as c.args.head c.args.exp.now (e.While c.in-While.field-0 c.in-While.field-1) c.args.slots.now c.args.goals.now.items c.no_value-in-While.new.goals.items c.no_value-in-While.result c.in-While.is (none-while c.args.head c.in-While.field-0 c.in-While.field-1 c.args.slots.now) c.no_value-in-While.ensures.goals c.no_value-in-While.ensures.is
+values::made-returns-in-While t c = no_value-as (site_of c.args.site.now) c.args.exp.now (e.While c.in-While.field-0 c.in-While.field-1) c.args.slots.now c.args.goals.now.items c.no_value-in-While.new.goals.items c.args.helpers.now.items c.no_value-in-While.result c.in-While.is (none-while (site_of c.args.site.now) c.in-While.field-0 c.in-While.field-1 c.args.slots.now) (bare-while (site_of c.args.site.now) c.in-While.field-0 c.in-While.field-1) c.no_value-in-While.ensures.goals c.no_value-in-While.ensures.is
 
 pub values::made-returns-in-DoWhile : goal.values::made-returns-in-DoWhile
-values::made-returns-in-DoWhile t c =
-    no_value-as c.args.head c.args.exp.now (e.DoWhile c.in-DoWhile.field-0 c.in-DoWhile.field-1) c.args.slots.now c.args.goals.now.items c.no_value-in-DoWhile.new.goals.items c.no_value-in-DoWhile.result c.in-DoWhile.is (none-do_while c.args.head c.in-DoWhile.field-0 c.in-DoWhile.field-1 c.args.slots.now) c.no_value-in-DoWhile.ensures.goals c.no_value-in-DoWhile.ensures.is
+values::made-returns-in-DoWhile t c = no_value-as (site_of c.args.site.now) c.args.exp.now (e.DoWhile c.in-DoWhile.field-0 c.in-DoWhile.field-1) c.args.slots.now c.args.goals.now.items c.no_value-in-DoWhile.new.goals.items c.args.helpers.now.items c.no_value-in-DoWhile.result c.in-DoWhile.is (none-do_while (site_of c.args.site.now) c.in-DoWhile.field-0 c.in-DoWhile.field-1 c.args.slots.now) (bare-do_while (site_of c.args.site.now) c.in-DoWhile.field-0 c.in-DoWhile.field-1) c.no_value-in-DoWhile.ensures.goals c.no_value-in-DoWhile.ensures.is
 
 pub goals::alone-returns : goal.goals::alone-returns
-goals::alone-returns t c =
-    is-alone (goal_of c.args.head (exp_tree c.args.exp.now) c.args.slots.now) c.new-goals.result.items c.push_goal.new.goals.items c.in_ok-goal.goal c.push_goal.new.slots c.new-goals.ensures.items c.in_ok-push_goal.ensures c.in_ok-goal.ensures
+goals::alone-returns t c = record {
+  is = is-alone (goal_of (site_of c.args.site.now) (exp_tree c.args.exp.now) c.args.slots.now) c.new-goals.result.items c.push_goal.new.goals.items c.in_ok-goal.goal c.push_goal.new.slots c.new-goals.ensures.items c.in_ok-push_goal.ensures.is c.in_ok-goal.ensures;
+  helpers = c.in_ok-push_goal.ensures.helpers;
+}
+
+pub goals::push_all-loop-exp-init : goal.goals::push_all-loop-exp-init
+goals::push_all-loop-exp-init t c = record {
+  is = goals-none (site_of c.args.site.now) (site_of c.in_ok-here.here) c.args.exps.now c.args.slots.now c.args.goals.now.items c.in_ok-here.ensures;
+  helpers = conjunct-start (site_of c.args.site.now) (site_of c.in_ok-here.here) c.args.exps.now (map pred_tree c.args.helpers.now.items) c.in_ok-here.ensures;
+}
 
 pub goals::push_all-loop-exp-preserved : goal.goals::push_all-loop-exp-preserved
-goals::push_all-loop-exp-preserved t c =
-    all-more c.args.head c.args.exps.now c.loop-exp.exp-index c.exp-item.result (all_of c.args.head (exps_of c.args.exps.now) c.args.slots.now) c.loop-exp.slots c.push_goal.new.slots c.args.goals.now.items c.loop-exp.goals.items c.push_goal.new.goals.items c.loop-exp-test.true c.exp-item.is c.in_ok-push_goal.ensures c.loop-exp.invariant
+goals::push_all-loop-exp-preserved t c = record {
+  is = all-more (site_of c.loop-exp.here) (site_of c.pass.new.self) c.args.exps.now c.loop-exp.exp-index c.exp-item.result (all_of (site_of c.args.site.now) (exps_of c.args.exps.now) c.args.slots.now) c.loop-exp.slots c.push_goal.new.slots c.args.goals.now.items c.loop-exp.goals.items c.push_goal.new.goals.items c.loop-exp-test.true c.exp-item.is c.in_ok-pass.ensures c.in_ok-push_goal.ensures.is c.loop-exp.invariant.is;
+  helpers = going-more (map pred_tree c.args.helpers.now.items) (map pred_tree c.loop-exp.helpers.items) (map pred_tree c.push_goal.new.helpers.items) (conjunct_helpers (site_of c.args.site.now) (exps_of c.args.exps.now)) (conjunct_helpers (site_of c.loop-exp.here) (exps_of (drop c.loop-exp.exp-index c.args.exps.now))) (goal_helpers (site_of c.loop-exp.here) (exp_tree c.exp-item.result)) (conjunct_helpers (site_of c.pass.new.self) (exps_of (drop (c.loop-exp.exp-index + 1) c.args.exps.now)))
+      (conjunct-next (site_of c.loop-exp.here) (site_of c.pass.new.self) c.args.exps.now c.loop-exp.exp-index c.exp-item.result c.loop-exp-test.true c.exp-item.is c.in_ok-pass.ensures) c.in_ok-push_goal.ensures.helpers c.loop-exp.invariant.helpers;
+}
 
 pub goals::push_all-returns : goal.goals::push_all-returns
-goals::push_all-returns t c =
-    all-end c.args.head c.args.exps.now c.loop-exp.exp-index (all_of c.args.head (exps_of c.args.exps.now) c.args.slots.now) c.loop-exp.slots c.args.goals.now.items c.loop-exp.goals.items c.loop-exp-test.false c.loop-exp.invariant
+goals::push_all-returns t c = record {
+  is = all-end (site_of c.loop-exp.here) c.args.exps.now c.loop-exp.exp-index (all_of (site_of c.args.site.now) (exps_of c.args.exps.now) c.args.slots.now) c.loop-exp.slots c.args.goals.now.items c.loop-exp.goals.items c.loop-exp-test.false c.loop-exp.invariant.is;
+  helpers = going-end (map pred_tree c.args.helpers.now.items) (map pred_tree c.loop-exp.helpers.items) (conjunct_helpers (site_of c.args.site.now) (exps_of c.args.exps.now)) (conjunct_helpers (site_of c.loop-exp.here) (exps_of (drop c.loop-exp.exp-index c.args.exps.now))) (conjunct-none (site_of c.loop-exp.here) c.args.exps.now c.loop-exp.exp-index c.loop-exp-test.false) c.loop-exp.invariant.helpers;
+}
+
+pub goals::branches-loop-exp-init : goal.goals::branches-loop-exp-init
+goals::branches-loop-exp-init t c = record {
+  is = branches-none (site_of c.args.site.now) (site_of c.in_ok-here.here) c.args.exps.now c.args.slots.now c.new-made.result.items c.in_ok-here.ensures c.new-made.ensures.items;
+  helpers = conjunct-start (site_of c.args.site.now) (site_of c.in_ok-here.here) c.args.exps.now (map pred_tree c.args.helpers.now.items) c.in_ok-here.ensures;
+}
 
 pub goals::branches-loop-exp-preserved : goal.goals::branches-loop-exp-preserved
-goals::branches-loop-exp-preserved t c =
-    branches-more c.args.head c.args.exps.now c.loop-exp.exp-index c.exp-item.result c.args.slots.now c.loop-exp.slots c.branch_of.new.slots c.loop-exp.made.items c.push.new.self.items c.in_ok-branch.branch c.loop-exp-test.true c.exp-item.is c.in_ok-branch.ensures c.in_ok-push.ensures.items c.loop-exp.invariant
+goals::branches-loop-exp-preserved t c = record {
+  is = branches-more (site_of c.args.site.now) (site_of c.loop-exp.here) (site_of c.pass.new.self) c.args.exps.now c.loop-exp.exp-index c.exp-item.result c.args.slots.now c.loop-exp.slots c.branch_of.new.slots c.loop-exp.made.items c.push.new.self.items c.in_ok-branch.branch c.loop-exp-test.true c.exp-item.is c.in_ok-pass.ensures c.in_ok-branch.ensures.is c.in_ok-push.ensures.items c.loop-exp.invariant.is;
+  helpers = going-more (map pred_tree c.args.helpers.now.items) (map pred_tree c.loop-exp.helpers.items) (map pred_tree c.branch_of.new.helpers.items) (conjunct_helpers (site_of c.args.site.now) (exps_of c.args.exps.now)) (conjunct_helpers (site_of c.loop-exp.here) (exps_of (drop c.loop-exp.exp-index c.args.exps.now))) (goal_helpers (site_of c.loop-exp.here) (exp_tree c.exp-item.result)) (conjunct_helpers (site_of c.pass.new.self) (exps_of (drop (c.loop-exp.exp-index + 1) c.args.exps.now)))
+      (conjunct-next (site_of c.loop-exp.here) (site_of c.pass.new.self) c.args.exps.now c.loop-exp.exp-index c.exp-item.result c.loop-exp-test.true c.exp-item.is c.in_ok-pass.ensures) c.in_ok-branch.ensures.helpers c.loop-exp.invariant.helpers;
+}
 
 pub goals::branches-returns : goal.goals::branches-returns
-goals::branches-returns t c = branches-end c.args.head c.args.exps.now c.loop-exp.exp-index c.args.slots.now c.loop-exp.slots c.loop-exp.made.items c.loop-exp-test.false c.loop-exp.invariant
+goals::branches-returns t c = record {
+  is = branches-end (site_of c.args.site.now) (site_of c.loop-exp.here) c.args.exps.now c.loop-exp.exp-index c.args.slots.now c.loop-exp.slots c.loop-exp.made.items c.loop-exp-test.false c.loop-exp.invariant.is;
+  helpers = going-end (map pred_tree c.args.helpers.now.items) (map pred_tree c.loop-exp.helpers.items) (conjunct_helpers (site_of c.args.site.now) (exps_of c.args.exps.now)) (conjunct_helpers (site_of c.loop-exp.here) (exps_of (drop c.loop-exp.exp-index c.args.exps.now))) (conjunct-none (site_of c.loop-exp.here) c.args.exps.now c.loop-exp.exp-index c.loop-exp-test.false) c.loop-exp.invariant.helpers;
+}
+
+pub goals::conditions-loop-branch-init : goal.goals::conditions-loop-branch-init
+goals::conditions-loop-branch-init t c = record {
+  is = conditions-none (site_of c.args.site.now) (site_of c.in_ok-here.here) c.args.branches.now c.args.slots.now c.new-made.result.items c.in_ok-here.ensures c.new-made.ensures.items;
+  helpers = branch-start (site_of c.args.site.now) (site_of c.in_ok-here.here) c.args.branches.now (map pred_tree c.args.helpers.now.items) c.in_ok-here.ensures;
+}
 
 pub goals::conditions-loop-branch-preserved : goal.goals::conditions-loop-branch-preserved
-goals::conditions-loop-branch-preserved t c =
-    conditions-more c.args.head c.args.branches.now c.loop-branch.branch-index c.branch-item.result c.args.slots.now c.loop-branch.slots c.alone.new.slots c.alone-in-loop-branch.new.slots c.loop-branch.made.items c.push.new.self.items c.in_ok-test.test c.in_ok-body.body _ c.loop-branch-test.true c.branch-item.is c.in_ok-test.ensures c.in_ok-body.ensures refl c.in_ok-push.ensures.items c.loop-branch.invariant
+goals::conditions-loop-branch-preserved t c = record {
+  is = conditions-more (site_of c.args.site.now) (site_of c.loop-branch.here) (site_of c.pass.new.self) (site_of c.pass-in-loop-branch.new.self) c.args.branches.now c.loop-branch.branch-index c.branch-item.result c.args.slots.now c.loop-branch.slots c.alone.new.slots c.alone-in-loop-branch.new.slots c.loop-branch.made.items c.push.new.self.items c.in_ok-test.test c.in_ok-body.body _ c.loop-branch-test.true c.branch-item.is
+      c.in_ok-pass.ensures c.in_ok-pass-2.ensures c.in_ok-test.ensures.is c.in_ok-body.ensures.is refl c.in_ok-push.ensures.items c.loop-branch.invariant.is;
+  helpers = going-more (map pred_tree c.args.helpers.now.items) (map pred_tree c.loop-branch.helpers.items) (map pred_tree c.alone-in-loop-branch.new.helpers.items) (branch_helpers (site_of c.args.site.now) (branches_in c.args.branches.now)) (branch_helpers (site_of c.loop-branch.here) (branches_in (drop c.loop-branch.branch-index c.args.branches.now))) (goal_helpers (site_of c.loop-branch.here) (exp_tree c.branch-item.result.0) ++ goal_helpers (site_of c.pass.new.self) (exp_tree c.branch-item.result.1)) (branch_helpers (site_of c.pass-in-loop-branch.new.self) (branches_in (drop (c.loop-branch.branch-index + 1) c.args.branches.now)))
+      (branch-next (site_of c.loop-branch.here) (site_of c.pass.new.self) (site_of c.pass-in-loop-branch.new.self) c.args.branches.now c.loop-branch.branch-index c.branch-item.result c.loop-branch-test.true c.branch-item.is c.in_ok-pass.ensures c.in_ok-pass-2.ensures)
+      (two-helpers (map pred_tree c.loop-branch.helpers.items) (map pred_tree c.alone.new.helpers.items) (map pred_tree c.alone-in-loop-branch.new.helpers.items) (goal_helpers (site_of c.loop-branch.here) (exp_tree c.branch-item.result.0)) (goal_helpers (site_of c.pass.new.self) (exp_tree c.branch-item.result.1)) (goal_helpers (site_of c.loop-branch.here) (exp_tree c.branch-item.result.0) ++ goal_helpers (site_of c.pass.new.self) (exp_tree c.branch-item.result.1)) refl c.in_ok-test.ensures.helpers c.in_ok-body.ensures.helpers) c.loop-branch.invariant.helpers;
+}
 
 pub goals::conditions-returns : goal.goals::conditions-returns
-goals::conditions-returns t c = conditions-end c.args.head c.args.branches.now c.loop-branch.branch-index c.args.slots.now c.loop-branch.slots c.loop-branch.made.items c.loop-branch-test.false c.loop-branch.invariant
+goals::conditions-returns t c = record {
+  is = conditions-end (site_of c.args.site.now) (site_of c.loop-branch.here) c.args.branches.now c.loop-branch.branch-index c.args.slots.now c.loop-branch.slots c.loop-branch.made.items c.loop-branch-test.false c.loop-branch.invariant.is;
+  helpers = going-end (map pred_tree c.args.helpers.now.items) (map pred_tree c.loop-branch.helpers.items) (branch_helpers (site_of c.args.site.now) (branches_in c.args.branches.now)) (branch_helpers (site_of c.loop-branch.here) (branches_in (drop c.loop-branch.branch-index c.args.branches.now))) (branch-none (site_of c.loop-branch.here) c.args.branches.now c.loop-branch.branch-index c.loop-branch-test.false) c.loop-branch.invariant.helpers;
+}
 
 pub goals::branch_of-returns-in_ok-body-in-Arrow : goal.goals::branch_of-returns-in_ok-body-in-Arrow
-goals::branch_of-returns-in_ok-body-in-Arrow t c =
-    arrow-branch c.args.head (exp_tree c.args.exp.now) (exp_tree c.deref.result.now) (exp_tree c.deref-in-Arrow.result.now) c.args.slots.now c.in_ok-test-in-Arrow.test c.in_ok-body-in-Arrow.body c.alone.new.slots c.alone-in-Arrow.new.slots
-    (arrow-is c.args.head c.args.exp.now c.in-Arrow.test c.in-Arrow.body c.deref.result.now c.deref-in-Arrow.result.now c.in-Arrow.is c.deref.ensures c.deref-in-Arrow.ensures) c.in_ok-test-in-Arrow.ensures c.in_ok-body-in-Arrow.ensures
+goals::branch_of-returns-in_ok-body-in-Arrow t c = record {
+  is = arrow-branch (site_of c.args.site.now) (site_of c.in_ok-behind-in-Arrow.behind) (exp_tree c.args.exp.now) (exp_tree c.deref-in-Arrow.result.now) (exp_tree c.deref-in-Arrow-2.result.now) c.args.slots.now c.in_ok-test-in-Arrow.test c.in_ok-body-in-Arrow.body c.alone.new.slots c.alone-in-Arrow.new.slots (arrow-now c.args.exp.now c.in-Arrow.test c.in-Arrow.body c.deref-in-Arrow.result.now c.deref-in-Arrow-2.result.now c.in-Arrow.is c.deref-in-Arrow.ensures c.deref-in-Arrow-2.ensures) (c.in_ok-behind-in-Arrow.ensures ∙ ap (λ z. behind_exp (site_of c.args.site.now) (exp_tree z)) (c.deref.ensures ∙ sym c.deref-in-Arrow.ensures)) c.in_ok-test-in-Arrow.ensures.is c.in_ok-body-in-Arrow.ensures.is;
+  helpers = two-helpers (map pred_tree c.args.helpers.now.items) (map pred_tree c.alone.new.helpers.items) (map pred_tree c.alone-in-Arrow.new.helpers.items) (goal_helpers (site_of c.args.site.now) (exp_tree c.deref-in-Arrow.result.now)) (goal_helpers (site_of c.in_ok-behind-in-Arrow.behind) (exp_tree c.deref-in-Arrow-2.result.now)) (goal_helpers (site_of c.args.site.now) (exp_tree c.args.exp.now)) (helpers-arrow (site_of c.args.site.now) (site_of c.in_ok-behind-in-Arrow.behind) (exp_tree c.args.exp.now) (exp_tree c.deref-in-Arrow.result.now) (exp_tree c.deref-in-Arrow-2.result.now) (arrow-now c.args.exp.now c.in-Arrow.test c.in-Arrow.body c.deref-in-Arrow.result.now c.deref-in-Arrow-2.result.now c.in-Arrow.is c.deref-in-Arrow.ensures c.deref-in-Arrow-2.ensures) (c.in_ok-behind-in-Arrow.ensures ∙ ap (λ z. behind_exp (site_of c.args.site.now) (exp_tree z)) (c.deref.ensures ∙ sym c.deref-in-Arrow.ensures))) c.in_ok-test-in-Arrow.ensures.helpers c.in_ok-body-in-Arrow.ensures.helpers;
+}
 
 pub goals::branch_of-returns-in_ok-goal-in_default : goal.goals::branch_of-returns-in_ok-goal-in_default
-goals::branch_of-returns-in_ok-goal-in_default t c =
-    goal-branch c.args.head (exp_tree c.args.exp.now) c.args.slots.now c.in_ok-goal-in_default.goal c.alone-in_default.new.slots (no-arrow c.args.head c.args.exp.now c.in_default.not-Arrow) c.in_ok-goal-in_default.ensures
+goals::branch_of-returns-in_ok-goal-in_default t c = record {
+  is = goal-branch (site_of c.args.site.now) (exp_tree c.args.exp.now) c.args.slots.now c.in_ok-goal-in_default.goal c.alone-in_default.new.slots (no-arrow (site_of c.args.site.now) c.args.exp.now c.in_default.not-Arrow) c.in_ok-goal-in_default.ensures.is;
+  helpers = c.in_ok-goal-in_default.ensures.helpers;
+}
 
 pub goals::push_goal-returns-in_ok-push-in-Atom : goal.goals::push_goal-returns-in_ok-push-in-Atom
-goals::push_goal-returns-in_ok-push-in-Atom t c =
-    put-atom c.args.head c.args.exp.now c.in-Atom.name c.as_str.result.now c.args.slots.now c.args.slots.now c.args.goals.now.items c.push.new.self.items c.in_ok-goal-in-Atom.goal c.in-Atom.is c.as_str.ensures c.in_ok-goal-in-Atom.ensures c.in_ok-push-in-Atom.ensures.items refl
+goals::push_goal-returns-in_ok-push-in-Atom t c = record {
+  is = put-atom (site_of c.args.site.now) (exp_tree c.args.exp.now) c.in-Atom.name c.as_str.result.now c.args.slots.now c.args.slots.now c.args.goals.now.items c.push.new.self.items c.in_ok-goal-in-Atom.goal (atom-now c.args.exp.now c.in-Atom.name c.in-Atom.is) c.as_str.ensures c.in_ok-goal-in-Atom.ensures c.in_ok-push-in-Atom.ensures.items refl;
+  helpers = no-helpers (map pred_tree c.args.helpers.now.items) (goal_helpers (site_of c.args.site.now) (exp_tree c.args.exp.now)) (helpers-atom (site_of c.args.site.now) (exp_tree c.args.exp.now) c.in-Atom.name (atom-now c.args.exp.now c.in-Atom.name c.in-Atom.is));
+}
 
 pub goals::push_goal-returns-in_ok-push_call-in-Call : goal.goals::push_goal-returns-in_ok-push_call-in-Call
-goals::push_goal-returns-in_ok-push_call-in-Call t c =
-    goals-as (goal_of c.args.head (exp_tree c.args.exp.now) c.args.slots.now) (call_as_goal c.args.head c.as_str-in-Call.result.now (exps_of c.as_slice.result.now) c.args.slots.now) c.args.goals.now.items c.push_call.new.goals.items c.push_call.new.slots
-    (goal-call c.args.head c.args.exp.now c.in-Call.name c.as_str-in-Call.result.now c.in-Call.args c.as_slice.result.now c.args.slots.now c.in-Call.is c.as_str-in-Call.ensures c.as_slice.ensures.value) c.in_ok-push_call-in-Call.ensures
+goals::push_goal-returns-in_ok-push_call-in-Call t c = record {
+  is = goals-as (goal_of (site_of c.args.site.now) (exp_tree c.args.exp.now) c.args.slots.now) (call_as_goal (site_of c.args.site.now) c.as_str-in-Call.result.now (exps_of c.as_slice.result.now) c.args.slots.now) c.args.goals.now.items c.push_call.new.goals.items c.push_call.new.slots (goal-call (site_of c.args.site.now) (exp_tree c.args.exp.now) c.in-Call.name c.as_str-in-Call.result.now (exps_of c.as_slice.result.now) c.args.slots.now (call-now c.args.exp.now c.in-Call.name c.in-Call.args c.as_slice.result.now c.in-Call.is c.as_slice.ensures.value) c.as_str-in-Call.ensures) c.in_ok-push_call-in-Call.ensures.is;
+  helpers = same-helpers (map pred_tree c.args.helpers.now.items) (map pred_tree c.push_call.new.helpers.items) (call_goal_helpers (site_of c.args.site.now) c.as_str-in-Call.result.now (exps_of c.as_slice.result.now)) (goal_helpers (site_of c.args.site.now) (exp_tree c.args.exp.now)) (goal-call-helpers (site_of c.args.site.now) (exp_tree c.args.exp.now) c.in-Call.name c.as_str-in-Call.result.now (exps_of c.as_slice.result.now) (call-now c.args.exp.now c.in-Call.name c.in-Call.args c.as_slice.result.now c.in-Call.is c.as_slice.ensures.value) c.as_str-in-Call.ensures) c.in_ok-push_call-in-Call.ensures.helpers;
+}
 
 pub goals::push_goal-returns-in_ok-push_all-in-And : goal.goals::push_goal-returns-in_ok-push_all-in-And
-goals::push_goal-returns-in_ok-push_all-in-And t c =
-    goals-as (goal_of c.args.head (exp_tree c.args.exp.now) c.args.slots.now) (all_of c.args.head (exps_of c.as_slice-in-And.result.now) c.args.slots.now) c.args.goals.now.items c.push_all.new.goals.items c.push_all.new.slots
-    (goal-and c.args.head c.args.exp.now c.in-And.parts c.as_slice-in-And.result.now c.args.slots.now c.in-And.is c.as_slice-in-And.ensures.value) c.in_ok-push_all-in-And.ensures
+goals::push_goal-returns-in_ok-push_all-in-And t c = record {
+  is = goals-as (goal_of (site_of c.args.site.now) (exp_tree c.args.exp.now) c.args.slots.now) (all_of (site_of c.args.site.now) (exps_of c.as_slice-in-And.result.now) c.args.slots.now) c.args.goals.now.items c.push_all.new.goals.items c.push_all.new.slots (goal-and (site_of c.args.site.now) (exp_tree c.args.exp.now) (exps_of c.as_slice-in-And.result.now) c.args.slots.now (and-now c.args.exp.now c.in-And.parts c.as_slice-in-And.result.now c.in-And.is c.as_slice-in-And.ensures.value)) c.in_ok-push_all-in-And.ensures.is;
+  helpers = same-helpers (map pred_tree c.args.helpers.now.items) (map pred_tree c.push_all.new.helpers.items) (conjunct_helpers (site_of c.args.site.now) (exps_of c.as_slice-in-And.result.now)) (goal_helpers (site_of c.args.site.now) (exp_tree c.args.exp.now)) (helpers-and (site_of c.args.site.now) (exp_tree c.args.exp.now) (exps_of c.as_slice-in-And.result.now) (and-now c.args.exp.now c.in-And.parts c.as_slice-in-And.result.now c.in-And.is c.as_slice-in-And.ensures.value)) c.in_ok-push_all-in-And.ensures.helpers;
+}
 
 pub goals::push_goal-returns-in_ok-push-in-Or : goal.goals::push_goal-returns-in_ok-push-in-Or
-goals::push_goal-returns-in_ok-push-in-Or t c =
-    put-or c.args.head c.args.exp.now c.in-Or.parts c.as_slice-in-Or.result.now c.args.slots.now c.branches.new.slots c.in_ok-branches-in-Or.branches.items c.args.goals.now.items c.push-in-Or.new.self.items c.in_ok-goal-in-Or.goal c.in-Or.is c.as_slice-in-Or.ensures.value c.in_ok-branches-in-Or.ensures c.in_ok-goal-in-Or.ensures c.in_ok-push-in-Or.ensures.items
+goals::push_goal-returns-in_ok-push-in-Or t c = record {
+  is = put-or (site_of c.args.site.now) (exp_tree c.args.exp.now) (exps_of c.as_slice-in-Or.result.now) c.args.slots.now c.branches.new.slots c.in_ok-branches-in-Or.branches.items c.args.goals.now.items c.push-in-Or.new.self.items c.in_ok-goal-in-Or.goal (or-now c.args.exp.now c.in-Or.parts c.as_slice-in-Or.result.now c.in-Or.is c.as_slice-in-Or.ensures.value) c.in_ok-branches-in-Or.ensures.is c.in_ok-goal-in-Or.ensures c.in_ok-push-in-Or.ensures.items;
+  helpers = same-helpers (map pred_tree c.args.helpers.now.items) (map pred_tree c.branches.new.helpers.items) (conjunct_helpers (site_of c.args.site.now) (exps_of c.as_slice-in-Or.result.now)) (goal_helpers (site_of c.args.site.now) (exp_tree c.args.exp.now)) (helpers-or (site_of c.args.site.now) (exp_tree c.args.exp.now) (exps_of c.as_slice-in-Or.result.now) (or-now c.args.exp.now c.in-Or.parts c.as_slice-in-Or.result.now c.in-Or.is c.as_slice-in-Or.ensures.value)) c.in_ok-branches-in-Or.ensures.helpers;
+}
 
 pub goals::push_goal-returns-in_ok-push_chosen-in-Some : goal.goals::push_goal-returns-in_ok-push_chosen-in-Some
-goals::push_goal-returns-in_ok-push_chosen-in-Some t c =
-    put-if_else c.args.head c.args.exp.now c.in-If.parts c.in-If.other c.in-Some.other c.as_slice-in-Some.result.now c.deref.result.now c.args.slots.now c.conditions.new.slots c.push_goal.new.slots c.in_ok-conditions-in-Some.conditions.items c.new-last.result.items c.push_goal.new.goals.items c.args.goals.now.items c.push_chosen.new.goals.items c.in-If.is c.in-Some.is c.as_slice-in-Some.ensures.value c.deref.ensures
-    c.in_ok-conditions-in-Some.ensures c.new-last.ensures.items c.in_ok-push_goal-in-Some.ensures c.in_ok-push_chosen-in-Some.ensures
+goals::push_goal-returns-in_ok-push_chosen-in-Some t c = record {
+  is = put-if_else (site_of c.args.site.now) (site_of c.in_ok-behind-in-Some.behind) (exp_tree c.args.exp.now) (branches_in c.as_slice-in-Some.result.now) (exp_tree c.deref.result.now) c.args.slots.now c.conditions.new.slots c.push_goal.new.slots c.in_ok-conditions-in-Some.conditions.items c.new-last.result.items c.push_goal.new.goals.items c.args.goals.now.items c.push_chosen.new.goals.items
+      (if_else-now c.args.exp.now c.in-If.parts c.in-If.other c.in-Some.other c.as_slice-in-Some.result.now c.deref.result.now c.in-If.is c.in-Some.is c.as_slice-in-Some.ensures.value c.deref.ensures) c.in_ok-conditions-in-Some.ensures.is (c.in_ok-behind-in-Some.ensures ∙ ap (λ xs. behind_site (site_of c.args.site.now) (places_of_branches (branches_in xs)) (helpers_in_branches (branches_in xs))) (c.as_slice-in-Some-2.ensures.value ∙ sym c.as_slice-in-Some.ensures.value)) c.new-last.ensures.items c.in_ok-push_goal-in-Some.ensures.is c.in_ok-push_chosen-in-Some.ensures;
+  helpers = two-helpers (map pred_tree c.args.helpers.now.items) (map pred_tree c.conditions.new.helpers.items) (map pred_tree c.push_goal.new.helpers.items) (branch_helpers (site_of c.args.site.now) (branches_in c.as_slice-in-Some.result.now)) (goal_helpers (site_of c.in_ok-behind-in-Some.behind) (exp_tree c.deref.result.now)) (goal_helpers (site_of c.args.site.now) (exp_tree c.args.exp.now)) (helpers-if_else (site_of c.args.site.now) (site_of c.in_ok-behind-in-Some.behind) (exp_tree c.args.exp.now) (branches_in c.as_slice-in-Some.result.now) (exp_tree c.deref.result.now) (if_else-now c.args.exp.now c.in-If.parts c.in-If.other c.in-Some.other c.as_slice-in-Some.result.now c.deref.result.now c.in-If.is c.in-Some.is c.as_slice-in-Some.ensures.value c.deref.ensures) (c.in_ok-behind-in-Some.ensures ∙ ap (λ xs. behind_site (site_of c.args.site.now) (places_of_branches (branches_in xs)) (helpers_in_branches (branches_in xs))) (c.as_slice-in-Some-2.ensures.value ∙ sym c.as_slice-in-Some.ensures.value))) c.in_ok-conditions-in-Some.ensures.helpers c.in_ok-push_goal-in-Some.ensures.helpers;
+}
 
 pub goals::push_goal-returns-in_ok-push_chosen-in-None : goal.goals::push_goal-returns-in_ok-push_chosen-in-None
-goals::push_goal-returns-in_ok-push_chosen-in-None t c =
-    put-if_then c.args.head c.args.exp.now c.in-If.parts c.in-If.other c.as_slice-in-None.result.now c.args.slots.now c.conditions-in-None.new.slots c.in_ok-conditions-in-None.conditions.items c.new-last-in-None.result.items c.push-in-None.new.self.items c.args.goals.now.items c.push_chosen-in-None.new.goals.items c.in_ok-truth-in-None.truth c.in-If.is c.in-None.is c.as_slice-in-None.ensures.value
-    c.in_ok-conditions-in-None.ensures c.new-last-in-None.ensures.items c.in_ok-truth-in-None.ensures.ok c.in_ok-push-in-None.ensures.items c.in_ok-push_chosen-in-None.ensures
+goals::push_goal-returns-in_ok-push_chosen-in-None t c = record {
+  is = put-if_then (site_of c.args.site.now) (exp_tree c.args.exp.now) (branches_in c.as_slice-in-None.result.now) c.args.slots.now c.conditions-in-None.new.slots c.in_ok-conditions-in-None.conditions.items c.new-last-in-None.result.items c.push-in-None.new.self.items c.args.goals.now.items c.push_chosen-in-None.new.goals.items c.in_ok-truth-in-None.truth
+      (if_then-now c.args.exp.now c.in-If.parts c.in-If.other c.as_slice-in-None.result.now c.in-If.is c.in-None.is c.as_slice-in-None.ensures.value) c.in_ok-conditions-in-None.ensures.is c.new-last-in-None.ensures.items c.in_ok-truth-in-None.ensures.ok c.in_ok-push-in-None.ensures.items c.in_ok-push_chosen-in-None.ensures;
+  helpers = same-helpers (map pred_tree c.args.helpers.now.items) (map pred_tree c.conditions-in-None.new.helpers.items) (branch_helpers (site_of c.args.site.now) (branches_in c.as_slice-in-None.result.now)) (goal_helpers (site_of c.args.site.now) (exp_tree c.args.exp.now)) (helpers-if_then (site_of c.args.site.now) (exp_tree c.args.exp.now) (branches_in c.as_slice-in-None.result.now) (if_then-now c.args.exp.now c.in-If.parts c.in-If.other c.as_slice-in-None.result.now c.in-If.is c.in-None.is c.as_slice-in-None.ensures.value)) c.in_ok-conditions-in-None.ensures.helpers;
+}
+
+pub goals::push_goal-returns-in-Var : goal.goals::push_goal-returns-in-Var
+goals::push_goal-returns-in-Var t c = never-as (site_of c.args.site.now) c.args.exp.now (e.Var c.in-Var.field-0) c.args.slots.now c.args.goals.now.items c.push_fail.new.goals.items c.args.helpers.now.items c.push_fail.result c.in-Var.is (never-var (site_of c.args.site.now) c.in-Var.field-0 c.args.slots.now) (idle-var (site_of c.args.site.now) c.in-Var.field-0) c.push_fail.ensures
+
+pub goals::push_goal-returns-in-Int : goal.goals::push_goal-returns-in-Int
+goals::push_goal-returns-in-Int t c = never-as (site_of c.args.site.now) c.args.exp.now (e.Int c.in-Int.field-0) c.args.slots.now c.args.goals.now.items c.push_fail-in-Int.new.goals.items c.args.helpers.now.items c.push_fail-in-Int.result c.in-Int.is (never-int (site_of c.args.site.now) c.in-Int.field-0 c.args.slots.now) (idle-int (site_of c.args.site.now) c.in-Int.field-0) c.push_fail-in-Int.ensures
+
+pub goals::push_goal-returns-in-Str : goal.goals::push_goal-returns-in-Str
+goals::push_goal-returns-in-Str t c = never-as (site_of c.args.site.now) c.args.exp.now (e.Str c.in-Str.field-0) c.args.slots.now c.args.goals.now.items c.push_fail-in-Str.new.goals.items c.args.helpers.now.items c.push_fail-in-Str.result c.in-Str.is (never-str (site_of c.args.site.now) c.in-Str.field-0 c.args.slots.now) (idle-str (site_of c.args.site.now) c.in-Str.field-0) c.push_fail-in-Str.ensures
+
+pub goals::push_goal-returns-in-List : goal.goals::push_goal-returns-in-List
+goals::push_goal-returns-in-List t c = never-as (site_of c.args.site.now) c.args.exp.now (e.List c.in-List.field-0 c.in-List.field-1) c.args.slots.now c.args.goals.now.items c.push_fail-in-List.new.goals.items c.args.helpers.now.items c.push_fail-in-List.result c.in-List.is (never-list (site_of c.args.site.now) c.in-List.field-0 c.in-List.field-1 c.args.slots.now) (idle-list (site_of c.args.site.now) c.in-List.field-0 c.in-List.field-1) c.push_fail-in-List.ensures
+
+pub goals::push_goal-returns-in-Array : goal.goals::push_goal-returns-in-Array
+goals::push_goal-returns-in-Array t c = never-as (site_of c.args.site.now) c.args.exp.now (e.Array c.in-Array.field-0) c.args.slots.now c.args.goals.now.items c.push_fail-in-Array.new.goals.items c.args.helpers.now.items c.push_fail-in-Array.result c.in-Array.is (never-array (site_of c.args.site.now) c.in-Array.field-0 c.args.slots.now) (idle-array (site_of c.args.site.now) c.in-Array.field-0) c.push_fail-in-Array.ensures
+
+pub goals::push_goal-returns-in-Quote : goal.goals::push_goal-returns-in-Quote
+goals::push_goal-returns-in-Quote t c = never-as (site_of c.args.site.now) c.args.exp.now (e.Quote c.in-Quote.field-0) c.args.slots.now c.args.goals.now.items c.push_fail-in-Quote.new.goals.items c.args.helpers.now.items c.push_fail-in-Quote.result c.in-Quote.is (never-quote (site_of c.args.site.now) c.in-Quote.field-0 c.args.slots.now) (idle-quote (site_of c.args.site.now) c.in-Quote.field-0) c.push_fail-in-Quote.ensures
+
+pub goals::push_goal-returns-in-Index : goal.goals::push_goal-returns-in-Index
+goals::push_goal-returns-in-Index t c = never-as (site_of c.args.site.now) c.args.exp.now (e.Index c.in-Index.field-0 c.in-Index.field-1) c.args.slots.now c.args.goals.now.items c.push_fail-in-Index.new.goals.items c.args.helpers.now.items c.push_fail-in-Index.result c.in-Index.is (never-index (site_of c.args.site.now) c.in-Index.field-0 c.in-Index.field-1 c.args.slots.now) (idle-index (site_of c.args.site.now) c.in-Index.field-0 c.in-Index.field-1) c.push_fail-in-Index.ensures
+
+pub goals::push_goal-returns-in-Range : goal.goals::push_goal-returns-in-Range
+goals::push_goal-returns-in-Range t c = never-as (site_of c.args.site.now) c.args.exp.now (e.Range c.in-Range.field-0 c.in-Range.field-1 c.in-Range.field-2) c.args.slots.now c.args.goals.now.items c.push_fail-in-Range.new.goals.items c.args.helpers.now.items c.push_fail-in-Range.result c.in-Range.is (never-range (site_of c.args.site.now) c.in-Range.field-0 c.in-Range.field-1 c.in-Range.field-2 c.args.slots.now) (idle-range (site_of c.args.site.now) c.in-Range.field-0 c.in-Range.field-1 c.in-Range.field-2) c.push_fail-in-Range.ensures
+
+pub goals::push_goal-returns-in-At : goal.goals::push_goal-returns-in-At
+goals::push_goal-returns-in-At t c = never-as (site_of c.args.site.now) c.args.exp.now (e.At c.in-At.field-0 c.in-At.field-1) c.args.slots.now c.args.goals.now.items c.push_fail-in-At.new.goals.items c.args.helpers.now.items c.push_fail-in-At.result c.in-At.is (never-at (site_of c.args.site.now) c.in-At.field-0 c.in-At.field-1 c.args.slots.now) (idle-at (site_of c.args.site.now) c.in-At.field-0 c.in-At.field-1) c.push_fail-in-At.ensures
+
+pub goals::push_goal-returns-in-Collect : goal.goals::push_goal-returns-in-Collect
+goals::push_goal-returns-in-Collect t c = never-as (site_of c.args.site.now) c.args.exp.now (e.Collect c.in-Collect.field-0 c.in-Collect.field-1 c.in-Collect.field-2) c.args.slots.now c.args.goals.now.items c.push_fail-in-Collect.new.goals.items c.args.helpers.now.items c.push_fail-in-Collect.result c.in-Collect.is (never-collect (site_of c.args.site.now) c.in-Collect.field-0 c.in-Collect.field-1 c.in-Collect.field-2 c.args.slots.now) (idle-collect (site_of c.args.site.now) c.in-Collect.field-0 c.in-Collect.field-1 c.in-Collect.field-2) c.push_fail-in-Collect.ensures
+
+pub goals::push_goal-returns-in_ok-push_fail-in-Arrow : goal.goals::push_goal-returns-in_ok-push_fail-in-Arrow
+goals::push_goal-returns-in_ok-push_fail-in-Arrow t c = record {
+  is = put-never (goal_of (site_of c.args.site.now) (exp_tree c.args.exp.now) c.args.slots.now) c.args.slots.now c.args.slots.now c.args.goals.now.items c.push_fail-in-Arrow.new.goals.items (never-arrow (site_of c.args.site.now) (exp_tree c.args.exp.now) (exp_tree c.deref-in-Arrow.result.now) (exp_tree c.deref-in-Arrow-3.result.now) c.args.slots.now (arrow-now c.args.exp.now c.in-Arrow.test c.in-Arrow.body c.deref-in-Arrow.result.now c.deref-in-Arrow-3.result.now c.in-Arrow.is c.deref-in-Arrow.ensures c.deref-in-Arrow-3.ensures)) c.in_ok-push_fail-in-Arrow.ensures refl;
+  helpers = two-helpers (map pred_tree c.args.helpers.now.items) (map pred_tree c.push_goal-in-Arrow.new.helpers.items) (map pred_tree c.push_goal-in-Arrow-2.new.helpers.items) (goal_helpers (site_of c.args.site.now) (exp_tree c.deref-in-Arrow.result.now)) (goal_helpers (site_of c.in_ok-behind-in-Arrow.behind) (exp_tree c.deref-in-Arrow-3.result.now)) (goal_helpers (site_of c.args.site.now) (exp_tree c.args.exp.now)) (helpers-arrow (site_of c.args.site.now) (site_of c.in_ok-behind-in-Arrow.behind) (exp_tree c.args.exp.now) (exp_tree c.deref-in-Arrow.result.now) (exp_tree c.deref-in-Arrow-3.result.now) (arrow-now c.args.exp.now c.in-Arrow.test c.in-Arrow.body c.deref-in-Arrow.result.now c.deref-in-Arrow-3.result.now c.in-Arrow.is c.deref-in-Arrow.ensures c.deref-in-Arrow-3.ensures) (c.in_ok-behind-in-Arrow.ensures ∙ ap (λ z. behind_exp (site_of c.args.site.now) (exp_tree z)) (c.deref-in-Arrow-2.ensures ∙ sym c.deref-in-Arrow.ensures))) c.in_ok-push_goal-in-Arrow.ensures.helpers c.in_ok-push_goal-in-Arrow-2.ensures.helpers;
+}
 
 pub calls::push_call-returns-in_ok-push-in-Negation : goal.calls::push_call-returns-in_ok-push-in-Negation
-calls::push_call-returns-in_ok-push-in-Negation t c =
-    put-not c.args.head c.args.name.now c.args.args.now (length c.args.args.now) c.call_form.result c.index-args-0.result c.args.slots.now c.alone.new.slots c.args.goals.now.items c.push.new.self.items c.in_ok-goal-in-Negation.goal c.in_ok-made-in-Negation.made refl c.call_form.ensures.has c.call_form.ensures.is c.in-Negation.is c.index-args-0.is c.in_ok-goal-in-Negation.ensures c.in_ok-made-in-Negation.ensures.ok c.in_ok-push-in-Negation.ensures.items
+calls::push_call-returns-in_ok-push-in-Negation t c = let found : Found c.args.name.now c.args.args.now (length c.args.args.now) c.call_form.result = (record { same = refl; has = c.call_form.ensures.has; is = c.call_form.ensures.is }) in
+    record {
+      is = put-not (site_of c.args.site.now) c.args.name.now c.args.args.now (length c.args.args.now) c.call_form.result c.index-args-0.result c.args.slots.now c.alone.new.slots c.args.goals.now.items c.push.new.self.items c.in_ok-goal-in-Negation.goal c.in_ok-made-in-Negation.made found c.in-Negation.is c.index-args-0.is c.in_ok-goal-in-Negation.ensures.is c.in_ok-made-in-Negation.ensures.ok c.in_ok-push-in-Negation.ensures.items;
+      helpers = same-helpers (map pred_tree c.args.helpers.now.items) (map pred_tree c.alone.new.helpers.items) (goal_helpers (site_of c.args.site.now) (exp_tree c.index-args-0.result)) (call_goal_helpers (site_of c.args.site.now) c.args.name.now (exps_of c.args.args.now)) (helpers-not (site_of c.args.site.now) c.args.name.now c.args.args.now (length c.args.args.now) c.call_form.result c.index-args-0.result found c.in-Negation.is c.index-args-0.is) c.in_ok-goal-in-Negation.ensures.helpers;
+    }
 
 pub calls::push_call-returns-in_ok-push-in-Once : goal.calls::push_call-returns-in_ok-push-in-Once
-calls::push_call-returns-in_ok-push-in-Once t c =
-    put-once c.args.head c.args.name.now c.args.args.now (length c.args.args.now) c.call_form.result c.index-args-0-in-Once.result c.args.slots.now c.alone-in-Once.new.slots c.args.goals.now.items c.push-in-Once.new.self.items c.in_ok-goal-in-Once.goal c.in_ok-made-in-Once.made refl c.call_form.ensures.has c.call_form.ensures.is c.in-Once.is c.index-args-0-in-Once.is c.in_ok-goal-in-Once.ensures c.in_ok-made-in-Once.ensures.ok c.in_ok-push-in-Once.ensures.items
+calls::push_call-returns-in_ok-push-in-Once t c = let found : Found c.args.name.now c.args.args.now (length c.args.args.now) c.call_form.result = (record { same = refl; has = c.call_form.ensures.has; is = c.call_form.ensures.is }) in
+    record {
+      is = put-once (site_of c.args.site.now) c.args.name.now c.args.args.now (length c.args.args.now) c.call_form.result c.index-args-0-in-Once.result c.args.slots.now c.alone-in-Once.new.slots c.args.goals.now.items c.push-in-Once.new.self.items c.in_ok-goal-in-Once.goal c.in_ok-made-in-Once.made found c.in-Once.is c.index-args-0-in-Once.is c.in_ok-goal-in-Once.ensures.is c.in_ok-made-in-Once.ensures.ok c.in_ok-push-in-Once.ensures.items;
+      helpers = same-helpers (map pred_tree c.args.helpers.now.items) (map pred_tree c.alone-in-Once.new.helpers.items) (goal_helpers (site_of c.args.site.now) (exp_tree c.index-args-0-in-Once.result)) (call_goal_helpers (site_of c.args.site.now) c.args.name.now (exps_of c.args.args.now)) (helpers-once (site_of c.args.site.now) c.args.name.now c.args.args.now (length c.args.args.now) c.call_form.result c.index-args-0-in-Once.result found c.in-Once.is c.index-args-0-in-Once.is) c.in_ok-goal-in-Once.ensures.helpers;
+    }
 
 pub calls::push_call-returns-in_ok-push_assigned-in-Assignment : goal.calls::push_call-returns-in_ok-push_assigned-in-Assignment
-calls::push_call-returns-in_ok-push_assigned-in-Assignment t c =
-    put-assigned c.args.head c.args.name.now c.args.args.now (length c.args.args.now) c.call_form.result c.index-args-0-in-Assignment.result c.index-args-1.result c.args.slots.now c.value.new.slots c.push_assigned.new.slots c.args.goals.now.items c.value.new.goals.items c.push_assigned.new.goals.items c.in_ok-term-in-Assignment.term
-    refl c.call_form.ensures.has c.call_form.ensures.is c.in-Assignment.is c.index-args-0-in-Assignment.is c.index-args-1.is c.in_ok-term-in-Assignment.ensures c.in_ok-push_assigned-in-Assignment.ensures
+calls::push_call-returns-in_ok-push_assigned-in-Assignment t c = let found : Found c.args.name.now c.args.args.now (length c.args.args.now) c.call_form.result = (record { same = refl; has = c.call_form.ensures.has; is = c.call_form.ensures.is }) in
+    record {
+      is = put-assigned (site_of c.args.site.now) (site_of c.in_ok-behind-in-Assignment.behind) c.args.name.now c.args.args.now (length c.args.args.now) c.call_form.result c.index-args-0-in-Assignment.result c.index-args-1.result c.args.slots.now c.value.new.slots c.push_assigned.new.slots c.args.goals.now.items c.value.new.goals.items c.push_assigned.new.goals.items c.in_ok-term-in-Assignment.term
+          found c.in-Assignment.is c.index-args-0-in-Assignment.is c.index-args-1.is c.in_ok-behind-in-Assignment.ensures c.in_ok-term-in-Assignment.ensures.is c.in_ok-push_assigned-in-Assignment.ensures;
+      helpers = same-helpers (map pred_tree c.args.helpers.now.items) (map pred_tree c.value.new.helpers.items) (value_helpers (site_of c.in_ok-behind-in-Assignment.behind) (exp_tree c.index-args-1.result)) (call_goal_helpers (site_of c.args.site.now) c.args.name.now (exps_of c.args.args.now)) (helpers-assigned (site_of c.args.site.now) c.args.name.now c.args.args.now (length c.args.args.now) c.call_form.result c.index-args-0-in-Assignment.result c.index-args-1.result found c.in-Assignment.is c.index-args-0-in-Assignment.is c.index-args-1.is ∙ ap (λ z. value_helpers z (exp_tree c.index-args-1.result)) (sym c.in_ok-behind-in-Assignment.ensures)) c.in_ok-term-in-Assignment.ensures.helpers;
+    }
 
 pub calls::push_call-returns-in_ok-push-in-Catch : goal.calls::push_call-returns-in_ok-push-in-Catch
-calls::push_call-returns-in_ok-push-in-Catch t c =
-    put-caught c.args.head c.args.name.now c.args.args.now (length c.args.args.now) c.call_form.result c.index-args-0-in-Catch.result c.index-args-1-in-Catch.result c.index-args-2.result c.args.slots.now c.value-in-Catch.new.slots c.alone-in-Catch.new.slots c.alone-in-Catch-2.new.slots c.args.goals.now.items c.value-in-Catch.new.goals.items c.push-in-Catch.new.self.items c.in_ok-ball-in-Catch.ball c.in_ok-goal-in-Catch.goal c.in_ok-handler-in-Catch.handler c.in_ok-made-in-Catch.made
-    refl c.call_form.ensures.has c.call_form.ensures.is c.in-Catch.is c.index-args-0-in-Catch.is c.index-args-1-in-Catch.is c.index-args-2.is c.in_ok-ball-in-Catch.ensures c.in_ok-goal-in-Catch.ensures c.in_ok-handler-in-Catch.ensures c.in_ok-made-in-Catch.ensures.ok c.in_ok-push-in-Catch.ensures.items
+calls::push_call-returns-in_ok-push-in-Catch t c = let found : Found c.args.name.now c.args.args.now (length c.args.args.now) c.call_form.result = (record { same = refl; has = c.call_form.ensures.has; is = c.call_form.ensures.is }) in
+    record {
+      is = put-caught (site_of c.args.site.now) (site_of c.in_ok-first-in-Catch.first) (site_of c.in_ok-second-in-Catch.second) (site_of c.in_ok-last-in-Catch.last) c.args.name.now c.args.args.now (length c.args.args.now) c.call_form.result c.index-args-0-in-Catch.result c.index-args-1-in-Catch.result c.index-args-2.result c.args.slots.now c.value-in-Catch.new.slots c.alone-in-Catch.new.slots c.alone-in-Catch-2.new.slots c.args.goals.now.items c.value-in-Catch.new.goals.items c.push-in-Catch.new.self.items c.in_ok-term-in-Catch.term c.in_ok-one-in-Catch.one c.in_ok-other-in-Catch.other c.in_ok-made-in-Catch.made
+          found c.in-Catch.is c.index-args-0-in-Catch.is c.index-args-1-in-Catch.is c.index-args-2.is c.in_ok-first-in-Catch.ensures c.in_ok-second-in-Catch.ensures (c.in_ok-last-in-Catch.ensures ∙ ap (λ z. behind_site z (places (exp_tree c.index-args-1-in-Catch.result)) 0) (c.in_ok-third-in-Catch.ensures ∙ ap (λ z. behind_exp z (exp_tree c.index-args-0-in-Catch.result)) c.in_ok-second-in-Catch.ensures)) c.in_ok-term-in-Catch.ensures.is c.in_ok-one-in-Catch.ensures.is c.in_ok-other-in-Catch.ensures.is c.in_ok-made-in-Catch.ensures.ok c.in_ok-push-in-Catch.ensures.items;
+      helpers = three-helpers (map pred_tree c.args.helpers.now.items) (map pred_tree c.value-in-Catch.new.helpers.items) (map pred_tree c.alone-in-Catch.new.helpers.items) (map pred_tree c.alone-in-Catch-2.new.helpers.items) (value_helpers (site_of c.in_ok-first-in-Catch.first) (exp_tree c.index-args-1-in-Catch.result)) (goal_helpers (site_of c.in_ok-second-in-Catch.second) (exp_tree c.index-args-0-in-Catch.result)) (goal_helpers (site_of c.in_ok-last-in-Catch.last) (exp_tree c.index-args-2.result)) (call_goal_helpers (site_of c.args.site.now) c.args.name.now (exps_of c.args.args.now))
+          (helpers-catch (site_of c.args.site.now) c.args.name.now c.args.args.now (length c.args.args.now) c.call_form.result c.index-args-0-in-Catch.result c.index-args-1-in-Catch.result c.index-args-2.result found c.in-Catch.is c.index-args-0-in-Catch.is c.index-args-1-in-Catch.is c.index-args-2.is ∙ caught-helpers (site_of c.args.site.now) (site_of c.in_ok-first-in-Catch.first) (site_of c.in_ok-second-in-Catch.second) (site_of c.in_ok-last-in-Catch.last) (exp_tree c.index-args-0-in-Catch.result) (exp_tree c.index-args-1-in-Catch.result) (exp_tree c.index-args-2.result) c.in_ok-first-in-Catch.ensures c.in_ok-second-in-Catch.ensures (c.in_ok-last-in-Catch.ensures ∙ ap (λ z. behind_site z (places (exp_tree c.index-args-1-in-Catch.result)) 0) (c.in_ok-third-in-Catch.ensures ∙ ap (λ z. behind_exp z (exp_tree c.index-args-0-in-Catch.result)) c.in_ok-second-in-Catch.ensures)))
+          c.in_ok-term-in-Catch.ensures.helpers c.in_ok-one-in-Catch.ensures.helpers c.in_ok-other-in-Catch.ensures.helpers;
+    }
 
 pub calls::push_call-returns-in_ok-push_fail-in-Never : goal.calls::push_call-returns-in_ok-push_fail-in-Never
-calls::push_call-returns-in_ok-push_fail-in-Never t c =
-    put-no-call c.args.head c.args.name.now c.args.args.now (length c.args.args.now) c.call_form.result c.args.slots.now c.args.slots.now c.args.goals.now.items c.push_fail.new.goals.items refl c.call_form.ensures.is c.in-Never.is c.in_ok-push_fail-in-Never.ensures refl
+calls::push_call-returns-in_ok-push_fail-in-Never t c = let found : Found c.args.name.now c.args.args.now (length c.args.args.now) c.call_form.result = (record { same = refl; has = c.call_form.ensures.has; is = c.call_form.ensures.is }) in
+    record {
+      is = put-no-call (site_of c.args.site.now) c.args.name.now c.args.args.now (length c.args.args.now) c.call_form.result c.args.slots.now c.args.slots.now c.args.goals.now.items c.push_fail.new.goals.items found c.in-Never.is c.in_ok-push_fail-in-Never.ensures refl;
+      helpers = no-helpers (map pred_tree c.args.helpers.now.items) (call_goal_helpers (site_of c.args.site.now) c.args.name.now (exps_of c.args.args.now)) (helpers-never (site_of c.args.site.now) c.args.name.now c.args.args.now (length c.args.args.now) c.call_form.result found c.in-Never.is);
+    }
 
 pub calls::push_call-returns-in_ok-push-in-Plain : goal.calls::push_call-returns-in_ok-push-in-Plain
-calls::push_call-returns-in_ok-push-in-Plain t c =
-    let same : c.deref.result.now ≡ c.in_ok-terms-in-Plain.terms.items = search rules in
-    put-plain c.args.head c.args.name.now c.args.args.now (length c.args.args.now) c.call_form.result c.args.slots.now c.values.new.slots c.args.goals.now.items c.values.new.goals.items c.push-in-Plain.new.self.items c.in_ok-terms-in-Plain.terms.items c.in_ok-made-in-Plain.made refl c.call_form.ensures.is c.in-Plain.is c.in_ok-terms-in-Plain.ensures (c.in_ok-made-in-Plain.ensures.ok ∙ ap (GoalTree.call c.args.name.now) same) c.in_ok-push-in-Plain.ensures.items
+calls::push_call-returns-in_ok-push-in-Plain t c = let found : Found c.args.name.now c.args.args.now (length c.args.args.now) c.call_form.result = (record { same = refl; has = c.call_form.ensures.has; is = c.call_form.ensures.is }) in
+    record {
+      is = let same : c.deref.result.now ≡ c.in_ok-terms-in-Plain.terms.items = search rules in
+          put-plain (site_of c.args.site.now) c.args.name.now c.args.args.now (length c.args.args.now) c.call_form.result c.args.slots.now c.values.new.slots c.args.goals.now.items c.values.new.goals.items c.push-in-Plain.new.self.items c.in_ok-terms-in-Plain.terms.items c.in_ok-made-in-Plain.made found c.in-Plain.is c.in_ok-terms-in-Plain.ensures.is (c.in_ok-made-in-Plain.ensures.ok ∙ ap (GoalTree.call c.args.name.now) same) c.in_ok-push-in-Plain.ensures.items;
+      helpers = same-helpers (map pred_tree c.args.helpers.now.items) (map pred_tree c.values.new.helpers.items) (all_helpers (site_of c.args.site.now) (exps_of c.args.args.now)) (call_goal_helpers (site_of c.args.site.now) c.args.name.now (exps_of c.args.args.now)) (helpers-plain (site_of c.args.site.now) c.args.name.now c.args.args.now (length c.args.args.now) c.call_form.result found c.in-Plain.is) c.in_ok-terms-in-Plain.ensures.helpers;
+    }
