@@ -16,7 +16,9 @@ use Rattle.pi_syntax.specs.declared.program.Mode.{Mode}
 use Rattle.pi_core.specs.CoreTree.{ClauseTree, PredTree, index_of, pred_tree}
 use Rattle.pi_core.specs.declared.core_program.CorePred.{CorePred}
 use Rattle.pi_names.specs.Prelude.{prelude}
-use Rattle.pi_lowered.specs.Lowered.{Lowering, named_by, lowered_rule, lowered_fact, lowered_function, lowered_clause, lowered_part, lowerings, with_first, with_next, is_clause_of, grouped, grouped_all, lowered}
+use Rattle.pi_lowered.specs.Lowered.{Lowering, named_by, with_first, with_next, is_clause_of, grouped, grouped_all}
+use Rattle.pi_lowered.specs.Programs as programs
+use Rattle.pi_lowered.specs.Programs.{Naming, written_rule, written_function, clause_count, clause_helpers, clauses_of, helpers_of, core_program}
 use Rattle.pi_rewrite.specs.Built.{lowered_behind}
 
 -- ---- a clause
@@ -91,34 +93,23 @@ part-adds : (o : Option Lowering) (l m : Lowering) (before after : List PredTree
     (rest : List Lowering) → lowered_behind before (cons_option o rest) ≡ lowered_behind after rest
 part-adds o l m before after is same adds rest = ap (λ x. lowered_behind before (cons_option x rest)) is ∙ (ap (λ x. lowered_behind before (x ∷ rest)) same ∙ adds rest)
 
-pub rule-adds : (p : Part) (head : Exp) (cond : Option Exp) (events : Vec Exp Global) (back : Bool) (body : Exp) (function : Bool) (s : Signature) (modes : Modes) (made : ClauseTree) (before after : List PredTree) →
+-- a part's clause, behind so many helpers
+abbrev lowered_of : Naming → ℕ → Part → Option Lowering
+lowered_of called n p = programs.written_clause called n (index_of p.decl) (part_tree p).clause
+
+pub rule-adds : (called : Naming) (n : ℕ) (p : Part) (head : Exp) (cond : Option Exp) (events : Vec Exp Global) (back : Bool) (body : Exp) (function : Bool) (s : Signature) (modes : Modes) (made : ClauseTree) (before after : List PredTree) →
     p.clause ≡ Some (Clause.Rule head cond events back body) → named_by (signature (exp_tree head)) ≡ s → function ≡ false → modes ≡ None →
-    made ≡ lowered_rule (record { head = exp_tree head; cond = option_map exp_tree cond; events = map exp_tree events.items; back = back; body = exp_tree body }) →
+    made ≡ written_rule called n (record { head = exp_tree head; cond = option_map exp_tree cond; events = map exp_tree events.items; back = back; body = exp_tree body }) →
     ((rest : List Lowering) → lowered_behind before (lowering function s modes made ∷ rest) ≡ lowered_behind after rest) →
-    (rest : List Lowering) → lowered_behind before (cons_option (lowered_part (part_tree p)) rest) ≡ lowered_behind after rest
-rule-adds p head cond events back body function s modes made before after is named kind none lowers adds =
-    part-adds (lowered_part (part_tree p)) _ _ before after (ap (λ o. lowered_clause (index_of p.decl) (option_map written_clause o)) is) (sym (same-lowering function false s _ modes None made _ kind (sym named) none lowers)) adds
+    (rest : List Lowering) → lowered_behind before (cons_option (lowered_of called n p) rest) ≡ lowered_behind after rest
+rule-adds called n p head cond events back body function s modes made before after is named kind none lowers adds =
+    part-adds (lowered_of called n p) _ _ before after (ap (λ o. programs.written_clause called n (index_of p.decl) (option_map written_clause o)) is)
+    (sym (same-lowering function false s _ modes None made _ kind (sym named) none lowers)) adds
 
-pub function-adds : (p : Part) (head value : Exp) (cond body : Option Exp) (function : Bool) (s : Signature) (modes : Modes) (made : ClauseTree) (before after : List PredTree) → p.clause ≡ Some (Clause.Function head value cond body) →
-    named_by (signature (exp_tree head)) ≡ s → function ≡ true → modes ≡ None → made ≡ lowered_function (record { head = exp_tree head; value = exp_tree value; cond = option_map exp_tree cond; body = option_map exp_tree body }) →
-    ((rest : List Lowering) → lowered_behind before (lowering function s modes made ∷ rest) ≡ lowered_behind after rest) →
-    (rest : List Lowering) → lowered_behind before (cons_option (lowered_part (part_tree p)) rest) ≡ lowered_behind after rest
-function-adds p head value cond body function s modes made before after is named kind none lowers adds =
-    part-adds (lowered_part (part_tree p)) _ _ before after (ap (λ o. lowered_clause (index_of p.decl) (option_map written_clause o)) is) (sym (same-lowering function true s _ modes None made _ kind (sym named) none lowers)) adds
-
-nothing-added : (o : Option Lowering) (before after : List PredTree) → o ≡ None → after ≡ before → (rest : List Lowering) → lowered_behind before (cons_option o rest) ≡ lowered_behind after rest
-nothing-added o before after is same rest = ap (λ x. lowered_behind before (cons_option x rest)) is ∙ ap (λ ps. lowered_behind ps rest) (sym same)
-
-pub fact-adds : (p : Part) (head : Exp) (function : Bool) (s : Signature) (modes : Modes) (made : ClauseTree) (before after : List PredTree) → p.clause ≡ Some (Clause.Fact head) → named_by (signature (exp_tree head)) ≡ s → function ≡ false →
-    modes ≡ index_of p.decl → made ≡ lowered_fact (exp_tree head) → ((rest : List Lowering) → lowered_behind before (lowering function s modes made ∷ rest) ≡ lowered_behind after rest) →
-    (rest : List Lowering) → lowered_behind before (cons_option (lowered_part (part_tree p)) rest) ≡ lowered_behind after rest
-fact-adds p head function s modes made before after is named kind lists lowers adds =
-    part-adds (lowered_part (part_tree p)) _ _ before after (ap (λ o. lowered_clause (index_of p.decl) (option_map written_clause o)) is)
-    (sym (same-lowering function false s _ modes (index_of p.decl) made _ kind (sym named) lists lowers)) adds
-
-pub none-adds : (p : Part) (before after : List PredTree) → p.clause ≡ None → after ≡ before → (rest : List Lowering) →
-    lowered_behind before (cons_option (lowered_part (part_tree p)) rest) ≡ lowered_behind after rest
-none-adds p before after is same = nothing-added (lowered_part (part_tree p)) before after (ap (λ o. lowered_clause (index_of p.decl) (option_map written_clause o)) is) same
+-- what a part's clause has of helpers
+pub clause-helps : (called : Naming) (n : ℕ) (p : Part) (c : Option Clause) (before after helpers : List PredTree) → p.clause ≡ c → helpers ≡ clause_helpers called n (option_map written_clause c) → after ≡ before ++ helpers →
+    after ≡ before ++ clause_helpers called n (part_tree p).clause
+clause-helps called n p c before after helpers is same put = put ∙ ap (λ xs. before ++ xs) (same ∙ ap (λ o. clause_helpers called n (option_map written_clause o)) (sym is))
 
 -- ---- mode lists
 
@@ -131,39 +122,70 @@ copied-all xs made i h so = sym (append-nil made) ∙ (sym (ap (λ zs. made ++ z
 
 -- ---- parts in order
 
-abbrev clauses_of : List Part → List Lowering
-clauses_of parts = lowerings (map part_tree parts)
-
 -- what was made before and all parts come to what was made since and the parts ahead
-abbrev pub Ahead : List PredTree → List Part → List PredTree → List Part → Type 0
-Ahead before parts now ahead = (rest : List Lowering) → lowered_behind before (lowerings (map part_tree parts) ++ rest) ≡ lowered_behind now (lowerings (map part_tree ahead) ++ rest)
+abbrev pub PredsAhead : Naming → List PredTree → ℕ → List Part → List PredTree → ℕ → List Part → Type 0
+PredsAhead called before from parts now count ahead = (rest : ProgramTree) → lowered_behind before (clauses_of called from (map part_tree parts ++ rest)) ≡ lowered_behind now (clauses_of called count (map part_tree ahead ++ rest))
 
-cons-append : (o : Option Lowering) (xs ys : List Lowering) → cons_option o xs ++ ys ≡ cons_option o (xs ++ ys)
-cons-append None xs ys = refl
-cons-append (Some x) xs ys = refl
+abbrev pub HelpersAhead : Naming → List PredTree → ℕ → List Part → List PredTree → ℕ → List Part → Type 0
+HelpersAhead called before from parts now count ahead = (rest : ProgramTree) → before ++ helpers_of called from (map part_tree parts ++ rest) ≡ now ++ helpers_of called count (map part_tree ahead ++ rest)
 
-pub parts-more : (parts : List Part) (i : ℕ) (p : Part) (before now after : List PredTree) → i < length parts → p ≡ get_or parts i p →
-    ((rest : List Lowering) → lowered_behind now (cons_option (lowered_part (part_tree p)) rest) ≡ lowered_behind after rest) → Ahead before parts now (drop i parts) → Ahead before parts after (drop (i + 1) parts)
-parts-more parts i p before now after h is adds so rest =
+part-ahead : (parts : List Part) (i : ℕ) (p : Part) (rest : ProgramTree) → i < length parts → p ≡ get_or parts i p → map part_tree (drop i parts) ++ rest ≡ part_tree p ∷ (map part_tree (drop (i + 1) parts) ++ rest)
+part-ahead parts i p rest h is = ap (λ ps. map part_tree ps ++ rest) (drop_more parts i p h ∙ ap (λ q. q ∷ drop (i + 1) parts) (sym is))
+
+pub preds-more : (called : Naming) (parts : List Part) (i : ℕ) (p : Part) (before now after : List PredTree) (from count next : ℕ) → i < length parts → p ≡ get_or parts i p → next ≡ count + clause_count (part_tree p).clause →
+    ((rest : List Lowering) → lowered_behind now (cons_option (lowered_of called count p) rest) ≡ lowered_behind after rest) → PredsAhead called before from parts now count (drop i parts) → PredsAhead called before from parts after next (drop (i + 1) parts)
+unfolding clauses_of
+preds-more called parts i p before now after from count next h is numbered adds so rest =
+    let behind : ProgramTree = map part_tree (drop (i + 1) parts) ++ rest in
     so rest
-    ∙ (ap (λ ps. lowered_behind now (clauses_of ps ++ rest)) (drop_more parts i p h ∙ ap (λ q. q ∷ drop (i + 1) parts) (sym is))
-    ∙ (ap (lowered_behind now) (cons-append (lowered_part (part_tree p)) (clauses_of (drop (i + 1) parts)) rest) ∙ adds (clauses_of (drop (i + 1) parts) ++ rest)))
+    ∙ (ap (λ ps. lowered_behind now (clauses_of called count ps)) (part-ahead parts i p rest h is)
+    ∙ (adds (clauses_of called (count + clause_count (part_tree p).clause) behind) ∙ ap (λ k. lowered_behind after (clauses_of called k behind)) (sym numbered)))
 
-pub parts-end : (parts : List Part) (i : ℕ) (before now : List PredTree) → length parts ≤ i → Ahead before parts now (drop i parts) → (rest : List Lowering) →
-    lowered_behind before (lowerings (map part_tree parts) ++ rest) ≡ lowered_behind now rest
-parts-end parts i before now h so rest = so rest ∙ ap (λ ps. lowered_behind now (clauses_of ps ++ rest)) (drop_all i parts h)
+pub helpers-more : (called : Naming) (parts : List Part) (i : ℕ) (p : Part) (before now after : List PredTree) (from count next : ℕ) → i < length parts → p ≡ get_or parts i p → next ≡ count + clause_count (part_tree p).clause →
+    after ≡ now ++ clause_helpers called count (part_tree p).clause → HelpersAhead called before from parts now count (drop i parts) → HelpersAhead called before from parts after next (drop (i + 1) parts)
+unfolding helpers_of
+helpers-more called parts i p before now after from count next h is numbered put so rest =
+    let behind : ProgramTree = map part_tree (drop (i + 1) parts) ++ rest in
+    so rest
+    ∙ (ap (λ ps. now ++ helpers_of called count ps) (part-ahead parts i p rest h is)
+    ∙ (sym (append_assoc now (clause_helpers called count (part_tree p).clause) (helpers_of called (count + clause_count (part_tree p).clause) behind))
+    ∙ (ap (λ xs. xs ++ helpers_of called (count + clause_count (part_tree p).clause) behind) (sym put) ∙ ap (λ k. after ++ helpers_of called k behind) (sym numbered))))
+
+pub preds-end : (called : Naming) (parts : List Part) (i : ℕ) (before now : List PredTree) (from count : ℕ) → length parts ≤ i → PredsAhead called before from parts now count (drop i parts) → (rest : ProgramTree) →
+    lowered_behind before (clauses_of called from (map part_tree parts ++ rest)) ≡ lowered_behind now (clauses_of called count rest)
+preds-end called parts i before now from count h so rest = so rest ∙ ap (λ ps. lowered_behind now (clauses_of called count (map part_tree ps ++ rest))) (drop_all i parts h)
+
+pub helpers-end : (called : Naming) (parts : List Part) (i : ℕ) (before now : List PredTree) (from count : ℕ) → length parts ≤ i → HelpersAhead called before from parts now count (drop i parts) → (rest : ProgramTree) →
+    before ++ helpers_of called from (map part_tree parts ++ rest) ≡ now ++ helpers_of called count rest
+helpers-end called parts i before now from count h so rest = so rest ∙ ap (λ ps. now ++ helpers_of called count (map part_tree ps ++ rest)) (drop_all i parts h)
 
 -- ---- a program behind the prelude
 
-lowerings-append : (a b : ProgramTree) → lowerings (a ++ b) ≡ lowerings a ++ lowerings b
-lowerings-append [] b = refl
-lowerings-append (p ∷ a) b = ap (cons_option (lowered_part p)) (lowerings-append a b) ∙ sym (cons-append (lowered_part p) (lowerings a) (lowerings b))
+abbrev PredsMade : Naming → List PredTree → ℕ → ProgramTree → List PredTree → ℕ → Type 0
+PredsMade called before from program after count = (rest : ProgramTree) → lowered_behind before (clauses_of called from (program ++ rest)) ≡ lowered_behind after (clauses_of called count rest)
 
-pub program-is : (pre parts : List Part) (start mid preds : List PredTree) → map part_tree pre ≡ prelude → start ≡ [] →
-    ((rest : List Lowering) → lowered_behind start (lowerings (map part_tree pre) ++ rest) ≡ lowered_behind mid rest) →
-    ((rest : List Lowering) → lowered_behind mid (lowerings (map part_tree parts) ++ rest) ≡ lowered_behind preds rest) → preds ≡ lowered (map part_tree parts)
-unfolding lowered lowered_behind
-program-is pre parts start mid preds is none first second =
-    sym (behind-none preds)
-    ∙ (sym (second []) ∙ (ap (lowered_behind mid) (append-nil (clauses_of parts)) ∙ (sym (first (clauses_of parts)) ∙ (ap (λ ps. lowered_behind ps (clauses_of pre ++ clauses_of parts)) none
-    ∙ (ap (λ ps. grouped_all (lowerings ps ++ clauses_of parts)) is ∙ ap grouped_all (sym (lowerings-append prelude (map part_tree parts))))))))
+abbrev HelpersMade : Naming → List PredTree → ℕ → ProgramTree → List PredTree → ℕ → Type 0
+HelpersMade called before from program after count = (rest : ProgramTree) → before ++ helpers_of called from (program ++ rest) ≡ after ++ helpers_of called count rest
+
+preds-are : (called : Naming) (pre program : ProgramTree) (start mid preds : List PredTree) (count last : ℕ) → start ≡ [] → PredsMade called start 0 pre mid count → PredsMade called mid count program preds last →
+    grouped_all (clauses_of called 0 (pre ++ program)) ≡ preds
+unfolding clauses_of lowered_behind
+preds-are called pre program start mid preds count last none first second =
+    ap (λ ps. lowered_behind ps (clauses_of called 0 (pre ++ program))) (sym none)
+    ∙ (first program ∙ (ap (λ ps. lowered_behind mid (clauses_of called count ps)) (sym (append-nil program)) ∙ (second [] ∙ behind-none preds)))
+
+helpers-are : (called : Naming) (pre program : ProgramTree) (start mid helpers : List PredTree) (count last : ℕ) → start ≡ [] → HelpersMade called start 0 pre mid count → HelpersMade called mid count program helpers last →
+    helpers_of called 0 (pre ++ program) ≡ helpers
+unfolding helpers_of
+helpers-are called pre program start mid helpers count last none first second =
+    ap (λ ps. ps ++ helpers_of called 0 (pre ++ program)) (sym none)
+    ∙ (first program ∙ (ap (λ ps. mid ++ helpers_of called count ps) (sym (append-nil program)) ∙ (second [] ∙ append-nil helpers)))
+
+pub program-is : (called : Naming) (pre program : ProgramTree) (none-preds some-preds preds none-helpers some-helpers helpers : List PredTree) (count last : ℕ) → pre ≡ prelude → none-preds ≡ [] → none-helpers ≡ [] →
+    PredsMade called none-preds 0 pre some-preds count → HelpersMade called none-helpers 0 pre some-helpers count → PredsMade called some-preds count program preds last → HelpersMade called some-helpers count program helpers last →
+    preds ++ helpers ≡ core_program called program
+unfolding core_program
+program-is called pre program none-preds some-preds preds none-helpers some-helpers helpers count last is no-preds no-helpers first also second more =
+    ap (λ xs. xs ++ helpers) (sym (preds-are called pre program none-preds some-preds preds count last no-preds first second))
+    ∙ (ap (λ xs. grouped_all (clauses_of called 0 (pre ++ program)) ++ xs) (sym (helpers-are called pre program none-helpers some-helpers helpers count last no-helpers also more))
+    ∙ ap (λ ps. grouped_all (clauses_of called 0 (ps ++ program)) ++ helpers_of called 0 (ps ++ program)) is)

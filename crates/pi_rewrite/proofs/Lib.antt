@@ -1,8 +1,10 @@
 pub mod CutLemmas
+pub mod OwnLemmas
 pub mod ProgramLemmas
 pub mod QueryLemmas
 pub mod TellLemmas
 pub mod GroupLemmas
 pub mod ClauseLemmas
 pub mod NameLemmas
+pub mod LengthLemmas
 pub mod LawLemmas

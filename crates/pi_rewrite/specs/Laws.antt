@@ -1,5 +1,5 @@
 -- What lowering keeps. A core program keeps the meaning of a program, and a query that of a goal: both are sound, and what they do where no later stage of the language is there is what is
--- done over names, with the prelude in front, whatever later stages give (`Allows` says where one of them calls terms). What they are stands in `Lowered` of `pi_lowered`.
+-- done over names, with the prelude in front, whatever later stages give (`Allows` says where one of them calls terms). What they are stands in `Programs` of `pi_lowered`.
 use Rattle.std.specs.Prelude.{◌≡◌, ℕ, true, List, ◌++◌, None, All, IsTrue}
 use Rattle.pi_terms.specs.Tree.{Trees, tree_count}
 use Rattle.pi_states.specs.State.{State}
@@ -19,11 +19,13 @@ use Rattle.pi_meaning.specs.Telling.{place_told, told_trace, told_cut}
 use Rattle.pi_meaning.specs.Told.{solution_told}
 use Rattle.pi_names.specs.Stages.{LaterStages}
 use Rattle.pi_names.specs.Run.{program_level, answer_names, names_from, IsNamesRun}
-use Rattle.pi_lowered.specs.Within.{IsWithin, IsAsked}
+use Rattle.pi_lowered.specs.WithinLoops.{IsAsked}
 use Rattle.pi_lowered.specs.Laws.{known_of, DefinesTheSame, query_from}
+use Rattle.pi_lowered.specs.Programs.{Naming, core_program}
 use Rattle.pi_coverage.specs.Built.{unbuilt_part, is_built_goal}
+use Rattle.pi_coverage.specs.Within.{IsWithin}
 use Rattle.pi_coverage.specs.TermCalls.{ProgramAllows, Allows}
-use Rattle.pi_sound.specs.Laws.{IsPlain}
+use Rattle.pi_sound.specs.Laws.{IsPlain, AreNames}
 
 -- ---- programs
 
@@ -35,9 +37,16 @@ pub record CallsTheSame (program : ProgramTree) (preds : List PredTree) : Type 0
   pub functions : (v : View) (later : LaterStages) → ProgramAllows later program → (d : ℕ) (name : List ℕ) (ts : Trees) (s : State) → IsTrue ((known_of program).function name (tree_count ts)) →
       (calls_at (level_at (whole v no_later preds) preds d)).applied name ts s ≡ (calls_at (program_level v later program d)).applied name ts s
 
--- A core program that keeps the meaning of a program. It calls built-ins of the tables, `call`, and what it defines: what the program or the prelude has clauses of, and nothing by a name that
--- the language gives.
+-- What a program is lowered to, whatever names of their own the helpers of its loops have.
+pub record IsCoreProgram (program : ProgramTree) (preds : List PredTree) : Type 0 where
+  pub called : Naming
+  pub names : AreNames program called
+  pub is : preds ≡ core_program called program
+
+-- A core program that keeps the meaning of a program. It calls built-ins of the tables, `call`, and what it defines: what the program or the prelude has clauses of, helpers of loops, and
+-- nothing by a name that the language gives.
 pub record IsLoweredProgram (program : ProgramTree) (preds : List PredTree) : Type 0 where
+  pub made : IsCoreProgram program preds
   pub sound : IsSound preds
   pub plain : All IsPlain preds
   pub closed : ProgramCallsDefined preds

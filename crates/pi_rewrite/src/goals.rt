@@ -1,15 +1,20 @@
 //! Bodies, conditions and heads: what clauses are made of.
-ghost use Rattle.std.specs.Prelude.{◌≡◌, ◌++◌, option_map, IfOk};
+ghost use Rattle.std.specs.Prelude.{◌≡◌, ◌++◌, map, option_map, IfOk};
 ghost use Rattle.pi_syntax.specs.ExpTree.{exp_tree};
-ghost use Rattle.pi_core.specs.CoreTree.{pattern_trees};
+ghost use Rattle.pi_core.specs.CoreTree.{pattern_trees, pred_tree};
 ghost use Rattle.pi_meaning.specs.WrittenRules.{head_arguments};
 ghost use Rattle.pi_lowered.specs.Values.{slot_patterns as patterns_of};
-ghost use Rattle.pi_lowered.specs.Goals.{in_turn as turn_of, goal_of};
-ghost use Rattle.pi_lowered.specs.Lowered.{as_guard as guard_as, goals_or_none, guard_of, is_truth as is_truth_tree};
+ghost use Rattle.pi_lowered.specs.Goals.{in_turn as turn_of};
+ghost use Rattle.pi_lowered.specs.Written.{goal_of};
+ghost use Rattle.pi_lowered.specs.Helpers.{goal_helpers};
+ghost use Rattle.pi_lowered.specs.Programs.{option_goals, option_helpers};
+ghost use Rattle.pi_lowered.specs.Lowered.{as_guard as guard_as, guard_of, is_truth as is_truth_tree};
+ghost use Rattle.pi_sites.specs.SiteOf.{site_of};
 ghost use Rattle.pi_rewrite.specs.Built.{is_true_node};
 
-use pi_core::{CoreGoal, GoalNode, Patterns};
+use pi_core::{CoreGoal, CorePred, GoalNode, Patterns};
 use pi_lowering::{in_turn, lower_goal};
+use pi_sites::Site;
 use pi_slots::{Slots, slot_patterns};
 use pi_syntax::Exp;
 use std::alloc::{AllocError, Global};
@@ -33,31 +38,35 @@ pub(crate) fn lower_head<'a>(
     }
 }
 
-/// The goal that a body is, where the head fills the first `filled` slots.
+/// The goal that a body is, with the helpers of its loops behind others.
 pub(crate) fn lower_body<'a>(
     alloc: Global,
-    filled: u32,
+    site: &Site<'a>,
     body: &'a Exp,
     slots: &mut Slots<'a>,
+    helpers: &mut Vec<CorePred>,
 ) -> Result<CoreGoal, AllocError>
-    ensures is { IfOk result (λ made. made ≡ turn_of (goal_of filled (exp_tree body.now) slots.old).goals) }
-    ensures slots { IfOk result (λ _. slots.new ≡ (goal_of filled (exp_tree body.now) slots.old).names) }
+    ensures is { IfOk result (λ made. made ≡ turn_of (goal_of (site_of site.now) (exp_tree body.now) slots.old).goals) }
+    ensures slots { IfOk result (λ _. slots.new ≡ (goal_of (site_of site.now) (exp_tree body.now) slots.old).names) }
+    ensures helpers { IfOk result (λ _. map pred_tree helpers.new.items ≡ map pred_tree helpers.old.items ++ goal_helpers (site_of site.now) (exp_tree body.now)) }
 {
     let mut goals = Vec::new(alloc);
-    lower_goal(alloc, filled, body, slots, &mut goals)?;
+    lower_goal(alloc, site, body, slots, &mut goals, helpers)?;
     let made = in_turn(alloc, goals)?;
     Ok(made)
 }
 
-/// The condition of a clause; `truth` where there is none.
+/// The condition of a clause, with the helpers of its loops behind others; `truth` where there is none.
 pub(crate) fn lower_guard<'a>(
     alloc: Global,
-    filled: u32,
+    site: &Site<'a>,
     cond: &'a Option<Exp>,
     slots: &mut Slots<'a>,
+    helpers: &mut Vec<CorePred>,
 ) -> Result<CoreGoal, AllocError>
-    ensures is { IfOk result (λ made. made ≡ guard_of (option_map exp_tree cond.now) (goals_or_none filled (option_map exp_tree cond.now) slots.old)) }
-    ensures slots { IfOk result (λ _. slots.new ≡ (goals_or_none filled (option_map exp_tree cond.now) slots.old).names) }
+    ensures is { IfOk result (λ made. made ≡ guard_of (option_map exp_tree cond.now) (option_goals (site_of site.now) (option_map exp_tree cond.now) slots.old)) }
+    ensures slots { IfOk result (λ _. slots.new ≡ (option_goals (site_of site.now) (option_map exp_tree cond.now) slots.old).names) }
+    ensures helpers { IfOk result (λ _. map pred_tree helpers.new.items ≡ map pred_tree helpers.old.items ++ option_helpers (site_of site.now) (option_map exp_tree cond.now)) }
 {
     match cond {
         None => {
@@ -65,7 +74,7 @@ pub(crate) fn lower_guard<'a>(
             Ok(made)
         }
         Some(cond) => {
-            let goal = lower_body(alloc, filled, cond, slots)?;
+            let goal = lower_body(alloc, site, cond, slots, helpers)?;
             let made = as_guard(alloc, goal)?;
             Ok(made)
         }
@@ -98,21 +107,23 @@ fn is_true_node(node: GoalNode<'_>) -> bool
     matches!(node, GoalNode::True)
 }
 
-/// Goals that may be left out, behind those that stand before them.
+/// Goals that may be left out, behind those that stand before them, with the helpers of their loops behind others.
 pub(crate) fn lower_goal_or_none<'a>(
     alloc: Global,
-    filled: u32,
+    site: &Site<'a>,
     body: &'a Option<Exp>,
     slots: &mut Slots<'a>,
     goals: &mut Vec<CoreGoal>,
+    helpers: &mut Vec<CorePred>,
 ) -> Result<(), AllocError>
-    ensures goals { IfOk result (λ _. goals.new.items ≡ goals.old.items ++ (goals_or_none filled (option_map exp_tree body.now) slots.old).goals) }
-    ensures slots { IfOk result (λ _. slots.new ≡ (goals_or_none filled (option_map exp_tree body.now) slots.old).names) }
+    ensures goals { IfOk result (λ _. goals.new.items ≡ goals.old.items ++ (option_goals (site_of site.now) (option_map exp_tree body.now) slots.old).goals) }
+    ensures slots { IfOk result (λ _. slots.new ≡ (option_goals (site_of site.now) (option_map exp_tree body.now) slots.old).names) }
+    ensures helpers { IfOk result (λ _. map pred_tree helpers.new.items ≡ map pred_tree helpers.old.items ++ option_helpers (site_of site.now) (option_map exp_tree body.now)) }
 {
     match body {
         None => Ok(()),
         Some(body) => {
-            lower_goal(alloc, filled, body, slots, goals)?;
+            lower_goal(alloc, site, body, slots, goals, helpers)?;
             Ok(())
         }
     }

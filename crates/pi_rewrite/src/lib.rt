@@ -4,8 +4,9 @@
 ghost use Rattle.std.specs.Prelude.{◌≡◌, None, IfOk};
 ghost use Rattle.pi_core.specs.CoreTree.{program_tree, query_tree};
 ghost use Rattle.pi_syntax.specs.ProgramTree.{ProgramTree, source_tree, goal_source};
-ghost use Rattle.pi_lowered.specs.Within.{IsWithin, IsAsked};
+ghost use Rattle.pi_lowered.specs.WithinLoops.{IsAsked};
 ghost use Rattle.pi_coverage.specs.Built.{unbuilt_part, unbuilt_goal};
+ghost use Rattle.pi_coverage.specs.Within.{IsWithin};
 ghost use Rattle.pi_rewrite.specs.Laws.{IsLoweredProgram, IsLowered};
 ghost use Rattle.pi_rewrite.specs.Told.{part_told};
 
@@ -13,6 +14,8 @@ mod clauses;
 mod goals;
 pub mod laws;
 mod lower_fault;
+mod naming;
+mod places;
 mod preds;
 mod queries;
 mod telling;
@@ -23,8 +26,8 @@ use pi_coverage::{is_built_goal, unbuilt};
 use pi_syntax::{Goal, Program};
 use std::alloc::Global;
 
-/// The program in the core language, behind the prelude: where it is within the forms that are lowered, a core program that
-/// keeps its meaning.
+/// The program in the core language, behind the prelude and with the helpers of its loops: where it is within the forms
+/// that are lowered, a core program that keeps its meaning.
 ///
 /// Where it has a part that isn't built, the first such is told, and nothing is lowered. `import` is passed over.
 pub fn lower(alloc: Global, program: &Program) -> Result<CoreProgram, LowerFault>
@@ -40,18 +43,18 @@ pub fn lower(alloc: Global, program: &Program) -> Result<CoreProgram, LowerFault
     Ok(CoreProgram { preds })
 }
 
-/// The goal in the core language, asked of the program that `core` is. Its names are those of its variables that don't
-/// begin with `_` and stand outside of loops.
+/// The goal in the core language, asked of the program that `core` is, with the helpers of its loops. Its names are those
+/// of its variables that don't begin with `_` and stand outside of loops.
 ///
 /// A goal that isn't built is told as part 1. Where `core` keeps the meaning of a program of which the goal may be asked,
 /// the query keeps that of the goal.
-pub fn lower_goal(alloc: Global, goal: &Goal, _core: &CoreProgram) -> Result<CoreQuery, LowerFault>
+pub fn lower_goal(alloc: Global, goal: &Goal, core: &CoreProgram) -> Result<CoreQuery, LowerFault>
     ensures unbuilt { part_told result ≡ unbuilt_goal (goal_source goal.now) }
-    ensures lowered { IfOk result (λ query. (program : ProgramTree) → IsWithin program → unbuilt_part program ≡ None → IsAsked program (goal_source goal.now) → IsLoweredProgram program (program_tree _core.now) → IsLowered program (goal_source goal.now) (program_tree _core.now) (query_tree query)) }
+    ensures lowered { IfOk result (λ query. (program : ProgramTree) → IsWithin program → unbuilt_part program ≡ None → IsAsked program (goal_source goal.now) → IsLoweredProgram program (program_tree core.now) → IsLowered program (goal_source goal.now) (program_tree core.now) (query_tree query)) }
 {
     if !is_built_goal(&goal.body) {
         return Err(LowerFault::NotBuilt { number: 1 });
     }
-    let query = queries::lower_query(alloc, &goal.body)?;
+    let query = queries::lower_query(alloc, &goal.body, core.preds.as_slice())?;
     Ok(query)
 }

@@ -2,15 +2,20 @@
 ghost use Rattle.std.specs.Prelude.{◌≡◌, ◌∷◌, ◌++◌, [], map, List, None, IfOk, option_copied};
 ghost use Rattle.std.specs.List.{cons_option};
 ghost use Rattle.pi_syntax.specs.ExpTree.{exp_tree};
-ghost use Rattle.pi_syntax.specs.ProgramTree.{part_tree, source_tree};
+ghost use Rattle.pi_syntax.specs.ProgramTree.{ProgramTree, part_tree, source_tree};
 ghost use Rattle.pi_syntax.specs.Signature.{signature as signature_of};
 ghost use Rattle.pi_core.specs.CoreTree.{clause_tree, pred_tree, index_of};
-ghost use Rattle.pi_lowered.specs.Lowered.{Lowering, named_by, lowered_part, lowerings, with_first, with_next, is_clause_of, lowered, lowered_rule, lowered_function};
-ghost use Rattle.pi_rewrite.specs.Built.{lowered_behind, is_clause_named};
+ghost use Rattle.pi_lowered.specs.Lowered.{Lowering, named_by, with_first, with_next, is_clause_of};
+ghost use Rattle.pi_lowered.specs.Programs.{written_clause, clause_helpers, clauses_of, helpers_of, core_program};
+ghost use Rattle.pi_sites.specs.OwnNames.{own_name};
+ghost use Rattle.pi_rewrite.specs.Built.{lowered_behind, is_clause_named, program_prefix};
 
-use crate::clauses::{lower_fact, lower_function, lower_rule};
+use crate::clauses::{Numbered, lower_fact, lower_function, lower_rule};
+use crate::naming::program_naming;
+use crate::places::behind_part;
 use pi_core::{CoreClause, CoreClauses, CorePred, CorePreds};
 use pi_prelude::read_prelude;
+use pi_sites::Naming;
 use pi_syntax::{Clause, Decl, Exp, ModeLists, Modes, Part, Program};
 use pi_terms::Text;
 use std::alloc::{AllocError, Global};
@@ -23,30 +28,66 @@ struct Named<'a> {
     function: bool,
 }
 
-/// The predicates and functions of a program, behind those of the prelude.
+/// The predicates and functions of a program, behind those of the prelude, and behind all of them the helpers of loops.
 pub(crate) fn lower_program(alloc: Global, program: &Program) -> Result<CorePreds, AllocError>
-    ensures { IfOk result (λ preds. map pred_tree preds ≡ lowered (source_tree program.now)) }
+    ensures { IfOk result (λ preds. map pred_tree preds ≡ core_program (own_name (program_prefix (source_tree program.now))) (source_tree program.now)) }
 {
     let prelude = read_prelude(alloc)?;
+    let naming = program_naming(alloc, prelude.parts.as_slice(), program.parts.as_slice())?;
     let mut preds = Vec::new(alloc);
-    lower_parts(alloc, prelude.parts.as_slice(), &mut preds)?;
-    lower_parts(alloc, program.parts.as_slice(), &mut preds)?;
+    let mut helpers = Vec::new(alloc);
+    let count = lower_parts(
+        alloc,
+        &naming,
+        0,
+        prelude.parts.as_slice(),
+        &mut preds,
+        &mut helpers,
+    )?;
+    lower_parts(
+        alloc,
+        &naming,
+        count,
+        program.parts.as_slice(),
+        &mut preds,
+        &mut helpers,
+    )?;
+    preds.append(&mut helpers)?;
     Ok(CorePreds::from_vec(preds))
 }
 
-/// Adds the clauses of these parts, in order. A part without a clause, as `import` is, adds none.
-fn lower_parts(alloc: Global, parts: &[Part], preds: &mut Vec<CorePred>) -> Result<(), AllocError>
-    ensures { IfOk result (λ _. (rest : List Lowering) → lowered_behind (map pred_tree preds.old.items) (lowerings (map part_tree parts.now) ++ rest) ≡ lowered_behind (map pred_tree preds.new.items) rest) }
+/// Adds the clauses of these parts and the helpers of their loops, in order, where there are so many helpers before: how
+/// many there are then. A part without a clause, as `import` is, adds none.
+fn lower_parts(
+    alloc: Global,
+    naming: &Naming,
+    before: u64,
+    parts: &[Part],
+    preds: &mut Vec<CorePred>,
+    helpers: &mut Vec<CorePred>,
+) -> Result<u64, AllocError>
+    ensures preds { IfOk result (λ count. (rest : ProgramTree) → lowered_behind (map pred_tree preds.old.items) (clauses_of (own_name naming.now.prefix) before (map part_tree parts.now ++ rest)) ≡ lowered_behind (map pred_tree preds.new.items) (clauses_of (own_name naming.now.prefix) count rest)) }
+    ensures helpers { IfOk result (λ count. (rest : ProgramTree) → map pred_tree helpers.old.items ++ helpers_of (own_name naming.now.prefix) before (map part_tree parts.now ++ rest) ≡ map pred_tree helpers.new.items ++ helpers_of (own_name naming.now.prefix) count rest) }
 {
+    let mut count = before;
     for part in parts {
-        lower_part(alloc, part, preds)?;
+        let from = Numbered { naming, count };
+        lower_part(alloc, from, part, preds, helpers)?;
+        count = behind_part(count, part)?;
     }
-    Ok(())
+    Ok(count)
 }
 
-/// Adds the clause of a part, where it has one.
-fn lower_part(alloc: Global, part: &Part, preds: &mut Vec<CorePred>) -> Result<(), AllocError>
-    ensures { IfOk result (λ _. (rest : List Lowering) → lowered_behind (map pred_tree preds.old.items) (cons_option (lowered_part (part_tree part.now)) rest) ≡ lowered_behind (map pred_tree preds.new.items) rest) }
+/// Adds the clause of a part and the helpers of its loops, where it has one.
+fn lower_part(
+    alloc: Global,
+    from: Numbered<'_>,
+    part: &Part,
+    preds: &mut Vec<CorePred>,
+    helpers: &mut Vec<CorePred>,
+) -> Result<(), AllocError>
+    ensures preds { IfOk result (λ _. (rest : List Lowering) → lowered_behind (map pred_tree preds.old.items) (cons_option (written_clause (own_name from.entry.naming.now.prefix) from.entry.count (index_of part.now.decl) (part_tree part.now).clause) rest) ≡ lowered_behind (map pred_tree preds.new.items) rest) }
+    ensures helpers { IfOk result (λ _. map pred_tree helpers.new.items ≡ map pred_tree helpers.old.items ++ clause_helpers (own_name from.entry.naming.now.prefix) from.entry.count (part_tree part.now).clause) }
 {
     match &part.clause {
         Some(
@@ -58,7 +99,7 @@ fn lower_part(alloc: Global, part: &Part, preds: &mut Vec<CorePred>) -> Result<(
                 ..
             },
         ) => {
-            let clause = lower_rule(alloc, head, cond, *back, body)?;
+            let clause = lower_rule(alloc, from, head, cond, *back, body, helpers)?;
             let named = signature(head, false)?;
             add_clause(alloc, preds, named, None, clause)?;
             Ok(())
@@ -71,7 +112,7 @@ fn lower_part(alloc: Global, part: &Part, preds: &mut Vec<CorePred>) -> Result<(
                 body,
             },
         ) => {
-            let clause = lower_function(alloc, head, value, cond, body)?;
+            let clause = lower_function(alloc, from, head, value, cond, body, helpers)?;
             let named = signature(head, true)?;
             add_clause(alloc, preds, named, None, clause)?;
             Ok(())

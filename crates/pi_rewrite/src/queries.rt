@@ -1,31 +1,48 @@
 //! Goals that are asked, as queries.
-ghost use Rattle.std.specs.Prelude.{◌≡◌, IfOk};
+ghost use Rattle.std.specs.Prelude.{◌≡◌, map, IfOk};
 ghost use Rattle.pi_syntax.specs.ExpTree.{exp_tree};
-ghost use Rattle.pi_core.specs.CoreTree.{query_tree};
+ghost use Rattle.pi_core.specs.CoreTree.{pred_tree, query_tree};
 ghost use Rattle.pi_lowered.specs.Slots.{named_slots, slots_behind};
-ghost use Rattle.pi_lowered.specs.Lowered.{lowered_query};
+ghost use Rattle.pi_lowered.specs.Programs.{core_query};
 ghost use Rattle.pi_slots.specs.Indexed.{names_in};
+ghost use Rattle.pi_sites.specs.OwnNames.{own_name};
+ghost use Rattle.pi_rewrite.specs.Built.{query_prefix};
 
 use crate::goals::lower_body;
+use crate::naming::query_naming;
 use crate::telling::told_names;
-use pi_core::{CorePreds, CoreQuery, NameSlot, NameSlots};
+use pi_core::{CorePred, CorePreds, CoreQuery, NameSlot, NameSlots};
+use pi_sites::Site;
 use pi_slots::Slots;
 use pi_syntax::Exp;
 use pi_terms::Text;
 use std::alloc::{AllocError, Global};
 
-/// The goal as a query, with the slots of the names that an answer tells.
-pub(crate) fn lower_query(alloc: Global, goal: &Exp) -> Result<CoreQuery, AllocError>
-    ensures { IfOk result (λ query. query_tree query ≡ lowered_query (exp_tree goal.now)) }
+/// The goal as a query asked of these predicates, with the helpers of its loops and the slots of the names that an answer
+/// tells.
+pub(crate) fn lower_query(
+    alloc: Global,
+    goal: &Exp,
+    preds: &[CorePred],
+) -> Result<CoreQuery, AllocError>
+    ensures { IfOk result (λ query. query_tree query ≡ core_query (own_name (query_prefix (map pred_tree preds.now))) (exp_tree goal.now)) }
 {
+    let naming = query_naming(alloc, preds)?;
+    let site = Site {
+        filled: 0,
+        before: Vec::new(alloc),
+        helpers: 0,
+        naming: &naming,
+    };
     let mut slots = Slots::new(alloc);
-    let body = lower_body(alloc, 0, goal, &mut slots)?;
+    let mut helpers = Vec::new(alloc);
+    let body = lower_body(alloc, &site, goal, &mut slots, &mut helpers)?;
     let told = told_names(alloc, goal)?;
     let names = name_slots(alloc, told.as_slice(), &mut slots)?;
     let count = slots.count()?;
     Ok(CoreQuery {
         goal: body,
-        helpers: CorePreds::new(alloc),
+        helpers: CorePreds::from_vec(helpers),
         names,
         slots: count,
     })

@@ -1,13 +1,34 @@
--- The slots of the head are those before the condition, and those of the condition stand before the body.
-use Rattle.std.proofs.Common.{refl, None}
+-- The slots of the head are those before the condition, and those of the condition stand before the body; so with the places and the helpers.
+use Rattle.std.proofs.Common.{◌≡◌, map, refl, ap, None, ◌∙◌}
 use Rattle.std.specs.Prelude.{option_map}
 use Rattle.pi_syntax.specs.ExpTree.{exp_tree}
-use Rattle.pi_rewrite.proofs.ClauseLemmas.{rule-is}
+use Rattle.pi_syntax.specs.ProgramTree.{RuleTree}
+use Rattle.pi_core.specs.CoreTree.{pred_tree}
+use Rattle.pi_meaning.specs.WrittenRules.{head_arguments}
+use Rattle.pi_lowered.specs.Values.{slot_patterns}
+use Rattle.pi_lowered.specs.Helpers.{goal_helpers}
+use Rattle.pi_lowered.specs.Programs.{option_helpers, behind_option, rule_site}
+use Rattle.pi_lowered.specs.Sites.{Site}
+use Rattle.pi_sites.specs.OwnNames.{own_name}
+use Rattle.pi_sites.specs.SiteOf.{site_of}
+use Rattle.pi_rewrite.proofs.ClauseLemmas.{rule-is, rule-site-is, two-behind}
 use Rattle.pi_rewrite.proofs.clauses.lower_rule.Goals as goal
 
-pub returns : goal.returns
-returns c = λ events.
-    rule-is (record { head = c.in_ok-head.head; guard = c.in_ok-guard.guard; back = c.args.back; watches = c.new.result; body = c.in_ok-body.body; value = None; slots = c.in_ok-count.count })
-    (record { head = exp_tree c.args.head.now; cond = option_map exp_tree c.args.cond.now; events = events; back = c.args.back; body = exp_tree c.args.body.now }) c.new-slots.result c.lower_head.new.slots c.lower_guard.new.slots
-    c.lower_body.new.slots c.in_ok-filled.filled c.new-slots.ensures c.in_ok-head.ensures.are c.in_ok-head.ensures.slots c.in_ok-filled.ensures c.in_ok-guard.ensures.is c.in_ok-guard.ensures.slots refl c.new.ensures
-    c.in_ok-body.ensures.is c.in_ok-body.ensures.slots refl c.in_ok-count.ensures
+pub returns-clause-is : goal.returns-clause-is
+returns-clause-is c = λ events.
+    let r : RuleTree = record { head = exp_tree c.args.head.now; cond = option_map exp_tree c.args.cond.now; events = events; back = c.args.back; body = exp_tree c.args.body.now } in
+    rule-is (record { head = c.in_ok-patterns.patterns; guard = c.in_ok-guard.guard; back = c.args.back; watches = c.new.result; body = c.in_ok-body.body; value = None; slots = c.in_ok-count.count }) r (own_name c.args.from.naming.now.prefix) c.args.from.count
+    c.new-slots.result c.lower_head.new.slots c.lower_guard.new.slots c.lower_body.new.slots (site_of c.in_ok-site.site) (site_of c.pass_option.new.site) c.new-slots.ensures c.in_ok-patterns.ensures.are c.in_ok-patterns.ensures.slots
+    (rule-site-is r (own_name c.args.from.naming.now.prefix) c.args.from.count c.in_ok-filled.filled c.lower_head.new.slots (site_of c.in_ok-site.site)
+    (c.in_ok-patterns.ensures.slots ∙ ap (λ ns. (slot_patterns (head_arguments r.head) ns).names) c.new-slots.ensures) c.in_ok-filled.ensures c.in_ok-site.ensures)
+    c.in_ok-guard.ensures.is c.in_ok-guard.ensures.slots c.in_ok-pass_option.ensures refl c.new.ensures c.in_ok-body.ensures.is c.in_ok-body.ensures.slots refl c.in_ok-count.ensures
+
+pub returns-clause-helpers : goal.returns-clause-helpers
+returns-clause-helpers c = λ events.
+    let r : RuleTree = record { head = exp_tree c.args.head.now; cond = option_map exp_tree c.args.cond.now; events = events; back = c.args.back; body = exp_tree c.args.body.now } in
+    let here : site_of c.in_ok-site.site ≡ rule_site (own_name c.args.from.naming.now.prefix) c.args.from.count r =
+    rule-site-is r (own_name c.args.from.naming.now.prefix) c.args.from.count c.in_ok-filled.filled c.lower_head.new.slots (site_of c.in_ok-site.site)
+    (c.in_ok-patterns.ensures.slots ∙ ap (λ ns. (slot_patterns (head_arguments r.head) ns).names) c.new-slots.ensures) c.in_ok-filled.ensures c.in_ok-site.ensures in
+    two-behind (map pred_tree c.args.helpers.now.items) (map pred_tree c.lower_guard.new.helpers.items) (map pred_tree c.lower_body.new.helpers.items) _ _
+    (option_helpers (site_of c.in_ok-site.site) r.cond) (goal_helpers (site_of c.pass_option.new.site) r.body) c.in_ok-guard.ensures.helpers c.in_ok-body.ensures.helpers
+    (ap (λ (s : Site). option_helpers s r.cond) here) (ap (λ (s : Site). goal_helpers s r.body) (c.in_ok-pass_option.ensures ∙ ap (λ (s : Site). behind_option s r.cond) here))

@@ -1,0 +1,101 @@
+//! Where the parts of a clause stand, and how many helpers they have.
+ghost use Rattle.std.specs.Prelude.{◌≡◌, ◌+◌, [], option_map, IfOk};
+ghost use Rattle.pi_syntax.specs.ExpTree.{exp_tree};
+ghost use Rattle.pi_syntax.specs.ProgramTree.{part_tree};
+ghost use Rattle.pi_names.specs.Texts.{places, behind};
+ghost use Rattle.pi_lowered.specs.Programs.{behind_option, option_count, clause_count};
+ghost use Rattle.pi_sites.specs.OwnNames.{own_name};
+ghost use Rattle.pi_sites.specs.SiteOf.{site_of};
+
+use pi_sites::{Naming, Site, helpers_in, push_names};
+use pi_syntax::{Clause, Exp, Part};
+use std::alloc::{AllocError, Global};
+
+/// Behind the head of a clause, which fills so many slots, where there are so many helpers before. Errors: no memory.
+pub(crate) fn clause_site<'a>(
+    alloc: Global,
+    naming: &'a Naming,
+    helpers: u64,
+    filled: u32,
+    head: &'a Exp,
+) -> Result<Site<'a>, AllocError>
+    ensures { IfOk result (λ made. site_of made ≡ record { filled = filled; before = behind [] (places (exp_tree head.now)); helpers = helpers; called = own_name naming.now.prefix }) }
+{
+    let mut names = Vec::new(alloc);
+    push_names(false, head, &mut names)?;
+    let mut site = Site {
+        filled,
+        before: Vec::new(alloc),
+        helpers,
+        naming,
+    };
+    site.step(names.as_slice(), 0)?;
+    Ok(site)
+}
+
+/// Goes on behind what may be left out. Errors: no memory.
+pub(crate) fn pass_option<'a>(
+    alloc: Global,
+    site: &mut Site<'a>,
+    exp: &'a Option<Exp>,
+) -> Result<(), AllocError>
+    ensures { IfOk result (λ _. site_of site.new ≡ behind_option (site_of site.old) (option_map exp_tree exp.now)) }
+{
+    match exp {
+        None => Ok(()),
+        Some(exp) => {
+            site.pass(alloc, exp)?;
+            Ok(())
+        }
+    }
+}
+
+/// How many helpers there are behind a part, where there are so many before it. For more than 64 bits hold memory is wanted.
+pub(crate) fn behind_part(before: u64, part: &Part) -> Result<u64, AllocError>
+    ensures { IfOk result (λ all. all ≡ before + clause_count (part_tree part.now).clause) }
+{
+    match &part.clause {
+        Some(Clause::Rule { cond, body, .. }) => {
+            let some = helpers_in_option(cond)?;
+            let more = helpers_in(body)?;
+            let all = together(some, more)?;
+            together(before, all)
+        }
+        Some(
+            Clause::Function {
+                value,
+                cond,
+                body,
+                ..
+            },
+        ) => {
+            let some = helpers_in_option(cond)?;
+            let more = helpers_in_option(body)?;
+            let last = helpers_in(value)?;
+            let rest = together(more, last)?;
+            let all = together(some, rest)?;
+            together(before, all)
+        }
+        Some(Clause::Fact { .. }) => Ok(before),
+        None => Ok(before),
+    }
+}
+
+fn helpers_in_option(exp: &Option<Exp>) -> Result<u64, AllocError>
+    ensures { IfOk result (λ count. count ≡ option_count (option_map exp_tree exp.now)) }
+{
+    match exp {
+        None => Ok(0),
+        Some(exp) => helpers_in(exp),
+    }
+}
+
+/// How many helpers there are together. For more than 64 bits hold memory is wanted.
+fn together(some: u64, more: u64) -> Result<u64, AllocError>
+    ensures { IfOk result (λ all. all ≡ some + more) }
+{
+    match some.checked_add(more) {
+        Some(all) => Ok(all),
+        None => Err(AllocError),
+    }
+}
