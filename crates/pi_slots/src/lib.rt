@@ -6,8 +6,9 @@ mod letters;
 mod patterns;
 mod slots;
 mod terms;
+mod views;
 
 pub use flat::{are_flat, is_below, is_flat};
-pub use patterns::slot_patterns;
+pub use patterns::{slot_pattern, slot_patterns};
 pub use slots::Slots;
 pub use terms::{list_onto, slot_term};

@@ -33,9 +33,10 @@ pub fn slot_patterns<'a>(
     Ok(patterns)
 }
 
+/// The pattern over slots that one argument is.
 #[cycle(form)]
 #[tactic(auto, unfolding(pi_syntax::specs::ExpTree::exp_tree, pi_lowered::specs::Values::slot_pattern, pi_core::specs::CoreTree::pattern_tree))]
-fn slot_pattern<'a>(
+pub fn slot_pattern<'a>(
     alloc: Global,
     exp: &'a Exp,
     slots: &mut Slots<'a>,

@@ -1,8 +1,12 @@
 //! The slots of a clause or a query.
-ghost use Rattle.std.specs.Prelude.{◌≡◌, [], length, IfOk};
-ghost use Rattle.pi_lowered.specs.Slots.{slot_of, slot_for, slots_for, with_value};
+ghost use Rattle.std.specs.Prelude.{◌≡◌, ◌++◌, ◌∷◌, [], length, not, IfOk};
+ghost use Rattle.std.specs.Str.{bytes_eq};
+ghost use Rattle.pi_lowered.specs.Slots.{slot_of, slot_known, slot_for, slots_for, with_value};
+ghost use Rattle.pi_lowered.specs.Loops.{with_values};
+ghost use Rattle.pi_lowered.specs.Iterators.{found_by, only, behind_collection};
 ghost use Rattle.pi_slots.specs.Indexed.{names_in};
 
+use crate::views::{names_but, names_only};
 use std::alloc::{AllocError, Global};
 use std::marker::Model;
 
@@ -70,16 +74,89 @@ impl<'a> Slots<'a> {
         self.names.push("_")?;
         Ok(slot)
     }
+
+    /// The slot that the next occurrence of a name has, which it doesn't take yet.
+    pub fn slot_of(&self, name: &str) -> Result<u32, AllocError>
+        ensures { IfOk result (λ slot. slot ≡ slot_for name.now self.now) }
+    {
+        match known_place(self.names.as_slice(), name) {
+            Some(place) => short(place),
+            None => short(self.names.len()),
+        }
+    }
+
+    /// A new slot that has this name, whatever slots have it.
+    pub fn new_slot(&mut self, name: &'a str) -> Result<(), AllocError>
+        ensures { IfOk result (λ _. self.new ≡ self.old ++ name.now ∷ []) }
+    {
+        self.names.push(name)?;
+        Ok(())
+    }
+
+    /// New slots that have these names, in order.
+    pub fn new_slots(&mut self, names: &[&'a str]) -> Result<(), AllocError>
+        ensures { IfOk result (λ _. self.new ≡ self.old ++ names_in names.now) }
+    {
+        self.names.extend_from_slice(names)?;
+        Ok(())
+    }
+
+    /// A new slot that no name finds for each of some names.
+    pub fn value_slots(&mut self, names: &[&str]) -> Result<(), AllocError>
+        ensures { IfOk result (λ _. self.new ≡ with_values (names_in names.now) self.old) }
+    {
+        for _ in names {
+            self.names.push("_")?;
+        }
+        Ok(())
+    }
+
+    /// As many slots as `after` has: those that are new are found by no name.
+    pub fn behind(&mut self, after: &Slots<'_>) -> Result<(), AllocError>
+        ensures { IfOk result (λ _. self.new ≡ behind_collection self.old after.now) }
+    {
+        let count = after.names.len();
+        while self.names.len() < count {
+            self.names.push("_")?;
+        }
+        Ok(())
+    }
+
+    /// The same slots, found by these names alone.
+    pub fn only(&self, alloc: Global, names: &[&str]) -> Result<Slots<'a>, AllocError>
+        ensures { IfOk result (λ made. made ≡ only (names_in names.now) self.now) }
+    {
+        let names = names_only(alloc, self.names.as_slice(), names)?;
+        Ok(Slots { names })
+    }
+
+    /// The same slots, but for those of a name, which it doesn't find.
+    pub fn but(&self, alloc: Global, name: &str) -> Result<Slots<'a>, AllocError>
+        ensures { IfOk result (λ made. made ≡ found_by (λ n. not (bytes_eq n name.now)) self.now) }
+    {
+        let names = names_but(alloc, self.names.as_slice(), name)?;
+        Ok(Slots { names })
+    }
 }
 
 /// The first place of a name.
-fn place_of(names: &[&str], name: &str) -> Option<usize>
+pub(crate) fn place_of(names: &[&str], name: &str) -> Option<usize>
     ensures { result ≡ slot_of name.now (names_in names.now) }
 {
     for (k, other) in names.iter().enumerate() {
         if name == *other {
             return Some(k);
         }
+    }
+    None
+}
+
+/// The place of an occurrence of a name, where it has one.
+fn known_place(names: &[&str], name: &str) -> Option<usize>
+    ensures { result ≡ slot_known name.now (names_in names.now) }
+{
+    if name != "_" {
+        return place_of(names, name);
     }
     None
 }

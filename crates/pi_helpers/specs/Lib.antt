@@ -1,0 +1,4 @@
+pub mod Parts
+pub mod Helpers
+pub mod Heads
+pub mod Turns

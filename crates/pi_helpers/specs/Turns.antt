@@ -1,0 +1,26 @@
+-- What turns of iterators do beside what stands in them.
+use Rattle.std.specs.Prelude.{◌≡◌, ℕ, suc, ◌+◌, ◌-◌, Bool, true, false, pos, List, [], ◌∷◌, codes}
+use Rattle.pi_terms.specs.Tree.{Tree}
+use Rattle.pi_effects.specs.Indexing.{index_name}
+use Rattle.pi_core.specs.GoalTree.{GoalTree}
+use Rattle.pi_lowered.specs.Goals.{in_turn}
+use Rattle.pi_lowered.specs.Loops.{Loop, slots_from}
+use Rattle.pi_lowered.specs.Iterators.{handed, tick_then}
+use Rattle.pi_lowered.specs.Ranges.{number_goals, number_tree}
+
+-- the item of an array with the next number, from `item` on slots are free
+abbrev pub array_turn_by : List ℕ → Loop → ℕ → GoalTree
+array_turn_by turn l item =
+    tick_then (GoalTree.apply index_name (Tree.var 0 ∷ Tree.var 1 ∷ []) item ∷ GoalTree.apply (codes "+") (Tree.var 1 ∷ Tree.int (pos 1) ∷ []) (suc item)
+    ∷ GoalTree.call turn (Tree.var item ∷ Tree.var 0 ∷ Tree.var (suc item) ∷ slots_from 2 (handed l - 2)) ∷ [])
+
+-- the next value of a range
+abbrev pub next_value_by : List ℕ → Loop → ℕ → ℕ → GoalTree
+next_value_by turn l first free =
+    in_turn (GoalTree.apply (codes "+") (Tree.var first ∷ Tree.var (suc (suc first)) ∷ []) free ∷ GoalTree.apply (codes "-") (Tree.var (suc first) ∷ Tree.int (pos 1) ∷ []) (suc free) ∷ GoalTree.tick
+    ∷ GoalTree.call turn (Tree.var free ∷ Tree.var free ∷ Tree.var (suc free) ∷ slots_from (suc (suc first)) (handed l - 2)) ∷ [])
+
+-- whether a term is a number that is written
+pub record IsNumber (t : Tree) (is_number : Bool) : Type 0 where
+  pub written : is_number ≡ true → (k : ℕ) → (number_goals t k ≡ []) × (number_tree t k ≡ t)
+  pub found : is_number ≡ false → (k : ℕ) → (number_goals t k ≡ GoalTree.apply (codes "min") (t ∷ t ∷ []) k ∷ []) × (number_tree t k ≡ Tree.var k)

@@ -1,0 +1,53 @@
+//! Loops: what is handed from turn to turn.
+ghost use Rattle.std.specs.Prelude.{◌≡◌, ◌+◌, length, IfOk};
+ghost use Rattle.pi_lowered.specs.Loops.{loop_slots as slots_of};
+ghost use Rattle.pi_lowered.specs.Iterators.{handed as handed_of};
+ghost use Rattle.pi_helpers.specs.Helpers.{loop_of};
+
+use crate::terms::{later, short};
+use pi_slots::Slots;
+use pi_terms::Text;
+use std::alloc::{AllocError, Global};
+
+/// The value that stands behind a loop for a name that it keeps.
+#[derive(Clone, Copy, Debug)]
+pub enum Ending {
+    /// As the name has it.
+    AsItIs,
+    /// The items of a list in order, the last one first so far: as an array, where this is `true`, or as a list.
+    InOrder(bool),
+}
+
+/// A loop: its helper's name, the names that are handed on from turn to turn, those that it keeps, and how it ends.
+#[derive(Drop)]
+pub struct Loop<'a> {
+    pub name: Text,
+    pub shared: Vec<&'a str>,
+    pub kept: Vec<&'a str>,
+    pub ending: Ending,
+}
+
+/// The slots of a helper's head: what is handed on, and the variables of the names that the loop keeps. Errors: no memory.
+pub fn loop_slots<'a>(alloc: Global, l: &Loop<'a>) -> Result<Slots<'a>, AllocError>
+    ensures { IfOk result (λ made. made ≡ slots_of (loop_of l.now)) }
+{
+    let mut slots = Slots::new(alloc);
+    slots.new_slots(&l.shared)?;
+    slots.value_slots(&l.kept)?;
+    Ok(slots)
+}
+
+/// How many slots stand in front of the variables of the names that the loop keeps, where so many stand in front of what
+/// is handed on.
+pub(crate) fn shared_from(l: &Loop<'_>, first: u32) -> Result<u32, AllocError>
+    ensures { IfOk result (λ count. count ≡ first + length (loop_of l.now).shared) }
+{
+    later(first, short(l.shared.len())?)
+}
+
+/// How many terms a helper of an iterator is handed.
+pub(crate) fn handed(l: &Loop<'_>) -> Result<u32, AllocError>
+    ensures { IfOk result (λ count. count ≡ handed_of (loop_of l.now)) }
+{
+    later(shared_from(l, 3)?, short(l.kept.len())?)
+}
