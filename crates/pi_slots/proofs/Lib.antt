@@ -7,3 +7,4 @@ pub mod CellLemmas
 pub mod PatternLemmas
 pub mod ArmLemmas
 pub mod HeadLemmas
+pub mod ViewLemmas

@@ -6,7 +6,7 @@ ghost use Rattle.pi_lowered.specs.Loops.{with_values};
 ghost use Rattle.pi_lowered.specs.Iterators.{found_by, only, behind_collection};
 ghost use Rattle.pi_slots.specs.Indexed.{names_in};
 
-use crate::views::{names_but, names_only};
+use crate::views::{names_but, names_only, push_unnamed};
 use std::alloc::{AllocError, Global};
 use std::marker::Model;
 
@@ -105,9 +105,7 @@ impl<'a> Slots<'a> {
     pub fn value_slots(&mut self, names: &[&str]) -> Result<(), AllocError>
         ensures { IfOk result (λ _. self.new ≡ with_values (names_in names.now) self.old) }
     {
-        for _ in names {
-            self.names.push("_")?;
-        }
+        push_unnamed(&mut self.names, names.len())?;
         Ok(())
     }
 
@@ -115,10 +113,8 @@ impl<'a> Slots<'a> {
     pub fn behind(&mut self, after: &Slots<'_>) -> Result<(), AllocError>
         ensures { IfOk result (λ _. self.new ≡ behind_collection self.old after.now) }
     {
-        let count = after.names.len();
-        while self.names.len() < count {
-            self.names.push("_")?;
-        }
+        let more = after.names.len().saturating_sub(self.names.len());
+        push_unnamed(&mut self.names, more)?;
         Ok(())
     }
 
@@ -155,10 +151,11 @@ pub(crate) fn place_of(names: &[&str], name: &str) -> Option<usize>
 fn known_place(names: &[&str], name: &str) -> Option<usize>
     ensures { result ≡ slot_known name.now (names_in names.now) }
 {
-    if name != "_" {
-        return place_of(names, name);
+    let blank = name == "_";
+    if blank {
+        return None;
     }
-    None
+    place_of(names, name)
 }
 
 /// A number of slots, which has 32 bits: for more of them memory is wanted.

@@ -1,5 +1,5 @@
 //! Names of slots, of which some find none.
-ghost use Rattle.std.specs.Prelude.{◌≡◌, cond, not, IfOk};
+ghost use Rattle.std.specs.Prelude.{◌≡◌, ◌++◌, cond, not, replicate, IfOk};
 ghost use Rattle.std.specs.Str.{bytes_eq};
 ghost use Rattle.pi_names.specs.Texts.{is_among};
 ghost use Rattle.pi_lowered.specs.Slots.{unnamed};
@@ -19,8 +19,8 @@ pub(crate) fn names_only<'a>(
 {
     let mut made = Vec::new(alloc);
     for name in names {
-        let finds = is_one_of(some, name);
-        made.push(found(name, finds))?;
+        let finds = is_one_of(some, *name);
+        made.push(found(*name, finds))?;
     }
     Ok(made)
 }
@@ -36,9 +36,19 @@ pub(crate) fn names_but<'a>(
     let mut made = Vec::new(alloc);
     for name in names {
         let finds = *name != but;
-        made.push(found(name, finds))?;
+        made.push(found(*name, finds))?;
     }
     Ok(made)
+}
+
+/// Puts so many names behind these that find no slot.
+pub(crate) fn push_unnamed(names: &mut Vec<&str>, count: usize) -> Result<(), AllocError>
+    ensures { IfOk result (λ _. names_in names.new.items ≡ names_in names.old.items ++ replicate count unnamed) }
+{
+    for _ in 0..count {
+        names.push("_")?;
+    }
+    Ok(())
 }
 
 /// Whether a name is one of some.
