@@ -5,6 +5,7 @@ use Rattle.pi_core.specs.GoalTree.{GoalTree}
 use Rattle.pi_lowered.specs.Slots.{SlotNames}
 use Rattle.pi_lowered.specs.Values.{SlotValue, SlotValues, Slotted}
 use Rattle.pi_lowered.specs.Goals.{SlotGoals, in_turn}
+use Rattle.pi_lowered.specs.Ranges.{SlotRange}
 
 -- goals, with the slots behind them
 pub record AreGoals (g : SlotGoals) (old new : List GoalTree) (ns : SlotNames) : Type 0 where
@@ -26,6 +27,14 @@ pub record AreValues (vs : SlotValues) (old new : List GoalTree) (ts : List Tree
   pub goals : new ≡ old ++ vs.goals
   pub trees : ts ≡ vs.trees
   pub names : ns ≡ vs.names
+
+-- bounds of a range and its step
+pub record IsRange (r : SlotRange) (old new : List GoalTree) (first by last : Tree) (ns : SlotNames) : Type 0 where
+  pub goals : new ≡ old ++ r.goals
+  pub low : first ≡ r.low
+  pub step : by ≡ r.step
+  pub high : last ≡ r.high
+  pub names : ns ≡ r.names
 
 -- a value's slot behind its goals
 pub record IsSlotted (s : Slotted) (old new : List GoalTree) (k : ℕ) (ns : SlotNames) : Type 0 where

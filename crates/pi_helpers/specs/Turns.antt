@@ -8,17 +8,28 @@ use Rattle.pi_lowered.specs.Loops.{Loop, slots_from}
 use Rattle.pi_lowered.specs.Iterators.{handed, tick_then}
 use Rattle.pi_lowered.specs.Ranges.{number_goals, number_tree}
 
+-- what a turn of an array's item is handed
+abbrev pub array_args : Loop → ℕ → List Tree
+array_args l item = Tree.var item ∷ Tree.var 0 ∷ Tree.var (suc item) ∷ slots_from 2 (handed l - 2)
+
 -- the item of an array with the next number, from `item` on slots are free
 abbrev pub array_turn_by : List ℕ → Loop → ℕ → GoalTree
 array_turn_by turn l item =
     tick_then (GoalTree.apply index_name (Tree.var 0 ∷ Tree.var 1 ∷ []) item ∷ GoalTree.apply (codes "+") (Tree.var 1 ∷ Tree.int (pos 1) ∷ []) (suc item)
-    ∷ GoalTree.call turn (Tree.var item ∷ Tree.var 0 ∷ Tree.var (suc item) ∷ slots_from 2 (handed l - 2)) ∷ [])
+    ∷ GoalTree.call turn (array_args l item) ∷ [])
+
+-- what a turn of the next value is handed, and the end behind the last one
+abbrev pub value_args : Loop → ℕ → ℕ → List Tree
+value_args l first free = Tree.var free ∷ Tree.var free ∷ Tree.var (suc free) ∷ slots_from (suc (suc first)) (handed l - 2)
+
+abbrev pub last_args : Loop → ℕ → List Tree
+last_args l first = Tree.var first ∷ Tree.int (pos 0) ∷ slots_from (suc (suc first)) (handed l - 2)
 
 -- the next value of a range
 abbrev pub next_value_by : List ℕ → Loop → ℕ → ℕ → GoalTree
 next_value_by turn l first free =
     in_turn (GoalTree.apply (codes "+") (Tree.var first ∷ Tree.var (suc (suc first)) ∷ []) free ∷ GoalTree.apply (codes "-") (Tree.var (suc first) ∷ Tree.int (pos 1) ∷ []) (suc free) ∷ GoalTree.tick
-    ∷ GoalTree.call turn (Tree.var free ∷ Tree.var free ∷ Tree.var (suc free) ∷ slots_from (suc (suc first)) (handed l - 2)) ∷ [])
+    ∷ GoalTree.call turn (value_args l first free) ∷ [])
 
 -- whether a term is a number that is written
 pub record IsNumber (t : Tree) (is_number : Bool) : Type 0 where

@@ -26,7 +26,7 @@ pub struct Element {
 
 /// The pattern of an iterator's elements. Behind it there are the slots of a turn: those of the pattern, of the walk, of what
 /// is handed on, and of the variables of the names that the loop keeps. Errors: no memory.
-pub fn element<'a>(
+pub fn matching<'a>(
     alloc: Global,
     exp: &'a Exp,
     l: &Loop<'a>,
@@ -59,11 +59,13 @@ pub fn turn_helper<'a>(
     let arity = later(count, 1)?;
     let matched = turn_clause(alloc, l, element, turn, slots)?;
     let over = next_element(alloc, l, 1)?;
-    let passed = clause(alloc, slots_head(alloc, arity)?, over, arity)?;
+    let head = slots_head(alloc, arity)?;
+    let passed = clause(alloc, head, over, arity)?;
     let mut clauses = Vec::new(alloc);
     clauses.push(matched)?;
     clauses.push(passed)?;
-    helper(alloc, name, arity, clauses)
+    let made = helper(alloc, name, arity, clauses)?;
+    Ok(made)
 }
 
 /// The clause of an element that matches.
@@ -76,19 +78,24 @@ fn turn_clause<'a>(
 ) -> Result<CoreClause, AllocError>
     ensures { IfOk result (λ made. (p : SlotPattern) → IsElement p element → clause_tree made ≡ clause_by (loop_of l.now) p (lowered turn.items slots.now)) }
 {
+    let count = handed(l)?;
+    let size = slots.count()?;
     let mut goals = turn;
     let next = next_element(alloc, l, element.width)?;
     goals.push(next)?;
     let body = in_turn(alloc, goals)?;
-    let head = head_with(alloc, element.form, element.width, handed(l)?)?;
-    clause(alloc, head, body, slots.count()?)
+    let head = head_with(alloc, element.form, element.width, count)?;
+    let made = clause(alloc, head, body, size)?;
+    Ok(made)
 }
 
 /// The call that goes on to the next element. What is handed on stands in slots from `first` on.
 fn next_element(alloc: Global, l: &Loop<'_>, first: u32) -> Result<CoreGoal, AllocError>
     ensures { IfOk result (λ made. made ≡ GoalTree.call (loop_of l.now).name (slots_from first (handed_of (loop_of l.now)))) }
 {
+    let count = handed(l)?;
     let mut args = Vec::new(alloc);
-    push_slots(alloc, &mut args, first, handed(l)?)?;
-    CoreGoal::call(alloc, l.name.as_str(), &args)
+    push_slots(alloc, &mut args, first, count)?;
+    let made = CoreGoal::call(alloc, l.name.as_str(), &args)?;
+    Ok(made)
 }

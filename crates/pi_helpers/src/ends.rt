@@ -2,6 +2,7 @@
 ghost use Rattle.std.specs.Prelude.{◌≡◌, ◌++◌, ◌∷◌, [], suc, codes, IfOk};
 ghost use Rattle.pi_core.specs.GoalTree.{GoalTree};
 ghost use Rattle.pi_terms.specs.Tree.{Tree};
+ghost use Rattle.pi_slots.specs.Indexed.{names_in};
 ghost use Rattle.pi_lowered.specs.Loops.{ended, closing, closing_slots as free_slots};
 ghost use Rattle.pi_lowered.specs.Goals.{in_turn as turn_of};
 ghost use Rattle.pi_helpers.specs.Helpers.{ending_of, loop_of};
@@ -25,7 +26,8 @@ pub(crate) fn end<'a>(
 {
     let mut goals = Vec::new(alloc);
     push_closing(alloc, l, variable, free, slots, &mut goals)?;
-    in_turn(alloc, goals)
+    let made = in_turn(alloc, goals)?;
+    Ok(made)
 }
 
 /// Puts the goals of a loop's end behind the others.
@@ -39,13 +41,29 @@ pub(crate) fn push_closing<'a>(
 ) -> Result<(), AllocError>
     ensures { IfOk result (λ _. goals.new.items ≡ goals.old.items ++ closing (loop_of l.now).ending (loop_of l.now).kept variable free slots.now) }
 {
-    let mut variable = variable;
-    let mut free = free;
-    for name in &l.kept {
-        let slot = slots.slot_of(name)?;
-        push_ended(alloc, l.ending, variable, slot, free, goals)?;
-        variable = later(variable, 1)?;
-        free = later(free, 2)?;
+    push_ends(alloc, l.ending, &l.kept, variable, free, slots, goals)?;
+    Ok(())
+}
+
+/// Puts the goals of the end of a loop that keeps these names behind the others.
+fn push_ends<'a>(
+    alloc: Global,
+    ending: Ending,
+    names: &[&str],
+    variable: u32,
+    free: u32,
+    slots: &Slots<'a>,
+    goals: &mut Vec<CoreGoal>,
+) -> Result<(), AllocError>
+    ensures { IfOk result (λ _. goals.new.items ≡ goals.old.items ++ closing (ending_of ending) (names_in names.now) variable free slots.now) }
+{
+    let mut at = variable;
+    let mut next = free;
+    for name in names {
+        let slot = slots.slot_of(*name)?;
+        push_ended(alloc, ending, at, slot, next, goals)?;
+        at = later(at, 1)?;
+        next = later(next, 2)?;
     }
     Ok(())
 }
@@ -56,7 +74,8 @@ pub(crate) fn closing_slots(l: &Loop<'_>, free: u32) -> Result<u32, AllocError>
 {
     let count = short(l.kept.len())?;
     let both = later(count, count)?;
-    later(free, both)
+    let size = later(free, both)?;
+    Ok(size)
 }
 
 /// Puts the goals behind the others that unify a variable in one slot with the value in another.

@@ -59,7 +59,7 @@ fn written<'a>(
 {
     let mut terms = Vec::new(alloc);
     for name in names {
-        let slot = slots.slot_for(name)?;
+        let slot = slots.slot_for(*name)?;
         let term = variable_of(alloc, slot)?;
         terms.push(term)?;
     }
@@ -100,7 +100,7 @@ fn push_kept<'a>(
 {
     let mut from = variable;
     for name in names {
-        let into = slots.slot_of(name)?;
+        let into = slots.slot_of(*name)?;
         let value = variable_of(alloc, from)?;
         push_apply(alloc, "once", &[value], into, goals)?;
         from = later(from, 1)?;

@@ -14,7 +14,7 @@ mod turns;
 mod walks;
 
 pub use comprehensions::{begun, gathered, push_adding};
-pub use elements::{Element, element, turn_helper};
+pub use elements::{Element, matching, turn_helper};
 pub use entries::{push_entered, push_loop, push_started};
 pub use joined::{either_of, in_turn, one, push_fail, push_filling};
 pub use loops::{Ending, Loop, loop_slots};

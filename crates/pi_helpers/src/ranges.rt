@@ -1,11 +1,12 @@
 //! Iterators over ranges, which are not built.
-ghost use Rattle.std.specs.Prelude.{◌≡◌, ◌++◌, [], length, IfOk};
+ghost use Rattle.std.specs.Prelude.{◌≡◌, ◌+◌, ◌++◌, [], ℕ, length, IfOk};
+ghost use Rattle.pi_core.specs.GoalTree.{GoalTree};
 ghost use Rattle.pi_core.specs.CoreTree.{clause_tree, pred_tree};
 ghost use Rattle.pi_lowered.specs.Slots.{SlotNames};
 ghost use Rattle.pi_lowered.specs.Values.{SlotPattern};
 ghost use Rattle.pi_lowered.specs.Ranges.{next_turn as next_by, step_clause as clause_by, range_helper as helper_by, counting, number_goals, number_tree as number_of, through};
 ghost use Rattle.pi_helpers.specs.Helpers.{loop_of, lowered, IsElement, steps_by, range_between};
-ghost use Rattle.pi_helpers.specs.Turns.{IsNumber, next_value_by as value_by};
+ghost use Rattle.pi_helpers.specs.Turns.{IsNumber, last_args, value_args, next_value_by as value_by};
 ghost use Rattle.pi_helpers.specs.Parts.{AreGoals};
 
 use crate::clauses::{clause, head_with, helper, simple_helper, slots_head};
@@ -39,19 +40,22 @@ pub fn push_through<'a>(
     slots: &mut Slots<'a>,
     goals: &mut Vec<CoreGoal>,
 ) -> Result<(), AllocError>
-    ensures { IfOk result (λ _. AreGoals (through (loop_of l.now) [] slots.old (range_between range.low range.step range.high found)) goals.old.items goals.new.items slots.new) }
+    ensures { IfOk result (λ _. AreGoals (through (loop_of l.now) [] slots.old (range_between range.low range.step range.high found.entry)) goals.old.items goals.new.items slots.new) }
 {
     let mut found = found;
     let count = found.value_slot()?;
     let low = found.value_slot()?;
     let step = found.value_slot()?;
     slots.behind(&found)?;
-    let mut first = Vec::new(alloc);
-    first.push(number(alloc, &range.low, low)?)?;
-    first.push(variable_of(alloc, count)?)?;
-    first.push(number(alloc, &range.step, step)?)?;
+    let first = number(alloc, &range.low, low)?;
+    let values = variable_of(alloc, count)?;
+    let by = number(alloc, &range.step, step)?;
+    let mut args = Vec::new(alloc);
+    args.push(first)?;
+    args.push(values)?;
+    args.push(by)?;
     push_counting(alloc, range, count, goals)?;
-    push_entered(alloc, l, first, slots, goals)?;
+    push_entered(alloc, l, args, slots, goals)?;
     Ok(())
 }
 
@@ -65,12 +69,14 @@ fn push_counting(
 ) -> Result<(), AllocError>
     ensures { IfOk result (λ _. (ns : SlotNames) → count ≡ length ns → goals.new.items ≡ goals.old.items ++ counting (range_between range.low range.step range.high ns)) }
 {
+    let first = later(count, 1)?;
+    let second = later(count, 2)?;
     let low = range.low.copy(alloc)?;
     let step = range.step.copy(alloc)?;
     let last = Term::comp(alloc, "{}", &[range.step, range.high])?;
     push_apply(alloc, ":=", &[range.low, last], count, goals)?;
-    push_number(alloc, low, later(count, 1)?, goals)?;
-    push_number(alloc, step, later(count, 2)?, goals)?;
+    push_number(alloc, low, first, goals)?;
+    push_number(alloc, step, second, goals)?;
     Ok(())
 }
 
@@ -87,7 +93,8 @@ fn push_number(
         return Ok(());
     }
     let other = term.copy(alloc)?;
-    push_apply(alloc, "min", &[term, other], into, goals)
+    push_apply(alloc, "min", &[term, other], into, goals)?;
+    Ok(())
 }
 
 /// The number that a term comes to, which stands in a slot where it isn't written.
@@ -120,14 +127,20 @@ pub fn range_helper<'a>(alloc: Global, turn: &str, l: &Loop<'a>) -> Result<CoreP
     let count = handed(l)?;
     let slots = end_slots(alloc, l, &["_", "_", "_"])?;
     let free = slots.count()?;
+    let value = variable_of(alloc, 0)?;
     let mut args = Vec::new(alloc);
-    args.push(variable_of(alloc, 0)?)?;
+    args.push(value)?;
     push_slots(alloc, &mut args, 0, count)?;
-    let test = less(alloc, Term::int(alloc, 0)?, variable_of(alloc, 1)?)?;
     let then = ticked_call(alloc, turn, &args)?;
-    let other = end(alloc, l, shared_from(l, 3)?, free, &slots)?;
+    let none = Term::int(alloc, 0)?;
+    let values = variable_of(alloc, 1)?;
+    let test = less(alloc, none, values)?;
+    let first = shared_from(l, 3)?;
+    let other = end(alloc, l, first, free, &slots)?;
     let body = CoreGoal::if_else(alloc, test, then, other)?;
-    simple_helper(alloc, l.name.as_str(), count, body, closing_slots(l, free)?)
+    let size = closing_slots(l, free)?;
+    let made = simple_helper(alloc, l.name.as_str(), count, body, size)?;
+    Ok(made)
 }
 
 /// The helper of an iterator over a range that matches a value: one that matches has the turn, whose slots are those behind
@@ -142,14 +155,18 @@ pub fn step_helper<'a>(
 ) -> Result<CorePred, AllocError>
     ensures { IfOk result (λ made. (p : SlotPattern) → IsElement p element → pred_tree made ≡ steps_by name.now (loop_of l.now) p (lowered turn.items slots.now)) }
 {
-    let arity = later(handed(l)?, 1)?;
+    let count = handed(l)?;
+    let arity = later(count, 1)?;
+    let size = later(arity, 2)?;
     let matched = step_clause(alloc, name, l, element, turn, slots)?;
     let over = next_turn(alloc, name, l, 1, arity)?;
-    let passed = clause(alloc, slots_head(alloc, arity)?, over, later(arity, 2)?)?;
+    let head = slots_head(alloc, arity)?;
+    let passed = clause(alloc, head, over, size)?;
     let mut clauses = Vec::new(alloc);
     clauses.push(matched)?;
     clauses.push(passed)?;
-    helper(alloc, name, arity, clauses)
+    let made = helper(alloc, name, arity, clauses)?;
+    Ok(made)
 }
 
 /// The clause of a value that matches.
@@ -163,12 +180,16 @@ fn step_clause<'a>(
 ) -> Result<CoreClause, AllocError>
     ensures { IfOk result (λ made. (p : SlotPattern) → IsElement p element → clause_tree made ≡ clause_by name.now (loop_of l.now) p (lowered turn.items slots.now)) }
 {
+    let count = handed(l)?;
     let free = slots.count()?;
+    let size = later(free, 2)?;
     let mut goals = turn;
-    goals.push(next_turn(alloc, name, l, element.width, free)?)?;
+    let next = next_turn(alloc, name, l, element.width, free)?;
+    goals.push(next)?;
     let body = in_turn(alloc, goals)?;
-    let head = head_with(alloc, element.form, element.width, handed(l)?)?;
-    clause(alloc, head, body, later(free, 2)?)
+    let head = head_with(alloc, element.form, element.width, count)?;
+    let made = clause(alloc, head, body, size)?;
+    Ok(made)
 }
 
 /// Behind a turn: the next one, or the end. The value stands in the slot `first`, in front of how many there are and of the
@@ -183,19 +204,29 @@ fn next_turn(
     ensures { IfOk result (λ made. made ≡ next_by turn.now (loop_of l.now) first free) }
 {
     let count = later(first, 1)?;
-    let test = less(alloc, Term::int(alloc, 1)?, variable_of(alloc, count)?)?;
+    let one = Term::int(alloc, 1)?;
+    let values = variable_of(alloc, count)?;
+    let test = less(alloc, one, values)?;
     let then = next_value(alloc, turn, l, first, free)?;
+    let other = last_call(alloc, l, first)?;
+    let made = CoreGoal::if_else(alloc, test, then, other)?;
+    Ok(made)
+}
+
+/// The call behind the last value.
+fn last_call(alloc: Global, l: &Loop<'_>, first: u32) -> Result<CoreGoal, AllocError>
+    ensures { IfOk result (λ made. made ≡ GoalTree.call (loop_of l.now).name (last_args (loop_of l.now) first)) }
+{
+    let count = handed(l)?;
+    let step = later(first, 2)?;
+    let value = variable_of(alloc, first)?;
+    let none = Term::int(alloc, 0)?;
     let mut args = Vec::new(alloc);
-    args.push(variable_of(alloc, first)?)?;
-    args.push(Term::int(alloc, 0)?)?;
-    push_slots(
-        alloc,
-        &mut args,
-        later(first, 2)?,
-        handed(l)?.saturating_sub(2),
-    )?;
-    let other = CoreGoal::call(alloc, l.name.as_str(), &args)?;
-    CoreGoal::if_else(alloc, test, then, other)
+    args.push(value)?;
+    args.push(none)?;
+    push_slots(alloc, &mut args, step, count.saturating_sub(2))?;
+    let made = CoreGoal::call(alloc, l.name.as_str(), &args)?;
+    Ok(made)
 }
 
 /// The turn of the next value, which is found by the step.
@@ -211,17 +242,43 @@ fn next_value(
     let count = later(first, 1)?;
     let step = later(first, 2)?;
     let left = later(free, 1)?;
+    let tick = CoreGoal::tick(alloc)?;
+    let call = value_call(alloc, turn, l, step, free, left)?;
+    let value = variable_of(alloc, first)?;
+    let by = variable_of(alloc, step)?;
+    let values = variable_of(alloc, count)?;
+    let one = Term::int(alloc, 1)?;
+    let sum = CoreGoal::apply(alloc, "+", &[value, by], free)?;
+    let fewer = CoreGoal::apply(alloc, "-", &[values, one], left)?;
     let mut goals = Vec::new(alloc);
-    let sum = [variable_of(alloc, first)?, variable_of(alloc, step)?];
-    push_apply(alloc, "+", &sum, free, &mut goals)?;
-    let fewer = [variable_of(alloc, count)?, Term::int(alloc, 1)?];
-    push_apply(alloc, "-", &fewer, left, &mut goals)?;
-    goals.push(CoreGoal::tick(alloc)?)?;
+    goals.push(sum)?;
+    goals.push(fewer)?;
+    goals.push(tick)?;
+    goals.push(call)?;
+    let made = in_turn(alloc, goals)?;
+    Ok(made)
+}
+
+/// The call of a turn with the next value.
+fn value_call(
+    alloc: Global,
+    turn: &str,
+    l: &Loop<'_>,
+    step: u32,
+    free: u32,
+    left: u32,
+) -> Result<CoreGoal, AllocError>
+    ensures { IfOk result (λ made. (first : ℕ) → step ≡ first + 2 → left ≡ free + 1 → made ≡ GoalTree.call turn.now (value_args (loop_of l.now) first free)) }
+{
+    let count = handed(l)?;
+    let value = variable_of(alloc, free)?;
+    let again = variable_of(alloc, free)?;
+    let values = variable_of(alloc, left)?;
     let mut args = Vec::new(alloc);
-    args.push(variable_of(alloc, free)?)?;
-    args.push(variable_of(alloc, free)?)?;
-    args.push(variable_of(alloc, left)?)?;
-    push_slots(alloc, &mut args, step, handed(l)?.saturating_sub(2))?;
-    goals.push(CoreGoal::call(alloc, turn, &args)?)?;
-    in_turn(alloc, goals)
+    args.push(value)?;
+    args.push(again)?;
+    args.push(values)?;
+    push_slots(alloc, &mut args, step, count.saturating_sub(2))?;
+    let made = CoreGoal::call(alloc, turn, &args)?;
+    Ok(made)
 }

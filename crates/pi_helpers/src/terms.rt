@@ -59,7 +59,7 @@ pub(crate) fn push_named<'a>(
     ensures { IfOk result (λ _. terms.new.items ≡ terms.old.items ++ slots_for_names (names_in names.now) slots.now) }
 {
     for name in names {
-        let slot = slots.slot_of(name)?;
+        let slot = slots.slot_of(*name)?;
         let term = variable_of(alloc, slot)?;
         terms.push(term)?;
     }

@@ -32,15 +32,12 @@ pub fn while_helper<'a>(
     let test = in_turn(alloc, test)?;
     let next = again(alloc, l, count)?;
     let turn = ticked(alloc, body, next)?;
-    let other = end(alloc, l, shared_from(l, 0)?, free, &head)?;
+    let first = shared_from(l, 0)?;
+    let other = end(alloc, l, first, free, &head)?;
     let choice = CoreGoal::if_else(alloc, test, turn, other)?;
-    simple_helper(
-        alloc,
-        l.name.as_str(),
-        count,
-        choice,
-        closing_slots(l, free)?,
-    )
+    let size = closing_slots(l, free)?;
+    let made = simple_helper(alloc, l.name.as_str(), count, choice, size)?;
+    Ok(made)
 }
 
 /// The helper of a `do`, of its body and of its test, whose slots are those behind the test: Tick, body and test, and where
@@ -59,10 +56,13 @@ pub fn do_helper<'a>(
     let free = slots.count()?;
     let test = in_turn(alloc, test)?;
     let next = again(alloc, l, count)?;
-    let other = end(alloc, l, shared_from(l, 0)?, free, &head)?;
+    let first = shared_from(l, 0)?;
+    let other = end(alloc, l, first, free, &head)?;
     let choice = CoreGoal::if_else(alloc, test, next, other)?;
     let turn = ticked(alloc, body, choice)?;
-    simple_helper(alloc, l.name.as_str(), count, turn, closing_slots(l, free)?)
+    let size = closing_slots(l, free)?;
+    let made = simple_helper(alloc, l.name.as_str(), count, turn, size)?;
+    Ok(made)
 }
 
 /// The helper of a loop that begins with a test: one turn, without a Tick, and the end. The slots are those behind the
@@ -78,10 +78,13 @@ pub fn only_turn_helper<'a>(
     let head = loop_slots(alloc, l)?;
     let count = head.count()?;
     let free = slots.count()?;
+    let first = shared_from(l, 0)?;
     let mut goals = turn;
-    push_closing(alloc, l, shared_from(l, 0)?, free, &head, &mut goals)?;
+    push_closing(alloc, l, first, free, &head, &mut goals)?;
     let body = in_turn(alloc, goals)?;
-    simple_helper(alloc, l.name.as_str(), count, body, closing_slots(l, free)?)
+    let size = closing_slots(l, free)?;
+    let made = simple_helper(alloc, l.name.as_str(), count, body, size)?;
+    Ok(made)
 }
 
 /// The call of the next turn, which has the slots of this one's head. `count` is how many they are.
@@ -90,7 +93,8 @@ fn again(alloc: Global, l: &Loop<'_>, count: u32) -> Result<CoreGoal, AllocError
 {
     let mut args = Vec::new(alloc);
     push_slots(alloc, &mut args, 0, count)?;
-    CoreGoal::call(alloc, l.name.as_str(), &args)
+    let made = CoreGoal::call(alloc, l.name.as_str(), &args)?;
+    Ok(made)
 }
 
 /// A Tick, and then these goals and a last one.
@@ -98,9 +102,11 @@ fn ticked(alloc: Global, goals: Vec<CoreGoal>, last: CoreGoal) -> Result<CoreGoa
     ensures { IfOk result (λ made. made ≡ turn_of (GoalTree.tick ∷ goals.items ++ last ∷ [])) }
 {
     let mut goals = goals;
+    let tick = CoreGoal::tick(alloc)?;
     let mut turn = Vec::new(alloc);
-    turn.push(CoreGoal::tick(alloc)?)?;
+    turn.push(tick)?;
     turn.append(&mut goals)?;
     turn.push(last)?;
-    in_turn(alloc, turn)
+    let made = in_turn(alloc, turn)?;
+    Ok(made)
 }

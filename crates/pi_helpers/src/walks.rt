@@ -1,5 +1,5 @@
 //! Iterators over lists and arrays, both walked in place.
-ghost use Rattle.std.specs.Prelude.{◌≡◌, ◌∷◌, [], ◌++◌, IfOk};
+ghost use Rattle.std.specs.Prelude.{◌≡◌, ◌+◌, ◌∷◌, [], ◌++◌, IfOk};
 ghost use Rattle.pi_terms.specs.PatternTree.{slot, exact_atom, compound, no_patterns, pattern};
 ghost use Rattle.pi_terms.specs.ListNames.{nil, cell_name};
 ghost use Rattle.pi_core.specs.GoalTree.{GoalTree};
@@ -10,7 +10,7 @@ ghost use Rattle.pi_lowered.specs.Loops.{with_values};
 ghost use Rattle.pi_lowered.specs.Iterators.{tick_then, cell_clause as cell_by, nil_clause as nil_by, array_clause as array_by, element_helper as helper_by, walked, over};
 ghost use Rattle.pi_helpers.specs.Helpers.{loop_of};
 ghost use Rattle.pi_helpers.specs.Parts.{AreGoals};
-ghost use Rattle.pi_helpers.specs.Turns.{array_turn_by};
+ghost use Rattle.pi_helpers.specs.Turns.{array_args, array_turn_by};
 
 use crate::clauses::{clause, head_with, helper, slots_head};
 use crate::ends::{closing_slots, end};
@@ -33,16 +33,18 @@ pub fn push_over<'a>(
     slots: &mut Slots<'a>,
     goals: &mut Vec<CoreGoal>,
 ) -> Result<(), AllocError>
-    ensures { IfOk result (λ _. AreGoals (over (loop_of l.now) [] (walked slots.old (record { goals = []; tree = collection; names = found }))) goals.old.items goals.new.items slots.new) }
+    ensures { IfOk result (λ _. AreGoals (over (loop_of l.now) [] (walked slots.old (record { goals = []; tree = collection; names = found.entry }))) goals.old.items goals.new.items slots.new) }
 {
     let mut found = found;
     push_counted(alloc, &collection, &mut found, goals)?;
     slots.behind(&found)?;
-    let past = slots.count()?.saturating_sub(1);
+    let count = slots.count()?;
+    let one = Term::int(alloc, 1)?;
+    let past = variable_of(alloc, count.saturating_sub(1))?;
     let mut first = Vec::new(alloc);
     first.push(collection)?;
-    first.push(Term::int(alloc, 1)?)?;
-    first.push(variable_of(alloc, past)?)?;
+    first.push(one)?;
+    first.push(past)?;
     push_entered(alloc, l, first, slots, goals)?;
     Ok(())
 }
@@ -57,15 +59,12 @@ fn push_counted<'a>(
     ensures { IfOk result (λ _. (ns : SlotNames) → AreGoals (record { goals = (walked ns (record { goals = []; tree = collection.now; names = found.old })).goals; names = with_value (with_value found.old) }) goals.old.items goals.new.items found.new) }
 {
     let count = found.value_slot()?;
-    push_apply(alloc, "length", &[collection.copy(alloc)?], count, goals)?;
     let past = found.value_slot()?;
-    push_apply(
-        alloc,
-        "+",
-        &[variable_of(alloc, count)?, Term::int(alloc, 1)?],
-        past,
-        goals,
-    )?;
+    let items = collection.copy(alloc)?;
+    let number = variable_of(alloc, count)?;
+    let one = Term::int(alloc, 1)?;
+    push_apply(alloc, "length", &[items], count, goals)?;
+    push_apply(alloc, "+", &[number, one], past, goals)?;
     Ok(())
 }
 
@@ -74,11 +73,16 @@ fn push_counted<'a>(
 pub fn element_helper<'a>(alloc: Global, turn: &str, l: &Loop<'a>) -> Result<CorePred, AllocError>
     ensures { IfOk result (λ made. pred_tree made ≡ helper_by turn.now (loop_of l.now)) }
 {
+    let count = handed(l)?;
+    let cell = cell_clause(alloc, turn, l)?;
+    let nil = nil_clause(alloc, l)?;
+    let array = array_clause(alloc, turn, l)?;
     let mut clauses = Vec::new(alloc);
-    clauses.push(cell_clause(alloc, turn, l)?)?;
-    clauses.push(nil_clause(alloc, l)?)?;
-    clauses.push(array_clause(alloc, turn, l)?)?;
-    helper(alloc, l.name.as_str(), handed(l)?, clauses)
+    clauses.push(cell)?;
+    clauses.push(nil)?;
+    clauses.push(array)?;
+    let made = helper(alloc, l.name.as_str(), count, clauses)?;
+    Ok(made)
 }
 
 /// A list cell.
@@ -92,17 +96,19 @@ fn cell_clause(alloc: Global, turn: &str, l: &Loop<'_>) -> Result<CoreClause, Al
     let body = ticked_call(alloc, turn, &args)?;
     let cell = cell_pattern(alloc)?;
     let head = head_with(alloc, cell, 2, count.saturating_sub(1))?;
-    clause(alloc, head, body, slots)
+    let made = clause(alloc, head, body, slots)?;
+    Ok(made)
 }
 
 /// The pattern of a list cell, whose item and rest stand in the first two slots.
+#[tactic(auto, unfolding(pi_core::specs::CoreTree::pattern_tree, pi_core::specs::CoreTree::pattern_trees))]
 fn cell_pattern(alloc: Global) -> Result<Pattern, AllocError>
     ensures { IfOk result (λ made. pattern_tree made ≡ compound cell_name (pattern (slot 0) (pattern (slot 1) no_patterns))) }
 {
+    let name = Text::new(alloc, "[|]")?;
     let mut parts = Vec::new(alloc);
     parts.push(Pattern::Slot(0))?;
     parts.push(Pattern::Slot(1))?;
-    let name = Text::new(alloc, "[|]")?;
     Ok(Pattern::Comp(name, parts))
 }
 
@@ -112,13 +118,18 @@ fn nil_clause<'a>(alloc: Global, l: &Loop<'a>) -> Result<CoreClause, AllocError>
 {
     let slots = end_slots(alloc, l, &["_", "_"])?;
     let free = slots.count()?;
-    let body = end(alloc, l, shared_from(l, 2)?, free, &slots)?;
+    let first = shared_from(l, 2)?;
+    let body = end(alloc, l, first, free, &slots)?;
     let nil = nil_pattern(alloc)?;
-    let head = head_with(alloc, nil, 0, handed(l)?.saturating_sub(1))?;
-    clause(alloc, head, body, closing_slots(l, free)?)
+    let count = handed(l)?;
+    let head = head_with(alloc, nil, 0, count.saturating_sub(1))?;
+    let size = closing_slots(l, free)?;
+    let made = clause(alloc, head, body, size)?;
+    Ok(made)
 }
 
 /// The pattern of an empty list.
+#[tactic(auto, unfolding(pi_core::specs::CoreTree::pattern_tree))]
 fn nil_pattern(alloc: Global) -> Result<Pattern, AllocError>
     ensures { IfOk result (λ made. pattern_tree made ≡ exact_atom nil) }
 {
@@ -133,12 +144,18 @@ fn array_clause<'a>(alloc: Global, turn: &str, l: &Loop<'a>) -> Result<CoreClaus
     let slots = end_slots(alloc, l, &["_", "_", "_"])?;
     let item = slots.count()?;
     let free = later(item, 2)?;
-    let test = less(alloc, variable_of(alloc, 1)?, variable_of(alloc, 2)?)?;
+    let next = variable_of(alloc, 1)?;
+    let past = variable_of(alloc, 2)?;
+    let test = less(alloc, next, past)?;
     let then = array_turn(alloc, turn, l, item)?;
-    let other = end(alloc, l, shared_from(l, 3)?, free, &slots)?;
+    let first = shared_from(l, 3)?;
+    let other = end(alloc, l, first, free, &slots)?;
     let body = CoreGoal::if_else(alloc, test, then, other)?;
-    let head = slots_head(alloc, handed(l)?)?;
-    clause(alloc, head, body, closing_slots(l, free)?)
+    let count = handed(l)?;
+    let head = slots_head(alloc, count)?;
+    let size = closing_slots(l, free)?;
+    let made = clause(alloc, head, body, size)?;
+    Ok(made)
 }
 
 /// A turn of an array's item. From `item` on slots are free.
@@ -146,19 +163,44 @@ fn array_turn(alloc: Global, turn: &str, l: &Loop<'_>, item: u32) -> Result<Core
     ensures { IfOk result (λ made. made ≡ array_turn_by turn.now (loop_of l.now) item) }
 {
     let next = later(item, 1)?;
+    let tick = CoreGoal::tick(alloc)?;
+    let call = array_call(alloc, turn, l, item, next)?;
+    let array = variable_of(alloc, 0)?;
+    let place = variable_of(alloc, 1)?;
+    let before = variable_of(alloc, 1)?;
+    let one = Term::int(alloc, 1)?;
+    let taken = CoreGoal::apply(alloc, "in", &[array, place], item)?;
+    let moved = CoreGoal::apply(alloc, "+", &[before, one], next)?;
     let mut goals = Vec::new(alloc);
-    goals.push(CoreGoal::tick(alloc)?)?;
-    let from = [variable_of(alloc, 0)?, variable_of(alloc, 1)?];
-    push_apply(alloc, "in", &from, item, &mut goals)?;
-    let sum = [variable_of(alloc, 1)?, Term::int(alloc, 1)?];
-    push_apply(alloc, "+", &sum, next, &mut goals)?;
+    goals.push(tick)?;
+    goals.push(taken)?;
+    goals.push(moved)?;
+    goals.push(call)?;
+    let made = in_turn(alloc, goals)?;
+    Ok(made)
+}
+
+/// The call of a turn with the item of an array.
+fn array_call(
+    alloc: Global,
+    turn: &str,
+    l: &Loop<'_>,
+    item: u32,
+    next: u32,
+) -> Result<CoreGoal, AllocError>
+    ensures { IfOk result (λ made. next ≡ item + 1 → made ≡ GoalTree.call turn.now (array_args (loop_of l.now) item)) }
+{
+    let count = handed(l)?;
+    let found = variable_of(alloc, item)?;
+    let array = variable_of(alloc, 0)?;
+    let place = variable_of(alloc, next)?;
     let mut args = Vec::new(alloc);
-    args.push(variable_of(alloc, item)?)?;
-    args.push(variable_of(alloc, 0)?)?;
-    args.push(variable_of(alloc, next)?)?;
-    push_slots(alloc, &mut args, 2, handed(l)?.saturating_sub(2))?;
-    goals.push(CoreGoal::call(alloc, turn, &args)?)?;
-    in_turn(alloc, goals)
+    args.push(found)?;
+    args.push(array)?;
+    args.push(place)?;
+    push_slots(alloc, &mut args, 2, count.saturating_sub(2))?;
+    let made = CoreGoal::call(alloc, turn, &args)?;
+    Ok(made)
 }
 
 /// The slots of a clause without a pattern: these, then what is handed on, and the variables of the names that the loop
@@ -181,8 +223,11 @@ pub(crate) fn end_slots<'a>(
 pub(crate) fn ticked_call(alloc: Global, name: &str, args: &[Term]) -> Result<CoreGoal, AllocError>
     ensures { IfOk result (λ made. made ≡ tick_then (GoalTree.call name.now args.now ∷ [])) }
 {
+    let tick = CoreGoal::tick(alloc)?;
+    let call = CoreGoal::call(alloc, name, args)?;
     let mut goals = Vec::new(alloc);
-    goals.push(CoreGoal::tick(alloc)?)?;
-    goals.push(CoreGoal::call(alloc, name, args)?)?;
-    in_turn(alloc, goals)
+    goals.push(tick)?;
+    goals.push(call)?;
+    let made = in_turn(alloc, goals)?;
+    Ok(made)
 }

@@ -1,0 +1,37 @@
+-- Clauses of helpers, and helpers.
+use Rattle.std.proofs.Common.{◌≡◌, ℕ, false, true, List, [], ◌∷◌, ◌++◌, map, refl, sym, ◌∙◌, ap}
+use Rattle.std.specs.Prelude.{Option, None}
+use Rattle.pi_terms.specs.PatternTree.{PatternTrees, pattern}
+use Rattle.pi_core.specs.GoalTree.{GoalTree}
+use Rattle.pi_core.specs.CoreTree.{ClauseTree, PredTree, clause_tree, pattern_tree}
+use Rattle.pi_core.specs.declared.core_program.Pattern.{Pattern}
+use Rattle.pi_core.specs.declared.core_program.SlotWatch.{SlotWatch}
+use Rattle.pi_core.specs.declared.core_program.CoreClause.{CoreClause}
+use Rattle.pi_lowered.specs.Loops.{slots_head, clause_of, helper}
+use Rattle.pi_helpers.specs.Heads.{onto}
+
+pub onto-none : (ps : List Pattern) (made rest : PatternTrees) → ps ≡ [] → made ≡ onto ps rest → made ≡ rest
+onto-none ps made rest empty is = is ∙ ap (λ qs. onto qs rest) empty
+
+pub onto-one : (ps qs : List Pattern) (p : Pattern) (made rest : PatternTrees) → ps ≡ [] → qs ≡ ps ++ p ∷ [] → made ≡ onto qs rest → made ≡ pattern (pattern_tree p) rest
+onto-one ps qs p made rest empty put is = is ∙ ap (λ rs. onto rs rest) (put ∙ ap (λ rs. rs ++ p ∷ []) empty)
+
+pub clause-is : (head : PatternTrees) (guard body : GoalTree) (ws : List SlotWatch) (slots : ℕ) → guard ≡ GoalTree.truth → ws ≡ [] → record { head = head; guard = guard; back = false; watches = ws; body = body; value = None; slots = slots } ≡ clause_of head body slots
+clause-is head guard body ws slots is none =
+    ap (λ (g : GoalTree). record { head = head; guard = g; back = false; watches = ws; body = body; value = None; slots = slots }) is ∙ ap (λ (us : List SlotWatch). record { head = head; guard = GoalTree.truth; back = false; watches = us; body = body; value = None; slots = slots }) none
+
+pub helper-is : (name called : List ℕ) (arity : ℕ) (cs ds : List CoreClause) → called ≡ name → ds ≡ cs → record { name = called; arity = arity; function = false; quiet = true; index = None; clauses = map clause_tree ds } ≡ helper name arity (map clause_tree cs)
+helper-is name called arity cs ds same all = ap (λ (n : List ℕ). helper n arity (map clause_tree ds)) same ∙ ap (λ es. helper name arity (map clause_tree es)) all
+
+one-clause : (cs ds : List CoreClause) (c : CoreClause) (t : ClauseTree) → cs ≡ [] → ds ≡ cs ++ c ∷ [] → clause_tree c ≡ t → map clause_tree ds ≡ t ∷ []
+one-clause cs ds c t empty put is = ap (map clause_tree) (put ∙ ap (λ es. es ++ c ∷ []) empty) ∙ ap (λ (u : ClauseTree). u ∷ []) is
+
+pub simple-is : (p : PredTree) (name : List ℕ) (arity slots : ℕ) (body : GoalTree) (head : PatternTrees) (c : CoreClause) (cs ds : List CoreClause) → head ≡ slots_head 0 arity → clause_tree c ≡ clause_of head body slots → cs ≡ [] → ds ≡ cs ++ c ∷ [] → p ≡ helper name arity (map clause_tree ds) →
+    p ≡ helper name arity (clause_of (slots_head 0 arity) body slots ∷ [])
+simple-is p name arity slots body head c cs ds at clause empty put is =
+    is ∙ ap (helper name arity) (one-clause cs ds c (clause_of (slots_head 0 arity) body slots) empty put (clause ∙ ap (λ (h : PatternTrees). clause_of h body slots) at))
+
+pub two-clauses : (p : PredTree) (name : List ℕ) (arity : ℕ) (t u : ClauseTree) (c d : CoreClause) (cs ds es : List CoreClause) → clause_tree c ≡ t → clause_tree d ≡ u → cs ≡ [] → ds ≡ cs ++ c ∷ [] → es ≡ ds ++ d ∷ [] → p ≡ helper name arity (map clause_tree es) → p ≡ helper name arity (t ∷ u ∷ [])
+two-clauses p name arity t u c d cs ds es first second empty one two is =
+    is ∙ ap (helper name arity) (ap (map clause_tree) (two ∙ ap (λ (xs : List CoreClause). xs ++ d ∷ []) (one ∙ ap (λ (xs : List CoreClause). xs ++ c ∷ []) empty))
+    ∙ (ap (λ (v : ClauseTree). v ∷ clause_tree d ∷ []) first ∙ ap (λ (v : ClauseTree). t ∷ v ∷ []) second))

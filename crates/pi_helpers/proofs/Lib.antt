@@ -1,0 +1,13 @@
+pub mod JoinedLemmas
+pub mod TermLemmas
+pub mod ClauseLemmas
+pub mod EndLemmas
+pub mod EntryLemmas
+pub mod TurnLemmas
+pub mod PushedLemmas
+pub mod WalkLemmas
+pub mod ArrayLemmas
+pub mod RangeLemmas
+pub mod StepLemmas
+pub mod GatherLemmas
+pub mod WholeLemmas
