@@ -1,5 +1,5 @@
 -- The clause of an array, and the first helper.
-use Rattle.std.proofs.Common.{◌≡◌, ℕ, suc, ◌+◌, ◌-◌, List, [], ◌∷◌, ◌++◌, length, map, refl, sym, ◌∙◌, ap, arith}
+use Rattle.std.proofs.Common.{◌≡◌, ℕ, suc, ◌+◌, ◌-◌, List, [], ◌∷◌, ◌++◌, length, map, ◌∙◌, ap, arith}
 use Rattle.std.specs.Prelude.{pos, codes}
 use Rattle.pi_terms.specs.Tree.{Tree}
 use Rattle.pi_terms.specs.PatternTree.{PatternTrees}
@@ -10,9 +10,9 @@ use Rattle.pi_effects.specs.Indexing.{index_name}
 use Rattle.pi_lowered.specs.Slots.{SlotNames}
 use Rattle.pi_lowered.specs.Goals.{in_turn}
 use Rattle.pi_lowered.specs.Loops.{Loop, slots_from, slots_head, closing, closing_slots, clause_of, helper}
-use Rattle.pi_lowered.specs.Iterators.{walk_slots, handed, end_slots, cell_clause, nil_clause, array_clause, element_helper}
+use Rattle.pi_lowered.specs.Iterators.{handed, end_slots, cell_clause, nil_clause, array_clause, element_helper}
 use Rattle.pi_helpers.specs.Turns.{array_args, array_turn_by}
-use Rattle.pi_helpers.proofs.PushedLemmas.{pushed-three, pushed-four, pair-is}
+use Rattle.pi_helpers.proofs.PushedLemmas.{pushed-three, pushed-four}
 use Rattle.pi_helpers.proofs.WalkLemmas.{Ends, ends-at, long-at}
 
 -- the call of a turn

@@ -1,6 +1,6 @@
 -- Clauses of helpers, and helpers.
-use Rattle.std.proofs.Common.{◌≡◌, ℕ, false, true, List, [], ◌∷◌, ◌++◌, map, refl, sym, ◌∙◌, ap}
-use Rattle.std.specs.Prelude.{Option, None}
+use Rattle.std.proofs.Common.{◌≡◌, ℕ, false, true, List, [], ◌∷◌, ◌++◌, map, ◌∙◌, ap}
+use Rattle.std.specs.Prelude.{None}
 use Rattle.pi_terms.specs.PatternTree.{PatternTrees, pattern}
 use Rattle.pi_core.specs.GoalTree.{GoalTree}
 use Rattle.pi_core.specs.CoreTree.{ClauseTree, PredTree, clause_tree, pattern_tree}

@@ -11,7 +11,7 @@ use Rattle.pi_slots.specs.Indexed.{names_in}
 use Rattle.pi_slots.proofs.FlatLemmas.{drop-next}
 use Rattle.pi_slots.proofs.SlotLemmas.{length_names}
 use Rattle.pi_lowered.specs.Slots.{SlotNames, slot_for}
-use Rattle.pi_lowered.specs.Loops.{Ending as EndingTree, as_it_is, in_order, ended, closing, closing_slots, kept_goals}
+use Rattle.pi_lowered.specs.Loops.{Ending as EndingTree, ended, closing, closing_slots, kept_goals}
 use Rattle.pi_helpers.specs.Helpers.{ending_of}
 use Rattle.pi_helpers.specs.declared.loops.Ending.{Ending}
 use Rattle.pi_helpers.specs.declared.loops.Ending.TheVariants.{AsItIs, InOrder}

@@ -1,5 +1,5 @@
 -- Where a loop stands.
-use Rattle.std.proofs.Common.{◌≡◌, ℕ, suc, ◌+◌, ◌<◌, ◌≤◌, cond, List, [], ◌∷◌, ◌++◌, length, get_or, drop, refl, sym, ◌∙◌, ap, append_assoc}
+use Rattle.std.proofs.Common.{◌≡◌, ℕ, ◌+◌, ◌<◌, ◌≤◌, cond, List, [], ◌∷◌, ◌++◌, length, get_or, drop, refl, sym, ◌∙◌, ap, append_assoc}
 use Rattle.std.specs.Borrow.{Bor}
 use Rattle.std.proofs.lemmas.List.{append-nil, drop_all}
 use Rattle.pi_terms.specs.Tree.{Tree, comp, trees_of}
@@ -10,7 +10,6 @@ use Rattle.pi_slots.specs.Indexed.{names_in}
 use Rattle.pi_slots.proofs.FlatLemmas.{drop-next}
 use Rattle.pi_lowered.specs.Slots.{SlotNames, slot_for, slots_for}
 use Rattle.pi_lowered.specs.Values.{SlotTerms, slot_terms, slot_term, is_below, filling}
-use Rattle.pi_lowered.specs.Goals.{SlotGoals}
 use Rattle.pi_lowered.specs.Loops.{Loop, as_written, started, slots_for_names, slots_from, kept_goals, with_values, entered, loop_goals}
 use Rattle.pi_helpers.specs.Parts.{AreGoals, goals_before}
 

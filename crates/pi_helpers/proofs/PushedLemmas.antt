@@ -1,5 +1,5 @@
 -- Lists that are pushed one item after the other.
-use Rattle.std.proofs.Common.{◌≡◌, List, [], ◌∷◌, ◌++◌, refl, sym, ◌∙◌, ap}
+use Rattle.std.proofs.Common.{◌≡◌, List, [], ◌∷◌, ◌++◌, ◌∙◌, ap}
 
 pub pushed-one : {A : Type 0} (none one : List A) (x : A) → none ≡ [] → one ≡ none ++ x ∷ [] → one ≡ x ∷ []
 pushed-one none one x empty put = put ∙ ap (λ xs. xs ++ x ∷ []) empty

@@ -1,23 +1,19 @@
 -- Iterators over ranges.
-use Rattle.std.proofs.Common.{◌≡◌, ℕ, suc, ◌+◌, ◌-◌, Bool, true, false, List, [], ◌∷◌, ◌++◌, length, map, refl, sym, ◌∙◌, ap, append_assoc, arith, length-append}
-use Rattle.std.specs.Prelude.{pos, codes}
+use Rattle.std.proofs.Common.{◌≡◌, ℕ, suc, ◌+◌, Bool, true, false, List, [], ◌∷◌, ◌++◌, length, refl, sym, ◌∙◌, ap, append_assoc, arith, length-append}
+use Rattle.std.specs.Prelude.{codes}
 use Rattle.pi_terms.specs.Tree.{Tree, Trees, trees_of}
-use Rattle.pi_terms.specs.PatternTree.{PatternTree, PatternTrees, pattern}
 use Rattle.pi_print.specs.PrintTerm.{array_name}
 use Rattle.pi_effects.specs.Inner.{range_count_name}
 use Rattle.pi_core.specs.GoalTree.{GoalTree}
-use Rattle.pi_core.specs.CoreTree.{ClauseTree, PredTree}
 use Rattle.pi_lowered.specs.Slots.{SlotNames, unnamed, with_value}
-use Rattle.pi_lowered.specs.Values.{SlotPattern}
-use Rattle.pi_lowered.specs.Goals.{SlotGoals, in_turn}
-use Rattle.pi_lowered.specs.Loops.{Loop, slots_from, slots_head, closing, closing_slots, clause_of, helper, entered}
-use Rattle.pi_lowered.specs.Iterators.{handed, end_slots, tick_then, behind_collection}
-use Rattle.pi_lowered.specs.Ranges.{next_turn, step_clause, range_helper, number_goals, number_tree, counting, through}
-use Rattle.pi_helpers.specs.Helpers.{lowered, range_between}
+use Rattle.pi_lowered.specs.Loops.{Loop, entered}
+use Rattle.pi_lowered.specs.Iterators.{behind_collection}
+use Rattle.pi_lowered.specs.Ranges.{number_goals, number_tree, counting, through}
+use Rattle.pi_helpers.specs.Helpers.{range_between}
 use Rattle.pi_helpers.specs.Parts.{AreGoals}
-use Rattle.pi_helpers.specs.Turns.{IsNumber, next_value_by}
-use Rattle.pi_helpers.proofs.PushedLemmas.{pushed-one, pushed-two, pushed-three, pushed-four, pair-is}
-use Rattle.pi_helpers.proofs.WalkLemmas.{Ends, ends-at, long-at, entered-behind}
+use Rattle.pi_helpers.specs.Turns.{IsNumber}
+use Rattle.pi_helpers.proofs.PushedLemmas.{pushed-three}
+use Rattle.pi_helpers.proofs.WalkLemmas.{entered-behind}
 
 -- ---- numbers that are written
 

@@ -1,5 +1,5 @@
 -- Helpers of loops that begin with no iterator.
-use Rattle.std.proofs.Common.{◌≡◌, ℕ, ◌+◌, List, [], ◌∷◌, ◌++◌, length, refl, sym, ◌∙◌, ap, arith}
+use Rattle.std.proofs.Common.{◌≡◌, ℕ, ◌+◌, List, [], ◌∷◌, ◌++◌, length, ◌∙◌, ap, arith}
 use Rattle.pi_terms.specs.Tree.{Tree}
 use Rattle.pi_core.specs.GoalTree.{GoalTree}
 use Rattle.pi_core.specs.CoreTree.{PredTree}

@@ -1,21 +1,19 @@
 -- Iterators over lists and arrays.
-use Rattle.std.proofs.Common.{◌≡◌, ℕ, suc, ◌+◌, ◌-◌, List, [], ◌∷◌, ◌++◌, length, map, refl, sym, ◌∙◌, ap, append_assoc, arith, length-append}
-use Rattle.std.specs.Prelude.{pos, codes, replicate}
+use Rattle.std.proofs.Common.{◌≡◌, ℕ, suc, ◌+◌, ◌-◌, List, [], ◌∷◌, ◌++◌, length, ◌∙◌, ap, append_assoc, arith, length-append}
+use Rattle.std.specs.Prelude.{pos, codes}
 use Rattle.pi_terms.specs.Tree.{Tree}
 use Rattle.pi_terms.specs.PatternTree.{PatternTree, PatternTrees, slot, exact_atom, compound, no_patterns, pattern}
 use Rattle.pi_terms.specs.ListNames.{nil, cell_name}
 use Rattle.pi_core.specs.GoalTree.{GoalTree}
 use Rattle.pi_core.specs.CoreTree.{ClauseTree, PredTree}
-use Rattle.pi_effects.specs.Indexing.{index_name}
 use Rattle.pi_lowered.specs.Slots.{SlotNames, unnamed, with_value}
-use Rattle.pi_lowered.specs.Values.{SlotValue, SlotPattern}
-use Rattle.pi_lowered.specs.Goals.{SlotGoals, in_turn}
-use Rattle.pi_lowered.specs.Loops.{Loop, slots_from, slots_head, with_values, closing, closing_slots, clause_of, helper, entered, kept_goals, slots_for_names}
-use Rattle.pi_lowered.specs.Iterators.{walk_slots, handed, turn_slots, end_slots, turn_clause, tick_then, cell_clause, nil_clause, array_clause, behind_collection, walked, over}
-use Rattle.pi_helpers.specs.Helpers.{lowered, turns_by}
+use Rattle.pi_lowered.specs.Values.{SlotPattern}
+use Rattle.pi_lowered.specs.Goals.{in_turn}
+use Rattle.pi_lowered.specs.Loops.{Loop, slots_from, slots_head, with_values, closing, closing_slots, clause_of, helper, entered}
+use Rattle.pi_lowered.specs.Iterators.{handed, end_slots, turn_clause, tick_then, cell_clause, nil_clause, behind_collection, walked, over}
+use Rattle.pi_helpers.specs.Helpers.{lowered}
 use Rattle.pi_helpers.specs.Parts.{AreGoals}
-use Rattle.pi_helpers.specs.Turns.{array_turn_by}
-use Rattle.pi_helpers.proofs.PushedLemmas.{pushed-one, pushed-two, pushed-three, pushed-four, pair-is}
+use Rattle.pi_helpers.proofs.PushedLemmas.{pushed-two, pushed-three}
 
 -- ---- where one stands
 

@@ -1,14 +1,11 @@
 -- Loops of parts that are lowered one after the other.
-use Rattle.std.proofs.Common.{◌≡◌, ℕ, List, [], ◌∷◌, ◌++◌, length, refl, sym, ◌∙◌, ap, append_assoc}
+use Rattle.std.proofs.Common.{◌≡◌, ℕ, List, [], ◌++◌, length, sym, ◌∙◌, ap, append_assoc}
 use Rattle.pi_terms.specs.Tree.{Tree}
-use Rattle.pi_terms.specs.ListCopies.{list_cell}
 use Rattle.pi_core.specs.GoalTree.{GoalTree}
 use Rattle.pi_core.specs.CoreTree.{PredTree}
-use Rattle.pi_effects.specs.Inner.{itself_name}
 use Rattle.pi_syntax.specs.ExpTree.{ExpTree}
 use Rattle.pi_names.specs.Texts.{Names}
-use Rattle.pi_names.specs.Loops.{hidden}
-use Rattle.pi_lowered.specs.Slots.{SlotNames, slot_for, slots_for}
+use Rattle.pi_lowered.specs.Slots.{SlotNames}
 use Rattle.pi_lowered.specs.Values.{SlotValue, SlotValues, slot_pattern}
 use Rattle.pi_lowered.specs.Goals.{SlotGoals}
 use Rattle.pi_lowered.specs.Loops.{Loop, loop_slots, started, while_turn, while_helper, do_turn, do_helper, only_turn, only_turn_helper}

@@ -1,5 +1,5 @@
 -- What turns of iterators do beside what stands in them.
-use Rattle.std.specs.Prelude.{◌≡◌, ℕ, suc, ◌+◌, ◌-◌, Bool, true, false, pos, List, [], ◌∷◌, codes}
+use Rattle.std.specs.Prelude.{◌≡◌, ℕ, suc, ◌-◌, Bool, true, false, pos, List, [], ◌∷◌, codes}
 use Rattle.pi_terms.specs.Tree.{Tree}
 use Rattle.pi_effects.specs.Indexing.{index_name}
 use Rattle.pi_core.specs.GoalTree.{GoalTree}

@@ -1,8 +1,8 @@
-use Rattle.std.proofs.Common.{[], ◌∷◌, ◌∙◌, ap, ℕ, ◌+◌}
+use Rattle.std.proofs.Common.{◌∙◌, ap, ℕ, ◌+◌}
 use Rattle.pi_helpers.specs.Helpers.{loop_of}
-use Rattle.pi_core.specs.CoreTree.{clause_tree, pattern_tree, pattern_trees, pred_tree}
+use Rattle.pi_core.specs.CoreTree.{clause_tree, pattern_trees, pred_tree}
 use Rattle.pi_core.specs.GoalTree.{GoalTree}
-use Rattle.pi_lowered.specs.Loops.{slots_from, helper}
+use Rattle.pi_lowered.specs.Loops.{slots_from}
 use Rattle.pi_lowered.specs.Iterators.{handed, turn_clause}
 use Rattle.pi_helpers.specs.Helpers.{lowered}
 use Rattle.pi_helpers.proofs.ClauseLemmas.{two-clauses}

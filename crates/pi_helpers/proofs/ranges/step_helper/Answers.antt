@@ -1,5 +1,5 @@
 use Rattle.pi_helpers.specs.Helpers.{loop_of}
-use Rattle.pi_core.specs.CoreTree.{clause_tree, pattern_tree, pattern_trees, pred_tree}
+use Rattle.pi_core.specs.CoreTree.{clause_tree, pattern_trees, pred_tree}
 use Rattle.pi_lowered.specs.Ranges.{step_clause}
 use Rattle.pi_helpers.specs.Helpers.{lowered}
 use Rattle.pi_helpers.proofs.ClauseLemmas.{two-clauses}

@@ -1,5 +1,5 @@
 use Rattle.pi_helpers.specs.Helpers.{loop_of}
-use Rattle.pi_core.specs.CoreTree.{clause_tree, pattern_tree, pattern_trees, pred_tree}
+use Rattle.pi_core.specs.CoreTree.{clause_tree, pattern_trees}
 use Rattle.pi_helpers.proofs.ArrayLemmas.{array-is}
 use Rattle.pi_helpers.proofs.walks.array_clause.Goals as goal
 

@@ -1,6 +1,6 @@
 use Rattle.pi_helpers.specs.Helpers.{loop_of}
-use Rattle.pi_core.specs.CoreTree.{clause_tree, pattern_tree, pattern_trees, pred_tree}
-use Rattle.std.proofs.Common.{◌∙◌, ap, ℕ, ◌-◌}
+use Rattle.pi_core.specs.CoreTree.{clause_tree, pattern_tree, pattern_trees}
+use Rattle.std.proofs.Common.{◌∙◌, ap, ℕ}
 use Rattle.pi_terms.specs.PatternTree.{pattern}
 use Rattle.pi_lowered.specs.Loops.{slots_head}
 use Rattle.pi_helpers.proofs.WalkLemmas.{cell-is}

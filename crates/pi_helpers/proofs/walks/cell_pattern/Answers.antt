@@ -1,7 +1,7 @@
-use Rattle.std.proofs.Common.{[], ◌∷◌, ◌∙◌, ap}
+use Rattle.std.proofs.Common.{◌∙◌}
 use Rattle.pi_terms.specs.ListNames.{cell_name}
 use Rattle.pi_core.specs.declared.core_program.Pattern.{Slot}
-use Rattle.pi_slots.proofs.PatternLemmas.{structure-tree, pair-form}
+use Rattle.pi_slots.proofs.PatternLemmas.{structure-tree}
 use Rattle.pi_helpers.proofs.PushedLemmas.{pushed-two}
 use Rattle.pi_helpers.proofs.TermLemmas.{cell-form}
 use Rattle.pi_helpers.proofs.walks.cell_pattern.Goals as goal

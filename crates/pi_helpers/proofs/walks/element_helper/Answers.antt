@@ -1,5 +1,5 @@
 use Rattle.pi_helpers.specs.Helpers.{loop_of}
-use Rattle.pi_core.specs.CoreTree.{clause_tree, pattern_tree, pattern_trees, pred_tree}
+use Rattle.pi_core.specs.CoreTree.{pred_tree}
 use Rattle.pi_helpers.proofs.ArrayLemmas.{element-is}
 use Rattle.pi_helpers.proofs.walks.element_helper.Goals as goal
 
