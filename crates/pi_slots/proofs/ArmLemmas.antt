@@ -4,7 +4,7 @@ use Rattle.std.proofs.lemmas.List.{append-nil}
 use Rattle.std.specs.Prelude.{Vec, Option, codes}
 use Rattle.std.specs.declared.alloc.Global.{Global}
 use Rattle.std.specs.declared.boxed.Box.{Box}
-use Rattle.pi_terms.specs.Tree.{Tree, Trees, no_trees, tree, trees_of, tree_count}
+use Rattle.pi_terms.specs.Tree.{Tree, no_trees, tree, trees_of, tree_count}
 use Rattle.pi_terms.specs.ListNames.{nil}
 use Rattle.pi_terms.specs.BareCells.{bare, bare_all}
 use Rattle.pi_terms.specs.declared.term.TermCell.{TermCell}

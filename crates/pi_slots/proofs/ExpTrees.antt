@@ -1,5 +1,5 @@
 -- The trees of expressions, over the vectors and boxes that hold their parts.
-use Rattle.std.proofs.Common.{◌≡◌, ℕ, List, [], ◌∷◌, None, Some, refl, ap, ◌∙◌}
+use Rattle.std.proofs.Common.{◌≡◌, ℕ, List, None, Some, refl, ap, ◌∙◌}
 use Rattle.std.specs.Prelude.{Vec, Option}
 use Rattle.std.specs.declared.alloc.Global.{Global}
 use Rattle.std.specs.declared.boxed.Box.{Box}

@@ -1,10 +1,10 @@
 -- What an expression is as a pattern, by its kind.
-use Rattle.std.proofs.Common.{◌≡◌, ℕ, Bool, List, [], ◌∷◌, None, Some, refl, sym, ◌∙◌, ap}
+use Rattle.std.proofs.Common.{◌≡◌, ℕ, Bool, List, [], ◌∷◌, None, Some, sym, ◌∙◌, ap}
 use Rattle.std.specs.Prelude.{Vec, Option, codes}
 use Rattle.std.specs.declared.alloc.Global.{Global}
 use Rattle.std.specs.declared.boxed.Box.{Box}
 use Rattle.pi_terms.specs.ListNames.{nil}
-use Rattle.pi_terms.specs.PatternTree.{PatternTree, compound, named, exact_atom, PatternTrees, no_patterns, pattern}
+use Rattle.pi_terms.specs.PatternTree.{PatternTree, compound, exact_atom, PatternTrees, no_patterns, pattern}
 use Rattle.pi_print.specs.PrintTerm.{array_name}
 use Rattle.pi_core.specs.CoreTree.{pattern_tree, pattern_trees}
 use Rattle.pi_core.specs.declared.core_program.Pattern.{Pattern}
@@ -12,7 +12,7 @@ use Rattle.pi_syntax.specs.ExpTree.{exp_tree, held_tree}
 use Rattle.pi_syntax.specs.ExpLists.{exps_of}
 use Rattle.pi_syntax.specs.declared.exp.Exp as e
 use Rattle.pi_syntax.specs.declared.exp.Exp.{Exp}
-use Rattle.pi_lowered.specs.Slots.{SlotNames, slot_for, slots_for}
+use Rattle.pi_lowered.specs.Slots.{SlotNames}
 use Rattle.pi_lowered.specs.Values.{SlotPattern, SlotPatterns, exact, slot_pattern, slot_patterns, structure, before_forms, no_forms, cells_onto}
 use Rattle.pi_slots.proofs.ExpTrees.{list-is, list_onto-is, array-is, call-is, range-is, range_by-is}
 

@@ -1,12 +1,12 @@
 -- The cells of terms, one term after the other.
-use Rattle.std.proofs.Common.{◌≡◌, ℕ, suc, ◌+◌, ◌<◌, ◌≤◌, List, [], ◌∷◌, ◌++◌, length, get_or, take, map, refl, sym, ◌∙◌, ap, append_assoc}
+use Rattle.std.proofs.Common.{◌≡◌, ℕ, ◌+◌, ◌<◌, ◌≤◌, List, [], ◌∷◌, ◌++◌, length, get_or, take, refl, sym, ◌∙◌, ap, append_assoc}
 use Rattle.std.proofs.lemmas.List.{take_more, take_all, append-nil, map-append}
 use Rattle.pi_terms.specs.Tree.{Tree, Trees, no_trees, tree, trees_of, tree_count}
-use Rattle.pi_terms.specs.ListNames.{nil, cell_name}
+use Rattle.pi_terms.specs.ListNames.{cell_name}
 use Rattle.pi_terms.specs.TermCells.{flat, flat_all}
 use Rattle.pi_terms.specs.BareCells.{bare, bare_all, with_size}
 use Rattle.pi_terms.specs.declared.term.TermCell.{TermCell}
-use Rattle.pi_syntax.specs.ExpTree.{ExpTree, exp_tree}
+use Rattle.pi_syntax.specs.ExpTree.{exp_tree}
 use Rattle.pi_syntax.specs.ExpLists.{exps_of}
 use Rattle.pi_syntax.specs.declared.exp.Exp.{Exp}
 use Rattle.pi_names.specs.Terms.{items_onto}

@@ -1,5 +1,5 @@
 -- Texts that are compared.
-use Rattle.std.proofs.Common.{◌≡◌, ℕ, true, List, refl, sym}
+use Rattle.std.proofs.Common.{◌≡◌, ℕ, true, List, sym}
 use Rattle.std.specs.Str.{bytes_eq}
 use Rattle.std.specs.Bool.{Decides}
 use Rattle.std.proofs.lemmas.Bool.Decides.{same_from_decides}

@@ -1,6 +1,6 @@
 -- Slots of given names, slots without names, and those that some names find.
-use Rattle.std.proofs.Common.{◌≡◌, ℕ, ◌+◌, ◌-◌, ◌<◌, ◌≤◌, Bool, true, false, cond, List, [], ◌∷◌, ◌++◌, Option, Some, None, length, get_or, drop, map, refl, sym, ◌∙◌, ap, append_assoc}
-use Rattle.std.specs.Prelude.{not, is_some, replicate}
+use Rattle.std.proofs.Common.{◌≡◌, ℕ, ◌+◌, ◌-◌, ◌<◌, ◌≤◌, Bool, true, false, cond, List, [], ◌∷◌, ◌++◌, Option, Some, None, length, get_or, drop, map, sym, ◌∙◌, ap, append_assoc}
+use Rattle.std.specs.Prelude.{is_some, replicate}
 use Rattle.std.specs.Borrow.{Bor}
 use Rattle.std.specs.Str.{bytes_eq}
 use Rattle.std.proofs.lemmas.Bool.{cond-true, cond-false}
@@ -8,7 +8,7 @@ use Rattle.std.proofs.lemmas.List.{append-nil, map-append, drop_all, replicate-a
 use Rattle.pi_names.specs.Texts.{is_among}
 use Rattle.pi_lowered.specs.Slots.{SlotNames, unnamed, slot_of, slot_known, slot_or_next, slot_for}
 use Rattle.pi_lowered.specs.Loops.{with_values}
-use Rattle.pi_lowered.specs.Iterators.{found_by, only, behind_collection}
+use Rattle.pi_lowered.specs.Iterators.{behind_collection}
 use Rattle.pi_lowered.proofs.EnteredLemmas.{among-slot}
 use Rattle.pi_lowered.proofs.CarriedLemmas.{values-are}
 use Rattle.pi_slots.specs.Indexed.{names_in}

@@ -1,6 +1,5 @@
-use Rattle.std.proofs.Common.{◌≡◌, ◌≤◌, true, false, sym, ◌∙◌, rules}
+use Rattle.std.proofs.Common.{◌≤◌, sym, ◌∙◌, rules}
 use Rattle.pi_terms.specs.Tree.{cells}
-use Rattle.pi_slots.specs.ItemCells.{is_cell_below}
 use Rattle.pi_slots.proofs.FlatLemmas.{below-start, below-more, below-not, below-end}
 use Rattle.pi_slots.proofs.flat.is_below.Goals as goal
 

@@ -1,5 +1,5 @@
 -- Each kind of expression by its lemma.
-use Rattle.std.proofs.Common.{◌≡◌, refl}
+use Rattle.std.proofs.Common.{refl}
 use Rattle.std.specs.Prelude.{codes}
 use Rattle.pi_print.specs.PrintTerm.{array_name}
 use Rattle.pi_core.specs.CoreTree.{pattern_tree, pattern_trees}

@@ -1,6 +1,6 @@
 use Rattle.std.proofs.Common.{◌≤◌, rules}
 use Rattle.pi_terms.specs.Tree.{cells}
-use Rattle.pi_slots.proofs.CellLemmas.{copied-none, copied-more, copied-all}
+use Rattle.pi_slots.proofs.CellLemmas.{copied-more, copied-all}
 use Rattle.pi_slots.proofs.terms.push_copy.Goals as goal
 
 pub loop-i-preserved : goal.loop-i-preserved

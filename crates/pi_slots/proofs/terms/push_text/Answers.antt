@@ -1,7 +1,6 @@
 -- The letters, and the end of the list.
-use Rattle.std.proofs.Common.{◌≡◌, List, ℕ, refl, sym, ◌∙◌}
+use Rattle.std.proofs.Common.{refl, ◌∙◌}
 use Rattle.pi_terms.specs.ListNames.{nil}
-use Rattle.std.specs.Str.{chars}
 use Rattle.pi_slots.proofs.CellLemmas.{text-cells}
 use Rattle.pi_slots.proofs.terms.push_text.Goals as goal
 
