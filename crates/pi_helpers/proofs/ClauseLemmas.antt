@@ -1,12 +1,14 @@
 -- Clauses of helpers, and helpers.
-use Rattle.std.proofs.Common.{◌≡◌, ℕ, false, true, List, [], ◌∷◌, ◌++◌, map, ◌∙◌, ap}
+use Rattle.std.proofs.Common.{◌≡◌, ℕ, false, true, List, [], ◌∷◌, ◌++◌, map, ◌∙◌, ap, append_assoc}
+use Rattle.std.proofs.lemmas.List.{map-append}
 use Rattle.std.specs.Prelude.{None}
 use Rattle.pi_terms.specs.PatternTree.{PatternTrees, pattern}
 use Rattle.pi_core.specs.GoalTree.{GoalTree}
-use Rattle.pi_core.specs.CoreTree.{ClauseTree, PredTree, clause_tree, pattern_tree}
+use Rattle.pi_core.specs.CoreTree.{ClauseTree, PredTree, clause_tree, pattern_tree, pred_tree}
 use Rattle.pi_core.specs.declared.core_program.Pattern.{Pattern}
 use Rattle.pi_core.specs.declared.core_program.SlotWatch.{SlotWatch}
 use Rattle.pi_core.specs.declared.core_program.CoreClause.{CoreClause}
+use Rattle.pi_core.specs.declared.core_program.CorePred.{CorePred}
 use Rattle.pi_lowered.specs.Loops.{slots_head, clause_of, helper}
 use Rattle.pi_helpers.specs.Heads.{onto}
 
@@ -35,3 +37,9 @@ pub two-clauses : (p : PredTree) (name : List ℕ) (arity : ℕ) (t u : ClauseTr
 two-clauses p name arity t u c d cs ds es first second empty one two is =
     is ∙ ap (helper name arity) (ap (map clause_tree) (two ∙ ap (λ (xs : List CoreClause). xs ++ d ∷ []) (one ∙ ap (λ (xs : List CoreClause). xs ++ c ∷ []) empty))
     ∙ (ap (λ (v : ClauseTree). v ∷ clause_tree d ∷ []) first ∙ ap (λ (v : ClauseTree). t ∷ v ∷ []) second))
+
+-- two helpers behind others
+pub two-helpers : (hs one two : List CorePred) (a b : CorePred) (p q : PredTree) → pred_tree a ≡ p → pred_tree b ≡ q → one ≡ hs ++ a ∷ [] → two ≡ one ++ b ∷ [] → map pred_tree two ≡ map pred_tree hs ++ p ∷ q ∷ []
+two-helpers hs one two a b p q first second put put' =
+    ap (map pred_tree) (put' ∙ (ap (λ (xs : List CorePred). xs ++ b ∷ []) put ∙ append_assoc hs (a ∷ []) (b ∷ [])))
+    ∙ (map-append pred_tree hs (a ∷ b ∷ []) ∙ (ap (λ (x : PredTree). map pred_tree hs ++ x ∷ pred_tree b ∷ []) first ∙ ap (λ (x : PredTree). map pred_tree hs ++ p ∷ x ∷ []) second))

@@ -1,5 +1,5 @@
 -- Loops of parts that are lowered one after the other.
-use Rattle.std.proofs.Common.{◌≡◌, ℕ, List, [], ◌++◌, length, sym, ◌∙◌, ap, append_assoc}
+use Rattle.std.proofs.Common.{◌≡◌, ℕ, List, [], ◌++◌, length, sym, ◌∙◌, ap, append_assoc, Bool, true, false, refl, ◌∷◌}
 use Rattle.pi_terms.specs.Tree.{Tree}
 use Rattle.pi_core.specs.GoalTree.{GoalTree}
 use Rattle.pi_core.specs.CoreTree.{PredTree}
@@ -9,11 +9,12 @@ use Rattle.pi_lowered.specs.Slots.{SlotNames}
 use Rattle.pi_lowered.specs.Values.{SlotValue, SlotValues, slot_pattern}
 use Rattle.pi_lowered.specs.Goals.{SlotGoals}
 use Rattle.pi_lowered.specs.Loops.{Loop, loop_slots, started, while_turn, while_helper, do_turn, do_helper, only_turn, only_turn_helper}
-use Rattle.pi_lowered.specs.Iterators.{turn_slots, turn_helper, only, walked, over, iterator_goals, behind_collection}
-use Rattle.pi_lowered.specs.Ranges.{SlotRange, range_of, step_helper, through, range_goals}
+use Rattle.pi_lowered.specs.Iterators.{turn_slots, element_helper, turn_helper, only, walked, over, iterator_goals, behind_collection}
+use Rattle.pi_lowered.specs.Ranges.{SlotRange, range_helper, range_of, step_helper, through, range_goals}
 use Rattle.pi_lowered.specs.Comprehensions.{adding, begun, comprehension}
+use Rattle.pi_lowered.specs.Helpers.{own_helpers}
 use Rattle.pi_helpers.specs.Parts.{AreGoals, IsValue, IsRange, goals_before}
-use Rattle.pi_helpers.specs.Helpers.{lowered, turns_by, steps_by, range_between}
+use Rattle.pi_helpers.specs.Helpers.{lowered, own_by, turns_by, steps_by, range_between}
 
 -- goals behind none
 alone : (g : SlotGoals) (old gs : List GoalTree) (ns : SlotNames) → old ≡ [] → AreGoals g old gs ns → gs ≡ g.goals
@@ -44,6 +45,13 @@ turn-helped name l e body p none gs us ns head empty turn is =
 pub step-helped : (name : List ℕ) (l : Loop) (e : ExpTree) (body : SlotNames → SlotGoals) (p : PredTree) (none gs : List GoalTree) (us ns : SlotNames) → us ≡ turn_slots l (slot_pattern e []) → none ≡ [] → AreGoals (body us) none gs ns → p ≡ steps_by name l (slot_pattern e []) (lowered gs ns) → p ≡ step_helper name l e body
 step-helped name l e body p none gs us ns head empty turn is =
     is ∙ (ap (λ xs. steps_by name l (slot_pattern e []) (lowered xs ns)) (alone (body us) none gs ns empty turn) ∙ (ap (λ (ks : SlotNames). steps_by name l (slot_pattern e []) (lowered (body us).goals ks)) turn.names ∙ ap (λ (ks : SlotNames). steps_by name l (slot_pattern e []) (body ks)) head))
+
+pub own-helped : (is_range : Bool) (name : List ℕ) (l : Loop) (e : ExpTree) (body : SlotNames → SlotGoals) (hs all : List PredTree) (none gs : List GoalTree) (us ns : SlotNames) → us ≡ turn_slots l (slot_pattern e []) → none ≡ [] → AreGoals (body us) none gs ns → all ≡ hs ++ own_by is_range name l (slot_pattern e []) (lowered gs ns) →
+    all ≡ hs ++ own_helpers is_range name l e body
+own-helped true name l e body hs all none gs us ns head empty turn is =
+    is ∙ ap (λ (p : PredTree). hs ++ range_helper name l ∷ p ∷ []) (step-helped name l e body (steps_by name l (slot_pattern e []) (lowered gs ns)) none gs us ns head empty turn refl)
+own-helped false name l e body hs all none gs us ns head empty turn is =
+    is ∙ ap (λ (p : PredTree). hs ++ element_helper name l ∷ p ∷ []) (turn-helped name l e body (turns_by name l (slot_pattern e []) (lowered gs ns)) none gs us ns head empty turn refl)
 
 -- ---- where one stands
 

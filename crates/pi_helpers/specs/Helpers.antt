@@ -1,5 +1,5 @@
 -- Loops as code holds them, and what their helpers are made of.
-use Rattle.std.specs.Prelude.{◌≡◌, ℕ, suc, ◌+◌, List, [], ◌∷◌, length}
+use Rattle.std.specs.Prelude.{◌≡◌, Bool, true, false, ℕ, suc, ◌+◌, List, [], ◌∷◌, length}
 use Rattle.pi_terms.specs.Tree.{Tree}
 use Rattle.pi_core.specs.GoalTree.{GoalTree}
 use Rattle.pi_core.specs.CoreTree.{PredTree, pattern_tree}
@@ -8,8 +8,8 @@ use Rattle.pi_lowered.specs.Slots.{SlotNames}
 use Rattle.pi_lowered.specs.Goals.{SlotGoals}
 use Rattle.pi_lowered.specs.Values.{SlotPattern}
 use Rattle.pi_lowered.specs.Loops.{Ending as EndingTree, as_it_is, in_order, Loop as LoopTree, slots_from, slots_head, clause_of, helper}
-use Rattle.pi_lowered.specs.Iterators.{handed, turn_clause}
-use Rattle.pi_lowered.specs.Ranges.{SlotRange, step_clause, next_turn}
+use Rattle.pi_lowered.specs.Iterators.{handed, turn_clause, element_helper}
+use Rattle.pi_lowered.specs.Ranges.{SlotRange, step_clause, next_turn, range_helper}
 use Rattle.pi_helpers.specs.declared.loops.Ending.{Ending}
 use Rattle.pi_helpers.specs.declared.loops.Ending.TheVariants.{AsItIs, InOrder}
 use Rattle.pi_helpers.specs.declared.loops.Loop.{Loop}
@@ -41,6 +41,11 @@ turns_by name l p turn =
 abbrev pub steps_by : List ℕ → LoopTree → SlotPattern → SlotGoals → PredTree
 steps_by name l p turn =
     helper name (suc (handed l)) (step_clause name l p turn ∷ clause_of (slots_head 0 (suc (handed l))) (next_turn name l 1 (suc (handed l))) (suc (handed l) + 2) ∷ [])
+
+-- both helpers of an iterator
+abbrev pub own_by : Bool → List ℕ → LoopTree → SlotPattern → SlotGoals → List PredTree
+own_by true name l p turn = range_helper name l ∷ steps_by name l p turn ∷ []
+own_by false name l p turn = element_helper name l ∷ turns_by name l p turn ∷ []
 
 -- the bounds of a range and its step, as they are lowered
 abbrev pub range_between : Tree → Tree → Tree → SlotNames → SlotRange
