@@ -10,6 +10,8 @@ mod faulty;
 #[cfg(test)]
 mod large;
 #[cfg(test)]
+mod loops;
+#[cfg(test)]
 mod orders;
 #[cfg(test)]
 mod output;
@@ -31,7 +33,7 @@ mod tests {
     use crate::faulty::FAULTY;
     use crate::orders::ORDERS;
     use crate::row::{OPEN, Row, USAGE};
-    use crate::{calls, facts, large, output, programs, small, terms, text, words};
+    use crate::{calls, facts, large, loops, output, programs, small, terms, text, words};
     use pi_outside::{MemoryFiles, MemorySink, SureSource};
     use pi_top::picatq;
     use std::alloc::Global;
@@ -124,6 +126,11 @@ mod tests {
     #[test]
     fn rows_of_facts(rt: HostRuntime) -> Result<(), Fail> {
         are_right(rt.alloc(), &facts::ROWS, NOTHING)
+    }
+
+    #[test]
+    fn rows_of_loops(rt: HostRuntime) -> Result<(), Fail> {
+        are_right(rt.alloc(), &loops::ROWS, NOTHING)
     }
 
     #[test]
