@@ -12,7 +12,8 @@ use Rattle.pi_lowered.specs.Slots.{SlotNames, slot_for, slots_for}
 use Rattle.pi_lowered.specs.Values.{SlotValue, first_item}
 use Rattle.pi_lowered.specs.Goals.{SlotGoals, assigned}
 use Rattle.pi_lowered.specs.Sites.{Site, behind_exp}
-use Rattle.pi_lowering.specs.Lowering.{IsValue, AreGoals, value_of, by_place, call_as_goal}
+use Rattle.pi_helpers.specs.Parts.{IsValue, AreGoals}
+use Rattle.pi_lowering.specs.Lowering.{value_of, by_place, call_as_goal}
 use Rattle.pi_lowering.specs.Calls.{assigned_to}
 use Rattle.pi_lowering.specs.declared.calls.CallForm.{CallForm}
 use Rattle.pi_lowering.specs.declared.calls.CallForm.TheVariants.{Assignment}

@@ -15,7 +15,7 @@ use Rattle.pi_lowered.specs.Goals.{SlotGoals, SlotBranches, in_turn, either_of, 
 use Rattle.pi_lowered.specs.Sites.{Site, behind_exp}
 use Rattle.pi_lowered.specs.Written.{goal_of, any_of, arrow_in, branches_of, made}
 use Rattle.pi_lowering.proofs.HelperLemmas.{behind-both}
-use Rattle.pi_lowering.specs.Lowering.{IsAlone}
+use Rattle.pi_helpers.specs.Parts.{IsAlone}
 use Rattle.pi_lowering.specs.Joined.{closed, chosen, branches_onto, chosen_onto, IsBranch, AreBranches, AreConditions}
 use Rattle.pi_lowering.specs.declared.branches.Branch.{Branch}
 use Rattle.pi_lowering.specs.declared.branches.Branch.TheVariants.{Goal, Choice}

@@ -17,7 +17,8 @@ use Rattle.pi_names.specs.Texts.{places_of_branches}
 use Rattle.pi_lowered.specs.Sites.{Site, behind_site, behind_exp, helpers_in_branches}
 use Rattle.pi_lowered.specs.Written.{made, goal_of, all_of, branches_of}
 use Rattle.pi_lowered.specs.Helpers.{goal_helpers}
-use Rattle.pi_lowering.specs.Lowering.{With, IsValue, AreValues, AreGoals, IsAlone, value_of, by_place, values_of, goal_with, call_as_goal}
+use Rattle.pi_helpers.specs.Parts.{IsValue, AreValues, AreGoals, IsAlone}
+use Rattle.pi_lowering.specs.Lowering.{With, value_of, by_place, values_of, goal_with, call_as_goal}
 use Rattle.pi_lowering.specs.Joined.{closed, chosen, chosen_onto, branches_onto, AreBranches, AreConditions}
 use Rattle.pi_lowering.specs.Calls.{atom_tree}
 use Rattle.pi_lowering.specs.declared.calls.CallForm.{CallForm}

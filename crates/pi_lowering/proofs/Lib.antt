@@ -4,6 +4,7 @@ pub mod HelperLemmas
 pub mod CallLemmas
 pub mod GoalLemmas
 pub mod NeverLemmas
+pub mod LoopLemmas
 pub mod AssignLemmas
 pub mod BranchLemmas
 pub mod PartLemmas

@@ -24,7 +24,8 @@ use Rattle.pi_lowered.specs.Sites.{Site, helpers_in, helpers_in_all, behind_site
 use Rattle.pi_lowered.specs.Written.{made, parts, arguments, goal_of}
 use Rattle.pi_lowered.specs.Helpers.{value_helpers}
 use Rattle.pi_slots.proofs.ExpTrees.{if_then-is, if_else-is}
-use Rattle.pi_lowering.specs.Lowering.{With, IsValue, AreValues, AreGoals, IsAlone, value_of, by_place, values_of, value_with, call_as_value}
+use Rattle.pi_helpers.specs.Parts.{IsValue, AreValues, AreGoals, IsAlone}
+use Rattle.pi_lowering.specs.Lowering.{With, value_of, by_place, values_of, value_with, call_as_value}
 use Rattle.pi_lowering.specs.Calls.{collected_of, counted_of}
 use Rattle.pi_lowering.proofs.ValueLemmas.{value-as, put-none, put-parts, put-onto, put-applied, two-values, three-values, put-found, put-counted}
 use Rattle.pi_lowering.proofs.PartLemmas.{places_in}

@@ -15,7 +15,8 @@ use Rattle.pi_lowered.specs.Goals.{joined, indexed, indexed_by, SlotGoals}
 use Rattle.pi_lowered.specs.Sites.{Site, behind_exp, following_sites}
 use Rattle.pi_lowered.specs.Written.{made, parts, arguments, values_in, goal_of, all_of}
 use Rattle.pi_slots.proofs.FlatLemmas.{drop-next, flat-more, flat-not, flat-all}
-use Rattle.pi_lowering.specs.Lowering.{IsValue, AreValues, AreGoals, EndsCalls, value_of, by_place, flat_by, values_of}
+use Rattle.pi_helpers.specs.Parts.{IsValue, AreValues, AreGoals}
+use Rattle.pi_lowering.specs.Lowering.{EndsCalls, value_of, by_place, flat_by, values_of}
 use Rattle.pi_lowering.proofs.ValueLemmas.{value-as, put-indexed}
 
 pub count-exps : (es : List Exp) → exp_count (exps_of es) ≡ length es

@@ -11,7 +11,8 @@ use Rattle.pi_effects.specs.Indexing.{index_name}
 use Rattle.pi_lowered.specs.Sites.{Site}
 use Rattle.pi_lowered.specs.Written.{made}
 use Rattle.pi_lowered.specs.Goals.{SlotGoals, in_turn, no_value, indexed, found_by, all_found, all_counted}
-use Rattle.pi_lowering.specs.Lowering.{IsValue, AreValues, AreGoals, IsAlone, IsSlotted, value_of}
+use Rattle.pi_helpers.specs.Parts.{IsValue, AreValues, AreGoals, IsAlone, IsSlotted}
+use Rattle.pi_lowering.specs.Lowering.{value_of}
 use Rattle.pi_lowering.specs.Calls.{collected_of, counted_of}
 
 -- ---- the same by another name

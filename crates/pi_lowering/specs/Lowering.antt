@@ -17,33 +17,6 @@ use Rattle.pi_lowered.specs.Sites.{Site, goal_sites, value_sites}
 use Rattle.pi_lowered.specs.Written.{made, goals_in, values_in, parts, arguments}
 use Rattle.pi_lowered.specs.Helpers.{HelperParts, goal_call_helpers, value_call_helpers, goals_helpers, values_helpers, all_helpers}
 
--- goals, with the slots behind them
-pub record AreGoals (g : SlotGoals) (old new : List GoalTree) (ns : SlotNames) : Type 0 where
-  pub goals : new ≡ old ++ g.goals
-  pub names : ns ≡ g.names
-
--- goals as one goal
-pub record IsAlone (g : SlotGoals) (one : GoalTree) (ns : SlotNames) : Type 0 where
-  pub goal : one ≡ in_turn g.goals
-  pub names : ns ≡ g.names
-
--- a value's term behind its goals
-pub record IsValue (v : SlotValue) (old new : List GoalTree) (t : Tree) (ns : SlotNames) : Type 0 where
-  pub goals : new ≡ old ++ v.goals
-  pub tree : t ≡ v.tree
-  pub names : ns ≡ v.names
-
-pub record AreValues (vs : SlotValues) (old new : List GoalTree) (ts : List Tree) (ns : SlotNames) : Type 0 where
-  pub goals : new ≡ old ++ vs.goals
-  pub trees : ts ≡ vs.trees
-  pub names : ns ≡ vs.names
-
--- a value's slot behind its goals
-pub record IsSlotted (s : Slotted) (old new : List GoalTree) (k : ℕ) (ns : SlotNames) : Type 0 where
-  pub goals : new ≡ old ++ s.goals
-  pub slot : k ≡ s.place
-  pub names : ns ≡ s.names
-
 -- what is made of a part of a text, with the helpers of its loops behind those before
 pub record With (Is : Type 0) (old new : List CorePred) (hs : List PredTree) : Type 0 where
   pub is : Is

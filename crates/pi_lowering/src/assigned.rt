@@ -2,11 +2,11 @@
 ghost use Rattle.std.specs.Prelude.{[], IfOk};
 ghost use Rattle.pi_syntax.specs.ExpTree.{exp_tree};
 ghost use Rattle.pi_lowering.specs.Calls.{assigned_to};
-ghost use Rattle.pi_lowering.specs.Lowering.{AreGoals};
+ghost use Rattle.pi_helpers.specs.Parts.{AreGoals};
 
-use crate::joined::push_fail;
 use crate::slotted::push_item;
 use pi_core::CoreGoal;
+use pi_helpers::push_fail;
 use pi_slots::Slots;
 use pi_syntax::Exp;
 use pi_terms::Term;

@@ -3,8 +3,8 @@ ghost use Rattle.std.specs.Prelude.{◌≡◌, ◌∷◌, [], reverse, IfOk};
 ghost use Rattle.pi_lowered.specs.Goals.{either_of as either_tree};
 ghost use Rattle.pi_lowering.specs.Joined.{closed as closed_of, chosen as chosen_of};
 
-use crate::joined::{either_of, in_turn, one};
 use pi_core::CoreGoal;
+use pi_helpers::{either_of, in_turn, one};
 use std::alloc::{AllocError, Global};
 
 /// A branch of a disjunction: a goal, or an arrow's test and body, whose else part is what stands behind it.

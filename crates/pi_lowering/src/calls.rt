@@ -5,15 +5,16 @@ ghost use Rattle.pi_syntax.specs.ExpLists.{exps_of};
 ghost use Rattle.pi_meaning.specs.Names.{is_call};
 ghost use Rattle.pi_names.specs.Forms.{form_of};
 ghost use Rattle.pi_sites.specs.SiteOf.{site_of};
-ghost use Rattle.pi_lowering.specs.Lowering.{With, AreGoals, IsValue, call_as_goal, call_as_value, call_goal_helpers, call_value_helpers};
+ghost use Rattle.pi_helpers.specs.Parts.{AreGoals, IsValue};
+ghost use Rattle.pi_lowering.specs.Lowering.{With, call_as_goal, call_as_value, call_goal_helpers, call_value_helpers};
 ghost use Rattle.pi_lowering.specs.Calls.{HasCount, IsForm, IsTermForm, atom_tree, term_form, collected_of, counted_of};
 
 use crate::assigned::push_assigned;
 use crate::goals::{alone, push_goal};
-use crate::joined::{in_turn, push_fail};
 use crate::slotted::{applied, slotted};
 use crate::values::{value, values};
 use pi_core::{CoreGoal, CorePred};
+use pi_helpers::{in_turn, push_fail};
 use pi_sites::Site;
 use pi_slots::Slots;
 use pi_syntax::Exp;

@@ -7,13 +7,15 @@ ghost use Rattle.pi_slots.specs.Branches.{branches_in};
 ghost use Rattle.pi_lowered.specs.Written.{goal_of, all_of};
 ghost use Rattle.pi_lowered.specs.Helpers.{goal_helpers, conjunct_helpers, branch_helpers};
 ghost use Rattle.pi_sites.specs.SiteOf.{site_of};
-ghost use Rattle.pi_lowering.specs.Lowering.{With, AreGoals, IsAlone};
+ghost use Rattle.pi_helpers.specs.Parts.{AreGoals, IsAlone};
+ghost use Rattle.pi_lowering.specs.Lowering.{With};
 ghost use Rattle.pi_lowering.specs.Joined.{chosen as chosen_of, IsBranch, AreBranches, AreConditions};
 
 use crate::branches::{Branch, Condition, chosen, closed};
 use crate::calls::{atom_goal, push_call};
-use crate::joined::{in_turn, push_fail};
+use crate::loops::{do_loop, turns_of, while_loop};
 use pi_core::{CoreGoal, CorePred};
+use pi_helpers::{do_helper, in_turn, loop_slots, push_fail, push_loop, while_helper};
 use pi_sites::Site;
 use pi_slots::Slots;
 use pi_syntax::Exp;
@@ -115,8 +117,48 @@ pub(crate) fn push_goal<'a>(
             Ok(())
         }
         Exp::Foreach(_, _) => Err(AllocError),
-        Exp::While(_, _) => Err(AllocError),
-        Exp::DoWhile(_, _) => Err(AllocError),
+        Exp::While(test, body) => {
+            let whole = while_loop(alloc, site, test, body)?;
+            let mut inner = loop_slots(alloc, &whole)?;
+            let turns = turns_of(alloc, site, &whole, &inner)?;
+            let mut tests = Vec::new(alloc);
+            push_goal(alloc, &turns, test, &mut inner, &mut tests, helpers)?;
+            let behind = turns.behind(alloc, test)?;
+            let mut turn = Vec::new(alloc);
+            push_goal(alloc, &behind, body, &mut inner, &mut turn, helpers)?;
+            let helper = while_helper(alloc, &whole, tests, turn, &inner)?;
+            helpers.push(helper)?;
+            push_loop(
+                alloc,
+                site.filled,
+                site.before.as_slice(),
+                &whole,
+                slots,
+                goals,
+            )?;
+            Ok(())
+        }
+        Exp::DoWhile(body, test) => {
+            let whole = do_loop(alloc, site, body, test)?;
+            let mut inner = loop_slots(alloc, &whole)?;
+            let turns = turns_of(alloc, site, &whole, &inner)?;
+            let mut turn = Vec::new(alloc);
+            push_goal(alloc, &turns, body, &mut inner, &mut turn, helpers)?;
+            let behind = turns.behind(alloc, body)?;
+            let mut tests = Vec::new(alloc);
+            push_goal(alloc, &behind, test, &mut inner, &mut tests, helpers)?;
+            let helper = do_helper(alloc, &whole, turn, tests, &inner)?;
+            helpers.push(helper)?;
+            push_loop(
+                alloc,
+                site.filled,
+                site.before.as_slice(),
+                &whole,
+                slots,
+                goals,
+            )?;
+            Ok(())
+        }
     }
 }
 

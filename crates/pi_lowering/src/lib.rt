@@ -5,10 +5,10 @@ mod assigned;
 mod branches;
 mod calls;
 mod goals;
-mod joined;
+mod loops;
 mod slotted;
 mod values;
 
 pub use goals::lower_goal;
-pub use joined::in_turn;
+pub use pi_helpers::in_turn;
 pub use values::lower_value;

@@ -4,7 +4,7 @@ ghost use Rattle.pi_core.specs.GoalTree.{GoalTree};
 ghost use Rattle.pi_effects.specs.Indexing.{index_name};
 ghost use Rattle.pi_lowered.specs.Slots.{with_value};
 ghost use Rattle.pi_lowered.specs.Values.{applied as applied_of, slotted as slotted_of, first_item as first_item_of};
-ghost use Rattle.pi_lowering.specs.Lowering.{IsValue, IsSlotted};
+ghost use Rattle.pi_helpers.specs.Parts.{IsValue, IsSlotted};
 
 use pi_core::CoreGoal;
 use pi_slots::Slots;

@@ -12,12 +12,13 @@ ghost use Rattle.pi_lowered.specs.Sites.{following_sites};
 ghost use Rattle.pi_lowered.specs.Written.{made as made_of, values_in};
 ghost use Rattle.pi_lowered.specs.Helpers.{value_helpers, all_helpers};
 ghost use Rattle.pi_sites.specs.SiteOf.{site_of};
-ghost use Rattle.pi_lowering.specs.Lowering.{With, IsValue, AreValues, EndsCalls, value_of, by_place, flat_by, values_of};
+ghost use Rattle.pi_helpers.specs.Parts.{IsValue, AreValues};
+ghost use Rattle.pi_lowering.specs.Lowering.{With, EndsCalls, value_of, by_place, flat_by, values_of};
 
 use crate::calls::call_value;
-use crate::joined::{push_fail, push_filling};
 use crate::slotted::{applied_to_three, applied_to_two};
 use pi_core::{CoreGoal, CorePred};
+use pi_helpers::{push_fail, push_filling};
 use pi_sites::Site;
 use pi_slots::{Slots, is_flat, list_onto, slot_term};
 use pi_syntax::Exp;

@@ -4,7 +4,7 @@ ghost use Rattle.std.specs.Prelude.{◌≡◌, ◌+◌, IfOk};
 use std::alloc::AllocError;
 
 /// How many helpers there are together. For more than 64 bits hold memory is wanted.
-pub(crate) fn together(some: u64, more: u64) -> Result<u64, AllocError>
+pub fn together(some: u64, more: u64) -> Result<u64, AllocError>
     ensures { IfOk result (λ all. all ≡ some + more) }
 {
     match some.checked_add(more) {

@@ -1,6 +1,6 @@
 -- Each kind of goal and expression by its lemma.
 use Rattle.std.specs.Prelude.{◌&&◌, map}
-use Rattle.std.proofs.Common.{◌≡◌, ◌+◌, ◌++◌, length, drop, refl, sym, ◌∙◌, ap, rules}
+use Rattle.std.proofs.Common.{◌≡◌, ◌+◌, [], ◌∷◌, ◌++◌, length, drop, refl, sym, ◌∙◌, ap, rules}
 use Rattle.pi_core.specs.GoalTree.{GoalTree}
 use Rattle.pi_core.specs.CoreTree.{pred_tree}
 use Rattle.pi_syntax.specs.ExpTree.{exp_tree}
@@ -9,12 +9,16 @@ use Rattle.pi_syntax.specs.declared.exp.Exp as e
 use Rattle.pi_names.specs.Texts.{places, places_all, places_of_branches}
 use Rattle.pi_lowered.specs.Values.{is_flat}
 use Rattle.pi_lowered.specs.Goals.{begins_flat, indexed_by}
-use Rattle.pi_lowered.specs.Sites.{helpers_in_all, helpers_in_branches, behind_site, behind_exp}
-use Rattle.pi_lowered.specs.Written.{made, goal_of, all_of}
+use Rattle.pi_lowered.specs.Sites.{helpers_in_all, helpers_in_branches, behind_site, behind_exp, inside}
+use Rattle.pi_lowered.specs.Written.{made, goal_of, all_of, while_loop, do_loop}
 use Rattle.pi_lowered.specs.Helpers.{value_helpers, all_helpers, goal_helpers, conjunct_helpers, branch_helpers}
 use Rattle.pi_slots.specs.Branches.{branches_in}
 use Rattle.pi_sites.specs.SiteOf.{site_of}
-use Rattle.pi_sites.proofs.NowTrees.{atom-now, onto-now, list-now, array-now, call-now, index-now, range-now, range_by-now, and-now, or-now, arrow-now, if_then-now, if_else-now}
+use Rattle.pi_slots.specs.Indexed.{names_in}
+use Rattle.pi_helpers.specs.Helpers.{loop_of}
+use Rattle.pi_lowered.specs.Loops.{while_helper, do_helper}
+use Rattle.pi_lowering.proofs.LoopLemmas.{put-while, put-do, while-shape, do-shape, helpers-while, helpers-do, pushed-helper}
+use Rattle.pi_sites.proofs.NowTrees.{while-now, do-now, atom-now, onto-now, list-now, array-now, call-now, index-now, range-now, range_by-now, and-now, or-now, arrow-now, if_then-now, if_else-now}
 use Rattle.pi_lowering.specs.Lowering.{call_as_goal, call_as_value, call_goal_helpers, call_value_helpers, values_of}
 use Rattle.pi_lowering.proofs.ValueLemmas.{value-as, goals-as}
 use Rattle.pi_lowering.proofs.PartLemmas.{places_in, goals-none, all-more, all-end, place-flat, place-made, values-none, values-step, values-last, indexed-none, indexed-more, indexed-end}
@@ -354,6 +358,22 @@ pub goals::push_goal-returns-in_ok-push_fail-in-Arrow : goal.goals::push_goal-re
 goals::push_goal-returns-in_ok-push_fail-in-Arrow t c = record {
   is = put-never (goal_of (site_of c.args.site.now) (exp_tree c.args.exp.now) c.args.slots.now) c.args.slots.now c.args.slots.now c.args.goals.now.items c.push_fail-in-Arrow.new.goals.items (never-arrow (site_of c.args.site.now) (exp_tree c.args.exp.now) (exp_tree c.deref-in-Arrow.result.now) (exp_tree c.deref-in-Arrow-3.result.now) c.args.slots.now (arrow-now c.args.exp.now c.in-Arrow.test c.in-Arrow.body c.deref-in-Arrow.result.now c.deref-in-Arrow-3.result.now c.in-Arrow.is c.deref-in-Arrow.ensures c.deref-in-Arrow-3.ensures)) c.in_ok-push_fail-in-Arrow.ensures refl;
   helpers = two-helpers (map pred_tree c.args.helpers.now.items) (map pred_tree c.push_goal-in-Arrow.new.helpers.items) (map pred_tree c.push_goal-in-Arrow-2.new.helpers.items) (goal_helpers (site_of c.args.site.now) (exp_tree c.deref-in-Arrow.result.now)) (goal_helpers (site_of c.in_ok-behind-in-Arrow.behind) (exp_tree c.deref-in-Arrow-3.result.now)) (goal_helpers (site_of c.args.site.now) (exp_tree c.args.exp.now)) (helpers-arrow (site_of c.args.site.now) (site_of c.in_ok-behind-in-Arrow.behind) (exp_tree c.args.exp.now) (exp_tree c.deref-in-Arrow.result.now) (exp_tree c.deref-in-Arrow-3.result.now) (arrow-now c.args.exp.now c.in-Arrow.test c.in-Arrow.body c.deref-in-Arrow.result.now c.deref-in-Arrow-3.result.now c.in-Arrow.is c.deref-in-Arrow.ensures c.deref-in-Arrow-3.ensures) (c.in_ok-behind-in-Arrow.ensures ∙ ap (λ z. behind_exp (site_of c.args.site.now) (exp_tree z)) (c.deref-in-Arrow-2.ensures ∙ sym c.deref-in-Arrow.ensures))) c.in_ok-push_goal-in-Arrow.ensures.helpers c.in_ok-push_goal-in-Arrow-2.ensures.helpers;
+}
+
+pub goals::push_goal-returns-in_ok-push_loop-in-While : goal.goals::push_goal-returns-in_ok-push_loop-in-While
+goals::push_goal-returns-in_ok-push_loop-in-While t c = record {
+  is = put-while (site_of c.args.site.now) (names_in c.as_slice-in-While.result.now) (exp_tree c.args.exp.now) (exp_tree c.deref-in-While-3.result.now) (exp_tree c.deref-in-While-5.result.now) (loop_of c.in_ok-whole-in-While.whole) c.args.slots.now c.push_loop.new.slots c.args.goals.now.items c.push_loop.new.goals.items (while-now c.args.exp.now c.in-While.test c.in-While.body c.deref-in-While-3.result.now c.deref-in-While-5.result.now c.in-While.is c.deref-in-While-3.ensures c.deref-in-While-5.ensures) (ap names_in c.as_slice-in-While.ensures.value) (c.in_ok-whole-in-While.ensures ∙ (ap (λ z. while_loop (site_of c.args.site.now) (exp_tree z) (exp_tree c.deref-in-While-2.result.now)) (c.deref-in-While.ensures ∙ sym c.deref-in-While-3.ensures) ∙ ap (λ z. while_loop (site_of c.args.site.now) (exp_tree c.deref-in-While-3.result.now) (exp_tree z)) (c.deref-in-While-2.ensures ∙ sym c.deref-in-While-5.ensures))) c.in_ok-push_loop-in-While.ensures;
+  helpers = three-helpers (map pred_tree c.args.helpers.now.items) (map pred_tree c.push_goal-in-While.new.helpers.items) (map pred_tree c.push_goal-in-While-2.new.helpers.items) (map pred_tree c.push-in-While.new.self.items) (goal_helpers (site_of c.in_ok-turns-in-While.turns) (exp_tree c.deref-in-While-3.result.now)) (goal_helpers (site_of c.in_ok-behind-in-While.behind) (exp_tree c.deref-in-While-5.result.now)) ((while_helper (loop_of c.in_ok-whole-in-While.whole) (goal_of (site_of c.in_ok-turns-in-While.turns) (exp_tree c.deref-in-While-3.result.now)) (goal_of (site_of c.in_ok-behind-in-While.behind) (exp_tree c.deref-in-While-5.result.now))) ∷ []) (goal_helpers (site_of c.args.site.now) (exp_tree c.args.exp.now))
+      (helpers-while (site_of c.args.site.now) (site_of c.in_ok-turns-in-While.turns) (site_of c.in_ok-behind-in-While.behind) (exp_tree c.args.exp.now) (exp_tree c.deref-in-While-3.result.now) (exp_tree c.deref-in-While-5.result.now) (loop_of c.in_ok-whole-in-While.whole) (while_helper (loop_of c.in_ok-whole-in-While.whole) (goal_of (site_of c.in_ok-turns-in-While.turns) (exp_tree c.deref-in-While-3.result.now)) (goal_of (site_of c.in_ok-behind-in-While.behind) (exp_tree c.deref-in-While-5.result.now))) (while-now c.args.exp.now c.in-While.test c.in-While.body c.deref-in-While-3.result.now c.deref-in-While-5.result.now c.in-While.is c.deref-in-While-3.ensures c.deref-in-While-5.ensures) (c.in_ok-whole-in-While.ensures ∙ (ap (λ z. while_loop (site_of c.args.site.now) (exp_tree z) (exp_tree c.deref-in-While-2.result.now)) (c.deref-in-While.ensures ∙ sym c.deref-in-While-3.ensures) ∙ ap (λ z. while_loop (site_of c.args.site.now) (exp_tree c.deref-in-While-3.result.now) (exp_tree z)) (c.deref-in-While-2.ensures ∙ sym c.deref-in-While-5.ensures))) (c.in_ok-turns-in-While.ensures ∙ ap (λ ms. inside (site_of c.args.site.now) (length ms) (loop_of c.in_ok-whole-in-While.whole).shared) c.in_ok-inner-in-While.ensures) (c.in_ok-behind-in-While.ensures ∙ ap (λ z. behind_exp (site_of c.in_ok-turns-in-While.turns) (exp_tree z)) (c.deref-in-While-4.ensures ∙ sym c.deref-in-While-3.ensures)) refl)
+      c.in_ok-push_goal-in-While.ensures.helpers c.in_ok-push_goal-in-While-2.ensures.helpers (pushed-helper c.push_goal-in-While-2.new.helpers.items c.push-in-While.new.self.items c.in_ok-helper-in-While.helper (while_helper (loop_of c.in_ok-whole-in-While.whole) (goal_of (site_of c.in_ok-turns-in-While.turns) (exp_tree c.deref-in-While-3.result.now)) (goal_of (site_of c.in_ok-behind-in-While.behind) (exp_tree c.deref-in-While-5.result.now))) c.in_ok-push-in-While.ensures.items (c.in_ok-helper-in-While.ensures ∙ while-shape (loop_of c.in_ok-whole-in-While.whole) (goal_of (site_of c.in_ok-turns-in-While.turns) (exp_tree c.deref-in-While-3.result.now)) (goal_of (site_of c.in_ok-behind-in-While.behind) (exp_tree c.deref-in-While-5.result.now)) c.new-tests.result.items c.new-turn.result.items c.push_goal-in-While.new.goals.items c.push_goal-in-While-2.new.goals.items c.in_ok-inner-in-While.inner c.push_goal-in-While.new.slots c.push_goal-in-While-2.new.slots c.in_ok-inner-in-While.ensures c.new-tests.ensures.items c.in_ok-push_goal-in-While.ensures.is c.new-turn.ensures.items c.in_ok-push_goal-in-While-2.ensures.is));
+}
+
+pub goals::push_goal-returns-in_ok-push_loop-in-DoWhile : goal.goals::push_goal-returns-in_ok-push_loop-in-DoWhile
+goals::push_goal-returns-in_ok-push_loop-in-DoWhile t c = record {
+  is = put-do (site_of c.args.site.now) (names_in c.as_slice-in-DoWhile.result.now) (exp_tree c.args.exp.now) (exp_tree c.deref-in-DoWhile-3.result.now) (exp_tree c.deref-in-DoWhile-5.result.now) (loop_of c.in_ok-whole-in-DoWhile.whole) c.args.slots.now c.push_loop-in-DoWhile.new.slots c.args.goals.now.items c.push_loop-in-DoWhile.new.goals.items (do-now c.args.exp.now c.in-DoWhile.body c.in-DoWhile.test c.deref-in-DoWhile-3.result.now c.deref-in-DoWhile-5.result.now c.in-DoWhile.is c.deref-in-DoWhile-3.ensures c.deref-in-DoWhile-5.ensures) (ap names_in c.as_slice-in-DoWhile.ensures.value) (c.in_ok-whole-in-DoWhile.ensures ∙ (ap (λ z. do_loop (site_of c.args.site.now) (exp_tree z) (exp_tree c.deref-in-DoWhile-2.result.now)) (c.deref-in-DoWhile.ensures ∙ sym c.deref-in-DoWhile-3.ensures) ∙ ap (λ z. do_loop (site_of c.args.site.now) (exp_tree c.deref-in-DoWhile-3.result.now) (exp_tree z)) (c.deref-in-DoWhile-2.ensures ∙ sym c.deref-in-DoWhile-5.ensures))) c.in_ok-push_loop-in-DoWhile.ensures;
+  helpers = three-helpers (map pred_tree c.args.helpers.now.items) (map pred_tree c.push_goal-in-DoWhile.new.helpers.items) (map pred_tree c.push_goal-in-DoWhile-2.new.helpers.items) (map pred_tree c.push-in-DoWhile.new.self.items) (goal_helpers (site_of c.in_ok-turns-in-DoWhile.turns) (exp_tree c.deref-in-DoWhile-3.result.now)) (goal_helpers (site_of c.in_ok-behind-in-DoWhile.behind) (exp_tree c.deref-in-DoWhile-5.result.now)) ((do_helper (loop_of c.in_ok-whole-in-DoWhile.whole) (goal_of (site_of c.in_ok-turns-in-DoWhile.turns) (exp_tree c.deref-in-DoWhile-3.result.now)) (goal_of (site_of c.in_ok-behind-in-DoWhile.behind) (exp_tree c.deref-in-DoWhile-5.result.now))) ∷ []) (goal_helpers (site_of c.args.site.now) (exp_tree c.args.exp.now))
+      (helpers-do (site_of c.args.site.now) (site_of c.in_ok-turns-in-DoWhile.turns) (site_of c.in_ok-behind-in-DoWhile.behind) (exp_tree c.args.exp.now) (exp_tree c.deref-in-DoWhile-3.result.now) (exp_tree c.deref-in-DoWhile-5.result.now) (loop_of c.in_ok-whole-in-DoWhile.whole) (do_helper (loop_of c.in_ok-whole-in-DoWhile.whole) (goal_of (site_of c.in_ok-turns-in-DoWhile.turns) (exp_tree c.deref-in-DoWhile-3.result.now)) (goal_of (site_of c.in_ok-behind-in-DoWhile.behind) (exp_tree c.deref-in-DoWhile-5.result.now))) (do-now c.args.exp.now c.in-DoWhile.body c.in-DoWhile.test c.deref-in-DoWhile-3.result.now c.deref-in-DoWhile-5.result.now c.in-DoWhile.is c.deref-in-DoWhile-3.ensures c.deref-in-DoWhile-5.ensures) (c.in_ok-whole-in-DoWhile.ensures ∙ (ap (λ z. do_loop (site_of c.args.site.now) (exp_tree z) (exp_tree c.deref-in-DoWhile-2.result.now)) (c.deref-in-DoWhile.ensures ∙ sym c.deref-in-DoWhile-3.ensures) ∙ ap (λ z. do_loop (site_of c.args.site.now) (exp_tree c.deref-in-DoWhile-3.result.now) (exp_tree z)) (c.deref-in-DoWhile-2.ensures ∙ sym c.deref-in-DoWhile-5.ensures))) (c.in_ok-turns-in-DoWhile.ensures ∙ ap (λ ms. inside (site_of c.args.site.now) (length ms) (loop_of c.in_ok-whole-in-DoWhile.whole).shared) c.in_ok-inner-in-DoWhile.ensures) (c.in_ok-behind-in-DoWhile.ensures ∙ ap (λ z. behind_exp (site_of c.in_ok-turns-in-DoWhile.turns) (exp_tree z)) (c.deref-in-DoWhile-4.ensures ∙ sym c.deref-in-DoWhile-3.ensures)) refl)
+      c.in_ok-push_goal-in-DoWhile.ensures.helpers c.in_ok-push_goal-in-DoWhile-2.ensures.helpers (pushed-helper c.push_goal-in-DoWhile-2.new.helpers.items c.push-in-DoWhile.new.self.items c.in_ok-helper-in-DoWhile.helper (do_helper (loop_of c.in_ok-whole-in-DoWhile.whole) (goal_of (site_of c.in_ok-turns-in-DoWhile.turns) (exp_tree c.deref-in-DoWhile-3.result.now)) (goal_of (site_of c.in_ok-behind-in-DoWhile.behind) (exp_tree c.deref-in-DoWhile-5.result.now))) c.in_ok-push-in-DoWhile.ensures.items (c.in_ok-helper-in-DoWhile.ensures ∙ do-shape (loop_of c.in_ok-whole-in-DoWhile.whole) (goal_of (site_of c.in_ok-turns-in-DoWhile.turns) (exp_tree c.deref-in-DoWhile-3.result.now)) (goal_of (site_of c.in_ok-behind-in-DoWhile.behind) (exp_tree c.deref-in-DoWhile-5.result.now)) c.new-turn-in-DoWhile.result.items c.new-tests-in-DoWhile.result.items c.push_goal-in-DoWhile.new.goals.items c.push_goal-in-DoWhile-2.new.goals.items c.in_ok-inner-in-DoWhile.inner c.push_goal-in-DoWhile.new.slots c.push_goal-in-DoWhile-2.new.slots c.in_ok-inner-in-DoWhile.ensures c.new-turn-in-DoWhile.ensures.items c.in_ok-push_goal-in-DoWhile.ensures.is c.new-tests-in-DoWhile.ensures.items c.in_ok-push_goal-in-DoWhile-2.ensures.is));
 }
 
 pub calls::push_call-returns-in_ok-push-in-Negation : goal.calls::push_call-returns-in_ok-push-in-Negation

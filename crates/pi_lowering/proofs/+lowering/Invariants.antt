@@ -7,7 +7,8 @@ use Rattle.pi_lowered.specs.Written.{all_of}
 use Rattle.pi_lowered.specs.Helpers.{all_helpers, conjunct_helpers, branch_helpers}
 use Rattle.pi_slots.specs.Branches.{branches_in}
 use Rattle.pi_sites.specs.SiteOf.{site_of}
-use Rattle.pi_lowering.specs.Lowering.{IsValue, values_of}
+use Rattle.pi_helpers.specs.Parts.{IsValue}
+use Rattle.pi_lowering.specs.Lowering.{values_of}
 use Rattle.pi_lowering.proofs.PartLemmas.{places_in, ValuesTo, GoalsTo, IndexedTo}
 use Rattle.pi_lowering.proofs.HelperLemmas.{Going}
 use Rattle.pi_lowering.proofs.BranchLemmas.{BranchesTo, ConditionsTo}
