@@ -5,7 +5,7 @@ use Rattle.std.specs.Borrow.{Bor}
 use Rattle.std.specs.Str.{bytes_eq}
 use Rattle.std.proofs.lemmas.Bool.{cond-true, cond-false, eqb-true}
 use Rattle.std.proofs.lemmas.List.{append-nil, drop_all}
-use Rattle.pi_syntax.specs.ExpTree.{ExpTree, ExpTrees, call, var, exp, no_exps, one_exp, exp_tree}
+use Rattle.pi_syntax.specs.ExpTree.{ExpTree, ExpTrees, call, var, exp, one_exp, exp_tree}
 use Rattle.pi_syntax.specs.ExpLists.{exps_of}
 use Rattle.pi_syntax.specs.declared.exp.Exp.{Exp}
 use Rattle.pi_names.specs.Texts.{Names, assigned, assigned_all, assigned_in_branches, patterns_of, without, the_name, variable_first}

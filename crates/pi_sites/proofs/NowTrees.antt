@@ -3,7 +3,7 @@ use Rattle.std.proofs.Common.{◌≡◌, ℕ, Bool, List, None, Some, refl, sym,
 use Rattle.std.specs.Prelude.{Vec, Option}
 use Rattle.std.specs.declared.alloc.Global.{Global}
 use Rattle.std.specs.declared.boxed.Box.{Box}
-use Rattle.pi_syntax.specs.ExpTree.{ExpTree, ExpTrees, no_exps, exp_tree, held_tree}
+use Rattle.pi_syntax.specs.ExpTree.{ExpTree, ExpTrees, no_exps, exp_tree}
 use Rattle.pi_syntax.specs.ExpLists.{exps_of}
 use Rattle.pi_syntax.specs.declared.exp.Exp as e
 use Rattle.pi_syntax.specs.declared.exp.Exp.{Exp}
