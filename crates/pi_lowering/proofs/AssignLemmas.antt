@@ -1,5 +1,5 @@
 -- `X := E` by the value that is assigned and the slot that it goes into.
-use Rattle.std.proofs.Common.{◌≡◌, ℕ, true, List, [], ◌∷◌, ◌++◌, length, refl, sym, ◌∙◌, ap, append_assoc, get_or}
+use Rattle.std.proofs.Common.{◌≡◌, ℕ, true, List, [], ◌∷◌, ◌++◌, refl, sym, ◌∙◌, ap, append_assoc, get_or}
 use Rattle.std.specs.Prelude.{Option, Some, None}
 use Rattle.pi_terms.specs.Tree.{Tree}
 use Rattle.pi_effects.specs.Indexing.{index_name}
@@ -10,7 +10,7 @@ use Rattle.pi_syntax.specs.declared.exp.Exp.{Exp}
 use Rattle.pi_names.specs.Texts.{variable_first}
 use Rattle.pi_lowered.specs.Slots.{SlotNames, slot_for, slots_for}
 use Rattle.pi_lowered.specs.Values.{SlotValue, first_item}
-use Rattle.pi_lowered.specs.Goals.{SlotGoals, assigned}
+use Rattle.pi_lowered.specs.Goals.{assigned}
 use Rattle.pi_lowered.specs.Sites.{Site, behind_exp}
 use Rattle.pi_helpers.specs.Parts.{IsValue, AreGoals}
 use Rattle.pi_lowering.specs.Lowering.{value_of, by_place, call_as_goal}

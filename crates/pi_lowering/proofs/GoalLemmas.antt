@@ -1,5 +1,5 @@
 -- What a goal comes to, by its kind, and a call by its form.
-use Rattle.std.proofs.Common.{◌≡◌, ℕ, true, false, List, [], ◌∷◌, ◌++◌, length, get_or, None, Some, refl, sym, ◌∙◌, ap, append_assoc, arith}
+use Rattle.std.proofs.Common.{◌≡◌, ℕ, true, false, List, [], ◌∷◌, ◌++◌, get_or, refl, sym, ◌∙◌, ap, append_assoc}
 use Rattle.std.specs.Prelude.{map, IfOk, Result, Ok, Err}
 use Rattle.pi_core.specs.CoreTree.{pred_tree}
 use Rattle.pi_core.specs.declared.core_program.CorePred.{CorePred}

@@ -1,12 +1,8 @@
 -- A branch before those behind it.
-use Rattle.std.proofs.Common.{◌≡◌, ℕ, suc, ◌≢◌, Bool, true, false, cond, List, [], ◌∷◌, ◌++◌, length, reverse, refl, sym, ◌∙◌, ap, arith}
-use Rattle.std.proofs.lemmas.Bool.{cond-true, cond-false}
-use Rattle.std.proofs.lemmas.List.{append-nil, reverse-append, length-append}
-use Rattle.std.specs.Prelude.{nat_lt, codes}
-use Rattle.pi_terms.specs.Tree.{Tree, Trees}
-use Rattle.pi_core.specs.GoalTree.{GoalTree, goals_of, if_else}
-use Rattle.pi_lowered.specs.Values.{filling, evaluating}
-use Rattle.pi_lowered.specs.Goals.{in_turn, either_of}
+use Rattle.std.proofs.Common.{◌≡◌, List, [], ◌∷◌, ◌++◌, reverse, sym, ◌∙◌, ap}
+use Rattle.std.proofs.lemmas.List.{reverse-append}
+use Rattle.pi_core.specs.GoalTree.{GoalTree, if_else}
+use Rattle.pi_lowered.specs.Goals.{either_of}
 use Rattle.pi_lowering.specs.Joined.{closed}
 use Rattle.pi_lowering.specs.declared.branches.Branch.{Branch}
 use Rattle.pi_lowering.specs.declared.branches.Branch.TheVariants.{Goal, Choice}

@@ -18,7 +18,7 @@ use Rattle.pi_names.specs.Terms.{items_onto}
 use Rattle.pi_names.specs.Texts.{places, places_all}
 use Rattle.pi_names.specs.Forms.{is_find_all, is_count_all}
 use Rattle.pi_lowered.specs.Slots.{SlotNames}
-use Rattle.pi_lowered.specs.Values.{is_flat, SlotValue, value_of_parts, value_onto, applied, no_values, before_values}
+use Rattle.pi_lowered.specs.Values.{is_flat, SlotValue, value_onto, applied, no_values, before_values}
 use Rattle.pi_lowered.specs.Goals.{no_value, found_by, indexed_by, begins_flat}
 use Rattle.pi_lowered.specs.Sites.{Site, helpers_in, helpers_in_all, behind_site, behind_exp}
 use Rattle.pi_lowered.specs.Written.{made, parts, arguments, goal_of}

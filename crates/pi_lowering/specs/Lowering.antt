@@ -1,7 +1,5 @@
 -- What a function that lowers does: it puts goals behind those that stand before, and leaves the slots that there are then; and it puts the helpers of loops behind those before.
 use Rattle.std.specs.Prelude.{◌≡◌, ℕ, ◌≤◌, ◌<◌, Bool, true, false, cond, List, ◌++◌, length, map, drop, Option}
-use Rattle.pi_terms.specs.Tree.{Tree}
-use Rattle.pi_core.specs.GoalTree.{GoalTree}
 use Rattle.pi_core.specs.CoreTree.{PredTree, pred_tree}
 use Rattle.pi_core.specs.declared.core_program.CorePred.{CorePred}
 use Rattle.pi_syntax.specs.ExpTree.{ExpTree, ExpTrees}
@@ -11,8 +9,8 @@ use Rattle.pi_names.specs.Texts.{variable_first}
 use Rattle.pi_names.specs.Forms.{Form, form_of, is_find_all}
 use Rattle.pi_syntax.specs.declared.exp.Exp.{Exp}
 use Rattle.pi_lowered.specs.Slots.{SlotNames}
-use Rattle.pi_lowered.specs.Values.{are_flat, SlotValue, SlotValues, Slotted, slot_term, as_it_stands, filled_before, last_value, value_by}
-use Rattle.pi_lowered.specs.Goals.{SlotGoals, SlotParts, in_turn, call_goals, call_value}
+use Rattle.pi_lowered.specs.Values.{are_flat, SlotValue, SlotValues, slot_term, as_it_stands, filled_before, last_value, value_by}
+use Rattle.pi_lowered.specs.Goals.{SlotGoals, SlotParts, call_goals, call_value}
 use Rattle.pi_lowered.specs.Sites.{Site, goal_sites, value_sites}
 use Rattle.pi_lowered.specs.Written.{made, goals_in, values_in, parts, arguments}
 use Rattle.pi_lowered.specs.Helpers.{HelperParts, goal_call_helpers, value_call_helpers, goals_helpers, values_helpers, all_helpers}
