@@ -1,0 +1,9 @@
+pub mod WaitingLemmas
+pub mod PlaceLemmas
+pub mod ReadLemmas
+pub mod StoreLemmas
+pub mod TakeLemmas
+pub mod LeaveLemmas
+pub mod LoopLemmas
+pub mod TurnLemmas
+pub mod EndLemmas

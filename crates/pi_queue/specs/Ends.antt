@@ -1,0 +1,54 @@
+-- How a propagation ends, by the runs that lead there. (Own.)
+use Rattle.std.specs.Prelude.{◌≡◌, ◌⊎◌, ℕ, zero, suc, ◌≤◌, Bool, true, false, List, [], ◌∷◌, ◌++◌, Result, Ok, Err, ⊤}
+use Rattle.pi_answers.specs.declared.log.Work.{Work}
+use Rattle.pi_states.specs.State.{State}
+use Rattle.pi_propagation.specs.Runs.{Runs, HasRun, work_of}
+use Rattle.pi_propagation.specs.declared.stop.PropStop.{PropStop}
+use Rattle.pi_queue.specs.Leaving.{IsNarrower}
+use Rattle.pi_queue.specs.Turn.{IsFailure}
+
+-- the numbers below n, ascending
+unfoldable pub numbers_below : ℕ → List ℕ
+numbers_below zero = []
+numbers_below (suc n) = numbers_below n ++ n ∷ []
+
+-- none is due any more, and the work counted is just the runs
+pub record IsDone (s : State) (due : List ℕ) (old new : Work) (r : State) : Type 0 where
+  pub many : ℕ
+  pub runs : Runs s due many r []
+  pub counted : HasRun many old new
+
+-- behind some runs that of the constraint that waited longest fails, and the work counted is just these
+pub record HasFailed (s : State) (due : List ℕ) (old new : Work) : Type 0 where
+  pub many : ℕ
+  pub reached : State
+  pub first : ℕ
+  pub rest : List ℕ
+  pub runs : Runs s due many reached (first ∷ rest)
+  pub failure : IsFailure reached first
+  pub counted : HasRun (suc many) old new
+
+-- Behind some runs a constraint is due and the work has just reached its limit, where it was within it. The work counted is just these runs.
+pub record IsSpent (s : State) (due : List ℕ) (limit : ℕ) (old new : Work) (r : State) : Type 0 where
+  pub many : ℕ
+  pub first : ℕ
+  pub rest : List ℕ
+  pub runs : Runs s due many r (first ∷ rest)
+  pub counted : HasRun many old new
+  pub spent : work_of old ≤ limit → work_of new ≡ limit
+
+-- some runs were made, and perhaps a part of one more
+pub record IsUnderWay (s : State) (due : List ℕ) (old new : Work) (r : State) : Type 0 where
+  pub many : ℕ
+  pub reached : State
+  pub now : List ℕ
+  pub runs : Runs s due many reached now
+  pub narrower : IsNarrower reached r
+  pub counted : HasRun many old new ⊎ (HasRun (suc many) old new × (now ≡ [] → ⊥))
+
+-- what a propagation makes of a state in which these constraints are due, and of the work, by its answer
+abbrev pub Ends : State → List ℕ → ℕ → Work → Work → State → Result Bool PropStop → Type 0
+Ends s due limit old new r (Ok true) = IsDone s due old new r
+Ends s due limit old new r (Ok false) = HasFailed s due old new
+Ends s due limit old new r (Err PropStop.WorkSpent) = IsSpent s due limit old new r
+Ends s due limit old new r (Err PropStop.Memory) = ⊤

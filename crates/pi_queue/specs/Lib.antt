@@ -1,0 +1,5 @@
+pub mod Waiting
+pub mod Reading
+pub mod Leaving
+pub mod Turn
+pub mod Ends
