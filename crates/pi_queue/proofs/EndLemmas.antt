@@ -1,15 +1,13 @@
 -- Turns one after the other: how far they came, and how a propagation ends.
-use Rattle.std.specs.Prelude.{◌≡◌, ◌⊎◌, ℕ, suc, ◌+◌, ◌<◌, ◌≤◌, List, [], ◌∷◌, ◌++◌, length, Bool, true, false, MatchBool, Result, Ok, Err, IfOk, slice_get, Some, Contains, sum_by, refl}
+use Rattle.std.specs.Prelude.{◌≡◌, ◌⊎◌, ℕ, suc, ◌+◌, ◌<◌, ◌≤◌, List, [], ◌∷◌, length, Bool, true, false, MatchBool, Result, Ok, Err, IfOk, Contains, sum_by, refl}
 use Rattle.std.proofs.Common.{arith, sym, ◌∙◌, ap, subst, inl, inr}
 use Rattle.std.proofs.lemmas.Option.{slice_get_within}
 use Rattle.std.proofs.lemmas.List.Elements.{Contains-append_cases}
-use Rattle.pi_constraints.specs.declared.constraint.Constraint.{Constraint}
 use Rattle.pi_answers.specs.declared.log.Work.{Work}
 use Rattle.pi_states.specs.State.{State, IsState}
 use Rattle.pi_settling.specs.SettlingLaws.{MaySettle}
 use Rattle.pi_settling.specs.Stable.{IsStable, IsEmptied}
 use Rattle.pi_settling.specs.Load.{count_lost}
-use Rattle.pi_propagation.specs.Run.{KeptBy, ChangesNothing}
 use Rattle.pi_propagation.specs.Runs.{Runs, no_run, one_more, MayPropagate, HasRun, work_of}
 use Rattle.pi_propagation.proofs.RunLemmas.{runs_keep_states, Has, runs-between, failures_empty}
 use Rattle.pi_propagation.proofs.WakeLemmas.{runs_reach_stable_domains}

@@ -1,16 +1,16 @@
 -- One item after the other takes what is left: what each step adds, and what stands at the end.
-use Rattle.std.specs.Prelude.{◌≡◌, ◌≢◌, ◌⊎◌, ◌↔◌, ℕ, zero, suc, ◌+◌, ◌<◌, ◌≤◌, ℤ, IsTrue, List, [], ◌∷◌, ◌++◌, length, slice_get, Some, None, Contains, refl}
+use Rattle.std.specs.Prelude.{◌≡◌, ◌↔◌, ℕ, ◌+◌, ◌<◌, ◌≤◌, ℤ, IsTrue, List, [], ◌∷◌, ◌++◌, length, Some, Contains, refl}
 use Rattle.std.proofs.Common.{arith, sym, ◌∙◌, ap, subst, inl, inr}
 use Rattle.std.proofs.lemmas.Option.{slice_get_within}
 use Rattle.std.proofs.lemmas.List.Elements.{Contains-append_left, Contains-push, Contains-push_cases}
-use Rattle.pi_terms.specs.Tree.{Tree, int}
+use Rattle.pi_terms.specs.Tree.{int}
 use Rattle.pi_constraints.specs.declared.constraint.Constraint.{Constraint}
 use Rattle.pi_constraints.specs.declared.constraint.Item.{Item}
 use Rattle.pi_constraints.specs.declared.domain.Span.{Span}
 use Rattle.pi_constraints.specs.Domain.{IsDomain, has_value, size_of}
 use Rattle.pi_filters.specs.Places.{places_of, domain_at}
 use Rattle.pi_filters.specs.Filter.{Leaves}
-use Rattle.pi_states.specs.State.{State, Variable, free, within, bound, binding, next, domain_in, domain_of, with_domain, with_binding, with_variable, IsState}
+use Rattle.pi_states.specs.State.{State, Variable, free, within, bound, binding, next, domain_in, domain_of, with_variable, IsState}
 use Rattle.pi_states.proofs.StateLemmas.{variable, domain_good, same_or_not, changed_next, changed_here, changed_elsewhere}
 use Rattle.pi_settling.specs.Roots.{root_item, only, domain_or_all, given}
 use Rattle.pi_settling.specs.SettlingLaws.{MaySettle}
@@ -19,7 +19,7 @@ use Rattle.pi_settling.proofs.StableLemmas.{only-has}
 use Rattle.pi_settling.proofs.TwiceLemmas.{unbound-root, integer-root, has_in, within_of}
 use Rattle.pi_settling.proofs.UniqueLemmas.{domain_made}
 use Rattle.pi_propagation.specs.Narrowed.{NarrowsTo, left_free, left_bound, some_left, one_left, IsNarrowed}
-use Rattle.pi_propagation.specs.Run.{given_at, ComesTo, LosesValue, KeptBefore, KeptBy, IsRun, integer_lost, variable_lost, Fails}
+use Rattle.pi_propagation.specs.Run.{given_at, ComesTo, LosesValue, KeptBefore, IsRun, integer_lost, variable_lost, Fails}
 use Rattle.pi_propagation.proofs.NarrowLemmas.{narrow-state, Comes, to_variable, to_integer, item-comes, unbound-domain, left-values, root-before}
 use Rattle.pi_propagation.proofs.RunLemmas.{place-is, place-there, place-comes, between-start, narrow-compose}
 use Rattle.pi_propagation.proofs.WakeLemmas.{narrow-within}

@@ -1,6 +1,6 @@
 -- The loop over the places of a constraint: what was read of each, and what its filter leaves there.
-use Rattle.std.specs.Prelude.{◌≡◌, ◌↔◌, ℕ, zero, suc, ◌+◌, ◌<◌, ◌≤◌, ℤ, pos, Bool, true, false, IsTrue, List, [], length, map, Contains, refl}
-use Rattle.std.proofs.Common.{arith, sym, ◌∙◌, ap, subst, get_or}
+use Rattle.std.specs.Prelude.{◌≡◌, ℕ, ◌+◌, ◌<◌, pos, Bool, true, false, IsTrue, List, [], length, map}
+use Rattle.std.proofs.Common.{sym, ◌∙◌, ap, subst, get_or}
 use Rattle.std.proofs.lemmas.List.{length-map, get_or-map, get_or_default}
 use Rattle.pi_constraints.specs.declared.constraint.Constraint.{Constraint}
 use Rattle.pi_constraints.specs.declared.constraint.Item.{Item}
@@ -10,7 +10,7 @@ use Rattle.pi_filters.specs.Places.{places_of, domain_at}
 use Rattle.pi_filters.specs.Filter.{Leaves}
 use Rattle.pi_states.specs.State.{State, IsState}
 use Rattle.pi_settling.specs.Roots.{root_item, given}
-use Rattle.pi_settling.proofs.PlaceLemmas.{place_at, count-places}
+use Rattle.pi_settling.proofs.PlaceLemmas.{count-places}
 use Rattle.pi_propagation.specs.Run.{given_at, KeptBefore, Fails}
 use Rattle.pi_propagation.proofs.NarrowLemmas.{narrow-state}
 use Rattle.pi_prop.specs.Left.{AreLeft}

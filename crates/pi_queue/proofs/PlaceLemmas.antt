@@ -1,26 +1,24 @@
 -- Which constraints a variable is at, told by their places and by what a store tells of them.
-use Rattle.std.specs.Prelude.{◌≡◌, ◌⊎◌, ◌↔◌, ℕ, zero, suc, ◌+◌, ◌<◌, ℤ, List, [], ◌∷◌, ◌++◌, length, slice_get, Option, Some, None, Contains, unwrap_or, refl}
-use Rattle.std.proofs.Common.{arith, sym, ◌∙◌, ap, subst, inl, inr, get_or}
+use Rattle.std.specs.Prelude.{◌≡◌, ◌⊎◌, ℕ, zero, suc, ℤ, List, [], ◌∷◌, ◌++◌, length, slice_get, Option, Some, None, Contains, unwrap_or, refl}
+use Rattle.std.proofs.Common.{arith, sym, ◌∙◌, ap, subst, inl, inr}
 use Rattle.std.proofs.lemmas.Option.{slice_get-get_or, slice_get_within, get_or_from_slice_get}
-use Rattle.std.proofs.lemmas.List.Elements.{Contains-append_left, Contains-append_right, Contains-append_cases, Contains-push}
+use Rattle.std.proofs.lemmas.List.Elements.{Contains-append_left, Contains-append_right, Contains-append_cases}
 use Rattle.pi_terms.specs.Tree.{Tree, var, int, atom, comp}
 use Rattle.pi_terms.specs.Places.{held}
 use Rattle.pi_constraints.specs.declared.constraint.Constraint.{Constraint}
 use Rattle.pi_constraints.specs.declared.constraint.Item.{Item}
-use Rattle.pi_constraints.specs.declared.domain.Span.{Span}
 use Rattle.pi_constraints.specs.Constraint.{HoldsVariable, HoldVariable, SumHasVariable, SpeaksOf}
 use Rattle.pi_filters.specs.Places.{places_of, sum_places}
 use Rattle.pi_states.specs.Value.{Bindings, IsAcyclic, value}
-use Rattle.pi_states.specs.State.{State, Variable, free, within, bound, binding, bindings, next, domain_of, followed_for, followed, LeadsTo, is_it, through, IsState}
+use Rattle.pi_states.specs.State.{State, Variable, binding, bindings, next, followed_for, followed, LeadsTo, is_it, through}
 use Rattle.pi_states.specs.Store.{IsPostedOn}
-use Rattle.pi_states.proofs.StateLemmas.{variable, held_is, domain_unbound}
-use Rattle.pi_states.proofs.FollowLemmas.{followed_itself}
+use Rattle.pi_states.proofs.StateLemmas.{variable, held_is}
 use Rattle.pi_states.proofs.ValueLemmas.{unbound_is_its_own_value, bound_has_value_of_its_term}
 use Rattle.pi_settling.specs.Roots.{item_of, root_item}
 use Rattle.pi_settling.proofs.RootLemmas.{root-by_value}
 use Rattle.pi_settling.proofs.TwiceLemmas.{past_free, less_or_not}
 use Rattle.pi_propagation.specs.Narrowed.{NarrowsTo, left_free, left_bound, some_left, one_left, IsNarrowed}
-use Rattle.pi_propagation.specs.Run.{ComesTo, HasVariable}
+use Rattle.pi_propagation.specs.Run.{HasVariable}
 use Rattle.pi_propagation.proofs.NarrowLemmas.{narrow-keeps}
 use Rattle.pi_propagation.proofs.SizeLemmas.{in-front, behind, front-or-behind, none-there}
 

@@ -1,18 +1,18 @@
 -- What calls of a store say of a variable and of an integer.
 use Rattle.std.specs.Prelude.{◌≡◌, ℕ, ◌<◌, ◌≤◌, ℤ, List, Option, Some, None, refl}
-use Rattle.std.proofs.Common.{arith, sym, ◌∙◌, ap, subst, inl, inr}
-use Rattle.pi_terms.specs.Tree.{Tree, var, int, atom, comp, args}
+use Rattle.std.proofs.Common.{sym, ◌∙◌, ap, subst, inl, inr}
+use Rattle.pi_terms.specs.Tree.{var, int, atom}
 use Rattle.pi_terms.specs.Places.{held}
 use Rattle.pi_terms.specs.Variables.{Occurs}
 use Rattle.pi_constraints.specs.declared.constraint.Item.{Item}
 use Rattle.pi_constraints.specs.declared.domain.Span.{Span}
 use Rattle.pi_constraints.specs.Domain.{IsWithinBounds, size_of}
-use Rattle.pi_states.specs.Value.{Bindings, value, IsAcyclic, MayBind}
-use Rattle.pi_states.specs.State.{State, IsState, IsUnbound, bindings, binding, next, domain_of, domain_at_root, followed, with_binding, with_domain}
-use Rattle.pi_states.specs.Store.{StoreView, IsTerm, ShowsCell, IsName, Keeps, Gives, Binds, Confines}
+use Rattle.pi_states.specs.Value.{Bindings, value, MayBind}
+use Rattle.pi_states.specs.State.{State, IsState, bindings, binding, next, domain_of, domain_at_root, followed, with_binding, with_domain}
+use Rattle.pi_states.specs.Store.{StoreView, IsTerm, ShowsCell, Keeps, Gives, Binds, Confines}
 use Rattle.pi_states.specs.declared.store.Ref.{Ref}
 use Rattle.pi_states.specs.declared.store.Cell.{Cell}
-use Rattle.pi_states.proofs.StateLemmas.{variable, held_is, as_many, domain_unbound}
+use Rattle.pi_states.proofs.StateLemmas.{variable, as_many, domain_unbound}
 use Rattle.pi_states.proofs.RootLemmas.{value_int}
 use Rattle.pi_states.proofs.FollowLemmas.{followed_itself, followed_other}
 use Rattle.pi_settling.specs.Roots.{item_of, root_item}

@@ -1,21 +1,19 @@
 -- A turn is one more run, and wakes just the constraints that a run makes due.
-use Rattle.std.specs.Prelude.{◌≡◌, ◌⊎◌, ◌↔◌, ℕ, ◌<◌, ℤ, IsTrue, Bool, true, false, List, [], ◌++◌, length, slice_get, Some, None, Contains, refl}
-use Rattle.std.proofs.Common.{arith, sym, ◌∙◌, ap, subst, inl, inr}
+use Rattle.std.specs.Prelude.{◌≡◌, ℕ, ◌<◌, Bool, true, false, List, [], length, slice_get, Some, None, Contains}
+use Rattle.std.proofs.Common.{sym, ◌∙◌, ap, subst, inl, inr}
 use Rattle.std.proofs.lemmas.Option.{slice_get_within, get_or_from_slice_get}
 use Rattle.pi_terms.specs.Places.{held}
 use Rattle.pi_constraints.specs.declared.constraint.Constraint.{Constraint}
 use Rattle.pi_constraints.specs.declared.constraint.Item.{Item}
 use Rattle.pi_constraints.specs.declared.domain.Span.{Span}
-use Rattle.pi_constraints.specs.Domain.{has_value}
 use Rattle.pi_filters.specs.Places.{places_of}
-use Rattle.pi_states.specs.State.{State, Variable, free, within, bound, binding, bindings, next, domain_in, domain_of, IsState}
+use Rattle.pi_states.specs.State.{State, bindings, next, domain_in, domain_of, IsState}
 use Rattle.pi_states.proofs.StateLemmas.{variable, domain_unbound}
 use Rattle.pi_settling.specs.Roots.{root_item, given}
 use Rattle.pi_settling.specs.SettlingLaws.{MaySettle}
-use Rattle.pi_settling.proofs.TwiceLemmas.{has_in, within_of}
+use Rattle.pi_settling.proofs.TwiceLemmas.{has_in}
 use Rattle.pi_settling.proofs.UniqueLemmas.{domain_made}
-use Rattle.pi_propagation.specs.Narrowed.{IsNarrowed}
-use Rattle.pi_propagation.specs.Run.{KeptBefore, HasVariable, LosesValue}
+use Rattle.pi_propagation.specs.Run.{KeptBefore, LosesValue}
 use Rattle.pi_propagation.specs.Runs.{IsWoken, AreMadeDue}
 use Rattle.pi_propagation.proofs.NarrowLemmas.{narrow-state, Comes, to_variable, to_integer, comes, unbound-domain}
 use Rattle.pi_propagation.proofs.RunLemmas.{contained}

@@ -1,5 +1,5 @@
 -- What items come to where a constraint may be run. (Own.)
-use Rattle.std.specs.Prelude.{◌≡◌, ℕ, List, Some, Contains}
+use Rattle.std.specs.Prelude.{◌≡◌, List, Some, Contains}
 use Rattle.pi_constraints.specs.declared.constraint.Item.{Item}
 use Rattle.pi_constraints.specs.declared.domain.Span.{Span}
 use Rattle.pi_constraints.specs.Domain.{IsWithinBounds}

@@ -1,4 +1,3 @@
-use Rattle.std.proofs.Common.{ℕ, List}
 use Rattle.pi_constraints.specs.declared.constraint.Constraint.{Constraint}
 use Rattle.pi_states.specs.Store.{Keeps}
 use Rattle.pi_queue.specs.Leaving.{MayLeave, HasLeft}

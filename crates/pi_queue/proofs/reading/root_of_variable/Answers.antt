@@ -1,8 +1,5 @@
 use Rattle.std.proofs.Common.{rules, sym}
 use Rattle.pi_terms.specs.Tree.{var}
-use Rattle.pi_constraints.specs.declared.constraint.Item.{Item}
-use Rattle.pi_constraints.specs.Domain.{IsWithinBounds}
-use Rattle.pi_queue.specs.Reading.{IsRoot}
 use Rattle.pi_queue.proofs.StoreLemmas.{made-root, shown-variable, shown-bounded, shown-name, shown-compound}
 use Rattle.pi_queue.proofs.reading.root_of_variable.Goals as goal
 

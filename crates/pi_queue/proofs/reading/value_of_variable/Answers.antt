@@ -1,4 +1,3 @@
-use Rattle.std.proofs.Common.{sym, ◌∙◌}
 use Rattle.pi_terms.specs.Tree.{var}
 use Rattle.pi_settling.proofs.UniqueLemmas.{domain_made}
 use Rattle.pi_queue.proofs.StoreLemmas.{domain-read}
