@@ -1,12 +1,9 @@
 -- Constraints in their table: the word of one is the place where its block ends.
-use Rattle.std.specs.Prelude.{◌≡◌, ℕ, ◌≤◌, List, length}
+use Rattle.std.specs.Prelude.{ℕ, ◌≤◌, List, length}
 use Rattle.pi_constraints.specs.declared.constraint.Constraint.{Constraint}
-use Rattle.pi_trail.specs.Image.{Image, pushed}
-use Rattle.pi_trail.specs.Back.{Advances}
-use Rattle.pi_trail.specs.declared.entry.Table.{Table}
 use Rattle.pi_raw_terms.specs.Heap.{Heap}
-use Rattle.pi_raw_blocks.specs.Block.{block_at, Writes}
-use Rattle.pi_raw_constraints.specs.Constraint.{numbers_of, constraint_in}
+use Rattle.pi_raw_blocks.specs.Block.{block_at}
+use Rattle.pi_raw_constraints.specs.Constraint.{constraint_in}
 
 -- the constraint of a word; for one that is none of no items
 abbrev pub constraint_at : List ℕ → ℕ → Constraint
@@ -15,11 +12,3 @@ constraint_at words end = constraint_in (block_at words end)
 -- its block stands in the region
 abbrev pub IsConstraintIn : Heap → ℕ → Type 0
 IsConstraintIn h end = end ≤ length h.words
-
--- one more constraint: its block, and then its word in the table
-pub record AddsConstraint (old new : Image) (c : Constraint) : Type 0 where
-  pub mid : Image
-  pub end : ℕ
-  pub written : Writes old mid (numbers_of c) end
-  pub added : new ≡ pushed mid Table.Constraints end
-  pub advances : Advances old new

@@ -10,5 +10,5 @@ mod terms;
 mod write;
 
 pub use read::read_constraint;
-pub use table::{add_constraint, numbered_constraint};
+pub use table::numbered_constraint;
 pub use write::write_constraint;

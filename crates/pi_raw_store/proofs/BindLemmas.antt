@@ -1,5 +1,5 @@
 -- What a binding does.
-use Rattle.std.proofs.Common.{◌≡◌, ℕ, suc, List, length, Some, None, map, slice_index, slice_set, refl, ap, sym, ◌∙◌, ◌≢◌, ◌-◌, ◌%◌, ◌==◌, Bool, true, false, arith}
+use Rattle.std.proofs.Common.{◌≡◌, ℕ, suc, List, length, Some, None, map, slice_index, slice_set, refl, ap, sym, subst, ◌≤◌, ◌∙◌, ◌≢◌, ◌-◌, ◌%◌, ◌==◌, Bool, true, false, arith}
 use Rattle.std.specs.Prelude.{option_map}
 use Rattle.std.proofs.lemmas.Bool.Decides.{nat_tests}
 use Rattle.pi_terms.specs.Tree.{Tree, var}
@@ -16,15 +16,22 @@ use Rattle.pi_raw_terms.specs.Form.{form_of}
 use Rattle.pi_raw_terms.specs.Heap.{Heap, term_at, Grows}
 use Rattle.pi_raw_terms.specs.Placed.{IsRefIn}
 use Rattle.pi_raw_terms.proofs.HeapLemmas.{trees_stay}
+use Rattle.pi_raw_terms.proofs.RefLemmas.{form_stays}
+use Rattle.pi_raw_lists.specs.Node.{IsListed}
+use Rattle.pi_raw_lists.proofs.ListLemmas.{nothing_listed}
 use Rattle.pi_raw_laws.proofs.BoundLemmas.{no_data}
 use Rattle.pi_raw_names.specs.NameTable.{NameTable}
+use Rattle.pi_raw_store.specs.Heads.{taken_in, list_end}
 use Rattle.pi_raw_store.specs.Walk.{bound_ref_by, variable_of, unless_bound_by, free_of_any, followed_at, free_at}
 use Rattle.pi_raw_store.specs.Holding.{tree_of, variable_by, variable_in, heap_of, view_of}
+use Rattle.pi_raw_store.specs.Lists.{Leads, IsComplete}
 use Rattle.pi_raw_store.specs.Sound.{IsSound}
+use Rattle.pi_raw_store.specs.Added.{IsAddedAlong, IsJoinedTo, BindsTo}
+use Rattle.pi_raw_store.proofs.CompleteLemmas.{complete_bound}
 use Rattle.pi_raw_store.proofs.NameLemmas.{keeps_itself}
 use Rattle.pi_raw_store.specs.Bindings.{bound_in}
 use Rattle.pi_raw_store.proofs.LookLemmas.{tree_at_ref, held_is, followed_to, form_var, tree_is}
-use Rattle.pi_raw_store.proofs.SoundLemmas.{has_bound, term_is_ref, ref_has_term}
+use Rattle.pi_raw_store.proofs.SoundLemmas.{has_bound, term_is_ref, ref_has_term, has_constraints, has_lists, sound_binding}
 use Rattle.pi_raw_store.proofs.KeepLemmas.{heap_grows, keeps_all, same_states, same_parts, parts_stay}
 
 -- what a Ref is followed to is a Ref
@@ -69,12 +76,23 @@ binds_no_variable t i v q s none = λ n x y a b root may. let is : free_at i.var
 
 -- a variable that was free is bound
 
-pub binds_to : (t : NameTable) (i j : Image) (v q to : Ref) (n : ℕ) → IsSound t i → free_at i.variables v ≡ Some n → to ≡ followed_at i.variables q → j ≡ replaced i Table.Variables n (suc to.number) → Advances i j
-    → Binds (view_of t i) (view_of t j) v q
-binds_to t i j v q to n s free is words a = λ m x y at bt root may.
+-- lists are joined, and it gets another word
+
+pub sound_bound : (t : NameTable) (i j : Image) (n r : ℕ) → IsSound t i → IsRefIn (heap_of t i) (form_of r) → BindsTo i j n r → IsSound t j
+sound_bound t i j n r s is b =
+    let mid : IsSound t b.mid = b.adds.sound t s in
+    let grows : Grows (heap_of t i) (heap_of t b.mid) = heap_grows t t i b.mid (keeps_itself t (length i.region)) b.adds.advances in
+    let complete : IsComplete (replaced b.mid Table.Variables n (suc r)) =
+    complete_bound i b.mid grows.words.0 n r (has_constraints t i s) (has_lists t i s) (has_lists t b.mid mid) grows.words.1 b.adds.tables.constraints b.adds.tables.variables (b.adds.lists t s) (b.joined t s) in
+    subst (IsSound t) (sym b.set) (sound_binding t b.mid n r (form_stays (heap_of t i) (heap_of t b.mid) grows (form_of r) is) complete mid)
+
+pub binds_to : (t : NameTable) (i j : Image) (v q to : Ref) (n : ℕ) → IsSound t i → free_at i.variables v ≡ Some n → to ≡ followed_at i.variables q → BindsTo i j n to.number → Binds (view_of t i) (view_of t j) v q
+binds_to t i j v q to n s free is b = λ m x y at bt root may.
     let h : Heap = heap_of t i in
     let k : Heap = heap_of t j in
     let vs : List ℕ = i.variables in
+    let a : Advances i j = b.advances in
+    let same_then = b.adds.tables in
     let found : free_at i.variables v ≡ Some m = free_is t i v x m s at root may.unbound in
     let same : n ≡ m = cc in
     let grows : Grows h k = heap_grows t t i j (keeps_itself t (length i.region)) a in
@@ -82,7 +100,7 @@ binds_to t i j v q to n s free is words a = λ m x y at bt root may.
     let here : term_at h to.number ≡ Some y_last = followed_to h vs (has_bound t i s) q to y is bt in
     let there : tree_of k to.number ≡ y_last = tree_is k to.number y_last (trees_stay h k grows to.number y_last here) in
     let ref : IsRefIn h (form_of to.number) = term_is_ref t i s to.number y_last here in
-    let vars : j.variables ≡ slice_set vs n (suc to.number) = ap (λ (l : Image). l.variables) words in
+    let vars : j.variables ≡ slice_set vs n (suc to.number) = ap (λ (l : Image). l.variables) b.set ∙ ap (λ ws. slice_set ws n (suc to.number)) same_then.variables in
     let p = parts_stay t t i j s grows in
     let q = same_parts h k i j p in
     let all : map (variable_in k) j.variables ≡ slice_set (map (variable_in h) vs) m (bound y_last) =
@@ -94,5 +112,23 @@ binds_to t i j v q to n s free is words a = λ m x y at bt root may.
     ∙ ap (λ p. slice_set (map (variable_in h) vs) p (bound y_last)) same)))) in
     record {
       keeps = keeps_all t t i j (keeps_itself t (length i.region)) a;
-      state = same_states _ _ all (q.constraints (ap (λ (l : Image). l.constraints) words)) (q.agents (ap (λ (l : Image). l.agents) words)) (q.waiting (ap (λ (l : Image). l.waiting) words) (ap (λ (l : Image). l.heads) words));
+      state = same_states _ _ all (q.constraints (ap (λ (l : Image). l.constraints) b.set ∙ same_then.constraints)) (q.agents (ap (λ (l : Image). l.agents) b.set ∙ same_then.agents))
+          (q.waiting (ap (λ (l : Image). l.waiting) b.set ∙ same_then.waiting) (ap taken_in b.set ∙ same_then.taken));
     }
+
+-- Lists that are joined
+
+-- there is nothing in the list of the variable
+pub joins_none : (i : Image) (n r : ℕ) → list_end i n ≡ 0 → IsJoinedTo i i n r
+joins_none i n r none t s m v k is leads on = absurd (nothing_listed i.region k (subst (λ (e : ℕ). IsListed i.region e k) none on))
+
+-- the Ref is no variable
+pub joins_no_variable : (i : Image) (n r : ℕ) → variable_of (form_of r) ≡ None → IsJoinedTo i i n r
+joins_no_variable i n r none t s m v k is leads on = absurd (cc)
+
+-- it is one: what ends at the list of the first is added along the chain of the second
+pub joins_along : (i j : Image) (n r m number end : ℕ) → variable_of (form_of r) ≡ Some m → end ≡ list_end i n → IsAddedAlong i j number end m → IsJoinedTo i j n r
+joins_along i j n r m number end there is a t s u v k here leads on =
+    let same : u ≡ m = cc in
+    let within : list_end i n ≤ length i.region = (has_lists t i s).within n in
+    (a t s (omega arith) v (subst (λ (x : ℕ). Leads i.variables x v) same leads)).others k (subst (λ (e : ℕ). IsListed i.region e k) (sym is) on)

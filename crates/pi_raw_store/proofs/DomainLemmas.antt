@@ -25,6 +25,7 @@ use Rattle.pi_raw_domains.specs.Domain.{bounds_of, domain_in}
 use Rattle.pi_raw_domains.proofs.DomainLemmas as domains
 use Rattle.pi_raw_constraints.proofs.TableLemmas.{block_right}
 use Rattle.pi_raw_names.specs.NameTable.{NameTable}
+use Rattle.pi_raw_store.specs.Heads.{taken_in}
 use Rattle.pi_raw_store.specs.Walk.{variable_of, followed_at, free_at}
 use Rattle.pi_raw_store.specs.Domains.{domain_at, domain_end, domain_by_end, domain_by, domain_of_any, domain_of, Confined}
 use Rattle.pi_raw_store.specs.Holding.{unbound_at, variable_by, variable_in, heap_of, state_of, view_of}
@@ -108,7 +109,7 @@ record Given (i j : Image) (n end : ℕ) (d : List Span) : Type 0 where
   constraints : j.constraints ≡ i.constraints
   agents : j.agents ≡ i.agents
   waiting : j.waiting ≡ i.waiting
-  heads : j.heads ≡ i.heads
+  taken : taken_in j ≡ taken_in i
 
 given : (i j : Image) (n : ℕ) (d : List Span) (c : Confined i j n d) → Given i j n c.end d
 given i j n d c =
@@ -125,7 +126,7 @@ given i j n d c =
       constraints = ap (λ (k : Image). k.constraints) c.set ∙ ap (λ (k : Image). k.constraints) c.written.words;
       agents = ap (λ (k : Image). k.agents) c.set ∙ ap (λ (k : Image). k.agents) c.written.words;
       waiting = ap (λ (k : Image). k.waiting) c.set ∙ ap (λ (k : Image). k.waiting) c.written.words;
-      heads = ap (λ (k : Image). k.heads) c.set ∙ ap (λ (k : Image). k.heads) c.written.words;
+      taken = ap taken_in c.set ∙ ap taken_in c.written.words;
     }
 
 some_at : (k : Heap) (end : ℕ) → 0 < end → unbound_at k end ≡ within (domain_at k.words end)
@@ -165,4 +166,4 @@ confines_to t i j r n d s free_there c = λ m x is acyclic root unbound many.
     ∙ (ap (λ ws. slice_set ws n (variable_in k (8 * c.end))) p.variables
     ∙ (ap (slice_set (map (variable_in h) vs) n) word
     ∙ ap (λ z. slice_set (map (variable_in h) vs) z (within d)) same))) in
-    record { keeps = keeps_all t t i j keeps c.advances; state = same_states _ _ all (q.constraints g.constraints) (q.agents g.agents) (q.waiting g.waiting g.heads) }
+    record { keeps = keeps_all t t i j keeps c.advances; state = same_states _ _ all (q.constraints g.constraints) (q.agents g.agents) (q.waiting g.waiting g.taken) }

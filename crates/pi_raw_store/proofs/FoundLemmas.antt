@@ -1,5 +1,6 @@
 -- Numbers that are found one after another.
-use Rattle.std.proofs.Common.{◌≡◌, ℕ, zero, suc, ◌+◌, ◌<◌, ◌≤◌, Bool, true, false, List, [], ◌∷◌, ◌++◌, refl, sym, subst, ◌∙◌, ◌⊎◌, inl, inr, arith, cond}
+use Rattle.std.proofs.Common.{◌≡◌, ℕ, zero, suc, ◌+◌, ◌<◌, ◌≤◌, Bool, true, false, List, [], ◌∷◌, ◌++◌, refl, sym, subst, ◌∙◌, ◌⊎◌, inl, inr, ⊎_elim, arith, cond}
+use Rattle.std.proofs.lemmas.Bool.{cases_lt}
 use Rattle.std.proofs.lemmas.Bool.Decides.{nat_tests}
 use Rattle.std.specs.Prelude.{nat_lt, IsTrue, ◌↔◌, Contains}
 use Rattle.std.proofs.lemmas.List.Elements.{Contains-append_left, Contains-append_right, Contains-append_cases}
@@ -73,3 +74,13 @@ lists_end P i n ns e h = let Q : ℕ → Type 0 = λ x. ListsBelow P x ns in sub
 
 pub same_truth : (a b : Bool) → a ≡ b → IsTrue a ↔ IsTrue b
 same_truth a b e = (λ h. sym e ∙ h, λ h. e ∙ h)
+
+-- numbers are passed over that aren't such
+pub lists_jump : (P : ℕ → Type 0) (i n : ℕ) (ns : List ℕ) → ListsBelow P i ns → i ≤ n → ((m : ℕ) → i ≤ m → m < n → P m → ⊥) → ListsBelow P n ns
+lists_jump P i n ns h le none = record {
+  ascend = h.ascend;
+  has = λ m. (
+    λ c. let q = (h.has m).0 c in let l : m < i = q.0 in (omega arith, q.1),
+    λ q. ⊎_elim (λ less. (h.has m).1 (less, q.1)) (λ more. absurd (none m more q.0 q.1)) (cases_lt m i),
+  );
+}

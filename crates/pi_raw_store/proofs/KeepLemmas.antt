@@ -26,11 +26,13 @@ use Rattle.pi_raw_laws.specs.Bound.{IsBoundIn}
 use Rattle.pi_raw_constraints.specs.Table.{constraint_at, IsConstraintIn}
 use Rattle.pi_raw_constraints.proofs.TableLemmas.{same_constraint}
 use Rattle.pi_raw_names.specs.NameTable.{NameTable, names_of}
+use Rattle.pi_raw_store.specs.Heads.{taken_in}
 use Rattle.pi_raw_store.specs.declared.mark.RawMark.{RawMark}
 use Rattle.pi_raw_store.specs.Waiting.{activation_of, IsWaitingIn}
 use Rattle.pi_raw_store.specs.Holding.{unbound_at, variable_by, variable_in, agent_in, activation_in, waiting_in, heap_of, state_of, moment_of, view_of, order}
 use Rattle.pi_raw_store.specs.Sound.{IsSound}
 use Rattle.pi_raw_store.specs.Changed.{KeepsNames, IsNumbered}
+use Rattle.pi_raw_store.specs.Added.{SameTables}
 use Rattle.pi_raw_store.proofs.NameLemmas.{stay, keeps_itself, heap_kept}
 use Rattle.pi_raw_store.proofs.PartLemmas.{stays_itself}
 use Rattle.pi_raw_store.proofs.SoundLemmas.{has_words, has_constraints, has_agents, has_waiting, ref_has_term, sound_words}
@@ -96,16 +98,8 @@ same_states r q v c a w =
     ap (λ x. record r { variables = x }) v ∙ (ap (λ x. record { variables = q.variables; constraints = x; agents = r.agents; waiting = r.waiting }) c
     ∙ (ap (λ x. record { variables = q.variables; constraints = q.constraints; agents = x; waiting = r.waiting }) a ∙ ap (λ x. record q { waiting = x }) w))
 
--- the tables of two images are the same
-pub record SameTables (i j : Image) : Type 0 where
-  pub variables : j.variables ≡ i.variables
-  pub constraints : j.constraints ≡ i.constraints
-  pub agents : j.agents ≡ i.agents
-  pub waiting : j.waiting ≡ i.waiting
-  pub heads : j.heads ≡ i.heads
-
 pub same_itself : (i : Image) → SameTables i i
-same_itself i = record { variables = refl; constraints = refl; agents = refl; waiting = refl; heads = refl }
+same_itself i = record { variables = refl; constraints = refl; agents = refl; waiting = refl; taken = refl }
 
 pub same_then : (i j k : Image) → SameTables i j → SameTables j k → SameTables i k
 same_then i j k s q = record {
@@ -113,11 +107,11 @@ same_then i j k s q = record {
   constraints = q.constraints ∙ s.constraints;
   agents = q.agents ∙ s.agents;
   waiting = q.waiting ∙ s.waiting;
-  heads = q.heads ∙ s.heads;
+  taken = q.taken ∙ s.taken;
 }
 
 pub same_appended : (i j : Image) → Appends i j → SameTables i j
-same_appended i j more = subst (SameTables i) (sym more.1) (record { variables = refl; constraints = refl; agents = refl; waiting = refl; heads = refl })
+same_appended i j more = subst (SameTables i) (sym more.1) (record { variables = refl; constraints = refl; agents = refl; waiting = refl; taken = refl })
 
 -- what the tables of the first image say is the same in what terms are read from behind it
 pub record PartsStay (h k : Heap) (i : Image) : Type 0 where
@@ -142,14 +136,14 @@ pub record SameParts (h k : Heap) (i j : Image) : Type 0 where
   pub variables : j.variables ≡ i.variables → map (variable_in k) j.variables ≡ map (variable_in h) i.variables
   pub constraints : j.constraints ≡ i.constraints → map (constraint_at k.words) j.constraints ≡ map (constraint_at h.words) i.constraints
   pub agents : j.agents ≡ i.agents → map (agent_in k) j.agents ≡ map (agent_in h) i.agents
-  pub waiting : j.waiting ≡ i.waiting → j.heads ≡ i.heads → waiting_in k j ≡ waiting_in h i
+  pub waiting : j.waiting ≡ i.waiting → taken_in j ≡ taken_in i → waiting_in k j ≡ waiting_in h i
 
 pub same_parts : (h k : Heap) (i j : Image) → PartsStay h k i → SameParts h k i j
 same_parts h k i j p = record {
   variables = λ e. ap (map (variable_in k)) e ∙ p.variables;
   constraints = λ e. ap (map (constraint_at k.words)) e ∙ p.constraints;
   agents = λ e. ap (map (agent_in k)) e ∙ p.agents;
-  waiting = λ e f. ap (λ ws. drop (length ws) (map (activation_in k) j.waiting)) f ∙ (ap (λ ws. drop (length i.heads) (map (activation_in k) ws)) e ∙ ap (drop (length i.heads)) p.waiting);
+  waiting = λ e f. ap (λ n. drop n (map (activation_in k) j.waiting)) f ∙ (ap (λ ws. drop (taken_in i) (map (activation_in k) ws)) e ∙ ap (drop (taken_in i)) p.waiting);
 }
 
 pub stays_all : (t u : NameTable) (i j : Image) → IsSound t i → KeepsNames t u (length i.region) → Advances i j → SameTables i j → Stays (view_of t i) (view_of u j)
@@ -157,7 +151,7 @@ stays_all t u i j s keeps a same =
     let p = same_parts (heap_of t i) (heap_of u j) i j (parts_stay t u i j s (heap_grows t u i j keeps a)) in
     record {
       keeps = keeps_all t u i j keeps a;
-      state = same_states _ _ (p.variables same.variables) (p.constraints same.constraints) (p.agents same.agents) (p.waiting same.waiting same.heads);
+      state = same_states _ _ (p.variables same.variables) (p.constraints same.constraints) (p.agents same.agents) (p.waiting same.waiting same.taken);
     }
 
 -- A name that gets a number
@@ -202,7 +196,7 @@ gives_variable t i j r s is a term =
     let all : map (variable_in (heap_of t j)) j.variables ≡ map (variable_in (heap_of t i)) i.variables ++ free ∷ [] =
     ap (map (variable_in (heap_of t j))) more ∙ (map-append (variable_in (heap_of t j)) i.variables (0 ∷ []) ∙ ap (λ xs. xs ++ free ∷ []) p.variables) in
     record {
-      changes = record { keeps = keeps_all t t i j keeps a; state = same_states _ _ all (q.constraints (ap (λ (k : Image). k.constraints) is)) (q.agents (ap (λ (k : Image). k.agents) is)) (q.waiting (ap (λ (k : Image). k.waiting) is) (ap (λ (k : Image). k.heads) is)) };
+      changes = record { keeps = keeps_all t t i j keeps a; state = same_states _ _ all (q.constraints (ap (λ (k : Image). k.constraints) is)) (q.agents (ap (λ (k : Image). k.agents) is)) (q.waiting (ap (λ (k : Image). k.waiting) is) (ap taken_in is)) };
       term = term ∙ ap (λ n. Some (var n)) (sym (length-map i.variables (variable_in (heap_of t i))));
     }
 

@@ -24,7 +24,7 @@ use Rattle.pi_raw_store.proofs.FoundLemmas.{lists_all}
 abbrev Reaches : Heap → List ℕ → (ℕ → Type 0) → ℕ → Type 0
 Reaches h vs P v = (n : ℕ) × P n × LeadsTo (bound_in h vs) (var n) v
 
-or_true : (a b : Bool) → cond a true b ≡ true → (a ≡ true) ⊎ (b ≡ true)
+pub or_true : (a b : Bool) → cond a true b ≡ true → (a ≡ true) ⊎ (b ≡ true)
 or_true true b e = inl refl
 or_true false b e = inr e
 

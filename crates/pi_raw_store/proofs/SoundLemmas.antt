@@ -8,6 +8,7 @@ use Rattle.pi_trail.specs.Entry.{data_of}
 use Rattle.pi_trail.specs.Image.{Image, table_in, appended, pushed, replaced}
 use Rattle.pi_trail.specs.Back.{cut, at_length}
 use Rattle.pi_trail.proofs.BackLemmas.{back_stop}
+use Rattle.pi_trail.proofs.ChangeLemmas.{push_word}
 use Rattle.pi_trail.specs.declared.entry.Table.{Table}
 use Rattle.pi_raw_terms.specs.Form.{form_with, form_of}
 use Rattle.pi_raw_terms.specs.Heap.{Heap, Grows, term_at}
@@ -21,7 +22,8 @@ use Rattle.pi_raw_laws.specs.Kept.{AreKept}
 use Rattle.pi_raw_laws.proofs.KeptLemmas as kept
 use Rattle.pi_raw_laws.proofs.RightLemmas as right
 use Rattle.pi_raw_laws.proofs.BoundLemmas as bound
-use Rattle.pi_raw_constraints.specs.Table.{IsConstraintIn}
+use Rattle.pi_constraints.specs.Constraint.{SpeaksOf}
+use Rattle.pi_raw_constraints.specs.Table.{constraint_at, IsConstraintIn}
 use Rattle.pi_raw_constraints.proofs.TableLemmas.{constraint_stays}
 use Rattle.pi_raw_agents.specs.Table.{IsAgentIn}
 use Rattle.pi_raw_agents.proofs.TableLemmas.{agent_stays}
@@ -29,10 +31,13 @@ use Rattle.pi_atoms.specs.Names.{HasDistinct}
 use Rattle.pi_raw_names.specs.NameTable.{NameTable, names_of}
 use Rattle.pi_raw_store.specs.Holding.{heap_of}
 use Rattle.pi_raw_store.specs.Waiting.{IsWaitingIn}
-use Rattle.pi_raw_store.specs.Sound.{IsSound}
+use Rattle.pi_raw_store.specs.Heads.{taken_in}
+use Rattle.pi_raw_store.specs.Lists.{Leads, IsOnList, IsComplete}
+use Rattle.pi_raw_store.specs.Sound.{AtEach, IsTakenWithin, IsSound}
 use Rattle.pi_raw_store.specs.Changed.{KeepsNames, IsNumbered}
 use Rattle.pi_raw_store.proofs.NameLemmas.{stay}
-use Rattle.pi_raw_store.proofs.TakenLemmas as taken
+use Rattle.pi_raw_store.proofs.MomentLemmas as each
+use Rattle.pi_raw_store.proofs.CompleteLemmas.{complete_words, complete_variable, complete_domain, complete_agent, complete_agent_for, complete_waiting, complete_pad, complete_posted, complete_none, read_zero}
 use Rattle.pi_states.specs.declared.store.Ref.{Ref}
 use Rattle.pi_raw_store.specs.Walk.{bound_ref_by}
 use Rattle.pi_raw_store.specs.Bindings.{HasBound}
@@ -67,6 +72,10 @@ none_there P table t i none trail empty = record {
     table_cut len i Table.Waiting = refl
     table_cut len i Table.Heads = refl
 
+-- something that is so of all images with the same constraints and heads
+at_each : (Q : Image → Type 0) (i : Image) → i.trail ≡ 0 → ((j : Image) → (j.constraints ≡ i.constraints) × (j.heads ≡ i.heads) → Q j) → AtEach Q i
+at_each Q i trail all = λ len. subst Q (sym (ap (cut len) (back_stop len i (omega arith)))) (all (cut len i) (refl, refl))
+
 pub sound_new : (t : NameTable) (i : Image) → t.texts ≡ cell_name ∷ [] → i.trail ≡ 0 → i.region ≡ [] → i.variables ≡ [] → i.constraints ≡ [] → i.agents ≡ [] → i.waiting ≡ [] → i.heads ≡ [] → IsSound t i
 sound_new t i texts trail region variables constraints agents waiting heads = record {
   cells = ap (λ xs. slice_get xs 0) texts;
@@ -79,8 +88,24 @@ sound_new t i texts trail region variables constraints agents waiting heads = re
   constraints = none_there IsConstraintIn Table.Constraints t i (λ h. let least : 0 ≤ length h.words = omega arith in least) trail constraints;
   agents = none_there IsAgentIn Table.Agents t i (λ h. tt) trail agents;
   waiting = none_there IsWaitingIn Table.Waiting t i (λ h. tt) trail waiting;
-  taken = λ len. subst (λ (j : Image). length j.heads ≤ length j.waiting) (sym (ap (cut len) (back_stop len i (omega arith)))) (let none : length i.heads ≡ 0 = ap length heads in omega arith);
+  taken = at_each IsTakenWithin i trail (λ j same. let none : taken_in j ≡ 0 = ap (λ hs. slice_index hs 0) (same.1 ∙ heads) in omega arith);
+  lists = at_each IsComplete i trail (λ j same. complete_none j (same.0 ∙ constraints) (same.1 ∙ heads));
 }
+
+-- What each change goes by
+
+pub has_constraints : (t : NameTable) (i : Image) → IsSound t i → (n : ℕ) → IsConstraintIn (heap_of t i) (slice_index i.constraints n)
+has_constraints t i s n = kept.kept_now IsConstraintIn constraint_stays Table.Constraints (names_of t) i s.right.trail s.constraints n
+
+pub has_taken : (t : NameTable) (i : Image) → IsSound t i → IsTakenWithin i
+has_taken t i s = each.now IsTakenWithin i s.right.trail s.taken
+
+pub has_lists : (t : NameTable) (i : Image) → IsSound t i → IsComplete i
+has_lists t i s = each.now IsComplete i s.right.trail s.lists
+
+-- lists behind more words
+list_words : (t : NameTable) (i : Image) → IsSound t i → (ws : List ℕ) → IsComplete (appended i ws)
+list_words t i s ws = complete_words i (has_constraints t i s) (has_lists t i s) ws
 
 -- more names
 
@@ -96,6 +121,7 @@ sound_names t u i keeps distinct s =
       agents = kept.by_names IsAgentIn agent_stays Table.Agents (names_of t) (names_of u) i more s.agents;
       waiting = kept.by_names IsWaitingIn waiting_stays Table.Waiting (names_of t) (names_of u) i more s.waiting;
       taken = s.taken;
+      lists = s.lists;
     }
 
 -- more words
@@ -109,7 +135,8 @@ sound_words t i ws writes s = record {
   constraints = kept.by_words IsConstraintIn constraint_stays Table.Constraints (names_of t) i s.right.trail s.constraints (stay t) ws;
   agents = kept.by_words IsAgentIn agent_stays Table.Agents (names_of t) i s.right.trail s.agents (stay t) ws;
   waiting = kept.by_words IsWaitingIn waiting_stays Table.Waiting (names_of t) i s.right.trail s.waiting (stay t) ws;
-  taken = taken.by_words i s.right.trail s.taken ws;
+  taken = each.by_words IsTakenWithin i s.right.trail s.taken (λ vs. has_taken t i s) ws;
+  lists = each.by_words IsComplete i s.right.trail s.lists (list_words t i s) ws;
 }
 
 sound_data : (t : NameTable) (i : Image) → IsSound t i → IsSound t (appended i (data_of 0 ∷ []))
@@ -121,7 +148,8 @@ sound_data t i s = record {
   constraints = kept.by_words IsConstraintIn constraint_stays Table.Constraints (names_of t) i s.right.trail s.constraints (stay t) (data_of 0 ∷ []);
   agents = kept.by_words IsAgentIn agent_stays Table.Agents (names_of t) i s.right.trail s.agents (stay t) (data_of 0 ∷ []);
   waiting = kept.by_words IsWaitingIn waiting_stays Table.Waiting (names_of t) i s.right.trail s.waiting (stay t) (data_of 0 ∷ []);
-  taken = taken.by_words i s.right.trail s.taken (data_of 0 ∷ []);
+  taken = each.by_words IsTakenWithin i s.right.trail s.taken (λ vs. has_taken t i s) (data_of 0 ∷ []);
+  lists = each.by_words IsComplete i s.right.trail s.lists (list_words t i s) (data_of 0 ∷ []);
 }
 
 pub sound_numbered : (t u : NameTable) (i j : Image) (name : List ℕ) → IsNumbered t u i j name → IsSound t i → IsSound u j
@@ -143,11 +171,12 @@ sound_variable t i s = record {
   constraints = kept.by_other_push IsConstraintIn constraint_stays Table.Constraints (names_of t) i s.right.trail s.constraints (stay t) Table.Variables 0 (λ e. absurd (cc));
   agents = kept.by_other_push IsAgentIn agent_stays Table.Agents (names_of t) i s.right.trail s.agents (stay t) Table.Variables 0 (λ e. absurd (cc));
   waiting = kept.by_other_push IsWaitingIn waiting_stays Table.Waiting (names_of t) i s.right.trail s.waiting (stay t) Table.Variables 0 (λ e. absurd (cc));
-  taken = taken.by_push i s.right.trail s.taken Table.Variables 0 (taken.now i s.right.trail s.taken);
+  taken = each.by_push IsTakenWithin i s.right.trail s.taken (λ vs. has_taken t i s) Table.Variables 0 (has_taken t i s);
+  lists = each.by_push IsComplete i s.right.trail s.lists (list_words t i s) Table.Variables 0 (complete_variable i (has_constraints t i s) (has_lists t i s));
 }
 
-pub sound_binding : (t : NameTable) (i : Image) (n r : ℕ) → IsRefIn (heap_of t i) (form_of r) → IsSound t i → IsSound t (replaced i Table.Variables n (suc r))
-sound_binding t i n r is s = record {
+pub sound_binding : (t : NameTable) (i : Image) (n r : ℕ) → IsRefIn (heap_of t i) (form_of r) → IsComplete (replaced i Table.Variables n (suc r)) → IsSound t i → IsSound t (replaced i Table.Variables n (suc r))
+sound_binding t i n r is complete s = record {
   cells = s.cells;
   distinct = s.distinct;
   right = right.by_replace (names_of t) i Table.Variables n (suc r) s.right;
@@ -155,7 +184,8 @@ sound_binding t i n r is s = record {
   constraints = kept.by_other_replace IsConstraintIn constraint_stays Table.Constraints (names_of t) i s.right.trail s.constraints (stay t) Table.Variables n (suc r) (λ e. absurd (cc));
   agents = kept.by_other_replace IsAgentIn agent_stays Table.Agents (names_of t) i s.right.trail s.agents (stay t) Table.Variables n (suc r) (λ e. absurd (cc));
   waiting = kept.by_other_replace IsWaitingIn waiting_stays Table.Waiting (names_of t) i s.right.trail s.waiting (stay t) Table.Variables n (suc r) (λ e. absurd (cc));
-  taken = taken.by_replace i s.right.trail s.taken Table.Variables n (suc r) (taken.now i s.right.trail s.taken);
+  taken = each.by_replace IsTakenWithin i s.right.trail s.taken (λ vs. has_taken t i s) Table.Variables n (suc r) (has_taken t i s);
+  lists = each.by_replace IsComplete i s.right.trail s.lists (list_words t i s) Table.Variables n (suc r) complete;
 }
 
 pub sound_undo : (t : NameTable) (i : Image) (n : ℕ) → IsSound t i → IsSound t (at_length n i)
@@ -167,7 +197,8 @@ sound_undo t i n s = record {
   constraints = kept.by_undo IsConstraintIn constraint_stays Table.Constraints (names_of t) i s.right.trail s.constraints n;
   agents = kept.by_undo IsAgentIn agent_stays Table.Agents (names_of t) i s.right.trail s.agents n;
   waiting = kept.by_undo IsWaitingIn waiting_stays Table.Waiting (names_of t) i s.right.trail s.waiting n;
-  taken = taken.by_undo i s.right.trail s.taken n;
+  taken = each.by_undo IsTakenWithin i s.right.trail s.taken n;
+  lists = each.by_undo IsComplete i s.right.trail s.lists n;
 }
 
 pub sound_domain : (t : NameTable) (i : Image) (n end : ℕ) → end ≤ length i.region → IsSound t i → IsSound t (replaced i Table.Variables n (8 * end))
@@ -179,21 +210,26 @@ sound_domain t i n end le s = record {
   constraints = kept.by_other_replace IsConstraintIn constraint_stays Table.Constraints (names_of t) i s.right.trail s.constraints (stay t) Table.Variables n (8 * end) (λ e. absurd (cc));
   agents = kept.by_other_replace IsAgentIn agent_stays Table.Agents (names_of t) i s.right.trail s.agents (stay t) Table.Variables n (8 * end) (λ e. absurd (cc));
   waiting = kept.by_other_replace IsWaitingIn waiting_stays Table.Waiting (names_of t) i s.right.trail s.waiting (stay t) Table.Variables n (8 * end) (λ e. absurd (cc));
-  taken = taken.by_replace i s.right.trail s.taken Table.Variables n (8 * end) (taken.now i s.right.trail s.taken);
+  taken = each.by_replace IsTakenWithin i s.right.trail s.taken (λ vs. has_taken t i s) Table.Variables n (8 * end) (has_taken t i s);
+  lists = each.by_replace IsComplete i s.right.trail s.lists (list_words t i s) Table.Variables n (8 * end) (complete_domain i n end (has_constraints t i s) (has_lists t i s));
 }
 
 -- one more constraint
 
-pub sound_constraint : (t : NameTable) (i : Image) (w : ℕ) → IsConstraintIn (heap_of t (pushed i Table.Constraints w)) w → IsSound t i → IsSound t (pushed i Table.Constraints w)
-sound_constraint t i w is s = record {
+constraint_pushed : (i : Image) (w : ℕ) → w ≤ length i.region → w ≤ length (pushed i Table.Constraints w).region
+constraint_pushed i w le = omega (arith, length-append i.region (push_word i Table.Constraints ∷ []))
+
+pub sound_constraint : (t : NameTable) (i : Image) (w : ℕ) → w ≤ length i.region → ((n v : ℕ) → SpeaksOf (constraint_at i.region w) n → Leads i.variables n v → IsOnList i v (length i.constraints)) → IsSound t i → IsSound t (pushed i Table.Constraints w)
+sound_constraint t i w le put s = record {
   cells = s.cells;
   distinct = s.distinct;
   right = right.by_push (names_of t) i Table.Constraints w s.right;
   bound = bound.by_push (names_of t) i Table.Constraints w (λ e. absurd (cc)) (stay t) s.right s.bound;
-  constraints = kept.by_push IsConstraintIn constraint_stays Table.Constraints (names_of t) i s.right.trail s.constraints (stay t) w is;
+  constraints = kept.by_push IsConstraintIn constraint_stays Table.Constraints (names_of t) i s.right.trail s.constraints (stay t) w (constraint_pushed i w le);
   agents = kept.by_other_push IsAgentIn agent_stays Table.Agents (names_of t) i s.right.trail s.agents (stay t) Table.Constraints w (λ e. absurd (cc));
   waiting = kept.by_other_push IsWaitingIn waiting_stays Table.Waiting (names_of t) i s.right.trail s.waiting (stay t) Table.Constraints w (λ e. absurd (cc));
-  taken = taken.by_push i s.right.trail s.taken Table.Constraints w (taken.now i s.right.trail s.taken);
+  taken = each.by_push IsTakenWithin i s.right.trail s.taken (λ vs. has_taken t i s) Table.Constraints w (has_taken t i s);
+  lists = each.by_push IsComplete i s.right.trail s.lists (list_words t i s) Table.Constraints w (complete_posted i w (has_constraints t i s) (has_lists t i s) le put);
 }
 
 -- agents
@@ -208,7 +244,8 @@ sound_agent t i w is s = record {
   constraints = kept.by_other_push IsConstraintIn constraint_stays Table.Constraints (names_of t) i s.right.trail s.constraints (stay t) Table.Agents w (λ e. absurd (cc));
   agents = kept.by_push IsAgentIn agent_stays Table.Agents (names_of t) i s.right.trail s.agents (stay t) w is;
   waiting = kept.by_other_push IsWaitingIn waiting_stays Table.Waiting (names_of t) i s.right.trail s.waiting (stay t) Table.Agents w (λ e. absurd (cc));
-  taken = taken.by_push i s.right.trail s.taken Table.Agents w (taken.now i s.right.trail s.taken);
+  taken = each.by_push IsTakenWithin i s.right.trail s.taken (λ vs. has_taken t i s) Table.Agents w (has_taken t i s);
+  lists = each.by_push IsComplete i s.right.trail s.lists (list_words t i s) Table.Agents w (complete_agent i w (has_constraints t i s) (has_lists t i s));
 }
 
 pub sound_agent_for : (t : NameTable) (i : Image) (n w : ℕ) → IsAgentIn (heap_of t (replaced i Table.Agents n w)) w → IsSound t i → IsSound t (replaced i Table.Agents n w)
@@ -220,7 +257,8 @@ sound_agent_for t i n w is s = record {
   constraints = kept.by_other_replace IsConstraintIn constraint_stays Table.Constraints (names_of t) i s.right.trail s.constraints (stay t) Table.Agents n w (λ e. absurd (cc));
   agents = kept.by_replace IsAgentIn agent_stays Table.Agents (names_of t) i s.right.trail s.agents (stay t) n w is;
   waiting = kept.by_other_replace IsWaitingIn waiting_stays Table.Waiting (names_of t) i s.right.trail s.waiting (stay t) Table.Agents n w (λ e. absurd (cc));
-  taken = taken.by_replace i s.right.trail s.taken Table.Agents n w (taken.now i s.right.trail s.taken);
+  taken = each.by_replace IsTakenWithin i s.right.trail s.taken (λ vs. has_taken t i s) Table.Agents n w (has_taken t i s);
+  lists = each.by_replace IsComplete i s.right.trail s.lists (list_words t i s) Table.Agents n w (complete_agent_for i n w (has_constraints t i s) (has_lists t i s));
 }
 
 -- what waits: one more, and one more that is taken
@@ -234,34 +272,45 @@ sound_waiting t i w is s = record {
   constraints = kept.by_other_push IsConstraintIn constraint_stays Table.Constraints (names_of t) i s.right.trail s.constraints (stay t) Table.Waiting w (λ e. absurd (cc));
   agents = kept.by_other_push IsAgentIn agent_stays Table.Agents (names_of t) i s.right.trail s.agents (stay t) Table.Waiting w (λ e. absurd (cc));
   waiting = kept.by_push IsWaitingIn waiting_stays Table.Waiting (names_of t) i s.right.trail s.waiting (stay t) w is;
-  taken = taken.by_push i s.right.trail s.taken Table.Waiting w (let before : length i.heads ≤ length i.waiting = taken.now i s.right.trail s.taken in omega (arith, length-append i.waiting (w ∷ [])));
+  taken = each.by_push IsTakenWithin i s.right.trail s.taken (λ vs. has_taken t i s) Table.Waiting w (let before : taken_in i ≤ length i.waiting = has_taken t i s in omega (arith, length-append i.waiting (w ∷ [])));
+  lists = each.by_push IsComplete i s.right.trail s.lists (list_words t i s) Table.Waiting w (complete_waiting i w (has_constraints t i s) (has_lists t i s));
 }
 
-pub sound_taken : (t : NameTable) (i : Image) (w : ℕ) → length i.heads < length i.waiting → IsSound t i → IsSound t (pushed i Table.Heads w)
-sound_taken t i w more s = record {
+-- heads: a zero more, and another word for one of them
+
+pub sound_pad : (t : NameTable) (i : Image) → IsSound t i → IsSound t (pushed i Table.Heads 0)
+sound_pad t i s = record {
   cells = s.cells;
   distinct = s.distinct;
-  right = right.by_push (names_of t) i Table.Heads w s.right;
-  bound = bound.by_push (names_of t) i Table.Heads w (λ e. absurd (cc)) (stay t) s.right s.bound;
-  constraints = kept.by_other_push IsConstraintIn constraint_stays Table.Constraints (names_of t) i s.right.trail s.constraints (stay t) Table.Heads w (λ e. absurd (cc));
-  agents = kept.by_other_push IsAgentIn agent_stays Table.Agents (names_of t) i s.right.trail s.agents (stay t) Table.Heads w (λ e. absurd (cc));
-  waiting = kept.by_other_push IsWaitingIn waiting_stays Table.Waiting (names_of t) i s.right.trail s.waiting (stay t) Table.Heads w (λ e. absurd (cc));
-  taken = taken.by_push i s.right.trail s.taken Table.Heads w (omega (arith, length-append i.heads (w ∷ [])));
+  right = right.by_push (names_of t) i Table.Heads 0 s.right;
+  bound = bound.by_push (names_of t) i Table.Heads 0 (λ e. absurd (cc)) (stay t) s.right s.bound;
+  constraints = kept.by_other_push IsConstraintIn constraint_stays Table.Constraints (names_of t) i s.right.trail s.constraints (stay t) Table.Heads 0 (λ e. absurd (cc));
+  agents = kept.by_other_push IsAgentIn agent_stays Table.Agents (names_of t) i s.right.trail s.agents (stay t) Table.Heads 0 (λ e. absurd (cc));
+  waiting = kept.by_other_push IsWaitingIn waiting_stays Table.Waiting (names_of t) i s.right.trail s.waiting (stay t) Table.Heads 0 (λ e. absurd (cc));
+  taken = each.by_push IsTakenWithin i s.right.trail s.taken (λ vs. has_taken t i s) Table.Heads 0 (let few : taken_in i ≤ length i.waiting = has_taken t i s in omega (arith, read_zero i.heads 0));
+  lists = each.by_push IsComplete i s.right.trail s.lists (list_words t i s) Table.Heads 0 (complete_pad i (has_constraints t i s) (has_lists t i s));
+}
+
+pub sound_head : (t : NameTable) (i : Image) (place w : ℕ) → IsTakenWithin (replaced i Table.Heads place w) → IsComplete (replaced i Table.Heads place w) → IsSound t i → IsSound t (replaced i Table.Heads place w)
+sound_head t i place w within complete s = record {
+  cells = s.cells;
+  distinct = s.distinct;
+  right = right.by_replace (names_of t) i Table.Heads place w s.right;
+  bound = bound.by_replace (names_of t) i Table.Heads place w (λ e. absurd (cc)) (stay t) s.right s.bound;
+  constraints = kept.by_other_replace IsConstraintIn constraint_stays Table.Constraints (names_of t) i s.right.trail s.constraints (stay t) Table.Heads place w (λ e. absurd (cc));
+  agents = kept.by_other_replace IsAgentIn agent_stays Table.Agents (names_of t) i s.right.trail s.agents (stay t) Table.Heads place w (λ e. absurd (cc));
+  waiting = kept.by_other_replace IsWaitingIn waiting_stays Table.Waiting (names_of t) i s.right.trail s.waiting (stay t) Table.Heads place w (λ e. absurd (cc));
+  taken = each.by_replace IsTakenWithin i s.right.trail s.taken (λ vs. has_taken t i s) Table.Heads place w within;
+  lists = each.by_replace IsComplete i s.right.trail s.lists (list_words t i s) Table.Heads place w complete;
 }
 
 -- What it gives
-
-pub has_constraints : (t : NameTable) (i : Image) → IsSound t i → (n : ℕ) → IsConstraintIn (heap_of t i) (slice_index i.constraints n)
-has_constraints t i s n = kept.kept_now IsConstraintIn constraint_stays Table.Constraints (names_of t) i s.right.trail s.constraints n
 
 pub has_agents : (t : NameTable) (i : Image) → IsSound t i → (n : ℕ) → IsAgentIn (heap_of t i) (slice_index i.agents n)
 has_agents t i s n = kept.kept_now IsAgentIn agent_stays Table.Agents (names_of t) i s.right.trail s.agents n
 
 pub has_waiting : (t : NameTable) (i : Image) → IsSound t i → (n : ℕ) → IsWaitingIn (heap_of t i) (slice_index i.waiting n)
 has_waiting t i s n = kept.kept_now IsWaitingIn waiting_stays Table.Waiting (names_of t) i s.right.trail s.waiting n
-
-pub has_taken : (t : NameTable) (i : Image) → IsSound t i → length i.heads ≤ length i.waiting
-has_taken t i s = taken.now i s.right.trail s.taken
 
 pub has_words : (t : NameTable) (i : Image) → IsSound t i → (n : ℕ) → IsBoundIn (heap_of t i) (slice_index i.variables n)
 has_words t i s n = bound.kept_at (names_of t) i s.right s.bound n

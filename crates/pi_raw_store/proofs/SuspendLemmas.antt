@@ -19,6 +19,7 @@ use Rattle.pi_raw_agents.specs.Table.{word_of, is_alive, AreEventsIn, IsAgentIn,
 use Rattle.pi_raw_agents.proofs.RightLemmas.{agent_right}
 use Rattle.pi_raw_agents.proofs.TableLemmas.{events_stay, added_at, added_is, end_of_word}
 use Rattle.pi_raw_names.specs.NameTable.{NameTable}
+use Rattle.pi_raw_store.specs.Heads.{taken_in}
 use Rattle.pi_raw_store.specs.Holding.{tree_of, heap_of, event_in, agent_in, state_of, view_of}
 use Rattle.pi_raw_store.specs.Sound.{IsSound}
 use Rattle.pi_raw_store.proofs.LookLemmas.{tree_is}
@@ -81,7 +82,7 @@ suspends_to t i j call rule watches made s a many =
       agent = λ x ws is are. record {
         keeps = keeps_all t t i j keeps a.advances;
         state = same_states _ _ (q.variables vars) (q.constraints others) (before ∙ ap (λ b. map (agent_in h) i.agents ++ b ∷ []) (added_agent t i j call rule watches a x ws is are))
-            (q.waiting (ap (λ (l : Image). l.waiting) a.added ∙ ap (λ (l : Image). l.waiting) a.written.words) (ap (λ (l : Image). l.heads) a.added ∙ ap (λ (l : Image). l.heads) a.written.words));
+            (q.waiting (ap (λ (l : Image). l.waiting) a.added ∙ ap (λ (l : Image). l.waiting) a.written.words) (ap taken_in a.added ∙ ap taken_in a.written.words));
       };
     }
 
@@ -106,9 +107,9 @@ pub sound_ended : (t : NameTable) (i j : Image) (n : ℕ) → IsSound t i → Ad
 sound_ended t i j n s a is = sound_if t i j n (is_alive (slice_index i.agents n)) s refl a is
 
 -- what waits is left
-waiting_if : (i j : Image) (n w : ℕ) (test : Bool) → j ≡ with_ended_if test i n w → (j.waiting ≡ i.waiting) × (j.heads ≡ i.heads)
-waiting_if i j n w false is = (ap (λ (l : Image). l.waiting) is, ap (λ (l : Image). l.heads) is)
-waiting_if i j n w true is = (ap (λ (l : Image). l.waiting) is, ap (λ (l : Image). l.heads) is)
+waiting_if : (i j : Image) (n w : ℕ) (test : Bool) → j ≡ with_ended_if test i n w → (j.waiting ≡ i.waiting) × (taken_in j ≡ taken_in i)
+waiting_if i j n w false is = (ap (λ (l : Image). l.waiting) is, ap taken_in is)
+waiting_if i j n w true is = (ap (λ (l : Image). l.waiting) is, ap taken_in is)
 
 agents_if : (t : NameTable) (i j : Image) (n : ℕ) (test : Bool) → IsSound t i → is_alive (slice_index i.agents n) ≡ test → Advances i j → j ≡ with_ended_if test i n (slice_index i.agents n)
     → (j.variables ≡ i.variables) × (j.constraints ≡ i.constraints) × (map (agent_in (heap_of t j)) j.agents ≡ end_agent (map (agent_in (heap_of t i)) i.agents) n)

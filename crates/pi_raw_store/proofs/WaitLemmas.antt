@@ -1,5 +1,5 @@
 -- What waits: an activation is the term that was made of it, one more waits behind the others, and the first is taken.
-use Rattle.std.proofs.Common.{◌≡◌, ℕ, zero, suc, ◌^◌, ◌<◌, ◌≤◌, cond, List, [], ◌∷◌, ◌++◌, length, map, drop, slice_index, Option, Some, None, Result, Ok, Err, IfOk, refl, ap, sym, subst, ◌∙◌, arith, length-append}
+use Rattle.std.proofs.Common.{◌≡◌, ℕ, zero, suc, ◌+◌, ◌^◌, ◌<◌, ◌≤◌, cond, List, [], ◌∷◌, ◌++◌, length, map, drop, slice_index, slice_set, Option, Some, None, Result, Ok, Err, IfOk, refl, ap, sym, subst, ◌∙◌, arith, length-append}
 use Rattle.std.proofs.lemmas.Bool.{lt-ltb}
 use Rattle.std.proofs.lemmas.List.{map-append, length-map, drop_all, drop-append-le}
 use Rattle.pi_terms.specs.Tree.{Tree, var, Trees, no_trees, tree, tree_count, tree_at, args, arity, arg_at}
@@ -25,12 +25,15 @@ use Rattle.pi_raw_store.specs.declared.mark.RawMark.{RawMark}
 use Rattle.pi_raw_store.specs.Read.{arity_of}
 use Rattle.pi_raw_store.specs.Waiting.{number_tree, activation_tree, number_in, number_at, activation_of, number_shown, ShowsArgument, HasValueBelow, WaitsAt, IsWaitingIn}
 use Rattle.pi_raw_store.specs.Holding.{heap_of, activation_in, waiting_in, state_of, view_of}
+use Rattle.pi_raw_store.specs.Heads.{taken_in, SetsHead}
 use Rattle.pi_raw_store.specs.Sound.{IsSound}
 use Rattle.pi_raw_store.proofs.LookLemmas.{tree_is}
 use Rattle.pi_raw_store.proofs.ReadLemmas.{shown_arity, made_value}
 use Rattle.pi_raw_store.proofs.NameLemmas.{keeps_itself}
 use Rattle.pi_raw_store.proofs.PartLemmas.{stays_itself}
-use Rattle.pi_raw_store.proofs.SoundLemmas.{has_waiting, has_taken, ref_has_term, term_is_ref, sound_waiting, sound_taken}
+use Rattle.pi_raw_store.proofs.SoundLemmas.{has_waiting, has_taken, ref_has_term, term_is_ref, has_constraints, has_lists, sound_waiting, sound_head}
+use Rattle.pi_raw_store.proofs.CompleteLemmas.{complete_taken}
+use Rattle.pi_raw_store.proofs.AddLemmas.{sound_pads, tables_pads}
 use Rattle.pi_raw_store.proofs.KeepLemmas.{heap_grows, keeps_all, same_states, same_parts, parts_stay}
 
 -- An activation as a term
@@ -132,15 +135,15 @@ waits_then t i j r x s a words is =
     let grows : Grows h k = heap_grows t t i j keeps a in
     let p = parts_stay t t i j s grows in
     let q = same_parts h k i j p in
-    let few : length i.heads ≤ length i.waiting = has_taken t i s in
+    let few : taken_in i ≤ length i.waiting = has_taken t i s in
     let l : length (map (activation_in h) i.waiting) ≡ length i.waiting = length-map i.waiting (activation_in h) in
     let made : activation_in k r.number ≡ activation_of x = word_activation k r.number x (trees_stay h k grows r.number x is) in
     let all : map (activation_in k) j.waiting ≡ map (activation_in h) i.waiting ++ activation_of x ∷ [] =
     ap (λ (m : Image). map (activation_in k) m.waiting) words ∙ (map-append (activation_in k) i.waiting (r.number ∷ [])
     ∙ (ap (λ xs. xs ++ activation_in k r.number ∷ []) p.waiting ∙ ap (λ b. map (activation_in h) i.waiting ++ b ∷ []) made)) in
     let waits : waiting_in k j ≡ waiting_in h i ++ activation_of x ∷ [] =
-    ap (λ (m : Image). drop (length m.heads) (map (activation_in k) j.waiting)) words
-    ∙ (ap (drop (length i.heads)) all ∙ drop-append-le (length i.heads) (map (activation_in h) i.waiting) (activation_of x ∷ []) (omega arith)) in
+    ap (λ (m : Image). drop (taken_in m) (map (activation_in k) j.waiting)) words
+    ∙ (ap (drop (taken_in i)) all ∙ drop-append-le (taken_in i) (map (activation_in h) i.waiting) (activation_of x ∷ []) (omega arith)) in
     record {
       keeps = keeps_all t t i j keeps a;
       state = same_states _ _ (q.variables (ap (λ (m : Image). m.variables) words)) (q.constraints (ap (λ (m : Image). m.constraints) words)) (q.agents (ap (λ (m : Image). m.agents) words)) waits;
@@ -191,33 +194,48 @@ waits_at t i n s = by (slice_index i.waiting n) (has_waiting t i s n)
     by zero is = tt
     by (suc w) is = ref_has_term t i s (suc w) is
 
-pub takes_none : (t : NameTable) (i : Image) → length i.waiting ≤ length i.heads → TakesFirst (view_of t i) (view_of t i) None
+pub takes_none : (t : NameTable) (i : Image) → length i.waiting ≤ taken_in i → TakesFirst (view_of t i) (view_of t i) None
 takes_none t i le =
     let l : length (map (activation_in (heap_of t i)) i.waiting) ≡ length i.waiting = length-map i.waiting (activation_in (heap_of t i)) in
-    (drop_all (length i.heads) (map (activation_in (heap_of t i)) i.waiting) (omega arith), stays_itself t i)
+    (drop_all (taken_in i) (map (activation_in (heap_of t i)) i.waiting) (omega arith), stays_itself t i)
 
-pub sound_takes : (t : NameTable) (i j : Image) (w : ℕ) → IsSound t i → length i.heads < length i.waiting → j ≡ pushed i Table.Heads w → IsSound t j
-sound_takes t i j w s more words = subst (IsSound t) (sym words) (sound_taken t i w more s)
+set_first : (hs : List ℕ) (w : ℕ) → 0 < length hs → slice_index (slice_set hs 0 w) 0 ≡ w
+set_first [] w some = absurd (omega arith)
+set_first (h ∷ hs) w some = refl
 
-pub takes_first : (t : NameTable) (i j : Image) (w : ℕ) (first : Activation) → IsSound t i → length i.heads < length i.waiting → Advances i j → j ≡ pushed i Table.Heads w → first ≡ activation_in (heap_of t i) (slice_index i.waiting (length i.heads))
+pub taken_then : (i j : Image) (w : ℕ) → SetsHead i j 0 w → taken_in j ≡ w
+taken_then i j w is = ap taken_in is.set ∙ set_first is.mid.heads w is.there
+
+pub sound_takes : (t : NameTable) (i j : Image) → IsSound t i → taken_in i < length i.waiting → SetsHead i j 0 (taken_in i + 1) → IsSound t j
+sound_takes t i j s more is =
+    let mid : IsSound t is.mid = sound_pads t i is.padded s in
+    let waiting : is.mid.waiting ≡ i.waiting = (tables_pads i is.padded).waiting in
+    let many : length is.mid.waiting ≡ length i.waiting = ap length waiting in
+    let first : slice_index (slice_set is.mid.heads 0 (taken_in i + 1)) 0 ≡ taken_in i + 1 = set_first is.mid.heads (taken_in i + 1) is.there in
+    subst (IsSound t) (sym is.set) (sound_head t is.mid 0 (taken_in i + 1) (omega arith) (complete_taken is.mid (taken_in i + 1) (has_constraints t is.mid mid) (has_lists t is.mid mid)) mid)
+
+pub takes_first : (t : NameTable) (i j : Image) (first : Activation) → IsSound t i → taken_in i < length i.waiting → Advances i j → SetsHead i j 0 (taken_in i + 1) → first ≡ activation_in (heap_of t i) (slice_index i.waiting (taken_in i))
     → TakesFirst (view_of t i) (view_of t j) (Some first)
-takes_first t i j w first s more a words is =
+takes_first t i j first s more a set is =
     let h : Heap = heap_of t i in
     let k : Heap = heap_of t j in
     let keeps = keeps_itself t (length i.region) in
     let p = parts_stay t t i j s (heap_grows t t i j keeps a) in
     let q = same_parts h k i j p in
     let all : List Activation = map (activation_in h) i.waiting in
-    let rest : List Activation = drop (suc (length i.heads)) all in
-    let one : suc (length i.heads) ≡ length (i.heads ++ w ∷ []) = omega (arith, length-append i.heads (w ∷ [])) in
-    let left : waiting_in k j ≡ drop (suc (length i.heads)) (map (activation_in h) i.waiting) =
-    ap (λ (m : Image). drop (length m.heads) (map (activation_in k) m.waiting)) words
-    ∙ (ap (λ n. drop n (map (activation_in k) i.waiting)) (sym one) ∙ ap (drop (suc (length i.heads))) p.waiting) in (
+    let n : ℕ = taken_in i in
+    let rest : List Activation = drop (suc n) all in
+    let same = tables_pads i set.padded in
+    let one : taken_in j ≡ suc n = let e : taken_in j ≡ n + 1 = taken_then i j (n + 1) set in omega arith in
+    let waiting : j.waiting ≡ i.waiting = ap (λ (m : Image). m.waiting) set.set ∙ same.waiting in
+    let left : waiting_in k j ≡ drop (suc n) (map (activation_in h) i.waiting) =
+    ap (λ m. drop m (map (activation_in k) j.waiting)) one
+    ∙ (ap (λ ws. drop (suc n) (map (activation_in k) ws)) waiting ∙ ap (drop (suc n)) p.waiting) in (
       rest,
-      drop_one all i.waiting (activation_in h) (length i.heads) refl more ∙ ap (λ b. b ∷ rest) (sym is),
+      drop_one all i.waiting (activation_in h) n refl more ∙ ap (λ b. b ∷ rest) (sym is),
       record {
         keeps = keeps_all t t i j keeps a;
-        state = same_states _ _ (q.variables (ap (λ (m : Image). m.variables) words)) (q.constraints (ap (λ (m : Image). m.constraints) words)) (q.agents (ap (λ (m : Image). m.agents) words)) left;
+        state = same_states _ _ (q.variables (ap (λ (m : Image). m.variables) set.set ∙ same.variables)) (q.constraints (ap (λ (m : Image). m.constraints) set.set ∙ same.constraints)) (q.agents (ap (λ (m : Image). m.agents) set.set ∙ same.agents)) left;
       },
     )
 

@@ -14,6 +14,7 @@ use Rattle.pi_raw_agents.specs.Table.{end_of, is_alive}
 use Rattle.pi_raw_constraints.specs.Table.{constraint_at}
 use Rattle.pi_raw_store.specs.Domains.{domain_at}
 use Rattle.pi_raw_store.specs.Waiting.{activation_of}
+use Rattle.pi_raw_store.specs.Heads.{taken_in}
 use Rattle.pi_raw_names.specs.NameTable.{NameTable, names_of}
 use Rattle.pi_raw_store.specs.declared.mark.RawMark.{RawMark}
 
@@ -65,9 +66,9 @@ abbrev pub activation_in : Heap → ℕ → Activation
 activation_in h zero = record { agent = 0; watch = 0; value = None }
 activation_in h (suc w) = activation_of (tree_of h (suc w))
 
--- what waits: those of the table, of which the first were taken, as many as the heads are
+-- what waits: those of the table, of which the first were taken, as many as the first of the heads says
 abbrev pub waiting_in : Heap → Image → List Activation
-waiting_in h i = drop (length i.heads) (map (activation_in h) i.waiting)
+waiting_in h i = drop (taken_in i) (map (activation_in h) i.waiting)
 
 -- the state that the words say, over what terms are read from
 abbrev pub state_of : Heap → Image → State

@@ -1,4 +1,6 @@
 pub mod Walk
+pub mod Heads
+pub mod Lists
 pub mod Posted
 pub mod Domains
 pub mod Since
@@ -6,6 +8,7 @@ pub mod Waiting
 pub mod Holding
 pub mod Bindings
 pub mod Sound
+pub mod Added
 pub mod Changed
 pub mod Read
 pub mod Restoration

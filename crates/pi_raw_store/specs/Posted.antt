@@ -1,5 +1,5 @@
 -- The constraints on a variable, by the words of the variables and the constraints alone.
-use Rattle.std.specs.Prelude.{ℕ, ◌<◌, Bool, true, false, cond, List, [], ◌∷◌, ℤ, slice_index}
+use Rattle.std.specs.Prelude.{◌≡◌, ◌⊎◌, ℕ, ◌+◌, ◌<◌, ◌≤◌, Bool, true, false, cond, List, [], ◌∷◌, ◌++◌, ℤ, length, slice_index}
 use Rattle.pi_constraints.specs.declared.constraint.Item.{Item}
 use Rattle.pi_constraints.specs.declared.constraint.Constraint.{Constraint}
 use Rattle.pi_states.specs.Store.{Lists}
@@ -36,3 +36,7 @@ posted_at i v n = constraint_leads i.variables (constraint_at i.region (slice_in
 -- the numbers ascend, and are those below the bound of which this is so
 abbrev pub ListsBelow : (ℕ → Type 0) → ℕ → List ℕ → Type 0
 ListsBelow P bound ns = Lists (λ n. (n < bound) × P n) ns
+
+-- A number of a list is passed: below the least that is looked for, or of no constraint, it is none; else it is looked at, and the next one is the least
+abbrev pub Passes : Image → ℕ → ℕ → ℕ → List ℕ → List ℕ → ℕ → Type 0
+Passes i v n least old new next = (((n < least) ⊎ (length i.constraints ≤ n)) × (next ≡ least) × (new ≡ old)) ⊎ ((least ≤ n) × (n < length i.constraints) × (next ≡ n + 1) × (new ≡ cond (posted_at i v n) (old ++ n ∷ []) old))

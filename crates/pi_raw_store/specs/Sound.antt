@@ -12,13 +12,19 @@ use Rattle.pi_raw_constraints.specs.Table.{IsConstraintIn}
 use Rattle.pi_raw_agents.specs.Table.{IsAgentIn}
 use Rattle.pi_raw_names.specs.NameTable.{NameTable, names_of}
 use Rattle.pi_raw_store.specs.Waiting.{IsWaitingIn}
+use Rattle.pi_raw_store.specs.Heads.{taken_in}
+use Rattle.pi_raw_store.specs.Lists.{IsComplete}
 
--- no more activations were taken than were to wait, now and at each length that the region had
-abbrev pub AreTakenWithin : Image → Type 0
-AreTakenWithin i = (len : ℕ) → length (at_length len i).heads ≤ length (at_length len i).waiting
+-- something is so now, and at each length that the region had
+abbrev pub AtEach : (Image → Type 0) → Image → Type 0
+AtEach Q i = (len : ℕ) → Q (at_length len i)
+
+-- no more activations were taken than were to wait
+abbrev pub IsTakenWithin : Image → Type 0
+IsTakenWithin i = taken_in i ≤ length i.waiting
 
 -- the first name is that of list cells, no name has two numbers, each word was right when it was written, variables are bound to Refs,
--- blocks of domains and constraints stand in the region, and what agents say and what waits are Refs
+-- blocks of domains and constraints stand in the region, what agents say and what waits are Refs, and no constraint is missing in a list
 pub record IsSound (t : NameTable) (i : Image) : Type 0 where
   pub cells : slice_get t.texts 0 ≡ Some cell_name
   pub distinct : HasDistinct t.texts
@@ -27,4 +33,5 @@ pub record IsSound (t : NameTable) (i : Image) : Type 0 where
   pub constraints : AreKept IsConstraintIn Table.Constraints (names_of t) i
   pub agents : AreKept IsAgentIn Table.Agents (names_of t) i
   pub waiting : AreKept IsWaitingIn Table.Waiting (names_of t) i
-  pub taken : AreTakenWithin i
+  pub taken : AtEach IsTakenWithin i
+  pub lists : AtEach IsComplete i

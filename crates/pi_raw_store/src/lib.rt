@@ -1,10 +1,14 @@
 //! A store over raw words: its names, terms, variables, bindings and marks.
 #![tactic(auto)]
 
+mod bind;
 mod domains;
+mod heads;
 pub mod laws;
+mod lists;
 mod mark;
 mod named;
+mod post;
 mod posted;
 mod read;
 mod refs;

@@ -1,10 +1,14 @@
 //! The constraints on a variable.
-ghost use Rattle.std.specs.Prelude.{◌≡◌, IfOk, IsTrue, length, slice_index, cond, ◌++◌, ◌∷◌, []};
-ghost use Rattle.pi_raw_store.specs.Posted.{item_leads, items_lead, sum_leads, constraint_leads, posted_at, ListsBelow};
+ghost use Rattle.std.specs.Prelude.{◌≡◌, ℕ, IfOk, IsTrue, length, slice_index, cond, ◌++◌, ◌∷◌, [], Contains};
+ghost use Rattle.std.specs.List.Sorted.{IsNonDecreasing};
+ghost use Rattle.pi_raw_store.specs.Posted.{item_leads, items_lead, sum_leads, constraint_leads, posted_at, ListsBelow, Passes};
+ghost use Rattle.pi_raw_store.specs.Lists.{IsOnList, IsComplete};
 
+use crate::heads::list_end;
 use crate::walk::variable_leads_to;
 use pi_constraints::{Constraint, Item, Items, LinTerms};
 use pi_raw_constraints::numbered_constraint;
+use pi_raw_lists::listed;
 use pi_states::Places;
 use pi_terms::Series;
 use pi_trail::{Table, Trailed};
@@ -89,14 +93,49 @@ pub fn push_if(found: &mut Places, number: u64, is_one: bool) -> Result<(), Allo
     Ok(())
 }
 
-/// The numbers of the constraints in which a variable stands, itself or as one that leads to it; ascending.
-pub fn posted_on(alloc: Global, words: &Trailed, v: u64) -> Result<Places, AllocError>
-    ensures { IfOk result (ListsBelow (λ n. IsTrue (posted_at words.now v n)) (length words.now.constraints)) }
+/// One number of a list more: it is looked at where it is that of a constraint and none below the least that is looked for. Answers the
+/// least that is looked for then.
+fn push_posted(
+    alloc: Global,
+    words: &Trailed,
+    v: u64,
+    n: u64,
+    least: u64,
+    found: &mut Places,
+) -> Result<u64, AllocError>
+    ensures { IfOk result (λ next. Passes words.now v n least found.old found.new next) }
 {
+    if n < least {
+        return Ok(least);
+    }
+    if n >= words.count(Table::Constraints) as u64 {
+        return Ok(least);
+    }
+    let stands = is_posted(alloc, words, n, v)?;
+    push_if(found, n, stands)?;
+    Ok(n + 1)
+}
+
+/// The numbers in the list of a variable, none above one behind it.
+fn numbers_on(alloc: Global, words: &Trailed, v: u64) -> Result<Vec<u64>, AllocError>
+    ensures ascend { IfOk result (λ numbers. IsNonDecreasing numbers.items) }
+    ensures all { IfOk result (λ numbers. (k : ℕ) → IsOnList words.now v k → Contains numbers.items k) }
+{
+    let mut numbers = listed(alloc, words, list_end(words, v))?;
+    numbers.sort_unstable();
+    Ok(numbers)
+}
+
+/// The numbers of the constraints in which a variable stands, itself or as one that leads to it; ascending. It costs those that are in
+/// its list.
+pub fn posted_on(alloc: Global, words: &Trailed, v: u64) -> Result<Places, AllocError>
+    ensures { IfOk result (λ found. IsComplete words.now → ListsBelow (λ n. IsTrue (posted_at words.now v n)) (length words.now.constraints) found) }
+{
+    let numbers = numbers_on(alloc, words, v)?;
     let mut found = Series::new(alloc);
-    for n in 0..words.count(Table::Constraints) {
-        let stands = is_posted(alloc, words, n as u64, v)?;
-        push_if(&mut found, n as u64, stands)?;
+    let mut least = 0;
+    for n in &numbers {
+        least = push_posted(alloc, words, v, *n, least, &mut found)?;
     }
     Ok(found)
 }

@@ -1,8 +1,7 @@
-//! Which numbers are terms of a store, and bindings to them.
-ghost use Rattle.std.specs.Prelude.{◌≡◌, ◌↔◌, suc, ◌<◌, ◌^◌, Some, IsTrue, IfOk, OnErr, slice_get};
+//! Which numbers are terms of a store.
+ghost use Rattle.std.specs.Prelude.{◌≡◌, ◌↔◌, Some, IsTrue, slice_get};
 ghost use Rattle.pi_terms.specs.ListNames.{cell_name};
-ghost use Rattle.pi_trail.specs.Image.{numbers_of, replaced};
-ghost use Rattle.pi_trail.specs.Back.{Advances};
+ghost use Rattle.pi_trail.specs.Image.{numbers_of};
 ghost use Rattle.pi_raw_terms.specs.Form.{form_of};
 ghost use Rattle.pi_raw_terms.specs.Placed.{IsNamed, IsRefIn, AreRefsIn};
 ghost use Rattle.pi_raw_agents.specs.Table.{AreEventsIn};
@@ -14,10 +13,6 @@ use pi_raw_names::RawNames;
 use pi_raw_terms::{Form, is_placed};
 use pi_states::{Ref, Watch};
 use pi_trail::{Table, Trailed};
-use std::alloc::AllocError;
-
-/// How many variables can be bound. Binding one past them is want of memory.
-const MOST_BOUND: u64 = 576_460_752_303_423_488;
 
 /// Whether a term may have the name with this number. It takes no memory.
 fn is_named(names: &RawNames, number: u64, len: usize) -> bool
@@ -74,18 +69,4 @@ pub fn known<'a>(names: &RawNames, words: &Trailed, refs: &'a [Ref]) -> &'a [Ref
     } else {
         &[]
     }
-}
-
-/// Binds the variable with this number.
-pub fn bind_variable(words: &mut Trailed, n: u64, to: Ref) -> Result<(), AllocError>
-    requires { suc to.number < 2 ^ 64 }
-    ensures ok { IfOk result (λ _. words.new ≡ replaced words.old Table.Variables n (suc to.number)) }
-    ensures advances { IfOk result (λ _. Advances words.old words.new) }
-    ensures err { OnErr result (words.new ≡ words.old) }
-{
-    if n >= MOST_BOUND {
-        return Err(AllocError);
-    }
-    words.replace(Table::Variables, n as usize, to.number + 1)?;
-    Ok(())
 }

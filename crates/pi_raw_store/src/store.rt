@@ -10,19 +10,21 @@ ghost use Rattle.pi_raw_store.specs.Holding.{seen, order};
 
 mod waiting;
 
+use crate::bind::bind_variable;
 use crate::domains::{confine, domain_by, domain_of};
 use crate::mark::RawMark;
 use crate::named::numbered;
+use crate::post::post_constraint;
 use crate::posted::posted_on;
 use crate::read::{Reading, read};
-use crate::refs::{bind_variable, has, has_events, known};
+use crate::refs::{has, has_events, known};
 use crate::since::changed_since;
 use crate::walk;
 use pi_constraints::{Constraint, Domain};
 use pi_raw_agents::{
     add_agent, agent_call, agent_end, agent_rule, end_agent, is_alive, read_watches,
 };
-use pi_raw_constraints::{add_constraint, numbered_constraint};
+use pi_raw_constraints::numbered_constraint;
 use pi_raw_names::RawNames;
 use pi_raw_terms as terms;
 use pi_region::Words;
@@ -231,7 +233,7 @@ impl RawStore {
         Ok(found)
     }
 
-    /// One more constraint.
+    /// One more constraint. Nothing is posted where a variable in it wasn't made.
     pub fn post(&mut self, c: &Constraint) -> Result<(), AllocError>
         ensures keeps { Keeps (seen self.old) (seen self.new) }
         ensures ok { IfOk result (λ _. MayPost (seen self.old).now.state c.now → Changes (seen self.old) (seen self.new) (with_constraint (seen self.old).now.state c.now)) }
@@ -240,7 +242,7 @@ impl RawStore {
         if self.words.count(Table::Variables) > MOST_IN_CONSTRAINTS {
             return Err(AllocError);
         }
-        add_constraint(&mut self.words, c)?;
+        let _posted = post_constraint(self.alloc, &mut self.words, c)?;
         Ok(())
     }
 
@@ -260,7 +262,7 @@ impl RawStore {
     }
 
     /// The numbers of the constraints in which this variable occurs, or one that is bound to it directly or through
-    /// others; ascending.
+    /// others; ascending. It costs the constraints that were posted on it.
     pub fn posted_on(&self, alloc: Global, v: u64) -> Result<Places, AllocError>
         ensures { IfOk result (λ found. IsAcyclic (bindings (seen self.now).now.state) → Lists (IsPostedOn (seen self.now).now.state v) found) }
     {

@@ -76,7 +76,7 @@ pub fn free_variable(words: &Trailed, r: Ref) -> Option<u64>
 }
 
 /// The variable that a variable is bound to directly.
-fn next_variable(words: &Trailed, n: u64) -> Option<u64>
+pub fn next_variable(words: &Trailed, n: u64) -> Option<u64>
     ensures { result ≡ next_at words.now.variables n }
 {
     match binding(words, n) {

@@ -7,6 +7,7 @@ ghost use Rattle.pi_built.specs.Built.{PutsNode, PutsCompound};
 ghost use Rattle.pi_raw_store.specs.Holding.{seen};
 ghost use Rattle.pi_raw_store.specs.Waiting.{activation_of, activation_tree, HasValueBelow};
 
+use crate::heads::{count_taken, taken_in};
 use crate::refs::has;
 use crate::store::RawStore;
 use crate::waiting::activation;
@@ -39,13 +40,13 @@ impl RawStore {
         ensures ok { IfOk result (TakesFirst (seen self.old) (seen self.new)) }
         ensures err { OnErr result (Stays (seen self.old) (seen self.new)) }
     {
-        let taken = self.words.count(Table::Heads);
-        if taken >= self.words.count(Table::Waiting) {
+        let taken = taken_in(&self.words);
+        if taken >= self.words.count(Table::Waiting) as u64 {
             return Ok(None);
         }
-        let word = self.words.get(Table::Waiting, taken);
+        let word = self.words.get(Table::Waiting, taken as usize);
         let first = activation(self.alloc, &self.names, &self.words, word)?;
-        match self.words.push(Table::Heads, 0) {
+        match count_taken(&mut self.words, taken) {
             Ok(()) => Ok(Some(first)),
             Err(refused) => {
                 drop(first);

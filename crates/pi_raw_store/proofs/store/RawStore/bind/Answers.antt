@@ -1,10 +1,9 @@
-use Rattle.std.proofs.Common.{◌<◌, ◌^◌, ◌∙◌, IsTrue, false, length, refl, sym, subst, arith}
+use Rattle.std.proofs.Common.{◌<◌, ◌^◌, ◌∙◌, IsTrue, false, length, refl, sym, arith}
 use Rattle.pi_raw_store.specs.Holding.{heap_of}
-use Rattle.pi_raw_store.specs.Sound.{IsSound}
 use Rattle.pi_raw_store.proofs.NameLemmas.{keeps_itself}
-use Rattle.pi_raw_store.proofs.SoundLemmas.{sound_binding, ref_below}
+use Rattle.pi_raw_store.proofs.SoundLemmas.{ref_below}
 use Rattle.pi_raw_store.proofs.KeepLemmas.{keeps_all}
-use Rattle.pi_raw_store.proofs.BindLemmas.{followed_ref, binds_no_term, binds_no_variable, binds_to}
+use Rattle.pi_raw_store.proofs.BindLemmas.{followed_ref, binds_no_term, binds_no_variable, sound_bound, binds_to}
 use Rattle.pi_raw_store.proofs.PartLemmas.{refused}
 use Rattle.pi_raw_store.proofs.store.RawStore.bind.Goals as goal
 
@@ -32,16 +31,16 @@ invariant_of-self-2 c =
     let t = c.self.inside.names in
     let i = c.self.inside.words in
     let is = followed_ref t i c.args.t c.followed-to.result c.self.invariant ((c.if-not-has.ensures c.self.invariant.cells).0 refl) c.followed-to.ensures in
-    subst (IsSound t) (sym c.in_ok-bind_variable.ensures.ok) (sound_binding t i c.in-Some.n c.followed-to.result.number is c.self.invariant)
+    sound_bound t i c.bind_variable.new.words c.in-Some.n c.followed-to.result.number c.self.invariant is c.in_ok-bind_variable.ensures.ok
 
 pub returns-clause-keeps : goal.returns-clause-keeps
 returns-clause-keeps c =
     let t = c.self.inside.names in
     let i = c.self.inside.words in
-    rw (← c.self.view_is) (keeps_all t t i c.bind_variable.new.words (keeps_itself t (length i.region)) c.in_ok-bind_variable.ensures.advances)
+    rw (← c.self.view_is) (keeps_all t t i c.bind_variable.new.words (keeps_itself t (length i.region)) c.in_ok-bind_variable.ensures.ok.advances)
 
 pub returns-clause-ok : goal.returns-clause-ok
 returns-clause-ok c =
     let t = c.self.inside.names in
     let i = c.self.inside.words in
-    rw (← c.self.view_is) (binds_to t i c.bind_variable.new.words c.args.v c.args.t c.followed-to.result c.in-Some.n c.self.invariant (sym c.free_variable.ensures ∙ c.in-Some.is) c.followed-to.ensures c.in_ok-bind_variable.ensures.ok c.in_ok-bind_variable.ensures.advances)
+    rw (← c.self.view_is) (binds_to t i c.bind_variable.new.words c.args.v c.args.t c.followed-to.result c.in-Some.n c.self.invariant (sym c.free_variable.ensures ∙ c.in-Some.is) c.followed-to.ensures c.in_ok-bind_variable.ensures.ok)
