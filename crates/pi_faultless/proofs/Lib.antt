@@ -3,7 +3,6 @@ mod BuiltTerms
 mod PlainNames
 mod CallPlaces
 mod BuiltCalls
-mod NamedPatterns
 mod BuiltGoals
 mod KnownNames
 mod FreeHeads
