@@ -10,3 +10,6 @@ pub mod BranchLemmas
 pub mod PartLemmas
 pub mod FormLemmas
 pub mod JoinedLemmas
+pub mod OverLemmas
+pub mod ArgumentLemmas
+pub mod IteratedLemmas

@@ -1,0 +1,4 @@
+pub mod Arguments
+pub mod Planned
+pub mod Opened
+pub mod Started
