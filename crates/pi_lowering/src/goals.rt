@@ -116,6 +116,7 @@ pub(crate) fn push_goal<'a>(
             push_fail(alloc, goals)?;
             Ok(())
         }
+        // What is built has none so far.
         Exp::Foreach(_, _) => Err(AllocError),
         Exp::While(test, body) => {
             let whole = while_loop(alloc, site, test, body)?;

@@ -174,6 +174,7 @@ fn made<'a>(
         Exp::Str(_) => no_value(alloc, goals),
         Exp::Quote(_) => no_value(alloc, goals),
         Exp::At(_, _) => no_value(alloc, goals),
+        // What is built has none so far.
         Exp::Collect(_, _, _) => Err(AllocError),
         Exp::And(_) => no_value(alloc, goals),
         Exp::Or(_) => no_value(alloc, goals),
