@@ -38,7 +38,7 @@ use Rattle.pi_code.proofs.LaidTerms.{wider-added, operands-wider}
 
 -- the tables with the names of others
 abbrev pub with_names : Code → Code → Code
-with_names d e = record { core = d.core; helpers = d.helpers; steps = d.steps; operands = d.operands; parts = d.parts; names = e.names; tests = d.tests; rules = d.rules; predicates = d.predicates; callables = d.callables }
+with_names d e = record { core = d.core; helpers = d.helpers; steps = d.steps; operands = d.operands; parts = d.parts; names = e.names; tests = d.tests; rules = d.rules; predicates = d.predicates; callables = d.callables; keys = d.keys }
 
 pub name-pushed : {M : Type 0} (v : StoreView M) (d e : Code) (name : List ℕ) → e.names.items ≡ d.names.items ++ name ∷ [] → AddsOperands v v d (with_names d e)
 name-pushed v d e name pushed =

@@ -41,7 +41,7 @@ unfolding OperandsAt
 no-operands-added v c us = record { adds = operands-none v c; long = omega arith; are = λ preds. omega arith }
 
 abbrev with_operands : Code → Code → Code
-with_operands d e = record { core = d.core; helpers = d.helpers; steps = d.steps; operands = e.operands; parts = d.parts; names = d.names; tests = d.tests; rules = d.rules; predicates = d.predicates; callables = d.callables }
+with_operands d e = record { core = d.core; helpers = d.helpers; steps = d.steps; operands = e.operands; parts = d.parts; names = d.names; tests = d.tests; rules = d.rules; predicates = d.predicates; callables = d.callables; keys = d.keys }
 
 operand-pushed : {M : Type 0} (v : StoreView M) (d e : Code) (o : Operand) → e.operands.items ≡ d.operands.items ++ o ∷ [] → AddsOperands v v d (with_operands d e)
 operand-pushed v d e o pushed =
@@ -117,7 +117,7 @@ same-call name other us ws e f = cc
 -- a function's value
 pub value-laid : {M : Type 0} (v w : StoreView M) (c d e : Code) (first slots : ℕ) (u : Tree) (o : Operand) (s : Step) → AddsParts v w c d → ((preds : List CorePred) → IsOperand (tables_for preds w.now.terms d) u o) →
     s.node ≡ Node.Value o → s.first_slot ≡ first → s.slots ≡ slots → e.steps.items ≡ d.steps.items ++ s ∷ [] → (preds : List CorePred) →
-    IsValueLaid (tables_for preds w.now.terms (record { core = d.core; helpers = d.helpers; steps = e.steps; operands = d.operands; parts = d.parts; names = d.names; tests = d.tests; rules = d.rules; predicates = d.predicates; callables = d.callables })) e.steps.items first slots (length c.steps.items) u
+    IsValueLaid (tables_for preds w.now.terms (record { core = d.core; helpers = d.helpers; steps = e.steps; operands = d.operands; parts = d.parts; names = d.names; tests = d.tests; rules = d.rules; predicates = d.predicates; callables = d.callables; keys = d.keys })) e.steps.items first slots (length c.steps.items) u
 value-laid v w c d e first slots u o s adds is node first_is slots_is pushed preds =
     record {
       step = s;

@@ -109,7 +109,7 @@ no-rules-added numbers v c pred clauses =
     record { adds = record { adds = adds-none v c; predicates = refl }; long = omega arith; are = λ all numbered acyclic. tt; resolved = λ all numbered are. are }
 
 abbrev with_rules : Code → Code → Code
-with_rules d e = record { core = d.core; helpers = d.helpers; steps = d.steps; operands = d.operands; parts = d.parts; names = d.names; tests = d.tests; rules = e.rules; predicates = d.predicates; callables = d.callables }
+with_rules d e = record { core = d.core; helpers = d.helpers; steps = d.steps; operands = d.operands; parts = d.parts; names = d.names; tests = d.tests; rules = e.rules; predicates = d.predicates; callables = d.callables; keys = d.keys }
 
 pub rule-added : {M : Type 0} (numbers : Numbers) (v w x : StoreView M) (c d f e : Code) (pred : PredTree) (clauses : List CoreClause) (i : ℕ) (k : CoreClause) (r : Rule) → RulesAdded numbers v w c d pred clauses i → i < length clauses → k ≡ get_or clauses i k →
     AddsRule w x d f → ((all : List CorePred) → IsNumbering numbers all → IsAcyclic (bindings w.now.state) → IsRuleLaid all (tables_for all x.now.terms f) x.names f.steps.items f.tests.items pred (clause_tree k) r) →
@@ -169,7 +169,7 @@ unfolding PredicatesAt
 no-predicates-added numbers v c preds = record { adds = adds-none v c; long = omega arith; are = λ all numbered acyclic. tt; resolved = λ all numbered are. are }
 
 abbrev with_predicates : Code → Code → Code
-with_predicates d e = record { core = d.core; helpers = d.helpers; steps = d.steps; operands = d.operands; parts = d.parts; names = d.names; tests = d.tests; rules = d.rules; predicates = e.predicates; callables = d.callables }
+with_predicates d e = record { core = d.core; helpers = d.helpers; steps = d.steps; operands = d.operands; parts = d.parts; names = d.names; tests = d.tests; rules = d.rules; predicates = e.predicates; callables = d.callables; keys = d.keys }
 
 pub predicate-added : {M : Type 0} (numbers : Numbers) (v w x : StoreView M) (c d f e : Code) (preds : List CorePred) (i : ℕ) (q : CorePred) (p : Predicate) → PredicatesAdded numbers v w c d preds i → i < length preds → q ≡ get_or preds i q →
     AddsRules w x d f → ((all : List CorePred) → IsNumbering numbers all → IsAcyclic (bindings w.now.state) → IsPredicateLaid all (tables_for all x.now.terms f) x.names f (pred_tree q) p) →

@@ -114,7 +114,7 @@ resolved-more preds ss rs s e is are i r at =
     ]
 
 abbrev with_steps : Code → Code → Code
-with_steps d e = record { core = d.core; helpers = d.helpers; steps = e.steps; operands = d.operands; parts = d.parts; names = d.names; tests = d.tests; rules = d.rules; predicates = d.predicates; callables = d.callables }
+with_steps d e = record { core = d.core; helpers = d.helpers; steps = e.steps; operands = d.operands; parts = d.parts; names = d.names; tests = d.tests; rules = d.rules; predicates = d.predicates; callables = d.callables; keys = d.keys }
 
 pub step-pushed : {M : Type 0} (v : StoreView M) (d e : Code) (s : Step) → e.steps.items ≡ d.steps.items ++ s ∷ [] → AddsSteps v v d (with_steps d e)
 step-pushed v d e s pushed =

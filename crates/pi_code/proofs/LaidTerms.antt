@@ -91,7 +91,7 @@ no-parts-added v c u =
     record { adds = record { adds = adds-none v c; steps = refl; operands = refl; tests = refl; rules = refl; predicates = refl }; long = omega arith; are = λ preds. tt }
 
 abbrev with_parts : Code → Code → Code
-with_parts d e = record { core = d.core; helpers = d.helpers; steps = d.steps; operands = d.operands; parts = e.parts; names = e.names; tests = d.tests; rules = d.rules; predicates = d.predicates; callables = d.callables }
+with_parts d e = record { core = d.core; helpers = d.helpers; steps = d.steps; operands = d.operands; parts = e.parts; names = e.names; tests = d.tests; rules = d.rules; predicates = d.predicates; callables = d.callables; keys = d.keys }
 
 pub part-added : {M : Type 0} (v w x : StoreView M) (c d e : Code) (u : Tree) (i : ℕ) (p : Part) (h : TermHead) → PartsAdded v w c d u i → IsSomeAnd (slice_get (subterms u) i) (λ r. ShowsHead r h) →
     Stays w x → Longer d.names.items e.names.items → ((r : Tree) → ShowsHead r h → IsPartOf x.now.terms e.names.items r p) → e.parts.items ≡ d.parts.items ++ p ∷ [] → PartsAdded v x c (with_parts d e) u (i + 1)

@@ -105,7 +105,7 @@ pub rule-by-steps : {M : Type 0} (v w : StoreView M) (c d : Code) → AddsSteps 
 rule-by-steps v w c d a = record { adds = a.adds; rules = a.rules; predicates = a.predicates }
 
 abbrev with_tests : Code → Code → Code
-with_tests d e = record { core = d.core; helpers = d.helpers; steps = d.steps; operands = d.operands; parts = d.parts; names = d.names; tests = e.tests; rules = d.rules; predicates = d.predicates; callables = d.callables }
+with_tests d e = record { core = d.core; helpers = d.helpers; steps = d.steps; operands = d.operands; parts = d.parts; names = d.names; tests = e.tests; rules = d.rules; predicates = d.predicates; callables = d.callables; keys = d.keys }
 
 pub test-added : {M : Type 0} (v w x : StoreView M) (c d e : Code) (head : List Pattern) (deep own deeper : Bool) (i : ℕ) (p : Pattern) (t : HeadTest) → TestsAdded v w c d head deep i → i < length head → p ≡ get_or head i p → Stays w x →
     (IsAcyclic (bindings w.now.state) → IsTestOf x.names (pattern_tree p) t) → (own ≡ false → t ≢ HeadTest.Deep) → (deeper ≡ false → (deep ≡ false) × (own ≡ false)) → e.tests.items ≡ d.tests.items ++ t ∷ [] → TestsAdded v x c (with_tests d e) head deeper (i + 1)

@@ -4,6 +4,8 @@ use Rattle.std.specs.Prelude.{slice_get, AllPairs}
 use Rattle.pi_meaning.specs.Sound.{IsAnother}
 use Rattle.pi_code.specs.declared.callables.Callables.{Callables}
 use Rattle.pi_code.specs.Callables.{AreCallable}
+use Rattle.pi_keys.specs.declared.fact_keys.FactKeys.{FactKeys}
+use Rattle.pi_code.specs.Keyed.{AreKeyed}
 use Rattle.std.proofs.lemmas.List.{length-map, map-append}
 use Rattle.pi_states.specs.State.{bindings}
 use Rattle.pi_states.specs.Store.{StoreView}
@@ -47,11 +49,11 @@ same-tables v c d core steps operands parts names tests rules predicates =
       predicates = longer-same c.predicates.items d.predicates.items (ap (λ r. r.items) predicates);
     }
 
-abbrev pub with_callables : Code → Callables → Code
-with_callables d m = record { core = d.core; helpers = d.helpers; steps = d.steps; operands = d.operands; parts = d.parts; names = d.names; tests = d.tests; rules = d.rules; predicates = d.predicates; callables = m }
+abbrev pub with_callables : Code → Callables → FactKeys → Code
+with_callables d m k = record { core = d.core; helpers = d.helpers; steps = d.steps; operands = d.operands; parts = d.parts; names = d.names; tests = d.tests; rules = d.rules; predicates = d.predicates; callables = m; keys = k }
 
--- tables that were filled with a program's predicates, a query's own, its goal, and the goals by which names are called
-pub filled-all : {M : Type 0} (numbers : Numbers) (u v w x y : StoreView M) (b c d e f : Code) (m : Callables) (ps qs : List CorePred) (g : GoalTree) (slots place : ℕ) → IsNumbering numbers (ps ++ qs) → IsAcyclic (bindings u.now.state) → b.predicates.items ≡ [] → b.steps.items ≡ [] →
+-- tables that were filled with a program's predicates, a query's own, its goal, and the goals by which names are called, and with the keys by which facts are found
+pub filled-all : {M : Type 0} (numbers : Numbers) (u v w x y : StoreView M) (b c d e f : Code) (m : Callables) (k : FactKeys) (ps qs : List CorePred) (g : GoalTree) (slots place : ℕ) → IsNumbering numbers (ps ++ qs) → IsAcyclic (bindings u.now.state) → b.predicates.items ≡ [] → b.steps.items ≡ [] →
     Adds u v b c → length c.predicates.items ≡ length b.predicates.items + length ps →
     ((all : List CorePred) → IsNumbering numbers all → IsAcyclic (bindings u.now.state) → PredicatesAt all (tables_for all v.now.terms c) v.names c (length b.predicates.items) (map pred_tree ps)) →
     ((all : List CorePred) → IsNumbering numbers all → AreResolved all b.steps.items → AreResolved all c.steps.items) → Adds v w c d →
@@ -60,11 +62,11 @@ pub filled-all : {M : Type 0} (numbers : Numbers) (u v w x y : StoreView M) (b c
     ((all : List CorePred) → IsNumbering numbers all → IsLaid all (tables_for all x.now.terms e) e.steps.items 0 slots place g false) →
     ((all : List CorePred) → IsNumbering numbers all → AreResolved all d.steps.items → AreResolved all e.steps.items) → AddsSteps x y e f →
     ((all : List CorePred) → IsNumbering numbers all → AreResolved all e.steps.items → AreResolved all f.steps.items) →
-    (AllPairs IsAnother (map pred_tree (ps ++ qs)) → AreCallable (ps ++ qs) (tables_for (ps ++ qs) y.now.terms f) y.names f.steps.items m) →
-    IsFilled (ps ++ qs) (tables_for (ps ++ qs) y.now.terms f) y.names (with_callables f m) g slots place
-filled-all numbers u v w x y b c d e f m ps qs g slots place numbered acyclic none empty first long preds resolved second own own_resolved third laid goal_resolved fourth named_resolved callable =
+    (AllPairs IsAnother (map pred_tree (ps ++ qs)) → AreCallable (ps ++ qs) (tables_for (ps ++ qs) y.now.terms f) y.names f.steps.items m) → AreKeyed f.predicates.items f.rules.items f.tests.items k →
+    IsFilled (ps ++ qs) (tables_for (ps ++ qs) y.now.terms f) y.names (with_callables f m k) g slots place
+filled-all numbers u v w x y b c d e f m k ps qs g slots place numbered acyclic none empty first long preds resolved second own own_resolved third laid goal_resolved fourth named_resolved callable keyed =
     let all : List CorePred = ps ++ qs in
-    let filled : Code = with_callables f m in
+    let filled : Code = with_callables f m k in
     let named : Adds x y e filled = adds-then x y y e f filled fourth.adds (same-tables y f filled refl refl refl refl refl refl refl refl) in
     let own_on : Adds w y d filled = adds-then w x y d e filled third.adds named in
     let on : Adds v y c filled = adds-then v w y c d filled second own_on in
@@ -78,10 +80,11 @@ filled-all numbers u v w x y b c d e f m ps qs g slots place numbered acyclic no
       goal_is = laid-then all x y e filled 0 slots place g false named (laid all numbered);
       resolved = named_resolved all numbered (goal_resolved all numbered (own_resolved all numbered (resolved all numbered (none-resolved all b.steps.items empty))));
       callables = callable;
+      keyed = keyed;
     }
 
 abbrev with_helpers : Code → Code → Code
-with_helpers d e = record { core = d.core; helpers = e.helpers; steps = d.steps; operands = d.operands; parts = d.parts; names = d.names; tests = d.tests; rules = d.rules; predicates = d.predicates; callables = d.callables }
+with_helpers d e = record { core = d.core; helpers = e.helpers; steps = d.steps; operands = d.operands; parts = d.parts; names = d.names; tests = d.tests; rules = d.rules; predicates = d.predicates; callables = d.callables; keys = d.keys }
 
 -- the query's own predicates are kept beside them
 pub filled-with : {M : Type 0} (v : StoreView M) (d e : Code) (all : List CorePred) (g : GoalTree) (slots place : ℕ) → IsFilled all (tables_for all v.now.terms d) v.names d g slots place →
@@ -93,4 +96,5 @@ filled-with v d e all g slots place filled =
       goal_is = laid-then all v v d (with_helpers d e) 0 slots place g false same filled.goal_is;
       resolved = filled.resolved;
       callables = filled.callables;
+      keyed = filled.keyed;
     }

@@ -12,3 +12,4 @@ pub mod LaidWhole
 pub mod LaidBuiltIns
 pub mod CalledNames
 pub mod LaidNames
+pub mod KeyedLemmas

@@ -14,6 +14,7 @@ use Rattle.pi_code.specs.declared.code.Code.{Code}
 use Rattle.pi_code.specs.Code.{Tables}
 use Rattle.pi_meaning.specs.Sound.{IsAnother}
 use Rattle.pi_code.specs.Callables.{AreCallable}
+use Rattle.pi_code.specs.Keyed.{AreKeyed}
 use Rattle.pi_code.specs.Laid.{Adds, IsLaid, IsValueLaid, AreResolved}
 
 -- a test is that of a pattern; a pattern that needs more is looked up in the program
@@ -82,9 +83,10 @@ PredicatesAt preds t names code at (pred ∷ more) =
     ((p : Predicate) × (slice_get code.predicates.items at ≡ Some p) × IsPredicateLaid preds t names code pred p) × PredicatesAt preds t names code (suc at) more
 
 -- the predicates of a program and its query's own are laid out, and the query's goal at a place; each call is resolved, and where no two predicates are alike, the goals by
--- which names are called have their places
+-- which names are called have their places; facts have the keys by which they are found
 pub record IsFilled (all : List CorePred) (t : Tables) (names : List (List ℕ)) (code : Code) (goal : GoalTree) (slots place : ℕ) : Type 0 where
   pub predicates : PredicatesAt all t names code 0 (map pred_tree all)
   pub goal_is : IsLaid all t code.steps.items 0 slots place goal false
   pub resolved : AreResolved all code.steps.items
   pub callables : AllPairs IsAnother (map pred_tree all) → AreCallable all t names code.steps.items code.callables
+  pub keyed : AreKeyed code.predicates.items code.rules.items code.tests.items code.keys

@@ -3,3 +3,4 @@ pub mod Laid
 pub mod Numbers
 pub mod LaidRules
 pub mod Callables
+pub mod Keyed

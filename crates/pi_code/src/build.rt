@@ -8,6 +8,7 @@ ghost use Rattle.pi_code.specs.Laid.{tables_for};
 ghost use Rattle.pi_code.specs.LaidRules.{IsFilled};
 
 mod goals;
+mod keys;
 mod named;
 mod numbers;
 mod rules;
@@ -16,8 +17,10 @@ mod terms;
 
 use crate::callables::Callables;
 use crate::code::Code;
+use keys::fact_keys;
 use numbers::Numbers;
 use pi_core::{CoreGoal, CorePred, CorePreds, CoreProgram};
+use pi_keys::FactKeys;
 use pi_states::StateStore;
 use std::alloc::{AllocError, Global};
 
@@ -70,6 +73,8 @@ fn fill<'p, S: StateStore>(
     let place = builder.add_goal(&mut code, store, goal, shape, false)?;
     let callables = builder.add_callables(&mut code, store, preds, helpers)?;
     code.callables = callables;
+    let keys = fact_keys(alloc, &code, preds)?;
+    code.keys = keys;
     Ok((code, place))
 }
 
@@ -90,6 +95,7 @@ fn no_code(alloc: Global, core: &CoreProgram) -> Code<'_>
         rules: Vec::new(alloc),
         predicates: Vec::new(alloc),
         callables: Callables::new(alloc),
+        keys: FactKeys::new(alloc),
     }
 }
 

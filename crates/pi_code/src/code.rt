@@ -10,6 +10,7 @@ ghost use Rattle.pi_code.specs.Code.{tables_of, preds_of, step_cell, StandsAt, c
 use crate::callables::Callables;
 use pi_builtin::{Function, Predicate as BuiltInPredicate};
 use pi_core::{CorePred, CorePreds, CoreProgram, Pattern};
+use pi_keys::FactKeys;
 use pi_states::Ref;
 use pi_terms::Text;
 
@@ -138,6 +139,8 @@ pub struct Code<'p> {
     pub predicates: Vec<Predicate>,
     /// Where the goals stand by which `call` runs what a term names.
     pub callables: Callables,
+    /// By which keys facts are found.
+    pub keys: FactKeys,
 }
 
 impl Code<'_> {
@@ -245,6 +248,14 @@ impl Code<'_> {
         self.tests
             .get(first..first.saturating_add(count as usize))
             .unwrap_or(&[])
+    }
+
+    /// The test of a head whose tests begin at one, with its number among them.
+    pub fn test(&self, first: u32, number: u32) -> Option<HeadTest>
+        ensures { result ≡ slice_get self.now.tests.items (first + number) }
+    {
+        let place = (first as usize).saturating_add(number as usize);
+        self.tests.get(place).copied()
     }
 
     /// The place of the goal by which the name with this number is called with so many arguments, where there is one. All

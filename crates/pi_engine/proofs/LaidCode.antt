@@ -138,6 +138,7 @@ code-stands terms names code g slots place filled sound calls free =
           ));
       numbers = have-numbers (preds_of code) code.steps.items filled.resolved;
       named = named-stand terms names code (filled.callables sound.apart);
+      keyed = filled.keyed;
     }
 
 -- ---- filling

@@ -4,3 +4,4 @@ pub mod ModeLemmas
 pub mod LeaveLemmas
 pub mod CellLemmas
 pub mod RootLemmas
+pub mod KeyedLemmas

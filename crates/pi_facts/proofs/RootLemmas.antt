@@ -193,7 +193,7 @@ some-at (q ∷ ps) zero p at = omega arith
 some-at (q ∷ ps) (suc i) p at = omega (arith, some-at ps i p at)
 
 -- the argument in a place, where there is one, differs from a pattern
-abbrev DiffersAt : State → PatternTree → Option Tree → Type 0
+abbrev pub DiffersAt : State → PatternTree → Option Tree → Type 0
 DiffersAt s p None = ⊤
 DiffersAt s p (Some t) = Differs p (followed (bindings s) t)
 
@@ -232,7 +232,7 @@ none-by ts s head i p below at differs None leaves are = refl
 none-by ts s head i p below at differs (Some all) leaves are = none-of ts s head i p below at differs all leaves are (unified_with ts all) refl
 
 -- a fact that differs from a call in a place doesn't unify with it
-no-fact : (ts : Trees) (s : State) (head : List Pattern) (slots i : ℕ) (p : Pattern) → IsState s → TreesBelow (next s) ts → slice_get head i ≡ Some p → DiffersAt s (pattern_tree p) (tree_at ts i) →
+pub no-fact : (ts : Trees) (s : State) (head : List Pattern) (slots i : ℕ) (p : Pattern) → IsState s → TreesBelow (next s) ts → slice_get head i ≡ Some p → DiffersAt s (pattern_tree p) (tree_at ts i) →
     option_and_then (unified_with ts) (fact_terms (pattern_trees head) (replicate slots None) s) ≡ None
 no-fact ts s head slots i p is below at differs =
     none-by ts s head i p below at differs (fact_terms (pattern_trees head) (replicate slots None) s)
@@ -245,7 +245,7 @@ item-at [] i p less is = absurd (omega (arith, less))
 item-at (q ∷ ps) zero p less is = ap (λ (x : Pattern). Some x) (sym is)
 item-at (q ∷ ps) (suc i) p less is = item-at ps i p (omega (arith, less)) is
 
-shown-at : {M : Type 0} (v : StoreView M) (ts : Trees) (i : ℕ) (p : PatternTree) (call arg : Ref) (cell : Cell) → IsState v.now.state → IsTerm v call (comp [] ts) →
+pub shown-at : {M : Type 0} (v : StoreView M) (ts : Trees) (i : ℕ) (p : PatternTree) (call arg : Ref) (cell : Cell) → IsState v.now.state → IsTerm v call (comp [] ts) →
     ((t u : Tree) → IsTerm v call t → IsAcyclic (bindings v.now.state) → arg_at (followed (bindings v.now.state) t) i ≡ Some u → IsTerm v arg u) →
     ((t : Tree) → IsTerm v arg t → IsAcyclic (bindings v.now.state) → ShowsCell v (followed (bindings v.now.state) t) cell) →
     ((t : Tree) → ShowsCell v t cell → Differs p t) → (o : Option Tree) → tree_at ts i ≡ o → DiffersAt v.now.state p o

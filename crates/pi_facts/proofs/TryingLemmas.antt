@@ -11,6 +11,7 @@ use Rattle.pi_unify.specs.Answers.{Answers}
 use Rattle.pi_unify.proofs.KeepsLemmas.{keeps_none, stays_then}
 use Rattle.pi_machine.specs.Step.{with_fact, from_unifying}
 use Rattle.pi_facts.specs.Trying.{IsFirst, IsNext}
+use Rattle.pi_facts.specs.Keyed.{NoneBetween}
 
 -- a state that was come back to
 pub returned : {M : Type 0} (order : M → ℕ) (v w x u : StoreView M) (m : M) → Marks order v w m → Keeps w x → Returns order x u m → Stays v u
@@ -103,15 +104,45 @@ there [] i less = absurd (omega (arith, less))
 there (d ∷ ds) zero less = (d, refl)
 there (d ∷ ds) (suc i) less = there ds i (omega (arith, less))
 
+-- ---- facts that are passed over
+
+-- behind the last there is none
+none-there : (ds : List CoreClause) (i : ℕ) → slice_get ds i ≡ None → length ds ≤ i
+none-there [] i none = omega arith
+none-there (d ∷ ds) zero none = absurd cc
+none-there (d ∷ ds) (suc i) none = omega (arith, none-there ds i none)
+
+none-left : (ds : List CoreClause) (i : ℕ) → length ds ≤ i → drop i (map clause_tree ds) ≡ []
+none-left ds i past = drop_all i (map clause_tree ds) (omega (arith, past, length-map ds clause_tree))
+
+-- the next one is passed over, where there is one
+next-passed : (ts : Trees) (s : State) (ds : List CoreClause) (first from number : ℕ) → SoFar ts s (map clause_tree ds) first from number → first ≤ number → (o : Option CoreClause) → slice_get ds (number - first) ≡ o →
+    ((d : CoreClause) → slice_get ds (number - first) ≡ Some d → with_fact ts s (clause_tree d) ≡ None) → SoFar ts s (map clause_tree ds) first from (number + 1)
+next-passed ts s ds first from number so low None at none =
+    let past : length ds ≤ number - first = none-there ds (number - first) at in
+    record {
+      from_on = omega (arith, so.from_on);
+      same = so.same ∙ ap (from_unifying ts s) (none-left ds (number - first) past ∙ sym (none-left ds (number + 1 - first) (omega (arith, past))));
+    }
+next-passed ts s ds first from number so low (Some d) at none = one-passed ts s (map clause_tree ds) first from number (clause_tree d) so (next-fact ds first number d low at) (sym (ap is_some (none d at)))
+
+all-passed : (ts : Trees) (s : State) (ds : List CoreClause) (first from k number : ℕ) → SoFar ts s (map clause_tree ds) first from number → first ≤ number → NoneBetween ts s ds first number (number + k) → SoFar ts s (map clause_tree ds) first from (number + k)
+all-passed ts s ds first from zero number so low none = subst (SoFar ts s (map clause_tree ds) first from) (omega arith) so
+all-passed ts s ds first from (suc k) number so low none =
+    subst (SoFar ts s (map clause_tree ds) first from) (omega arith)
+    (all-passed ts s ds first from k (number + 1)
+    (next-passed ts s ds first from number so low (slice_get ds (number - first)) refl (λ d at. none number d (omega arith) (omega arith) at)) (omega (arith, low))
+    (λ n d here before at. none n d (omega (arith, here)) (omega (arith, before)) at))
+
 -- ---- over a store
 
--- facts were tried, and the state stayed
-pub record Tried {M : Type 0} (v w : StoreView M) (ts : Trees) (ds : List CoreClause) (first from end number : ℕ) : Type 0 where
+-- facts were tried or passed over, and the state stayed; what is known of the facts is a premise
+pub record Tried {M : Type 0} (K : Type 0) (v w : StoreView M) (ts : Trees) (ds : List CoreClause) (first from end number : ℕ) : Type 0 where
   pub stays : Stays v w
-  pub so : first ≤ from → end ≡ first + length ds → SoFar ts v.now.state (map clause_tree ds) first from number
+  pub so : K → first ≤ from → end ≡ first + length ds → SoFar ts v.now.state (map clause_tree ds) first from number
 
-pub tried-none : {M : Type 0} (v : StoreView M) (ts : Trees) (ds : List CoreClause) (first from end : ℕ) → Tried v v ts ds first from end from
-tried-none v ts ds first from end = record { stays = record { keeps = keeps_none v; state = refl }; so = λ low ends. none-tried ts v.now.state (map clause_tree ds) first from }
+pub tried-none : {M : Type 0} (K : Type 0) (v : StoreView M) (ts : Trees) (ds : List CoreClause) (first from end : ℕ) → Tried K v v ts ds first from end from
+tried-none K v ts ds first from end = record { stays = record { keeps = keeps_none v; state = refl }; so = λ known low ends. none-tried ts v.now.state (map clause_tree ds) first from }
 
 abbrev pub TellsAt : {M : Type 0} → StoreView M → Trees → List CoreClause → ℕ → Bool → Type 0
 TellsAt w ts ds place one = (d : CoreClause) → slice_get ds place ≡ Some d → one ≡ is_some (with_fact ts w.now.state (clause_tree d))
@@ -119,24 +150,38 @@ TellsAt w ts ds place one = (d : CoreClause) → slice_get ds place ≡ Some d �
 told-at : {M : Type 0} (v w : StoreView M) (ts : Trees) (d : CoreClause) (one : Bool) → Stays v w → one ≡ is_some (with_fact ts w.now.state (clause_tree d)) → one ≡ is_some (with_fact ts v.now.state (clause_tree d))
 told-at v w ts d one stays is = is ∙ ap (λ s. is_some (with_fact ts s (clause_tree d))) stays.state
 
-pub tried-more : {M : Type 0} (v w u : StoreView M) (ts : Trees) (ds : List CoreClause) (first from end number place : ℕ) → number < end → place ≡ number - first → Tried v w ts ds first from end number → Stays w u → TellsAt w ts ds place false → Tried v u ts ds first from end (number + 1)
-tried-more v w u ts ds first from end number place less at tried stays tells =
+pub tried-more : {M : Type 0} (K : Type 0) (v w u : StoreView M) (ts : Trees) (ds : List CoreClause) (first from end number place : ℕ) → number < end → place ≡ number - first → Tried K v w ts ds first from end number → Stays w u → TellsAt w ts ds place false →
+    Tried K v u ts ds first from end (number + 1)
+tried-more K v w u ts ds first from end number place less at tried stays tells =
     record {
       stays = stays_then v w u v.now.state tried.stays stays;
-      so = λ low ends.
-          (let so : SoFar ts v.now.state (map clause_tree ds) first from number = tried.so low ends in
+      so = λ known low ends.
+          (let so : SoFar ts v.now.state (map clause_tree ds) first from number = tried.so known low ends in
           let d : (d : CoreClause) × (slice_get ds (number - first) ≡ Some d) = there ds (number - first) (omega (arith, less, ends, low, so.from_on)) in
           one-passed ts v.now.state (map clause_tree ds) first from number (clause_tree d.0) so (next-fact ds first number d.0 (omega (arith, low, so.from_on)) d.1)
           (told-at v w ts d.0 false tried.stays (tells d.0 (ap (slice_get ds) at ∙ d.1))));
     }
 
-pub tried-found : {M : Type 0} (v w : StoreView M) (ts : Trees) (ds : List CoreClause) (first from end number place : ℕ) → number < end → place ≡ number - first → Tried v w ts ds first from end number → TellsAt w ts ds place true → first ≤ from → end ≡ first + length ds →
-    IsFirst ts v.now.state (map clause_tree ds) first from end number
-tried-found v w ts ds first from end number place less at tried tells low ends =
-    let so : SoFar ts v.now.state (map clause_tree ds) first from number = tried.so low ends in
+-- facts are passed over
+pub tried-passed : {M : Type 0} (K : Type 0) (v w : StoreView M) (ts : Trees) (ds : List CoreClause) (first from end number to : ℕ) → Tried K v w ts ds first from end number → number ≤ to →
+    (K → first ≤ number → end ≡ first + length ds → NoneBetween ts w.now.state ds first number to) → Tried K v w ts ds first from end to
+tried-passed K v w ts ds first from end number to tried up none =
+    record {
+      stays = tried.stays;
+      so = λ known low ends.
+          (let so : SoFar ts v.now.state (map clause_tree ds) first from number = tried.so known low ends in
+          subst (SoFar ts v.now.state (map clause_tree ds) first from) (omega (arith, up))
+          (all-passed ts v.now.state ds first from (to - number) number so (omega (arith, low, so.from_on))
+          (λ n d here before at. subst (λ s. with_fact ts s (clause_tree d) ≡ None) tried.stays.state (none known (omega (arith, low, so.from_on)) ends n d here (omega (arith, up, before)) at))));
+    }
+
+pub tried-found : {M : Type 0} (K : Type 0) (v w : StoreView M) (ts : Trees) (ds : List CoreClause) (first from end number place : ℕ) → number < end → place ≡ number - first → Tried K v w ts ds first from end number → TellsAt w ts ds place true → K → first ≤ from →
+    end ≡ first + length ds → IsFirst ts v.now.state (map clause_tree ds) first from end number
+tried-found K v w ts ds first from end number place less at tried tells known low ends =
+    let so : SoFar ts v.now.state (map clause_tree ds) first from number = tried.so known low ends in
     let d : (d : CoreClause) × (slice_get ds (number - first) ≡ Some d) = there ds (number - first) (omega (arith, less, ends, low, so.from_on)) in
     one-found ts v.now.state (map clause_tree ds) first from end number (clause_tree d.0) less so (next-fact ds first number d.0 (omega (arith, low, so.from_on)) d.1) (told-at v w ts d.0 true tried.stays (tells d.0 (ap (slice_get ds) at ∙ d.1)))
 
-pub tried-all : {M : Type 0} (v w : StoreView M) (ts : Trees) (ds : List CoreClause) (first from end number : ℕ) → end ≤ number → Tried v w ts ds first from end number → first ≤ from → end ≡ first + length ds →
+pub tried-all : {M : Type 0} (K : Type 0) (v w : StoreView M) (ts : Trees) (ds : List CoreClause) (first from end number : ℕ) → end ≤ number → Tried K v w ts ds first from end number → K → first ≤ from → end ≡ first + length ds →
     from_unifying ts v.now.state (drop (from - first) (map clause_tree ds)) ≡ []
-tried-all v w ts ds first from end number past tried low ends = none-found ts v.now.state ds first from end number past ends (tried.so low ends)
+tried-all K v w ts ds first from end number past tried known low ends = none-found ts v.now.state ds first from end number past ends (tried.so known low ends)

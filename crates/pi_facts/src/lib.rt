@@ -2,10 +2,12 @@
 #![tactic(auto)]
 
 mod heads;
+mod keyed;
 mod modes;
 mod roots;
 mod trying;
 
 pub use heads::unify_fact;
+pub use keyed::Facts;
 pub use modes::fits_call;
 pub use trying::{next_unifying, unifies};

@@ -7,8 +7,10 @@ ghost use Rattle.pi_core.specs.CoreTree.{clause_tree};
 ghost use Rattle.pi_core.specs.declared.core_program.CoreClause.{CoreClause as Clause};
 ghost use Rattle.pi_machine.specs.Step.{with_fact};
 ghost use Rattle.pi_facts.specs.Trying.{IsNext};
+ghost use Rattle.pi_facts.specs.Keyed.{HaveKeys};
 
 use crate::heads::unify_fact;
+use crate::keyed::{Facts, next_alike};
 use crate::roots::differs;
 use pi_core::CoreClause;
 use pi_states::{Ref, StateStore};
@@ -34,23 +36,31 @@ pub fn unifies<S: StateStore>(
     Ok(one)
 }
 
-/// The first fact from a number on that unifies with a call, where these facts have numbers from `first` on. The state stays.
+/// The first fact from a number on that unifies with a call. The state stays. Facts that can't unify with it by what they show
+/// in places aren't looked at.
 pub fn next_unifying<S: StateStore>(
     alloc: Global,
     s: &mut S,
-    facts: &[CoreClause],
-    first: u32,
+    facts: &Facts<'_>,
     from: u32,
-    end: u32,
     call: Ref,
 ) -> Result<Option<u32>, AllocError>
     ensures stays { IfOk result (λ _. (ts : Trees) → IsState (S.seen s.old).now.state → IsTerm (S.seen s.old) call (comp [] ts) → Stays (S.seen s.old) (S.seen s.new)) }
-    ensures found { IfOk result (λ found. (ts : Trees) → IsState (S.seen s.old).now.state → IsTerm (S.seen s.old) call (comp [] ts) → first ≤ from → end ≡ first + length facts.now → IsNext ts (S.seen s.old).now.state (map clause_tree facts.now) first from end found) }
+    ensures found { IfOk result (λ found. (ts : Trees) → IsState (S.seen s.old).now.state → IsTerm (S.seen s.old) call (comp [] ts) → HaveKeys (S.seen s.old).names facts.now.keys.now facts.now.predicate facts.now.clauses.now facts.now.first → facts.now.first ≤ from → facts.now.end ≡ facts.now.first + length facts.now.clauses.now → IsNext ts (S.seen s.old).now.state (map clause_tree facts.now.clauses.now) facts.now.first from facts.now.end found) }
 {
-    for number in from..end {
-        if unifies_at(alloc, s, facts, number.saturating_sub(first), call)? {
+    let end = facts.end;
+    let mut number = next_alike(s, facts, from, call);
+    while number < end {
+        if unifies_at(
+            alloc,
+            s,
+            facts.clauses,
+            number.saturating_sub(facts.first),
+            call,
+        )? {
             return Ok(Some(number));
         }
+        number = next_alike(s, facts, number + 1, call);
     }
     Ok(None)
 }

@@ -61,4 +61,5 @@ code-keeps code t names others preds more is =
       predicates = λ n pred at. ((is.predicates n pred at).0, (is.predicates n pred at).1, pred-keeps code t names others pred (is.predicates n pred at).0 more (is.predicates n pred at).2);
       numbers = is.numbers;
       named = named-keeps code t names others preds more is.named;
+      keyed = is.keyed;
     }

@@ -14,6 +14,7 @@ use Rattle.pi_meaning.specs.Sound.{IsAnother, pattern_count}
 use Rattle.pi_meaning.specs.Defined.{NamesAreFree}
 use Rattle.pi_named_goals.specs.NamedGoals.{goal_by_name}
 use Rattle.pi_code.specs.Callables.{place_in, HasPlace}
+use Rattle.pi_code.specs.Keyed.{AreKeyed}
 use Rattle.pi_code.specs.declared.code.Node.{Node}
 use Rattle.pi_code.specs.declared.code.Step.{Step}
 use Rattle.pi_code.specs.declared.code.HeadTest.{HeadTest}
@@ -95,7 +96,7 @@ pub record AreNamed (code : Code) (t : Tables) (names : List (List ℕ)) (preds 
   pub right : (n k place : ℕ) → place_in code.callables n k ≡ Some place → NamedHere code t names preds n k place
   pub each : (name : List ℕ) (k : ℕ) (g : GoalTree) → goal_by_name preds name k ≡ Some g → HasPlace names code.callables name k
 
--- the predicates of a program and a query's own stand in the tables, and the goals by which names are called
+-- the predicates of a program and a query's own stand in the tables, and the goals by which names are called; facts have the keys by which they are found
 pub record IsCodeOf (code : Code) (t : Tables) (names : List (List ℕ)) (preds : List PredTree) : Type 0 where
   pub source : preds ≡ map pred_tree (preds_of code)
   pub apart : AllPairs IsAnother preds
@@ -103,6 +104,7 @@ pub record IsCodeOf (code : Code) (t : Tables) (names : List (List ℕ)) (preds 
   pub predicates : (n : ℕ) (pred : PredTree) → slice_get preds n ≡ Some pred → (p : Predicate) × (slice_get code.predicates.items n ≡ Some p) × IsPredicateOf code t names pred p
   pub numbers : (i : ℕ) (s : Step) → slice_get code.steps.items i ≡ Some s → HasNumber preds s.node
   pub named : AreNamed code t names preds
+  pub keyed : AreKeyed code.predicates.items code.rules.items code.tests.items code.keys
 
 -- ---- a run
 

@@ -4,3 +4,4 @@ pub mod RetriesStand
 pub mod CallsDone
 pub mod TermsCalled
 pub mod FactsTried
+pub mod FactsKeyed

@@ -100,8 +100,8 @@ pub fn try_facts<S: StateStore>(
         return Ok(());
     };
     let asked = asked_of(run, call, predicate.arity)?;
-    let facts = source.clauses.as_slice();
-    try_some(run, facts, call, predicate, from, asked, is_again)?;
+    let clauses = source.clauses.as_slice();
+    try_some(code, run, clauses, call, predicate, from, asked, is_again)?;
     Ok(())
 }
 
@@ -118,27 +118,40 @@ fn asked_of<S: StateStore>(run: &mut Run<S>, call: &Call, arity: u32) -> Result<
 
 /// Goes on with the first of these facts from `from` on that unifies with a call.
 fn try_some<S: StateStore>(
+    code: &Code<'_>,
     run: &mut Run<S>,
-    facts: &[CoreClause],
+    clauses: &[CoreClause],
     call: &Call,
     predicate: &Predicate,
     from: u32,
     asked: Ref,
     is_again: bool,
 ) -> Result<(), AllocError>
-    ensures { IfOk result (λ _. (l : Loaded) → TriesSome (world l (S.seen run.old.store) S.order (view_of run.old.arenas)) (world l (S.seen run.new.store) S.order (view_of run.new.arenas)) call.now.predicate call.now.base call.now.frame from predicate.now facts.now asked is_again run.new.now) }
+    ensures { IfOk result (λ _. (l : Loaded) → l.code ≡ code.now → TriesSome (world l (S.seen run.old.store) S.order (view_of run.old.arenas)) (world l (S.seen run.new.store) S.order (view_of run.new.arenas)) call.now.predicate call.now.base call.now.frame from predicate.now clauses.now asked is_again run.new.now) }
 {
-    let first = predicate.first;
     let end = predicate.end;
-    let found = next_unifying(run.alloc, &mut run.store, facts, first, from, end, asked)?;
+    let facts = pi_facts::Facts {
+        clauses,
+        keys: &code.keys,
+        predicate: call.predicate,
+        first: predicate.first,
+        end,
+    };
+    let found = next_unifying(run.alloc, &mut run.store, &facts, from, asked)?;
     let Some(number) = found else {
         end_facts(run, is_again);
         return Ok(());
     };
     let behind = following(number, end);
-    let next = next_unifying(run.alloc, &mut run.store, facts, first, behind, end, asked)?;
+    let next = next_unifying(run.alloc, &mut run.store, &facts, behind, asked)?;
     leave_later(run, call, predicate.arity, next, is_again)?;
-    take_fact(run, facts, number.saturating_sub(first), call, asked)?;
+    take_fact(
+        run,
+        clauses,
+        number.saturating_sub(facts.first),
+        call,
+        asked,
+    )?;
     Ok(())
 }
 

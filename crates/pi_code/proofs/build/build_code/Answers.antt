@@ -20,6 +20,7 @@ returns-clause-filled g c = λ acyclic.
       rules = c.in_ok-code.code.rules;
       predicates = c.in_ok-code.code.predicates;
       callables = c.in_ok-code.code.callables;
+      keys = c.in_ok-code.code.keys;
     } in
     subst
     (λ (all : List CorePred). IsFilled all (tables_for all (g.S.StateStore.seen c.fill.new.store).now.terms whole) (g.S.StateStore.seen c.fill.new.store).names whole c.args.goal.now c.args.slots c.in_ok-code.place)

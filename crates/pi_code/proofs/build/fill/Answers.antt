@@ -26,6 +26,13 @@ returns-in_err-callables-clause-keeps g c =
     (keeps_then (g.S.StateStore.seen c.args.store.now) (g.S.StateStore.seen c.add_predicates.new.store) (g.S.StateStore.seen c.add_predicates-2.new.store) c.add_predicates.ensures.keeps c.add_predicates-2.ensures.keeps) c.add_goal.ensures.keeps)
     c.add_callables.ensures.keeps
 
+pub returns-in_err-keys-clause-keeps : goal.returns-in_err-keys-clause-keeps
+returns-in_err-keys-clause-keeps g c =
+    keeps_then (g.S.StateStore.seen c.args.store.now) (g.S.StateStore.seen c.add_goal.new.store) (g.S.StateStore.seen c.add_callables.new.store)
+    (keeps_then (g.S.StateStore.seen c.args.store.now) (g.S.StateStore.seen c.add_predicates-2.new.store) (g.S.StateStore.seen c.add_goal.new.store)
+    (keeps_then (g.S.StateStore.seen c.args.store.now) (g.S.StateStore.seen c.add_predicates.new.store) (g.S.StateStore.seen c.add_predicates-2.new.store) c.add_predicates.ensures.keeps c.add_predicates-2.ensures.keeps) c.add_goal.ensures.keeps)
+    c.add_callables.ensures.keeps
+
 pub returns-clause-keeps : goal.returns-clause-keeps
 returns-clause-keeps g c =
     keeps_then (g.S.StateStore.seen c.args.store.now) (g.S.StateStore.seen c.add_goal.new.store) (g.S.StateStore.seen c.add_callables.new.store)
@@ -50,9 +57,9 @@ returns-clause-filled g c = λ acyclic.
     c.in_ok-add_predicates-2.ensures.adds.stays) c.in_ok-place.ensures.adds.adds.stays) acyclic in
     subst
     (λ (ps : List CorePred). IsFilled (ps ++ c.args.helpers.now) (tables_for (ps ++ c.args.helpers.now) (g.S.StateStore.seen c.add_callables.new.store).now.terms c.add_callables.new.code) (g.S.StateStore.seen c.add_callables.new.store).names
-    (with_callables c.add_callables.new.code c.in_ok-callables.callables) c.args.goal.now c.args.slots c.in_ok-place.place) c.as_slice-preds.ensures
+    (with_callables c.add_callables.new.code c.in_ok-callables.callables c.in_ok-keys.keys) c.args.goal.now c.args.slots c.in_ok-place.place) c.as_slice-preds.ensures
     (filled-all c.add-2.new.self (g.S.StateStore.seen c.args.store.now) (g.S.StateStore.seen c.add_predicates.new.store) (g.S.StateStore.seen c.add_predicates-2.new.store) (g.S.StateStore.seen c.add_goal.new.store) (g.S.StateStore.seen c.add_callables.new.store)
-    c.no_code-code.result c.add_predicates.new.code c.add_predicates-2.new.code c.add_goal.new.code c.add_callables.new.code c.in_ok-callables.callables c.as_slice-preds.result.now c.args.helpers.now c.args.goal.now c.args.slots c.in_ok-place.place numbered acyclic
+    c.no_code-code.result c.add_predicates.new.code c.add_predicates-2.new.code c.add_goal.new.code c.add_callables.new.code c.in_ok-callables.callables c.in_ok-keys.keys c.as_slice-preds.result.now c.args.helpers.now c.args.goal.now c.args.slots c.in_ok-place.place numbered acyclic
     c.no_code-code.ensures.predicates c.no_code-code.ensures.steps c.in_ok-add_predicates.ensures.adds c.in_ok-add_predicates.ensures.long c.in_ok-add_predicates.ensures.laid c.in_ok-add_predicates.ensures.resolved c.in_ok-add_predicates-2.ensures.adds
     c.in_ok-add_predicates-2.ensures.laid c.in_ok-add_predicates-2.ensures.resolved c.in_ok-place.ensures.adds c.in_ok-place.ensures.laid c.in_ok-place.ensures.resolved c.in_ok-callables.ensures.adds c.in_ok-callables.ensures.resolved
-    (c.in_ok-callables.ensures.callable numbered later))
+    (c.in_ok-callables.ensures.callable numbered later) c.in_ok-keys.ensures)

@@ -27,10 +27,10 @@ returns g c = λ l is_code has ts cs s k es is args same.
     let at_source : slice_get (preds_of c.args.code.now) call.predicate ≡ Some source = sym c.source.ensures ∙ ap option_copied c.in-Some.is in
     let pred_is = source-pred (preds_of c.args.code.now) call.predicate source is.call.call.pred at_source
     (pred-at w call.predicate call.base call.frame c.args.from (record { function = false; args = ts }) cs s k es again c.args.code.now is is_code) in
-    let clauses : is.call.call.pred.clauses ≡ map clause_tree c.as_slice-facts.result.now = sym (ap (λ p. p.clauses) pred_is) ∙ ap (map clause_tree) (search rules) in
+    let clauses : is.call.call.pred.clauses ≡ map clause_tree c.as_slice-clauses.result.now = sym (ap (λ p. p.clauses) pred_is) ∙ ap (map clause_tree) (search rules) in
     let arity = (there-of w call.predicate call.base call.frame c.args.from (record { function = false; args = ts }) cs s k es again predicate is there).arity in
     let stays = c.asked_of.ensures.stays in
-    let tries : TriesSome (world l (seen one_run.store) order (view_of run.arenas)) after call.predicate call.base call.frame c.args.from predicate c.as_slice-facts.result.now c.in_ok-asked.asked again end.now =
-    subst (λ r. TriesSome (world l (seen one_run.store) order (view_of r)) after call.predicate call.base call.frame c.args.from predicate c.as_slice-facts.result.now c.in_ok-asked.asked again end.now) c.asked_of.ensures.arenas (c.in_ok-try_some.ensures l) in
+    let tries : TriesSome (world l (seen one_run.store) order (view_of run.arenas)) after call.predicate call.base call.frame c.args.from predicate c.as_slice-clauses.result.now c.in_ok-asked.asked again end.now =
+    subst (λ r. TriesSome (world l (seen one_run.store) order (view_of r)) after call.predicate call.base call.frame c.args.from predicate c.as_slice-clauses.result.now c.in_ok-asked.asked again end.now) c.asked_of.ensures.arenas (c.in_ok-try_some.ensures l is_code) in
     tries is.call.call.pred ts cs s k es (call-stays w (seen one_run.store) call.predicate call.base call.frame c.args.from (record { function = false; args = ts }) cs s k es again stays is) is.call.call.is_pred there clauses
     (c.in_ok-asked.ensures.term ts (subst (λ n. HoldsArguments (seen run.store).now.terms run.arenas.blocks.slots call.base n ts) (sym arity) args)) (same ∙ sym stays.state)

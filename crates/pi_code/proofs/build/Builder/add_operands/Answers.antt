@@ -28,6 +28,7 @@ loop-arg-preserved g c =
       rules = c.operand_of.new.code.rules;
       predicates = c.operand_of.new.code.predicates;
       callables = c.operand_of.new.code.callables;
+      keys = c.operand_of.new.code.keys;
     }) c.args.args.now c.loop-arg.arg-index c.arg-item.result c.in_ok-operand.operand c.loop-arg.invariant c.loop-arg-test.true c.arg-item.is c.in_ok-operand.ensures.adds c.in_ok-operand.ensures.is c.in_ok-push.ensures.items
 
 pub returns-clause-keeps : goal.returns-clause-keeps

@@ -28,6 +28,7 @@ loop-pred-preserved g c =
       rules = c.add_rules.new.code.rules;
       predicates = c.push.new.self;
       callables = c.add_rules.new.code.callables;
+      keys = c.add_rules.new.code.keys;
     }) c.args.preds.now c.loop-pred.pred-index c.pred-item.result c.in_ok-predicate.predicate c.loop-pred.invariant c.loop-pred-test.true c.pred-item.is c.in_ok-predicate.ensures.adds c.in_ok-predicate.ensures.laid c.in_ok-predicate.ensures.resolved
     c.in_ok-push.ensures.items
 

@@ -32,6 +32,7 @@ loop-clause-preserved g c =
       rules = c.push.new.self;
       predicates = c.rule_of.new.code.predicates;
       callables = c.rule_of.new.code.callables;
+      keys = c.rule_of.new.code.keys;
     }) (pred_tree c.args.pred.now) c.as_slice-clause-items.result.now c.loop-clause.clause-index c.clause-item.result c.in_ok-rule.rule c.loop-clause.invariant c.loop-clause-test.true c.clause-item.is c.in_ok-rule.ensures.adds c.in_ok-rule.ensures.laid
     c.in_ok-rule.ensures.resolved c.in_ok-push.ensures.items
 

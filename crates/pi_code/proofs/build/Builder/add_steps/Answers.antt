@@ -40,6 +40,7 @@ loop-i-preserved g c =
       rules = c.node_of.new.code.rules;
       predicates = c.node_of.new.code.predicates;
       callables = c.node_of.new.code.callables;
+      keys = c.node_of.new.code.keys;
     }) c.args.shape.first_slot c.args.shape.slots c.args.goal.now c.args.is_last c.unwrap_or-is_last.result c.loop-i.marks.items c.pop.new.self.items c.push_marks.new.marks.items (vec_len c.loop-i.marks) c.loop-i.i c.node-shown.result c.pop.result
     c.step_of.result (omega (arith, c.loop-i-test.true, c.nodes-i-end.ensures)) c.loop-i.invariant (omega arith) c.pop.ensures.rest c.pop.ensures.value c.unwrap_or-is_last.ensures c.node-shown.ensures.shows c.node-shown.ensures.has c.in_ok-push_marks.ensures
     c.in_ok-node.ensures.adds (λ preds numbered. subst (IsNodeOf preds (tables_for preds (g.S.StateStore.seen c.node_of.new.store).now.terms c.node_of.new.code) (kind_shown c.node-shown.result)) (sym c.step_of.ensures.node) (c.in_ok-node.ensures.is preds numbered)) (c.step_of.ensures.size ∙ c.in_ok-short.ensures ∙ c.requires.sizes_are c.loop-i.i (omega arith) (omega (arith, c.loop-i-test.true, c.nodes-i-end.ensures))) c.step_of.ensures.first c.step_of.ensures.slots

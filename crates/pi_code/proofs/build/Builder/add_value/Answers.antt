@@ -17,6 +17,7 @@ returns-clause-laid g c =
       rules = c.operand_of.new.code.rules;
       predicates = c.operand_of.new.code.predicates;
       callables = c.operand_of.new.code.callables;
+      keys = c.operand_of.new.code.keys;
     }) c.args.shape.first_slot c.args.shape.slots c.args.value.now c.in_ok-operand_of.field-0 c.step_of.result c.in_ok-operand_of.ensures.adds c.in_ok-operand_of.ensures.is c.step_of.ensures.node c.step_of.ensures.first c.step_of.ensures.slots
     c.in_ok-push.ensures.items
 

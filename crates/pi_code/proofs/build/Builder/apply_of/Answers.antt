@@ -20,6 +20,7 @@ returns-in-Some-clause-is g c = λ preds numbered.
       rules = c.add_operands.new.code.rules;
       predicates = c.add_operands.new.code.predicates;
       callables = c.add_operands.new.code.callables;
+      keys = c.add_operands.new.code.keys;
     }) c.args.name.now c.as_str.result.now c.args.args.now c.in-Some.function c.in_ok-name.name c.in_ok-operands.operands c.in_ok-count.count c.args.slot (length c.args.args.now) c.in_ok-name.ensures.added c.in_ok-name.ensures.place c.in_ok-count.ensures c.as_str.ensures refl
     (subst (λ o. IfSome o (λ f. IsFunctionNamed c.as_str.result.now (length c.args.args.now) f)) c.in-Some.is c.function_named.ensures.some)
     (c.in_ok-operands.ensures.are preds)

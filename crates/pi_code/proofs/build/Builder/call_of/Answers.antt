@@ -54,6 +54,7 @@ returns-in-Some-clause-is g c = λ preds numbered.
       rules = c.add_operands.new.code.rules;
       predicates = c.add_operands.new.code.predicates;
       callables = c.add_operands.new.code.callables;
+      keys = c.add_operands.new.code.keys;
     }) c.args.name.now c.as_str-3.result.now c.args.args.now c.in-Some.predicate c.in_ok-name.name c.in_ok-operands.operands c.in_ok-count.count (length c.args.args.now) c.in_ok-name.ensures.added c.in_ok-name.ensures.place c.in_ok-count.ensures c.as_str-3.ensures refl
     (subst (λ o. IfSome o (λ p. IsPredicateNamed c.as_str-3.result.now (length c.args.args.now) p)) c.in-Some.is c.predicate_named.ensures.some) other
     (c.in_ok-operands.ensures.are preds)

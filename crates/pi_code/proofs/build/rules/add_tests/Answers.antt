@@ -38,6 +38,7 @@ loop-pattern-preserved g c =
       rules = c.loop-pattern.code.rules;
       predicates = c.loop-pattern.code.predicates;
       callables = c.loop-pattern.code.callables;
+      keys = c.loop-pattern.code.keys;
     }) c.args.head.now c.loop-pattern.is_deep c.is_deep_test-is_deep.result (c.loop-pattern.is_deep || c.is_deep_test-is_deep.result) c.loop-pattern.pattern-index c.pattern-item.result c.in_ok-test.test c.loop-pattern.invariant c.loop-pattern-test.true c.pattern-item.is c.test_of.ensures.stays c.in_ok-test.ensures.is
     c.is_deep_test-is_deep.ensures (neither c.loop-pattern.is_deep c.is_deep_test-is_deep.result) c.in_ok-push.ensures.items
 

@@ -28,6 +28,7 @@ loop-i-preserved g c =
       rules = c.loop-i.code.rules;
       predicates = c.loop-i.code.predicates;
       callables = c.loop-i.code.callables;
+      keys = c.loop-i.code.keys;
     }) c.args.term.now c.loop-i.i c.in_ok-part.part c.head_at.result c.loop-i.invariant c.head_at.ensures c.part_of.ensures.stays c.part_of.ensures.names c.in_ok-part.ensures.is c.in_ok-push.ensures.items
 
 pub returns-clause-keeps : goal.returns-clause-keeps
