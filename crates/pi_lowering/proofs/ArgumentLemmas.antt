@@ -1,10 +1,15 @@
 -- What stands behind `in` where there are fewer than two arguments, or no call.
-use Rattle.std.proofs.Common.{◌≡◌, ℕ, ◌<◌, ◌≤◌, List, [], ◌∷◌, ◌++◌, length, get_or, drop, None, Some, false, arith, refl, sym, ap}
+use Rattle.std.proofs.Common.{◌≡◌, ℕ, ◌<◌, ◌≤◌, List, [], ◌∷◌, ◌++◌, length, get_or, drop, None, Some, false, arith, refl, sym, ap, subst}
+use Rattle.std.specs.Prelude.{Vec}
+use Rattle.std.specs.declared.alloc.Global.{Global}
 use Rattle.pi_terms.specs.Tree.{Tree}
 use Rattle.pi_core.specs.GoalTree.{GoalTree}
-use Rattle.pi_syntax.specs.ExpTree.{ExpTree, var, int, atom, str, list, list_onto, array, call, quote, index, range, range_by, at, collect, and, or, arrow, if_then, if_else, foreach, while_do, do_while, ExpTrees, exp, exp_tree}
+use Rattle.pi_syntax.specs.ExpTree.{ExpTree, var, int, atom, str, list, list_onto, array, call, quote, index, range, range_by, at, collect, and, or, arrow, if_then, if_else, foreach, while_do, do_while, ExpTrees, exp, exp_tree, held_tree}
 use Rattle.pi_syntax.specs.ExpLists.{exps_of}
+use Rattle.pi_syntax.specs.declared.exp.Exp as code
 use Rattle.pi_syntax.specs.declared.exp.Exp.{Exp}
+use Rattle.pi_syntax.specs.declared.exp.Exp.TheOpen as layer
+use Rattle.pi_syntax.specs.declared.exp.Exp.TheViews.{out-Exp, roll-Exp, roll-out-Exp, rolls-Var, rolls-Int, rolls-Atom, rolls-Str, rolls-List, rolls-Array, rolls-Call, rolls-Quote, rolls-Index, rolls-Range, rolls-At, rolls-Collect, rolls-And, rolls-Or, rolls-Arrow, rolls-If, rolls-Foreach, rolls-While, rolls-DoWhile}
 use Rattle.pi_lowered.specs.Slots.{SlotNames}
 use Rattle.pi_lowered.specs.Goals.{no_value, value_at}
 use Rattle.pi_lowered.specs.Sites.{Site}
@@ -38,6 +43,38 @@ call-by (if_else bs f) es is = absurd (cc)
 call-by (foreach fs f) es is = absurd (cc)
 call-by (while_do f g) es is = absurd (cc)
 call-by (do_while f g) es is = absurd (cc)
+
+-- what is no call
+abbrev IsNoCall : Exp → Type 0
+IsNoCall x = ((name : List ℕ) (es : Vec Exp Global) → x ≡ code.Call name es → ⊥) → args_of (exp_tree x) ≡ None
+
+by-layer : (l : layer.Exp-F Exp) → IsNoCall (roll-Exp l)
+unfolding exp_tree held_tree
+by-layer (layer.Var n) none = ap (λ x. args_of (exp_tree x)) (rolls-Var n)
+by-layer (layer.Int n) none = ap (λ x. args_of (exp_tree x)) (rolls-Int n)
+by-layer (layer.Atom n) none = ap (λ x. args_of (exp_tree x)) (rolls-Atom n)
+by-layer (layer.Str text) none = ap (λ x. args_of (exp_tree x)) (rolls-Str text)
+by-layer (layer.List es None) none = ap (λ x. args_of (exp_tree x)) (rolls-List es None)
+by-layer (layer.List es (Some b)) none = ap (λ x. args_of (exp_tree x)) (rolls-List es (Some b))
+by-layer (layer.Array es) none = ap (λ x. args_of (exp_tree x)) (rolls-Array es)
+by-layer (layer.Call n es) none = absurd (none n es (rolls-Call n es))
+by-layer (layer.Quote b) none = ap (λ x. args_of (exp_tree x)) (rolls-Quote b)
+by-layer (layer.Index b es) none = ap (λ x. args_of (exp_tree x)) (rolls-Index b es)
+by-layer (layer.Range b None d) none = ap (λ x. args_of (exp_tree x)) (rolls-Range b None d)
+by-layer (layer.Range b (Some c) d) none = ap (λ x. args_of (exp_tree x)) (rolls-Range b (Some c) d)
+by-layer (layer.At n b) none = ap (λ x. args_of (exp_tree x)) (rolls-At n b)
+by-layer (layer.Collect is_array b es) none = ap (λ x. args_of (exp_tree x)) (rolls-Collect is_array b es)
+by-layer (layer.And es) none = ap (λ x. args_of (exp_tree x)) (rolls-And es)
+by-layer (layer.Or es) none = ap (λ x. args_of (exp_tree x)) (rolls-Or es)
+by-layer (layer.Arrow b d) none = ap (λ x. args_of (exp_tree x)) (rolls-Arrow b d)
+by-layer (layer.If bs None) none = ap (λ x. args_of (exp_tree x)) (rolls-If bs None)
+by-layer (layer.If bs (Some b)) none = ap (λ x. args_of (exp_tree x)) (rolls-If bs (Some b))
+by-layer (layer.Foreach es b) none = ap (λ x. args_of (exp_tree x)) (rolls-Foreach es b)
+by-layer (layer.While b d) none = ap (λ x. args_of (exp_tree x)) (rolls-While b d)
+by-layer (layer.DoWhile b d) none = ap (λ x. args_of (exp_tree x)) (rolls-DoWhile b d)
+
+pub not-call : (x : Exp) → IsNoCall x
+not-call x = subst IsNoCall (roll-out-Exp x) (by-layer (out-Exp x))
 
 -- what has nothing to go over
 pub record GoesOverNone (s : Site) (e : ExpTree) (ns : SlotNames) : Type 0 where

@@ -13,3 +13,4 @@ pub mod JoinedLemmas
 pub mod OverLemmas
 pub mod ArgumentLemmas
 pub mod IteratedLemmas
+pub mod UnitLemmas

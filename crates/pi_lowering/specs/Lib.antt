@@ -1,3 +1,4 @@
 pub mod Lowering
 pub mod Joined
 pub mod Calls
+pub mod Opening

@@ -13,12 +13,15 @@ ghost use Rattle.pi_lowering.specs.Joined.{chosen as chosen_of, IsBranch, AreBra
 
 use crate::branches::{Branch, Condition, chosen, closed};
 use crate::calls::{atom_goal, push_call};
-use crate::loops::{do_loop, turns_of, while_loop};
+use crate::loops::{do_loop, while_loop};
+use crate::units::open_units;
+use crate::whole::{Iterating, begin_foreach, end_foreach};
 use pi_core::{CoreGoal, CorePred};
 use pi_helpers::{do_helper, in_turn, loop_slots, push_fail, push_loop, while_helper};
 use pi_sites::Site;
 use pi_slots::Slots;
 use pi_syntax::Exp;
+use pi_units::turns_of;
 use std::alloc::{AllocError, Global};
 
 /// Puts the goals that a goal comes to behind the others, and the helpers of its loops behind those before. Errors: no
@@ -116,8 +119,37 @@ pub(crate) fn push_goal<'a>(
             push_fail(alloc, goals)?;
             Ok(())
         }
-        // What is built has none so far.
-        Exp::Foreach(_, _) => Err(AllocError),
+        Exp::Foreach(units, body) => {
+            let units = units.as_slice();
+            let begun = begin_foreach(alloc, site, units, body, slots)?;
+            let Iterating {
+                inner,
+                whole,
+                ending,
+                mut inside,
+            } = begun;
+            let last = &mut inside;
+            let mut opened = open_units(alloc, ending, &inner, units, last, helpers)?;
+            push_goal(
+                alloc,
+                &last.site,
+                body,
+                &mut last.slots,
+                &mut last.goals,
+                helpers,
+            )?;
+            end_foreach(
+                alloc,
+                site,
+                &whole,
+                &mut opened,
+                last,
+                slots,
+                goals,
+                helpers,
+            )?;
+            Ok(())
+        }
         Exp::While(test, body) => {
             let whole = while_loop(alloc, site, test, body)?;
             let mut inner = loop_slots(alloc, &whole)?;

@@ -6,8 +6,11 @@ mod branches;
 mod calls;
 mod goals;
 mod loops;
+mod over;
 mod slotted;
+mod units;
 mod values;
+mod whole;
 
 pub use goals::lower_goal;
 pub use pi_helpers::in_turn;

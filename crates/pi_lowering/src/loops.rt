@@ -1,16 +1,15 @@
 //! Loops of a text: which names they hand on and keep, and what their helpers are called.
-ghost use Rattle.std.specs.Prelude.{◌≡◌, ◌+◌, ◌++◌, length, IfOk};
+ghost use Rattle.std.specs.Prelude.{◌≡◌, ◌+◌, ◌++◌, IfOk};
 ghost use Rattle.pi_syntax.specs.ExpTree.{exp_tree, no_exps};
 ghost use Rattle.pi_names.specs.Texts.{occurring, assigned as assigned_of, shared_names, kept_names as kept_names_of};
 ghost use Rattle.pi_lowered.specs.Loops.{as_it_is};
-ghost use Rattle.pi_lowered.specs.Sites.{helpers_in as helpers_of, inside};
+ghost use Rattle.pi_lowered.specs.Sites.{helpers_in as helpers_of};
 ghost use Rattle.pi_lowered.specs.Written.{loop_at, while_loop as while_loop_of, do_loop as do_loop_of};
 ghost use Rattle.pi_sites.specs.SiteOf.{site_of};
 ghost use Rattle.pi_helpers.specs.Helpers.{loop_of};
 
 use pi_helpers::{Ending, Loop};
 use pi_sites::{Site, helpers_in, kept_names, push_assigned, push_names, those, together};
-use pi_slots::Slots;
 use pi_syntax::Exp;
 use std::alloc::{AllocError, Global};
 
@@ -71,18 +70,4 @@ fn loop_of_two<'a>(
         kept,
         ending: Ending::AsItIs,
     })
-}
-
-/// Where the turns of a loop stand: in the clause of its helper, whose head has these slots.
-pub(crate) fn turns_of<'a>(
-    alloc: Global,
-    site: &Site<'a>,
-    l: &Loop<'a>,
-    slots: &Slots<'a>,
-) -> Result<Site<'a>, AllocError>
-    ensures { IfOk result (λ made. site_of made ≡ inside (site_of site.now) (length slots.now) (loop_of l.now).shared) }
-{
-    let filled = slots.count()?;
-    let turns = site.inside(alloc, filled, l.shared.as_slice())?;
-    Ok(turns)
 }

@@ -17,6 +17,8 @@ ghost use Rattle.pi_lowering.specs.Lowering.{With, EndsCalls, value_of, by_place
 
 use crate::calls::call_value;
 use crate::slotted::{applied_to_three, applied_to_two};
+use crate::units::open_units;
+use crate::whole::{Comprehension, begin_comprehension, end_comprehension};
 use pi_core::{CoreGoal, CorePred};
 use pi_helpers::{push_fail, push_filling};
 use pi_sites::Site;
@@ -174,8 +176,38 @@ fn made<'a>(
         Exp::Str(_) => no_value(alloc, goals),
         Exp::Quote(_) => no_value(alloc, goals),
         Exp::At(_, _) => no_value(alloc, goals),
-        // What is built has none so far.
-        Exp::Collect(_, _, _) => Err(AllocError),
+        Exp::Collect(is_array, item, units) => {
+            let units = units.as_slice();
+            let begun = begin_comprehension(alloc, *is_array, site, units, item, slots, goals)?;
+            let Comprehension {
+                inner,
+                mut around,
+                ending,
+                mut inside,
+            } = begun;
+            let last = &mut inside;
+            let mut opened = open_units(alloc, ending, &inner, units, last, helpers)?;
+            let term = value(
+                alloc,
+                true,
+                &last.site,
+                item,
+                &mut last.slots,
+                &mut last.goals,
+                helpers,
+            )?;
+            let list = end_comprehension(
+                alloc,
+                term,
+                &mut around,
+                &mut opened,
+                last,
+                slots,
+                goals,
+                helpers,
+            )?;
+            Ok(list)
+        }
         Exp::And(_) => no_value(alloc, goals),
         Exp::Or(_) => no_value(alloc, goals),
         Exp::Arrow(_, _) => no_value(alloc, goals),
@@ -187,7 +219,7 @@ fn made<'a>(
 }
 
 /// What stands for what has no value here.
-fn no_value(alloc: Global, goals: &mut Vec<CoreGoal>) -> Result<Term, AllocError>
+pub(crate) fn no_value(alloc: Global, goals: &mut Vec<CoreGoal>) -> Result<Term, AllocError>
     ensures goals { IfOk result (λ _. goals.new.items ≡ goals.old.items ++ GoalTree.fail ∷ []) }
     ensures is { IfOk result (λ term. term ≡ Tree.atom []) }
 {

@@ -6,19 +6,19 @@ use Rattle.pi_core.specs.CoreTree.{pred_tree}
 use Rattle.pi_syntax.specs.ExpTree.{exp_tree}
 use Rattle.pi_syntax.specs.ExpLists.{exps_of}
 use Rattle.pi_syntax.specs.declared.exp.Exp as e
-use Rattle.pi_names.specs.Texts.{places, places_all, places_of_branches}
+use Rattle.pi_names.specs.Texts.{places, places_all, places_of_branches, assigned, kept_names}
 use Rattle.pi_lowered.specs.Values.{is_flat}
 use Rattle.pi_lowered.specs.Goals.{begins_flat, indexed_by}
 use Rattle.pi_lowered.specs.Sites.{helpers_in_all, helpers_in_branches, behind_site, behind_exp, inside}
-use Rattle.pi_lowered.specs.Written.{made, goal_of, all_of, while_loop, do_loop}
+use Rattle.pi_lowered.specs.Written.{made, goal_of, all_of, inner_of, while_loop, do_loop}
 use Rattle.pi_lowered.specs.Helpers.{value_helpers, all_helpers, goal_helpers, conjunct_helpers, branch_helpers}
 use Rattle.pi_slots.specs.Branches.{branches_in}
 use Rattle.pi_sites.specs.SiteOf.{site_of}
 use Rattle.pi_slots.specs.Indexed.{names_in}
-use Rattle.pi_helpers.specs.Helpers.{loop_of}
-use Rattle.pi_lowered.specs.Loops.{while_helper, do_helper}
+use Rattle.pi_helpers.specs.Helpers.{loop_of, ending_of}
+use Rattle.pi_lowered.specs.Loops.{as_it_is, while_helper, do_helper}
 use Rattle.pi_lowering.proofs.LoopLemmas.{put-while, put-do, while-shape, do-shape, helpers-while, helpers-do, pushed-helper}
-use Rattle.pi_sites.proofs.NowTrees.{while-now, do-now, atom-now, onto-now, list-now, array-now, call-now, index-now, range-now, range_by-now, and-now, or-now, arrow-now, if_then-now, if_else-now}
+use Rattle.pi_sites.proofs.NowTrees.{foreach-now, collect-now, while-now, do-now, atom-now, onto-now, list-now, array-now, call-now, index-now, range-now, range_by-now, and-now, or-now, arrow-now, if_then-now, if_else-now}
 use Rattle.pi_lowering.specs.Lowering.{call_as_goal, call_as_value, call_goal_helpers, call_value_helpers, values_of}
 use Rattle.pi_lowering.proofs.ValueLemmas.{value-as, goals-as}
 use Rattle.pi_lowering.proofs.PartLemmas.{places_in, goals-none, all-more, all-end, place-flat, place-made, values-none, values-step, values-last, indexed-none, indexed-more, indexed-end}
@@ -29,6 +29,18 @@ use Rattle.pi_lowering.proofs.NeverLemmas.{never-var, never-int, never-str, neve
 use Rattle.pi_lowering.proofs.AssignLemmas.{put-assigned}
 use Rattle.pi_lowering.proofs.BranchLemmas.{no-arrow, arrow-branch, goal-branch, branches-none, branches-more, branches-end, conditions-none, conditions-more, conditions-end}
 use Rattle.pi_lowering.proofs.MadeLemmas.{put-made_onto, put-made_list, put-made_array, made-call, put-made_index, put-made_range, put-made_range_by, flip-and, no_value-as, none-var, none-int, none-atom, none-str, none-quote, none-at, none-and, none-or, none-arrow, none-if, none-foreach, none-while, none-do_while, bare-var, bare-int, bare-atom, bare-str, bare-quote, bare-at, bare-and, bare-or, bare-arrow, bare-if, bare-foreach, bare-while, bare-do_while, put-call_found, put-call_counted, put-call_applied}
+use Rattle.pi_units.specs.Planned.{inner_in}
+use Rattle.pi_units.proofs.OpenLemmas.{none-open}
+use Rattle.pi_lowering.proofs.UnitLemmas.{opens-test, opens-iterator, units-more, units-end, foreach-whole, collect-whole}
+use Rattle.std.proofs.Common.{get_or, subst}
+use Rattle.pi_syntax.specs.ExpTree.{ExpTree, ExpTrees, call, exp}
+use Rattle.pi_lowered.specs.Helpers.{collection_helpers}
+use Rattle.pi_lowering.specs.Lowering.{With}
+use Rattle.pi_lowering.specs.Opening.{Iterates, Gathers}
+use Rattle.pi_units.specs.Planned.{IsOver}
+use Rattle.pi_units.specs.declared.over.Over.{Over}
+use Rattle.pi_lowering.proofs.OverLemmas.{not-range, over-collection, over-range, collection-found, two-found, three-found, collection-helped}
+use Rattle.pi_lowering.proofs.ArgumentLemmas.{GoesOverNone, none-found, no-call, not-call, few-arguments, two-first}
 use Rattle.pi_lowering.proofs.+lowering.Goals as goal
 
 pub values::value-returns-then-is_flat : goal.values::value-returns-then-is_flat
@@ -422,3 +434,143 @@ calls::push_call-returns-in_ok-push-in-Plain t c = let found : Found c.args.name
           put-plain (site_of c.args.site.now) c.args.name.now c.args.args.now (length c.args.args.now) c.call_form.result c.args.slots.now c.values.new.slots c.args.goals.now.items c.values.new.goals.items c.push-in-Plain.new.self.items c.in_ok-terms-in-Plain.terms.items c.in_ok-made-in-Plain.made found c.in-Plain.is c.in_ok-terms-in-Plain.ensures.is (c.in_ok-made-in-Plain.ensures.ok ∙ ap (GoalTree.call c.args.name.now) same) c.in_ok-push-in-Plain.ensures.items;
       helpers = same-helpers (map pred_tree c.args.helpers.now.items) (map pred_tree c.values.new.helpers.items) (all_helpers (site_of c.args.site.now) (exps_of c.args.args.now)) (call_goal_helpers (site_of c.args.site.now) c.args.name.now (exps_of c.args.args.now)) (helpers-plain (site_of c.args.site.now) c.args.name.now c.args.args.now (length c.args.args.now) c.call_form.result found c.in-Plain.is) c.in_ok-terms-in-Plain.ensures.helpers;
     }
+
+-- ---- loops over iterators and tests
+
+pub units::open_units-loop-i-init : goal.units::open_units-loop-i-init
+units::open_units-loop-i-init t c =
+    none-open (site_of c.args.inside.now.site) (ending_of c.args.ending) (inner_in c.args.inner.now) (exps_of c.args.units.now) c.args.inside.now.goals.items c.args.inside.now.slots c.new-opened.result.items (map pred_tree c.args.helpers.now.items) c.new-opened.ensures.items
+
+pub units::open_units-loop-i-preserved : goal.units::open_units-loop-i-preserved
+units::open_units-loop-i-preserved t c =
+    units-more (site_of c.args.inside.now.site) (ending_of c.args.ending) (inner_in c.args.inner.now) c.args.units.now c.args.inside.now.goals.items c.args.inside.now.slots c.loop-i.opened.items c.push.new.self.items (site_of c.loop-i.inside.site) (site_of c.open_unit.new.inside.site) (ending_of c.loop-i.now) c.loop-i.i c.index-units-i.result
+    c.loop-i.inside.goals.items c.loop-i.inside.slots (map pred_tree c.args.helpers.now.items) (map pred_tree c.loop-i.helpers.items) c.in_ok-last.last c.open_unit.new.inside.goals.items c.open_unit.new.inside.slots (map pred_tree c.open_unit.new.helpers.items) c.in_ok-planned.planned
+    c.loop-i-test.true c.index-units-i.is c.in_ok-planned.ensures c.in_ok-last.ensures c.in_ok-push.ensures.items c.loop-i.invariant
+
+pub units::open_units-returns : goal.units::open_units-returns
+units::open_units-returns t c =
+    units-end (site_of c.args.inside.now.site) (ending_of c.args.ending) (inner_in c.args.inner.now) c.args.units.now c.args.inside.now.goals.items c.args.inside.now.slots c.loop-i.opened.items (site_of c.loop-i.inside.site) (ending_of c.loop-i.now) c.loop-i.i c.loop-i.inside.goals.items c.loop-i.inside.slots
+    (map pred_tree c.args.helpers.now.items) (map pred_tree c.loop-i.helpers.items) c.loop-i-test.false c.loop-i.invariant
+
+pub units::open_unit-returns-in_ok-test-in-None : goal.units::open_unit-returns-in_ok-test-in-None
+units::open_unit-returns-in_ok-test-in-None t c =
+    opens-test c.args.planned (site_of c.args.inside.now.site) (site_of c.in_ok-behind-in-None.behind) (exp_tree c.args.unit.now) c.args.inside.now.goals.items c.args.inside.now.slots c.alone.new.slots c.in_ok-test-in-None.test c.replace-before.result c.replace-before.new.dest.items
+    (map pred_tree c.args.helpers.now.items) (map pred_tree c.alone.new.helpers.items) c.in-None.is c.in_ok-test-in-None.ensures.is c.in_ok-behind-in-None.ensures (ap (λ v. v.items) c.replace-before.ensures.value) (ap (λ v. v.items) c.replace-before.ensures.after ∙ c.new.ensures.items) c.in_ok-test-in-None.ensures.helpers
+
+pub units::open_unit-returns-in_ok-is_range-in-Some : goal.units::open_unit-returns-in_ok-is_range-in-Some
+units::open_unit-returns-in_ok-is_range-in-Some t c =
+    opens-iterator c.args.planned (site_of c.args.inside.now.site) (site_of c.in-Some.planned.site) (exp_tree c.args.unit.now) c.args.inside.now.goals.items c.push_gone_over.new.goals.items c.args.inside.now.slots c.replace-slots.new.dest c.push_gone_over.new.slots c.replace-slots.result c.in-Some.planned c.in_ok-is_range-in-Some.is_range c.replace-goals.result
+    c.replace-goals.new.dest.items (map pred_tree c.args.helpers.now.items) (map pred_tree c.push_gone_over.new.helpers.items) c.in-Some.is c.in_ok-is_range-in-Some.ensures.is (ap (λ v. v.items) c.replace-goals.ensures.value) c.replace-slots.ensures.value refl c.replace-slots.ensures.after
+    (ap (λ v. v.items) c.replace-goals.ensures.after ∙ c.new-in-Some.ensures.items) c.in_ok-is_range-in-Some.ensures.helpers
+
+pub goals::push_goal-returns-in_ok-end_foreach-in-Foreach : goal.goals::push_goal-returns-in_ok-end_foreach-in-Foreach
+goals::push_goal-returns-in_ok-end_foreach-in-Foreach t c =
+    let body : c.deref-in-Foreach.result.now ≡ c.deref-in-Foreach-2.result.now = c.deref-in-Foreach.ensures ∙ sym c.deref-in-Foreach-2.ensures in
+    foreach-whole (site_of c.args.site.now) (exp_tree c.args.exp.now) (exp_tree c.deref-in-Foreach-2.result.now) (exps_of c.as_slice-units.result.now) c.in_ok-begun-in-Foreach.begun c.args.slots.now c.begin_foreach.new.slots c.in_ok-opened-in-Foreach.opened.items (site_of c.open_units.new.inside.site) c.open_units.new.inside.goals.items
+    c.push_goal-in-Foreach.new.goals.items c.args.goals.now.items c.end_foreach.new.goals.items c.open_units.new.inside.slots c.push_goal-in-Foreach.new.slots c.end_foreach.new.slots c.args.helpers.now.items c.end_foreach.new.helpers.items (map pred_tree c.open_units.new.helpers.items) (map pred_tree c.push_goal-in-Foreach.new.helpers.items)
+    (foreach-now c.args.exp.now c.in-Foreach.units c.in-Foreach.body c.as_slice-units.result.now c.deref-in-Foreach-2.result.now c.in-Foreach.is c.as_slice-units.ensures.value c.deref-in-Foreach-2.ensures)
+    (subst (λ z. Iterates (site_of c.args.site.now) as_it_is (kept_names (site_of c.args.site.now).before (exps_of c.as_slice-units.result.now) (assigned (exp_tree z))) (inner_of (exp_tree z)) (exps_of c.as_slice-units.result.now) c.args.slots.now c.in_ok-begun-in-Foreach.begun c.begin_foreach.new.slots) body c.in_ok-begun-in-Foreach.ensures)
+    c.in_ok-opened-in-Foreach.ensures c.in_ok-push_goal-in-Foreach.ensures.is c.in_ok-push_goal-in-Foreach.ensures.helpers c.in_ok-end_foreach-in-Foreach.ensures
+
+pub values::made-returns-in_ok-list-in-Collect : goal.values::made-returns-in_ok-list-in-Collect
+values::made-returns-in_ok-list-in-Collect t c =
+    let item : c.deref-in-Collect.result.now ≡ c.deref-in-Collect-2.result.now = c.deref-in-Collect.ensures ∙ sym c.deref-in-Collect-2.ensures in
+    collect-whole (site_of c.args.site.now) (exp_tree c.args.exp.now) (exp_tree c.deref-in-Collect-2.result.now) (exps_of c.as_slice-units.result.now) c.in-Collect.is_array c.in_ok-begun-in-Collect.begun c.args.slots.now c.begin_comprehension.new.slots c.args.goals.now.items c.begin_comprehension.new.goals.items c.end_comprehension.new.goals.items
+    c.in_ok-opened-in-Collect.opened.items (site_of c.open_units.new.inside.site) c.open_units.new.inside.goals.items c.value-in-Collect.new.goals.items c.open_units.new.inside.slots c.value-in-Collect.new.slots c.in_ok-term-in-Collect.term c.in_ok-list-in-Collect.list c.end_comprehension.new.slots c.args.helpers.now.items c.end_comprehension.new.helpers.items
+    (map pred_tree c.open_units.new.helpers.items) (map pred_tree c.value-in-Collect.new.helpers.items)
+    (collect-now c.args.exp.now c.in-Collect.is_array c.in-Collect.item c.in-Collect.units c.as_slice-units.result.now c.deref-in-Collect-2.result.now c.in-Collect.is c.as_slice-units.ensures.value c.deref-in-Collect-2.ensures)
+    (subst (λ z. Gathers (site_of c.args.site.now) (exp_tree z) (exps_of c.as_slice-units.result.now) c.in-Collect.is_array c.args.slots.now c.args.goals.now.items c.in_ok-begun-in-Collect.begun c.begin_comprehension.new.slots c.begin_comprehension.new.goals.items) item c.in_ok-begun-in-Collect.ensures)
+    c.in_ok-opened-in-Collect.ensures c.in_ok-term-in-Collect.ensures.is c.in_ok-term-in-Collect.ensures.helpers c.in_ok-list-in-Collect.ensures
+
+-- ---- what is gone over
+
+pub over::push_gone_over-returns-in_ok-push_through-in-Range : goal.over::push_gone_over-returns-in_ok-push_through-in-Range
+over::push_gone_over-returns-in_ok-push_through-in-Range t c = record {
+  is = over-range (site_of c.args.site.now) (names_in c.as_slice.result.now) (names_in c.as_slice-2.result.now) (loop_of c.args.whole.now) (exp_tree c.args.unit.now) c.in-Range.bounds c.args.slots.now c.push_started.new.slots c.in_ok-found.found c.over_unit.new.slots c.push_through.new.slots
+      c.args.goals.now.items c.push_started.new.goals.items c.over_unit.new.goals.items c.push_through.new.goals.items (ap names_in c.as_slice.ensures.value) (ap names_in c.as_slice-2.ensures.value) c.in_ok-push_started.ensures c.in_ok-found.ensures
+      (subst (λ (o : Over). IsOver o (site_of c.args.site.now) (exp_tree c.args.unit.now) c.in_ok-found.found c.push_started.new.goals.items c.over_unit.new.goals.items c.over_unit.new.slots) c.in-Range.is c.in_ok-over.ensures.is) c.in_ok-push_through-in-Range.ensures;
+  helpers = c.in_ok-over.ensures.helpers;
+}
+
+pub over::push_gone_over-returns-in_ok-push_over-in-Collection : goal.over::push_gone_over-returns-in_ok-push_over-in-Collection
+over::push_gone_over-returns-in_ok-push_over-in-Collection t c = record {
+  is = over-collection (site_of c.args.site.now) (names_in c.as_slice.result.now) (names_in c.as_slice-2.result.now) (loop_of c.args.whole.now) (exp_tree c.args.unit.now) c.in-Collection.term c.args.slots.now c.push_started.new.slots c.in_ok-found.found c.over_unit.new.slots c.push_over.new.slots
+      c.args.goals.now.items c.push_started.new.goals.items c.over_unit.new.goals.items c.push_over.new.goals.items (ap names_in c.as_slice.ensures.value) (ap names_in c.as_slice-2.ensures.value) c.in_ok-push_started.ensures c.in_ok-found.ensures
+      (subst (λ (o : Over). IsOver o (site_of c.args.site.now) (exp_tree c.args.unit.now) c.in_ok-found.found c.push_started.new.goals.items c.over_unit.new.goals.items c.over_unit.new.slots) c.in-Collection.is c.in_ok-over.ensures.is) c.in_ok-push_over-in-Collection.ensures;
+  helpers = c.in_ok-over.ensures.helpers;
+}
+
+pub over::over_unit-returns-in_ok-over-in-Call : goal.over::over_unit-returns-in_ok-over-in-Call
+over::over_unit-returns-in_ok-over-in-Call t c =
+    subst (λ (u : ExpTree). With (IsOver c.in_ok-over-in-Call.over (site_of c.args.site.now) u c.args.slots.now c.args.goals.now.items c.over_args.new.goals.items c.over_args.new.slots) c.args.helpers.now.items c.over_args.new.helpers.items (collection_helpers (site_of c.args.site.now) u))
+    (sym (call-now c.args.unit.now c.in-Call.field-0 c.in-Call.args c.as_slice.result.now c.in-Call.is c.as_slice.ensures.value)) (c.in_ok-over-in-Call.ensures c.in-Call.field-0)
+
+pub over::over_unit-returns-in_ok-term-in_default : goal.over::over_unit-returns-in_ok-term-in_default
+over::over_unit-returns-in_ok-term-in_default t c =
+    let none : GoesOverNone (site_of c.args.site.now) (exp_tree c.args.unit.now) c.args.slots.now = no-call (site_of c.args.site.now) (exp_tree c.args.unit.now) c.args.slots.now (not-call c.args.unit.now c.in_default.not-Call) in
+    record {
+      is = none-found (site_of c.args.site.now) (exp_tree c.args.unit.now) c.args.slots.now c.args.slots.now c.args.goals.now.items c.no_value.new.goals.items c.in_ok-term-in_default.term none c.in_ok-term-in_default.ensures.goals c.in_ok-term-in_default.ensures.is refl;
+      helpers = no-helpers (map pred_tree c.args.helpers.now.items) (collection_helpers (site_of c.args.site.now) (exp_tree c.args.unit.now)) none.helpers;
+    }
+
+pub over::over_args-returns-then-args-lt2 : goal.over::over_args-returns-then-args-lt2
+over::over_args-returns-then-args-lt2 t c = λ name.
+    let none : GoesOverNone (site_of c.args.site.now) (call name (exps_of c.args.args.now)) c.args.slots.now = few-arguments (site_of c.args.site.now) name c.args.args.now c.args.slots.now c.if-args-lt2.true in
+    record {
+      is = none-found (site_of c.args.site.now) (call name (exps_of c.args.args.now)) c.args.slots.now c.args.slots.now c.args.goals.now.items c.no_value.new.goals.items c.in_ok-term.term none c.in_ok-term.ensures.goals c.in_ok-term.ensures.is refl;
+      helpers = no-helpers (map pred_tree c.args.helpers.now.items) (collection_helpers (site_of c.args.site.now) (call name (exps_of c.args.args.now))) none.helpers;
+    }
+
+pub over::over_args-returns : goal.over::over_args-returns
+over::over_args-returns t c = λ name.
+    let first : ExpTree = exp_tree (get_or c.args.args.now 0 c.index-args-1.result) in
+    let rest : ExpTrees = exps_of (drop 2 c.args.args.now) in
+    subst (λ (es : ExpTrees). With (IsOver c.in_ok-over.over (site_of c.args.site.now) (call name es) c.args.slots.now c.args.goals.now.items c.over_exp.new.goals.items c.over_exp.new.slots) c.args.helpers.now.items c.over_exp.new.helpers.items (collection_helpers (site_of c.args.site.now) (call name es)))
+    (sym (two-first c.args.args.now c.index-args-1.result c.if-args-lt2.false c.index-args-1.is)) (c.in_ok-over.ensures name first rest)
+
+pub over::over_exp-returns-in_ok-high-in-Some : goal.over::over_exp-returns-in_ok-high-in-Some
+over::over_exp-returns-in_ok-high-in-Some t c = λ name one more.
+    let shape : exp_tree c.args.exp.now ≡ ExpTree.range_by (exp_tree c.deref-in-Some-2.result.now) (exp_tree c.deref-in-Some-4.result.now) (exp_tree c.deref-in-Some-6.result.now) =
+    range_by-now c.args.exp.now c.in-Range.first c.in-Range.step c.in-Range.last c.in-Some.step c.deref-in-Some-2.result.now c.deref-in-Some-4.result.now c.deref-in-Some-6.result.now c.in-Range.is c.in-Some.is c.deref-in-Some-2.ensures c.deref-in-Some-4.ensures c.deref-in-Some-6.ensures in
+    let second : (site_of c.in_ok-second-in-Some.second) ≡ behind_exp (site_of c.args.site.now) (exp_tree c.deref-in-Some-2.result.now) = c.in_ok-second-in-Some.ensures ∙ ap (λ z. behind_exp (site_of c.args.site.now) (exp_tree z)) (c.deref-in-Some-3.ensures ∙ sym c.deref-in-Some-2.ensures) in
+    let third : (site_of c.in_ok-third-in-Some.third) ≡ behind_exp (site_of c.in_ok-second-in-Some.second) (exp_tree c.deref-in-Some-4.result.now) = c.in_ok-third-in-Some.ensures ∙ ap (λ z. behind_exp (site_of c.in_ok-second-in-Some.second) (exp_tree z)) (c.deref-in-Some-5.ensures ∙ sym c.deref-in-Some-4.ensures) in
+    record {
+      is = three-found (site_of c.args.site.now) (site_of c.in_ok-second-in-Some.second) (site_of c.in_ok-third-in-Some.third) name one (exp_tree c.args.exp.now) (exp_tree c.deref-in-Some-2.result.now) (exp_tree c.deref-in-Some-4.result.now) (exp_tree c.deref-in-Some-6.result.now) more c.is_flat-is_last.result (c.is_flat-is_last.result && c.is_flat.result) (record { low = c.in_ok-low-in-Some.low; step = c.in_ok-by-in-Some.by; high = c.in_ok-high-in-Some.high })
+          c.args.slots.now c.value.new.slots c.value-in-Some.new.slots c.value-in-Some-2.new.slots c.args.goals.now.items c.value.new.goals.items c.value-in-Some.new.goals.items c.value-in-Some-2.new.goals.items shape
+          (c.is_flat-is_last.ensures ∙ ap (λ z. is_flat (exp_tree z)) (c.deref.ensures ∙ sym c.deref-in-Some-6.ensures))
+          (flip-and c.is_flat-is_last.result c.is_flat.result (is_flat (exp_tree c.deref-in-Some-4.result.now)) (c.is_flat.ensures ∙ ap (λ z. is_flat (exp_tree z)) (c.deref-in-Some.ensures ∙ sym c.deref-in-Some-4.ensures)))
+          second third c.in_ok-low-in-Some.ensures.is c.in_ok-by-in-Some.ensures.is c.in_ok-high-in-Some.ensures.is;
+      helpers = three-helpers (map pred_tree c.args.helpers.now.items) (map pred_tree c.value.new.helpers.items) (map pred_tree c.value-in-Some.new.helpers.items) (map pred_tree c.value-in-Some-2.new.helpers.items) (value_helpers (site_of c.args.site.now) (exp_tree c.deref-in-Some-2.result.now)) (value_helpers (site_of c.in_ok-second-in-Some.second) (exp_tree c.deref-in-Some-4.result.now)) (value_helpers (site_of c.in_ok-third-in-Some.third) (exp_tree c.deref-in-Some-6.result.now)) (collection_helpers (site_of c.args.site.now) (call name (exp one (exp (exp_tree c.args.exp.now) more))))
+          (collection-helped (site_of c.args.site.now) name (call name (exp one (exp (exp_tree c.args.exp.now) more))) one (exp_tree c.args.exp.now) more refl ∙ helpers-range_by (site_of c.args.site.now) (site_of c.in_ok-second-in-Some.second) (site_of c.in_ok-third-in-Some.third) (exp_tree c.args.exp.now) (exp_tree c.deref-in-Some-2.result.now) (exp_tree c.deref-in-Some-4.result.now) (exp_tree c.deref-in-Some-6.result.now) shape second third) c.in_ok-low-in-Some.ensures.helpers c.in_ok-by-in-Some.ensures.helpers c.in_ok-high-in-Some.ensures.helpers;
+    }
+
+pub over::over_exp-returns-in_ok-by-in-None : goal.over::over_exp-returns-in_ok-by-in-None
+over::over_exp-returns-in_ok-by-in-None t c = λ name one more.
+    let shape : exp_tree c.args.exp.now ≡ ExpTree.range (exp_tree c.deref-in-None-2.result.now) (exp_tree c.deref-in-None-4.result.now) =
+    range-now c.args.exp.now c.in-Range.first c.in-Range.step c.in-Range.last c.deref-in-None-2.result.now c.deref-in-None-4.result.now c.in-Range.is c.in-None.is c.deref-in-None-2.ensures c.deref-in-None-4.ensures in
+    let behind : (site_of c.in_ok-behind-in-None.behind) ≡ behind_exp (site_of c.args.site.now) (exp_tree c.deref-in-None-2.result.now) = c.in_ok-behind-in-None.ensures ∙ ap (λ z. behind_exp (site_of c.args.site.now) (exp_tree z)) (c.deref-in-None-3.ensures ∙ sym c.deref-in-None-2.ensures) in
+    record {
+      is = two-found (site_of c.args.site.now) (site_of c.in_ok-behind-in-None.behind) name one (exp_tree c.args.exp.now) (exp_tree c.deref-in-None-2.result.now) (exp_tree c.deref-in-None-4.result.now) more c.is_flat-is_last-in-None.result (record { low = c.in_ok-low-in-None.low; step = c.in_ok-by-in-None.by; high = c.in_ok-high-in-None.high })
+          c.args.slots.now c.value-in-None.new.slots c.value-in-None-2.new.slots c.args.goals.now.items c.value-in-None.new.goals.items c.value-in-None-2.new.goals.items shape
+          (c.is_flat-is_last-in-None.ensures ∙ ap (λ z. is_flat (exp_tree z)) (c.deref-in-None.ensures ∙ sym c.deref-in-None-4.ensures)) behind c.in_ok-low-in-None.ensures.is c.in_ok-high-in-None.ensures.is c.in_ok-by-in-None.ensures.ok;
+      helpers = two-helpers (map pred_tree c.args.helpers.now.items) (map pred_tree c.value-in-None.new.helpers.items) (map pred_tree c.value-in-None-2.new.helpers.items) (value_helpers (site_of c.args.site.now) (exp_tree c.deref-in-None-2.result.now)) (value_helpers (site_of c.in_ok-behind-in-None.behind) (exp_tree c.deref-in-None-4.result.now)) (collection_helpers (site_of c.args.site.now) (call name (exp one (exp (exp_tree c.args.exp.now) more))))
+          (collection-helped (site_of c.args.site.now) name (call name (exp one (exp (exp_tree c.args.exp.now) more))) one (exp_tree c.args.exp.now) more refl ∙ helpers-range (site_of c.args.site.now) (site_of c.in_ok-behind-in-None.behind) (exp_tree c.args.exp.now) (exp_tree c.deref-in-None-2.result.now) (exp_tree c.deref-in-None-4.result.now) shape behind) c.in_ok-low-in-None.ensures.helpers c.in_ok-high-in-None.ensures.helpers;
+    }
+
+pub over::over_exp-returns-in_ok-term-in_default : goal.over::over_exp-returns-in_ok-term-in_default
+over::over_exp-returns-in_ok-term-in_default t c = λ name one more. record {
+  is = collection-found (site_of c.args.site.now) name (call name (exp one (exp (exp_tree c.args.exp.now) more))) one (exp_tree c.args.exp.now) more c.args.slots.now c.value-in_default.new.slots c.args.goals.now.items c.value-in_default.new.goals.items c.in_ok-term-in_default.term refl (not-range c.args.exp.now c.in_default.not-Range) c.in_ok-term-in_default.ensures.is;
+  helpers = same-helpers (map pred_tree c.args.helpers.now.items) (map pred_tree c.value-in_default.new.helpers.items) (value_helpers (site_of c.args.site.now) (exp_tree c.args.exp.now)) (collection_helpers (site_of c.args.site.now) (call name (exp one (exp (exp_tree c.args.exp.now) more)))) (collection-helped (site_of c.args.site.now) name (call name (exp one (exp (exp_tree c.args.exp.now) more))) one (exp_tree c.args.exp.now) more refl) c.in_ok-term-in_default.ensures.helpers;
+}
+
+pub over::over_exp-same-low : goal.over::over_exp-same-low
+over::over_exp-same-low t c = refl
+
+pub over::over_exp-same-by : goal.over::over_exp-same-by
+over::over_exp-same-by t c = refl
+
+pub over::over_exp-same-low-in-None : goal.over::over_exp-same-low-in-None
+over::over_exp-same-low-in-None t c = refl
+
+pub over::over_exp-same-high : goal.over::over_exp-same-high
+over::over_exp-same-high t c = refl

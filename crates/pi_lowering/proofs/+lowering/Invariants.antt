@@ -1,5 +1,7 @@
 use Rattle.std.proofs.Common.{drop, List}
+use Rattle.std.specs.Prelude.{map}
 use Rattle.pi_core.specs.GoalTree.{GoalTree}
+use Rattle.pi_core.specs.CoreTree.{pred_tree}
 use Rattle.pi_syntax.specs.ExpLists.{exps_of}
 use Rattle.pi_lowered.specs.Values.{SlotValue}
 use Rattle.pi_lowered.specs.Goals.{indexed_by}
@@ -8,6 +10,9 @@ use Rattle.pi_lowered.specs.Helpers.{all_helpers, conjunct_helpers, branch_helpe
 use Rattle.pi_slots.specs.Branches.{branches_in}
 use Rattle.pi_sites.specs.SiteOf.{site_of}
 use Rattle.pi_helpers.specs.Parts.{IsValue}
+use Rattle.pi_helpers.specs.Helpers.{ending_of}
+use Rattle.pi_units.specs.Planned.{inner_in}
+use Rattle.pi_units.specs.Opened.{OpenTo}
 use Rattle.pi_lowering.specs.Lowering.{values_of}
 use Rattle.pi_lowering.proofs.PartLemmas.{places_in, ValuesTo, GoalsTo, IndexedTo}
 use Rattle.pi_lowering.proofs.HelperLemmas.{Going}
@@ -41,3 +46,10 @@ abbrev pub invariant-goals::conditions-loop-branch : goal.invariant-goals::condi
 invariant-goals::conditions-loop-branch l =
     Going (ConditionsTo (site_of l.site) (site_of l.here) l.branches l.branch-index l.initial.slots l.slots l.made.items)
     l.initial.helpers.items l.helpers.items (branch_helpers (site_of l.site) (branches_in l.branches)) (branch_helpers (site_of l.here) (branches_in (drop l.branch-index l.branches)))
+
+-- Those that are open are so but for the rest.
+
+abbrev pub invariant-units::open_units-loop-i : goal.invariant-units::open_units-loop-i
+invariant-units::open_units-loop-i l =
+    OpenTo (site_of l.initial.inside.site) (ending_of l.fn.ending) (inner_in l.inner) (exps_of l.units) l.initial.inside.goals.items l.initial.inside.slots l.opened.items (site_of l.inside.site) (ending_of l.now) (exps_of (drop l.i l.units)) l.inside.goals.items l.inside.slots
+    (map pred_tree l.initial.helpers.items) (map pred_tree l.helpers.items)
