@@ -4,8 +4,9 @@ use Rattle.std.proofs.lemmas.List.{drop_more, drop_all}
 use Rattle.pi_syntax.specs.ExpTree.{ExpTree, ExpTrees, exp_tree}
 use Rattle.pi_syntax.specs.ExpLists.{exps_of}
 use Rattle.pi_syntax.specs.declared.exp.Exp.{Exp}
+use Rattle.pi_names.specs.Texts.{iterated}
 use Rattle.pi_slots.specs.Branches.{branches_in}
-use Rattle.pi_coverage.specs.Built.{is_built_term, are_built_terms, is_built_pattern, are_built_patterns, is_built_value, are_built_values, is_built_goal, are_built_goals, is_built_branch, are_built_branches, have_built_goals}
+use Rattle.pi_coverage.specs.Built.{is_built_term, are_built_terms, is_built_pattern, are_built_patterns, is_built_value, are_built_values, is_built_goal, are_built_goals, is_built_branch, are_built_branches, have_built_goals, is_built_unit, is_built_collection, are_built_units}
 
 -- ---- any test
 
@@ -66,6 +67,14 @@ each-goal = record { none = refl; more = λ x xs. refl }
 pub each-branch : Each is_built_branch are_built_branches
 unfolding is_built_branch are_built_branches
 each-branch = record { none = refl; more = λ x xs. refl }
+
+-- an iterator or a test
+abbrev pub is_built_loop_unit : ExpTree → Bool
+is_built_loop_unit u = is_built_unit (iterated u) (is_built_collection u) (is_built_goal u)
+
+pub each-unit : Each is_built_loop_unit are_built_units
+unfolding are_built_units
+each-unit = record { none = refl; more = λ x xs. refl }
 
 -- a condition with its body
 abbrev pub is_built_pair : Exp × Exp → Bool

@@ -3,3 +3,4 @@ pub mod NodeLemmas
 pub mod CallLemmas
 pub mod PartLemmas
 pub mod LoopTrees
+pub mod UnitLemmas

@@ -1,17 +1,18 @@
--- Which parts of a program and which goals are built, by what is written alone: all forms but `foreach`, comprehensions, events, constraints, labelling and what planning gives (and what no
--- text without a fault has: `V@P` behind `$`, an assignment of what is no variable, a variable of a pattern without a name). `while` and `do` are built where what stands in them is. A name
--- that is called is one of the tables of built-in predicates and functions, one of the prelude's predicates, or one that the language doesn't give. (Own.)
+-- Which parts of a program and which goals are built, by what is written alone: all forms but events, constraints, labelling and what planning gives (and what no text without a fault has:
+-- `V@P` behind `$`, an assignment of what is no variable, a variable of a pattern without a name). Loops and comprehensions are built where what stands in them is. A name that is called is
+-- one of the tables of built-in predicates and functions, one of the prelude's predicates, or one that the language doesn't give. (Own.)
 use Rattle.std.specs.Prelude.{ℕ, zero, suc, ◌+◌, Bool, true, false, not, ◌&&◌, ◌||◌, cond, if◌then◌else◌, List, [], ◌∷◌, Option, Some, None, is_none, codes}
 use Rattle.std.specs.Str.{bytes_eq}
 use Rattle.pi_effects.specs.BuiltIns.{is_predicate, is_function}
 use Rattle.pi_lib.specs.Forms.{is_form}
 use Rattle.pi_lib.specs.Names.{kind_of}
 use Rattle.pi_lib.specs.declared.builtin.BuiltinKind.{BuiltinKind}
-use Rattle.pi_syntax.specs.ExpTree.{ExpTree, var, int, atom, str, list, list_onto, array, call, quote, index, range, range_by, at, and, or, arrow, if_then, if_else, while_do, do_while, ExpTrees, no_exps, exp, ExpBranches, no_branches, branch}
+use Rattle.pi_syntax.specs.ExpTree.{ExpTree, var, int, atom, str, list, list_onto, array, call, quote, index, range, range_by, at, and, or, arrow, if_then, if_else, foreach, while_do, do_while, collect, ExpTrees, no_exps, exp, ExpBranches, no_branches, branch}
 use Rattle.pi_syntax.specs.ProgramTree.{RuleTree, FunctionTree, WrittenClause, rule, function, fact, PartTree, ProgramTree}
 use Rattle.pi_syntax.specs.Signature.{exp_count}
 use Rattle.pi_syntax.specs.declared.program.Decl.{Decl}
 use Rattle.pi_meaning.specs.WrittenRules.{head_arguments}
+use Rattle.pi_names.specs.Texts.{iterated}
 use Rattle.pi_names.specs.Forms.{Form, negation, once, assignment, catch, by_term, membership, form_of, is_find_all, is_count_all}
 
 -- ---- names that may be called
@@ -111,6 +112,11 @@ is_assigned (Some assignment) (exp e es) = is_variable e
 is_assigned (Some assignment) no_exps = false
 is_assigned form es = true
 
+-- an iterator, whose pattern is one of a head, or a test
+abbrev pub is_built_unit : Option ExpTree → Bool → Bool → Bool
+is_built_unit None collection test = test
+is_built_unit (Some e) collection test = is_built_pattern e && collection
+
 -- `true`, `fail` or the call of a predicate without arguments
 abbrev pub is_built_atom : List ℕ → Bool
 is_built_atom name = bytes_eq name (codes "true") || (bytes_eq name (codes "fail") || is_built_predicate name 0)
@@ -129,6 +135,7 @@ unfoldable mutual
   is_built_value (index e es) = is_built_value e && (are_built_values es && are_some es)
   is_built_value (range first last) = is_built_value first && is_built_value last
   is_built_value (range_by first step last) = is_built_value first && (is_built_value step && is_built_value last)
+  is_built_value (collect is_array e es) = are_built_units es && is_built_value e
   is_built_value e = false
 
   pub are_built_values : ExpTrees → Bool
@@ -154,6 +161,7 @@ unfoldable mutual
   is_built_goal (or es) = are_built_branches es
   is_built_goal (if_then bs) = have_built_goals bs
   is_built_goal (if_else bs e) = have_built_goals bs && is_built_goal e
+  is_built_goal (foreach es e) = are_built_units es && is_built_goal e
   is_built_goal (while_do c e) = is_built_goal c && is_built_goal e
   is_built_goal (do_while e c) = is_built_goal e && is_built_goal c
   is_built_goal e = false
@@ -176,6 +184,7 @@ unfoldable mutual
   is_built_branch (or es) = are_built_branches es
   is_built_branch (if_then bs) = have_built_goals bs
   is_built_branch (if_else bs e) = have_built_goals bs && is_built_goal e
+  is_built_branch (foreach es e) = are_built_units es && is_built_goal e
   is_built_branch (while_do c e) = is_built_goal c && is_built_goal e
   is_built_branch (do_while e c) = is_built_goal e && is_built_goal c
   is_built_branch e = false
@@ -183,6 +192,16 @@ unfoldable mutual
   pub have_built_goals : ExpBranches → Bool
   have_built_goals no_branches = true
   have_built_goals (branch c e bs) = is_built_goal c && (is_built_goal e && have_built_goals bs)
+
+  -- iterators and tests
+  pub are_built_units : ExpTrees → Bool
+  are_built_units no_exps = true
+  are_built_units (exp u us) = is_built_unit (iterated u) (is_built_collection u) (is_built_goal u) && are_built_units us
+
+  -- what an iterator goes over
+  pub is_built_collection : ExpTree → Bool
+  is_built_collection (call name es) = is_built_value_at es 1
+  is_built_collection e = false
 
 -- ---- parts
 

@@ -1,14 +1,16 @@
 //! Which goals and expressions are built.
 ghost use Rattle.std.specs.Prelude.{◌≡◌, ◌&&◌, Some};
-ghost use Rattle.pi_syntax.specs.ExpTree.{exp_tree};
+ghost use Rattle.pi_syntax.specs.ExpTree.{exp_tree, call};
 ghost use Rattle.pi_syntax.specs.ExpLists.{exps_of};
 ghost use Rattle.pi_syntax.specs.Signature.{exp_count};
+ghost use Rattle.pi_names.specs.Texts.{iterated};
 ghost use Rattle.pi_names.specs.Forms.{assignment, form_of as form_in_names};
 ghost use Rattle.pi_slots.specs.Branches.{branches_in};
 ghost use Rattle.pi_coverage.specs.Built as spec;
 
 use crate::forms::{Form, form_of, is_count_all, is_find_all};
 use crate::names::{is_built_function, is_built_predicate};
+use crate::patterns::is_built_pattern;
 use crate::terms::is_built_term;
 use pi_syntax::Exp;
 
@@ -38,7 +40,7 @@ pub(crate) fn is_built_value(exp: &Exp) -> bool
             None => is_built_value(first) & is_built_value(last),
         },
         Exp::At(_, _) => false,
-        Exp::Collect(_, _, _) => false,
+        Exp::Collect(_, item, units) => are_built_units(units.as_slice()) & is_built_value(item),
         Exp::And(_) => false,
         Exp::Or(_) => false,
         Exp::Arrow(_, _) => false,
@@ -137,6 +139,7 @@ pub fn is_built_goal(exp: &Exp) -> bool
             Some(last) => have_built_goals(branches.as_slice()) & is_built_goal(last),
             None => have_built_goals(branches.as_slice()),
         },
+        Exp::Foreach(units, body) => are_built_units(units.as_slice()) & is_built_goal(body),
         Exp::While(test, body) => is_built_goal(test) & is_built_goal(body),
         Exp::DoWhile(body, test) => is_built_goal(body) & is_built_goal(test),
         _ => false,
@@ -185,6 +188,7 @@ fn is_built_branch(exp: &Exp) -> bool
             Some(last) => have_built_goals(branches.as_slice()) & is_built_goal(last),
             None => have_built_goals(branches.as_slice()),
         },
+        Exp::Foreach(units, body) => are_built_units(units.as_slice()) & is_built_goal(body),
         Exp::While(test, body) => is_built_goal(test) & is_built_goal(body),
         Exp::DoWhile(body, test) => is_built_goal(body) & is_built_goal(test),
         _ => false,
@@ -205,6 +209,42 @@ fn have_built_goals(branches: &[(Exp, Exp)]) -> bool
         }
     }
     true
+}
+
+/// Whether all iterators and tests of a loop are built.
+#[cycle(goal)]
+fn are_built_units(units: &[Exp]) -> bool
+    ensures { result ≡ spec.are_built_units (exps_of units.now) }
+{
+    for unit in units {
+        if !is_built_unit(unit) {
+            return false;
+        }
+    }
+    true
+}
+
+/// Whether an iterator or a test is built.
+#[cycle(goal)]
+#[tactic(auto, unfolding(pi_syntax::specs::ExpTree::exp_tree))]
+fn is_built_unit(unit: &Exp) -> bool
+    ensures { result ≡ spec.is_built_unit (iterated (exp_tree unit.now)) (spec.is_built_collection (exp_tree unit.now)) (spec.is_built_goal (exp_tree unit.now)) }
+{
+    match unit {
+        Exp::Call(name, args) => is_built_unit_call(name.as_str(), args.as_slice()),
+        _ => is_built_goal(unit),
+    }
+}
+
+/// Whether a call is built as an iterator, of a pattern and of what it goes over, or else as a test.
+#[cycle(goal)]
+fn is_built_unit_call(name: &str, args: &[Exp]) -> bool
+    ensures { result ≡ spec.is_built_unit (iterated (call name.now (exps_of args.now))) (spec.is_built_value_at (exps_of args.now) 1) (spec.is_built_goal (call name.now (exps_of args.now))) }
+{
+    if (args.len() == 2) & (name == "in") {
+        return is_built_pattern(&args[0]) & is_built_value_at(args, 1);
+    }
+    is_built_call(name, args)
 }
 
 /// Whether an atom is built as a goal: `true`, `fail` or the call of a predicate without arguments.

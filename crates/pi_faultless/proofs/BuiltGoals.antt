@@ -1,20 +1,21 @@
 -- Expressions and goals that are built, and whose nodes are fine, are of the forms that are lowered.
 use Rattle.std.proofs.Common.{◌≡◌, ℕ, zero, suc, Bool, true, false, List, ◌++◌, refl, subst}
 use Rattle.std.specs.Prelude.{◌&&◌, ◌≢◌, Option, Some, None}
-use Rattle.std.proofs.lemmas.Bool.{false≢true, and_parts}
+use Rattle.std.proofs.lemmas.Bool.{and_parts}
 use Rattle.pi_syntax.specs.ExpTree.{ExpTree, var, int, atom, str, list, list_onto, array, call, quote, index, range, range_by, collect, and, or, arrow, if_then, if_else, foreach, while_do, do_while, ExpTrees, no_exps, exp, ExpBranches, no_branches, branch}
 use Rattle.pi_syntax.specs.Signature.{exp_count}
 use Rattle.pi_names.specs.Texts.{iterated}
 use Rattle.pi_names.specs.Forms.{form_of}
 use Rattle.pi_clauses.specs.Calls.{Named, calls_of_goal}
 use Rattle.pi_clauses.specs.Places.{goal, asked, expression, iterator, placed, called, below, all_placed, arguments_placed, branches_placed}
-use Rattle.pi_coverage.specs.Built.{are_some, is_built_value, are_built_values, is_built_value_at, is_built_goal_at, is_built_goal, are_built_goals, are_built_branches, is_built_branch, have_built_goals, is_built_pattern, is_built_form, is_assigned}
+use Rattle.pi_coverage.specs.Built.{are_some, is_built_value, are_built_values, is_built_value_at, is_built_goal_at, is_built_goal, are_built_goals, are_built_branches, is_built_branch, have_built_goals, is_built_pattern, is_built_form, is_assigned, is_built_unit, is_built_collection, are_built_units}
 use Rattle.pi_lowered.specs.Forms.{Knows}
 use Rattle.pi_lowered.specs.WithLoops.{IsUnit, IsExpression, AreExpressions, IsExpressionAt, IsGoalAt, IsGoal, AreGoals, AreBranches, IsBranch, HaveGoals, AreUnits, IsCollection}
 use Rattle.pi_faultless.proofs.KnownCalls.{AreKnown, AreFine, nodes-apart}
 use Rattle.pi_faultless.proofs.BuiltTerms.{term-of, pattern-of}
 use Rattle.pi_faultless.proofs.CallPlaces.{plain-arguments, goal-arguments, iterator-arguments, below-asked, below-iterator, place_behind}
-use Rattle.pi_faultless.proofs.BuiltCalls.{Has, function-of, predicate-of, assigned-of, atom-of}
+use Rattle.pi_faultless.proofs.BuiltCalls.{Has, function-of, predicate-of, assigned-of, collection-place, atom-of}
+use Rattle.pi_faultless.proofs.NamedPatterns.{units-named}
 
 some-exps : (es : ExpTrees) → are_some es ≡ true → es ≢ no_exps
 some-exps no_exps h = absurd cc
@@ -24,6 +25,11 @@ some-exps (exp e es) h = λ same. cc
 as-expression : (defined : List Named) (assigns : Bool) (name : List ℕ) (es : ExpTrees) → AreFine defined (below (goal assigns) (call name es)) → AreFine defined (arguments_placed expression name (exp_count es) 0 es)
 unfolding below
 as-expression defined assigns name es fine = subst (AreFine defined) (goal-arguments assigns name (exp_count es) 0 es) fine
+
+-- an iterator, by its pattern and what it goes over, or a test
+unit-by : (o : Option ExpTree) (over test : Bool) (Over Test : Type 0) → is_built_unit o over test ≡ true → ((e : ExpTree) → o ≡ Some e → over ≡ true → Over) → (test ≡ true → Test) → IsUnit o Over Test
+unit-by None over test Over Test built f g = g built
+unit-by (Some e) over test Over Test built f g = let both = and_parts (is_built_pattern e) over built in (pattern-of e both.0, f e refl both.1)
 
 mutual
   unfolding is_built_value IsExpression below all_placed arguments_placed branches_placed
@@ -63,7 +69,10 @@ mutual
       let parts = nodes-apart defined (placed expression first) (placed expression step ++ placed expression last) fine.1 in
       let behind = nodes-apart defined (placed expression step) (placed expression last) parts.1 in
       (value-of defined known has first both.0 parts.0, value-of defined known has step rest.0 behind.0, value-of defined known has last rest.1 behind.1)
-  value-of defined known has (collect is_array e es) built fine = absurd (false≢true built)
+  value-of defined known has (collect is_array e es) built fine =
+      let both = and_parts (are_built_units es) (is_built_value e) built in
+      let parts = nodes-apart defined (placed expression e) (all_placed iterator es) fine.1 in
+      (units-of defined known has es both.0 parts.1, value-of defined known has e both.1 parts.0, units-named es both.0)
   value-of defined known has e built fine = absurd cc
 
   values-of : (defined : List Named) (known : Knows) → Has defined known → (es : ExpTrees) → are_built_values es ≡ true → AreFine defined (all_placed expression es) → AreExpressions known es
@@ -114,7 +123,10 @@ mutual
       let both = and_parts (have_built_goals bs) (is_built_goal e) built in
       let parts = nodes-apart defined (branches_placed (goal assigns) bs) (placed (goal assigns) e) fine in
       (choices-of defined known has assigns bs both.0 parts.0, goal-of defined known has assigns e both.1 parts.1.0.0 parts.1.1)
-  goal-of defined known has assigns (foreach es e) built calls fine = absurd (false≢true built)
+  goal-of defined known has assigns (foreach es e) built calls fine =
+      let both = and_parts (are_built_units es) (is_built_goal e) built in
+      let parts = nodes-apart defined (all_placed iterator es) (placed (goal assigns) e) fine in
+      (units-of defined known has es both.0 parts.0, goal-of defined known has assigns e both.1 parts.1.0.0 parts.1.1)
   goal-of defined known has assigns (while_do c e) built calls fine =
       let both = and_parts (is_built_goal c) (is_built_goal e) built in
       let parts = nodes-apart defined (placed (goal false) c) (placed (goal assigns) e) fine in
@@ -164,7 +176,10 @@ mutual
       let both = and_parts (have_built_goals bs) (is_built_goal e) built in
       let parts = nodes-apart defined (branches_placed (goal assigns) bs) (placed (goal assigns) e) fine in
       (choices-of defined known has assigns bs both.0 parts.0, goal-of defined known has assigns e both.1 parts.1.0.0 parts.1.1)
-  branch-of defined known has assigns (foreach es e) built calls fine = absurd (false≢true built)
+  branch-of defined known has assigns (foreach es e) built calls fine =
+      let both = and_parts (are_built_units es) (is_built_goal e) built in
+      let parts = nodes-apart defined (all_placed iterator es) (placed (goal assigns) e) fine in
+      (units-of defined known has es both.0 parts.0, goal-of defined known has assigns e both.1 parts.1.0.0 parts.1.1)
   branch-of defined known has assigns (while_do c e) built calls fine =
       let both = and_parts (is_built_goal c) (is_built_goal e) built in
       let parts = nodes-apart defined (placed (goal false) c) (placed (goal assigns) e) fine in
@@ -183,3 +198,20 @@ mutual
       let parts = nodes-apart defined (placed (goal false) c) (placed (goal assigns) e ++ branches_placed (goal assigns) bs) fine in
       let behind = nodes-apart defined (placed (goal assigns) e) (branches_placed (goal assigns) bs) parts.1 in
       (goal-of defined known has false c both.0 parts.0.0.0 parts.0.1, goal-of defined known has assigns e rest.0 behind.0.0.0 behind.0.1, choices-of defined known has assigns bs rest.1 behind.1)
+
+  -- iterators and tests
+  units-of : (defined : List Named) (known : Knows) → Has defined known → (es : ExpTrees) → are_built_units es ≡ true → AreFine defined (all_placed iterator es) → AreUnits known es
+  units-of defined known has no_exps built fine = tt
+  units-of defined known has (exp u us) built fine =
+      let both = and_parts (is_built_unit (iterated u) (is_built_collection u) (is_built_goal u)) (are_built_units us) built in
+      let parts = nodes-apart defined (placed iterator u) (all_placed iterator us) fine in (
+        unit-by (iterated u) (is_built_collection u) (is_built_goal u) (IsCollection known u) (IsGoal known u) both.0 (λ e is over. collection-of defined known has u e is over parts.0.1)
+            (λ test. goal-of defined known has false u test parts.0.0.0 (subst (AreFine defined) (below-iterator u) parts.0.1)),
+        units-of defined known has us both.1 parts.1,
+      )
+
+  -- what an iterator goes over
+  collection-of : (defined : List Named) (known : Knows) → Has defined known → (u e : ExpTree) → iterated u ≡ Some e → is_built_collection u ≡ true → AreFine defined (below iterator u) → IsCollection known u
+  collection-of defined known has (call name es) e is built fine =
+      value-at defined known has name (exp_count es) 0 es 1 (collection-place name es e is) built (subst (AreFine defined) (iterator-arguments name (exp_count es) 0 es) fine)
+  collection-of defined known has u e is built fine = absurd cc

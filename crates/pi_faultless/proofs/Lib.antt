@@ -3,6 +3,7 @@ mod BuiltTerms
 mod PlainNames
 mod CallPlaces
 mod BuiltCalls
+mod NamedPatterns
 mod BuiltGoals
 mod KnownNames
 mod FreeHeads

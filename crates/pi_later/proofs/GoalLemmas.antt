@@ -1,6 +1,6 @@
 -- Goals and expressions that are built, and call no term, mean the same where calls of names that are built do.
 use Rattle.std.specs.Prelude.{◌≡◌, ◌++◌, ◌&&◌, ◌||◌, ℕ, zero, suc, Bool, true, false, List, [], ◌∷◌, Option, Some, None, refl}
-use Rattle.std.proofs.lemmas.Bool.{false≢true, and_parts, or_parts}
+use Rattle.std.proofs.lemmas.Bool.{and_parts, or_parts}
 use Rattle.pi_terms.specs.Tree.{Tree, comp}
 use Rattle.pi_terms.specs.ListNames.{nil}
 use Rattle.pi_print.specs.PrintTerm.{array_name}
@@ -17,7 +17,7 @@ use Rattle.pi_names.specs.Control.{Goal, Value, Values, draining, nothing, in_fr
 use Rattle.pi_names.specs.Forms.{form_of, Parts, Reading, plain, readings, first_reading, later_readings, operand_readings, indexed_by}
 use Rattle.pi_names.specs.Loops.{Finish, as_it_is, unit, iterating, turning, while_turns, do_turns, hidden, adding, in_order, comprehended}
 use Rattle.pi_names.specs.Goals.{started, value_of, values_of, values_in, values_apart, goals_in, goal_of, all_of, any_of, arrow_in, branches_of, units_of, collection_of}
-use Rattle.pi_coverage.specs.Built.{is_built_pattern, is_built_form, is_assigned, are_some, is_built_value, are_built_values, is_built_value_at, is_built_goal_at, is_built_goal, are_built_goals, are_built_branches, is_built_branch, have_built_goals}
+use Rattle.pi_coverage.specs.Built.{is_built_pattern, is_built_form, is_assigned, is_built_unit, are_built_units, is_built_collection, are_some, is_built_value, are_built_values, is_built_value_at, is_built_goal_at, is_built_goal, are_built_goals, are_built_branches, is_built_branch, have_built_goals}
 use Rattle.pi_coverage.specs.TermCalls.{calls_terms, some_call_terms, some_branch_calls_terms}
 use Rattle.pi_later.proofs.BuiltNames.{ranges-built, index-built}
 use Rattle.pi_later.proofs.CallLemmas.{CallsAlike, Counted, nothing-counted, front-counted, values-counted, applied-alike}
@@ -45,9 +45,16 @@ branch-goal a b before (while_do c e) n same = same n
 branch-goal a b before (do_while e c) n same = same n
 branch-goal a b before e n same = absurd cc
 
+-- an iterator or a test, of what it goes over or of what it asks, and of what stands behind it
+unit-alike : (finish : Finish) (before inside kept : Names) (o : Option ExpTree) (over tested : Bool) → is_built_unit o over tested ≡ true → (v w : Value) → (over ≡ true → v ≡ w) → (f g : Goal) → (tested ≡ true → f ≡ g) → (rest last : Goal) → rest ≡ last →
+    unit finish before inside kept o v f rest ≡ unit finish before inside kept o w g last
+unit-alike finish before inside kept None over tested built v w collection f g test rest last d = λ i l p. choosing (test built i) (d i) (λ m q. one q) l p
+unit-alike finish before inside kept (Some e) over tested built v w collection f g test rest last d =
+    λ i l p. iterating finish before inside kept e (collection (and_parts (is_built_pattern e) over built).1 i) (d i) l p
+
 mutual
   unfolding value_of values_of values_in values_apart goals_in goal_of all_of any_of arrow_in branches_of indexed_by value_at goal_at is_built_value are_built_values is_built_value_at is_built_goal_at is_built_goal
-      are_built_goals are_built_branches is_built_branch have_built_goals units_of collection_of calls_terms some_call_terms some_branch_calls_terms
+      are_built_goals are_built_branches is_built_branch have_built_goals are_built_units is_built_collection units_of collection_of calls_terms some_call_terms some_branch_calls_terms
 
   pub value-alike : (a b : Setting) → CallsAlike a b → (r : Reading) (before : Names) (e : ExpTree) → is_built_value e ≡ true → calls_terms e ≡ false → value_of a r before e ≡ value_of b r before e
   value-alike a b h r before (var name) n z = refl
@@ -95,7 +102,12 @@ mutual
       (three-counted (value_of a plain before first) (value_of a plain (behind before (places first)) step) (value_of a plain (behind before (places first ++ places step)) last))
       (λ j. in_front (value-alike a b h plain before first parts.0 free.0 j)
       (in_front (value-alike a b h plain (behind before (places first)) step rest.0 others.0 j) (in_front (value-alike a b h plain (behind before (places first ++ places step)) last rest.1 others.1 j) nothing))) i l p
-  value-alike a b h r before (collect is_array e es) n z = absurd (false≢true n)
+  value-alike a b h r before (collect is_array e es) n z =
+      let parts = and_parts (are_built_units es) (is_built_value e) n in
+      let free = or_parts (calls_terms e) (some_call_terms es) z in
+      λ i l p. comprehended before (started (begins_with_iterator es) (in_order is_array) (before ++ hidden ∷ []) (shared_names (before ++ hidden ∷ []) (occurring_all es ++ hidden ∷ occurring e)) (hidden ∷ [])
+      (λ finish inside. units-alike a b h finish inside (hidden ∷ []) (hidden ∷ occurring e) es parts.0 free.1 (λ names. adding (value_of a plain names e)) (λ names. adding (value_of b plain names e))
+      (λ j names. adding (value-alike a b h plain names e parts.1 free.0 j)) i)) l p
   value-alike a b h r before (at name e) n z = refl
   value-alike a b h r before (and es) n z = refl
   value-alike a b h r before (or es) n z = refl
@@ -161,7 +173,11 @@ mutual
       let free = or_parts (some_branch_calls_terms bs) (calls_terms e) z in
       λ i l p. draining (branches-alike a b h before bs parts.0 free.0 (goal_of a (behind before (places_of_branches bs)) e) (goal_of b (behind before (places_of_branches bs)) e)
       (goal-alike a b h (behind before (places_of_branches bs)) e parts.1 free.1) i) l p
-  goal-alike a b h before (foreach es e) n z = absurd (false≢true n)
+  goal-alike a b h before (foreach es e) n z =
+      let parts = and_parts (are_built_units es) (is_built_goal e) n in
+      let free = or_parts (some_call_terms es) (calls_terms e) z in
+      λ i l p. draining (started (begins_with_iterator es) as_it_is before (shared_names before (occurring_all es ++ occurring e)) (kept_names before es (assigned e))
+      (λ finish inside. units-alike a b h finish inside (assigned e) (occurring e) es parts.0 free.0 (λ names. goal_of a names e) (λ names. goal_of b names e) (λ j names. goal-alike a b h names e parts.1 free.1 j) i)) l p
   goal-alike a b h before (while_do c e) n z =
       let parts = and_parts (is_built_goal c) (is_built_goal e) n in
       let free = or_parts (calls_terms c) (calls_terms e) z in
@@ -219,3 +235,20 @@ mutual
       let others = or_parts (calls_terms e) (some_branch_calls_terms bs) free.1 in
       λ i l p. choosing (goal-alike a b h before c parts.0 free.0 i) (goal-alike a b h (behind before (places c)) e rest.0 others.0 i)
       (branches-alike a b h (behind before (places c ++ places e)) bs rest.1 others.1 other last d i) l p
+
+  -- iterators and tests, and what stands in the loop
+  units-alike : (a b : Setting) → CallsAlike a b → (finish : Finish) (before names used : Names) (es : ExpTrees) → are_built_units es ≡ true → some_call_terms es ≡ false → (body last : Names → Goal) → body ≡ last →
+      units_of a finish before names used es body ≡ units_of b finish before names used es last
+  units-alike a b h finish before names used no_exps n z body last d = λ i l p. d i before l p
+  units-alike a b h finish before names used (exp u us) n z body last d =
+      let parts = and_parts (is_built_unit (iterated u) (is_built_collection u) (is_built_goal u)) (are_built_units us) n in
+      let free = or_parts (calls_terms u) (some_call_terms us) z in
+      let inside : Names = names_inside before (iterated u) (occurring_all us ++ used) in
+      let later : Names = behind inside (unit_places (iterated u) u) in
+      λ i l p. unit-alike finish before inside (kept_names before (exp u us) names) (iterated u) (is_built_collection u) (is_built_goal u) parts.0 (collection_of a before u) (collection_of b before u)
+      (λ m. collection-alike a b h before u m free.0) (goal_of a before u) (goal_of b before u) (λ m. goal-alike a b h before u m free.0) (units_of a as_it_is later names used us body) (units_of b as_it_is later names used us last)
+      (units-alike a b h as_it_is later names used us parts.1 free.1 body last d) i l p
+
+  collection-alike : (a b : Setting) → CallsAlike a b → (before : Names) (u : ExpTree) → is_built_collection u ≡ true → calls_terms u ≡ false → collection_of a before u ≡ collection_of b before u
+  collection-alike a b h before (call name es) n z = λ i l p. late-alike a b h before es 1 n (or_parts (is_call name (exp_count es)) (some_call_terms es) z).1 i l p
+  collection-alike a b h before u n z = absurd cc

@@ -7,7 +7,7 @@ ghost use Rattle.pi_lowered.specs.Programs.{behind_option, option_count, clause_
 ghost use Rattle.pi_sites.specs.OwnNames.{own_name};
 ghost use Rattle.pi_sites.specs.SiteOf.{site_of};
 
-use pi_sites::{Naming, Site, helpers_in, push_names};
+use pi_sites::{Naming, Site, helpers_in, push_names, together};
 use pi_syntax::{Clause, Exp, Part};
 use std::alloc::{AllocError, Global};
 
@@ -87,15 +87,5 @@ fn helpers_in_option(exp: &Option<Exp>) -> Result<u64, AllocError>
     match exp {
         None => Ok(0),
         Some(exp) => helpers_in(exp),
-    }
-}
-
-/// How many helpers there are together. For more than 64 bits hold memory is wanted.
-fn together(some: u64, more: u64) -> Result<u64, AllocError>
-    ensures { IfOk result (λ all. all ≡ some + more) }
-{
-    match some.checked_add(more) {
-        Some(all) => Ok(all),
-        None => Err(AllocError),
     }
 }

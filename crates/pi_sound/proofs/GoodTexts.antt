@@ -36,7 +36,7 @@ use Rattle.pi_lowered.proofs.CollectLemmas.{hidden-named, hidden-within, hidden-
 use Rattle.pi_lowered.proofs.HelperLemmas.{AreAmong}
 use Rattle.pi_lowered.proofs.LoopTexts.{shared-among, kept-before, kept-among}
 use Rattle.pi_lowered.proofs.UnitLemmas.{within-behind}
-use Rattle.pi_coverage.specs.Built.{are_some, is_assigned, is_built_form, is_built_value, are_built_values, is_built_value_at, is_built_goal_at, is_built_goal, are_built_goals, are_built_branches, is_built_branch, have_built_goals}
+use Rattle.pi_coverage.specs.Built.{are_some, is_assigned, is_built_form, is_built_value, are_built_values, is_built_value_at, is_built_goal_at, is_built_goal, are_built_goals, are_built_branches, is_built_branch, have_built_goals, is_built_unit, are_built_units, is_built_collection}
 use Rattle.pi_sound.proofs.FineGoals.{fine-truth}
 use Rattle.pi_sound.proofs.GivenNames.{ranges-there}
 use Rattle.pi_sound.proofs.GoodHelpers.{has-last}
@@ -45,6 +45,7 @@ use Rattle.pi_sound.proofs.GoodValues.{good-none, good-last, good-before, good-b
 use Rattle.pi_sound.proofs.GoodCalls.{good-value-call, good-goal-call, good-atom, goal-sites-named, value-sites-named}
 use Rattle.pi_sound.proofs.LoopGoals.{good-loop}
 use Rattle.pi_sound.proofs.LoopHelpers.{enters-again, good-while, good-do}
+use Rattle.pi_sound.proofs.GoodUnits.{GoodCollection, by_value, by_range, unit-good, started-good, good-adding, good-comprehension}
 
 -- a branch without an arrow is a goal
 branch-goal : (known : Knows) (s : Site) (e : ExpTree) → IsBranch known e → arrow_in s e ≡ None → IsGoal known e
@@ -119,7 +120,14 @@ mutual
       let both : (is_built_value step ≡ true) × (is_built_value last ≡ true) = and_parts (is_built_value step) (is_built_value last) three.1 in
       good-table (codes "..") 3 (three-good s.filled first step last (is_flat step && is_flat last) (is_flat last) (value-good known s first named is.0 three.0) (value-good known (behind_exp s first) step (behind-named s.before (places first) named) is.1 both.0)
       (value-good known (behind_site s (places first ++ places step) (helpers_in first + helpers_in step)) last (behind-named s.before (places first ++ places step) named) is.2 both.1)) (λ ns. refl) ranges-there.1
-  value-good known s (collect is_array e es) named is built = absurd (false≢true built)
+  value-good known s (collect is_array e es) named is built =
+      let both : (are_built_units es ≡ true) × (is_built_value e ≡ true) = and_parts (are_built_units es) (is_built_value e) built in
+      let t : Site = gathered_at s in
+      let body : Site → SlotNames → SlotGoals = λ u ms. adding (last_value e ms (made u e ms)) in
+      good-comprehension s.filled s.before
+      (started-good known t (in_order is_array) (hidden ∷ []) (gathering e) es body (λ u ending. units_helpers u ending (gathering e) es body (λ v. value_helpers v e)) (hidden-named s.before named) (hidden-stands s.before)
+      (hidden-shared s.before (occurring_all es) (occurring e))
+      (λ u ending there. units-good known u ending (gathering e) es there is.0 both.0 (hidden-within (occurring e)) body (λ v. value_helpers v e) (λ v at. good-adding (good-last e (value-good known v e at is.1 both.1)))) (begins_with_iterator es))
   value-good known s e named is built = absurd is
 
   parts-good : (known : Knows) (s : Site) (es : ExpTrees) → AreNamed s.before → AreExpressions known es → are_built_values es ≡ true → GoodValues known (all_helpers s es) (λ ns. parts s es ns)
@@ -175,7 +183,13 @@ mutual
       let both : (have_built_goals bs ≡ true) × (is_built_goal e ≡ true) = and_parts (have_built_goals bs) (is_built_goal e) built in
       let t : Site = behind_site s (places_of_branches bs) (helpers_in_branches bs) in
       branches-good known s bs named is.0 both.0 (goal_helpers t e) (λ ms. goal_of t e ms) (goal-good known t e (behind-named s.before (places_of_branches bs) named) is.1 both.1)
-  goal-good known s (foreach es e) named is built = absurd (false≢true built)
+  goal-good known s (foreach es e) named is built =
+      let both : (are_built_units es ≡ true) × (is_built_goal e ≡ true) = and_parts (are_built_units es) (is_built_goal e) built in
+      let body : Site → SlotNames → SlotGoals = λ u ms. goal_of u e ms in
+      let within : Within (assigned e) (occurring_all es ++ occurring e) = within-behind (assigned e) (occurring_all es) (occurring e) (assigned-occurs e) in
+      started-good known s as_it_is (kept_names s.before es (assigned e)) (inner_of e) es body (λ u ending. units_helpers u ending (inner_of e) es body (λ v. goal_helpers v e)) named (kept-before s.before es (assigned e))
+      (kept-among s.before es (assigned e) (occurring_all es ++ occurring e) within)
+      (λ u ending there. units-good known u ending (inner_of e) es there is.0 both.0 (assigned-occurs e) body (λ v. goal_helpers v e) (λ v at. goal-good known v e at is.1 both.1)) (begins_with_iterator es)
   goal-good known s (while_do c e) named is built =
       let both : (is_built_goal c ≡ true) × (is_built_goal e ≡ true) = and_parts (is_built_goal c) (is_built_goal e) built in
       let loop : Loop = while_loop s c e in
@@ -238,3 +252,36 @@ mutual
       good-same (sym (append_assoc (goal_helpers s c) (goal_helpers u e ++ branch_helpers v bs) qs
       ∙ ap (λ (xs : List PredTree). goal_helpers s c ++ xs) (append_assoc (goal_helpers u e) (branch_helpers v bs) qs)))
       (good-choosing (goal-good known s c named is.0 first.0) (goal-good known u e (behind-named s.before (places c) named) is.1 rest.0) (branches-good known v bs (behind-named s.before (places c ++ places e) named) is.2 rest.1 qs other good))
+
+  -- iterators and tests, and what stands in the loop
+  units-good : (known : Knows) (s : Site) (ending : Ending) (i : Inner) (us : ExpTrees) → AreNamed s.before → AreUnits known us → are_built_units us ≡ true → Within i.assigned i.used → (body : Site → SlotNames → SlotGoals) (inner : Site → List PredTree) →
+      ((t : Site) → AreNamed t.before → GoodGoals known (inner t) (λ ns. body t ns)) → GoodGoals known (units_helpers s ending i us body inner) (λ ns. units s ending i us body ns)
+  units-good known s ending i no_exps named is built within body inner good = good s named
+  units-good known s ending i (exp u us) named is built within body inner good =
+      let both : (is_built_unit (iterated u) (is_built_collection u) (is_built_goal u) ≡ true) × (are_built_units us ≡ true) = and_parts (is_built_unit (iterated u) (is_built_collection u) (is_built_goal u)) (are_built_units us) built in
+      unit-good known s ending i u us (IsCollection known u) (IsGoal known u) (is_built_collection u) (is_built_goal u) named within body (λ t o. units_helpers t o i us body inner) (collection_helpers s u) (goal_helpers s u)
+      (λ fits fine. collection-good known s u named fits fine) (λ fits fine. goal-good known s u named fits fine) (λ t o there. units-good known t o i us there is.1 both.1 within body inner good) (iterated u) refl is.0 both.0
+
+  collection-good : (known : Knows) (s : Site) (u : ExpTree) → AreNamed s.before → IsCollection known u → is_built_collection u ≡ true → GoodCollection known (collection_helpers s u) s u (is_range u)
+  collection-good known s (call name no_exps) named is built = absurd is
+  collection-good known s (call name (exp x no_exps)) named is built = absurd is
+  collection-good known s (call name (exp x (exp (range first last) es))) named is built =
+      let both : (is_built_value first ≡ true) × (is_built_value last ≡ true) = and_parts (is_built_value first) (is_built_value last) built in by_range (pair-good s.filled first last (is_flat last) (value-good known s first named is.0 both.0) (value-good known (behind_exp s first) last (behind-named s.before (places first) named) is.1 both.1))
+  collection-good known s (call name (exp x (exp (range_by first step last) es))) named is built =
+      let three : (is_built_value first ≡ true) × ((is_built_value step && is_built_value last) ≡ true) = and_parts (is_built_value first) (is_built_value step && is_built_value last) built in
+      let both : (is_built_value step ≡ true) × (is_built_value last ≡ true) = and_parts (is_built_value step) (is_built_value last) three.1 in
+      by_range (three-good s.filled first step last (is_flat step && is_flat last) (is_flat last) (value-good known s first named is.0 three.0) (value-good known (behind_exp s first) step (behind-named s.before (places first) named) is.1 both.0)
+      (value-good known (behind_site s (places first ++ places step) (helpers_in first + helpers_in step)) last (behind-named s.before (places first ++ places step) named) is.2 both.1))
+  collection-good known s (call name (exp x (exp (var y) es))) named is built = by_value (good-last (var y) (value-good known s (var y) named is built))
+  collection-good known s (call name (exp x (exp (int n) es))) named is built = by_value (good-last (int n) (value-good known s (int n) named is built))
+  collection-good known s (call name (exp x (exp (atom y) es))) named is built = by_value (good-last (atom y) (value-good known s (atom y) named is built))
+  collection-good known s (call name (exp x (exp (str y) es))) named is built = by_value (good-last (str y) (value-good known s (str y) named is built))
+  collection-good known s (call name (exp x (exp (list ys) es))) named is built = by_value (good-last (list ys) (value-good known s (list ys) named is built))
+  collection-good known s (call name (exp x (exp (list_onto ys y) es))) named is built = by_value (good-last (list_onto ys y) (value-good known s (list_onto ys y) named is built))
+  collection-good known s (call name (exp x (exp (array ys) es))) named is built = by_value (good-last (array ys) (value-good known s (array ys) named is built))
+  collection-good known s (call name (exp x (exp (call f ys) es))) named is built = by_value (good-last (call f ys) (value-good known s (call f ys) named is built))
+  collection-good known s (call name (exp x (exp (quote y) es))) named is built = by_value (good-last (quote y) (value-good known s (quote y) named is built))
+  collection-good known s (call name (exp x (exp (index y ys) es))) named is built = by_value (good-last (index y ys) (value-good known s (index y ys) named is built))
+  collection-good known s (call name (exp x (exp (collect is_array y ys) es))) named is built = by_value (good-last (collect is_array y ys) (value-good known s (collect is_array y ys) named is built))
+  collection-good known s (call name (exp x (exp d es))) named is built = absurd is
+  collection-good known s u named is built = absurd is

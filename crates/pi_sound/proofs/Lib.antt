@@ -9,6 +9,7 @@ pub mod SlotRoom
 pub mod LoopGoals
 pub mod LoopHelpers
 pub mod IteratorHelpers
+pub mod GoodUnits
 pub mod GoodTexts
 pub mod ClauseLemmas
 pub mod GroupLemmas

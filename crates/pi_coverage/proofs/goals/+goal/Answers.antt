@@ -1,13 +1,14 @@
 use Rattle.std.proofs.Common.{false, ◌==◌, ◌&&◌, length, refl, sym, ap, ◌∙◌, arith}
-use Rattle.pi_syntax.specs.ExpTree.{list, list_onto, array, call, index, range, range_by, and, or, if_then, if_else, while_do, do_while}
+use Rattle.pi_syntax.specs.ExpTree.{list, list_onto, array, call, index, range, range_by, collect, and, or, if_then, if_else, foreach, while_do, do_while}
 use Rattle.pi_syntax.specs.ExpLists.{exps_of}
 use Rattle.pi_slots.specs.Branches.{branches_in}
 use Rattle.pi_slots.proofs.ExpTrees.{list-is, list_onto-is, array-is, call-is, index-is, range-is, range_by-is, and-is, or-is, if_then-is, if_else-is}
-use Rattle.pi_coverage.specs.Built.{is_built_value, are_built_values, is_built_value_at, are_some, is_built_goal, is_built_goal_at, are_built_goals, is_built_branch, are_built_branches, have_built_goals}
+use Rattle.pi_coverage.specs.Built.{is_built_value, are_built_values, is_built_value_at, are_some, is_built_goal, is_built_goal_at, are_built_goals, is_built_branch, are_built_branches, have_built_goals, is_built_collection, are_built_units}
 use Rattle.pi_coverage.specs.declared.forms.Form.{Form}
-use Rattle.pi_coverage.proofs.EachLemmas.{each-value, each-goal, each-branch, each-pair, goes-on, stops, ends, condition-stops, body-stops, pair-goes-on, both}
+use Rattle.pi_coverage.proofs.EachLemmas.{is_built_loop_unit, each-value, each-goal, each-branch, each-unit, each-pair, goes-on, stops, ends, condition-stops, body-stops, pair-goes-on, both}
 use Rattle.pi_coverage.proofs.NodeLemmas.{of-list, of-list-and, of-and-list, of-call, of-two, of-three}
-use Rattle.pi_coverage.proofs.LoopTrees.{while-is, do_while-is}
+use Rattle.pi_coverage.proofs.UnitLemmas.{unit_called, iterator-built, test-built}
+use Rattle.pi_coverage.proofs.LoopTrees.{collect-is, foreach-is, while-is, do_while-is}
 use Rattle.pi_coverage.proofs.CallLemmas.{value_called, goal_called, value-counted, goal-of, goal-assigns, goal-of-none, finds, counts, applies, at-value, at-goal, there, past}
 use Rattle.pi_coverage.proofs.goals.+goal.Goals as goal
 
@@ -215,6 +216,18 @@ pub is_built_goal_at-returns-else-i-exps : goal.is_built_goal_at-returns-else-i-
 is_built_goal_at-returns-else-i-exps t c =
     past is_built_goal is_built_goal_at at-goal c.args.exps.now c.args.i (omega arith)
 
+pub is_built_value-returns-in-Collect : goal.is_built_value-returns-in-Collect
+unfolding is_built_value
+is_built_value-returns-in-Collect t c =
+    of-list-and exps_of is_built_value are_built_units is_built_value (λ ts u. collect c.in-Collect.field-0 u ts) (λ ts u. refl) c.args.exp.now c.in-Collect.item.value c.deref-in-Collect.result.now c.in-Collect.units.items c.as_slice-in-Collect.result.now c.are_built_units.result c.is_built_value-in-Collect.result
+    (collect-is c.args.exp.now c.in-Collect.field-0 c.in-Collect.item c.in-Collect.units c.in-Collect.is) c.as_slice-in-Collect.ensures.value c.deref-in-Collect.ensures c.are_built_units.ensures c.is_built_value-in-Collect.ensures
+
+pub is_built_goal-returns-in-Foreach : goal.is_built_goal-returns-in-Foreach
+unfolding is_built_goal
+is_built_goal-returns-in-Foreach t c =
+    of-list-and exps_of is_built_goal are_built_units is_built_goal foreach (λ ts u. refl) c.args.exp.now c.in-Foreach.body.value c.deref-in-Foreach.result.now c.in-Foreach.units.items c.as_slice-in-Foreach.result.now c.are_built_units.result c.is_built_goal-in-Foreach.result
+    (foreach-is c.args.exp.now c.in-Foreach.units c.in-Foreach.body c.in-Foreach.is) c.as_slice-in-Foreach.ensures.value c.deref-in-Foreach.ensures c.are_built_units.ensures c.is_built_goal-in-Foreach.ensures
+
 pub is_built_goal-returns-in-While : goal.is_built_goal-returns-in-While
 unfolding is_built_goal
 is_built_goal-returns-in-While t c =
@@ -227,6 +240,12 @@ is_built_goal-returns-in-DoWhile t c =
     of-two is_built_goal is_built_goal do_while (λ u v. refl) c.args.exp.now c.in-DoWhile.body.value c.in-DoWhile.test.value c.deref-in-DoWhile.result.now c.deref-in-DoWhile-2.result.now c.is_built_goal-in-DoWhile.result c.is_built_goal-in-DoWhile-2.result
     (do_while-is c.args.exp.now c.in-DoWhile.body c.in-DoWhile.test c.in-DoWhile.is) c.deref-in-DoWhile.ensures c.deref-in-DoWhile-2.ensures c.is_built_goal-in-DoWhile.ensures c.is_built_goal-in-DoWhile-2.ensures
 
+pub is_built_branch-returns-in-Foreach : goal.is_built_branch-returns-in-Foreach
+unfolding is_built_branch
+is_built_branch-returns-in-Foreach t c =
+    of-list-and exps_of is_built_branch are_built_units is_built_goal foreach (λ ts u. refl) c.args.exp.now c.in-Foreach.body.value c.deref-in-Foreach.result.now c.in-Foreach.units.items c.as_slice-in-Foreach.result.now c.are_built_units.result c.is_built_goal-in-Foreach.result
+    (foreach-is c.args.exp.now c.in-Foreach.units c.in-Foreach.body c.in-Foreach.is) c.as_slice-in-Foreach.ensures.value c.deref-in-Foreach.ensures c.are_built_units.ensures c.is_built_goal-in-Foreach.ensures
+
 pub is_built_branch-returns-in-While : goal.is_built_branch-returns-in-While
 unfolding is_built_branch
 is_built_branch-returns-in-While t c =
@@ -238,3 +257,28 @@ unfolding is_built_branch
 is_built_branch-returns-in-DoWhile t c =
     of-two is_built_branch is_built_goal do_while (λ u v. refl) c.args.exp.now c.in-DoWhile.body.value c.in-DoWhile.test.value c.deref-in-DoWhile.result.now c.deref-in-DoWhile-2.result.now c.is_built_goal-in-DoWhile.result c.is_built_goal-in-DoWhile-2.result
     (do_while-is c.args.exp.now c.in-DoWhile.body c.in-DoWhile.test c.in-DoWhile.is) c.deref-in-DoWhile.ensures c.deref-in-DoWhile-2.ensures c.is_built_goal-in-DoWhile.ensures c.is_built_goal-in-DoWhile-2.ensures
+
+pub are_built_units-returns-then-not-is_built_unit : goal.are_built_units-returns-then-not-is_built_unit
+are_built_units-returns-then-not-is_built_unit t c = stops each-unit c.args.units.now c.loop-unit.unit-index c.unit-item.result c.is_built_unit.result c.loop-unit-test.true c.unit-item.is c.is_built_unit.ensures c.if-not-is_built_unit.true c.loop-unit.invariant
+
+pub are_built_units-loop-unit-preserved : goal.are_built_units-loop-unit-preserved
+are_built_units-loop-unit-preserved t c = goes-on each-unit c.args.units.now c.loop-unit.unit-index c.unit-item.result c.is_built_unit.result c.loop-unit-test.true c.unit-item.is c.is_built_unit.ensures c.if-not-is_built_unit.false c.loop-unit.invariant
+
+pub are_built_units-returns : goal.are_built_units-returns
+are_built_units-returns t c = ends each-unit c.args.units.now c.loop-unit.unit-index c.loop-unit-test.false c.loop-unit.invariant
+
+pub is_built_unit-returns-in-Call : goal.is_built_unit-returns-in-Call
+unfolding is_built_collection
+is_built_unit-returns-in-Call t c =
+    of-call is_built_loop_unit unit_called call (λ n ts. refl) c.args.unit.now c.in-Call.name c.as_str.result.now c.in-Call.args.items c.as_slice.result.now c.is_built_unit_call.result
+    (call-is c.args.unit.now c.in-Call.name c.in-Call.args c.in-Call.is) c.as_str.ensures c.as_slice.ensures.value c.is_built_unit_call.ensures
+
+pub is_built_unit_call-returns-then-args-eq : goal.is_built_unit_call-returns-then-args-eq
+is_built_unit_call-returns-then-args-eq t c =
+    iterator-built c.args.name.now c.args.args.now c.index-args-0.result c.is_built_pattern.result c.is_built_value_at.result _ _ (sym (ap (λ b. (length c.args.args.now == 2) && b) c.eq.ensures) ∙ c.if-args-eq.true) c.index-args-0.is
+    c.is_built_pattern.ensures c.is_built_value_at.ensures
+
+pub is_built_unit_call-returns : goal.is_built_unit_call-returns
+unfolding is_built_goal
+is_built_unit_call-returns t c =
+    test-built c.args.name.now c.args.args.now c.is_built_call.result _ _ (sym (ap (λ b. (length c.args.args.now == 2) && b) c.eq.ensures) ∙ c.if-args-eq.false) c.is_built_call.ensures

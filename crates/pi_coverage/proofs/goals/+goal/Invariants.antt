@@ -1,6 +1,6 @@
 -- In each loop those that are left decide it.
 use Rattle.pi_syntax.specs.ExpLists.{exps_of}
-use Rattle.pi_coverage.specs.Built.{are_built_values, are_built_goals, are_built_branches}
+use Rattle.pi_coverage.specs.Built.{are_built_values, are_built_goals, are_built_branches, are_built_units}
 use Rattle.pi_coverage.proofs.EachLemmas.{LeftDecide, are_built_pairs}
 use Rattle.pi_coverage.proofs.goals.+goal.Given as goal
 
@@ -15,3 +15,6 @@ invariant-are_built_branches-loop-exp l = LeftDecide (λ es. are_built_branches 
 
 abbrev pub invariant-have_built_goals-loop-branch : goal.invariant-have_built_goals-loop-branch
 invariant-have_built_goals-loop-branch l = LeftDecide are_built_pairs l.branches l.branch-index
+
+abbrev pub invariant-are_built_units-loop-unit : goal.invariant-are_built_units-loop-unit
+invariant-are_built_units-loop-unit l = LeftDecide (λ es. are_built_units (exps_of es)) l.units l.unit-index
