@@ -5,8 +5,11 @@ const EDGES: &str = "index (+,-) e(a,1). e(a,2).";
 
 const BOTH_WAYS: &str = "index (+,-) (-,+) e(a,1). e(b,1). e(a,2).";
 
+const MIXED: &str =
+    "index (+,-) (-,+) e(a,1). e(_,2). e(b,1). e(7,1). e(f(a),1). e(a,3). e(g(a),4).";
+
 /// Runs of programs with facts.
-pub static ROWS: [Row<'static>; 19] = [
+pub static ROWS: [Row<'static>; 20] = [
     Row {
         program: Some(EDGES),
         words: &["FILE", "e(a,X)"],
@@ -49,6 +52,16 @@ pub static ROWS: [Row<'static>; 19] = [
         program: Some(BOTH_WAYS),
         words: &["FILE", "X = b, e(X,Y)"],
         output: "X = b\nY = 1\nyes\nno more\n",
+        status: 0,
+    },
+    // Facts that anything may agree with stand between the others, in order.
+    Row {
+        program: Some(MIXED),
+        words: &[
+            "FILE",
+            "L = [find_all(_X, e(a,_X)), find_all(_X, e(b,_X)), find_all(_X, e($f(a),_X)), find_all(_X, e(_X,1))]",
+        ],
+        output: "L = [[1,2,3],[2,1],[2,1],[a,b,7,f(a)]]\nyes\nno more\n",
         status: 0,
     },
     // Facts with variables, which are new in each call.

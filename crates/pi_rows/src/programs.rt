@@ -247,6 +247,45 @@ lines([S|Ss]) =>
     lines(Ss).
 ";
 
+const MATRIX: &str = "% Matrices as arrays of rows: made by comprehensions, and multiplied.
+
+rows(A) = length(A).
+columns(A) = length(A[1]).
+
+identity(N) = {{one_if(I, J) : J in 1..N} : I in 1..N}.
+
+one_if(I, I) = 1.
+one_if(_, _) = 0.
+
+transposed(A) = {{A[I,J] : I in 1..rows(A)} : J in 1..columns(A)}.
+
+% A row of the first matrix by a column of the second one.
+inner(A, B, I, J) = sum([A[I,K] * B[K,J] : K in 1..columns(A)]).
+
+product(A, B) = {{inner(A, B, I, J) : J in 1..columns(B)} : I in 1..rows(A)}, columns(A) =:= rows(B) => true.
+
+% By squares, so that no power takes more than two products a binary digit.
+power(A, 0) = identity(rows(A)).
+power(A, N) = P, N > 0 =>
+    Half = power(A, N // 2),
+    P = product(Half, Half),
+    if N rem 2 == 1 then P := product(P, A) end.
+
+fibonacci(N) = power({{1,1},{1,0}}, N)[1,2].
+
+trace_of(A) = sum([A[I,I] : I in 1..rows(A)]).
+
+% The places of the items that pass a test, from the first row on.
+above(A, Least) = [{I,J} : I in 1..rows(A), J in 1..columns(A), A[I,J] > Least].
+
+show(A) =>
+    foreach (Row in A)
+        printf(\"%d\", Row[1]),
+        foreach (J in 2..length(Row)) printf(\" %d\", Row[J]) end,
+        nl
+    end.
+";
+
 const SHOP: &str =
     "% A shop with one counter, minute by minute. Who comes and how long each is served is drawn by a generator of its own, so that each run is the same.
 
@@ -281,15 +320,15 @@ throws(Seed) = N =>
         N := N + 1
     while (below(Number, 6) < 5).
 
-report([]) => true.
-report([Hours|Days]) =>
-    day(Hours * 60, Served, Waiting, Longest),
-    printf(\"%d hours: %d served, %d waiting, %d at most%n\", Hours, Served, Waiting, Longest),
-    report(Days).
+report(Days) =>
+    foreach (Hours in Days)
+        day(Hours * 60, Served, Waiting, Longest),
+        printf(\"%d hours: %d served, %d waiting, %d at most%n\", Hours, Served, Waiting, Longest)
+    end.
 ";
 
 /// Runs of the programs of `examples`.
-pub static ROWS: [Row<'static>; 14] = [
+pub static ROWS: [Row<'static>; 16] = [
     Row {
         program: Some(FAMILY),
         words: &["FILE", "about(dan), fail"],
@@ -363,6 +402,24 @@ pub static ROWS: [Row<'static>; 14] = [
         status: 0,
     },
     Row {
+        program: Some(MATRIX),
+        words: &[
+            "FILE",
+            "X = fibonacci(30), Y = trace_of(identity(4)), Z = transposed({{1,2,3},{4,5,6}})",
+        ],
+        output: "X = 832040\nY = 4\nZ = {{1,4},{2,5},{3,6}}\nyes\nno more\n",
+        status: 0,
+    },
+    Row {
+        program: Some(MATRIX),
+        words: &[
+            "FILE",
+            "show(product({{1,2,3},{4,5,6}}, {{1,0},{0,1},{2,2}})), L = above({{1,5},{7,2}}, 4)",
+        ],
+        output: "7 8\n16 17\nL = [{1,2},{2,1}]\nyes\nno more\n",
+        status: 0,
+    },
+    Row {
         program: Some(SHOP),
         words: &["FILE", "report([1,2,8])"],
         output: "1 hours: 22 served, 2 waiting, 4 at most\n2 hours: 43 served, 4 waiting, 5 at most\n8 hours: 184 served, 18 waiting, 21 at most\nyes\nno more\n",
@@ -370,8 +427,8 @@ pub static ROWS: [Row<'static>; 14] = [
     },
     Row {
         program: Some(SHOP),
-        words: &["FILE", "X = throws(1), Y = throws(6)"],
-        output: "X = 6\nY = 8\nyes\nno more\n",
+        words: &["FILE", "L = [throws(S) : S in 1..7]"],
+        output: "L = [6,2,1,1,4,8,5]\nyes\nno more\n",
         status: 0,
     },
 ];

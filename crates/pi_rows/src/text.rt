@@ -236,13 +236,13 @@ pub static ROWS: [Row<'static>; 46] = [
         status: 3,
     },
     Row {
-        program: Some("p => foreach(I in 1..2) true end."),
+        program: Some("p(X), {ins(X)} => true."),
         words: &["FILE", "q"],
         output: "goal: UnknownName q/0 in 1\n",
         status: 3,
     },
     Row {
-        program: Some("p => foreach(I in 1..2) true end."),
+        program: Some("p => foreach(I in 1..2) I #> 0 end."),
         words: &["FILE", "true"],
         output: "program: NotBuilt 1\n",
         status: 3,
@@ -285,7 +285,7 @@ pub static ROWS: [Row<'static>; 46] = [
     },
     Row {
         program: Some("p => true."),
-        words: &["FILE", "p, L = [X : X in 1..2]"],
+        words: &["FILE", "p, L = [X : X in 1..2, X #> 1]"],
         output: "goal: NotBuilt 1\n",
         status: 3,
     },
