@@ -1,7 +1,8 @@
 pub mod Faults
 pub mod Given
 pub mod Held
-mod Memory
+pub mod InputRuns
+pub mod Memory
 pub mod ReadRuns
 pub mod Taken
 pub mod Went

@@ -21,7 +21,7 @@ take-min bytes room = elim (cases_lt (length bytes) room) [
 ]
 
 -- what has room of a piece, behind what was kept
-kept-take : (kept piece : List ℕ) (room : ℕ) → length kept ≤ room → kept ++ take (min (length piece) (room - length kept)) piece ≡ take room (kept ++ piece)
+pub kept-take : (kept piece : List ℕ) (room : ℕ) → length kept ≤ room → kept ++ take (min (length piece) (room - length kept)) piece ≡ take room (kept ++ piece)
 kept-take kept piece room within =
     let whole : length kept + (room - length kept) ≡ room = omega arith in
     ap (λ l. kept ++ l) (take-min piece (room - length kept))
@@ -40,7 +40,7 @@ after_piece-kept kept piece room fitting over new within fits is =
     rw (kept_is, over_is) refl
 
 -- of what was taken and one more piece, the first `room` bytes stand in what was kept and that piece
-take-keeps : (all piece : List ℕ) (room : ℕ) → take room (take room all ++ piece) ≡ take room (all ++ piece)
+pub take-keeps : (all piece : List ℕ) (room : ℕ) → take room (take room all ++ piece) ≡ take room (all ++ piece)
 take-keeps all piece room = elim (cases_lt (length all) room) [
   | inl short ↦ ap (λ l. take room (l ++ piece)) (take_all room all (omega arith))
   | inr full ↦

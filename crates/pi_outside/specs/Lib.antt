@@ -2,6 +2,7 @@ pub mod Calls
 pub mod Faults
 pub mod Given
 pub mod Held
+pub mod Inputs
 pub mod Memory
 pub mod MemoryFiles
 pub mod Named

@@ -1,7 +1,8 @@
 -- What the objects in memory are seen as.
-use Rattle.std.specs.Prelude.{◌≡◌, ℕ, ◌+◌, ◌≤◌, min, Bool, ◌||◌, List, ◌++◌, length, take, drop, Vec, vec_len, vec_capacity, nat_lt, Option, None, Some, if◌then◌else◌}
+use Rattle.std.specs.Prelude.{◌≡◌, ℕ, ◌+◌, ◌≤◌, min, Bool, ◌||◌, List, ◌++◌, length, take, drop, Vec, vec_len, vec_capacity, nat_lt, Option, None, Some, IsSome, if◌then◌else◌}
 use Rattle.std.specs.declared.alloc.Global.{Global}
 use Rattle.pi_outside.specs.Calls.{Calls, passed, failed}
+use Rattle.pi_outside.specs.Inputs.{SourceRead}
 use Rattle.pi_outside.specs.Writes.{SinkWrite}
 
 -- a sink that takes up to `room` bytes
@@ -73,3 +74,16 @@ after_giving supply count = record supply {
 pub record SourceOfCalls : Type 0 where
   pub supply : Supply
   pub calls : Calls
+
+-- what a read makes of a supply: none fails
+abbrev pub supply_has_read : Supply → SourceRead → Supply → Type 0
+supply_has_read before read after = IsSome read.gave × (after ≡ after_giving before (next_count before read.room))
+
+-- such a source after a read into so much room, by what came of it: its next bytes were given, or nothing
+abbrev pub after_read : SourceOfCalls → ℕ → Option (List ℕ) → SourceOfCalls
+after_read source room (Some bytes) = record { supply = after_giving source.supply (next_count source.supply room); calls = passed source.calls }
+after_read source room None = record source { calls = failed source.calls }
+
+-- what a read makes of it
+abbrev pub source_has_read : SourceOfCalls → SourceRead → SourceOfCalls → Type 0
+source_has_read before read after = after ≡ after_read before read.room read.gave

@@ -2,7 +2,8 @@
 ghost use Rattle.std.specs.Prelude.{◌≡◌, ◌≤◌, ◌<◌, [], ◌∷◌, ◌++◌, Some, length, take, drop, IfOk, OnOk, OnErr, is_err};
 ghost use Rattle.pi_outside.specs.Faults.{NeverFalls, Rose};
 ghost use Rattle.pi_outside.specs.Calls.{is_due, passed, failed};
-ghost use Rattle.pi_outside.specs.Memory.{next_count, after_giving};
+ghost use Rattle.pi_outside.specs.Memory.{next_count, after_giving, source_has_read};
+ghost use Rattle.pi_outside.specs.Reads.{given_by};
 
 use crate::schedule::Schedule;
 use crate::supply::Supply;
@@ -52,6 +53,8 @@ impl Source for MemorySource {
 
     ghost faults = { λ s. s.calls.faults };
 
+    ghost has_read = { source_has_read };
+
     /// It fails exactly where this call is to fail, and then leaves the slice as it was.
     fn read(&mut self, into: &mut [u8]) -> Result<usize, Failed>
         ensures fails { is_err result ≡ is_due self.old.calls }
@@ -63,6 +66,7 @@ impl Source for MemorySource {
 
         ensures err { OnErr result (self.new ≡ record self.old { calls = failed self.old.calls }) }
         ensures same { OnErr result (into.new ≡ into.old) }
+        ensures did { source_has_read self.old (record { room = length into.old; gave = given_by result into.new }) self.new }
         ensures never_falls { NeverFalls self.old.calls.faults self.new.calls.faults }
         ensures rose { OnErr result (Rose self.old.calls.faults self.new.calls.faults) }
     {

@@ -113,6 +113,8 @@ impl<R: Input> Source for RealSource<R> {
 
     ghost faults = { λ source. source.faults };
 
+    ghost has_read = { λ before read after. CountsFault read.gave before.faults after.faults };
+
     fn read(&mut self, into: &mut [u8]) -> Result<usize, Failed> {
         counted(read_front(&mut self.reader, into), &mut self.faults)
     }

@@ -1,6 +1,6 @@
 //! A source in memory that never fails.
 ghost use Rattle.std.specs.Prelude.{◌≡◌, ◌≤◌, ◌<◌, [], ◌++◌, Some, Ok, length, take, drop, IfOk};
-ghost use Rattle.pi_outside.specs.Memory.{next_count, after_giving};
+ghost use Rattle.pi_outside.specs.Memory.{next_count, after_giving, supply_has_read};
 
 use crate::supply::Supply;
 use crate::{Failed, Source};
@@ -37,6 +37,8 @@ impl Source for SureSource {
     ghost rest = { λ s. Some s.rest };
 
     ghost faults = { λ _. 0 };
+
+    ghost has_read = { supply_has_read };
 
     /// It never fails.
     fn read(&mut self, into: &mut [u8]) -> Result<usize, Failed>

@@ -1,0 +1,4 @@
+mod Input
+mod LineLemmas
+mod Pieces
+mod Turns

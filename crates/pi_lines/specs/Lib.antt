@@ -1,0 +1,6 @@
+pub mod Ahead
+pub mod Finding
+pub mod Held
+pub mod Lines
+pub mod Order
+pub mod Steps

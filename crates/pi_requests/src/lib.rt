@@ -1,0 +1,6 @@
+//! What the lines of a session ask.
+#![tactic(auto)]
+
+mod request;
+
+pub use request::{KEPT_LINE, MAX_LINE, Request, request_of};
