@@ -1,5 +1,5 @@
 -- The trees of loops and comprehensions, over the vectors and boxes that hold their parts.
-use Rattle.std.proofs.Common.{◌≡◌, ℕ, Bool, List, refl, ap, ◌∙◌}
+use Rattle.std.proofs.Common.{◌≡◌, Bool, refl, ap, ◌∙◌}
 use Rattle.std.specs.Prelude.{Vec}
 use Rattle.std.specs.declared.alloc.Global.{Global}
 use Rattle.std.specs.declared.boxed.Box.{Box}
@@ -16,10 +16,6 @@ conjuncts e = no_exps
 
 same-trees : (es : Vec Exp Global) → conjuncts (exp_tree (e.And es)) ≡ exps_of es.items
 same-trees es = ap conjuncts (and-is (e.And es) es refl)
-
-pub at-is : (x : Exp) (name : List ℕ) (b : Box Exp Global) → x ≡ e.At name b → exp_tree x ≡ ExpTree.at name (exp_tree b.value)
-unfolding exp_tree
-at-is x name b p = ap exp_tree p
 
 pub collect-is : (x : Exp) (is_array : Bool) (b : Box Exp Global) (es : Vec Exp Global) → x ≡ e.Collect is_array b es → exp_tree x ≡ ExpTree.collect is_array (exp_tree b.value) (exps_of es.items)
 unfolding exp_tree

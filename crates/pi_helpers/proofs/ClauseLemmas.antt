@@ -1,5 +1,5 @@
 -- Clauses of helpers, and helpers.
-use Rattle.std.proofs.Common.{◌≡◌, ℕ, false, true, List, [], ◌∷◌, ◌++◌, map, ◌∙◌, ap, append_assoc}
+use Rattle.std.proofs.Common.{◌≡◌, ℕ, suc, ◌+◌, false, true, List, [], ◌∷◌, ◌++◌, map, ◌∙◌, ap, append_assoc, arith}
 use Rattle.std.proofs.lemmas.List.{map-append}
 use Rattle.std.specs.Prelude.{None}
 use Rattle.pi_terms.specs.PatternTree.{PatternTrees, pattern}
@@ -33,10 +33,15 @@ pub simple-is : (p : PredTree) (name : List ℕ) (arity slots : ℕ) (body : Goa
 simple-is p name arity slots body head c cs ds at clause empty put is =
     is ∙ ap (helper name arity) (one-clause cs ds c (clause_of (slots_head 0 arity) body slots) empty put (clause ∙ ap (λ (h : PatternTrees). clause_of h body slots) at))
 
-pub two-clauses : (p : PredTree) (name : List ℕ) (arity : ℕ) (t u : ClauseTree) (c d : CoreClause) (cs ds es : List CoreClause) → clause_tree c ≡ t → clause_tree d ≡ u → cs ≡ [] → ds ≡ cs ++ c ∷ [] → es ≡ ds ++ d ∷ [] → p ≡ helper name arity (map clause_tree es) → p ≡ helper name arity (t ∷ u ∷ [])
-two-clauses p name arity t u c d cs ds es first second empty one two is =
-    is ∙ ap (helper name arity) (ap (map clause_tree) (two ∙ ap (λ (xs : List CoreClause). xs ++ d ∷ []) (one ∙ ap (λ (xs : List CoreClause). xs ++ c ∷ []) empty))
-    ∙ (ap (λ (v : ClauseTree). v ∷ clause_tree d ∷ []) first ∙ ap (λ (v : ClauseTree). t ∷ v ∷ []) second))
+pub matching-is : (p : PredTree) (name : List ℕ) (arity n : ℕ) (c d : CoreClause) (cs ds es : List CoreClause) → arity ≡ n → cs ≡ [] → ds ≡ cs ++ c ∷ [] → es ≡ ds ++ d ∷ [] → p ≡ helper name arity (map clause_tree es) → p ≡ helper name n (clause_tree c ∷ clause_tree d ∷ [])
+matching-is p name arity n c d cs ds es long empty one two is =
+    is ∙ (ap (λ (xs : List CoreClause). helper name arity (map clause_tree xs)) (two ∙ ap (λ (xs : List CoreClause). xs ++ d ∷ []) (one ∙ ap (λ (xs : List CoreClause). xs ++ c ∷ []) empty)) ∙ ap (λ (k : ℕ). helper name k (clause_tree c ∷ clause_tree d ∷ [])) long)
+
+pub both-clauses : (p : PredTree) (name : List ℕ) (n : ℕ) (t u a b : ClauseTree) → t ≡ a → u ≡ b → p ≡ helper name n (t ∷ u ∷ []) → p ≡ helper name n (a ∷ b ∷ [])
+both-clauses p name n t u a b first second is = is ∙ (ap (λ (v : ClauseTree). helper name n (v ∷ u ∷ [])) first ∙ ap (λ (v : ClauseTree). helper name n (a ∷ v ∷ [])) second)
+
+pub one-after : (m k n : ℕ) → k ≡ n → m ≡ k + 1 → m ≡ suc n
+one-after m k n is more = omega (arith, is, more)
 
 -- two helpers behind others
 pub two-helpers : (hs one two : List CorePred) (a b : CorePred) (p q : PredTree) → pred_tree a ≡ p → pred_tree b ≡ q → one ≡ hs ++ a ∷ [] → two ≡ one ++ b ∷ [] → map pred_tree two ≡ map pred_tree hs ++ p ∷ q ∷ []

@@ -21,27 +21,25 @@ use Rattle.pi_helpers.specs.declared.loops.Ending.TheVariants.{AsItIs, InOrder}
 pub ended-plain : (o : Ending) (k value free : ℕ) (old new : List GoalTree) → o ≡ AsItIs → new ≡ old ++ GoalTree.call (codes "=") (Tree.var k ∷ Tree.var value ∷ []) ∷ [] → new ≡ old ++ ended (ending_of o) k value free
 ended-plain o k value free old new is put = put ∙ ap (λ (e : Ending). old ++ ended (ending_of e) k value free) (sym is)
 
-pub ended-list : (o : Ending) (b : Bool) (k value free : ℕ) (old mid new : List GoalTree) (args : List Tree) (t : Tree) → o ≡ InOrder b → b ≡ false → t ≡ Tree.var value → args ≡ t ∷ [] → mid ≡ old ++ GoalTree.apply in_order_name args free ∷ [] →
+pub ended-list : (o : Ending) (b : Bool) (k value free : ℕ) (old mid new : List GoalTree) → o ≡ InOrder b → b ≡ false → mid ≡ old ++ GoalTree.apply in_order_name (Tree.var value ∷ []) free ∷ [] →
     new ≡ mid ++ GoalTree.call (codes "=") (Tree.var k ∷ Tree.var free ∷ []) ∷ [] → new ≡ old ++ ended (ending_of o) k value free
-ended-list o b k value free old mid new args t is list term one first put =
+ended-list o b k value free old mid new is list first put =
     let last : List GoalTree = GoalTree.call (codes "=") (Tree.var k ∷ Tree.var free ∷ []) ∷ [] in
-    put ∙ (ap (λ gs. gs ++ last) first ∙ (append_assoc old (GoalTree.apply in_order_name args free ∷ []) last
-    ∙ (ap (λ (ts : List Tree). old ++ GoalTree.apply in_order_name ts free ∷ last) (one ∙ ap (λ (u : Tree). u ∷ []) term) ∙ ap (λ (e : Ending). old ++ ended (ending_of e) k value free) (sym (is ∙ ap InOrder list)))))
+    put ∙ (ap (λ gs. gs ++ last) first ∙ (append_assoc old (GoalTree.apply in_order_name (Tree.var value ∷ []) free ∷ []) last ∙ ap (λ (e : Ending). old ++ ended (ending_of e) k value free) (sym (is ∙ ap InOrder list))))
 
-pub ended-array : (o : Ending) (b : Bool) (k value free : ℕ) (old mid new : List GoalTree) (args : List Tree) (t : Tree) → o ≡ InOrder b → b ≡ true → t ≡ Tree.var value → args ≡ t ∷ [] → mid ≡ old ++ GoalTree.apply in_order_name args free ∷ [] →
+pub ended-array : (o : Ending) (b : Bool) (k value free : ℕ) (old mid new : List GoalTree) → o ≡ InOrder b → b ≡ true → mid ≡ old ++ GoalTree.apply in_order_name (Tree.var value ∷ []) free ∷ [] →
     new ≡ mid ++ GoalTree.apply (codes "to_array") (Tree.var free ∷ []) (suc free) ∷ GoalTree.call (codes "=") (Tree.var k ∷ Tree.var (suc free) ∷ []) ∷ [] → new ≡ old ++ ended (ending_of o) k value free
-ended-array o b k value free old mid new args t is array term one first put =
+ended-array o b k value free old mid new is array first put =
     let last : List GoalTree = GoalTree.apply (codes "to_array") (Tree.var free ∷ []) (suc free) ∷ GoalTree.call (codes "=") (Tree.var k ∷ Tree.var (suc free) ∷ []) ∷ [] in
-    put ∙ (ap (λ gs. gs ++ last) first ∙ (append_assoc old (GoalTree.apply in_order_name args free ∷ []) last
-    ∙ (ap (λ (ts : List Tree). old ++ GoalTree.apply in_order_name ts free ∷ last) (one ∙ ap (λ (u : Tree). u ∷ []) term) ∙ ap (λ (e : Ending). old ++ ended (ending_of e) k value free) (sym (is ∙ ap InOrder array)))))
+    put ∙ (ap (λ gs. gs ++ last) first ∙ (append_assoc old (GoalTree.apply in_order_name (Tree.var value ∷ []) free ∷ []) last ∙ ap (λ (e : Ending). old ++ ended (ending_of e) k value free) (sym (is ∙ ap InOrder array))))
 
 -- the array of a list, in the slot behind
-pub array-behind : (k list array : ℕ) (old mid new : List GoalTree) (args : List Tree) (t : Tree) → t ≡ Tree.var list → args ≡ t ∷ [] → array ≡ list + 1 → mid ≡ old ++ GoalTree.apply (codes "to_array") args array ∷ [] → new ≡ mid ++ GoalTree.call (codes "=") (Tree.var k ∷ Tree.var array ∷ []) ∷ [] →
+pub array-behind : (k list array : ℕ) (old mid new : List GoalTree) → array ≡ list + 1 → mid ≡ old ++ GoalTree.apply (codes "to_array") (Tree.var list ∷ []) array ∷ [] → new ≡ mid ++ GoalTree.call (codes "=") (Tree.var k ∷ Tree.var array ∷ []) ∷ [] →
     new ≡ old ++ GoalTree.apply (codes "to_array") (Tree.var list ∷ []) (suc list) ∷ GoalTree.call (codes "=") (Tree.var k ∷ Tree.var (suc list) ∷ []) ∷ []
-array-behind k list array old mid new args t term one next first put =
-    let both : (ts : List Tree) → (j : ℕ) → List GoalTree = λ ts j. GoalTree.apply (codes "to_array") ts j ∷ GoalTree.call (codes "=") (Tree.var k ∷ Tree.var j ∷ []) ∷ [] in
-    put ∙ (ap (λ gs. gs ++ GoalTree.call (codes "=") (Tree.var k ∷ Tree.var array ∷ []) ∷ []) first ∙ (append_assoc old (GoalTree.apply (codes "to_array") args array ∷ []) (GoalTree.call (codes "=") (Tree.var k ∷ Tree.var array ∷ []) ∷ [])
-    ∙ (ap (λ (ts : List Tree). old ++ both ts array) (one ∙ ap (λ (u : Tree). u ∷ []) term) ∙ ap (λ (j : ℕ). old ++ both (Tree.var list ∷ []) j) (next ∙ omega arith))))
+array-behind k list array old mid new next first put =
+    let both : ℕ → List GoalTree = λ j. GoalTree.apply (codes "to_array") (Tree.var list ∷ []) j ∷ GoalTree.call (codes "=") (Tree.var k ∷ Tree.var j ∷ []) ∷ [] in
+    put ∙ (ap (λ gs. gs ++ GoalTree.call (codes "=") (Tree.var k ∷ Tree.var array ∷ []) ∷ []) first ∙ (append_assoc old (GoalTree.apply (codes "to_array") (Tree.var list ∷ []) array ∷ []) (GoalTree.call (codes "=") (Tree.var k ∷ Tree.var array ∷ []) ∷ [])
+    ∙ ap (λ (j : ℕ). old ++ both j) (next ∙ omega arith)))
 
 -- ---- all variables: those so far stand in front of those that are left
 
@@ -95,14 +93,14 @@ unfolding kept_goals
 kept-first names i j x ns less item =
     ap (λ xs. kept_goals (names_in xs) j ns) (drop-next names i x less item) ∙ ap (λ (m : ℕ). GoalTree.apply itself_name (Tree.var j ∷ []) (slot_for x.now ns) ∷ kept_goals (names_in (drop (i + 1) names)) m ns) (omega arith)
 
-pub kept-more : (names : List (Bor (List ℕ))) (k : ℕ) (ns : SlotNames) (old now new : List GoalTree) (i j into j' : ℕ) (x : Bor (List ℕ)) (t : Tree) (args : List Tree) → i < length names → x ≡ get_or names i x → into ≡ slot_for x.now ns → t ≡ Tree.var j → args ≡ t ∷ [] →
-    new ≡ now ++ GoalTree.apply itself_name args into ∷ [] → j' ≡ j + 1 → KeptTo names k ns old i j now → KeptTo names k ns old (i + 1) j' new
-kept-more names k ns old now new i j into j' x t args less item at term one put next so =
+pub kept-more : (names : List (Bor (List ℕ))) (k : ℕ) (ns : SlotNames) (old now new : List GoalTree) (i j into j' : ℕ) (x : Bor (List ℕ)) → i < length names → x ≡ get_or names i x → into ≡ slot_for x.now ns → new ≡ now ++ GoalTree.apply itself_name (Tree.var j ∷ []) into ∷ [] → j' ≡ j + 1 →
+    KeptTo names k ns old i j now → KeptTo names k ns old (i + 1) j' new
+kept-more names k ns old now new i j into j' x less item at put next so =
     let rest : ℕ → List GoalTree = λ m. kept_goals (names_in (drop (i + 1) names)) m ns in
+    let goal : ℕ → GoalTree = λ v. GoalTree.apply itself_name (Tree.var j ∷ []) v in
     record {
-      is = ap (λ gs. gs ++ rest j') put ∙ (ap (λ m. (now ++ GoalTree.apply itself_name args into ∷ []) ++ rest m) next ∙ (append_assoc now (GoalTree.apply itself_name args into ∷ []) (rest (j + 1))
-          ∙ (ap (λ (ts : List Tree). now ++ GoalTree.apply itself_name ts into ∷ rest (j + 1)) (one ∙ ap (λ (u : Tree). u ∷ []) term) ∙ (ap (λ v. now ++ GoalTree.apply itself_name (Tree.var j ∷ []) v ∷ rest (j + 1)) at
-          ∙ (ap (λ gs. now ++ gs) (sym (kept-first names i j x ns less item)) ∙ so.is)))));
+      is = ap (λ gs. gs ++ rest j') put ∙ (ap (λ m. (now ++ goal into ∷ []) ++ rest m) next ∙ (append_assoc now (goal into ∷ []) (rest (j + 1))
+          ∙ (ap (λ v. now ++ goal v ∷ rest (j + 1)) at ∙ (ap (λ gs. now ++ gs) (sym (kept-first names i j x ns less item)) ∙ so.is))));
     }
 
 pub kept-all : (names : List (Bor (List ℕ))) (k : ℕ) (ns : SlotNames) (old now : List GoalTree) (i j : ℕ) → length names ≤ i → KeptTo names k ns old i j now → now ≡ old ++ kept_goals (names_in names) k ns

@@ -12,6 +12,7 @@ use Rattle.pi_lowered.specs.Slots.{SlotNames, slot_for, slots_for}
 use Rattle.pi_lowered.specs.Values.{SlotTerms, slot_terms, slot_term, is_below, filling}
 use Rattle.pi_lowered.specs.Loops.{Loop, as_written, started, slots_for_names, slots_from, kept_goals, with_values, entered, loop_goals}
 use Rattle.pi_helpers.specs.Parts.{AreGoals, goals_before}
+use Rattle.pi_helpers.specs.Turns.{entry_call}
 
 -- ---- names as they are written: those so far stand in front of those that are left
 
@@ -47,28 +48,31 @@ written-names names ns i ms ts past so = ap (λ xs. (slot_terms (as_written (nam
 
 -- ---- the names before it are there
 
-pub started-is : (h count : ℕ) (names : Names) (ns ms : SlotNames) (old new : List GoalTree) (ts us : List Tree) (t : Tree) → count ≡ length ns → ts ≡ (slot_terms (as_written names) ns).trees → ms ≡ (slot_terms (as_written names) ns).names → us ≡ ts → t ≡ comp array_name (trees_of us) →
+pub started-is : (h count : ℕ) (names : Names) (ns ms : SlotNames) (old new : List GoalTree) (t : Tree) → count ≡ length ns → t ≡ comp array_name (trees_of (slot_terms (as_written names) ns).trees) → ms ≡ (slot_terms (as_written names) ns).names →
     new ≡ old ++ cond (is_below h t) [] (filling count t ∷ []) → AreGoals (goals_before (started h names ns)) old new ms
 unfolding slot_term
-started-is h count names ns ms old new ts us t many terms behind all is put = record {
-  goals = put ∙ (ap (λ (u : Tree). old ++ cond (is_below h u) [] (filling count u ∷ [])) (is ∙ ap (λ xs. comp array_name (trees_of xs)) (all ∙ terms))
+started-is h count names ns ms old new t many is behind put = record {
+  goals = put ∙ (ap (λ (u : Tree). old ++ cond (is_below h u) [] (filling count u ∷ [])) is
       ∙ ap (λ (n : ℕ). old ++ cond (is_below h (comp array_name (trees_of (slot_terms (as_written names) ns).trees))) [] (filling n (comp array_name (trees_of (slot_terms (as_written names) ns).trees)) ∷ [])) many);
   names = behind;
 }
 
+pub all-written : (ts us vs : List Tree) (t : Tree) → ts ≡ vs → us ≡ ts → t ≡ comp array_name (trees_of us) → t ≡ comp array_name (trees_of vs)
+all-written ts us vs t are same is = is ∙ ap (λ xs. comp array_name (trees_of xs)) (same ∙ are)
+
 -- ---- the call of its helper
 
-pub entered-is : (l : Loop) (count many : ℕ) (ns ms : SlotNames) (old mid new : List GoalTree) (first named all args : List Tree) (g : GoalTree) → count ≡ length ns → many ≡ length l.kept → named ≡ first ++ slots_for_names l.shared ns → all ≡ named ++ slots_from count many → args ≡ all →
-    g ≡ GoalTree.call l.name args → mid ≡ old ++ g ∷ [] → new ≡ mid ++ kept_goals l.kept count ns → ms ≡ with_values l.kept ns → AreGoals (entered l [] first ns) old new ms
-entered-is l count many ns ms old mid new first named all args g at long some more same is put kept behind =
-    let call : List Tree → GoalTree = λ ts. GoalTree.call l.name ts in
-    let handed : args ≡ (first ++ slots_for_names l.shared ns) ++ slots_from (length ns) (length l.kept) =
-    same ∙ (more ∙ (ap (λ ts. ts ++ slots_from count many) some ∙ (ap (λ n. (first ++ slots_for_names l.shared ns) ++ slots_from n many) at ∙ ap (λ n. (first ++ slots_for_names l.shared ns) ++ slots_from (length ns) n) long))) in
-    record {
-      goals = kept ∙ (ap (λ gs. gs ++ kept_goals l.kept count ns) put ∙ (append_assoc old (g ∷ []) (kept_goals l.kept count ns) ∙ (ap (λ (x : GoalTree). old ++ x ∷ kept_goals l.kept count ns) (is ∙ ap call handed)
-          ∙ ap (λ n. old ++ call ((first ++ slots_for_names l.shared ns) ++ slots_from (length ns) (length l.kept)) ∷ kept_goals l.kept n ns) at)));
-      names = behind;
-    }
+pub entry-call : (l : Loop) (variable many : ℕ) (ns : SlotNames) (first named all args : List Tree) (name : List ℕ) (g : GoalTree) → many ≡ length l.kept → named ≡ first ++ slots_for_names l.shared ns → all ≡ named ++ slots_from variable many → args ≡ all → name ≡ l.name → g ≡ GoalTree.call name args →
+    g ≡ entry_call l first variable ns
+entry-call l variable many ns first named all args name g long some more same called is =
+    is ∙ (ap (λ (n : List ℕ). GoalTree.call n args) called ∙ ap (GoalTree.call l.name) (same ∙ (more ∙ (ap (λ ts. ts ++ slots_from variable many) some ∙ ap (λ n. (first ++ slots_for_names l.shared ns) ++ slots_from variable n) long))))
+
+pub entered-is : (l : Loop) (count : ℕ) (ns ms : SlotNames) (old mid new : List GoalTree) (first : List Tree) (g : GoalTree) → count ≡ length ns → g ≡ entry_call l first count ns → mid ≡ old ++ g ∷ [] → new ≡ mid ++ kept_goals l.kept count ns → ms ≡ with_values l.kept ns → AreGoals (entered l [] first ns) old new ms
+entered-is l count ns ms old mid new first g at is put kept behind = record {
+  goals = kept ∙ (ap (λ gs. gs ++ kept_goals l.kept count ns) put ∙ (append_assoc old (g ∷ []) (kept_goals l.kept count ns) ∙ (ap (λ (x : GoalTree). old ++ x ∷ kept_goals l.kept count ns) is
+      ∙ ap (λ n. old ++ entry_call l first n ns ∷ kept_goals l.kept n ns) at)));
+  names = behind;
+}
 
 pub loop-is : (h : ℕ) (before : Names) (l : Loop) (ns ms ks : SlotNames) (old mid new : List GoalTree) (first : List Tree) → first ≡ [] → AreGoals (goals_before (started h before ns)) old mid ms → AreGoals (entered l [] first ms) mid new ks → AreGoals (loop_goals h before l ns) old new ks
 loop-is h before l ns ms ks old mid new first none start enter =

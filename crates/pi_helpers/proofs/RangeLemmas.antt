@@ -1,14 +1,14 @@
 -- Iterators over ranges.
-use Rattle.std.proofs.Common.{◌≡◌, ℕ, suc, ◌+◌, Bool, true, false, List, [], ◌∷◌, ◌++◌, length, refl, sym, ◌∙◌, ap, append_assoc, arith, length-append}
+use Rattle.std.proofs.Common.{◌≡◌, ℕ, suc, ◌+◌, Bool, true, false, List, [], ◌∷◌, ◌++◌, length, refl, sym, ◌∙◌, ap, append_assoc, arith}
 use Rattle.std.specs.Prelude.{codes}
 use Rattle.pi_terms.specs.Tree.{Tree, Trees, trees_of}
 use Rattle.pi_print.specs.PrintTerm.{array_name}
 use Rattle.pi_effects.specs.Inner.{range_count_name}
 use Rattle.pi_core.specs.GoalTree.{GoalTree}
-use Rattle.pi_lowered.specs.Slots.{SlotNames, unnamed, with_value}
+use Rattle.pi_lowered.specs.Slots.{SlotNames, with_value}
 use Rattle.pi_lowered.specs.Loops.{Loop, entered}
 use Rattle.pi_lowered.specs.Iterators.{behind_collection}
-use Rattle.pi_lowered.specs.Ranges.{number_goals, number_tree, counting, through}
+use Rattle.pi_lowered.specs.Ranges.{number_goals, number_tree, counting, first_turn, through}
 use Rattle.pi_helpers.specs.Helpers.{range_between}
 use Rattle.pi_helpers.specs.Parts.{AreGoals}
 use Rattle.pi_helpers.specs.Turns.{IsNumber}
@@ -48,9 +48,11 @@ goals-written t b k old is holds = sym (ap (λ gs. old ++ gs) (is.written holds 
     append-none [] = refl
     append-none (g ∷ gs) = ap (λ hs. g ∷ hs) (append-none gs)
 
-pub goals-found : (t u : Tree) (b : Bool) (k : ℕ) (old new : List GoalTree) (args : List Tree) → IsNumber t b → b ≡ false → u ≡ t → args ≡ t ∷ u ∷ [] → new ≡ old ++ GoalTree.apply (codes "min") args k ∷ [] → new ≡ old ++ number_goals t k
-goals-found t u b k old new args is fails same all put =
-    put ∙ (ap (λ (ts : List Tree). old ++ GoalTree.apply (codes "min") ts k ∷ []) (all ∙ ap (λ (v : Tree). t ∷ v ∷ []) same) ∙ ap (λ gs. old ++ gs) (sym (is.found fails k).0))
+pub goals-found : (t : Tree) (b : Bool) (k : ℕ) (old new : List GoalTree) → IsNumber t b → b ≡ false → new ≡ old ++ GoalTree.apply (codes "min") (t ∷ t ∷ []) k ∷ [] → new ≡ old ++ number_goals t k
+goals-found t b k old new is fails put = put ∙ ap (λ gs. old ++ gs) (sym (is.found fails k).0)
+
+pub least-put : (t u v : Tree) (k : ℕ) (old new : List GoalTree) (args : List Tree) → u ≡ t → v ≡ t → args ≡ u ∷ v ∷ [] → new ≡ old ++ GoalTree.apply (codes "min") args k ∷ [] → new ≡ old ++ GoalTree.apply (codes "min") (t ∷ t ∷ []) k ∷ []
+least-put t u v k old new args same same' all put = put ∙ ap (λ (ts : List Tree). old ++ GoalTree.apply (codes "min") ts k ∷ []) (all ∙ (ap (λ (x : Tree). x ∷ v ∷ []) same ∙ ap (λ (x : Tree). t ∷ x ∷ []) same'))
 
 pub tree-written : (t made : Tree) (b : Bool) (k : ℕ) → IsNumber t b → b ≡ true → made ≡ t → made ≡ number_tree t k
 tree-written t made b k is holds same = same ∙ sym (is.written holds k).1
@@ -60,30 +62,37 @@ tree-found t made b k is fails same = same ∙ sym (is.found fails k).1
 
 -- ---- where one stands
 
-pub counting-is : (low step high low' step' last : Tree) (ns : SlotNames) (count one two : ℕ) (old mid next new : List GoalTree) (pair args : List Tree) → low' ≡ low → step' ≡ step → pair ≡ step ∷ high ∷ [] → last ≡ Tree.comp array_name (trees_of pair) → args ≡ low ∷ last ∷ [] →
-    mid ≡ old ++ GoalTree.apply range_count_name args count ∷ [] → one ≡ count + 1 → next ≡ mid ++ number_goals low' one → two ≡ count + 2 → new ≡ next ++ number_goals step' two → count ≡ length ns → new ≡ old ++ counting (range_between low step high ns)
-counting-is low step high low' step' last ns count one two old mid next new pair args same same' both made all first behind second further third at =
+pub further-is : (step high step' high' last : Tree) (pair : List Tree) → step' ≡ step → high' ≡ high → pair ≡ step' ∷ high' ∷ [] → last ≡ Tree.comp array_name (trees_of pair) → last ≡ Tree.comp array_name (trees_of (step ∷ high ∷ []))
+further-is step high step' high' last pair same same' both made = made ∙ ap (λ ts. Tree.comp array_name (trees_of ts)) (both ∙ (ap (λ (x : Tree). x ∷ high' ∷ []) same ∙ ap (λ (x : Tree). step ∷ x ∷ []) same'))
+
+pub count-put : (low low' last given : Tree) (into : ℕ) (old new : List GoalTree) (args : List Tree) → low' ≡ low → last ≡ given → args ≡ low' ∷ last ∷ [] → new ≡ old ++ GoalTree.apply range_count_name args into ∷ [] → new ≡ old ++ GoalTree.apply range_count_name (low ∷ given ∷ []) into ∷ []
+count-put low low' last given into old new args same made all put = put ∙ ap (λ (ts : List Tree). old ++ GoalTree.apply range_count_name ts into ∷ []) (all ∙ (ap (λ (x : Tree). x ∷ last ∷ []) same ∙ ap (λ (x : Tree). low ∷ x ∷ []) made))
+
+pub counting-is : (low step high : Tree) (ns : SlotNames) (count one two : ℕ) (old mid next new : List GoalTree) → mid ≡ old ++ GoalTree.apply range_count_name (low ∷ Tree.comp array_name (trees_of (step ∷ high ∷ [])) ∷ []) count ∷ [] → one ≡ count + 1 → next ≡ mid ++ number_goals low one → two ≡ count + 2 →
+    new ≡ next ++ number_goals step two → count ≡ length ns → new ≡ old ++ counting (range_between low step high ns)
+counting-is low step high ns count one two old mid next new first behind second further third at =
     let ones : List GoalTree = number_goals low (suc (length ns)) in
     let twos : List GoalTree = number_goals step (suc (suc (length ns))) in
-    let calls : List Tree → ℕ → GoalTree = λ ts k. GoalTree.apply range_count_name ts k in
-    let whole : List Tree = low ∷ Tree.comp array_name (trees_of (step ∷ high ∷ [])) ∷ [] in
-    let handed' : args ≡ whole = all ∙ ap (λ (t : Tree). low ∷ t ∷ []) (made ∙ ap (λ ts. Tree.comp array_name (trees_of ts)) both) in
-    let goals-one : number_goals low' one ≡ ones = ap (λ (t : Tree). number_goals t one) same ∙ ap (number_goals low) (behind ∙ (ap (λ (k : ℕ). k + 1) at ∙ omega arith)) in
-    let goals-two : number_goals step' two ≡ twos = ap (λ (t : Tree). number_goals t two) same' ∙ ap (number_goals step) (further ∙ (ap (λ (k : ℕ). k + 2) at ∙ omega arith)) in
-    third ∙ (ap (λ gs. gs ++ number_goals step' two) (second ∙ ap (λ gs. gs ++ number_goals low' one) first)
-    ∙ (ap (λ gs. ((old ++ calls args count ∷ []) ++ gs) ++ number_goals step' two) goals-one ∙ (ap (λ gs. ((old ++ calls args count ∷ []) ++ ones) ++ gs) goals-two
-    ∙ (append_assoc (old ++ calls args count ∷ []) ones twos ∙ (append_assoc old (calls args count ∷ []) (ones ++ twos)
-    ∙ (ap (λ (ts : List Tree). old ++ calls ts count ∷ (ones ++ twos)) handed' ∙ ap (λ (k : ℕ). old ++ calls whole k ∷ (ones ++ twos)) at))))))
+    let call : ℕ → GoalTree = λ k. GoalTree.apply range_count_name (low ∷ Tree.comp array_name (trees_of (step ∷ high ∷ [])) ∷ []) k in
+    let goals-one : number_goals low one ≡ ones = ap (number_goals low) (behind ∙ (ap (λ (k : ℕ). k + 1) at ∙ omega arith)) in
+    let goals-two : number_goals step two ≡ twos = ap (number_goals step) (further ∙ (ap (λ (k : ℕ). k + 2) at ∙ omega arith)) in
+    third ∙ (ap (λ gs. gs ++ number_goals step two) (second ∙ ap (λ gs. gs ++ number_goals low one) first)
+    ∙ (ap (λ gs. ((old ++ call count ∷ []) ++ gs) ++ number_goals step two) goals-one ∙ (ap (λ gs. ((old ++ call count ∷ []) ++ ones) ++ gs) goals-two
+    ∙ (append_assoc (old ++ call count ∷ []) ones twos ∙ (append_assoc old (call count ∷ []) (ones ++ twos) ∙ ap (λ (k : ℕ). old ++ call k ∷ (ones ++ twos)) at)))))
 
-pub through-is : (l : Loop) (low step high x y z : Tree) (found f1 f2 f3 ns ms ks : SlotNames) (count one two : ℕ) (old mid new : List GoalTree) (a0 a1 a2 a3 : List Tree) → count ≡ length found → f1 ≡ with_value found → one ≡ length f1 → f2 ≡ with_value f1 → two ≡ length f2 → f3 ≡ with_value f2 →
-    ms ≡ behind_collection ns f3 → x ≡ number_tree low one → y ≡ Tree.var count → z ≡ number_tree step two → a0 ≡ [] → a1 ≡ a0 ++ x ∷ [] → a2 ≡ a1 ++ y ∷ [] → a3 ≡ a2 ++ z ∷ [] → mid ≡ old ++ counting (range_between low step high found) → AreGoals (entered l [] a3 ms) mid new ks →
-    AreGoals (through l [] ns (range_between low step high found)) old new ks
-through-is l low step high x y z found f1 f2 f3 ns ms ks count one two old mid new a0 a1 a2 a3 at slots at' slots' at'' slots'' behind first second third none put put' put'' counted enter =
-    let k : ℕ = length found in
-    let here : f2 ≡ with_value (with_value found) = slots' ∙ ap with_value slots in
-    let one-is : one ≡ suc k = at' ∙ (ap length slots ∙ omega (arith, length-append found (unnamed ∷ []))) in
-    let two-is : two ≡ suc (suc k) = at'' ∙ (ap length here ∙ omega (arith, length-append found (unnamed ∷ []), length-append (with_value found) (unnamed ∷ []))) in
-    entered-behind l (counting (range_between low step high found)) old mid new a3 (number_tree low (suc k) ∷ Tree.var k ∷ number_tree step (suc (suc k)) ∷ []) ms (behind_collection ns (with_value (with_value (with_value found)))) ks counted
-    (pushed-three a0 a1 a2 a3 x y z none put put' put'' ∙ (ap (λ (t : Tree). t ∷ y ∷ z ∷ []) (first ∙ ap (number_tree low) one-is)
-    ∙ (ap (λ (t : Tree). number_tree low (suc k) ∷ t ∷ z ∷ []) (second ∙ ap Tree.var at) ∙ ap (λ (t : Tree). number_tree low (suc k) ∷ Tree.var k ∷ t ∷ []) (third ∙ ap (number_tree step) two-is))))
-    (behind ∙ ap (behind_collection ns) (slots'' ∙ ap with_value here)) enter
+pub first-args : (low step high x z : Tree) (ns : SlotNames) (count one two : ℕ) (a0 a1 a2 a3 : List Tree) → one ≡ count + 1 → two ≡ count + 2 → a0 ≡ [] → x ≡ number_tree low one → a1 ≡ a0 ++ x ∷ [] → a2 ≡ a1 ++ Tree.var count ∷ [] → z ≡ number_tree step two → a3 ≡ a2 ++ z ∷ [] → count ≡ length ns →
+    a3 ≡ first_turn (range_between low step high ns)
+first-args low step high x z ns count one two a0 a1 a2 a3 behind further none first put put' third put'' at =
+    let k : ℕ = length ns in
+    let one-is : one ≡ suc k = behind ∙ (ap (λ (j : ℕ). j + 1) at ∙ omega arith) in
+    let two-is : two ≡ suc (suc k) = further ∙ (ap (λ (j : ℕ). j + 2) at ∙ omega arith) in
+    pushed-three a0 a1 a2 a3 x (Tree.var count) z none put put' put'' ∙ (ap (λ (t : Tree). t ∷ Tree.var count ∷ z ∷ []) (first ∙ ap (number_tree low) one-is)
+    ∙ (ap (λ (t : Tree). number_tree low (suc k) ∷ t ∷ z ∷ []) (ap Tree.var at) ∙ ap (λ (t : Tree). number_tree low (suc k) ∷ Tree.var k ∷ t ∷ []) (third ∙ ap (number_tree step) two-is)))
+
+pub through-is : (l : Loop) (low step high : Tree) (found ns ms ks : SlotNames) (old mid new : List GoalTree) (args : List Tree) → ms ≡ behind_collection ns (with_value (with_value (with_value found))) → args ≡ first_turn (range_between low step high found) → mid ≡ old ++ counting (range_between low step high found) →
+    AreGoals (entered l [] args ms) mid new ks → AreGoals (through l [] ns (range_between low step high found)) old new ks
+through-is l low step high found ns ms ks old mid new args behind are counted enter =
+    entered-behind l (counting (range_between low step high found)) old mid new args (first_turn (range_between low step high found)) ms (behind_collection ns (with_value (with_value (with_value found)))) ks counted are behind enter
+
+pub three-behind : (found f1 f2 f3 ns ms : SlotNames) → f1 ≡ with_value found → f2 ≡ with_value f1 → f3 ≡ with_value f2 → ms ≡ behind_collection ns f3 → ms ≡ behind_collection ns (with_value (with_value (with_value found)))
+three-behind found f1 f2 f3 ns ms one two three behind = behind ∙ ap (behind_collection ns) (three ∙ ap with_value (two ∙ ap with_value one))

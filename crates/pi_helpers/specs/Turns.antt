@@ -1,12 +1,29 @@
 -- What turns of iterators do beside what stands in them.
-use Rattle.std.specs.Prelude.{◌≡◌, ℕ, suc, ◌-◌, Bool, true, false, pos, List, [], ◌∷◌, codes}
+use Rattle.std.specs.Prelude.{◌≡◌, ℕ, suc, ◌+◌, ◌-◌, Bool, true, false, pos, List, [], ◌∷◌, ◌++◌, length, codes}
 use Rattle.pi_terms.specs.Tree.{Tree}
 use Rattle.pi_effects.specs.Indexing.{index_name}
 use Rattle.pi_core.specs.GoalTree.{GoalTree}
+use Rattle.pi_core.specs.CoreTree.{PredTree}
 use Rattle.pi_lowered.specs.Goals.{in_turn}
-use Rattle.pi_lowered.specs.Loops.{Loop, slots_from}
+use Rattle.pi_lowered.specs.Slots.{SlotNames}
+use Rattle.pi_lowered.specs.Loops.{Loop, slots_from, slots_head, slots_for_names, loop_slots, closing, closing_slots, clause_of, helper}
 use Rattle.pi_lowered.specs.Iterators.{handed, tick_then}
 use Rattle.pi_lowered.specs.Ranges.{number_goals, number_tree}
+
+-- the call of a loop's helper, whose variables stand in slots from one on
+abbrev pub entry_call : Loop → List Tree → ℕ → SlotNames → GoalTree
+entry_call l first variable ns = GoalTree.call l.name ((first ++ slots_for_names l.shared ns) ++ slots_from variable (length l.kept))
+
+-- where a loop ends that begins with no iterator, and its helper, by what it does and the slots behind that
+abbrev pub ends_by : Loop → SlotNames → List GoalTree
+ends_by l ns = closing l.ending l.kept (length l.shared) (length ns) (loop_slots l)
+
+abbrev pub helped : Loop → GoalTree → SlotNames → PredTree
+helped l does ns = helper l.name (length (loop_slots l)) (clause_of (slots_head 0 (length (loop_slots l))) does (closing_slots l.kept (length ns)) ∷ [])
+
+-- where an iterator ends, in a clause that has so many slots in front of what is handed on, and others free from one on
+abbrev pub walk_end : Loop → ℕ → ℕ → SlotNames → GoalTree
+walk_end l first free ns = in_turn (closing l.ending l.kept (first + length l.shared) free ns)
 
 -- what a turn of an array's item is handed
 abbrev pub array_args : Loop → ℕ → List Tree

@@ -1,10 +1,13 @@
 //! Clauses of helpers, and helpers.
-ghost use Rattle.std.specs.Prelude.{◌≡◌, ◌∷◌, [], map, IfOk};
+ghost use Rattle.std.specs.Prelude.{◌≡◌, ◌∷◌, [], suc, map, IfOk};
 ghost use Rattle.pi_core.specs.CoreTree.{clause_tree, pred_tree, pattern_tree, pattern_trees};
 ghost use Rattle.pi_terms.specs.PatternTree.{pattern};
 ghost use Rattle.pi_helpers.specs.Heads.{onto};
+ghost use Rattle.pi_helpers.specs.Helpers.{loop_of};
 ghost use Rattle.pi_lowered.specs.Loops.{slots_head as head_of, clause_of, helper as helper_of};
+ghost use Rattle.pi_lowered.specs.Iterators.{handed as handed_of};
 
+use crate::loops::{Loop, wide};
 use crate::terms::later;
 use pi_core::{CoreClause, CoreClauses, CoreGoal, CorePred, Pattern, Patterns, SlotWatches};
 use pi_syntax::Decl;
@@ -100,5 +103,22 @@ pub(crate) fn simple_helper(
     let head = slots_head(alloc, arity)?;
     let mut clauses = Vec::new(alloc);
     clauses.push(clause(alloc, head, body, slots)?)?;
+    helper(alloc, name, arity, clauses)
+}
+
+/// A helper of two clauses, of one slot more than an iterator's first helper: of elements that match, and of those that don't.
+pub(crate) fn matching_helper(
+    alloc: Global,
+    name: &str,
+    l: &Loop<'_>,
+    matched: CoreClause,
+    passed: CoreClause,
+) -> Result<CorePred, AllocError>
+    ensures { IfOk result (λ made. pred_tree made ≡ helper_of name.now (suc (handed_of (loop_of l.now))) (clause_tree matched ∷ clause_tree passed ∷ [])) }
+{
+    let arity = wide(l)?;
+    let mut clauses = Vec::new(alloc);
+    clauses.push(matched)?;
+    clauses.push(passed)?;
     helper(alloc, name, arity, clauses)
 }

@@ -9,7 +9,7 @@ ghost use Rattle.pi_helpers.specs.Helpers.{ending_of, loop_of};
 
 use crate::joined::in_turn;
 use crate::loops::{Ending, Loop};
-use crate::terms::{later, push_apply, short, variable_of};
+use crate::terms::{later, push_of_slot, short, variable_of};
 use pi_core::CoreGoal;
 use pi_slots::Slots;
 use std::alloc::{AllocError, Global};
@@ -26,8 +26,7 @@ pub(crate) fn end<'a>(
 {
     let mut goals = Vec::new(alloc);
     push_closing(alloc, l, variable, free, slots, &mut goals)?;
-    let made = in_turn(alloc, goals)?;
-    Ok(made)
+    in_turn(alloc, goals)
 }
 
 /// Puts the goals of a loop's end behind the others.
@@ -74,8 +73,7 @@ pub(crate) fn closing_slots(l: &Loop<'_>, free: u32) -> Result<u32, AllocError>
 {
     let count = short(l.kept.len())?;
     let both = later(count, count)?;
-    let size = later(free, both)?;
-    Ok(size)
+    later(free, both)
 }
 
 /// Puts the goals behind the others that unify a variable in one slot with the value in another.
@@ -92,8 +90,7 @@ fn push_ended(
     match ending {
         Ending::AsItIs => push_equation(alloc, variable, value, goals),
         Ending::InOrder(is_array) => {
-            let gathered = variable_of(alloc, value)?;
-            push_apply(alloc, "not", &[gathered], free, goals)?;
+            push_of_slot(alloc, "not", value, free, goals)?;
             if is_array {
                 return push_array(alloc, variable, free, goals);
             }
@@ -111,9 +108,8 @@ fn push_array(
 ) -> Result<(), AllocError>
     ensures { IfOk result (λ _. goals.new.items ≡ goals.old.items ++ GoalTree.apply (codes "to_array") (Tree.var list ∷ []) (suc list) ∷ GoalTree.call (codes "=") (Tree.var variable ∷ Tree.var (suc list) ∷ []) ∷ []) }
 {
-    let items = variable_of(alloc, list)?;
     let array = later(list, 1)?;
-    push_apply(alloc, "to_array", &[items], array, goals)?;
+    push_of_slot(alloc, "to_array", list, array, goals)?;
     push_equation(alloc, variable, array, goals)
 }
 

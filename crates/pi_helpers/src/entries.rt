@@ -1,14 +1,17 @@
 //! Where a loop stands: names that are there when it starts, the call of its helper, and what names stand for behind it.
 ghost use Rattle.std.specs.Prelude.{◌≡◌, ◌++◌, [], IfOk};
+ghost use Rattle.pi_terms.specs.Tree.{comp, trees_of};
+ghost use Rattle.pi_print.specs.PrintTerm.{array_name};
 ghost use Rattle.pi_slots.specs.Indexed.{names_in};
 ghost use Rattle.pi_lowered.specs.Values.{slot_terms};
 ghost use Rattle.pi_lowered.specs.Loops.{started, as_written, kept_goals, entered, loop_goals};
 ghost use Rattle.pi_helpers.specs.Helpers.{loop_of};
 ghost use Rattle.pi_helpers.specs.Parts.{AreGoals, goals_before};
+ghost use Rattle.pi_helpers.specs.Turns.{entry_call};
 
 use crate::joined::push_filling;
-use crate::loops::Loop;
-use crate::terms::{later, push_apply, push_named, push_slots, short, variable_of};
+use crate::loops::{Loop, kept_count};
+use crate::terms::{later, push_named, push_of_slot, push_slot, push_slots};
 use pi_core::CoreGoal;
 use pi_slots::Slots;
 use pi_terms::Term;
@@ -42,10 +45,21 @@ pub fn push_started<'a>(
     ensures { IfOk result (λ _. AreGoals (goals_before (started filled (names_in before.now) slots.old)) goals.old.items goals.new.items slots.new) }
 {
     let count = slots.count()?;
-    let terms = written(alloc, before, slots)?;
-    let all = Term::comp(alloc, "{}", &terms)?;
-    push_filling(alloc, filled, count, &all, goals)?;
-    Ok(())
+    let all = all_written(alloc, before, slots)?;
+    push_filling(alloc, filled, count, &all, goals)
+}
+
+/// An array of names as they are written.
+fn all_written<'a>(
+    alloc: Global,
+    names: &[&'a str],
+    slots: &mut Slots<'a>,
+) -> Result<Term, AllocError>
+    ensures is { IfOk result (λ made. made ≡ comp array_name (trees_of (slot_terms (as_written (names_in names.now)) slots.old).trees)) }
+    ensures slots { IfOk result (λ _. slots.new ≡ (slot_terms (as_written (names_in names.now)) slots.old).names) }
+{
+    let terms = written(alloc, names, slots)?;
+    Term::comp(alloc, "{}", &terms)
 }
 
 /// Names as they are written, as terms.
@@ -60,8 +74,7 @@ fn written<'a>(
     let mut terms = Vec::new(alloc);
     for name in names {
         let slot = slots.slot_for(*name)?;
-        let term = variable_of(alloc, slot)?;
-        terms.push(term)?;
+        push_slot(alloc, &mut terms, slot)?;
     }
     Ok(terms)
 }
@@ -77,15 +90,28 @@ pub fn push_entered<'a>(
 ) -> Result<(), AllocError>
     ensures { IfOk result (λ _. AreGoals (entered (loop_of l.now) [] first.items slots.old) goals.old.items goals.new.items slots.new) }
 {
-    let mut args = first;
     let variable = slots.count()?;
-    push_named(alloc, &mut args, &l.shared, slots)?;
-    push_slots(alloc, &mut args, variable, short(l.kept.len())?)?;
-    let goal = CoreGoal::call(alloc, l.name.as_str(), &args)?;
+    let goal = entering(alloc, l, first, variable, slots)?;
     goals.push(goal)?;
     push_kept(alloc, &l.kept, variable, slots, goals)?;
     slots.value_slots(&l.kept)?;
     Ok(())
+}
+
+/// The call of a loop's helper, with these terms in front of what is handed on. Its variables stand in slots from one on.
+fn entering<'a>(
+    alloc: Global,
+    l: &Loop<'a>,
+    first: Vec<Term>,
+    variable: u32,
+    slots: &Slots<'a>,
+) -> Result<CoreGoal, AllocError>
+    ensures { IfOk result (λ made. made ≡ entry_call (loop_of l.now) first.items variable slots.now) }
+{
+    let mut args = first;
+    push_named(alloc, &mut args, &l.shared, slots)?;
+    push_slots(alloc, &mut args, variable, kept_count(l)?)?;
+    CoreGoal::call(alloc, l.name.as_str(), &args)
 }
 
 /// Puts what makes these names stand for variables, which are in slots from one on, behind the goals.
@@ -101,8 +127,7 @@ fn push_kept<'a>(
     let mut from = variable;
     for name in names {
         let into = slots.slot_of(*name)?;
-        let value = variable_of(alloc, from)?;
-        push_apply(alloc, "once", &[value], into, goals)?;
+        push_of_slot(alloc, "once", from, into, goals)?;
         from = later(from, 1)?;
     }
     Ok(())

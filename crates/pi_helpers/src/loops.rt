@@ -1,5 +1,5 @@
 //! Loops: what is handed from turn to turn.
-ghost use Rattle.std.specs.Prelude.{◌≡◌, ◌+◌, length, IfOk};
+ghost use Rattle.std.specs.Prelude.{◌≡◌, ◌+◌, suc, length, IfOk};
 ghost use Rattle.pi_lowered.specs.Loops.{loop_slots as slots_of};
 ghost use Rattle.pi_lowered.specs.Iterators.{handed as handed_of};
 ghost use Rattle.pi_helpers.specs.Helpers.{loop_of};
@@ -45,9 +45,31 @@ pub(crate) fn shared_from(l: &Loop<'_>, first: u32) -> Result<u32, AllocError>
     later(first, short(l.shared.len())?)
 }
 
+/// How many names a loop keeps.
+pub(crate) fn kept_count(l: &Loop<'_>) -> Result<u32, AllocError>
+    ensures { IfOk result (λ count. count ≡ length (loop_of l.now).kept) }
+{
+    short(l.kept.len())
+}
+
+/// How many slots there are where so many stand in front of what is handed on.
+pub(crate) fn slots_behind(l: &Loop<'_>, first: u32) -> Result<u32, AllocError>
+    ensures { IfOk result (λ count. count ≡ first + length (loop_of l.now).shared + length (loop_of l.now).kept) }
+{
+    later(shared_from(l, first)?, kept_count(l)?)
+}
+
 /// How many terms a helper of an iterator is handed.
 pub(crate) fn handed(l: &Loop<'_>) -> Result<u32, AllocError>
     ensures { IfOk result (λ count. count ≡ handed_of (loop_of l.now)) }
 {
-    later(shared_from(l, 3)?, short(l.kept.len())?)
+    slots_behind(l, 3)
+}
+
+/// How many terms an iterator's second helper is handed: an element, and what the first one is.
+pub(crate) fn wide(l: &Loop<'_>) -> Result<u32, AllocError>
+    ensures { IfOk result (λ count. count ≡ suc (handed_of (loop_of l.now))) }
+{
+    let count = handed(l)?;
+    later(count, 1)
 }

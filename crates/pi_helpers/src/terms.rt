@@ -1,5 +1,5 @@
 //! Slots as terms and as patterns, and calls over them.
-ghost use Rattle.std.specs.Prelude.{◌≡◌, ◌+◌, ◌++◌, ◌∷◌, [], codes, IfOk};
+ghost use Rattle.std.specs.Prelude.{◌≡◌, ◌+◌, ◌++◌, ◌∷◌, [], codes, pos, IfOk};
 ghost use Rattle.pi_core.specs.GoalTree.{GoalTree};
 ghost use Rattle.pi_terms.specs.Tree.{Tree};
 ghost use Rattle.pi_lowered.specs.Loops.{slots_from, slots_for_names};
@@ -31,6 +31,15 @@ pub(crate) fn variable_of(alloc: Global, slot: u32) -> Result<Term, AllocError>
     Term::var(alloc, u64::from(slot))
 }
 
+/// Puts a slot behind the terms.
+pub(crate) fn push_slot(alloc: Global, terms: &mut Vec<Term>, slot: u32) -> Result<(), AllocError>
+    ensures { IfOk result (λ _. terms.new.items ≡ terms.old.items ++ Tree.var slot ∷ []) }
+{
+    let term = variable_of(alloc, slot)?;
+    terms.push(term)?;
+    Ok(())
+}
+
 /// Puts so many slots from one on behind the terms.
 pub(crate) fn push_slots(
     alloc: Global,
@@ -42,8 +51,7 @@ pub(crate) fn push_slots(
 {
     let mut slot = first;
     for _ in 0..count {
-        let term = variable_of(alloc, slot)?;
-        terms.push(term)?;
+        push_slot(alloc, terms, slot)?;
         slot = later(slot, 1)?;
     }
     Ok(())
@@ -60,8 +68,7 @@ pub(crate) fn push_named<'a>(
 {
     for name in names {
         let slot = slots.slot_of(*name)?;
-        let term = variable_of(alloc, slot)?;
-        terms.push(term)?;
+        push_slot(alloc, terms, slot)?;
     }
     Ok(())
 }
@@ -81,9 +88,64 @@ pub(crate) fn push_apply(
     Ok(())
 }
 
-/// Whether one number is below another, as a goal.
-pub(crate) fn less(alloc: Global, one: Term, other: Term) -> Result<CoreGoal, AllocError>
-    ensures { IfOk result (λ made. made ≡ GoalTree.call (codes "<") (one ∷ other ∷ [])) }
+/// Puts the call of a function of one slot behind the goals.
+pub(crate) fn push_of_slot(
+    alloc: Global,
+    name: &str,
+    slot: u32,
+    into: u32,
+    goals: &mut Vec<CoreGoal>,
+) -> Result<(), AllocError>
+    ensures { IfOk result (λ _. goals.new.items ≡ goals.old.items ++ GoalTree.apply name.now (Tree.var slot ∷ []) into ∷ []) }
 {
+    let value = variable_of(alloc, slot)?;
+    push_apply(alloc, name, &[value], into, goals)
+}
+
+/// Puts the call of a function of two slots behind the goals.
+pub(crate) fn push_of_slots(
+    alloc: Global,
+    name: &str,
+    one: u32,
+    other: u32,
+    into: u32,
+    goals: &mut Vec<CoreGoal>,
+) -> Result<(), AllocError>
+    ensures { IfOk result (λ _. goals.new.items ≡ goals.old.items ++ GoalTree.apply name.now (Tree.var one ∷ Tree.var other ∷ []) into ∷ []) }
+{
+    let one = variable_of(alloc, one)?;
+    let other = variable_of(alloc, other)?;
+    push_apply(alloc, name, &[one, other], into, goals)
+}
+
+/// Puts the call of a function of a slot and of 1 behind the goals.
+pub(crate) fn push_with_one(
+    alloc: Global,
+    name: &str,
+    slot: u32,
+    into: u32,
+    goals: &mut Vec<CoreGoal>,
+) -> Result<(), AllocError>
+    ensures { IfOk result (λ _. goals.new.items ≡ goals.old.items ++ GoalTree.apply name.now (Tree.var slot ∷ Tree.int (pos 1) ∷ []) into ∷ []) }
+{
+    let value = variable_of(alloc, slot)?;
+    let one = Term::int(alloc, 1)?;
+    push_apply(alloc, name, &[value, one], into, goals)
+}
+
+/// Puts a Tick behind the goals.
+pub(crate) fn push_tick(alloc: Global, goals: &mut Vec<CoreGoal>) -> Result<(), AllocError>
+    ensures { IfOk result (λ _. goals.new.items ≡ goals.old.items ++ GoalTree.tick ∷ []) }
+{
+    let tick = CoreGoal::tick(alloc)?;
+    goals.push(tick)?;
+    Ok(())
+}
+
+/// Whether a number is below that in a slot, as a goal.
+pub(crate) fn less(alloc: Global, one: Term, slot: u32) -> Result<CoreGoal, AllocError>
+    ensures { IfOk result (λ made. made ≡ GoalTree.call (codes "<") (one ∷ Tree.var slot ∷ [])) }
+{
+    let other = variable_of(alloc, slot)?;
     CoreGoal::call(alloc, "<", &[one, other])
 }

@@ -5,11 +5,12 @@ ghost use Rattle.pi_core.specs.CoreTree.{pred_tree};
 ghost use Rattle.pi_lowered.specs.Loops.{loop_slots as slots_of, again as again_of, while_turn, do_turn, only_turn};
 ghost use Rattle.pi_lowered.specs.Goals.{in_turn as turn_of};
 ghost use Rattle.pi_helpers.specs.Helpers.{loop_of, lowered};
+ghost use Rattle.pi_helpers.specs.Turns.{ends_by, helped};
 
 use crate::clauses::simple_helper;
-use crate::ends::{closing_slots, end, push_closing};
+use crate::ends::{closing_slots, push_closing};
 use crate::joined::in_turn;
-use crate::loops::{Loop, loop_slots, shared_from};
+use crate::loops::{Loop, loop_slots, shared_from, slots_behind};
 use crate::terms::push_slots;
 use pi_core::{CoreGoal, CorePred};
 use pi_slots::Slots;
@@ -26,18 +27,9 @@ pub fn while_helper<'a>(
 ) -> Result<CorePred, AllocError>
     ensures { IfOk result (λ made. pred_tree made ≡ while_turn (loop_of l.now) (lowered test.items slots.now) (λ _. lowered body.items slots.now)) }
 {
-    let head = loop_slots(alloc, l)?;
-    let count = head.count()?;
-    let free = slots.count()?;
-    let test = in_turn(alloc, test)?;
-    let next = again(alloc, l, count)?;
-    let turn = ticked(alloc, body, next)?;
-    let first = shared_from(l, 0)?;
-    let other = end(alloc, l, first, free, &head)?;
-    let choice = CoreGoal::if_else(alloc, test, turn, other)?;
-    let size = closing_slots(l, free)?;
-    let made = simple_helper(alloc, l.name.as_str(), count, choice, size)?;
-    Ok(made)
+    let turn = ticked_again(alloc, l, body)?;
+    let choice = tested(alloc, l, test, turn, slots)?;
+    loop_helper(alloc, l, choice, slots)
 }
 
 /// The helper of a `do`, of its body and of its test, whose slots are those behind the test: Tick, body and test, and where
@@ -51,18 +43,9 @@ pub fn do_helper<'a>(
 ) -> Result<CorePred, AllocError>
     ensures { IfOk result (λ made. pred_tree made ≡ do_turn (loop_of l.now) (lowered body.items slots.now) (λ _. lowered test.items slots.now)) }
 {
-    let head = loop_slots(alloc, l)?;
-    let count = head.count()?;
-    let free = slots.count()?;
-    let test = in_turn(alloc, test)?;
-    let next = again(alloc, l, count)?;
-    let first = shared_from(l, 0)?;
-    let other = end(alloc, l, first, free, &head)?;
-    let choice = CoreGoal::if_else(alloc, test, next, other)?;
+    let choice = tested_again(alloc, l, test, slots)?;
     let turn = ticked(alloc, body, choice)?;
-    let size = closing_slots(l, free)?;
-    let made = simple_helper(alloc, l.name.as_str(), count, turn, size)?;
-    Ok(made)
+    loop_helper(alloc, l, turn, slots)
 }
 
 /// The helper of a loop that begins with a test: one turn, without a Tick, and the end. The slots are those behind the
@@ -75,38 +58,121 @@ pub fn only_turn_helper<'a>(
 ) -> Result<CorePred, AllocError>
     ensures { IfOk result (λ made. pred_tree made ≡ only_turn (loop_of l.now) (lowered turn.items slots.now)) }
 {
-    let head = loop_slots(alloc, l)?;
-    let count = head.count()?;
-    let free = slots.count()?;
-    let first = shared_from(l, 0)?;
     let mut goals = turn;
-    push_closing(alloc, l, first, free, &head, &mut goals)?;
+    push_end(alloc, l, slots, &mut goals)?;
     let body = in_turn(alloc, goals)?;
-    let size = closing_slots(l, free)?;
-    let made = simple_helper(alloc, l.name.as_str(), count, body, size)?;
-    Ok(made)
+    loop_helper(alloc, l, body, slots)
 }
 
-/// The call of the next turn, which has the slots of this one's head. `count` is how many they are.
-fn again(alloc: Global, l: &Loop<'_>, count: u32) -> Result<CoreGoal, AllocError>
-    ensures { IfOk result (λ made. count ≡ length (slots_of (loop_of l.now)) → made ≡ again_of (loop_of l.now)) }
+/// The helper of a loop that does this, behind which there are these slots.
+fn loop_helper<'a>(
+    alloc: Global,
+    l: &Loop<'a>,
+    body: CoreGoal,
+    slots: &Slots<'a>,
+) -> Result<CorePred, AllocError>
+    ensures { IfOk result (λ made. pred_tree made ≡ helped (loop_of l.now) body slots.now) }
 {
+    let count = turn_slots(l)?;
+    let free = slots.count()?;
+    let size = closing_slots(l, free)?;
+    simple_helper(alloc, l.name.as_str(), count, body, size)
+}
+
+/// How many slots a turn begins with.
+fn turn_slots(l: &Loop<'_>) -> Result<u32, AllocError>
+    ensures { IfOk result (λ count. count ≡ length (slots_of (loop_of l.now))) }
+{
+    slots_behind(l, 0)
+}
+
+/// A turn, where the test holds, and the end.
+fn tested<'a>(
+    alloc: Global,
+    l: &Loop<'a>,
+    test: Vec<CoreGoal>,
+    turn: CoreGoal,
+    slots: &Slots<'a>,
+) -> Result<CoreGoal, AllocError>
+    ensures { IfOk result (λ made. made ≡ GoalTree.if_else (turn_of test.items) turn (turn_of (ends_by (loop_of l.now) slots.now))) }
+{
+    let test = in_turn(alloc, test)?;
+    let other = loop_end(alloc, l, slots)?;
+    CoreGoal::if_else(alloc, test, turn, other)
+}
+
+/// The next turn, where the test holds, and the end.
+fn tested_again<'a>(
+    alloc: Global,
+    l: &Loop<'a>,
+    test: Vec<CoreGoal>,
+    slots: &Slots<'a>,
+) -> Result<CoreGoal, AllocError>
+    ensures { IfOk result (λ made. made ≡ GoalTree.if_else (turn_of test.items) (again_of (loop_of l.now)) (turn_of (ends_by (loop_of l.now) slots.now))) }
+{
+    let next = again(alloc, l)?;
+    tested(alloc, l, test, next, slots)
+}
+
+/// The end of a loop, behind which there are these slots, as one goal.
+fn loop_end<'a>(alloc: Global, l: &Loop<'a>, slots: &Slots<'a>) -> Result<CoreGoal, AllocError>
+    ensures { IfOk result (λ made. made ≡ turn_of (ends_by (loop_of l.now) slots.now)) }
+{
+    let mut goals = Vec::new(alloc);
+    push_end(alloc, l, slots, &mut goals)?;
+    in_turn(alloc, goals)
+}
+
+/// Puts the end of a loop, behind which there are these slots, behind the goals.
+fn push_end<'a>(
+    alloc: Global,
+    l: &Loop<'a>,
+    slots: &Slots<'a>,
+    goals: &mut Vec<CoreGoal>,
+) -> Result<(), AllocError>
+    ensures { IfOk result (λ _. goals.new.items ≡ goals.old.items ++ ends_by (loop_of l.now) slots.now) }
+{
+    let first = shared_from(l, 0)?;
+    let free = slots.count()?;
+    let head = loop_slots(alloc, l)?;
+    push_closing(alloc, l, first, free, &head, goals)
+}
+
+/// The call of the next turn, which has the slots of this one's head.
+fn again(alloc: Global, l: &Loop<'_>) -> Result<CoreGoal, AllocError>
+    ensures { IfOk result (λ made. made ≡ again_of (loop_of l.now)) }
+{
+    let count = turn_slots(l)?;
     let mut args = Vec::new(alloc);
     push_slots(alloc, &mut args, 0, count)?;
-    let made = CoreGoal::call(alloc, l.name.as_str(), &args)?;
-    Ok(made)
+    CoreGoal::call(alloc, l.name.as_str(), &args)
+}
+
+/// A Tick, then these goals, and the call of the next turn.
+fn ticked_again(alloc: Global, l: &Loop<'_>, goals: Vec<CoreGoal>) -> Result<CoreGoal, AllocError>
+    ensures { IfOk result (λ made. made ≡ turn_of (GoalTree.tick ∷ goals.items ++ again_of (loop_of l.now) ∷ [])) }
+{
+    let next = again(alloc, l)?;
+    ticked(alloc, goals, next)
 }
 
 /// A Tick, and then these goals and a last one.
 fn ticked(alloc: Global, goals: Vec<CoreGoal>, last: CoreGoal) -> Result<CoreGoal, AllocError>
     ensures { IfOk result (λ made. made ≡ turn_of (GoalTree.tick ∷ goals.items ++ last ∷ [])) }
 {
+    let mut turn = behind_tick(alloc, goals)?;
+    turn.push(last)?;
+    in_turn(alloc, turn)
+}
+
+/// A Tick, and then these goals.
+fn behind_tick(alloc: Global, goals: Vec<CoreGoal>) -> Result<Vec<CoreGoal>, AllocError>
+    ensures { IfOk result (λ made. made.items ≡ GoalTree.tick ∷ goals.items) }
+{
     let mut goals = goals;
     let tick = CoreGoal::tick(alloc)?;
     let mut turn = Vec::new(alloc);
     turn.push(tick)?;
     turn.append(&mut goals)?;
-    turn.push(last)?;
-    let made = in_turn(alloc, turn)?;
-    Ok(made)
+    Ok(turn)
 }

@@ -1,24 +1,28 @@
 //! Iterators over lists and arrays, both walked in place.
-ghost use Rattle.std.specs.Prelude.{◌≡◌, ◌+◌, ◌∷◌, [], ◌++◌, IfOk};
+ghost use Rattle.std.specs.Prelude.{◌≡◌, ◌+◌, ◌-◌, ◌∷◌, [], ◌++◌, codes, pos, IfOk};
+ghost use Rattle.pi_terms.specs.Tree.{Tree};
 ghost use Rattle.pi_terms.specs.PatternTree.{slot, exact_atom, compound, no_patterns, pattern};
 ghost use Rattle.pi_terms.specs.ListNames.{nil, cell_name};
 ghost use Rattle.pi_core.specs.GoalTree.{GoalTree};
-ghost use Rattle.pi_core.specs.CoreTree.{clause_tree, pattern_tree, pred_tree};
+ghost use Rattle.pi_core.specs.CoreTree.{clause_tree, pattern_tree, pattern_trees, pred_tree};
 ghost use Rattle.pi_slots.specs.Indexed.{names_in};
 ghost use Rattle.pi_lowered.specs.Slots.{SlotNames, with_value};
-ghost use Rattle.pi_lowered.specs.Loops.{with_values};
-ghost use Rattle.pi_lowered.specs.Iterators.{tick_then, cell_clause as cell_by, nil_clause as nil_by, array_clause as array_by, element_helper as helper_by, walked, over};
+ghost use Rattle.pi_lowered.specs.Loops.{with_values, slots_from, slots_head as head_of};
+ghost use Rattle.pi_lowered.specs.Iterators.{tick_then, cell_clause as cell_by, nil_clause as nil_by, array_clause as array_by, element_helper as helper_by, handed as handed_of, end_slots as end_slots_of, walked, over};
 ghost use Rattle.pi_helpers.specs.Helpers.{loop_of};
-ghost use Rattle.pi_helpers.specs.Parts.{AreGoals};
-ghost use Rattle.pi_helpers.specs.Turns.{array_args, array_turn_by};
+ghost use Rattle.pi_helpers.specs.Parts.{AreGoals, goals_before};
+ghost use Rattle.pi_helpers.specs.Turns.{array_args, array_turn_by, walk_end as walk_end_of};
 
 use crate::clauses::{clause, head_with, helper, slots_head};
 use crate::ends::{closing_slots, end};
 use crate::entries::push_entered;
 use crate::joined::in_turn;
-use crate::loops::{Loop, handed, shared_from};
-use crate::terms::{later, less, push_apply, push_slots, variable_of};
-use pi_core::{CoreClause, CoreGoal, CorePred, Pattern};
+use crate::loops::{Loop, handed, shared_from, slots_behind, wide};
+use crate::terms::{
+    later, less, push_apply, push_of_slots, push_slot, push_slots, push_tick, push_with_one,
+    variable_of,
+};
+use pi_core::{CoreClause, CoreGoal, CorePred, Pattern, Patterns};
 use pi_slots::Slots;
 use pi_terms::{Term, Text};
 use std::alloc::{AllocError, Global};
@@ -35,18 +39,37 @@ pub fn push_over<'a>(
 ) -> Result<(), AllocError>
     ensures { IfOk result (λ _. AreGoals (over (loop_of l.now) [] (walked slots.old (record { goals = []; tree = collection; names = found.entry }))) goals.old.items goals.new.items slots.new) }
 {
-    let mut found = found;
-    push_counted(alloc, &collection, &mut found, goals)?;
-    slots.behind(&found)?;
+    push_walked(alloc, &collection, found, slots, goals)?;
     let count = slots.count()?;
+    let first = walk_args(alloc, collection, count.saturating_sub(1))?;
+    push_entered(alloc, l, first, slots, goals)
+}
+
+/// What an iterator's first helper is handed: what it goes over, the first number, and the slot of that behind the last one.
+fn walk_args(alloc: Global, collection: Term, past: u32) -> Result<Vec<Term>, AllocError>
+    ensures { IfOk result (λ made. made.items ≡ collection ∷ Tree.int (pos 1) ∷ Tree.var past ∷ []) }
+{
+    let mut args = Vec::new(alloc);
+    args.push(collection)?;
     let one = Term::int(alloc, 1)?;
-    let past = variable_of(alloc, count.saturating_sub(1))?;
-    let mut first = Vec::new(alloc);
-    first.push(collection)?;
-    first.push(one)?;
-    first.push(past)?;
-    push_entered(alloc, l, first, slots, goals)?;
-    Ok(())
+    args.push(one)?;
+    push_slot(alloc, &mut args, past)?;
+    Ok(args)
+}
+
+/// Puts what counts the items behind the goals. The slots are as many then as there are behind that.
+fn push_walked<'a>(
+    alloc: Global,
+    collection: &Term,
+    found: Slots<'a>,
+    slots: &mut Slots<'a>,
+    goals: &mut Vec<CoreGoal>,
+) -> Result<(), AllocError>
+    ensures { IfOk result (λ _. AreGoals (goals_before (walked slots.old (record { goals = []; tree = collection.now; names = found.entry }))) goals.old.items goals.new.items slots.new) }
+{
+    let mut found = found;
+    push_counted(alloc, collection, &mut found, goals)?;
+    slots.behind(&found)
 }
 
 /// Puts what counts the items behind the goals. The number behind that of the last one stands in the last slot.
@@ -61,11 +84,8 @@ fn push_counted<'a>(
     let count = found.value_slot()?;
     let past = found.value_slot()?;
     let items = collection.copy(alloc)?;
-    let number = variable_of(alloc, count)?;
-    let one = Term::int(alloc, 1)?;
     push_apply(alloc, "length", &[items], count, goals)?;
-    push_apply(alloc, "+", &[number, one], past, goals)?;
-    Ok(())
+    push_with_one(alloc, "+", count, past, goals)
 }
 
 /// The helper of an iterator over a list or an array that takes the next element, and hands it to the helper of this name.
@@ -74,30 +94,42 @@ pub fn element_helper<'a>(alloc: Global, turn: &str, l: &Loop<'a>) -> Result<Cor
     ensures { IfOk result (λ made. pred_tree made ≡ helper_by turn.now (loop_of l.now)) }
 {
     let count = handed(l)?;
-    let cell = cell_clause(alloc, turn, l)?;
-    let nil = nil_clause(alloc, l)?;
-    let array = array_clause(alloc, turn, l)?;
     let mut clauses = Vec::new(alloc);
+    let cell = cell_clause(alloc, turn, l)?;
     clauses.push(cell)?;
+    let nil = nil_clause(alloc, l)?;
     clauses.push(nil)?;
+    let array = array_clause(alloc, turn, l)?;
     clauses.push(array)?;
-    let made = helper(alloc, l.name.as_str(), count, clauses)?;
-    Ok(made)
+    helper(alloc, l.name.as_str(), count, clauses)
 }
 
 /// A list cell.
 fn cell_clause(alloc: Global, turn: &str, l: &Loop<'_>) -> Result<CoreClause, AllocError>
     ensures { IfOk result (λ made. clause_tree made ≡ cell_by turn.now (loop_of l.now)) }
 {
-    let count = handed(l)?;
-    let slots = later(count, 1)?;
+    let slots = wide(l)?;
+    let body = cell_body(alloc, turn, slots)?;
+    let head = cell_head(alloc, l)?;
+    clause(alloc, head, body, slots)
+}
+
+/// The turn of a list cell: all slots are handed on.
+fn cell_body(alloc: Global, turn: &str, slots: u32) -> Result<CoreGoal, AllocError>
+    ensures { IfOk result (λ made. made ≡ tick_then (GoalTree.call turn.now (slots_from 0 slots) ∷ [])) }
+{
     let mut args = Vec::new(alloc);
     push_slots(alloc, &mut args, 0, slots)?;
-    let body = ticked_call(alloc, turn, &args)?;
+    ticked_call(alloc, turn, &args)
+}
+
+/// The head of a list cell.
+fn cell_head(alloc: Global, l: &Loop<'_>) -> Result<Patterns, AllocError>
+    ensures { IfOk result (λ made. pattern_trees made.items ≡ pattern (compound cell_name (pattern (slot 0) (pattern (slot 1) no_patterns))) (head_of 2 (handed_of (loop_of l.now) - 1))) }
+{
+    let count = handed(l)?;
     let cell = cell_pattern(alloc)?;
-    let head = head_with(alloc, cell, 2, count.saturating_sub(1))?;
-    let made = clause(alloc, head, body, slots)?;
-    Ok(made)
+    head_with(alloc, cell, 2, count.saturating_sub(1))
 }
 
 /// The pattern of a list cell, whose item and rest stand in the first two slots.
@@ -116,16 +148,20 @@ fn cell_pattern(alloc: Global) -> Result<Pattern, AllocError>
 fn nil_clause<'a>(alloc: Global, l: &Loop<'a>) -> Result<CoreClause, AllocError>
     ensures { IfOk result (λ made. clause_tree made ≡ nil_by (loop_of l.now)) }
 {
-    let slots = end_slots(alloc, l, &["_", "_"])?;
-    let free = slots.count()?;
-    let first = shared_from(l, 2)?;
-    let body = end(alloc, l, first, free, &slots)?;
-    let nil = nil_pattern(alloc)?;
-    let count = handed(l)?;
-    let head = head_with(alloc, nil, 0, count.saturating_sub(1))?;
+    let free = slots_behind(l, 2)?;
     let size = closing_slots(l, free)?;
-    let made = clause(alloc, head, body, size)?;
-    Ok(made)
+    let body = walk_end(alloc, l, &["_", "_"], 2, free)?;
+    let head = nil_head(alloc, l)?;
+    clause(alloc, head, body, size)
+}
+
+/// The head of the list's end.
+fn nil_head(alloc: Global, l: &Loop<'_>) -> Result<Patterns, AllocError>
+    ensures { IfOk result (λ made. pattern_trees made.items ≡ pattern (exact_atom nil) (head_of 0 (handed_of (loop_of l.now) - 1))) }
+{
+    let count = handed(l)?;
+    let nil = nil_pattern(alloc)?;
+    head_with(alloc, nil, 0, count.saturating_sub(1))
 }
 
 /// The pattern of an empty list.
@@ -141,21 +177,36 @@ fn nil_pattern(alloc: Global) -> Result<Pattern, AllocError>
 fn array_clause<'a>(alloc: Global, turn: &str, l: &Loop<'a>) -> Result<CoreClause, AllocError>
     ensures { IfOk result (λ made. clause_tree made ≡ array_by turn.now (loop_of l.now)) }
 {
-    let slots = end_slots(alloc, l, &["_", "_", "_"])?;
-    let item = slots.count()?;
+    let item = handed(l)?;
     let free = later(item, 2)?;
-    let next = variable_of(alloc, 1)?;
-    let past = variable_of(alloc, 2)?;
-    let test = less(alloc, next, past)?;
-    let then = array_turn(alloc, turn, l, item)?;
-    let first = shared_from(l, 3)?;
-    let other = end(alloc, l, first, free, &slots)?;
-    let body = CoreGoal::if_else(alloc, test, then, other)?;
-    let count = handed(l)?;
-    let head = slots_head(alloc, count)?;
     let size = closing_slots(l, free)?;
-    let made = clause(alloc, head, body, size)?;
-    Ok(made)
+    let body = array_body(alloc, turn, l, item, free)?;
+    let head = slots_head(alloc, item)?;
+    clause(alloc, head, body, size)
+}
+
+/// The next item of an array, and the end. From `item` on slots are free, and behind a turn from `free` on.
+fn array_body<'a>(
+    alloc: Global,
+    turn: &str,
+    l: &Loop<'a>,
+    item: u32,
+    free: u32,
+) -> Result<CoreGoal, AllocError>
+    ensures { IfOk result (λ made. made ≡ GoalTree.if_else (GoalTree.call (codes "<") (Tree.var 1 ∷ Tree.var 2 ∷ [])) (array_turn_by turn.now (loop_of l.now) item) (walk_end_of (loop_of l.now) 3 free (end_slots_of 3 (loop_of l.now)))) }
+{
+    let test = is_left(alloc)?;
+    let then = array_turn(alloc, turn, l, item)?;
+    let other = walk_end(alloc, l, &["_", "_", "_"], 3, free)?;
+    CoreGoal::if_else(alloc, test, then, other)
+}
+
+/// Whether an item of an array is left.
+fn is_left(alloc: Global) -> Result<CoreGoal, AllocError>
+    ensures { IfOk result (λ made. made ≡ GoalTree.call (codes "<") (Tree.var 1 ∷ Tree.var 2 ∷ [])) }
+{
+    let next = variable_of(alloc, 1)?;
+    less(alloc, next, 2)
 }
 
 /// A turn of an array's item. From `item` on slots are free.
@@ -163,21 +214,13 @@ fn array_turn(alloc: Global, turn: &str, l: &Loop<'_>, item: u32) -> Result<Core
     ensures { IfOk result (λ made. made ≡ array_turn_by turn.now (loop_of l.now) item) }
 {
     let next = later(item, 1)?;
-    let tick = CoreGoal::tick(alloc)?;
-    let call = array_call(alloc, turn, l, item, next)?;
-    let array = variable_of(alloc, 0)?;
-    let place = variable_of(alloc, 1)?;
-    let before = variable_of(alloc, 1)?;
-    let one = Term::int(alloc, 1)?;
-    let taken = CoreGoal::apply(alloc, "in", &[array, place], item)?;
-    let moved = CoreGoal::apply(alloc, "+", &[before, one], next)?;
     let mut goals = Vec::new(alloc);
-    goals.push(tick)?;
-    goals.push(taken)?;
-    goals.push(moved)?;
+    push_tick(alloc, &mut goals)?;
+    push_of_slots(alloc, "in", 0, 1, item, &mut goals)?;
+    push_with_one(alloc, "+", 1, next, &mut goals)?;
+    let call = array_call(alloc, turn, l, item, next)?;
     goals.push(call)?;
-    let made = in_turn(alloc, goals)?;
-    Ok(made)
+    in_turn(alloc, goals)
 }
 
 /// The call of a turn with the item of an array.
@@ -191,25 +234,32 @@ fn array_call(
     ensures { IfOk result (λ made. next ≡ item + 1 → made ≡ GoalTree.call turn.now (array_args (loop_of l.now) item)) }
 {
     let count = handed(l)?;
-    let found = variable_of(alloc, item)?;
-    let array = variable_of(alloc, 0)?;
-    let place = variable_of(alloc, next)?;
     let mut args = Vec::new(alloc);
-    args.push(found)?;
-    args.push(array)?;
-    args.push(place)?;
+    push_slot(alloc, &mut args, item)?;
+    push_slot(alloc, &mut args, 0)?;
+    push_slot(alloc, &mut args, next)?;
     push_slots(alloc, &mut args, 2, count.saturating_sub(2))?;
-    let made = CoreGoal::call(alloc, turn, &args)?;
-    Ok(made)
+    CoreGoal::call(alloc, turn, &args)
+}
+
+/// Where an iterator ends, in a clause whose first slots have these names and are so many; others are free from one on.
+pub(crate) fn walk_end<'a>(
+    alloc: Global,
+    l: &Loop<'a>,
+    first: &[&'a str],
+    count: u32,
+    free: u32,
+) -> Result<CoreGoal, AllocError>
+    ensures { IfOk result (λ made. made ≡ walk_end_of (loop_of l.now) count free (with_values (loop_of l.now).kept (names_in first.now ++ (loop_of l.now).shared))) }
+{
+    let variable = shared_from(l, count)?;
+    let slots = end_slots(alloc, l, first)?;
+    end(alloc, l, variable, free, &slots)
 }
 
 /// The slots of a clause without a pattern: these, then what is handed on, and the variables of the names that the loop
 /// keeps.
-pub(crate) fn end_slots<'a>(
-    alloc: Global,
-    l: &Loop<'a>,
-    first: &[&'a str],
-) -> Result<Slots<'a>, AllocError>
+fn end_slots<'a>(alloc: Global, l: &Loop<'a>, first: &[&'a str]) -> Result<Slots<'a>, AllocError>
     ensures { IfOk result (λ made. made ≡ with_values (loop_of l.now).kept (names_in first.now ++ (loop_of l.now).shared)) }
 {
     let mut slots = Slots::new(alloc);
@@ -223,11 +273,9 @@ pub(crate) fn end_slots<'a>(
 pub(crate) fn ticked_call(alloc: Global, name: &str, args: &[Term]) -> Result<CoreGoal, AllocError>
     ensures { IfOk result (λ made. made ≡ tick_then (GoalTree.call name.now args.now ∷ [])) }
 {
-    let tick = CoreGoal::tick(alloc)?;
-    let call = CoreGoal::call(alloc, name, args)?;
     let mut goals = Vec::new(alloc);
-    goals.push(tick)?;
+    push_tick(alloc, &mut goals)?;
+    let call = CoreGoal::call(alloc, name, args)?;
     goals.push(call)?;
-    let made = in_turn(alloc, goals)?;
-    Ok(made)
+    in_turn(alloc, goals)
 }

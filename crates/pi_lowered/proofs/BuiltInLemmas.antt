@@ -1,6 +1,6 @@
--- Two calls that lowering makes of its own, in any state: an equation of a new variable with itself, and the first item of an array of one. Each leaves the state as it is.
+-- Calls that lowering makes of its own, in any state: an equation of a new variable with itself, which leaves the state as it is, and that of an index. (`InnerLemmas` has those that no text can make.)
 use Rattle.std.proofs.Common.{◌≡◌, ℕ, zero, suc, ◌+◌, ◌*◌, Bool, true, false, List, [], ◌∷◌, ◌++◌, length, map, refl, ◌∙◌, ap, arith}
-use Rattle.std.specs.Prelude.{Option, Some, None, Ok, pos, codes, ◌==◌, ◌||◌, nat_lt, ◌≤◌, IsTrue}
+use Rattle.std.specs.Prelude.{Option, Some, None, codes, ◌==◌, ◌||◌, nat_lt, ◌≤◌, IsTrue}
 use Rattle.std.proofs.lemmas.Bool.{cond-true, false≢true, ltb-false}
 use Rattle.std.proofs.lemmas.Bool.Decides.{Decides-eqb}
 use Rattle.pi_terms.specs.Tree.{Tree, var, int, atom, comp, Trees, no_trees, tree, cells, cells_all}
@@ -8,19 +8,15 @@ use Rattle.pi_terms.specs.Places.{held}
 use Rattle.pi_states.specs.Value.{Bindings, value}
 use Rattle.pi_states.specs.State.{State, Variable, free, binding, bindings, next, with_new, followed}
 use Rattle.pi_states.specs.Unify.{unified, Pair, outcome, go_on, unified_for, unbound_in, cells_of_pairs, most_pairs, all_unified}
-use Rattle.pi_states.proofs.FollowLemmas.{followed_other, followed_itself}
-use Rattle.pi_print.specs.PrintTerm.{array_name}
+use Rattle.pi_states.proofs.FollowLemmas.{followed_itself}
 use Rattle.pi_effects.specs.Effect.{succeeds_in}
-use Rattle.pi_effects.specs.Answer.{found_or, or_raised, integer_at, integer_then}
-use Rattle.pi_effects.specs.Items.{each_tree, structure_parts, indexed_items}
-use Rattle.pi_effects.specs.Exception.{type_error, bad_index}
 use Rattle.pi_effects.specs.Rows.{done_by, has_line}
 use Rattle.pi_effects.specs.Integers.{integer_functions}
 use Rattle.pi_effects.specs.Comparing.{comparing_tests}
 use Rattle.pi_effects.specs.Kinds.{kind_tests}
 use Rattle.pi_effects.specs.Collections.{collection_functions}
 use Rattle.pi_effects.specs.Sorting.{sorting_functions}
-use Rattle.pi_effects.specs.Indexing.{index_name, item_at, indexed, index_functions}
+use Rattle.pi_effects.specs.Indexing.{index_name, indexed, index_functions}
 use Rattle.pi_effects.specs.Ranges.{range_functions}
 use Rattle.pi_effects.specs.Naming.{naming_functions}
 use Rattle.pi_effects.specs.Texts.{text_functions, writing_predicates}
@@ -127,19 +123,9 @@ no-variable name ts n e = absurd cc
 pub no-number : (i : _) (n : ℕ) → int i ≡ var n → ⊥
 no-number i n e = absurd cc
 
-item-found : (s : State) (t : Tree) → indexed s (comp array_name (tree t no_trees)) (int (pos 1)) ≡ Ok t
-unfolding indexed each_tree
-item-found s t =
-    ap (λ (u : Tree). found_or (Rattle.std.specs.Option.option_or (structure_parts u) (Rattle.pi_effects.specs.Items.list_items (bindings s) (comp array_name (tree t no_trees)))) (type_error (codes "list") (comp array_name (tree t no_trees)) s)
-    (λ ts. integer_then s (int (pos 1)) (λ n. or_raised (item_at ts n) (bad_index (int (pos 1)) s)))) (followed_other (bindings s) (comp array_name (tree t no_trees)) (no-variable array_name (tree t no_trees)))
-    ∙ ap (λ (u : Tree). found_or (integer_at u) (type_error (codes "integer") (int (pos 1)) s) (λ n. or_raised (item_at (t ∷ []) n) (bad_index (int (pos 1)) s))) (followed_other (bindings s) (int (pos 1)) (no-number (pos 1)))
-
 pub item-called : (set : Setting) (m : Level) (t u : Tree) (s : State) → function_called set m index_name (tree t (tree u no_trees)) s ≡ function_trace (answer_in s (indexed s t u))
 unfolding function_called function_given built_in_function done_by reading_functions integer_functions collection_functions sorting_functions index_functions range_functions naming_functions text_functions
 item-called set m t u s = refl
-
-pub first-item-called : (set : Setting) (m : Level) (t : Tree) (s : State) → function_called set m index_name (tree (comp array_name (tree t no_trees)) (tree (int (pos 1)) no_trees)) s ≡ one (record { value = t; state = s })
-first-item-called set m t s = item-called set m (comp array_name (tree t no_trees)) (int (pos 1)) s ∙ ap (λ a. function_trace (answer_in s a)) (item-found s t)
 
 -- ---- names that are functions
 

@@ -1,7 +1,7 @@
 -- Goals that are lowered, worked out.
 use Rattle.std.proofs.Common.{◌≡◌, [], ◌∷◌, refl}
 use Rattle.std.specs.Prelude.{pos, codes}
-use Rattle.pi_terms.specs.Tree.{Tree, no_trees, tree}
+use Rattle.pi_terms.specs.Tree.{Tree}
 use Rattle.pi_syntax.specs.ExpTree.{ExpTree, var, int, list, call, ExpTrees, no_exps, exp}
 use Rattle.pi_syntax.specs.Signature.{exp_count}
 use Rattle.pi_core.specs.GoalTree.{GoalTree, goals_of}
@@ -33,10 +33,10 @@ pub argument : (goal_of 0 (call (codes "p") (two n (call (codes "f") (exp n no_e
 unfolding goal_of is_flat is_below slot_term slot_of form_of exp_count
 argument = refl
 
--- `Y = find_all([X],p(X))`: the list is the first item of an array behind the goal, and then collected
+-- `Y = find_all([X],p(X))`: the list is put into a slot behind the goal, and then collected
 pub found : (goal_of 0 (call (codes "=") (two (var (codes "Y")) (call (codes "find_all") (two (list (exp x no_exps)) (call (codes "p") (exp x no_exps)))))) []).goals
     ≡ GoalTree.call (codes "=") (Tree.var 0 ∷ Tree.var 0 ∷ [])
-    ∷ GoalTree.collect (GoalTree.seq (goals_of (GoalTree.call (codes "p") (Tree.var 1 ∷ []) ∷ GoalTree.apply (codes "in") (Tree.comp (codes "{}") (tree (list_cell (Tree.var 1) (Tree.atom (codes "[]"))) no_trees) ∷ Tree.int (pos 1) ∷ []) 2 ∷ []))) 2 3
+    ∷ GoalTree.collect (GoalTree.seq (goals_of (GoalTree.call (codes "p") (Tree.var 1 ∷ []) ∷ GoalTree.apply (codes "once") (list_cell (Tree.var 1) (Tree.atom (codes "[]")) ∷ []) 2 ∷ []))) 2 3
     ∷ GoalTree.call (codes "=") (Tree.var 0 ∷ Tree.var 3 ∷ []) ∷ []
 unfolding goal_of is_flat is_below slot_term slot_of form_of exp_count items_onto goals_at value_at
 found = refl

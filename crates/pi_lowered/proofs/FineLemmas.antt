@@ -1,23 +1,22 @@
 -- Goals that are lowered name slots that are there, and call what is known.
 use Rattle.std.proofs.Common.{◌≡◌, inl, inr, ℕ, ◌≤◌, ◌<◌, List, [], ◌∷◌, ◌++◌, length, refl, sym, subst, arith, length-append}
-use Rattle.std.specs.Prelude.{Option, Some, None, ◌||◌, IsTrue, pos, ⊤}
+use Rattle.std.specs.Prelude.{Option, Some, None, ◌||◌, IsTrue, ⊤}
 use Rattle.pi_terms.specs.Tree.{Tree, Trees, no_trees, tree, trees_of, tree_count, comp}
 use Rattle.pi_terms.specs.ListNames.{cell_name}
 use Rattle.pi_terms.specs.Variables.{Occurs}
 use Rattle.pi_states.specs.State.{SpeaksBelow}
-use Rattle.pi_states.proofs.KeepsLemmas.{TreesBelow, comp-below, int-below}
-use Rattle.pi_print.specs.PrintTerm.{array_name}
-use Rattle.pi_effects.specs.Indexing.{index_name}
+use Rattle.pi_states.proofs.KeepsLemmas.{TreesBelow, comp-below}
+use Rattle.pi_effects.specs.Inner.{itself_name}
 use Rattle.pi_core.specs.GoalTree.{GoalTree, truth, fail, tick, call, apply, seq, alternatives, if_else, not, once, collect, count, catch, GoalTrees, no_goals, goal, goals_of}
 use Rattle.pi_meaning.specs.Names.{is_given_predicate, is_given_function}
 use Rattle.pi_names.specs.Terms.{items_onto}
 use Rattle.pi_lowered.specs.Slots.{SlotNames, unnamed, slot_for, with_value}
-use Rattle.pi_lowered.specs.Values.{SlotValue, SlotValues, Slotted, no_values, before_values, value_of_parts, value_onto, applied, first_item, slotted}
+use Rattle.pi_lowered.specs.Values.{SlotValue, SlotValues, Slotted, no_values, before_values, value_of_parts, value_onto, applied, slotted}
 use Rattle.pi_lowered.specs.Goals.{SlotGoals, SlotBranches, SlotArrow, in_turn, either_of, just, never, goal_by, catching, joined, choosing, as_goals, branch_before, called, assigned, found_by, all_counted}
 use Rattle.pi_lowered.specs.Forms.{Knows}
 use Rattle.pi_lowered.proofs.AgreeLemmas.{by, Grows, grows-none, grows-then, grows-length, grows-for}
 use Rattle.pi_lowered.proofs.TermLemmas.{name-room}
-use Rattle.pi_lowered.proofs.BuiltInLemmas.{item-known}
+use Rattle.pi_lowered.proofs.InnerLemmas.{itself-known}
 
 -- ---- goals
 
@@ -258,11 +257,10 @@ fine-onto known vs v are is = record {
 
 -- ---- a value that goes into a slot
 
-item-fine : (known : Knows) (n : ℕ) (goals : List GoalTree) (t : Tree) (k : ℕ) → AllFine n known goals → SpeaksBelow n t → k < n → AllFine n known (goals ++ apply index_name (first_item t) k ∷ [])
+item-fine : (known : Knows) (n : ℕ) (goals : List GoalTree) (t : Tree) (k : ℕ) → AllFine n known goals → SpeaksBelow n t → k < n → AllFine n known (goals ++ apply itself_name (t ∷ []) k ∷ [])
 unfolding Fine tree_count
 item-fine known n goals t k are below less =
-    fine-append n known goals _ are (fine-one n known (apply index_name (first_item t) k)
-    (front-below n _ _ (comp-below n array_name _ (front-below n t no_trees below (none-below n))) (front-below n (Tree.int (pos 1)) no_trees (int-below n (pos 1)) (none-below n)), less, item-known (known.function index_name 2)))
+    fine-append n known goals _ are (fine-one n known (apply itself_name (t ∷ []) k) (front-below n t no_trees below (none-below n), less, itself-known (known.function itself_name 1)))
 
 pub fine-assigned : (known : Knows) (variable : Option (List ℕ)) (v : SlotNames → SlotValue) → FineValue known v → FineGoals known (λ ns. assigned variable (v ns))
 unfolding Fine

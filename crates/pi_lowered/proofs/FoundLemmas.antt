@@ -8,8 +8,7 @@ use Rattle.pi_terms.specs.ListCopies.{new_in_all, list_of_copies}
 use Rattle.pi_states.specs.Value.{value}
 use Rattle.pi_states.specs.State.{State, bindings, next}
 use Rattle.pi_states.specs.Evaluation.{Evaluated, with_new_variables}
-use Rattle.pi_print.specs.PrintTerm.{array_name}
-use Rattle.pi_effects.specs.Indexing.{index_name}
+use Rattle.pi_effects.specs.Inner.{itself_name}
 use Rattle.pi_core.specs.GoalTree.{GoalTree}
 use Rattle.pi_traces.specs.Trace.{Trace, one, then}
 use Rattle.pi_traces.proofs.TraceLemmas.{then-one}
@@ -22,40 +21,33 @@ use Rattle.pi_meaning.specs.Environment.{Environment, Valued}
 use Rattle.pi_meaning.specs.Place.{Place}
 use Rattle.pi_names.specs.Control.{Goal, Value, all_found, all_counted, strictly as names_strictly}
 use Rattle.pi_lowered.specs.Slots.{SlotNames, unnamed, with_value}
-use Rattle.pi_lowered.specs.Values.{SlotValue, first_item, slotted}
+use Rattle.pi_lowered.specs.Values.{SlotValue, slotted}
 use Rattle.pi_lowered.specs.Goals.{SlotGoals, in_turn, found_by, all_counted as slots_counted}
 use Rattle.pi_lowered.specs.Forms.{Knows}
 use Rattle.pi_lowered.proofs.SameLemmas.{SameBy, same-equals, same-one, same-map, same-then, same-collected, same-counted}
-use Rattle.pi_lowered.proofs.FilledLemmas.{in_slot, is_int, Extends, extends-nothing, extends-then, set-keeps}
+use Rattle.pi_lowered.proofs.FilledLemmas.{in_slot, Extends, extends-nothing, extends-then, set-keeps}
 use Rattle.pi_lowered.proofs.AgreeLemmas.{Room, by, Grows, grows-none, grows-then, grows-length, Agrees, agrees-more, agrees-value}
-use Rattle.pi_lowered.proofs.TermLemmas.{Comes, ComesAll, filled-comes-to, nothing-comes, front-comes, structure-comes}
+use Rattle.pi_lowered.proofs.TermLemmas.{Comes, ComesAll, nothing-comes, front-comes}
 use Rattle.pi_lowered.proofs.RunLemmas.{Alike, point, place, AtPlace, at_place, AtValue, at_value, at_values, AtFilled, at_filled, runs, SameGoals, SameLast, SameFilled, filled-value, then-of-one, runs-append, not-drained, names-not-drained, turn-runs, same-strictly}
 use Rattle.pi_lowered.proofs.ControlLemmas.{Drains, just-same}
 use Rattle.pi_lowered.proofs.ValueLemmas.{applied-answer}
-use Rattle.pi_lowered.proofs.BuiltInLemmas.{first-item-called, item-known}
+use Rattle.pi_lowered.proofs.InnerLemmas.{itself-called, itself-known}
 
 -- ---- a value that stands in a slot
 
--- an array of it, and the number of its item
+-- it as the only argument
 pub item-comes : (n : Room) (h : ℕ) (ms : SlotNames) (t : Tree) (slots : Places) (s : State) (x : Valued) → Comes n h ms t slots s x →
-    ComesAll n h ms (trees_of (first_item t)) slots s (record { trees = tree (Tree.comp array_name (tree x.tree no_trees)) (tree (Tree.int (pos 1)) no_trees); names = x.names; state = x.state })
-item-comes n h ms t slots s x c =
-    let inside : ComesAll n h ms (tree t no_trees) slots s (record { trees = tree x.tree no_trees; names = x.names; state = x.state }) =
-    front-comes n h ms ms t no_trees slots s x _ c (nothing-comes n h ms x.names c.after x.state c.agrees) in
-    let array : Comes n h ms (Tree.comp array_name (tree t no_trees)) slots s (record { tree = Tree.comp array_name (tree x.tree no_trees); names = x.names; state = x.state }) =
-    structure-comes n h ms array_name (tree t no_trees) slots s _ inside in
-    let number : Comes n h ms (Tree.int (pos 1)) array.after x.state (record { tree = Tree.int (pos 1); names = x.names; state = x.state }) =
-    filled-comes-to n h ms x.names array.after x.state array.agrees (Tree.int (pos 1)) (Tree.int (pos 1)) (is_int (pos 1)) in
-    front-comes n h ms ms _ _ slots s _ _ array (front-comes n h ms ms _ _ array.after x.state _ _ number (nothing-comes n h ms x.names number.after x.state number.agrees))
+    ComesAll n h ms (trees_of (t ∷ [])) slots s (record { trees = tree x.tree no_trees; names = x.names; state = x.state })
+item-comes n h ms t slots s x c = front-comes n h ms ms t no_trees slots s x _ c (nothing-comes n h ms x.names c.after x.state c.agrees)
 
--- its first item
+-- it as it stands
 item-answer : (known : Knows) (set : Setting) (b : Builtins) (l m : Level) (n : Room) (h : ℕ) (ms : SlotNames) (t : Tree) (start : Places) → Alike known set b l m → length (with_value ms) ≤ n.slots →
-    (q : Point) (x : Valued) → AtValue l n h ms t start q x → SameBy (AtFilled l n h (with_value ms) (Tree.var (length ms)) start) (runs b (GoalTree.apply index_name (first_item t) (length ms) ∷ []) q) (one x)
+    (q : Point) (x : Valued) → AtValue l n h ms t start q x → SameBy (AtFilled l n h (with_value ms) (Tree.var (length ms)) start) (runs b (GoalTree.apply itself_name (t ∷ []) (length ms) ∷ []) q) (one x)
 unfolding tree_count
 item-answer known set b l m n h ms t start alike room _ _ (at_value slots s x c extends) =
-    subst (λ (w : Trace Valued). SameBy (AtFilled l n h (with_value ms) (Tree.var (length ms)) start) (runs b (GoalTree.apply index_name (first_item t) (length ms) ∷ []) (point l slots s)) w)
-    (ap (λ (w : Trace Applied). then w (λ a. one (record { tree = a.value; names = x.names; state = a.state }))) (first-item-called set m x.tree x.state) ∙ then-of-one (record { value = x.tree; state = x.state }) _)
-    (applied-answer known set b l m n h ms index_name (first_item t) start alike room (item-known (known.function index_name 2)) (point l slots s) _ (at_values slots s _ (item-comes n h ms t slots s x c) extends))
+    subst (λ (w : Trace Valued). SameBy (AtFilled l n h (with_value ms) (Tree.var (length ms)) start) (runs b (GoalTree.apply itself_name (t ∷ []) (length ms) ∷ []) (point l slots s)) w)
+    (ap (λ (w : Trace Applied). then w (λ a. one (record { tree = a.value; names = x.names; state = a.state }))) (itself-called set m x.tree x.state) ∙ then-of-one (record { value = x.tree; state = x.state }) _)
+    (applied-answer known set b l m n h ms itself_name (t ∷ []) start alike room (itself-known (known.function itself_name 1)) (point l slots s) _ (at_values slots s _ (item-comes n h ms t slots s x c) extends))
 
 -- goals with a slot in which their value stands
 abbrev pub slot_value_of : SlotValue → SlotValue
@@ -69,11 +61,11 @@ slotted-grows goals (Tree.atom name) ms = by (unnamed ∷ [])
 slotted-grows goals (Tree.comp name ts) ms = by (unnamed ∷ [])
 
 item-same : (known : Knows) (set : Setting) (b : Builtins) (l m : Level) (n : Room) (h : ℕ) (ms : SlotNames) (t : Tree) (start : Places) → Alike known set b l m → length (with_value ms) ≤ n.slots → (goals : List GoalTree) (p : Point) (u : Trace Valued) →
-    SameBy (AtValue l n h ms t start) (runs b goals p) u → SameBy (AtValue l n h (with_value ms) (Tree.var (length ms)) start) (runs b (goals ++ GoalTree.apply index_name (first_item t) (length ms) ∷ []) p) u
+    SameBy (AtValue l n h ms t start) (runs b goals p) u → SameBy (AtValue l n h (with_value ms) (Tree.var (length ms)) start) (runs b (goals ++ GoalTree.apply itself_name (t ∷ []) (length ms) ∷ []) p) u
 item-same known set b l m n h ms t start alike room goals p u is =
     subst (λ (w : Trace Point). SameBy (AtValue l n h (with_value ms) (Tree.var (length ms)) start) w u) (sym (runs-append b goals _ p))
-    (subst (λ (w : Trace Valued). SameBy (AtValue l n h (with_value ms) (Tree.var (length ms)) start) (then (runs b goals p) (runs b (GoalTree.apply index_name (first_item t) (length ms) ∷ []))) w) (then-one u)
-    (same-then (AtValue l n h ms t start) (AtValue l n h (with_value ms) (Tree.var (length ms)) start) _ _ (runs b (GoalTree.apply index_name (first_item t) (length ms) ∷ [])) (λ x. one x) is
+    (subst (λ (w : Trace Valued). SameBy (AtValue l n h (with_value ms) (Tree.var (length ms)) start) (then (runs b goals p) (runs b (GoalTree.apply itself_name (t ∷ []) (length ms) ∷ []))) w) (then-one u)
+    (same-then (AtValue l n h ms t start) (AtValue l n h (with_value ms) (Tree.var (length ms)) start) _ _ (runs b (GoalTree.apply itself_name (t ∷ []) (length ms) ∷ [])) (λ x. one x) is
     (λ q x at. same-map (AtFilled l n h (with_value ms) (Tree.var (length ms)) start) (AtValue l n h (with_value ms) (Tree.var (length ms)) start) (filled-value l n h (with_value ms) (Tree.var (length ms)) start) _ _
     (item-answer known set b l m n h ms t start alike room q x at))))
 

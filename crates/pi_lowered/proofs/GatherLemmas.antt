@@ -1,69 +1,32 @@
 -- One item more: the turn of a comprehension does over slots what it does over names.
-use Rattle.std.proofs.Common.{◌≡◌, ℕ, ◌≤◌, List, [], ◌∷◌, length, sym, ◌∙◌, ap, subst, arith}
-use Rattle.std.specs.Prelude.{Some, slice_set}
-use Rattle.pi_terms.specs.Tree.{Tree, comp, no_trees, tree, tree_count}
+use Rattle.std.proofs.Common.{◌≡◌, ℕ, ◌≤◌, length, sym, ◌∙◌, ap, subst, arith}
+use Rattle.pi_terms.specs.Tree.{Tree, comp, no_trees, tree}
 use Rattle.pi_terms.specs.ListNames.{cell_name}
 use Rattle.pi_terms.specs.ListCopies.{list_cell}
 use Rattle.pi_terms.specs.Places.{Places}
 use Rattle.pi_states.specs.State.{State}
 use Rattle.pi_states.specs.Evaluation.{Evaluated, EvaluatedAll, evaluated, evaluated_all}
-use Rattle.pi_effects.specs.Inner.{itself_name}
-use Rattle.pi_core.specs.GoalTree.{GoalTree}
 use Rattle.pi_traces.specs.Trace.{Trace, one, then}
 use Rattle.pi_traces.proofs.TraceLemmas.{then-one, then-assoc}
-use Rattle.pi_meaning.specs.Level.{Level, Applied, Point}
+use Rattle.pi_meaning.specs.Level.{Level, Point}
 use Rattle.pi_meaning.specs.Builtins.{Builtins}
 use Rattle.pi_meaning.specs.Given.{Setting}
 use Rattle.pi_meaning.specs.Environment.{known, Valued, ValuedAll, name_valued}
 use Rattle.pi_meaning.specs.Place.{Place}
-use Rattle.pi_names.specs.Assigning.{with_value, place_of}
+use Rattle.pi_names.specs.Assigning.{place_of}
 use Rattle.pi_names.specs.Terms.{items_onto}
-use Rattle.pi_names.specs.Control.{Value, behind_all, nothing, in_front, made_onto, assigning, with_assigned}
+use Rattle.pi_names.specs.Control.{Value, behind_all, nothing, in_front, made_onto}
 use Rattle.pi_names.specs.Loops.{hidden, so_far, adding}
 use Rattle.pi_lowered.specs.Slots.{SlotNames, slot_for, slots_for}
 use Rattle.pi_lowered.specs.Values.{SlotValue}
 use Rattle.pi_lowered.specs.Forms.{Knows}
 use Rattle.pi_lowered.specs.Comprehensions as slots
-use Rattle.pi_lowered.specs.Comprehensions.{put}
 use Rattle.pi_lowered.proofs.SameLemmas.{SameBy, same-one, same-then}
 use Rattle.pi_lowered.proofs.FilledLemmas.{is_comp, one_filled, none_filled, filled-more, extends-then, in_front_of, term_at}
-use Rattle.pi_lowered.proofs.AgreeLemmas.{Room, grows-then, grows-length, grows-for, agrees-assigned}
+use Rattle.pi_lowered.proofs.AgreeLemmas.{Room, grows-then, grows-length, grows-for}
 use Rattle.pi_lowered.proofs.TermLemmas.{Comes, name-comes}
-use Rattle.pi_lowered.proofs.RunLemmas.{Alike, point, place, AtPlace, at_place, AtValue, at_value, runs, SameGoals, SameLast, then-of-one, runs-append, runs-one}
-use Rattle.pi_lowered.proofs.InnerLemmas.{itself-called, itself-known}
-use Rattle.pi_lowered.proofs.IteratorLemmas.{applied-comes, one-comes}
-
--- ---- a value goes into the slot of a name
-
-put-answer : (known : Knows) (set : Setting) (b : Builtins) (l m : Level) (n : Room) (h : ℕ) (ms : SlotNames) (t : Tree) (start : Places) (name : List ℕ) → Alike known set b l m → length (slots_for name ms) ≤ n.slots →
-    (q : Point) (x : Valued) → AtValue l n h ms t start q x → SameBy (AtPlace l n h (slots_for name ms)) (runs b (GoalTree.apply itself_name (t ∷ []) (slot_for name ms) ∷ []) q) (with_assigned (Some name) x)
-unfolding tree_count
-put-answer known set b l m n h ms t start name alike room _ _ (at_value slots s x c extends) =
-    subst (λ (w : Trace Point). SameBy R w (with_assigned (Some name) x)) (sym core) (same-one R _ _ (at_place (with_value x.names name x.tree) (slice_set c.after k (Some x.tree)) x.state (agrees-assigned n h ms x.names c.after name x.tree c.agrees room)))
-  where
-    R : Point → Place → Type 0
-    R = AtPlace l n h (slots_for name ms)
-
-    k : ℕ
-    k = slot_for name ms
-
-    core : runs b (GoalTree.apply itself_name (t ∷ []) (slot_for name ms) ∷ []) (point l slots s) ≡ one (point l (slice_set c.after (slot_for name ms) (Some x.tree)) x.state)
-    core =
-        runs-one b (GoalTree.apply itself_name (t ∷ []) k) (point l slots s)
-        ∙ applied-comes b l alike.core_drains itself_name (t ∷ []) (x.tree ∷ []) k slots c.after s x.state (one (record { value = x.tree; state = x.state })) (one-comes t x.tree slots c.after s x.state c.comes)
-        (alike.functions itself_name (tree x.tree no_trees) x.state (itself-known (known.function itself_name 1)) ∙ itself-called set m x.tree x.state)
-        ∙ then-of-one {A = Applied} (record { value = x.tree; state = x.state }) (λ a. one (point l (slice_set c.after k (Some a.value)) a.state))
-
-pub put-goals : (known : Knows) (set : Setting) (b : Builtins) (l m : Level) (h : ℕ) (name : List ℕ) (v : Value) (lv : SlotNames → SlotValue) → Alike known set b l m → SameLast b l m h v lv → SameGoals b l m h (assigning (Some name) v) (λ ns. put name (lv ns))
-put-goals known set b l m h name v lv alike is = record {
-  grows = λ ns. grows-then ns _ _ (is.grows ns) (grows-for name (lv ns).names);
-  same = λ n ns e slots s a room.
-      let ms : SlotNames = (lv ns).names in
-      let goals : List GoalTree = GoalTree.apply itself_name ((lv ns).tree ∷ []) (slot_for name ms) ∷ [] in
-      subst (λ (t : Trace Point). SameBy (AtPlace l n h (slots_for name ms)) t (assigning (Some name) v m (place e s))) (sym (runs-append b (lv ns).goals goals (point l slots s)))
-      (same-then (AtValue l n h ms (lv ns).tree slots) (AtPlace l n h (slots_for name ms)) _ _ (runs b goals) (with_assigned (Some name)) (is.same n ns e slots s a (omega (arith, room, grows-length ms _ (grows-for name ms))))
-      (put-answer known set b l m n h ms (lv ns).tree slots name alike room));
-}
+use Rattle.pi_lowered.proofs.RunLemmas.{Alike, point, place, AtValue, at_value, runs, SameGoals, SameLast, then-of-one}
+use Rattle.pi_lowered.proofs.AssignLemmas.{put-goals}
 
 -- ---- an item in front of those so far
 

@@ -1,5 +1,5 @@
 -- Comprehensions, of the loops that they are: a slot that no text names has the items so far, the last one first, and at last all in order. (Own.)
-use Rattle.std.specs.Prelude.{ℕ, not, List, [], ◌∷◌, ◌++◌, length}
+use Rattle.std.specs.Prelude.{ℕ, not, [], ◌∷◌, ◌++◌, length}
 use Rattle.std.specs.Str.{bytes_eq}
 use Rattle.pi_terms.specs.Tree.{Tree}
 use Rattle.pi_terms.specs.ListNames.{nil}
@@ -10,13 +10,9 @@ use Rattle.pi_names.specs.Texts.{Names}
 use Rattle.pi_names.specs.Loops.{hidden}
 use Rattle.pi_lowered.specs.Slots.{SlotNames, slot_for, slots_for}
 use Rattle.pi_lowered.specs.Values.{SlotValue}
-use Rattle.pi_lowered.specs.Goals.{SlotGoals}
+use Rattle.pi_lowered.specs.Goals.{SlotGoals, put}
 use Rattle.pi_lowered.specs.Loops.{started}
 use Rattle.pi_lowered.specs.Iterators.{found_by, behind_collection}
-
--- a value goes into the slot of a name
-abbrev pub put : List ℕ → SlotValue → SlotGoals
-put name v = record { goals = v.goals ++ GoalTree.apply itself_name (v.tree ∷ []) (slot_for name v.names) ∷ []; names = slots_for name v.names }
 
 -- one item more: `X := [E|X]`, with that slot for X
 abbrev pub adding : SlotValue → SlotGoals

@@ -6,6 +6,7 @@ use Rattle.pi_terms.specs.Tree.{Tree, comp}
 use Rattle.pi_terms.specs.ListNames.{nil}
 use Rattle.pi_print.specs.PrintTerm.{array_name}
 use Rattle.pi_effects.specs.Indexing.{index_name}
+use Rattle.pi_effects.specs.Inner.{itself_name}
 use Rattle.pi_syntax.specs.ExpTree.{ExpTree, var, int, atom, str, list, list_onto, array, call, quote, index, range, range_by, at, collect, and, or, arrow, if_then, if_else, foreach, while_do, do_while, ExpTrees, no_exps, exp, ExpBranches, no_branches, branch}
 use Rattle.pi_syntax.specs.Signature.{exp_count}
 use Rattle.pi_core.specs.GoalTree.{GoalTree, goals_of}
@@ -13,7 +14,7 @@ use Rattle.pi_names.specs.Terms.{items_onto}
 use Rattle.pi_names.specs.Forms.{Form, negation, once, assignment, catch, by_term, membership, form_of, is_find_all, is_count_all}
 use Rattle.pi_names.specs.Texts.{variable_first}
 use Rattle.pi_lowered.specs.Slots.{SlotNames, slot_for, slots_for, with_value}
-use Rattle.pi_lowered.specs.Values.{is_flat, are_flat, SlotValue, SlotValues, last_value, value_before, value_by, no_values, before_values, value_of_parts, value_onto, applied, first_item, Slotted, slotted}
+use Rattle.pi_lowered.specs.Values.{is_flat, are_flat, SlotValue, SlotValues, last_value, value_before, value_by, no_values, before_values, value_of_parts, value_onto, applied, Slotted, slotted}
 
 -- ---- goals
 
@@ -83,11 +84,14 @@ catching g handler ball =
       names = (handler (g ball.names).names).names;
     }
 
+-- a value goes into the slot of a name, as it stands
+abbrev pub put : List ℕ → SlotValue → SlotGoals
+put name v = record { goals = v.goals ++ GoalTree.apply itself_name (v.tree ∷ []) (slot_for name v.names) ∷ []; names = slots_for name v.names }
+
 -- `X := E`: the slot of X has another value from here on. So it has one slot behind branches of which only some assign it, and one that no branch has come to stays empty.
 abbrev pub assigned : Option (List ℕ) → SlotValue → SlotGoals
 assigned None v = record { goals = v.goals ++ GoalTree.fail ∷ []; names = v.names }
-assigned (Some name) v =
-    record { goals = v.goals ++ GoalTree.apply index_name (first_item v.tree) (slot_for name v.names) ∷ []; names = slots_for name v.names }
+assigned (Some name) v = put name v
 
 abbrev pub call_goals : List ℕ → Option Form → SlotParts → SlotNames → SlotGoals
 call_goals name None parts ns = called name (parts.all ns)

@@ -1,11 +1,11 @@
 -- Terms and patterns over slots, and what goals make of values before they are used. (Own; the order of evaluation is that of `pi_names`.)
-use Rattle.std.specs.Prelude.{ℕ, nat_lt, Bool, true, false, ◌&&◌, cond, List, [], ◌∷◌, ◌++◌, length, pos, codes}
+use Rattle.std.specs.Prelude.{ℕ, nat_lt, Bool, true, false, ◌&&◌, cond, List, [], ◌∷◌, ◌++◌, length, codes}
 use Rattle.pi_terms.specs.Tree.{Tree, Trees, no_trees, tree, trees_of}
 use Rattle.pi_terms.specs.ListNames.{nil, cell_name}
 use Rattle.pi_terms.specs.PatternTree.{PatternTree, slot, exact_int, exact_atom, compound, named, PatternTrees, no_patterns, pattern}
 use Rattle.pi_print.specs.PrintTerm.{array_name}
 use Rattle.pi_effects.specs.Texts.{text_list}
-use Rattle.pi_effects.specs.Indexing.{index_name}
+use Rattle.pi_effects.specs.Inner.{itself_name}
 use Rattle.pi_syntax.specs.ExpTree.{ExpTree, var, int, atom, str, list, list_onto, array, call, quote, index, range, range_by, at, collect, and, or, arrow, if_then, if_else, foreach, while_do, do_while, ExpTrees, no_exps, exp}
 use Rattle.pi_core.specs.GoalTree.{GoalTree}
 use Rattle.pi_names.specs.Terms.{items_onto}
@@ -159,18 +159,15 @@ value_onto vs v = record { goals = vs.goals ++ v.goals; tree = items_onto (trees
 abbrev pub applied : List ℕ → SlotValues → SlotValue
 applied name vs = record { goals = vs.goals ++ GoalTree.apply name vs.trees (length vs.names) ∷ []; tree = Tree.var (length vs.names); names = with_value vs.names }
 
--- a value that stands in a slot: one that is none is the first item of an array
+-- a value that stands in a slot: one that is none is put into one, as it stands
 pub record Slotted : Type 0 where
   pub goals : List GoalTree
   pub place : ℕ
   pub names : SlotNames
 
-abbrev pub first_item : Tree → List Tree
-first_item t = Tree.comp array_name (tree t no_trees) ∷ Tree.int (pos 1) ∷ []
-
 abbrev pub slotted : List GoalTree → Tree → SlotNames → Slotted
 slotted goals (Tree.var k) ns = record { goals = goals; place = k; names = ns }
-slotted goals t ns = record { goals = goals ++ GoalTree.apply index_name (first_item t) (length ns) ∷ []; place = length ns; names = with_value ns }
+slotted goals t ns = record { goals = goals ++ GoalTree.apply itself_name (t ∷ []) (length ns) ∷ []; place = length ns; names = with_value ns }
 
 -- ---- patterns
 

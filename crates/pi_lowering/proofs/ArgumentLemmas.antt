@@ -1,10 +1,10 @@
 -- What stands behind `in` where there are fewer than two arguments, or no call.
-use Rattle.std.proofs.Common.{◌≡◌, ℕ, ◌<◌, ◌≤◌, List, [], ◌∷◌, ◌++◌, length, get_or, drop, None, Some, false, arith, refl, sym, ap, subst}
+use Rattle.std.proofs.Common.{◌≡◌, ℕ, ◌<◌, ◌≤◌, List, [], ◌∷◌, ◌++◌, length, get_or, drop, Bool, None, Some, true, false, arith, refl, sym, ap, subst}
 use Rattle.std.specs.Prelude.{Vec}
 use Rattle.std.specs.declared.alloc.Global.{Global}
 use Rattle.pi_terms.specs.Tree.{Tree}
 use Rattle.pi_core.specs.GoalTree.{GoalTree}
-use Rattle.pi_syntax.specs.ExpTree.{ExpTree, var, int, atom, str, list, list_onto, array, call, quote, index, range, range_by, at, collect, and, or, arrow, if_then, if_else, foreach, while_do, do_while, ExpTrees, exp, exp_tree, held_tree}
+use Rattle.pi_syntax.specs.ExpTree.{ExpTree, var, int, atom, str, list, list_onto, array, call, quote, index, range, range_by, at, collect, and, or, arrow, if_then, if_else, foreach, while_do, do_while, exp, exp_tree, held_tree}
 use Rattle.pi_syntax.specs.ExpLists.{exps_of}
 use Rattle.pi_syntax.specs.declared.exp.Exp as code
 use Rattle.pi_syntax.specs.declared.exp.Exp.{Exp}
@@ -15,63 +15,42 @@ use Rattle.pi_lowered.specs.Goals.{no_value, value_at}
 use Rattle.pi_lowered.specs.Sites.{Site}
 use Rattle.pi_lowered.specs.Written.{made, is_range, collection_of}
 use Rattle.pi_lowered.specs.Helpers.{value_helpers, helpers_at, collection_helpers}
-use Rattle.pi_units.specs.Arguments.{args_of}
 use Rattle.pi_units.specs.Planned.{IsCollectionOver}
 use Rattle.pi_lowering.proofs.ValueLemmas.{put-none}
 
--- a call by its arguments
-pub call-by : (e : ExpTree) (es : ExpTrees) → args_of e ≡ Some es → (name : List ℕ) × (e ≡ call name es)
-call-by (call name fs) es is = let same : fs ≡ es = cc in (name, ap (call name) same)
-call-by (var n) es is = absurd (cc)
-call-by (int n) es is = absurd (cc)
-call-by (atom n) es is = absurd (cc)
-call-by (str text) es is = absurd (cc)
-call-by (list fs) es is = absurd (cc)
-call-by (list_onto fs f) es is = absurd (cc)
-call-by (array fs) es is = absurd (cc)
-call-by (quote f) es is = absurd (cc)
-call-by (index f fs) es is = absurd (cc)
-call-by (range f g) es is = absurd (cc)
-call-by (range_by f g k) es is = absurd (cc)
-call-by (at n f) es is = absurd (cc)
-call-by (collect b f fs) es is = absurd (cc)
-call-by (and fs) es is = absurd (cc)
-call-by (or fs) es is = absurd (cc)
-call-by (arrow f g) es is = absurd (cc)
-call-by (if_then bs) es is = absurd (cc)
-call-by (if_else bs f) es is = absurd (cc)
-call-by (foreach fs f) es is = absurd (cc)
-call-by (while_do f g) es is = absurd (cc)
-call-by (do_while f g) es is = absurd (cc)
+-- whether it is a call
+abbrev calls : ExpTree → Bool
+calls (call name es) = true
+calls e = false
 
 -- what is no call
 abbrev IsNoCall : Exp → Type 0
-IsNoCall x = ((name : List ℕ) (es : Vec Exp Global) → x ≡ code.Call name es → ⊥) → args_of (exp_tree x) ≡ None
+IsNoCall x = ((name : List ℕ) (es : Vec Exp Global) → x ≡ code.Call name es → ⊥) → calls (exp_tree x) ≡ false
 
 by-layer : (l : layer.Exp-F Exp) → IsNoCall (roll-Exp l)
 unfolding exp_tree held_tree
-by-layer (layer.Var n) none = ap (λ x. args_of (exp_tree x)) (rolls-Var n)
-by-layer (layer.Int n) none = ap (λ x. args_of (exp_tree x)) (rolls-Int n)
-by-layer (layer.Atom n) none = ap (λ x. args_of (exp_tree x)) (rolls-Atom n)
-by-layer (layer.Str text) none = ap (λ x. args_of (exp_tree x)) (rolls-Str text)
-by-layer (layer.List es None) none = ap (λ x. args_of (exp_tree x)) (rolls-List es None)
-by-layer (layer.List es (Some b)) none = ap (λ x. args_of (exp_tree x)) (rolls-List es (Some b))
-by-layer (layer.Array es) none = ap (λ x. args_of (exp_tree x)) (rolls-Array es)
+by-layer (layer.Var n) none = ap (λ x. calls (exp_tree x)) (rolls-Var n)
+by-layer (layer.Int n) none = ap (λ x. calls (exp_tree x)) (rolls-Int n)
+by-layer (layer.Atom n) none = ap (λ x. calls (exp_tree x)) (rolls-Atom n)
+by-layer (layer.Str text) none = ap (λ x. calls (exp_tree x)) (rolls-Str text)
+by-layer (layer.List es None) none = ap (λ x. calls (exp_tree x)) (rolls-List es None)
+by-layer (layer.List es (Some b)) none = ap (λ x. calls (exp_tree x)) (rolls-List es (Some b))
+by-layer (layer.Array es) none = ap (λ x. calls (exp_tree x)) (rolls-Array es)
 by-layer (layer.Call n es) none = absurd (none n es (rolls-Call n es))
-by-layer (layer.Quote b) none = ap (λ x. args_of (exp_tree x)) (rolls-Quote b)
-by-layer (layer.Index b es) none = ap (λ x. args_of (exp_tree x)) (rolls-Index b es)
-by-layer (layer.Range b None d) none = ap (λ x. args_of (exp_tree x)) (rolls-Range b None d)
-by-layer (layer.Range b (Some c) d) none = ap (λ x. args_of (exp_tree x)) (rolls-Range b (Some c) d)
-by-layer (layer.At n b) none = ap (λ x. args_of (exp_tree x)) (rolls-At n b)
-by-layer (layer.Collect is_array b es) none = ap (λ x. args_of (exp_tree x)) (rolls-Collect is_array b es)
-by-layer (layer.And es) none = ap (λ x. args_of (exp_tree x)) (rolls-And es)
-by-layer (layer.Or es) none = ap (λ x. args_of (exp_tree x)) (rolls-Or es)
-by-layer (layer.Arrow b d) none = ap (λ x. args_of (exp_tree x)) (rolls-Arrow b d)
-by-layer (layer.If bs None) none = ap (λ x. args_of (exp_tree x)) (rolls-If bs None)
-by-layer (layer.If bs (Some b)) none = ap (λ x. args_of (exp_tree x)) (rolls-If bs (Some b))
-by-layer (layer.Foreach es b) none = ap (λ x. args_of (exp_tree x)) (rolls-Foreach es b)
-by-layer (layer.While b d) none = ap (λ x. args_of (exp_tree x)) (rolls-While b d)
-by-layer (layer.DoWhile b d) none = ap (λ x. args_of (exp_tree x)) (rolls-DoWhile b d)
+by-layer (layer.Quote b) none = ap (λ x. calls (exp_tree x)) (rolls-Quote b)
+by-layer (layer.Index b es) none = ap (λ x. calls (exp_tree x)) (rolls-Index b es)
+by-layer (layer.Range b None d) none = ap (λ x. calls (exp_tree x)) (rolls-Range b None d)
+by-layer (layer.Range b (Some c) d) none = ap (λ x. calls (exp_tree x)) (rolls-Range b (Some c) d)
+by-layer (layer.At n b) none = ap (λ x. calls (exp_tree x)) (rolls-At n b)
+by-layer (layer.Collect is_array b es) none = ap (λ x. calls (exp_tree x)) (rolls-Collect is_array b es)
+by-layer (layer.And es) none = ap (λ x. calls (exp_tree x)) (rolls-And es)
+by-layer (layer.Or es) none = ap (λ x. calls (exp_tree x)) (rolls-Or es)
+by-layer (layer.Arrow b d) none = ap (λ x. calls (exp_tree x)) (rolls-Arrow b d)
+by-layer (layer.If bs None) none = ap (λ x. calls (exp_tree x)) (rolls-If bs None)
+by-layer (layer.If bs (Some b)) none = ap (λ x. calls (exp_tree x)) (rolls-If bs (Some b))
+by-layer (layer.Foreach es b) none = ap (λ x. calls (exp_tree x)) (rolls-Foreach es b)
+by-layer (layer.While b d) none = ap (λ x. calls (exp_tree x)) (rolls-While b d)
+by-layer (layer.DoWhile b d) none = ap (λ x. calls (exp_tree x)) (rolls-DoWhile b d)
 
 pub not-call : (x : Exp) → IsNoCall x
 not-call x = subst IsNoCall (roll-out-Exp x) (by-layer (out-Exp x))
@@ -85,7 +64,7 @@ pub record GoesOverNone (s : Site) (e : ExpTree) (ns : SlotNames) : Type 0 where
 pub none-found : (s : Site) (e : ExpTree) (ns ms : SlotNames) (old new : List GoalTree) (t : Tree) → GoesOverNone s e ns → new ≡ old ++ GoalTree.fail ∷ [] → t ≡ Tree.atom [] → ms ≡ ns → IsCollectionOver t s e ns old new ms
 none-found s e ns ms old new t over put shape same = record { ranges = over.ranges; value = put-none (collection_of s e ns) ns old new t ms over.value put shape same }
 
-pub no-call : (s : Site) (e : ExpTree) (ns : SlotNames) → args_of e ≡ None → GoesOverNone s e ns
+pub no-call : (s : Site) (e : ExpTree) (ns : SlotNames) → calls e ≡ false → GoesOverNone s e ns
 unfolding made value_helpers
 no-call s (call name fs) ns is = absurd (cc)
 no-call s (var n) ns is = record { ranges = refl; value = refl; helpers = refl }

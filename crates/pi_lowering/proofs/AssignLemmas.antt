@@ -2,14 +2,14 @@
 use Rattle.std.proofs.Common.{◌≡◌, ℕ, true, List, [], ◌∷◌, ◌++◌, refl, sym, ◌∙◌, ap, append_assoc, get_or}
 use Rattle.std.specs.Prelude.{Option, Some, None}
 use Rattle.pi_terms.specs.Tree.{Tree}
-use Rattle.pi_effects.specs.Indexing.{index_name}
+use Rattle.pi_effects.specs.Inner.{itself_name}
 use Rattle.pi_core.specs.GoalTree.{GoalTree}
 use Rattle.pi_syntax.specs.ExpTree.{ExpTree, var, int, atom, str, list, list_onto, array, call, quote, index, range, range_by, at, collect, and, or, arrow, if_then, if_else, foreach, while_do, do_while, ExpTrees, no_exps, exp, exp_tree}
 use Rattle.pi_syntax.specs.ExpLists.{exps_of}
 use Rattle.pi_syntax.specs.declared.exp.Exp.{Exp}
 use Rattle.pi_names.specs.Texts.{variable_first}
 use Rattle.pi_lowered.specs.Slots.{SlotNames, slot_for, slots_for}
-use Rattle.pi_lowered.specs.Values.{SlotValue, first_item}
+use Rattle.pi_lowered.specs.Values.{SlotValue}
 use Rattle.pi_lowered.specs.Goals.{assigned}
 use Rattle.pi_lowered.specs.Sites.{Site, behind_exp}
 use Rattle.pi_helpers.specs.Parts.{IsValue, AreGoals}
@@ -52,10 +52,10 @@ behind-value None v old mid new t a c is put = record {
   names = put.names ∙ is.names;
 }
 behind-value (Some name) v old mid new t a c is put = record {
-  goals = put.goals ∙ (ap (λ gs. gs ++ GoalTree.apply index_name (first_item t) (slot_for name a) ∷ []) is.goals
-      ∙ (append_assoc old v.goals (GoalTree.apply index_name (first_item t) (slot_for name a) ∷ [])
-      ∙ (ap (λ (u : Tree). old ++ (v.goals ++ GoalTree.apply index_name (first_item u) (slot_for name a) ∷ [])) is.tree
-      ∙ ap (λ ns. old ++ (v.goals ++ GoalTree.apply index_name (first_item v.tree) (slot_for name ns) ∷ [])) is.names)));
+  goals = put.goals ∙ (ap (λ gs. gs ++ GoalTree.apply itself_name (t ∷ []) (slot_for name a) ∷ []) is.goals
+      ∙ (append_assoc old v.goals (GoalTree.apply itself_name (t ∷ []) (slot_for name a) ∷ [])
+      ∙ (ap (λ (u : Tree). old ++ (v.goals ++ GoalTree.apply itself_name (u ∷ []) (slot_for name a) ∷ [])) is.tree
+      ∙ ap (λ ns. old ++ (v.goals ++ GoalTree.apply itself_name (v.tree ∷ []) (slot_for name ns) ∷ [])) is.names)));
   names = put.names ∙ ap (λ ns. slots_for name ns) is.names;
 }
 
@@ -66,11 +66,13 @@ behind-to e v old mid new t a c is put =
     goals-as (assigned_to e v) (assigned o v) old new c (sym (first-to e no_exps v))
     (behind-value o v old mid new t a c is (goals-as (assigned o w) (assigned_to e w) mid new c (first-to e no_exps w) put))
 
-pub put-assigned : (s s' : Site) (name : List ℕ) (es : List Exp) (n : ℕ) (f : CallForm) (to y : Exp) (ns a c : SlotNames) (old mid new : List GoalTree) (t : Tree) → Found name es n f → f ≡ Assignment → to ≡ get_or es 0 to → y ≡ get_or es 1 y → s' ≡ behind_exp s (exp_tree to) →
-    IsValue (by_place true s' (exp_tree y) ns) old mid t a → AreGoals (assigned_to (exp_tree to) (record { goals = []; tree = t; names = a })) mid new c → AreGoals (call_as_goal s name (exps_of es) ns) old new c
+pub assigned-value : (s s' : Site) (to y : ExpTree) (ns a c : SlotNames) (old mid new : List GoalTree) (t : Tree) → s' ≡ behind_exp s to → IsValue (by_place true s' y ns) old mid t a → AreGoals (assigned_to to (record { goals = []; tree = t; names = a })) mid new c →
+    AreGoals (assigned_to to (value_of (behind_exp s to) y ns)) old new c
 unfolding by_place
-put-assigned s s' name es n f to y ns a c old mid new t found by first second go value put =
-    goals-as (call_as_goal s name (exps_of es) ns) (assigned_to (exp_tree to) (value_of s' (exp_tree y) ns)) old new c
-    (goal-assigned s name es n f to y ns found by first second
-    ∙ (ap (λ z. assigned (variable_first (exp (exp_tree to) (exp (exp_tree y) no_exps))) (value_of z (exp_tree y) ns)) (sym go) ∙ first-to (exp_tree to) (exp (exp_tree y) no_exps) (value_of s' (exp_tree y) ns)))
-    (behind-to (exp_tree to) (value_of s' (exp_tree y) ns) old mid new t a c value put)
+assigned-value s s' to y ns a c old mid new t go value put =
+    goals-as (assigned_to to (value_of (behind_exp s to) y ns)) (assigned_to to (value_of s' y ns)) old new c (ap (λ z. assigned_to to (value_of z y ns)) (sym go)) (behind-to to (value_of s' y ns) old mid new t a c value put)
+
+pub assigned-call : (s : Site) (name : List ℕ) (es : List Exp) (n : ℕ) (f : CallForm) (to y : Exp) (ns : SlotNames) → Found name es n f → f ≡ Assignment → to ≡ get_or es 0 to → y ≡ get_or es 1 y →
+    call_as_goal s name (exps_of es) ns ≡ assigned_to (exp_tree to) (value_of (behind_exp s (exp_tree to)) (exp_tree y) ns)
+assigned-call s name es n f to y ns found by first second =
+    goal-assigned s name es n f to y ns found by first second ∙ first-to (exp_tree to) (exp (exp_tree y) no_exps) (value_of (behind_exp s (exp_tree to)) (exp_tree y) ns)

@@ -5,6 +5,7 @@ pub mod CallLemmas
 pub mod GoalLemmas
 pub mod NeverLemmas
 pub mod LoopLemmas
+pub mod ShapeLemmas
 pub mod AssignLemmas
 pub mod BranchLemmas
 pub mod PartLemmas

@@ -6,8 +6,9 @@ use Rattle.pi_core.specs.GoalTree.{GoalTree}
 use Rattle.pi_syntax.specs.ExpTree.{ExpTree}
 use Rattle.pi_names.specs.Terms.{items_onto}
 use Rattle.pi_lowered.specs.Slots.{SlotNames, with_value}
-use Rattle.pi_lowered.specs.Values.{SlotValue, SlotValues, applied, slotted, first_item, Slotted, no_values, before_values, value_of_parts, value_onto}
+use Rattle.pi_lowered.specs.Values.{SlotValue, SlotValues, applied, slotted, Slotted, no_values, before_values, value_of_parts, value_onto}
 use Rattle.pi_effects.specs.Indexing.{index_name}
+use Rattle.pi_effects.specs.Inner.{itself_name}
 use Rattle.pi_lowered.specs.Sites.{Site}
 use Rattle.pi_lowered.specs.Written.{made}
 use Rattle.pi_lowered.specs.Goals.{SlotGoals, in_turn, no_value, indexed, found_by, all_found, all_counted}
@@ -115,9 +116,9 @@ slotted-var t n k ns old is same = record {
 }
 
 abbrev slotted_new : Tree → SlotNames → Slotted
-slotted_new t ns = record { goals = GoalTree.apply index_name (first_item t) (length ns) ∷ []; place = length ns; names = with_value ns }
+slotted_new t ns = record { goals = GoalTree.apply itself_name (t ∷ []) (length ns) ∷ []; place = length ns; names = with_value ns }
 
-slotted-as : (t : Tree) (k : ℕ) (ns m : SlotNames) (old new : List GoalTree) → slotted [] t ns ≡ slotted_new t ns → k ≡ length ns → new ≡ old ++ GoalTree.apply index_name (first_item t) (length ns) ∷ [] → m ≡ with_value ns →
+slotted-as : (t : Tree) (k : ℕ) (ns m : SlotNames) (old new : List GoalTree) → slotted [] t ns ≡ slotted_new t ns → k ≡ length ns → new ≡ old ++ GoalTree.apply itself_name (t ∷ []) (length ns) ∷ [] → m ≡ with_value ns →
     IsSlotted (slotted [] t ns) old new k m
 slotted-as t k ns m old new is slot put names = record {
   goals = put ∙ sym (ap (λ s. old ++ s.goals) is);
@@ -125,15 +126,15 @@ slotted-as t k ns m old new is slot put names = record {
   names = names ∙ sym (ap (λ s. s.names) is);
 }
 
-pub slotted-int : (t : Tree) (n : _) (k : ℕ) (ns m : SlotNames) (old new : List GoalTree) → t ≡ Tree.int n → k ≡ length ns → new ≡ old ++ GoalTree.apply index_name (first_item t) (length ns) ∷ [] → m ≡ with_value ns →
+pub slotted-int : (t : Tree) (n : _) (k : ℕ) (ns m : SlotNames) (old new : List GoalTree) → t ≡ Tree.int n → k ≡ length ns → new ≡ old ++ GoalTree.apply itself_name (t ∷ []) (length ns) ∷ [] → m ≡ with_value ns →
     IsSlotted (slotted [] t ns) old new k m
 slotted-int t n k ns m old new is slot put names = slotted-as t k ns m old new (ap (λ u. slotted [] u ns) is ∙ sym (ap (λ u. slotted_new u ns) is)) slot put names
 
-pub slotted-atom : (t : Tree) (name : List ℕ) (k : ℕ) (ns m : SlotNames) (old new : List GoalTree) → t ≡ Tree.atom name → k ≡ length ns → new ≡ old ++ GoalTree.apply index_name (first_item t) (length ns) ∷ [] → m ≡ with_value ns →
+pub slotted-atom : (t : Tree) (name : List ℕ) (k : ℕ) (ns m : SlotNames) (old new : List GoalTree) → t ≡ Tree.atom name → k ≡ length ns → new ≡ old ++ GoalTree.apply itself_name (t ∷ []) (length ns) ∷ [] → m ≡ with_value ns →
     IsSlotted (slotted [] t ns) old new k m
 slotted-atom t name k ns m old new is slot put names = slotted-as t k ns m old new (ap (λ u. slotted [] u ns) is ∙ sym (ap (λ u. slotted_new u ns) is)) slot put names
 
-pub slotted-comp : (t : Tree) (name : List ℕ) (ts : Trees) (k : ℕ) (ns m : SlotNames) (old new : List GoalTree) → t ≡ Tree.comp name ts → k ≡ length ns → new ≡ old ++ GoalTree.apply index_name (first_item t) (length ns) ∷ [] → m ≡ with_value ns →
+pub slotted-comp : (t : Tree) (name : List ℕ) (ts : Trees) (k : ℕ) (ns m : SlotNames) (old new : List GoalTree) → t ≡ Tree.comp name ts → k ≡ length ns → new ≡ old ++ GoalTree.apply itself_name (t ∷ []) (length ns) ∷ [] → m ≡ with_value ns →
     IsSlotted (slotted [] t ns) old new k m
 slotted-comp t name ts k ns m old new is slot put names = slotted-as t k ns m old new (ap (λ u. slotted [] u ns) is ∙ sym (ap (λ u. slotted_new u ns) is)) slot put names
 

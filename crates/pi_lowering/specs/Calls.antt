@@ -5,11 +5,15 @@ use Rattle.pi_terms.specs.Tree.{Tree}
 use Rattle.pi_core.specs.GoalTree.{GoalTree}
 use Rattle.pi_syntax.specs.ExpTree.{ExpTree, var}
 use Rattle.pi_meaning.specs.Names.{is_call}
+use Rattle.pi_names.specs.Texts.{places}
 use Rattle.pi_names.specs.Forms.{Form, negation, once, assignment, catch, by_term, membership}
 use Rattle.pi_lowered.specs.Slots.{SlotNames, with_value}
 use Rattle.pi_lowered.specs.Values.{SlotValue, slotted}
 use Rattle.pi_lowered.specs.Goals.{SlotGoals, all_found, assigned}
+use Rattle.pi_lowered.specs.Sites.{Site, behind_site, behind_exp}
+use Rattle.pi_sites.specs.SiteOf.{site_of}
 use Rattle.pi_lowering.specs.declared.calls.CallForm.{CallForm}
+use Rattle.pi_lowering.specs.declared.calls.CatchSites.{CatchSites}
 use Rattle.pi_lowering.specs.declared.calls.CallForm.TheVariants.{Negation, Once, Assignment, Catch, Never, Plain}
 
 -- the form of a call that has no goals in it
@@ -64,3 +68,9 @@ collected_of inner t ns = all_found ns inner (slotted [] t ns)
 
 abbrev pub counted_of : GoalTree → SlotNames → SlotValue
 counted_of g ns = record { goals = GoalTree.count g (length ns) ∷ []; tree = Tree.var (length ns); names = with_value ns }
+
+-- where the parts of a `catch` stand
+pub record AreCatchSites (s : Site) (goal ball : ExpTree) (c : CatchSites) : Type 0 where
+  pub first : site_of c.ball ≡ behind_site s (places goal) 0
+  pub second : site_of c.goal ≡ behind_exp s ball
+  pub last : site_of c.handler ≡ behind_site (behind_exp (behind_exp s ball) goal) (places ball) 0

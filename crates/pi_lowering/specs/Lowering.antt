@@ -1,5 +1,7 @@
 -- What a function that lowers does: it puts goals behind those that stand before, and leaves the slots that there are then; and it puts the helpers of loops behind those before.
 use Rattle.std.specs.Prelude.{◌≡◌, ℕ, ◌≤◌, ◌<◌, Bool, true, false, cond, List, ◌++◌, length, map, drop, Option}
+use Rattle.pi_terms.specs.Tree.{Tree}
+use Rattle.pi_core.specs.GoalTree.{GoalTree}
 use Rattle.pi_core.specs.CoreTree.{PredTree, pred_tree}
 use Rattle.pi_core.specs.declared.core_program.CorePred.{CorePred}
 use Rattle.pi_syntax.specs.ExpTree.{ExpTree, ExpTrees}
@@ -12,13 +14,21 @@ use Rattle.pi_lowered.specs.Slots.{SlotNames}
 use Rattle.pi_lowered.specs.Values.{are_flat, SlotValue, SlotValues, slot_term, as_it_stands, filled_before, last_value, value_by}
 use Rattle.pi_lowered.specs.Goals.{SlotGoals, SlotParts, call_goals, call_value}
 use Rattle.pi_lowered.specs.Sites.{Site, goal_sites, value_sites}
-use Rattle.pi_lowered.specs.Written.{made, goals_in, values_in, parts, arguments}
-use Rattle.pi_lowered.specs.Helpers.{HelperParts, goal_call_helpers, value_call_helpers, goals_helpers, values_helpers, all_helpers}
+use Rattle.pi_lowered.specs.Written.{made, goal_of, goals_in, values_in, parts, arguments}
+use Rattle.pi_lowered.specs.Helpers.{HelperParts, goal_helpers, value_helpers, goal_call_helpers, value_call_helpers, goals_helpers, values_helpers, all_helpers}
+use Rattle.pi_helpers.specs.Parts.{AreGoals, IsValue}
 
 -- what is made of a part of a text, with the helpers of its loops behind those before
 pub record With (Is : Type 0) (old new : List CorePred) (hs : List PredTree) : Type 0 where
   pub is : Is
   pub helpers : map pred_tree new ≡ map pred_tree old ++ hs
+
+-- what a goal and an expression with a call come to, behind the goals before
+abbrev pub Puts : Site → ExpTree → SlotNames → List GoalTree → List GoalTree → SlotNames → List CorePred → List CorePred → Type 0
+Puts s e ns old new ms before all = With (AreGoals (goal_of s e ns) old new ms) before all (goal_helpers s e)
+
+abbrev pub Gives : Site → ExpTree → SlotNames → List GoalTree → List GoalTree → Tree → SlotNames → List CorePred → List CorePred → Type 0
+Gives s e ns old new t ms before all = With (IsValue (made s e ns) old new t ms) before all (value_helpers s e)
 
 -- an expression as the last one that is evaluated
 abbrev pub value_of : Site → ExpTree → SlotNames → SlotValue

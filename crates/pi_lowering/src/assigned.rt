@@ -4,7 +4,7 @@ ghost use Rattle.pi_syntax.specs.ExpTree.{exp_tree};
 ghost use Rattle.pi_lowering.specs.Calls.{assigned_to};
 ghost use Rattle.pi_helpers.specs.Parts.{AreGoals};
 
-use crate::slotted::push_item;
+use crate::slotted::push_itself;
 use pi_core::CoreGoal;
 use pi_helpers::push_fail;
 use pi_slots::Slots;
@@ -27,7 +27,7 @@ pub(crate) fn push_assigned<'a>(
     match to {
         Exp::Var(name) => {
             let slot = slots.slot_for(name.as_str())?;
-            push_item(alloc, value, slot, goals)?;
+            push_itself(alloc, value, slot, goals)?;
             Ok(())
         }
         Exp::Int(_) => push_fail(alloc, goals),

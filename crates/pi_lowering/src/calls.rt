@@ -1,13 +1,17 @@
 //! Calls, by their form.
-ghost use Rattle.std.specs.Prelude.{◌≡◌, ◌==◌, ◌&&◌, IfOk};
+ghost use Rattle.std.specs.Prelude.{◌≡◌, ◌==◌, ◌&&◌, ◌∷◌, ◌++◌, [], length, Some, IfOk};
 ghost use Rattle.std.specs.Str.{bytes_eq};
+ghost use Rattle.pi_core.specs.GoalTree.{GoalTree};
+ghost use Rattle.pi_syntax.specs.ExpTree.{exp_tree};
 ghost use Rattle.pi_syntax.specs.ExpLists.{exps_of};
 ghost use Rattle.pi_meaning.specs.Names.{is_call};
-ghost use Rattle.pi_names.specs.Forms.{form_of};
+ghost use Rattle.pi_names.specs.Forms.{form_of, catch};
+ghost use Rattle.pi_lowered.specs.Sites.{behind_exp};
+ghost use Rattle.pi_lowered.specs.Helpers.{value_helpers};
 ghost use Rattle.pi_sites.specs.SiteOf.{site_of};
 ghost use Rattle.pi_helpers.specs.Parts.{AreGoals, IsValue};
-ghost use Rattle.pi_lowering.specs.Lowering.{With, call_as_goal, call_as_value, call_goal_helpers, call_value_helpers};
-ghost use Rattle.pi_lowering.specs.Calls.{HasCount, IsForm, IsTermForm, atom_tree, term_form, collected_of, counted_of};
+ghost use Rattle.pi_lowering.specs.Lowering.{With, value_of, call_as_goal, call_as_value, call_goal_helpers, call_value_helpers};
+ghost use Rattle.pi_lowering.specs.Calls.{HasCount, IsForm, IsTermForm, AreCatchSites, assigned_to, atom_tree, term_form, collected_of, counted_of};
 
 use crate::assigned::push_assigned;
 use crate::goals::{alone, push_goal};
@@ -81,8 +85,21 @@ fn is_by_term(name: &str, count: usize) -> bool
     1 <= count && count <= 8 && name == "call"
 }
 
+/// Puts the goal that an atom is behind the others.
+pub(crate) fn push_atom(
+    alloc: Global,
+    name: &str,
+    goals: &mut Vec<CoreGoal>,
+) -> Result<(), AllocError>
+    ensures { IfOk result (λ _. goals.new.items ≡ goals.old.items ++ atom_tree name.now ∷ []) }
+{
+    let goal = atom_goal(alloc, name)?;
+    goals.push(goal)?;
+    Ok(())
+}
+
 /// The goal that an atom is.
-pub(crate) fn atom_goal(alloc: Global, name: &str) -> Result<CoreGoal, AllocError>
+fn atom_goal(alloc: Global, name: &str) -> Result<CoreGoal, AllocError>
     ensures { IfOk result (λ made. made ≡ atom_tree name.now) }
 {
     if name == "true" {
@@ -110,35 +127,20 @@ pub(crate) fn push_call<'a>(
     match call_form(name, args.len()) {
         CallForm::Negation => {
             let goal = alone(alloc, site, &args[0], slots, helpers)?;
-            let made = CoreGoal::not(alloc, goal)?;
-            goals.push(made)?;
+            push_not(alloc, goal, goals)?;
             Ok(())
         }
         CallForm::Once => {
             let goal = alone(alloc, site, &args[0], slots, helpers)?;
-            let made = CoreGoal::once(alloc, goal)?;
-            goals.push(made)?;
+            push_once(alloc, goal, goals)?;
             Ok(())
         }
         CallForm::Assignment => {
-            let to = &args[0];
-            let behind = site.behind(alloc, to)?;
-            let term = value(alloc, true, &behind, &args[1], slots, goals, helpers)?;
-            push_assigned(alloc, to, term, slots, goals)?;
+            push_assignment(alloc, site, &args[1], &args[0], slots, goals, helpers)?;
             Ok(())
         }
         CallForm::Catch => {
-            let goal = &args[0];
-            let ball = &args[1];
-            let first = site.behind_names(alloc, goal)?;
-            let term = value(alloc, true, &first, ball, slots, goals, helpers)?;
-            let second = site.behind(alloc, ball)?;
-            let one = alone(alloc, &second, goal, slots, helpers)?;
-            let third = second.behind(alloc, goal)?;
-            let last = third.behind_names(alloc, ball)?;
-            let other = alone(alloc, &last, &args[2], slots, helpers)?;
-            let made = CoreGoal::catch(alloc, one, &term, other)?;
-            goals.push(made)?;
+            push_catch(alloc, site, name, args, slots, goals, helpers)?;
             Ok(())
         }
         CallForm::Never => {
@@ -147,11 +149,132 @@ pub(crate) fn push_call<'a>(
         }
         CallForm::Plain => {
             let terms = values(alloc, false, site, args, slots, goals, helpers)?;
-            let made = CoreGoal::call(alloc, name, &terms)?;
-            goals.push(made)?;
+            push_plain(alloc, name, &terms, goals)?;
             Ok(())
         }
     }
+}
+
+/// Puts the goal behind the others that has an answer where this one has none.
+fn push_not(alloc: Global, goal: CoreGoal, goals: &mut Vec<CoreGoal>) -> Result<(), AllocError>
+    ensures { IfOk result (λ _. goals.new.items ≡ goals.old.items ++ GoalTree.not goal ∷ []) }
+{
+    let made = CoreGoal::not(alloc, goal)?;
+    goals.push(made)?;
+    Ok(())
+}
+
+/// Puts the goal behind the others that has the first answer of this one.
+fn push_once(alloc: Global, goal: CoreGoal, goals: &mut Vec<CoreGoal>) -> Result<(), AllocError>
+    ensures { IfOk result (λ _. goals.new.items ≡ goals.old.items ++ GoalTree.once goal ∷ []) }
+{
+    let made = CoreGoal::once(alloc, goal)?;
+    goals.push(made)?;
+    Ok(())
+}
+
+/// Puts a call of a predicate behind the other goals.
+fn push_plain(
+    alloc: Global,
+    name: &str,
+    args: &[Term],
+    goals: &mut Vec<CoreGoal>,
+) -> Result<(), AllocError>
+    ensures { IfOk result (λ _. goals.new.items ≡ goals.old.items ++ GoalTree.call name.now args.now ∷ []) }
+{
+    let made = CoreGoal::call(alloc, name, args)?;
+    goals.push(made)?;
+    Ok(())
+}
+
+/// Puts an assignment behind the other goals.
+#[cycle(lowering)]
+fn push_assignment<'a>(
+    alloc: Global,
+    site: &Site<'a>,
+    from: &'a Exp,
+    to: &'a Exp,
+    slots: &mut Slots<'a>,
+    goals: &mut Vec<CoreGoal>,
+    helpers: &mut Vec<CorePred>,
+) -> Result<(), AllocError>
+    ensures { IfOk result (λ _. With (AreGoals (assigned_to (exp_tree to.now) (value_of (behind_exp (site_of site.now) (exp_tree to.now)) (exp_tree from.now) slots.old)) goals.old.items goals.new.items slots.new) helpers.old.items helpers.new.items (value_helpers (behind_exp (site_of site.now) (exp_tree to.now)) (exp_tree from.now))) }
+{
+    let behind = site.behind(alloc, to)?;
+    let term = value(alloc, true, &behind, from, slots, goals, helpers)?;
+    push_assigned(alloc, to, term, slots, goals)?;
+    Ok(())
+}
+
+/// Puts a goal whose exceptions are caught behind the others.
+#[cycle(lowering)]
+fn push_catch<'a>(
+    alloc: Global,
+    site: &Site<'a>,
+    name: &str,
+    args: &'a [Exp],
+    slots: &mut Slots<'a>,
+    goals: &mut Vec<CoreGoal>,
+    helpers: &mut Vec<CorePred>,
+) -> Result<(), AllocError>
+    ensures { IfOk result (λ _. length args.now ≡ 3 → form_of name.now (length args.now) ≡ Some catch → With (AreGoals (call_as_goal (site_of site.now) name.now (exps_of args.now) slots.old) goals.old.items goals.new.items slots.new) helpers.old.items helpers.new.items (call_goal_helpers (site_of site.now) name.now (exps_of args.now))) }
+{
+    if args.len() < 3 {
+        push_fail(alloc, goals)?;
+        return Ok(());
+    }
+    let goal = &args[0];
+    let ball = &args[1];
+    let handler = &args[2];
+    let sites = catch_sites(alloc, site, goal, ball)?;
+    let term = value(alloc, true, &sites.ball, ball, slots, goals, helpers)?;
+    let one = alone(alloc, &sites.goal, goal, slots, helpers)?;
+    let other = alone(alloc, &sites.handler, handler, slots, helpers)?;
+    push_caught(alloc, one, &term, other, goals)?;
+    Ok(())
+}
+
+/// Where the parts of a `catch` stand: what is caught first, then the goal, then what is done then.
+#[derive(Drop)]
+pub(crate) struct CatchSites<'a> {
+    pub(crate) ball: Site<'a>,
+    pub(crate) goal: Site<'a>,
+    pub(crate) handler: Site<'a>,
+}
+
+/// Where the parts of a `catch` stand.
+fn catch_sites<'a>(
+    alloc: Global,
+    site: &Site<'a>,
+    goal: &'a Exp,
+    ball: &'a Exp,
+) -> Result<CatchSites<'a>, AllocError>
+    ensures { IfOk result (λ made. AreCatchSites (site_of site.now) (exp_tree goal.now) (exp_tree ball.now) made) }
+{
+    let first = site.behind_names(alloc, goal)?;
+    let second = site.behind(alloc, ball)?;
+    let third = second.behind(alloc, goal)?;
+    let last = third.behind_names(alloc, ball)?;
+    Ok(CatchSites {
+        ball: first,
+        goal: second,
+        handler: last,
+    })
+}
+
+/// Puts a `catch` behind the other goals.
+fn push_caught(
+    alloc: Global,
+    goal: CoreGoal,
+    ball: &Term,
+    handler: CoreGoal,
+    goals: &mut Vec<CoreGoal>,
+) -> Result<(), AllocError>
+    ensures { IfOk result (λ _. goals.new.items ≡ goals.old.items ++ GoalTree.catch goal ball.now handler ∷ []) }
+{
+    let made = CoreGoal::catch(alloc, goal, ball, handler)?;
+    goals.push(made)?;
+    Ok(())
 }
 
 /// The value of a call.

@@ -1,27 +1,27 @@
 //! Goals: each is put behind those that stand before.
-ghost use Rattle.std.specs.Prelude.{◌≡◌, ◌++◌, map, IfOk};
+ghost use Rattle.std.specs.Prelude.{◌≡◌, ◌∷◌, ◌++◌, [], map, IfOk};
+ghost use Rattle.pi_core.specs.GoalTree.{GoalTree};
 ghost use Rattle.pi_core.specs.CoreTree.{pred_tree};
-ghost use Rattle.pi_syntax.specs.ExpTree.{exp_tree};
+ghost use Rattle.pi_syntax.specs.ExpTree.{exp_tree, or as any};
 ghost use Rattle.pi_syntax.specs.ExpLists.{exps_of};
 ghost use Rattle.pi_slots.specs.Branches.{branches_in};
+ghost use Rattle.pi_lowered.specs.Goals.{either_of};
 ghost use Rattle.pi_lowered.specs.Written.{goal_of, all_of};
 ghost use Rattle.pi_lowered.specs.Helpers.{goal_helpers, conjunct_helpers, branch_helpers};
 ghost use Rattle.pi_sites.specs.SiteOf.{site_of};
 ghost use Rattle.pi_helpers.specs.Parts.{AreGoals, IsAlone};
-ghost use Rattle.pi_lowering.specs.Lowering.{With};
-ghost use Rattle.pi_lowering.specs.Joined.{chosen as chosen_of, IsBranch, AreBranches, AreConditions};
+ghost use Rattle.pi_lowering.specs.Lowering.{With, Puts};
+ghost use Rattle.pi_lowering.specs.Shapes.{IsIf, IsArrow};
+ghost use Rattle.pi_lowering.specs.Joined.{closed as closed_of, chosen as chosen_of, IsBranch, AreBranches, AreConditions};
 
 use crate::branches::{Branch, Condition, chosen, closed};
-use crate::calls::{atom_goal, push_call};
-use crate::loops::{do_loop, while_loop};
-use crate::units::open_units;
-use crate::whole::{Iterating, begin_foreach, end_foreach};
+use crate::calls::{push_atom, push_call};
+use crate::turns::{push_do, push_foreach, push_while};
 use pi_core::{CoreGoal, CorePred};
-use pi_helpers::{do_helper, in_turn, loop_slots, push_fail, push_loop, while_helper};
+use pi_helpers::{in_turn, one, push_fail};
 use pi_sites::Site;
 use pi_slots::Slots;
 use pi_syntax::Exp;
-use pi_units::turns_of;
 use std::alloc::{AllocError, Global};
 
 /// Puts the goals that a goal comes to behind the others, and the helpers of its loops behind those before. Errors: no
@@ -55,8 +55,7 @@ pub(crate) fn push_goal<'a>(
 {
     match exp {
         Exp::Atom(name) => {
-            let goal = atom_goal(alloc, name.as_str())?;
-            goals.push(goal)?;
+            push_atom(alloc, name.as_str(), goals)?;
             Ok(())
         }
         Exp::Call(name, args) => {
@@ -76,11 +75,85 @@ pub(crate) fn push_goal<'a>(
             Ok(())
         }
         Exp::Or(parts) => {
-            let branches = branches(alloc, site, parts.as_slice(), slots, helpers)?;
-            let goal = closed(alloc, branches)?;
-            goals.push(goal)?;
+            push_any(alloc, site, parts.as_slice(), slots, goals, helpers)?;
             Ok(())
         }
+        Exp::If(_, _) => {
+            push_if(alloc, site, exp, slots, goals, helpers)?;
+            Ok(())
+        }
+        Exp::Var(_) => push_fail(alloc, goals),
+        Exp::Int(_) => push_fail(alloc, goals),
+        Exp::Str(_) => push_fail(alloc, goals),
+        Exp::List(_, _) => push_fail(alloc, goals),
+        Exp::Array(_) => push_fail(alloc, goals),
+        Exp::Quote(_) => push_fail(alloc, goals),
+        Exp::Index(_, _) => push_fail(alloc, goals),
+        Exp::Range(_, _, _) => push_fail(alloc, goals),
+        Exp::At(_, _) => push_fail(alloc, goals),
+        Exp::Collect(_, _, _) => push_fail(alloc, goals),
+        Exp::Arrow(_, _) => {
+            push_aside(alloc, site, exp, slots, goals, helpers)?;
+            Ok(())
+        }
+        Exp::Foreach(_, _) => {
+            push_foreach(alloc, site, exp, slots, goals, helpers)?;
+            Ok(())
+        }
+        Exp::While(_, _) => {
+            push_while(alloc, site, exp, slots, goals, helpers)?;
+            Ok(())
+        }
+        Exp::DoWhile(_, _) => {
+            push_do(alloc, site, exp, slots, goals, helpers)?;
+            Ok(())
+        }
+    }
+}
+
+/// Puts a disjunction behind the other goals.
+#[cycle(lowering)]
+fn push_any<'a>(
+    alloc: Global,
+    site: &Site<'a>,
+    exps: &'a [Exp],
+    slots: &mut Slots<'a>,
+    goals: &mut Vec<CoreGoal>,
+    helpers: &mut Vec<CorePred>,
+) -> Result<(), AllocError>
+    ensures { IfOk result (λ _. Puts (site_of site.now) (any (exps_of exps.now)) slots.old goals.old.items goals.new.items slots.new helpers.old.items helpers.new.items) }
+{
+    let branches = branches(alloc, site, exps, slots, helpers)?;
+    push_closed(alloc, branches, goals)?;
+    Ok(())
+}
+
+/// Puts the goal that branches come to behind the others.
+fn push_closed(
+    alloc: Global,
+    branches: Vec<Branch>,
+    goals: &mut Vec<CoreGoal>,
+) -> Result<(), AllocError>
+    ensures { IfOk result (λ _. goals.new.items ≡ goals.old.items ++ either_of (closed_of branches.items []) ∷ []) }
+{
+    let goal = closed(alloc, branches)?;
+    goals.push(goal)?;
+    Ok(())
+}
+
+/// Puts conditions with their bodies behind the other goals.
+#[cycle(lowering)]
+fn push_if<'a>(
+    alloc: Global,
+    site: &Site<'a>,
+    exp: &'a Exp,
+    slots: &mut Slots<'a>,
+    goals: &mut Vec<CoreGoal>,
+    helpers: &mut Vec<CorePred>,
+) -> Result<(), AllocError>
+    ensures { IfOk result (λ _. IsIf exp.now → Puts (site_of site.now) (exp_tree exp.now) slots.old goals.old.items goals.new.items slots.new helpers.old.items helpers.new.items) }
+{
+    match exp {
         Exp::If(parts, other) => match other {
             Some(other) => {
                 let conditions = conditions(alloc, site, parts.as_slice(), slots, helpers)?;
@@ -92,24 +165,39 @@ pub(crate) fn push_goal<'a>(
             }
             None => {
                 let conditions = conditions(alloc, site, parts.as_slice(), slots, helpers)?;
-                let mut last = Vec::new(alloc);
-                let truth = CoreGoal::truth(alloc)?;
-                last.push(truth)?;
+                let last = only_truth(alloc)?;
                 push_chosen(alloc, conditions, last, goals)?;
                 Ok(())
             }
         },
-        Exp::Var(_) => push_fail(alloc, goals),
-        Exp::Int(_) => push_fail(alloc, goals),
-        Exp::Str(_) => push_fail(alloc, goals),
-        Exp::List(_, _) => push_fail(alloc, goals),
-        Exp::Array(_) => push_fail(alloc, goals),
-        Exp::Quote(_) => push_fail(alloc, goals),
-        Exp::Index(_, _) => push_fail(alloc, goals),
-        Exp::Range(_, _, _) => push_fail(alloc, goals),
-        Exp::At(_, _) => push_fail(alloc, goals),
-        Exp::Collect(_, _, _) => push_fail(alloc, goals),
-        // No goal stands here, though loops in it have their helpers.
+        _ => {
+            push_fail(alloc, goals)?;
+            Ok(())
+        }
+    }
+}
+
+/// A goal that has one answer, alone.
+fn only_truth(alloc: Global) -> Result<Vec<CoreGoal>, AllocError>
+    ensures { IfOk result (λ made. made.items ≡ GoalTree.truth ∷ []) }
+{
+    let truth = CoreGoal::truth(alloc)?;
+    one(alloc, truth)
+}
+
+/// Puts what stands for an arrow behind the other goals: no goal stands there, though loops in it have their helpers.
+#[cycle(lowering)]
+fn push_aside<'a>(
+    alloc: Global,
+    site: &Site<'a>,
+    exp: &'a Exp,
+    slots: &mut Slots<'a>,
+    goals: &mut Vec<CoreGoal>,
+    helpers: &mut Vec<CorePred>,
+) -> Result<(), AllocError>
+    ensures { IfOk result (λ _. IsArrow exp.now → Puts (site_of site.now) (exp_tree exp.now) slots.old goals.old.items goals.new.items slots.new helpers.old.items helpers.new.items) }
+{
+    match exp {
         Exp::Arrow(test, body) => {
             let mut aside = Slots::new(alloc);
             let mut unused = Vec::new(alloc);
@@ -119,77 +207,8 @@ pub(crate) fn push_goal<'a>(
             push_fail(alloc, goals)?;
             Ok(())
         }
-        Exp::Foreach(units, body) => {
-            let units = units.as_slice();
-            let begun = begin_foreach(alloc, site, units, body, slots)?;
-            let Iterating {
-                inner,
-                whole,
-                ending,
-                mut inside,
-            } = begun;
-            let last = &mut inside;
-            let mut opened = open_units(alloc, ending, &inner, units, last, helpers)?;
-            push_goal(
-                alloc,
-                &last.site,
-                body,
-                &mut last.slots,
-                &mut last.goals,
-                helpers,
-            )?;
-            end_foreach(
-                alloc,
-                site,
-                &whole,
-                &mut opened,
-                last,
-                slots,
-                goals,
-                helpers,
-            )?;
-            Ok(())
-        }
-        Exp::While(test, body) => {
-            let whole = while_loop(alloc, site, test, body)?;
-            let mut inner = loop_slots(alloc, &whole)?;
-            let turns = turns_of(alloc, site, &whole, &inner)?;
-            let mut tests = Vec::new(alloc);
-            push_goal(alloc, &turns, test, &mut inner, &mut tests, helpers)?;
-            let behind = turns.behind(alloc, test)?;
-            let mut turn = Vec::new(alloc);
-            push_goal(alloc, &behind, body, &mut inner, &mut turn, helpers)?;
-            let helper = while_helper(alloc, &whole, tests, turn, &inner)?;
-            helpers.push(helper)?;
-            push_loop(
-                alloc,
-                site.filled,
-                site.before.as_slice(),
-                &whole,
-                slots,
-                goals,
-            )?;
-            Ok(())
-        }
-        Exp::DoWhile(body, test) => {
-            let whole = do_loop(alloc, site, body, test)?;
-            let mut inner = loop_slots(alloc, &whole)?;
-            let turns = turns_of(alloc, site, &whole, &inner)?;
-            let mut turn = Vec::new(alloc);
-            push_goal(alloc, &turns, body, &mut inner, &mut turn, helpers)?;
-            let behind = turns.behind(alloc, body)?;
-            let mut tests = Vec::new(alloc);
-            push_goal(alloc, &behind, test, &mut inner, &mut tests, helpers)?;
-            let helper = do_helper(alloc, &whole, turn, tests, &inner)?;
-            helpers.push(helper)?;
-            push_loop(
-                alloc,
-                site.filled,
-                site.before.as_slice(),
-                &whole,
-                slots,
-                goals,
-            )?;
+        _ => {
+            push_fail(alloc, goals)?;
             Ok(())
         }
     }

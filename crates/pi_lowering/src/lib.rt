@@ -8,6 +8,8 @@ mod goals;
 mod loops;
 mod over;
 mod slotted;
+mod structures;
+mod turns;
 mod units;
 mod values;
 mod whole;

@@ -1,20 +1,140 @@
 //! Loops of a text: which names they hand on and keep, and what their helpers are called.
-ghost use Rattle.std.specs.Prelude.{◌≡◌, ◌+◌, ◌++◌, IfOk};
+ghost use Rattle.std.specs.Prelude.{◌≡◌, ◌+◌, ◌++◌, map, IfOk};
+ghost use Rattle.pi_core.specs.CoreTree.{pred_tree};
 ghost use Rattle.pi_syntax.specs.ExpTree.{exp_tree, no_exps};
 ghost use Rattle.pi_names.specs.Texts.{occurring, assigned as assigned_of, shared_names, kept_names as kept_names_of};
-ghost use Rattle.pi_lowered.specs.Loops.{as_it_is};
+ghost use Rattle.pi_lowered.specs.Loops.{as_it_is, while_turn, do_turn};
 ghost use Rattle.pi_lowered.specs.Sites.{helpers_in as helpers_of};
 ghost use Rattle.pi_lowered.specs.Written.{loop_at, while_loop as while_loop_of, do_loop as do_loop_of};
 ghost use Rattle.pi_sites.specs.SiteOf.{site_of};
-ghost use Rattle.pi_helpers.specs.Helpers.{loop_of};
+ghost use Rattle.pi_helpers.specs.Helpers.{loop_of, lowered};
+ghost use Rattle.pi_lowering.specs.Turning.{HasTurns, EndsTurns};
 
-use pi_helpers::{Ending, Loop};
+use pi_core::{CoreGoal, CorePred};
+use pi_helpers::{Ending, Loop, do_helper, loop_slots, push_loop, while_helper};
 use pi_sites::{Site, helpers_in, kept_names, push_assigned, push_names, those, together};
+use pi_slots::Slots;
 use pi_syntax::Exp;
+use pi_units::turns_of;
 use std::alloc::{AllocError, Global};
+use std::mem;
+
+/// A loop of two goals whose turns have begun: the loop, where its first goal stands and where its second does, and the
+/// slots and the goals there.
+#[derive(Drop)]
+pub(crate) struct Turns<'a> {
+    pub(crate) whole: Loop<'a>,
+    pub(crate) first: Site<'a>,
+    pub(crate) second: Site<'a>,
+    pub(crate) slots: Slots<'a>,
+    pub(crate) one: Vec<CoreGoal>,
+    pub(crate) other: Vec<CoreGoal>,
+}
+
+/// Begins the turns of a `while`, whose first goal is its test.
+pub(crate) fn begin_while<'a>(
+    alloc: Global,
+    site: &Site<'a>,
+    test: &'a Exp,
+    body: &'a Exp,
+) -> Result<Turns<'a>, AllocError>
+    ensures { IfOk result (λ made. HasTurns (site_of site.now) (while_loop_of (site_of site.now) (exp_tree test.now) (exp_tree body.now)) (exp_tree test.now) made) }
+{
+    let whole = while_loop(alloc, site, test, body)?;
+    let turns = begin_turns(alloc, site, whole, test)?;
+    Ok(turns)
+}
+
+/// Begins the turns of a `do`, whose first goal is its body.
+pub(crate) fn begin_do<'a>(
+    alloc: Global,
+    site: &Site<'a>,
+    body: &'a Exp,
+    test: &'a Exp,
+) -> Result<Turns<'a>, AllocError>
+    ensures { IfOk result (λ made. HasTurns (site_of site.now) (do_loop_of (site_of site.now) (exp_tree body.now) (exp_tree test.now)) (exp_tree body.now) made) }
+{
+    let whole = do_loop(alloc, site, body, test)?;
+    let turns = begin_turns(alloc, site, whole, body)?;
+    Ok(turns)
+}
+
+/// Begins the turns of a loop, whose first goal is this.
+fn begin_turns<'a>(
+    alloc: Global,
+    site: &Site<'a>,
+    whole: Loop<'a>,
+    goal: &'a Exp,
+) -> Result<Turns<'a>, AllocError>
+    ensures { IfOk result (λ made. HasTurns (site_of site.now) (loop_of whole.entry) (exp_tree goal.now) made) }
+{
+    let slots = loop_slots(alloc, &whole)?;
+    let first = turns_of(alloc, site, &whole, &slots)?;
+    let second = first.behind(alloc, goal)?;
+    Ok(Turns {
+        whole,
+        first,
+        second,
+        slots,
+        one: Vec::new(alloc),
+        other: Vec::new(alloc),
+    })
+}
+
+/// Ends a `while`: puts it behind the goals, and its helper behind those before.
+pub(crate) fn end_while<'a>(
+    alloc: Global,
+    site: &Site<'a>,
+    turns: &mut Turns<'a>,
+    slots: &mut Slots<'a>,
+    goals: &mut Vec<CoreGoal>,
+    helpers: &mut Vec<CorePred>,
+) -> Result<(), AllocError>
+    ensures { IfOk result (λ _. EndsTurns (site_of site.now) (loop_of turns.old.whole) (while_turn (loop_of turns.old.whole) (lowered turns.old.one.items turns.old.slots) (λ _. lowered turns.old.other.items turns.old.slots)) slots.old goals.old.items goals.new.items slots.new (map pred_tree helpers.old.items) (map pred_tree helpers.new.items)) }
+{
+    let tests = mem::replace(&mut turns.one, Vec::new(alloc));
+    let turn = mem::replace(&mut turns.other, Vec::new(alloc));
+    let helper = while_helper(alloc, &turns.whole, tests, turn, &turns.slots)?;
+    helpers.push(helper)?;
+    push_loop(
+        alloc,
+        site.filled,
+        site.before.as_slice(),
+        &turns.whole,
+        slots,
+        goals,
+    )?;
+    Ok(())
+}
+
+/// Ends a `do`: puts it behind the goals, and its helper behind those before.
+pub(crate) fn end_do<'a>(
+    alloc: Global,
+    site: &Site<'a>,
+    turns: &mut Turns<'a>,
+    slots: &mut Slots<'a>,
+    goals: &mut Vec<CoreGoal>,
+    helpers: &mut Vec<CorePred>,
+) -> Result<(), AllocError>
+    ensures { IfOk result (λ _. EndsTurns (site_of site.now) (loop_of turns.old.whole) (do_turn (loop_of turns.old.whole) (lowered turns.old.one.items turns.old.slots) (λ _. lowered turns.old.other.items turns.old.slots)) slots.old goals.old.items goals.new.items slots.new (map pred_tree helpers.old.items) (map pred_tree helpers.new.items)) }
+{
+    let turn = mem::replace(&mut turns.one, Vec::new(alloc));
+    let tests = mem::replace(&mut turns.other, Vec::new(alloc));
+    let helper = do_helper(alloc, &turns.whole, turn, tests, &turns.slots)?;
+    helpers.push(helper)?;
+    push_loop(
+        alloc,
+        site.filled,
+        site.before.as_slice(),
+        &turns.whole,
+        slots,
+        goals,
+    )?;
+    Ok(())
+}
 
 /// A `while`, by its test and its body.
-pub(crate) fn while_loop<'a>(
+fn while_loop<'a>(
     alloc: Global,
     site: &Site<'a>,
     test: &'a Exp,
@@ -26,7 +146,7 @@ pub(crate) fn while_loop<'a>(
 }
 
 /// A `do`, by its body and its test.
-pub(crate) fn do_loop<'a>(
+fn do_loop<'a>(
     alloc: Global,
     site: &Site<'a>,
     body: &'a Exp,

@@ -8,6 +8,7 @@ ghost use Rattle.pi_sites.specs.SiteOf.{site_of};
 ghost use Rattle.pi_helpers.specs.Helpers.{loop_of};
 ghost use Rattle.pi_units.specs.Planned.{IsOver, IsGoneOver};
 ghost use Rattle.pi_lowering.specs.Lowering.{With};
+ghost use Rattle.pi_lowering.specs.Shapes.{IsSpan, IsStepped};
 
 use crate::values::{no_value, value};
 use pi_core::{CoreGoal, CorePred};
@@ -104,6 +105,68 @@ fn over_exp<'a>(
     ensures { IfOk result (λ over. (name : List ℕ) (e : ExpTree) (es : ExpTrees) → With (IsOver over (site_of site.now) (call name (first_exp e (first_exp (exp_tree exp.now) es))) slots.old goals.old.items goals.new.items slots.new) helpers.old.items helpers.new.items (collection_helpers (site_of site.now) (call name (first_exp e (first_exp (exp_tree exp.now) es))))) }
 {
     match exp {
+        Exp::Range(_, _, _) => {
+            let over = over_range(alloc, site, exp, slots, goals, helpers)?;
+            Ok(over)
+        }
+        _ => {
+            let term = value(alloc, true, site, exp, slots, goals, helpers)?;
+            Ok(Over::Collection(term))
+        }
+    }
+}
+
+/// The bounds of a range, which isn't built.
+#[cycle(lowering)]
+fn over_range<'a>(
+    alloc: Global,
+    site: &Site<'a>,
+    exp: &'a Exp,
+    slots: &mut Slots<'a>,
+    goals: &mut Vec<CoreGoal>,
+    helpers: &mut Vec<CorePred>,
+) -> Result<Over, AllocError>
+    ensures { IfOk result (λ over. IsSpan exp.now → (name : List ℕ) (e : ExpTree) (es : ExpTrees) → With (IsOver over (site_of site.now) (call name (first_exp e (first_exp (exp_tree exp.now) es))) slots.old goals.old.items goals.new.items slots.new) helpers.old.items helpers.new.items (collection_helpers (site_of site.now) (call name (first_exp e (first_exp (exp_tree exp.now) es))))) }
+{
+    match exp {
+        Exp::Range(first, step, last) => match step {
+            Some(_) => {
+                let over = over_steps(alloc, site, exp, slots, goals, helpers)?;
+                Ok(over)
+            }
+            None => {
+                let is_last = is_flat(last);
+                let low = value(alloc, is_last, site, first, slots, goals, helpers)?;
+                let behind = site.behind(alloc, first)?;
+                let high = value(alloc, true, &behind, last, slots, goals, helpers)?;
+                let by = Term::int(alloc, 1)?;
+                Ok(Over::Range(Bounds {
+                    low,
+                    step: by,
+                    high,
+                }))
+            }
+        },
+        _ => {
+            let term = no_value(alloc, goals)?;
+            Ok(Over::Collection(term))
+        }
+    }
+}
+
+/// The bounds of a range with a step.
+#[cycle(lowering)]
+fn over_steps<'a>(
+    alloc: Global,
+    site: &Site<'a>,
+    exp: &'a Exp,
+    slots: &mut Slots<'a>,
+    goals: &mut Vec<CoreGoal>,
+    helpers: &mut Vec<CorePred>,
+) -> Result<Over, AllocError>
+    ensures { IfOk result (λ over. IsStepped exp.now → (name : List ℕ) (e : ExpTree) (es : ExpTrees) → With (IsOver over (site_of site.now) (call name (first_exp e (first_exp (exp_tree exp.now) es))) slots.old goals.old.items goals.new.items slots.new) helpers.old.items helpers.new.items (collection_helpers (site_of site.now) (call name (first_exp e (first_exp (exp_tree exp.now) es))))) }
+{
+    match exp {
         Exp::Range(first, step, last) => match step {
             Some(step) => {
                 let is_last = is_flat(last);
@@ -120,20 +183,12 @@ fn over_exp<'a>(
                 }))
             }
             None => {
-                let is_last = is_flat(last);
-                let low = value(alloc, is_last, site, first, slots, goals, helpers)?;
-                let behind = site.behind(alloc, first)?;
-                let high = value(alloc, true, &behind, last, slots, goals, helpers)?;
-                let by = Term::int(alloc, 1)?;
-                Ok(Over::Range(Bounds {
-                    low,
-                    step: by,
-                    high,
-                }))
+                let term = no_value(alloc, goals)?;
+                Ok(Over::Collection(term))
             }
         },
         _ => {
-            let term = value(alloc, true, site, exp, slots, goals, helpers)?;
+            let term = no_value(alloc, goals)?;
             Ok(Over::Collection(term))
         }
     }

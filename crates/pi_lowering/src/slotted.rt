@@ -1,9 +1,9 @@
 //! Values that stand in slots of their own.
 ghost use Rattle.std.specs.Prelude.{◌≡◌, ◌∷◌, ◌++◌, [], length, IfOk};
 ghost use Rattle.pi_core.specs.GoalTree.{GoalTree};
-ghost use Rattle.pi_effects.specs.Indexing.{index_name};
+ghost use Rattle.pi_effects.specs.Inner.{itself_name};
 ghost use Rattle.pi_lowered.specs.Slots.{with_value};
-ghost use Rattle.pi_lowered.specs.Values.{applied as applied_of, slotted as slotted_of, first_item as first_item_of};
+ghost use Rattle.pi_lowered.specs.Values.{applied as applied_of, slotted as slotted_of};
 ghost use Rattle.pi_helpers.specs.Parts.{IsValue, IsSlotted};
 
 use pi_core::CoreGoal;
@@ -65,7 +65,7 @@ pub(crate) fn applied_to_three<'a>(
     Ok(term)
 }
 
-/// The slot of a value. One that is none is the first item of an array.
+/// The slot of a value. One that is none is put into one, as it stands.
 pub(crate) fn slotted<'a>(
     alloc: Global,
     value: Term,
@@ -76,9 +76,9 @@ pub(crate) fn slotted<'a>(
 {
     match value.head() {
         TermHead::Var(slot) => short(slot),
-        TermHead::Int(_) => first_item(alloc, value, slots, goals),
-        TermHead::Atom(_) => first_item(alloc, value, slots, goals),
-        TermHead::Comp(_, _) => first_item(alloc, value, slots, goals),
+        TermHead::Int(_) => into_slot(alloc, value, slots, goals),
+        TermHead::Atom(_) => into_slot(alloc, value, slots, goals),
+        TermHead::Comp(_, _) => into_slot(alloc, value, slots, goals),
     }
 }
 
@@ -89,34 +89,32 @@ fn short(slot: u64) -> Result<u32, AllocError>
     u32::try_from(slot).map_err(|_| AllocError)
 }
 
-/// Puts the call behind the others that takes the value out of an array of one item.
-fn first_item<'a>(
+/// Puts a value into a slot of its own, as it stands.
+fn into_slot<'a>(
     alloc: Global,
     value: Term,
     slots: &mut Slots<'a>,
     goals: &mut Vec<CoreGoal>,
 ) -> Result<u32, AllocError>
     ensures is { IfOk result (λ slot. slot ≡ length slots.old) }
-    ensures goals { IfOk result (λ _. goals.new.items ≡ goals.old.items ++ GoalTree.apply index_name (first_item_of value) (length slots.old) ∷ []) }
+    ensures goals { IfOk result (λ _. goals.new.items ≡ goals.old.items ++ GoalTree.apply itself_name (value ∷ []) (length slots.old) ∷ []) }
     ensures slots { IfOk result (λ _. slots.new ≡ with_value slots.old) }
 {
     let slot = slots.value_slot()?;
-    push_item(alloc, value, slot, goals)?;
+    push_itself(alloc, value, slot, goals)?;
     Ok(slot)
 }
 
-/// Puts the call behind the others that takes the value out of an array of one item, into a slot.
-pub(crate) fn push_item(
+/// Puts the call behind the others that puts a value into a slot, as it stands.
+pub(crate) fn push_itself(
     alloc: Global,
     value: Term,
     slot: u32,
     goals: &mut Vec<CoreGoal>,
 ) -> Result<(), AllocError>
-    ensures { IfOk result (λ _. goals.new.items ≡ goals.old.items ++ GoalTree.apply index_name (first_item_of value) slot ∷ []) }
+    ensures { IfOk result (λ _. goals.new.items ≡ goals.old.items ++ GoalTree.apply itself_name (value ∷ []) slot ∷ []) }
 {
-    let item = Term::comp(alloc, "{}", &[value])?;
-    let place = Term::int(alloc, 1)?;
-    let goal = CoreGoal::apply(alloc, "in", &[item, place], slot)?;
+    let goal = CoreGoal::apply(alloc, "once", &[value], slot)?;
     goals.push(goal)?;
     Ok(())
 }

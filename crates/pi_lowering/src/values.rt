@@ -5,24 +5,20 @@ ghost use Rattle.pi_core.specs.GoalTree.{GoalTree};
 ghost use Rattle.pi_syntax.specs.ExpTree.{exp_tree};
 ghost use Rattle.pi_syntax.specs.ExpLists.{exps_of};
 ghost use Rattle.pi_syntax.specs.declared.exp.Exp.{Exp};
-ghost use Rattle.pi_lowered.specs.Values.{SlotValue, are_flat};
+ghost use Rattle.pi_lowered.specs.Values.{are_flat};
 ghost use Rattle.pi_core.specs.CoreTree.{pred_tree};
-ghost use Rattle.pi_lowered.specs.Goals.{indexed_by as indexed_by_of, begins_flat as begins_flat_tree};
-ghost use Rattle.pi_lowered.specs.Sites.{following_sites};
-ghost use Rattle.pi_lowered.specs.Written.{made as made_of, values_in};
+ghost use Rattle.pi_lowered.specs.Written.{made as made_of};
 ghost use Rattle.pi_lowered.specs.Helpers.{value_helpers, all_helpers};
 ghost use Rattle.pi_sites.specs.SiteOf.{site_of};
 ghost use Rattle.pi_helpers.specs.Parts.{IsValue, AreValues};
 ghost use Rattle.pi_lowering.specs.Lowering.{With, EndsCalls, value_of, by_place, flat_by, values_of};
 
 use crate::calls::call_value;
-use crate::slotted::{applied_to_three, applied_to_two};
-use crate::units::open_units;
-use crate::whole::{Comprehension, begin_comprehension, end_comprehension};
+use crate::structures::{array_of, collected, indexed, listed, ranged};
 use pi_core::{CoreGoal, CorePred};
 use pi_helpers::{push_fail, push_filling};
 use pi_sites::Site;
-use pi_slots::{Slots, is_flat, list_onto, slot_term};
+use pi_slots::{Slots, is_flat, slot_term};
 use pi_syntax::Exp;
 use pi_terms::Term;
 use std::alloc::{AllocError, Global};
@@ -102,24 +98,12 @@ fn made<'a>(
     ensures { IfOk result (λ term. With (IsValue (made_of (site_of site.now) (exp_tree exp.now) slots.old) goals.old.items goals.new.items term slots.new) helpers.old.items helpers.new.items (value_helpers (site_of site.now) (exp_tree exp.now))) }
 {
     match exp {
-        Exp::List(items, tail) => match tail {
-            Some(tail) => {
-                let parts = values(alloc, true, site, items.as_slice(), slots, goals, helpers)?;
-                let behind = site.behind_all(alloc, items.as_slice())?;
-                let rest = value(alloc, false, &behind, tail, slots, goals, helpers)?;
-                let list = list_onto(alloc, &parts, &rest)?;
-                Ok(list)
-            }
-            None => {
-                let parts = values(alloc, true, site, items.as_slice(), slots, goals, helpers)?;
-                let rest = Term::atom(alloc, "[]")?;
-                let list = list_onto(alloc, &parts, &rest)?;
-                Ok(list)
-            }
-        },
+        Exp::List(_, _) => {
+            let list = listed(alloc, site, exp, slots, goals, helpers)?;
+            Ok(list)
+        }
         Exp::Array(items) => {
-            let parts = values(alloc, true, site, items.as_slice(), slots, goals, helpers)?;
-            let array = Term::comp(alloc, "{}", &parts)?;
+            let array = array_of(alloc, site, items.as_slice(), slots, goals, helpers)?;
             Ok(array)
         }
         Exp::Call(name, args) => {
@@ -134,78 +118,22 @@ fn made<'a>(
             )?;
             Ok(value)
         }
-        Exp::Index(of, places) => {
-            let is_last = begins_flat(places.as_slice());
-            let whole = value(alloc, is_last, site, of, slots, goals, helpers)?;
-            let mut behind = site.behind(alloc, of)?;
-            let item = indexed_by(
-                alloc,
-                &mut behind,
-                whole,
-                places.as_slice(),
-                slots,
-                goals,
-                helpers,
-            )?;
+        Exp::Index(_, _) => {
+            let item = indexed(alloc, site, exp, slots, goals, helpers)?;
             Ok(item)
         }
-        Exp::Range(first, step, last) => match step {
-            Some(step) => {
-                let is_last = is_flat(last);
-                let is_end = is_last & is_flat(step);
-                let one = value(alloc, is_end, site, first, slots, goals, helpers)?;
-                let second = site.behind(alloc, first)?;
-                let two = value(alloc, is_last, &second, step, slots, goals, helpers)?;
-                let third = second.behind(alloc, step)?;
-                let three = value(alloc, true, &third, last, slots, goals, helpers)?;
-                let range = applied_to_three(alloc, "..", one, two, three, slots, goals)?;
-                Ok(range)
-            }
-            None => {
-                let is_last = is_flat(last);
-                let one = value(alloc, is_last, site, first, slots, goals, helpers)?;
-                let behind = site.behind(alloc, first)?;
-                let two = value(alloc, true, &behind, last, slots, goals, helpers)?;
-                let range = applied_to_two(alloc, "..", one, two, slots, goals)?;
-                Ok(range)
-            }
-        },
+        Exp::Range(_, _, _) => {
+            let range = ranged(alloc, site, exp, slots, goals, helpers)?;
+            Ok(range)
+        }
         Exp::Var(_) => no_value(alloc, goals),
         Exp::Int(_) => no_value(alloc, goals),
         Exp::Atom(_) => no_value(alloc, goals),
         Exp::Str(_) => no_value(alloc, goals),
         Exp::Quote(_) => no_value(alloc, goals),
         Exp::At(_, _) => no_value(alloc, goals),
-        Exp::Collect(is_array, item, units) => {
-            let units = units.as_slice();
-            let begun = begin_comprehension(alloc, *is_array, site, units, item, slots, goals)?;
-            let Comprehension {
-                inner,
-                mut around,
-                ending,
-                mut inside,
-            } = begun;
-            let last = &mut inside;
-            let mut opened = open_units(alloc, ending, &inner, units, last, helpers)?;
-            let term = value(
-                alloc,
-                true,
-                &last.site,
-                item,
-                &mut last.slots,
-                &mut last.goals,
-                helpers,
-            )?;
-            let list = end_comprehension(
-                alloc,
-                term,
-                &mut around,
-                &mut opened,
-                last,
-                slots,
-                goals,
-                helpers,
-            )?;
+        Exp::Collect(_, _, _) => {
+            let list = collected(alloc, site, exp, slots, goals, helpers)?;
             Ok(list)
         }
         Exp::And(_) => no_value(alloc, goals),
@@ -226,16 +154,6 @@ pub(crate) fn no_value(alloc: Global, goals: &mut Vec<CoreGoal>) -> Result<Term,
     push_fail(alloc, goals)?;
     let term = Term::atom(alloc, "")?;
     Ok(term)
-}
-
-/// Whether the first of the expressions has no call in it.
-fn begins_flat(exps: &[Exp]) -> bool
-    ensures { result ≡ begins_flat_tree (exps_of exps.now) }
-{
-    if exps.is_empty() {
-        return false;
-    }
-    is_flat(&exps[0])
 }
 
 /// Parts of a term, each evaluated before the term is used; or a call's arguments, of which those behind the last one with
@@ -286,26 +204,4 @@ fn calls_end(exps: &[Exp]) -> usize
         end -= 1;
     }
     end
-}
-
-/// A value that is indexed by one place after the other, from a site that goes on.
-#[cycle(lowering)]
-fn indexed_by<'a>(
-    alloc: Global,
-    site: &mut Site<'a>,
-    whole: Term,
-    places: &'a [Exp],
-    slots: &mut Slots<'a>,
-    goals: &mut Vec<CoreGoal>,
-    helpers: &mut Vec<CorePred>,
-) -> Result<Term, AllocError>
-    ensures { IfOk result (λ term. With ((v : SlotValue) (before : List GoalTree) → IsValue v before goals.old.items whole slots.old → IsValue (indexed_by_of v (values_in (following_sites (site_of site.old) (exps_of places.now)) (exps_of places.now))) before goals.new.items term slots.new) helpers.old.items helpers.new.items (all_helpers (site_of site.old) (exps_of places.now))) }
-{
-    let mut item = whole;
-    for exp in places {
-        let place = value(alloc, true, site, exp, slots, goals, helpers)?;
-        site.pass(alloc, exp)?;
-        item = applied_to_two(alloc, "in", item, place, slots, goals)?;
-    }
-    Ok(item)
 }

@@ -1,24 +1,33 @@
 -- How many helpers parts have, one after the other.
-use Rattle.std.proofs.Common.{◌≡◌, ℕ, ◌+◌, ◌<◌, ◌≤◌, List, length, get_or, drop, sym, ◌∙◌, ap, arith}
+use Rattle.std.proofs.Common.{◌≡◌, ℕ, ◌+◌, ◌<◌, ◌≤◌, List, Result, Ok, Err, IfOk, length, get_or, drop, sym, ◌∙◌, ap, arith}
 use Rattle.std.proofs.lemmas.List.{drop_all}
-use Rattle.pi_syntax.specs.ExpTree.{ExpTree, ExpTrees, exp_tree}
+use Rattle.std.proofs.lemmas.Result.{IfOk-weaker}
+use Rattle.pi_syntax.specs.ExpTree.{exp_tree}
 use Rattle.pi_syntax.specs.ExpLists.{exps_of}
 use Rattle.pi_syntax.specs.declared.exp.Exp.{Exp}
 use Rattle.pi_names.specs.Texts.{iterated}
-use Rattle.pi_lowered.specs.Sites.{helpers_in, helpers_in_all, helpers_in_branches, helpers_in_units, iterator_helpers, start_helpers}
+use Rattle.pi_lowered.specs.Sites.{helpers_in, helpers_in_all, helpers_in_branches, helpers_in_units, iterator_helpers}
 use Rattle.pi_slots.specs.Branches.{branches_in}
 use Rattle.pi_slots.proofs.FlatLemmas.{drop-next}
+use Rattle.pi_sites.specs.Sums.{IsSum, IsMore}
 
-pub one-count : (w a n : ℕ) → w ≡ a → n ≡ a → n ≡ w
-one-count w a n is count = count ∙ sym is
+pub one-count : {E : Type 0} (r : Result ℕ E) (w a : ℕ) → w ≡ a → IfOk r (λ n. n ≡ a) → IfOk r (λ n. n ≡ w)
+one-count r w a is = IfOk-weaker r (λ n. n ≡ a) (λ n. n ≡ w) (λ n count. count ∙ sym is)
 
-pub two-counts : (w a b m n all : ℕ) → w ≡ a + b → m ≡ a → n ≡ b → all ≡ m + n → all ≡ w
-two-counts w a b m n all is first second sum = omega (arith, is, first, second, sum)
+sum-of : {E : Type 0} (one other : Result ℕ E) (m n all w : ℕ) → w ≡ m + n → IfOk one (λ a. a ≡ m) → IfOk other (λ b. b ≡ n) → IsSum one other all → all ≡ w
+sum-of (Ok a) (Ok b) m n all w is first second sum = omega (arith, is, first, second, sum)
+sum-of (Ok a) (Err e) m n all w is first second sum = absurd sum
+sum-of (Err e) other m n all w is first second sum = absurd sum
 
-pub loop-count : (w : ℕ) (us vs : ExpTrees) (e : ExpTree) (m n all : ℕ) → w ≡ (helpers_in_units us + helpers_in e) + start_helpers us → us ≡ vs → m ≡ helpers_in_units us → n ≡ helpers_in e → all ≡ (m + n) + start_helpers vs → all ≡ w
-loop-count w us vs e m n all is same first second sum =
-    let start : start_helpers us ≡ start_helpers vs = ap (λ xs. start_helpers xs) same in
-    omega (arith, is, start, first, second, sum)
+pub two-counts : {E : Type 0} (r one other : Result ℕ E) (w m n : ℕ) → w ≡ m + n → IfOk one (λ a. a ≡ m) → IfOk other (λ b. b ≡ n) → IfOk r (λ all. IsSum one other all) → IfOk r (λ all. all ≡ w)
+two-counts r one other w m n is first second = IfOk-weaker r (λ all. IsSum one other all) (λ all. all ≡ w) (λ all sum. sum-of one other m n all w is first second sum)
+
+more-of : {E : Type 0} (one : Result ℕ E) (m n k all w : ℕ) → w ≡ m + n → k ≡ n → IfOk one (λ a. a ≡ m) → IsMore one k all → all ≡ w
+more-of (Ok a) m n k all w is same first sum = omega (arith, is, same, first, sum)
+more-of (Err e) m n k all w is same first sum = absurd sum
+
+pub more-counts : {E : Type 0} (r one : Result ℕ E) (w m n k : ℕ) → w ≡ m + n → k ≡ n → IfOk one (λ a. a ≡ m) → IfOk r (λ all. IsMore one k all) → IfOk r (λ all. all ≡ w)
+more-counts r one w m n k is same first = IfOk-weaker r (λ all. IsMore one k all) (λ all. all ≡ w) (λ all sum. more-of one m n k all w is same first sum)
 
 -- those so far, and those that are left
 abbrev pub AllTo : List Exp → ℕ → ℕ → Type 0

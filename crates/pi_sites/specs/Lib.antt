@@ -1,3 +1,4 @@
+pub mod Sums
 pub mod OwnNames
 pub mod TextNames
 pub mod SiteOf

@@ -23,47 +23,24 @@ pub fn push_assigned<'a>(
     ensures { IfOk result (λ _. names_in names.new.items ≡ names_in names.old.items ++ assigned_of (exp_tree exp.now)) }
 {
     match exp {
-        Exp::Call(name, args) => {
-            push_first(name.as_str(), args.as_slice(), names)?;
-            Ok(())
-        }
-        Exp::And(parts) => {
-            push_assigned_in_all(alloc, parts.as_slice(), names)?;
-            Ok(())
-        }
-        Exp::Or(parts) => {
-            push_assigned_in_all(alloc, parts.as_slice(), names)?;
-            Ok(())
-        }
-        Exp::Arrow(_, body) => {
-            push_assigned(alloc, body, names)?;
-            Ok(())
-        }
+        Exp::Call(name, args) => push_first(name.as_str(), args.as_slice(), names),
+        Exp::And(parts) => push_assigned_in_all(alloc, parts.as_slice(), names),
+        Exp::Or(parts) => push_assigned_in_all(alloc, parts.as_slice(), names),
+        Exp::Arrow(_, body) => push_assigned(alloc, body, names),
         Exp::If(branches, other) => match other {
             Some(other) => {
                 push_assigned_in_branches(alloc, branches.as_slice(), names)?;
-                push_assigned(alloc, other, names)?;
-                Ok(())
+                push_assigned(alloc, other, names)
             }
-            None => {
-                push_assigned_in_branches(alloc, branches.as_slice(), names)?;
-                Ok(())
-            }
+            None => push_assigned_in_branches(alloc, branches.as_slice(), names),
         },
         Exp::Foreach(units, body) => {
             let mut inner = Vec::new(alloc);
             push_assigned(alloc, body, &mut inner)?;
-            push_outer(alloc, units.as_slice(), inner.as_slice(), names)?;
-            Ok(())
+            push_outer(alloc, units.as_slice(), inner.as_slice(), names)
         }
-        Exp::While(_, body) => {
-            push_assigned(alloc, body, names)?;
-            Ok(())
-        }
-        Exp::DoWhile(body, _) => {
-            push_assigned(alloc, body, names)?;
-            Ok(())
-        }
+        Exp::While(_, body) => push_assigned(alloc, body, names),
+        Exp::DoWhile(body, _) => push_assigned(alloc, body, names),
         Exp::Var(_) => Ok(()),
         Exp::Int(_) => Ok(()),
         Exp::Atom(_) => Ok(()),

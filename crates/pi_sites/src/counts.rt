@@ -1,12 +1,13 @@
 //! How many helpers the loops of a text have.
-ghost use Rattle.std.specs.Prelude.{◌≡◌, ◌+◌, IfOk};
+ghost use Rattle.std.specs.Prelude.{◌≡◌, IfOk};
 ghost use Rattle.pi_syntax.specs.ExpTree.{exp_tree};
 ghost use Rattle.pi_syntax.specs.ExpLists.{exps_of};
 ghost use Rattle.pi_names.specs.Texts.{iterated as iterated_of};
 ghost use Rattle.pi_slots.specs.Branches.{branches_in};
+ghost use Rattle.pi_sites.specs.Sums.{IsMore};
 ghost use Rattle.pi_lowered.specs.Sites.{helpers_in as helpers_of, helpers_in_all as helpers_of_all, helpers_in_branches as helpers_of_branches, helpers_in_units as helpers_of_units, iterator_helpers as iterator_helpers_of, start_helpers as start_helpers_of};
 
-use crate::numbers::together;
+use crate::numbers::{sum, together};
 use crate::units::{begins_with_iterator, iterated};
 use pi_syntax::Exp;
 use std::alloc::AllocError;
@@ -23,111 +24,50 @@ pub fn helpers_in(exp: &Exp) -> Result<u64, AllocError>
         Exp::Atom(_) => Ok(0),
         Exp::Str(_) => Ok(0),
         Exp::List(items, tail) => match tail {
-            Some(tail) => {
-                let one = helpers_in_all(items.as_slice())?;
-                let other = helpers_in(tail)?;
-                let all = together(one, other)?;
-                Ok(all)
-            }
-            None => {
-                let all = helpers_in_all(items.as_slice())?;
-                Ok(all)
-            }
+            Some(tail) => sum(helpers_in_all(items.as_slice()), helpers_in(tail)),
+            None => helpers_in_all(items.as_slice()),
         },
-        Exp::Array(items) => {
-            let all = helpers_in_all(items.as_slice())?;
-            Ok(all)
-        }
-        Exp::Call(_, args) => {
-            let all = helpers_in_all(args.as_slice())?;
-            Ok(all)
-        }
+        Exp::Array(items) => helpers_in_all(items.as_slice()),
+        Exp::Call(_, args) => helpers_in_all(args.as_slice()),
         Exp::Quote(_) => Ok(0),
-        Exp::Index(of, places) => {
-            let one = helpers_in(of)?;
-            let other = helpers_in_all(places.as_slice())?;
-            let all = together(one, other)?;
-            Ok(all)
-        }
+        Exp::Index(of, places) => sum(helpers_in(of), helpers_in_all(places.as_slice())),
         Exp::Range(first, step, last) => match step {
-            Some(step) => {
-                let one = helpers_in(first)?;
-                let two = helpers_in(step)?;
-                let three = helpers_in(last)?;
-                let other = together(two, three)?;
-                let all = together(one, other)?;
-                Ok(all)
-            }
-            None => {
-                let one = helpers_in(first)?;
-                let other = helpers_in(last)?;
-                let all = together(one, other)?;
-                Ok(all)
-            }
+            Some(step) => sum(helpers_in(first), sum(helpers_in(step), helpers_in(last))),
+            None => sum(helpers_in(first), helpers_in(last)),
         },
         Exp::At(_, _) => Ok(0),
-        Exp::Collect(_, item, units) => {
-            let one = helpers_in_units(units.as_slice())?;
-            let other = helpers_in(item)?;
-            let all = with_start(units.as_slice(), one, other)?;
-            Ok(all)
-        }
-        Exp::And(parts) => {
-            let all = helpers_in_all(parts.as_slice())?;
-            Ok(all)
-        }
-        Exp::Or(parts) => {
-            let all = helpers_in_all(parts.as_slice())?;
-            Ok(all)
-        }
-        Exp::Arrow(test, body) => {
-            let one = helpers_in(test)?;
-            let other = helpers_in(body)?;
-            let all = together(one, other)?;
-            Ok(all)
-        }
+        Exp::Collect(_, item, units) => with_start(
+            units.as_slice(),
+            sum(helpers_in_units(units.as_slice()), helpers_in(item)),
+        ),
+        Exp::And(parts) => helpers_in_all(parts.as_slice()),
+        Exp::Or(parts) => helpers_in_all(parts.as_slice()),
+        Exp::Arrow(test, body) => sum(helpers_in(test), helpers_in(body)),
         Exp::If(branches, other) => match other {
-            Some(other) => {
-                let one = helpers_in_branches(branches.as_slice())?;
-                let more = helpers_in(other)?;
-                let all = together(one, more)?;
-                Ok(all)
-            }
-            None => {
-                let all = helpers_in_branches(branches.as_slice())?;
-                Ok(all)
-            }
+            Some(other) => sum(helpers_in_branches(branches.as_slice()), helpers_in(other)),
+            None => helpers_in_branches(branches.as_slice()),
         },
-        Exp::Foreach(units, body) => {
-            let one = helpers_in_units(units.as_slice())?;
-            let other = helpers_in(body)?;
-            let all = with_start(units.as_slice(), one, other)?;
-            Ok(all)
-        }
-        Exp::While(test, body) => {
-            let one = helpers_in(test)?;
-            let other = helpers_in(body)?;
-            let both = together(one, other)?;
-            let all = together(both, 1)?;
-            Ok(all)
-        }
-        Exp::DoWhile(body, test) => {
-            let one = helpers_in(body)?;
-            let other = helpers_in(test)?;
-            let both = together(one, other)?;
-            let all = together(both, 1)?;
-            Ok(all)
-        }
+        Exp::Foreach(units, body) => with_start(
+            units.as_slice(),
+            sum(helpers_in_units(units.as_slice()), helpers_in(body)),
+        ),
+        Exp::While(test, body) => with_own(sum(helpers_in(test), helpers_in(body))),
+        Exp::DoWhile(body, test) => with_own(sum(helpers_in(body), helpers_in(test))),
     }
 }
 
-/// How many helpers a loop has, by those of its iterators and tests and of what stands in it.
-fn with_start(units: &[Exp], one: u64, other: u64) -> Result<u64, AllocError>
-    ensures { IfOk result (λ count. count ≡ (one + other) + start_helpers_of (exps_of units.now)) }
+/// How many helpers a loop has, by those of its iterators and tests and of what stands in it, where these were counted.
+fn with_start(units: &[Exp], inner: Result<u64, AllocError>) -> Result<u64, AllocError>
+    ensures { IfOk result (λ count. IsMore inner (start_helpers_of (exps_of units.now)) count) }
 {
-    let both = together(one, other)?;
-    let all = together(both, start_helpers(units))?;
-    Ok(all)
+    together(inner?, start_helpers(units))
+}
+
+/// How many helpers a `while` or a `do` has: those in it, where these were counted, and its own.
+fn with_own(inner: Result<u64, AllocError>) -> Result<u64, AllocError>
+    ensures { IfOk result (λ count. IsMore inner 1 count) }
+{
+    together(inner?, 1)
 }
 
 /// A loop that begins with no iterator has one helper, for its one turn.

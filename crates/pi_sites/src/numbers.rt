@@ -1,5 +1,6 @@
 //! Numbers of helpers, which have 64 bits.
 ghost use Rattle.std.specs.Prelude.{◌≡◌, ◌+◌, IfOk};
+ghost use Rattle.pi_sites.specs.Sums.{IsSum};
 
 use std::alloc::AllocError;
 
@@ -11,4 +12,14 @@ pub fn together(some: u64, more: u64) -> Result<u64, AllocError>
         Some(all) => Ok(all),
         None => Err(AllocError),
     }
+}
+
+/// How many helpers there are together, where both were counted.
+pub(crate) fn sum(
+    some: Result<u64, AllocError>,
+    more: Result<u64, AllocError>,
+) -> Result<u64, AllocError>
+    ensures { IfOk result (λ all. IsSum some more all) }
+{
+    together(some?, more?)
 }

@@ -1,11 +1,12 @@
 //! Names of a text, from the left.
-ghost use Rattle.std.specs.Prelude.{◌≡◌, ◌++◌, IfOk};
+ghost use Rattle.std.specs.Prelude.{◌≡◌, ◌++◌, ◌∷◌, [], IfOk};
 ghost use Rattle.pi_syntax.specs.ExpTree.{exp_tree};
 ghost use Rattle.pi_syntax.specs.ExpLists.{exps_of};
 ghost use Rattle.pi_slots.specs.Indexed.{names_in};
 ghost use Rattle.pi_slots.specs.Branches.{branches_in};
 ghost use Rattle.pi_sites.specs.TextNames.{names_of, names_of_all, names_of_branches};
 
+use pi_slots::both;
 use pi_syntax::Exp;
 use std::alloc::AllocError;
 
@@ -21,116 +22,99 @@ pub fn push_names<'a>(
     ensures { IfOk result (λ _. names_in names.new.items ≡ names_in names.old.items ++ names_of in_loops (exp_tree exp.now)) }
 {
     match exp {
-        Exp::Var(name) => {
-            names.push(name.as_str())?;
-            Ok(())
-        }
+        Exp::Var(name) => push_name(name.as_str(), names),
         Exp::Int(_) => Ok(()),
         Exp::Atom(_) => Ok(()),
         Exp::Str(_) => Ok(()),
         Exp::List(items, tail) => match tail {
-            Some(tail) => {
-                push_names_of_all(in_loops, items.as_slice(), names)?;
-                push_names(in_loops, tail, names)?;
-                Ok(())
-            }
-            None => {
-                push_names_of_all(in_loops, items.as_slice(), names)?;
-                Ok(())
-            }
+            Some(tail) => both(
+                push_names_of_all(in_loops, items.as_slice(), names),
+                push_names(in_loops, tail, names),
+            ),
+            None => push_names_of_all(in_loops, items.as_slice(), names),
         },
-        Exp::Array(items) => {
-            push_names_of_all(in_loops, items.as_slice(), names)?;
-            Ok(())
-        }
-        Exp::Call(_, args) => {
-            push_names_of_all(in_loops, args.as_slice(), names)?;
-            Ok(())
-        }
-        Exp::Quote(inner) => {
-            push_names(in_loops, inner, names)?;
-            Ok(())
-        }
-        Exp::Index(of, places) => {
-            push_names(in_loops, of, names)?;
-            push_names_of_all(in_loops, places.as_slice(), names)?;
-            Ok(())
-        }
+        Exp::Array(items) => push_names_of_all(in_loops, items.as_slice(), names),
+        Exp::Call(_, args) => push_names_of_all(in_loops, args.as_slice(), names),
+        Exp::Quote(inner) => push_names(in_loops, inner, names),
+        Exp::Index(of, places) => both(
+            push_names(in_loops, of, names),
+            push_names_of_all(in_loops, places.as_slice(), names),
+        ),
         Exp::Range(first, step, last) => match step {
-            Some(step) => {
-                push_names(in_loops, first, names)?;
-                push_names(in_loops, step, names)?;
-                push_names(in_loops, last, names)?;
-                Ok(())
-            }
-            None => {
-                push_names(in_loops, first, names)?;
-                push_names(in_loops, last, names)?;
-                Ok(())
-            }
+            Some(step) => both(
+                push_names(in_loops, first, names),
+                both(
+                    push_names(in_loops, step, names),
+                    push_names(in_loops, last, names),
+                ),
+            ),
+            None => both(
+                push_names(in_loops, first, names),
+                push_names(in_loops, last, names),
+            ),
         },
-        Exp::At(name, part) => {
-            names.push(name.as_str())?;
-            push_names(in_loops, part, names)?;
-            Ok(())
-        }
+        Exp::At(name, part) => both(
+            push_name(name.as_str(), names),
+            push_names(in_loops, part, names),
+        ),
         Exp::Collect(_, item, units) => {
             if !in_loops {
                 return Ok(());
             }
-            push_names_of_all(in_loops, units.as_slice(), names)?;
-            push_names(in_loops, item, names)?;
-            Ok(())
+            both(
+                push_names_of_all(in_loops, units.as_slice(), names),
+                push_names(in_loops, item, names),
+            )
         }
-        Exp::And(parts) => {
-            push_names_of_all(in_loops, parts.as_slice(), names)?;
-            Ok(())
-        }
-        Exp::Or(parts) => {
-            push_names_of_all(in_loops, parts.as_slice(), names)?;
-            Ok(())
-        }
-        Exp::Arrow(test, body) => {
-            push_names(in_loops, test, names)?;
-            push_names(in_loops, body, names)?;
-            Ok(())
-        }
+        Exp::And(parts) => push_names_of_all(in_loops, parts.as_slice(), names),
+        Exp::Or(parts) => push_names_of_all(in_loops, parts.as_slice(), names),
+        Exp::Arrow(test, body) => both(
+            push_names(in_loops, test, names),
+            push_names(in_loops, body, names),
+        ),
         Exp::If(branches, other) => match other {
-            Some(other) => {
-                push_names_of_branches(in_loops, branches.as_slice(), names)?;
-                push_names(in_loops, other, names)?;
-                Ok(())
-            }
-            None => {
-                push_names_of_branches(in_loops, branches.as_slice(), names)?;
-                Ok(())
-            }
+            Some(other) => both(
+                push_names_of_branches(in_loops, branches.as_slice(), names),
+                push_names(in_loops, other, names),
+            ),
+            None => push_names_of_branches(in_loops, branches.as_slice(), names),
         },
         Exp::Foreach(units, body) => {
             if !in_loops {
                 return Ok(());
             }
-            push_names_of_all(in_loops, units.as_slice(), names)?;
-            push_names(in_loops, body, names)?;
-            Ok(())
+            both(
+                push_names_of_all(in_loops, units.as_slice(), names),
+                push_names(in_loops, body, names),
+            )
         }
         Exp::While(test, body) => {
             if !in_loops {
                 return Ok(());
             }
-            push_names(in_loops, test, names)?;
-            push_names(in_loops, body, names)?;
-            Ok(())
+            both(
+                push_names(in_loops, test, names),
+                push_names(in_loops, body, names),
+            )
         }
         Exp::DoWhile(body, test) => {
             if !in_loops {
                 return Ok(());
             }
-            push_names(in_loops, body, names)?;
-            push_names(in_loops, test, names)?;
-            Ok(())
+            both(
+                push_names(in_loops, body, names),
+                push_names(in_loops, test, names),
+            )
         }
     }
+}
+
+/// Puts a name behind others.
+fn push_name<'a>(name: &'a str, names: &mut Vec<&'a str>) -> Result<(), AllocError>
+    ensures { IfOk result (λ _. names_in names.new.items ≡ names_in names.old.items ++ name.now ∷ []) }
+{
+    names.push(name)?;
+    Ok(())
 }
 
 /// Puts the names of expressions behind others, from the left. Errors: no memory.

@@ -1,5 +1,6 @@
 -- What an expression is as a pattern, by its kind.
-use Rattle.std.proofs.Common.{◌≡◌, ℕ, Bool, List, [], ◌∷◌, None, Some, sym, ◌∙◌, ap}
+use Rattle.std.proofs.Common.{◌≡◌, ℕ, Bool, List, [], ◌∷◌, ◌++◌, map, None, Some, refl, sym, ◌∙◌, ap}
+use Rattle.std.proofs.lemmas.List.{map-append}
 use Rattle.std.specs.Prelude.{Vec, Option, codes}
 use Rattle.std.specs.declared.alloc.Global.{Global}
 use Rattle.std.specs.declared.boxed.Box.{Box}
@@ -83,21 +84,27 @@ form-onto p ps q parts rest made is e f put = put ∙ (ap (λ xs. cells_onto xs 
 pub form-list : (p : SlotPattern) (ps : SlotPatterns) (parts : PatternTrees) (rest made : PatternTree) → p ≡ list_pattern ps → parts ≡ ps.forms → rest ≡ exact_atom nil → made ≡ cells_onto parts rest → made ≡ p.form
 form-list p ps parts rest made is e f put = put ∙ (ap (λ xs. cells_onto xs rest) e ∙ (ap (cells_onto ps.forms) f ∙ sym (ap (λ r. r.form) is)))
 
-pub form-two : (p q r : SlotPattern) (a b : Pattern) (parts : List Pattern) (label : List ℕ) (made : PatternTree) → p ≡ two_patterns q r → pattern_tree a ≡ q.form → pattern_tree b ≡ r.form → parts ≡ a ∷ b ∷ [] → label ≡ codes ".." →
-    made ≡ compound label (pattern_trees parts) → made ≡ p.form
-unfolding pattern_trees
-form-two p q r a b parts label made is e f all same put =
-    put ∙ (ap (λ (n : List ℕ). compound n (pattern_trees parts)) same ∙ (ap (λ ps. compound (codes "..") (pattern_trees ps)) all
-    ∙ (ap (λ t. compound (codes "..") (pattern t (pattern (pattern_tree b) no_patterns))) e ∙ (ap (λ t. compound (codes "..") (pattern q.form (pattern t no_patterns))) f ∙ sym (ap (λ s. s.form) is)))))
+-- patterns that are pushed one after the other
+pub put-form : (old new : List Pattern) (made : Pattern) (t : PatternTree) → new ≡ old ++ made ∷ [] → pattern_tree made ≡ t → map pattern_tree new ≡ map pattern_tree old ++ t ∷ []
+put-form old new made t put is = ap (map pattern_tree) put ∙ (map-append pattern_tree old (made ∷ []) ∙ ap (λ (u : PatternTree). map pattern_tree old ++ u ∷ []) is)
 
-pub form-three : (p q r s : SlotPattern) (a b d : Pattern) (parts : List Pattern) (label : List ℕ) (made : PatternTree) → p ≡ three_patterns q r s → pattern_tree a ≡ q.form → pattern_tree b ≡ r.form → pattern_tree d ≡ s.form → parts ≡ a ∷ b ∷ d ∷ [] → label ≡ codes ".." →
-    made ≡ compound label (pattern_trees parts) → made ≡ p.form
+abbrev joined : List PatternTree → PatternTrees
+joined [] = no_patterns
+joined (t ∷ ts) = pattern t (joined ts)
+
+joined-is : (ps : List Pattern) → pattern_trees ps ≡ joined (map pattern_tree ps)
 unfolding pattern_trees
-form-three p q r s a b d parts label made is e f g all same put =
-    put ∙ (ap (λ (n : List ℕ). compound n (pattern_trees parts)) same ∙ (ap (λ ps. compound (codes "..") (pattern_trees ps)) all
-    ∙ (ap (λ t. compound (codes "..") (pattern t (pattern (pattern_tree b) (pattern (pattern_tree d) no_patterns)))) e
-    ∙ (ap (λ t. compound (codes "..") (pattern q.form (pattern t (pattern (pattern_tree d) no_patterns)))) f
-    ∙ (ap (λ t. compound (codes "..") (pattern q.form (pattern r.form (pattern t no_patterns)))) g ∙ sym (ap (λ t. t.form) is))))))
+joined-is [] = refl
+joined-is (p ∷ ps) = ap (pattern (pattern_tree p)) (joined-is ps)
+
+pub form-two : (p q r : SlotPattern) (none one two : List Pattern) (made : PatternTree) → p ≡ two_patterns q r → none ≡ [] → map pattern_tree one ≡ map pattern_tree none ++ q.form ∷ [] → map pattern_tree two ≡ map pattern_tree one ++ r.form ∷ [] → made ≡ compound (codes "..") (pattern_trees two) → made ≡ p.form
+form-two p q r none one two made is empty first second put =
+    put ∙ (ap (compound (codes "..")) (joined-is two ∙ ap joined (second ∙ ap (λ ts. ts ++ r.form ∷ []) (first ∙ ap (λ ps. map pattern_tree ps ++ q.form ∷ []) empty))) ∙ sym (ap (λ s. s.form) is))
+
+pub form-three : (p q r s : SlotPattern) (none one two three : List Pattern) (made : PatternTree) → p ≡ three_patterns q r s → none ≡ [] → map pattern_tree one ≡ map pattern_tree none ++ q.form ∷ [] → map pattern_tree two ≡ map pattern_tree one ++ r.form ∷ [] →
+    map pattern_tree three ≡ map pattern_tree two ++ s.form ∷ [] → made ≡ compound (codes "..") (pattern_trees three) → made ≡ p.form
+form-three p q r s none one two three made is empty first second third put =
+    put ∙ (ap (compound (codes "..")) (joined-is three ∙ ap joined (third ∙ ap (λ ts. ts ++ s.form ∷ []) (second ∙ ap (λ ts. ts ++ r.form ∷ []) (first ∙ ap (λ ps. map pattern_tree ps ++ q.form ∷ []) empty)))) ∙ sym (ap (λ t. t.form) is))
 
 pub names-as : (p q : SlotPattern) (m : SlotNames) → p ≡ q → m ≡ q.names → m ≡ p.names
 names-as p q m is e = e ∙ sym (ap (λ r. r.names) is)

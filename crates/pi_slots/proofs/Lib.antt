@@ -1,4 +1,5 @@
 pub mod ExpTrees
+pub mod StepLemmas
 pub mod TermLemmas
 pub mod TextLemmas
 pub mod SlotLemmas

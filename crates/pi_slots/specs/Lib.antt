@@ -1,3 +1,4 @@
 pub mod Indexed
+pub mod Steps
 pub mod ItemCells
 pub mod Branches

@@ -1,5 +1,5 @@
 //! Patterns over slots, of the arguments of heads.
-ghost use Rattle.std.specs.Prelude.{◌≡◌, ◌∷◌, [], IfOk};
+ghost use Rattle.std.specs.Prelude.{◌≡◌, ◌∷◌, ◌++◌, [], map, IfOk};
 ghost use Rattle.pi_core.specs.CoreTree.{pattern_tree, pattern_trees};
 ghost use Rattle.pi_terms.specs.PatternTree.{PatternTree, compound};
 ghost use Rattle.pi_effects.specs.Texts.{text_list};
@@ -50,57 +50,42 @@ pub fn slot_pattern<'a>(
             Ok(Pattern::Slot(slot))
         }
         Exp::Int(value) => Ok(Pattern::Int(*value)),
-        Exp::Atom(name) => {
-            let made = exact_atom(alloc, name.as_str())?;
-            Ok(made)
-        }
-        Exp::Str(text) => {
-            let made = exact_text(alloc, text.as_str())?;
-            Ok(made)
-        }
+        Exp::Atom(name) => exact_atom(alloc, name.as_str()),
+        Exp::Str(text) => exact_text(alloc, text.as_str()),
         Exp::List(items, tail) => match tail {
             Some(tail) => {
                 let items = slot_patterns(alloc, items.as_slice(), slots)?;
                 let rest = slot_pattern(alloc, tail, slots)?;
-                let made = cells_onto(alloc, items, rest)?;
-                Ok(made)
+                cells_onto(alloc, items, rest)
             }
             None => {
                 let items = slot_patterns(alloc, items.as_slice(), slots)?;
                 let rest = exact_atom(alloc, "[]")?;
-                let made = cells_onto(alloc, items, rest)?;
-                Ok(made)
+                cells_onto(alloc, items, rest)
             }
         },
         Exp::Array(items) => {
             let parts = slot_patterns(alloc, items.as_slice(), slots)?;
-            let made = structure(alloc, "{}", parts)?;
-            Ok(made)
+            structure(alloc, "{}", parts)
         }
         Exp::Call(name, args) => {
             let parts = slot_patterns(alloc, args.as_slice(), slots)?;
-            let made = structure(alloc, name.as_str(), parts)?;
-            Ok(made)
+            structure(alloc, name.as_str(), parts)
         }
-        Exp::Quote(inner) => {
-            let made = slot_pattern(alloc, inner, slots)?;
-            Ok(made)
-        }
+        Exp::Quote(inner) => slot_pattern(alloc, inner, slots),
         Exp::Range(first, step, last) => match step {
             Some(step) => {
-                let first = slot_pattern(alloc, first, slots)?;
-                let step = slot_pattern(alloc, step, slots)?;
-                let last = slot_pattern(alloc, last, slots)?;
-                let parts = three(alloc, first, step, last)?;
-                let made = structure(alloc, "..", parts)?;
-                Ok(made)
+                let mut parts = Vec::new(alloc);
+                push_pattern(alloc, first, slots, &mut parts)?;
+                push_pattern(alloc, step, slots, &mut parts)?;
+                push_pattern(alloc, last, slots, &mut parts)?;
+                structure(alloc, "..", parts)
             }
             None => {
-                let first = slot_pattern(alloc, first, slots)?;
-                let last = slot_pattern(alloc, last, slots)?;
-                let parts = two(alloc, first, last)?;
-                let made = structure(alloc, "..", parts)?;
-                Ok(made)
+                let mut parts = Vec::new(alloc);
+                push_pattern(alloc, first, slots, &mut parts)?;
+                push_pattern(alloc, last, slots, &mut parts)?;
+                structure(alloc, "..", parts)
             }
         },
         Exp::At(name, part) => {
@@ -121,6 +106,22 @@ pub fn slot_pattern<'a>(
     }
 }
 
+/// Puts the pattern over slots that one argument is behind the others.
+#[cycle(form)]
+fn push_pattern<'a>(
+    alloc: Global,
+    exp: &'a Exp,
+    slots: &mut Slots<'a>,
+    patterns: &mut Patterns,
+) -> Result<(), AllocError>
+    ensures are { IfOk result (λ _. map pattern_tree patterns.new.items ≡ map pattern_tree patterns.old.items ++ (pattern_of (exp_tree exp.now) slots.old).form ∷ []) }
+    ensures slots { IfOk result (λ _. slots.new ≡ (pattern_of (exp_tree exp.now) slots.old).names) }
+{
+    let made = slot_pattern(alloc, exp, slots)?;
+    patterns.push(made)?;
+    Ok(())
+}
+
 #[tactic(auto, unfolding(pi_core::specs::CoreTree::pattern_tree))]
 fn exact_atom(alloc: Global, name: &str) -> Result<Pattern, AllocError>
     ensures { IfOk result (λ made. pattern_tree made ≡ PatternTree.exact_atom name.now) }
@@ -136,8 +137,7 @@ fn exact_text(alloc: Global, text: &str) -> Result<Pattern, AllocError>
     let letters = letters(alloc, text)?;
     let items = exact_letters(alloc, letters.as_slice())?;
     let rest = exact_atom(alloc, "[]")?;
-    let made = cells_onto(alloc, items, rest)?;
-    Ok(made)
+    cells_onto(alloc, items, rest)
 }
 
 /// Characters as atoms.
@@ -178,18 +178,5 @@ fn two(alloc: Global, first: Pattern, second: Pattern) -> Result<Patterns, Alloc
     let mut patterns = Vec::new(alloc);
     patterns.push(first)?;
     patterns.push(second)?;
-    Ok(patterns)
-}
-
-fn three(
-    alloc: Global,
-    first: Pattern,
-    second: Pattern,
-    third: Pattern,
-) -> Result<Patterns, AllocError>
-    ensures { IfOk result (λ made. made.items ≡ first ∷ second ∷ third ∷ []) }
-{
-    let mut patterns = two(alloc, first, second)?;
-    patterns.push(third)?;
     Ok(patterns)
 }

@@ -49,14 +49,10 @@ impl<'a> Slots<'a> {
         ensures slots { IfOk result (λ _. self.new ≡ slots_for name.now self.old) }
     {
         if name == "_" {
-            let slot = self.value_slot()?;
-            return Ok(slot);
+            return self.value_slot();
         }
         match place_of(self.names.as_slice(), name) {
-            Some(place) => {
-                let slot = short(place)?;
-                Ok(slot)
-            }
+            Some(place) => short(place),
             None => {
                 let slot = short(self.names.len())?;
                 self.names.push(name)?;
@@ -114,8 +110,7 @@ impl<'a> Slots<'a> {
         ensures { IfOk result (λ _. self.new ≡ behind_collection self.old after.now) }
     {
         let more = after.names.len().saturating_sub(self.names.len());
-        push_unnamed(&mut self.names, more)?;
-        Ok(())
+        push_unnamed(&mut self.names, more)
     }
 
     /// The same slots, found by these names alone.

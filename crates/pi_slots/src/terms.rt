@@ -8,11 +8,13 @@ ghost use Rattle.pi_effects.specs.Texts.{text_list};
 ghost use Rattle.pi_syntax.specs.ExpTree.{exp_tree};
 ghost use Rattle.pi_syntax.specs.ExpLists.{exps_of};
 ghost use Rattle.pi_names.specs.Terms.{items_onto};
+ghost use Rattle.pi_lowered.specs.Slots.{slot_for, slots_for};
 ghost use Rattle.pi_lowered.specs.Values.{slot_term as term_of, slot_terms as terms_of};
 ghost use Rattle.pi_slots.specs.ItemCells.{cell_of, item_cells, letter_atoms};
 
 use crate::letters::{letter_name, letters};
 use crate::slots::Slots;
+use crate::steps::both;
 use pi_syntax::Exp;
 use pi_terms::{Term, TermCell, TermHead, Text};
 use std::alloc::{AllocError, Global};
@@ -53,63 +55,47 @@ fn push_term<'a>(
     ensures slots { IfOk result (λ _. slots.new ≡ (term_of (exp_tree exp.now) slots.old).names) }
 {
     match exp {
-        Exp::Var(name) => {
-            let slot = slots.slot_for(name.as_str())?;
-            cells.push(TermCell::Var(u64::from(slot)))?;
-            Ok(())
-        }
-        Exp::Int(value) => {
-            cells.push(TermCell::Int(*value))?;
-            Ok(())
-        }
-        Exp::Atom(name) => {
-            push_atom(cells, alloc, name.as_str())?;
-            Ok(())
-        }
-        Exp::Str(text) => {
-            push_text(cells, alloc, text.as_str())?;
-            Ok(())
-        }
+        Exp::Var(name) => push_slot(cells, name.as_str(), slots),
+        Exp::Int(value) => push_int(cells, *value),
+        Exp::Atom(name) => push_atom(cells, alloc, name.as_str()),
+        Exp::Str(text) => push_text(cells, alloc, text.as_str()),
         Exp::List(items, tail) => match tail {
-            Some(tail) => {
-                push_items(cells, alloc, items.as_slice(), slots)?;
-                push_term(cells, alloc, tail, slots)?;
-                Ok(())
-            }
-            None => {
-                push_items(cells, alloc, items.as_slice(), slots)?;
-                push_atom(cells, alloc, "[]")?;
-                Ok(())
-            }
+            Some(tail) => both(
+                push_items(cells, alloc, items.as_slice(), slots),
+                push_term(cells, alloc, tail, slots),
+            ),
+            None => both(
+                push_items(cells, alloc, items.as_slice(), slots),
+                push_atom(cells, alloc, "[]"),
+            ),
         },
-        Exp::Array(items) => {
-            push_compound(cells, alloc, "{}", items.len())?;
-            push_terms(cells, alloc, items.as_slice(), slots)?;
-            Ok(())
-        }
-        Exp::Call(name, args) => {
-            push_compound(cells, alloc, name.as_str(), args.len())?;
-            push_terms(cells, alloc, args.as_slice(), slots)?;
-            Ok(())
-        }
-        Exp::Quote(inner) => {
-            push_term(cells, alloc, inner, slots)?;
-            Ok(())
-        }
+        Exp::Array(items) => both(
+            push_compound(cells, alloc, "{}", items.len()),
+            push_terms(cells, alloc, items.as_slice(), slots),
+        ),
+        Exp::Call(name, args) => both(
+            push_compound(cells, alloc, name.as_str(), args.len()),
+            push_terms(cells, alloc, args.as_slice(), slots),
+        ),
+        Exp::Quote(inner) => push_term(cells, alloc, inner, slots),
         Exp::Range(first, step, last) => match step {
-            Some(step) => {
-                push_compound(cells, alloc, "..", 3)?;
-                push_term(cells, alloc, first, slots)?;
-                push_term(cells, alloc, step, slots)?;
-                push_term(cells, alloc, last, slots)?;
-                Ok(())
-            }
-            None => {
-                push_compound(cells, alloc, "..", 2)?;
-                push_term(cells, alloc, first, slots)?;
-                push_term(cells, alloc, last, slots)?;
-                Ok(())
-            }
+            Some(step) => both(
+                both(
+                    push_compound(cells, alloc, "..", 3),
+                    push_term(cells, alloc, first, slots),
+                ),
+                both(
+                    push_term(cells, alloc, step, slots),
+                    push_term(cells, alloc, last, slots),
+                ),
+            ),
+            None => both(
+                both(
+                    push_compound(cells, alloc, "..", 2),
+                    push_term(cells, alloc, first, slots),
+                ),
+                push_term(cells, alloc, last, slots),
+            ),
         },
         Exp::Index(_, _) => push_nameless(cells, alloc),
         Exp::At(_, _) => push_nameless(cells, alloc),
@@ -158,14 +144,34 @@ fn push_items<'a>(
     Ok(())
 }
 
+/// The slot of an occurrence of a name.
+fn push_slot<'a>(
+    cells: &mut Vec<TermCell>,
+    name: &'a str,
+    slots: &mut Slots<'a>,
+) -> Result<(), AllocError>
+    ensures cells { IfOk result (λ _. cells.new.items ≡ cells.old.items ++ TermCell.Var (slot_for name.now slots.old) ∷ []) }
+    ensures slots { IfOk result (λ _. slots.new ≡ slots_for name.now slots.old) }
+{
+    let slot = slots.slot_for(name)?;
+    cells.push(TermCell::Var(u64::from(slot)))?;
+    Ok(())
+}
+
+fn push_int(cells: &mut Vec<TermCell>, value: i128) -> Result<(), AllocError>
+    ensures { IfOk result (λ _. cells.new.items ≡ cells.old.items ++ TermCell.Int value ∷ []) }
+{
+    cells.push(TermCell::Int(value))?;
+    Ok(())
+}
+
 /// A text as the list of its characters.
 fn push_text(cells: &mut Vec<TermCell>, alloc: Global, text: &str) -> Result<(), AllocError>
     ensures { IfOk result (λ _. cells.new.items ≡ cells.old.items ++ bare (text_list text.now)) }
 {
     let letters = letters(alloc, text)?;
     push_letters(cells, alloc, letters.as_slice())?;
-    push_atom(cells, alloc, "[]")?;
-    Ok(())
+    push_atom(cells, alloc, "[]")
 }
 
 /// Characters as items of a list.
@@ -209,8 +215,7 @@ fn bare_cell(alloc: Global, head: TermHead<'_>) -> Result<TermCell, AllocError>
 fn push_list_cell(cells: &mut Vec<TermCell>, alloc: Global) -> Result<(), AllocError>
     ensures { IfOk result (λ _. cells.new.items ≡ cells.old.items ++ TermCell.Comp cell_name 2 0 ∷ []) }
 {
-    push_compound(cells, alloc, "[|]", 2)?;
-    Ok(())
+    push_compound(cells, alloc, "[|]", 2)
 }
 
 /// The cell of a compound.
@@ -239,6 +244,5 @@ fn push_atom(cells: &mut Vec<TermCell>, alloc: Global, name: &str) -> Result<(),
 fn push_nameless(cells: &mut Vec<TermCell>, alloc: Global) -> Result<(), AllocError>
     ensures { IfOk result (λ _. cells.new.items ≡ cells.old.items ++ TermCell.Atom [] ∷ []) }
 {
-    push_atom(cells, alloc, "")?;
-    Ok(())
+    push_atom(cells, alloc, "")
 }

@@ -1,19 +1,19 @@
 -- What expressions of a text are lowered to: values that are fine wherever they stand, with good helpers.
 use Rattle.std.proofs.Common.{◌≡◌, ℕ, ◌+◌, ◌≤◌, ◌<◌, Bool, true, false, cond, List, [], ◌∷◌, ◌++◌, length, refl, sym, subst, arith, length-append, append_assoc, nat_lt}
-use Rattle.std.specs.Prelude.{Option, Some, None, codes, IsTrue, pos}
+use Rattle.std.specs.Prelude.{Option, Some, None, codes, IsTrue}
 use Rattle.std.proofs.lemmas.List.{append-nil}
 use Rattle.pi_terms.specs.Tree.{Tree, Trees, no_trees, trees_of, comp}
 use Rattle.pi_states.specs.State.{SpeaksBelow}
-use Rattle.pi_states.proofs.KeepsLemmas.{TreesBelow, comp-below, int-below}
-use Rattle.pi_print.specs.PrintTerm.{array_name}
+use Rattle.pi_states.proofs.KeepsLemmas.{TreesBelow}
 use Rattle.pi_effects.specs.BuiltIns.{is_function}
 use Rattle.pi_effects.specs.Indexing.{index_name}
+use Rattle.pi_effects.specs.Inner.{itself_name}
 use Rattle.pi_syntax.specs.ExpTree.{ExpTree}
 use Rattle.pi_core.specs.GoalTree.{GoalTree, truth, fail, call, apply, collect, count}
 use Rattle.pi_core.specs.CoreTree.{PredTree}
 use Rattle.pi_lowered.specs.Forms.{Knows}
 use Rattle.pi_lowered.specs.Slots.{SlotNames, unnamed, slot_for, with_value}
-use Rattle.pi_lowered.specs.Values.{SlotValue, SlotValues, slot_term, is_flat, as_it_stands, is_below, evaluating, filling, filled_before, last_value, value_before, value_by, no_values, before_values, value_of_parts, value_onto, applied, first_item, Slotted, slotted}
+use Rattle.pi_lowered.specs.Values.{SlotValue, SlotValues, slot_term, is_flat, as_it_stands, is_below, evaluating, filling, filled_before, last_value, value_before, value_by, no_values, before_values, value_of_parts, value_onto, applied, Slotted, slotted}
 use Rattle.pi_lowered.specs.Goals.{SlotGoals, in_turn, no_value, called, assigned, found_by, all_counted, indexed, indexed_by}
 use Rattle.pi_lowered.specs.Written.{pair_values, three_values}
 use Rattle.pi_lowered.proofs.AgreeLemmas.{grows-length, grows-for}
@@ -21,7 +21,7 @@ use Rattle.pi_lowered.proofs.TermLemmas.{name-room, term-grows}
 use Rattle.pi_lowered.proofs.FineLemmas.{none-below, front-below, var-below, below-var, atom-below, items-below}
 use Rattle.pi_lowered.proofs.FineGoals.{term-below}
 use Rattle.pi_sound.proofs.FineGoals.{Fine, AllFine, fine-none, fine-one, fine-append, fine-turn, fine-truth, fine-fail, fine-call, fine-apply, fine-collect, fine-count, fine-catch}
-use Rattle.pi_sound.proofs.GivenNames.{equals-there, item-there}
+use Rattle.pi_sound.proofs.GivenNames.{equals-there, item-there, itself-there}
 use Rattle.pi_sound.proofs.GoodHelpers.{Allows, has-first, has-last, GoodHelpers, no-helpers, both-helpers}
 use Rattle.pi_sound.proofs.GoodGoals.{GoodGoals, GoodValue, GoodValues}
 
@@ -157,11 +157,10 @@ good-table name k are long there = good-applied name k are long (λ may allows. 
 
 -- ---- a value that goes into a slot
 
-item-fine : (known may : Knows) → Allows known may → (n : ℕ) (goals : List GoalTree) (t : Tree) (k : ℕ) → AllFine n may goals → SpeaksBelow n t → k < n → AllFine n may (goals ++ apply index_name (first_item t) k ∷ [])
+item-fine : (known may : Knows) → Allows known may → (n : ℕ) (goals : List GoalTree) (t : Tree) (k : ℕ) → AllFine n may goals → SpeaksBelow n t → k < n → AllFine n may (goals ++ apply itself_name (t ∷ []) k ∷ [])
 item-fine known may allows n goals t k are below less =
-    fine-append n may goals (apply index_name (first_item t) k ∷ []) are (fine-one n may (apply index_name (first_item t) k)
-    (fine-apply n may index_name (first_item t) k (front-below n _ _ (comp-below n array_name _ (front-below n t no_trees below (none-below n))) (front-below n (Tree.int (pos 1)) no_trees (int-below n (pos 1)) (none-below n))) less
-    (allows.tables index_name 2 item-there)))
+    fine-append n may goals (apply itself_name (t ∷ []) k ∷ []) are (fine-one n may (apply itself_name (t ∷ []) k)
+    (fine-apply n may itself_name (t ∷ []) k (front-below n t no_trees below (none-below n)) less (allows.tables itself_name 1 itself-there)))
 
 pub good-assigned : {known : Knows} {ps : List PredTree} {v : SlotNames → SlotValue} (variable : Option (List ℕ)) → GoodValue known ps v → GoodGoals known ps (λ ns. assigned variable (v ns))
 good-assigned {known} {ps} {v} None is = record {

@@ -1,4 +1,3 @@
-pub mod Arguments
 pub mod Planned
 pub mod Opened
 pub mod Started

@@ -11,5 +11,5 @@ mod units;
 pub use inner::{Inner, Planned, gathering, inner_of, kept_by, plan_of, start_loop};
 pub use iterated::{Start, begin, finish, gathered_at};
 pub use loops::turns_of;
-pub use over::{Over, arguments};
+pub use over::Over;
 pub use units::{Inside, Iterated, Open, close};

@@ -1,6 +1,6 @@
 -- Each kind of goal and expression by its lemma.
-use Rattle.std.specs.Prelude.{◌&&◌, map}
-use Rattle.std.proofs.Common.{◌≡◌, ◌+◌, [], ◌∷◌, ◌++◌, length, drop, refl, sym, ◌∙◌, ap, rules}
+use Rattle.std.specs.Prelude.{◌&&◌, Some, map}
+use Rattle.std.proofs.Common.{◌≡◌, ◌+◌, [], ◌++◌, length, drop, refl, sym, ◌∙◌, ap, arith, rules}
 use Rattle.pi_core.specs.GoalTree.{GoalTree}
 use Rattle.pi_core.specs.CoreTree.{pred_tree}
 use Rattle.pi_syntax.specs.ExpTree.{exp_tree}
@@ -8,25 +8,30 @@ use Rattle.pi_syntax.specs.ExpLists.{exps_of}
 use Rattle.pi_syntax.specs.declared.exp.Exp as e
 use Rattle.pi_names.specs.Texts.{places, places_all, places_of_branches, assigned, kept_names}
 use Rattle.pi_lowered.specs.Values.{is_flat}
-use Rattle.pi_lowered.specs.Goals.{begins_flat, indexed_by}
+use Rattle.pi_names.specs.Forms.{form_of}
+use Rattle.pi_lowered.specs.Goals.{begins_flat, either_of, indexed_by}
 use Rattle.pi_lowered.specs.Sites.{helpers_in_all, helpers_in_branches, behind_site, behind_exp, inside}
-use Rattle.pi_lowered.specs.Written.{made, goal_of, all_of, inner_of, while_loop, do_loop}
+use Rattle.pi_lowered.specs.Written.{made, goal_of, all_of, inner_of}
 use Rattle.pi_lowered.specs.Helpers.{value_helpers, all_helpers, goal_helpers, conjunct_helpers, branch_helpers}
 use Rattle.pi_slots.specs.Branches.{branches_in}
 use Rattle.pi_sites.specs.SiteOf.{site_of}
 use Rattle.pi_slots.specs.Indexed.{names_in}
 use Rattle.pi_helpers.specs.Helpers.{loop_of, ending_of}
-use Rattle.pi_lowered.specs.Loops.{as_it_is, while_helper, do_helper}
-use Rattle.pi_lowering.proofs.LoopLemmas.{put-while, put-do, while-shape, do-shape, helpers-while, helpers-do, pushed-helper}
+use Rattle.pi_lowered.specs.Loops.{as_it_is}
+use Rattle.pi_lowering.proofs.LoopLemmas.{while-whole, do-whole}
 use Rattle.pi_sites.proofs.NowTrees.{foreach-now, collect-now, while-now, do-now, atom-now, onto-now, list-now, array-now, call-now, index-now, range-now, range_by-now, and-now, or-now, arrow-now, if_then-now, if_else-now}
-use Rattle.pi_lowering.specs.Lowering.{call_as_goal, call_as_value, call_goal_helpers, call_value_helpers, values_of}
+use Rattle.pi_lowering.specs.Lowering.{value_of, call_as_goal, call_as_value, call_goal_helpers, call_value_helpers, values_of}
+use Rattle.pi_lowering.specs.Calls.{HasCount, IsForm, assigned_to, atom_tree}
+use Rattle.pi_lowering.specs.Joined.{closed}
+use Rattle.pi_lowering.specs.declared.calls.CallForm.TheVariants.{Catch}
+use Rattle.pi_lowering.proofs.ShapeLemmas.{put-as, gives-as, not-stepped}
 use Rattle.pi_lowering.proofs.ValueLemmas.{value-as, goals-as}
 use Rattle.pi_lowering.proofs.PartLemmas.{places_in, goals-none, all-more, all-end, place-flat, place-made, values-none, values-step, values-last, indexed-none, indexed-more, indexed-end}
 use Rattle.pi_lowering.proofs.HelperLemmas.{no-helpers, same-helpers, two-helpers, three-helpers, going-more, going-end, all-start, all-next, all-none, conjunct-start, conjunct-next, conjunct-none, branch-start, branch-next, branch-none, flat-helpers, helpers-onto, helpers-list, helpers-array, helpers-index, helpers-range, helpers-range_by, helpers-and, helpers-or, helpers-atom, helpers-arrow, helpers-if_then, helpers-if_else}
 use Rattle.pi_lowering.proofs.CallLemmas.{Found, helpers-not, helpers-once, helpers-assigned, helpers-catch, caught-helpers, helpers-never, helpers-plain, helpers-collected, helpers-count, helpers-apply, goal-call-helpers, value-call-helpers}
 use Rattle.pi_lowering.proofs.GoalLemmas.{is-alone, put-atom, goal-call, goal-and, put-or, put-if_else, put-if_then, put-not, put-once, put-no-call, put-plain, put-caught, put-never, never-as}
 use Rattle.pi_lowering.proofs.NeverLemmas.{never-var, never-int, never-str, never-list, never-array, never-quote, never-index, never-range, never-at, never-collect, never-arrow, idle-var, idle-int, idle-str, idle-list, idle-array, idle-quote, idle-index, idle-range, idle-at, idle-collect}
-use Rattle.pi_lowering.proofs.AssignLemmas.{put-assigned}
+use Rattle.pi_lowering.proofs.AssignLemmas.{assigned-call, assigned-value}
 use Rattle.pi_lowering.proofs.BranchLemmas.{no-arrow, arrow-branch, goal-branch, branches-none, branches-more, branches-end, conditions-none, conditions-more, conditions-end}
 use Rattle.pi_lowering.proofs.MadeLemmas.{put-made_onto, put-made_list, put-made_array, made-call, put-made_index, put-made_range, put-made_range_by, flip-and, no_value-as, none-var, none-int, none-atom, none-str, none-quote, none-at, none-and, none-or, none-arrow, none-if, none-foreach, none-while, none-do_while, bare-var, bare-int, bare-atom, bare-str, bare-quote, bare-at, bare-and, bare-or, bare-arrow, bare-if, bare-foreach, bare-while, bare-do_while, put-call_found, put-call_counted, put-call_applied}
 use Rattle.pi_units.specs.Planned.{inner_in}
@@ -75,14 +80,14 @@ values::values-returns t c = record {
   helpers = going-end (map pred_tree c.args.helpers.now.items) (map pred_tree c.loop-i.helpers.items) (all_helpers (site_of c.args.site.now) (exps_of c.args.exps.now)) (all_helpers (site_of c.loop-i.here) (exps_of (drop c.loop-i.i c.args.exps.now))) (all-none (site_of c.loop-i.here) c.args.exps.now c.loop-i.i c.loop-i-test.false) c.loop-i.invariant.helpers;
 }
 
-pub values::indexed_by-loop-exp-init : goal.values::indexed_by-loop-exp-init
-values::indexed_by-loop-exp-init t c = record {
+pub structures::indexed_by-loop-exp-init : goal.structures::indexed_by-loop-exp-init
+structures::indexed_by-loop-exp-init t c = record {
   is = λ v before is. indexed-none (site_of c.args.site.now) (site_of c.args.site.now) c.args.places.now v before c.args.goals.now.items c.args.whole c.args.slots.now refl is;
   helpers = refl;
 }
 
-pub values::indexed_by-loop-exp-preserved : goal.values::indexed_by-loop-exp-preserved
-values::indexed_by-loop-exp-preserved t c = record {
+pub structures::indexed_by-loop-exp-preserved : goal.structures::indexed_by-loop-exp-preserved
+structures::indexed_by-loop-exp-preserved t c = record {
   is = λ v before is.
       indexed-more (site_of c.loop-exp.site) (site_of c.pass.new.self) c.args.places.now c.loop-exp.exp-index c.exp-item.result (indexed_by v (places_in (site_of c.args.site.now) (exps_of c.args.places.now))) before c.loop-exp.goals.items c.value.new.goals.items c.applied_to_two.new.goals.items c.loop-exp.item c.in_ok-place.place c.in_ok-item.item c.loop-exp.slots c.value.new.slots c.applied_to_two.new.slots
       c.loop-exp-test.true c.exp-item.is c.in_ok-pass.ensures c.in_ok-place.ensures.is c.in_ok-item.ensures (c.loop-exp.invariant.is v before is);
@@ -90,14 +95,14 @@ values::indexed_by-loop-exp-preserved t c = record {
       (all-next (site_of c.loop-exp.site) (site_of c.pass.new.self) c.args.places.now c.loop-exp.exp-index c.exp-item.result c.loop-exp-test.true c.exp-item.is c.in_ok-pass.ensures) c.in_ok-place.ensures.helpers c.loop-exp.invariant.helpers;
 }
 
-pub values::indexed_by-returns : goal.values::indexed_by-returns
-values::indexed_by-returns t c = record {
+pub structures::indexed_by-returns : goal.structures::indexed_by-returns
+structures::indexed_by-returns t c = record {
   is = λ v before is. indexed-end (site_of c.loop-exp.site) c.args.places.now c.loop-exp.exp-index (indexed_by v (places_in (site_of c.args.site.now) (exps_of c.args.places.now))) before c.loop-exp.goals.items c.loop-exp.item c.loop-exp.slots c.loop-exp-test.false (c.loop-exp.invariant.is v before is);
   helpers = going-end (map pred_tree c.args.helpers.now.items) (map pred_tree c.loop-exp.helpers.items) (all_helpers (site_of c.args.site.now) (exps_of c.args.places.now)) (all_helpers (site_of c.loop-exp.site) (exps_of (drop c.loop-exp.exp-index c.args.places.now))) (all-none (site_of c.loop-exp.site) c.args.places.now c.loop-exp.exp-index c.loop-exp-test.false) c.loop-exp.invariant.helpers;
 }
 
-pub values::indexed_by-same-item : goal.values::indexed_by-same-item
-values::indexed_by-same-item t c = refl
+pub structures::indexed_by-same-item : goal.structures::indexed_by-same-item
+structures::indexed_by-same-item t c = refl
 
 pub calls::call_value-returns-then-is_call_of : goal.calls::call_value-returns-then-is_call_of
 calls::call_value-returns-then-is_call_of t c = record {
@@ -122,25 +127,48 @@ calls::call_value-returns t c = record {
   helpers = same-helpers (map pred_tree c.args.helpers.now.items) (map pred_tree c.values.new.helpers.items) (all_helpers (site_of c.args.site.now) (exps_of c.args.args.now)) (call_value_helpers (site_of c.args.site.now) c.args.name.now (exps_of c.args.args.now)) (helpers-apply (site_of c.args.site.now) c.args.name.now c.args.args.now (sym c.is_call_of.ensures ∙ c.if-is_call_of.false) (sym c.is_call_of-2.ensures ∙ c.if-is_call_of-2.false)) c.in_ok-terms.ensures.helpers;
 }
 
-pub values::made-returns-in_ok-list-in-Some : goal.values::made-returns-in_ok-list-in-Some
-values::made-returns-in_ok-list-in-Some t c = record {
+pub structures::listed-returns-in_ok-list-in-Some : goal.structures::listed-returns-in_ok-list-in-Some
+structures::listed-returns-in_ok-list-in-Some t c = λ f. record {
   is = put-made_onto (site_of c.args.site.now) (site_of c.in_ok-behind-in-Some.behind) (exp_tree c.args.exp.now) (exps_of c.as_slice.result.now) (exp_tree c.deref.result.now) c.args.slots.now c.values.new.slots c.value.new.slots c.args.goals.now.items c.values.new.goals.items c.value.new.goals.items c.in_ok-parts-in-Some.parts.items c.deref-in-Some.result.now c.in_ok-rest-in-Some.rest c.in_ok-list-in-Some.list
       (onto-now c.args.exp.now c.in-List.items c.in-List.tail c.in-Some.tail c.as_slice.result.now c.deref.result.now c.in-List.is c.in-Some.is c.as_slice.ensures.value c.deref.ensures) c.in_ok-parts-in-Some.ensures.is (c.in_ok-behind-in-Some.ensures ∙ ap (λ xs. behind_site (site_of c.args.site.now) (places_all (exps_of xs)) (helpers_in_all (exps_of xs))) (c.as_slice-in-Some.ensures.value ∙ sym c.as_slice.ensures.value)) c.in_ok-rest-in-Some.ensures.is c.deref-in-Some.ensures.value c.in_ok-list-in-Some.ensures;
   helpers = two-helpers (map pred_tree c.args.helpers.now.items) (map pred_tree c.values.new.helpers.items) (map pred_tree c.value.new.helpers.items) (all_helpers (site_of c.args.site.now) (exps_of c.as_slice.result.now)) (value_helpers (site_of c.in_ok-behind-in-Some.behind) (exp_tree c.deref.result.now)) (value_helpers (site_of c.args.site.now) (exp_tree c.args.exp.now)) (helpers-onto (site_of c.args.site.now) (site_of c.in_ok-behind-in-Some.behind) (exp_tree c.args.exp.now) (exps_of c.as_slice.result.now) (exp_tree c.deref.result.now) (onto-now c.args.exp.now c.in-List.items c.in-List.tail c.in-Some.tail c.as_slice.result.now c.deref.result.now c.in-List.is c.in-Some.is c.as_slice.ensures.value c.deref.ensures) (c.in_ok-behind-in-Some.ensures ∙ ap (λ xs. behind_site (site_of c.args.site.now) (places_all (exps_of xs)) (helpers_in_all (exps_of xs))) (c.as_slice-in-Some.ensures.value ∙ sym c.as_slice.ensures.value))) c.in_ok-parts-in-Some.ensures.helpers c.in_ok-rest-in-Some.ensures.helpers;
 }
 
-pub values::made-returns-in_ok-list-in-None : goal.values::made-returns-in_ok-list-in-None
-values::made-returns-in_ok-list-in-None t c = record {
-  is = put-made_list (site_of c.args.site.now) (exp_tree c.args.exp.now) (exps_of c.as_slice-in-None.result.now) c.args.slots.now c.values-in-None.new.slots c.args.goals.now.items c.values-in-None.new.goals.items c.in_ok-parts-in-None.parts.items c.deref-in-None.result.now c.in_ok-rest-in-None.rest c.in_ok-list-in-None.list
-      (list-now c.args.exp.now c.in-List.items c.in-List.tail c.as_slice-in-None.result.now c.in-List.is c.in-None.is c.as_slice-in-None.ensures.value) c.in_ok-parts-in-None.ensures.is c.deref-in-None.ensures.value c.in_ok-rest-in-None.ensures.ok c.in_ok-list-in-None.ensures;
-  helpers = same-helpers (map pred_tree c.args.helpers.now.items) (map pred_tree c.values-in-None.new.helpers.items) (all_helpers (site_of c.args.site.now) (exps_of c.as_slice-in-None.result.now)) (value_helpers (site_of c.args.site.now) (exp_tree c.args.exp.now)) (helpers-list (site_of c.args.site.now) (exp_tree c.args.exp.now) (exps_of c.as_slice-in-None.result.now) (list-now c.args.exp.now c.in-List.items c.in-List.tail c.as_slice-in-None.result.now c.in-List.is c.in-None.is c.as_slice-in-None.ensures.value)) c.in_ok-parts-in-None.ensures.helpers;
+pub structures::listed-returns-in_ok-list-in-None : goal.structures::listed-returns-in_ok-list-in-None
+structures::listed-returns-in_ok-list-in-None t c = λ f.
+    gives-as (site_of c.args.site.now) (exp_tree c.args.exp.now) (ExpTree.list (exps_of c.as_slice-in-None.result.now)) c.args.slots.now c.list_of.new.slots c.args.goals.now.items c.list_of.new.goals.items c.in_ok-list-in-None.list c.args.helpers.now.items c.list_of.new.helpers.items
+    (list-now c.args.exp.now c.in-List.items c.in-List.tail c.as_slice-in-None.result.now c.in-List.is c.in-None.is c.as_slice-in-None.ensures.value) c.in_ok-list-in-None.ensures
+
+pub structures::listed-returns-in_ok-term-in_default : goal.structures::listed-returns-in_ok-term-in_default
+structures::listed-returns-in_ok-term-in_default t c = λ f. absurd (c.in_default.not-List f.items f.tail f.is)
+
+pub structures::list_of-returns : goal.structures::list_of-returns
+structures::list_of-returns t c = record {
+  is = put-made_list (site_of c.args.site.now) (ExpTree.list (exps_of c.args.exps.now)) (exps_of c.args.exps.now) c.args.slots.now c.values.new.slots c.args.goals.now.items c.values.new.goals.items c.in_ok-parts.parts.items c.deref.result.now c.in_ok-rest.rest c.in_ok-list.list refl c.in_ok-parts.ensures.is c.deref.ensures.value c.in_ok-rest.ensures.ok c.in_ok-list.ensures;
+  helpers = same-helpers (map pred_tree c.args.helpers.now.items) (map pred_tree c.values.new.helpers.items) (all_helpers (site_of c.args.site.now) (exps_of c.args.exps.now)) (value_helpers (site_of c.args.site.now) (ExpTree.list (exps_of c.args.exps.now))) (helpers-list (site_of c.args.site.now) (ExpTree.list (exps_of c.args.exps.now)) (exps_of c.args.exps.now) refl) c.in_ok-parts.ensures.helpers;
 }
 
 pub values::made-returns-in_ok-array-in-Array : goal.values::made-returns-in_ok-array-in-Array
-values::made-returns-in_ok-array-in-Array t c = record {
-  is = put-made_array (site_of c.args.site.now) (exp_tree c.args.exp.now) (exps_of c.as_slice-in-Array.result.now) c.args.slots.now c.values-in-Array.new.slots c.args.goals.now.items c.values-in-Array.new.goals.items c.in_ok-parts-in-Array.parts.items c.deref-in-Array.result.now c.in_ok-array-in-Array.array
-      (array-now c.args.exp.now c.in-Array.items c.as_slice-in-Array.result.now c.in-Array.is c.as_slice-in-Array.ensures.value) c.in_ok-parts-in-Array.ensures.is c.deref-in-Array.ensures.value c.in_ok-array-in-Array.ensures.ok;
-  helpers = same-helpers (map pred_tree c.args.helpers.now.items) (map pred_tree c.values-in-Array.new.helpers.items) (all_helpers (site_of c.args.site.now) (exps_of c.as_slice-in-Array.result.now)) (value_helpers (site_of c.args.site.now) (exp_tree c.args.exp.now)) (helpers-array (site_of c.args.site.now) (exp_tree c.args.exp.now) (exps_of c.as_slice-in-Array.result.now) (array-now c.args.exp.now c.in-Array.items c.as_slice-in-Array.result.now c.in-Array.is c.as_slice-in-Array.ensures.value)) c.in_ok-parts-in-Array.ensures.helpers;
+values::made-returns-in_ok-array-in-Array t c =
+    gives-as (site_of c.args.site.now) (exp_tree c.args.exp.now) (ExpTree.array (exps_of c.as_slice.result.now)) c.args.slots.now c.array_of.new.slots c.args.goals.now.items c.array_of.new.goals.items c.in_ok-array-in-Array.array c.args.helpers.now.items c.array_of.new.helpers.items
+    (array-now c.args.exp.now c.in-Array.items c.as_slice.result.now c.in-Array.is c.as_slice.ensures.value) c.in_ok-array-in-Array.ensures
+
+pub values::made-returns-in_ok-list-in-List : goal.values::made-returns-in_ok-list-in-List
+values::made-returns-in_ok-list-in-List t c = c.in_ok-list-in-List.ensures (record { items = c.in-List.field-0; tail = c.in-List.field-1; is = c.in-List.is })
+
+pub values::made-returns-in_ok-item-in-Index : goal.values::made-returns-in_ok-item-in-Index
+values::made-returns-in_ok-item-in-Index t c = c.in_ok-item-in-Index.ensures (record { whole = c.in-Index.field-0; places = c.in-Index.field-1; is = c.in-Index.is })
+
+pub values::made-returns-in_ok-range-in-Range : goal.values::made-returns-in_ok-range-in-Range
+values::made-returns-in_ok-range-in-Range t c = c.in_ok-range-in-Range.ensures (record { low = c.in-Range.field-0; step = c.in-Range.field-1; high = c.in-Range.field-2; is = c.in-Range.is })
+
+pub values::made-returns-in_ok-list-in-Collect : goal.values::made-returns-in_ok-list-in-Collect
+values::made-returns-in_ok-list-in-Collect t c = c.in_ok-list-in-Collect.ensures (record { is_array = c.in-Collect.field-0; item = c.in-Collect.field-1; units = c.in-Collect.field-2; is = c.in-Collect.is })
+
+pub structures::array_of-returns : goal.structures::array_of-returns
+structures::array_of-returns t c = record {
+  is = put-made_array (site_of c.args.site.now) (ExpTree.array (exps_of c.args.exps.now)) (exps_of c.args.exps.now) c.args.slots.now c.values.new.slots c.args.goals.now.items c.values.new.goals.items c.in_ok-parts.parts.items c.deref.result.now c.in_ok-array.array refl c.in_ok-parts.ensures.is c.deref.ensures.value c.in_ok-array.ensures.ok;
+  helpers = same-helpers (map pred_tree c.args.helpers.now.items) (map pred_tree c.values.new.helpers.items) (all_helpers (site_of c.args.site.now) (exps_of c.args.exps.now)) (value_helpers (site_of c.args.site.now) (ExpTree.array (exps_of c.args.exps.now))) (helpers-array (site_of c.args.site.now) (ExpTree.array (exps_of c.args.exps.now)) (exps_of c.args.exps.now) refl) c.in_ok-parts.ensures.helpers;
 }
 
 pub values::made-returns-in_ok-value-in-Call : goal.values::made-returns-in_ok-value-in-Call
@@ -149,38 +177,53 @@ values::made-returns-in_ok-value-in-Call t c = record {
   helpers = same-helpers (map pred_tree c.args.helpers.now.items) (map pred_tree c.call_value.new.helpers.items) (call_value_helpers (site_of c.args.site.now) c.as_str.result.now (exps_of c.as_slice-in-Call.result.now)) (value_helpers (site_of c.args.site.now) (exp_tree c.args.exp.now)) (value-call-helpers (site_of c.args.site.now) (exp_tree c.args.exp.now) c.in-Call.name c.as_str.result.now (exps_of c.as_slice-in-Call.result.now) (call-now c.args.exp.now c.in-Call.name c.in-Call.args c.as_slice-in-Call.result.now c.in-Call.is c.as_slice-in-Call.ensures.value) c.as_str.ensures) c.in_ok-value-in-Call.ensures.helpers;
 }
 
-pub values::made-returns-in_ok-item-in-Index : goal.values::made-returns-in_ok-item-in-Index
-values::made-returns-in_ok-item-in-Index t c = record {
-  is = put-made_index (site_of c.args.site.now) (site_of c.in_ok-behind-in-Index.behind) (exp_tree c.args.exp.now) (exp_tree c.deref-in-Index.result.now) (exps_of c.as_slice-in-Index-2.result.now) c.begins_flat-is_last.result c.args.slots.now c.value-in-Index.new.slots c.indexed_by.new.slots c.args.goals.now.items c.value-in-Index.new.goals.items c.indexed_by.new.goals.items c.in_ok-whole-in-Index.whole c.in_ok-item-in-Index.item
-      (index-now c.args.exp.now c.in-Index.of c.in-Index.places c.as_slice-in-Index-2.result.now c.deref-in-Index.result.now c.in-Index.is c.as_slice-in-Index-2.ensures.value c.deref-in-Index.ensures) (c.begins_flat-is_last.ensures ∙ ap (λ xs. begins_flat (exps_of xs)) (c.as_slice-in-Index.ensures.value ∙ sym c.as_slice-in-Index-2.ensures.value)) c.in_ok-whole-in-Index.ensures.is (c.in_ok-behind-in-Index.ensures ∙ ap (λ z. behind_exp (site_of c.args.site.now) (exp_tree z)) (c.deref-in-Index-2.ensures ∙ sym c.deref-in-Index.ensures)) c.in_ok-item-in-Index.ensures.is;
-  helpers = two-helpers (map pred_tree c.args.helpers.now.items) (map pred_tree c.value-in-Index.new.helpers.items) (map pred_tree c.indexed_by.new.helpers.items) (value_helpers (site_of c.args.site.now) (exp_tree c.deref-in-Index.result.now)) (all_helpers (site_of c.in_ok-behind-in-Index.behind) (exps_of c.as_slice-in-Index-2.result.now)) (value_helpers (site_of c.args.site.now) (exp_tree c.args.exp.now)) (helpers-index (site_of c.args.site.now) (site_of c.in_ok-behind-in-Index.behind) (exp_tree c.args.exp.now) (exp_tree c.deref-in-Index.result.now) (exps_of c.as_slice-in-Index-2.result.now) (index-now c.args.exp.now c.in-Index.of c.in-Index.places c.as_slice-in-Index-2.result.now c.deref-in-Index.result.now c.in-Index.is c.as_slice-in-Index-2.ensures.value c.deref-in-Index.ensures) (c.in_ok-behind-in-Index.ensures ∙ ap (λ z. behind_exp (site_of c.args.site.now) (exp_tree z)) (c.deref-in-Index-2.ensures ∙ sym c.deref-in-Index.ensures))) c.in_ok-whole-in-Index.ensures.helpers c.in_ok-item-in-Index.ensures.helpers;
+pub structures::indexed-returns-in_ok-item-in-Index : goal.structures::indexed-returns-in_ok-item-in-Index
+structures::indexed-returns-in_ok-item-in-Index t c = λ f. record {
+  is = put-made_index (site_of c.args.site.now) (site_of c.in_ok-behind-in-Index.behind) (exp_tree c.args.exp.now) (exp_tree c.deref.result.now) (exps_of c.as_slice-in-Index.result.now) c.begins_flat-is_last.result c.args.slots.now c.value.new.slots c.indexed_by.new.slots c.args.goals.now.items c.value.new.goals.items c.indexed_by.new.goals.items c.in_ok-whole-in-Index.whole c.in_ok-item-in-Index.item
+      (index-now c.args.exp.now c.in-Index.of c.in-Index.places c.as_slice-in-Index.result.now c.deref.result.now c.in-Index.is c.as_slice-in-Index.ensures.value c.deref.ensures) (c.begins_flat-is_last.ensures ∙ ap (λ xs. begins_flat (exps_of xs)) (c.as_slice.ensures.value ∙ sym c.as_slice-in-Index.ensures.value)) c.in_ok-whole-in-Index.ensures.is (c.in_ok-behind-in-Index.ensures ∙ ap (λ z. behind_exp (site_of c.args.site.now) (exp_tree z)) (c.deref-in-Index.ensures ∙ sym c.deref.ensures)) c.in_ok-item-in-Index.ensures.is;
+  helpers = two-helpers (map pred_tree c.args.helpers.now.items) (map pred_tree c.value.new.helpers.items) (map pred_tree c.indexed_by.new.helpers.items) (value_helpers (site_of c.args.site.now) (exp_tree c.deref.result.now)) (all_helpers (site_of c.in_ok-behind-in-Index.behind) (exps_of c.as_slice-in-Index.result.now)) (value_helpers (site_of c.args.site.now) (exp_tree c.args.exp.now)) (helpers-index (site_of c.args.site.now) (site_of c.in_ok-behind-in-Index.behind) (exp_tree c.args.exp.now) (exp_tree c.deref.result.now) (exps_of c.as_slice-in-Index.result.now) (index-now c.args.exp.now c.in-Index.of c.in-Index.places c.as_slice-in-Index.result.now c.deref.result.now c.in-Index.is c.as_slice-in-Index.ensures.value c.deref.ensures) (c.in_ok-behind-in-Index.ensures ∙ ap (λ z. behind_exp (site_of c.args.site.now) (exp_tree z)) (c.deref-in-Index.ensures ∙ sym c.deref.ensures))) c.in_ok-whole-in-Index.ensures.helpers c.in_ok-item-in-Index.ensures.helpers;
 }
 
-pub values::made-returns-in_ok-range-in-Some-step : goal.values::made-returns-in_ok-range-in-Some-step
-values::made-returns-in_ok-range-in-Some-step t c = record {
-  is = put-made_range_by (site_of c.args.site.now) (site_of c.in_ok-second-in-Some-step.second) (site_of c.in_ok-third-in-Some-step.third) (exp_tree c.args.exp.now) (exp_tree c.deref-in-Some-step-3.result.now) (exp_tree c.deref-in-Some-step-5.result.now) (exp_tree c.deref-in-Some-step-7.result.now) c.is_flat-is_last.result (c.is_flat-is_last.result && c.is_flat.result) c.args.slots.now c.value-in-Some-step.new.slots c.value-in-Some-step-2.new.slots c.value-in-Some-step-3.new.slots c.applied_to_three.new.slots c.args.goals.now.items c.value-in-Some-step.new.goals.items c.value-in-Some-step-2.new.goals.items c.value-in-Some-step-3.new.goals.items c.applied_to_three.new.goals.items
-      c.in_ok-one-in-Some-step.one c.in_ok-two-in-Some-step.two c.in_ok-three-in-Some-step.three c.in_ok-range-in-Some-step.range (range_by-now c.args.exp.now c.in-Range.first c.in-Range.step c.in-Range.last c.in-Some-step.step c.deref-in-Some-step-3.result.now c.deref-in-Some-step-5.result.now c.deref-in-Some-step-7.result.now c.in-Range.is c.in-Some-step.is c.deref-in-Some-step-3.ensures c.deref-in-Some-step-5.ensures c.deref-in-Some-step-7.ensures)
-      (c.is_flat-is_last.ensures ∙ ap (λ z. is_flat (exp_tree z)) (c.deref-in-Some-step.ensures ∙ sym c.deref-in-Some-step-7.ensures))
-      (flip-and c.is_flat-is_last.result c.is_flat.result (is_flat (exp_tree c.deref-in-Some-step-5.result.now)) (c.is_flat.ensures ∙ ap (λ z. is_flat (exp_tree z)) (c.deref-in-Some-step-2.ensures ∙ sym c.deref-in-Some-step-5.ensures)))
-      (c.in_ok-second-in-Some-step.ensures ∙ ap (λ z. behind_exp (site_of c.args.site.now) (exp_tree z)) (c.deref-in-Some-step-4.ensures ∙ sym c.deref-in-Some-step-3.ensures)) (c.in_ok-third-in-Some-step.ensures ∙ ap (λ z. behind_exp (site_of c.in_ok-second-in-Some-step.second) (exp_tree z)) (c.deref-in-Some-step-6.ensures ∙ sym c.deref-in-Some-step-5.ensures)) c.in_ok-one-in-Some-step.ensures.is c.in_ok-two-in-Some-step.ensures.is c.in_ok-three-in-Some-step.ensures.is c.in_ok-range-in-Some-step.ensures;
-  helpers = three-helpers (map pred_tree c.args.helpers.now.items) (map pred_tree c.value-in-Some-step.new.helpers.items) (map pred_tree c.value-in-Some-step-2.new.helpers.items) (map pred_tree c.value-in-Some-step-3.new.helpers.items) (value_helpers (site_of c.args.site.now) (exp_tree c.deref-in-Some-step-3.result.now)) (value_helpers (site_of c.in_ok-second-in-Some-step.second) (exp_tree c.deref-in-Some-step-5.result.now)) (value_helpers (site_of c.in_ok-third-in-Some-step.third) (exp_tree c.deref-in-Some-step-7.result.now)) (value_helpers (site_of c.args.site.now) (exp_tree c.args.exp.now)) (helpers-range_by (site_of c.args.site.now) (site_of c.in_ok-second-in-Some-step.second) (site_of c.in_ok-third-in-Some-step.third) (exp_tree c.args.exp.now) (exp_tree c.deref-in-Some-step-3.result.now) (exp_tree c.deref-in-Some-step-5.result.now) (exp_tree c.deref-in-Some-step-7.result.now) (range_by-now c.args.exp.now c.in-Range.first c.in-Range.step c.in-Range.last c.in-Some-step.step c.deref-in-Some-step-3.result.now c.deref-in-Some-step-5.result.now c.deref-in-Some-step-7.result.now c.in-Range.is c.in-Some-step.is c.deref-in-Some-step-3.ensures c.deref-in-Some-step-5.ensures c.deref-in-Some-step-7.ensures) (c.in_ok-second-in-Some-step.ensures ∙ ap (λ z. behind_exp (site_of c.args.site.now) (exp_tree z)) (c.deref-in-Some-step-4.ensures ∙ sym c.deref-in-Some-step-3.ensures)) (c.in_ok-third-in-Some-step.ensures ∙ ap (λ z. behind_exp (site_of c.in_ok-second-in-Some-step.second) (exp_tree z)) (c.deref-in-Some-step-6.ensures ∙ sym c.deref-in-Some-step-5.ensures))) c.in_ok-one-in-Some-step.ensures.helpers c.in_ok-two-in-Some-step.ensures.helpers c.in_ok-three-in-Some-step.ensures.helpers;
+pub structures::indexed-returns-in_ok-term-in_default : goal.structures::indexed-returns-in_ok-term-in_default
+structures::indexed-returns-in_ok-term-in_default t c = λ f. absurd (c.in_default.not-Index f.whole f.places f.is)
+
+pub structures::stepped-returns-in_ok-range-in-Some : goal.structures::stepped-returns-in_ok-range-in-Some
+structures::stepped-returns-in_ok-range-in-Some t c = λ f. record {
+  is = put-made_range_by (site_of c.args.site.now) (site_of c.in_ok-second-in-Some.second) (site_of c.in_ok-third-in-Some.third) (exp_tree c.args.exp.now) (exp_tree c.deref-in-Some-2.result.now) (exp_tree c.deref-in-Some-4.result.now) (exp_tree c.deref-in-Some-6.result.now) c.is_flat-is_last.result (c.is_flat-is_last.result && c.is_flat.result) c.args.slots.now c.value.new.slots c.value-in-Some.new.slots c.value-in-Some-2.new.slots c.applied_to_three.new.slots c.args.goals.now.items c.value.new.goals.items c.value-in-Some.new.goals.items c.value-in-Some-2.new.goals.items c.applied_to_three.new.goals.items
+      c.in_ok-one-in-Some.one c.in_ok-two-in-Some.two c.in_ok-three-in-Some.three c.in_ok-range-in-Some.range (range_by-now c.args.exp.now c.in-Range.first c.in-Range.step c.in-Range.last c.in-Some.step c.deref-in-Some-2.result.now c.deref-in-Some-4.result.now c.deref-in-Some-6.result.now c.in-Range.is c.in-Some.is c.deref-in-Some-2.ensures c.deref-in-Some-4.ensures c.deref-in-Some-6.ensures)
+      (c.is_flat-is_last.ensures ∙ ap (λ z. is_flat (exp_tree z)) (c.deref.ensures ∙ sym c.deref-in-Some-6.ensures))
+      (flip-and c.is_flat-is_last.result c.is_flat.result (is_flat (exp_tree c.deref-in-Some-4.result.now)) (c.is_flat.ensures ∙ ap (λ z. is_flat (exp_tree z)) (c.deref-in-Some.ensures ∙ sym c.deref-in-Some-4.ensures)))
+      (c.in_ok-second-in-Some.ensures ∙ ap (λ z. behind_exp (site_of c.args.site.now) (exp_tree z)) (c.deref-in-Some-3.ensures ∙ sym c.deref-in-Some-2.ensures)) (c.in_ok-third-in-Some.ensures ∙ ap (λ z. behind_exp (site_of c.in_ok-second-in-Some.second) (exp_tree z)) (c.deref-in-Some-5.ensures ∙ sym c.deref-in-Some-4.ensures)) c.in_ok-one-in-Some.ensures.is c.in_ok-two-in-Some.ensures.is c.in_ok-three-in-Some.ensures.is c.in_ok-range-in-Some.ensures;
+  helpers = three-helpers (map pred_tree c.args.helpers.now.items) (map pred_tree c.value.new.helpers.items) (map pred_tree c.value-in-Some.new.helpers.items) (map pred_tree c.value-in-Some-2.new.helpers.items) (value_helpers (site_of c.args.site.now) (exp_tree c.deref-in-Some-2.result.now)) (value_helpers (site_of c.in_ok-second-in-Some.second) (exp_tree c.deref-in-Some-4.result.now)) (value_helpers (site_of c.in_ok-third-in-Some.third) (exp_tree c.deref-in-Some-6.result.now)) (value_helpers (site_of c.args.site.now) (exp_tree c.args.exp.now)) (helpers-range_by (site_of c.args.site.now) (site_of c.in_ok-second-in-Some.second) (site_of c.in_ok-third-in-Some.third) (exp_tree c.args.exp.now) (exp_tree c.deref-in-Some-2.result.now) (exp_tree c.deref-in-Some-4.result.now) (exp_tree c.deref-in-Some-6.result.now) (range_by-now c.args.exp.now c.in-Range.first c.in-Range.step c.in-Range.last c.in-Some.step c.deref-in-Some-2.result.now c.deref-in-Some-4.result.now c.deref-in-Some-6.result.now c.in-Range.is c.in-Some.is c.deref-in-Some-2.ensures c.deref-in-Some-4.ensures c.deref-in-Some-6.ensures) (c.in_ok-second-in-Some.ensures ∙ ap (λ z. behind_exp (site_of c.args.site.now) (exp_tree z)) (c.deref-in-Some-3.ensures ∙ sym c.deref-in-Some-2.ensures)) (c.in_ok-third-in-Some.ensures ∙ ap (λ z. behind_exp (site_of c.in_ok-second-in-Some.second) (exp_tree z)) (c.deref-in-Some-5.ensures ∙ sym c.deref-in-Some-4.ensures))) c.in_ok-one-in-Some.ensures.helpers c.in_ok-two-in-Some.ensures.helpers c.in_ok-three-in-Some.ensures.helpers;
 }
 
-pub values::made-returns-in_ok-range-in-None-step : goal.values::made-returns-in_ok-range-in-None-step
-values::made-returns-in_ok-range-in-None-step t c = record {
-  is = put-made_range (site_of c.args.site.now) (site_of c.in_ok-behind-in-None-step.behind) (exp_tree c.args.exp.now) (exp_tree c.deref-in-None-step-2.result.now) (exp_tree c.deref-in-None-step-4.result.now) c.is_flat-is_last-in-None-step.result c.args.slots.now c.value-in-None-step.new.slots c.value-in-None-step-2.new.slots c.applied_to_two.new.slots c.args.goals.now.items c.value-in-None-step.new.goals.items c.value-in-None-step-2.new.goals.items c.applied_to_two.new.goals.items c.in_ok-one-in-None-step.one c.in_ok-two-in-None-step.two c.in_ok-range-in-None-step.range
-      (range-now c.args.exp.now c.in-Range.first c.in-Range.step c.in-Range.last c.deref-in-None-step-2.result.now c.deref-in-None-step-4.result.now c.in-Range.is c.in-None-step.is c.deref-in-None-step-2.ensures c.deref-in-None-step-4.ensures) (c.is_flat-is_last-in-None-step.ensures ∙ ap (λ z. is_flat (exp_tree z)) (c.deref-in-None-step.ensures ∙ sym c.deref-in-None-step-4.ensures)) (c.in_ok-behind-in-None-step.ensures ∙ ap (λ z. behind_exp (site_of c.args.site.now) (exp_tree z)) (c.deref-in-None-step-3.ensures ∙ sym c.deref-in-None-step-2.ensures)) c.in_ok-one-in-None-step.ensures.is c.in_ok-two-in-None-step.ensures.is c.in_ok-range-in-None-step.ensures;
-  helpers = two-helpers (map pred_tree c.args.helpers.now.items) (map pred_tree c.value-in-None-step.new.helpers.items) (map pred_tree c.value-in-None-step-2.new.helpers.items) (value_helpers (site_of c.args.site.now) (exp_tree c.deref-in-None-step-2.result.now)) (value_helpers (site_of c.in_ok-behind-in-None-step.behind) (exp_tree c.deref-in-None-step-4.result.now)) (value_helpers (site_of c.args.site.now) (exp_tree c.args.exp.now)) (helpers-range (site_of c.args.site.now) (site_of c.in_ok-behind-in-None-step.behind) (exp_tree c.args.exp.now) (exp_tree c.deref-in-None-step-2.result.now) (exp_tree c.deref-in-None-step-4.result.now) (range-now c.args.exp.now c.in-Range.first c.in-Range.step c.in-Range.last c.deref-in-None-step-2.result.now c.deref-in-None-step-4.result.now c.in-Range.is c.in-None-step.is c.deref-in-None-step-2.ensures c.deref-in-None-step-4.ensures) (c.in_ok-behind-in-None-step.ensures ∙ ap (λ z. behind_exp (site_of c.args.site.now) (exp_tree z)) (c.deref-in-None-step-3.ensures ∙ sym c.deref-in-None-step-2.ensures))) c.in_ok-one-in-None-step.ensures.helpers c.in_ok-two-in-None-step.ensures.helpers;
+pub structures::stepped-returns-in_ok-term-in-None : goal.structures::stepped-returns-in_ok-term-in-None
+structures::stepped-returns-in_ok-term-in-None t c = λ f. absurd (not-stepped c.args.exp.now c.in-Range.first c.in-Range.step c.in-Range.last c.in-Range.is c.in-None.is f)
+
+pub structures::stepped-returns-in_ok-term-in_default : goal.structures::stepped-returns-in_ok-term-in_default
+structures::stepped-returns-in_ok-term-in_default t c = λ f. absurd (c.in_default.not-Range f.low (Some f.step) f.high f.is)
+
+pub structures::ranged-returns-in_ok-range-in-None : goal.structures::ranged-returns-in_ok-range-in-None
+structures::ranged-returns-in_ok-range-in-None t c = λ f. record {
+  is = put-made_range (site_of c.args.site.now) (site_of c.in_ok-behind-in-None.behind) (exp_tree c.args.exp.now) (exp_tree c.deref-in-None.result.now) (exp_tree c.deref-in-None-3.result.now) c.is_flat-is_last.result c.args.slots.now c.value.new.slots c.value-in-None.new.slots c.applied_to_two.new.slots c.args.goals.now.items c.value.new.goals.items c.value-in-None.new.goals.items c.applied_to_two.new.goals.items c.in_ok-one-in-None.one c.in_ok-two-in-None.two c.in_ok-range-in-None.range
+      (range-now c.args.exp.now c.in-Range.first c.in-Range.step c.in-Range.last c.deref-in-None.result.now c.deref-in-None-3.result.now c.in-Range.is c.in-None.is c.deref-in-None.ensures c.deref-in-None-3.ensures) (c.is_flat-is_last.ensures ∙ ap (λ z. is_flat (exp_tree z)) (c.deref.ensures ∙ sym c.deref-in-None-3.ensures)) (c.in_ok-behind-in-None.ensures ∙ ap (λ z. behind_exp (site_of c.args.site.now) (exp_tree z)) (c.deref-in-None-2.ensures ∙ sym c.deref-in-None.ensures)) c.in_ok-one-in-None.ensures.is c.in_ok-two-in-None.ensures.is c.in_ok-range-in-None.ensures;
+  helpers = two-helpers (map pred_tree c.args.helpers.now.items) (map pred_tree c.value.new.helpers.items) (map pred_tree c.value-in-None.new.helpers.items) (value_helpers (site_of c.args.site.now) (exp_tree c.deref-in-None.result.now)) (value_helpers (site_of c.in_ok-behind-in-None.behind) (exp_tree c.deref-in-None-3.result.now)) (value_helpers (site_of c.args.site.now) (exp_tree c.args.exp.now)) (helpers-range (site_of c.args.site.now) (site_of c.in_ok-behind-in-None.behind) (exp_tree c.args.exp.now) (exp_tree c.deref-in-None.result.now) (exp_tree c.deref-in-None-3.result.now) (range-now c.args.exp.now c.in-Range.first c.in-Range.step c.in-Range.last c.deref-in-None.result.now c.deref-in-None-3.result.now c.in-Range.is c.in-None.is c.deref-in-None.ensures c.deref-in-None-3.ensures) (c.in_ok-behind-in-None.ensures ∙ ap (λ z. behind_exp (site_of c.args.site.now) (exp_tree z)) (c.deref-in-None-2.ensures ∙ sym c.deref-in-None.ensures))) c.in_ok-one-in-None.ensures.helpers c.in_ok-two-in-None.ensures.helpers;
 }
 
-pub values::made-same-one : goal.values::made-same-one
-values::made-same-one t c = refl
+pub structures::ranged-returns-in_ok-range-in-Some : goal.structures::ranged-returns-in_ok-range-in-Some
+structures::ranged-returns-in_ok-range-in-Some t c = λ f. c.in_ok-range-in-Some.ensures (record { low = c.in-Range.first; step = c.in-Some.field-0; high = c.in-Range.last; is = c.in-Range.is ∙ ap (λ o. e.Range c.in-Range.first o c.in-Range.last) c.in-Some.is })
 
-pub values::made-same-two : goal.values::made-same-two
-values::made-same-two t c = refl
+pub structures::ranged-returns-in_ok-term-in_default : goal.structures::ranged-returns-in_ok-term-in_default
+structures::ranged-returns-in_ok-term-in_default t c = λ f. absurd (c.in_default.not-Range f.low f.step f.high f.is)
 
-pub values::made-same-one-in-None-step : goal.values::made-same-one-in-None-step
-values::made-same-one-in-None-step t c = refl
+pub structures::stepped-same-one : goal.structures::stepped-same-one
+structures::stepped-same-one t c = refl
+
+pub structures::stepped-same-two : goal.structures::stepped-same-two
+structures::stepped-same-two t c = refl
+
+pub structures::ranged-same-one : goal.structures::ranged-same-one
+structures::ranged-same-one t c = refl
 
 pub values::made-returns-in-Var : goal.values::made-returns-in-Var
 values::made-returns-in-Var t c = no_value-as (site_of c.args.site.now) c.args.exp.now (e.Var c.in-Var.field-0) c.args.slots.now c.args.goals.now.items c.no_value.new.goals.items c.args.helpers.now.items c.no_value.result c.in-Var.is (none-var (site_of c.args.site.now) c.in-Var.field-0 c.args.slots.now) (bare-var (site_of c.args.site.now) c.in-Var.field-0) c.no_value.ensures.goals c.no_value.ensures.is
@@ -298,9 +341,9 @@ goals::branch_of-returns-in_ok-goal-in_default t c = record {
   helpers = c.in_ok-goal-in_default.ensures.helpers;
 }
 
-pub goals::push_goal-returns-in_ok-push-in-Atom : goal.goals::push_goal-returns-in_ok-push-in-Atom
-goals::push_goal-returns-in_ok-push-in-Atom t c = record {
-  is = put-atom (site_of c.args.site.now) (exp_tree c.args.exp.now) c.in-Atom.name c.as_str.result.now c.args.slots.now c.args.slots.now c.args.goals.now.items c.push.new.self.items c.in_ok-goal-in-Atom.goal (atom-now c.args.exp.now c.in-Atom.name c.in-Atom.is) c.as_str.ensures c.in_ok-goal-in-Atom.ensures c.in_ok-push-in-Atom.ensures.items refl;
+pub goals::push_goal-returns-in_ok-push_atom-in-Atom : goal.goals::push_goal-returns-in_ok-push_atom-in-Atom
+goals::push_goal-returns-in_ok-push_atom-in-Atom t c = record {
+  is = put-atom (site_of c.args.site.now) (exp_tree c.args.exp.now) c.in-Atom.name c.as_str.result.now c.args.slots.now c.args.slots.now c.args.goals.now.items c.push_atom.new.goals.items (atom_tree c.as_str.result.now) (atom-now c.args.exp.now c.in-Atom.name c.in-Atom.is) c.as_str.ensures refl c.in_ok-push_atom-in-Atom.ensures refl;
   helpers = no-helpers (map pred_tree c.args.helpers.now.items) (goal_helpers (site_of c.args.site.now) (exp_tree c.args.exp.now)) (helpers-atom (site_of c.args.site.now) (exp_tree c.args.exp.now) c.in-Atom.name (atom-now c.args.exp.now c.in-Atom.name c.in-Atom.is));
 }
 
@@ -316,25 +359,48 @@ goals::push_goal-returns-in_ok-push_all-in-And t c = record {
   helpers = same-helpers (map pred_tree c.args.helpers.now.items) (map pred_tree c.push_all.new.helpers.items) (conjunct_helpers (site_of c.args.site.now) (exps_of c.as_slice-in-And.result.now)) (goal_helpers (site_of c.args.site.now) (exp_tree c.args.exp.now)) (helpers-and (site_of c.args.site.now) (exp_tree c.args.exp.now) (exps_of c.as_slice-in-And.result.now) (and-now c.args.exp.now c.in-And.parts c.as_slice-in-And.result.now c.in-And.is c.as_slice-in-And.ensures.value)) c.in_ok-push_all-in-And.ensures.helpers;
 }
 
-pub goals::push_goal-returns-in_ok-push-in-Or : goal.goals::push_goal-returns-in_ok-push-in-Or
-goals::push_goal-returns-in_ok-push-in-Or t c = record {
-  is = put-or (site_of c.args.site.now) (exp_tree c.args.exp.now) (exps_of c.as_slice-in-Or.result.now) c.args.slots.now c.branches.new.slots c.in_ok-branches-in-Or.branches.items c.args.goals.now.items c.push-in-Or.new.self.items c.in_ok-goal-in-Or.goal (or-now c.args.exp.now c.in-Or.parts c.as_slice-in-Or.result.now c.in-Or.is c.as_slice-in-Or.ensures.value) c.in_ok-branches-in-Or.ensures.is c.in_ok-goal-in-Or.ensures c.in_ok-push-in-Or.ensures.items;
-  helpers = same-helpers (map pred_tree c.args.helpers.now.items) (map pred_tree c.branches.new.helpers.items) (conjunct_helpers (site_of c.args.site.now) (exps_of c.as_slice-in-Or.result.now)) (goal_helpers (site_of c.args.site.now) (exp_tree c.args.exp.now)) (helpers-or (site_of c.args.site.now) (exp_tree c.args.exp.now) (exps_of c.as_slice-in-Or.result.now) (or-now c.args.exp.now c.in-Or.parts c.as_slice-in-Or.result.now c.in-Or.is c.as_slice-in-Or.ensures.value)) c.in_ok-branches-in-Or.ensures.helpers;
+pub goals::push_goal-returns-in_ok-push_any-in-Or : goal.goals::push_goal-returns-in_ok-push_any-in-Or
+goals::push_goal-returns-in_ok-push_any-in-Or t c =
+    put-as (site_of c.args.site.now) (exp_tree c.args.exp.now) (ExpTree.or (exps_of c.as_slice-in-Or.result.now)) c.args.slots.now c.push_any.new.slots c.args.goals.now.items c.push_any.new.goals.items c.args.helpers.now.items c.push_any.new.helpers.items
+    (or-now c.args.exp.now c.in-Or.parts c.as_slice-in-Or.result.now c.in-Or.is c.as_slice-in-Or.ensures.value) c.in_ok-push_any-in-Or.ensures
+
+pub goals::push_any-returns : goal.goals::push_any-returns
+goals::push_any-returns t c = record {
+  is = put-or (site_of c.args.site.now) (ExpTree.or (exps_of c.args.exps.now)) (exps_of c.args.exps.now) c.args.slots.now c.branches.new.slots c.in_ok-branches.branches.items c.args.goals.now.items c.push_closed.new.goals.items (either_of (closed c.in_ok-branches.branches.items [])) refl c.in_ok-branches.ensures.is refl c.in_ok-push_closed.ensures;
+  helpers = same-helpers (map pred_tree c.args.helpers.now.items) (map pred_tree c.branches.new.helpers.items) (conjunct_helpers (site_of c.args.site.now) (exps_of c.args.exps.now)) (goal_helpers (site_of c.args.site.now) (ExpTree.or (exps_of c.args.exps.now))) (helpers-or (site_of c.args.site.now) (ExpTree.or (exps_of c.args.exps.now)) (exps_of c.args.exps.now) refl) c.in_ok-branches.ensures.helpers;
 }
 
-pub goals::push_goal-returns-in_ok-push_chosen-in-Some : goal.goals::push_goal-returns-in_ok-push_chosen-in-Some
-goals::push_goal-returns-in_ok-push_chosen-in-Some t c = record {
-  is = put-if_else (site_of c.args.site.now) (site_of c.in_ok-behind-in-Some.behind) (exp_tree c.args.exp.now) (branches_in c.as_slice-in-Some.result.now) (exp_tree c.deref.result.now) c.args.slots.now c.conditions.new.slots c.push_goal.new.slots c.in_ok-conditions-in-Some.conditions.items c.new-last.result.items c.push_goal.new.goals.items c.args.goals.now.items c.push_chosen.new.goals.items
-      (if_else-now c.args.exp.now c.in-If.parts c.in-If.other c.in-Some.other c.as_slice-in-Some.result.now c.deref.result.now c.in-If.is c.in-Some.is c.as_slice-in-Some.ensures.value c.deref.ensures) c.in_ok-conditions-in-Some.ensures.is (c.in_ok-behind-in-Some.ensures ∙ ap (λ xs. behind_site (site_of c.args.site.now) (places_of_branches (branches_in xs)) (helpers_in_branches (branches_in xs))) (c.as_slice-in-Some-2.ensures.value ∙ sym c.as_slice-in-Some.ensures.value)) c.new-last.ensures.items c.in_ok-push_goal-in-Some.ensures.is c.in_ok-push_chosen-in-Some.ensures;
-  helpers = two-helpers (map pred_tree c.args.helpers.now.items) (map pred_tree c.conditions.new.helpers.items) (map pred_tree c.push_goal.new.helpers.items) (branch_helpers (site_of c.args.site.now) (branches_in c.as_slice-in-Some.result.now)) (goal_helpers (site_of c.in_ok-behind-in-Some.behind) (exp_tree c.deref.result.now)) (goal_helpers (site_of c.args.site.now) (exp_tree c.args.exp.now)) (helpers-if_else (site_of c.args.site.now) (site_of c.in_ok-behind-in-Some.behind) (exp_tree c.args.exp.now) (branches_in c.as_slice-in-Some.result.now) (exp_tree c.deref.result.now) (if_else-now c.args.exp.now c.in-If.parts c.in-If.other c.in-Some.other c.as_slice-in-Some.result.now c.deref.result.now c.in-If.is c.in-Some.is c.as_slice-in-Some.ensures.value c.deref.ensures) (c.in_ok-behind-in-Some.ensures ∙ ap (λ xs. behind_site (site_of c.args.site.now) (places_of_branches (branches_in xs)) (helpers_in_branches (branches_in xs))) (c.as_slice-in-Some-2.ensures.value ∙ sym c.as_slice-in-Some.ensures.value))) c.in_ok-conditions-in-Some.ensures.helpers c.in_ok-push_goal-in-Some.ensures.helpers;
+pub goals::push_goal-returns-in_ok-push_if-in-If : goal.goals::push_goal-returns-in_ok-push_if-in-If
+goals::push_goal-returns-in_ok-push_if-in-If t c = c.in_ok-push_if-in-If.ensures (record { parts = c.in-If.field-0; other = c.in-If.field-1; is = c.in-If.is })
+
+pub goals::push_goal-returns-in_ok-push_aside-in-Arrow : goal.goals::push_goal-returns-in_ok-push_aside-in-Arrow
+goals::push_goal-returns-in_ok-push_aside-in-Arrow t c = c.in_ok-push_aside-in-Arrow.ensures (record { test = c.in-Arrow.field-0; body = c.in-Arrow.field-1; is = c.in-Arrow.is })
+
+pub goals::push_goal-returns-in_ok-push_foreach-in-Foreach : goal.goals::push_goal-returns-in_ok-push_foreach-in-Foreach
+goals::push_goal-returns-in_ok-push_foreach-in-Foreach t c = c.in_ok-push_foreach-in-Foreach.ensures (record { units = c.in-Foreach.field-0; body = c.in-Foreach.field-1; is = c.in-Foreach.is })
+
+pub goals::push_goal-returns-in_ok-push_while-in-While : goal.goals::push_goal-returns-in_ok-push_while-in-While
+goals::push_goal-returns-in_ok-push_while-in-While t c = c.in_ok-push_while-in-While.ensures (record { test = c.in-While.field-0; body = c.in-While.field-1; is = c.in-While.is })
+
+pub goals::push_goal-returns-in_ok-push_do-in-DoWhile : goal.goals::push_goal-returns-in_ok-push_do-in-DoWhile
+goals::push_goal-returns-in_ok-push_do-in-DoWhile t c = c.in_ok-push_do-in-DoWhile.ensures (record { body = c.in-DoWhile.field-0; test = c.in-DoWhile.field-1; is = c.in-DoWhile.is })
+
+pub goals::push_if-returns-in_ok-push_chosen-in-Some : goal.goals::push_if-returns-in_ok-push_chosen-in-Some
+goals::push_if-returns-in_ok-push_chosen-in-Some t c = λ f. record {
+  is = put-if_else (site_of c.args.site.now) (site_of c.in_ok-behind-in-Some.behind) (exp_tree c.args.exp.now) (branches_in c.as_slice.result.now) (exp_tree c.deref.result.now) c.args.slots.now c.conditions.new.slots c.push_goal.new.slots c.in_ok-conditions-in-Some.conditions.items c.new-last.result.items c.push_goal.new.goals.items c.args.goals.now.items c.push_chosen.new.goals.items
+      (if_else-now c.args.exp.now c.in-If.parts c.in-If.other c.in-Some.other c.as_slice.result.now c.deref.result.now c.in-If.is c.in-Some.is c.as_slice.ensures.value c.deref.ensures) c.in_ok-conditions-in-Some.ensures.is (c.in_ok-behind-in-Some.ensures ∙ ap (λ xs. behind_site (site_of c.args.site.now) (places_of_branches (branches_in xs)) (helpers_in_branches (branches_in xs))) (c.as_slice-in-Some.ensures.value ∙ sym c.as_slice.ensures.value)) c.new-last.ensures.items c.in_ok-push_goal-in-Some.ensures.is c.in_ok-push_chosen-in-Some.ensures;
+  helpers = two-helpers (map pred_tree c.args.helpers.now.items) (map pred_tree c.conditions.new.helpers.items) (map pred_tree c.push_goal.new.helpers.items) (branch_helpers (site_of c.args.site.now) (branches_in c.as_slice.result.now)) (goal_helpers (site_of c.in_ok-behind-in-Some.behind) (exp_tree c.deref.result.now)) (goal_helpers (site_of c.args.site.now) (exp_tree c.args.exp.now)) (helpers-if_else (site_of c.args.site.now) (site_of c.in_ok-behind-in-Some.behind) (exp_tree c.args.exp.now) (branches_in c.as_slice.result.now) (exp_tree c.deref.result.now) (if_else-now c.args.exp.now c.in-If.parts c.in-If.other c.in-Some.other c.as_slice.result.now c.deref.result.now c.in-If.is c.in-Some.is c.as_slice.ensures.value c.deref.ensures) (c.in_ok-behind-in-Some.ensures ∙ ap (λ xs. behind_site (site_of c.args.site.now) (places_of_branches (branches_in xs)) (helpers_in_branches (branches_in xs))) (c.as_slice-in-Some.ensures.value ∙ sym c.as_slice.ensures.value))) c.in_ok-conditions-in-Some.ensures.helpers c.in_ok-push_goal-in-Some.ensures.helpers;
 }
 
-pub goals::push_goal-returns-in_ok-push_chosen-in-None : goal.goals::push_goal-returns-in_ok-push_chosen-in-None
-goals::push_goal-returns-in_ok-push_chosen-in-None t c = record {
-  is = put-if_then (site_of c.args.site.now) (exp_tree c.args.exp.now) (branches_in c.as_slice-in-None.result.now) c.args.slots.now c.conditions-in-None.new.slots c.in_ok-conditions-in-None.conditions.items c.new-last-in-None.result.items c.push-in-None.new.self.items c.args.goals.now.items c.push_chosen-in-None.new.goals.items c.in_ok-truth-in-None.truth
-      (if_then-now c.args.exp.now c.in-If.parts c.in-If.other c.as_slice-in-None.result.now c.in-If.is c.in-None.is c.as_slice-in-None.ensures.value) c.in_ok-conditions-in-None.ensures.is c.new-last-in-None.ensures.items c.in_ok-truth-in-None.ensures.ok c.in_ok-push-in-None.ensures.items c.in_ok-push_chosen-in-None.ensures;
+pub goals::push_if-returns-in_ok-push_chosen-in-None : goal.goals::push_if-returns-in_ok-push_chosen-in-None
+goals::push_if-returns-in_ok-push_chosen-in-None t c = λ f. record {
+  is = put-if_then (site_of c.args.site.now) (exp_tree c.args.exp.now) (branches_in c.as_slice-in-None.result.now) c.args.slots.now c.conditions-in-None.new.slots c.in_ok-conditions-in-None.conditions.items [] c.in_ok-last-in-None.last.items c.args.goals.now.items c.push_chosen-in-None.new.goals.items GoalTree.truth
+      (if_then-now c.args.exp.now c.in-If.parts c.in-If.other c.as_slice-in-None.result.now c.in-If.is c.in-None.is c.as_slice-in-None.ensures.value) c.in_ok-conditions-in-None.ensures.is refl refl c.in_ok-last-in-None.ensures c.in_ok-push_chosen-in-None.ensures;
   helpers = same-helpers (map pred_tree c.args.helpers.now.items) (map pred_tree c.conditions-in-None.new.helpers.items) (branch_helpers (site_of c.args.site.now) (branches_in c.as_slice-in-None.result.now)) (goal_helpers (site_of c.args.site.now) (exp_tree c.args.exp.now)) (helpers-if_then (site_of c.args.site.now) (exp_tree c.args.exp.now) (branches_in c.as_slice-in-None.result.now) (if_then-now c.args.exp.now c.in-If.parts c.in-If.other c.as_slice-in-None.result.now c.in-If.is c.in-None.is c.as_slice-in-None.ensures.value)) c.in_ok-conditions-in-None.ensures.helpers;
 }
+
+pub goals::push_if-returns-in_ok-push_fail-in_default : goal.goals::push_if-returns-in_ok-push_fail-in_default
+goals::push_if-returns-in_ok-push_fail-in_default t c = λ f. absurd (c.in_default.not-If f.parts f.other f.is)
 
 pub goals::push_goal-returns-in-Var : goal.goals::push_goal-returns-in-Var
 goals::push_goal-returns-in-Var t c = never-as (site_of c.args.site.now) c.args.exp.now (e.Var c.in-Var.field-0) c.args.slots.now c.args.goals.now.items c.push_fail.new.goals.items c.args.helpers.now.items c.push_fail.result c.in-Var.is (never-var (site_of c.args.site.now) c.in-Var.field-0 c.args.slots.now) (idle-var (site_of c.args.site.now) c.in-Var.field-0) c.push_fail.ensures
@@ -366,58 +432,79 @@ goals::push_goal-returns-in-At t c = never-as (site_of c.args.site.now) c.args.e
 pub goals::push_goal-returns-in-Collect : goal.goals::push_goal-returns-in-Collect
 goals::push_goal-returns-in-Collect t c = never-as (site_of c.args.site.now) c.args.exp.now (e.Collect c.in-Collect.field-0 c.in-Collect.field-1 c.in-Collect.field-2) c.args.slots.now c.args.goals.now.items c.push_fail-in-Collect.new.goals.items c.args.helpers.now.items c.push_fail-in-Collect.result c.in-Collect.is (never-collect (site_of c.args.site.now) c.in-Collect.field-0 c.in-Collect.field-1 c.in-Collect.field-2 c.args.slots.now) (idle-collect (site_of c.args.site.now) c.in-Collect.field-0 c.in-Collect.field-1 c.in-Collect.field-2) c.push_fail-in-Collect.ensures
 
-pub goals::push_goal-returns-in_ok-push_fail-in-Arrow : goal.goals::push_goal-returns-in_ok-push_fail-in-Arrow
-goals::push_goal-returns-in_ok-push_fail-in-Arrow t c = record {
-  is = put-never (goal_of (site_of c.args.site.now) (exp_tree c.args.exp.now) c.args.slots.now) c.args.slots.now c.args.slots.now c.args.goals.now.items c.push_fail-in-Arrow.new.goals.items (never-arrow (site_of c.args.site.now) (exp_tree c.args.exp.now) (exp_tree c.deref-in-Arrow.result.now) (exp_tree c.deref-in-Arrow-3.result.now) c.args.slots.now (arrow-now c.args.exp.now c.in-Arrow.test c.in-Arrow.body c.deref-in-Arrow.result.now c.deref-in-Arrow-3.result.now c.in-Arrow.is c.deref-in-Arrow.ensures c.deref-in-Arrow-3.ensures)) c.in_ok-push_fail-in-Arrow.ensures refl;
-  helpers = two-helpers (map pred_tree c.args.helpers.now.items) (map pred_tree c.push_goal-in-Arrow.new.helpers.items) (map pred_tree c.push_goal-in-Arrow-2.new.helpers.items) (goal_helpers (site_of c.args.site.now) (exp_tree c.deref-in-Arrow.result.now)) (goal_helpers (site_of c.in_ok-behind-in-Arrow.behind) (exp_tree c.deref-in-Arrow-3.result.now)) (goal_helpers (site_of c.args.site.now) (exp_tree c.args.exp.now)) (helpers-arrow (site_of c.args.site.now) (site_of c.in_ok-behind-in-Arrow.behind) (exp_tree c.args.exp.now) (exp_tree c.deref-in-Arrow.result.now) (exp_tree c.deref-in-Arrow-3.result.now) (arrow-now c.args.exp.now c.in-Arrow.test c.in-Arrow.body c.deref-in-Arrow.result.now c.deref-in-Arrow-3.result.now c.in-Arrow.is c.deref-in-Arrow.ensures c.deref-in-Arrow-3.ensures) (c.in_ok-behind-in-Arrow.ensures ∙ ap (λ z. behind_exp (site_of c.args.site.now) (exp_tree z)) (c.deref-in-Arrow-2.ensures ∙ sym c.deref-in-Arrow.ensures))) c.in_ok-push_goal-in-Arrow.ensures.helpers c.in_ok-push_goal-in-Arrow-2.ensures.helpers;
+pub goals::push_aside-returns-in_ok-push_fail-in-Arrow : goal.goals::push_aside-returns-in_ok-push_fail-in-Arrow
+goals::push_aside-returns-in_ok-push_fail-in-Arrow t c = λ f. record {
+  is = put-never (goal_of (site_of c.args.site.now) (exp_tree c.args.exp.now) c.args.slots.now) c.args.slots.now c.args.slots.now c.args.goals.now.items c.push_fail.new.goals.items (never-arrow (site_of c.args.site.now) (exp_tree c.args.exp.now) (exp_tree c.deref.result.now) (exp_tree c.deref-in-Arrow-2.result.now) c.args.slots.now (arrow-now c.args.exp.now c.in-Arrow.test c.in-Arrow.body c.deref.result.now c.deref-in-Arrow-2.result.now c.in-Arrow.is c.deref.ensures c.deref-in-Arrow-2.ensures)) c.in_ok-push_fail-in-Arrow.ensures refl;
+  helpers = two-helpers (map pred_tree c.args.helpers.now.items) (map pred_tree c.push_goal.new.helpers.items) (map pred_tree c.push_goal-in-Arrow.new.helpers.items) (goal_helpers (site_of c.args.site.now) (exp_tree c.deref.result.now)) (goal_helpers (site_of c.in_ok-behind-in-Arrow.behind) (exp_tree c.deref-in-Arrow-2.result.now)) (goal_helpers (site_of c.args.site.now) (exp_tree c.args.exp.now)) (helpers-arrow (site_of c.args.site.now) (site_of c.in_ok-behind-in-Arrow.behind) (exp_tree c.args.exp.now) (exp_tree c.deref.result.now) (exp_tree c.deref-in-Arrow-2.result.now) (arrow-now c.args.exp.now c.in-Arrow.test c.in-Arrow.body c.deref.result.now c.deref-in-Arrow-2.result.now c.in-Arrow.is c.deref.ensures c.deref-in-Arrow-2.ensures) (c.in_ok-behind-in-Arrow.ensures ∙ ap (λ z. behind_exp (site_of c.args.site.now) (exp_tree z)) (c.deref-in-Arrow.ensures ∙ sym c.deref.ensures))) c.in_ok-push_goal-in-Arrow.ensures.helpers c.in_ok-push_goal-in-Arrow-2.ensures.helpers;
 }
 
-pub goals::push_goal-returns-in_ok-push_loop-in-While : goal.goals::push_goal-returns-in_ok-push_loop-in-While
-goals::push_goal-returns-in_ok-push_loop-in-While t c = record {
-  is = put-while (site_of c.args.site.now) (names_in c.as_slice-in-While.result.now) (exp_tree c.args.exp.now) (exp_tree c.deref-in-While-3.result.now) (exp_tree c.deref-in-While-5.result.now) (loop_of c.in_ok-whole-in-While.whole) c.args.slots.now c.push_loop.new.slots c.args.goals.now.items c.push_loop.new.goals.items (while-now c.args.exp.now c.in-While.test c.in-While.body c.deref-in-While-3.result.now c.deref-in-While-5.result.now c.in-While.is c.deref-in-While-3.ensures c.deref-in-While-5.ensures) (ap names_in c.as_slice-in-While.ensures.value) (c.in_ok-whole-in-While.ensures ∙ (ap (λ z. while_loop (site_of c.args.site.now) (exp_tree z) (exp_tree c.deref-in-While-2.result.now)) (c.deref-in-While.ensures ∙ sym c.deref-in-While-3.ensures) ∙ ap (λ z. while_loop (site_of c.args.site.now) (exp_tree c.deref-in-While-3.result.now) (exp_tree z)) (c.deref-in-While-2.ensures ∙ sym c.deref-in-While-5.ensures))) c.in_ok-push_loop-in-While.ensures;
-  helpers = three-helpers (map pred_tree c.args.helpers.now.items) (map pred_tree c.push_goal-in-While.new.helpers.items) (map pred_tree c.push_goal-in-While-2.new.helpers.items) (map pred_tree c.push-in-While.new.self.items) (goal_helpers (site_of c.in_ok-turns-in-While.turns) (exp_tree c.deref-in-While-3.result.now)) (goal_helpers (site_of c.in_ok-behind-in-While.behind) (exp_tree c.deref-in-While-5.result.now)) ((while_helper (loop_of c.in_ok-whole-in-While.whole) (goal_of (site_of c.in_ok-turns-in-While.turns) (exp_tree c.deref-in-While-3.result.now)) (goal_of (site_of c.in_ok-behind-in-While.behind) (exp_tree c.deref-in-While-5.result.now))) ∷ []) (goal_helpers (site_of c.args.site.now) (exp_tree c.args.exp.now))
-      (helpers-while (site_of c.args.site.now) (site_of c.in_ok-turns-in-While.turns) (site_of c.in_ok-behind-in-While.behind) (exp_tree c.args.exp.now) (exp_tree c.deref-in-While-3.result.now) (exp_tree c.deref-in-While-5.result.now) (loop_of c.in_ok-whole-in-While.whole) (while_helper (loop_of c.in_ok-whole-in-While.whole) (goal_of (site_of c.in_ok-turns-in-While.turns) (exp_tree c.deref-in-While-3.result.now)) (goal_of (site_of c.in_ok-behind-in-While.behind) (exp_tree c.deref-in-While-5.result.now))) (while-now c.args.exp.now c.in-While.test c.in-While.body c.deref-in-While-3.result.now c.deref-in-While-5.result.now c.in-While.is c.deref-in-While-3.ensures c.deref-in-While-5.ensures) (c.in_ok-whole-in-While.ensures ∙ (ap (λ z. while_loop (site_of c.args.site.now) (exp_tree z) (exp_tree c.deref-in-While-2.result.now)) (c.deref-in-While.ensures ∙ sym c.deref-in-While-3.ensures) ∙ ap (λ z. while_loop (site_of c.args.site.now) (exp_tree c.deref-in-While-3.result.now) (exp_tree z)) (c.deref-in-While-2.ensures ∙ sym c.deref-in-While-5.ensures))) (c.in_ok-turns-in-While.ensures ∙ ap (λ ms. inside (site_of c.args.site.now) (length ms) (loop_of c.in_ok-whole-in-While.whole).shared) c.in_ok-inner-in-While.ensures) (c.in_ok-behind-in-While.ensures ∙ ap (λ z. behind_exp (site_of c.in_ok-turns-in-While.turns) (exp_tree z)) (c.deref-in-While-4.ensures ∙ sym c.deref-in-While-3.ensures)) refl)
-      c.in_ok-push_goal-in-While.ensures.helpers c.in_ok-push_goal-in-While-2.ensures.helpers (pushed-helper c.push_goal-in-While-2.new.helpers.items c.push-in-While.new.self.items c.in_ok-helper-in-While.helper (while_helper (loop_of c.in_ok-whole-in-While.whole) (goal_of (site_of c.in_ok-turns-in-While.turns) (exp_tree c.deref-in-While-3.result.now)) (goal_of (site_of c.in_ok-behind-in-While.behind) (exp_tree c.deref-in-While-5.result.now))) c.in_ok-push-in-While.ensures.items (c.in_ok-helper-in-While.ensures ∙ while-shape (loop_of c.in_ok-whole-in-While.whole) (goal_of (site_of c.in_ok-turns-in-While.turns) (exp_tree c.deref-in-While-3.result.now)) (goal_of (site_of c.in_ok-behind-in-While.behind) (exp_tree c.deref-in-While-5.result.now)) c.new-tests.result.items c.new-turn.result.items c.push_goal-in-While.new.goals.items c.push_goal-in-While-2.new.goals.items c.in_ok-inner-in-While.inner c.push_goal-in-While.new.slots c.push_goal-in-While-2.new.slots c.in_ok-inner-in-While.ensures c.new-tests.ensures.items c.in_ok-push_goal-in-While.ensures.is c.new-turn.ensures.items c.in_ok-push_goal-in-While-2.ensures.is));
-}
+pub goals::push_aside-returns-in_ok-push_fail-in_default : goal.goals::push_aside-returns-in_ok-push_fail-in_default
+goals::push_aside-returns-in_ok-push_fail-in_default t c = λ f. absurd (c.in_default.not-Arrow f.test f.body f.is)
 
-pub goals::push_goal-returns-in_ok-push_loop-in-DoWhile : goal.goals::push_goal-returns-in_ok-push_loop-in-DoWhile
-goals::push_goal-returns-in_ok-push_loop-in-DoWhile t c = record {
-  is = put-do (site_of c.args.site.now) (names_in c.as_slice-in-DoWhile.result.now) (exp_tree c.args.exp.now) (exp_tree c.deref-in-DoWhile-3.result.now) (exp_tree c.deref-in-DoWhile-5.result.now) (loop_of c.in_ok-whole-in-DoWhile.whole) c.args.slots.now c.push_loop-in-DoWhile.new.slots c.args.goals.now.items c.push_loop-in-DoWhile.new.goals.items (do-now c.args.exp.now c.in-DoWhile.body c.in-DoWhile.test c.deref-in-DoWhile-3.result.now c.deref-in-DoWhile-5.result.now c.in-DoWhile.is c.deref-in-DoWhile-3.ensures c.deref-in-DoWhile-5.ensures) (ap names_in c.as_slice-in-DoWhile.ensures.value) (c.in_ok-whole-in-DoWhile.ensures ∙ (ap (λ z. do_loop (site_of c.args.site.now) (exp_tree z) (exp_tree c.deref-in-DoWhile-2.result.now)) (c.deref-in-DoWhile.ensures ∙ sym c.deref-in-DoWhile-3.ensures) ∙ ap (λ z. do_loop (site_of c.args.site.now) (exp_tree c.deref-in-DoWhile-3.result.now) (exp_tree z)) (c.deref-in-DoWhile-2.ensures ∙ sym c.deref-in-DoWhile-5.ensures))) c.in_ok-push_loop-in-DoWhile.ensures;
-  helpers = three-helpers (map pred_tree c.args.helpers.now.items) (map pred_tree c.push_goal-in-DoWhile.new.helpers.items) (map pred_tree c.push_goal-in-DoWhile-2.new.helpers.items) (map pred_tree c.push-in-DoWhile.new.self.items) (goal_helpers (site_of c.in_ok-turns-in-DoWhile.turns) (exp_tree c.deref-in-DoWhile-3.result.now)) (goal_helpers (site_of c.in_ok-behind-in-DoWhile.behind) (exp_tree c.deref-in-DoWhile-5.result.now)) ((do_helper (loop_of c.in_ok-whole-in-DoWhile.whole) (goal_of (site_of c.in_ok-turns-in-DoWhile.turns) (exp_tree c.deref-in-DoWhile-3.result.now)) (goal_of (site_of c.in_ok-behind-in-DoWhile.behind) (exp_tree c.deref-in-DoWhile-5.result.now))) ∷ []) (goal_helpers (site_of c.args.site.now) (exp_tree c.args.exp.now))
-      (helpers-do (site_of c.args.site.now) (site_of c.in_ok-turns-in-DoWhile.turns) (site_of c.in_ok-behind-in-DoWhile.behind) (exp_tree c.args.exp.now) (exp_tree c.deref-in-DoWhile-3.result.now) (exp_tree c.deref-in-DoWhile-5.result.now) (loop_of c.in_ok-whole-in-DoWhile.whole) (do_helper (loop_of c.in_ok-whole-in-DoWhile.whole) (goal_of (site_of c.in_ok-turns-in-DoWhile.turns) (exp_tree c.deref-in-DoWhile-3.result.now)) (goal_of (site_of c.in_ok-behind-in-DoWhile.behind) (exp_tree c.deref-in-DoWhile-5.result.now))) (do-now c.args.exp.now c.in-DoWhile.body c.in-DoWhile.test c.deref-in-DoWhile-3.result.now c.deref-in-DoWhile-5.result.now c.in-DoWhile.is c.deref-in-DoWhile-3.ensures c.deref-in-DoWhile-5.ensures) (c.in_ok-whole-in-DoWhile.ensures ∙ (ap (λ z. do_loop (site_of c.args.site.now) (exp_tree z) (exp_tree c.deref-in-DoWhile-2.result.now)) (c.deref-in-DoWhile.ensures ∙ sym c.deref-in-DoWhile-3.ensures) ∙ ap (λ z. do_loop (site_of c.args.site.now) (exp_tree c.deref-in-DoWhile-3.result.now) (exp_tree z)) (c.deref-in-DoWhile-2.ensures ∙ sym c.deref-in-DoWhile-5.ensures))) (c.in_ok-turns-in-DoWhile.ensures ∙ ap (λ ms. inside (site_of c.args.site.now) (length ms) (loop_of c.in_ok-whole-in-DoWhile.whole).shared) c.in_ok-inner-in-DoWhile.ensures) (c.in_ok-behind-in-DoWhile.ensures ∙ ap (λ z. behind_exp (site_of c.in_ok-turns-in-DoWhile.turns) (exp_tree z)) (c.deref-in-DoWhile-4.ensures ∙ sym c.deref-in-DoWhile-3.ensures)) refl)
-      c.in_ok-push_goal-in-DoWhile.ensures.helpers c.in_ok-push_goal-in-DoWhile-2.ensures.helpers (pushed-helper c.push_goal-in-DoWhile-2.new.helpers.items c.push-in-DoWhile.new.self.items c.in_ok-helper-in-DoWhile.helper (do_helper (loop_of c.in_ok-whole-in-DoWhile.whole) (goal_of (site_of c.in_ok-turns-in-DoWhile.turns) (exp_tree c.deref-in-DoWhile-3.result.now)) (goal_of (site_of c.in_ok-behind-in-DoWhile.behind) (exp_tree c.deref-in-DoWhile-5.result.now))) c.in_ok-push-in-DoWhile.ensures.items (c.in_ok-helper-in-DoWhile.ensures ∙ do-shape (loop_of c.in_ok-whole-in-DoWhile.whole) (goal_of (site_of c.in_ok-turns-in-DoWhile.turns) (exp_tree c.deref-in-DoWhile-3.result.now)) (goal_of (site_of c.in_ok-behind-in-DoWhile.behind) (exp_tree c.deref-in-DoWhile-5.result.now)) c.new-turn-in-DoWhile.result.items c.new-tests-in-DoWhile.result.items c.push_goal-in-DoWhile.new.goals.items c.push_goal-in-DoWhile-2.new.goals.items c.in_ok-inner-in-DoWhile.inner c.push_goal-in-DoWhile.new.slots c.push_goal-in-DoWhile-2.new.slots c.in_ok-inner-in-DoWhile.ensures c.new-turn-in-DoWhile.ensures.items c.in_ok-push_goal-in-DoWhile.ensures.is c.new-tests-in-DoWhile.ensures.items c.in_ok-push_goal-in-DoWhile-2.ensures.is));
-}
+pub turns::push_while-returns-in_ok-end_while-in-While : goal.turns::push_while-returns-in_ok-end_while-in-While
+turns::push_while-returns-in_ok-end_while-in-While t c = λ f.
+    while-whole (site_of c.args.site.now) (exp_tree c.args.exp.now) c.deref.result.now c.deref-in-While.result.now c.deref-in-While-2.result.now c.deref-in-While-3.result.now c.in_ok-begun-in-While.begun c.args.slots.now c.end_while.new.slots c.args.goals.now.items c.end_while.new.goals.items
+    c.push_goal.new.goals.items c.push_goal-in-While.new.goals.items c.push_goal.new.slots c.push_goal-in-While.new.slots c.args.helpers.now.items c.push_goal.new.helpers.items c.push_goal-in-While.new.helpers.items c.end_while.new.helpers.items
+    (while-now c.args.exp.now c.in-While.test c.in-While.body c.deref-in-While-2.result.now c.deref-in-While-3.result.now c.in-While.is c.deref-in-While-2.ensures c.deref-in-While-3.ensures)
+    (c.deref.ensures ∙ sym c.deref-in-While-2.ensures) (c.deref-in-While.ensures ∙ sym c.deref-in-While-3.ensures)
+    c.in_ok-begun-in-While.ensures c.in_ok-push_goal-in-While.ensures c.in_ok-push_goal-in-While-2.ensures c.in_ok-end_while-in-While.ensures
 
-pub calls::push_call-returns-in_ok-push-in-Negation : goal.calls::push_call-returns-in_ok-push-in-Negation
-calls::push_call-returns-in_ok-push-in-Negation t c = let found : Found c.args.name.now c.args.args.now (length c.args.args.now) c.call_form.result = (record { same = refl; has = c.call_form.ensures.has; is = c.call_form.ensures.is }) in
+pub turns::push_while-returns-in_ok-push_fail-in_default : goal.turns::push_while-returns-in_ok-push_fail-in_default
+turns::push_while-returns-in_ok-push_fail-in_default t c = λ f. absurd (c.in_default.not-While f.test f.body f.is)
+
+pub turns::push_do-returns-in_ok-end_do-in-DoWhile : goal.turns::push_do-returns-in_ok-end_do-in-DoWhile
+turns::push_do-returns-in_ok-end_do-in-DoWhile t c = λ f.
+    do-whole (site_of c.args.site.now) (exp_tree c.args.exp.now) c.deref.result.now c.deref-in-DoWhile.result.now c.deref-in-DoWhile-2.result.now c.deref-in-DoWhile-3.result.now c.in_ok-begun-in-DoWhile.begun c.args.slots.now c.end_do.new.slots c.args.goals.now.items c.end_do.new.goals.items
+    c.push_goal.new.goals.items c.push_goal-in-DoWhile.new.goals.items c.push_goal.new.slots c.push_goal-in-DoWhile.new.slots c.args.helpers.now.items c.push_goal.new.helpers.items c.push_goal-in-DoWhile.new.helpers.items c.end_do.new.helpers.items
+    (do-now c.args.exp.now c.in-DoWhile.body c.in-DoWhile.test c.deref-in-DoWhile-2.result.now c.deref-in-DoWhile-3.result.now c.in-DoWhile.is c.deref-in-DoWhile-2.ensures c.deref-in-DoWhile-3.ensures)
+    (c.deref.ensures ∙ sym c.deref-in-DoWhile-2.ensures) (c.deref-in-DoWhile.ensures ∙ sym c.deref-in-DoWhile-3.ensures)
+    c.in_ok-begun-in-DoWhile.ensures c.in_ok-push_goal-in-DoWhile.ensures c.in_ok-push_goal-in-DoWhile-2.ensures c.in_ok-end_do-in-DoWhile.ensures
+
+pub turns::push_do-returns-in_ok-push_fail-in_default : goal.turns::push_do-returns-in_ok-push_fail-in_default
+turns::push_do-returns-in_ok-push_fail-in_default t c = λ f. absurd (c.in_default.not-DoWhile f.body f.test f.is)
+
+pub calls::push_call-returns-in_ok-push_not-in-Negation : goal.calls::push_call-returns-in_ok-push_not-in-Negation
+calls::push_call-returns-in_ok-push_not-in-Negation t c = let found : Found c.args.name.now c.args.args.now (length c.args.args.now) c.call_form.result = (record { same = refl; has = c.call_form.ensures.has; is = c.call_form.ensures.is }) in
     record {
-      is = put-not (site_of c.args.site.now) c.args.name.now c.args.args.now (length c.args.args.now) c.call_form.result c.index-args-0.result c.args.slots.now c.alone.new.slots c.args.goals.now.items c.push.new.self.items c.in_ok-goal-in-Negation.goal c.in_ok-made-in-Negation.made found c.in-Negation.is c.index-args-0.is c.in_ok-goal-in-Negation.ensures.is c.in_ok-made-in-Negation.ensures.ok c.in_ok-push-in-Negation.ensures.items;
+      is = put-not (site_of c.args.site.now) c.args.name.now c.args.args.now (length c.args.args.now) c.call_form.result c.index-args-0.result c.args.slots.now c.alone.new.slots c.args.goals.now.items c.push_not.new.goals.items c.in_ok-goal-in-Negation.goal (GoalTree.not c.in_ok-goal-in-Negation.goal) found c.in-Negation.is c.index-args-0.is c.in_ok-goal-in-Negation.ensures.is refl c.in_ok-push_not-in-Negation.ensures;
       helpers = same-helpers (map pred_tree c.args.helpers.now.items) (map pred_tree c.alone.new.helpers.items) (goal_helpers (site_of c.args.site.now) (exp_tree c.index-args-0.result)) (call_goal_helpers (site_of c.args.site.now) c.args.name.now (exps_of c.args.args.now)) (helpers-not (site_of c.args.site.now) c.args.name.now c.args.args.now (length c.args.args.now) c.call_form.result c.index-args-0.result found c.in-Negation.is c.index-args-0.is) c.in_ok-goal-in-Negation.ensures.helpers;
     }
 
-pub calls::push_call-returns-in_ok-push-in-Once : goal.calls::push_call-returns-in_ok-push-in-Once
-calls::push_call-returns-in_ok-push-in-Once t c = let found : Found c.args.name.now c.args.args.now (length c.args.args.now) c.call_form.result = (record { same = refl; has = c.call_form.ensures.has; is = c.call_form.ensures.is }) in
+pub calls::push_call-returns-in_ok-push_once-in-Once : goal.calls::push_call-returns-in_ok-push_once-in-Once
+calls::push_call-returns-in_ok-push_once-in-Once t c = let found : Found c.args.name.now c.args.args.now (length c.args.args.now) c.call_form.result = (record { same = refl; has = c.call_form.ensures.has; is = c.call_form.ensures.is }) in
     record {
-      is = put-once (site_of c.args.site.now) c.args.name.now c.args.args.now (length c.args.args.now) c.call_form.result c.index-args-0-in-Once.result c.args.slots.now c.alone-in-Once.new.slots c.args.goals.now.items c.push-in-Once.new.self.items c.in_ok-goal-in-Once.goal c.in_ok-made-in-Once.made found c.in-Once.is c.index-args-0-in-Once.is c.in_ok-goal-in-Once.ensures.is c.in_ok-made-in-Once.ensures.ok c.in_ok-push-in-Once.ensures.items;
+      is = put-once (site_of c.args.site.now) c.args.name.now c.args.args.now (length c.args.args.now) c.call_form.result c.index-args-0-in-Once.result c.args.slots.now c.alone-in-Once.new.slots c.args.goals.now.items c.push_once.new.goals.items c.in_ok-goal-in-Once.goal (GoalTree.once c.in_ok-goal-in-Once.goal) found c.in-Once.is c.index-args-0-in-Once.is c.in_ok-goal-in-Once.ensures.is refl c.in_ok-push_once-in-Once.ensures;
       helpers = same-helpers (map pred_tree c.args.helpers.now.items) (map pred_tree c.alone-in-Once.new.helpers.items) (goal_helpers (site_of c.args.site.now) (exp_tree c.index-args-0-in-Once.result)) (call_goal_helpers (site_of c.args.site.now) c.args.name.now (exps_of c.args.args.now)) (helpers-once (site_of c.args.site.now) c.args.name.now c.args.args.now (length c.args.args.now) c.call_form.result c.index-args-0-in-Once.result found c.in-Once.is c.index-args-0-in-Once.is) c.in_ok-goal-in-Once.ensures.helpers;
     }
 
-pub calls::push_call-returns-in_ok-push_assigned-in-Assignment : goal.calls::push_call-returns-in_ok-push_assigned-in-Assignment
-calls::push_call-returns-in_ok-push_assigned-in-Assignment t c = let found : Found c.args.name.now c.args.args.now (length c.args.args.now) c.call_form.result = (record { same = refl; has = c.call_form.ensures.has; is = c.call_form.ensures.is }) in
+pub calls::push_call-returns-in_ok-push_assignment-in-Assignment : goal.calls::push_call-returns-in_ok-push_assignment-in-Assignment
+calls::push_call-returns-in_ok-push_assignment-in-Assignment t c = let found : Found c.args.name.now c.args.args.now (length c.args.args.now) c.call_form.result = (record { same = refl; has = c.call_form.ensures.has; is = c.call_form.ensures.is }) in
     record {
-      is = put-assigned (site_of c.args.site.now) (site_of c.in_ok-behind-in-Assignment.behind) c.args.name.now c.args.args.now (length c.args.args.now) c.call_form.result c.index-args-0-in-Assignment.result c.index-args-1.result c.args.slots.now c.value.new.slots c.push_assigned.new.slots c.args.goals.now.items c.value.new.goals.items c.push_assigned.new.goals.items c.in_ok-term-in-Assignment.term
-          found c.in-Assignment.is c.index-args-0-in-Assignment.is c.index-args-1.is c.in_ok-behind-in-Assignment.ensures c.in_ok-term-in-Assignment.ensures.is c.in_ok-push_assigned-in-Assignment.ensures;
-      helpers = same-helpers (map pred_tree c.args.helpers.now.items) (map pred_tree c.value.new.helpers.items) (value_helpers (site_of c.in_ok-behind-in-Assignment.behind) (exp_tree c.index-args-1.result)) (call_goal_helpers (site_of c.args.site.now) c.args.name.now (exps_of c.args.args.now)) (helpers-assigned (site_of c.args.site.now) c.args.name.now c.args.args.now (length c.args.args.now) c.call_form.result c.index-args-0-in-Assignment.result c.index-args-1.result found c.in-Assignment.is c.index-args-0-in-Assignment.is c.index-args-1.is ∙ ap (λ z. value_helpers z (exp_tree c.index-args-1.result)) (sym c.in_ok-behind-in-Assignment.ensures)) c.in_ok-term-in-Assignment.ensures.helpers;
+      is = goals-as (call_as_goal (site_of c.args.site.now) c.args.name.now (exps_of c.args.args.now) c.args.slots.now) (assigned_to (exp_tree c.index-args-0-in-Assignment.result) (value_of (behind_exp (site_of c.args.site.now) (exp_tree c.index-args-0-in-Assignment.result)) (exp_tree c.index-args-1.result) c.args.slots.now)) c.args.goals.now.items c.push_assignment.new.goals.items c.push_assignment.new.slots
+          (assigned-call (site_of c.args.site.now) c.args.name.now c.args.args.now (length c.args.args.now) c.call_form.result c.index-args-0-in-Assignment.result c.index-args-1.result c.args.slots.now found c.in-Assignment.is c.index-args-0-in-Assignment.is c.index-args-1.is) c.in_ok-push_assignment-in-Assignment.ensures.is;
+      helpers = same-helpers (map pred_tree c.args.helpers.now.items) (map pred_tree c.push_assignment.new.helpers.items) (value_helpers (behind_exp (site_of c.args.site.now) (exp_tree c.index-args-0-in-Assignment.result)) (exp_tree c.index-args-1.result)) (call_goal_helpers (site_of c.args.site.now) c.args.name.now (exps_of c.args.args.now)) (helpers-assigned (site_of c.args.site.now) c.args.name.now c.args.args.now (length c.args.args.now) c.call_form.result c.index-args-0-in-Assignment.result c.index-args-1.result found c.in-Assignment.is c.index-args-0-in-Assignment.is c.index-args-1.is) c.in_ok-push_assignment-in-Assignment.ensures.helpers;
     }
 
-pub calls::push_call-returns-in_ok-push-in-Catch : goal.calls::push_call-returns-in_ok-push-in-Catch
-calls::push_call-returns-in_ok-push-in-Catch t c = let found : Found c.args.name.now c.args.args.now (length c.args.args.now) c.call_form.result = (record { same = refl; has = c.call_form.ensures.has; is = c.call_form.ensures.is }) in
+pub calls::push_assignment-returns : goal.calls::push_assignment-returns
+calls::push_assignment-returns t c = record {
+  is = assigned-value (site_of c.args.site.now) (site_of c.in_ok-behind.behind) (exp_tree c.args.to.now) (exp_tree c.args.from.now) c.args.slots.now c.value.new.slots c.push_assigned.new.slots c.args.goals.now.items c.value.new.goals.items c.push_assigned.new.goals.items c.in_ok-term.term c.in_ok-behind.ensures c.in_ok-term.ensures.is c.in_ok-push_assigned.ensures;
+  helpers = same-helpers (map pred_tree c.args.helpers.now.items) (map pred_tree c.value.new.helpers.items) (value_helpers (site_of c.in_ok-behind.behind) (exp_tree c.args.from.now)) (value_helpers (behind_exp (site_of c.args.site.now) (exp_tree c.args.to.now)) (exp_tree c.args.from.now)) (ap (λ z. value_helpers z (exp_tree c.args.from.now)) (sym c.in_ok-behind.ensures)) c.in_ok-term.ensures.helpers;
+}
+
+pub calls::push_call-returns-in_ok-push_catch-in-Catch : goal.calls::push_call-returns-in_ok-push_catch-in-Catch
+calls::push_call-returns-in_ok-push_catch-in-Catch t c = c.in_ok-push_catch-in-Catch.ensures (subst (λ f. HasCount f (length c.args.args.now)) c.in-Catch.is c.call_form.ensures.has) (subst (λ f. IsForm f (form_of c.args.name.now (length c.args.args.now))) c.in-Catch.is c.call_form.ensures.is)
+
+pub calls::push_catch-returns-then-args-lt3 : goal.calls::push_catch-returns-then-args-lt3
+calls::push_catch-returns-then-args-lt3 t c = λ count form. absurd (omega (arith, count, c.if-args-lt3.true))
+
+pub calls::push_catch-returns : goal.calls::push_catch-returns
+calls::push_catch-returns t c = λ count form. let found : Found c.args.name.now c.args.args.now (length c.args.args.now) Catch = (record { same = refl; has = count; is = form }) in
     record {
-      is = put-caught (site_of c.args.site.now) (site_of c.in_ok-first-in-Catch.first) (site_of c.in_ok-second-in-Catch.second) (site_of c.in_ok-last-in-Catch.last) c.args.name.now c.args.args.now (length c.args.args.now) c.call_form.result c.index-args-0-in-Catch.result c.index-args-1-in-Catch.result c.index-args-2.result c.args.slots.now c.value-in-Catch.new.slots c.alone-in-Catch.new.slots c.alone-in-Catch-2.new.slots c.args.goals.now.items c.value-in-Catch.new.goals.items c.push-in-Catch.new.self.items c.in_ok-term-in-Catch.term c.in_ok-one-in-Catch.one c.in_ok-other-in-Catch.other c.in_ok-made-in-Catch.made
-          found c.in-Catch.is c.index-args-0-in-Catch.is c.index-args-1-in-Catch.is c.index-args-2.is c.in_ok-first-in-Catch.ensures c.in_ok-second-in-Catch.ensures (c.in_ok-last-in-Catch.ensures ∙ ap (λ z. behind_site z (places (exp_tree c.index-args-1-in-Catch.result)) 0) (c.in_ok-third-in-Catch.ensures ∙ ap (λ z. behind_exp z (exp_tree c.index-args-0-in-Catch.result)) c.in_ok-second-in-Catch.ensures)) c.in_ok-term-in-Catch.ensures.is c.in_ok-one-in-Catch.ensures.is c.in_ok-other-in-Catch.ensures.is c.in_ok-made-in-Catch.ensures.ok c.in_ok-push-in-Catch.ensures.items;
-      helpers = three-helpers (map pred_tree c.args.helpers.now.items) (map pred_tree c.value-in-Catch.new.helpers.items) (map pred_tree c.alone-in-Catch.new.helpers.items) (map pred_tree c.alone-in-Catch-2.new.helpers.items) (value_helpers (site_of c.in_ok-first-in-Catch.first) (exp_tree c.index-args-1-in-Catch.result)) (goal_helpers (site_of c.in_ok-second-in-Catch.second) (exp_tree c.index-args-0-in-Catch.result)) (goal_helpers (site_of c.in_ok-last-in-Catch.last) (exp_tree c.index-args-2.result)) (call_goal_helpers (site_of c.args.site.now) c.args.name.now (exps_of c.args.args.now))
-          (helpers-catch (site_of c.args.site.now) c.args.name.now c.args.args.now (length c.args.args.now) c.call_form.result c.index-args-0-in-Catch.result c.index-args-1-in-Catch.result c.index-args-2.result found c.in-Catch.is c.index-args-0-in-Catch.is c.index-args-1-in-Catch.is c.index-args-2.is ∙ caught-helpers (site_of c.args.site.now) (site_of c.in_ok-first-in-Catch.first) (site_of c.in_ok-second-in-Catch.second) (site_of c.in_ok-last-in-Catch.last) (exp_tree c.index-args-0-in-Catch.result) (exp_tree c.index-args-1-in-Catch.result) (exp_tree c.index-args-2.result) c.in_ok-first-in-Catch.ensures c.in_ok-second-in-Catch.ensures (c.in_ok-last-in-Catch.ensures ∙ ap (λ z. behind_site z (places (exp_tree c.index-args-1-in-Catch.result)) 0) (c.in_ok-third-in-Catch.ensures ∙ ap (λ z. behind_exp z (exp_tree c.index-args-0-in-Catch.result)) c.in_ok-second-in-Catch.ensures)))
-          c.in_ok-term-in-Catch.ensures.helpers c.in_ok-one-in-Catch.ensures.helpers c.in_ok-other-in-Catch.ensures.helpers;
+      is = put-caught (site_of c.args.site.now) (site_of c.in_ok-sites.sites.ball) (site_of c.in_ok-sites.sites.goal) (site_of c.in_ok-sites.sites.handler) c.args.name.now c.args.args.now (length c.args.args.now) Catch c.index-args-0.result c.index-args-1.result c.index-args-2.result c.args.slots.now c.value.new.slots c.alone.new.slots c.alone-2.new.slots c.args.goals.now.items c.value.new.goals.items c.push_caught.new.goals.items c.in_ok-term.term c.in_ok-one.one c.in_ok-other.other (GoalTree.catch c.in_ok-one.one c.in_ok-term.term c.in_ok-other.other)
+          found refl c.index-args-0.is c.index-args-1.is c.index-args-2.is c.in_ok-sites.ensures.first c.in_ok-sites.ensures.second c.in_ok-sites.ensures.last c.in_ok-term.ensures.is c.in_ok-one.ensures.is c.in_ok-other.ensures.is refl c.in_ok-push_caught.ensures;
+      helpers = three-helpers (map pred_tree c.args.helpers.now.items) (map pred_tree c.value.new.helpers.items) (map pred_tree c.alone.new.helpers.items) (map pred_tree c.alone-2.new.helpers.items) (value_helpers (site_of c.in_ok-sites.sites.ball) (exp_tree c.index-args-1.result)) (goal_helpers (site_of c.in_ok-sites.sites.goal) (exp_tree c.index-args-0.result)) (goal_helpers (site_of c.in_ok-sites.sites.handler) (exp_tree c.index-args-2.result)) (call_goal_helpers (site_of c.args.site.now) c.args.name.now (exps_of c.args.args.now))
+          (helpers-catch (site_of c.args.site.now) c.args.name.now c.args.args.now (length c.args.args.now) Catch c.index-args-0.result c.index-args-1.result c.index-args-2.result found refl c.index-args-0.is c.index-args-1.is c.index-args-2.is ∙ caught-helpers (site_of c.args.site.now) (site_of c.in_ok-sites.sites.ball) (site_of c.in_ok-sites.sites.goal) (site_of c.in_ok-sites.sites.handler) (exp_tree c.index-args-0.result) (exp_tree c.index-args-1.result) (exp_tree c.index-args-2.result) c.in_ok-sites.ensures.first c.in_ok-sites.ensures.second c.in_ok-sites.ensures.last)
+          c.in_ok-term.ensures.helpers c.in_ok-one.ensures.helpers c.in_ok-other.ensures.helpers;
     }
 
 pub calls::push_call-returns-in_ok-push_fail-in-Never : goal.calls::push_call-returns-in_ok-push_fail-in-Never
@@ -427,11 +514,11 @@ calls::push_call-returns-in_ok-push_fail-in-Never t c = let found : Found c.args
       helpers = no-helpers (map pred_tree c.args.helpers.now.items) (call_goal_helpers (site_of c.args.site.now) c.args.name.now (exps_of c.args.args.now)) (helpers-never (site_of c.args.site.now) c.args.name.now c.args.args.now (length c.args.args.now) c.call_form.result found c.in-Never.is);
     }
 
-pub calls::push_call-returns-in_ok-push-in-Plain : goal.calls::push_call-returns-in_ok-push-in-Plain
-calls::push_call-returns-in_ok-push-in-Plain t c = let found : Found c.args.name.now c.args.args.now (length c.args.args.now) c.call_form.result = (record { same = refl; has = c.call_form.ensures.has; is = c.call_form.ensures.is }) in
+pub calls::push_call-returns-in_ok-push_plain-in-Plain : goal.calls::push_call-returns-in_ok-push_plain-in-Plain
+calls::push_call-returns-in_ok-push_plain-in-Plain t c = let found : Found c.args.name.now c.args.args.now (length c.args.args.now) c.call_form.result = (record { same = refl; has = c.call_form.ensures.has; is = c.call_form.ensures.is }) in
     record {
       is = let same : c.deref.result.now ≡ c.in_ok-terms-in-Plain.terms.items = search rules in
-          put-plain (site_of c.args.site.now) c.args.name.now c.args.args.now (length c.args.args.now) c.call_form.result c.args.slots.now c.values.new.slots c.args.goals.now.items c.values.new.goals.items c.push-in-Plain.new.self.items c.in_ok-terms-in-Plain.terms.items c.in_ok-made-in-Plain.made found c.in-Plain.is c.in_ok-terms-in-Plain.ensures.is (c.in_ok-made-in-Plain.ensures.ok ∙ ap (GoalTree.call c.args.name.now) same) c.in_ok-push-in-Plain.ensures.items;
+          put-plain (site_of c.args.site.now) c.args.name.now c.args.args.now (length c.args.args.now) c.call_form.result c.args.slots.now c.values.new.slots c.args.goals.now.items c.values.new.goals.items c.push_plain.new.goals.items c.in_ok-terms-in-Plain.terms.items (GoalTree.call c.args.name.now c.deref.result.now) found c.in-Plain.is c.in_ok-terms-in-Plain.ensures.is (ap (GoalTree.call c.args.name.now) same) c.in_ok-push_plain-in-Plain.ensures;
       helpers = same-helpers (map pred_tree c.args.helpers.now.items) (map pred_tree c.values.new.helpers.items) (all_helpers (site_of c.args.site.now) (exps_of c.args.args.now)) (call_goal_helpers (site_of c.args.site.now) c.args.name.now (exps_of c.args.args.now)) (helpers-plain (site_of c.args.site.now) c.args.name.now c.args.args.now (length c.args.args.now) c.call_form.result found c.in-Plain.is) c.in_ok-terms-in-Plain.ensures.helpers;
     }
 
@@ -463,24 +550,30 @@ units::open_unit-returns-in_ok-is_range-in-Some t c =
     c.replace-goals.new.dest.items (map pred_tree c.args.helpers.now.items) (map pred_tree c.push_gone_over.new.helpers.items) c.in-Some.is c.in_ok-is_range-in-Some.ensures.is (ap (λ v. v.items) c.replace-goals.ensures.value) c.replace-slots.ensures.value refl c.replace-slots.ensures.after
     (ap (λ v. v.items) c.replace-goals.ensures.after ∙ c.new-in-Some.ensures.items) c.in_ok-is_range-in-Some.ensures.helpers
 
-pub goals::push_goal-returns-in_ok-end_foreach-in-Foreach : goal.goals::push_goal-returns-in_ok-end_foreach-in-Foreach
-goals::push_goal-returns-in_ok-end_foreach-in-Foreach t c =
-    let body : c.deref-in-Foreach.result.now ≡ c.deref-in-Foreach-2.result.now = c.deref-in-Foreach.ensures ∙ sym c.deref-in-Foreach-2.ensures in
-    foreach-whole (site_of c.args.site.now) (exp_tree c.args.exp.now) (exp_tree c.deref-in-Foreach-2.result.now) (exps_of c.as_slice-units.result.now) c.in_ok-begun-in-Foreach.begun c.args.slots.now c.begin_foreach.new.slots c.in_ok-opened-in-Foreach.opened.items (site_of c.open_units.new.inside.site) c.open_units.new.inside.goals.items
-    c.push_goal-in-Foreach.new.goals.items c.args.goals.now.items c.end_foreach.new.goals.items c.open_units.new.inside.slots c.push_goal-in-Foreach.new.slots c.end_foreach.new.slots c.args.helpers.now.items c.end_foreach.new.helpers.items (map pred_tree c.open_units.new.helpers.items) (map pred_tree c.push_goal-in-Foreach.new.helpers.items)
-    (foreach-now c.args.exp.now c.in-Foreach.units c.in-Foreach.body c.as_slice-units.result.now c.deref-in-Foreach-2.result.now c.in-Foreach.is c.as_slice-units.ensures.value c.deref-in-Foreach-2.ensures)
+pub turns::push_foreach-returns-in_ok-end_foreach-in-Foreach : goal.turns::push_foreach-returns-in_ok-end_foreach-in-Foreach
+turns::push_foreach-returns-in_ok-end_foreach-in-Foreach t c = λ f.
+    let body : c.deref.result.now ≡ c.deref-in-Foreach.result.now = c.deref.ensures ∙ sym c.deref-in-Foreach.ensures in
+    foreach-whole (site_of c.args.site.now) (exp_tree c.args.exp.now) (exp_tree c.deref-in-Foreach.result.now) (exps_of c.as_slice-units.result.now) c.in_ok-begun-in-Foreach.begun c.args.slots.now c.begin_foreach.new.slots c.in_ok-opened-in-Foreach.opened.items (site_of c.open_units.new.inside.site) c.open_units.new.inside.goals.items
+    c.push_goal.new.goals.items c.args.goals.now.items c.end_foreach.new.goals.items c.open_units.new.inside.slots c.push_goal.new.slots c.end_foreach.new.slots c.args.helpers.now.items c.end_foreach.new.helpers.items (map pred_tree c.open_units.new.helpers.items) (map pred_tree c.push_goal.new.helpers.items)
+    (foreach-now c.args.exp.now c.in-Foreach.units c.in-Foreach.body c.as_slice-units.result.now c.deref-in-Foreach.result.now c.in-Foreach.is c.as_slice-units.ensures.value c.deref-in-Foreach.ensures)
     (subst (λ z. Iterates (site_of c.args.site.now) as_it_is (kept_names (site_of c.args.site.now).before (exps_of c.as_slice-units.result.now) (assigned (exp_tree z))) (inner_of (exp_tree z)) (exps_of c.as_slice-units.result.now) c.args.slots.now c.in_ok-begun-in-Foreach.begun c.begin_foreach.new.slots) body c.in_ok-begun-in-Foreach.ensures)
     c.in_ok-opened-in-Foreach.ensures c.in_ok-push_goal-in-Foreach.ensures.is c.in_ok-push_goal-in-Foreach.ensures.helpers c.in_ok-end_foreach-in-Foreach.ensures
 
-pub values::made-returns-in_ok-list-in-Collect : goal.values::made-returns-in_ok-list-in-Collect
-values::made-returns-in_ok-list-in-Collect t c =
-    let item : c.deref-in-Collect.result.now ≡ c.deref-in-Collect-2.result.now = c.deref-in-Collect.ensures ∙ sym c.deref-in-Collect-2.ensures in
-    collect-whole (site_of c.args.site.now) (exp_tree c.args.exp.now) (exp_tree c.deref-in-Collect-2.result.now) (exps_of c.as_slice-units.result.now) c.in-Collect.is_array c.in_ok-begun-in-Collect.begun c.args.slots.now c.begin_comprehension.new.slots c.args.goals.now.items c.begin_comprehension.new.goals.items c.end_comprehension.new.goals.items
-    c.in_ok-opened-in-Collect.opened.items (site_of c.open_units.new.inside.site) c.open_units.new.inside.goals.items c.value-in-Collect.new.goals.items c.open_units.new.inside.slots c.value-in-Collect.new.slots c.in_ok-term-in-Collect.term c.in_ok-list-in-Collect.list c.end_comprehension.new.slots c.args.helpers.now.items c.end_comprehension.new.helpers.items
-    (map pred_tree c.open_units.new.helpers.items) (map pred_tree c.value-in-Collect.new.helpers.items)
-    (collect-now c.args.exp.now c.in-Collect.is_array c.in-Collect.item c.in-Collect.units c.as_slice-units.result.now c.deref-in-Collect-2.result.now c.in-Collect.is c.as_slice-units.ensures.value c.deref-in-Collect-2.ensures)
+pub turns::push_foreach-returns-in_ok-push_fail-in_default : goal.turns::push_foreach-returns-in_ok-push_fail-in_default
+turns::push_foreach-returns-in_ok-push_fail-in_default t c = λ f. absurd (c.in_default.not-Foreach f.units f.body f.is)
+
+pub structures::collected-returns-in_ok-list-in-Collect : goal.structures::collected-returns-in_ok-list-in-Collect
+structures::collected-returns-in_ok-list-in-Collect t c = λ f.
+    let item : c.deref.result.now ≡ c.deref-in-Collect.result.now = c.deref.ensures ∙ sym c.deref-in-Collect.ensures in
+    collect-whole (site_of c.args.site.now) (exp_tree c.args.exp.now) (exp_tree c.deref-in-Collect.result.now) (exps_of c.as_slice-units.result.now) c.in-Collect.is_array c.in_ok-begun-in-Collect.begun c.args.slots.now c.begin_comprehension.new.slots c.args.goals.now.items c.begin_comprehension.new.goals.items c.end_comprehension.new.goals.items
+    c.in_ok-opened-in-Collect.opened.items (site_of c.open_units.new.inside.site) c.open_units.new.inside.goals.items c.value.new.goals.items c.open_units.new.inside.slots c.value.new.slots c.in_ok-term-in-Collect.term c.in_ok-list-in-Collect.list c.end_comprehension.new.slots c.args.helpers.now.items c.end_comprehension.new.helpers.items
+    (map pred_tree c.open_units.new.helpers.items) (map pred_tree c.value.new.helpers.items)
+    (collect-now c.args.exp.now c.in-Collect.is_array c.in-Collect.item c.in-Collect.units c.as_slice-units.result.now c.deref-in-Collect.result.now c.in-Collect.is c.as_slice-units.ensures.value c.deref-in-Collect.ensures)
     (subst (λ z. Gathers (site_of c.args.site.now) (exp_tree z) (exps_of c.as_slice-units.result.now) c.in-Collect.is_array c.args.slots.now c.args.goals.now.items c.in_ok-begun-in-Collect.begun c.begin_comprehension.new.slots c.begin_comprehension.new.goals.items) item c.in_ok-begun-in-Collect.ensures)
     c.in_ok-opened-in-Collect.ensures c.in_ok-term-in-Collect.ensures.is c.in_ok-term-in-Collect.ensures.helpers c.in_ok-list-in-Collect.ensures
+
+pub structures::collected-returns-in_ok-term-in_default : goal.structures::collected-returns-in_ok-term-in_default
+structures::collected-returns-in_ok-term-in_default t c = λ f. absurd (c.in_default.not-Collect f.is_array f.item f.units f.is)
 
 -- ---- what is gone over
 
@@ -528,8 +621,8 @@ over::over_args-returns t c = λ name.
     subst (λ (es : ExpTrees). With (IsOver c.in_ok-over.over (site_of c.args.site.now) (call name es) c.args.slots.now c.args.goals.now.items c.over_exp.new.goals.items c.over_exp.new.slots) c.args.helpers.now.items c.over_exp.new.helpers.items (collection_helpers (site_of c.args.site.now) (call name es)))
     (sym (two-first c.args.args.now c.index-args-1.result c.if-args-lt2.false c.index-args-1.is)) (c.in_ok-over.ensures name first rest)
 
-pub over::over_exp-returns-in_ok-high-in-Some : goal.over::over_exp-returns-in_ok-high-in-Some
-over::over_exp-returns-in_ok-high-in-Some t c = λ name one more.
+pub over::over_steps-returns-in_ok-high-in-Some : goal.over::over_steps-returns-in_ok-high-in-Some
+over::over_steps-returns-in_ok-high-in-Some t c = λ f name one more.
     let shape : exp_tree c.args.exp.now ≡ ExpTree.range_by (exp_tree c.deref-in-Some-2.result.now) (exp_tree c.deref-in-Some-4.result.now) (exp_tree c.deref-in-Some-6.result.now) =
     range_by-now c.args.exp.now c.in-Range.first c.in-Range.step c.in-Range.last c.in-Some.step c.deref-in-Some-2.result.now c.deref-in-Some-4.result.now c.deref-in-Some-6.result.now c.in-Range.is c.in-Some.is c.deref-in-Some-2.ensures c.deref-in-Some-4.ensures c.deref-in-Some-6.ensures in
     let second : (site_of c.in_ok-second-in-Some.second) ≡ behind_exp (site_of c.args.site.now) (exp_tree c.deref-in-Some-2.result.now) = c.in_ok-second-in-Some.ensures ∙ ap (λ z. behind_exp (site_of c.args.site.now) (exp_tree z)) (c.deref-in-Some-3.ensures ∙ sym c.deref-in-Some-2.ensures) in
@@ -544,33 +637,48 @@ over::over_exp-returns-in_ok-high-in-Some t c = λ name one more.
           (collection-helped (site_of c.args.site.now) name (call name (exp one (exp (exp_tree c.args.exp.now) more))) one (exp_tree c.args.exp.now) more refl ∙ helpers-range_by (site_of c.args.site.now) (site_of c.in_ok-second-in-Some.second) (site_of c.in_ok-third-in-Some.third) (exp_tree c.args.exp.now) (exp_tree c.deref-in-Some-2.result.now) (exp_tree c.deref-in-Some-4.result.now) (exp_tree c.deref-in-Some-6.result.now) shape second third) c.in_ok-low-in-Some.ensures.helpers c.in_ok-by-in-Some.ensures.helpers c.in_ok-high-in-Some.ensures.helpers;
     }
 
-pub over::over_exp-returns-in_ok-by-in-None : goal.over::over_exp-returns-in_ok-by-in-None
-over::over_exp-returns-in_ok-by-in-None t c = λ name one more.
-    let shape : exp_tree c.args.exp.now ≡ ExpTree.range (exp_tree c.deref-in-None-2.result.now) (exp_tree c.deref-in-None-4.result.now) =
-    range-now c.args.exp.now c.in-Range.first c.in-Range.step c.in-Range.last c.deref-in-None-2.result.now c.deref-in-None-4.result.now c.in-Range.is c.in-None.is c.deref-in-None-2.ensures c.deref-in-None-4.ensures in
-    let behind : (site_of c.in_ok-behind-in-None.behind) ≡ behind_exp (site_of c.args.site.now) (exp_tree c.deref-in-None-2.result.now) = c.in_ok-behind-in-None.ensures ∙ ap (λ z. behind_exp (site_of c.args.site.now) (exp_tree z)) (c.deref-in-None-3.ensures ∙ sym c.deref-in-None-2.ensures) in
+pub over::over_steps-returns-in_ok-term-in-None : goal.over::over_steps-returns-in_ok-term-in-None
+over::over_steps-returns-in_ok-term-in-None t c = λ f name one more. absurd (not-stepped c.args.exp.now c.in-Range.first c.in-Range.step c.in-Range.last c.in-Range.is c.in-None.is f)
+
+pub over::over_steps-returns-in_ok-term-in_default : goal.over::over_steps-returns-in_ok-term-in_default
+over::over_steps-returns-in_ok-term-in_default t c = λ f name one more. absurd (c.in_default.not-Range f.low (Some f.step) f.high f.is)
+
+pub over::over_range-returns-in_ok-by-in-None : goal.over::over_range-returns-in_ok-by-in-None
+over::over_range-returns-in_ok-by-in-None t c = λ f name one more.
+    let shape : exp_tree c.args.exp.now ≡ ExpTree.range (exp_tree c.deref-in-None.result.now) (exp_tree c.deref-in-None-3.result.now) =
+    range-now c.args.exp.now c.in-Range.first c.in-Range.step c.in-Range.last c.deref-in-None.result.now c.deref-in-None-3.result.now c.in-Range.is c.in-None.is c.deref-in-None.ensures c.deref-in-None-3.ensures in
+    let behind : (site_of c.in_ok-behind-in-None.behind) ≡ behind_exp (site_of c.args.site.now) (exp_tree c.deref-in-None.result.now) = c.in_ok-behind-in-None.ensures ∙ ap (λ z. behind_exp (site_of c.args.site.now) (exp_tree z)) (c.deref-in-None-2.ensures ∙ sym c.deref-in-None.ensures) in
     record {
-      is = two-found (site_of c.args.site.now) (site_of c.in_ok-behind-in-None.behind) name one (exp_tree c.args.exp.now) (exp_tree c.deref-in-None-2.result.now) (exp_tree c.deref-in-None-4.result.now) more c.is_flat-is_last-in-None.result (record { low = c.in_ok-low-in-None.low; step = c.in_ok-by-in-None.by; high = c.in_ok-high-in-None.high })
-          c.args.slots.now c.value-in-None.new.slots c.value-in-None-2.new.slots c.args.goals.now.items c.value-in-None.new.goals.items c.value-in-None-2.new.goals.items shape
-          (c.is_flat-is_last-in-None.ensures ∙ ap (λ z. is_flat (exp_tree z)) (c.deref-in-None.ensures ∙ sym c.deref-in-None-4.ensures)) behind c.in_ok-low-in-None.ensures.is c.in_ok-high-in-None.ensures.is c.in_ok-by-in-None.ensures.ok;
-      helpers = two-helpers (map pred_tree c.args.helpers.now.items) (map pred_tree c.value-in-None.new.helpers.items) (map pred_tree c.value-in-None-2.new.helpers.items) (value_helpers (site_of c.args.site.now) (exp_tree c.deref-in-None-2.result.now)) (value_helpers (site_of c.in_ok-behind-in-None.behind) (exp_tree c.deref-in-None-4.result.now)) (collection_helpers (site_of c.args.site.now) (call name (exp one (exp (exp_tree c.args.exp.now) more))))
-          (collection-helped (site_of c.args.site.now) name (call name (exp one (exp (exp_tree c.args.exp.now) more))) one (exp_tree c.args.exp.now) more refl ∙ helpers-range (site_of c.args.site.now) (site_of c.in_ok-behind-in-None.behind) (exp_tree c.args.exp.now) (exp_tree c.deref-in-None-2.result.now) (exp_tree c.deref-in-None-4.result.now) shape behind) c.in_ok-low-in-None.ensures.helpers c.in_ok-high-in-None.ensures.helpers;
+      is = two-found (site_of c.args.site.now) (site_of c.in_ok-behind-in-None.behind) name one (exp_tree c.args.exp.now) (exp_tree c.deref-in-None.result.now) (exp_tree c.deref-in-None-3.result.now) more c.is_flat-is_last.result (record { low = c.in_ok-low-in-None.low; step = c.in_ok-by-in-None.by; high = c.in_ok-high-in-None.high })
+          c.args.slots.now c.value.new.slots c.value-in-None.new.slots c.args.goals.now.items c.value.new.goals.items c.value-in-None.new.goals.items shape
+          (c.is_flat-is_last.ensures ∙ ap (λ z. is_flat (exp_tree z)) (c.deref.ensures ∙ sym c.deref-in-None-3.ensures)) behind c.in_ok-low-in-None.ensures.is c.in_ok-high-in-None.ensures.is c.in_ok-by-in-None.ensures.ok;
+      helpers = two-helpers (map pred_tree c.args.helpers.now.items) (map pred_tree c.value.new.helpers.items) (map pred_tree c.value-in-None.new.helpers.items) (value_helpers (site_of c.args.site.now) (exp_tree c.deref-in-None.result.now)) (value_helpers (site_of c.in_ok-behind-in-None.behind) (exp_tree c.deref-in-None-3.result.now)) (collection_helpers (site_of c.args.site.now) (call name (exp one (exp (exp_tree c.args.exp.now) more))))
+          (collection-helped (site_of c.args.site.now) name (call name (exp one (exp (exp_tree c.args.exp.now) more))) one (exp_tree c.args.exp.now) more refl ∙ helpers-range (site_of c.args.site.now) (site_of c.in_ok-behind-in-None.behind) (exp_tree c.args.exp.now) (exp_tree c.deref-in-None.result.now) (exp_tree c.deref-in-None-3.result.now) shape behind) c.in_ok-low-in-None.ensures.helpers c.in_ok-high-in-None.ensures.helpers;
     }
+
+pub over::over_range-returns-in_ok-over-in-Some : goal.over::over_range-returns-in_ok-over-in-Some
+over::over_range-returns-in_ok-over-in-Some t c = λ f. c.in_ok-over-in-Some.ensures (record { low = c.in-Range.first; step = c.in-Some.field-0; high = c.in-Range.last; is = c.in-Range.is ∙ ap (λ o. e.Range c.in-Range.first o c.in-Range.last) c.in-Some.is })
+
+pub over::over_range-returns-in_ok-term-in_default : goal.over::over_range-returns-in_ok-term-in_default
+over::over_range-returns-in_ok-term-in_default t c = λ f name one more. absurd (c.in_default.not-Range f.low f.step f.high f.is)
+
+pub over::over_exp-returns-in_ok-over-in-Range : goal.over::over_exp-returns-in_ok-over-in-Range
+over::over_exp-returns-in_ok-over-in-Range t c = c.in_ok-over-in-Range.ensures (record { low = c.in-Range.field-0; step = c.in-Range.field-1; high = c.in-Range.field-2; is = c.in-Range.is })
 
 pub over::over_exp-returns-in_ok-term-in_default : goal.over::over_exp-returns-in_ok-term-in_default
 over::over_exp-returns-in_ok-term-in_default t c = λ name one more. record {
-  is = collection-found (site_of c.args.site.now) name (call name (exp one (exp (exp_tree c.args.exp.now) more))) one (exp_tree c.args.exp.now) more c.args.slots.now c.value-in_default.new.slots c.args.goals.now.items c.value-in_default.new.goals.items c.in_ok-term-in_default.term refl (not-range c.args.exp.now c.in_default.not-Range) c.in_ok-term-in_default.ensures.is;
-  helpers = same-helpers (map pred_tree c.args.helpers.now.items) (map pred_tree c.value-in_default.new.helpers.items) (value_helpers (site_of c.args.site.now) (exp_tree c.args.exp.now)) (collection_helpers (site_of c.args.site.now) (call name (exp one (exp (exp_tree c.args.exp.now) more)))) (collection-helped (site_of c.args.site.now) name (call name (exp one (exp (exp_tree c.args.exp.now) more))) one (exp_tree c.args.exp.now) more refl) c.in_ok-term-in_default.ensures.helpers;
+  is = collection-found (site_of c.args.site.now) name (call name (exp one (exp (exp_tree c.args.exp.now) more))) one (exp_tree c.args.exp.now) more c.args.slots.now c.value.new.slots c.args.goals.now.items c.value.new.goals.items c.in_ok-term-in_default.term refl (not-range c.args.exp.now c.in_default.not-Range) c.in_ok-term-in_default.ensures.is;
+  helpers = same-helpers (map pred_tree c.args.helpers.now.items) (map pred_tree c.value.new.helpers.items) (value_helpers (site_of c.args.site.now) (exp_tree c.args.exp.now)) (collection_helpers (site_of c.args.site.now) (call name (exp one (exp (exp_tree c.args.exp.now) more)))) (collection-helped (site_of c.args.site.now) name (call name (exp one (exp (exp_tree c.args.exp.now) more))) one (exp_tree c.args.exp.now) more refl) c.in_ok-term-in_default.ensures.helpers;
 }
 
-pub over::over_exp-same-low : goal.over::over_exp-same-low
-over::over_exp-same-low t c = refl
+pub over::over_steps-same-low : goal.over::over_steps-same-low
+over::over_steps-same-low t c = refl
 
-pub over::over_exp-same-by : goal.over::over_exp-same-by
-over::over_exp-same-by t c = refl
+pub over::over_steps-same-by : goal.over::over_steps-same-by
+over::over_steps-same-by t c = refl
 
-pub over::over_exp-same-low-in-None : goal.over::over_exp-same-low-in-None
-over::over_exp-same-low-in-None t c = refl
+pub over::over_range-same-low : goal.over::over_range-same-low
+over::over_range-same-low t c = refl
 
-pub over::over_exp-same-high : goal.over::over_exp-same-high
-over::over_exp-same-high t c = refl
+pub over::over_range-same-high : goal.over::over_range-same-high
+over::over_range-same-high t c = refl

@@ -26,8 +26,8 @@ invariant-values::values-loop-i l =
     Going (ValuesTo (values_of l.are_parts (site_of l.site) (exps_of l.exps) l.initial.slots) (values_of l.are_parts (site_of l.here) (exps_of (drop l.i l.exps)) l.slots) l.initial.goals.items l.goals.items l.terms.items)
     l.initial.helpers.items l.helpers.items (all_helpers (site_of l.site) (exps_of l.exps)) (all_helpers (site_of l.here) (exps_of (drop l.i l.exps)))
 
-abbrev pub invariant-values::indexed_by-loop-exp : goal.invariant-values::indexed_by-loop-exp
-invariant-values::indexed_by-loop-exp l =
+abbrev pub invariant-structures::indexed_by-loop-exp : goal.invariant-structures::indexed_by-loop-exp
+invariant-structures::indexed_by-loop-exp l =
     Going ((v : SlotValue) (before : List GoalTree) → IsValue v before l.initial.goals.items l.fn.whole l.initial.slots →
     IndexedTo (indexed_by v (places_in (site_of l.initial.site) (exps_of l.places))) (places_in (site_of l.site) (exps_of (drop l.exp-index l.places))) before l.goals.items l.item l.slots)
     l.initial.helpers.items l.helpers.items (all_helpers (site_of l.initial.site) (exps_of l.places)) (all_helpers (site_of l.site) (exps_of (drop l.exp-index l.places)))

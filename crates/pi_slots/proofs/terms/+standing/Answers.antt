@@ -1,6 +1,7 @@
 -- Each kind of expression by its lemma.
 use Rattle.std.proofs.Common.{◌≡◌, length, refl, rules}
 use Rattle.std.specs.Prelude.{codes}
+use Rattle.std.proofs.lemmas.Result.{IfOk-weaker}
 use Rattle.pi_terms.specs.Tree.{Tree}
 use Rattle.pi_terms.specs.ListNames.{nil}
 use Rattle.pi_print.specs.PrintTerm.{array_name}
@@ -8,6 +9,7 @@ use Rattle.pi_syntax.specs.ExpTree.{exp_tree}
 use Rattle.pi_syntax.specs.ExpLists.{exps_of}
 use Rattle.pi_names.specs.Terms.{items_onto}
 use Rattle.pi_lowered.specs.Values.{slot_term, slot_terms, made_of, made_onto}
+use Rattle.pi_slots.proofs.StepLemmas.{did}
 use Rattle.pi_slots.proofs.TermLemmas.{terms-none, terms-more, terms-end, items-none, items-more, items-end}
 use Rattle.pi_slots.proofs.ArmLemmas.{term-list, term-onto, term-array, term-call, term-quote, term-range, term-range_by, two_terms, three_terms, cells-list, cells-onto, cells-comp, cells-same, cells-two, cells-three, names-as}
 use Rattle.pi_slots.proofs.terms.+standing.Goals as goal
@@ -40,60 +42,60 @@ push_items-returns-clause-cells t c = (items-end c.args.exps.now c.loop-exp.exp-
 pub push_items-returns-clause-slots : goal.push_items-returns-clause-slots
 push_items-returns-clause-slots t c = (items-end c.args.exps.now c.loop-exp.exp-index c.args.slots.now c.loop-exp.slots c.args.cells.now.items c.loop-exp.cells.items c.loop-exp-test.false c.loop-exp.invariant).1
 
-pub push_term-returns-in_ok-push_term-in-Some-clause-cells : goal.push_term-returns-in_ok-push_term-in-Some-clause-cells
-push_term-returns-in_ok-push_term-in-Some-clause-cells t c =
-    cells-onto (slot_term (exp_tree c.args.exp.now) c.args.slots.now) (slot_terms (exps_of c.as_slice.result.now) c.args.slots.now) (slot_term (exp_tree c.deref.result.now) c.push_items.new.slots) c.args.cells.now.items c.push_items.new.cells.items c.push_term.new.cells.items (term-onto c.args.exp.now c.in-List.items c.in-List.tail c.in-Some.tail c.as_slice.result.now c.deref.result.now c.args.slots.now c.push_items.new.slots c.in-List.is c.in-Some.is c.as_slice.ensures.value c.deref.ensures c.in_ok-push_items-in-Some.ensures.slots) c.in_ok-push_items-in-Some.ensures.cells c.in_ok-push_term-in-Some.ensures.cells
+pub push_term-returns-in-Some-clause-cells : goal.push_term-returns-in-Some-clause-cells
+push_term-returns-in-Some-clause-cells t c =
+    IfOk-weaker c.both.result _ _ (λ _ w. cells-onto (slot_term (exp_tree c.args.exp.now) c.args.slots.now) (slot_terms (exps_of c.as_slice.result.now) c.args.slots.now) (slot_term (exp_tree c.deref.result.now) c.push_items.new.slots) c.args.cells.now.items c.push_items.new.cells.items c.push_term.new.cells.items (term-onto c.args.exp.now c.in-List.items c.in-List.tail c.in-Some.tail c.as_slice.result.now c.deref.result.now c.args.slots.now c.push_items.new.slots c.in-List.is c.in-Some.is c.as_slice.ensures.value c.deref.ensures (did c.push_items.result _ w.0 c.push_items.ensures.slots)) (did c.push_items.result _ w.0 c.push_items.ensures.cells) (did c.push_term.result _ w.1 c.push_term.ensures.cells)) c.both.ensures
 
-pub push_term-returns-in_ok-push_term-in-Some-clause-slots : goal.push_term-returns-in_ok-push_term-in-Some-clause-slots
-push_term-returns-in_ok-push_term-in-Some-clause-slots t c =
-    names-as (slot_term (exp_tree c.args.exp.now) c.args.slots.now) (made_onto (slot_terms (exps_of c.as_slice.result.now) c.args.slots.now) (slot_term (exp_tree c.deref.result.now) c.push_items.new.slots)) c.push_term.new.slots (term-onto c.args.exp.now c.in-List.items c.in-List.tail c.in-Some.tail c.as_slice.result.now c.deref.result.now c.args.slots.now c.push_items.new.slots c.in-List.is c.in-Some.is c.as_slice.ensures.value c.deref.ensures c.in_ok-push_items-in-Some.ensures.slots) c.in_ok-push_term-in-Some.ensures.slots
+pub push_term-returns-in-Some-clause-slots : goal.push_term-returns-in-Some-clause-slots
+push_term-returns-in-Some-clause-slots t c =
+    IfOk-weaker c.both.result _ _ (λ _ w. names-as (slot_term (exp_tree c.args.exp.now) c.args.slots.now) (made_onto (slot_terms (exps_of c.as_slice.result.now) c.args.slots.now) (slot_term (exp_tree c.deref.result.now) c.push_items.new.slots)) c.push_term.new.slots (term-onto c.args.exp.now c.in-List.items c.in-List.tail c.in-Some.tail c.as_slice.result.now c.deref.result.now c.args.slots.now c.push_items.new.slots c.in-List.is c.in-Some.is c.as_slice.ensures.value c.deref.ensures (did c.push_items.result _ w.0 c.push_items.ensures.slots)) (did c.push_term.result _ w.1 c.push_term.ensures.slots)) c.both.ensures
 
-pub push_term-returns-in_ok-push_atom-in-None-clause-cells : goal.push_term-returns-in_ok-push_atom-in-None-clause-cells
-push_term-returns-in_ok-push_atom-in-None-clause-cells t c =
-    cells-list (slot_term (exp_tree c.args.exp.now) c.args.slots.now) (slot_terms (exps_of c.as_slice-in-None.result.now) c.args.slots.now) c.args.cells.now.items c.push_items-in-None.new.cells.items c.push_atom-in-None.new.cells.items nil (term-list c.args.exp.now c.in-List.items c.in-List.tail c.as_slice-in-None.result.now c.args.slots.now c.in-List.is c.in-None.is c.as_slice-in-None.ensures.value) refl c.in_ok-push_items-in-None.ensures.cells c.in_ok-push_atom-in-None.ensures
+pub push_term-returns-in-None-clause-cells : goal.push_term-returns-in-None-clause-cells
+push_term-returns-in-None-clause-cells t c =
+    IfOk-weaker c.both-in-None.result _ _ (λ _ w. cells-list (slot_term (exp_tree c.args.exp.now) c.args.slots.now) (slot_terms (exps_of c.as_slice-in-None.result.now) c.args.slots.now) c.args.cells.now.items c.push_items-in-None.new.cells.items c.push_atom-in-None.new.cells.items nil (term-list c.args.exp.now c.in-List.items c.in-List.tail c.as_slice-in-None.result.now c.args.slots.now c.in-List.is c.in-None.is c.as_slice-in-None.ensures.value) refl (did c.push_items-in-None.result _ w.0 c.push_items-in-None.ensures.cells) (did c.push_atom-in-None.result _ w.1 c.push_atom-in-None.ensures)) c.both-in-None.ensures
 
-pub push_term-returns-in_ok-push_atom-in-None-clause-slots : goal.push_term-returns-in_ok-push_atom-in-None-clause-slots
-push_term-returns-in_ok-push_atom-in-None-clause-slots t c =
-    names-as (slot_term (exp_tree c.args.exp.now) c.args.slots.now) (made_of (λ ts. items_onto ts (Tree.atom nil)) (slot_terms (exps_of c.as_slice-in-None.result.now) c.args.slots.now)) c.push_items-in-None.new.slots (term-list c.args.exp.now c.in-List.items c.in-List.tail c.as_slice-in-None.result.now c.args.slots.now c.in-List.is c.in-None.is c.as_slice-in-None.ensures.value) c.in_ok-push_items-in-None.ensures.slots
+pub push_term-returns-in-None-clause-slots : goal.push_term-returns-in-None-clause-slots
+push_term-returns-in-None-clause-slots t c =
+    IfOk-weaker c.both-in-None.result _ _ (λ _ w. names-as (slot_term (exp_tree c.args.exp.now) c.args.slots.now) (made_of (λ ts. items_onto ts (Tree.atom nil)) (slot_terms (exps_of c.as_slice-in-None.result.now) c.args.slots.now)) c.push_items-in-None.new.slots (term-list c.args.exp.now c.in-List.items c.in-List.tail c.as_slice-in-None.result.now c.args.slots.now c.in-List.is c.in-None.is c.as_slice-in-None.ensures.value) (did c.push_items-in-None.result _ w.0 c.push_items-in-None.ensures.slots)) c.both-in-None.ensures
 
-pub push_term-returns-in_ok-push_terms-in-Array-clause-cells : goal.push_term-returns-in_ok-push_terms-in-Array-clause-cells
-push_term-returns-in_ok-push_terms-in-Array-clause-cells t c =
-    let count : c.len.result ≡ length c.as_slice-in-Array.result.now = search rules in
-    cells-comp (slot_term (exp_tree c.args.exp.now) c.args.slots.now) array_name array_name c.as_slice-in-Array.result.now c.args.slots.now c.len.result c.args.cells.now.items c.push_compound.new.cells.items c.push_terms.new.cells.items (term-array c.args.exp.now c.in-Array.items c.as_slice-in-Array.result.now c.args.slots.now c.in-Array.is c.as_slice-in-Array.ensures.value) refl count c.in_ok-push_compound-in-Array.ensures c.in_ok-push_terms-in-Array.ensures.cells
+pub push_term-returns-in-Array-clause-cells : goal.push_term-returns-in-Array-clause-cells
+push_term-returns-in-Array-clause-cells t c =
+    IfOk-weaker c.both-in-Array.result _ _ (λ _ w. let count : c.len.result ≡ length c.as_slice-in-Array.result.now = search rules in
+    cells-comp (slot_term (exp_tree c.args.exp.now) c.args.slots.now) array_name array_name c.as_slice-in-Array.result.now c.args.slots.now c.len.result c.args.cells.now.items c.push_compound.new.cells.items c.push_terms.new.cells.items (term-array c.args.exp.now c.in-Array.items c.as_slice-in-Array.result.now c.args.slots.now c.in-Array.is c.as_slice-in-Array.ensures.value) refl count (did c.push_compound.result _ w.0 c.push_compound.ensures) (did c.push_terms.result _ w.1 c.push_terms.ensures.cells)) c.both-in-Array.ensures
 
-pub push_term-returns-in_ok-push_terms-in-Array-clause-slots : goal.push_term-returns-in_ok-push_terms-in-Array-clause-slots
-push_term-returns-in_ok-push_terms-in-Array-clause-slots t c =
-    names-as (slot_term (exp_tree c.args.exp.now) c.args.slots.now) (made_of (Tree.comp array_name) (slot_terms (exps_of c.as_slice-in-Array.result.now) c.args.slots.now)) c.push_terms.new.slots (term-array c.args.exp.now c.in-Array.items c.as_slice-in-Array.result.now c.args.slots.now c.in-Array.is c.as_slice-in-Array.ensures.value) c.in_ok-push_terms-in-Array.ensures.slots
+pub push_term-returns-in-Array-clause-slots : goal.push_term-returns-in-Array-clause-slots
+push_term-returns-in-Array-clause-slots t c =
+    IfOk-weaker c.both-in-Array.result _ _ (λ _ w. names-as (slot_term (exp_tree c.args.exp.now) c.args.slots.now) (made_of (Tree.comp array_name) (slot_terms (exps_of c.as_slice-in-Array.result.now) c.args.slots.now)) c.push_terms.new.slots (term-array c.args.exp.now c.in-Array.items c.as_slice-in-Array.result.now c.args.slots.now c.in-Array.is c.as_slice-in-Array.ensures.value) (did c.push_terms.result _ w.1 c.push_terms.ensures.slots)) c.both-in-Array.ensures
 
-pub push_term-returns-in_ok-push_terms-in-Call-clause-cells : goal.push_term-returns-in_ok-push_terms-in-Call-clause-cells
-push_term-returns-in_ok-push_terms-in-Call-clause-cells t c =
-    let count : c.len-in-Call.result ≡ length c.as_slice-in-Call.result.now = search rules in
-    cells-comp (slot_term (exp_tree c.args.exp.now) c.args.slots.now) c.in-Call.name c.as_str-in-Call.result.now c.as_slice-in-Call.result.now c.args.slots.now c.len-in-Call.result c.args.cells.now.items c.push_compound-in-Call.new.cells.items c.push_terms-in-Call.new.cells.items (term-call c.args.exp.now c.in-Call.name c.in-Call.args c.as_slice-in-Call.result.now c.args.slots.now c.in-Call.is c.as_slice-in-Call.ensures.value) c.as_str-in-Call.ensures count c.in_ok-push_compound-in-Call.ensures c.in_ok-push_terms-in-Call.ensures.cells
+pub push_term-returns-in-Call-clause-cells : goal.push_term-returns-in-Call-clause-cells
+push_term-returns-in-Call-clause-cells t c =
+    IfOk-weaker c.both-in-Call.result _ _ (λ _ w. let count : c.len-in-Call.result ≡ length c.as_slice-in-Call.result.now = search rules in
+    cells-comp (slot_term (exp_tree c.args.exp.now) c.args.slots.now) c.in-Call.name c.as_str-in-Call.result.now c.as_slice-in-Call.result.now c.args.slots.now c.len-in-Call.result c.args.cells.now.items c.push_compound-in-Call.new.cells.items c.push_terms-in-Call.new.cells.items (term-call c.args.exp.now c.in-Call.name c.in-Call.args c.as_slice-in-Call.result.now c.args.slots.now c.in-Call.is c.as_slice-in-Call.ensures.value) c.as_str-in-Call.ensures count (did c.push_compound-in-Call.result _ w.0 c.push_compound-in-Call.ensures) (did c.push_terms-in-Call.result _ w.1 c.push_terms-in-Call.ensures.cells)) c.both-in-Call.ensures
 
-pub push_term-returns-in_ok-push_terms-in-Call-clause-slots : goal.push_term-returns-in_ok-push_terms-in-Call-clause-slots
-push_term-returns-in_ok-push_terms-in-Call-clause-slots t c =
-    names-as (slot_term (exp_tree c.args.exp.now) c.args.slots.now) (made_of (Tree.comp c.in-Call.name) (slot_terms (exps_of c.as_slice-in-Call.result.now) c.args.slots.now)) c.push_terms-in-Call.new.slots (term-call c.args.exp.now c.in-Call.name c.in-Call.args c.as_slice-in-Call.result.now c.args.slots.now c.in-Call.is c.as_slice-in-Call.ensures.value) c.in_ok-push_terms-in-Call.ensures.slots
+pub push_term-returns-in-Call-clause-slots : goal.push_term-returns-in-Call-clause-slots
+push_term-returns-in-Call-clause-slots t c =
+    IfOk-weaker c.both-in-Call.result _ _ (λ _ w. names-as (slot_term (exp_tree c.args.exp.now) c.args.slots.now) (made_of (Tree.comp c.in-Call.name) (slot_terms (exps_of c.as_slice-in-Call.result.now) c.args.slots.now)) c.push_terms-in-Call.new.slots (term-call c.args.exp.now c.in-Call.name c.in-Call.args c.as_slice-in-Call.result.now c.args.slots.now c.in-Call.is c.as_slice-in-Call.ensures.value) (did c.push_terms-in-Call.result _ w.1 c.push_terms-in-Call.ensures.slots)) c.both-in-Call.ensures
 
-pub push_term-returns-in_ok-push_term-in-Quote-clause-cells : goal.push_term-returns-in_ok-push_term-in-Quote-clause-cells
-push_term-returns-in_ok-push_term-in-Quote-clause-cells t c =
-    cells-same (slot_term (exp_tree c.args.exp.now) c.args.slots.now) (slot_term (exp_tree c.deref-in-Quote.result.now) c.args.slots.now) c.args.cells.now.items c.push_term-in-Quote.new.cells.items (term-quote c.args.exp.now c.in-Quote.inner c.deref-in-Quote.result.now c.args.slots.now c.in-Quote.is c.deref-in-Quote.ensures) c.in_ok-push_term-in-Quote.ensures.cells
+pub push_term-returns-in-Quote-clause-cells : goal.push_term-returns-in-Quote-clause-cells
+push_term-returns-in-Quote-clause-cells t c =
+    IfOk-weaker c.push_term-in-Quote.result _ _ (λ _ so. cells-same (slot_term (exp_tree c.args.exp.now) c.args.slots.now) (slot_term (exp_tree c.deref-in-Quote.result.now) c.args.slots.now) c.args.cells.now.items c.push_term-in-Quote.new.cells.items (term-quote c.args.exp.now c.in-Quote.inner c.deref-in-Quote.result.now c.args.slots.now c.in-Quote.is c.deref-in-Quote.ensures) so) c.push_term-in-Quote.ensures.cells
 
-pub push_term-returns-in_ok-push_term-in-Quote-clause-slots : goal.push_term-returns-in_ok-push_term-in-Quote-clause-slots
-push_term-returns-in_ok-push_term-in-Quote-clause-slots t c =
-    names-as (slot_term (exp_tree c.args.exp.now) c.args.slots.now) (slot_term (exp_tree c.deref-in-Quote.result.now) c.args.slots.now) c.push_term-in-Quote.new.slots (term-quote c.args.exp.now c.in-Quote.inner c.deref-in-Quote.result.now c.args.slots.now c.in-Quote.is c.deref-in-Quote.ensures) c.in_ok-push_term-in-Quote.ensures.slots
+pub push_term-returns-in-Quote-clause-slots : goal.push_term-returns-in-Quote-clause-slots
+push_term-returns-in-Quote-clause-slots t c =
+    IfOk-weaker c.push_term-in-Quote.result _ _ (λ _ so. names-as (slot_term (exp_tree c.args.exp.now) c.args.slots.now) (slot_term (exp_tree c.deref-in-Quote.result.now) c.args.slots.now) c.push_term-in-Quote.new.slots (term-quote c.args.exp.now c.in-Quote.inner c.deref-in-Quote.result.now c.args.slots.now c.in-Quote.is c.deref-in-Quote.ensures) so) c.push_term-in-Quote.ensures.slots
 
-pub push_term-returns-in_ok-push_term-in-Some-step-3-clause-cells : goal.push_term-returns-in_ok-push_term-in-Some-step-3-clause-cells
-push_term-returns-in_ok-push_term-in-Some-step-3-clause-cells t c =
-    cells-three (slot_term (exp_tree c.args.exp.now) c.args.slots.now) (slot_term (exp_tree c.deref-in-Some-step.result.now) c.args.slots.now) (slot_term (exp_tree c.deref-in-Some-step-2.result.now) c.push_term-in-Some-step.new.slots) (slot_term (exp_tree c.deref-in-Some-step-3.result.now) c.push_term-in-Some-step-2.new.slots) (codes "..") c.args.cells.now.items c.push_compound-in-Some-step.new.cells.items c.push_term-in-Some-step.new.cells.items c.push_term-in-Some-step-2.new.cells.items c.push_term-in-Some-step-3.new.cells.items (term-range_by c.args.exp.now c.in-Range.first c.in-Range.step c.in-Range.last c.in-Some-step.step c.deref-in-Some-step.result.now c.deref-in-Some-step-2.result.now c.deref-in-Some-step-3.result.now c.args.slots.now c.push_term-in-Some-step.new.slots c.push_term-in-Some-step-2.new.slots c.in-Range.is c.in-Some-step.is c.deref-in-Some-step.ensures c.deref-in-Some-step-2.ensures c.deref-in-Some-step-3.ensures c.in_ok-push_term-in-Some-step.ensures.slots c.in_ok-push_term-in-Some-step-2.ensures.slots) refl c.in_ok-push_compound-in-Some-step.ensures c.in_ok-push_term-in-Some-step.ensures.cells c.in_ok-push_term-in-Some-step-2.ensures.cells c.in_ok-push_term-in-Some-step-3.ensures.cells
+pub push_term-returns-in-Some-step-clause-cells : goal.push_term-returns-in-Some-step-clause-cells
+push_term-returns-in-Some-step-clause-cells t c =
+    IfOk-weaker c.both-in-Some-step-3.result _ _ (λ _ w. let v = did c.both-in-Some-step.result _ w.0 c.both-in-Some-step.ensures in let u = did c.both-in-Some-step-2.result _ w.1 c.both-in-Some-step-2.ensures in cells-three (slot_term (exp_tree c.args.exp.now) c.args.slots.now) (slot_term (exp_tree c.deref-in-Some-step.result.now) c.args.slots.now) (slot_term (exp_tree c.deref-in-Some-step-2.result.now) c.push_term-in-Some-step.new.slots) (slot_term (exp_tree c.deref-in-Some-step-3.result.now) c.push_term-in-Some-step-2.new.slots) (codes "..") c.args.cells.now.items c.push_compound-in-Some-step.new.cells.items c.push_term-in-Some-step.new.cells.items c.push_term-in-Some-step-2.new.cells.items c.push_term-in-Some-step-3.new.cells.items (term-range_by c.args.exp.now c.in-Range.first c.in-Range.step c.in-Range.last c.in-Some-step.step c.deref-in-Some-step.result.now c.deref-in-Some-step-2.result.now c.deref-in-Some-step-3.result.now c.args.slots.now c.push_term-in-Some-step.new.slots c.push_term-in-Some-step-2.new.slots c.in-Range.is c.in-Some-step.is c.deref-in-Some-step.ensures c.deref-in-Some-step-2.ensures c.deref-in-Some-step-3.ensures (did c.push_term-in-Some-step.result _ v.1 c.push_term-in-Some-step.ensures.slots) (did c.push_term-in-Some-step-2.result _ u.0 c.push_term-in-Some-step-2.ensures.slots)) refl (did c.push_compound-in-Some-step.result _ v.0 c.push_compound-in-Some-step.ensures) (did c.push_term-in-Some-step.result _ v.1 c.push_term-in-Some-step.ensures.cells) (did c.push_term-in-Some-step-2.result _ u.0 c.push_term-in-Some-step-2.ensures.cells) (did c.push_term-in-Some-step-3.result _ u.1 c.push_term-in-Some-step-3.ensures.cells)) c.both-in-Some-step-3.ensures
 
-pub push_term-returns-in_ok-push_term-in-Some-step-3-clause-slots : goal.push_term-returns-in_ok-push_term-in-Some-step-3-clause-slots
-push_term-returns-in_ok-push_term-in-Some-step-3-clause-slots t c =
-    names-as (slot_term (exp_tree c.args.exp.now) c.args.slots.now) (three_terms (slot_term (exp_tree c.deref-in-Some-step.result.now) c.args.slots.now) (slot_term (exp_tree c.deref-in-Some-step-2.result.now) c.push_term-in-Some-step.new.slots) (slot_term (exp_tree c.deref-in-Some-step-3.result.now) c.push_term-in-Some-step-2.new.slots)) c.push_term-in-Some-step-3.new.slots (term-range_by c.args.exp.now c.in-Range.first c.in-Range.step c.in-Range.last c.in-Some-step.step c.deref-in-Some-step.result.now c.deref-in-Some-step-2.result.now c.deref-in-Some-step-3.result.now c.args.slots.now c.push_term-in-Some-step.new.slots c.push_term-in-Some-step-2.new.slots c.in-Range.is c.in-Some-step.is c.deref-in-Some-step.ensures c.deref-in-Some-step-2.ensures c.deref-in-Some-step-3.ensures c.in_ok-push_term-in-Some-step.ensures.slots c.in_ok-push_term-in-Some-step-2.ensures.slots) c.in_ok-push_term-in-Some-step-3.ensures.slots
+pub push_term-returns-in-Some-step-clause-slots : goal.push_term-returns-in-Some-step-clause-slots
+push_term-returns-in-Some-step-clause-slots t c =
+    IfOk-weaker c.both-in-Some-step-3.result _ _ (λ _ w. let v = did c.both-in-Some-step.result _ w.0 c.both-in-Some-step.ensures in let u = did c.both-in-Some-step-2.result _ w.1 c.both-in-Some-step-2.ensures in names-as (slot_term (exp_tree c.args.exp.now) c.args.slots.now) (three_terms (slot_term (exp_tree c.deref-in-Some-step.result.now) c.args.slots.now) (slot_term (exp_tree c.deref-in-Some-step-2.result.now) c.push_term-in-Some-step.new.slots) (slot_term (exp_tree c.deref-in-Some-step-3.result.now) c.push_term-in-Some-step-2.new.slots)) c.push_term-in-Some-step-3.new.slots (term-range_by c.args.exp.now c.in-Range.first c.in-Range.step c.in-Range.last c.in-Some-step.step c.deref-in-Some-step.result.now c.deref-in-Some-step-2.result.now c.deref-in-Some-step-3.result.now c.args.slots.now c.push_term-in-Some-step.new.slots c.push_term-in-Some-step-2.new.slots c.in-Range.is c.in-Some-step.is c.deref-in-Some-step.ensures c.deref-in-Some-step-2.ensures c.deref-in-Some-step-3.ensures (did c.push_term-in-Some-step.result _ v.1 c.push_term-in-Some-step.ensures.slots) (did c.push_term-in-Some-step-2.result _ u.0 c.push_term-in-Some-step-2.ensures.slots)) (did c.push_term-in-Some-step-3.result _ u.1 c.push_term-in-Some-step-3.ensures.slots)) c.both-in-Some-step-3.ensures
 
-pub push_term-returns-in_ok-push_term-in-None-step-2-clause-cells : goal.push_term-returns-in_ok-push_term-in-None-step-2-clause-cells
-push_term-returns-in_ok-push_term-in-None-step-2-clause-cells t c =
-    cells-two (slot_term (exp_tree c.args.exp.now) c.args.slots.now) (slot_term (exp_tree c.deref-in-None-step.result.now) c.args.slots.now) (slot_term (exp_tree c.deref-in-None-step-2.result.now) c.push_term-in-None-step.new.slots) (codes "..") c.args.cells.now.items c.push_compound-in-None-step.new.cells.items c.push_term-in-None-step.new.cells.items c.push_term-in-None-step-2.new.cells.items (term-range c.args.exp.now c.in-Range.first c.in-Range.step c.in-Range.last c.deref-in-None-step.result.now c.deref-in-None-step-2.result.now c.args.slots.now c.push_term-in-None-step.new.slots c.in-Range.is c.in-None-step.is c.deref-in-None-step.ensures c.deref-in-None-step-2.ensures c.in_ok-push_term-in-None-step.ensures.slots) refl c.in_ok-push_compound-in-None-step.ensures c.in_ok-push_term-in-None-step.ensures.cells c.in_ok-push_term-in-None-step-2.ensures.cells
+pub push_term-returns-in-None-step-clause-cells : goal.push_term-returns-in-None-step-clause-cells
+push_term-returns-in-None-step-clause-cells t c =
+    IfOk-weaker c.both-in-None-step-2.result _ _ (λ _ w. let v = did c.both-in-None-step.result _ w.0 c.both-in-None-step.ensures in cells-two (slot_term (exp_tree c.args.exp.now) c.args.slots.now) (slot_term (exp_tree c.deref-in-None-step.result.now) c.args.slots.now) (slot_term (exp_tree c.deref-in-None-step-2.result.now) c.push_term-in-None-step.new.slots) (codes "..") c.args.cells.now.items c.push_compound-in-None-step.new.cells.items c.push_term-in-None-step.new.cells.items c.push_term-in-None-step-2.new.cells.items (term-range c.args.exp.now c.in-Range.first c.in-Range.step c.in-Range.last c.deref-in-None-step.result.now c.deref-in-None-step-2.result.now c.args.slots.now c.push_term-in-None-step.new.slots c.in-Range.is c.in-None-step.is c.deref-in-None-step.ensures c.deref-in-None-step-2.ensures (did c.push_term-in-None-step.result _ v.1 c.push_term-in-None-step.ensures.slots)) refl (did c.push_compound-in-None-step.result _ v.0 c.push_compound-in-None-step.ensures) (did c.push_term-in-None-step.result _ v.1 c.push_term-in-None-step.ensures.cells) (did c.push_term-in-None-step-2.result _ w.1 c.push_term-in-None-step-2.ensures.cells)) c.both-in-None-step-2.ensures
 
-pub push_term-returns-in_ok-push_term-in-None-step-2-clause-slots : goal.push_term-returns-in_ok-push_term-in-None-step-2-clause-slots
-push_term-returns-in_ok-push_term-in-None-step-2-clause-slots t c =
-    names-as (slot_term (exp_tree c.args.exp.now) c.args.slots.now) (two_terms (slot_term (exp_tree c.deref-in-None-step.result.now) c.args.slots.now) (slot_term (exp_tree c.deref-in-None-step-2.result.now) c.push_term-in-None-step.new.slots)) c.push_term-in-None-step-2.new.slots (term-range c.args.exp.now c.in-Range.first c.in-Range.step c.in-Range.last c.deref-in-None-step.result.now c.deref-in-None-step-2.result.now c.args.slots.now c.push_term-in-None-step.new.slots c.in-Range.is c.in-None-step.is c.deref-in-None-step.ensures c.deref-in-None-step-2.ensures c.in_ok-push_term-in-None-step.ensures.slots) c.in_ok-push_term-in-None-step-2.ensures.slots
+pub push_term-returns-in-None-step-clause-slots : goal.push_term-returns-in-None-step-clause-slots
+push_term-returns-in-None-step-clause-slots t c =
+    IfOk-weaker c.both-in-None-step-2.result _ _ (λ _ w. let v = did c.both-in-None-step.result _ w.0 c.both-in-None-step.ensures in names-as (slot_term (exp_tree c.args.exp.now) c.args.slots.now) (two_terms (slot_term (exp_tree c.deref-in-None-step.result.now) c.args.slots.now) (slot_term (exp_tree c.deref-in-None-step-2.result.now) c.push_term-in-None-step.new.slots)) c.push_term-in-None-step-2.new.slots (term-range c.args.exp.now c.in-Range.first c.in-Range.step c.in-Range.last c.deref-in-None-step.result.now c.deref-in-None-step-2.result.now c.args.slots.now c.push_term-in-None-step.new.slots c.in-Range.is c.in-None-step.is c.deref-in-None-step.ensures c.deref-in-None-step-2.ensures (did c.push_term-in-None-step.result _ v.1 c.push_term-in-None-step.ensures.slots)) (did c.push_term-in-None-step-2.result _ w.1 c.push_term-in-None-step-2.ensures.slots)) c.both-in-None-step-2.ensures

@@ -1,0 +1,283 @@
+//! Values of expressions with calls in them, by their form: lists and arrays, items by indexes, ranges and comprehensions.
+ghost use Rattle.std.specs.Prelude.{◌≡◌, List, IfOk};
+ghost use Rattle.pi_core.specs.GoalTree.{GoalTree};
+ghost use Rattle.pi_syntax.specs.ExpTree.{exp_tree, list as list_tree, array as array_tree};
+ghost use Rattle.pi_syntax.specs.ExpLists.{exps_of};
+ghost use Rattle.pi_lowered.specs.Values.{SlotValue};
+ghost use Rattle.pi_lowered.specs.Goals.{indexed_by as indexed_by_of, begins_flat as begins_flat_tree};
+ghost use Rattle.pi_lowered.specs.Sites.{following_sites};
+ghost use Rattle.pi_lowered.specs.Written.{values_in};
+ghost use Rattle.pi_lowered.specs.Helpers.{all_helpers};
+ghost use Rattle.pi_sites.specs.SiteOf.{site_of};
+ghost use Rattle.pi_helpers.specs.Parts.{IsValue};
+ghost use Rattle.pi_lowering.specs.Lowering.{With, Gives};
+ghost use Rattle.pi_lowering.specs.Shapes.{IsList, IsIndex, IsSpan, IsStepped, IsCollected};
+
+use crate::slotted::{applied_to_three, applied_to_two};
+use crate::units::open_units;
+use crate::values::{no_value, value, values};
+use crate::whole::{Comprehension, begin_comprehension, end_comprehension};
+use pi_core::{CoreGoal, CorePred};
+use pi_sites::Site;
+use pi_slots::{Slots, is_flat, list_onto};
+use pi_syntax::Exp;
+use pi_terms::Term;
+use std::alloc::{AllocError, Global};
+
+/// A list.
+#[cycle(lowering)]
+pub(crate) fn listed<'a>(
+    alloc: Global,
+    site: &Site<'a>,
+    exp: &'a Exp,
+    slots: &mut Slots<'a>,
+    goals: &mut Vec<CoreGoal>,
+    helpers: &mut Vec<CorePred>,
+) -> Result<Term, AllocError>
+    ensures { IfOk result (λ term. IsList exp.now → Gives (site_of site.now) (exp_tree exp.now) slots.old goals.old.items goals.new.items term slots.new helpers.old.items helpers.new.items) }
+{
+    match exp {
+        Exp::List(items, tail) => match tail {
+            Some(tail) => {
+                let parts = values(alloc, true, site, items.as_slice(), slots, goals, helpers)?;
+                let behind = site.behind_all(alloc, items.as_slice())?;
+                let rest = value(alloc, false, &behind, tail, slots, goals, helpers)?;
+                let list = list_onto(alloc, &parts, &rest)?;
+                Ok(list)
+            }
+            None => {
+                let list = list_of(alloc, site, items.as_slice(), slots, goals, helpers)?;
+                Ok(list)
+            }
+        },
+        _ => {
+            let term = no_value(alloc, goals)?;
+            Ok(term)
+        }
+    }
+}
+
+/// A list of these items.
+#[cycle(lowering)]
+fn list_of<'a>(
+    alloc: Global,
+    site: &Site<'a>,
+    exps: &'a [Exp],
+    slots: &mut Slots<'a>,
+    goals: &mut Vec<CoreGoal>,
+    helpers: &mut Vec<CorePred>,
+) -> Result<Term, AllocError>
+    ensures { IfOk result (λ term. Gives (site_of site.now) (list_tree (exps_of exps.now)) slots.old goals.old.items goals.new.items term slots.new helpers.old.items helpers.new.items) }
+{
+    let parts = values(alloc, true, site, exps, slots, goals, helpers)?;
+    let rest = Term::atom(alloc, "[]")?;
+    let list = list_onto(alloc, &parts, &rest)?;
+    Ok(list)
+}
+
+/// An array of these items.
+#[cycle(lowering)]
+pub(crate) fn array_of<'a>(
+    alloc: Global,
+    site: &Site<'a>,
+    exps: &'a [Exp],
+    slots: &mut Slots<'a>,
+    goals: &mut Vec<CoreGoal>,
+    helpers: &mut Vec<CorePred>,
+) -> Result<Term, AllocError>
+    ensures { IfOk result (λ term. Gives (site_of site.now) (array_tree (exps_of exps.now)) slots.old goals.old.items goals.new.items term slots.new helpers.old.items helpers.new.items) }
+{
+    let parts = values(alloc, true, site, exps, slots, goals, helpers)?;
+    let array = Term::comp(alloc, "{}", &parts)?;
+    Ok(array)
+}
+
+/// An item by indexes.
+#[cycle(lowering)]
+pub(crate) fn indexed<'a>(
+    alloc: Global,
+    site: &Site<'a>,
+    exp: &'a Exp,
+    slots: &mut Slots<'a>,
+    goals: &mut Vec<CoreGoal>,
+    helpers: &mut Vec<CorePred>,
+) -> Result<Term, AllocError>
+    ensures { IfOk result (λ term. IsIndex exp.now → Gives (site_of site.now) (exp_tree exp.now) slots.old goals.old.items goals.new.items term slots.new helpers.old.items helpers.new.items) }
+{
+    match exp {
+        Exp::Index(of, places) => {
+            let is_last = begins_flat(places.as_slice());
+            let whole = value(alloc, is_last, site, of, slots, goals, helpers)?;
+            let mut behind = site.behind(alloc, of)?;
+            let item = indexed_by(
+                alloc,
+                &mut behind,
+                whole,
+                places.as_slice(),
+                slots,
+                goals,
+                helpers,
+            )?;
+            Ok(item)
+        }
+        _ => {
+            let term = no_value(alloc, goals)?;
+            Ok(term)
+        }
+    }
+}
+
+/// Whether the first of the expressions has no call in it.
+fn begins_flat(exps: &[Exp]) -> bool
+    ensures { result ≡ begins_flat_tree (exps_of exps.now) }
+{
+    if exps.is_empty() {
+        return false;
+    }
+    is_flat(&exps[0])
+}
+
+/// A value that is indexed by one place after the other, from a site that goes on.
+#[cycle(lowering)]
+fn indexed_by<'a>(
+    alloc: Global,
+    site: &mut Site<'a>,
+    whole: Term,
+    places: &'a [Exp],
+    slots: &mut Slots<'a>,
+    goals: &mut Vec<CoreGoal>,
+    helpers: &mut Vec<CorePred>,
+) -> Result<Term, AllocError>
+    ensures { IfOk result (λ term. With ((v : SlotValue) (before : List GoalTree) → IsValue v before goals.old.items whole slots.old → IsValue (indexed_by_of v (values_in (following_sites (site_of site.old) (exps_of places.now)) (exps_of places.now))) before goals.new.items term slots.new) helpers.old.items helpers.new.items (all_helpers (site_of site.old) (exps_of places.now))) }
+{
+    let mut item = whole;
+    for exp in places {
+        let place = value(alloc, true, site, exp, slots, goals, helpers)?;
+        site.pass(alloc, exp)?;
+        item = applied_to_two(alloc, "in", item, place, slots, goals)?;
+    }
+    Ok(item)
+}
+
+/// A range, which is built.
+#[cycle(lowering)]
+pub(crate) fn ranged<'a>(
+    alloc: Global,
+    site: &Site<'a>,
+    exp: &'a Exp,
+    slots: &mut Slots<'a>,
+    goals: &mut Vec<CoreGoal>,
+    helpers: &mut Vec<CorePred>,
+) -> Result<Term, AllocError>
+    ensures { IfOk result (λ term. IsSpan exp.now → Gives (site_of site.now) (exp_tree exp.now) slots.old goals.old.items goals.new.items term slots.new helpers.old.items helpers.new.items) }
+{
+    match exp {
+        Exp::Range(first, step, last) => match step {
+            Some(_) => {
+                let range = stepped(alloc, site, exp, slots, goals, helpers)?;
+                Ok(range)
+            }
+            None => {
+                let is_last = is_flat(last);
+                let one = value(alloc, is_last, site, first, slots, goals, helpers)?;
+                let behind = site.behind(alloc, first)?;
+                let two = value(alloc, true, &behind, last, slots, goals, helpers)?;
+                let range = applied_to_two(alloc, "..", one, two, slots, goals)?;
+                Ok(range)
+            }
+        },
+        _ => {
+            let term = no_value(alloc, goals)?;
+            Ok(term)
+        }
+    }
+}
+
+/// A range with a step.
+#[cycle(lowering)]
+fn stepped<'a>(
+    alloc: Global,
+    site: &Site<'a>,
+    exp: &'a Exp,
+    slots: &mut Slots<'a>,
+    goals: &mut Vec<CoreGoal>,
+    helpers: &mut Vec<CorePred>,
+) -> Result<Term, AllocError>
+    ensures { IfOk result (λ term. IsStepped exp.now → Gives (site_of site.now) (exp_tree exp.now) slots.old goals.old.items goals.new.items term slots.new helpers.old.items helpers.new.items) }
+{
+    match exp {
+        Exp::Range(first, step, last) => match step {
+            Some(step) => {
+                let is_last = is_flat(last);
+                let is_end = is_last & is_flat(step);
+                let one = value(alloc, is_end, site, first, slots, goals, helpers)?;
+                let second = site.behind(alloc, first)?;
+                let two = value(alloc, is_last, &second, step, slots, goals, helpers)?;
+                let third = second.behind(alloc, step)?;
+                let three = value(alloc, true, &third, last, slots, goals, helpers)?;
+                let range = applied_to_three(alloc, "..", one, two, three, slots, goals)?;
+                Ok(range)
+            }
+            None => {
+                let term = no_value(alloc, goals)?;
+                Ok(term)
+            }
+        },
+        _ => {
+            let term = no_value(alloc, goals)?;
+            Ok(term)
+        }
+    }
+}
+
+/// A comprehension.
+#[cycle(lowering)]
+pub(crate) fn collected<'a>(
+    alloc: Global,
+    site: &Site<'a>,
+    exp: &'a Exp,
+    slots: &mut Slots<'a>,
+    goals: &mut Vec<CoreGoal>,
+    helpers: &mut Vec<CorePred>,
+) -> Result<Term, AllocError>
+    ensures { IfOk result (λ term. IsCollected exp.now → Gives (site_of site.now) (exp_tree exp.now) slots.old goals.old.items goals.new.items term slots.new helpers.old.items helpers.new.items) }
+{
+    match exp {
+        Exp::Collect(is_array, item, units) => {
+            let units = units.as_slice();
+            let begun = begin_comprehension(alloc, *is_array, site, units, item, slots, goals)?;
+            let Comprehension {
+                inner,
+                mut around,
+                ending,
+                mut inside,
+            } = begun;
+            let last = &mut inside;
+            let mut opened = open_units(alloc, ending, &inner, units, last, helpers)?;
+            let term = value(
+                alloc,
+                true,
+                &last.site,
+                item,
+                &mut last.slots,
+                &mut last.goals,
+                helpers,
+            )?;
+            let list = end_comprehension(
+                alloc,
+                term,
+                &mut around,
+                &mut opened,
+                last,
+                slots,
+                goals,
+                helpers,
+            )?;
+            Ok(list)
+        }
+        _ => {
+            let term = no_value(alloc, goals)?;
+            Ok(term)
+        }
+    }
+}
