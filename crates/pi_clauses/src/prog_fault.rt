@@ -7,7 +7,7 @@ use std::alloc::{AllocError, AllocFailed};
 
 /// The first fault of a program, or of a goal, which is one part. Parts are counted from 1. A User's Guide to Picat,
 /// 'Predicates and Functions'; the limits and the order of faults are own.
-#[derive(Debug, Drop)]
+#[derive(Drop)]
 pub enum ProgFault {
     /// The part is no clause or goal, or one that may not stand there.
     BadClause { number: u64 },

@@ -1,5 +1,5 @@
 //! The program that parts are.
-ghost use Rattle.std.specs.Prelude.{◌≡◌, ◌++◌, IfOk, map};
+ghost use Rattle.std.specs.Prelude.{◌≡◌, ◌++◌, IfOk, map, vec_len};
 ghost use Rattle.pi_syntax.specs.ProgramTree.{source_tree, part_tree};
 ghost use Rattle.pi_clauses.specs.Seen.{seen, all_seen};
 ghost use Rattle.pi_clauses.specs.Verdict.{parts_of, part_of, decl_of};
@@ -13,10 +13,24 @@ pub fn program_of(alloc: Global, readings: Vec<PartReading>) -> Result<Program, 
     ensures { IfOk result (λ program. source_tree program ≡ parts_of (all_seen readings.items)) }
 {
     let mut parts = Parts::new(alloc);
-    for reading in readings {
+    let mut left = readings;
+    left.reverse();
+    while let Some(reading) = left.pop() {
         add_part(&mut parts, reading)?;
+        give_back(&mut left);
     }
     Ok(Program { parts })
+}
+
+/// Gives back the memory behind the readings that are left, at each thousandth or so: so readings and parts aren't both
+/// there as a whole.
+fn give_back(left: &mut Vec<PartReading>)
+    ensures items { left.new.items ≡ left.old.items }
+    ensures count { vec_len left.new ≡ vec_len left.old }
+{
+    if left.len() % 1_024 == 0 {
+        left.shrink_to_fit();
+    }
 }
 
 /// Adds the part that a reading is, where it has no fault.

@@ -1,6 +1,8 @@
 //! Trees that were read one after another.
+ghost use Rattle.std.specs.Prelude.{◌≡◌, ◌++◌, ◌∷◌, [], OnOk};
+
 use crate::built::Built;
-use pi_syntax::Exps;
+use pi_syntax::{Exp, Exps};
 use std::alloc::{AllocError, Global};
 
 /// Trees from the left with the most levels of one, or no more than that one is too deep.
@@ -60,7 +62,7 @@ impl Items {
     {
         match last {
             Built::Tree(exp, more) => {
-                exps.push(exp)?;
+                push_exp(&mut exps, exp)?;
                 Ok(Items::Kept(exps, levels.max(more)))
             }
             Built::Deep => {
@@ -69,4 +71,28 @@ impl Items {
             }
         }
     }
+}
+
+/// Adds a tree at the end.
+fn push_exp(exps: &mut Exps, exp: Exp) -> Result<(), AllocError>
+    ensures { OnOk result (exps.new.items ≡ exps.old.items ++ exp ∷ []) }
+{
+    if let Err(error) = make_room(exps) {
+        drop(exp);
+        return Err(error);
+    }
+    exps.push(exp)?;
+    Ok(())
+}
+
+/// Makes room for one more, and where there is none, for a quarter of them: most are few and stay as they are, so that room
+/// that isn't filled is most of what a program's trees would take.
+fn make_room(exps: &mut Exps) -> Result<(), AllocError>
+    ensures { exps.new.items ≡ exps.old.items }
+{
+    let count = exps.len();
+    if count < exps.capacity() {
+        return Ok(());
+    }
+    exps.reserve_exact(count / 4 + 1)
 }

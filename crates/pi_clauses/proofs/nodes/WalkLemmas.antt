@@ -1,10 +1,16 @@
 -- What a walk has ahead of it.
 use Rattle.std.proofs.Common.{◌≡◌, ℕ, suc, zero, ◌+◌, ◌<◌, ◌≤◌, List, [], ◌∷◌, ◌++◌, length, get_or, drop, refl, ap, sym, ◌∙◌, append_assoc, add-one, arith}
+use Rattle.std.specs.Prelude.{Result, Ok, Err, OnOk}
 use Rattle.std.proofs.Math.Seq.{drop-cons}
 use Rattle.std.proofs.lemmas.List.{append-nil}
 use Rattle.pi_clauses.specs.Places.{Placed}
 use Rattle.pi_clauses.specs.Walk.{all_of_node, shown_node, stacked}
 use Rattle.pi_clauses.specs.declared.nodes.walk.Node.{Node}
+
+-- a function that ends with a call ends without a fault where the call does
+pub once_ok : {T E P Q : Type 0} (r : Result T E) → OnOk r P → (P → Q) → OnOk r Q
+once_ok (Ok x) h f = f h
+once_ok (Err e) h f = tt
 
 pub front : {A : Type 0} (xs : List A) (i : ℕ) (x : A) → i < length xs → x ≡ get_or xs i x → drop i xs ≡ x ∷ drop (i + 1) xs
 front xs i x h e =

@@ -173,73 +173,46 @@ impl<'a> Walk<'a> {
             Exp::Str(_) => Ok(()),
             Exp::List(items, tail) => {
                 self.push_held(inside, tail)?;
-                self.push_all(inside, items.as_slice())?;
-                Ok(())
+                self.push_all(inside, items.as_slice())
             }
-            Exp::Array(items) => {
-                self.push_all(inside, items.as_slice())?;
-                Ok(())
-            }
-            Exp::Call(name, args) => {
-                self.push_arguments(place, name.as_str(), args.as_slice())?;
-                Ok(())
-            }
-            Exp::Quote(term) => {
-                self.push(place.quoted(), term)?;
-                Ok(())
-            }
+            Exp::Array(items) => { self.push_all(inside, items.as_slice()) }
+            Exp::Call(name, args) => { self.push_arguments(place, name.as_str(), args.as_slice()) }
+            Exp::Quote(term) => { self.push(place.quoted(), term) }
             Exp::Index(of, indexes) => {
                 self.push_all(inside, indexes.as_slice())?;
-                self.push(inside, of)?;
-                Ok(())
+                self.push(inside, of)
             }
             Exp::Range(first, step, last) => {
                 self.push(inside, last)?;
                 self.push_held(inside, step)?;
-                self.push(inside, first)?;
-                Ok(())
+                self.push(inside, first)
             }
-            Exp::At(_, bound) => {
-                self.push(inside, bound)?;
-                Ok(())
-            }
+            Exp::At(_, bound) => { self.push(inside, bound) }
             Exp::Collect(_, item, iterators) => {
                 self.push_all(Place::Iterator, iterators.as_slice())?;
-                self.push(inside, item)?;
-                Ok(())
+                self.push(inside, item)
             }
-            Exp::And(goals) => {
-                self.push_all(body, goals.as_slice())?;
-                Ok(())
-            }
-            Exp::Or(goals) => {
-                self.push_all(body, goals.as_slice())?;
-                Ok(())
-            }
+            Exp::And(goals) => { self.push_all(body, goals.as_slice()) }
+            Exp::Or(goals) => { self.push_all(body, goals.as_slice()) }
             Exp::Arrow(test, then) => {
                 self.push(body, then)?;
-                self.push(TEST, test)?;
-                Ok(())
+                self.push(TEST, test)
             }
             Exp::If(branches, last) => {
                 self.push_held(body, last)?;
-                self.push_branches(place, branches.as_slice())?;
-                Ok(())
+                self.push_branches(place, branches.as_slice())
             }
             Exp::Foreach(iterators, goal) => {
                 self.push(body, goal)?;
-                self.push_all(Place::Iterator, iterators.as_slice())?;
-                Ok(())
+                self.push_all(Place::Iterator, iterators.as_slice())
             }
             Exp::While(test, goal) => {
                 self.push(body, goal)?;
-                self.push(TEST, test)?;
-                Ok(())
+                self.push(TEST, test)
             }
             Exp::DoWhile(goal, test) => {
                 self.push(TEST, test)?;
-                self.push(body, goal)?;
-                Ok(())
+                self.push(body, goal)
             }
         }
     }
