@@ -1,14 +1,13 @@
 -- The terms of a fact's head, put into a store from the left.
-use Rattle.std.proofs.Common.{◌≡◌, ℕ, ℤ, zero, suc, ◌+◌, ◌<◌, ◌≤◌, Bool, true, false, List, [], ◌∷◌, ◌++◌, drop, length, map, Option, Some, None, get_or, refl, ap, sym, ◌∙◌, subst, arith, append_assoc}
+use Rattle.std.proofs.Common.{◌≡◌, ℕ, ℤ, zero, suc, ◌+◌, ◌<◌, ◌≤◌, Bool, true, false, List, [], ◌∷◌, ◌++◌, drop, length, Option, Some, None, get_or, refl, ap, sym, ◌∙◌, subst, arith, append_assoc}
 use Rattle.std.proofs.lemmas.List.{append-nil, drop_all, drop_more}
 use Rattle.std.specs.Prelude.{option_map, option_and_then, replicate, slice_index_or, slice_set}
 use Rattle.std.specs.declared.vec.Vec.{Vec}
 use Rattle.std.specs.declared.alloc.Global.{Global}
 use Rattle.pi_terms.specs.Tree.{Tree, Trees, no_trees, tree, var, int, atom, comp}
 use Rattle.pi_terms.specs.Places.{Places, held}
-use Rattle.pi_terms.specs.PatternTree.{PatternTree, slot, exact_int, exact_atom, compound, named, PatternTrees, no_patterns, pattern}
 use Rattle.pi_states.specs.State.{State, IsState, SpeaksBelow, next, with_new}
-use Rattle.pi_states.specs.Store.{StoreView, IsTerm, AreTerms, Keeps, Changes, Stays, Gives}
+use Rattle.pi_states.specs.Store.{StoreView, IsTerm, AreTerms, Keeps, Stays, Gives}
 use Rattle.pi_states.specs.Evaluation.{Evaluated, EvaluatedAll, slot_term}
 use Rattle.pi_states.specs.Unify.{unified}
 use Rattle.pi_states.specs.declared.store.Ref.{Ref}
@@ -21,7 +20,7 @@ use Rattle.pi_unify.specs.Answers.{Answers}
 use Rattle.pi_unify.proofs.KeepsLemmas.{keeps_none, keeps_then}
 use Rattle.pi_unify.proofs.PatternLemmas.{pattern_tree-comp, pattern_tree-named, pattern_tree-slot, pattern_tree-int, pattern_tree-atom}
 use Rattle.pi_meaning.specs.Facts.{also_named, with_name, in_front, fact_term, fact_terms, unified_with}
-use Rattle.pi_facts.specs.Heads.{made_places, IsMade, AreMade, Puts, PutsAll, PutsHead, PutsHeads}
+use Rattle.pi_facts.specs.Heads.{made_places, IsMade, AreMade, Puts, PutsHead, PutsHeads}
 
 -- ---- slots
 

@@ -9,7 +9,7 @@ use Rattle.pi_states.specs.Store.{StoreView, IsTerm, AreTerms}
 use Rattle.pi_states.specs.declared.store.Ref.{Ref}
 use Rattle.pi_effects.specs.Answer.{Answer}
 use Rattle.pi_effects.specs.Kinds.{holds_no_variable}
-use Rattle.pi_meaning.specs.Facts.{fits_mode, fits_modes}
+use Rattle.pi_meaning.specs.Facts.{fits_modes}
 use Rattle.pi_syntax.specs.declared.program.Mode.{Mode}
 use Rattle.pi_facts.specs.Modes.{fits_first}
 

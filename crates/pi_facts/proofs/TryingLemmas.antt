@@ -3,14 +3,14 @@ use Rattle.std.proofs.Common.{◌≡◌, ℕ, zero, suc, ◌+◌, ◌-◌, ◌<�
 use Rattle.std.proofs.lemmas.List.{drop_all, drop_more, length-map}
 use Rattle.std.specs.Prelude.{is_some, cond, slice_get}
 use Rattle.pi_terms.specs.Tree.{Trees}
-use Rattle.pi_states.specs.State.{State, IsState}
-use Rattle.pi_states.specs.Store.{StoreView, IsTerm, Keeps, Stays, Marks, Returns}
+use Rattle.pi_states.specs.State.{State}
+use Rattle.pi_states.specs.Store.{StoreView, Keeps, Stays, Marks, Returns}
 use Rattle.pi_core.specs.CoreTree.{ClauseTree, clause_tree}
 use Rattle.pi_core.specs.declared.core_program.CoreClause.{CoreClause}
 use Rattle.pi_unify.specs.Answers.{Answers}
 use Rattle.pi_unify.proofs.KeepsLemmas.{keeps_none, stays_then}
 use Rattle.pi_machine.specs.Step.{with_fact, from_unifying}
-use Rattle.pi_facts.specs.Trying.{IsFirst, IsNext}
+use Rattle.pi_facts.specs.Trying.{IsFirst}
 use Rattle.pi_facts.specs.Keyed.{NoneBetween}
 
 -- a state that was come back to

@@ -1,8 +1,8 @@
 -- What putting the head of a fact into a store comes to.
 use Rattle.std.specs.Prelude.{◌≡◌, ◌<◌, ℕ, List, [], ◌∷◌, map, Option, Some, None, option_map, ⊤}
-use Rattle.pi_terms.specs.Tree.{Tree, var}
+use Rattle.pi_terms.specs.Tree.{var}
 use Rattle.pi_terms.specs.Places.{Places}
-use Rattle.pi_states.specs.State.{State, IsState, next}
+use Rattle.pi_states.specs.State.{IsState, next}
 use Rattle.pi_states.specs.Store.{StoreView, IsTerm, AreTerms}
 use Rattle.pi_states.specs.Evaluation.{Evaluated, EvaluatedAll}
 use Rattle.pi_states.specs.declared.store.Ref.{Ref}

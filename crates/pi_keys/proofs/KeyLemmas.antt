@@ -1,17 +1,18 @@
 -- The first key of a range: of one place, from one number on to before another.
 use Rattle.std.proofs.Common.{◌≡◌, ℕ, ◌≤◌, ◌<◌, Bool, true, false, cond, List, [], ◌∷◌, Option, Some, refl, ap, sym, ◌∙◌, subst, arith}
 use Rattle.std.specs.Prelude.{IfSome, slice_get}
-use Rattle.std.specs.BTreeSet.{IsKeyInRange, IsKeyRangeOf}
+use Rattle.std.specs.BTreeSet.{BTreeSet, IsKeyInRange, IsKeyRangeOf, contains, contains_by}
 use Rattle.std.specs.BTreeMap.Range.{IsInRange, IsLeBy}
 use Rattle.std.specs.Ordering.{nat_cmp, ordering_then, ordering_reverse, is_gt}
 use Rattle.std.specs.declared.cmp.Ordering.{Ordering}
 use Rattle.std.specs.declared.cmp.Ordering.TheVariants.{Less, Equal, Greater}
 use Rattle.std.specs.declared.ops.Bound.TheVariants.{Included, Excluded}
+use Rattle.std.specs.Cmp.{nat_cmp_total}
 use Rattle.std.proofs.lemmas.Cmp.{ranked, tied_itself, tied_back}
 use Rattle.pi_keys.specs.declared.fact_keys.FactKeys.{FactKeys}
 use Rattle.pi_keys.specs.declared.key.FactKey.{FactKey}
 use Rattle.pi_keys.specs.declared.key.FactPlace.{FactPlace}
-use Rattle.pi_keys.specs.Order.{key, key_order, place_of, place_order, place_order_total}
+use Rattle.pi_keys.specs.Order.{key, key_order, key_order_total, place_of, place_order, place_order_total}
 use Rattle.pi_keys.specs.Keys.{Has, items_of}
 use Rattle.std.specs.declared.vec.Vec.{Vec}
 use Rattle.std.specs.declared.alloc.Global.{Global}
@@ -65,10 +66,23 @@ inside p from end x Greater is low high = absurd cc
 up-to-key : (p : FactPlace) (x : FactKey) (n : ℕ) → place_order (place_of x) p ≡ Equal → IsLeBy key_order x (key p n) → x.number ≤ n
 up-to-key p x n same le = up-to x.number n (nat_cmp x.number n) refl (sym (ap (λ (o : Ordering). is_gt (ordering_then o (nat_cmp x.number n))) same) ∙ le)
 
+-- what lies in front of a key of its place has a smaller number
+before : (p : FactPlace) (x : FactKey) (end : ℕ) → place_order (place_of x) p ≡ Equal → key_order x (key p end) ≡ Less → x.number < end
+before p x end same less = ranked x.number end Less (sym (sym (ap (λ (o : Ordering). ordering_then o (nat_cmp x.number end)) same) ∙ less))
+
+-- a key of a place is that of the place and its number
+same-number : (p : FactPlace) (x : FactKey) → place_order (place_of x) p ≡ Equal → key_order x (key p x.number) ≡ Equal
+same-number p x same = ap (λ (o : Ordering). ordering_then o (nat_cmp x.number x.number)) same ∙ tied_itself nat_cmp_total x.number
+
+same-known : (keys : BTreeSet FactKey) (x y : FactKey) → key_order x y ≡ Equal → contains key_order keys x ≡ contains key_order keys y
+same-known keys x y same = ap (λ (compare : FactKey → Ordering). contains_by compare keys) (λ i z. key_order_total.congr x y z same i)
+
 -- ---- the first key of a range
 
 pub record IsFirst (m : FactKeys) (p : FactPlace) (from end number : ℕ) : Type 0 where
   pub low : from ≤ number
+  pub high : number ≤ end
+  pub found : number < end → Has m p number
   pub least : (n : ℕ) → from ≤ n → n < end → Has m p n → number ≤ n
 
 first-of : (m : FactKeys) (p : FactPlace) (from end : ℕ) (r rest : List FactKey) (x : FactKey) → IsKeyRangeOf key_order (Included (key p from)) (Excluded (key p end)) m.keys r → r ≡ x ∷ rest → IsFirst m p from end x.number
@@ -78,6 +92,8 @@ first-of m p from end r rest x range is =
     let behind : IsBehind p from x = inside p from end x (place_order p (place_of x)) refl it.0.0 it.0.1 in
     record {
       low = behind.low;
+      high = let less : x.number < end = before p x end behind.same it.0.1 in omega (arith, less);
+      found = λ _. sym (same-known m.keys x (key p x.number) (same-number p x behind.same)) ∙ it.1;
       least = λ n low high has.
           up-to-key p x n behind.same
           (subst (λ (rs : List FactKey). IfSome (slice_get rs 0) (λ (k : FactKey). IsLeBy key_order k (key p n))) is (range.2 (key p n) (in-range p from end n low high) has));
@@ -87,6 +103,8 @@ none-of : (m : FactKeys) (p : FactPlace) (from end : ℕ) (r : List FactKey) →
 none-of m p from end r order range is =
     record {
       low = order;
+      high = omega arith;
+      found = λ less. absurd (omega (arith, less));
       least = λ n low high has. absurd (never (sym (range.5 is (key p n) (in-range p from end n low high)) ∙ has));
     }
 

@@ -1,5 +1,5 @@
 -- What is known of facts by their keys.
-use Rattle.std.specs.Prelude.{◌≡◌, ℕ, ◌==◌, List, [], Option, Some, None, IsTrue}
+use Rattle.std.specs.Prelude.{ℕ, ◌==◌, List, [], Option, Some, None, IsTrue}
 use Rattle.std.specs.BTreeSet.{contains}
 use Rattle.std.specs.HashMap.{get_by}
 use Rattle.std.specs.declared.vec.Vec.{Vec}

@@ -55,6 +55,8 @@ impl FactKeys {
     /// The first number from one on, up to an end, of a fact that shows this in its place: the end where there is none.
     pub fn next(&self, at: FactPlace, from: u32, end: u32) -> u32
         ensures from_on { from ≤ result }
+        ensures up_to_end { from ≤ end → result ≤ end }
+        ensures found { result < end → Has self.now at result }
         ensures least { (n : ℕ) → from ≤ n → n < end → Has self.now at n → result ≤ n }
     {
         if end < from {

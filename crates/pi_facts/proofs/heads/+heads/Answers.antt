@@ -1,4 +1,4 @@
-use Rattle.std.proofs.Common.{◌≡◌, subst, ap, rules, sym, None, Some}
+use Rattle.std.proofs.Common.{subst, rules, None, Some}
 use Rattle.pi_unify.proofs.KeepsLemmas.{keeps_then}
 use Rattle.pi_states.specs.Store.{Gives}
 use Rattle.pi_terms.specs.Tree.{atom}

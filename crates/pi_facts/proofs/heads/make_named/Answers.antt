@@ -1,4 +1,4 @@
-use Rattle.std.proofs.Common.{◌≡◌, subst, ap, rules, sym, true, false, refl}
+use Rattle.std.proofs.Common.{subst, refl}
 use Rattle.pi_states.specs.Unify.{unified}
 use Rattle.pi_unify.specs.Answers.{Answers}
 use Rattle.pi_facts.proofs.HeadLemmas.{named-found, named-none}

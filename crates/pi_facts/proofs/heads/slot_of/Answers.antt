@@ -1,5 +1,5 @@
 use Rattle.pi_facts.proofs.HeadLemmas.{slot-there, slot-new}
-use Rattle.std.proofs.Common.{◌≡◌, ◌∙◌, sym, rules}
+use Rattle.std.proofs.Common.{◌∙◌, sym}
 use Rattle.pi_facts.proofs.heads.slot_of.Goals as goal
 
 pub returns-in-Some-clause-puts : goal.returns-in-Some-clause-puts

@@ -1,4 +1,4 @@
-use Rattle.std.proofs.Common.{◌≡◌, subst, ap, rules, sym, None, Some, List, Option, ℕ}
+use Rattle.std.proofs.Common.{◌≡◌, subst, rules, sym, None, Some}
 use Rattle.pi_core.specs.CoreTree.{pattern_trees}
 use Rattle.pi_meaning.specs.Facts.{fact_terms}
 use Rattle.std.specs.Prelude.{replicate}

@@ -1,4 +1,4 @@
-use Rattle.std.proofs.Common.{◌≤◌, arith, refl, subst, sym, ◌∙◌, ap, rules}
+use Rattle.std.proofs.Common.{arith, sym, ◌∙◌, ap}
 use Rattle.pi_terms.specs.Tree.{arg_at}
 use Rattle.pi_states.specs.State.{bindings, followed}
 use Rattle.pi_facts.proofs.KeyedLemmas.{none-between, both-passed}

@@ -1,4 +1,4 @@
-use Rattle.std.proofs.Common.{◌≤◌, arith, refl, subst, sym, ◌∙◌, ap, rules}
+use Rattle.std.proofs.Common.{arith}
 use Rattle.pi_facts.proofs.KeyedLemmas.{none-between, none-further, listed-place}
 use Rattle.pi_facts.proofs.keyed.next_alike.Goals as goal
 

@@ -1,4 +1,4 @@
-use Rattle.std.proofs.Common.{◌≡◌, ◌∙◌, sym, ap, rules, Some, None}
+use Rattle.std.proofs.Common.{◌∙◌, sym}
 use Rattle.pi_states.specs.State.{bindings}
 use Rattle.pi_terms.specs.Tree.{drop_trees}
 use Rattle.pi_facts.proofs.ModeLemmas.{place-past, place-none, place-any, place-closed, ok-same}

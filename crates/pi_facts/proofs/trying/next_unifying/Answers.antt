@@ -1,11 +1,10 @@
-use Rattle.std.proofs.Common.{◌≡◌, ◌+◌, ◌-◌, ◌≤◌, ◌∙◌, subst, sym, ap, refl, arith, rules, true, false, [], max}
-use Rattle.pi_terms.specs.Tree.{Trees, comp}
+use Rattle.std.proofs.Common.{◌+◌, ◌∙◌, subst, sym, arith, []}
+use Rattle.pi_terms.specs.Tree.{comp}
 use Rattle.pi_states.specs.State.{IsState}
-use Rattle.pi_states.specs.Store.{IsTerm}
 use Rattle.pi_unify.proofs.KeepsLemmas.{stays_then}
 use Rattle.pi_facts.specs.Keyed.{HaveKeys}
 use Rattle.pi_facts.proofs.KeyedLemmas.{keys-kept}
-use Rattle.pi_facts.proofs.TryingLemmas.{Tried, TellsAt, tried-none, tried-more, tried-passed, tried-found, tried-all}
+use Rattle.pi_facts.proofs.TryingLemmas.{Tried, tried-none, tried-more, tried-passed, tried-found, tried-all}
 use Rattle.pi_facts.proofs.trying.next_unifying.Goals as goal
 
 pub loop-number-init : goal.loop-number-init
