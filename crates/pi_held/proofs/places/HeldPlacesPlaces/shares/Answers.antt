@@ -1,0 +1,14 @@
+use Rattle.std.proofs.Common.{[], ap, sym, subst, ◌∙◌, List, inl, inr, option_copied}
+use Rattle.std.proofs.lemmas.Option.{get_or_from_slice_get}
+use Rattle.pi_constraints.specs.declared.domain.Span.{Span}
+use Rattle.pi_filters.specs.Places.{domain_at}
+use Rattle.pi_filters.specs.Rules.{ShareAValue}
+use Rattle.pi_places.proofs.DomainLemmas.{nowhere}
+use Rattle.pi_places.proofs.AskLemmas.{none_shared}
+use Rattle.pi_held.proofs.places.HeldPlacesPlaces.shares.Goals as goal
+
+pub returns-in-None : goal.returns-in-None
+returns-in-None g c = (λ t. absurd (cc), λ h. absurd (none_shared _ _ (inl (nowhere c.args.self.now.held.items c.args.j (sym c.at.ensures ∙ ap option_copied c.in-None.is))) h))
+
+pub returns-in-None-at : goal.returns-in-None-at
+returns-in-None-at g c = (λ t. absurd (cc), λ h. absurd (none_shared _ _ (inr (nowhere c.args.self.now.held.items c.args.k (sym c.at-in-Some.ensures ∙ ap option_copied c.in-None-at.is))) h))
