@@ -1,4 +1,4 @@
-use Rattle.std.proofs.Common.{◌≡◌, ◌∙◌, [], ap, refl, true, false, arith}
+use Rattle.std.proofs.Common.{◌≡◌, ◌∙◌, [], ap, refl, arith}
 use Rattle.std.proofs.lemmas.Grind.{common_steps}
 use Rattle.std.proofs.lemmas.Result.{err_from_is_err_and}
 use Rattle.pi_outside.proofs.InputRuns.{ByInput-none, ByInput-so, ByInput-then}
