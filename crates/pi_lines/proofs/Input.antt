@@ -1,6 +1,6 @@
 -- The lines that are found one after the other are those of what was read.
-use Rattle.std.proofs.Common.{◌≡◌, ◌<◌, ◌≤◌, ℕ, suc, ◌+◌, ◌-◌, Bool, true, false, List, [], ◌∷◌, ◌++◌, length, take, Option, None, Some, refl, sym, ◌∙◌, ap, subst, append_assoc, arith, length-append}
-use Rattle.std.specs.Prelude.{◌==◌, nat_lt, if◌then◌else◌, unwrap_or}
+use Rattle.std.proofs.Common.{◌≡◌, ◌≤◌, ℕ, ◌+◌, ◌-◌, Bool, true, false, List, [], ◌∷◌, ◌++◌, length, take, Option, None, Some, refl, sym, ◌∙◌, ap, subst, append_assoc, arith, length-append}
+use Rattle.std.specs.Prelude.{◌==◌, nat_lt, if◌then◌else◌}
 use Rattle.std.specs.Option.{option_map}
 use Rattle.std.proofs.lemmas.Bool.Decides.{nat_tests}
 use Rattle.std.proofs.lemmas.List.{append-nil, take_all}
@@ -9,8 +9,8 @@ use Rattle.pi_outside.specs.Inputs.{SourceRead, given_in}
 use Rattle.pi_outside.proofs.InputRuns.{given_in-append}
 use Rattle.pi_lines.specs.Lines.{line_feed, Split, in_front, first_line, joined, lines_of}
 use Rattle.pi_lines.specs.Ahead.{Ahead, with_piece, at_start}
-use Rattle.pi_lines.specs.Finding.{read_of, ReadsOn, nothing, piece, FindsLine, MeetsEnd, PassesLimit}
-use Rattle.pi_lines.specs.Order.{FoundSoFar, at_first, one_more, AreItsLines, AreFirstLines, EndsWithItsLines, PassesWithFirstLines}
+use Rattle.pi_lines.specs.Finding.{read_of, ReadsOn, nothing, piece, FindsLine}
+use Rattle.pi_lines.specs.Order.{FoundSoFar, at_first, one_more, EndsWithItsLines, PassesWithFirstLines}
 
 -- ---- one line
 

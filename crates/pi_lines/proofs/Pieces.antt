@@ -4,9 +4,8 @@ use Rattle.std.specs.Prelude.{nat_lt, if◌then◌else◌, Some}
 use Rattle.std.proofs.lemmas.Bool.Decides.{nat_tests}
 use Rattle.std.proofs.lemmas.List.{take_all}
 use Rattle.std.proofs.Math.Seq.{take-append_seam}
-use Rattle.pi_outside.specs.Inputs.{SourceRead}
 use Rattle.pi_lines.specs.Lines.{line_len}
-use Rattle.pi_lines.specs.Ahead.{Ahead, with_piece}
+use Rattle.pi_lines.specs.Ahead.{Ahead}
 use Rattle.pi_lines.specs.Finding.{read_of}
 use Rattle.pi_lines.specs.Steps.{Moves, ReadsPiece}
 use Rattle.pi_lines.proofs.LineLemmas.{first_line-some, first_line-none}

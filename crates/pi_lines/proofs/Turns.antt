@@ -1,12 +1,12 @@
 -- What a reader has found so far, while it looks for a line.
-use Rattle.std.proofs.Common.{◌≡◌, ◌<◌, ◌≤◌, ℕ, zero, suc, true, false, List, [], ◌∷◌, ◌++◌, ◌+◌, ◌-◌, Bool, length, take, Option, None, Some, refl, sym, ◌∙◌, ap, subst, append_assoc, arith}
+use Rattle.std.proofs.Common.{◌≡◌, ◌<◌, ◌≤◌, ℕ, zero, suc, true, false, List, [], ◌∷◌, ◌++◌, ◌+◌, ◌-◌, Bool, length, take, None, Some, refl, sym, ◌∙◌, ap, subst, arith}
 use Rattle.std.specs.Prelude.{nat_lt, if◌then◌else◌}
 use Rattle.std.specs.Option.{option_map}
 use Rattle.std.proofs.lemmas.Bool.Decides.{nat_tests}
 use Rattle.std.proofs.lemmas.List.{append-nil}
 use Rattle.pi_outside.specs.Inputs.{SourceRead}
 use Rattle.pi_outside.proofs.Memory.{take-keeps}
-use Rattle.pi_lines.specs.Lines.{Split, first_line}
+use Rattle.pi_lines.specs.Lines.{first_line}
 use Rattle.pi_lines.specs.Ahead.{Ahead, with_piece, reads_left, WantsMore}
 use Rattle.pi_lines.specs.Finding.{read_of, ReadsOn, nothing, piece, FindsLine, MeetsEnd, PassesLimit, FailsReading, StopsReading, OfLine}
 use Rattle.pi_lines.specs.Steps.{MovesLine, MovesAll, ReadsPiece, ReadsEnd, ReadsNothing, ReadFails}

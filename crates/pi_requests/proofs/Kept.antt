@@ -1,10 +1,11 @@
 -- The first bytes of a line tell what it asks.
-use Rattle.std.proofs.Common.{◌≡◌, ◌<◌, ◌≤◌, ℕ, ◌+◌, true, false, List, length, take, inl, inr, refl, sym, ◌∙◌, ap, arith, length-take-le}
+use Rattle.std.proofs.Common.{◌≡◌, ◌<◌, ℕ, ◌+◌, true, List, length, take, inl, inr, sym, ◌∙◌, ap, arith, length-take-le}
 use Rattle.std.specs.Prelude.{nat_lt, if◌then◌else◌}
 use Rattle.std.proofs.lemmas.Bool.{cases_lt}
 use Rattle.std.proofs.lemmas.Bool.Decides.{nat_tests}
 use Rattle.std.proofs.lemmas.List.{take_all}
-use Rattle.pi_requests.specs.Requests.{Asked, too_long, asked_by, trimmed, request_within, request_of, most_in_line}
+use Rattle.pi_requests.specs.declared.request.TheConstants.{KEPT_LINE}
+use Rattle.pi_requests.specs.Requests.{too_long, asked_by, trimmed, request_within, request_of, most_in_line}
 
 long-line : (most : ℕ) (line : List ℕ) → most < length line → request_within most line ≡ too_long
 long-line most line long =
@@ -20,5 +21,5 @@ kept-within most line = elim (cases_lt most (length line)) [
 ]
 
 -- with the numbers of the language
-pub kept-tells : (line : List ℕ) → request_of (take 16777217 line) ≡ request_of line
+pub kept-tells : (line : List ℕ) → request_of (take KEPT_LINE line) ≡ request_of line
 kept-tells line = kept-within most_in_line line

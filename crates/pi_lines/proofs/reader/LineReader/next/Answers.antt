@@ -1,10 +1,10 @@
-use Rattle.std.proofs.Common.{◌≡◌, ◌≤◌, ◌<◌, ◌∙◌, [], ap, refl, true, false, arith}
+use Rattle.std.proofs.Common.{◌≡◌, ◌∙◌, [], ap, refl, arith}
 use Rattle.std.proofs.lemmas.Grind.{common_steps}
 use Rattle.std.proofs.lemmas.Result.{err_from_is_err_and}
 use Rattle.pi_outside.proofs.InputRuns.{ByInput-none, ByInput-so, ByInput-then}
 use Rattle.pi_lines.specs.Ahead.{Ahead}
 use Rattle.pi_lines.specs.declared.found.LineStop.TheVariants.{Fault, Memory}
-use Rattle.pi_lines.proofs.Turns.{so-far-start, found-line, moved-all, read-piece, read-end, read-over, read-fails, read-stops, reads-fewer}
+use Rattle.pi_lines.proofs.Turns.{so-far-start, found-line, moved-all, read-piece, read-end, read-over, read-fails, read-stops}
 use Rattle.pi_lines.proofs.reader.LineReader.next.Goals as goal
 
 pub piece-init : goal.piece-init
