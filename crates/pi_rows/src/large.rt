@@ -1,5 +1,5 @@
 //! Runs over terms at the most cells that are copied, and past them: 16,777,216.
-use crate::row::Row;
+use crate::row::{Row, rows};
 
 /// Terms of 2^(N+1) - 1 cells: `d(23)` has one fewer than the most.
 const DOUBLED: &str = "d(0) = a. d(N) = twice(d(N-1)). twice(X) = $f(X,X).";
@@ -12,46 +12,16 @@ catch(_K = find_all(_A, true), _L, true), catch(_M = copy_term(_A), _N, true), c
 println([_B,_C,_D,_E,_F,_G,_H]), println([_J,_L,_N,_P,_R]), X = _A";
 
 /// Runs over terms at the most cells, and past them.
-pub static ROWS: [Row<'static>; 6] = [
-    Row {
-        program: Some(""),
-        words: &["FILE", MEASURED],
-        output: "[term_too_large,term_too_large,term_too_large,term_too_large,term_too_large,term_too_large,term_too_large]\n\
+pub static ROWS: [Row<'static>; 6] = rows![
+    "", ["FILE", MEASURED] => "[term_too_large,term_too_large,term_too_large,term_too_large,term_too_large,term_too_large,term_too_large]\n\
 [term_too_large,term_too_large,term_too_large,term_too_large,bad_index(0)]\n\
-exception: term_too_large\n",
-        status: 4,
-    },
+exception: term_too_large\n", 4;
     // What isn't copied isn't measured.
-    Row {
-        program: Some(DOUBLED),
-        words: &["FILE", "_X = d(40), Y = arity(_X)"],
-        output: "Y = 2\nyes\nno more\n",
-        status: 0,
-    },
+    DOUBLED, ["FILE", "_X = d(40), Y = arity(_X)"] => "Y = 2\nyes\nno more\n", 0;
     // The most cells, and one more.
-    Row {
-        program: Some(DOUBLED),
-        words: &["FILE", "_X = d(23), Y = arity(copy_term($g(_X)))"],
-        output: "Y = 1\nyes\nno more\n",
-        status: 0,
-    },
-    Row {
-        program: Some(DOUBLED),
-        words: &["FILE", "_X = d(23), Y = arity(copy_term($g(g(_X))))"],
-        output: "exception: term_too_large\n",
-        status: 4,
-    },
+    DOUBLED, ["FILE", "_X = d(23), Y = arity(copy_term($g(_X)))"] => "Y = 1\nyes\nno more\n", 0;
+    DOUBLED, ["FILE", "_X = d(23), Y = arity(copy_term($g(g(_X))))"] => "exception: term_too_large\n", 4;
     // The most items of a range, and of a list of new variables.
-    Row {
-        program: Some(""),
-        words: &["FILE", "catch(_X = new_list(16777217), E, true)"],
-        output: "E = range_too_long\nyes\nno more\n",
-        status: 0,
-    },
-    Row {
-        program: Some(""),
-        words: &["FILE", "_X = -8388608..8388608"],
-        output: "exception: range_too_long\n",
-        status: 4,
-    },
+    "", ["FILE", "catch(_X = new_list(16777217), E, true)"] => "E = range_too_long\nyes\nno more\n", 0;
+    "", ["FILE", "_X = -8388608..8388608"] => "exception: range_too_long\n", 4;
 ];

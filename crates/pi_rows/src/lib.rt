@@ -32,7 +32,7 @@ mod words;
 mod tests {
     use crate::faulty::FAULTY;
     use crate::orders::ORDERS;
-    use crate::row::{OPEN, Row, USAGE};
+    use crate::row::{OPEN, Row, USAGE, rows};
     use crate::{calls, facts, large, loops, output, programs, small, terms, text, words};
     use pi_outside::{MemoryFiles, MemorySink, SureSource};
     use pi_top::picatq;
@@ -71,16 +71,14 @@ mod tests {
     /// Whether a run of a program with these words writes this output and ends with this status.
     fn comes_to(
         alloc: Global,
-        program: Option<&str>,
+        program: &str,
         words: &[String],
         output: &str,
         status: u8,
         failing: Failing,
     ) -> Result<bool, Fail> {
         let mut files = MemoryFiles::new(alloc);
-        if let Some(text) = program {
-            files.add("FILE", text.as_bytes())?;
-        }
+        files.add("FILE", program.as_bytes())?;
         if failing.read > 0 {
             files.fail_at(failing.read)?;
         }
@@ -171,7 +169,7 @@ mod tests {
             let mut words = Vec::new(rt.alloc());
             words.push(String::from_str(rt.alloc(), "FILE")?)?;
             words.push(nested(rt.alloc(), sign, *count)?)?;
-            let right = comes_to(rt.alloc(), Some(""), words.as_slice(), output, 3, NOTHING)?;
+            let right = comes_to(rt.alloc(), "", words.as_slice(), output, 3, NOTHING)?;
             assert!(rt; right, "{} {}", sign, count);
         }
         Ok(())
@@ -187,7 +185,7 @@ mod tests {
         words.push(goal)?;
         let right = comes_to(
             rt.alloc(),
-            Some(""),
+            "",
             words.as_slice(),
             output.as_str(),
             0,
@@ -216,7 +214,7 @@ mod tests {
     fn faulty_words(rt: HostRuntime) -> Result<(), Fail> {
         for words in &FAULTY {
             let row = Row {
-                program: Some(OPEN),
+                program: OPEN,
                 words,
                 output: USAGE,
                 status: 2,
@@ -231,7 +229,7 @@ mod tests {
         for line in &ORDERS {
             let words: Vec<&str> = line.split(' ').collect(rt.alloc())?;
             let row = Row {
-                program: Some(OPEN),
+                program: OPEN,
                 words: words.as_slice(),
                 output: "X = 1\nyes\nstopped\n",
                 status: 0,
@@ -254,7 +252,7 @@ mod tests {
     fn each_write_fails_in_turn(rt: HostRuntime) -> Result<(), Fail> {
         for (write, output) in FAILING_WRITES {
             let row = Row {
-                program: Some(OPEN),
+                program: OPEN,
                 words: &["FILE", "p(X)"],
                 output,
                 status: 8,
@@ -277,7 +275,7 @@ mod tests {
     fn each_write_of_a_text_fails_in_turn(rt: HostRuntime) -> Result<(), Fail> {
         for (write, output) in FAILING_TEXTS {
             let row = Row {
-                program: Some(OPEN),
+                program: OPEN,
                 words: &["FILE", "p(X), println(X)"],
                 output,
                 status: 8,
@@ -294,7 +292,7 @@ mod tests {
     fn each_write_of_a_run_fails_in_turn(rt: HostRuntime) -> Result<(), Fail> {
         for (write, output) in FAILING_RUNS {
             let row = Row {
-                program: Some("main => println(1), println(2)."),
+                program: "main => println(1), println(2).",
                 words: &["--mode", "run", "FILE"],
                 output,
                 status: 8,
@@ -315,7 +313,7 @@ mod tests {
     fn each_read_fails_in_turn(rt: HostRuntime) -> Result<(), Fail> {
         for (read, output, status) in FAILING_READS {
             let row = Row {
-                program: Some(OPEN),
+                program: OPEN,
                 words: &["FILE", "p(X)"],
                 output,
                 status,
@@ -326,43 +324,13 @@ mod tests {
     }
 
     /// Runs whose first write fails: of a line, or of a program's text.
-    static FIRST_LINES: [Row<'static>; 6] = [
-        Row {
-            program: Some(OPEN),
-            words: &[],
-            output: "",
-            status: 8,
-        },
-        Row {
-            program: Some(OPEN),
-            words: &["--mode", "run", "FILE"],
-            output: "",
-            status: 8,
-        },
-        Row {
-            program: Some(OPEN),
-            words: &["--mode", "print", "FILE"],
-            output: "",
-            status: 8,
-        },
-        Row {
-            program: Some("p => q."),
-            words: &["FILE", "true"],
-            output: "",
-            status: 8,
-        },
-        Row {
-            program: Some(OPEN),
-            words: &["FILE", "X"],
-            output: "",
-            status: 8,
-        },
-        Row {
-            program: None,
-            words: &["FILE", "true"],
-            output: "",
-            status: 8,
-        },
+    static FIRST_LINES: [Row<'static>; 6] = rows![
+        OPEN, [] => "", 8;
+        OPEN, ["--mode", "run", "FILE"] => "", 8;
+        OPEN, ["--mode", "print", "FILE"] => "", 8;
+        "p => q.", ["FILE", "true"] => "", 8;
+        OPEN, ["FILE", "X"] => "", 8;
+        "", ["absent", "true"] => "", 8;
     ];
 
     #[test]

@@ -1,5 +1,5 @@
 //! The programs of `examples`, with runs of theirs.
-use crate::row::Row;
+use crate::row::{Row, rows};
 
 const FAMILY: &str = "% A family: who stands in which relation to whom.
 
@@ -328,107 +328,26 @@ report(Days) =>
 ";
 
 /// Runs of the programs of `examples`.
-pub static ROWS: [Row<'static>; 16] = [
-    Row {
-        program: Some(FAMILY),
-        words: &["FILE", "about(dan), fail"],
-        output: "dan, born in 1929, has 2 children: [bob,cleo]\nno\n",
-        status: 1,
-    },
-    Row {
-        program: Some(FAMILY),
-        words: &["FILE", "cousin(A, B), A @< B"],
-        output: "A = eve\nB = gus\nyes\nA = fred\nB = gus\nyes\nno more\n",
-        status: 0,
-    },
-    Row {
-        program: Some(FAMILY),
-        words: &["FILE", "X = eldest(children(dan)), Y = age(gus, 1980)"],
-        output: "X = bob\nY = unborn\nyes\nno more\n",
-        status: 0,
-    },
-    Row {
-        program: Some(LISTS),
-        words: &["FILE", "X = chunks(2, [a,b,c,d,e]), Y = counts([b,a,b])"],
-        output: "X = [[a,b],[c,d],[e]]\nY = [{a,1},{b,2}]\nyes\nno more\n",
-        status: 0,
-    },
-    Row {
-        program: Some(LISTS),
-        words: &["FILE", "order([a,b,c], X)"],
-        output: "X = [a,b,c]\nyes\nX = [a,c,b]\nyes\nX = [b,a,c]\nyes\nX = [b,c,a]\nyes\nX = [c,a,b]\nyes\nX = [c,b,a]\nyes\nno more\n",
-        status: 0,
-    },
-    Row {
-        program: Some(SIMPLIFY),
-        words: &["FILE", "X = slope($(x**3 + 2*x*y + 5), x)"],
-        output: "X = '+'('*'(3,'**'(x,2)),'*'(2,y))\nyes\nno more\n",
-        status: 0,
-    },
-    Row {
-        program: Some(SIMPLIFY),
-        words: &["FILE", "X = simplify($f(x))"],
-        output: "exception: no_expression(f(x))\n",
-        status: 4,
-    },
-    Row {
-        program: Some(REPORT),
-        words: &["FILE", "report"],
-        output: "article      pieces      each     total\npens             12      1.50     18.00\npaper             3      4.20     12.60\nink               2     18.75     37.50\nfolders        none\n---------------------------------------\ntotal                             68.10\nyes\nno more\n",
-        status: 0,
-    },
-    Row {
-        program: Some(QUEENS),
-        words: &["FILE", "queens(6, Q)"],
-        output: "Q = [5,3,1,6,4,2]\nyes\nQ = [4,1,5,2,6,3]\nyes\nQ = [3,6,2,5,1,4]\nyes\nQ = [2,4,6,1,3,5]\nyes\nno more\n",
-        status: 0,
-    },
-    Row {
-        program: Some(QUEENS),
-        words: &["FILE", "sums(T, O, G, U)"],
-        output: "T = 2\nO = 1\nG = 8\nU = 0\nyes\nno more\n",
-        status: 0,
-    },
-    Row {
-        program: Some(GRADEBOOK),
-        words: &["FILE", "report"],
-        output: "ann: 15.0, passed\nben: 9.0, failed\ncleo: 16.3, excellent\nyes\nno more\n",
-        status: 0,
-    },
-    Row {
-        program: Some(GRADEBOOK),
-        words: &["FILE", "best(music, S), X = grade(average(S))"],
-        output: "S = cleo\nX = excellent\nyes\nno more\n",
-        status: 0,
-    },
-    Row {
-        program: Some(MATRIX),
-        words: &[
-            "FILE",
-            "X = fibonacci(30), Y = trace_of(identity(4)), Z = transposed({{1,2,3},{4,5,6}})",
-        ],
-        output: "X = 832040\nY = 4\nZ = {{1,4},{2,5},{3,6}}\nyes\nno more\n",
-        status: 0,
-    },
-    Row {
-        program: Some(MATRIX),
-        words: &[
-            "FILE",
-            "show(product({{1,2,3},{4,5,6}}, {{1,0},{0,1},{2,2}})), L = above({{1,5},{7,2}}, 4)",
-        ],
-        output: "7 8\n16 17\nL = [{1,2},{2,1}]\nyes\nno more\n",
-        status: 0,
-    },
-    Row {
-        program: Some(SHOP),
-        words: &["FILE", "report([1,2,8])"],
-        output: "1 hours: 22 served, 2 waiting, 4 at most\n2 hours: 43 served, 4 waiting, 5 at most\n8 hours: 184 served, 18 waiting, 21 at most\nyes\nno more\n",
-        status: 0,
-    },
-    Row {
-        program: Some(SHOP),
-        words: &["FILE", "L = [throws(S) : S in 1..7]"],
-        output: "L = [6,2,1,1,4,8,5]\nyes\nno more\n",
-        status: 0,
-    },
+pub static ROWS: [Row<'static>; 16] = rows![
+    FAMILY, ["FILE", "about(dan), fail"] => "dan, born in 1929, has 2 children: [bob,cleo]\nno\n", 1;
+    FAMILY, ["FILE", "cousin(A, B), A @< B"] => "A = eve\nB = gus\nyes\nA = fred\nB = gus\nyes\nno more\n", 0;
+    FAMILY, ["FILE", "X = eldest(children(dan)), Y = age(gus, 1980)"] => "X = bob\nY = unborn\nyes\nno more\n", 0;
+    LISTS, ["FILE", "X = chunks(2, [a,b,c,d,e]), Y = counts([b,a,b])"] => "X = [[a,b],[c,d],[e]]\nY = [{a,1},{b,2}]\nyes\nno more\n", 0;
+    LISTS, ["FILE", "order([a,b,c], X)"]
+        => "X = [a,b,c]\nyes\nX = [a,c,b]\nyes\nX = [b,a,c]\nyes\nX = [b,c,a]\nyes\nX = [c,a,b]\nyes\nX = [c,b,a]\nyes\nno more\n", 0;
+    SIMPLIFY, ["FILE", "X = slope($(x**3 + 2*x*y + 5), x)"] => "X = '+'('*'(3,'**'(x,2)),'*'(2,y))\nyes\nno more\n", 0;
+    SIMPLIFY, ["FILE", "X = simplify($f(x))"] => "exception: no_expression(f(x))\n", 4;
+    REPORT, ["FILE", "report"]
+        => "article      pieces      each     total\npens             12      1.50     18.00\npaper             3      4.20     12.60\nink               2     18.75     37.50\nfolders        none\n---------------------------------------\ntotal                             68.10\nyes\nno more\n", 0;
+    QUEENS, ["FILE", "queens(6, Q)"] => "Q = [5,3,1,6,4,2]\nyes\nQ = [4,1,5,2,6,3]\nyes\nQ = [3,6,2,5,1,4]\nyes\nQ = [2,4,6,1,3,5]\nyes\nno more\n", 0;
+    QUEENS, ["FILE", "sums(T, O, G, U)"] => "T = 2\nO = 1\nG = 8\nU = 0\nyes\nno more\n", 0;
+    GRADEBOOK, ["FILE", "report"] => "ann: 15.0, passed\nben: 9.0, failed\ncleo: 16.3, excellent\nyes\nno more\n", 0;
+    GRADEBOOK, ["FILE", "best(music, S), X = grade(average(S))"] => "S = cleo\nX = excellent\nyes\nno more\n", 0;
+    MATRIX, ["FILE", "X = fibonacci(30), Y = trace_of(identity(4)), Z = transposed({{1,2,3},{4,5,6}})"]
+        => "X = 832040\nY = 4\nZ = {{1,4},{2,5},{3,6}}\nyes\nno more\n", 0;
+    MATRIX, ["FILE", "show(product({{1,2,3},{4,5,6}}, {{1,0},{0,1},{2,2}})), L = above({{1,5},{7,2}}, 4)"]
+        => "7 8\n16 17\nL = [{1,2},{2,1}]\nyes\nno more\n", 0;
+    SHOP, ["FILE", "report([1,2,8])"]
+        => "1 hours: 22 served, 2 waiting, 4 at most\n2 hours: 43 served, 4 waiting, 5 at most\n8 hours: 184 served, 18 waiting, 21 at most\nyes\nno more\n", 0;
+    SHOP, ["FILE", "L = [throws(S) : S in 1..7]"] => "L = [6,2,1,1,4,8,5]\nyes\nno more\n", 0;
 ];
