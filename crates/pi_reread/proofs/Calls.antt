@@ -12,7 +12,8 @@ use Rattle.pi_syntax.specs.Tokens.{Token, Sign, Atom, is_one_of}
 use Rattle.pi_reread.specs.Patterns.{is_index}
 use Rattle.pi_reread.proofs.Says.{Says, says-at, says-nothing, says-then, Any, Stops, Begins, spaced, parenthesized}
 use Rattle.pi_reread.proofs.Climb.{post_prim, exp_unit}
-use Rattle.pi_reread.proofs.Signs.{TwoPlace, PrefixWord, PrefixSign, two_place, prefix_word, prefix_sign}
+use Rattle.pi_reread.proofs.SignForms.{TwoPlace, PrefixWord, PrefixSign}
+use Rattle.pi_reread.proofs.Signs.{two_place, prefix_word, prefix_sign}
 use Rattle.pi_reread.proofs.Punctuation.{stop_blank, stop_open_paren, stop_open_bracket, stop_close_bracket, blank, dollar}
 use Rattle.pi_reread.proofs.NameTexts.{IsAtomName, atom_token_text}
 use Rattle.pi_reread.proofs.Writes.{Writes, plain_writes, takes_places, name_of, name_first}

@@ -14,7 +14,8 @@ use Rattle.pi_syntax.specs.Tokens.{Token, Sign, Var, Int, Atom, Str}
 use Rattle.pi_reread.specs.Patterns.{is_index}
 use Rattle.pi_reread.proofs.Says.{Says, says-at, says-nothing, says-then, Any, Stops, Begins, Dark, spaced, parenthesized}
 use Rattle.pi_reread.proofs.Climb.{post_prim, unary_post, unary_up, unit_post, exp_unit, range_unit, stepped_unit}
-use Rattle.pi_reread.proofs.Signs.{TwoPlace, PrefixWord, PrefixSign, two_place, prefix_word, prefix_sign}
+use Rattle.pi_reread.proofs.SignForms.{TwoPlace, PrefixWord, PrefixSign}
+use Rattle.pi_reread.proofs.Signs.{two_place, prefix_word, prefix_sign}
 use Rattle.pi_reread.proofs.Punctuation.{stop_blank, stop_comma, stop_close_paren, stop_close_bracket, stop_close_brace, stop_open_paren, stop_open_bracket, stop_at, says-stops, blank, open_paren, close_paren, open_bracket, close_bracket, open_brace, close_brace, dollar, at_sign, minus_sign, bar_blank, colon_blank, dots_blank}
 use Rattle.pi_reread.proofs.IntegerTokens.{says-natural, decimal_begins}
 use Rattle.pi_reread.proofs.NameTexts.{IsVariableName, IsAtomName, OneToken, variable_text, atom_token_text, string_token_text}

@@ -9,7 +9,7 @@ use Rattle.pi_terms.specs.ListNames.{nil}
 use Rattle.pi_syntax.specs.Terminals.{Terminal, terminal, Row, found_in, foreign, sign_terminal, word_terminal, constraint_rows, arithmetic_rows, relation_rows, constraint_relation_rows, punctuation_rows, operator_word_rows, block_word_rows}
 use Rattle.pi_syntax.specs.Tokens.{Token, Var, Atom, Word, Int, Str, Sign, End, is_one_of, reserved_words}
 use Rattle.pi_reread.specs.Reread.{is_spelling, spells_other}
-use Rattle.pi_reread.proofs.Signs.{EachName, each_name}
+use Rattle.pi_reread.proofs.SignForms.{EachName, each_name}
 use Rattle.pi_reread.proofs.Calls.{neither}
 use Rattle.pi_reread.proofs.Fine.{IsPlainName, IsGood, AreGood}
 use Rattle.pi_reread.proofs.GoodTokens.{IsGoodToken, AreGoodTokens}

@@ -7,6 +7,7 @@ pub mod ExpLaw
 pub mod Fine
 pub mod FineNodes
 pub mod Forms
+pub mod GoalSigns
 pub mod GoodTerminals
 pub mod GoodTokens
 pub mod IntegerTokens
@@ -18,6 +19,7 @@ pub mod QuotedTokens
 pub mod Says
 pub mod Sequences
 pub mod Sides
+pub mod SignForms
 pub mod Signs
 pub mod Tree
 pub mod Trees

@@ -12,7 +12,8 @@ use Rattle.pi_syntax.specs.Tokens.{Token, Sign, Atom, is_one_of}
 use Rattle.pi_syntax.specs.declared.program.Mode.{Mode}
 use Rattle.pi_reread.proofs.Says.{Says, says-at, says-nothing, says-then, Stops, Begins, spaced}
 use Rattle.pi_reread.proofs.Climb.{post_prim, unit_post, exp_unit}
-use Rattle.pi_reread.proofs.Signs.{TwoPlace, two_place}
+use Rattle.pi_reread.proofs.SignForms.{TwoPlace}
+use Rattle.pi_reread.proofs.Signs.{two_place}
 use Rattle.pi_reread.proofs.Punctuation.{stop_blank, stop_comma, blank, comma_blank}
 use Rattle.pi_reread.proofs.Writes.{Writes, name_of}
 use Rattle.pi_reread.proofs.Sequences.{reads_exp, items-led, sequence}
