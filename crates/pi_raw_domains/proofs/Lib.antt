@@ -1,1 +1,2 @@
 pub mod DomainLemmas
+pub mod StandingLemmas

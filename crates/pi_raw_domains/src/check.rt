@@ -19,7 +19,7 @@ pub fn is_domain(spans: &[Span]) -> bool
 }
 
 /// Whether a span begins there or above, isn't empty, and ends within the bounds.
-fn may_follow(least: i64, span: &Span) -> bool
+pub(crate) fn may_follow(least: i64, span: &Span) -> bool
     ensures { result ≡ may_follow least span.now }
 {
     least <= span.lo && span.lo <= span.hi && span.hi <= MAX_VALUE

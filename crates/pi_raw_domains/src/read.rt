@@ -33,7 +33,7 @@ fn read_spans(alloc: Global, block: &Block) -> Result<Vec<Span>, AllocError>
 }
 
 /// The span with this number.
-fn read_span(block: &Block, k: usize) -> Span
+pub(crate) fn read_span(block: &Block, k: usize) -> Span
     requires { 2 * k + 1 < 2 ^ 64 }
     ensures { result ≡ span_at block.now k }
 {

@@ -13,3 +13,4 @@ pub mod TreeStoreLeads
 pub mod PlaceLemmas
 pub mod TreeStorePlaces
 pub mod TreeStoreReads
+pub mod StandingLemmas

@@ -12,6 +12,7 @@ mod places;
 mod queue;
 mod read;
 mod state;
+mod stored;
 mod terms;
 
 use crate::tree_store::copied::Copied;

@@ -1,9 +1,10 @@
 //! The places of constraints, and the domains of variables, in a stored state.
-ghost use Rattle.std.specs.Prelude.{◌≡◌, ◌↔◌, IfOk, IsTrue, option_copied, length, cond, ◌++◌, ◌∷◌, []};
+ghost use Rattle.std.specs.Prelude.{◌≡◌, ◌↔◌, ◌<◌, IfOk, IsTrue, Some, option_copied, unwrap_or, slice_get, length, cond, ◌++◌, ◌∷◌, []};
+ghost use Rattle.pi_constraints.specs.Domain.{IsDomain};
 ghost use Rattle.pi_tree_store.specs.TreeStoreWalks.{known_domain_in, is_unbound_in, item_leads, items_lead, sum_leads, constraint_leads, posted_in, HasChangedIn, ListsBelow};
 
 use crate::tree_store::state::{Known, TreeState};
-use pi_constraints::{Constraint, Domain, Item, Items, LinTerms};
+use pi_constraints::{Constraint, Domain, Item, Items, LinTerms, Span};
 use pi_states::Places;
 use pi_terms::Series;
 use std::alloc::{AllocError, Global};
@@ -29,6 +30,27 @@ impl TreeState {
         };
         let found = domain.copy(alloc)?;
         Ok(Some(found))
+    }
+
+    /// How many spans a variable has that isn't bound; none where it has no domain.
+    pub fn span_count(&self, n: u64) -> usize
+        ensures count { result ≡ length (unwrap_or (known_domain_in self.now n) []) }
+        ensures domain { IsDomain (unwrap_or (known_domain_in self.now n) []) }
+    {
+        match self.domain_ref(n) {
+            Some(domain) => count_of(domain),
+            None => 0,
+        }
+    }
+
+    /// The span of a variable with this number, counted from 0.
+    pub fn span(&self, n: u64, k: usize) -> Span
+        ensures { k < length (unwrap_or (known_domain_in self.now n) []) → slice_get (unwrap_or (known_domain_in self.now n) []) k ≡ Some result }
+    {
+        match self.domain_ref(n) {
+            Some(domain) => span_of(domain, k),
+            None => Span { lo: 0, hi: 0 },
+        }
     }
 
     fn item_leads_to(&self, item: Item, v: u64) -> bool
@@ -142,6 +164,24 @@ impl TreeState {
             push_if(&mut found, n as u64, self.has_changed(later, n as u64))?;
         }
         Ok(found)
+    }
+}
+
+/// How many spans a domain has.
+fn count_of(domain: &Domain) -> usize
+    ensures count { result ≡ length domain.now }
+    ensures domain { IsDomain domain.now }
+{
+    domain.spans().len()
+}
+
+/// The span of a domain with this number; any one where there is none.
+fn span_of(domain: &Domain, k: usize) -> Span
+    ensures { k < length domain.now → slice_get domain.now k ≡ Some result }
+{
+    match domain.spans().get(k) {
+        Some(span) => *span,
+        None => Span { lo: 0, hi: 0 },
     }
 }
 
