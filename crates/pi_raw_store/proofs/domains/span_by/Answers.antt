@@ -1,4 +1,3 @@
-use Rattle.std.proofs.Common.{rules}
 use Rattle.pi_raw_store.proofs.StandingLemmas.{no_span, some_span}
 use Rattle.pi_raw_store.proofs.domains.span_by.Goals as goal
 

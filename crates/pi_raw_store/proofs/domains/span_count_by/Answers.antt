@@ -1,4 +1,3 @@
-use Rattle.std.proofs.Common.{rules}
 use Rattle.pi_raw_store.proofs.StandingLemmas.{by_domain, no_count, some_count}
 use Rattle.pi_raw_store.proofs.domains.span_count_by.Goals as goal
 
