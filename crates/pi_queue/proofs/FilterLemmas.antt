@@ -1,23 +1,22 @@
 -- What is told of places whose values stand in a store, where a constraint may be run.
-use Rattle.std.specs.Prelude.{◌≡◌, ℕ, ◌<◌, List, [], ◌∷◌, length, map, Option, Some, None, unwrap_or, get_or, refl}
+use Rattle.std.specs.Prelude.{◌≡◌, ℕ, ◌<◌, List, [], ◌∷◌, length, map, Option, None, unwrap_or, get_or, refl}
 use Rattle.std.proofs.Common.{arith, sym, ◌∙◌, ap, subst}
-use Rattle.std.proofs.lemmas.List.{length-map, get_or_default}
+use Rattle.std.proofs.lemmas.List.{get_or_default}
 use Rattle.pi_constraints.specs.Constraint.{AreItems, IsItem}
 use Rattle.pi_constraints.specs.declared.constraint.Constraint.{Constraint}
 use Rattle.pi_constraints.specs.declared.constraint.Item.{Item}
 use Rattle.pi_constraints.specs.declared.domain.Span.{Span}
 use Rattle.pi_filters.specs.Places.{places_of, domain_at}
-use Rattle.pi_states.specs.State.{State, bindings, domain_of}
+use Rattle.pi_states.specs.State.{State, bindings}
 use Rattle.pi_states.specs.Value.{IsAcyclic}
 use Rattle.pi_settling.specs.Roots.{root_item, given, domain_or_all}
-use Rattle.pi_propagation.specs.Run.{given_at}
 use Rattle.pi_prop.specs.Left.{AreLeft}
 use Rattle.pi_held.specs.Standing.{standing_at}
 use Rattle.pi_held.specs.Changes.{AreTold}
 use Rattle.pi_propagation.proofs.SizeLemmas.{in-front, behind}
 use Rattle.pi_queue.specs.Reading.{IsRoot, AreRead, AreRoots}
 use Rattle.pi_queue.specs.Filtering.{IsFiltered}
-use Rattle.pi_queue.specs.Leaving.{MayNarrow, MayLeave, LeavesAll, IsNarrower}
+use Rattle.pi_queue.specs.Leaving.{MayNarrow, MayLeave, IsNarrower}
 use Rattle.pi_queue.proofs.ReadLemmas.{are-read, are-roots, given-is}
 
 -- what stands at an item that is followed is what it has

@@ -1,5 +1,5 @@
 -- The loop over the places of a constraint: what was read of each, and what its filter leaves there.
-use Rattle.std.specs.Prelude.{◌≡◌, ℕ, ◌+◌, ◌<◌, pos, Bool, true, false, IsTrue, List, [], length, map}
+use Rattle.std.specs.Prelude.{◌≡◌, ℕ, ◌+◌, ◌<◌, pos, Bool, true, false, IsTrue, List, [], length}
 use Rattle.std.proofs.Common.{sym, ◌∙◌, ap, subst, get_or}
 use Rattle.std.proofs.lemmas.List.{length-map, get_or-map, get_or_default}
 use Rattle.pi_constraints.specs.declared.constraint.Constraint.{Constraint}
@@ -13,8 +13,7 @@ use Rattle.pi_settling.specs.Roots.{root_item, given}
 use Rattle.pi_settling.proofs.PlaceLemmas.{count-places}
 use Rattle.pi_propagation.specs.Run.{given_at, KeptBefore, Fails}
 use Rattle.pi_propagation.proofs.NarrowLemmas.{narrow-state}
-use Rattle.pi_prop.specs.Left.{AreLeft}
-use Rattle.pi_queue.specs.Leaving.{MayTake, Takes, HasLeft, MayNarrow, MayLeave, IsNarrower, LeavesAll}
+use Rattle.pi_queue.specs.Leaving.{MayTake, Takes, HasLeft, MayLeave, IsNarrower, LeavesAll}
 use Rattle.pi_queue.proofs.LeaveLemmas.{StandsAt, IsLeftAt, item_at, step, fails, meets, starts, narrower}
 
 pub as-places : (s : State) (c : Constraint) (roots : List Item) (before left : List (List Span)) (lost : List ℕ) → MayLeave s c roots before left lost → length roots ≡ length (places_of c)

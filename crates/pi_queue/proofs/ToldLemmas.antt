@@ -1,6 +1,6 @@
 -- The loop over the places of a constraint, where something is told of some of them.
 use Rattle.std.specs.Prelude.{◌≡◌, ℕ, ◌+◌, ◌<◌, Bool, true, false, List, [], length, Option, unwrap_or}
-use Rattle.std.proofs.Common.{arith, sym, ◌∙◌, ap, subst, get_or}
+use Rattle.std.proofs.Common.{arith, ◌∙◌, ap, get_or}
 use Rattle.std.proofs.lemmas.List.{get_or_default}
 use Rattle.pi_constraints.specs.declared.constraint.Constraint.{Constraint}
 use Rattle.pi_constraints.specs.declared.constraint.Item.{Item}
