@@ -1,5 +1,5 @@
 -- Questions about spans that are read by their numbers.
-use Rattle.std.specs.Prelude.{◌≡◌, ◌↔◌, ℕ, ◌+◌, ◌<◌, ◌≤◌, Bool, true, false, IsTrue, List, [], ◌∷◌, ◌++◌, length, take, drop, slice_get, Some, ℤ, ◌≤ℤ◌, ◌<ℤ◌, int_le, int_lt, refl}
+use Rattle.std.specs.Prelude.{◌≡◌, ◌↔◌, ℕ, ◌+◌, ◌<◌, ◌≤◌, Bool, true, false, IsTrue, List, [], ◌∷◌, ◌++◌, length, take, drop, slice_get, Some, ℤ, ◌≤ℤ◌, ◌<ℤ◌, int_le, int_lt}
 use Rattle.std.specs.List.Sorted.{IsPartitionPoint}
 use Rattle.std.proofs.Common.{arith, sym, ◌∙◌, ap, subst, get_or}
 use Rattle.std.proofs.lemmas.Bool.{false≢true}
@@ -7,7 +7,7 @@ use Rattle.std.proofs.lemmas.Int.{by_lt_z}
 use Rattle.std.proofs.lemmas.List.{take_more, take_all}
 use Rattle.std.proofs.lemmas.Option.{get_or_from_slice_get}
 use Rattle.pi_constraints.specs.declared.domain.Span.{Span}
-use Rattle.pi_constraints.specs.Domain.{IsDomain, has_value}
+use Rattle.pi_constraints.specs.Domain.{IsDomain}
 use Rattle.pi_narrowed.proofs.SharedLemmas.{AreValuesOf, one_more}
 use Rattle.pi_filters.specs.Rules.{ShareAValue}
 use Rattle.pi_places.specs.Reads.{HasValueBetween}

@@ -1,7 +1,7 @@
 -- Places that are read, and told of, one after the other.
 use Rattle.std.specs.Prelude.{◌≡◌, ◌⊎◌, ℕ, zero, suc, ◌+◌, ◌<◌, ◌≤◌, List, [], ◌∷◌, ◌++◌, length, map, take, Option, None, unwrap_or, refl}
 use Rattle.std.proofs.Common.{arith, sym, ◌∙◌, ap, subst, get_or, inl, inr, length-append}
-use Rattle.std.proofs.lemmas.List.{take_more, take_all, length-map, get_or-map, get_or_default}
+use Rattle.std.proofs.lemmas.List.{take_more, take_all, get_or-map, get_or_default}
 use Rattle.pi_constraints.specs.Constraint.{AreItems, IsItem}
 use Rattle.pi_constraints.specs.declared.constraint.Item.{Item}
 use Rattle.pi_constraints.specs.declared.domain.Span.{Span}

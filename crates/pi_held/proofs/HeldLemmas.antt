@@ -1,16 +1,16 @@
 -- What is read of spans by their numbers.
-use Rattle.std.specs.Prelude.{◌≡◌, ◌↔◌, ◌⊎◌, ℕ, zero, suc, ◌+◌, ◌-◌, ◌<◌, ◌≤◌, Bool, true, false, ◌&&◌, not, IsTrue, List, [], ◌∷◌, ◌++◌, length, map, take, drop, slice_get, Some, None, Option, unwrap_or, ℤ, pos, neg_ℤ, ◌≤ℤ◌, ◌<ℤ◌, int_le, int_lt, refl}
+use Rattle.std.specs.Prelude.{◌≡◌, ◌↔◌, ℕ, zero, suc, ◌+◌, ◌-◌, ◌<◌, ◌≤◌, Bool, true, false, ◌&&◌, not, IsTrue, List, [], ◌∷◌, ◌++◌, length, take, slice_get, Some, ℤ, pos, neg_ℤ, ◌≤ℤ◌, int_le, int_lt, refl}
 use Rattle.std.specs.Ordering.{int_eq}
 use Rattle.std.specs.List.Sorted.{IsPartitionPoint}
-use Rattle.std.proofs.Common.{arith, sym, ◌∙◌, ap, subst, get_or, inl, inr, append_assoc}
+use Rattle.std.proofs.Common.{arith, sym, ◌∙◌, ap, subst, get_or, append_assoc}
 use Rattle.std.proofs.lemmas.Bool.{false≢true}
 use Rattle.std.proofs.lemmas.Int.{ints}
 use Rattle.std.proofs.lemmas.List.{take_more, take_all}
-use Rattle.std.proofs.lemmas.Option.{slice_get_within, slice_get-get_or, get_or_from_slice_get}
+use Rattle.std.proofs.lemmas.Option.{get_or_from_slice_get}
 use Rattle.pi_constraints.specs.declared.domain.Span.{Span}
 use Rattle.pi_constraints.specs.declared.domain.TheConstants.{MAX_VALUE}
 use Rattle.pi_constraints.specs.Domain.{AscendFrom, IsDomain, IsWithinBounds, has_value}
-use Rattle.pi_dom.proofs.ExtremeLemmas.{ends_below, AscendFrom-ends_rise}
+use Rattle.pi_dom.proofs.ExtremeLemmas.{AscendFrom-ends_rise}
 use Rattle.pi_filters.specs.Ends.{least_of, greatest_of}
 use Rattle.pi_filters.proofs.EndLemmas.{least-below, greatest-above}
 use Rattle.pi_places.specs.Reads.{HasValueBetween}

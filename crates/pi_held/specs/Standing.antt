@@ -1,5 +1,5 @@
 -- What stands at the places of a constraint in a state. (Own.)
-use Rattle.std.specs.Prelude.{ℕ, ℤ, List, [], ◌∷◌, ⊤}
+use Rattle.std.specs.Prelude.{ℤ, List, [], ◌∷◌, ⊤}
 use Rattle.pi_constraints.specs.declared.constraint.Item.{Item}
 use Rattle.pi_constraints.specs.declared.domain.Span.{Span}
 use Rattle.pi_constraints.specs.Domain.{IsWithinBounds}

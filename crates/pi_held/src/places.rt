@@ -10,9 +10,11 @@ use pi_places::Places;
 use pi_stored::StoredDomains;
 use std::alloc::{AllocError, Global};
 
-/// The places of a constraint. Their values stand in a store, and are copied where the first of them goes.
+/// The places of a constraint. Their values stand in a store, and are copied where the first of them goes. (By the store, named
+/// beside them, a caller of a generic function knows that it lasts as long as they do.)
 #[derive(Drop)]
 pub struct HeldPlaces<'a, S: StoredDomains> {
+    pub(crate) store: &'a S,
     pub(crate) held: Vec<Held<'a, S>>,
 }
 
@@ -27,7 +29,7 @@ impl<'a, S: StoredDomains> HeldPlaces<'a, S> {
             let one = Held::of(store, items[k]);
             held.push(one)?;
         }
-        Ok(HeldPlaces { held })
+        Ok(HeldPlaces { store, held })
     }
 
     /// The values at a place, where there is one.

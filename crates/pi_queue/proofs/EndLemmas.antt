@@ -16,7 +16,7 @@ use Rattle.pi_propagation.proofs.SizeLemmas.{in-front, behind}
 use Rattle.pi_queue.specs.Leaving.{IsNarrower}
 use Rattle.pi_queue.specs.Turn.{MayTurn, IsTurn, IsFailure, Turns}
 use Rattle.pi_propagation.specs.declared.stop.PropStop.{PropStop}
-use Rattle.pi_queue.specs.Ends.{numbers_below, Ends, IsDone, HasFailed, IsSpent, IsUnderWay}
+use Rattle.pi_queue.specs.Ends.{numbers_below, Ends, IsDone, HasFailed, IsSpent, IsUnderWay, KeepsWithin}
 use Rattle.pi_queue.proofs.LeaveLemmas.{itself}
 use Rattle.pi_queue.proofs.WaitingLemmas.{Differ, below-is, below-has, below-differ, below-count}
 
@@ -61,6 +61,17 @@ pub record IsCounted (old new : Work) : Type 0 where
 
 counted-more : (k : ℕ) (old mid new : Work) → HasRun k old mid → IsCounted mid new → HasRun (suc k) old new
 counted-more k old mid new h c = record { goals = c.goals ∙ h.goals; runs = let a = h.runs in let b = c.runs in omega arith; expansions = c.expansions ∙ h.expansions }
+
+-- of any state: what is counted keeps within the limit
+pub none-counted : (limit : ℕ) (old : Work) → KeepsWithin limit old old
+none-counted limit old = record { many = 0; counted = record { goals = refl; runs = omega arith; expansions = refl }; within = inl refl }
+
+pub one-counted : (limit : ℕ) (old mid new : Work) → KeepsWithin limit old mid → (limit ≤ work_of mid → ⊥) → IsCounted mid new → KeepsWithin limit old new
+one-counted limit old mid new b unspent c = record {
+  many = suc b.many;
+  counted = counted-more b.many old mid new b.counted c;
+  within = inr (let g = c.goals in let n = c.runs in let x = c.expansions in omega (arith, unspent));
+}
 
 pub goes-on : (s : State) (due : List ℕ) (limit : ℕ) (old mid new : Work) (r q : State) (now : List ℕ) (i : ℕ) (rest later : List ℕ) → IsBetweenTurns s due limit old mid r now → now ≡ i ∷ rest → (limit ≤ work_of mid → ⊥) → IsCounted mid new → IsTurn r i rest q later → IsBetweenTurns s due limit old new q later
 goes-on s due limit old mid new r q now i rest later b e unspent c t =

@@ -4,6 +4,8 @@ pub mod ReadLemmas
 pub mod StoreLemmas
 pub mod TakeLemmas
 pub mod LeaveLemmas
+pub mod FilterLemmas
 pub mod LoopLemmas
+pub mod ToldLemmas
 pub mod TurnLemmas
 pub mod EndLemmas

@@ -1,5 +1,5 @@
 -- The loop over the places of a constraint: what was read of each, and what its filter leaves there.
-use Rattle.std.specs.Prelude.{◌≡◌, ℕ, ◌+◌, ◌<◌, pos, Bool, true, false, IsTrue, List, [], length, map}
+use Rattle.std.specs.Prelude.{◌≡◌, ℕ, ◌+◌, ◌<◌, pos, Bool, true, false, IsTrue, List, [], length}
 use Rattle.std.proofs.Common.{sym, ◌∙◌, ap, subst, get_or}
 use Rattle.std.proofs.lemmas.List.{length-map, get_or-map, get_or_default}
 use Rattle.pi_constraints.specs.declared.constraint.Constraint.{Constraint}
@@ -13,15 +13,10 @@ use Rattle.pi_settling.specs.Roots.{root_item, given}
 use Rattle.pi_settling.proofs.PlaceLemmas.{count-places}
 use Rattle.pi_propagation.specs.Run.{given_at, KeptBefore, Fails}
 use Rattle.pi_propagation.proofs.NarrowLemmas.{narrow-state}
-use Rattle.pi_prop.specs.Left.{AreLeft}
-use Rattle.pi_states.specs.Value.{IsAcyclic}
-use Rattle.pi_states.specs.State.{bindings}
-use Rattle.pi_queue.specs.Reading.{AreRead, AreRoots}
-use Rattle.pi_queue.proofs.ReadLemmas.{are-read, are-roots, given-is}
-use Rattle.pi_queue.specs.Leaving.{MayTake, Takes, HasLeft, MayNarrow, MayLeave, IsNarrower, LeavesAll}
+use Rattle.pi_queue.specs.Leaving.{MayTake, Takes, HasLeft, MayLeave, IsNarrower, LeavesAll}
 use Rattle.pi_queue.proofs.LeaveLemmas.{StandsAt, IsLeftAt, item_at, step, fails, meets, starts, narrower}
 
-as-places : (s : State) (c : Constraint) (roots : List Item) (before left : List (List Span)) (lost : List ℕ) → MayLeave s c roots before left lost → length roots ≡ length (places_of c)
+pub as-places : (s : State) (c : Constraint) (roots : List Item) (before left : List (List Span)) (lost : List ℕ) → MayLeave s c roots before left lost → length roots ≡ length (places_of c)
 as-places s c roots before left lost m = ap length m.are_roots ∙ length-map (places_of c) (root_item s)
 
 -- what stands at a place that was read, and what its filter leaves there
@@ -89,20 +84,3 @@ leaves-narrower s q r c k roots given' left lost now m h same = subst (IsNarrowe
 
 pub leaves-end : (s q : State) (c : Constraint) (k : ℕ) (roots : List Item) (given' left : List (List Span)) (lost now : List ℕ) → MayLeave s c roots given' left lost → k ≡ length roots → HasLeft s c k q now → LeavesAll s c true q now
 leaves-end s q c k roots given' left lost now m e h = subst (λ (n : ℕ). HasLeft s c n q now) (e ∙ as-places s c roots given' left lost m) h
-
--- ---- what was read before
-
-pub may-leave : (s : State) (c : Constraint) (lost : List ℕ) (items places roots followed : List Item) (had before leaves left : List (List Span)) → MayNarrow s c lost → items ≡ places_of c → places ≡ items →
-    (IsAcyclic (bindings s) → AreRead s places → roots ≡ map (root_item s) places) → followed ≡ roots → (IsAcyclic (bindings s) → AreRoots s followed → had ≡ map (given s) followed) → before ≡ had → AreLeft c had leaves → left ≡ leaves →
-    MayLeave s c followed before left lost
-may-leave s c lost items places roots followed had before leaves left m is-items is-places read is-followed valued is-before filtered is-left =
-    let at : places ≡ places_of c = is-places ∙ is-items in
-    let are : AreRead s (places_of c) = are-read s c m.settles m.posted in
-    let rooted : followed ≡ map (root_item s) (places_of c) = is-followed ∙ (read m.state.acyclic (subst (AreRead s) (sym at) are) ∙ ap (map (root_item s)) at) in
-    let valued-at : had ≡ given_at s c = valued m.state.acyclic (subst (AreRoots s) (sym rooted) (are-roots s (places_of c) are)) ∙ (ap (map (given s)) rooted ∙ given-is s c) in
-    record {
-      narrows = m;
-      are_roots = rooted;
-      are_given = is-before ∙ valued-at;
-      are_left = subst (AreLeft c before) (sym is-left) (subst (λ (ds : List (List Span)). AreLeft c ds leaves) (sym is-before) filtered);
-    }

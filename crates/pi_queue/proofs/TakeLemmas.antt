@@ -1,5 +1,5 @@
 -- What a variable takes of the values that are left.
-use Rattle.std.specs.Prelude.{◌≡◌, ◌⊎◌, ◌↔◌, ◌==◌, ◌&&◌, ℕ, zero, suc, ◌<◌, ◌≤◌, ℤ, Bool, true, false, IsTrue, List, [], ◌∷◌, ◌++◌, length, Contains, Option, Some, refl}
+use Rattle.std.specs.Prelude.{◌≡◌, ◌⊎◌, ◌↔◌, ◌==◌, ◌&&◌, ℕ, zero, suc, ◌<◌, ◌≤◌, ℤ, Bool, true, false, IsTrue, List, [], ◌∷◌, ◌++◌, length, Contains, Option, Some, None, unwrap_or, refl}
 use Rattle.std.proofs.Common.{arith, sym, ◌∙◌, ap, subst, inl, inr, eq-eqb}
 use Rattle.std.proofs.lemmas.Bool.{cases_Bool, eqb-true}
 use Rattle.pi_terms.specs.Tree.{Tree, var, int, atom, comp, args}
@@ -51,8 +51,13 @@ only-value e i j up one hi hj = first-of-one (values_of e) i j one ((values_lie_
 
 -- ---- what stays as it was
 
-pub unchanged : (s : State) (x : Item) (before left : List Span) (lost : List ℕ) (b : Bool) → IsDomain before → IsDomain left → MayTake s x before left → b ≡ (size_of before == size_of left) → b ≡ true → Takes left s lost (root_item s x) true s lost
-unchanged s x before left lost b up vp may is hit = all_stay (root_item s x) (λ i h. as-many before left b up vp may.no_more is hit i (may.had i h))
+pub unchanged : (s : State) (x : Item) (before left : List Span) (told : Option (List Span)) (lost : List ℕ) → left ≡ unwrap_or told before → told ≡ None → MayTake s x before left → Takes left s lost (root_item s x) true s lost
+unchanged s x before left told lost is none may =
+    let same : left ≡ before = is ∙ ap (λ (o : Option (List Span)). unwrap_or o before) none in
+    all_stay (root_item s x) (λ i h. subst (λ (d : List Span). IsTrue (has_value d i)) (sym same) (may.had i h))
+
+pub shown-told : (s r : State) (before left here : List Span) (told : Option (List Span)) (lost more : List ℕ) (x : Item) (some : Bool) → left ≡ unwrap_or told before → told ≡ Some here → Takes here s lost x some r more → Takes left s lost x some r more
+shown-told s r before left here told lost more x some is there t = subst (λ (d : List Span). Takes d s lost x some r more) (sym (is ∙ ap (λ (o : Option (List Span)). unwrap_or o before) there)) t
 
 -- ---- an integer
 

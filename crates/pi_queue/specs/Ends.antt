@@ -46,6 +46,12 @@ pub record IsUnderWay (s : State) (due : List ℕ) (old new : Work) (r : State) 
   pub narrower : IsNarrower reached r
   pub counted : HasRun many old new ⊎ (HasRun (suc many) old new × (now ≡ [] → ⊥))
 
+-- What is counted, whatever the answer: so many runs and nothing else. None was begun where the work had reached its limit.
+pub record KeepsWithin (limit : ℕ) (old new : Work) : Type 0 where
+  pub many : ℕ
+  pub counted : HasRun many old new
+  pub within : (many ≡ 0) ⊎ (work_of new ≤ limit)
+
 -- what a propagation makes of a state in which these constraints are due, and of the work, by its answer
 abbrev pub Ends : State → List ℕ → ℕ → Work → Work → State → Result Bool PropStop → Type 0
 Ends s due limit old new r (Ok true) = IsDone s due old new r

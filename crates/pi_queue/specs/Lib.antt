@@ -1,5 +1,6 @@
 pub mod Waiting
 pub mod Reading
+pub mod Filtering
 pub mod Leaving
 pub mod Turn
 pub mod Ends

@@ -1,5 +1,5 @@
 //! What a filter leaves, taken by the items of its constraint.
-ghost use Rattle.std.specs.Prelude.{◌≡◌, ◌==◌, ◌≤◌, IfOk, OnOk, OnErr, List, Some, length};
+ghost use Rattle.std.specs.Prelude.{◌≡◌, ◌==◌, ◌≤◌, IfOk, OnOk, OnErr, List, Some, length, unwrap_or};
 ghost use Rattle.pi_terms.specs.Tree.{int};
 ghost use Rattle.pi_constraints.specs.declared.constraint.Item.{Item};
 ghost use Rattle.pi_constraints.specs.declared.constraint.Constraint.{Constraint};
@@ -8,6 +8,7 @@ ghost use Rattle.pi_constraints.specs.Domain.{IsDomain, size_of};
 ghost use Rattle.pi_settling.specs.Roots.{root_item};
 ghost use Rattle.pi_states.specs.Store.{Keeps};
 ghost use Rattle.pi_states.specs.State.{IsState, domain_of, with_binding, with_domain};
+ghost use Rattle.pi_held.specs.Changes.{AreTold};
 ghost use Rattle.pi_queue.specs.Leaving.{IsWithin, IsLater, MayTake, Takes, MayLeave, LeavesAll, IsNarrower};
 
 use pi_constraints::{Domain, Item};
@@ -15,24 +16,22 @@ use pi_dom::{contains, meet, min, size};
 use pi_states::{Cell, StateStore};
 use std::alloc::{AllocError, Global};
 
-/// Leaves each item what is left at its place, one after the other, and tells which variables lost a value. False where an item
-/// is left nothing.
+/// Leaves each item what is left at its place, where something is told of it, one after the other, and tells which variables
+/// lost a value. False where an item is left nothing.
 pub(crate) fn leave_all<S: StateStore>(
     alloc: Global,
     s: &mut S,
     roots: &[Item],
-    given: &[Domain],
-    left: &[Domain],
+    told: &[Option<Domain>],
     lost: &mut Vec<u64>,
 ) -> Result<bool, AllocError>
-    requires given { length given.now ≡ length roots.now }
-    requires left { length left.now ≡ length roots.now }
+    requires { length told.now ≡ length roots.now }
     ensures keeps { Keeps (S.seen s.old) (S.seen s.new) }
-    ensures narrower { (c : Constraint) → MayLeave (S.seen s.old).now.state c roots.now given.now left.now lost.old.items → IsNarrower (S.seen s.old).now.state (S.seen s.new).now.state }
-    ensures leaves { IfOk result (λ some. (c : Constraint) → MayLeave (S.seen s.old).now.state c roots.now given.now left.now lost.old.items → LeavesAll (S.seen s.old).now.state c some (S.seen s.new).now.state lost.new.items) }
+    ensures narrower { (c : Constraint) (before left : List (List Span)) → AreTold before told.now left → MayLeave (S.seen s.old).now.state c roots.now before left lost.old.items → IsNarrower (S.seen s.old).now.state (S.seen s.new).now.state }
+    ensures leaves { IfOk result (λ some. (c : Constraint) (before left : List (List Span)) → AreTold before told.now left → MayLeave (S.seen s.old).now.state c roots.now before left lost.old.items → LeavesAll (S.seen s.old).now.state c some (S.seen s.new).now.state lost.new.items) }
 {
     for k in 0..roots.len() {
-        let some = leave(alloc, s, roots[k], &given[k], &left[k], lost)?;
+        let some = leave(alloc, s, roots[k], &told[k], lost)?;
         if !some {
             return Ok(false);
         }
@@ -40,22 +39,39 @@ pub(crate) fn leave_all<S: StateStore>(
     Ok(true)
 }
 
-/// Leaves an item what is left at its place. What is left as it was is neither written nor looked up.
+/// Leaves an item what is told of its place. Where nothing is told, nothing is written or looked up.
 fn leave<S: StateStore>(
     alloc: Global,
     s: &mut S,
     item: Item,
-    given: &Domain,
+    told: &Option<Domain>,
+    lost: &mut Vec<u64>,
+) -> Result<bool, AllocError>
+    ensures keeps { Keeps (S.seen s.old) (S.seen s.new) }
+    ensures takes { IfOk result (λ some. (before left : List Span) → left ≡ unwrap_or told.now before → IsState (S.seen s.old).now.state → MayTake (S.seen s.old).now.state item before left → Takes left (S.seen s.old).now.state lost.old.items (root_item (S.seen s.old).now.state item) some (S.seen s.new).now.state lost.new.items) }
+    ensures err { OnErr result ((S.seen s.new).now.state ≡ (S.seen s.old).now.state) }
+{
+    match told {
+        Some(left) => {
+            let some = leave_item(alloc, s, item, left, lost)?;
+            Ok(some)
+        }
+        None => Ok(true),
+    }
+}
+
+/// Leaves an item the values that are left.
+fn leave_item<S: StateStore>(
+    alloc: Global,
+    s: &mut S,
+    item: Item,
     left: &Domain,
     lost: &mut Vec<u64>,
 ) -> Result<bool, AllocError>
     ensures keeps { Keeps (S.seen s.old) (S.seen s.new) }
-    ensures takes { IfOk result (λ some. IsState (S.seen s.old).now.state → MayTake (S.seen s.old).now.state item given.now left.now → Takes left.now (S.seen s.old).now.state lost.old.items (root_item (S.seen s.old).now.state item) some (S.seen s.new).now.state lost.new.items) }
+    ensures takes { IfOk result (λ some. IsState (S.seen s.old).now.state → IsLater (S.seen s.old).now.state item → Takes left.now (S.seen s.old).now.state lost.old.items (root_item (S.seen s.old).now.state item) some (S.seen s.new).now.state lost.new.items) }
     ensures err { OnErr result ((S.seen s.new).now.state ≡ (S.seen s.old).now.state) }
 {
-    if have_one_size(given, left) {
-        return Ok(true);
-    }
     match item {
         Item::Int(n) => Ok(contains(left, i128::from(n))),
         Item::Var(v) => {

@@ -2,6 +2,7 @@
 #![tactic(auto)]
 
 mod due;
+mod filtering;
 mod leaving;
 mod places;
 mod propagation;

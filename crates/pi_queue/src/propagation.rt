@@ -6,21 +6,22 @@ ghost use Rattle.pi_settling.specs.Stable.{IsStable, IsEmptied};
 ghost use Rattle.pi_settling.specs.SettlingLaws.{MaySettle};
 ghost use Rattle.pi_settling.specs.Load.{count_lost};
 ghost use Rattle.pi_propagation.specs.Runs.{MayPropagate, work_of};
-ghost use Rattle.pi_queue.specs.Ends.{numbers_below, Ends, IsUnderWay};
+ghost use Rattle.pi_queue.specs.Ends.{numbers_below, Ends, IsUnderWay, KeepsWithin};
 
 use crate::due::Due;
 use crate::turn::turn;
 use crate::waking::add_all;
 use pi_answers::Work;
 use pi_propagation::PropStop;
-use pi_states::{Places, StateStore};
+use pi_states::Places;
+use pi_stored::StoredDomains;
 use std::alloc::Global;
 
 /// Runs these constraints and those that become due by it, the one that waits longest first, until none is due (true), one leaves
 /// an item nothing (false), or the budget is spent. A constraint waits once at most, and runs once for each time that it becomes due.
 /// What is said holds where the numbers are different and are those of posted constraints, no other constraint would change
 /// anything, and each item comes to a variable with a domain or to an integer that a domain can have.
-pub fn propagate_from<S: StateStore>(
+pub fn propagate_from<S: StoredDomains>(
     alloc: Global,
     s: &mut S,
     due: &Places,
@@ -31,6 +32,7 @@ pub fn propagate_from<S: StateStore>(
     ensures ends { MayPropagate (S.seen s.old).now.state due.now → Ends (S.seen s.old).now.state due.now limit work.old work.new (S.seen s.new).now.state result }
     ensures domains { IfOk result (λ some. MayPropagate (S.seen s.old).now.state due.now → MatchBool some (IsStable (S.seen s.old).now.state (S.seen s.new).now.state) (IsEmptied (S.seen s.old).now.state)) }
     ensures bounded { MayPropagate (S.seen s.old).now.state due.now → work.new.runs ≤ work.old.runs + (length due.now + sum_by (count_lost (S.seen s.old).now.state (S.seen s.new).now.state) (S.seen s.old).now.state.constraints) }
+    ensures within { KeepsWithin limit work.old work.new }
 {
     let mut waiting = Due::new(alloc);
     add_all(&mut waiting, due.as_slice())?;
@@ -38,7 +40,7 @@ pub fn propagate_from<S: StateStore>(
 }
 
 /// The same of all constraints that were posted.
-pub fn propagate<S: StateStore>(
+pub fn propagate<S: StoredDomains>(
     alloc: Global,
     s: &mut S,
     work: &mut Work,
@@ -48,6 +50,7 @@ pub fn propagate<S: StateStore>(
     ensures ends { IsState (S.seen s.old).now.state → MaySettle (S.seen s.old).now.state → Ends (S.seen s.old).now.state (numbers_below (length (S.seen s.old).now.state.constraints)) limit work.old work.new (S.seen s.new).now.state result }
     ensures domains { IfOk result (λ some. IsState (S.seen s.old).now.state → MaySettle (S.seen s.old).now.state → MatchBool some (IsStable (S.seen s.old).now.state (S.seen s.new).now.state) (IsEmptied (S.seen s.old).now.state)) }
     ensures bounded { IsState (S.seen s.old).now.state → MaySettle (S.seen s.old).now.state → work.new.runs ≤ work.old.runs + (length (S.seen s.old).now.state.constraints + sum_by (count_lost (S.seen s.old).now.state (S.seen s.new).now.state) (S.seen s.old).now.state.constraints) }
+    ensures within { KeepsWithin limit work.old work.new }
 {
     let mut waiting = Due::new(alloc);
     for i in 0..s.constraints() {
@@ -57,7 +60,7 @@ pub fn propagate<S: StateStore>(
 }
 
 /// Runs those that wait, and those that become due by it.
-fn run_all<S: StateStore>(
+fn run_all<S: StoredDomains>(
     alloc: Global,
     s: &mut S,
     waiting: &mut Due,
@@ -67,6 +70,7 @@ fn run_all<S: StateStore>(
     ensures keeps { Keeps (S.seen s.old) (S.seen s.new) }
     ensures ends { MayPropagate (S.seen s.old).now.state waiting.old → Ends (S.seen s.old).now.state waiting.old limit work.old work.new (S.seen s.new).now.state result }
     ensures under_way { MayPropagate (S.seen s.old).now.state waiting.old → IsUnderWay (S.seen s.old).now.state waiting.old work.old work.new (S.seen s.new).now.state }
+    ensures within { KeepsWithin limit work.old work.new }
 {
     while let Some(i) = waiting.take() {
         if is_spent(work, limit) {

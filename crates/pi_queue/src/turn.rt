@@ -6,17 +6,18 @@ ghost use Rattle.pi_queue.specs.Leaving.{MayNarrow, LeavesAll, IsNarrower};
 ghost use Rattle.pi_queue.specs.Turn.{MayTurn, Turns};
 
 use crate::due::Due;
+use crate::filtering::filtered;
 use crate::leaving::leave_all;
 use crate::places::places;
-use crate::reading::{roots, values};
+use crate::reading::roots;
 use crate::waking::wake;
 use pi_constraints::Constraint;
-use pi_prop::{filter, is_within_limits};
-use pi_states::StateStore;
+use pi_prop::is_within_limits;
+use pi_stored::StoredDomains;
 use std::alloc::{AllocError, Global};
 
 /// Runs the constraint with a number, and puts those that it wakes behind the others. False where the run fails.
-pub(crate) fn turn<S: StateStore>(
+pub(crate) fn turn<S: StoredDomains>(
     alloc: Global,
     s: &mut S,
     i: u64,
@@ -38,7 +39,7 @@ pub(crate) fn turn<S: StateStore>(
 
 /// Leaves the items of a constraint what its filter leaves, and tells which variables lost a value. False where an item is left
 /// nothing. That a constraint is past its limits never comes, and is told as want of memory.
-fn narrow<S: StateStore>(
+fn narrow<S: StoredDomains>(
     alloc: Global,
     s: &mut S,
     constraint: &Constraint,
@@ -54,8 +55,7 @@ fn narrow<S: StateStore>(
     let items = places(alloc, constraint)?;
     let followed = roots(alloc, s, items.as_slice())?;
     let roots = followed.as_slice();
-    let had = values(alloc, s, roots)?;
-    let left = filter(alloc, constraint, &had)?;
-    let some = leave_all(alloc, s, roots, had.as_slice(), left.as_slice(), lost)?;
+    let told = filtered(alloc, s, constraint, roots)?;
+    let some = leave_all(alloc, s, roots, told.as_slice(), lost)?;
     Ok(some)
 }

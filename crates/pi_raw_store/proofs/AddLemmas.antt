@@ -1,7 +1,7 @@
 -- What adds to lists.
 use Rattle.std.proofs.lemmas.List.{get_or-set_same}
-use Rattle.std.proofs.Common.{◌≡◌, ◌⊎◌, inl, inr, ℕ, zero, suc, ◌+◌, ◌<◌, ◌≤◌, List, [], ◌∷◌, ◌++◌, length, Option, Some, None, slice_index, refl, ap, sym, subst, ◌∙◌, arith, length-append}
-use Rattle.pi_trail.specs.Image.{Image, appended, pushed, replacing, replaced}
+use Rattle.std.proofs.Common.{◌≡◌, ◌⊎◌, inl, inr, ℕ, suc, ◌+◌, ◌≤◌, List, [], ◌∷◌, length, Some, None, refl, ap, sym, subst, ◌∙◌, arith, length-append}
+use Rattle.pi_trail.specs.Image.{Image, appended, pushed, replaced}
 use Rattle.pi_trail.specs.Back.{Advances}
 use Rattle.pi_trail.specs.declared.entry.Table.{Table}
 use Rattle.pi_trail.proofs.BackLemmas.{from_itself, through}
@@ -11,7 +11,7 @@ use Rattle.pi_raw_lists.proofs.ListLemmas.{read_back, second_written, node_right
 use Rattle.pi_raw_names.specs.NameTable.{NameTable}
 use Rattle.pi_raw_store.specs.Walk.{next_at}
 use Rattle.pi_raw_store.specs.Heads.{taken_in, list_end, Pads, none_more, one_more, SetsHead}
-use Rattle.pi_raw_store.specs.Lists.{Leads, at_once, by_next, IsOnList, IsComplete}
+use Rattle.pi_raw_store.specs.Lists.{Leads, at_once, by_next, IsOnList}
 use Rattle.pi_raw_store.specs.Sound.{IsTakenWithin, IsSound}
 use Rattle.pi_raw_store.specs.Added.{SameTables, AddsToLists, IsAddedTo, IsAddedAlong}
 use Rattle.pi_raw_store.specs.Holding.{heap_of}

@@ -23,3 +23,4 @@ pub mod ReadLemmas
 pub mod RestorationLemmas
 pub mod PartLemmas
 pub mod WaitLemmas
+pub mod StandingLemmas

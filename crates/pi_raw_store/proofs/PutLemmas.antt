@@ -1,6 +1,6 @@
 -- What puts a constraint into the lists of its variables.
-use Rattle.std.proofs.Common.{◌≡◌, ◌⊎◌, inl, inr, ℕ, zero, suc, ◌+◌, ◌<◌, ◌≤◌, Bool, true, false, List, [], ◌∷◌, length, drop, ℤ, sym, ap, subst, ◌∙◌, arith}
-use Rattle.std.proofs.lemmas.List.{drop_more, drop_all}
+use Rattle.std.proofs.Common.{◌≡◌, ◌⊎◌, inl, inr, ℕ, zero, suc, ◌+◌, ◌≤◌, Bool, true, false, List, [], ◌∷◌, length, drop, ℤ, sym, subst, arith}
+use Rattle.std.proofs.lemmas.List.{drop_all}
 use Rattle.pi_constraints.specs.Constraint.{HoldsVariable, HoldVariable, SumHasVariable}
 use Rattle.pi_constraints.specs.declared.constraint.Item.{Item}
 use Rattle.pi_trail.specs.Image.{Image}

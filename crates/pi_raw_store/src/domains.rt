@@ -1,11 +1,12 @@
 //! Domains of variables.
-ghost use Rattle.std.specs.Prelude.{◌≡◌, IfOk, OnErr};
+ghost use Rattle.std.specs.Prelude.{◌≡◌, ◌<◌, [], IfOk, OnErr, Some, length, slice_get, unwrap_or};
+ghost use Rattle.pi_constraints.specs.Domain.{IsDomain};
 ghost use Rattle.pi_raw_store.specs.Domains.{domain_end, domain_by, domain_of, Confined};
 
 use crate::walk::{followed, variable};
-use pi_constraints::Domain;
+use pi_constraints::{Domain, Span};
 use pi_raw_blocks::give_up;
-use pi_raw_domains::{read_domain, write_domain};
+use pi_raw_domains::{read_domain, span, span_count, write_domain};
 use pi_states::Ref;
 use pi_trail::{Table, Trailed};
 use std::alloc::{AllocError, Global};
@@ -45,6 +46,29 @@ pub fn domain_of(alloc: Global, words: &Trailed, r: Ref) -> Result<Option<Domain
     };
     let found = domain_by(alloc, words, words.get(Table::Variables, n as usize))?;
     Ok(found)
+}
+
+/// How many spans a variable with this word has. It takes no memory.
+pub fn span_count_by(words: &Trailed, word: u64) -> usize
+    ensures count { result ≡ length (unwrap_or (domain_by words.now.region word) []) }
+    ensures domain { IsDomain (unwrap_or (domain_by words.now.region word) []) }
+{
+    let end = domain_end(word);
+    if end == 0 {
+        return 0;
+    }
+    span_count(words, end)
+}
+
+/// The span with a number of a variable with this word. It takes no memory.
+pub fn span_by(words: &Trailed, word: u64, k: usize) -> Span
+    ensures { k < length (unwrap_or (domain_by words.now.region word) []) → slice_get (unwrap_or (domain_by words.now.region word) []) k ≡ Some result }
+{
+    let end = domain_end(word);
+    if end == 0 {
+        return Span { lo: 0, hi: 0 };
+    }
+    span(words, end, k)
 }
 
 /// Gives the variable with this number a domain.

@@ -15,6 +15,7 @@ mod refs;
 mod since;
 mod state_store;
 mod store;
+mod stored;
 mod waiting;
 mod walk;
 

@@ -6,12 +6,14 @@ ghost use Rattle.pi_states.specs.Value.{IsAcyclic, value};
 ghost use Rattle.pi_states.specs.State.{Agent, SpeaksBelow, MayPost, empty_state, bindings, next, followed, LeadsTo, domain_at_root, with_new, with_constraint, with_ended};
 ghost use Rattle.pi_states.specs.State.{domain_of as state_domain};
 ghost use Rattle.pi_states.specs.Store.{IsGood, IsTerm, AreTerms, AreWatches, IsName, ShowsCell, ShowsAgent, Keeps, Stays, Changes, Gives, Binds, Confines, Suspends, Marks, Returns, Lists, IsPostedOn, HasChanged, ShowsRead};
+ghost use Rattle.pi_stored.specs.Stored.{stored};
+ghost use Rattle.pi_constraints.specs.Domain.{IsDomain};
 ghost use Rattle.pi_raw_store.specs.Holding.{seen, order};
 
 mod waiting;
 
 use crate::bind::bind_variable;
-use crate::domains::{confine, domain_by, domain_of};
+use crate::domains::{confine, domain_by, domain_of, span_by, span_count_by};
 use crate::mark::RawMark;
 use crate::named::numbered;
 use crate::post::post_constraint;
@@ -20,7 +22,7 @@ use crate::read::{Reading, read};
 use crate::refs::{has, has_events, known};
 use crate::since::changed_since;
 use crate::walk;
-use pi_constraints::{Constraint, Domain};
+use pi_constraints::{Constraint, Domain, Span};
 use pi_raw_agents::{
     add_agent, agent_call, agent_end, agent_rule, end_agent, is_alive, read_watches,
 };
@@ -204,6 +206,21 @@ impl RawStore {
     {
         let found = domain_of(alloc, &self.words, v)?;
         Ok(found)
+    }
+
+    /// How many spans the variable with this number has; none where it has no domain. It looks once at each, and takes no memory.
+    pub fn span_count(&self, n: u64) -> usize
+        ensures count { result ≡ length (stored (seen self.now).now.state n) }
+        ensures domain { IsDomain (stored (seen self.now).now.state n) }
+    {
+        span_count_by(&self.words, self.words.get(Table::Variables, n as usize))
+    }
+
+    /// The span of a variable with this number, counted from 0. It takes no memory.
+    pub fn span(&self, n: u64, k: usize) -> Span
+        ensures { k < length (stored (seen self.now).now.state n) → slice_get (stored (seen self.now).now.state n) k ≡ Some result }
+    {
+        span_by(&self.words, self.words.get(Table::Variables, n as usize), k)
     }
 
     /// Gives an unbound variable a domain of two or more values.

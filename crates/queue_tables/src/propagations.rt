@@ -4,7 +4,8 @@
 use pi_cases::{Case, Problem};
 use pi_propagation::PropStop;
 use pi_queue::{propagate, propagate_from};
-use pi_types::{Places, StateStore, TreeStore, Work};
+use pi_stored::StoredDomains;
+use pi_types::{Places, TreeStore, Work};
 use store_tables::{Bench, raw_store, show, take_store_step};
 
 /// Tells what the steps of a case show, taken on a `TreeStore`, and where the same steps on a `RawStore` show something else, that too.
@@ -19,12 +20,12 @@ pub fn answer(case: &mut Case<'_>) {
 }
 
 /// The same on any store.
-fn take_all<S: StateStore>(case: &mut Case<'_>, store: S) {
+fn take_all<S: StoredDomains>(case: &mut Case<'_>, store: S) {
     let mut bench = Bench::new(case.alloc, store);
     take_steps(case, &mut bench);
 }
 
-fn take_steps<S: StateStore>(case: &mut Case<'_>, bench: &mut Bench<S>) {
+fn take_steps<S: StoredDomains>(case: &mut Case<'_>, bench: &mut Bench<S>) {
     for _ in 0..case.steps() {
         let name = case.take_word();
         match name {
@@ -45,14 +46,14 @@ fn no_work() -> Work {
     }
 }
 
-fn propagate_all<S: StateStore>(case: &mut Case<'_>, bench: &mut Bench<S>) {
+fn propagate_all<S: StoredDomains>(case: &mut Case<'_>, bench: &mut Bench<S>) {
     let limit = case.take_number();
     let mut work = no_work();
     let ends = propagate(case.alloc, &mut bench.store, &mut work, limit);
     show_end(case, ends);
 }
 
-fn propagate_some<S: StateStore>(case: &mut Case<'_>, bench: &mut Bench<S>) {
+fn propagate_some<S: StoredDomains>(case: &mut Case<'_>, bench: &mut Bench<S>) {
     let limit = case.take_number();
     let due = take_places(case);
     let mut work = no_work();

@@ -1,22 +1,11 @@
-use Rattle.std.proofs.Common.{rules, ap, subst}
-use Rattle.pi_constraints.specs.declared.constraint.Item.{Item}
 use Rattle.pi_settling.specs.Roots.{root_item}
-use Rattle.pi_queue.specs.Leaving.{IsLater}
-use Rattle.pi_queue.proofs.TakeLemmas.{unchanged, integer-takes-at, shown-takes}
+use Rattle.pi_queue.proofs.TakeLemmas.{unchanged, shown-told}
 use Rattle.pi_queue.proofs.leaving.leave.Goals as goal
 
-pub returns-then-have_one_size-clause-takes : goal.returns-then-have_one_size-clause-takes
-returns-then-have_one_size-clause-takes g c = λ is may.
-    unchanged (g.S.StateStore.seen c.args.s.now).now.state c.args.item c.args.given.now c.args.left.now c.args.lost.now.items c.have_one_size.result c.have_one_size.ensures.first c.have_one_size.ensures.second may c.have_one_size.ensures.same c.if-have_one_size.true
+pub returns-in-None-clause-takes : goal.returns-in-None-clause-takes
+returns-in-None-clause-takes g c = λ before left is state may. unchanged (g.S.StateStore.seen c.args.s.now).now.state c.args.item before left c.args.told.now c.args.lost.now.items is c.in-None.is may
 
-pub returns-in-Int-clause-takes : goal.returns-in-Int-clause-takes
-returns-in-Int-clause-takes g c = λ is may.
+pub returns-in_ok-some-in-Some-clause-takes : goal.returns-in_ok-some-in-Some-clause-takes
+returns-in_ok-some-in-Some-clause-takes g c = λ before left is state may.
     let st = (g.S.StateStore.seen c.args.s.now).now.state in
-    shown-takes st st (root_item st c.args.item) (Item.Int c.in-Int.n) c.args.left.now c.args.lost.now.items c.args.lost.now.items c.contains.result (ap (root_item st) c.in-Int.is)
-    (integer-takes-at st c.args.left.now c.args.lost.now.items c.in-Int.n _ c.contains.result c.contains.ensures (search rules))
-
-pub returns-in_ok-some-in-Var-clause-takes : goal.returns-in_ok-some-in-Var-clause-takes
-returns-in_ok-some-in-Var-clause-takes g c = λ is may.
-    let st = (g.S.StateStore.seen c.args.s.now).now.state in
-    shown-takes st (g.S.StateStore.seen c.leave_variable.new.s).now.state (root_item st c.args.item) (root_item st (Item.Var c.in-Var.v)) c.args.left.now c.args.lost.now.items c.leave_variable.new.lost.items c.in_ok-some-in-Var.some (ap (root_item st) c.in-Var.is)
-    (c.in_ok-some-in-Var.ensures.takes is (subst (IsLater st) c.in-Var.is may.later))
+    shown-told st (g.S.StateStore.seen c.leave_item.new.s).now.state before left c.in-Some.left c.args.told.now c.args.lost.now.items c.leave_item.new.lost.items (root_item st c.args.item) c.in_ok-some-in-Some.some is c.in-Some.is (c.in_ok-some-in-Some.ensures.takes state may.later)

@@ -2,7 +2,7 @@ use Rattle.std.proofs.Common.{arith, ◌≡◌, ◌∙◌, ap, length}
 use Rattle.std.proofs.lemmas.Result.{err_from_is_err_and}
 use Rattle.pi_queue.specs.Ends.{numbers_below}
 use Rattle.pi_queue.proofs.WaitingLemmas.{below-next}
-use Rattle.pi_queue.proofs.EndLemmas.{all-mean, from-all, way-from-all, nothing-done}
+use Rattle.pi_queue.proofs.EndLemmas.{all-mean, from-all, way-from-all, nothing-done, none-counted}
 use Rattle.pi_queue.proofs.propagation.propagate.Goals as goal
 
 pub loop-i-init : goal.loop-i-init
@@ -33,3 +33,6 @@ pub returns-clause-bounded : goal.returns-clause-bounded
 returns-clause-bounded g c =
     let many : c.loop-i.i ≡ length (g.S.StateStore.seen c.args.s.now).now.state.constraints = omega (arith, c.loop-i-test.false, c.loop-i.auto.i-end, c.constraints-i-end.ensures) in
     way-from-all (g.S.StateStore.seen c.args.s.now).now.state c.loop-i.waiting c.args.work.now c.run_all.new.work (g.S.StateStore.seen c.run_all.new.s).now.state (c.loop-i.invariant ∙ ap numbers_below many) c.run_all.ensures.under_way
+
+pub returns-in_err-add-clause-within : goal.returns-in_err-add-clause-within
+returns-in_err-add-clause-within g c = none-counted c.args.limit c.args.work.now

@@ -1,5 +1,5 @@
 use Rattle.std.proofs.lemmas.Result.{err_from_is_err_and}
-use Rattle.pi_queue.proofs.EndLemmas.{ends-mean, from-these, way-from-these, nothing-done}
+use Rattle.pi_queue.proofs.EndLemmas.{ends-mean, from-these, way-from-these, nothing-done, none-counted}
 use Rattle.pi_queue.proofs.propagation.propagate_from.Goals as goal
 
 pub returns-clause-ends : goal.returns-clause-ends
@@ -20,3 +20,6 @@ returns-in_err-add_all-clause-ends g c = λ may. let p = err_from_is_err_and c.f
 
 pub returns-in_err-add_all-clause-bounded : goal.returns-in_err-add_all-clause-bounded
 returns-in_err-add_all-clause-bounded g c = λ may. nothing-done _ _
+
+pub returns-in_err-add_all-clause-within : goal.returns-in_err-add_all-clause-within
+returns-in_err-add_all-clause-within g c = none-counted c.args.limit c.args.work.now

@@ -1,26 +1,29 @@
-use Rattle.std.proofs.Common.{rules, ◌≡◌, true, false, refl}
+use Rattle.std.proofs.Common.{rules, ◌≡◌, ◌≤◌, true, false, refl}
 use Rattle.std.proofs.lemmas.Result.{err_from_is_err_and}
 use Rattle.pi_queue.proofs.StoreLemmas.{keeps-itself, keeps-then}
-use Rattle.pi_queue.proofs.EndLemmas.{begins, may-turn, goes-on, turn-by, failure-by, done, failed, spent, under-way, in-a-turn}
+use Rattle.pi_propagation.specs.Runs.{work_of}
+use Rattle.pi_queue.proofs.EndLemmas.{none-counted, one-counted, begins, may-turn, goes-on, turn-by, failure-by, done, failed, spent, under-way, in-a-turn}
 use Rattle.pi_queue.proofs.propagation.run_all.Goals as goal
 
 pub loop-i-init : goal.loop-i-init
-loop-i-init g c = (keeps-itself (g.S.StateStore.seen c.args.s.now), λ may. begins (g.S.StateStore.seen c.args.s.now).now.state c.args.waiting.now c.args.limit c.args.work.now)
+loop-i-init g c = (keeps-itself (g.S.StateStore.seen c.args.s.now), λ may. begins (g.S.StateStore.seen c.args.s.now).now.state c.args.waiting.now c.args.limit c.args.work.now, none-counted c.args.limit c.args.work.now)
 
 pub loop-i-preserved : goal.loop-i-preserved
 loop-i-preserved g c =
     let s0 = (g.S.StateStore.seen c.args.s.now).now.state in
     let r = (g.S.StateStore.seen c.loop-i.s).now.state in
     let q = (g.S.StateStore.seen c.turn.new.s).now.state in
-    let all : c.in_ok-some.some ≡ true = search rules in (
+    let all : c.in_ok-some.some ≡ true = search rules in
+    let unspent : c.args.limit ≤ work_of c.loop-i.work → ⊥ = λ h. let hit : c.is_spent.result ≡ true = c.is_spent.ensures.1 h in let miss : c.is_spent.result ≡ false = c.if-is_spent.false in cc in (
       keeps-then (g.S.StateStore.seen c.args.s.now) (g.S.StateStore.seen c.loop-i.s) (g.S.StateStore.seen c.turn.new.s) c.loop-i.invariant.0 c.turn.ensures.keeps,
       λ may.
           let b = c.loop-i.invariant.1 may in
           let m = may-turn s0 c.args.waiting.now c.args.limit c.args.work.now c.loop-i.work r c.loop-i.waiting c.in-Some.i c.take.new.self may b c.in-Some.ensures.first in
           goes-on s0 c.args.waiting.now c.args.limit c.args.work.now c.loop-i.work _ r q c.loop-i.waiting c.in-Some.i c.take.new.self c.turn.new.waiting b c.in-Some.ensures.first
-          (λ h. let hit : c.is_spent.result ≡ true = c.is_spent.ensures.1 h in let miss : c.is_spent.result ≡ false = c.if-is_spent.false in cc)
+          unspent
           (record { goals = refl; runs = refl; expansions = refl })
           (turn-by r q c.in-Some.i c.take.new.self c.turn.new.waiting c.in_ok-some.some (c.in_ok-some.ensures.turns m) all),
+      one-counted c.args.limit c.args.work.now c.loop-i.work _ c.loop-i.invariant.2 unspent (record { goals = refl; runs = refl; expansions = refl }),
     )
 
 pub returns-then-is_spent-clause-keeps : goal.returns-then-is_spent-clause-keeps
@@ -87,3 +90,21 @@ returns-clause-under_way g c = λ may.
     let s0 = (g.S.StateStore.seen c.args.s.now).now.state in
     let r = (g.S.StateStore.seen c.loop-i.s).now.state in
     under-way s0 c.args.waiting.now c.args.limit c.args.work.now c.loop-i.work r c.loop-i.waiting may (c.loop-i.invariant.1 may)
+
+pub returns-in_err-some-clause-within : goal.returns-in_err-some-clause-within
+returns-in_err-some-clause-within g c =
+    one-counted c.args.limit c.args.work.now c.loop-i.work _ c.loop-i.invariant.2
+    (λ h. let hit : c.is_spent.result ≡ true = c.is_spent.ensures.1 h in let miss : c.is_spent.result ≡ false = c.if-is_spent.false in cc)
+    (record { goals = refl; runs = refl; expansions = refl })
+
+pub returns-then-not-some-clause-within : goal.returns-then-not-some-clause-within
+returns-then-not-some-clause-within g c =
+    one-counted c.args.limit c.args.work.now c.loop-i.work _ c.loop-i.invariant.2
+    (λ h. let hit : c.is_spent.result ≡ true = c.is_spent.ensures.1 h in let miss : c.is_spent.result ≡ false = c.if-is_spent.false in cc)
+    (record { goals = refl; runs = refl; expansions = refl })
+
+pub returns-then-is_spent-clause-within : goal.returns-then-is_spent-clause-within
+returns-then-is_spent-clause-within g c = c.loop-i.invariant.2
+
+pub returns-clause-within : goal.returns-clause-within
+returns-clause-within g c = c.loop-i.invariant.2

@@ -1,4 +1,4 @@
-use Rattle.std.proofs.Common.{◌≡◌, ◌∙◌, ◌<◌, ◌≤◌, ◌+◌, length, sym, arith}
+use Rattle.std.proofs.Common.{◌≡◌, length, sym, arith}
 use Rattle.pi_raw_store.specs.Heads.{none_more}
 use Rattle.pi_raw_store.proofs.AddLemmas.{pads_advance, pads_more, pads_refused}
 use Rattle.pi_raw_store.proofs.heads.pad.Goals as goal

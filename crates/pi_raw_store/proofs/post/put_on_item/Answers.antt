@@ -1,6 +1,4 @@
-use Rattle.std.proofs.Common.{sym, subst}
 use Rattle.pi_raw_store.proofs.AddLemmas.{adds_none}
-use Rattle.pi_raw_store.proofs.PutLemmas.{put_nothing}
 use Rattle.pi_raw_store.proofs.post.put_on_item.Goals as goal
 
 pub returns-in-Int-clause-adds : goal.returns-in-Int-clause-adds

@@ -1,9 +1,9 @@
-use Rattle.std.proofs.Common.{◌≤◌, ◌<◌, true, false, length, subst, arith}
+use Rattle.std.proofs.Common.{true, false, subst, arith}
 use Rattle.std.proofs.lemmas.List.{drop_more}
 use Rattle.pi_constraints.specs.Constraint.{HoldsVariable, HoldVariable}
 use Rattle.pi_raw_store.specs.Added.{IsPutOn}
 use Rattle.pi_raw_store.proofs.AddLemmas.{adds_then}
-use Rattle.pi_raw_store.proofs.PutLemmas.{of_items, TermHas, puts_start, puts_more, puts_stop, puts_end}
+use Rattle.pi_raw_store.proofs.PutLemmas.{of_items, puts_start, puts_more, puts_stop, puts_end}
 use Rattle.pi_raw_store.proofs.post.put_on_items.Goals as goal
 
 pub loop-item-init : goal.loop-item-init

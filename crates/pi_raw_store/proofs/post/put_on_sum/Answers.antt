@@ -1,6 +1,6 @@
-use Rattle.std.proofs.Common.{◌≤◌, ◌<◌, true, false, length, slice_index_or, subst, arith}
+use Rattle.std.proofs.Common.{true, false, slice_index_or, subst, arith}
 use Rattle.std.proofs.lemmas.List.{drop_more}
-use Rattle.pi_constraints.specs.Constraint.{HoldsVariable, SumHasVariable}
+use Rattle.pi_constraints.specs.Constraint.{SumHasVariable}
 use Rattle.pi_raw_store.specs.Added.{IsPutOn}
 use Rattle.pi_raw_store.proofs.AddLemmas.{adds_then}
 use Rattle.pi_raw_store.proofs.PutLemmas.{of_terms, TermHas, puts_start, puts_more, puts_stop, puts_end}

@@ -1,5 +1,5 @@
 use Rattle.std.proofs.Common.{◌⊎◌, subst}
-use Rattle.pi_constraints.specs.Constraint.{HoldsVariable, HoldVariable, SumHasVariable}
+use Rattle.pi_constraints.specs.Constraint.{HoldsVariable}
 use Rattle.pi_raw_store.specs.Added.{IsPutOn}
 use Rattle.pi_raw_store.proofs.AddLemmas.{adds_then}
 use Rattle.pi_raw_store.proofs.PutLemmas.{put_stops, put_then}

@@ -1,4 +1,4 @@
-use Rattle.std.proofs.Common.{◌≡◌, ℕ, true, length, ap, sym, subst, ◌∙◌}
+use Rattle.std.proofs.Common.{ℕ, true, sym, subst}
 use Rattle.pi_constraints.specs.Constraint.{SpeaksOf}
 use Rattle.pi_trail.specs.Image.{Image}
 use Rattle.pi_trail.specs.Back.{Advances}

@@ -1,5 +1,4 @@
-use Rattle.std.proofs.Common.{refl, [], ap, sym, ◌∙◌, option_copied}
-use Rattle.std.proofs.lemmas.Option.{get_or_from_slice_get}
+use Rattle.std.proofs.Common.{refl, ap, sym, ◌∙◌, option_copied}
 use Rattle.pi_places.proofs.DomainLemmas.{nowhere}
 use Rattle.pi_held.proofs.places.HeldPlacesPlaces.is_empty.Goals as goal
 

@@ -1,8 +1,4 @@
-use Rattle.std.proofs.Common.{[], ap, sym, subst, ◌∙◌, List, inl, inr, option_copied}
-use Rattle.std.proofs.lemmas.Option.{get_or_from_slice_get}
-use Rattle.pi_constraints.specs.declared.domain.Span.{Span}
-use Rattle.pi_filters.specs.Places.{domain_at}
-use Rattle.pi_filters.specs.Rules.{ShareAValue}
+use Rattle.std.proofs.Common.{ap, sym, ◌∙◌, inl, inr, option_copied}
 use Rattle.pi_places.proofs.DomainLemmas.{nowhere}
 use Rattle.pi_places.proofs.AskLemmas.{none_shared}
 use Rattle.pi_held.proofs.places.HeldPlacesPlaces.shares.Goals as goal

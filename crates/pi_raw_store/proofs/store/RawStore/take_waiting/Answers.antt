@@ -5,7 +5,7 @@ use Rattle.pi_raw_store.specs.Heads.{taken_in, SetsHead}
 use Rattle.pi_raw_store.specs.Sound.{IsSound}
 use Rattle.pi_raw_store.specs.Holding.{heap_of, activation_in, view_of}
 use Rattle.pi_raw_store.proofs.PartLemmas.{refused}
-use Rattle.pi_raw_store.proofs.WaitLemmas.{waits_at, takes_none, takes_first, sound_takes, taken_ok, taken_err}
+use Rattle.pi_raw_store.proofs.WaitLemmas.{waits_at, takes_first, sound_takes, taken_ok, taken_err}
 use Rattle.pi_raw_store.proofs.store.RawStore.take_waiting.Goals as goal
 use Rattle.pi_raw_store.proofs.store.RawStore.take_waiting.Goals.{in-Ok, in-Err}
 
