@@ -132,6 +132,11 @@ mod tests {
     }
 
     #[test]
+    fn rows_of_loops_inside(rt: HostRuntime) -> Result<(), Fail> {
+        are_right(rt.alloc(), &loops::INSIDE, NOTHING)
+    }
+
+    #[test]
     fn rows_of_large_terms(rt: HostRuntime) -> Result<(), Fail> {
         are_right(rt.alloc(), &large::ROWS, NOTHING)
     }

@@ -2,7 +2,7 @@
 use crate::row::{Row, rows};
 
 /// Runs of programs and goals with loops.
-pub static ROWS: [Row<'static>; 59] = rows![
+pub static ROWS: [Row<'static>; 31] = rows![
     // The names of the loop alone are others behind it; a name from before it keeps its last value.
     "", ["FILE", "S = 0, foreach(I in 1..4) T = I*I, S := S+T end, T = done"] => "S = 30\nT = done\nyes\nno more\n", 0;
     "", ["FILE", "N = 3, S = 0, while (N > 0) T = N*N, S := S+T, N := N-1 end, T = done"] => "N = 0\nS = 14\nT = done\nyes\nno more\n", 0;
@@ -47,6 +47,10 @@ pub static ROWS: [Row<'static>; 59] = rows![
     "", ["FILE", "N = 3, foreach(N > 2, I in 1..N) print(I) end"] => "123N = 3\nyes\nno more\n", 0;
     "", ["FILE", "foreach(fail) print(a) end"] => "yes\nno more\n", 0;
     "", ["--steps", "0", "FILE", "foreach(1 > 2, X in a) true end"] => "yes\nno more\n", 0;
+];
+
+/// Runs with loops in other forms of control and in each other, with bodies that fail, raise or have several answers, and with comprehensions.
+pub static INSIDE: [Row<'static>; 28] = rows![
     // Loops in branches, conditions and in each other.
     "", ["FILE", "X = 1, (X > 2 -> X := 0 ; foreach(I in 1..3) X := X*2 end)"] => "X = 8\nyes\nno more\n", 0;
     "", ["FILE", "X = 1, (X > 2 -> X := 0 ; while (X < 5) X := X*2 end)"] => "X = 8\nyes\nno more\n", 0;
