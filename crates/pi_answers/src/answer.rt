@@ -3,7 +3,7 @@ use pi_constraints::VarDomains;
 use pi_terms::{Series, Term, Text};
 
 /// A named variable and its value.
-#[derive(Debug, Drop)]
+#[derive(Drop)]
 pub struct NamedTerm {
     pub name: Text,
     pub value: Term,
@@ -14,7 +14,7 @@ pub type NamedTerms = Series<NamedTerm>;
 
 /// An answer of a query: the value of each named variable in the order of the goal, and the domain of each unbound
 /// variable in them that has one.
-#[derive(Debug, Drop)]
+#[derive(Drop)]
 pub struct Answer {
     pub values: NamedTerms,
     pub domains: VarDomains,

@@ -1,7 +1,7 @@
 use pi_terms::{Series, Term};
 
 /// Work of a query: Ticks in planner evaluations, runs of propagators, and planner states expanded.
-#[derive(Clone, Copy, Debug, PartialEq, Eq)]
+#[derive(Clone, Copy)]
 pub struct Work {
     pub goals: u64,
     pub runs: u64,
@@ -18,7 +18,7 @@ impl Work {
 }
 
 /// A planner call that began to be answered: whether a best plan is wanted, the state to start from, the limit.
-#[derive(Debug, Drop)]
+#[derive(Drop)]
 pub struct Entered {
     pub best: bool,
     pub start: Term,
@@ -29,14 +29,14 @@ pub struct Entered {
 pub type EnteredCalls = Series<Entered>;
 
 /// What a planner call answers.
-#[derive(Debug, Drop)]
+#[derive(Drop)]
 pub enum PlanResult {
     Found { plan: Term, cost: i128 },
     NoPlan,
 }
 
 /// A planner call that is done: answered, or left by an exception.
-#[derive(Debug, Drop)]
+#[derive(Drop)]
 pub enum LogEntry {
     Planned {
         best: bool,

@@ -12,7 +12,7 @@ use pi_terms::Term;
 use std::alloc::{AllocError, Global};
 
 /// What an entry waits for. Places are those of goals, the numbers of rules and predicates those of the tables.
-#[derive(Clone, Copy, Debug)]
+#[derive(Clone, Copy)]
 pub enum Kind {
     /// A choice: the rules of a call from this one on, by the numbers of its predicate and of the rule.
     Rules(u32, u32),
@@ -29,7 +29,7 @@ pub enum Kind {
 }
 
 /// What a level does with the answers of its goal.
-#[derive(Clone, Copy, Debug)]
+#[derive(Clone, Copy)]
 pub enum Strict {
     /// These three by their place.
     Once(u32),
@@ -46,7 +46,7 @@ pub enum Strict {
 }
 
 /// What an entry comes back to, beside the state of the store.
-#[derive(Clone, Copy, Debug)]
+#[derive(Clone, Copy)]
 pub struct Back {
     /// How many frames are kept.
     pub frames: usize,
@@ -60,7 +60,7 @@ pub struct Back {
 }
 
 /// A choice or a level.
-#[derive(Debug, Drop)]
+#[derive(Drop)]
 pub struct Entry<M> {
     pub mark: M,
     pub back: Back,
@@ -68,7 +68,7 @@ pub struct Entry<M> {
 
 /// What a run keeps beside its store: the frames, the blocks, the choices and levels on one stack, the newest last, and
 /// the values that are collected. Entries are numbered from 1.
-#[derive(Debug, Drop)]
+#[derive(Drop)]
 pub struct Arenas<M> {
     pub frames: Frames,
     pub blocks: Blocks,

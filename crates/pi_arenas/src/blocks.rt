@@ -7,14 +7,14 @@ use std::alloc::{AllocError, Global};
 use std::marker::Model;
 
 /// A slot that was written, and what it held before.
-#[derive(Clone, Copy, Debug)]
+#[derive(Clone, Copy)]
 pub struct Written {
     pub slot: usize,
     pub old: Option<Ref>,
 }
 
 /// The contents of the first slots at one moment, to come back to: how many slots, and how many writes were noted then.
-#[derive(Clone, Copy, Debug)]
+#[derive(Clone, Copy)]
 pub struct BlocksMark {
     pub slots: usize,
     pub trail: usize,
@@ -22,7 +22,7 @@ pub struct BlocksMark {
 
 /// The slots of all calls that are under way, a block for each. A write to a protected slot is noted, so that what it held
 /// can be brought back.
-#[derive(Debug, Drop)]
+#[derive(Drop)]
 pub struct Blocks {
     slots: Vec<Option<Ref>>,
     trail: Vec<Written>,

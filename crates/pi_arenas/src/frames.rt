@@ -9,7 +9,7 @@ use std::marker::Model;
 
 /// Where a run is: so many goals from a place on, one after the other, in the block that begins at a base, and then what
 /// the frame with that number says. Frame 0 says that the newest open level has an answer.
-#[derive(Clone, Copy, Debug)]
+#[derive(Clone, Copy)]
 pub struct Point {
     pub place: u32,
     pub count: u32,
@@ -18,7 +18,7 @@ pub struct Point {
 }
 
 /// The points to go on with, by their numbers from 1 on. A contract sees the list of them.
-#[derive(Debug, Drop)]
+#[derive(Drop)]
 pub struct Frames {
     points: Vec<Point>,
 }

@@ -11,7 +11,7 @@ use pi_unify::Slots;
 use std::alloc::Global;
 
 /// How a run ended.
-#[derive(Debug, Drop)]
+#[derive(Drop)]
 pub enum End {
     Done,
     Raised(Term),

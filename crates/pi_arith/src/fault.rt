@@ -2,7 +2,7 @@
 use thiserror::Error;
 
 /// Why an operation has no value.
-#[derive(Clone, Copy, Debug, PartialEq, Eq, Error)]
+#[derive(Clone, Copy, Debug, Error)]
 pub enum ArithFault {
     /// The value needs more than 128 bits with a sign.
     #[error("integer_overflow")]

@@ -1,6 +1,6 @@
 //! The operations on integers.
 /// An operation on integers.
-#[derive(Clone, Copy, Debug, PartialEq, Eq)]
+#[derive(Clone, Copy)]
 pub enum Op {
     /// `a + b`
     Add,

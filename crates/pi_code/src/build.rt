@@ -107,7 +107,7 @@ fn short(n: usize) -> Result<u32, AllocError>
 }
 
 /// The slots of a clause in its blocks: where they begin, and how many they are.
-#[derive(Clone, Copy, Debug)]
+#[derive(Clone, Copy)]
 struct Shape {
     first_slot: u32,
     slots: u32,

@@ -6,7 +6,7 @@ use std::alloc::{AllocError, Global};
 use std::collections::HashMap;
 
 /// What a term names that is called: the number that the store has for its name, and its number of arguments.
-#[derive(Clone, Copy, Debug, PartialEq, Eq, Hash)]
+#[derive(Clone, Copy, PartialEq, Eq, Hash)]
 pub struct Callable {
     pub name: u64,
     pub arity: u64,

@@ -15,7 +15,7 @@ use pi_states::Ref;
 use pi_terms::Text;
 
 /// Where the term of a goal comes from.
-#[derive(Clone, Copy, Debug)]
+#[derive(Clone, Copy)]
 pub enum Operand {
     /// What a slot of the clause holds.
     Slot(u32),
@@ -26,7 +26,7 @@ pub enum Operand {
 }
 
 /// A cell of a compound with slots in it.
-#[derive(Clone, Copy, Debug)]
+#[derive(Clone, Copy)]
 pub enum Part {
     Slot(u32),
     Known(Ref),
@@ -85,7 +85,7 @@ pub struct Step {
 }
 
 /// What an argument of a call has to be.
-#[derive(Clone, Copy, Debug)]
+#[derive(Clone, Copy)]
 pub enum HeadTest {
     Slot(u32),
     Int(i128),
@@ -95,7 +95,7 @@ pub enum HeadTest {
 }
 
 /// A rule. The slots of its block come behind the arguments of the call.
-#[derive(Clone, Copy, Debug)]
+#[derive(Clone, Copy)]
 pub struct Rule {
     /// Where the tests of its head begin, one for each argument.
     pub tests: u32,
@@ -112,7 +112,7 @@ pub struct Rule {
 }
 
 /// A predicate or a function: its number of arguments, and its rules from the first to before the end.
-#[derive(Clone, Copy, Debug)]
+#[derive(Clone, Copy)]
 pub struct Predicate {
     pub arity: u32,
     pub first: u32,

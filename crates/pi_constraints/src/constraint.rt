@@ -5,7 +5,7 @@ use pi_terms::Series;
 use std::alloc::{AllocError, Global};
 
 /// A place of a constraint: the number of a variable, or an integer.
-#[derive(Clone, Copy, Debug, PartialEq, Eq)]
+#[derive(Clone, Copy)]
 pub enum Item {
     Var(u64),
     Int(i64),
@@ -15,7 +15,7 @@ pub enum Item {
 pub type Items = Series<Item>;
 
 /// How a sum stands to 0.
-#[derive(Clone, Copy, Debug, PartialEq, Eq)]
+#[derive(Clone, Copy)]
 pub enum Rel {
     Equal,
     Unequal,
@@ -29,7 +29,7 @@ pub type LinTerm = (i128, u64);
 pub type LinTerms = Series<LinTerm>;
 
 /// A constraint. A User's Guide to Picat, 'Constraints'; the forms that all others are brought into are own.
-#[derive(Debug, Drop)]
+#[derive(Drop)]
 pub enum Constraint {
     /// The sum of the terms and the constant stands so to 0.
     Linear {

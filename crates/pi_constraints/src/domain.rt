@@ -10,7 +10,7 @@ use std::marker::Model;
 pub const MAX_VALUE: i64 = 72057594037927935;
 
 /// The integers from `lo` to `hi`, both among them.
-#[derive(Clone, Copy, Debug, PartialEq, Eq)]
+#[derive(Clone, Copy, PartialEq, Eq)]
 pub struct Span {
     pub lo: i64,
     pub hi: i64,
@@ -18,7 +18,7 @@ pub struct Span {
 
 /// A finite set of integers from `-MAX_VALUE` to `MAX_VALUE`; it may be empty. A contract sees its spans, which ascend and
 /// neither overlap nor touch.
-#[derive(Debug, Drop)]
+#[derive(Drop)]
 pub struct Domain {
     spans: Vec<Span>,
 }

@@ -3,7 +3,7 @@ use crate::domain::Domain;
 use pi_terms::Series;
 
 /// A variable, by its number, and its domain.
-#[derive(Debug, Drop)]
+#[derive(Drop)]
 pub struct VarDomain {
     pub var: u64,
     pub domain: Domain,

@@ -10,7 +10,7 @@ use std::marker::Model;
 
 /// A goal of the core language: one flat vector of nodes in prefix order, so that a number names a place in it. A
 /// contract sees it as a tree.
-#[derive(Debug, Drop)]
+#[derive(Drop)]
 pub struct CoreGoal {
     cells: Vec<GoalCell>,
 }

@@ -5,7 +5,7 @@ use pi_terms::{Series, Term, Text};
 
 /// What an argument of a call has to look like. A slot takes whatever stands there, and where it is filled already, an
 /// identical term.
-#[derive(Debug, Drop)]
+#[derive(Drop)]
 pub enum Pattern {
     Slot(u32),
     Int(i128),
@@ -19,7 +19,7 @@ pub enum Pattern {
 pub type Patterns = Vec<Pattern>;
 
 /// An event that an agent waits for: the slot of its variable, then the slot that its value takes.
-#[derive(Clone, Copy, Debug, PartialEq, Eq)]
+#[derive(Clone, Copy)]
 pub enum SlotWatch {
     Ins(u32),
     Bound(u32),
@@ -32,7 +32,7 @@ pub enum SlotWatch {
 pub type SlotWatches = Series<SlotWatch>;
 
 /// A clause of the core language. In its terms `Var(k)` stands for slot k, for k below `slots`.
-#[derive(Debug, Drop)]
+#[derive(Drop)]
 pub struct CoreClause {
     pub head: Patterns,
     /// The condition; `truth` stands for none. A condition that is written `true` is a `seq` of `truth` alone: what waits
@@ -52,7 +52,7 @@ pub struct CoreClause {
 pub type CoreClauses = Series<CoreClause>;
 
 /// A predicate or a function of the core language.
-#[derive(Debug, Drop)]
+#[derive(Drop)]
 pub struct CorePred {
     pub name: Text,
     pub arity: u32,
@@ -67,13 +67,13 @@ pub struct CorePred {
 pub type CorePreds = Series<CorePred>;
 
 /// A program of the core language.
-#[derive(Debug, Drop)]
+#[derive(Drop)]
 pub struct CoreProgram {
     pub preds: CorePreds,
 }
 
 /// A named variable of a goal, and the slot of its last value.
-#[derive(Debug, Drop)]
+#[derive(Drop)]
 pub struct NameSlot {
     pub name: Text,
     pub slot: u32,
@@ -83,7 +83,7 @@ pub struct NameSlot {
 pub type NameSlots = Series<NameSlot>;
 
 /// A goal of the core language, asked of a program, with the predicates that were made for it alone.
-#[derive(Debug, Drop)]
+#[derive(Drop)]
 pub struct CoreQuery {
     pub goal: CoreGoal,
     pub helpers: CorePreds,

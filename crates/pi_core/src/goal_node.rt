@@ -6,7 +6,7 @@ use pi_terms::{Args, Term, Text};
 use std::alloc::{AllocError, Global};
 
 /// A cell of a goal: one node, in prefix order, and the number of nodes of the goal that begins with it.
-#[derive(Debug, Drop)]
+#[derive(Drop)]
 pub struct GoalCell {
     pub kind: GoalKind,
     pub size: usize,
@@ -15,7 +15,7 @@ pub struct GoalCell {
 /// What a node is, with its texts, terms and slots; of `Seq` and `Alt` the number of child goals. It owns its parts and
 /// stays in here; a look lends them as a `GoalNode`, by `node` alone. One generic enum for both would give each lemma over
 /// kinds three types more.
-#[derive(Debug, Drop)]
+#[derive(Drop)]
 pub enum GoalKind {
     True,
     Fail,
@@ -92,7 +92,7 @@ impl GoalKind {
 /// A node of a goal as it is looked at. `Seq` and `Alt` hold the number of their child goals; `Apply` the slot that
 /// takes the function's value; `Collect` the slot that is collected and the slot that takes the list; `Count` the slot
 /// that takes the number.
-#[derive(Clone, Copy, Debug)]
+#[derive(Clone, Copy)]
 pub enum GoalNode<'a> {
     True,
     Fail,

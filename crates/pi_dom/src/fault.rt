@@ -5,7 +5,7 @@ ghost use Rattle.pi_dom.specs.declared.fault.DomFault.TheVariants.{Memory};
 use std::alloc::{AllocError, AllocFailed};
 
 /// Why there is no domain of these values.
-#[derive(Clone, Copy, Debug, PartialEq, Eq)]
+#[derive(Clone, Copy)]
 pub enum DomFault {
     /// A value lies past the bounds of domains.
     TooWide,

@@ -34,7 +34,7 @@ pub struct Machine<'p, S: StateStore> {
 }
 
 /// How much a run keeps beside its store: entries, frames, slots, and values that are collected.
-#[derive(Clone, Copy, Debug, PartialEq, Eq)]
+#[derive(Clone, Copy)]
 pub struct Kept {
     pub entries: usize,
     pub frames: usize,

@@ -5,7 +5,7 @@ ghost use Rattle.pi_expr.specs.declared.fault.ExpFault.TheVariants.{Memory};
 use std::alloc::AllocError;
 
 /// Why tokens have no expression.
-#[derive(Clone, Copy, Debug, PartialEq, Eq)]
+#[derive(Clone, Copy)]
 pub enum ExpFault {
     /// The tokens aren't crowded, and they are no expression.
     NoExpression,

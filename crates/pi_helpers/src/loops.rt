@@ -10,7 +10,7 @@ use pi_terms::Text;
 use std::alloc::{AllocError, Global};
 
 /// The value that stands behind a loop for a name that it keeps.
-#[derive(Clone, Copy, Debug)]
+#[derive(Clone, Copy)]
 pub enum Ending {
     /// As the name has it.
     AsItIs,

@@ -6,7 +6,7 @@ use std::alloc::AllocError;
 
 /// Why a text has no tokens. Among faults that stand together, the earlier one of this list is answered, and of
 /// `BadToken` and `WideInteger` the first in the text. (Own.)
-#[derive(Clone, Copy, Debug, PartialEq, Eq)]
+#[derive(Clone, Copy)]
 pub enum LexFault {
     /// The text has more than 16,777,216 bytes.
     TooLong,

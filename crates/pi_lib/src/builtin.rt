@@ -6,7 +6,7 @@ ghost use Rattle.pi_lib.specs.Names.{kind_of, is_named_by, rows_shown};
 use crate::rows::{FUNCTIONS, PREDICATES, PRELUDE, Row};
 
 /// What a name that is built in names. A User's Guide to Picat, 'Appendix: Predicates and Functions'.
-#[derive(Clone, Copy, Debug, PartialEq, Eq)]
+#[derive(Clone, Copy, PartialEq, Eq)]
 pub enum BuiltinKind {
     /// A predicate that no rules define.
     Predicate,

@@ -6,7 +6,7 @@ use pi_outside::Failed;
 use std::alloc::AllocError;
 
 /// What comes next in an input.
-#[derive(Debug, Drop)]
+#[derive(Drop)]
 pub enum Found {
     /// A line, without its line feed.
     Line(Vec<u8>),
@@ -17,7 +17,7 @@ pub enum Found {
 }
 
 /// Why nothing is found.
-#[derive(Clone, Copy, Debug, PartialEq, Eq)]
+#[derive(Clone, Copy)]
 pub enum LineStop {
     Fault,
     Memory,

@@ -4,14 +4,14 @@ use pi_terms::{Term, Text};
 
 /// Whether a machine runs a query, whose Ticks are counted against its steps, or the body of a planner call, whose Ticks are
 /// work, with so much of the call's limit left: a number from 0.
-#[derive(Clone, Copy, Debug, PartialEq, Eq)]
+#[derive(Clone, Copy)]
 pub enum Mode {
     Top,
     Inner(i128),
 }
 
 /// What a run may still use: Ticks up to `steps`, and work of all kinds up to `limit`.
-#[derive(Clone, Copy, Debug, PartialEq, Eq)]
+#[derive(Clone, Copy)]
 pub struct Budget {
     pub ticks: u64,
     pub steps: u64,
@@ -20,7 +20,7 @@ pub struct Budget {
 }
 
 /// A planner call that a machine waits for: whether a best plan is wanted, the state to start from, the limit.
-#[derive(Debug, Drop)]
+#[derive(Drop)]
 pub struct PlanCall {
     pub best: bool,
     pub start: Term,
@@ -28,7 +28,7 @@ pub struct PlanCall {
 }
 
 /// What comes next in a run. `NeedPlan` doesn't come before there is a planner.
-#[derive(Debug, Drop)]
+#[derive(Drop)]
 pub enum Happening {
     Answer(Answer),
     Out(Text),

@@ -11,7 +11,7 @@ use pi_terms::{Term, TermHead};
 use std::alloc::{AllocError, Global};
 
 /// Why a planner refuses what it is handed.
-#[derive(Debug, Drop)]
+#[derive(Drop)]
 pub enum PlanFault {
     /// A state or an action that holds a variable.
     NotGround(Term),

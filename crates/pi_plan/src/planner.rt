@@ -20,7 +20,7 @@ use std::alloc::{AllocError, Global};
 
 /// What a planner answers: a state that it has to be given, with what is left of the limit there; a plan, as the list of
 /// its actions, with its cost; that there is none; or that no memory is left.
-#[derive(Debug, Drop)]
+#[derive(Drop)]
 pub enum PlanStep {
     Expand(Term, i128),
     Found { plan: Term, cost: i128 },

@@ -2,7 +2,7 @@
 use pi_terms::{Series, Term};
 
 /// An answer of `action`: the state that follows, the action, and its cost.
-#[derive(Debug, Drop)]
+#[derive(Drop)]
 pub struct Successor {
     pub state: Term,
     pub action: Term,
@@ -14,7 +14,7 @@ pub type Successors = Series<Successor>;
 
 /// What was given for a state: what was left of the limit when it was asked for, whether `final` has an answer, and the
 /// answers of `action`.
-#[derive(Debug, Drop)]
+#[derive(Drop)]
 pub struct GivenState {
     pub state: Term,
     pub rest: i128,

@@ -18,7 +18,7 @@ use pi_terms::{Numbers, Term, TermHead};
 use std::alloc::{AllocError, Global};
 
 /// What is still to be written of a term.
-#[derive(Clone, Copy, Debug, PartialEq, Eq)]
+#[derive(Clone, Copy)]
 pub enum Task {
     /// The next term.
     Value,

@@ -5,7 +5,7 @@ ghost use Rattle.pi_propagation.specs.declared.stop.PropStop.TheVariants.{Memory
 use std::alloc::AllocError;
 
 /// A propagation stopped: no run was left in the budget while a constraint was due, or memory was wanted.
-#[derive(Clone, Copy, Debug, PartialEq, Eq)]
+#[derive(Clone, Copy)]
 pub enum PropStop {
     WorkSpent,
     Memory,

@@ -8,7 +8,7 @@ use pi_states::Ref;
 const BIAS: i64 = 1_152_921_504_606_846_976;
 
 /// What a word is by itself: a Ref, or none. The lowest three bits of the number are a tag, the others a number of their own.
-#[derive(Clone, Copy, Debug, PartialEq, Eq)]
+#[derive(Clone, Copy)]
 pub enum Form {
     /// The variable with this number.
     Var(u64),

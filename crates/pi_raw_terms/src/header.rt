@@ -11,7 +11,7 @@ const MOST_ARGS: u64 = 4_294_967_296;
 const MOST_NAMES: u32 = 67_108_864;
 
 /// What a word says of the words below it.
-#[derive(Clone, Copy, Debug, PartialEq, Eq)]
+#[derive(Clone, Copy)]
 pub enum Header {
     Nothing,
     /// They are the arguments of a compound: the number of its name, how many they are, and whether they are ground.

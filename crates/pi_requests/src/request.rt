@@ -11,7 +11,7 @@ pub const MAX_LINE: usize = 16_777_216;
 pub const KEPT_LINE: usize = MAX_LINE + 1;
 
 /// What a line asks.
-#[derive(Clone, Copy, Debug)]
+#[derive(Clone, Copy)]
 pub enum Request<'a> {
     /// Nothing: there is white space alone.
     Nothing,

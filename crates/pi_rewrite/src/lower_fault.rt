@@ -6,7 +6,7 @@ use std::alloc::AllocError;
 use thiserror::Error;
 
 /// Why a program or a goal isn't lowered. What isn't built is told before memory is wanted (own).
-#[derive(Clone, Copy, Debug, PartialEq, Eq, Error)]
+#[derive(Clone, Copy, Debug, Error)]
 pub enum LowerFault {
     /// The part has what isn't built. Parts are counted from 1; a goal is one part.
     #[error("part {number} is not built")]

@@ -6,7 +6,7 @@ use pi_terms::Text;
 use std::alloc::{AllocError, Global};
 
 /// Makes the names of helpers: each is what all begin with, and then the digits of the helper's number.
-#[derive(Debug, Drop)]
+#[derive(Drop)]
 pub struct Naming {
     pub prefix: Text,
 }

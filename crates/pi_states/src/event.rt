@@ -7,7 +7,7 @@ use std::alloc::{AllocError, Global};
 
 /// An event that an agent waits for: the term that stands for the event's variable, then the slot that the event's value
 /// takes. A User's Guide to Picat, 'Action Rules'.
-#[derive(Clone, Copy, Debug, PartialEq, Eq)]
+#[derive(Clone, Copy)]
 pub enum Watch {
     Ins(Ref),
     Bound(Ref),
@@ -20,7 +20,7 @@ pub enum Watch {
 pub type Watches = Series<Watch>;
 
 /// What happened to a variable, which is named by its number.
-#[derive(Debug, Drop)]
+#[derive(Drop)]
 pub enum Event {
     /// It is an integer, an atom or a compound now.
     Ins(u64),
@@ -38,7 +38,7 @@ pub type Events = Series<Event>;
 
 /// A run of an agent's rule that waits: the agent, the number of the event that it waited for among its events, and the
 /// event's value.
-#[derive(Debug, Drop)]
+#[derive(Drop)]
 pub struct Activation {
     pub agent: u64,
     pub watch: u64,
@@ -66,7 +66,7 @@ impl Activation {
 pub type Activations = Series<Activation>;
 
 /// An agent that is alive: its call, and the number of the rule that applied.
-#[derive(Clone, Copy, Debug, PartialEq, Eq)]
+#[derive(Clone, Copy)]
 pub struct AgentView {
     pub call: Ref,
     pub rule: u64,

@@ -13,14 +13,14 @@ use std::alloc::{AllocError, Global};
 
 /// The number of a term in a store. A store is safe whatever it is handed; what it answers is said for a `Ref` that it
 /// gave and that no `undo` has taken back since.
-#[derive(Clone, Copy, Debug, PartialEq, Eq)]
+#[derive(Clone, Copy)]
 pub struct Ref {
     pub number: u64,
 }
 
 /// What a term of a store is at its root, with bindings followed: the number of an unbound variable, an integer, the
 /// number of an atom, or the number of a compound's name and the number of its arguments.
-#[derive(Clone, Copy, Debug, PartialEq, Eq)]
+#[derive(Clone, Copy, PartialEq, Eq)]
 pub enum Cell {
     Var(u64),
     Int(i128),
@@ -29,7 +29,7 @@ pub enum Cell {
 }
 
 /// Why a term wasn't read: it has more than 16,777,216 cells, or memory was wanted.
-#[derive(Clone, Copy, Debug, PartialEq, Eq)]
+#[derive(Clone, Copy)]
 pub enum ReadStop {
     TooLarge,
     Memory,

@@ -12,7 +12,7 @@ use pi_states::StateStore;
 use std::alloc::AllocError;
 
 /// A call that is made: its predicate, where its block begins, and the frame to go on with.
-#[derive(Clone, Copy, Debug)]
+#[derive(Clone, Copy)]
 pub struct Call {
     pub predicate: u32,
     pub base: usize,

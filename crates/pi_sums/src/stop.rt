@@ -1,7 +1,7 @@
 //! Why a sum isn't made.
 
 /// Why a sum isn't made.
-#[derive(Clone, Copy, Debug, PartialEq, Eq)]
+#[derive(Clone, Copy)]
 pub enum SumStop {
     /// A coefficient or the constant needs more than 128 bits.
     Wide,

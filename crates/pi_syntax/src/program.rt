@@ -31,7 +31,7 @@ pub enum Clause {
 }
 
 /// A place of a mode list: `+` for one that is ground in a call, `-` for any.
-#[derive(Clone, Copy, Debug, PartialEq, Eq)]
+#[derive(Clone, Copy, Debug)]
 pub enum Mode {
     Plus,
     Minus,
@@ -62,13 +62,13 @@ pub struct Part {
 pub type Parts = Series<Part>;
 
 /// A program as it is written.
-#[derive(Debug, Drop)]
+#[derive(Drop)]
 pub struct Program {
     pub parts: Parts,
 }
 
 /// A goal as it is written.
-#[derive(Debug, Drop)]
+#[derive(Drop)]
 pub struct Goal {
     pub body: Exp,
 }

@@ -6,7 +6,7 @@ use std::alloc::{AllocError, Global};
 use std::marker::Model;
 
 /// The arguments of a call, from the left. A contract sees the list of their trees.
-#[derive(Debug, Drop)]
+#[derive(Drop)]
 pub struct Args {
     terms: Vec<Term>,
 }

@@ -11,7 +11,7 @@ use std::alloc::{AllocError, Global};
 use std::marker::Model;
 
 /// A cell of a term: one node, in prefix order.
-#[derive(Debug, Drop)]
+#[derive(Drop)]
 pub enum TermCell {
     Var(u64),
     Int(i128),
@@ -61,7 +61,7 @@ impl TermCell {
 
 /// What a term is at its root: the number of a variable, an integer, the name of an atom, or the name of a compound and
 /// the number of its arguments.
-#[derive(Clone, Copy, Debug)]
+#[derive(Clone, Copy)]
 pub enum TermHead<'a> {
     Var(u64),
     Int(i128),
@@ -71,7 +71,7 @@ pub enum TermHead<'a> {
 
 /// A term as it is written down and handed from layer to layer: one flat vector of cells in prefix order, which a
 /// contract sees as a tree.
-#[derive(Debug, Drop)]
+#[derive(Drop)]
 pub struct Term {
     cells: Vec<TermCell>,
 }

@@ -15,7 +15,7 @@ pub const MAX_TEXT: usize = 16_777_216;
 const PIECE: usize = 65_536;
 
 /// Why a file wasn't read.
-#[derive(Clone, Copy, Debug, PartialEq, Eq)]
+#[derive(Clone, Copy)]
 pub enum FileStop {
     Fault,
     Memory,

@@ -14,14 +14,14 @@ use pi_syntax::{Goal, Program};
 use std::alloc::{AllocError, Global};
 
 /// A goal that is asked of a program, both in the core language, or the line that says why none is.
-#[derive(Debug, Drop)]
+#[derive(Drop)]
 pub(crate) enum Judged {
     Asks { core: CoreProgram, query: CoreQuery },
     Refused(String),
 }
 
 /// Why a text isn't read: the line of its fault, or want of memory.
-#[derive(Debug, Drop)]
+#[derive(Drop)]
 pub(crate) enum Refusal {
     Line(String),
     Memory,

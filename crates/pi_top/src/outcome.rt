@@ -3,7 +3,7 @@ use pi_answers::{CallLog, EnteredCalls, Work};
 use pi_terms::Series;
 
 /// A goal that was run: the Ticks and the work that it took, and how many planner calls were done and begun before it.
-#[derive(Clone, Copy, Debug, PartialEq, Eq)]
+#[derive(Clone, Copy)]
 pub struct QueryRun {
     pub ticks: u64,
     pub work: Work,
@@ -15,7 +15,7 @@ pub struct QueryRun {
 pub type Queries = Series<QueryRun>;
 
 /// What a run of picatq comes to, beside the bytes that it wrote.
-#[derive(Debug, Drop)]
+#[derive(Drop)]
 pub struct Outcome {
     /// The status with which the program ends: see docs/CAUSES.md.
     pub status: u8,

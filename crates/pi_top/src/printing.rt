@@ -16,7 +16,7 @@ use pi_terms::Text;
 use std::alloc::{AllocError, Global};
 
 /// What a program's text is printed as, or the line that says why it is no program.
-#[derive(Debug, Drop)]
+#[derive(Drop)]
 pub(crate) enum Printed {
     Canonical(Text),
     Refused(String),

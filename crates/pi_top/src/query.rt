@@ -34,7 +34,7 @@ use pi_terms::Term;
 use std::alloc::{AllocError, Global};
 
 /// What ends a run without a line of its own.
-#[derive(Clone, Copy, Debug, PartialEq, Eq)]
+#[derive(Clone, Copy)]
 pub enum Stop {
     Write,
     Memory,

@@ -3,7 +3,7 @@ ghost use Rattle.std.specs.Prelude.{◌≡◌, ◌<◌, ◌^◌};
 ghost use Rattle.pi_trail.specs.Entry.{data_of, value_of, word_of, entry_of, table_of, change_of, table_number, change_number};
 
 /// A table beside the region.
-#[derive(Clone, Copy, Debug, PartialEq, Eq)]
+#[derive(Clone, Copy)]
 pub enum Table {
     Variables,
     Constraints,
@@ -14,7 +14,7 @@ pub enum Table {
 
 /// What happened to a table: it got one more word, another word in place of a zero, or another word in place of one
 /// that isn't zero.
-#[derive(Clone, Copy, Debug, PartialEq, Eq)]
+#[derive(Clone, Copy)]
 pub enum Change {
     Pushed,
     Filled,
@@ -22,7 +22,7 @@ pub enum Change {
 }
 
 /// The last word of an entry: the place behind the entry before it, the table, and what happened to it.
-#[derive(Clone, Copy, Debug, PartialEq, Eq)]
+#[derive(Clone, Copy)]
 pub struct Entry {
     pub link: u64,
     pub table: Table,

@@ -13,7 +13,7 @@ use pi_terms::Text;
 use std::alloc::{AllocError, Global};
 
 /// What a command line asks.
-#[derive(Debug, Drop)]
+#[derive(Drop)]
 pub struct Options {
     /// How many answers are asked for.
     pub answers: u64,

@@ -5,7 +5,7 @@ ghost use Rattle.pi_words.specs.Words as spec;
 use crate::numbers::places_by;
 
 /// What picatq does with a program.
-#[derive(Clone, Copy, Debug, PartialEq, Eq)]
+#[derive(Clone, Copy)]
 pub enum RunMode {
     /// Asks a goal.
     Query,

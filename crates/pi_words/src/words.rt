@@ -12,7 +12,7 @@ use clap::error::{Error, ErrorKind};
 use std::alloc::{AllocError, Global};
 
 /// Why words aren't read.
-#[derive(Clone, Copy, Debug, PartialEq, Eq)]
+#[derive(Clone, Copy)]
 pub enum WordsFault {
     /// They aren't those of a command line.
     NoRecord,
