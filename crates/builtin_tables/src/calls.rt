@@ -8,15 +8,15 @@ use pi_types::{Cell, Ref, StateStore, Term, Text, TreeStore};
 use store_tables::{Bench, raw_store, show, take_store_step, tell_read};
 
 /// Tells what the steps of a case show, taken on a `TreeStore`, and where the same steps on a `RawStore` show something else, that too.
-pub fn answer(case: &mut Case<'_>) {
-    let mut raw = case.again();
-    take_all(&mut raw, raw_store(case.alloc));
+pub fn answer(case: &Case<'_>) {
+    let raw = case.again();
+    take_all(&raw, raw_store(case.alloc));
     answer_copying(case);
     case.tell_raw(&raw);
 }
 
 /// The same on a `TreeStore` alone: terms of the most cells take their time once.
-pub fn answer_copying(case: &mut Case<'_>) {
+pub fn answer_copying(case: &Case<'_>) {
     let store = TreeStore::new(case.alloc);
     if let Some(store) = case.made(store) {
         take_all(case, store);
@@ -24,12 +24,12 @@ pub fn answer_copying(case: &mut Case<'_>) {
 }
 
 /// The same on any store.
-fn take_all<S: StateStore>(case: &mut Case<'_>, store: S) {
+fn take_all<S: StateStore>(case: &Case<'_>, store: S) {
     let mut bench = Bench::new(case.alloc, store);
     take_steps(case, &mut bench);
 }
 
-fn take_steps<S: StateStore>(case: &mut Case<'_>, bench: &mut Bench<S>) {
+fn take_steps<S: StateStore>(case: &Case<'_>, bench: &mut Bench<S>) {
     for _ in 0..case.steps() {
         let name = case.take_word();
         match name {
@@ -42,7 +42,7 @@ fn take_steps<S: StateStore>(case: &mut Case<'_>, bench: &mut Bench<S>) {
 }
 
 /// Takes a call of a function, and shows its value.
-fn take_function<S: StateStore>(case: &mut Case<'_>, bench: &mut Bench<S>) {
+fn take_function<S: StateStore>(case: &Case<'_>, bench: &mut Bench<S>) {
     let call = bench.take(case);
     let args = arguments(case, &bench.store, call);
     let Some(name) = function_name(case, &bench.store, call) else {
@@ -61,7 +61,7 @@ fn take_function<S: StateStore>(case: &mut Case<'_>, bench: &mut Bench<S>) {
 }
 
 /// Takes a call of a predicate, and shows what it comes to.
-fn take_predicate<S: StateStore>(case: &mut Case<'_>, bench: &mut Bench<S>) {
+fn take_predicate<S: StateStore>(case: &Case<'_>, bench: &mut Bench<S>) {
     let call = bench.take(case);
     match run_predicate(case.alloc, &mut bench.store, call) {
         LibStep::Yes => show(case, "yes"),
@@ -75,13 +75,13 @@ fn take_predicate<S: StateStore>(case: &mut Case<'_>, bench: &mut Bench<S>) {
     }
 }
 
-fn show_ball(case: &mut Case<'_>, ball: &Term) {
+fn show_ball(case: &Case<'_>, ball: &Term) {
     show(case, "raised ");
     case.tell_term(ball);
 }
 
 /// The name of a call, where it is that of a function.
-fn function_name<S: StateStore>(case: &mut Case<'_>, store: &S, call: Ref) -> Option<Text> {
+fn function_name<S: StateStore>(case: &Case<'_>, store: &S, call: Ref) -> Option<Text> {
     let Cell::Comp(name, count) = store.look(call) else {
         return None;
     };
@@ -94,7 +94,7 @@ fn function_name<S: StateStore>(case: &mut Case<'_>, store: &S, call: Ref) -> Op
     }
 }
 
-fn arguments<S: StateStore>(case: &mut Case<'_>, store: &S, call: Ref) -> Vec<Ref> {
+fn arguments<S: StateStore>(case: &Case<'_>, store: &S, call: Ref) -> Vec<Ref> {
     let mut args = Vec::new(case.alloc);
     if let Cell::Comp(_, count) = store.look(call) {
         for i in 0..count {

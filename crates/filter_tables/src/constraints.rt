@@ -6,7 +6,7 @@ use pi_cases::{Case, Node, node_of};
 use pi_constraints::{Constraint, Item, Items, LinTerms, Rel};
 
 /// Takes a constraint, whose kind was taken.
-pub(crate) fn take_constraint(case: &mut Case<'_>, kind: &str) -> Option<Constraint> {
+pub(crate) fn take_constraint(case: &Case<'_>, kind: &str) -> Option<Constraint> {
     let constraint = match kind {
         "linear" => Constraint::Linear {
             rel: take_rel(case),
@@ -41,7 +41,7 @@ pub(crate) fn take_constraint(case: &mut Case<'_>, kind: &str) -> Option<Constra
 }
 
 /// Takes how a sum stands to 0.
-fn take_rel(case: &mut Case<'_>) -> Rel {
+fn take_rel(case: &Case<'_>) -> Rel {
     match case.take_word() {
         "=" => Rel::Equal,
         "!=" => Rel::Unequal,
@@ -54,7 +54,7 @@ fn take_rel(case: &mut Case<'_>) -> Rel {
 }
 
 /// Takes the terms of a sum: each is its coefficient and then its variable.
-fn take_terms(case: &mut Case<'_>) -> LinTerms {
+fn take_terms(case: &Case<'_>) -> LinTerms {
     let mut terms = Vec::new(case.alloc);
     for _ in 0..case.left() / 2 {
         let coefficient = case.take_integer();
@@ -65,7 +65,7 @@ fn take_terms(case: &mut Case<'_>) -> LinTerms {
 }
 
 /// Takes a variable.
-fn take_variable(case: &mut Case<'_>) -> u64 {
+fn take_variable(case: &Case<'_>) -> u64 {
     match take_item(case) {
         Item::Var(variable) => variable,
         Item::Int(_) => {
@@ -76,7 +76,7 @@ fn take_variable(case: &mut Case<'_>) -> u64 {
 }
 
 /// Takes the items that are left.
-fn take_items(case: &mut Case<'_>) -> Items {
+fn take_items(case: &Case<'_>) -> Items {
     let mut items = Vec::new(case.alloc);
     for _ in 0..case.left() {
         let item = take_item(case);
@@ -86,7 +86,7 @@ fn take_items(case: &mut Case<'_>) -> Items {
 }
 
 /// Takes an item: `_7`, or an integer.
-fn take_item(case: &mut Case<'_>) -> Item {
+fn take_item(case: &Case<'_>) -> Item {
     match node_of(case.take_word()) {
         Node::Var(variable) => Item::Var(variable),
         Node::Int(n) => Item::Int(integer(case, n)),
@@ -98,7 +98,7 @@ fn take_item(case: &mut Case<'_>) -> Item {
 }
 
 /// The integer of an item.
-fn integer(case: &mut Case<'_>, n: i128) -> i64 {
+fn integer(case: &Case<'_>, n: i128) -> i64 {
     match i64::try_from(n) {
         Ok(n) => n,
         Err(_) => {

@@ -7,7 +7,7 @@ mod filters;
 use pi_cases::Case;
 
 /// Answers a case of filters, and tells whether the subject is one of such cases.
-pub fn answer_words(subject: &str, case: &mut Case<'_>) -> bool {
+pub fn answer_words(subject: &str, case: &Case<'_>) -> bool {
     let is_filters = subject == "filters";
     if is_filters {
         filters::answer(case);

@@ -2,16 +2,18 @@
 
 use crate::fault::Problem;
 use std::alloc::Global;
+use std::cell::Cell;
 
-/// A case that is answered. Its first fault stays; what is taken behind it is 0 or nothing, and counts for nothing.
+/// A case that is answered. Its first fault stays; what is taken behind it is 0 or nothing, and counts for nothing. What changes of it stands in
+/// cells, so that it is lent to whatever takes of it and tells.
 #[derive(Drop)]
 pub struct Case<'a> {
     pub alloc: Global,
     pub(crate) words: &'a [&'a str],
     /// How many words were taken.
-    pub(crate) at: usize,
-    pub(crate) answer: String,
-    problem: Option<Problem>,
+    at: Cell<usize>,
+    answer: Cell<String>,
+    problem: Cell<Option<Problem>>,
 }
 
 impl<'a> Case<'a> {
@@ -20,9 +22,9 @@ impl<'a> Case<'a> {
         Case {
             alloc,
             words,
-            at: 0,
-            answer: String::new(alloc),
-            problem: None,
+            at: Cell::new(0),
+            answer: Cell::new(String::new(alloc)),
+            problem: Cell::new(None),
         }
     }
 
@@ -31,32 +33,52 @@ impl<'a> Case<'a> {
         Case::new(self.alloc, self.ahead())
     }
 
+    /// How many words were taken.
+    pub(crate) fn taken(&self) -> usize {
+        self.at.get()
+    }
+
+    /// Passes over so many words.
+    pub(crate) fn pass(&self, count: usize) {
+        self.at.set(self.taken().saturating_add(count));
+    }
+
+    /// Takes out what is told so far; nothing is told then.
+    pub(crate) fn take_answer(&self) -> String {
+        self.answer.replace(String::new(self.alloc))
+    }
+
+    /// Puts back what is told so far, of which nothing was told in the meantime.
+    pub(crate) fn put_answer(&self, answer: String) {
+        self.answer.set(answer);
+    }
+
     /// The first fault so far.
     pub fn problem(&self) -> Option<Problem> {
-        self.problem
+        self.problem.get()
     }
 
     /// Notes a fault.
-    pub fn fail(&mut self, problem: Problem) {
-        if self.problem.is_none() {
-            self.problem = Some(problem);
+    pub fn fail(&self, problem: Problem) {
+        if self.problem().is_none() {
+            self.problem.set(Some(problem));
         }
     }
 
     /// Notes what the case lacks.
-    pub fn lacks(&mut self, what: &'static str) {
+    pub fn lacks(&self, what: &'static str) {
         self.fail(Problem::Lacks(what));
     }
 
     /// Notes that memory was wanted, where something failed that fails for that alone.
-    pub fn done<T: Drop, E: Drop>(&mut self, done: Result<T, E>) {
+    pub fn done<T: Drop, E: Drop>(&self, done: Result<T, E>) {
         if done.is_err() {
             self.fail(Problem::Memory);
         }
     }
 
     /// What was made by something that fails for want of memory alone.
-    pub fn made<T: Drop, E: Drop>(&mut self, made: Result<T, E>) -> Option<T> {
+    pub fn made<T: Drop, E: Drop>(&self, made: Result<T, E>) -> Option<T> {
         match made {
             Ok(made) => Some(made),
             Err(_) => {
@@ -67,7 +89,7 @@ impl<'a> Case<'a> {
     }
 
     /// Puts what was made, if anything, behind the others.
-    pub fn keep<T: Drop>(&mut self, made: Option<T>, kept: &mut Vec<T>) {
+    pub fn keep<T: Drop>(&self, made: Option<T>, kept: &mut Vec<T>) {
         if let Some(made) = made {
             let kept = kept.push(made);
             self.done(kept);
@@ -75,7 +97,7 @@ impl<'a> Case<'a> {
     }
 
     /// Takes the newest thing off a stack.
-    pub fn one<T: Drop>(&mut self, stack: &mut Vec<T>) -> Option<T> {
+    pub fn one<T: Drop>(&self, stack: &mut Vec<T>) -> Option<T> {
         let found = stack.pop();
         if found.is_none() {
             self.lacks("one more argument");
@@ -84,7 +106,7 @@ impl<'a> Case<'a> {
     }
 
     /// Takes so many things off a stack, the newest first.
-    pub fn several<T: Drop>(&mut self, stack: &mut Vec<T>, count: usize) -> Vec<T> {
+    pub fn several<T: Drop>(&self, stack: &mut Vec<T>, count: usize) -> Vec<T> {
         let mut found = Vec::new(self.alloc);
         if count > stack.len() {
             self.lacks("more arguments");

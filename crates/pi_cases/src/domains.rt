@@ -9,7 +9,7 @@ use pi_types::{Domain, Span, VarDomain};
 const MOST: i128 = 1_000;
 
 /// The domain of spans or values.
-pub fn spans_of(case: &mut Case<'_>, words: &[&str]) -> Option<Domain> {
+pub fn spans_of(case: &Case<'_>, words: &[&str]) -> Option<Domain> {
     let mut values = Vec::new(case.alloc);
     for word in words {
         push_values(case, word, &mut values);
@@ -23,7 +23,7 @@ pub fn spans_of(case: &mut Case<'_>, words: &[&str]) -> Option<Domain> {
 }
 
 /// Appends the values of a span or the one value that a word is.
-fn push_values(case: &mut Case<'_>, word: &str, values: &mut Vec<i128>) {
+fn push_values(case: &Case<'_>, word: &str, values: &mut Vec<i128>) {
     let (lo, hi) = word.split_once("..").unwrap_or((word, word));
     let lo = case.integer_of(lo);
     let hi = case.integer_of(hi);
@@ -36,7 +36,7 @@ fn push_values(case: &mut Case<'_>, word: &str, values: &mut Vec<i128>) {
 }
 
 /// Writes the spans of a domain, each behind a blank.
-pub fn tell_domain(domain: &Domain, case: &mut Case<'_>) {
+pub fn tell_domain(domain: &Domain, case: &Case<'_>) {
     for span in domain.spans() {
         case.tell_character(' ');
         tell_span(span, case);
@@ -44,14 +44,14 @@ pub fn tell_domain(domain: &Domain, case: &mut Case<'_>) {
 }
 
 /// Writes a span.
-pub fn tell_span(span: &Span, case: &mut Case<'_>) {
+pub fn tell_span(span: &Span, case: &Case<'_>) {
     case.tell_integer(i128::from(span.lo));
     case.tell("..");
     case.tell_integer(i128::from(span.hi));
 }
 
 /// Writes the domains that an answer tells, each behind the number of its variable.
-pub fn tell_domains(domains: &[VarDomain], case: &mut Case<'_>) {
+pub fn tell_domains(domains: &[VarDomain], case: &Case<'_>) {
     for told in domains {
         case.tell(" with ");
         case.tell_variable(told.var);

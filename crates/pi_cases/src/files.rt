@@ -29,10 +29,10 @@ const RIGHT: u8 = 0;
 /// What answers the cases of a program's files.
 pub trait Subjects<R> {
     /// Answers a case that is a text, and tells whether the subject is one of such cases.
-    fn answer_text(&mut self, rt: &R, subject: &str, line: &str, case: &mut Case<'_>) -> bool;
+    fn answer_text(&mut self, rt: &R, subject: &str, line: &str, case: &Case<'_>) -> bool;
 
     /// Answers a case of words in a file with this text, and tells whether the subject is one of such cases.
-    fn answer_words(&mut self, rt: &R, subject: &str, text: &str, case: &mut Case<'_>) -> bool;
+    fn answer_words(&mut self, rt: &R, subject: &str, text: &str, case: &Case<'_>) -> bool;
 }
 
 /// Reads the files that the words behind the program's name tell, and writes each case with what it gives, up to the first fault.
@@ -132,8 +132,8 @@ fn run_line<R: Print + AllocGlobal, S: Subjects<R>>(
     if line.starts_with(GIVEN) {
         return failed(rt.println(line));
     }
-    let mut case = Case::new(rt.alloc(), &[]);
-    if subjects.answer_text(rt, subject, line, &mut case) {
+    let case = Case::new(rt.alloc(), &[]);
+    if subjects.answer_text(rt, subject, line, &case) {
         return write_case(rt, line, &case);
     }
     run_words(rt, subjects, subject, text, line)
@@ -151,8 +151,8 @@ fn run_words<R: Print + AllocGlobal, S: Subjects<R>>(
         Ok(words) => words,
         Err(problem) => return Some(problem),
     };
-    let mut case = Case::new(rt.alloc(), words.as_slice());
-    if !subjects.answer_words(rt, subject, text, &mut case) {
+    let case = Case::new(rt.alloc(), words.as_slice());
+    if !subjects.answer_words(rt, subject, text, &case) {
         case.lacks("a subject in front of the file's first dot");
     }
     case.take_end();
@@ -164,7 +164,8 @@ fn write_case<R: Print>(rt: &R, line: &str, case: &Case<'_>) -> Option<Problem> 
     if case.problem().is_some() {
         return case.problem();
     }
-    let answer = case.told();
+    let answer = case.take_answer();
+    let answer = answer.as_str();
     let count = answer.chars().count();
     if count <= MOST {
         failed(println!(rt; "{line}  =>  {answer}"))

@@ -6,41 +6,41 @@ use crate::words::STEP;
 impl<'a> Case<'a> {
     /// The next word, which stays; an empty one where a step ends.
     pub fn peek(&self) -> &'a str {
-        match self.words.get(self.at) {
+        match self.words.get(self.taken()) {
             Some(word) if *word != STEP => *word,
             _ => "",
         }
     }
 
     /// Takes the next word, which is to be there.
-    pub fn take_word(&mut self) -> &'a str {
+    pub fn take_word(&self) -> &'a str {
         let word = self.peek();
         if word.is_empty() {
             self.lacks("one more word");
         } else {
-            self.at = self.at.saturating_add(1);
+            self.pass(1);
         }
         word
     }
 
     /// Takes the next word where it is this one, and tells whether it is.
-    pub fn skip(&mut self, word: &str) -> bool {
+    pub fn skip(&self, word: &str) -> bool {
         let is_next = self.peek() == word;
         if is_next {
-            self.at = self.at.saturating_add(1);
+            self.pass(1);
         }
         is_next
     }
 
     /// Takes the next word, which is to be this one.
-    pub fn expect(&mut self, word: &str) {
+    pub fn expect(&self, word: &str) {
         if !self.skip(word) {
             self.lacks("another word at some place");
         }
     }
 
     /// Takes the next word, which is to be a number.
-    pub fn take_number(&mut self) -> u64 {
+    pub fn take_number(&self) -> u64 {
         match self.take_word().parse() {
             Ok(number) => number,
             Err(_) => {
@@ -51,18 +51,18 @@ impl<'a> Case<'a> {
     }
 
     /// Takes the next word, which is to be a number of things or an index.
-    pub fn take_count(&mut self) -> usize {
+    pub fn take_count(&self) -> usize {
         self.take_number() as usize
     }
 
     /// Takes the next word, which is to be an integer.
-    pub fn take_integer(&mut self) -> i128 {
+    pub fn take_integer(&self) -> i128 {
         let word = self.take_word();
         self.integer_of(word)
     }
 
     /// The integer that a word is.
-    pub fn integer_of(&mut self, word: &str) -> i128 {
+    pub fn integer_of(&self, word: &str) -> i128 {
         match word.parse() {
             Ok(integer) => integer,
             Err(_) => {
@@ -73,13 +73,13 @@ impl<'a> Case<'a> {
     }
 
     /// Takes the number of a slot.
-    pub fn take_slot(&mut self) -> u32 {
+    pub fn take_slot(&self) -> u32 {
         let word = self.take_word();
         self.slot_of(word)
     }
 
     /// The number of a slot that a word is.
-    pub fn slot_of(&mut self, word: &str) -> u32 {
+    pub fn slot_of(&self, word: &str) -> u32 {
         match word.parse() {
             Ok(slot) => slot,
             Err(_) => {
@@ -91,7 +91,7 @@ impl<'a> Case<'a> {
 
     /// The words that are left, those of later steps among them.
     pub(crate) fn ahead(&self) -> &'a [&'a str] {
-        self.words.get(self.at..).unwrap_or(&[])
+        self.words.get(self.taken()..).unwrap_or(&[])
     }
 
     /// How many words of the step are left.
@@ -100,17 +100,17 @@ impl<'a> Case<'a> {
     }
 
     /// Takes so many words of the step, which are to be there.
-    pub fn take_words(&mut self, count: usize) -> &'a [&'a str] {
+    pub fn take_words(&self, count: usize) -> &'a [&'a str] {
         let taken = self.ahead().get(..count).unwrap_or(&[]);
         if count > self.left() {
             self.lacks("more words");
         }
-        self.at = self.at.saturating_add(taken.len());
+        self.pass(taken.len());
         taken
     }
 
     /// Takes the words of the step that are left.
-    pub fn take_rest(&mut self) -> &'a [&'a str] {
+    pub fn take_rest(&self) -> &'a [&'a str] {
         let count = self.left();
         self.take_words(count)
     }
@@ -126,7 +126,7 @@ impl<'a> Case<'a> {
     }
 
     /// Takes the words of the step before a mark, and the mark, which may be missing at the end.
-    pub fn take_until(&mut self, mark: &str) -> &'a [&'a str] {
+    pub fn take_until(&self, mark: &str) -> &'a [&'a str] {
         let count = self.before(mark);
         let part = self.take_words(count);
         self.skip(mark);
@@ -145,16 +145,16 @@ impl<'a> Case<'a> {
     }
 
     /// Takes the end of a step, behind which there is another one or nothing.
-    pub fn take_step_end(&mut self) {
+    pub fn take_step_end(&self) {
         if self.left() > 0 {
             self.lacks("no words behind the end of a step");
         }
-        self.at = self.at.saturating_add(1);
+        self.pass(1);
     }
 
     /// Is to find no word left.
-    pub fn take_end(&mut self) {
-        if self.at < self.words.len() {
+    pub fn take_end(&self) {
+        if self.taken() < self.words.len() {
             self.lacks("no words behind its end");
         }
     }

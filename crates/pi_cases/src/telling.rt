@@ -6,88 +6,101 @@ use std::fmt;
 
 impl Case<'_> {
     /// Writes a text.
-    pub fn tell(&mut self, text: &str) {
-        let done = self.answer.push_str(text);
+    pub fn tell(&self, text: &str) {
+        let mut answer = self.take_answer();
+        let done = answer.push_str(text);
+        self.put_answer(answer);
+        self.done(done);
+    }
+
+    /// Writes what can be shown.
+    pub fn tell_shown<T: fmt::Display + Drop>(&self, shown: T) {
+        let mut answer = self.take_answer();
+        let done = write!(answer, "{shown}");
+        self.put_answer(answer);
         self.done(done);
     }
 
     /// Writes a character.
-    pub fn tell_character(&mut self, c: char) {
-        let done = self.answer.push(c);
-        self.done(done);
+    pub fn tell_character(&self, c: char) {
+        self.tell_shown(c);
     }
 
     /// Writes a number.
-    pub fn tell_number(&mut self, number: u64) {
-        let done = write!(self.answer, "{number}");
-        self.done(done);
+    pub fn tell_number(&self, number: u64) {
+        self.tell_shown(number);
     }
 
     /// Writes a number of things or an index.
-    pub fn tell_count(&mut self, count: usize) {
-        self.tell_number(count as u64);
+    pub fn tell_count(&self, count: usize) {
+        self.tell_shown(count);
     }
 
     /// Writes an integer.
-    pub fn tell_integer(&mut self, integer: i128) {
-        let done = write!(self.answer, "{integer}");
-        self.done(done);
+    pub fn tell_integer(&self, integer: i128) {
+        self.tell_shown(integer);
     }
 
     /// Writes whether something holds.
-    pub fn tell_whether(&mut self, holds: bool) {
+    pub fn tell_whether(&self, holds: bool) {
         self.tell(if holds { "yes" } else { "no" });
     }
 
-    /// Writes what can be shown.
-    pub fn tell_shown<T: fmt::Display + Drop>(&mut self, shown: T) {
-        let done = write!(self.answer, "{shown}");
-        self.done(done);
+    /// How many bytes are told so far.
+    pub fn told(&self) -> usize {
+        let answer = self.take_answer();
+        let count = answer.len();
+        self.put_answer(answer);
+        count
     }
 
-    /// What is told so far.
-    pub fn told(&self) -> &str {
-        self.answer.as_str()
+    /// Whether this text is told from a place on.
+    fn tells(&self, from: usize, text: &str) -> bool {
+        let answer = self.take_answer();
+        let is_told = answer.as_str().get(from..) == Some(text);
+        self.put_answer(answer);
+        is_told
     }
 
     /// Writes what another case tells, where it isn't what this one tells from a place on.
-    pub fn tell_change(&mut self, from: usize, other: &Case<'_>) {
-        let told = self.answer.as_str().get(from..).unwrap_or("");
-        if told != other.answer.as_str() {
+    pub fn tell_change(&self, from: usize, other: &Case<'_>) {
+        let other = other.take_answer();
+        if !self.tells(from, other.as_str()) {
             self.tell(" and then ");
-            self.tell(other.answer.as_str());
+            self.tell(other.as_str());
         }
     }
 
     /// Writes what this case tells over the raw store, where that is something else, and notes its fault. That they differ stands at the end too, which is
     /// told of a long answer.
-    pub fn tell_raw(&mut self, raw: &Case<'_>) {
+    pub fn tell_raw(&self, raw: &Case<'_>) {
         if let Some(problem) = raw.problem() {
             self.fail(problem);
         }
-        if self.answer.as_str() != raw.answer.as_str() {
+        let answer = raw.take_answer();
+        if !self.tells(0, answer.as_str()) {
             self.tell(" BUT OVER THE RAW STORE ");
-            self.tell(raw.answer.as_str());
+            self.tell(answer.as_str());
             self.tell(", NOT THE SAME");
         }
     }
 
     /// Writes what stands between things, in front of each but the first one, whose number is 0.
-    pub fn tell_between(&mut self, i: usize, between: &str) {
+    pub fn tell_between(&self, i: usize, between: &str) {
         if i > 0 {
             self.tell(between);
         }
     }
 
     /// Writes what stands between answers, where this isn't the first one.
-    pub fn begin(&mut self, between: &str) {
-        if !self.answer.is_empty() {
+    pub fn begin(&self, between: &str) {
+        if self.told() > 0 {
             self.tell(between);
         }
     }
 
     /// Writes a name as a word.
-    pub fn tell_name(&mut self, name: &str) {
+    pub fn tell_name(&self, name: &str) {
         if is_plain(name) {
             return self.tell(name);
         }
@@ -103,14 +116,14 @@ impl Case<'_> {
     }
 
     /// Writes a text whose `\`, tabs and line feeds are escaped.
-    pub fn tell_escaped(&mut self, text: &str) {
+    pub fn tell_escaped(&self, text: &str) {
         for c in text.chars() {
             self.tell_escaped_character(c);
         }
     }
 
     /// Writes a character, escaped where it is a `\`, a tab or a line feed.
-    pub fn tell_escaped_character(&mut self, c: char) {
+    pub fn tell_escaped_character(&self, c: char) {
         match c {
             '\n' => self.tell("\\n"),
             '\t' => self.tell("\\t"),
@@ -120,7 +133,7 @@ impl Case<'_> {
     }
 
     /// Writes bytes on one line: each that is no visible sign of ASCII as `\xff`.
-    pub fn tell_bytes(&mut self, bytes: &[u8]) {
+    pub fn tell_bytes(&self, bytes: &[u8]) {
         for byte in bytes {
             match byte {
                 b'!'..=b'~' => self.tell_character(char::from(*byte)),
@@ -130,8 +143,10 @@ impl Case<'_> {
     }
 
     /// Writes a byte as `\xff`.
-    fn tell_byte(&mut self, byte: u8) {
-        let done = write!(self.answer, "\\x{byte:02x}");
+    fn tell_byte(&self, byte: u8) {
+        let mut answer = self.take_answer();
+        let done = write!(answer, "\\x{byte:02x}");
+        self.put_answer(answer);
         self.done(done);
     }
 }

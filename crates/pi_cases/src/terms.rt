@@ -7,7 +7,7 @@ use pi_types::{Term, TermHead, Text};
 
 impl<'a> Case<'a> {
     /// Takes the words of one term.
-    pub fn take_extent(&mut self) -> &'a [&'a str] {
+    pub fn take_extent(&self) -> &'a [&'a str] {
         let count = extent(self.ahead());
         if count.is_none() {
             self.lacks("a whole term");
@@ -16,13 +16,13 @@ impl<'a> Case<'a> {
     }
 
     /// Takes the words of a term.
-    pub fn take_term(&mut self) -> Option<Term> {
+    pub fn take_term(&self) -> Option<Term> {
         let words = self.take_extent();
         term_of(self, words)
     }
 
     /// Writes a term in words.
-    pub fn tell_term(&mut self, term: &Term) {
+    pub fn tell_term(&self, term: &Term) {
         for i in 0..term.cells() {
             self.tell_between(i, " ");
             self.tell_head(term.head_at(i));
@@ -30,7 +30,7 @@ impl<'a> Case<'a> {
     }
 
     /// Writes the word of a node.
-    pub fn tell_head(&mut self, head: TermHead<'_>) {
+    pub fn tell_head(&self, head: TermHead<'_>) {
         match head {
             TermHead::Var(n) => self.tell_variable(n),
             TermHead::Int(n) => self.tell_integer(n),
@@ -40,27 +40,27 @@ impl<'a> Case<'a> {
     }
 
     /// Writes the word of a variable.
-    pub fn tell_variable(&mut self, n: u64) {
+    pub fn tell_variable(&self, n: u64) {
         self.tell_character('_');
         self.tell_number(n);
     }
 
     /// Writes a name and the number of its arguments.
-    pub fn tell_called(&mut self, name: &str, count: usize) {
+    pub fn tell_called(&self, name: &str, count: usize) {
         self.tell_name(name);
         self.tell_character('/');
         self.tell_count(count);
     }
 
     /// The name that a word is.
-    pub fn text_of(&mut self, word: &str) -> Option<Text> {
+    pub fn text_of(&self, word: &str) -> Option<Text> {
         let name = name_of(self, word)?;
         Some(Text::from_string(name))
     }
 }
 
 /// The term that words are.
-pub fn term_of(case: &mut Case<'_>, words: &[&str]) -> Option<Term> {
+pub fn term_of(case: &Case<'_>, words: &[&str]) -> Option<Term> {
     let mut built = Vec::new(case.alloc);
     for word in words.iter().rev() {
         push_term(case, word, &mut built);
@@ -73,7 +73,7 @@ pub fn term_of(case: &mut Case<'_>, words: &[&str]) -> Option<Term> {
 }
 
 /// Puts the term that begins with this word in the place of its arguments, which are the newest terms of a stack.
-pub fn push_term(case: &mut Case<'_>, word: &str, built: &mut Vec<Term>) {
+pub fn push_term(case: &Case<'_>, word: &str, built: &mut Vec<Term>) {
     let made = match node_of(word) {
         Node::Var(n) => Term::var(case.alloc, n),
         Node::Int(n) => Term::int(case.alloc, n),
@@ -85,7 +85,7 @@ pub fn push_term(case: &mut Case<'_>, word: &str, built: &mut Vec<Term>) {
     case.keep(made, built);
 }
 
-fn push_atom(case: &mut Case<'_>, word: &str, built: &mut Vec<Term>) {
+fn push_atom(case: &Case<'_>, word: &str, built: &mut Vec<Term>) {
     if let Some(name) = name_of(case, word) {
         let made = Term::atom(case.alloc, name.as_str());
         let made = case.made(made);
@@ -94,7 +94,7 @@ fn push_atom(case: &mut Case<'_>, word: &str, built: &mut Vec<Term>) {
 }
 
 /// Puts a compound over the newest terms of a stack.
-fn push_compound(case: &mut Case<'_>, word: &str, count: usize, built: &mut Vec<Term>) {
+fn push_compound(case: &Case<'_>, word: &str, count: usize, built: &mut Vec<Term>) {
     let args = case.several(built, count);
     if let Some(name) = name_of(case, word) {
         let made = Term::comp(case.alloc, name.as_str(), args.as_slice());

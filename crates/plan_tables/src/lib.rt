@@ -7,7 +7,7 @@ mod planners;
 use pi_cases::Case;
 
 /// Answers a case of planners, and tells whether the subject is one of such cases.
-pub fn answer_words(subject: &str, case: &mut Case<'_>) -> bool {
+pub fn answer_words(subject: &str, case: &Case<'_>) -> bool {
     let is_plans = subject == "plans";
     if is_plans {
         planners::answer(case);

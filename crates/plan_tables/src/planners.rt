@@ -13,7 +13,7 @@ const MOST: usize = 100_000;
 
 /// Tells for which states a planner asks, with what is left of the limit at each; what it comes to, twice, since an end is
 /// answered again; and how many states it was given.
-pub fn answer(case: &mut Case<'_>) {
+pub fn answer(case: &Case<'_>) {
     let by_rest = take_choice(case, "rests", "cost");
     let best = take_choice(case, "best_plan", "plan");
     let start = case.take_term();
@@ -25,7 +25,7 @@ pub fn answer(case: &mut Case<'_>) {
 }
 
 /// Takes one of two words, and tells whether it is the first.
-fn take_choice(case: &mut Case<'_>, first: &str, second: &str) -> bool {
+fn take_choice(case: &Case<'_>, first: &str, second: &str) -> bool {
     let is_first = case.skip(first);
     if !is_first {
         case.expect(second);
@@ -35,7 +35,7 @@ fn take_choice(case: &mut Case<'_>, first: &str, second: &str) -> bool {
 
 /// Makes the planner of a call and follows it, or tells why it isn't made. This function alone owns a planner.
 fn begin(
-    case: &mut Case<'_>,
+    case: &Case<'_>,
     start: Term,
     limit: i128,
     best: bool,
@@ -49,7 +49,7 @@ fn begin(
 }
 
 /// Follows a planner to its end, and tells how much it was given.
-fn follow(case: &mut Case<'_>, planner: &mut Planner, graph: &[Entry])
+fn follow(case: &Case<'_>, planner: &mut Planner, graph: &[Entry])
     requires sound { IsSound planner.old }
     requires idle { waits_for planner.old ≡ None }
 {
@@ -60,7 +60,7 @@ fn follow(case: &mut Case<'_>, planner: &mut Planner, graph: &[Entry])
 }
 
 /// Takes the steps of a planner up to its end.
-fn take_steps(case: &mut Case<'_>, planner: &mut Planner, graph: &[Entry])
+fn take_steps(case: &Case<'_>, planner: &mut Planner, graph: &[Entry])
     requires sound { IsSound planner.old }
     requires idle { waits_for planner.old ≡ None }
 {
@@ -73,7 +73,7 @@ fn take_steps(case: &mut Case<'_>, planner: &mut Planner, graph: &[Entry])
 }
 
 /// Takes a step of a planner, and tells whether it was given what it asks for.
-fn take_step(case: &mut Case<'_>, planner: &mut Planner, graph: &[Entry]) -> bool
+fn take_step(case: &Case<'_>, planner: &mut Planner, graph: &[Entry]) -> bool
     requires sound { IsSound planner.old }
     requires idle { waits_for planner.old ≡ None }
     ensures sound { result ≡ true → IsSound planner.new }
@@ -92,7 +92,7 @@ fn take_step(case: &mut Case<'_>, planner: &mut Planner, graph: &[Entry]) -> boo
 
 /// Gives a planner the state that it asks for, and tells whether it takes an entry for it.
 fn give(
-    case: &mut Case<'_>,
+    case: &Case<'_>,
     planner: &mut Planner,
     graph: &[Entry],
     state: &Term,
@@ -114,7 +114,7 @@ fn give(
 
 /// Gives a planner the first entry that stands for the state that it asks for and that it doesn't refuse. Tells whether there is one.
 fn give_first(
-    case: &mut Case<'_>,
+    case: &Case<'_>,
     planner: &mut Planner,
     graph: &[Entry],
     state: &str,
@@ -136,7 +136,7 @@ fn give_first(
 
 /// Gives a planner an entry, where it stands for the state that it asks for. Tells whether the planner took it.
 fn give_entry(
-    case: &mut Case<'_>,
+    case: &Case<'_>,
     planner: &mut Planner,
     entry: &Entry,
     state: &str,
@@ -161,7 +161,7 @@ fn give_entry(
 }
 
 /// Tells a state that is asked for, and what is left there.
-fn tell_asked(case: &mut Case<'_>, state: &str, rest: i128) {
+fn tell_asked(case: &Case<'_>, state: &str, rest: i128) {
     case.begin("; ");
     case.tell(state);
     case.tell(" ");
@@ -169,7 +169,7 @@ fn tell_asked(case: &mut Case<'_>, state: &str, rest: i128) {
 }
 
 /// Tells an end.
-fn tell_end(case: &mut Case<'_>, end: &PlanStep) {
+fn tell_end(case: &Case<'_>, end: &PlanStep) {
     case.begin("; ");
     match end {
         PlanStep::Expand(_, _) => case.lacks("an end"),
@@ -184,7 +184,7 @@ fn tell_end(case: &mut Case<'_>, end: &PlanStep) {
 }
 
 /// Tells why something is refused.
-fn tell_fault(case: &mut Case<'_>, fault: &PlanFault) {
+fn tell_fault(case: &Case<'_>, fault: &PlanFault) {
     case.begin("; ");
     match fault {
         PlanFault::NotGround(term) => tell_term(case, "not ground ", term),
@@ -194,7 +194,7 @@ fn tell_fault(case: &mut Case<'_>, fault: &PlanFault) {
 }
 
 /// Tells what a term is, and its text.
-fn tell_term(case: &mut Case<'_>, what: &str, term: &Term) {
+fn tell_term(case: &Case<'_>, what: &str, term: &Term) {
     case.tell(what);
     if let Some(text) = text_of(case, term) {
         case.tell(text.as_str());

@@ -6,7 +6,7 @@ mod propagations;
 use pi_cases::Case;
 
 /// Answers a case of propagation, and tells whether the subject is one of such cases.
-pub fn answer_words(subject: &str, case: &mut Case<'_>) -> bool {
+pub fn answer_words(subject: &str, case: &Case<'_>) -> bool {
     let is_propagations = subject == "propagations";
     if is_propagations {
         propagations::answer(case);

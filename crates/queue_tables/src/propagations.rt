@@ -9,9 +9,9 @@ use pi_types::{Places, TreeStore, Work};
 use store_tables::{Bench, raw_store, show, take_store_step};
 
 /// Tells what the steps of a case show, taken on a `TreeStore`, and where the same steps on a `RawStore` show something else, that too.
-pub fn answer(case: &mut Case<'_>) {
-    let mut raw = case.again();
-    take_all(&mut raw, raw_store(case.alloc));
+pub fn answer(case: &Case<'_>) {
+    let raw = case.again();
+    take_all(&raw, raw_store(case.alloc));
     let store = TreeStore::new(case.alloc);
     if let Some(store) = case.made(store) {
         take_all(case, store);
@@ -20,12 +20,12 @@ pub fn answer(case: &mut Case<'_>) {
 }
 
 /// The same on any store.
-fn take_all<S: StoredDomains>(case: &mut Case<'_>, store: S) {
+fn take_all<S: StoredDomains>(case: &Case<'_>, store: S) {
     let mut bench = Bench::new(case.alloc, store);
     take_steps(case, &mut bench);
 }
 
-fn take_steps<S: StoredDomains>(case: &mut Case<'_>, bench: &mut Bench<S>) {
+fn take_steps<S: StoredDomains>(case: &Case<'_>, bench: &mut Bench<S>) {
     for _ in 0..case.steps() {
         let name = case.take_word();
         match name {
@@ -46,14 +46,14 @@ fn no_work() -> Work {
     }
 }
 
-fn propagate_all<S: StoredDomains>(case: &mut Case<'_>, bench: &mut Bench<S>) {
+fn propagate_all<S: StoredDomains>(case: &Case<'_>, bench: &mut Bench<S>) {
     let limit = case.take_number();
     let mut work = no_work();
     let ends = propagate(case.alloc, &mut bench.store, &mut work, limit);
     show_end(case, ends);
 }
 
-fn propagate_some<S: StoredDomains>(case: &mut Case<'_>, bench: &mut Bench<S>) {
+fn propagate_some<S: StoredDomains>(case: &Case<'_>, bench: &mut Bench<S>) {
     let limit = case.take_number();
     let due = take_places(case);
     let mut work = no_work();
@@ -62,7 +62,7 @@ fn propagate_some<S: StoredDomains>(case: &mut Case<'_>, bench: &mut Bench<S>) {
 }
 
 /// Takes the numbers of constraints.
-fn take_places(case: &mut Case<'_>) -> Places {
+fn take_places(case: &Case<'_>) -> Places {
     let mut places = Places::new(case.alloc);
     for _ in 0..case.left() {
         if case.left() > 0 {
@@ -73,7 +73,7 @@ fn take_places(case: &mut Case<'_>) -> Places {
     places
 }
 
-fn show_end(case: &mut Case<'_>, ends: Result<bool, PropStop>) {
+fn show_end(case: &Case<'_>, ends: Result<bool, PropStop>) {
     match ends {
         Ok(true) => show(case, "stable"),
         Ok(false) => show(case, "empty"),

@@ -6,7 +6,7 @@ mod readings;
 use pi_cases::Case;
 
 /// Answers a case of readings, and tells whether the subject is one of such cases.
-pub fn answer_words(subject: &str, case: &mut Case<'_>) -> bool {
+pub fn answer_words(subject: &str, case: &Case<'_>) -> bool {
     let is_readings = subject == "readings";
     if is_readings {
         readings::answer(case);

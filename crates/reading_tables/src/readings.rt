@@ -8,7 +8,7 @@ use pi_types::{StateStore, TreeStore};
 use store_tables::{Bench, show, take_store_step, tell_constraint};
 
 /// Tells what the steps of a case show, taken on a `TreeStore`.
-pub fn answer(case: &mut Case<'_>) {
+pub fn answer(case: &Case<'_>) {
     let store = TreeStore::new(case.alloc);
     if let Some(store) = case.made(store) {
         take_all(case, store);
@@ -16,12 +16,12 @@ pub fn answer(case: &mut Case<'_>) {
 }
 
 /// The same on any store.
-fn take_all<S: StateStore>(case: &mut Case<'_>, store: S) {
+fn take_all<S: StateStore>(case: &Case<'_>, store: S) {
     let mut bench = Bench::new(case.alloc, store);
     take_steps(case, &mut bench);
 }
 
-fn take_steps<S: StateStore>(case: &mut Case<'_>, bench: &mut Bench<S>) {
+fn take_steps<S: StateStore>(case: &Case<'_>, bench: &mut Bench<S>) {
     for _ in 0..case.steps() {
         let name = case.take_word();
         match name {
@@ -33,7 +33,7 @@ fn take_steps<S: StateStore>(case: &mut Case<'_>, bench: &mut Bench<S>) {
 }
 
 /// Takes a goal, and shows what it posts.
-fn take_reading<S: StateStore>(case: &mut Case<'_>, bench: &mut Bench<S>) {
+fn take_reading<S: StateStore>(case: &Case<'_>, bench: &mut Bench<S>) {
     let goal = bench.take(case);
     match read_constraint(case.alloc, &bench.store, goal) {
         Ok(posting) => show_posting(case, &posting),
@@ -41,7 +41,7 @@ fn take_reading<S: StateStore>(case: &mut Case<'_>, bench: &mut Bench<S>) {
     }
 }
 
-fn show_posting(case: &mut Case<'_>, posting: &Posting) {
+fn show_posting(case: &Case<'_>, posting: &Posting) {
     show(case, "");
     case.tell_number(posting.fresh);
     case.tell(" new");
@@ -51,7 +51,7 @@ fn show_posting(case: &mut Case<'_>, posting: &Posting) {
     }
 }
 
-fn show_fault(case: &mut Case<'_>, fault: ConFault) {
+fn show_fault(case: &Case<'_>, fault: ConFault) {
     match fault {
         ConFault::NotLinear(term) => {
             show(case, "not_a_constraint ");

@@ -5,7 +5,7 @@ use pi_cases::{Case, Node, node_of};
 use pi_types::{Exp, Text};
 
 /// The expression that words are.
-pub fn expression_of(case: &mut Case<'_>, words: &[&str]) -> Option<Exp> {
+pub fn expression_of(case: &Case<'_>, words: &[&str]) -> Option<Exp> {
     let mut built = Vec::new(case.alloc);
     for word in words.iter().rev() {
         let made = expression_over(case, word, &mut built);
@@ -19,7 +19,7 @@ pub fn expression_of(case: &mut Case<'_>, words: &[&str]) -> Option<Exp> {
 }
 
 /// The expression that begins with this word, over the newest ones of a stack.
-fn expression_over(case: &mut Case<'_>, word: &str, built: &mut Vec<Exp>) -> Option<Exp> {
+fn expression_over(case: &Case<'_>, word: &str, built: &mut Vec<Exp>) -> Option<Exp> {
     if is_variable(word) {
         let name = Text::new(case.alloc, word);
         return Some(Exp::Var(case.made(name)?));

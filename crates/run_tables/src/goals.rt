@@ -8,7 +8,7 @@ use pi_types::{CoreGoal, GoalNode, Term, Text};
 
 /// Tells what a goal shows: how many nodes it has, the nodes of its child goals, and what stands at each node; `copy`
 /// asks it of another goal of the same tree.
-pub fn answer(case: &mut Case<'_>) {
+pub fn answer(case: &Case<'_>) {
     let is_copied = case.skip("copy");
     if !is_copied {
         case.expect("show");
@@ -27,7 +27,7 @@ pub fn answer(case: &mut Case<'_>) {
     }
 }
 
-fn tell_shown(goal: &CoreGoal, case: &mut Case<'_>) {
+fn tell_shown(goal: &CoreGoal, case: &Case<'_>) {
     case.tell_count(goal.nodes());
     case.tell(" nodes, children");
     if goal.nodes() > 0 {
@@ -69,7 +69,7 @@ struct Built {
 }
 
 /// The goal that words are.
-pub fn goal_of(case: &mut Case<'_>, words: &[&str]) -> Option<CoreGoal> {
+pub fn goal_of(case: &Case<'_>, words: &[&str]) -> Option<CoreGoal> {
     let mut built = Built {
         goals: Vec::new(case.alloc),
         terms: Vec::new(case.alloc),
@@ -86,7 +86,7 @@ pub fn goal_of(case: &mut Case<'_>, words: &[&str]) -> Option<CoreGoal> {
 
 impl Built {
     /// Puts the goal or the term that begins with this word in the place of what belongs to it.
-    fn push(&mut self, case: &mut Case<'_>, word: &str) {
+    fn push(&mut self, case: &Case<'_>, word: &str) {
         let alloc = case.alloc;
         let (kind, more) = word.split_once(':').unwrap_or((word, ""));
         let made = match kind {
@@ -109,7 +109,7 @@ impl Built {
     }
 
     /// Puts a sequence or alternatives, or else a term.
-    fn push_several(&mut self, case: &mut Case<'_>, word: &str) {
+    fn push_several(&mut self, case: &Case<'_>, word: &str) {
         let made = match node_of(word) {
             Node::Comp("ALL", count) => {
                 let goals = case.several(&mut self.goals, count);
@@ -125,19 +125,19 @@ impl Built {
         case.keep(made, &mut self.goals);
     }
 
-    fn not(&mut self, case: &mut Case<'_>) -> Option<CoreGoal> {
+    fn not(&mut self, case: &Case<'_>) -> Option<CoreGoal> {
         let goal = case.one(&mut self.goals)?;
         let made = CoreGoal::not(case.alloc, goal);
         case.made(made)
     }
 
-    fn once(&mut self, case: &mut Case<'_>) -> Option<CoreGoal> {
+    fn once(&mut self, case: &Case<'_>) -> Option<CoreGoal> {
         let goal = case.one(&mut self.goals)?;
         let made = CoreGoal::once(case.alloc, goal);
         case.made(made)
     }
 
-    fn condition(&mut self, case: &mut Case<'_>) -> Option<CoreGoal> {
+    fn condition(&mut self, case: &Case<'_>) -> Option<CoreGoal> {
         let test = case.one(&mut self.goals)?;
         let then = case.one(&mut self.goals)?;
         let other = case.one(&mut self.goals)?;
@@ -145,7 +145,7 @@ impl Built {
         case.made(made)
     }
 
-    fn catch(&mut self, case: &mut Case<'_>) -> Option<CoreGoal> {
+    fn catch(&mut self, case: &Case<'_>) -> Option<CoreGoal> {
         let ball = case.one(&mut self.terms)?;
         let goal = case.one(&mut self.goals)?;
         let handler = case.one(&mut self.goals)?;
@@ -154,7 +154,7 @@ impl Built {
     }
 
     /// The slot that takes the number, `0`.
-    fn count(&mut self, case: &mut Case<'_>, into: &str) -> Option<CoreGoal> {
+    fn count(&mut self, case: &Case<'_>, into: &str) -> Option<CoreGoal> {
         let into = case.slot_of(into);
         let goal = case.one(&mut self.goals)?;
         let made = CoreGoal::count(case.alloc, goal, into);
@@ -162,7 +162,7 @@ impl Built {
     }
 
     /// The slot that is collected and the one that takes the list, `0:1`.
-    fn collect(&mut self, case: &mut Case<'_>, more: &str) -> Option<CoreGoal> {
+    fn collect(&mut self, case: &Case<'_>, more: &str) -> Option<CoreGoal> {
         let (value, into) = more.split_once(':').unwrap_or((more, ""));
         let value = case.slot_of(value);
         let into = case.slot_of(into);
@@ -172,14 +172,14 @@ impl Built {
     }
 
     /// A call, `p/1`.
-    fn call(&mut self, case: &mut Case<'_>, called: &str) -> Option<CoreGoal> {
+    fn call(&mut self, case: &Case<'_>, called: &str) -> Option<CoreGoal> {
         let (name, args) = self.called(case, called)?;
         let made = CoreGoal::call(case.alloc, name.as_str(), args.as_slice());
         case.made(made)
     }
 
     /// A call whose value goes into a slot, `3:f/1`.
-    fn apply(&mut self, case: &mut Case<'_>, more: &str) -> Option<CoreGoal> {
+    fn apply(&mut self, case: &Case<'_>, more: &str) -> Option<CoreGoal> {
         let (slot, called) = more.split_once(':').unwrap_or(("", more));
         let slot = case.slot_of(slot);
         let (name, args) = self.called(case, called)?;
@@ -188,7 +188,7 @@ impl Built {
     }
 
     /// The name and the arguments of what is called.
-    fn called(&mut self, case: &mut Case<'_>, called: &str) -> Option<(Text, Vec<Term>)> {
+    fn called(&mut self, case: &Case<'_>, called: &str) -> Option<(Text, Vec<Term>)> {
         let (name, count) = named(case, called);
         let args = case.several(&mut self.terms, count);
         Some((case.text_of(name)?, args))
@@ -196,7 +196,7 @@ impl Built {
 }
 
 /// The name and the number of the arguments of what is called.
-fn named<'a>(case: &mut Case<'_>, called: &'a str) -> (&'a str, usize) {
+fn named<'a>(case: &Case<'_>, called: &'a str) -> (&'a str, usize) {
     match node_of(called) {
         Node::Comp(name, count) => (name, count),
         _ => {
@@ -207,7 +207,7 @@ fn named<'a>(case: &mut Case<'_>, called: &'a str) -> (&'a str, usize) {
 }
 
 /// Tells a goal in words.
-pub fn tell_goal(goal: &CoreGoal, case: &mut Case<'_>) {
+pub fn tell_goal(goal: &CoreGoal, case: &Case<'_>) {
     for i in 0..goal.nodes() {
         case.tell_between(i, " ");
         tell_node(goal.node(i), case);
@@ -215,7 +215,7 @@ pub fn tell_goal(goal: &CoreGoal, case: &mut Case<'_>) {
 }
 
 /// Tells the words of a node, with the terms that belong to it.
-fn tell_node(node: GoalNode<'_>, case: &mut Case<'_>) {
+fn tell_node(node: GoalNode<'_>, case: &Case<'_>) {
     match node {
         GoalNode::True => case.tell("TRUE"),
         GoalNode::Fail => case.tell("FAIL"),
@@ -243,13 +243,13 @@ fn tell_node(node: GoalNode<'_>, case: &mut Case<'_>) {
 }
 
 /// Tells the number of a slot behind something.
-fn tell_slot(before: &str, slot: u32, case: &mut Case<'_>) {
+fn tell_slot(before: &str, slot: u32, case: &Case<'_>) {
     case.tell(before);
     case.tell_number(u64::from(slot));
 }
 
 /// Tells the name, the number of the arguments and the arguments of a call behind something.
-fn tell_call(before: &str, name: &str, args: &[Term], case: &mut Case<'_>) {
+fn tell_call(before: &str, name: &str, args: &[Term], case: &Case<'_>) {
     case.tell(before);
     case.tell_called(name, args.len());
     for arg in args {

@@ -12,7 +12,7 @@ use pi_types::{
 };
 
 /// Tells what a program or a goal is in the core language.
-pub fn answer(case: &mut Case<'_>) {
+pub fn answer(case: &Case<'_>) {
     match case.take_word() {
         "program" => tell_program(case),
         "goal" => tell_query(case),
@@ -20,7 +20,7 @@ pub fn answer(case: &mut Case<'_>) {
     }
 }
 
-fn tell_program(case: &mut Case<'_>) {
+fn tell_program(case: &Case<'_>) {
     let mut parts = Parts::new(case.alloc);
     for _ in 0..case.steps() {
         if let Some(part) = take_part(case) {
@@ -37,7 +37,7 @@ fn tell_program(case: &mut Case<'_>) {
 }
 
 /// How many predicates the prelude has, which stand before those of a program.
-fn prelude_preds(case: &mut Case<'_>) -> usize {
+fn prelude_preds(case: &Case<'_>) -> usize {
     let none = Program {
         parts: Parts::new(case.alloc),
     };
@@ -51,7 +51,7 @@ fn prelude_preds(case: &mut Case<'_>) -> usize {
 }
 
 /// Takes a part: a fact or a rule.
-fn take_part(case: &mut Case<'_>) -> Option<Part> {
+fn take_part(case: &Case<'_>) -> Option<Part> {
     if case.skip("fact") {
         take_fact(case)
     } else {
@@ -60,7 +60,7 @@ fn take_part(case: &mut Case<'_>) -> Option<Part> {
 }
 
 /// Takes the part that is a fact in words, behind its mode lists.
-fn take_fact(case: &mut Case<'_>) -> Option<Part> {
+fn take_fact(case: &Case<'_>) -> Option<Part> {
     let mut lists = ModeLists::new(case.alloc);
     let words = case.take_until(":");
     for word in words {
@@ -82,7 +82,7 @@ fn take_fact(case: &mut Case<'_>) -> Option<Part> {
 }
 
 /// Takes the part that is a rule in words.
-fn take_rule(case: &mut Case<'_>) -> Option<Part> {
+fn take_rule(case: &Case<'_>) -> Option<Part> {
     let back = case.finds("?=>");
     let head = case.take_until(if back { "?=>" } else { "=>" });
     let body = case.take_rest();
@@ -101,7 +101,7 @@ fn take_rule(case: &mut Case<'_>) -> Option<Part> {
 }
 
 /// Tells predicates behind so many: their names, the numbers of their arguments, and their clauses.
-fn tell_preds(preds: &[CorePred], before: usize, case: &mut Case<'_>) {
+fn tell_preds(preds: &[CorePred], before: usize, case: &Case<'_>) {
     for (i, pred) in preds.iter().enumerate() {
         if i < before {
             continue;
@@ -117,7 +117,7 @@ fn tell_preds(preds: &[CorePred], before: usize, case: &mut Case<'_>) {
 }
 
 /// Tells the mode lists of a predicate of facts.
-fn tell_modes(decl: &Decl, case: &mut Case<'_>) {
+fn tell_modes(decl: &Decl, case: &Case<'_>) {
     let Decl::Index(lists) = decl else {
         return;
     };
@@ -133,7 +133,7 @@ fn tell_modes(decl: &Decl, case: &mut Case<'_>) {
 }
 
 /// Tells a clause as it stands in the rules of runs.
-fn tell_clause(clause: &CoreClause, case: &mut Case<'_>) {
+fn tell_clause(clause: &CoreClause, case: &Case<'_>) {
     case.tell(if clause.back { " (choice " } else { " (rule " });
     case.tell_number(u64::from(clause.slots));
     case.tell(" :");
@@ -148,7 +148,7 @@ fn tell_clause(clause: &CoreClause, case: &mut Case<'_>) {
     case.tell(")");
 }
 
-fn tell_query(case: &mut Case<'_>) {
+fn tell_query(case: &Case<'_>) {
     let words = case.take_rest();
     let Some(body) = expression_of(case, words) else {
         return;
@@ -163,7 +163,7 @@ fn tell_query(case: &mut Case<'_>) {
 }
 
 /// Tells the slots of a query, those with names, and its goal.
-fn tell_lowered(query: &CoreQuery, case: &mut Case<'_>) {
+fn tell_lowered(query: &CoreQuery, case: &Case<'_>) {
     case.tell_number(u64::from(query.slots));
     case.tell(" slots,");
     for named in query.names.as_slice() {
@@ -177,7 +177,7 @@ fn tell_lowered(query: &CoreQuery, case: &mut Case<'_>) {
 }
 
 /// Tells that a part isn't built.
-fn tell_fault(fault: LowerFault, case: &mut Case<'_>) {
+fn tell_fault(fault: LowerFault, case: &Case<'_>) {
     match fault {
         LowerFault::NotBuilt { number } => {
             case.tell("NotBuilt ");

@@ -25,13 +25,13 @@ pub fn program_of(alloc: Global, text: &str) -> Result<CoreProgram, Problem> {
 /// Adds what a line says.
 fn add_line(alloc: Global, line: &str, preds: &mut CorePreds) -> Result<(), Problem> {
     let words = words_of(alloc, line)?;
-    let mut case = Case::new(alloc, words.as_slice());
+    let case = Case::new(alloc, words.as_slice());
     match case.take_word() {
-        "rule" => add_rule(&mut case, false, preds),
-        "choice" => add_rule(&mut case, true, preds),
-        "index" => add_modes(&mut case, preds),
-        "fact" => add_fact(&mut case, preds),
-        kind => add_pred(&mut case, kind, preds),
+        "rule" => add_rule(&case, false, preds),
+        "choice" => add_rule(&case, true, preds),
+        "index" => add_modes(&case, preds),
+        "fact" => add_fact(&case, preds),
+        kind => add_pred(&case, kind, preds),
     }
     case.take_end();
     match case.problem() {
@@ -41,7 +41,7 @@ fn add_line(alloc: Global, line: &str, preds: &mut CorePreds) -> Result<(), Prob
 }
 
 /// Adds a predicate without rules yet.
-fn add_pred(case: &mut Case<'_>, kind: &str, preds: &mut CorePreds) {
+fn add_pred(case: &Case<'_>, kind: &str, preds: &mut CorePreds) {
     if !matches!(kind, "predicate" | "function" | "quiet") {
         return case.lacks("a kind of predicate");
     }
@@ -63,7 +63,7 @@ fn add_pred(case: &mut Case<'_>, kind: &str, preds: &mut CorePreds) {
 }
 
 /// Adds a rule to the newest predicate.
-fn add_rule(case: &mut Case<'_>, back: bool, preds: &mut CorePreds) {
+fn add_rule(case: &Case<'_>, back: bool, preds: &mut CorePreds) {
     let Some(mut pred) = preds.pop() else {
         return case.lacks("a predicate before its rules");
     };
@@ -76,7 +76,7 @@ fn add_rule(case: &mut Case<'_>, back: bool, preds: &mut CorePreds) {
 }
 
 /// Adds a mode list to the newest predicate.
-fn add_modes(case: &mut Case<'_>, preds: &mut CorePreds) {
+fn add_modes(case: &Case<'_>, preds: &mut CorePreds) {
     let Some(mut pred) = preds.pop() else {
         return case.lacks("a predicate before its modes");
     };
@@ -91,7 +91,7 @@ fn add_modes(case: &mut Case<'_>, preds: &mut CorePreds) {
 }
 
 /// The mode list of a word of `+` and `-`.
-pub(crate) fn modes_of(case: &mut Case<'_>, word: &str) -> Modes {
+pub(crate) fn modes_of(case: &Case<'_>, word: &str) -> Modes {
     let mut modes = Modes::new(case.alloc);
     for c in word.chars() {
         let mode = if c == '+' { Mode::Plus } else { Mode::Minus };
@@ -110,7 +110,7 @@ fn lists_of(alloc: Global, decl: Decl) -> ModeLists {
 }
 
 /// Adds a fact to the newest predicate.
-fn add_fact(case: &mut Case<'_>, preds: &mut CorePreds) {
+fn add_fact(case: &Case<'_>, preds: &mut CorePreds) {
     let Some(mut pred) = preds.pop() else {
         return case.lacks("a predicate before its facts");
     };
@@ -123,7 +123,7 @@ fn add_fact(case: &mut Case<'_>, preds: &mut CorePreds) {
 }
 
 /// Takes the words of a fact.
-fn take_fact(case: &mut Case<'_>) -> Option<CoreClause> {
+fn take_fact(case: &Case<'_>) -> Option<CoreClause> {
     let slots = case.take_slot();
     case.expect(":");
     let head = case.take_rest();
@@ -141,7 +141,7 @@ fn take_fact(case: &mut Case<'_>) -> Option<CoreClause> {
 }
 
 /// Takes the words of a rule.
-fn take_rule(case: &mut Case<'_>, back: bool) -> Option<CoreClause> {
+fn take_rule(case: &Case<'_>, back: bool) -> Option<CoreClause> {
     let slots = case.take_slot();
     case.expect(":");
     let head = case.take_until(":");

@@ -19,7 +19,7 @@ const SLOTS: u32 = 5;
 const MOST: usize = 1_000;
 
 /// Tells what comes in the run of a goal, under the rules that its file gives.
-pub fn answer(case: &mut Case<'_>, text: &str) {
+pub fn answer(case: &Case<'_>, text: &str) {
     let mut budget = Budget {
         ticks: 0,
         steps: case.take_number(),
@@ -40,7 +40,7 @@ pub fn answer(case: &mut Case<'_>, text: &str) {
 }
 
 /// Takes the goal of a query whose first so many slots are named.
-fn take_query(case: &mut Case<'_>, count: u32) -> Option<CoreQuery> {
+fn take_query(case: &Case<'_>, count: u32) -> Option<CoreQuery> {
     let words = case.take_rest();
     let goal = goal_of(case, words)?;
     let names = names(case.alloc, count);
@@ -64,7 +64,7 @@ fn names(alloc: Global, count: u32) -> Result<NameSlots, AllocError> {
 
 /// Runs a query. This function alone owns a machine.
 fn run(
-    case: &mut Case<'_>,
+    case: &Case<'_>,
     core: &CoreProgram,
     query: CoreQuery,
     budget: &mut Budget,
@@ -79,16 +79,16 @@ fn run(
 
 /// Tells all that comes in a run up to its end. Where the end doesn't come for good, so it says.
 fn tell_all<S: StateStore>(
-    case: &mut Case<'_>,
+    case: &Case<'_>,
     machine: &mut Machine<'_, S>,
     budget: &mut Budget,
     tells_kept: bool,
 ) {
     for _ in 0..MOST {
-        let from = case.told().len();
+        let from = case.told();
         if tell_next(case, machine, budget, tells_kept) {
-            let mut again = Case::new(case.alloc, &[]);
-            tell_next(&mut again, machine, budget, tells_kept);
+            let again = Case::new(case.alloc, &[]);
+            tell_next(&again, machine, budget, tells_kept);
             return case.tell_change(from, &again);
         }
         case.tell(" ; ");
@@ -98,7 +98,7 @@ fn tell_all<S: StateStore>(
 
 /// Tells what comes next and the Ticks by then, and answers whether it is an end.
 fn tell_next<S: StateStore>(
-    case: &mut Case<'_>,
+    case: &Case<'_>,
     machine: &mut Machine<'_, S>,
     budget: &mut Budget,
     tells_kept: bool,
@@ -114,7 +114,7 @@ fn tell_next<S: StateStore>(
 }
 
 /// Tells what came, and answers whether it is an end.
-fn tell_happening(happening: &Happening, case: &mut Case<'_>) -> bool {
+fn tell_happening(happening: &Happening, case: &Case<'_>) -> bool {
     match happening {
         Happening::Answer(answer) => {
             tell_answer(answer, case);
@@ -138,7 +138,7 @@ fn tell_happening(happening: &Happening, case: &mut Case<'_>) -> bool {
 }
 
 /// Tells a text that is written, on one line.
-fn tell_written(text: &str, case: &mut Case<'_>) {
+fn tell_written(text: &str, case: &Case<'_>) {
     case.tell("writes ");
     for c in text.chars() {
         if c == '\n' {
@@ -150,7 +150,7 @@ fn tell_written(text: &str, case: &mut Case<'_>) {
 }
 
 /// Tells what a machine keeps beside its store.
-fn tell_kept(kept: Kept, case: &mut Case<'_>) {
+fn tell_kept(kept: Kept, case: &Case<'_>) {
     case.tell(", keeping ");
     case.tell_count(kept.entries);
     case.tell(" entries, ");
@@ -163,7 +163,7 @@ fn tell_kept(kept: Kept, case: &mut Case<'_>) {
 }
 
 /// Tells the values of an answer and the domains that it tells.
-fn tell_answer(answer: &Answer, case: &mut Case<'_>) {
+fn tell_answer(answer: &Answer, case: &Case<'_>) {
     let values = answer.values.as_slice();
     if values.is_empty() {
         case.tell("yes");

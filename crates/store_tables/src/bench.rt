@@ -37,7 +37,7 @@ impl<S: StateStore> Bench<S> {
     }
 
     /// Takes the words of a term and puts it into the store.
-    pub fn take(&mut self, case: &mut Case<'_>) -> Ref {
+    pub fn take(&mut self, case: &Case<'_>) -> Ref {
         let mut built = Vec::new(case.alloc);
         for word in case.take_extent().iter().rev() {
             let made = self.put(case, word, &mut built);
@@ -47,12 +47,12 @@ impl<S: StateStore> Bench<S> {
     }
 
     /// Keeps a term under the next number.
-    pub fn keep(&mut self, case: &mut Case<'_>, term: Ref) {
+    pub fn keep(&mut self, case: &Case<'_>, term: Ref) {
         case.keep(Some(term), &mut self.terms);
     }
 
     /// Takes what each slot holds.
-    pub fn take_slots(&mut self, case: &mut Case<'_>) {
+    pub fn take_slots(&mut self, case: &Case<'_>) {
         self.slots = Vec::new(case.alloc);
         for _ in 0..case.left() {
             if case.skip(EMPTY) {
@@ -65,7 +65,7 @@ impl<S: StateStore> Bench<S> {
     }
 
     /// Puts the term that begins with this word, over the newest terms of a stack.
-    fn put(&mut self, case: &mut Case<'_>, word: &str, built: &mut Vec<Ref>) -> Option<Ref> {
+    fn put(&mut self, case: &Case<'_>, word: &str, built: &mut Vec<Ref>) -> Option<Ref> {
         match node_of(word) {
             Node::Var(n) => Some(self.variable(case, n)),
             Node::Kept(i) => Some(self.kept(case, i)),
@@ -97,7 +97,7 @@ impl<S: StateStore> Bench<S> {
     }
 
     /// A variable that was made.
-    fn variable(&self, case: &mut Case<'_>, n: u64) -> Ref {
+    fn variable(&self, case: &Case<'_>, n: u64) -> Ref {
         if n >= self.store.vars() {
             case.lacks("a variable that was made");
         }
@@ -105,7 +105,7 @@ impl<S: StateStore> Bench<S> {
     }
 
     /// A term that was kept.
-    fn kept(&self, case: &mut Case<'_>, i: usize) -> Ref {
+    fn kept(&self, case: &Case<'_>, i: usize) -> Ref {
         match self.terms.get(i) {
             Some(kept) => *kept,
             None => {
@@ -115,7 +115,7 @@ impl<S: StateStore> Bench<S> {
         }
     }
 
-    fn put_atom(&mut self, case: &mut Case<'_>, word: &str) -> Option<Ref> {
+    fn put_atom(&mut self, case: &Case<'_>, word: &str) -> Option<Ref> {
         let name = name_of(case, word)?;
         let made = self.store.put_atom(name.as_str());
         case.made(made)
@@ -123,7 +123,7 @@ impl<S: StateStore> Bench<S> {
 
     fn put_compound(
         &mut self,
-        case: &mut Case<'_>,
+        case: &Case<'_>,
         word: &str,
         count: usize,
         built: &mut Vec<Ref>,
@@ -137,7 +137,7 @@ impl<S: StateStore> Bench<S> {
     /// So many pairs, each over the one before, which stands in the place that isn't given.
     fn put_pairs(
         &mut self,
-        case: &mut Case<'_>,
+        case: &Case<'_>,
         count: usize,
         innermost: Ref,
         first: Option<Ref>,
@@ -153,7 +153,7 @@ impl<S: StateStore> Bench<S> {
     }
 
     /// An array of so many times an item.
-    fn put_row(&mut self, case: &mut Case<'_>, count: usize, item: Ref) -> Option<Ref> {
+    fn put_row(&mut self, case: &Case<'_>, count: usize, item: Ref) -> Option<Ref> {
         let mut items = Vec::new(case.alloc);
         for _ in 0..count {
             case.keep(Some(item), &mut items);
@@ -164,6 +164,6 @@ impl<S: StateStore> Bench<S> {
 }
 
 /// Takes the newest term off a stack.
-fn taken(case: &mut Case<'_>, built: &mut Vec<Ref>) -> Ref {
+fn taken(case: &Case<'_>, built: &mut Vec<Ref>) -> Ref {
     case.one(built).unwrap_or(NOTHING)
 }

@@ -5,7 +5,7 @@ use pi_cases::{Case, Node, node_of};
 use pi_types::{Constraint, Item, Items, LinTerms, Rel};
 
 /// Takes the words of a constraint.
-pub fn take_constraint(case: &mut Case<'_>) -> Option<Constraint> {
+pub fn take_constraint(case: &Case<'_>) -> Option<Constraint> {
     Some(match case.take_word() {
         "absolute" => Constraint::Absolute {
             z: take_item(case),
@@ -37,7 +37,7 @@ pub fn take_constraint(case: &mut Case<'_>) -> Option<Constraint> {
     })
 }
 
-fn take_element(case: &mut Case<'_>) -> Constraint {
+fn take_element(case: &Case<'_>) -> Constraint {
     let index = take_item(case);
     let value = take_item(case);
     Constraint::Element {
@@ -47,7 +47,7 @@ fn take_element(case: &mut Case<'_>) -> Constraint {
     }
 }
 
-fn take_rel(case: &mut Case<'_>) -> Rel {
+fn take_rel(case: &Case<'_>) -> Rel {
     match case.take_word() {
         "=" => Rel::Equal,
         "#" => Rel::Unequal,
@@ -60,7 +60,7 @@ fn take_rel(case: &mut Case<'_>) -> Rel {
 }
 
 /// Takes the terms of a sum: each a coefficient and a variable.
-fn take_terms(case: &mut Case<'_>) -> LinTerms {
+fn take_terms(case: &Case<'_>) -> LinTerms {
     let mut terms = LinTerms::new(case.alloc);
     for _ in 0..case.left() {
         if case.left() > 0 {
@@ -73,7 +73,7 @@ fn take_terms(case: &mut Case<'_>) -> LinTerms {
     terms
 }
 
-fn take_variable(case: &mut Case<'_>) -> u64 {
+fn take_variable(case: &Case<'_>) -> u64 {
     match take_item(case) {
         Item::Var(variable) => variable,
         Item::Int(_) => {
@@ -83,7 +83,7 @@ fn take_variable(case: &mut Case<'_>) -> u64 {
     }
 }
 
-fn take_item(case: &mut Case<'_>) -> Item {
+fn take_item(case: &Case<'_>) -> Item {
     match node_of(case.take_word()) {
         Node::Var(n) => Item::Var(n),
         Node::Int(n) => Item::Int(i64::try_from(n).unwrap_or(0)),
@@ -94,7 +94,7 @@ fn take_item(case: &mut Case<'_>) -> Item {
     }
 }
 
-fn take_items(case: &mut Case<'_>) -> Items {
+fn take_items(case: &Case<'_>) -> Items {
     let mut items = Items::new(case.alloc);
     for _ in 0..case.left() {
         let added = items.push(take_item(case));
@@ -104,7 +104,7 @@ fn take_items(case: &mut Case<'_>) -> Items {
 }
 
 /// Tells a constraint in words.
-pub fn tell_constraint(constraint: &Constraint, case: &mut Case<'_>) {
+pub fn tell_constraint(constraint: &Constraint, case: &Case<'_>) {
     match constraint {
         Constraint::Linear {
             rel,
@@ -136,7 +136,7 @@ pub fn tell_constraint(constraint: &Constraint, case: &mut Case<'_>) {
 }
 
 /// Tells how a sum stands to 0, its constant and its terms, behind a name.
-fn tell_sum(name: &str, rel: Rel, constant: i128, terms: &LinTerms, case: &mut Case<'_>) {
+fn tell_sum(name: &str, rel: Rel, constant: i128, terms: &LinTerms, case: &Case<'_>) {
     case.tell(name);
     case.tell(match rel {
         Rel::Equal => " = ",
@@ -153,7 +153,7 @@ fn tell_sum(name: &str, rel: Rel, constant: i128, terms: &LinTerms, case: &mut C
 }
 
 /// Tells items, each behind a blank, behind a name.
-fn tell_items(name: &str, items: &[Item], case: &mut Case<'_>) {
+fn tell_items(name: &str, items: &[Item], case: &Case<'_>) {
     case.tell(name);
     for item in items {
         case.tell(" ");

@@ -18,7 +18,7 @@ use pi_cases::Case;
 pub use stores::{show, take_store_step, tell_read};
 
 /// Answers a case of terms or stores, in a file with this text, and tells whether the subject is one of such cases.
-pub fn answer_words(subject: &str, text: &str, case: &mut Case<'_>) -> bool {
+pub fn answer_words(subject: &str, text: &str, case: &Case<'_>) -> bool {
     match subject {
         "words" => words::answer(case),
         "terms" => terms::answer(case),

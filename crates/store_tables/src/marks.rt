@@ -4,7 +4,7 @@ use pi_cases::Case;
 use pi_types::{StateStore, TreeStore};
 
 /// Tells the marks that the words of a case make.
-pub fn answer(case: &mut Case<'_>) {
+pub fn answer(case: &Case<'_>) {
     let store = TreeStore::new(case.alloc);
     if let Some(mut store) = case.made(store) {
         take_words(case, &mut store);
@@ -12,7 +12,7 @@ pub fn answer(case: &mut Case<'_>) {
     }
 }
 
-fn take_words(case: &mut Case<'_>, store: &mut TreeStore) {
+fn take_words(case: &Case<'_>, store: &mut TreeStore) {
     for word in case.take_rest() {
         match *word {
             "mark" => {

@@ -11,11 +11,11 @@ use pi_types::{NameSlot, NameSlots, Ref, StateStore, Text, TreeStore};
 use std::alloc::Global;
 
 /// Tells the domains of an answer over a `TreeStore`, and where they are others over a `RawStore`, those too.
-pub fn answer(case: &mut Case<'_>, text: &str) {
+pub fn answer(case: &Case<'_>, text: &str) {
     case.expect("names");
     let names = take_names(case);
-    let mut raw = case.again();
-    answer_on(&mut raw, text, raw_store(case.alloc), names.as_slice());
+    let raw = case.again();
+    answer_on(&raw, text, raw_store(case.alloc), names.as_slice());
     let store = TreeStore::new(case.alloc);
     if let Some(store) = case.made(store) {
         answer_on(case, text, store, names.as_slice());
@@ -24,7 +24,7 @@ pub fn answer(case: &mut Case<'_>, text: &str) {
 }
 
 /// Tells the domains of an answer on any store.
-fn answer_on<S: StateStore>(case: &mut Case<'_>, text: &str, store: S, names: &[NameSlot]) {
+fn answer_on<S: StateStore>(case: &Case<'_>, text: &str, store: S, names: &[NameSlot]) {
     let mut bench = Bench::new(case.alloc, store);
     match begin(case.alloc, &mut bench, text) {
         None => tell_answer(case, bench, names),
@@ -33,7 +33,7 @@ fn answer_on<S: StateStore>(case: &mut Case<'_>, text: &str, store: S, names: &[
 }
 
 /// Takes the slots that are named, each a name of itself.
-fn take_names(case: &mut Case<'_>) -> NameSlots {
+fn take_names(case: &Case<'_>) -> NameSlots {
     let mut names = NameSlots::new(case.alloc);
     for word in case.take_rest() {
         let slot = case.slot_of(word);
@@ -63,8 +63,8 @@ fn begin<S: StateStore>(alloc: Global, bench: &mut Bench<S>, text: &str) -> Opti
 fn take_line<S: StateStore>(alloc: Global, bench: &mut Bench<S>, line: &str) -> Option<Problem> {
     match words_of(alloc, line) {
         Ok(words) => {
-            let mut case = Case::new(alloc, words.as_slice());
-            take_steps(&mut case, bench);
+            let case = Case::new(alloc, words.as_slice());
+            take_steps(&case, bench);
             case.problem()
         }
         Err(problem) => Some(problem),
@@ -72,7 +72,7 @@ fn take_line<S: StateStore>(alloc: Global, bench: &mut Bench<S>, line: &str) -> 
 }
 
 /// Tells the domains of the answer of a run with a bench's store and slots.
-fn tell_answer<S: StateStore>(case: &mut Case<'_>, bench: Bench<S>, names: &[NameSlot]) {
+fn tell_answer<S: StateStore>(case: &Case<'_>, bench: Bench<S>, names: &[NameSlot]) {
     let Bench { store, slots, .. } = bench;
     let mut run = Run::new(case.alloc, store);
     let pushed = run.arenas.blocks.push_slots(slots.as_slice());

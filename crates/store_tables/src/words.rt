@@ -3,7 +3,7 @@
 use pi_cases::Case;
 
 /// Tells how many words a case has, and the first and the last one.
-pub fn answer(case: &mut Case<'_>) {
+pub fn answer(case: &Case<'_>) {
     let words = case.take_rest();
     case.tell_count(words.len());
     if let (Some(first), Some(last)) = (words.first(), words.last()) {

@@ -26,7 +26,7 @@ const OPERATIONS: [(&str, Op); 18] = [
 ];
 
 /// Tells the value of an operation at two integers, or its fault. One of one place leaves the second integer unread.
-pub fn answer(case: &mut Case<'_>) {
+pub fn answer(case: &Case<'_>) {
     let word = case.take_word();
     let Some(operation) = operation(word) else {
         return case.lacks("a known operation");

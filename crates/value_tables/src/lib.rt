@@ -10,7 +10,7 @@ use pi_cases::Case;
 use pi_outside::Files;
 
 /// Answers a case of domains, integers or regions, and tells whether the subject is one of them.
-pub fn answer_words(subject: &str, case: &mut Case<'_>) -> bool {
+pub fn answer_words(subject: &str, case: &Case<'_>) -> bool {
     match subject {
         "domains" => domains::answer(case),
         "integers" => integers::answer(case),
@@ -25,7 +25,7 @@ pub fn answer_outside<R: Print + Input + AllocGlobal, F: Files>(
     rt: &R,
     files: &mut F,
     subject: &str,
-    case: &mut Case<'_>,
+    case: &Case<'_>,
 ) -> bool {
     let is_outside = subject == "outside";
     if is_outside {

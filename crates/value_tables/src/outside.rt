@@ -17,7 +17,7 @@ const UNREAD: u8 = b'_';
 pub fn answer<R: Print + Input + AllocGlobal, F: Files>(
     rt: &R,
     files: &mut F,
-    case: &mut Case<'_>,
+    case: &Case<'_>,
 ) {
     let kind = case.take_word();
     let object = case.take_word();
@@ -36,7 +36,7 @@ pub fn answer<R: Print + Input + AllocGlobal, F: Files>(
 }
 
 /// A sink with room for so many bytes, and the numbers of the calls that are to fail.
-fn ask_memory_sink(case: &mut Case<'_>) {
+fn ask_memory_sink(case: &Case<'_>) {
     let sink = MemorySink::new(case.alloc, case.take_count());
     let Some(mut sink) = case.made(sink) else {
         return;
@@ -51,7 +51,7 @@ fn ask_memory_sink(case: &mut Case<'_>) {
 }
 
 /// A sink that keeps so many bytes.
-fn ask_sure_sink(case: &mut Case<'_>) {
+fn ask_sure_sink(case: &Case<'_>) {
     let sink = SureSink::new(case.alloc, case.take_count());
     let Some(mut sink) = case.made(sink) else {
         return;
@@ -62,7 +62,7 @@ fn ask_sure_sink(case: &mut Case<'_>) {
 }
 
 /// A source of bytes, how many it gives at once, and the numbers of the calls that are to fail.
-fn ask_memory_source(case: &mut Case<'_>) {
+fn ask_memory_source(case: &Case<'_>) {
     let word = case.take_word();
     let bytes = bytes_of(case, word);
     let most = case.take_count().max(1);
@@ -78,7 +78,7 @@ fn ask_memory_source(case: &mut Case<'_>) {
 }
 
 /// A source of bytes, and how many it gives at once.
-fn ask_sure_source(case: &mut Case<'_>) {
+fn ask_sure_source(case: &Case<'_>) {
     let word = case.take_word();
     let bytes = bytes_of(case, word);
     let most = case.take_count().max(1);
@@ -89,7 +89,7 @@ fn ask_sure_source(case: &mut Case<'_>) {
 }
 
 /// A file with its bytes, and the numbers of the calls that are to fail.
-fn ask_memory_files(case: &mut Case<'_>) {
+fn ask_memory_files(case: &Case<'_>) {
     let mut files = MemoryFiles::new(case.alloc);
     let name = case.take_word();
     let word = case.take_word();
@@ -104,7 +104,7 @@ fn ask_memory_files(case: &mut Case<'_>) {
 }
 
 /// A file with its bytes.
-fn ask_sure_files(case: &mut Case<'_>) {
+fn ask_sure_files(case: &Case<'_>) {
     let mut files = SureFiles::new(case.alloc);
     let name = case.take_word();
     let word = case.take_word();
@@ -115,7 +115,7 @@ fn ask_sure_files(case: &mut Case<'_>) {
 }
 
 /// Writes a piece at each step.
-fn write_all<O: Sink>(case: &mut Case<'_>, sink: &mut O) {
+fn write_all<O: Sink>(case: &Case<'_>, sink: &mut O) {
     case.take_step_end();
     for _ in 0..case.steps() {
         case.begin("; ");
@@ -127,7 +127,7 @@ fn write_all<O: Sink>(case: &mut Case<'_>, sink: &mut O) {
 }
 
 /// Reads so many bytes at each step, each time into the same place.
-fn read_all<I: Source>(case: &mut Case<'_>, source: &mut I) {
+fn read_all<I: Source>(case: &Case<'_>, source: &mut I) {
     let mut into = [UNREAD; ROOM];
     case.take_step_end();
     for _ in 0..case.steps() {
@@ -144,7 +144,7 @@ fn read_all<I: Source>(case: &mut Case<'_>, source: &mut I) {
 }
 
 /// Reads of a file at each step, by its name and from a place on, each time into the same place.
-fn read_files<F: Files>(case: &mut Case<'_>, files: &mut F) {
+fn read_files<F: Files>(case: &Case<'_>, files: &mut F) {
     let mut into = [UNREAD; ROOM];
     case.take_step_end();
     for _ in 0..case.steps() {
@@ -159,7 +159,7 @@ fn read_files<F: Files>(case: &mut Case<'_>, files: &mut F) {
 }
 
 /// Tells how many bytes were taken or read.
-fn tell_taken(taken: Result<usize, Failed>, case: &mut Case<'_>) {
+fn tell_taken(taken: Result<usize, Failed>, case: &Case<'_>) {
     match taken {
         Ok(count) => case.tell_count(count),
         Err(Failed) => case.tell("failed"),

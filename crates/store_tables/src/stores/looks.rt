@@ -8,7 +8,7 @@ use pi_unify::compare;
 use std::cmp::Ordering;
 
 /// Takes a step that looks at terms, and tells whether it is one.
-pub fn take_step<S: StateStore>(case: &mut Case<'_>, bench: &mut Bench<S>, name: &str) -> bool {
+pub fn take_step<S: StateStore>(case: &Case<'_>, bench: &mut Bench<S>, name: &str) -> bool {
     match name {
         "vars" => show_number(case, bench.store.vars()),
         "values" => show_values(case, &bench.store),
@@ -21,7 +21,7 @@ pub fn take_step<S: StateStore>(case: &mut Case<'_>, bench: &mut Bench<S>, name:
 }
 
 /// Shows something of a term.
-fn look_at_one<S: StateStore>(case: &mut Case<'_>, bench: &mut Bench<S>, name: &str) {
+fn look_at_one<S: StateStore>(case: &Case<'_>, bench: &mut Bench<S>, name: &str) {
     let r = bench.take(case);
     begin(case);
     match name {
@@ -36,7 +36,7 @@ fn look_at_one<S: StateStore>(case: &mut Case<'_>, bench: &mut Bench<S>, name: &
 }
 
 /// Shows how a term stands to another.
-fn look_at_two<S: StateStore>(case: &mut Case<'_>, bench: &mut Bench<S>, name: &str) {
+fn look_at_two<S: StateStore>(case: &Case<'_>, bench: &mut Bench<S>, name: &str) {
     let a = bench.take(case);
     let b = bench.take(case);
     if name == "same" {
@@ -48,7 +48,7 @@ fn look_at_two<S: StateStore>(case: &mut Case<'_>, bench: &mut Bench<S>, name: &
 }
 
 /// Shows how each of some terms stands to each of them.
-fn show_orders<S: StateStore>(case: &mut Case<'_>, bench: &mut Bench<S>) {
+fn show_orders<S: StateStore>(case: &Case<'_>, bench: &mut Bench<S>) {
     let mut terms = Vec::new(case.alloc);
     for _ in 0..case.left() {
         if case.left() > 0 {
@@ -65,7 +65,7 @@ fn show_orders<S: StateStore>(case: &mut Case<'_>, bench: &mut Bench<S>) {
     }
 }
 
-fn tell_order<S: StateStore>(case: &mut Case<'_>, store: &S, a: Ref, b: Ref) {
+fn tell_order<S: StateStore>(case: &Case<'_>, store: &S, a: Ref, b: Ref) {
     let ordering = compare(case.alloc, store, a, b);
     match case.made(ordering) {
         Some(Ordering::Less) => case.tell("<"),

@@ -6,7 +6,7 @@ use pi_cases::Case;
 use pi_types::StateStore;
 
 /// Takes a step on marks, and tells whether it is one.
-pub fn take_step<S: StateStore>(case: &mut Case<'_>, bench: &mut Bench<S>, name: &str) -> bool {
+pub fn take_step<S: StateStore>(case: &Case<'_>, bench: &mut Bench<S>, name: &str) -> bool {
     match name {
         "mark" => {
             let mark = bench.store.mark();
@@ -20,7 +20,7 @@ pub fn take_step<S: StateStore>(case: &mut Case<'_>, bench: &mut Bench<S>, name:
 }
 
 /// Comes back to a mark, or shows what has changed since.
-fn go_to_mark<S: StateStore>(case: &mut Case<'_>, bench: &mut Bench<S>, name: &str) {
+fn go_to_mark<S: StateStore>(case: &Case<'_>, bench: &mut Bench<S>, name: &str) {
     let number = case.take_count();
     let Some(mark) = bench.marks.get(number) else {
         return case.lacks("a mark");

@@ -8,7 +8,7 @@ use pi_types::laws::stores::changes_are_undone;
 use pi_types::{Domain, StateStore};
 
 /// Takes a step on the state, and tells whether it is one.
-pub fn take_step<S: StateStore>(case: &mut Case<'_>, bench: &mut Bench<S>, name: &str) -> bool {
+pub fn take_step<S: StateStore>(case: &Case<'_>, bench: &mut Bench<S>, name: &str) -> bool {
     match name {
         "bind" => bind(case, bench),
         "confine" => confine(case, bench),
@@ -31,14 +31,14 @@ pub fn take_step<S: StateStore>(case: &mut Case<'_>, bench: &mut Bench<S>, name:
     true
 }
 
-fn bind<S: StateStore>(case: &mut Case<'_>, bench: &mut Bench<S>) {
+fn bind<S: StateStore>(case: &Case<'_>, bench: &mut Bench<S>) {
     let variable = bench.take(case);
     let term = bench.take(case);
     let bound = bench.store.bind(variable, term);
     case.done(bound);
 }
 
-fn confine<S: StateStore>(case: &mut Case<'_>, bench: &mut Bench<S>) {
+fn confine<S: StateStore>(case: &Case<'_>, bench: &mut Bench<S>) {
     let variable = bench.take(case);
     if let Some(domain) = take_domain(case) {
         let confined = bench.store.set_domain(variable, &domain);
@@ -46,7 +46,7 @@ fn confine<S: StateStore>(case: &mut Case<'_>, bench: &mut Bench<S>) {
     }
 }
 
-fn try_changes<S: StateStore>(case: &mut Case<'_>, store: &mut S) {
+fn try_changes<S: StateStore>(case: &Case<'_>, store: &mut S) {
     if let Some(domain) = take_domain(case) {
         let tried = changes_are_undone(store, &domain);
         case.done(tried);
@@ -54,12 +54,12 @@ fn try_changes<S: StateStore>(case: &mut Case<'_>, store: &mut S) {
 }
 
 /// Takes the domain that the words of a step are.
-fn take_domain(case: &mut Case<'_>) -> Option<Domain> {
+fn take_domain(case: &Case<'_>) -> Option<Domain> {
     let words = case.take_rest();
     spans_of(case, words)
 }
 
-fn post<S: StateStore>(case: &mut Case<'_>, store: &mut S) {
+fn post<S: StateStore>(case: &Case<'_>, store: &mut S) {
     if let Some(constraint) = take_constraint(case) {
         let posted = store.post(&constraint);
         case.done(posted);
@@ -67,7 +67,7 @@ fn post<S: StateStore>(case: &mut Case<'_>, store: &mut S) {
 }
 
 /// Shows a constraint that was posted.
-fn show_constraint<S: StateStore>(case: &mut Case<'_>, store: &S) {
+fn show_constraint<S: StateStore>(case: &Case<'_>, store: &S) {
     let number = case.take_number();
     if number >= store.constraints() {
         return case.lacks("a constraint that was posted");

@@ -7,7 +7,7 @@ use pi_types::{ReadStop, StateStore};
 use pi_unify::{copy_term, place, unify};
 
 /// Takes a step that makes terms, and tells whether it is one.
-pub fn take_step<S: StateStore>(case: &mut Case<'_>, bench: &mut Bench<S>, name: &str) -> bool {
+pub fn take_step<S: StateStore>(case: &Case<'_>, bench: &mut Bench<S>, name: &str) -> bool {
     match name {
         "new" => new_variables(case, &mut bench.store),
         "let" => {
@@ -28,7 +28,7 @@ pub fn take_step<S: StateStore>(case: &mut Case<'_>, bench: &mut Bench<S>, name:
     true
 }
 
-fn new_variables<S: StateStore>(case: &mut Case<'_>, store: &mut S) {
+fn new_variables<S: StateStore>(case: &Case<'_>, store: &mut S) {
     for _ in 0..case.take_number() {
         let made = store.new_var();
         case.done(made);
@@ -36,7 +36,7 @@ fn new_variables<S: StateStore>(case: &mut Case<'_>, store: &mut S) {
 }
 
 /// Places a term.
-fn place_taken<S: StateStore>(case: &mut Case<'_>, bench: &mut Bench<S>) {
+fn place_taken<S: StateStore>(case: &Case<'_>, bench: &mut Bench<S>) {
     if let Some(term) = case.take_term() {
         let made = place(case.alloc, &mut bench.store, &term);
         let made = case.made(made);
@@ -45,7 +45,7 @@ fn place_taken<S: StateStore>(case: &mut Case<'_>, bench: &mut Bench<S>) {
 }
 
 /// Places a term of the store once more, as it reads.
-fn place_again<S: StateStore>(case: &mut Case<'_>, bench: &mut Bench<S>) {
+fn place_again<S: StateStore>(case: &Case<'_>, bench: &mut Bench<S>) {
     let r = bench.take(case);
     match read(case, &bench.store, r) {
         Some(term) => {
@@ -58,7 +58,7 @@ fn place_again<S: StateStore>(case: &mut Case<'_>, bench: &mut Bench<S>) {
 }
 
 /// Copies a term, where that isn't too large.
-fn copy<S: StateStore>(case: &mut Case<'_>, bench: &mut Bench<S>) {
+fn copy<S: StateStore>(case: &Case<'_>, bench: &mut Bench<S>) {
     let r = bench.take(case);
     match copy_term(case.alloc, &mut bench.store, r) {
         Ok(made) => {
@@ -70,7 +70,7 @@ fn copy<S: StateStore>(case: &mut Case<'_>, bench: &mut Bench<S>) {
     }
 }
 
-fn unify_two<S: StateStore>(case: &mut Case<'_>, bench: &mut Bench<S>) {
+fn unify_two<S: StateStore>(case: &Case<'_>, bench: &mut Bench<S>) {
     let a = bench.take(case);
     let b = bench.take(case);
     let is_equal = unify(case.alloc, &mut bench.store, a, b);
