@@ -28,8 +28,15 @@ const RIGHT: u8 = 0;
 
 /// What answers the cases of a program's files.
 pub trait Subjects<R> {
-    /// Answers a case that is a text, and tells whether the subject is one of such cases.
-    fn answer_text(&mut self, rt: &R, subject: &str, line: &str, case: &Case<'_>) -> bool;
+    /// Answers a case that is a line of a file with this text, and tells whether the subject is one of such cases.
+    fn answer_text(
+        &mut self,
+        rt: &R,
+        subject: &str,
+        text: &str,
+        line: &str,
+        case: &Case<'_>,
+    ) -> bool;
 
     /// Answers a case of words in a file with this text, and tells whether the subject is one of such cases.
     fn answer_words(&mut self, rt: &R, subject: &str, text: &str, case: &Case<'_>) -> bool;
@@ -133,7 +140,7 @@ fn run_line<R: Print + AllocGlobal, S: Subjects<R>>(
         return failed(rt.println(line));
     }
     let case = Case::new(rt.alloc(), &[]);
-    if subjects.answer_text(rt, subject, line, &case) {
+    if subjects.answer_text(rt, subject, text, line, &case) {
         return write_case(rt, line, &case);
     }
     run_words(rt, subjects, subject, text, line)

@@ -72,13 +72,7 @@ fn push_times(case: &Case<'_>, count: usize, piece: &str, bytes: &mut Vec<u8>) {
 }
 
 /// Appends a piece so many times, each with its number in it.
-fn push_numbered(
-    case: &Case<'_>,
-    count: usize,
-    before: &str,
-    after: &str,
-    bytes: &mut Vec<u8>,
-) {
+fn push_numbered(case: &Case<'_>, count: usize, before: &str, after: &str, bytes: &mut Vec<u8>) {
     for i in 0..count {
         push_plain(case, before, bytes);
         let number = i.to_string(case.alloc);

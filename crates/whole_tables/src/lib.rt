@@ -1,0 +1,18 @@
+//! Cases of runs of the whole program, over files, input and output in memory.
+#![tactic(auto)]
+
+mod command;
+mod runs;
+
+use pi_cases::Case;
+
+/// Answers a case of runs in a file with this text, and tells whether the subject is one of such cases.
+pub fn answer_text(subject: &str, text: &str, line: &str, case: &Case<'_>) -> bool {
+    match subject {
+        "whole" => runs::answer(case, text, line),
+        "failing_reads" => runs::answer_failing_read(case, text, line),
+        "failing_writes" => runs::answer_failing_write(case, text, line),
+        _ => return false,
+    }
+    true
+}

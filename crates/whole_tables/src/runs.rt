@@ -1,0 +1,82 @@
+//! Runs of the whole program: their status, and what they write, with `\n` for a line feed.
+
+use crate::command::{files_of, words_of};
+use pi_cases::Case;
+use pi_outside::{MemoryFiles, MemorySink, SureSource};
+use pi_top::picatq;
+use std::str;
+
+/// How many bytes a run writes at most.
+const ROOM: usize = 4_000;
+
+/// The number of a call that never comes.
+const NEVER: u64 = 0;
+
+/// Tells what a run comes to.
+pub(crate) fn answer(case: &Case<'_>, text: &str, line: &str) {
+    run(case, text, line, NEVER, NEVER);
+}
+
+/// Tells what a run comes to in which a read fails, whose number stands in front: `2 FILE ⊢ p(X)`.
+pub(crate) fn answer_failing_read(case: &Case<'_>, text: &str, line: &str) {
+    let (number, line) = numbered(case, line);
+    run(case, text, line, number, NEVER);
+}
+
+/// Tells what a run comes to in which a write fails, whose number stands in front.
+pub(crate) fn answer_failing_write(case: &Case<'_>, text: &str, line: &str) {
+    let (number, line) = numbered(case, line);
+    run(case, text, line, NEVER, number);
+}
+
+/// The number in front of a line, and what stands behind it.
+fn numbered<'a>(case: &Case<'_>, line: &'a str) -> (u64, &'a str) {
+    let (number, rest) = line.split_once(' ').unwrap_or((line, ""));
+    match number.parse() {
+        Ok(number) => (number, rest),
+        Err(_) => {
+            case.lacks("the number of a call in front");
+            (NEVER, rest)
+        }
+    }
+}
+
+/// Tells what a run comes to in which the read and the write of these numbers fail.
+fn run(case: &Case<'_>, text: &str, line: &str, read: u64, write: u64) {
+    let words = words_of(case, line);
+    let mut files = files_of(case, text, line);
+    let noted = files.fail_at(read);
+    case.done(noted);
+    run_over(case, words.as_slice(), &mut files, write);
+}
+
+/// Tells what a run over these files comes to.
+fn run_over(case: &Case<'_>, words: &[String], files: &mut MemoryFiles, write: u64) {
+    let out = MemorySink::new(case.alloc, ROOM);
+    if let Some(mut out) = case.made(out) {
+        let noted = out.fail_at(write);
+        case.done(noted);
+        run_into(case, words, files, &mut out);
+    }
+}
+
+/// Tells what a run with this output comes to. There is no input.
+fn run_into(case: &Case<'_>, words: &[String], files: &mut MemoryFiles, out: &mut MemorySink) {
+    let input = SureSource::new(case.alloc, b"", 1);
+    if let Some(mut input) = case.made(input) {
+        let outcome = picatq(case.alloc, words, files, &mut input, out);
+        case.tell_number(u64::from(outcome.status));
+        tell_written(case, out.bytes());
+    }
+}
+
+/// Tells what was written, if anything.
+fn tell_written(case: &Case<'_>, bytes: &[u8]) {
+    if !bytes.is_empty() {
+        case.tell(" ");
+    }
+    match str::from_utf8(bytes) {
+        Ok(text) => case.tell_escaped(text),
+        Err(_) => case.lacks("a text that is written"),
+    }
+}
