@@ -4,25 +4,30 @@
 
 use pi_cases::{Case, bytes_of};
 use pi_outside::MemoryFiles;
-use std::str;
 
 /// The name of the file.
 const FILE: &str = "FILE";
 
 /// What stands in front of the text in the file.
-const HOLDS: char = ':';
+pub(crate) const HOLDS: char = ':';
 
 /// What stands in front of the last word.
-const ASKED: char = '⊢';
+pub(crate) const ASKED: char = '⊢';
 
 /// How a line of the text in the file begins, where it is the same for all cases.
 const GIVEN: char = '&';
 
+/// What stands in front of a mark and behind it, where it is there, without blanks at both ends.
+pub(crate) fn parts(line: &str, mark: char) -> (&str, Option<&str>) {
+    match line.split_once(mark) {
+        Some((front, rest)) => (front, Some(rest.trim())),
+        None => (line, None),
+    }
+}
+
 /// The words of a command line.
-pub(crate) fn words_of(case: &Case<'_>, line: &str) -> Vec<String> {
+pub(crate) fn words_of(case: &Case<'_>, front: &str, last: Option<&str>) -> Vec<String> {
     let mut words = Vec::new(case.alloc);
-    let (front, last) = parts(line, ASKED);
-    let (front, _) = parts(front, HOLDS);
     for word in front.split_whitespace() {
         push_word(case, word, &mut words);
     }
@@ -34,31 +39,22 @@ pub(crate) fn words_of(case: &Case<'_>, line: &str) -> Vec<String> {
 
 /// Appends a word as it is meant.
 fn push_word(case: &Case<'_>, written: &str, words: &mut Vec<String>) {
-    let bytes = bytes_of(case, written);
-    let word = String::from_str(case.alloc, str::from_utf8(bytes.as_slice()).unwrap_or(""));
-    let word = case.made(word);
-    case.keep(word, words);
+    match String::from_utf8(bytes_of(case, written)) {
+        Ok(word) => case.keep(Some(word), words),
+        Err(_) => case.lacks("words that are texts"),
+    }
 }
 
 /// The files of a run.
-pub(crate) fn files_of(case: &Case<'_>, text: &str, line: &str) -> MemoryFiles {
+pub(crate) fn files_of(case: &Case<'_>, text: &str, held: Option<&str>) -> MemoryFiles {
     let mut files = MemoryFiles::new(case.alloc);
-    let (front, _) = parts(line, ASKED);
-    let held = match parts(front, HOLDS) {
-        (_, Some(held)) => bytes_of(case, held),
-        (_, None) => given(case, text),
+    let held = match held {
+        Some(held) => bytes_of(case, held),
+        None => given(case, text),
     };
     let added = files.add(FILE, held.as_slice());
     case.done(added);
     files
-}
-
-/// What stands in front of a mark and behind it, where it is there, without blanks at both ends.
-fn parts(line: &str, mark: char) -> (&str, Option<&str>) {
-    match line.split_once(mark) {
-        Some((front, rest)) => (front, Some(rest.trim())),
-        None => (line, None),
-    }
 }
 
 /// The lines of a text that begin with `&`.

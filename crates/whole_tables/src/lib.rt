@@ -10,8 +10,8 @@ use pi_cases::Case;
 pub fn answer_text(subject: &str, text: &str, line: &str, case: &Case<'_>) -> bool {
     match subject {
         "whole" => runs::answer(case, text, line),
-        "failing_reads" => runs::answer_failing_read(case, text, line),
-        "failing_writes" => runs::answer_failing_write(case, text, line),
+        "failing_reads" => runs::answer_failing(case, text, line, true),
+        "failing_writes" => runs::answer_failing(case, text, line, false),
         _ => return false,
     }
     true

@@ -1,6 +1,6 @@
 //! Runs of the whole program: their status, and what they write, with `\n` for a line feed.
 
-use crate::command::{files_of, words_of};
+use crate::command::{ASKED, HOLDS, files_of, parts, words_of};
 use pi_cases::Case;
 use pi_outside::{MemoryFiles, MemorySink, SureSource};
 use pi_top::picatq;
@@ -17,34 +17,22 @@ pub(crate) fn answer(case: &Case<'_>, text: &str, line: &str) {
     run(case, text, line, NEVER, NEVER);
 }
 
-/// Tells what a run comes to in which a read fails, whose number stands in front: `2 FILE ⊢ p(X)`.
-pub(crate) fn answer_failing_read(case: &Case<'_>, text: &str, line: &str) {
-    let (number, line) = numbered(case, line);
-    run(case, text, line, number, NEVER);
-}
-
-/// Tells what a run comes to in which a write fails, whose number stands in front.
-pub(crate) fn answer_failing_write(case: &Case<'_>, text: &str, line: &str) {
-    let (number, line) = numbered(case, line);
-    run(case, text, line, NEVER, number);
-}
-
-/// The number in front of a line, and what stands behind it.
-fn numbered<'a>(case: &Case<'_>, line: &'a str) -> (u64, &'a str) {
-    let (number, rest) = line.split_once(' ').unwrap_or((line, ""));
+/// Tells what a run comes to in which a read, or else a write, fails, whose number stands in front: `2 FILE ⊢ p(X)`.
+pub(crate) fn answer_failing(case: &Case<'_>, text: &str, line: &str, is_read: bool) {
+    let (number, line) = line.split_once(' ').unwrap_or((line, ""));
     match number.parse() {
-        Ok(number) => (number, rest),
-        Err(_) => {
-            case.lacks("the number of a call in front");
-            (NEVER, rest)
-        }
+        Ok(number) if is_read => run(case, text, line, number, NEVER),
+        Ok(number) => run(case, text, line, NEVER, number),
+        Err(_) => case.lacks("the number of a call in front"),
     }
 }
 
 /// Tells what a run comes to in which the read and the write of these numbers fail.
 fn run(case: &Case<'_>, text: &str, line: &str, read: u64, write: u64) {
-    let words = words_of(case, line);
-    let mut files = files_of(case, text, line);
+    let (front, last) = parts(line, ASKED);
+    let (front, held) = parts(front, HOLDS);
+    let words = words_of(case, front, last);
+    let mut files = files_of(case, text, held);
     let noted = files.fail_at(read);
     case.done(noted);
     run_over(case, words.as_slice(), &mut files, write);
