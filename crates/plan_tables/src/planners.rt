@@ -34,14 +34,7 @@ fn take_choice(case: &Case<'_>, first: &str, second: &str) -> bool {
 }
 
 /// Makes the planner of a call and follows it, or tells why it isn't made. This function alone owns a planner.
-fn begin(
-    case: &Case<'_>,
-    start: Term,
-    limit: i128,
-    best: bool,
-    by_rest: bool,
-    graph: &[Entry],
-) {
+fn begin(case: &Case<'_>, start: Term, limit: i128, best: bool, by_rest: bool, graph: &[Entry]) {
     match Planner::new(case.alloc, start, limit, best, by_rest) {
         Ok(mut planner) => follow(case, &mut planner, graph),
         Err(fault) => tell_fault(case, &fault),
@@ -91,13 +84,7 @@ fn take_step(case: &Case<'_>, planner: &mut Planner, graph: &[Entry]) -> bool
 }
 
 /// Gives a planner the state that it asks for, and tells whether it takes an entry for it.
-fn give(
-    case: &Case<'_>,
-    planner: &mut Planner,
-    graph: &[Entry],
-    state: &Term,
-    rest: i128,
-) -> bool
+fn give(case: &Case<'_>, planner: &mut Planner, graph: &[Entry], state: &Term, rest: i128) -> bool
     requires sound { IsSound planner.old }
     requires asked { IsSome (waits_for planner.old) }
     ensures sound { result ≡ true → IsSound planner.new }

@@ -14,11 +14,7 @@ const UNREAD: u8 = b'_';
 
 /// Tells what each call of a case gives. The first step makes the object that is called: `memory`, `sure` or `real`, and
 /// `sink`, `source` or `files`.
-pub fn answer<R: Print + Input + AllocGlobal, F: Files>(
-    rt: &R,
-    files: &mut F,
-    case: &Case<'_>,
-) {
+pub fn answer<R: Print + Input + AllocGlobal, F: Files>(rt: &R, files: &mut F, case: &Case<'_>) {
     let kind = case.take_word();
     let object = case.take_word();
     match (kind, object) {
