@@ -55,28 +55,28 @@ pub no-items : {A : Type 0} (xs : List A) → length xs ≡ 0 → xs ≡ []
 no-items [] h = refl
 no-items (x ∷ xs) h = cc
 
-two-pushed : (front : List CorePred) (p q : CorePred) → map pred_tree ((front ++ p ∷ []) ++ q ∷ []) ≡ map pred_tree front ++ pred_tree p ∷ pred_tree q ∷ []
-two-pushed [] p q = refl
-two-pushed (x ∷ front) p q = ap (λ ps. pred_tree x ∷ ps) (two-pushed front p q)
+pub pushed-pred : (old new : List CorePred) (p : CorePred) (t : PredTree) → new ≡ old ++ p ∷ [] → pred_tree p ≡ t → map pred_tree new ≡ map pred_tree old ++ t ∷ []
+pushed-pred old new p t put is = ap (map pred_tree) put ∙ (map-append pred_tree old (p ∷ []) ∙ ap (λ q. map pred_tree old ++ q ∷ []) is)
 
-pub adds-first : (c : Lowering) (made : CorePred) (before after : List CorePred) → pred_tree made ≡ with_first c → before ≡ [] → after ≡ made ∷ [] → (rest : List Lowering) →
+pub adds-first : (c : Lowering) (before left after : List CorePred) → before ≡ [] → left ≡ [] → map pred_tree after ≡ map pred_tree left ++ with_first c ∷ [] → (rest : List Lowering) →
     lowered_behind (map pred_tree before) (c ∷ rest) ≡ lowered_behind (map pred_tree after) rest
-adds-first c made before after e none new rest =
-    ap (λ ps. lowered_behind (map pred_tree ps) (c ∷ rest)) none ∙ (behind-first c rest (pred_tree made) e ∙ ap (λ ps. lowered_behind (map pred_tree ps) rest) (sym new))
+adds-first c before left after none popped put rest =
+    ap (λ ps. lowered_behind (map pred_tree ps) (c ∷ rest)) none
+    ∙ (behind-first c rest (with_first c) refl ∙ ap (λ ps. lowered_behind ps rest) (sym (put ∙ ap (λ ps. map pred_tree ps ++ with_first c ∷ []) popped)))
 
-pub adds-same : (c : Lowering) (last made : CorePred) (front before after : List CorePred) → is_clause_of (pred_tree last) c ≡ true → pred_tree made ≡ with_next (pred_tree last) c.clause → before ≡ front ++ last ∷ [] →
-    after ≡ front ++ made ∷ [] → (rest : List Lowering) → lowered_behind (map pred_tree before) (c ∷ rest) ≡ lowered_behind (map pred_tree after) rest
-adds-same c last made front before after test e old new rest =
+pub adds-same : (c : Lowering) (last : CorePred) (front before after : List CorePred) → is_clause_of (pred_tree last) c ≡ true → before ≡ front ++ last ∷ [] →
+    map pred_tree after ≡ map pred_tree front ++ with_next (pred_tree last) c.clause ∷ [] → (rest : List Lowering) → lowered_behind (map pred_tree before) (c ∷ rest) ≡ lowered_behind (map pred_tree after) rest
+adds-same c last front before after test old put rest =
     ap (λ ps. lowered_behind ps (c ∷ rest)) (ap (map pred_tree) old ∙ map-append pred_tree front (last ∷ []))
-    ∙ (behind-others (map pred_tree front) (pred_tree last) (pred_tree made) [] (c ∷ rest) rest (behind-same c rest (pred_tree last) (pred_tree made) test e)
-    ∙ ap (λ ps. lowered_behind ps rest) (sym (ap (map pred_tree) new ∙ map-append pred_tree front (made ∷ []))))
+    ∙ (behind-others (map pred_tree front) (pred_tree last) (with_next (pred_tree last) c.clause) [] (c ∷ rest) rest (behind-same c rest (pred_tree last) (with_next (pred_tree last) c.clause) test refl)
+    ∙ ap (λ ps. lowered_behind ps rest) (sym put))
 
-pub adds-other : (c : Lowering) (last made : CorePred) (front before after : List CorePred) → is_clause_of (pred_tree last) c ≡ false → pred_tree made ≡ with_first c → before ≡ front ++ last ∷ [] →
-    after ≡ (front ++ last ∷ []) ++ made ∷ [] → (rest : List Lowering) → lowered_behind (map pred_tree before) (c ∷ rest) ≡ lowered_behind (map pred_tree after) rest
-adds-other c last made front before after test e old new rest =
+pub adds-other : (c : Lowering) (last : CorePred) (front before again after : List CorePred) → is_clause_of (pred_tree last) c ≡ false → before ≡ front ++ last ∷ [] → again ≡ front ++ last ∷ [] →
+    map pred_tree after ≡ map pred_tree again ++ with_first c ∷ [] → (rest : List Lowering) → lowered_behind (map pred_tree before) (c ∷ rest) ≡ lowered_behind (map pred_tree after) rest
+adds-other c last front before again after test old back put rest =
     ap (λ ps. lowered_behind ps (c ∷ rest)) (ap (map pred_tree) old ∙ map-append pred_tree front (last ∷ []))
-    ∙ (behind-others (map pred_tree front) (pred_tree last) (pred_tree last) (pred_tree made ∷ []) (c ∷ rest) rest (behind-other c rest (pred_tree last) (pred_tree made) test e)
-    ∙ ap (λ ps. lowered_behind ps rest) (sym (ap (map pred_tree) new ∙ two-pushed front last made)))
+    ∙ (behind-others (map pred_tree front) (pred_tree last) (pred_tree last) (with_first c ∷ []) (c ∷ rest) rest (behind-other c rest (pred_tree last) (with_first c) test refl)
+    ∙ ap (λ ps. lowered_behind ps rest) (sym (put ∙ (ap (λ ps. ps ++ with_first c ∷ []) (ap (map pred_tree) back ∙ map-append pred_tree front (last ∷ [])) ∙ append_assoc (map pred_tree front) (pred_tree last ∷ []) (with_first c ∷ [])))))
 
 -- ---- a part
 

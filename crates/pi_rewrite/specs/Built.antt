@@ -1,7 +1,5 @@
 -- What the code that lowers has made so far, against the definition.
 use Rattle.std.specs.Prelude.{ℕ, suc, max, Bool, true, false, List, [], ◌∷◌, ◌++◌, ◌&&◌, length, replicate, Option, Some, None}
-use Rattle.std.specs.Str.{bytes_eq}
-use Rattle.std.specs.List.{list_any}
 use Rattle.pi_core.specs.CoreTree.{PredTree}
 use Rattle.pi_core.specs.declared.goal_node.GoalNode.{GoalNode}
 use Rattle.pi_syntax.specs.ExpTree.{ExpTree}
@@ -25,10 +23,6 @@ is_clause_named p function s = same_kind p.function function && is_signature p.n
 abbrev pub is_true_node : GoalNode → Bool
 is_true_node GoalNode.True = true
 is_true_node n = false
-
--- a name is among these
-abbrev pub is_told : List ℕ → List (List ℕ) → Bool
-is_told name names = list_any (bytes_eq name) names
 
 -- ---- what helpers are called: they begin with `~`, once more than any name that is there has bytes
 

@@ -1,16 +1,20 @@
 //! Rules and facts as clauses, of predicates and of functions.
-ghost use Rattle.std.specs.Prelude.{◌≡◌, ◌++◌, map, option_map, List, IfOk};
+ghost use Rattle.std.specs.Prelude.{◌≡◌, ◌++◌, [], length, map, option_map, List, IfOk};
 ghost use Rattle.pi_syntax.specs.ExpTree.{ExpTree, exp_tree};
-ghost use Rattle.pi_core.specs.CoreTree.{clause_tree, pred_tree};
-ghost use Rattle.pi_lowered.specs.Lowered.{lowered_fact};
-ghost use Rattle.pi_lowered.specs.Programs.{written_rule, rule_helpers, written_function, function_helpers};
+ghost use Rattle.pi_core.specs.CoreTree.{clause_tree, pattern_trees, pred_tree};
+ghost use Rattle.pi_meaning.specs.WrittenRules.{head_arguments};
+ghost use Rattle.pi_names.specs.Texts.{behind, places};
+ghost use Rattle.pi_lowered.specs.Lowered.{guard_of, lowered_fact};
+ghost use Rattle.pi_lowered.specs.Programs.{behind_option, option_goals, option_helpers, written_rule, rule_helpers, written_function, function_helpers};
+ghost use Rattle.pi_lowered.specs.Values.{slot_patterns};
 ghost use Rattle.pi_sites.specs.OwnNames.{own_name};
+ghost use Rattle.pi_sites.specs.SiteOf.{site_of};
 
 use crate::goals::{lower_body, lower_goal_or_none, lower_guard, lower_head};
 use crate::places::{clause_site, pass_option};
-use pi_core::{CoreClause, CoreGoal, CorePred, SlotWatches};
+use pi_core::{CoreClause, CoreGoal, CorePred, Patterns, SlotWatches};
 use pi_lowering::{in_turn, lower_value};
-use pi_sites::Naming;
+use pi_sites::{Naming, Site};
 use pi_slots::Slots;
 use pi_syntax::Exp;
 use std::alloc::{AllocError, Global};
@@ -20,6 +24,13 @@ use std::alloc::{AllocError, Global};
 pub(crate) struct Numbered<'a> {
     pub(crate) naming: &'a Naming,
     pub(crate) count: u64,
+}
+
+/// What the head of a clause comes to: its patterns, and the place behind it.
+#[derive(Drop)]
+struct Begun<'a> {
+    patterns: Patterns,
+    site: Site<'a>,
 }
 
 /// A predicate's rule as a clause, with the helpers of its loops behind others. Its events count for nothing here.
@@ -36,15 +47,12 @@ pub(crate) fn lower_rule<'a>(
     ensures helpers { IfOk result (λ _. (events : List ExpTree) → map pred_tree helpers.new.items ≡ map pred_tree helpers.old.items ++ rule_helpers (own_name from.entry.naming.now.prefix) from.entry.count (record { head = exp_tree head.now; cond = option_map exp_tree cond.now; events = events; back = back; body = exp_tree body.now })) }
 {
     let mut slots = Slots::new(alloc);
-    let patterns = lower_head(alloc, head, &mut slots)?;
-    let filled = slots.count()?;
-    let mut site = clause_site(alloc, from.naming, from.count, filled, head)?;
-    let guard = lower_guard(alloc, &site, cond, &mut slots, helpers)?;
-    pass_option(alloc, &mut site, cond)?;
-    let body = lower_body(alloc, &site, body, &mut slots, helpers)?;
+    let mut begun = begin(alloc, from, head, &mut slots)?;
+    let guard = guarded(alloc, &mut begun.site, cond, &mut slots, helpers)?;
+    let body = lower_body(alloc, &begun.site, body, &mut slots, helpers)?;
     let count = slots.count()?;
     Ok(CoreClause {
-        head: patterns,
+        head: begun.patterns,
         guard,
         back,
         watches: SlotWatches::new(alloc),
@@ -52,6 +60,41 @@ pub(crate) fn lower_rule<'a>(
         value: None,
         slots: count,
     })
+}
+
+/// The head of a clause, whose slots come behind others.
+fn begin<'a>(
+    alloc: Global,
+    from: Numbered<'a>,
+    head: &'a Exp,
+    slots: &mut Slots<'a>,
+) -> Result<Begun<'a>, AllocError>
+    ensures patterns { IfOk result (λ begun. pattern_trees begun.patterns.items ≡ (slot_patterns (head_arguments (exp_tree head.now)) slots.old).forms) }
+    ensures slots { IfOk result (λ _. slots.new ≡ (slot_patterns (head_arguments (exp_tree head.now)) slots.old).names) }
+    ensures site { IfOk result (λ begun. site_of begun.site ≡ record { filled = length slots.new; before = behind [] (places (exp_tree head.now)); helpers = from.entry.count; called = own_name from.entry.naming.now.prefix }) }
+{
+    let patterns = lower_head(alloc, head, slots)?;
+    let filled = slots.count()?;
+    let site = clause_site(alloc, from.naming, from.count, filled, head)?;
+    Ok(Begun { patterns, site })
+}
+
+/// The condition of a clause, with the helpers of its loops behind others. The place goes on behind it.
+fn guarded<'a>(
+    alloc: Global,
+    site: &mut Site<'a>,
+    cond: &'a Option<Exp>,
+    slots: &mut Slots<'a>,
+    helpers: &mut Vec<CorePred>,
+) -> Result<CoreGoal, AllocError>
+    ensures is { IfOk result (λ made. made ≡ guard_of (option_map exp_tree cond.now) (option_goals (site_of site.old) (option_map exp_tree cond.now) slots.old)) }
+    ensures slots { IfOk result (λ _. slots.new ≡ (option_goals (site_of site.old) (option_map exp_tree cond.now) slots.old).names) }
+    ensures helpers { IfOk result (λ _. map pred_tree helpers.new.items ≡ map pred_tree helpers.old.items ++ option_helpers (site_of site.old) (option_map exp_tree cond.now)) }
+    ensures site { IfOk result (λ _. site_of site.new ≡ behind_option (site_of site.old) (option_map exp_tree cond.now)) }
+{
+    let guard = lower_guard(alloc, site, cond, slots, helpers)?;
+    pass_option(alloc, site, cond)?;
+    Ok(guard)
 }
 
 /// A fact as a clause, which has just a head.
@@ -88,21 +131,19 @@ pub(crate) fn lower_function<'a>(
     ensures helpers { IfOk result (λ _. map pred_tree helpers.new.items ≡ map pred_tree helpers.old.items ++ function_helpers (own_name from.entry.naming.now.prefix) from.entry.count (record { head = exp_tree head.now; value = exp_tree value.now; cond = option_map exp_tree cond.now; body = option_map exp_tree body.now })) }
 {
     let mut slots = Slots::new(alloc);
-    let patterns = lower_head(alloc, head, &mut slots)?;
-    let filled = slots.count()?;
-    let mut behind = clause_site(alloc, from.naming, from.count, filled, head)?;
-    let mut site = behind.behind_names(alloc, value)?;
-    let guard = lower_guard(alloc, &site, cond, &mut slots, helpers)?;
-    pass_option(alloc, &mut site, cond)?;
+    let mut begun = begin(alloc, from, head, &mut slots)?;
+    let mut site = begun.site.behind_names(alloc, value)?;
+    let guard = guarded(alloc, &mut site, cond, &mut slots, helpers)?;
     let mut goals = Vec::new(alloc);
     lower_goal_or_none(alloc, &site, body, &mut slots, &mut goals, helpers)?;
-    pass_option(alloc, &mut behind, cond)?;
-    pass_option(alloc, &mut behind, body)?;
-    let value = lower_value(alloc, &behind, value, &mut slots, &mut goals, helpers)?;
+    drop(site);
+    pass_option(alloc, &mut begun.site, cond)?;
+    pass_option(alloc, &mut begun.site, body)?;
+    let value = lower_value(alloc, &begun.site, value, &mut slots, &mut goals, helpers)?;
     let body = in_turn(alloc, goals)?;
     let count = slots.count()?;
     Ok(CoreClause {
-        head: patterns,
+        head: begun.patterns,
         guard,
         back: false,
         watches: SlotWatches::new(alloc),

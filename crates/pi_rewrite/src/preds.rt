@@ -21,7 +21,7 @@ use pi_terms::Text;
 use std::alloc::{AllocError, Global};
 
 /// What a clause is of: a predicate or a function, with its number of arguments.
-#[derive(Drop)]
+#[derive(Clone, Copy)]
 struct Named<'a> {
     name: &'a str,
     arity: u32,
@@ -99,8 +99,8 @@ fn lower_part(
                 ..
             },
         ) => {
-            let clause = lower_rule(alloc, from, head, cond, *back, body, helpers)?;
             let named = signature(head, false)?;
+            let clause = lower_rule(alloc, from, head, cond, *back, body, helpers)?;
             add_clause(alloc, preds, named, None, clause)?;
             Ok(())
         }
@@ -112,14 +112,14 @@ fn lower_part(
                 body,
             },
         ) => {
-            let clause = lower_function(alloc, from, head, value, cond, body, helpers)?;
             let named = signature(head, true)?;
+            let clause = lower_function(alloc, from, head, value, cond, body, helpers)?;
             add_clause(alloc, preds, named, None, clause)?;
             Ok(())
         }
         Some(Clause::Fact { head }) => {
-            let clause = lower_fact(alloc, head)?;
             let named = signature(head, false)?;
+            let clause = lower_fact(alloc, head)?;
             let modes = mode_lists(&part.decl);
             add_clause(alloc, preds, named, modes, clause)?;
             Ok(())
@@ -150,26 +150,44 @@ fn add_clause(
     ensures { IfOk result (λ _. (rest : List Lowering) → lowered_behind (map pred_tree preds.old.items) (record { is_function = named.entry.function; head = record { name = named.entry.name.now; arity = named.entry.arity }; modes = option_copied modes.entry; clause = clause_tree clause } ∷ rest) ≡ lowered_behind (map pred_tree preds.new.items) rest) }
 {
     let Some(last) = preds.pop() else {
-        let made = new_pred(alloc, named, modes, clause)?;
-        preds.push(made)?;
-        return Ok(());
+        return begin(alloc, preds, named, modes, clause);
     };
-    if is_of(&last, &named) {
-        let more = one_more(last, clause)?;
-        preds.push(more)?;
-        return Ok(());
+    if is_of(&last, named) {
+        return go_on(preds, last, clause);
     }
-    let made = new_pred(alloc, named, modes, clause)?;
     preds.push(last)?;
+    begin(alloc, preds, named, modes, clause)
+}
+
+/// Whether the predicate or function is what a head names.
+fn is_of(pred: &CorePred, named: Named<'_>) -> bool
+    ensures { result ≡ is_clause_named (pred_tree pred.now) named.entry.function (record { name = named.entry.name.now; arity = named.entry.arity }) }
+{
+    named.function == pred.function && named.name == pred.name.as_str() && named.arity == pred.arity
+}
+
+/// Adds a predicate or function with this clause, behind these mode lists.
+fn begin(
+    alloc: Global,
+    preds: &mut Vec<CorePred>,
+    named: Named<'_>,
+    modes: Option<&ModeLists>,
+    clause: CoreClause,
+) -> Result<(), AllocError>
+    ensures { IfOk result (λ _. map pred_tree preds.new.items ≡ map pred_tree preds.old.items ++ with_first (record { is_function = named.entry.function; head = record { name = named.entry.name.now; arity = named.entry.arity }; modes = option_copied modes.entry; clause = clause_tree clause }) ∷ []) }
+{
+    let made = new_pred(alloc, named, modes, clause)?;
     preds.push(made)?;
     Ok(())
 }
 
-/// Whether the predicate or function is what a head names.
-fn is_of(pred: &CorePred, named: &Named<'_>) -> bool
-    ensures { result ≡ is_clause_named (pred_tree pred.now) named.now.function (record { name = named.now.name.now; arity = named.now.arity }) }
+/// Adds a predicate or function with one more clause.
+fn go_on(preds: &mut Vec<CorePred>, pred: CorePred, clause: CoreClause) -> Result<(), AllocError>
+    ensures { IfOk result (λ _. map pred_tree preds.new.items ≡ map pred_tree preds.old.items ++ with_next (pred_tree pred) (clause_tree clause) ∷ []) }
 {
-    named.function == pred.function && named.name == pred.name.as_str() && named.arity == pred.arity
+    let more = one_more(pred, clause)?;
+    preds.push(more)?;
+    Ok(())
 }
 
 /// A predicate or function with this clause, behind these mode lists.

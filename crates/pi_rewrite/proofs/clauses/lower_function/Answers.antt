@@ -1,5 +1,5 @@
 -- The slots of the head are those before the condition; then come the body and the value behind it. The names of the value stand before the condition and the body too.
-use Rattle.std.proofs.Common.{◌≡◌, ◌++◌, List, [], map, refl, false, Some, ap, ◌∙◌}
+use Rattle.std.proofs.Common.{◌≡◌, ◌++◌, List, [], length, map, refl, false, Some, ap, ◌∙◌}
 use Rattle.std.specs.Prelude.{option_map}
 use Rattle.pi_syntax.specs.ExpTree.{exp_tree}
 use Rattle.pi_syntax.specs.ProgramTree.{FunctionTree}
@@ -17,29 +17,31 @@ use Rattle.pi_rewrite.proofs.clauses.lower_function.Goals as goal
 pub returns-clause-is : goal.returns-clause-is
 returns-clause-is c =
     let f : FunctionTree = record { head = exp_tree c.args.head.now; value = exp_tree c.args.value.now; cond = option_map exp_tree c.args.cond.now; body = option_map exp_tree c.args.body.now } in
-    let slots : c.lower_head.new.slots ≡ (slot_patterns (head_arguments f.head) []).names = c.in_ok-patterns.ensures.slots ∙ ap (λ ns. (slot_patterns (head_arguments f.head) ns).names) c.new-slots.ensures in
-    function-is (record { head = c.in_ok-patterns.patterns; guard = c.in_ok-guard.guard; back = false; watches = c.new.result; body = c.in_ok-body.body; value = Some c.in_ok-value.value; slots = c.in_ok-count.count }) f
-    (own_name c.args.from.naming.now.prefix) c.args.from.count c.new-slots.result c.lower_head.new.slots c.lower_guard.new.slots c.lower_goal_or_none.new.slots c.lower_value.new.slots (site_of c.in_ok-site.site) (site_of c.pass_option.new.site)
-    (site_of c.pass_option-3.new.site) c.in_ok-value.value c.new-goals.result.items c.lower_goal_or_none.new.goals.items c.lower_value.new.goals.items c.new-slots.ensures c.in_ok-patterns.ensures.are c.in_ok-patterns.ensures.slots
-    (function-site-is f (own_name c.args.from.naming.now.prefix) c.args.from.count c.in_ok-filled.filled c.lower_head.new.slots (site_of c.in_ok-behind.behind) (site_of c.in_ok-site.site) slots c.in_ok-filled.ensures c.in_ok-behind.ensures c.in_ok-site.ensures)
-    c.in_ok-guard.ensures.is c.in_ok-guard.ensures.slots c.in_ok-pass_option.ensures refl c.new.ensures c.new-goals.ensures.items c.in_ok-lower_goal_or_none.ensures.goals c.in_ok-lower_goal_or_none.ensures.slots
-    (value-site-is f (own_name c.args.from.naming.now.prefix) c.args.from.count c.in_ok-filled.filled c.lower_head.new.slots (site_of c.in_ok-behind.behind) (site_of c.pass_option-2.new.site) (site_of c.pass_option-3.new.site) slots c.in_ok-filled.ensures
-    c.in_ok-behind.ensures c.in_ok-pass_option-2.ensures c.in_ok-pass_option-3.ensures)
+    let begun = c.in_ok-begun.begun in
+    let slots : c.begin.new.slots ≡ (slot_patterns (head_arguments f.head) []).names = c.in_ok-begun.ensures.slots ∙ ap (λ ns. (slot_patterns (head_arguments f.head) ns).names) c.new-slots.ensures in
+    function-is (record { head = begun.patterns; guard = c.in_ok-guard.guard; back = false; watches = c.new.result; body = c.in_ok-body.body; value = Some c.in_ok-value.value; slots = c.in_ok-count.count }) f
+    (own_name c.args.from.naming.now.prefix) c.args.from.count c.new-slots.result c.begin.new.slots c.guarded.new.slots c.lower_goal_or_none.new.slots c.lower_value.new.slots (site_of c.in_ok-site.site) (site_of c.guarded.new.site)
+    (site_of c.pass_option-2.new.site) c.in_ok-value.value c.new-goals.result.items c.lower_goal_or_none.new.goals.items c.lower_value.new.goals.items c.new-slots.ensures c.in_ok-begun.ensures.patterns c.in_ok-begun.ensures.slots
+    (function-site-is f (own_name c.args.from.naming.now.prefix) c.args.from.count (length c.begin.new.slots) c.begin.new.slots (site_of begun.site) (site_of c.in_ok-site.site) slots refl c.in_ok-begun.ensures.site c.in_ok-site.ensures)
+    c.in_ok-guard.ensures.is c.in_ok-guard.ensures.slots c.in_ok-guard.ensures.site refl c.new.ensures c.new-goals.ensures.items c.in_ok-lower_goal_or_none.ensures.goals c.in_ok-lower_goal_or_none.ensures.slots
+    (value-site-is f (own_name c.args.from.naming.now.prefix) c.args.from.count (length c.begin.new.slots) c.begin.new.slots (site_of begun.site) (site_of c.pass_option.new.site) (site_of c.pass_option-2.new.site) slots refl
+    c.in_ok-begun.ensures.site c.in_ok-pass_option.ensures c.in_ok-pass_option-2.ensures)
     c.in_ok-value.ensures.goals c.in_ok-value.ensures.is c.in_ok-value.ensures.slots c.in_ok-body.ensures refl c.in_ok-count.ensures
 
 pub returns-clause-helpers : goal.returns-clause-helpers
 returns-clause-helpers c =
     let f : FunctionTree = record { head = exp_tree c.args.head.now; value = exp_tree c.args.value.now; cond = option_map exp_tree c.args.cond.now; body = option_map exp_tree c.args.body.now } in
-    let slots : c.lower_head.new.slots ≡ (slot_patterns (head_arguments f.head) []).names = c.in_ok-patterns.ensures.slots ∙ ap (λ ns. (slot_patterns (head_arguments f.head) ns).names) c.new-slots.ensures in
+    let begun = c.in_ok-begun.begun in
+    let slots : c.begin.new.slots ≡ (slot_patterns (head_arguments f.head) []).names = c.in_ok-begun.ensures.slots ∙ ap (λ ns. (slot_patterns (head_arguments f.head) ns).names) c.new-slots.ensures in
     let here : site_of c.in_ok-site.site ≡ function_site (own_name c.args.from.naming.now.prefix) c.args.from.count f =
-    function-site-is f (own_name c.args.from.naming.now.prefix) c.args.from.count c.in_ok-filled.filled c.lower_head.new.slots (site_of c.in_ok-behind.behind) (site_of c.in_ok-site.site) slots c.in_ok-filled.ensures c.in_ok-behind.ensures c.in_ok-site.ensures in
-    let last : site_of c.pass_option-3.new.site ≡ value_site (own_name c.args.from.naming.now.prefix) c.args.from.count f =
-    value-site-is f (own_name c.args.from.naming.now.prefix) c.args.from.count c.in_ok-filled.filled c.lower_head.new.slots (site_of c.in_ok-behind.behind) (site_of c.pass_option-2.new.site) (site_of c.pass_option-3.new.site) slots c.in_ok-filled.ensures
-    c.in_ok-behind.ensures c.in_ok-pass_option-2.ensures c.in_ok-pass_option-3.ensures in
-    let inner = option_helpers (site_of c.pass_option.new.site) f.body in
-    let value = value_helpers (site_of c.pass_option-3.new.site) f.value in
-    two-behind (map pred_tree c.args.helpers.now.items) (map pred_tree c.lower_guard.new.helpers.items) (map pred_tree c.lower_value.new.helpers.items) _ _ (option_helpers (site_of c.in_ok-site.site) f.cond) (inner ++ value) c.in_ok-guard.ensures.helpers
-    (two-behind (map pred_tree c.lower_guard.new.helpers.items) (map pred_tree c.lower_goal_or_none.new.helpers.items) (map pred_tree c.lower_value.new.helpers.items) _ _ inner value c.in_ok-lower_goal_or_none.ensures.helpers c.in_ok-value.ensures.helpers refl refl)
+    function-site-is f (own_name c.args.from.naming.now.prefix) c.args.from.count (length c.begin.new.slots) c.begin.new.slots (site_of begun.site) (site_of c.in_ok-site.site) slots refl c.in_ok-begun.ensures.site c.in_ok-site.ensures in
+    let last : site_of c.pass_option-2.new.site ≡ value_site (own_name c.args.from.naming.now.prefix) c.args.from.count f =
+    value-site-is f (own_name c.args.from.naming.now.prefix) c.args.from.count (length c.begin.new.slots) c.begin.new.slots (site_of begun.site) (site_of c.pass_option.new.site) (site_of c.pass_option-2.new.site) slots refl
+    c.in_ok-begun.ensures.site c.in_ok-pass_option.ensures c.in_ok-pass_option-2.ensures in
+    let inner = option_helpers (site_of c.guarded.new.site) f.body in
+    let value = value_helpers (site_of c.pass_option-2.new.site) f.value in
+    two-behind (map pred_tree c.args.helpers.now.items) (map pred_tree c.guarded.new.helpers.items) (map pred_tree c.lower_value.new.helpers.items) _ _ (option_helpers (site_of c.in_ok-site.site) f.cond) (inner ++ value) c.in_ok-guard.ensures.helpers
+    (two-behind (map pred_tree c.guarded.new.helpers.items) (map pred_tree c.lower_goal_or_none.new.helpers.items) (map pred_tree c.lower_value.new.helpers.items) _ _ inner value c.in_ok-lower_goal_or_none.ensures.helpers c.in_ok-value.ensures.helpers refl refl)
     (ap (λ (s : Site). option_helpers s f.cond) here)
-    (ap (λ (xs : List PredTree). xs ++ value) (ap (λ (s : Site). option_helpers s f.body) (c.in_ok-pass_option.ensures ∙ ap (λ (s : Site). behind_option s f.cond) here))
+    (ap (λ (xs : List PredTree). xs ++ value) (ap (λ (s : Site). option_helpers s f.body) (c.in_ok-guard.ensures.site ∙ ap (λ (s : Site). behind_option s f.cond) here))
     ∙ ap (λ (xs : List PredTree). option_helpers (behind_option (function_site (own_name c.args.from.naming.now.prefix) c.args.from.count f) f.cond) f.body ++ xs) (ap (λ (s : Site). value_helpers s f.value) last))

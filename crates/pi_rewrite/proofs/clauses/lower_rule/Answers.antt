@@ -1,5 +1,5 @@
 -- The slots of the head are those before the condition, and those of the condition stand before the body; so with the places and the helpers.
-use Rattle.std.proofs.Common.{◌≡◌, map, refl, ap, None, ◌∙◌}
+use Rattle.std.proofs.Common.{◌≡◌, length, map, refl, ap, None, ◌∙◌}
 use Rattle.std.specs.Prelude.{option_map}
 use Rattle.pi_syntax.specs.ExpTree.{exp_tree}
 use Rattle.pi_syntax.specs.ProgramTree.{RuleTree}
@@ -17,18 +17,20 @@ use Rattle.pi_rewrite.proofs.clauses.lower_rule.Goals as goal
 pub returns-clause-is : goal.returns-clause-is
 returns-clause-is c = λ events.
     let r : RuleTree = record { head = exp_tree c.args.head.now; cond = option_map exp_tree c.args.cond.now; events = events; back = c.args.back; body = exp_tree c.args.body.now } in
-    rule-is (record { head = c.in_ok-patterns.patterns; guard = c.in_ok-guard.guard; back = c.args.back; watches = c.new.result; body = c.in_ok-body.body; value = None; slots = c.in_ok-count.count }) r (own_name c.args.from.naming.now.prefix) c.args.from.count
-    c.new-slots.result c.lower_head.new.slots c.lower_guard.new.slots c.lower_body.new.slots (site_of c.in_ok-site.site) (site_of c.pass_option.new.site) c.new-slots.ensures c.in_ok-patterns.ensures.are c.in_ok-patterns.ensures.slots
-    (rule-site-is r (own_name c.args.from.naming.now.prefix) c.args.from.count c.in_ok-filled.filled c.lower_head.new.slots (site_of c.in_ok-site.site)
-    (c.in_ok-patterns.ensures.slots ∙ ap (λ ns. (slot_patterns (head_arguments r.head) ns).names) c.new-slots.ensures) c.in_ok-filled.ensures c.in_ok-site.ensures)
-    c.in_ok-guard.ensures.is c.in_ok-guard.ensures.slots c.in_ok-pass_option.ensures refl c.new.ensures c.in_ok-body.ensures.is c.in_ok-body.ensures.slots refl c.in_ok-count.ensures
+    let begun = c.in_ok-begun.begun in
+    rule-is (record { head = begun.patterns; guard = c.in_ok-guard.guard; back = c.args.back; watches = c.new.result; body = c.in_ok-body.body; value = None; slots = c.in_ok-count.count }) r (own_name c.args.from.naming.now.prefix) c.args.from.count
+    c.new-slots.result c.begin.new.slots c.guarded.new.slots c.lower_body.new.slots (site_of begun.site) (site_of c.guarded.new.site) c.new-slots.ensures c.in_ok-begun.ensures.patterns c.in_ok-begun.ensures.slots
+    (rule-site-is r (own_name c.args.from.naming.now.prefix) c.args.from.count (length c.begin.new.slots) c.begin.new.slots (site_of begun.site)
+    (c.in_ok-begun.ensures.slots ∙ ap (λ ns. (slot_patterns (head_arguments r.head) ns).names) c.new-slots.ensures) refl c.in_ok-begun.ensures.site)
+    c.in_ok-guard.ensures.is c.in_ok-guard.ensures.slots c.in_ok-guard.ensures.site refl c.new.ensures c.in_ok-body.ensures.is c.in_ok-body.ensures.slots refl c.in_ok-count.ensures
 
 pub returns-clause-helpers : goal.returns-clause-helpers
 returns-clause-helpers c = λ events.
     let r : RuleTree = record { head = exp_tree c.args.head.now; cond = option_map exp_tree c.args.cond.now; events = events; back = c.args.back; body = exp_tree c.args.body.now } in
-    let here : site_of c.in_ok-site.site ≡ rule_site (own_name c.args.from.naming.now.prefix) c.args.from.count r =
-    rule-site-is r (own_name c.args.from.naming.now.prefix) c.args.from.count c.in_ok-filled.filled c.lower_head.new.slots (site_of c.in_ok-site.site)
-    (c.in_ok-patterns.ensures.slots ∙ ap (λ ns. (slot_patterns (head_arguments r.head) ns).names) c.new-slots.ensures) c.in_ok-filled.ensures c.in_ok-site.ensures in
-    two-behind (map pred_tree c.args.helpers.now.items) (map pred_tree c.lower_guard.new.helpers.items) (map pred_tree c.lower_body.new.helpers.items) _ _
-    (option_helpers (site_of c.in_ok-site.site) r.cond) (goal_helpers (site_of c.pass_option.new.site) r.body) c.in_ok-guard.ensures.helpers c.in_ok-body.ensures.helpers
-    (ap (λ (s : Site). option_helpers s r.cond) here) (ap (λ (s : Site). goal_helpers s r.body) (c.in_ok-pass_option.ensures ∙ ap (λ (s : Site). behind_option s r.cond) here))
+    let begun = c.in_ok-begun.begun in
+    let here : site_of begun.site ≡ rule_site (own_name c.args.from.naming.now.prefix) c.args.from.count r =
+    rule-site-is r (own_name c.args.from.naming.now.prefix) c.args.from.count (length c.begin.new.slots) c.begin.new.slots (site_of begun.site)
+    (c.in_ok-begun.ensures.slots ∙ ap (λ ns. (slot_patterns (head_arguments r.head) ns).names) c.new-slots.ensures) refl c.in_ok-begun.ensures.site in
+    two-behind (map pred_tree c.args.helpers.now.items) (map pred_tree c.guarded.new.helpers.items) (map pred_tree c.lower_body.new.helpers.items) _ _
+    (option_helpers (site_of begun.site) r.cond) (goal_helpers (site_of c.guarded.new.site) r.body) c.in_ok-guard.ensures.helpers c.in_ok-body.ensures.helpers
+    (ap (λ (s : Site). option_helpers s r.cond) here) (ap (λ (s : Site). goal_helpers s r.body) (c.in_ok-guard.ensures.site ∙ ap (λ (s : Site). behind_option s r.cond) here))
