@@ -1,8 +1,7 @@
 //! What filters leave. The first step of a case is the constraint, and each further one the domain at a place, `1..3 7` or `none`.
 //! Where the first step is `places` the places have no constraint, and are filtered as those of `distinct`.
 
-use crate::constraints::take_constraint;
-use pi_cases::{Case, spans_of, tell_span};
+use pi_cases::{Case, spans_of, take_constraint, tell_span};
 use pi_constraints::{Constraint, Domain, Domains};
 use pi_prop::{filter, filter_distinct, filter_reified, is_within_limits, place_count};
 use std::alloc::AllocError;
@@ -14,7 +13,10 @@ pub(crate) fn answer(case: &Case<'_>) {
     case.take_step_end();
     let domains = take_domains(case);
     match constraint {
-        Some(constraint) => tell_filtered(case, &constraint, &domains),
+        Some(constraint) => {
+            tell_filtered(case, &constraint, &domains);
+            drop(constraint);
+        }
         None => tell_distinct(case, kind, &domains),
     }
 }

@@ -1,7 +1,6 @@
 //! Cases of filters: what they leave of the domains at the places of a constraint.
 #![tactic(auto)]
 
-mod constraints;
 mod filters;
 
 use pi_cases::Case;

@@ -65,6 +65,13 @@ impl<'a> Case<'a> {
         }
     }
 
+    /// Notes the fault of another case, where it has one.
+    pub fn fail_as(&self, other: &Case<'_>) {
+        if let Some(problem) = other.problem() {
+            self.fail(problem);
+        }
+    }
+
     /// Notes what the case lacks.
     pub fn lacks(&self, what: &'static str) {
         self.fail(Problem::Lacks(what));
@@ -94,6 +101,12 @@ impl<'a> Case<'a> {
             let kept = kept.push(made);
             self.done(kept);
         }
+    }
+
+    /// Puts what was made behind the others, by something that fails for want of memory alone.
+    pub fn keep_made<T: Drop, E: Drop>(&self, made: Result<T, E>, kept: &mut Vec<T>) {
+        let made = self.made(made);
+        self.keep(made, kept);
     }
 
     /// Takes the newest thing off a stack.

@@ -2,6 +2,7 @@
 
 use crate::case::Case;
 use crate::fault::Problem;
+use crate::given::GIVEN;
 use crate::words::words_of;
 use std::env::Args;
 use std::process::ExitCode;
@@ -10,9 +11,6 @@ use std::{env, fs, io};
 
 /// How a line begins that is no case and isn't written.
 const COMMENT: char = '%';
-
-/// How a line begins that says something for each case of its file, as a rule of a program does.
-const GIVEN: char = '&';
 
 /// How many characters of an answer are written in full.
 const MOST: usize = 4_000;

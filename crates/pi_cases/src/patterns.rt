@@ -22,11 +22,11 @@ fn pattern_over(case: &Case<'_>, word: &str, built: &mut Vec<Pattern>) -> Option
     }
     match node_of(word) {
         Node::Int(n) => Some(Pattern::Int(n)),
-        Node::Atom(name) => Some(Pattern::Atom(case.text_of(name)?)),
-        Node::Comp(name, count) => {
-            let name = case.text_of(name)?;
-            Some(Pattern::Comp(name, case.several(built, count)))
-        }
+        Node::Atom(name) => Some(Pattern::Atom(case.name_of(name))),
+        Node::Comp(name, count) => Some(Pattern::Comp(
+            case.name_of(name),
+            case.several(built, count),
+        )),
         _ => {
             case.lacks("a pattern in place of a word");
             None

@@ -57,7 +57,7 @@ impl Case<'_> {
     /// Whether this text is told from a place on.
     fn tells(&self, from: usize, text: &str) -> bool {
         let answer = self.take_answer();
-        let is_told = answer.as_str().get(from..) == Some(text);
+        let is_told = answer.as_str().get(from..).unwrap_or("") == text;
         self.put_answer(answer);
         is_told
     }
@@ -74,9 +74,7 @@ impl Case<'_> {
     /// Writes what this case tells over the raw store, where that is something else, and notes its fault. That they differ stands at the end too, which is
     /// told of a long answer.
     pub fn tell_raw(&self, raw: &Case<'_>) {
-        if let Some(problem) = raw.problem() {
-            self.fail(problem);
-        }
+        self.fail_as(raw);
         let answer = raw.take_answer();
         if !self.tells(0, answer.as_str()) {
             self.tell(" BUT OVER THE RAW STORE ");

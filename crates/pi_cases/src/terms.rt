@@ -1,9 +1,8 @@
-//! Terms in words, and names.
+//! Terms in words.
 
 use crate::case::Case;
 use crate::nodes::{Node, extent, node_of};
-use crate::written::name_of;
-use pi_types::{Term, TermHead, Text};
+use pi_types::{Term, TermHead};
 
 impl<'a> Case<'a> {
     /// Takes the words of one term.
@@ -51,12 +50,6 @@ impl<'a> Case<'a> {
         self.tell_character('/');
         self.tell_count(count);
     }
-
-    /// The name that a word is.
-    pub fn text_of(&self, word: &str) -> Option<Text> {
-        let name = name_of(self, word)?;
-        Some(Text::from_string(name))
-    }
 }
 
 /// The term that words are.
@@ -77,28 +70,16 @@ pub fn push_term(case: &Case<'_>, word: &str, built: &mut Vec<Term>) {
     let made = match node_of(word) {
         Node::Var(n) => Term::var(case.alloc, n),
         Node::Int(n) => Term::int(case.alloc, n),
-        Node::Atom(name) => return push_atom(case, name, built),
-        Node::Comp(name, count) => return push_compound(case, name, count, built),
+        Node::Atom(name) => {
+            let name = case.name_of(name);
+            Term::atom(case.alloc, name.as_str())
+        }
+        Node::Comp(name, count) => {
+            let args = case.several(built, count);
+            let name = case.name_of(name);
+            Term::comp(case.alloc, name.as_str(), args.as_slice())
+        }
         _ => return case.lacks("a term that needs no store"),
     };
-    let made = case.made(made);
-    case.keep(made, built);
-}
-
-fn push_atom(case: &Case<'_>, word: &str, built: &mut Vec<Term>) {
-    if let Some(name) = name_of(case, word) {
-        let made = Term::atom(case.alloc, name.as_str());
-        let made = case.made(made);
-        case.keep(made, built);
-    }
-}
-
-/// Puts a compound over the newest terms of a stack.
-fn push_compound(case: &Case<'_>, word: &str, count: usize, built: &mut Vec<Term>) {
-    let args = case.several(built, count);
-    if let Some(name) = name_of(case, word) {
-        let made = Term::comp(case.alloc, name.as_str(), args.as_slice());
-        let made = case.made(made);
-        case.keep(made, built);
-    }
+    case.keep_made(made, built);
 }

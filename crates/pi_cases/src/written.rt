@@ -3,6 +3,7 @@
 use crate::case::Case;
 use crate::fault::Problem;
 use crate::nodes::unquoted;
+use pi_types::Text;
 use std::str;
 
 /// How often a piece can be repeated.
@@ -23,16 +24,27 @@ pub fn bytes_of(case: &Case<'_>, written: &str) -> Vec<u8> {
     bytes
 }
 
-/// The name that a word is, which has quotes around it where it looks like something else. In quotes there may be escapes.
-pub fn name_of(case: &Case<'_>, word: &str) -> Option<String> {
-    let Some(inner) = unquoted(word) else {
-        let name = String::from_str(case.alloc, word);
-        return case.made(name);
-    };
-    let mut bytes = Vec::new(case.alloc);
-    push_plain(case, inner, &mut bytes);
-    let name = String::from_str(case.alloc, str::from_utf8(bytes.as_slice()).unwrap_or(""));
-    case.made(name)
+impl Case<'_> {
+    /// The name that a word is, which has quotes around it where it looks like something else. In quotes there may be escapes.
+    pub fn name_of(&self, word: &str) -> Text {
+        match unquoted(word) {
+            Some(inner) => {
+                let mut bytes = Vec::new(self.alloc);
+                push_plain(self, inner, &mut bytes);
+                self.text(str::from_utf8(bytes.as_slice()).unwrap_or(""))
+            }
+            None => self.text(word),
+        }
+    }
+
+    /// A text with these characters; an empty one where memory is wanted.
+    pub fn text(&self, text: &str) -> Text {
+        let made = Text::new(self.alloc, text);
+        match self.made(made) {
+            Some(text) => text,
+            None => Text::from_string(String::new(self.alloc)),
+        }
+    }
 }
 
 /// Appends a piece that is repeated, and what stands behind it.

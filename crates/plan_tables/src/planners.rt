@@ -78,6 +78,8 @@ fn take_step(case: &Case<'_>, planner: &mut Planner, graph: &[Entry]) -> bool
             tell_end(case, &end);
             let again = planner.next();
             tell_end(case, &again);
+            drop(again);
+            drop(end);
             false
         }
     }

@@ -11,13 +11,15 @@ pub fn tell_tree(case: &Case<'_>, line: &str) {
     if let Some(exp) = read(case, line) {
         let tree = format!(in case.alloc; "{exp:?}");
         tell_shortened(tree, case);
+        drop(exp);
     }
 }
 
 /// Tells whether the tokens of a line, whose tree may be large, are an expression.
 pub fn tell_whether_read(case: &Case<'_>, line: &str) {
-    if read(case, line).is_some() {
+    if let Some(exp) = read(case, line) {
         case.tell("read");
+        drop(exp);
     }
 }
 

@@ -48,10 +48,15 @@ fn renamed(alloc: Global, names: &[&str]) -> Result<String, AllocError> {
     let mut text = String::from_str(alloc, prelude())?;
     for pair in names.chunks_exact(2) {
         if let [name, other] = pair {
-            let name = format!(in alloc; "{name}(")?;
-            let other = format!(in alloc; "{other}(")?;
-            text = text.as_str().replace(alloc, name.as_str(), other.as_str())?;
+            text = with_name(alloc, text.as_str(), name, other)?;
         }
     }
     Ok(text)
+}
+
+/// The text with another name in each call of one.
+fn with_name(alloc: Global, text: &str, name: &str, other: &str) -> Result<String, AllocError> {
+    let name = format!(in alloc; "{name}(")?;
+    let other = format!(in alloc; "{other}(")?;
+    text.replace(alloc, name.as_str(), other.as_str())
 }

@@ -27,8 +27,14 @@ pub fn tell_goal_verdict(case: &Case<'_>, line: &str) {
 fn ask(case: &Case<'_>, program: &Program, goal: &str) {
     if let Some(tokens) = tokens_of(case, goal) {
         match read_goal(case.alloc, &tokens, program) {
-            Ok(_) => case.tell("sound"),
-            Err(fault) => tell_fault(&fault, case),
+            Ok(goal) => {
+                case.tell("sound");
+                drop(goal);
+            }
+            Err(fault) => {
+                tell_fault(&fault, case);
+                drop(fault);
+            }
         }
     }
 }
@@ -58,6 +64,7 @@ pub fn read(case: &Case<'_>, text: &str) -> Option<Program> {
         Ok(program) => Some(program),
         Err(fault) => {
             tell_fault(&fault, case);
+            drop(fault);
             None
         }
     }

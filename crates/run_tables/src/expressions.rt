@@ -2,7 +2,7 @@
 //! `,/2` puts goals one after another.
 
 use pi_cases::{Case, Node, node_of};
-use pi_types::{Exp, Text};
+use pi_types::Exp;
 
 /// The expression that words are.
 pub fn expression_of(case: &Case<'_>, words: &[&str]) -> Option<Exp> {
@@ -21,17 +21,13 @@ pub fn expression_of(case: &Case<'_>, words: &[&str]) -> Option<Exp> {
 /// The expression that begins with this word, over the newest ones of a stack.
 fn expression_over(case: &Case<'_>, word: &str, built: &mut Vec<Exp>) -> Option<Exp> {
     if is_variable(word) {
-        let name = Text::new(case.alloc, word);
-        return Some(Exp::Var(case.made(name)?));
+        return Some(Exp::Var(case.name_of(word)));
     }
     match node_of(word) {
         Node::Int(n) => Some(Exp::Int(n)),
-        Node::Atom(name) => Some(Exp::Atom(case.text_of(name)?)),
+        Node::Atom(name) => Some(Exp::Atom(case.name_of(name))),
         Node::Comp(",", count) => Some(Exp::And(case.several(built, count))),
-        Node::Comp(name, count) => {
-            let name = case.text_of(name)?;
-            Some(Exp::Call(name, case.several(built, count)))
-        }
+        Node::Comp(name, count) => Some(Exp::Call(case.name_of(name), case.several(built, count))),
         _ => {
             case.lacks("an expression in place of a word");
             None

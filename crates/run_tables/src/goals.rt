@@ -3,8 +3,56 @@
 ghost use Rattle.std.specs.Prelude.{◌≡◌};
 ghost use Rattle.pi_core.specs.GoalTree.{child_goals};
 
-use pi_cases::{Case, Node, node_of, push_term};
-use pi_types::{CoreGoal, GoalNode, Term, Text};
+use pi_cases::{Case, Node, named, node_of, push_term};
+use pi_types::{CoreGoal, GoalNode, Term};
+
+/// What a word of a goal begins with.
+#[derive(Clone, Copy)]
+enum Kind {
+    True,
+    Fail,
+    Tick,
+    Call,
+    /// A call that has a word of its own, and what it calls.
+    Calls(&'static str),
+    Apply,
+    If,
+    Catch,
+    Around(Around),
+}
+
+/// What stands around one goal.
+#[derive(Clone, Copy)]
+enum Around {
+    Not,
+    Once,
+    /// The slot that is collected and the one that takes the list, `0:1`.
+    Collect,
+    /// The slot that takes the number, `0`.
+    Count,
+}
+
+/// Each kind with its word.
+const KINDS: [(&str, Kind); 13] = [
+    ("TRUE", Kind::True),
+    ("FAIL", Kind::Fail),
+    ("TICK", Kind::Tick),
+    ("CALL", Kind::Call),
+    ("IS", Kind::Calls("=/2")),
+    ("THROW", Kind::Calls("throw/1")),
+    ("APPLY", Kind::Apply),
+    ("IF", Kind::If),
+    ("CATCH", Kind::Catch),
+    ("NOT", Kind::Around(Around::Not)),
+    ("ONCE", Kind::Around(Around::Once)),
+    ("COLLECT", Kind::Around(Around::Collect)),
+    ("COUNT", Kind::Around(Around::Count)),
+];
+
+/// The kind with a word.
+fn kind_of(word: &str) -> Option<Kind> {
+    named(&KINDS, word)
+}
 
 /// Tells what a goal shows: how many nodes it has, the nodes of its child goals, and what stands at each node; `copy`
 /// asks it of another goal of the same tree.
@@ -87,25 +135,14 @@ pub fn goal_of(case: &Case<'_>, words: &[&str]) -> Option<CoreGoal> {
 impl Built {
     /// Puts the goal or the term that begins with this word in the place of what belongs to it.
     fn push(&mut self, case: &Case<'_>, word: &str) {
-        let alloc = case.alloc;
         let (kind, more) = word.split_once(':').unwrap_or((word, ""));
-        let made = match kind {
-            "CALL" => self.call(case, more),
-            "IS" => self.call(case, "=/2"),
-            "THROW" => self.call(case, "throw/1"),
-            "APPLY" => self.apply(case, more),
-            "COLLECT" => self.collect(case, more),
-            "COUNT" => self.count(case, more),
-            "TRUE" => case.made(CoreGoal::truth(alloc)),
-            "FAIL" => case.made(CoreGoal::fail(alloc)),
-            "TICK" => case.made(CoreGoal::tick(alloc)),
-            "NOT" => self.not(case),
-            "ONCE" => self.once(case),
-            "IF" => self.condition(case),
-            "CATCH" => self.catch(case),
-            _ => return self.push_several(case, word),
-        };
-        case.keep(made, &mut self.goals);
+        match kind_of(kind) {
+            Some(kind) => {
+                let made = self.goal(case, kind, more);
+                case.keep(made, &mut self.goals);
+            }
+            None => self.push_several(case, word),
+        }
     }
 
     /// Puts a sequence or alternatives, or else a term.
@@ -121,20 +158,25 @@ impl Built {
             }
             _ => return push_term(case, word, &mut self.terms),
         };
-        let made = case.made(made);
-        case.keep(made, &mut self.goals);
+        case.keep_made(made, &mut self.goals);
     }
 
-    fn not(&mut self, case: &Case<'_>) -> Option<CoreGoal> {
-        let goal = case.one(&mut self.goals)?;
-        let made = CoreGoal::not(case.alloc, goal);
-        case.made(made)
-    }
-
-    fn once(&mut self, case: &Case<'_>) -> Option<CoreGoal> {
-        let goal = case.one(&mut self.goals)?;
-        let made = CoreGoal::once(case.alloc, goal);
-        case.made(made)
+    /// The goal of a kind, with what stands behind the colon of its word.
+    fn goal(&mut self, case: &Case<'_>, kind: Kind, more: &str) -> Option<CoreGoal> {
+        match kind {
+            Kind::True => case.made(CoreGoal::truth(case.alloc)),
+            Kind::Fail => case.made(CoreGoal::fail(case.alloc)),
+            Kind::Tick => case.made(CoreGoal::tick(case.alloc)),
+            Kind::Call => self.call(case, more, None),
+            Kind::Calls(called) => self.call(case, called, None),
+            Kind::Apply => self.apply(case, more),
+            Kind::If => self.condition(case),
+            Kind::Catch => self.catch(case),
+            Kind::Around(around) => {
+                let goal = case.one(&mut self.goals)?;
+                around_goal(case, around, goal, more)
+            }
+        }
     }
 
     fn condition(&mut self, case: &Case<'_>) -> Option<CoreGoal> {
@@ -153,50 +195,41 @@ impl Built {
         case.made(made)
     }
 
-    /// The slot that takes the number, `0`.
-    fn count(&mut self, case: &Case<'_>, into: &str) -> Option<CoreGoal> {
-        let into = case.slot_of(into);
-        let goal = case.one(&mut self.goals)?;
-        let made = CoreGoal::count(case.alloc, goal, into);
-        case.made(made)
-    }
-
-    /// The slot that is collected and the one that takes the list, `0:1`.
-    fn collect(&mut self, case: &Case<'_>, more: &str) -> Option<CoreGoal> {
-        let (value, into) = more.split_once(':').unwrap_or((more, ""));
-        let value = case.slot_of(value);
-        let into = case.slot_of(into);
-        let goal = case.one(&mut self.goals)?;
-        let made = CoreGoal::collect(case.alloc, goal, value, into);
-        case.made(made)
-    }
-
-    /// A call, `p/1`.
-    fn call(&mut self, case: &Case<'_>, called: &str) -> Option<CoreGoal> {
-        let (name, args) = self.called(case, called)?;
-        let made = CoreGoal::call(case.alloc, name.as_str(), args.as_slice());
-        case.made(made)
-    }
-
     /// A call whose value goes into a slot, `3:f/1`.
     fn apply(&mut self, case: &Case<'_>, more: &str) -> Option<CoreGoal> {
         let (slot, called) = more.split_once(':').unwrap_or(("", more));
-        let slot = case.slot_of(slot);
-        let (name, args) = self.called(case, called)?;
-        let made = CoreGoal::apply(case.alloc, name.as_str(), args.as_slice(), slot);
-        case.made(made)
+        self.call(case, called, Some(case.slot_of(slot)))
     }
 
-    /// The name and the arguments of what is called.
-    fn called(&mut self, case: &Case<'_>, called: &str) -> Option<(Text, Vec<Term>)> {
-        let (name, count) = named(case, called);
+    /// A call, `p/1`, whose value goes into a slot where one is given.
+    fn call(&mut self, case: &Case<'_>, called: &str, slot: Option<u32>) -> Option<CoreGoal> {
+        let (name, count) = name_and_count(case, called);
         let args = case.several(&mut self.terms, count);
-        Some((case.text_of(name)?, args))
+        let name = case.name_of(name);
+        let made = match slot {
+            Some(slot) => CoreGoal::apply(case.alloc, name.as_str(), args.as_slice(), slot),
+            None => CoreGoal::call(case.alloc, name.as_str(), args.as_slice()),
+        };
+        case.made(made)
     }
 }
 
+/// The goal that stands around another one, with what stands behind the colon of its word.
+fn around_goal(case: &Case<'_>, around: Around, goal: CoreGoal, more: &str) -> Option<CoreGoal> {
+    let made = match around {
+        Around::Not => CoreGoal::not(case.alloc, goal),
+        Around::Once => CoreGoal::once(case.alloc, goal),
+        Around::Count => CoreGoal::count(case.alloc, goal, case.slot_of(more)),
+        Around::Collect => {
+            let (value, into) = more.split_once(':').unwrap_or((more, ""));
+            CoreGoal::collect(case.alloc, goal, case.slot_of(value), case.slot_of(into))
+        }
+    };
+    case.made(made)
+}
+
 /// The name and the number of the arguments of what is called.
-fn named<'a>(case: &Case<'_>, called: &'a str) -> (&'a str, usize) {
+fn name_and_count<'a>(case: &Case<'_>, called: &'a str) -> (&'a str, usize) {
     match node_of(called) {
         Node::Comp(name, count) => (name, count),
         _ => {
@@ -216,41 +249,48 @@ pub fn tell_goal(goal: &CoreGoal, case: &Case<'_>) {
 
 /// Tells the words of a node, with the terms that belong to it.
 fn tell_node(node: GoalNode<'_>, case: &Case<'_>) {
+    case.tell(word_of(node));
     match node {
-        GoalNode::True => case.tell("TRUE"),
-        GoalNode::Fail => case.tell("FAIL"),
-        GoalNode::Tick => case.tell("TICK"),
-        GoalNode::Call(name, args) => tell_call("CALL:", name.as_str(), args.as_slice(), case),
+        GoalNode::Call(name, args) => tell_call(name.as_str(), args.as_slice(), case),
         GoalNode::Apply(name, args, slot) => {
-            tell_slot("APPLY:", slot, case);
-            tell_call(":", name.as_str(), args.as_slice(), case);
+            case.tell_shown(slot);
+            case.tell_character(':');
+            tell_call(name.as_str(), args.as_slice(), case);
         }
-        GoalNode::Seq(count) => case.tell_called("ALL", count),
-        GoalNode::Alt(count) => case.tell_called("ANY", count),
-        GoalNode::If => case.tell("IF"),
-        GoalNode::Not => case.tell("NOT"),
-        GoalNode::Once => case.tell("ONCE"),
+        GoalNode::Seq(count) => case.tell_count(count),
+        GoalNode::Alt(count) => case.tell_count(count),
         GoalNode::Collect(value, into) => {
-            tell_slot("COLLECT:", value, case);
-            tell_slot(":", into, case);
+            case.tell_shown(value);
+            case.tell_character(':');
+            case.tell_shown(into);
         }
-        GoalNode::Count(into) => tell_slot("COUNT:", into, case),
-        GoalNode::Catch(ball) => {
-            case.tell("CATCH ");
-            case.tell_term(ball);
-        }
+        GoalNode::Count(into) => case.tell_shown(into),
+        GoalNode::Catch(ball) => case.tell_term(ball),
+        _ => {}
     }
 }
 
-/// Tells the number of a slot behind something.
-fn tell_slot(before: &str, slot: u32, case: &Case<'_>) {
-    case.tell(before);
-    case.tell_number(u64::from(slot));
+/// How the word of a node begins.
+fn word_of(node: GoalNode<'_>) -> &'static str {
+    match node {
+        GoalNode::True => "TRUE",
+        GoalNode::Fail => "FAIL",
+        GoalNode::Tick => "TICK",
+        GoalNode::Call(_, _) => "CALL:",
+        GoalNode::Apply(_, _, _) => "APPLY:",
+        GoalNode::Seq(_) => "ALL/",
+        GoalNode::Alt(_) => "ANY/",
+        GoalNode::If => "IF",
+        GoalNode::Not => "NOT",
+        GoalNode::Once => "ONCE",
+        GoalNode::Collect(_, _) => "COLLECT:",
+        GoalNode::Count(_) => "COUNT:",
+        GoalNode::Catch(_) => "CATCH ",
+    }
 }
 
-/// Tells the name, the number of the arguments and the arguments of a call behind something.
-fn tell_call(before: &str, name: &str, args: &[Term], case: &Case<'_>) {
-    case.tell(before);
+/// Tells the name, the number of the arguments and the arguments of a call.
+fn tell_call(name: &str, args: &[Term], case: &Case<'_>) {
     case.tell_called(name, args.len());
     for arg in args {
         case.tell(" ");

@@ -50,53 +50,55 @@ fn prelude_preds(case: &Case<'_>) -> usize {
     }
 }
 
-/// Takes a part: a fact or a rule.
+/// Takes a part: a fact behind its mode lists, or a rule.
 fn take_part(case: &Case<'_>) -> Option<Part> {
-    if case.skip("fact") {
+    let is_fact = case.skip("fact");
+    let modes: &[&str] = if is_fact { case.take_until(":") } else { &[] };
+    let clause = if is_fact {
         take_fact(case)
     } else {
         take_rule(case)
-    }
-}
-
-/// Takes the part that is a fact in words, behind its mode lists.
-fn take_fact(case: &Case<'_>) -> Option<Part> {
-    let mut lists = ModeLists::new(case.alloc);
-    let words = case.take_until(":");
-    for word in words {
-        let modes = modes_of(case, word);
-        let added = lists.push(modes);
-        case.done(added);
-    }
-    let head = case.take_rest();
-    let head = expression_of(case, head)?;
-    let decl = if lists.len() > 0 {
-        Decl::Index(lists)
-    } else {
-        Decl::Plain
     };
     Some(Part {
-        decl,
-        clause: Some(Clause::Fact { head }),
+        clause: Some(clause?),
+        decl: decl_of(case, modes),
     })
 }
 
-/// Takes the part that is a rule in words.
-fn take_rule(case: &Case<'_>) -> Option<Part> {
+/// What words of mode lists declare.
+fn decl_of(case: &Case<'_>, words: &[&str]) -> Decl {
+    if words.is_empty() {
+        return Decl::Plain;
+    }
+    let mut lists = ModeLists::new(case.alloc);
+    for word in words {
+        let added = lists.push(modes_of(case, word));
+        case.done(added);
+    }
+    Decl::Index(lists)
+}
+
+/// Takes the head of a fact.
+fn take_fact(case: &Case<'_>) -> Option<Clause> {
+    let head = expression_of(case, case.take_rest())?;
+    Some(Clause::Fact { head })
+}
+
+/// Takes the head and the body of a rule.
+fn take_rule(case: &Case<'_>) -> Option<Clause> {
     let back = case.finds("?=>");
     let head = case.take_until(if back { "?=>" } else { "=>" });
-    let body = case.take_rest();
     let head = expression_of(case, head)?;
-    let body = expression_of(case, body)?;
-    Some(Part {
-        decl: Decl::Plain,
-        clause: Some(Clause::Rule {
-            head,
-            cond: None,
-            events: Vec::new(case.alloc),
-            back,
-            body,
-        }),
+    let Some(body) = expression_of(case, case.take_rest()) else {
+        drop(head);
+        return None;
+    };
+    Some(Clause::Rule {
+        head,
+        cond: None,
+        events: Vec::new(case.alloc),
+        back,
+        body,
     })
 }
 
@@ -149,14 +151,16 @@ fn tell_clause(clause: &CoreClause, case: &Case<'_>) {
 }
 
 fn tell_query(case: &Case<'_>) {
-    let words = case.take_rest();
-    let Some(body) = expression_of(case, words) else {
+    let Some(body) = expression_of(case, case.take_rest()) else {
         return;
     };
+    let goal = Goal { body };
     let core = CoreProgram {
         preds: CorePreds::new(case.alloc),
     };
-    match lower_goal(case.alloc, &Goal { body }, &core) {
+    let lowered = lower_goal(case.alloc, &goal, &core);
+    drop(goal);
+    match lowered {
         Ok(query) => tell_lowered(&query, case),
         Err(fault) => tell_fault(fault, case),
     }

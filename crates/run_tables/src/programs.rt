@@ -3,91 +3,111 @@
 //! as alternatives. A predicate of facts has its mode lists in lines `& index +-`, and then each fact: `& fact SLOTS : HEAD`.
 
 use crate::goals::goal_of;
-use pi_cases::{Case, Node, Problem, node_of, patterns_of, term_of, words_of};
+use pi_cases::{Case, Given, Node, named, node_of, patterns_of, take_given, term_of};
 use pi_types::{
-    CoreClause, CoreClauses, CorePred, CorePreds, CoreProgram, Decl, Mode, ModeLists, Modes,
-    SlotWatches,
+    CoreClause, CoreClauses, CoreGoal, CorePred, CorePreds, CoreProgram, Decl, Mode, ModeLists,
+    Modes, SlotWatches, Term,
 };
 use std::alloc::Global;
 use std::mem;
 
+/// What a line begins.
+#[derive(Clone, Copy)]
+enum Kind {
+    Predicate,
+    Function,
+    Quiet,
+    Index,
+    Rule,
+    Choice,
+    Fact,
+}
+
+/// Each kind of line with its word.
+const KINDS: [(&str, Kind); 7] = [
+    ("predicate", Kind::Predicate),
+    ("function", Kind::Function),
+    ("quiet", Kind::Quiet),
+    ("index", Kind::Index),
+    ("rule", Kind::Rule),
+    ("choice", Kind::Choice),
+    ("fact", Kind::Fact),
+];
+
+/// The kind of line with a word.
+fn kind_of(word: &str) -> Option<Kind> {
+    named(&KINDS, word)
+}
+
+/// Predicates and functions, of which the newest one takes what follows.
+#[derive(Drop)]
+struct Preds {
+    preds: Vec<CorePred>,
+}
+
 /// The program that a file gives for its cases.
-pub fn program_of(alloc: Global, text: &str) -> Result<CoreProgram, Problem> {
-    let mut preds = CorePreds::new(alloc);
-    for line in text.lines() {
-        if let Some(given) = line.strip_prefix('&') {
-            add_line(alloc, given, &mut preds)?;
+pub fn program_of(case: &Case<'_>, text: &str) -> CoreProgram {
+    let mut given = Preds {
+        preds: Vec::new(case.alloc),
+    };
+    take_given(case, text, &mut given);
+    CoreProgram {
+        preds: CorePreds::from_vec(given.preds),
+    }
+}
+
+impl Given for Preds {
+    fn take_line(&mut self, line: &Case<'_>) {
+        match kind_of(line.take_word()) {
+            Some(Kind::Predicate) => self.add_pred(line, false, false),
+            Some(Kind::Function) => self.add_pred(line, true, false),
+            Some(Kind::Quiet) => self.add_pred(line, false, true),
+            Some(Kind::Index) => self.add_modes(line),
+            Some(kind) => self.add_clause(line, kind),
+            None => line.lacks("a kind of line"),
         }
     }
-    Ok(CoreProgram { preds })
 }
 
-/// Adds what a line says.
-fn add_line(alloc: Global, line: &str, preds: &mut CorePreds) -> Result<(), Problem> {
-    let words = words_of(alloc, line)?;
-    let case = Case::new(alloc, words.as_slice());
-    match case.take_word() {
-        "rule" => add_rule(&case, false, preds),
-        "choice" => add_rule(&case, true, preds),
-        "index" => add_modes(&case, preds),
-        "fact" => add_fact(&case, preds),
-        kind => add_pred(&case, kind, preds),
+impl Preds {
+    /// Adds a predicate or a function without rules yet.
+    fn add_pred(&mut self, line: &Case<'_>, function: bool, quiet: bool) {
+        let Node::Comp(name, count) = node_of(line.take_word()) else {
+            return line.lacks("the name of a predicate and the number of its arguments");
+        };
+        let pred = CorePred {
+            name: line.name_of(name),
+            arity: u32::try_from(count).unwrap_or(0),
+            function,
+            quiet,
+            decl: Decl::Plain,
+            clauses: CoreClauses::new(line.alloc),
+        };
+        line.keep(Some(pred), &mut self.preds);
     }
-    case.take_end();
-    match case.problem() {
-        Some(problem) => Err(problem),
-        None => Ok(()),
-    }
-}
 
-/// Adds a predicate without rules yet.
-fn add_pred(case: &Case<'_>, kind: &str, preds: &mut CorePreds) {
-    if !matches!(kind, "predicate" | "function" | "quiet") {
-        return case.lacks("a kind of predicate");
+    /// Adds a rule or a fact to the newest predicate.
+    fn add_clause(&mut self, line: &Case<'_>, kind: Kind) {
+        let Some(pred) = self.preds.last_mut() else {
+            return line.lacks("a predicate before its rules");
+        };
+        if let Some(clause) = take_clause(line, kind) {
+            let added = pred.clauses.push(clause);
+            line.done(added);
+        }
     }
-    let Node::Comp(name, count) = node_of(case.take_word()) else {
-        return case.lacks("the name of a predicate and the number of its arguments");
-    };
-    let Some(name) = case.text_of(name) else {
-        return;
-    };
-    let added = preds.push(CorePred {
-        name,
-        arity: u32::try_from(count).unwrap_or(0),
-        function: kind == "function",
-        quiet: kind == "quiet",
-        decl: Decl::Plain,
-        clauses: CoreClauses::new(case.alloc),
-    });
-    case.done(added);
-}
 
-/// Adds a rule to the newest predicate.
-fn add_rule(case: &Case<'_>, back: bool, preds: &mut CorePreds) {
-    let Some(mut pred) = preds.pop() else {
-        return case.lacks("a predicate before its rules");
-    };
-    if let Some(rule) = take_rule(case, back) {
-        let added = pred.clauses.push(rule);
-        case.done(added);
+    /// Adds a mode list to the newest predicate.
+    fn add_modes(&mut self, line: &Case<'_>) {
+        let Some(pred) = self.preds.last_mut() else {
+            return line.lacks("a predicate before its modes");
+        };
+        let modes = modes_of(line, line.take_word());
+        let mut lists = lists_of(line.alloc, mem::replace(&mut pred.decl, Decl::Plain));
+        let added = lists.push(modes);
+        line.done(added);
+        pred.decl = Decl::Index(lists);
     }
-    let added = preds.push(pred);
-    case.done(added);
-}
-
-/// Adds a mode list to the newest predicate.
-fn add_modes(case: &Case<'_>, preds: &mut CorePreds) {
-    let Some(mut pred) = preds.pop() else {
-        return case.lacks("a predicate before its modes");
-    };
-    let word = case.take_word();
-    let modes = modes_of(case, word);
-    let mut lists = lists_of(case.alloc, mem::replace(&mut pred.decl, Decl::Plain));
-    let added = lists.push(modes);
-    case.done(added);
-    pred.decl = Decl::Index(lists);
-    let added = preds.push(pred);
-    case.done(added);
 }
 
 /// The mode list of a word of `+` and `-`.
@@ -109,59 +129,44 @@ fn lists_of(alloc: Global, decl: Decl) -> ModeLists {
     }
 }
 
-/// Adds a fact to the newest predicate.
-fn add_fact(case: &Case<'_>, preds: &mut CorePreds) {
-    let Some(mut pred) = preds.pop() else {
-        return case.lacks("a predicate before its facts");
-    };
-    if let Some(fact) = take_fact(case) {
-        let added = pred.clauses.push(fact);
-        case.done(added);
+/// Takes the words of a rule or a fact.
+fn take_clause(line: &Case<'_>, kind: Kind) -> Option<CoreClause> {
+    let slots = line.take_slot();
+    line.expect(":");
+    let head = take_head(line, kind);
+    let guard = take_goal(line, kind)?;
+    let body = take_goal(line, kind)?;
+    Some(CoreClause {
+        head: patterns_of(line, head),
+        guard,
+        back: matches!(kind, Kind::Choice),
+        watches: SlotWatches::new(line.alloc),
+        body,
+        value: take_value(line),
+        slots,
+    })
+}
+
+/// Takes the words of a function's value, where there are any.
+fn take_value(line: &Case<'_>) -> Option<Term> {
+    match line.take_rest() {
+        [] => None,
+        words => term_of(line, words),
     }
-    let added = preds.push(pred);
-    case.done(added);
 }
 
-/// Takes the words of a fact.
-fn take_fact(case: &Case<'_>) -> Option<CoreClause> {
-    let slots = case.take_slot();
-    case.expect(":");
-    let head = case.take_rest();
-    let guard = goal_of(case, &["TRUE"])?;
-    let body = goal_of(case, &["TRUE"])?;
-    Some(CoreClause {
-        head: patterns_of(case, head),
-        guard,
-        back: false,
-        watches: SlotWatches::new(case.alloc),
-        body,
-        value: None,
-        slots,
-    })
+/// Takes the words of a head, behind which a fact has nothing.
+fn take_head<'a>(line: &Case<'a>, kind: Kind) -> &'a [&'a str] {
+    match kind {
+        Kind::Fact => line.take_rest(),
+        _ => line.take_until(":"),
+    }
 }
 
-/// Takes the words of a rule.
-fn take_rule(case: &Case<'_>, back: bool) -> Option<CoreClause> {
-    let slots = case.take_slot();
-    case.expect(":");
-    let head = case.take_until(":");
-    let guard = case.take_until(":");
-    let body = case.take_until(":");
-    let guard = goal_of(case, guard)?;
-    let body = goal_of(case, body)?;
-    let value = case.take_rest();
-    let value = if value.is_empty() {
-        None
-    } else {
-        term_of(case, value)
-    };
-    Some(CoreClause {
-        head: patterns_of(case, head),
-        guard,
-        back,
-        watches: SlotWatches::new(case.alloc),
-        body,
-        value,
-        slots,
-    })
+/// Takes the words of a goal; that of a fact is the true one.
+fn take_goal(line: &Case<'_>, kind: Kind) -> Option<CoreGoal> {
+    match kind {
+        Kind::Fact => line.made(CoreGoal::truth(line.alloc)),
+        _ => goal_of(line, line.take_until(":")),
+    }
 }

@@ -10,7 +10,6 @@ use pi_region::Words;
 use pi_types::{
     Answer, CorePreds, CoreProgram, CoreQuery, NameSlot, NameSlots, StateStore, Text, Work,
 };
-use std::alloc::{AllocError, Global};
 
 /// How many slots each query has.
 const SLOTS: u32 = 5;
@@ -32,48 +31,55 @@ pub fn answer(case: &Case<'_>, text: &str) {
     let tells_kept = case.skip("kept");
     case.expect(":");
     if let Some(query) = take_query(case, count) {
-        match program_of(case.alloc, text) {
-            Ok(core) => run(case, &core, query, &mut budget, tells_kept),
-            Err(problem) => case.fail(problem),
-        }
+        let core = program_of(case, text);
+        let store = RawStore::new(case.alloc, Words::new(case.alloc));
+        run(case, &core, query, store, &mut budget, tells_kept);
     }
 }
 
 /// Takes the goal of a query whose first so many slots are named.
 fn take_query(case: &Case<'_>, count: u32) -> Option<CoreQuery> {
-    let words = case.take_rest();
-    let goal = goal_of(case, words)?;
-    let names = names(case.alloc, count);
+    let goal = goal_of(case, case.take_rest())?;
     Some(CoreQuery {
         goal,
         helpers: CorePreds::new(case.alloc),
-        names: case.made(names)?,
+        names: names(case, count),
         slots: SLOTS,
     })
 }
 
 /// Names for the first so many slots.
-fn names(alloc: Global, count: u32) -> Result<NameSlots, AllocError> {
-    let mut names = NameSlots::new(alloc);
+fn names(case: &Case<'_>, count: u32) -> NameSlots {
+    let mut names = NameSlots::new(case.alloc);
     for slot in 0..count {
-        let name = Text::from_string(format!(in alloc; "V{slot}")?);
-        names.push(NameSlot { name, slot })?;
+        let name = format!(in case.alloc; "V{slot}");
+        if let Some(name) = case.made(name) {
+            let name = Text::from_string(name);
+            let added = names.push(NameSlot { name, slot });
+            case.done(added);
+        }
     }
-    Ok(names)
+    names
 }
 
-/// Runs a query. This function alone owns a machine.
-fn run(
+/// Runs a query on any store. This function alone owns a machine: it is generic, so that no proof goes through the parts of one kind of store.
+fn run<S: StateStore>(
     case: &Case<'_>,
     core: &CoreProgram,
     query: CoreQuery,
+    store: S,
     budget: &mut Budget,
     tells_kept: bool,
 ) {
-    let store = RawStore::new(case.alloc, Words::new(case.alloc));
     match Machine::new(case.alloc, core, query, store, Mode::Top) {
-        Ok(mut machine) => tell_all(case, &mut machine, budget, tells_kept),
-        Err(_) => case.fail(Problem::Memory),
+        Ok(mut machine) => {
+            tell_all(case, &mut machine, budget, tells_kept);
+            drop(machine);
+        }
+        Err(store) => {
+            drop(store);
+            case.fail(Problem::Memory);
+        }
     }
 }
 
@@ -107,6 +113,7 @@ fn tell_next<S: StateStore>(
     case.tell_number(budget.ticks);
     case.tell(": ");
     let is_end = tell_happening(&happening, case);
+    drop(happening);
     if is_end && tells_kept {
         tell_kept(machine.kept(), case);
     }

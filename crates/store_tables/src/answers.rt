@@ -2,7 +2,7 @@
 
 use pi_cases::{Case, spans_of};
 use pi_print::answer_text;
-use pi_types::{Answer, NamedTerm, NamedTerms, Text, VarDomain, VarDomains};
+use pi_types::{Answer, NamedTerm, NamedTerms, VarDomain, VarDomains};
 
 /// Tells the lines of an answer's text, a blank between them.
 pub fn answer(case: &Case<'_>) {
@@ -34,10 +34,12 @@ fn take_values(case: &Case<'_>) -> NamedTerms {
 
 /// Takes a name and its value.
 fn take_value(case: &Case<'_>) -> Option<NamedTerm> {
-    let name = Text::new(case.alloc, case.take_word());
-    let name = case.made(name)?;
+    let name = case.take_word();
     let value = case.take_term()?;
-    Some(NamedTerm { name, value })
+    Some(NamedTerm {
+        name: case.text(name),
+        value,
+    })
 }
 
 /// Takes variables with their domains, a colon between them.

@@ -1,8 +1,8 @@
 //! A store, what a case keeps beside it, and terms that are put into it.
 
-use pi_cases::{Case, Node, name_of, node_of};
+use pi_cases::{Case, Node, node_of};
 use pi_types::{Ref, StateStore};
-use std::alloc::Global;
+use std::alloc::{AllocError, Global};
 
 /// The name of pairs of lists.
 const PAIR: &str = "[|]";
@@ -20,6 +20,8 @@ const NOTHING: Ref = Ref { number: 0 };
 #[derive(Drop)]
 pub struct Bench<S: StateStore> {
     pub store: S,
+    /// Whether `read` asks what a goal posts, and not what a term is.
+    pub reads_goals: bool,
     pub terms: Vec<Ref>,
     pub marks: Vec<S::Mark>,
     pub slots: Vec<Option<Ref>>,
@@ -27,9 +29,10 @@ pub struct Bench<S: StateStore> {
 
 impl<S: StateStore> Bench<S> {
     /// A store with nothing beside it.
-    pub fn new(alloc: Global, store: S) -> Bench<S> {
+    pub fn new(alloc: Global, store: S, reads_goals: bool) -> Bench<S> {
         Bench {
             store,
+            reads_goals,
             terms: Vec::new(alloc),
             marks: Vec::new(alloc),
             slots: Vec::new(alloc),
@@ -41,7 +44,7 @@ impl<S: StateStore> Bench<S> {
         let mut built = Vec::new(case.alloc);
         for word in case.take_extent().iter().rev() {
             let made = self.put(case, word, &mut built);
-            case.keep(made, &mut built);
+            case.keep(Some(made), &mut built);
         }
         taken(case, &mut built)
     }
@@ -65,16 +68,20 @@ impl<S: StateStore> Bench<S> {
     }
 
     /// Puts the term that begins with this word, over the newest terms of a stack.
-    fn put(&mut self, case: &Case<'_>, word: &str, built: &mut Vec<Ref>) -> Option<Ref> {
+    fn put(&mut self, case: &Case<'_>, word: &str, built: &mut Vec<Ref>) -> Ref {
         match node_of(word) {
-            Node::Var(n) => Some(self.variable(case, n)),
-            Node::Kept(i) => Some(self.kept(case, i)),
-            Node::Int(n) => {
-                let made = self.store.put_int(n);
-                case.made(made)
+            Node::Var(n) => self.variable(case, n),
+            Node::Kept(i) => self.kept(case, i),
+            Node::Int(n) => put_in(case, self.store.put_int(n)),
+            Node::Atom(name) => {
+                let name = case.name_of(name);
+                put_in(case, self.store.put_atom(name.as_str()))
             }
-            Node::Atom(name) => self.put_atom(case, name),
-            Node::Comp(name, count) => self.put_compound(case, name, count, built),
+            Node::Comp(name, count) => {
+                let args = case.several(built, count);
+                let name = case.name_of(name);
+                put_in(case, self.store.put_comp(name.as_str(), args.as_slice()))
+            }
             Node::List(count) => {
                 let item = taken(case, built);
                 let end = taken(case, built);
@@ -115,25 +122,6 @@ impl<S: StateStore> Bench<S> {
         }
     }
 
-    fn put_atom(&mut self, case: &Case<'_>, word: &str) -> Option<Ref> {
-        let name = name_of(case, word)?;
-        let made = self.store.put_atom(name.as_str());
-        case.made(made)
-    }
-
-    fn put_compound(
-        &mut self,
-        case: &Case<'_>,
-        word: &str,
-        count: usize,
-        built: &mut Vec<Ref>,
-    ) -> Option<Ref> {
-        let args = case.several(built, count);
-        let name = name_of(case, word)?;
-        let made = self.store.put_comp(name.as_str(), args.as_slice());
-        case.made(made)
-    }
-
     /// So many pairs, each over the one before, which stands in the place that isn't given.
     fn put_pairs(
         &mut self,
@@ -142,25 +130,28 @@ impl<S: StateStore> Bench<S> {
         innermost: Ref,
         first: Option<Ref>,
         second: Option<Ref>,
-    ) -> Option<Ref> {
+    ) -> Ref {
         let mut made = innermost;
         for _ in 0..count {
             let pair = [first.unwrap_or(made), second.unwrap_or(made)];
-            let over = self.store.put_comp(PAIR, &pair);
-            made = case.made(over)?;
+            made = put_in(case, self.store.put_comp(PAIR, &pair));
         }
-        Some(made)
+        made
     }
 
     /// An array of so many times an item.
-    fn put_row(&mut self, case: &Case<'_>, count: usize, item: Ref) -> Option<Ref> {
+    fn put_row(&mut self, case: &Case<'_>, count: usize, item: Ref) -> Ref {
         let mut items = Vec::new(case.alloc);
         for _ in 0..count {
             case.keep(Some(item), &mut items);
         }
-        let made = self.store.put_comp(ARRAY, items.as_slice());
-        case.made(made)
+        put_in(case, self.store.put_comp(ARRAY, items.as_slice()))
     }
+}
+
+/// A term that was put into a store, which fails for want of memory alone.
+fn put_in(case: &Case<'_>, put: Result<Ref, AllocError>) -> Ref {
+    case.made(put).unwrap_or(NOTHING)
 }
 
 /// Takes the newest term off a stack.

@@ -1,4 +1,5 @@
-//! Cases of terms, stores, and what is told of them: domains and texts of answers.
+//! Cases of terms, stores, and what is told of them: domains and texts of answers. Calls of built-ins, readings of constraints and propagations are steps
+//! on stores.
 #![tactic(auto)]
 
 mod answers;
@@ -11,23 +12,57 @@ mod terms;
 mod told;
 mod words;
 
-pub use bench::Bench;
-pub use constraints::tell_constraint;
-pub use kinds::raw_store;
-use pi_cases::Case;
-pub use stores::{show, take_store_step, tell_read};
+use pi_cases::{Case, named};
+
+/// A subject of cases.
+#[derive(Clone, Copy)]
+enum Subject {
+    Words,
+    Terms,
+    Answers,
+    Marks,
+    Told,
+    /// Steps over both kinds of store.
+    Stores,
+    /// Steps over the copying one.
+    Copies,
+    Readings,
+}
+
+/// Each subject with its names.
+const SUBJECTS: [(&str, Subject); 11] = [
+    ("words", Subject::Words),
+    ("terms", Subject::Terms),
+    ("answers", Subject::Answers),
+    ("marks", Subject::Marks),
+    ("told", Subject::Told),
+    ("stores", Subject::Stores),
+    ("calls", Subject::Stores),
+    ("propagations", Subject::Stores),
+    ("greatest", Subject::Copies),
+    ("greatest_calls", Subject::Copies),
+    ("readings", Subject::Readings),
+];
+
+/// The subject with a name.
+fn subject_of(name: &str) -> Option<Subject> {
+    named(&SUBJECTS, name)
+}
 
 /// Answers a case of terms or stores, in a file with this text, and tells whether the subject is one of such cases.
 pub fn answer_words(subject: &str, text: &str, case: &Case<'_>) -> bool {
+    let Some(subject) = subject_of(subject) else {
+        return false;
+    };
     match subject {
-        "words" => words::answer(case),
-        "terms" => terms::answer(case),
-        "answers" => answers::answer(case),
-        "marks" => marks::answer(case),
-        "stores" => stores::answer(case),
-        "greatest" => stores::answer_copying(case),
-        "told" => told::answer(case, text),
-        _ => return false,
+        Subject::Words => words::answer(case),
+        Subject::Terms => terms::answer(case),
+        Subject::Answers => answers::answer(case),
+        Subject::Marks => marks::answer(case),
+        Subject::Told => told::answer(case, text),
+        Subject::Stores => stores::answer(case),
+        Subject::Copies => stores::answer_copying(case, false),
+        Subject::Readings => stores::answer_copying(case, true),
     }
     true
 }

@@ -31,10 +31,7 @@ impl<R: Print + Input + AllocGlobal, F: Files> Subjects<R> for Tables<F> {
             || value_tables::answer_words(subject, case)
             || value_tables::answer_outside(rt, &mut self.files, subject, case)
             || filter_tables::answer_words(subject, case)
-            || reading_tables::answer_words(subject, case)
-            || queue_tables::answer_words(subject, case)
             || plan_tables::answer_words(subject, case)
-            || builtin_tables::answer_words(subject, case)
     }
 }
 

@@ -1,7 +1,7 @@
 //! Operations on integers, and their values or faults.
 
 use pi_arith::{ArithFault, Op, evaluate};
-use pi_cases::Case;
+use pi_cases::{Case, named};
 
 /// Each operation with its word.
 const OPERATIONS: [(&str, Op); 18] = [
@@ -27,8 +27,7 @@ const OPERATIONS: [(&str, Op); 18] = [
 
 /// Tells the value of an operation at two integers, or its fault. One of one place leaves the second integer unread.
 pub fn answer(case: &Case<'_>) {
-    let word = case.take_word();
-    let Some(operation) = operation(word) else {
+    let Some(operation) = operation_of(case.take_word()) else {
         return case.lacks("a known operation");
     };
     let a = case.take_integer();
@@ -39,11 +38,7 @@ pub fn answer(case: &Case<'_>) {
     }
 }
 
-fn operation(word: &str) -> Option<Op> {
-    for (name, operation) in &OPERATIONS {
-        if *name == word {
-            return Some(*operation);
-        }
-    }
-    None
+/// The operation with a word.
+fn operation_of(word: &str) -> Option<Op> {
+    named(&OPERATIONS, word)
 }

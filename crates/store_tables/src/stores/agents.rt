@@ -2,24 +2,56 @@
 
 use crate::bench::Bench;
 use crate::stores::showing::{begin, show, show_number, tell_confined, tell_look, tell_read};
-use pi_cases::Case;
+use pi_cases::{Case, named};
 use pi_types::{Activation, StateStore, Watch, Watches};
+
+/// What a step does.
+#[derive(Clone, Copy)]
+enum Step {
+    Suspend,
+    Agents,
+    Agent,
+    Watches,
+    Retire,
+    Wait,
+    Take,
+    Show,
+}
+
+/// Each step with its name.
+const STEPS: [(&str, Step); 8] = [
+    ("suspend", Step::Suspend),
+    ("agents", Step::Agents),
+    ("agent", Step::Agent),
+    ("watches", Step::Watches),
+    ("retire", Step::Retire),
+    ("wait", Step::Wait),
+    ("take", Step::Take),
+    ("show", Step::Show),
+];
+
+/// The step with a name.
+fn step_of(name: &str) -> Option<Step> {
+    named(&STEPS, name)
+}
 
 /// Takes a step on agents or activations, and tells whether it is one.
 pub fn take_step<S: StateStore>(case: &Case<'_>, bench: &mut Bench<S>, name: &str) -> bool {
-    match name {
-        "suspend" => suspend(case, bench),
-        "agents" => show_number(case, bench.store.agents()),
-        "agent" => show_agent(case, &bench.store),
-        "watches" => show_watches(case, &bench.store),
-        "retire" => {
+    let Some(step) = step_of(name) else {
+        return false;
+    };
+    match step {
+        Step::Suspend => suspend(case, bench),
+        Step::Agents => show_number(case, bench.store.agents()),
+        Step::Agent => show_agent(case, &bench.store),
+        Step::Watches => show_watches(case, &bench.store),
+        Step::Retire => {
             let retired = bench.store.retire(case.take_number());
             case.done(retired);
         }
-        "wait" => wait(case, &mut bench.store),
-        "take" => take_first(case, &mut bench.store),
-        "show" => show_state(case, &mut bench.store),
-        _ => return false,
+        Step::Wait => wait(case, &mut bench.store),
+        Step::Take => take_first(case, &mut bench.store),
+        Step::Show => show_state(case, &mut bench.store),
     }
     true
 }

@@ -2,49 +2,84 @@
 
 use crate::bench::Bench;
 use crate::stores::showing::{begin, show_number, show_values, show_whether, tell_look, tell_read};
-use pi_cases::Case;
+use pi_cases::{Case, named};
 use pi_types::{Ref, StateStore};
 use pi_unify::compare;
 use std::cmp::Ordering;
 
+/// What a step does.
+#[derive(Clone, Copy)]
+enum Step {
+    Variables,
+    Values,
+    Order,
+    Same,
+    Compare,
+    Read,
+    Look,
+    Ground,
+    Leads,
+}
+
+/// Each step with its name.
+const STEPS: [(&str, Step); 9] = [
+    ("vars", Step::Variables),
+    ("values", Step::Values),
+    ("order", Step::Order),
+    ("same", Step::Same),
+    ("compare", Step::Compare),
+    ("read", Step::Read),
+    ("look", Step::Look),
+    ("ground", Step::Ground),
+    ("leads", Step::Leads),
+];
+
+/// The step with a name.
+fn step_of(name: &str) -> Option<Step> {
+    named(&STEPS, name)
+}
+
 /// Takes a step that looks at terms, and tells whether it is one.
 pub fn take_step<S: StateStore>(case: &Case<'_>, bench: &mut Bench<S>, name: &str) -> bool {
-    match name {
-        "vars" => show_number(case, bench.store.vars()),
-        "values" => show_values(case, &bench.store),
-        "order" => show_orders(case, bench),
-        "same" | "compare" => look_at_two(case, bench, name),
-        "read" | "look" | "ground" | "leads" => look_at_one(case, bench, name),
-        _ => return false,
-    }
-    true
-}
-
-/// Shows something of a term.
-fn look_at_one<S: StateStore>(case: &Case<'_>, bench: &mut Bench<S>, name: &str) {
-    let r = bench.take(case);
-    begin(case);
-    match name {
-        "read" => tell_read(case, &bench.store, r),
-        "look" => tell_look(case, &bench.store, r),
-        "ground" => case.tell_whether(bench.store.is_ground(r)),
-        _ => {
+    let Some(step) = step_of(name) else {
+        return false;
+    };
+    match step {
+        Step::Variables => show_number(case, bench.store.vars()),
+        Step::Values => show_values(case, &bench.store),
+        Step::Order => show_orders(case, bench),
+        Step::Same => {
+            let a = bench.take(case);
+            let b = bench.take(case);
+            show_whether(case, bench.store.look(a) == bench.store.look(b));
+        }
+        Step::Compare => {
+            let a = bench.take(case);
+            let b = bench.take(case);
+            begin(case);
+            tell_order(case, &bench.store, a, b);
+        }
+        Step::Read => {
+            let r = bench.take(case);
+            begin(case);
+            tell_read(case, &bench.store, r);
+        }
+        Step::Look => {
+            let r = bench.take(case);
+            begin(case);
+            tell_look(case, &bench.store, r);
+        }
+        Step::Ground => {
+            let r = bench.take(case);
+            show_whether(case, bench.store.is_ground(r));
+        }
+        Step::Leads => {
+            let r = bench.take(case);
             let n = case.take_number();
-            case.tell_whether(bench.store.leads_to(r, n));
+            show_whether(case, bench.store.leads_to(r, n));
         }
     }
-}
-
-/// Shows how a term stands to another.
-fn look_at_two<S: StateStore>(case: &Case<'_>, bench: &mut Bench<S>, name: &str) {
-    let a = bench.take(case);
-    let b = bench.take(case);
-    if name == "same" {
-        show_whether(case, bench.store.look(a) == bench.store.look(b));
-    } else {
-        begin(case);
-        tell_order(case, &bench.store, a, b);
-    }
+    true
 }
 
 /// Shows how each of some terms stands to each of them.

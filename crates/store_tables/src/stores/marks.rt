@@ -2,32 +2,55 @@
 
 use crate::bench::Bench;
 use crate::stores::showing::{show_domain, show_numbers};
-use pi_cases::Case;
+use pi_cases::{Case, named};
 use pi_types::StateStore;
+
+/// What a step does.
+#[derive(Clone, Copy)]
+enum Step {
+    Mark,
+    Undo,
+    Changed,
+    Before,
+}
+
+/// Each step with its name.
+const STEPS: [(&str, Step); 4] = [
+    ("mark", Step::Mark),
+    ("undo", Step::Undo),
+    ("changed", Step::Changed),
+    ("before", Step::Before),
+];
+
+/// The step with a name.
+fn step_of(name: &str) -> Option<Step> {
+    named(&STEPS, name)
+}
 
 /// Takes a step on marks, and tells whether it is one.
 pub fn take_step<S: StateStore>(case: &Case<'_>, bench: &mut Bench<S>, name: &str) -> bool {
-    match name {
-        "mark" => {
+    let Some(step) = step_of(name) else {
+        return false;
+    };
+    match step {
+        Step::Mark => {
             let mark = bench.store.mark();
-            let mark = case.made(mark);
-            case.keep(mark, &mut bench.marks);
+            case.keep_made(mark, &mut bench.marks);
         }
-        "undo" | "changed" | "before" => go_to_mark(case, bench, name),
-        _ => return false,
+        _ => go_to_mark(case, bench, step),
     }
     true
 }
 
 /// Comes back to a mark, or shows what has changed since.
-fn go_to_mark<S: StateStore>(case: &Case<'_>, bench: &mut Bench<S>, name: &str) {
+fn go_to_mark<S: StateStore>(case: &Case<'_>, bench: &mut Bench<S>, step: Step) {
     let number = case.take_count();
     let Some(mark) = bench.marks.get(number) else {
         return case.lacks("a mark");
     };
-    match name {
-        "undo" => bench.store.undo(mark),
-        "changed" => {
+    match step {
+        Step::Undo => bench.store.undo(mark),
+        Step::Changed => {
             let found = bench.store.changed_since(case.alloc, mark);
             show_numbers(case, found);
         }

@@ -1,32 +1,63 @@
 //! Steps on bindings, domains and constraints.
 
 use crate::bench::Bench;
-use crate::constraints::{take_constraint, tell_constraint};
+use crate::constraints::tell_constraint;
 use crate::stores::showing::{begin, show_domain, show_number, show_numbers};
-use pi_cases::{Case, spans_of};
+use pi_cases::{Case, named, spans_of, take_constraint};
 use pi_types::laws::stores::changes_are_undone;
 use pi_types::{Domain, StateStore};
 
+/// What a step does.
+#[derive(Clone, Copy)]
+enum Step {
+    Bind,
+    Confine,
+    Try,
+    Domain,
+    Post,
+    Constraints,
+    Constraint,
+    Posted,
+}
+
+/// Each step with its name.
+const STEPS: [(&str, Step); 8] = [
+    ("bind", Step::Bind),
+    ("confine", Step::Confine),
+    ("try", Step::Try),
+    ("domain", Step::Domain),
+    ("post", Step::Post),
+    ("constraints", Step::Constraints),
+    ("constraint", Step::Constraint),
+    ("posted", Step::Posted),
+];
+
+/// The step with a name.
+fn step_of(name: &str) -> Option<Step> {
+    named(&STEPS, name)
+}
+
 /// Takes a step on the state, and tells whether it is one.
 pub fn take_step<S: StateStore>(case: &Case<'_>, bench: &mut Bench<S>, name: &str) -> bool {
-    match name {
-        "bind" => bind(case, bench),
-        "confine" => confine(case, bench),
-        "try" => try_changes(case, &mut bench.store),
-        "domain" => {
+    let Some(step) = step_of(name) else {
+        return false;
+    };
+    match step {
+        Step::Bind => bind(case, bench),
+        Step::Confine => confine(case, bench),
+        Step::Try => try_changes(case, &mut bench.store),
+        Step::Domain => {
             let variable = bench.take(case);
             let domain = bench.store.domain(case.alloc, variable);
             show_domain(case, domain);
         }
-        "post" => post(case, &mut bench.store),
-        "constraints" => show_number(case, bench.store.constraints()),
-        "constraint" => show_constraint(case, &bench.store),
-        "posted" => {
-            let variable = case.take_number();
-            let found = bench.store.posted_on(case.alloc, variable);
+        Step::Post => post(case, &mut bench.store),
+        Step::Constraints => show_number(case, bench.store.constraints()),
+        Step::Constraint => show_constraint(case, &bench.store),
+        Step::Posted => {
+            let found = bench.store.posted_on(case.alloc, case.take_number());
             show_numbers(case, found);
         }
-        _ => return false,
     }
     true
 }
@@ -55,14 +86,17 @@ fn try_changes<S: StateStore>(case: &Case<'_>, store: &mut S) {
 
 /// Takes the domain that the words of a step are.
 fn take_domain(case: &Case<'_>) -> Option<Domain> {
-    let words = case.take_rest();
-    spans_of(case, words)
+    spans_of(case, case.take_rest())
 }
 
 fn post<S: StateStore>(case: &Case<'_>, store: &mut S) {
-    if let Some(constraint) = take_constraint(case) {
-        let posted = store.post(&constraint);
-        case.done(posted);
+    match take_constraint(case, case.take_word()) {
+        Some(constraint) => {
+            let posted = store.post(&constraint);
+            case.done(posted);
+            drop(constraint);
+        }
+        None => case.lacks("a kind of constraint"),
     }
 }
 
@@ -76,5 +110,6 @@ fn show_constraint<S: StateStore>(case: &Case<'_>, store: &S) {
     if let Some(constraint) = case.made(constraint) {
         begin(case);
         tell_constraint(&constraint, case);
+        drop(constraint);
     }
 }

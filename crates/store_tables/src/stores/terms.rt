@@ -2,28 +2,58 @@
 
 use crate::bench::Bench;
 use crate::stores::showing::{read, show, show_whether};
-use pi_cases::{Case, Problem};
-use pi_types::{ReadStop, StateStore};
+use pi_cases::{Case, Problem, named};
+use pi_types::{ReadStop, StateStore, Term};
 use pi_unify::{copy_term, place, unify};
+
+/// What a step does.
+#[derive(Clone, Copy)]
+enum Step {
+    New,
+    Let,
+    Arg,
+    Place,
+    Again,
+    Copy,
+    Unify,
+}
+
+/// Each step with its name.
+const STEPS: [(&str, Step); 7] = [
+    ("new", Step::New),
+    ("let", Step::Let),
+    ("arg", Step::Arg),
+    ("place", Step::Place),
+    ("again", Step::Again),
+    ("copy", Step::Copy),
+    ("unify", Step::Unify),
+];
+
+/// The step with a name.
+fn step_of(name: &str) -> Option<Step> {
+    named(&STEPS, name)
+}
 
 /// Takes a step that makes terms, and tells whether it is one.
 pub fn take_step<S: StateStore>(case: &Case<'_>, bench: &mut Bench<S>, name: &str) -> bool {
-    match name {
-        "new" => new_variables(case, &mut bench.store),
-        "let" => {
+    let Some(step) = step_of(name) else {
+        return false;
+    };
+    match step {
+        Step::New => new_variables(case, &mut bench.store),
+        Step::Let => {
             let made = bench.take(case);
             bench.keep(case, made);
         }
-        "arg" => {
+        Step::Arg => {
             let whole = bench.take(case);
             let made = bench.store.arg(whole, case.take_number());
             bench.keep(case, made);
         }
-        "place" => place_taken(case, bench),
-        "again" => place_again(case, bench),
-        "copy" => copy(case, bench),
-        "unify" => unify_two(case, bench),
-        _ => return false,
+        Step::Place => place_taken(case, bench),
+        Step::Again => place_again(case, bench),
+        Step::Copy => copy(case, bench),
+        Step::Unify => unify_two(case, bench),
     }
     true
 }
@@ -38,21 +68,20 @@ fn new_variables<S: StateStore>(case: &Case<'_>, store: &mut S) {
 /// Places a term.
 fn place_taken<S: StateStore>(case: &Case<'_>, bench: &mut Bench<S>) {
     if let Some(term) = case.take_term() {
-        let made = place(case.alloc, &mut bench.store, &term);
-        let made = case.made(made);
-        case.keep(made, &mut bench.terms);
+        place_term(case, bench, &term);
     }
+}
+
+fn place_term<S: StateStore>(case: &Case<'_>, bench: &mut Bench<S>, term: &Term) {
+    let made = place(case.alloc, &mut bench.store, term);
+    case.keep_made(made, &mut bench.terms);
 }
 
 /// Places a term of the store once more, as it reads.
 fn place_again<S: StateStore>(case: &Case<'_>, bench: &mut Bench<S>) {
     let r = bench.take(case);
     match read(case, &bench.store, r) {
-        Some(term) => {
-            let made = place(case.alloc, &mut bench.store, &term);
-            let made = case.made(made);
-            case.keep(made, &mut bench.terms);
-        }
+        Some(term) => place_term(case, bench, &term),
         None => case.lacks("a smaller term"),
     }
 }

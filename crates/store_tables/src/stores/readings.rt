@@ -1,35 +1,21 @@
-//! Readings of constraints, among the steps on a new store that `store_tables` takes: `read GOAL` shows how many new variables the goal posts and its
-//! constraints in words, or why it posts nothing.
+//! Readings of constraints, in the cases of readings: `read GOAL` shows how many new variables the goal posts and its constraints in words, or why it
+//! posts nothing.
 
+use crate::bench::Bench;
+use crate::constraints::tell_constraint;
+use crate::stores::showing::show;
 use pi_cases::{Case, Problem};
 use pi_finished::Posting;
 use pi_reading::{ConFault, read_constraint};
-use pi_types::{StateStore, TreeStore};
-use store_tables::{Bench, show, take_store_step, tell_constraint};
+use pi_types::StateStore;
 
-/// Tells what the steps of a case show, taken on a `TreeStore`.
-pub fn answer(case: &Case<'_>) {
-    let store = TreeStore::new(case.alloc);
-    if let Some(store) = case.made(store) {
-        take_all(case, store);
+/// Takes a step that reads a goal, and tells whether it is one.
+pub fn take_step<S: StateStore>(case: &Case<'_>, bench: &mut Bench<S>, name: &str) -> bool {
+    let is_reading = bench.reads_goals && name == "read";
+    if is_reading {
+        take_reading(case, bench);
     }
-}
-
-/// The same on any store.
-fn take_all<S: StateStore>(case: &Case<'_>, store: S) {
-    let mut bench = Bench::new(case.alloc, store);
-    take_steps(case, &mut bench);
-}
-
-fn take_steps<S: StateStore>(case: &Case<'_>, bench: &mut Bench<S>) {
-    for _ in 0..case.steps() {
-        let name = case.take_word();
-        match name {
-            "read" => take_reading(case, bench),
-            _ => take_store_step(case, bench, name),
-        }
-        case.take_step_end();
-    }
+    is_reading
 }
 
 /// Takes a goal, and shows what it posts.

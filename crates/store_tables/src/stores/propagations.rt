@@ -1,40 +1,22 @@
-//! Propagations, among the steps on a new store that `store_tables` takes: `propagate LIMIT` runs all constraints that were posted, and
-//! `from LIMIT NUMBER ..` those with these numbers, with no more than so many runs. Each shows how it ends.
+//! Propagations: `propagate LIMIT` runs all constraints that were posted, and `from LIMIT NUMBER ..` those with these numbers, with no more than so many
+//! runs. Each shows how it ends.
 
+use crate::bench::Bench;
+use crate::stores::showing::show;
 use pi_cases::{Case, Problem};
 use pi_propagation::PropStop;
 use pi_queue::{propagate, propagate_from};
 use pi_stored::StoredDomains;
-use pi_types::{Places, TreeStore, Work};
-use store_tables::{Bench, raw_store, show, take_store_step};
+use pi_types::{Places, Work};
 
-/// Tells what the steps of a case show, taken on a `TreeStore`, and where the same steps on a `RawStore` show something else, that too.
-pub fn answer(case: &Case<'_>) {
-    let raw = case.again();
-    take_all(&raw, raw_store(case.alloc));
-    let store = TreeStore::new(case.alloc);
-    if let Some(store) = case.made(store) {
-        take_all(case, store);
+/// Takes a step that propagates, and tells whether it is one.
+pub fn take_step<S: StoredDomains>(case: &Case<'_>, bench: &mut Bench<S>, name: &str) -> bool {
+    match name {
+        "propagate" => propagate_all(case, bench),
+        "from" => propagate_some(case, bench),
+        _ => return false,
     }
-    case.tell_raw(&raw);
-}
-
-/// The same on any store.
-fn take_all<S: StoredDomains>(case: &Case<'_>, store: S) {
-    let mut bench = Bench::new(case.alloc, store);
-    take_steps(case, &mut bench);
-}
-
-fn take_steps<S: StoredDomains>(case: &Case<'_>, bench: &mut Bench<S>) {
-    for _ in 0..case.steps() {
-        let name = case.take_word();
-        match name {
-            "propagate" => propagate_all(case, bench),
-            "from" => propagate_some(case, bench),
-            _ => take_store_step(case, bench, name),
-        }
-        case.take_step_end();
-    }
+    true
 }
 
 /// No work so far.
