@@ -3,6 +3,7 @@ pub mod MadeLemmas
 pub mod HelperLemmas
 pub mod CallLemmas
 pub mod GoalLemmas
+pub mod PutLemmas
 pub mod NeverLemmas
 pub mod LoopLemmas
 pub mod ShapeLemmas

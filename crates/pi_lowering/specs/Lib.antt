@@ -1,4 +1,5 @@
 pub mod Lowering
+pub mod Put
 pub mod Joined
 pub mod Calls
 pub mod Opening

@@ -1,18 +1,18 @@
 -- Loops over iterators and tests as code goes through them: where they begin, one more test or iterator that is open, and where they end.
-use Rattle.std.specs.Prelude.{◌≡◌, Bool, List, [], ◌∷◌, ◌++◌, length, Option}
+use Rattle.std.specs.Prelude.{◌≡◌, Bool, ⊤, List, [], ◌∷◌, ◌++◌, length, Option}
 use Rattle.pi_terms.specs.Tree.{Tree}
 use Rattle.pi_core.specs.GoalTree.{GoalTree}
 use Rattle.pi_core.specs.CoreTree.{PredTree}
-use Rattle.pi_syntax.specs.ExpTree.{ExpTree, ExpTrees}
-use Rattle.pi_names.specs.Texts.{Names}
+use Rattle.pi_syntax.specs.ExpTree.{ExpTree, ExpTrees, foreach, collect}
+use Rattle.pi_names.specs.Texts.{Names, assigned, kept_names}
 use Rattle.pi_names.specs.Loops.{hidden}
 use Rattle.pi_lowered.specs.Slots.{SlotNames}
 use Rattle.pi_lowered.specs.Goals.{SlotGoals}
 use Rattle.pi_lowered.specs.Sites.{Site}
-use Rattle.pi_lowered.specs.Loops.{Ending, in_order, started}
+use Rattle.pi_lowered.specs.Loops.{Ending, as_it_is, in_order, started}
 use Rattle.pi_lowered.specs.Iterators.{behind_collection}
 use Rattle.pi_lowered.specs.Comprehensions.{adding, begun}
-use Rattle.pi_lowered.specs.Written.{Inner, gathering, gathered_at}
+use Rattle.pi_lowered.specs.Written.{Inner, inner_of, gathering, gathered_at}
 use Rattle.pi_sites.specs.SiteOf.{site_of}
 use Rattle.pi_helpers.specs.Parts.{AreGoals, goals_before}
 use Rattle.pi_helpers.specs.Helpers.{ending_of, lowered}
@@ -30,6 +30,11 @@ use Rattle.pi_lowering.specs.declared.whole.Around.{Around}
 pub record Iterates (s : Site) (ending : Ending) (kept : Names) (i : Inner) (us : ExpTrees) (old : SlotNames) (b : Iterating) (new : SlotNames) : Type 0 where
   pub inner : inner_in b.inner ≡ i
   pub begins : Begins b.whole s ending kept i us old (site_of b.inside.site) (ending_of b.ending) b.inside.goals.items b.inside.slots new
+
+-- it is this loop
+unfoldable pub HasBegun : Site → ExpTree → SlotNames → Iterating → SlotNames → Type 0
+HasBegun s (foreach us e) ns b ms = Iterates s as_it_is (kept_names s.before us (assigned e)) (inner_of e) us ns b ms
+HasBegun s e ns b ms = ⊤
 
 -- an iterator as it was planned, or a test, is open
 pub record OpensUnit (p : Option Planned) (t : Site) (u : ExpTree) (goals : List GoalTree) (ms : SlotNames) (o : Open) (t' : Site) (more : List GoalTree) (m : SlotNames) (old new : List PredTree) : Type 0 where
@@ -55,6 +60,11 @@ pub record Gathers (s : Site) (e : ExpTree) (es : ExpTrees) (is_array : Bool) (n
   pub starts : AreGoals (goals_before (started s.filled s.before ns)) old first ms
   pub has_begun : AreGoals (begun ms) first new within
   pub begins : Begins c.around.whole (site_of c.around.site) (in_order is_array) (hidden ∷ []) (gathering e) es within (site_of c.inside.site) (ending_of c.ending) c.inside.goals.items c.inside.slots c.around.slots
+
+-- it is this comprehension
+unfoldable pub IsGathering : Site → ExpTree → SlotNames → List GoalTree → Comprehension → SlotNames → List GoalTree → Type 0
+IsGathering s (collect is_array e us) ns old c ms new = Gathers s e us is_array ns old c ms new
+IsGathering s e ns old c ms new = ⊤
 
 -- an item is gathered, the loop ends, and the slot with what was gathered is the value
 pub record EndsGathering (a : Around) (os : List Open) (item : Tree) (mid : List GoalTree) (l ms : SlotNames) (old : List GoalTree) (list : Tree) (new : List GoalTree) (end : SlotNames) (hs all : List PredTree) : Type 0 where

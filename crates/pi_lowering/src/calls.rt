@@ -1,7 +1,6 @@
 //! Calls, by their form.
-ghost use Rattle.std.specs.Prelude.{◌≡◌, ◌==◌, ◌&&◌, ◌∷◌, ◌++◌, [], length, Some, IfOk};
+ghost use Rattle.std.specs.Prelude.{◌≡◌, ◌==◌, ◌&&◌, length, Some, IfOk};
 ghost use Rattle.std.specs.Str.{bytes_eq};
-ghost use Rattle.pi_core.specs.GoalTree.{GoalTree};
 ghost use Rattle.pi_syntax.specs.ExpTree.{exp_tree};
 ghost use Rattle.pi_syntax.specs.ExpLists.{exps_of};
 ghost use Rattle.pi_meaning.specs.Names.{is_call};
@@ -15,6 +14,7 @@ ghost use Rattle.pi_lowering.specs.Calls.{HasCount, IsForm, IsTermForm, AreCatch
 
 use crate::assigned::push_assigned;
 use crate::goals::{alone, push_goal};
+use crate::put::push_made;
 use crate::slotted::{applied, slotted};
 use crate::values::{value, values};
 use pi_core::{CoreGoal, CorePred};
@@ -85,21 +85,8 @@ fn is_by_term(name: &str, count: usize) -> bool
     1 <= count && count <= 8 && name == "call"
 }
 
-/// Puts the goal that an atom is behind the others.
-pub(crate) fn push_atom(
-    alloc: Global,
-    name: &str,
-    goals: &mut Vec<CoreGoal>,
-) -> Result<(), AllocError>
-    ensures { IfOk result (λ _. goals.new.items ≡ goals.old.items ++ atom_tree name.now ∷ []) }
-{
-    let goal = atom_goal(alloc, name)?;
-    goals.push(goal)?;
-    Ok(())
-}
-
 /// The goal that an atom is.
-fn atom_goal(alloc: Global, name: &str) -> Result<CoreGoal, AllocError>
+pub(crate) fn atom_goal(alloc: Global, name: &str) -> Result<CoreGoal, AllocError>
     ensures { IfOk result (λ made. made ≡ atom_tree name.now) }
 {
     if name == "true" {
@@ -127,64 +114,22 @@ pub(crate) fn push_call<'a>(
     match call_form(name, args.len()) {
         CallForm::Negation => {
             let goal = alone(alloc, site, &args[0], slots, helpers)?;
-            push_not(alloc, goal, goals)?;
-            Ok(())
+            push_made(CoreGoal::not(alloc, goal), goals)
         }
         CallForm::Once => {
             let goal = alone(alloc, site, &args[0], slots, helpers)?;
-            push_once(alloc, goal, goals)?;
-            Ok(())
+            push_made(CoreGoal::once(alloc, goal), goals)
         }
         CallForm::Assignment => {
-            push_assignment(alloc, site, &args[1], &args[0], slots, goals, helpers)?;
-            Ok(())
+            push_assignment(alloc, site, &args[1], &args[0], slots, goals, helpers)
         }
-        CallForm::Catch => {
-            push_catch(alloc, site, name, args, slots, goals, helpers)?;
-            Ok(())
-        }
-        CallForm::Never => {
-            push_fail(alloc, goals)?;
-            Ok(())
-        }
+        CallForm::Catch => push_catch(alloc, site, name, args, slots, goals, helpers),
+        CallForm::Never => push_fail(alloc, goals),
         CallForm::Plain => {
             let terms = values(alloc, false, site, args, slots, goals, helpers)?;
-            push_plain(alloc, name, &terms, goals)?;
-            Ok(())
+            push_made(CoreGoal::call(alloc, name, &terms), goals)
         }
     }
-}
-
-/// Puts the goal behind the others that has an answer where this one has none.
-fn push_not(alloc: Global, goal: CoreGoal, goals: &mut Vec<CoreGoal>) -> Result<(), AllocError>
-    ensures { IfOk result (λ _. goals.new.items ≡ goals.old.items ++ GoalTree.not goal ∷ []) }
-{
-    let made = CoreGoal::not(alloc, goal)?;
-    goals.push(made)?;
-    Ok(())
-}
-
-/// Puts the goal behind the others that has the first answer of this one.
-fn push_once(alloc: Global, goal: CoreGoal, goals: &mut Vec<CoreGoal>) -> Result<(), AllocError>
-    ensures { IfOk result (λ _. goals.new.items ≡ goals.old.items ++ GoalTree.once goal ∷ []) }
-{
-    let made = CoreGoal::once(alloc, goal)?;
-    goals.push(made)?;
-    Ok(())
-}
-
-/// Puts a call of a predicate behind the other goals.
-fn push_plain(
-    alloc: Global,
-    name: &str,
-    args: &[Term],
-    goals: &mut Vec<CoreGoal>,
-) -> Result<(), AllocError>
-    ensures { IfOk result (λ _. goals.new.items ≡ goals.old.items ++ GoalTree.call name.now args.now ∷ []) }
-{
-    let made = CoreGoal::call(alloc, name, args)?;
-    goals.push(made)?;
-    Ok(())
 }
 
 /// Puts an assignment behind the other goals.
@@ -202,8 +147,7 @@ fn push_assignment<'a>(
 {
     let behind = site.behind(alloc, to)?;
     let term = value(alloc, true, &behind, from, slots, goals, helpers)?;
-    push_assigned(alloc, to, term, slots, goals)?;
-    Ok(())
+    push_assigned(alloc, to, term, slots, goals)
 }
 
 /// Puts a goal whose exceptions are caught behind the others.
@@ -220,8 +164,7 @@ fn push_catch<'a>(
     ensures { IfOk result (λ _. length args.now ≡ 3 → form_of name.now (length args.now) ≡ Some catch → With (AreGoals (call_as_goal (site_of site.now) name.now (exps_of args.now) slots.old) goals.old.items goals.new.items slots.new) helpers.old.items helpers.new.items (call_goal_helpers (site_of site.now) name.now (exps_of args.now))) }
 {
     if args.len() < 3 {
-        push_fail(alloc, goals)?;
-        return Ok(());
+        return push_fail(alloc, goals);
     }
     let goal = &args[0];
     let ball = &args[1];
@@ -230,8 +173,7 @@ fn push_catch<'a>(
     let term = value(alloc, true, &sites.ball, ball, slots, goals, helpers)?;
     let one = alone(alloc, &sites.goal, goal, slots, helpers)?;
     let other = alone(alloc, &sites.handler, handler, slots, helpers)?;
-    push_caught(alloc, one, &term, other, goals)?;
-    Ok(())
+    push_made(CoreGoal::catch(alloc, one, &term, other), goals)
 }
 
 /// Where the parts of a `catch` stand: what is caught first, then the goal, then what is done then.
@@ -262,21 +204,6 @@ fn catch_sites<'a>(
     })
 }
 
-/// Puts a `catch` behind the other goals.
-fn push_caught(
-    alloc: Global,
-    goal: CoreGoal,
-    ball: &Term,
-    handler: CoreGoal,
-    goals: &mut Vec<CoreGoal>,
-) -> Result<(), AllocError>
-    ensures { IfOk result (λ _. goals.new.items ≡ goals.old.items ++ GoalTree.catch goal ball.now handler ∷ []) }
-{
-    let made = CoreGoal::catch(alloc, goal, ball, handler)?;
-    goals.push(made)?;
-    Ok(())
-}
-
 /// The value of a call.
 #[cycle(lowering)]
 pub(crate) fn call_value<'a>(
@@ -298,17 +225,14 @@ pub(crate) fn call_value<'a>(
         push_goal(alloc, &first, goal, slots, &mut inner, helpers)?;
         let behind = site.behind(alloc, goal)?;
         let term = value(alloc, true, &behind, item, slots, &mut inner, helpers)?;
-        let list = collected(alloc, term, inner, slots, goals)?;
-        return Ok(list);
+        return collected(alloc, term, inner, slots, goals);
     }
     if is_call_of(name, args.len(), "count_all", 1) {
         let goal = alone(alloc, site, &args[0], slots, helpers)?;
-        let number = counted(alloc, goal, slots, goals)?;
-        return Ok(number);
+        return counted(alloc, goal, slots, goals);
     }
     let terms = values(alloc, false, site, args, slots, goals, helpers)?;
-    let made = applied(alloc, name, &terms, slots, goals)?;
-    Ok(made)
+    applied(alloc, name, &terms, slots, goals)
 }
 
 /// The list of the values that a term has after each answer of the goals.

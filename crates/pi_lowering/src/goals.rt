@@ -5,17 +5,17 @@ ghost use Rattle.pi_core.specs.CoreTree.{pred_tree};
 ghost use Rattle.pi_syntax.specs.ExpTree.{exp_tree, or as any};
 ghost use Rattle.pi_syntax.specs.ExpLists.{exps_of};
 ghost use Rattle.pi_slots.specs.Branches.{branches_in};
-ghost use Rattle.pi_lowered.specs.Goals.{either_of};
 ghost use Rattle.pi_lowered.specs.Written.{goal_of, all_of};
 ghost use Rattle.pi_lowered.specs.Helpers.{goal_helpers, conjunct_helpers, branch_helpers};
 ghost use Rattle.pi_sites.specs.SiteOf.{site_of};
 ghost use Rattle.pi_helpers.specs.Parts.{AreGoals, IsAlone};
 ghost use Rattle.pi_lowering.specs.Lowering.{With, Puts};
 ghost use Rattle.pi_lowering.specs.Shapes.{IsIf, IsArrow};
-ghost use Rattle.pi_lowering.specs.Joined.{closed as closed_of, chosen as chosen_of, IsBranch, AreBranches, AreConditions};
+ghost use Rattle.pi_lowering.specs.Joined.{chosen as chosen_of, IsBranch, AreBranches, AreConditions};
 
 use crate::branches::{Branch, Condition, chosen, closed};
-use crate::calls::{push_atom, push_call};
+use crate::calls::{atom_goal, push_call};
+use crate::put::push_made;
 use crate::turns::{push_do, push_foreach, push_while};
 use pi_core::{CoreGoal, CorePred};
 use pi_helpers::{in_turn, one, push_fail};
@@ -54,34 +54,19 @@ pub(crate) fn push_goal<'a>(
     ensures { IfOk result (λ _. With (AreGoals (goal_of (site_of site.now) (exp_tree exp.now) slots.old) goals.old.items goals.new.items slots.new) helpers.old.items helpers.new.items (goal_helpers (site_of site.now) (exp_tree exp.now))) }
 {
     match exp {
-        Exp::Atom(name) => {
-            push_atom(alloc, name.as_str(), goals)?;
-            Ok(())
-        }
-        Exp::Call(name, args) => {
-            push_call(
-                alloc,
-                site,
-                name.as_str(),
-                args.as_slice(),
-                slots,
-                goals,
-                helpers,
-            )?;
-            Ok(())
-        }
-        Exp::And(parts) => {
-            push_all(alloc, site, parts.as_slice(), slots, goals, helpers)?;
-            Ok(())
-        }
-        Exp::Or(parts) => {
-            push_any(alloc, site, parts.as_slice(), slots, goals, helpers)?;
-            Ok(())
-        }
-        Exp::If(_, _) => {
-            push_if(alloc, site, exp, slots, goals, helpers)?;
-            Ok(())
-        }
+        Exp::Atom(name) => push_made(atom_goal(alloc, name.as_str()), goals),
+        Exp::Call(name, args) => push_call(
+            alloc,
+            site,
+            name.as_str(),
+            args.as_slice(),
+            slots,
+            goals,
+            helpers,
+        ),
+        Exp::And(parts) => push_all(alloc, site, parts.as_slice(), slots, goals, helpers),
+        Exp::Or(parts) => push_any(alloc, site, parts.as_slice(), slots, goals, helpers),
+        Exp::If(_, _) => push_if(alloc, site, exp, slots, goals, helpers),
         Exp::Var(_) => push_fail(alloc, goals),
         Exp::Int(_) => push_fail(alloc, goals),
         Exp::Str(_) => push_fail(alloc, goals),
@@ -92,22 +77,10 @@ pub(crate) fn push_goal<'a>(
         Exp::Range(_, _, _) => push_fail(alloc, goals),
         Exp::At(_, _) => push_fail(alloc, goals),
         Exp::Collect(_, _, _) => push_fail(alloc, goals),
-        Exp::Arrow(_, _) => {
-            push_aside(alloc, site, exp, slots, goals, helpers)?;
-            Ok(())
-        }
-        Exp::Foreach(_, _) => {
-            push_foreach(alloc, site, exp, slots, goals, helpers)?;
-            Ok(())
-        }
-        Exp::While(_, _) => {
-            push_while(alloc, site, exp, slots, goals, helpers)?;
-            Ok(())
-        }
-        Exp::DoWhile(_, _) => {
-            push_do(alloc, site, exp, slots, goals, helpers)?;
-            Ok(())
-        }
+        Exp::Arrow(_, _) => push_aside(alloc, site, exp, slots, goals, helpers),
+        Exp::Foreach(_, _) => push_foreach(alloc, site, exp, slots, goals, helpers),
+        Exp::While(_, _) => push_while(alloc, site, exp, slots, goals, helpers),
+        Exp::DoWhile(_, _) => push_do(alloc, site, exp, slots, goals, helpers),
     }
 }
 
@@ -124,21 +97,7 @@ fn push_any<'a>(
     ensures { IfOk result (λ _. Puts (site_of site.now) (any (exps_of exps.now)) slots.old goals.old.items goals.new.items slots.new helpers.old.items helpers.new.items) }
 {
     let branches = branches(alloc, site, exps, slots, helpers)?;
-    push_closed(alloc, branches, goals)?;
-    Ok(())
-}
-
-/// Puts the goal that branches come to behind the others.
-fn push_closed(
-    alloc: Global,
-    branches: Vec<Branch>,
-    goals: &mut Vec<CoreGoal>,
-) -> Result<(), AllocError>
-    ensures { IfOk result (λ _. goals.new.items ≡ goals.old.items ++ either_of (closed_of branches.items []) ∷ []) }
-{
-    let goal = closed(alloc, branches)?;
-    goals.push(goal)?;
-    Ok(())
+    push_made(closed(alloc, branches), goals)
 }
 
 /// Puts conditions with their bodies behind the other goals.
@@ -160,20 +119,15 @@ fn push_if<'a>(
                 let behind = site.behind_branches(alloc, parts.as_slice())?;
                 let mut last = Vec::new(alloc);
                 push_goal(alloc, &behind, other, slots, &mut last, helpers)?;
-                push_chosen(alloc, conditions, last, goals)?;
-                Ok(())
+                push_chosen(alloc, conditions, last, goals)
             }
             None => {
                 let conditions = conditions(alloc, site, parts.as_slice(), slots, helpers)?;
                 let last = only_truth(alloc)?;
-                push_chosen(alloc, conditions, last, goals)?;
-                Ok(())
+                push_chosen(alloc, conditions, last, goals)
             }
         },
-        _ => {
-            push_fail(alloc, goals)?;
-            Ok(())
-        }
+        _ => push_fail(alloc, goals),
     }
 }
 
@@ -204,13 +158,9 @@ fn push_aside<'a>(
             push_goal(alloc, site, test, &mut aside, &mut unused, helpers)?;
             let behind = site.behind(alloc, test)?;
             push_goal(alloc, &behind, body, &mut aside, &mut unused, helpers)?;
-            push_fail(alloc, goals)?;
-            Ok(())
+            push_fail(alloc, goals)
         }
-        _ => {
-            push_fail(alloc, goals)?;
-            Ok(())
-        }
+        _ => push_fail(alloc, goals),
     }
 }
 
@@ -241,8 +191,7 @@ pub(crate) fn alone<'a>(
 {
     let mut goals = Vec::new(alloc);
     push_goal(alloc, site, exp, slots, &mut goals, helpers)?;
-    let goal = in_turn(alloc, goals)?;
-    Ok(goal)
+    in_turn(alloc, goals)
 }
 
 /// Puts the goals of a conjunction behind the others.

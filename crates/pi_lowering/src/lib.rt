@@ -7,6 +7,7 @@ mod calls;
 mod goals;
 mod loops;
 mod over;
+mod put;
 mod slotted;
 mod structures;
 mod turns;

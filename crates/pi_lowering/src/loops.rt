@@ -41,8 +41,7 @@ pub(crate) fn begin_while<'a>(
     ensures { IfOk result (λ made. HasTurns (site_of site.now) (while_loop_of (site_of site.now) (exp_tree test.now) (exp_tree body.now)) (exp_tree test.now) made) }
 {
     let whole = while_loop(alloc, site, test, body)?;
-    let turns = begin_turns(alloc, site, whole, test)?;
-    Ok(turns)
+    begin_turns(alloc, site, whole, test)
 }
 
 /// Begins the turns of a `do`, whose first goal is its body.
@@ -55,8 +54,7 @@ pub(crate) fn begin_do<'a>(
     ensures { IfOk result (λ made. HasTurns (site_of site.now) (do_loop_of (site_of site.now) (exp_tree body.now) (exp_tree test.now)) (exp_tree body.now) made) }
 {
     let whole = do_loop(alloc, site, body, test)?;
-    let turns = begin_turns(alloc, site, whole, body)?;
-    Ok(turns)
+    begin_turns(alloc, site, whole, body)
 }
 
 /// Begins the turns of a loop, whose first goal is this.
@@ -103,8 +101,7 @@ pub(crate) fn end_while<'a>(
         &turns.whole,
         slots,
         goals,
-    )?;
-    Ok(())
+    )
 }
 
 /// Ends a `do`: puts it behind the goals, and its helper behind those before.
@@ -129,8 +126,7 @@ pub(crate) fn end_do<'a>(
         &turns.whole,
         slots,
         goals,
-    )?;
-    Ok(())
+    )
 }
 
 /// A `while`, by its test and its body.

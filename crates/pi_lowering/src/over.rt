@@ -61,10 +61,7 @@ fn over_unit<'a>(
     ensures { IfOk result (λ over. With (IsOver over (site_of site.now) (exp_tree unit.now) slots.old goals.old.items goals.new.items slots.new) helpers.old.items helpers.new.items (collection_helpers (site_of site.now) (exp_tree unit.now))) }
 {
     match unit {
-        Exp::Call(_, args) => {
-            let over = over_args(alloc, site, args.as_slice(), slots, goals, helpers)?;
-            Ok(over)
-        }
+        Exp::Call(_, args) => over_args(alloc, site, args.as_slice(), slots, goals, helpers),
         _ => {
             let term = no_value(alloc, goals)?;
             Ok(Over::Collection(term))
@@ -88,8 +85,7 @@ fn over_args<'a>(
         let term = no_value(alloc, goals)?;
         return Ok(Over::Collection(term));
     }
-    let over = over_exp(alloc, site, &args[1], slots, goals, helpers)?;
-    Ok(over)
+    over_exp(alloc, site, &args[1], slots, goals, helpers)
 }
 
 /// What an iterator goes over whose second argument is this.
@@ -105,10 +101,7 @@ fn over_exp<'a>(
     ensures { IfOk result (λ over. (name : List ℕ) (e : ExpTree) (es : ExpTrees) → With (IsOver over (site_of site.now) (call name (first_exp e (first_exp (exp_tree exp.now) es))) slots.old goals.old.items goals.new.items slots.new) helpers.old.items helpers.new.items (collection_helpers (site_of site.now) (call name (first_exp e (first_exp (exp_tree exp.now) es))))) }
 {
     match exp {
-        Exp::Range(_, _, _) => {
-            let over = over_range(alloc, site, exp, slots, goals, helpers)?;
-            Ok(over)
-        }
+        Exp::Range(_, _, _) => over_range(alloc, site, exp, slots, goals, helpers),
         _ => {
             let term = value(alloc, true, site, exp, slots, goals, helpers)?;
             Ok(Over::Collection(term))
@@ -130,10 +123,7 @@ fn over_range<'a>(
 {
     match exp {
         Exp::Range(first, step, last) => match step {
-            Some(_) => {
-                let over = over_steps(alloc, site, exp, slots, goals, helpers)?;
-                Ok(over)
-            }
+            Some(_) => over_steps(alloc, site, exp, slots, goals, helpers),
             None => {
                 let is_last = is_flat(last);
                 let low = value(alloc, is_last, site, first, slots, goals, helpers)?;

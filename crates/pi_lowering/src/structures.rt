@@ -3,15 +3,17 @@ ghost use Rattle.std.specs.Prelude.{◌≡◌, List, IfOk};
 ghost use Rattle.pi_core.specs.GoalTree.{GoalTree};
 ghost use Rattle.pi_syntax.specs.ExpTree.{exp_tree, list as list_tree, array as array_tree};
 ghost use Rattle.pi_syntax.specs.ExpLists.{exps_of};
+ghost use Rattle.pi_lowered.specs.Slots.{SlotNames};
 ghost use Rattle.pi_lowered.specs.Values.{SlotValue};
 ghost use Rattle.pi_lowered.specs.Goals.{indexed_by as indexed_by_of, begins_flat as begins_flat_tree};
-ghost use Rattle.pi_lowered.specs.Sites.{following_sites};
+ghost use Rattle.pi_lowered.specs.Sites.{Site as SiteOf, following_sites};
 ghost use Rattle.pi_lowered.specs.Written.{values_in};
 ghost use Rattle.pi_lowered.specs.Helpers.{all_helpers};
 ghost use Rattle.pi_sites.specs.SiteOf.{site_of};
 ghost use Rattle.pi_helpers.specs.Parts.{IsValue};
 ghost use Rattle.pi_lowering.specs.Lowering.{With, Gives};
 ghost use Rattle.pi_lowering.specs.Shapes.{IsList, IsIndex, IsSpan, IsStepped, IsCollected};
+ghost use Rattle.pi_lowering.specs.Opening.{IsGathering};
 
 use crate::slotted::{applied_to_three, applied_to_two};
 use crate::units::open_units;
@@ -42,18 +44,11 @@ pub(crate) fn listed<'a>(
                 let parts = values(alloc, true, site, items.as_slice(), slots, goals, helpers)?;
                 let behind = site.behind_all(alloc, items.as_slice())?;
                 let rest = value(alloc, false, &behind, tail, slots, goals, helpers)?;
-                let list = list_onto(alloc, &parts, &rest)?;
-                Ok(list)
+                list_onto(alloc, &parts, &rest)
             }
-            None => {
-                let list = list_of(alloc, site, items.as_slice(), slots, goals, helpers)?;
-                Ok(list)
-            }
+            None => list_of(alloc, site, items.as_slice(), slots, goals, helpers),
         },
-        _ => {
-            let term = no_value(alloc, goals)?;
-            Ok(term)
-        }
+        _ => no_value(alloc, goals),
     }
 }
 
@@ -71,8 +66,7 @@ fn list_of<'a>(
 {
     let parts = values(alloc, true, site, exps, slots, goals, helpers)?;
     let rest = Term::atom(alloc, "[]")?;
-    let list = list_onto(alloc, &parts, &rest)?;
-    Ok(list)
+    list_onto(alloc, &parts, &rest)
 }
 
 /// An array of these items.
@@ -88,8 +82,7 @@ pub(crate) fn array_of<'a>(
     ensures { IfOk result (λ term. Gives (site_of site.now) (array_tree (exps_of exps.now)) slots.old goals.old.items goals.new.items term slots.new helpers.old.items helpers.new.items) }
 {
     let parts = values(alloc, true, site, exps, slots, goals, helpers)?;
-    let array = Term::comp(alloc, "{}", &parts)?;
-    Ok(array)
+    Term::comp(alloc, "{}", &parts)
 }
 
 /// An item by indexes.
@@ -109,7 +102,7 @@ pub(crate) fn indexed<'a>(
             let is_last = begins_flat(places.as_slice());
             let whole = value(alloc, is_last, site, of, slots, goals, helpers)?;
             let mut behind = site.behind(alloc, of)?;
-            let item = indexed_by(
+            indexed_by(
                 alloc,
                 &mut behind,
                 whole,
@@ -117,13 +110,9 @@ pub(crate) fn indexed<'a>(
                 slots,
                 goals,
                 helpers,
-            )?;
-            Ok(item)
+            )
         }
-        _ => {
-            let term = no_value(alloc, goals)?;
-            Ok(term)
-        }
+        _ => no_value(alloc, goals),
     }
 }
 
@@ -173,23 +162,16 @@ pub(crate) fn ranged<'a>(
 {
     match exp {
         Exp::Range(first, step, last) => match step {
-            Some(_) => {
-                let range = stepped(alloc, site, exp, slots, goals, helpers)?;
-                Ok(range)
-            }
+            Some(_) => stepped(alloc, site, exp, slots, goals, helpers),
             None => {
                 let is_last = is_flat(last);
                 let one = value(alloc, is_last, site, first, slots, goals, helpers)?;
                 let behind = site.behind(alloc, first)?;
                 let two = value(alloc, true, &behind, last, slots, goals, helpers)?;
-                let range = applied_to_two(alloc, "..", one, two, slots, goals)?;
-                Ok(range)
+                applied_to_two(alloc, "..", one, two, slots, goals)
             }
         },
-        _ => {
-            let term = no_value(alloc, goals)?;
-            Ok(term)
-        }
+        _ => no_value(alloc, goals),
     }
 }
 
@@ -215,18 +197,11 @@ fn stepped<'a>(
                 let two = value(alloc, is_last, &second, step, slots, goals, helpers)?;
                 let third = second.behind(alloc, step)?;
                 let three = value(alloc, true, &third, last, slots, goals, helpers)?;
-                let range = applied_to_three(alloc, "..", one, two, three, slots, goals)?;
-                Ok(range)
+                applied_to_three(alloc, "..", one, two, three, slots, goals)
             }
-            None => {
-                let term = no_value(alloc, goals)?;
-                Ok(term)
-            }
+            None => no_value(alloc, goals),
         },
-        _ => {
-            let term = no_value(alloc, goals)?;
-            Ok(term)
-        }
+        _ => no_value(alloc, goals),
     }
 }
 
@@ -245,15 +220,38 @@ pub(crate) fn collected<'a>(
     match exp {
         Exp::Collect(is_array, item, units) => {
             let units = units.as_slice();
-            let begun = begin_comprehension(alloc, *is_array, site, units, item, slots, goals)?;
-            let Comprehension {
-                inner,
-                mut around,
-                ending,
-                mut inside,
-            } = begun;
-            let last = &mut inside;
-            let mut opened = open_units(alloc, ending, &inner, units, last, helpers)?;
+            let mut begun = begin_comprehension(alloc, *is_array, site, units, item, slots, goals)?;
+            let list = gather(alloc, exp, &mut begun, slots, goals, helpers);
+            drop(begun);
+            list
+        }
+        _ => no_value(alloc, goals),
+    }
+}
+
+/// The value of a comprehension that has begun.
+#[cycle(lowering)]
+fn gather<'a>(
+    alloc: Global,
+    exp: &'a Exp,
+    begun: &mut Comprehension<'a>,
+    slots: &mut Slots<'a>,
+    goals: &mut Vec<CoreGoal>,
+    helpers: &mut Vec<CorePred>,
+) -> Result<Term, AllocError>
+    ensures { IfOk result (λ term. IsCollected exp.now → (s : SiteOf) (ns : SlotNames) (before : List GoalTree) → IsGathering s (exp_tree exp.now) ns before begun.old slots.old goals.old.items → Gives s (exp_tree exp.now) ns before goals.new.items term slots.new helpers.old.items helpers.new.items) }
+{
+    match exp {
+        Exp::Collect(_, item, units) => {
+            let last = &mut begun.inside;
+            let mut opened = open_units(
+                alloc,
+                begun.ending,
+                &begun.inner,
+                units.as_slice(),
+                last,
+                helpers,
+            )?;
             let term = value(
                 alloc,
                 true,
@@ -263,21 +261,17 @@ pub(crate) fn collected<'a>(
                 &mut last.goals,
                 helpers,
             )?;
-            let list = end_comprehension(
+            end_comprehension(
                 alloc,
                 term,
-                &mut around,
+                &mut begun.around,
                 &mut opened,
                 last,
                 slots,
                 goals,
                 helpers,
-            )?;
-            Ok(list)
+            )
         }
-        _ => {
-            let term = no_value(alloc, goals)?;
-            Ok(term)
-        }
+        _ => no_value(alloc, goals),
     }
 }

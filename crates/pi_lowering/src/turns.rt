@@ -1,9 +1,11 @@
 //! Loops as goals: what stands in their turns goes into helpers.
 ghost use Rattle.std.specs.Prelude.{IfOk};
 ghost use Rattle.pi_syntax.specs.ExpTree.{exp_tree};
+ghost use Rattle.pi_lowered.specs.Slots.{SlotNames};
 ghost use Rattle.pi_sites.specs.SiteOf.{site_of};
 ghost use Rattle.pi_lowering.specs.Lowering.{Puts};
 ghost use Rattle.pi_lowering.specs.Shapes.{IsForeach, IsWhile, IsDo};
+ghost use Rattle.pi_lowering.specs.Opening.{HasBegun};
 
 use crate::goals::push_goal;
 use crate::loops::{begin_do, begin_while, end_do, end_while};
@@ -12,7 +14,7 @@ use crate::whole::{Iterating, begin_foreach, end_foreach};
 use pi_core::{CoreGoal, CorePred};
 use pi_helpers::push_fail;
 use pi_sites::Site;
-use pi_slots::Slots;
+use pi_slots::{Slots, both};
 use pi_syntax::Exp;
 use std::alloc::{AllocError, Global};
 
@@ -31,15 +33,39 @@ pub(crate) fn push_foreach<'a>(
     match exp {
         Exp::Foreach(units, body) => {
             let units = units.as_slice();
-            let begun = begin_foreach(alloc, site, units, body, slots)?;
-            let Iterating {
-                inner,
-                whole,
-                ending,
-                mut inside,
-            } = begun;
-            let last = &mut inside;
-            let mut opened = open_units(alloc, ending, &inner, units, last, helpers)?;
+            let mut begun = begin_foreach(alloc, site, units, body, slots)?;
+            let put = push_begun(alloc, site, exp, &mut begun, slots, goals, helpers);
+            drop(begun);
+            put
+        }
+        _ => push_fail(alloc, goals),
+    }
+}
+
+/// Puts a loop over iterators and tests that has begun behind the other goals.
+#[cycle(lowering)]
+fn push_begun<'a>(
+    alloc: Global,
+    site: &Site<'a>,
+    exp: &'a Exp,
+    begun: &mut Iterating<'a>,
+    slots: &mut Slots<'a>,
+    goals: &mut Vec<CoreGoal>,
+    helpers: &mut Vec<CorePred>,
+) -> Result<(), AllocError>
+    ensures { IfOk result (λ _. IsForeach exp.now → (ns : SlotNames) → HasBegun (site_of site.now) (exp_tree exp.now) ns begun.old slots.old → Puts (site_of site.now) (exp_tree exp.now) ns goals.old.items goals.new.items slots.new helpers.old.items helpers.new.items) }
+{
+    match exp {
+        Exp::Foreach(units, body) => {
+            let last = &mut begun.inside;
+            let mut opened = open_units(
+                alloc,
+                begun.ending,
+                &begun.inner,
+                units.as_slice(),
+                last,
+                helpers,
+            )?;
             push_goal(
                 alloc,
                 &last.site,
@@ -51,23 +77,20 @@ pub(crate) fn push_foreach<'a>(
             end_foreach(
                 alloc,
                 site,
-                &whole,
+                &begun.whole,
                 &mut opened,
                 last,
                 slots,
                 goals,
                 helpers,
-            )?;
-            Ok(())
+            )
         }
-        _ => {
-            push_fail(alloc, goals)?;
-            Ok(())
-        }
+        _ => push_fail(alloc, goals),
     }
 }
 
-/// Puts a `while` behind the other goals.
+/// Puts a `while` behind the other goals. Each step is done, also where one before it wants memory: so what has begun is
+/// dropped in one place.
 #[cycle(lowering)]
 pub(crate) fn push_while<'a>(
     alloc: Global,
@@ -83,33 +106,31 @@ pub(crate) fn push_while<'a>(
         Exp::While(test, body) => {
             let mut begun = begin_while(alloc, site, test, body)?;
             let turns = &mut begun;
-            push_goal(
+            let one = push_goal(
                 alloc,
                 &turns.first,
                 test,
                 &mut turns.slots,
                 &mut turns.one,
                 helpers,
-            )?;
-            push_goal(
+            );
+            let other = push_goal(
                 alloc,
                 &turns.second,
                 body,
                 &mut turns.slots,
                 &mut turns.other,
                 helpers,
-            )?;
-            end_while(alloc, site, turns, slots, goals, helpers)?;
-            Ok(())
+            );
+            let put = end_while(alloc, site, turns, slots, goals, helpers);
+            drop(begun);
+            both(one, both(other, put))
         }
-        _ => {
-            push_fail(alloc, goals)?;
-            Ok(())
-        }
+        _ => push_fail(alloc, goals),
     }
 }
 
-/// Puts a `do` behind the other goals.
+/// Puts a `do` behind the other goals, as a `while`.
 #[cycle(lowering)]
 pub(crate) fn push_do<'a>(
     alloc: Global,
@@ -125,28 +146,26 @@ pub(crate) fn push_do<'a>(
         Exp::DoWhile(body, test) => {
             let mut begun = begin_do(alloc, site, body, test)?;
             let turns = &mut begun;
-            push_goal(
+            let one = push_goal(
                 alloc,
                 &turns.first,
                 body,
                 &mut turns.slots,
                 &mut turns.one,
                 helpers,
-            )?;
-            push_goal(
+            );
+            let other = push_goal(
                 alloc,
                 &turns.second,
                 test,
                 &mut turns.slots,
                 &mut turns.other,
                 helpers,
-            )?;
-            end_do(alloc, site, turns, slots, goals, helpers)?;
-            Ok(())
+            );
+            let put = end_do(alloc, site, turns, slots, goals, helpers);
+            drop(begun);
+            both(one, both(other, put))
         }
-        _ => {
-            push_fail(alloc, goals)?;
-            Ok(())
-        }
+        _ => push_fail(alloc, goals),
     }
 }

@@ -57,11 +57,9 @@ pub(crate) fn value<'a>(
     ensures { IfOk result (λ term. With (IsValue (by_place is_last (site_of site.now) (exp_tree exp.now) slots.old) goals.old.items goals.new.items term slots.new) helpers.old.items helpers.new.items (value_helpers (site_of site.now) (exp_tree exp.now))) }
 {
     if is_flat(exp) {
-        let term = flat_value(alloc, is_last, site.filled, exp, slots, goals)?;
-        return Ok(term);
+        return flat_value(alloc, is_last, site.filled, exp, slots, goals);
     }
-    let term = made(alloc, site, exp, slots, goals, helpers)?;
-    Ok(term)
+    made(alloc, site, exp, slots, goals, helpers)
 }
 
 /// An expression without a call.
@@ -98,44 +96,26 @@ fn made<'a>(
     ensures { IfOk result (λ term. With (IsValue (made_of (site_of site.now) (exp_tree exp.now) slots.old) goals.old.items goals.new.items term slots.new) helpers.old.items helpers.new.items (value_helpers (site_of site.now) (exp_tree exp.now))) }
 {
     match exp {
-        Exp::List(_, _) => {
-            let list = listed(alloc, site, exp, slots, goals, helpers)?;
-            Ok(list)
-        }
-        Exp::Array(items) => {
-            let array = array_of(alloc, site, items.as_slice(), slots, goals, helpers)?;
-            Ok(array)
-        }
-        Exp::Call(name, args) => {
-            let value = call_value(
-                alloc,
-                site,
-                name.as_str(),
-                args.as_slice(),
-                slots,
-                goals,
-                helpers,
-            )?;
-            Ok(value)
-        }
-        Exp::Index(_, _) => {
-            let item = indexed(alloc, site, exp, slots, goals, helpers)?;
-            Ok(item)
-        }
-        Exp::Range(_, _, _) => {
-            let range = ranged(alloc, site, exp, slots, goals, helpers)?;
-            Ok(range)
-        }
+        Exp::List(_, _) => listed(alloc, site, exp, slots, goals, helpers),
+        Exp::Array(items) => array_of(alloc, site, items.as_slice(), slots, goals, helpers),
+        Exp::Call(name, args) => call_value(
+            alloc,
+            site,
+            name.as_str(),
+            args.as_slice(),
+            slots,
+            goals,
+            helpers,
+        ),
+        Exp::Index(_, _) => indexed(alloc, site, exp, slots, goals, helpers),
+        Exp::Range(_, _, _) => ranged(alloc, site, exp, slots, goals, helpers),
         Exp::Var(_) => no_value(alloc, goals),
         Exp::Int(_) => no_value(alloc, goals),
         Exp::Atom(_) => no_value(alloc, goals),
         Exp::Str(_) => no_value(alloc, goals),
         Exp::Quote(_) => no_value(alloc, goals),
         Exp::At(_, _) => no_value(alloc, goals),
-        Exp::Collect(_, _, _) => {
-            let list = collected(alloc, site, exp, slots, goals, helpers)?;
-            Ok(list)
-        }
+        Exp::Collect(_, _, _) => collected(alloc, site, exp, slots, goals, helpers),
         Exp::And(_) => no_value(alloc, goals),
         Exp::Or(_) => no_value(alloc, goals),
         Exp::Arrow(_, _) => no_value(alloc, goals),

@@ -90,8 +90,7 @@ pub(crate) fn end_foreach<'a>(
     ensures { IfOk result (λ _. EndsLoop whole.now (site_of site.now) opened.old.items (lowered inside.old.goals.items inside.old.slots) slots.old goals.old.items goals.new.items slots.new (map pred_tree helpers.old.items) (map pred_tree helpers.new.items)) }
 {
     close(alloc, opened, &mut inside.slots, &mut inside.goals, helpers)?;
-    finish(alloc, site, whole, inside, slots, goals, helpers)?;
-    Ok(())
+    finish(alloc, site, whole, inside, slots, goals, helpers)
 }
 
 /// Begins a comprehension.
