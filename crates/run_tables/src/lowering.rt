@@ -50,19 +50,13 @@ fn prelude_preds(case: &Case<'_>) -> usize {
     }
 }
 
-/// Takes a part: a fact behind its mode lists, or a rule.
+/// Takes a part: a fact or a rule.
 fn take_part(case: &Case<'_>) -> Option<Part> {
-    let is_fact = case.skip("fact");
-    let modes: &[&str] = if is_fact { case.take_until(":") } else { &[] };
-    let clause = if is_fact {
+    if case.skip("fact") {
         take_fact(case)
     } else {
         take_rule(case)
-    };
-    Some(Part {
-        clause: Some(clause?),
-        decl: decl_of(case, modes),
-    })
+    }
 }
 
 /// What words of mode lists declare.
@@ -78,14 +72,18 @@ fn decl_of(case: &Case<'_>, words: &[&str]) -> Decl {
     Decl::Index(lists)
 }
 
-/// Takes the head of a fact.
-fn take_fact(case: &Case<'_>) -> Option<Clause> {
+/// Takes the part that is a fact, behind its mode lists.
+fn take_fact(case: &Case<'_>) -> Option<Part> {
+    let modes = case.take_until(":");
     let head = expression_of(case, case.take_rest())?;
-    Some(Clause::Fact { head })
+    Some(Part {
+        clause: Some(Clause::Fact { head }),
+        decl: decl_of(case, modes),
+    })
 }
 
-/// Takes the head and the body of a rule.
-fn take_rule(case: &Case<'_>) -> Option<Clause> {
+/// Takes the part that is a rule, by its head and its body.
+fn take_rule(case: &Case<'_>) -> Option<Part> {
     let back = case.finds("?=>");
     let head = case.take_until(if back { "?=>" } else { "=>" });
     let head = expression_of(case, head)?;
@@ -93,12 +91,16 @@ fn take_rule(case: &Case<'_>) -> Option<Clause> {
         drop(head);
         return None;
     };
-    Some(Clause::Rule {
+    let clause = Clause::Rule {
         head,
         cond: None,
         events: Vec::new(case.alloc),
         back,
         body,
+    };
+    Some(Part {
+        clause: Some(clause),
+        decl: Decl::Plain,
     })
 }
 
