@@ -1,3 +1,7 @@
+mod KindLemmas
+mod ClosedLemmas
+mod EqualityLemmas
+mod NamingLemmas
 mod NamedLemmas
 mod FunctionTables
 mod PredicateTables

@@ -10,9 +10,9 @@ use Rattle.pi_effects.specs.Comparing.{comparing_tests}
 use Rattle.pi_effects.specs.Kinds.{kind_tests}
 use Rattle.pi_effects.specs.Texts.{writing_predicates}
 use Rattle.pi_effects.specs.BuiltIns.{tests, other_predicates, built_in_predicate, is_predicate}
-use Rattle.pi_numbers.specs.declared.relations.Relation.{Relation}
-use Rattle.pi_kinds.specs.declared.kinds.TermKind.{TermKind}
-use Rattle.pi_kinds.specs.declared.ordering.TermRelation.{TermRelation}
+use Rattle.pi_builtin.specs.declared.relations.Relation.{Relation}
+use Rattle.pi_builtin.specs.declared.kinds.TermKind.{TermKind}
+use Rattle.pi_builtin.specs.declared.ordering.TermRelation.{TermRelation}
 use Rattle.pi_builtin.specs.Names.{none_name, test_name, pair_name, takes}
 use Rattle.pi_builtin.specs.Resolved.{Named, first_named, IsPredicateNamed}
 use Rattle.pi_builtin.specs.declared.predicates.PredicateOfNone.{PredicateOfNone}

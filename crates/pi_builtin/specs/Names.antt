@@ -2,9 +2,9 @@
 -- `integer`. (A User's Guide to Picat, 'Appendix: Predicates and Functions'; which of them are there is own.)
 use Rattle.std.specs.Prelude.{ℕ, ◌==◌, ◌&&◌, nat_lt, Bool, true, false, List, [], codes}
 use Rattle.pi_arith.specs.declared.operation.Op.{Op}
-use Rattle.pi_numbers.specs.declared.relations.Relation.{Relation}
-use Rattle.pi_kinds.specs.declared.kinds.TermKind.{TermKind}
-use Rattle.pi_kinds.specs.declared.ordering.TermRelation.{TermRelation}
+use Rattle.pi_builtin.specs.declared.relations.Relation.{Relation}
+use Rattle.pi_builtin.specs.declared.kinds.TermKind.{TermKind}
+use Rattle.pi_builtin.specs.declared.ordering.TermRelation.{TermRelation}
 use Rattle.pi_effects.specs.Indexing.{index_name}
 use Rattle.pi_effects.specs.Inner.{itself_name, in_order_name, range_count_name}
 use Rattle.pi_builtin.specs.declared.functions.FunctionOfCollection.{FunctionOfCollection}

@@ -1,10 +1,24 @@
-//! The built-in predicates and functions, and which of them a name is.
+//! The built-in predicates and functions, and which of them a name is: tests of terms, their names and numbers of arguments, and arithmetic on the terms of a store.
 #![tactic(auto)]
 
+mod closed;
+mod equality;
 mod functions;
+mod kinds;
 mod lookup;
+mod naming;
+mod operations;
+mod ordering;
 mod predicates;
+mod relations;
 
+pub use closed::is_closed;
+pub use equality::{differ, make_equal};
 pub use functions::{Function, FunctionOfCollection, FunctionOfOne, FunctionOfTwo};
+pub use kinds::{TermKind, is_of_kind};
 pub use lookup::{function_named, predicate_named, predicate_names};
+pub use naming::{arity_of, name_of};
+pub use operations::{evaluate_one, evaluate_two, greatest, least, same_integer};
+pub use ordering::{TermRelation, are_ordered};
 pub use predicates::{Predicate, PredicateOfNone, PredicateOfOne, PredicateOfTwo};
+pub use relations::{Relation, are_related};

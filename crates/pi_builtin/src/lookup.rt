@@ -5,10 +5,11 @@ ghost use Rattle.pi_builtin.specs.Names.{takes};
 ghost use Rattle.pi_builtin.specs.Resolved.{IsFunctionNamed, IsPredicateNamed, rows_shown, first_named, named_with};
 
 use crate::functions::{Function, FunctionOfCollection, FunctionOfOne, FunctionOfTwo};
+use crate::kinds::TermKind;
+use crate::ordering::TermRelation;
 use crate::predicates::{Predicate, PredicateOfNone, PredicateOfOne, PredicateOfTwo};
+use crate::relations::Relation;
 use pi_arith::Op;
-use pi_kinds::{TermKind, TermRelation};
-use pi_numbers::Relation;
 use std::alloc::{AllocError, Global};
 
 /// A name, with what it is.

@@ -2,8 +2,9 @@
 ghost use Rattle.std.specs.Prelude.{◌≡◌};
 ghost use Rattle.pi_builtin.specs.Names.{may_bind};
 
-use pi_kinds::{TermKind, TermRelation};
-use pi_numbers::Relation;
+use crate::kinds::TermKind;
+use crate::ordering::TermRelation;
+use crate::relations::Relation;
 
 /// A predicate without arguments.
 #[derive(Clone, Copy)]

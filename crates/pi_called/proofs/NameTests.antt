@@ -12,7 +12,7 @@ use Rattle.pi_core.specs.CoreTree.{pred_tree, PredTree, is_pred, find_pred}
 use Rattle.pi_meaning.specs.Instances.{is_called_by_name}
 use Rattle.pi_meaning.specs.Names.{is_planner}
 use Rattle.pi_machine.specs.Step.{is_defined, unknown_ball, unknown_by}
-use Rattle.pi_named_goals.proofs.FoundLemmas.{names-same, is-named}
+use Rattle.pi_meaning.proofs.FoundLemmas.{names-same, is-named}
 
 pub same-test : (a b : List ℕ) → bytes_eq a b ≡ is_eq (name_order a b)
 same-test a b = agree (bytes_eq a b) (is_eq (name_order a b)) (λ is. is-named a b ((bytes_eq-Decides a b).0 is)) (λ is. (bytes_eq-Decides a b).1 (names-same a b is))

@@ -25,8 +25,8 @@ use Rattle.pi_effects.specs.Naming.{naming_functions, name_at, arity_at}
 use Rattle.pi_effects.specs.Texts.{text_functions, plain_text_list}
 use Rattle.pi_effects.specs.Making.{making_functions, new_items, new_grid, copied}
 use Rattle.pi_effects.specs.BuiltIns.{reading_functions, built_in_function, answer_in}
-use Rattle.pi_faults.specs.Results.{ShowsTerm, ShowsEffect}
-use Rattle.pi_faults.specs.declared.fault.Stop.{Stop}
+use Rattle.pi_effects.specs.Results.{ShowsTerm, ShowsEffect}
+use Rattle.pi_effects.specs.declared.fault.Stop.{Stop}
 use Rattle.pi_builtin.specs.Names.{collection_name, one_name, two_name}
 use Rattle.pi_builtin.specs.declared.functions.FunctionOfCollection.{FunctionOfCollection}
 use Rattle.pi_builtin.specs.declared.functions.FunctionOfOne.{FunctionOfOne}

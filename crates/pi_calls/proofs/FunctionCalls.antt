@@ -7,9 +7,9 @@ use Rattle.pi_states.specs.declared.store.Ref.{Ref}
 use Rattle.pi_effects.specs.Effect.{FunctionEffect}
 use Rattle.pi_effects.specs.Answer.{Answer}
 use Rattle.pi_effects.specs.BuiltIns.{answer_in}
-use Rattle.pi_faults.specs.Results.{ShowsTerm, ShowsEffect}
-use Rattle.pi_faults.specs.declared.fault.Stop.{Stop}
-use Rattle.pi_faults.proofs.FaultLemmas.{effect-shown}
+use Rattle.pi_effects.specs.Results.{ShowsTerm, ShowsEffect}
+use Rattle.pi_effects.specs.declared.fault.Stop.{Stop}
+use Rattle.pi_effects.proofs.FaultLemmas.{effect-shown}
 
 -- the terms of so many Refs
 pub terms-none : {M : Type 0} (v : StoreView M) (args : List Ref) (ts : Trees) → AreTerms v args ts → (length args == 0) ≡ true → ts ≡ no_trees

@@ -17,14 +17,14 @@ use Rattle.pi_effects.specs.Comparing.{comparing_tests, value_order}
 use Rattle.pi_effects.specs.Kinds.{kind_tests, holds_no_variable}
 use Rattle.pi_effects.specs.Texts.{writing_predicates, text_before, line_feed, plain, quoted}
 use Rattle.pi_effects.specs.BuiltIns.{tests, other_predicates, built_in_predicate, test_in, writing_in}
-use Rattle.pi_numbers.specs.Relations.{holds}
-use Rattle.pi_numbers.specs.declared.relations.Relation.{Relation}
-use Rattle.pi_kinds.specs.Kinds.{passes}
-use Rattle.pi_kinds.specs.Ordered.{is_ordered}
-use Rattle.pi_kinds.specs.declared.kinds.TermKind.{TermKind}
-use Rattle.pi_kinds.specs.declared.ordering.TermRelation.{TermRelation}
-use Rattle.pi_faults.specs.Results.{ShowsSame}
-use Rattle.pi_faults.specs.declared.fault.Stop.{Stop}
+use Rattle.pi_builtin.specs.Relations.{holds}
+use Rattle.pi_builtin.specs.declared.relations.Relation.{Relation}
+use Rattle.pi_builtin.specs.Kinds.{passes}
+use Rattle.pi_builtin.specs.Ordered.{is_ordered}
+use Rattle.pi_builtin.specs.declared.kinds.TermKind.{TermKind}
+use Rattle.pi_builtin.specs.declared.ordering.TermRelation.{TermRelation}
+use Rattle.pi_effects.specs.Results.{ShowsSame}
+use Rattle.pi_effects.specs.declared.fault.Stop.{Stop}
 use Rattle.pi_builtin.specs.Names.{none_name, test_name, pair_name}
 use Rattle.pi_builtin.specs.declared.predicates.PredicateOfNone.{PredicateOfNone}
 use Rattle.pi_builtin.specs.declared.predicates.PredicateOfOne.{PredicateOfOne}

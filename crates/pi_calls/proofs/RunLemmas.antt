@@ -11,11 +11,11 @@ use Rattle.pi_states.specs.declared.store.Cell.{Cell}
 use Rattle.pi_effects.specs.Effect.{Effect, Raises, FunctionEffect, Refuses}
 use Rattle.pi_effects.specs.BuiltIns.{built_in_function, built_in_predicate, is_predicate}
 use Rattle.pi_effects.proofs.BuiltInLemmas.{predicates-listed}
-use Rattle.pi_faults.specs.Balls.{IsBall}
-use Rattle.pi_faults.specs.Results.{ShowsEffect}
-use Rattle.pi_faults.specs.declared.fault.Fault.{Fault}
-use Rattle.pi_faults.specs.declared.fault.Stop.{Stop}
-use Rattle.pi_faults.proofs.FaultLemmas.{ball-stays}
+use Rattle.pi_effects.specs.Balls.{IsBall}
+use Rattle.pi_effects.specs.Results.{ShowsEffect}
+use Rattle.pi_effects.specs.declared.fault.Fault.{Fault}
+use Rattle.pi_effects.specs.declared.fault.Stop.{Stop}
+use Rattle.pi_effects.proofs.FaultLemmas.{ball-stays}
 use Rattle.pi_builtin.specs.Names.{function_name, function_arity}
 use Rattle.pi_builtin.specs.Resolved.{IsFunctionNamed, IsPredicateNamed}
 use Rattle.pi_builtin.specs.declared.functions.Function.{Function}

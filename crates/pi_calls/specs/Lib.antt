@@ -1,2 +1,10 @@
+pub mod Order
+pub mod Placed
+pub mod Extremes
+pub mod Pairs
+pub mod Steps
+pub mod Characters
+pub mod Signs
+pub mod Filling
 pub mod Outcomes
 pub mod Runs

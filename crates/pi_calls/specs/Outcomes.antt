@@ -4,8 +4,8 @@ use Rattle.std.specs.Prelude.{◌≡◌, ℕ, List, Bool, true, false, Result, O
 use Rattle.pi_terms.specs.Tree.{Tree}
 use Rattle.pi_states.specs.Store.{StoreView, Stays}
 use Rattle.pi_effects.specs.Effect.{Effect, Succeeds, Fails, Writes, Raises}
-use Rattle.pi_faults.specs.Balls.{IsBall}
-use Rattle.pi_faults.specs.declared.fault.Stop.{Stop}
+use Rattle.pi_effects.specs.Balls.{IsBall}
+use Rattle.pi_effects.specs.declared.fault.Stop.{Stop}
 use Rattle.pi_calls.specs.declared.predicates.Outcome.{Outcome}
 
 abbrev pub ShowsOutcome : {M : Type 0} → StoreView M → StoreView M → Result Outcome Stop → Effect → Type 0

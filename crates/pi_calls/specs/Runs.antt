@@ -8,9 +8,9 @@ use Rattle.pi_effects.specs.BuiltIns.{built_in_predicate}
 use Rattle.pi_builtin.specs.Names.{predicate_name, takes}
 use Rattle.pi_builtin.specs.declared.predicates.Predicate.{Predicate}
 use Rattle.pi_states.specs.Value.{IsAcyclic}
-use Rattle.pi_faults.specs.Balls.{IsBall}
-use Rattle.pi_faults.specs.declared.fault.Fault.{Fault}
-use Rattle.pi_faults.specs.declared.fault.Stop.{Stop}
+use Rattle.pi_effects.specs.Balls.{IsBall}
+use Rattle.pi_effects.specs.declared.fault.Fault.{Fault}
+use Rattle.pi_effects.specs.declared.fault.Stop.{Stop}
 use Rattle.pi_calls.specs.declared.predicates.Outcome.{Outcome}
 use Rattle.pi_calls.specs.declared.runs.LibStep.{LibStep}
 use Rattle.pi_calls.specs.declared.runs.LibValue.{LibValue}

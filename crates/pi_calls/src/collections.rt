@@ -6,13 +6,14 @@ ghost use Rattle.pi_states.specs.State.{bindings};
 ghost use Rattle.pi_states.specs.Store.{IsTerm, Stays};
 ghost use Rattle.pi_effects.specs.Effect.{FunctionEffect};
 ghost use Rattle.pi_effects.specs.BuiltIns.{built_in_function};
-ghost use Rattle.pi_faults.specs.Results.{ShowsEffect};
+ghost use Rattle.pi_effects.specs.Results.{ShowsEffect};
 ghost use Rattle.pi_builtin.specs.Names.{collection_name};
 
+use crate::extremes::{greatest, least};
+use crate::sorting::{remove_dups, sort, sort_remove_dups};
 use pi_builtin::FunctionOfCollection;
-use pi_faults::Stop;
+use pi_effects::Stop;
 use pi_lists::{first, head, last, length, product, reverse, sum, tail, to_array, to_list};
-use pi_sorting::{greatest, least, remove_dups, sort, sort_remove_dups};
 use pi_states::{Ref, StateStore};
 use std::alloc::Global;
 

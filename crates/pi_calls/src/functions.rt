@@ -6,20 +6,24 @@ ghost use Rattle.pi_states.specs.State.{bindings};
 ghost use Rattle.pi_states.specs.Store.{IsTerm, AreTerms, Keeps};
 ghost use Rattle.pi_effects.specs.Effect.{FunctionEffect};
 ghost use Rattle.pi_effects.specs.BuiltIns.{built_in_function};
-ghost use Rattle.pi_faults.specs.Results.{ShowsEffect};
+ghost use Rattle.pi_effects.specs.Results.{ShowsEffect};
 ghost use Rattle.pi_builtin.specs.Names.{one_name, two_name, function_name, function_arity};
 
 use crate::arguments::{one, three, two};
 use crate::collections::call_of_collection;
+use crate::copies::copy_term;
+use crate::grids::new_grid;
+use crate::lists::to_string;
+use crate::ranges::{range, range_by, range_count};
+use crate::variables::{new_array, new_list};
 use pi_arith::Op;
-use pi_builtin::{Function, FunctionOfOne, FunctionOfTwo};
-use pi_faults::Stop;
-use pi_kinds::{arity_of, name_of};
+use pi_builtin::{
+    Function, FunctionOfOne, FunctionOfTwo, arity_of, evaluate_one, evaluate_two, greatest, least,
+    name_of, same_integer,
+};
+use pi_effects::Stop;
 use pi_lists::{append, delete_all, in_order, item_at, zip};
-use pi_making::{copy_term, new_array, new_grid, new_list, range, range_by, range_count};
-use pi_numbers::{evaluate_one, evaluate_two, greatest, least, same_integer};
 use pi_states::{Ref, StateStore};
-use pi_texts::to_string;
 use std::alloc::Global;
 
 /// What a call of a function comes to: a term, with new variables where the function makes some, or what is raised. It is said where there are as many

@@ -10,13 +10,15 @@ ghost use Rattle.pi_builtin.specs.Names.{none_name, test_name, pair_name, predic
 ghost use Rattle.pi_calls.specs.Outcomes.{ShowsOutcome, outcome_of, tested, written};
 
 use crate::arguments::{one, two};
-use pi_builtin::{Predicate, PredicateOfNone, PredicateOfOne, PredicateOfTwo};
-use pi_faults::{Fault, Stop};
-use pi_kinds::{are_ordered, differ, is_closed, is_of_kind, make_equal};
-use pi_numbers::are_related;
+use crate::formats::printf;
+use crate::texts::text_before;
+use pi_builtin::{
+    Predicate, PredicateOfNone, PredicateOfOne, PredicateOfTwo, are_ordered, are_related, differ,
+    is_closed, is_of_kind, make_equal,
+};
+use pi_effects::{Fault, Stop};
 use pi_states::{Ref, StateStore};
 use pi_terms::Text;
-use pi_texts::{printf, text_before};
 use std::alloc::Global;
 
 /// What a call of a predicate comes to.

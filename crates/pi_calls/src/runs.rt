@@ -11,7 +11,7 @@ ghost use Rattle.pi_calls.specs.Runs.{ShowsStep, ShowsValue, DoesCall, IsRaised,
 use crate::functions::call_function;
 use crate::predicates::{Outcome, call_predicate};
 use pi_builtin::{Predicate, function_named, predicate_named};
-use pi_faults::{Stop, ball_of};
+use pi_effects::{Stop, ball_of};
 use pi_states::{Cell, Ref, StateStore};
 use pi_terms::{Term, Text};
 use std::alloc::{AllocError, Global};

@@ -17,9 +17,9 @@ use Rattle.pi_effects.specs.BuiltIns.{is_predicate}
 use Rattle.pi_meaning.specs.Names.{is_catch, is_call}
 use Rattle.pi_meaning.specs.Sound.{IsAnother}
 use Rattle.pi_meaning.specs.Instances.{is_called_by_name}
-use Rattle.pi_named_goals.specs.NamedGoals.{goal_by_name}
-use Rattle.pi_named_goals.proofs.NamedLemmas.{NamedBy, by_catch, by_call, by_name, IsUnnamed, Names, names-it, named-by}
-use Rattle.pi_named_goals.proofs.FoundLemmas.{named, found-by-number}
+use Rattle.pi_meaning.specs.NamedGoals.{goal_by_name}
+use Rattle.pi_meaning.proofs.NamedLemmas.{NamedBy, by_catch, by_call, by_name, IsUnnamed, Names, names-it, named-by}
+use Rattle.pi_meaning.proofs.FoundLemmas.{named, found-by-number}
 use Rattle.pi_builtin.specs.Resolved.{Named}
 use Rattle.pi_code.specs.Callables.{names_called, AreNamed}
 

@@ -10,7 +10,7 @@ use Rattle.pi_core.specs.GoalTree.{GoalTree}
 use Rattle.pi_core.specs.CoreTree.{pred_tree}
 use Rattle.pi_core.specs.declared.core_program.CorePred.{CorePred}
 use Rattle.pi_meaning.specs.Sound.{IsAnother}
-use Rattle.pi_named_goals.specs.NamedGoals.{goal_by_name}
+use Rattle.pi_meaning.specs.NamedGoals.{goal_by_name}
 use Rattle.pi_builtin.specs.Resolved.{Named}
 use Rattle.pi_code.specs.declared.code.Code.{Code}
 use Rattle.pi_code.specs.declared.callables.Callables.{Callables}

@@ -1,3 +1,5 @@
+mod BallLemmas
+pub mod FaultLemmas
 pub mod ItemLemmas
 pub mod RangeLemmas
 pub mod SortLemmas

@@ -1,3 +1,6 @@
+pub mod Balls
+pub mod Reads
+pub mod Results
 pub mod Exception
 pub mod Effect
 pub mod Items

@@ -15,9 +15,9 @@ use Rattle.pi_meaning.specs.Names.{is_call, is_catch}
 use Rattle.pi_meaning.specs.Sound.{NamesBelow, SlotsBelow}
 use Rattle.pi_meaning.specs.Defined.{is_machine_predicate, CallsDefined}
 use Rattle.pi_meaning.specs.Instances.{is_called_by_name}
-use Rattle.pi_named_goals.specs.NamedGoals.{slots_from, call_of_slot, call_of_slots, catch_of_slots}
-use Rattle.pi_named_goals.proofs.NamesApart.{call-name, slots-count}
-use Rattle.pi_named_goals.proofs.NamedLemmas.{NamedBy, by_catch, by_call, by_name, named-by}
+use Rattle.pi_meaning.specs.NamedGoals.{slots_from, call_of_slot, call_of_slots, catch_of_slots}
+use Rattle.pi_meaning.proofs.NamesApart.{call-name, slots-count}
+use Rattle.pi_meaning.proofs.NamedLemmas.{NamedBy, by_catch, by_call, by_name, named-by}
 use Rattle.pi_code.specs.declared.code.Code.{Code}
 use Rattle.pi_code.specs.Code.{preds_of, tables_of}
 use Rattle.pi_code.specs.Callables.{IsPlaceOf, AreCallable}

@@ -10,7 +10,7 @@ ghost use Rattle.pi_meaning.specs.Facts.{fits_modes};
 ghost use Rattle.pi_syntax.specs.declared.program.Mode.{Mode};
 ghost use Rattle.pi_facts.specs.Modes.{fits_first};
 
-use pi_kinds::is_closed;
+use pi_builtin::is_closed;
 use pi_states::{Ref, StateStore};
 use pi_syntax::{Decl, Mode, Modes};
 use std::alloc::{AllocError, Global};

@@ -9,8 +9,8 @@ use Rattle.pi_constraints.specs.declared.constraint.Constraint.{Constraint}
 use Rattle.pi_postings.specs.Sums.{Sum, of_number, of_variable, scaled}
 use Rattle.pi_postings.specs.Steps.{Refusal, wide_coefficient, Made, Known, Reading, gives, refuses, after, then, have_128_bits, step, constant_of, variable_of, side, side_by, product, product_by, product_variable, absolute_sum, absolute_by, absolute_variable}
 use Rattle.pi_postings.specs.Limits.{are_values, refusal_of}
-use Rattle.pi_sums.specs.declared.stop.SumStop.{SumStop}
-use Rattle.pi_sums.specs.Steps.{fits, ShowsStep}
+use Rattle.pi_finished.specs.declared.stop.SumStop.{SumStop}
+use Rattle.pi_finished.specs.Steps.{fits, ShowsStep}
 use Rattle.pi_finished.specs.declared.making.Making.{Making}
 use Rattle.pi_finished.specs.Making.{Shows, Reads, ShowsReading, AllBelow, side_product, side_absolute, with_constraint, with_variable}
 

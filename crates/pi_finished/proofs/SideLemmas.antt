@@ -7,7 +7,7 @@ use Rattle.pi_constraints.specs.declared.constraint.Rel.{Rel}
 use Rattle.pi_postings.specs.Sums.{Sum, of_variable, in_front, with_term, with_terms, scaled_terms, difference, Ascend}
 use Rattle.pi_postings.specs.Steps.{Made, linear, have_128_bits, variable_of, side, side_by}
 use Rattle.pi_postings.specs.Limits.{are_narrow, refusal_by, refusal_of}
-use Rattle.pi_sums.specs.Steps.{fits}
+use Rattle.pi_finished.specs.Steps.{fits}
 use Rattle.pi_finished.specs.declared.limits.Limit.{Limit}
 use Rattle.pi_finished.specs.declared.making.Making.{Making}
 use Rattle.pi_finished.specs.Making.{refusal_for, Shows, Reads, AllBelow, with_constraint, with_variable}

@@ -1,7 +1,7 @@
 //! The limits of finished constraints.
 ghost use Rattle.pi_finished.specs.Making.{ShowsWithin};
 
-use pi_sums::JoinedSum;
+use crate::sum::JoinedSum;
 
 /// The most terms or items of a constraint. The number is own.
 pub(crate) const MAX_TERMS: usize = 1048576;

@@ -9,8 +9,8 @@ ghost use Rattle.pi_finished.specs.Finished.{ShowsFinished};
 
 use crate::limits::{Limit, within};
 use crate::posting::Posting;
+use crate::sum::JoinedSum;
 use pi_constraints::{Constraint, Constraints, Rel};
-use pi_sums::JoinedSum;
 use std::alloc::{AllocError, Global};
 
 /// What a reading has made so far: new variables, and constraints in the order of their making, until one keeps a limit no

@@ -4,8 +4,9 @@ ghost use Rattle.pi_postings.specs.Steps.{Made, then, step, product, product_var
 ghost use Rattle.pi_finished.specs.Making.{Shows, ShowsReading, AllBelow, side_product, side_absolute};
 
 use crate::making::Making;
+use crate::stop::SumStop;
+use crate::sum::JoinedSum;
 use pi_constraints::{Constraint, Item};
-use pi_sums::{JoinedSum, SumStop};
 use std::alloc::Global;
 
 impl Making {

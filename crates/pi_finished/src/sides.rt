@@ -8,8 +8,9 @@ ghost use Rattle.pi_finished.specs.Making.{refusal_for, Shows, Reads, AllBelow, 
 
 use crate::limits::{Limit, MAX_TERMS};
 use crate::making::Making;
+use crate::stop::SumStop;
+use crate::sum::JoinedSum;
 use pi_constraints::Rel;
-use pi_sums::{JoinedSum, SumStop};
 use std::alloc::{AllocError, Global};
 
 impl Making {

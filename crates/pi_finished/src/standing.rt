@@ -12,9 +12,9 @@ ghost use Rattle.pi_finished.specs.ToZero.{rel_of, constant_for, sum_for, posts_
 
 use crate::limits::within;
 use crate::making::Making;
+use crate::sum::JoinedSum;
 use crate::to_zero::ToZero;
 use pi_constraints::{Constraint, Item, LinTerms, Rel};
-use pi_sums::JoinedSum;
 use std::alloc::{AllocError, Global};
 
 impl Making {

@@ -8,7 +8,7 @@ use Rattle.std.proofs.lemmas.List.{take_more, take_all}
 use Rattle.std.proofs.lemmas.Option.{get_or_from_slice_get}
 use Rattle.pi_constraints.specs.declared.domain.Span.{Span}
 use Rattle.pi_constraints.specs.Domain.{IsDomain}
-use Rattle.pi_narrowed.proofs.SharedLemmas.{AreValuesOf, one_more}
+use Rattle.pi_places.proofs.SharedLemmas.{AreValuesOf, one_more}
 use Rattle.pi_filters.specs.Rules.{ShareAValue}
 use Rattle.pi_places.specs.Reads.{HasValueBetween}
 use Rattle.pi_places.proofs.RoundLemmas.{le_test, test_le}

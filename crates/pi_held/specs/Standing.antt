@@ -4,7 +4,7 @@ use Rattle.pi_constraints.specs.declared.constraint.Item.{Item}
 use Rattle.pi_constraints.specs.declared.domain.Span.{Span}
 use Rattle.pi_constraints.specs.Domain.{IsWithinBounds}
 use Rattle.pi_states.specs.State.{State}
-use Rattle.pi_stored.specs.Stored.{stored}
+use Rattle.pi_states.specs.Stored.{stored}
 use Rattle.pi_held.specs.declared.stand.Stand.{Stand}
 
 -- the one span of an integer

@@ -8,7 +8,7 @@ use crate::asks::are_same;
 use crate::held::Held;
 use crate::places::HeldPlaces;
 use pi_constraints::{Domain, Item};
-use pi_stored::StoredDomains;
+use pi_states::StoredDomains;
 use std::alloc::{AllocError, Global};
 
 /// The domain that is left at each place; None where it has the spans that stand in the store. It wants memory for what changed,

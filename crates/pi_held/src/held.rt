@@ -7,8 +7,8 @@ ghost use Rattle.pi_held.specs.Standing.{standing_at};
 
 use crate::stand::{Stand, stand_of, standing_count, standing_span};
 use pi_constraints::{Domain, Item, Span};
-use pi_narrowed::Narrowed;
-use pi_stored::StoredDomains;
+use pi_places::Narrowed;
+use pi_states::StoredDomains;
 use std::alloc::{AllocError, Global};
 use std::marker::Model;
 use std::mem;

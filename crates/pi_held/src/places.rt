@@ -7,7 +7,7 @@ use crate::asks::{has_value_between, share};
 use crate::held::Held;
 use pi_constraints::{Domain, Item, Span};
 use pi_places::Places;
-use pi_stored::StoredDomains;
+use pi_states::StoredDomains;
 use std::alloc::{AllocError, Global};
 
 /// The places of a constraint. Their values stand in a store, and are copied where the first of them goes. (By the store, named

@@ -6,7 +6,7 @@ ghost use Rattle.pi_states.specs.State.{State};
 ghost use Rattle.pi_held.specs.Standing.{IsStand, span_of, standing, standing_at};
 
 use pi_constraints::{Item, MAX_VALUE, Span};
-use pi_stored::StoredDomains;
+use pi_states::StoredDomains;
 
 /// Where spans stand: nowhere, as the one of an integer, or as those of a variable in a store.
 #[derive(Clone, Copy)]

@@ -12,8 +12,8 @@ use Rattle.pi_constraints.specs.Domain.{IsDomain, has_value, values_of, IsLeastV
 use Rattle.pi_constraints.proofs.DomainLemmas.{values_lie_in_spans, values_ascend, values_are_within_bounds}
 use Rattle.pi_filters.specs.Ends.{least_of, greatest_of}
 use Rattle.pi_filters.proofs.EndLemmas.{least-has, greatest-has, least-below, greatest-above}
-use Rattle.pi_labelling.specs.Options.{up, down}
-use Rattle.pi_labelling.specs.Choices.{Alternative, is_value, at_most, above, halved, middle, alternatives}
+use Rattle.pi_settling.specs.Options.{up, down}
+use Rattle.pi_settling.specs.Choices.{Alternative, is_value, at_most, above, halved, middle, alternatives}
 use Rattle.pi_label.specs.declared.options.ValueWord.{ValueWord}
 use Rattle.pi_label.specs.Words.{value_word}
 use Rattle.pi_label.specs.Follows.{Follows}

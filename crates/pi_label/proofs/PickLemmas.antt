@@ -8,8 +8,8 @@ use Rattle.pi_constraints.proofs.DomainLemmas.{gap_is, length-numbers_from}
 use Rattle.std.specs.List.{last_or}
 use Rattle.pi_constraints.specs.declared.domain.Span.{Span}
 use Rattle.pi_constraints.specs.Domain.{IsWithinBounds, AscendFrom, IsDomain, numbers_from, values_of, size_of}
-use Rattle.pi_labelling.specs.Options.{VariableWord, forward, backward, ff}
-use Rattle.pi_labelling.specs.Choices.{Pending, smallest, picked}
+use Rattle.pi_settling.specs.Options.{VariableWord, forward, backward, ff}
+use Rattle.pi_settling.specs.Choices.{Pending, smallest, picked}
 use Rattle.pi_label.specs.Picks.{IsOpen, open_places, place_of, picked_place, smaller_of}
 use Rattle.pi_label.specs.declared.picking.Smallest.{Smallest}
 

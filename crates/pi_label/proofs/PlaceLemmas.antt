@@ -11,8 +11,8 @@ use Rattle.pi_constraints.specs.Domain.{size_of}
 use Rattle.pi_constraints.proofs.DomainLemmas.{gap_is}
 use Rattle.pi_states.specs.State.{State}
 use Rattle.pi_settling.specs.Roots.{root_item, given, only, domain_or_all}
-use Rattle.pi_labelling.specs.Options.{VariableWord, forward, backward, ff}
-use Rattle.pi_labelling.specs.Choices.{Pending, pending_with, pending_at, pending, smallest, picked}
+use Rattle.pi_settling.specs.Options.{VariableWord, forward, backward, ff}
+use Rattle.pi_settling.specs.Choices.{Pending, pending_with, pending_at, pending, smallest, picked}
 use Rattle.pi_label.specs.Picks.{open_places, place_of, picked_place}
 use Rattle.pi_label.specs.PickLaws.{domains_at, HasDomain, HaveDomains, PlacesLeadToPicks}
 use Rattle.pi_label.proofs.PickLemmas.{size-one}

@@ -13,12 +13,12 @@ use Rattle.pi_effects.specs.Answer.{found_or}
 use Rattle.pi_effects.specs.Exception.{term_too_large}
 use Rattle.pi_effects.specs.Items.{list_items}
 use Rattle.pi_effects.specs.Collections.{list_then}
-use Rattle.pi_faults.specs.Results.{Stops}
-use Rattle.pi_faults.specs.declared.fault.Stop.{Stop}
+use Rattle.pi_effects.specs.Results.{Stops}
+use Rattle.pi_effects.specs.declared.fault.Stop.{Stop}
 use Rattle.pi_lists.specs.Items.{AreItems}
 use Rattle.pi_lists.proofs.RowLemmas.{as-many, ItemAt, item-at, none-behind}
-use Rattle.pi_labelling.specs.Options.{VariableWord as Picks, forward, backward, ff, ValueWord as Tries, up, down, split, reverse_split, Objective as Wanted, Word as Meant, picks, tries, seeks, named_word, objective_word, word_of, Chosen as Had, set_variable, set_value, set_objective, with_word, variable_or, value_or, read_on, words_read, read_options}
-use Rattle.pi_labelling.specs.Asked.{raises, with_words, with_options}
+use Rattle.pi_settling.specs.Options.{VariableWord as Picks, forward, backward, ff, ValueWord as Tries, up, down, split, reverse_split, Objective as Wanted, Word as Meant, picks, tries, seeks, named_word, objective_word, word_of, Chosen as Had, set_variable, set_value, set_objective, with_word, variable_or, value_or, read_on, words_read, read_options}
+use Rattle.pi_settling.specs.Asked.{raises, with_words, with_options}
 use Rattle.pi_label.specs.OptionLaws.{CallsGoByOptions}
 use Rattle.pi_label.specs.Words.{variable_word, value_word, picking_word, trying_word}
 use Rattle.pi_label.specs.Reads.{AreObjectives, ShowsObjective, ShowsWord, ShowsPlain, AreChosen, ShowsChosen, ShowsWords, words_in, options_in, refusal_of, IsUnmeasured, ShowsOptions}

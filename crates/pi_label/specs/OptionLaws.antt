@@ -4,7 +4,7 @@ use Rattle.pi_terms.specs.Tree.{Tree, cells, most_cells}
 use Rattle.pi_states.specs.Value.{value}
 use Rattle.pi_states.specs.State.{State, bindings}
 use Rattle.pi_effects.specs.Exception.{term_too_large}
-use Rattle.pi_labelling.specs.Asked.{raises, with_options, asked}
+use Rattle.pi_settling.specs.Asked.{raises, with_options, asked}
 use Rattle.pi_label.specs.Reads.{options_in}
 
 -- options that are too large are told first, and then what the reading of them comes to

@@ -5,8 +5,8 @@ use Rattle.pi_constraints.specs.declared.domain.Span.{Span}
 use Rattle.pi_constraints.specs.Domain.{size_of}
 use Rattle.pi_states.specs.State.{State, domain_of}
 use Rattle.pi_settling.specs.Roots.{root_item, given}
-use Rattle.pi_labelling.specs.Options.{VariableWord}
-use Rattle.pi_labelling.specs.Choices.{pending_at, pending, picked}
+use Rattle.pi_settling.specs.Options.{VariableWord}
+use Rattle.pi_settling.specs.Choices.{pending_at, pending, picked}
 use Rattle.pi_label.specs.Picks.{picked_place}
 
 -- the domains of items in a state, at their places

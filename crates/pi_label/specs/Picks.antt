@@ -3,8 +3,8 @@
 use Rattle.std.specs.Prelude.{ℕ, suc, ◌<◌, cond, nat_lt, List, [], ◌∷◌, Option, Some, None, option_map}
 use Rattle.pi_constraints.specs.declared.domain.Span.{Span}
 use Rattle.pi_constraints.specs.Domain.{size_of}
-use Rattle.pi_labelling.specs.Options.{VariableWord}
-use Rattle.pi_labelling.specs.Choices.{Pending, picked}
+use Rattle.pi_settling.specs.Options.{VariableWord}
+use Rattle.pi_settling.specs.Choices.{Pending, picked}
 use Rattle.pi_label.specs.declared.picking.Smallest.{Smallest}
 
 -- a domain that is labelled still

@@ -7,8 +7,8 @@ use Rattle.pi_states.specs.State.{bindings, followed}
 use Rattle.pi_states.specs.Store.{StoreView, IsTerm}
 use Rattle.pi_states.specs.declared.store.Ref.{Ref}
 use Rattle.pi_effects.specs.Items.{list_items}
-use Rattle.pi_faults.specs.declared.fault.Stop.{Stop}
-use Rattle.pi_labelling.specs.Options.{Objective as Wanted, Options as Asked, Word as Meant, picks, tries, seeks, named_word, Chosen as Had, ReadOptions, options, bad_option, read_options}
+use Rattle.pi_effects.specs.declared.fault.Stop.{Stop}
+use Rattle.pi_settling.specs.Options.{Objective as Wanted, Options as Asked, Word as Meant, picks, tries, seeks, named_word, Chosen as Had, ReadOptions, options, bad_option, read_options}
 use Rattle.pi_label.specs.Words.{variable_word, value_word}
 use Rattle.pi_label.specs.declared.options.Objective.{Objective}
 use Rattle.pi_label.specs.declared.options.Options.{Options}

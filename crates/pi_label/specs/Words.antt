@@ -1,8 +1,8 @@
 -- Which words of labelling the options stand for, and which alternative a choice is.
 use Rattle.std.specs.Prelude.{ℕ, List, cond, Option, Some, None, codes}
 use Rattle.std.specs.Str.{bytes_eq}
-use Rattle.pi_labelling.specs.Options.{VariableWord as Picks, forward, backward, ff, ValueWord as Tries, up, down, split, reverse_split}
-use Rattle.pi_labelling.specs.Choices.{Alternative, is_value, at_most, above}
+use Rattle.pi_settling.specs.Options.{VariableWord as Picks, forward, backward, ff, ValueWord as Tries, up, down, split, reverse_split}
+use Rattle.pi_settling.specs.Choices.{Alternative, is_value, at_most, above}
 use Rattle.pi_label.specs.declared.options.VariableWord.{VariableWord}
 use Rattle.pi_label.specs.declared.options.ValueWord.{ValueWord}
 use Rattle.pi_label.specs.declared.alternatives.Choice.{Choice}

@@ -2,7 +2,7 @@
 ghost use Rattle.std.specs.Prelude.{◌≡◌, ◌+ℤ◌, IfOk, List, [], Some, option_map, slice_get};
 ghost use Rattle.pi_constraints.specs.declared.domain.Span.{Span};
 ghost use Rattle.pi_constraints.specs.Domain.{IsDomain, IsWithinBounds};
-ghost use Rattle.pi_labelling.specs.Choices.{is_value, at_most, above, alternatives, halved as half_of};
+ghost use Rattle.pi_settling.specs.Choices.{is_value, at_most, above, alternatives, halved as half_of};
 ghost use Rattle.pi_label.specs.Words.{value_word, alternative_of};
 ghost use Rattle.pi_label.specs.Follows.{Follows};
 ghost use Rattle.pi_label.specs.Beside.{IsNextAbove, IsNextBelow, AreEnds, ShowsEnds};

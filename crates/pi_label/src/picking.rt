@@ -1,6 +1,6 @@
 //! Which place is labelled next.
 ghost use Rattle.std.specs.Prelude.{◌≡◌, ◌↔◌, IsTrue};
-ghost use Rattle.pi_labelling.specs.Options.{forward, backward, ff};
+ghost use Rattle.pi_settling.specs.Options.{forward, backward, ff};
 ghost use Rattle.pi_label.specs.Words.{variable_word};
 ghost use Rattle.pi_label.specs.Picks.{IsOpen, picked_place, smaller_of};
 

@@ -4,7 +4,7 @@ ghost use Rattle.pi_terms.specs.Tree.{Tree};
 ghost use Rattle.pi_states.specs.State.{bindings, followed};
 ghost use Rattle.pi_states.specs.Store.{IsTerm, IsName};
 ghost use Rattle.pi_unify.specs.Terms.{HoldsNoCycle};
-ghost use Rattle.pi_labelling.specs.Options.{word_of, objective_word};
+ghost use Rattle.pi_settling.specs.Options.{word_of, objective_word};
 ghost use Rattle.pi_label.specs.Words.{variable_word, value_word, picking_word, trying_word};
 ghost use Rattle.pi_label.specs.Reads.{ShowsWord, ShowsPlain, ShowsObjective};
 

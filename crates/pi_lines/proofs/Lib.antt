@@ -1,3 +1,4 @@
+pub mod Kept
 mod Input
 mod LineLemmas
 mod Pieces

@@ -1,3 +1,5 @@
+pub mod Requests
+pub mod Shown
 pub mod Ahead
 pub mod Finding
 pub mod Held

@@ -16,17 +16,17 @@ use Rattle.pi_effects.specs.Answer.{Answer, found_or, or_raised}
 use Rattle.pi_effects.specs.Collections.{collection_then, list_then, cell_part}
 use Rattle.pi_effects.specs.Indexing.{item_at as numbered, indexed}
 use Rattle.pi_effects.specs.Answer.{integer_then}
-use Rattle.pi_faults.specs.Balls.{IsBall}
-use Rattle.pi_faults.specs.Results.{Stops, Shows, ShowsTerm}
-use Rattle.pi_faults.specs.declared.fault.Fault.{Fault}
-use Rattle.pi_faults.specs.declared.fault.Kind.{Kind}
-use Rattle.pi_faults.specs.declared.fault.Stop.{Stop}
+use Rattle.pi_effects.specs.Balls.{IsBall}
+use Rattle.pi_effects.specs.Results.{Stops, Shows, ShowsTerm}
+use Rattle.pi_effects.specs.declared.fault.Fault.{Fault}
+use Rattle.pi_effects.specs.declared.fault.Kind.{Kind}
+use Rattle.pi_effects.specs.declared.fault.Stop.{Stop}
 use Rattle.pi_unify.specs.Terms.{HoldsNoCycle}
 use Rattle.pi_lists.specs.Items.{AreItems, HasItems, ShowsItem, ShowsPart, ShowsSize}
 use Rattle.pi_lists.specs.declared.parts.Part.{Part}
 use Rattle.pi_lists.specs.declared.collection.Collection.{Collection}
 use Rattle.pi_lists.proofs.RowLemmas.{one-more, none-past, all-before}
-use Rattle.pi_faults.proofs.FaultLemmas.{stops-whole, found-raised, found-is}
+use Rattle.pi_effects.proofs.FaultLemmas.{stops-whole, found-raised, found-is}
 
 -- ---- arguments as items
 

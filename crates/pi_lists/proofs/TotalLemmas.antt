@@ -12,9 +12,9 @@ use Rattle.pi_effects.specs.Exception.{type_error}
 use Rattle.pi_effects.specs.Answer.{Answer, found_or, integer_at, integer_then}
 use Rattle.pi_effects.specs.Integers.{outcome_then}
 use Rattle.pi_effects.specs.Collections.{total}
-use Rattle.pi_faults.specs.Results.{Stops, Shows}
-use Rattle.pi_faults.specs.declared.fault.Stop.{Stop}
-use Rattle.pi_faults.proofs.FaultLemmas.{stops-whole}
+use Rattle.pi_effects.specs.Results.{Stops, Shows}
+use Rattle.pi_effects.specs.declared.fault.Stop.{Stop}
+use Rattle.pi_effects.proofs.FaultLemmas.{stops-whole}
 use Rattle.pi_lists.specs.Items.{AreItems, IsInteger}
 use Rattle.pi_lists.proofs.RowLemmas.{as-many, ItemAt, item-at, none-behind}
 

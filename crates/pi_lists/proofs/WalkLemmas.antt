@@ -14,11 +14,11 @@ use Rattle.pi_effects.specs.Items.{is_nil, cell_parts, in_front_of, items_of_roo
 use Rattle.pi_effects.specs.Exception.{type_error}
 use Rattle.pi_effects.specs.Answer.{found_or}
 use Rattle.pi_effects.proofs.ItemLemmas.{items-by_root}
-use Rattle.pi_faults.specs.Balls.{kind_name}
-use Rattle.pi_faults.specs.Results.{Stops}
-use Rattle.pi_faults.specs.declared.fault.Fault.{Fault}
-use Rattle.pi_faults.specs.declared.fault.Kind.{Kind}
-use Rattle.pi_faults.specs.declared.fault.Stop.{Stop}
+use Rattle.pi_effects.specs.Balls.{kind_name}
+use Rattle.pi_effects.specs.Results.{Stops}
+use Rattle.pi_effects.specs.declared.fault.Fault.{Fault}
+use Rattle.pi_effects.specs.declared.fault.Kind.{Kind}
+use Rattle.pi_effects.specs.declared.fault.Stop.{Stop}
 use Rattle.pi_unify.specs.Terms.{HoldsNoCycle}
 use Rattle.pi_lists.specs.Items.{AreItems, ShowsItems, ShowsPart, in_front_of_all, IsWalked}
 use Rattle.pi_lists.specs.declared.parts.Part.{Part}

@@ -7,14 +7,14 @@ ghost use Rattle.pi_effects.specs.Exception.{type_error};
 ghost use Rattle.pi_effects.specs.Answer.{found_or};
 ghost use Rattle.pi_effects.specs.Items.{indexed_items, list_items};
 ghost use Rattle.pi_effects.specs.Collections.{collection_then};
-ghost use Rattle.pi_faults.specs.Balls.{kind_name};
-ghost use Rattle.pi_faults.specs.Results.{Shows};
+ghost use Rattle.pi_effects.specs.Balls.{kind_name};
+ghost use Rattle.pi_effects.specs.Results.{Shows};
 ghost use Rattle.pi_unify.specs.Terms.{HoldsNoCycle};
 ghost use Rattle.pi_lists.specs.Items.{HasItems, HoldsItems, ShowsItem};
 
 use crate::parts::{array_size, structure_size};
 use crate::walk::walk;
-use pi_faults::{Fault, Kind, Stop};
+use pi_effects::{Fault, Kind, Stop};
 use pi_states::{Ref, StateStore};
 use std::alloc::{AllocError, Global};
 

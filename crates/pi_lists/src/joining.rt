@@ -5,14 +5,14 @@ ghost use Rattle.pi_states.specs.Store.{IsTerm, Stays};
 ghost use Rattle.pi_effects.specs.Items.{list_of, array_of};
 ghost use Rattle.pi_effects.specs.Collections.{list_then, collection_then, joined, without, pair};
 ghost use Rattle.pi_effects.specs.Inner.{in_order as items_in_order};
-ghost use Rattle.pi_faults.specs.Results.{ShowsTerm};
+ghost use Rattle.pi_effects.specs.Results.{ShowsTerm};
 ghost use Rattle.pi_unify.specs.Terms.{HoldsNoCycle};
 ghost use Rattle.pi_lists.specs.Items.{AreItems};
 
 use crate::building::{put_array, put_list, put_onto};
 use crate::collection::collection_items;
 use crate::walk::{list_items, walk};
-use pi_faults::Stop;
+use pi_effects::Stop;
 use pi_states::{Ref, StateStore};
 use pi_unify::compare;
 use std::alloc::{AllocError, Global};

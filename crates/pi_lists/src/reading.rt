@@ -6,14 +6,14 @@ ghost use Rattle.pi_terms.specs.ListCopies.{list_cell};
 ghost use Rattle.pi_states.specs.Store.{IsTerm, Stays};
 ghost use Rattle.pi_effects.specs.Collections.{collection_then, count, item_or_first_index, cell_part};
 ghost use Rattle.pi_effects.specs.Indexing.{indexed, item_at as item_with_number};
-ghost use Rattle.pi_faults.specs.Results.{ShowsTerm};
+ghost use Rattle.pi_effects.specs.Results.{ShowsTerm};
 ghost use Rattle.pi_unify.specs.Terms.{HoldsNoCycle};
 ghost use Rattle.pi_lists.specs.Items.{HasItems, ShowsItem};
 
 use crate::collection::{Collection, read_collection, read_indexable};
 use crate::parts::{Part, part_at};
 use crate::walk::list_items;
-use pi_faults::{Fault, Kind, Stop, integer};
+use pi_effects::{Fault, Kind, Stop, integer};
 use pi_states::{Ref, StateStore};
 use std::alloc::Global;
 

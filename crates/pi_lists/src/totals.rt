@@ -6,13 +6,13 @@ ghost use Rattle.pi_arith.specs.Value.{value_of};
 ghost use Rattle.pi_effects.specs.Collections.{collection_then, total as total_of};
 ghost use Rattle.pi_effects.specs.Answer.{integer_then};
 ghost use Rattle.pi_effects.specs.Integers.{outcome_then};
-ghost use Rattle.pi_faults.specs.Results.{Shows, ShowsSame, ShowsTerm};
+ghost use Rattle.pi_effects.specs.Results.{Shows, ShowsSame, ShowsTerm};
 ghost use Rattle.pi_unify.specs.Terms.{HoldsNoCycle};
 ghost use Rattle.pi_lists.specs.Items.{AreItems, IsInteger};
 
 use crate::collection::collection_items;
 use pi_arith::{Op, evaluate};
-use pi_faults::{Stop, integer};
+use pi_effects::{Stop, integer};
 use pi_states::{Ref, StateStore};
 use std::alloc::Global;
 

@@ -5,12 +5,12 @@ ghost use Rattle.pi_states.specs.State.{bindings};
 ghost use Rattle.pi_states.specs.Store.{IsTerm};
 ghost use Rattle.pi_effects.specs.Items.{list_items as items_in};
 ghost use Rattle.pi_effects.specs.Collections.{list_then};
-ghost use Rattle.pi_faults.specs.Results.{Shows};
+ghost use Rattle.pi_effects.specs.Results.{Shows};
 ghost use Rattle.pi_unify.specs.Terms.{HoldsNoCycle};
 ghost use Rattle.pi_lists.specs.Items.{HoldsItems, ShowsItems};
 
 use crate::parts::{Part, part_at};
-use pi_faults::{Fault, Kind, Stop};
+use pi_effects::{Fault, Kind, Stop};
 use pi_states::{Ref, StateStore};
 use std::alloc::{AllocError, Global};
 

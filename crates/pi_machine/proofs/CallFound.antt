@@ -12,7 +12,7 @@ use Rattle.pi_core.specs.CoreTree.{PredTree, find_pred}
 use Rattle.pi_core.specs.GoalTree.{GoalTrees, call, apply}
 use Rattle.pi_states.specs.Evaluation.{EvaluatedAll, evaluated_all}
 use Rattle.pi_meaning.specs.Names.{is_later_predicate, is_later_function, is_resource, is_call, is_given}
-use Rattle.pi_named_goals.proofs.NamesApart.{predicate-no_call}
+use Rattle.pi_meaning.proofs.NamesApart.{predicate-no_call}
 use Rattle.pi_machine.specs.Configuration.{Frame, Entry, config, behind, returning}
 use Rattle.pi_machine.specs.Step.{silently, deeper, first_now, done_now, given_now, call_step, predicate_step, function_step, later_step, effect_step, name_step, later_value, other_value, value_step, try_clauses, goal_step, back_to}
 

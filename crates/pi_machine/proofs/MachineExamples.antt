@@ -20,7 +20,7 @@ use Rattle.pi_states.specs.HeadMatch.{matched_in, matched_all_in}
 use Rattle.pi_effects.specs.Exception.{thrown, type_error}
 use Rattle.pi_effects.specs.Items.{each_tree}
 use Rattle.pi_meaning.specs.Names.{is_later_predicate, later_predicates}
-use Rattle.pi_named_goals.specs.NamedGoals.{goal_by_name, slots_from}
+use Rattle.pi_meaning.specs.NamedGoals.{goal_by_name, slots_from}
 use Rattle.pi_meaning.specs.View.{query_view}
 use Rattle.pi_core.specs.CoreTree.{ClauseTree, PredTree, find_pred}
 use Rattle.pi_meaning.specs.Run.{Solution}

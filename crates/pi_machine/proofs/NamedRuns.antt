@@ -33,9 +33,9 @@ use Rattle.pi_meaning.specs.Instances.{no_later, whole}
 use Rattle.pi_meaning.proofs.CallLemmas.{first-below, no-later-adds, whole-adds}
 use Rattle.pi_meaning.proofs.LevelLemmas.{quiet-keeps-depth}
 use Rattle.pi_meaning.proofs.RuleLemmas.{level-below}
-use Rattle.pi_named_goals.specs.NamedGoals.{slots_from, call_of_slot, call_of_slots, catch_of_slots}
-use Rattle.pi_named_goals.proofs.NamesApart.{call-name}
-use Rattle.pi_named_goals.proofs.NamedLemmas.{is_there, NamedBy, by_catch, by_call, by_name}
+use Rattle.pi_meaning.specs.NamedGoals.{slots_from, call_of_slot, call_of_slots, catch_of_slots}
+use Rattle.pi_meaning.proofs.NamesApart.{call-name}
+use Rattle.pi_meaning.proofs.NamedLemmas.{is_there, NamedBy, by_catch, by_call, by_name}
 use Rattle.pi_machine.specs.Configuration.{in_places}
 use Rattle.pi_machine.specs.Remaining.{point}
 use Rattle.pi_machine.specs.Step.{is_defined}

@@ -11,9 +11,9 @@ use Rattle.pi_effects.specs.Items.{each_tree}
 use Rattle.pi_meaning.specs.Names.{is_planner, is_call}
 use Rattle.pi_meaning.specs.Calls.{Called as Named, called_by}
 use Rattle.pi_meaning.proofs.MeaningLemmas.{as-many, count-of}
-use Rattle.pi_named_goals.specs.NamedGoals.{slots_from, goal_by_name}
-use Rattle.pi_named_goals.proofs.NamesApart.{slots-count}
-use Rattle.pi_named_goals.proofs.NamedLemmas.{is_there, NamedBy, by_catch, by_call, by_name, named-by}
+use Rattle.pi_meaning.specs.NamedGoals.{slots_from, goal_by_name}
+use Rattle.pi_meaning.proofs.NamesApart.{slots-count}
+use Rattle.pi_meaning.proofs.NamedLemmas.{is_there, NamedBy, by_catch, by_call, by_name, named-by}
 use Rattle.pi_machine.specs.Configuration.{Frame, more, return, give, returning}
 use Rattle.pi_machine.specs.Step.{goal_called, unknown_by, named_now, term_now, first_now}
 use Rattle.pi_machine.specs.Weight.{CallWeights, call_weight, goal_weight, goals_weight, frames_weight, now_weight, program_calls}

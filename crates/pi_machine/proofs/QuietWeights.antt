@@ -7,7 +7,7 @@ use Rattle.pi_effects.specs.BuiltIns.{is_predicate}
 use Rattle.pi_meaning.specs.Names.{is_call, is_later_predicate, is_given}
 use Rattle.pi_meaning.specs.Instances.{is_called_by_name}
 use Rattle.pi_meaning.specs.Quiet.{Callee, Passes, PassesAll, PassesAny, Reaches, ReachesInAll, ReachesInAny, ReachesFrom, IsQuiet, TicksBetween}
-use Rattle.pi_named_goals.proofs.NamedLemmas.{is_there}
+use Rattle.pi_meaning.proofs.NamedLemmas.{is_there}
 use Rattle.pi_syntax.specs.declared.program.Mode.{Mode}
 use Rattle.pi_machine.specs.Weight.{CallWeights, call_weight, goal_weight, goals_weight, branches_weight, rules_weight, facts_weight, clauses_weight, inside_weight, entered_weight, found_weight, calls_within, program_calls}
 

@@ -26,9 +26,9 @@ use Rattle.pi_meaning.specs.Instances.{no_later, whole}
 use Rattle.pi_meaning.proofs.CallLemmas.{no-later-adds, whole-adds}
 use Rattle.pi_meaning.proofs.KnownLemmas.{planner-later}
 use Rattle.pi_meaning.proofs.RuleLemmas.{level-below}
-use Rattle.pi_named_goals.specs.NamedGoals.{goal_by_name}
-use Rattle.pi_named_goals.proofs.NamesApart.{planner-no_predicate, planner-others}
-use Rattle.pi_named_goals.proofs.NamedLemmas.{is_there, IsUnnamed, named-by, unnamed}
+use Rattle.pi_meaning.specs.NamedGoals.{goal_by_name}
+use Rattle.pi_meaning.proofs.NamesApart.{planner-no_predicate, planner-others}
+use Rattle.pi_meaning.proofs.NamedLemmas.{is_there, IsUnnamed, named-by, unnamed}
 use Rattle.pi_machine.specs.Configuration.{Frame, Entry, Now, going, raising, config, behind, returning, in_places}
 use Rattle.pi_machine.specs.Remaining.{point, continued, run_from, now_trace, remaining_at}
 use Rattle.pi_machine.specs.Step.{deeper, unknown_ball, is_defined, unknown_by, named_now, term_now, first_now}

@@ -17,7 +17,7 @@ use Rattle.pi_effects.specs.Items.{each_tree}
 use Rattle.pi_meaning.specs.Names.{is_later_predicate, is_later_function, is_planner, is_resource, is_call}
 use Rattle.pi_meaning.specs.Calls.{Called as Named, called_by}
 use Rattle.pi_meaning.specs.Instances.{is_called_by_name}
-use Rattle.pi_named_goals.specs.NamedGoals.{goal_by_name}
+use Rattle.pi_meaning.specs.NamedGoals.{goal_by_name}
 use Rattle.pi_meaning.specs.Within.{Within, a_query, a_body, is_body}
 use Rattle.pi_meaning.specs.View.{View}
 use Rattle.pi_states.specs.Evaluation.{Evaluated, evaluated, EvaluatedAll, evaluated_all, with_new_variables}

@@ -1,3 +1,8 @@
+pub mod NamesApart
+pub mod NamedLemmas
+mod SlotLemmas
+mod NameLemmas
+pub mod FoundLemmas
 pub mod MeaningLemmas
 pub mod RuleLemmas
 pub mod LevelLemmas

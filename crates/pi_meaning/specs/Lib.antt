@@ -1,3 +1,4 @@
+pub mod NamedGoals
 pub mod Settle
 pub mod Drain
 pub mod Level

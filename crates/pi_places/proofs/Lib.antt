@@ -1,3 +1,6 @@
+pub mod NarrowedCuts
+pub mod HoleLemmas
+pub mod SharedLemmas
 pub mod DomainLemmas
 pub mod CutLemmas
 pub mod RoundLemmas

@@ -4,8 +4,8 @@ ghost use Rattle.pi_constraints.specs.Domain.{IsDomain};
 ghost use Rattle.pi_filters.specs.Rules.{ShareAValue};
 ghost use Rattle.pi_places.specs.Reads.{HasValueBetween};
 
+use crate::narrowed::Narrowed;
 use pi_constraints::Span;
-use pi_narrowed::Narrowed;
 
 /// Whether a domain has a value from `lo` to `hi`. It looks at no more spans than their number has binary digits.
 pub(crate) fn has_value_between(domain: &Narrowed, lo: i128, hi: i128) -> bool

@@ -4,9 +4,9 @@ ghost use Rattle.pi_constraints.specs.Domain.{IsDomain, IsWithinBounds};
 ghost use Rattle.pi_filters.specs.Ends.{least_of, greatest_of};
 
 use crate::asks::{has_value_between, share};
+use crate::narrowed::Narrowed;
 use crate::places::Places;
 use pi_constraints::{Domain, Span};
-use pi_narrowed::Narrowed;
 use std::alloc::{AllocError, Global};
 
 impl Places for Vec<Narrowed> {

@@ -10,10 +10,10 @@ use Rattle.std.proofs.lemmas.List.Elements.{Contains-append_left, Contains-push,
 use Rattle.pi_terms.specs.Tree.{Tree, int}
 use Rattle.pi_terms.proofs.GetLemmas.{get_append_left, get_append_last}
 use Rattle.pi_terms.proofs.OptionLemmas.{one-some, same-some}
-use Rattle.pi_plans.specs.declared.given.Successor.{Successor}
-use Rattle.pi_plans.specs.declared.given.GivenState.{GivenState}
-use Rattle.pi_plans.specs.Plan.{Bodies, AllBelow, Exhausted, Wanted, NoneAs, HasNoPlan}
-use Rattle.pi_plans.specs.Given.{IsFaultless, over}
+use Rattle.pi_plan.specs.declared.given.Successor.{Successor}
+use Rattle.pi_plan.specs.declared.given.GivenState.{GivenState}
+use Rattle.pi_plan.specs.Plan.{Bodies, AllBelow, Exhausted, Wanted, NoneAs, HasNoPlan}
+use Rattle.pi_plan.specs.Given.{IsFaultless, over}
 use Rattle.pi_plan.specs.declared.place.Place.{Place}
 use Rattle.pi_plan.specs.declared.due.Due.{Due}
 use Rattle.pi_plan.specs.declared.search.Way.{Way}

@@ -2,10 +2,10 @@
 use Rattle.std.proofs.Common.{◌≡◌, ℕ, ◌-◌, ◌+◌, ◌<◌, ◌≤◌, Bool, true, false, cond, List, Option, Some, None, refl, ap, sym, ◌∙◌, arith, pos}
 use Rattle.std.specs.Prelude.{Contains}
 use Rattle.pi_terms.specs.Tree.{Tree}
-use Rattle.pi_plans.specs.declared.given.GivenState.{GivenState}
-use Rattle.pi_plans.specs.Plan.{Step, Reached, at_start, then_step, Exhausted}
-use Rattle.pi_plans.specs.Given.{StandsFor, GivenStep, GivenDone, over}
-use Rattle.pi_plans.proofs.PlanLemmas.{none_where_none_final}
+use Rattle.pi_plan.specs.declared.given.GivenState.{GivenState}
+use Rattle.pi_plan.specs.Plan.{Step, Reached, at_start, then_step, Exhausted}
+use Rattle.pi_plan.specs.Given.{StandsFor, GivenStep, GivenDone, over}
+use Rattle.pi_plan.proofs.PlanLemmas.{none_where_none_final}
 use Rattle.pi_plan.specs.declared.place.Place.{Place}
 use Rattle.pi_plan.specs.declared.due.Due.{Due}
 use Rattle.pi_plan.specs.declared.search.Way.{Way}

@@ -1,8 +1,8 @@
 -- Where there is no plan, no state is left to be asked for.
 use Rattle.std.proofs.Common.{◌≡◌, ◌≤◌, ℕ, Bool, true, false, refl, sym, subst}
 use Rattle.pi_terms.specs.Tree.{Tree}
-use Rattle.pi_plans.specs.Plan.{Bodies, Exhausted, NoneAs}
-use Rattle.pi_plans.specs.Given.{over}
+use Rattle.pi_plan.specs.Plan.{Bodies, Exhausted, NoneAs}
+use Rattle.pi_plan.specs.Given.{over}
 use Rattle.pi_plan.specs.Laws.{NoPlanLeavesNothing}
 
 exhausted_there : (b : Bodies) (best : Bool) (start : Tree) (limit whole : ℕ) → NoneAs best b start limit → whole ≤ limit → (best ≡ false → whole ≡ limit) → Exhausted b start whole

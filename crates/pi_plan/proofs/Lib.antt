@@ -1,3 +1,6 @@
+pub mod PlanLemmas
+pub mod GivenLemmas
+pub mod PlanLawLemmas
 pub mod RootLemmas
 pub mod PlaceLemmas
 pub mod SearchLemmas

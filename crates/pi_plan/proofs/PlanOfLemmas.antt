@@ -4,9 +4,9 @@ use Rattle.std.specs.Prelude.{slice_get, reverse}
 use Rattle.std.proofs.lemmas.List.{map-append, reverse-append}
 use Rattle.pi_terms.specs.Tree.{Tree}
 use Rattle.pi_terms.proofs.OptionLemmas.{one-some, none-some}
-use Rattle.pi_plans.specs.declared.given.GivenState.{GivenState}
-use Rattle.pi_plans.specs.Plan.{Valid, at_goal, then_plan}
-use Rattle.pi_plans.specs.Given.{GivenFinal, over}
+use Rattle.pi_plan.specs.declared.given.GivenState.{GivenState}
+use Rattle.pi_plan.specs.Plan.{Valid, at_goal, then_plan}
+use Rattle.pi_plan.specs.Given.{GivenFinal, over}
 use Rattle.pi_plan.specs.declared.search.Way.{Way}
 use Rattle.pi_plan.specs.declared.search.Origin.{Origin}
 use Rattle.pi_plan.specs.Ways.{IsStepFrom, IsStart, ComesFrom, AreWays}

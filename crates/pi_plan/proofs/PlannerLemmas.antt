@@ -6,12 +6,12 @@ use mir.Val.{SFits}
 use mir.Syntax.{w128}
 use Rattle.pi_terms.specs.Tree.{Tree, var, int, atom, comp}
 use Rattle.pi_terms.specs.Variables.{variables, IsGround}
-use Rattle.pi_plans.specs.declared.given.Successor.{Successor}
-use Rattle.pi_plans.specs.declared.given.GivenState.{GivenState}
-use Rattle.pi_plans.specs.Plan.{Valid, Reached, at_start, AllBelow, Wanted, FoundAs}
-use Rattle.pi_plans.specs.Given.{StandsFor, IsFaultless, GivenFinal, over}
-use Rattle.pi_plans.proofs.PlanLemmas.{valid_at, reached_below, none_where_none_final}
-use Rattle.pi_plans.proofs.GivenLemmas.{over_is_free, IsNew, exhausted_stays}
+use Rattle.pi_plan.specs.declared.given.Successor.{Successor}
+use Rattle.pi_plan.specs.declared.given.GivenState.{GivenState}
+use Rattle.pi_plan.specs.Plan.{Valid, Reached, at_start, AllBelow, Wanted, FoundAs}
+use Rattle.pi_plan.specs.Given.{StandsFor, IsFaultless, GivenFinal, over}
+use Rattle.pi_plan.proofs.PlanLemmas.{valid_at, reached_below, none_where_none_final}
+use Rattle.pi_plan.proofs.GivenLemmas.{over_is_free, IsNew, exhausted_stays}
 use Rattle.pi_plan.specs.declared.checks.PlanFault.{PlanFault}
 use Rattle.pi_plan.specs.declared.search.Search.{Search}
 use Rattle.pi_plan.specs.declared.planner.PlanStep.{PlanStep}

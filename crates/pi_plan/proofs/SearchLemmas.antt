@@ -12,7 +12,7 @@ use Rattle.std.proofs.lemmas.Bool.Decides.{nat_tests}
 use Rattle.std.proofs.lemmas.List.Elements.{All-contains, Contains-append_left, Contains-push, Contains-push_cases}
 use Rattle.pi_terms.proofs.GetLemmas.{get_append_left, get_append_last}
 use Rattle.pi_terms.proofs.OptionLemmas.{one-some, none-some, same-some}
-use Rattle.pi_plans.specs.declared.given.GivenState.{GivenState}
+use Rattle.pi_plan.specs.declared.given.GivenState.{GivenState}
 use Rattle.pi_plan.specs.declared.place.Place.{Place}
 use Rattle.pi_plan.specs.declared.due.Due.{Due}
 use Rattle.pi_plan.specs.declared.search.Way.{Way}

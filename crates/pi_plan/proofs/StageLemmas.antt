@@ -1,8 +1,8 @@
 -- What a planner answers, by the stage that it has come to.
 use Rattle.std.proofs.Common.{◌≡◌, ℕ, ◌<◌, List, Some, None, refl, ap, sym, ◌∙◌, subst, arith, pos}
 use Rattle.std.specs.Prelude.{slice_get, option_and_then, ◌^◌, Result, Ok, Err, OnErr}
-use Rattle.pi_plans.specs.declared.given.GivenState.{GivenState}
-use Rattle.pi_plans.specs.Plan.{Wanted}
+use Rattle.pi_plan.specs.declared.given.GivenState.{GivenState}
+use Rattle.pi_plan.specs.Plan.{Wanted}
 use Rattle.pi_plan.specs.declared.search.Way.{Way}
 use Rattle.pi_plan.specs.declared.search.Search.{Search}
 use Rattle.pi_plan.specs.declared.planner.PlanStep.{PlanStep}

@@ -3,10 +3,10 @@ use Rattle.std.proofs.Common.{◌≡◌, ℕ, zero, suc, ◌<◌, List, [], ◌�
 use Rattle.std.specs.Prelude.{Bool, slice_get}
 use Rattle.pi_terms.specs.Tree.{Tree}
 use Rattle.pi_terms.proofs.GetLemmas.{get_append_left, get_append_cases}
-use Rattle.pi_plans.specs.declared.given.GivenState.{GivenState}
-use Rattle.pi_plans.specs.Plan.{Bodies, Reached, at_start, then_step}
-use Rattle.pi_plans.specs.Given.{over}
-use Rattle.pi_plans.proofs.GivenLemmas.{step_stays}
+use Rattle.pi_plan.specs.declared.given.GivenState.{GivenState}
+use Rattle.pi_plan.specs.Plan.{Bodies, Reached, at_start, then_step}
+use Rattle.pi_plan.specs.Given.{over}
+use Rattle.pi_plan.proofs.GivenLemmas.{step_stays}
 use Rattle.pi_plan.specs.declared.search.Way.{Way}
 use Rattle.pi_plan.specs.declared.search.Origin.{Origin}
 use Rattle.pi_plan.specs.Ways.{ComesFrom, AreWays}

@@ -10,7 +10,7 @@ use Rattle.pi_terms.specs.declared.term.TermCell.{TermCell}
 use Rattle.pi_terms.specs.declared.term.TermHead.{TermHead}
 use Rattle.pi_terms.proofs.TermLemmas.{subterm_for_each_cell}
 use Rattle.pi_terms.proofs.GetLemmas.{take_more}
-use Rattle.pi_plans.specs.Plan.{plan_term}
+use Rattle.pi_plan.specs.Plan.{plan_term}
 use Rattle.pi_plan.specs.Written.{bare_head}
 
 -- ---- the cells of a term, one by one

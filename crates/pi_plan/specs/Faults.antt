@@ -3,7 +3,7 @@
 use Rattle.std.specs.Prelude.{◌≡◌, ℕ, ℤ, pos, negsuc, Bool, true, false, cond, List, [], ◌∷◌, Option, Some, None}
 use Rattle.pi_terms.specs.Tree.{Tree, var, int, atom, comp}
 use Rattle.pi_terms.specs.Variables.{variables}
-use Rattle.pi_plans.specs.declared.given.Successor.{Successor}
+use Rattle.pi_plan.specs.declared.given.Successor.{Successor}
 use Rattle.pi_plan.specs.declared.checks.PlanFault.{PlanFault}
 
 abbrev pub is_none_left : List ℕ → Bool

@@ -1,3 +1,6 @@
+pub mod Plan
+pub mod Given
+pub mod PlanLaws
 pub mod Roots
 pub mod Faults
 pub mod Place

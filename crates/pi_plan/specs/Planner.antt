@@ -1,10 +1,10 @@
 -- A planner as its callers see it, and what its answers say.
 use Rattle.std.specs.Prelude.{◌≡◌, ℕ, ◌<◌, ◌≤◌, ◌^◌, ℤ, pos, unsigned_abs, Bool, true, false, cond, List, [], ◌∷◌, ◌++◌, map, Option, Some, None, option_and_then, slice_get, Contains}
 use Rattle.pi_terms.specs.Tree.{Tree}
-use Rattle.pi_plans.specs.declared.given.Successor.{Successor}
-use Rattle.pi_plans.specs.declared.given.GivenState.{GivenState}
-use Rattle.pi_plans.specs.Plan.{Bodies, Valid, Reached, Exhausted, AllBelow, Wanted, IsFound, HasNoPlan, plan_term}
-use Rattle.pi_plans.specs.Given.{IsGiven, over}
+use Rattle.pi_plan.specs.declared.given.Successor.{Successor}
+use Rattle.pi_plan.specs.declared.given.GivenState.{GivenState}
+use Rattle.pi_plan.specs.Plan.{Bodies, Valid, Reached, Exhausted, AllBelow, Wanted, IsFound, HasNoPlan, plan_term}
+use Rattle.pi_plan.specs.Given.{IsGiven, over}
 use Rattle.pi_plan.specs.Ways.{AreWays}
 use Rattle.pi_plan.specs.Place.{place_of}
 use Rattle.pi_plan.specs.Searching.{weight, Asked, asked_of, asked_by, place_asked, AreGiven, NoneFinal}

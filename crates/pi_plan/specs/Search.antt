@@ -2,8 +2,8 @@
 use Rattle.std.specs.Prelude.{◌≡◌, ◌≢◌, ◌⊎◌, ℕ, ◌-◌, ◌≤◌, pos, Bool, true, false, not, nat_le, List, [], ◌∷◌, ◌++◌, length, Option, Some, None, slice_get, Contains}
 use Rattle.std.specs.BTreeMap.{get, BTreeMap}
 use Rattle.pi_terms.specs.Tree.{Tree, int}
-use Rattle.pi_plans.specs.declared.given.Successor.{Successor}
-use Rattle.pi_plans.specs.declared.given.GivenState.{GivenState}
+use Rattle.pi_plan.specs.declared.given.Successor.{Successor}
+use Rattle.pi_plan.specs.declared.given.GivenState.{GivenState}
 use Rattle.pi_plan.specs.Place.{place_order, place_of}
 use Rattle.pi_plan.specs.Searching.{Asked, asked_by, place_asked, weight, Covers, Improves, IsSearch}
 use Rattle.pi_plan.specs.declared.place.Place.{Place}

@@ -2,9 +2,9 @@
 -- in which the frontier is taken doesn't count.
 use Rattle.std.specs.Prelude.{◌≡◌, ℕ, ◌-◌, ◌≤◌, pos, unsigned_abs, Bool, true, false, cond, List, Option, Some, None, slice_get, Contains}
 use Rattle.pi_terms.specs.Tree.{Tree, int}
-use Rattle.pi_plans.specs.declared.given.Successor.{Successor}
-use Rattle.pi_plans.specs.declared.given.GivenState.{GivenState}
-use Rattle.pi_plans.specs.Given.{IsFaultless}
+use Rattle.pi_plan.specs.declared.given.Successor.{Successor}
+use Rattle.pi_plan.specs.declared.given.GivenState.{GivenState}
+use Rattle.pi_plan.specs.Given.{IsFaultless}
 use Rattle.pi_plan.specs.Place.{place_of}
 use Rattle.pi_plan.specs.declared.place.Place.{Place}
 use Rattle.pi_plan.specs.declared.search.Way.{Way}

@@ -1,7 +1,7 @@
 -- Ways to states: each begins at the start, or it is a step from an earlier one.
 use Rattle.std.specs.Prelude.{◌≡◌, ℕ, ◌-◌, ◌<◌, List, Some, slice_get}
 use Rattle.pi_terms.specs.Tree.{Tree}
-use Rattle.pi_plans.specs.Plan.{Bodies, Step}
+use Rattle.pi_plan.specs.Plan.{Bodies, Step}
 use Rattle.pi_plan.specs.declared.search.Way.{Way}
 use Rattle.pi_plan.specs.declared.search.Origin.{Origin}
 

@@ -1,16 +1,16 @@
 //! How a search goes on from one state that is asked for to the next.
 ghost use Rattle.std.specs.Prelude.{◌≡◌, ◌+◌, ◌-◌, ◌<◌, ◌^◌, ℕ, List, Bool, true, false, Some, [], length, map, reverse, slice_get, IfOk, OnOk};
 ghost use Rattle.pi_terms.specs.Tree.{Tree};
-ghost use Rattle.pi_plans.specs.declared.given.GivenState.{GivenState};
-ghost use Rattle.pi_plans.specs.Plan.{Valid, Wanted};
-ghost use Rattle.pi_plans.specs.Given.{GivenFinal, over};
+ghost use Rattle.pi_plan.specs.declared.given.GivenState.{GivenState};
+ghost use Rattle.pi_plan.specs.Plan.{Valid, Wanted};
+ghost use Rattle.pi_plan.specs.Given.{GivenFinal, over};
 ghost use Rattle.pi_plan.specs.declared.search.Way.{Way};
 ghost use Rattle.pi_plan.specs.Ways.{AreWays};
 ghost use Rattle.pi_plan.specs.Planner.{first_number_of, IsReady, IsAnswered, IsSpent, Advances, IsPlan};
 
+use crate::given::GivenState;
 use crate::search::{Origin, Search, Way, way_at};
 use crate::written::list_of;
-use pi_plans::GivenState;
 use pi_terms::Term;
 use std::alloc::{AllocError, Global};
 use std::collections::{BTreeMap, BTreeSet};

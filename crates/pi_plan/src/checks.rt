@@ -6,7 +6,7 @@ ghost use Rattle.pi_plan.specs.Roots.{is_variable_head};
 ghost use Rattle.pi_plan.specs.declared.checks.PlanFault.{PlanFault};
 ghost use Rattle.pi_plan.specs.Faults.{start_fault, ground_fault, cost_fault, successor_fault, first_fault, Refuses};
 
-use pi_plans::Successor;
+use crate::given::Successor;
 use pi_terms::{Term, TermHead};
 use std::alloc::{AllocError, Global};
 

@@ -1,6 +1,6 @@
 //! The planner: it asks for states, and answers a plan or that there is none.
 ghost use Rattle.std.specs.Prelude.{◌≡◌, ◌<◌, ◌^◌, ◌++◌, ◌∷◌, [], ℕ, List, Some, None, Ok, IsSome, IfOk, IfErr, OnOk, OnErr, pos};
-ghost use Rattle.pi_plans.specs.declared.given.GivenState.{GivenState};
+ghost use Rattle.pi_plan.specs.declared.given.GivenState.{GivenState};
 ghost use Rattle.pi_plan.specs.declared.checks.PlanFault.{PlanFault};
 ghost use Rattle.pi_plan.specs.declared.planner.PlanStep.{PlanStep};
 ghost use Rattle.pi_plan.specs.Faults.{first_fault, start_fault, Refuses};
@@ -11,9 +11,9 @@ mod stages;
 
 use crate::advance::begin;
 use crate::checks::{PlanFault, check, check_start};
+use crate::given::{GivenStates, Successors};
 use crate::search::Search;
 use entry::entry_of;
-use pi_plans::{GivenStates, Successors};
 use pi_terms::{Series, Term};
 use stages::{from_given, from_ready, told};
 use std::alloc::{AllocError, Global};

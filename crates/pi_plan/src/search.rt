@@ -1,7 +1,7 @@
 //! What a search knows: the ways that it found, what is known of each place, and which ways are due.
 ghost use Rattle.std.specs.Prelude.{◌≡◌, ◌+◌, ◌<◌, ◌≤◌, ◌++◌, ◌∷◌, [], List, ℕ, true, false, length, IfOk, OnOk, slice_get, option_copied};
 ghost use Rattle.pi_terms.specs.Tree.{Tree};
-ghost use Rattle.pi_plans.specs.declared.given.GivenState.{GivenState};
+ghost use Rattle.pi_plan.specs.declared.given.GivenState.{GivenState};
 ghost use Rattle.std.specs.BTreeMap.{get};
 ghost use Rattle.pi_plan.specs.Place.{place_of, place_order};
 ghost use Rattle.pi_plan.specs.Searching.{Asked, weight};
@@ -9,8 +9,8 @@ ghost use Rattle.pi_plan.specs.Search.{known_of, covers, opens, start_way, Keeps
 
 use crate::checks::cost_of;
 use crate::due::Due;
+use crate::given::Successor;
 use crate::place::Place;
-use pi_plans::Successor;
 use pi_terms::Term;
 use std::alloc::{AllocError, Global};
 use std::collections::{BTreeMap, BTreeSet};

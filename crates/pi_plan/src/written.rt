@@ -3,7 +3,7 @@ ghost use Rattle.std.specs.Prelude.{◌≡◌, ◌++◌, ◌∷◌, List, IfOk, 
 ghost use Rattle.pi_terms.specs.BareCells.{bare};
 ghost use Rattle.pi_terms.specs.ListNames.{cell_name};
 ghost use Rattle.pi_terms.specs.declared.term.TermCell.{TermCell};
-ghost use Rattle.pi_plans.specs.Plan.{plan_term};
+ghost use Rattle.pi_plan.specs.Plan.{plan_term};
 ghost use Rattle.pi_plan.specs.Written.{bare_head};
 
 use pi_terms::{Term, TermCell, TermHead, Text};

@@ -1,3 +1,10 @@
+pub mod Ways
+pub mod Resumed
+pub mod PathLaws
+pub mod Rest
+pub mod RestLaws
+pub mod Written
+pub mod NameRestLaws
 pub mod Asked
 pub mod Bodies
 pub mod ProgramBodies

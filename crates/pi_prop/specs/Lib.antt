@@ -1,2 +1,9 @@
+pub mod Factors
+pub mod Fixed
+pub mod Spans
+pub mod Choices
+pub mod Intervals
+pub mod Taken
+pub mod Terms
 pub mod Variables
 pub mod Left

@@ -6,13 +6,14 @@ ghost use Rattle.pi_filters.specs.Places.{places_of};
 ghost use Rattle.pi_filters.specs.Sums.{SumKeeps};
 ghost use Rattle.pi_places.specs.Changes.{AreFiltered};
 
+use crate::absolutes::filter_absolute;
+use crate::different::filter_different;
+use crate::distinct::filter_distinct;
+use crate::element::filter_element;
+use crate::products::filter_product;
+use crate::reified::filter_reified;
 use pi_constraints::{Constraint, LinTerm, Rel};
-use pi_different::filter_different;
-use pi_distinct::filter_distinct;
-use pi_element::filter_element;
 use pi_places::{Places, filter_sum};
-use pi_products::{filter_absolute, filter_product};
-use pi_reified::filter_reified;
 use std::alloc::{AllocError, Global};
 
 /// Leaves each place of a constraint the values that the rule of its kind keeps, whatever variable it has.

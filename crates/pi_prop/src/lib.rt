@@ -1,12 +1,24 @@
 //! The filters of all constraints, over places and over lists of domains.
 #![tactic(auto)]
 
+mod absolutes;
 mod apart;
+mod corners;
+mod different;
+mod distinct;
+mod element;
+mod ends;
+mod full;
+mod items;
+mod joins;
 mod kinds;
+mod leaves;
 mod limits;
 mod lists;
 mod meeting;
 mod narrowing;
+mod products;
+mod reified;
 mod variables;
 
 pub use kinds::filter_places;

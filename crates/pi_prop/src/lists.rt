@@ -7,7 +7,7 @@ ghost use Rattle.pi_prop.specs.Left.{AreLeft, DistinctLeaves, IsReified};
 
 use crate::narrowing::{narrow, narrow_distinct};
 use pi_constraints::{Constraint, Domains};
-use pi_narrowed::Narrowed;
+use pi_places::Narrowed;
 use std::alloc::{AllocError, Global};
 
 /// The domains at the places of a constraint, narrowed by its filter. There is a domain for each place, in order; at the

@@ -39,6 +39,6 @@ pub(crate) fn narrow_distinct<P: Places>(alloc: Global, places: &mut P) -> Resul
         take_all(alloc, places)?;
         return Ok(());
     }
-    pi_distinct::filter_distinct(alloc, places)?;
+    crate::distinct::filter_distinct(alloc, places)?;
     Ok(())
 }

@@ -8,14 +8,14 @@ use Rattle.pi_states.specs.State.{State, IsState}
 use Rattle.pi_settling.specs.SettlingLaws.{MaySettle}
 use Rattle.pi_settling.specs.Stable.{IsStable, IsEmptied}
 use Rattle.pi_settling.specs.Load.{count_lost}
-use Rattle.pi_propagation.specs.Runs.{Runs, no_run, one_more, MayPropagate, HasRun, work_of}
-use Rattle.pi_propagation.proofs.RunLemmas.{runs_keep_states, Has, runs-between, failures_empty}
-use Rattle.pi_propagation.proofs.WakeLemmas.{runs_reach_stable_domains}
-use Rattle.pi_propagation.proofs.BoundLemmas.{lost-in-all, runs_are_bounded}
-use Rattle.pi_propagation.proofs.SizeLemmas.{in-front, behind}
+use Rattle.pi_settling.specs.Runs.{Runs, no_run, one_more, MayPropagate, HasRun, work_of}
+use Rattle.pi_settling.proofs.RunLemmas.{runs_keep_states, Has, runs-between, failures_empty}
+use Rattle.pi_settling.proofs.WakeLemmas.{runs_reach_stable_domains}
+use Rattle.pi_settling.proofs.BoundLemmas.{lost-in-all, runs_are_bounded}
+use Rattle.pi_settling.proofs.SizeLemmas.{in-front, behind}
 use Rattle.pi_queue.specs.Leaving.{IsNarrower}
 use Rattle.pi_queue.specs.Turn.{MayTurn, IsTurn, IsFailure, Turns}
-use Rattle.pi_propagation.specs.declared.stop.PropStop.{PropStop}
+use Rattle.pi_settling.specs.declared.stop.PropStop.{PropStop}
 use Rattle.pi_queue.specs.Ends.{numbers_below, Ends, IsDone, HasFailed, IsSpent, IsUnderWay, KeepsWithin}
 use Rattle.pi_queue.proofs.LeaveLemmas.{itself}
 use Rattle.pi_queue.proofs.WaitingLemmas.{Differ, below-is, below-has, below-differ, below-count}

@@ -18,12 +18,12 @@ use Rattle.pi_settling.proofs.PlaceLemmas.{place_at, place-domain}
 use Rattle.pi_settling.proofs.StableLemmas.{only-has}
 use Rattle.pi_settling.proofs.TwiceLemmas.{unbound-root, integer-root, has_in, within_of}
 use Rattle.pi_settling.proofs.UniqueLemmas.{domain_made}
-use Rattle.pi_propagation.specs.Narrowed.{NarrowsTo, left_free, left_bound, some_left, one_left, IsNarrowed}
-use Rattle.pi_propagation.specs.Run.{given_at, ComesTo, LosesValue, KeptBefore, IsRun, integer_lost, variable_lost, Fails}
-use Rattle.pi_propagation.proofs.NarrowLemmas.{narrow-state, Comes, to_variable, to_integer, item-comes, unbound-domain, left-values, root-before}
-use Rattle.pi_propagation.proofs.RunLemmas.{place-is, place-there, place-comes, between-start, narrow-compose}
-use Rattle.pi_propagation.proofs.WakeLemmas.{narrow-within}
-use Rattle.pi_propagation.proofs.SizeLemmas.{none-there}
+use Rattle.pi_settling.specs.Narrowed.{NarrowsTo, left_free, left_bound, some_left, one_left, IsNarrowed}
+use Rattle.pi_settling.specs.Run.{given_at, ComesTo, LosesValue, KeptBefore, IsRun, integer_lost, variable_lost, Fails}
+use Rattle.pi_settling.proofs.NarrowLemmas.{narrow-state, Comes, to_variable, to_integer, item-comes, unbound-domain, left-values, root-before}
+use Rattle.pi_settling.proofs.RunLemmas.{place-is, place-there, place-comes, between-start, narrow-compose}
+use Rattle.pi_settling.proofs.WakeLemmas.{narrow-within}
+use Rattle.pi_settling.proofs.SizeLemmas.{none-there}
 use Rattle.pi_queue.specs.Leaving.{IsWithin, IsLater, MayTake, IsTaken, all_stay, some_stay, one_stays, HasLeft, IsNarrower}
 
 -- ---- one variable

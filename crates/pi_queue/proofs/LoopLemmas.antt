@@ -11,8 +11,8 @@ use Rattle.pi_filters.specs.Filter.{Leaves}
 use Rattle.pi_states.specs.State.{State, IsState}
 use Rattle.pi_settling.specs.Roots.{root_item, given}
 use Rattle.pi_settling.proofs.PlaceLemmas.{count-places}
-use Rattle.pi_propagation.specs.Run.{given_at, KeptBefore, Fails}
-use Rattle.pi_propagation.proofs.NarrowLemmas.{narrow-state}
+use Rattle.pi_settling.specs.Run.{given_at, KeptBefore, Fails}
+use Rattle.pi_settling.proofs.NarrowLemmas.{narrow-state}
 use Rattle.pi_queue.specs.Leaving.{MayTake, Takes, HasLeft, MayLeave, IsNarrower, LeavesAll}
 use Rattle.pi_queue.proofs.LeaveLemmas.{StandsAt, IsLeftAt, item_at, step, fails, meets, starts, narrower}
 

@@ -17,10 +17,10 @@ use Rattle.pi_states.proofs.ValueLemmas.{unbound_is_its_own_value, bound_has_val
 use Rattle.pi_settling.specs.Roots.{item_of, root_item}
 use Rattle.pi_settling.proofs.RootLemmas.{root-by_value}
 use Rattle.pi_settling.proofs.TwiceLemmas.{past_free, less_or_not}
-use Rattle.pi_propagation.specs.Narrowed.{NarrowsTo, left_free, left_bound, some_left, one_left, IsNarrowed}
-use Rattle.pi_propagation.specs.Run.{HasVariable}
-use Rattle.pi_propagation.proofs.NarrowLemmas.{narrow-keeps}
-use Rattle.pi_propagation.proofs.SizeLemmas.{in-front, behind, front-or-behind, none-there}
+use Rattle.pi_settling.specs.Narrowed.{NarrowsTo, left_free, left_bound, some_left, one_left, IsNarrowed}
+use Rattle.pi_settling.specs.Run.{HasVariable}
+use Rattle.pi_settling.proofs.NarrowLemmas.{narrow-keeps}
+use Rattle.pi_settling.proofs.SizeLemmas.{in-front, behind, front-or-behind, none-there}
 
 -- ---- a constraint speaks of a variable just where it is at a place
 

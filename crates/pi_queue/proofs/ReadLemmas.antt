@@ -9,9 +9,9 @@ use Rattle.pi_filters.specs.Places.{places_of}
 use Rattle.pi_states.specs.State.{State}
 use Rattle.pi_settling.specs.Roots.{root_item, given}
 use Rattle.pi_settling.specs.SettlingLaws.{MaySettle}
-use Rattle.pi_propagation.specs.Run.{given_at}
-use Rattle.pi_propagation.proofs.NarrowLemmas.{Comes, to_variable, to_integer, comes}
-use Rattle.pi_propagation.proofs.SizeLemmas.{in-front, behind, front-or-behind, none-there}
+use Rattle.pi_settling.specs.Run.{given_at}
+use Rattle.pi_settling.proofs.NarrowLemmas.{Comes, to_variable, to_integer, comes}
+use Rattle.pi_settling.proofs.SizeLemmas.{in-front, behind, front-or-behind, none-there}
 use Rattle.pi_queue.specs.Reading.{IsRoot, AreRoots, AreRead}
 
 map-push : {X Y : Type 0} (f : X → Y) (xs : List X) (x : X) → map f (xs ++ x ∷ []) ≡ map f xs ++ f x ∷ []

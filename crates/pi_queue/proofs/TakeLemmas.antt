@@ -16,8 +16,8 @@ use Rattle.pi_states.proofs.FollowLemmas.{followed_itself}
 use Rattle.pi_settling.specs.Roots.{item_of, root_item, only, given}
 use Rattle.pi_settling.proofs.StableLemmas.{only-domain, has-only, empty-has}
 use Rattle.pi_settling.proofs.TwiceLemmas.{has_in}
-use Rattle.pi_propagation.proofs.NarrowLemmas.{unbound-domain}
-use Rattle.pi_propagation.proofs.SizeLemmas.{size-lost, same-or-lost, front-or-behind, none-there}
+use Rattle.pi_settling.proofs.NarrowLemmas.{unbound-domain}
+use Rattle.pi_settling.proofs.SizeLemmas.{size-lost, same-or-lost, front-or-behind, none-there}
 use Rattle.pi_queue.specs.Leaving.{IsWithin, IsLater, MayTake, IsTaken, all_stay, some_stay, one_stays, Takes}
 
 -- ---- as many values are the same values

@@ -13,10 +13,10 @@ use Rattle.pi_settling.specs.Roots.{root_item, given}
 use Rattle.pi_settling.specs.SettlingLaws.{MaySettle}
 use Rattle.pi_settling.proofs.TwiceLemmas.{has_in}
 use Rattle.pi_settling.proofs.UniqueLemmas.{domain_made}
-use Rattle.pi_propagation.specs.Run.{KeptBefore, LosesValue}
-use Rattle.pi_propagation.specs.Runs.{IsWoken, AreMadeDue}
-use Rattle.pi_propagation.proofs.NarrowLemmas.{narrow-state, Comes, to_variable, to_integer, comes, unbound-domain}
-use Rattle.pi_propagation.proofs.RunLemmas.{contained}
+use Rattle.pi_settling.specs.Run.{KeptBefore, LosesValue}
+use Rattle.pi_settling.specs.Runs.{IsWoken, AreMadeDue}
+use Rattle.pi_settling.proofs.NarrowLemmas.{narrow-state, Comes, to_variable, to_integer, comes, unbound-domain}
+use Rattle.pi_settling.proofs.RunLemmas.{contained}
 use Rattle.pi_queue.specs.Waiting.{AreAdded, IsOnSome}
 use Rattle.pi_states.specs.Value.{IsAcyclic}
 use Rattle.pi_queue.specs.Leaving.{HasLeft, IsNarrower, MayNarrow, LeavesAll}

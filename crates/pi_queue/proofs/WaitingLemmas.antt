@@ -5,7 +5,7 @@ use Rattle.std.proofs.lemmas.List.{append-nil, take_all, take_more, get_or-take,
 use Rattle.std.proofs.lemmas.List.Elements.{Contains-append_left, Contains-append_right, Contains-append_cases, Contains-push, Contains-push_cases, Contains-get_or}
 use Rattle.pi_states.specs.Store.{Lists}
 use Rattle.pi_states.proofs.StateLemmas.{same_or_not}
-use Rattle.pi_propagation.proofs.SizeLemmas.{in-front, behind, front-or-behind, none-there}
+use Rattle.pi_settling.proofs.SizeLemmas.{in-front, behind, front-or-behind, none-there}
 use Rattle.std.specs.declared.cmp.Ordering.{Ordering}
 use Rattle.std.specs.declared.cmp.Ordering.TheVariants.{Less, Equal, Greater}
 use Rattle.std.specs.Ordering.{MatchOrdering, is_eq, nat_cmp}

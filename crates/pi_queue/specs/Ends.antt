@@ -2,8 +2,8 @@
 use Rattle.std.specs.Prelude.{◌≡◌, ◌⊎◌, ℕ, zero, suc, ◌≤◌, Bool, true, false, List, [], ◌∷◌, ◌++◌, Result, Ok, Err, ⊤}
 use Rattle.pi_answers.specs.declared.log.Work.{Work}
 use Rattle.pi_states.specs.State.{State}
-use Rattle.pi_propagation.specs.Runs.{Runs, HasRun, work_of}
-use Rattle.pi_propagation.specs.declared.stop.PropStop.{PropStop}
+use Rattle.pi_settling.specs.Runs.{Runs, HasRun, work_of}
+use Rattle.pi_settling.specs.declared.stop.PropStop.{PropStop}
 use Rattle.pi_queue.specs.Leaving.{IsNarrower}
 use Rattle.pi_queue.specs.Turn.{IsFailure}
 

@@ -10,8 +10,8 @@ use Rattle.pi_filters.specs.Filter.{Leaves}
 use Rattle.pi_states.specs.State.{State, IsState, free, domain_of, with_domain, with_binding}
 use Rattle.pi_settling.specs.Roots.{root_item, given}
 use Rattle.pi_settling.specs.SettlingLaws.{MaySettle}
-use Rattle.pi_propagation.specs.Narrowed.{IsNarrowed}
-use Rattle.pi_propagation.specs.Run.{given_at, ComesTo, LosesValue, KeptBefore, Fails}
+use Rattle.pi_settling.specs.Narrowed.{IsNarrowed}
+use Rattle.pi_settling.specs.Run.{given_at, ComesTo, LosesValue, KeptBefore, Fails}
 use Rattle.pi_prop.specs.Left.{AreLeft}
 
 -- no other values

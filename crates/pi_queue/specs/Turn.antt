@@ -3,8 +3,8 @@ use Rattle.std.specs.Prelude.{◌≡◌, ℕ, ◌<◌, Bool, true, false, List, 
 use Rattle.pi_constraints.specs.declared.constraint.Constraint.{Constraint}
 use Rattle.pi_states.specs.State.{State, IsState}
 use Rattle.pi_settling.specs.SettlingLaws.{MaySettle}
-use Rattle.pi_propagation.specs.Run.{IsRun, Fails}
-use Rattle.pi_propagation.specs.Runs.{AreMadeDue}
+use Rattle.pi_settling.specs.Run.{IsRun, Fails}
+use Rattle.pi_settling.specs.Runs.{AreMadeDue}
 
 -- the constraint with this number may be run
 pub record MayTurn (s : State) (i : ℕ) : Type 0 where

@@ -8,7 +8,7 @@ ghost use Rattle.pi_queue.specs.Filtering.{IsFiltered};
 use pi_constraints::{Constraint, Domain, Item};
 use pi_held::{HeldPlaces, changed};
 use pi_prop::narrow;
-use pi_stored::StoredDomains;
+use pi_states::StoredDomains;
 use std::alloc::{AllocError, Global};
 
 /// The domain that the filter of a constraint leaves at each place; None where it leaves what stands in the store.

@@ -5,16 +5,15 @@ ghost use Rattle.pi_states.specs.Store.{Keeps};
 ghost use Rattle.pi_settling.specs.Stable.{IsStable, IsEmptied};
 ghost use Rattle.pi_settling.specs.SettlingLaws.{MaySettle};
 ghost use Rattle.pi_settling.specs.Load.{count_lost};
-ghost use Rattle.pi_propagation.specs.Runs.{MayPropagate, work_of};
+ghost use Rattle.pi_settling.specs.Runs.{MayPropagate, work_of};
 ghost use Rattle.pi_queue.specs.Ends.{numbers_below, Ends, IsUnderWay, KeepsWithin};
 
 use crate::due::Due;
 use crate::turn::turn;
 use crate::waking::add_all;
 use pi_answers::Work;
-use pi_propagation::PropStop;
-use pi_states::Places;
-use pi_stored::StoredDomains;
+use pi_settling::PropStop;
+use pi_states::{Places, StoredDomains};
 use std::alloc::Global;
 
 /// Runs these constraints and those that become due by it, the one that waits longest first, until none is due (true), one leaves

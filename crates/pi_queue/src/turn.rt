@@ -13,7 +13,7 @@ use crate::reading::roots;
 use crate::waking::wake;
 use pi_constraints::Constraint;
 use pi_prop::is_within_limits;
-use pi_stored::StoredDomains;
+use pi_states::StoredDomains;
 use std::alloc::{AllocError, Global};
 
 /// Runs the constraint with a number, and puts those that it wakes behind the others. False where the run fails.

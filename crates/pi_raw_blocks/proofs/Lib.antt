@@ -1,2 +1,14 @@
+pub mod ListLemmas
+pub mod WalkLemmas
+pub mod DomainLemmas
+pub mod StandingLemmas
+pub mod ItemLemmas
+pub mod TermLemmas
+pub mod RoundLemmas
+pub mod ConstraintTables
+pub mod EventLemmas
+pub mod AgentLemmas
+pub mod RightLemmas
+pub mod AgentTables
 pub mod BlockLemmas
 pub mod NumberLemmas

@@ -1,2 +1,13 @@
+pub mod Node
+pub mod ListLaws
+pub mod Domain
+pub mod Items
+pub mod Terms
+pub mod Head
+pub mod Constraint
+pub mod ConstraintTable
+pub mod Events
+pub mod Agent
+pub mod AgentTable
 pub mod Block
 pub mod Numbers

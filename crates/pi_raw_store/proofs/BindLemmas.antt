@@ -17,9 +17,9 @@ use Rattle.pi_raw_terms.specs.Heap.{Heap, term_at, Grows}
 use Rattle.pi_raw_terms.specs.Placed.{IsRefIn}
 use Rattle.pi_raw_terms.proofs.HeapLemmas.{trees_stay}
 use Rattle.pi_raw_terms.proofs.RefLemmas.{form_stays}
-use Rattle.pi_raw_lists.specs.Node.{IsListed}
-use Rattle.pi_raw_lists.proofs.ListLemmas.{nothing_listed}
-use Rattle.pi_raw_laws.proofs.BoundLemmas.{no_data}
+use Rattle.pi_raw_blocks.specs.Node.{IsListed}
+use Rattle.pi_raw_blocks.proofs.ListLemmas.{nothing_listed}
+use Rattle.pi_raw_terms.proofs.BoundLemmas.{no_data}
 use Rattle.pi_raw_names.specs.NameTable.{NameTable}
 use Rattle.pi_raw_store.specs.Heads.{taken_in, list_end}
 use Rattle.pi_raw_store.specs.Walk.{bound_ref_by, variable_of, unless_bound_by, free_of_any, followed_at, free_at}

@@ -10,10 +10,10 @@ use Rattle.pi_trail.specs.declared.entry.Table.{Table}
 use Rattle.pi_trail.proofs.ChangeLemmas.{push_word}
 use Rattle.pi_raw_terms.specs.Form.{form_of}
 use Rattle.pi_raw_blocks.proofs.BlockLemmas.{in_more}
-use Rattle.pi_raw_lists.specs.Node.{IsListed}
-use Rattle.pi_raw_lists.proofs.ListLemmas as listed
-use Rattle.pi_raw_constraints.specs.Constraint.{constraint_in}
-use Rattle.pi_raw_constraints.specs.Table.{constraint_at}
+use Rattle.pi_raw_blocks.specs.Node.{IsListed}
+use Rattle.pi_raw_blocks.proofs.ListLemmas as listed
+use Rattle.pi_raw_blocks.specs.Constraint.{constraint_in}
+use Rattle.pi_raw_blocks.specs.ConstraintTable.{constraint_at}
 use Rattle.pi_raw_store.specs.Walk.{bound_ref_by, variable_of, variable_of_any, next_at}
 use Rattle.pi_raw_store.specs.Heads.{list_end}
 use Rattle.pi_raw_store.specs.Lists.{Leads, at_once, by_next, IsOnList, IsComplete}

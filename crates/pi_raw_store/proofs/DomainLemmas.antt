@@ -18,12 +18,12 @@ use Rattle.pi_raw_terms.specs.declared.form.Form.{Form}
 use Rattle.pi_raw_terms.specs.Form.{form_of}
 use Rattle.pi_raw_terms.specs.Heap.{Heap, term_at}
 use Rattle.pi_raw_terms.proofs.LookLemmas.{shows_var}
-use Rattle.pi_raw_laws.specs.Bound.{IsBoundIn}
+use Rattle.pi_raw_terms.specs.Bound.{IsBoundIn}
 use Rattle.pi_raw_blocks.specs.Block.{block_of, block_at}
 use Rattle.pi_raw_blocks.proofs.BlockLemmas.{in_more, come_back, read_back}
-use Rattle.pi_raw_domains.specs.Domain.{bounds_of, domain_in}
-use Rattle.pi_raw_domains.proofs.DomainLemmas as domains
-use Rattle.pi_raw_constraints.proofs.TableLemmas.{block_right}
+use Rattle.pi_raw_blocks.specs.Domain.{bounds_of, domain_in}
+use Rattle.pi_raw_blocks.proofs.DomainLemmas as domains
+use Rattle.pi_raw_blocks.proofs.ConstraintTables.{block_right}
 use Rattle.pi_raw_names.specs.NameTable.{NameTable}
 use Rattle.pi_raw_store.specs.Heads.{taken_in}
 use Rattle.pi_raw_store.specs.Walk.{variable_of, followed_at, free_at}

@@ -18,13 +18,13 @@ use Rattle.pi_trail.proofs.ChangeLemmas.{appended_advances}
 use Rattle.pi_raw_terms.specs.Heap.{Heap, term_at, Grows, Appends}
 use Rattle.pi_raw_terms.specs.Placed.{WritesRight}
 use Rattle.pi_raw_terms.proofs.HeapLemmas.{trees_stay}
-use Rattle.pi_raw_laws.proofs.PastLemmas.{now_is, before, heaps_grow}
+use Rattle.pi_raw_terms.proofs.PastLemmas.{now_is, before, heaps_grow}
 use Rattle.pi_raw_blocks.specs.Block.{block_at}
 use Rattle.pi_raw_blocks.proofs.BlockLemmas.{in_more}
-use Rattle.pi_raw_domains.specs.Domain.{domain_in}
-use Rattle.pi_raw_laws.specs.Bound.{IsBoundIn}
-use Rattle.pi_raw_constraints.specs.Table.{constraint_at, IsConstraintIn}
-use Rattle.pi_raw_constraints.proofs.TableLemmas.{same_constraint}
+use Rattle.pi_raw_blocks.specs.Domain.{domain_in}
+use Rattle.pi_raw_terms.specs.Bound.{IsBoundIn}
+use Rattle.pi_raw_blocks.specs.ConstraintTable.{constraint_at, IsConstraintIn}
+use Rattle.pi_raw_blocks.proofs.ConstraintTables.{same_constraint}
 use Rattle.pi_raw_names.specs.NameTable.{NameTable, names_of}
 use Rattle.pi_raw_store.specs.Heads.{taken_in}
 use Rattle.pi_raw_store.specs.declared.mark.RawMark.{RawMark}

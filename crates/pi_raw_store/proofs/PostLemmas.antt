@@ -14,10 +14,10 @@ use Rattle.pi_trail.proofs.BackLemmas.{from_itself, through}
 use Rattle.pi_trail.proofs.ChangeLemmas.{pushed_advances}
 use Rattle.pi_raw_blocks.specs.Block.{block_of, Writes}
 use Rattle.pi_raw_blocks.proofs.BlockLemmas.{outlast, read_back}
-use Rattle.pi_raw_constraints.specs.Constraint.{numbers_of, constraint_in}
-use Rattle.pi_raw_constraints.specs.Table.{constraint_at}
-use Rattle.pi_raw_constraints.proofs.TableLemmas.{block_right}
-use Rattle.pi_raw_constraints.proofs.RoundLemmas.{back}
+use Rattle.pi_raw_blocks.specs.Constraint.{numbers_of, constraint_in}
+use Rattle.pi_raw_blocks.specs.ConstraintTable.{constraint_at}
+use Rattle.pi_raw_blocks.proofs.ConstraintTables.{block_right}
+use Rattle.pi_raw_blocks.proofs.RoundLemmas.{back}
 use Rattle.pi_raw_names.specs.NameTable.{NameTable}
 use Rattle.pi_raw_store.specs.Heads.{taken_in}
 use Rattle.pi_raw_store.specs.Holding.{heap_of, state_of, view_of}

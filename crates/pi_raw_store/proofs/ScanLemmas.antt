@@ -8,7 +8,7 @@ use Rattle.pi_constraints.specs.Constraint.{HoldsVariable, HoldVariable, SumHasV
 use Rattle.pi_constraints.specs.declared.constraint.Item.{Item}
 use Rattle.pi_constraints.specs.declared.constraint.Constraint.{Constraint}
 use Rattle.pi_trail.specs.Image.{Image}
-use Rattle.pi_raw_constraints.specs.Table.{constraint_at}
+use Rattle.pi_raw_blocks.specs.ConstraintTable.{constraint_at}
 use Rattle.pi_raw_store.specs.Walk.{next_at, any_of, leads_for, leads_at}
 use Rattle.pi_raw_store.specs.Lists.{Leads, at_once, by_next, IsOnList, IsComplete}
 use Rattle.pi_raw_store.specs.Posted.{item_leads, items_lead, sum_leads, constraint_leads, posted_at, ListsBelow, Passes}

@@ -15,18 +15,18 @@ use Rattle.pi_raw_terms.specs.Heap.{Heap, Grows, term_at}
 use Rattle.pi_raw_terms.specs.Placed.{IsRefIn, WritesRight}
 use Rattle.pi_raw_terms.proofs.RefLemmas.{form_stays}
 use Rattle.pi_raw_terms.proofs.WriteLemmas.{data_word}
-use Rattle.pi_raw_laws.specs.Right.{HasMoreNames}
-use Rattle.pi_raw_laws.specs.Past.{past_of}
-use Rattle.pi_raw_laws.specs.Bound.{IsBoundIn}
-use Rattle.pi_raw_laws.specs.Kept.{AreKept}
-use Rattle.pi_raw_laws.proofs.KeptLemmas as kept
-use Rattle.pi_raw_laws.proofs.RightLemmas as right
-use Rattle.pi_raw_laws.proofs.BoundLemmas as bound
+use Rattle.pi_raw_terms.specs.Right.{HasMoreNames}
+use Rattle.pi_raw_terms.specs.Past.{past_of}
+use Rattle.pi_raw_terms.specs.Bound.{IsBoundIn}
+use Rattle.pi_raw_terms.specs.Kept.{AreKept}
+use Rattle.pi_raw_terms.proofs.KeptLemmas as kept
+use Rattle.pi_raw_terms.proofs.RightLemmas as right
+use Rattle.pi_raw_terms.proofs.BoundLemmas as bound
 use Rattle.pi_constraints.specs.Constraint.{SpeaksOf}
-use Rattle.pi_raw_constraints.specs.Table.{constraint_at, IsConstraintIn}
-use Rattle.pi_raw_constraints.proofs.TableLemmas.{constraint_stays}
-use Rattle.pi_raw_agents.specs.Table.{IsAgentIn}
-use Rattle.pi_raw_agents.proofs.TableLemmas.{agent_stays}
+use Rattle.pi_raw_blocks.specs.ConstraintTable.{constraint_at, IsConstraintIn}
+use Rattle.pi_raw_blocks.proofs.ConstraintTables.{constraint_stays}
+use Rattle.pi_raw_blocks.specs.AgentTable.{IsAgentIn}
+use Rattle.pi_raw_blocks.proofs.AgentTables.{agent_stays}
 use Rattle.pi_atoms.specs.Names.{HasDistinct}
 use Rattle.pi_raw_names.specs.NameTable.{NameTable, names_of}
 use Rattle.pi_raw_store.specs.Holding.{heap_of}

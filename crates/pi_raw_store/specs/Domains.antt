@@ -7,7 +7,7 @@ use Rattle.pi_trail.specs.Image.{Image, replaced}
 use Rattle.pi_trail.specs.Back.{Advances}
 use Rattle.pi_trail.specs.declared.entry.Table.{Table}
 use Rattle.pi_raw_blocks.specs.Block.{block_at, Writes}
-use Rattle.pi_raw_domains.specs.Domain.{bounds_of, domain_in}
+use Rattle.pi_raw_blocks.specs.Domain.{bounds_of, domain_in}
 use Rattle.pi_raw_store.specs.Walk.{variable_at, followed_at}
 
 -- the domain whose block ends at a place

@@ -8,10 +8,10 @@ use Rattle.pi_states.specs.declared.event.Activation.{Activation}
 use Rattle.pi_trail.specs.Image.{Image}
 use Rattle.pi_trail.specs.Back.{at_length}
 use Rattle.pi_raw_terms.specs.Heap.{Heap, term_at}
-use Rattle.pi_raw_laws.specs.Past.{heap_at}
-use Rattle.pi_raw_agents.specs.Agent.{call_at, rule_at, watches_at}
-use Rattle.pi_raw_agents.specs.Table.{end_of, is_alive}
-use Rattle.pi_raw_constraints.specs.Table.{constraint_at}
+use Rattle.pi_raw_terms.specs.Past.{heap_at}
+use Rattle.pi_raw_blocks.specs.Agent.{call_at, rule_at, watches_at}
+use Rattle.pi_raw_blocks.specs.AgentTable.{end_of, is_alive}
+use Rattle.pi_raw_blocks.specs.ConstraintTable.{constraint_at}
 use Rattle.pi_raw_store.specs.Domains.{domain_at}
 use Rattle.pi_raw_store.specs.Waiting.{activation_of}
 use Rattle.pi_raw_store.specs.Heads.{taken_in}

@@ -2,8 +2,8 @@
 use Rattle.std.specs.Prelude.{◌≡◌, ℕ, ◌<◌, ◌≤◌, List, length, Some, slice_index}
 use Rattle.pi_constraints.specs.Constraint.{SpeaksOf}
 use Rattle.pi_trail.specs.Image.{Image}
-use Rattle.pi_raw_lists.specs.Node.{IsListed}
-use Rattle.pi_raw_constraints.specs.Table.{constraint_at}
+use Rattle.pi_raw_blocks.specs.Node.{IsListed}
+use Rattle.pi_raw_blocks.specs.ConstraintTable.{constraint_at}
 use Rattle.pi_raw_store.specs.Walk.{next_at}
 use Rattle.pi_raw_store.specs.Heads.{list_end}
 

@@ -5,11 +5,11 @@ use Rattle.pi_trail.specs.Image.{Image}
 use Rattle.pi_trail.specs.Back.{at_length}
 use Rattle.pi_trail.specs.declared.entry.Table.{Table}
 use Rattle.pi_atoms.specs.Names.{HasDistinct}
-use Rattle.pi_raw_laws.specs.Right.{IsRight}
-use Rattle.pi_raw_laws.specs.Bound.{AreBound}
-use Rattle.pi_raw_laws.specs.Kept.{AreKept}
-use Rattle.pi_raw_constraints.specs.Table.{IsConstraintIn}
-use Rattle.pi_raw_agents.specs.Table.{IsAgentIn}
+use Rattle.pi_raw_terms.specs.Right.{IsRight}
+use Rattle.pi_raw_terms.specs.Bound.{AreBound}
+use Rattle.pi_raw_terms.specs.Kept.{AreKept}
+use Rattle.pi_raw_blocks.specs.ConstraintTable.{IsConstraintIn}
+use Rattle.pi_raw_blocks.specs.AgentTable.{IsAgentIn}
 use Rattle.pi_raw_names.specs.NameTable.{NameTable, names_of}
 use Rattle.pi_raw_store.specs.Waiting.{IsWaitingIn}
 use Rattle.pi_raw_store.specs.Heads.{taken_in}

@@ -5,8 +5,7 @@ ghost use Rattle.pi_raw_store.specs.Domains.{domain_end, domain_by, domain_of, C
 
 use crate::walk::{followed, variable};
 use pi_constraints::{Domain, Span};
-use pi_raw_blocks::give_up;
-use pi_raw_domains::{read_domain, span, span_count, write_domain};
+use pi_raw_blocks::{give_up, read_domain, span, span_count, write_domain};
 use pi_states::Ref;
 use pi_trail::{Table, Trailed};
 use std::alloc::{AllocError, Global};

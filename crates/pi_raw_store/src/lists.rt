@@ -6,7 +6,7 @@ ghost use Rattle.pi_raw_store.specs.Added.{AddsToLists, IsAddedTo, IsAddedAlong}
 
 use crate::heads::{list_end, write_head};
 use crate::walk::next_variable;
-use pi_raw_lists::add_node;
+use pi_raw_blocks::add_node;
 use pi_trail::{Table, Trailed};
 use std::alloc::AllocError;
 

@@ -3,13 +3,13 @@ ghost use Rattle.std.specs.Prelude.{◌≡◌, ◌⊎◌, length, IsTrue, IsFals
 ghost use Rattle.pi_constraints.specs.Constraint.{HoldsVariable, HoldVariable, SumHasVariable, SpeaksOf};
 ghost use Rattle.pi_trail.specs.Image.{Image};
 ghost use Rattle.pi_trail.specs.Back.{Advances};
-ghost use Rattle.pi_raw_constraints.specs.Table.{constraint_at};
+ghost use Rattle.pi_raw_blocks.specs.ConstraintTable.{constraint_at};
 ghost use Rattle.pi_raw_store.specs.Added.{AddsToLists, IsPutOn, TriesToPost, PostsIfMade};
 
 use crate::heads::give_back;
 use crate::lists::add_along;
 use pi_constraints::{Constraint, Item, Items, LinTerms};
-use pi_raw_constraints::{read_constraint, write_constraint};
+use pi_raw_blocks::{read_constraint, write_constraint};
 use pi_trail::{Table, Trailed};
 use std::alloc::{AllocError, Global};
 

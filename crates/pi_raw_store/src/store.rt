@@ -6,7 +6,7 @@ ghost use Rattle.pi_states.specs.Value.{IsAcyclic, value};
 ghost use Rattle.pi_states.specs.State.{Agent, SpeaksBelow, MayPost, empty_state, bindings, next, followed, LeadsTo, domain_at_root, with_new, with_constraint, with_ended};
 ghost use Rattle.pi_states.specs.State.{domain_of as state_domain};
 ghost use Rattle.pi_states.specs.Store.{IsGood, IsTerm, AreTerms, AreWatches, IsName, ShowsCell, ShowsAgent, Keeps, Stays, Changes, Gives, Binds, Confines, Suspends, Marks, Returns, Lists, IsPostedOn, HasChanged, ShowsRead};
-ghost use Rattle.pi_stored.specs.Stored.{stored};
+ghost use Rattle.pi_states.specs.Stored.{stored};
 ghost use Rattle.pi_constraints.specs.Domain.{IsDomain};
 ghost use Rattle.pi_raw_store.specs.Holding.{seen, order};
 
@@ -23,10 +23,10 @@ use crate::refs::{has, has_events, known};
 use crate::since::changed_since;
 use crate::walk;
 use pi_constraints::{Constraint, Domain, Span};
-use pi_raw_agents::{
-    add_agent, agent_call, agent_end, agent_rule, end_agent, is_alive, read_watches,
+use pi_raw_blocks::{
+    add_agent, agent_call, agent_end, agent_rule, end_agent, is_alive, numbered_constraint,
+    read_watches,
 };
-use pi_raw_constraints::numbered_constraint;
 use pi_raw_names::RawNames;
 use pi_raw_terms as terms;
 use pi_region::Words;

@@ -1,7 +1,7 @@
 //! The store over raw words as one whose domains are read where they stand.
 use crate::store::RawStore;
 use pi_constraints::Span;
-use pi_stored::StoredDomains;
+use pi_states::StoredDomains;
 
 impl StoredDomains for RawStore {
     fn span_count(&self, n: u64) -> usize {

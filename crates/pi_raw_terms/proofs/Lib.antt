@@ -1,3 +1,8 @@
+pub mod PastLemmas
+pub mod RightLemmas
+pub mod KeptLemmas
+pub mod BoundLemmas
+pub mod BuiltLemmas
 pub mod FormLemmas
 pub mod HeapLemmas
 pub mod PutLemmas

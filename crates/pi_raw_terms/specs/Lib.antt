@@ -1,3 +1,8 @@
+pub mod Past
+pub mod Right
+pub mod Kept
+pub mod Bound
+pub mod Built
 pub mod Form
 pub mod Heap
 pub mod Look

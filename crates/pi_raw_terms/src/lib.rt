@@ -7,6 +7,7 @@ pub mod laws;
 mod look;
 mod placed;
 mod put;
+mod stack;
 pub mod wide;
 
 pub use form::{Form, is_ref};
@@ -14,3 +15,4 @@ pub use header::Header;
 pub use look::{arg, cell, is_ground};
 pub use placed::is_placed;
 pub use put::{put_atom, put_compound, put_int, var_ref};
+pub use stack::take_last;

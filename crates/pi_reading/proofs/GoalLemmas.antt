@@ -15,11 +15,11 @@ use Rattle.pi_postings.specs.Limits.{first_refusal}
 use Rattle.pi_postings.specs.Postings.{read_goal, posting_unless, finished, nothing_made, posting_in}
 use Rattle.pi_finished.specs.declared.making.Making.{Making}
 use Rattle.pi_finished.specs.Making.{Shows, Reads, with_constraint}
-use Rattle.pi_operand_reading.specs.declared.stop.OperandStop.{OperandStop}
-use Rattle.pi_operand_reading.specs.Frames.{Refuses}
-use Rattle.pi_operand_reading.proofs.RootLemmas.{value_is}
-use Rattle.pi_operand_reading.proofs.AfterLemmas.{after_after}
-use Rattle.pi_reading.specs.Nodes.{goal_at}
+use Rattle.pi_reading.specs.declared.operands.stop.OperandStop.{OperandStop}
+use Rattle.pi_reading.specs.OperandFrames.{Refuses}
+use Rattle.pi_reading.proofs.RootLemmas.{value_is}
+use Rattle.pi_reading.proofs.AfterLemmas.{after_after}
+use Rattle.pi_reading.specs.GoalNodes.{goal_at}
 use Rattle.pi_reading.specs.Items.{gives_all, read_listed}
 use Rattle.pi_reading.specs.Goals.{ShowsGoal}
 use Rattle.pi_reading.specs.Faults.{Stops}

@@ -19,13 +19,13 @@ use Rattle.pi_postings.specs.Steps.{Refusal, not_a_constraint, Made, Known, give
 use Rattle.pi_postings.specs.Lists.{read_item, read_each, read_collection, items_or_refused}
 use Rattle.pi_finished.specs.declared.items.JudgedItems.{JudgedItems}
 use Rattle.pi_finished.specs.Items.{IsJudged, AreJudged}
-use Rattle.pi_operand_reading.specs.declared.stop.OperandStop.{OperandStop}
-use Rattle.pi_operand_reading.specs.Refs.{IsThere, value_at}
-use Rattle.pi_operand_reading.specs.Frames.{AreThere, Refuses}
-use Rattle.pi_operand_reading.proofs.RootLemmas.{root_of, value_is, variable-root, integer-root, atom-root, compound-root}
-use Rattle.pi_operand_reading.proofs.AfterLemmas.{after_after, after_same, after_gives}
-use Rattle.pi_operand_reading.proofs.CollectionLemmas.{collection-values, are-there}
-use Rattle.pi_relations.proofs.LoopLemmas.{found-items, no-items}
+use Rattle.pi_reading.specs.declared.operands.stop.OperandStop.{OperandStop}
+use Rattle.pi_reading.specs.Refs.{IsThere, value_at}
+use Rattle.pi_reading.specs.OperandFrames.{AreThere, Refuses}
+use Rattle.pi_reading.proofs.RootLemmas.{root_of, value_is, variable-root, integer-root, atom-root, compound-root}
+use Rattle.pi_reading.proofs.AfterLemmas.{after_after, after_same, after_gives}
+use Rattle.pi_reading.proofs.CollectionLemmas.{collection-values, are-there}
+use Rattle.pi_reading.proofs.LoopLemmas.{found-items, no-items}
 use Rattle.pi_reading.specs.Items.{values_at, gives_all, ShowsItem, ShowsEach, ShowsCollection}
 
 -- ---- one item

@@ -4,8 +4,8 @@ use Rattle.pi_terms.specs.Tree.{Tree, cells, most_cells}
 use Rattle.pi_postings.specs.Steps.{Refusal, not_a_constraint, too_many_terms, wide_coefficient}
 use Rattle.pi_postings.specs.Postings.{Posting as PostingOf}
 use Rattle.pi_states.specs.Store.{Moment}
-use Rattle.pi_operand_reading.specs.declared.stop.OperandStop.{OperandStop}
-use Rattle.pi_operand_reading.specs.Refs.{IsThere, value_at}
+use Rattle.pi_reading.specs.declared.operands.stop.OperandStop.{OperandStop}
+use Rattle.pi_reading.specs.Refs.{IsThere, value_at}
 use Rattle.pi_finished.specs.declared.posting.Posting.{Posting}
 use Rattle.pi_finished.specs.Finished.{posting_as}
 use Rattle.pi_reading.specs.declared.reading.ConFault.{ConFault}

@@ -4,8 +4,8 @@ use Rattle.pi_states.specs.Store.{Moment}
 use Rattle.pi_postings.specs.Steps.{Made, Reading}
 use Rattle.pi_finished.specs.declared.making.Making.{Making}
 use Rattle.pi_finished.specs.Making.{Reads}
-use Rattle.pi_operand_reading.specs.declared.stop.OperandStop.{OperandStop}
-use Rattle.pi_operand_reading.specs.Frames.{Refuses}
+use Rattle.pi_reading.specs.declared.operands.stop.OperandStop.{OperandStop}
+use Rattle.pi_reading.specs.OperandFrames.{Refuses}
 
 abbrev pub ShowsGoal : Moment → Reading (Unit {0}) → Made → Making → Result (Unit {0}) OperandStop → Type 0
 ShowsGoal w r m new (Ok done) = Reads r m done new

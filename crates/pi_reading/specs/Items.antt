@@ -9,9 +9,9 @@ use Rattle.pi_postings.specs.Steps.{Refusal, Made, Known, Reading, then}
 use Rattle.pi_postings.specs.Lists.{read_collection, read_each}
 use Rattle.pi_finished.specs.declared.items.JudgedItems.{JudgedItems}
 use Rattle.pi_finished.specs.Items.{IsJudged, AreJudged}
-use Rattle.pi_operand_reading.specs.declared.stop.OperandStop.{OperandStop}
-use Rattle.pi_operand_reading.specs.Refs.{value_at}
-use Rattle.pi_operand_reading.specs.Frames.{AreThere, Refuses}
+use Rattle.pi_reading.specs.declared.operands.stop.OperandStop.{OperandStop}
+use Rattle.pi_reading.specs.Refs.{value_at}
+use Rattle.pi_reading.specs.OperandFrames.{AreThere, Refuses}
 
 -- the values of Refs, from the left
 abbrev pub values_at : Moment → List Ref → List Tree

@@ -1,4 +1,12 @@
-pub mod Nodes
+pub mod Refs
+pub mod OperandNodes
+pub mod OperandFrames
+pub mod Turns
+pub mod Relations
+pub mod TruthNodes
+pub mod TruthFrames
+pub mod Sums
+pub mod GoalNodes
 pub mod Items
 pub mod Goals
 pub mod Faults

@@ -7,20 +7,20 @@ ghost use Rattle.pi_postings.specs.Truths.{posts_truth};
 ghost use Rattle.pi_postings.specs.Lists.{posts_different, posts_distinct, posts_element};
 ghost use Rattle.pi_postings.specs.Postings.{read_goal};
 ghost use Rattle.pi_finished.specs.Making.{Shows};
-ghost use Rattle.pi_operand_reading.specs.Refs.{IsThere, value_at, operand_at};
-ghost use Rattle.pi_relations.specs.Relations.{comparison_of};
-ghost use Rattle.pi_truths.specs.Nodes.{boolean_at};
-ghost use Rattle.pi_reading.specs.Nodes.{goal_at};
+ghost use Rattle.pi_reading.specs.Refs.{IsThere, value_at, operand_at};
+ghost use Rattle.pi_reading.specs.Relations.{comparison_of};
+ghost use Rattle.pi_reading.specs.TruthNodes.{boolean_at};
+ghost use Rattle.pi_reading.specs.GoalNodes.{goal_at};
 ghost use Rattle.pi_reading.specs.Items.{read_listed, ShowsEach};
 ghost use Rattle.pi_reading.specs.Goals.{ShowsGoal};
 
 use crate::items::{collected, item_at, items_at};
 use crate::nodes::{GoalNode, goal_node_at};
+use crate::operands::OperandStop;
+use crate::relations::{Comparison, read_relation};
+use crate::truths::{post_so, read_truth};
 use pi_finished::{JudgedItems, Making};
-use pi_operand_reading::OperandStop;
-use pi_relations::{Comparison, read_relation};
 use pi_states::{Ref, StateStore};
-use pi_truths::{post_so, read_truth};
 use std::alloc::Global;
 
 /// What a goal makes: new variables, and constraints in the order of their making. A User's Guide to Picat, 'Constraints'.

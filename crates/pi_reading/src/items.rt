@@ -2,15 +2,15 @@
 ghost use Rattle.pi_states.specs.State.{IsState};
 ghost use Rattle.pi_postings.specs.Steps.{Made};
 ghost use Rattle.pi_postings.specs.Lists.{read_item, read_each, read_collection};
-ghost use Rattle.pi_operand_reading.specs.Refs.{IsThere, value_at};
-ghost use Rattle.pi_operand_reading.specs.Frames.{AreThere};
+ghost use Rattle.pi_reading.specs.Refs.{IsThere, value_at};
+ghost use Rattle.pi_reading.specs.OperandFrames.{AreThere};
 ghost use Rattle.pi_reading.specs.Items.{values_at, ShowsItem, ShowsEach, ShowsCollection};
 
+use crate::operands::OperandStop;
 use pi_constraints::Item;
-use pi_faults::Stop;
+use pi_effects::Stop;
 use pi_finished::{JudgedItems, integer_item};
 use pi_lists::collection_items;
-use pi_operand_reading::OperandStop;
 use pi_states::{Cell, Ref, StateStore};
 use std::alloc::Global;
 

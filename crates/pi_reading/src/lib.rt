@@ -1,9 +1,12 @@
-//! What a goal of constraints posts, read from a store.
+//! What a goal of constraints posts, read from a store without recursion: its operands, relations and Boolean expressions.
 #![tactic(auto)]
 
 mod goals;
 mod items;
 mod nodes;
+mod operands;
 mod reading;
+mod relations;
+mod truths;
 
 pub use reading::{ConFault, read_constraint};

@@ -1,12 +1,12 @@
 //! What a term of a store is as a goal of constraints.
 ghost use Rattle.std.specs.Prelude.{◌≡◌};
 ghost use Rattle.pi_states.specs.State.{IsState};
-ghost use Rattle.pi_operand_reading.specs.Refs.{IsThere};
-ghost use Rattle.pi_reading.specs.Nodes.{one_named, three_named, ShowsGoalNode, ShowsListGoal};
+ghost use Rattle.pi_reading.specs.Refs.{IsThere};
+ghost use Rattle.pi_reading.specs.GoalNodes.{one_named, three_named, ShowsGoalNode, ShowsListGoal};
 
-use pi_relations::Comparison;
+use crate::relations::Comparison;
+use crate::truths::{TruthNode, truth_node_at};
 use pi_states::{Cell, Ref, StateStore};
-use pi_truths::{TruthNode, truth_node_at};
 
 /// A goal over the items of a list or an array.
 #[derive(Clone, Copy)]

@@ -8,8 +8,8 @@ ghost use Rattle.pi_postings.specs.Postings.{Posting as PostingOf, posting_in};
 ghost use Rattle.pi_reading.specs.Faults.{ShowsFault, ShowsPosting, Stops};
 
 use crate::goals::read_goal;
+use crate::operands::OperandStop;
 use pi_finished::{Limit, Making, Posting};
-use pi_operand_reading::OperandStop;
 use pi_states::{ReadStop, Ref, StateStore};
 use pi_terms::Term;
 use std::alloc::Global;

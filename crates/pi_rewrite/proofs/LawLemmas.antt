@@ -9,7 +9,7 @@ use Rattle.pi_lowered.specs.WithinLoops.{IsAsked}
 use Rattle.pi_lowered.proofs.TextLawLemmas.{programs-with-loops-are-kept, goals-with-loops-are-kept}
 use Rattle.pi_coverage.specs.Built.{unbuilt_part, is_built_goal}
 use Rattle.pi_coverage.specs.Within.{IsWithin}
-use Rattle.pi_later.proofs.RunLemmas.{levels-are-the-same, goals-are-the-same}
+use Rattle.pi_sound.proofs.RunLemmas.{levels-are-the-same, goals-are-the-same}
 use Rattle.pi_sound.proofs.ProgramLemmas.{programs-sound, programs-closed}
 use Rattle.pi_sound.proofs.PlainLemmas.{programs-plain}
 use Rattle.pi_sound.proofs.QueryLemmas.{queries-sound}

@@ -15,7 +15,7 @@ use Rattle.pi_settling.specs.Roots.{root_item, given, Counts, by_domain, by_plac
 use Rattle.pi_settling.specs.Stable.{Domains, at_places, NoFilterChanges, Stays, Narrows, some_stay, IsStable}
 use Rattle.pi_settling.specs.Load.{same_domain, count_due, roots_of}
 use Rattle.pi_settling.specs.Settled.{loaded, with_events, IsSettled}
-use Rattle.pi_settling.proofs.Examples.{span, from_to, state, at_least_three}
+use Rattle.pi_settling.proofs.SettlingExamples.{span, from_to, state, at_least_three}
 
 abbrev before : State
 before = state (from_to 1 5 ∷ []) [] []

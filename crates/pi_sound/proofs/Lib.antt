@@ -1,3 +1,26 @@
+pub mod BuiltNames
+pub mod CallLemmas
+pub mod FormLemmas
+pub mod GoalLemmas
+pub mod PartLemmas
+pub mod RuleLemmas
+pub mod RunLemmas
+mod KnownCalls
+mod BuiltTerms
+mod PlainNames
+mod CallPlaces
+mod BuiltCalls
+mod NamedPatterns
+mod BuiltGoals
+mod KnownNames
+mod FreeHeads
+pub mod FaultlessParts
+mod ShownKeys
+mod AdjacentClauses
+mod IndexedFacts
+mod PreludeParts
+pub mod FaultlessPrograms
+pub mod FaultlessGoals
 pub mod GivenNames
 pub mod NameLemmas
 pub mod FineGoals

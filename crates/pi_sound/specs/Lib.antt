@@ -1,1 +1,3 @@
+pub mod LaterLaws
+pub mod FaultlessLaws
 pub mod Laws

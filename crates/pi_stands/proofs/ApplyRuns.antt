@@ -45,7 +45,7 @@ use Rattle.pi_stands.proofs.EqualStands.{block_of, kind-of-node, stack-moved, go
 use Rattle.pi_stands.proofs.CallLemmas.{apply-of, evaluated-all-state}
 use Rattle.pi_stands.proofs.RulesTried.{IsFound}
 use Rattle.pi_stands.proofs.CallsTried.{below-ends, below-moves}
-use Rattle.pi_named_goals.proofs.FoundLemmas.{found-by-number}
+use Rattle.pi_meaning.proofs.FoundLemmas.{found-by-number}
 use Rattle.pi_machine.proofs.CallFound.{apply-comes-to}
 use Rattle.pi_stands.proofs.CallMade.{front-more, arguments-added, arguments-long, all-left, stack-below, level-below, Made}
 use Rattle.pi_stands.proofs.CallRuns.{Numbered, numbered, arguments-of, args-count, all-count, stands-called}

@@ -36,7 +36,7 @@ use Rattle.pi_stands.proofs.FramesStand.{MoreFrames, pushes-more, framed, with_n
 use Rattle.pi_stands.proofs.EqualStands.{block_of, kind-of-node, stack-moved, going-moved}
 use Rattle.pi_stands.proofs.CallLemmas.{call-of, evaluated-all-state}
 use Rattle.pi_stands.proofs.RulesTried.{IsFound}
-use Rattle.pi_named_goals.proofs.FoundLemmas.{found-by-number}
+use Rattle.pi_meaning.proofs.FoundLemmas.{found-by-number}
 use Rattle.pi_machine.proofs.CallFound.{call-comes-to}
 use Rattle.pi_stands.proofs.CallMade.{Room, kept_whole, given_back, cut-back, Caller, Made, call-made}
 use Rattle.pi_stands.proofs.LevelSteps.{kept-within}

@@ -14,9 +14,9 @@ use Rattle.pi_meaning.specs.Defined.{NamesAreFree}
 use Rattle.pi_meaning.specs.Instances.{is_called_by_name}
 use Rattle.pi_meaning.proofs.KnownLemmas.{planner-later}
 use Rattle.pi_meaning.proofs.WholeLemmas.{free-found}
-use Rattle.pi_named_goals.specs.NamedGoals.{goal_by_name}
-use Rattle.pi_named_goals.proofs.NamesApart.{planner-no_predicate, planner-others}
-use Rattle.pi_named_goals.proofs.NamedLemmas.{NamedBy, by_catch, by_call, by_name, named-by}
+use Rattle.pi_meaning.specs.NamedGoals.{goal_by_name}
+use Rattle.pi_meaning.proofs.NamesApart.{planner-no_predicate, planner-others}
+use Rattle.pi_meaning.proofs.NamedLemmas.{NamedBy, by_catch, by_call, by_name, named-by}
 use Rattle.pi_code.specs.Callables.{place_in, HasPlace}
 use Rattle.pi_machine.specs.Configuration.{Frame, going, raising, in_places}
 use Rattle.pi_machine.specs.Step.{unknown_by, goal_called, named_now, term_now, first_now}

@@ -12,7 +12,7 @@ use Rattle.pi_core.specs.CoreTree.{ClauseTree, PredTree, pred_tree, leaves_other
 use Rattle.pi_states.specs.Evaluation.{evaluated}
 use Rattle.pi_meaning.specs.Sound.{IsAnother, pattern_count}
 use Rattle.pi_meaning.specs.Defined.{NamesAreFree}
-use Rattle.pi_named_goals.specs.NamedGoals.{goal_by_name}
+use Rattle.pi_meaning.specs.NamedGoals.{goal_by_name}
 use Rattle.pi_code.specs.Callables.{place_in, HasPlace}
 use Rattle.pi_code.specs.Keyed.{AreKeyed}
 use Rattle.pi_code.specs.declared.code.Node.{Node}

@@ -1,3 +1,4 @@
+pub mod Stored
 pub mod Value
 pub mod Match
 pub mod State

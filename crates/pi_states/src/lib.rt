@@ -4,6 +4,8 @@
 mod event;
 pub mod laws;
 mod store;
+mod stored;
 
 pub use event::{Activation, Activations, AgentView, Event, Events, Watch, Watches};
 pub use store::{Cell, Places, ReadStop, Ref, StateStore};
+pub use stored::StoredDomains;

@@ -4,7 +4,7 @@ use Rattle.pi_terms.specs.Tree.{Tree}
 use Rattle.pi_states.specs.State.{IsState}
 use Rattle.pi_states.specs.Store.{StoreView}
 use Rattle.pi_effects.specs.Effect.{Effect}
-use Rattle.pi_faults.specs.declared.fault.Stop.{Stop}
+use Rattle.pi_effects.specs.declared.fault.Stop.{Stop}
 use Rattle.pi_calls.specs.declared.predicates.Outcome.{Outcome}
 use Rattle.pi_calls.specs.Outcomes.{ShowsOutcome}
 use Rattle.pi_calls.specs.Runs.{IsRaised}

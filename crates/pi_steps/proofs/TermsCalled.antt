@@ -12,9 +12,9 @@ use Rattle.pi_core.specs.GoalTree.{GoalTree, GoalTrees, goal, no_goals}
 use Rattle.pi_core.specs.CoreTree.{pred_tree}
 use Rattle.pi_effects.specs.Exception.{type_error}
 use Rattle.pi_effects.specs.Items.{each_tree}
-use Rattle.pi_faults.specs.Balls.{IsBall}
-use Rattle.pi_faults.specs.declared.fault.Fault.{Fault}
-use Rattle.pi_faults.specs.declared.fault.Kind.{Kind as FaultKind}
+use Rattle.pi_effects.specs.Balls.{IsBall}
+use Rattle.pi_effects.specs.declared.fault.Fault.{Fault}
+use Rattle.pi_effects.specs.declared.fault.Kind.{Kind as FaultKind}
 use Rattle.pi_meaning.specs.View.{View}
 use Rattle.pi_meaning.specs.Calls.{Called, called_by}
 use Rattle.pi_calls.proofs.RunLemmas.{terms-count}

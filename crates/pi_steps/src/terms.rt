@@ -10,7 +10,7 @@ use crate::calls::take_arguments;
 use pi_arenas::{Now, Point, Run};
 use pi_called::{take_called, unknown_name};
 use pi_code::{Code, Step};
-use pi_faults::{Fault, Kind, ball_of};
+use pi_effects::{Fault, Kind, ball_of};
 use pi_states::{Ref, StateStore};
 use std::alloc::AllocError;
 

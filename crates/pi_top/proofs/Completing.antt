@@ -1,6 +1,6 @@
 -- A run is complete where nothing fails.
 use Rattle.std.proofs.Common.{◌≡◌, ◌≢◌, ℕ, true, List, Option, inl, inr, refl, subst}
-use Rattle.pi_demo.specs.Demo.{demo_program}
+use Rattle.pi_top.specs.Demo.{demo_program}
 use Rattle.pi_outside.specs.Held.{Holding}
 use Rattle.pi_answers.specs.declared.log.LogEntry.{LogEntry}
 use Rattle.pi_top.specs.declared.outcome.QueryRun.{QueryRun}

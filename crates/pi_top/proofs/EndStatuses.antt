@@ -18,7 +18,7 @@ use Rattle.pi_top.specs.CutOff as cut
 use Rattle.pi_top.specs.Ends.{Ends, all_written, write_failed, memory_wanted, WritesMemory, all_of_it, front_of_it, AnswersBy, GivesStatus}
 use Rattle.pi_top.specs.Faults.{FaultCount, counted, Stands, Rises, TellsWrites}
 use Rattle.pi_top.specs.Handing.{HandsText}
-use Rattle.pi_demo.specs.Demo.{demo_program}
+use Rattle.pi_top.specs.Demo.{demo_program}
 use Rattle.pi_top.specs.Manner.{manner_of, goal_of}
 use Rattle.pi_top.specs.QueryEnd.{QueryEnd, Stopped, NoMore, No, Exception, StepsSpent, status_of}
 use Rattle.pi_top.specs.Statuses.{ComesText, ComesPrinted, ComesOf, ComesFile, ComesMade, ComesIn, ComesBy, memory_line}

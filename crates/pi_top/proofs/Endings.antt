@@ -23,7 +23,7 @@ use Rattle.pi_top.specs.Headline.{Headline}
 use Rattle.pi_top.specs.FaultLines.{of_program}
 use Rattle.pi_top.specs.Judged.{Refused}
 use Rattle.pi_top.specs.JudgedCode.{IsAsked, IsCanonical, IsFaulty}
-use Rattle.pi_demo.specs.Demo.{demo_program}
+use Rattle.pi_top.specs.Demo.{demo_program}
 use Rattle.pi_top.specs.Manner.{manner_of, goal_of}
 use Rattle.pi_top.specs.Reading.{ReadsText, FailsReading, StopsReading, nothing as nothing_read}
 use Rattle.pi_top.specs.Running.{HasRun, not_asked, was_asked}

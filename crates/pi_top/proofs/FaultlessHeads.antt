@@ -17,7 +17,7 @@ use Rattle.pi_clauses.specs.Verdict.{a_program, JudgedPart, refused, libraries, 
 use Rattle.pi_names.specs.NameLaws.{is_taken, HeadsAreFree}
 use Rattle.pi_names.proofs.TableLemmas.{same-name, one-of}
 use Rattle.pi_names.proofs.BuiltInNames.{other-names-are_free}
-use Rattle.pi_faultless.proofs.FaultlessParts.{AreGood, IsFaultless, faultless}
+use Rattle.pi_sound.proofs.FaultlessParts.{AreGood, IsFaultless, faultless}
 
 -- ---- forms are signs of the grammar
 

@@ -1,3 +1,4 @@
+mod EdgeLemmas
 pub mod AskedTexts
 pub mod Completing
 pub mod EndStatuses

@@ -17,7 +17,7 @@ use Rattle.pi_top.specs.Runs.{HasRan}
 use Rattle.pi_top.specs.Statuses.{IsLine, Written}
 use Rattle.pi_top.specs.Texts.{IsRead}
 use Rattle.pi_words.specs.Words.{options, places_of}
-use Rattle.pi_demo.specs.Demo.{demo_program}
+use Rattle.pi_top.specs.Demo.{demo_program}
 
 -- the words are those of a command line, neither text has a fault, and neither count of faults rose: that of the files, and that of the sink
 pub record NothingFails (words : List (List ℕ)) (asked : Options) (status : ℕ) (files sink : FaultCount) : Type 0 where

@@ -1,3 +1,4 @@
+pub mod Demo
 pub mod Completeness
 pub mod CutOff
 pub mod Ends

@@ -13,6 +13,7 @@ ghost use Rattle.pi_top.specs.Texts.{IsRead};
 ghost use Rattle.pi_words.specs.Words.{options, places_of};
 ghost use Rattle.pi_words.specs.declared.asked.Options.{Options};
 
+use crate::demo::demo_text;
 use crate::files::{FileStop, read_file};
 use crate::judgement::{Judged, judge};
 use crate::lines::{MEMORY, MODE_NOT_BUILT, READ_FAULT, USAGE, write_text};
@@ -20,7 +21,6 @@ use crate::manner::{Manner, goal_of};
 use crate::outcome::{Outcome, Queries};
 use crate::printing::print_text;
 use crate::query::{Stop, ended, run_query};
-use pi_demo::demo_text;
 use pi_outside::{Files, Sink, Source};
 use pi_terms::Series;
 use pi_words::{Options, RunMode, WordsFault, read_words};

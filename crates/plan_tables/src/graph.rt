@@ -1,7 +1,7 @@
 //! Graphs: what the bodies of a planner call come to at each state.
 
 use pi_cases::Case;
-use pi_plans::{Successor, Successors};
+use pi_plan::{Successor, Successors};
 use pi_print::term_text;
 use pi_terms::{Term, Text};
 

@@ -6,8 +6,8 @@ use crate::kinds::raw_store;
 use crate::stores::take_steps;
 use pi_arenas::Run;
 use pi_cases::{Case, Given, take_given, tell_domains};
+use pi_states::StoredDomains;
 use pi_steps::answer as answer_of;
-use pi_stored::StoredDomains;
 use pi_types::{NameSlot, NameSlots, TreeStore};
 
 /// Tells the domains of an answer over a `TreeStore`, and where they are others over a `RawStore`, those too.

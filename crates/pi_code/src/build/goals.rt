@@ -14,7 +14,7 @@ use super::{Builder, Shape, short};
 use crate::code::{Code, Node, Step};
 use pi_builtin::{function_named, predicate_named};
 use pi_core::{CoreGoal, GoalNode};
-use pi_named_goals::is_call;
+use pi_meaning::is_call;
 use pi_states::StateStore;
 use pi_terms::{Args, Term, Text};
 use std::alloc::AllocError;

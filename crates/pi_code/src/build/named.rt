@@ -16,7 +16,7 @@ use crate::callables::Callables;
 use crate::code::Code;
 use pi_builtin::predicate_names;
 use pi_core::CorePred;
-use pi_named_goals::goal_by_name;
+use pi_meaning::goal_by_name;
 use pi_states::{Cell, StateStore};
 use std::alloc::{AllocError, Global};
 

@@ -1,10 +1,10 @@
 //! What is kept of what a planner was given.
 ghost use Rattle.std.specs.Prelude.{◌≡◌, ◌<◌, ◌^◌, Some, slice_get, IfOk, pos};
-ghost use Rattle.pi_plans.specs.declared.given.GivenState.{GivenState};
+ghost use Rattle.pi_plan.specs.declared.given.GivenState.{GivenState};
 ghost use Rattle.pi_plan.specs.declared.search.Way.{Way};
 
+use crate::given::{GivenState, Successor, Successors};
 use crate::search::{Way, way_at};
-use pi_plans::{GivenState, Successor, Successors};
 use pi_terms::Series;
 use std::alloc::{AllocError, Global};
 

@@ -1,14 +1,14 @@
 //! From one stage of a planner to the next, and what is answered there.
 ghost use Rattle.std.specs.Prelude.{◌≡◌, ◌-◌, List, true, Some, length, slice_get, IfOk, OnErr, option_copied};
-ghost use Rattle.pi_plans.specs.declared.given.GivenState.{GivenState};
-ghost use Rattle.pi_plans.specs.Plan.{Wanted};
+ghost use Rattle.pi_plan.specs.declared.given.GivenState.{GivenState};
+ghost use Rattle.pi_plan.specs.Plan.{Wanted};
 ghost use Rattle.pi_plan.specs.Planner.{IsReady, IsAnswered, StageIs, MayLack, Tells};
 
 use super::entry::told_number;
 use super::{Ending, PlanStep, Stage};
 use crate::advance::{advance, plan_of, unfold};
+use crate::given::GivenState;
 use crate::search::{Search, Way, way_at};
-use pi_plans::GivenState;
 use pi_terms::Term;
 use std::alloc::{AllocError, Global};
 

@@ -1,6 +1,6 @@
 use Rattle.std.proofs.Common.{◌≡◌, Some, subst, codes}
 use Rattle.pi_effects.specs.BuiltIns.{built_in_function}
-use Rattle.pi_faults.specs.Results.{ShowsEffect}
+use Rattle.pi_effects.specs.Results.{ShowsEffect}
 use Rattle.pi_builtin.specs.Names.{one_name, two_name, function_name}
 use Rattle.pi_calls.proofs.FunctionCalls.{terms-one, terms-two, terms-three}
 use Rattle.pi_calls.proofs.FunctionBodies.{range-shown}

@@ -5,9 +5,9 @@ use Rattle.pi_states.specs.Store.{Stays}
 use Rattle.pi_effects.specs.Exception.{thrown}
 use Rattle.pi_effects.specs.Kinds.{holds_no_variable}
 use Rattle.pi_effects.specs.Texts.{text_before, line_feed, plain, quoted}
-use Rattle.pi_kinds.specs.Kinds.{passes}
-use Rattle.pi_faults.specs.declared.fault.Fault.{Fault}
-use Rattle.pi_faults.specs.declared.fault.Stop.{Stop}
+use Rattle.pi_builtin.specs.Kinds.{passes}
+use Rattle.pi_effects.specs.declared.fault.Fault.{Fault}
+use Rattle.pi_effects.specs.declared.fault.Stop.{Stop}
 use Rattle.pi_builtin.specs.declared.predicates.PredicateOfOne.{PredicateOfOne}
 use Rattle.pi_calls.proofs.PredicateBodies.{one-shown, test-shown, text-shown}
 use Rattle.pi_calls.proofs.predicates.call_of_one.Goals as goal

@@ -6,8 +6,8 @@ use Rattle.pi_unify.proofs.BindLemmas.{if_ok}
 use Rattle.pi_states.specs.Store.{Stays}
 use Rattle.pi_effects.specs.Answer.{integers_then}
 use Rattle.pi_effects.specs.Comparing.{value_order}
-use Rattle.pi_numbers.specs.Relations.{holds}
-use Rattle.pi_kinds.specs.Ordered.{is_ordered}
+use Rattle.pi_builtin.specs.Relations.{holds}
+use Rattle.pi_builtin.specs.Ordered.{is_ordered}
 use Rattle.pi_builtin.specs.declared.predicates.PredicateOfTwo.{PredicateOfTwo}
 use Rattle.pi_calls.proofs.PredicateBodies.{two-shown, test-shown, unify-shown}
 use Rattle.pi_calls.proofs.predicates.call_of_two.Goals as goal

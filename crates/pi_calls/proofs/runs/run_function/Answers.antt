@@ -1,5 +1,5 @@
 use Rattle.std.proofs.Common.{subst}
-use Rattle.pi_faults.specs.Results.{ShowsEffect}
+use Rattle.pi_effects.specs.Results.{ShowsEffect}
 use Rattle.pi_calls.proofs.RunLemmas.{function-done, value-raised}
 use Rattle.pi_calls.proofs.runs.run_function.Goals as goal
 

@@ -1,4 +1,4 @@
-use Rattle.pi_labelling.specs.Choices.{above}
+use Rattle.pi_settling.specs.Choices.{above}
 use Rattle.pi_label.proofs.ChoiceLemmas.{half-up, half-down, above-no-value}
 use Rattle.pi_label.proofs.alternatives.lower_half.Goals as goal
 

@@ -1,4 +1,4 @@
-use Rattle.pi_labelling.specs.Choices.{at_most}
+use Rattle.pi_settling.specs.Choices.{at_most}
 use Rattle.pi_label.proofs.ChoiceLemmas.{half-up, half-down, at-most-no-value}
 use Rattle.pi_label.proofs.alternatives.upper_half.Goals as goal
 

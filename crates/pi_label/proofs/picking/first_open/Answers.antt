@@ -1,6 +1,6 @@
 use Rattle.std.proofs.Common.{arith, ◌<◌, ◌≤◌, length}
 use Rattle.std.specs.Prelude.{None}
-use Rattle.pi_labelling.specs.Options.{forward}
+use Rattle.pi_settling.specs.Options.{forward}
 use Rattle.pi_label.proofs.PickLemmas.{picked-at_first, wide-here, closed-here, first-taken, passed, picked-at_last}
 use Rattle.pi_label.proofs.picking.first_open.Goals as goal
 

@@ -1,5 +1,5 @@
 use Rattle.std.specs.Prelude.{None}
-use Rattle.pi_labelling.specs.Options.{forward}
+use Rattle.pi_settling.specs.Options.{forward}
 use Rattle.pi_label.proofs.PickLemmas.{IsPickedFrom}
 use Rattle.pi_label.proofs.picking.first_open.Given as goal
 

@@ -1,6 +1,6 @@
 use Rattle.std.proofs.Common.{arith, ◌<◌, ◌≤◌, length, sym, subst, ◌+◌}
 use Rattle.std.specs.Prelude.{option_map}
-use Rattle.pi_labelling.specs.Options.{backward}
+use Rattle.pi_settling.specs.Options.{backward}
 use Rattle.pi_label.proofs.PickLemmas.{IsPickedFrom, open_at, picked-at_first, wide-here, closed-here, last-taken, passed, last-is}
 use Rattle.pi_label.proofs.picking.last_open.Goals as goal
 use Rattle.pi_label.proofs.picking.last_open.Goals.{then-is_open, else-is_open}

@@ -1,5 +1,5 @@
 use Rattle.std.specs.Prelude.{option_map}
-use Rattle.pi_labelling.specs.Options.{backward}
+use Rattle.pi_settling.specs.Options.{backward}
 use Rattle.pi_label.proofs.PickLemmas.{IsPickedFrom, open_at}
 use Rattle.pi_label.proofs.picking.last_open.Given as goal
 

@@ -1,5 +1,5 @@
 use Rattle.std.proofs.Common.{subst}
-use Rattle.pi_faults.specs.Results.{Shows}
+use Rattle.pi_effects.specs.Results.{Shows}
 use Rattle.pi_lists.specs.Items.{HasItems}
 use Rattle.pi_lists.proofs.CollectionLemmas.{array-given, no-array}
 use Rattle.pi_lists.proofs.collection.read_collection.Goals as goal

@@ -4,9 +4,9 @@ use Rattle.pi_effects.specs.Exception.{bad_index}
 use Rattle.pi_terms.specs.Tree.{Tree}
 use Rattle.pi_effects.specs.Answer.{Answer, or_raised}
 use Rattle.pi_effects.specs.Indexing.{item_at as numbered}
-use Rattle.pi_faults.specs.Results.{ShowsTerm}
-use Rattle.pi_faults.specs.declared.fault.Fault.{Fault}
-use Rattle.pi_faults.proofs.FaultLemmas.{integer-stops, integer-is}
+use Rattle.pi_effects.specs.Results.{ShowsTerm}
+use Rattle.pi_effects.specs.declared.fault.Fault.{Fault}
+use Rattle.pi_effects.proofs.FaultLemmas.{integer-stops, integer-is}
 use Rattle.pi_lists.proofs.CollectionLemmas.{index-stops, indexed-is, numbered-or}
 use Rattle.pi_lists.proofs.reading.item_at.Goals as goal
 

@@ -5,8 +5,8 @@ use Rattle.pi_terms.specs.Tree.{int}
 use Rattle.pi_effects.specs.Exception.{bad_index}
 use Rattle.pi_effects.specs.Answer.{or_raised}
 use Rattle.pi_effects.specs.Collections.{item_or_first_index}
-use Rattle.pi_faults.specs.Results.{ShowsTerm}
-use Rattle.pi_faults.specs.declared.fault.Fault.{Fault}
+use Rattle.pi_effects.specs.Results.{ShowsTerm}
+use Rattle.pi_effects.specs.declared.fault.Fault.{Fault}
 use Rattle.pi_lists.proofs.CollectionLemmas.{collection-is, last-is, item-or}
 use Rattle.pi_lists.proofs.reading.last.Goals as goal
 

@@ -1,7 +1,7 @@
 use Rattle.std.proofs.Common.{subst}
 use Rattle.pi_states.specs.State.{bindings}
 use Rattle.pi_effects.specs.Items.{list_items}
-use Rattle.pi_faults.specs.declared.fault.Kind.{Kind}
+use Rattle.pi_effects.specs.declared.fault.Kind.{Kind}
 use Rattle.pi_lists.specs.Items.{ShowsItems}
 use Rattle.pi_lists.proofs.WalkLemmas.{list-raised}
 use Rattle.pi_lists.proofs.walk.list_items.Goals as goal

@@ -1,7 +1,7 @@
 use Rattle.std.proofs.Common.{List, map, ap, ◌∙◌, Bor}
 use Rattle.std.specs.Prelude.{reverse}
 use Rattle.pi_terms.specs.Tree.{Tree}
-use Rattle.pi_plans.specs.Plan.{plan_term}
+use Rattle.pi_plan.specs.Plan.{plan_term}
 use Rattle.pi_plan.proofs.advance.plan_of.Goals as goal
 
 pub returns : goal.returns

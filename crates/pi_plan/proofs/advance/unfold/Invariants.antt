@@ -1,7 +1,7 @@
 use Rattle.std.proofs.Common.{◌≡◌, ◌-◌, List, Some, length, false}
 use Rattle.std.specs.Prelude.{slice_get}
-use Rattle.pi_plans.specs.declared.given.GivenState.{GivenState}
-use Rattle.pi_plans.specs.Plan.{Wanted}
+use Rattle.pi_plan.specs.declared.given.GivenState.{GivenState}
+use Rattle.pi_plan.specs.Plan.{Wanted}
 use Rattle.pi_plan.specs.Planner.{IsAnswered}
 use Rattle.pi_plan.proofs.AdvanceLemmas.{Unfolding}
 use Rattle.pi_plan.proofs.advance.unfold.Given as goal

@@ -2,7 +2,7 @@ use Rattle.std.proofs.Common.{◌≡◌, ◌-◌, ◌+◌, arith, length, map, L
 use Rattle.std.specs.Prelude.{reverse}
 use Rattle.pi_terms.specs.Tree.{Tree}
 use Rattle.pi_terms.specs.BareCells.{bare}
-use Rattle.pi_plans.specs.Plan.{plan_term}
+use Rattle.pi_plan.specs.Plan.{plan_term}
 use Rattle.pi_plan.proofs.WrittenLemmas.{list_step, list_done, item_at}
 use Rattle.pi_plan.proofs.written.list_of.Goals as goal
 

@@ -1,7 +1,7 @@
 use Rattle.std.proofs.Common.{rules, ◌≡◌, ◌≤◌, true, false, refl}
 use Rattle.std.proofs.lemmas.Result.{err_from_is_err_and}
 use Rattle.pi_queue.proofs.StoreLemmas.{keeps-itself, keeps-then}
-use Rattle.pi_propagation.specs.Runs.{work_of}
+use Rattle.pi_settling.specs.Runs.{work_of}
 use Rattle.pi_queue.proofs.EndLemmas.{none-counted, one-counted, begins, may-turn, goes-on, turn-by, failure-by, done, failed, spent, under-way, in-a-turn}
 use Rattle.pi_queue.proofs.propagation.run_all.Goals as goal
 

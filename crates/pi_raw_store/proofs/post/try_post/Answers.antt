@@ -3,7 +3,7 @@ use Rattle.pi_constraints.specs.Constraint.{SpeaksOf}
 use Rattle.pi_trail.specs.Image.{Image}
 use Rattle.pi_trail.specs.Back.{Advances}
 use Rattle.pi_trail.proofs.BackLemmas.{from_itself, through}
-use Rattle.pi_raw_constraints.specs.Table.{constraint_at}
+use Rattle.pi_raw_blocks.specs.ConstraintTable.{constraint_at}
 use Rattle.pi_raw_store.specs.Added.{IsPutOn}
 use Rattle.pi_raw_store.proofs.PostLemmas.{not_made}
 use Rattle.pi_raw_store.proofs.post.try_post.Goals as goal

@@ -1,6 +1,6 @@
 use Rattle.std.proofs.Common.{ℕ, sym, subst}
 use Rattle.std.proofs.lemmas.List.Sorted.{Contains-permutation, IsNonDecreasingBy-from_sort}
-use Rattle.pi_raw_lists.specs.Node.{IsListed}
+use Rattle.pi_raw_blocks.specs.Node.{IsListed}
 use Rattle.pi_raw_store.proofs.posted.numbers_on.Goals as goal
 
 pub returns-clause-ascend : goal.returns-clause-ascend

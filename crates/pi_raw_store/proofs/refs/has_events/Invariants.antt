@@ -1,6 +1,6 @@
 use Rattle.std.proofs.Common.{◌≡◌, Some, drop, slice_get}
 use Rattle.pi_terms.specs.ListNames.{cell_name}
-use Rattle.pi_raw_agents.specs.Table.{AreEventsIn}
+use Rattle.pi_raw_blocks.specs.AgentTable.{AreEventsIn}
 use Rattle.pi_raw_store.specs.Holding.{heap_of}
 use Rattle.pi_raw_store.proofs.refs.has_events.Given as goal
 

@@ -1,8 +1,8 @@
 use Rattle.std.proofs.Common.{ap, sym, subst}
 use Rattle.pi_postings.specs.Steps.{after}
 use Rattle.pi_postings.specs.Lists.{read_collection, read_each}
-use Rattle.pi_operand_reading.specs.Refs.{value_at}
-use Rattle.pi_operand_reading.specs.Frames.{AreThere}
+use Rattle.pi_reading.specs.Refs.{value_at}
+use Rattle.pi_reading.specs.OperandFrames.{AreThere}
 use Rattle.pi_reading.specs.Items.{values_at, ShowsEach}
 use Rattle.pi_reading.proofs.GoalLemmas.{refused-then}
 use Rattle.pi_reading.proofs.goals.listed.Goals as goal

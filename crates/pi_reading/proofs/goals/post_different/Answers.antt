@@ -1,5 +1,5 @@
 use Rattle.pi_constraints.specs.declared.constraint.Constraint.{Constraint}
-use Rattle.pi_operand_reading.specs.Refs.{value_at}
+use Rattle.pi_reading.specs.Refs.{value_at}
 use Rattle.pi_reading.proofs.GoalLemmas.{listed-posted, listed-refused}
 use Rattle.pi_reading.proofs.goals.post_different.Goals as goal
 

@@ -1,8 +1,8 @@
 -- The index, the list, the value and the items, each as it was read.
 use Rattle.std.proofs.Common.{sym, subst}
 use Rattle.pi_postings.specs.Lists.{read_each}
-use Rattle.pi_operand_reading.specs.Refs.{value_at}
-use Rattle.pi_operand_reading.specs.Frames.{AreThere}
+use Rattle.pi_reading.specs.Refs.{value_at}
+use Rattle.pi_reading.specs.OperandFrames.{AreThere}
 use Rattle.pi_reading.specs.Items.{values_at, ShowsEach}
 use Rattle.pi_reading.proofs.GoalLemmas.{index-refused, list-refused, value-refused, items-refused, element-posted}
 use Rattle.pi_reading.proofs.goals.post_element.Goals as goal

@@ -1,6 +1,6 @@
 use Rattle.pi_postings.specs.Relations.{posts_standing, read_relation}
-use Rattle.pi_operand_reading.specs.Refs.{operand_at}
-use Rattle.pi_relations.specs.Relations.{comparison_of, standing_of}
+use Rattle.pi_reading.specs.Refs.{operand_at}
+use Rattle.pi_reading.specs.Relations.{comparison_of, standing_of}
 use Rattle.pi_reading.proofs.GoalLemmas.{refused-then, reads-then}
 use Rattle.pi_reading.proofs.goals.post_relation.Goals as goal
 

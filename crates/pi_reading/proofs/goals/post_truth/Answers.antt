@@ -3,7 +3,7 @@ use Rattle.pi_constraints.specs.declared.constraint.Rel.{Rel}
 use Rattle.pi_postings.specs.Sums.{of_number, of_item, difference}
 use Rattle.pi_postings.specs.Relations.{posts_standing}
 use Rattle.pi_postings.specs.Truths.{read_truth}
-use Rattle.pi_truths.specs.Nodes.{boolean_at}
+use Rattle.pi_reading.specs.TruthNodes.{boolean_at}
 use Rattle.pi_reading.proofs.GoalLemmas.{refused-then, reads-then}
 use Rattle.pi_reading.proofs.goals.post_truth.Goals as goal
 

@@ -2,9 +2,9 @@
 use Rattle.std.proofs.Common.{ap}
 use Rattle.pi_postings.specs.Operands.{relates, is_so, all_different, all_distinct, element}
 use Rattle.pi_postings.specs.Postings.{read_goal}
-use Rattle.pi_operand_reading.specs.Refs.{value_at, operand_at}
-use Rattle.pi_relations.specs.Relations.{comparison_of}
-use Rattle.pi_truths.specs.Nodes.{boolean_at}
+use Rattle.pi_reading.specs.Refs.{value_at, operand_at}
+use Rattle.pi_reading.specs.Relations.{comparison_of}
+use Rattle.pi_reading.specs.TruthNodes.{boolean_at}
 use Rattle.pi_reading.proofs.GoalLemmas.{goal-as}
 use Rattle.pi_reading.proofs.goals.read_goal.Goals as goal
 

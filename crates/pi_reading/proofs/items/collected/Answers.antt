@@ -1,6 +1,6 @@
 use Rattle.std.specs.Prelude.{codes}
 use Rattle.pi_effects.specs.Exception.{type_error}
-use Rattle.pi_operand_reading.specs.Refs.{tree_of}
+use Rattle.pi_reading.specs.Refs.{tree_of}
 use Rattle.pi_reading.proofs.ItemLemmas.{collected-items, collected-none}
 use Rattle.pi_reading.proofs.items.collected.Goals as goal
 

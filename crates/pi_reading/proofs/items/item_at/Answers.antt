@@ -3,7 +3,7 @@ use Rattle.std.specs.Int.{w128}
 use Rattle.std.proofs.Common.{rules, subst, to_z, of_z}
 use Rattle.pi_constraints.specs.declared.constraint.Item.{Item}
 use Rattle.pi_finished.specs.Items.{IsJudged}
-use Rattle.pi_operand_reading.specs.Refs.{tree_of}
+use Rattle.pi_reading.specs.Refs.{tree_of}
 use Rattle.pi_reading.proofs.ItemLemmas.{variable-item, integer-item, atom-item, compound-item}
 use Rattle.pi_reading.proofs.items.item_at.Goals as goal
 

@@ -1,5 +1,5 @@
 -- A goal over items, or what the term is as a Boolean expression.
-use Rattle.pi_reading.proofs.NodeLemmas.{different-node, distinct-node, element-node, variable-node, number-node, relation-node, negation-node, joined-node, other-node}
+use Rattle.pi_reading.proofs.GoalNodes.{different-node, distinct-node, element-node, variable-node, number-node, relation-node, negation-node, joined-node, other-node}
 use Rattle.pi_reading.proofs.nodes.goal_node_at.Goals as goal
 
 pub returns-in-Different : goal.returns-in-Different

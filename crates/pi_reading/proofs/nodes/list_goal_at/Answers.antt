@@ -1,7 +1,7 @@
 -- By what the store shows at the root.
-use Rattle.pi_operand_reading.specs.Refs.{tree_of}
-use Rattle.pi_relations.proofs.LoopLemmas.{so-many, not-so-many}
-use Rattle.pi_reading.proofs.NodeLemmas.{variable-goal, integer-goal, atom-goal, one-goal, three-goal, other-goal}
+use Rattle.pi_reading.specs.Refs.{tree_of}
+use Rattle.pi_reading.proofs.LoopLemmas.{so-many, not-so-many}
+use Rattle.pi_reading.proofs.GoalNodes.{variable-goal, integer-goal, atom-goal, one-goal, three-goal, other-goal}
 use Rattle.pi_reading.proofs.nodes.list_goal_at.Goals as goal
 
 pub returns-in-Var : goal.returns-in-Var

@@ -1,8 +1,8 @@
 -- What the goal makes, judged behind all steps.
 use Rattle.std.proofs.Common.{arith, ◌∙◌, sym, subst}
 use Rattle.pi_postings.specs.Postings.{read_goal, nothing_made, posting_in}
-use Rattle.pi_operand_reading.proofs.RootLemmas.{there}
-use Rattle.pi_reading.specs.Nodes.{goal_at}
+use Rattle.pi_reading.proofs.RootLemmas.{there}
+use Rattle.pi_reading.specs.GoalNodes.{goal_at}
 use Rattle.pi_reading.specs.Faults.{Stops}
 use Rattle.pi_reading.proofs.GoalLemmas.{posting-as, finished-as, stops-as}
 use Rattle.pi_reading.proofs.reading.read_constraint.Goals as goal

@@ -5,7 +5,7 @@ use Rattle.pi_states.specs.Evaluation.{evaluated_all}
 use Rattle.pi_states.specs.State.{IsState}
 use Rattle.pi_states.specs.Store.{AreTerms}
 use Rattle.pi_effects.specs.BuiltIns.{built_in_function}
-use Rattle.pi_faults.specs.Results.{ShowsEffect}
+use Rattle.pi_effects.specs.Results.{ShowsEffect}
 use Rattle.pi_builtin.specs.Names.{function_name, function_arity}
 use Rattle.pi_code.specs.declared.code.Node.{Node}
 use Rattle.pi_code.specs.Code.{tables_of, operand_trees}

@@ -4,7 +4,7 @@ use Rattle.std.proofs.Common.{◌∙◌, ap, sym}
 use Rattle.pi_constraints.specs.declared.constraint.Rel.{Rel}
 use Rattle.pi_postings.specs.Sums.{Sum, of_variable, difference}
 use Rattle.pi_postings.specs.Steps.{linear}
-use Rattle.pi_sums.specs.Steps.{fits}
+use Rattle.pi_finished.specs.Steps.{fits}
 use Rattle.pi_finished.proofs.SideLemmas.{apart_refused}
 use Rattle.pi_finished.proofs.making.Making.define.Goals as goal
 

@@ -1,7 +1,7 @@
 use Rattle.std.proofs.Common.{◌≡◌, ◌<◌, ◌^◌, ◌∙◌, ◌∷◌, [], ◌++◌, ap, sym, subst, refl, List, Some, None, pos, arith}
 use Rattle.std.specs.Prelude.{slice_get}
-use Rattle.pi_plans.specs.declared.given.Successor.{Successor}
-use Rattle.pi_plans.specs.declared.given.GivenState.{GivenState}
+use Rattle.pi_plan.specs.declared.given.Successor.{Successor}
+use Rattle.pi_plan.specs.declared.given.GivenState.{GivenState}
 use Rattle.pi_plan.specs.declared.search.Way.{Way}
 use Rattle.pi_plan.specs.declared.planner.Stage.{Stage}
 use Rattle.pi_plan.specs.Faults.{first_fault}

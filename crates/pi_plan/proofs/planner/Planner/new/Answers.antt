@@ -2,7 +2,7 @@ use Rattle.std.proofs.Common.{◌≡◌, ◌<◌, ◌^◌, ◌∙◌, ap, sym, s
 use Rattle.std.specs.Prelude.{unsigned_abs}
 use Rattle.std.proofs.lemmas.Int.{to_z-of_z}
 use mir.Syntax.{w128}
-use Rattle.pi_plans.specs.declared.given.GivenState.{GivenState}
+use Rattle.pi_plan.specs.declared.given.GivenState.{GivenState}
 use Rattle.pi_plan.specs.Faults.{start_fault}
 use Rattle.pi_plan.specs.Planner.{IsReady}
 use Rattle.pi_plan.proofs.PlannerLemmas.{limit_bound}

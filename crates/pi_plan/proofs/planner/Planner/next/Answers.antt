@@ -1,6 +1,6 @@
 use Rattle.std.proofs.Common.{List, sym, subst}
-use Rattle.pi_plans.specs.declared.given.GivenState.{GivenState}
-use Rattle.pi_plans.specs.Plan.{Wanted}
+use Rattle.pi_plan.specs.declared.given.GivenState.{GivenState}
+use Rattle.pi_plan.specs.Plan.{Wanted}
 use Rattle.pi_plan.specs.Planner.{wanted_of, IsSoundAt, Says}
 use Rattle.pi_plan.proofs.StageLemmas.{NextAt, next_at, memory_repeats}
 use Rattle.pi_plan.proofs.planner.Planner.next.Goals as goal

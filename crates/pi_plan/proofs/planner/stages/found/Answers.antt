@@ -4,7 +4,7 @@ use Rattle.std.proofs.lemmas.Int.{to_z_pos}
 use mir.Val.{to_z, of_z}
 use mir.Syntax.{w128}
 use Rattle.pi_terms.proofs.OptionLemmas.{one-some}
-use Rattle.pi_plans.specs.Given.{over}
+use Rattle.pi_plan.specs.Given.{over}
 use Rattle.pi_plan.specs.declared.search.Way.{Way}
 use Rattle.pi_plan.specs.Ways.{AreWays}
 use Rattle.pi_plan.specs.Planner.{IsPlan}

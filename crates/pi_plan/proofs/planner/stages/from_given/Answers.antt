@@ -1,5 +1,5 @@
 use Rattle.std.proofs.Common.{◌≡◌, ap, sym, ◌∙◌}
-use Rattle.pi_plans.specs.declared.given.GivenState.{GivenState}
+use Rattle.pi_plan.specs.declared.given.GivenState.{GivenState}
 use Rattle.pi_plan.proofs.AdvanceLemmas.{entry_is}
 use Rattle.pi_plan.proofs.planner.stages.from_given.Goals as goal
 

@@ -1,6 +1,6 @@
 use Rattle.std.proofs.Common.{◌<◌, length, arith}
 use Rattle.std.proofs.lemmas.List.{length-map}
-use Rattle.pi_raw_constraints.specs.Table.{constraint_at}
+use Rattle.pi_raw_blocks.specs.ConstraintTable.{constraint_at}
 use Rattle.pi_raw_store.proofs.PostLemmas.{shows_constraint}
 use Rattle.pi_raw_store.proofs.store.RawStore.constraint.Goals as goal
 

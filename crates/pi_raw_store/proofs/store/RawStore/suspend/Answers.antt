@@ -1,5 +1,5 @@
 use Rattle.std.proofs.Common.{IsTrue, false, length, refl, sym, subst}
-use Rattle.pi_raw_agents.specs.Table.{AreEventsIn}
+use Rattle.pi_raw_blocks.specs.AgentTable.{AreEventsIn}
 use Rattle.pi_raw_store.specs.Holding.{heap_of}
 use Rattle.pi_raw_store.proofs.NameLemmas.{keeps_itself}
 use Rattle.pi_raw_store.proofs.KeepLemmas.{keeps_all}

@@ -1,5 +1,5 @@
 use Rattle.std.proofs.Common.{◌∙◌, ap}
-use Rattle.pi_raw_agents.specs.Agent.{watches_at}
+use Rattle.pi_raw_blocks.specs.Agent.{watches_at}
 use Rattle.pi_raw_store.proofs.SoundLemmas.{has_agents, ref_has_term}
 use Rattle.pi_raw_store.proofs.AgentLemmas.{shows_watches}
 use Rattle.pi_raw_store.proofs.store.RawStore.watches.Goals as goal

@@ -1,2 +1,0 @@
-pub mod DrainLemmas
-pub mod Examples

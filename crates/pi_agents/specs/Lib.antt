@@ -1,4 +1,0 @@
-pub mod Fire
-pub mod Drain
-pub mod Posting
-pub mod AgentLaws

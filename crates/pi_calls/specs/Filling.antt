@@ -1,0 +1,23 @@
+-- What the filling of a piece of a format writes, for the private functions of this crate.
+use Rattle.std.specs.Prelude.{◌≡◌, ℕ, List, [], ◌∷◌, ◌++◌, drop, Option, Some, None, Result, Ok, Err}
+use Rattle.pi_terms.specs.Tree.{Tree}
+use Rattle.pi_states.specs.Store.{StoreView, IsTerm}
+use Rattle.pi_states.specs.declared.store.Ref.{Ref}
+use Rattle.pi_effects.specs.Format.{Piece, filled_in, in_front}
+use Rattle.pi_effects.specs.declared.fault.Stop.{Stop}
+use Rattle.pi_effects.specs.Results.{Stops}
+
+-- the argument that comes next, of the terms that are left
+abbrev pub IsNext : {M : Type 0} → StoreView M → Option Ref → List Tree → Type 0
+IsNext v None us = us ≡ []
+IsNext v (Some r) us = (u : Tree) × (rest : List Tree) × IsTerm v r u × (us ≡ u ∷ rest)
+
+abbrev pub how_many : {A : Type 0} → Option A → ℕ
+how_many None = 0
+how_many (Some x) = 1
+
+-- a piece is filled in: what is written for it stands in front of what is behind, with so many arguments fewer; or it stops
+abbrev pub FillsPiece : {M : Type 0} → StoreView M → Tree → Piece → List Tree → List ℕ → List ℕ → Result ℕ Stop → Type 0
+FillsPiece v bad p us old new (Ok n) =
+    (text : List ℕ) × (new ≡ old ++ text) × ((ps : List Piece) → filled_in v.now.state bad (p ∷ ps) us ≡ in_front (Ok text) (filled_in v.now.state bad ps (drop n us)))
+FillsPiece v bad p us old new (Err stop) = (ps : List Piece) → Stops v stop (filled_in v.now.state bad (p ∷ ps) us)

@@ -1,3 +1,0 @@
-pub mod ValueLemmas
-pub mod WithinExamples
-pub mod PostedExamples

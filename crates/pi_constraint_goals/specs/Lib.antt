@@ -1,6 +1,0 @@
-pub mod Values
-pub mod ValueLaws
-pub mod RightSide
-pub mod Within
-pub mod Posted
-pub mod Read

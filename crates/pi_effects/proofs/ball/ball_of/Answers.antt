@@ -1,0 +1,15 @@
+use Rattle.std.proofs.Common.{◌∙◌, sym, subst}
+use Rattle.pi_effects.specs.Exception.{bad_format}
+use Rattle.pi_effects.specs.Balls.{IsBall}
+use Rattle.pi_effects.proofs.BallLemmas.{no-first, told-is}
+use Rattle.pi_effects.proofs.ball.ball_of.Goals as goal
+
+pub returns-in_ok-no_first-in-NoFirst : goal.returns-in_ok-no_first-in-NoFirst
+returns-in_ok-no_first-in-NoFirst g c = λ ball a is.
+    let v = g.S.StateStore.seen c.args.s.now in
+    c.in_ok-no_first-in-NoFirst.ensures ∙ sym (no-first v.now.state) ∙ sym (subst (λ f. IsBall v f ball) c.in-NoFirst.is is)
+
+pub returns-in_ok-exception-in-BadFormat : goal.returns-in_ok-exception-in-BadFormat
+returns-in_ok-exception-in-BadFormat g c = λ ball a is.
+    let v = g.S.StateStore.seen c.args.s.now in
+    told-is v c.in-BadFormat.term bad_format c.in_ok-exception-in-BadFormat.field-0 ball (λ t h. c.in_ok-exception-in-BadFormat.ensures t a h) (subst (λ f. IsBall v f ball) c.in-BadFormat.is is)

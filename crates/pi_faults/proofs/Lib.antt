@@ -1,2 +1,0 @@
-mod BallLemmas
-pub mod FaultLemmas

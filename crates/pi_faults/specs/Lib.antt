@@ -1,3 +1,0 @@
-pub mod Balls
-pub mod Reads
-pub mod Results

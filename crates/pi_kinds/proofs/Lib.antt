@@ -1,4 +1,0 @@
-mod KindLemmas
-mod ClosedLemmas
-mod EqualityLemmas
-mod NamingLemmas

@@ -1,7 +1,0 @@
-mod StoreLemmas
-mod PairLemmas
-mod RangeLemmas
-mod SizeLemmas
-mod ListLemmas
-mod GridLemmas
-mod CopyLemmas

@@ -1,3 +1,0 @@
-pub mod Refs
-pub mod Nodes
-pub mod Frames

@@ -1,6 +1,0 @@
-pub mod PlainLemmas
-pub mod ApartLemmas
-pub mod ResumedLemmas
-pub mod ChoiceLemmas
-pub mod Examples
-pub mod SimpleLemmas

@@ -1,3 +1,0 @@
-pub mod Ways
-pub mod Resumed
-pub mod PathLaws

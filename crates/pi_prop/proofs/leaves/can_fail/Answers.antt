@@ -1,0 +1,19 @@
+use Rattle.std.proofs.Common.{ℤ, IsTrue, ◌↔◌, pos, refl, subst, sym, ◌∙◌}
+use Rattle.std.specs.Int.{w128}
+use Rattle.std.proofs.lemmas.Bool.{false≢true}
+use Rattle.std.proofs.lemmas.Int.{to_z-of_z}
+use Rattle.pi_filters.specs.Reified.{LeavesValues, of_terms}
+use Rattle.pi_filters.specs.Sums.{OppositeKeeps}
+use Rattle.pi_prop.proofs.ReifiedLemmas.{none_can_be, some_can_be}
+use Rattle.pi_prop.proofs.leaves.can_fail.Goals as goal
+
+pub returns-then-not-have_values : goal.returns-then-not-have_values
+returns-then-not-have_values g c =
+    let ds = g.P.Places.domains c.args.places.now in
+    none_can_be (OppositeKeeps c.args.rel c.args.terms.now c.args.constant (of_terms ds)) ds (pos 0) _ refl (λ h. false≢true (sym c.if-not-have_values.true ∙ c.have_values.ensures.1 h))
+
+pub returns : goal.returns
+returns g c =
+    let ds = g.P.Places.domains c.args.places.now in
+    some_can_be (OppositeKeeps c.args.rel c.args.terms.now c.args.constant (of_terms ds)) ds (pos 0) _ (sym c.has.ensures ∙ c.if-not-has.false)
+    (subst (λ (z : ℤ). IsTrue c.leaves_opposite.result ↔ LeavesValues (OppositeKeeps c.args.rel c.args.terms.now z (of_terms ds)) (of_terms ds)) (to_z-of_z w128 c.args.constant c.ranges.constant) c.leaves_opposite.ensures)

@@ -1,0 +1,23 @@
+use Rattle.std.proofs.Common.{ℤ}
+use Rattle.std.specs.Int.{w128}
+use Rattle.std.proofs.lemmas.Int.{to_z-of_z}
+use Rattle.pi_constraints.specs.declared.constraint.Rel.{Rel}
+use Rattle.pi_filters.specs.Reified.{of_terms}
+use Rattle.pi_filters.specs.Sums.{SumKeeps}
+use Rattle.pi_prop.proofs.ReifiedLemmas.{same_rule}
+use Rattle.pi_prop.proofs.leaves.leaves_sum.Goals as goal
+
+pub returns-in-Equal : goal.returns-in-Equal
+returns-in-Equal g c =
+    let ds = of_terms (g.P.Places.domains c.args.places.now) in
+    same_rule _ (λ (q : Rel) (z : ℤ). SumKeeps q c.args.terms.now z ds) ds c.args.rel Rel.Equal c.args.constant _ c.in-Equal.is (to_z-of_z w128 c.args.constant c.ranges.constant) c.leaves_equal.ensures
+
+pub returns-in-Unequal : goal.returns-in-Unequal
+returns-in-Unequal g c =
+    let ds = of_terms (g.P.Places.domains c.args.places.now) in
+    same_rule _ (λ (q : Rel) (z : ℤ). SumKeeps q c.args.terms.now z ds) ds c.args.rel Rel.Unequal c.args.constant _ c.in-Unequal.is (to_z-of_z w128 c.args.constant c.ranges.constant) c.leaves_unequal.ensures
+
+pub returns-in-AtMost : goal.returns-in-AtMost
+returns-in-AtMost g c =
+    let ds = of_terms (g.P.Places.domains c.args.places.now) in
+    same_rule _ (λ (q : Rel) (z : ℤ). SumKeeps q c.args.terms.now z ds) ds c.args.rel Rel.AtMost c.args.constant _ c.in-AtMost.is (to_z-of_z w128 c.args.constant c.ranges.constant) c.leaves_at_most.ensures

@@ -1,5 +1,0 @@
-use Rattle.pi_propagation.proofs.BoundLemmas.{runs_are_bounded}
-use Rattle.pi_propagation.proofs.laws.runs.runs_are_bounded.Goals as goal
-
-pub returns : goal.returns
-returns c = runs_are_bounded

@@ -1,5 +1,0 @@
-use Rattle.pi_propagation.proofs.RunLemmas.{runs_keep_states}
-use Rattle.pi_propagation.proofs.laws.runs.runs_keep_states.Goals as goal
-
-pub returns : goal.returns
-returns c = runs_keep_states

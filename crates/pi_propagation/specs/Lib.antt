@@ -1,4 +1,0 @@
-pub mod Narrowed
-pub mod Run
-pub mod Runs
-pub mod PropagationLaws

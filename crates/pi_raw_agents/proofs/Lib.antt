@@ -1,4 +1,0 @@
-pub mod EventLemmas
-pub mod AgentLemmas
-pub mod RightLemmas
-pub mod TableLemmas

@@ -1,4 +1,0 @@
-pub mod ItemLemmas
-pub mod TermLemmas
-pub mod RoundLemmas
-pub mod TableLemmas

@@ -1,2 +1,0 @@
-pub mod DomainLemmas
-pub mod StandingLemmas

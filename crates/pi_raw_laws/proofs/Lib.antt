@@ -1,4 +1,0 @@
-pub mod PastLemmas
-pub mod RightLemmas
-pub mod KeptLemmas
-pub mod BoundLemmas

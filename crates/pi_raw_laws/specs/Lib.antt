@@ -1,4 +1,0 @@
-pub mod Past
-pub mod Right
-pub mod Kept
-pub mod Bound

@@ -1,0 +1,15 @@
+use Rattle.std.specs.Prelude.{◌≤◌}
+use Rattle.pi_states.specs.State.{IsState, next}
+use Rattle.pi_postings.specs.Steps.{Made}
+use Rattle.pi_postings.specs.Truths.{read_truth}
+use Rattle.pi_finished.specs.Making.{Shows}
+use Rattle.pi_reading.specs.Refs.{IsThere}
+use Rattle.pi_reading.specs.TruthNodes.{boolean_at}
+use Rattle.pi_reading.specs.TruthFrames.{IsTurn}
+use Rattle.pi_reading.proofs.truths.read.read_truth.Given as goal
+
+-- the turn and what waits come to the whole
+abbrev pub invariant-loop : goal.invariant-loop
+invariant-loop g l =
+    let w = (g.S.StateStore.seen l.s).now in
+    (m : Made) → IsState w.state → IsThere w l.fn.term → Shows l.fn.making m → next w.state ≤ m.unused → IsTurn w l.making l.turn l.frames.items (read_truth (boolean_at w l.fn.term) m)

@@ -1,4 +1,0 @@
-pub mod Rest
-pub mod RestLaws
-pub mod Written
-pub mod NameRestLaws

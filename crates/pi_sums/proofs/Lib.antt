@@ -1,7 +1,0 @@
-pub mod KeptLemmas
-pub mod TermLemmas
-pub mod FitLemmas
-pub mod AddLemmas
-pub mod JudgedLemmas
-pub mod SumLemmas
-pub mod WrittenLemmas

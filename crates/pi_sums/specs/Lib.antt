@@ -1,4 +1,0 @@
-pub mod Signed
-pub mod Kept
-pub mod Changes
-pub mod Steps

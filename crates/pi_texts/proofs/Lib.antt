@@ -1,6 +1,0 @@
-mod PieceLemmas
-mod WalkLemmas
-mod TextLemmas
-mod FormatLemmas
-mod FillLemmas
-mod ListLemmas

@@ -1,3 +1,0 @@
-pub mod NodeLemmas
-mod JoinedLemmas
-mod TurnLemmas
