@@ -30,8 +30,6 @@ impl<R: Print + Input + AllocGlobal, F: Files> Subjects<R> for Tables<F> {
             || store_tables::answer_words(subject, text, case)
             || value_tables::answer_words(subject, case)
             || value_tables::answer_outside(rt, &mut self.files, subject, case)
-            || filter_tables::answer_words(subject, case)
-            || plan_tables::answer_words(subject, case)
     }
 }
 

@@ -1,19 +1,24 @@
-//! Cases of domains, integers, regions and the outside.
+//! Cases of domains, integers, regions, filters, planners and the outside.
 #![tactic(auto)]
 
 mod domains;
+mod filters;
+mod graph;
 mod integers;
 mod outside;
+mod planners;
 mod regions;
 
 use pi_cases::Case;
 use pi_outside::Files;
 
-/// Answers a case of domains, integers or regions, and tells whether the subject is one of them.
+/// Answers a case of domains, integers, regions, filters or planners, and tells whether the subject is one of them.
 pub fn answer_words(subject: &str, case: &Case<'_>) -> bool {
     match subject {
         "domains" => domains::answer(case),
+        "filters" => filters::answer(case),
         "integers" => integers::answer(case),
+        "plans" => planners::answer(case),
         "regions" => regions::answer(case),
         _ => return false,
     }

@@ -1,7 +1,7 @@
 use Rattle.std.proofs.Common.{ap}
 use Rattle.std.specs.Prelude.{is_some}
-use Rattle.plan_tables.proofs.EndLemmas.{idle_at_end}
-use Rattle.plan_tables.proofs.planners.take_step.Goals as goal
+use Rattle.value_tables.proofs.EndLemmas.{idle_at_end}
+use Rattle.value_tables.proofs.planners.take_step.Goals as goal
 
 pub give-requires-clause-asked : goal.give-requires-clause-asked
 give-requires-clause-asked c = ap is_some c.in-Expand.ensures.leaves.2

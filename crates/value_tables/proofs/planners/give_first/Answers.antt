@@ -2,7 +2,7 @@ use Rattle.std.proofs.Common.{◌≡◌, sym, subst}
 use Rattle.std.specs.Prelude.{IsSome}
 use Rattle.pi_plan.specs.declared.planner.Planner.{Planner}
 use Rattle.pi_plan.specs.Planner.{IsSound, waits_for}
-use Rattle.plan_tables.proofs.planners.give_first.Goals as goal
+use Rattle.value_tables.proofs.planners.give_first.Goals as goal
 
 pub loop-entry-preserved : goal.loop-entry-preserved
 loop-entry-preserved c =

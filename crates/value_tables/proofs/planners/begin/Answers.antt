@@ -1,4 +1,4 @@
-use Rattle.plan_tables.proofs.planners.begin.Goals as goal
+use Rattle.value_tables.proofs.planners.begin.Goals as goal
 
 pub follow-requires-clause-idle : goal.follow-requires-clause-idle
 follow-requires-clause-idle c = c.in-Ok.ensures.begun.waits

@@ -1,6 +1,6 @@
 use Rattle.std.specs.Prelude.{IsSome}
 use Rattle.pi_plan.specs.Planner.{IsSound, waits_for}
-use Rattle.plan_tables.proofs.planners.give_first.Given as goal
+use Rattle.value_tables.proofs.planners.give_first.Given as goal
 
 abbrev pub invariant-loop-entry : goal.invariant-loop-entry
 invariant-loop-entry l = IsSound l.planner × IsSome (waits_for l.planner)
