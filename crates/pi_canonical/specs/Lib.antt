@@ -1,3 +1,5 @@
+pub mod Patterns
+pub mod Reread
 pub mod Signs
 pub mod Texts
 pub mod CanonicalExp

@@ -8,6 +8,7 @@ ghost use Rattle.pi_canonical.specs.Canonical.{canonical_text};
 mod clauses;
 mod declarations;
 mod expressions;
+pub mod laws;
 mod signs;
 mod texts;
 

@@ -19,7 +19,7 @@ use Rattle.pi_raw_blocks.specs.Events.{watched, watches_of}
 use Rattle.pi_raw_blocks.specs.Agent.{call_at, rule_at, watches_at}
 use Rattle.pi_raw_blocks.specs.AgentTable.{word_of, end_of, is_alive, AreEventsIn, EndsAgent, IsAgentIn}
 use Rattle.pi_raw_blocks.proofs.AgentTables.{in_grown, end_stays}
-use Rattle.pi_raw_names.specs.NameTable.{NameTable}
+use Rattle.pi_raw_terms.specs.NameTable.{NameTable}
 use Rattle.pi_raw_store.specs.Holding.{tree_of, heap_of, event_in, agent_at, agent_in, view_of}
 use Rattle.pi_raw_store.proofs.LookLemmas.{tree_is}
 use Rattle.pi_raw_store.proofs.TableLemmas.{get_mapped, mapped}

@@ -20,7 +20,7 @@ use Rattle.pi_raw_terms.proofs.RefLemmas.{form_stays}
 use Rattle.pi_raw_blocks.specs.Node.{IsListed}
 use Rattle.pi_raw_blocks.proofs.ListLemmas.{nothing_listed}
 use Rattle.pi_raw_terms.proofs.BoundLemmas.{no_data}
-use Rattle.pi_raw_names.specs.NameTable.{NameTable}
+use Rattle.pi_raw_terms.specs.NameTable.{NameTable}
 use Rattle.pi_raw_store.specs.Heads.{taken_in, list_end}
 use Rattle.pi_raw_store.specs.Walk.{bound_ref_by, variable_of, unless_bound_by, free_of_any, followed_at, free_at}
 use Rattle.pi_raw_store.specs.Holding.{tree_of, variable_by, variable_in, heap_of, view_of}

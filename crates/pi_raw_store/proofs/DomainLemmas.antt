@@ -24,7 +24,7 @@ use Rattle.pi_raw_blocks.proofs.BlockLemmas.{in_more, come_back, read_back}
 use Rattle.pi_raw_blocks.specs.Domain.{bounds_of, domain_in}
 use Rattle.pi_raw_blocks.proofs.DomainLemmas as domains
 use Rattle.pi_raw_blocks.proofs.ConstraintTables.{block_right}
-use Rattle.pi_raw_names.specs.NameTable.{NameTable}
+use Rattle.pi_raw_terms.specs.NameTable.{NameTable}
 use Rattle.pi_raw_store.specs.Heads.{taken_in}
 use Rattle.pi_raw_store.specs.Walk.{variable_of, followed_at, free_at}
 use Rattle.pi_raw_store.specs.Domains.{domain_at, domain_end, domain_by_end, domain_by, domain_of_any, domain_of, Confined}

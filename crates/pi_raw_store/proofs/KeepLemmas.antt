@@ -25,7 +25,7 @@ use Rattle.pi_raw_blocks.specs.Domain.{domain_in}
 use Rattle.pi_raw_terms.specs.Bound.{IsBoundIn}
 use Rattle.pi_raw_blocks.specs.ConstraintTable.{constraint_at, IsConstraintIn}
 use Rattle.pi_raw_blocks.proofs.ConstraintTables.{same_constraint}
-use Rattle.pi_raw_names.specs.NameTable.{NameTable, names_of}
+use Rattle.pi_raw_terms.specs.NameTable.{NameTable, names_of}
 use Rattle.pi_raw_store.specs.Heads.{taken_in}
 use Rattle.pi_raw_store.specs.declared.mark.RawMark.{RawMark}
 use Rattle.pi_raw_store.specs.Waiting.{activation_of, IsWaitingIn}

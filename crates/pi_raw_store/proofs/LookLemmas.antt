@@ -17,7 +17,7 @@ use Rattle.pi_raw_terms.specs.Heap.{Heap, Names, term_at, Shows}
 use Rattle.pi_raw_terms.specs.Look.{headed_cell}
 use Rattle.pi_raw_terms.proofs.LookLemmas.{shows_var, shows_int, shows_atom, shows_pair, shows_comp, no_data}
 use Rattle.pi_raw_terms.proofs.SpeakLemmas.{trees_speak_below}
-use Rattle.pi_raw_names.specs.NameTable.{NameTable, names_of}
+use Rattle.pi_raw_terms.specs.NameTable.{NameTable, names_of}
 use Rattle.pi_raw_store.specs.Walk.{bound_ref_by, bound_ref, binding_at, variable_of, binding_of_any, step_at, steps_at, followed_at}
 use Rattle.pi_raw_store.specs.Holding.{tree_of, unbound_at, variable_by, variable_in, state_of, view_of}
 use Rattle.pi_raw_store.specs.Bindings.{HasBound, bound_in}

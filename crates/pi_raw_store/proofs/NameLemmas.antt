@@ -4,8 +4,8 @@ use Rattle.std.proofs.Math.Path.{fun_ext}
 use Rattle.pi_trail.specs.Image.{Image}
 use Rattle.pi_raw_terms.specs.Heap.{Heap, Names}
 use Rattle.pi_raw_terms.specs.Past as past
-use Rattle.pi_raw_names.specs.NameTable.{NameTable, is_given, names_of}
-use Rattle.pi_raw_names.proofs.TableLemmas.{names_stay, given_by}
+use Rattle.pi_raw_terms.specs.NameTable.{NameTable, is_given, names_of}
+use Rattle.pi_raw_terms.proofs.NameTables.{names_stay, given_by}
 use Rattle.pi_raw_store.specs.Holding.{heap_of}
 use Rattle.pi_raw_store.specs.Changed.{KeepsNames}
 

@@ -18,7 +18,7 @@ use Rattle.pi_raw_blocks.specs.Constraint.{numbers_of, constraint_in}
 use Rattle.pi_raw_blocks.specs.ConstraintTable.{constraint_at}
 use Rattle.pi_raw_blocks.proofs.ConstraintTables.{block_right}
 use Rattle.pi_raw_blocks.proofs.RoundLemmas.{back}
-use Rattle.pi_raw_names.specs.NameTable.{NameTable}
+use Rattle.pi_raw_terms.specs.NameTable.{NameTable}
 use Rattle.pi_raw_store.specs.Heads.{taken_in}
 use Rattle.pi_raw_store.specs.Holding.{heap_of, state_of, view_of}
 use Rattle.pi_raw_store.specs.Lists.{Leads, IsOnList}

@@ -10,7 +10,7 @@ use Rattle.pi_trail.specs.Image.{Image}
 use Rattle.pi_trail.specs.Back.{at_length}
 use Rattle.pi_trail.specs.Changes.{noted, AscendFrom}
 use Rattle.pi_raw_terms.specs.Heap.{Heap}
-use Rattle.pi_raw_names.specs.NameTable.{NameTable}
+use Rattle.pi_raw_terms.specs.NameTable.{NameTable}
 use Rattle.pi_raw_store.specs.Walk.{bound_ref_by}
 use Rattle.pi_raw_store.specs.Domains.{domain_by}
 use Rattle.pi_raw_store.specs.Since.{IsChanged, Picks, AreSince}

@@ -28,7 +28,7 @@ use Rattle.pi_raw_blocks.proofs.ConstraintTables.{constraint_stays}
 use Rattle.pi_raw_blocks.specs.AgentTable.{IsAgentIn}
 use Rattle.pi_raw_blocks.proofs.AgentTables.{agent_stays}
 use Rattle.pi_atoms.specs.Names.{HasDistinct}
-use Rattle.pi_raw_names.specs.NameTable.{NameTable, names_of}
+use Rattle.pi_raw_terms.specs.NameTable.{NameTable, names_of}
 use Rattle.pi_raw_store.specs.Holding.{heap_of}
 use Rattle.pi_raw_store.specs.Waiting.{IsWaitingIn}
 use Rattle.pi_raw_store.specs.Heads.{taken_in}

@@ -19,7 +19,7 @@ use Rattle.pi_raw_terms.specs.Placed.{IsRefIn}
 use Rattle.pi_raw_terms.proofs.HeapLemmas.{trees_stay}
 use Rattle.pi_raw_terms.proofs.LookLemmas.{shows_var}
 use Rattle.pi_raw_terms.proofs.RefLemmas.{form_stays}
-use Rattle.pi_raw_names.specs.NameTable.{NameTable}
+use Rattle.pi_raw_terms.specs.NameTable.{NameTable}
 use Rattle.pi_raw_terms.proofs.BuiltLemmas.{keeps_then}
 use Rattle.pi_raw_store.specs.declared.mark.RawMark.{RawMark}
 use Rattle.pi_raw_store.specs.Read.{arity_of}

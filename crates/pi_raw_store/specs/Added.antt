@@ -10,7 +10,7 @@ use Rattle.pi_raw_blocks.specs.Block.{Writes}
 use Rattle.pi_raw_blocks.specs.Node.{IsListed}
 use Rattle.pi_raw_blocks.specs.Constraint.{numbers_of, constraint_in}
 use Rattle.pi_raw_blocks.specs.ConstraintTable.{constraint_at}
-use Rattle.pi_raw_names.specs.NameTable.{NameTable}
+use Rattle.pi_raw_terms.specs.NameTable.{NameTable}
 use Rattle.pi_raw_store.specs.Walk.{variable_of}
 use Rattle.pi_raw_store.specs.Heads.{taken_in}
 use Rattle.pi_raw_store.specs.Lists.{Leads, IsOnList}

@@ -15,7 +15,7 @@ use Rattle.pi_raw_blocks.specs.ConstraintTable.{constraint_at}
 use Rattle.pi_raw_store.specs.Domains.{domain_at}
 use Rattle.pi_raw_store.specs.Waiting.{activation_of}
 use Rattle.pi_raw_store.specs.Heads.{taken_in}
-use Rattle.pi_raw_names.specs.NameTable.{NameTable, names_of}
+use Rattle.pi_raw_terms.specs.NameTable.{NameTable, names_of}
 use Rattle.pi_raw_store.specs.declared.mark.RawMark.{RawMark}
 
 -- the names of atoms, and the words

@@ -10,7 +10,7 @@ use Rattle.pi_raw_terms.specs.Bound.{AreBound}
 use Rattle.pi_raw_terms.specs.Kept.{AreKept}
 use Rattle.pi_raw_blocks.specs.ConstraintTable.{IsConstraintIn}
 use Rattle.pi_raw_blocks.specs.AgentTable.{IsAgentIn}
-use Rattle.pi_raw_names.specs.NameTable.{NameTable, names_of}
+use Rattle.pi_raw_terms.specs.NameTable.{NameTable, names_of}
 use Rattle.pi_raw_store.specs.Waiting.{IsWaitingIn}
 use Rattle.pi_raw_store.specs.Heads.{taken_in}
 use Rattle.pi_raw_store.specs.Lists.{IsComplete}

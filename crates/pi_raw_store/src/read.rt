@@ -10,8 +10,8 @@ ghost use Rattle.pi_raw_store.specs.Bindings.{bound_in};
 ghost use Rattle.pi_raw_store.specs.Read.{entered_cell, arity_of, followed_words, Pushes, IsReadable, StopsAt};
 
 use crate::walk::followed;
-use pi_raw_names::RawNames;
 use pi_raw_terms as terms;
+use pi_raw_terms::RawNames;
 use pi_states::{Cell, ReadStop, Ref};
 use pi_terms::{Term, TermCell, Text};
 use pi_trail::Trailed;

@@ -27,8 +27,8 @@ use pi_raw_blocks::{
     add_agent, agent_call, agent_end, agent_rule, end_agent, is_alive, numbered_constraint,
     read_watches,
 };
-use pi_raw_names::RawNames;
 use pi_raw_terms as terms;
+use pi_raw_terms::RawNames;
 use pi_region::Words;
 use pi_states::{AgentView, Cell, Places, ReadStop, Ref, Watches};
 use pi_terms::Term;

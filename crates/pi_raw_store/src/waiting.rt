@@ -6,8 +6,8 @@ ghost use Rattle.pi_raw_store.specs.Waiting.{number_at, number_shown, ShowsArgum
 ghost use Rattle.pi_raw_store.specs.Holding.{heap_of, activation_in};
 
 use crate::read::{Reading, arity, read};
-use pi_raw_names::RawNames;
 use pi_raw_terms as terms;
+use pi_raw_terms::RawNames;
 use pi_states::{Activation, Cell, Ref};
 use pi_terms::Term;
 use pi_trail::Trailed;

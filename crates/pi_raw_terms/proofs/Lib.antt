@@ -1,3 +1,4 @@
+pub mod NameTables
 pub mod PastLemmas
 pub mod RightLemmas
 pub mod KeptLemmas

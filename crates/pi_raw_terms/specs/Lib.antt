@@ -1,3 +1,4 @@
+pub mod NameTable
 pub mod Past
 pub mod Right
 pub mod Kept

@@ -4,6 +4,7 @@ ghost use Rattle.pi_raw_terms.specs.Placed.{RefsHaveTrees, TreesAreRefs, RefsSta
 ghost use Rattle.pi_raw_terms.specs.Past.{HeapsGrow};
 ghost use Rattle.pi_raw_terms.specs.Right.{RightIsHistory, RightRefsHaveTrees, RightTreesAreRefs, RightByUndo, RightByWrites, RightByWord, RightByPush, RightByReplace, RightByNames};
 ghost use Rattle.pi_raw_terms.specs.Bound.{BoundHaveTrees, BoundAreRefs, BoundByUndo, BoundByWords, BoundByNew, BoundByPush, BoundByReplace, BoundByBinding, BoundByDomain, BoundByNames};
+ghost use Rattle.pi_raw_terms.specs.NameTable.{NamesStay};
 
 /// A Ref that has a tree has it still when there are more names, more variables and more words.
 pub fn trees_stay()
@@ -53,4 +54,9 @@ pub fn bindings_stay_right()
     ensures binding { BoundByBinding }
     ensures domain { BoundByDomain }
     ensures names { BoundByNames }
+{}
+
+/// What terms of a region may have as a name, those of a longer one may have.
+pub fn names_stay()
+    ensures { NamesStay }
 {}

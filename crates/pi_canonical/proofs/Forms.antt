@@ -1,0 +1,133 @@
+-- The canonical text of each form of expression, where its parts have theirs: names, numbers, calls, what stands in parentheses, and lists.
+use Rattle.std.proofs.Common.{◌≡◌, ℕ, suc, ◌+◌, ◌^◌, ◌<◌, ◌==◌, Bool, true, false, not, ◌&&◌, ◌||◌, ℤ, pos, negsuc, int_lt, ◌-ℤ◌, List, [], ◌∷◌, ◌++◌, map, Option, Some, None, length, refl, sym, ap, subst, codes, arith, IsUtf8, inl, inr, if◌then◌else◌, rules}
+use Rattle.std.proofs.lemmas.Bool.{cases_Bool, false≢true}
+use Rattle.std.proofs.lemmas.Bool.Decides.{nat_tests}
+use Rattle.std.specs.Fmt.{decimal}
+use Rattle.pi_canonical.specs.CanonicalExp.{exp_text, exp_texts, is_structure}
+use Rattle.pi_canonical.specs.Signs.{is_two_place, is_prefix_word, is_prefix_sign, is_sign}
+use Rattle.pi_canonical.specs.Texts.{between, in_parens, each_behind, parted, integer_text}
+use Rattle.pi_syntax.specs.ExpTree.{ExpTree, var, int, atom, str, list, list_onto, array, call, quote, index, range, range_by, at, collect, ExpTrees, no_exps, exp, one_exp}
+use Rattle.pi_syntax.specs.Signature.{exp_count}
+use Rattle.pi_syntax.specs.Terminals.{Terminal, terminal, sign_terminal, word_terminal, open_paren as open_paren_terminal, close_paren as close_paren_terminal, integer, minus}
+use Rattle.pi_syntax.specs.Grammar.{Reads, prim, unary, post, negated, call_one, call_two, indexed, Postfixes, no_postfix, an_index, postfixes, a_variable, a_pattern, an_integer, an_atom, a_call, a_text, no_list, a_list, a_list_onto, a_list_of, no_array, an_array, an_array_of, in_parens as parenthesized_exp, a_structure, a_term, last_unit, with_minus}
+use Rattle.pi_syntax.specs.Tokens.{Token, Sign, Var, Int, Atom, Str}
+use Rattle.pi_canonical.specs.Patterns.{is_index}
+use Rattle.pi_canonical.proofs.Says.{Says, says-at, says-nothing, says-then, Any, Stops, Begins, Dark, spaced, parenthesized}
+use Rattle.pi_canonical.proofs.Climb.{post_prim, unary_post, unary_up, unit_post, exp_unit, range_unit, stepped_unit}
+use Rattle.pi_canonical.proofs.SignForms.{TwoPlace, PrefixWord, PrefixSign}
+use Rattle.pi_canonical.proofs.SignTexts.{two_place, prefix_word, prefix_sign}
+use Rattle.pi_canonical.proofs.Punctuation.{stop_blank, stop_comma, stop_close_paren, stop_close_bracket, stop_close_brace, stop_open_paren, stop_open_bracket, stop_at, says-stops, blank, open_paren, close_paren, open_bracket, close_bracket, open_brace, close_brace, dollar, at_sign, minus_sign, bar_blank, colon_blank, dots_blank}
+use Rattle.pi_canonical.proofs.IntegerTokens.{says-natural, decimal_begins}
+use Rattle.pi_canonical.proofs.NameTexts.{IsVariableName, IsAtomName, OneToken, variable_text, atom_token_text, string_token_text}
+use Rattle.pi_canonical.proofs.Writes.{Writes, plain_writes, takes_places, name_of}
+use Rattle.pi_canonical.proofs.Sequences.{reads_unit, reads_exp, Items, last_item, more_items, Sequence, sequence, Each, none, some, InParens, in_parens_of}
+
+-- ---- what stands between brackets
+
+pub parens : {inner : List ℕ} {cs : List ℕ → List ℕ} {ts : List Token → List Token} → Says inner cs ts Stops
+    → Says (in_parens inner) (λ m. 40 ∷ cs (41 ∷ m)) (λ u. Sign (codes "(") ∷ ts (Sign (codes ")") ∷ u)) Stops
+parens s = says-then open_paren (says-then s (says-stops close_paren) (λ more h. stop_close_paren more)) (λ more h. tt)
+
+pub brackets : {inner : List ℕ} {cs : List ℕ → List ℕ} {ts : List Token → List Token} → Says inner cs ts Stops
+    → Says (between (codes "[") inner (codes "]")) (λ m. 91 ∷ cs (93 ∷ m)) (λ u. Sign (codes "[") ∷ ts (Sign (codes "]") ∷ u)) Stops
+brackets s = says-then open_bracket (says-then s (says-stops close_bracket) (λ more h. stop_close_bracket more)) (λ more h. tt)
+
+pub braces : {inner : List ℕ} {cs : List ℕ → List ℕ} {ts : List Token → List Token} → Says inner cs ts Stops
+    → Says (between (codes "{") inner (codes "}")) (λ m. 123 ∷ cs (125 ∷ m)) (λ u. Sign (codes "{") ∷ ts (Sign (codes "}") ∷ u)) Stops
+braces s = says-then open_brace (says-then s (says-stops close_brace) (λ more h. stop_close_brace more)) (λ more h. tt)
+
+pub begins_paren : (more : List ℕ) → Begins (40 ∷ more)
+begins_paren more = record { white = refl; less = refl; equal = refl; greater = refl }
+
+pub begins_bracket : (more : List ℕ) → Begins (91 ∷ more)
+begins_bracket more = record { white = refl; less = refl; equal = refl; greater = refl }
+
+pub begins_brace : (more : List ℕ) → Begins (123 ∷ more)
+begins_brace more = record { white = refl; less = refl; equal = refl; greater = refl }
+
+pub begins_dollar : (more : List ℕ) → Begins (36 ∷ more)
+begins_dollar more = record { white = refl; less = refl; equal = refl; greater = refl }
+
+-- ---- names, numbers and texts
+
+pub writes_variable : (name : List ℕ) → IsVariableName name → Writes (var name)
+unfolding exp_text sign_terminal
+writes_variable name is =
+    let t = variable_text name is in
+    record {
+      cs = t.cs;
+      ts = λ u. Var name ∷ u;
+      says = t.says;
+      begins = t.begins;
+      as_post = λ us. post_prim a_variable;
+      as_prim = λ no us. a_variable;
+      indexes = λ takes us f out more. postfixes a_variable more;
+      structure = λ is us. absurd (false≢true is);
+      head = λ n is us. absurd (none_some is);
+    }
+  where
+    none_some : {n : List ℕ} → ◌≡◌ {A = Option (List ℕ)} None (Some n) → ⊥
+    none_some e = cc
+
+pub writes_at : (name : List ℕ) {e : ExpTree} → IsVariableName name → Writes e → is_index e ≡ false → Writes (at name e)
+unfolding exp_text sign_terminal
+writes_at name {e} is w no_index =
+    let t = variable_text name is in
+    plain_writes refl refl refl refl (says-then t.says (says-then at_sign w.says (λ more h. w.begins more)) (λ more h. stop_at _)) (λ more. t.begins _)
+    (λ us. a_pattern (w.as_prim no_index us))
+
+not_below : (n : ℕ) → int_lt (pos n) (pos 0) ≡ false
+not_below n = grind (arith, nat_tests)
+
+natural_text : (n : ℕ) → exp_text (int (pos n)) ≡ decimal n
+unfolding exp_text integer_text
+natural_text n = rw (not_below n) refl
+
+pub writes_natural : (n : ℕ) → n < 2 ^ 127 → Writes (int (pos n))
+writes_natural n fits = plain_writes refl refl refl refl (says-at (natural_text n) (says-natural n fits)) (λ more. decimal_begins n more) (λ us. an_integer)
+
+-- what stands below 0
+pub below_zero : (n : ℕ) → pos 0 -ℤ pos (suc n) ≡ negsuc n
+below_zero n = search rules
+
+minus_natural : (n : ℕ) (us : List Token) → Reads prim (map terminal (Sign (codes "(") ∷ Sign (codes "-") ∷ Int (pos (suc n)) ∷ Sign (codes ")") ∷ us)) (int (negsuc n)) (map terminal us)
+unfolding sign_terminal
+minus_natural n us =
+    let rest : List Terminal = close_paren_terminal ∷ map terminal us in
+    let same : (length rest == length rest) ≡ true = grind arith in
+    let read : (b : Bool) → Type 0 = λ b. Reads unary (minus ∷ integer (pos (suc n)) ∷ rest) (negated (if b then Some (pos (suc n)) else None) (int (pos (suc n)))) rest in
+    subst (λ (z : ℤ). Reads prim (open_paren_terminal ∷ minus ∷ integer (pos (suc n)) ∷ rest) (int z) (map terminal us)) (below_zero n) (parenthesized_exp (exp_unit (unary_up (subst read same (with_minus (unary_post (post_prim an_integer)))))))
+
+negative_text : (n : ℕ) → exp_text (int (negsuc n)) ≡ in_parens (codes "-" ++ decimal (suc n))
+unfolding exp_text integer_text
+negative_text n = refl
+
+pub writes_negative : (n : ℕ) → suc n < 2 ^ 127 → Writes (int (negsuc n))
+writes_negative n fits =
+    let digits = says-natural (suc n) fits in
+    plain_writes refl refl refl refl (says-at (negative_text n) (parens (says-then minus_sign digits (λ more h. decimal_begins (suc n) more)))) (λ more. begins_paren _) (λ us. minus_natural n us)
+
+pub writes_atom : (name : List ℕ) → IsAtomName name → Writes (atom name)
+unfolding exp_text
+writes_atom name is =
+    let t = atom_token_text name is in
+    record {
+      cs = t.cs;
+      ts = λ u. Atom name ∷ u;
+      says = t.says;
+      begins = t.begins;
+      as_post = λ us. post_prim an_atom;
+      as_prim = λ no us. an_atom;
+      indexes = λ takes us f out more. absurd (false≢true takes);
+      structure = λ is us. absurd (false≢true is);
+      head = λ n is us. (us, same_name n us is);
+    }
+  where
+    same_name : (n : List ℕ) (us : List Token) → ◌≡◌ {A = Option (List ℕ)} (Some name) (Some n) → ◌≡◌ {A = List Token} (Atom name ∷ us) (Atom n ∷ us)
+    same_name n us e = cc
+
+pub writes_text : (text : List ℕ) → IsUtf8 text → Writes (str text)
+unfolding exp_text
+writes_text text utf8 =
+    let t = string_token_text text utf8 in
+    plain_writes refl refl refl refl t.says t.begins (λ us. a_text)
