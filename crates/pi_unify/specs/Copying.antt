@@ -1,5 +1,5 @@
 -- New variables of a state, and terms that are put into a store from their last node to their first.
-use Rattle.std.specs.Prelude.{◌≡◌, ℕ, zero, suc, ◌+◌, ◌-◌, ◌<◌, ◌≤◌, List, [], ◌∷◌, ◌++◌, length, map, reverse, Contains, Option, Some, None, Result, Ok, Err}
+use Rattle.std.specs.Prelude.{◌≡◌, ℕ, zero, suc, ◌+◌, ◌-◌, ◌<◌, ◌≤◌, List, [], ◌∷◌, ◌++◌, length, map, reverse, Contains, Bool, true, false, Option, Some, None, Result, Ok, Err}
 use Rattle.pi_terms.specs.Tree.{Tree, var, int, atom, comp, Trees, no_trees, tree, tree_count, args, arity, drop_trees, cells, subterms, subterms_all, most_cells}
 use Rattle.pi_terms.specs.TermCells.{take_trees}
 use Rattle.pi_terms.specs.Variables.{firsts, variables}
@@ -71,9 +71,16 @@ pub record ListsNodes {M : Type 0} (v : StoreView M) (w : Tree) (nodes : Nodes) 
   pub numbers : nodes.numbers ≡ variables w
   pub few : cells w ≤ most_cells
 
-abbrev pub ShowsNodes : {M : Type 0} → StoreView M → Tree → Option Nodes → Type 0
-ShowsNodes v w None = most_cells < cells w
-ShowsNodes v w (Some nodes) = ListsNodes v w nodes
+-- whether they are listed, or are too many
+abbrev pub ShowsNodes : {M : Type 0} → StoreView M → Tree → Nodes → Bool → Type 0
+ShowsNodes v w nodes false = most_cells < cells w
+ShowsNodes v w nodes true = ListsNodes v w nodes
+
+-- nothing is listed, and nothing left to be listed
+pub record HasNone (nodes : Nodes) : Type 0 where
+  pub refs : nodes.refs.items ≡ []
+  pub numbers : nodes.numbers ≡ []
+  pub left : nodes.left.items ≡ []
 
 abbrev pub noted_cell : List ℕ → Cell → List ℕ
 noted_cell ns (Cell.Var n) = noted ns n

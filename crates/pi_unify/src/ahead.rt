@@ -15,12 +15,22 @@ use pi_states::{Ref, StateStore};
 use std::alloc::AllocError;
 
 /// The arguments of a compound, or of two that have as many, from one number on. At least one is left.
-#[derive(Clone, Copy)]
 pub struct Rest<T> {
     of: T,
     next: u64,
     count: u64,
 }
+
+// By hand, since what is derived for a generic type is proved field by field.
+impl<T: Copy> Clone for Rest<T> {
+    ghost is_clone = { λ rest copied. copied ≡ rest };
+
+    fn clone(&self) -> Result<Rest<T>, AllocError> {
+        Ok(*self)
+    }
+}
+
+impl<T: Copy> Copy for Rest<T> {}
 
 /// Two terms of a store.
 #[derive(Clone, Copy)]

@@ -1,13 +1,13 @@
 //! Copies of terms of a store.
-ghost use Rattle.std.specs.Prelude.{◌≡◌, ◌<◌, ◌+◌, IfOk, IfSome, length};
-ghost use Rattle.pi_terms.specs.Tree.{Tree, Trees, args, arity, tree, no_trees};
+ghost use Rattle.std.specs.Prelude.{◌≡◌, ◌<◌, ◌+◌, ℕ, List, true, IfOk, length};
+ghost use Rattle.pi_terms.specs.Tree.{Tree, Trees, atom, comp, args, arity, tree, no_trees, drop_trees};
 ghost use Rattle.pi_terms.specs.TermCells.{take_trees};
 ghost use Rattle.pi_states.specs.Value.{value};
 ghost use Rattle.pi_terms.specs.Copy.{renamed};
 ghost use Rattle.pi_states.specs.State.{bindings};
-ghost use Rattle.pi_states.specs.Store.{IsTerm, Stays};
+ghost use Rattle.pi_states.specs.Store.{IsTerm, IsName, Stays};
 ghost use Rattle.pi_unify.specs.Terms.{IsGiven, HoldsNoCycle, value_of};
-ghost use Rattle.pi_unify.specs.Copying.{ShowsNodes, Listing, GoesOnListing, noted_cell, MakesSome, ShowsCopy, values_of, forest, renumbered, AreListed, MayCopy, PutsCopy, AreBuilt};
+ghost use Rattle.pi_unify.specs.Copying.{HasNone, ShowsNodes, Listing, GoesOnListing, noted_cell, MakesSome, ShowsCopy, values_of, forest, renumbered, AreListed, MayCopy, PutsCopy, AreBuilt};
 
 use crate::ahead::{Rest, leave_all, next_term};
 use crate::building::put_compound;
@@ -36,39 +36,54 @@ pub fn copy_term<S: StateStore>(alloc: Global, s: &mut S, r: Ref) -> Result<Ref,
     ensures makes { MakesSome (S.seen s.old) (S.seen s.new) }
     ensures copies { (t : Tree) → IsTerm (S.seen s.old) r t → HoldsNoCycle (S.seen s.old) → ShowsCopy (S.seen s.old) (S.seen s.new) (value (bindings (S.seen s.old).now.state) t) result }
 {
-    let mut nodes = match nodes_of(alloc, s, r) {
-        Ok(Some(nodes)) => nodes,
-        Ok(None) => return Err(ReadStop::TooLarge),
-        Err(AllocError) => return Err(ReadStop::Memory),
+    let mut nodes = Nodes {
+        refs: Vec::new(alloc),
+        numbers: Numbers::new(alloc),
+        left: Vec::new(alloc),
     };
-    match make_variables(s, nodes.numbers.len()) {
-        Ok(()) => {}
-        Err(AllocError) => return Err(ReadStop::Memory),
+    let copied = copy_by_nodes(alloc, s, r, &mut nodes);
+    drop(nodes);
+    copied
+}
+
+/// Copies a term by the terms in it, which are listed first. None was listed before.
+fn copy_by_nodes<S: StateStore>(
+    alloc: Global,
+    s: &mut S,
+    r: Ref,
+    nodes: &mut Nodes,
+) -> Result<Ref, ReadStop>
+    ensures makes { MakesSome (S.seen s.old) (S.seen s.new) }
+    ensures copies { (t : Tree) → HasNone nodes.old → IsTerm (S.seen s.old) r t → HoldsNoCycle (S.seen s.old) → ShowsCopy (S.seen s.old) (S.seen s.new) (value (bindings (S.seen s.old).now.state) t) result }
+{
+    let Ok(are_listed) = list_nodes(s, r, nodes) else {
+        return Err(ReadStop::Memory);
+    };
+    if !are_listed {
+        return Err(ReadStop::TooLarge);
     }
+    let Ok(()) = make_variables(s, nodes.numbers.len()) else {
+        return Err(ReadStop::Memory);
+    };
     match put_copies(alloc, s, &nodes.refs, &mut nodes.numbers) {
         Ok(made) => Ok(made),
         Err(AllocError) => Err(ReadStop::Memory),
     }
 }
 
-/// The terms in a value; None exactly where it has more than 16,777,216 cells.
-fn nodes_of<S: StateStore>(alloc: Global, s: &S, r: Ref) -> Result<Option<Nodes>, AllocError>
-    ensures some { IfOk result (λ found. IfSome found (λ nodes. 0 < length nodes.refs.items)) }
-    ensures shows { IfOk result (λ found. IsGiven (S.seen s.now) r → HoldsNoCycle (S.seen s.now) → ShowsNodes (S.seen s.now) (value_of (S.seen s.now) r) found) }
+/// Lists the terms in a value, where none was listed before; false exactly where it has more than 16,777,216 cells.
+fn list_nodes<S: StateStore>(s: &S, r: Ref, nodes: &mut Nodes) -> Result<bool, AllocError>
+    ensures some { IfOk result (λ are_listed. are_listed ≡ true → 0 < length nodes.new.refs.items) }
+    ensures shows { IfOk result (λ are_listed. HasNone nodes.old → IsGiven (S.seen s.now) r → HoldsNoCycle (S.seen s.now) → ShowsNodes (S.seen s.now) (value_of (S.seen s.now) r) nodes.new are_listed) }
 {
-    let mut nodes = Nodes {
-        refs: Vec::new(alloc),
-        numbers: Numbers::new(alloc),
-        left: Vec::new(alloc),
-    };
     let mut at = r;
     loop {
         if nodes.refs.len() >= MOST_CELLS {
-            return Ok(None);
+            return Ok(false);
         }
-        match list_node(s, at, &mut nodes)? {
+        match list_node(s, at, nodes)? {
             Some(next) => at = next,
-            None => return Ok(Some(nodes)),
+            None => return Ok(true),
         }
     }
 }
@@ -135,18 +150,39 @@ fn put_copy<S: StateStore>(
             numbers.meet(n)?;
             Ok(new_variable(s, numbers, n))
         }
-        Cell::Int(n) => Ok(s.put_int(n)?),
-        Cell::Atom(k) => {
-            let name = Text::new(alloc, s.name(k))?;
-            Ok(s.put_atom(name.as_str())?)
-        }
+        Cell::Int(n) => s.put_int(n),
+        Cell::Atom(k) => copy_atom(alloc, s, k),
         Cell::Comp(k, count) => {
             if s.is_ground(node) {
                 built.truncate(built.len().saturating_sub(count as usize));
                 return Ok(node);
             }
-            let name = Text::new(alloc, s.name(k))?;
-            Ok(put_compound(alloc, s, name.as_str(), count as usize, built)?)
+            copy_compound(alloc, s, k, count, built)
         }
     }
+}
+
+/// Puts the atom with this number.
+fn copy_atom<S: StateStore>(alloc: Global, s: &mut S, k: u64) -> Result<Ref, AllocError>
+    ensures stays { Stays (S.seen s.old) (S.seen s.new) }
+    ensures ok { IfOk result (λ made. (name : List ℕ) → IsName (S.seen s.old) k name → IsTerm (S.seen s.new) made (atom name)) }
+{
+    let name = Text::new(alloc, s.name(k))?;
+    s.put_atom(name.as_str())
+}
+
+/// Puts a compound whose name has this number and whose arguments were put last, the first one last of all. It takes them
+/// off.
+fn copy_compound<S: StateStore>(
+    alloc: Global,
+    s: &mut S,
+    k: u64,
+    count: u64,
+    built: &mut Vec<Ref>,
+) -> Result<Ref, AllocError>
+    ensures stays { Stays (S.seen s.old) (S.seen s.new) }
+    ensures ok { IfOk result (λ made. (name : List ℕ) (ts : Trees) → IsName (S.seen s.old) k name → AreBuilt (S.seen s.old) built.old.items ts → IsTerm (S.seen s.new) made (comp name (take_trees count ts)) × AreBuilt (S.seen s.new) built.new.items (drop_trees count ts)) }
+{
+    let name = Text::new(alloc, s.name(k))?;
+    put_compound(alloc, s, name.as_str(), count as usize, built)
 }

@@ -85,6 +85,5 @@ fn domain_of<S: StateStore>(alloc: Global, store: &S, n: u64) -> Result<Option<D
     if n >= store.vars() {
         return Ok(None);
     }
-    let found = store.domain(alloc, store.var_ref(n))?;
-    Ok(found)
+    store.domain(alloc, store.var_ref(n))
 }

@@ -20,8 +20,24 @@ pub fn place<S: StateStore>(alloc: Global, s: &mut S, t: &Term) -> Result<Ref, A
     ensures err { OnErr result (MakesSome (S.seen s.old) (S.seen s.new)) }
 {
     let numbers = numbers_of(alloc, t)?;
+    let placed = place_with(alloc, s, t, &numbers);
+    drop(numbers);
+    placed
+}
+
+/// The same, once the term's variables are known.
+fn place_with<S: StateStore>(
+    alloc: Global,
+    s: &mut S,
+    t: &Term,
+    numbers: &Numbers,
+) -> Result<Ref, AllocError>
+    requires { numbers.now ≡ variables t.now }
+    ensures ok { IfOk result (λ made. Gives (S.seen s.old) (S.seen s.new) (with_variables (new_variables t.now) (S.seen s.old).now.state) made (copy (next (S.seen s.old).now.state) t.now)) }
+    ensures err { OnErr result (MakesSome (S.seen s.old) (S.seen s.new)) }
+{
     make_variables(s, numbers.len())?;
-    put_nodes(alloc, s, t, &numbers)
+    put_nodes(alloc, s, t, numbers)
 }
 
 /// Puts the nodes of a term from the last to the first, where the newest variables stand for its own, in order.
@@ -74,8 +90,8 @@ fn put_node<S: StateStore>(
 {
     match head {
         TermHead::Var(n) => Ok(new_variable(s, numbers, n)),
-        TermHead::Int(n) => Ok(s.put_int(n)?),
-        TermHead::Atom(name) => Ok(s.put_atom(name)?),
+        TermHead::Int(n) => s.put_int(n),
+        TermHead::Atom(name) => s.put_atom(name),
         TermHead::Comp(name, count) => put_compound(alloc, s, name, count, built),
     }
 }

@@ -1,6 +1,7 @@
 use Rattle.std.proofs.Common.{◌≡◌, ℕ, ◌+◌, ◌≤◌, List, length, Some, ap, sym, ◌∙◌, subst, rules, arith}
 use Rattle.std.specs.Prelude.{Contains}
-use Rattle.pi_terms.specs.Tree.{var, int, atom, comp, args, arity}
+use Rattle.std.proofs.lemmas.Result.{IfOk-weaker}
+use Rattle.pi_terms.specs.Tree.{var, int, arity}
 use Rattle.pi_terms.specs.Variables.{IsGround}
 use Rattle.pi_states.specs.State.{next}
 use Rattle.pi_states.specs.Store.{IsTerm, ShowsCell}
@@ -44,32 +45,33 @@ returns-in_ok-meet-in-Var-clause-ok g c = λ ts may put front.
     subst (λ (ms : List ℕ). length ms ≤ next v.now.state → IsTerm v c.new_variable.result (var (renumbered v.now.state ms n))) known c.new_variable.ensures may.made in
     copies_variable v (renumbered v.now.state ns) (value_of v c.args.node) n c.args.built.now.items c.new_variable.result ts here term put
 
-pub returns-in_ok-put_int-in-Int-clause-ok : goal.returns-in_ok-put_int-in-Int-clause-ok
-returns-in_ok-put_int-in-Int-clause-ok g c = λ ts may put front.
+pub returns-in-Int-clause-ok : goal.returns-in-Int-clause-ok
+returns-in-Int-clause-ok g c =
     let v = g.S.StateStore.seen c.args.s.now in
     let w = g.S.StateStore.seen c.put_int.new.self in
-    let made = c.in_ok-put_int-in-Int.field-0 in
-    let term : IsTerm w made (int c.in-Int.n) = c.in_ok-put_int-in-Int.ensures.ok.term ∙ ap (λ z. Some (int z)) (search rules) in
-    copies_integer v w (renumbered v.now.state c.args.numbers.now) (value_of v c.args.node) c.in-Int.n c.args.built.now.items made ts
-    (shown v c.args.node (Cell.Int c.in-Int.n) may.acyclic may.given c.in-Int.ensures.shows) c.in_ok-put_int-in-Int.ensures.ok.changes.keeps term put
+    IfOk-weaker c.put_int.result _ _
+    (λ made so ts may put front.
+    let term : IsTerm w made (int c.in-Int.n) = so.term ∙ ap (λ z. Some (int z)) (search rules) in
+    copies_integer v w (renumbered v.now.state c.args.numbers.now) (value_of v c.args.node) c.in-Int.n c.args.built.now.items made ts (shown v c.args.node (Cell.Int c.in-Int.n) may.acyclic may.given c.in-Int.ensures.shows) so.changes.keeps term put)
+    c.put_int.ensures.ok
 
-pub returns-in_ok-put_atom-in-Atom-clause-ok : goal.returns-in_ok-put_atom-in-Atom-clause-ok
-returns-in_ok-put_atom-in-Atom-clause-ok g c = λ ts may put front.
+pub returns-in-Atom-clause-ok : goal.returns-in-Atom-clause-ok
+returns-in-Atom-clause-ok g c =
     let v = g.S.StateStore.seen c.args.s.now in
-    let w = g.S.StateStore.seen c.put_atom.new.self in
-    let made = c.in_ok-put_atom-in-Atom.field-0 in
+    let w = g.S.StateStore.seen c.copy_atom.new.s in
+    IfOk-weaker c.copy_atom.result _ _
+    (λ made so ts may put front.
     let shows : ShowsCell v (value_of v c.args.node) (Cell.Atom c.in-Atom.k) = shown v c.args.node (Cell.Atom c.in-Atom.k) may.acyclic may.given c.in-Atom.ensures.shows in
-    let name : c.as_str.result.now ≡ shows.0 = c.as_str.ensures ∙ (c.in_ok-name-in-Atom.ensures.ok ∙ c.name.ensures shows.0 shows.1) in
-    let term : IsTerm w made (atom shows.0) = c.in_ok-put_atom-in-Atom.ensures.ok.term ∙ ap (λ n. Some (atom n)) name in
-    copies_atom v w (renumbered v.now.state c.args.numbers.now) (value_of v c.args.node) shows.0 c.args.built.now.items made ts shows.2 c.in_ok-put_atom-in-Atom.ensures.ok.changes.keeps term put
+    copies_atom v w (renumbered v.now.state c.args.numbers.now) (value_of v c.args.node) shows.0 c.args.built.now.items made ts shows.2 c.copy_atom.ensures.stays.keeps (so shows.0 shows.1) put)
+    c.copy_atom.ensures.ok
 
-pub returns-in_ok-put_compound-in-Comp-clause-ok : goal.returns-in_ok-put_compound-in-Comp-clause-ok
-returns-in_ok-put_compound-in-Comp-clause-ok g c = λ ts may put front.
+pub returns-else-is_ground-clause-ok : goal.returns-else-is_ground-clause-ok
+returns-else-is_ground-clause-ok g c =
     let v = g.S.StateStore.seen c.args.s.now in
-    let w = g.S.StateStore.seen c.put_compound.new.s in
+    let w = g.S.StateStore.seen c.copy_compound.new.s in
     let u = value_of v c.args.node in
     let count = c.in-Comp.count in
+    IfOk-weaker c.copy_compound.result _ _
+    (λ made so ts may put front.
     let shows : ShowsCell v u (Cell.Comp c.in-Comp.k count) = shown v c.args.node (Cell.Comp c.in-Comp.k count) may.acyclic may.given c.in-Comp.ensures.shows in
-    let name : c.as_str-in-Comp.result.now ≡ shows.0 = c.as_str-in-Comp.ensures ∙ (c.in_ok-name-in-Comp.ensures.ok ∙ c.name-in-Comp.ensures shows.0 shows.1) in
-    copies_compound w (renumbered v.now.state c.args.numbers.now) u c.as_str-in-Comp.result.now count c.put_compound.new.built.items c.in_ok-put_compound-in-Comp.field-0 ts
-    (shows.2 ∙ ap (λ f. comp f (args u)) (sym name)) shows.3 front (c.in_ok-put_compound-in-Comp.ensures.ok ts put)
+    copies_compound w (renumbered v.now.state c.args.numbers.now) u shows.0 count c.copy_compound.new.built.items made ts shows.2 shows.3 front (so shows.0 ts shows.1 put)) c.copy_compound.ensures.ok
