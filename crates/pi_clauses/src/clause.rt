@@ -191,10 +191,7 @@ fn split(alloc: Global, units: Exps) -> Result<SplitUnits, AllocError>
 {
     let mut units = units;
     match units.pop() {
-        Some(last) => {
-            let split = split_last(alloc, units, last)?;
-            Ok(split)
-        }
+        Some(last) => split_last(alloc, units, last),
         None => Ok(SplitUnits {
             conditions: units,
             events: Exps::new(alloc),
@@ -213,18 +210,9 @@ fn split_last(alloc: Global, units: Exps, last: Exp) -> Result<SplitUnits, Alloc
             events,
             has_events: true,
         }),
-        Apart::Conjunction(inner) => {
-            let split = without_events(alloc, units, Exp::And(inner))?;
-            Ok(split)
-        }
-        Apart::Call(name, args) => {
-            let split = without_events(alloc, units, Exp::Call(name, args))?;
-            Ok(split)
-        }
-        Apart::Other(exp) => {
-            let split = without_events(alloc, units, exp)?;
-            Ok(split)
-        }
+        Apart::Conjunction(inner) => without_events(alloc, units, Exp::And(inner)),
+        Apart::Call(name, args) => without_events(alloc, units, Exp::Call(name, args)),
+        Apart::Other(exp) => without_events(alloc, units, exp),
     }
 }
 

@@ -26,8 +26,7 @@ pub fn first_unknown_of_goal<'a>(
 {
     let all = defined_by_program(alloc, program)?;
     let calls = Calls::of_goal(alloc, query)?;
-    let unknown = unknown_among(calls, &all)?;
-    Ok(unknown)
+    unknown_among(calls, &all)
 }
 
 /// All that a program defines.

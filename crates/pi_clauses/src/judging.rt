@@ -55,10 +55,10 @@ fn faulty_part(faulty: Faulty) -> ProgFault
 fn scattered(alloc: Global, called: Called<'_>) -> ProgFault
     ensures { IsTold (is_scattered (named_by called.entry)) result }
 {
-    let Ok(name) = Text::new(alloc, called.name) else {
+    let Ok(arity) = u32::try_from(called.arity) else {
         return ProgFault::Memory;
     };
-    let Ok(arity) = u32::try_from(called.arity) else {
+    let Ok(name) = Text::new(alloc, called.name) else {
         return ProgFault::Memory;
     };
     ProgFault::Scattered { name, arity }
@@ -67,10 +67,10 @@ fn scattered(alloc: Global, called: Called<'_>) -> ProgFault
 pub fn unknown_name(alloc: Global, call: UnknownCall<'_>) -> ProgFault
     ensures { IsTold (is_unknown (unknown_shown call.entry)) result }
 {
-    let Ok(name) = Text::new(alloc, call.called.name) else {
+    let Ok(arity) = u32::try_from(call.called.arity) else {
         return ProgFault::Memory;
     };
-    let Ok(arity) = u32::try_from(call.called.arity) else {
+    let Ok(name) = Text::new(alloc, call.called.name) else {
         return ProgFault::Memory;
     };
     ProgFault::UnknownName {

@@ -1,5 +1,5 @@
 //! The program that parts are.
-ghost use Rattle.std.specs.Prelude.{◌≡◌, ◌++◌, IfOk, map, vec_len};
+ghost use Rattle.std.specs.Prelude.{◌≡◌, ◌++◌, ◌∷◌, [], IfOk, OnOk, map, vec_len};
 ghost use Rattle.pi_syntax.specs.ProgramTree.{source_tree, part_tree};
 ghost use Rattle.pi_clauses.specs.Seen.{seen, all_seen};
 ghost use Rattle.pi_clauses.specs.Verdict.{parts_of, part_of, decl_of};
@@ -38,33 +38,32 @@ fn add_part(parts: &mut Parts, reading: PartReading) -> Result<(), AllocError>
     ensures { IfOk result (λ _. map part_tree parts.new ≡ map part_tree parts.old ++ part_of (seen reading)) }
 {
     match reading {
-        PartReading::TooDeep => {
-            drop(reading);
-            Ok(())
-        }
-        PartReading::BadDeclaration => {
-            drop(reading);
-            Ok(())
-        }
-        PartReading::NoClause => {
-            drop(reading);
-            Ok(())
-        }
-        PartReading::Import(names) => {
-            parts.push(Part {
+        PartReading::Import(names) => push_part(
+            parts,
+            Part {
                 decl: Decl::Import(names),
                 clause: None,
-            })?;
-            Ok(())
-        }
-        PartReading::Written(written) => {
-            parts.push(Part {
+            },
+        ),
+        PartReading::Written(written) => push_part(
+            parts,
+            Part {
                 decl: declaration(written.modes),
                 clause: Some(written.clause),
-            })?;
+            },
+        ),
+        _ => {
+            drop(reading);
             Ok(())
         }
     }
+}
+
+fn push_part(parts: &mut Parts, part: Part) -> Result<(), AllocError>
+    ensures { OnOk result (parts.new ≡ parts.old ++ part ∷ []) }
+{
+    parts.push(part)?;
+    Ok(())
 }
 
 fn declaration(modes: Option<ModeLists>) -> Decl

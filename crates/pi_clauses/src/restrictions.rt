@@ -29,8 +29,7 @@ pub fn has_bad_form(alloc: Global, formed: &FormedClause) -> Result<bool, AllocE
     if has_bad_head(alloc, head_of(&formed.clause))? {
         return Ok(true);
     }
-    let bad = has_bad_nodes(alloc, &formed.clause)?;
-    Ok(bad)
+    has_bad_nodes(alloc, &formed.clause)
 }
 
 /// Whether the arrow or the events don't fit the kind of the clause.
@@ -40,16 +39,13 @@ fn has_bad_arrow(alloc: Global, formed: &FormedClause) -> Result<bool, AllocErro
     match &formed.clause {
         Clause::Function { .. } => Ok(formed.is_open | formed.has_events),
         Clause::Fact { .. } => Ok(false),
-        Clause::Rule { head, events, .. } => {
-            let bad = has_bad_action(
-                alloc,
-                head,
-                events.as_slice(),
-                formed.is_open,
-                formed.has_events,
-            )?;
-            Ok(bad)
-        }
+        Clause::Rule { head, events, .. } => has_bad_action(
+            alloc,
+            head,
+            events.as_slice(),
+            formed.is_open,
+            formed.has_events,
+        ),
     }
 }
 
@@ -69,8 +65,7 @@ fn has_bad_action(
     if is_open {
         return Ok(true);
     }
-    let bad = has_bad_events(alloc, head, events)?;
-    Ok(bad)
+    has_bad_events(alloc, head, events)
 }
 
 fn head_of(clause: &Clause) -> &Exp

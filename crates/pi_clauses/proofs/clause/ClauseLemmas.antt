@@ -1,16 +1,17 @@
 -- The clause of a shape, over expressions that were taken apart.
-use Rattle.std.proofs.Common.{◌≡◌, ℕ, ◌<◌, Bool, true, false, ◌&&◌, ◌==◌, ℤ, List, [], ◌∷◌, ◌++◌, length, get_or, append-nil, codes, Option, Some, None, refl, ap, sym, subst, ◌∙◌, arith}
+use Rattle.std.proofs.Common.{◌≡◌, ℕ, ◌<◌, Bool, true, false, ◌&&◌, ◌==◌, List, [], ◌∷◌, ◌++◌, length, get_or, append-nil, codes, Option, Some, None, refl, ap, sym, subst, ◌∙◌, arith}
 use Rattle.std.specs.Prelude.{Vec, option_map, is_some, if◌then◌else◌, map}
 use Rattle.std.specs.List.{remove}
 use Rattle.std.specs.Str.{bytes_eq}
 use Rattle.std.specs.declared.alloc.Global.{Global}
-use Rattle.std.specs.declared.boxed.Box.{Box}
 use Rattle.std.proofs.lemmas.Bool.Decides.{Decides-eqb}
 use Rattle.pi_syntax.specs.ExpLists.{exps_of}
 use Rattle.pi_syntax.specs.ExpTree.{ExpTree, array, call, and, ExpTrees, no_exps, exp, one_exp, exp_tree, exp_trees, held_tree}
 use Rattle.pi_syntax.specs.ProgramTree.{WrittenClause, rule, function, written_clause}
 use Rattle.pi_syntax.specs.declared.exp.Exp as e
 use Rattle.pi_syntax.specs.declared.exp.Exp.{Exp}
+use Rattle.pi_syntax.specs.declared.exp.Exp.TheOpen as layer
+use Rattle.pi_syntax.specs.declared.exp.Exp.TheViews.{out-Exp, roll-Exp, roll-out-Exp, rolls-Var, rolls-Int, rolls-Atom, rolls-Str, rolls-List, rolls-Array, rolls-Call, rolls-Quote, rolls-Index, rolls-Range, rolls-At, rolls-Collect, rolls-And, rolls-Or, rolls-Arrow, rolls-If, rolls-Foreach, rolls-While, rolls-DoWhile}
 use Rattle.pi_syntax.specs.declared.program.Clause.{Clause}
 use Rattle.pi_syntax.proofs.ExpListLemmas.{call-tree, and-tree}
 use Rattle.pi_clauses.specs.Formed.{ShowsHeaded, ShowsEvents, IsFormed, IsUnits, IsSplit, is_braces, is_other, exps_of_before}
@@ -38,27 +39,37 @@ array-tree es = ap array (row_of es)
 
 -- ---- taken apart
 
-pub apart_other : (x y : Exp) → x ≡ y → is_other (exp_tree y) ≡ true → (exp_tree y ≡ exp_tree x) × (is_other (exp_tree x) ≡ true)
-apart_other x y is other = (ap exp_tree (sym is), ap (λ z. is_other (exp_tree z)) is ∙ other)
+-- neither a conjunction nor an array nor a call
+abbrev IsOtherForm : Exp → Type 0
+IsOtherForm x = ((es : Vec Exp Global) → x ≡ e.And es → ⊥) → ((es : Vec Exp Global) → x ≡ e.Array es → ⊥) → ((name : List ℕ) (es : Vec Exp Global) → x ≡ e.Call name es → ⊥) → is_other (exp_tree x) ≡ true
 
-pub apart_int : (x : Exp) (n m : ℤ) → m ≡ n → x ≡ e.Int n → (exp_tree (e.Int m) ≡ exp_tree x) × (is_other (exp_tree x) ≡ true)
-unfolding exp_tree
-apart_int x n m same is = (ap (λ z. exp_tree (e.Int z)) same ∙ sym (ap exp_tree is), ap (λ z. is_other (exp_tree z)) is)
-
-pub list_other : (es : Vec Exp Global) (tail : Option (Box Exp Global)) → is_other (exp_tree (e.List es tail)) ≡ true
+other-layer : (l : layer.Exp-F Exp) → IsOtherForm (roll-Exp l)
 unfolding exp_tree held_tree
-list_other es None = refl
-list_other es (Some b) = refl
+other-layer (layer.Var n) no_and no_array no_call = ap (λ x. is_other (exp_tree x)) (rolls-Var n)
+other-layer (layer.Int n) no_and no_array no_call = ap (λ x. is_other (exp_tree x)) (rolls-Int n)
+other-layer (layer.Atom n) no_and no_array no_call = ap (λ x. is_other (exp_tree x)) (rolls-Atom n)
+other-layer (layer.Str text) no_and no_array no_call = ap (λ x. is_other (exp_tree x)) (rolls-Str text)
+other-layer (layer.List es None) no_and no_array no_call = ap (λ x. is_other (exp_tree x)) (rolls-List es None)
+other-layer (layer.List es (Some b)) no_and no_array no_call = ap (λ x. is_other (exp_tree x)) (rolls-List es (Some b))
+other-layer (layer.Array es) no_and no_array no_call = absurd (no_array es (rolls-Array es))
+other-layer (layer.Call n es) no_and no_array no_call = absurd (no_call n es (rolls-Call n es))
+other-layer (layer.Quote b) no_and no_array no_call = ap (λ x. is_other (exp_tree x)) (rolls-Quote b)
+other-layer (layer.Index b es) no_and no_array no_call = ap (λ x. is_other (exp_tree x)) (rolls-Index b es)
+other-layer (layer.Range b None d) no_and no_array no_call = ap (λ x. is_other (exp_tree x)) (rolls-Range b None d)
+other-layer (layer.Range b (Some c) d) no_and no_array no_call = ap (λ x. is_other (exp_tree x)) (rolls-Range b (Some c) d)
+other-layer (layer.At n b) no_and no_array no_call = ap (λ x. is_other (exp_tree x)) (rolls-At n b)
+other-layer (layer.Collect is_array b es) no_and no_array no_call = ap (λ x. is_other (exp_tree x)) (rolls-Collect is_array b es)
+other-layer (layer.And es) no_and no_array no_call = absurd (no_and es (rolls-And es))
+other-layer (layer.Or es) no_and no_array no_call = ap (λ x. is_other (exp_tree x)) (rolls-Or es)
+other-layer (layer.Arrow b d) no_and no_array no_call = ap (λ x. is_other (exp_tree x)) (rolls-Arrow b d)
+other-layer (layer.If bs None) no_and no_array no_call = ap (λ x. is_other (exp_tree x)) (rolls-If bs None)
+other-layer (layer.If bs (Some b)) no_and no_array no_call = ap (λ x. is_other (exp_tree x)) (rolls-If bs (Some b))
+other-layer (layer.Foreach es b) no_and no_array no_call = ap (λ x. is_other (exp_tree x)) (rolls-Foreach es b)
+other-layer (layer.While b d) no_and no_array no_call = ap (λ x. is_other (exp_tree x)) (rolls-While b d)
+other-layer (layer.DoWhile b d) no_and no_array no_call = ap (λ x. is_other (exp_tree x)) (rolls-DoWhile b d)
 
-pub range_other : (a : Box Exp Global) (step : Option (Box Exp Global)) (b : Box Exp Global) → is_other (exp_tree (e.Range a step b)) ≡ true
-unfolding exp_tree held_tree
-range_other a None b = refl
-range_other a (Some s) b = refl
-
-pub if_other : (bs : Vec (Exp × Exp) Global) (last : Option (Box Exp Global)) → is_other (exp_tree (e.If bs last)) ≡ true
-unfolding exp_tree held_tree
-if_other bs None = refl
-if_other bs (Some b) = refl
+pub other_form : (x : Exp) → IsOtherForm x
+other_form x = subst IsOtherForm (roll-out-Exp x) (other-layer (out-Exp x))
 
 pub is_conjunction : (x : Exp) (es : Vec Exp Global) → x ≡ e.And es → exp_tree x ≡ and (exps_of es.items)
 is_conjunction x es h = ap exp_tree h ∙ and-tree es

@@ -2,10 +2,11 @@
 use Rattle.std.proofs.Common.{◌≡◌, Bool, true, false, cond, List, [], ◌∷◌, ◌++◌, Option, Some, None, refl, ap, ◌∙◌, sym, subst, append_assoc}
 use Rattle.std.specs.Prelude.{is_some}
 use Rattle.pi_syntax.specs.Signature.{Signature}
-use Rattle.pi_clauses.specs.Calls.{Named, named}
+use Rattle.pi_clauses.specs.Calls.{Named, named, calls_among}
 use Rattle.pi_clauses.specs.Defined.{IsSetOf}
+use Rattle.pi_clauses.specs.Places.{clause_placed}
 use Rattle.pi_clauses.specs.Seen.{seen, seen_clause}
-use Rattle.pi_clauses.specs.Verdict.{named_of, definition, JudgedPart, as_list, defined_by, all_defined, indexed_by, clause_signature, all_indexed}
+use Rattle.pi_clauses.specs.Verdict.{named_of, definition, JudgedPart, as_list, defined_by, all_defined, indexed_by, clause_signature, all_indexed, part_calls}
 use Rattle.pi_syntax.specs.ProgramTree.{written_clause}
 use Rattle.pi_syntax.specs.declared.program.Mode.{Mode}
 use Rattle.pi_clauses.specs.Before.{IsBefore}
@@ -66,6 +67,9 @@ index_not (Some ms) s h = absurd cc
 
 pub nothing_more : (b : Before) (ss : List JudgedPart) (s : JudgedPart) → defined_by s ≡ None → indexed_by s ≡ None → IsBefore b ss → IsBefore b (ss ++ s ∷ [])
 nothing_more b ss s no_name no_index is = record { defined = defined_same b.defined ss s no_name is.defined; indexed = indexed_same b.indexed ss s no_index is.indexed }
+
+pub written_calls : (p : PartReading) (w : WrittenPart) → p ≡ part.Written w → calls_among (clause_placed (written_clause w.clause)) ≡ part_calls (seen p)
+written_calls p w is = ap (λ q. part_calls (seen q)) (sym is)
 
 pub none_written : (p : PartReading) → ((w : WrittenPart) → p ≡ part.Written w → ⊥) → (defined_by (seen p) ≡ None) × (indexed_by (seen p) ≡ None)
 none_written part.TooDeep never = (refl, refl)

@@ -1,17 +1,19 @@
 -- What stands below a node, put on top of a stack from the last to the first.
-use Rattle.std.proofs.Common.{◌≡◌, ℕ, ℤ, Bool, false, suc, List, [], ◌∷◌, ◌++◌, length, drop, None, Some, refl, ap, sym, ◌∙◌, append_assoc}
-use Rattle.std.specs.Prelude.{Vec, Option}
+use Rattle.std.proofs.Common.{◌≡◌, ℕ, ℤ, Bool, true, false, suc, List, [], ◌∷◌, ◌++◌, length, drop, None, Some, refl, ap, sym, ◌∙◌, append_assoc}
+use Rattle.std.specs.Prelude.{Vec, Option, option_map}
 use Rattle.std.specs.Borrow.{Bor}
 use Rattle.std.proofs.lemmas.List.{append-nil}
 use Rattle.std.specs.declared.alloc.Global.{Global}
 use Rattle.std.specs.declared.boxed.Box.{Box}
 use Rattle.pi_syntax.specs.ExpTree.{ExpTree, var, int, atom, str, list_before, range_with, if_with, array, call, quote, index, at, collect, and, or, arrow, foreach, while_do, do_while, ExpTrees, ExpBranches, exp_tree}
 use Rattle.pi_syntax.specs.ExpLists.{exps_of}
+use Rattle.pi_syntax.specs.ProgramTree.{written_clause}
 use Rattle.pi_syntax.specs.Signature.{exp_count}
 use Rattle.pi_syntax.specs.declared.exp.Exp as e
 use Rattle.pi_syntax.specs.declared.exp.Exp.{Exp}
+use Rattle.pi_syntax.specs.declared.program.Clause.{Clause}
 use Rattle.pi_syntax.proofs.ExpListLemmas.{exp_count-exps_of}
-use Rattle.pi_clauses.specs.Places.{Place, iterator, pattern, inside, quoted, body, test, argument, Placed, placed, below, all_placed, arguments_placed, branches_placed, placed_if, head_placed}
+use Rattle.pi_clauses.specs.Places.{Place, goal, expression, iterator, pattern, inside, quoted, body, test, argument, Placed, placed, below, all_placed, arguments_placed, branches_placed, placed_if, clause_placed, head_placed}
 use Rattle.pi_clauses.specs.Form.{form_of, calling, shown_form}
 use Rattle.pi_clauses.specs.Walk.{held_exp, branches_of}
 use Rattle.pi_clauses.specs.declared.nodes.form.Form.{Form as CodeForm}
@@ -213,6 +215,32 @@ arguments_none p name n k xs i ps h = rw h refl
 pub branches_none : (p : Place) (bs : List (Exp × Exp)) (i : ℕ) (ps : List Placed) → drop i bs ≡ [] → ps ≡ branches_placed p (branches_of (drop i bs)) ++ ps
 unfolding branches_placed
 branches_none p bs i ps h = rw h refl
+
+-- ---- what may be missing
+
+pub optional-some : (p : Place) (exp : Option Exp) (x : Exp) (old new : List Placed) → exp ≡ Some x → new ≡ placed p (exp_tree x) ++ old → new ≡ placed_if p (option_map exp_tree exp) ++ old
+optional-some p exp x old new is h = h ∙ ap (λ o. placed_if p (option_map exp_tree o) ++ old) (sym is)
+
+pub held-some : (p : Place) (exp : Option (Box Exp Global)) (b : Box Exp Global) (old new : List Placed) → exp ≡ Some b → new ≡ placed p (exp_tree b.value) ++ old → new ≡ placed_if p (held_exp exp) ++ old
+held-some p exp b old new is h = h ∙ ap (λ o. placed_if p (held_exp o) ++ old) (sym is)
+
+-- ---- of a clause
+
+pub clause-rule : (c : Clause) (head : Exp) (cond : Option Exp) (events : Vec Exp Global) (back : Bool) (end : Exp) (old mid new : List Placed) → c ≡ Clause.Rule head cond events back end
+    → mid ≡ placed (goal true) (exp_tree end) ++ old → new ≡ placed_if test (option_map exp_tree cond) ++ mid → new ≡ clause_placed (written_clause c) ++ old
+clause-rule c head cond events back end old mid new is h k =
+    join (placed_if test (option_map exp_tree cond)) (placed (goal true) (exp_tree end)) old mid new h k ∙ ap (λ w. clause_placed (written_clause w) ++ old) (sym is)
+
+pub clause-function : (c : Clause) (head value : Exp) (cond end : Option Exp) (old mid later new : List Placed) → c ≡ Clause.Function head value cond end
+    → mid ≡ placed_if (goal true) (option_map exp_tree end) ++ old → later ≡ placed_if test (option_map exp_tree cond) ++ mid → new ≡ placed expression (exp_tree value) ++ later
+    → new ≡ clause_placed (written_clause c) ++ old
+clause-function c head value cond end old mid later new is h k l =
+    join (placed expression (exp_tree value)) (placed_if test (option_map exp_tree cond) ++ placed_if (goal true) (option_map exp_tree end)) old later new
+    (join (placed_if test (option_map exp_tree cond)) (placed_if (goal true) (option_map exp_tree end)) old mid later h k) l
+    ∙ ap (λ w. clause_placed (written_clause w) ++ old) (sym is)
+
+pub clause-fact : (c : Clause) (head : Exp) (ps : List Placed) → c ≡ Clause.Fact head → ps ≡ clause_placed (written_clause c) ++ ps
+clause-fact c head ps is = ap (λ w. clause_placed (written_clause w) ++ ps) (sym is)
 
 -- ---- of a head
 

@@ -1,5 +1,5 @@
 -- What a walk has ahead of it.
-use Rattle.std.proofs.Common.{◌≡◌, ℕ, suc, zero, ◌+◌, ◌<◌, ◌≤◌, List, [], ◌∷◌, ◌++◌, length, get_or, drop, refl, ap, sym, ◌∙◌, append_assoc, add-one, arith}
+use Rattle.std.proofs.Common.{◌≡◌, ℕ, suc, zero, ◌+◌, ◌<◌, ◌≤◌, List, [], ◌∷◌, ◌++◌, length, get_or, drop, refl, ap, sym, subst, ◌∙◌, append_assoc, add-one, arith}
 use Rattle.std.specs.Prelude.{Result, Ok, Err, OnOk}
 use Rattle.std.proofs.Math.Seq.{drop-cons}
 use Rattle.std.proofs.lemmas.List.{append-nil}
@@ -11,6 +11,18 @@ use Rattle.pi_clauses.specs.declared.nodes.walk.Node.{Node}
 pub once_ok : {T E P Q : Type 0} (r : Result T E) → OnOk r P → (P → Q) → OnOk r Q
 once_ok (Ok x) h f = f h
 once_ok (Err e) h f = tt
+
+-- what two steps come to, of which each is taken
+abbrev both_of : {T E : Type 0} → Result T E → Result T E → Result T E
+both_of (Ok x) s = s
+both_of (Err e) s = Err e
+
+pub twice_ok : {T E P Q R : Type 0} (r s both : Result T E) → both ≡ both_of r s → OnOk r P → OnOk s Q → (P → Q → R) → OnOk both R
+twice_ok {T} {E} {P} {Q} {R} (Ok x) s both is h k f = subst (λ (t : Result T E). OnOk t R) (sym is) (once_ok s k (f h))
+twice_ok {T} {E} {P} {Q} {R} (Err e) s both is h k f = subst (λ (t : Result T E). OnOk t R) (sym is) tt
+
+pub thrice_ok : {T E P Q R S : Type 0} (r s t two all : Result T E) → two ≡ both_of r s → all ≡ both_of two t → OnOk r P → OnOk s Q → OnOk t R → (P → Q → R → S) → OnOk all S
+thrice_ok r s t two all is also h k l f = twice_ok two t all also (twice_ok r s two is h k f) l (λ g. g)
 
 pub front : {A : Type 0} (xs : List A) (i : ℕ) (x : A) → i < length xs → x ≡ get_or xs i x → drop i xs ≡ x ∷ drop (i + 1) xs
 front xs i x h e =

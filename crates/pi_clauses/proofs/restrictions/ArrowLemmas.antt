@@ -77,6 +77,12 @@ rule_events c h cond events back body None has is some shows holds = absurd (cc)
 rule_events c h cond events back body (Some es) has is some shows holds =
     let same : exps_of events.items ≡ es = subst (λ x. ShowsEvents x (Some es)) is shows in ap (λ x. Some x) (sym same)
 
+-- events beside the arrow `=>`
+pub action_events : (has back bad : Bool) → has ≡ true → back ≡ false → bad ≡ (has && (back || bad))
+action_events true false bad h k = refl
+action_events true true bad h k = absurd (cc)
+action_events false back bad h k = absurd (cc)
+
 pub rule_arrow : (f : FormedClause) (h : Exp) (cond : Option Exp) (events : Vec Exp Global) (back : Bool) (body : Exp) (given : List Exp) (bad : Bool) → f.clause ≡ Clause.Rule h cond events back body → given ≡ events.items
     → bad ≡ (f.has_events && (f.is_open || are_bad_events (exp_tree h) (Some (exps_of given)))) → (s : Shape) → IsFormed f s → bad ≡ bad_arrow s
 rule_arrow f h cond events back body given bad is items answer s formed =

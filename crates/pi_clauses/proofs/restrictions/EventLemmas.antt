@@ -1,9 +1,11 @@
 -- Events and the variables of heads.
-use Rattle.std.proofs.Common.{◌≡◌, Bool, true, false, not, ◌||◌, ◌==◌, List, [], ◌∷◌, length, Some, refl, ap, sym, ◌∙◌, arith}
+use Rattle.std.proofs.Common.{◌≡◌, ℕ, Bool, true, false, not, ◌||◌, ◌==◌, List, [], ◌∷◌, length, codes, Some, refl, ap, sym, ◌∙◌, arith}
 use Rattle.std.proofs.lemmas.Bool.Decides.{Decides-eqb}
 use Rattle.std.specs.List.{list_any}
+use Rattle.std.specs.Str.{bytes_eq}
 use Rattle.pi_syntax.specs.ExpTree.{ExpTree, exp_tree}
 use Rattle.pi_syntax.specs.ExpLists.{exps_of}
+use Rattle.pi_syntax.specs.Tokens.{is_one_of}
 use Rattle.pi_syntax.specs.declared.exp.Exp.{Exp}
 use Rattle.pi_clauses.specs.Items.{is_event, are_bad_events}
 use Rattle.pi_clauses.specs.Shape.{listed}
@@ -34,3 +36,20 @@ pub bad_some : (head : ExpTree) (es : List Exp) (b bad : Bool) → b ≡ (length
 unfolding listed
 bad_some head [] b bad is lacks h = absurd (cc)
 bad_some head (e ∷ es) b bad is lacks h = h
+
+-- ---- names of events
+
+one_of_two : (a b : Bool) → (a || (b || false)) ≡ (a || b)
+one_of_two true b = refl
+one_of_two false true = refl
+one_of_two false false = refl
+
+one_of_three : (a b c : Bool) → (a || (b || (c || false))) ≡ (a || (b || c))
+one_of_three true b c = refl
+one_of_three false b c = one_of_two b c
+
+pub names_of_one : (name : List ℕ) → is_one_of (codes "ins" ∷ codes "bound" ∷ []) name ≡ (bytes_eq name (codes "ins") || bytes_eq name (codes "bound"))
+names_of_one name = one_of_two (bytes_eq name (codes "ins")) (bytes_eq name (codes "bound"))
+
+pub names_of_two : (name : List ℕ) → is_one_of (codes "dom" ∷ codes "dom_any" ∷ codes "event" ∷ []) name ≡ (bytes_eq name (codes "dom") || (bytes_eq name (codes "dom_any") || bytes_eq name (codes "event")))
+names_of_two name = one_of_three (bytes_eq name (codes "dom")) (bytes_eq name (codes "dom_any")) (bytes_eq name (codes "event"))

@@ -22,24 +22,6 @@ pub(crate) fn take_apart(exp: Exp) -> Apart
         Exp::And(units) => Apart::Conjunction(units),
         Exp::Array(items) => Apart::Array(items),
         Exp::Call(name, args) => Apart::Call(name, args),
-        Exp::Var(name) => Apart::Other(Exp::Var(name)),
-        Exp::Int(n) => {
-            drop(exp);
-            Apart::Other(Exp::Int(n))
-        }
-        Exp::Atom(name) => Apart::Other(Exp::Atom(name)),
-        Exp::Str(text) => Apart::Other(Exp::Str(text)),
-        Exp::List(items, tail) => Apart::Other(Exp::List(items, tail)),
-        Exp::Quote(inner) => Apart::Other(Exp::Quote(inner)),
-        Exp::Index(of, places) => Apart::Other(Exp::Index(of, places)),
-        Exp::Range(first, step, last) => Apart::Other(Exp::Range(first, step, last)),
-        Exp::At(name, pattern) => Apart::Other(Exp::At(name, pattern)),
-        Exp::Collect(is_array, item, from) => Apart::Other(Exp::Collect(is_array, item, from)),
-        Exp::Or(branches) => Apart::Other(Exp::Or(branches)),
-        Exp::Arrow(condition, then) => Apart::Other(Exp::Arrow(condition, then)),
-        Exp::If(branches, last) => Apart::Other(Exp::If(branches, last)),
-        Exp::Foreach(iterators, body) => Apart::Other(Exp::Foreach(iterators, body)),
-        Exp::While(test, body) => Apart::Other(Exp::While(test, body)),
-        Exp::DoWhile(body, test) => Apart::Other(Exp::DoWhile(body, test)),
+        _ => Apart::Other(exp),
     }
 }

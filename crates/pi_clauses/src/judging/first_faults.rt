@@ -140,8 +140,7 @@ fn unknown_of_part<'a>(
         return Ok(None);
     };
     let calls = Calls::of_clause(alloc, &written.clause)?;
-    let unknown = unknown_among(calls, all)?;
-    Ok(unknown)
+    unknown_among(calls, all)
 }
 
 /// The first of these calls whose name is neither built in nor defined.

@@ -28,7 +28,8 @@ const INFIXES: [&str; 17] = [
     "\\/", "..",
 ];
 
-fn is_among(words: &[&str], name: &str) -> bool
+/// Whether a name is one of these.
+pub(crate) fn is_among(words: &[&str], name: &str) -> bool
     ensures { result ≡ is_one_of (words_shown words.now) name.now }
 {
     for word in words {

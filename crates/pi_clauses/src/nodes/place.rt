@@ -91,7 +91,10 @@ fn is_asked(name: &str, arity: usize, i: usize) -> bool
     ensures { result ≡ is_asked name.now arity i }
 {
     is_goal_sign(name, arity)
-        || (name == "find_all" && arity == 2 && i == 1)
-        || (name == "count_all" && arity == 1)
-        || (name == "catch" && arity == 3 && (i == 0 || i == 2))
+        || match arity {
+            1 => name == "count_all",
+            2 => name == "find_all" && i == 1,
+            3 => name == "catch" && (i == 0 || i == 2),
+            _ => false,
+        }
 }

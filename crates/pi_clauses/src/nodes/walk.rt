@@ -39,25 +39,8 @@ impl<'a> Walk<'a> {
         ensures { IfOk result (λ walk. nodes_ahead walk ≡ clause_placed (written_clause clause.now)) }
     {
         let mut walk = Walk::new(alloc);
-        match clause {
-            Clause::Rule { cond, body, .. } => {
-                walk.push(Place::Goal { assigns: true }, body)?;
-                walk.push_optional(TEST, cond)?;
-                Ok(walk)
-            }
-            Clause::Function {
-                value,
-                cond,
-                body,
-                ..
-            } => {
-                walk.push_optional(Place::Goal { assigns: true }, body)?;
-                walk.push_optional(TEST, cond)?;
-                walk.push(Place::Expression, value)?;
-                Ok(walk)
-            }
-            Clause::Fact { .. } => Ok(walk),
-        }
+        walk.push_clause(clause)?;
+        Ok(walk)
     }
 
     /// A walk through a goal.
@@ -94,6 +77,27 @@ impl<'a> Walk<'a> {
         Ok(Some(node))
     }
 
+    /// Puts what a clause evaluates before the nodes ahead. Where memory runs out the rest is tried all the same.
+    fn push_clause(&mut self, clause: &'a Clause) -> Result<(), AllocError>
+        ensures { OnOk result (nodes_ahead self.new ≡ clause_placed (written_clause clause.now) ++ nodes_ahead self.old) }
+    {
+        match clause {
+            Clause::Rule { cond, body, .. } => self
+                .push(Place::Goal { assigns: true }, body)
+                .and(self.push_optional(TEST, cond)),
+            Clause::Function {
+                value,
+                cond,
+                body,
+                ..
+            } => self
+                .push_optional(Place::Goal { assigns: true }, body)
+                .and(self.push_optional(TEST, cond))
+                .and(self.push(Place::Expression, value)),
+            Clause::Fact { .. } => Ok(()),
+        }
+    }
+
     /// Puts an expression before the nodes ahead.
     fn push(&mut self, place: Place, exp: &'a Exp) -> Result<(), AllocError>
         ensures { OnOk result (nodes_ahead self.new ≡ placed (shown_place place) (exp_tree exp.now) ++ nodes_ahead self.old) }
@@ -106,10 +110,7 @@ impl<'a> Walk<'a> {
         ensures { OnOk result (nodes_ahead self.new ≡ placed_if (shown_place place) (option_map exp_tree exp.now) ++ nodes_ahead self.old) }
     {
         match exp {
-            Some(exp) => {
-                self.push(place, exp)?;
-                Ok(())
-            }
+            Some(exp) => self.push(place, exp),
             None => Ok(()),
         }
     }
@@ -118,10 +119,7 @@ impl<'a> Walk<'a> {
         ensures { OnOk result (nodes_ahead self.new ≡ placed_if (shown_place place) (held_exp exp.now) ++ nodes_ahead self.old) }
     {
         match exp {
-            Some(exp) => {
-                self.push(place, exp)?;
-                Ok(())
-            }
+            Some(exp) => self.push(place, exp),
             None => Ok(()),
         }
     }
@@ -160,7 +158,7 @@ impl<'a> Walk<'a> {
         Ok(())
     }
 
-    /// Puts what stands in an expression before the nodes ahead.
+    /// Puts what stands in an expression before the nodes ahead. Where memory runs out the rest is tried all the same.
     fn push_below(&mut self, place: Place, exp: &'a Exp) -> Result<(), AllocError>
         ensures { OnOk result (nodes_ahead self.new ≡ below (shown_place place) (exp_tree exp.now) ++ nodes_ahead self.old) }
     {
@@ -171,49 +169,34 @@ impl<'a> Walk<'a> {
             Exp::Int(_) => Ok(()),
             Exp::Atom(_) => Ok(()),
             Exp::Str(_) => Ok(()),
-            Exp::List(items, tail) => {
-                self.push_held(inside, tail)?;
-                self.push_all(inside, items.as_slice())
-            }
-            Exp::Array(items) => { self.push_all(inside, items.as_slice()) }
-            Exp::Call(name, args) => { self.push_arguments(place, name.as_str(), args.as_slice()) }
-            Exp::Quote(term) => { self.push(place.quoted(), term) }
-            Exp::Index(of, indexes) => {
-                self.push_all(inside, indexes.as_slice())?;
-                self.push(inside, of)
-            }
-            Exp::Range(first, step, last) => {
-                self.push(inside, last)?;
-                self.push_held(inside, step)?;
-                self.push(inside, first)
-            }
-            Exp::At(_, bound) => { self.push(inside, bound) }
-            Exp::Collect(_, item, iterators) => {
-                self.push_all(Place::Iterator, iterators.as_slice())?;
-                self.push(inside, item)
-            }
-            Exp::And(goals) => { self.push_all(body, goals.as_slice()) }
-            Exp::Or(goals) => { self.push_all(body, goals.as_slice()) }
-            Exp::Arrow(test, then) => {
-                self.push(body, then)?;
-                self.push(TEST, test)
-            }
-            Exp::If(branches, last) => {
-                self.push_held(body, last)?;
-                self.push_branches(place, branches.as_slice())
-            }
-            Exp::Foreach(iterators, goal) => {
-                self.push(body, goal)?;
-                self.push_all(Place::Iterator, iterators.as_slice())
-            }
-            Exp::While(test, goal) => {
-                self.push(body, goal)?;
-                self.push(TEST, test)
-            }
-            Exp::DoWhile(goal, test) => {
-                self.push(TEST, test)?;
-                self.push(body, goal)
-            }
+            Exp::List(items, tail) => self
+                .push_held(inside, tail)
+                .and(self.push_all(inside, items.as_slice())),
+            Exp::Array(items) => self.push_all(inside, items.as_slice()),
+            Exp::Call(name, args) => self.push_arguments(place, name.as_str(), args.as_slice()),
+            Exp::Quote(term) => self.push(place.quoted(), term),
+            Exp::Index(of, indexes) => self
+                .push_all(inside, indexes.as_slice())
+                .and(self.push(inside, of)),
+            Exp::Range(first, step, last) => self
+                .push(inside, last)
+                .and(self.push_held(inside, step))
+                .and(self.push(inside, first)),
+            Exp::At(_, bound) => self.push(inside, bound),
+            Exp::Collect(_, item, iterators) => self
+                .push_all(Place::Iterator, iterators.as_slice())
+                .and(self.push(inside, item)),
+            Exp::And(goals) => self.push_all(body, goals.as_slice()),
+            Exp::Or(goals) => self.push_all(body, goals.as_slice()),
+            Exp::Arrow(test, then) => self.push(body, then).and(self.push(TEST, test)),
+            Exp::If(branches, last) => self
+                .push_held(body, last)
+                .and(self.push_branches(place, branches.as_slice())),
+            Exp::Foreach(iterators, goal) => self
+                .push(body, goal)
+                .and(self.push_all(Place::Iterator, iterators.as_slice())),
+            Exp::While(test, goal) => self.push(body, goal).and(self.push(TEST, test)),
+            Exp::DoWhile(goal, test) => self.push(TEST, test).and(self.push(body, goal)),
         }
     }
 }

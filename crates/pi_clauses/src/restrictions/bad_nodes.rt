@@ -21,8 +21,7 @@ pub(crate) fn has_bad_nodes(alloc: Global, clause: &Clause) -> Result<bool, Allo
     ensures { IfOk result (λ b. b ≡ are_bad_nodes (clause_placed (written_clause clause.now))) }
 {
     let walk = Walk::of_clause(alloc, clause)?;
-    let is_bad = any_is_bad(walk)?;
-    Ok(is_bad)
+    any_is_bad(walk)
 }
 
 /// Whether a node of a goal may not stand where it does.
@@ -30,8 +29,7 @@ pub fn goal_has_bad_nodes(alloc: Global, query: &Exp) -> Result<bool, AllocError
     ensures { IfOk result (λ b. b ≡ are_bad_nodes (placed (goal true) (exp_tree query.now))) }
 {
     let walk = Walk::of_goal(alloc, query)?;
-    let is_bad = any_is_bad(walk)?;
-    Ok(is_bad)
+    any_is_bad(walk)
 }
 
 fn any_is_bad(mut walk: Walk) -> Result<bool, AllocError>

@@ -43,17 +43,13 @@ impl<'a> HeadNames<'a> {
     fn insert(&mut self, form: Form<'a>) -> Result<(), AllocError>
         ensures { OnOk result ((name : List ℕ) → holds self.new name ≡ (is_variable_form name (shown_form form.entry) || holds self.old name)) }
     {
-        match form {
-            Form::Variable(name) => {
-                self.names.insert(name)?;
-                Ok(())
-            }
-            Form::Binding(name) => {
-                self.names.insert(name)?;
-                Ok(())
-            }
-            _ => Ok(()),
-        }
+        let name = match form {
+            Form::Variable(name) => name,
+            Form::Binding(name) => name,
+            _ => return Ok(()),
+        };
+        self.names.insert(name)?;
+        Ok(())
     }
 
     /// Whether a variable of this name occurs in the head; each `_` is a name of its own.

@@ -11,11 +11,18 @@ ghost use Rattle.pi_clauses.specs.Places.{head_placed};
 ghost use Rattle.pi_clauses.specs.Walk.{shown_place, shown_node};
 
 use crate::nodes::form::Form;
+use crate::nodes::operators::is_among;
 use crate::nodes::place::Place;
 use crate::nodes::walk::{Node, Walk};
 use crate::restrictions::head_names::HeadNames;
 use pi_syntax::Exp;
 use std::alloc::{AllocError, Global};
+
+/// The events of a variable alone.
+const EVENTS_OF_ONE: [&str; 2] = ["ins", "bound"];
+
+/// The events of a variable with what they tell.
+const EVENTS_OF_TWO: [&str; 3] = ["dom", "dom_any", "event"];
 
 /// Whether a head is neither an atom nor a call of no sign, or has an argument that is no pattern.
 pub(crate) fn has_bad_head(alloc: Global, head: &Exp) -> Result<bool, AllocError>
@@ -131,11 +138,11 @@ fn is_event_of_two(names: &HeadNames, name: &str, of: Form, message: Form) -> bo
 fn is_name_of_one(name: &str) -> bool
     ensures { result ≡ (bytes_eq name.now (codes "ins") || bytes_eq name.now (codes "bound")) }
 {
-    name == "ins" || name == "bound"
+    is_among(&EVENTS_OF_ONE, name)
 }
 
 fn is_name_of_two(name: &str) -> bool
     ensures { result ≡ (bytes_eq name.now (codes "dom") || (bytes_eq name.now (codes "dom_any") || bytes_eq name.now (codes "event"))) }
 {
-    name == "dom" || name == "dom_any" || name == "event"
+    is_among(&EVENTS_OF_TWO, name)
 }

@@ -1,9 +1,10 @@
 use Rattle.std.proofs.Common.{◌≡◌, length, refl, rules}
+use Rattle.std.proofs.lemmas.Result.{IfOk-weaker}
 use Rattle.pi_clauses.proofs.clause.ClauseLemmas.{split_whole, split_nothing}
 use Rattle.pi_clauses.proofs.clause.split.Goals as goal
 
-pub returns-in_ok-split-in-Some : goal.returns-in_ok-split-in-Some
-returns-in_ok-split-in-Some c = split_whole _ _ _ _ c.in-Some.ensures.items c.in_ok-split-in-Some.ensures
+pub returns-in-Some : goal.returns-in-Some
+returns-in-Some c = IfOk-weaker c.split_last.result _ _ (λ made so. split_whole _ _ _ _ c.in-Some.ensures.items so) c.split_last.ensures
 
 pub returns-in-None : goal.returns-in-None
 returns-in-None c =

@@ -1,8 +1,12 @@
+use Rattle.std.proofs.Common.{◌∙◌, ap, sym}
+use Rattle.pi_clauses.specs.declared.nodes.form.Form.TheVariants as code
 use Rattle.pi_clauses.proofs.restrictions.HeadNameLemmas.{variable_more, binding_more}
 use Rattle.pi_clauses.proofs.restrictions.head_names.HeadNames.insert.Goals as goal
+use Rattle.pi_clauses.proofs.restrictions.head_names.HeadNames.insert.Goals.{in-Variable, in-Binding}
 
-pub returns-in_ok-insert-in-Variable : goal.returns-in_ok-insert-in-Variable
-returns-in_ok-insert-in-Variable c = λ name. variable_more c.args.self.now.names.keys _ _ _ c.in-Variable.is c.in_ok-insert-in-Variable.ensures.keys name
-
-pub returns-in_ok-insert-in-Binding : goal.returns-in_ok-insert-in-Binding
-returns-in_ok-insert-in-Binding c = λ name. binding_more c.args.self.now.names.keys _ _ _ c.in-Binding.is c.in_ok-insert-in-Binding.ensures.keys name
+pub returns : goal.returns
+returns c = λ name.
+    elim c.match-form.branch [
+      | in-Variable w ↦ variable_more c.args.self.now.names.keys _ _ _ (w.in-Variable.is ∙ ap (λ k. code.Variable k) (sym w.name-is)) c.in_ok-insert.ensures.keys name
+      | in-Binding w ↦ binding_more c.args.self.now.names.keys _ _ _ (w.in-Binding.is ∙ ap (λ k. code.Binding k) (sym w.name-is)) c.in_ok-insert.ensures.keys name
+    ]
