@@ -38,6 +38,15 @@ tables_for preds terms code = record {
   arities = map (λ p. p.arity) preds;
 }
 
+-- nothing is laid out
+pub record IsBlank (c : Code) : Type 0 where
+  pub steps : c.steps.items ≡ []
+  pub predicates : c.predicates.items ≡ []
+
+-- tables of the same program
+abbrev pub HasItsCore : Code → Code → Type 0
+HasItsCore c d = d.core ≡ c.core
+
 -- Tables get longer, and the store gets terms.
 pub record Adds {M : Type 0} (v w : StoreView M) (c d : Code) : Type 0 where
   pub stays : Stays v w

@@ -4,7 +4,8 @@ ghost use Rattle.pi_states.specs.State.{bindings};
 ghost use Rattle.pi_states.specs.Value.{IsAcyclic};
 ghost use Rattle.pi_states.specs.Store.{Keeps, Stays};
 ghost use Rattle.pi_code.specs.Code.{preds_of, tables_of};
-ghost use Rattle.pi_code.specs.Laid.{tables_for};
+ghost use Rattle.pi_code.specs.Laid.{tables_for, IsBlank, HasItsCore};
+ghost use Rattle.pi_code.specs.Numbers.{IsNumbering};
 ghost use Rattle.pi_code.specs.LaidRules.{IsFilled};
 
 mod goals;
@@ -39,43 +40,43 @@ pub fn build_code<'p, S: StateStore>(
     ensures source { IfOk result (λ built. preds_of built.0 ≡ core.now.preds ++ helpers) }
     ensures filled { IfOk result (λ built. IsAcyclic (bindings (S.seen store.old).now.state) → IsFilled (preds_of built.0) (tables_of (S.seen store.new).now.terms built.0) (S.seen store.new).names built.0 goal.now slots built.1) }
 {
-    let (mut code, place) = fill(alloc, core, helpers.as_slice(), goal, slots, store)?;
+    let mut code = no_code(alloc, core);
+    let preds = core.preds.as_slice();
+    let place = fill(
+        alloc,
+        &mut code,
+        store,
+        preds,
+        helpers.as_slice(),
+        goal,
+        slots,
+    )?;
     code.helpers = helpers;
     Ok((code, place))
 }
 
-/// The tables of the predicates of a program, of a goal's own ones and of the goal, whose place is answered too.
-fn fill<'p, S: StateStore>(
+/// Fills tables with the predicates of a program, a goal's own ones and the goal, whose place is answered.
+fn fill<S: StateStore>(
     alloc: Global,
-    core: &'p CoreProgram,
+    code: &mut Code<'_>,
+    store: &mut S,
+    preds: &[CorePred],
     helpers: &[CorePred],
     goal: &CoreGoal,
     slots: u32,
-    store: &mut S,
-) -> Result<(Code<'p>, u32), AllocError>
+) -> Result<u32, AllocError>
     ensures keeps { Keeps (S.seen store.old) (S.seen store.new) }
     ensures stays { IfOk result (λ _. Stays (S.seen store.old) (S.seen store.new)) }
-    ensures core { IfOk result (λ made. made.0.core.now ≡ core.now) }
-    ensures filled { IfOk result (λ made. IsAcyclic (bindings (S.seen store.old).now.state) → IsFilled (core.now.preds ++ helpers.now) (tables_for (core.now.preds ++ helpers.now) (S.seen store.new).now.terms made.0) (S.seen store.new).names made.0 goal.now slots made.1) }
+    ensures core { IfOk result (λ _. HasItsCore code.old code.new) }
+    ensures filled { IfOk result (λ place. IsBlank code.old → IsAcyclic (bindings (S.seen store.old).now.state) → IsFilled (preds.now ++ helpers.now) (tables_for (preds.now ++ helpers.now) (S.seen store.new).now.terms code.new) (S.seen store.new).names code.new goal.now slots place) }
 {
-    let preds = core.preds.as_slice();
     let mut numbers = Numbers::new(alloc);
     numbers.add(preds)?;
     numbers.add(helpers)?;
     let builder = Builder { alloc, numbers };
-    let mut code = no_code(alloc, core);
-    builder.add_predicates(&mut code, store, preds)?;
-    builder.add_predicates(&mut code, store, helpers)?;
-    let shape = Shape {
-        first_slot: 0,
-        slots,
-    };
-    let place = builder.add_goal(&mut code, store, goal, shape, false)?;
-    let callables = builder.add_callables(&mut code, store, preds, helpers)?;
-    code.callables = callables;
-    let keys = fact_keys(alloc, &code, preds)?;
-    code.keys = keys;
-    Ok((code, place))
+    let place = builder.add_all(code, store, preds, helpers, goal, slots);
+    drop(builder);
+    place
 }
 
 /// Empty tables.
@@ -118,4 +119,36 @@ struct Shape {
 struct Builder<'n> {
     alloc: Global,
     numbers: Numbers<'n>,
+}
+
+impl Builder<'_> {
+    /// Adds predicates, a goal's own ones and the goal, whose place is answered, and the goals by which names are called and
+    /// the keys of facts.
+    fn add_all<S: StateStore>(
+        &self,
+        code: &mut Code<'_>,
+        store: &mut S,
+        preds: &[CorePred],
+        helpers: &[CorePred],
+        goal: &CoreGoal,
+        slots: u32,
+    ) -> Result<u32, AllocError>
+        ensures keeps { Keeps (S.seen store.old) (S.seen store.new) }
+        ensures stays { IfOk result (λ _. Stays (S.seen store.old) (S.seen store.new)) }
+        ensures core { IfOk result (λ _. HasItsCore code.old code.new) }
+        ensures filled { IfOk result (λ place. IsBlank code.old → IsNumbering self.now.numbers (preds.now ++ helpers.now) → IsAcyclic (bindings (S.seen store.old).now.state) → IsFilled (preds.now ++ helpers.now) (tables_for (preds.now ++ helpers.now) (S.seen store.new).now.terms code.new) (S.seen store.new).names code.new goal.now slots place) }
+    {
+        self.add_predicates(code, store, preds)?;
+        self.add_predicates(code, store, helpers)?;
+        let shape = Shape {
+            first_slot: 0,
+            slots,
+        };
+        let place = self.add_goal(code, store, goal, shape, false)?;
+        let callables = self.add_callables(code, store, preds, helpers)?;
+        code.callables = callables;
+        let keys = fact_keys(self.alloc, code, preds)?;
+        code.keys = keys;
+        Ok(place)
+    }
 }

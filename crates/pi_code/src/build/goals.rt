@@ -237,8 +237,7 @@ fn push_marks(marks: &mut Vec<bool>, node: GoalNode<'_>, is_last: bool) -> Resul
 {
     let before = before_last(node);
     push_times(marks, child_count(node).saturating_sub(before), is_last)?;
-    push_times(marks, before, false)?;
-    Ok(())
+    push_times(marks, before, false)
 }
 
 /// Pushes a mark so many times.

@@ -6,23 +6,30 @@ use Rattle.pi_code.specs.LaidRules.{IsFilled}
 use Rattle.pi_code.proofs.LaidWhole.{filled-with}
 use Rattle.pi_code.proofs.build.build_code.Goals as goal
 
+pub returns-clause-source : goal.returns-clause-source
+returns-clause-source g c = ap (λ r. r.now.preds ++ c.args.helpers) c.in_ok-place.ensures.core ∙ ap (λ q. q.preds ++ c.args.helpers) c.no_code-code.ensures.core
+
 pub returns-clause-filled : goal.returns-clause-filled
 returns-clause-filled g c = λ acyclic.
+    let made : Code = c.fill.new.code in
     let whole : Code =
     record {
-      core = c.in_ok-code.code.core;
+      core = made.core;
       helpers = c.args.helpers;
-      steps = c.in_ok-code.code.steps;
-      operands = c.in_ok-code.code.operands;
-      parts = c.in_ok-code.code.parts;
-      names = c.in_ok-code.code.names;
-      tests = c.in_ok-code.code.tests;
-      rules = c.in_ok-code.code.rules;
-      predicates = c.in_ok-code.code.predicates;
-      callables = c.in_ok-code.code.callables;
-      keys = c.in_ok-code.code.keys;
+      steps = made.steps;
+      operands = made.operands;
+      parts = made.parts;
+      names = made.names;
+      tests = made.tests;
+      rules = made.rules;
+      predicates = made.predicates;
+      callables = made.callables;
+      keys = made.keys;
     } in
     subst
-    (λ (all : List CorePred). IsFilled all (tables_for all (g.S.StateStore.seen c.fill.new.store).now.terms whole) (g.S.StateStore.seen c.fill.new.store).names whole c.args.goal.now c.args.slots c.in_ok-code.place)
-    (ap (λ r. c.args.core.now.preds ++ r) c.as_slice.ensures ∙ ap (λ q. q.preds ++ c.args.helpers) (sym c.in_ok-code.ensures.core))
-    (filled-with (g.S.StateStore.seen c.fill.new.store) c.in_ok-code.code whole (c.args.core.now.preds ++ c.as_slice.result.now) c.args.goal.now c.args.slots c.in_ok-code.place (c.in_ok-code.ensures.filled acyclic))
+    (λ (all : List CorePred). IsFilled all (tables_for all (g.S.StateStore.seen c.fill.new.store).now.terms whole) (g.S.StateStore.seen c.fill.new.store).names whole c.args.goal.now c.args.slots c.in_ok-place.place)
+    (ap (λ ps. ps ++ c.as_slice.result.now) c.as_slice-preds.ensures
+    ∙ (ap (λ r. c.args.core.now.preds ++ r) c.as_slice.ensures
+    ∙ (ap (λ q. q.preds ++ c.args.helpers) (sym c.no_code-code.ensures.core) ∙ ap (λ r. r.now.preds ++ c.args.helpers) (sym c.in_ok-place.ensures.core))))
+    (filled-with (g.S.StateStore.seen c.fill.new.store) made whole (c.as_slice-preds.result.now ++ c.as_slice.result.now) c.args.goal.now c.args.slots c.in_ok-place.place
+    (c.in_ok-place.ensures.filled (record { steps = c.no_code-code.ensures.steps; predicates = c.no_code-code.ensures.predicates }) acyclic))

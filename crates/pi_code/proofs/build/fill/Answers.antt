@@ -1,65 +1,9 @@
-use Rattle.std.proofs.Common.{◌++◌, [], List, subst}
-use Rattle.pi_core.specs.declared.core_program.CorePred.{CorePred}
-use Rattle.pi_unify.proofs.KeepsLemmas.{keeps_then, stays_then}
+use Rattle.std.proofs.Common.{◌++◌, []}
+use Rattle.std.proofs.lemmas.Result.{IfOk-weaker}
 use Rattle.pi_code.specs.Numbers.{IsNumbering}
-use Rattle.pi_code.specs.Laid.{tables_for}
-use Rattle.pi_code.specs.LaidRules.{IsFilled}
-use Rattle.pi_states.specs.State.{bindings}
-use Rattle.pi_states.specs.Value.{IsAcyclic}
-use Rattle.pi_code.proofs.LaidTests.{acyclic-stays}
-use Rattle.pi_code.proofs.LaidWhole.{with_callables, filled-all}
 use Rattle.pi_code.proofs.build.fill.Goals as goal
 
-pub returns-in_err-add_predicates-2-clause-keeps : goal.returns-in_err-add_predicates-2-clause-keeps
-returns-in_err-add_predicates-2-clause-keeps g c =
-    keeps_then (g.S.StateStore.seen c.args.store.now) (g.S.StateStore.seen c.add_predicates.new.store) (g.S.StateStore.seen c.add_predicates-2.new.store) c.add_predicates.ensures.keeps c.add_predicates-2.ensures.keeps
-
-pub returns-in_err-place-clause-keeps : goal.returns-in_err-place-clause-keeps
-returns-in_err-place-clause-keeps g c =
-    keeps_then (g.S.StateStore.seen c.args.store.now) (g.S.StateStore.seen c.add_predicates-2.new.store) (g.S.StateStore.seen c.add_goal.new.store)
-    (keeps_then (g.S.StateStore.seen c.args.store.now) (g.S.StateStore.seen c.add_predicates.new.store) (g.S.StateStore.seen c.add_predicates-2.new.store) c.add_predicates.ensures.keeps c.add_predicates-2.ensures.keeps) c.add_goal.ensures.keeps
-
-pub returns-in_err-callables-clause-keeps : goal.returns-in_err-callables-clause-keeps
-returns-in_err-callables-clause-keeps g c =
-    keeps_then (g.S.StateStore.seen c.args.store.now) (g.S.StateStore.seen c.add_goal.new.store) (g.S.StateStore.seen c.add_callables.new.store)
-    (keeps_then (g.S.StateStore.seen c.args.store.now) (g.S.StateStore.seen c.add_predicates-2.new.store) (g.S.StateStore.seen c.add_goal.new.store)
-    (keeps_then (g.S.StateStore.seen c.args.store.now) (g.S.StateStore.seen c.add_predicates.new.store) (g.S.StateStore.seen c.add_predicates-2.new.store) c.add_predicates.ensures.keeps c.add_predicates-2.ensures.keeps) c.add_goal.ensures.keeps)
-    c.add_callables.ensures.keeps
-
-pub returns-in_err-keys-clause-keeps : goal.returns-in_err-keys-clause-keeps
-returns-in_err-keys-clause-keeps g c =
-    keeps_then (g.S.StateStore.seen c.args.store.now) (g.S.StateStore.seen c.add_goal.new.store) (g.S.StateStore.seen c.add_callables.new.store)
-    (keeps_then (g.S.StateStore.seen c.args.store.now) (g.S.StateStore.seen c.add_predicates-2.new.store) (g.S.StateStore.seen c.add_goal.new.store)
-    (keeps_then (g.S.StateStore.seen c.args.store.now) (g.S.StateStore.seen c.add_predicates.new.store) (g.S.StateStore.seen c.add_predicates-2.new.store) c.add_predicates.ensures.keeps c.add_predicates-2.ensures.keeps) c.add_goal.ensures.keeps)
-    c.add_callables.ensures.keeps
-
-pub returns-clause-keeps : goal.returns-clause-keeps
-returns-clause-keeps g c =
-    keeps_then (g.S.StateStore.seen c.args.store.now) (g.S.StateStore.seen c.add_goal.new.store) (g.S.StateStore.seen c.add_callables.new.store)
-    (keeps_then (g.S.StateStore.seen c.args.store.now) (g.S.StateStore.seen c.add_predicates-2.new.store) (g.S.StateStore.seen c.add_goal.new.store)
-    (keeps_then (g.S.StateStore.seen c.args.store.now) (g.S.StateStore.seen c.add_predicates.new.store) (g.S.StateStore.seen c.add_predicates-2.new.store) c.add_predicates.ensures.keeps c.add_predicates-2.ensures.keeps) c.add_goal.ensures.keeps)
-    c.add_callables.ensures.keeps
-
-pub returns-clause-stays : goal.returns-clause-stays
-returns-clause-stays g c =
-    stays_then (g.S.StateStore.seen c.args.store.now) (g.S.StateStore.seen c.add_goal.new.store) (g.S.StateStore.seen c.add_callables.new.store) (g.S.StateStore.seen c.args.store.now).now.state
-    (stays_then (g.S.StateStore.seen c.args.store.now) (g.S.StateStore.seen c.add_predicates-2.new.store) (g.S.StateStore.seen c.add_goal.new.store) (g.S.StateStore.seen c.args.store.now).now.state
-    (stays_then (g.S.StateStore.seen c.args.store.now) (g.S.StateStore.seen c.add_predicates.new.store) (g.S.StateStore.seen c.add_predicates-2.new.store) (g.S.StateStore.seen c.args.store.now).now.state c.in_ok-add_predicates.ensures.adds.stays
-    c.in_ok-add_predicates-2.ensures.adds.stays) c.in_ok-place.ensures.adds.adds.stays) c.in_ok-callables.ensures.adds.adds.stays
-
 pub returns-clause-filled : goal.returns-clause-filled
-returns-clause-filled g c = λ acyclic.
-    let numbered : IsNumbering c.add-2.new.self (c.as_slice-preds.result.now ++ c.args.helpers.now) = c.in_ok-add-2.ensures c.as_slice-preds.result.now (c.in_ok-add.ensures [] c.new-numbers.ensures) in
-    let later : IsAcyclic (bindings (g.S.StateStore.seen c.add_goal.new.store).now.state) =
-    acyclic-stays (g.S.StateStore.seen c.args.store.now) (g.S.StateStore.seen c.add_goal.new.store)
-    (stays_then (g.S.StateStore.seen c.args.store.now) (g.S.StateStore.seen c.add_predicates-2.new.store) (g.S.StateStore.seen c.add_goal.new.store) (g.S.StateStore.seen c.args.store.now).now.state
-    (stays_then (g.S.StateStore.seen c.args.store.now) (g.S.StateStore.seen c.add_predicates.new.store) (g.S.StateStore.seen c.add_predicates-2.new.store) (g.S.StateStore.seen c.args.store.now).now.state c.in_ok-add_predicates.ensures.adds.stays
-    c.in_ok-add_predicates-2.ensures.adds.stays) c.in_ok-place.ensures.adds.adds.stays) acyclic in
-    subst
-    (λ (ps : List CorePred). IsFilled (ps ++ c.args.helpers.now) (tables_for (ps ++ c.args.helpers.now) (g.S.StateStore.seen c.add_callables.new.store).now.terms c.add_callables.new.code) (g.S.StateStore.seen c.add_callables.new.store).names
-    (with_callables c.add_callables.new.code c.in_ok-callables.callables c.in_ok-keys.keys) c.args.goal.now c.args.slots c.in_ok-place.place) c.as_slice-preds.ensures
-    (filled-all c.add-2.new.self (g.S.StateStore.seen c.args.store.now) (g.S.StateStore.seen c.add_predicates.new.store) (g.S.StateStore.seen c.add_predicates-2.new.store) (g.S.StateStore.seen c.add_goal.new.store) (g.S.StateStore.seen c.add_callables.new.store)
-    c.no_code-code.result c.add_predicates.new.code c.add_predicates-2.new.code c.add_goal.new.code c.add_callables.new.code c.in_ok-callables.callables c.in_ok-keys.keys c.as_slice-preds.result.now c.args.helpers.now c.args.goal.now c.args.slots c.in_ok-place.place numbered acyclic
-    c.no_code-code.ensures.predicates c.no_code-code.ensures.steps c.in_ok-add_predicates.ensures.adds c.in_ok-add_predicates.ensures.long c.in_ok-add_predicates.ensures.laid c.in_ok-add_predicates.ensures.resolved c.in_ok-add_predicates-2.ensures.adds
-    c.in_ok-add_predicates-2.ensures.laid c.in_ok-add_predicates-2.ensures.resolved c.in_ok-place.ensures.adds c.in_ok-place.ensures.laid c.in_ok-place.ensures.resolved c.in_ok-callables.ensures.adds c.in_ok-callables.ensures.resolved
-    (c.in_ok-callables.ensures.callable numbered later) c.in_ok-keys.ensures)
+returns-clause-filled g c =
+    let numbered : IsNumbering c.add-2.new.self (c.args.preds.now ++ c.args.helpers.now) = c.in_ok-add-2.ensures c.args.preds.now (c.in_ok-add.ensures [] c.new-numbers.ensures) in
+    IfOk-weaker c.add_all-place.result _ _ (λ place so blank acyclic. so blank numbered acyclic) c.add_all-place.ensures.filled
