@@ -9,7 +9,7 @@ ghost use Rattle.pi_clauses.specs.Places.{goal, placed, clause_placed};
 ghost use Rattle.pi_clauses.specs.Walk.{shown_place, shown_node};
 
 use crate::nodes::form::Form;
-use crate::nodes::operators::is_boolean_call;
+use crate::nodes::operators::{is_among, is_boolean_call};
 use crate::nodes::place::Place;
 use crate::nodes::walk::{Node, Walk};
 use pi_lib::is_form;
@@ -23,6 +23,9 @@ pub struct Called<'a> {
     pub arity: usize,
     pub is_function: bool,
 }
+
+/// The predicates and functions that search for plans. A User's Guide to Picat, 'The planner Module'.
+const PLANNERS: [&str; 2] = ["plan", "best_plan"];
 
 /// The predicates that a planner call calls behind itself. A User's Guide to Picat, 'The planner Module'.
 const FINAL: Called<'static> = Called {
@@ -193,5 +196,5 @@ fn goal_calls(name: &str, arity: usize) -> NodeCalls<'_>
 fn is_planner_call(name: &str, arity: usize) -> bool
     ensures { result ≡ is_planner_call name.now arity }
 {
-    (name == "plan" || name == "best_plan") && 2 <= arity && arity <= 4
+    is_among(&PLANNERS, name) && 2 <= arity && arity <= 4
 }
