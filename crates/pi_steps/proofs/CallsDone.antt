@@ -1,5 +1,6 @@
 -- What is next behind a call of a built-in predicate.
-use Rattle.std.proofs.Common.{Ok, Err, refl, sym, subst}
+use Rattle.std.proofs.Common.{Result, Ok, Err, refl, sym, subst}
+use Rattle.std.specs.Prelude.{IfOk}
 use Rattle.pi_terms.specs.Tree.{Tree}
 use Rattle.pi_states.specs.State.{IsState}
 use Rattle.pi_states.specs.Store.{StoreView}
@@ -22,3 +23,8 @@ done-comes v w mode p (Outcome.Out text) e now shows is = subst (λ d. ComesNext
 
 pub raised-comes : {M : Type 0} (v w : StoreView M) (mode : Mode) (p : Point) (stop : Stop) (e : Effect) (made : Tree) → IsState v.now.state → ShowsOutcome v w (Err stop) e → IsRaised w stop made → ComesNext mode p e w.now.state (Now.Raising made)
 raised-comes v w mode p stop e made state shows is = subst (λ d. ComesNext mode p d w.now.state (Now.Raising made)) (sym (step-raised v w stop e made state shows is).0) refl
+
+-- what two clauses of a call that comes last say together
+pub both-ok : {T E : Type 0} (r : Result T E) (P Q R : T → Type 0) → ((x : T) → P x → Q x → R x) → IfOk r P → IfOk r Q → IfOk r R
+both-ok (Ok x) P Q R f p q = f x p q
+both-ok (Err y) P Q R f p q = tt

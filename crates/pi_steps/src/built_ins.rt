@@ -56,7 +56,7 @@ fn next_of<S: StateStore>(
     ensures { IfOk result (λ now. (v : StoreView S.Mark) (e : Effect) → IsState v.now.state → ShowsOutcome v (S.seen store.now) outcome e → ComesNext mode behind e (S.seen store.now).now.state now) }
 {
     match outcome {
-        Ok(outcome) => Ok(done(alloc, mode, outcome, behind)?),
+        Ok(outcome) => done(alloc, mode, outcome, behind),
         Err(stop) => Ok(Now::Raising(raised(alloc, store, stop)?)),
     }
 }
@@ -68,7 +68,7 @@ fn done(alloc: Global, mode: Mode, outcome: Outcome, behind: Point) -> Result<No
     match outcome {
         Outcome::Yes => Ok(Now::Going(behind)),
         Outcome::No => Ok(Now::Failing),
-        Outcome::Out(text) => Ok(told(alloc, mode, text, behind)?),
+        Outcome::Out(text) => told(alloc, mode, text, behind),
     }
 }
 

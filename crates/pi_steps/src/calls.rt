@@ -79,8 +79,7 @@ pub fn call<S: StateStore>(
         base,
         frame,
     };
-    try_clauses(code, run, &call, called)?;
-    Ok(())
+    try_clauses(code, run, &call, called)
 }
 
 /// Calls a function: a level that takes the first value. The level keeps the arguments, so that the call can be told where
@@ -111,8 +110,7 @@ pub fn apply<S: StateStore>(
         base,
         frame: 0,
     };
-    try_rules(code, run, &call, called, called.first, false)?;
-    Ok(())
+    try_rules(code, run, &call, called, called.first, false)
 }
 
 /// The arguments of a call, into the room for them.

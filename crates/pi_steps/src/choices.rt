@@ -116,8 +116,7 @@ pub fn push_entry_at<S: StateStore>(
     ensures { IfOk result (λ _. PushesEntry S.order (S.seen run.old.store) (S.seen run.new.store) (view_of run.old.arenas) (view_of run.new.arenas) slots base frame kind) }
 {
     let mark = run.store.mark()?;
-    run.arenas.push(mark, slots, base, frame, kind)?;
-    Ok(())
+    run.arenas.push(mark, slots, base, frame, kind)
 }
 
 /// Brings back the state of the newest entry, which stays, where there is one.

@@ -39,11 +39,10 @@ pub fn try_clauses<S: StateStore>(
     ensures { IfOk result (λ _. (l : Loaded) → l.code ≡ code.now → slice_get code.now.predicates.items call.now.predicate ≡ Some predicate.now → TriesClauses (world l (S.seen run.old.store) S.order (view_of run.old.arenas)) (world l (S.seen run.new.store) S.order (view_of run.new.arenas)) call.now.predicate call.now.base call.now.frame predicate.now.first run.new.now) }
 {
     if predicate.is_facts {
-        call_facts(code, run, call, predicate)?;
+        call_facts(code, run, call, predicate)
     } else {
-        try_rules(code, run, call, predicate, predicate.first, false)?;
+        try_rules(code, run, call, predicate, predicate.first, false)
     }
-    Ok(())
 }
 
 /// Goes on with the facts of a call that was made just now, where a mode list fits it.
@@ -57,11 +56,11 @@ fn call_facts<S: StateStore>(
     ensures { IfOk result (λ _. (l : Loaded) → l.code ≡ code.now → slice_get code.now.predicates.items call.now.predicate ≡ Some predicate.now → predicate.now.is_facts ≡ true → TriesClauses (world l (S.seen run.old.store) S.order (view_of run.old.arenas)) (world l (S.seen run.new.store) S.order (view_of run.new.arenas)) call.now.predicate call.now.base call.now.frame predicate.now.first run.new.now) }
 {
     if fits(code, run, call, predicate.arity)? {
-        try_facts(code, run, call, predicate, predicate.first, false)?;
+        try_facts(code, run, call, predicate, predicate.first, false)
     } else {
         run.now = Now::Failing;
+        Ok(())
     }
-    Ok(())
 }
 
 /// Whether a mode list of its predicate fits a call.
@@ -79,8 +78,7 @@ fn fits<S: StateStore>(
         return Ok(false);
     };
     take_block(&run.arenas.blocks, call.base, arity, &mut run.terms)?;
-    let one = fits_call(run.alloc, &run.store, &source.decl, &run.terms)?;
-    Ok(one)
+    fits_call(run.alloc, &run.store, &source.decl, &run.terms)
 }
 
 /// Goes on with the first of a call's facts from `from` on that unifies with it. `is_again` says that the newest entry is this
@@ -101,8 +99,7 @@ pub fn try_facts<S: StateStore>(
     };
     let asked = asked_of(run, call, predicate.arity)?;
     let clauses = source.clauses.as_slice();
-    try_some(code, run, clauses, call, predicate, from, asked, is_again)?;
-    Ok(())
+    try_some(code, run, clauses, call, predicate, from, asked, is_again)
 }
 
 /// The arguments of a call, as those of a compound without a name.
@@ -112,8 +109,7 @@ fn asked_of<S: StateStore>(run: &mut Run<S>, call: &Call, arity: u32) -> Result<
     ensures term { IfOk result (λ r. (ts : Trees) → HoldsArguments (S.seen run.old.store).now.terms run.old.arenas.blocks.slots call.now.base arity ts → IsTerm (S.seen run.new.store) r (comp [] ts)) }
 {
     take_block(&run.arenas.blocks, call.base, arity, &mut run.terms)?;
-    let made = run.store.put_comp("", &run.terms)?;
-    Ok(made)
+    run.store.put_comp("", &run.terms)
 }
 
 /// Goes on with the first of these facts from `from` on that unifies with a call.
@@ -151,8 +147,7 @@ fn try_some<S: StateStore>(
         number.saturating_sub(facts.first),
         call,
         asked,
-    )?;
-    Ok(())
+    )
 }
 
 /// The number behind one that is below another.
@@ -186,11 +181,13 @@ fn leave_later<S: StateStore>(
     match next {
         Some(number) => {
             let kind = Kind::Facts(call.predicate, number);
-            keep(run, call, arity, kind, is_again)?;
+            keep(run, call, arity, kind, is_again)
         }
-        None => drop_own(run, is_again),
+        None => {
+            drop_own(run, is_again);
+            Ok(())
+        }
     }
-    Ok(())
 }
 
 /// Drops the newest entry where it is the call's.
@@ -219,8 +216,7 @@ fn take_fact<S: StateStore>(
         run.now = Now::Failing;
         return Ok(());
     };
-    make_fact(run, fact, call, asked)?;
-    Ok(())
+    make_fact(run, fact, call, asked)
 }
 
 /// Unifies a fact with a call.
@@ -271,6 +267,5 @@ pub fn retry_facts<S: StateStore>(
         return Ok(());
     };
     let call = call_of(&back, predicate);
-    try_facts(code, run, &call, called, from, true)?;
-    Ok(())
+    try_facts(code, run, &call, called, from, true)
 }

@@ -39,16 +39,24 @@ pub fn run_goal<S: StateStore>(
         return Ok(());
     };
     match step.node {
-        Node::Tick => run_tick(mode, run, point, *step, budget),
-        Node::Call(predicate, operands) => {
-            run_call(code, mode, run, point, *step, predicate, operands, budget)?;
+        Node::Tick => {
+            run_tick(mode, run, point, *step, budget);
+            Ok(())
         }
-        Node::True => pass(run, point, *step),
-        Node::Fail => fail_here(run, point, *step),
-        Node::Seq(count) => enter_sequence(run, point, *step, count)?,
-        _ => run_other(code, mode, run, point, step, budget)?,
+        Node::Call(predicate, operands) => {
+            run_call(code, mode, run, point, *step, predicate, operands, budget)
+        }
+        Node::True => {
+            pass(run, point, *step);
+            Ok(())
+        }
+        Node::Fail => {
+            fail_here(run, point, *step);
+            Ok(())
+        }
+        Node::Seq(count) => enter_sequence(run, point, *step, count),
+        _ => run_other(code, mode, run, point, step, budget),
     }
-    Ok(())
 }
 
 /// Runs the first goal of a point, which is none of those that `run_goal` runs at sight. It stands by itself, and is
@@ -70,15 +78,12 @@ fn run_other<S: StateStore>(
         Node::Apply(predicate, operands, into) => {
             run_apply(
                 code, mode, run, point, *step, predicate, operands, into, budget,
-            )?;
+            )
         }
-        Node::Value(operand) => give_value(code, run, point, *step, operand)?,
-        Node::CallTerm(operands, count) => {
-            call_term(code, run, point, *step, operands, count)?;
-        }
-        _ => run_silent(code, mode, run, point, *step)?,
+        Node::Value(operand) => give_value(code, run, point, *step, operand),
+        Node::CallTerm(operands, count) => call_term(code, run, point, *step, operands, count),
+        _ => run_silent(code, mode, run, point, *step),
     }
-    Ok(())
 }
 
 /// Counts a Tick, and passes its goal.
@@ -121,8 +126,7 @@ fn run_call<S: StateStore>(
     if !tick_call(called.is_quiet, mode, &mut run.now, budget) {
         return Ok(());
     }
-    call(code, run, point, step, called, predicate, operands)?;
-    Ok(())
+    call(code, run, point, step, called, predicate, operands)
 }
 
 /// The same of a function's call. It stands apart from `run_call`, which is inlined into each turn.
@@ -149,8 +153,7 @@ fn run_apply<S: StateStore>(
     if !tick_call(called.is_quiet, mode, &mut run.now, budget) {
         return Ok(());
     }
-    apply(code, run, point, step, called, predicate, operands)?;
-    Ok(())
+    apply(code, run, point, step, called, predicate, operands)
 }
 
 /// Passes a goal that is `true`.
@@ -181,28 +184,27 @@ fn run_silent<S: StateStore>(
     ensures { IfOk result (λ _. (l : Loaded) → l.code ≡ code.now → IsOther step.node → IsSilent step.node → RunsGoalIn mode (world l (S.seen run.old.store) S.order (view_of run.old.arenas)) (world l (S.seen run.new.store) S.order (view_of run.new.arenas)) point step run.new.now) }
 {
     match step.node {
-        Node::Alt(count) => enter_alternatives(code, run, point, step, count)?,
-        Node::Unify(left, right) => make_equal(code, run, point, step, left, right)?,
-        Node::Throw(ball) => throw(code, run, point, step, ball)?,
+        Node::Alt(count) => enter_alternatives(code, run, point, step, count),
+        Node::Unify(left, right) => make_equal(code, run, point, step, left, right),
+        Node::Throw(ball) => throw(code, run, point, step, ball),
         Node::BuiltIn(predicate, _, operands, count) => {
-            call_built_in(code, mode, run, point, step, predicate, operands, count)?;
+            call_built_in(code, mode, run, point, step, predicate, operands, count)
         }
         Node::BuiltInValue(function, _, operands, count, into) => {
-            apply_built_in(code, run, point, step, function, operands, count, into)?;
+            apply_built_in(code, run, point, step, function, operands, count, into)
         }
-        Node::Catch(ball) => enter_catch(code, run, point, step, ball)?,
-        Node::If => enter_strict(code, run, point, step, Strict::If(point.place))?,
-        Node::Not => enter_strict(code, run, point, step, Strict::Not(point.place))?,
-        Node::Once => enter_strict(code, run, point, step, Strict::Once(point.place))?,
-        Node::Count(_) => enter_strict(code, run, point, step, Strict::Count(point.place, 0))?,
+        Node::Catch(ball) => enter_catch(code, run, point, step, ball),
+        Node::If => enter_strict(code, run, point, step, Strict::If(point.place)),
+        Node::Not => enter_strict(code, run, point, step, Strict::Not(point.place)),
+        Node::Once => enter_strict(code, run, point, step, Strict::Once(point.place)),
+        Node::Count(_) => enter_strict(code, run, point, step, Strict::Count(point.place, 0)),
         Node::Collect(_, _) => {
             let first = count_collected(run);
-            enter_strict(code, run, point, step, Strict::Collect(point.place, first))?;
+            enter_strict(code, run, point, step, Strict::Collect(point.place, first))
         }
         // The rest is run before it comes here.
-        _ => {}
+        _ => Ok(()),
     }
-    Ok(())
 }
 
 fn enter_strict<S: StateStore>(
@@ -214,6 +216,5 @@ fn enter_strict<S: StateStore>(
 ) -> Result<(), AllocError>
     ensures { IfOk result (λ _. level_kind point.place (length run.old.arenas.collected.items) step.node ≡ Some (Kind.Strict strict) → (l : Loaded) → l.code ≡ code.now → RunsGoal (world l (S.seen run.old.store) S.order (view_of run.old.arenas)) (world l (S.seen run.new.store) S.order (view_of run.new.arenas)) point step run.new.now) }
 {
-    enter_level(code, run, point, step, Kind::Strict(strict))?;
-    Ok(())
+    enter_level(code, run, point, step, Kind::Strict(strict))
 }

@@ -39,7 +39,7 @@ pub fn matches<S: StateStore>(
 {
     let first = first_slot(&run.arenas.blocks, call, arity);
     run.arenas.blocks.truncate(first);
-    let found = if rule.is_deep {
+    if rule.is_deep {
         let patterns = code.head(call.predicate, number);
         matches_patterns(
             run.alloc,
@@ -49,7 +49,7 @@ pub fn matches<S: StateStore>(
             patterns,
             call.base,
             rule.slots,
-        )?
+        )
     } else {
         run.arenas.blocks.push_empty(rule.slots)?;
         let tests = code.tests_of(rule.tests, arity);
@@ -60,9 +60,8 @@ pub fn matches<S: StateStore>(
             tests,
             call.base,
             first,
-        )?
-    };
-    Ok(found)
+        )
+    }
 }
 
 /// Whether the arguments from a slot on pass the tests of a head. Slots from `first` on are filled then.

@@ -49,14 +49,25 @@ pub fn answer_level<S: StateStore>(code: &Code<'_>, run: &mut Run<S>) -> Result<
     };
     let back = entry.back;
     match back.kind {
-        Kind::Strict(strict) => answer_strict(code, run, level, back, strict)?,
-        Kind::Catch(_) => leave_catch(run, level, back)?,
-        Kind::Rules(_, _) => run.now = Now::Failing,
-        Kind::Facts(_, _) => run.now = Now::Failing,
-        Kind::Branches(_, _) => run.now = Now::Failing,
-        Kind::Exit => run.now = Now::Failing,
+        Kind::Strict(strict) => answer_strict(code, run, level, back, strict),
+        Kind::Catch(_) => leave_catch(run, level, back),
+        Kind::Rules(_, _) => {
+            run.now = Now::Failing;
+            Ok(())
+        }
+        Kind::Facts(_, _) => {
+            run.now = Now::Failing;
+            Ok(())
+        }
+        Kind::Branches(_, _) => {
+            run.now = Now::Failing;
+            Ok(())
+        }
+        Kind::Exit => {
+            run.now = Now::Failing;
+            Ok(())
+        }
     }
-    Ok(())
 }
 
 /// What a strict level makes of an answer. A function call has its answer by a value, and none here.
@@ -70,17 +81,26 @@ fn answer_strict<S: StateStore>(
     ensures { IfOk result (λ _. (l : Loaded) → l.code ≡ code.now → IsLevel (view_of run.old.arenas) level back → back.kind ≡ Kind.Strict strict → AnswersOpen (world l (S.seen run.old.store) S.order (view_of run.old.arenas)) (world l (S.seen run.new.store) S.order (view_of run.new.arenas)) run.new.now) }
 {
     match strict {
-        Strict::Once(_) => leave_once(run, level, back),
-        Strict::Not(_) => leave_not(run, level, back),
-        Strict::If(place) => leave_if(code, run, level, back, place),
-        Strict::Guard(predicate, rule) => {
-            take_guarded(code, run, level, back, predicate, rule)?;
+        Strict::Once(_) => {
+            leave_once(run, level, back);
+            Ok(())
         }
-        Strict::Collect(place, _) => add_value(code, run, back, place)?,
-        Strict::Count(place, count) => count_answer(run, level, place, count)?,
-        Strict::Apply(_, _) => run.now = Now::Failing,
+        Strict::Not(_) => {
+            leave_not(run, level, back);
+            Ok(())
+        }
+        Strict::If(place) => {
+            leave_if(code, run, level, back, place);
+            Ok(())
+        }
+        Strict::Guard(predicate, rule) => take_guarded(code, run, level, back, predicate, rule),
+        Strict::Collect(place, _) => add_value(code, run, back, place),
+        Strict::Count(place, count) => count_answer(run, level, place, count),
+        Strict::Apply(_, _) => {
+            run.now = Now::Failing;
+            Ok(())
+        }
     }
-    Ok(())
 }
 
 /// Leaves a `once` by the first answer of its goal.
@@ -150,14 +170,13 @@ pub fn fail<S: StateStore>(code: &Code<'_>, run: &mut Run<S>) -> Result<(), Allo
     match entry.back.kind {
         Kind::Rules(predicate, next) => {
             let call = call_of(&entry.back, predicate);
-            retry(code, run, &call, next)?;
+            retry(code, run, &call, next)
         }
         _ => {
             let back = entry.back;
-            go_on_with(code, run, back)?;
+            go_on_with(code, run, back)
         }
     }
-    Ok(())
 }
 
 /// Goes on with the newest entry, which was come back to and doesn't wait for a call's rules. It stands by itself, so that an
@@ -171,14 +190,25 @@ fn go_on_with<S: StateStore>(
     ensures { IfOk result (λ _. (l : Loaded) → l.code ≡ code.now → ((predicate next : ℕ) → back.kind ≢ Kind.Rules predicate next) → PassesOver (world l (S.seen run.old.store) S.order (view_of run.old.arenas)) (world l (S.seen run.new.store) S.order (view_of run.new.arenas)) back run.new.now) }
 {
     match back.kind {
-        Kind::Rules(_, _) => run.now = Now::Failing,
-        Kind::Facts(predicate, next) => retry_facts(code, run, back, predicate, next)?,
-        Kind::Branches(place, count) => next_branch(code, run, back, place, count),
-        Kind::Strict(strict) => end_strict(code, run, back, strict)?,
-        Kind::Catch(_) => pass_over(run, back),
-        Kind::Exit => pass_over(run, back),
+        Kind::Rules(_, _) => {
+            run.now = Now::Failing;
+            Ok(())
+        }
+        Kind::Facts(predicate, next) => retry_facts(code, run, back, predicate, next),
+        Kind::Branches(place, count) => {
+            next_branch(code, run, back, place, count);
+            Ok(())
+        }
+        Kind::Strict(strict) => end_strict(code, run, back, strict),
+        Kind::Catch(_) => {
+            pass_over(run, back);
+            Ok(())
+        }
+        Kind::Exit => {
+            pass_over(run, back);
+            Ok(())
+        }
     }
-    Ok(())
 }
 
 /// Passes the newest entry over, which has no further answer either.
@@ -201,15 +231,23 @@ fn end_strict<S: StateStore>(
     ensures { IfOk result (λ _. (l : Loaded) → l.code ≡ code.now → back.kind ≡ Kind.Strict strict → EndsLevel (world l (S.seen run.old.store) S.order (view_of run.old.arenas)) (world l (S.seen run.new.store) S.order (view_of run.new.arenas)) back run.new.now) }
 {
     match strict {
-        Strict::Once(_) => pass_over(run, back),
-        Strict::Not(_) => end_not(run, back),
-        Strict::If(place) => end_if(code, run, back, place),
-        Strict::Guard(predicate, rule) => end_guard(code, run, back, predicate, rule)?,
-        Strict::Apply(place, _) => no_value(code, run, back, place)?,
-        Strict::Collect(place, first) => give_list(code, run, back, place, first)?,
-        Strict::Count(place, count) => give_count(code, run, back, place, count)?,
+        Strict::Once(_) => {
+            pass_over(run, back);
+            Ok(())
+        }
+        Strict::Not(_) => {
+            end_not(run, back);
+            Ok(())
+        }
+        Strict::If(place) => {
+            end_if(code, run, back, place);
+            Ok(())
+        }
+        Strict::Guard(predicate, rule) => end_guard(code, run, back, predicate, rule),
+        Strict::Apply(place, _) => no_value(code, run, back, place),
+        Strict::Collect(place, first) => give_list(code, run, back, place, first),
+        Strict::Count(place, count) => give_count(code, run, back, place, count),
     }
-    Ok(())
 }
 
 /// Goes on with the rules behind one whose condition has no answer.
@@ -223,8 +261,7 @@ fn end_guard<S: StateStore>(
     ensures { IfOk result (λ _. (l : Loaded) → l.code ≡ code.now → back.kind ≡ guard_at predicate rule → EndsLevel (world l (S.seen run.old.store) S.order (view_of run.old.arenas)) (world l (S.seen run.new.store) S.order (view_of run.new.arenas)) back run.new.now) }
 {
     let next = rule.saturating_add(1).min(end_of_rules(code, predicate));
-    retry(code, run, &call_of(&back, predicate), next)?;
-    Ok(())
+    retry(code, run, &call_of(&back, predicate), next)
 }
 
 /// Where the rules of a predicate end.

@@ -42,8 +42,7 @@ pub fn enter_catch<S: StateStore>(
     ensures { IfOk result (λ _. step.node ≡ Node.Catch ball → (l : Loaded) → l.code ≡ code.now → RunsGoal (world l (S.seen run.old.store) S.order (view_of run.old.arenas)) (world l (S.seen run.new.store) S.order (view_of run.new.arenas)) point step run.new.now) }
 {
     let _wanted = value(code, run, ball, point.first_slot(step))?;
-    enter_level(code, run, point, step, Kind::Catch(point.place))?;
-    Ok(())
+    enter_level(code, run, point, step, Kind::Catch(point.place))
 }
 
 /// Raises a copy of a term.
@@ -70,7 +69,7 @@ fn ball_of<S: StateStore>(run: &Run<S>, term: Ref) -> Result<Term, AllocError>
     let copy = copied(run, term)?;
     match copy {
         Some(ball) => Ok(ball),
-        None => Ok(too_large(run)?),
+        None => too_large(run),
     }
 }
 
@@ -106,8 +105,8 @@ fn unresolved<S: StateStore>(run: &Run<S>, call: Ref) -> Result<Term, AllocError
 {
     let copy = copied(run, call)?;
     match copy {
-        Some(copy) => Ok(Term::comp(run.alloc, "unresolved_function_call", &[copy])?),
-        None => Ok(too_large(run)?),
+        Some(copy) => Term::comp(run.alloc, "unresolved_function_call", &[copy]),
+        None => too_large(run),
     }
 }
 
@@ -143,7 +142,7 @@ fn copied<S: StateStore>(run: &Run<S>, term: Ref) -> Result<Option<Term>, AllocE
 pub fn too_large<S: StateStore>(run: &Run<S>) -> Result<Term, AllocError>
     ensures { IfOk result (λ made. made ≡ atom (codes "term_too_large")) }
 {
-    Ok(Term::atom(run.alloc, "term_too_large")?)
+    Term::atom(run.alloc, "term_too_large")
 }
 
 /// Hands an exception to the newest entry, which is taken from the stack; without one it ends the run.
@@ -157,14 +156,28 @@ pub fn unwind<S: StateStore>(code: &Code<'_>, run: &mut Run<S>) -> Result<(), Al
     };
     let back = entry.back;
     match back.kind {
-        Kind::Catch(place) => try_catch(code, run, place)?,
-        Kind::Exit => pass_left(run, back),
-        Kind::Rules(_, _) => drop_entry(run, back),
-        Kind::Facts(_, _) => drop_entry(run, back),
-        Kind::Branches(_, _) => drop_entry(run, back),
-        Kind::Strict(_) => drop_entry(run, back),
+        Kind::Catch(place) => try_catch(code, run, place),
+        Kind::Exit => {
+            pass_left(run, back);
+            Ok(())
+        }
+        Kind::Rules(_, _) => {
+            drop_entry(run, back);
+            Ok(())
+        }
+        Kind::Facts(_, _) => {
+            drop_entry(run, back);
+            Ok(())
+        }
+        Kind::Branches(_, _) => {
+            drop_entry(run, back);
+            Ok(())
+        }
+        Kind::Strict(_) => {
+            drop_entry(run, back);
+            Ok(())
+        }
     }
-    Ok(())
 }
 
 /// An exception that nothing catches ends the run.
@@ -262,6 +275,5 @@ fn is_caught<S: StateStore>(
     let raised = place_term(run.alloc, &mut run.store, ball)?;
     // What a look says of all terms: they speak of variables that were made.
     let _root = run.store.look(wanted);
-    let is_one = unify(run.alloc, &mut run.store, wanted, raised)?;
-    Ok(is_one)
+    unify(run.alloc, &mut run.store, wanted, raised)
 }

@@ -34,8 +34,7 @@ pub fn try_rules<S: StateStore>(
     for number in from..predicate.end {
         if let Some(rule) = code.rule(number) {
             if matches(code, run, call, rule, number, predicate.arity)? {
-                apply(run, call, predicate, rule, number, is_again)?;
-                return Ok(());
+                return apply(run, call, predicate, rule, number, is_again);
             }
         }
     }
@@ -60,8 +59,7 @@ pub fn retry<S: StateStore>(
         run.now = Now::Failing;
         return Ok(());
     };
-    try_rules(code, run, call, called, from, true)?;
-    Ok(())
+    try_rules(code, run, call, called, from, true)
 }
 
 /// The call whose entry this is.
@@ -97,10 +95,9 @@ fn apply<S: StateStore>(
     ensures { IfOk result (λ _. (l : Loaded) → AppliesRule (world l (S.seen run.old.store) S.order (view_of run.old.arenas)) (world l (S.seen run.new.store) S.order (view_of run.new.arenas)) call.now.predicate call.now.base call.now.frame number is_again predicate.now rule.now run.new.now) }
 {
     match rule.guard {
-        None => take_rule(run, call, predicate, rule, number, is_again)?,
-        Some(guard) => enter_guard(run, call, predicate, guard, number, is_again)?,
+        None => take_rule(run, call, predicate, rule, number, is_again),
+        Some(guard) => enter_guard(run, call, predicate, guard, number, is_again),
     }
-    Ok(())
 }
 
 /// Runs a rule's body, whose head matches and whose condition has an answer. An entry is left where a later rule may apply
@@ -177,8 +174,7 @@ pub fn keep<S: StateStore>(
         return Ok(());
     }
     let slots = first_slot(&run.arenas.blocks, call, arity);
-    push_entry_at(run, slots, call.base, call.frame, kind)?;
-    Ok(())
+    push_entry_at(run, slots, call.base, call.frame, kind)
 }
 
 /// Takes a rule whose condition, the level with this number, has an answer.
@@ -200,8 +196,7 @@ pub fn take_guarded<S: StateStore>(
     let slots = end_of_slots(&run.arenas.blocks, back, rule);
     run.arenas.return_to(level, back, slots);
     let called = code.predicate(predicate);
-    take_rule(run, &call_of(&back, predicate), &called, rule, number, true)?;
-    Ok(())
+    take_rule(run, &call_of(&back, predicate), &called, rule, number, true)
 }
 
 /// Where the slots of a rule end, whose call was kept with its arguments alone.

@@ -31,10 +31,10 @@ pub fn value<S: StateStore>(
 {
     match operand {
         Operand::Known(term) => Ok(term),
-        Operand::Slot(k) => Ok(slot_value(run, slot_at(first, k))?),
+        Operand::Slot(k) => slot_value(run, slot_at(first, k)),
         Operand::Made(from, to) => {
             fill_slots(code, run, from, to, first)?;
-            Ok(put_together(code, run, from, to, first)?)
+            put_together(code, run, from, to, first)
         }
     }
 }

@@ -1,12 +1,13 @@
 use Rattle.std.proofs.Common.{subst}
+use Rattle.std.proofs.lemmas.Result.{IfOk-weaker}
 use Rattle.pi_calls.specs.Outcomes.{ShowsOutcome}
 use Rattle.pi_steps.proofs.CallsDone.{done-comes, raised-comes}
 use Rattle.pi_steps.proofs.built_ins.next_of.Goals as goal
 
-pub returns-in_ok-done-in-Ok : goal.returns-in_ok-done-in-Ok
-returns-in_ok-done-in-Ok g c = λ v e state shows.
+pub returns-in-Ok : goal.returns-in-Ok
+returns-in-Ok g c = IfOk-weaker c.done.result _ _ (λ now so v e state shows.
     let w = g.S.StateStore.seen c.args.store.now in
-    done-comes v w c.args.mode c.args.behind c.in-Ok.outcome e c.in_ok-done-in-Ok.field-0 (subst (λ r. ShowsOutcome v w r e) c.in-Ok.is shows) c.in_ok-done-in-Ok.ensures
+    done-comes v w c.args.mode c.args.behind c.in-Ok.outcome e now (subst (λ r. ShowsOutcome v w r e) c.in-Ok.is shows) so) c.done.ensures
 
 pub returns-in_ok-raised-in-Err : goal.returns-in_ok-raised-in-Err
 returns-in_ok-raised-in-Err g c = λ v e state shows.

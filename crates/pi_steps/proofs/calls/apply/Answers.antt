@@ -1,5 +1,6 @@
 use Rattle.std.proofs.Common.{◌≡◌, ◌++◌, ◌∙◌, sym, ap, subst, refl, map, Some, [], ◌∷◌, length}
 use Rattle.std.specs.Prelude.{slice_get}
+use Rattle.std.proofs.lemmas.Result.{IfOk-weaker}
 use Rattle.pi_terms.specs.Tree.{trees_of}
 use Rattle.pi_states.specs.Evaluation.{evaluated_all}
 use Rattle.pi_code.specs.declared.code.Node.{Node}
@@ -19,7 +20,7 @@ use Rattle.pi_stands.proofs.RulesTried.{found-there}
 use Rattle.pi_steps.proofs.calls.apply.Goals as goal
 
 pub returns : goal.returns
-returns g c = λ into node l is_code has view goal gs e k es at stands.
+returns g c = IfOk-weaker c.try_rules.result _ _ (λ _ so into node l is_code has view goal gs e k es at stands.
     let seen = g.S.StateStore.seen in
     let order = g.S.StateStore.order in
     let v = seen c.args.run.now.store in
@@ -68,4 +69,4 @@ returns g c = λ into node l is_code has view goal gs e k es at stands.
     (subst (λ r. ApplyRuns w (world l pushed_store order r) q (length b.blocks.slots) predicate view goal gs e k es) same_all there) in
     let end = c.try_rules.new.run in
     runs.step end.now (world l (seen end.store) order (view_of end.arenas))
-    (c.in_ok-try_rules.ensures l is_code has runs.called runs.pred.clauses pushed_store.now.state [] (runs.level ∷ es) runs.made.is runs.made.args refl)
+    (so l is_code has runs.called runs.pred.clauses pushed_store.now.state [] (runs.level ∷ es) runs.made.is runs.made.args refl)) c.try_rules.ensures

@@ -1,5 +1,6 @@
 use Rattle.std.proofs.Common.{◌≡◌, ◌++◌, ◌∙◌, sym, ap, subst, refl, map, Some, [], false}
 use Rattle.std.specs.Prelude.{slice_get}
+use Rattle.std.proofs.lemmas.Result.{IfOk-weaker}
 use Rattle.pi_terms.specs.Tree.{trees_of}
 use Rattle.pi_states.specs.Evaluation.{evaluated_all}
 use Rattle.pi_code.specs.declared.code.Node.{Node}
@@ -20,7 +21,7 @@ use Rattle.pi_steps.proofs.calls.call.Goals as goal
 use Rattle.pi_steps.proofs.calls.call.Goals.{then-step, else-step}
 
 pub returns : goal.returns
-returns g c = λ node l is_code has view goal gs e k es at stands.
+returns g c = IfOk-weaker c.try_clauses.result _ _ (λ _ so node l is_code has view goal gs e k es at stands.
     let seen = g.S.StateStore.seen in
     let order = g.S.StateStore.order in
     let v = seen c.args.run.now.store in
@@ -88,4 +89,4 @@ returns g c = λ node l is_code has view goal gs e k es at stands.
     runs.step end.now (world l (seen end.store) order (view_of end.arenas))
     (subst (λ r. Stands (world l (seen end.store) order (view_of end.arenas)) end.now (try_clauses runs.pred.index runs.pred.clauses runs.args (back_to [] r.now.state runs.frames) es)) same_store
     (subst (λ r. Stands (world l (seen end.store) order (view_of end.arenas)) end.now (try_clauses r.index runs.pred.clauses runs.args (back_to [] (seen run.store).now.state runs.frames) es)) pred_is
-    (c.in_ok-try_clauses.ensures l is_code has runs.args runs.pred.clauses (seen run.store).now.state runs.frames es made.is made.args refl)))
+    (so l is_code has runs.args runs.pred.clauses (seen run.store).now.state runs.frames es made.is made.args refl)))) c.try_clauses.ensures

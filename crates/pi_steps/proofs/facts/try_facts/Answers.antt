@@ -1,5 +1,6 @@
 use Rattle.std.proofs.Common.{◌≡◌, ◌∙◌, sym, ap, subst, map, false, Some, rules}
 use Rattle.std.specs.Prelude.{slice_get, option_copied}
+use Rattle.std.proofs.lemmas.Result.{IfOk-weaker}
 use Rattle.pi_core.specs.CoreTree.{clause_tree}
 use Rattle.pi_code.specs.Code.{preds_of}
 use Rattle.pi_arenas.specs.Arenas.{view_of}
@@ -11,7 +12,7 @@ use Rattle.pi_steps.proofs.FactsTried.{there-of, pred-at, source-pred}
 use Rattle.pi_steps.proofs.facts.try_facts.Goals as goal
 
 pub returns : goal.returns
-returns g c = λ l is_code has ts cs s k es is args same.
+returns g c = IfOk-weaker c.try_some.result _ _ (λ _ so l is_code has ts cs s k es is args same.
     let seen = g.S.StateStore.seen in
     let order = g.S.StateStore.order in
     let run = c.args.run.now in
@@ -31,6 +32,6 @@ returns g c = λ l is_code has ts cs s k es is args same.
     let arity = (there-of w call.predicate call.base call.frame c.args.from (record { function = false; args = ts }) cs s k es again predicate is there).arity in
     let stays = c.asked_of.ensures.stays in
     let tries : TriesSome (world l (seen one_run.store) order (view_of run.arenas)) after call.predicate call.base call.frame c.args.from predicate c.as_slice-clauses.result.now c.in_ok-asked.asked again end.now =
-    subst (λ r. TriesSome (world l (seen one_run.store) order (view_of r)) after call.predicate call.base call.frame c.args.from predicate c.as_slice-clauses.result.now c.in_ok-asked.asked again end.now) c.asked_of.ensures.arenas (c.in_ok-try_some.ensures l is_code) in
+    subst (λ r. TriesSome (world l (seen one_run.store) order (view_of r)) after call.predicate call.base call.frame c.args.from predicate c.as_slice-clauses.result.now c.in_ok-asked.asked again end.now) c.asked_of.ensures.arenas (so l is_code) in
     tries is.call.call.pred ts cs s k es (call-stays w (seen one_run.store) call.predicate call.base call.frame c.args.from (record { function = false; args = ts }) cs s k es again stays is) is.call.call.is_pred there clauses
-    (c.in_ok-asked.ensures.term ts (subst (λ n. HoldsArguments (seen run.store).now.terms run.arenas.blocks.slots call.base n ts) (sym arity) args)) (same ∙ sym stays.state)
+    (c.in_ok-asked.ensures.term ts (subst (λ n. HoldsArguments (seen run.store).now.terms run.arenas.blocks.slots call.base n ts) (sym arity) args)) (same ∙ sym stays.state)) c.try_some.ensures

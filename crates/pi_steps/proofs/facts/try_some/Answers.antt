@@ -1,5 +1,6 @@
 use Rattle.std.proofs.Common.{◌≡◌, ◌+◌, ◌-◌, ◌≤◌, ◌∙◌, sym, ap, subst, map, drop, arith, [], Some, None, false}
 use Rattle.std.specs.Prelude.{slice_get}
+use Rattle.std.proofs.lemmas.Result.{IfOk-weaker}
 use Rattle.pi_terms.specs.Tree.{comp}
 use Rattle.pi_states.specs.State.{IsState}
 use Rattle.pi_states.specs.Store.{Stays, IsTerm}
@@ -42,7 +43,7 @@ returns-in_default g c = λ l is_code pred ts cs s k es is at there clauses term
     c.end_facts.ensures.drops (λ no. ap view_of (c.end_facts.ensures.stays no)) (subst (λ r. from_unifying ts r (drop (c.args.from - predicate.first) (map clause_tree facts)) ≡ []) (sym same) none)))
 
 pub returns : goal.returns
-returns g c = λ l is_code pred ts cs s k es is at there clauses term same.
+returns g c = IfOk-weaker c.take_fact.result _ _ (λ _ so l is_code pred ts cs s k es is at there clauses term same.
     let seen = g.S.StateStore.seen in
     let order = g.S.StateStore.order in
     let run = c.args.run.now in
@@ -77,8 +78,8 @@ returns g c = λ l is_code pred ts cs s k es is at there clauses term same.
     (subst (λ r. IsNext ts r (map clause_tree facts) predicate.first c.following-behind.result predicate.end c.in_ok-next.next) (stays1.state ∙ sym same)
     (c.in_ok-next.ensures.found ts state1 term1 (keys-kept v v1 c.args.code.now.keys call.predicate predicate.first facts stays1.keeps keys) (omega (arith, low, found.from_on, next_is)) ends)) in
     let leaves = c.in_ok-leave_later.ensures (fits-end w call.predicate call.base call.frame c.args.from (record { function = false; args = ts }) cs s k es again predicate is there) in
-    subst (λ r. Stands (world l (seen end.store) order (view_of r)) end.now (try_facts ts cs (back_to [] s k) es)) (sym c.in_ok-take_fact.ensures.arenas)
+    subst (λ r. Stands (world l (seen end.store) order (view_of r)) end.now (try_facts ts cs (back_to [] s k) es)) (sym c.take_fact.ensures.arenas)
     (some-taken w v2 x (seen end.store) (view_of mid.arenas) call.predicate call.base call.frame c.args.from number pred predicate facts asked ts cs s k es again c.in_ok-next.next end.now is at there clauses term same low
     (stays_then v v1 v2 v.now.state stays1 stays2) found later leaves
     (later-stays order v2 x (view_of run.arenas) (view_of mid.arenas) (call.base + predicate.arity) call.predicate call.base call.frame again c.in_ok-next.next leaves)
-    (λ d here state asked_is. c.in_ok-take_fact.ensures.takes d ts (ap (slice_get facts) (omega (arith, c.saturating_sub.ensures)) ∙ here) state asked_is))
+    (λ d here state asked_is. so d ts (ap (slice_get facts) (omega (arith, c.saturating_sub.ensures)) ∙ here) state asked_is))) c.take_fact.ensures.takes

@@ -1,5 +1,6 @@
 use Rattle.std.proofs.Common.{◌≡◌, ◌∙◌, subst, sym, ap, refl, Some}
 use Rattle.std.specs.Prelude.{slice_get, option_copied}
+use Rattle.std.proofs.lemmas.Result.{IfOk-weaker}
 use Rattle.pi_arenas.specs.Arenas.{view_of}
 use Rattle.pi_stands.specs.Stands.{World, world}
 use Rattle.pi_stands.specs.Goes.{TicksUnless}
@@ -27,7 +28,7 @@ returns-then-not-tick_call-clause-goes g c = λ node l is_code v fits names d is
     (subst (TicksUnless called.is_quiet c.args.mode c.args.budget.now c.tick_call.new.budget run.now c.tick_call.new.now) c.if-not-tick_call.true c.tick_call.ensures.ticks)
 
 pub returns-clause-goes : goal.returns-clause-goes
-returns-clause-goes g c = λ node l is_code v fits names d is.
+returns-clause-goes g c = IfOk-weaker c.apply.result _ _ (λ _ so node l is_code v fits names d is.
     let run = c.args.run.now in
     let end = c.apply.new.run in
     let w : World _ = world l (g.S.StateStore.seen run.store) g.S.StateStore.order (view_of run.arenas) in
@@ -37,11 +38,11 @@ returns-clause-goes g c = λ node l is_code v fits names d is.
     let known : IsFound w c.args.predicate called = found-there w c.args.predicate called (ap (λ r. slice_get r.predicates.items c.args.predicate) is_code ∙ at) in
     call-counted w after c.args.point c.args.step end.now d v names called.is_quiet c.args.mode c.args.budget.now c.tick_call.new.budget run.now c.tick_call.new.now refl is
     (apply-there w c.args.point c.args.step d v names c.args.predicate c.args.operands c.args.into called is node known)
-    (c.in_ok-apply.ensures c.args.into node l is_code at)
-    (subst (TicksUnless called.is_quiet c.args.mode c.args.budget.now c.tick_call.new.budget run.now c.tick_call.new.now) c.if-not-tick_call.false c.tick_call.ensures.ticks)
+    (so c.args.into node l is_code at)
+    (subst (TicksUnless called.is_quiet c.args.mode c.args.budget.now c.tick_call.new.budget run.now c.tick_call.new.now) c.if-not-tick_call.false c.tick_call.ensures.ticks)) c.apply.ensures
 
-pub returns-in_err-apply-clause-stops : goal.returns-in_err-apply-clause-stops
-returns-in_err-apply-clause-stops g c = so-at-err _ c.from_residual.result (λ node l is_code v fits names d is.
+pub returns-clause-stops : goal.returns-clause-stops
+returns-clause-stops g c = so-at-err _ c.apply.result (λ node l is_code v fits names d is.
     let run = c.args.run.now in
     let w : World _ = world l (g.S.StateStore.seen run.store) g.S.StateStore.order (view_of run.arenas) in
     let called = c.in-Some.called.now in

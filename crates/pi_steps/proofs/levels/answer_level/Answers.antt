@@ -1,4 +1,5 @@
 use Rattle.std.proofs.Common.{refl}
+use Rattle.std.proofs.lemmas.Result.{IfOk-weaker}
 use Rattle.pi_arenas.specs.declared.arenas.Kind.{Kind}
 use Rattle.pi_arenas.specs.Arenas.{view_of, IsLevel}
 use Rattle.pi_stands.specs.Stands.{world}
@@ -8,6 +9,13 @@ use Rattle.pi_steps.proofs.levels.answer_level.Goals as goal
 pub returns-in_default : goal.returns-in_default
 returns-in_default g c = λ l is_code some view names p e k es stands none last balanced.
     absurd (level-there (world l (g.S.StateStore.seen c.args.run.now.store) g.S.StateStore.order (view_of c.args.run.now.arenas)) es stands.entries some c.in_default.ensures.none)
+
+pub returns-in-Strict : goal.returns-in-Strict
+returns-in-Strict g c = IfOk-weaker c.answer_strict.result _ _ (λ _ so l is_code. so l is_code (record { entry = c.in-Some.entry.now; at = c.in-Some.ensures.some; back_is = refl; is_open = refl }) c.in-Strict.is) c.answer_strict.ensures
+
+pub returns-in-Catch : goal.returns-in-Catch
+returns-in-Catch g c = IfOk-weaker c.leave_catch.result _ _ (λ _ so l is_code some.
+    so l c.in-Catch.field-0 (record { entry = c.in-Some.entry.now; at = c.in-Some.ensures.some; back_is = refl; is_open = refl }) c.in-Catch.is) c.leave_catch.ensures
 
 pub returns-in-Rules : goal.returns-in-Rules
 returns-in-Rules g c = λ l is_code some view names p e k es stands none last balanced.

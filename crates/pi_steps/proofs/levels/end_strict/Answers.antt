@@ -1,4 +1,5 @@
 use Rattle.std.proofs.Common.{◌∙◌, sym, ap, subst}
+use Rattle.std.proofs.lemmas.Result.{IfOk-weaker}
 use Rattle.pi_arenas.specs.declared.arenas.Kind.{Kind}
 use Rattle.pi_arenas.specs.Arenas.{view_of}
 use Rattle.pi_machine.specs.Configuration.{strict}
@@ -19,14 +20,14 @@ returns-in-Not g c = λ l is_code named. c.end_not.ensures l c.in-Not.field-0 (n
 pub returns-in-If : goal.returns-in-If
 returns-in-If g c = λ l is_code named. c.end_if.ensures l is_code (named ∙ ap Kind.Strict c.in-If.is)
 
-pub returns-in_ok-end_guard-in-Guard : goal.returns-in_ok-end_guard-in-Guard
-returns-in_ok-end_guard-in-Guard g c = λ l is_code named. c.in_ok-end_guard-in-Guard.ensures l is_code (named ∙ ap Kind.Strict c.in-Guard.is)
+pub returns-in-Guard : goal.returns-in-Guard
+returns-in-Guard g c = IfOk-weaker c.end_guard.result _ _ (λ _ so l is_code named. so l is_code (named ∙ ap Kind.Strict c.in-Guard.is)) c.end_guard.ensures
 
-pub returns-in_ok-no_value-in-Apply : goal.returns-in_ok-no_value-in-Apply
-returns-in_ok-no_value-in-Apply g c = λ l is_code named. c.in_ok-no_value-in-Apply.ensures l c.in-Apply.field-1 is_code (named ∙ ap Kind.Strict c.in-Apply.is)
+pub returns-in-Apply : goal.returns-in-Apply
+returns-in-Apply g c = IfOk-weaker c.no_value.result _ _ (λ _ so l is_code named. so l c.in-Apply.field-1 is_code (named ∙ ap Kind.Strict c.in-Apply.is)) c.no_value.ensures
 
-pub returns-in_ok-give_list-in-Collect : goal.returns-in_ok-give_list-in-Collect
-returns-in_ok-give_list-in-Collect g c = λ l is_code named. c.in_ok-give_list-in-Collect.ensures l is_code (named ∙ ap Kind.Strict c.in-Collect.is)
+pub returns-in-Collect : goal.returns-in-Collect
+returns-in-Collect g c = IfOk-weaker c.give_list.result _ _ (λ _ so l is_code named. so l is_code (named ∙ ap Kind.Strict c.in-Collect.is)) c.give_list.ensures
 
-pub returns-in_ok-give_count-in-Count : goal.returns-in_ok-give_count-in-Count
-returns-in_ok-give_count-in-Count g c = λ l is_code named. c.in_ok-give_count-in-Count.ensures l is_code (named ∙ ap Kind.Strict c.in-Count.is)
+pub returns-in-Count : goal.returns-in-Count
+returns-in-Count g c = IfOk-weaker c.give_count.result _ _ (λ _ so l is_code named. so l is_code (named ∙ ap Kind.Strict c.in-Count.is)) c.give_count.ensures

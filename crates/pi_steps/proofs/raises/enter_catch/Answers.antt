@@ -1,4 +1,5 @@
 use Rattle.std.proofs.Common.{◌≡◌, refl, sym, ap, subst}
+use Rattle.std.proofs.lemmas.Result.{IfOk-weaker}
 use Rattle.pi_states.specs.Evaluation.{evaluated}
 use Rattle.pi_code.specs.declared.code.Node.{Node}
 use Rattle.pi_arenas.specs.Arenas.{view_of}
@@ -13,7 +14,7 @@ use Rattle.pi_stands.proofs.CatchStands.{catch-enters}
 use Rattle.pi_steps.proofs.raises.enter_catch.Goals as goal
 
 pub returns : goal.returns
-returns g c = λ node l is_code view goal gs e k es at stands.
+returns g c = IfOk-weaker c.enter_level.result _ _ (λ _ so node l is_code view goal gs e k es at stands.
     let v = g.S.StateStore.seen c.args.run.now.store in
     let v1 = g.S.StateStore.seen c.value.new.run.store in
     let a = view_of c.args.run.now.arenas in
@@ -32,4 +33,4 @@ returns g c = λ node l is_code view goal gs e k es at stands.
     let one : Evaluates b v v1 a a1 (evaluated (operand_tree T c.args.ball) e v.now.state) q =
     subst (λ t. Evaluates b v v1 a a1 (evaluated (operand_tree t c.args.ball) e v.now.state) q) (sym tables)
     (c.in_ok-_wanted.ensures.ok l.terms b e first (subst (λ t. IsReadable t b c.args.ball) tables readable) stands.entries.tables is.behind.slots) in
-    catch-enters w after v1 a1 p s c.args.ball q c.enter_level.new.run.now view goal gs e k es node at stands readable one (c.in_ok-enter_level.ensures.catches refl l is_code)
+    catch-enters w after v1 a1 p s c.args.ball q c.enter_level.new.run.now view goal gs e k es node at stands readable one (so refl l is_code)) c.enter_level.ensures.catches

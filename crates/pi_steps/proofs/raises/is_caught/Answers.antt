@@ -8,6 +8,7 @@ use Rattle.pi_arenas.specs.Frames.{slot_number}
 use Rattle.pi_stands.specs.Evaluates.{Evaluates}
 use Rattle.pi_stands.proofs.WrittenGoals.{own-block, own-slots}
 use Rattle.pi_stands.proofs.CaughtStand.{catch-at, same-operand, caught-told}
+use Rattle.pi_steps.proofs.CallsDone.{both-ok}
 use Rattle.pi_steps.proofs.raises.is_caught.Goals as goal
 
 pub returns-in_default : goal.returns-in_default
@@ -17,7 +18,7 @@ returns-in_default g c = λ l is_code place inner handler wanted e k at own agai
     absurd (c.in_default.not-Catch it.0 it.1)
 
 pub returns : goal.returns
-returns g c = λ l is_code place inner handler wanted e k at own again state tables.
+returns g c = both-ok c.unify.result _ _ _ (λ one unifies sound l is_code place inner handler wanted e k at own again state tables.
     let v = g.S.StateStore.seen c.args.run.now.store in
     let v1 = g.S.StateStore.seen c.value.new.run.store in
     let v2 = g.S.StateStore.seen c.place.new.s in
@@ -37,7 +38,8 @@ returns g c = λ l is_code place inner handler wanted e k at own again state tab
     subst (λ t. IsReadable t b operand) tables_are (subst (λ n. NodeIsReadable (tables_in l) b n) c.in-Catch.is (own-block w back.base place back.frame _ e k s own at).readable) in
     let first : c.first_slot.result ≡ slot_number b.base b.first =
     own-slots w back.base place back.frame c.first_slot.result _ e k s own at (c.first_slot.ensures ∙ ap (λ p. slot_number p.base s.first_slot) c.behind_level.ensures) in
-    let one : Evaluates b v v1 a a1 (evaluated wanted e v.now.state) c.in_ok-wanted.wanted =
+    let seen : Evaluates b v v1 a a1 (evaluated wanted e v.now.state) c.in_ok-wanted.wanted =
     subst (λ t. Evaluates b v v1 a a1 (evaluated t e v.now.state) c.in_ok-wanted.wanted) (sym wanted_is) (c.in_ok-wanted.ensures.ok l.terms b e first readable tables own.behind.slots) in
-    caught-told b v v1 v2 u a a1 wanted c.args.ball.now e c.in_ok-wanted.wanted c.in_ok-raised.raised c.in_ok-is_one.is_one again state one c.in_ok-raised.ensures.ok c.look-root.ensures.below c.in_ok-is_one.ensures.keeps
-    c.in_ok-is_one.ensures.unifies c.in_ok-is_one.ensures.state
+    caught-told b v v1 v2 u a a1 wanted c.args.ball.now e c.in_ok-wanted.wanted c.in_ok-raised.raised one again state seen c.in_ok-raised.ensures.ok c.look-root.ensures.below c.unify.ensures.keeps
+    unifies sound)
+    c.unify.ensures.unifies c.unify.ensures.state

@@ -1,5 +1,6 @@
 use Rattle.std.proofs.Common.{◌∙◌, sym, ap, true}
 use Rattle.std.specs.Prelude.{slice_get, option_copied}
+use Rattle.std.proofs.lemmas.Result.{IfOk-weaker}
 use Rattle.pi_arenas.specs.Arenas.{view_of}
 use Rattle.pi_stands.specs.Stands.{world}
 use Rattle.pi_stands.proofs.RulesTried.{call-has}
@@ -13,4 +14,4 @@ returns-in_default g c = λ l is_code called cs s k es is args same.
     (ap (λ r. slice_get r.predicates.items call.predicate) is_code ∙ sym c.predicate_there.ensures ∙ ap option_copied c.in_default.is) is
 
 pub returns : goal.returns
-returns g c = λ l is_code. c.in_ok-try_rules.ensures l is_code (sym c.predicate_there.ensures ∙ ap option_copied c.in-Some.is)
+returns g c = IfOk-weaker c.try_rules.result _ _ (λ _ so l is_code. so l is_code (sym c.predicate_there.ensures ∙ ap option_copied c.in-Some.is)) c.try_rules.ensures

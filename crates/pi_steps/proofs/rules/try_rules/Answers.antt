@@ -1,5 +1,6 @@
 use Rattle.std.proofs.Common.{◌≡◌, ◌+◌, ◌∙◌, [], ap, sym, subst, refl, arith, Some}
 use Rattle.std.specs.Prelude.{slice_get, option_copied}
+use Rattle.std.proofs.lemmas.Result.{IfOk-weaker}
 use Rattle.pi_arenas.specs.declared.run.Now.{Now}
 use Rattle.pi_arenas.specs.Arenas.{view_of}
 use Rattle.pi_machine.specs.Step.{try_rules, back_to}
@@ -15,7 +16,7 @@ pub loop-number-init : goal.loop-number-init
 loop-number-init g c = λ l is_code has called cs s k es is args same. record { rest = cs; is = is; args = args; now = same; same = refl }
 
 pub returns-then-branch : goal.returns-then-branch
-returns-then-branch g c = λ l is_code has called cs s k es is args same.
+returns-then-branch g c = IfOk-weaker c.apply.result _ _ (λ _ so l is_code has called cs s k es is args same.
     let seen = g.S.StateStore.seen in
     let order = g.S.StateStore.order in
     let call = c.args.call.now in
@@ -33,7 +34,7 @@ returns-then-branch g c = λ l is_code has called cs s k es is args same.
     (found-there w call.predicate predicate (ap (λ p. slice_get p.predicates.items call.predicate) is_code ∙ has)) c.loop-number-test.true found
     (subst (MatchesHead w (world l (seen after.store) order (view_of after.arenas)) call.predicate call.base call.frame number predicate.arity rule) c.if-branch.true (c.in_ok-matches.ensures l is_code)) in
     subst (Stands (world l (seen end.store) order (view_of end.arenas)) end.now) (sym r.0.same)
-    (c.in_ok-apply.ensures l called r.0.clause r.0.behind s k es r.0.slots r.0.applies r.1)
+    (so l called r.0.clause r.0.behind s k es r.0.slots r.0.applies r.1)) c.apply.ensures
 
 pub loop-number-preserved : goal.loop-number-preserved
 loop-number-preserved g c = λ l is_code has called cs s k es is args same.
