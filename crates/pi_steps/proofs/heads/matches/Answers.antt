@@ -11,8 +11,8 @@ use Rattle.pi_stands.specs.Tries.{KeepsFront, FillsHead, FillsSlots, RuleSlots}
 use Rattle.pi_stands.proofs.HeadsTried.{Emptied, HasTests, HasPatterns, LooksUp, call-patterns, call-first, call-emptied, call-rule, call-arguments, front-added, slots-added, tests-read, head-tried}
 use Rattle.pi_steps.proofs.heads.matches.Goals as goal
 
-pub returns-else-rule : goal.returns-else-rule
-returns-else-rule g c = IfOk-weaker c.pass_tests.result _ _ (λ one so l is_code called clause cs s k es again is at same args.
+pub returns-in_ok-push_empty : goal.returns-in_ok-push_empty
+returns-in_ok-push_empty g c = IfOk-weaker c.pass_tests.result _ _ (λ one so l is_code called clause cs s k es again is at same args.
     let seen = g.S.StateStore.seen in
     let run = c.args.run.now in
     let call = c.args.call.now in
