@@ -7,47 +7,37 @@ use Rattle.pi_core.specs.CoreTree.{PredTree, QueryTree}
 use Rattle.pi_syntax.specs.ExpTree.{ExpTree}
 use Rattle.pi_syntax.specs.ProgramTree.{ProgramTree}
 use Rattle.pi_canonical.specs.Canonical.{canonical_text}
-use Rattle.pi_top.specs.declared.manner.Manner.{Manner}
-use Rattle.pi_top.specs.declared.outcome.QueryRun.{QueryRun}
-use Rattle.pi_top.specs.declared.query.Stop.{Stop}
-use Rattle.pi_top.specs.declared.query.Stop.TheVariants.{Memory, Write}
+use Rattle.pi_query.specs.declared.manner.Manner.{Manner}
+use Rattle.pi_query.specs.declared.runs.QueryRun.{QueryRun}
+use Rattle.pi_query.specs.declared.query.Stop.{Stop}
+use Rattle.pi_query.specs.declared.query.Stop.TheVariants.{Memory, Write}
 use Rattle.pi_words.specs.declared.run_mode.RunMode.{RunMode}
 use Rattle.pi_words.specs.declared.run_mode.RunMode.TheVariants.{Query, Run, Session, Print, Demo}
 use Rattle.pi_words.specs.declared.asked.Options.{Options}
-use Rattle.pi_top.specs.CutOff.{IsNothing, IsFront, CutText, CutPrinted, CutOf, CutFile, CutMade, CutLine, CutIn, CutBy, running, front_of}
+use Rattle.pi_query.specs.Stops.{status_of_stop}
+use Rattle.pi_top.specs.CutOff.{CutText, CutPrinted, CutFile, CutMade, CutLine, CutIn, CutBy, running, front_of}
 use Rattle.pi_top.specs.CutOff as cut
-use Rattle.pi_top.specs.Ends.{reads_file, ReadsNoFile, AnswersText, AnswersPrinted, AnswersOf, AnswersFile, AnswersMade, AnswersBy, status_of_stop}
-use Rattle.pi_top.specs.Faults.{FaultCount, Stands, Rises}
-use Rattle.pi_top.specs.Handing.{HandsAll}
-use Rattle.pi_top.specs.Headline.{Headline}
-use Rattle.pi_top.specs.FaultLines.{of_program}
-use Rattle.pi_top.specs.Judged.{Refused}
-use Rattle.pi_top.specs.JudgedCode.{IsAsked, IsCanonical, IsFaulty}
+use Rattle.pi_top.specs.Ends.{reads_file, ReadsNoFile, AnswersText, AnswersPrinted, AnswersOf, AnswersFile, AnswersMade, AnswersBy}
+use Rattle.pi_query.specs.Faults.{FaultCount, Stands, Rises}
+use Rattle.pi_query.specs.Handing.{HandsAll, Written}
+use Rattle.pi_query.specs.Headline.{Headline}
+use Rattle.pi_query.specs.FaultLines.{of_program}
+use Rattle.pi_query.specs.Judged.{Refused}
+use Rattle.pi_query.specs.JudgedCode.{IsAsked}
+use Rattle.pi_top.specs.PrintedCode.{IsCanonical, IsFaulty}
 use Rattle.pi_top.specs.Demo.{demo_program}
-use Rattle.pi_top.specs.Manner.{manner_of, goal_of}
-use Rattle.pi_top.specs.Reading.{ReadsText, FailsReading, StopsReading, nothing as nothing_read}
-use Rattle.pi_top.specs.Running.{HasRun, not_asked, was_asked}
-use Rattle.pi_top.specs.Runs.{HasRan, run_of}
+use Rattle.pi_query.specs.Manner.{manner_of, goal_of}
+use Rattle.pi_query.specs.Reading.{ReadsText, FailsReading, StopsReading, nothing as nothing_read}
+use Rattle.pi_query.specs.Running.{HasRun, not_asked, was_asked}
+use Rattle.pi_query.specs.Runs.{HasRan, run_of}
 use Rattle.pi_top.specs.Statuses as whole
-use Rattle.pi_top.specs.Statuses.{IsLine, ComesOf, ComesIn, IsUnread, ran, Written, usage_line, mode_line, read_fault_line}
-use Rattle.pi_top.specs.Texts.{IsRead}
+use Rattle.pi_query.specs.SoleLine.{read_fault_line}
+use Rattle.pi_top.specs.Statuses.{ComesIn, IsUnread, ran, usage_line, mode_line}
+use Rattle.pi_query.specs.Texts.{IsRead}
 use Rattle.pi_words.specs.Words.{options, places_of}
-use Rattle.pi_top.specs.Writing.{IsCutIn, Writes}
-use Rattle.pi_top.proofs.OverNames.{ends-over-names, cut-over-names}
-
--- a line was written, or its write failed
-line-all : (line : List ℕ) (its status : ℕ) (queries : List QueryRun) (writes : List SinkWrite) → queries ≡ [] → status ≡ its → HandsAll (line ∷ []) writes →
-    Written (IsLine line its status queries) writes
-line-all line its status queries writes none is handed = record { texts = line ∷ []; comes = record { is_its = is; none_ran = none; written = refl }; handed = handed }
-
-line-front : (line : List ℕ) (stop : Stop) (queries : List QueryRun) (writes : List SinkWrite) → queries ≡ [] → stop ≡ Write → IsCutIn (line ∷ []) writes stop →
-    IsFront line queries (status_of_stop stop) writes
-line-front line Write queries writes none is fails = record { write = refl; none_asked = none; front = fails }
-line-front line Memory queries writes none is nothing = absurd (cc)
-
--- memory was wanted before anything was written
-is-nothing : (queries : List QueryRun) → queries ≡ [] → IsNothing queries 9 []
-is-nothing queries none = record { memory = refl; none_asked = none; nothing = refl }
+use Rattle.pi_query.specs.Writing.{Writes}
+use Rattle.pi_query.proofs.OverNames.{ends-over-names, cut-over-names}
+use Rattle.pi_query.proofs.SoleLines.{line-all, line-front, is-nothing}
 
 -- what is written of a greater thing
 widens : {P Q : List (List ℕ) → Type 0} (writes : List SinkWrite) → ((texts : List (List ℕ)) → P texts → Q texts) → Written P writes → Written Q writes

@@ -1,20 +1,9 @@
 mod EdgeLemmas
-pub mod AskedTexts
 pub mod Completing
 pub mod EndStatuses
 pub mod EndingLemmas
 pub mod Endings
-pub mod EventLemmas
 pub mod FaultlessHeads
-pub mod FileReads
-pub mod Fronts
-pub mod HandedTexts
 pub mod Judging
 pub mod Manners
-pub mod OverNames
-pub mod QueryRuns
 pub mod Refusing
-pub mod Runnable
-pub mod Runs
-pub mod TextWrites
-pub mod UnbuiltLines

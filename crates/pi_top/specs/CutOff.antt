@@ -1,5 +1,5 @@
 -- What was written of a run that a failed write cut off, with status 8, or want of memory, with status 9.
-use Rattle.std.specs.Prelude.{◌≡◌, ℕ, List, [], ◌∷◌, Option, None, Some}
+use Rattle.std.specs.Prelude.{◌≡◌, ℕ, List, Option, None, Some}
 use Rattle.pi_outside.specs.Held.{Holding}
 use Rattle.pi_outside.specs.Reads.{FileRead}
 use Rattle.pi_outside.specs.Writes.{SinkWrite}
@@ -7,34 +7,23 @@ use Rattle.pi_syntax.specs.ExpTree.{ExpTree}
 use Rattle.pi_syntax.specs.ProgramTree.{ProgramTree}
 use Rattle.pi_canonical.specs.Canonical.{canonical_text}
 use Rattle.pi_answers.specs.declared.log.LogEntry.{LogEntry}
-use Rattle.pi_top.specs.declared.outcome.QueryRun.{QueryRun}
+use Rattle.pi_query.specs.declared.runs.QueryRun.{QueryRun}
 use Rattle.pi_words.specs.declared.run_mode.RunMode.{RunMode}
 use Rattle.pi_words.specs.declared.run_mode.RunMode.TheVariants.{Query, Run, Print, Demo}
 use Rattle.pi_words.specs.declared.asked.Options.{Options}
 use Rattle.pi_words.specs.Words.{places_of}
 use Rattle.pi_top.specs.Demo.{demo_program}
-use Rattle.pi_top.specs.declared.manner.Manner.{Manner}
-use Rattle.pi_top.specs.Faults.{FaultCount, Stands, Rises}
-use Rattle.pi_top.specs.FaultLines.{of_program}
-use Rattle.pi_top.specs.Handing.{FailsIn}
-use Rattle.pi_top.specs.Judged.{IsProgramLine, IsProgramText, Refused, Asks}
-use Rattle.pi_top.specs.Manner.{manner_of, goal_of}
-use Rattle.pi_top.specs.Reading.{ReadsText, FailsReading, StopsReading}
-use Rattle.pi_top.specs.Runs.{WasCutOff}
-use Rattle.pi_top.specs.Statuses.{IsUnread, usage_line, mode_line, read_fault_line}
-use Rattle.pi_top.specs.Texts.{IsRead}
-
--- memory was wanted before anything was written, and no goal is listed
-pub record IsNothing (queries : List QueryRun) (status : ℕ) (writes : List SinkWrite) : Type 0 where
-  pub memory : status ≡ 9
-  pub none_asked : queries ≡ []
-  pub nothing : writes ≡ []
-
--- the write of a line, or of a text, failed, before which nothing was written, and no goal is listed
-pub record IsFront (line : List ℕ) (queries : List QueryRun) (status : ℕ) (writes : List SinkWrite) : Type 0 where
-  pub write : status ≡ 8
-  pub none_asked : queries ≡ []
-  pub front : FailsIn [] (line ∷ []) writes
+use Rattle.pi_query.specs.declared.manner.Manner.{Manner}
+use Rattle.pi_query.specs.Faults.{FaultCount, Stands, Rises}
+use Rattle.pi_query.specs.FaultLines.{of_program}
+use Rattle.pi_query.specs.Judged.{IsProgramLine, IsProgramText, Refused, Asks}
+use Rattle.pi_query.specs.Manner.{manner_of, goal_of}
+use Rattle.pi_query.specs.Reading.{ReadsText, FailsReading, StopsReading}
+use Rattle.pi_query.specs.Runs.{WasCutOff}
+use Rattle.pi_top.specs.Statuses.{IsUnread, usage_line, mode_line}
+use Rattle.pi_query.specs.SoleLine.{read_fault_line}
+use Rattle.pi_query.specs.Texts.{IsRead}
+use Rattle.pi_query.specs.Stops.{IsNothing, IsFront}
 
 -- with a program's text and a goal's
 pub data CutText (manner : Manner) (text goal : List ℕ) (queries : List QueryRun) (log : List LogEntry) (status : ℕ) (writes : List SinkWrite) : Type 0 where

@@ -4,23 +4,19 @@ use Rattle.pi_outside.specs.Held.{Holding}
 use Rattle.pi_outside.specs.Reads.{FileRead}
 use Rattle.pi_outside.specs.Writes.{SinkWrite}
 use Rattle.pi_answers.specs.declared.log.LogEntry.{LogEntry}
-use Rattle.pi_top.specs.declared.outcome.QueryRun.{QueryRun}
-use Rattle.pi_top.specs.declared.query.Stop.{Stop}
-use Rattle.pi_top.specs.declared.query.Stop.TheVariants.{Memory, Write}
+use Rattle.pi_query.specs.declared.runs.QueryRun.{QueryRun}
+use Rattle.pi_query.specs.declared.query.Stop.{Stop}
+use Rattle.pi_query.specs.declared.query.Stop.TheVariants.{Memory, Write}
 use Rattle.pi_words.specs.declared.run_mode.RunMode.{RunMode}
 use Rattle.pi_words.specs.declared.run_mode.RunMode.TheVariants.{Query, Run, Print}
 use Rattle.pi_words.specs.declared.asked.Options.{Options}
-use Rattle.pi_top.specs.declared.manner.Manner.{Manner}
+use Rattle.pi_query.specs.declared.manner.Manner.{Manner}
 use Rattle.pi_top.specs.CutOff.{CutText, CutPrinted, CutOf, CutFile, CutMade, CutBy}
-use Rattle.pi_top.specs.Faults.{FaultCount, Stands, Rises}
-use Rattle.pi_top.specs.Handing.{Hands, Fails}
-use Rattle.pi_top.specs.Statuses.{ComesText, ComesPrinted, ComesOf, ComesFile, ComesMade, ComesBy, Written, memory_line}
+use Rattle.pi_query.specs.Faults.{FaultCount, Stands, Rises}
+use Rattle.pi_query.specs.Handing.{Written}
+use Rattle.pi_top.specs.Statuses.{ComesText, ComesPrinted, ComesOf, ComesFile, ComesMade, ComesBy}
+use Rattle.pi_query.specs.Stops.{status_of_stop, WritesMemory}
 use Rattle.pi_words.specs.Words.{options}
-
--- the line on want of memory was written, or its write failed and a front of it was
-pub data WritesMemory (sink : FaultCount) (writes : List SinkWrite) : Type 0 where
-  all_of_it : Stands sink → Hands memory_line writes → WritesMemory sink writes
-  front_of_it : Rises sink → Fails memory_line writes → WritesMemory sink writes
 
 -- By these reads and these writes, and no others, a run came to its end. All is written that there is to write, and no write failed; or one
 -- failed, and was the last, and none of the line on want of memory; or memory was wanted, and that line is written, or a front of it where
@@ -44,11 +40,6 @@ ReadsNoFile None = Unit {0}
 ReadsNoFile (Some asked) = reads_file asked.mode ≡ false
 
 -- ---- the same of the parts of a run, by what they answer
-
--- the status that a stop has
-abbrev pub status_of_stop : Stop → ℕ
-status_of_stop Write = 8
-status_of_stop Memory = 9
 
 abbrev pub AnswersText : Manner → List ℕ → List ℕ → List QueryRun → List LogEntry → Result ℕ Stop → List SinkWrite → Type 0
 AnswersText manner text goal queries log (Ok status) writes = Written (ComesText manner text goal queries log status) writes

@@ -1,46 +1,33 @@
 -- What a run comes to: its status, the goals that were run, and the texts that it writes.
-use Rattle.std.specs.Prelude.{◌≡◌, ◌≢◌, ◌<◌, ℕ, List, [], ◌∷◌, Option, None, Some}
+use Rattle.std.specs.Prelude.{◌≡◌, ℕ, List, [], Option, None, Some}
 use lib.Chars.{codes}
 use Rattle.pi_outside.specs.Held.{Holding}
 use Rattle.pi_outside.specs.Reads.{FileRead}
-use Rattle.pi_outside.specs.Writes.{SinkWrite}
 use Rattle.pi_syntax.specs.ExpTree.{ExpTree}
 use Rattle.pi_syntax.specs.ProgramTree.{ProgramTree}
 use Rattle.pi_canonical.specs.Canonical.{canonical_text}
 use Rattle.pi_answers.specs.declared.log.LogEntry.{LogEntry}
-use Rattle.pi_top.specs.declared.outcome.QueryRun.{QueryRun}
+use Rattle.pi_query.specs.declared.runs.QueryRun.{QueryRun}
 use Rattle.pi_words.specs.declared.run_mode.RunMode.{RunMode}
 use Rattle.pi_words.specs.declared.run_mode.RunMode.TheVariants.{Query, Run, Print, Demo}
 use Rattle.pi_words.specs.declared.asked.Options.{Options}
 use Rattle.pi_words.specs.Words.{places_of}
 use Rattle.pi_top.specs.Demo.{demo_program}
-use Rattle.pi_top.specs.declared.manner.Manner.{Manner}
-use Rattle.pi_top.specs.Faults.{FaultCount, Stands, Rises}
-use Rattle.pi_top.specs.FaultLines.{of_program}
-use Rattle.pi_top.specs.Handing.{HandsAll}
-use Rattle.pi_top.specs.Judged.{IsProgramLine, IsProgramText, Refused, Asks}
-use Rattle.pi_top.specs.Manner.{manner_of, goal_of}
-use Rattle.pi_top.specs.Reading.{ReadsText, FailsReading}
-use Rattle.pi_top.specs.Runs.{HasRan}
-use Rattle.pi_top.specs.Texts.{IsRead}
+use Rattle.pi_query.specs.declared.manner.Manner.{Manner}
+use Rattle.pi_query.specs.Faults.{FaultCount, Stands, Rises}
+use Rattle.pi_query.specs.FaultLines.{of_program}
+use Rattle.pi_query.specs.Judged.{IsProgramLine, IsProgramText, Refused, Asks}
+use Rattle.pi_query.specs.Manner.{manner_of, goal_of}
+use Rattle.pi_query.specs.Reading.{ReadsText, FailsReading}
+use Rattle.pi_query.specs.Runs.{HasRan}
+use Rattle.pi_query.specs.Texts.{IsRead}
+use Rattle.pi_query.specs.SoleLine.{IsLine, read_fault_line}
 
 abbrev pub usage_line : List ℕ
 usage_line = codes "usage: picatq [--answers N] [--steps N] [--work N] [--mode query|run|session|print|demo] FILE [GOAL]\n"
 
 abbrev pub mode_line : List ℕ
 mode_line = codes "mode: NotBuilt\n"
-
-abbrev pub read_fault_line : List ℕ
-read_fault_line = codes "read fault\n"
-
-abbrev pub memory_line : List ℕ
-memory_line = codes "want of memory\n"
-
--- this line, or this text, is all that is written, this is its status, and no goal was run
-pub record IsLine (line : List ℕ) (its status : ℕ) (queries : List QueryRun) (texts : List (List ℕ)) : Type 0 where
-  pub is_its : status ≡ its
-  pub none_ran : queries ≡ []
-  pub written : texts ≡ line ∷ []
 
 -- with a program's text and a goal's: the line that says why nothing is run, or the goal was run
 pub data ComesText (manner : Manner) (text goal : List ℕ) (queries : List QueryRun) (log : List LogEntry) (status : ℕ) (texts : List (List ℕ)) : Type 0 where
@@ -93,15 +80,3 @@ ComesIn other asked held files reads queries log status texts = IsLineUnread mod
 abbrev pub ComesBy : Option Options → Option Holding → FaultCount → List FileRead → List QueryRun → List LogEntry → ℕ → List (List ℕ) → Type 0
 ComesBy None held files reads queries log status texts = IsLineUnread usage_line 2 files reads queries status texts
 ComesBy (Some asked) held files reads queries log status texts = ComesIn asked.mode asked held files reads queries log status texts
-
--- these writes handed over the texts of which this holds
-pub record Written (P : List (List ℕ) → Type 0) (writes : List SinkWrite) : Type 0 where
-  pub texts : List (List ℕ)
-  pub comes : P texts
-  pub handed : HandsAll texts writes
-
--- a goal was run: its end has none of the statuses of what comes before a run
-pub record IsRun (status : ℕ) : Type 0 where
-  pub below : status < 7
-  pub no_usage : status ≢ 2
-  pub no_fault : status ≢ 3

@@ -2,18 +2,14 @@
 #![tactic(auto)]
 
 mod demo;
-mod fault_lines;
-mod files;
-mod judgement;
 pub mod laws;
 mod lines;
-mod manner;
 mod outcome;
 mod printing;
-mod query;
 mod top;
 
 pub use demo::demo_text;
-pub use outcome::{Outcome, Queries, QueryRun};
+pub use outcome::Outcome;
+pub use pi_query::runs::{Queries, QueryRun};
 pub use pi_words::{Options, RunMode, WordsFault, read_words};
 pub use top::picatq;
