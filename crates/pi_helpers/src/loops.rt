@@ -19,12 +19,23 @@ pub enum Ending {
 }
 
 /// A loop: its helper's name, the names that are handed on from turn to turn, those that it keeps, and how it ends.
-#[derive(Drop)]
 pub struct Loop<'a> {
     pub name: Text,
     pub shared: Vec<&'a str>,
     pub kept: Vec<&'a str>,
     pub ending: Ending,
+}
+
+// By hand, so that letting one go is a call and not its parts at each way out.
+impl<'a> Drop for Loop<'a> {
+    fn drop(self) {
+        let Loop {
+            name: _,
+            shared: _,
+            kept: _,
+            ending: _,
+        } = self;
+    }
 }
 
 /// The slots of a helper's head: what is handed on, and the variables of the names that the loop keeps. Errors: no memory.

@@ -32,11 +32,21 @@ use pi_terms::{Term, TermHead};
 use std::alloc::{AllocError, Global};
 
 /// The bounds of a range, and its step, which is 1 where none is written.
-#[derive(Drop)]
 pub struct Bounds {
     pub low: Term,
     pub step: Term,
     pub high: Term,
+}
+
+// By hand, so that letting one go is a call and not its parts at each way out.
+impl Drop for Bounds {
+    fn drop(self) {
+        let Bounds {
+            low: _,
+            step: _,
+            high: _,
+        } = self;
+    }
 }
 
 /// Puts an iterator over a range behind the goals, which stand behind those that evaluate its bounds and its step. `found`
