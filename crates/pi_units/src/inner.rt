@@ -23,11 +23,21 @@ use std::alloc::{AllocError, Global};
 
 /// What stands in a loop behind its iterators and tests: the names that it assigns, those that occur in it, and how many
 /// helpers it has.
-#[derive(Drop)]
 pub struct Inner<'a> {
     pub assigned: Vec<&'a str>,
     pub used: Vec<&'a str>,
     pub count: u64,
+}
+
+// By hand, so that letting one go is a call and not its parts at each way out.
+impl<'a> Drop for Inner<'a> {
+    fn drop(self) {
+        let Inner {
+            assigned: _,
+            used: _,
+            count: _,
+        } = self;
+    }
 }
 
 /// An iterator before it is put: its loop, what its second helper is called, the pattern of its elements, and where its
