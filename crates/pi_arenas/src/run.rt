@@ -1,5 +1,10 @@
 //! A run: its store, its arenas, and what comes next.
-ghost use Rattle.std.specs.Prelude.{◌≡◌};
+ghost use Rattle.std.specs.Prelude.{◌≡◌, Some, Box};
+ghost use Rattle.std.specs.Global.{Global};
+ghost use Rattle.pi_terms.specs.Tree.{Tree};
+ghost use Rattle.pi_arenas.specs.declared.run.Now.{Now};
+ghost use Rattle.pi_arenas.specs.declared.run.Now.TheVariants.{Raising};
+ghost use Rattle.pi_arenas.specs.declared.run.Telling.{Telling};
 ghost use Rattle.pi_arenas.specs.Arenas.{view_of};
 ghost use Rattle.pi_arenas.specs.Arenas.{no_arenas};
 
@@ -28,7 +33,6 @@ pub struct Telling {
 }
 
 /// What a run is about to do.
-#[derive(Drop)]
 pub enum Now {
     Going(Point),
     /// A text is told next. It is boxed, so that no other step moves the room for it.
@@ -40,9 +44,50 @@ pub enum Now {
     Ended(End),
 }
 
+// By hand, so that letting one go is a call and not its parts at each way out.
+impl Drop for Now {
+    #[inline(always)]
+    fn drop(self) {
+        match self {
+            Now::Going(_) => {}
+            Now::Telling(_) => {}
+            Now::Failing => {}
+            Now::Raising(_) => {}
+            Now::Ended(_) => {}
+        }
+    }
+}
+
+impl Now {
+    /// The ball that is raised, where one is.
+    pub fn into_ball(self) -> Option<Term>
+        ensures { (ball : Tree) → self ≡ Raising ball → result ≡ Some ball }
+    {
+        match self {
+            Now::Raising(ball) => Some(ball),
+            Now::Going(_) => None,
+            Now::Telling(_) => None,
+            Now::Failing => None,
+            Now::Ended(_) => None,
+        }
+    }
+
+    /// The text that is told, where one is.
+    pub fn into_telling(self) -> Option<Box<Telling>>
+        ensures { (told : Box Telling Global) → self ≡ Now.Telling told → result ≡ Some told }
+    {
+        match self {
+            Now::Telling(told) => Some(told),
+            Now::Going(_) => None,
+            Now::Failing => None,
+            Now::Raising(_) => None,
+            Now::Ended(_) => None,
+        }
+    }
+}
+
 /// What a run is: its store, its arenas and what comes next, and room that steps work in and that says nothing between
 /// them.
-#[derive(Drop)]
 pub struct Run<S: StateStore> {
     pub alloc: Global,
     pub store: S,
@@ -55,6 +100,22 @@ pub struct Run<S: StateStore> {
     pub parts: Vec<Ref>,
     /// The slots of the rule that is being matched.
     pub slots: Slots,
+}
+
+// By hand, so that letting one go is a call and not its parts at each way out.
+impl<S: StateStore> Drop for Run<S> {
+    fn drop(self) {
+        let Run {
+            alloc: _,
+            store: _,
+            arenas: _,
+            now: _,
+            terms: _,
+            made: _,
+            parts: _,
+            slots: _,
+        } = self;
+    }
 }
 
 impl<S: StateStore> Run<S> {
@@ -79,7 +140,16 @@ impl<S: StateStore> Run<S> {
     pub fn into_store(self) -> S
         ensures { result ≡ self.store }
     {
-        let Run { store, .. } = self;
+        let Run {
+            alloc: _,
+            store,
+            arenas: _,
+            now: _,
+            terms: _,
+            made: _,
+            parts: _,
+            slots: _,
+        } = self;
         store
     }
 }

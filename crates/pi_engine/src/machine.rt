@@ -25,12 +25,23 @@ use pi_states::StateStore;
 use std::alloc::{AllocError, Global};
 
 /// A run of a goal over a store. It borrows its program.
-#[derive(Drop)]
 pub struct Machine<'p, S: StateStore> {
     names: NameSlots,
     code: Code<'p>,
     mode: Mode,
     pub(crate) run: Run<S>,
+}
+
+// By hand, so that letting one go is a call and not its parts at each way out.
+impl<'p, S: StateStore> Drop for Machine<'p, S> {
+    fn drop(self) {
+        let Machine {
+            names: _,
+            code: _,
+            mode: _,
+            run: _,
+        } = self;
+    }
 }
 
 /// How much a run keeps beside its store: entries, frames, slots, and values that are collected.
@@ -120,7 +131,12 @@ impl<S: StateStore> Machine<'_, S> {
     pub fn into_store(self) -> S
         ensures { result ≡ store_of self.entry }
     {
-        let Machine { run, .. } = self;
+        let Machine {
+            names: _,
+            code: _,
+            mode: _,
+            run,
+        } = self;
         run.into_store()
     }
 }

@@ -137,7 +137,8 @@ fn tell<S: StateStore>(run: &mut Run<S>) -> Outcome
     ensures arenas { run.new.arenas ≡ run.old.arenas }
     ensures tells { (told : Box Telling Global) → run.old.now ≡ Now.Telling told → (result ≡ Outcome.Told told) × (run.new.now ≡ Now.Going told.value.point) }
 {
-    let Now::Telling(told) = mem::replace(&mut run.now, Now::Failing) else {
+    let now = mem::replace(&mut run.now, Now::Failing);
+    let Some(told) = now.into_telling() else {
         return Outcome::More;
     };
     run.now = Now::Going(told.point);

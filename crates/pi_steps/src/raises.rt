@@ -184,7 +184,8 @@ pub fn unwind<S: StateStore>(code: &Code<'_>, run: &mut Run<S>) -> Result<(), Al
 fn end_raised<S: StateStore>(run: &mut Run<S>)
     ensures { (ball : Tree) → run.old.now ≡ Raising ball → run.new.now ≡ Ended (Raised ball) }
 {
-    if let Now::Raising(ball) = mem::replace(&mut run.now, Now::Failing) {
+    let now = mem::replace(&mut run.now, Now::Failing);
+    if let Some(ball) = now.into_ball() {
         run.now = Now::Ended(End::Raised(ball));
     }
 }
@@ -247,7 +248,8 @@ fn try_catch<S: StateStore>(code: &Code<'_>, run: &mut Run<S>, place: u32) -> Re
     };
     let back = entry.back;
     run.arenas.pop();
-    let Now::Raising(ball) = mem::replace(&mut run.now, Now::Failing) else {
+    let now = mem::replace(&mut run.now, Now::Failing);
+    let Some(ball) = now.into_ball() else {
         return Ok(());
     };
     if is_caught(code, run, back, code.step(place), &ball)? {
