@@ -6,8 +6,8 @@ use Rattle.pi_syntax.specs.ProgramTree.{written_clause}
 use Rattle.pi_syntax.specs.declared.exp.Exp.{Exp}
 use Rattle.pi_syntax.specs.declared.program.Clause.{Clause}
 use Rattle.pi_clauses.specs.Shape.{Shape, equation, clause_of, shape_events, is_open, events_in, conditions, first_unit, other_units}
-use Rattle.pi_clauses.specs.declared.clause.apart.Apart.{Apart}
-use Rattle.pi_clauses.specs.declared.clause.apart.Apart.TheVariants as apart
+use Rattle.pi_syntax.specs.declared.exp.Apart.{Apart}
+use Rattle.pi_syntax.specs.declared.exp.Apart.TheVariants as apart
 use Rattle.pi_clauses.specs.declared.clause.FormedClause.{FormedClause}
 use Rattle.pi_clauses.specs.declared.clause.Headed.{Headed}
 use Rattle.pi_clauses.specs.declared.clause.SplitUnits.{SplitUnits}

@@ -9,8 +9,8 @@ ghost use Rattle.pi_clauses.specs.Formed.{ShowsHeaded, IsFormed, IsUnits, IsSpli
 
 mod apart;
 
-use crate::clause::apart::{Apart, take_apart};
-use pi_syntax::{Clause, Exp, Exps};
+use crate::clause::apart::take_apart;
+use pi_syntax::{Apart, Clause, Exp, Exps};
 use pi_terms::Text;
 use std::alloc::{AllocError, Global};
 

@@ -7,7 +7,6 @@ use std::alloc::{AllocError, AllocFailed};
 
 /// The first fault of a program, or of a goal, which is one part. Parts are counted from 1. A User's Guide to Picat,
 /// 'Predicates and Functions'; the limits and the order of faults are own.
-#[derive(Drop)]
 pub enum ProgFault {
     /// The part is no clause or goal, or one that may not stand there.
     BadClause { number: u64 },
@@ -23,6 +22,25 @@ pub enum ProgFault {
     Scattered { name: Text, arity: u32 },
     /// Memory ran out, or the name that would be told has 2^32 arguments or more.
     Memory,
+}
+
+// By hand, so that letting one go is a call and not its parts at each way out.
+impl Drop for ProgFault {
+    fn drop(self) {
+        match self {
+            ProgFault::BadClause { number: _ } => {}
+            ProgFault::TooDeep { number: _ } => {}
+            ProgFault::BadDeclaration { number: _ } => {}
+            ProgFault::TooManyVariables { number: _ } => {}
+            ProgFault::UnknownName {
+                name: _,
+                arity: _,
+                number: _,
+            } => {}
+            ProgFault::Scattered { name: _, arity: _ } => {}
+            ProgFault::Memory => {}
+        }
+    }
 }
 
 impl From<AllocError> for ProgFault {

@@ -8,6 +8,7 @@ ghost use Rattle.pi_phrases.specs.Shown.{terminals};
 ghost use Rattle.pi_phrases.specs.Trees.{Shows, ShowsItems, ShowsChoices};
 ghost use Rattle.pi_phrases.specs.Turns.{ShowsTurn, ShowsStep};
 
+use crate::made::read_before;
 use pi_phrases::{
     Built, Choices, Frame, Items, Mark, Terminal, Turn, behind, built, found_behind, open_behind,
 };
@@ -21,8 +22,7 @@ pub(crate) fn foreach_body<'a>(
 ) -> Result<Turn<'a>, AllocError>
     ensures { (fs : List machine.Frame) (es : ExpTrees) (e : ExpTree) → ShowsItems items es → Shows built e → ShowsStep result fs (machine.resume (machine.foreach_body es) fs e (terminals ts.now)) }
 {
-    let block = built::foreach(alloc, items, built)?;
-    Ok(found_behind(Mark::End, block, ts))
+    read_before(Mark::End, built::foreach(alloc, items, built), ts)
 }
 
 pub(crate) fn while_test<'a>(built: Built, ts: &'a [Terminal<'a>]) -> Turn<'a>
@@ -39,8 +39,7 @@ pub(crate) fn while_body<'a>(
 ) -> Result<Turn<'a>, AllocError>
     ensures { (fs : List machine.Frame) (a : ExpTree) (e : ExpTree) → Shows test a → Shows built e → ShowsStep result fs (machine.resume (machine.while_body a) fs e (terminals ts.now)) }
 {
-    let block = built::while_do(alloc, test, built)?;
-    Ok(found_behind(Mark::End, block, ts))
+    read_before(Mark::End, built::while_do(alloc, test, built), ts)
 }
 
 pub(crate) fn do_body<'a>(built: Built, ts: &'a [Terminal<'a>]) -> Turn<'a>
@@ -63,8 +62,7 @@ pub(crate) fn do_test<'a>(
 ) -> Result<Turn<'a>, AllocError>
     ensures { (fs : List machine.Frame) (a : ExpTree) (e : ExpTree) → Shows body a → Shows built e → ShowsStep result fs (machine.resume (machine.do_test a) fs e (terminals ts.now)) }
 {
-    let block = built::do_while(alloc, body, built)?;
-    Ok(found_behind(Mark::CloseParen, block, ts))
+    read_before(Mark::CloseParen, built::do_while(alloc, body, built), ts)
 }
 
 pub(crate) fn if_test<'a>(choices: Choices, built: Built, ts: &'a [Terminal<'a>]) -> Turn<'a>
@@ -111,6 +109,5 @@ pub(crate) fn if_last<'a>(
 ) -> Result<Turn<'a>, AllocError>
     ensures { (fs : List machine.Frame) (bs : ExpBranches) (e : ExpTree) → ShowsChoices choices bs → Shows built e → ShowsStep result fs (machine.resume (machine.if_last bs) fs e (terminals ts.now)) }
 {
-    let block = built::if_else(alloc, choices, built)?;
-    Ok(found_behind(Mark::End, block, ts))
+    read_before(Mark::End, built::if_else(alloc, choices, built), ts)
 }

@@ -3,4 +3,5 @@
 
 mod blocks;
 mod close;
+mod made;
 pub mod resume;

@@ -7,3 +7,4 @@ pub mod Ranks
 pub mod ProgramTree
 pub mod ExpLists
 pub mod Signature
+pub mod Apart

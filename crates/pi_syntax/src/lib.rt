@@ -5,5 +5,5 @@ mod exp;
 pub mod laws;
 mod program;
 
-pub use exp::{Branches, Exp, Exps};
+pub use exp::{Apart, Branches, Exp, Exps};
 pub use program::{Clause, Decl, Goal, Mode, ModeLists, Modes, Names, Part, Parts, Program};

@@ -7,7 +7,7 @@ pub type Names = Series<Text>;
 
 /// A clause of a program as it is written. A User's Guide to Picat, 'Predicates and Functions', and for events 'Action
 /// Rules'.
-#[derive(Debug, Drop)]
+#[derive(Debug)]
 pub enum Clause {
     /// A predicate's rule, committed (`=>`) or, where `back` is true, backtrackable (`?=>`).
     Rule {
@@ -28,6 +28,28 @@ pub enum Clause {
     Fact {
         head: Exp,
     },
+}
+
+// By hand, so that letting one go is a call and not its parts at each way out.
+impl Drop for Clause {
+    fn drop(self) {
+        match self {
+            Clause::Rule {
+                head: _,
+                cond: _,
+                events: _,
+                back: _,
+                body: _,
+            } => {}
+            Clause::Function {
+                head: _,
+                value: _,
+                cond: _,
+                body: _,
+            } => {}
+            Clause::Fact { head: _ } => {}
+        }
+    }
 }
 
 /// A place of a mode list: `+` for one that is ground in a call, `-` for any.
@@ -52,10 +74,17 @@ pub enum Decl {
 }
 
 /// A part of a program: what stands between two end points.
-#[derive(Debug, Drop)]
+#[derive(Debug)]
 pub struct Part {
     pub decl: Decl,
     pub clause: Option<Clause>,
+}
+
+// By hand, so that letting one go is a call and not its parts at each way out.
+impl Drop for Part {
+    fn drop(self) {
+        let Part { decl: _, clause: _ } = self;
+    }
 }
 
 /// Parts, in the order of the text.

@@ -8,13 +8,16 @@ use Rattle.std.proofs.lemmas.Bool.Decides.{Decides-eqb}
 use Rattle.pi_syntax.specs.ExpLists.{exps_of}
 use Rattle.pi_syntax.specs.ExpTree.{ExpTree, array, call, and, ExpTrees, no_exps, exp, one_exp, exp_tree, exp_trees, held_tree}
 use Rattle.pi_syntax.specs.ProgramTree.{WrittenClause, rule, function, written_clause}
+use Rattle.pi_syntax.specs.Apart.{IsApart}
+use Rattle.pi_syntax.specs.declared.exp.Apart.{Apart}
+use Rattle.pi_syntax.specs.declared.exp.Apart.TheVariants as apart
 use Rattle.pi_syntax.specs.declared.exp.Exp as e
 use Rattle.pi_syntax.specs.declared.exp.Exp.{Exp}
 use Rattle.pi_syntax.specs.declared.exp.Exp.TheOpen as layer
 use Rattle.pi_syntax.specs.declared.exp.Exp.TheViews.{out-Exp, roll-Exp, roll-out-Exp, rolls-Var, rolls-Int, rolls-Atom, rolls-Str, rolls-List, rolls-Array, rolls-Call, rolls-Quote, rolls-Index, rolls-Range, rolls-At, rolls-Collect, rolls-And, rolls-Or, rolls-Arrow, rolls-If, rolls-Foreach, rolls-While, rolls-DoWhile}
 use Rattle.pi_syntax.specs.declared.program.Clause.{Clause}
 use Rattle.pi_syntax.proofs.ExpListLemmas.{call-tree, and-tree}
-use Rattle.pi_clauses.specs.Formed.{ShowsHeaded, ShowsEvents, IsFormed, IsUnits, IsSplit, is_braces, is_other, exps_of_before}
+use Rattle.pi_clauses.specs.Formed.{ShowsApart, ShowsHeaded, ShowsEvents, IsFormed, IsUnits, IsSplit, is_braces, is_other, exps_of_before}
 use Rattle.pi_clauses.specs.Shape.{ruled, units, first_unit, other_units, events_in, conditions, condition, listed, listed_or_none, Equation, equation, ruled_clause}
 use Rattle.pi_clauses.specs.declared.clause.FormedClause.{FormedClause}
 use Rattle.pi_clauses.specs.declared.clause.Headed.TheVariants as headed
@@ -68,17 +71,23 @@ other-layer (layer.Foreach es b) no_and no_array no_call = ap (λ x. is_other (e
 other-layer (layer.While b d) no_and no_array no_call = ap (λ x. is_other (exp_tree x)) (rolls-While b d)
 other-layer (layer.DoWhile b d) no_and no_array no_call = ap (λ x. is_other (exp_tree x)) (rolls-DoWhile b d)
 
-pub other_form : (x : Exp) → IsOtherForm x
+other_form : (x : Exp) → IsOtherForm x
 other_form x = subst IsOtherForm (roll-out-Exp x) (other-layer (out-Exp x))
 
-pub is_conjunction : (x : Exp) (es : Vec Exp Global) → x ≡ e.And es → exp_tree x ≡ and (exps_of es.items)
+is_conjunction : (x : Exp) (es : Vec Exp Global) → x ≡ e.And es → exp_tree x ≡ and (exps_of es.items)
 is_conjunction x es h = ap exp_tree h ∙ and-tree es
 
-pub is_array : (x : Exp) (es : Vec Exp Global) → x ≡ e.Array es → exp_tree x ≡ array (exps_of es.items)
+is_array : (x : Exp) (es : Vec Exp Global) → x ≡ e.Array es → exp_tree x ≡ array (exps_of es.items)
 is_array x es h = ap exp_tree h ∙ array-tree es
 
-pub is_call : (x : Exp) (name : List ℕ) (es : Vec Exp Global) → x ≡ e.Call name es → exp_tree x ≡ call name (exps_of es.items)
+is_call : (x : Exp) (name : List ℕ) (es : Vec Exp Global) → x ≡ e.Call name es → exp_tree x ≡ call name (exps_of es.items)
 is_call x name es h = ap exp_tree h ∙ call-tree name es
+
+pub shows_apart : (a : Apart) (x : Exp) → IsApart a x → ShowsApart a (exp_tree x)
+shows_apart (apart.Conjunction es) x h = is_conjunction x es h
+shows_apart (apart.Array es) x h = is_array x es h
+shows_apart (apart.Call name es) x h = is_call x name es h
+shows_apart (apart.Other y) x h = (ap exp_tree h.0, other_form x h.1.no_conjunction h.1.no_array h.1.no_call)
 
 -- ---- equations
 

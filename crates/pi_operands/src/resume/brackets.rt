@@ -9,9 +9,8 @@ ghost use Rattle.pi_phrases.specs.Shown.{terminals};
 ghost use Rattle.pi_phrases.specs.Trees.{Shows, ShowsItems};
 ghost use Rattle.pi_phrases.specs.Turns.{ShowsTurn, ShowsStep};
 
-use pi_phrases::{
-    Built, Frame, Items, Mark, Phrase, Terminal, Turn, behind, built, found, found_behind,
-};
+use crate::made::{read_as, read_before};
+use pi_phrases::{Built, Frame, Items, Mark, Phrase, Terminal, Turn, behind, built};
 use std::alloc::{AllocError, Global};
 
 pub(crate) fn pattern<'a>(
@@ -22,8 +21,7 @@ pub(crate) fn pattern<'a>(
 ) -> Result<Turn<'a>, AllocError>
     ensures { (fs : List machine.Frame) (e : ExpTree) → Shows built e → ShowsStep result fs (machine.resume (machine.pattern name.now) fs e (terminals ts.now)) }
 {
-    let pattern = built::at(alloc, name, built)?;
-    Ok(found(pattern, ts))
+    read_as(Phrase::Prim, built::at(alloc, name, built), ts)
 }
 
 pub(crate) fn parens<'a>(
@@ -34,8 +32,7 @@ pub(crate) fn parens<'a>(
 ) -> Result<Turn<'a>, AllocError>
     ensures { (fs : List machine.Frame) (e : ExpTree) → Shows built e → ShowsStep result fs (machine.resume (machine.parens quoted) fs e (terminals ts.now)) }
 {
-    let inner = in_parens(alloc, quoted, built)?;
-    Ok(found_behind(Mark::CloseParen, inner, ts))
+    read_before(Mark::CloseParen, in_parens(alloc, quoted, built), ts)
 }
 
 /// What parentheses give: no node, save behind `$`.
@@ -57,8 +54,11 @@ pub(crate) fn list_tail<'a>(
 ) -> Result<Turn<'a>, AllocError>
     ensures { (fs : List machine.Frame) (es : ExpTrees) (e : ExpTree) → ShowsItems items es → Shows built e → ShowsStep result fs (machine.resume (machine.list_tail es) fs e (terminals ts.now)) }
 {
-    let list = built::list_onto(alloc, items, built)?;
-    Ok(found_behind(Mark::CloseBracket, list, ts))
+    read_before(
+        Mark::CloseBracket,
+        built::list_onto(alloc, items, built),
+        ts,
+    )
 }
 
 /// Behind an index: each makes a tree of its own.

@@ -8,6 +8,7 @@ ghost use Rattle.pi_phrases.specs.Shown.{line_shown, phrase_shown, terminals};
 ghost use Rattle.pi_phrases.specs.Trees.{Shows};
 ghost use Rattle.pi_phrases.specs.Turns.{ShowsStep};
 
+use crate::made::read_as;
 use pi_phrases::{
     Ahead, Built, Frame, Line, Mark, Natural, Phrase, Terminal, Turn, behind, built, front,
 };
@@ -22,8 +23,7 @@ pub(crate) fn signed<'a>(
 ) -> Result<Turn<'a>, AllocError>
     ensures { (fs : List machine.Frame) (e : ExpTree) → Shows built e → ShowsStep result fs (machine.resume (machine.signed (phrase_shown phrase) name.now) fs e (terminals ts.now)) }
 {
-    let call = built::call_of_one(alloc, name, built)?;
-    Ok(Turn::Found(phrase, false, call, ts))
+    read_as(phrase, built::call_of_one(alloc, name, built), ts)
 }
 
 pub(crate) fn minus<'a>(
@@ -34,8 +34,7 @@ pub(crate) fn minus<'a>(
 ) -> Result<Turn<'a>, AllocError>
     ensures { (fs : List machine.Frame) (e : ExpTree) → Shows built e → ShowsStep result fs (machine.resume (machine.minus (terminals start.now)) fs e (terminals ts.now)) }
 {
-    let signed = negated(alloc, start, built, ts)?;
-    Ok(Turn::Found(Phrase::Unary, false, signed, ts))
+    read_as(Phrase::Unary, negated(alloc, start, built, ts), ts)
 }
 
 /// `-` before an operand: a negative integer where the operand is an integer alone.
@@ -52,10 +51,7 @@ fn negated<'a>(
             drop(built);
             Ok(built::integer(natural.negated()))
         }
-        None => {
-            let call = built::call_of_one(alloc, "-", built)?;
-            Ok(call)
-        }
+        None => { built::call_of_one(alloc, "-", built) }
     }
 }
 
@@ -97,8 +93,11 @@ pub(crate) fn joining<'a>(
 ) -> Result<Turn<'a>, AllocError>
     ensures { (fs : List machine.Frame) (a : ExpTree) (e : ExpTree) → Shows left a → Shows built e → ShowsStep result fs (machine.resume (machine.joining (line_shown line) name.now a) fs e (terminals ts.now)) }
 {
-    let call = built::call_of_two(alloc, name, left, built)?;
-    Ok(Turn::Found(Phrase::Line(line), false, call, ts))
+    read_as(
+        Phrase::Line(line),
+        built::call_of_two(alloc, name, left, built),
+        ts,
+    )
 }
 
 pub(crate) fn relation<'a>(
@@ -110,8 +109,11 @@ pub(crate) fn relation<'a>(
 ) -> Result<Turn<'a>, AllocError>
     ensures { (fs : List machine.Frame) (a : ExpTree) (e : ExpTree) → Shows left a → Shows built e → ShowsStep result fs (machine.resume (machine.relation name.now a) fs e (terminals ts.now)) }
 {
-    let call = built::call_of_two(alloc, name, left, built)?;
-    Ok(Turn::Found(Phrase::Relating, false, call, ts))
+    read_as(
+        Phrase::Relating,
+        built::call_of_two(alloc, name, left, built),
+        ts,
+    )
 }
 
 pub(crate) fn range_from<'a>(
@@ -124,10 +126,7 @@ pub(crate) fn range_from<'a>(
 {
     match behind(Mark::Dots, ts) {
         Some(rest) => Ok(Turn::Open(Frame::RangeStep(first, built), rest)),
-        None => {
-            let range = built::range(alloc, first, built)?;
-            Ok(Turn::Found(Phrase::Range, false, range, ts))
-        }
+        None => read_as(Phrase::Range, built::range(alloc, first, built), ts),
     }
 }
 
@@ -140,8 +139,11 @@ pub(crate) fn range_step<'a>(
 ) -> Result<Turn<'a>, AllocError>
     ensures { (fs : List machine.Frame) (a : ExpTree) (b : ExpTree) (e : ExpTree) → Shows first a → Shows step b → Shows built e → ShowsStep result fs (machine.resume (machine.range_step a b) fs e (terminals ts.now)) }
 {
-    let range = built::range_by(alloc, first, step, built)?;
-    Ok(Turn::Found(Phrase::Range, false, range, ts))
+    read_as(
+        Phrase::Range,
+        built::range_by(alloc, first, step, built),
+        ts,
+    )
 }
 
 pub(crate) fn power<'a>(
@@ -152,6 +154,9 @@ pub(crate) fn power<'a>(
 ) -> Result<Turn<'a>, AllocError>
     ensures { (fs : List machine.Frame) (a : ExpTree) (e : ExpTree) → Shows base a → Shows built e → ShowsStep result fs (machine.resume (machine.power a) fs e (terminals ts.now)) }
 {
-    let call = built::call_of_two(alloc, "**", base, built)?;
-    Ok(Turn::Found(Phrase::Pow, false, call, ts))
+    read_as(
+        Phrase::Pow,
+        built::call_of_two(alloc, "**", base, built),
+        ts,
+    )
 }
