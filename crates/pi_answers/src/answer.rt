@@ -3,10 +3,16 @@ use pi_constraints::VarDomains;
 use pi_terms::{Series, Term, Text};
 
 /// A named variable and its value.
-#[derive(Drop)]
 pub struct NamedTerm {
     pub name: Text,
     pub value: Term,
+}
+
+// By hand, so that letting one go is a call and not its parts at each way out.
+impl Drop for NamedTerm {
+    fn drop(self) {
+        let NamedTerm { name: _, value: _ } = self;
+    }
 }
 
 /// Named variables with their values, in order.
@@ -14,8 +20,17 @@ pub type NamedTerms = Series<NamedTerm>;
 
 /// An answer of a query: the value of each named variable in the order of the goal, and the domain of each unbound
 /// variable in them that has one.
-#[derive(Drop)]
 pub struct Answer {
     pub values: NamedTerms,
     pub domains: VarDomains,
+}
+
+// By hand, so that letting one go is a call and not its parts at each way out.
+impl Drop for Answer {
+    fn drop(self) {
+        let Answer {
+            values: _,
+            domains: _,
+        } = self;
+    }
 }

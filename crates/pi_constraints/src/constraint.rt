@@ -29,7 +29,6 @@ pub type LinTerm = (i128, u64);
 pub type LinTerms = Series<LinTerm>;
 
 /// A constraint. A User's Guide to Picat, 'Constraints'; the forms that all others are brought into are own.
-#[derive(Drop)]
 pub enum Constraint {
     /// The sum of the terms and the constant stands so to 0.
     Linear {
@@ -65,6 +64,34 @@ pub enum Constraint {
     },
     /// No two items are the same integer. It says what `Different` says; its filter keeps fewer values.
     Distinct(Items),
+}
+
+// By hand, so that letting one go is a call and not its parts at each way out.
+impl Drop for Constraint {
+    fn drop(self) {
+        match self {
+            Constraint::Linear {
+                rel: _,
+                terms: _,
+                constant: _,
+            } => {}
+            Constraint::Product { z: _, x: _, y: _ } => {}
+            Constraint::Absolute { z: _, x: _ } => {}
+            Constraint::Different(_) => {}
+            Constraint::Element {
+                index: _,
+                items: _,
+                value: _,
+            } => {}
+            Constraint::Reified {
+                truth: _,
+                rel: _,
+                terms: _,
+                constant: _,
+            } => {}
+            Constraint::Distinct(_) => {}
+        }
+    }
 }
 
 impl Constraint {

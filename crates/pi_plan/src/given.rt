@@ -14,12 +14,23 @@ pub type Successors = Series<Successor>;
 
 /// What was given for a state: what was left of the limit when it was asked for, whether `final` has an answer, and the
 /// answers of `action`.
-#[derive(Drop)]
 pub struct GivenState {
     pub state: Term,
     pub rest: i128,
     pub is_final: bool,
     pub successors: Successors,
+}
+
+// By hand, so that letting one go is a call and not its parts at each way out.
+impl Drop for GivenState {
+    fn drop(self) {
+        let GivenState {
+            state: _,
+            rest: _,
+            is_final: _,
+            successors: _,
+        } = self;
+    }
 }
 
 /// All that a planner was given, in order.

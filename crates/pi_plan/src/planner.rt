@@ -37,12 +37,23 @@ pub(crate) enum Ending {
 }
 
 /// How far a planner is: it may ask for more; it asked for the state of a way, or was given it; or it has ended.
-#[derive(Drop)]
 pub(crate) enum Stage {
     Ready,
     Asked(usize),
     Given(usize),
     Ended(Ending),
+}
+
+// By hand, so that letting one go is a call and not its parts at each way out.
+impl Drop for Stage {
+    fn drop(self) {
+        match self {
+            Stage::Ready => {}
+            Stage::Asked(_) => {}
+            Stage::Given(_) => {}
+            Stage::Ended(_) => {}
+        }
+    }
 }
 
 /// A search for a plan over what it is given.

@@ -39,13 +39,25 @@ pub(crate) struct Standing {
 }
 
 /// A search under a whole limit.
-#[derive(Drop)]
 pub(crate) struct Search {
     pub(crate) by_rest: bool,
     pub(crate) whole: u128,
     pub(crate) ways: Vec<Way>,
     pub(crate) known: BTreeMap<Place, Standing>,
     pub(crate) frontier: BTreeSet<Due>,
+}
+
+// By hand, so that letting one go is a call and not its parts at each way out.
+impl Drop for Search {
+    fn drop(self) {
+        let Search {
+            by_rest: _,
+            whole: _,
+            ways: _,
+            known: _,
+            frontier: _,
+        } = self;
+    }
 }
 
 impl Search {

@@ -36,11 +36,21 @@ pub struct Todo<'t> {
 }
 
 /// A printer of terms whose variables have numbers, in quoted or in plain form.
-#[derive(Drop)]
 pub struct Printer {
     pub alloc: Global,
     pub is_quoted: bool,
     pub numbers: Numbers,
+}
+
+// By hand, so that letting one go is a call and not its parts at each way out.
+impl Drop for Printer {
+    fn drop(self) {
+        let Printer {
+            alloc: _,
+            is_quoted: _,
+            numbers: _,
+        } = self;
+    }
 }
 
 impl Printer {

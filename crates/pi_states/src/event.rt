@@ -38,11 +38,21 @@ pub type Events = Series<Event>;
 
 /// A run of an agent's rule that waits: the agent, the number of the event that it waited for among its events, and the
 /// event's value.
-#[derive(Drop)]
 pub struct Activation {
     pub agent: u64,
     pub watch: u64,
     pub value: Option<Term>,
+}
+
+// By hand, so that letting one go is a call and not its parts at each way out.
+impl Drop for Activation {
+    fn drop(self) {
+        let Activation {
+            agent: _,
+            watch: _,
+            value: _,
+        } = self;
+    }
 }
 
 impl Activation {

@@ -26,7 +26,6 @@ use std::mem;
 
 /// A store as a list of whole states. A mark is the number of the present state, which is kept from then on; a kept
 /// state is copied before it is changed, and `undo` copies nothing.
-#[derive(Drop)]
 pub struct TreeStore {
     alloc: Global,
     /// They are not undone.
@@ -37,6 +36,19 @@ pub struct TreeStore {
     /// Whether the present state is kept.
     is_kept: bool,
     ghost sound: { IsSound atoms earlier present } by { sound_prop atoms earlier present },
+}
+
+// By hand, so that letting one go is a call and not its parts at each way out.
+impl Drop for TreeStore {
+    fn drop(self) {
+        let TreeStore {
+            alloc: _,
+            atoms: _,
+            earlier: _,
+            present: _,
+            is_kept: _,
+        } = self;
+    }
 }
 
 impl TreeStore {

@@ -11,7 +11,6 @@ use std::alloc::{AllocError, Global};
 
 /// A term of a state, at its own number. A compound has the number of its name, its arguments, and whether no variable
 /// occurs in it.
-#[derive(Drop)]
 pub enum StoredTerm {
     Var(u64),
     Int(i128),
@@ -19,12 +18,34 @@ pub enum StoredTerm {
     Comp(u64, Series<Ref>, bool),
 }
 
+// By hand, so that letting one go is a call and not its parts at each way out.
+impl Drop for StoredTerm {
+    fn drop(self) {
+        match self {
+            StoredTerm::Var(_) => {}
+            StoredTerm::Int(_) => {}
+            StoredTerm::Atom(_) => {}
+            StoredTerm::Comp(_, _, _) => {}
+        }
+    }
+}
+
 /// What is known of a variable: nothing, its values, or the term that it is bound to.
-#[derive(Drop)]
 pub enum Known {
     Free,
     Within(Domain),
     Bound(Ref),
+}
+
+// By hand, so that letting one go is a call and not its parts at each way out.
+impl Drop for Known {
+    fn drop(self) {
+        match self {
+            Known::Free => {}
+            Known::Within(_) => {}
+            Known::Bound(_) => {}
+        }
+    }
 }
 
 /// A variable: its own term, and what is known of it.
@@ -44,13 +65,25 @@ pub struct StoredAgent {
 }
 
 /// One whole state.
-#[derive(Drop)]
 pub struct TreeState {
     pub terms: Series<StoredTerm>,
     pub variables: Series<StoredVariable>,
     pub constraints: Series<Constraint>,
     pub agents: Series<StoredAgent>,
     pub waiting: Queue<Activation>,
+}
+
+// By hand, so that letting one go is a call and not its parts at each way out.
+impl Drop for TreeState {
+    fn drop(self) {
+        let TreeState {
+            terms: _,
+            variables: _,
+            constraints: _,
+            agents: _,
+            waiting: _,
+        } = self;
+    }
 }
 
 /// One change of a state.
