@@ -76,12 +76,12 @@ impl Node<'_> {
 }
 
 /// How many of the words make the first term; None where they don't.
-pub fn extent(words: &[&str]) -> Option<usize> {
+pub fn extent(words: &[String]) -> Option<usize> {
     let mut wanted = 1usize;
     for (i, word) in words.iter().enumerate() {
         wanted = wanted
             .saturating_sub(1)
-            .saturating_add(node_of(word).below());
+            .saturating_add(node_of(word.as_str()).below());
         if wanted == 0 {
             return Some(i.saturating_add(1));
         }

@@ -10,7 +10,7 @@ mod tokens;
 use pi_cases::Case;
 
 /// Answers a case of a text that is read, and tells whether the subject is one of such cases.
-pub fn answer_text(subject: &str, line: &str, case: &Case<'_>) -> bool {
+pub fn answer_text(subject: &str, line: &str, case: &Case) -> bool {
     match subject {
         "tokens" => tokens::answer(case, line),
         "expressions" => expressions::tell_tree(case, line),
@@ -26,7 +26,7 @@ pub fn answer_text(subject: &str, line: &str, case: &Case<'_>) -> bool {
 }
 
 /// Answers a case of the prelude, and tells whether the subject is the prelude.
-pub fn answer_words(subject: &str, case: &Case<'_>) -> bool {
+pub fn answer_words(subject: &str, case: &Case) -> bool {
     let is_prelude = subject == "prelude";
     if is_prelude {
         prelude::answer(case);

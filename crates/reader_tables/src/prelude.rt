@@ -9,7 +9,7 @@ use std::alloc::{AllocError, Global};
 /// Tells what a case asks: how many `bytes` or `lines` the text has, a `line` by its number from 1 on, what its `parts`
 /// are, or what it is when it is `read` as a user's program, with the names renamed that stand behind the word, each with
 /// the new name.
-pub fn answer(case: &Case<'_>) {
+pub fn answer(case: &Case) {
     match case.take_word() {
         "bytes" => case.tell_count(prelude().len()),
         "lines" => case.tell_count(prelude().split_terminator('\n').count()),
@@ -20,20 +20,20 @@ pub fn answer(case: &Case<'_>) {
     }
 }
 
-fn tell_line(case: &Case<'_>) {
+fn tell_line(case: &Case) {
     let number = case.take_count();
     let line = prelude().lines().nth(number.saturating_sub(1));
     case.tell(line.unwrap_or(""));
 }
 
-fn tell_parts(case: &Case<'_>) {
+fn tell_parts(case: &Case) {
     let program = read_prelude(case.alloc);
     if let Some(program) = case.made(program) {
         tell_kinds(program.parts.as_slice(), case);
     }
 }
 
-fn tell_verdict(case: &Case<'_>) {
+fn tell_verdict(case: &Case) {
     let names = case.take_rest();
     let text = renamed(case.alloc, names);
     if let Some(text) = case.made(text)
@@ -44,11 +44,11 @@ fn tell_verdict(case: &Case<'_>) {
 }
 
 /// The prelude with other names for some.
-fn renamed(alloc: Global, names: &[&str]) -> Result<String, AllocError> {
+fn renamed(alloc: Global, names: &[String]) -> Result<String, AllocError> {
     let mut text = String::from_str(alloc, prelude())?;
     for pair in names.chunks_exact(2) {
         if let [name, other] = pair {
-            text = with_name(alloc, text.as_str(), name, other)?;
+            text = with_name(alloc, text.as_str(), name.as_str(), other.as_str())?;
         }
     }
     Ok(text)

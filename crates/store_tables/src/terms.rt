@@ -7,7 +7,7 @@ use std::alloc::AllocError;
 
 /// Tells what a term gives: `parts`, its cells, itself and its arguments; `copy` and `renumbered`, another term;
 /// `quoted` and `plain`, its text.
-pub fn answer(case: &Case<'_>) {
+pub fn answer(case: &Case) {
     let asked = case.take_word();
     let Some(term) = case.take_term() else {
         return;
@@ -29,14 +29,14 @@ pub fn answer(case: &Case<'_>) {
 }
 
 /// Tells a term that was made.
-fn tell_made(made: Result<Term, AllocError>, case: &Case<'_>) {
+fn tell_made(made: Result<Term, AllocError>, case: &Case) {
     if let Some(term) = case.made(made) {
         case.tell_term(&term);
     }
 }
 
 /// Tells the text of a term.
-fn tell_text(term: &Term, is_quoted: bool, case: &Case<'_>) {
+fn tell_text(term: &Term, is_quoted: bool, case: &Case) {
     let text = term_text(case.alloc, term, is_quoted);
     if let Some(text) = case.made(text) {
         case.tell_escaped(text.as_str());
@@ -44,7 +44,7 @@ fn tell_text(term: &Term, is_quoted: bool, case: &Case<'_>) {
 }
 
 /// Tells the number of a term's cells, what it is at its root, and each of its arguments.
-fn tell_parts(term: &Term, case: &Case<'_>) {
+fn tell_parts(term: &Term, case: &Case) {
     case.tell_count(term.cells());
     case.tell(" cells, ");
     case.tell_head(term.head());

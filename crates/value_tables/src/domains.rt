@@ -13,7 +13,7 @@ const MOST: usize = 1_000_000;
 const TOLD: usize = 8;
 
 /// Tells what each step of a case gives. A step is made of the domain that the last one left.
-pub fn answer(case: &Case<'_>) {
+pub fn answer(case: &Case) {
     let nothing = of_list(case.alloc, &[]);
     let Some(mut domain) = made(case, nothing) else {
         return;
@@ -26,7 +26,7 @@ pub fn answer(case: &Case<'_>) {
 }
 
 /// A domain that was made; None where it is too wide, which is told, or memory was wanted.
-fn made(case: &Case<'_>, made: Result<Domain, DomFault>) -> Option<Domain> {
+fn made(case: &Case, made: Result<Domain, DomFault>) -> Option<Domain> {
     match made {
         Ok(domain) => return Some(domain),
         Err(DomFault::TooWide) => case.tell("too wide"),
@@ -36,7 +36,7 @@ fn made(case: &Case<'_>, made: Result<Domain, DomFault>) -> Option<Domain> {
 }
 
 /// Takes a step: a domain in the place of the last one, told by its spans, or a question.
-fn take_step(case: &Case<'_>, domain: &mut Domain) {
+fn take_step(case: &Case, domain: &mut Domain) {
     let word = case.take_word();
     if answer_question(case, domain, word) {
         return;
@@ -48,7 +48,7 @@ fn take_step(case: &Case<'_>, domain: &mut Domain) {
 }
 
 /// The domain that a step makes.
-fn next_domain(case: &Case<'_>, domain: &Domain, word: &str) -> Option<Domain> {
+fn next_domain(case: &Case, domain: &Domain, word: &str) -> Option<Domain> {
     let alloc = case.alloc;
     let cut = match word {
         "from" => cut_below(alloc, domain, case.take_integer()),
@@ -64,13 +64,13 @@ fn next_domain(case: &Case<'_>, domain: &Domain, word: &str) -> Option<Domain> {
 }
 
 /// Takes a domain, which begins with the word for how it is made.
-fn take_domain(case: &Case<'_>) -> Option<Domain> {
+fn take_domain(case: &Case) -> Option<Domain> {
     let word = case.take_word();
     domain_of(case, word)
 }
 
 /// The domain from one integer to another, or of a list of values.
-fn domain_of(case: &Case<'_>, word: &str) -> Option<Domain> {
+fn domain_of(case: &Case, word: &str) -> Option<Domain> {
     let domain = match word {
         "span" => {
             let lo = case.take_integer();
@@ -89,16 +89,16 @@ fn domain_of(case: &Case<'_>, word: &str) -> Option<Domain> {
 }
 
 /// The values that are left. `0:8:2` are 0, 2, 4, 6 and 8.
-fn take_values(case: &Case<'_>) -> Vec<i128> {
+fn take_values(case: &Case) -> Vec<i128> {
     let mut values = Vec::new(case.alloc);
     for word in case.take_rest() {
-        push_progression(case, word, &mut values);
+        push_progression(case, word.as_str(), &mut values);
     }
     values
 }
 
 /// Appends a value, or the values from the first number of a word up to its second, by steps of its third.
-fn push_progression(case: &Case<'_>, word: &str, values: &mut Vec<i128>) {
+fn push_progression(case: &Case, word: &str, values: &mut Vec<i128>) {
     let (first, behind) = word.split_once(':').unwrap_or((word, word));
     let (last, step) = behind.split_once(':').unwrap_or((behind, "1"));
     let mut value = case.integer_of(first);
@@ -115,7 +115,7 @@ fn push_progression(case: &Case<'_>, word: &str, values: &mut Vec<i128>) {
 }
 
 /// Answers a question about a domain, and tells whether the word begins one.
-fn answer_question(case: &Case<'_>, domain: &Domain, word: &str) -> bool {
+fn answer_question(case: &Case, domain: &Domain, word: &str) -> bool {
     match word {
         "size" => case.tell_number(size(domain)),
         "min" => tell_end(min(domain), case),
@@ -135,7 +135,7 @@ fn answer_question(case: &Case<'_>, domain: &Domain, word: &str) -> bool {
 }
 
 /// Tells spans: each, or where they are many, how many they are and the first and the last one.
-fn tell_spans(spans: &[Span], case: &Case<'_>) {
+fn tell_spans(spans: &[Span], case: &Case) {
     match spans {
         [] => case.tell("empty"),
         [first, .., last] if spans.len() > TOLD => {
@@ -154,7 +154,7 @@ fn tell_spans(spans: &[Span], case: &Case<'_>) {
     }
 }
 
-fn tell_end(end: Option<i64>, case: &Case<'_>) {
+fn tell_end(end: Option<i64>, case: &Case) {
     match end {
         Some(value) => case.tell_integer(i128::from(value)),
         None => case.tell("none"),

@@ -13,7 +13,7 @@ use pi_cases::Case;
 use pi_outside::Files;
 
 /// Answers a case of domains, integers, regions, filters or planners, and tells whether the subject is one of them.
-pub fn answer_words(subject: &str, case: &Case<'_>) -> bool {
+pub fn answer_words(subject: &str, case: &Case) -> bool {
     match subject {
         "domains" => domains::answer(case),
         "filters" => filters::answer(case),
@@ -30,7 +30,7 @@ pub fn answer_outside<R: Print + Input + AllocGlobal, F: Files>(
     rt: &R,
     files: &mut F,
     subject: &str,
-    case: &Case<'_>,
+    case: &Case,
 ) -> bool {
     let is_outside = subject == "outside";
     if is_outside {

@@ -14,7 +14,7 @@ const UNREAD: u8 = b'_';
 
 /// Tells what each call of a case gives. The first step makes the object that is called: `memory`, `sure` or `real`, and
 /// `sink`, `source` or `files`.
-pub fn answer<R: Print + Input + AllocGlobal, F: Files>(rt: &R, files: &mut F, case: &Case<'_>) {
+pub fn answer<R: Print + Input + AllocGlobal, F: Files>(rt: &R, files: &mut F, case: &Case) {
     let kind = case.take_word();
     let object = case.take_word();
     match (kind, object) {
@@ -32,7 +32,7 @@ pub fn answer<R: Print + Input + AllocGlobal, F: Files>(rt: &R, files: &mut F, c
 }
 
 /// A sink with room for so many bytes, and the numbers of the calls that are to fail.
-fn ask_memory_sink(case: &Case<'_>) {
+fn ask_memory_sink(case: &Case) {
     let sink = MemorySink::new(case.alloc, case.take_count());
     let Some(mut sink) = case.made(sink) else {
         return;
@@ -47,7 +47,7 @@ fn ask_memory_sink(case: &Case<'_>) {
 }
 
 /// A sink that keeps so many bytes.
-fn ask_sure_sink(case: &Case<'_>) {
+fn ask_sure_sink(case: &Case) {
     let sink = SureSink::new(case.alloc, case.take_count());
     let Some(mut sink) = case.made(sink) else {
         return;
@@ -58,7 +58,7 @@ fn ask_sure_sink(case: &Case<'_>) {
 }
 
 /// A source of bytes, how many it gives at once, and the numbers of the calls that are to fail.
-fn ask_memory_source(case: &Case<'_>) {
+fn ask_memory_source(case: &Case) {
     let word = case.take_word();
     let bytes = bytes_of(case, word);
     let most = case.take_count().max(1);
@@ -74,7 +74,7 @@ fn ask_memory_source(case: &Case<'_>) {
 }
 
 /// A source of bytes, and how many it gives at once.
-fn ask_sure_source(case: &Case<'_>) {
+fn ask_sure_source(case: &Case) {
     let word = case.take_word();
     let bytes = bytes_of(case, word);
     let most = case.take_count().max(1);
@@ -85,7 +85,7 @@ fn ask_sure_source(case: &Case<'_>) {
 }
 
 /// A file with its bytes, and the numbers of the calls that are to fail.
-fn ask_memory_files(case: &Case<'_>) {
+fn ask_memory_files(case: &Case) {
     let mut files = MemoryFiles::new(case.alloc);
     let name = case.take_word();
     let word = case.take_word();
@@ -100,7 +100,7 @@ fn ask_memory_files(case: &Case<'_>) {
 }
 
 /// A file with its bytes.
-fn ask_sure_files(case: &Case<'_>) {
+fn ask_sure_files(case: &Case) {
     let mut files = SureFiles::new(case.alloc);
     let name = case.take_word();
     let word = case.take_word();
@@ -111,7 +111,7 @@ fn ask_sure_files(case: &Case<'_>) {
 }
 
 /// Writes a piece at each step.
-fn write_all<O: Sink>(case: &Case<'_>, sink: &mut O) {
+fn write_all<O: Sink>(case: &Case, sink: &mut O) {
     case.take_step_end();
     for _ in 0..case.steps() {
         case.begin("; ");
@@ -123,7 +123,7 @@ fn write_all<O: Sink>(case: &Case<'_>, sink: &mut O) {
 }
 
 /// Reads so many bytes at each step, each time into the same place.
-fn read_all<I: Source>(case: &Case<'_>, source: &mut I) {
+fn read_all<I: Source>(case: &Case, source: &mut I) {
     let mut into = [UNREAD; ROOM];
     case.take_step_end();
     for _ in 0..case.steps() {
@@ -140,7 +140,7 @@ fn read_all<I: Source>(case: &Case<'_>, source: &mut I) {
 }
 
 /// Reads of a file at each step, by its name and from a place on, each time into the same place.
-fn read_files<F: Files>(case: &Case<'_>, files: &mut F) {
+fn read_files<F: Files>(case: &Case, files: &mut F) {
     let mut into = [UNREAD; ROOM];
     case.take_step_end();
     for _ in 0..case.steps() {
@@ -155,7 +155,7 @@ fn read_files<F: Files>(case: &Case<'_>, files: &mut F) {
 }
 
 /// Tells how many bytes were taken or read.
-fn tell_taken(taken: Result<usize, Failed>, case: &Case<'_>) {
+fn tell_taken(taken: Result<usize, Failed>, case: &Case) {
     match taken {
         Ok(count) => case.tell_count(count),
         Err(Failed) => case.tell("failed"),

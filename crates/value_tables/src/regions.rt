@@ -39,7 +39,7 @@ impl Watched {
 
 /// Tells what each call of a case gives, a step each. They go to one region, or to the pool that `pool` in front of them makes
 /// and to the region that was taken of it last.
-pub fn answer(case: &Case<'_>) {
+pub fn answer(case: &Case) {
     if case.skip("pool") {
         case.take_step_end();
         call_pool(case);
@@ -48,7 +48,7 @@ pub fn answer(case: &Case<'_>) {
     }
 }
 
-fn call_region(case: &Case<'_>) {
+fn call_region(case: &Case) {
     let mut region = Region::new(case.alloc);
     for _ in 0..case.steps() {
         case.begin("; ");
@@ -58,7 +58,7 @@ fn call_region(case: &Case<'_>) {
     }
 }
 
-fn call_pool(case: &Case<'_>) {
+fn call_pool(case: &Case) {
     let mut pool = Watched::new(case.alloc);
     let mut taken = Vec::new(case.alloc);
     for _ in 0..case.steps() {
@@ -77,7 +77,7 @@ fn call_pool(case: &Case<'_>) {
 }
 
 /// Takes a region of a pool.
-fn take(case: &Case<'_>, pool: &mut Watched, taken: &mut Vec<Region>) {
+fn take(case: &Case, pool: &mut Watched, taken: &mut Vec<Region>) {
     match pool.take() {
         Ok(region) => {
             case.keep(Some(region), taken);
@@ -88,7 +88,7 @@ fn take(case: &Case<'_>, pool: &mut Watched, taken: &mut Vec<Region>) {
 }
 
 /// Gives the region that was taken last back to its pool.
-fn give(case: &Case<'_>, pool: &mut Watched, taken: &mut Vec<Region>) {
+fn give(case: &Case, pool: &mut Watched, taken: &mut Vec<Region>) {
     match taken.pop() {
         Some(region) if pool.pool.outstanding() > 0 => {
             pool.give(region);
@@ -99,7 +99,7 @@ fn give(case: &Case<'_>, pool: &mut Watched, taken: &mut Vec<Region>) {
 }
 
 /// Makes a call to the region that was taken last.
-fn call_newest(case: &Case<'_>, taken: &mut Vec<Region>, verb: &str) {
+fn call_newest(case: &Case, taken: &mut Vec<Region>, verb: &str) {
     match taken.last_mut() {
         Some(region) => call(case, region, verb),
         None => case.lacks("a region that was taken"),
@@ -107,7 +107,7 @@ fn call_newest(case: &Case<'_>, taken: &mut Vec<Region>, verb: &str) {
 }
 
 /// Makes a call to a region.
-fn call(case: &Case<'_>, region: &mut Region, verb: &str) {
+fn call(case: &Case, region: &mut Region, verb: &str) {
     match verb {
         "len" => case.tell_count(region.len()),
         "get" => tell_word(case, region),
@@ -125,7 +125,7 @@ fn call(case: &Case<'_>, region: &mut Region, verb: &str) {
 }
 
 /// Makes a call that may take memory.
-fn grow(case: &Case<'_>, region: &mut Region, verb: &str) -> Result<(), AllocError> {
+fn grow(case: &Case, region: &mut Region, verb: &str) -> Result<(), AllocError> {
     let number = case.take_number();
     match verb {
         "reserve" => region.reserve(number as usize),
@@ -166,7 +166,7 @@ fn fill(region: &mut Region, count: u64, step: u64) -> Result<(), AllocError> {
 }
 
 /// Tells a word as it is read.
-fn tell_word(case: &Case<'_>, region: &Region) {
+fn tell_word(case: &Case, region: &Region) {
     let index = case.take_count();
     if index < region.len() {
         case.tell_number(region.get(index));
@@ -176,7 +176,7 @@ fn tell_word(case: &Case<'_>, region: &Region) {
 }
 
 /// Tells how many of the first words are the multiples of a number, from 0 on.
-fn tell_right(case: &Case<'_>, region: &Region) {
+fn tell_right(case: &Case, region: &Region) {
     let count = case.take_count().min(region.len());
     let step = case.take_number();
     let mut right = 0u64;
@@ -188,7 +188,7 @@ fn tell_right(case: &Case<'_>, region: &Region) {
     case.tell_number(right);
 }
 
-fn set(case: &Case<'_>, region: &mut Region) {
+fn set(case: &Case, region: &mut Region) {
     let index = case.take_count();
     let word = case.take_number();
     if index < region.len() {
@@ -199,7 +199,7 @@ fn set(case: &Case<'_>, region: &mut Region) {
     }
 }
 
-fn truncate(case: &Case<'_>, region: &mut Region) {
+fn truncate(case: &Case, region: &mut Region) {
     let count = case.take_count();
     if count <= region.len() {
         region.truncate(count);
