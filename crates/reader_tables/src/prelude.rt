@@ -1,22 +1,46 @@
 //! The prelude's text, its parts, and its verdict as a program.
 
 use crate::programs::{read, tell_kinds};
-use pi_cases::Case;
+use pi_cases::{Case, named};
 use pi_lib::prelude;
 use pi_prelude::read_prelude;
 use std::alloc::{AllocError, Global};
+
+/// What is asked of the prelude.
+#[derive(Clone, Copy)]
+enum Asked {
+    Bytes,
+    Lines,
+    Line,
+    Parts,
+    Read,
+}
+
+/// Each question with its word.
+const QUESTIONS: [(&str, Asked); 5] = [
+    ("bytes", Asked::Bytes),
+    ("lines", Asked::Lines),
+    ("line", Asked::Line),
+    ("parts", Asked::Parts),
+    ("read", Asked::Read),
+];
+
+/// What a word asks.
+fn asked_by(word: &str) -> Option<Asked> {
+    named(&QUESTIONS, word)
+}
 
 /// Tells what a case asks: how many `bytes` or `lines` the text has, a `line` by its number from 1 on, what its `parts`
 /// are, or what it is when it is `read` as a user's program, with the names renamed that stand behind the word, each with
 /// the new name.
 pub fn answer(case: &Case) {
-    match case.take_word() {
-        "bytes" => case.tell_count(prelude().len()),
-        "lines" => case.tell_count(prelude().split_terminator('\n').count()),
-        "line" => tell_line(case),
-        "parts" => tell_parts(case),
-        "read" => tell_verdict(case),
-        _ => case.lacks("what is asked of the prelude"),
+    match asked_by(case.take_word()) {
+        Some(Asked::Bytes) => case.tell_count(prelude().len()),
+        Some(Asked::Lines) => case.tell_count(prelude().split_terminator('\n').count()),
+        Some(Asked::Line) => tell_line(case),
+        Some(Asked::Parts) => tell_parts(case),
+        Some(Asked::Read) => tell_verdict(case),
+        None => case.lacks("what is asked of the prelude"),
     }
 }
 

@@ -1,6 +1,6 @@
 //! Domains: how they are made, cut, met and read, step by step.
 
-use pi_cases::{Case, Problem, tell_span};
+use pi_cases::{Case, Problem, named, tell_span};
 use pi_dom::{
     DomFault, contains, cut_above, cut_below, max, meet, min, of_list, of_span, remove, size,
 };
@@ -11,6 +11,52 @@ const MOST: usize = 1_000_000;
 
 /// How many spans are told one by one.
 const TOLD: usize = 8;
+
+/// How a step cuts a domain.
+#[derive(Clone, Copy)]
+enum Cut {
+    From,
+    Upto,
+    Without,
+    Meet,
+}
+
+/// Each cut with its word.
+const CUTS: [(&str, Cut); 4] = [
+    ("from", Cut::From),
+    ("upto", Cut::Upto),
+    ("without", Cut::Without),
+    ("meet", Cut::Meet),
+];
+
+/// What is asked of a domain.
+#[derive(Clone, Copy)]
+enum Question {
+    Size,
+    Min,
+    Max,
+    Has,
+    Is,
+}
+
+/// Each question with its word.
+const QUESTIONS: [(&str, Question); 5] = [
+    ("size", Question::Size),
+    ("min", Question::Min),
+    ("max", Question::Max),
+    ("has", Question::Has),
+    ("is", Question::Is),
+];
+
+/// The cut with a word.
+fn cut_of(word: &str) -> Option<Cut> {
+    named(&CUTS, word)
+}
+
+/// The question with a word.
+fn question_of(word: &str) -> Option<Question> {
+    named(&QUESTIONS, word)
+}
 
 /// Tells what each step of a case gives. A step is made of the domain that the last one left.
 pub fn answer(case: &Case) {
@@ -49,18 +95,25 @@ fn take_step(case: &Case, domain: &mut Domain) {
 
 /// The domain that a step makes.
 fn next_domain(case: &Case, domain: &Domain, word: &str) -> Option<Domain> {
+    match cut_of(word) {
+        Some(cut) => cut_domain(case, domain, cut),
+        None => domain_of(case, word),
+    }
+}
+
+/// What is left of a domain that is cut.
+fn cut_domain(case: &Case, domain: &Domain, cut: Cut) -> Option<Domain> {
     let alloc = case.alloc;
-    let cut = match word {
-        "from" => cut_below(alloc, domain, case.take_integer()),
-        "upto" => cut_above(alloc, domain, case.take_integer()),
-        "without" => remove(alloc, domain, case.take_integer()),
-        "meet" => {
+    let left = match cut {
+        Cut::From => cut_below(alloc, domain, case.take_integer()),
+        Cut::Upto => cut_above(alloc, domain, case.take_integer()),
+        Cut::Without => remove(alloc, domain, case.take_integer()),
+        Cut::Meet => {
             let other = take_domain(case)?;
             meet(alloc, domain, &other)
         }
-        _ => return domain_of(case, word),
     };
-    case.made(cut)
+    case.made(left)
 }
 
 /// Takes a domain, which begins with the word for how it is made.
@@ -116,22 +169,32 @@ fn push_progression(case: &Case, word: &str, values: &mut Vec<i128>) {
 
 /// Answers a question about a domain, and tells whether the word begins one.
 fn answer_question(case: &Case, domain: &Domain, word: &str) -> bool {
-    match word {
-        "size" => case.tell_number(size(domain)),
-        "min" => tell_end(min(domain), case),
-        "max" => tell_end(max(domain), case),
-        "has" => {
+    let question = question_of(word);
+    if let Some(question) = question {
+        tell_asked(case, domain, question);
+    }
+    question.is_some()
+}
+
+/// Tells what is asked of a domain.
+fn tell_asked(case: &Case, domain: &Domain, question: Question) {
+    match question {
+        Question::Size => case.tell_number(size(domain)),
+        Question::Min => tell_end(min(domain), case),
+        Question::Max => tell_end(max(domain), case),
+        Question::Has => {
             let n = case.take_integer();
             case.tell_whether(contains(domain, n));
         }
-        "is" => {
-            if let Some(other) = take_domain(case) {
-                case.tell_whether(domain.spans() == other.spans());
-            }
-        }
-        _ => return false,
+        Question::Is => tell_whether_same(case, domain),
     }
-    true
+}
+
+/// Takes another domain, and tells whether it is this one.
+fn tell_whether_same(case: &Case, domain: &Domain) {
+    if let Some(other) = take_domain(case) {
+        case.tell_whether(domain.spans() == other.spans());
+    }
 }
 
 /// Tells spans: each, or where they are many, how many they are and the first and the last one.

@@ -1,6 +1,6 @@
 //! What the outside is asked for: files, a source of input and a sink for output, call by call.
 
-use pi_cases::{Case, bytes_of};
+use pi_cases::{Case, bytes_of, named};
 use pi_outside::{
     Failed, Files, MemoryFiles, MemorySink, MemorySource, RealSink, RealSource, Sink, Source,
     SureFiles, SureSink, SureSource,
@@ -12,22 +12,90 @@ const ROOM: usize = 4;
 /// What stands in the place into which is read.
 const UNREAD: u8 = b'_';
 
+/// A kind of outside.
+#[derive(Clone, Copy)]
+enum Kind {
+    Memory,
+    Sure,
+    Real,
+}
+
+/// Each kind with its word.
+const KINDS: [(&str, Kind); 3] = [
+    ("memory", Kind::Memory),
+    ("sure", Kind::Sure),
+    ("real", Kind::Real),
+];
+
+/// What is called of the outside.
+#[derive(Clone, Copy)]
+enum Object {
+    Sink,
+    Source,
+    Files,
+}
+
+/// Each object with its word.
+const OBJECTS: [(&str, Object); 3] = [
+    ("sink", Object::Sink),
+    ("source", Object::Source),
+    ("files", Object::Files),
+];
+
+/// The kind with a word.
+fn kind_of(word: &str) -> Option<Kind> {
+    named(&KINDS, word)
+}
+
+/// The object with a word.
+fn object_of(word: &str) -> Option<Object> {
+    named(&OBJECTS, word)
+}
+
 /// Tells what each call of a case gives. The first step makes the object that is called: `memory`, `sure` or `real`, and
 /// `sink`, `source` or `files`.
 pub fn answer<R: Print + Input + AllocGlobal, F: Files>(rt: &R, files: &mut F, case: &Case) {
-    let kind = case.take_word();
-    let object = case.take_word();
-    match (kind, object) {
-        ("memory", "sink") => ask_memory_sink(case),
-        ("memory", "source") => ask_memory_source(case),
-        ("memory", "files") => ask_memory_files(case),
-        ("sure", "sink") => ask_sure_sink(case),
-        ("sure", "source") => ask_sure_source(case),
-        ("sure", "files") => ask_sure_files(case),
-        ("real", "sink") => write_all(case, &mut RealSink::new(rt)),
-        ("real", "source") => read_all(case, &mut RealSource::new(rt)),
-        ("real", "files") => read_files(case, files),
-        _ => case.lacks("a known object"),
+    let kind = kind_of(case.take_word());
+    let object = object_of(case.take_word());
+    let (Some(kind), Some(object)) = (kind, object) else {
+        return case.lacks("a known object");
+    };
+    match kind {
+        Kind::Memory => ask_in_memory(case, object),
+        Kind::Sure => ask_sure(case, object),
+        Kind::Real => ask_real(rt, files, case, object),
+    }
+}
+
+/// Makes an object in memory, some of whose calls can fail, and calls it.
+fn ask_in_memory(case: &Case, object: Object) {
+    match object {
+        Object::Sink => ask_memory_sink(case),
+        Object::Source => ask_memory_source(case),
+        Object::Files => ask_memory_files(case),
+    }
+}
+
+/// Makes an object in memory none of whose calls fails, and calls it.
+fn ask_sure(case: &Case, object: Object) {
+    match object {
+        Object::Sink => ask_sure_sink(case),
+        Object::Source => ask_sure_source(case),
+        Object::Files => ask_sure_files(case),
+    }
+}
+
+/// Calls a real object.
+fn ask_real<R: Print + Input + AllocGlobal, F: Files>(
+    rt: &R,
+    files: &mut F,
+    case: &Case,
+    object: Object,
+) {
+    match object {
+        Object::Sink => write_all(case, &mut RealSink::new(rt)),
+        Object::Source => read_all(case, &mut RealSource::new(rt)),
+        Object::Files => read_files(case, files),
     }
 }
 

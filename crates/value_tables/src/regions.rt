@@ -2,7 +2,7 @@
 ghost use Rattle.std.specs.Prelude.{◌<◌, ◌≤◌, OnOk};
 ghost use Rattle.pi_region.specs.Pool.{made_by};
 
-use pi_cases::Case;
+use pi_cases::{Case, named};
 use pi_region::{Pool, Words as Region};
 use std::alloc::{AllocError, Global};
 
@@ -37,6 +37,76 @@ impl Watched {
     }
 }
 
+/// A call to a pool.
+#[derive(Clone, Copy)]
+enum PoolCall {
+    Take,
+    Give,
+    Made,
+    Most,
+    Outstanding,
+}
+
+/// Each call to a pool with its word.
+const POOL_CALLS: [(&str, PoolCall); 5] = [
+    ("take", PoolCall::Take),
+    ("give", PoolCall::Give),
+    ("made", PoolCall::Made),
+    ("most", PoolCall::Most),
+    ("outstanding", PoolCall::Outstanding),
+];
+
+/// A call to a region that takes no memory.
+#[derive(Clone, Copy)]
+enum RegionCall {
+    Len,
+    Get,
+    Right,
+    Set,
+    Truncate,
+}
+
+/// Each of these calls with its word.
+const CALLS: [(&str, RegionCall); 5] = [
+    ("len", RegionCall::Len),
+    ("get", RegionCall::Get),
+    ("right", RegionCall::Right),
+    ("set", RegionCall::Set),
+    ("truncate", RegionCall::Truncate),
+];
+
+/// A call to a region that may take memory.
+#[derive(Clone, Copy)]
+enum Growth {
+    Reserve,
+    Append,
+    Pair,
+    Fill,
+}
+
+/// Each of these calls with its word.
+const GROWTHS: [(&str, Growth); 4] = [
+    ("reserve", Growth::Reserve),
+    ("append", Growth::Append),
+    ("pair", Growth::Pair),
+    ("fill", Growth::Fill),
+];
+
+/// The call to a pool with a word.
+fn pool_call_of(word: &str) -> Option<PoolCall> {
+    named(&POOL_CALLS, word)
+}
+
+/// The call with a word that takes no memory.
+fn call_of(word: &str) -> Option<RegionCall> {
+    named(&CALLS, word)
+}
+
+/// The call with a word that may take memory.
+fn growth_of(word: &str) -> Option<Growth> {
+    named(&GROWTHS, word)
+}
+
 /// Tells what each call of a case gives, a step each. They go to one region, or to the pool that `pool` in front of them makes
 /// and to the region that was taken of it last.
 pub fn answer(case: &Case) {
@@ -64,15 +134,22 @@ fn call_pool(case: &Case) {
     for _ in 0..case.steps() {
         case.begin("; ");
         let verb = case.take_word();
-        match verb {
-            "take" => take(case, &mut pool, &mut taken),
-            "give" => give(case, &mut pool, &mut taken),
-            "made" => case.tell_number(pool.pool.made()),
-            "most" => case.tell_number(pool.most_out),
-            "outstanding" => case.tell_number(pool.pool.outstanding()),
-            _ => call_newest(case, &mut taken, verb),
+        match pool_call_of(verb) {
+            Some(called) => call_to_pool(case, &mut pool, &mut taken, called),
+            None => call_newest(case, &mut taken, verb),
         }
         case.take_step_end();
+    }
+}
+
+/// Makes a call to a pool.
+fn call_to_pool(case: &Case, pool: &mut Watched, taken: &mut Vec<Region>, called: PoolCall) {
+    match called {
+        PoolCall::Take => take(case, pool, taken),
+        PoolCall::Give => give(case, pool, taken),
+        PoolCall::Made => case.tell_number(pool.pool.made()),
+        PoolCall::Most => case.tell_number(pool.most_out),
+        PoolCall::Outstanding => case.tell_number(pool.pool.outstanding()),
     }
 }
 
@@ -108,31 +185,36 @@ fn call_newest(case: &Case, taken: &mut Vec<Region>, verb: &str) {
 
 /// Makes a call to a region.
 fn call(case: &Case, region: &mut Region, verb: &str) {
-    match verb {
-        "len" => case.tell_count(region.len()),
-        "get" => tell_word(case, region),
-        "right" => tell_right(case, region),
-        "set" => set(case, region),
-        "truncate" => truncate(case, region),
-        _ => {
+    match call_of(verb) {
+        Some(RegionCall::Len) => case.tell_count(region.len()),
+        Some(RegionCall::Get) => tell_word(case, region),
+        Some(RegionCall::Right) => tell_right(case, region),
+        Some(RegionCall::Set) => set(case, region),
+        Some(RegionCall::Truncate) => truncate(case, region),
+        None => {
             let done = grow(case, region, verb);
-            case.tell(match done {
-                Ok(()) => "done",
-                Err(AllocError) => "refused",
-            });
+            tell_done(case, done);
         }
     }
+}
+
+/// Tells whether a call was given the memory that it asked for.
+fn tell_done(case: &Case, done: Result<(), AllocError>) {
+    case.tell(match done {
+        Ok(()) => "done",
+        Err(AllocError) => "refused",
+    });
 }
 
 /// Makes a call that may take memory.
 fn grow(case: &Case, region: &mut Region, verb: &str) -> Result<(), AllocError> {
     let number = case.take_number();
-    match verb {
-        "reserve" => region.reserve(number as usize),
-        "append" => append(region, number),
-        "pair" => append_pair(region, number, case.take_number()),
-        "fill" => fill(region, number, case.take_number()),
-        _ => {
+    match growth_of(verb) {
+        Some(Growth::Reserve) => region.reserve(number as usize),
+        Some(Growth::Append) => append(region, number),
+        Some(Growth::Pair) => append_pair(region, number, case.take_number()),
+        Some(Growth::Fill) => fill(region, number, case.take_number()),
+        None => {
             case.lacks("a known call");
             Ok(())
         }

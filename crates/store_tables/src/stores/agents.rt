@@ -56,6 +56,30 @@ pub fn take_step<S: StateStore>(case: &Case, bench: &mut Bench<S>, name: &str) -
     true
 }
 
+/// A kind of event.
+#[derive(Clone, Copy)]
+enum Kind {
+    Ins,
+    Bound,
+    Dom,
+    DomAny,
+    Posted,
+}
+
+/// Each kind of event with its word.
+const KINDS: [(&str, Kind); 5] = [
+    ("ins", Kind::Ins),
+    ("bound", Kind::Bound),
+    ("dom", Kind::Dom),
+    ("dom_any", Kind::DomAny),
+    ("posted", Kind::Posted),
+];
+
+/// The kind of event with a word.
+fn kind_of(word: &str) -> Option<Kind> {
+    named(&KINDS, word)
+}
+
 /// Makes a call an agent, which waits for events.
 fn suspend<S: StateStore>(case: &Case, bench: &mut Bench<S>) {
     let rule = case.take_number();
@@ -76,15 +100,15 @@ fn suspend<S: StateStore>(case: &Case, bench: &mut Bench<S>) {
 
 /// Takes the words of an event: a kind, a term, and for some kinds a slot.
 fn take_watch<S: StateStore>(case: &Case, bench: &mut Bench<S>) -> Watch {
-    let kind = case.take_word();
+    let kind = kind_of(case.take_word());
     let r = bench.take(case);
     match kind {
-        "ins" => Watch::Ins(r),
-        "bound" => Watch::Bound(r),
-        "dom" => Watch::Dom(r, case.take_slot()),
-        "dom_any" => Watch::DomAny(r, case.take_slot()),
-        "posted" => Watch::Posted(r, case.take_slot()),
-        _ => {
+        Some(Kind::Ins) => Watch::Ins(r),
+        Some(Kind::Bound) => Watch::Bound(r),
+        Some(Kind::Dom) => Watch::Dom(r, case.take_slot()),
+        Some(Kind::DomAny) => Watch::DomAny(r, case.take_slot()),
+        Some(Kind::Posted) => Watch::Posted(r, case.take_slot()),
+        None => {
             case.lacks("a kind of event");
             Watch::Ins(r)
         }
