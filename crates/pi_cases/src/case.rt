@@ -5,20 +5,33 @@ use std::alloc::Global;
 use std::cell::Cell;
 
 /// A case that is answered. Its first fault stays; what is taken behind it is 0 or nothing, and counts for nothing. What changes of it stands in
-/// cells, so that it is lent to whatever takes of it and tells.
-#[derive(Drop)]
-pub struct Case<'a> {
+/// cells, so that it is lent to whatever takes of it and tells. Its words are its own: a case of words that it borrows would have a lifetime, which the proof
+/// of each call that it is lent to would carry.
+pub struct Case {
     pub alloc: Global,
-    pub(crate) words: &'a [&'a str],
+    pub(crate) words: Vec<String>,
     /// How many words were taken.
     at: Cell<usize>,
     answer: Cell<String>,
     problem: Cell<Option<Problem>>,
 }
 
-impl<'a> Case<'a> {
+// By hand, so that letting one go is a call and not its parts at each way out.
+impl Drop for Case {
+    fn drop(self) {
+        let Case {
+            alloc: _,
+            words: _,
+            at: _,
+            answer: _,
+            problem: _,
+        } = self;
+    }
+}
+
+impl Case {
     /// A case of these words.
-    pub fn new(alloc: Global, words: &'a [&'a str]) -> Case<'a> {
+    pub fn new(alloc: Global, words: Vec<String>) -> Case {
         Case {
             alloc,
             words,
@@ -28,9 +41,19 @@ impl<'a> Case<'a> {
         }
     }
 
-    /// Another case, of the words that are left of this one.
-    pub fn again(&self) -> Case<'a> {
-        Case::new(self.alloc, self.ahead())
+    /// A case without words.
+    pub fn wordless(alloc: Global) -> Case {
+        Case::new(alloc, Vec::new(alloc))
+    }
+
+    /// Another case, of the words that are left of this one, which notes it where there is no memory for them.
+    pub fn again(&self) -> Case {
+        let mut words = Vec::new(self.alloc);
+        for word in self.ahead() {
+            let word = String::from_str(self.alloc, word.as_str());
+            self.keep_made(word, &mut words);
+        }
+        Case::new(self.alloc, words)
     }
 
     /// How many words were taken.
@@ -66,7 +89,7 @@ impl<'a> Case<'a> {
     }
 
     /// Notes the fault of another case, where it has one.
-    pub fn fail_as(&self, other: &Case<'_>) {
+    pub fn fail_as(&self, other: &Case) {
         if let Some(problem) = other.problem() {
             self.fail(problem);
         }

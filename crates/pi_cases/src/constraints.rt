@@ -47,7 +47,7 @@ fn kind_of(word: &str) -> Option<Kind> {
 }
 
 /// Takes the words of a constraint behind its kind; None where that isn't a kind.
-pub fn take_constraint(case: &Case<'_>, kind: &str) -> Option<Constraint> {
+pub fn take_constraint(case: &Case, kind: &str) -> Option<Constraint> {
     Some(match kind_of(kind)? {
         Kind::Absolute => Constraint::Absolute {
             z: take_item(case),
@@ -80,7 +80,7 @@ pub fn take_constraint(case: &Case<'_>, kind: &str) -> Option<Constraint> {
 }
 
 /// Takes how a sum stands to 0.
-fn take_relation(case: &Case<'_>) -> Rel {
+fn take_relation(case: &Case) -> Rel {
     match named(&RELATIONS, case.take_word()) {
         Some(relation) => relation,
         None => {
@@ -91,7 +91,7 @@ fn take_relation(case: &Case<'_>) -> Rel {
 }
 
 /// Takes the terms of a sum: each a coefficient and a variable.
-fn take_terms(case: &Case<'_>) -> LinTerms {
+fn take_terms(case: &Case) -> LinTerms {
     let mut terms = Vec::new(case.alloc);
     for _ in 0..case.left() / 2 {
         let coefficient = case.take_integer();
@@ -101,7 +101,7 @@ fn take_terms(case: &Case<'_>) -> LinTerms {
     LinTerms::from_vec(terms)
 }
 
-fn take_variable(case: &Case<'_>) -> u64 {
+fn take_variable(case: &Case) -> u64 {
     match take_item(case) {
         Item::Var(variable) => variable,
         Item::Int(_) => {
@@ -112,7 +112,7 @@ fn take_variable(case: &Case<'_>) -> u64 {
 }
 
 /// Takes the items that are left.
-fn take_items(case: &Case<'_>) -> Items {
+fn take_items(case: &Case) -> Items {
     let mut items = Vec::new(case.alloc);
     for _ in 0..case.left() {
         case.keep(Some(take_item(case)), &mut items);
@@ -120,7 +120,7 @@ fn take_items(case: &Case<'_>) -> Items {
     Items::from_vec(items)
 }
 
-fn take_item(case: &Case<'_>) -> Item {
+fn take_item(case: &Case) -> Item {
     match node_of(case.take_word()) {
         Node::Var(n) => Item::Var(n),
         Node::Int(n) => Item::Int(small(case, n)),
@@ -132,7 +132,7 @@ fn take_item(case: &Case<'_>) -> Item {
 }
 
 /// The integer of an item.
-fn small(case: &Case<'_>, n: i128) -> i64 {
+fn small(case: &Case, n: i128) -> i64 {
     match i64::try_from(n) {
         Ok(n) => n,
         Err(_) => {

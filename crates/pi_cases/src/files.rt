@@ -27,17 +27,10 @@ const RIGHT: u8 = 0;
 /// What answers the cases of a program's files.
 pub trait Subjects<R> {
     /// Answers a case that is a line of a file with this text, and tells whether the subject is one of such cases.
-    fn answer_text(
-        &mut self,
-        rt: &R,
-        subject: &str,
-        text: &str,
-        line: &str,
-        case: &Case<'_>,
-    ) -> bool;
+    fn answer_text(&mut self, rt: &R, subject: &str, text: &str, line: &str, case: &Case) -> bool;
 
     /// Answers a case of words in a file with this text, and tells whether the subject is one of such cases.
-    fn answer_words(&mut self, rt: &R, subject: &str, text: &str, case: &Case<'_>) -> bool;
+    fn answer_words(&mut self, rt: &R, subject: &str, text: &str, case: &Case) -> bool;
 }
 
 /// Reads the files that the words behind the program's name tell, and writes each case with what it gives, up to the first fault.
@@ -137,7 +130,7 @@ fn run_line<R: Print + AllocGlobal, S: Subjects<R>>(
     if line.starts_with(GIVEN) {
         return failed(rt.println(line));
     }
-    let case = Case::new(rt.alloc(), &[]);
+    let case = Case::wordless(rt.alloc());
     if subjects.answer_text(rt, subject, text, line, &case) {
         return write_case(rt, line, &case);
     }
@@ -156,7 +149,7 @@ fn run_words<R: Print + AllocGlobal, S: Subjects<R>>(
         Ok(words) => words,
         Err(problem) => return Some(problem),
     };
-    let case = Case::new(rt.alloc(), words.as_slice());
+    let case = Case::new(rt.alloc(), words);
     if !subjects.answer_words(rt, subject, text, &case) {
         case.lacks("a subject in front of the file's first dot");
     }
@@ -165,7 +158,7 @@ fn run_words<R: Print + AllocGlobal, S: Subjects<R>>(
 }
 
 /// Writes a case and what it gives, unless it has a fault.
-fn write_case<R: Print>(rt: &R, line: &str, case: &Case<'_>) -> Option<Problem> {
+fn write_case<R: Print>(rt: &R, line: &str, case: &Case) -> Option<Problem> {
     if case.problem().is_some() {
         return case.problem();
     }

@@ -1,5 +1,7 @@
 //! Words of terms: a term is written as its nodes in prefix order, each a word.
 
+use crate::rows::named;
+
 /// What a word of a term is. The last five are for terms that are put into a store.
 #[derive(Clone, Copy)]
 pub enum Node<'a> {
@@ -20,6 +22,28 @@ pub enum Node<'a> {
     Twice(usize),
     /// `row:9`: an array of so many times an item.
     Row(usize),
+}
+
+/// A node that stands for many.
+#[derive(Clone, Copy)]
+enum Many {
+    List,
+    Nest,
+    Twice,
+    Row,
+}
+
+/// Each of these nodes with the word in front of its count.
+const MANY: [(&str, Many); 4] = [
+    ("list", Many::List),
+    ("nest", Many::Nest),
+    ("twice", Many::Twice),
+    ("row", Many::Row),
+];
+
+/// The node that stands for many with a word.
+fn many_of(word: &str) -> Option<Many> {
+    named(&MANY, word)
 }
 
 /// What a word is.
@@ -49,12 +73,14 @@ fn repeated_of(word: &str) -> Node<'_> {
     let Some((kind, count)) = word.split_once(':') else {
         return Node::Atom(word);
     };
-    match (kind, count.parse()) {
-        ("list", Ok(count)) => Node::List(count),
-        ("nest", Ok(count)) => Node::Nest(count),
-        ("twice", Ok(count)) => Node::Twice(count),
-        ("row", Ok(count)) => Node::Row(count),
-        _ => Node::Atom(word),
+    let (Some(kind), Ok(count)) = (many_of(kind), count.parse()) else {
+        return Node::Atom(word);
+    };
+    match kind {
+        Many::List => Node::List(count),
+        Many::Nest => Node::Nest(count),
+        Many::Twice => Node::Twice(count),
+        Many::Row => Node::Row(count),
     }
 }
 
@@ -76,12 +102,12 @@ impl Node<'_> {
 }
 
 /// How many of the words make the first term; None where they don't.
-pub fn extent(words: &[&str]) -> Option<usize> {
+pub fn extent(words: &[String]) -> Option<usize> {
     let mut wanted = 1usize;
     for (i, word) in words.iter().enumerate() {
         wanted = wanted
             .saturating_sub(1)
-            .saturating_add(node_of(word).below());
+            .saturating_add(node_of(word.as_str()).below());
         if wanted == 0 {
             return Some(i.saturating_add(1));
         }

@@ -5,10 +5,10 @@ use crate::nodes::{Node, node_of};
 use pi_types::{Pattern, Patterns};
 
 /// The patterns that words are.
-pub fn patterns_of(case: &Case<'_>, words: &[&str]) -> Patterns {
+pub fn patterns_of(case: &Case, words: &[String]) -> Patterns {
     let mut built = Vec::new(case.alloc);
     for word in words.iter().rev() {
-        let made = pattern_over(case, word, &mut built);
+        let made = pattern_over(case, word.as_str(), &mut built);
         case.keep(made, &mut built);
     }
     let count = built.len();
@@ -16,7 +16,7 @@ pub fn patterns_of(case: &Case<'_>, words: &[&str]) -> Patterns {
 }
 
 /// The pattern that begins with this word, over the newest patterns of a stack.
-fn pattern_over(case: &Case<'_>, word: &str, built: &mut Vec<Pattern>) -> Option<Pattern> {
+fn pattern_over(case: &Case, word: &str, built: &mut Vec<Pattern>) -> Option<Pattern> {
     if let Some(slot) = word.strip_prefix('S') {
         return slot_pattern(case, slot, built);
     }
@@ -35,7 +35,7 @@ fn pattern_over(case: &Case<'_>, word: &str, built: &mut Vec<Pattern>) -> Option
 }
 
 /// The pattern of a slot, or behind `@` of a slot that has a pattern.
-fn slot_pattern(case: &Case<'_>, slot: &str, built: &mut Vec<Pattern>) -> Option<Pattern> {
+fn slot_pattern(case: &Case, slot: &str, built: &mut Vec<Pattern>) -> Option<Pattern> {
     let Some(slot) = slot.strip_suffix('@') else {
         return Some(Pattern::Slot(case.slot_of(slot)));
     };
@@ -46,7 +46,7 @@ fn slot_pattern(case: &Case<'_>, slot: &str, built: &mut Vec<Pattern>) -> Option
 }
 
 /// Writes a pattern without patterns in it, in words.
-pub fn tell_flat(pattern: &Pattern, case: &Case<'_>) {
+pub fn tell_flat(pattern: &Pattern, case: &Case) {
     match pattern {
         Pattern::Slot(k) => tell_slot(*k, "", case),
         Pattern::Int(n) => case.tell_integer(*n),
@@ -59,7 +59,7 @@ pub fn tell_flat(pattern: &Pattern, case: &Case<'_>) {
     }
 }
 
-fn tell_slot(slot: u32, behind: &str, case: &Case<'_>) {
+fn tell_slot(slot: u32, behind: &str, case: &Case) {
     case.tell_character('S');
     case.tell_number(u64::from(slot));
     case.tell(behind);

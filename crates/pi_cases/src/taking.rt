@@ -3,17 +3,17 @@
 use crate::case::Case;
 use crate::words::STEP;
 
-impl<'a> Case<'a> {
+impl Case {
     /// The next word, which stays; an empty one where a step ends.
-    pub fn peek(&self) -> &'a str {
+    pub fn peek(&self) -> &str {
         match self.words.get(self.taken()) {
-            Some(word) if *word != STEP => *word,
+            Some(word) if word.as_str() != STEP => word.as_str(),
             _ => "",
         }
     }
 
     /// Takes the next word, which is to be there.
-    pub fn take_word(&self) -> &'a str {
+    pub fn take_word(&self) -> &str {
         let word = self.peek();
         if word.is_empty() {
             self.lacks("one more word");
@@ -90,8 +90,8 @@ impl<'a> Case<'a> {
     }
 
     /// The words that are left, those of later steps among them.
-    pub(crate) fn ahead(&self) -> &'a [&'a str] {
-        self.words.get(self.taken()..).unwrap_or(&[])
+    pub(crate) fn ahead(&self) -> &[String] {
+        self.words.as_slice().get(self.taken()..).unwrap_or(&[])
     }
 
     /// How many words of the step are left.
@@ -100,7 +100,7 @@ impl<'a> Case<'a> {
     }
 
     /// Takes so many words of the step, which are to be there.
-    pub fn take_words(&self, count: usize) -> &'a [&'a str] {
+    pub fn take_words(&self, count: usize) -> &[String] {
         let taken = self.ahead().get(..count).unwrap_or(&[]);
         if count > self.left() {
             self.lacks("more words");
@@ -110,7 +110,7 @@ impl<'a> Case<'a> {
     }
 
     /// Takes the words of the step that are left.
-    pub fn take_rest(&self) -> &'a [&'a str] {
+    pub fn take_rest(&self) -> &[String] {
         let count = self.left();
         self.take_words(count)
     }
@@ -126,7 +126,7 @@ impl<'a> Case<'a> {
     }
 
     /// Takes the words of the step before a mark, and the mark, which may be missing at the end.
-    pub fn take_until(&self, mark: &str) -> &'a [&'a str] {
+    pub fn take_until(&self, mark: &str) -> &[String] {
         let count = self.before(mark);
         let part = self.take_words(count);
         self.skip(mark);
@@ -137,7 +137,7 @@ impl<'a> Case<'a> {
     pub fn steps(&self) -> usize {
         let mut steps = 1usize;
         for word in self.ahead() {
-            if *word == STEP {
+            if word.as_str() == STEP {
                 steps = steps.saturating_add(1);
             }
         }
@@ -161,9 +161,9 @@ impl<'a> Case<'a> {
 }
 
 /// Where a word stands first; behind all words where it doesn't.
-fn place_of(word: &str, words: &[&str]) -> usize {
+fn place_of(word: &str, words: &[String]) -> usize {
     for (i, other) in words.iter().enumerate() {
-        if *other == word {
+        if other.as_str() == word {
             return i;
         }
     }

@@ -4,7 +4,7 @@ use crate::case::Case;
 use crate::nodes::is_plain;
 use std::fmt;
 
-impl Case<'_> {
+impl Case {
     /// Writes a text.
     pub fn tell(&self, text: &str) {
         let mut answer = self.take_answer();
@@ -63,7 +63,7 @@ impl Case<'_> {
     }
 
     /// Writes what another case tells, where it isn't what this one tells from a place on.
-    pub fn tell_change(&self, from: usize, other: &Case<'_>) {
+    pub fn tell_change(&self, from: usize, other: &Case) {
         let other = other.take_answer();
         if !self.tells(from, other.as_str()) {
             self.tell(" and then ");
@@ -73,7 +73,7 @@ impl Case<'_> {
 
     /// Writes what this case tells over the raw store, where that is something else, and notes its fault. That they differ stands at the end too, which is
     /// told of a long answer.
-    pub fn tell_raw(&self, raw: &Case<'_>) {
+    pub fn tell_raw(&self, raw: &Case) {
         self.fail_as(raw);
         let answer = raw.take_answer();
         if !self.tells(0, answer.as_str()) {

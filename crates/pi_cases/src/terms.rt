@@ -4,9 +4,9 @@ use crate::case::Case;
 use crate::nodes::{Node, extent, node_of};
 use pi_types::{Term, TermHead};
 
-impl<'a> Case<'a> {
+impl Case {
     /// Takes the words of one term.
-    pub fn take_extent(&self) -> &'a [&'a str] {
+    pub fn take_extent(&self) -> &[String] {
         let count = extent(self.ahead());
         if count.is_none() {
             self.lacks("a whole term");
@@ -53,10 +53,10 @@ impl<'a> Case<'a> {
 }
 
 /// The term that words are.
-pub fn term_of(case: &Case<'_>, words: &[&str]) -> Option<Term> {
+pub fn term_of(case: &Case, words: &[String]) -> Option<Term> {
     let mut built = Vec::new(case.alloc);
     for word in words.iter().rev() {
-        push_term(case, word, &mut built);
+        push_term(case, word.as_str(), &mut built);
     }
     let term = case.one(&mut built);
     if !built.is_empty() {
@@ -66,7 +66,7 @@ pub fn term_of(case: &Case<'_>, words: &[&str]) -> Option<Term> {
 }
 
 /// Puts the term that begins with this word in the place of its arguments, which are the newest terms of a stack.
-pub fn push_term(case: &Case<'_>, word: &str, built: &mut Vec<Term>) {
+pub fn push_term(case: &Case, word: &str, built: &mut Vec<Term>) {
     let made = match node_of(word) {
         Node::Var(n) => Term::var(case.alloc, n),
         Node::Int(n) => Term::int(case.alloc, n),

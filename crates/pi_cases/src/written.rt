@@ -12,7 +12,7 @@ const MOST: usize = 20_000_000;
 /// The bytes of a text that a case writes. `\n`, `\r`, `\t` and `\\` are a line feed, a carriage return, a tab and `\`,
 /// `\s` a blank, `\xff` is a byte, `«3*ab»` is `ababab`, and `«»` is nothing. In a piece that is repeated, `№` is the number of the
 /// time, from 0 on.
-pub fn bytes_of(case: &Case<'_>, written: &str) -> Vec<u8> {
+pub fn bytes_of(case: &Case, written: &str) -> Vec<u8> {
     let mut bytes = Vec::new(case.alloc);
     let (first, parts) = written.split_once('«').unwrap_or((written, ""));
     push_plain(case, first, &mut bytes);
@@ -24,7 +24,7 @@ pub fn bytes_of(case: &Case<'_>, written: &str) -> Vec<u8> {
     bytes
 }
 
-impl Case<'_> {
+impl Case {
     /// The name that a word is, which has quotes around it where it looks like something else. In quotes there may be escapes.
     pub fn name_of(&self, word: &str) -> Text {
         match unquoted(word) {
@@ -48,7 +48,7 @@ impl Case<'_> {
 }
 
 /// Appends a piece that is repeated, and what stands behind it.
-fn push_part(case: &Case<'_>, part: &str, bytes: &mut Vec<u8>) {
+fn push_part(case: &Case, part: &str, bytes: &mut Vec<u8>) {
     match part.split_once('»') {
         Some((piece, rest)) => {
             push_repeated(case, piece, bytes);
@@ -59,7 +59,7 @@ fn push_part(case: &Case<'_>, part: &str, bytes: &mut Vec<u8>) {
 }
 
 /// Appends what stands between `«` and `»`.
-fn push_repeated(case: &Case<'_>, written: &str, bytes: &mut Vec<u8>) {
+fn push_repeated(case: &Case, written: &str, bytes: &mut Vec<u8>) {
     if written.is_empty() {
         return;
     }
@@ -75,7 +75,7 @@ fn push_repeated(case: &Case<'_>, written: &str, bytes: &mut Vec<u8>) {
 }
 
 /// Appends a piece so many times.
-fn push_times(case: &Case<'_>, count: usize, piece: &str, bytes: &mut Vec<u8>) {
+fn push_times(case: &Case, count: usize, piece: &str, bytes: &mut Vec<u8>) {
     let mut once = Vec::new(case.alloc);
     push_plain(case, piece, &mut once);
     for _ in 0..count {
@@ -84,7 +84,7 @@ fn push_times(case: &Case<'_>, count: usize, piece: &str, bytes: &mut Vec<u8>) {
 }
 
 /// Appends a piece so many times, each with its number in it.
-fn push_numbered(case: &Case<'_>, count: usize, before: &str, after: &str, bytes: &mut Vec<u8>) {
+fn push_numbered(case: &Case, count: usize, before: &str, after: &str, bytes: &mut Vec<u8>) {
     for i in 0..count {
         push_plain(case, before, bytes);
         let number = i.to_string(case.alloc);
@@ -96,7 +96,7 @@ fn push_numbered(case: &Case<'_>, count: usize, before: &str, after: &str, bytes
 }
 
 /// Appends bytes as they are.
-fn push_all(case: &Case<'_>, more: &[u8], bytes: &mut Vec<u8>) {
+fn push_all(case: &Case, more: &[u8], bytes: &mut Vec<u8>) {
     if bytes.extend_from_slice(more).is_err() {
         case.fail(Problem::Memory);
     }
@@ -112,7 +112,7 @@ enum Escape {
 }
 
 /// Appends a text in which nothing is repeated.
-fn push_plain(case: &Case<'_>, written: &str, bytes: &mut Vec<u8>) {
+fn push_plain(case: &Case, written: &str, bytes: &mut Vec<u8>) {
     let mut escape = Escape::Nothing;
     for byte in written.as_bytes() {
         let (next, plain) = step(case, escape, *byte);
@@ -125,7 +125,7 @@ fn push_plain(case: &Case<'_>, written: &str, bytes: &mut Vec<u8>) {
 }
 
 /// What is read of an escape behind a byte, and the byte that is there then.
-fn step(case: &Case<'_>, escape: Escape, byte: u8) -> (Escape, Option<u8>) {
+fn step(case: &Case, escape: Escape, byte: u8) -> (Escape, Option<u8>) {
     let plain = match escape {
         Escape::Nothing if byte == b'\\' => return (Escape::Backslash, None),
         Escape::Nothing => byte,
@@ -138,7 +138,7 @@ fn step(case: &Case<'_>, escape: Escape, byte: u8) -> (Escape, Option<u8>) {
 }
 
 /// The byte that one behind a `\` stands for.
-fn escaped(case: &Case<'_>, byte: u8) -> u8 {
+fn escaped(case: &Case, byte: u8) -> u8 {
     match byte {
         b'n' => b'\n',
         b'r' => b'\r',
@@ -153,7 +153,7 @@ fn escaped(case: &Case<'_>, byte: u8) -> u8 {
 }
 
 /// The digit of base 16 that a byte writes.
-fn digit(case: &Case<'_>, byte: u8) -> u8 {
+fn digit(case: &Case, byte: u8) -> u8 {
     match byte {
         b'0'..=b'9' => byte - b'0',
         b'a'..=b'f' => byte - b'a' + 10,

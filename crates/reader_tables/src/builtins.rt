@@ -8,7 +8,7 @@ use std::str;
 const MOST: u32 = 20;
 
 /// Tells what a name is: with each number of arguments below 20, or with the number that stands before it.
-pub fn answer(case: &Case<'_>, line: &str) {
+pub fn answer(case: &Case, line: &str) {
     let (asked, written) = line.split_once(' ').unwrap_or((line, ""));
     let name = bytes_of(case, written);
     let name = str::from_utf8(name.as_slice()).unwrap_or("");
@@ -20,7 +20,7 @@ pub fn answer(case: &Case<'_>, line: &str) {
 }
 
 /// Tells each kind behind which a number of arguments stands, and those numbers.
-fn tell_each(case: &Case<'_>, name: &str) {
+fn tell_each(case: &Case, name: &str) {
     let mut last = None;
     for arity in 0..MOST {
         let kind = is_builtin(name, arity);

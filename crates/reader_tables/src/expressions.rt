@@ -7,7 +7,7 @@ use pi_types::Exp;
 use std::alloc::{AllocError, Global};
 
 /// Tells the tree of the expression that the tokens of a line are.
-pub fn tell_tree(case: &Case<'_>, line: &str) {
+pub fn tell_tree(case: &Case, line: &str) {
     if let Some(exp) = read(case, line) {
         let tree = format!(in case.alloc; "{exp:?}");
         tell_shortened(tree, case);
@@ -16,7 +16,7 @@ pub fn tell_tree(case: &Case<'_>, line: &str) {
 }
 
 /// Tells whether the tokens of a line, whose tree may be large, are an expression.
-pub fn tell_whether_read(case: &Case<'_>, line: &str) {
+pub fn tell_whether_read(case: &Case, line: &str) {
     if let Some(exp) = read(case, line) {
         case.tell("read");
         drop(exp);
@@ -24,7 +24,7 @@ pub fn tell_whether_read(case: &Case<'_>, line: &str) {
 }
 
 /// The expression that all tokens of a line are; None where there is none, and the fault is told.
-fn read(case: &Case<'_>, line: &str) -> Option<Exp> {
+fn read(case: &Case, line: &str) -> Option<Exp> {
     let tokens = tokens_of(case, line)?;
     match read_exp(case.alloc, &tokens, 0, tokens.len()) {
         Ok(exp) => return Some(exp),
@@ -36,7 +36,7 @@ fn read(case: &Case<'_>, line: &str) -> Option<Exp> {
 }
 
 /// Tells a tree as `Debug` writes it, with the names and texts in it as strings alone.
-pub fn tell_shortened(tree: Result<String, AllocError>, case: &Case<'_>) {
+pub fn tell_shortened(tree: Result<String, AllocError>, case: &Case) {
     let shortened = match tree {
         Ok(tree) => shortened(case.alloc, tree.as_str()),
         Err(fault) => Err(fault),

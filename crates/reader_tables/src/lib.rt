@@ -7,26 +7,58 @@ mod prelude;
 mod programs;
 mod tokens;
 
-use pi_cases::Case;
+use pi_cases::{Case, named};
+
+/// A subject of cases that are texts.
+#[derive(Clone, Copy)]
+enum Subject {
+    Tokens,
+    Expressions,
+    LongExpressions,
+    Programs,
+    Goals,
+    Parts,
+    Trees,
+    Builtins,
+}
+
+/// Each subject with its name.
+const SUBJECTS: [(&str, Subject); 8] = [
+    ("tokens", Subject::Tokens),
+    ("expressions", Subject::Expressions),
+    ("long_expressions", Subject::LongExpressions),
+    ("programs", Subject::Programs),
+    ("goals", Subject::Goals),
+    ("parts", Subject::Parts),
+    ("trees", Subject::Trees),
+    ("builtins", Subject::Builtins),
+];
+
+/// The subject with a name.
+fn subject_of(name: &str) -> Option<Subject> {
+    named(&SUBJECTS, name)
+}
 
 /// Answers a case of a text that is read, and tells whether the subject is one of such cases.
-pub fn answer_text(subject: &str, line: &str, case: &Case<'_>) -> bool {
+pub fn answer_text(subject: &str, line: &str, case: &Case) -> bool {
+    let Some(subject) = subject_of(subject) else {
+        return false;
+    };
     match subject {
-        "tokens" => tokens::answer(case, line),
-        "expressions" => expressions::tell_tree(case, line),
-        "long_expressions" => expressions::tell_whether_read(case, line),
-        "programs" => programs::tell_verdict(case, line),
-        "goals" => programs::tell_goal_verdict(case, line),
-        "parts" => programs::tell_parts(case, line),
-        "trees" => programs::tell_trees(case, line),
-        "builtins" => builtins::answer(case, line),
-        _ => return false,
+        Subject::Tokens => tokens::answer(case, line),
+        Subject::Expressions => expressions::tell_tree(case, line),
+        Subject::LongExpressions => expressions::tell_whether_read(case, line),
+        Subject::Programs => programs::tell_verdict(case, line),
+        Subject::Goals => programs::tell_goal_verdict(case, line),
+        Subject::Parts => programs::tell_parts(case, line),
+        Subject::Trees => programs::tell_trees(case, line),
+        Subject::Builtins => builtins::answer(case, line),
     }
     true
 }
 
 /// Answers a case of the prelude, and tells whether the subject is the prelude.
-pub fn answer_words(subject: &str, case: &Case<'_>) -> bool {
+pub fn answer_words(subject: &str, case: &Case) -> bool {
     let is_prelude = subject == "prelude";
     if is_prelude {
         prelude::answer(case);

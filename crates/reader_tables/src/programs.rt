@@ -10,21 +10,21 @@ use pi_types::{Clause, Decl, Part, Program};
 const ASKED: &str = " ⊢ ";
 
 /// Tells the first fault of the program that a line is.
-pub fn tell_verdict(case: &Case<'_>, line: &str) {
+pub fn tell_verdict(case: &Case, line: &str) {
     if read(case, line).is_some() {
         case.tell("sound");
     }
 }
 
 /// Tells the first fault of a goal, asked of the program that stands before it; without one, of the empty program.
-pub fn tell_goal_verdict(case: &Case<'_>, line: &str) {
+pub fn tell_goal_verdict(case: &Case, line: &str) {
     let (program, goal) = line.split_once(ASKED).unwrap_or(("", line));
     if let Some(program) = read(case, program) {
         ask(case, &program, goal);
     }
 }
 
-fn ask(case: &Case<'_>, program: &Program, goal: &str) {
+fn ask(case: &Case, program: &Program, goal: &str) {
     if let Some(tokens) = tokens_of(case, goal) {
         match read_goal(case.alloc, &tokens, program) {
             Ok(goal) => {
@@ -40,14 +40,14 @@ fn ask(case: &Case<'_>, program: &Program, goal: &str) {
 }
 
 /// Tells what each part of a program is, or its first fault.
-pub fn tell_parts(case: &Case<'_>, line: &str) {
+pub fn tell_parts(case: &Case, line: &str) {
     if let Some(program) = read(case, line) {
         tell_kinds(program.parts.as_slice(), case);
     }
 }
 
 /// Tells the trees of a program's parts.
-pub fn tell_trees(case: &Case<'_>, line: &str) {
+pub fn tell_trees(case: &Case, line: &str) {
     if let Some(program) = read(case, line) {
         for (i, part) in program.parts.as_slice().iter().enumerate() {
             case.tell_between(i, " ");
@@ -58,7 +58,7 @@ pub fn tell_trees(case: &Case<'_>, line: &str) {
 }
 
 /// The program that a text is; None where it is none, and its first fault is told.
-pub fn read(case: &Case<'_>, text: &str) -> Option<Program> {
+pub fn read(case: &Case, text: &str) -> Option<Program> {
     let tokens = tokens_of(case, text)?;
     match read_program(case.alloc, &tokens) {
         Ok(program) => Some(program),
@@ -71,7 +71,7 @@ pub fn read(case: &Case<'_>, text: &str) -> Option<Program> {
 }
 
 /// Tells what each of these parts is.
-pub fn tell_kinds(parts: &[Part], case: &Case<'_>) {
+pub fn tell_kinds(parts: &[Part], case: &Case) {
     if parts.is_empty() {
         case.tell("no part");
     }
@@ -92,7 +92,7 @@ fn kind(part: &Part) -> &'static str {
 }
 
 /// Tells a fault, as the program picatq tells it.
-fn tell_fault(fault: &ProgFault, case: &Case<'_>) {
+fn tell_fault(fault: &ProgFault, case: &Case) {
     match fault {
         ProgFault::BadClause { number } => tell_numbered("BadClause ", *number, case),
         ProgFault::TooDeep { number } => tell_numbered("TooDeep ", *number, case),
@@ -114,13 +114,13 @@ fn tell_fault(fault: &ProgFault, case: &Case<'_>) {
 }
 
 /// Tells what a part is, and its number.
-fn tell_numbered(what: &str, number: u64, case: &Case<'_>) {
+fn tell_numbered(what: &str, number: u64, case: &Case) {
     case.tell(what);
     case.tell_number(number);
 }
 
 /// Tells what a name is, the name and the number of its arguments.
-fn tell_named(what: &str, name: &str, arity: u32, case: &Case<'_>) {
+fn tell_named(what: &str, name: &str, arity: u32, case: &Case) {
     case.tell(what);
     case.tell(name);
     tell_numbered("/", u64::from(arity), case);

@@ -5,14 +5,14 @@ use pi_lex::{LexFault, TokenKind, Tokens, tokens};
 
 /// Tells the tokens of the text that a line is, each behind a space: a variable, a reserved word, an integer or a
 /// sign as it is, an atom and a string in quotes, an end point as `<end>`, and behind one that isn't on line 1 its line.
-pub fn answer(case: &Case<'_>, line: &str) {
+pub fn answer(case: &Case, line: &str) {
     if let Some(tokens) = tokens_of(case, line) {
         tell_tokens(&tokens, case);
     }
 }
 
 /// The tokens of a text that a case writes; None where it has none, and its fault is told.
-pub fn tokens_of(case: &Case<'_>, written: &str) -> Option<Tokens> {
+pub fn tokens_of(case: &Case, written: &str) -> Option<Tokens> {
     let text = bytes_of(case, written);
     match tokens(case.alloc, text.as_slice()) {
         Ok(tokens) => Some(tokens),
@@ -23,7 +23,7 @@ pub fn tokens_of(case: &Case<'_>, written: &str) -> Option<Tokens> {
     }
 }
 
-fn tell_tokens(tokens: &Tokens, case: &Case<'_>) {
+fn tell_tokens(tokens: &Tokens, case: &Case) {
     if tokens.is_empty() {
         case.tell("no token");
     }
@@ -34,7 +34,7 @@ fn tell_tokens(tokens: &Tokens, case: &Case<'_>) {
     }
 }
 
-fn tell_kind(kind: TokenKind<'_>, case: &Case<'_>) {
+fn tell_kind(kind: TokenKind<'_>, case: &Case) {
     match kind {
         TokenKind::Var(text) => case.tell(text),
         TokenKind::Word(text) => case.tell(text),
@@ -47,7 +47,7 @@ fn tell_kind(kind: TokenKind<'_>, case: &Case<'_>) {
 }
 
 /// Tells a line that isn't the first one.
-fn tell_line(line: u64, case: &Case<'_>) {
+fn tell_line(line: u64, case: &Case) {
     if line != 1 {
         case.tell("@");
         case.tell_number(line);
@@ -55,7 +55,7 @@ fn tell_line(line: u64, case: &Case<'_>) {
 }
 
 /// Tells a text in quotes, with each quote in it escaped.
-fn tell_quoted(quote: char, text: &str, case: &Case<'_>) {
+fn tell_quoted(quote: char, text: &str, case: &Case) {
     case.tell_character(quote);
     for c in text.chars() {
         if c == '\'' || c == '"' {
@@ -66,7 +66,7 @@ fn tell_quoted(quote: char, text: &str, case: &Case<'_>) {
     case.tell_character(quote);
 }
 
-fn tell_fault(fault: LexFault, case: &Case<'_>) {
+fn tell_fault(fault: LexFault, case: &Case) {
     match fault {
         LexFault::TooLong => case.tell("too long"),
         LexFault::NotUtf8 { at } => tell_at("not UTF-8 at byte ", at as u64, case),
@@ -77,7 +77,7 @@ fn tell_fault(fault: LexFault, case: &Case<'_>) {
 }
 
 /// Tells what is somewhere, and where.
-fn tell_at(what: &str, place: u64, case: &Case<'_>) {
+fn tell_at(what: &str, place: u64, case: &Case) {
     case.tell(what);
     case.tell_number(place);
 }

@@ -5,10 +5,10 @@ use pi_cases::{Case, Node, node_of};
 use pi_types::Exp;
 
 /// The expression that words are.
-pub fn expression_of(case: &Case<'_>, words: &[&str]) -> Option<Exp> {
+pub fn expression_of(case: &Case, words: &[String]) -> Option<Exp> {
     let mut built = Vec::new(case.alloc);
     for word in words.iter().rev() {
-        let made = expression_over(case, word, &mut built);
+        let made = expression_over(case, word.as_str(), &mut built);
         case.keep(made, &mut built);
     }
     let expression = case.one(&mut built);
@@ -19,7 +19,7 @@ pub fn expression_of(case: &Case<'_>, words: &[&str]) -> Option<Exp> {
 }
 
 /// The expression that begins with this word, over the newest ones of a stack.
-fn expression_over(case: &Case<'_>, word: &str, built: &mut Vec<Exp>) -> Option<Exp> {
+fn expression_over(case: &Case, word: &str, built: &mut Vec<Exp>) -> Option<Exp> {
     if is_variable(word) {
         return Some(Exp::Var(case.name_of(word)));
     }

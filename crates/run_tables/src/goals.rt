@@ -56,7 +56,7 @@ fn kind_of(word: &str) -> Option<Kind> {
 
 /// Tells what a goal shows: how many nodes it has, the nodes of its child goals, and what stands at each node; `copy`
 /// asks it of another goal of the same tree.
-pub fn answer(case: &Case<'_>) {
+pub fn answer(case: &Case) {
     let is_copied = case.skip("copy");
     if !is_copied {
         case.expect("show");
@@ -75,7 +75,7 @@ pub fn answer(case: &Case<'_>) {
     }
 }
 
-fn tell_shown(goal: &CoreGoal, case: &Case<'_>) {
+fn tell_shown(goal: &CoreGoal, case: &Case) {
     case.tell_count(goal.nodes());
     case.tell(" nodes, children");
     if goal.nodes() > 0 {
@@ -117,13 +117,13 @@ struct Built {
 }
 
 /// The goal that words are.
-pub fn goal_of(case: &Case<'_>, words: &[&str]) -> Option<CoreGoal> {
+pub fn goal_of(case: &Case, words: &[String]) -> Option<CoreGoal> {
     let mut built = Built {
         goals: Vec::new(case.alloc),
         terms: Vec::new(case.alloc),
     };
     for word in words.iter().rev() {
-        built.push(case, word);
+        built.push(case, word.as_str());
     }
     let goal = case.one(&mut built.goals);
     if !built.goals.is_empty() || !built.terms.is_empty() {
@@ -134,7 +134,7 @@ pub fn goal_of(case: &Case<'_>, words: &[&str]) -> Option<CoreGoal> {
 
 impl Built {
     /// Puts the goal or the term that begins with this word in the place of what belongs to it.
-    fn push(&mut self, case: &Case<'_>, word: &str) {
+    fn push(&mut self, case: &Case, word: &str) {
         let (kind, more) = word.split_once(':').unwrap_or((word, ""));
         match kind_of(kind) {
             Some(kind) => {
@@ -146,7 +146,7 @@ impl Built {
     }
 
     /// Puts a sequence or alternatives, or else a term.
-    fn push_several(&mut self, case: &Case<'_>, word: &str) {
+    fn push_several(&mut self, case: &Case, word: &str) {
         let made = match node_of(word) {
             Node::Comp("ALL", count) => {
                 let goals = case.several(&mut self.goals, count);
@@ -162,7 +162,7 @@ impl Built {
     }
 
     /// The goal of a kind, with what stands behind the colon of its word.
-    fn goal(&mut self, case: &Case<'_>, kind: Kind, more: &str) -> Option<CoreGoal> {
+    fn goal(&mut self, case: &Case, kind: Kind, more: &str) -> Option<CoreGoal> {
         match kind {
             Kind::True => case.made(CoreGoal::truth(case.alloc)),
             Kind::Fail => case.made(CoreGoal::fail(case.alloc)),
@@ -179,7 +179,7 @@ impl Built {
         }
     }
 
-    fn condition(&mut self, case: &Case<'_>) -> Option<CoreGoal> {
+    fn condition(&mut self, case: &Case) -> Option<CoreGoal> {
         let test = case.one(&mut self.goals)?;
         let then = case.one(&mut self.goals)?;
         let other = case.one(&mut self.goals)?;
@@ -187,7 +187,7 @@ impl Built {
         case.made(made)
     }
 
-    fn catch(&mut self, case: &Case<'_>) -> Option<CoreGoal> {
+    fn catch(&mut self, case: &Case) -> Option<CoreGoal> {
         let ball = case.one(&mut self.terms)?;
         let goal = case.one(&mut self.goals)?;
         let handler = case.one(&mut self.goals)?;
@@ -196,13 +196,13 @@ impl Built {
     }
 
     /// A call whose value goes into a slot, `3:f/1`.
-    fn apply(&mut self, case: &Case<'_>, more: &str) -> Option<CoreGoal> {
+    fn apply(&mut self, case: &Case, more: &str) -> Option<CoreGoal> {
         let (slot, called) = more.split_once(':').unwrap_or(("", more));
         self.call(case, called, Some(case.slot_of(slot)))
     }
 
     /// A call, `p/1`, whose value goes into a slot where one is given.
-    fn call(&mut self, case: &Case<'_>, called: &str, slot: Option<u32>) -> Option<CoreGoal> {
+    fn call(&mut self, case: &Case, called: &str, slot: Option<u32>) -> Option<CoreGoal> {
         let (name, count) = name_and_count(case, called);
         let args = case.several(&mut self.terms, count);
         let name = case.name_of(name);
@@ -215,7 +215,7 @@ impl Built {
 }
 
 /// The goal that stands around another one, with what stands behind the colon of its word.
-fn around_goal(case: &Case<'_>, around: Around, goal: CoreGoal, more: &str) -> Option<CoreGoal> {
+fn around_goal(case: &Case, around: Around, goal: CoreGoal, more: &str) -> Option<CoreGoal> {
     let made = match around {
         Around::Not => CoreGoal::not(case.alloc, goal),
         Around::Once => CoreGoal::once(case.alloc, goal),
@@ -229,7 +229,7 @@ fn around_goal(case: &Case<'_>, around: Around, goal: CoreGoal, more: &str) -> O
 }
 
 /// The name and the number of the arguments of what is called.
-fn name_and_count<'a>(case: &Case<'_>, called: &'a str) -> (&'a str, usize) {
+fn name_and_count<'a>(case: &Case, called: &'a str) -> (&'a str, usize) {
     match node_of(called) {
         Node::Comp(name, count) => (name, count),
         _ => {
@@ -240,7 +240,7 @@ fn name_and_count<'a>(case: &Case<'_>, called: &'a str) -> (&'a str, usize) {
 }
 
 /// Tells a goal in words.
-pub fn tell_goal(goal: &CoreGoal, case: &Case<'_>) {
+pub fn tell_goal(goal: &CoreGoal, case: &Case) {
     for i in 0..goal.nodes() {
         case.tell_between(i, " ");
         tell_node(goal.node(i), case);
@@ -248,7 +248,7 @@ pub fn tell_goal(goal: &CoreGoal, case: &Case<'_>) {
 }
 
 /// Tells the words of a node, with the terms that belong to it.
-fn tell_node(node: GoalNode<'_>, case: &Case<'_>) {
+fn tell_node(node: GoalNode<'_>, case: &Case) {
     case.tell(word_of(node));
     match node {
         GoalNode::Call(name, args) => tell_call(name.as_str(), args.as_slice(), case),
@@ -290,7 +290,7 @@ fn word_of(node: GoalNode<'_>) -> &'static str {
 }
 
 /// Tells the name, the number of the arguments and the arguments of a call.
-fn tell_call(name: &str, args: &[Term], case: &Case<'_>) {
+fn tell_call(name: &str, args: &[Term], case: &Case) {
     case.tell_called(name, args.len());
     for arg in args {
         case.tell(" ");

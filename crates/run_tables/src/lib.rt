@@ -10,7 +10,7 @@ mod runs;
 use pi_cases::Case;
 
 /// Answers a case of goals or programs, in a file with this text, and tells whether the subject is one of such cases.
-pub fn answer_words(subject: &str, text: &str, case: &Case<'_>) -> bool {
+pub fn answer_words(subject: &str, text: &str, case: &Case) -> bool {
     match subject {
         "core_goals" => goals::answer(case),
         "lowering" => lowering::answer(case),

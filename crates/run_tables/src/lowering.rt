@@ -12,7 +12,7 @@ use pi_types::{
 };
 
 /// Tells what a program or a goal is in the core language.
-pub fn answer(case: &Case<'_>) {
+pub fn answer(case: &Case) {
     match case.take_word() {
         "program" => tell_program(case),
         "goal" => tell_query(case),
@@ -20,7 +20,7 @@ pub fn answer(case: &Case<'_>) {
     }
 }
 
-fn tell_program(case: &Case<'_>) {
+fn tell_program(case: &Case) {
     let mut parts = Parts::new(case.alloc);
     for _ in 0..case.steps() {
         if let Some(part) = take_part(case) {
@@ -37,7 +37,7 @@ fn tell_program(case: &Case<'_>) {
 }
 
 /// How many predicates the prelude has, which stand before those of a program.
-fn prelude_preds(case: &Case<'_>) -> usize {
+fn prelude_preds(case: &Case) -> usize {
     let none = Program {
         parts: Parts::new(case.alloc),
     };
@@ -51,7 +51,7 @@ fn prelude_preds(case: &Case<'_>) -> usize {
 }
 
 /// Takes a part: a fact or a rule.
-fn take_part(case: &Case<'_>) -> Option<Part> {
+fn take_part(case: &Case) -> Option<Part> {
     if case.skip("fact") {
         take_fact(case)
     } else {
@@ -60,20 +60,20 @@ fn take_part(case: &Case<'_>) -> Option<Part> {
 }
 
 /// What words of mode lists declare.
-fn decl_of(case: &Case<'_>, words: &[&str]) -> Decl {
+fn decl_of(case: &Case, words: &[String]) -> Decl {
     if words.is_empty() {
         return Decl::Plain;
     }
     let mut lists = ModeLists::new(case.alloc);
     for word in words {
-        let added = lists.push(modes_of(case, word));
+        let added = lists.push(modes_of(case, word.as_str()));
         case.done(added);
     }
     Decl::Index(lists)
 }
 
 /// Takes the part that is a fact, behind its mode lists.
-fn take_fact(case: &Case<'_>) -> Option<Part> {
+fn take_fact(case: &Case) -> Option<Part> {
     let modes = case.take_until(":");
     let head = expression_of(case, case.take_rest())?;
     Some(Part {
@@ -83,7 +83,7 @@ fn take_fact(case: &Case<'_>) -> Option<Part> {
 }
 
 /// Takes the part that is a rule, by its head and its body.
-fn take_rule(case: &Case<'_>) -> Option<Part> {
+fn take_rule(case: &Case) -> Option<Part> {
     let back = case.finds("?=>");
     let head = case.take_until(if back { "?=>" } else { "=>" });
     let head = expression_of(case, head)?;
@@ -105,7 +105,7 @@ fn take_rule(case: &Case<'_>) -> Option<Part> {
 }
 
 /// Tells predicates behind so many: their names, the numbers of their arguments, and their clauses.
-fn tell_preds(preds: &[CorePred], before: usize, case: &Case<'_>) {
+fn tell_preds(preds: &[CorePred], before: usize, case: &Case) {
     for (i, pred) in preds.iter().enumerate() {
         if i < before {
             continue;
@@ -121,7 +121,7 @@ fn tell_preds(preds: &[CorePred], before: usize, case: &Case<'_>) {
 }
 
 /// Tells the mode lists of a predicate of facts.
-fn tell_modes(decl: &Decl, case: &Case<'_>) {
+fn tell_modes(decl: &Decl, case: &Case) {
     let Decl::Index(lists) = decl else {
         return;
     };
@@ -137,7 +137,7 @@ fn tell_modes(decl: &Decl, case: &Case<'_>) {
 }
 
 /// Tells a clause as it stands in the rules of runs.
-fn tell_clause(clause: &CoreClause, case: &Case<'_>) {
+fn tell_clause(clause: &CoreClause, case: &Case) {
     case.tell(if clause.back { " (choice " } else { " (rule " });
     case.tell_number(u64::from(clause.slots));
     case.tell(" :");
@@ -152,7 +152,7 @@ fn tell_clause(clause: &CoreClause, case: &Case<'_>) {
     case.tell(")");
 }
 
-fn tell_query(case: &Case<'_>) {
+fn tell_query(case: &Case) {
     let Some(body) = expression_of(case, case.take_rest()) else {
         return;
     };
@@ -169,7 +169,7 @@ fn tell_query(case: &Case<'_>) {
 }
 
 /// Tells the slots of a query, those with names, and its goal.
-fn tell_lowered(query: &CoreQuery, case: &Case<'_>) {
+fn tell_lowered(query: &CoreQuery, case: &Case) {
     case.tell_number(u64::from(query.slots));
     case.tell(" slots,");
     for named in query.names.as_slice() {
@@ -183,7 +183,7 @@ fn tell_lowered(query: &CoreQuery, case: &Case<'_>) {
 }
 
 /// Tells that a part isn't built.
-fn tell_fault(fault: LowerFault, case: &Case<'_>) {
+fn tell_fault(fault: LowerFault, case: &Case) {
     match fault {
         LowerFault::NotBuilt { number } => {
             case.tell("NotBuilt ");

@@ -46,7 +46,7 @@ struct Preds {
 }
 
 /// The program that a file gives for its cases.
-pub fn program_of(case: &Case<'_>, text: &str) -> CoreProgram {
+pub fn program_of(case: &Case, text: &str) -> CoreProgram {
     let mut given = Preds {
         preds: Vec::new(case.alloc),
     };
@@ -57,7 +57,7 @@ pub fn program_of(case: &Case<'_>, text: &str) -> CoreProgram {
 }
 
 impl Given for Preds {
-    fn take_line(&mut self, line: &Case<'_>) {
+    fn take_line(&mut self, line: &Case) {
         match kind_of(line.take_word()) {
             Some(Kind::Predicate) => self.add_pred(line, false, false),
             Some(Kind::Function) => self.add_pred(line, true, false),
@@ -71,7 +71,7 @@ impl Given for Preds {
 
 impl Preds {
     /// Adds a predicate or a function without rules yet.
-    fn add_pred(&mut self, line: &Case<'_>, function: bool, quiet: bool) {
+    fn add_pred(&mut self, line: &Case, function: bool, quiet: bool) {
         let Node::Comp(name, count) = node_of(line.take_word()) else {
             return line.lacks("the name of a predicate and the number of its arguments");
         };
@@ -87,7 +87,7 @@ impl Preds {
     }
 
     /// Adds a rule or a fact to the newest predicate.
-    fn add_clause(&mut self, line: &Case<'_>, kind: Kind) {
+    fn add_clause(&mut self, line: &Case, kind: Kind) {
         let Some(pred) = self.preds.last_mut() else {
             return line.lacks("a predicate before its rules");
         };
@@ -98,7 +98,7 @@ impl Preds {
     }
 
     /// Adds a mode list to the newest predicate.
-    fn add_modes(&mut self, line: &Case<'_>) {
+    fn add_modes(&mut self, line: &Case) {
         let Some(pred) = self.preds.last_mut() else {
             return line.lacks("a predicate before its modes");
         };
@@ -111,7 +111,7 @@ impl Preds {
 }
 
 /// The mode list of a word of `+` and `-`.
-pub(crate) fn modes_of(case: &Case<'_>, word: &str) -> Modes {
+pub(crate) fn modes_of(case: &Case, word: &str) -> Modes {
     let mut modes = Modes::new(case.alloc);
     for c in word.chars() {
         let mode = if c == '+' { Mode::Plus } else { Mode::Minus };
@@ -130,7 +130,7 @@ fn lists_of(alloc: Global, decl: Decl) -> ModeLists {
 }
 
 /// Takes the words of a rule or a fact.
-fn take_clause(line: &Case<'_>, kind: Kind) -> Option<CoreClause> {
+fn take_clause(line: &Case, kind: Kind) -> Option<CoreClause> {
     let slots = line.take_slot();
     line.expect(":");
     let head = take_head(line, kind);
@@ -148,7 +148,7 @@ fn take_clause(line: &Case<'_>, kind: Kind) -> Option<CoreClause> {
 }
 
 /// Takes the words of a function's value, where there are any.
-fn take_value(line: &Case<'_>) -> Option<Term> {
+fn take_value(line: &Case) -> Option<Term> {
     match line.take_rest() {
         [] => None,
         words => term_of(line, words),
@@ -156,7 +156,7 @@ fn take_value(line: &Case<'_>) -> Option<Term> {
 }
 
 /// Takes the words of a head, behind which a fact has nothing.
-fn take_head<'a>(line: &Case<'a>, kind: Kind) -> &'a [&'a str] {
+fn take_head(line: &Case, kind: Kind) -> &[String] {
     match kind {
         Kind::Fact => line.take_rest(),
         _ => line.take_until(":"),
@@ -164,7 +164,7 @@ fn take_head<'a>(line: &Case<'a>, kind: Kind) -> &'a [&'a str] {
 }
 
 /// Takes the words of a goal; that of a fact is the true one.
-fn take_goal(line: &Case<'_>, kind: Kind) -> Option<CoreGoal> {
+fn take_goal(line: &Case, kind: Kind) -> Option<CoreGoal> {
     match kind {
         Kind::Fact => line.made(CoreGoal::truth(line.alloc)),
         _ => goal_of(line, line.take_until(":")),

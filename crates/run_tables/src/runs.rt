@@ -18,7 +18,7 @@ const SLOTS: u32 = 5;
 const MOST: usize = 1_000;
 
 /// Tells what comes in the run of a goal, under the rules that its file gives.
-pub fn answer(case: &Case<'_>, text: &str) {
+pub fn answer(case: &Case, text: &str) {
     let mut budget = Budget {
         ticks: 0,
         steps: case.take_number(),
@@ -38,7 +38,7 @@ pub fn answer(case: &Case<'_>, text: &str) {
 }
 
 /// Takes the goal of a query whose first so many slots are named.
-fn take_query(case: &Case<'_>, count: u32) -> Option<CoreQuery> {
+fn take_query(case: &Case, count: u32) -> Option<CoreQuery> {
     let goal = goal_of(case, case.take_rest())?;
     Some(CoreQuery {
         goal,
@@ -49,7 +49,7 @@ fn take_query(case: &Case<'_>, count: u32) -> Option<CoreQuery> {
 }
 
 /// Names for the first so many slots.
-fn names(case: &Case<'_>, count: u32) -> NameSlots {
+fn names(case: &Case, count: u32) -> NameSlots {
     let mut names = NameSlots::new(case.alloc);
     for slot in 0..count {
         let name = format!(in case.alloc; "V{slot}");
@@ -64,7 +64,7 @@ fn names(case: &Case<'_>, count: u32) -> NameSlots {
 
 /// Runs a query on any store. This function alone owns a machine: it is generic, so that no proof goes through the parts of one kind of store.
 fn run<S: StateStore>(
-    case: &Case<'_>,
+    case: &Case,
     core: &CoreProgram,
     query: CoreQuery,
     store: S,
@@ -85,7 +85,7 @@ fn run<S: StateStore>(
 
 /// Tells all that comes in a run up to its end. Where the end doesn't come for good, so it says.
 fn tell_all<S: StateStore>(
-    case: &Case<'_>,
+    case: &Case,
     machine: &mut Machine<'_, S>,
     budget: &mut Budget,
     tells_kept: bool,
@@ -93,7 +93,7 @@ fn tell_all<S: StateStore>(
     for _ in 0..MOST {
         let from = case.told();
         if tell_next(case, machine, budget, tells_kept) {
-            let again = Case::new(case.alloc, &[]);
+            let again = Case::wordless(case.alloc);
             tell_next(&again, machine, budget, tells_kept);
             return case.tell_change(from, &again);
         }
@@ -104,7 +104,7 @@ fn tell_all<S: StateStore>(
 
 /// Tells what comes next and the Ticks by then, and answers whether it is an end.
 fn tell_next<S: StateStore>(
-    case: &Case<'_>,
+    case: &Case,
     machine: &mut Machine<'_, S>,
     budget: &mut Budget,
     tells_kept: bool,
@@ -121,7 +121,7 @@ fn tell_next<S: StateStore>(
 }
 
 /// Tells what came, and answers whether it is an end.
-fn tell_happening(happening: &Happening, case: &Case<'_>) -> bool {
+fn tell_happening(happening: &Happening, case: &Case) -> bool {
     match happening {
         Happening::Answer(answer) => {
             tell_answer(answer, case);
@@ -145,7 +145,7 @@ fn tell_happening(happening: &Happening, case: &Case<'_>) -> bool {
 }
 
 /// Tells a text that is written, on one line.
-fn tell_written(text: &str, case: &Case<'_>) {
+fn tell_written(text: &str, case: &Case) {
     case.tell("writes ");
     for c in text.chars() {
         if c == '\n' {
@@ -157,7 +157,7 @@ fn tell_written(text: &str, case: &Case<'_>) {
 }
 
 /// Tells what a machine keeps beside its store.
-fn tell_kept(kept: Kept, case: &Case<'_>) {
+fn tell_kept(kept: Kept, case: &Case) {
     case.tell(", keeping ");
     case.tell_count(kept.entries);
     case.tell(" entries, ");
@@ -170,7 +170,7 @@ fn tell_kept(kept: Kept, case: &Case<'_>) {
 }
 
 /// Tells the values of an answer and the domains that it tells.
-fn tell_answer(answer: &Answer, case: &Case<'_>) {
+fn tell_answer(answer: &Answer, case: &Case) {
     let values = answer.values.as_slice();
     if values.is_empty() {
         case.tell("yes");

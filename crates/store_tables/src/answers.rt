@@ -5,7 +5,7 @@ use pi_print::answer_text;
 use pi_types::{Answer, NamedTerm, NamedTerms, VarDomain, VarDomains};
 
 /// Tells the lines of an answer's text, a blank between them.
-pub fn answer(case: &Case<'_>) {
+pub fn answer(case: &Case) {
     let values = take_values(case);
     let domains = take_domains(case);
     let lines = answer_text(case.alloc, &Answer { values, domains });
@@ -18,7 +18,7 @@ pub fn answer(case: &Case<'_>) {
 }
 
 /// Takes names and their values, up to a colon or the end.
-fn take_values(case: &Case<'_>) -> NamedTerms {
+fn take_values(case: &Case) -> NamedTerms {
     let mut values = NamedTerms::new(case.alloc);
     for _ in 0..case.left() {
         if case.skip(":") || case.left() == 0 {
@@ -33,7 +33,7 @@ fn take_values(case: &Case<'_>) -> NamedTerms {
 }
 
 /// Takes a name and its value.
-fn take_value(case: &Case<'_>) -> Option<NamedTerm> {
+fn take_value(case: &Case) -> Option<NamedTerm> {
     let name = case.take_word();
     let value = case.take_term()?;
     Some(NamedTerm {
@@ -43,7 +43,7 @@ fn take_value(case: &Case<'_>) -> Option<NamedTerm> {
 }
 
 /// Takes variables with their domains, a colon between them.
-fn take_domains(case: &Case<'_>) -> VarDomains {
+fn take_domains(case: &Case) -> VarDomains {
     let mut domains = VarDomains::new(case.alloc);
     for _ in 0..case.left() {
         if case.left() == 0 {

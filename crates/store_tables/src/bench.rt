@@ -40,22 +40,22 @@ impl<S: StateStore> Bench<S> {
     }
 
     /// Takes the words of a term and puts it into the store.
-    pub fn take(&mut self, case: &Case<'_>) -> Ref {
+    pub fn take(&mut self, case: &Case) -> Ref {
         let mut built = Vec::new(case.alloc);
         for word in case.take_extent().iter().rev() {
-            let made = self.put(case, word, &mut built);
+            let made = self.put(case, word.as_str(), &mut built);
             case.keep(Some(made), &mut built);
         }
         taken(case, &mut built)
     }
 
     /// Keeps a term under the next number.
-    pub fn keep(&mut self, case: &Case<'_>, term: Ref) {
+    pub fn keep(&mut self, case: &Case, term: Ref) {
         case.keep(Some(term), &mut self.terms);
     }
 
     /// Takes what each slot holds.
-    pub fn take_slots(&mut self, case: &Case<'_>) {
+    pub fn take_slots(&mut self, case: &Case) {
         self.slots = Vec::new(case.alloc);
         for _ in 0..case.left() {
             if case.skip(EMPTY) {
@@ -68,7 +68,7 @@ impl<S: StateStore> Bench<S> {
     }
 
     /// Puts the term that begins with this word, over the newest terms of a stack.
-    fn put(&mut self, case: &Case<'_>, word: &str, built: &mut Vec<Ref>) -> Ref {
+    fn put(&mut self, case: &Case, word: &str, built: &mut Vec<Ref>) -> Ref {
         match node_of(word) {
             Node::Var(n) => self.variable(case, n),
             Node::Kept(i) => self.kept(case, i),
@@ -104,7 +104,7 @@ impl<S: StateStore> Bench<S> {
     }
 
     /// A variable that was made.
-    fn variable(&self, case: &Case<'_>, n: u64) -> Ref {
+    fn variable(&self, case: &Case, n: u64) -> Ref {
         if n >= self.store.vars() {
             case.lacks("a variable that was made");
         }
@@ -112,7 +112,7 @@ impl<S: StateStore> Bench<S> {
     }
 
     /// A term that was kept.
-    fn kept(&self, case: &Case<'_>, i: usize) -> Ref {
+    fn kept(&self, case: &Case, i: usize) -> Ref {
         match self.terms.get(i) {
             Some(kept) => *kept,
             None => {
@@ -125,7 +125,7 @@ impl<S: StateStore> Bench<S> {
     /// So many pairs, each over the one before, which stands in the place that isn't given.
     fn put_pairs(
         &mut self,
-        case: &Case<'_>,
+        case: &Case,
         count: usize,
         innermost: Ref,
         first: Option<Ref>,
@@ -140,7 +140,7 @@ impl<S: StateStore> Bench<S> {
     }
 
     /// An array of so many times an item.
-    fn put_row(&mut self, case: &Case<'_>, count: usize, item: Ref) -> Ref {
+    fn put_row(&mut self, case: &Case, count: usize, item: Ref) -> Ref {
         let mut items = Vec::new(case.alloc);
         for _ in 0..count {
             case.keep(Some(item), &mut items);
@@ -150,11 +150,11 @@ impl<S: StateStore> Bench<S> {
 }
 
 /// A term that was put into a store, which fails for want of memory alone.
-fn put_in(case: &Case<'_>, put: Result<Ref, AllocError>) -> Ref {
+fn put_in(case: &Case, put: Result<Ref, AllocError>) -> Ref {
     case.made(put).unwrap_or(NOTHING)
 }
 
 /// Takes the newest term off a stack.
-fn taken(case: &Case<'_>, built: &mut Vec<Ref>) -> Ref {
+fn taken(case: &Case, built: &mut Vec<Ref>) -> Ref {
     case.one(built).unwrap_or(NOTHING)
 }

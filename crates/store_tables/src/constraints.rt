@@ -4,7 +4,7 @@ use pi_cases::Case;
 use pi_types::{Constraint, Item, LinTerms, Rel};
 
 /// Tells a constraint in words.
-pub fn tell_constraint(constraint: &Constraint, case: &Case<'_>) {
+pub fn tell_constraint(constraint: &Constraint, case: &Case) {
     match constraint {
         Constraint::Linear {
             rel,
@@ -36,7 +36,7 @@ pub fn tell_constraint(constraint: &Constraint, case: &Case<'_>) {
 }
 
 /// Tells how a sum stands to 0, its constant and its terms, behind a name.
-fn tell_sum(name: &str, rel: Rel, constant: i128, terms: &LinTerms, case: &Case<'_>) {
+fn tell_sum(name: &str, rel: Rel, constant: i128, terms: &LinTerms, case: &Case) {
     case.tell(name);
     case.tell(match rel {
         Rel::Equal => " = ",
@@ -53,7 +53,7 @@ fn tell_sum(name: &str, rel: Rel, constant: i128, terms: &LinTerms, case: &Case<
 }
 
 /// Tells items, each behind a blank, behind a name.
-fn tell_items(name: &str, items: &[Item], case: &Case<'_>) {
+fn tell_items(name: &str, items: &[Item], case: &Case) {
     case.tell(name);
     for item in items {
         case.tell(" ");

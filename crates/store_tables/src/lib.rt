@@ -50,7 +50,7 @@ fn subject_of(name: &str) -> Option<Subject> {
 }
 
 /// Answers a case of terms or stores, in a file with this text, and tells whether the subject is one of such cases.
-pub fn answer_words(subject: &str, text: &str, case: &Case<'_>) -> bool {
+pub fn answer_words(subject: &str, text: &str, case: &Case) -> bool {
     let Some(subject) = subject_of(subject) else {
         return false;
     };

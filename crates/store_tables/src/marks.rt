@@ -4,7 +4,7 @@ use pi_cases::Case;
 use pi_types::{StateStore, TreeStore};
 
 /// Tells the marks that the words of a case make.
-pub fn answer(case: &Case<'_>) {
+pub fn answer(case: &Case) {
     let store = TreeStore::new(case.alloc);
     if let Some(mut store) = case.made(store) {
         take_words(case, &mut store);
@@ -12,9 +12,9 @@ pub fn answer(case: &Case<'_>) {
     }
 }
 
-fn take_words(case: &Case<'_>, store: &mut TreeStore) {
+fn take_words(case: &Case, store: &mut TreeStore) {
     for word in case.take_rest() {
-        match *word {
+        match word.as_str() {
             "mark" => {
                 let mark = store.mark();
                 if let Some(mark) = case.made(mark) {

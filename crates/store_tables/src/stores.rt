@@ -20,7 +20,7 @@ use pi_states::StoredDomains;
 use pi_types::TreeStore;
 
 /// Tells what the steps of a case show, taken on a `TreeStore`, and where the same steps on a `RawStore` show something else, that too.
-pub fn answer(case: &Case<'_>) {
+pub fn answer(case: &Case) {
     let raw = case.again();
     take_all(&raw, raw_store(case.alloc), false);
     answer_copying(case, false);
@@ -28,7 +28,7 @@ pub fn answer(case: &Case<'_>) {
 }
 
 /// The same on a `TreeStore` alone: terms of the most cells that are copied take their time once. In the cases of readings `read` reads a goal.
-pub fn answer_copying(case: &Case<'_>, reads_goals: bool) {
+pub fn answer_copying(case: &Case, reads_goals: bool) {
     let store = TreeStore::new(case.alloc);
     if let Some(store) = case.made(store) {
         take_all(case, store, reads_goals);
@@ -36,14 +36,14 @@ pub fn answer_copying(case: &Case<'_>, reads_goals: bool) {
 }
 
 /// The same on any store: its owner is generic, so that no proof goes through the parts of one kind of store where it is dropped.
-fn take_all<S: StoredDomains>(case: &Case<'_>, store: S, reads_goals: bool) {
+fn take_all<S: StoredDomains>(case: &Case, store: S, reads_goals: bool) {
     let mut bench = Bench::new(case.alloc, store, reads_goals);
     take_steps(case, &mut bench);
     drop(bench);
 }
 
 /// Tells what steps show that are taken on a store.
-pub fn take_steps<S: StoredDomains>(case: &Case<'_>, bench: &mut Bench<S>) {
+pub fn take_steps<S: StoredDomains>(case: &Case, bench: &mut Bench<S>) {
     for _ in 0..case.steps() {
         let name = case.take_word();
         if !take_step(case, bench, name) {
@@ -54,7 +54,7 @@ pub fn take_steps<S: StoredDomains>(case: &Case<'_>, bench: &mut Bench<S>) {
 }
 
 /// Takes one step, which has this name, and tells whether there is one.
-fn take_step<S: StoredDomains>(case: &Case<'_>, bench: &mut Bench<S>, name: &str) -> bool {
+fn take_step<S: StoredDomains>(case: &Case, bench: &mut Bench<S>, name: &str) -> bool {
     readings::take_step(case, bench, name)
         || terms::take_step(case, bench, name)
         || looks::take_step(case, bench, name)

@@ -11,7 +11,7 @@ use pi_steps::answer as answer_of;
 use pi_types::{NameSlot, NameSlots, TreeStore};
 
 /// Tells the domains of an answer over a `TreeStore`, and where they are others over a `RawStore`, those too.
-pub fn answer(case: &Case<'_>, text: &str) {
+pub fn answer(case: &Case, text: &str) {
     case.expect("names");
     let names = take_names(case);
     let raw = case.again();
@@ -24,19 +24,19 @@ pub fn answer(case: &Case<'_>, text: &str) {
 }
 
 /// Tells the domains of an answer on any store.
-fn answer_on<S: StoredDomains>(case: &Case<'_>, text: &str, store: S, names: &[NameSlot]) {
+fn answer_on<S: StoredDomains>(case: &Case, text: &str, store: S, names: &[NameSlot]) {
     let mut bench = Bench::new(case.alloc, store, false);
     take_given(case, text, &mut bench);
     tell_answer(case, bench, names);
 }
 
 /// Takes the slots that are named, each a name of itself.
-fn take_names(case: &Case<'_>) -> NameSlots {
+fn take_names(case: &Case) -> NameSlots {
     let mut names = NameSlots::new(case.alloc);
     for word in case.take_rest() {
         let added = names.push(NameSlot {
-            name: case.text(word),
-            slot: case.slot_of(word),
+            name: case.text(word.as_str()),
+            slot: case.slot_of(word.as_str()),
         });
         case.done(added);
     }
@@ -45,13 +45,13 @@ fn take_names(case: &Case<'_>) -> NameSlots {
 
 /// The steps that a file gives for its cases, whose showing isn't told.
 impl<S: StoredDomains> Given for Bench<S> {
-    fn take_line(&mut self, line: &Case<'_>) {
+    fn take_line(&mut self, line: &Case) {
         take_steps(line, self);
     }
 }
 
 /// Tells the domains of the answer of a run with a bench's store and slots.
-fn tell_answer<S: StoredDomains>(case: &Case<'_>, bench: Bench<S>, names: &[NameSlot]) {
+fn tell_answer<S: StoredDomains>(case: &Case, bench: Bench<S>, names: &[NameSlot]) {
     let Bench { store, slots, .. } = bench;
     let mut run = Run::new(case.alloc, store);
     let pushed = run.arenas.blocks.push_slots(slots.as_slice());

@@ -12,19 +12,12 @@ struct Tables<F> {
 }
 
 impl<R: Print + Input + AllocGlobal, F: Files> Subjects<R> for Tables<F> {
-    fn answer_text(
-        &mut self,
-        _rt: &R,
-        subject: &str,
-        text: &str,
-        line: &str,
-        case: &Case<'_>,
-    ) -> bool {
+    fn answer_text(&mut self, _rt: &R, subject: &str, text: &str, line: &str, case: &Case) -> bool {
         reader_tables::answer_text(subject, line, case)
             || whole_tables::answer_text(subject, text, line, case)
     }
 
-    fn answer_words(&mut self, rt: &R, subject: &str, text: &str, case: &Case<'_>) -> bool {
+    fn answer_words(&mut self, rt: &R, subject: &str, text: &str, case: &Case) -> bool {
         reader_tables::answer_words(subject, case)
             || run_tables::answer_words(subject, text, case)
             || store_tables::answer_words(subject, text, case)

@@ -7,7 +7,7 @@ use pi_prop::{filter, filter_distinct, filter_reified, is_within_limits, place_c
 use std::alloc::AllocError;
 
 /// Tells what is left of the domains at the places of a constraint.
-pub(crate) fn answer(case: &Case<'_>) {
+pub(crate) fn answer(case: &Case) {
     let kind = case.take_word();
     let constraint = take_constraint(case, kind);
     case.take_step_end();
@@ -22,7 +22,7 @@ pub(crate) fn answer(case: &Case<'_>) {
 }
 
 /// Takes the domain of each step that is left.
-fn take_domains(case: &Case<'_>) -> Domains {
+fn take_domains(case: &Case) -> Domains {
     let mut domains = Vec::new(case.alloc);
     for _ in 0..case.steps() {
         let domain = take_domain(case);
@@ -33,7 +33,7 @@ fn take_domains(case: &Case<'_>) -> Domains {
 }
 
 /// Takes the domain of a step.
-fn take_domain(case: &Case<'_>) -> Option<Domain> {
+fn take_domain(case: &Case) -> Option<Domain> {
     if case.skip("none") {
         return spans_of(case, &[]);
     }
@@ -42,7 +42,7 @@ fn take_domain(case: &Case<'_>) -> Option<Domain> {
 }
 
 /// Tells what the filter of a constraint leaves.
-fn tell_filtered(case: &Case<'_>, constraint: &Constraint, domains: &Domains) {
+fn tell_filtered(case: &Case, constraint: &Constraint, domains: &Domains) {
     if !is_within_limits(constraint) {
         return case.lacks("a constraint within its limits");
     }
@@ -57,7 +57,7 @@ fn tell_filtered(case: &Case<'_>, constraint: &Constraint, domains: &Domains) {
 }
 
 /// Tells what the filter of `distinct` leaves of places that have no constraint.
-fn tell_distinct(case: &Case<'_>, kind: &str, domains: &Domains) {
+fn tell_distinct(case: &Case, kind: &str, domains: &Domains) {
     if kind != "places" {
         return case.lacks("a known kind of constraint");
     }
@@ -66,7 +66,7 @@ fn tell_distinct(case: &Case<'_>, kind: &str, domains: &Domains) {
 }
 
 /// Tells the domains that are left.
-fn tell_left(case: &Case<'_>, left: Result<Domains, AllocError>) {
+fn tell_left(case: &Case, left: Result<Domains, AllocError>) {
     let Some(left) = case.made(left) else {
         return;
     };
@@ -77,7 +77,7 @@ fn tell_left(case: &Case<'_>, left: Result<Domains, AllocError>) {
 }
 
 /// Tells the spans of a domain.
-fn tell_spans(case: &Case<'_>, domain: &Domain) {
+fn tell_spans(case: &Case, domain: &Domain) {
     if domain.spans().is_empty() {
         return case.tell("empty");
     }

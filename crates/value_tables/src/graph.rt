@@ -23,7 +23,7 @@ impl Entry {
 
 /// Takes the entries that are left, a step each: a state, by rests the least rest for which the entry stands, `final` where it
 /// is that, and answers of `action`, each behind `to`.
-pub fn take_graph(case: &Case<'_>, by_rest: bool) -> Vec<Entry> {
+pub fn take_graph(case: &Case, by_rest: bool) -> Vec<Entry> {
     let mut graph = Vec::new(case.alloc);
     let entries = case.steps().saturating_sub(1);
     case.take_step_end();
@@ -36,7 +36,7 @@ pub fn take_graph(case: &Case<'_>, by_rest: bool) -> Vec<Entry> {
 }
 
 /// Takes an entry.
-fn take_entry(case: &Case<'_>, by_rest: bool) -> Option<Entry> {
+fn take_entry(case: &Case, by_rest: bool) -> Option<Entry> {
     let state = take_text(case)?;
     let rest = take_rest(case, by_rest);
     Some(Entry {
@@ -48,18 +48,18 @@ fn take_entry(case: &Case<'_>, by_rest: bool) -> Option<Entry> {
 }
 
 /// Takes the least rest for which an entry stands.
-fn take_rest(case: &Case<'_>, by_rest: bool) -> i128 {
+fn take_rest(case: &Case, by_rest: bool) -> i128 {
     if by_rest { case.take_integer() } else { 0 }
 }
 
 /// Takes a term, as its text.
-fn take_text(case: &Case<'_>) -> Option<Text> {
+fn take_text(case: &Case) -> Option<Text> {
     let term = case.take_term()?;
     text_of(case, &term)
 }
 
 /// Takes answers of `action`.
-fn take_successors(case: &Case<'_>) -> Successors {
+fn take_successors(case: &Case) -> Successors {
     let mut successors = Successors::new(case.alloc);
     for _ in 0..case.left() {
         if case.skip("to")
@@ -73,7 +73,7 @@ fn take_successors(case: &Case<'_>) -> Successors {
 }
 
 /// Takes an answer of `action`: the state that follows, the action and its cost.
-fn take_successor(case: &Case<'_>) -> Option<Successor> {
+fn take_successor(case: &Case) -> Option<Successor> {
     let state = case.take_term()?;
     let action = case.take_term()?;
     let cost = case.take_term()?;
@@ -85,7 +85,7 @@ fn take_successor(case: &Case<'_>) -> Option<Successor> {
 }
 
 /// The text of a term.
-pub fn text_of(case: &Case<'_>, term: &Term) -> Option<Text> {
+pub fn text_of(case: &Case, term: &Term) -> Option<Text> {
     let text = term_text(case.alloc, term, true);
     case.made(text)
 }

@@ -26,7 +26,7 @@ const OPERATIONS: [(&str, Op); 18] = [
 ];
 
 /// Tells the value of an operation at two integers, or its fault. One of one place leaves the second integer unread.
-pub fn answer(case: &Case<'_>) {
+pub fn answer(case: &Case) {
     let Some(operation) = operation_of(case.take_word()) else {
         return case.lacks("a known operation");
     };

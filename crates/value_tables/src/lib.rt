@@ -9,18 +9,44 @@ mod outside;
 mod planners;
 mod regions;
 
-use pi_cases::Case;
+use pi_cases::{Case, named};
 use pi_outside::Files;
 
+/// A subject of cases of words.
+#[derive(Clone, Copy)]
+enum Subject {
+    Domains,
+    Filters,
+    Integers,
+    Plans,
+    Regions,
+}
+
+/// Each subject with its name.
+const SUBJECTS: [(&str, Subject); 5] = [
+    ("domains", Subject::Domains),
+    ("filters", Subject::Filters),
+    ("integers", Subject::Integers),
+    ("plans", Subject::Plans),
+    ("regions", Subject::Regions),
+];
+
+/// The subject with a name.
+fn subject_of(name: &str) -> Option<Subject> {
+    named(&SUBJECTS, name)
+}
+
 /// Answers a case of domains, integers, regions, filters or planners, and tells whether the subject is one of them.
-pub fn answer_words(subject: &str, case: &Case<'_>) -> bool {
+pub fn answer_words(subject: &str, case: &Case) -> bool {
+    let Some(subject) = subject_of(subject) else {
+        return false;
+    };
     match subject {
-        "domains" => domains::answer(case),
-        "filters" => filters::answer(case),
-        "integers" => integers::answer(case),
-        "plans" => planners::answer(case),
-        "regions" => regions::answer(case),
-        _ => return false,
+        Subject::Domains => domains::answer(case),
+        Subject::Filters => filters::answer(case),
+        Subject::Integers => integers::answer(case),
+        Subject::Plans => planners::answer(case),
+        Subject::Regions => regions::answer(case),
     }
     true
 }
@@ -30,7 +56,7 @@ pub fn answer_outside<R: Print + Input + AllocGlobal, F: Files>(
     rt: &R,
     files: &mut F,
     subject: &str,
-    case: &Case<'_>,
+    case: &Case,
 ) -> bool {
     let is_outside = subject == "outside";
     if is_outside {

@@ -1,6 +1,6 @@
 //! What the outside is asked for: files, a source of input and a sink for output, call by call.
 
-use pi_cases::{Case, bytes_of};
+use pi_cases::{Case, bytes_of, named};
 use pi_outside::{
     Failed, Files, MemoryFiles, MemorySink, MemorySource, RealSink, RealSource, Sink, Source,
     SureFiles, SureSink, SureSource,
@@ -12,27 +12,95 @@ const ROOM: usize = 4;
 /// What stands in the place into which is read.
 const UNREAD: u8 = b'_';
 
+/// A kind of outside.
+#[derive(Clone, Copy)]
+enum Kind {
+    Memory,
+    Sure,
+    Real,
+}
+
+/// Each kind with its word.
+const KINDS: [(&str, Kind); 3] = [
+    ("memory", Kind::Memory),
+    ("sure", Kind::Sure),
+    ("real", Kind::Real),
+];
+
+/// What is called of the outside.
+#[derive(Clone, Copy)]
+enum Object {
+    Sink,
+    Source,
+    Files,
+}
+
+/// Each object with its word.
+const OBJECTS: [(&str, Object); 3] = [
+    ("sink", Object::Sink),
+    ("source", Object::Source),
+    ("files", Object::Files),
+];
+
+/// The kind with a word.
+fn kind_of(word: &str) -> Option<Kind> {
+    named(&KINDS, word)
+}
+
+/// The object with a word.
+fn object_of(word: &str) -> Option<Object> {
+    named(&OBJECTS, word)
+}
+
 /// Tells what each call of a case gives. The first step makes the object that is called: `memory`, `sure` or `real`, and
 /// `sink`, `source` or `files`.
-pub fn answer<R: Print + Input + AllocGlobal, F: Files>(rt: &R, files: &mut F, case: &Case<'_>) {
-    let kind = case.take_word();
-    let object = case.take_word();
-    match (kind, object) {
-        ("memory", "sink") => ask_memory_sink(case),
-        ("memory", "source") => ask_memory_source(case),
-        ("memory", "files") => ask_memory_files(case),
-        ("sure", "sink") => ask_sure_sink(case),
-        ("sure", "source") => ask_sure_source(case),
-        ("sure", "files") => ask_sure_files(case),
-        ("real", "sink") => write_all(case, &mut RealSink::new(rt)),
-        ("real", "source") => read_all(case, &mut RealSource::new(rt)),
-        ("real", "files") => read_files(case, files),
-        _ => case.lacks("a known object"),
+pub fn answer<R: Print + Input + AllocGlobal, F: Files>(rt: &R, files: &mut F, case: &Case) {
+    let kind = kind_of(case.take_word());
+    let object = object_of(case.take_word());
+    let (Some(kind), Some(object)) = (kind, object) else {
+        return case.lacks("a known object");
+    };
+    match kind {
+        Kind::Memory => ask_in_memory(case, object),
+        Kind::Sure => ask_sure(case, object),
+        Kind::Real => ask_real(rt, files, case, object),
+    }
+}
+
+/// Makes an object in memory, some of whose calls can fail, and calls it.
+fn ask_in_memory(case: &Case, object: Object) {
+    match object {
+        Object::Sink => ask_memory_sink(case),
+        Object::Source => ask_memory_source(case),
+        Object::Files => ask_memory_files(case),
+    }
+}
+
+/// Makes an object in memory none of whose calls fails, and calls it.
+fn ask_sure(case: &Case, object: Object) {
+    match object {
+        Object::Sink => ask_sure_sink(case),
+        Object::Source => ask_sure_source(case),
+        Object::Files => ask_sure_files(case),
+    }
+}
+
+/// Calls a real object.
+fn ask_real<R: Print + Input + AllocGlobal, F: Files>(
+    rt: &R,
+    files: &mut F,
+    case: &Case,
+    object: Object,
+) {
+    match object {
+        Object::Sink => write_all(case, &mut RealSink::new(rt)),
+        Object::Source => read_all(case, &mut RealSource::new(rt)),
+        Object::Files => read_files(case, files),
     }
 }
 
 /// A sink with room for so many bytes, and the numbers of the calls that are to fail.
-fn ask_memory_sink(case: &Case<'_>) {
+fn ask_memory_sink(case: &Case) {
     let sink = MemorySink::new(case.alloc, case.take_count());
     let Some(mut sink) = case.made(sink) else {
         return;
@@ -47,7 +115,7 @@ fn ask_memory_sink(case: &Case<'_>) {
 }
 
 /// A sink that keeps so many bytes.
-fn ask_sure_sink(case: &Case<'_>) {
+fn ask_sure_sink(case: &Case) {
     let sink = SureSink::new(case.alloc, case.take_count());
     let Some(mut sink) = case.made(sink) else {
         return;
@@ -58,7 +126,7 @@ fn ask_sure_sink(case: &Case<'_>) {
 }
 
 /// A source of bytes, how many it gives at once, and the numbers of the calls that are to fail.
-fn ask_memory_source(case: &Case<'_>) {
+fn ask_memory_source(case: &Case) {
     let word = case.take_word();
     let bytes = bytes_of(case, word);
     let most = case.take_count().max(1);
@@ -74,7 +142,7 @@ fn ask_memory_source(case: &Case<'_>) {
 }
 
 /// A source of bytes, and how many it gives at once.
-fn ask_sure_source(case: &Case<'_>) {
+fn ask_sure_source(case: &Case) {
     let word = case.take_word();
     let bytes = bytes_of(case, word);
     let most = case.take_count().max(1);
@@ -85,7 +153,7 @@ fn ask_sure_source(case: &Case<'_>) {
 }
 
 /// A file with its bytes, and the numbers of the calls that are to fail.
-fn ask_memory_files(case: &Case<'_>) {
+fn ask_memory_files(case: &Case) {
     let mut files = MemoryFiles::new(case.alloc);
     let name = case.take_word();
     let word = case.take_word();
@@ -100,7 +168,7 @@ fn ask_memory_files(case: &Case<'_>) {
 }
 
 /// A file with its bytes.
-fn ask_sure_files(case: &Case<'_>) {
+fn ask_sure_files(case: &Case) {
     let mut files = SureFiles::new(case.alloc);
     let name = case.take_word();
     let word = case.take_word();
@@ -111,7 +179,7 @@ fn ask_sure_files(case: &Case<'_>) {
 }
 
 /// Writes a piece at each step.
-fn write_all<O: Sink>(case: &Case<'_>, sink: &mut O) {
+fn write_all<O: Sink>(case: &Case, sink: &mut O) {
     case.take_step_end();
     for _ in 0..case.steps() {
         case.begin("; ");
@@ -123,7 +191,7 @@ fn write_all<O: Sink>(case: &Case<'_>, sink: &mut O) {
 }
 
 /// Reads so many bytes at each step, each time into the same place.
-fn read_all<I: Source>(case: &Case<'_>, source: &mut I) {
+fn read_all<I: Source>(case: &Case, source: &mut I) {
     let mut into = [UNREAD; ROOM];
     case.take_step_end();
     for _ in 0..case.steps() {
@@ -140,7 +208,7 @@ fn read_all<I: Source>(case: &Case<'_>, source: &mut I) {
 }
 
 /// Reads of a file at each step, by its name and from a place on, each time into the same place.
-fn read_files<F: Files>(case: &Case<'_>, files: &mut F) {
+fn read_files<F: Files>(case: &Case, files: &mut F) {
     let mut into = [UNREAD; ROOM];
     case.take_step_end();
     for _ in 0..case.steps() {
@@ -155,7 +223,7 @@ fn read_files<F: Files>(case: &Case<'_>, files: &mut F) {
 }
 
 /// Tells how many bytes were taken or read.
-fn tell_taken(taken: Result<usize, Failed>, case: &Case<'_>) {
+fn tell_taken(taken: Result<usize, Failed>, case: &Case) {
     match taken {
         Ok(count) => case.tell_count(count),
         Err(Failed) => case.tell("failed"),

@@ -13,7 +13,7 @@ const MOST: usize = 100_000;
 
 /// Tells for which states a planner asks, with what is left of the limit at each; what it comes to, twice, since an end is
 /// answered again; and how many states it was given.
-pub fn answer(case: &Case<'_>) {
+pub fn answer(case: &Case) {
     let by_rest = take_choice(case, "rests", "cost");
     let best = take_choice(case, "best_plan", "plan");
     let start = case.take_term();
@@ -25,7 +25,7 @@ pub fn answer(case: &Case<'_>) {
 }
 
 /// Takes one of two words, and tells whether it is the first.
-fn take_choice(case: &Case<'_>, first: &str, second: &str) -> bool {
+fn take_choice(case: &Case, first: &str, second: &str) -> bool {
     let is_first = case.skip(first);
     if !is_first {
         case.expect(second);
@@ -34,7 +34,7 @@ fn take_choice(case: &Case<'_>, first: &str, second: &str) -> bool {
 }
 
 /// Makes the planner of a call and follows it, or tells why it isn't made. This function alone owns a planner.
-fn begin(case: &Case<'_>, start: Term, limit: i128, best: bool, by_rest: bool, graph: &[Entry]) {
+fn begin(case: &Case, start: Term, limit: i128, best: bool, by_rest: bool, graph: &[Entry]) {
     match Planner::new(case.alloc, start, limit, best, by_rest) {
         Ok(mut planner) => follow(case, &mut planner, graph),
         Err(fault) => tell_fault(case, &fault),
@@ -42,7 +42,7 @@ fn begin(case: &Case<'_>, start: Term, limit: i128, best: bool, by_rest: bool, g
 }
 
 /// Follows a planner to its end, and tells how much it was given.
-fn follow(case: &Case<'_>, planner: &mut Planner, graph: &[Entry])
+fn follow(case: &Case, planner: &mut Planner, graph: &[Entry])
     requires sound { IsSound planner.old }
     requires idle { waits_for planner.old ≡ None }
 {
@@ -53,7 +53,7 @@ fn follow(case: &Case<'_>, planner: &mut Planner, graph: &[Entry])
 }
 
 /// Takes the steps of a planner up to its end.
-fn take_steps(case: &Case<'_>, planner: &mut Planner, graph: &[Entry])
+fn take_steps(case: &Case, planner: &mut Planner, graph: &[Entry])
     requires sound { IsSound planner.old }
     requires idle { waits_for planner.old ≡ None }
 {
@@ -66,7 +66,7 @@ fn take_steps(case: &Case<'_>, planner: &mut Planner, graph: &[Entry])
 }
 
 /// Takes a step of a planner, and tells whether it was given what it asks for.
-fn take_step(case: &Case<'_>, planner: &mut Planner, graph: &[Entry]) -> bool
+fn take_step(case: &Case, planner: &mut Planner, graph: &[Entry]) -> bool
     requires sound { IsSound planner.old }
     requires idle { waits_for planner.old ≡ None }
     ensures sound { result ≡ true → IsSound planner.new }
@@ -86,7 +86,7 @@ fn take_step(case: &Case<'_>, planner: &mut Planner, graph: &[Entry]) -> bool
 }
 
 /// Gives a planner the state that it asks for, and tells whether it takes an entry for it.
-fn give(case: &Case<'_>, planner: &mut Planner, graph: &[Entry], state: &Term, rest: i128) -> bool
+fn give(case: &Case, planner: &mut Planner, graph: &[Entry], state: &Term, rest: i128) -> bool
     requires sound { IsSound planner.old }
     requires asked { IsSome (waits_for planner.old) }
     ensures sound { result ≡ true → IsSound planner.new }
@@ -102,13 +102,7 @@ fn give(case: &Case<'_>, planner: &mut Planner, graph: &[Entry], state: &Term, r
 }
 
 /// Gives a planner the first entry that stands for the state that it asks for and that it doesn't refuse. Tells whether there is one.
-fn give_first(
-    case: &Case<'_>,
-    planner: &mut Planner,
-    graph: &[Entry],
-    state: &str,
-    rest: i128,
-) -> bool
+fn give_first(case: &Case, planner: &mut Planner, graph: &[Entry], state: &str, rest: i128) -> bool
     requires sound { IsSound planner.old }
     requires asked { IsSome (waits_for planner.old) }
     ensures sound { result ≡ true → IsSound planner.new }
@@ -124,13 +118,7 @@ fn give_first(
 }
 
 /// Gives a planner an entry, where it stands for the state that it asks for. Tells whether the planner took it.
-fn give_entry(
-    case: &Case<'_>,
-    planner: &mut Planner,
-    entry: &Entry,
-    state: &str,
-    rest: i128,
-) -> bool
+fn give_entry(case: &Case, planner: &mut Planner, entry: &Entry, state: &str, rest: i128) -> bool
     requires sound { IsSound planner.old }
     requires asked { IsSome (waits_for planner.old) }
     ensures sound { result ≡ true → IsSound planner.new }
@@ -150,7 +138,7 @@ fn give_entry(
 }
 
 /// Tells a state that is asked for, and what is left there.
-fn tell_asked(case: &Case<'_>, state: &str, rest: i128) {
+fn tell_asked(case: &Case, state: &str, rest: i128) {
     case.begin("; ");
     case.tell(state);
     case.tell(" ");
@@ -158,7 +146,7 @@ fn tell_asked(case: &Case<'_>, state: &str, rest: i128) {
 }
 
 /// Tells an end.
-fn tell_end(case: &Case<'_>, end: &PlanStep) {
+fn tell_end(case: &Case, end: &PlanStep) {
     case.begin("; ");
     match end {
         PlanStep::Expand(_, _) => case.lacks("an end"),
@@ -173,7 +161,7 @@ fn tell_end(case: &Case<'_>, end: &PlanStep) {
 }
 
 /// Tells why something is refused.
-fn tell_fault(case: &Case<'_>, fault: &PlanFault) {
+fn tell_fault(case: &Case, fault: &PlanFault) {
     case.begin("; ");
     match fault {
         PlanFault::NotGround(term) => tell_term(case, "not ground ", term),
@@ -183,7 +171,7 @@ fn tell_fault(case: &Case<'_>, fault: &PlanFault) {
 }
 
 /// Tells what a term is, and its text.
-fn tell_term(case: &Case<'_>, what: &str, term: &Term) {
+fn tell_term(case: &Case, what: &str, term: &Term) {
     case.tell(what);
     if let Some(text) = text_of(case, term) {
         case.tell(text.as_str());

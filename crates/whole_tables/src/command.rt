@@ -26,7 +26,7 @@ pub(crate) fn parts(line: &str, mark: char) -> (&str, Option<&str>) {
 }
 
 /// The words of a command line.
-pub(crate) fn words_of(case: &Case<'_>, front: &str, last: Option<&str>) -> Vec<String> {
+pub(crate) fn words_of(case: &Case, front: &str, last: Option<&str>) -> Vec<String> {
     let mut words = Vec::new(case.alloc);
     for word in front.split_whitespace() {
         push_word(case, word, &mut words);
@@ -38,7 +38,7 @@ pub(crate) fn words_of(case: &Case<'_>, front: &str, last: Option<&str>) -> Vec<
 }
 
 /// Appends a word as it is meant.
-fn push_word(case: &Case<'_>, written: &str, words: &mut Vec<String>) {
+fn push_word(case: &Case, written: &str, words: &mut Vec<String>) {
     match String::from_utf8(bytes_of(case, written)) {
         Ok(word) => case.keep(Some(word), words),
         Err(_) => case.lacks("words that are texts"),
@@ -46,7 +46,7 @@ fn push_word(case: &Case<'_>, written: &str, words: &mut Vec<String>) {
 }
 
 /// The files of a run.
-pub(crate) fn files_of(case: &Case<'_>, text: &str, held: Option<&str>) -> MemoryFiles {
+pub(crate) fn files_of(case: &Case, text: &str, held: Option<&str>) -> MemoryFiles {
     let mut files = MemoryFiles::new(case.alloc);
     let held = match held {
         Some(held) => bytes_of(case, held),
@@ -58,7 +58,7 @@ pub(crate) fn files_of(case: &Case<'_>, text: &str, held: Option<&str>) -> Memor
 }
 
 /// The lines of a text that begin with `&`.
-fn given(case: &Case<'_>, text: &str) -> Vec<u8> {
+fn given(case: &Case, text: &str) -> Vec<u8> {
     let mut bytes = Vec::new(case.alloc);
     for line in text.lines() {
         if let Some(line) = line.strip_prefix(GIVEN) {
@@ -69,7 +69,7 @@ fn given(case: &Case<'_>, text: &str) -> Vec<u8> {
 }
 
 /// Appends a line.
-fn push_line(case: &Case<'_>, line: &str, bytes: &mut Vec<u8>) {
+fn push_line(case: &Case, line: &str, bytes: &mut Vec<u8>) {
     let added = bytes.extend_from_slice(line.as_bytes());
     case.done(added);
     let added = bytes.push(b'\n');

@@ -7,7 +7,7 @@ mod runs;
 use pi_cases::Case;
 
 /// Answers a case of runs in a file with this text, and tells whether the subject is one of such cases.
-pub fn answer_text(subject: &str, text: &str, line: &str, case: &Case<'_>) -> bool {
+pub fn answer_text(subject: &str, text: &str, line: &str, case: &Case) -> bool {
     match subject {
         "whole" => runs::answer(case, text, line),
         "failing_reads" => runs::answer_failing(case, text, line, true),

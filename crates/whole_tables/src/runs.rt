@@ -13,12 +13,12 @@ const ROOM: usize = 4_000;
 const NEVER: u64 = 0;
 
 /// Tells what a run comes to.
-pub(crate) fn answer(case: &Case<'_>, text: &str, line: &str) {
+pub(crate) fn answer(case: &Case, text: &str, line: &str) {
     run(case, text, line, NEVER, NEVER);
 }
 
 /// Tells what a run comes to in which a read, or else a write, fails, whose number stands in front: `2 FILE ⊢ p(X)`.
-pub(crate) fn answer_failing(case: &Case<'_>, text: &str, line: &str, is_read: bool) {
+pub(crate) fn answer_failing(case: &Case, text: &str, line: &str, is_read: bool) {
     let (number, line) = line.split_once(' ').unwrap_or((line, ""));
     match number.parse() {
         Ok(number) if is_read => run(case, text, line, number, NEVER),
@@ -28,7 +28,7 @@ pub(crate) fn answer_failing(case: &Case<'_>, text: &str, line: &str, is_read: b
 }
 
 /// Tells what a run comes to in which the read and the write of these numbers fail.
-fn run(case: &Case<'_>, text: &str, line: &str, read: u64, write: u64) {
+fn run(case: &Case, text: &str, line: &str, read: u64, write: u64) {
     let (front, last) = parts(line, ASKED);
     let (front, held) = parts(front, HOLDS);
     let words = words_of(case, front, last);
@@ -39,7 +39,7 @@ fn run(case: &Case<'_>, text: &str, line: &str, read: u64, write: u64) {
 }
 
 /// Tells what a run over these files comes to.
-fn run_over(case: &Case<'_>, words: &[String], files: &mut MemoryFiles, write: u64) {
+fn run_over(case: &Case, words: &[String], files: &mut MemoryFiles, write: u64) {
     let out = MemorySink::new(case.alloc, ROOM);
     if let Some(mut out) = case.made(out) {
         let noted = out.fail_at(write);
@@ -49,7 +49,7 @@ fn run_over(case: &Case<'_>, words: &[String], files: &mut MemoryFiles, write: u
 }
 
 /// Tells what a run with this output comes to. There is no input.
-fn run_into(case: &Case<'_>, words: &[String], files: &mut MemoryFiles, out: &mut MemorySink) {
+fn run_into(case: &Case, words: &[String], files: &mut MemoryFiles, out: &mut MemorySink) {
     let input = SureSource::new(case.alloc, b"", 1);
     if let Some(mut input) = case.made(input) {
         let outcome = picatq(case.alloc, words, files, &mut input, out);
@@ -59,7 +59,7 @@ fn run_into(case: &Case<'_>, words: &[String], files: &mut MemoryFiles, out: &mu
 }
 
 /// Tells what was written, if anything.
-fn tell_written(case: &Case<'_>, bytes: &[u8]) {
+fn tell_written(case: &Case, bytes: &[u8]) {
     if !bytes.is_empty() {
         case.tell(" ");
     }

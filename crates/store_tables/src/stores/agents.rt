@@ -36,7 +36,7 @@ fn step_of(name: &str) -> Option<Step> {
 }
 
 /// Takes a step on agents or activations, and tells whether it is one.
-pub fn take_step<S: StateStore>(case: &Case<'_>, bench: &mut Bench<S>, name: &str) -> bool {
+pub fn take_step<S: StateStore>(case: &Case, bench: &mut Bench<S>, name: &str) -> bool {
     let Some(step) = step_of(name) else {
         return false;
     };
@@ -56,8 +56,32 @@ pub fn take_step<S: StateStore>(case: &Case<'_>, bench: &mut Bench<S>, name: &st
     true
 }
 
+/// A kind of event.
+#[derive(Clone, Copy)]
+enum Kind {
+    Ins,
+    Bound,
+    Dom,
+    DomAny,
+    Posted,
+}
+
+/// Each kind of event with its word.
+const KINDS: [(&str, Kind); 5] = [
+    ("ins", Kind::Ins),
+    ("bound", Kind::Bound),
+    ("dom", Kind::Dom),
+    ("dom_any", Kind::DomAny),
+    ("posted", Kind::Posted),
+];
+
+/// The kind of event with a word.
+fn kind_of(word: &str) -> Option<Kind> {
+    named(&KINDS, word)
+}
+
 /// Makes a call an agent, which waits for events.
-fn suspend<S: StateStore>(case: &Case<'_>, bench: &mut Bench<S>) {
+fn suspend<S: StateStore>(case: &Case, bench: &mut Bench<S>) {
     let rule = case.take_number();
     let call = bench.take(case);
     let mut watches = Watches::new(case.alloc);
@@ -75,16 +99,16 @@ fn suspend<S: StateStore>(case: &Case<'_>, bench: &mut Bench<S>) {
 }
 
 /// Takes the words of an event: a kind, a term, and for some kinds a slot.
-fn take_watch<S: StateStore>(case: &Case<'_>, bench: &mut Bench<S>) -> Watch {
-    let kind = case.take_word();
+fn take_watch<S: StateStore>(case: &Case, bench: &mut Bench<S>) -> Watch {
+    let kind = kind_of(case.take_word());
     let r = bench.take(case);
     match kind {
-        "ins" => Watch::Ins(r),
-        "bound" => Watch::Bound(r),
-        "dom" => Watch::Dom(r, case.take_slot()),
-        "dom_any" => Watch::DomAny(r, case.take_slot()),
-        "posted" => Watch::Posted(r, case.take_slot()),
-        _ => {
+        Some(Kind::Ins) => Watch::Ins(r),
+        Some(Kind::Bound) => Watch::Bound(r),
+        Some(Kind::Dom) => Watch::Dom(r, case.take_slot()),
+        Some(Kind::DomAny) => Watch::DomAny(r, case.take_slot()),
+        Some(Kind::Posted) => Watch::Posted(r, case.take_slot()),
+        None => {
             case.lacks("a kind of event");
             Watch::Ins(r)
         }
@@ -92,7 +116,7 @@ fn take_watch<S: StateStore>(case: &Case<'_>, bench: &mut Bench<S>) -> Watch {
 }
 
 /// Takes the words of an activation, which is to wait: an agent, the number of an event, and maybe a value.
-fn wait<S: StateStore>(case: &Case<'_>, store: &mut S) {
+fn wait<S: StateStore>(case: &Case, store: &mut S) {
     let agent = case.take_number();
     let watch = case.take_number();
     let value = if case.left() > 0 {
@@ -109,7 +133,7 @@ fn wait<S: StateStore>(case: &Case<'_>, store: &mut S) {
 }
 
 /// Takes the first activation that waits, and shows another one that says the same.
-fn take_first<S: StateStore>(case: &Case<'_>, store: &mut S) {
+fn take_first<S: StateStore>(case: &Case, store: &mut S) {
     let taken = store.take_waiting();
     match case.made(taken) {
         Some(Some(activation)) => {
@@ -123,7 +147,7 @@ fn take_first<S: StateStore>(case: &Case<'_>, store: &mut S) {
     }
 }
 
-fn tell_activation(activation: &Activation, case: &Case<'_>) {
+fn tell_activation(activation: &Activation, case: &Case) {
     case.tell_number(activation.agent);
     case.tell(" ");
     case.tell_number(activation.watch);
@@ -134,7 +158,7 @@ fn tell_activation(activation: &Activation, case: &Case<'_>) {
 }
 
 /// Shows the rule and the call of an agent that is alive.
-fn show_agent<S: StateStore>(case: &Case<'_>, store: &S) {
+fn show_agent<S: StateStore>(case: &Case, store: &S) {
     begin(case);
     match store.agent(case.take_number()) {
         Some(agent) => {
@@ -148,7 +172,7 @@ fn show_agent<S: StateStore>(case: &Case<'_>, store: &S) {
 }
 
 /// Shows the events that an agent waits for.
-fn show_watches<S: StateStore>(case: &Case<'_>, store: &S) {
+fn show_watches<S: StateStore>(case: &Case, store: &S) {
     begin(case);
     let watches = store.watches(case.alloc, case.take_number());
     if let Some(watches) = case.made(watches) {
@@ -160,7 +184,7 @@ fn show_watches<S: StateStore>(case: &Case<'_>, store: &S) {
 }
 
 /// Tells an event: its kind, its term, and for some kinds the slot.
-fn tell_watch<S: StateStore>(case: &Case<'_>, store: &S, watch: Watch) {
+fn tell_watch<S: StateStore>(case: &Case, store: &S, watch: Watch) {
     let (kind, r, slot) = match watch {
         Watch::Ins(r) => ("ins ", r, None),
         Watch::Bound(r) => ("bound ", r, None),
@@ -177,7 +201,7 @@ fn tell_watch<S: StateStore>(case: &Case<'_>, store: &S, watch: Watch) {
 }
 
 /// Shows each variable with its domain, how many constraints there are, the rules of the agents, and what waits.
-fn show_state<S: StateStore>(case: &Case<'_>, store: &mut S) {
+fn show_state<S: StateStore>(case: &Case, store: &mut S) {
     begin(case);
     tell_variables(case, store);
     case.tell(" | ");
@@ -188,7 +212,7 @@ fn show_state<S: StateStore>(case: &Case<'_>, store: &mut S) {
     tell_waiting(case, store);
 }
 
-fn tell_variables<S: StateStore>(case: &Case<'_>, store: &S) {
+fn tell_variables<S: StateStore>(case: &Case, store: &S) {
     for n in 0..store.vars() {
         if n > 0 {
             case.tell(", ");
@@ -199,7 +223,7 @@ fn tell_variables<S: StateStore>(case: &Case<'_>, store: &S) {
     }
 }
 
-fn tell_rules<S: StateStore>(case: &Case<'_>, store: &S) {
+fn tell_rules<S: StateStore>(case: &Case, store: &S) {
     for n in 0..store.agents() {
         case.tell(" ");
         match store.agent(n) {
@@ -210,7 +234,7 @@ fn tell_rules<S: StateStore>(case: &Case<'_>, store: &S) {
 }
 
 /// Tells the activations that wait, which are taken and come back.
-fn tell_waiting<S: StateStore>(case: &Case<'_>, store: &mut S) {
+fn tell_waiting<S: StateStore>(case: &Case, store: &mut S) {
     let mark = store.mark();
     let Some(mark) = case.made(mark) else {
         return;

@@ -8,7 +8,7 @@ use pi_cases::{Case, Problem};
 use pi_types::{Cell, Ref, StateStore, Term, Text};
 
 /// Takes a step that calls a built-in, and tells whether it is one.
-pub fn take_step<S: StateStore>(case: &Case<'_>, bench: &mut Bench<S>, name: &str) -> bool {
+pub fn take_step<S: StateStore>(case: &Case, bench: &mut Bench<S>, name: &str) -> bool {
     match name {
         "function" => take_function(case, bench),
         "predicate" => take_predicate(case, bench),
@@ -18,7 +18,7 @@ pub fn take_step<S: StateStore>(case: &Case<'_>, bench: &mut Bench<S>, name: &st
 }
 
 /// Takes a call of a function, and shows its value.
-fn take_function<S: StateStore>(case: &Case<'_>, bench: &mut Bench<S>) {
+fn take_function<S: StateStore>(case: &Case, bench: &mut Bench<S>) {
     let call = bench.take(case);
     let args = arguments(case, &bench.store, call);
     let name = name_of(case, &bench.store, call);
@@ -37,7 +37,7 @@ fn take_function<S: StateStore>(case: &Case<'_>, bench: &mut Bench<S>) {
 }
 
 /// Takes a call of a predicate, and shows what it comes to.
-fn take_predicate<S: StateStore>(case: &Case<'_>, bench: &mut Bench<S>) {
+fn take_predicate<S: StateStore>(case: &Case, bench: &mut Bench<S>) {
     let call = bench.take(case);
     match run_predicate(case.alloc, &mut bench.store, call) {
         LibStep::Yes => show(case, "yes"),
@@ -51,20 +51,20 @@ fn take_predicate<S: StateStore>(case: &Case<'_>, bench: &mut Bench<S>) {
     }
 }
 
-fn show_ball(case: &Case<'_>, ball: &Term) {
+fn show_ball(case: &Case, ball: &Term) {
     show(case, "raised ");
     case.tell_term(ball);
 }
 
 /// The name of a call, which is empty where it has no arguments.
-fn name_of<S: StateStore>(case: &Case<'_>, store: &S, call: Ref) -> Text {
+fn name_of<S: StateStore>(case: &Case, store: &S, call: Ref) -> Text {
     match store.look(call) {
         Cell::Comp(name, _) => case.text(store.name(name)),
         _ => case.text(""),
     }
 }
 
-fn arguments<S: StateStore>(case: &Case<'_>, store: &S, call: Ref) -> Vec<Ref> {
+fn arguments<S: StateStore>(case: &Case, store: &S, call: Ref) -> Vec<Ref> {
     let mut args = Vec::new(case.alloc);
     if let Cell::Comp(_, count) = store.look(call) {
         for i in 0..count {

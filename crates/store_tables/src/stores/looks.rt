@@ -40,7 +40,7 @@ fn step_of(name: &str) -> Option<Step> {
 }
 
 /// Takes a step that looks at terms, and tells whether it is one.
-pub fn take_step<S: StateStore>(case: &Case<'_>, bench: &mut Bench<S>, name: &str) -> bool {
+pub fn take_step<S: StateStore>(case: &Case, bench: &mut Bench<S>, name: &str) -> bool {
     let Some(step) = step_of(name) else {
         return false;
     };
@@ -83,7 +83,7 @@ pub fn take_step<S: StateStore>(case: &Case<'_>, bench: &mut Bench<S>, name: &st
 }
 
 /// Shows how each of some terms stands to each of them.
-fn show_orders<S: StateStore>(case: &Case<'_>, bench: &mut Bench<S>) {
+fn show_orders<S: StateStore>(case: &Case, bench: &mut Bench<S>) {
     let mut terms = Vec::new(case.alloc);
     for _ in 0..case.left() {
         if case.left() > 0 {
@@ -100,7 +100,7 @@ fn show_orders<S: StateStore>(case: &Case<'_>, bench: &mut Bench<S>) {
     }
 }
 
-fn tell_order<S: StateStore>(case: &Case<'_>, store: &S, a: Ref, b: Ref) {
+fn tell_order<S: StateStore>(case: &Case, store: &S, a: Ref, b: Ref) {
     let ordering = compare(case.alloc, store, a, b);
     match case.made(ordering) {
         Some(Ordering::Less) => case.tell("<"),

@@ -28,7 +28,7 @@ fn step_of(name: &str) -> Option<Step> {
 }
 
 /// Takes a step on marks, and tells whether it is one.
-pub fn take_step<S: StateStore>(case: &Case<'_>, bench: &mut Bench<S>, name: &str) -> bool {
+pub fn take_step<S: StateStore>(case: &Case, bench: &mut Bench<S>, name: &str) -> bool {
     let Some(step) = step_of(name) else {
         return false;
     };
@@ -43,7 +43,7 @@ pub fn take_step<S: StateStore>(case: &Case<'_>, bench: &mut Bench<S>, name: &st
 }
 
 /// Comes back to a mark, or shows what has changed since.
-fn go_to_mark<S: StateStore>(case: &Case<'_>, bench: &mut Bench<S>, step: Step) {
+fn go_to_mark<S: StateStore>(case: &Case, bench: &mut Bench<S>, step: Step) {
     let number = case.take_count();
     let Some(mark) = bench.marks.get(number) else {
         return case.lacks("a mark");

@@ -10,7 +10,7 @@ use pi_unify::{Slots, match_head};
 const SLOTS: usize = 2;
 
 /// Takes a step on heads, and tells whether it is one.
-pub fn take_step<S: StateStore>(case: &Case<'_>, bench: &mut Bench<S>, name: &str) -> bool {
+pub fn take_step<S: StateStore>(case: &Case, bench: &mut Bench<S>, name: &str) -> bool {
     match name {
         "slots" => bench.take_slots(case),
         "match" => take_match(case, bench),
@@ -20,7 +20,7 @@ pub fn take_step<S: StateStore>(case: &Case<'_>, bench: &mut Bench<S>, name: &st
 }
 
 /// Takes a pattern and a term, and shows whether they match.
-fn take_match<S: StateStore>(case: &Case<'_>, bench: &mut Bench<S>) {
+fn take_match<S: StateStore>(case: &Case, bench: &mut Bench<S>) {
     let words = case.take_until(":");
     let patterns = patterns_of(case, words);
     let r = bench.take(case);
@@ -31,7 +31,7 @@ fn take_match<S: StateStore>(case: &Case<'_>, bench: &mut Bench<S>) {
 }
 
 /// Shows whether a pattern matches a term, and what the slots hold then.
-fn show_match<S: StateStore>(case: &Case<'_>, bench: &mut Bench<S>, pattern: &Pattern, r: Ref) {
+fn show_match<S: StateStore>(case: &Case, bench: &mut Bench<S>, pattern: &Pattern, r: Ref) {
     let mut slots: Slots = Vec::new(case.alloc);
     for i in 0..SLOTS {
         case.keep(
@@ -49,7 +49,7 @@ fn show_match<S: StateStore>(case: &Case<'_>, bench: &mut Bench<S>, pattern: &Pa
 }
 
 /// Tells what slots hold.
-fn tell_slots<S: StateStore>(case: &Case<'_>, store: &S, slots: &[Option<Ref>]) {
+fn tell_slots<S: StateStore>(case: &Case, store: &S, slots: &[Option<Ref>]) {
     for slot in slots {
         case.tell(", ");
         match *slot {

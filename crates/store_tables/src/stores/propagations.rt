@@ -10,7 +10,7 @@ use pi_states::StoredDomains;
 use pi_types::{Places, Work};
 
 /// Takes a step that propagates, and tells whether it is one.
-pub fn take_step<S: StoredDomains>(case: &Case<'_>, bench: &mut Bench<S>, name: &str) -> bool {
+pub fn take_step<S: StoredDomains>(case: &Case, bench: &mut Bench<S>, name: &str) -> bool {
     match name {
         "propagate" => propagate_all(case, bench),
         "from" => propagate_some(case, bench),
@@ -28,14 +28,14 @@ fn no_work() -> Work {
     }
 }
 
-fn propagate_all<S: StoredDomains>(case: &Case<'_>, bench: &mut Bench<S>) {
+fn propagate_all<S: StoredDomains>(case: &Case, bench: &mut Bench<S>) {
     let limit = case.take_number();
     let mut work = no_work();
     let ends = propagate(case.alloc, &mut bench.store, &mut work, limit);
     show_end(case, ends);
 }
 
-fn propagate_some<S: StoredDomains>(case: &Case<'_>, bench: &mut Bench<S>) {
+fn propagate_some<S: StoredDomains>(case: &Case, bench: &mut Bench<S>) {
     let limit = case.take_number();
     let due = take_places(case);
     let mut work = no_work();
@@ -44,7 +44,7 @@ fn propagate_some<S: StoredDomains>(case: &Case<'_>, bench: &mut Bench<S>) {
 }
 
 /// Takes the numbers of constraints.
-fn take_places(case: &Case<'_>) -> Places {
+fn take_places(case: &Case) -> Places {
     let mut places = Places::new(case.alloc);
     for _ in 0..case.left() {
         if case.left() > 0 {
@@ -55,7 +55,7 @@ fn take_places(case: &Case<'_>) -> Places {
     places
 }
 
-fn show_end(case: &Case<'_>, ends: Result<bool, PropStop>) {
+fn show_end(case: &Case, ends: Result<bool, PropStop>) {
     match ends {
         Ok(true) => show(case, "stable"),
         Ok(false) => show(case, "empty"),

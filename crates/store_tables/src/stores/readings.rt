@@ -10,7 +10,7 @@ use pi_reading::{ConFault, read_constraint};
 use pi_types::StateStore;
 
 /// Takes a step that reads a goal, and tells whether it is one.
-pub fn take_step<S: StateStore>(case: &Case<'_>, bench: &mut Bench<S>, name: &str) -> bool {
+pub fn take_step<S: StateStore>(case: &Case, bench: &mut Bench<S>, name: &str) -> bool {
     let is_reading = bench.reads_goals && name == "read";
     if is_reading {
         take_reading(case, bench);
@@ -19,7 +19,7 @@ pub fn take_step<S: StateStore>(case: &Case<'_>, bench: &mut Bench<S>, name: &st
 }
 
 /// Takes a goal, and shows what it posts.
-fn take_reading<S: StateStore>(case: &Case<'_>, bench: &mut Bench<S>) {
+fn take_reading<S: StateStore>(case: &Case, bench: &mut Bench<S>) {
     let goal = bench.take(case);
     match read_constraint(case.alloc, &bench.store, goal) {
         Ok(posting) => show_posting(case, &posting),
@@ -27,7 +27,7 @@ fn take_reading<S: StateStore>(case: &Case<'_>, bench: &mut Bench<S>) {
     }
 }
 
-fn show_posting(case: &Case<'_>, posting: &Posting) {
+fn show_posting(case: &Case, posting: &Posting) {
     show(case, "");
     case.tell_number(posting.fresh);
     case.tell(" new");
@@ -37,7 +37,7 @@ fn show_posting(case: &Case<'_>, posting: &Posting) {
     }
 }
 
-fn show_fault(case: &Case<'_>, fault: ConFault) {
+fn show_fault(case: &Case, fault: ConFault) {
     match fault {
         ConFault::NotLinear(term) => {
             show(case, "not_a_constraint ");

@@ -5,30 +5,30 @@ use pi_types::{Cell, Domain, Places, ReadStop, Ref, StateStore, Term};
 use std::alloc::AllocError;
 
 /// Makes a place for one more thing that is shown.
-pub fn begin(case: &Case<'_>) {
+pub fn begin(case: &Case) {
     case.begin(" ; ");
 }
 
 /// Shows a word.
-pub fn show(case: &Case<'_>, word: &str) {
+pub fn show(case: &Case, word: &str) {
     begin(case);
     case.tell(word);
 }
 
 /// Shows whether something holds.
-pub fn show_whether(case: &Case<'_>, holds: bool) {
+pub fn show_whether(case: &Case, holds: bool) {
     begin(case);
     case.tell_whether(holds);
 }
 
 /// Shows a number.
-pub fn show_number(case: &Case<'_>, number: u64) {
+pub fn show_number(case: &Case, number: u64) {
     begin(case);
     case.tell_number(number);
 }
 
 /// Shows numbers, where no memory was wanted.
-pub fn show_numbers(case: &Case<'_>, numbers: Result<Places, AllocError>) {
+pub fn show_numbers(case: &Case, numbers: Result<Places, AllocError>) {
     if let Some(numbers) = case.made(numbers) {
         show(case, "[");
         for (i, number) in numbers.as_slice().iter().enumerate() {
@@ -40,7 +40,7 @@ pub fn show_numbers(case: &Case<'_>, numbers: Result<Places, AllocError>) {
 }
 
 /// Shows a domain, or that there is none, where no memory was wanted.
-pub fn show_domain(case: &Case<'_>, domain: Result<Option<Domain>, AllocError>) {
+pub fn show_domain(case: &Case, domain: Result<Option<Domain>, AllocError>) {
     match case.made(domain) {
         Some(Some(domain)) => {
             show(case, "in");
@@ -51,7 +51,7 @@ pub fn show_domain(case: &Case<'_>, domain: Result<Option<Domain>, AllocError>) 
 }
 
 /// A term of a store as it is written down; None where it is too large.
-pub fn read<S: StateStore>(case: &Case<'_>, store: &S, r: Ref) -> Option<Term> {
+pub fn read<S: StateStore>(case: &Case, store: &S, r: Ref) -> Option<Term> {
     match store.read_term(case.alloc, r) {
         Ok(term) => return Some(term),
         Err(ReadStop::TooLarge) => {}
@@ -61,7 +61,7 @@ pub fn read<S: StateStore>(case: &Case<'_>, store: &S, r: Ref) -> Option<Term> {
 }
 
 /// Tells a term of a store in words.
-pub fn tell_read<S: StateStore>(case: &Case<'_>, store: &S, r: Ref) {
+pub fn tell_read<S: StateStore>(case: &Case, store: &S, r: Ref) {
     match read(case, store, r) {
         Some(term) => case.tell_term(&term),
         None => case.tell("too large"),
@@ -69,7 +69,7 @@ pub fn tell_read<S: StateStore>(case: &Case<'_>, store: &S, r: Ref) {
 }
 
 /// Tells what a term of a store is at its root.
-pub fn tell_look<S: StateStore>(case: &Case<'_>, store: &S, r: Ref) {
+pub fn tell_look<S: StateStore>(case: &Case, store: &S, r: Ref) {
     match store.look(r) {
         Cell::Var(n) => case.tell_variable(n),
         Cell::Int(n) => case.tell_integer(n),
@@ -83,7 +83,7 @@ pub fn tell_look<S: StateStore>(case: &Case<'_>, store: &S, r: Ref) {
 }
 
 /// Tells the domain of a variable, where it has one.
-pub fn tell_confined<S: StateStore>(case: &Case<'_>, store: &S, variable: Ref) {
+pub fn tell_confined<S: StateStore>(case: &Case, store: &S, variable: Ref) {
     let domain = store.domain(case.alloc, variable);
     if let Some(Some(domain)) = case.made(domain) {
         case.tell(" in");
@@ -92,7 +92,7 @@ pub fn tell_confined<S: StateStore>(case: &Case<'_>, store: &S, variable: Ref) {
 }
 
 /// Shows the values of the variables, and the domains of those that have one.
-pub fn show_values<S: StateStore>(case: &Case<'_>, store: &S) {
+pub fn show_values<S: StateStore>(case: &Case, store: &S) {
     begin(case);
     for n in 0..store.vars() {
         if n > 0 {

@@ -38,7 +38,7 @@ fn step_of(name: &str) -> Option<Step> {
 }
 
 /// Takes a step on the state, and tells whether it is one.
-pub fn take_step<S: StateStore>(case: &Case<'_>, bench: &mut Bench<S>, name: &str) -> bool {
+pub fn take_step<S: StateStore>(case: &Case, bench: &mut Bench<S>, name: &str) -> bool {
     let Some(step) = step_of(name) else {
         return false;
     };
@@ -62,14 +62,14 @@ pub fn take_step<S: StateStore>(case: &Case<'_>, bench: &mut Bench<S>, name: &st
     true
 }
 
-fn bind<S: StateStore>(case: &Case<'_>, bench: &mut Bench<S>) {
+fn bind<S: StateStore>(case: &Case, bench: &mut Bench<S>) {
     let variable = bench.take(case);
     let term = bench.take(case);
     let bound = bench.store.bind(variable, term);
     case.done(bound);
 }
 
-fn confine<S: StateStore>(case: &Case<'_>, bench: &mut Bench<S>) {
+fn confine<S: StateStore>(case: &Case, bench: &mut Bench<S>) {
     let variable = bench.take(case);
     if let Some(domain) = take_domain(case) {
         let confined = bench.store.set_domain(variable, &domain);
@@ -77,7 +77,7 @@ fn confine<S: StateStore>(case: &Case<'_>, bench: &mut Bench<S>) {
     }
 }
 
-fn try_changes<S: StateStore>(case: &Case<'_>, store: &mut S) {
+fn try_changes<S: StateStore>(case: &Case, store: &mut S) {
     if let Some(domain) = take_domain(case) {
         let tried = changes_are_undone(store, &domain);
         case.done(tried);
@@ -85,11 +85,11 @@ fn try_changes<S: StateStore>(case: &Case<'_>, store: &mut S) {
 }
 
 /// Takes the domain that the words of a step are.
-fn take_domain(case: &Case<'_>) -> Option<Domain> {
+fn take_domain(case: &Case) -> Option<Domain> {
     spans_of(case, case.take_rest())
 }
 
-fn post<S: StateStore>(case: &Case<'_>, store: &mut S) {
+fn post<S: StateStore>(case: &Case, store: &mut S) {
     match take_constraint(case, case.take_word()) {
         Some(constraint) => {
             let posted = store.post(&constraint);
@@ -101,7 +101,7 @@ fn post<S: StateStore>(case: &Case<'_>, store: &mut S) {
 }
 
 /// Shows a constraint that was posted.
-fn show_constraint<S: StateStore>(case: &Case<'_>, store: &S) {
+fn show_constraint<S: StateStore>(case: &Case, store: &S) {
     let number = case.take_number();
     if number >= store.constraints() {
         return case.lacks("a constraint that was posted");

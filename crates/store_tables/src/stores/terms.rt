@@ -35,7 +35,7 @@ fn step_of(name: &str) -> Option<Step> {
 }
 
 /// Takes a step that makes terms, and tells whether it is one.
-pub fn take_step<S: StateStore>(case: &Case<'_>, bench: &mut Bench<S>, name: &str) -> bool {
+pub fn take_step<S: StateStore>(case: &Case, bench: &mut Bench<S>, name: &str) -> bool {
     let Some(step) = step_of(name) else {
         return false;
     };
@@ -58,7 +58,7 @@ pub fn take_step<S: StateStore>(case: &Case<'_>, bench: &mut Bench<S>, name: &st
     true
 }
 
-fn new_variables<S: StateStore>(case: &Case<'_>, store: &mut S) {
+fn new_variables<S: StateStore>(case: &Case, store: &mut S) {
     for _ in 0..case.take_number() {
         let made = store.new_var();
         case.done(made);
@@ -66,19 +66,19 @@ fn new_variables<S: StateStore>(case: &Case<'_>, store: &mut S) {
 }
 
 /// Places a term.
-fn place_taken<S: StateStore>(case: &Case<'_>, bench: &mut Bench<S>) {
+fn place_taken<S: StateStore>(case: &Case, bench: &mut Bench<S>) {
     if let Some(term) = case.take_term() {
         place_term(case, bench, &term);
     }
 }
 
-fn place_term<S: StateStore>(case: &Case<'_>, bench: &mut Bench<S>, term: &Term) {
+fn place_term<S: StateStore>(case: &Case, bench: &mut Bench<S>, term: &Term) {
     let made = place(case.alloc, &mut bench.store, term);
     case.keep_made(made, &mut bench.terms);
 }
 
 /// Places a term of the store once more, as it reads.
-fn place_again<S: StateStore>(case: &Case<'_>, bench: &mut Bench<S>) {
+fn place_again<S: StateStore>(case: &Case, bench: &mut Bench<S>) {
     let r = bench.take(case);
     match read(case, &bench.store, r) {
         Some(term) => place_term(case, bench, &term),
@@ -87,7 +87,7 @@ fn place_again<S: StateStore>(case: &Case<'_>, bench: &mut Bench<S>) {
 }
 
 /// Copies a term, where that isn't too large.
-fn copy<S: StateStore>(case: &Case<'_>, bench: &mut Bench<S>) {
+fn copy<S: StateStore>(case: &Case, bench: &mut Bench<S>) {
     let r = bench.take(case);
     match copy_term(case.alloc, &mut bench.store, r) {
         Ok(made) => {
@@ -99,7 +99,7 @@ fn copy<S: StateStore>(case: &Case<'_>, bench: &mut Bench<S>) {
     }
 }
 
-fn unify_two<S: StateStore>(case: &Case<'_>, bench: &mut Bench<S>) {
+fn unify_two<S: StateStore>(case: &Case, bench: &mut Bench<S>) {
     let a = bench.take(case);
     let b = bench.take(case);
     let is_equal = unify(case.alloc, &mut bench.store, a, b);
