@@ -5,7 +5,6 @@ use pi_terms::{Series, Term, Text};
 
 /// What an argument of a call has to look like. A slot takes whatever stands there, and where it is filled already, an
 /// identical term.
-#[derive(Drop)]
 pub enum Pattern {
     Slot(u32),
     Int(i128),
@@ -13,6 +12,19 @@ pub enum Pattern {
     Comp(Text, Patterns),
     /// A slot for what the pattern matches as a whole.
     Named(u32, Box<Pattern>),
+}
+
+// By hand, so that letting one go is a call and not its parts at each way out.
+impl Drop for Pattern {
+    fn drop(self) {
+        match self {
+            Pattern::Slot(_) => {}
+            Pattern::Int(_) => {}
+            Pattern::Atom(_) => {}
+            Pattern::Comp(_, _) => {}
+            Pattern::Named(_, _) => {}
+        }
+    }
 }
 
 /// The patterns of a head, from the left.
@@ -32,7 +44,6 @@ pub enum SlotWatch {
 pub type SlotWatches = Series<SlotWatch>;
 
 /// A clause of the core language. In its terms `Var(k)` stands for slot k, for k below `slots`.
-#[derive(Drop)]
 pub struct CoreClause {
     pub head: Patterns,
     /// The condition; `truth` stands for none. A condition that is written `true` is a `seq` of `truth` alone: what waits
@@ -48,11 +59,25 @@ pub struct CoreClause {
     pub slots: u32,
 }
 
+// By hand, so that letting one go is a call and not its parts at each way out.
+impl Drop for CoreClause {
+    fn drop(self) {
+        let CoreClause {
+            head: _,
+            guard: _,
+            back: _,
+            watches: _,
+            body: _,
+            value: _,
+            slots: _,
+        } = self;
+    }
+}
+
 /// The clauses of a predicate, in order.
 pub type CoreClauses = Series<CoreClause>;
 
 /// A predicate or a function of the core language.
-#[derive(Drop)]
 pub struct CorePred {
     pub name: Text,
     pub arity: u32,
@@ -63,20 +88,46 @@ pub struct CorePred {
     pub clauses: CoreClauses,
 }
 
+// By hand, so that letting one go is a call and not its parts at each way out.
+impl Drop for CorePred {
+    fn drop(self) {
+        let CorePred {
+            name: _,
+            arity: _,
+            function: _,
+            quiet: _,
+            decl: _,
+            clauses: _,
+        } = self;
+    }
+}
+
 /// Predicates and functions, in order.
 pub type CorePreds = Series<CorePred>;
 
 /// A program of the core language.
-#[derive(Drop)]
 pub struct CoreProgram {
     pub preds: CorePreds,
 }
 
+// By hand, so that letting one go is a call and not its parts at each way out.
+impl Drop for CoreProgram {
+    fn drop(self) {
+        let CoreProgram { preds: _ } = self;
+    }
+}
+
 /// A named variable of a goal, and the slot of its last value.
-#[derive(Drop)]
 pub struct NameSlot {
     pub name: Text,
     pub slot: u32,
+}
+
+// By hand, so that letting one go is a call and not its parts at each way out.
+impl Drop for NameSlot {
+    fn drop(self) {
+        let NameSlot { name: _, slot: _ } = self;
+    }
 }
 
 /// The named variables of a goal, in the order of their first occurrences.

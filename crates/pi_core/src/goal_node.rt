@@ -6,16 +6,21 @@ use pi_terms::{Args, Term, Text};
 use std::alloc::{AllocError, Global};
 
 /// A cell of a goal: one node, in prefix order, and the number of nodes of the goal that begins with it.
-#[derive(Drop)]
 pub struct GoalCell {
     pub kind: GoalKind,
     pub size: usize,
 }
 
+// By hand, so that letting one go is a call and not its parts at each way out.
+impl Drop for GoalCell {
+    fn drop(self) {
+        let GoalCell { kind: _, size: _ } = self;
+    }
+}
+
 /// What a node is, with its texts, terms and slots; of `Seq` and `Alt` the number of child goals. It owns its parts and
 /// stays in here; a look lends them as a `GoalNode`, by `node` alone. One generic enum for both would give each lemma over
 /// kinds three types more.
-#[derive(Drop)]
 pub enum GoalKind {
     True,
     Fail,
@@ -30,6 +35,27 @@ pub enum GoalKind {
     Collect(u32, u32),
     Count(u32),
     Catch(Term),
+}
+
+// By hand, so that letting one go is a call and not its parts at each way out.
+impl Drop for GoalKind {
+    fn drop(self) {
+        match self {
+            GoalKind::True => {}
+            GoalKind::Fail => {}
+            GoalKind::Tick => {}
+            GoalKind::Call(_, _) => {}
+            GoalKind::Apply(_, _, _) => {}
+            GoalKind::Seq(_) => {}
+            GoalKind::Alt(_) => {}
+            GoalKind::If => {}
+            GoalKind::Not => {}
+            GoalKind::Once => {}
+            GoalKind::Collect(_, _) => {}
+            GoalKind::Count(_) => {}
+            GoalKind::Catch(_) => {}
+        }
+    }
 }
 
 impl GoalCell {

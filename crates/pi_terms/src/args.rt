@@ -6,9 +6,15 @@ use std::alloc::{AllocError, Global};
 use std::marker::Model;
 
 /// The arguments of a call, from the left. A contract sees the list of their trees.
-#[derive(Drop)]
 pub struct Args {
     terms: Vec<Term>,
+}
+
+// By hand, so that letting one go is a call and not its parts at each way out.
+impl Drop for Args {
+    fn drop(self) {
+        let Args { terms: _ } = self;
+    }
 }
 
 impl Model for Args {

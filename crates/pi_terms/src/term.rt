@@ -11,13 +11,24 @@ use std::alloc::{AllocError, Global};
 use std::marker::Model;
 
 /// A cell of a term: one node, in prefix order.
-#[derive(Drop)]
 pub enum TermCell {
     Var(u64),
     Int(i128),
     Atom(Text),
     /// Its name, the number of its arguments, and the number of cells of the whole compound.
     Comp(Text, usize, usize),
+}
+
+// By hand, so that letting one go is a call and not its parts at each way out.
+impl Drop for TermCell {
+    fn drop(self) {
+        match self {
+            TermCell::Var(_) => {}
+            TermCell::Int(_) => {}
+            TermCell::Atom(_) => {}
+            TermCell::Comp(_, _, _) => {}
+        }
+    }
 }
 
 impl TermCell {
@@ -71,9 +82,15 @@ pub enum TermHead<'a> {
 
 /// A term as it is written down and handed from layer to layer: one flat vector of cells in prefix order, which a
 /// contract sees as a tree.
-#[derive(Drop)]
 pub struct Term {
     cells: Vec<TermCell>,
+}
+
+// By hand, so that letting one go is a call and not its parts at each way out.
+impl Drop for Term {
+    fn drop(self) {
+        let Term { cells: _ } = self;
+    }
 }
 
 impl Model for Term {
