@@ -177,11 +177,21 @@ fn push_catch<'a>(
 }
 
 /// Where the parts of a `catch` stand: what is caught first, then the goal, then what is done then.
-#[derive(Drop)]
 pub(crate) struct CatchSites<'a> {
     pub(crate) ball: Site<'a>,
     pub(crate) goal: Site<'a>,
     pub(crate) handler: Site<'a>,
+}
+
+// By hand, so that letting one go is a call and not its parts at each way out.
+impl<'a> Drop for CatchSites<'a> {
+    fn drop(self) {
+        let CatchSites {
+            ball: _,
+            goal: _,
+            handler: _,
+        } = self;
+    }
 }
 
 /// Where the parts of a `catch` stand.
