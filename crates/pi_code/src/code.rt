@@ -125,7 +125,6 @@ pub struct Predicate {
 
 /// A program and a goal in flat tables, with each call resolved. The patterns of heads stay where they are in the
 /// program.
-#[derive(Drop)]
 pub struct Code<'p> {
     pub core: &'p CoreProgram,
     /// The predicates that were made for the goal alone, behind those of the program.
@@ -141,6 +140,25 @@ pub struct Code<'p> {
     pub callables: Callables,
     /// By which keys facts are found.
     pub keys: FactKeys,
+}
+
+// By hand, so that letting one go is a call and not its parts at each way out.
+impl<'p> Drop for Code<'p> {
+    fn drop(self) {
+        let Code {
+            core: _,
+            helpers: _,
+            steps: _,
+            operands: _,
+            parts: _,
+            names: _,
+            tests: _,
+            rules: _,
+            predicates: _,
+            callables: _,
+            keys: _,
+        } = self;
+    }
 }
 
 impl Code<'_> {
