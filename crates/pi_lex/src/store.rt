@@ -33,11 +33,21 @@ pub(crate) struct Lexeme {
     line: u32,
 }
 
-#[derive(Drop)]
 pub(crate) struct Store {
     buffer: String,
     numbers: Vec<i128>,
     lexemes: Vec<Lexeme>,
+}
+
+// By hand, so that letting one go is a call and not its parts at each way out.
+impl Drop for Store {
+    fn drop(self) {
+        let Store {
+            buffer: _,
+            numbers: _,
+            lexemes: _,
+        } = self;
+    }
 }
 
 impl Store {
