@@ -1,5 +1,5 @@
 //! A run: its store, its arenas, and what comes next.
-ghost use Rattle.std.specs.Prelude.{◌≡◌, Some, Box};
+ghost use Rattle.std.specs.Prelude.{◌≡◌, Some, Box, IfSome};
 ghost use Rattle.std.specs.Global.{Global};
 ghost use Rattle.pi_terms.specs.Tree.{Tree};
 ghost use Rattle.pi_arenas.specs.declared.run.Now.{Now};
@@ -61,7 +61,8 @@ impl Drop for Now {
 impl Now {
     /// The ball that is raised, where one is.
     pub fn into_ball(self) -> Option<Term>
-        ensures { (ball : Tree) → self ≡ Raising ball → result ≡ Some ball }
+        ensures raised { (ball : Tree) → self ≡ Raising ball → result ≡ Some ball }
+        ensures is { IfSome result (λ ball. self ≡ Raising ball) }
     {
         match self {
             Now::Raising(ball) => Some(ball),
@@ -74,7 +75,8 @@ impl Now {
 
     /// The text that is told, where one is.
     pub fn into_telling(self) -> Option<Box<Telling>>
-        ensures { (told : Box Telling Global) → self ≡ Now.Telling told → result ≡ Some told }
+        ensures told { (told : Box Telling Global) → self ≡ Now.Telling told → result ≡ Some told }
+        ensures is { IfSome result (λ told. self ≡ Now.Telling told) }
     {
         match self {
             Now::Telling(told) => Some(told),

@@ -1,8 +1,14 @@
-mod KindLemmas
+pub mod BuildLemmas
 mod ClosedLemmas
+pub mod CollectionLemmas
 mod EqualityLemmas
-mod NamingLemmas
-mod NamedLemmas
 mod FunctionTables
-mod PredicateTables
+mod KindLemmas
+mod NamedLemmas
 mod NamesLemmas
+mod NamingLemmas
+pub mod PartLemmas
+mod PredicateTables
+pub mod RowLemmas
+pub mod TotalLemmas
+pub mod WalkLemmas

@@ -1,6 +1,7 @@
-pub mod Relations
-pub mod Kinds
 pub mod Closed
-pub mod Ordered
+pub mod Items
+pub mod Kinds
 pub mod Names
+pub mod Ordered
+pub mod Relations
 pub mod Resolved

@@ -7,8 +7,8 @@ use Rattle.pi_states.specs.State.{State}
 use Rattle.pi_states.specs.Store.{StoreView, IsTerm}
 use Rattle.pi_states.specs.declared.store.Ref.{Ref}
 use Rattle.pi_effects.specs.Sorting.{lesser, greater}
-use Rattle.pi_lists.specs.Items.{AreItems, ShowsItem}
-use Rattle.pi_lists.proofs.RowLemmas.{as-many, ItemAt, item-at, none-behind}
+use Rattle.pi_builtin.specs.Items.{AreItems, ShowsItem}
+use Rattle.pi_builtin.proofs.RowLemmas.{as-many, ItemAt, item-at, none-behind}
 use Rattle.pi_calls.specs.Extremes.{extreme_of, beats}
 use Rattle.pi_calls.specs.declared.extremes.End.{End}
 

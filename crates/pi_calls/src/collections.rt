@@ -11,9 +11,10 @@ ghost use Rattle.pi_builtin.specs.Names.{collection_name};
 
 use crate::extremes::{greatest, least};
 use crate::sorting::{remove_dups, sort, sort_remove_dups};
-use pi_builtin::FunctionOfCollection;
+use pi_builtin::{
+    FunctionOfCollection, first, head, last, length, product, reverse, sum, tail, to_array, to_list,
+};
 use pi_effects::Stop;
-use pi_lists::{first, head, last, length, product, reverse, sum, tail, to_array, to_list};
 use pi_states::{Ref, StateStore};
 use std::alloc::Global;
 

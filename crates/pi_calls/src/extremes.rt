@@ -6,11 +6,11 @@ ghost use Rattle.pi_effects.specs.Collections.{collection_then, item_or_first_in
 ghost use Rattle.pi_effects.specs.Sorting.{least as least_of, greatest as greatest_of};
 ghost use Rattle.pi_effects.specs.Results.{ShowsTerm};
 ghost use Rattle.pi_unify.specs.Terms.{HoldsNoCycle};
-ghost use Rattle.pi_lists.specs.Items.{AreItems, ShowsItem};
+ghost use Rattle.pi_builtin.specs.Items.{AreItems, ShowsItem};
 ghost use Rattle.pi_calls.specs.Extremes.{beats, extreme_of};
 
+use pi_builtin::collection_items;
 use pi_effects::{Fault, Stop};
-use pi_lists::collection_items;
 use pi_states::{Ref, StateStore};
 use pi_unify::compare;
 use std::alloc::{AllocError, Global};

@@ -18,11 +18,10 @@ use crate::ranges::{range, range_by, range_count};
 use crate::variables::{new_array, new_list};
 use pi_arith::Op;
 use pi_builtin::{
-    Function, FunctionOfOne, FunctionOfTwo, arity_of, evaluate_one, evaluate_two, greatest, least,
-    name_of, same_integer,
+    Function, FunctionOfOne, FunctionOfTwo, append, arity_of, delete_all, evaluate_one,
+    evaluate_two, greatest, in_order, item_at, least, name_of, same_integer, zip,
 };
 use pi_effects::Stop;
-use pi_lists::{append, delete_all, in_order, item_at, zip};
 use pi_states::{Ref, StateStore};
 use std::alloc::Global;
 

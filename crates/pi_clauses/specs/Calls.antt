@@ -3,9 +3,9 @@
 use Rattle.std.specs.Prelude.{ℕ, Bool, true, false, not, ◌&&◌, ◌||◌, ◌==◌, nat_le, if◌then◌else◌, List, [], ◌∷◌, ◌++◌, Option, Some, None, codes}
 use Rattle.std.specs.List.{list_any}
 use Rattle.std.specs.Str.{bytes_eq}
-use Rattle.pi_lib.specs.declared.builtin.BuiltinKind.{BuiltinKind}
-use Rattle.pi_lib.specs.Forms.{is_form}
-use Rattle.pi_lib.specs.Names.{kind_of}
+use Rattle.pi_syntax.specs.declared.builtin.BuiltinKind.{BuiltinKind}
+use Rattle.pi_syntax.specs.Forms.{is_form}
+use Rattle.pi_syntax.specs.Names.{kind_of}
 use Rattle.pi_syntax.specs.ExpTree.{ExpTree, atom, call}
 use Rattle.pi_syntax.specs.Signature.{exp_count}
 use Rattle.pi_clauses.specs.Operators.{is_boolean_call}

@@ -3,7 +3,7 @@
 use Rattle.std.specs.Prelude.{◌≡◌, ℕ, ◌+◌, suc, Bool, false, not, ◌&&◌, ◌||◌, ◌==◌, nat_lt, if◌then◌else◌, List, [], ◌∷◌, ◌++◌, length, map, Option, Some, None, is_some}
 use Rattle.std.specs.List.{list_any}
 use Rattle.std.specs.Str.{bytes_eq}
-use Rattle.pi_lib.specs.Names.{kind_of}
+use Rattle.pi_syntax.specs.Names.{kind_of}
 use Rattle.pi_syntax.specs.ProgramTree.{WrittenClause, PartTree, ProgramTree}
 use Rattle.pi_syntax.specs.Signature.{Signature, signature}
 use Rattle.pi_syntax.specs.Tokens.{Token}

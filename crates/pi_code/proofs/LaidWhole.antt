@@ -4,7 +4,7 @@ use Rattle.std.specs.Prelude.{slice_get, AllPairs}
 use Rattle.pi_meaning.specs.Sound.{IsAnother}
 use Rattle.pi_code.specs.declared.callables.Callables.{Callables}
 use Rattle.pi_code.specs.Callables.{AreCallable}
-use Rattle.pi_keys.specs.declared.fact_keys.FactKeys.{FactKeys}
+use Rattle.pi_code.specs.declared.fact_keys.FactKeys.{FactKeys}
 use Rattle.pi_code.specs.Keyed.{AreKeyed}
 use Rattle.std.proofs.lemmas.List.{length-map, map-append}
 use Rattle.pi_states.specs.State.{bindings}

@@ -1,9 +1,9 @@
 -- The keys by which facts are found: what a fact's test says of its place, each fact of a predicate has as a key in the places by which the predicate's facts are found.
 use Rattle.std.specs.Prelude.{◌≡◌, ℕ, ◌+◌, ◌≤◌, ◌<◌, List, Some, slice_get, Contains}
-use Rattle.pi_keys.specs.declared.fact_keys.FactKeys.{FactKeys}
-use Rattle.pi_keys.specs.declared.key.FactPlace.{FactPlace}
-use Rattle.pi_keys.specs.declared.key.FactValue.{FactValue}
-use Rattle.pi_keys.specs.Keys.{Has, places_in}
+use Rattle.pi_code.specs.declared.fact_keys.FactKeys.{FactKeys}
+use Rattle.pi_code.specs.declared.key.FactPlace.{FactPlace}
+use Rattle.pi_code.specs.declared.key.FactValue.{FactValue}
+use Rattle.pi_code.specs.Keys.{Has, places_in}
 use Rattle.pi_code.specs.declared.code.HeadTest.{HeadTest}
 use Rattle.pi_code.specs.declared.code.Rule.{Rule}
 use Rattle.pi_code.specs.declared.code.Predicate.{Predicate}

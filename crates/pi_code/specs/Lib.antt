@@ -1,6 +1,8 @@
-pub mod Code
-pub mod Laid
-pub mod Numbers
-pub mod LaidRules
 pub mod Callables
+pub mod Code
 pub mod Keyed
+pub mod Keys
+pub mod Laid
+pub mod LaidRules
+pub mod Numbers
+pub mod Order

@@ -18,10 +18,10 @@ mod terms;
 
 use crate::callables::Callables;
 use crate::code::Code;
+use crate::fact_keys::FactKeys;
 use keys::fact_keys;
 use numbers::Numbers;
 use pi_core::{CoreGoal, CorePred, CorePreds, CoreProgram};
-use pi_keys::FactKeys;
 use pi_states::StateStore;
 use std::alloc::{AllocError, Global};
 

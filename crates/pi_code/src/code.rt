@@ -8,9 +8,9 @@ ghost use Rattle.pi_code.specs.Callables.{place_in};
 ghost use Rattle.pi_code.specs.Code.{tables_of, preds_of, step_cell, StandsAt, child_place};
 
 use crate::callables::Callables;
+use crate::fact_keys::FactKeys;
 use pi_builtin::{Function, Predicate as BuiltInPredicate};
 use pi_core::{CorePred, CorePreds, CoreProgram, Pattern};
-use pi_keys::FactKeys;
 use pi_states::Ref;
 use pi_terms::Text;
 

@@ -4,7 +4,11 @@
 mod build;
 mod callables;
 mod code;
+mod fact_keys;
+mod key;
 
 pub use build::build_code;
 pub use callables::{Callable, Callables};
 pub use code::{Code, HeadTest, Node, Operand, Part, Predicate, Rule, Step};
+pub use fact_keys::FactKeys;
+pub use key::{FactPlace, FactValue};

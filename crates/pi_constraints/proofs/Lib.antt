@@ -1,3 +1,8 @@
-pub mod SpanLemmas
-pub mod DomainLemmas
+pub mod ClipLemmas
 pub mod CommonLemmas
+pub mod DomainLemmas
+pub mod ExtremeLemmas
+pub mod JoinLemmas
+pub mod MeetLemmas
+pub mod SizeLemmas
+pub mod SpanLemmas

@@ -2,10 +2,20 @@
 #![tactic(auto)]
 
 mod constraint;
+mod cuts;
 mod domain;
+mod fault;
 pub mod laws;
+mod make;
+mod meets;
+mod reads;
 mod var_domain;
 
 pub use constraint::{Constraint, Constraints, Item, Items, LinTerm, LinTerms, Rel};
+pub use cuts::{cut_above, cut_below, remove};
 pub use domain::{Domain, Domains, MAX_VALUE, Span};
+pub use fault::DomFault;
+pub use make::{of_list, of_span};
+pub use meets::meet;
+pub use reads::{contains, max, min, size};
 pub use var_domain::{VarDomain, VarDomains};

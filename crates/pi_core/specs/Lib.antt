@@ -1,3 +1,4 @@
-pub mod GoalTree
-pub mod GoalCells
+pub mod AnswerVariables
 pub mod CoreTree
+pub mod GoalCells
+pub mod GoalTree

@@ -6,7 +6,7 @@ ghost use Rattle.pi_core.specs.CoreTree.{PredTree, QueryTree, program_tree, quer
 ghost use Rattle.pi_meaning.specs.Run.{Solution};
 ghost use Rattle.pi_meaning.specs.Sound.{IsSoundQuery};
 ghost use Rattle.pi_meaning.specs.Defined.{QueryCallsDefined, NamesAreFree};
-ghost use Rattle.pi_traces.specs.Trace.{Emitted};
+ghost use Rattle.pi_meaning.specs.Trace.{Emitted};
 ghost use Rattle.pi_meaning.specs.View.{View};
 ghost use Rattle.pi_machine.specs.Budget.{Counts, IsWithin};
 ghost use Rattle.pi_machine.specs.Built.{AreOfRules};

@@ -18,10 +18,9 @@ ghost use Rattle.pi_stands.specs.Goes.{IsIn, IsSpent, PointIsDone};
 ghost use Rattle.pi_engine.specs.Happens.{IsBuiltSoFar};
 ghost use Rattle.pi_engine.specs.Turns.{StepIs, StepStops, stopped_run, NextComes, IsRunning, RunsAfter, IsAnswered, RepeatsEnd, Lasts, IsRaised};
 
-use pi_answers::Answer;
 use pi_arenas::{End, Now, Point, Run, Telling};
 use pi_code::Code;
-use pi_core::NameSlot;
+use pi_core::{Answer, NameSlot};
 use pi_machine::{Budget, Happening, Mode};
 use pi_states::StateStore;
 use pi_steps::{answer, answer_level, fail, run_goal, unwind};

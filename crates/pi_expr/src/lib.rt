@@ -1,10 +1,17 @@
 //! Expressions.
 #![tactic(auto)]
 
+mod arguments;
+mod blocks;
+mod close;
 mod crowding;
+pub mod enter;
 mod fault;
+pub mod go_on;
 mod laws;
+mod made;
 mod reader;
+pub mod resume;
 mod signs;
 
 pub use crowding::is_crowded;

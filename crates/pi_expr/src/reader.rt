@@ -12,12 +12,12 @@ ghost use Rattle.pi_phrases.specs.Turns.{ShowsTurn};
 ghost use Rattle.pi_expr.specs.States.{ShowsStack, ShowsState, ShowsOutcome, ShowsResult, EndsAs};
 
 use crate::crowding::is_crowded;
+use crate::enter::enter;
 use crate::fault::ExpFault;
+use crate::go_on::go_on;
+use crate::resume::resume;
 use crate::signs::terminals;
 use pi_lex::Tokens;
-use pi_openings::enter::enter;
-use pi_openings::go_on::go_on;
-use pi_operands::resume::resume;
 use pi_phrases::{Built, Frame, Phrase, Terminal, Turn, reach};
 use pi_syntax::Exp;
 use std::alloc::{AllocError, Global};

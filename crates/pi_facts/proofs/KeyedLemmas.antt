@@ -18,9 +18,9 @@ use Rattle.pi_states.proofs.KeepsLemmas.{args-below}
 use Rattle.pi_core.specs.CoreTree.{clause_tree, pattern_tree}
 use Rattle.pi_core.specs.declared.core_program.CoreClause.{CoreClause}
 use Rattle.pi_machine.specs.Step.{with_fact}
-use Rattle.pi_keys.specs.declared.fact_keys.FactKeys.{FactKeys}
-use Rattle.pi_keys.specs.declared.key.FactValue.{FactValue}
-use Rattle.pi_keys.specs.Keys.{Has, places_in}
+use Rattle.pi_code.specs.declared.fact_keys.FactKeys.{FactKeys}
+use Rattle.pi_code.specs.declared.key.FactValue.{FactValue}
+use Rattle.pi_code.specs.Keys.{Has, places_in}
 use Rattle.pi_facts.specs.Roots.{Differs}
 use Rattle.pi_facts.specs.Keyed.{IsShown, at_place, HasKey, HaveKeys, NoneBetween, sought}
 use Rattle.pi_facts.proofs.RootLemmas.{no-fact, shown-at}

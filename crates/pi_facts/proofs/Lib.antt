@@ -1,7 +1,9 @@
-pub mod HeadLemmas
-pub mod TryingLemmas
-pub mod ModeLemmas
-pub mod LeaveLemmas
+mod CalledLemmas
 pub mod CellLemmas
-pub mod RootLemmas
+pub mod HeadLemmas
 pub mod KeyedLemmas
+pub mod LeaveLemmas
+pub mod ModeLemmas
+mod NameTests
+pub mod RootLemmas
+pub mod TryingLemmas

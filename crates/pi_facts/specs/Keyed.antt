@@ -8,10 +8,10 @@ use Rattle.pi_core.specs.CoreTree.{clause_tree, pattern_tree}
 use Rattle.pi_core.specs.declared.core_program.CoreClause.{CoreClause}
 use Rattle.pi_core.specs.declared.core_program.Pattern.{Pattern}
 use Rattle.pi_machine.specs.Step.{with_fact}
-use Rattle.pi_keys.specs.declared.fact_keys.FactKeys.{FactKeys}
-use Rattle.pi_keys.specs.declared.key.FactPlace.{FactPlace}
-use Rattle.pi_keys.specs.declared.key.FactValue.{FactValue}
-use Rattle.pi_keys.specs.Keys.{Has, places_in}
+use Rattle.pi_code.specs.declared.fact_keys.FactKeys.{FactKeys}
+use Rattle.pi_code.specs.declared.key.FactPlace.{FactPlace}
+use Rattle.pi_code.specs.declared.key.FactValue.{FactValue}
+use Rattle.pi_code.specs.Keys.{Has, places_in}
 
 -- a pattern shows this, where atoms are numbers of names
 abbrev pub IsShown : List (List ℕ) → PatternTree → FactValue → Type 0

@@ -1,5 +1,6 @@
+pub mod Called
 pub mod Heads
-pub mod Trying
+pub mod Keyed
 pub mod Modes
 pub mod Roots
-pub mod Keyed
+pub mod Trying

@@ -4,9 +4,9 @@ use Rattle.std.proofs.Common.{arith, tests, eqb-true, ◌∙◌, ap, sym, subst}
 use Rattle.std.proofs.lemmas.Int.{ints}
 use Rattle.std.proofs.Math.IntN.{*ℤ-zero}
 use Rattle.pi_arith.specs.Range.{has_128_bits}
-use Rattle.pi_postings.specs.Sums.{Ascend, coefficient}
-use Rattle.pi_postings.specs.Steps.{have_128_bits}
-use Rattle.pi_postings.proofs.SumLemmas.{distributes_left}
+use Rattle.pi_filters.specs.PostingSums.{Ascend, coefficient}
+use Rattle.pi_filters.specs.Steps.{have_128_bits}
+use Rattle.pi_filters.proofs.PostingSumLemmas.{distributes_left}
 use Rattle.pi_finished.specs.declared.coefficient.Coefficient.{Coefficient}
 use Rattle.pi_finished.specs.declared.sum_limits.Limits.{Limits}
 use Rattle.pi_finished.specs.declared.stop.SumStop.{SumStop}

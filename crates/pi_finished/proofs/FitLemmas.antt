@@ -3,7 +3,7 @@ use Rattle.std.specs.Prelude.{◌≡◌, ℕ, zero, suc, ◌+◌, ◌==◌, Bool
 use Rattle.std.proofs.Common.{arith, ◌∙◌, ap, sym, tests}
 use Rattle.std.proofs.lemmas.Int.{ints}
 use Rattle.pi_arith.specs.Range.{has_128_bits}
-use Rattle.pi_postings.specs.Steps.{have_128_bits}
+use Rattle.pi_filters.specs.Steps.{have_128_bits}
 use Rattle.pi_finished.specs.declared.coefficient.Coefficient.{Coefficient}
 use Rattle.pi_finished.specs.Signed.{signed}
 use Rattle.pi_finished.specs.Kept.{counted, terms_of, one_where, is_least, limit_of, limits_of}

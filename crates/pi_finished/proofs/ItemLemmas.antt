@@ -4,8 +4,8 @@ use Rattle.std.proofs.Common.{arith, ◌∙◌, ap, sym, subst}
 use Rattle.pi_constraints.specs.Constraint.{most_items}
 use Rattle.pi_constraints.specs.declared.constraint.Item.{Item}
 use Rattle.pi_constraints.specs.declared.constraint.Constraint.{Constraint}
-use Rattle.pi_postings.specs.Steps.{Refusal, too_many_terms, wide_coefficient, Made}
-use Rattle.pi_postings.specs.Limits.{is_value, are_values, refusal_of}
+use Rattle.pi_filters.specs.Steps.{Refusal, too_many_terms, wide_coefficient, Made}
+use Rattle.pi_filters.specs.Limits.{is_value, are_values, refusal_of}
 use Rattle.pi_finished.specs.declared.items.JudgedItems.{JudgedItems}
 use Rattle.pi_finished.specs.declared.limits.Limit.{Limit}
 use Rattle.pi_finished.specs.declared.making.Making.{Making}

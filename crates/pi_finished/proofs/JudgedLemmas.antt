@@ -3,8 +3,8 @@ use Rattle.std.specs.Prelude.{◌≡◌, ℕ, suc, ◌<◌, ◌==◌, Bool, true
 use Rattle.std.proofs.Common.{arith, eqb-true, ◌∙◌, ap, sym, subst}
 use Rattle.std.proofs.lemmas.Int.{ints}
 use Rattle.pi_arith.specs.Range.{has_128_bits}
-use Rattle.pi_postings.specs.Sums.{Ascend, coefficient}
-use Rattle.pi_postings.specs.Steps.{have_128_bits}
+use Rattle.pi_filters.specs.PostingSums.{Ascend, coefficient}
+use Rattle.pi_filters.specs.Steps.{have_128_bits}
 use Rattle.pi_finished.specs.declared.stop.SumStop.{SumStop}
 use Rattle.pi_finished.specs.Changes.{Scales, AddsTimes, ShowsAdded}
 

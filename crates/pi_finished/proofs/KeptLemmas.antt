@@ -7,7 +7,7 @@ use Rattle.std.specs.Map.{lookup, remove_entry}
 use Rattle.std.specs.Ordering.{nat_cmp, is_eq, match_ordering}
 use Rattle.std.specs.declared.cmp.Ordering.{Ordering}
 use Rattle.std.specs.declared.cmp.Ordering.TheVariants.{Less, Equal, Greater}
-use Rattle.pi_postings.specs.Sums.{Ascend, coefficient}
+use Rattle.pi_filters.specs.PostingSums.{Ascend, coefficient}
 use Rattle.pi_finished.specs.declared.coefficient.Coefficient.{Coefficient}
 use Rattle.pi_finished.specs.Kept.{counted, terms_of, limit_of, limit_found, limits_of}
 

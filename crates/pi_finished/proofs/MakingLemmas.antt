@@ -3,9 +3,9 @@ use Rattle.std.specs.Prelude.{◌≡◌, ℕ, List, [], ◌∷◌, ◌++◌, Opt
 use Rattle.std.specs.Option.{option_or}
 use Rattle.std.proofs.Common.{◌∙◌, ap, sym, subst}
 use Rattle.pi_constraints.specs.declared.constraint.Constraint.{Constraint}
-use Rattle.pi_postings.specs.Steps.{Refusal, Made}
-use Rattle.pi_postings.specs.Limits.{refusal_of, first_refusal}
-use Rattle.pi_postings.specs.Postings.{nothing_made}
+use Rattle.pi_filters.specs.Steps.{Refusal, Made}
+use Rattle.pi_filters.specs.Limits.{refusal_of, first_refusal}
+use Rattle.pi_filters.specs.Postings.{nothing_made}
 use Rattle.pi_finished.specs.declared.limits.Limit.{Limit}
 use Rattle.pi_finished.specs.declared.making.Making.{Making}
 use Rattle.pi_finished.specs.Making.{refusal_for, AreKept, Shows, with_constraint}

@@ -6,9 +6,9 @@ use Rattle.std.proofs.lemmas.Int.{ints}
 use Rattle.pi_arith.specs.Range.{has_128_bits}
 use Rattle.pi_constraints.specs.declared.constraint.Item.{Item}
 use Rattle.pi_constraints.specs.declared.constraint.Constraint.{Constraint}
-use Rattle.pi_postings.specs.Sums.{Sum, of_number, of_variable, scaled}
-use Rattle.pi_postings.specs.Steps.{Refusal, wide_coefficient, Made, Known, Reading, gives, refuses, after, then, have_128_bits, step, constant_of, variable_of, side, side_by, product, product_by, product_variable, absolute_sum, absolute_by, absolute_variable}
-use Rattle.pi_postings.specs.Limits.{are_values, refusal_of}
+use Rattle.pi_filters.specs.PostingSums.{Sum, of_number, of_variable, scaled}
+use Rattle.pi_filters.specs.Steps.{Refusal, wide_coefficient, Made, Known, Reading, gives, refuses, after, then, have_128_bits, step, constant_of, variable_of, side, side_by, product, product_by, product_variable, absolute_sum, absolute_by, absolute_variable}
+use Rattle.pi_filters.specs.Limits.{are_values, refusal_of}
 use Rattle.pi_finished.specs.declared.stop.SumStop.{SumStop}
 use Rattle.pi_finished.specs.Steps.{fits, ShowsStep}
 use Rattle.pi_finished.specs.declared.making.Making.{Making}

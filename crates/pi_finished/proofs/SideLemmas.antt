@@ -4,9 +4,9 @@ use Rattle.std.proofs.Common.{arith, tests, ltb-true, eqb-true, ◌∙◌, ap, s
 use Rattle.std.proofs.lemmas.Int.{ints}
 use Rattle.pi_arith.specs.Range.{has_128_bits}
 use Rattle.pi_constraints.specs.declared.constraint.Rel.{Rel}
-use Rattle.pi_postings.specs.Sums.{Sum, of_variable, in_front, with_term, with_terms, scaled_terms, difference, Ascend}
-use Rattle.pi_postings.specs.Steps.{Made, linear, have_128_bits, variable_of, side, side_by}
-use Rattle.pi_postings.specs.Limits.{are_narrow, refusal_by, refusal_of}
+use Rattle.pi_filters.specs.PostingSums.{Sum, of_variable, in_front, with_term, with_terms, scaled_terms, difference, Ascend}
+use Rattle.pi_filters.specs.Steps.{Made, linear, have_128_bits, variable_of, side, side_by}
+use Rattle.pi_filters.specs.Limits.{are_narrow, refusal_by, refusal_of}
 use Rattle.pi_finished.specs.Steps.{fits}
 use Rattle.pi_finished.specs.declared.limits.Limit.{Limit}
 use Rattle.pi_finished.specs.declared.making.Making.{Making}

@@ -4,11 +4,11 @@ use Rattle.std.proofs.Common.{arith, tests, ◌∙◌, ap, sym, subst}
 use Rattle.pi_constraints.specs.declared.constraint.Rel.{Rel}
 use Rattle.pi_constraints.specs.declared.constraint.Item.{Item}
 use Rattle.pi_constraints.specs.declared.constraint.Constraint.{Constraint}
-use Rattle.pi_postings.specs.Sums.{Sum, in_front, with_term, with_terms, scaled_terms, Ascend}
-use Rattle.pi_postings.specs.Steps.{Made, gives, after, posting}
-use Rattle.pi_postings.specs.Limits.{are_narrow, are_values, refusal_by, refusal_of}
-use Rattle.pi_postings.specs.Relations.{stands, posts_never, posts_by_terms, posts_standing}
-use Rattle.pi_postings.specs.Truths.{bit, truth_variable_is, new_truth, truth_by_terms, truth_of_standing}
+use Rattle.pi_filters.specs.PostingSums.{Sum, in_front, with_term, with_terms, scaled_terms, Ascend}
+use Rattle.pi_filters.specs.Steps.{Made, gives, after, posting}
+use Rattle.pi_filters.specs.Limits.{are_narrow, are_values, refusal_by, refusal_of}
+use Rattle.pi_filters.specs.Relations.{stands, posts_never, posts_by_terms, posts_standing}
+use Rattle.pi_filters.specs.Truths.{bit, truth_variable_is, new_truth, truth_by_terms, truth_of_standing}
 use Rattle.pi_finished.specs.declared.to_zero.ToZero.{ToZero}
 use Rattle.pi_finished.specs.declared.making.Making.{Making}
 use Rattle.pi_finished.specs.Making.{sum_refusal, IsNumber, Shows, Reads, with_constraint, with_variable}

@@ -6,9 +6,9 @@ use Rattle.std.specs.Prelude.{◌≡◌, ◌≢◌, FitsSigned, cond, ◌==◌, 
 use Rattle.std.proofs.Common.{arith, ◌∙◌, ap, sym, subst}
 use Rattle.std.proofs.lemmas.Int.{ints}
 use Rattle.pi_arith.specs.Range.{has_128_bits}
-use Rattle.pi_postings.specs.Sums.{Sum, of_variable, added, scaled, opposite, difference, Ascend, coefficient}
-use Rattle.pi_postings.specs.Steps.{have_128_bits, variable_of_terms}
-use Rattle.pi_postings.proofs.CoefficientLemmas.{sums_stay_joined, coefficients_add, coefficients_scale, coefficients_tell_terms}
+use Rattle.pi_filters.specs.PostingSums.{Sum, of_variable, added, scaled, opposite, difference, Ascend, coefficient}
+use Rattle.pi_filters.specs.Steps.{have_128_bits, variable_of_terms}
+use Rattle.pi_filters.proofs.CoefficientLemmas.{sums_stay_joined, coefficients_add, coefficients_scale, coefficients_tell_terms}
 use Rattle.pi_finished.specs.declared.stop.SumStop.{SumStop}
 use Rattle.pi_finished.specs.Changes.{Sets, Joins, IsTimes, ShowsTerms, ShowsAdded}
 use Rattle.pi_finished.specs.Steps.{fits, ShowsStep, ShowsNumber, IsStepTo}

@@ -5,7 +5,7 @@ use Rattle.std.proofs.lemmas.Int.{ints}
 use Rattle.std.specs.BTreeMap.{is_at, insert_entry}
 use Rattle.std.specs.Map.{remove_entry}
 use Rattle.std.specs.Ordering.{nat_cmp}
-use Rattle.pi_postings.specs.Sums.{Ascend, coefficient}
+use Rattle.pi_filters.specs.PostingSums.{Ascend, coefficient}
 use Rattle.pi_finished.specs.declared.coefficient.Coefficient.{Coefficient}
 use Rattle.pi_finished.specs.declared.sum_limits.Limits.{Limits}
 use Rattle.pi_finished.specs.Signed.{signed}

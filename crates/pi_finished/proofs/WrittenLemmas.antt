@@ -3,8 +3,8 @@ use Rattle.std.specs.Prelude.{◌≡◌, ◌≢◌, ℕ, ◌<◌, ◌≤◌, ◌
 use Rattle.std.specs.Ordering.{int_eq}
 use Rattle.std.proofs.Common.{arith, tests, append_assoc, append-nil, ◌∙◌, ap, sym}
 use Rattle.std.proofs.lemmas.Int.{ints}
-use Rattle.pi_postings.specs.Limits.{are_narrow}
-use Rattle.pi_postings.specs.Steps.{variable_of_terms}
+use Rattle.pi_filters.specs.Limits.{are_narrow}
+use Rattle.pi_filters.specs.Steps.{variable_of_terms}
 use Rattle.pi_finished.specs.declared.coefficient.Coefficient.{Coefficient}
 use Rattle.pi_finished.specs.Signed.{signed}
 use Rattle.pi_finished.specs.Kept.{counted, terms_of}

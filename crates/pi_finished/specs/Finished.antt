@@ -1,7 +1,7 @@
 -- What a reading posts in the end. (Own.)
 use Rattle.std.specs.Prelude.{◌≡◌, Result, Ok, Err}
-use Rattle.pi_postings.specs.Steps.{Refusal}
-use Rattle.pi_postings.specs.Postings.{Posting as PostingOf}
+use Rattle.pi_filters.specs.Steps.{Refusal}
+use Rattle.pi_filters.specs.Postings.{Posting as PostingOf}
 use Rattle.pi_finished.specs.declared.limits.Limit.{Limit}
 use Rattle.pi_finished.specs.declared.posting.Posting.{Posting}
 use Rattle.pi_finished.specs.Making.{refusal_for}

@@ -2,7 +2,7 @@
 use Rattle.std.specs.Prelude.{◌≡◌, Bool, true, false, List, length, Option, Some, None}
 use Rattle.std.specs.Option.{option_map}
 use Rattle.pi_constraints.specs.declared.constraint.Item.{Item}
-use Rattle.pi_postings.specs.Limits.{is_value, are_values, refusal_by}
+use Rattle.pi_filters.specs.Limits.{is_value, are_values, refusal_by}
 use Rattle.pi_finished.specs.declared.items.JudgedItems.{JudgedItems}
 use Rattle.pi_finished.specs.declared.limits.Limit.{Limit}
 use Rattle.pi_finished.specs.Making.{refusal_for}

@@ -1,7 +1,7 @@
 -- Terms as they are kept: by variables, each coefficient with a sign of its own, and one sign in front of all. (Own.)
 use Rattle.std.specs.Prelude.{◌≡◌, ℕ, ◌+◌, ◌-◌, ◌^◌, Bool, true, false, not, List, [], ◌∷◌, ℤ, pos, neg_ℤ, Option, Some, None}
 use Rattle.std.specs.Ordering.{int_eq}
-use Rattle.pi_postings.specs.Sums.{Ascend}
+use Rattle.pi_filters.specs.PostingSums.{Ascend}
 use Rattle.pi_finished.specs.declared.coefficient.Coefficient.{Coefficient}
 use Rattle.pi_finished.specs.declared.sum_limits.Limits.{Limits}
 use Rattle.pi_finished.specs.Signed.{signed}

@@ -2,10 +2,10 @@
 use Rattle.std.specs.Prelude.{◌≡◌, ⊤, ℕ, ℤ, ◌<◌, Result, Ok, Err, ◌^◌, ◌&&◌, suc, nat_le, nat_abs, List, [], ◌∷◌, ◌++◌, length, Bool, false, Option, Some, None}
 use Rattle.pi_arith.specs.Range.{has_128_bits}
 use Rattle.pi_constraints.specs.declared.constraint.Constraint.{Constraint}
-use Rattle.pi_postings.specs.Sums.{Sum}
-use Rattle.pi_postings.specs.Steps.{Refusal, too_many_terms, wide_coefficient, Made, Reading, then, side, product_variable, absolute_variable}
+use Rattle.pi_filters.specs.PostingSums.{Sum}
+use Rattle.pi_filters.specs.Steps.{Refusal, too_many_terms, wide_coefficient, Made, Reading, then, side, product_variable, absolute_variable}
 use Rattle.pi_finished.specs.declared.stop.SumStop.{SumStop}
-use Rattle.pi_postings.specs.Limits.{are_narrow, refusal_by, first_refusal}
+use Rattle.pi_filters.specs.Limits.{are_narrow, refusal_by, first_refusal}
 use Rattle.pi_finished.specs.declared.limits.Limit.{Limit}
 use Rattle.pi_finished.specs.declared.making.Making.{Making}
 

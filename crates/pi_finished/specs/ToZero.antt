@@ -3,10 +3,10 @@ use Rattle.std.specs.Prelude.{ℕ, cond, List, ℤ, pos, ◌+ℤ◌}
 use Rattle.pi_constraints.specs.declared.constraint.Rel.{Rel}
 use Rattle.pi_constraints.specs.declared.constraint.Item.{Item}
 use Rattle.pi_constraints.specs.declared.constraint.Constraint.{Constraint}
-use Rattle.pi_postings.specs.Sums.{Sum, of_number, added}
-use Rattle.pi_postings.specs.Steps.{Reading, gives, then, posting}
-use Rattle.pi_postings.specs.Relations.{stands, posts_never}
-use Rattle.pi_postings.specs.Truths.{new_truth}
+use Rattle.pi_filters.specs.PostingSums.{Sum, of_number, added}
+use Rattle.pi_filters.specs.Steps.{Reading, gives, then, posting}
+use Rattle.pi_filters.specs.Relations.{stands, posts_never}
+use Rattle.pi_filters.specs.Truths.{new_truth}
 use Rattle.pi_finished.specs.declared.to_zero.ToZero.{ToZero}
 
 abbrev pub rel_of : ToZero → Rel

@@ -1,9 +1,9 @@
 //! What was made so far.
 ghost use Rattle.std.specs.Prelude.{◌≡◌, ℤ, Some, None, suc, IfOk};
 ghost use Rattle.pi_constraints.specs.declared.constraint.Constraint.{Constraint};
-ghost use Rattle.pi_postings.specs.Steps.{Made, linear};
-ghost use Rattle.pi_postings.specs.Limits.{refusal_of, first_refusal};
-ghost use Rattle.pi_postings.specs.Postings.{nothing_made, posting_unless};
+ghost use Rattle.pi_filters.specs.Steps.{Made, linear};
+ghost use Rattle.pi_filters.specs.Limits.{refusal_of, first_refusal};
+ghost use Rattle.pi_filters.specs.Postings.{nothing_made, posting_unless};
 ghost use Rattle.pi_finished.specs.Making.{refusal_for, IsNumber, Shows, with_constraint, with_variable};
 ghost use Rattle.pi_finished.specs.Finished.{ShowsFinished};
 

@@ -2,7 +2,7 @@
 ghost use Rattle.std.specs.Prelude.{◌≡◌, List, IfOk};
 ghost use Rattle.pi_constraints.specs.declared.constraint.Item.{Item};
 ghost use Rattle.pi_constraints.specs.declared.constraint.Constraint.{Constraint};
-ghost use Rattle.pi_postings.specs.Steps.{Made};
+ghost use Rattle.pi_filters.specs.Steps.{Made};
 ghost use Rattle.pi_finished.specs.Making.{Shows, with_constraint};
 ghost use Rattle.pi_finished.specs.Items.{IsJudged, AreJudged};
 

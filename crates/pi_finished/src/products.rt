@@ -1,6 +1,6 @@
 //! Products and absolute values.
 ghost use Rattle.std.specs.Prelude.{◌≡◌};
-ghost use Rattle.pi_postings.specs.Steps.{Made, then, step, product, product_variable, absolute_sum, absolute_variable};
+ghost use Rattle.pi_filters.specs.Steps.{Made, then, step, product, product_variable, absolute_sum, absolute_variable};
 ghost use Rattle.pi_finished.specs.Making.{Shows, ShowsReading, AllBelow, side_product, side_absolute};
 
 use crate::making::Making;

@@ -1,9 +1,9 @@
 //! Sides of products, and operands of `abs`: each is a variable.
 ghost use Rattle.std.specs.Prelude.{◌≡◌, Some, suc, length, false, IfOk};
 ghost use Rattle.pi_constraints.specs.declared.constraint.Rel.{Rel};
-ghost use Rattle.pi_postings.specs.Sums.{of_variable, difference, Ascend};
-ghost use Rattle.pi_postings.specs.Limits.{refusal_by};
-ghost use Rattle.pi_postings.specs.Steps.{Made, linear, side};
+ghost use Rattle.pi_filters.specs.PostingSums.{of_variable, difference, Ascend};
+ghost use Rattle.pi_filters.specs.Limits.{refusal_by};
+ghost use Rattle.pi_filters.specs.Steps.{Made, linear, side};
 ghost use Rattle.pi_finished.specs.Making.{refusal_for, Shows, Reads, AllBelow, with_constraint};
 
 use crate::limits::{Limit, MAX_TERMS};

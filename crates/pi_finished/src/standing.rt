@@ -3,10 +3,10 @@ ghost use Rattle.std.specs.Prelude.{◌≡◌, ◌∷◌, [], None, IfOk};
 ghost use Rattle.pi_constraints.specs.declared.constraint.Rel.{Rel};
 ghost use Rattle.pi_constraints.specs.declared.constraint.Item.{Item};
 ghost use Rattle.pi_constraints.specs.declared.constraint.Constraint.{Constraint};
-ghost use Rattle.pi_postings.specs.Steps.{Made};
-ghost use Rattle.pi_postings.specs.Limits.{refusal_of};
-ghost use Rattle.pi_postings.specs.Relations.{posts_never, posts_standing};
-ghost use Rattle.pi_postings.specs.Truths.{bit, truth_variable_is, new_truth, truth_of_standing};
+ghost use Rattle.pi_filters.specs.Steps.{Made};
+ghost use Rattle.pi_filters.specs.Limits.{refusal_of};
+ghost use Rattle.pi_filters.specs.Relations.{posts_never, posts_standing};
+ghost use Rattle.pi_filters.specs.Truths.{bit, truth_variable_is, new_truth, truth_of_standing};
 ghost use Rattle.pi_finished.specs.Making.{Shows, Reads, with_constraint};
 ghost use Rattle.pi_finished.specs.ToZero.{rel_of, constant_for, sum_for, posts_number, reified_by};
 

@@ -1,8 +1,8 @@
 //! Sums of variables and a constant.
 ghost use Rattle.std.specs.Prelude.{◌≡◌, length, true, IfOk};
-ghost use Rattle.pi_postings.specs.Sums.{Sum, of_number, of_variable, added, difference, opposite, scaled, Ascend};
-ghost use Rattle.pi_postings.specs.Steps.{constant_of, variable_of};
-ghost use Rattle.pi_postings.specs.Limits.{are_narrow};
+ghost use Rattle.pi_filters.specs.PostingSums.{Sum, of_number, of_variable, added, difference, opposite, scaled, Ascend};
+ghost use Rattle.pi_filters.specs.Steps.{constant_of, variable_of};
+ghost use Rattle.pi_filters.specs.Limits.{are_narrow};
 ghost use Rattle.pi_finished.specs.Steps.{fits, ShowsStep, IsStepTo};
 
 use crate::coefficient::Coefficient;
@@ -22,8 +22,8 @@ pub struct JoinedSum {
 
 impl Model for JoinedSum {
     ghost use Rattle.std.specs.Prelude.{◌≡◌, true};
-    ghost use Rattle.pi_postings.specs.Sums.{Sum, Ascend};
-    ghost use Rattle.pi_postings.specs.Steps.{have_128_bits};
+    ghost use Rattle.pi_filters.specs.PostingSums.{Sum, Ascend};
+    ghost use Rattle.pi_filters.specs.Steps.{have_128_bits};
 
     ghost Value = { Sum };
 

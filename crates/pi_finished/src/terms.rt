@@ -1,7 +1,7 @@
 //! The terms of a sum, by their variables.
 ghost use Rattle.std.specs.Prelude.{◌≡◌, ◌≢◌, [], length, pos, negsuc, true, OnOk};
-ghost use Rattle.pi_postings.specs.Steps.{have_128_bits};
-ghost use Rattle.pi_postings.specs.Sums.{coefficient, Ascend};
+ghost use Rattle.pi_filters.specs.Steps.{have_128_bits};
+ghost use Rattle.pi_filters.specs.PostingSums.{coefficient, Ascend};
 ghost use Rattle.pi_finished.specs.Signed.{signed};
 ghost use Rattle.pi_finished.specs.Changes.{Sets, Joins, Scales};
 

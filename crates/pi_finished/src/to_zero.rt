@@ -1,6 +1,6 @@
 //! How sums stand to 0.
 ghost use Rattle.std.specs.Prelude.{◌≡◌};
-ghost use Rattle.pi_postings.specs.Relations.{stands};
+ghost use Rattle.pi_filters.specs.Relations.{stands};
 ghost use Rattle.pi_finished.specs.Making.{IsNumber};
 ghost use Rattle.pi_finished.specs.ToZero.{rel_of, constant_for};
 

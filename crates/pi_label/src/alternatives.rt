@@ -8,8 +8,7 @@ ghost use Rattle.pi_label.specs.Follows.{Follows};
 ghost use Rattle.pi_label.specs.Beside.{IsNextAbove, IsNextBelow, AreEnds, ShowsEnds};
 
 use crate::options::{Options, ValueWord};
-use pi_constraints::{Domain, Span};
-use pi_dom::{cut_above, cut_below, max, min};
+use pi_constraints::{Domain, Span, cut_above, cut_below, max, min};
 use std::alloc::{AllocError, Global};
 
 /// What an alternative asks of a variable: this value, at most this value, or a greater one.

@@ -5,8 +5,7 @@ ghost use Rattle.pi_label.specs.Words.{variable_word};
 ghost use Rattle.pi_label.specs.Picks.{IsOpen, picked_place, smaller_of};
 
 use crate::options::{Options, VariableWord};
-use pi_constraints::{Domain, Domains};
-use pi_dom::size;
+use pi_constraints::{Domain, Domains, size};
 
 /// A place that was found, and how many values its domain has.
 #[derive(Clone, Copy)]

@@ -5,15 +5,15 @@ ghost use Rattle.pi_states.specs.Value.{value};
 ghost use Rattle.pi_states.specs.State.{bindings, followed};
 ghost use Rattle.pi_states.specs.Store.{IsTerm};
 ghost use Rattle.pi_unify.specs.Terms.{HoldsNoCycle};
-ghost use Rattle.pi_lists.specs.Items.{AreItems};
+ghost use Rattle.pi_builtin.specs.Items.{AreItems};
 ghost use Rattle.pi_settling.specs.Options.{Chosen as ChosenWords, read_options as words_of, with_word, word_of};
 ghost use Rattle.pi_label.specs.Reads.{AreChosen, ShowsChosen, ShowsWords, ShowsMeasured, ShowsOptions, refusal_of};
 
 use crate::fault::OptFault;
 use crate::options::{Objective, Options, ValueWord, VariableWord};
 use crate::words::{Word, word_at};
+use pi_builtin::list_items;
 use pi_effects::Stop;
-use pi_lists::list_items;
 use pi_states::{ReadStop, Ref, StateStore};
 use std::alloc::Global;
 

@@ -11,8 +11,8 @@ use Rattle.pi_effects.specs.Effect.{succeeds_in}
 use Rattle.pi_effects.specs.Items.{list_of, array_of, list_items}
 use Rattle.pi_effects.specs.Inner.{in_order_name}
 use Rattle.pi_core.specs.GoalTree.{GoalTree}
-use Rattle.pi_traces.specs.Trace.{Trace, one, then}
-use Rattle.pi_traces.proofs.TraceLemmas.{then-assoc}
+use Rattle.pi_meaning.specs.Trace.{Trace, one, then}
+use Rattle.pi_meaning.proofs.TraceLemmas.{then-assoc}
 use Rattle.pi_meaning.specs.Settle.{settled, settled_from}
 use Rattle.pi_meaning.specs.View.{View}
 use Rattle.pi_meaning.specs.Level.{Level, Applied, calls_at, Point}

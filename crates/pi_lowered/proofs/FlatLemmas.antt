@@ -6,7 +6,7 @@ use Rattle.pi_terms.specs.Tree.{Tree, Trees}
 use Rattle.pi_terms.specs.ListNames.{nil}
 use Rattle.pi_print.specs.PrintTerm.{array_name}
 use Rattle.pi_syntax.specs.ExpTree.{ExpTree, var, int, atom, str, list, list_onto, array, quote, ExpTrees, no_exps, exp}
-use Rattle.pi_traces.specs.Trace.{Trace, done, one, then}
+use Rattle.pi_meaning.specs.Trace.{Trace, done, one, then}
 use Rattle.pi_meaning.specs.Level.{Level}
 use Rattle.pi_meaning.specs.Given.{Setting}
 use Rattle.pi_meaning.specs.Environment.{Valued, ValuedAll}

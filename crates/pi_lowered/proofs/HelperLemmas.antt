@@ -11,9 +11,9 @@ use Rattle.pi_states.specs.Evaluation.{EvaluatedAll, evaluated_all}
 use Rattle.pi_states.specs.Unify.{unified}
 use Rattle.pi_core.specs.GoalTree.{GoalTree}
 use Rattle.pi_core.specs.CoreTree.{PredTree}
-use Rattle.pi_traces.specs.Trace.{Trace, end, note, ans, Done, one, then, done}
-use Rattle.pi_traces.specs.Control.{chosen}
-use Rattle.pi_traces.proofs.TraceLemmas.{then-one, then-assoc}
+use Rattle.pi_meaning.specs.Trace.{Trace, end, note, ans, Done, one, then, done}
+use Rattle.pi_meaning.specs.Control.{chosen}
+use Rattle.pi_meaning.proofs.TraceLemmas.{then-one, then-assoc}
 use Rattle.pi_meaning.specs.Settle.{settled_from}
 use Rattle.pi_meaning.specs.Level.{Level, Point}
 use Rattle.pi_meaning.specs.Builtins.{Builtins, predicate_by}

@@ -9,9 +9,9 @@ use Rattle.pi_syntax.specs.ExpTree.{ExpTree}
 use Rattle.pi_syntax.specs.ProgramTree.{FunctionTree, ProgramTree}
 use Rattle.pi_syntax.specs.declared.program.Mode.{Mode}
 use Rattle.pi_core.specs.CoreTree.{ClauseTree, PredTree, QueryTree}
-use Rattle.pi_traces.specs.Trace.{one, then}
-use Rattle.pi_traces.specs.Depth.{cut}
-use Rattle.pi_traces.proofs.RelatedLemmas.{Same}
+use Rattle.pi_meaning.specs.Trace.{one, then}
+use Rattle.pi_meaning.specs.Depth.{cut}
+use Rattle.pi_meaning.proofs.RelatedLemmas.{Same}
 use Rattle.pi_meaning.specs.View.{View}
 use Rattle.pi_meaning.specs.Level.{Level}
 use Rattle.pi_meaning.specs.Builtins.{Builtins}

@@ -11,8 +11,8 @@ use Rattle.pi_arith.specs.Value.{value_of}
 use Rattle.pi_arith.specs.declared.operation.Op.TheVariants.{Add}
 use Rattle.pi_effects.specs.Items.{collection_items}
 use Rattle.pi_syntax.specs.ExpTree.{ExpTree}
-use Rattle.pi_traces.specs.Trace.{Trace, end, note, ans, then}
-use Rattle.pi_traces.proofs.AnswerLemmas.{EachAnswer, each-map, each-one, each-then}
+use Rattle.pi_meaning.specs.Trace.{Trace, end, note, ans, then}
+use Rattle.pi_meaning.proofs.AnswerLemmas.{EachAnswer, each-map, each-one, each-then}
 use Rattle.pi_meaning.specs.Settle.{settled_from}
 use Rattle.pi_meaning.specs.Level.{Level, calls_at}
 use Rattle.pi_meaning.specs.Environment.{Environment, meant, known, Valued, name_valued}

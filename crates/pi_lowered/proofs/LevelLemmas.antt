@@ -9,8 +9,8 @@ use Rattle.pi_syntax.specs.ExpTree.{ExpTree}
 use Rattle.pi_syntax.specs.ProgramTree.{RuleTree, FunctionTree, WrittenClause, rule, function, fact, ProgramTree}
 use Rattle.pi_syntax.specs.declared.program.Mode.{Mode}
 use Rattle.pi_core.specs.CoreTree.{PredTree, find_pred}
-use Rattle.pi_traces.specs.Trace.{Trace, note, Tick, done, one}
-use Rattle.pi_traces.specs.Control.{chosen}
+use Rattle.pi_meaning.specs.Trace.{Trace, note, Tick, done, one}
+use Rattle.pi_meaning.specs.Control.{chosen}
 use Rattle.pi_meaning.specs.Drain.{drained}
 use Rattle.pi_meaning.specs.Level.{Level, Applied, level_of, calls_at, ticked}
 use Rattle.pi_meaning.specs.Builtins.{Builtins}

@@ -11,9 +11,9 @@ use Rattle.pi_syntax.specs.ExpTree.{ExpTree}
 use Rattle.pi_core.specs.GoalTree.{GoalTree}
 use Rattle.pi_core.specs.CoreTree.{ClauseTree}
 use Rattle.pi_terms.specs.PatternTree.{pattern}
-use Rattle.pi_traces.specs.Trace.{Trace, one, then, done}
-use Rattle.pi_traces.specs.Control.{chosen}
-use Rattle.pi_traces.proofs.TraceLemmas.{then-one, then-assoc}
+use Rattle.pi_meaning.specs.Trace.{Trace, one, then, done}
+use Rattle.pi_meaning.specs.Control.{chosen}
+use Rattle.pi_meaning.proofs.TraceLemmas.{then-one, then-assoc}
 use Rattle.pi_meaning.specs.Level.{Level, Point}
 use Rattle.pi_meaning.specs.Builtins.{Builtins, predicate_by}
 use Rattle.pi_meaning.specs.Given.{Setting}

@@ -7,7 +7,7 @@ use Rattle.pi_states.specs.State.{State}
 use Rattle.pi_effects.specs.Ranges.{most_items, values_by}
 use Rattle.pi_syntax.specs.ExpTree.{ExpTree}
 use Rattle.pi_core.specs.GoalTree.{GoalTree}
-use Rattle.pi_traces.specs.Trace.{Trace, note, Tick, one, then}
+use Rattle.pi_meaning.specs.Trace.{Trace, note, Tick, one, then}
 use Rattle.pi_meaning.specs.Level.{Level, lowest, over, Calls, lower, ticked, Point}
 use Rattle.pi_meaning.specs.Builtins.{Builtins, predicate_by}
 use Rattle.pi_meaning.specs.Given.{Setting}

@@ -5,9 +5,9 @@ use Rattle.pi_terms.specs.Places.{Places}
 use Rattle.pi_states.specs.Value.{value}
 use Rattle.pi_states.specs.State.{State, bindings}
 use Rattle.pi_states.specs.Evaluation.{Evaluated}
-use Rattle.pi_answers.specs.declared.answer.NamedTerm.{NamedTerm}
-use Rattle.pi_traces.specs.Trace.{Trace, end, one}
-use Rattle.pi_traces.proofs.RelatedLemmas.{Same, same}
+use Rattle.pi_core.specs.declared.answer.NamedTerm.{NamedTerm}
+use Rattle.pi_meaning.specs.Trace.{Trace, end, one}
+use Rattle.pi_meaning.proofs.RelatedLemmas.{Same, same}
 use Rattle.pi_meaning.specs.Raise.{too_large, within_limit}
 use Rattle.pi_meaning.specs.Level.{Level, Point}
 use Rattle.pi_meaning.specs.Environment.{Environment, Valued, known, name_valued}

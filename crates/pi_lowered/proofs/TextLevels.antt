@@ -8,8 +8,8 @@ use Rattle.pi_syntax.specs.ExpTree.{ExpTree}
 use Rattle.pi_syntax.specs.ProgramTree.{RuleTree, FunctionTree, ProgramTree}
 use Rattle.pi_syntax.specs.declared.program.Mode.{Mode}
 use Rattle.pi_core.specs.CoreTree.{ClauseTree, PredTree, find_pred}
-use Rattle.pi_traces.specs.Trace.{Trace, note, Tick, one}
-use Rattle.pi_traces.specs.Control.{chosen}
+use Rattle.pi_meaning.specs.Trace.{Trace, note, Tick, one}
+use Rattle.pi_meaning.specs.Control.{chosen}
 use Rattle.pi_meaning.specs.Level.{Level, Applied, calls_at, ticked}
 use Rattle.pi_meaning.specs.Builtins.{Builtins}
 use Rattle.pi_meaning.specs.Raise.{raised_with}

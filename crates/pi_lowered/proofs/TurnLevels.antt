@@ -5,7 +5,7 @@ use Rattle.pi_terms.specs.Tree.{Trees, tree_count}
 use Rattle.pi_states.specs.State.{State}
 use Rattle.pi_core.specs.CoreTree.{PredTree, find_pred}
 use Rattle.pi_syntax.specs.ProgramTree.{ProgramTree}
-use Rattle.pi_traces.specs.Trace.{Trace}
+use Rattle.pi_meaning.specs.Trace.{Trace}
 use Rattle.pi_meaning.specs.Level.{Level, lower, or_called}
 use Rattle.pi_meaning.specs.Builtins.{Builtins}
 use Rattle.pi_meaning.specs.Rules.{call_run, entered, pred_run, calls_of, quiet_level, level_at}

@@ -12,8 +12,8 @@ use Rattle.pi_states.specs.HeadMatch.{compound_in, matched_in, matched_all_in}
 use Rattle.pi_states.proofs.MatchLemmas.{name_itself}
 use Rattle.pi_print.specs.PrintTerm.{array_name}
 use Rattle.pi_core.specs.GoalTree.{GoalTree}
-use Rattle.pi_traces.specs.Trace.{Trace, end, note, Deep, Tick, then, done}
-use Rattle.pi_traces.specs.Control.{chosen}
+use Rattle.pi_meaning.specs.Trace.{Trace, end, note, Deep, Tick, then, done}
+use Rattle.pi_meaning.specs.Control.{chosen}
 use Rattle.pi_meaning.specs.Level.{Level, lower, Point}
 use Rattle.pi_meaning.specs.Builtins.{Builtins, predicate_by}
 use Rattle.pi_meaning.specs.Meaning.{meaning}

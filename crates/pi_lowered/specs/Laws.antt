@@ -6,8 +6,8 @@ use Rattle.pi_syntax.specs.ExpTree.{ExpTree}
 use Rattle.pi_syntax.specs.ProgramTree.{ProgramTree}
 use Rattle.pi_core.specs.CoreTree.{ClauseTree, PredTree, find_pred, QueryTree}
 use Rattle.pi_core.specs.declared.core_program.NameSlot.{NameSlot}
-use Rattle.pi_traces.specs.Trace.{Trace, then}
-use Rattle.pi_traces.specs.Depth.{Cut}
+use Rattle.pi_meaning.specs.Trace.{Trace, then}
+use Rattle.pi_meaning.specs.Depth.{Cut}
 use Rattle.pi_meaning.specs.View.{View}
 use Rattle.pi_meaning.specs.Builtins.{Builtins}
 use Rattle.pi_meaning.specs.Instances.{is_called_by_name, whole}

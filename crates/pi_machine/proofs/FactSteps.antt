@@ -4,12 +4,12 @@ use Rattle.std.specs.Prelude.{cond, Option, Some, None, is_some}
 use Rattle.pi_terms.specs.Tree.{Trees}
 use Rattle.pi_states.specs.State.{State}
 use Rattle.pi_core.specs.CoreTree.{ClauseTree}
-use Rattle.pi_traces.specs.Trace.{Trace, alt, then}
+use Rattle.pi_meaning.specs.Trace.{Trace, alt, then}
 use Rattle.pi_meaning.specs.Builtins.{Builtins}
 use Rattle.pi_meaning.specs.Settle.{settled, settled_from}
 use Rattle.pi_meaning.specs.Facts.{facts}
 use Rattle.pi_meaning.specs.Level.{Level, Point}
-use Rattle.pi_traces.proofs.TraceLemmas.{alt-done}
+use Rattle.pi_meaning.proofs.TraceLemmas.{alt-done}
 use Rattle.pi_machine.specs.Configuration.{Back, Entry}
 use Rattle.pi_machine.specs.Remaining.{point, continued, facts_trace, choice_trace, around, now_trace}
 use Rattle.pi_machine.specs.Step.{with_fact, from_unifying, later_facts, fact_tried, try_facts}

@@ -2,12 +2,12 @@
 -- end, and the rest is what remains after it.
 use Rattle.std.specs.Prelude.{◌≡◌, ℕ, List, [], ◌∷◌, ◌++◌, replicate}
 use Rattle.pi_core.specs.CoreTree.{PredTree}
-use Rattle.pi_traces.specs.Trace.{Done, Raise, Tick, Out, Emitted, noted, answered}
+use Rattle.pi_meaning.specs.Trace.{Done, Raise, Tick, Out, Emitted, noted, answered}
 use Rattle.pi_meaning.specs.View.{View}
 use Rattle.pi_meaning.specs.Run.{Solution}
 use Rattle.pi_meaning.specs.Told.{answer_of}
 use Rattle.pi_core.specs.declared.core_program.NameSlot.{NameSlot}
-use Rattle.pi_answers.specs.declared.answer.Answer.{Answer}
+use Rattle.pi_core.specs.declared.answer.Answer.{Answer}
 use Rattle.pi_machine.specs.declared.happening.Happening.{Happening}
 use Rattle.pi_machine.specs.Configuration.{Config}
 use Rattle.pi_machine.specs.Leads.{Leads, IsAtTick, IsAtEnd}

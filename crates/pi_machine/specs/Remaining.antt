@@ -6,8 +6,8 @@ use Rattle.pi_terms.specs.Places.{Places, held}
 use Rattle.pi_states.specs.State.{State}
 use Rattle.pi_core.specs.GoalTree.{GoalTree, GoalTrees}
 use Rattle.pi_core.specs.CoreTree.{ClauseTree, PredTree, leaves_others}
-use Rattle.pi_traces.specs.Trace.{Trace, end, note, Raise, Out, done, one, alt, then, first}
-use Rattle.pi_traces.specs.Control.{negated, chosen, collected, counted, caught}
+use Rattle.pi_meaning.specs.Trace.{Trace, end, note, Raise, Out, done, one, alt, then, first}
+use Rattle.pi_meaning.specs.Control.{negated, chosen, collected, counted, caught}
 use Rattle.pi_meaning.specs.View.{View}
 use Rattle.pi_meaning.specs.Builtins.{Builtins}
 use Rattle.pi_meaning.specs.Instances.{no_later, whole}

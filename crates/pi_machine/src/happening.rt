@@ -1,5 +1,5 @@
 //! What a machine is given, and what it answers.
-use pi_answers::{Answer, Work};
+use pi_core::{Answer, Work};
 use pi_terms::{Term, Text};
 
 /// Whether a machine runs a query, whose Ticks are counted against its steps, or the body of a planner call, whose Ticks are

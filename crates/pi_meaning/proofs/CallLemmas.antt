@@ -5,8 +5,8 @@ use Rattle.std.specs.Option.{option_or}
 use Rattle.pi_terms.specs.Tree.{Tree, Trees, no_trees, tree, tree_count}
 use Rattle.pi_states.specs.State.{State, bindings, followed}
 use Rattle.pi_effects.specs.Items.{each_tree}
-use Rattle.pi_traces.specs.Trace.{Trace, end, Deep, Tick, done}
-use Rattle.pi_traces.specs.Depth.{Below, deeper, same_note}
+use Rattle.pi_meaning.specs.Trace.{Trace, end, Deep, Tick, done}
+use Rattle.pi_meaning.specs.Depth.{Below, deeper, same_note}
 use Rattle.pi_meaning.specs.Settle.{settled}
 use Rattle.pi_meaning.specs.Level.{Level, lowest, over, Applied, LevelBelow, or_called, or_applied}
 use Rattle.pi_meaning.specs.Names.{is_later_predicate, is_planner, is_catch, is_call}
@@ -16,7 +16,7 @@ use Rattle.pi_meaning.specs.Handling.{handled_in, handling}
 use Rattle.pi_meaning.specs.Calls.{built_in, given_later, predicate_given, predicate_called, function_given, function_called, Called, called_by, with_planner, is_known, known_called, call_goal, catch_called, again_called, term_called, called_at_level, called_below, first_called, unknown_name}
 use Rattle.pi_meaning.specs.Instances.{core_setting, predicate_or_call, no_later}
 use Rattle.pi_meaning.specs.MeaningLaws.{TabledOnlyAdds, WholeOnlyAdds}
-use Rattle.pi_traces.proofs.BelowLemmas.{below-refl, below-then, below-caught}
+use Rattle.pi_meaning.proofs.BelowLemmas.{below-refl, below-then, below-caught}
 use Rattle.pi_meaning.proofs.MeaningLemmas.{calls-below}
 
 pub cond-below : {X : Type 0} (c : Bool) (t u v w : Trace X) → Below t v → Below u w → Below (cond c t u) (cond c v w)

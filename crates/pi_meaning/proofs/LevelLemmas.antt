@@ -4,7 +4,7 @@ use Rattle.pi_meaning.specs.Builtins.{Builtins, BuiltinsOnlyAdd}
 use Rattle.pi_core.specs.CoreTree.{PredTree}
 use Rattle.pi_meaning.specs.Level.{Level, lowest, over, lower, level_of, Calls, CallsBelow, LevelBelow, calls_at}
 use Rattle.pi_meaning.specs.Rules.{calls_of, quiet_level, level_at}
-use Rattle.pi_traces.proofs.BelowLemmas.{below-refl, below-trans}
+use Rattle.pi_meaning.proofs.BelowLemmas.{below-refl, below-trans}
 use Rattle.pi_meaning.proofs.MeaningLemmas.{calls-below}
 use Rattle.pi_meaning.proofs.RuleLemmas.{level-below}
 

@@ -1,27 +1,33 @@
-pub mod NamesApart
-pub mod NamedLemmas
-mod SlotLemmas
-mod NameLemmas
-pub mod FoundLemmas
-pub mod MeaningLemmas
-pub mod RuleLemmas
-pub mod LevelLemmas
-pub mod CallLemmas
-pub mod KnownLemmas
-pub mod QueryLemmas
-pub mod DefinedLemmas
-pub mod WholeLemmas
-pub mod ItemsBelow
+pub mod AnswerLemmas
 pub mod AnswersBelow
-pub mod TablesKeep
+pub mod BelowLemmas
+pub mod CallLemmas
+pub mod CoreExamples
+pub mod CutLemmas
+pub mod DefinedLemmas
+pub mod FoundLemmas
 pub mod FunctionsKeep
+pub mod ItemsBelow
 pub mod KeepsGoals
 pub mod KeepsRules
-pub mod QuietGoals
-pub mod QuietCalls
-pub mod QuietRules
+pub mod KnownLemmas
+pub mod LastLemmas
+pub mod LevelLemmas
+pub mod MeaningLemmas
+mod NameLemmas
+pub mod NamedLemmas
+pub mod NamesApart
 pub mod NestGoals
 pub mod NestRules
-pub mod CoreExamples
-pub mod WholeExamples
+pub mod QueryLemmas
+pub mod QuietCalls
+pub mod QuietGoals
+pub mod QuietRules
+pub mod RelatedLemmas
+pub mod RuleLemmas
+mod SlotLemmas
+pub mod TablesKeep
 pub mod ToldCuts
+pub mod TraceLemmas
+pub mod WholeExamples
+pub mod WholeLemmas

@@ -7,10 +7,10 @@ use Rattle.pi_states.specs.State.{State, next}
 use Rattle.pi_terms.specs.Copy.{copy, new_variables}
 use Rattle.pi_states.specs.Unify.{unified}
 use Rattle.pi_core.specs.GoalTree.{GoalTree, truth, fail, tick, call, apply, seq, alternatives, if_else, not, once, collect, count, catch, GoalTrees, no_goals, goal}
-use Rattle.pi_traces.specs.Trace.{Trace, Done, Raise, one, alt, then, first}
-use Rattle.pi_traces.specs.Control.{negated, chosen}
-use Rattle.pi_traces.specs.Depth.{Below}
-use Rattle.pi_traces.specs.Related.{BelowBy, end_by}
+use Rattle.pi_meaning.specs.Trace.{Trace, Done, Raise, one, alt, then, first}
+use Rattle.pi_meaning.specs.Control.{negated, chosen}
+use Rattle.pi_meaning.specs.Depth.{Below}
+use Rattle.pi_meaning.specs.Related.{BelowBy, end_by}
 use Rattle.pi_meaning.specs.View.{View}
 use Rattle.pi_meaning.specs.Instances.{tabled}
 use Rattle.pi_meaning.specs.Settle.{settled}
@@ -22,8 +22,8 @@ use Rattle.pi_meaning.specs.Builtins.{predicate_by, function_by}
 use Rattle.pi_core.specs.CoreTree.{PredTree}
 use Rattle.pi_meaning.specs.Meaning.{Action, with_slot, draining, strictly, succeeding, failing, ticking, calling, applying, slot_value, copyable, with_list, collecting, counting, catching, meaning, meaning_of_all, meaning_of_any}
 use Rattle.pi_meaning.specs.Quiet.{Callee, Passes, PassesAll, PassesAny, Reaches, ReachesInAll, ReachesInAny, TicksBetween}
-use Rattle.pi_traces.proofs.BelowLemmas.{below-refl}
-use Rattle.pi_traces.proofs.RelatedLemmas.{Same, by-refl, by-same, by-one, by-map, by-alt, by-then, by-then_same, by-first, by-negated, by-chosen, by-collected, by-counted, by-caught}
+use Rattle.pi_meaning.proofs.BelowLemmas.{below-refl}
+use Rattle.pi_meaning.proofs.RelatedLemmas.{Same, by-refl, by-same, by-one, by-map, by-alt, by-then, by-then_same, by-first, by-negated, by-chosen, by-collected, by-counted, by-caught}
 use Rattle.pi_meaning.proofs.MeaningLemmas.{place, as-many, count-of}
 use Rattle.pi_meaning.proofs.QuietGoals.{Fits, callee}
 

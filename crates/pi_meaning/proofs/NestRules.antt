@@ -5,8 +5,8 @@ use Rattle.pi_terms.specs.Tree.{Tree, comp, Trees, tree_count}
 use Rattle.pi_core.specs.GoalTree.{GoalTree, truth}
 use Rattle.pi_terms.specs.Places.{Places}
 use Rattle.pi_states.specs.State.{State, bindings}
-use Rattle.pi_traces.specs.Trace.{Trace, Done, one}
-use Rattle.pi_traces.specs.Related.{BelowBy, deeper_by, end_by}
+use Rattle.pi_meaning.specs.Trace.{Trace, Done, one}
+use Rattle.pi_meaning.specs.Related.{BelowBy, deeper_by, end_by}
 use Rattle.pi_meaning.specs.View.{View}
 use Rattle.pi_meaning.specs.Instances.{tabled}
 use Rattle.pi_meaning.specs.Drain.{drained}
@@ -21,8 +21,8 @@ use Rattle.pi_meaning.specs.Quiet.{Callee, Passes, Reaches, TicksBetween}
 use Rattle.pi_meaning.specs.MeaningLaws.{SameButLevel, QuietCallsNestFreely}
 use Rattle.pi_syntax.specs.declared.program.Mode.{Mode}
 use Rattle.pi_core.specs.declared.core_program.SlotWatch.{SlotWatch}
-use Rattle.pi_traces.proofs.BelowLemmas.{below-refl}
-use Rattle.pi_traces.proofs.RelatedLemmas.{Same, below-by, by-same, by-one, by-map, by-then, by-chosen}
+use Rattle.pi_meaning.proofs.BelowLemmas.{below-refl}
+use Rattle.pi_meaning.proofs.RelatedLemmas.{Same, below-by, by-same, by-one, by-map, by-then, by-chosen}
 use Rattle.pi_meaning.proofs.MeaningLemmas.{place}
 use Rattle.pi_meaning.proofs.RuleLemmas.{chosen-rule-below, value-at-level}
 use Rattle.pi_meaning.proofs.QuietGoals.{Fits, callee}

@@ -1,7 +1,7 @@
 -- Cuts of traces with what their answers tell.
 use Rattle.std.proofs.Common.{◌≡◌, ℕ, zero, suc, refl, ap}
-use Rattle.pi_traces.specs.Trace.{Trace, end, note, ans, Tick, Load, Out, noted, answered, alt, then}
-use Rattle.pi_traces.specs.Depth.{Cut, cut, with_event}
+use Rattle.pi_meaning.specs.Trace.{Trace, end, note, ans, Tick, Load, Out, noted, answered, alt, then}
+use Rattle.pi_meaning.specs.Depth.{Cut, cut, with_event}
 use Rattle.pi_meaning.specs.Telling.{Told, told_trace, told_cut}
 
 pub cut-told : {A : Type 0} (f : A → Told) (n : ℕ) (t : Trace A) → cut n (told_trace f t) ≡ told_cut f (cut n t)

@@ -5,7 +5,7 @@ use Rattle.pi_terms.specs.Copy.{copy, new_variables}
 use Rattle.pi_states.specs.State.{State, next}
 use Rattle.pi_states.specs.Unify.{unified}
 use Rattle.pi_states.specs.Evaluation.{with_new_variables}
-use Rattle.pi_traces.specs.Trace.{Trace, end, Raise, then}
+use Rattle.pi_meaning.specs.Trace.{Trace, end, Raise, then}
 use Rattle.pi_meaning.specs.Settle.{settled}
 
 -- where a term is raised, a copy of it is unified with what is to be caught, in the state in which the goal began. That is settled, and what handles it goes on; where they

@@ -6,9 +6,9 @@ use Rattle.pi_terms.specs.Places.{Places}
 use Rattle.pi_states.specs.State.{State, next, IsState, PlacesBelow}
 use Rattle.pi_core.specs.GoalTree.{GoalTree}
 use Rattle.pi_effects.specs.BuiltIns.{is_predicate}
-use Rattle.pi_traces.specs.Trace.{WithoutDeep, answers}
-use Rattle.pi_traces.specs.Depth.{DepthOnlyAdds, Cut, cut, CutWithoutDeep}
-use Rattle.pi_traces.specs.Related.{BelowBy}
+use Rattle.pi_meaning.specs.Trace.{WithoutDeep, answers}
+use Rattle.pi_meaning.specs.Depth.{DepthOnlyAdds, Cut, cut, CutWithoutDeep}
+use Rattle.pi_meaning.specs.Related.{BelowBy}
 use Rattle.pi_meaning.specs.View.{View, PlansAreGround}
 use Rattle.pi_meaning.specs.Names.{is_given}
 use Rattle.pi_meaning.specs.Builtins.{Builtins, BuiltinsOnlyAdd}

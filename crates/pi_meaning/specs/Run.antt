@@ -3,8 +3,8 @@
 use Rattle.std.specs.Prelude.{◌≡◌, ℕ, List, [], ◌∷◌, ◌++◌, None, replicate}
 use Rattle.pi_terms.specs.Places.{Places}
 use Rattle.pi_states.specs.State.{State, empty_state}
-use Rattle.pi_traces.specs.Trace.{Trace, then, one}
-use Rattle.pi_traces.specs.Depth.{Cut, cut, CutWithoutDeep}
+use Rattle.pi_meaning.specs.Trace.{Trace, then, one}
+use Rattle.pi_meaning.specs.Depth.{Cut, cut, CutWithoutDeep}
 use Rattle.pi_meaning.specs.View.{query_view}
 use Rattle.pi_meaning.specs.Builtins.{Builtins}
 use Rattle.pi_meaning.specs.Instances.{no_later, whole}
@@ -14,7 +14,7 @@ use Rattle.pi_meaning.specs.Raise.{within_limit}
 use Rattle.pi_meaning.specs.Meaning.{slot_value, meaning, strictly}
 use Rattle.pi_meaning.specs.Rules.{level_at}
 use Rattle.pi_core.specs.declared.core_program.NameSlot.{NameSlot}
-use Rattle.pi_answers.specs.declared.log.LogEntry.{LogEntry}
+use Rattle.pi_core.specs.declared.log.LogEntry.{LogEntry}
 
 -- an answer of a query: what its slots hold, and the state
 pub record Solution : Type 0 where

@@ -6,11 +6,11 @@ use Rattle.pi_states.specs.Value.{value}
 use Rattle.pi_states.specs.State.{State, bindings}
 use Rattle.pi_states.specs.ToldDomains.{told_domains}
 use Rattle.pi_syntax.specs.ExpTree.{ExpTree}
-use Rattle.pi_traces.specs.Trace.{Trace, Emitted, noted, answered, one, then}
-use Rattle.pi_traces.specs.Depth.{Cut}
-use Rattle.pi_answers.specs.AnswerVariables.{answer_variables}
-use Rattle.pi_answers.specs.declared.answer.Answer.{Answer}
-use Rattle.pi_answers.specs.declared.answer.NamedTerm.{NamedTerm}
+use Rattle.pi_meaning.specs.Trace.{Trace, Emitted, noted, answered, one, then}
+use Rattle.pi_meaning.specs.Depth.{Cut}
+use Rattle.pi_core.specs.AnswerVariables.{answer_variables}
+use Rattle.pi_core.specs.declared.answer.Answer.{Answer}
+use Rattle.pi_core.specs.declared.answer.NamedTerm.{NamedTerm}
 use Rattle.pi_meaning.specs.Raise.{within_limit}
 use Rattle.pi_meaning.specs.Environment.{Environment, Valued, valued}
 use Rattle.pi_meaning.specs.Place.{Place, Doing}

@@ -9,10 +9,10 @@ use Rattle.pi_states.specs.Evaluation.{Evaluated, evaluated}
 use Rattle.pi_states.specs.ToldDomains.{told_domains}
 use Rattle.pi_meaning.specs.Run.{Solution}
 use Rattle.pi_meaning.specs.Telling.{Told}
-use Rattle.pi_answers.specs.AnswerVariables.{answer_variables}
+use Rattle.pi_core.specs.AnswerVariables.{answer_variables}
 use Rattle.pi_core.specs.declared.core_program.NameSlot.{NameSlot}
-use Rattle.pi_answers.specs.declared.answer.NamedTerm.{NamedTerm}
-use Rattle.pi_answers.specs.declared.answer.Answer.{Answer}
+use Rattle.pi_core.specs.declared.answer.NamedTerm.{NamedTerm}
+use Rattle.pi_core.specs.declared.answer.Answer.{Answer}
 
 -- the named variables in order, each with its value; one whose slot is empty is a new variable
 unfoldable pub named_values : List NameSlot → Places → State → List NamedTerm

@@ -7,11 +7,11 @@ use Rattle.pi_terms.specs.Order.{identical}
 use Rattle.pi_terms.specs.Variables.{IsGround}
 use Rattle.pi_states.specs.State.{State}
 use Rattle.pi_states.specs.Unify.{unified}
-use Rattle.pi_traces.specs.Trace.{Trace, end, Call, Raise, Abort, Miss, done}
+use Rattle.pi_meaning.specs.Trace.{Trace, end, Call, Raise, Abort, Miss, done}
 use Rattle.pi_meaning.specs.Settle.{settled_from}
 use Rattle.pi_meaning.specs.Within.{Within, a_query, a_body, is_body}
-use Rattle.pi_answers.specs.declared.log.LogEntry.{LogEntry}
-use Rattle.pi_answers.specs.declared.log.PlanResult.{PlanResult}
+use Rattle.pi_core.specs.declared.log.LogEntry.{LogEntry}
+use Rattle.pi_core.specs.declared.log.PlanResult.{PlanResult}
 
 -- the planner calls that are done, in the order of their completion; those that are being answered; in what the goal runs
 pub record View : Type 0 where

@@ -3,7 +3,7 @@
 use Rattle.std.specs.Prelude.{ℕ, pos, Bool, true, false, codes}
 use Rattle.pi_terms.specs.Tree.{int, atom}
 use Rattle.pi_states.specs.State.{State}
-use Rattle.pi_traces.specs.Trace.{Trace, end, Raise, one}
+use Rattle.pi_meaning.specs.Trace.{Trace, end, Raise, one}
 use Rattle.pi_meaning.specs.Level.{Applied}
 
 -- a query, or the body of a planner call with so much of its limit left

@@ -21,10 +21,10 @@ use Rattle.pi_syntax.specs.ProgramTree.{RuleTree}
 use Rattle.pi_syntax.specs.Signature.{Signature, exp_count}
 use Rattle.pi_meaning.specs.Names.{later_predicates, is_later_predicate, is_later_function, is_resource, is_catch, is_call}
 use Rattle.pi_meaning.specs.WrittenRules.{rules_of, is_rule_of}
-use Rattle.pi_lib.specs.Names.{function_rows, predicate_rows, prelude_rows, is_listed, kind_of}
-use Rattle.pi_lib.specs.Forms.{is_form}
-use Rattle.pi_lib.specs.declared.builtin.BuiltinKind.{BuiltinKind}
-use Rattle.pi_lib.specs.declared.builtin.BuiltinKind.TheVariants.{Predicate, Function, Prelude}
+use Rattle.pi_syntax.specs.Names.{function_rows, predicate_rows, prelude_rows, is_listed, kind_of}
+use Rattle.pi_syntax.specs.Forms.{is_form}
+use Rattle.pi_syntax.specs.declared.builtin.BuiltinKind.{BuiltinKind}
+use Rattle.pi_syntax.specs.declared.builtin.BuiltinKind.TheVariants.{Predicate, Function, Prelude}
 use Rattle.pi_names.specs.Forms.{Form, negation, once, assignment, catch, by_term, membership, form_of, is_find_all, is_count_all}
 use Rattle.pi_names.specs.Rules.{rules_named}
 use Rattle.pi_names.specs.Prelude.{prelude}

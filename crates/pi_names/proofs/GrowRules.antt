@@ -6,10 +6,10 @@ use Rattle.pi_states.specs.State.{State, bindings}
 use Rattle.pi_syntax.specs.ExpTree.{ExpTree}
 use Rattle.pi_syntax.specs.ProgramTree.{RuleTree, FunctionTree, ProgramTree}
 use Rattle.pi_syntax.specs.declared.program.Mode.{Mode}
-use Rattle.pi_traces.specs.Trace.{Trace, Tick, done}
-use Rattle.pi_traces.specs.Depth.{Below, deeper, same_note, cut, CutWithoutDeep}
-use Rattle.pi_traces.proofs.BelowLemmas.{below-refl, below-alt, below-then, below-chosen}
-use Rattle.pi_traces.proofs.CutLemmas.{depths-agree}
+use Rattle.pi_meaning.specs.Trace.{Trace, Tick, done}
+use Rattle.pi_meaning.specs.Depth.{Below, deeper, same_note, cut, CutWithoutDeep}
+use Rattle.pi_meaning.proofs.BelowLemmas.{below-refl, below-alt, below-then, below-chosen}
+use Rattle.pi_meaning.proofs.CutLemmas.{depths-agree}
 use Rattle.pi_meaning.specs.Level.{Level, Applied, CallsBelow, LevelBelow}
 use Rattle.pi_meaning.specs.Rules.{chosen_rule}
 use Rattle.pi_meaning.specs.Environment.{Environment}

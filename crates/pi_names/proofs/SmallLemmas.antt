@@ -18,8 +18,8 @@ use Rattle.pi_effects.specs.BuiltIns.{tests, other_predicates, built_in_predicat
 use Rattle.pi_effects.proofs.BuiltInLemmas.{predicates-listed}
 use Rattle.pi_syntax.specs.ExpTree.{ExpTree, ExpTrees, no_exps, exp}
 use Rattle.pi_syntax.specs.Signature.{Signature, exp_count}
-use Rattle.pi_traces.specs.Trace.{Trace, done, one, then}
-use Rattle.pi_traces.proofs.TraceLemmas.{alt-done}
+use Rattle.pi_meaning.specs.Trace.{Trace, done, one, then}
+use Rattle.pi_meaning.proofs.TraceLemmas.{alt-done}
 use Rattle.pi_meaning.specs.View.{View}
 use Rattle.pi_meaning.specs.Drain.{drained}
 use Rattle.pi_meaning.specs.Level.{Level, calls_at, or_called}

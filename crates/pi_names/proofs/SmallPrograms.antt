@@ -10,8 +10,8 @@ use Rattle.pi_syntax.specs.ExpTree.{ExpTree}
 use Rattle.pi_syntax.specs.ProgramTree.{RuleTree, WrittenClause, rule, function, fact, ProgramTree}
 use Rattle.pi_syntax.specs.declared.program.Mode.{Mode}
 use Rattle.pi_effects.specs.BuiltIns.{is_predicate}
-use Rattle.pi_traces.specs.Trace.{Trace, note, Tick, one, then}
-use Rattle.pi_traces.specs.Control.{chosen}
+use Rattle.pi_meaning.specs.Trace.{Trace, note, Tick, one, then}
+use Rattle.pi_meaning.specs.Control.{chosen}
 use Rattle.pi_meaning.specs.Level.{Level}
 use Rattle.pi_meaning.specs.Rules.{chosen_rule}
 use Rattle.pi_meaning.specs.Small.{heads, Defines, IsSmallHead, AreSmallTerms, IsSmallRule, IsSmallClause, IsSmallPart, IsSmallProgram}

@@ -8,7 +8,7 @@ use Rattle.std.proofs.lemmas.Slice.Eq.{bytes_eq-Decides}
 use Rattle.pi_syntax.specs.Tokens.{is_one_of}
 use Rattle.pi_syntax.specs.Signature.{Signature}
 use Rattle.pi_effects.specs.Rows.{Body, of_none, of_one, of_two, of_three, of_many, Row, fits, has_line}
-use Rattle.pi_lib.specs.Names.{Row as LibraryRow, is_listed}
+use Rattle.pi_syntax.specs.Names.{Row as LibraryRow, is_listed}
 
 abbrev pub Test : Type 0
 Test = List ℕ → ℕ → Bool

@@ -5,8 +5,8 @@ use Rattle.std.specs.Prelude.{Option}
 use Rattle.pi_terms.specs.Tree.{Trees}
 use Rattle.pi_states.specs.State.{State}
 use Rattle.pi_syntax.specs.Signature.{exp_count}
-use Rattle.pi_traces.specs.Trace.{Trace, one, then}
-use Rattle.pi_traces.proofs.TraceLemmas.{then-assoc}
+use Rattle.pi_meaning.specs.Trace.{Trace, one, then}
+use Rattle.pi_meaning.proofs.TraceLemmas.{then-assoc}
 use Rattle.pi_meaning.specs.Level.{Applied}
 use Rattle.pi_meaning.specs.Environment.{Valued, ValuedAll}
 use Rattle.pi_meaning.specs.Place.{Place}

@@ -36,16 +36,16 @@ use Rattle.pi_effects.specs.Format.{pieces, filled_in, formatted}
 use Rattle.pi_effects.specs.Texts.{text_functions, writing_predicates}
 use Rattle.pi_effects.specs.Making.{new_rows, making_functions}
 use Rattle.pi_effects.specs.BuiltIns.{reading_functions, built_in_function, tests, other_predicates, built_in_predicate, is_predicate}
-use Rattle.pi_traces.specs.Trace.{end, Raise, then, alt, first, Emitted, noted, answered, Note}
-use Rattle.pi_traces.specs.Control.{negated, chosen, collected, counted, caught}
-use Rattle.pi_traces.specs.Depth.{Cut, cut, Stop}
+use Rattle.pi_meaning.specs.Trace.{end, Raise, then, alt, first, Emitted, noted, answered, Note}
+use Rattle.pi_meaning.specs.Control.{negated, chosen, collected, counted, caught}
+use Rattle.pi_meaning.specs.Depth.{Cut, cut, Stop}
 use Rattle.pi_meaning.specs.Settle.{settled}
 use Rattle.pi_meaning.specs.Drain.{drained}
 use Rattle.pi_meaning.specs.Raise.{raised_with}
 use Rattle.pi_meaning.specs.Environment.{meant}
 use Rattle.pi_meaning.specs.Facts.{fits_modes}
 use Rattle.pi_meaning.specs.Telling.{told_behind, told_values, if_tellable, Told, told_trace, place_told}
-use Rattle.pi_answers.specs.declared.answer.NamedTerm.{NamedTerm}
+use Rattle.pi_core.specs.declared.answer.NamedTerm.{NamedTerm}
 use Rattle.pi_meaning.specs.View.{View, query_view}
 use Rattle.pi_names.specs.Texts.{places, places_all, places_caught, places_of_branches, occurring, occurring_all, occurring_in_branches, behind, patterns_of, assigned as assigned_names, assigned_all, assigned_in_branches}
 use Rattle.pi_names.specs.Stages.{LaterStages, no_stages}

@@ -6,8 +6,8 @@ use Rattle.pi_terms.specs.ListCopies.{new_in_all, list_of_copies}
 use Rattle.pi_states.specs.Value.{value}
 use Rattle.pi_states.specs.State.{bindings, next}
 use Rattle.pi_states.specs.Evaluation.{with_new_variables}
-use Rattle.pi_traces.specs.Trace.{Trace, done, one, alt, then, first}
-use Rattle.pi_traces.specs.Control.{negated, chosen, collected, counted, caught}
+use Rattle.pi_meaning.specs.Trace.{Trace, done, one, alt, then, first}
+use Rattle.pi_meaning.specs.Control.{negated, chosen, collected, counted, caught}
 use Rattle.pi_meaning.specs.Level.{Level, calls_at}
 use Rattle.pi_meaning.specs.Meaning.{copyable}
 use Rattle.pi_meaning.specs.Handling.{handling}

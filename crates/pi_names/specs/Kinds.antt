@@ -3,10 +3,10 @@ use Rattle.std.specs.Prelude.{◌≡◌, ℕ, ◌==◌, ◌&&◌, ◌||◌, Bool
 use Rattle.std.specs.Str.{bytes_eq}
 use Rattle.pi_effects.specs.BuiltIns.{is_function, is_predicate}
 use Rattle.pi_syntax.specs.ProgramTree.{RuleTree}
-use Rattle.pi_lib.specs.Forms.{is_form}
-use Rattle.pi_lib.specs.Names.{kind_of}
-use Rattle.pi_lib.specs.declared.builtin.BuiltinKind.{BuiltinKind}
-use Rattle.pi_lib.specs.declared.builtin.BuiltinKind.TheVariants.{Predicate, Function, Prelude}
+use Rattle.pi_syntax.specs.Forms.{is_form}
+use Rattle.pi_syntax.specs.Names.{kind_of}
+use Rattle.pi_syntax.specs.declared.builtin.BuiltinKind.{BuiltinKind}
+use Rattle.pi_syntax.specs.declared.builtin.BuiltinKind.TheVariants.{Predicate, Function, Prelude}
 use Rattle.pi_meaning.specs.Names.{is_later_predicate, is_later_function, is_resource, is_catch, is_call}
 use Rattle.pi_names.specs.Forms.{is_find_all, is_count_all}
 use Rattle.pi_names.specs.Rules.{rules_named}

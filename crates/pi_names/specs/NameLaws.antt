@@ -9,8 +9,8 @@ use Rattle.pi_syntax.specs.ExpTree.{ExpTree, atom, str, list, call, ExpTrees, no
 use Rattle.pi_syntax.specs.ProgramTree.{ProgramTree}
 use Rattle.pi_syntax.specs.Signature.{exp_count}
 use Rattle.pi_effects.specs.BuiltIns.{is_predicate}
-use Rattle.pi_traces.specs.Trace.{Trace, one, then}
-use Rattle.pi_traces.specs.Depth.{DepthOnlyAdds, Cut, CutWithoutDeep}
+use Rattle.pi_meaning.specs.Trace.{Trace, one, then}
+use Rattle.pi_meaning.specs.Depth.{DepthOnlyAdds, Cut, CutWithoutDeep}
 use Rattle.pi_meaning.specs.View.{View}
 use Rattle.pi_meaning.specs.Level.{Level, Applied, calls_at}
 use Rattle.pi_meaning.specs.Names.{is_later_predicate}
@@ -20,8 +20,8 @@ use Rattle.pi_meaning.specs.Small.{heads, Defines, IsSmallProgram, IsSmallQuery}
 use Rattle.pi_meaning.specs.Place.{Place}
 use Rattle.pi_meaning.specs.Surface.{called_at, surface_from}
 use Rattle.pi_meaning.specs.Telling.{Told}
-use Rattle.pi_lib.specs.Names.{kind_of}
-use Rattle.pi_lib.specs.Forms.{is_form}
+use Rattle.pi_syntax.specs.Names.{kind_of}
+use Rattle.pi_syntax.specs.Forms.{is_form}
 use Rattle.pi_names.specs.Texts.{Names}
 use Rattle.pi_names.specs.Stages.{LaterStages}
 use Rattle.pi_names.specs.Heads.{pattern_matched}

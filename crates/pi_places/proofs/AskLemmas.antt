@@ -11,7 +11,7 @@ use Rattle.pi_constraints.specs.declared.domain.Span.{Span}
 use Rattle.pi_constraints.specs.Domain.{IsDomain, span_has, has_value}
 use Rattle.pi_constraints.proofs.SpanLemmas.{AscendFrom-drop}
 use Rattle.pi_constraints.proofs.DomainLemmas.{IsLeastValue-first}
-use Rattle.pi_dom.proofs.ExtremeLemmas.{ends_below, has_value-found, has_value-not_found, AscendFrom-get_or}
+use Rattle.pi_constraints.proofs.ExtremeLemmas.{ends_below, has_value-found, has_value-not_found, AscendFrom-get_or}
 use Rattle.pi_filters.specs.Rules.{ShareAValue}
 use Rattle.pi_places.specs.Reads.{HasValueBetween}
 use Rattle.pi_places.proofs.RoundLemmas.{le_test, test_le}

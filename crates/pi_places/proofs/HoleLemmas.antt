@@ -10,8 +10,8 @@ use Rattle.pi_constraints.specs.declared.domain.TheConstants.{MAX_VALUE}
 use Rattle.pi_constraints.specs.declared.domain.Span.{Span}
 use Rattle.pi_constraints.specs.Domain.{AscendFrom, IsDomain, IsWithinBounds, span_has, has_value}
 use Rattle.pi_constraints.proofs.SpanLemmas.{AscendFrom-lower, AscendFrom-drop, has_value-below}
-use Rattle.pi_dom.proofs.ClipLemmas.{int_eq_is}
-use Rattle.pi_dom.proofs.ExtremeLemmas.{AscendFrom-get_or}
+use Rattle.pi_constraints.proofs.ClipLemmas.{int_eq_is}
+use Rattle.pi_constraints.proofs.ExtremeLemmas.{AscendFrom-get_or}
 use Rattle.pi_places.proofs.NarrowedCuts.{from_to, least_below}
 
 -- other spans in the place of one

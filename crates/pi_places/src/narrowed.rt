@@ -94,7 +94,7 @@ impl Narrowed {
             return Ok(());
         }
         let whole = self.take(alloc);
-        let left = pi_dom::meet(alloc, &whole, kept)?;
+        let left = pi_constraints::meet(alloc, &whole, kept)?;
         *self = Narrowed::of(alloc, &left)?;
         Ok(())
     }
@@ -103,11 +103,11 @@ impl Narrowed {
     fn cut_to_ends(&mut self, kept: &Domain)
         ensures { (m : ℤ) → (has_value self.new m && has_value kept.now m) ≡ (has_value self.old m && has_value kept.now m) }
     {
-        let Some(least) = pi_dom::min(kept) else {
+        let Some(least) = pi_constraints::min(kept) else {
             return;
         };
         self.cut_below(i128::from(least));
-        let Some(greatest) = pi_dom::max(kept) else {
+        let Some(greatest) = pi_constraints::max(kept) else {
             return;
         };
         self.cut_above(i128::from(greatest));

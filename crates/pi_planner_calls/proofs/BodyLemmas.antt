@@ -5,8 +5,8 @@ use Rattle.pi_states.specs.Value.{value}
 use Rattle.pi_states.specs.State.{State, bindings}
 use Rattle.pi_core.specs.GoalTree.{GoalTree, subgoals}
 use Rattle.pi_core.specs.CoreTree.{PredTree, find_pred}
-use Rattle.pi_traces.specs.Trace.{Call, one, then}
-use Rattle.pi_answers.specs.declared.log.LogEntry.{LogEntry}
+use Rattle.pi_meaning.specs.Trace.{Call, one, then}
+use Rattle.pi_core.specs.declared.log.LogEntry.{LogEntry}
 use Rattle.pi_meaning.specs.Raise.{within_limit}
 use Rattle.pi_meaning.specs.View.{body_view, Wanted, entry_for, read_entry, reading}
 use Rattle.pi_meaning.specs.Given.{Later}

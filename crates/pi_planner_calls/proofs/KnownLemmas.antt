@@ -3,9 +3,9 @@ use Rattle.std.specs.Prelude.{◌≡◌, ℕ, zero, suc, ℤ, pos, Bool, true, f
 use Rattle.std.proofs.Common.{◌∙◌, sym, ap, subst, append_assoc}
 use Rattle.std.proofs.lemmas.List.{append-nil}
 use Rattle.pi_terms.specs.Tree.{Tree, int}
-use Rattle.pi_traces.specs.Trace.{Trace, Done, answers, end_of}
-use Rattle.pi_answers.specs.declared.log.LogEntry.{LogEntry}
-use Rattle.pi_answers.specs.declared.log.PlanResult.{PlanResult}
+use Rattle.pi_meaning.specs.Trace.{Trace, Done, answers, end_of}
+use Rattle.pi_core.specs.declared.log.LogEntry.{LogEntry}
+use Rattle.pi_core.specs.declared.log.PlanResult.{PlanResult}
 use Rattle.pi_meaning.specs.View.{body_view}
 use Rattle.pi_planner_calls.specs.Bodies.{Offer, Bodies, first_fault}
 use Rattle.pi_planner_calls.specs.Steps.{IsFinal, IsStep, Valid, Reached, at_start, by_step, IsClosed, IsExhausted, number_of}

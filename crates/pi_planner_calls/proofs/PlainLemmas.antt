@@ -2,9 +2,9 @@
 use Rattle.std.specs.Prelude.{◌≡◌, suc, refl}
 use Rattle.std.proofs.Common.{sym, ◌∙◌, ap}
 use Rattle.pi_terms.specs.Tree.{Tree}
-use Rattle.pi_traces.specs.Trace.{Trace, end, note, ans, Done, Raise, Abort, Miss, Deep, one, alt, then}
-use Rattle.pi_traces.specs.Control.{caught, chosen}
-use Rattle.pi_traces.proofs.TraceLemmas.{then-alt, then-assoc}
+use Rattle.pi_meaning.specs.Trace.{Trace, end, note, ans, Done, Raise, Abort, Miss, Deep, one, alt, then}
+use Rattle.pi_meaning.specs.Control.{caught, chosen}
+use Rattle.pi_meaning.proofs.TraceLemmas.{then-alt, then-assoc}
 use Rattle.pi_planner_calls.specs.Ways.{plain, choosing, numbered, behind, choice_from}
 use Rattle.pi_planner_calls.specs.Resumed.{rest_unless, rules_ways}
 use Rattle.pi_planner_calls.specs.PathLaws.{PlainOfNumbered, PlainOfSequence, PlainOfChoice, PlainOfCatch, PlainOfRules}

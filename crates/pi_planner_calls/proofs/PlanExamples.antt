@@ -3,10 +3,10 @@ use Rattle.std.specs.Prelude.{◌≡◌, ℕ, pos, negsuc, Bool, true, false, co
 use Rattle.std.specs.List.{list_any}
 use Rattle.std.proofs.Common.{ap}
 use Rattle.pi_terms.specs.Tree.{Tree, int, comp, no_trees, tree, cells, most_cells}
-use Rattle.pi_traces.specs.Trace.{Call, end, Raise, Abort, Miss}
+use Rattle.pi_meaning.specs.Trace.{Call, end, Raise, Abort, Miss}
 use Rattle.pi_states.specs.Value.{value}
 use Rattle.pi_states.specs.State.{State, bindings}
-use Rattle.pi_answers.specs.declared.log.LogEntry.{LogEntry}
+use Rattle.pi_core.specs.declared.log.LogEntry.{LogEntry}
 use Rattle.pi_core.specs.GoalTree.{apply}
 use Rattle.pi_meaning.specs.Raise.{too_large}
 use Rattle.pi_meaning.specs.View.{View, query_view, body_view, same_call, call_term, Wanted, read_entry}

@@ -9,8 +9,8 @@ use Rattle.pi_core.specs.GoalTree.{GoalTree, truth}
 use Rattle.pi_core.specs.CoreTree.{ClauseTree, PredTree, QueryTree, backtracks, is_pred, find_pred}
 use Rattle.pi_core.specs.declared.core_program.SlotWatch.{SlotWatch}
 use Rattle.pi_syntax.specs.declared.program.Mode.{Mode}
-use Rattle.pi_traces.specs.Trace.{Trace, one, then}
-use Rattle.pi_traces.specs.Control.{chosen}
+use Rattle.pi_meaning.specs.Trace.{Trace, one, then}
+use Rattle.pi_meaning.specs.Control.{chosen}
 use Rattle.pi_meaning.specs.Raise.{raised_with}
 use Rattle.pi_meaning.specs.Drain.{drained}
 use Rattle.pi_meaning.specs.Level.{Level, level_of, Applied, Point}

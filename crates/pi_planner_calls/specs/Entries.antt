@@ -3,13 +3,13 @@
 use Rattle.std.specs.Prelude.{◌≡◌, ◌⊎◌, ℕ, ◌<◌, ◌≤◌, ℤ, pos, Bool, true, false, List, ◌++◌, take, slice_get, Some, codes, All}
 use Rattle.pi_terms.specs.Tree.{Tree}
 use Rattle.pi_terms.specs.Variables.{IsGround}
-use Rattle.pi_traces.specs.Trace.{Call, Done, Raise, Abort, answers}
+use Rattle.pi_meaning.specs.Trace.{Call, Done, Raise, Abort, answers}
 use Rattle.pi_states.specs.State.{empty_state}
 use Rattle.pi_effects.specs.Exception.{exception_with}
 use Rattle.pi_effects.specs.Items.{list_of}
 use Rattle.pi_meaning.specs.View.{call_of, same_call, body_view}
-use Rattle.pi_answers.specs.declared.log.LogEntry.{LogEntry}
-use Rattle.pi_answers.specs.declared.log.PlanResult.{PlanResult}
+use Rattle.pi_core.specs.declared.log.LogEntry.{LogEntry}
+use Rattle.pi_core.specs.declared.log.PlanResult.{PlanResult}
 use Rattle.pi_planner_calls.specs.Bodies.{Bodies, EndsIn, FailsIn, first_fault}
 use Rattle.pi_planner_calls.specs.Steps.{Valid, Reached, IsExhausted, number_of}
 use Rattle.pi_planner_calls.specs.Calls.{Reach}

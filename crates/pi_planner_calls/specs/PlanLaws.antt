@@ -1,8 +1,8 @@
 -- The laws of plans.
 use Rattle.std.specs.Prelude.{◌≡◌, ℕ, ◌+◌, ◌≤◌, ℤ, pos, ◌≤ℤ◌, true, List, ◌++◌, slice_get, Some}
 use Rattle.pi_terms.specs.Tree.{Tree}
-use Rattle.pi_answers.specs.declared.log.LogEntry.{LogEntry}
-use Rattle.pi_answers.specs.declared.log.PlanResult.{PlanResult}
+use Rattle.pi_core.specs.declared.log.LogEntry.{LogEntry}
+use Rattle.pi_core.specs.declared.log.PlanResult.{PlanResult}
 use Rattle.pi_planner_calls.specs.Bodies.{Bodies}
 use Rattle.pi_planner_calls.specs.Steps.{IsStep, Valid, Reached, IsExhausted, number_of}
 use Rattle.pi_planner_calls.specs.Entries.{IsRightEntry, IsRightLog}

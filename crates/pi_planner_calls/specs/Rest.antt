@@ -2,8 +2,8 @@
 use Rattle.std.specs.Prelude.{◌≡◌, ℕ, List}
 use Rattle.pi_terms.specs.Tree.{Trees}
 use Rattle.pi_states.specs.State.{State}
-use Rattle.pi_traces.specs.Trace.{Call}
-use Rattle.pi_answers.specs.declared.log.LogEntry.{LogEntry}
+use Rattle.pi_meaning.specs.Trace.{Call}
+use Rattle.pi_core.specs.declared.log.LogEntry.{LogEntry}
 use Rattle.pi_meaning.specs.View.{body_view}
 use Rattle.pi_meaning.specs.Level.{Level}
 use Rattle.pi_meaning.specs.Given.{Later}

@@ -4,9 +4,9 @@ use Rattle.pi_terms.specs.Tree.{Tree, Trees}
 use Rattle.pi_states.specs.State.{State}
 use Rattle.pi_core.specs.GoalTree.{GoalTree}
 use Rattle.pi_core.specs.CoreTree.{PredTree, QueryTree}
-use Rattle.pi_traces.specs.Trace.{Call}
-use Rattle.pi_answers.specs.declared.log.LogEntry.{LogEntry}
-use Rattle.pi_answers.specs.declared.log.PlanResult.{PlanResult}
+use Rattle.pi_meaning.specs.Trace.{Call}
+use Rattle.pi_core.specs.declared.log.LogEntry.{LogEntry}
+use Rattle.pi_core.specs.declared.log.PlanResult.{PlanResult}
 use Rattle.pi_meaning.specs.View.{body_view}
 use Rattle.pi_meaning.specs.Given.{Later}
 use Rattle.pi_meaning.specs.Instances.{whole}

@@ -2,8 +2,8 @@
 -- before is passed over, and its outputs are dropped. Where the way ends without the answer the path is bad. (Own.)
 use Rattle.std.specs.Prelude.{◌≡◌, ℕ, zero, suc, Bool, true, false, List, [], ◌∷◌, ◌++◌, map}
 use Rattle.pi_terms.specs.Tree.{Tree}
-use Rattle.pi_traces.specs.Trace.{Trace, end, note, ans, End, Done, Raise, Miss, Deep, Note, Tick, Load, Out, done, one, alt, then}
-use Rattle.pi_traces.specs.Control.{caught, chosen}
+use Rattle.pi_meaning.specs.Trace.{Trace, end, note, ans, End, Done, Raise, Miss, Deep, Note, Tick, Load, Out, done, one, alt, then}
+use Rattle.pi_meaning.specs.Control.{caught, chosen}
 use Rattle.pi_planner_calls.specs.Ways.{Way, Ways, here, behind, numbered, followed_by, choice_from, choice, catching}
 
 -- What a goal does that follows numbers: notes on the way; then the answer that it leads to, with the choices that were made in the goal, the numbers that are left,

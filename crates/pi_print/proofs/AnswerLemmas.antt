@@ -8,10 +8,10 @@ use Rattle.std.proofs.lemmas.Bool.{cases_Bool}
 use Rattle.std.proofs.lemmas.List.{append-nil}
 use Rattle.std.proofs.Math.Seq.{drop-cons}
 use Rattle.pi_terms.specs.Variables.{occurrences, firsts}
-use Rattle.pi_answers.specs.AnswerVariables.{answer_variables}
+use Rattle.pi_core.specs.AnswerVariables.{answer_variables}
 use Rattle.pi_print.specs.PrintAnswer.{value_line, domain_of, domain_lines, answer_lines}
-use Rattle.pi_answers.specs.declared.answer.Answer.{Answer}
-use Rattle.pi_answers.specs.declared.answer.NamedTerm.{NamedTerm}
+use Rattle.pi_core.specs.declared.answer.Answer.{Answer}
+use Rattle.pi_core.specs.declared.answer.NamedTerm.{NamedTerm}
 use Rattle.pi_constraints.specs.declared.var_domain.VarDomain.{VarDomain}
 use Rattle.pi_constraints.specs.declared.domain.Span.{Span}
 use Rattle.pi_print.specs.Answers.{HasDomains}

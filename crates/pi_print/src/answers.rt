@@ -1,15 +1,15 @@
 //! The lines of an answer.
 ghost use Rattle.std.specs.Prelude.{◌≡◌, ◌++◌, ◌∷◌, [], map, true, IfOk, option_copied};
 ghost use Rattle.std.specs.String.{string_bytes};
-ghost use Rattle.pi_answers.specs.AnswerVariables.{answer_variables};
+ghost use Rattle.pi_core.specs.AnswerVariables.{answer_variables};
 ghost use Rattle.pi_print.specs.PrintAnswer as spec;
 ghost use Rattle.pi_print.specs.Answers.{HasDomains};
 
 use crate::Lines;
 use crate::numbers::meet_term;
 use crate::printer::Printer;
-use pi_answers::{Answer, NamedTerm};
 use pi_constraints::{Domain, Span, VarDomain};
+use pi_core::{Answer, NamedTerm};
 use pi_terms::{Numbers, Text};
 use std::alloc::{AllocError, Global};
 use std::collections::HashMap;

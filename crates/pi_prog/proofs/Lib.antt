@@ -1,2 +1,6 @@
+pub mod ExpressionLemmas
 pub mod OneReadingLemmas
+pub mod PartLemmas
+pub mod PreludeLemmas
 pub mod ProgramLemmas
+pub mod TokenLemmas

@@ -3,12 +3,16 @@
 
 mod goal;
 mod laws;
+mod prelude;
+mod prelude_laws;
 mod program;
 mod reading;
 
 pub use goal::read_goal;
 pub use laws::one_verdict;
 pub use pi_clauses::ProgFault;
+pub use prelude::read_prelude;
+pub use prelude_laws::prelude_is_its_text;
 pub use program::read_program;
 pub use reading::read_parts;
 

@@ -1,11 +1,11 @@
 -- What events print, and how many Ticks and answers they have, where more stand behind them.
 use Rattle.std.proofs.Common.{◌≡◌, ℕ, zero, suc, ◌+◌, List, [], ◌∷◌, ◌++◌, refl, sym, ap, ◌∙◌, arith, append_assoc}
 use Rattle.std.proofs.lemmas.List.{append-nil}
-use Rattle.pi_traces.specs.Trace.{Tick, Load, Out, Emitted, noted, answered, count_ticks}
+use Rattle.pi_meaning.specs.Trace.{Tick, Load, Out, Emitted, noted, answered, count_ticks}
 use Rattle.pi_meaning.specs.Run.{Solution}
 use Rattle.pi_print.specs.PrintAnswer.{answer_lines}
 use Rattle.pi_meaning.specs.Told.{answer_of}
-use Rattle.pi_answers.specs.declared.answer.Answer.{Answer}
+use Rattle.pi_core.specs.declared.answer.Answer.{Answer}
 use Rattle.pi_core.specs.declared.core_program.NameSlot.{NameSlot}
 use Rattle.pi_machine.specs.Next.{some_ticks}
 use Rattle.pi_query.specs.declared.manner.Lines.{Lines}

@@ -3,13 +3,13 @@ use Rattle.std.specs.Prelude.{IfErr}
 use Rattle.std.proofs.Common.{◌≡◌, ◌<◌, ◌≤◌, ℕ, suc, ◌+◌, ◌-◌, Bool, true, false, List, [], ◌∷◌, ◌++◌, Result, Ok, Err, refl, sym, ap, subst, ◌∙◌, arith, append_assoc, length, length-append, slice_set}
 use Rattle.std.proofs.lemmas.List.{append-nil}
 use Rattle.pi_outside.specs.Writes.{SinkWrite}
-use Rattle.pi_traces.specs.Trace.{Done, Raise, Out, Emitted, noted, answered, count_ticks}
-use Rattle.pi_traces.specs.Depth.{Stop as CutStop, Cut, Ended, Spent, with_events}
+use Rattle.pi_meaning.specs.Trace.{Done, Raise, Out, Emitted, noted, answered, count_ticks}
+use Rattle.pi_meaning.specs.Depth.{Stop as CutStop, Cut, Ended, Spent, with_events}
 use Rattle.pi_meaning.specs.View.{query_view}
 use Rattle.pi_core.specs.CoreTree.{PredTree, QueryTree}
 use Rattle.pi_meaning.specs.Run.{Solution, IsRun}
 use Rattle.pi_print.specs.PrintAnswer.{answer_lines}
-use Rattle.pi_answers.specs.declared.answer.Answer.{Answer}
+use Rattle.pi_core.specs.declared.answer.Answer.{Answer}
 use Rattle.pi_core.specs.declared.core_program.NameSlot.{NameSlot}
 use Rattle.pi_meaning.proofs.QuietRules.{query-runs}
 use Rattle.pi_machine.specs.declared.happening.Budget.{Budget}

@@ -2,17 +2,17 @@
 -- end, where it is written. A run is that of the meaning over names, of the texts that were read.
 use Rattle.std.specs.Prelude.{◌≡◌, ◌<◌, ◌≤◌, ℕ, List, [], ◌∷◌, ◌++◌}
 use Rattle.pi_outside.specs.Writes.{SinkWrite}
-use Rattle.pi_traces.specs.Trace.{Out, Emitted, noted, answered, count_ticks}
-use Rattle.pi_traces.specs.Depth.{Cut}
+use Rattle.pi_meaning.specs.Trace.{Out, Emitted, noted, answered, count_ticks}
+use Rattle.pi_meaning.specs.Depth.{Cut}
 use Rattle.pi_syntax.specs.ExpTree.{ExpTree}
 use Rattle.pi_syntax.specs.ProgramTree.{ProgramTree}
 use Rattle.pi_meaning.specs.View.{query_view}
 use Rattle.pi_meaning.specs.Telling.{Told, told_answer}
 use Rattle.pi_names.specs.Stages.{LaterStages}
 use Rattle.pi_names.specs.Run.{IsNamesRun}
-use Rattle.pi_coverage.specs.TermCalls.{Allows}
+use Rattle.pi_sound.specs.TermCalls.{Allows}
 use Rattle.pi_print.specs.PrintAnswer.{answer_lines}
-use Rattle.pi_answers.specs.declared.log.LogEntry.{LogEntry}
+use Rattle.pi_core.specs.declared.log.LogEntry.{LogEntry}
 use Rattle.pi_query.specs.declared.manner.Manner.{Manner}
 use Rattle.pi_query.specs.Handing.{HandsAll, FailsIn}
 use Rattle.pi_query.specs.Prefix.{IsPrefix}

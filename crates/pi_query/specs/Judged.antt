@@ -6,7 +6,7 @@ use Rattle.pi_syntax.specs.ProgramTree.{ProgramTree}
 use Rattle.pi_syntax.specs.Tokens.{Token, Located, Fault, HasTokens, HasFault}
 use Rattle.pi_clauses.specs.GoalVerdict.{GoalVerdict, a_goal, HasGoalVerdict}
 use Rattle.pi_clauses.specs.Verdict.{Verdict, a_program, HasVerdict}
-use Rattle.pi_coverage.specs.Built.{unbuilt_part, is_built_goal}
+use Rattle.pi_sound.specs.Built.{unbuilt_part, is_built_goal}
 use Rattle.pi_query.specs.FaultLines.{token_line, verdict_line, goal_verdict_line, not_built_line, of_program, of_goal}
 
 -- the line on what isn't built: the number of the first such part, or the goal

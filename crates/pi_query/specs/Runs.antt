@@ -3,8 +3,8 @@ use Rattle.std.specs.Prelude.{◌≡◌, ◌≤◌, ℕ, List, [], ◌∷◌}
 use Rattle.pi_outside.specs.Writes.{SinkWrite}
 use Rattle.pi_syntax.specs.ExpTree.{ExpTree}
 use Rattle.pi_syntax.specs.ProgramTree.{ProgramTree}
-use Rattle.pi_answers.specs.declared.log.LogEntry.{LogEntry}
-use Rattle.pi_answers.specs.declared.log.Work.{Work}
+use Rattle.pi_core.specs.declared.log.LogEntry.{LogEntry}
+use Rattle.pi_core.specs.declared.log.Work.{Work}
 use Rattle.pi_query.specs.declared.manner.Manner.{Manner}
 use Rattle.pi_query.specs.declared.runs.QueryRun.{QueryRun}
 use Rattle.pi_query.specs.Headline.{Headline, IsCutOff}

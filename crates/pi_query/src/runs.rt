@@ -1,5 +1,5 @@
 //! The goals that were run.
-use pi_answers::Work;
+use pi_core::Work;
 use pi_terms::Series;
 
 /// A goal that was run: the Ticks and the work that it took, and how many planner calls were done and begun before it.

@@ -11,8 +11,8 @@ use Rattle.pi_states.specs.State.{State, bindings}
 use Rattle.pi_states.specs.Value.{IsAcyclic}
 use Rattle.pi_settling.specs.Roots.{root_item, given, domain_or_all}
 use Rattle.pi_prop.specs.Left.{AreLeft}
-use Rattle.pi_held.specs.Standing.{standing_at}
-use Rattle.pi_held.specs.Changes.{AreTold}
+use Rattle.pi_queue.specs.Standing.{standing_at}
+use Rattle.pi_queue.specs.Changes.{AreTold}
 use Rattle.pi_settling.proofs.SizeLemmas.{in-front, behind}
 use Rattle.pi_queue.specs.Reading.{IsRoot, AreRead, AreRoots}
 use Rattle.pi_queue.specs.Filtering.{IsFiltered}

@@ -10,7 +10,7 @@ use Rattle.pi_states.specs.State.{State, IsState}
 use Rattle.pi_settling.specs.Roots.{root_item, given}
 use Rattle.pi_settling.proofs.PlaceLemmas.{count-places}
 use Rattle.pi_settling.specs.Run.{Fails}
-use Rattle.pi_held.specs.Changes.{AreTold}
+use Rattle.pi_queue.specs.Changes.{AreTold}
 use Rattle.pi_queue.specs.Leaving.{MayTake, Takes, HasLeft, MayLeave, IsNarrower}
 use Rattle.pi_queue.proofs.LoopLemmas.{as-places, leaves-more, leaves-none}
 use Rattle.pi_queue.proofs.FilterLemmas.{told-at}

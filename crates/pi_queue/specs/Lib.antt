@@ -1,6 +1,8 @@
-pub mod Waiting
-pub mod Reading
+pub mod Changes
+pub mod Ends
 pub mod Filtering
 pub mod Leaving
+pub mod Reading
+pub mod Standing
 pub mod Turn
-pub mod Ends
+pub mod Waiting

@@ -2,11 +2,12 @@
 ghost use Rattle.std.specs.Prelude.{◌≡◌, IfOk, length, map};
 ghost use Rattle.pi_constraints.specs.Constraint.{AreItems, IsWithinLimits};
 ghost use Rattle.pi_filters.specs.Places.{places_of};
-ghost use Rattle.pi_held.specs.Standing.{standing_at};
+ghost use Rattle.pi_queue.specs.Standing.{standing_at};
 ghost use Rattle.pi_queue.specs.Filtering.{IsFiltered};
 
+use crate::changes::changed;
+use crate::held_places::HeldPlaces;
 use pi_constraints::{Constraint, Domain, Item};
-use pi_held::{HeldPlaces, changed};
 use pi_prop::narrow;
 use pi_states::StoredDomains;
 use std::alloc::{AllocError, Global};

@@ -8,11 +8,10 @@ ghost use Rattle.pi_constraints.specs.Domain.{IsDomain, size_of};
 ghost use Rattle.pi_settling.specs.Roots.{root_item};
 ghost use Rattle.pi_states.specs.Store.{Keeps};
 ghost use Rattle.pi_states.specs.State.{IsState, domain_of, with_binding, with_domain};
-ghost use Rattle.pi_held.specs.Changes.{AreTold};
+ghost use Rattle.pi_queue.specs.Changes.{AreTold};
 ghost use Rattle.pi_queue.specs.Leaving.{IsWithin, IsLater, MayTake, Takes, MayLeave, LeavesAll, IsNarrower};
 
-use pi_constraints::{Domain, Item};
-use pi_dom::{contains, meet, min, size};
+use pi_constraints::{Domain, Item, contains, meet, min, size};
 use pi_states::{Cell, StateStore};
 use std::alloc::{AllocError, Global};
 

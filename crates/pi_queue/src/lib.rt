@@ -1,13 +1,21 @@
 //! Propagation over any store: the constraints that are due stand in a queue, and each is run in turn.
 #![tactic(auto)]
 
+mod asks;
+mod changes;
+mod cuts;
 mod due;
 mod filtering;
+mod held;
+mod held_places;
 mod leaving;
 mod places;
 mod propagation;
 mod reading;
+mod stand;
 mod turn;
 mod waking;
 
+pub use changes::changed;
+pub use held_places::HeldPlaces;
 pub use propagation::{propagate, propagate_from};

@@ -11,7 +11,7 @@ ghost use Rattle.pi_queue.specs.Ends.{numbers_below, Ends, IsUnderWay, KeepsWith
 use crate::due::Due;
 use crate::turn::turn;
 use crate::waking::add_all;
-use pi_answers::Work;
+use pi_core::Work;
 use pi_settling::PropStop;
 use pi_states::{Places, StoredDomains};
 use std::alloc::Global;

@@ -3,8 +3,8 @@ use Rattle.std.specs.Prelude.{◌≡◌, ⊤, ℕ, zero, suc, ◌<◌, ◌≤◌
 use Rattle.std.proofs.Common.{arith, ◌∙◌, ap, sym, subst}
 use Rattle.pi_arith.specs.Range.{has_128_bits}
 use Rattle.pi_filters.specs.Rules.{magnitude}
-use Rattle.pi_postings.specs.Sums.{Sum, of_number, of_variable, in_front, with_term, with_terms, scaled_terms, added, scaled, opposite, difference}
-use Rattle.pi_postings.specs.Steps.{Refusal, wide_coefficient, Made, Known, Reading, gives, refuses, after, then, have_128_bits, step, constant_of, variable_of, side, side_by, product, product_by, product_variable, absolute_sum, absolute_by, absolute_variable}
+use Rattle.pi_filters.specs.PostingSums.{Sum, of_number, of_variable, in_front, with_term, with_terms, scaled_terms, added, scaled, opposite, difference}
+use Rattle.pi_filters.specs.Steps.{Refusal, wide_coefficient, Made, Known, Reading, gives, refuses, after, then, have_128_bits, step, constant_of, variable_of, side, side_by, product, product_by, product_variable, absolute_sum, absolute_by, absolute_variable}
 use Rattle.pi_finished.specs.Making.{AllBelow}
 use Rattle.pi_reading.specs.declared.operands.node.Binary.{Binary}
 use Rattle.pi_reading.specs.declared.operands.node.Unary.{Unary}

@@ -18,8 +18,8 @@ use Rattle.pi_states.proofs.FollowLemmas.{followed_unbound}
 use Rattle.pi_states.proofs.RootLemmas.{with_values, value_int, value_atom, value_comp, value_at_root}
 use Rattle.pi_effects.specs.Items.{each_tree, in_front_of, items_of_root, array_parts, list_items, collection_items}
 use Rattle.pi_effects.proofs.ItemLemmas.{items-by_root, items-by_value}
-use Rattle.pi_postings.specs.Operands.{Operand, total, no_operand, Operands, no_operands, operand}
-use Rattle.pi_postings.specs.Terms.{total_of, operand_of, operands_of, operands_of_array, operands_of_list}
+use Rattle.pi_filters.specs.Operands.{Operand, total, no_operand, Operands, no_operands, operand}
+use Rattle.pi_filters.specs.Terms.{total_of, operand_of, operands_of, operands_of_array, operands_of_list}
 use Rattle.pi_reading.specs.Refs.{IsThere, tree_of, value_at, operands_at}
 use Rattle.pi_reading.specs.OperandNodes.{sum_at}
 use Rattle.pi_reading.specs.OperandFrames.{AreThere}

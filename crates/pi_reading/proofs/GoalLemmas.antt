@@ -7,12 +7,12 @@ use Rattle.pi_constraints.specs.declared.constraint.Constraint.{Constraint}
 use Rattle.pi_states.specs.State.{next}
 use Rattle.pi_states.specs.Store.{Moment}
 use Rattle.pi_states.specs.declared.store.Ref.{Ref}
-use Rattle.pi_postings.specs.Operands.{Goal}
-use Rattle.pi_postings.specs.Terms.{goal_of}
-use Rattle.pi_postings.specs.Steps.{Refusal, Made, Known, Reading, gives, after, then, posting}
-use Rattle.pi_postings.specs.Lists.{read_item, read_each, read_collection, posts_element}
-use Rattle.pi_postings.specs.Limits.{first_refusal}
-use Rattle.pi_postings.specs.Postings.{read_goal, posting_unless, finished, nothing_made, posting_in}
+use Rattle.pi_filters.specs.Operands.{Goal}
+use Rattle.pi_filters.specs.Terms.{goal_of}
+use Rattle.pi_filters.specs.Steps.{Refusal, Made, Known, Reading, gives, after, then, posting}
+use Rattle.pi_filters.specs.Lists.{read_item, read_each, read_collection, posts_element}
+use Rattle.pi_filters.specs.Limits.{first_refusal}
+use Rattle.pi_filters.specs.Postings.{read_goal, posting_unless, finished, nothing_made, posting_in}
 use Rattle.pi_finished.specs.declared.making.Making.{Making}
 use Rattle.pi_finished.specs.Making.{Shows, Reads, with_constraint}
 use Rattle.pi_reading.specs.declared.operands.stop.OperandStop.{OperandStop}

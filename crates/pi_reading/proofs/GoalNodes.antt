@@ -10,8 +10,8 @@ use Rattle.pi_states.specs.Store.{Moment, StoreView, IsTerm, ShowsCell}
 use Rattle.pi_states.specs.declared.store.Ref.{Ref}
 use Rattle.pi_states.specs.declared.store.Cell.{Cell}
 use Rattle.pi_states.proofs.RootLemmas.{with_values}
-use Rattle.pi_postings.specs.Operands.{no_boolean, Goal, all_different, all_distinct, element, no_constraint}
-use Rattle.pi_postings.specs.Terms.{boolean_of, goal_of_boolean, goal_of}
+use Rattle.pi_filters.specs.Operands.{no_boolean, Goal, all_different, all_distinct, element, no_constraint}
+use Rattle.pi_filters.specs.Terms.{boolean_of, goal_of_boolean, goal_of}
 use Rattle.pi_reading.specs.Refs.{IsThere, value_at}
 use Rattle.pi_reading.proofs.RootLemmas.{root_of, IsArg, Names, variable-root, integer-root, atom-root, compound-root, IsCompound, compound-shown, three-arguments, argument-there, argument-value, there, HasOne, has-one}
 use Rattle.pi_reading.specs.TruthNodes.{boolean_by, ShowsTruthNode}

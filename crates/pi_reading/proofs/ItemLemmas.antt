@@ -15,8 +15,8 @@ use Rattle.pi_states.specs.declared.store.Cell.{Cell}
 use Rattle.pi_states.proofs.RootLemmas.{with_values}
 use Rattle.pi_effects.specs.Answer.{found_or}
 use Rattle.pi_effects.specs.Items.{collection_items as items_of}
-use Rattle.pi_postings.specs.Steps.{Refusal, not_a_constraint, Made, Known, gives, after, then}
-use Rattle.pi_postings.specs.Lists.{read_item, read_each, read_collection, items_or_refused}
+use Rattle.pi_filters.specs.Steps.{Refusal, not_a_constraint, Made, Known, gives, after, then}
+use Rattle.pi_filters.specs.Lists.{read_item, read_each, read_collection, items_or_refused}
 use Rattle.pi_finished.specs.declared.items.JudgedItems.{JudgedItems}
 use Rattle.pi_finished.specs.Items.{IsJudged, AreJudged}
 use Rattle.pi_reading.specs.declared.operands.stop.OperandStop.{OperandStop}

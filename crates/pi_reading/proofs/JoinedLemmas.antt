@@ -4,10 +4,10 @@ use Rattle.std.proofs.Common.{arith, ◌∙◌, ap, sym, subst}
 use Rattle.pi_constraints.specs.declared.constraint.Rel.{Rel}
 use Rattle.pi_constraints.specs.declared.constraint.Item.{Item}
 use Rattle.pi_constraints.specs.declared.constraint.Constraint.{Constraint}
-use Rattle.pi_postings.specs.Operands.{Connective as ConnectiveOf, and, or, either, implies, equivalent}
-use Rattle.pi_postings.specs.Sums.{Sum, of_number, of_item, added, difference}
-use Rattle.pi_postings.specs.Steps.{Refusal, Made, Known, Reading, gives, after, then, posting, linear}
-use Rattle.pi_postings.specs.Truths.{truth_variable_is, new_truth, truth_by_terms, truth_of_standing, truth_of_negation, truth_of_joined, posting_at_most}
+use Rattle.pi_filters.specs.Operands.{Connective as ConnectiveOf, and, or, either, implies, equivalent}
+use Rattle.pi_filters.specs.PostingSums.{Sum, of_number, of_item, added, difference}
+use Rattle.pi_filters.specs.Steps.{Refusal, Made, Known, Reading, gives, after, then, posting, linear}
+use Rattle.pi_filters.specs.Truths.{truth_variable_is, new_truth, truth_by_terms, truth_of_standing, truth_of_negation, truth_of_joined, posting_at_most}
 use Rattle.pi_finished.specs.declared.making.Making.{Making}
 use Rattle.pi_finished.specs.Making.{Shows, Reads, with_constraint}
 use Rattle.pi_reading.specs.Sums.{apart, two_apart, both_apart, one_of}

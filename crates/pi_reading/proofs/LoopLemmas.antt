@@ -16,10 +16,10 @@ use Rattle.pi_effects.specs.Collections.{collection_then}
 use Rattle.pi_effects.specs.declared.fault.Fault.{Fault}
 use Rattle.pi_effects.specs.declared.fault.Stop.{Stop}
 use Rattle.pi_effects.specs.Results.{Shows as ShowsAnswer, Stops}
-use Rattle.pi_lists.specs.Items.{HoldsItems}
-use Rattle.pi_postings.specs.Operands.{total, no_operand}
-use Rattle.pi_postings.specs.Sums.{Sum}
-use Rattle.pi_postings.specs.Steps.{Refusal, Made, Known, read_operand}
+use Rattle.pi_builtin.specs.Items.{HoldsItems}
+use Rattle.pi_filters.specs.Operands.{total, no_operand}
+use Rattle.pi_filters.specs.PostingSums.{Sum}
+use Rattle.pi_filters.specs.Steps.{Refusal, Made, Known, read_operand}
 use Rattle.pi_finished.specs.declared.stop.SumStop.{SumStop}
 use Rattle.pi_finished.specs.declared.making.Making.{Making}
 use Rattle.pi_finished.specs.Making.{Shows}

@@ -11,8 +11,8 @@ use Rattle.pi_states.specs.Store.{Moment, StoreView, IsTerm, ShowsCell}
 use Rattle.pi_states.specs.declared.store.Ref.{Ref}
 use Rattle.pi_states.specs.declared.store.Cell.{Cell}
 use Rattle.pi_states.proofs.RootLemmas.{with_values}
-use Rattle.pi_postings.specs.Operands.{Operand, no_operand, Operands}
-use Rattle.pi_postings.specs.Terms.{one_part, two_parts, operand_of, operands_of_array, operands_of_list}
+use Rattle.pi_filters.specs.Operands.{Operand, no_operand, Operands}
+use Rattle.pi_filters.specs.Terms.{one_part, two_parts, operand_of, operands_of_array, operands_of_list}
 use Rattle.pi_reading.specs.declared.operands.node.Binary.{Binary}
 use Rattle.pi_reading.specs.declared.operands.node.Unary.{Unary}
 use Rattle.pi_reading.specs.declared.operands.node.Node.{Node}

@@ -4,9 +4,9 @@ use Rattle.std.proofs.Common.{arith, ◌∙◌, ap, sym, subst}
 use Rattle.pi_states.specs.State.{next}
 use Rattle.pi_states.specs.Store.{Moment}
 use Rattle.pi_states.specs.declared.store.Ref.{Ref}
-use Rattle.pi_postings.specs.Operands.{Operand, number, variable, total, no_operand}
-use Rattle.pi_postings.specs.Sums.{Sum, of_number, of_variable}
-use Rattle.pi_postings.specs.Steps.{Refusal, not_a_constraint, wide_coefficient, Made, Known, Reading, gives, refuses, after, then, step, have_128_bits, read_operand, read_items}
+use Rattle.pi_filters.specs.Operands.{Operand, number, variable, total, no_operand}
+use Rattle.pi_filters.specs.PostingSums.{Sum, of_number, of_variable}
+use Rattle.pi_filters.specs.Steps.{Refusal, not_a_constraint, wide_coefficient, Made, Known, Reading, gives, refuses, after, then, step, have_128_bits, read_operand, read_items}
 use Rattle.pi_finished.specs.declared.stop.SumStop.{SumStop}
 use Rattle.pi_finished.specs.Steps.{fits, ShowsStep}
 use Rattle.pi_finished.specs.declared.making.Making.{Making}

@@ -4,10 +4,10 @@ use Rattle.std.proofs.Common.{◌∙◌, ap, sym}
 use Rattle.pi_states.specs.State.{next}
 use Rattle.pi_states.specs.Store.{Moment}
 use Rattle.pi_states.specs.declared.store.Ref.{Ref}
-use Rattle.pi_postings.specs.Operands.{Operand, Comparison as ComparisonOf}
-use Rattle.pi_postings.specs.Sums.{Sum}
-use Rattle.pi_postings.specs.Steps.{Refusal, wide_coefficient, Made, Known, Reading, gives, refuses, after, then, step, read_operand}
-use Rattle.pi_postings.specs.Relations.{Standing, relation_of, sides_apart, and_apart, read_relation}
+use Rattle.pi_filters.specs.Operands.{Operand, Comparison as ComparisonOf}
+use Rattle.pi_filters.specs.PostingSums.{Sum}
+use Rattle.pi_filters.specs.Steps.{Refusal, wide_coefficient, Made, Known, Reading, gives, refuses, after, then, step, read_operand}
+use Rattle.pi_filters.specs.Relations.{Standing, relation_of, sides_apart, and_apart, read_relation}
 use Rattle.pi_finished.specs.declared.stop.SumStop.{SumStop}
 use Rattle.pi_finished.specs.Steps.{fits, ShowsStep}
 use Rattle.pi_finished.specs.declared.making.Making.{Making}

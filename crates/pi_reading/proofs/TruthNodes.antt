@@ -10,8 +10,8 @@ use Rattle.pi_states.specs.Store.{Moment, StoreView, ShowsCell}
 use Rattle.pi_states.specs.declared.store.Ref.{Ref}
 use Rattle.pi_states.specs.declared.store.Cell.{Cell}
 use Rattle.pi_states.proofs.RootLemmas.{with_values}
-use Rattle.pi_postings.specs.Operands.{Boolean, no_boolean, Comparison as ComparisonOf, Connective as ConnectiveOf}
-use Rattle.pi_postings.specs.Terms.{joined_by, related_by, comparison_named, connective_named, boolean_of}
+use Rattle.pi_filters.specs.Operands.{Boolean, no_boolean, Comparison as ComparisonOf, Connective as ConnectiveOf}
+use Rattle.pi_filters.specs.Terms.{joined_by, related_by, comparison_named, connective_named, boolean_of}
 use Rattle.pi_reading.specs.Refs.{IsThere, value_at, operand_at}
 use Rattle.pi_reading.proofs.RootLemmas.{root_of, IsArg, Names, variable-root, integer-root, atom-root, compound-root, compound-shown, HasOne, has-one, HasTwo, has-two}
 use Rattle.pi_reading.specs.Relations.{comparison_of}

@@ -6,10 +6,10 @@ use Rattle.pi_constraints.specs.declared.constraint.Item.{Item}
 use Rattle.pi_states.specs.State.{next}
 use Rattle.pi_states.specs.Store.{Moment}
 use Rattle.pi_states.specs.declared.store.Ref.{Ref}
-use Rattle.pi_postings.specs.Operands.{Boolean, truth_variable, truth_number, relation, negation, joined, no_boolean, Comparison as ComparisonOf}
-use Rattle.pi_postings.specs.Steps.{Refusal, not_a_constraint, Made, Known, Reading, gives, refuses, after, then}
-use Rattle.pi_postings.specs.Relations.{Standing, read_relation}
-use Rattle.pi_postings.specs.Truths.{truth_variable_is, truth_number_is, truth_of_standing, truth_of_negation, truth_of_joined, read_truth}
+use Rattle.pi_filters.specs.Operands.{Boolean, truth_variable, truth_number, relation, negation, joined, no_boolean, Comparison as ComparisonOf}
+use Rattle.pi_filters.specs.Steps.{Refusal, not_a_constraint, Made, Known, Reading, gives, refuses, after, then}
+use Rattle.pi_filters.specs.Relations.{Standing, read_relation}
+use Rattle.pi_filters.specs.Truths.{truth_variable_is, truth_number_is, truth_of_standing, truth_of_negation, truth_of_joined, read_truth}
 use Rattle.pi_finished.specs.declared.making.Making.{Making}
 use Rattle.pi_finished.specs.Making.{Shows, Reads}
 use Rattle.pi_finished.specs.ToZero.{rel_of, sum_for}

@@ -1,8 +1,8 @@
 -- What `read_constraint` answers: the posting of a term, or its first refusal. A wrong term that is too large isn't told. (Own.)
 use Rattle.std.specs.Prelude.{◌≡◌, ⊤, ◌<◌, ◌≤◌, Result, Ok, Err}
 use Rattle.pi_terms.specs.Tree.{Tree, cells, most_cells}
-use Rattle.pi_postings.specs.Steps.{Refusal, not_a_constraint, too_many_terms, wide_coefficient}
-use Rattle.pi_postings.specs.Postings.{Posting as PostingOf}
+use Rattle.pi_filters.specs.Steps.{Refusal, not_a_constraint, too_many_terms, wide_coefficient}
+use Rattle.pi_filters.specs.Postings.{Posting as PostingOf}
 use Rattle.pi_states.specs.Store.{Moment}
 use Rattle.pi_reading.specs.declared.operands.stop.OperandStop.{OperandStop}
 use Rattle.pi_reading.specs.Refs.{IsThere, value_at}

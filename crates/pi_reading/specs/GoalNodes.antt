@@ -3,8 +3,8 @@ use Rattle.std.specs.Prelude.{◌≡◌, ⊤, ℕ, cond, List, codes}
 use Rattle.std.specs.Str.{bytes_eq}
 use Rattle.pi_states.specs.Store.{Moment}
 use Rattle.pi_states.specs.declared.store.Ref.{Ref}
-use Rattle.pi_postings.specs.Operands.{Goal, relates, is_so, all_different, all_distinct, element, no_constraint}
-use Rattle.pi_postings.specs.Terms.{goal_of, goal_of_boolean}
+use Rattle.pi_filters.specs.Operands.{Goal, relates, is_so, all_different, all_distinct, element, no_constraint}
+use Rattle.pi_filters.specs.Terms.{goal_of, goal_of_boolean}
 use Rattle.pi_reading.specs.Refs.{IsThere, value_at, operand_at}
 use Rattle.pi_reading.specs.Relations.{comparison_of}
 use Rattle.pi_reading.specs.TruthNodes.{boolean_at}

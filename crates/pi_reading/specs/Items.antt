@@ -5,8 +5,8 @@ use Rattle.pi_terms.specs.Tree.{Tree}
 use Rattle.pi_constraints.specs.declared.constraint.Item.{Item}
 use Rattle.pi_states.specs.Store.{Moment}
 use Rattle.pi_states.specs.declared.store.Ref.{Ref}
-use Rattle.pi_postings.specs.Steps.{Refusal, Made, Known, Reading, then}
-use Rattle.pi_postings.specs.Lists.{read_collection, read_each}
+use Rattle.pi_filters.specs.Steps.{Refusal, Made, Known, Reading, then}
+use Rattle.pi_filters.specs.Lists.{read_collection, read_each}
 use Rattle.pi_finished.specs.declared.items.JudgedItems.{JudgedItems}
 use Rattle.pi_finished.specs.Items.{IsJudged, AreJudged}
 use Rattle.pi_reading.specs.declared.operands.stop.OperandStop.{OperandStop}

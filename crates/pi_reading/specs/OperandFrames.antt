@@ -3,8 +3,8 @@ use Rattle.std.specs.Prelude.{◌≡◌, ⊤, ℕ, ◌≤◌, List, [], ◌∷�
 use Rattle.pi_states.specs.State.{next}
 use Rattle.pi_states.specs.Store.{Moment}
 use Rattle.pi_states.specs.declared.store.Ref.{Ref}
-use Rattle.pi_postings.specs.Sums.{Sum, added, opposite, difference}
-use Rattle.pi_postings.specs.Steps.{Refusal, not_a_constraint, wide_coefficient, Made, Known, Reading, gives, after, then, step, product, absolute_sum, read_operand}
+use Rattle.pi_filters.specs.PostingSums.{Sum, added, opposite, difference}
+use Rattle.pi_filters.specs.Steps.{Refusal, not_a_constraint, wide_coefficient, Made, Known, Reading, gives, after, then, step, product, absolute_sum, read_operand}
 use Rattle.pi_finished.specs.declared.stop.SumStop.{SumStop}
 use Rattle.pi_finished.specs.declared.making.Making.{Making}
 use Rattle.pi_finished.specs.Making.{Shows, AllBelow}

@@ -5,8 +5,8 @@ use Rattle.std.specs.Str.{bytes_eq}
 use Rattle.pi_states.specs.State.{next}
 use Rattle.pi_states.specs.Store.{Moment}
 use Rattle.pi_states.specs.declared.store.Ref.{Ref}
-use Rattle.pi_postings.specs.Operands.{Operand, number, variable, plus, minus, times, positive, negative, absolute, no_operand}
-use Rattle.pi_postings.specs.Terms.{total_of, operands_of_array, operands_of_list}
+use Rattle.pi_filters.specs.Operands.{Operand, number, variable, plus, minus, times, positive, negative, absolute, no_operand}
+use Rattle.pi_filters.specs.Terms.{total_of, operands_of_array, operands_of_list}
 use Rattle.pi_reading.specs.declared.operands.node.Binary.{Binary}
 use Rattle.pi_reading.specs.declared.operands.node.Unary.{Unary}
 use Rattle.pi_reading.specs.declared.operands.node.Node.{Node}

@@ -5,8 +5,8 @@ use Rattle.pi_states.specs.Value.{value}
 use Rattle.pi_states.specs.State.{bindings}
 use Rattle.pi_states.specs.Store.{Moment}
 use Rattle.pi_states.specs.declared.store.Ref.{Ref}
-use Rattle.pi_postings.specs.Operands.{Operand, Operands, no_operands, operand}
-use Rattle.pi_postings.specs.Terms.{operand_of}
+use Rattle.pi_filters.specs.Operands.{Operand, Operands, no_operands, operand}
+use Rattle.pi_filters.specs.Terms.{operand_of}
 
 -- the term of a Ref that is there; for any other one it says nothing
 abbrev pub tree_of : Moment → Ref → Tree

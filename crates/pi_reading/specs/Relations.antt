@@ -2,10 +2,10 @@
 use Rattle.std.specs.Prelude.{◌≡◌, ℕ, ◌≤◌, Result, Ok, Err}
 use Rattle.pi_states.specs.State.{next}
 use Rattle.pi_states.specs.Store.{Moment}
-use Rattle.pi_postings.specs.Operands.{Comparison as ComparisonOf, equal, unequal, less, at_most, greater, at_least}
-use Rattle.pi_postings.specs.Sums.{Sum}
-use Rattle.pi_postings.specs.Steps.{Refusal, Made, Known}
-use Rattle.pi_postings.specs.Relations.{Standing, relation_of, and_apart}
+use Rattle.pi_filters.specs.Operands.{Comparison as ComparisonOf, equal, unequal, less, at_most, greater, at_least}
+use Rattle.pi_filters.specs.PostingSums.{Sum}
+use Rattle.pi_filters.specs.Steps.{Refusal, Made, Known}
+use Rattle.pi_filters.specs.Relations.{Standing, relation_of, and_apart}
 use Rattle.pi_finished.specs.declared.making.Making.{Making}
 use Rattle.pi_finished.specs.declared.to_zero.ToZero.{ToZero}
 use Rattle.pi_finished.specs.Making.{Shows}

@@ -3,8 +3,8 @@ use Rattle.std.specs.Prelude.{pos}
 use Rattle.pi_constraints.specs.declared.constraint.Rel.{Rel}
 use Rattle.pi_constraints.specs.declared.constraint.Item.{Item}
 use Rattle.pi_constraints.specs.declared.constraint.Constraint.{Constraint}
-use Rattle.pi_postings.specs.Sums.{of_number, of_item, added, difference}
-use Rattle.pi_postings.specs.Steps.{linear}
+use Rattle.pi_filters.specs.PostingSums.{of_number, of_item, added, difference}
+use Rattle.pi_filters.specs.Steps.{linear}
 
 -- X - Y <= 0
 abbrev pub apart : Item → Item → Constraint

@@ -4,8 +4,8 @@ use Rattle.pi_constraints.specs.declared.constraint.Item.{Item}
 use Rattle.pi_states.specs.State.{next}
 use Rattle.pi_states.specs.Store.{Moment}
 use Rattle.pi_states.specs.declared.store.Ref.{Ref}
-use Rattle.pi_postings.specs.Steps.{Refusal, Made, Known, Reading, gives, after, then}
-use Rattle.pi_postings.specs.Truths.{truth_of_negation, truth_of_joined, read_truth}
+use Rattle.pi_filters.specs.Steps.{Refusal, Made, Known, Reading, gives, after, then}
+use Rattle.pi_filters.specs.Truths.{truth_of_negation, truth_of_joined, read_truth}
 use Rattle.pi_finished.specs.declared.making.Making.{Making}
 use Rattle.pi_finished.specs.Making.{Shows}
 use Rattle.pi_reading.specs.declared.operands.stop.OperandStop.{OperandStop}

@@ -2,8 +2,8 @@
 use Rattle.std.specs.Prelude.{◌≡◌, ⊤, List, [], ◌∷◌, ◌++◌, Result, Ok, Err}
 use Rattle.pi_states.specs.Store.{Moment}
 use Rattle.pi_states.specs.declared.store.Ref.{Ref}
-use Rattle.pi_postings.specs.Sums.{Sum}
-use Rattle.pi_postings.specs.Steps.{Refusal, Known, read_operand}
+use Rattle.pi_filters.specs.PostingSums.{Sum}
+use Rattle.pi_filters.specs.Steps.{Refusal, Known, read_operand}
 use Rattle.pi_finished.specs.declared.stop.SumStop.{SumStop}
 use Rattle.pi_finished.specs.declared.making.Making.{Making}
 use Rattle.pi_reading.specs.declared.operands.frames.Frame.{Frame}

@@ -1,11 +1,11 @@
 //! What goals of constraints make.
 ghost use Rattle.std.specs.Prelude.{◌≤◌};
 ghost use Rattle.pi_states.specs.State.{IsState, next};
-ghost use Rattle.pi_postings.specs.Steps.{Made};
-ghost use Rattle.pi_postings.specs.Relations.{posts_relation};
-ghost use Rattle.pi_postings.specs.Truths.{posts_truth};
-ghost use Rattle.pi_postings.specs.Lists.{posts_different, posts_distinct, posts_element};
-ghost use Rattle.pi_postings.specs.Postings.{read_goal};
+ghost use Rattle.pi_filters.specs.Steps.{Made};
+ghost use Rattle.pi_filters.specs.Relations.{posts_relation};
+ghost use Rattle.pi_filters.specs.Truths.{posts_truth};
+ghost use Rattle.pi_filters.specs.Lists.{posts_different, posts_distinct, posts_element};
+ghost use Rattle.pi_filters.specs.Postings.{read_goal};
 ghost use Rattle.pi_finished.specs.Making.{Shows};
 ghost use Rattle.pi_reading.specs.Refs.{IsThere, value_at, operand_at};
 ghost use Rattle.pi_reading.specs.Relations.{comparison_of};

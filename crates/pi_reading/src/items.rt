@@ -1,16 +1,16 @@
 //! Items of constraints: integers and variables.
 ghost use Rattle.pi_states.specs.State.{IsState};
-ghost use Rattle.pi_postings.specs.Steps.{Made};
-ghost use Rattle.pi_postings.specs.Lists.{read_item, read_each, read_collection};
+ghost use Rattle.pi_filters.specs.Steps.{Made};
+ghost use Rattle.pi_filters.specs.Lists.{read_item, read_each, read_collection};
 ghost use Rattle.pi_reading.specs.Refs.{IsThere, value_at};
 ghost use Rattle.pi_reading.specs.OperandFrames.{AreThere};
 ghost use Rattle.pi_reading.specs.Items.{values_at, ShowsItem, ShowsEach, ShowsCollection};
 
 use crate::operands::OperandStop;
+use pi_builtin::collection_items;
 use pi_constraints::Item;
 use pi_effects::Stop;
 use pi_finished::{JudgedItems, integer_item};
-use pi_lists::collection_items;
 use pi_states::{Cell, Ref, StateStore};
 use std::alloc::Global;
 

@@ -3,8 +3,8 @@ ghost use Rattle.std.specs.Prelude.{Result};
 ghost use Rattle.pi_terms.specs.Tree.{Tree};
 ghost use Rattle.pi_states.specs.State.{IsState};
 ghost use Rattle.pi_states.specs.Store.{IsTerm};
-ghost use Rattle.pi_postings.specs.Steps.{Refusal};
-ghost use Rattle.pi_postings.specs.Postings.{Posting as PostingOf, posting_in};
+ghost use Rattle.pi_filters.specs.Steps.{Refusal};
+ghost use Rattle.pi_filters.specs.Postings.{Posting as PostingOf, posting_in};
 ghost use Rattle.pi_reading.specs.Faults.{ShowsFault, ShowsPosting, Stops};
 
 use crate::goals::read_goal;

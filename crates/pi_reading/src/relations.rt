@@ -1,8 +1,8 @@
 //! Relations between operands.
 ghost use Rattle.std.specs.Prelude.{◌≡◌, ◌≤◌};
 ghost use Rattle.pi_states.specs.State.{IsState, next};
-ghost use Rattle.pi_postings.specs.Steps.{Made};
-ghost use Rattle.pi_postings.specs.Relations.{sides_apart, read_relation};
+ghost use Rattle.pi_filters.specs.Steps.{Made};
+ghost use Rattle.pi_filters.specs.Relations.{sides_apart, read_relation};
 ghost use Rattle.pi_finished.specs.Steps.{ShowsStep};
 ghost use Rattle.pi_finished.specs.Making.{Shows};
 ghost use Rattle.pi_reading.specs.Refs.{IsThere, operand_at};

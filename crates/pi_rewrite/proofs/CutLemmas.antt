@@ -3,7 +3,7 @@ use Rattle.std.proofs.Common.{◌≡◌, ℕ, List, ◌++◌, sym, ◌∙◌, ap
 use Rattle.pi_syntax.specs.ExpTree.{ExpTree}
 use Rattle.pi_syntax.specs.ProgramTree.{ProgramTree}
 use Rattle.pi_core.specs.CoreTree.{PredTree, QueryTree}
-use Rattle.pi_traces.specs.Depth.{cut}
+use Rattle.pi_meaning.specs.Depth.{cut}
 use Rattle.pi_states.specs.State.{empty_state}
 use Rattle.pi_meaning.specs.View.{View}
 use Rattle.pi_meaning.specs.Instances.{no_later, whole}
@@ -14,7 +14,7 @@ use Rattle.pi_meaning.proofs.ToldCuts.{cut-told, stop-told}
 use Rattle.pi_names.specs.Stages.{LaterStages}
 use Rattle.pi_names.specs.Run.{answer_names, names_trace}
 use Rattle.pi_lowered.specs.Laws.{query_from}
-use Rattle.pi_coverage.specs.TermCalls.{Allows}
+use Rattle.pi_sound.specs.TermCalls.{Allows}
 use Rattle.pi_rewrite.specs.Laws.{MeansTheSame, SameMeaningRunsTheSame}
 
 -- from the empty state

@@ -7,8 +7,8 @@ use Rattle.pi_core.specs.CoreTree.{PredTree, QueryTree}
 use Rattle.pi_lowered.specs.Programs.{core_program, core_query}
 use Rattle.pi_lowered.specs.WithinLoops.{IsAsked}
 use Rattle.pi_lowered.proofs.TextLawLemmas.{programs-with-loops-are-kept, goals-with-loops-are-kept}
-use Rattle.pi_coverage.specs.Built.{unbuilt_part, is_built_goal}
-use Rattle.pi_coverage.specs.Within.{IsWithin}
+use Rattle.pi_sound.specs.Built.{unbuilt_part, is_built_goal}
+use Rattle.pi_sound.specs.Within.{IsWithin}
 use Rattle.pi_sound.proofs.RunLemmas.{levels-are-the-same, goals-are-the-same}
 use Rattle.pi_sound.proofs.ProgramLemmas.{programs-sound, programs-closed}
 use Rattle.pi_sound.proofs.PlainLemmas.{programs-plain}

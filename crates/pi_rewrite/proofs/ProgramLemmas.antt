@@ -18,9 +18,9 @@ use Rattle.pi_lowered.specs.Programs.{Naming, core_program}
 use Rattle.pi_lowered.specs.TextLaws.{KeepsMeaning, ProgramsWithLoopsAreKept}
 use Rattle.pi_lowered.proofs.AlikeLemmas.{calls-same}
 use Rattle.pi_lowered.proofs.RootNames.{no-later-keeps}
-use Rattle.pi_coverage.specs.Built.{unbuilt_part}
-use Rattle.pi_coverage.specs.TermCalls.{ProgramAllows}
-use Rattle.pi_coverage.specs.Within.{IsWithin}
+use Rattle.pi_sound.specs.Built.{unbuilt_part}
+use Rattle.pi_sound.specs.TermCalls.{ProgramAllows}
+use Rattle.pi_sound.specs.Within.{IsWithin}
 use Rattle.pi_sound.specs.LaterLaws.{LevelsAreTheSame}
 use Rattle.pi_sound.specs.Laws.{AreNames, LoweredProgramsAreSound, LoweredProgramsAreClosed, LoweredProgramsArePlain}
 use Rattle.pi_rewrite.specs.Laws.{CallsTheSame, IsLoweredProgram}

@@ -15,9 +15,9 @@ use Rattle.pi_lowered.specs.Programs.{Naming, core_query}
 use Rattle.pi_lowered.specs.WithinLoops.{IsAsked}
 use Rattle.pi_lowered.specs.TextLaws.{AreNew, GoalsWithLoopsAreKept}
 use Rattle.pi_lowered.proofs.RootNames.{no-later-keeps}
-use Rattle.pi_coverage.specs.Built.{unbuilt_part, is_built_goal}
-use Rattle.pi_coverage.specs.TermCalls.{Allows}
-use Rattle.pi_coverage.specs.Within.{IsWithin}
+use Rattle.pi_sound.specs.Built.{unbuilt_part, is_built_goal}
+use Rattle.pi_sound.specs.TermCalls.{Allows}
+use Rattle.pi_sound.specs.Within.{IsWithin}
 use Rattle.pi_sound.specs.LaterLaws.{GoalsAreTheSame}
 use Rattle.pi_sound.specs.Laws.{AreNames, QueryFits, LoweredQueriesAreSound}
 use Rattle.pi_rewrite.specs.Laws.{IsCoreProgram, IsLoweredProgram, MeansTheSame, IsLowered}

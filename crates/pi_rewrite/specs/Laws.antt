@@ -6,7 +6,7 @@ use Rattle.pi_states.specs.State.{State}
 use Rattle.pi_syntax.specs.ExpTree.{ExpTree}
 use Rattle.pi_syntax.specs.ProgramTree.{ProgramTree}
 use Rattle.pi_core.specs.CoreTree.{PredTree, QueryTree}
-use Rattle.pi_traces.specs.Depth.{Cut}
+use Rattle.pi_meaning.specs.Depth.{Cut}
 use Rattle.pi_meaning.specs.View.{View}
 use Rattle.pi_meaning.specs.Level.{calls_at}
 use Rattle.pi_meaning.specs.Instances.{no_later, whole}
@@ -22,9 +22,9 @@ use Rattle.pi_names.specs.Run.{program_level, answer_names, names_from, IsNamesR
 use Rattle.pi_lowered.specs.WithinLoops.{IsAsked}
 use Rattle.pi_lowered.specs.Laws.{known_of, DefinesTheSame, query_from}
 use Rattle.pi_lowered.specs.Programs.{Naming, core_program}
-use Rattle.pi_coverage.specs.Built.{unbuilt_part, is_built_goal}
-use Rattle.pi_coverage.specs.Within.{IsWithin}
-use Rattle.pi_coverage.specs.TermCalls.{ProgramAllows, Allows}
+use Rattle.pi_sound.specs.Built.{unbuilt_part, is_built_goal}
+use Rattle.pi_sound.specs.Within.{IsWithin}
+use Rattle.pi_sound.specs.TermCalls.{ProgramAllows, Allows}
 use Rattle.pi_sound.specs.Laws.{IsPlain, AreNames}
 
 -- ---- programs

@@ -5,8 +5,8 @@ ghost use Rattle.std.specs.Prelude.{◌≡◌, None, IfOk};
 ghost use Rattle.pi_core.specs.CoreTree.{program_tree, query_tree};
 ghost use Rattle.pi_syntax.specs.ProgramTree.{ProgramTree, source_tree, goal_source};
 ghost use Rattle.pi_lowered.specs.WithinLoops.{IsAsked};
-ghost use Rattle.pi_coverage.specs.Built.{unbuilt_part, unbuilt_goal};
-ghost use Rattle.pi_coverage.specs.Within.{IsWithin};
+ghost use Rattle.pi_sound.specs.Built.{unbuilt_part, unbuilt_goal};
+ghost use Rattle.pi_sound.specs.Within.{IsWithin};
 ghost use Rattle.pi_rewrite.specs.Laws.{IsLoweredProgram, IsLowered};
 ghost use Rattle.pi_rewrite.specs.Told.{part_told};
 
@@ -22,7 +22,7 @@ mod telling;
 
 pub use lower_fault::LowerFault;
 use pi_core::{CoreProgram, CoreQuery};
-use pi_coverage::{is_built_goal, unbuilt};
+use pi_sound::{is_built_goal, unbuilt};
 use pi_syntax::{Goal, Program};
 use std::alloc::Global;
 

@@ -14,7 +14,7 @@ use crate::clauses::{Numbered, lower_fact, lower_function, lower_rule};
 use crate::naming::program_naming;
 use crate::places::behind_part;
 use pi_core::{CoreClause, CoreClauses, CorePred, CorePreds};
-use pi_prelude::read_prelude;
+use pi_prog::read_prelude;
 use pi_sites::Naming;
 use pi_syntax::{Clause, Decl, Exp, ModeLists, Modes, Part, Program};
 use pi_terms::Text;

@@ -15,11 +15,11 @@ use Rattle.pi_effects.specs.Exception.{exception_with}
 use Rattle.pi_settling.specs.Roots.{all_values}
 use Rattle.pi_settling.specs.Confined.{confined}
 use Rattle.pi_settling.specs.Reading.{reads}
-use Rattle.pi_postings.specs.Terms.{operand_of, operands_of, operands_of_array, operands_of_list, comparison_named, connective_named, boolean_of, goal_of}
-use Rattle.pi_postings.specs.Sums.{with_term, with_terms, scaled_terms}
-use Rattle.pi_postings.specs.Steps.{have_128_bits, read_operand, read_items}
-use Rattle.pi_postings.specs.Relations.{read_relation}
-use Rattle.pi_postings.specs.Limits.{are_narrow, are_values, first_refusal}
+use Rattle.pi_filters.specs.Terms.{operand_of, operands_of, operands_of_array, operands_of_list, comparison_named, connective_named, boolean_of, goal_of}
+use Rattle.pi_filters.specs.PostingSums.{with_term, with_terms, scaled_terms}
+use Rattle.pi_filters.specs.Steps.{have_128_bits, read_operand, read_items}
+use Rattle.pi_filters.specs.Relations.{read_relation}
+use Rattle.pi_filters.specs.Limits.{are_narrow, are_values, first_refusal}
 use Rattle.pi_settling.specs.Posted.{with_constraints, places_of_all, posting_goal}
 use Rattle.pi_settling.specs.Read.{operand_in}
 

@@ -1,9 +1,9 @@
 -- The laws of agents.
 use Rattle.std.specs.Prelude.{◌≡◌, ℕ, List, [], ◌∷◌, Option, Some, None}
 use Rattle.pi_terms.specs.Tree.{Tree}
-use Rattle.pi_traces.specs.Trace.{note, Tick, one, then}
-use Rattle.pi_traces.specs.Depth.{Below}
-use Rattle.pi_traces.specs.Related.{BelowBy}
+use Rattle.pi_meaning.specs.Trace.{note, Tick, one, then}
+use Rattle.pi_meaning.specs.Depth.{Below}
+use Rattle.pi_meaning.specs.Related.{BelowBy}
 use Rattle.pi_states.specs.State.{State, Agent, with_waiting}
 use Rattle.pi_states.specs.declared.event.Activation.{Activation}
 use Rattle.pi_settling.specs.Fire.{SlotValue, Rules, fired}

@@ -9,8 +9,8 @@ use Rattle.pi_states.specs.State.{State, with_constraint}
 use Rattle.pi_states.specs.Evaluation.{with_new_variables}
 use Rattle.pi_effects.specs.Effect.{Effect, Succeeds, Raises}
 use Rattle.pi_settling.specs.Confined.{confined}
-use Rattle.pi_postings.specs.Steps.{Refusal}
-use Rattle.pi_postings.specs.Postings.{Posting, posting_in, raised_by}
+use Rattle.pi_filters.specs.Steps.{Refusal}
+use Rattle.pi_filters.specs.Postings.{Posting, posting_in, raised_by}
 
 -- more constraints, in this order
 unfoldable pub with_constraints : List Constraint → State → State

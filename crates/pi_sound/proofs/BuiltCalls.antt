@@ -4,7 +4,7 @@ use Rattle.std.specs.Prelude.{◌==◌, ◌&&◌, ◌||◌, Option, Some, None, 
 use Rattle.std.specs.Str.{bytes_eq}
 use Rattle.std.proofs.lemmas.Bool.{and_parts, or_cases, eqb-true}
 use Rattle.pi_effects.specs.BuiltIns.{is_predicate, is_function}
-use Rattle.pi_lib.specs.Names.{kind_of}
+use Rattle.pi_syntax.specs.Names.{kind_of}
 use Rattle.pi_meaning.specs.Names.{is_catch, is_call, is_later_predicate, is_given_predicate, is_later_function, is_resource, is_given_function}
 use Rattle.pi_syntax.specs.ExpTree.{ExpTree, var, ExpTrees, no_exps, exp}
 use Rattle.pi_syntax.specs.Signature.{exp_count}
@@ -14,7 +14,7 @@ use Rattle.pi_names.proofs.TableLemmas.{same-name}
 use Rattle.pi_clauses.specs.Calls.{Named, named, goal_calls, is_known}
 use Rattle.pi_clauses.specs.Operators.{is_goal_sign, is_membership, is_reified}
 use Rattle.pi_clauses.specs.Places.{asked, expression}
-use Rattle.pi_coverage.specs.Built.{is_own, is_prelude_kind, is_built_predicate, is_built_function, is_built_value_call, is_built_form, is_built_atom, is_variable, is_assigned}
+use Rattle.pi_sound.specs.Built.{is_own, is_prelude_kind, is_built_predicate, is_built_function, is_built_value_call, is_built_form, is_built_atom, is_variable, is_assigned}
 use Rattle.pi_lowered.specs.Forms.{Knows, IsFunctionCall, IsPredicateCall, IsAtomGoal}
 use Rattle.pi_lowered.specs.WithLoops.{IsAssigned}
 use Rattle.pi_sound.proofs.KnownCalls.{AreKnown, goal-known}

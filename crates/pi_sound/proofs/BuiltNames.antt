@@ -13,16 +13,16 @@ use Rattle.pi_effects.specs.Naming.{naming_functions}
 use Rattle.pi_effects.specs.Texts.{text_functions}
 use Rattle.pi_effects.specs.Making.{making_functions}
 use Rattle.pi_effects.specs.BuiltIns.{reading_functions, is_function, is_predicate}
-use Rattle.pi_lib.specs.Forms.{is_form}
-use Rattle.pi_lib.specs.Names.{kind_of}
-use Rattle.pi_lib.specs.declared.builtin.BuiltinKind.{BuiltinKind}
-use Rattle.pi_lib.specs.declared.builtin.BuiltinKind.TheVariants.{Predicate, Function, Prelude}
+use Rattle.pi_syntax.specs.Forms.{is_form}
+use Rattle.pi_syntax.specs.Names.{kind_of}
+use Rattle.pi_syntax.specs.declared.builtin.BuiltinKind.{BuiltinKind}
+use Rattle.pi_syntax.specs.declared.builtin.BuiltinKind.TheVariants.{Predicate, Function, Prelude}
 use Rattle.pi_meaning.specs.Names.{is_later_predicate, is_later_function}
 use Rattle.pi_names.specs.Forms.{is_find_all, is_count_all, is_operand_node, is_sum, is_connective, is_constraint}
 use Rattle.pi_names.specs.Kinds.{is_unwritten, means_function, means_predicate, means_prelude}
 use Rattle.pi_names.proofs.TableLemmas.{same-name}
 use Rattle.pi_names.proofs.BuiltInNames.{names-have-their-kinds}
-use Rattle.pi_coverage.specs.Built.{is_own, is_prelude_kind, is_built_predicate, is_built_function}
+use Rattle.pi_sound.specs.Built.{is_own, is_prelude_kind, is_built_predicate, is_built_function}
 
 -- by which of two
 pub by-which : {C : Type 0} (x y : Bool) → (x || y) ≡ true → (x ≡ true → C) → (y ≡ true → C) → C

@@ -2,7 +2,7 @@
 use Rattle.std.proofs.Common.{◌≡◌, ◌&&◌, true}
 use Rattle.std.proofs.lemmas.Bool.{and_parts}
 use Rattle.pi_syntax.specs.ExpTree.{ExpTree, var, int, atom, str, list, list_onto, array, call, quote, range, range_by, at, ExpTrees, no_exps, exp}
-use Rattle.pi_coverage.specs.Built.{is_built_term, are_built_terms, is_named, is_built_pattern, are_built_patterns}
+use Rattle.pi_sound.specs.Built.{is_built_term, are_built_terms, is_named, is_built_pattern, are_built_patterns}
 use Rattle.pi_lowered.specs.Forms.{IsTerm, AreTerms, IsPattern, ArePatterns}
 
 mutual

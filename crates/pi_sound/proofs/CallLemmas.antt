@@ -10,8 +10,8 @@ use Rattle.pi_effects.specs.BuiltIns.{built_in_predicate, built_in_function}
 use Rattle.pi_effects.proofs.BuiltInLemmas.{functions-listed, predicates-listed}
 use Rattle.pi_syntax.specs.ExpTree.{ExpTrees, no_exps, exp}
 use Rattle.pi_syntax.specs.Signature.{exp_count}
-use Rattle.pi_traces.specs.Trace.{Trace, end, Done, one, alt, then}
-use Rattle.pi_traces.proofs.TraceLemmas.{alt-done, then-assoc}
+use Rattle.pi_meaning.specs.Trace.{Trace, end, Done, one, alt, then}
+use Rattle.pi_meaning.proofs.TraceLemmas.{alt-done, then-assoc}
 use Rattle.pi_meaning.specs.View.{View}
 use Rattle.pi_meaning.specs.Level.{Level, or_called, or_applied}
 use Rattle.pi_meaning.specs.Environment.{Valued, ValuedAll}
@@ -26,7 +26,7 @@ use Rattle.pi_names.specs.Texts.{Names, places, behind}
 use Rattle.pi_names.specs.Control.{Value, Values, nothing, in_front, applied_to, called_with}
 use Rattle.pi_names.specs.Forms.{Reading, first_reading, later_readings}
 use Rattle.pi_names.specs.Goals.{value_of, values_of}
-use Rattle.pi_coverage.specs.Built.{is_built_predicate, is_built_function}
+use Rattle.pi_sound.specs.Built.{is_built_predicate, is_built_function}
 use Rattle.pi_sound.proofs.BuiltNames.{predicate-by, function-by}
 
 -- settings under which calls of names that are built are the same

@@ -27,7 +27,7 @@ use Rattle.pi_lowered.specs.Within.{IsFree}
 use Rattle.pi_lowered.specs.WithinLoops.{IsGoalOrNone, IsRule, IsFunction}
 use Rattle.pi_lowered.proofs.SoundLemmas.{nothing-in, patterns-below, patterns-count}
 use Rattle.pi_lowered.proofs.TextLevels.{nothing-named}
-use Rattle.pi_coverage.specs.Built.{are_built_patterns, are_none, is_built_value, is_built_goal, is_built_goal_or_none, is_built_rule, is_built_function_rule}
+use Rattle.pi_sound.specs.Built.{are_built_patterns, are_none, is_built_value, is_built_goal, is_built_goal_or_none, is_built_rule, is_built_function_rule}
 use Rattle.pi_sound.proofs.FineGoals.{Fine, AllFine, fine-one, fine-append, fine-turn, fine-truth, slots-below}
 use Rattle.pi_sound.proofs.GoodHelpers.{Allows, Has, has-first, has-last, GoodHelpers, both-helpers}
 use Rattle.pi_sound.proofs.GoodGoals.{GoodGoals, GoodValue, good-nothing}

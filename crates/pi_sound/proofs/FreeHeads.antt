@@ -4,10 +4,10 @@ use Rattle.std.specs.Prelude.{◌==◌, ◌&&◌, ◌||◌, not, Option, Some, N
 use Rattle.std.specs.Str.{bytes_eq}
 use Rattle.std.proofs.lemmas.Bool.{and_parts, or_parts, or_from, not-true, eqb-true}
 use Rattle.pi_effects.specs.BuiltIns.{is_function, is_predicate}
-use Rattle.pi_lib.specs.Forms.{is_form}
-use Rattle.pi_lib.specs.Names.{kind_of}
-use Rattle.pi_lib.specs.declared.builtin.BuiltinKind.{BuiltinKind}
-use Rattle.pi_lib.specs.declared.builtin.BuiltinKind.TheVariants.{Predicate, Function, Prelude}
+use Rattle.pi_syntax.specs.Forms.{is_form}
+use Rattle.pi_syntax.specs.Names.{kind_of}
+use Rattle.pi_syntax.specs.declared.builtin.BuiltinKind.{BuiltinKind}
+use Rattle.pi_syntax.specs.declared.builtin.BuiltinKind.TheVariants.{Predicate, Function, Prelude}
 use Rattle.pi_syntax.specs.ExpTree.{ExpTree, atom, call}
 use Rattle.pi_syntax.specs.Signature.{signature, exp_count}
 use Rattle.pi_meaning.specs.Names.{is_later_predicate, is_later_function, is_resource, is_catch, is_call, is_given_predicate, is_given_function}

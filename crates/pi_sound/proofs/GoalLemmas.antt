@@ -7,7 +7,7 @@ use Rattle.pi_print.specs.PrintTerm.{array_name}
 use Rattle.pi_effects.specs.Indexing.{index_name}
 use Rattle.pi_syntax.specs.ExpTree.{ExpTree, var, int, atom, str, list, list_onto, array, call, quote, index, range, range_by, at, collect, and, or, arrow, if_then, if_else, foreach, while_do, do_while, ExpTrees, no_exps, exp, ExpBranches, no_branches, branch}
 use Rattle.pi_syntax.specs.Signature.{exp_count}
-use Rattle.pi_traces.specs.Trace.{one}
+use Rattle.pi_meaning.specs.Trace.{one}
 use Rattle.pi_meaning.specs.Environment.{Valued}
 use Rattle.pi_meaning.specs.Names.{is_call}
 use Rattle.pi_meaning.specs.Given.{Setting}
@@ -17,8 +17,8 @@ use Rattle.pi_names.specs.Control.{Goal, Value, Values, draining, nothing, in_fr
 use Rattle.pi_names.specs.Forms.{form_of, Parts, Reading, plain, readings, first_reading, later_readings, operand_readings, indexed_by}
 use Rattle.pi_names.specs.Loops.{Finish, as_it_is, unit, iterating, turning, while_turns, do_turns, hidden, adding, in_order, comprehended}
 use Rattle.pi_names.specs.Goals.{started, value_of, values_of, values_in, values_apart, goals_in, goal_of, all_of, any_of, arrow_in, branches_of, units_of, collection_of}
-use Rattle.pi_coverage.specs.Built.{is_built_pattern, is_built_form, is_assigned, is_built_unit, are_built_units, is_built_collection, are_some, is_built_value, are_built_values, is_built_value_at, is_built_goal_at, is_built_goal, are_built_goals, are_built_branches, is_built_branch, have_built_goals}
-use Rattle.pi_coverage.specs.TermCalls.{calls_terms, some_call_terms, some_branch_calls_terms}
+use Rattle.pi_sound.specs.Built.{is_built_pattern, is_built_form, is_assigned, is_built_unit, are_built_units, is_built_collection, are_some, is_built_value, are_built_values, is_built_value_at, is_built_goal_at, is_built_goal, are_built_goals, are_built_branches, is_built_branch, have_built_goals}
+use Rattle.pi_sound.specs.TermCalls.{calls_terms, some_call_terms, some_branch_calls_terms}
 use Rattle.pi_sound.proofs.BuiltNames.{ranges-built, index-built}
 use Rattle.pi_sound.proofs.CallLemmas.{CallsAlike, Counted, nothing-counted, front-counted, values-counted, applied-alike}
 use Rattle.pi_sound.proofs.FormLemmas.{no-term, form-alike, atom-alike, call-value-alike, range-alike}

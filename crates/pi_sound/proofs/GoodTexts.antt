@@ -36,7 +36,7 @@ use Rattle.pi_lowered.proofs.CollectLemmas.{hidden-named, hidden-within, hidden-
 use Rattle.pi_lowered.proofs.HelperLemmas.{AreAmong}
 use Rattle.pi_lowered.proofs.LoopTexts.{shared-among, kept-before, kept-among}
 use Rattle.pi_lowered.proofs.UnitLemmas.{within-behind}
-use Rattle.pi_coverage.specs.Built.{are_some, is_assigned, is_built_form, is_built_value, are_built_values, is_built_value_at, is_built_goal_at, is_built_goal, are_built_goals, are_built_branches, is_built_branch, have_built_goals, is_built_unit, are_built_units, is_built_collection}
+use Rattle.pi_sound.specs.Built.{are_some, is_assigned, is_built_form, is_built_value, are_built_values, is_built_value_at, is_built_goal_at, is_built_goal, are_built_goals, are_built_branches, is_built_branch, have_built_goals, is_built_unit, are_built_units, is_built_collection}
 use Rattle.pi_sound.proofs.FineGoals.{fine-truth}
 use Rattle.pi_sound.proofs.GivenNames.{ranges-there}
 use Rattle.pi_sound.proofs.GoodHelpers.{has-last}

@@ -33,7 +33,7 @@ use Rattle.pi_lowered.proofs.CollectionLemmas.{found-long}
 use Rattle.pi_lowered.proofs.HelperLemmas.{AreAmong}
 use Rattle.pi_lowered.proofs.LoopTexts.{shared-among, inside-among, kept-before, kept-among-inside}
 use Rattle.pi_lowered.proofs.UnitLemmas.{within-behind}
-use Rattle.pi_coverage.specs.Built.{is_built_pattern, is_built_unit}
+use Rattle.pi_sound.specs.Built.{is_built_pattern, is_built_unit}
 use Rattle.pi_sound.proofs.FineGoals.{fine-one, fine-append, fine-truth, fine-apply}
 use Rattle.pi_sound.proofs.GivenNames.{itself-there}
 use Rattle.pi_sound.proofs.GoodHelpers.{Allows, Has, has-first, has-last, FineHelpers, Falls, GoodHelpers, both-helpers, more-helpers}

@@ -3,7 +3,7 @@ use Rattle.std.proofs.Common.{◌≡◌, ℕ, Bool, true, false, if◌then◌els
 use Rattle.std.specs.Prelude.{Option, Some, None, ⊤}
 use Rattle.std.specs.List.{list_any}
 use Rattle.std.proofs.lemmas.Bool.{or_parts}
-use Rattle.pi_lib.specs.Forms.{is_form}
+use Rattle.pi_syntax.specs.Forms.{is_form}
 use Rattle.pi_clauses.specs.Calls.{Named, named, is_planner_call, planner_calls, goal_calls, node_calls, calls_among, is_known, first_unknown}
 use Rattle.pi_clauses.specs.Items.{is_misplaced}
 use Rattle.pi_clauses.specs.Places.{Placed}

@@ -6,9 +6,9 @@ use Rattle.std.specs.Str.{bytes_eq}
 use Rattle.std.proofs.lemmas.Bool.{and_parts, or_cases, eqb-true, eq-eqb, false≢true}
 use Rattle.std.proofs.lemmas.List.Folds.{list_any-append}
 use Rattle.std.proofs.lemmas.Slice.Eq.{bytes_eq-Decides}
-use Rattle.pi_lib.specs.Forms.{is_form}
-use Rattle.pi_lib.specs.Names.{prelude_rows, is_listed, kind_of}
-use Rattle.pi_lib.specs.declared.builtin.BuiltinKind.{BuiltinKind}
+use Rattle.pi_syntax.specs.Forms.{is_form}
+use Rattle.pi_syntax.specs.Names.{prelude_rows, is_listed, kind_of}
+use Rattle.pi_syntax.specs.declared.builtin.BuiltinKind.{BuiltinKind}
 use Rattle.pi_syntax.specs.ExpTree.{ExpTree}
 use Rattle.pi_syntax.specs.ProgramTree.{FunctionTree, WrittenClause, rule, function, fact, PartTree, ProgramTree}
 use Rattle.pi_syntax.specs.Signature.{Signature, signature, exp_count}
@@ -20,7 +20,7 @@ use Rattle.pi_names.proofs.TableLemmas.{same-name, each-from, each-row, rows-hol
 use Rattle.pi_clauses.specs.Calls.{Named, named, is_kind, same_bool, same_named, is_known}
 use Rattle.pi_clauses.specs.GoalVerdict.{defined_by_clause, defined_by_program}
 use Rattle.pi_clauses.specs.Verdict.{as_list, named_of}
-use Rattle.pi_coverage.specs.Built.{is_own}
+use Rattle.pi_sound.specs.Built.{is_own}
 use Rattle.pi_lowered.specs.Within.{is_some_function, knows}
 use Rattle.pi_sound.proofs.PlainNames.{prelude-listed}
 use Rattle.pi_sound.proofs.BuiltCalls.{Has}

@@ -1,47 +1,53 @@
-pub mod BuiltNames
-pub mod CallLemmas
-pub mod FormLemmas
-pub mod GoalLemmas
-pub mod PartLemmas
-pub mod RuleLemmas
-pub mod RunLemmas
-mod KnownCalls
-mod BuiltTerms
-mod PlainNames
-mod CallPlaces
-mod BuiltCalls
-mod NamedPatterns
-mod BuiltGoals
-mod KnownNames
-mod FreeHeads
-pub mod FaultlessParts
-mod ShownKeys
 mod AdjacentClauses
-mod IndexedFacts
-mod PreludeParts
-pub mod FaultlessPrograms
+pub mod ApartLemmas
+pub mod BuiltCallLemmas
+mod BuiltCalls
+mod BuiltGoals
+pub mod BuiltNames
+pub mod BuiltPartLemmas
+mod BuiltTerms
+pub mod CallLemmas
+mod CallPlaces
+pub mod ClauseLemmas
+pub mod EachLemmas
 pub mod FaultlessGoals
-pub mod GivenNames
-pub mod NameLemmas
+pub mod FaultlessParts
+pub mod FaultlessPrograms
 pub mod FineGoals
-pub mod GoodHelpers
-pub mod GoodGoals
-pub mod GoodValues
+pub mod FormLemmas
+pub mod FoundLemmas
+mod FreeHeads
+pub mod GivenNames
+pub mod GoalLemmas
 pub mod GoodCalls
-pub mod SlotRoom
+pub mod GoodGoals
+pub mod GoodHelpers
+pub mod GoodTexts
+pub mod GoodUnits
+pub mod GoodValues
+pub mod GroupLemmas
+pub mod HelperSound
+mod IndexedFacts
+pub mod IteratorHelpers
+mod KnownCalls
+mod KnownNames
 pub mod LoopGoals
 pub mod LoopHelpers
-pub mod IteratorHelpers
-pub mod GoodUnits
-pub mod GoodTexts
-pub mod ClauseLemmas
-pub mod GroupLemmas
-pub mod PreludeBuilt
-pub mod FoundLemmas
-pub mod RankLemmas
-pub mod SoundGoals
-pub mod ApartLemmas
-pub mod HelperSound
+pub mod LoopTrees
+pub mod NameLemmas
+mod NamedPatterns
+pub mod NodeLemmas
+pub mod PartLemmas
 pub mod PlainLemmas
+mod PlainNames
+pub mod PreludeBuilt
+mod PreludeParts
 pub mod ProgramLemmas
 pub mod QueryLemmas
+pub mod RankLemmas
+pub mod RuleLemmas
+pub mod RunLemmas
+mod ShownKeys
+pub mod SlotRoom
+pub mod SoundGoals
+pub mod UnitLemmas

@@ -32,8 +32,8 @@ use Rattle.pi_lowered.proofs.NumberedLemmas.{NamedFrom}
 use Rattle.pi_lowered.proofs.OwnLemmas.{find-append, named-quiet}
 use Rattle.pi_lowered.proofs.TextPrograms.{Parts, program-numbered, keys-written}
 use Rattle.pi_lowered.proofs.TextLawLemmas.{programs-with-loops-are-kept}
-use Rattle.pi_coverage.specs.Built.{is_built_clause, is_built, is_built_part, unbuilt_from, unbuilt_part}
-use Rattle.pi_coverage.specs.Within.{IsWithin}
+use Rattle.pi_sound.specs.Built.{is_built_clause, is_built, is_built_part, unbuilt_from, unbuilt_part}
+use Rattle.pi_sound.specs.Within.{IsWithin}
 use Rattle.pi_sound.specs.Laws.{AreNames, LoweredProgramsAreSound, LoweredProgramsAreClosed, clauses_named, pred_made, LoweredProgramsHaveClauses}
 use Rattle.pi_sound.proofs.GoodHelpers.{Allows, Has, has-first, has-last, FineHelpers, GoodHelpers, no-helpers, both-helpers}
 use Rattle.pi_sound.proofs.ClauseLemmas.{GoodClause, GoodWith, head-count, rule-good, fact-good, function-good}

@@ -33,7 +33,7 @@ use Rattle.pi_lowered.proofs.SoundLemmas.{nothing-in, cons-cases}
 use Rattle.pi_lowered.proofs.TextLevels.{nothing-named}
 use Rattle.pi_lowered.proofs.NumberedLemmas.{NamedFrom, goal-numbered}
 use Rattle.pi_lowered.proofs.OwnLemmas.{named-quiet}
-use Rattle.pi_coverage.specs.Built.{is_built_goal}
+use Rattle.pi_sound.specs.Built.{is_built_goal}
 use Rattle.pi_sound.specs.Laws.{AreNames, IsPlain, QueryFits, LoweredQueriesAreSound}
 use Rattle.pi_sound.proofs.NameLemmas.{machine-given, table-given}
 use Rattle.pi_sound.proofs.FineGoals.{Fine, fine-turn, slots-below}

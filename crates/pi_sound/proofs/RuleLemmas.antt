@@ -6,8 +6,8 @@ use Rattle.pi_states.specs.State.{State, bindings}
 use Rattle.pi_syntax.specs.ExpTree.{ExpTree}
 use Rattle.pi_syntax.specs.ProgramTree.{RuleTree, FunctionTree, ProgramTree}
 use Rattle.pi_syntax.specs.declared.program.Mode.{Mode}
-use Rattle.pi_traces.specs.Trace.{Trace, one, then}
-use Rattle.pi_traces.specs.Control.{chosen}
+use Rattle.pi_meaning.specs.Trace.{Trace, one, then}
+use Rattle.pi_meaning.specs.Control.{chosen}
 use Rattle.pi_meaning.specs.Raise.{raised_with}
 use Rattle.pi_meaning.specs.Drain.{drained}
 use Rattle.pi_meaning.specs.Level.{Level, Applied, level_of, ticked}
@@ -21,8 +21,8 @@ use Rattle.pi_names.specs.Heads.{patterns_matched}
 use Rattle.pi_names.specs.Control.{strictly}
 use Rattle.pi_names.specs.Forms.{plain}
 use Rattle.pi_names.specs.Rules.{is_head_of, rules_named, functions_named, modes_named, guarded, places_in, names_before, function_names, body_or_agent, leaves_later, rule_or_later, rules_called, predicate_run, body_or_none, applied, value_run, function_or_later, functions_called, function_run, calls_by, level_for}
-use Rattle.pi_coverage.specs.Built.{is_built_value, is_built_goal, are_built_patterns, is_built_goal_or_none, are_none, is_built_rule, is_built_function_rule}
-use Rattle.pi_coverage.specs.TermCalls.{calls_terms, calls_terms_if, rule_calls_terms, function_calls_terms}
+use Rattle.pi_sound.specs.Built.{is_built_value, is_built_goal, are_built_patterns, is_built_goal_or_none, are_none, is_built_rule, is_built_function_rule}
+use Rattle.pi_sound.specs.TermCalls.{calls_terms, calls_terms_if, rule_calls_terms, function_calls_terms}
 use Rattle.pi_sound.proofs.CallLemmas.{CallsAlike}
 use Rattle.pi_sound.proofs.GoalLemmas.{value-alike, goal-alike}
 use Rattle.pi_sound.proofs.PartLemmas.{PartsAreBuilt, RulesAreBuilt, FunctionsAreBuilt, rules-built, kept-rules, functions_of, functions-built, kept-functions}

@@ -3,8 +3,8 @@ use Rattle.std.specs.Prelude.{◌≡◌, ◌++◌, ℕ, true, [], None, refl}
 use Rattle.std.proofs.Common.{subst}
 use Rattle.pi_syntax.specs.ExpTree.{ExpTree}
 use Rattle.pi_syntax.specs.ProgramTree.{ProgramTree}
-use Rattle.pi_traces.specs.Trace.{Trace, then}
-use Rattle.pi_traces.specs.Depth.{cut, CutWithoutDeep}
+use Rattle.pi_meaning.specs.Trace.{Trace, then}
+use Rattle.pi_meaning.specs.Depth.{cut, CutWithoutDeep}
 use Rattle.pi_meaning.specs.View.{View}
 use Rattle.pi_meaning.specs.Level.{Level, lowest, over, Calls}
 use Rattle.pi_meaning.specs.Place.{Place, beginning}
@@ -17,8 +17,8 @@ use Rattle.pi_names.specs.Run.{is_some_head, setting, program_level, answer_name
 use Rattle.pi_lowered.specs.Forms.{Knows}
 use Rattle.pi_lowered.specs.Levels.{SameCalls, SameLevels}
 use Rattle.pi_lowered.specs.Laws.{known_of}
-use Rattle.pi_coverage.specs.Built.{is_built_goal, unbuilt_part}
-use Rattle.pi_coverage.specs.TermCalls.{CallNoTerms}
+use Rattle.pi_sound.specs.Built.{is_built_goal, unbuilt_part}
+use Rattle.pi_sound.specs.TermCalls.{CallNoTerms}
 use Rattle.pi_sound.specs.LaterLaws.{LevelsAreTheSame, CallsAreTheSame, GoalsAreTheSame, RunsAreTheSame}
 use Rattle.pi_sound.proofs.CallLemmas.{CallsAlike, stages-alike}
 use Rattle.pi_sound.proofs.GoalLemmas.{goal-alike}

@@ -5,7 +5,7 @@ use Rattle.std.specs.List.{list_any, cons_option}
 use Rattle.std.specs.Str.{bytes_eq}
 use Rattle.std.proofs.lemmas.Bool.{and_parts, or_parts, eqb-true, eq-eqb, false_from_ne_true, false≢true}
 use Rattle.std.proofs.lemmas.Slice.Eq.{bytes_eq-Decides}
-use Rattle.pi_lib.specs.Names.{function_rows, predicate_rows, prelude_rows, kind_of}
+use Rattle.pi_syntax.specs.Names.{function_rows, predicate_rows, prelude_rows, kind_of}
 use Rattle.pi_syntax.specs.ExpTree.{ExpTree, atom, call}
 use Rattle.pi_syntax.specs.ProgramTree.{WrittenClause, rule, function, fact}
 use Rattle.pi_syntax.specs.Signature.{Signature, signature, exp_count}

@@ -2,7 +2,7 @@
 use Rattle.std.specs.Prelude.{◌≡◌, ℕ, true, false, None}
 use Rattle.pi_syntax.specs.ExpTree.{ExpTree}
 use Rattle.pi_syntax.specs.ProgramTree.{ProgramTree}
-use Rattle.pi_traces.specs.Depth.{Cut}
+use Rattle.pi_meaning.specs.Depth.{Cut}
 use Rattle.pi_meaning.specs.View.{View}
 use Rattle.pi_meaning.specs.Place.{Place}
 use Rattle.pi_meaning.specs.Telling.{Told}
@@ -10,8 +10,8 @@ use Rattle.pi_names.specs.Stages.{LaterStages}
 use Rattle.pi_names.specs.Run.{program_level, names_from, IsNamesRun}
 use Rattle.pi_lowered.specs.Levels.{SameLevels}
 use Rattle.pi_lowered.specs.Laws.{known_of}
-use Rattle.pi_coverage.specs.Built.{is_built_goal, unbuilt_part}
-use Rattle.pi_coverage.specs.TermCalls.{program_calls_terms, CallNoTerms}
+use Rattle.pi_sound.specs.Built.{is_built_goal, unbuilt_part}
+use Rattle.pi_sound.specs.TermCalls.{program_calls_terms, CallNoTerms}
 
 -- The level of each depth is one: what calls of each predicate and each function do at it and below it, and what draining does.
 abbrev pub LevelsAreTheSame : Type 0

@@ -14,8 +14,8 @@ use Rattle.pi_lowered.specs.Programs.{Naming, clauses_of, helpers_of, core_progr
 use Rattle.pi_lowered.specs.WithinLoops.{IsAsked, AreOwn}
 use Rattle.pi_lowered.specs.Laws.{known_of, DefinesTheSame}
 use Rattle.pi_lowered.specs.TextLaws.{AreNew}
-use Rattle.pi_coverage.specs.Built.{unbuilt_part, is_built_goal}
-use Rattle.pi_coverage.specs.Within.{IsWithin}
+use Rattle.pi_sound.specs.Built.{unbuilt_part, is_built_goal}
+use Rattle.pi_sound.specs.Within.{IsWithin}
 
 -- names for helpers that are own, and that no function of the program has either
 pub record AreNames (program : ProgramTree) (called : Naming) : Type 0 where

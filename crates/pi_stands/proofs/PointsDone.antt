@@ -5,11 +5,11 @@ use Rattle.pi_terms.specs.Tree.{Tree}
 use Rattle.pi_terms.specs.Places.{Places}
 use Rattle.pi_meaning.specs.View.{View}
 use Rattle.pi_core.specs.CoreTree.{PredTree}
-use Rattle.pi_traces.specs.Trace.{Raise, answered}
+use Rattle.pi_meaning.specs.Trace.{Raise, answered}
 use Rattle.pi_meaning.specs.Run.{Solution}
 use Rattle.pi_core.specs.GoalTree.{GoalTrees, no_goals, goal}
 use Rattle.pi_core.specs.declared.core_program.NameSlot.{NameSlot}
-use Rattle.pi_answers.specs.declared.answer.Answer.{Answer}
+use Rattle.pi_core.specs.declared.answer.Answer.{Answer}
 use Rattle.pi_terms.proofs.GetLemmas.{get_some}
 use Rattle.pi_arenas.specs.declared.frames.Point.{Point}
 use Rattle.pi_code.specs.declared.code.Step.{Step}

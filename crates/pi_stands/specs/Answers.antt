@@ -11,8 +11,8 @@ use Rattle.pi_meaning.specs.View.{View}
 use Rattle.pi_core.specs.CoreTree.{PredTree}
 use Rattle.pi_meaning.specs.Run.{Solution}
 use Rattle.pi_core.specs.declared.core_program.NameSlot.{NameSlot}
-use Rattle.pi_answers.specs.declared.answer.NamedTerm.{NamedTerm}
-use Rattle.pi_answers.specs.declared.answer.Answer.{Answer}
+use Rattle.pi_core.specs.declared.answer.NamedTerm.{NamedTerm}
+use Rattle.pi_core.specs.declared.answer.Answer.{Answer}
 use Rattle.pi_arenas.specs.declared.frames.Point.{Point}
 use Rattle.pi_arenas.specs.declared.run.Now.{Now}
 use Rattle.pi_arenas.specs.Arenas.{ArenasView}

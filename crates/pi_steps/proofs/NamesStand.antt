@@ -13,13 +13,13 @@ use Rattle.pi_states.specs.Evaluation.{Evaluated, evaluated, slot_term}
 use Rattle.pi_meaning.specs.Meaning.{slot_value}
 use Rattle.pi_core.specs.GoalTree.{no_goals}
 use Rattle.pi_meaning.specs.Run.{Solution}
-use Rattle.pi_answers.specs.AnswerVariables.{answer_variables}
+use Rattle.pi_core.specs.AnswerVariables.{answer_variables}
 use Rattle.pi_meaning.specs.Told.{named_values}
 use Rattle.pi_states.specs.ToldDomains.{told_domains}
 use Rattle.pi_states.specs.declared.store.Ref.{Ref}
 use Rattle.pi_core.specs.declared.core_program.NameSlot.{NameSlot}
-use Rattle.pi_answers.specs.declared.answer.NamedTerm.{NamedTerm}
-use Rattle.pi_answers.specs.declared.answer.Answer.{Answer}
+use Rattle.pi_core.specs.declared.answer.NamedTerm.{NamedTerm}
+use Rattle.pi_core.specs.declared.answer.Answer.{Answer}
 use Rattle.pi_arenas.specs.declared.frames.Point.{Point}
 use Rattle.pi_arenas.specs.Arenas.{ArenasView, entry_at}
 use Rattle.pi_machine.specs.Configuration.{Frame, Entry as EntryData, config, going, raising}

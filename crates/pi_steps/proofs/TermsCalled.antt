@@ -18,7 +18,7 @@ use Rattle.pi_effects.specs.declared.fault.Kind.{Kind as FaultKind}
 use Rattle.pi_meaning.specs.View.{View}
 use Rattle.pi_meaning.specs.Calls.{Called, called_by}
 use Rattle.pi_calls.proofs.RunLemmas.{terms-count}
-use Rattle.pi_called.specs.Called.{IsCalled, NamesAreDistinct}
+use Rattle.pi_facts.specs.Called.{IsCalled, NamesAreDistinct}
 use Rattle.pi_code.specs.declared.code.Node.{Node}
 use Rattle.pi_code.specs.declared.code.Step.{Step}
 use Rattle.pi_code.specs.Code.{preds_of}

@@ -7,13 +7,13 @@ use Rattle.pi_states.specs.Value.{IsAcyclic, value}
 use Rattle.pi_states.specs.State.{State, bindings, binding, domain_in, domain_of, next, with_new}
 use Rattle.pi_states.specs.Evaluation.{Evaluated, evaluated, slot_term}
 use Rattle.pi_meaning.specs.Run.{Solution}
-use Rattle.pi_answers.specs.AnswerVariables.{answer_variables}
+use Rattle.pi_core.specs.AnswerVariables.{answer_variables}
 use Rattle.pi_meaning.specs.Told.{named_values, answer_of}
 use Rattle.pi_states.specs.ToldDomains.{told_domain, told_domains}
 use Rattle.pi_core.specs.declared.core_program.NameSlot.{NameSlot}
-use Rattle.pi_answers.specs.declared.answer.NamedTerm.{NamedTerm}
+use Rattle.pi_core.specs.declared.answer.NamedTerm.{NamedTerm}
 use Rattle.pi_constraints.specs.declared.var_domain.VarDomain.{VarDomain}
-use Rattle.pi_answers.specs.declared.answer.Answer.{Answer}
+use Rattle.pi_core.specs.declared.answer.Answer.{Answer}
 use Rattle.pi_states.proofs.StateLemmas.{held_is, as_many}
 use Rattle.pi_terms.proofs.VariableLemmas.{Has, Has-append_cases, occurs_from_Has}
 use Rattle.pi_states.proofs.ValueLemmas.{value_has_none_bound}

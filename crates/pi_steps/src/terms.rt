@@ -8,9 +8,9 @@ ghost use Rattle.pi_stands.specs.Makes.{RunsGoal};
 
 use crate::calls::take_arguments;
 use pi_arenas::{Now, Point, Run};
-use pi_called::{take_called, unknown_name};
 use pi_code::{Code, Step};
 use pi_effects::{Fault, Kind, ball_of};
+use pi_facts::{take_called, unknown_name};
 use pi_states::{Ref, StateStore};
 use std::alloc::AllocError;
 

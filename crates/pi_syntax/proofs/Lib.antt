@@ -1,2 +1,4 @@
-pub mod GrammarLemmas
 pub mod ExpListLemmas
+pub mod GrammarLemmas
+pub mod TableLemmas
+pub mod WidthLemmas

@@ -1,9 +1,18 @@
 //! Programs and goals as they are written: tokens, expressions, parts.
 #![tactic(auto)]
 
+mod builtin;
+mod builtin_laws;
 mod exp;
+mod forms;
 pub mod laws;
 mod program;
+mod rows;
+mod rules;
 
+pub use builtin::{BuiltinKind, is_builtin, kind_of};
+pub use builtin_laws::tables_are_disjoint;
 pub use exp::{Apart, Branches, Exp, Exps};
+pub use forms::is_form;
 pub use program::{Clause, Decl, Goal, Mode, ModeLists, Modes, Names, Part, Parts, Program};
+pub use rules::prelude;

@@ -2,6 +2,7 @@
 #![tactic(auto)]
 
 mod args;
+mod atoms;
 pub mod laws;
 mod numbers;
 mod series;
@@ -9,6 +10,7 @@ mod term;
 mod text;
 
 pub use args::Args;
+pub use atoms::Atoms;
 pub use numbers::Numbers;
 pub use series::Series;
 pub use term::{Term, TermCell, TermHead};

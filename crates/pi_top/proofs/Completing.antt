@@ -2,7 +2,7 @@
 use Rattle.std.proofs.Common.{◌≡◌, ◌≢◌, ℕ, true, List, Option, inl, inr, refl, subst}
 use Rattle.pi_top.specs.Demo.{demo_program}
 use Rattle.pi_outside.specs.Held.{Holding}
-use Rattle.pi_answers.specs.declared.log.LogEntry.{LogEntry}
+use Rattle.pi_core.specs.declared.log.LogEntry.{LogEntry}
 use Rattle.pi_query.specs.declared.runs.QueryRun.{QueryRun}
 use Rattle.pi_words.specs.declared.run_mode.RunMode.{RunMode}
 use Rattle.pi_words.specs.declared.run_mode.RunMode.TheVariants.{Query, Run, Session, Print, Demo}

@@ -5,7 +5,7 @@ use Rattle.pi_outside.specs.Faults.{Rose}
 use Rattle.pi_outside.specs.Held.{Holding}
 use Rattle.pi_outside.specs.Reads.{FileRead}
 use Rattle.pi_outside.specs.Writes.{SinkWrite}
-use Rattle.pi_answers.specs.declared.log.LogEntry.{LogEntry}
+use Rattle.pi_core.specs.declared.log.LogEntry.{LogEntry}
 use Rattle.pi_query.specs.declared.manner.Manner.{Manner}
 use Rattle.pi_query.specs.declared.runs.QueryRun.{QueryRun}
 use Rattle.pi_query.specs.declared.query.Stop.{Stop}

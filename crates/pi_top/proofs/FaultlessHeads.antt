@@ -8,8 +8,8 @@ use Rattle.pi_syntax.specs.ProgramTree.{WrittenClause, rule, function, fact, Pro
 use Rattle.pi_syntax.specs.Signature.{Signature, signature, exp_count}
 use Rattle.pi_syntax.specs.Tokens.{Token}
 use Rattle.pi_meaning.specs.Small.{defined_by, heads, Defines}
-use Rattle.pi_lib.specs.Forms.{is_form}
-use Rattle.pi_lib.specs.Names.{kind_of}
+use Rattle.pi_syntax.specs.Forms.{is_form}
+use Rattle.pi_syntax.specs.Names.{kind_of}
 use Rattle.pi_clauses.specs.Calls.{Named}
 use Rattle.pi_clauses.specs.Items.{head_of, is_head}
 use Rattle.pi_clauses.specs.Operators.{is_goal_sign, is_relation, is_reified, is_membership, is_operator}

@@ -3,9 +3,9 @@ use Rattle.std.proofs.Common.{◌≡◌, ◌≢◌, ◌+◌, inr, ℕ, suc, List
 use Rattle.pi_syntax.specs.ExpTree.{ExpTree}
 use Rattle.pi_syntax.specs.ProgramTree.{ProgramTree}
 use Rattle.pi_canonical.specs.Canonical.{canonical_text}
-use Rattle.pi_answers.specs.declared.log.LogEntry.{LogEntry}
-use Rattle.pi_traces.specs.Trace.{Done, Raise, Emitted, noted, answered, count_ticks}
-use Rattle.pi_traces.specs.Depth.{Cut, Stop, Ended, Spent}
+use Rattle.pi_core.specs.declared.log.LogEntry.{LogEntry}
+use Rattle.pi_meaning.specs.Trace.{Done, Raise, Emitted, noted, answered, count_ticks}
+use Rattle.pi_meaning.specs.Depth.{Cut, Stop, Ended, Spent}
 use Rattle.pi_meaning.specs.View.{query_view}
 use Rattle.pi_meaning.specs.Telling.{Told}
 use Rattle.pi_names.specs.Stages.{no_stages}

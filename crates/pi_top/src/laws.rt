@@ -5,7 +5,7 @@ ghost use Rattle.pi_syntax.specs.ProgramTree.{ProgramTree};
 ghost use Rattle.pi_syntax.specs.Tokens.{Token};
 ghost use Rattle.pi_clauses.specs.Verdict.{HasVerdict, a_program};
 ghost use Rattle.pi_names.specs.NameLaws.{HeadsAreFree};
-ghost use Rattle.pi_answers.specs.declared.log.LogEntry.{LogEntry};
+ghost use Rattle.pi_core.specs.declared.log.LogEntry.{LogEntry};
 ghost use Rattle.pi_query.specs.declared.manner.Manner.{Manner};
 ghost use Rattle.pi_query.specs.declared.runs.QueryRun.{QueryRun};
 ghost use Rattle.pi_query.specs.Judged.{Refused, Asks, AreFaultless};

@@ -1,5 +1,5 @@
 //! What a call of picatq answers.
-use pi_answers::{CallLog, EnteredCalls};
+use pi_core::{CallLog, EnteredCalls};
 use pi_query::runs::Queries;
 
 /// What a run of picatq comes to, beside the bytes that it wrote.

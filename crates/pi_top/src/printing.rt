@@ -1,7 +1,7 @@
 //! The mode `print`: the canonical text of a program.
 ghost use Rattle.std.specs.Prelude.{◌≡◌, ◌<◌, [], List, IfOk};
 ghost use Rattle.pi_outside.specs.Writes.{ByWrites};
-ghost use Rattle.pi_answers.specs.declared.log.LogEntry.{LogEntry};
+ghost use Rattle.pi_core.specs.declared.log.LogEntry.{LogEntry};
 ghost use Rattle.pi_top.specs.Ends.{AnswersPrinted};
 ghost use Rattle.pi_query.specs.Faults.{TellsWrites};
 ghost use Rattle.pi_top.specs.PrintedCode.{ShowsPrinted};

@@ -3,17 +3,16 @@
 #![tactic(auto)]
 
 pub mod laws;
+mod tree_store;
 
-pub use pi_answers::{
-    Answer, CallLog, Entered, EnteredCalls, LogEntry, NamedTerm, NamedTerms, PlanResult, Work,
-};
 pub use pi_constraints::{
     Constraint, Constraints, Domain, Domains, Item, Items, LinTerm, LinTerms, MAX_VALUE, Rel, Span,
     VarDomain, VarDomains,
 };
 pub use pi_core::{
-    CoreClause, CoreClauses, CoreGoal, CorePred, CorePreds, CoreProgram, CoreQuery, GoalNode,
-    NameSlot, NameSlots, Pattern, Patterns, SlotWatch, SlotWatches,
+    Answer, CallLog, CoreClause, CoreClauses, CoreGoal, CorePred, CorePreds, CoreProgram,
+    CoreQuery, Entered, EnteredCalls, GoalNode, LogEntry, NameSlot, NameSlots, NamedTerm,
+    NamedTerms, Pattern, Patterns, PlanResult, SlotWatch, SlotWatches, Work,
 };
 pub use pi_states::{
     Activation, Activations, AgentView, Cell, Event, Events, Places, ReadStop, Ref, StateStore,
@@ -23,4 +22,4 @@ pub use pi_syntax::{
     Branches, Clause, Decl, Exp, Exps, Goal, Mode, ModeLists, Modes, Names, Part, Parts, Program,
 };
 pub use pi_terms::{Args, Numbers, Series, Term, TermHead, Text};
-pub use pi_tree_store::TreeStore;
+pub use tree_store::TreeStore;

@@ -6,7 +6,7 @@ use Rattle.pi_terms.specs.Places.{held}
 use Rattle.pi_states.specs.Value.{IsAcyclic}
 use Rattle.pi_states.specs.State.{State, bindings}
 use Rattle.pi_states.specs.ToldDomains.{told_domains}
-use Rattle.pi_answers.specs.declared.answer.NamedTerm.{NamedTerm}
+use Rattle.pi_core.specs.declared.answer.NamedTerm.{NamedTerm}
 use Rattle.pi_unify.specs.declared.domains.Met.{Met}
 
 -- none of these variables is bound

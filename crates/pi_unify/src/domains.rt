@@ -5,12 +5,12 @@ ghost use Rattle.pi_terms.specs.Variables.{occurrences};
 ghost use Rattle.pi_terms.specs.Places.{held};
 ghost use Rattle.pi_states.specs.Value.{IsAcyclic};
 ghost use Rattle.pi_states.specs.State.{bindings, domain_of as domain_in_state};
-ghost use Rattle.pi_answers.specs.AnswerVariables.{answer_variables};
+ghost use Rattle.pi_core.specs.AnswerVariables.{answer_variables};
 ghost use Rattle.pi_states.specs.ToldDomains.{told_domains};
 ghost use Rattle.pi_unify.specs.Domains.{AreUnbound, HasMet};
 
-use pi_answers::NamedTerm;
 use pi_constraints::{Domain, VarDomain, VarDomains};
+use pi_core::NamedTerm;
 use pi_states::StateStore;
 use pi_terms::{Numbers, Series, Term, TermHead};
 use std::alloc::{AllocError, Global};

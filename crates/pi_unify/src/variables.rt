@@ -9,8 +9,7 @@ ghost use Rattle.pi_unify.specs.Refs.{root_of, AreVariables, IsAssigned};
 ghost use Rattle.pi_unify.specs.Answers.{Makes, has_cell};
 
 use crate::occurs::occurs;
-use pi_constraints::Domain;
-use pi_dom::{contains, meet, min, size};
+use pi_constraints::{Domain, contains, meet, min, size};
 use pi_states::{Cell, Ref, StateStore};
 use std::alloc::{AllocError, Global};
 

@@ -1,6 +1,8 @@
 //! tables: writes what the cases of files give, which are calls of picatq's libraries.
 #![tactic(auto)]
 
+mod whole;
+
 use pi_cases::{Case, Subjects, run};
 use pi_outside::{Files, RealFiles};
 use std::process::ExitCode;
@@ -13,13 +15,12 @@ struct Tables<F> {
 
 impl<R: Print + Input + AllocGlobal, F: Files> Subjects<R> for Tables<F> {
     fn answer_text(&mut self, _rt: &R, subject: &str, text: &str, line: &str, case: &Case) -> bool {
-        reader_tables::answer_text(subject, line, case)
-            || whole_tables::answer_text(subject, text, line, case)
+        value_tables::answer_text(subject, line, case)
+            || whole::answer_text(subject, text, line, case)
     }
 
     fn answer_words(&mut self, rt: &R, subject: &str, text: &str, case: &Case) -> bool {
-        reader_tables::answer_words(subject, case)
-            || run_tables::answer_words(subject, text, case)
+        run_tables::answer_words(subject, text, case)
             || store_tables::answer_words(subject, text, case)
             || value_tables::answer_words(subject, case)
             || value_tables::answer_outside(rt, &mut self.files, subject, case)

@@ -1,7 +1,7 @@
 //! Domains: how they are made, cut, met and read, step by step.
 
 use pi_cases::{Case, Problem, named, tell_span};
-use pi_dom::{
+use pi_constraints::{
     DomFault, contains, cut_above, cut_below, max, meet, min, of_list, of_span, remove, size,
 };
 use pi_types::{Domain, Span};

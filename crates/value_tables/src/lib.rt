@@ -1,4 +1,4 @@
-//! Cases of domains, integers, regions, filters, planners and the outside.
+//! Cases of values and of readers: domains, integers, regions, filters, planners and the outside; tokens, expressions, programs, built-in names and the prelude.
 #![tactic(auto)]
 
 mod domains;
@@ -7,10 +7,12 @@ mod graph;
 mod integers;
 mod outside;
 mod planners;
+mod readers;
 mod regions;
 
 use pi_cases::{Case, named};
 use pi_outside::Files;
+pub use readers::answer_text;
 
 /// A subject of cases of words.
 #[derive(Clone, Copy)]
@@ -19,15 +21,17 @@ enum Subject {
     Filters,
     Integers,
     Plans,
+    Prelude,
     Regions,
 }
 
 /// Each subject with its name.
-const SUBJECTS: [(&str, Subject); 5] = [
+const SUBJECTS: [(&str, Subject); 6] = [
     ("domains", Subject::Domains),
     ("filters", Subject::Filters),
     ("integers", Subject::Integers),
     ("plans", Subject::Plans),
+    ("prelude", Subject::Prelude),
     ("regions", Subject::Regions),
 ];
 
@@ -36,7 +40,7 @@ fn subject_of(name: &str) -> Option<Subject> {
     named(&SUBJECTS, name)
 }
 
-/// Answers a case of domains, integers, regions, filters or planners, and tells whether the subject is one of them.
+/// Answers a case of domains, integers, regions, filters, planners or the prelude, and tells whether the subject is one of them.
 pub fn answer_words(subject: &str, case: &Case) -> bool {
     let Some(subject) = subject_of(subject) else {
         return false;
@@ -46,6 +50,7 @@ pub fn answer_words(subject: &str, case: &Case) -> bool {
         Subject::Filters => filters::answer(case),
         Subject::Integers => integers::answer(case),
         Subject::Plans => planners::answer(case),
+        Subject::Prelude => readers::prelude::answer(case),
         Subject::Regions => regions::answer(case),
     }
     true

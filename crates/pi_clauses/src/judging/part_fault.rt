@@ -14,8 +14,7 @@ use crate::names::calls::Called;
 use crate::names::definition;
 use crate::names::definitions::Definitions;
 use crate::parts::{PartReading, WrittenPart};
-use pi_lib::kind_of;
-use pi_syntax::{Clause, Modes};
+use pi_syntax::{Clause, Modes, kind_of};
 use std::alloc::{AllocError, Global};
 
 /// Why a part is refused.

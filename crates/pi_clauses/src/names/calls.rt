@@ -12,8 +12,7 @@ use crate::nodes::form::Form;
 use crate::nodes::operators::{is_among, is_boolean_call};
 use crate::nodes::place::Place;
 use crate::nodes::walk::{Node, Walk};
-use pi_lib::is_form;
-use pi_syntax::{Clause, Exp};
+use pi_syntax::{Clause, Exp, is_form};
 use std::alloc::{AllocError, Global};
 
 /// A name with a number of arguments, called as a function's or as a predicate's.

@@ -1,10 +1,10 @@
 //! The names that clauses define.
 ghost use Rattle.std.specs.Prelude.{◌≡◌};
-ghost use Rattle.pi_lib.specs.Names.{kind_of};
+ghost use Rattle.pi_syntax.specs.Names.{kind_of};
 ghost use Rattle.pi_clauses.specs.Calls.{is_kind};
 
 use crate::names::calls::Called;
-use pi_lib::{BuiltinKind, kind_of};
+use pi_syntax::{BuiltinKind, kind_of};
 use std::alloc::{AllocError, Global};
 use std::collections::BTreeSet;
 

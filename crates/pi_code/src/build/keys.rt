@@ -1,13 +1,14 @@
 //! The keys by which facts are found.
 ghost use Rattle.std.specs.Prelude.{◌≡◌, ◌<◌, ◌≤◌, ℕ, Some, slice_get, IfOk};
-ghost use Rattle.pi_keys.specs.Keys.{Has};
+ghost use Rattle.pi_code.specs.Keys.{Has};
 ghost use Rattle.pi_code.specs.declared.code.Predicate.{Predicate as Pred};
 ghost use Rattle.pi_code.specs.Keyed.{shown_by, IsFactKeyed, IsPlaceKeyed, ArePlaces, AreKeyed, StillHas};
 
 use super::short;
 use crate::code::{Code, HeadTest, Predicate};
+use crate::fact_keys::FactKeys;
+use crate::key::{FactPlace, FactValue};
 use pi_core::CorePred;
-use pi_keys::{FactKeys, FactPlace, FactValue};
 use pi_syntax::{Decl, Mode, Modes};
 use std::alloc::{AllocError, Global};
 

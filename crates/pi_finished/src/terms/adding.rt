@@ -1,6 +1,6 @@
 //! Terms joined to others, and terms times a number.
 ghost use Rattle.std.specs.Prelude.{◌≡◌, pos, negsuc, true};
-ghost use Rattle.pi_postings.specs.Steps.{have_128_bits};
+ghost use Rattle.pi_filters.specs.Steps.{have_128_bits};
 ghost use Rattle.pi_finished.specs.Changes.{factor_of, AddsTimes, IsTimes, ShowsAdded};
 
 use super::Terms;

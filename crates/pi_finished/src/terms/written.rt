@@ -1,7 +1,7 @@
 //! What terms are, as they are read.
 ghost use Rattle.std.specs.Prelude.{◌≡◌, pos, true, IfOk};
-ghost use Rattle.pi_postings.specs.Limits.{are_narrow};
-ghost use Rattle.pi_postings.specs.Steps.{have_128_bits, variable_of_terms};
+ghost use Rattle.pi_filters.specs.Limits.{are_narrow};
+ghost use Rattle.pi_filters.specs.Steps.{have_128_bits, variable_of_terms};
 
 use super::Terms;
 use pi_constraints::LinTerms;

@@ -1,7 +1,7 @@
 //! Operands of constraints.
 ghost use Rattle.std.specs.Prelude.{◌≤◌};
 ghost use Rattle.pi_states.specs.State.{IsState, next};
-ghost use Rattle.pi_postings.specs.Steps.{Made, read_operand};
+ghost use Rattle.pi_filters.specs.Steps.{Made, read_operand};
 ghost use Rattle.pi_finished.specs.Making.{Shows};
 ghost use Rattle.pi_reading.specs.Refs.{IsThere, operand_at};
 ghost use Rattle.pi_reading.specs.OperandFrames.{ShowsOperand};

@@ -2,8 +2,8 @@
 ghost use Rattle.std.specs.Prelude.{◌≡◌, ◌++◌, List, Result, IfOk};
 ghost use Rattle.pi_states.specs.State.{IsState};
 ghost use Rattle.pi_states.specs.Store.{Moment};
-ghost use Rattle.pi_postings.specs.Sums.{Sum};
-ghost use Rattle.pi_postings.specs.Steps.{Refusal, Made, Known};
+ghost use Rattle.pi_filters.specs.PostingSums.{Sum};
+ghost use Rattle.pi_filters.specs.Steps.{Refusal, Made, Known};
 ghost use Rattle.pi_finished.specs.declared.making.Making.{Making};
 ghost use Rattle.pi_finished.specs.Making.{Shows, ShowsReading, AllBelow};
 ghost use Rattle.pi_reading.specs.declared.operands.frames.Turn.{Turn};
@@ -12,9 +12,9 @@ ghost use Rattle.pi_reading.specs.Turns.{next_turn, next_of, ShowsWait, BeginsSu
 
 use crate::operands::nodes::node_at;
 use crate::operands::{Binary, Frame, Next, Node, OperandStop, Turn, Unary};
+use pi_builtin::collection_items;
 use pi_effects::Stop;
 use pi_finished::{JoinedSum, Making, SumStop};
-use pi_lists::collection_items;
 use pi_states::{Ref, StateStore};
 use std::alloc::{AllocError, Global};
 

@@ -1,10 +1,10 @@
 //! The truths of expressions that are made of others.
 ghost use Rattle.std.specs.Prelude.{◌≡◌, IfOk};
 ghost use Rattle.pi_constraints.specs.declared.constraint.Item.{Item};
-ghost use Rattle.pi_postings.specs.Operands.{and, or, implies};
-ghost use Rattle.pi_postings.specs.Sums.{of_item, difference};
-ghost use Rattle.pi_postings.specs.Steps.{Made};
-ghost use Rattle.pi_postings.specs.Truths.{truth_of_standing, truth_of_negation, truth_of_joined};
+ghost use Rattle.pi_filters.specs.Operands.{and, or, implies};
+ghost use Rattle.pi_filters.specs.PostingSums.{of_item, difference};
+ghost use Rattle.pi_filters.specs.Steps.{Made};
+ghost use Rattle.pi_filters.specs.Truths.{truth_of_standing, truth_of_negation, truth_of_joined};
 ghost use Rattle.pi_finished.specs.Making.{Shows, Reads};
 ghost use Rattle.pi_finished.specs.ToZero.{rel_of, sum_for};
 ghost use Rattle.pi_reading.specs.TruthNodes.{connective_of};

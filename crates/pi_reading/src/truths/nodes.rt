@@ -2,7 +2,7 @@
 ghost use Rattle.std.specs.Prelude.{◌≡◌};
 ghost use Rattle.std.specs.Option.{option_map};
 ghost use Rattle.pi_states.specs.State.{IsState};
-ghost use Rattle.pi_postings.specs.Terms.{comparison_named, connective_named};
+ghost use Rattle.pi_filters.specs.Terms.{comparison_named, connective_named};
 ghost use Rattle.pi_reading.specs.Refs.{IsThere};
 ghost use Rattle.pi_reading.specs.Relations.{comparison_of};
 ghost use Rattle.pi_reading.specs.TruthNodes.{connective_of, node_of_one, IsTwo, ShowsTruthNode};
@@ -76,7 +76,7 @@ fn node_of_two(name: &str, left: Ref, right: Ref) -> TruthNode
 }
 
 /// The comparison that is written so.
-#[tactic(auto, unfolding(pi_postings::specs::Terms::comparison_named))]
+#[tactic(auto, unfolding(pi_filters::specs::Terms::comparison_named))]
 fn comparison_named(name: &str) -> Option<Comparison>
     ensures { option_map comparison_of result ≡ comparison_named name.now }
 {
@@ -100,7 +100,7 @@ fn comparison_named(name: &str) -> Option<Comparison>
 }
 
 /// The connective that is written so.
-#[tactic(auto, unfolding(pi_postings::specs::Terms::connective_named))]
+#[tactic(auto, unfolding(pi_filters::specs::Terms::connective_named))]
 fn connective_named(name: &str) -> Option<Connective>
     ensures { option_map connective_of result ≡ connective_named name.now }
 {

@@ -2,10 +2,10 @@
 ghost use Rattle.std.specs.Prelude.{◌≤◌, pos, IfOk};
 ghost use Rattle.pi_constraints.specs.declared.constraint.Rel.{Rel};
 ghost use Rattle.pi_states.specs.State.{IsState, next};
-ghost use Rattle.pi_postings.specs.Sums.{of_number, of_item, difference};
-ghost use Rattle.pi_postings.specs.Steps.{Made};
-ghost use Rattle.pi_postings.specs.Relations.{posts_standing};
-ghost use Rattle.pi_postings.specs.Truths.{read_truth};
+ghost use Rattle.pi_filters.specs.PostingSums.{of_number, of_item, difference};
+ghost use Rattle.pi_filters.specs.Steps.{Made};
+ghost use Rattle.pi_filters.specs.Relations.{posts_standing};
+ghost use Rattle.pi_filters.specs.Truths.{read_truth};
 ghost use Rattle.pi_finished.specs.Making.{Shows, Reads};
 ghost use Rattle.pi_reading.specs.Refs.{IsThere};
 ghost use Rattle.pi_reading.specs.TruthNodes.{boolean_at};

@@ -1,8 +1,8 @@
 //! What is posted of sums of truths.
 ghost use Rattle.std.specs.Prelude.{◌≡◌, pos, IfOk};
 ghost use Rattle.pi_constraints.specs.declared.constraint.Item.{Item};
-ghost use Rattle.pi_postings.specs.Sums.{Sum, of_number, of_item, added, difference};
-ghost use Rattle.pi_postings.specs.Steps.{Made};
+ghost use Rattle.pi_filters.specs.PostingSums.{Sum, of_number, of_item, added, difference};
+ghost use Rattle.pi_filters.specs.Steps.{Made};
 ghost use Rattle.pi_finished.specs.Steps.{ShowsStep};
 ghost use Rattle.pi_finished.specs.Making.{Shows, with_constraint};
 ghost use Rattle.pi_reading.specs.Sums.{apart, two_apart, both_apart, one_of};

@@ -6,7 +6,7 @@ use Rattle.std.proofs.lemmas.Option.{slice_get-get_or}
 use Rattle.pi_constraints.specs.declared.domain.TheConstants.{MAX_VALUE}
 use Rattle.pi_constraints.specs.declared.domain.Span.{Span}
 use Rattle.pi_constraints.specs.Domain.{IsWithinBounds, IsDomain, has_value}
-use Rattle.pi_dom.proofs.ExtremeLemmas.{ends_below, IsPartitionedBy-ends_below, has_value-nowhere}
+use Rattle.pi_constraints.proofs.ExtremeLemmas.{ends_below, IsPartitionedBy-ends_below, has_value-nowhere}
 use Rattle.pi_agent.proofs.LossLemmas.{value-end, value-behind, span-within, at-most, below}
 use Rattle.pi_agent.proofs.losses.end_of_values.Goals as goal
 

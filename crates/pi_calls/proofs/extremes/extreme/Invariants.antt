@@ -1,7 +1,7 @@
 use Rattle.std.proofs.Common.{List}
 use Rattle.pi_terms.specs.Tree.{Tree}
 use Rattle.pi_unify.specs.Terms.{HoldsNoCycle}
-use Rattle.pi_lists.specs.Items.{AreItems}
+use Rattle.pi_builtin.specs.Items.{AreItems}
 use Rattle.pi_calls.proofs.ExtremeLemmas.{IsBest}
 use Rattle.pi_calls.proofs.extremes.extreme.Given as goal
 

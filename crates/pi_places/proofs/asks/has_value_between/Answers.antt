@@ -8,7 +8,7 @@ use Rattle.std.proofs.lemmas.List.Sorted.{IsPartitionPoint-from_clause}
 use Rattle.pi_constraints.specs.declared.domain.TheConstants.{MAX_VALUE}
 use Rattle.pi_constraints.specs.declared.domain.Span.{Span}
 use Rattle.pi_constraints.specs.Domain.{IsDomain}
-use Rattle.pi_dom.proofs.ExtremeLemmas.{ends_below, IsPartitionedBy-ends_below, AscendFrom-get_or}
+use Rattle.pi_constraints.proofs.ExtremeLemmas.{ends_below, IsPartitionedBy-ends_below, AscendFrom-get_or}
 use Rattle.pi_places.specs.Reads.{HasValueBetween}
 use Rattle.pi_places.proofs.AskLemmas.{between_found, between_nowhere}
 use Rattle.pi_places.proofs.asks.has_value_between.Goals as goal

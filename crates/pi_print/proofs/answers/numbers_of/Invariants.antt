@@ -1,7 +1,7 @@
 use Rattle.std.proofs.Common.{◌≡◌, drop}
 use Rattle.std.specs.List.{flat_map}
 use Rattle.pi_terms.specs.Variables.{occurrences}
-use Rattle.pi_answers.specs.AnswerVariables.{answer_variables}
+use Rattle.pi_core.specs.AnswerVariables.{answer_variables}
 use Rattle.pi_print.specs.Numbers.{noted_all}
 use Rattle.pi_print.proofs.answers.numbers_of.Given as goal
 

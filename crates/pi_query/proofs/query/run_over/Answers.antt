@@ -3,7 +3,7 @@ use Rattle.pi_core.specs.CoreTree.{program_tree, query_tree}
 use Rattle.pi_meaning.specs.View.{query_view}
 use Rattle.pi_machine.specs.Budget.{IsWithin}
 use Rattle.pi_query.specs.declared.runs.QueryRun.{QueryRun}
-use Rattle.pi_answers.specs.declared.log.Work.{Work}
+use Rattle.pi_core.specs.declared.log.Work.{Work}
 use Rattle.pi_outside.proofs.WriteRuns.{ByWrites-none, ByWrites-so}
 use Rattle.pi_query.specs.Runs.{AllWithin, no_work, run_of}
 use Rattle.pi_query.specs.Running.{not_asked}

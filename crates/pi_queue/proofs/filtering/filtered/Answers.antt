@@ -1,6 +1,6 @@
 use Rattle.std.proofs.Common.{sym, ◌∙◌, refl}
 use Rattle.std.specs.Prelude.{map}
-use Rattle.pi_held.specs.Standing.{standing_at}
+use Rattle.pi_queue.specs.Standing.{standing_at}
 use Rattle.pi_queue.proofs.FilterLemmas.{filters}
 use Rattle.pi_queue.proofs.filtering.filtered.Goals as goal
 

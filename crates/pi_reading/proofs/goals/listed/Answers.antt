@@ -1,6 +1,6 @@
 use Rattle.std.proofs.Common.{ap, sym, subst}
-use Rattle.pi_postings.specs.Steps.{after}
-use Rattle.pi_postings.specs.Lists.{read_collection, read_each}
+use Rattle.pi_filters.specs.Steps.{after}
+use Rattle.pi_filters.specs.Lists.{read_collection, read_each}
 use Rattle.pi_reading.specs.Refs.{value_at}
 use Rattle.pi_reading.specs.OperandFrames.{AreThere}
 use Rattle.pi_reading.specs.Items.{values_at, ShowsEach}

@@ -1,6 +1,6 @@
 -- The index, the list, the value and the items, each as it was read.
 use Rattle.std.proofs.Common.{sym, subst}
-use Rattle.pi_postings.specs.Lists.{read_each}
+use Rattle.pi_filters.specs.Lists.{read_each}
 use Rattle.pi_reading.specs.Refs.{value_at}
 use Rattle.pi_reading.specs.OperandFrames.{AreThere}
 use Rattle.pi_reading.specs.Items.{values_at, ShowsEach}

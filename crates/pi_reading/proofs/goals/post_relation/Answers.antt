@@ -1,4 +1,4 @@
-use Rattle.pi_postings.specs.Relations.{posts_standing, read_relation}
+use Rattle.pi_filters.specs.Relations.{posts_standing, read_relation}
 use Rattle.pi_reading.specs.Refs.{operand_at}
 use Rattle.pi_reading.specs.Relations.{comparison_of, standing_of}
 use Rattle.pi_reading.proofs.GoalLemmas.{refused-then, reads-then}

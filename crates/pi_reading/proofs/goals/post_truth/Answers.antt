@@ -1,8 +1,8 @@
 use Rattle.std.specs.Prelude.{pos}
 use Rattle.pi_constraints.specs.declared.constraint.Rel.{Rel}
-use Rattle.pi_postings.specs.Sums.{of_number, of_item, difference}
-use Rattle.pi_postings.specs.Relations.{posts_standing}
-use Rattle.pi_postings.specs.Truths.{read_truth}
+use Rattle.pi_filters.specs.PostingSums.{of_number, of_item, difference}
+use Rattle.pi_filters.specs.Relations.{posts_standing}
+use Rattle.pi_filters.specs.Truths.{read_truth}
 use Rattle.pi_reading.specs.TruthNodes.{boolean_at}
 use Rattle.pi_reading.proofs.GoalLemmas.{refused-then, reads-then}
 use Rattle.pi_reading.proofs.goals.post_truth.Goals as goal

@@ -1,7 +1,7 @@
 -- By what the term is as a goal.
 use Rattle.std.proofs.Common.{ap}
-use Rattle.pi_postings.specs.Operands.{relates, is_so, all_different, all_distinct, element}
-use Rattle.pi_postings.specs.Postings.{read_goal}
+use Rattle.pi_filters.specs.Operands.{relates, is_so, all_different, all_distinct, element}
+use Rattle.pi_filters.specs.Postings.{read_goal}
 use Rattle.pi_reading.specs.Refs.{value_at, operand_at}
 use Rattle.pi_reading.specs.Relations.{comparison_of}
 use Rattle.pi_reading.specs.TruthNodes.{boolean_at}

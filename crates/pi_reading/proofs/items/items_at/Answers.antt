@@ -1,7 +1,7 @@
 -- Item by item, from the left.
 use Rattle.std.proofs.Common.{◌≡◌, ◌<◌, ◌∷◌, ◌+◌, length, drop, get_or, arith, subst}
 use Rattle.pi_states.specs.declared.store.Ref.{Ref}
-use Rattle.pi_postings.specs.Lists.{read_each}
+use Rattle.pi_filters.specs.Lists.{read_each}
 use Rattle.pi_reading.specs.OperandFrames.{AreThere}
 use Rattle.pi_reading.specs.Items.{values_at}
 use Rattle.pi_reading.proofs.ItemLemmas.{EachSoFar, each-none, each-more, each-refused, each-done, rest-at, there-at, first-there, none-behind}

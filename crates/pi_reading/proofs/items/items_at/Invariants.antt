@@ -1,7 +1,7 @@
 use Rattle.std.proofs.Common.{drop}
 use Rattle.pi_states.specs.State.{IsState}
-use Rattle.pi_postings.specs.Steps.{Made}
-use Rattle.pi_postings.specs.Lists.{read_each}
+use Rattle.pi_filters.specs.Steps.{Made}
+use Rattle.pi_filters.specs.Lists.{read_each}
 use Rattle.pi_reading.specs.OperandFrames.{AreThere}
 use Rattle.pi_reading.specs.Items.{values_at}
 use Rattle.pi_reading.proofs.ItemLemmas.{EachSoFar}

@@ -2,7 +2,7 @@
 use Rattle.std.proofs.Common.{◌∙◌, ap, sym, subst}
 use Rattle.std.specs.Prelude.{◌≤◌, Err}
 use Rattle.pi_terms.specs.Tree.{cells, most_cells}
-use Rattle.pi_postings.specs.Steps.{not_a_constraint}
+use Rattle.pi_filters.specs.Steps.{not_a_constraint}
 use Rattle.pi_reading.specs.Refs.{tree_of, value_at}
 use Rattle.pi_reading.specs.Faults.{Stops}
 use Rattle.pi_reading.proofs.reading.fault_of.Goals as goal

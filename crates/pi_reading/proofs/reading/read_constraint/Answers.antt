@@ -1,6 +1,6 @@
 -- What the goal makes, judged behind all steps.
 use Rattle.std.proofs.Common.{arith, ◌∙◌, sym, subst}
-use Rattle.pi_postings.specs.Postings.{read_goal, nothing_made, posting_in}
+use Rattle.pi_filters.specs.Postings.{read_goal, nothing_made, posting_in}
 use Rattle.pi_reading.proofs.RootLemmas.{there}
 use Rattle.pi_reading.specs.GoalNodes.{goal_at}
 use Rattle.pi_reading.specs.Faults.{Stops}

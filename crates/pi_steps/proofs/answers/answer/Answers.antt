@@ -5,7 +5,7 @@ use Rattle.pi_states.specs.Evaluation.{evaluated}
 use Rattle.pi_terms.specs.Tree.{var}
 use Rattle.pi_states.specs.State.{bindings}
 use Rattle.pi_states.specs.Value.{IsAcyclic}
-use Rattle.pi_answers.specs.AnswerVariables.{answer_variables}
+use Rattle.pi_core.specs.AnswerVariables.{answer_variables}
 use Rattle.pi_states.specs.ToldDomains.{told_domains}
 use Rattle.pi_arenas.specs.Arenas.{view_of}
 use Rattle.pi_stands.specs.Stands.{world}

@@ -2,8 +2,8 @@
 use Rattle.std.specs.Prelude.{◌≡◌, false}
 use Rattle.std.proofs.Common.{◌∙◌, ap, sym}
 use Rattle.pi_constraints.specs.declared.constraint.Rel.{Rel}
-use Rattle.pi_postings.specs.Sums.{Sum, of_variable, difference}
-use Rattle.pi_postings.specs.Steps.{linear}
+use Rattle.pi_filters.specs.PostingSums.{Sum, of_variable, difference}
+use Rattle.pi_filters.specs.Steps.{linear}
 use Rattle.pi_finished.specs.Steps.{fits}
 use Rattle.pi_finished.proofs.SideLemmas.{apart_refused}
 use Rattle.pi_finished.proofs.making.Making.define.Goals as goal

@@ -1,5 +1,5 @@
 -- The left side, the right side behind it, and their product.
-use Rattle.pi_postings.specs.Steps.{side}
+use Rattle.pi_filters.specs.Steps.{side}
 use Rattle.pi_finished.specs.Making.{Reads}
 use Rattle.pi_finished.proofs.ProductLemmas.{still_below, sides_read}
 use Rattle.pi_finished.proofs.making.Making.side_product.Goals as goal

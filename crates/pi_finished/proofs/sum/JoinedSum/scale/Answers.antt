@@ -1,7 +1,7 @@
 use Rattle.std.specs.Prelude.{◌≡◌, ℤ}
 use Rattle.std.specs.Int.{w128}
 use Rattle.std.proofs.Common.{rules, ◌∙◌, subst, to_z, of_z}
-use Rattle.pi_postings.specs.Sums.{scaled}
+use Rattle.pi_filters.specs.PostingSums.{scaled}
 use Rattle.pi_finished.specs.Steps.{ShowsStep}
 use Rattle.pi_finished.proofs.SumLemmas.{sum_at, scaled_step, times_shown}
 use Rattle.pi_finished.proofs.sum.JoinedSum.scale.Goals as goal

@@ -1,7 +1,7 @@
 -- The signs make no difference.
 use Rattle.std.specs.Prelude.{◌≡◌, ◌≤◌, ◌<◌, ◌^◌, nat_abs, false, List, ℤ, ℕ}
 use Rattle.std.proofs.Common.{rules, ◌∙◌, ap, sym, subst}
-use Rattle.pi_postings.specs.Limits.{are_narrow}
+use Rattle.pi_filters.specs.Limits.{are_narrow}
 use Rattle.pi_finished.specs.declared.coefficient.Coefficient.{Coefficient}
 use Rattle.pi_finished.specs.Kept.{terms_of}
 use Rattle.pi_finished.proofs.WrittenLemmas.{narrow_any, narrow_stops, narrow_next, narrow_all}

@@ -1,5 +1,5 @@
 use Rattle.std.specs.Prelude.{◌≡◌, false}
-use Rattle.pi_postings.specs.Limits.{are_narrow}
+use Rattle.pi_filters.specs.Limits.{are_narrow}
 use Rattle.pi_finished.specs.Kept.{terms_of}
 use Rattle.pi_finished.proofs.terms.Terms.are_narrow.Given as goal
 

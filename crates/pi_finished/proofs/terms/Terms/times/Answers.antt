@@ -7,7 +7,7 @@ use Rattle.pi_arith.specs.Range.{has_128_bits}
 use Rattle.pi_finished.specs.Signed.{signed}
 use Rattle.pi_finished.specs.Kept.{counted}
 use Rattle.pi_finished.specs.Changes.{Scales, IsTimes}
-use Rattle.pi_postings.specs.Sums.{coefficient}
+use Rattle.pi_filters.specs.PostingSums.{coefficient}
 use Rattle.pi_finished.proofs.AddLemmas.{next_so_far, first_fits, product_too_wide, times_refused, all_times}
 use Rattle.pi_finished.proofs.TermLemmas.{number_of}
 use Rattle.pi_finished.proofs.terms.Terms.times.Goals as goal

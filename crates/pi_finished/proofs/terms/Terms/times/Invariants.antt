@@ -1,5 +1,5 @@
 use Rattle.std.specs.Prelude.{◌≡◌, [], true}
-use Rattle.pi_postings.specs.Steps.{have_128_bits}
+use Rattle.pi_filters.specs.Steps.{have_128_bits}
 use Rattle.pi_finished.specs.Kept.{terms_of}
 use Rattle.pi_finished.proofs.AddLemmas.{SoFar}
 use Rattle.pi_finished.proofs.terms.Terms.times.Given as goal

@@ -1,7 +1,7 @@
 -- Each turn comes to the whole.
 use Rattle.std.specs.Prelude.{Ok}
 use Rattle.std.proofs.Common.{subst}
-use Rattle.pi_postings.specs.Steps.{read_operand}
+use Rattle.pi_filters.specs.Steps.{read_operand}
 use Rattle.pi_reading.specs.Refs.{operand_at}
 use Rattle.pi_reading.specs.OperandFrames.{ShowsNext}
 use Rattle.pi_reading.proofs.LoopLemmas.{first-turn}

@@ -1,6 +1,6 @@
 use Rattle.std.specs.Prelude.{◌≤◌}
 use Rattle.pi_states.specs.State.{IsState, next}
-use Rattle.pi_postings.specs.Steps.{Made, read_operand}
+use Rattle.pi_filters.specs.Steps.{Made, read_operand}
 use Rattle.pi_finished.specs.Making.{Shows}
 use Rattle.pi_reading.specs.Refs.{IsThere, operand_at}
 use Rattle.pi_reading.specs.OperandFrames.{IsTurn}

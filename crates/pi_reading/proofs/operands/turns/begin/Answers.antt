@@ -2,7 +2,7 @@
 use Rattle.std.specs.Prelude.{◌≡◌}
 use Rattle.std.specs.Int.{w128}
 use Rattle.std.proofs.Common.{rules, ◌∙◌, ap, to_z, of_z}
-use Rattle.pi_postings.specs.Sums.{of_number}
+use Rattle.pi_filters.specs.PostingSums.{of_number}
 use Rattle.pi_reading.specs.declared.operands.frames.Frame.{Frame}
 use Rattle.pi_reading.proofs.OperandTurns.{begin-variable, begin-number, begin-one, begin-two, begin-other}
 use Rattle.pi_reading.proofs.LoopLemmas.{waited}

@@ -1,7 +1,7 @@
 -- Each turn comes to the whole.
 use Rattle.std.specs.Prelude.{Ok}
 use Rattle.std.proofs.Common.{subst}
-use Rattle.pi_postings.specs.Truths.{read_truth}
+use Rattle.pi_filters.specs.Truths.{read_truth}
 use Rattle.pi_reading.specs.TruthNodes.{boolean_at}
 use Rattle.pi_reading.specs.TruthFrames.{ShowsNext}
 use Rattle.pi_reading.proofs.TruthTurns.{first-turn}

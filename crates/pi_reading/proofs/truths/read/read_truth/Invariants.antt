@@ -1,7 +1,7 @@
 use Rattle.std.specs.Prelude.{◌≤◌}
 use Rattle.pi_states.specs.State.{IsState, next}
-use Rattle.pi_postings.specs.Steps.{Made}
-use Rattle.pi_postings.specs.Truths.{read_truth}
+use Rattle.pi_filters.specs.Steps.{Made}
+use Rattle.pi_filters.specs.Truths.{read_truth}
 use Rattle.pi_finished.specs.Making.{Shows}
 use Rattle.pi_reading.specs.Refs.{IsThere}
 use Rattle.pi_reading.specs.TruthNodes.{boolean_at}

@@ -2,7 +2,7 @@
 use Rattle.std.specs.Prelude.{◌≡◌, Some, None}
 use Rattle.std.specs.Int.{w128}
 use Rattle.std.proofs.Common.{rules, subst, to_z, of_z}
-use Rattle.pi_postings.specs.Operands.{relation}
+use Rattle.pi_filters.specs.Operands.{relation}
 use Rattle.pi_reading.specs.Refs.{operand_at}
 use Rattle.pi_reading.specs.Relations.{comparison_of}
 use Rattle.pi_reading.specs.declared.truths.frames.TruthFrame.{TruthFrame}

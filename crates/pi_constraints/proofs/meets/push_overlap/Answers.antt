@@ -1,0 +1,28 @@
+use Rattle.std.proofs.Common.{rules, arith, ◌≡◌, List, ◌++◌, ap, sym, ◌∙◌, to_z, of_z, w64}
+use Rattle.std.specs.Prelude.{FitsSigned}
+use Rattle.std.proofs.lemmas.Int.{ints, clamps}
+use Rattle.std.proofs.lemmas.List.{append-nil}
+use Rattle.std.specs.Int.{int_max, int_min}
+use Rattle.pi_constraints.specs.declared.domain.Span.{Span}
+use Rattle.pi_constraints.proofs.MeetLemmas.{overlap-some, overlap-none}
+use Rattle.pi_constraints.proofs.meets.push_overlap.Goals as goal
+
+pub returns-in_ok-push : goal.returns-in_ok-push
+returns-in_ok-push c =
+    let al : FitsSigned w64 c.args.a.lo = search rules in
+    let ah : FitsSigned w64 c.args.a.hi = search rules in
+    let bl : FitsSigned w64 c.args.b.lo = search rules in
+    let bh : FitsSigned w64 c.args.b.hi = search rules in
+    let lo : to_z w64 (of_z w64 c.max-lo.result) ≡ int_max c.args.a.lo c.args.b.lo = omega (arith, ints, clamps) in
+    let hi : to_z w64 (of_z w64 c.min-hi.result) ≡ int_min c.args.a.hi c.args.b.hi = omega (arith, ints, clamps) in
+    record { ok = c.in_ok-push.ensures.items ∙ ap (λ (x : List Span). c.args.spans.now.items ++ x) (overlap-some c.args.a c.args.b _ _ lo hi (grind (arith, ints, c.if-lo-hi.true))) }
+
+pub returns-else-lo-hi : goal.returns-else-lo-hi
+returns-else-lo-hi c =
+    let al : FitsSigned w64 c.args.a.lo = search rules in
+    let ah : FitsSigned w64 c.args.a.hi = search rules in
+    let bl : FitsSigned w64 c.args.b.lo = search rules in
+    let bh : FitsSigned w64 c.args.b.hi = search rules in
+    let lo : to_z w64 (of_z w64 c.max-lo.result) ≡ int_max c.args.a.lo c.args.b.lo = omega (arith, ints, clamps) in
+    let hi : to_z w64 (of_z w64 c.min-hi.result) ≡ int_min c.args.a.hi c.args.b.hi = omega (arith, ints, clamps) in
+    record { ok = sym (append-nil c.args.spans.now.items) ∙ ap (λ (x : List Span). c.args.spans.now.items ++ x) (overlap-none c.args.a c.args.b _ _ lo hi (grind (arith, ints, c.if-lo-hi.false))) }

@@ -1,6 +1,0 @@
-pub mod EachLemmas
-pub mod NodeLemmas
-pub mod CallLemmas
-pub mod PartLemmas
-pub mod LoopTrees
-pub mod UnitLemmas

@@ -1,4 +1,0 @@
-pub mod Built
-pub mod Shown
-pub mod TermCalls
-pub mod Within

@@ -1,5 +1,0 @@
-use Rattle.pi_dom.proofs.JoinLemmas.{JoinsBefore}
-use Rattle.pi_dom.proofs.make.joined.Given as goal
-
-abbrev pub invariant-loop-i : goal.invariant-loop-i
-invariant-loop-i l = JoinsBefore l.values l.i l.spans.items l.last

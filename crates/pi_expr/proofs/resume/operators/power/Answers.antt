@@ -1,0 +1,5 @@
+use Rattle.std.proofs.lemmas.Result.{IfOk-weaker}
+use Rattle.pi_expr.proofs.resume.operators.power.Goals as goal
+
+pub returns : goal.returns
+returns c = λ fs a e h i. c.read_as.ensures fs _ (IfOk-weaker c.call_of_two.result _ _ (λ made so. so a e h i) c.call_of_two.ensures)

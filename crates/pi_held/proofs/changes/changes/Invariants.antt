@@ -1,9 +1,0 @@
-use Rattle.std.proofs.Common.{◌≡◌, length}
-use Rattle.std.specs.Prelude.{map}
-use Rattle.pi_constraints.specs.Constraint.{AreItems}
-use Rattle.pi_held.specs.Standing.{standing_at}
-use Rattle.pi_held.proofs.ChangeLemmas.{AreFirstTold}
-use Rattle.pi_held.proofs.changes.changes.Given as goal
-
-abbrev pub invariant-loop-k : goal.invariant-loop-k
-invariant-loop-k g l = (length l.told.items ≡ l.k) × (AreItems l.items → AreFirstTold l.k (map (standing_at (g.S.StateStore.seen l.store).now.state) l.items) l.told.items l.held)

@@ -1,5 +1,0 @@
-pub mod Kept
-mod Input
-mod LineLemmas
-mod Pieces
-mod Turns

@@ -1,5 +1,0 @@
-use Rattle.pi_lines.proofs.Input.{ends-with-its-lines, passes-with-first-lines}
-use Rattle.pi_lines.proofs.laws.lines_are_of_the_input.Goals as goal
-
-pub returns : goal.returns
-returns c = record { ends = ends-with-its-lines; passes = passes-with-first-lines }

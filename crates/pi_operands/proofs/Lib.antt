@@ -1,2 +1,0 @@
-pub mod OperandLemmas
-pub mod TurnLemmas

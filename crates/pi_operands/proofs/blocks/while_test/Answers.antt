@@ -1,6 +1,0 @@
-use Rattle.std.proofs.Common.{refl}
-use Rattle.pi_phrases.specs.Machine as m
-use Rattle.pi_operands.proofs.blocks.while_test.Goals as goal
-
-pub returns : goal.returns
-returns c = λ fs e h. c.open_behind.ensures fs (m.while_body e) (e, (refl, h))

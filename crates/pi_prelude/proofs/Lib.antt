@@ -1,4 +1,0 @@
-pub mod TokenLemmas
-pub mod ExpressionLemmas
-pub mod PartLemmas
-pub mod PreludeLemmas

@@ -1,9 +1,0 @@
-//! A law of the definitions, on a function that does nothing.
-ghost use Rattle.pi_lib.specs.Prelude.{prelude_text};
-ghost use Rattle.pi_names.specs.Prelude.{prelude};
-ghost use Rattle.pi_prelude.specs.ReadsAs.{ReadsAs};
-
-/// The prelude's text reads as its rules.
-pub fn prelude_is_its_text()
-    ensures { ReadsAs prelude_text prelude }
-{}

@@ -1,0 +1,6 @@
+use Rattle.std.proofs.Common.{ap, sym, ◌∙◌, option_copied}
+use Rattle.pi_places.proofs.DomainLemmas.{nowhere_has}
+use Rattle.pi_queue.proofs.held_places.HeldPlacesPlaces.has.Goals as goal
+
+pub returns-in-None : goal.returns-in-None
+returns-in-None g c = nowhere_has c.args.self.now.held.items c.args.k c.args.n (sym c.at.ensures ∙ ap option_copied c.in-None.is)

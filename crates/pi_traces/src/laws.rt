@@ -1,2 +1,0 @@
-//! Laws of the definitions, each a clause of a function that does nothing.
-pub mod traces;

@@ -1,5 +1,0 @@
-use Rattle.pi_tree_store.proofs.TreeStoreSoundLemmas.{sound_term}
-use Rattle.pi_tree_store.proofs.tree_store.TreeStore.add.Goals as goal
-
-pub change-requires : goal.change-requires
-change-requires c = sound_term _ _ _ c.args.self.now.sound.present_is c.requires

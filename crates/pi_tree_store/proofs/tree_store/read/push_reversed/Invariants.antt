@@ -1,6 +1,0 @@
-use Rattle.std.proofs.Common.{◌≡◌, ◌-◌, ◌++◌, drop, length}
-use Rattle.pi_tree_store.specs.TreeStoreRead.{turned}
-use Rattle.pi_tree_store.proofs.tree_store.read.push_reversed.Given as goal
-
-abbrev pub invariant-loop-k : goal.invariant-loop-k
-invariant-loop-k l = l.stack.items ≡ l.fn.stack.items ++ turned (drop (length l.terms - l.k) l.terms)

@@ -1,6 +1,0 @@
-use Rattle.std.specs.Prelude.{IsTrue}
-use Rattle.pi_tree_store.specs.TreeStoreWalks.{ListsBelow, posted_in}
-use Rattle.pi_tree_store.proofs.tree_store.state.TreeState.posted_on.Given as goal
-
-abbrev pub invariant-loop-i : goal.invariant-loop-i
-invariant-loop-i l = ListsBelow (λ i. IsTrue (posted_in l.self l.v i)) l.i l.found

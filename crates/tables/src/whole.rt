@@ -1,0 +1,16 @@
+//! Cases of runs of the whole program, over files, input and output in memory.
+mod command;
+mod runs;
+
+use pi_cases::Case;
+
+/// Answers a case of runs in a file with this text, and tells whether the subject is one of such cases.
+pub fn answer_text(subject: &str, text: &str, line: &str, case: &Case) -> bool {
+    match subject {
+        "whole" => runs::answer(case, text, line),
+        "failing_reads" => runs::answer_failing(case, text, line, true),
+        "failing_writes" => runs::answer_failing(case, text, line, false),
+        _ => return false,
+    }
+    true
+}
