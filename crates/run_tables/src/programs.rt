@@ -59,9 +59,9 @@ pub fn program_of(case: &Case, text: &str) -> CoreProgram {
 impl Given for Preds {
     fn take_line(&mut self, line: &Case) {
         match kind_of(line.take_word()) {
-            Some(Kind::Predicate) => self.add_pred(line, false, false),
-            Some(Kind::Function) => self.add_pred(line, true, false),
-            Some(Kind::Quiet) => self.add_pred(line, false, true),
+            Some(Kind::Predicate) => self.add_pred(line, Kind::Predicate),
+            Some(Kind::Function) => self.add_pred(line, Kind::Function),
+            Some(Kind::Quiet) => self.add_pred(line, Kind::Quiet),
             Some(Kind::Index) => self.add_modes(line),
             Some(kind) => self.add_clause(line, kind),
             None => line.lacks("a kind of line"),
@@ -71,15 +71,15 @@ impl Given for Preds {
 
 impl Preds {
     /// Adds a predicate or a function without rules yet.
-    fn add_pred(&mut self, line: &Case, function: bool, quiet: bool) {
+    fn add_pred(&mut self, line: &Case, kind: Kind) {
         let Node::Comp(name, count) = node_of(line.take_word()) else {
             return line.lacks("the name of a predicate and the number of its arguments");
         };
         let pred = CorePred {
             name: line.name_of(name),
             arity: u32::try_from(count).unwrap_or(0),
-            function,
-            quiet,
+            function: matches!(kind, Kind::Function),
+            quiet: matches!(kind, Kind::Quiet),
             decl: Decl::Plain,
             clauses: CoreClauses::new(line.alloc),
         };

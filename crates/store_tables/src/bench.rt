@@ -16,12 +16,20 @@ pub const EMPTY: &str = "-";
 /// The term in place of one that isn't there. A store is safe whatever it is handed.
 const NOTHING: Ref = Ref { number: 0 };
 
+/// What `read` asks of a term.
+#[derive(Clone, Copy)]
+pub enum Reading {
+    /// What it is.
+    Term,
+    /// What it posts, as a goal.
+    Goal,
+}
+
 /// A store, terms that are named by number, `@0` the first, marks by number too, and what slots hold.
 #[derive(Drop)]
 pub struct Bench<S: StateStore> {
     pub store: S,
-    /// Whether `read` asks what a goal posts, and not what a term is.
-    pub reads_goals: bool,
+    pub reading: Reading,
     pub terms: Vec<Ref>,
     pub marks: Vec<S::Mark>,
     pub slots: Vec<Option<Ref>>,
@@ -29,10 +37,10 @@ pub struct Bench<S: StateStore> {
 
 impl<S: StateStore> Bench<S> {
     /// A store with nothing beside it.
-    pub fn new(alloc: Global, store: S, reads_goals: bool) -> Bench<S> {
+    pub fn new(alloc: Global, store: S, reading: Reading) -> Bench<S> {
         Bench {
             store,
-            reads_goals,
+            reading,
             terms: Vec::new(alloc),
             marks: Vec::new(alloc),
             slots: Vec::new(alloc),

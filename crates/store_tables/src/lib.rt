@@ -12,6 +12,7 @@ mod terms;
 mod told;
 mod words;
 
+use crate::bench::Reading;
 use pi_cases::{Case, named};
 
 /// A subject of cases.
@@ -61,8 +62,8 @@ pub fn answer_words(subject: &str, text: &str, case: &Case) -> bool {
         Subject::Marks => marks::answer(case),
         Subject::Told => told::answer(case, text),
         Subject::Stores => stores::answer(case),
-        Subject::Copies => stores::answer_copying(case, false),
-        Subject::Readings => stores::answer_copying(case, true),
+        Subject::Copies => stores::answer_copying(case, Reading::Term),
+        Subject::Readings => stores::answer_copying(case, Reading::Goal),
     }
     true
 }

@@ -13,7 +13,7 @@ mod showing;
 mod state;
 mod terms;
 
-use crate::bench::Bench;
+use crate::bench::{Bench, Reading};
 use crate::kinds::raw_store;
 use pi_cases::Case;
 use pi_states::StoredDomains;
@@ -22,22 +22,22 @@ use pi_types::TreeStore;
 /// Tells what the steps of a case show, taken on a `TreeStore`, and where the same steps on a `RawStore` show something else, that too.
 pub fn answer(case: &Case) {
     let raw = case.again();
-    take_all(&raw, raw_store(case.alloc), false);
-    answer_copying(case, false);
+    take_all(&raw, raw_store(case.alloc), Reading::Term);
+    answer_copying(case, Reading::Term);
     case.tell_raw(&raw);
 }
 
-/// The same on a `TreeStore` alone: terms of the most cells that are copied take their time once. In the cases of readings `read` reads a goal.
-pub fn answer_copying(case: &Case, reads_goals: bool) {
+/// The same on a `TreeStore` alone: terms of the most cells that are copied take their time once.
+pub fn answer_copying(case: &Case, reading: Reading) {
     let store = TreeStore::new(case.alloc);
     if let Some(store) = case.made(store) {
-        take_all(case, store, reads_goals);
+        take_all(case, store, reading);
     }
 }
 
 /// The same on any store: its owner is generic, so that no proof goes through the parts of one kind of store where it is dropped.
-fn take_all<S: StoredDomains>(case: &Case, store: S, reads_goals: bool) {
-    let mut bench = Bench::new(case.alloc, store, reads_goals);
+fn take_all<S: StoredDomains>(case: &Case, store: S, reading: Reading) {
+    let mut bench = Bench::new(case.alloc, store, reading);
     take_steps(case, &mut bench);
     drop(bench);
 }

@@ -1,7 +1,7 @@
 //! Domains that an answer tells. A line `& STEPS` of the file is taken on a new store as the steps of stores are; its slots are
 //! those of a query. A case `names 0 2` tells the domains of the answer in which these slots are named.
 
-use crate::bench::Bench;
+use crate::bench::{Bench, Reading};
 use crate::kinds::raw_store;
 use crate::stores::take_steps;
 use pi_arenas::Run;
@@ -25,7 +25,7 @@ pub fn answer(case: &Case, text: &str) {
 
 /// Tells the domains of an answer on any store.
 fn answer_on<S: StoredDomains>(case: &Case, text: &str, store: S, names: &[NameSlot]) {
-    let mut bench = Bench::new(case.alloc, store, false);
+    let mut bench = Bench::new(case.alloc, store, Reading::Term);
     take_given(case, text, &mut bench);
     tell_answer(case, bench, names);
 }

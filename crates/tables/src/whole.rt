@@ -2,14 +2,15 @@
 mod command;
 mod runs;
 
+use crate::whole::runs::Failing;
 use pi_cases::Case;
 
 /// Answers a case of runs in a file with this text, and tells whether the subject is one of such cases.
 pub fn answer_text(subject: &str, text: &str, line: &str, case: &Case) -> bool {
     match subject {
         "whole" => runs::answer(case, text, line),
-        "failing_reads" => runs::answer_failing(case, text, line, true),
-        "failing_writes" => runs::answer_failing(case, text, line, false),
+        "failing_reads" => runs::answer_failing(case, text, line, Failing::Read),
+        "failing_writes" => runs::answer_failing(case, text, line, Failing::Write),
         _ => return false,
     }
     true

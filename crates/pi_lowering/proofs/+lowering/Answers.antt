@@ -104,9 +104,6 @@ structures::indexed_by-returns t c = record {
   helpers = going-end (map pred_tree c.args.helpers.now.items) (map pred_tree c.loop-exp.helpers.items) (all_helpers (site_of c.args.site.now) (exps_of c.args.places.now)) (all_helpers (site_of c.loop-exp.site) (exps_of (drop c.loop-exp.exp-index c.args.places.now))) (all-none (site_of c.loop-exp.site) c.args.places.now c.loop-exp.exp-index c.loop-exp-test.false) c.loop-exp.invariant.helpers;
 }
 
-pub structures::indexed_by-same-item : goal.structures::indexed_by-same-item
-structures::indexed_by-same-item t c = refl
-
 pub calls::call_value-returns-then-is_call_of : goal.calls::call_value-returns-then-is_call_of
 calls::call_value-returns-then-is_call_of t c = IfOk-weaker c.collected.result _ _ (λ list so.
     record {
@@ -228,15 +225,6 @@ structures::ranged-returns-in-Some t c = IfOk-weaker c.stepped.result _ _ (λ ra
 
 pub structures::ranged-returns-in_default : goal.structures::ranged-returns-in_default
 structures::ranged-returns-in_default t c = IfOk-weaker c.no_value.result _ _ (λ _ so f. absurd (c.in_default.not-Range f.low f.step f.high f.is)) c.no_value.ensures.is
-
-pub structures::stepped-same-one : goal.structures::stepped-same-one
-structures::stepped-same-one t c = refl
-
-pub structures::stepped-same-two : goal.structures::stepped-same-two
-structures::stepped-same-two t c = refl
-
-pub structures::ranged-same-one : goal.structures::ranged-same-one
-structures::ranged-same-one t c = refl
 
 pub values::made-returns-in-Var : goal.values::made-returns-in-Var
 values::made-returns-in-Var t c = no_value-as (site_of c.args.site.now) c.args.exp.now (e.Var c.in-Var.field-0) c.args.slots.now c.args.goals.now.items c.no_value.new.goals.items c.args.helpers.now.items c.no_value.result c.in-Var.is (none-var (site_of c.args.site.now) c.in-Var.field-0 c.args.slots.now) (bare-var (site_of c.args.site.now) c.in-Var.field-0) c.no_value.ensures.goals c.no_value.ensures.is
@@ -712,15 +700,3 @@ over::over_exp-returns-in_ok-term-in_default t c = λ name one more. record {
   is = collection-found (site_of c.args.site.now) name (call name (exp one (exp (exp_tree c.args.exp.now) more))) one (exp_tree c.args.exp.now) more c.args.slots.now c.value.new.slots c.args.goals.now.items c.value.new.goals.items c.in_ok-term-in_default.term refl (not-range c.args.exp.now c.in_default.not-Range) c.in_ok-term-in_default.ensures.is;
   helpers = same-helpers (map pred_tree c.args.helpers.now.items) (map pred_tree c.value.new.helpers.items) (value_helpers (site_of c.args.site.now) (exp_tree c.args.exp.now)) (collection_helpers (site_of c.args.site.now) (call name (exp one (exp (exp_tree c.args.exp.now) more)))) (collection-helped (site_of c.args.site.now) name (call name (exp one (exp (exp_tree c.args.exp.now) more))) one (exp_tree c.args.exp.now) more refl) c.in_ok-term-in_default.ensures.helpers;
 }
-
-pub over::over_steps-same-low : goal.over::over_steps-same-low
-over::over_steps-same-low t c = refl
-
-pub over::over_steps-same-by : goal.over::over_steps-same-by
-over::over_steps-same-by t c = refl
-
-pub over::over_range-same-low : goal.over::over_range-same-low
-over::over_range-same-low t c = refl
-
-pub over::over_range-same-high : goal.over::over_range-same-high
-over::over_range-same-high t c = refl

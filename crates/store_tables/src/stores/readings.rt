@@ -1,7 +1,7 @@
 //! Readings of constraints, in the cases of readings: `read GOAL` shows how many new variables the goal posts and its constraints in words, or why it
 //! posts nothing.
 
-use crate::bench::Bench;
+use crate::bench::{Bench, Reading};
 use crate::constraints::tell_constraint;
 use crate::stores::showing::show;
 use pi_cases::{Case, Problem};
@@ -11,7 +11,7 @@ use pi_types::StateStore;
 
 /// Takes a step that reads a goal, and tells whether it is one.
 pub fn take_step<S: StateStore>(case: &Case, bench: &mut Bench<S>, name: &str) -> bool {
-    let is_reading = bench.reads_goals && name == "read";
+    let is_reading = matches!(bench.reading, Reading::Goal) && name == "read";
     if is_reading {
         take_reading(case, bench);
     }

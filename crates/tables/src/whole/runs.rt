@@ -9,6 +9,13 @@ use std::str;
 /// How many bytes a run writes at most.
 const ROOM: usize = 4_000;
 
+/// A call that fails.
+#[derive(Clone, Copy)]
+pub(crate) enum Failing {
+    Read,
+    Write,
+}
+
 /// The number of a call that never comes.
 const NEVER: u64 = 0;
 
@@ -17,13 +24,15 @@ pub(crate) fn answer(case: &Case, text: &str, line: &str) {
     run(case, text, line, NEVER, NEVER);
 }
 
-/// Tells what a run comes to in which a read, or else a write, fails, whose number stands in front: `2 FILE ⊢ p(X)`.
-pub(crate) fn answer_failing(case: &Case, text: &str, line: &str, is_read: bool) {
+/// Tells what a run comes to in which a call fails, whose number stands in front: `2 FILE ⊢ p(X)`.
+pub(crate) fn answer_failing(case: &Case, text: &str, line: &str, failing: Failing) {
     let (number, line) = line.split_once(' ').unwrap_or((line, ""));
-    match number.parse() {
-        Ok(number) if is_read => run(case, text, line, number, NEVER),
-        Ok(number) => run(case, text, line, NEVER, number),
-        Err(_) => case.lacks("the number of a call in front"),
+    let Ok(number) = number.parse() else {
+        return case.lacks("the number of a call in front");
+    };
+    match failing {
+        Failing::Read => run(case, text, line, number, NEVER),
+        Failing::Write => run(case, text, line, NEVER, number),
     }
 }
 
