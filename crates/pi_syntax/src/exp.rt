@@ -3,7 +3,6 @@ use pi_terms::Text;
 
 /// An expression as it is written: a term, a call or a goal. Operators, `not` and `once` are a `Call` with their sign as
 /// name. A User's Guide to Picat, 'Appendix: Formats' and 'Predicates and Functions'.
-#[derive(Debug)]
 pub enum Exp {
     Var(Text),
     Int(i128),

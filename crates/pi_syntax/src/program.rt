@@ -7,7 +7,6 @@ pub type Names = Series<Text>;
 
 /// A clause of a program as it is written. A User's Guide to Picat, 'Predicates and Functions', and for events 'Action
 /// Rules'.
-#[derive(Debug)]
 pub enum Clause {
     /// A predicate's rule, committed (`=>`) or, where `back` is true, backtrackable (`?=>`).
     Rule {
@@ -53,7 +52,7 @@ impl Drop for Clause {
 }
 
 /// A place of a mode list: `+` for one that is ground in a call, `-` for any.
-#[derive(Clone, Copy, Debug)]
+#[derive(Clone, Copy)]
 pub enum Mode {
     Plus,
     Minus,
@@ -66,7 +65,7 @@ pub type Modes = Series<Mode>;
 pub type ModeLists = Series<Modes>;
 
 /// What stands before a part's clause.
-#[derive(Debug, Drop)]
+#[derive(Drop)]
 pub enum Decl {
     Plain,
     Import(Names),
@@ -74,7 +73,6 @@ pub enum Decl {
 }
 
 /// A part of a program: what stands between two end points.
-#[derive(Debug)]
 pub struct Part {
     pub decl: Decl,
     pub clause: Option<Clause>,

@@ -5,7 +5,6 @@ use std::alloc::{AllocError, AllocFailed, Global};
 use std::marker::Model;
 
 /// Values in order. A contract sees the list of them.
-#[derive(Debug)]
 pub struct Series<T> {
     items: Vec<T>,
 }

@@ -6,7 +6,6 @@ use std::alloc::{AllocError, Global};
 use std::marker::Model;
 
 /// A text: the name of an atom, a variable or a predicate, or a piece of output. A contract sees its bytes in UTF-8.
-#[derive(Debug)]
 pub struct Text {
     string: String,
 }

@@ -44,12 +44,12 @@ pub fn answer_text(subject: &str, line: &str, case: &Case) -> bool {
     };
     match subject {
         Subject::Tokens => tokens::answer(case, line),
-        Subject::Expressions => expressions::tell_tree(case, line),
+        Subject::Expressions => expressions::tell_canonical(case, line),
         Subject::LongExpressions => expressions::tell_whether_read(case, line),
         Subject::Programs => programs::tell_verdict(case, line),
         Subject::Goals => programs::tell_goal_verdict(case, line),
         Subject::Parts => programs::tell_parts(case, line),
-        Subject::Trees => programs::tell_trees(case, line),
+        Subject::Trees => programs::tell_canonical(case, line),
         Subject::Builtins => builtins::answer(case, line),
     }
     true

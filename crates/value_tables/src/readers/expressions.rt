@@ -1,18 +1,30 @@
 //! Texts, and the expressions that their tokens are.
 
+use crate::readers::programs::tell_program;
 use crate::readers::tokens::tokens_of;
 use pi_cases::{Case, Problem};
 use pi_expr::{ExpFault, read_exp};
-use pi_types::Exp;
+use pi_types::{Clause, Decl, Exp, Part, Parts, Program};
 use std::alloc::{AllocError, Global};
 
-/// Tells the tree of the expression that the tokens of a line are.
-pub fn tell_tree(case: &Case, line: &str) {
-    if let Some(exp) = read(case, line) {
-        let tree = format!(in case.alloc; "{exp:?}");
-        tell_shortened(tree, case);
-        drop(exp);
+/// Tells the expression that the tokens of a line are, as the fact whose head it is.
+pub fn tell_canonical(case: &Case, line: &str) {
+    if let Some(exp) = read(case, line)
+        && let Some(program) = case.made(fact(case.alloc, exp))
+    {
+        tell_program(&program, case);
+        drop(program);
     }
+}
+
+/// The program of one fact.
+fn fact(alloc: Global, head: Exp) -> Result<Program, AllocError> {
+    let mut parts = Parts::new(alloc);
+    parts.push(Part {
+        decl: Decl::Plain,
+        clause: Some(Clause::Fact { head }),
+    })?;
+    Ok(Program { parts })
 }
 
 /// Tells whether the tokens of a line, whose tree may be large, are an expression.
@@ -33,20 +45,4 @@ fn read(case: &Case, line: &str) -> Option<Exp> {
         Err(ExpFault::Memory) => case.fail(Problem::Memory),
     }
     None
-}
-
-/// Tells a tree as `Debug` writes it, with the names and texts in it as strings alone.
-pub fn tell_shortened(tree: Result<String, AllocError>, case: &Case) {
-    let shortened = match tree {
-        Ok(tree) => shortened(case.alloc, tree.as_str()),
-        Err(fault) => Err(fault),
-    };
-    if let Some(shortened) = case.made(shortened) {
-        case.tell(shortened.as_str());
-    }
-}
-
-fn shortened(alloc: Global, tree: &str) -> Result<String, AllocError> {
-    let opened = tree.replace(alloc, "Text { string: \"", "\"")?;
-    opened.as_str().replace(alloc, "\" }", "\"")
 }

@@ -1,7 +1,7 @@
 //! Programs and goals, and their first faults or what they are.
 
-use crate::readers::expressions::tell_shortened;
 use crate::readers::tokens::tokens_of;
+use pi_canonical::program_text;
 use pi_cases::{Case, Problem};
 use pi_prog::{ProgFault, read_goal, read_program};
 use pi_types::{Clause, Decl, Part, Program};
@@ -46,13 +46,20 @@ pub fn tell_parts(case: &Case, line: &str) {
     }
 }
 
-/// Tells the trees of a program's parts.
-pub fn tell_trees(case: &Case, line: &str) {
+/// Tells a program that was read, in its canonical text.
+pub fn tell_canonical(case: &Case, line: &str) {
     if let Some(program) = read(case, line) {
-        for (i, part) in program.parts.as_slice().iter().enumerate() {
+        tell_program(&program, case);
+        drop(program);
+    }
+}
+
+/// Tells the canonical text of a program, its lines one behind the other.
+pub fn tell_program(program: &Program, case: &Case) {
+    if let Some(text) = case.made(program_text(case.alloc, program)) {
+        for (i, line) in text.as_str().lines().enumerate() {
             case.tell_between(i, " ");
-            let tree = format!(in case.alloc; "{part:?}");
-            tell_shortened(tree, case);
+            case.tell(line);
         }
     }
 }
