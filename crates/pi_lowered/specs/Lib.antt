@@ -11,11 +11,3 @@ pub mod Helpers
 pub mod Lowered
 pub mod Programs
 pub mod Forms
-pub mod WithLoops
-pub mod Levels
-pub mod Roots
-pub mod Within
-pub mod WithinLoops
-pub mod Clauses
-pub mod Laws
-pub mod TextLaws

@@ -1,4 +1,2 @@
-//! What programs and goals are lowered to, and the laws that it keeps their meaning.
+//! What programs and goals are lowered to, as definitions, with lemmas that the code that makes it needs; no code that runs.
 #![tactic(auto)]
-
-pub mod laws;

@@ -5,8 +5,8 @@ use Rattle.pi_syntax.specs.ExpTree.{ExpTree}
 use Rattle.pi_syntax.specs.ProgramTree.{ProgramTree}
 use Rattle.pi_core.specs.CoreTree.{PredTree, QueryTree}
 use Rattle.pi_lowered.specs.Programs.{core_program, core_query}
-use Rattle.pi_lowered.specs.WithinLoops.{IsAsked}
-use Rattle.pi_lowered.proofs.TextLawLemmas.{programs-with-loops-are-kept, goals-with-loops-are-kept}
+use Rattle.pi_faithful.specs.WithinLoops.{IsAsked}
+use Rattle.pi_faithful.proofs.TextLawLemmas.{programs-with-loops-are-kept, goals-with-loops-are-kept}
 use Rattle.pi_sound.specs.Built.{unbuilt_part, is_built_goal}
 use Rattle.pi_sound.specs.Within.{IsWithin}
 use Rattle.pi_sound.proofs.RunLemmas.{levels-are-the-same, goals-are-the-same}

@@ -24,10 +24,10 @@ use Rattle.pi_names.specs.Rules.{predicate_head, function_in, is_head_of, heads_
 use Rattle.pi_names.specs.Run.{is_some_head}
 use Rattle.pi_names.proofs.TableLemmas.{Test, same-name, one-of, lines-hold, signatures-hold, each-line, body-holds, each-below, each-signed}
 use Rattle.pi_lowered.specs.Lowered.{named_by}
-use Rattle.pi_lowered.specs.Within.{is_some_function}
-use Rattle.pi_lowered.specs.Laws.{DefinesTheSame}
-use Rattle.pi_lowered.specs.TextLaws.{AreNew}
-use Rattle.pi_lowered.proofs.HeadLemmas.{text_by_order}
+use Rattle.pi_faithful.specs.Within.{is_some_function}
+use Rattle.pi_faithful.specs.Laws.{DefinesTheSame}
+use Rattle.pi_faithful.specs.TextLaws.{AreNew}
+use Rattle.pi_faithful.proofs.HeadLemmas.{text_by_order}
 use Rattle.pi_sites.specs.OwnNames.{own_digits, own_name}
 use Rattle.pi_sites.proofs.DigitLemmas.{names-apart}
 use Rattle.pi_sound.specs.Laws.{AreNames}

@@ -12,12 +12,12 @@ use Rattle.pi_meaning.specs.Defined.{ProgramCallsDefined, NamesAreFree}
 use Rattle.pi_names.specs.Stages.{LaterStages, no_stages}
 use Rattle.pi_names.specs.Run.{program_level}
 use Rattle.pi_lowered.specs.Forms.{Knows}
-use Rattle.pi_lowered.specs.Levels.{SameCalls, SameLevels, GoesByCalls}
-use Rattle.pi_lowered.specs.Laws.{known_of}
+use Rattle.pi_faithful.specs.Levels.{SameCalls, SameLevels, GoesByCalls}
+use Rattle.pi_faithful.specs.Laws.{known_of}
 use Rattle.pi_lowered.specs.Programs.{Naming, core_program}
-use Rattle.pi_lowered.specs.TextLaws.{KeepsMeaning, ProgramsWithLoopsAreKept}
-use Rattle.pi_lowered.proofs.AlikeLemmas.{calls-same}
-use Rattle.pi_lowered.proofs.RootNames.{no-later-keeps}
+use Rattle.pi_faithful.specs.TextLaws.{KeepsMeaning, ProgramsWithLoopsAreKept}
+use Rattle.pi_faithful.proofs.AlikeLemmas.{calls-same}
+use Rattle.pi_faithful.proofs.RootNames.{no-later-keeps}
 use Rattle.pi_sound.specs.Built.{unbuilt_part}
 use Rattle.pi_sound.specs.TermCalls.{ProgramAllows}
 use Rattle.pi_sound.specs.Within.{IsWithin}

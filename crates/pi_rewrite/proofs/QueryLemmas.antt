@@ -9,12 +9,12 @@ use Rattle.pi_meaning.specs.Place.{Place, at_state, beginning}
 use Rattle.pi_meaning.specs.Telling.{place_told, told_trace}
 use Rattle.pi_names.specs.Stages.{LaterStages, no_stages}
 use Rattle.pi_names.specs.Run.{answer_names, names_from}
-use Rattle.pi_lowered.specs.Laws as over_whole
-use Rattle.pi_lowered.specs.Laws.{known_of}
+use Rattle.pi_faithful.specs.Laws as over_whole
+use Rattle.pi_faithful.specs.Laws.{known_of}
 use Rattle.pi_lowered.specs.Programs.{Naming, core_query}
-use Rattle.pi_lowered.specs.WithinLoops.{IsAsked}
-use Rattle.pi_lowered.specs.TextLaws.{AreNew, GoalsWithLoopsAreKept}
-use Rattle.pi_lowered.proofs.RootNames.{no-later-keeps}
+use Rattle.pi_faithful.specs.WithinLoops.{IsAsked}
+use Rattle.pi_faithful.specs.TextLaws.{AreNew, GoalsWithLoopsAreKept}
+use Rattle.pi_faithful.proofs.RootNames.{no-later-keeps}
 use Rattle.pi_sound.specs.Built.{unbuilt_part, is_built_goal}
 use Rattle.pi_sound.specs.TermCalls.{Allows}
 use Rattle.pi_sound.specs.Within.{IsWithin}

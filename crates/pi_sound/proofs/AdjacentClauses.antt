@@ -9,7 +9,7 @@ use Rattle.pi_meaning.specs.WrittenRules.{is_signature}
 use Rattle.pi_names.specs.Prelude.{prelude}
 use Rattle.pi_clauses.specs.Calls.{Named}
 use Rattle.pi_clauses.specs.Verdict.{JudgedPart, all_defined, same_signature, stands_apart, first_apart, parts_of}
-use Rattle.pi_lowered.specs.Within.{Key, key_of, keys, GoesOn, StandTogether}
+use Rattle.pi_faithful.specs.Within.{Key, key_of, keys, GoesOn, StandTogether}
 use Rattle.pi_sound.proofs.FaultlessParts.{AreGood}
 use Rattle.pi_sound.proofs.ShownKeys.{signed, shown, keys-shown, none-of, IsOwn, all-own, one-kind, same-signed, named-same, is_key_of, prelude-key, members, appends, selects, prelude-before, not-before, not-in-front}
 

@@ -6,7 +6,7 @@ use Rattle.std.proofs.lemmas.List.Kept.{AllPairs-cons}
 use Rattle.pi_core.specs.CoreTree.{PredTree, find_pred}
 use Rattle.pi_meaning.specs.Sound.{IsAnother}
 use Rattle.pi_lowered.specs.Programs.{Naming}
-use Rattle.pi_lowered.proofs.NumberedLemmas.{IsHelper, NamedFrom}
+use Rattle.pi_faithful.proofs.NumberedLemmas.{IsHelper, NamedFrom}
 use Rattle.pi_sound.proofs.FoundLemmas.{found-among, pairs-append}
 
 -- what stands in front has none of these names

@@ -10,7 +10,7 @@ use Rattle.pi_clauses.specs.Calls.{Named, calls_of_goal}
 use Rattle.pi_clauses.specs.Places.{goal, asked, expression, iterator, placed, called, below, all_placed, arguments_placed, branches_placed}
 use Rattle.pi_sound.specs.Built.{are_some, is_built_value, are_built_values, is_built_value_at, is_built_goal_at, is_built_goal, are_built_goals, are_built_branches, is_built_branch, have_built_goals, is_built_pattern, is_built_form, is_assigned, is_built_unit, is_built_collection, are_built_units}
 use Rattle.pi_lowered.specs.Forms.{Knows}
-use Rattle.pi_lowered.specs.WithLoops.{IsUnit, IsExpression, AreExpressions, IsExpressionAt, IsGoalAt, IsGoal, AreGoals, AreBranches, IsBranch, HaveGoals, AreUnits, IsCollection}
+use Rattle.pi_faithful.specs.WithLoops.{IsUnit, IsExpression, AreExpressions, IsExpressionAt, IsGoalAt, IsGoal, AreGoals, AreBranches, IsBranch, HaveGoals, AreUnits, IsCollection}
 use Rattle.pi_sound.proofs.KnownCalls.{AreKnown, AreFine, nodes-apart}
 use Rattle.pi_sound.proofs.BuiltTerms.{term-of, pattern-of}
 use Rattle.pi_sound.proofs.CallPlaces.{plain-arguments, goal-arguments, iterator-arguments, below-asked, below-iterator, place_behind}

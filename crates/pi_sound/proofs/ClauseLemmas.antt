@@ -23,10 +23,10 @@ use Rattle.pi_lowered.specs.Sites.{Site}
 use Rattle.pi_lowered.specs.Written.{made, goal_of}
 use Rattle.pi_lowered.specs.Helpers.{value_helpers, goal_helpers}
 use Rattle.pi_lowered.specs.Programs.{Naming, option_goals, option_helpers, behind_option, rule_site, written_rule, rule_helpers, function_site, value_site, written_function, function_helpers}
-use Rattle.pi_lowered.specs.Within.{IsFree}
-use Rattle.pi_lowered.specs.WithinLoops.{IsGoalOrNone, IsRule, IsFunction}
-use Rattle.pi_lowered.proofs.SoundLemmas.{nothing-in, patterns-below, patterns-count}
-use Rattle.pi_lowered.proofs.TextLevels.{nothing-named}
+use Rattle.pi_faithful.specs.Within.{IsFree}
+use Rattle.pi_faithful.specs.WithinLoops.{IsGoalOrNone, IsRule, IsFunction}
+use Rattle.pi_faithful.proofs.SoundLemmas.{nothing-in, patterns-below, patterns-count}
+use Rattle.pi_faithful.proofs.TextLevels.{nothing-named}
 use Rattle.pi_sound.specs.Built.{are_built_patterns, are_none, is_built_value, is_built_goal, is_built_goal_or_none, is_built_rule, is_built_function_rule}
 use Rattle.pi_sound.proofs.FineGoals.{Fine, AllFine, fine-one, fine-append, fine-turn, fine-truth, slots-below}
 use Rattle.pi_sound.proofs.GoodHelpers.{Allows, Has, has-first, has-last, GoodHelpers, both-helpers}

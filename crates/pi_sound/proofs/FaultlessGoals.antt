@@ -13,7 +13,7 @@ use Rattle.pi_clauses.specs.Places.{goal, placed}
 use Rattle.pi_clauses.specs.Reading.{variable_names}
 use Rattle.pi_clauses.specs.Stretch.{without_end}
 use Rattle.pi_clauses.specs.Verdict.{BadClause, TooManyVariables, has_too_many_names}
-use Rattle.pi_lowered.specs.Within.{knows}
+use Rattle.pi_faithful.specs.Within.{knows}
 use Rattle.pi_sound.specs.FaultlessLaws.{FaultlessGoalsAreAsked}
 use Rattle.pi_sound.proofs.KnownCalls.{AreFine, nodes-fine}
 use Rattle.pi_sound.proofs.BuiltGoals.{goal-of}

@@ -11,8 +11,8 @@ use Rattle.pi_meaning.specs.Quiet.{Callee, Passes, Reaches, ReachesInAll, Reache
 use Rattle.pi_meaning.specs.Sound.{NamesBelow, SlotsBelow}
 use Rattle.pi_lowered.specs.Forms.{Knows}
 use Rattle.pi_lowered.specs.Goals.{in_turn, either_of}
-use Rattle.pi_lowered.proofs.FineLemmas.{first-of, rest-of}
-use Rattle.pi_lowered.proofs.SoundLemmas.{nothing-in, cons-cases}
+use Rattle.pi_faithful.proofs.FineLemmas.{first-of, rest-of}
+use Rattle.pi_faithful.proofs.SoundLemmas.{nothing-in, cons-cases}
 
 -- a goal names slots below n, and calls what may be called
 unfoldable mutual

@@ -12,11 +12,11 @@ use Rattle.pi_core.specs.CoreTree.{PredTree, is_pred, find_pred}
 use Rattle.pi_effects.specs.BuiltIns.{is_function}
 use Rattle.pi_meaning.specs.Defined.{is_machine_predicate}
 use Rattle.pi_lowered.specs.Forms.{Knows}
-use Rattle.pi_lowered.specs.WithinLoops.{AreQuiet}
+use Rattle.pi_faithful.specs.WithinLoops.{AreQuiet}
 use Rattle.pi_lowered.proofs.AgreeLemmas.{text_itself}
-use Rattle.pi_lowered.proofs.HeadLemmas.{text_by_order}
-use Rattle.pi_lowered.proofs.OwnLemmas.{find-append}
-use Rattle.pi_lowered.proofs.SoundLemmas.{nothing-in, cons-cases}
+use Rattle.pi_faithful.proofs.HeadLemmas.{text_by_order}
+use Rattle.pi_faithful.proofs.OwnLemmas.{find-append}
+use Rattle.pi_faithful.proofs.SoundLemmas.{nothing-in, cons-cases}
 use Rattle.pi_sound.proofs.GoodHelpers.{Has}
 
 -- what a core program has, and what the tables have

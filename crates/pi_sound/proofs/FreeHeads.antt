@@ -18,7 +18,7 @@ use Rattle.pi_names.proofs.BuiltInNames.{names-have-their-kinds}
 use Rattle.pi_clauses.specs.Items.{is_head}
 use Rattle.pi_clauses.specs.Operators.{is_goal_sign, is_assignment, is_relation, is_reified, is_membership, is_arithmetic, is_operator}
 use Rattle.pi_clauses.specs.Verdict.{is_built_in_signature}
-use Rattle.pi_lowered.specs.Within.{IsFree}
+use Rattle.pi_faithful.specs.Within.{IsFree}
 
 -- ---- functions that no program calls by their names are signs of the grammar
 

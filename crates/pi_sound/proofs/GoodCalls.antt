@@ -16,7 +16,7 @@ use Rattle.pi_lowered.specs.Goals.{SlotParts, just, goals_at, value_at, found_by
 use Rattle.pi_lowered.specs.Forms.{Knows, IsFunctionCall, IsPredicateCall, IsAtomGoal}
 use Rattle.pi_lowered.specs.Sites.{Site, helpers_in, behind_site, behind_exp, following_sites, caught_sites, goal_sites, found_sites, value_sites}
 use Rattle.pi_lowered.specs.Helpers.{HelperParts, helpers_at, goal_call_helpers}
-use Rattle.pi_lowered.proofs.FineLemmas.{none-below}
+use Rattle.pi_faithful.proofs.FineLemmas.{none-below}
 use Rattle.pi_sound.specs.Built.{is_built_predicate, is_built_function, is_built_form}
 use Rattle.pi_sound.proofs.NameLemmas.{predicate-there, function-there}
 use Rattle.pi_sound.proofs.FineGoals.{fine-truth, fine-fail, fine-call}

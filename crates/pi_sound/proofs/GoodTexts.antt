@@ -23,19 +23,19 @@ use Rattle.pi_lowered.specs.Values.{is_flat, are_flat, last_value, value_by}
 use Rattle.pi_lowered.specs.Goals as slots
 use Rattle.pi_lowered.specs.Goals.{SlotGoals, begins_flat, just}
 use Rattle.pi_lowered.specs.Forms.{Knows}
-use Rattle.pi_lowered.specs.WithLoops.{IsExpression, AreExpressions, IsExpressionAt, IsGoalAt, IsGoal, AreGoals, AreBranches, IsBranch, HaveGoals, AreUnits, IsCollection}
+use Rattle.pi_faithful.specs.WithLoops.{IsExpression, AreExpressions, IsExpressionAt, IsGoalAt, IsGoal, AreGoals, AreBranches, IsBranch, HaveGoals, AreUnits, IsCollection}
 use Rattle.pi_lowered.specs.Sites.{Site, helpers_in, helpers_in_all, helpers_in_branches, behind_site, behind_exp, following_sites, goal_sites, value_sites}
 use Rattle.pi_lowered.specs.Loops.{Ending, as_it_is, in_order, Loop, while_helper, do_helper}
 use Rattle.pi_lowered.specs.Comprehensions.{adding}
 use Rattle.pi_lowered.specs.Written.{while_loop, do_loop, turns_of, Inner, inner_of, gathering, gathered_at, is_range, made, parts, arguments, values_in, goals_in, goal_of, all_of, any_of, arrow_in, branches_of, units}
 use Rattle.pi_lowered.specs.Helpers.{helpers_at, value_helpers, all_helpers, values_helpers, goals_helpers, goal_helpers, conjunct_helpers, branch_helpers, units_helpers, collection_helpers}
-use Rattle.pi_lowered.proofs.FineLemmas.{atom-below, items-below}
-use Rattle.pi_lowered.proofs.FormLemmas.{a-term}
-use Rattle.pi_lowered.proofs.TextCalls.{arguments-count}
-use Rattle.pi_lowered.proofs.CollectLemmas.{hidden-named, hidden-within, hidden-stands, hidden-shared}
-use Rattle.pi_lowered.proofs.HelperLemmas.{AreAmong}
-use Rattle.pi_lowered.proofs.LoopTexts.{shared-among, kept-before, kept-among}
-use Rattle.pi_lowered.proofs.UnitLemmas.{within-behind}
+use Rattle.pi_faithful.proofs.FineLemmas.{atom-below, items-below}
+use Rattle.pi_faithful.proofs.FormLemmas.{a-term}
+use Rattle.pi_faithful.proofs.TextCalls.{arguments-count}
+use Rattle.pi_faithful.proofs.CollectLemmas.{hidden-named, hidden-within, hidden-stands, hidden-shared}
+use Rattle.pi_faithful.proofs.HelperLemmas.{AreAmong}
+use Rattle.pi_faithful.proofs.LoopTexts.{shared-among, kept-before, kept-among}
+use Rattle.pi_faithful.proofs.UnitLemmas.{within-behind}
 use Rattle.pi_sound.specs.Built.{are_some, is_assigned, is_built_form, is_built_value, are_built_values, is_built_value_at, is_built_goal_at, is_built_goal, are_built_goals, are_built_branches, is_built_branch, have_built_goals, is_built_unit, are_built_units, is_built_collection}
 use Rattle.pi_sound.proofs.FineGoals.{fine-truth}
 use Rattle.pi_sound.proofs.GivenNames.{ranges-there}

@@ -19,7 +19,7 @@ use Rattle.pi_lowered.specs.Slots.{SlotNames, slot_for, slots_for}
 use Rattle.pi_lowered.specs.Values.{SlotValue}
 use Rattle.pi_lowered.specs.Goals.{SlotGoals}
 use Rattle.pi_lowered.specs.Forms.{Knows, IsPattern}
-use Rattle.pi_lowered.specs.WithLoops.{IsUnit}
+use Rattle.pi_faithful.specs.WithLoops.{IsUnit}
 use Rattle.pi_lowered.specs.Sites.{Site, behind_exp}
 use Rattle.pi_lowered.specs.Loops.{Ending, as_it_is, Loop, started, as_written, only_turn_helper}
 use Rattle.pi_lowered.specs.Iterators.{tested, found_by}
@@ -28,11 +28,11 @@ use Rattle.pi_lowered.specs.Written.{Inner, start_loop, iterator_loop, turn_name
 use Rattle.pi_lowered.specs.Helpers.{own_helpers, iterated_helpers, unit_helpers, started_helpers}
 use Rattle.pi_lowered.proofs.AgreeLemmas.{grows-length, grows-for}
 use Rattle.pi_lowered.proofs.TermLemmas.{name-room, term-grows}
-use Rattle.pi_lowered.proofs.FineLemmas.{none-below, front-below, var-below, atom-below}
-use Rattle.pi_lowered.proofs.CollectionLemmas.{found-long}
-use Rattle.pi_lowered.proofs.HelperLemmas.{AreAmong}
-use Rattle.pi_lowered.proofs.LoopTexts.{shared-among, inside-among, kept-before, kept-among-inside}
-use Rattle.pi_lowered.proofs.UnitLemmas.{within-behind}
+use Rattle.pi_faithful.proofs.FineLemmas.{none-below, front-below, var-below, atom-below}
+use Rattle.pi_faithful.proofs.CollectionLemmas.{found-long}
+use Rattle.pi_faithful.proofs.HelperLemmas.{AreAmong}
+use Rattle.pi_faithful.proofs.LoopTexts.{shared-among, inside-among, kept-before, kept-among-inside}
+use Rattle.pi_faithful.proofs.UnitLemmas.{within-behind}
 use Rattle.pi_sound.specs.Built.{is_built_pattern, is_built_unit}
 use Rattle.pi_sound.proofs.FineGoals.{fine-one, fine-append, fine-truth, fine-apply}
 use Rattle.pi_sound.proofs.GivenNames.{itself-there}

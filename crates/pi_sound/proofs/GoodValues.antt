@@ -18,8 +18,8 @@ use Rattle.pi_lowered.specs.Goals.{SlotGoals, in_turn, no_value, called, assigne
 use Rattle.pi_lowered.specs.Written.{pair_values, three_values}
 use Rattle.pi_lowered.proofs.AgreeLemmas.{grows-length, grows-for}
 use Rattle.pi_lowered.proofs.TermLemmas.{name-room, term-grows}
-use Rattle.pi_lowered.proofs.FineLemmas.{none-below, front-below, var-below, below-var, atom-below, items-below}
-use Rattle.pi_lowered.proofs.FineGoals.{term-below}
+use Rattle.pi_faithful.proofs.FineLemmas.{none-below, front-below, var-below, below-var, atom-below, items-below}
+use Rattle.pi_faithful.proofs.FineGoals.{term-below}
 use Rattle.pi_sound.proofs.FineGoals.{Fine, AllFine, fine-none, fine-one, fine-append, fine-turn, fine-truth, fine-fail, fine-call, fine-apply, fine-collect, fine-count, fine-catch}
 use Rattle.pi_sound.proofs.GivenNames.{equals-there, item-there, itself-there}
 use Rattle.pi_sound.proofs.GoodHelpers.{Allows, has-first, has-last, GoodHelpers, no-helpers, both-helpers}

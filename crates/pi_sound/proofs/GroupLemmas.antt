@@ -7,9 +7,9 @@ use Rattle.std.proofs.lemmas.List.Kept.{AllPairs-cons}
 use Rattle.pi_core.specs.CoreTree.{ClauseTree, PredTree}
 use Rattle.pi_syntax.specs.Signature.{Signature}
 use Rattle.pi_lowered.specs.Lowered.{Lowering, grouped, grouped_all}
-use Rattle.pi_lowered.specs.Within.{Key, GoesOn, StandTogether}
-use Rattle.pi_lowered.proofs.SoundLemmas.{nothing-in, cons-cases}
-use Rattle.pi_lowered.proofs.FindLemmas.{Modes, sign, of, key, matches, pred_of, matches-same, matches-itself, grouped-none, grouped-same, grouped-other, keys_of}
+use Rattle.pi_faithful.specs.Within.{Key, GoesOn, StandTogether}
+use Rattle.pi_faithful.proofs.SoundLemmas.{nothing-in, cons-cases}
+use Rattle.pi_faithful.proofs.FindLemmas.{Modes, sign, of, key, matches, pred_of, matches-same, matches-itself, grouped-none, grouped-same, grouped-other, keys_of}
 
 -- ---- each of them
 

@@ -16,9 +16,9 @@ use Rattle.pi_meaning.specs.Defined.{ClauseCallsDefined, NamesAreFree, is_machin
 use Rattle.pi_meaning.specs.Instances.{is_called_by_name}
 use Rattle.pi_lowered.specs.Forms.{Knows}
 use Rattle.pi_lowered.specs.Programs.{Naming}
-use Rattle.pi_lowered.specs.WithinLoops.{AreOwn}
-use Rattle.pi_lowered.proofs.SoundLemmas.{nothing-in, cons-cases}
-use Rattle.pi_lowered.proofs.NumberedLemmas.{IsHelper, NamedFrom}
+use Rattle.pi_faithful.specs.WithinLoops.{AreOwn}
+use Rattle.pi_faithful.proofs.SoundLemmas.{nothing-in, cons-cases}
+use Rattle.pi_faithful.proofs.NumberedLemmas.{IsHelper, NamedFrom}
 use Rattle.pi_sound.specs.Laws.{IsPlain}
 use Rattle.pi_sound.proofs.NameLemmas.{machine-given}
 use Rattle.pi_sound.proofs.FineGoals.{Fine, fine-truth, slots-below}

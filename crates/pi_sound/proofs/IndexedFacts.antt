@@ -20,7 +20,7 @@ use Rattle.pi_names.proofs.TableLemmas.{same-name}
 use Rattle.pi_clauses.specs.Calls.{Named, named}
 use Rattle.pi_clauses.specs.Items.{head_of, is_function, is_fact, is_head}
 use Rattle.pi_clauses.specs.Verdict.{JudgedClause, JudgedPart, refused, libraries, one_clause, as_list, named_of, defined_by, indexed_by, all_defined, all_indexed, is_of, holds, has_other_length, is_built_in_signature, is_kind_of_other, decl_of, parts_of}
-use Rattle.pi_lowered.specs.Within.{AreModes, key_of, keys, declared_if, declared_before, BeginsWithModes, IsIndexed}
+use Rattle.pi_faithful.specs.Within.{AreModes, key_of, keys, declared_if, declared_before, BeginsWithModes, IsIndexed}
 use Rattle.pi_sound.proofs.FaultlessParts.{IsGood, AreGood, IsIndexedWell, AreIndexedWell}
 use Rattle.pi_sound.proofs.ShownKeys.{is_key_of, not-prelude}
 

@@ -19,11 +19,11 @@ use Rattle.pi_lowered.specs.Goals.{SlotGoals, in_turn}
 use Rattle.pi_lowered.specs.Loops.{slots_from, slots_head, closing, closing_slots, Loop}
 use Rattle.pi_lowered.specs.Iterators.{walk_slots, handed, turn_slots, end_slots, tick_then, element_helper, turn_helper}
 use Rattle.pi_lowered.specs.Ranges.{next_turn, range_helper, step_helper}
-use Rattle.pi_lowered.proofs.FineLemmas.{none-below, front-below, var-below}
-use Rattle.pi_lowered.proofs.SoundLemmas.{pattern-below}
+use Rattle.pi_faithful.proofs.FineLemmas.{none-below, front-below, var-below}
+use Rattle.pi_faithful.proofs.SoundLemmas.{pattern-below}
 use Rattle.pi_lowered.proofs.EnteredLemmas.{values-long}
-use Rattle.pi_lowered.proofs.HelperLemmas.{AreAmong}
-use Rattle.pi_lowered.proofs.ElementLemmas.{unnamed-long}
+use Rattle.pi_faithful.proofs.HelperLemmas.{AreAmong}
+use Rattle.pi_faithful.proofs.ElementLemmas.{unnamed-long}
 use Rattle.pi_sound.proofs.FineGoals.{Fine, AllFine, fine-one, fine-first, fine-append, fine-turn, fine-tick, fine-if, fine-call, fine-apply, MayReach, reaches-fine, past-tick, if-reached, turn-reached}
 use Rattle.pi_sound.proofs.GivenNames.{less-there, item-there, plus-there, minus-there}
 use Rattle.pi_sound.proofs.GoodHelpers.{Allows, Has, has-first, has-last, FineHelpers, Falls}

@@ -21,7 +21,7 @@ use Rattle.pi_clauses.specs.Calls.{Named, named, is_kind, same_bool, same_named,
 use Rattle.pi_clauses.specs.GoalVerdict.{defined_by_clause, defined_by_program}
 use Rattle.pi_clauses.specs.Verdict.{as_list, named_of}
 use Rattle.pi_sound.specs.Built.{is_own}
-use Rattle.pi_lowered.specs.Within.{is_some_function, knows}
+use Rattle.pi_faithful.specs.Within.{is_some_function, knows}
 use Rattle.pi_sound.proofs.PlainNames.{prelude-listed}
 use Rattle.pi_sound.proofs.BuiltCalls.{Has}
 

@@ -18,10 +18,10 @@ use Rattle.pi_lowered.specs.Iterators.{only, behind_collection, walked, iterator
 use Rattle.pi_lowered.specs.Ranges.{SlotRange, low_of, step_of, high_of, range_of, number_goals, number_tree, counting, first_turn, behind_range, range_goals}
 use Rattle.pi_lowered.proofs.AgreeLemmas.{grows-length}
 use Rattle.pi_lowered.proofs.TermLemmas.{term-grows}
-use Rattle.pi_lowered.proofs.FineLemmas.{none-below, front-below, first-of, rest-of, var-below, atom-below}
+use Rattle.pi_faithful.proofs.FineLemmas.{none-below, front-below, first-of, rest-of, var-below, atom-below}
 use Rattle.pi_lowered.proofs.EnteredLemmas.{values-long}
-use Rattle.pi_lowered.proofs.CollectionLemmas.{only-long}
-use Rattle.pi_lowered.proofs.HelperLemmas.{AreAmong}
+use Rattle.pi_faithful.proofs.CollectionLemmas.{only-long}
+use Rattle.pi_faithful.proofs.HelperLemmas.{AreAmong}
 use Rattle.pi_sound.proofs.FineGoals.{AllFine, fine-none, fine-one, fine-first, fine-append, fine-call, fine-apply}
 use Rattle.pi_sound.proofs.GivenNames.{equals-there, itself-there, in-order-there, range-count-there, to-array-there, length-there, plus-there, min-there}
 use Rattle.pi_sound.proofs.GoodHelpers.{Allows, Has, GoodHelpers}

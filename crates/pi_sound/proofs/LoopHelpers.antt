@@ -11,7 +11,7 @@ use Rattle.pi_lowered.specs.Slots.{SlotNames}
 use Rattle.pi_lowered.specs.Goals.{SlotGoals, in_turn}
 use Rattle.pi_lowered.specs.Loops.{slots_from, slots_head, closing, closing_slots, clause_of, Loop, loop_slots, again, while_helper, do_helper, only_turn_helper}
 use Rattle.pi_lowered.proofs.EnteredLemmas.{values-long}
-use Rattle.pi_lowered.proofs.HelperLemmas.{AreAmong}
+use Rattle.pi_faithful.proofs.HelperLemmas.{AreAmong}
 use Rattle.pi_sound.proofs.FineGoals.{Fine, fine-one, fine-first, fine-append, fine-turn, fine-tick, fine-if, fine-call, MayReach, reaches-fine, past-tick, if-reached}
 use Rattle.pi_sound.proofs.GoodHelpers.{Allows, Has, has-first, has-last, FineClause, FineHelpers, GoodHelpers, both-helpers, more-helpers}
 use Rattle.pi_sound.proofs.GoodGoals.{GoodGoals}

@@ -21,7 +21,7 @@ use Rattle.pi_lowered.specs.Comprehensions.{adding}
 use Rattle.pi_lowered.specs.Written.{while_loop, do_loop, turns_of, Inner, inner_of, gathering, gathered_at, start_loop, iterator_loop, turn_name, is_range, elements_of, made, goal_of, units}
 use Rattle.pi_lowered.specs.Helpers.{HelperParts, own_helpers, helpers_at, goal_call_helpers, iterated_helpers, unit_helpers, started_helpers, value_helpers, all_helpers, values_helpers, goals_helpers, goal_helpers, conjunct_helpers, branch_helpers, units_helpers, collection_helpers}
 use Rattle.pi_lowered.specs.Programs.{Naming, option_helpers, behind_option, rule_site, function_site, value_site, clause_count, written_clause, clause_helpers, clauses_of, helpers_of, core_program}
-use Rattle.pi_lowered.proofs.FindLemmas.{Modes}
+use Rattle.pi_faithful.proofs.FindLemmas.{Modes}
 use Rattle.pi_sound.specs.Laws.{IsPlain, LoweredProgramsArePlain}
 use Rattle.pi_sound.proofs.GroupLemmas.{Holds, HoldsOf, groups-hold}
 

@@ -22,10 +22,10 @@ use Rattle.pi_meaning.specs.Names.{later_predicates, is_later_predicate, is_late
 use Rattle.pi_names.specs.Forms.{form_of, readings}
 use Rattle.pi_names.specs.Prelude.{cell, prelude}
 use Rattle.pi_lowered.specs.Forms.{Knows, IsPredicateCall, IsPattern}
-use Rattle.pi_lowered.specs.Within.{IsFree}
-use Rattle.pi_lowered.specs.WithLoops.{IsAssigned, IsExpression, AreExpressions, IsExpressionAt, IsGoalAt, IsGoal}
-use Rattle.pi_lowered.specs.WithinLoops.{IsPart}
-use Rattle.pi_lowered.specs.Laws.{known_of}
+use Rattle.pi_faithful.specs.Within.{IsFree}
+use Rattle.pi_faithful.specs.WithLoops.{IsAssigned, IsExpression, AreExpressions, IsExpressionAt, IsGoalAt, IsGoal}
+use Rattle.pi_faithful.specs.WithinLoops.{IsPart}
+use Rattle.pi_faithful.specs.Laws.{known_of}
 
 -- names that mean nothing else
 free-of : (name : List ℕ) (k : ℕ) → is_given_predicate name k || is_given_function name k ≡ false → (head : ExpTree) → signature head ≡ Some (record { name = name; arity = k }) → IsFree head

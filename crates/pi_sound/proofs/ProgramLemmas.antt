@@ -24,14 +24,14 @@ use Rattle.pi_names.specs.Prelude.{prelude}
 use Rattle.pi_lowered.specs.Forms.{Knows}
 use Rattle.pi_lowered.specs.Lowered.{named_by, Lowering, grouped_all}
 use Rattle.pi_lowered.specs.Programs.{Naming, written_rule, rule_count, rule_helpers, written_function, function_count, function_helpers, clause_count, written_clause, clause_helpers, clauses_of, helpers_of, core_program}
-use Rattle.pi_lowered.specs.Within.{IsFree, AreModes, Key, StandTogether}
-use Rattle.pi_lowered.specs.WithinLoops.{IsClause, IsPart, AreQuiet}
-use Rattle.pi_lowered.specs.Laws.{known_of, DefinesTheSame}
-use Rattle.pi_lowered.proofs.FindLemmas.{Modes, sign, of, keys_of, pred_from, find-all}
-use Rattle.pi_lowered.proofs.NumberedLemmas.{NamedFrom}
-use Rattle.pi_lowered.proofs.OwnLemmas.{find-append, named-quiet}
-use Rattle.pi_lowered.proofs.TextPrograms.{Parts, program-numbered, keys-written}
-use Rattle.pi_lowered.proofs.TextLawLemmas.{programs-with-loops-are-kept}
+use Rattle.pi_faithful.specs.Within.{IsFree, AreModes, Key, StandTogether}
+use Rattle.pi_faithful.specs.WithinLoops.{IsClause, IsPart, AreQuiet}
+use Rattle.pi_faithful.specs.Laws.{known_of, DefinesTheSame}
+use Rattle.pi_faithful.proofs.FindLemmas.{Modes, sign, of, keys_of, pred_from, find-all}
+use Rattle.pi_faithful.proofs.NumberedLemmas.{NamedFrom}
+use Rattle.pi_faithful.proofs.OwnLemmas.{find-append, named-quiet}
+use Rattle.pi_faithful.proofs.TextPrograms.{Parts, program-numbered, keys-written}
+use Rattle.pi_faithful.proofs.TextLawLemmas.{programs-with-loops-are-kept}
 use Rattle.pi_sound.specs.Built.{is_built_clause, is_built, is_built_part, unbuilt_from, unbuilt_part}
 use Rattle.pi_sound.specs.Within.{IsWithin}
 use Rattle.pi_sound.specs.Laws.{AreNames, LoweredProgramsAreSound, LoweredProgramsAreClosed, clauses_named, pred_made, LoweredProgramsHaveClauses}

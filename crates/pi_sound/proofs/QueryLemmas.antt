@@ -23,16 +23,16 @@ use Rattle.pi_lowered.specs.Goals.{in_turn}
 use Rattle.pi_lowered.specs.Written.{goal_of}
 use Rattle.pi_lowered.specs.Helpers.{goal_helpers}
 use Rattle.pi_lowered.specs.Programs.{Naming, query_site, core_query}
-use Rattle.pi_lowered.specs.WithinLoops.{IsAsked, AreQuiet}
-use Rattle.pi_lowered.specs.Laws.{known_of, DefinesTheSame}
-use Rattle.pi_lowered.specs.TextLaws.{AreNew}
+use Rattle.pi_faithful.specs.WithinLoops.{IsAsked, AreQuiet}
+use Rattle.pi_faithful.specs.Laws.{known_of, DefinesTheSame}
+use Rattle.pi_faithful.specs.TextLaws.{AreNew}
 use Rattle.pi_lowered.proofs.AgreeLemmas.{grows-length}
 use Rattle.pi_lowered.proofs.TermLemmas.{name-room}
-use Rattle.pi_lowered.proofs.TellingLemmas.{behind-grows}
-use Rattle.pi_lowered.proofs.SoundLemmas.{nothing-in, cons-cases}
-use Rattle.pi_lowered.proofs.TextLevels.{nothing-named}
-use Rattle.pi_lowered.proofs.NumberedLemmas.{NamedFrom, goal-numbered}
-use Rattle.pi_lowered.proofs.OwnLemmas.{named-quiet}
+use Rattle.pi_faithful.proofs.TellingLemmas.{behind-grows}
+use Rattle.pi_faithful.proofs.SoundLemmas.{nothing-in, cons-cases}
+use Rattle.pi_faithful.proofs.TextLevels.{nothing-named}
+use Rattle.pi_faithful.proofs.NumberedLemmas.{NamedFrom, goal-numbered}
+use Rattle.pi_faithful.proofs.OwnLemmas.{named-quiet}
 use Rattle.pi_sound.specs.Built.{is_built_goal}
 use Rattle.pi_sound.specs.Laws.{AreNames, IsPlain, QueryFits, LoweredQueriesAreSound}
 use Rattle.pi_sound.proofs.NameLemmas.{machine-given, table-given}

@@ -9,9 +9,9 @@ use Rattle.pi_core.specs.CoreTree.{ClauseTree, PredTree, is_pred, find_pred}
 use Rattle.pi_meaning.specs.Quiet.{Callee, Reaches, ReachesFrom, IsQuiet, TicksBetween}
 use Rattle.pi_meaning.specs.Defined.{is_machine_predicate}
 use Rattle.pi_lowered.specs.Forms.{Knows}
-use Rattle.pi_lowered.specs.WithinLoops.{AreQuiet}
-use Rattle.pi_lowered.proofs.OwnLemmas.{no-function}
-use Rattle.pi_lowered.proofs.SoundLemmas.{nothing-in, cons-cases}
+use Rattle.pi_faithful.specs.WithinLoops.{AreQuiet}
+use Rattle.pi_faithful.proofs.OwnLemmas.{no-function}
+use Rattle.pi_faithful.proofs.SoundLemmas.{nothing-in, cons-cases}
 use Rattle.pi_sound.proofs.GoodHelpers.{Allows, Has, AllBefore, ReachesBefore, Falls}
 use Rattle.pi_sound.proofs.FoundLemmas.{all-found, found-first, found-last}
 

@@ -15,8 +15,8 @@ use Rattle.pi_names.specs.Rules.{heads_named}
 use Rattle.pi_names.specs.Prelude.{prelude}
 use Rattle.pi_names.specs.Run.{is_some_head, setting, program_level, answer_names, names_from, names_trace}
 use Rattle.pi_lowered.specs.Forms.{Knows}
-use Rattle.pi_lowered.specs.Levels.{SameCalls, SameLevels}
-use Rattle.pi_lowered.specs.Laws.{known_of}
+use Rattle.pi_faithful.specs.Levels.{SameCalls, SameLevels}
+use Rattle.pi_faithful.specs.Laws.{known_of}
 use Rattle.pi_sound.specs.Built.{is_built_goal, unbuilt_part}
 use Rattle.pi_sound.specs.TermCalls.{CallNoTerms}
 use Rattle.pi_sound.specs.LaterLaws.{LevelsAreTheSame, CallsAreTheSame, GoalsAreTheSame, RunsAreTheSame}

@@ -15,7 +15,7 @@ use Rattle.pi_names.proofs.TableLemmas.{same-name, each-signed, signatures-hold}
 use Rattle.pi_clauses.specs.Calls.{Named, named, same_bool}
 use Rattle.pi_clauses.specs.Items.{head_of, is_head}
 use Rattle.pi_clauses.specs.Verdict.{JudgedPart, refused, libraries, one_clause, as_list, named_of, definition, all_defined, is_built_in_signature, is_other_kind, holds_other_kind, same_signature, parts_of}
-use Rattle.pi_lowered.specs.Within.{Key, key_of, keys}
+use Rattle.pi_faithful.specs.Within.{Key, key_of, keys}
 use Rattle.pi_sound.proofs.FaultlessParts.{IsGood, AreGood}
 
 abbrev pub signed : Named → Signature

@@ -16,10 +16,10 @@ use Rattle.pi_lowered.specs.Iterators.{behind_collection}
 use Rattle.pi_lowered.proofs.AgreeLemmas.{text_itself, text_same, Grows, by, slot-below}
 use Rattle.pi_lowered.proofs.NewNameLemmas.{from_known}
 use Rattle.pi_lowered.proofs.TermLemmas.{terms-grow}
-use Rattle.pi_lowered.proofs.FineLemmas.{none-below, front-below, first-of, rest-of, var-below}
+use Rattle.pi_faithful.proofs.FineLemmas.{none-below, front-below, first-of, rest-of, var-below}
 use Rattle.pi_lowered.proofs.EnteredLemmas.{among-slot, values-grow}
-use Rattle.pi_lowered.proofs.HelperLemmas.{AreAmong}
-use Rattle.pi_lowered.proofs.ElementLemmas.{unnamed-long}
+use Rattle.pi_faithful.proofs.HelperLemmas.{AreAmong}
+use Rattle.pi_faithful.proofs.ElementLemmas.{unnamed-long}
 
 -- ---- names that have slots
 

@@ -7,7 +7,7 @@ use Rattle.pi_clauses.specs.GoalVerdict.{a_goal, HasGoalVerdict}
 use Rattle.pi_clauses.specs.Verdict.{a_program, HasVerdict}
 use Rattle.pi_sound.specs.Built.{is_built_goal, unbuilt_part}
 use Rattle.pi_sound.specs.Within.{IsWithin}
-use Rattle.pi_lowered.specs.WithinLoops.{IsAsked}
+use Rattle.pi_faithful.specs.WithinLoops.{IsAsked}
 
 -- a program without a fault, all of whose parts are built
 abbrev pub FaultlessProgramsAreWithin : Type 0

@@ -11,9 +11,9 @@ use Rattle.pi_meaning.specs.Defined.{ProgramCallsDefined, QueryCallsDefined, Nam
 use Rattle.pi_names.specs.Prelude.{prelude}
 use Rattle.pi_lowered.specs.Lowered.{Lowering, same_kind}
 use Rattle.pi_lowered.specs.Programs.{Naming, clauses_of, helpers_of, core_program, core_query}
-use Rattle.pi_lowered.specs.WithinLoops.{IsAsked, AreOwn}
-use Rattle.pi_lowered.specs.Laws.{known_of, DefinesTheSame}
-use Rattle.pi_lowered.specs.TextLaws.{AreNew}
+use Rattle.pi_faithful.specs.WithinLoops.{IsAsked, AreOwn}
+use Rattle.pi_faithful.specs.Laws.{known_of, DefinesTheSame}
+use Rattle.pi_faithful.specs.TextLaws.{AreNew}
 use Rattle.pi_sound.specs.Built.{unbuilt_part, is_built_goal}
 use Rattle.pi_sound.specs.Within.{IsWithin}
 

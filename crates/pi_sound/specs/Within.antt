@@ -2,8 +2,8 @@
 use Rattle.std.specs.Prelude.{◌≡◌, ◌++◌, Contains}
 use Rattle.pi_syntax.specs.ProgramTree.{ProgramTree}
 use Rattle.pi_names.specs.Prelude.{prelude}
-use Rattle.pi_lowered.specs.Within.{Key, keys}
-use Rattle.pi_lowered.specs.WithinLoops as forms
+use Rattle.pi_faithful.specs.Within.{Key, keys}
+use Rattle.pi_faithful.specs.WithinLoops as forms
 
 -- no name is with one number of arguments both a predicate's and a function's
 abbrev pub AreApart : ProgramTree → Type 0
