@@ -27,7 +27,7 @@ use Rattle.pi_raw_blocks.specs.ConstraintTable.{constraint_at, IsConstraintIn}
 use Rattle.pi_raw_blocks.proofs.ConstraintTables.{constraint_stays}
 use Rattle.pi_raw_blocks.specs.AgentTable.{IsAgentIn}
 use Rattle.pi_raw_blocks.proofs.AgentTables.{agent_stays}
-use Rattle.pi_terms.specs.Names.{HasDistinct}
+use Rattle.pi_atoms.specs.Names.{HasDistinct}
 use Rattle.pi_raw_terms.specs.NameTable.{NameTable, names_of}
 use Rattle.pi_raw_store.specs.Holding.{heap_of}
 use Rattle.pi_raw_store.specs.Waiting.{IsWaitingIn}

@@ -4,7 +4,7 @@ use Rattle.pi_terms.specs.ListNames.{cell_name}
 use Rattle.pi_trail.specs.Image.{Image}
 use Rattle.pi_trail.specs.Back.{at_length}
 use Rattle.pi_trail.specs.declared.entry.Table.{Table}
-use Rattle.pi_terms.specs.Names.{HasDistinct}
+use Rattle.pi_atoms.specs.Names.{HasDistinct}
 use Rattle.pi_raw_terms.specs.Right.{IsRight}
 use Rattle.pi_raw_terms.specs.Bound.{AreBound}
 use Rattle.pi_raw_terms.specs.Kept.{AreKept}

@@ -5,7 +5,7 @@ use Rattle.std.specs.Str.{bytes_eq}
 use Rattle.std.proofs.lemmas.Slice.Eq.{bytes_eq-Decides}
 use Rattle.pi_terms.specs.ListNames.{cell_name}
 use Rattle.pi_terms.proofs.GetLemmas.{get_append_left, get_append_cases, get_some}
-use Rattle.pi_terms.specs.Names.{HasDistinct, Gains}
+use Rattle.pi_atoms.specs.Names.{HasDistinct, Gains}
 use Rattle.pi_raw_terms.specs.NameTable.{NameTable, is_from, is_given, names_of, table_of, IsTable, NamesStay}
 
 abbrev Texts : Type 0

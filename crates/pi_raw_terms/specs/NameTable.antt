@@ -1,7 +1,7 @@
 -- The names that terms of a region of each length may have.
 use Rattle.std.specs.Prelude.{◌≡◌, ℕ, zero, suc, ◌≤◌, Bool, true, cond, ◌&&◌, nat_lt, nat_le, List, ◌∷◌, length, Option, Some, None, slice_get, slice_index}
 use Rattle.pi_terms.specs.ListNames.{cell_name}
-use Rattle.pi_terms.specs.Names.{HasDistinct}
+use Rattle.pi_atoms.specs.Names.{HasDistinct}
 
 -- names by their numbers; and for each 0, or 1 more than the length of the region from which on terms may have it
 pub record NameTable : Type 0 where

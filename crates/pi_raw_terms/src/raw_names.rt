@@ -1,10 +1,10 @@
 //! The names of a store over raw words.
 ghost use Rattle.std.specs.Prelude.{◌≡◌, ◌≢◌, ℕ, suc, ◌<◌, ◌≤◌, ◌^◌, List, [], ◌∷◌, ◌++◌, length, Option, Some, true, slice_get, slice_index, slice_index_or, IfOk, IsTrue};
 ghost use Rattle.pi_terms.specs.ListNames.{cell_name};
-ghost use Rattle.pi_terms.specs.Names.{HasDistinct, Gains};
+ghost use Rattle.pi_atoms.specs.Names.{HasDistinct, Gains};
 ghost use Rattle.pi_raw_terms.specs.NameTable.{is_given, is_from, names_of};
 
-use pi_terms::Atoms;
+use pi_atoms::Atoms;
 use pi_trail::WordList;
 use std::alloc::{AllocError, Global};
 use std::marker::Model;

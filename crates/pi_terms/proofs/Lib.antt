@@ -1,8 +1,8 @@
-pub mod AtomLemmas
 pub mod BareLemmas
 pub mod CopyLemmas
 pub mod GetLemmas
 pub mod ListLemmas
+pub mod MetLemmas
 pub mod NameLemmas
 pub mod NumberLemmas
 pub mod OptionLemmas

@@ -1,12 +1,9 @@
 -- Numbers that are met one after another are the first ones of a list.
-use Rattle.std.proofs.Common.{◌==◌, ◌∙◌, ap, cond, ◌≤◌, length, Some, None, nat_lt, ◌≡◌, ℕ, suc, Bool, true, false, ◌||◌, refl, List, [], ◌∷◌, ◌++◌, inl, inr, sym, arith, eqb-true, eq-eqb}
+use Rattle.std.proofs.Common.{◌≡◌, ℕ, suc, Bool, true, false, ◌||◌, refl, List, [], ◌∷◌, ◌++◌, inl, inr, sym, arith, eqb-true, eq-eqb}
 use Rattle.std.specs.Prelude.{Contains, nat_eq}
-use Rattle.std.specs.List.{list_any, position, position_or_len}
+use Rattle.std.specs.List.{list_any}
 use Rattle.std.proofs.lemmas.Bool.{cases_Bool}
 use Rattle.pi_terms.specs.Variables.{firsts}
-use Rattle.std.proofs.Math.Path.{fun_ext}
-use Rattle.std.proofs.lemmas.List.Sums.{prefix_len-le-length}
-use Rattle.pi_terms.specs.Copy.{place_in}
 use Rattle.pi_terms.specs.Numbers.{noted}
 use Rattle.pi_terms.proofs.CopyLemmas.{firsts-new, firsts-known}
 use Rattle.pi_terms.proofs.VariableLemmas.{Has, Has-firsts, Has-from_firsts}
@@ -41,25 +38,3 @@ pub contains_from : (xs : List ℕ) (n : ℕ) → Has xs n → Contains xs n
 contains_from [] n h = absurd h
 contains_from (x ∷ xs) n (inl e) = (0, omega arith, e)
 contains_from (x ∷ xs) n (inr h) = let r : Contains xs n = contains_from xs n h in let within = r.1 in (suc r.0, omega arith, r.2)
-
-cond-none : (b : Bool) (k : ℕ) → cond b (Some k) None ≡ None → b ≡ false
-cond-none true k e = cc
-cond-none false k e = refl
-
-same-test : (n m : ℕ) → nat_eq n m ≡ (m == n)
-same-test n m = elim (cases_Bool (nat_eq n m)) [
-  | inl hit ↦ hit ∙ sym (eq-eqb m n (sym (eqb-true n m hit)))
-  | inr miss ↦ elim (cases_Bool (m == n)) [
-    | inl there ↦ let here : nat_eq n m ≡ true = eq-eqb n m (sym (eqb-true m n there)) in cc
-    | inr other ↦ miss ∙ sym other
-  ]
-]
-
--- a number that has no place would get the next one
-pub no-place : (xs : List ℕ) (n : ℕ) → position (nat_eq n) xs ≡ None → place_in xs n ≡ length xs
-no-place xs n none =
-    let here : ℕ = position_or_len (nat_eq n) xs in
-    let miss : nat_lt here (length xs) ≡ false = cond-none (nat_lt here (length xs)) here none in
-    let within : here ≤ length xs = prefix_len-le-length _ xs in
-    let same : place_in xs n ≡ here = ap (λ p. position_or_len p xs) (fun_ext (λ m. sym (same-test n m))) in
-    same ∙ grind (arith, miss, within)

@@ -2,7 +2,6 @@ pub mod BareCells
 pub mod Copy
 pub mod ListCopies
 pub mod ListNames
-pub mod Names
 pub mod Numbers
 pub mod Order
 pub mod OrderLaws

@@ -2,7 +2,6 @@
 #![tactic(auto)]
 
 mod args;
-mod atoms;
 pub mod laws;
 mod numbers;
 mod series;
@@ -10,7 +9,6 @@ mod term;
 mod text;
 
 pub use args::Args;
-pub use atoms::Atoms;
 pub use numbers::Numbers;
 pub use series::Series;
 pub use term::{Term, TermCell, TermHead};

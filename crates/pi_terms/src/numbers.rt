@@ -3,28 +3,34 @@ ghost use Rattle.std.specs.Prelude.{◌≡◌, ◌<◌, ◌+◌, [], length, IfO
 ghost use Rattle.pi_terms.specs.Copy.{place_in};
 ghost use Rattle.pi_terms.specs.Numbers.{noted};
 
-use indexmap::IndexSet;
 use std::alloc::{AllocError, Global};
+use std::collections::HashMap;
 use std::marker::Model;
 
 /// Numbers of variables, each once, in the order in which they were met. A contract sees the list of them.
 pub struct Numbers {
-    met: IndexSet<u64>,
+    met: Vec<u64>,
+    // The place of each.
+    places: HashMap<u64, usize>,
 }
 
 // By hand, so that letting one go is a call and not its parts at each way out.
 impl Drop for Numbers {
     fn drop(self) {
-        let Numbers { met: _ } = self;
+        let Numbers { met: _, places: _ } = self;
     }
 }
 
 impl Model for Numbers {
-    ghost use Rattle.std.specs.Prelude.{List, ℕ};
+    ghost use Rattle.std.specs.Prelude.{List, ℕ, nat_eq, ◌≡◌};
+    ghost use Rattle.std.specs.List.{position};
+    ghost use Rattle.std.specs.HashMap.{get};
 
     ghost Value = { List ℕ };
 
-    ghost view = { λ a. a.met.keys };
+    ghost view = { λ a. a.met.items };
+
+    ghost invariant = { λ a. (n : ℕ) → get nat_eq a.places n ≡ position (nat_eq n) a.met.items };
 }
 
 impl Numbers {
@@ -33,7 +39,8 @@ impl Numbers {
         ensures { result ≡ [] }
     {
         Numbers {
-            met: IndexSet::new(alloc),
+            met: Vec::new(alloc),
+            places: HashMap::new(alloc),
         }
     }
 
@@ -42,7 +49,13 @@ impl Numbers {
         ensures ok { IfOk result (λ _. self.new ≡ noted self.old n) }
         ensures err { OnErr result (self.new ≡ self.old) }
     {
-        self.met.insert(n)?;
+        if self.places.contains_key(&n) {
+            return Ok(());
+        }
+        // Room first, so that nothing is refused once the map has the number.
+        self.met.reserve(1)?;
+        self.places.insert(n, self.met.len())?;
+        self.met.push(n)?;
         Ok(())
     }
 
@@ -50,7 +63,7 @@ impl Numbers {
     pub fn len(&self) -> usize
         ensures { result ≡ length self.now }
     {
-        self.met.as_slice().len()
+        self.met.len()
     }
 
     /// The place of a number that was met, counted from 0.
@@ -59,17 +72,16 @@ impl Numbers {
         ensures place { result ≡ place_in self.now n }
         ensures within { result < length self.now }
     {
-        self.met.get_index_of(&n).unwrap()
+        self.places[&n]
     }
 
     /// The number of one, counted from 1; of one that wasn't met the next number.
     pub fn number_of(&self, n: u64) -> usize
         ensures { result ≡ place_in self.now n + 1 }
     {
-        let met = self.met.as_slice();
-        match self.met.get_index_of(&n) {
+        match self.places.get(&n) {
             Some(place) => place + 1,
-            None => met.len() + 1,
+            None => self.met.len() + 1,
         }
     }
 

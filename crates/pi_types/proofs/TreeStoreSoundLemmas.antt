@@ -5,7 +5,7 @@ use Rattle.std.specs.Prelude.{slice_get, slice_set, slice_index_or, IsTrue, â—Œâ
 use Rattle.pi_terms.specs.Tree.{Tree, comp, Trees}
 use Rattle.pi_terms.specs.Variables.{IsGround}
 use Rattle.pi_types.specs.TreeStore.{trees_in, term_tree, grown, trees_of, name_at}
-use Rattle.pi_terms.specs.Names.{HasDistinct}
+use Rattle.pi_atoms.specs.Names.{HasDistinct}
 use Rattle.pi_types.specs.TreeStoreWalks.{AllWatchedBelow, watched_ref, variable_at, changed}
 use Rattle.pi_types.specs.TreeStoreSound.{IsSoundTerm, IsSoundState, IsSoundVariable, IsSoundAgent, IsKnownBelow, IsMadeBelow, IsSound}
 use Rattle.pi_states.specs.declared.event.Watch.{Watch}

@@ -34,7 +34,7 @@ pub use Rattle.pi_states.specs.Store
 pub use Rattle.pi_states.specs.Unify
 pub use Rattle.pi_states.specs.Evaluation
 pub use Rattle.pi_states.specs.HeadMatch
-pub use Rattle.pi_terms.specs.Names
+pub use Rattle.pi_atoms.specs.Names
 pub use Rattle.pi_types.specs.TreeStore
 pub use Rattle.pi_types.specs.TreeStoreWalks
 pub use Rattle.pi_types.specs.TreeStoreSound

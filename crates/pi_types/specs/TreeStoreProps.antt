@@ -3,7 +3,7 @@ use Rattle.std.specs.Prelude.{ℕ, List, [], ◌∷◌, Bool}
 use mathlib.Core.HLevel.{×_prop, Unit-prop}
 use Rattle.std.proofs.Props.{props}
 use Rattle.pi_terms.specs.Tree.{Tree}
-use Rattle.pi_terms.specs.Names.{HasDistinct}
+use Rattle.pi_atoms.specs.Names.{HasDistinct}
 use Rattle.pi_types.specs.TreeStoreWalks.{AllBelow, AllWatchedBelow}
 use Rattle.pi_types.specs.TreeStoreSound.{IsSoundCompound, IsSoundTerm, IsKnownBelow, IsMadeBelow, IsSoundVariable, IsSoundAgent, IsSoundState, IsSound}
 use Rattle.pi_states.specs.declared.store.Ref.{Ref}

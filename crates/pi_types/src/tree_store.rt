@@ -17,9 +17,10 @@ mod terms;
 
 use crate::tree_store::copied::Copied;
 use crate::tree_store::state::{Change, Known, StoredAgent, StoredTerm, StoredVariable, TreeState};
+use pi_atoms::Atoms;
 use pi_constraints::{Constraint, Domain};
 use pi_states::{Activation, AgentView, Cell, Places, ReadStop, Ref, StateStore, Watches};
-use pi_terms::{Atoms, Series, Term};
+use pi_terms::{Series, Term};
 use std::alloc::{AllocError, Global};
 use std::mem;
 

@@ -9,8 +9,9 @@ ghost use Rattle.pi_terms.specs.BareCells.{bare};
 ghost use Rattle.pi_types.specs.TreeStoreRead.{entered_cell, entered_args, turned, IsReadable, StopsAt};
 
 use crate::tree_store::state::{StoredTerm, TreeState};
+use pi_atoms::Atoms;
 use pi_states::{ReadStop, Ref};
-use pi_terms::{Atoms, Term, TermCell, Text};
+use pi_terms::{Term, TermCell, Text};
 use std::alloc::{AllocError, Global};
 
 /// The most cells of a term that is read. The number is own.

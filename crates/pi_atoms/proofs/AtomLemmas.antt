@@ -1,5 +1,5 @@
 -- The names of atoms: a table of strings stays without two that are the same.
-use Rattle.std.proofs.Common.{◌≡◌, ◌⊎◌, ℕ, zero, suc, Bool, true, false, List, [], ◌∷◌, ◌++◌, Some, refl, ap, sym, ◌∙◌, inl, inr, map, subst, if◌then◌else◌}
+use Rattle.std.proofs.Common.{◌≡◌, ◌⊎◌, ℕ, zero, suc, Bool, true, false, List, [], ◌∷◌, ◌++◌, length, Some, refl, ap, sym, ◌∙◌, inl, inr, map, subst, if◌then◌else◌}
 use Rattle.std.proofs.Math.ListN.{get_or}
 use Rattle.std.specs.Prelude.{slice_get, position, ◌||◌, option_map, String}
 use Rattle.std.specs.List.{list_any}
@@ -10,8 +10,7 @@ use Rattle.std.proofs.lemmas.Slice.Eq.{bytes_eq-Decides}
 use Rattle.std.proofs.lemmas.List.{map-append, append-nil}
 use Rattle.std.proofs.lemmas.List.Quantifiers.{position-Some}
 use Rattle.std.proofs.lemmas.Option.{slice_get-get_or, slice_get-map}
-use Rattle.pi_terms.proofs.GetLemmas.{get_append_cases}
-use Rattle.pi_terms.specs.Names.{HasDistinct, Gains}
+use Rattle.pi_atoms.specs.Names.{HasDistinct, Gains}
 
 abbrev Strings : Type 0
 Strings = List (String Global)
@@ -55,14 +54,21 @@ at_place (k ∷ ks) y i e =
 pub stored_as : (ks : Strings) (i : ℕ) (value k : String Global) (y : List ℕ) → string_bytes value ≡ y → slice_get ks i ≡ Some k → bytes_eq (string_bytes value) (string_bytes k) ≡ true → slice_get (bytes_of ks) i ≡ Some y
 stored_as ks i value k y s e h = stored ks i k (string_bytes value) e h ∙ ap Some s
 
+-- a name at a place of more names was at that place, or it is the last
+at_last : (names : List (List ℕ)) (y : List ℕ) (i : ℕ) (name : List ℕ) → slice_get (names ++ y ∷ []) i ≡ Some name → (slice_get names i ≡ Some name) ⊎ ((i ≡ length names) × (name ≡ y))
+at_last [] y zero name e = inr (refl, cc)
+at_last [] y (suc i) name e = absurd (cc)
+at_last (n ∷ names) y zero name e = inl e
+at_last (n ∷ names) y (suc i) name e = elim (at_last names y i name e) [ inl h ↦ inl h | inr h ↦ inr (ap suc h.0, h.1) ]
+
 distinct_last : (names : List (List ℕ)) (y : List ℕ) → HasDistinct names → ((i : ℕ) → slice_get names i ≡ Some y → ⊥) → HasDistinct (names ++ y ∷ [])
 distinct_last names y d new = record {
-  same = λ j k name p q. elim (get_append_cases names y j name p) [
-    | inl h ↦ elim (get_append_cases names y k name q) [
+  same = λ j k name p q. elim (at_last names y j name p) [
+    | inl h ↦ elim (at_last names y k name q) [
       | inl i ↦ d.same j k name h i
       | inr i ↦ let at : slice_get names j ≡ Some y = h ∙ ap Some i.1 in absurd (new j at)
     ]
-    | inr h ↦ elim (get_append_cases names y k name q) [
+    | inr h ↦ elim (at_last names y k name q) [
       | inl i ↦ let at : slice_get names k ≡ Some y = i ∙ ap Some h.1 in absurd (new k at)
       | inr i ↦ h.0 ∙ sym i.0
     ]

@@ -1,6 +1,6 @@
 //! Names, each with a number.
 ghost use Rattle.std.specs.Prelude.{◌≡◌, ℕ, List, [], length, Some, slice_get, slice_index_or, IfOk};
-ghost use Rattle.pi_terms.specs.Names.{HasDistinct, Gains};
+ghost use Rattle.pi_atoms.specs.Names.{HasDistinct, Gains};
 
 use indexmap::IndexSet;
 use std::alloc::{AllocError, Global};
@@ -24,7 +24,7 @@ impl Model for Atoms {
 
     ghost Value = { List (List ℕ) };
 
-    ghost use Rattle.pi_terms.specs.Names.{HasDistinct};
+    ghost use Rattle.pi_atoms.specs.Names.{HasDistinct};
 
     ghost view = { λ a. map string_bytes a.names.keys };
 

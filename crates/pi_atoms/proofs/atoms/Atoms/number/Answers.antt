@@ -1,6 +1,6 @@
 use Rattle.std.proofs.Common.{sym, ◌∙◌}
-use Rattle.pi_terms.proofs.AtomLemmas.{at_place, stored_as, grows_after, distinct_after}
-use Rattle.pi_terms.proofs.atoms.Atoms.number.Goals as goal
+use Rattle.pi_atoms.proofs.AtomLemmas.{at_place, stored_as, grows_after, distinct_after}
+use Rattle.pi_atoms.proofs.atoms.Atoms.number.Goals as goal
 
 pub returns-in-Some-clause-ok : goal.returns-in-Some-clause-ok
 returns-in-Some-clause-ok c = rw (← c.self.view_is) (at_place c.self.inside.names.keys _ _ (sym c.get_index_of.ensures.index ∙ c.in-Some.is))
