@@ -1,6 +1,6 @@
 use Rattle.std.specs.Prelude.{MatchOption}
 use Rattle.pi_clauses.specs.declared.names.calls.Called.{Called}
-use Rattle.std.proofs.Common.{◌≡◌, [], ◌∷◌, Option, subst, refl, sym, ◌∙◌, ap}
+use Rattle.std.proofs.Common.{length, arith, ◌≡◌, [], ◌∷◌, Option, subst, refl, sym, ◌∙◌, ap}
 use Rattle.pi_clauses.specs.Called.{named_by, calls_ahead}
 use Rattle.pi_clauses.specs.Calls.{first_unknown}
 use Rattle.pi_clauses.proofs.judging.JudgeLemmas.{unknown_past, unknown_met}
@@ -17,3 +17,6 @@ loop-ahead-preserved c = λ all is. c.loop-ahead.invariant all is ∙ unknown_pa
 
 pub returns : goal.returns
 returns c = λ all is. sym (c.loop-ahead.invariant all is ∙ ap (first_unknown all) (subst (λ (o : Option Called). MatchOption o (calls_ahead c.loop-ahead.ahead ≡ []) (λ d. calls_ahead c.loop-ahead.ahead ≡ named_by d ∷ calls_ahead c.next.new.self)) c.in_default.is c.in_ok-called.ensures))
+
+pub loop-ahead-smaller : goal.loop-ahead-smaller
+loop-ahead-smaller c = omega (arith, ap length (subst (λ (o : Option Called). MatchOption o (calls_ahead c.loop-ahead.ahead ≡ []) (λ d. calls_ahead c.loop-ahead.ahead ≡ named_by d ∷ calls_ahead c.next.new.self)) c.in-Some.is c.in_ok-called.ensures))

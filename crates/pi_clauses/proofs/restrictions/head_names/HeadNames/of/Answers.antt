@@ -1,4 +1,4 @@
-use Rattle.std.proofs.Common.{◌≡◌, [], ◌∷◌, Option, subst}
+use Rattle.std.proofs.Common.{length, arith, ap, ◌≡◌, [], ◌∷◌, Option, subst}
 use Rattle.std.specs.Prelude.{MatchOption}
 use Rattle.pi_clauses.specs.declared.nodes.walk.Node.{Node}
 use Rattle.pi_syntax.specs.ExpTree.{exp_tree}
@@ -15,3 +15,6 @@ loop-walk-preserved c = names_more c.loop-walk.names c.insert.new.self c.in-Some
 
 pub returns : goal.returns
 returns c = names_all c.loop-walk.names (exp_tree c.args.head.now) (nodes_ahead c.loop-walk.walk) (nodes_ahead c.in_ok-walk.walk) (subst (λ (o : Option Node). MatchOption o (nodes_ahead c.loop-walk.walk ≡ []) (λ n. nodes_ahead c.loop-walk.walk ≡ shown_node n ∷ nodes_ahead c.next.new.self)) c.in_default.is c.in_ok-node.ensures) c.in_ok-walk.ensures c.loop-walk.invariant
+
+pub loop-walk-smaller : goal.loop-walk-smaller
+loop-walk-smaller c = omega (arith, ap length (subst (λ (o : Option Node). MatchOption o (nodes_ahead c.loop-walk.walk ≡ []) (λ n. nodes_ahead c.loop-walk.walk ≡ shown_node n ∷ nodes_ahead c.next.new.self)) c.in-Some.is c.in_ok-node.ensures))
