@@ -1,7 +1,7 @@
 -- The arguments of a compound, matched one after the other.
-use Rattle.std.proofs.Common.{◌≡◌, ℕ, suc, ◌+◌, ◌<◌, Bool, true, List, [], length, drop, Option, Some, None, refl, ap, sym, ◌∙◌, subst, arith}
+use Rattle.std.proofs.Common.{◌≡◌, ℕ, ◌+◌, Bool, true, List, [], length, drop, Option, Some, None, refl, ap, sym, ◌∙◌, subst}
 use Rattle.std.specs.Option.{option_and_then}
-use Rattle.pi_terms.specs.Tree.{Tree, Trees, args, arity, drop_trees}
+use Rattle.pi_terms.specs.Tree.{Tree, Trees, args, drop_trees}
 use Rattle.pi_terms.specs.Places.{Places}
 use Rattle.pi_terms.specs.PatternTree.{PatternTree, PatternTrees, compound}
 use Rattle.pi_states.specs.Value.{Bindings}
@@ -11,12 +11,12 @@ use Rattle.pi_states.specs.HeadMatch.{matched_in, matched_all_in}
 use Rattle.pi_core.specs.CoreTree.{pattern_tree, pattern_trees}
 use Rattle.pi_core.specs.declared.core_program.Pattern.{Pattern}
 use Rattle.pi_states.specs.declared.store.Ref.{Ref}
-use Rattle.pi_unify.specs.Terms.{IsGiven, term_of}
-use Rattle.pi_unify.specs.Matching.{root_match, FitsRoot, IsWithin, IsLeft, left_match, pending_match, slot_terms, HoldAllGiven, TellsMatch, HasAsMany, arguments_match, is_compound_of, pattern_count}
+use Rattle.pi_unify.specs.Terms.{term_of}
+use Rattle.pi_unify.specs.Matching.{root_match, FitsRoot, pending_match, slot_terms, HoldAllGiven, TellsMatch, HasAsMany, arguments_match, is_compound_of, pattern_count}
 use Rattle.pi_unify.specs.declared.matching.Pending.{Pending}
 use Rattle.pi_unify.specs.declared.matching.Arguments.{Arguments}
 use Rattle.pi_unify.proofs.PatternLemmas.{count-trees}
-use Rattle.pi_unify.proofs.MatchingLemmas.{behind_match, after, after_match, left_from_next, IsNext, Fitting, fitting, fits_from_match, none_from_root, drop_all, drop_all_trees, IsLeaf, leaf_bare, bare_match, passed}
+use Rattle.pi_unify.proofs.MatchingLemmas.{behind_match, after, after_match, left_from_next, IsNext, Fitting, fitting, fits_from_match, drop_all, drop_all_trees, IsLeaf, leaf_bare, bare_match, passed}
 
 -- a pattern without parts is matched at its root
 pub leaf_told : (found : Bool) (b : Bindings) (p : Pattern) (t : Tree) (e f : Places) → IsLeaf p → TellsMatch found (root_match b (pattern_tree p) t e) f → TellsMatch found (matched_in b (pattern_tree p) t e) f

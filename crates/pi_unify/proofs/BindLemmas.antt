@@ -1,6 +1,6 @@
 -- What the calls on variables make of a state.
-use Rattle.std.proofs.Common.{◌≡◌, ℕ, suc, ◌<◌, ◌≤◌, Bool, true, false, cond, not, ◌&&◌, List, [], ◌∷◌, Option, Some, None, Result, Ok, Err, zero, length, refl, ap, sym, ◌∙◌, subst, arith}
-use Rattle.std.specs.Prelude.{ℤ, IfOk, OnOk, IsNone}
+use Rattle.std.proofs.Common.{◌≡◌, true≢false, is_err, ℕ, suc, ◌<◌, ◌≤◌, Bool, true, false, cond, not, ◌&&◌, List, [], ◌∷◌, Option, Some, None, Result, Ok, Err, zero, length, refl, ap, sym, ◌∙◌, subst, arith}
+use Rattle.std.specs.Prelude.{ℤ, IfOk, OnOk, OnErr, IsNone}
 use Rattle.pi_terms.specs.Tree.{Tree, var, int}
 use Rattle.pi_terms.specs.Places.{held}
 use Rattle.pi_terms.specs.Variables.{Occurs}
@@ -29,6 +29,18 @@ on_ok (Err e) P R h f = tt
 pub if_ok : {A E : Type 0} (r : Result A E) (P Q : A → Type 0) → IfOk r P → ((x : A) → P x → Q x) → IfOk r Q
 if_ok (Ok x) P Q h f = f x h
 if_ok (Err e) P Q h f = tt
+
+pub if_any : {A E : Type 0} (r : Result A E) (P : A → Type 0) → ((x : A) → P x) → IfOk r P
+if_any (Ok x) P f = f x
+if_any (Err y) P f = tt
+
+pub either_way : {A E : Type 0} (r : Result A E) (P : A → Type 0) (R : Type 0) → IfOk r P → OnErr r R → ((x : A) → P x → R) → R
+either_way (Ok x) P R h k f = f x h
+either_way (Err y) P R h k f = k
+
+pub if_err : {A E : Type 0} (r : Result A E) (P : A → Type 0) → is_err r ≡ true → IfOk r P
+if_err (Ok x) P e = absurd (true≢false (sym e))
+if_err (Err y) P e = tt
 
 pub narrow_is : {M : Type 0} (v w z : StoreView M) (low high : Variable) (d : List Span) → IsState v.now.state → IsVariable v low → IsVariable v high → low.number < high.number → 2 ≤ size_of d → Keeps v w → Binds v w high.at low.at → Confines w z low.at d → z.now.state ≡ with_domain (with_binding v.now.state high.number (var low.number)) low.number d
 narrow_is v w z low high d is l h less two keeps binds confines =

@@ -1,7 +1,8 @@
 -- Variables that are met one after the other, and their domains.
-use Rattle.std.proofs.Common.{◌≡◌, ℕ, ◌+◌, ◌≤◌, ◌<◌, List, [], ◌∷◌, ◌++◌, Option, None, length, take, inl, inr, refl, sym, ◌∙◌, ap, subst, add-one, arith}
+use Rattle.std.proofs.Common.{◌≡◌, ℕ, ◌+◌, ◌≤◌, ◌<◌, List, [], ◌∷◌, ◌++◌, Option, None, length, take, get_or, inl, inr, refl, sym, ◌∙◌, ap, subst, add-one, arith}
 use Rattle.std.specs.Prelude.{nat_eq}
 use Rattle.std.specs.List.{list_any, flat_map}
+use Rattle.std.proofs.Math.Seq.{take-suc}
 use Rattle.std.proofs.lemmas.Bool.{cases_Bool}
 use Rattle.std.proofs.lemmas.Grind.{flat_map-append}
 use Rattle.std.proofs.lemmas.List.{append_assoc, append-nil, length-append, get_or_past, take_all}
@@ -15,6 +16,7 @@ use Rattle.pi_states.specs.Store.{StoreView, IsTerm}
 use Rattle.pi_states.specs.ToldDomains.{told_domain, told_domains}
 use Rattle.pi_constraints.specs.declared.domain.Span.{Span}
 use Rattle.pi_states.specs.declared.store.Ref.{Ref}
+use Rattle.pi_core.specs.declared.answer.NamedTerm.{NamedTerm}
 use Rattle.pi_terms.specs.declared.term.TermHead.{TermHead}
 use Rattle.pi_constraints.specs.declared.var_domain.VarDomain.{VarDomain}
 use Rattle.pi_states.proofs.FollowLemmas.{followed_itself}
@@ -23,7 +25,7 @@ use Rattle.pi_terms.proofs.TermLemmas.{subterm_for_each_cell}
 use Rattle.pi_unify.specs.Copying.{root_variables}
 use Rattle.pi_unify.proofs.BuildLemmas.{NodeAt, root_variables-append, root_variables-subterms, no_root_variable, no_variables}
 use Rattle.pi_unify.specs.declared.domains.Met.{Met}
-use Rattle.pi_unify.specs.Domains.{AreUnbound, HasMet}
+use Rattle.pi_unify.specs.Domains.{AreUnbound, HasMet, occurring}
 
 -- ---- the domain of one variable
 
@@ -120,3 +122,10 @@ node-passed s ns us i head met at other has =
 pub nodes-met : (s : State) (ns : List ℕ) (t : Tree) (i : ℕ) (met : Met) → cells t ≤ i → HasMet s (before_node ns (subterms t) i) met → HasMet s (ns ++ occurrences t) met
 nodes-met s ns t i met all has =
     subst (λ ms. HasMet s (ns ++ ms) met) (ap root_variables (take_all i (subterms t) (omega (arith, all, subterm_for_each_cell t))) ∙ root_variables-subterms t) has
+
+-- ---- value by value
+
+pub occurring-more : (values : List NamedTerm) (i : ℕ) (value : NamedTerm) → i < length values → value ≡ get_or values i value → occurring (take (i + 1) values) ≡ occurring (take i values) ++ occurrences value.value
+occurring-more values i value within is =
+    let more : take (i + 1) values ≡ take i values ++ value ∷ [] = ap (λ k. take k values) (add-one i) ∙ take-suc values i value within ∙ ap (λ v. take i values ++ v ∷ []) (sym is) in
+    ap occurring more ∙ flat_map-append (λ (v : NamedTerm). occurrences v.value) (take i values) (value ∷ []) ∙ ap (λ ns. occurring (take i values) ++ ns) (append-nil (occurrences value.value))

@@ -12,7 +12,7 @@ use Rattle.pi_states.specs.HeadMatch.{matched_in, slot_values}
 use Rattle.pi_core.specs.CoreTree.{pattern_tree}
 use Rattle.pi_states.specs.declared.store.Ref.{Ref}
 use Rattle.pi_states.proofs.HeadMatchLemmas.{matches-by_value}
-use Rattle.pi_unify.specs.Terms.{IsGiven, HoldsNoCycle, term_of}
+use Rattle.pi_unify.specs.Terms.{IsGiven, term_of}
 use Rattle.pi_unify.specs.Matching.{root_match, FitsRoot, AreLeft, match_with, pending_match, GoesBehind, EndsBehind, slot_terms, HoldAllGiven, TellsMatch}
 use Rattle.pi_unify.specs.declared.matching.Pending.{Pending}
 use Rattle.pi_unify.specs.declared.matching.Arguments.{Arguments}

@@ -193,6 +193,9 @@ looking_first v n r fs none ref = record {
   same = ap (λ (gs : List (Rest Ref)). some_hold (bindings v.now.state) n (term_and v r gs)) (sym none) ∙ one_held (bindings v.now.state) n (term_of v r);
 }
 
+pub looking_next : {M : Type 0} (v : StoreView M) (n : ℕ) (from at next : Ref) (fs gs : List (Rest Ref)) → Looking v n from at fs → LooksFor v n (term_and v at fs) (Look.Next next) gs → Looking v n from next gs
+looking_next v n from at next fs gs so step = record { term = step.0; args = step.1; same = sym step.2 ∙ so.same }
+
 -- ---- a compound that is seen to hold others alone
 
 pub others_first : {M : Type 0} (v : StoreView M) (n : ℕ) (r : Ref) → some_hold (bindings v.now.state) n (in_list (args (root_of v r))) ≡ some_hold (bindings v.now.state) n (in_list (args_from v r 0))

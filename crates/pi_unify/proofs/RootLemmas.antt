@@ -201,3 +201,7 @@ shown_other v t (Cell.Comp f k) other shows = λ m e. let is : t ≡ comp shows.
 
 pub less_if : (m n : ℕ) → n ≢ m → m ≤ n → m < n
 less_if m n other more = grind arith
+
+pub refused_at_clash : (one : Bool) (roots : Roots) → roots ≡ (if one then Roots.Same else Roots.Clash) → roots ≡ Roots.Clash → one ≡ false
+refused_at_clash true roots is clashes = let same : Roots.Same ≡ Roots.Clash = sym is ∙ clashes in cc
+refused_at_clash false roots is clashes = refl

@@ -1,9 +1,9 @@
 -- One pair and what is left behind it.
-use Rattle.std.proofs.Common.{◌≡◌, ℕ, zero, suc, ◌<◌, false, List, [], ◌∷◌, ◌++◌, Option, Some, refl, ap, sym, ◌∙◌, subst, inr, arith}
+use Rattle.std.proofs.Common.{◌≡◌, ℕ, zero, suc, ◌<◌, Bool, false, List, [], ◌∷◌, ◌++◌, Option, Some, refl, ap, sym, ◌∙◌, subst, inr, arith}
 use Rattle.pi_terms.specs.Tree.{Tree, var, int, atom, comp, Trees, no_trees, tree, args, arity, tree_count, drop_trees}
 use Rattle.pi_terms.specs.Variables.{Occurs, OccursInAny}
-use Rattle.pi_states.specs.State.{State, next, IsState}
-use Rattle.pi_states.specs.Store.{StoreView, Keeps}
+use Rattle.pi_states.specs.State.{State, next, IsState, SpeaksBelow}
+use Rattle.pi_states.specs.Store.{StoreView, IsTerm, Keeps}
 use Rattle.pi_states.specs.Unify.{Pair, in_pairs, Outcome, clash, changed, parts, outcome, go_on, all_unified, unified, pairs_ahead, PairsBelow, Grows}
 use Rattle.pi_states.specs.declared.store.Ref.{Ref}
 use Rattle.pi_states.proofs.UnifyBindings.{grows-refl}
@@ -18,7 +18,7 @@ use Rattle.pi_unify.specs.declared.unifier.Step.{Step}
 use Rattle.pi_unify.specs.declared.ahead.Rest.{Rest}
 use Rattle.pi_unify.specs.declared.ahead.RefPair.{RefPair}
 use Rattle.pi_unify.specs.Rests.{with_all}
-use Rattle.pi_unify.proofs.RefLemmas.{ref_root, ref_kept, root_kept}
+use Rattle.pi_unify.proofs.RefLemmas.{term_is, ref_of_term, ref_root, ref_kept, root_kept}
 use Rattle.pi_unify.proofs.RestLemmas.{some_put}
 use Rattle.pi_unify.proofs.AheadLemmas.{pairs_on-push, are_pairs-push}
 
@@ -201,6 +201,17 @@ unifying_first v a b fs none p = record {
   pair = record { left = p.left; right = p.right; ahead = subst (λ (gs : List (Rest RefPair)). ArePairs v gs) none tt };
   same = ap (λ (gs : List (Rest RefPair)). all_unified v.now.state (pair_and v a b gs)) none;
 }
+
+pub unifying_next : {M : Type 0} (v w x : StoreView M) (a b c d p q : Ref) (fs gs : List (Rest RefPair)) → Unifying v w a b c d fs → Steps w (pair_and w c d fs) (Step.Next p q) x gs → Unifying v x a b p q gs
+unifying_next v w x a b c d p q fs gs so step = record { state = step.0; pair = step.1; same = so.same ∙ step.2 }
+
+pub are_terms : {M : Type 0} (v : StoreView M) (a b : Ref) (t u : Tree) → IsState v.now.state → IsTerm v a t → IsTerm v b u → SpeaksBelow (next v.now.state) t → SpeaksBelow (next v.now.state) u → AreTerms v a b
+are_terms v a b t u is left right left_below right_below = record { state = is; left = ref_of_term v a t left left_below; right = ref_of_term v b u right right_below }
+
+pub unifying_done : {M : Type 0} (v w x : StoreView M) (a b c d : Ref) (fs gs : List (Rest RefPair)) (t u : Tree) (one : Bool) → IsTerm v a t → IsTerm v b u → Unifying v w a b c d fs → Steps w (pair_and w c d fs) (Step.Done one) x gs → Answers (unified v.now.state t u) one x.now.state
+unifying_done v w x a b c d fs gs t u one left right so step =
+    let terms : unified v.now.state t u ≡ unified v.now.state (term_of v a) (term_of v b) = ap (λ k. unified v.now.state k u) (sym (term_is v a t left)) ∙ ap (unified v.now.state (term_of v a)) (sym (term_is v b u right)) in
+    subst (λ (r : Option State). Answers r one x.now.state) (sym (terms ∙ so.same)) step
 
 pub keeps-refl : {M : Type 0} (v : StoreView M) → Keeps v v
 keeps-refl v = record { good = λ m h. h; same = λ m h. refl; terms = λ r t h. h; names = λ k name h. h }

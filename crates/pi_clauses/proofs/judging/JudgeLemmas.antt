@@ -1,12 +1,13 @@
 -- Loops over parts, by the parts that are left.
-use Rattle.std.proofs.Common.{◌≡◌, ℕ, ◌+◌, ◌<◌, ◌≤◌, suc, Bool, true, false, cond, List, [], ◌∷◌, ◌++◌, length, take, drop, get_or, map, Option, Some, None, refl, ap, ◌∙◌, sym, subst, arith, length-take}
+use Rattle.std.proofs.Common.{◌≡◌, ℕ, ◌+◌, ◌<◌, ◌≤◌, suc, Bool, true, false, cond, ◌||◌, List, [], ◌∷◌, ◌++◌, length, take, drop, get_or, map, Option, Some, None, refl, ap, ◌∙◌, sym, subst, arith, length-take}
 use Rattle.std.proofs.lemmas.List.{get_or-map, length-map, take_more, take_all, drop_all}
 use Rattle.std.proofs.Math.Seq.{drop-cons}
 use Rattle.pi_clauses.specs.Called.{named_by}
-use Rattle.pi_clauses.specs.Calls.{Named, first_unknown}
+use Rattle.pi_clauses.specs.Calls.{Named, first_unknown, is_known}
 use Rattle.pi_clauses.specs.Defined.{IsSetOf}
+use Rattle.pi_clauses.specs.Items.{is_fact}
 use Rattle.pi_clauses.specs.Seen.{seen}
-use Rattle.pi_clauses.specs.Verdict.{as_list, defined_by, all_defined, first_faulty, part_fault, first_unknown_in, part_calls, PartFault, Faulty, faulty_or, Unknown, unknown_or, first_apart, stands_apart}
+use Rattle.pi_clauses.specs.Verdict.{JudgedPart, JudgedClause, clause_fault, declares_badly, names_badly, is_kind_of_other, is_indexed, is_bad_clause, all_indexed, BadDeclaration, BadClause, TooManyVariables, as_list, defined_by, all_defined, first_faulty, part_fault, first_unknown_in, part_calls, PartFault, Faulty, faulty_or, Unknown, unknown_or, first_apart, stands_apart}
 use Rattle.pi_clauses.specs.Judge.{IsEarlier}
 use Rattle.pi_clauses.specs.declared.names.calls.Called.{Called}
 use Rattle.pi_clauses.specs.declared.names.definitions.Definitions.{Definitions}
@@ -117,3 +118,36 @@ apart_found earlier last name ps i p here is some old apart =
 
 pub none_apart : (earlier : Definitions) (last : Option Called) (ps : List PartReading) (i : ℕ) → length ps ≤ i → Apart earlier last ps i → None ≡ first_apart [] (all_defined (map seen ps))
 none_apart earlier last ps i end old = sym (old.same ∙ ap (λ ss. first_apart old.before (all_defined ss)) (no_more ps i end))
+
+-- ---- calls, one after the other
+
+pub unknown_past : (all ahead rest : List Named) (d : Named) (knows : Bool) → ahead ≡ d ∷ rest → knows ≡ is_known all d → knows ≡ true → first_unknown all ahead ≡ first_unknown all rest
+unknown_past all ahead rest d knows first is known = ap (first_unknown all) first ∙ ap (λ k. cond k (first_unknown all rest) (Some d)) (sym is ∙ known)
+
+pub unknown_met : (all ahead rest : List Named) (d : Named) (knows : Bool) → ahead ≡ d ∷ rest → knows ≡ is_known all d → knows ≡ false → first_unknown all ahead ≡ Some d
+unknown_met all ahead rest d knows first is known = ap (first_unknown all) first ∙ ap (λ k. cond k (first_unknown all rest) (Some d)) (sym is ∙ known)
+
+-- ---- the fault of a clause
+
+or_joined : (a b c : Bool) → (a || (b || c)) ≡ ((a || b) || c)
+or_joined true b c = refl
+or_joined false b c = refl
+
+pub fault_of_declaration : (all : List Named) (parts : List JudgedPart) (clause : JudgedClause) → declares_badly (all_defined parts) clause ≡ true → Some BadDeclaration ≡ clause_fault all parts clause
+fault_of_declaration all parts clause d = rw d refl
+
+module _ (all : List Named) (parts : List JudgedPart) (clause : JudgedClause) (b k : Bool) (d : declares_badly (all_defined parts) clause ≡ false) (names : b ≡ names_badly all clause)
+    (kind : k ≡ is_kind_of_other (is_fact clause.clause) (is_indexed (all_indexed parts) clause)) where
+  bad_by_tests : is_bad_clause all parts clause ≡ ((clause.bad_form || b) || k)
+  bad_by_tests =
+      ap (λ x. clause.bad_form || (x || is_kind_of_other (is_fact clause.clause) (is_indexed (all_indexed parts) clause))) (sym names)
+      ∙ ap (λ x. clause.bad_form || (b || x)) (sym kind) ∙ or_joined clause.bad_form b k
+
+  pub fault_of_clause : ((clause.bad_form || b) || k) ≡ true → Some BadClause ≡ clause_fault all parts clause
+  fault_of_clause bad = let e : is_bad_clause all parts clause ≡ true = bad_by_tests ∙ bad in rw (d, e) refl
+
+  pub fault_of_names : ((clause.bad_form || b) || k) ≡ false → clause.many_names ≡ true → Some TooManyVariables ≡ clause_fault all parts clause
+  fault_of_names bad many = let e : is_bad_clause all parts clause ≡ false = bad_by_tests ∙ bad in rw (d, e, many) refl
+
+  pub no_fault : ((clause.bad_form || b) || k) ≡ false → clause.many_names ≡ false → None ≡ clause_fault all parts clause
+  no_fault bad few = let e : is_bad_clause all parts clause ≡ false = bad_by_tests ∙ bad in rw (d, e, few) refl

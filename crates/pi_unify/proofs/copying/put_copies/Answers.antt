@@ -6,6 +6,7 @@ use Rattle.pi_states.specs.declared.store.Ref.{Ref}
 use Rattle.pi_unify.specs.Copying.{renumbered, AreListed, MayCopy}
 use Rattle.pi_unify.proofs.KeepsLemmas.{keeps_none, stays_then}
 use Rattle.pi_unify.proofs.CopyingLemmas.{Copying, PutsNext, none_copied, may_copy, one_copied, all_copied}
+use Rattle.pi_unify.proofs.BindLemmas.{if_err}
 use Rattle.pi_unify.proofs.copying.put_copies.Goals as goal
 
 pub loop-i-init : goal.loop-i-init
@@ -55,3 +56,22 @@ returns-clause-ok g c = λ u listed is.
     let one = all_copied v w c.args.numbers.now c.args.refs.now c.loop-i.i c.loop-i.built.items u none (c.loop-i.invariant.copying listed) is in
     let same : c.index.result.now ≡ one.0 = c.index.ensures ∙ ap (λ rs. get_or rs 0 c.index.result.now) one.1 in
     subst (λ (q : Ref). IsTerm w q (renamed (renumbered v.now.state c.args.numbers.now) u)) (sym same) one.2
+
+pub returns-in_err-made-clause-stays : goal.returns-in_err-made-clause-stays
+returns-in_err-made-clause-stays g c =
+    let v = g.S.StateStore.seen c.args.s.now in
+    stays_then v (g.S.StateStore.seen c.loop-i.s) (g.S.StateStore.seen c.put_copy.new.s) v.now.state c.loop-i.invariant.stays c.put_copy.ensures.stays
+
+pub returns-in_err-made-clause-ok : goal.returns-in_err-made-clause-ok
+returns-in_err-made-clause-ok g c = if_err c.from_residual.result _ c.from_residual.ensures.0
+
+pub returns-in_err-push-clause-stays : goal.returns-in_err-push-clause-stays
+returns-in_err-push-clause-stays g c =
+    let v = g.S.StateStore.seen c.args.s.now in
+    stays_then v (g.S.StateStore.seen c.loop-i.s) (g.S.StateStore.seen c.put_copy.new.s) v.now.state c.loop-i.invariant.stays c.put_copy.ensures.stays
+
+pub returns-in_err-push-clause-ok : goal.returns-in_err-push-clause-ok
+returns-in_err-push-clause-ok g c = if_err c.from_residual-in_err-push.result _ c.from_residual-in_err-push.ensures.0
+
+pub returns-clause-stays : goal.returns-clause-stays
+returns-clause-stays g c = c.loop-i.invariant.stays

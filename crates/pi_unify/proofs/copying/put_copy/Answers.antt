@@ -1,4 +1,4 @@
-use Rattle.std.proofs.Common.{◌≡◌, ℕ, ◌+◌, ◌≤◌, List, length, Some, ap, sym, ◌∙◌, subst, rules, arith}
+use Rattle.std.proofs.Common.{◌≡◌, ℕ, ◌+◌, ◌≤◌, List, length, Some, ap, sym, ◌∙◌, subst, rules, arith, refl}
 use Rattle.std.specs.Prelude.{Contains}
 use Rattle.std.proofs.lemmas.Result.{IfOk-weaker}
 use Rattle.pi_terms.specs.Tree.{var, int, arity}
@@ -11,6 +11,8 @@ use Rattle.pi_unify.specs.Copying.{renumbered}
 use Rattle.pi_unify.proofs.TermValues.{given_term}
 use Rattle.pi_unify.proofs.ComparisonLemmas.{shown}
 use Rattle.pi_unify.proofs.CopyingLemmas.{noted_contains, copies_variable, copies_integer, copies_atom, copies_compound, copies_ground}
+use Rattle.pi_unify.proofs.KeepsLemmas.{keeps_none}
+use Rattle.pi_unify.proofs.BindLemmas.{either_way, if_any, if_err}
 use Rattle.pi_unify.proofs.copying.put_copy.Goals as goal
 
 pub new_variable-requires : goal.new_variable-requires
@@ -75,3 +77,39 @@ returns-else-is_ground-clause-ok g c =
     (λ made so ts may put front.
     let shows : ShowsCell v u (Cell.Comp c.in-Comp.k count) = shown v c.args.node (Cell.Comp c.in-Comp.k count) may.acyclic may.given c.in-Comp.ensures.shows in
     copies_compound w (renumbered v.now.state c.args.numbers.now) u shows.0 count c.copy_compound.new.built.items made ts shows.2 shows.3 front (so shows.0 ts shows.1 put)) c.copy_compound.ensures.ok
+
+pub returns-in_err-meet-in-Var-clause-stays : goal.returns-in_err-meet-in-Var-clause-stays
+returns-in_err-meet-in-Var-clause-stays g c = record { keeps = keeps_none (g.S.StateStore.seen c.args.s.now); state = refl }
+
+pub returns-in_err-meet-in-Var-clause-known : goal.returns-in_err-meet-in-Var-clause-known
+returns-in_err-meet-in-Var-clause-known g c = if_err c.from_residual.result _ c.from_residual.ensures.0
+
+pub returns-in_err-meet-in-Var-clause-ok : goal.returns-in_err-meet-in-Var-clause-ok
+returns-in_err-meet-in-Var-clause-ok g c = if_err c.from_residual.result _ c.from_residual.ensures.0
+
+pub returns-in_ok-meet-in-Var-clause-stays : goal.returns-in_ok-meet-in-Var-clause-stays
+returns-in_ok-meet-in-Var-clause-stays g c = record { keeps = keeps_none (g.S.StateStore.seen c.args.s.now); state = refl }
+
+pub returns-in-Int-clause-stays : goal.returns-in-Int-clause-stays
+returns-in-Int-clause-stays g c = either_way c.put_int.result _ _ c.put_int.ensures.ok c.put_int.ensures.err (λ made so. so.changes)
+
+pub returns-in-Int-clause-known : goal.returns-in-Int-clause-known
+returns-in-Int-clause-known g c = if_any c.put_int.result _ (λ made may. refl)
+
+pub returns-in-Atom-clause-stays : goal.returns-in-Atom-clause-stays
+returns-in-Atom-clause-stays g c = c.copy_atom.ensures.stays
+
+pub returns-in-Atom-clause-known : goal.returns-in-Atom-clause-known
+returns-in-Atom-clause-known g c = if_any c.copy_atom.result _ (λ made may. refl)
+
+pub returns-then-is_ground-clause-stays : goal.returns-then-is_ground-clause-stays
+returns-then-is_ground-clause-stays g c = record { keeps = keeps_none (g.S.StateStore.seen c.args.s.now); state = refl }
+
+pub returns-then-is_ground-clause-known : goal.returns-then-is_ground-clause-known
+returns-then-is_ground-clause-known g c = λ may. refl
+
+pub returns-else-is_ground-clause-stays : goal.returns-else-is_ground-clause-stays
+returns-else-is_ground-clause-stays g c = c.copy_compound.ensures.stays
+
+pub returns-else-is_ground-clause-known : goal.returns-else-is_ground-clause-known
+returns-else-is_ground-clause-known g c = if_any c.copy_compound.result _ (λ made may. refl)

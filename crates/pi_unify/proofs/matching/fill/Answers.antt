@@ -1,7 +1,8 @@
 use Rattle.std.proofs.Common.{◌≡◌, ◌<◌, length, Some, None, get_or, sym, ◌∙◌, refl, arith}
 use Rattle.std.proofs.lemmas.List.{get_or_default}
 use Rattle.pi_unify.specs.Terms.{IsGiven}
-use Rattle.pi_unify.proofs.SlotLemmas.{given_at, given_set, fills_one, filled_told, empty_told}
+use Rattle.pi_unify.proofs.SlotLemmas.{given_at, given_set, fills_one, filled_told, empty_told, fills_none}
+use Rattle.pi_unify.proofs.BindLemmas.{if_err}
 use Rattle.pi_unify.proofs.matching.fill.Goals as goal
 
 pub returns-in_ok-compare-in-Some-clause-found : goal.returns-in_ok-compare-in-Some-clause-found
@@ -27,3 +28,24 @@ returns-in-None-clause-found g c = λ term a all.
     let slots = c.args.slots.now.items in
     let within : c.args.k < length slots = omega (arith, c.if-k-len.false, c.len.ensures, c.args.slots.now.ok.0) in
     empty_told (g.S.StateStore.seen c.args.s.now) slots _ c.args.k c.args.term (get_or_default slots c.args.k None c.index.result.now within ∙ (sym c.index.ensures ∙ c.in-None.is)) within term refl
+
+pub returns-then-k-len-clause-fills : goal.returns-then-k-len-clause-fills
+returns-then-k-len-clause-fills g c = fills_none c.args.slots.now.items
+
+pub returns-then-k-len-clause-given : goal.returns-then-k-len-clause-given
+returns-then-k-len-clause-given g c = λ term all. all
+
+pub returns-in_err-compare-in-Some-clause-fills : goal.returns-in_err-compare-in-Some-clause-fills
+returns-in_err-compare-in-Some-clause-fills g c = fills_none c.args.slots.now.items
+
+pub returns-in_err-compare-in-Some-clause-given : goal.returns-in_err-compare-in-Some-clause-given
+returns-in_err-compare-in-Some-clause-given g c = λ term all. all
+
+pub returns-in_err-compare-in-Some-clause-found : goal.returns-in_err-compare-in-Some-clause-found
+returns-in_err-compare-in-Some-clause-found g c = if_err c.from_residual.result _ c.from_residual.ensures.0
+
+pub returns-in_ok-compare-in-Some-clause-fills : goal.returns-in_ok-compare-in-Some-clause-fills
+returns-in_ok-compare-in-Some-clause-fills g c = fills_none c.args.slots.now.items
+
+pub returns-in_ok-compare-in-Some-clause-given : goal.returns-in_ok-compare-in-Some-clause-given
+returns-in_ok-compare-in-Some-clause-given g c = λ term all. all

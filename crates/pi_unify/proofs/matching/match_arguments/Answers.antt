@@ -1,8 +1,6 @@
-use Rattle.std.proofs.Common.{◌≡◌, ◌<◌, ◌+◌, length, true, false, arith, refl, sym, subst}
-use Rattle.pi_states.specs.State.{bindings}
-use Rattle.pi_core.specs.CoreTree.{pattern_tree}
-use Rattle.pi_unify.specs.Terms.{IsGiven, HoldsNoCycle, term_of}
-use Rattle.pi_unify.specs.Matching.{IsWithin, IsLeft, HasAsMany, HoldAllGiven, TellsMatch, pending_match, slot_terms}
+use Rattle.std.proofs.Common.{length, arith, refl}
+use Rattle.pi_unify.specs.Terms.{term_of}
+use Rattle.pi_unify.specs.Matching.{pending_match, slot_terms}
 use Rattle.pi_unify.specs.declared.matching.Pending.{Pending}
 use Rattle.pi_unify.specs.declared.matching.Arguments.{Arguments}
 use Rattle.pi_unify.proofs.TermValues.{given_term}
@@ -10,6 +8,7 @@ use Rattle.pi_unify.proofs.SlotLemmas.{fills_none, fills_then}
 use Rattle.pi_unify.proofs.MatchingLemmas.{IsNext, next_is}
 use Rattle.pi_unify.proofs.MatchLoopLemmas.{false_told, true_told}
 use Rattle.pi_unify.proofs.ArgumentLemmas.{Along, along_first, along_next, along_fails, along_ends}
+use Rattle.pi_unify.proofs.BindLemmas.{if_err}
 use Rattle.pi_unify.proofs.matching.match_arguments.Goals as goal
 
 pub loop-i-init : goal.loop-i-init
@@ -70,3 +69,15 @@ pub returns-clause-found : goal.returns-clause-found
 returns-clause-found g c = λ given a many held.
     let v = g.S.StateStore.seen c.args.s.now in
     along_ends v c.args.patterns.now c.args.of c.loop-i.i c.args.slots.now.items c.loop-i.slots.items (omega (arith, c.loop-i-test.false, c.loop-i.auto.i-end)) many (c.loop-i.invariant.along given a many held)
+
+pub returns-in_err-match_part-clause-fills : goal.returns-in_err-match_part-clause-fills
+returns-in_err-match_part-clause-fills g c = fills_then c.args.slots.now.items c.loop-i.slots.items c.match_part.new.slots.items c.loop-i.invariant.fills c.match_part.ensures.fills
+
+pub returns-in_err-match_part-clause-found : goal.returns-in_err-match_part-clause-found
+returns-in_err-match_part-clause-found g c = if_err c.from_residual.result _ c.from_residual.ensures.0
+
+pub returns-clause-fills : goal.returns-clause-fills
+returns-clause-fills g c = c.loop-i.invariant.fills
+
+pub returns-clause-given : goal.returns-clause-given
+returns-clause-given g c = λ given a many held. (c.loop-i.invariant.along given a many held).given

@@ -6,6 +6,7 @@ use Rattle.pi_unify.proofs.TermValues.{term_given}
 use Rattle.pi_unify.proofs.SlotLemmas.{fills_none, fills_then}
 use Rattle.pi_unify.proofs.MatchingLemmas.{none_within}
 use Rattle.pi_unify.proofs.MatchLoopLemmas.{Goes, Rooted, started, root_fits, not_found, goes_on, all_found, terms_are_told}
+use Rattle.pi_unify.proofs.BindLemmas.{if_err}
 use Rattle.pi_unify.proofs.matching.match_nested.Goals as goal
 
 pub loop-left-init : goal.loop-left-init
@@ -72,3 +73,41 @@ returns-in-None-clause-terms g c = λ t is a held.
     let ends : EndsBehind v (pattern_tree at.pattern.now) (term_of v at.term) fs =
     subst (ComesBehind v (pattern_tree at.pattern.now) (term_of v at.term) fs c.after_root.new.left.items) c.in-None.is (c.in_ok-next.ensures.comes goes.given a goes.left (root_fits v at slots new found c.if-not-branch.false rooted)) in
     terms_are_told v true q c.args.r t (slot_terms v old) (slot_terms v new) is (all_found v fs at q w old slots new found goes c.if-not-branch.false rooted ends)
+
+pub returns-in_err-matches_at_root-clause-fills : goal.returns-in_err-matches_at_root-clause-fills
+returns-in_err-matches_at_root-clause-fills g c = fills_then c.args.slots.now.items c.loop-left.slots.items c.matches_at_root.new.slots.items c.loop-left.invariant.fills c.matches_at_root.ensures.fills
+
+pub returns-in_err-matches_at_root-clause-given : goal.returns-in_err-matches_at_root-clause-given
+returns-in_err-matches_at_root-clause-given g c = λ r a held.
+    let goes = c.loop-left.invariant.goes r a held in
+    c.matches_at_root.ensures.given goes.given goes.slots_given
+
+pub returns-in_err-matches_at_root-clause-terms : goal.returns-in_err-matches_at_root-clause-terms
+returns-in_err-matches_at_root-clause-terms g c = if_err c.from_residual.result _ c.from_residual.ensures.0
+
+pub returns-then-not-branch-clause-fills : goal.returns-then-not-branch-clause-fills
+returns-then-not-branch-clause-fills g c = fills_then c.args.slots.now.items c.loop-left.slots.items c.matches_at_root.new.slots.items c.loop-left.invariant.fills c.matches_at_root.ensures.fills
+
+pub returns-then-not-branch-clause-given : goal.returns-then-not-branch-clause-given
+returns-then-not-branch-clause-given g c = λ r a held.
+    let goes = c.loop-left.invariant.goes r a held in
+    c.matches_at_root.ensures.given goes.given goes.slots_given
+
+pub returns-in_err-next-clause-fills : goal.returns-in_err-next-clause-fills
+returns-in_err-next-clause-fills g c = fills_then c.args.slots.now.items c.loop-left.slots.items c.matches_at_root.new.slots.items c.loop-left.invariant.fills c.matches_at_root.ensures.fills
+
+pub returns-in_err-next-clause-given : goal.returns-in_err-next-clause-given
+returns-in_err-next-clause-given g c = λ r a held.
+    let goes = c.loop-left.invariant.goes r a held in
+    c.matches_at_root.ensures.given goes.given goes.slots_given
+
+pub returns-in_err-next-clause-terms : goal.returns-in_err-next-clause-terms
+returns-in_err-next-clause-terms g c = if_err c.from_residual-in_err-next.result _ c.from_residual-in_err-next.ensures.0
+
+pub returns-in-None-clause-fills : goal.returns-in-None-clause-fills
+returns-in-None-clause-fills g c = fills_then c.args.slots.now.items c.loop-left.slots.items c.matches_at_root.new.slots.items c.loop-left.invariant.fills c.matches_at_root.ensures.fills
+
+pub returns-in-None-clause-given : goal.returns-in-None-clause-given
+returns-in-None-clause-given g c = λ r a held.
+    let goes = c.loop-left.invariant.goes r a held in
+    c.matches_at_root.ensures.given goes.given goes.slots_given

@@ -1,4 +1,4 @@
-use Rattle.std.proofs.Common.{◌≡◌, List, ap, sym, ◌∙◌, subst, true, false}
+use Rattle.std.proofs.Common.{◌≡◌, List, ap, sym, ◌∙◌, subst, false}
 use Rattle.pi_states.specs.State.{bindings}
 use Rattle.pi_core.specs.CoreTree.{pattern_tree, pattern_trees}
 use Rattle.pi_core.specs.declared.core_program.Pattern.{Pattern}
@@ -10,6 +10,8 @@ use Rattle.pi_unify.proofs.PatternLemmas.{pattern_tree-comp}
 use Rattle.pi_unify.proofs.MatchingLemmas.{if_ok, none_from_root}
 use Rattle.pi_unify.proofs.MatchLoopLemmas.{true_told, false_told, terms_are_told}
 use Rattle.pi_unify.proofs.ArgumentLemmas.{many_at, inside_told}
+use Rattle.pi_unify.proofs.SlotLemmas.{fills_then}
+use Rattle.pi_unify.proofs.BindLemmas.{if_err}
 use Rattle.pi_unify.proofs.matching.match_pattern.Goals as goal
 
 pub returns-then-not-branch-clause-terms : goal.returns-then-not-branch-clause-terms
@@ -47,3 +49,21 @@ returns-else-not-branch-clause-terms g c =
     let tells : TellsMatch found (arguments_match v ps.items c.args.r middle) last =
     subst (λ (qs : List Pattern). TellsMatch found (arguments_match v qs c.args.r middle) last) c.as_slice.ensures.value (told given a all (c.matches_at_root.ensures.given given held)) in
     terms_are_told v found (pattern_tree c.args.p.now) c.args.r t e last of (inside_told v found c.in-Comp.field-0 ps.items (pattern_tree c.args.p.now) c.args.r e middle last is root tells)) c.match_arguments.ensures.found
+
+pub returns-in_err-matches_at_root-in-Comp-clause-fills : goal.returns-in_err-matches_at_root-in-Comp-clause-fills
+returns-in_err-matches_at_root-in-Comp-clause-fills g c = c.matches_at_root.ensures.fills
+
+pub returns-in_err-matches_at_root-in-Comp-clause-given : goal.returns-in_err-matches_at_root-in-Comp-clause-given
+returns-in_err-matches_at_root-in-Comp-clause-given g c = λ given a held. c.matches_at_root.ensures.given given held
+
+pub returns-in_err-matches_at_root-in-Comp-clause-terms : goal.returns-in_err-matches_at_root-in-Comp-clause-terms
+returns-in_err-matches_at_root-in-Comp-clause-terms g c = if_err c.from_residual.result _ c.from_residual.ensures.0
+
+pub returns-then-not-branch-clause-fills : goal.returns-then-not-branch-clause-fills
+returns-then-not-branch-clause-fills g c = c.matches_at_root.ensures.fills
+
+pub returns-then-not-branch-clause-given : goal.returns-then-not-branch-clause-given
+returns-then-not-branch-clause-given g c = λ given a held. c.matches_at_root.ensures.given given held
+
+pub returns-else-not-branch-clause-fills : goal.returns-else-not-branch-clause-fills
+returns-else-not-branch-clause-fills g c = fills_then c.args.slots.now.items c.matches_at_root.new.slots.items c.match_arguments.new.slots.items c.matches_at_root.ensures.fills c.match_arguments.ensures.fills

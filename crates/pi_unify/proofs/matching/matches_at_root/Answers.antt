@@ -9,7 +9,7 @@ use Rattle.pi_unify.specs.Terms.{term_of}
 use Rattle.pi_unify.specs.Matching.{slot_terms, root_match, TellsMatch, is_compound_of, is_int_in, pattern_count}
 use Rattle.pi_unify.proofs.TermValues.{given_term}
 use Rattle.pi_unify.proofs.PatternLemmas.{pattern_tree-slot, pattern_tree-int, pattern_tree-atom, pattern_tree-comp, pattern_tree-named, count-trees}
-use Rattle.pi_unify.proofs.SlotLemmas.{tells_test, int_told}
+use Rattle.pi_unify.proofs.SlotLemmas.{tells_test, int_told, fills_none}
 use Rattle.pi_unify.proofs.matching.matches_at_root.Goals as goal
 
 pub returns-in-Slot-clause-found : goal.returns-in-Slot-clause-found
@@ -53,3 +53,33 @@ returns-in-Comp-clause-found g c = λ given a held.
     let told : c.is_compound.result ≡ is_compound_of f (pattern_count (pattern_trees ps.items)) (followed b t) =
     c.is_compound.ensures (followed b t) shown ∙ (ap (λ h. is_compound_of h c.len.result (followed b t)) c.as_str-in-Comp.ensures ∙ ap (λ k. is_compound_of f k (followed b t)) many) in
     rw (ap pattern_tree c.in-Comp.is ∙ pattern_tree-comp f ps) (tells_test c.is_compound.result (is_compound_of f (pattern_count (pattern_trees ps.items)) (followed b t)) e told)
+
+pub returns-in-Slot-clause-fills : goal.returns-in-Slot-clause-fills
+returns-in-Slot-clause-fills g c = c.fill.ensures.fills
+
+pub returns-in-Slot-clause-given : goal.returns-in-Slot-clause-given
+returns-in-Slot-clause-given g c = c.fill.ensures.given
+
+pub returns-in-Named-clause-fills : goal.returns-in-Named-clause-fills
+returns-in-Named-clause-fills g c = c.fill-in-Named.ensures.fills
+
+pub returns-in-Named-clause-given : goal.returns-in-Named-clause-given
+returns-in-Named-clause-given g c = c.fill-in-Named.ensures.given
+
+pub returns-in-Int-clause-fills : goal.returns-in-Int-clause-fills
+returns-in-Int-clause-fills g c = fills_none c.args.slots.now.items
+
+pub returns-in-Int-clause-given : goal.returns-in-Int-clause-given
+returns-in-Int-clause-given g c = λ given all. all
+
+pub returns-in-Atom-clause-fills : goal.returns-in-Atom-clause-fills
+returns-in-Atom-clause-fills g c = fills_none c.args.slots.now.items
+
+pub returns-in-Atom-clause-given : goal.returns-in-Atom-clause-given
+returns-in-Atom-clause-given g c = λ given all. all
+
+pub returns-in-Comp-clause-fills : goal.returns-in-Comp-clause-fills
+returns-in-Comp-clause-fills g c = fills_none c.args.slots.now.items
+
+pub returns-in-Comp-clause-given : goal.returns-in-Comp-clause-given
+returns-in-Comp-clause-given g c = λ given all. all

@@ -3,6 +3,7 @@ use Rattle.pi_unify.specs.declared.matching.Pending.{Pending}
 use Rattle.pi_unify.specs.declared.matching.Arguments.{Arguments}
 use Rattle.pi_unify.specs.Matching.{IsWithin, AreWithin, IsLeft, AreLeft}
 use Rattle.pi_unify.proofs.MatchingLemmas.{within_but_last, left_but_last, IsPattern, pattern_is, IsNext, next_is, after, leaves_more, leaves_last, takes_more, takes_last, none_following}
+use Rattle.pi_unify.proofs.BindLemmas.{if_err}
 use Rattle.pi_unify.proofs.matching.next_argument.Goals as goal
 use Rattle.pi_unify.proofs.matching.next_argument.Goals.{in-Some-following+in_ok-push, in_default-following}
 
@@ -62,3 +63,9 @@ returns-clause-takes g c = λ a all.
           let last : f.count ≤ f.next + 1 = none_following c.following.result f.next f.count c.following.ensures w.in_default-following.not-Some in
           takes_last v c.args.left.now.items c.match-following.left.items f p (was ∙ ap (λ rs. rs ++ f ∷ []) (sym is)) own all last next
     ]
+
+pub returns-in_err-push-clause-nodes : goal.returns-in_err-push-clause-nodes
+returns-in_err-push-clause-nodes g c = if_err c.from_residual.result _ c.from_residual.ensures.0
+
+pub returns-in_err-push-clause-takes : goal.returns-in_err-push-clause-takes
+returns-in_err-push-clause-takes g c = if_err c.from_residual.result _ c.from_residual.ensures.0

@@ -1,10 +1,13 @@
-use Rattle.std.proofs.Common.{◌≡◌, ◌-◌, ℕ, suc, [], ◌∷◌, length, get_or, ap, sym, ◌∙◌, subst, arith}
+use Rattle.std.proofs.Common.{◌≡◌, ◌-◌, ℕ, suc, [], ◌∷◌, length, get_or, ap, sym, ◌∙◌, subst, arith, ◌≤◌}
 use Rattle.pi_terms.specs.Tree.{subterms}
 use Rattle.pi_terms.specs.Copy.{renamed}
 use Rattle.pi_states.specs.Store.{IsTerm}
 use Rattle.pi_states.specs.declared.store.Ref.{Ref}
 use Rattle.pi_unify.specs.Copying.{renumbered}
 use Rattle.pi_unify.proofs.BuildLemmas.{Putting, NodeAt, node_at, none_put, ready, one_put, all_put}
+use Rattle.pi_unify.proofs.KeepsLemmas.{stays_then}
+use Rattle.pi_unify.proofs.BindLemmas.{if_err}
+use Rattle.pi_states.specs.State.{State, next}
 use Rattle.pi_unify.proofs.placing.put_nodes.Goals as goal
 
 pub loop-i-init : goal.loop-i-init
@@ -53,3 +56,25 @@ returns-clause-ok g c =
     let one = all_put v w c.args.numbers.now t c.loop-i.i c.loop-i.built.items none c.loop-i.invariant in
     let same : c.index.result.now ≡ one.0 = c.index.ensures ∙ ap (λ rs. get_or rs 0 c.index.result.now) one.1 in
     subst (λ (q : Ref). IsTerm w q (renamed (renumbered v.now.state c.args.numbers.now) t)) (sym same) one.2
+
+pub returns-in_err-made-clause-stays : goal.returns-in_err-made-clause-stays
+returns-in_err-made-clause-stays g c =
+    let v = g.S.StateStore.seen c.args.s.now in
+    stays_then v (g.S.StateStore.seen c.loop-i.s) (g.S.StateStore.seen c.put_node.new.s) v.now.state c.loop-i.invariant.stays c.put_node.ensures.stays
+
+pub returns-in_err-made-clause-ok : goal.returns-in_err-made-clause-ok
+returns-in_err-made-clause-ok g c = if_err c.from_residual.result _ c.from_residual.ensures.0
+
+pub returns-in_err-push-clause-stays : goal.returns-in_err-push-clause-stays
+returns-in_err-push-clause-stays g c =
+    let v = g.S.StateStore.seen c.args.s.now in
+    stays_then v (g.S.StateStore.seen c.loop-i.s) (g.S.StateStore.seen c.put_node.new.s) v.now.state c.loop-i.invariant.stays c.put_node.ensures.stays
+
+pub returns-in_err-push-clause-ok : goal.returns-in_err-push-clause-ok
+returns-in_err-push-clause-ok g c = if_err c.from_residual-in_err-push.result _ c.from_residual-in_err-push.ensures.0
+
+pub returns-clause-stays : goal.returns-clause-stays
+returns-clause-stays g c = c.loop-i.invariant.stays
+
+pub put_node-requires-clause-made : goal.put_node-requires-clause-made
+put_node-requires-clause-made g c = subst (λ (s : State). length c.args.numbers.now ≤ next s) (sym c.loop-i.invariant.stays.state) c.requires.made

@@ -5,7 +5,7 @@ use Rattle.pi_unify.specs.Refs.{root_of}
 use Rattle.pi_unify.specs.Ahead.{ArePairs, pairs_on, pair_and, IsNextPair}
 use Rattle.pi_unify.specs.Answers.{Meets, GoesOn, Steps}
 use Rattle.pi_unify.specs.declared.roots.Roots.{Roots}
-use Rattle.pi_unify.proofs.BindLemmas.{if_ok}
+use Rattle.pi_unify.proofs.BindLemmas.{if_ok, if_err}
 use Rattle.pi_unify.proofs.StepLemmas.{met_clash, met_same, met_args, step_on}
 use Rattle.pi_unify.proofs.unifier.take_pair.Goals as goal
 
@@ -81,3 +81,30 @@ returns-in_ok-leave_all-in-Args-clause-state g c =
     let met = c.in_ok-unify_roots.ensures.meets (record { state = is; left = pair.left; right = pair.right }) in
     let meets = subst (λ (roots : Roots). Meets v.now.state t u (outcome v.now.state t u) roots w.now.state) c.in-Args.is met in
     (met_args v w c.args.a c.args.b fs hs c.in-Args.count (outcome v.now.state t u) is pair c.in_ok-unify_roots.ensures.keeps refl meets c.in_ok-leave_all-in-Args.ensures).state)
+
+pub returns-in_err-unify_roots-clause-keeps : goal.returns-in_err-unify_roots-clause-keeps
+returns-in_err-unify_roots-clause-keeps g c = c.unify_roots.ensures.keeps
+
+pub returns-in_err-unify_roots-clause-steps : goal.returns-in_err-unify_roots-clause-steps
+returns-in_err-unify_roots-clause-steps g c = if_err c.from_residual.result _ c.from_residual.ensures.0
+
+pub returns-in_err-unify_roots-clause-state : goal.returns-in_err-unify_roots-clause-state
+returns-in_err-unify_roots-clause-state g c = if_err c.from_residual.result _ c.from_residual.ensures.0
+
+pub returns-in-Clash-clause-keeps : goal.returns-in-Clash-clause-keeps
+returns-in-Clash-clause-keeps g c = c.in_ok-unify_roots.ensures.keeps
+
+pub returns-in-Same-clause-keeps : goal.returns-in-Same-clause-keeps
+returns-in-Same-clause-keeps g c = c.in_ok-unify_roots.ensures.keeps
+
+pub returns-in_err-leave_all-in-Args-clause-keeps : goal.returns-in_err-leave_all-in-Args-clause-keeps
+returns-in_err-leave_all-in-Args-clause-keeps g c = c.in_ok-unify_roots.ensures.keeps
+
+pub returns-in_err-leave_all-in-Args-clause-steps : goal.returns-in_err-leave_all-in-Args-clause-steps
+returns-in_err-leave_all-in-Args-clause-steps g c = if_err c.from_residual-in_err-leave_all-in-Args.result _ c.from_residual-in_err-leave_all-in-Args.ensures.0
+
+pub returns-in_err-leave_all-in-Args-clause-state : goal.returns-in_err-leave_all-in-Args-clause-state
+returns-in_err-leave_all-in-Args-clause-state g c = if_err c.from_residual-in_err-leave_all-in-Args.result _ c.from_residual-in_err-leave_all-in-Args.ensures.0
+
+pub returns-in_ok-leave_all-in-Args-clause-keeps : goal.returns-in_ok-leave_all-in-Args-clause-keeps
+returns-in_ok-leave_all-in-Args-clause-keeps g c = c.in_ok-unify_roots.ensures.keeps
