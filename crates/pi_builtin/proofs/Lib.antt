@@ -9,6 +9,7 @@ mod NamesLemmas
 mod NamingLemmas
 pub mod PartLemmas
 mod PredicateTables
+pub mod ResultLemmas
 pub mod RowLemmas
 pub mod TotalLemmas
 pub mod WalkLemmas
