@@ -2,6 +2,7 @@ pub mod BuildLemmas
 mod ClosedLemmas
 pub mod CollectionLemmas
 mod EqualityLemmas
+mod FindLemmas
 mod FunctionTables
 mod KindLemmas
 mod NamedLemmas
