@@ -13,3 +13,12 @@ loop-row-preserved g c = first-behind c.args.name.now c.args.rows.now c.loop-row
 
 pub returns : goal.returns
 returns g c = first-nowhere c.args.name.now c.args.rows.now c.loop-row.row-index c.loop-row-test.false c.loop-row.invariant
+
+pub offset_bounds-rows-row-index : goal.offset_bounds-rows-row-index
+offset_bounds-rows-row-index g c = c.loop-row.auto.row-index-end
+
+pub bounds-rows-row-index : goal.bounds-rows-row-index
+bounds-rows-row-index g c = c.loop-row-test.true
+
+pub fact_in-name : goal.fact_in-name
+fact_in-name g c = c.utf8.name
