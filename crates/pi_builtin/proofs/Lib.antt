@@ -2,6 +2,7 @@ pub mod BuildLemmas
 mod ClosedLemmas
 pub mod CollectionLemmas
 mod EqualityLemmas
+mod FindLemmas
 mod FunctionTables
 mod KindLemmas
 mod NamedLemmas
@@ -9,6 +10,7 @@ mod NamesLemmas
 mod NamingLemmas
 pub mod PartLemmas
 mod PredicateTables
+pub mod ResultLemmas
 pub mod RowLemmas
 pub mod TotalLemmas
 pub mod WalkLemmas

@@ -1,7 +1,10 @@
 -- All names of built-in predicates: each stands in the list, and each that stands there is one.
-use Rattle.std.proofs.Common.{◌≡◌, ◌↔◌, ◌⊎◌, inl, inr, ℕ, zero, suc, ◌<◌, Bool, true, false, cond, List, [], ◌∷◌, ◌++◌, refl, ap, sym, subst, arith}
+use Rattle.std.proofs.Common.{◌≡◌, ◌∙◌, ◌↔◌, ◌⊎◌, inl, inr, ℕ, zero, suc, ◌+◌, ◌<◌, ◌≤◌, length, take, get_or, map, add-one, append_assoc, Bool, true, false, cond, List, [], ◌∷◌, ◌++◌, refl, ap, sym, subst, arith}
 use Rattle.std.specs.Prelude.{Option, Some, None, IsTrue, Contains, codes}
 use Rattle.std.specs.Str.{bytes_eq}
+use Rattle.std.specs.Borrow.{Bor}
+use Rattle.std.proofs.Math.Seq.{take-suc}
+use Rattle.std.proofs.lemmas.List.{append-nil, map-append, take_all}
 use Rattle.std.specs.List.{list_all}
 use Rattle.std.proofs.lemmas.List.Elements.{All-contains, Contains-append_left, Contains-append_right, Contains-push}
 use Rattle.std.proofs.lemmas.List.Sums.{AllPass-from_list_all}
@@ -11,7 +14,7 @@ use Rattle.pi_effects.specs.Kinds.{kind_tests}
 use Rattle.pi_effects.specs.Texts.{writing_predicates}
 use Rattle.pi_effects.specs.BuiltIns.{tests, other_predicates, is_predicate}
 use Rattle.pi_builtin.specs.Names.{takes}
-use Rattle.pi_builtin.specs.Resolved.{Named, first_named, named_with}
+use Rattle.pi_builtin.specs.Resolved.{Named, rows_shown, first_named, named_with}
 use Rattle.pi_builtin.specs.declared.predicates.Predicate.{Predicate}
 use Rattle.pi_builtin.proofs.NamedLemmas.{bytes-same}
 use Rattle.pi_builtin.proofs.PredicateTables.{predicates_of_none, predicates_of_one, predicates_of_two, none-of_none, none-of_one, none-of_two, none-of_other, none-of_printf}
@@ -26,6 +29,34 @@ tables_names = (([] ++ named_with 0 predicates_of_none) ++ named_with 1 predicat
 
 abbrev pub all_names : List (Named ℕ)
 all_names = tables_names ++ printf_names 16
+
+-- ---- names that are pushed
+
+pushed-shown : {X : Type 0} (now new : List (Bor (List ℕ) × X)) (name : Bor (List ℕ)) (x : X) → new ≡ now ++ (name, x) ∷ [] → rows_shown new ≡ rows_shown now ++ (name.now, x) ∷ []
+pushed-shown {X} now new name x pushed = ap rows_shown pushed ∙ map-append (λ (r : Bor (List ℕ) × X). (r.0.now, r.1)) now ((name, x) ∷ [])
+
+-- one more behind what was pushed
+pushed-behind : (now whole front : List (Named ℕ)) (one : Named ℕ) → now ≡ whole ++ front → now ++ one ∷ [] ≡ whole ++ (front ++ one ∷ [])
+pushed-behind now whole front one so = ap (λ ns. ns ++ one ∷ []) so ∙ append_assoc whole front (one ∷ [])
+
+pub row-pushed : {T : Type 0} (before now new : List (Bor (List ℕ) × ℕ)) (rows : List (Bor (List ℕ) × T)) (i k : ℕ) (r : Bor (List ℕ) × T) → i < length rows → r ≡ get_or rows i r → new ≡ now ++ (r.0, k) ∷ []
+    → rows_shown now ≡ rows_shown before ++ named_with k (rows_shown (take i rows)) → rows_shown new ≡ rows_shown before ++ named_with k (rows_shown (take (i + 1) rows))
+row-pushed {T} before now new rows i k r low e pushed so =
+    let more : take (i + 1) rows ≡ take i rows ++ r ∷ [] = ap (λ n. take n rows) (add-one i) ∙ (take-suc rows i r low ∙ ap (λ q. take i rows ++ q ∷ []) (sym e)) in
+    let shown : rows_shown (take (i + 1) rows) ≡ rows_shown (take i rows) ++ (r.0.now, r.1) ∷ [] = pushed-shown (take i rows) (take (i + 1) rows) r.0 r.1 more in
+    let named : named_with k (rows_shown (take (i + 1) rows)) ≡ named_with k (rows_shown (take i rows)) ++ (r.0.now, k) ∷ [] =
+    ap (named_with k) shown ∙ map-append (λ (q : Named T). (q.0, k)) (rows_shown (take i rows)) ((r.0.now, r.1) ∷ []) in
+    pushed-shown now new r.0 k pushed ∙ (pushed-behind (rows_shown now) (rows_shown before) (named_with k (rows_shown (take i rows))) (r.0.now, k) so ∙ ap (λ ns. rows_shown before ++ ns) (sym named))
+
+pub rows-pushed : {T : Type 0} (before now : List (Bor (List ℕ) × ℕ)) (rows : List (Bor (List ℕ) × T)) (i k : ℕ) → length rows ≤ i → rows_shown now ≡ rows_shown before ++ named_with k (rows_shown (take i rows))
+    → rows_shown now ≡ rows_shown before ++ named_with k (rows_shown rows)
+rows-pushed before now rows i k all so = so ∙ ap (λ rs. rows_shown before ++ named_with k (rows_shown rs)) (take_all i rows all)
+
+pub printf-pushed : (before now new : List (Bor (List ℕ) × ℕ)) (name : Bor (List ℕ)) (k : ℕ) → new ≡ now ++ (name, k + 1) ∷ [] → name.now ≡ codes "printf" → rows_shown now ≡ rows_shown before ++ printf_names k
+    → rows_shown new ≡ rows_shown before ++ printf_names (k + 1)
+printf-pushed before now new name k pushed is so =
+    let one : printf_names (k + 1) ≡ printf_names k ++ (name.now, k + 1) ∷ [] = ap printf_names (add-one k) ∙ ap (λ (r : Named ℕ). printf_names k ++ r ∷ []) (ap (λ n. (codes "printf", n)) (sym (add-one k)) ∙ ap (λ n. (n, k + 1)) (sym is)) in
+    pushed-shown now new name (k + 1) pushed ∙ (pushed-behind (rows_shown now) (rows_shown before) (printf_names k) (name.now, k + 1) so ∙ ap (λ ns. rows_shown before ++ ns) (sym one))
 
 -- ---- what stands there is one
 

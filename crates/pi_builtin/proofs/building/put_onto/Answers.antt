@@ -5,6 +5,7 @@ use Rattle.pi_states.specs.declared.store.Ref.{Ref}
 use Rattle.pi_effects.specs.Items.{list_onto}
 use Rattle.pi_unify.proofs.KeepsLemmas.{keeps_none, stays_then}
 use Rattle.pi_builtin.proofs.BuildLemmas.{onto-none, onto-more}
+use Rattle.std.proofs.lemmas.Result.{IfOk-from_err}
 use Rattle.pi_builtin.proofs.building.put_onto.Goals as goal
 
 pub loop-i-init : goal.loop-i-init
@@ -38,3 +39,14 @@ returns-clause-ok g c = λ ts t items is.
     let w = g.S.StateStore.seen c.loop-i.s in
     let none : c.loop-i.i ≡ 0 = omega (arith, c.loop-i-test.false) in
     subst (λ n. IsTerm w c.loop-i.list (list_onto (drop n ts) t)) none (c.loop-i.invariant.puts ts t items is)
+
+pub returns-in_err-list-clause-stays : goal.returns-in_err-list-clause-stays
+returns-in_err-list-clause-stays g c =
+    let v = g.S.StateStore.seen c.args.s.now in
+    stays_then v (g.S.StateStore.seen c.loop-i.s) (g.S.StateStore.seen c.put_comp.new.self) v.now.state c.loop-i.invariant.stays c.in_err-list.ensures.stays
+
+pub returns-in_err-list-clause-ok : goal.returns-in_err-list-clause-ok
+returns-in_err-list-clause-ok g c = IfOk-from_err c.from_residual.result _ c.from_residual.ensures.0
+
+pub returns-clause-stays : goal.returns-clause-stays
+returns-clause-stays g c = c.loop-i.invariant.stays

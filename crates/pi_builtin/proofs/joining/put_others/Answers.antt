@@ -8,6 +8,7 @@ use Rattle.pi_effects.specs.Items.{list_of}
 use Rattle.pi_effects.specs.Collections.{without}
 use Rattle.pi_unify.proofs.KeepsLemmas.{stays_then}
 use Rattle.pi_builtin.proofs.BuildLemmas.{others-none, other-kept, same-gone}
+use Rattle.std.proofs.lemmas.Result.{IfOk-from_err}
 use Rattle.pi_builtin.proofs.joining.put_others.Goals as goal
 
 pub loop-i-init : goal.loop-i-init
@@ -62,3 +63,26 @@ returns-clause-ok g c = λ ts u a items is.
     let w = g.S.StateStore.seen c.loop-i.s in
     let none : c.loop-i.i ≡ 0 = omega (arith, c.loop-i-test.false) in
     subst (λ n. IsTerm w c.loop-i.list (list_of (without v.now.state u (drop n ts)))) none (c.loop-i.invariant.puts ts u a items is)
+
+pub returns-in_err-list-clause-stays : goal.returns-in_err-list-clause-stays
+returns-in_err-list-clause-stays g c = c.in_err-list.ensures.err
+
+pub returns-in_err-list-clause-ok : goal.returns-in_err-list-clause-ok
+returns-in_err-list-clause-ok g c = IfOk-from_err c.from_residual.result _ c.from_residual.ensures.0
+
+pub returns-in_err-order-clause-stays : goal.returns-in_err-order-clause-stays
+returns-in_err-order-clause-stays g c = c.loop-i.invariant.stays
+
+pub returns-in_err-order-clause-ok : goal.returns-in_err-order-clause-ok
+returns-in_err-order-clause-ok g c = IfOk-from_err c.from_residual-in_err-order.result _ c.from_residual-in_err-order.ensures.0
+
+pub returns-in_err-list-2-clause-stays : goal.returns-in_err-list-2-clause-stays
+returns-in_err-list-2-clause-stays g c =
+    let v = g.S.StateStore.seen c.args.s.now in
+    stays_then v (g.S.StateStore.seen c.loop-i.s) (g.S.StateStore.seen c.put_comp.new.self) v.now.state c.loop-i.invariant.stays c.in_err-list-2.ensures.stays
+
+pub returns-in_err-list-2-clause-ok : goal.returns-in_err-list-2-clause-ok
+returns-in_err-list-2-clause-ok g c = IfOk-from_err c.from_residual-in_err-list-2.result _ c.from_residual-in_err-list-2.ensures.0
+
+pub returns-clause-stays : goal.returns-clause-stays
+returns-clause-stays g c = c.loop-i.invariant.stays

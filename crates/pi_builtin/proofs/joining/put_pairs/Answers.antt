@@ -5,6 +5,7 @@ use Rattle.pi_states.specs.declared.store.Ref.{Ref}
 use Rattle.pi_effects.specs.Items.{list_of}
 use Rattle.pi_unify.proofs.KeepsLemmas.{stays_then}
 use Rattle.pi_builtin.proofs.BuildLemmas.{pairs_from, pairs-none, pairs-more}
+use Rattle.std.proofs.lemmas.Result.{IfOk-from_err}
 use Rattle.pi_builtin.proofs.joining.put_pairs.Goals as goal
 
 pub loop-i-init : goal.loop-i-init
@@ -42,3 +43,29 @@ returns-clause-ok g c = λ ts us items others.
     let w = g.S.StateStore.seen c.loop-i.s in
     let none : c.loop-i.i ≡ 0 = omega (arith, c.loop-i-test.false) in
     subst (λ n. IsTerm w c.loop-i.list (list_of (pairs_from n ts us))) none (c.loop-i.invariant.puts ts us items others)
+
+pub returns-in_err-list-clause-stays : goal.returns-in_err-list-clause-stays
+returns-in_err-list-clause-stays g c = c.in_err-list.ensures.err
+
+pub returns-in_err-list-clause-ok : goal.returns-in_err-list-clause-ok
+returns-in_err-list-clause-ok g c = IfOk-from_err c.from_residual.result _ c.from_residual.ensures.0
+
+pub returns-in_err-pair-clause-stays : goal.returns-in_err-pair-clause-stays
+returns-in_err-pair-clause-stays g c =
+    let v = g.S.StateStore.seen c.args.s.now in
+    stays_then v (g.S.StateStore.seen c.loop-i.s) (g.S.StateStore.seen c.put_comp.new.self) v.now.state c.loop-i.invariant.stays c.in_err-pair.ensures.stays
+
+pub returns-in_err-pair-clause-ok : goal.returns-in_err-pair-clause-ok
+returns-in_err-pair-clause-ok g c = IfOk-from_err c.from_residual-in_err-pair.result _ c.from_residual-in_err-pair.ensures.0
+
+pub returns-in_err-list-2-clause-stays : goal.returns-in_err-list-2-clause-stays
+returns-in_err-list-2-clause-stays g c =
+    let v = g.S.StateStore.seen c.args.s.now in
+    let x = g.S.StateStore.seen c.put_comp.new.self in
+    stays_then v x (g.S.StateStore.seen c.put_comp-in-loop-i.new.self) v.now.state (stays_then v (g.S.StateStore.seen c.loop-i.s) x v.now.state c.loop-i.invariant.stays c.in_ok-pair.ensures.stays) c.in_err-list-2.ensures.stays
+
+pub returns-in_err-list-2-clause-ok : goal.returns-in_err-list-2-clause-ok
+returns-in_err-list-2-clause-ok g c = IfOk-from_err c.from_residual-in_err-list-2.result _ c.from_residual-in_err-list-2.ensures.0
+
+pub returns-clause-stays : goal.returns-clause-stays
+returns-clause-stays g c = c.loop-i.invariant.stays

@@ -6,6 +6,7 @@ use Rattle.pi_effects.specs.Items.{list_of}
 use Rattle.pi_unify.proofs.KeepsLemmas.{stays_then}
 use Rattle.pi_builtin.proofs.RowLemmas.{as-many, all-before}
 use Rattle.pi_builtin.proofs.BuildLemmas.{reversed-none, reversed-more}
+use Rattle.std.proofs.lemmas.Result.{IfOk-from_err}
 use Rattle.pi_builtin.proofs.joining.put_reversed.Goals as goal
 
 pub loop-item-init : goal.loop-item-init
@@ -37,3 +38,20 @@ returns-clause-ok g c = λ ts items.
     let w = g.S.StateStore.seen c.loop-item.s in
     let all : length ts ≤ c.loop-item.item-index = omega (arith, c.loop-item-test.false, as-many v c.args.items.now ts items) in
     subst (λ us. IsTerm w c.loop-item.list (list_of (reverse us))) (all-before ts c.loop-item.item-index all) (c.loop-item.invariant.puts ts items)
+
+pub returns-in_err-list-clause-stays : goal.returns-in_err-list-clause-stays
+returns-in_err-list-clause-stays g c = c.in_err-list.ensures.err
+
+pub returns-in_err-list-clause-ok : goal.returns-in_err-list-clause-ok
+returns-in_err-list-clause-ok g c = IfOk-from_err c.from_residual.result _ c.from_residual.ensures.0
+
+pub returns-in_err-list-2-clause-stays : goal.returns-in_err-list-2-clause-stays
+returns-in_err-list-2-clause-stays g c =
+    let v = g.S.StateStore.seen c.args.s.now in
+    stays_then v (g.S.StateStore.seen c.loop-item.s) (g.S.StateStore.seen c.put_comp.new.self) v.now.state c.loop-item.invariant.stays c.in_err-list-2.ensures.stays
+
+pub returns-in_err-list-2-clause-ok : goal.returns-in_err-list-2-clause-ok
+returns-in_err-list-2-clause-ok g c = IfOk-from_err c.from_residual-in_err-list-2.result _ c.from_residual-in_err-list-2.ensures.0
+
+pub returns-clause-stays : goal.returns-clause-stays
+returns-clause-stays g c = c.loop-item.invariant.stays
