@@ -1,5 +1,5 @@
 -- What is kept of one token.
-use Rattle.std.proofs.Common.{◌≡◌, ℕ, ◌+◌, ◌-◌, ◌*◌, ◌^◌, ◌<◌, ◌≤◌, ℤ, List, [], ◌++◌, length, take, drop, refl, sym, ◌∙◌, ap, subst, arith, length-drop, String, string_bytes, string_len, Some}
+use Rattle.std.proofs.Common.{◌≡◌, ℕ, ◌+◌, ◌-◌, ◌*◌, ◌^◌, ◌<◌, ◌≤◌, ℤ, List, [], ◌++◌, length, take, drop, refl, sym, ◌∙◌, ap, subst, arith, length-drop, String, Vec, string_bytes, string_len, Some}
 use Rattle.std.proofs.lemmas.List.{length-take-le, append-nil}
 use Rattle.std.specs.declared.alloc.Global.{Global}
 use Rattle.pi_lex.specs.declared.item.Item as code
@@ -58,3 +58,20 @@ grows_between old buffer text item found place is same within grown =
       buffer = omega (arith, grown, between_whole place text within);
       numbers = omega arith;
     })
+
+-- a number more
+pub keeps_numbers : (old : Store) (numbers : Vec ℤ Global) (more : List ℤ) → numbers.items ≡ old.numbers.items ++ more
+    → Keeps old (record { buffer = old.buffer; numbers = numbers; lexemes = old.lexemes })
+keeps_numbers old numbers more grown =
+    record { lexemes = refl; buffer = ([], sym (append-nil (string_bytes old.buffer))); numbers = (more, grown) }
+
+-- nothing more
+pub keeps_all : (old : Store) → Keeps old old
+keeps_all old = record {
+  lexemes = refl;
+  buffer = ([], sym (append-nil (string_bytes old.buffer)));
+  numbers = ([], sym (append-nil old.numbers.items));
+}
+
+pub grows_none : (old : Store) (n : ℕ) → GrowsBy old old n
+grows_none old n = record { buffer = omega arith; numbers = omega arith }

@@ -1,9 +1,9 @@
-use Rattle.std.proofs.Common.{ap, refl}
+use Rattle.std.proofs.Common.{ap, refl, string_bytes}
 use Rattle.std.proofs.lemmas.Result.{IfOk-from_err}
 use Rattle.pi_lex.specs.declared.item.Item.TheVariants as found
 use Rattle.pi_lex.specs.declared.store.Form.TheVariants as form
-use Rattle.pi_syntax.specs.Tokens.{Var, Atom, Word, Str, Sign}
-use Rattle.pi_lex.proofs.KeepLemmas.{fits, spelled_whole, room_spelled, room_between, holds_token, keeps_buffer, grows_spelled, grows_between}
+use Rattle.pi_syntax.specs.Tokens.{Var, Atom, Word, Str, Sign, End}
+use Rattle.pi_lex.proofs.KeepLemmas.{fits, spelled_whole, room_spelled, room_between, holds_token, keeps_buffer, grows_spelled, grows_between, keeps_numbers, keeps_all, grows_none}
 use Rattle.pi_lex.proofs.store.Store.keep.Goals as goal
 
 pub slice_bounds-spell-end : goal.slice_bounds-spell-end
@@ -170,3 +170,28 @@ returns-in_err-push-in-Integer-clause-keeps c = IfOk-from_err _ _ c.from_residua
 
 pub returns-in_err-push-in-Integer-clause-grows : goal.returns-in_err-push-in-Integer-clause-grows
 returns-in_err-push-in-Integer-clause-grows c = IfOk-from_err _ _ c.from_residual-in_err-push-in-Integer.ensures.0
+
+pub returns-in_ok-push-in-Integer-clause-keeps : goal.returns-in_ok-push-in-Integer-clause-keeps
+returns-in_ok-push-in-Integer-clause-keeps c = keeps_numbers c.args.self.now c.push.new.self _ c.in_ok-push-in-Integer.ensures.items
+
+pub returns-in-EndPoint-clause-form : goal.returns-in-EndPoint-clause-form
+returns-in-EndPoint-clause-form c =
+    holds_token (string_bytes c.args.self.now.buffer) c.args.self.now.numbers.items form.EndPoint _ _ found.EndPoint End 1 c.in-EndPoint.is refl tt refl
+
+pub returns-in-EndPoint-clause-keeps : goal.returns-in-EndPoint-clause-keeps
+returns-in-EndPoint-clause-keeps c = keeps_all c.args.self.now
+
+pub returns-in-EndPoint-clause-grows : goal.returns-in-EndPoint-clause-grows
+returns-in-EndPoint-clause-grows c = grows_none c.args.self.now _
+
+pub returns-in-Blank-clause-keeps : goal.returns-in-Blank-clause-keeps
+returns-in-Blank-clause-keeps c = keeps_all c.args.self.now
+
+pub returns-in-Blank-clause-grows : goal.returns-in-Blank-clause-grows
+returns-in-Blank-clause-grows c = grows_none c.args.self.now _
+
+pub slice_bounds-unescape-count : goal.slice_bounds-unescape-count
+slice_bounds-unescape-count c = (fits _ _ _ c.in-QuotedAtom.is c.requires.fits).0
+
+pub slice_bounds-unescape-count-in-Text : goal.slice_bounds-unescape-count-in-Text
+slice_bounds-unescape-count-in-Text c = (fits _ _ _ c.in-Text.is c.requires.fits).0
