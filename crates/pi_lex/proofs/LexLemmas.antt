@@ -1,11 +1,11 @@
 -- Turns of the loops of the definition.
-use Rattle.std.proofs.Common.{◌≡◌, ℕ, ◌+◌, ◌*◌, ◌<◌, ◌≤◌, List, [], ◌∷◌, filter, not, ◌==◌, arith, get_or, drop, IsTrue, le_refl, le_trans, mul-le-mul_left, inl, inr, length, true, cond}
-use Rattle.std.proofs.lemmas.Bool.{cases_Bool, false≢true}
+use Rattle.std.proofs.Common.{◌≡◌, ◌≢◌, ℕ, ◌+◌, ◌*◌, ◌<◌, ◌≤◌, List, [], ◌∷◌, filter, not, ◌==◌, arith, get_or, drop, IsTrue, le_refl, le_trans, mul-le-mul_left, inl, inr, length, true, false, cond, Bool, ◌||◌, ◌&&◌, sym, ◌∙◌, ap, refl}
+use Rattle.std.proofs.lemmas.Bool.{cases_Bool, false≢true, or_left, and_left, ne_eqb, cond-true, cond-false, not_from_true, not_from_false}
 use Rattle.std.proofs.lemmas.Bool.Decides.{nat_tests}
-use Rattle.std.proofs.lemmas.List.{drop_more}
-use Rattle.std.specs.Char.{digit_value, is_ascii_digit}
+use Rattle.std.proofs.lemmas.List.{drop_more, get_or-drop, get_or_read}
+use Rattle.std.specs.Char.{is_digit, digit_value, is_ascii_digit}
 use Rattle.std.specs.Str.Parse.{digits_value_after}
-use Rattle.pi_syntax.specs.Tokens.{underscore, digits_end, goes_on}
+use Rattle.pi_syntax.specs.Tokens.{underscore, digits_end, goes_on, radix_of, zero_digit, letter_x, letter_o, letter_b}
 
 -- digits go on only to make the number larger
 pub le-digits_value_after : (radix n : ℕ) (ds : List ℕ) → 1 ≤ radix → n ≤ digits_value_after radix n ds
@@ -53,3 +53,93 @@ digits_end-grows radix place (c ∷ rest) some h = rw h (omega (arith, le-digits
 pub first_digit : (text : List ℕ) → IsTrue (is_ascii_digit (get_or text 0 0)) → 0 < digits_end 10 0 text
 first_digit [] h = absurd (false≢true h)
 first_digit (c ∷ rest) h = digits_end-grows 10 0 (c ∷ rest) (omega arith) (grind (arith, nat_tests))
+
+-- whether digits go on at a place of the text
+pub goes_on-drop : (radix at : ℕ) (text : List ℕ) (c : ℕ) → at < length text → c ≡ get_or text at c
+    → goes_on radix (drop at text) ≡ (is_digit c radix || (c == underscore && is_digit (get_or text (at + 1) 0) radix))
+goes_on-drop radix at text c within read =
+    let place : at + 1 + 0 ≡ at + 1 = omega arith in
+    ap (goes_on radix) (drop_more text at 0 within)
+    ∙ ap (λ d. is_digit (get_or text at 0) radix || (get_or text at 0 == underscore && is_digit d radix)) (get_or-drop (at + 1) text 0 0 ∙ ap (λ (k : ℕ). get_or text k 0) place)
+    ∙ ap (λ x. is_digit x radix || (x == underscore && is_digit (get_or text (at + 1) 0) radix)) (sym (get_or_read text at c within read 0))
+
+second : (x y z : Bool) → x ≡ false → y ≡ true → (x || (y && z)) ≡ z
+second x y z none is = rw (none, is) refl
+
+neither : (x y z : Bool) → x ≡ false → y ≡ false → (x || (y && z)) ≡ false
+neither x y z none other = rw (none, other) refl
+
+same_read : (text : List ℕ) (at c u : ℕ) → at < length text → c ≡ get_or text at c → u ≡ get_or text at u → u ≡ c
+same_read text at c u within read again = get_or_read text at u within again 0 ∙ sym (get_or_read text at c within read 0)
+
+pub goes_on-digit : (radix at : ℕ) (text : List ℕ) (c : ℕ) → at < length text → c ≡ get_or text at c → true ≡ is_digit c radix
+    → goes_on radix (drop at text) ≡ true
+goes_on-digit radix at text c within read is = goes_on-drop radix at text c within read ∙ or_left _ _ (sym is)
+
+pub goes_on-behind : (radix at : ℕ) (text : List ℕ) (c u d : ℕ) → at < length text → c ≡ get_or text at c → u ≡ get_or text at u → false ≡ is_digit c radix
+    → u ≡ underscore → d ≡ get_or text (at + 1) 0 → goes_on radix (drop at text) ≡ is_digit d radix
+goes_on-behind radix at text c u d within read again none is next =
+    let mark : (c == underscore) ≡ true = grind (arith, nat_tests, same_read text at c u within read again) in
+    goes_on-drop radix at text c within read ∙ second _ _ _ (sym none) mark ∙ ap (λ x. is_digit x radix) (sym next)
+
+pub goes_on-other : (radix at : ℕ) (text : List ℕ) (c u : ℕ) → at < length text → c ≡ get_or text at c → u ≡ get_or text at u → false ≡ is_digit c radix
+    → u ≢ underscore → goes_on radix (drop at text) ≡ false
+goes_on-other radix at text c u within read again none other =
+    goes_on-drop radix at text c within read
+    ∙ neither _ _ _ (sym none) (ne_eqb c underscore (λ is. other (same_read text at c u within read again ∙ is)))
+
+-- the base that a mark and the character behind it name, where the text begins with `0`
+abbrev pub marked : ℕ → ℕ → ℕ
+marked mark digit =
+    cond (mark == letter_x && is_digit digit 16) 16
+    (cond (mark == letter_o && is_digit digit 8) 8 (cond (mark == letter_b && is_digit digit 2) 2 10))
+
+pub radix_of-plain : (text : List ℕ) (c : ℕ) → c ≡ get_or text 0 0 → c ≢ zero_digit → 10 ≡ radix_of text
+radix_of-plain text c is other = sym (cond-true _ _ _ (not_from_false _ (ne_eqb (get_or text 0 0) zero_digit (λ same. other (is ∙ same)))))
+
+pub radix_of-marked : (text : List ℕ) (c mark digit : ℕ) → c ≡ get_or text 0 0 → c ≡ zero_digit → mark ≡ get_or text 1 0 → digit ≡ get_or text 2 0
+    → marked mark digit ≡ radix_of text
+radix_of-marked text c mark digit is zero_first one two =
+    let test : (get_or text 0 0 == zero_digit) ≡ true = ap (λ x. x == zero_digit) (sym is ∙ zero_first) in
+    ap (λ m. marked m digit) one ∙ ap (marked (get_or text 1 0)) two ∙ sym (cond-false _ _ _ (not_from_true _ test))
+
+-- each mark, with a digit of its base behind it and without one
+pub marked-x : (mark digit radix : ℕ) → mark ≡ letter_x → radix ≡ 16 → true ≡ is_digit digit radix → radix ≡ marked mark digit
+marked-x mark digit radix is base some =
+    base ∙ sym (ap (λ m. marked m digit) is ∙ cond-true _ _ _ (ap (is_digit digit) (sym base) ∙ sym some))
+
+pub marked-o : (mark digit radix : ℕ) → mark ≡ letter_o → radix ≡ 8 → true ≡ is_digit digit radix → radix ≡ marked mark digit
+marked-o mark digit radix is base some =
+    base ∙ sym (ap (λ m. marked m digit) is ∙ cond-true _ _ _ (ap (is_digit digit) (sym base) ∙ sym some))
+
+pub marked-b : (mark digit radix : ℕ) → mark ≡ letter_b → radix ≡ 2 → true ≡ is_digit digit radix → radix ≡ marked mark digit
+marked-b mark digit radix is base some =
+    base ∙ sym (ap (λ m. marked m digit) is ∙ cond-true _ _ _ (ap (is_digit digit) (sym base) ∙ sym some))
+
+pub unmarked-x : (mark digit radix : ℕ) → mark ≡ letter_x → radix ≡ 16 → false ≡ is_digit digit radix → 10 ≡ marked mark digit
+unmarked-x mark digit radix is base none =
+    sym (ap (λ m. marked m digit) is ∙ cond-false _ _ _ (ap (is_digit digit) (sym base) ∙ sym none))
+
+pub unmarked-o : (mark digit radix : ℕ) → mark ≡ letter_o → radix ≡ 8 → false ≡ is_digit digit radix → 10 ≡ marked mark digit
+unmarked-o mark digit radix is base none =
+    sym (ap (λ m. marked m digit) is ∙ cond-false _ _ _ (ap (is_digit digit) (sym base) ∙ sym none))
+
+pub unmarked-b : (mark digit radix : ℕ) → mark ≡ letter_b → radix ≡ 2 → false ≡ is_digit digit radix → 10 ≡ marked mark digit
+unmarked-b mark digit radix is base none =
+    sym (ap (λ m. marked m digit) is ∙ cond-false _ _ _ (ap (is_digit digit) (sym base) ∙ sym none))
+
+pub unmarked : (mark digit : ℕ) → mark ≢ letter_x → mark ≢ letter_o → mark ≢ letter_b → 10 ≡ marked mark digit
+unmarked mark digit x o b =
+    sym (cond-false _ _ _ (and_left _ _ (ne_eqb mark letter_x x))
+    ∙ cond-false _ _ _ (and_left _ _ (ne_eqb mark letter_o o))
+    ∙ cond-false _ _ _ (and_left _ _ (ne_eqb mark letter_b b)))
+
+no_digit : (radix : ℕ) → radix ≤ 16 → true ≡ is_digit 0 radix → ⊥
+no_digit radix small is = grind (arith, nat_tests)
+
+-- a digit that was read at the third place stands in the text
+pub third_digit : (text : List ℕ) (c radix : ℕ) → radix ≤ 16 → c ≡ get_or text 2 0 → true ≡ is_digit c radix → 2 < length text
+third_digit [] c radix small is digit = absurd (no_digit radix small (digit ∙ ap (λ x. is_digit x radix) is))
+third_digit (x ∷ []) c radix small is digit = absurd (no_digit radix small (digit ∙ ap (λ y. is_digit y radix) is))
+third_digit (x ∷ y ∷ []) c radix small is digit = absurd (no_digit radix small (digit ∙ ap (λ z. is_digit z radix) is))
+third_digit (x ∷ y ∷ z ∷ text) c radix small is digit = omega arith

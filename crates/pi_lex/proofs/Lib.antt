@@ -5,3 +5,5 @@ pub mod SignsLemmas
 pub mod StoreLemmas
 pub mod TotalLemmas
 pub mod NaturalLemmas
+pub mod ItemLemmas
+pub mod KeepLemmas
