@@ -128,3 +128,10 @@ plus_back_small x y h k =
     let wide = abs_sum x y in
     let back : to_z w128 (of_z w128 (to_z w128 (of_z w128 x) +ℤ to_z w128 (of_z w128 y))) ≡ x +ℤ y = ap (λ (z : ℤ). to_z w128 (of_z w128 z)) (plus_back_inner x y h k) ∙ unwrapped (x +ℤ y) (omega arith) in
     subst (λ (z : ℤ). nat_abs z ≤ 2 ^ 117) (sym back) (omega arith)
+
+-- a negative as the code has it
+pub negative_wrapped_fits : (r : ℤ) → nat_abs r ≤ 2 ^ 120 → FitsSigned w128 (pos 0 -ℤ to_z w128 (of_z w128 r))
+negative_wrapped_fits r h = subst (FitsSigned w128) (sym (ap (λ (x : ℤ). pos 0 -ℤ x) (unwrapped r (omega arith)) ∙ zero_minus r)) (negative_fits r h)
+
+pub negative_not_zero : (r : ℤ) → (r ≡ pos 0 → ⊥) → neg_ℤ r ≡ pos 0 → ⊥
+negative_not_zero r o e = o (omega (arith, ints))

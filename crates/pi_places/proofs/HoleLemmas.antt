@@ -302,3 +302,9 @@ below_end e n s o at =
     let low : e.lo ≤ℤ n = s.low in
     let high : n ≤ℤ e.hi = s.high in
     subst (λ (z : ℤ). z <ℤ e.hi) at (strictly e.lo e.hi (omega (arith, ints)) o)
+
+pub ends_within : (ss : List Span) (at : ℕ) (e : Span) → IsDomain ss → at < length ss → e ≡ get_or ss at e → IsWithinBounds e.lo × IsWithinBounds e.hi
+ends_within ss at e up l here =
+    let span = AscendFrom-get_or (neg_ℤ MAX_VALUE) ss at e up l in
+    let ordered : e.lo ≤ℤ e.hi = subst (λ (x : Span). x.lo ≤ℤ x.hi) (sym here) span.ordered in
+    (within_span ss at e e.lo up l here (omega (arith, ints)) ordered, within_span ss at e e.hi up l here ordered (omega (arith, ints)))
