@@ -116,3 +116,6 @@ filtered_from first many test Kept ds es c f says = record {
     λ p. e ∙ and_from (has_value (domain_at ds (first + j)) n) (test j n) p.0 ((says j n below p.0).1 p.1),
   );
 }
+
+pub cut_whole : (first i many : ℕ) (test : ℕ → ℤ → Bool) (ds es : List (List Span)) → i ≤ many → many ≤ i → AreCutFrom first i test ds es → AreCutFrom first many test ds es
+cut_whole first i many test ds es l m f = subst (λ (k : ℕ). AreCutFrom first k test ds es) (omega arith) f

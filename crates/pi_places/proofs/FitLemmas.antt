@@ -74,3 +74,64 @@ minus_fits x y h k = let wide = abs_minus x y in fits_signed_from_abs w128 (x -�
 
 pub plus_fits : (x y : ℤ) → nat_abs x ≤ 2 ^ 100 → nat_abs y ≤ 2 ^ 116 → FitsSigned w128 (x +ℤ y)
 plus_fits x y h k = let wide = abs_sum x y in fits_signed_from_abs w128 (x +ℤ y) (omega arith)
+
+-- a difference of numbers of 128 bits
+pub minus_back : (x y : ℤ) → nat_abs x ≤ 2 ^ 117 → nat_abs y ≤ 2 ^ 96 → to_z w128 (of_z w128 x) -ℤ to_z w128 (of_z w128 y) ≡ x -ℤ y
+minus_back x y h k =
+    let a : to_z w128 (of_z w128 x) ≡ x = unwrapped x (omega arith) in
+    let b : to_z w128 (of_z w128 y) ≡ y = unwrapped y (omega arith) in
+    (λ i. a i -ℤ b i)
+
+pub minus_back_fits : (x y : ℤ) → nat_abs x ≤ 2 ^ 117 → nat_abs y ≤ 2 ^ 96 → FitsSigned w128 (to_z w128 (of_z w128 x) -ℤ to_z w128 (of_z w128 y))
+minus_back_fits x y h k = subst (FitsSigned w128) (sym (minus_back x y h k)) (minus_fits x y h k)
+
+-- a constant with what all terms but one add
+pub rest_small : (m x y : ℤ) → nat_abs m ≤ 2 ^ 100 + 1 → nat_abs x ≤ 2 ^ 116 → nat_abs y ≤ 2 ^ 96 → nat_abs (m +ℤ (x -ℤ y)) ≤ 2 ^ 120
+rest_small m x y h k l =
+    let wide = abs_sum m (x -ℤ y) in
+    let less = abs_minus x y in
+    omega arith
+
+rest_sum : (m x y : ℤ) → nat_abs m ≤ 2 ^ 100 + 1 → nat_abs x ≤ 2 ^ 116 → nat_abs y ≤ 2 ^ 96 → to_z w128 (of_z w128 m) +ℤ to_z w128 (of_z w128 (to_z w128 (of_z w128 x) -ℤ to_z w128 (of_z w128 y))) ≡ m +ℤ (x -ℤ y)
+rest_sum m x y h k l =
+    let less = abs_minus x y in
+    let a : to_z w128 (of_z w128 m) ≡ m = unwrapped m (omega arith) in
+    let b : to_z w128 (of_z w128 (to_z w128 (of_z w128 x) -ℤ to_z w128 (of_z w128 y))) ≡ x -ℤ y = ap (λ (z : ℤ). to_z w128 (of_z w128 z)) (minus_back x y (omega arith) l) ∙ unwrapped (x -ℤ y) (omega arith) in
+    (λ i. a i +ℤ b i)
+
+pub rest_fits : (m x y : ℤ) → nat_abs m ≤ 2 ^ 100 + 1 → nat_abs x ≤ 2 ^ 116 → nat_abs y ≤ 2 ^ 96 → FitsSigned w128 (to_z w128 (of_z w128 m) +ℤ to_z w128 (of_z w128 (to_z w128 (of_z w128 x) -ℤ to_z w128 (of_z w128 y))))
+rest_fits m x y h k l =
+    let small = rest_small m x y h k l in
+    subst (FitsSigned w128) (sym (rest_sum m x y h k l)) (fits_signed_from_abs w128 (m +ℤ (x -ℤ y)) (omega arith))
+
+pub rest_back : (m x y : ℤ) → nat_abs m ≤ 2 ^ 100 + 1 → nat_abs x ≤ 2 ^ 116 → nat_abs y ≤ 2 ^ 96 → to_z w128 (of_z w128 (to_z w128 (of_z w128 m) +ℤ to_z w128 (of_z w128 (to_z w128 (of_z w128 x) -ℤ to_z w128 (of_z w128 y))))) ≡ m +ℤ (x -ℤ y)
+rest_back m x y h k l =
+    let small = rest_small m x y h k l in
+    ap (λ (z : ℤ). to_z w128 (of_z w128 z)) (rest_sum m x y h k l) ∙ unwrapped (m +ℤ (x -ℤ y)) (omega arith)
+
+-- a product as the code has it
+pub product_wrapped_fits : (c v : ℤ) → FitsSigned w128 c → FitsSigned w128 v → nat_abs c ≤ 2 ^ 40 → IsWithinBounds v → FitsSigned w128 (to_z w128 (of_z w128 c) *ℤ to_z w128 (of_z w128 v))
+product_wrapped_fits c v f g h b = subst (FitsSigned w128) (sym (λ i. to_z-of_z w128 c f i *ℤ to_z-of_z w128 v g i)) (product_fits c v h b)
+
+-- a sum as the code has it
+plus_back_inner : (x y : ℤ) → nat_abs x ≤ 2 ^ 100 → nat_abs y ≤ 2 ^ 116 → to_z w128 (of_z w128 x) +ℤ to_z w128 (of_z w128 y) ≡ x +ℤ y
+plus_back_inner x y h k =
+    let a : to_z w128 (of_z w128 x) ≡ x = unwrapped x (omega arith) in
+    let b : to_z w128 (of_z w128 y) ≡ y = unwrapped y (omega arith) in
+    (λ i. a i +ℤ b i)
+
+pub plus_back_fits : (x y : ℤ) → nat_abs x ≤ 2 ^ 100 → nat_abs y ≤ 2 ^ 116 → FitsSigned w128 (to_z w128 (of_z w128 x) +ℤ to_z w128 (of_z w128 y))
+plus_back_fits x y h k = subst (FitsSigned w128) (sym (plus_back_inner x y h k)) (plus_fits x y h k)
+
+pub plus_back_small : (x y : ℤ) → nat_abs x ≤ 2 ^ 100 → nat_abs y ≤ 2 ^ 116 → nat_abs (to_z w128 (of_z w128 (to_z w128 (of_z w128 x) +ℤ to_z w128 (of_z w128 y)))) ≤ 2 ^ 117
+plus_back_small x y h k =
+    let wide = abs_sum x y in
+    let back : to_z w128 (of_z w128 (to_z w128 (of_z w128 x) +ℤ to_z w128 (of_z w128 y))) ≡ x +ℤ y = ap (λ (z : ℤ). to_z w128 (of_z w128 z)) (plus_back_inner x y h k) ∙ unwrapped (x +ℤ y) (omega arith) in
+    subst (λ (z : ℤ). nat_abs z ≤ 2 ^ 117) (sym back) (omega arith)
+
+-- a negative as the code has it
+pub negative_wrapped_fits : (r : ℤ) → nat_abs r ≤ 2 ^ 120 → FitsSigned w128 (pos 0 -ℤ to_z w128 (of_z w128 r))
+negative_wrapped_fits r h = subst (FitsSigned w128) (sym (ap (λ (x : ℤ). pos 0 -ℤ x) (unwrapped r (omega arith)) ∙ zero_minus r)) (negative_fits r h)
+
+pub negative_not_zero : (r : ℤ) → (r ≡ pos 0 → ⊥) → neg_ℤ r ≡ pos 0 → ⊥
+negative_not_zero r o e = o (omega (arith, ints))

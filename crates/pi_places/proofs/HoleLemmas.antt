@@ -3,8 +3,8 @@ use Rattle.std.specs.Prelude.{◌≡◌, ℕ, zero, suc, ◌+◌, ◌<◌, ◌�
 use Rattle.std.specs.List.{insert, remove}
 use Rattle.std.specs.Ordering.{int_eq}
 use Rattle.std.specs.Int.{w64}
-use Rattle.std.proofs.Common.{arith, sym, ◌∙◌, ap, subst, inl, inr}
-use Rattle.std.proofs.lemmas.Int.{ints, by_lt_z}
+use Rattle.std.proofs.Common.{arith, sym, ◌∙◌, ap, subst, inl, inr, to_z, of_z}
+use Rattle.std.proofs.lemmas.Int.{ints, by_lt_z, to_z-of_z}
 use Rattle.std.proofs.lemmas.List.{drop_all, drop_more}
 use Rattle.pi_constraints.specs.declared.domain.TheConstants.{MAX_VALUE}
 use Rattle.pi_constraints.specs.declared.domain.Span.{Span}
@@ -236,3 +236,75 @@ within_span ss at e n up l here low high =
 pub fits_narrow : (n : ℤ) → neg_ℤ (pos 4611686018427387904) ≤ℤ n → n ≤ℤ pos 4611686018427387904 → FitsSigned w64 n
 fits_narrow (pos k) low high = record { sfits = omega (arith, ints, low, high) }
 fits_narrow (negsuc k) low high = record { sfits = omega (arith, ints, low, high) }
+
+-- ---- a number in a span, as the code has both
+
+pub bounds_fit : (n : ℤ) → IsWithinBounds n → FitsSigned w64 n
+bounds_fit n b = fits_narrow n (omega (arith, ints, b.0, b.1)) (omega (arith, ints, b.0, b.1))
+
+next_fits : (n : ℤ) → IsWithinBounds n → FitsSigned w64 (n +ℤ pos 1)
+next_fits n b = fits_narrow (n +ℤ pos 1) (omega (arith, ints, b.0, b.1)) (omega (arith, ints, b.0, b.1))
+
+before_fits : (n : ℤ) → IsWithinBounds n → FitsSigned w64 (n -ℤ pos 1)
+before_fits n b = fits_narrow (n -ℤ pos 1) (omega (arith, ints, b.0, b.1)) (omega (arith, ints, b.0, b.1))
+
+pub next_wrapped_fits : (n : ℤ) → IsWithinBounds n → FitsSigned w64 (to_z w64 (of_z w64 n) +ℤ pos 1)
+next_wrapped_fits n b = subst (λ (z : ℤ). FitsSigned w64 (z +ℤ pos 1)) (sym (to_z-of_z w64 n (bounds_fit n b))) (next_fits n b)
+
+pub before_wrapped_fits : (n : ℤ) → IsWithinBounds n → FitsSigned w64 (to_z w64 (of_z w64 n) -ℤ pos 1)
+before_wrapped_fits n b = subst (λ (z : ℤ). FitsSigned w64 (z -ℤ pos 1)) (sym (to_z-of_z w64 n (bounds_fit n b))) (before_fits n b)
+
+pub next_back : (n : ℤ) → IsWithinBounds n → to_z w64 (of_z w64 (to_z w64 (of_z w64 n) +ℤ pos 1)) ≡ n +ℤ pos 1
+next_back n b = ap (λ (z : ℤ). to_z w64 (of_z w64 (z +ℤ pos 1))) (to_z-of_z w64 n (bounds_fit n b)) ∙ to_z-of_z w64 (n +ℤ pos 1) (next_fits n b)
+
+pub before_back : (n : ℤ) → IsWithinBounds n → to_z w64 (of_z w64 (to_z w64 (of_z w64 n) -ℤ pos 1)) ≡ n -ℤ pos 1
+before_back n b = ap (λ (z : ℤ). to_z w64 (of_z w64 (z -ℤ pos 1))) (to_z-of_z w64 n (bounds_fit n b)) ∙ to_z-of_z w64 (n -ℤ pos 1) (before_fits n b)
+
+pub same_numbers : (x y : ℤ) → FitsSigned w64 x → FitsSigned w64 y → of_z w64 x ≡ of_z w64 y → x ≡ y
+same_numbers x y f g e = sym (to_z-of_z w64 x f) ∙ (ap (to_z w64) e ∙ to_z-of_z w64 y g)
+
+both_ways : (x y : ℤ) → x ≤ℤ y → y ≤ℤ x → x ≡ y
+both_ways x y h k = omega (arith, ints)
+
+pub strictly : (x y : ℤ) → x ≤ℤ y → (of_z w64 x ≡ of_z w64 y → ⊥) → x <ℤ y
+strictly x y h o = by_lt_z x y (λ b. b) (λ b. absurd (o (ap (of_z w64) (both_ways x y h b))))
+
+-- n lies in the span e of a domain
+pub record LiesIn (e : Span) (n : ℤ) : Type 0 where
+  pub low : e.lo ≤ℤ n
+  pub high : n ≤ℤ e.hi
+  pub lo : IsWithinBounds e.lo
+  pub hi : IsWithinBounds e.hi
+  pub is : IsWithinBounds n
+
+pub lies_in : (ss : List Span) (at : ℕ) (e : Span) (n : ℤ) → IsDomain ss → at < length ss → e ≡ get_or ss at e → ((o : Span) → (get_or ss at o).lo ≤ℤ n) → ((o : Span) → n ≤ℤ (get_or ss at o).hi) → LiesIn e n
+lies_in ss at e n up l here from to =
+    let low : e.lo ≤ℤ n = subst (λ (x : Span). x.lo ≤ℤ n) (sym here) (from e) in
+    let high : n ≤ℤ e.hi = subst (λ (x : Span). n ≤ℤ x.hi) (sym here) (to e) in
+    record {
+      low = low;
+      high = high;
+      lo = within_span ss at e e.lo up l here (omega (arith, ints)) (omega (arith, ints));
+      hi = within_span ss at e e.hi up l here (omega (arith, ints)) (omega (arith, ints));
+      is = within_span ss at e n up l here low high;
+    }
+
+-- the span has n alone
+pub alone : (e : Span) (n : ℤ) → LiesIn e n → of_z w64 e.lo ≡ of_z w64 e.hi → (e.lo ≡ n) × (e.hi ≡ n)
+alone e n s bits =
+    let same : e.lo ≡ e.hi = same_numbers e.lo e.hi (bounds_fit e.lo s.lo) (bounds_fit e.hi s.hi) bits in
+    let low : e.lo ≤ℤ n = s.low in
+    let high : n ≤ℤ e.hi = s.high in
+    (omega (arith, ints), omega (arith, ints))
+
+pub below_end : (e : Span) (n : ℤ) → LiesIn e n → (of_z w64 e.lo ≡ of_z w64 e.hi → ⊥) → e.lo ≡ n → n <ℤ e.hi
+below_end e n s o at =
+    let low : e.lo ≤ℤ n = s.low in
+    let high : n ≤ℤ e.hi = s.high in
+    subst (λ (z : ℤ). z <ℤ e.hi) at (strictly e.lo e.hi (omega (arith, ints)) o)
+
+pub ends_within : (ss : List Span) (at : ℕ) (e : Span) → IsDomain ss → at < length ss → e ≡ get_or ss at e → IsWithinBounds e.lo × IsWithinBounds e.hi
+ends_within ss at e up l here =
+    let span = AscendFrom-get_or (neg_ℤ MAX_VALUE) ss at e up l in
+    let ordered : e.lo ≤ℤ e.hi = subst (λ (x : Span). x.lo ≤ℤ x.hi) (sym here) span.ordered in
+    (within_span ss at e e.lo up l here (omega (arith, ints)) ordered, within_span ss at e e.hi up l here ordered (omega (arith, ints)))

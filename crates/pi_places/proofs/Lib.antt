@@ -14,3 +14,4 @@ pub mod OneLemmas
 pub mod AskLemmas
 pub mod WholeLemmas
 pub mod WithLemmas
+pub mod WideLemmas

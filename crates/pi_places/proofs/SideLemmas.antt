@@ -30,6 +30,9 @@ pub side_is : (constant : Option ℤ) (ts : List (ℤ × ℕ)) (ds : List (List 
 side_is None ts ds k n c l = refl
 side_is (Some m) ts ds k n c l = ap (λ (x : ℤ). int_le (coefficient_at ts k *ℤ n +ℤ (m +ℤ x)) (pos 0)) (sym (others_are ts ds k c l))
 
+pub rest_is : (constant : Option ℤ) (m all part x : ℤ) → constant ≡ Some m → x ≡ m +ℤ (all -ℤ part) → Some x ≡ rest_with constant all part
+rest_is constant m all part x e f = ap (λ (z : ℤ). Some z) f ∙ ap (λ (k : Option ℤ). rest_with k all part) (sym e)
+
 pub passes_is : (constant : Option ℤ) (all part x : ℤ) → passes (rest_with constant all part) x ≡ side_passes constant all part x
 passes_is None all part x = refl
 passes_is (Some m) all part x = refl

@@ -1,6 +1,7 @@
 use Rattle.std.proofs.Common.{rules, arith, ◌≡◌, ℤ, true, false, refl, inl, inr, FitsSigned, w64, to_z, of_z, ◌≤ℤ◌, ◌<ℤ◌}
 use Rattle.std.specs.Prelude.{int_lt}
 use Rattle.std.proofs.lemmas.Int.{ints, to_z-of_z}
+use Rattle.std.proofs.lemmas.Bool.{false≢true}
 use Rattle.pi_places.proofs.AskLemmas.{shared_first, shared_next, shared_turned, shared_over, shared_here}
 use Rattle.pi_places.proofs.asks.spans_share.Goals as goal
 
@@ -31,7 +32,7 @@ returns-else-e-j c = (
 )
 
 pub returns-else-j-e : goal.returns-else-j-e
-returns-else-j-e c = (λ t. absurd (cc), λ h. absurd (shared_over c.args.d.now c.args.e.now c.loop-i.i c.loop-i.j (inr c.if-j-e.false) c.loop-i.invariant h))
+returns-else-j-e c = (λ t. absurd (false≢true t), λ h. absurd (shared_over c.args.d.now c.args.e.now c.loop-i.i c.loop-i.j (inr c.if-j-e.false) c.loop-i.invariant h))
 
 pub returns-after-loop-i : goal.returns-after-loop-i
-returns-after-loop-i c = (λ t. absurd (cc), λ h. absurd (shared_over c.args.d.now c.args.e.now c.loop-i.i c.loop-i.j (inl c.loop-i-test.false) c.loop-i.invariant h))
+returns-after-loop-i c = (λ t. absurd (false≢true t), λ h. absurd (shared_over c.args.d.now c.args.e.now c.loop-i.i c.loop-i.j (inl c.loop-i-test.false) c.loop-i.invariant h))

@@ -1,11 +1,11 @@
-use Rattle.std.proofs.Common.{ℤ, ◌≡◌, ◌+ℤ◌, ap, subst, length, drop, FitsSigned, arith}
+use Rattle.std.proofs.Common.{ℤ, ◌≡◌, ◌≢◌, ◌≤◌, ◌^◌, ◌+ℤ◌, pos, nat_abs, ap, subst, sym, length, drop, FitsSigned, arith}
 use Rattle.std.specs.Int.{w128}
 use Rattle.std.proofs.lemmas.Int.{to_z-of_z, fits_signed_from_abs}
 use Rattle.pi_filters.specs.Sums.{coefficient_at, least_of_all}
 use Rattle.pi_places.specs.Roots.{ShowsOpen}
 use Rattle.pi_places.specs.declared.roots.Open.{Open}
-use Rattle.pi_places.proofs.FitLemmas.{plus_fits}
-use Rattle.pi_places.proofs.RootLemmas.{every_root, one_root}
+use Rattle.pi_places.proofs.FitLemmas.{unwrapped, plus_fits, plus_back_fits, plus_back_small}
+use Rattle.pi_places.proofs.RootLemmas.{every_root, one_root, no_root}
 use Rattle.pi_places.proofs.roots.remove_roots.Goals as goal
 
 pub returns-in_ok-remove_each-in-Nowhere : goal.returns-in_ok-remove_each-in-Nowhere
@@ -39,3 +39,35 @@ returns-in_ok-remove_at-in-Once g c =
     let sum : (m +ℤ least) ≡ (m +ℤ least_of_all ts (drop c.args.first ds)) = ap (λ (z : ℤ). m +ℤ z) c.extremes-all.ensures.least in
     let cut = simp to_z-of_z at c.in_ok-remove_at-in-Once.ensures in
     (Open.Once i, shows, one_root c.args.first i ts m (m +ℤ least) ds _ c.requires.count shows.0 sum cut)
+
+pub returns-in-Often : goal.returns-in-Often
+returns-in-Often g c =
+    let ds = g.P.Places.domains c.args.places.now in
+    let ts = c.args.terms.now in
+    (Open.Often, subst (λ (spot : Open). ShowsOpen (drop c.args.first ds) (length ts) spot) c.in-Often.is c.open_places.ensures, no_root c.args.first ts c.args.constant ds)
+
+pub overflow_add-sum : goal.overflow_add-sum
+overflow_add-sum g c = plus_back_fits c.args.constant c.extremes-all.result.least c.requires.constant c.extremes-all.ensures.small.0
+
+pub remove_each-requires-clause-sum : goal.remove_each-requires-clause-sum
+remove_each-requires-clause-sum g c = plus_back_small c.args.constant c.extremes-all.result.least c.requires.constant c.extremes-all.ensures.small.0
+
+pub bounds-terms-i : goal.bounds-terms-i
+bounds-terms-i g c =
+    let shows = subst (λ (spot : Open). ShowsOpen (drop c.args.first (g.P.Places.domains c.args.places.now)) (length c.args.terms.now) spot) c.in-Once.is c.open_places.ensures in
+    shows.0
+
+pub remove_at-requires-clause-coefficient : goal.remove_at-requires-clause-coefficient
+remove_at-requires-clause-coefficient g c =
+    let shows = subst (λ (spot : Open). ShowsOpen (drop c.args.first (g.P.Places.domains c.args.places.now)) (length c.args.terms.now) spot) c.in-Once.is c.open_places.ensures in
+    let co = c.requires.coefficients c.in-Once.i shows.0 in
+    subst (λ (z : ℤ). z ≢ pos 0) (sym (unwrapped (coefficient_at c.args.terms.now c.in-Once.i) (omega (arith, co.1)))) co.0
+
+pub remove_at-requires-clause-narrow : goal.remove_at-requires-clause-narrow
+remove_at-requires-clause-narrow g c =
+    let shows = subst (λ (spot : Open). ShowsOpen (drop c.args.first (g.P.Places.domains c.args.places.now)) (length c.args.terms.now) spot) c.in-Once.is c.open_places.ensures in
+    let co = c.requires.coefficients c.in-Once.i shows.0 in
+    subst (λ (z : ℤ). nat_abs z ≤ 2 ^ 40) (sym (unwrapped (coefficient_at c.args.terms.now c.in-Once.i) (omega (arith, co.1)))) co.1
+
+pub remove_at-requires-clause-sum : goal.remove_at-requires-clause-sum
+remove_at-requires-clause-sum g c = plus_back_small c.args.constant c.extremes-all.result.least c.requires.constant c.extremes-all.ensures.small.0

@@ -1,7 +1,7 @@
 use Rattle.std.proofs.Common.{◌∙◌, ◌-ℤ◌, ◌*ℤ◌, ◌≤◌, ◌^◌, ℤ, pos, neg_ℤ, sym, subst, nat_abs, FitsSigned}
 use Rattle.std.specs.Int.{int_min, w128}
 use Rattle.std.proofs.lemmas.Int.{to_z-of_z}
-use Rattle.pi_places.proofs.FitLemmas.{product_small, product_fits, min_small, opposite_fits, opposite_small, opposite_of, opposite_wrapped_fits}
+use Rattle.pi_places.proofs.FitLemmas.{product_small, product_fits, product_wrapped_fits, min_small, opposite_fits, opposite_small, opposite_of, opposite_wrapped_fits}
 use Rattle.pi_places.proofs.terms.extremes_of.Goals as goal
 
 pub returns-clause-least : goal.returns-clause-least
@@ -43,3 +43,9 @@ overflow_sub-first c = opposite_wrapped_fits c.args.coefficient c.args.lo c.rang
 
 pub overflow_sub-last : goal.overflow_sub-last
 overflow_sub-last c = opposite_wrapped_fits c.args.coefficient c.args.hi c.ranges.coefficient c.ranges.hi c.requires.coefficient c.requires.high
+
+pub overflow_mul-first : goal.overflow_mul-first
+overflow_mul-first c = product_wrapped_fits c.args.coefficient c.args.lo c.ranges.coefficient c.ranges.lo c.requires.coefficient c.requires.low
+
+pub overflow_mul-last : goal.overflow_mul-last
+overflow_mul-last c = product_wrapped_fits c.args.coefficient c.args.hi c.ranges.coefficient c.ranges.hi c.requires.coefficient c.requires.high

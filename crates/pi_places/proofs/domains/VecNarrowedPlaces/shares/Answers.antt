@@ -1,5 +1,6 @@
 use Rattle.std.proofs.Common.{[], ap, sym, subst, ◌∙◌, List, inl, inr, option_copied}
 use Rattle.std.proofs.lemmas.Option.{get_or_from_slice_get}
+use Rattle.std.proofs.lemmas.Bool.{false≢true}
 use Rattle.pi_constraints.specs.declared.domain.Span.{Span}
 use Rattle.pi_filters.specs.Places.{domain_at}
 use Rattle.pi_filters.specs.Rules.{ShareAValue}
@@ -8,10 +9,10 @@ use Rattle.pi_places.proofs.AskLemmas.{none_shared}
 use Rattle.pi_places.proofs.domains.VecNarrowedPlaces.shares.Goals as goal
 
 pub returns-in-None : goal.returns-in-None
-returns-in-None c = (λ t. absurd (cc), λ h. absurd (none_shared _ _ (inl (nowhere c.args.self.now.items c.args.j (sym c.narrowed_at.ensures ∙ ap option_copied c.in-None.is))) h))
+returns-in-None c = (λ t. absurd (false≢true t), λ h. absurd (none_shared _ _ (inl (nowhere c.args.self.now.items c.args.j (sym c.narrowed_at.ensures ∙ ap option_copied c.in-None.is))) h))
 
 pub returns-in-None-narrowed_at : goal.returns-in-None-narrowed_at
-returns-in-None-narrowed_at c = (λ t. absurd (cc), λ h. absurd (none_shared _ _ (inr (nowhere c.args.self.now.items c.args.k (sym c.narrowed_at-in-Some.ensures ∙ ap option_copied c.in-None-narrowed_at.is))) h))
+returns-in-None-narrowed_at c = (λ t. absurd (false≢true t), λ h. absurd (none_shared _ _ (inr (nowhere c.args.self.now.items c.args.k (sym c.narrowed_at-in-Some.ensures ∙ ap option_copied c.in-None-narrowed_at.is))) h))
 
 pub returns-in-Some-narrowed_at : goal.returns-in-Some-narrowed_at
 returns-in-Some-narrowed_at c =
