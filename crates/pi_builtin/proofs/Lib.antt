@@ -8,6 +8,7 @@ mod KindLemmas
 mod NamedLemmas
 mod NamesLemmas
 mod NamingLemmas
+mod OperationLemmas
 pub mod PartLemmas
 mod PredicateTables
 pub mod ResultLemmas

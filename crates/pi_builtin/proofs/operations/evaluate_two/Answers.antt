@@ -1,3 +1,6 @@
+use Rattle.std.proofs.Common.{◌≡◌, Some, ap, ap₂, rules, ◌∙◌, to_z, of_z}
+use Rattle.std.specs.Int.{w128}
+use Rattle.pi_terms.specs.Tree.{int}
 use Rattle.pi_arith.specs.Value.{value_of}
 use Rattle.pi_states.specs.Store.{IsTerm}
 use Rattle.pi_effects.specs.Answer.{integer_then}
@@ -5,6 +8,7 @@ use Rattle.pi_effects.specs.Integers.{number, outcome_then}
 use Rattle.pi_effects.specs.declared.fault.Stop.{Stop}
 use Rattle.pi_effects.proofs.FaultLemmas.{integer-stops, integers-stop}
 use Rattle.pi_builtin.proofs.ResultLemmas.{stays-none, stopped-shows}
+use Rattle.pi_builtin.proofs.OperationLemmas.{values-stop, values-are}
 use Rattle.pi_builtin.proofs.operations.evaluate_two.Goals as goal
 
 pub returns-in_err-m-clause-stays : goal.returns-in_err-m-clause-stays
@@ -35,3 +39,21 @@ returns-in_err-put_int-clause-shows g c = λ t u a one two.
 
 pub returns-clause-stays : goal.returns-clause-stays
 returns-clause-stays g c = c.in_ok-put_int.ensures.ok.changes
+
+pub returns-in_err-value-clause-shows : goal.returns-in_err-value-clause-shows
+returns-in_err-value-clause-shows g c = λ t u a one two.
+    let v = g.S.StateStore.seen c.args.s.now in
+    let left : to_z w128 (of_z w128 c.in_ok-m.m) ≡ c.in_ok-m.m = search rules in
+    let right : to_z w128 (of_z w128 c.in_ok-n.n) ≡ c.in_ok-n.n = search rules in
+    stopped-shows (IsTerm v) v c.from_residual-in_err-value.result _ _ c.from_residual-in_err-value.ensures.1
+    (values-stop v t u (value_of c.args.op) number c.in_ok-m.m c.in_ok-n.n _ (value_of c.args.op (to_z w128 (of_z w128 c.in_ok-m.m)) (to_z w128 (of_z w128 c.in_ok-n.n))) (c.in_ok-m.ensures t a one) (c.in_ok-n.ensures u a two) c.in_err-value.ensures (ap₂ (value_of c.args.op) left right))
+
+pub returns-clause-shows : goal.returns-clause-shows
+returns-clause-shows g c = λ t u a one two.
+    let left : to_z w128 (of_z w128 c.in_ok-m.m) ≡ c.in_ok-m.m = search rules in
+    let right : to_z w128 (of_z w128 c.in_ok-n.n) ≡ c.in_ok-n.n = search rules in
+    let same : to_z w128 (of_z w128 c.in_ok-value.value) ≡ c.in_ok-value.value = search rules in (
+      int c.in_ok-value.value,
+      values-are (g.S.StateStore.seen c.args.s.now).now.state t u (value_of c.args.op) number c.in_ok-m.m c.in_ok-n.n c.in_ok-value.value (value_of c.args.op (to_z w128 (of_z w128 c.in_ok-m.m)) (to_z w128 (of_z w128 c.in_ok-n.n))) (c.in_ok-m.ensures t a one) (c.in_ok-n.ensures u a two) c.in_ok-value.ensures (ap₂ (value_of c.args.op) left right),
+      c.in_ok-put_int.ensures.ok.term ∙ ap (λ z. Some (int z)) same,
+    )
