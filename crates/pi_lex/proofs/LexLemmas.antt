@@ -1,11 +1,11 @@
 -- Turns of the loops of the definition.
-use Rattle.std.proofs.Common.{◌≡◌, ◌≢◌, ℕ, ◌+◌, ◌*◌, ◌<◌, ◌≤◌, List, [], ◌∷◌, filter, not, ◌==◌, arith, get_or, drop, IsTrue, le_refl, le_trans, mul-le-mul_left, inl, inr, length, true, false, cond, Bool, ◌||◌, ◌&&◌, sym, ◌∙◌, ap, refl}
-use Rattle.std.proofs.lemmas.Bool.{cases_Bool, false≢true, or_left, and_left, ne_eqb, cond-true, cond-false, not_from_true, not_from_false}
+use Rattle.std.proofs.Common.{◌≡◌, ◌≢◌, ℕ, ◌+◌, ◌*◌, ◌<◌, ◌≤◌, List, [], ◌∷◌, filter, not, ◌==◌, arith, get_or, drop, IsTrue, le_refl, le_trans, zero, suc, mul-le-mul_left, inl, inr, length, true, false, cond, Bool, ◌||◌, ◌&&◌, sym, ◌∙◌, ap, refl, Option, None, Some, is_some}
+use Rattle.std.proofs.lemmas.Bool.{cases_Bool, false≢true, or_left, and_left, and_right, and_from, ne_eqb, cond-true, cond-false, not_from_true, not_from_false}
 use Rattle.std.proofs.lemmas.Bool.Decides.{nat_tests}
 use Rattle.std.proofs.lemmas.List.{drop_more, get_or-drop, get_or_read}
 use Rattle.std.specs.Char.{is_digit, digit_value, is_ascii_digit}
 use Rattle.std.specs.Str.Parse.{digits_value_after}
-use Rattle.pi_syntax.specs.Tokens.{underscore, digits_end, goes_on, radix_of, zero_digit, letter_x, letter_o, letter_b}
+use Rattle.pi_syntax.specs.Tokens.{underscore, digits_end, goes_on, radix_of, zero_digit, letter_x, letter_o, letter_b, line_feed, backslash, star, slash, escaped, closing_place, comment_end}
 
 -- digits go on only to make the number larger
 pub le-digits_value_after : (radix n : ℕ) (ds : List ℕ) → 1 ≤ radix → n ≤ digits_value_after radix n ds
@@ -143,3 +143,79 @@ third_digit [] c radix small is digit = absurd (no_digit radix small (digit ∙ 
 third_digit (x ∷ []) c radix small is digit = absurd (no_digit radix small (digit ∙ ap (λ y. is_digit y radix) is))
 third_digit (x ∷ y ∷ []) c radix small is digit = absurd (no_digit radix small (digit ∙ ap (λ z. is_digit z radix) is))
 third_digit (x ∷ y ∷ z ∷ text) c radix small is digit = omega arith
+
+-- one place of `closing_place`
+pub closing_place-drop : (quote place : ℕ) (behind : Bool) (text : List ℕ) (i c : ℕ) → i < length text → c ≡ get_or text i c
+    → closing_place quote behind place (drop i text) ≡ closing_place quote behind place (c ∷ drop (i + 1) text)
+closing_place-drop quote place behind text i c within read =
+    ap (closing_place quote behind place) (drop_more text i 0 within)
+    ∙ ap (λ x. closing_place quote behind place (x ∷ drop (i + 1) text)) (sym (get_or_read text i c within read 0))
+
+pub closing-escape : (quote place : ℕ) (behind : Bool) (c : ℕ) (rest : List ℕ) → behind ≡ true → is_some (escaped c) ≡ true
+    → closing_place quote behind place (c ∷ rest) ≡ closing_place quote false (place + 1) rest
+closing-escape quote place true c rest is some = cond-true _ _ _ some
+closing-escape quote place false c rest is some = absurd (false≢true is)
+
+pub closing-bad_escape : (quote place : ℕ) (behind : Bool) (c : ℕ) (rest : List ℕ) → behind ≡ true → is_some (escaped c) ≡ false
+    → closing_place quote behind place (c ∷ rest) ≡ None
+closing-bad_escape quote place true c rest is none = cond-false _ _ _ none
+closing-bad_escape quote place false c rest is none = absurd (false≢true is)
+
+pub closing-quote : (quote place : ℕ) (behind : Bool) (c : ℕ) (rest : List ℕ) → behind ≡ false → c ≡ quote
+    → closing_place quote behind place (c ∷ rest) ≡ Some place
+closing-quote quote place true c rest is same = absurd (false≢true (sym is))
+closing-quote quote place false c rest is same =
+    let test : (c == quote) ≡ true = grind (arith, nat_tests) in
+    cond-true _ _ _ test
+
+pub closing-break : (quote place : ℕ) (behind : Bool) (c : ℕ) (rest : List ℕ) → behind ≡ false → c ≢ quote → c ≡ line_feed
+    → closing_place quote behind place (c ∷ rest) ≡ None
+closing-break quote place true c rest is unquoted same = absurd (false≢true (sym is))
+closing-break quote place false c rest is unquoted same =
+    cond-false _ _ _ (ne_eqb c quote unquoted) ∙ cond-true _ _ _ (ap (λ x. x == line_feed) same)
+
+pub closing-plain : (quote place : ℕ) (behind : Bool) (c : ℕ) (rest : List ℕ) → behind ≡ false → c ≢ quote → c ≢ line_feed
+    → closing_place quote behind place (c ∷ rest) ≡ closing_place quote (c == backslash) (place + 1) rest
+closing-plain quote place true c rest is unquoted unbroken = absurd (false≢true (sym is))
+closing-plain quote place false c rest is unquoted unbroken =
+    cond-false _ _ _ (ne_eqb c quote unquoted) ∙ cond-false _ _ _ (ne_eqb c line_feed unbroken)
+
+-- the quote that was read is the first character
+pub closing-first : (text : List ℕ) (quote : ℕ) (found : Option ℕ) → 0 < length text → quote ≡ get_or text 0 quote
+    → closing_place quote false 1 (drop 1 text) ≡ found → found ≡ closing_place (get_or text 0 0) false 1 (drop 1 text)
+closing-first text quote found some read is = sym is ∙ ap (λ q. closing_place q false 1 (drop 1 text)) (get_or_read text 0 quote some read 0)
+
+-- one place of `comment_end`
+pub comment_end-drop : (place : ℕ) (text : List ℕ) (i c : ℕ) → i < length text → c ≡ get_or text i c
+    → comment_end place (drop i text)
+    ≡ cond (c == star && get_or (drop (i + 1) text) 0 0 == slash) (Some (place + 2)) (comment_end (place + 1) (drop (i + 1) text))
+comment_end-drop place text i c within read =
+    ap (comment_end place) (drop_more text i 0 within)
+    ∙ ap (λ x. comment_end place (x ∷ drop (i + 1) text)) (sym (get_or_read text i c within read 0))
+
+pub comment-other : (place : ℕ) (text : List ℕ) (i c : ℕ) → i < length text → c ≡ get_or text i c → c ≢ star
+    → comment_end place (drop i text) ≡ comment_end (place + 1) (drop (i + 1) text)
+comment-other place text i c within read other =
+    comment_end-drop place text i c within read ∙ cond-false _ _ _ (and_left _ _ (ne_eqb c star other))
+
+pub comment-star : (place : ℕ) (text : List ℕ) (i c d : ℕ) → i < length text → c ≡ get_or text i c → d ≡ get_or text (i + 1) 0 → d ≢ slash
+    → comment_end place (drop i text) ≡ comment_end (place + 1) (drop (i + 1) text)
+comment-star place text i c d within read next other =
+    let at : i + 1 + 0 ≡ i + 1 = omega arith in
+    let behind : get_or (drop (i + 1) text) 0 0 ≡ d = get_or-drop (i + 1) text 0 0 ∙ ap (λ (k : ℕ). get_or text k 0) at ∙ sym next in
+    comment_end-drop place text i c within read
+    ∙ cond-false _ _ _ (and_right _ _ (ne_eqb (get_or (drop (i + 1) text) 0 0) slash (λ same. other (sym behind ∙ same))))
+
+pub comment-found : (place : ℕ) (text : List ℕ) (i c d : ℕ) → i < length text → c ≡ get_or text i c → d ≡ get_or text (i + 1) 0 → c ≡ star → d ≡ slash
+    → comment_end place (drop i text) ≡ Some (place + 2)
+comment-found place text i c d within read next first_is second_is =
+    let at : i + 1 + 0 ≡ i + 1 = omega arith in
+    let behind : get_or (drop (i + 1) text) 0 0 ≡ slash = get_or-drop (i + 1) text 0 0 ∙ ap (λ (k : ℕ). get_or text k 0) at ∙ sym next ∙ second_is in
+    comment_end-drop place text i c within read
+    ∙ cond-true _ _ _ (and_from _ _ (ap (λ x. x == star) first_is) (ap (λ x. x == slash) behind))
+
+-- a character that isn't 0 was read in the text
+pub read_within : (text : List ℕ) (i d : ℕ) → d ≡ get_or text i 0 → 0 < d → i < length text
+read_within [] i d is some = absurd (omega (arith, is, some))
+read_within (x ∷ text) zero d is some = omega arith
+read_within (x ∷ text) (suc i) d is some = omega (arith, read_within text i d is some)
