@@ -63,10 +63,10 @@ above_lowest x y a b t = subst (λ (z : ℤ). neg_ℤ MAX_VALUE <ℤ z) (sym (to
 pub below_highest : (x y : ℤ) → IsWithinBounds x → IsWithinBounds y → int_le (to_z w64 (of_z w64 x)) (to_z w64 (of_z w64 y)) ≡ false → to_z w64 (of_z w64 y) <ℤ MAX_VALUE
 below_highest x y a b t = subst (λ (z : ℤ). z <ℤ MAX_VALUE) (sym (to_z-of_z w64 y (bounds_fit y b))) (to_highest y x a (above_is x y a b t))
 
-lt_test : (x y : ℤ) → x <ℤ y → int_lt x y ≡ true
+pub lt_test : (x y : ℤ) → x <ℤ y → int_lt x y ≡ true
 lt_test x y h = grind (arith, ints)
 
-test_lt : (x y : ℤ) → int_lt x y ≡ true → x <ℤ y
+pub test_lt : (x y : ℤ) → int_lt x y ≡ true → x <ℤ y
 test_lt x y h = grind (arith, ints)
 
 pub wide_below : (n x r : ℤ) → IsWithinBounds x → r ≡ to_z w64 (of_z w64 x) → int_lt n (to_z w128 (of_z w128 r)) ≡ true → n <ℤ x
@@ -74,3 +74,25 @@ wide_below n x r b e t = test_lt n x (sym (ap (int_lt n) (widened x r b e)) ∙ 
 
 pub wide_not_below : (n x r : ℤ) → IsWithinBounds x → r ≡ to_z w64 (of_z w64 x) → int_lt n (to_z w128 (of_z w128 r)) ≡ false → x ≤ℤ n
 wide_not_below n x r b e t = by_lt_z n x (λ h. absurd (false≢true (sym t ∙ (ap (int_lt n) (widened x r b e) ∙ lt_test n x h)))) (λ h. h)
+
+pub wide_above : (n x r : ℤ) → IsWithinBounds x → r ≡ to_z w64 (of_z w64 x) → int_lt (to_z w128 (of_z w128 r)) n ≡ true → x <ℤ n
+wide_above n x r b e t = test_lt x n (sym (ap (λ (z : ℤ). int_lt z n) (widened x r b e)) ∙ t)
+
+pub lt_le : (x y : ℤ) → x <ℤ y → x ≤ℤ y
+lt_le x y h = omega (arith, ints)
+
+-- a number of 128 bits as one of 64
+pub narrowed_back : (n : ℤ) → FitsSigned w128 n → IsWithinBounds n → to_z w64 (of_z w64 (to_z w128 (of_z w128 n))) ≡ n
+narrowed_back n f b = ap (λ (z : ℤ). to_z w64 (of_z w64 z)) (to_z-of_z w128 n f) ∙ to_z-of_z w64 n (bounds_fit n b)
+
+pub le_told : (x y : ℤ) → FitsSigned w64 x → FitsSigned w64 y → int_le (to_z w64 (of_z w64 x)) (to_z w64 (of_z w64 y)) ≡ true → x ≤ℤ y
+le_told x y f g t = test_le x y (sym (λ i. int_le (to_z-of_z w64 x f i) (to_z-of_z w64 y g i)) ∙ t)
+
+pub told_le : (x y : ℤ) → FitsSigned w64 x → FitsSigned w64 y → x ≤ℤ y → int_le (to_z w64 (of_z w64 x)) (to_z w64 (of_z w64 y)) ≡ true
+told_le x y f g h = (λ i. int_le (to_z-of_z w64 x f i) (to_z-of_z w64 y g i)) ∙ le_test x y h
+
+pub lt_told : (x y : ℤ) → FitsSigned w64 x → FitsSigned w64 y → int_lt (to_z w64 (of_z w64 x)) (to_z w64 (of_z w64 y)) ≡ true → x <ℤ y
+lt_told x y f g t = test_lt x y (sym (λ i. int_lt (to_z-of_z w64 x f i) (to_z-of_z w64 y g i)) ∙ t)
+
+pub not_lt_told : (x y : ℤ) → FitsSigned w64 x → FitsSigned w64 y → int_lt (to_z w64 (of_z w64 x)) (to_z w64 (of_z w64 y)) ≡ false → y ≤ℤ x
+not_lt_told x y f g t = by_lt_z x y (λ h. absurd (false≢true (sym t ∙ ((λ i. int_lt (to_z-of_z w64 x f i) (to_z-of_z w64 y g i)) ∙ lt_test x y h)))) (λ h. h)

@@ -1,33 +1,25 @@
-use Rattle.std.proofs.Common.{rules, arith, ◌≡◌, ℤ, true, false, refl, inl, inr, FitsSigned, w64, to_z, of_z, ◌≤ℤ◌, ◌<ℤ◌}
-use Rattle.std.specs.Prelude.{int_lt}
-use Rattle.std.proofs.lemmas.Int.{ints, to_z-of_z}
+use Rattle.std.proofs.Common.{rules, refl, inl, inr}
 use Rattle.std.proofs.lemmas.Bool.{false≢true}
 use Rattle.pi_places.proofs.AskLemmas.{shared_first, shared_next, shared_turned, shared_over, shared_here}
+use Rattle.pi_places.proofs.WideLemmas.{lt_told, not_lt_told}
 use Rattle.pi_places.proofs.asks.spans_share.Goals as goal
-
--- the test of the code, at numbers of 64 bits
-below : (x y : ℤ) → FitsSigned w64 x → FitsSigned w64 y → int_lt (to_z w64 (of_z w64 x)) (to_z w64 (of_z w64 y)) ≡ true → x <ℤ y
-below x y f g h = grind (arith, ints, to_z-of_z)
-
-not_below : (x y : ℤ) → FitsSigned w64 x → FitsSigned w64 y → int_lt (to_z w64 (of_z w64 x)) (to_z w64 (of_z w64 y)) ≡ false → y ≤ℤ x
-not_below x y f g h = grind (arith, ints, to_z-of_z)
 
 pub loop-i-init : goal.loop-i-init
 loop-i-init c = shared_first c.args.d.now c.args.e.now
 
 pub loop-i-preserved-then-d-i : goal.loop-i-preserved-then-d-i
 loop-i-preserved-then-d-i c =
-    shared_next c.args.d.now c.args.e.now c.loop-i.i c.loop-i.j _ c.requires.second c.loop-i-test.true c.if-j-e.true (below _ _ (search rules) (search rules) c.if-d-i.true) c.loop-i.invariant
+    shared_next c.args.d.now c.args.e.now c.loop-i.i c.loop-i.j _ c.requires.second c.loop-i-test.true c.if-j-e.true (lt_told _ _ (search rules) (search rules) c.if-d-i.true) c.loop-i.invariant
 
 pub loop-i-preserved : goal.loop-i-preserved
 loop-i-preserved c =
     shared_turned c.args.e.now c.args.d.now _ _
-    (shared_next c.args.e.now c.args.d.now c.loop-i.j c.loop-i.i _ c.requires.first c.if-j-e.true c.loop-i-test.true (below _ _ (search rules) (search rules) c.if-e-j.true) (shared_turned c.args.d.now c.args.e.now _ _ c.loop-i.invariant))
+    (shared_next c.args.e.now c.args.d.now c.loop-i.j c.loop-i.i _ c.requires.first c.if-j-e.true c.loop-i-test.true (lt_told _ _ (search rules) (search rules) c.if-e-j.true) (shared_turned c.args.d.now c.args.e.now _ _ c.loop-i.invariant))
 
 pub returns-else-e-j : goal.returns-else-e-j
 returns-else-e-j c = (
   λ t. shared_here c.args.d.now c.args.e.now c.loop-i.i c.loop-i.j _ c.requires.first c.requires.second c.loop-i-test.true c.if-j-e.true
-      (not_below _ _ (search rules) (search rules) c.if-d-i.false) (not_below _ _ (search rules) (search rules) c.if-e-j.false),
+      (not_lt_told _ _ (search rules) (search rules) c.if-d-i.false) (not_lt_told _ _ (search rules) (search rules) c.if-e-j.false),
   λ h. refl,
 )
 

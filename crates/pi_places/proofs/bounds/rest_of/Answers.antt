@@ -1,4 +1,4 @@
-use Rattle.std.proofs.Common.{ℤ, ap, subst, sym, arith, Option, ◌≡◌, ◌≤◌, ◌^◌, nat_abs}
+use Rattle.std.proofs.Common.{ℤ, ap, subst, sym, arith, Option, ◌≤◌, ◌^◌, nat_abs}
 use Rattle.pi_places.specs.Terms.{MayBeConstant, rest_with}
 use Rattle.pi_places.proofs.FitLemmas.{minus_back_fits, rest_small, rest_fits, rest_back}
 use Rattle.pi_places.proofs.SideLemmas.{rest_is}

@@ -1,4 +1,4 @@
-use Rattle.std.proofs.Common.{◌≡◌, ◌<ℤ◌, w64, sym}
+use Rattle.std.proofs.Common.{◌≡◌, w64, sym}
 use Rattle.std.proofs.lemmas.Int.{to_z-of_z}
 use Rattle.pi_places.proofs.HoleLemmas.{lies_in, alone, below_end, same_numbers, strictly, bounds_fit, next_back, before_back, next_wrapped_fits, before_wrapped_fits, removed_is, removed_has, first_is, first_has, last_is, last_has, middle_is, middle_has}
 use Rattle.pi_places.proofs.holes.drop_from.Goals as goal

@@ -1,4 +1,4 @@
-use Rattle.std.proofs.Common.{arith, ℤ, ◌≢◌, ◌≡◌, ◌*ℤ◌, pos, neg_ℤ, subst, sym, to_z, of_z}
+use Rattle.std.proofs.Common.{arith, ℤ, ◌≢◌, ◌*ℤ◌, pos, neg_ℤ, subst, sym}
 use Rattle.std.specs.Int.{w128}
 use Rattle.std.proofs.lemmas.Int.{to_z-of_z}
 use Rattle.pi_places.specs.Changes.{IsCutAt}

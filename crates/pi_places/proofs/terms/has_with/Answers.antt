@@ -2,7 +2,7 @@ use Rattle.std.proofs.Common.{arith, ◌≡◌, ◌∙◌, neg_ℤ, FitsSigned}
 use Rattle.std.specs.Int.{w128, int_div_euclid}
 use Rattle.std.proofs.lemmas.Int.{ints, to_z-of_z}
 use Rattle.pi_filters.specs.Places.{domain_at}
-use Rattle.pi_places.proofs.FitLemmas.{negative_back}
+use Rattle.pi_places.proofs.FitLemmas.{negative_back, negative_wrapped_fits}
 use Rattle.pi_places.proofs.WithLemmas.{with_above, with_below}
 use Rattle.pi_places.proofs.terms.has_with.Goals as goal
 
@@ -29,3 +29,12 @@ returns-else-coefficient-gt0 g c =
     let test = c.if-coefficient-gt0.false in
     let has = simp to_z-of_z at c.has_between-else-coefficient-gt0.ensures in
     with_below (domain_at (g.P.Places.domains c.args.places.now) c.args.k) c.args.coefficient c.args.above c.args.below c.div_euclid-first.result c.div_euclid-last.result c.has_between-else-coefficient-gt0.result (omega (arith, ints)) c.requires.coefficient first last has
+
+pub overflow_sub-above : goal.overflow_sub-above
+overflow_sub-above g c = negative_wrapped_fits c.args.above c.requires.above
+
+pub overflow_sub-below : goal.overflow_sub-below
+overflow_sub-below g c = negative_wrapped_fits c.args.below c.requires.below
+
+pub overflow_sub-coefficient : goal.overflow_sub-coefficient
+overflow_sub-coefficient g c = negative_wrapped_fits c.args.coefficient (omega (arith, c.requires.small))
