@@ -1,13 +1,13 @@
 -- Places that have different variables.
-use Rattle.std.specs.Prelude.{◌≡◌, ◌⊎◌, ℕ, zero, suc, ◌+◌, ◌-◌, ◌<◌, ◌≤◌, ℤ, pos, IsTrue, Some, slice_get, get_or, take, List, [], ◌∷◌, ◌++◌, length, refl}
+use Rattle.std.specs.Prelude.{◌≡◌, ◌⊎◌, ℕ, zero, suc, ◌+◌, ◌<◌, ◌≤◌, ℤ, pos, IsTrue, Some, slice_get, get_or, take, List, [], ◌∷◌, ◌++◌, length, refl}
 use Rattle.std.proofs.Common.{arith, sym, ◌∙◌, ap, subst, inl, inr}
 use Rattle.std.proofs.lemmas.Bool.{cases_eq}
-use Rattle.std.proofs.lemmas.Option.{slice_get_within}
+use Rattle.std.proofs.lemmas.Option.{slice_get_within, slice_get-get_or}
 use Rattle.std.proofs.lemmas.List.{take_more, take_all}
 use Rattle.pi_constraints.specs.declared.constraint.Item.{Item}
 use Rattle.pi_constraints.specs.declared.domain.Span.{Span}
 use Rattle.pi_constraints.specs.Domain.{has_value}
-use Rattle.pi_filters.specs.Places.{domain_at, HaveOneVariable, sum_places}
+use Rattle.pi_filters.specs.Places.{domain_at, sum_places}
 use Rattle.pi_filters.proofs.SumLemmas.{variable_at}
 use Rattle.pi_prop.specs.Variables.{AreMet, AreApart, AreApartBelow, StandsBefore, IsNew}
 use Rattle.pi_prop.proofs.RootLemmas.{some_item, variable_same}
@@ -75,6 +75,23 @@ apart_variable items i next behind v at above more new f =
 -- a variable above all before it
 pub apart_above : (items : List Item) (i next behind v : ℕ) → slice_get items i ≡ Some (Item.Var v) → next ≤ v → behind ≡ v + 1 → AreApartBelow items i next → AreApartBelow items (i + 1) behind
 apart_above items i next behind v at above is f = apart_variable items i next behind v at (omega arith) (omega arith) (λ h. let b : v < next = f.below h.0 v h.1 h.2 in omega arith) f
+
+-- ---- one place after another
+
+pub stands_none : (items : List Item) (v : ℕ) → StandsBefore items 0 v → ⊥
+stands_none items v h = let l = h.1 in absurd (omega arith)
+
+pub stands_here : (items : List Item) (k many v : ℕ) → k < many → many ≤ length items → get_or items k (Item.Var 0) ≡ Item.Var v → StandsBefore items many v
+stands_here items k many v l most e = (k, l, slice_get-get_or items k (Item.Var 0) (omega arith) ∙ ap (λ (i : Item). Some i) e)
+
+pub stands_more : (items : List Item) (k v : ℕ) → k < length items → (get_or items k (Item.Var 0) ≡ Item.Var v → ⊥) → (StandsBefore items k v → ⊥) → StandsBefore items (k + 1) v → ⊥
+stands_more items k v l other new h = elim (cases_eq h.0 k) [
+  | inl e ↦ other (some_item (get_or items k (Item.Var 0)) (Item.Var v) (sym (slice_get-get_or items k (Item.Var 0) l) ∙ (ap (slice_get items) (sym e) ∙ h.2)))
+  | inr o ↦ new (h.0, still_below h.0 k h.1 o, h.2)
+]
+
+pub stands_all : (items : List Item) (k many v : ℕ) → many ≤ k → (StandsBefore items k v → ⊥) → StandsBefore items many v → ⊥
+stands_all items k many v most new h = let l = h.1 in new (h.0, omega arith, h.2)
 
 -- ---- of `element`
 

@@ -1,10 +1,12 @@
 -- Sums of numbers of 128 bits that don't wrap.
 use Rattle.std.specs.Prelude.{◌≡◌, ◌↔◌, ◌+◌, ◌^◌, ◌≤◌, Bool, true, false, not, IsTrue, ℤ, pos, ◌+ℤ◌, ◌-ℤ◌, neg_ℤ, ◌≤ℤ◌, int_le, nat_abs, refl}
-use Rattle.std.specs.Int.{w128}
-use Rattle.std.proofs.Common.{arith, sym, ◌∙◌, subst, to_z, of_z}
+use Rattle.std.specs.Int.{int_max, w128, w64}
+use Rattle.std.proofs.Common.{arith, sym, ◌∙◌, ap, subst, to_z, of_z}
 use Rattle.std.proofs.lemmas.Bool.{false≢true}
-use Rattle.std.proofs.lemmas.Int.{ints}
+use Rattle.std.proofs.lemmas.Int.{ints, clamps, to_z-of_z}
+use Rattle.pi_constraints.specs.Domain.{IsWithinBounds}
 use Rattle.pi_places.proofs.FitLemmas.{unwrapped}
+use Rattle.pi_places.proofs.HoleLemmas.{fits_narrow}
 use Rattle.pi_places.proofs.RoundLemmas.{le_test, test_le}
 
 abs_sum : (x y : ℤ) → nat_abs (x +ℤ y) ≤ nat_abs x + nat_abs y
@@ -15,6 +17,31 @@ abs_minus x y = omega (arith, ints)
 
 pub back : (x : ℤ) → nat_abs x ≤ 2 ^ 120 → to_z w128 (of_z w128 x) ≡ x
 back x h = unwrapped x (omega arith)
+
+-- a value is narrow enough for 64 bits
+pub value_back_64 : (x : ℤ) → IsWithinBounds x → to_z w64 (of_z w64 x) ≡ x
+value_back_64 x b = to_z-of_z w64 x (fits_narrow x (omega (arith, ints, b.0, b.1)) (omega (arith, ints, b.0, b.1)))
+
+pub next_back_64 : (x : ℤ) → IsWithinBounds x → to_z w64 (of_z w64 (to_z w64 (of_z w64 x) +ℤ pos 1)) ≡ x +ℤ pos 1
+next_back_64 x b =
+    ap (λ (z : ℤ). to_z w64 (of_z w64 (z +ℤ pos 1))) (value_back_64 x b)
+    ∙ to_z-of_z w64 (x +ℤ pos 1) (fits_narrow (x +ℤ pos 1) (omega (arith, ints, b.0, b.1)) (omega (arith, ints, b.0, b.1)))
+
+max_within : (x y : ℤ) → IsWithinBounds x → IsWithinBounds y → IsWithinBounds (int_max x y)
+max_within x y b c = (omega (arith, ints, clamps, b.0, c.0), omega (arith, ints, clamps, b.1, c.1))
+
+max_one : (x : ℤ) → int_max x x ≡ x
+max_one x = omega (arith, ints, clamps)
+
+-- the greater of two values
+pub max_back_64 : (result a x y : ℤ) → result ≡ int_max (to_z w64 (of_z w64 a)) (to_z w64 (of_z w64 y)) → a ≡ x → IsWithinBounds x → IsWithinBounds y → to_z w64 (of_z w64 result) ≡ int_max x y
+max_back_64 result a x y is e b c =
+    let left : to_z w64 (of_z w64 a) ≡ x = ap (λ (z : ℤ). to_z w64 (of_z w64 z)) e ∙ value_back_64 x b in
+    let same : result ≡ int_max x y = is ∙ (λ i. int_max (left i) (value_back_64 y c i)) in
+    ap (λ (z : ℤ). to_z w64 (of_z w64 z)) same ∙ value_back_64 (int_max x y) (max_within x y b c)
+
+pub max_same_64 : (result a y : ℤ) → result ≡ int_max (to_z w64 (of_z w64 a)) (to_z w64 (of_z w64 y)) → a ≡ y → IsWithinBounds y → to_z w64 (of_z w64 result) ≡ y
+max_same_64 result a y is e c = max_back_64 result a y y is e c c ∙ max_one y
 
 -- the sum, the difference and the negative of numbers that come to x and y
 pub sum_is : (p q x y : ℤ) → p ≡ x → q ≡ y → nat_abs x ≤ 2 ^ 118 → nat_abs y ≤ 2 ^ 118 → to_z w128 (of_z w128 (p +ℤ q)) ≡ x +ℤ y

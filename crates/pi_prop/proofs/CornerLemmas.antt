@@ -24,6 +24,9 @@ value_back v b = to_z-of_z w128 v (value_fits v b)
 small_fits : (v : ℤ) → nat_abs v ≤ 2 ^ 112 → FitsSigned w128 v
 small_fits v h = fits_signed_from_abs w128 v (omega arith)
 
+pub product_bits_fit : (c v : ℤ) → IsWithinBounds c → IsWithinBounds v → FitsSigned w128 (to_z w128 (of_z w128 c) *ℤ to_z w128 (of_z w128 v))
+product_bits_fit c v a b = subst (FitsSigned w128) (sym (λ i. value_back c a i *ℤ value_back v b i)) (product_fits c v a b)
+
 -- the least and the greatest of two products, and of four
 pub least_fits : (c a b : ℤ) → IsWithinBounds c → IsWithinBounds a → IsWithinBounds b → FitsSigned w128 (int_min (c *ℤ a) (c *ℤ b))
 least_fits c a b x y z = small_fits (int_min (c *ℤ a) (c *ℤ b)) (min_small (c *ℤ a) (c *ℤ b) (2 ^ 112) (product_small c a x y) (product_small c b x z))

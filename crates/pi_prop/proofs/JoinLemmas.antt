@@ -1,5 +1,5 @@
 -- Spans that ascend by their starts, one more at a time.
-use Rattle.std.specs.Prelude.{◌≡◌, ℕ, ◌<◌, ◌+◌, Bool, true, false, ◌||◌, All, List, [], ◌∷◌, ◌++◌, ℤ, pos, ◌+ℤ◌, neg_ℤ, ◌≤ℤ◌, ◌<ℤ◌, int_le, refl, take}
+use Rattle.std.specs.Prelude.{◌≡◌, ℕ, ◌<◌, ◌+◌, ◌≤◌, Bool, true, false, ◌||◌, All, List, [], ◌∷◌, ◌++◌, ℤ, pos, ◌+ℤ◌, neg_ℤ, ◌≤ℤ◌, ◌<ℤ◌, int_le, refl, take}
 use Rattle.std.specs.Int.{int_max}
 use Rattle.std.specs.Ordering.{int_cmp, is_lt}
 use Rattle.std.specs.List.{list_any}
@@ -7,7 +7,7 @@ use Rattle.std.specs.List.Sorted.{IsSortedByKey, IsPermutation}
 use Rattle.std.proofs.Common.{◌-◌, length, get_or, arith, sym, ◌∙◌, ap, subst, inl, inr}
 use Rattle.std.proofs.lemmas.Bool.{and_parts, and_from, or_cases, or_left, or_right}
 use Rattle.std.proofs.lemmas.Int.{ints, clamps, by_lt_z}
-use Rattle.std.proofs.lemmas.List.{take_more}
+use Rattle.std.proofs.lemmas.List.{take_more, take_all}
 use Rattle.std.proofs.lemmas.List.Elements.{All-get_or}
 use Rattle.std.proofs.lemmas.List.Sorted.{list_any-IsPermutation}
 use Rattle.pi_constraints.specs.declared.domain.TheConstants.{MAX_VALUE}
@@ -112,6 +112,16 @@ one_more ss i s h e = ap (λ (x : Span). take i ss ++ x ∷ []) e ∙ sym (take_
 
 pub is_span : (ss : List Span) (i : ℕ) (s : Span) → All IsSpan ss → i < length ss → s ≡ get_or ss i (record { lo = pos 0; hi = pos 0 }) → IsSpan s
 is_span ss i s all h e = subst IsSpan (sym e) (All-get_or IsSpan ss i (record { lo = pos 0; hi = pos 0 }) h all)
+
+pub span_within : (s : Span) → IsSpan s → IsWithinBounds s.lo × IsWithinBounds s.hi
+span_within s h = ((h.0, omega (arith, ints, h.1, h.2)), (omega (arith, ints, h.0, h.1), h.2))
+
+-- all of them, with the last
+pub joined_domain : (ss : List Span) (i : ℕ) (done made : List Span) (last : Span) → JoinedBefore ss i done last → made ≡ done ++ last ∷ [] → IsDomain made
+joined_domain ss i done made last before is = subst IsDomain (sym is) before.joined.domain
+
+pub joined_values : (ss : List Span) (i : ℕ) (done made : List Span) (last : Span) (n : ℤ) → length ss ≤ i → JoinedBefore ss i done last → made ≡ done ++ last ∷ [] → has_value made n ≡ has_value ss n
+joined_values ss i done made last n l before is = ap (λ (x : List Span). has_value x n) is ∙ (before.joined.values n ∙ ap (λ (x : List Span). has_value x n) (take_all i ss l))
 
 first_joined : (s : Span) → IsSpan s → Joined (s ∷ []) [] s
 unfolding AscendFrom

@@ -1,18 +1,25 @@
 -- What is left by the filter of a constraint, from what its rule keeps at each place and what places of one variable have together.
 use Rattle.std.specs.Prelude.{◌≡◌, ◌↔◌, ℕ, zero, suc, ◌+◌, ◌<◌, ◌≤◌, IsTrue, slice_get, Some, List, [], ◌∷◌, ◌++◌, length, take, ℤ, refl}
-use Rattle.std.proofs.Common.{arith, sym, ◌∙◌, ap, subst, inl, inr}
+use Rattle.std.specs.Prelude.{Result, IfOk, ◌^◌, nat_abs}
+use Rattle.std.specs.Int.{w128}
+use Rattle.std.proofs.Common.{arith, sym, ◌∙◌, ap, subst, inl, inr, to_z, of_z, length-append}
 use Rattle.std.proofs.lemmas.Bool.{false≢true}
+use Rattle.std.proofs.lemmas.List.{take_all}
 use Rattle.pi_constraints.specs.declared.constraint.Rel.{Rel}
 use Rattle.pi_constraints.specs.declared.constraint.Item.{Item}
 use Rattle.pi_constraints.specs.declared.constraint.Constraint.{Constraint}
 use Rattle.pi_constraints.specs.declared.domain.Span.{Span}
 use Rattle.pi_constraints.specs.Domain.{has_value}
 use Rattle.pi_constraints.specs.Constraint.{IsSum, IsSumWithinLimits, IsWithinLimits}
-use Rattle.pi_filters.specs.Places.{domain_at, HaveValues, HaveOneVariable, places_of, sum_places}
+use Rattle.pi_filters.specs.Places.{domain_at, HaveValues, places_of, sum_places}
 use Rattle.pi_filters.specs.Filter.{RuleKeeps}
 use Rattle.pi_filters.proofs.SumLemmas.{variable_at}
 use Rattle.pi_places.specs.Changes.{AreFiltered, AreFilteredFrom, AreEmptied}
 use Rattle.pi_prop.specs.Variables.{AreMet, AreApart}
+use Rattle.pi_filters.specs.Sums.{SumKeeps}
+use Rattle.pi_filters.specs.Reified.{ReifiedKeeps}
+use Rattle.pi_filters.specs.Rules.{ElementKeeps}
+use Rattle.pi_prop.proofs.BitLemmas.{back}
 use Rattle.pi_prop.proofs.RootLemmas.{some_item, variable_same}
 use Rattle.pi_prop.proofs.ApartLemmas.{apart_met, sum_places-take_more}
 use Rattle.pi_prop.specs.Left.{AreLeft}
@@ -37,6 +44,53 @@ reified_count c truth rel ts m n e count =
     let places : length (places_of c) ≡ suc (length (sum_places ts)) = ap (λ (x : Constraint). length (places_of x)) e in
     omega (arith, length-sum_places ts)
 
+pub element_count : (c : Constraint) (index : Item) (items : List Item) (value : Item) (n k : ℕ) → c ≡ Constraint.Element index items value → n ≡ length (places_of c) → k ≡ length items → n ≡ k + 2
+element_count c index items value n k e count is =
+    let places : length (places_of c) ≡ suc (length (items ++ value ∷ [])) = ap (λ (x : Constraint). length (places_of x)) e in
+    let both : length (items ++ value ∷ []) ≡ length items + 1 = length-append items (value ∷ []) in
+    omega arith
+
+pub element_few : (c : Constraint) (index : Item) (items : List Item) (value : Item) (k : ℕ) → c ≡ Constraint.Element index items value → IsWithinLimits c → k ≡ length items → k ≤ 2 ^ 20
+element_few c index items value k e limits is = let few = (subst IsWithinLimits e limits).0 in omega (arith, few)
+
+-- a sum as the code hands it over: its terms by a slice, and its constant by its bits
+sum_handed : (ts us : List (ℤ × ℕ)) (m : ℤ) (P : List (ℤ × ℕ) → ℤ → Type 0) → us ≡ ts → nat_abs m ≤ 2 ^ 100 → P ts m → P us (to_z w128 (of_z w128 m))
+sum_handed ts us m P f narrow p =
+    let same : to_z w128 (of_z w128 m) ≡ m = back m (omega (arith, narrow)) in
+    subst (λ (z : ℤ). P us z) (sym same) (subst (λ (x : List (ℤ × ℕ)). P x m) (sym f) p)
+
+sum_had : (ts us : List (ℤ × ℕ)) (m : ℤ) (P : List (ℤ × ℕ) → ℤ → Type 0) → us ≡ ts → nat_abs m ≤ 2 ^ 100 → P us (to_z w128 (of_z w128 m)) → P ts m
+sum_had ts us m P f narrow p =
+    let same : to_z w128 (of_z w128 m) ≡ m = back m (omega (arith, narrow)) in
+    subst (λ (z : ℤ). P ts z) same (subst (λ (x : List (ℤ × ℕ)). P x (to_z w128 (of_z w128 m))) f p)
+
+pub linear_limits : (c : Constraint) (rel : Rel) (ts us : List (ℤ × ℕ)) (m : ℤ) → c ≡ Constraint.Linear rel ts m → us ≡ ts → IsWithinLimits c → IsSumWithinLimits us (to_z w128 (of_z w128 m))
+linear_limits c rel ts us m e f limits = let s : IsSumWithinLimits ts m = subst IsWithinLimits e limits in sum_handed ts us m (λ x z. IsSumWithinLimits x z) f s.3 s
+
+pub reified_limits : (c : Constraint) (truth : Item) (rel : Rel) (ts us : List (ℤ × ℕ)) (m : ℤ) → c ≡ Constraint.Reified truth rel ts m → us ≡ ts → IsWithinLimits c → IsSumWithinLimits us (to_z w128 (of_z w128 m))
+reified_limits c truth rel ts us m e f limits = let s : IsSumWithinLimits ts m = (subst IsWithinLimits e limits).1 in sum_handed ts us m (λ x z. IsSumWithinLimits x z) f s.3 s
+
+-- what the filter of a kind keeps is what the rule keeps
+pub kind_filtered : {A E : Type 0} (c d : Constraint) (r : Result A E) (ds es : List (List Span)) → c ≡ d → IfOk r (λ a. AreFiltered (RuleKeeps d ds) ds es) → IfOk r (λ a. AreFiltered (RuleKeeps c ds) ds es)
+kind_filtered c d r ds es e f = subst (λ (x : Constraint). IfOk r (λ a. AreFiltered (RuleKeeps x ds) ds es)) (sym e) f
+
+pub linear_filtered : {A E : Type 0} (c : Constraint) (rel : Rel) (ts us : List (ℤ × ℕ)) (m : ℤ) (r : Result A E) (ds es : List (List Span)) → c ≡ Constraint.Linear rel ts m → us ≡ ts → IsWithinLimits c
+    → IfOk r (λ a. AreFiltered (SumKeeps rel us (to_z w128 (of_z w128 m)) ds) ds es) → IfOk r (λ a. AreFiltered (RuleKeeps c ds) ds es)
+linear_filtered c rel ts us m r ds es e f limits h =
+    let s : IsSumWithinLimits ts m = subst IsWithinLimits e limits in
+    kind_filtered c (Constraint.Linear rel ts m) r ds es e (sum_had ts us m (λ x z. IfOk r (λ a. AreFiltered (SumKeeps rel x z ds) ds es)) f s.3 h)
+
+pub reified_kept : {A E : Type 0} (c : Constraint) (truth : Item) (rel : Rel) (ts us : List (ℤ × ℕ)) (m : ℤ) (r : Result A E) (ds es : List (List Span)) → c ≡ Constraint.Reified truth rel ts m → us ≡ ts → IsWithinLimits c
+    → IfOk r (λ a. AreFiltered (ReifiedKeeps rel us (to_z w128 (of_z w128 m)) ds) ds es) → IfOk r (λ a. AreFiltered (RuleKeeps c ds) ds es)
+reified_kept c truth rel ts us m r ds es e f limits h =
+    let s : IsSumWithinLimits ts m = (subst IsWithinLimits e limits).1 in
+    kind_filtered c (Constraint.Reified truth rel ts m) r ds es e (sum_had ts us m (λ x z. IfOk r (λ a. AreFiltered (ReifiedKeeps rel x z ds) ds es)) f s.3 h)
+
+pub element_kept : {A E : Type 0} (c : Constraint) (index : Item) (items : List Item) (value : Item) (k : ℕ) (r : Result A E) (ds es : List (List Span)) → c ≡ Constraint.Element index items value → k ≡ length items
+    → IfOk r (λ a. AreFiltered (ElementKeeps k ds) ds es) → IfOk r (λ a. AreFiltered (RuleKeeps c ds) ds es)
+element_kept c index items value k r ds es e is h =
+    kind_filtered c (Constraint.Element index items value) r ds es e (subst (λ (n : ℕ). IfOk r (λ a. AreFiltered (ElementKeeps n ds) ds es)) is h)
+
 pub no_terms_taken : (truth : Item) (ts : List (ℤ × ℕ)) (all : List Item) → all ≡ truth ∷ [] → all ≡ truth ∷ sum_places (take 0 ts)
 unfolding sum_places
 no_terms_taken truth ts all e = e
@@ -44,6 +98,9 @@ no_terms_taken truth ts all e = e
 pub term_taken : (truth : Item) (ts : List (ℤ × ℕ)) (i : ℕ) (old new : List Item) → i < length ts → old ≡ truth ∷ sum_places (take i ts) → new ≡ old ++ Item.Var (variable_at ts i) ∷ [] → new ≡ truth ∷ sum_places (take (i + 1) ts)
 term_taken truth ts i old new l e f =
     f ∙ (ap (λ (is : List Item). is ++ Item.Var (variable_at ts i) ∷ []) e ∙ ap (λ (is : List Item). truth ∷ is) (sym (sum_places-take_more ts i l)))
+
+pub all_terms_taken : (truth : Item) (ts : List (ℤ × ℕ)) (i : ℕ) (all : List Item) → length ts ≤ i → all ≡ truth ∷ sum_places (take i ts) → all ≡ truth ∷ sum_places ts
+all_terms_taken truth ts i all l e = e ∙ ap (λ (us : List (ℤ × ℕ)). truth ∷ sum_places us) (take_all i ts l)
 
 -- ---- the terms of a sum have different variables
 

@@ -5,6 +5,7 @@ use Rattle.std.proofs.lemmas.Bool.{false≢true}
 use Rattle.pi_constraints.specs.declared.constraint.Rel.{Rel}
 use Rattle.pi_constraints.specs.declared.domain.Span.{Span}
 use Rattle.pi_constraints.specs.Domain.{has_value}
+use Rattle.pi_filters.specs.Ends.{IsFixedTo}
 use Rattle.pi_filters.specs.Places.{domain_at, HaveValues}
 use Rattle.pi_filters.proofs.EndLemmas.{not_empty}
 use Rattle.pi_filters.specs.Sums.{SumKeeps, OppositeKeeps}
@@ -69,6 +70,39 @@ pub reified_filtered : (rel : Rel) (ts : List (ℤ × ℕ)) (m : ℤ) (ds es fs 
 reified_filtered rel ts m ds es fs holds fails f g terms truth = record {
   count = truth.count ∙ terms.count;
   kept = kept_at rel ts m ds es fs holds fails f g terms truth;
+}
+
+-- ---- the terms by the truth
+
+-- where the truth isn't fixed all is left
+pub idle_terms : (rel : Rel) (ts : List (ℤ × ℕ)) (m : ℤ) (ds : List (List Span)) → (IsFixedTo (domain_at ds 0) (pos 1) → ⊥) → (IsFixedTo (domain_at ds 0) (pos 0) → ⊥) → AreFilteredFrom 1 (TermKeeps rel ts m ds) ds ds
+idle_terms rel ts m ds one none = record {
+  count = refl;
+  before = λ j l. refl;
+  kept = λ j n l. (λ t. (t, (λ fixed. absurd (one fixed), λ fixed. absurd (none fixed))), λ p. p.0);
+}
+
+two_truths : (d : List Span) → IsFixedTo d (pos 1) → IsFixedTo d (pos 0) → ⊥
+two_truths d one none = let same : pos 1 ≡ pos 0 = sym one.0 ∙ none.0 in absurd (cc)
+
+pub true_terms : (rel : Rel) (ts : List (ℤ × ℕ)) (m : ℤ) (ds es : List (List Span)) → IsFixedTo (domain_at ds 0) (pos 1) → AreFilteredFrom 1 (SumKeeps rel ts m (of_terms ds)) ds es → AreFilteredFrom 1 (TermKeeps rel ts m ds) ds es
+true_terms rel ts m ds es one f = record {
+  count = f.count;
+  before = f.before;
+  kept = λ j n l. (
+    λ t. let p = (f.kept j n l).0 t in (p.0, (λ fixed. p.1, λ none. absurd (two_truths (domain_at ds 0) one none))),
+    λ p. (f.kept j n l).1 (p.0, p.1.0 one),
+  );
+}
+
+pub false_terms : (rel : Rel) (ts : List (ℤ × ℕ)) (m : ℤ) (ds es : List (List Span)) → IsFixedTo (domain_at ds 0) (pos 0) → AreFilteredFrom 1 (OppositeKeeps rel ts m (of_terms ds)) ds es → AreFilteredFrom 1 (TermKeeps rel ts m ds) ds es
+false_terms rel ts m ds es none f = record {
+  count = f.count;
+  before = f.before;
+  kept = λ j n l. (
+    λ t. let p = (f.kept j n l).0 t in (p.0, (λ one. absurd (two_truths (domain_at ds 0) one none), λ fixed. p.1)),
+    λ p. (f.kept j n l).1 (p.0, p.1.1 none),
+  );
 }
 
 -- ---- whether the truth can be a value

@@ -1,4 +1,3 @@
-use Rattle.std.proofs.Common.{arith}
 use Rattle.pi_prop.proofs.ApartLemmas.{apart_none, apart_all}
 use Rattle.pi_prop.proofs.apart.are_apart.Goals as goal
 
