@@ -8,7 +8,7 @@ use Rattle.pi_terms.specs.Tree.{Tree, int, comp, Trees, no_trees, tree, tree_cou
 use Rattle.pi_terms.specs.ListNames.{nil, cell_name}
 use Rattle.pi_states.specs.Store.{StoreView, IsName, ShowsCell}
 use Rattle.pi_states.specs.declared.store.Cell.{Cell}
-use Rattle.pi_print.specs.PrintTerm.{array_name}
+use Rattle.pi_syntax.specs.PrintTerm.{array_name}
 use Rattle.pi_effects.specs.Items.{each_tree, is_nil, cell_parts, array_parts, structure_parts}
 use Rattle.pi_builtin.specs.Items.{ShowsPart, ShowsSize}
 use Rattle.pi_builtin.specs.declared.parts.Part.{Part}

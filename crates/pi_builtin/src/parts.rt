@@ -5,7 +5,7 @@ ghost use Rattle.pi_terms.specs.Tree.{Tree};
 ghost use Rattle.pi_terms.specs.ListNames.{nil, cell_name};
 ghost use Rattle.pi_states.specs.State.{bindings, followed};
 ghost use Rattle.pi_states.specs.Store.{IsTerm, IsName};
-ghost use Rattle.pi_print.specs.PrintTerm.{array_name};
+ghost use Rattle.pi_syntax.specs.PrintTerm.{array_name};
 ghost use Rattle.pi_effects.specs.Items.{array_parts, structure_parts};
 ghost use Rattle.pi_unify.specs.Terms.{HoldsNoCycle};
 ghost use Rattle.pi_builtin.specs.Items.{ShowsPart, ShowsSize};

@@ -9,7 +9,7 @@ use Rattle.pi_states.specs.Value.{value}
 use Rattle.pi_states.specs.Store.{StoreView, IsTerm, AreTerms, ShowsCell}
 use Rattle.pi_states.specs.declared.store.Ref.{Ref}
 use Rattle.pi_states.specs.declared.store.Cell.{Cell}
-use Rattle.pi_print.specs.PrintTerm.{is_characters, characters}
+use Rattle.pi_syntax.specs.PrintTerm.{is_characters, characters}
 use Rattle.pi_effects.specs.Answer.{Answer, measured}
 use Rattle.pi_effects.specs.Exception.{term_too_large, exception_with, bad_format}
 use Rattle.pi_effects.specs.Items.{each_tree}

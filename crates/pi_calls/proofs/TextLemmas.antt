@@ -5,7 +5,7 @@ use Rattle.pi_terms.specs.Tree.{Tree, cells, most_cells}
 use Rattle.pi_terms.proofs.OptionLemmas.{not-less}
 use Rattle.pi_states.specs.Store.{StoreView, ShowsRead}
 use Rattle.pi_states.specs.declared.store.ReadStop.{ReadStop}
-use Rattle.pi_print.specs.PrintTerm.{text_of}
+use Rattle.pi_syntax.specs.PrintTerm.{text_of}
 use Rattle.pi_effects.specs.Answer.{Answer, measured}
 use Rattle.pi_effects.specs.Exception.{term_too_large}
 use Rattle.pi_effects.specs.declared.fault.Stop.{Stop}

@@ -14,7 +14,7 @@ use Rattle.pi_states.specs.State.{bindings, followed}
 use Rattle.pi_states.specs.Store.{StoreView, IsTerm, IsName, ShowsCell}
 use Rattle.pi_states.specs.declared.store.Ref.{Ref}
 use Rattle.pi_states.specs.declared.store.Cell.{Cell}
-use Rattle.pi_print.specs.PrintTerm.{is_characters, cell_is_characters, characters, is_character}
+use Rattle.pi_syntax.specs.PrintTerm.{is_characters, cell_is_characters, characters, is_character}
 use Rattle.pi_unify.specs.Terms.{IsGiven, HoldsNoCycle, value_of}
 use Rattle.pi_unify.proofs.TermValues.{IsArgument, argument}
 use Rattle.pi_calls.specs.declared.characters.Characters.{Characters}

@@ -6,7 +6,7 @@ use Rattle.pi_terms.specs.ListNames.{nil}
 use Rattle.pi_terms.specs.ListCopies.{list_cell}
 use Rattle.pi_states.specs.Store.{StoreView, IsName}
 use Rattle.pi_states.specs.declared.store.Ref.{Ref}
-use Rattle.pi_print.specs.PrintTerm.{is_characters, characters}
+use Rattle.pi_syntax.specs.PrintTerm.{is_characters, characters}
 use Rattle.pi_unify.specs.Terms.{IsGiven, value_of}
 use Rattle.pi_calls.specs.declared.characters.Characters.{Characters}
 use Rattle.pi_calls.specs.declared.characters.Link.{Link}

@@ -4,7 +4,7 @@ ghost use Rattle.pi_terms.specs.Tree.{Tree};
 ghost use Rattle.pi_states.specs.Value.{IsAcyclic, value};
 ghost use Rattle.pi_states.specs.State.{bindings};
 ghost use Rattle.pi_states.specs.Store.{IsTerm};
-ghost use Rattle.pi_print.specs.PrintTerm.{text_of};
+ghost use Rattle.pi_syntax.specs.PrintTerm.{text_of};
 ghost use Rattle.pi_effects.specs.Answer.{measured};
 ghost use Rattle.pi_effects.specs.Texts as spec;
 ghost use Rattle.pi_effects.specs.Results.{ShowsSame};

@@ -9,7 +9,7 @@ use Rattle.pi_syntax.specs.declared.program.Decl.TheVariants.{Plain, Import, Ind
 use Rattle.pi_syntax.specs.declared.program.Mode.TheVariants.{Plus, Minus}
 use Rattle.pi_syntax.specs.Signature.{exp_count}
 use Rattle.pi_syntax.specs.Tokens.{is_reserved}
-use Rattle.pi_print.specs.PrintAtom.{atom_text, stands_bare, is_unquoted_atom}
+use Rattle.pi_syntax.specs.PrintAtom.{atom_text, stands_bare, is_unquoted_atom}
 use Rattle.pi_canonical.specs.Signs.{is_two_place, is_prefix_word, is_prefix_sign}
 use Rattle.pi_canonical.specs.Texts.{each_behind, parted, integer_text, string_text}
 use Rattle.pi_canonical.specs.CanonicalExp.{exp_text, exp_texts, choice_texts, top_text}

@@ -6,7 +6,7 @@ use Rattle.std.proofs.lemmas.Str.{encodes-chars, scalars-chars}
 use Rattle.std.specs.List.{list_all}
 use Rattle.std.specs.Str.{bytes_eq}
 use lib.Utf8.{scalars, encode}
-use Rattle.pi_print.specs.PrintAtom.{nil, is_unquoted_atom, stands_bare, atom_text, in_quotes}
+use Rattle.pi_syntax.specs.PrintAtom.{nil, is_unquoted_atom, stands_bare, atom_text, in_quotes}
 use Rattle.pi_canonical.specs.Texts.{name_text, string_text, in_double_quotes}
 use Rattle.pi_syntax.specs.Tokens.{Token, Lexeme, item_at, Var, Atom, Str, Word, first, is_name_part, is_variable_start, is_atom_start, is_reserved}
 use Rattle.pi_canonical.proofs.Says.{Says, says-token, Stops, Begins}

@@ -7,7 +7,7 @@ use Rattle.std.proofs.lemmas.Str.{encodes-append}
 use lib.Utf8.{scalar, scalars, encode}
 use Rattle.pi_lex.specs.Forms.{Spells, nothing, plain, escape}
 use Rattle.pi_lex.proofs.FormsLemmas.{closing_place-spelled, unescaped-spelled}
-use Rattle.pi_print.specs.PrintAtom.{in_quotes}
+use Rattle.pi_syntax.specs.PrintAtom.{in_quotes}
 use Rattle.pi_canonical.specs.Texts.{in_double_quotes}
 use Rattle.pi_syntax.specs.Tokens.{Token, Item, Lexeme, if_some, item_at, Atom, Str, quoted, closing_place, unescaped, meant, between_quotes, escaped, backslash, line_feed}
 use Rattle.pi_canonical.proofs.Says.{Says, item_some, says-token, scalars-append, Any}

@@ -6,7 +6,7 @@ use Rattle.std.specs.Fmt.{signed_decimal}
 use Rattle.std.specs.List.{flat_map}
 use Rattle.std.specs.Str.{chars}
 use Rattle.pi_syntax.specs.Tokens.{tab, line_feed, quotation_mark, backslash}
-use Rattle.pi_print.specs.PrintAtom.{atom_text}
+use Rattle.pi_syntax.specs.PrintAtom.{atom_text}
 
 -- a text between two brackets
 abbrev pub between : List ℕ → List ℕ → List ℕ → List ℕ

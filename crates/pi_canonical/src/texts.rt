@@ -10,7 +10,7 @@ use pi_terms::Term;
 use std::alloc::{AllocError, Global};
 
 /// Writes the name of an atom or of a call.
-#[tactic(auto, unfolding(pi_print::specs::PrintTerm::written))]
+#[tactic(auto, unfolding(pi_syntax::specs::PrintTerm::written))]
 pub(crate) fn write_name(alloc: Global, name: &str, out: &mut String) -> Result<(), AllocError>
     ensures ok { IfOk result (λ _. string_bytes out.new ≡ string_bytes out.old ++ name_text name.now) }
 {

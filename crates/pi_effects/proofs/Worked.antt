@@ -12,8 +12,8 @@ use Rattle.pi_states.specs.Evaluation.{with_new_variables}
 use Rattle.pi_arith.specs.Power.{power}
 use Rattle.pi_arith.specs.Value.{value_of}
 use Rattle.pi_syntax.specs.Tokens.{is_reserved}
-use Rattle.pi_print.specs.PrintAtom.{is_unquoted_atom, stands_bare, atom_text}
-use Rattle.pi_print.specs.PrintTerm.{is_characters, characters, written}
+use Rattle.pi_syntax.specs.PrintAtom.{is_unquoted_atom, stands_bare, atom_text}
+use Rattle.pi_syntax.specs.PrintTerm.{is_characters, characters, written}
 use Rattle.std.specs.Str.{chars}
 use Rattle.std.specs.Char.{encode_utf8}
 use Rattle.std.specs.Fmt.{digits}

@@ -8,7 +8,7 @@ use Rattle.std.specs.Str.{byte}
 use Rattle.pi_terms.specs.Tree.{Tree, var, int, atom, comp}
 use Rattle.pi_states.specs.Value.{value}
 use Rattle.pi_states.specs.State.{State, bindings}
-use Rattle.pi_print.specs.PrintTerm.{is_characters, characters, text_of}
+use Rattle.pi_syntax.specs.PrintTerm.{is_characters, characters, text_of}
 use Rattle.pi_effects.specs.Exception.{bad_format}
 use Rattle.pi_effects.specs.Answer.{Answer, measured}
 

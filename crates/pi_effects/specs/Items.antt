@@ -8,7 +8,7 @@ use Rattle.pi_terms.specs.ListNames.{nil, cell_name}
 use Rattle.pi_terms.specs.ListCopies.{list_cell}
 use Rattle.pi_states.specs.Value.{Bindings, value, IsAcyclic}
 use Rattle.pi_states.specs.State.{followed}
-use Rattle.pi_print.specs.PrintTerm.{array_name}
+use Rattle.pi_syntax.specs.PrintTerm.{array_name}
 
 -- arguments, each by itself
 unfoldable pub each_tree : Trees → List Tree

@@ -11,7 +11,7 @@ use Rattle.pi_terms.specs.PatternTree.{PatternTree, exact_atom}
 use Rattle.pi_states.specs.State.{State}
 use Rattle.pi_states.specs.Unify.{unified}
 use Rattle.pi_states.specs.Evaluation.{Evaluated, EvaluatedAll, evaluated}
-use Rattle.pi_print.specs.PrintTerm.{array_name}
+use Rattle.pi_syntax.specs.PrintTerm.{array_name}
 use Rattle.pi_effects.specs.Items.{list_onto, list_of}
 use Rattle.pi_effects.specs.Texts.{text_list}
 use Rattle.pi_syntax.specs.ExpTree.{ExpTree, var, int, atom, str, list, list_onto as listed_onto, array, call, quote, range, range_by, at, ExpTrees, no_exps, exp}

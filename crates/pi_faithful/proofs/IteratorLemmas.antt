@@ -10,7 +10,7 @@ use Rattle.pi_terms.specs.Places.{Places}
 use Rattle.pi_states.specs.Value.{value}
 use Rattle.pi_states.specs.State.{State, bindings, followed}
 use Rattle.pi_states.specs.Evaluation.{Evaluated, EvaluatedAll, evaluated, evaluated_all}
-use Rattle.pi_print.specs.PrintTerm.{array_name}
+use Rattle.pi_syntax.specs.PrintTerm.{array_name}
 use Rattle.pi_arith.specs.Range.{Outcome}
 use Rattle.pi_arith.specs.Value.{value_of}
 use Rattle.pi_arith.specs.declared.operation.Op.TheVariants.{Add}

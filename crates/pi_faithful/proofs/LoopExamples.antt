@@ -20,8 +20,8 @@ use Rattle.pi_arith.specs.Value.{value_of as operation}
 use Rattle.pi_syntax.specs.ExpTree.{ExpTree, list, array, quote, range, range_by, collect, foreach, while_do, do_while, atom as name, int as number}
 use Rattle.pi_syntax.specs.Signature.{exp_count}
 use Rattle.pi_syntax.specs.Tokens.{is_reserved}
-use Rattle.pi_print.specs.PrintAtom.{is_unquoted_atom, stands_bare, atom_text}
-use Rattle.pi_print.specs.PrintTerm.{is_characters, characters, written}
+use Rattle.pi_syntax.specs.PrintAtom.{is_unquoted_atom, stands_bare, atom_text}
+use Rattle.pi_syntax.specs.PrintTerm.{is_characters, characters, written}
 use Rattle.pi_core.specs.CoreTree.{PredTree, QueryTree, find_pred}
 use Rattle.pi_effects.specs.Exception.{thrown, exception_with, type_error}
 use Rattle.pi_effects.specs.Items.{each_tree, list_onto, items_for, list_items}

@@ -10,7 +10,7 @@ use Rattle.pi_states.specs.Value.{Bindings}
 use Rattle.pi_states.specs.State.{State, bindings, followed}
 use Rattle.pi_states.specs.HeadMatch.{compound_in, matched_in, matched_all_in}
 use Rattle.pi_states.proofs.MatchLemmas.{name_itself}
-use Rattle.pi_print.specs.PrintTerm.{array_name}
+use Rattle.pi_syntax.specs.PrintTerm.{array_name}
 use Rattle.pi_core.specs.GoalTree.{GoalTree}
 use Rattle.pi_meaning.specs.Trace.{Trace, end, note, Deep, Tick, then, done}
 use Rattle.pi_meaning.specs.Control.{chosen}

@@ -2,7 +2,7 @@
 use Rattle.std.proofs.Common.{◌≡◌, ℕ, suc, ◌+◌, Bool, true, false, List, [], ◌∷◌, ◌++◌, length, refl, sym, ◌∙◌, ap, append_assoc, arith}
 use Rattle.std.specs.Prelude.{codes}
 use Rattle.pi_terms.specs.Tree.{Tree, Trees, trees_of}
-use Rattle.pi_print.specs.PrintTerm.{array_name}
+use Rattle.pi_syntax.specs.PrintTerm.{array_name}
 use Rattle.pi_effects.specs.Inner.{range_count_name}
 use Rattle.pi_core.specs.GoalTree.{GoalTree}
 use Rattle.pi_lowered.specs.Slots.{SlotNames, with_value}

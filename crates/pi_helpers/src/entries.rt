@@ -1,7 +1,7 @@
 //! Where a loop stands: names that are there when it starts, the call of its helper, and what names stand for behind it.
 ghost use Rattle.std.specs.Prelude.{◌≡◌, ◌++◌, [], IfOk};
 ghost use Rattle.pi_terms.specs.Tree.{comp, trees_of};
-ghost use Rattle.pi_print.specs.PrintTerm.{array_name};
+ghost use Rattle.pi_syntax.specs.PrintTerm.{array_name};
 ghost use Rattle.pi_slots.specs.Indexed.{names_in};
 ghost use Rattle.pi_lowered.specs.Values.{slot_terms};
 ghost use Rattle.pi_lowered.specs.Loops.{started, as_written, kept_goals, entered, loop_goals};

@@ -1,7 +1,7 @@
 //! Iterators over ranges, which are not built.
 ghost use Rattle.std.specs.Prelude.{◌≡◌, ◌+◌, ◌∷◌, ◌++◌, [], ℕ, suc, length, codes, pos, IfOk};
 ghost use Rattle.pi_terms.specs.Tree.{Tree, trees_of};
-ghost use Rattle.pi_print.specs.PrintTerm.{array_name};
+ghost use Rattle.pi_syntax.specs.PrintTerm.{array_name};
 ghost use Rattle.pi_effects.specs.Inner.{range_count_name};
 ghost use Rattle.pi_core.specs.GoalTree.{GoalTree};
 ghost use Rattle.pi_core.specs.CoreTree.{clause_tree, pred_tree};

@@ -4,7 +4,7 @@ use Rattle.std.specs.Prelude.{Option, Some, None, option_map, option_and_then, â
 use Rattle.std.proofs.lemmas.Bool.{falseâ‰¢true}
 use Rattle.pi_terms.specs.Tree.{Tree, Trees}
 use Rattle.pi_terms.specs.ListNames.{nil}
-use Rattle.pi_print.specs.PrintTerm.{array_name}
+use Rattle.pi_syntax.specs.PrintTerm.{array_name}
 use Rattle.pi_syntax.specs.ExpTree.{ExpTree, var, int, atom, str, list, list_onto, array, quote, ExpTrees, no_exps, exp}
 use Rattle.pi_meaning.specs.Trace.{Trace, done, one, then}
 use Rattle.pi_meaning.specs.Level.{Level}

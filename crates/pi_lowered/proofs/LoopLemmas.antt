@@ -3,7 +3,7 @@ use Rattle.std.proofs.Common.{◌≡◌, ℕ, suc, ◌≤◌, ◌<◌, true, Lis
 use Rattle.std.specs.Prelude.{Option, Some, slice_set, ⊤}
 use Rattle.pi_terms.specs.Tree.{Tree, no_trees, tree, tree_count, comp}
 use Rattle.pi_terms.specs.Places.{Places, held}
-use Rattle.pi_print.specs.PrintTerm.{array_name}
+use Rattle.pi_syntax.specs.PrintTerm.{array_name}
 use Rattle.pi_states.specs.State.{State}
 use Rattle.pi_effects.specs.Inner.{itself_name}
 use Rattle.pi_syntax.specs.ExpTree.{ExpTrees, array}

@@ -9,7 +9,7 @@ use Rattle.pi_terms.specs.ListNames.{nil}
 use Rattle.pi_terms.specs.Places.{Places, held}
 use Rattle.pi_states.specs.State.{State, next}
 use Rattle.pi_states.specs.Evaluation.{Evaluated, EvaluatedAll, slot_term as slot_comes, evaluated, evaluated_all}
-use Rattle.pi_print.specs.PrintTerm.{array_name}
+use Rattle.pi_syntax.specs.PrintTerm.{array_name}
 use Rattle.pi_effects.specs.Texts.{text_list}
 use Rattle.pi_syntax.specs.ExpTree.{ExpTree, var, int, atom, str, list, list_onto, array, call, quote, range, range_by, ExpTrees, no_exps, exp}
 use Rattle.pi_meaning.specs.Environment.{Environment, known, Valued, ValuedAll, name_valued}

@@ -8,7 +8,7 @@ use Rattle.pi_terms.specs.ListNames.{nil}
 use Rattle.pi_core.specs.GoalTree.{GoalTree}
 use Rattle.pi_core.specs.CoreTree.{pred_tree}
 use Rattle.pi_core.specs.declared.core_program.CorePred.{CorePred}
-use Rattle.pi_print.specs.PrintTerm.{array_name}
+use Rattle.pi_syntax.specs.PrintTerm.{array_name}
 use Rattle.pi_syntax.specs.ExpTree.{ExpTree, ExpTrees, exp_tree}
 use Rattle.pi_syntax.specs.ExpLists.{exps_of}
 use Rattle.pi_syntax.specs.Signature.{exp_count}

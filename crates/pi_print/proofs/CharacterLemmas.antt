@@ -5,7 +5,7 @@ use Rattle.std.proofs.lemmas.Bool.{eqb-true}
 use Rattle.std.proofs.lemmas.List.{append-nil}
 use Rattle.pi_terms.specs.Tree.{Tree, atom, Trees, no_trees, tree, tree_count, drop_trees}
 use Rattle.pi_terms.specs.TermCells.{take_trees}
-use Rattle.pi_print.specs.PrintTerm.{cell_name, is_character, is_characters, cell_is_characters, characters, cell_characters}
+use Rattle.pi_syntax.specs.PrintTerm.{cell_name, is_character, is_characters, cell_is_characters, characters, cell_characters}
 use Rattle.pi_terms.specs.declared.term.TermHead.{TermHead}
 use Rattle.std.specs.Borrow.{Bor}
 use Rattle.pi_print.specs.Ahead.{built, behind, count_of}

@@ -8,8 +8,8 @@ use Rattle.std.proofs.lemmas.Bool.{eqb-true}
 use Rattle.std.proofs.lemmas.List.{append-nil}
 use Rattle.pi_terms.specs.Tree.{Tree, var, int, atom, comp, Trees, no_trees, tree, tree_count, cells_all, drop_trees}
 use Rattle.pi_terms.specs.TermCells.{take_trees}
-use Rattle.pi_print.specs.PrintAtom.{atom_text}
-use Rattle.pi_print.specs.PrintTerm.{cell_name, cell_is_characters, cell_characters, compound_text, variable_text, written, items_text, rest_text, arguments_text, more_arguments_text}
+use Rattle.pi_syntax.specs.PrintAtom.{atom_text}
+use Rattle.pi_syntax.specs.PrintTerm.{cell_name, cell_is_characters, cell_characters, compound_text, variable_text, written, items_text, rest_text, arguments_text, more_arguments_text}
 use Rattle.pi_terms.specs.declared.term.TermHead.{TermHead}
 use Rattle.pi_print.specs.declared.printer.Task.{Task}
 use Rattle.pi_print.specs.declared.printer.Task.TheVariants.{Value, Rest, Arguments}

@@ -7,7 +7,7 @@ use Rattle.std.proofs.lemmas.Bool.{cases_Bool, eqb-true}
 use Rattle.std.proofs.lemmas.List.{append-nil}
 use Rattle.pi_terms.specs.Tree.{Tree, comp, Trees, no_trees, tree, tree_count, drop_trees}
 use Rattle.pi_terms.specs.TermCells.{take_trees}
-use Rattle.pi_print.specs.PrintTerm.{cell_name, is_cell, is_characters, cell_is_characters, characters, compound_text, tail_text, written, items_text, rest_text, arguments_text, more_arguments_text}
+use Rattle.pi_syntax.specs.PrintTerm.{cell_name, is_cell, is_characters, cell_is_characters, characters, compound_text, tail_text, written, items_text, rest_text, arguments_text, more_arguments_text}
 use Rattle.pi_terms.specs.declared.term.TermHead.{TermHead}
 use Rattle.pi_print.specs.declared.printer.Task.{Task}
 use Rattle.pi_print.specs.declared.printer.Task.TheVariants.{Value, Rest, Arguments}

@@ -3,6 +3,4 @@ pub mod Numbers
 pub mod Tasks
 pub mod Roots
 pub mod Answers
-pub mod PrintAtom
-pub mod PrintTerm
 pub mod PrintAnswer

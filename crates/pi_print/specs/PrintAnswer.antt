@@ -4,7 +4,7 @@ use Rattle.std.specs.Prelude.{ℕ, ◌==◌, true, if◌then◌else◌, int_le, 
 use Rattle.std.specs.Fmt.{signed_decimal}
 use Rattle.std.specs.List.{flat_map}
 use Rattle.pi_syntax.specs.Tokens.{line_feed}
-use Rattle.pi_print.specs.PrintTerm.{written, variable_text}
+use Rattle.pi_syntax.specs.PrintTerm.{written, variable_text}
 use Rattle.pi_core.specs.declared.answer.Answer.{Answer}
 use Rattle.pi_core.specs.declared.answer.NamedTerm.{NamedTerm}
 use Rattle.pi_constraints.specs.declared.var_domain.VarDomain.{VarDomain}

@@ -4,8 +4,8 @@ use Rattle.std.specs.Str.{bytes_eq}
 use Rattle.std.specs.String.{string_bytes}
 use Rattle.pi_terms.specs.Tree.{Trees, tree_count, drop_trees}
 use Rattle.pi_terms.specs.TermCells.{take_trees}
-use Rattle.pi_print.specs.PrintAtom.{nil}
-use Rattle.pi_print.specs.PrintTerm.{cell_name, cell_is_characters, cell_characters}
+use Rattle.pi_syntax.specs.PrintAtom.{nil}
+use Rattle.pi_syntax.specs.PrintTerm.{cell_name, cell_is_characters, cell_characters}
 use Rattle.pi_terms.specs.declared.term.TermHead.{TermHead}
 use Rattle.pi_print.specs.declared.characters.Characters.{Characters}
 

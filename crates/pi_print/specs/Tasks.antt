@@ -3,7 +3,7 @@ use Rattle.std.specs.Prelude.{◌≡◌, ℕ, Bool, not, ◌&&◌, if◌then◌e
 use Rattle.std.specs.Char.{encode_utf8}
 use Rattle.pi_terms.specs.Tree.{Trees, no_trees, tree, drop_trees, cells_all}
 use Rattle.pi_terms.specs.TermCells.{take_trees}
-use Rattle.pi_print.specs.PrintTerm.{written, items_text, rest_text, more_arguments_text, cell_is_characters, cell_characters}
+use Rattle.pi_syntax.specs.PrintTerm.{written, items_text, rest_text, more_arguments_text, cell_is_characters, cell_characters}
 use Rattle.pi_print.specs.declared.printer.Printer.{Printer}
 use Rattle.pi_print.specs.declared.printer.Todo.{Todo}
 use Rattle.pi_print.specs.declared.printer.Task.{Task}

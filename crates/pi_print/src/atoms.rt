@@ -4,12 +4,12 @@ ghost use Rattle.std.specs.String.{string_bytes};
 ghost use Rattle.std.specs.List.{flat_map, list_all};
 ghost use Rattle.std.specs.Str.{chars, bytes_eq};
 ghost use Rattle.pi_syntax.specs.Tokens as spec;
-ghost use Rattle.pi_print.specs.PrintAtom as form;
+ghost use Rattle.pi_syntax.specs.PrintAtom as form;
 
 use std::alloc::{AllocError, Global};
 
 /// Writes an atom, in quotes where it has to stand in them.
-#[tactic(auto, unfolding(crate::specs::PrintAtom::atom_text, crate::specs::PrintAtom::stands_bare))]
+#[tactic(auto, unfolding(pi_syntax::specs::PrintAtom::atom_text, pi_syntax::specs::PrintAtom::stands_bare))]
 pub fn write_quoted(alloc: Global, name: &str, out: &mut String) -> Result<(), AllocError>
     ensures ok { IfOk result (λ _. string_bytes out.new ≡ string_bytes out.old ++ form.atom_text true name.now) }
 {
@@ -29,7 +29,7 @@ fn characters(alloc: Global, text: &str) -> Result<Vec<char>, AllocError>
 }
 
 /// Whether characters are an atom as they stand.
-#[tactic(auto, unfolding(crate::specs::PrintAtom::is_unquoted_atom))]
+#[tactic(auto, unfolding(pi_syntax::specs::PrintAtom::is_unquoted_atom))]
 fn is_unquoted(text: &[char]) -> bool
     ensures { result ≡ form.is_unquoted_atom text.now }
 {

@@ -3,7 +3,7 @@ ghost use Rattle.std.specs.Prelude.{◌≡◌, ◌==◌, ◌≤◌, ◌+◌, tru
 ghost use Rattle.std.specs.Str.{chars};
 ghost use Rattle.pi_terms.specs.Tree.{atom, tree, tree_count, cells_all};
 ghost use Rattle.pi_terms.specs.TermCells.{take_trees};
-ghost use Rattle.pi_print.specs.PrintTerm.{cell_is_characters};
+ghost use Rattle.pi_syntax.specs.PrintTerm.{cell_is_characters};
 ghost use Rattle.pi_print.specs.Roots.{root_is_cell, root_is_nil, AreCharacters};
 
 use crate::nodes::Nodes;

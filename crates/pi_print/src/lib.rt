@@ -2,7 +2,7 @@
 #![tactic(auto)]
 
 ghost use Rattle.std.specs.Prelude.{◌≡◌, IfOk};
-ghost use Rattle.pi_print.specs.PrintTerm.{text_of};
+ghost use Rattle.pi_syntax.specs.PrintTerm.{text_of};
 
 mod answers;
 mod atoms;

@@ -4,8 +4,8 @@ ghost use Rattle.std.specs.Char.{encode_utf8};
 ghost use Rattle.std.specs.String.{string_bytes};
 ghost use Rattle.pi_terms.specs.Tree.{comp, tree_count, drop_trees, cells_all};
 ghost use Rattle.pi_terms.specs.TermCells.{take_trees};
-ghost use Rattle.pi_print.specs.PrintAtom.{atom_text};
-ghost use Rattle.pi_print.specs.PrintTerm.{written, variable_text, compound_text, arguments_text, cell_is_characters};
+ghost use Rattle.pi_syntax.specs.PrintAtom.{atom_text};
+ghost use Rattle.pi_syntax.specs.PrintTerm.{written, variable_text, compound_text, arguments_text, cell_is_characters};
 ghost use Rattle.pi_print.specs.Ahead.{built, behind, count_of};
 ghost use Rattle.pi_print.specs.Roots.{AreCharacters};
 ghost use Rattle.pi_print.specs.Tasks.{task_text, task_left, list_text, to_do, Begins};
@@ -283,7 +283,7 @@ impl Printer {
         write!(out, "_{number}")
     }
 
-    #[tactic(auto, unfolding(crate::specs::PrintAtom::atom_text))]
+    #[tactic(auto, unfolding(pi_syntax::specs::PrintAtom::atom_text))]
     fn atom(&self, name: &str, out: &mut String) -> Result<(), AllocError>
         ensures ok { IfOk result (λ _. string_bytes out.new ≡ string_bytes out.old ++ atom_text self.now.is_quoted name.now) }
     {

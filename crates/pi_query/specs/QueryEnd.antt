@@ -5,7 +5,7 @@ use Rattle.pi_terms.specs.Tree.{Tree}
 use Rattle.pi_meaning.specs.Trace.{Done, Raise, Emitted, noted, answered}
 use Rattle.pi_meaning.specs.Depth.{Cut, Stop, Ended, Spent}
 use Rattle.pi_meaning.specs.Telling.{Told}
-use Rattle.pi_print.specs.PrintTerm.{text_of}
+use Rattle.pi_syntax.specs.PrintTerm.{text_of}
 
 -- As many answers were written as are asked for; the trace ended, with an answer or without one; it ended in an exception that
 -- nothing caught; the Ticks are spent.

@@ -7,7 +7,7 @@ use Rattle.std.proofs.Common.{◌∙◌, ap, sym}
 use Rattle.pi_terms.specs.Tree.{Tree, var, int, atom, comp, Trees, no_trees, tree}
 use Rattle.pi_terms.specs.ListNames.{nil, cell_name}
 use Rattle.pi_terms.specs.Substitution.{instance}
-use Rattle.pi_print.specs.PrintTerm.{array_name}
+use Rattle.pi_syntax.specs.PrintTerm.{array_name}
 use Rattle.pi_states.specs.Value.{Bindings, IsAcyclic, value}
 use Rattle.pi_states.specs.State.{followed, followed_for}
 use Rattle.pi_states.specs.Store.{Moment, StoreView, IsTerm}

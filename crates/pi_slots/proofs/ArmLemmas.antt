@@ -8,7 +8,7 @@ use Rattle.pi_terms.specs.Tree.{Tree, no_trees, tree, trees_of, tree_count}
 use Rattle.pi_terms.specs.ListNames.{nil}
 use Rattle.pi_terms.specs.BareCells.{bare, bare_all}
 use Rattle.pi_terms.specs.declared.term.TermCell.{TermCell}
-use Rattle.pi_print.specs.PrintTerm.{array_name}
+use Rattle.pi_syntax.specs.PrintTerm.{array_name}
 use Rattle.pi_syntax.specs.ExpTree.{exp_tree, held_tree}
 use Rattle.pi_syntax.specs.ExpLists.{exps_of}
 use Rattle.pi_syntax.specs.declared.exp.Exp as e

@@ -6,7 +6,7 @@ use Rattle.std.specs.declared.alloc.Global.{Global}
 use Rattle.std.specs.declared.boxed.Box.{Box}
 use Rattle.pi_terms.specs.ListNames.{nil}
 use Rattle.pi_terms.specs.PatternTree.{PatternTree, compound, exact_atom, PatternTrees, no_patterns, pattern}
-use Rattle.pi_print.specs.PrintTerm.{array_name}
+use Rattle.pi_syntax.specs.PrintTerm.{array_name}
 use Rattle.pi_core.specs.CoreTree.{pattern_tree, pattern_trees}
 use Rattle.pi_core.specs.declared.core_program.Pattern.{Pattern}
 use Rattle.pi_syntax.specs.ExpTree.{exp_tree, held_tree}

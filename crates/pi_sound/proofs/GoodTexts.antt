@@ -7,7 +7,7 @@ use Rattle.std.proofs.lemmas.List.{append-nil}
 use Rattle.pi_terms.specs.Tree.{Tree, comp}
 use Rattle.pi_terms.specs.ListNames.{nil}
 use Rattle.pi_states.proofs.KeepsLemmas.{comp-below}
-use Rattle.pi_print.specs.PrintTerm.{array_name}
+use Rattle.pi_syntax.specs.PrintTerm.{array_name}
 use Rattle.pi_syntax.specs.ExpTree.{ExpTree, var, int, atom, str, list, list_onto, array, call, quote, index, range, range_by, collect, and, or, arrow, if_then, if_else, foreach, while_do, do_while, ExpTrees, no_exps, exp, ExpBranches, no_branches, branch}
 use Rattle.pi_syntax.specs.Signature.{exp_count}
 use Rattle.pi_core.specs.GoalTree as core

@@ -6,6 +6,8 @@ pub mod Forms
 pub mod Grammar
 pub mod Names
 pub mod Prelude
+pub mod PrintAtom
+pub mod PrintTerm
 pub mod ProgramTree
 pub mod Ranks
 pub mod Signature

@@ -1,6 +1,6 @@
 use Rattle.std.proofs.Common.{◌++◌, ap, ◌∙◌}
 use Rattle.pi_terms.specs.Variables.{occurrences}
-use Rattle.pi_print.specs.PrintTerm.{written}
+use Rattle.pi_syntax.specs.PrintTerm.{written}
 use Rattle.pi_print.specs.Numbers.{noted_all}
 use Rattle.pi_print.proofs.AnswerLemmas.{noted_variables}
 use Rattle.pi_print.proofs.term_text.Goals as goal

@@ -1,7 +1,7 @@
 use Rattle.std.proofs.Common.{◌≡◌, false, ap, sym, ◌∙◌, subst}
 use Rattle.pi_states.specs.State.{bindings}
 use Rattle.pi_states.specs.Value.{value}
-use Rattle.pi_print.specs.PrintTerm.{is_characters}
+use Rattle.pi_syntax.specs.PrintTerm.{is_characters}
 use Rattle.pi_effects.specs.Exception.{bad_format}
 use Rattle.pi_effects.specs.Format.{a_text, argument_text}
 use Rattle.pi_unify.specs.Terms.{value_of}

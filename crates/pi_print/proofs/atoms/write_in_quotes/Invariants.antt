@@ -1,7 +1,7 @@
 use Rattle.std.proofs.Common.{◌≡◌, ◌++◌, drop}
 use Rattle.std.specs.String.{string_bytes}
 use Rattle.std.specs.List.{flat_map}
-use Rattle.pi_print.specs.PrintAtom.{in_quotes}
+use Rattle.pi_syntax.specs.PrintAtom.{in_quotes}
 use Rattle.pi_print.proofs.atoms.write_in_quotes.Given as goal
 
 abbrev pub invariant-loop-c : goal.invariant-loop-c

@@ -1,6 +1,6 @@
 use Rattle.std.proofs.Common.{◌≡◌, ◌++◌}
 use Rattle.std.specs.String.{string_bytes}
-use Rattle.pi_print.specs.PrintTerm.{written}
+use Rattle.pi_syntax.specs.PrintTerm.{written}
 use Rattle.pi_print.specs.Tasks.{tasks_text, to_do}
 use Rattle.pi_print.proofs.printer.Printer.term.Given as goal
 

@@ -1,7 +1,7 @@
 use Rattle.std.proofs.Common.{◌++◌, ◌∙◌, ap, rules}
 use Rattle.std.specs.Fmt.{signed_decimal}
 use Rattle.std.specs.String.{string_bytes}
-use Rattle.pi_print.specs.PrintTerm.{written}
+use Rattle.pi_syntax.specs.PrintTerm.{written}
 use Rattle.pi_print.specs.Ahead.{built, count_of}
 use Rattle.pi_print.proofs.PrinterLemmas.{leaf, written_var, written_int, written_atom}
 use Rattle.pi_print.proofs.printer.Printer.value.Goals as goal

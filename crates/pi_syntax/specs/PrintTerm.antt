@@ -6,7 +6,7 @@ use Rattle.pi_terms.specs.Tree.{Tree, var, int, atom, comp, Trees, no_trees, tre
 use Rattle.pi_terms.specs.Variables.{variables}
 use Rattle.pi_terms.specs.Copy.{place_in}
 pub use Rattle.pi_terms.specs.ListNames.{cell_name}
-use Rattle.pi_print.specs.PrintAtom.{nil, atom_text}
+use Rattle.pi_syntax.specs.PrintAtom.{nil, atom_text}
 
 -- a compound with this name and these arguments is a list cell
 abbrev pub is_cell : List ℕ → Trees → Bool
