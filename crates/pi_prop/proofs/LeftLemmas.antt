@@ -130,6 +130,10 @@ linear_met c rel ts m ds e limits count =
     let within : IsSumWithinLimits ts m = subst IsWithinLimits e limits in
     subst (λ (x : Constraint). AreMet (places_of x) ds ds) (sym e) (apart_met (sum_places ts) ds (sum_apart ts within.2) (subst (λ (x : Constraint). length ds ≡ length (places_of x)) e count))
 
+-- what is met at the places of a kind is met at those of the constraint
+pub kind_met : {A E : Type 0} (c d : Constraint) (items : List Item) (r : Result A E) (ds es : List (List Span)) → c ≡ d → items ≡ places_of d → IfOk r (λ a. AreMet items ds es) → IfOk r (λ a. AreMet (places_of c) ds es)
+kind_met c d items r ds es e f h = subst (λ (is : List Item). IfOk r (λ a. AreMet is ds es)) (f ∙ ap places_of (sym e)) h
+
 -- ---- all kinds
 
 pub filter_left : (c : Constraint) (ds es fs : List (List Span)) → length ds ≡ length (places_of c) → HaveValues ds → AreFiltered (RuleKeeps c ds) ds es → AreMet (places_of c) es fs → AreLeft c ds fs
