@@ -49,7 +49,7 @@ greatest_from lo hi n o h = by_lt_z hi n
 
 -- ---- by numbers of 128 bits
 
-negative_end : (v : ℤ) → IsWithinBounds v → to_z w128 (of_z w128 (pos 0 -ℤ to_z w128 (of_z w128 v))) ≡ neg_ℤ v
+pub negative_end : (v : ℤ) → IsWithinBounds v → to_z w128 (of_z w128 (pos 0 -ℤ to_z w128 (of_z w128 v))) ≡ neg_ℤ v
 negative_end v b = let small = value_small v b in negative_back v (omega (arith, small))
 
 negative_small : (v : ℤ) → IsWithinBounds v → nat_abs (neg_ℤ v) ≤ 2 ^ 56
@@ -65,6 +65,14 @@ least_size_is first second lo hi l h e f =
     let one : first ≡ int_max lo (neg_ℤ hi) = e ∙ (λ i. int_max (value_back lo l i) (negative_end hi h i)) in
     let two : second ≡ int_max (int_max lo (neg_ℤ hi)) (pos 0) = f ∙ ap (λ (z : ℤ). int_max z (pos 0)) (ap (λ (z : ℤ). to_z w128 (of_z w128 z)) one ∙ narrow_back (int_max lo (neg_ℤ hi)) small) in
     ap (λ (z : ℤ). to_z w128 (of_z w128 z)) two ∙ narrow_back (int_max (int_max lo (neg_ℤ hi)) (pos 0)) (max_small (int_max lo (neg_ℤ hi)) (pos 0) (2 ^ 56) small (omega arith))
+
+pub least_size_back : (x lo hi : ℤ) → IsWithinBounds lo → IsWithinBounds hi → x ≡ int_max (int_max lo (neg_ℤ hi)) (pos 0) → to_z w128 (of_z w128 x) ≡ int_max (int_max lo (neg_ℤ hi)) (pos 0)
+least_size_back x lo hi l h e =
+    let small : nat_abs (int_max lo (neg_ℤ hi)) ≤ 2 ^ 56 = max_small lo (neg_ℤ hi) (2 ^ 56) (value_small lo l) (negative_small hi h) in
+    ap (λ (z : ℤ). to_z w128 (of_z w128 z)) e ∙ narrow_back (int_max (int_max lo (neg_ℤ hi)) (pos 0)) (max_small (int_max lo (neg_ℤ hi)) (pos 0) (2 ^ 56) small (omega arith))
+
+pub greatest_size_back : (x lo hi : ℤ) → IsWithinBounds lo → IsWithinBounds hi → x ≡ int_max (neg_ℤ lo) hi → to_z w128 (of_z w128 x) ≡ int_max (neg_ℤ lo) hi
+greatest_size_back x lo hi l h e = ap (λ (z : ℤ). to_z w128 (of_z w128 z)) e ∙ narrow_back (int_max (neg_ℤ lo) hi) (max_small (neg_ℤ lo) hi (2 ^ 56) (negative_small lo l) (value_small hi h))
 
 pub greatest_size_is : (most lo hi : ℤ) → IsWithinBounds lo → IsWithinBounds hi → most ≡ int_max (to_z w128 (of_z w128 (pos 0 -ℤ to_z w128 (of_z w128 lo)))) (to_z w128 (of_z w128 hi)) → to_z w128 (of_z w128 most) ≡ int_max (neg_ℤ lo) hi
 greatest_size_is most lo hi l h e =
