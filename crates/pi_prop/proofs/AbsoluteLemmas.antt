@@ -1,7 +1,7 @@
 -- What cuts by ends leave of an absolute value and its operand.
-use Rattle.std.specs.Prelude.{◌≡◌, ◌↔◌, ◌&&◌, IsTrue, List, length, ℤ, pos, neg_ℤ, ◌≤ℤ◌, int_le, refl}
-use Rattle.std.specs.Int.{int_max}
-use Rattle.std.proofs.Common.{arith, sym, ◌∙◌, ap, subst}
+use Rattle.std.specs.Prelude.{◌≡◌, ◌↔◌, ◌≤◌, ◌^◌, nat_abs, ◌&&◌, IsTrue, List, length, ℤ, pos, ◌-ℤ◌, neg_ℤ, ◌≤ℤ◌, int_le, refl}
+use Rattle.std.specs.Int.{int_max, w128}
+use Rattle.std.proofs.Common.{arith, sym, ◌∙◌, ap, subst, to_z, of_z}
 use Rattle.std.proofs.lemmas.Int.{ints, clamps, by_lt_z}
 use Rattle.pi_constraints.specs.declared.domain.Span.{Span}
 use Rattle.pi_filters.specs.Ends.{least_of, greatest_of}
@@ -9,6 +9,10 @@ use Rattle.pi_filters.specs.Places.{domain_at}
 use Rattle.pi_filters.specs.Rules.{magnitude, AbsoluteKeeps}
 use Rattle.pi_places.specs.Changes.{IsCutAt, IsKeptAt, AreFiltered}
 use Rattle.pi_places.proofs.KeepLemmas.{keep_cut, KeptBefore, kept_none, kept_more, kept_all}
+use Rattle.pi_constraints.specs.Domain.{IsWithinBounds}
+use Rattle.pi_places.proofs.FitLemmas.{negative_back, max_small}
+use Rattle.pi_prop.proofs.BitLemmas.{back}
+use Rattle.pi_prop.proofs.CornerLemmas.{value_small, value_back}
 use Rattle.pi_prop.proofs.ProductLemmas.{between_test}
 
 -- ---- the absolute values of the numbers between two ends
@@ -42,6 +46,38 @@ greatest_from : (lo hi n : ℤ) → lo ≤ℤ hi → n ≤ℤ int_max (neg_ℤ l
 greatest_from lo hi n o h = by_lt_z hi n
     (λ l. (lo, (omega (arith, ints), o), let m = negative_below_size lo in omega (arith, ints, clamps)))
     (λ l. (hi, (o, omega (arith, ints)), let m = least_below_size hi in omega (arith, ints)))
+
+-- ---- by numbers of 128 bits
+
+pub negative_end : (v : ℤ) → IsWithinBounds v → to_z w128 (of_z w128 (pos 0 -ℤ to_z w128 (of_z w128 v))) ≡ neg_ℤ v
+negative_end v b = let small = value_small v b in negative_back v (omega (arith, small))
+
+negative_small : (v : ℤ) → IsWithinBounds v → nat_abs (neg_ℤ v) ≤ 2 ^ 56
+negative_small v b = let small = value_small v b in omega (arith, ints, small)
+
+narrow_back : (x : ℤ) → nat_abs x ≤ 2 ^ 56 → to_z w128 (of_z w128 x) ≡ x
+narrow_back x h = back x (omega (arith, h))
+
+pub least_size_is : (first second lo hi : ℤ) → IsWithinBounds lo → IsWithinBounds hi → first ≡ int_max (to_z w128 (of_z w128 lo)) (to_z w128 (of_z w128 (pos 0 -ℤ to_z w128 (of_z w128 hi))))
+    → second ≡ int_max (to_z w128 (of_z w128 first)) (pos 0) → to_z w128 (of_z w128 second) ≡ int_max (int_max lo (neg_ℤ hi)) (pos 0)
+least_size_is first second lo hi l h e f =
+    let small : nat_abs (int_max lo (neg_ℤ hi)) ≤ 2 ^ 56 = max_small lo (neg_ℤ hi) (2 ^ 56) (value_small lo l) (negative_small hi h) in
+    let one : first ≡ int_max lo (neg_ℤ hi) = e ∙ (λ i. int_max (value_back lo l i) (negative_end hi h i)) in
+    let two : second ≡ int_max (int_max lo (neg_ℤ hi)) (pos 0) = f ∙ ap (λ (z : ℤ). int_max z (pos 0)) (ap (λ (z : ℤ). to_z w128 (of_z w128 z)) one ∙ narrow_back (int_max lo (neg_ℤ hi)) small) in
+    ap (λ (z : ℤ). to_z w128 (of_z w128 z)) two ∙ narrow_back (int_max (int_max lo (neg_ℤ hi)) (pos 0)) (max_small (int_max lo (neg_ℤ hi)) (pos 0) (2 ^ 56) small (omega arith))
+
+pub least_size_back : (x lo hi : ℤ) → IsWithinBounds lo → IsWithinBounds hi → x ≡ int_max (int_max lo (neg_ℤ hi)) (pos 0) → to_z w128 (of_z w128 x) ≡ int_max (int_max lo (neg_ℤ hi)) (pos 0)
+least_size_back x lo hi l h e =
+    let small : nat_abs (int_max lo (neg_ℤ hi)) ≤ 2 ^ 56 = max_small lo (neg_ℤ hi) (2 ^ 56) (value_small lo l) (negative_small hi h) in
+    ap (λ (z : ℤ). to_z w128 (of_z w128 z)) e ∙ narrow_back (int_max (int_max lo (neg_ℤ hi)) (pos 0)) (max_small (int_max lo (neg_ℤ hi)) (pos 0) (2 ^ 56) small (omega arith))
+
+pub greatest_size_back : (x lo hi : ℤ) → IsWithinBounds lo → IsWithinBounds hi → x ≡ int_max (neg_ℤ lo) hi → to_z w128 (of_z w128 x) ≡ int_max (neg_ℤ lo) hi
+greatest_size_back x lo hi l h e = ap (λ (z : ℤ). to_z w128 (of_z w128 z)) e ∙ narrow_back (int_max (neg_ℤ lo) hi) (max_small (neg_ℤ lo) hi (2 ^ 56) (negative_small lo l) (value_small hi h))
+
+pub greatest_size_is : (most lo hi : ℤ) → IsWithinBounds lo → IsWithinBounds hi → most ≡ int_max (to_z w128 (of_z w128 (pos 0 -ℤ to_z w128 (of_z w128 lo)))) (to_z w128 (of_z w128 hi)) → to_z w128 (of_z w128 most) ≡ int_max (neg_ℤ lo) hi
+greatest_size_is most lo hi l h e =
+    let one : most ≡ int_max (neg_ℤ lo) hi = e ∙ (λ i. int_max (negative_end lo l i) (value_back hi h i)) in
+    ap (λ (z : ℤ). to_z w128 (of_z w128 z)) one ∙ narrow_back (int_max (neg_ℤ lo) hi) (max_small (neg_ℤ lo) hi (2 ^ 56) (negative_small lo l) (value_small hi h))
 
 -- ---- each place by the rule
 

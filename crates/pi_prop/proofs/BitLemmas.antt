@@ -1,9 +1,9 @@
 -- Sums of numbers of 128 bits that don't wrap.
-use Rattle.std.specs.Prelude.{◌≡◌, ◌↔◌, ◌+◌, ◌^◌, ◌≤◌, Bool, true, false, not, IsTrue, ℤ, pos, ◌+ℤ◌, ◌-ℤ◌, neg_ℤ, ◌≤ℤ◌, int_le, nat_abs, refl}
+use Rattle.std.specs.Prelude.{◌≡◌, ◌↔◌, ◌+◌, ◌^◌, ◌≤◌, Bool, true, false, not, IsTrue, ℤ, pos, ◌+ℤ◌, ◌-ℤ◌, neg_ℤ, ◌≤ℤ◌, int_le, nat_abs, refl, FitsSigned}
 use Rattle.std.specs.Int.{int_max, w128, w64}
 use Rattle.std.proofs.Common.{arith, sym, ◌∙◌, ap, subst, to_z, of_z}
 use Rattle.std.proofs.lemmas.Bool.{false≢true}
-use Rattle.std.proofs.lemmas.Int.{ints, clamps, to_z-of_z}
+use Rattle.std.proofs.lemmas.Int.{ints, clamps, to_z-of_z, fits_signed_from_abs}
 use Rattle.pi_constraints.specs.Domain.{IsWithinBounds}
 use Rattle.pi_places.proofs.FitLemmas.{unwrapped}
 use Rattle.pi_places.proofs.HoleLemmas.{fits_narrow}
@@ -52,6 +52,35 @@ minus_is p q x y e f h k = let wide = abs_minus x y in (λ i. to_z w128 (of_z w1
 
 pub small_minus : (x y : ℤ) → nat_abs x ≤ 2 ^ 117 → nat_abs y ≤ 2 ^ 117 → nat_abs (x -ℤ y) ≤ 2 ^ 118
 small_minus x y h k = let wide = abs_minus x y in omega arith
+
+-- what fits into 128 bits
+sum_fits : (p q x y : ℤ) → p ≡ x → q ≡ y → nat_abs x ≤ 2 ^ 118 → nat_abs y ≤ 2 ^ 118 → FitsSigned w128 (p +ℤ q)
+sum_fits p q x y e f h k = let wide = abs_sum x y in subst (FitsSigned w128) (sym (λ i. e i +ℤ f i)) (fits_signed_from_abs w128 (x +ℤ y) (omega arith))
+
+minus_fits : (p q x y : ℤ) → p ≡ x → q ≡ y → nat_abs x ≤ 2 ^ 118 → nat_abs y ≤ 2 ^ 118 → FitsSigned w128 (p -ℤ q)
+minus_fits p q x y e f h k = let wide = abs_minus x y in subst (FitsSigned w128) (sym (λ i. e i -ℤ f i)) (fits_signed_from_abs w128 (x -ℤ y) (omega arith))
+
+bits_back : (x : ℤ) → nat_abs x ≤ 2 ^ 117 → to_z w128 (of_z w128 x) ≡ x
+bits_back x h = back x (omega (arith, h))
+
+pub bits_minus_fit : (x y : ℤ) → nat_abs x ≤ 2 ^ 117 → nat_abs y ≤ 2 ^ 117 → FitsSigned w128 (to_z w128 (of_z w128 x) -ℤ to_z w128 (of_z w128 y))
+bits_minus_fit x y h k = minus_fits (to_z w128 (of_z w128 x)) (to_z w128 (of_z w128 y)) x y (bits_back x h) (bits_back y k) (omega (arith, h)) (omega (arith, k))
+
+pub bits_negative_fit : (x : ℤ) → nat_abs x ≤ 2 ^ 117 → FitsSigned w128 (pos 0 -ℤ to_z w128 (of_z w128 x))
+bits_negative_fit x h = minus_fits (pos 0) (to_z w128 (of_z w128 x)) (pos 0) x refl (bits_back x h) (omega arith) (omega (arith, h))
+
+bits_minus_is : (x y : ℤ) → nat_abs x ≤ 2 ^ 117 → nat_abs y ≤ 2 ^ 117 → to_z w128 (of_z w128 (to_z w128 (of_z w128 x) -ℤ to_z w128 (of_z w128 y))) ≡ x -ℤ y
+bits_minus_is x y h k = minus_is (to_z w128 (of_z w128 x)) (to_z w128 (of_z w128 y)) x y (bits_back x h) (bits_back y k) (omega (arith, h)) (omega (arith, k))
+
+-- a number and what a part leaves of a whole
+pub rest_fits : (p n x y : ℤ) → p ≡ n → nat_abs n ≤ 2 ^ 118 → nat_abs x ≤ 2 ^ 117 → nat_abs y ≤ 2 ^ 117 → FitsSigned w128 (p +ℤ to_z w128 (of_z w128 (to_z w128 (of_z w128 x) -ℤ to_z w128 (of_z w128 y))))
+rest_fits p n x y e small h k = sum_fits p (to_z w128 (of_z w128 (to_z w128 (of_z w128 x) -ℤ to_z w128 (of_z w128 y)))) n (x -ℤ y) e (bits_minus_is x y h k) small (small_minus x y h k)
+
+pub rest_small : (p n x y : ℤ) → p ≡ n → nat_abs n ≤ 2 ^ 118 → nat_abs x ≤ 2 ^ 117 → nat_abs y ≤ 2 ^ 117 → nat_abs (to_z w128 (of_z w128 (p +ℤ to_z w128 (of_z w128 (to_z w128 (of_z w128 x) -ℤ to_z w128 (of_z w128 y)))))) ≤ 2 ^ 120
+rest_small p n x y e small h k =
+    let less = small_minus x y h k in
+    let wide = abs_sum n (x -ℤ y) in
+    subst (λ (z : ℤ). nat_abs z ≤ 2 ^ 120) (sym (sum_is p (to_z w128 (of_z w128 (to_z w128 (of_z w128 x) -ℤ to_z w128 (of_z w128 y)))) n (x -ℤ y) e (bits_minus_is x y h k) small less)) (omega (arith, wide, small, less))
 
 -- a test of a sum that didn't wrap
 pub tested : (x y : ℤ) (P : Type 0) → x ≡ y → (y ≤ℤ pos 0) ↔ P → IsTrue (int_le x (pos 0)) ↔ P

@@ -18,11 +18,11 @@ use Rattle.pi_places.specs.Changes.{AreFiltered, AreFilteredFrom, AreEmptied}
 use Rattle.pi_prop.specs.Variables.{AreMet, AreApart}
 use Rattle.pi_filters.specs.Sums.{SumKeeps}
 use Rattle.pi_filters.specs.Reified.{ReifiedKeeps}
-use Rattle.pi_filters.specs.Rules.{ElementKeeps}
+use Rattle.pi_filters.specs.Rules.{DistinctKeeps, ElementKeeps}
 use Rattle.pi_prop.proofs.BitLemmas.{back}
 use Rattle.pi_prop.proofs.RootLemmas.{some_item, variable_same}
 use Rattle.pi_prop.proofs.ApartLemmas.{apart_met, sum_places-take_more}
-use Rattle.pi_prop.specs.Left.{AreLeft}
+use Rattle.pi_prop.specs.Left.{AreLeft, DistinctLeaves}
 
 -- ---- kinds
 
@@ -130,6 +130,10 @@ linear_met c rel ts m ds e limits count =
     let within : IsSumWithinLimits ts m = subst IsWithinLimits e limits in
     subst (λ (x : Constraint). AreMet (places_of x) ds ds) (sym e) (apart_met (sum_places ts) ds (sum_apart ts within.2) (subst (λ (x : Constraint). length ds ≡ length (places_of x)) e count))
 
+-- what is met at the places of a kind is met at those of the constraint
+pub kind_met : {A E : Type 0} (c d : Constraint) (items : List Item) (r : Result A E) (ds es : List (List Span)) → c ≡ d → items ≡ places_of d → IfOk r (λ a. AreMet items ds es) → IfOk r (λ a. AreMet (places_of c) ds es)
+kind_met c d items r ds es e f h = subst (λ (is : List Item). IfOk r (λ a. AreMet is ds es)) (f ∙ ap places_of (sym e)) h
+
 -- ---- all kinds
 
 pub filter_left : (c : Constraint) (ds es fs : List (List Span)) → length ds ≡ length (places_of c) → HaveValues ds → AreFiltered (RuleKeeps c ds) ds es → AreMet (places_of c) es fs → AreLeft c ds fs
@@ -148,3 +152,11 @@ none_left c ds es count none f = record {
   count = f.count;
   values = λ k n l. (λ t. absurd (false≢true (sym (f.none k n) ∙ t)), λ h. absurd (none (h k (omega (arith, count)) (inl refl)).values));
 }
+
+-- ---- of `all_distinct`
+
+pub distinct_left : (ds es : List (List Span)) → HaveValues ds → AreFiltered (DistinctKeeps ds) ds es → AreFiltered (DistinctLeaves ds) ds es
+distinct_left ds es some f = record { count = f.count; kept = λ k n l. (λ t. let p = (f.kept k n l).0 t in (p.0, (some, p.1)), λ p. (f.kept k n l).1 (p.0, p.1.1)) }
+
+pub no_distinct_left : (ds es : List (List Span)) → (HaveValues ds → ⊥) → AreEmptied ds es → AreFiltered (DistinctLeaves ds) ds es
+no_distinct_left ds es none f = record { count = f.count; kept = λ k n l. (λ t. absurd (false≢true (sym (f.none k n) ∙ t)), λ p. absurd (none p.1.0)) }

@@ -1,9 +1,11 @@
 -- The limits of items and sums, one more at a time.
-use Rattle.std.specs.Prelude.{◌≡◌, ◌≢◌, ◌↔◌, ℕ, suc, ◌+◌, ◌<◌, ◌≤◌, ◌^◌, List, ◌∷◌, length, drop, ℤ, pos, nat_abs}
-use Rattle.std.proofs.Common.{sym, subst}
-use Rattle.std.proofs.lemmas.List.{drop_more, drop_all}
+use Rattle.std.specs.Prelude.{◌≡◌, ◌≢◌, ◌↔◌, ℕ, suc, ◌+◌, ◌<◌, ◌≤◌, ◌^◌, List, [], ◌∷◌, length, drop, ℤ, pos, nat_abs, ◌==◌, Bool, true, false, IsTrue}
+use Rattle.std.proofs.Common.{arith, sym, ap, subst}
+use Rattle.std.proofs.lemmas.Bool.{false≢true}
+use Rattle.std.proofs.lemmas.Bool.Decides.{nat_tests}
+use Rattle.std.proofs.lemmas.List.{drop_more, drop_all, nil_from_length}
 use Rattle.pi_constraints.specs.declared.constraint.Item.{Item}
-use Rattle.pi_constraints.specs.Constraint.{IsItem, AreItems, IsSum}
+use Rattle.pi_constraints.specs.Constraint.{most_items, IsItem, AreItems, IsSum, IsSumWithinLimits}
 use Rattle.pi_filters.specs.Sums.{coefficient_at}
 use Rattle.pi_filters.proofs.SumLemmas.{variable_at}
 
@@ -45,3 +47,26 @@ term_wrong ts i least l o h all = let s = subst (IsSum least) (next_term ts i l)
 pub terms_seen : (ts : List (ℤ × ℕ)) (i least : ℕ) → length ts ≤ i → Left (IsSum least (drop i ts)) (IsSum 0 ts) → IsSum 0 ts
 unfolding IsSum
 terms_seen ts i least l h = h.0 (subst (IsSum least) (sym (drop_all i ts l)) tt)
+
+-- ---- terms and a constant
+
+pub no_terms : (ts : List (ℤ × ℕ)) (b : Bool) → b ≡ (length ts == 0) → b ≡ true → ts ≡ []
+no_terms ts b e t = nil_from_length ts (grind (arith, nat_tests, e, t))
+
+pub some_terms : (ts : List (ℤ × ℕ)) (b : Bool) → b ≡ (length ts == 0) → b ≡ false → ts ≢ []
+some_terms ts b e f none =
+    let some : 0 < length ts = grind (arith, e, f) in
+    let count : length ts ≡ 0 = ap (λ (us : List (ℤ × ℕ)). length us) none in
+    absurd (omega (arith, some, count))
+
+pub within_none : (ts : List (ℤ × ℕ)) (m : ℤ) → ts ≡ [] → IsTrue false ↔ IsSumWithinLimits ts m
+within_none ts m e = (λ t. absurd (false≢true t), λ h. absurd (h.0 e))
+
+pub within_many : (ts : List (ℤ × ℕ)) (m : ℤ) → most_items < length ts → IsTrue false ↔ IsSumWithinLimits ts m
+within_many ts m l = (λ t. absurd (false≢true t), λ h. let few = h.1 in absurd (omega (arith, few, l)))
+
+pub within_wide : (ts : List (ℤ × ℕ)) (m : ℤ) → (nat_abs m ≤ 2 ^ 100 → ⊥) → IsTrue false ↔ IsSumWithinLimits ts m
+within_wide ts m wide = (λ t. absurd (false≢true t), λ h. absurd (wide h.3))
+
+pub within_all : (ts : List (ℤ × ℕ)) (m : ℤ) (b : Bool) → ts ≢ [] → length ts ≤ most_items → nat_abs m ≤ 2 ^ 100 → IsTrue b ↔ IsSum 0 ts → IsTrue b ↔ IsSumWithinLimits ts m
+within_all ts m b some few narrow f = (λ t. (some, few, f.0 t, narrow), λ h. f.1 h.2)

@@ -1,7 +1,9 @@
 -- What a reified sum keeps, from what the truth and the terms were left.
-use Rattle.std.specs.Prelude.{◌≡◌, ◌≢◌, ◌↔◌, ℕ, zero, suc, ◌+◌, ◌<◌, Bool, false, IsTrue, List, [], length, ℤ, pos, refl}
-use Rattle.std.proofs.Common.{arith, sym, ◌∙◌, subst, inl, inr, length-drop}
+use Rattle.std.specs.Prelude.{true, ◌≤ℤ◌, ◌≤◌, ◌&&◌, cond, int_le, nat_abs, ◌≡◌, ◌≢◌, ◌↔◌, ℕ, zero, suc, ◌+◌, ◌<◌, Bool, false, IsTrue, List, [], length, ℤ, pos, refl}
+use Rattle.std.specs.Int.{w128}
+use Rattle.std.proofs.Common.{arith, sym, ◌∙◌, ap, subst, to_z, of_z, inl, inr, length-drop}
 use Rattle.std.proofs.lemmas.Bool.{false≢true}
+use Rattle.std.proofs.lemmas.Int.{ints, by_lt_z}
 use Rattle.pi_constraints.specs.declared.constraint.Rel.{Rel}
 use Rattle.pi_constraints.specs.declared.domain.Span.{Span}
 use Rattle.pi_constraints.specs.Domain.{has_value}
@@ -10,8 +12,11 @@ use Rattle.pi_filters.specs.Places.{domain_at, HaveValues}
 use Rattle.pi_filters.proofs.EndLemmas.{not_empty}
 use Rattle.pi_filters.specs.Sums.{SumKeeps, OppositeKeeps}
 use Rattle.pi_filters.specs.Reified.{LeavesValues, of_terms, ReifiedKeeps}
-use Rattle.pi_places.specs.Changes.{IsKeptAt, AreFiltered, AreFilteredFrom}
+use Rattle.pi_places.specs.Changes.{IsCutAt, IsKeptAt, AreFiltered, AreFilteredFrom}
 use Rattle.pi_prop.specs.Terms.{TermKeeps, TruthKeeps}
+use Rattle.pi_places.proofs.KeepLemmas.{keep_cut}
+use Rattle.pi_prop.proofs.BitLemmas.{back}
+use Rattle.pi_prop.proofs.ProductLemmas.{between_test}
 use Rattle.pi_prop.proofs.LeaveLemmas.{behind}
 
 -- the truth has the value n, and a filter leaves each term a value
@@ -105,6 +110,43 @@ false_terms rel ts m ds es none f = record {
   );
 }
 
+-- ---- the truth by its ends
+
+truth_between : (holds fails : Bool) (n : ℤ) → ((cond fails (pos 0) (pos 1) ≤ℤ n) × (n ≤ℤ cond holds (pos 1) (pos 0))) ↔ TruthKeeps holds fails n
+truth_between true true n = (
+  λ p. by_lt_z (pos 0) n (λ l. inl (omega (arith, ints, p.1, l), refl)) (λ l. inr (omega (arith, ints, p.0, l), refl)),
+  λ h. elim h [ inl y ↦ (omega (arith, ints, y.0), omega (arith, ints, y.0)) | inr y ↦ (omega (arith, ints, y.0), omega (arith, ints, y.0)) ],
+)
+truth_between true false n = (
+  λ p. inl (omega (arith, ints, p.0, p.1), refl),
+  λ h. elim h [ inl y ↦ (omega (arith, ints, y.0), omega (arith, ints, y.0)) | inr y ↦ absurd (false≢true y.1) ],
+)
+truth_between false true n = (
+  λ p. inr (omega (arith, ints, p.0, p.1), refl),
+  λ h. elim h [ inl y ↦ absurd (false≢true y.1) | inr y ↦ (omega (arith, ints, y.0), omega (arith, ints, y.0)) ],
+)
+truth_between false false n = (
+  λ p. absurd (omega (arith, ints, p.0, p.1)),
+  λ h. elim h [ inl y ↦ absurd (false≢true y.1) | inr y ↦ absurd (false≢true y.1) ],
+)
+
+end_back : (b : Bool) (m n x : ℤ) → nat_abs m ≤ 1 → nat_abs n ≤ 1 → x ≡ cond b m n → to_z w128 (of_z w128 x) ≡ cond b m n
+end_back true m n x f g e = ap (λ (z : ℤ). to_z w128 (of_z w128 z)) e ∙ back m (omega (arith, f))
+end_back false m n x f g e = ap (λ (z : ℤ). to_z w128 (of_z w128 z)) e ∙ back n (omega (arith, g))
+
+pub truth_kept : (holds fails : Bool) (least greatest : ℤ) (ds es : List (List Span)) → least ≡ cond fails (pos 0) (pos 1) → greatest ≡ cond holds (pos 1) (pos 0)
+    → IsCutAt 0 (λ n. int_le (to_z w128 (of_z w128 least)) n && int_le n (to_z w128 (of_z w128 greatest))) ds es → IsKeptAt 0 (TruthKeeps holds fails) ds es
+truth_kept holds fails least greatest ds es e f cut =
+    let low : ℤ = to_z w128 (of_z w128 least) in
+    let high : ℤ = to_z w128 (of_z w128 greatest) in
+    let lows : low ≡ cond fails (pos 0) (pos 1) = end_back fails (pos 0) (pos 1) least (omega arith) (omega arith) e in
+    let highs : high ≡ cond holds (pos 1) (pos 0) = end_back holds (pos 1) (pos 0) greatest (omega arith) (omega arith) f in
+    keep_cut 0 (λ n. int_le low n && int_le n high) (TruthKeeps holds fails) ds es
+    (λ n h. (
+      λ t. let p = (between_test low high n).0 t in (truth_between holds fails n).0 (subst (λ (z : ℤ). z ≤ℤ n) lows p.0, subst (λ (z : ℤ). n ≤ℤ z) highs p.1),
+      λ k. let p = (truth_between holds fails n).1 k in (between_test low high n).1 (subst (λ (z : ℤ). z ≤ℤ n) (sym lows) p.0, subst (λ (z : ℤ). n ≤ℤ z) (sym highs) p.1),
+    )) cut
+
 -- ---- whether the truth can be a value
 
 -- one rule, as the code names it
@@ -122,6 +164,9 @@ values_at Kept ds n h (suc j) l =
 -- where a place has no value it can be none
 pub none_can_be : (Kept : ℕ → ℤ → Type 0) (ds : List (List Span)) (n : ℤ) (b : Bool) → b ≡ false → (HaveValues ds → ⊥) → IsTrue b ↔ CanBe Kept ds n
 none_can_be Kept ds n b e none = (λ t. absurd (false≢true (sym e ∙ t)), λ h. absurd (none (values_at Kept ds n h)))
+
+pub no_value_can_be : (Kept : ℕ → ℤ → Type 0) (ds : List (List Span)) (n : ℤ) (b v : Bool) → b ≡ false → v ≡ false → v ≡ has_value (domain_at ds 0) n → IsTrue b ↔ CanBe Kept ds n
+no_value_can_be Kept ds n b v e f is = (λ t. absurd (false≢true (sym e ∙ t)), λ h. absurd (false≢true (sym f ∙ (is ∙ h.0))))
 
 pub some_can_be : (Kept : ℕ → ℤ → Type 0) (ds : List (List Span)) (n : ℤ) (b : Bool) → IsTrue (has_value (domain_at ds 0) n) → IsTrue b ↔ LeavesValues Kept (of_terms ds) → IsTrue b ↔ CanBe Kept ds n
 some_can_be Kept ds n b here h = (λ t. (here, h.0 t), λ p. h.1 p.1)

@@ -1,9 +1,9 @@
-use Rattle.std.proofs.Common.{arith, ◌≡◌, ◌+ℤ◌, ◌-ℤ◌, ◌∙◌, ℤ, neg_ℤ, ap, refl, to_z, of_z}
+use Rattle.std.proofs.Common.{arith, ◌≡◌, ◌≢◌, ◌≤◌, ◌^◌, pos, nat_abs, ◌+ℤ◌, ◌-ℤ◌, ◌∙◌, ℤ, neg_ℤ, ap, sym, subst, refl, to_z, of_z}
 use Rattle.std.specs.Int.{w128}
 use Rattle.pi_filters.specs.Places.{domain_at}
 use Rattle.pi_filters.specs.Sums.{least_part}
 use Rattle.pi_places.proofs.FitLemmas.{negative_back}
-use Rattle.pi_prop.proofs.BitLemmas.{back, sum_is, minus_is, small_minus, small_negative}
+use Rattle.pi_prop.proofs.BitLemmas.{back, sum_is, minus_is, small_minus, small_negative, bits_minus_fit, bits_negative_fit, rest_fits, rest_small}
 use Rattle.pi_prop.proofs.LeaveLemmas.{with_same}
 use Rattle.pi_prop.proofs.leaves.has_equal.Goals as goal
 
@@ -25,3 +25,56 @@ returns g c =
     (sum_is _ _ m (all.least -ℤ part.result.least) (back m (omega (arith, narrow))) above (omega (arith, narrow)) (small_minus all.least part.result.least (omega (arith, small.0)) (omega (arith, here.0))) ∙ ap (λ (z : ℤ). m +ℤ (all.least -ℤ z)) least)
     (sum_is _ _ (neg_ℤ m) (all.opposite -ℤ part.result.opposite) (negative_back m (omega (arith, narrow))) below (small_negative m (omega (arith, narrow))) (small_minus all.opposite part.result.opposite (omega (arith, small.1)) (omega (arith, here.1))) ∙ ap (λ (z : ℤ). neg_ℤ m +ℤ (all.opposite -ℤ z)) opposite)
     c.has_with.ensures
+
+pub overflow_sub-above : goal.overflow_sub-above
+overflow_sub-above g c =
+    let small = c.requires.small.0 in
+    let here = c.extremes_at-part.ensures.small.0 in
+    bits_minus_fit c.args.all.least c.extremes_at-part.result.least (omega (arith, small)) (omega (arith, here))
+
+pub overflow_add-above : goal.overflow_add-above
+overflow_add-above g c =
+    let narrow = c.requires.constant in
+    let small = c.requires.small.0 in
+    let here = c.extremes_at-part.ensures.small.0 in
+    rest_fits _ c.args.constant c.args.all.least c.extremes_at-part.result.least (back c.args.constant (omega (arith, narrow))) (omega (arith, narrow)) (omega (arith, small)) (omega (arith, here))
+
+pub overflow_sub-below : goal.overflow_sub-below
+overflow_sub-below g c = let narrow = c.requires.constant in bits_negative_fit c.args.constant (omega (arith, narrow))
+
+pub overflow_sub-below-2 : goal.overflow_sub-below-2
+overflow_sub-below-2 g c =
+    let small = c.requires.small.1 in
+    let here = c.extremes_at-part.ensures.small.1 in
+    bits_minus_fit c.args.all.opposite c.extremes_at-part.result.opposite (omega (arith, small)) (omega (arith, here))
+
+pub overflow_add-below : goal.overflow_add-below
+overflow_add-below g c =
+    let narrow = c.requires.constant in
+    let small = c.requires.small.1 in
+    let here = c.extremes_at-part.ensures.small.1 in
+    rest_fits _ (neg_ℤ c.args.constant) c.args.all.opposite c.extremes_at-part.result.opposite (negative_back c.args.constant (omega (arith, narrow))) (small_negative c.args.constant (omega (arith, narrow))) (omega (arith, small)) (omega (arith, here))
+
+pub has_with-requires-clause-coefficient : goal.has_with-requires-clause-coefficient
+has_with-requires-clause-coefficient g c =
+    let narrow = c.requires.narrow in
+    subst (λ (z : ℤ). z ≢ pos 0) (sym (back c.args.coefficient (omega (arith, narrow)))) c.requires.coefficient
+
+pub has_with-requires-clause-small : goal.has_with-requires-clause-small
+has_with-requires-clause-small g c =
+    let narrow = c.requires.narrow in
+    subst (λ (z : ℤ). nat_abs z ≤ 2 ^ 40) (sym (back c.args.coefficient (omega (arith, narrow)))) narrow
+
+pub has_with-requires-clause-above : goal.has_with-requires-clause-above
+has_with-requires-clause-above g c =
+    let narrow = c.requires.constant in
+    let small = c.requires.small.0 in
+    let here = c.extremes_at-part.ensures.small.0 in
+    rest_small _ c.args.constant c.args.all.least c.extremes_at-part.result.least (back c.args.constant (omega (arith, narrow))) (omega (arith, narrow)) (omega (arith, small)) (omega (arith, here))
+
+pub has_with-requires-clause-below : goal.has_with-requires-clause-below
+has_with-requires-clause-below g c =
+    let narrow = c.requires.constant in
+    let small = c.requires.small.1 in
+    let here = c.extremes_at-part.ensures.small.1 in
+    rest_small _ (neg_ℤ c.args.constant) c.args.all.opposite c.extremes_at-part.result.opposite (negative_back c.args.constant (omega (arith, narrow))) (small_negative c.args.constant (omega (arith, narrow))) (omega (arith, small)) (omega (arith, here))

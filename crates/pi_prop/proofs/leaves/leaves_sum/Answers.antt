@@ -1,6 +1,7 @@
-use Rattle.std.proofs.Common.{ℤ}
+use Rattle.std.proofs.Common.{ℤ, sym, subst}
 use Rattle.std.specs.Int.{w128}
 use Rattle.std.proofs.lemmas.Int.{to_z-of_z}
+use Rattle.pi_constraints.specs.Constraint.{IsSumWithinLimits}
 use Rattle.pi_constraints.specs.declared.constraint.Rel.{Rel}
 use Rattle.pi_filters.specs.Reified.{of_terms}
 use Rattle.pi_filters.specs.Sums.{SumKeeps}
@@ -21,3 +22,12 @@ pub returns-in-AtMost : goal.returns-in-AtMost
 returns-in-AtMost g c =
     let ds = of_terms (g.P.Places.domains c.args.places.now) in
     same_rule _ (λ (q : Rel) (z : ℤ). SumKeeps q c.args.terms.now z ds) ds c.args.rel Rel.AtMost c.args.constant _ c.in-AtMost.is (to_z-of_z w128 c.args.constant c.ranges.constant) c.leaves_at_most.ensures
+
+pub leaves_equal-requires-clause-limits : goal.leaves_equal-requires-clause-limits
+leaves_equal-requires-clause-limits g c = subst (λ (z : ℤ). IsSumWithinLimits c.args.terms.now z) (sym (to_z-of_z w128 c.args.constant c.ranges.constant)) c.requires.limits
+
+pub leaves_unequal-requires-clause-limits : goal.leaves_unequal-requires-clause-limits
+leaves_unequal-requires-clause-limits g c = subst (λ (z : ℤ). IsSumWithinLimits c.args.terms.now z) (sym (to_z-of_z w128 c.args.constant c.ranges.constant)) c.requires.limits
+
+pub leaves_at_most-requires-clause-limits : goal.leaves_at_most-requires-clause-limits
+leaves_at_most-requires-clause-limits g c = subst (λ (z : ℤ). IsSumWithinLimits c.args.terms.now z) (sym (to_z-of_z w128 c.args.constant c.ranges.constant)) c.requires.limits

@@ -3,6 +3,7 @@ use Rattle.std.specs.Int.{int_min, int_max, w128}
 use Rattle.std.proofs.lemmas.Int.{to_z-of_z}
 use Rattle.pi_filters.specs.Places.{domain_at}
 use Rattle.pi_filters.specs.Rules.{least_corner, greatest_corner}
+use Rattle.std.proofs.lemmas.Result.{IfOk-from_err}
 use Rattle.pi_prop.proofs.CornerLemmas.{least_corner_fits, greatest_corner_fits}
 use Rattle.pi_prop.proofs.ProductLemmas.{product_filtered}
 use Rattle.pi_prop.proofs.products.filter_product.Goals as goal
@@ -22,3 +23,24 @@ returns g c =
     to_z-of_z w128 c.corners-corners.result.hi f1 ∙ (c.corners-corners.ensures.hi ∙ (λ i. int_max (int_max (a.lo i *ℤ b.lo i) (a.lo i *ℤ b.hi i)) (int_max (a.hi i *ℤ b.lo i) (a.hi i *ℤ b.hi i)))) in
     product_filtered ds _ _ _ c.at-product.result x.result y.result _ _ c.requires (record { lo = c.at-product.ensures.lo; hi = c.at-product.ensures.hi }) (record { lo = a.lo; hi = a.hi }) (record { lo = b.lo; hi = b.hi })
     c.in_ok-keep_between.ensures lo hi c.in_ok-keep_factor.ensures c.in_ok-keep_factor-2.ensures
+
+pub corners-corners-requires-clause-low : goal.corners-corners-requires-clause-low
+corners-corners-requires-clause-low g c = c.at-first.ensures.low
+
+pub corners-corners-requires-clause-high : goal.corners-corners-requires-clause-high
+corners-corners-requires-clause-high g c = c.at-first.ensures.high
+
+pub corners-corners-requires-clause-other_low : goal.corners-corners-requires-clause-other_low
+corners-corners-requires-clause-other_low g c = c.at-second.ensures.low
+
+pub corners-corners-requires-clause-other_high : goal.corners-corners-requires-clause-other_high
+corners-corners-requires-clause-other_high g c = c.at-second.ensures.high
+
+pub returns-in_err-keep_between : goal.returns-in_err-keep_between
+returns-in_err-keep_between g c = IfOk-from_err c.from_residual.result _ c.from_residual.ensures.0
+
+pub returns-in_err-keep_factor : goal.returns-in_err-keep_factor
+returns-in_err-keep_factor g c = IfOk-from_err c.from_residual-in_err-keep_factor.result _ c.from_residual-in_err-keep_factor.ensures.0
+
+pub returns-in_err-keep_factor-2 : goal.returns-in_err-keep_factor-2
+returns-in_err-keep_factor-2 g c = IfOk-from_err c.from_residual-in_err-keep_factor-2.result _ c.from_residual-in_err-keep_factor-2.ensures.0
