@@ -3,10 +3,7 @@ use Rattle.std.specs.Prelude.{Ok}
 use Rattle.std.proofs.lemmas.Result.{err_from_is_err_and}
 use Rattle.pi_unify.proofs.KeepsLemmas.{makes_none}
 use Rattle.pi_effects.specs.Ranges.{most_items}
-use Rattle.pi_effects.specs.declared.fault.Stop.{Stop}
-use Rattle.pi_calls.proofs.SizeLemmas.{size_stops}
-use Rattle.pi_calls.proofs.StopLemmas.{effect_stopped}
-use Rattle.pi_calls.proofs.GridLemmas.{Sizes, grid_rows_stop, grid_columns_stop, grid_stops, grid_given}
+use Rattle.pi_calls.proofs.GridLemmas.{Sizes, grid_stops, grid_given}
 use Rattle.pi_calls.proofs.grids.new_grid.Goals as goal
 
 pub returns-in_err-size-clause-makes : goal.returns-in_err-size-clause-makes
@@ -34,33 +31,6 @@ returns-in_err-allowed-clause-shows g c = λ t u a first second.
     let less : c.saturating_mul.result ≤ n * rows = omega (arith, c.saturating_mul.ensures, ap (λ k. n * k) c.from.ensures) in
     let p = err_from_is_err_and c.from_residual-in_err-allowed.result c.from_residual-in_err-allowed.ensures.1 in
     rw p.1 (grid_stops v t u rows n c.saturating_mul.result p.0 sizes (p.2 ∙ c.in_err-allowed.ensures.err.0) less c.in_err-allowed.ensures.err.1)
-
-pub returns-in_err-size-clause-shows : goal.returns-in_err-size-clause-shows
-returns-in_err-size-clause-shows g c = λ t u a first second.
-    let v = g.S.StateStore.seen c.args.s.now in
-    effect_stopped v v c.from_residual.result _ _ c.from_residual.ensures.1 (size_stops v _ t _ (c.in_err-size.ensures t a first))
-
-pub returns-in_err-rows-clause-shows : goal.returns-in_err-rows-clause-shows
-returns-in_err-rows-clause-shows g c = λ t u a first second.
-    let v = g.S.StateStore.seen c.args.s.now in
-    effect_stopped v v c.from_residual-in_err-rows.result _ _ c.from_residual-in_err-rows.ensures.1
-    (grid_rows_stop v t u c.in_ok-size.field-0 _ (c.in_ok-size.ensures t a first) c.in_err-rows.ensures.err.0 c.in_err-rows.ensures.err.1)
-
-pub returns-in_err-columns-clause-shows : goal.returns-in_err-columns-clause-shows
-returns-in_err-columns-clause-shows g c = λ t u a first second.
-    let v = g.S.StateStore.seen c.args.s.now in
-    effect_stopped v v c.from_residual-in_err-columns.result _ _ c.from_residual-in_err-columns.ensures.1
-    (grid_columns_stop v t u c.in_ok-rows.rows _ (c.in_ok-size.ensures t a first ∙ ap Ok (sym c.in_ok-rows.ensures.ok.0)) c.in_ok-rows.ensures.ok.1 (c.in_err-columns.ensures u a second))
-
-pub returns-in_err-made-clause-makes : goal.returns-in_err-made-clause-makes
-returns-in_err-made-clause-makes g c = c.in_err-made.ensures.makes
-
-pub returns-in_err-made-clause-shows : goal.returns-in_err-made-clause-shows
-returns-in_err-made-clause-shows g c = λ t u a first second.
-    effect_stopped (g.S.StateStore.seen c.args.s.now) (g.S.StateStore.seen c.put_rows.new.s) c.from_residual-in_err-made.result Stop.Memory _ c.from_residual-in_err-made.ensures.1 tt
-
-pub returns-clause-makes : goal.returns-clause-makes
-returns-clause-makes g c = c.in_ok-made.ensures.makes
 
 pub returns-clause-shows : goal.returns-clause-shows
 returns-clause-shows g c = λ t u a first second.

@@ -1,14 +1,10 @@
-use Rattle.std.proofs.Common.{◌≡◌, sym, ◌∙◌, subst, refl, to_z, of_z}
 use Rattle.std.specs.Prelude.{pos}
-use Rattle.std.specs.Int.{w128}
-use Rattle.std.proofs.lemmas.Int.{to_z-of_z}
 use Rattle.pi_states.specs.Store.{IsTerm}
-use Rattle.pi_effects.specs.Answer.{integer_then, integers_then}
+use Rattle.pi_effects.specs.Answer.{integer_then}
 use Rattle.pi_effects.specs.Ranges.{range}
-use Rattle.pi_effects.specs.Results.{ShowsTerm}
-use Rattle.pi_effects.proofs.FaultLemmas.{integer-stops, integers-stop, integers-are}
+use Rattle.pi_effects.proofs.FaultLemmas.{integer-stops, integers-stop}
 use Rattle.pi_calls.proofs.StoreLemmas.{stays_none}
-use Rattle.pi_calls.proofs.StopLemmas.{stop_shown, of_three_bits}
+use Rattle.pi_calls.proofs.StopLemmas.{stop_shown}
 use Rattle.pi_calls.proofs.ranges.range.Goals as goal
 
 pub returns-in_err-low-clause-stays : goal.returns-in_err-low-clause-stays
