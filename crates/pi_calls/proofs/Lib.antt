@@ -6,6 +6,7 @@ pub mod ExtremeLemmas
 mod StoreLemmas
 mod PairLemmas
 mod RangeLemmas
+mod StopLemmas
 mod SizeLemmas
 mod MadeLists
 mod GridLemmas

@@ -7,9 +7,10 @@ use Rattle.pi_terms.specs.ListCopies.{list_cell}
 use Rattle.pi_states.specs.State.{next, with_new}
 use Rattle.pi_states.specs.Store.{StoreView, IsTerm, AreTerms, Changes, Stays, Gives}
 use Rattle.pi_states.specs.declared.store.Ref.{Ref}
-use Rattle.pi_unify.specs.Copying.{Makes}
-use Rattle.pi_unify.proofs.KeepsLemmas.{makes_one_more}
-use Rattle.pi_effects.specs.Items.{list_onto, list_of}
+use Rattle.pi_print.specs.PrintTerm.{array_name}
+use Rattle.pi_unify.specs.Copying.{with_variables, Makes}
+use Rattle.pi_unify.proofs.KeepsLemmas.{stays_then, makes_one_more}
+use Rattle.pi_effects.specs.Items.{list_onto, list_of, array_of}
 use Rattle.pi_effects.specs.Making.{new_from}
 use Rattle.pi_calls.proofs.StoreLemmas.{next-with, are_more, cell_put}
 
@@ -57,3 +58,12 @@ none_made v rs e = subst (λ (qs : List Ref). AreTerms v qs (trees_of [])) (sym 
 
 pub all_made : {M : Type 0} (v w : StoreView M) (rs : List Ref) (k count : ℕ) → k ≡ count → Makes v w k → AreTerms w rs (trees_of (new_from (next v.now.state) k)) → Makes v w count × AreTerms w rs (trees_of (new_from (next v.now.state) count))
 all_made v w rs k count e makes are = let P : ℕ → Type 0 = λ j. Makes v w j × AreTerms w rs (trees_of (new_from (next v.now.state) j)) in subst P e (makes, are)
+
+-- an array of those that were made
+pub array_made : {M : Type 0} (v w x : StoreView M) (rs args : List Ref) (count : ℕ) (made : Ref) → args ≡ rs → Makes v w count × AreTerms w rs (trees_of (new_from (next v.now.state) count)) → Stays w x → ((ts : Trees) → AreTerms w args ts → IsTerm x made (comp array_name ts)) → Gives v x (with_variables count v.now.state) made (array_of (new_from (next v.now.state) count))
+array_made v w x rs args count made same makes stays puts =
+    let ts : Trees = trees_of (new_from (next v.now.state) count) in
+    record {
+      changes = stays_then v w x (with_variables count v.now.state) makes.0 stays;
+      term = puts ts (subst (λ (qs : List Ref). AreTerms w qs ts) (sym same) makes.1);
+    }

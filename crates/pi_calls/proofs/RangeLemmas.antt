@@ -1,9 +1,10 @@
 -- Values of a range by their numbers, and how many they are.
-use Rattle.std.proofs.Common.{◌≡◌, ◌≢◌, ℕ, zero, suc, ◌+◌, ◌-◌, ◌≤◌, [], ◌∷◌, Some, refl, ap, sym, ◌∙◌, subst, arith}
-use Rattle.std.specs.Prelude.{ℤ, pos, negsuc, ◌+ℤ◌, ◌*ℤ◌, FitsSigned, Option, codes}
-use Rattle.std.specs.Int.{w128}
+use Rattle.std.proofs.Common.{◌≡◌, ◌≢◌, ℕ, zero, suc, ◌+◌, ◌-◌, ◌/◌, ◌<◌, ◌≤◌, Bool, true, false, cond, [], ◌∷◌, Some, refl, ap, sym, ◌∙◌, subst, arith, tests, lt-ltb}
+use Rattle.std.specs.Prelude.{ℤ, pos, negsuc, ◌+ℤ◌, ◌-ℤ◌, ◌*ℤ◌, int_lt, int_le, unsigned_abs, ◌&&◌, FitsSigned, Option, Ok, Err, codes}
+use Rattle.std.specs.Int.{w128, int_gap}
 use Rattle.std.proofs.lemmas.Int.{ints}
 use Rattle.pi_terms.specs.Tree.{Tree, Trees, int, atom, comp}
+use Rattle.pi_terms.proofs.OptionLemmas.{not-less}
 use Rattle.pi_terms.specs.ListNames.{nil, cell_name}
 use Rattle.pi_terms.specs.ListCopies.{list_cell}
 use Rattle.pi_calls.proofs.StoreLemmas.{cell_put}
@@ -12,11 +13,14 @@ use Rattle.pi_states.specs.State.{State, bindings, followed}
 use Rattle.pi_states.specs.Store.{StoreView, IsTerm, AreTerms, Keeps}
 use Rattle.pi_states.specs.declared.store.Ref.{Ref}
 use Rattle.pi_effects.specs.Items.{list_onto, list_of}
-use Rattle.pi_effects.specs.Exception.{type_error}
+use Rattle.pi_arith.specs.Range.{has_128_bits}
+use Rattle.pi_arith.specs.declared.fault.ArithFault.TheVariants.{Overflow}
+use Rattle.pi_effects.specs.Exception.{type_error, range_too_long}
+use Rattle.pi_effects.specs.Integers.{fault_term}
 use Rattle.pi_effects.specs.Answer.{Answer, found_or, integers_then}
-use Rattle.pi_effects.specs.Ranges.{count_by, values_by, counted, counted_by}
+use Rattle.pi_effects.specs.Ranges.{most_items, count_by, values_by, counted, counted_by}
 use Rattle.pi_effects.specs.Inner.{pair_parts}
-use Rattle.pi_effects.proofs.RangeLemmas.{value-fits}
+use Rattle.pi_effects.proofs.RangeLemmas.{bits-fit, value-fits}
 use Rattle.pi_calls.specs.Steps.{value_after, AllFit}
 
 pub first_value : (low step : ℤ) → value_after low step 0 ≡ low
@@ -76,3 +80,71 @@ pair_then s u low pair = found_or pair (type_error (codes "array") u s) (λ p. i
 
 abbrev pub pair_counted : State → Tree → ℤ → Answer Tree
 pair_counted s u low = pair_then s u low (pair_parts (followed (bindings s) u))
+
+-- ---- how many values a range has, by the distance of its bounds
+
+distance_up : (low high : ℤ) → int_le low high ≡ true → unsigned_abs (low -ℤ high) ≡ int_gap low high
+distance_up (pos a) (pos b) h = omega (arith, ints)
+distance_up (pos a) (negsuc b) h = cc
+distance_up (negsuc a) (pos b) h = omega (arith, ints)
+distance_up (negsuc a) (negsuc b) h = omega (arith, ints)
+
+distance_down : (low high : ℤ) → int_le high low ≡ true → unsigned_abs (low -ℤ high) ≡ int_gap high low
+distance_down (pos a) (pos b) h = omega (arith, ints)
+distance_down (pos a) (negsuc b) h = omega (arith, ints)
+distance_down (negsuc a) (pos b) h = cc
+distance_down (negsuc a) (negsuc b) h = omega (arith, ints)
+
+-- a range whose bounds stand the other way round has none
+abbrev pub is_empty_range : ℤ → ℤ → ℤ → Bool
+is_empty_range low step high = cond (int_lt (pos 0) step) (int_lt high low) (int_lt low high)
+
+not_true : (b : Bool) → (b ≡ true → ⊥) → b ≡ false
+not_true true h = absurd (h refl)
+not_true false h = refl
+
+not_false : (b : Bool) → (b ≡ false → ⊥) → b ≡ true
+not_false true h = refl
+not_false false h = absurd (h refl)
+
+empty_upwards : (low high : ℤ) (n : ℕ) → is_empty_range low (pos (suc n)) high ≡ int_lt high low
+empty_upwards low high n = ap (λ up. cond up (int_lt high low) (int_lt low high)) (not_false (int_lt (pos 0) (pos (suc n))) (λ e. omega (arith, ints)))
+
+-- the test by the direction of the step
+pub empty_up : (low step high : ℤ) (empty : Bool) → int_lt (pos 0) step ≡ true → empty ≡ int_lt high low → is_empty_range low step high ≡ empty
+empty_up low step high empty up e = ap (λ b. cond b (int_lt high low) (int_lt low high)) up ∙ sym e
+
+pub empty_down : (low step high : ℤ) (empty : Bool) → int_lt (pos 0) step ≡ false → empty ≡ int_lt low high → is_empty_range low step high ≡ empty
+empty_down low step high empty down e = ap (λ b. cond b (int_lt high low) (int_lt low high)) down ∙ sym e
+
+pub none_counted : (low step high : ℤ) → step ≢ pos 0 → is_empty_range low step high ≡ true → count_by low step high ≡ 0
+none_counted low (pos zero) high other empty = refl
+none_counted low (pos (suc n)) high other empty =
+    let past : int_lt high low ≡ true = sym (empty_upwards low high n) ∙ empty in
+    ap (λ b. cond b (suc (int_gap low high / suc n)) 0) (not_true (int_le low high) (λ e. omega (arith, ints)))
+none_counted low (negsuc n) high other empty =
+    let past : int_lt low high ≡ true = empty in
+    ap (λ b. cond b (suc (int_gap high low / suc n)) 0) (not_true (int_le high low) (λ e. omega (arith, ints)))
+
+pub steps_counted : (low step high : ℤ) (distance size : ℕ) → step ≢ pos 0 → is_empty_range low step high ≡ false → distance ≡ unsigned_abs (low -ℤ high) → size ≡ unsigned_abs step → count_by low step high ≡ suc (distance / size)
+steps_counted low (pos zero) high distance size other some far large = absurd (other refl)
+steps_counted low (pos (suc n)) high distance size other some far large =
+    let past : int_lt high low ≡ false = sym (empty_upwards low high n) ∙ some in
+    let within : int_le low high ≡ true = not_false (int_le low high) (λ e. omega (arith, ints)) in
+    ap (λ b. cond b (suc (int_gap low high / suc n)) 0) within ∙ (ap (λ d. suc (d / suc n)) (sym (far ∙ distance_up low high within)) ∙ ap (λ m. suc (distance / m)) (sym large))
+steps_counted low (negsuc n) high distance size other some far large =
+    let past : int_lt low high ≡ false = some in
+    let within : int_le high low ≡ true = not_false (int_le high low) (λ e. omega (arith, ints)) in
+    ap (λ b. cond b (suc (int_gap high low / suc n)) 0) within ∙ (ap (λ d. suc (d / suc n)) (sym (far ∙ distance_down low high within)) ∙ ap (λ m. suc (distance / m)) (sym large))
+
+-- what is counted where a list has room for it, between numbers of 128 bits
+pub counted_so : {A : Type 0} (make : ℕ → A) (low step high : ℤ) (count : ℕ) → FitsSigned w128 low → FitsSigned w128 high → count ≡ count_by low step high → count ≤ most_items → counted make low step high ≡ Ok (make count)
+counted_so make low step high count f g is few =
+    let c : ℕ = count_by low step high in
+    ap (λ b. cond b (Err range_too_long) (cond (has_128_bits low && has_128_bits high) (Ok (make c)) (Err (fault_term Overflow)))) (not-less most_items c (subst (λ (k : ℕ). k ≤ most_items) is few))
+    ∙ (ap (λ b. cond (b && has_128_bits high) (Ok (make c)) (Err (fault_term Overflow))) (bits-fit low f)
+    ∙ (ap (λ b. cond b (Ok (make c)) (Err (fault_term Overflow))) (bits-fit high g) ∙ ap (λ k. Ok (make k)) (sym is)))
+
+pub counted_too_long : {A : Type 0} (make : ℕ → A) (low step high : ℤ) → most_items < count_by low step high → counted make low step high ≡ Err range_too_long
+counted_too_long make low step high many =
+    ap (λ b. cond b (Err range_too_long) (cond (has_128_bits low && has_128_bits high) (Ok (make (count_by low step high))) (Err (fault_term Overflow)))) (lt-ltb most_items (count_by low step high) many)

@@ -1,12 +1,14 @@
 -- A text as the list of its characters, from the last one on.
 use Rattle.std.proofs.Common.{◌≡◌, ℕ, zero, suc, ◌+◌, ◌<◌, ◌≤◌, List, [], ◌∷◌, length, map, drop, get_or, Some, refl, ap, sym, ◌∙◌, arith, add-one}
 use Rattle.std.specs.Char.{encode_utf8}
+use Rattle.std.specs.Str.{chars}
 use Rattle.std.proofs.Math.Seq.{drop-cons}
 use Rattle.pi_terms.specs.Tree.{Tree, Trees, no_trees, tree, atom, comp}
 use Rattle.pi_terms.specs.ListNames.{nil, cell_name}
 use Rattle.pi_states.specs.Store.{StoreView, IsTerm, AreTerms}
 use Rattle.pi_states.specs.declared.store.Ref.{Ref}
 use Rattle.pi_effects.specs.Items.{list_onto, list_of}
+use Rattle.pi_effects.specs.Texts.{text_list}
 
 -- the list of these characters
 abbrev pub list_for : List ℕ → Tree
@@ -27,3 +29,7 @@ unfolding list_onto AreTerms
 one_character v w x item list made cs c i k d next within is h rest puts =
     let front : drop i cs ≡ c ∷ drop k cs = drop-cons cs i d within ∙ (ap (λ e. e ∷ drop (suc i) cs) (sym is) ∙ ap (λ j. c ∷ drop j cs) (sym (add-one i) ∙ next)) in
     puts (tree (atom (encode_utf8 c)) (tree (list_for (drop k cs)) no_trees)) (h, (rest, tt)) ∙ ap (λ ds. Some (list_for ds)) (sym front)
+
+-- at the first character the list is that of the text
+pub all_characters : {M : Type 0} (w : StoreView M) (list : Ref) (cs text : List ℕ) (k : ℕ) → k ≡ 0 → cs ≡ chars text → IsTerm w list (list_for (drop k cs)) → IsTerm w list (text_list text)
+all_characters w list cs text k first same is = is ∙ (ap (λ j. Some (list_for (drop j cs))) first ∙ ap (λ ds. Some (list_for ds)) same)

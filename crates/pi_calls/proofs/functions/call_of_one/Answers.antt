@@ -67,3 +67,33 @@ returns-in-Itself-clause-shows g c = λ t e a is done.
 pub returns-in-InOrder-clause-shows : goal.returns-in-InOrder-clause-shows
 returns-in-InOrder-clause-shows g c = λ t e a is done.
     one-shown (g.S.StateStore.seen c.args.s.now) (g.S.StateStore.seen c.in_order.new.s) c.in_order.result c.args.function FunctionOfOne.InOrder t e _ c.in-InOrder.is refl c.in_order.ensures.stays (c.in_order.ensures.shows t a is) done
+
+pub returns-in-Same-clause-keeps : goal.returns-in-Same-clause-keeps
+returns-in-Same-clause-keeps g c = c.same_integer.ensures.stays.keeps
+
+pub returns-in-Negate-clause-keeps : goal.returns-in-Negate-clause-keeps
+returns-in-Negate-clause-keeps g c = c.evaluate_one.ensures.stays.keeps
+
+pub returns-in-Magnitude-clause-keeps : goal.returns-in-Magnitude-clause-keeps
+returns-in-Magnitude-clause-keeps g c = c.evaluate_one-in-Magnitude.ensures.stays.keeps
+
+pub returns-in-Sign-clause-keeps : goal.returns-in-Sign-clause-keeps
+returns-in-Sign-clause-keeps g c = c.evaluate_one-in-Sign.ensures.stays.keeps
+
+pub returns-in-Complement-clause-keeps : goal.returns-in-Complement-clause-keeps
+returns-in-Complement-clause-keeps g c = c.evaluate_one-in-Complement.ensures.stays.keeps
+
+pub returns-in-Name-clause-keeps : goal.returns-in-Name-clause-keeps
+returns-in-Name-clause-keeps g c = c.name_of.ensures.stays.keeps
+
+pub returns-in-Arity-clause-keeps : goal.returns-in-Arity-clause-keeps
+returns-in-Arity-clause-keeps g c = c.arity_of.ensures.stays.keeps
+
+pub returns-in-ToString-clause-keeps : goal.returns-in-ToString-clause-keeps
+returns-in-ToString-clause-keeps g c = c.to_string.ensures.stays.keeps
+
+pub returns-in-InOrder-clause-keeps : goal.returns-in-InOrder-clause-keeps
+returns-in-InOrder-clause-keeps g c = c.in_order.ensures.stays.keeps
+
+pub returns-in-Itself-clause-keeps : goal.returns-in-Itself-clause-keeps
+returns-in-Itself-clause-keeps g c = keeps_none (g.S.StateStore.seen c.args.s.now)

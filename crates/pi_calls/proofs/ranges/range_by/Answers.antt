@@ -3,10 +3,51 @@ use Rattle.std.specs.Int.{w128}
 use Rattle.pi_effects.specs.Answer.{integer_then, integers_then}
 use Rattle.pi_effects.specs.Items.{list_of}
 use Rattle.pi_effects.specs.Ranges.{values_by, range, range_by}
-use Rattle.pi_effects.specs.Results.{ShowsTerm}
-use Rattle.pi_effects.proofs.FaultLemmas.{integer-is}
+use Rattle.pi_states.specs.Store.{IsTerm}
+use Rattle.pi_effects.specs.Results.{Stops, ShowsTerm}
+use Rattle.pi_effects.proofs.FaultLemmas.{integer-is, integer-stops, integers-stop}
 use Rattle.pi_calls.proofs.RangeLemmas.{step_counts}
+use Rattle.pi_calls.proofs.StoreLemmas.{stays_none}
+use Rattle.pi_calls.proofs.StopLemmas.{stop_shown}
 use Rattle.pi_calls.proofs.ranges.range_by.Goals as goal
+
+pub returns-in_err-low-clause-stays : goal.returns-in_err-low-clause-stays
+returns-in_err-low-clause-stays g c = stays_none (g.S.StateStore.seen c.args.s.now)
+
+pub returns-in_err-step-clause-stays : goal.returns-in_err-step-clause-stays
+returns-in_err-step-clause-stays g c = stays_none (g.S.StateStore.seen c.args.s.now)
+
+pub returns-in_err-high-clause-stays : goal.returns-in_err-high-clause-stays
+returns-in_err-high-clause-stays g c = stays_none (g.S.StateStore.seen c.args.s.now)
+
+pub returns-then-step-eq0-clause-stays : goal.returns-then-step-eq0-clause-stays
+returns-then-step-eq0-clause-stays g c = stays_none (g.S.StateStore.seen c.args.s.now)
+
+pub returns-clause-stays : goal.returns-clause-stays
+returns-clause-stays g c = c.put_range.ensures.stays
+
+pub returns-in_err-low-clause-shows : goal.returns-in_err-low-clause-shows
+returns-in_err-low-clause-shows g c = λ t u w a first second third.
+    let v = g.S.StateStore.seen c.args.s.now in
+    stop_shown (IsTerm v) v c.from_residual.result _ _ c.from_residual.ensures.1 (integer-stops v _ t (λ l. integers_then v.now.state u w (λ n h. range_by l n h)) (c.in_err-low.ensures t a first))
+
+pub returns-in_err-step-clause-shows : goal.returns-in_err-step-clause-shows
+returns-in_err-step-clause-shows g c = λ t u w a first second third.
+    let v = g.S.StateStore.seen c.args.s.now in
+    let s = v.now.state in
+    let low = c.in_ok-low.low in
+    let whole = integer-is s t (λ l. integers_then s u w (λ n h. range_by l n h)) low (c.in_ok-low.ensures t a first) in
+    stop_shown (IsTerm v) v c.from_residual-in_err-step.result _ _ c.from_residual-in_err-step.ensures.1
+    (subst (Stops v _) (sym whole) (integer-stops v _ u (λ n. integer_then s w (λ h. range_by low n h)) (c.in_err-step.ensures u a second)))
+
+pub returns-in_err-high-clause-shows : goal.returns-in_err-high-clause-shows
+returns-in_err-high-clause-shows g c = λ t u w a first second third.
+    let v = g.S.StateStore.seen c.args.s.now in
+    let s = v.now.state in
+    let low = c.in_ok-low.low in
+    let whole = integer-is s t (λ l. integers_then s u w (λ n h. range_by l n h)) low (c.in_ok-low.ensures t a first) in
+    stop_shown (IsTerm v) v c.from_residual-in_err-high.result _ _ c.from_residual-in_err-high.ensures.1
+    (subst (Stops v _) (sym whole) (integers-stop v _ u w (λ n h. range_by low n h) c.in_ok-step.step (c.in_ok-step.ensures u a second) (c.in_err-high.ensures w a third)))
 
 pub returns-clause-shows : goal.returns-clause-shows
 returns-clause-shows g c = λ t u w a first second third.

@@ -3,10 +3,57 @@ use Rattle.std.specs.Int.{w128}
 use Rattle.pi_effects.specs.Exception.{type_error}
 use Rattle.pi_effects.specs.Ranges.{counted, counted_by}
 use Rattle.pi_effects.specs.Inner.{range_count}
-use Rattle.pi_effects.specs.Results.{ShowsTerm}
-use Rattle.pi_effects.proofs.FaultLemmas.{integer-is, integers-are}
+use Rattle.pi_effects.specs.Answer.{integer_then, integers_then}
+use Rattle.pi_states.specs.Store.{IsTerm}
+use Rattle.pi_effects.specs.Results.{Stops, ShowsTerm}
+use Rattle.pi_effects.proofs.FaultLemmas.{integer-is, integer-stops, integers-are, integers-stop}
 use Rattle.pi_calls.proofs.RangeLemmas.{number_of, step_counts, pair_counted, pair_then}
+use Rattle.pi_calls.proofs.StoreLemmas.{stays_none}
+use Rattle.pi_calls.proofs.StopLemmas.{stop_shown}
 use Rattle.pi_calls.proofs.ranges.range_count.Goals as goal
+
+pub returns-in_err-low-clause-stays : goal.returns-in_err-low-clause-stays
+returns-in_err-low-clause-stays g c = stays_none (g.S.StateStore.seen c.args.s.now)
+
+pub returns-in_default-clause-stays : goal.returns-in_default-clause-stays
+returns-in_default-clause-stays g c = stays_none (g.S.StateStore.seen c.args.s.now)
+
+pub returns-in_err-step-clause-stays : goal.returns-in_err-step-clause-stays
+returns-in_err-step-clause-stays g c = stays_none (g.S.StateStore.seen c.args.s.now)
+
+pub returns-in_err-high-clause-stays : goal.returns-in_err-high-clause-stays
+returns-in_err-high-clause-stays g c = stays_none (g.S.StateStore.seen c.args.s.now)
+
+pub returns-then-step-eq0-clause-stays : goal.returns-then-step-eq0-clause-stays
+returns-then-step-eq0-clause-stays g c = stays_none (g.S.StateStore.seen c.args.s.now)
+
+pub returns-clause-stays : goal.returns-clause-stays
+returns-clause-stays g c = c.put_count.ensures.stays
+
+pub returns-in_err-low-clause-shows : goal.returns-in_err-low-clause-shows
+returns-in_err-low-clause-shows g c = λ t u a first second.
+    let v = g.S.StateStore.seen c.args.s.now in
+    stop_shown (IsTerm v) v c.from_residual.result _ _ c.from_residual.ensures.1 (integer-stops v _ t (pair_counted v.now.state u) (c.in_err-low.ensures t a first))
+
+pub returns-in_err-step-clause-shows : goal.returns-in_err-step-clause-shows
+returns-in_err-step-clause-shows g c = λ t u a first second.
+    let v = g.S.StateStore.seen c.args.s.now in
+    let s = v.now.state in
+    let low = c.in_ok-low.low in
+    let pair = c.in-Some.ensures u a second in
+    let whole : range_count s t u ≡ integers_then s pair.0 pair.1 (λ n h. counted_by number_of low n h) = integer-is s t (pair_counted s u) low (c.in_ok-low.ensures t a first) ∙ ap (pair_then s u low) pair.2 in
+    stop_shown (IsTerm v) v c.from_residual-in_err-step.result _ _ c.from_residual-in_err-step.ensures.1
+    (subst (Stops v _) (sym whole) (integer-stops v _ pair.0 (λ n. integer_then s pair.1 (λ h. counted_by number_of low n h)) (c.in_err-step.ensures pair.0 a pair.3)))
+
+pub returns-in_err-high-clause-shows : goal.returns-in_err-high-clause-shows
+returns-in_err-high-clause-shows g c = λ t u a first second.
+    let v = g.S.StateStore.seen c.args.s.now in
+    let s = v.now.state in
+    let low = c.in_ok-low.low in
+    let pair = c.in-Some.ensures u a second in
+    let whole : range_count s t u ≡ integers_then s pair.0 pair.1 (λ n h. counted_by number_of low n h) = integer-is s t (pair_counted s u) low (c.in_ok-low.ensures t a first) ∙ ap (pair_then s u low) pair.2 in
+    stop_shown (IsTerm v) v c.from_residual-in_err-high.result _ _ c.from_residual-in_err-high.ensures.1
+    (subst (Stops v _) (sym whole) (integers-stop v _ pair.0 pair.1 (λ n h. counted_by number_of low n h) c.in_ok-step.step (c.in_ok-step.ensures pair.0 a pair.3) (c.in_err-high.ensures pair.1 a pair.4)))
 
 pub returns-in_default-clause-shows : goal.returns-in_default-clause-shows
 returns-in_default-clause-shows g c = λ t u a first second.
