@@ -2,6 +2,7 @@ pub mod ClipLemmas
 pub mod CommonLemmas
 pub mod DomainLemmas
 pub mod ExtremeLemmas
+pub mod FaultLemmas
 pub mod JoinLemmas
 pub mod MeetLemmas
 pub mod SizeLemmas

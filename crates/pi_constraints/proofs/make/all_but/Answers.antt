@@ -6,6 +6,7 @@ use Rattle.pi_constraints.specs.declared.domain.TheConstants.{MAX_VALUE}
 use Rattle.pi_constraints.specs.declared.domain.Span.{Span}
 use Rattle.pi_constraints.specs.Domain.{IsDomain, IsWithinBounds, has_value, overlap}
 use Rattle.pi_constraints.proofs.ClipLemmas.{whole, first_clip, clip_at, IsDomain-clips, has_value-clips}
+use Rattle.std.proofs.lemmas.Result.{IfOk-from_err}
 use Rattle.pi_constraints.proofs.make.all_but.Goals as goal
 
 both : (none mid new : List Span) (n l g m h : ℤ) → mid ≡ none ++ overlap (record { lo = l; hi = g }) whole → new ≡ mid ++ overlap (record { lo = m; hi = h }) whole → none ≡ []
@@ -32,3 +33,14 @@ returns c = record {
       (omega (arith, ints)) (omega (arith, ints)) (omega (arith, ints)) (omega (arith, ints)) in
       ap (λ (d : List Span). has_value d m) (c.new.ensures ∙ made) ∙ has_value-clips c.args.n m h;
 }
+
+pub returns-in_err-push_clipped : goal.returns-in_err-push_clipped
+returns-in_err-push_clipped c = record { values = IfOk-from_err c.from_residual.result _ c.from_residual.ensures.0 }
+
+pub returns-in_err-push_clipped-2 : goal.returns-in_err-push_clipped-2
+returns-in_err-push_clipped-2 c = record { values = IfOk-from_err c.from_residual-in_err-push_clipped-2.result _ c.from_residual-in_err-push_clipped-2.ensures.0 }
+
+pub overflow_add-n : goal.overflow_add-n
+overflow_add-n c =
+    let inside : IsWithinBounds (to_z w128 (of_z w128 c.args.n)) = c.is_within_bounds.ensures.0 (search rules) in
+    omega (arith, ints, inside.0, inside.1)

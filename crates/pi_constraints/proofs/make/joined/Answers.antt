@@ -3,12 +3,13 @@ use Rattle.std.specs.Prelude.{ℤ, pos, ◌+ℤ◌, ◌≤ℤ◌, ◌<ℤ◌, in
 use Rattle.std.specs.Ordering.{int_eq}
 use Rattle.std.specs.List.{list_any}
 use Rattle.std.proofs.lemmas.Int.{ints}
-use Rattle.std.proofs.lemmas.List.{nil_from_length}
+use Rattle.std.proofs.lemmas.List.{nil_from_length, take_all}
 use Rattle.std.proofs.lemmas.Bool.Decides.{nat_tests}
 use Rattle.std.proofs.lemmas.List.Elements.{All-get_or}
 use Rattle.pi_constraints.specs.declared.domain.Span.{Span}
 use Rattle.pi_constraints.specs.Domain.{AscendFrom, IsDomain, IsWithinBounds, has_value}
 use Rattle.pi_constraints.proofs.JoinLemmas.{JoinsBefore-first, JoinsBefore-further, JoinsBefore-longer, last_within}
+use Rattle.std.proofs.lemmas.Result.{IfOk-from_err}
 use Rattle.pi_constraints.proofs.make.joined.Goals as goal
 use Rattle.pi_constraints.proofs.make.joined.Goals.{then-value-last+in_ok-push, else-value-last}
 
@@ -47,3 +48,21 @@ loop-i-preserved c =
       | else-value-last w ↦ JoinsBefore-longer c.args.values.now c.loop-i.i c.loop-i.spans.items c.if-value-last.spans.items c.loop-i.last c.if-value-last.last.lo _ c.requires.ascending c.requires.within (omega arith) c.loop-i-test.true c.loop-i.invariant
           value (not_above (to_z w64 (of_z w64 (to_z w64 (of_z w64 c.loop-i.last.hi) +ℤ pos 1))) (to_z w64 (of_z w64 c.narrowed-value.result)) (c.loop-i.last.hi +ℤ pos 1) (to_z w64 (of_z w64 c.narrowed-value.result)) w.if-value-last.false (omega (arith, ints, within.0, within.1)) refl) (ap (λ (v : Vec Span Global). v.items) w.spans-is) (ap (λ (x : Span). x.lo) w.last-is)
     ]
+
+pub returns-in_err-push-clause-domain : goal.returns-in_err-push-clause-domain
+returns-in_err-push-clause-domain c = IfOk-from_err c.from_residual.result _ c.from_residual.ensures.0
+
+pub returns-in_err-push-clause-values : goal.returns-in_err-push-clause-values
+returns-in_err-push-clause-values c = IfOk-from_err c.from_residual.result _ c.from_residual.ensures.0
+
+pub returns-in_err-push-2-clause-domain : goal.returns-in_err-push-2-clause-domain
+returns-in_err-push-2-clause-domain c = IfOk-from_err c.from_residual-in_err-push-2.result _ c.from_residual-in_err-push-2.ensures.0
+
+pub returns-in_err-push-2-clause-values : goal.returns-in_err-push-2-clause-values
+returns-in_err-push-2-clause-values c = IfOk-from_err c.from_residual-in_err-push-2.result _ c.from_residual-in_err-push-2.ensures.0
+
+pub returns-clause-domain : goal.returns-clause-domain
+returns-clause-domain c = subst IsDomain (sym c.in_ok-push-2.ensures.items) c.loop-i.invariant.joins.domain
+
+pub returns-clause-values : goal.returns-clause-values
+returns-clause-values c n = ap (λ (ss : List Span). has_value ss n) c.in_ok-push-2.ensures.items ∙ (c.loop-i.invariant.joins.values n ∙ ap (λ (xs : List ℤ). list_any (λ m. int_eq n m) xs) (take_all c.loop-i.i c.args.values.now (omega (arith, c.loop-i-test.false))))

@@ -6,6 +6,7 @@ use Rattle.std.specs.Int.{int_max, int_min}
 use Rattle.pi_constraints.specs.declared.domain.Span.{Span}
 use Rattle.pi_constraints.proofs.MeetLemmas.{overlap-some, overlap-none}
 use Rattle.pi_constraints.proofs.ClipLemmas.{whole}
+use Rattle.std.proofs.lemmas.Result.{IfOk-from_err}
 use Rattle.pi_constraints.proofs.make.push_clipped.Goals as goal
 
 pub returns-in_ok-push : goal.returns-in_ok-push
@@ -23,3 +24,6 @@ returns-else-lo-hi c =
     let hi : c.min-hi.result ≡ int_min c.args.hi whole.hi = omega (arith, ints, clamps) in
     let lt : c.min-hi.result <ℤ c.max-lo.result = grind (arith, ints, c.if-lo-hi.false) in
     record { ok = sym (append-nil c.args.spans.now.items) ∙ ap (λ (x : List Span). c.args.spans.now.items ++ x) (overlap-none (record { lo = c.args.lo; hi = c.args.hi }) whole _ _ lo hi lt) }
+
+pub returns-in_err-push : goal.returns-in_err-push
+returns-in_err-push c = record { ok = IfOk-from_err c.from_residual.result _ c.from_residual.ensures.0 }

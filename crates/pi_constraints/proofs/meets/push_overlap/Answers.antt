@@ -5,6 +5,7 @@ use Rattle.std.proofs.lemmas.List.{append-nil}
 use Rattle.std.specs.Int.{int_max, int_min}
 use Rattle.pi_constraints.specs.declared.domain.Span.{Span}
 use Rattle.pi_constraints.proofs.MeetLemmas.{overlap-some, overlap-none}
+use Rattle.std.proofs.lemmas.Result.{IfOk-from_err}
 use Rattle.pi_constraints.proofs.meets.push_overlap.Goals as goal
 
 pub returns-in_ok-push : goal.returns-in_ok-push
@@ -26,3 +27,6 @@ returns-else-lo-hi c =
     let lo : to_z w64 (of_z w64 c.max-lo.result) ≡ int_max c.args.a.lo c.args.b.lo = omega (arith, ints, clamps) in
     let hi : to_z w64 (of_z w64 c.min-hi.result) ≡ int_min c.args.a.hi c.args.b.hi = omega (arith, ints, clamps) in
     record { ok = sym (append-nil c.args.spans.now.items) ∙ ap (λ (x : List Span). c.args.spans.now.items ++ x) (overlap-none c.args.a c.args.b _ _ lo hi (grind (arith, ints, c.if-lo-hi.false))) }
+
+pub returns-in_err-push : goal.returns-in_err-push
+returns-in_err-push c = record { ok = IfOk-from_err c.from_residual.result _ c.from_residual.ensures.0 }
