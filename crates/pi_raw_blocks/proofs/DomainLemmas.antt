@@ -1,6 +1,6 @@
 -- Domains read back from their bounds.
-use Rattle.std.proofs.Common.{◌≡◌, ℕ, zero, suc, ◌+◌, ◌*◌, ◌/◌, ◌<◌, ◌≤◌, Bool, true, false, ◌&&◌, cond, List, [], ◌∷◌, ◌++◌, length, take, drop, ℤ, pos, negsuc, ◌+ℤ◌, ◌≤ℤ◌, neg_ℤ, refl, ap, sym, subst, ◌∙◌, arith, append_assoc, append-nil, map}
-use Rattle.std.specs.Prelude.{int_le, slice_index}
+use Rattle.std.proofs.Common.{◌≡◌, ℕ, ◌+◌, ◌*◌, ◌<◌, ◌≤◌, Bool, true, false, ◌&&◌, cond, List, [], ◌∷◌, ◌++◌, length, take, drop, ℤ, pos, negsuc, ◌+ℤ◌, ◌≤ℤ◌, neg_ℤ, refl, ap, sym, subst, ◌∙◌, arith, append_assoc, append-nil, map}
+use Rattle.std.specs.Prelude.{int_le}
 use Rattle.std.proofs.Math.ListN.{get_or}
 use Rattle.std.proofs.lemmas.Int.{ints}
 use Rattle.std.proofs.lemmas.List.{drop_more, drop_all, take_more, length-drop}
@@ -12,7 +12,7 @@ use Rattle.pi_trail.specs.Image.{Image, appended}
 use Rattle.pi_raw_blocks.proofs.BlockLemmas.{appended_then, drop_two}
 use Rattle.pi_raw_blocks.specs.Numbers.{IsMovable, moved_up, moved_down}
 use Rattle.pi_raw_blocks.proofs.NumberLemmas.{moved_back}
-use Rattle.pi_raw_blocks.specs.Domain.{bounds_of, spans_of, span_at, may_follow, ascend_from, is_domain, domain_in, DomainsReadBack, DomainsAreDomains}
+use Rattle.pi_raw_blocks.specs.Domain.{bounds_of, spans_of, span_at, may_follow, ascend_from, is_domain, DomainsReadBack, DomainsAreDomains}
 
 abbrev Spans : Type 0
 Spans = List Span
@@ -85,6 +85,20 @@ stops ss i least s lt e =
 
 pub tested_all : (ss : Spans) (i : ℕ) (least : ℤ) → length ss ≤ i → ascend_from least (drop i ss) ≡ true
 tested_all ss i least le = ap (ascend_from least) (drop_all i ss le)
+
+pub goes_on : (ss : Spans) (i : ℕ) (least next : ℤ) (s : Span) → i < length ss → may_follow least (get_or ss i s) ≡ true → next ≡ ((get_or ss i s).hi +ℤ pos 2)
+    → is_domain ss ≡ ascend_from least (drop i ss) → is_domain ss ≡ ascend_from next (drop (i + 1) ss)
+goes_on ss i least next s lt e n h = h ∙ (follows ss i least s lt e ∙ ap (λ x. ascend_from x (drop (i + 1) ss)) (sym n))
+
+pub refused : (ss : Spans) (i : ℕ) (least : ℤ) (s : Span) → i < length ss → may_follow least (get_or ss i s) ≡ false → is_domain ss ≡ ascend_from least (drop i ss) → false ≡ is_domain ss
+refused ss i least s lt e h = sym (h ∙ stops ss i least s lt e)
+
+pub accepted : (ss : Spans) (i : ℕ) (least : ℤ) → length ss ≤ i → is_domain ss ≡ ascend_from least (drop i ss) → true ≡ is_domain ss
+accepted ss i least le h = sym (h ∙ tested_all ss i least le)
+
+-- a span that may follow ends within the bounds
+pub ends_low : (least : ℤ) (s : Span) → may_follow least s ≡ true → s.hi ≤ℤ MAX_VALUE
+ends_low least s e = grind (arith, ints, (both (int_le least s.lo && int_le s.lo s.hi) (int_le s.hi MAX_VALUE) e).1)
 
 -- one more span is read
 pub one_more : (ns : List ℕ) (k : ℕ) → 2 * k + 1 < length ns → spans_of (drop (2 * k) ns) ≡ span_at ns k ∷ spans_of (drop (2 * (k + 1)) ns)

@@ -4,6 +4,7 @@ pub mod DomainLemmas
 pub mod StandingLemmas
 pub mod ItemLemmas
 pub mod TermLemmas
+pub mod KindLemmas
 pub mod RoundLemmas
 pub mod ConstraintTables
 pub mod EventLemmas

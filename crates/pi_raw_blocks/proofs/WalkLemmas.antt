@@ -1,8 +1,8 @@
 -- The walk over a list with a stack of where lists end.
-use Rattle.std.proofs.Common.{◌≡◌, ◌⊎◌, inl, inr, ⊎_elim, ℕ, zero, suc, ◌+◌, ◌-◌, ◌*◌, ◌<◌, ◌≤◌, List, [], ◌∷◌, ◌++◌, length, refl, ap, sym, subst, ◌∙◌, arith}
+use Rattle.std.proofs.Common.{◌≡◌, ◌⊎◌, inl, inr, ℕ, zero, suc, ◌+◌, ◌-◌, ◌*◌, ◌<◌, ◌≤◌, List, [], ◌∷◌, ◌++◌, length, refl, ap, sym, subst, ◌∙◌, arith, append_assoc}
 use Rattle.std.specs.Prelude.{◌↔◌, Contains}
-use Rattle.std.proofs.lemmas.Bool.{cases_lt}
 use Rattle.std.proofs.lemmas.List.Elements.{Contains-append_left, Contains-append_right, Contains-append_cases}
+use Rattle.pi_raw_blocks.specs.declared.lists.node.Node.{Node}
 use Rattle.pi_raw_blocks.specs.Node.{node_at, IsListed, numbers_at, ends_at}
 use Rattle.pi_raw_blocks.proofs.ListLemmas.{nothing_listed, unrolled, rolled}
 
@@ -123,6 +123,20 @@ none_listed ws k l = l
 pub walk_ends : (ws : List ℕ) (end : ℕ) (found ends : List ℕ) → Walked ws end found ends → length ends ≡ 0 → (k : ℕ) → Contains found k ↔ IsListed ws end k
 walk_ends ws end found [] w none k = (w.all_found k, λ l. elim (w.found_or_left k l) [ inl c ↦ c | inr m ↦ absurd (none_listed ws k m) ])
 walk_ends ws end found (e ∷ es) w none k = absurd (omega arith)
+
+-- A node that is entered
+
+pub number_found : (ws : List ℕ) (end : ℕ) (old new : List ℕ) (node : Node) → (end ≡ 0 → ⊥) → node ≡ node_at ws end → new ≡ old ++ node.number ∷ [] → new ≡ old ++ numbers_at ws end
+number_found ws zero old new node some is e = absurd (some refl)
+number_found ws (suc last) old new node some is e = e ∙ ap (λ (n : Node). old ++ n.number ∷ []) is
+
+pub ends_found : (ws : List ℕ) (end : ℕ) (old mid new : List ℕ) (node : Node) → (end ≡ 0 → ⊥) → node ≡ node_at ws end → mid ≡ old ++ node.first ∷ [] → new ≡ mid ++ node.second ∷ [] → new ≡ old ++ ends_at ws end
+ends_found ws zero old mid new node some is first second = absurd (some refl)
+ends_found ws (suc last) old mid new node some is first second =
+    second
+    ∙ (ap (λ l. l ++ node.second ∷ []) first
+    ∙ (append_assoc old (node.first ∷ []) (node.second ∷ [])
+    ∙ ap (λ (n : Node). old ++ n.first ∷ n.second ∷ []) is))
 
 -- A turn takes from the stack: each place weighs three times what the one before it weighs
 
