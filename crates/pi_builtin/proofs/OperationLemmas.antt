@@ -1,7 +1,7 @@
 -- The value of an operation on integers of the code, and what follows from it.
 use Rattle.std.proofs.Common.{◌≡◌, ℤ, Ok, Err, sym, ◌∙◌, subst}
-use Rattle.pi_arith.specs.Range.{Outcome}
-use Rattle.pi_arith.specs.declared.fault.ArithFault.{ArithFault}
+use Rattle.pi_effects.specs.Range.{Outcome}
+use Rattle.pi_effects.specs.declared.arith_fault.ArithFault.{ArithFault}
 use Rattle.pi_terms.specs.Tree.{Tree}
 use Rattle.pi_states.specs.State.{State}
 use Rattle.pi_states.specs.Store.{StoreView}

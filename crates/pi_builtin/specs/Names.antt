@@ -1,7 +1,7 @@
 -- The names of built-ins, each by what it is resolved to. A name that stands for the same as another isn't repeated: `len`, `div` and `int` are `length`, `/<` and
 -- `integer`. (A User's Guide to Picat, 'Appendix: Predicates and Functions'; which of them are there is own.)
 use Rattle.std.specs.Prelude.{ℕ, ◌==◌, ◌&&◌, nat_lt, Bool, true, false, List, [], codes}
-use Rattle.pi_arith.specs.declared.operation.Op.{Op}
+use Rattle.pi_effects.specs.declared.operation.Op.{Op}
 use Rattle.pi_builtin.specs.declared.relations.Relation.{Relation}
 use Rattle.pi_builtin.specs.declared.kinds.TermKind.{TermKind}
 use Rattle.pi_builtin.specs.declared.ordering.TermRelation.{TermRelation}

@@ -1,5 +1,5 @@
 //! The built-in functions. A User's Guide to Picat, 'Appendix: Predicates and Functions'; which of them are there is own.
-use pi_arith::Op;
+use pi_effects::Op;
 
 /// A function of a list, most of them of an array too.
 #[derive(Clone, Copy)]

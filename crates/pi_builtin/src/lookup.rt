@@ -9,7 +9,7 @@ use crate::kinds::TermKind;
 use crate::ordering::TermRelation;
 use crate::predicates::{Predicate, PredicateOfNone, PredicateOfOne, PredicateOfTwo};
 use crate::relations::Relation;
-use pi_arith::Op;
+use pi_effects::Op;
 use std::alloc::{AllocError, Global};
 
 /// A name, with what it is.

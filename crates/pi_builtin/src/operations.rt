@@ -1,7 +1,7 @@
 //! Functions on integers. A User's Guide to Picat, 'Arithmetic'; the 128 bits and the names of faults are own.
 ghost use Rattle.std.specs.Prelude.{pos};
 ghost use Rattle.std.specs.Int.{int_min, int_max};
-ghost use Rattle.pi_arith.specs.Value.{value_of};
+ghost use Rattle.pi_effects.specs.Value.{value_of};
 ghost use Rattle.pi_terms.specs.Tree.{Tree};
 ghost use Rattle.pi_states.specs.Value.{IsAcyclic};
 ghost use Rattle.pi_states.specs.State.{bindings};
@@ -10,8 +10,7 @@ ghost use Rattle.pi_effects.specs.Answer.{integer_then, integers_then};
 ghost use Rattle.pi_effects.specs.Integers.{outcome_then, number};
 ghost use Rattle.pi_effects.specs.Results.{ShowsTerm};
 
-use pi_arith::{Op, evaluate};
-use pi_effects::{Stop, integer};
+use pi_effects::{Op, Stop, evaluate, integer};
 use pi_states::{Ref, StateStore};
 
 /// The value of an operation with one argument: `-`, `abs`, `sign` or `~`.

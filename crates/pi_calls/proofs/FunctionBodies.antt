@@ -3,8 +3,8 @@ use Rattle.std.proofs.Common.{◌≡◌, refl, ap, sym, subst, ◌∙◌}
 use Rattle.std.specs.Prelude.{Some, None, Result, Ok, pos, map, reverse, zip, slice_get, codes}
 use Rattle.std.specs.Int.{int_min, int_max}
 use Rattle.std.specs.List.{last_or}
-use Rattle.pi_arith.specs.Value.{value_of}
-use Rattle.pi_arith.specs.declared.operation.Op.{Op}
+use Rattle.pi_effects.specs.Value.{value_of}
+use Rattle.pi_effects.specs.declared.operation.Op.{Op}
 use Rattle.pi_terms.specs.Tree.{Tree, no_trees, tree}
 use Rattle.pi_states.specs.State.{State, bindings, followed}
 use Rattle.pi_states.specs.Value.{value}

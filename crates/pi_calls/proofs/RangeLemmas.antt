@@ -13,8 +13,8 @@ use Rattle.pi_states.specs.State.{State, bindings, followed}
 use Rattle.pi_states.specs.Store.{StoreView, IsTerm, AreTerms, Keeps}
 use Rattle.pi_states.specs.declared.store.Ref.{Ref}
 use Rattle.pi_effects.specs.Items.{list_onto, list_of}
-use Rattle.pi_arith.specs.Range.{has_128_bits}
-use Rattle.pi_arith.specs.declared.fault.ArithFault.TheVariants.{Overflow}
+use Rattle.pi_effects.specs.Range.{has_128_bits}
+use Rattle.pi_effects.specs.declared.arith_fault.ArithFault.TheVariants.{Overflow}
 use Rattle.pi_effects.specs.Exception.{type_error, range_too_long}
 use Rattle.pi_effects.specs.Integers.{fault_term}
 use Rattle.pi_effects.specs.Answer.{Answer, found_or, integers_then}

@@ -16,12 +16,11 @@ use crate::grids::new_grid;
 use crate::lists::to_string;
 use crate::ranges::{range, range_by, range_count};
 use crate::variables::{new_array, new_list};
-use pi_arith::Op;
 use pi_builtin::{
     Function, FunctionOfOne, FunctionOfTwo, append, arity_of, delete_all, evaluate_one,
     evaluate_two, greatest, in_order, item_at, least, name_of, same_integer, zip,
 };
-use pi_effects::Stop;
+use pi_effects::{Op, Stop};
 use pi_states::{Ref, StateStore};
 use std::alloc::Global;
 

@@ -1,8 +1,8 @@
 -- Faults and results, handed on.
 use Rattle.std.proofs.Common.{◌≡◌, ℤ, Some, None, Ok, Err, refl, ap, sym, subst, ◌∙◌}
 use Rattle.std.specs.Prelude.{Result, Option, pos}
-use Rattle.pi_arith.specs.Range.{Outcome}
-use Rattle.pi_arith.specs.declared.fault.ArithFault.{ArithFault}
+use Rattle.pi_effects.specs.Range.{Outcome}
+use Rattle.pi_effects.specs.declared.arith_fault.ArithFault.{ArithFault}
 use Rattle.pi_terms.specs.Tree.{Tree, int}
 use Rattle.pi_states.specs.State.{State, bindings, followed}
 use Rattle.pi_states.specs.Store.{StoreView, Stays}

@@ -14,3 +14,12 @@ pub mod InnerExamples
 pub mod SortingExamples
 pub mod MakingExamples
 pub mod TextExamples
+mod BitLaws
+mod BitLemmas
+mod PowerLemmas
+mod ProductLemmas
+mod QuotientAnswers
+mod QuotientLaws
+mod QuotientLemmas
+mod WidthLemmas
+mod ShiftLemmas

@@ -9,8 +9,8 @@ use Rattle.pi_states.specs.Value.{rounds, value}
 use Rattle.pi_states.specs.State.{State, Variable, followed_for, followed}
 use Rattle.pi_states.specs.Unify.{in_pairs, assigned, joined, outcome, unified_for, unbound_in, cells_of_pairs, most_pairs, all_unified}
 use Rattle.pi_states.specs.Evaluation.{with_new_variables}
-use Rattle.pi_arith.specs.Power.{power}
-use Rattle.pi_arith.specs.Value.{value_of}
+use Rattle.pi_effects.specs.Power.{power}
+use Rattle.pi_effects.specs.Value.{value_of}
 use Rattle.pi_syntax.specs.Tokens.{is_reserved}
 use Rattle.pi_syntax.specs.PrintAtom.{is_unquoted_atom, stands_bare, atom_text}
 use Rattle.pi_syntax.specs.PrintTerm.{is_characters, characters, written}

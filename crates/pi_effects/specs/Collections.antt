@@ -4,9 +4,9 @@ use Rattle.std.specs.Prelude.{ℕ, ℤ, pos, not, List, [], ◌∷◌, map, reve
 use Rattle.std.specs.List.{last_or}
 use Rattle.pi_terms.specs.Tree.{Tree, int}
 use Rattle.pi_states.specs.State.{State, bindings, followed}
-use Rattle.pi_arith.specs.Value.{value_of}
-use Rattle.pi_arith.specs.declared.operation.Op.{Op}
-use Rattle.pi_arith.specs.declared.operation.Op.TheVariants.{Add, Mul}
+use Rattle.pi_effects.specs.Value.{value_of}
+use Rattle.pi_effects.specs.declared.operation.Op.{Op}
+use Rattle.pi_effects.specs.declared.operation.Op.TheVariants.{Add, Mul}
 use Rattle.pi_effects.specs.Exception.{type_error, bad_index}
 use Rattle.pi_effects.specs.Answer.{Answer, found_or, or_raised, integer_then}
 use Rattle.pi_effects.specs.Items.{list_onto, list_of, array_of, cell_parts, list_items, collection_items}

@@ -1,14 +1,14 @@
 -- Functions on integers (A User's Guide to Picat, 'Arithmetic'; the 128 bits, the limits of shifts and the names of faults are own).
--- What each operation comes to is said in `pi_arith`; an argument that is no integer is told before any fault, the first from the left.
+-- What each operation comes to is said in `pi_effects`; an argument that is no integer is told before any fault, the first from the left.
 use Rattle.std.specs.Prelude.{ℕ, ℤ, pos, List, [], ◌∷◌, codes, Ok, Err}
 use Rattle.std.specs.Int.{int_min, int_max}
 use Rattle.pi_terms.specs.Tree.{Tree, int, atom}
-use Rattle.pi_arith.specs.Range.{Outcome}
-use Rattle.pi_arith.specs.Value.{value_of}
-use Rattle.pi_arith.specs.declared.fault.ArithFault.{ArithFault}
-use Rattle.pi_arith.specs.declared.fault.ArithFault.TheVariants.{Overflow, ZeroDivisor, NegativeExponent, BadShift}
-use Rattle.pi_arith.specs.declared.operation.Op.{Op}
-use Rattle.pi_arith.specs.declared.operation.Op.TheVariants.{Add, Sub, Mul, Quot, Floor, Ceil, Mod, Rem, Pow, ShiftLeft, ShiftRight, And, Or, Xor, Neg, Not, Abs, Sign}
+use Rattle.pi_effects.specs.Range.{Outcome}
+use Rattle.pi_effects.specs.Value.{value_of}
+use Rattle.pi_effects.specs.declared.arith_fault.ArithFault.{ArithFault}
+use Rattle.pi_effects.specs.declared.arith_fault.ArithFault.TheVariants.{Overflow, ZeroDivisor, NegativeExponent, BadShift}
+use Rattle.pi_effects.specs.declared.operation.Op.{Op}
+use Rattle.pi_effects.specs.declared.operation.Op.TheVariants.{Add, Sub, Mul, Quot, Floor, Ceil, Mod, Rem, Pow, ShiftLeft, ShiftRight, And, Or, Xor, Neg, Not, Abs, Sign}
 use Rattle.pi_effects.specs.Answer.{Answer, integer_then, integers_then}
 use Rattle.pi_effects.specs.Rows.{of_one, of_two, Row, line}
 

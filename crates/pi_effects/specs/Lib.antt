@@ -19,3 +19,8 @@ pub mod Format
 pub mod Texts
 pub mod Making
 pub mod BuiltIns
+pub mod Bits
+pub mod Power
+pub mod Quotients
+pub mod Range
+pub mod Value

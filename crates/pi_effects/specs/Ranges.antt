@@ -2,8 +2,8 @@
 use Rattle.std.specs.Prelude.{ℕ, zero, suc, ◌/◌, nat_lt, ◌&&◌, cond, ℤ, pos, negsuc, ◌+ℤ◌, int_le, List, [], ◌∷◌, codes, Ok, Err}
 use Rattle.std.specs.Int.{int_gap}
 use Rattle.pi_terms.specs.Tree.{Tree, int}
-use Rattle.pi_arith.specs.Range.{has_128_bits}
-use Rattle.pi_arith.specs.declared.fault.ArithFault.TheVariants.{Overflow}
+use Rattle.pi_effects.specs.Range.{has_128_bits}
+use Rattle.pi_effects.specs.declared.arith_fault.ArithFault.TheVariants.{Overflow}
 use Rattle.pi_effects.specs.Exception.{bad_range, range_too_long}
 use Rattle.pi_effects.specs.Answer.{Answer, integer_then, integers_then}
 use Rattle.pi_effects.specs.Items.{list_of}

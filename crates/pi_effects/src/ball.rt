@@ -9,8 +9,8 @@ ghost use Rattle.pi_effects.specs.Integers.{fault_term};
 ghost use Rattle.pi_effects.specs.Balls.{kind_name, IsBall};
 ghost use Rattle.pi_effects.specs.Reads.{IsCopied};
 
+use crate::arith_fault::ArithFault;
 use crate::fault::{Fault, Kind};
-use pi_arith::ArithFault;
 use pi_states::{ReadStop, Ref, StateStore};
 use pi_terms::Term;
 use std::alloc::{AllocError, Global};

@@ -4,7 +4,7 @@ ghost use Rattle.pi_effects.specs.Reads.{stop_of};
 ghost use Rattle.pi_effects.specs.declared.fault.Stop.TheVariants.{Raised, Memory};
 ghost use Rattle.pi_effects.specs.declared.fault.Fault.TheVariants.{Arithmetic};
 
-use pi_arith::ArithFault;
+use crate::arith_fault::ArithFault;
 use pi_states::{ReadStop, Ref};
 use std::alloc::{AllocError, AllocFailed};
 

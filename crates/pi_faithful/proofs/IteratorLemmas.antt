@@ -11,9 +11,9 @@ use Rattle.pi_states.specs.Value.{value}
 use Rattle.pi_states.specs.State.{State, bindings, followed}
 use Rattle.pi_states.specs.Evaluation.{Evaluated, EvaluatedAll, evaluated, evaluated_all}
 use Rattle.pi_syntax.specs.PrintTerm.{array_name}
-use Rattle.pi_arith.specs.Range.{Outcome}
-use Rattle.pi_arith.specs.Value.{value_of}
-use Rattle.pi_arith.specs.declared.operation.Op.TheVariants.{Add}
+use Rattle.pi_effects.specs.Range.{Outcome}
+use Rattle.pi_effects.specs.Value.{value_of}
+use Rattle.pi_effects.specs.declared.operation.Op.TheVariants.{Add}
 use Rattle.pi_effects.specs.Answer.{found_or}
 use Rattle.pi_effects.specs.Integers.{fault_term, outcome_then, number}
 use Rattle.pi_effects.specs.Collections.{count}

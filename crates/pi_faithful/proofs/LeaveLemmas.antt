@@ -6,9 +6,9 @@ use Rattle.std.proofs.lemmas.Bool.{true≢false}
 use Rattle.pi_terms.specs.Tree.{Tree, var}
 use Rattle.pi_states.specs.State.{bindings, next}
 use Rattle.pi_states.specs.Unify.{unified}
-use Rattle.pi_arith.specs.Range.{Outcome}
-use Rattle.pi_arith.specs.Value.{value_of}
-use Rattle.pi_arith.specs.declared.operation.Op.TheVariants.{Add}
+use Rattle.pi_effects.specs.Range.{Outcome}
+use Rattle.pi_effects.specs.Value.{value_of}
+use Rattle.pi_effects.specs.declared.operation.Op.TheVariants.{Add}
 use Rattle.pi_effects.specs.Items.{collection_items}
 use Rattle.pi_syntax.specs.ExpTree.{ExpTree}
 use Rattle.pi_meaning.specs.Trace.{Trace, end, note, ans, then}

@@ -15,8 +15,8 @@ use Rattle.pi_states.specs.HeadMatch.{matched_in, matched_all_in}
 use Rattle.std.specs.Str.{chars}
 use Rattle.std.specs.Char.{encode_utf8}
 use Rattle.std.specs.Fmt.{digits}
-use Rattle.pi_arith.specs.Power.{power}
-use Rattle.pi_arith.specs.Value.{value_of as operation}
+use Rattle.pi_effects.specs.Power.{power}
+use Rattle.pi_effects.specs.Value.{value_of as operation}
 use Rattle.pi_syntax.specs.ExpTree.{ExpTree, list, array, quote, range, range_by, collect, foreach, while_do, do_while, atom as name, int as number}
 use Rattle.pi_syntax.specs.Signature.{exp_count}
 use Rattle.pi_syntax.specs.Tokens.{is_reserved}

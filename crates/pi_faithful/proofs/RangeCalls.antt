@@ -10,10 +10,10 @@ use Rattle.pi_terms.specs.Tree.{Tree, comp, no_trees, tree}
 use Rattle.pi_states.specs.State.{State, bindings, followed}
 use Rattle.pi_states.proofs.FollowLemmas.{followed_other}
 use Rattle.pi_syntax.specs.PrintTerm.{array_name}
-use Rattle.pi_arith.specs.Range.{has_128_bits, bounded}
-use Rattle.pi_arith.specs.Value.{value_of}
-use Rattle.pi_arith.specs.declared.operation.Op.TheVariants.{Add, Sub}
-use Rattle.pi_arith.specs.declared.fault.ArithFault.TheVariants.{Overflow}
+use Rattle.pi_effects.specs.Range.{has_128_bits, bounded}
+use Rattle.pi_effects.specs.Value.{value_of}
+use Rattle.pi_effects.specs.declared.operation.Op.TheVariants.{Add, Sub}
+use Rattle.pi_effects.specs.declared.arith_fault.ArithFault.TheVariants.{Overflow}
 use Rattle.pi_effects.specs.Answer.{Answer, found_or, integer_at, integer_then, integers_then}
 use Rattle.pi_effects.specs.Items.{list_of}
 use Rattle.pi_effects.specs.Exception.{type_error, bad_range, range_too_long}

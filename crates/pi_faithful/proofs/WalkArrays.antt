@@ -8,8 +8,8 @@ use Rattle.pi_terms.specs.Tree.{Tree, comp, Trees, no_trees, tree, trees_of, tre
 use Rattle.pi_terms.specs.Places.{Places, held}
 use Rattle.pi_states.specs.State.{State, bindings, followed}
 use Rattle.pi_syntax.specs.PrintTerm.{array_name}
-use Rattle.pi_arith.specs.Value.{value_of}
-use Rattle.pi_arith.specs.declared.operation.Op.TheVariants.{Add}
+use Rattle.pi_effects.specs.Value.{value_of}
+use Rattle.pi_effects.specs.declared.operation.Op.TheVariants.{Add}
 use Rattle.pi_effects.specs.Integers.{outcome_then, number}
 use Rattle.pi_effects.specs.BuiltIns.{answer_in}
 use Rattle.pi_effects.specs.Items.{each_tree}

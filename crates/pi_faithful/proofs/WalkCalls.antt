@@ -6,8 +6,8 @@ use Rattle.pi_terms.specs.Tree.{Tree, int, comp, Trees, no_trees, tree}
 use Rattle.pi_states.specs.State.{State, bindings, followed}
 use Rattle.pi_states.proofs.FollowLemmas.{followed_other}
 use Rattle.pi_syntax.specs.PrintTerm.{array_name}
-use Rattle.pi_arith.specs.Value.{value_of}
-use Rattle.pi_arith.specs.declared.operation.Op.TheVariants.{Add}
+use Rattle.pi_effects.specs.Value.{value_of}
+use Rattle.pi_effects.specs.declared.operation.Op.TheVariants.{Add}
 use Rattle.pi_effects.specs.Answer.{Answer, found_or, or_raised, integer_at, integer_then}
 use Rattle.pi_effects.specs.Items.{each_tree, structure_parts, list_items}
 use Rattle.pi_effects.specs.Exception.{type_error, bad_index}

@@ -9,8 +9,8 @@ use Rattle.pi_terms.specs.ListNames.{nil, cell_name}
 use Rattle.pi_states.specs.Value.{Bindings}
 use Rattle.pi_states.specs.State.{State, bindings, followed}
 use Rattle.pi_syntax.specs.PrintTerm.{array_name}
-use Rattle.pi_arith.specs.Value.{value_of}
-use Rattle.pi_arith.specs.declared.operation.Op.TheVariants.{Add}
+use Rattle.pi_effects.specs.Value.{value_of}
+use Rattle.pi_effects.specs.declared.operation.Op.TheVariants.{Add}
 use Rattle.pi_effects.specs.Items.{each_tree, in_front_of, items_of_root, items_for}
 use Rattle.pi_syntax.specs.ExpTree.{ExpTree}
 use Rattle.pi_core.specs.CoreTree.{PredTree}

@@ -5,9 +5,9 @@ use Rattle.pi_terms.specs.Tree.{Tree, trees_of}
 use Rattle.pi_terms.specs.Places.{Places}
 use Rattle.pi_states.specs.State.{State, bindings, next}
 use Rattle.pi_states.specs.Evaluation.{with_new_variables}
-use Rattle.pi_arith.specs.Range.{Outcome}
-use Rattle.pi_arith.specs.Value.{value_of}
-use Rattle.pi_arith.specs.declared.operation.Op.TheVariants.{Add}
+use Rattle.pi_effects.specs.Range.{Outcome}
+use Rattle.pi_effects.specs.Value.{value_of}
+use Rattle.pi_effects.specs.declared.operation.Op.TheVariants.{Add}
 use Rattle.pi_effects.specs.Answer.{Answer}
 use Rattle.pi_effects.specs.Items.{list_of, collection_items}
 use Rattle.pi_effects.specs.Ranges.{most_items, values_by}

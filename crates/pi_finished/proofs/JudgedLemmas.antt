@@ -2,7 +2,7 @@
 use Rattle.std.specs.Prelude.{◌≡◌, ℕ, suc, ◌<◌, ◌==◌, Bool, true, false, ◌&&◌, cond, List, [], ◌∷◌, Result, Ok, Err, ℤ, pos, negsuc, ◌+ℤ◌, ◌*ℤ◌, refl}
 use Rattle.std.proofs.Common.{arith, eqb-true, ◌∙◌, ap, sym, subst}
 use Rattle.std.proofs.lemmas.Int.{ints}
-use Rattle.pi_arith.specs.Range.{has_128_bits}
+use Rattle.pi_effects.specs.Range.{has_128_bits}
 use Rattle.pi_filters.specs.PostingSums.{Ascend, coefficient}
 use Rattle.pi_filters.specs.Steps.{have_128_bits}
 use Rattle.pi_finished.specs.declared.stop.SumStop.{SumStop}

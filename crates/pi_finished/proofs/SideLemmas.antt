@@ -2,7 +2,7 @@
 use Rattle.std.specs.Prelude.{◌≡◌, ◌≢◌, ℕ, zero, suc, ◌<◌, ◌^◌, ◌==◌, nat_lt, nat_le, nat_abs, Bool, true, false, ◌&&◌, cond, List, [], ◌∷◌, length, Some, None, Ok, ℤ, pos, negsuc, ◌+ℤ◌, ◌*ℤ◌, refl}
 use Rattle.std.proofs.Common.{arith, tests, ltb-true, eqb-true, ◌∙◌, ap, sym, subst}
 use Rattle.std.proofs.lemmas.Int.{ints}
-use Rattle.pi_arith.specs.Range.{has_128_bits}
+use Rattle.pi_effects.specs.Range.{has_128_bits}
 use Rattle.pi_constraints.specs.declared.constraint.Rel.{Rel}
 use Rattle.pi_filters.specs.PostingSums.{Sum, of_variable, in_front, with_term, with_terms, scaled_terms, difference, Ascend}
 use Rattle.pi_filters.specs.Steps.{Made, linear, have_128_bits, variable_of, side, side_by}

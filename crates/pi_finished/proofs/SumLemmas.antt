@@ -5,7 +5,7 @@ use Rattle.std.specs.Ordering.{int_eq}
 use Rattle.std.specs.Prelude.{◌≡◌, ◌≢◌, FitsSigned, cond, ◌==◌, Option, Some, None, ℕ, Bool, true, false, ◌&&◌, List, [], ◌∷◌, Result, Ok, Err, ℤ, pos, negsuc, ◌+ℤ◌, ◌-ℤ◌, ◌*ℤ◌, neg_ℤ, refl}
 use Rattle.std.proofs.Common.{arith, ◌∙◌, ap, sym, subst}
 use Rattle.std.proofs.lemmas.Int.{ints}
-use Rattle.pi_arith.specs.Range.{has_128_bits}
+use Rattle.pi_effects.specs.Range.{has_128_bits}
 use Rattle.pi_filters.specs.PostingSums.{Sum, of_variable, added, scaled, opposite, difference, Ascend, coefficient}
 use Rattle.pi_filters.specs.Steps.{have_128_bits, variable_of_terms}
 use Rattle.pi_filters.proofs.CoefficientLemmas.{sums_stay_joined, coefficients_add, coefficients_scale, coefficients_tell_terms}

@@ -1,6 +1,6 @@
 -- What a change of terms does, told by the coefficients of all variables. (Own.)
 use Rattle.std.specs.Prelude.{◌≡◌, ⊤, ℕ, ◌==◌, Bool, false, cond, List, ℤ, pos, ◌+ℤ◌, ◌*ℤ◌, Result, Ok, Err}
-use Rattle.pi_arith.specs.Range.{has_128_bits}
+use Rattle.pi_effects.specs.Range.{has_128_bits}
 use Rattle.pi_filters.specs.PostingSums.{Ascend, coefficient}
 use Rattle.pi_filters.specs.Steps.{have_128_bits}
 use Rattle.pi_finished.specs.declared.stop.SumStop.{SumStop}

@@ -1,6 +1,6 @@
 -- What was made so far, as it is kept: all constraints until one is refused, and from then on why. (Own.)
 use Rattle.std.specs.Prelude.{◌≡◌, ⊤, ℕ, ℤ, ◌<◌, Result, Ok, Err, ◌^◌, ◌&&◌, suc, nat_le, nat_abs, List, [], ◌∷◌, ◌++◌, length, Bool, false, Option, Some, None}
-use Rattle.pi_arith.specs.Range.{has_128_bits}
+use Rattle.pi_effects.specs.Range.{has_128_bits}
 use Rattle.pi_constraints.specs.declared.constraint.Constraint.{Constraint}
 use Rattle.pi_filters.specs.PostingSums.{Sum}
 use Rattle.pi_filters.specs.Steps.{Refusal, too_many_terms, wide_coefficient, Made, Reading, then, side, product_variable, absolute_variable}

@@ -1,6 +1,6 @@
 -- What a step of reading answers. (Own.)
 use Rattle.std.specs.Prelude.{◌≡◌, ⊤, Bool, true, false, ◌&&◌, Result, Ok, Err, Option, Some, None, List, ℤ, ℕ}
-use Rattle.pi_arith.specs.Range.{has_128_bits}
+use Rattle.pi_effects.specs.Range.{has_128_bits}
 use Rattle.pi_filters.specs.PostingSums.{Sum, Ascend}
 use Rattle.pi_filters.specs.Steps.{have_128_bits}
 use Rattle.pi_finished.specs.declared.stop.SumStop.{SumStop}

@@ -1,7 +1,7 @@
 //! Coefficients whose sign is turned without a change of their numbers.
 ghost use Rattle.std.specs.Prelude.{◌≡◌, ◌+ℤ◌, ◌*ℤ◌, neg_ℤ, pos, true, false, MatchOption};
 ghost use Rattle.std.specs.Ordering.{int_eq};
-ghost use Rattle.pi_arith.specs.Range.{has_128_bits};
+ghost use Rattle.pi_effects.specs.Range.{has_128_bits};
 ghost use Rattle.pi_finished.specs.Signed.{signed};
 
 /// An integer from -2^127 to 2^127: the value, or its opposite where it is negated.

@@ -4,7 +4,7 @@ use Rattle.std.proofs.Common.{◌≡◌, ℕ, ℤ, Bool, true, false, cond, List
 use Rattle.std.specs.Prelude.{nat_lt, Option, Some, None, Ok, Err, ⊤}
 use Rattle.std.specs.Str.{bytes_eq}
 use Rattle.pi_terms.specs.Tree.{Tree, Trees, no_trees, tree, tree_count}
-use Rattle.pi_arith.specs.Range.{Outcome}
+use Rattle.pi_effects.specs.Range.{Outcome}
 use Rattle.pi_states.specs.State.{State, bindings, next, followed, SpeaksBelow}
 use Rattle.pi_effects.specs.Answer.{Answer, found_or, or_raised, integer_at, integer_then, integers_then}
 use Rattle.pi_effects.specs.Integers.{outcome_then, number}

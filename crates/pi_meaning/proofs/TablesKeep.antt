@@ -10,11 +10,11 @@ use Rattle.std.proofs.lemmas.List.Sorted.{IsPermutation-reverse}
 use Rattle.pi_terms.specs.Tree.{Tree, int, atom, cells, most_cells}
 use Rattle.pi_states.specs.Value.{Bindings, value}
 use Rattle.pi_states.specs.State.{State, bindings, next, followed, SpeaksBelow, IsState}
-use Rattle.pi_arith.specs.Range.{has_128_bits}
-use Rattle.pi_arith.specs.Value.{value_of}
-use Rattle.pi_arith.specs.declared.fault.ArithFault.TheVariants.{Overflow}
-use Rattle.pi_arith.specs.declared.operation.Op.{Op}
-use Rattle.pi_arith.specs.declared.operation.Op.TheVariants.{Add, Sub, Mul, Quot, Floor, Ceil, Mod, Rem, Pow, ShiftLeft, ShiftRight, And, Or, Xor, Neg, Not, Abs, Sign}
+use Rattle.pi_effects.specs.Range.{has_128_bits}
+use Rattle.pi_effects.specs.Value.{value_of}
+use Rattle.pi_effects.specs.declared.arith_fault.ArithFault.TheVariants.{Overflow}
+use Rattle.pi_effects.specs.declared.operation.Op.{Op}
+use Rattle.pi_effects.specs.declared.operation.Op.TheVariants.{Add, Sub, Mul, Quot, Floor, Ceil, Mod, Rem, Pow, ShiftLeft, ShiftRight, And, Or, Xor, Neg, Not, Abs, Sign}
 use Rattle.pi_effects.specs.Answer.{Answer, found_or, or_raised, integer_then, integers_then}
 use Rattle.pi_effects.specs.Exception.{term_too_large, bad_index, range_too_long}
 use Rattle.pi_effects.specs.Items.{list_onto, list_of, array_of, cell_parts, list_items, collection_items, indexed_items}

@@ -3,9 +3,9 @@ use Rattle.std.proofs.Common.{ℕ, suc, Bool, true, false, List, [], ◌∷◌}
 use Rattle.std.specs.Prelude.{Option, Some, None, length, pos, Ok, Err}
 use Rattle.pi_terms.specs.Tree.{Tree}
 use Rattle.pi_states.specs.State.{State, bindings, next}
-use Rattle.pi_arith.specs.Range.{Outcome}
-use Rattle.pi_arith.specs.Value.{value_of}
-use Rattle.pi_arith.specs.declared.operation.Op.TheVariants.{Add}
+use Rattle.pi_effects.specs.Range.{Outcome}
+use Rattle.pi_effects.specs.Value.{value_of}
+use Rattle.pi_effects.specs.declared.operation.Op.TheVariants.{Add}
 use Rattle.pi_effects.specs.Items.{collection_items}
 use Rattle.pi_syntax.specs.ExpTree.{ExpTree}
 use Rattle.pi_meaning.specs.Trace.{Trace, Tick, one}

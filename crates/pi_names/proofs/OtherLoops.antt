@@ -5,9 +5,9 @@ use Rattle.pi_terms.specs.Tree.{Tree, atom, var as variable}
 use Rattle.pi_terms.specs.ListNames.{nil}
 use Rattle.pi_states.specs.State.{State, bindings, next}
 use Rattle.pi_states.specs.Unify.{unified}
-use Rattle.pi_arith.specs.Range.{Outcome}
-use Rattle.pi_arith.specs.Value.{value_of as operation}
-use Rattle.pi_arith.specs.declared.operation.Op.TheVariants.{Add}
+use Rattle.pi_effects.specs.Range.{Outcome}
+use Rattle.pi_effects.specs.Value.{value_of as operation}
+use Rattle.pi_effects.specs.declared.operation.Op.TheVariants.{Add}
 use Rattle.pi_effects.specs.Items.{collection_items}
 use Rattle.pi_effects.specs.Indexing.{index_name}
 use Rattle.pi_syntax.specs.ExpTree.{ExpTree}

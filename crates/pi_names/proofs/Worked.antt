@@ -10,8 +10,8 @@ use Rattle.pi_states.specs.Value.{rounds, value}
 use Rattle.pi_states.specs.State.{followed_for, followed}
 use Rattle.pi_states.specs.Unify.{in_pairs, assigned, joined, outcome, unified_for, unbound_in, cells_of_pairs, most_pairs, all_unified}
 use Rattle.pi_states.specs.Evaluation.{with_new_variables}
-use Rattle.pi_arith.specs.Power.{power}
-use Rattle.pi_arith.specs.Value.{value_of as operation}
+use Rattle.pi_effects.specs.Power.{power}
+use Rattle.pi_effects.specs.Value.{value_of as operation}
 use Rattle.pi_syntax.specs.ExpTree.{ExpTree}
 use Rattle.pi_syntax.specs.ProgramTree.{ProgramTree}
 use Rattle.pi_syntax.specs.Signature.{exp_count}

@@ -8,9 +8,9 @@ use Rattle.pi_states.specs.State.{State, bindings, next}
 use Rattle.pi_states.specs.Unify.{unified}
 use Rattle.pi_states.specs.Evaluation.{with_new_variables}
 use Rattle.pi_effects.specs.Items.{list_of, array_of, list_items, collection_items}
-use Rattle.pi_arith.specs.Range.{Outcome}
-use Rattle.pi_arith.specs.Value.{value_of}
-use Rattle.pi_arith.specs.declared.operation.Op.TheVariants.{Add}
+use Rattle.pi_effects.specs.Range.{Outcome}
+use Rattle.pi_effects.specs.Value.{value_of}
+use Rattle.pi_effects.specs.declared.operation.Op.TheVariants.{Add}
 use Rattle.pi_effects.specs.Exception.{type_error}
 use Rattle.pi_effects.specs.Integers.{fault_term}
 use Rattle.pi_syntax.specs.ExpTree.{ExpTree}

@@ -1,7 +1,7 @@
 //! Operations on integers, and their values or faults.
 
-use pi_arith::{ArithFault, Op, evaluate};
 use pi_cases::{Case, named};
+use pi_effects::{ArithFault, Op, evaluate};
 
 /// Each operation with its word.
 const OPERATIONS: [(&str, Op); 18] = [

@@ -1,7 +1,7 @@
 use Rattle.std.proofs.Common.{◌≡◌, Ok, ap, ap₂, sym, ◌∙◌, rules, to_z, of_z}
 use Rattle.std.specs.Int.{w128}
 use Rattle.std.proofs.lemmas.Int.{to_z-of_z}
-use Rattle.pi_arith.specs.Value.{value_of}
+use Rattle.pi_effects.specs.Value.{value_of}
 use Rattle.pi_effects.proofs.FaultLemmas.{integer-stops}
 use Rattle.pi_builtin.proofs.OperationLemmas.{value-stops, value-is}
 use Rattle.pi_builtin.proofs.ResultLemmas.{stopped-same}

@@ -3,7 +3,7 @@ use Rattle.std.specs.Prelude.{◌≡◌, ◌*ℤ◌, ℕ, ℤ, [], false, Err}
 use Rattle.std.specs.Int.{w128}
 use Rattle.std.proofs.Common.{rules, ◌∙◌, ap, subst, to_z, of_z}
 use Rattle.std.proofs.lemmas.Result.{err_from_is_err_and}
-use Rattle.pi_arith.specs.Range.{has_128_bits}
+use Rattle.pi_effects.specs.Range.{has_128_bits}
 use Rattle.pi_finished.specs.Signed.{signed}
 use Rattle.pi_finished.specs.Kept.{counted}
 use Rattle.pi_finished.specs.Changes.{Scales, IsTimes}

@@ -1,7 +1,7 @@
 -- One more term is written, and what is left is what was left behind it.
 use Rattle.std.specs.Prelude.{◌≡◌, true, false}
 use Rattle.std.proofs.Common.{rules, ◌∙◌, ap, sym}
-use Rattle.pi_arith.specs.Range.{has_128_bits}
+use Rattle.pi_effects.specs.Range.{has_128_bits}
 use Rattle.pi_finished.specs.Kept.{terms_of, counted}
 use Rattle.pi_finished.proofs.AddLemmas.{first_fits}
 use Rattle.pi_finished.proofs.WrittenLemmas.{written_next, all_written}

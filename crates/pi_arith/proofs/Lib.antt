@@ -1,9 +1,0 @@
-mod BitLaws
-mod BitLemmas
-mod PowerLemmas
-mod ProductLemmas
-mod QuotientAnswers
-mod QuotientLaws
-mod QuotientLemmas
-mod RangeLemmas
-mod ShiftLemmas

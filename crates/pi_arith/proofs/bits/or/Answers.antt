@@ -1,5 +1,0 @@
-use Rattle.pi_arith.proofs.BitLemmas.{or_is}
-use Rattle.pi_arith.proofs.bits.or.Goals as goal
-
-pub returns : goal.returns
-returns c = or_is c.args.a c.args.b c.ranges.a c.ranges.b

@@ -1,5 +1,0 @@
-use Rattle.pi_arith.proofs.BitLemmas.{xor_is}
-use Rattle.pi_arith.proofs.bits.xor.Goals as goal
-
-pub returns : goal.returns
-returns c = xor_is c.args.a c.args.b c.ranges.a c.ranges.b

@@ -1,8 +1,0 @@
-use Rattle.pi_arith.proofs.QuotientLaws.{modulo_rest, remainder_rest}
-use Rattle.pi_arith.proofs.laws.rests.Goals as goal
-
-pub returns-clause-modulo : goal.returns-clause-modulo
-returns-clause-modulo c = modulo_rest
-
-pub returns-clause-remainder : goal.returns-clause-remainder
-returns-clause-remainder c = remainder_rest

@@ -1,4 +1,0 @@
-use Rattle.pi_arith.proofs.power.+power_by_squares.Given as goal
-
-abbrev pub decreases-power_by_squares : goal.decreases-power_by_squares
-decreases-power_by_squares l = l.exponent
