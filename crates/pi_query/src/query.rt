@@ -26,9 +26,9 @@ use pi_engine::{Budget, Happening, Machine, Mode};
 use pi_outside::{Failed, Sink};
 use pi_print::{answer_text, term_text};
 use pi_raw_store::RawStore;
-use pi_region::Words;
 use pi_states::StateStore;
 use pi_terms::Term;
+use pi_trail::Words;
 use std::alloc::{AllocError, Global};
 
 /// What ends a run without a line of its own.

@@ -29,10 +29,9 @@ use pi_raw_blocks::{
 };
 use pi_raw_terms as terms;
 use pi_raw_terms::RawNames;
-use pi_region::Words;
 use pi_states::{AgentView, Cell, Places, ReadStop, Ref, Watches};
 use pi_terms::Term;
-use pi_trail::{Table, Trailed};
+use pi_trail::{Table, Trailed, Words};
 use std::alloc::{AllocError, Global};
 use std::marker::Model;
 

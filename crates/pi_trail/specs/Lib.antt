@@ -4,3 +4,8 @@ pub mod Back
 pub mod Since
 pub mod History
 pub mod Changes
+pub mod Blocks
+pub mod Ownership
+pub mod Pool
+pub mod Views
+pub mod Words

@@ -6,7 +6,7 @@ ghost use Rattle.pi_trail.specs.Back.{Advances, newest, newest_place, newest_old
 
 use crate::entry::{Change, Entry, Table, data, value};
 use crate::word_list::WordList;
-use pi_region::Words;
+use crate::words::Words;
 use pi_states::Ref;
 use std::alloc::{AllocError, Global};
 use std::cmp::min;

@@ -2,7 +2,7 @@
 ghost use Rattle.std.specs.Prelude.{◌≡◌, ◌<◌, ◌^◌, ◌-◌, [], ◌∷◌, ◌++◌, length, take, map, slice_index, slice_set, IfOk, OnErr};
 ghost use Rattle.pi_trail.specs.Image.{numbers_of};
 
-use pi_region::Words;
+use crate::words::Words;
 use pi_states::Ref;
 use std::alloc::{AllocError, Global};
 use std::marker::Model;

@@ -6,7 +6,7 @@ use crate::programs::program_of;
 use pi_cases::{Case, Problem, tell_domains};
 use pi_engine::{Budget, Happening, Kept, Machine, Mode};
 use pi_raw_store::RawStore;
-use pi_region::Words;
+use pi_trail::Words;
 use pi_types::{
     Answer, CorePreds, CoreProgram, CoreQuery, NameSlot, NameSlots, StateStore, Text, Work,
 };

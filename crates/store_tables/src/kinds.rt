@@ -1,7 +1,7 @@
 //! The kinds of stores that cases are answered over.
 
 use pi_raw_store::RawStore;
-use pi_region::Words;
+use pi_trail::Words;
 use std::alloc::Global;
 
 /// A raw store in a region of its own.

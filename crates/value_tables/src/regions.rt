@@ -1,9 +1,9 @@
 //! Regions of words and pools of them, call by call.
 ghost use Rattle.std.specs.Prelude.{◌<◌, ◌≤◌, OnOk};
-ghost use Rattle.pi_region.specs.Pool.{made_by};
+ghost use Rattle.pi_trail.specs.Pool.{made_by};
 
 use pi_cases::{Case, named};
-use pi_region::{Pool, Words as Region};
+use pi_trail::{Pool, Words as Region};
 use std::alloc::{AllocError, Global};
 
 /// A pool, and the most of its regions that were ever out at one time: it made no more.

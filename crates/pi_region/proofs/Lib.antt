@@ -1,6 +1,0 @@
-mod Lists
-mod Memory
-mod Sharing
-mod Values
-mod Walks
-mod WordsLemmas

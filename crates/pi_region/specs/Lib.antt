@@ -1,5 +1,0 @@
-pub mod Blocks
-pub mod Ownership
-pub mod Pool
-pub mod Views
-pub mod Words
