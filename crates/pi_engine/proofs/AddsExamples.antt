@@ -1,10 +1,10 @@
 -- Runs of propagators that a call may count, and some that it may not, by small budgets.
 use Rattle.std.proofs.Common.{◌≡◌, ◌≤◌, ◌+◌, ℕ, [], refl, arith}
 use Rattle.pi_meaning.specs.Trace.{count_ticks}
-use Rattle.pi_machine.specs.declared.happening.Budget.{Budget}
-use Rattle.pi_machine.specs.declared.happening.Happening.{Happening}
+use Rattle.pi_meaning.specs.declared.happening.Budget.{Budget}
+use Rattle.pi_meaning.specs.declared.happening.Happening.{Happening}
 use Rattle.std.specs.Prelude.{pos}
-use Rattle.pi_machine.specs.declared.happening.Mode.{Mode}
+use Rattle.pi_meaning.specs.declared.happening.Mode.{Mode}
 use Rattle.pi_engine.specs.Happens.{AreTicksAndLoads, sum_of_loads, Adds}
 
 -- so many runs were counted

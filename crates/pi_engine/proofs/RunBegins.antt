@@ -18,8 +18,8 @@ use Rattle.pi_arenas.specs.declared.run.Now.{Now}
 use Rattle.pi_code.specs.Code.{tables_of, preds_of}
 use Rattle.pi_arenas.specs.Arenas.{ArenasView, no_arenas}
 use Rattle.pi_stands.specs.Here.{Block, AreHeld, IsHere, last_here, answers}
-use Rattle.pi_machine.specs.Shape.{open_level}
-use Rattle.pi_machine.specs.Configuration.{config, going}
+use Rattle.pi_meaning.specs.Shape.{open_level}
+use Rattle.pi_meaning.specs.Configuration.{config, going}
 use Rattle.pi_stands.specs.Stands.{Loaded, tables_in, steps_of, world, IsCodeOf, no_entries, Stands, NowIs, going_now}
 use Rattle.pi_code.specs.LaidRules.{IsFilled}
 use Rattle.pi_engine.specs.Begins.{asked, loaded_with, Begins}

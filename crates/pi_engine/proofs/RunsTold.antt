@@ -11,30 +11,30 @@ use Rattle.pi_meaning.specs.Trace.{End, Done, Raise, Tick, Load, Out, Emitted, n
 use Rattle.pi_meaning.specs.Run.{Solution, IsRunUnder}
 use Rattle.pi_meaning.specs.Sound.{IsSoundQuery}
 use Rattle.pi_core.specs.declared.core_program.NameSlot.{NameSlot}
-use Rattle.pi_machine.specs.declared.happening.Budget.{Budget}
-use Rattle.pi_machine.specs.declared.happening.Happening.{Happening}
-use Rattle.pi_machine.specs.declared.happening.Mode.{Mode}
+use Rattle.pi_meaning.specs.declared.happening.Budget.{Budget}
+use Rattle.pi_meaning.specs.declared.happening.Happening.{Happening}
+use Rattle.pi_meaning.specs.declared.happening.Mode.{Mode}
 use Rattle.pi_arenas.specs.declared.run.End.{End as RunEnd}
 use Rattle.pi_arenas.specs.declared.run.Now.{Now}
 use Rattle.pi_arenas.specs.Arenas.{ArenasView}
 use Rattle.pi_stands.specs.Answers.{AreNames}
 use Rattle.pi_engine.specs.Begins.{Begins}
-use Rattle.pi_machine.specs.Built.{AreOfRules}
-use Rattle.pi_machine.specs.Configuration.{Config}
-use Rattle.pi_machine.specs.Budget.{AreStepsUsed, IsWorkUsed, IsInner}
+use Rattle.pi_meaning.specs.Built.{AreOfRules}
+use Rattle.pi_meaning.specs.Configuration.{Config}
+use Rattle.pi_meaning.specs.Budget.{AreStepsUsed, IsWorkUsed, IsInner}
 use Rattle.pi_stands.specs.Goes.{counted, HasNone, IsAt, IsSpent, IsIn}
-use Rattle.pi_machine.specs.Leads.{Leads, IsAtEnd, IsAtTick}
-use Rattle.pi_machine.specs.Next.{some_ticks}
+use Rattle.pi_meaning.specs.Leads.{Leads, IsAtEnd, IsAtTick}
+use Rattle.pi_meaning.specs.Next.{some_ticks}
 use Rattle.pi_engine.specs.Seen.{MachineView, end_in, HasEnded, GoesOn, Fits, IsException}
 use Rattle.pi_engine.specs.Inside.{loaded_as, run_of, HasComeTo, IsPlaced}
 use Rattle.pi_engine.specs.Runs.{RunsTo, EndsWith}
 use Rattle.pi_engine.specs.Happens.{HappensByTicks, lasting}
-use Rattle.pi_machine.specs.Step.{start}
+use Rattle.pi_meaning.specs.Step.{start}
 use Rattle.pi_engine.specs.Turns.{IsRunning, NextComes, Lasts}
 use Rattle.pi_stands.specs.Stands.{World, Stands}
 use Rattle.pi_stands.proofs.GoalsGo.{no-end}
-use Rattle.pi_machine.proofs.LeadLemmas.{leads-none, leads-on, start-good}
-use Rattle.pi_machine.proofs.RunLaws.{ended-run, spent-run, run-prefix}
+use Rattle.pi_meaning.proofs.LeadLemmas.{leads-none, leads-on, start-good}
+use Rattle.pi_meaning.proofs.RunLaws.{ended-run, spent-run, run-prefix}
 
 -- ---- Ticks behind events
 

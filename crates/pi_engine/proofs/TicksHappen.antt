@@ -6,11 +6,11 @@ use Rattle.pi_core.specs.CoreTree.{PredTree, QueryTree}
 use Rattle.pi_meaning.specs.Depth.{Spent}
 use Rattle.pi_meaning.specs.Trace.{Raise, Tick, Out, Emitted, noted, answered, count_ticks}
 use Rattle.pi_meaning.specs.Run.{Solution, IsRunUnder}
-use Rattle.pi_machine.specs.declared.happening.Budget.{Budget}
-use Rattle.pi_machine.specs.declared.happening.Happening.{Happening}
-use Rattle.pi_machine.specs.declared.happening.Mode.{Mode}
-use Rattle.pi_machine.specs.Budget.{Counts}
-use Rattle.pi_machine.specs.Next.{some_ticks}
+use Rattle.pi_meaning.specs.declared.happening.Budget.{Budget}
+use Rattle.pi_meaning.specs.declared.happening.Happening.{Happening}
+use Rattle.pi_meaning.specs.declared.happening.Mode.{Mode}
+use Rattle.pi_meaning.specs.Budget.{Counts}
+use Rattle.pi_meaning.specs.Next.{some_ticks}
 use Rattle.pi_stands.specs.Goes.{counted}
 use Rattle.pi_engine.specs.Seen.{MachineView, mode_of}
 use Rattle.pi_engine.specs.Runs.{RunsTo}

@@ -11,26 +11,26 @@ use Rattle.pi_meaning.specs.Trace.{End, Done, Raise, Abort, Miss, Deep, Tick, Ou
 use Rattle.pi_meaning.specs.Run.{Solution}
 use Rattle.pi_core.specs.declared.core_program.NameSlot.{NameSlot}
 use Rattle.pi_core.specs.declared.answer.Answer.{Answer}
-use Rattle.pi_machine.specs.declared.happening.Budget.{Budget}
-use Rattle.pi_machine.specs.declared.happening.Mode.{Mode}
+use Rattle.pi_meaning.specs.declared.happening.Budget.{Budget}
+use Rattle.pi_meaning.specs.declared.happening.Mode.{Mode}
 use Rattle.pi_arenas.specs.declared.run.End.{End as RunEnd}
 use Rattle.pi_arenas.specs.declared.run.Telling.{Telling}
 use Rattle.pi_arenas.specs.declared.run.Now.{Now}
 use Rattle.pi_engine.specs.declared.turns.Outcome.{Outcome as CodeOutcome}
-use Rattle.pi_machine.specs.Budget.{Counts}
-use Rattle.pi_machine.specs.Built.{AreOfRules}
-use Rattle.pi_machine.specs.Configuration.{Frame, Config, config, going, telling, failed, raising, Now as NowData}
+use Rattle.pi_meaning.specs.Budget.{Counts}
+use Rattle.pi_meaning.specs.Built.{AreOfRules}
+use Rattle.pi_meaning.specs.Configuration.{Frame, Config, config, going, telling, failed, raising, Now as NowData}
 use Rattle.pi_stands.specs.Fails.{IsEnded, ComesTo, Fails}
 use Rattle.pi_stands.specs.Raises.{Raises}
 use Rattle.pi_stands.specs.Goes.{counted, IsAt, Goes, IsSpent, TicksOn, IsIn}
-use Rattle.pi_machine.specs.Leads.{Leads}
-use Rattle.pi_machine.specs.Next.{Tells, some_ticks}
-use Rattle.pi_machine.specs.Shape.{IsGood}
+use Rattle.pi_meaning.specs.Leads.{Leads}
+use Rattle.pi_meaning.specs.Next.{Tells, some_ticks}
+use Rattle.pi_meaning.specs.Shape.{IsGood}
 use Rattle.pi_stands.specs.Stands.{World, GoingIs, NowIs, going_now, telling_now, failing_now, raising_now, Stands}
-use Rattle.pi_machine.specs.Step.{Outcome, silently, with_tick, quietly, deeper, writing, answering, ending, fail_step, raise_step, step}
+use Rattle.pi_meaning.specs.Step.{Outcome, silently, with_tick, quietly, deeper, writing, answering, ending, fail_step, raise_step, step}
 use Rattle.pi_engine.specs.Turns.{StepIs, StepStops}
 use Rattle.pi_stands.proofs.GoalsGo.{is-at, none-counted, unspent, silent-goes}
-use Rattle.pi_machine.proofs.LeadLemmas.{leads-none, leads-on, step-ends, step-writes, good-writing}
+use Rattle.pi_meaning.proofs.LeadLemmas.{leads-none, leads-on, step-ends, step-writes, good-writing}
 use Rattle.pi_stands.proofs.PointsDone.{GoesSilently}
 
 -- ---- no further answer, and exceptions

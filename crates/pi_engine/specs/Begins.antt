@@ -8,7 +8,7 @@ use Rattle.pi_core.specs.declared.core_program.NameSlot.{NameSlot}
 use Rattle.pi_code.specs.declared.code.Code.{Code}
 use Rattle.pi_arenas.specs.declared.run.Now.{Now}
 use Rattle.pi_arenas.specs.Arenas.{ArenasView}
-use Rattle.pi_machine.specs.Step.{start}
+use Rattle.pi_meaning.specs.Step.{start}
 use Rattle.pi_stands.specs.Stands.{Loaded, world, Stands}
 
 -- a query by its parts

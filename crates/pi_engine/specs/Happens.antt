@@ -7,11 +7,11 @@ use Rattle.pi_meaning.specs.View.{View}
 use Rattle.pi_meaning.specs.Instances.{no_later, whole}
 use Rattle.pi_meaning.specs.Run.{Solution, IsRunUnder}
 use Rattle.pi_core.specs.CoreTree.{PredTree, QueryTree}
-use Rattle.pi_machine.specs.declared.happening.Budget.{Budget}
-use Rattle.pi_machine.specs.declared.happening.Happening.{Happening}
-use Rattle.pi_machine.specs.declared.happening.Mode.{Mode}
-use Rattle.pi_machine.specs.Budget.{AreStepsUsed, IsWorkUsed, IsInner}
-use Rattle.pi_machine.specs.Next.{Tells, some_ticks}
+use Rattle.pi_meaning.specs.declared.happening.Budget.{Budget}
+use Rattle.pi_meaning.specs.declared.happening.Happening.{Happening}
+use Rattle.pi_meaning.specs.declared.happening.Mode.{Mode}
+use Rattle.pi_meaning.specs.Budget.{AreStepsUsed, IsWorkUsed, IsInner}
+use Rattle.pi_meaning.specs.Next.{Tells, some_ticks}
 use Rattle.pi_stands.specs.Goes.{counted}
 use Rattle.pi_engine.specs.Needs.{asked_for, Needs}
 use Rattle.pi_engine.specs.Seen.{MachineView, mode_of, stopped, IsException, IsWork}

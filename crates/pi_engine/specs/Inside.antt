@@ -6,14 +6,14 @@ use Rattle.pi_meaning.specs.View.{View}
 use Rattle.pi_meaning.specs.Run.{Solution}
 use Rattle.pi_core.specs.CoreTree.{PredTree, QueryTree}
 use Rattle.pi_core.specs.declared.core_program.NameSlot.{NameSlot}
-use Rattle.pi_machine.specs.declared.happening.Mode.{Mode}
+use Rattle.pi_meaning.specs.declared.happening.Mode.{Mode}
 use Rattle.pi_arenas.specs.declared.run.End.{End as RunEnd}
 use Rattle.pi_arenas.specs.declared.run.Now.{Now}
-use Rattle.pi_machine.specs.Built.{AreOfRules}
-use Rattle.pi_machine.specs.Configuration.{Config}
-use Rattle.pi_machine.specs.Leads.{Leads, IsAtNote, IsAtEnd}
-use Rattle.pi_machine.specs.Shape.{IsGood}
-use Rattle.pi_machine.specs.Step.{start}
+use Rattle.pi_meaning.specs.Built.{AreOfRules}
+use Rattle.pi_meaning.specs.Configuration.{Config}
+use Rattle.pi_meaning.specs.Leads.{Leads, IsAtNote, IsAtEnd}
+use Rattle.pi_meaning.specs.Shape.{IsGood}
+use Rattle.pi_meaning.specs.Step.{start}
 use Rattle.pi_stands.specs.Answers.{AreNames}
 use Rattle.pi_stands.specs.Stands.{Loaded, World, world, Stands}
 use Rattle.pi_engine.specs.Seen.{MachineView, IsException, IsWork}

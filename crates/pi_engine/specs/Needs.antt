@@ -5,8 +5,8 @@ use Rattle.pi_meaning.specs.Trace.{Trace, end, Call, Miss, Emitted}
 use Rattle.pi_meaning.specs.View.{View, Wanted, reading}
 use Rattle.pi_meaning.specs.Run.{Solution}
 use Rattle.pi_core.specs.CoreTree.{PredTree, QueryTree}
-use Rattle.pi_machine.specs.declared.happening.PlanCall.{PlanCall}
-use Rattle.pi_machine.specs.Leads.{IsAtCall}
+use Rattle.pi_meaning.specs.declared.happening.PlanCall.{PlanCall}
+use Rattle.pi_meaning.specs.Leads.{IsAtCall}
 use Rattle.pi_engine.specs.Seen.{MachineView}
 use Rattle.pi_engine.specs.Runs.{RunsTo, EndsWith}
 

@@ -7,8 +7,8 @@ use Rattle.pi_meaning.specs.View.{View}
 use Rattle.pi_meaning.specs.Instances.{no_later, whole}
 use Rattle.pi_meaning.specs.Run.{Solution, IsRunUnder}
 use Rattle.pi_core.specs.CoreTree.{PredTree, QueryTree}
-use Rattle.pi_machine.specs.declared.happening.Happening.{Happening}
-use Rattle.pi_machine.specs.Next.{some_ticks}
+use Rattle.pi_meaning.specs.declared.happening.Happening.{Happening}
+use Rattle.pi_meaning.specs.Next.{some_ticks}
 use Rattle.pi_engine.specs.Seen.{MachineView, mode_of, HasEnded, Fits, IsException}
 use Rattle.pi_engine.specs.Inside.{IsPlaced}
 

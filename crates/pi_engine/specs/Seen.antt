@@ -5,9 +5,9 @@ use Rattle.pi_terms.specs.Tree.{Tree}
 use Rattle.pi_meaning.specs.Trace.{End, Raise, Abort, Note, Tick, Load, Out}
 use Rattle.pi_core.specs.declared.core_program.NameSlot.{NameSlot}
 use Rattle.pi_code.specs.declared.code.Code.{Code}
-use Rattle.pi_machine.specs.declared.happening.Happening.{Happening}
-use Rattle.pi_machine.specs.declared.happening.Mode.{Mode}
-use Rattle.pi_machine.specs.Budget.{IsInner}
+use Rattle.pi_meaning.specs.declared.happening.Happening.{Happening}
+use Rattle.pi_meaning.specs.declared.happening.Mode.{Mode}
+use Rattle.pi_meaning.specs.Budget.{IsInner}
 pub use Rattle.pi_stands.specs.Views.{Fits}
 use Rattle.pi_engine.specs.declared.machine.Kept.{Kept}
 use Rattle.pi_engine.specs.declared.machine.Machine.{Machine}

@@ -7,4 +7,4 @@ mod machine;
 mod turns;
 
 pub use machine::{Kept, Machine};
-pub use pi_machine::{Budget, Happening, Mode, PlanCall};
+pub use pi_meaning::{Budget, Happening, Mode, PlanCall};

@@ -17,7 +17,7 @@ use Rattle.pi_states.specs.declared.store.Cell.{Cell}
 use Rattle.pi_states.proofs.KeepsLemmas.{args-below}
 use Rattle.pi_core.specs.CoreTree.{clause_tree, pattern_tree}
 use Rattle.pi_core.specs.declared.core_program.CoreClause.{CoreClause}
-use Rattle.pi_machine.specs.Step.{with_fact}
+use Rattle.pi_meaning.specs.Step.{with_fact}
 use Rattle.pi_code.specs.declared.fact_keys.FactKeys.{FactKeys}
 use Rattle.pi_code.specs.declared.key.FactValue.{FactValue}
 use Rattle.pi_code.specs.Keys.{Has, places_in}

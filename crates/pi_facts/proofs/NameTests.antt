@@ -11,7 +11,7 @@ use Rattle.pi_core.specs.declared.core_program.CorePred.{CorePred}
 use Rattle.pi_core.specs.CoreTree.{pred_tree, PredTree, is_pred, find_pred}
 use Rattle.pi_meaning.specs.Instances.{is_called_by_name}
 use Rattle.pi_meaning.specs.Names.{is_planner}
-use Rattle.pi_machine.specs.Step.{is_defined, unknown_ball, unknown_by}
+use Rattle.pi_meaning.specs.Step.{is_defined, unknown_ball, unknown_by}
 use Rattle.pi_meaning.proofs.FoundLemmas.{names-same, is-named}
 
 pub same-test : (a b : List ℕ) → bytes_eq a b ≡ is_eq (name_order a b)

@@ -9,7 +9,7 @@ use Rattle.pi_core.specs.CoreTree.{ClauseTree, clause_tree}
 use Rattle.pi_core.specs.declared.core_program.CoreClause.{CoreClause}
 use Rattle.pi_unify.specs.Answers.{Answers}
 use Rattle.pi_unify.proofs.KeepsLemmas.{keeps_none, stays_then}
-use Rattle.pi_machine.specs.Step.{with_fact, from_unifying}
+use Rattle.pi_meaning.specs.Step.{with_fact, from_unifying}
 use Rattle.pi_facts.specs.Trying.{IsFirst}
 use Rattle.pi_facts.specs.Keyed.{NoneBetween}
 

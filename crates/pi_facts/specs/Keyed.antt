@@ -7,7 +7,7 @@ use Rattle.pi_states.specs.declared.store.Cell.{Cell}
 use Rattle.pi_core.specs.CoreTree.{clause_tree, pattern_tree}
 use Rattle.pi_core.specs.declared.core_program.CoreClause.{CoreClause}
 use Rattle.pi_core.specs.declared.core_program.Pattern.{Pattern}
-use Rattle.pi_machine.specs.Step.{with_fact}
+use Rattle.pi_meaning.specs.Step.{with_fact}
 use Rattle.pi_code.specs.declared.fact_keys.FactKeys.{FactKeys}
 use Rattle.pi_code.specs.declared.key.FactPlace.{FactPlace}
 use Rattle.pi_code.specs.declared.key.FactValue.{FactValue}

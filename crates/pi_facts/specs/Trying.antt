@@ -3,7 +3,7 @@ use Rattle.std.specs.Prelude.{◌≡◌, ℕ, ◌-◌, ◌≤◌, ◌<◌, List,
 use Rattle.pi_terms.specs.Tree.{Trees}
 use Rattle.pi_states.specs.State.{State}
 use Rattle.pi_core.specs.CoreTree.{ClauseTree}
-use Rattle.pi_machine.specs.Step.{with_fact, from_unifying}
+use Rattle.pi_meaning.specs.Step.{with_fact, from_unifying}
 
 -- the fact with a number is the first from `from` on that unifies with a call, and these stand behind it
 pub record IsFirst (ts : Trees) (s : State) (cs : List ClauseTree) (first from end number : ℕ) : Type 0 where

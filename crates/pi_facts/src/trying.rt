@@ -5,7 +5,7 @@ ghost use Rattle.pi_states.specs.State.{IsState};
 ghost use Rattle.pi_states.specs.Store.{IsTerm, Stays};
 ghost use Rattle.pi_core.specs.CoreTree.{clause_tree};
 ghost use Rattle.pi_core.specs.declared.core_program.CoreClause.{CoreClause as Clause};
-ghost use Rattle.pi_machine.specs.Step.{with_fact};
+ghost use Rattle.pi_meaning.specs.Step.{with_fact};
 ghost use Rattle.pi_facts.specs.Trying.{IsNext};
 ghost use Rattle.pi_facts.specs.Keyed.{HaveKeys};
 

@@ -3,7 +3,7 @@ ghost use Rattle.std.specs.Prelude.{◌≡◌, ◌||◌, ◌++◌, false, not, m
 ghost use Rattle.std.specs.Str.{bytes_eq};
 ghost use Rattle.pi_core.specs.CoreTree.{pred_tree, is_pred, find_pred};
 ghost use Rattle.pi_meaning.specs.Names.{is_planner};
-ghost use Rattle.pi_machine.specs.Step.{unknown_ball, unknown_by, is_defined};
+ghost use Rattle.pi_meaning.specs.Step.{unknown_ball, unknown_by, is_defined};
 
 use pi_core::CorePred;
 use pi_terms::Term;

@@ -32,3 +32,13 @@ pub mod TraceLaws
 pub mod View
 pub mod Within
 pub mod WrittenRules
+pub mod Budget
+pub mod Configuration
+pub mod Remaining
+pub mod Step
+pub mod Shape
+pub mod StepLaws
+pub mod Built
+pub mod Weight
+pub mod Leads
+pub mod Next

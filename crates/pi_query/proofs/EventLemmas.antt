@@ -7,7 +7,7 @@ use Rattle.pi_print.specs.PrintAnswer.{answer_lines}
 use Rattle.pi_meaning.specs.Told.{answer_of}
 use Rattle.pi_core.specs.declared.answer.Answer.{Answer}
 use Rattle.pi_core.specs.declared.core_program.NameSlot.{NameSlot}
-use Rattle.pi_machine.specs.Next.{some_ticks}
+use Rattle.pi_meaning.specs.Next.{some_ticks}
 use Rattle.pi_query.specs.declared.manner.Lines.{Lines}
 use Rattle.pi_query.specs.Running.{print_solutions}
 use Rattle.pi_query.specs.ToldLines.{where_told}

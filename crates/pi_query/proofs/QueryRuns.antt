@@ -12,13 +12,13 @@ use Rattle.pi_print.specs.PrintAnswer.{answer_lines}
 use Rattle.pi_core.specs.declared.answer.Answer.{Answer}
 use Rattle.pi_core.specs.declared.core_program.NameSlot.{NameSlot}
 use Rattle.pi_meaning.proofs.QuietRules.{query-runs}
-use Rattle.pi_machine.specs.declared.happening.Budget.{Budget}
-use Rattle.pi_machine.specs.declared.happening.Happening.{Happening}
-use Rattle.pi_machine.specs.declared.happening.Mode.{Mode}
-use Rattle.pi_machine.specs.Budget.{IsWithin, IsInner}
-use Rattle.pi_machine.specs.Built.{IsRunnable}
+use Rattle.pi_meaning.specs.declared.happening.Budget.{Budget}
+use Rattle.pi_meaning.specs.declared.happening.Happening.{Happening}
+use Rattle.pi_meaning.specs.declared.happening.Mode.{Mode}
+use Rattle.pi_meaning.specs.Budget.{IsWithin, IsInner}
+use Rattle.pi_meaning.specs.Built.{IsRunnable}
 use Rattle.pi_stands.specs.Goes.{counted}
-use Rattle.pi_machine.specs.Next.{some_ticks}
+use Rattle.pi_meaning.specs.Next.{some_ticks}
 use Rattle.pi_engine.specs.Seen.{MachineView, GoesOn}
 use Rattle.pi_engine.specs.Runs.{RunsTo}
 use Rattle.pi_engine.specs.Happens.{HappensByTicks}

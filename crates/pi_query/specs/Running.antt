@@ -10,11 +10,11 @@ use Rattle.pi_meaning.specs.View.{query_view}
 use Rattle.pi_meaning.specs.Run.{Solution, IsRun}
 use Rattle.pi_meaning.specs.Told.{answer_of}
 use Rattle.pi_print.specs.PrintAnswer.{answer_lines}
-use Rattle.pi_machine.specs.declared.happening.Budget.{Budget}
-use Rattle.pi_machine.specs.declared.happening.Happening.{Happening}
-use Rattle.pi_machine.specs.declared.happening.Mode.{Mode}
-use Rattle.pi_machine.specs.Budget.{Counts, IsWithin}
-use Rattle.pi_machine.specs.Built.{IsRunnable}
+use Rattle.pi_meaning.specs.declared.happening.Budget.{Budget}
+use Rattle.pi_meaning.specs.declared.happening.Happening.{Happening}
+use Rattle.pi_meaning.specs.declared.happening.Mode.{Mode}
+use Rattle.pi_meaning.specs.Budget.{Counts, IsWithin}
+use Rattle.pi_meaning.specs.Built.{IsRunnable}
 use Rattle.pi_engine.specs.Seen.{MachineView, mode_of, end_of, GoesOn}
 use Rattle.pi_engine.specs.Happens.{HappensByTicks, lasting}
 use Rattle.pi_engine.specs.Runs.{RunsTo}

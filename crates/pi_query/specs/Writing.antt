@@ -1,7 +1,7 @@
 -- What the writing of texts did, by what it answered.
 use Rattle.std.specs.Prelude.{◌≡◌, ℕ, Bool, true, false, List, [], Result, IfOk, IfErr, OnOk, ⊤}
 use Rattle.pi_outside.specs.Writes.{SinkWrite}
-use Rattle.pi_machine.specs.declared.happening.Happening.{Happening}
+use Rattle.pi_meaning.specs.declared.happening.Happening.{Happening}
 use Rattle.pi_query.specs.declared.manner.Lines.{Lines}
 use Rattle.pi_query.specs.declared.query.Stop.{Stop}
 use Rattle.pi_query.specs.declared.query.Stop.TheVariants.{Write, Memory}

@@ -9,12 +9,12 @@ use Rattle.pi_arenas.specs.declared.arenas.Kind.{Kind}
 use Rattle.pi_arenas.specs.Blocks.{brought_back}
 use Rattle.pi_arenas.specs.Arenas.{ArenasView, entry_at, slots_kept_by, with_kind}
 use Rattle.pi_arenas.specs.declared.arenas.Entry.{Entry}
-use Rattle.pi_machine.specs.Configuration.{Entry as EntryData, choice, strict, catch_level, left, Strict, Back as BackData}
-use Rattle.pi_machine.specs.Shape.{open_level}
+use Rattle.pi_meaning.specs.Configuration.{Entry as EntryData, choice, strict, catch_level, left, Strict, Back as BackData}
+use Rattle.pi_meaning.specs.Shape.{open_level}
 use Rattle.pi_stands.specs.Here.{Here}
 use Rattle.pi_stands.specs.Stands.{World, Loaded, entries_of, ends_of, entry_ends, back_here, agrees_from, Agrees, KindIs, rules_kind, facts_kind, branches_kind, once_kind, not_kind, if_kind, guard_kind, apply_kind, collect_kind, count_kind, catch_kind, exit_kind, EntryIs, IsAbove, StackIs, entry_above, StackStands}
 use Rattle.pi_states.specs.Store.{Extend}
-use Rattle.pi_machine.proofs.StackLemmas.{IsClosed}
+use Rattle.pi_meaning.proofs.StackLemmas.{IsClosed}
 use Rattle.pi_terms.proofs.OptionLemmas.{one-some}
 use Rattle.pi_stands.proofs.StandsLemmas.{moved, here_of, stack-moves, kind-order}
 use Rattle.pi_stands.proofs.CallEntries.{get-set, above-kind}

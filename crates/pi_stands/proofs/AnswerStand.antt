@@ -5,8 +5,8 @@ use Rattle.pi_meaning.specs.View.{View}
 use Rattle.pi_core.specs.GoalTree.{no_goals}
 use Rattle.pi_core.specs.declared.core_program.NameSlot.{NameSlot}
 use Rattle.pi_arenas.specs.declared.frames.Point.{Point}
-use Rattle.pi_machine.specs.Configuration.{Frame, Entry as EntryData, config, going}
-use Rattle.pi_machine.specs.Step.{step, frame_step}
+use Rattle.pi_meaning.specs.Configuration.{Frame, Entry as EntryData, config, going}
+use Rattle.pi_meaning.specs.Step.{step, frame_step}
 use Rattle.pi_stands.specs.Here.{Block, Holds, in_block, valued, GoesOn, answers, gives, returns_to_end, more_of_block, returns_to}
 use Rattle.pi_stands.specs.Stands.{tables_in, World, steps_of, level_ends, now_here, GoingIs, StandsGoing}
 use Rattle.pi_stands.specs.Makes.{SilentlyTo, already, one_more}

@@ -27,9 +27,9 @@ use Rattle.pi_arenas.specs.declared.arenas.Entry.{Entry}
 use Rattle.pi_arenas.specs.Frames.{PushesBehind}
 use Rattle.pi_code.specs.Laid.{IsNotBuiltIn}
 use Rattle.pi_code.specs.Code.{Tables, arguments, node_kind}
-use Rattle.pi_machine.specs.Configuration.{Frame, Called, Config, behind, strict, value_level, Entry as EntryData}
-use Rattle.pi_machine.specs.Shape.{open_level}
-use Rattle.pi_machine.specs.Step.{call_step, try_rules, goal_step, back_to}
+use Rattle.pi_meaning.specs.Configuration.{Frame, Called, Config, behind, strict, value_level, Entry as EntryData}
+use Rattle.pi_meaning.specs.Shape.{open_level}
+use Rattle.pi_meaning.specs.Step.{call_step, try_rules, goal_step, back_to}
 use Rattle.pi_stands.specs.Here.{block_end, AreReadable, HoldsArguments, GoesOn, gives}
 use Rattle.pi_stands.specs.Stands.{World, tables_in, steps_of, block_at, entries_of, now_here, HasNumber, IsCodeOf, KindIs, apply_kind, StackStands, Stands, StandsGoing, GoingIs}
 use Rattle.pi_stands.specs.Evaluates.{with_blocks, operand_trees, EvaluatesAll}
@@ -46,7 +46,7 @@ use Rattle.pi_stands.proofs.CallLemmas.{apply-of, evaluated-all-state}
 use Rattle.pi_stands.proofs.RulesTried.{IsFound}
 use Rattle.pi_stands.proofs.CallsTried.{below-ends, below-moves}
 use Rattle.pi_meaning.proofs.FoundLemmas.{found-by-number}
-use Rattle.pi_machine.proofs.CallFound.{apply-comes-to}
+use Rattle.pi_meaning.proofs.CallFound.{apply-comes-to}
 use Rattle.pi_stands.proofs.CallMade.{front-more, arguments-added, arguments-long, all-left, stack-below, level-below, Made}
 use Rattle.pi_stands.proofs.CallRuns.{Numbered, numbered, arguments-of, args-count, all-count, stands-called}
 

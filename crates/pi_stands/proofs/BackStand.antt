@@ -10,8 +10,8 @@ use Rattle.pi_arenas.specs.declared.blocks.BlocksMark.{BlocksMark}
 use Rattle.pi_arenas.specs.Blocks.{IsKept, brought_back}
 use Rattle.pi_arenas.specs.Arenas.{ArenasView, entry_at, newest, slots_kept_by, frames_kept_by, noted_by, Drops, ComesBack, ReturnsToNewest, DropsNewest}
 use Rattle.pi_arenas.specs.declared.arenas.Entry.{Entry}
-use Rattle.pi_machine.specs.Configuration.{Entry as EntryData}
-use Rattle.pi_machine.specs.Shape.{open_level}
+use Rattle.pi_meaning.specs.Configuration.{Entry as EntryData}
+use Rattle.pi_meaning.specs.Shape.{open_level}
 use Rattle.pi_stands.specs.Stands.{tables_in, World, IsCodeOf, entries_of, entry_ends, level_ends, now_here, back_here, Agrees, KindIs, EntryIs, StackIs, no_entries, entry_above, StackStands}
 use Rattle.pi_stands.specs.Fails.{IsBack}
 use Rattle.pi_terms.proofs.ListLemmas.{take-take}

@@ -8,7 +8,7 @@ use Rattle.pi_code.specs.declared.code.Predicate.{Predicate}
 use Rattle.pi_code.specs.declared.code.Rule.{Rule}
 use Rattle.pi_code.specs.Code.{Tables}
 use Rattle.pi_arenas.specs.declared.arenas.Entry.{Entry}
-use Rattle.pi_machine.specs.Configuration.{Frame}
+use Rattle.pi_meaning.specs.Configuration.{Frame}
 use Rattle.pi_stands.specs.Here.{Block, Here, ends_base, GoesOn, answers, gives, returns_to_end, more_of_block, returns_to}
 use Rattle.pi_stands.specs.Stands.{Loaded, steps_of, ends_of, entry_ends, shape_of, rule_shape}
 

@@ -20,9 +20,9 @@ use Rattle.pi_arenas.specs.declared.run.Now.{Now}
 use Rattle.pi_code.specs.Code.{Tables, tables_of, step_cell, node_kind, StandsAt, child_place}
 use Rattle.pi_arenas.specs.Arenas.{ArenasView, entry_at, newest, slots_kept_by, with_kind, new_entry, pushed, DropsNewest}
 use Rattle.pi_arenas.specs.declared.arenas.Entry.{Entry}
-use Rattle.pi_machine.specs.Configuration.{Frame, behind, Entry as EntryData, choice, branches_left, config, Back as BackData}
-use Rattle.pi_machine.specs.Step.{branch, goal_step, run_goal, back_to}
-use Rattle.pi_machine.specs.Shape.{open_level}
+use Rattle.pi_meaning.specs.Configuration.{Frame, behind, Entry as EntryData, choice, branches_left, config, Back as BackData}
+use Rattle.pi_meaning.specs.Step.{branch, goal_step, run_goal, back_to}
+use Rattle.pi_meaning.specs.Shape.{open_level}
 use Rattle.pi_stands.specs.Here.{Block, IsStepOf, EachLast, SayLast, IsHere, last_here, AreBranches, Holds, LeftBehind}
 use Rattle.pi_stands.specs.Stands.{World, tables_in, steps_of, entries_of, now_here, back_here, Agrees, StandsBehind, KindIs, branches_kind, EntryIs, StackIs, StackStands, Stands, StandsGoing, going_now, failing_now, GoingIs}
 use Rattle.pi_stands.specs.Makes.{StandsAfter}

@@ -26,10 +26,10 @@ use Rattle.pi_arenas.specs.declared.run.Now.{Now}
 use Rattle.pi_arenas.specs.Blocks.{BlocksView, KeepsBlocks}
 use Rattle.pi_arenas.specs.Arenas.{ArenasView}
 use Rattle.pi_arenas.specs.Frames.{point_behind, slot_number}
-use Rattle.pi_machine.specs.declared.happening.Mode.{Mode}
-use Rattle.pi_machine.specs.Configuration.{Frame, going, telling, failed, raising, Entry as EntryData}
-use Rattle.pi_machine.specs.Step.{done_now, written_now, goal_step}
-use Rattle.pi_machine.proofs.CallFound.{effect-comes-to, value-comes-to}
+use Rattle.pi_meaning.specs.declared.happening.Mode.{Mode}
+use Rattle.pi_meaning.specs.Configuration.{Frame, going, telling, failed, raising, Entry as EntryData}
+use Rattle.pi_meaning.specs.Step.{done_now, written_now, goal_step}
+use Rattle.pi_meaning.proofs.CallFound.{effect-comes-to, value-comes-to}
 use Rattle.pi_stands.specs.Here.{Block}
 use Rattle.pi_stands.specs.Stands.{World, tables_in, steps_of, StandsGoing, GoingIs, NowIs, going_now, telling_now, failing_now, raising_now}
 use Rattle.pi_stands.specs.Evaluates.{with_blocks, Writes, EvaluatesAll}

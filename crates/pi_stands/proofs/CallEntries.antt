@@ -9,7 +9,7 @@ use Rattle.pi_arenas.specs.declared.blocks.BlocksMark.{BlocksMark}
 use Rattle.pi_arenas.specs.Blocks.{IsKept, brought_back}
 use Rattle.pi_arenas.specs.Arenas.{ArenasView, entry_at, newest, slots_kept_by, frames_kept_by, noted_by, with_kind, PushesEntry}
 use Rattle.pi_arenas.specs.declared.arenas.Entry.{Entry}
-use Rattle.pi_machine.specs.Configuration.{Entry as EntryData}
+use Rattle.pi_meaning.specs.Configuration.{Entry as EntryData}
 use Rattle.pi_stands.specs.Stands.{World, entries_of, entry_ends, back_here, KindIs, EntryIs, IsAbove, StackIs, no_entries, entry_above}
 use Rattle.pi_stands.specs.Tries.{renamed, KeepsCall, keeps_new, keeps_own}
 use Rattle.pi_stands.proofs.StandsLemmas.{moved, here_of, Leaves, stack-length, open_level-within, entry_at-take, agrees-moves, stack-moves, above-moves, last-or-below}

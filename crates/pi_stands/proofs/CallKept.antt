@@ -9,7 +9,7 @@ use Rattle.pi_terms.proofs.GetLemmas.{get_append_last}
 use Rattle.pi_arenas.specs.declared.arenas.Kind.{Kind}
 use Rattle.pi_arenas.specs.Arenas.{ArenasView, entry_at, newest, slots_kept_by, with_kind, new_entry, pushed, PushesEntry}
 use Rattle.pi_arenas.specs.declared.arenas.Entry.{Entry}
-use Rattle.pi_machine.specs.Configuration.{Frame, Called, Entry as EntryData}
+use Rattle.pi_meaning.specs.Configuration.{Frame, Called, Entry as EntryData}
 use Rattle.pi_stands.specs.Here.{Here}
 use Rattle.pi_stands.specs.Stands.{World, entries_of, now_here, back_here, agrees_from, CallStands, KindIs, StackIs}
 use Rattle.pi_stands.specs.Tries.{OwnEntry, HasEntry, no_entry, own_entry, CallIs, renamed, KeepsCall, keeps_new, keeps_own}

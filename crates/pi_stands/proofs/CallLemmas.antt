@@ -21,8 +21,8 @@ use Rattle.pi_core.specs.declared.goal_node.GoalKind.{GoalKind}
 use Rattle.pi_states.proofs.KeepsLemmas.{new-keeps}
 use Rattle.pi_states.specs.Value.{value}
 use Rattle.pi_stands.specs.Makes.{raised_for}
-use Rattle.pi_machine.specs.Configuration.{Frame, Entry, Now, going, failed, raising, config}
-use Rattle.pi_machine.specs.Step.{silently, done_now, goal_step}
+use Rattle.pi_meaning.specs.Configuration.{Frame, Entry, Now, going, failed, raising, config}
+use Rattle.pi_meaning.specs.Step.{silently, done_now, goal_step}
 
 pub apply-of : (g : GoalTree) (name : List ℕ) (ts : List Tree) (into : ℕ) → GoalKind.Apply name ts into ≡ kind_of g → g ≡ apply name ts into
 unfolding kind_of

@@ -15,7 +15,7 @@ use Rattle.pi_code.specs.Code.{Tables}
 use Rattle.pi_arenas.specs.Blocks.{BlocksView, KeepsBlocks}
 use Rattle.pi_arenas.specs.Arenas.{ArenasView, entry_at, newest, slots_kept_by}
 use Rattle.pi_arenas.specs.declared.arenas.Entry.{Entry}
-use Rattle.pi_machine.specs.Configuration.{Frame, more, return, give, Called, behind, returning, Entry as EntryData, in_places}
+use Rattle.pi_meaning.specs.Configuration.{Frame, more, return, give, Called, behind, returning, Entry as EntryData, in_places}
 use Rattle.pi_stands.specs.Here.{Block, block_end, Here, Holds, AreHeld, HoldsArguments, AreHere, none_here, value_here, last_here, more_here, valued, GoesOn, answers, gives, returns_to_end, more_of_block, returns_to}
 use Rattle.pi_stands.specs.Stands.{World, tables_in, steps_of, entries_of, now_here, Agrees, agrees_from, StackIs, StackStands}
 use Rattle.pi_stands.specs.Evaluates.{with_blocks}

@@ -24,8 +24,8 @@ use Rattle.pi_arenas.specs.Arenas.{ArenasView}
 use Rattle.pi_arenas.specs.Frames.{PushesBehind}
 use Rattle.pi_code.specs.Laid.{IsNotBuiltIn}
 use Rattle.pi_code.specs.Code.{Tables, preds_of, arguments, node_kind, operand_tree}
-use Rattle.pi_machine.specs.Configuration.{Frame, Called, Config, behind, returning, Entry as EntryData}
-use Rattle.pi_machine.specs.Step.{call_step, try_clauses, goal_step, back_to}
+use Rattle.pi_meaning.specs.Configuration.{Frame, Called, Config, behind, returning, Entry as EntryData}
+use Rattle.pi_meaning.specs.Step.{call_step, try_clauses, goal_step, back_to}
 use Rattle.pi_stands.specs.Here.{Block, SayLast, AreReadable, LeftBehind}
 use Rattle.pi_stands.specs.Stands.{World, tables_in, steps_of, IsNumberOf, HasNumber, IsCodeOf, StackStands, Stands, StandsGoing, GoingIs}
 use Rattle.pi_stands.specs.Evaluates.{with_blocks, operand_trees, EvaluatesAll}
@@ -37,7 +37,7 @@ use Rattle.pi_stands.proofs.EqualStands.{block_of, kind-of-node, stack-moved, go
 use Rattle.pi_stands.proofs.CallLemmas.{call-of, evaluated-all-state}
 use Rattle.pi_stands.proofs.RulesTried.{IsFound}
 use Rattle.pi_meaning.proofs.FoundLemmas.{found-by-number}
-use Rattle.pi_machine.proofs.CallFound.{call-comes-to}
+use Rattle.pi_meaning.proofs.CallFound.{call-comes-to}
 use Rattle.pi_stands.proofs.CallMade.{Room, kept_whole, given_back, cut-back, Caller, Made, call-made}
 use Rattle.pi_stands.proofs.LevelSteps.{kept-within}
 

@@ -13,8 +13,8 @@ use Rattle.pi_code.specs.Code.{Tables}
 use Rattle.pi_arenas.specs.Frames.{frame_at}
 use Rattle.pi_arenas.specs.Arenas.{ArenasView, entry_at}
 use Rattle.pi_arenas.specs.declared.arenas.Entry.{Entry}
-use Rattle.pi_machine.specs.Configuration.{Frame, Called, give, after_body, Entry as EntryData, in_places}
-use Rattle.pi_machine.specs.Shape.{open_level}
+use Rattle.pi_meaning.specs.Configuration.{Frame, Called, give, after_body, Entry as EntryData, in_places}
+use Rattle.pi_meaning.specs.Shape.{open_level}
 use Rattle.pi_stands.specs.Here.{Block, Here, AreHeld, Holds, HoldsArguments, GoesOn, answers, gives, returns_to_end, more_of_block, returns_to, valued}
 use Rattle.pi_stands.specs.Stands.{World, Loaded, tables_in, steps_of, entries_of, now_here, level_ends, entry_ends, Agrees, agrees_from, IsRuleOf, clause_block, CallStands, StackIs, GoingIs}
 use Rattle.pi_stands.specs.Tries.{HasEntry, no_entry, own_entry}

@@ -6,7 +6,7 @@ use Rattle.pi_states.specs.Store.{StoreView, Keeps, Stays, Extend}
 use Rattle.pi_core.specs.CoreTree.{ClauseTree}
 use Rattle.pi_arenas.specs.Arenas.{entry_at}
 use Rattle.pi_arenas.specs.declared.arenas.Entry.{Entry}
-use Rattle.pi_machine.specs.Configuration.{Frame, Called, Entry as EntryData}
+use Rattle.pi_meaning.specs.Configuration.{Frame, Called, Entry as EntryData}
 use Rattle.pi_stands.specs.Stands.{World, tables_in, steps_of, entries_of, now_here, back_here, agrees_from, CallStands, EntryIs, StackIs, entry_above}
 use Rattle.pi_stands.specs.Tries.{OwnEntry, HasEntry, no_entry, own_entry, CallIs}
 use Rattle.pi_stands.proofs.HereLemmas.{Moves, goes_on-moves}

@@ -7,7 +7,7 @@ use Rattle.pi_arenas.specs.declared.run.Now.{Now}
 use Rattle.pi_arenas.specs.Frames.{frame_at}
 use Rattle.pi_arenas.specs.Arenas.{ArenasView, entry_at, newest, slots_kept_by}
 use Rattle.pi_arenas.specs.declared.arenas.Entry.{Entry}
-use Rattle.pi_machine.specs.Configuration.{Frame, Called, config, failed, Entry as EntryData}
+use Rattle.pi_meaning.specs.Configuration.{Frame, Called, config, failed, Entry as EntryData}
 use Rattle.pi_stands.specs.Here.{Here}
 use Rattle.pi_stands.specs.Stands.{World, tables_in, steps_of, entries_of, entry_ends, level_ends, now_here, back_here, agrees_from, CallStands, EntryIs, StackIs, entry_above, Stands, failing_now}
 use Rattle.pi_states.specs.Store.{Extend}

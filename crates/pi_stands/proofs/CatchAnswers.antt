@@ -17,9 +17,9 @@ use Rattle.pi_arenas.specs.declared.arenas.Back.{Back}
 use Rattle.pi_arenas.specs.declared.arenas.Kind.{Kind}
 use Rattle.pi_arenas.specs.Arenas.{ArenasView, entry_at, slots_kept_by, new_entry, pushed, IsLevel, LeavesLevel}
 use Rattle.pi_arenas.specs.declared.arenas.Entry.{Entry}
-use Rattle.pi_machine.specs.Configuration.{Frame, Entry as EntryData, Config, config, going, choice, strict, catch_level, left, Strict, Back as BackData}
-use Rattle.pi_machine.specs.Step.{silently, step, leave, answer_step, newest_open, Open, none_open, strict_open, catch_open, beneath}
-use Rattle.pi_machine.specs.Shape.{open_level, IsBalanced}
+use Rattle.pi_meaning.specs.Configuration.{Frame, Entry as EntryData, Config, config, going, choice, strict, catch_level, left, Strict, Back as BackData}
+use Rattle.pi_meaning.specs.Step.{silently, step, leave, answer_step, newest_open, Open, none_open, strict_open, catch_open, beneath}
+use Rattle.pi_meaning.specs.Shape.{open_level, IsBalanced}
 use Rattle.pi_stands.specs.Here.{Here, Block, in_block, Holds}
 use Rattle.pi_stands.specs.Stands.{tables_in, World, Loaded, steps_of, entries_of, level_ends, back_here, now_here, agrees_from, Agrees, block_at, entry_ends, ends_of, KindIs, once_kind, not_kind, if_kind, guard_kind, apply_kind, collect_kind, count_kind, catch_kind, exit_kind, GoalStands, EntryIs, IsAbove, StackIs, StackStands, Stands, going_now, StandsGoing, GoingIs}
 use Rattle.pi_stands.specs.Makes.{SilentlyTo, already, one_more}
@@ -28,7 +28,7 @@ use Rattle.pi_stands.proofs.ProgramStands.{code-keeps}
 use Rattle.pi_stands.proofs.HereLemmas.{FramesStay, goes_on-moves, holds-extends}
 use Rattle.pi_stands.proofs.FramesStand.{going-of}
 use Rattle.pi_stands.proofs.StandsLemmas.{moved, Leaves, stack-moves, stack-length, open_level-within, entry_at-take, back-stays, entry-facts}
-use Rattle.pi_machine.proofs.StackLemmas.{IsFound, newest-found}
+use Rattle.pi_meaning.proofs.StackLemmas.{IsFound, newest-found}
 use Rattle.pi_stands.proofs.BasesStand.{shape-base, block-above, level-begins}
 use Rattle.pi_stands.proofs.EntriesStand.{with_entry, pushed-leaves, stack-pushed}
 use Rattle.pi_stands.proofs.CallKept.{newest-last}

@@ -17,14 +17,14 @@ use Rattle.pi_code.specs.declared.code.Operand.{Operand}
 use Rattle.pi_arenas.specs.declared.run.Now.{Now}
 use Rattle.pi_code.specs.Code.{node_kind, operand_tree}
 use Rattle.pi_arenas.specs.Arenas.{ArenasView}
-use Rattle.pi_machine.specs.Configuration.{Frame, behind, catch_level, Entry as EntryData}
-use Rattle.pi_machine.specs.Step.{goal_step, inside, back_to}
-use Rattle.pi_machine.specs.Shape.{open_level}
+use Rattle.pi_meaning.specs.Configuration.{Frame, behind, catch_level, Entry as EntryData}
+use Rattle.pi_meaning.specs.Step.{goal_step, inside, back_to}
+use Rattle.pi_meaning.specs.Shape.{open_level}
 use Rattle.pi_stands.specs.Here.{SayLast, IsReadable}
 use Rattle.pi_stands.specs.Stands.{tables_in, World, steps_of, Stands, catch_kind, StandsGoing, GoingIs, going_now}
 use Rattle.pi_stands.specs.Makes.{StandsAfter, EntersCatch}
 use Rattle.pi_stands.specs.Evaluates.{Evaluates}
-use Rattle.pi_machine.proofs.EvaluationLemmas.{evaluated-again}
+use Rattle.pi_meaning.proofs.EvaluationLemmas.{evaluated-again}
 use Rattle.pi_stands.proofs.FramesStand.{with_new_frames, going-of}
 use Rattle.pi_stands.proofs.LevelStands.{entered_level}
 use Rattle.pi_stands.proofs.LevelSteps.{Pushed, enter}

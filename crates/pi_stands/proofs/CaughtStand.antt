@@ -24,8 +24,8 @@ use Rattle.pi_code.specs.declared.code.Step.{Step}
 use Rattle.pi_arenas.specs.declared.run.Now.{Now}
 use Rattle.pi_code.specs.Code.{Tables, tables_of, node_kind, operand_tree, StandsAt, child_place}
 use Rattle.pi_arenas.specs.Arenas.{ArenasView, DropsNewest}
-use Rattle.pi_machine.specs.Configuration.{Frame, Entry as EntryData, config, raising}
-use Rattle.pi_machine.specs.Step.{raise_step, handler_step, run_goal}
+use Rattle.pi_meaning.specs.Configuration.{Frame, Entry as EntryData, config, raising}
+use Rattle.pi_meaning.specs.Step.{raise_step, handler_step, run_goal}
 use Rattle.pi_stands.specs.Here.{Block, SayLast, Holds}
 use Rattle.pi_stands.specs.Stands.{World, tables_in, steps_of, now_here, block_at, Agrees, GoalStands, KindIs, rules_kind, facts_kind, branches_kind, once_kind, not_kind, if_kind, guard_kind, apply_kind, collect_kind, count_kind, catch_kind, exit_kind, StackStands, Stands, NowIs, going_now, raising_now, GoingIs}
 use Rattle.pi_stands.specs.Evaluates.{Writes, Evaluates}

@@ -25,16 +25,16 @@ use Rattle.pi_arenas.specs.declared.run.Now.{Now}
 use Rattle.pi_code.specs.Code.{Tables, node_kind}
 use Rattle.pi_arenas.specs.Arenas.{ArenasView, with_kind, with_collected}
 use Rattle.pi_arenas.specs.declared.arenas.Entry.{Entry}
-use Rattle.pi_machine.specs.Configuration.{Frame, Entry as EntryData, Config, config, going, failed, raising, Strict, strict, list_level, Back as BackData}
-use Rattle.pi_machine.specs.Step.{strict_step}
-use Rattle.pi_machine.specs.Shape.{IsBalanced}
+use Rattle.pi_meaning.specs.Configuration.{Frame, Entry as EntryData, Config, config, going, failed, raising, Strict, strict, list_level, Back as BackData}
+use Rattle.pi_meaning.specs.Step.{strict_step}
+use Rattle.pi_meaning.specs.Shape.{IsBalanced}
 use Rattle.pi_stands.specs.Here.{Here, Block, Holds, NodeIsReadable}
 use Rattle.pi_stands.specs.Stands.{World, Loaded, tables_in, steps_of, entries_of, back_here, block_at, values_between, GoalStands, KindIs, once_kind, not_kind, if_kind, guard_kind, apply_kind, collect_kind, count_kind, StackStands, Stands, StandsGoing, failing_now, raising_now}
 use Rattle.pi_arenas.specs.Frames.{slot_number}
 use Rattle.pi_stands.specs.Evaluates.{Evaluates}
 use Rattle.pi_stands.specs.Makes.{SilentlyTo}
 use Rattle.pi_stands.proofs.NodeLemmas.{kind-here}
-use Rattle.pi_machine.proofs.StackLemmas.{IsClosed}
+use Rattle.pi_meaning.proofs.StackLemmas.{IsClosed}
 use Rattle.pi_terms.proofs.OptionLemmas.{same-some, not-less}
 use Rattle.pi_stands.proofs.StandsLemmas.{moved}
 use Rattle.pi_stands.proofs.EqualStands.{stack-moved}

@@ -8,7 +8,7 @@ use Rattle.pi_arenas.specs.declared.arenas.Back.{Back}
 use Rattle.pi_arenas.specs.declared.arenas.Kind.{Kind}
 use Rattle.pi_arenas.specs.declared.run.Now.{Now}
 use Rattle.pi_arenas.specs.Arenas.{ArenasView, entry_at, ReturnsToNewest}
-use Rattle.pi_machine.specs.Configuration.{Entry as EntryData, Config}
+use Rattle.pi_meaning.specs.Configuration.{Entry as EntryData, Config}
 use Rattle.pi_stands.specs.Here.{Here}
 use Rattle.pi_stands.specs.Stands.{Loaded, World, entries_of, back_here, KindIs, rules_kind, facts_kind, branches_kind, once_kind, not_kind, if_kind, guard_kind, apply_kind, collect_kind, count_kind, catch_kind, exit_kind, StackIs, no_entries, entry_above, StackStands, Stands}
 use Rattle.pi_stands.specs.ComesBack.{IsMadeIn, KeepsOneMark, EntriesKeepOneMark, ReturnsToTheMaking}

@@ -18,8 +18,8 @@ use Rattle.pi_arenas.specs.declared.run.Now.{Now}
 use Rattle.pi_arenas.specs.Blocks.{BlocksView, KeepsBlocks}
 use Rattle.pi_code.specs.Code.{Tables, node_kind}
 use Rattle.pi_arenas.specs.Arenas.{ArenasView, DropsNewest}
-use Rattle.pi_machine.specs.Configuration.{Frame, Entry as EntryData, Strict, strict, number_level, Back as BackData, config, going}
-use Rattle.pi_machine.specs.Step.{end_step}
+use Rattle.pi_meaning.specs.Configuration.{Frame, Entry as EntryData, Strict, strict, number_level, Back as BackData, config, going}
+use Rattle.pi_meaning.specs.Step.{end_step}
 use Rattle.pi_stands.specs.Here.{NodeIsReadable}
 use Rattle.pi_stands.specs.Stands.{World, tables_in, steps_of, now_here, block_at, GoalStands, KindIs, once_kind, not_kind, if_kind, guard_kind, apply_kind, collect_kind, count_kind, Stands}
 use Rattle.pi_arenas.specs.Frames.{slot_number}

@@ -14,13 +14,13 @@ use Rattle.pi_arenas.specs.declared.frames.Point.{Point}
 use Rattle.pi_arenas.specs.declared.run.Now.{Now}
 use Rattle.pi_arenas.specs.Arenas.{ArenasView, with_kind}
 use Rattle.pi_arenas.specs.declared.arenas.Entry.{Entry}
-use Rattle.pi_machine.specs.Configuration.{Frame, Entry as EntryData, Config, config, going, failed, Strict, strict, number_level, Back as BackData}
-use Rattle.pi_machine.specs.Step.{Open, strict_open, newest_open, strict_step}
-use Rattle.pi_machine.specs.Shape.{IsBalanced}
+use Rattle.pi_meaning.specs.Configuration.{Frame, Entry as EntryData, Config, config, going, failed, Strict, strict, number_level, Back as BackData}
+use Rattle.pi_meaning.specs.Step.{Open, strict_open, newest_open, strict_step}
+use Rattle.pi_meaning.specs.Shape.{IsBalanced}
 use Rattle.pi_stands.specs.Here.{Here}
 use Rattle.pi_stands.specs.Stands.{World, Loaded, entries_of, ends_of, back_here, block_at, KindIs, once_kind, not_kind, if_kind, guard_kind, apply_kind, collect_kind, count_kind, StackStands, Stands, StandsGoing, failing_now}
 use Rattle.pi_stands.specs.Makes.{SilentlyTo}
-use Rattle.pi_machine.proofs.StackLemmas.{IsFound, IsClosed, newest-found}
+use Rattle.pi_meaning.proofs.StackLemmas.{IsFound, IsClosed, newest-found}
 use Rattle.pi_stands.proofs.StandsLemmas.{moved, stack-length}
 use Rattle.pi_stands.proofs.OnceStand.{Found, level-answers}
 use Rattle.pi_stands.proofs.AltersStand.{altered, after_altering, altered-stands}

@@ -14,8 +14,8 @@ use Rattle.pi_code.specs.declared.code.Step.{Step}
 use Rattle.pi_arenas.specs.declared.run.Now.{Now}
 use Rattle.pi_code.specs.Code.{Tables, tables_of, StandsAt, child_place}
 use Rattle.pi_arenas.specs.Arenas.{ArenasView, DropsNewest}
-use Rattle.pi_machine.specs.Configuration.{Frame, Entry as EntryData, Strict, strict, Back as BackData}
-use Rattle.pi_machine.specs.Step.{end_step, fail_step}
+use Rattle.pi_meaning.specs.Configuration.{Frame, Entry as EntryData, Strict, strict, Back as BackData}
+use Rattle.pi_meaning.specs.Step.{end_step, fail_step}
 use Rattle.pi_stands.specs.Here.{Block, Here, SayLast, IsHere, none_here, last_here}
 use Rattle.pi_stands.specs.Stands.{World, Loaded, tables_in, steps_of, now_here, block_at, Agrees, GoalStands, KindIs, rules_kind, facts_kind, branches_kind, once_kind, not_kind, if_kind, guard_kind, apply_kind, collect_kind, count_kind, catch_kind, exit_kind, Stands, going_now, failing_now, GoingIs}
 use Rattle.pi_stands.specs.Makes.{IsPassed}

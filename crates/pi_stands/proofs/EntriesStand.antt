@@ -9,7 +9,7 @@ use Rattle.pi_arenas.specs.declared.arenas.Kind.{Kind}
 use Rattle.pi_arenas.specs.Blocks.{brought_back, slots_before}
 use Rattle.pi_arenas.specs.Arenas.{ArenasView, entry_at, slots_kept_by, new_entry, pushed}
 use Rattle.pi_arenas.specs.declared.arenas.Entry.{Entry}
-use Rattle.pi_machine.specs.Configuration.{Entry as EntryData}
+use Rattle.pi_meaning.specs.Configuration.{Entry as EntryData}
 use Rattle.pi_stands.specs.Here.{Here}
 use Rattle.pi_stands.specs.Stands.{World, entries_of, entry_ends, level_ends, back_here, now_here, Agrees, agrees_from, KindIs, IsAbove, StackIs, entry_above, StackStands}
 use Rattle.pi_terms.proofs.ListLemmas.{take-take}

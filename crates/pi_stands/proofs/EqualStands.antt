@@ -22,8 +22,8 @@ use Rattle.pi_arenas.specs.declared.run.Now.{Now}
 use Rattle.pi_code.specs.Code.{node_kind, operand_tree}
 use Rattle.pi_arenas.specs.Frames.{point_behind, slot_number}
 use Rattle.pi_arenas.specs.Arenas.{ArenasView}
-use Rattle.pi_machine.specs.Configuration.{Frame, config, raising, Entry as EntryData}
-use Rattle.pi_machine.specs.Step.{goal_step}
+use Rattle.pi_meaning.specs.Configuration.{Frame, config, raising, Entry as EntryData}
+use Rattle.pi_meaning.specs.Step.{goal_step}
 use Rattle.pi_stands.specs.Here.{Block, Holds, IsStepOf, NodeIsReadable, AreHere}
 use Rattle.pi_stands.specs.Stands.{tables_in, World, steps_of, StackStands, Stands, StandsGoing, GoingIs, NowIs, going_now, failing_now, raising_now}
 use Rattle.pi_stands.specs.Makes.{StandsAfter, raised_for}

@@ -19,9 +19,9 @@ use Rattle.pi_arenas.specs.declared.run.Now.{Now}
 use Rattle.pi_arenas.specs.Arenas.{ArenasView, entry_at, newest, slots_kept_by, DropsNewest}
 use Rattle.pi_code.specs.Code.{preds_of}
 use Rattle.pi_code.specs.declared.code.Predicate.{Predicate}
-use Rattle.pi_machine.specs.Configuration.{Frame, Called, Config, config, going, failed, choice, facts_left, Back, Entry as EntryData}
-use Rattle.pi_machine.specs.Step.{with_fact, from_unifying, later_facts, fact_tried, try_facts, try_rules, try_clauses, back_to}
-use Rattle.pi_machine.specs.Shape.{open_level}
+use Rattle.pi_meaning.specs.Configuration.{Frame, Called, Config, config, going, failed, choice, facts_left, Back, Entry as EntryData}
+use Rattle.pi_meaning.specs.Step.{with_fact, from_unifying, later_facts, fact_tried, try_facts, try_rules, try_clauses, back_to}
+use Rattle.pi_meaning.specs.Shape.{open_level}
 use Rattle.pi_facts.specs.Trying.{IsFirst, IsNext}
 use Rattle.pi_stands.specs.Here.{Block, Here, Holds, AreHere, none_here, AreHeld, GoesOn}
 use Rattle.pi_stands.specs.Stands.{World, tables_in, steps_of, entries_of, now_here, Agrees, CallStands, KindIs, facts_kind, StackIs, StackStands, GoingIs, NowIs, going_now, failing_now, Stands}

@@ -8,8 +8,8 @@ use Rattle.pi_arenas.specs.declared.arenas.Kind.{Kind}
 use Rattle.pi_arenas.specs.declared.arenas.Strict.{Strict as StrictKind}
 use Rattle.pi_arenas.specs.declared.run.End.{End as RunEnd}
 use Rattle.pi_arenas.specs.declared.run.Now.{Now}
-use Rattle.pi_machine.specs.Configuration.{Entry as EntryData, choice, branches_left, Strict, strict, Back as BackData}
-use Rattle.pi_machine.specs.Step.{silently, branch, end_step, fail_step}
+use Rattle.pi_meaning.specs.Configuration.{Entry as EntryData, choice, branches_left, Strict, strict, Back as BackData}
+use Rattle.pi_meaning.specs.Step.{silently, branch, end_step, fail_step}
 use Rattle.pi_stands.specs.Here.{Here}
 use Rattle.pi_stands.specs.Stands.{World, Loaded, now_here, KindIs, rules_kind, facts_kind, branches_kind, once_kind, not_kind, if_kind, guard_kind, apply_kind, collect_kind, count_kind, catch_kind, exit_kind, Stands}
 use Rattle.pi_stands.specs.Fails.{ComesTo, IsBack, GoesOnWithBranch, EndsLevel}

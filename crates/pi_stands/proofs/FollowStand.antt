@@ -16,8 +16,8 @@ use Rattle.pi_code.specs.Code.{Tables}
 use Rattle.pi_arenas.specs.Frames.{frame_at}
 use Rattle.pi_arenas.specs.Arenas.{ArenasView, entry_at, newest, slots_kept_by, frames_kept_by, FollowsFrame}
 use Rattle.pi_arenas.specs.declared.arenas.Entry.{Entry}
-use Rattle.pi_machine.specs.Configuration.{Frame, behind, Entry as EntryData, Config, config, going}
-use Rattle.pi_machine.specs.Step.{step, frame_step}
+use Rattle.pi_meaning.specs.Configuration.{Frame, behind, Entry as EntryData, Config, config, going}
+use Rattle.pi_meaning.specs.Step.{step, frame_step}
 use Rattle.pi_stands.specs.Here.{Block, AreHere, none_here, value_here, Holds, valued, GoesOn, answers, gives, returns_to_end, more_of_block, returns_to}
 use Rattle.pi_stands.specs.Stands.{tables_in, World, steps_of, entries_of, entry_ends, level_ends, now_here, back_here, Agrees, agrees_from, StackIs, StackStands, Stands, GoingIs, NowIs, going_now, StandsGoing}
 use Rattle.pi_states.specs.Store.{Extend}

@@ -11,7 +11,7 @@ use Rattle.pi_arenas.specs.declared.run.Now.{Now}
 use Rattle.pi_arenas.specs.Frames.{PushesBehind, point_behind}
 use Rattle.pi_arenas.specs.Arenas.{ArenasView}
 use Rattle.pi_arenas.specs.declared.arenas.Entry.{Entry}
-use Rattle.pi_machine.specs.Configuration.{Frame, behind, Entry as EntryData, going}
+use Rattle.pi_meaning.specs.Configuration.{Frame, behind, Entry as EntryData, going}
 use Rattle.pi_stands.specs.Here.{Block, Holds, SayLast}
 use Rattle.pi_stands.specs.Stands.{tables_in, World, steps_of, entries_of, now_here, Agrees, agrees_from, StackStands, GoingIs, NowIs, going_now, StandsGoing}
 use Rattle.pi_stands.proofs.PointLemmas.{one-or-more, here-size, first-of, GoalAtPoint, frame-behind}

@@ -14,18 +14,18 @@ use Rattle.pi_arenas.specs.declared.frames.Point.{Point}
 use Rattle.pi_code.specs.declared.code.Node.{Node}
 use Rattle.pi_code.specs.declared.code.Step.{Step}
 use Rattle.pi_code.specs.declared.code.Operand.{Operand}
-use Rattle.pi_machine.specs.declared.happening.Budget.{Budget}
-use Rattle.pi_machine.specs.declared.happening.Mode.{Mode}
+use Rattle.pi_meaning.specs.declared.happening.Budget.{Budget}
+use Rattle.pi_meaning.specs.declared.happening.Mode.{Mode}
 use Rattle.pi_arenas.specs.declared.run.End.{End as RunEnd}
 use Rattle.pi_arenas.specs.declared.run.Now.{Now}
 use Rattle.pi_code.specs.Code.{Tables, node_kind}
 use Rattle.pi_arenas.specs.Frames.{point_behind}
-use Rattle.pi_machine.specs.Configuration.{Frame, Config, config, going, Now as NowData, Entry as EntryData}
-use Rattle.pi_machine.specs.Step.{Outcome, silently, with_tick, quietly, call_step, goal_step, step, deeper}
-use Rattle.pi_machine.specs.Shape.{IsGood}
-use Rattle.pi_machine.specs.Built.{AreOfRules}
-use Rattle.pi_machine.specs.Leads.{Leads}
-use Rattle.pi_machine.specs.Next.{some_ticks}
+use Rattle.pi_meaning.specs.Configuration.{Frame, Config, config, going, Now as NowData, Entry as EntryData}
+use Rattle.pi_meaning.specs.Step.{Outcome, silently, with_tick, quietly, call_step, goal_step, step, deeper}
+use Rattle.pi_meaning.specs.Shape.{IsGood}
+use Rattle.pi_meaning.specs.Built.{AreOfRules}
+use Rattle.pi_meaning.specs.Leads.{Leads}
+use Rattle.pi_meaning.specs.Next.{some_ticks}
 use Rattle.pi_stands.specs.Here.{Block, AreHere, none_here, value_here}
 use Rattle.pi_stands.specs.Stands.{IsNumberOf, HasNumber, IsCodeOf, tables_in, World, steps_of, NowIs, going_now, telling_now, failing_now, raising_now, StackStands, Stands, StandsGoing, GoingIs}
 use Rattle.pi_stands.specs.Makes.{StandsAfter, RunsGoal, RunsGoalIn}
@@ -33,13 +33,13 @@ use Rattle.pi_stands.specs.Goes.{counted, spent, TicksUnless, HasNone, IsAt, Goe
 use Rattle.pi_stands.proofs.FramesStand.{going-of, going-size}
 use Rattle.pi_stands.proofs.EqualStands.{kind-of-node, going-behind, node-readable}
 use Rattle.pi_code.specs.declared.code.Predicate.{Predicate}
-use Rattle.pi_machine.specs.StepLaws.{GoesOnGood}
+use Rattle.pi_meaning.specs.StepLaws.{GoesOnGood}
 use Rattle.pi_stands.proofs.RulesTried.{IsFound}
 use Rattle.pi_stands.proofs.CallRuns.{Calls, calls, call-form}
 use Rattle.pi_stands.proofs.SilentSteps.{silent-step}
 use Rattle.pi_stands.proofs.ApplyRuns.{Applies, applies, apply-form}
-use Rattle.pi_machine.proofs.LeadLemmas.{leads-none, leads-silent, step-silent, step-ticks, step-enters, step-at_tick, good-silent, good-tick, step-deepens, good-deeper}
-use Rattle.pi_machine.proofs.GoodSteps.{step-good}
+use Rattle.pi_meaning.proofs.LeadLemmas.{leads-none, leads-silent, step-silent, step-ticks, step-enters, step-at_tick, good-silent, good-tick, step-deepens, good-deeper}
+use Rattle.pi_meaning.proofs.GoodSteps.{step-good}
 
 -- ---- where a run is
 

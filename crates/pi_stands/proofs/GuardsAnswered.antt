@@ -11,8 +11,8 @@ use Rattle.pi_arenas.specs.declared.arenas.Back.{Back}
 use Rattle.pi_code.specs.declared.code.Rule.{Rule}
 use Rattle.pi_arenas.specs.Arenas.{ArenasView, entry_at, newest}
 use Rattle.pi_arenas.specs.declared.arenas.Entry.{Entry}
-use Rattle.pi_machine.specs.Configuration.{Frame, Called, strict, guard_level, Entry as EntryData}
-use Rattle.pi_machine.specs.Step.{back_to}
+use Rattle.pi_meaning.specs.Configuration.{Frame, Called, strict, guard_level, Entry as EntryData}
+use Rattle.pi_meaning.specs.Step.{back_to}
 use Rattle.pi_stands.specs.Here.{Here}
 use Rattle.pi_stands.specs.Stands.{World, Loaded, tables_in, entries_of, now_here, back_here, agrees_from, Agrees, IsCodeOf, IsPredicateOf, IsRuleOf, rule_block, clause_block, CallStands, KindIs, guard_kind, EntryIs, StackIs, entry_above}
 use Rattle.pi_states.specs.Store.{Extend}

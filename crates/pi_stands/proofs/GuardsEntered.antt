@@ -16,9 +16,9 @@ use Rattle.pi_arenas.specs.declared.run.Now.{Now}
 use Rattle.pi_code.specs.Code.{Tables}
 use Rattle.pi_arenas.specs.Arenas.{ArenasView, newest, opened}
 use Rattle.pi_arenas.specs.declared.arenas.Entry.{Entry}
-use Rattle.pi_machine.specs.Configuration.{Frame, Called, strict, guard_level, Back as BackData, going, Entry as EntryData}
-use Rattle.pi_machine.specs.Step.{back_to, guarding, inside}
-use Rattle.pi_machine.specs.Shape.{open_level}
+use Rattle.pi_meaning.specs.Configuration.{Frame, Called, strict, guard_level, Back as BackData, going, Entry as EntryData}
+use Rattle.pi_meaning.specs.Step.{back_to, guarding, inside}
+use Rattle.pi_meaning.specs.Shape.{open_level}
 use Rattle.pi_stands.specs.Here.{Block, IsHere, last_here, answers, in_block, Holds}
 use Rattle.pi_stands.specs.Stands.{World, Loaded, tables_in, steps_of, entries_of, now_here, level_ends, entry_ends, ends_of, rule_block, rule_shape, clause_block, agrees_from, IsGuardHere, IsPredicateOf, guard_kind, StackIs, Stands, NowIs, going_now}
 use Rattle.pi_stands.specs.Tries.{CallIs, KeepsCall, Applies}

@@ -13,8 +13,8 @@ use Rattle.pi_arenas.specs.Blocks.{BlocksView, brought_back}
 use Rattle.pi_arenas.specs.Frames.{frame_at}
 use Rattle.pi_arenas.specs.Arenas.{ArenasView, entry_at, newest, slots_kept_by}
 use Rattle.pi_arenas.specs.declared.arenas.Entry.{Entry}
-use Rattle.pi_machine.specs.Configuration.{Frame, Called, strict, guard_level, Entry as EntryData}
-use Rattle.pi_machine.specs.Step.{back_to}
+use Rattle.pi_meaning.specs.Configuration.{Frame, Called, strict, guard_level, Entry as EntryData}
+use Rattle.pi_meaning.specs.Step.{back_to}
 use Rattle.pi_stands.specs.Here.{Holds}
 use Rattle.pi_stands.specs.Stands.{World, tables_in, steps_of, entries_of, now_here, back_here, level_ends, Agrees, IsCodeOf, rule_block, clause_block}
 use Rattle.pi_states.specs.Store.{Extend}

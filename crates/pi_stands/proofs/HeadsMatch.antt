@@ -29,7 +29,7 @@ use Rattle.pi_unify.proofs.SlotLemmas.{int_told}
 use Rattle.pi_code.specs.declared.code.HeadTest.{HeadTest}
 use Rattle.pi_arenas.specs.Blocks.{BlocksView, KeepsBlocks}
 use Rattle.pi_stands.specs.Here.{Block, block_end, AreHeld, Holds, HoldsArguments}
-use Rattle.pi_machine.specs.Configuration.{in_places}
+use Rattle.pi_meaning.specs.Configuration.{in_places}
 use Rattle.pi_code.specs.LaidRules.{IsTestOf}
 use Rattle.pi_stands.specs.Stands.{AreTestsOf, NoneIsDeep}
 use Rattle.pi_arenas.specs.Frames.{slot_number}

@@ -17,7 +17,7 @@ use Rattle.pi_code.specs.declared.code.Predicate.{Predicate}
 use Rattle.pi_code.specs.declared.code.Code.{Code}
 use Rattle.pi_code.specs.Code.{preds_of}
 use Rattle.pi_arenas.specs.Blocks.{BlocksView, KeepsBlocks}
-use Rattle.pi_machine.specs.Configuration.{Frame, Called, Entry as EntryData}
+use Rattle.pi_meaning.specs.Configuration.{Frame, Called, Entry as EntryData}
 use Rattle.pi_stands.specs.Evaluates.{with_blocks}
 use Rattle.pi_stands.specs.Here.{Block, block_end, AreHeld, HoldsArguments}
 use Rattle.pi_stands.specs.Stands.{World, AreTestsOf, NoneIsDeep, IsRuleOf, tables_in, clause_block}

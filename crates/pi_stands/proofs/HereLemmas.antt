@@ -9,7 +9,7 @@ use Rattle.pi_arenas.specs.declared.frames.Point.{Point}
 use Rattle.pi_code.specs.declared.code.Step.{Step}
 use Rattle.pi_code.specs.Code.{Tables}
 use Rattle.pi_arenas.specs.Frames.{frame_at}
-use Rattle.pi_machine.specs.Configuration.{Frame}
+use Rattle.pi_meaning.specs.Configuration.{Frame}
 use Rattle.pi_stands.specs.Here.{Block, block_end, AreHeld, Holds, Here, GoesOn, answers, gives, returns_to_end, more_of_block, returns_to}
 
 -- ---- slots

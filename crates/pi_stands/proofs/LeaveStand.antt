@@ -7,7 +7,7 @@ use Rattle.pi_states.specs.Store.{StoreView, Extend}
 use Rattle.pi_arenas.specs.Frames.{frame_at}
 use Rattle.pi_arenas.specs.Arenas.{ArenasView, entry_at, newest, slots_kept_by, frames_kept_by, noted_by, Drops}
 use Rattle.pi_arenas.specs.declared.arenas.Entry.{Entry}
-use Rattle.pi_machine.specs.Configuration.{Frame, Entry as EntryData}
+use Rattle.pi_meaning.specs.Configuration.{Frame, Entry as EntryData}
 use Rattle.pi_stands.specs.Here.{Block, block_end, Holds, ends_base, GoesOn}
 use Rattle.pi_stands.specs.Stands.{tables_in, World, Loaded, steps_of, entries_of, IsAbove, entry_ends, level_ends, now_here, back_here, Agrees, agrees_from, EntryIs, StackIs, no_entries, entry_above, StackStands}
 use Rattle.pi_terms.proofs.ListLemmas.{take-take}

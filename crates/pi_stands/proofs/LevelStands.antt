@@ -16,9 +16,9 @@ use Rattle.pi_arenas.specs.declared.run.Now.{Now}
 use Rattle.pi_code.specs.Code.{Tables, step_cell}
 use Rattle.pi_arenas.specs.Arenas.{ArenasView, entry_at, slots_kept_by, new_entry, pushed, opened}
 use Rattle.pi_arenas.specs.declared.arenas.Entry.{Entry}
-use Rattle.pi_machine.specs.Configuration.{Frame, Entry as EntryData, config}
-use Rattle.pi_machine.specs.Step.{run_goal}
-use Rattle.pi_machine.specs.Shape.{open_level}
+use Rattle.pi_meaning.specs.Configuration.{Frame, Entry as EntryData, config}
+use Rattle.pi_meaning.specs.Step.{run_goal}
+use Rattle.pi_meaning.specs.Shape.{open_level}
 use Rattle.pi_stands.specs.Here.{Block, IsStepOf, SayLast, IsHere, last_here, in_block, answers}
 use Rattle.pi_stands.specs.Stands.{tables_in, World, Loaded, steps_of, entries_of, ends_of, level_ends, entry_ends, now_here, Agrees, agrees_from, back_here, KindIs, StackIs, StackStands, Stands, going_now, block_at, shape_of}
 use Rattle.pi_code.proofs.CodeLemmas.{cells-front, cells-below}

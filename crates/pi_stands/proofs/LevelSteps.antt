@@ -18,9 +18,9 @@ use Rattle.pi_code.specs.Code.{Tables, tables_of, node_kind, StandsAt, child_pla
 use Rattle.pi_arenas.specs.Frames.{PushesBehind}
 use Rattle.pi_arenas.specs.Arenas.{entry_at, slots_kept_by}
 use Rattle.pi_arenas.specs.declared.arenas.Entry.{Entry}
-use Rattle.pi_machine.specs.Configuration.{Frame, behind, config, Entry as EntryData, strict, once_level, not_level, if_level, list_level, number_level}
-use Rattle.pi_machine.specs.Step.{goal_step, run_goal, back_to}
-use Rattle.pi_machine.specs.Shape.{open_level}
+use Rattle.pi_meaning.specs.Configuration.{Frame, behind, config, Entry as EntryData, strict, once_level, not_level, if_level, list_level, number_level}
+use Rattle.pi_meaning.specs.Step.{goal_step, run_goal, back_to}
+use Rattle.pi_meaning.specs.Shape.{open_level}
 use Rattle.pi_stands.specs.Here.{Block, SayLast, IsHere, Holds, Here, in_block, GoesOn}
 use Rattle.pi_stands.specs.Stands.{tables_in, World, Loaded, Stands, ends_of, values_between, steps_of, entries_of, now_here, GoalStands, KindIs, once_kind, not_kind, if_kind, collect_kind, count_kind, StackIs, StackStands, StandsGoing, GoingIs, block_at}
 use Rattle.pi_stands.specs.Makes.{StandsAfter, level_kind}

@@ -18,9 +18,9 @@ use Rattle.pi_arenas.specs.declared.frames.Point.{Point}
 use Rattle.pi_arenas.specs.declared.run.Now.{Now}
 use Rattle.pi_arenas.specs.Arenas.{ArenasView, entry_at, IsLevel}
 use Rattle.pi_arenas.specs.declared.arenas.Entry.{Entry}
-use Rattle.pi_machine.specs.Configuration.{Frame, Called, Entry as EntryData, Config, config, going, Strict, strict, guard_level, Back as BackData}
-use Rattle.pi_machine.specs.Step.{back_to, strict_step, taken}
-use Rattle.pi_machine.specs.Shape.{IsBalanced}
+use Rattle.pi_meaning.specs.Configuration.{Frame, Called, Entry as EntryData, Config, config, going, Strict, strict, guard_level, Back as BackData}
+use Rattle.pi_meaning.specs.Step.{back_to, strict_step, taken}
+use Rattle.pi_meaning.specs.Shape.{IsBalanced}
 use Rattle.pi_stands.specs.Here.{Block, with_value, Holds, LeftBehind, GoesOn, answers, gives, returns_to_end, more_of_block, returns_to}
 use Rattle.pi_stands.specs.Stands.{World, tables_in, steps_of, entries_of, ends_of, entry_ends, level_ends, rule_block, back_here, now_here, Agrees, KindIs, once_kind, not_kind, if_kind, guard_kind, apply_kind, collect_kind, count_kind, StackIs, entry_above, StackStands, Stands, StandsGoing, GoingIs}
 use Rattle.pi_stands.specs.Tries.{TakesGuarded}

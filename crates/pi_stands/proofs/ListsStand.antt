@@ -25,8 +25,8 @@ use Rattle.pi_code.specs.declared.code.Step.{Step}
 use Rattle.pi_arenas.specs.declared.run.Now.{Now}
 use Rattle.pi_arenas.specs.Blocks.{BlocksView, KeepsBlocks}
 use Rattle.pi_arenas.specs.Arenas.{ArenasView, DropsNewest, with_collected}
-use Rattle.pi_machine.specs.Configuration.{Frame, Entry as EntryData, Strict, strict, list_level, Back as BackData, config, going}
-use Rattle.pi_machine.specs.Step.{end_step}
+use Rattle.pi_meaning.specs.Configuration.{Frame, Entry as EntryData, Strict, strict, list_level, Back as BackData, config, going}
+use Rattle.pi_meaning.specs.Step.{end_step}
 use Rattle.pi_stands.specs.Here.{NodeIsReadable}
 use Rattle.pi_stands.specs.Stands.{World, tables_in, steps_of, entries_of, now_here, block_at, values_between, StackIs, StackStands, Stands}
 use Rattle.pi_arenas.specs.Frames.{slot_number}

@@ -26,8 +26,8 @@ use Rattle.pi_effects.specs.BuiltIns.{is_function}
 use Rattle.pi_code.specs.Laid.{IsNotBuiltIn}
 use Rattle.pi_code.specs.Code.{Tables, preds_of, arguments, operand_trees, node_kind, operand_tree}
 use Rattle.pi_arenas.specs.Arenas.{ArenasView, DropsNewest}
-use Rattle.pi_machine.specs.Configuration.{Frame, Entry as EntryData, Strict, strict, value_level, Back as BackData, config, raising, in_places}
-use Rattle.pi_machine.specs.Step.{end_step}
+use Rattle.pi_meaning.specs.Configuration.{Frame, Entry as EntryData, Strict, strict, value_level, Back as BackData, config, raising, in_places}
+use Rattle.pi_meaning.specs.Step.{end_step}
 use Rattle.pi_stands.specs.Here.{Block, block_end, Here, AreHeld, HoldsArguments, NodeIsReadable}
 use Rattle.pi_stands.specs.Stands.{World, Loaded, tables_in, steps_of, now_here, block_at, IsCodeOf, HasNumber, GoalStands, KindIs, once_kind, not_kind, if_kind, guard_kind, apply_kind, collect_kind, count_kind, StackStands, Stands, raising_now}
 use Rattle.pi_stands.specs.Makes.{unresolved_for}

@@ -18,8 +18,8 @@ use Rattle.pi_meaning.specs.NamedGoals.{goal_by_name}
 use Rattle.pi_meaning.proofs.NamesApart.{planner-no_predicate, planner-others}
 use Rattle.pi_meaning.proofs.NamedLemmas.{NamedBy, by_catch, by_call, by_name, named-by}
 use Rattle.pi_code.specs.Callables.{place_in, HasPlace}
-use Rattle.pi_machine.specs.Configuration.{Frame, going, raising, in_places}
-use Rattle.pi_machine.specs.Step.{unknown_by, goal_called, named_now, term_now, first_now}
+use Rattle.pi_meaning.specs.Configuration.{Frame, going, raising, in_places}
+use Rattle.pi_meaning.specs.Step.{unknown_by, goal_called, named_now, term_now, first_now}
 use Rattle.pi_stands.specs.Here.{IsHere}
 use Rattle.pi_stands.specs.Stands.{World, tables_in, steps_of, NamedHere, IsCodeOf}
 

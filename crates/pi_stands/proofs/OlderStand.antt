@@ -3,7 +3,7 @@ use Rattle.std.proofs.Common.{◌≡◌, inl, inr, ℕ, ◌≤◌, ◌<◌, List
 use Rattle.std.specs.Prelude.{slice_get}
 use Rattle.pi_arenas.specs.Arenas.{entry_at, slots_kept_by, frames_kept_by, noted_by}
 use Rattle.pi_arenas.specs.declared.arenas.Entry.{Entry}
-use Rattle.pi_machine.specs.Configuration.{Entry as EntryData}
+use Rattle.pi_meaning.specs.Configuration.{Entry as EntryData}
 use Rattle.pi_stands.specs.Stands.{World, entries_of, IsAbove, StackIs, no_entries, entry_above}
 use Rattle.pi_stands.proofs.StandsLemmas.{last-or-below}
 use Rattle.pi_terms.proofs.OptionLemmas.{same-some}

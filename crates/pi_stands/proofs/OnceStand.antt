@@ -19,9 +19,9 @@ use Rattle.pi_code.specs.declared.code.Code.{Code}
 use Rattle.pi_code.specs.Code.{tables_of, StandsAt, child_place}
 use Rattle.pi_arenas.specs.Arenas.{ArenasView, entry_at, LeavesLevel, IsLevel}
 use Rattle.pi_arenas.specs.declared.arenas.Entry.{Entry}
-use Rattle.pi_machine.specs.Configuration.{Frame, Entry as EntryData, Config, config, going, catch_level, Strict, strict, Back as BackData}
-use Rattle.pi_machine.specs.Step.{silently, step, strict_step, answer_step, newest_open, Open, strict_open}
-use Rattle.pi_machine.specs.Shape.{open_level, IsBalanced}
+use Rattle.pi_meaning.specs.Configuration.{Frame, Entry as EntryData, Config, config, going, catch_level, Strict, strict, Back as BackData}
+use Rattle.pi_meaning.specs.Step.{silently, step, strict_step, answer_step, newest_open, Open, strict_open}
+use Rattle.pi_meaning.specs.Shape.{open_level, IsBalanced}
 use Rattle.pi_stands.specs.Here.{Here, Block, in_block, Holds}
 use Rattle.pi_stands.specs.Stands.{World, Loaded, steps_of, entries_of, level_ends, back_here, now_here, agrees_from, Agrees, block_at, entry_ends, ends_of, KindIs, once_kind, not_kind, if_kind, guard_kind, apply_kind, collect_kind, count_kind, catch_kind, GoalStands, EntryIs, StackIs, StackStands, Stands, going_now, failing_now, StandsGoing, GoingIs}
 use Rattle.pi_stands.specs.Makes.{SilentlyTo, already, one_more}

@@ -8,9 +8,9 @@ use Rattle.pi_core.specs.GoalTree.{GoalTree}
 use Rattle.pi_arenas.specs.declared.arenas.Kind.{Kind}
 use Rattle.pi_arenas.specs.Arenas.{entry_at, slots_kept_by}
 use Rattle.pi_arenas.specs.declared.arenas.Entry.{Entry}
-use Rattle.pi_machine.specs.Configuration.{Entry as EntryData, choice, strict, catch_level, left, Choice, Strict, Back}
-use Rattle.pi_machine.specs.Step.{Open, none_open, strict_open, catch_open, beneath, newest_open}
-use Rattle.pi_machine.specs.Shape.{open_level, IsBalanced}
+use Rattle.pi_meaning.specs.Configuration.{Entry as EntryData, choice, strict, catch_level, left, Choice, Strict, Back}
+use Rattle.pi_meaning.specs.Step.{Open, none_open, strict_open, catch_open, beneath, newest_open}
+use Rattle.pi_meaning.specs.Shape.{open_level, IsBalanced}
 use Rattle.pi_stands.specs.Here.{Here, block_end}
 use Rattle.pi_stands.specs.Stands.{World, Loaded, steps_of, entries_of, back_here, KindIs, rules_kind, facts_kind, branches_kind, once_kind, not_kind, if_kind, guard_kind, apply_kind, collect_kind, count_kind, catch_kind, exit_kind, block_at, EntryIs, StackIs, no_entries, entry_above, StackStands}
 use Rattle.pi_arenas.proofs.BlocksLemmas.{length-slots_before, brought_back-is}

@@ -16,7 +16,7 @@ use Rattle.pi_code.specs.declared.code.Part.{Part}
 use Rattle.pi_code.specs.Code.{Tables, term_at, with_part, spelled_parts}
 use Rattle.pi_stands.specs.Here.{Block, IsReadablePart}
 use Rattle.pi_stands.specs.Evaluates.{Filling, after_term, filled_one, filled_by, IsFilledPart, part_on, parts_between, AreReadableParts, AreFilledParts}
-use Rattle.pi_machine.proofs.EvaluationLemmas.{MoreFilled, more-none, more-then, slot-more, evaluated-again}
+use Rattle.pi_meaning.proofs.EvaluationLemmas.{MoreFilled, more-none, more-then, slot-more, evaluated-again}
 
 -- ---- lists
 

@@ -9,7 +9,7 @@ use Rattle.std.proofs.lemmas.Option.{slice_get_within}
 use Rattle.pi_arenas.specs.declared.frames.Point.{Point}
 use Rattle.pi_terms.proofs.GetLemmas.{get_append_left, get_append_last}
 use Rattle.pi_arenas.specs.Frames.{frame_at, point_behind, PushesBehind}
-use Rattle.pi_machine.specs.Configuration.{Frame, behind}
+use Rattle.pi_meaning.specs.Configuration.{Frame, behind}
 use Rattle.pi_stands.specs.Here.{Block, IsHere, AreHere, none_here, last_here, more_here, Here, valued, LeftBehind, GoesOn, answers, gives, returns_to_end, more_of_block, returns_to}
 use Rattle.pi_stands.proofs.HereLemmas.{FramesStay, goes_on-moves}
 use Rattle.pi_code.proofs.CodeLemmas.{size-shown, stands-first}

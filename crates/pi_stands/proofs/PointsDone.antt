@@ -16,28 +16,28 @@ use Rattle.pi_code.specs.declared.code.Step.{Step}
 use Rattle.pi_code.specs.declared.code.Node.{Node}
 use Rattle.pi_code.specs.declared.code.Operand.{Operand}
 use Rattle.pi_code.specs.declared.code.Code.{Code}
-use Rattle.pi_machine.specs.declared.happening.Budget.{Budget}
-use Rattle.pi_machine.specs.declared.happening.Mode.{Mode}
+use Rattle.pi_meaning.specs.declared.happening.Budget.{Budget}
+use Rattle.pi_meaning.specs.declared.happening.Mode.{Mode}
 use Rattle.pi_arenas.specs.declared.run.End.{End as RunEnd}
 use Rattle.pi_arenas.specs.declared.run.Now.{Now}
 use Rattle.pi_code.specs.Code.{Tables}
 use Rattle.pi_arenas.specs.Frames.{frame_at}
-use Rattle.pi_machine.specs.Configuration.{Frame, Config, config, going, failed, raising, Now as NowData, Entry as EntryData}
-use Rattle.pi_machine.specs.Step.{ending, raise_step, step}
-use Rattle.pi_machine.specs.Shape.{IsGood}
-use Rattle.pi_machine.specs.Built.{AreOfRules}
-use Rattle.pi_machine.specs.Leads.{Leads, IsAtEnd}
+use Rattle.pi_meaning.specs.Configuration.{Frame, Config, config, going, failed, raising, Now as NowData, Entry as EntryData}
+use Rattle.pi_meaning.specs.Step.{ending, raise_step, step}
+use Rattle.pi_meaning.specs.Shape.{IsGood}
+use Rattle.pi_meaning.specs.Built.{AreOfRules}
+use Rattle.pi_meaning.specs.Leads.{Leads, IsAtEnd}
 use Rattle.pi_stands.specs.Here.{Block, Here, AreHere, none_here, value_here, last_here, more_here, GoesOn, answers, gives, returns_to_end, more_of_block, returns_to}
 use Rattle.pi_stands.specs.Stands.{tables_in, World, steps_of, NowIs, going_now, StackStands, Stands, StandsGoing, GoingIs}
 use Rattle.pi_stands.specs.Makes.{SilentlyTo, already, one_more, GoesFrom, AnswersOpen}
 use Rattle.pi_stands.specs.Answers.{AreNames, IsTold, AnswersQuery}
-use Rattle.pi_machine.specs.Next.{Tells}
+use Rattle.pi_meaning.specs.Next.{Tells}
 use Rattle.pi_stands.specs.Goes.{IsOther, Goes, IsSpent, TicksOn, AtGoal, IsSilent, PointIsDone}
 use Rattle.pi_code.proofs.CodeLemmas.{stands-within}
 use Rattle.pi_stands.proofs.PointLemmas.{first-of}
 use Rattle.pi_stands.proofs.FramesStand.{going-of}
 use Rattle.pi_stands.proofs.GoalsGo.{is-at, unspent, silent-ticks}
-use Rattle.pi_machine.proofs.LeadLemmas.{leads-none, leads-on, leads-silent, step-silent, step-answers, step-ends, good-silent, good-answer}
+use Rattle.pi_meaning.proofs.LeadLemmas.{leads-none, leads-on, leads-silent, step-silent, step-answers, step-ends, good-silent, good-answer}
 
 -- ---- silent steps in a row
 

@@ -12,9 +12,9 @@ use Rattle.pi_arenas.specs.declared.run.Now.{Now}
 use Rattle.pi_arenas.specs.declared.run.End.{End as RunEnd}
 use Rattle.pi_arenas.specs.Arenas.{ArenasView, entry_at, newest, slots_kept_by, LeavesLevel, with_collected}
 use Rattle.pi_arenas.specs.declared.arenas.Entry.{Entry}
-use Rattle.pi_machine.specs.Configuration.{Entry as EntryData, choice, strict, catch_level, left, Back as BackData, config, raising}
-use Rattle.pi_machine.specs.Step.{silently, raise_step, below_left, Open, none_open, strict_open, newest_open}
-use Rattle.pi_machine.specs.Shape.{open_level, IsBalanced}
+use Rattle.pi_meaning.specs.Configuration.{Entry as EntryData, choice, strict, catch_level, left, Back as BackData, config, raising}
+use Rattle.pi_meaning.specs.Step.{silently, raise_step, below_left, Open, none_open, strict_open, newest_open}
+use Rattle.pi_meaning.specs.Shape.{open_level, IsBalanced}
 use Rattle.pi_stands.specs.Here.{Here}
 use Rattle.pi_stands.specs.Stands.{World, Loaded, entries_of, back_here, KindIs, rules_kind, facts_kind, branches_kind, once_kind, not_kind, if_kind, guard_kind, apply_kind, collect_kind, count_kind, catch_kind, exit_kind, IsAbove, StackIs, no_entries, entry_above, StackStands, raising_now}
 use Rattle.pi_stands.specs.Raises.{IsDropped, collected_below}
@@ -24,7 +24,7 @@ use Rattle.pi_terms.proofs.OptionLemmas.{none-some, one-some, taken-is}
 use Rattle.pi_stands.proofs.StandsLemmas.{moved, Leaves, stack-moves, kind-order}
 use Rattle.pi_stands.proofs.LeaveStand.{above-frames, drops-leave}
 use Rattle.pi_stands.proofs.OpenStand.{OpenAt, nothing_at, strict_at, catch_at, open-at}
-use Rattle.pi_machine.proofs.EndSteps.{IsMatched, left-matched}
+use Rattle.pi_meaning.proofs.EndSteps.{IsMatched, left-matched}
 
 -- ---- entries that are dropped
 

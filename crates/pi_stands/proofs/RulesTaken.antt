@@ -13,9 +13,9 @@ use Rattle.pi_code.specs.declared.code.Rule.{Rule}
 use Rattle.pi_code.specs.declared.code.Predicate.{Predicate}
 use Rattle.pi_arenas.specs.declared.run.Now.{Now}
 use Rattle.pi_arenas.specs.Arenas.{ArenasView, newest, slots_kept_by}
-use Rattle.pi_machine.specs.Configuration.{Frame, Called, rules_left, choice, config, after_body, going, Entry as EntryData}
-use Rattle.pi_machine.specs.Step.{run_goal, back_to, later_rules, taken}
-use Rattle.pi_machine.specs.Shape.{open_level}
+use Rattle.pi_meaning.specs.Configuration.{Frame, Called, rules_left, choice, config, after_body, going, Entry as EntryData}
+use Rattle.pi_meaning.specs.Step.{run_goal, back_to, later_rules, taken}
+use Rattle.pi_meaning.specs.Shape.{open_level}
 use Rattle.pi_stands.specs.Here.{Here}
 use Rattle.pi_stands.specs.Stands.{World, Loaded, tables_in, entries_of, IsCodeOf, IsPredicateOf, IsCall, CallStands, KindIs, rules_kind, StackIs, Stands, NowIs, going_now}
 use Rattle.pi_stands.specs.Tries.{RulesLeft, OwnEntry, HasEntry, no_entry, own_entry, CallIs, KeepsCall, Applies}

@@ -15,8 +15,8 @@ use Rattle.pi_code.specs.declared.code.Predicate.{Predicate}
 use Rattle.pi_arenas.specs.declared.run.Now.{Now}
 use Rattle.pi_code.specs.Code.{Tables}
 use Rattle.pi_arenas.specs.Arenas.{ArenasView}
-use Rattle.pi_machine.specs.Configuration.{Frame, Called, Config, Entry as EntryData}
-use Rattle.pi_machine.specs.Step.{try_rules, tried, guarding, taken, back_to}
+use Rattle.pi_meaning.specs.Configuration.{Frame, Called, Config, Entry as EntryData}
+use Rattle.pi_meaning.specs.Step.{try_rules, tried, guarding, taken, back_to}
 use Rattle.pi_stands.specs.Here.{Block, Holds}
 use Rattle.pi_stands.specs.Stands.{World, now_here, tables_in, IsGuardHere, IsPredicateOf, clause_block, Stands}
 use Rattle.pi_stands.specs.Tries.{CallIs, Applies, KeepsBelow, TellsHead, HasArguments, MatchesHead}

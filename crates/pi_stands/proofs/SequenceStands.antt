@@ -12,8 +12,8 @@ use Rattle.pi_code.specs.declared.code.Node.{Node}
 use Rattle.pi_arenas.specs.declared.run.Now.{Now}
 use Rattle.pi_code.specs.Code.{node_kind}
 use Rattle.pi_arenas.specs.Frames.{PushesBehind}
-use Rattle.pi_machine.specs.Configuration.{Frame, Entry as EntryData}
-use Rattle.pi_machine.specs.Step.{goal_step}
+use Rattle.pi_meaning.specs.Configuration.{Frame, Entry as EntryData}
+use Rattle.pi_meaning.specs.Step.{goal_step}
 use Rattle.pi_stands.specs.Stands.{tables_in, World, steps_of, StandsGoing, GoingIs}
 use Rattle.pi_stands.specs.Makes.{StandsAfter}
 use Rattle.pi_stands.proofs.PointLemmas.{first-of}

@@ -11,9 +11,9 @@ use Rattle.pi_core.specs.GoalCells.{kind_of}
 use Rattle.pi_core.specs.declared.goal_node.GoalKind.{GoalKind}
 use Rattle.pi_code.specs.declared.code.Node.{Node}
 use Rattle.pi_code.specs.Code.{Tables, node_kind, operand_tree, operand_trees}
-use Rattle.pi_machine.specs.Configuration.{Frame, Config, Entry as EntryData}
-use Rattle.pi_machine.specs.Step.{silently, goal_step}
-use Rattle.pi_machine.proofs.CallFound.{effect-comes-to, value-comes-to}
+use Rattle.pi_meaning.specs.Configuration.{Frame, Config, Entry as EntryData}
+use Rattle.pi_meaning.specs.Step.{silently, goal_step}
+use Rattle.pi_meaning.proofs.CallFound.{effect-comes-to, value-comes-to}
 use Rattle.pi_stands.specs.Here.{Block, NodeIsReadable}
 use Rattle.pi_stands.specs.Goes.{IsSilent}
 use Rattle.pi_stands.proofs.CallLemmas.{equal-comes-to, throw-comes-to}

@@ -12,7 +12,7 @@ use Rattle.pi_code.specs.declared.code.Step.{Step}
 use Rattle.pi_arenas.specs.declared.run.Now.{Now}
 use Rattle.pi_arenas.specs.Blocks.{BlocksView, KeepsBlocks}
 use Rattle.pi_arenas.specs.Arenas.{ArenasView}
-use Rattle.pi_machine.specs.Configuration.{Frame, Entry as EntryData, config, going}
+use Rattle.pi_meaning.specs.Configuration.{Frame, Entry as EntryData, config, going}
 use Rattle.pi_stands.specs.Here.{Block, block_end, Holds}
 use Rattle.pi_stands.specs.Stands.{World, now_here, steps_of, block_at, Agrees, GoalStands, StackStands, Stands, NowIs, going_now}
 use Rattle.pi_arenas.specs.Frames.{slot_number}

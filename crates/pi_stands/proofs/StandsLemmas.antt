@@ -10,8 +10,8 @@ use Rattle.pi_arenas.specs.declared.frames.Point.{Point}
 use Rattle.pi_arenas.specs.Blocks.{IsKept, brought_back}
 use Rattle.pi_arenas.specs.Arenas.{ArenasView, entry_at}
 use Rattle.pi_arenas.specs.declared.arenas.Entry.{Entry}
-use Rattle.pi_machine.specs.Configuration.{Entry as EntryData, choice, strict, catch_level, left, list_level}
-use Rattle.pi_machine.specs.Shape.{open_level}
+use Rattle.pi_meaning.specs.Configuration.{Entry as EntryData, choice, strict, catch_level, left, list_level}
+use Rattle.pi_meaning.specs.Shape.{open_level}
 use Rattle.pi_stands.specs.Here.{Here, Ends}
 use Rattle.pi_stands.specs.Stands.{World, entries_of, entry_ends, level_ends, back_here, Agrees, agrees_from, KindIs, rules_kind, facts_kind, branches_kind, once_kind, not_kind, if_kind, guard_kind, apply_kind, collect_kind, count_kind, catch_kind, exit_kind, EntryIs, IsAbove, StackIs, no_entries, entry_above, Loaded}
 use Rattle.pi_stands.proofs.HereLemmas.{part-agrees, take-agrees}

@@ -7,13 +7,13 @@ use Rattle.pi_arenas.specs.declared.frames.Point.{Point}
 use Rattle.pi_arenas.specs.declared.run.End.{End as RunEnd}
 use Rattle.pi_arenas.specs.declared.run.Now.{Now}
 use Rattle.pi_code.specs.declared.code.Step.{Step}
-use Rattle.pi_machine.specs.declared.happening.Budget.{Budget}
-use Rattle.pi_machine.specs.declared.happening.Mode.{Mode}
-use Rattle.pi_machine.specs.Configuration.{Config}
-use Rattle.pi_machine.specs.Next.{some_ticks}
-use Rattle.pi_machine.specs.Shape.{IsGood}
-use Rattle.pi_machine.specs.Step.{step, with_tick}
-use Rattle.pi_machine.proofs.LeadLemmas.{leads-none, step-ticks, good-tick}
+use Rattle.pi_meaning.specs.declared.happening.Budget.{Budget}
+use Rattle.pi_meaning.specs.declared.happening.Mode.{Mode}
+use Rattle.pi_meaning.specs.Configuration.{Config}
+use Rattle.pi_meaning.specs.Next.{some_ticks}
+use Rattle.pi_meaning.specs.Shape.{IsGood}
+use Rattle.pi_meaning.specs.Step.{step, with_tick}
+use Rattle.pi_meaning.proofs.LeadLemmas.{leads-none, step-ticks, good-tick}
 use Rattle.pi_stands.specs.Stands.{World}
 use Rattle.pi_stands.specs.Goes.{TicksUnless, Goes, TicksOn, AtGoal, GoalStops, PointStops}
 use Rattle.pi_stands.proofs.GoalsGo.{none-counted, CallThere, by-goal}

@@ -20,12 +20,12 @@ use Rattle.pi_code.specs.Code.{Tables, node_kind}
 use Rattle.pi_arenas.specs.Blocks.{BlocksView, KeepsBlocks}
 use Rattle.pi_arenas.specs.Arenas.{ArenasView, entry_at}
 use Rattle.pi_arenas.specs.Frames.{PushesBehind}
-use Rattle.pi_machine.specs.Configuration.{Frame, going, raising, Config, config, behind, returning, Now as NowData, Entry as EntryData, in_places}
-use Rattle.pi_machine.specs.Built.{AreOfRules}
-use Rattle.pi_machine.specs.Step.{deeper, first_now, goal_step, step}
-use Rattle.pi_machine.specs.declared.happening.Budget.{Budget}
-use Rattle.pi_machine.specs.declared.happening.Mode.{Mode}
-use Rattle.pi_machine.proofs.CallFound.{term-comes-to}
+use Rattle.pi_meaning.specs.Configuration.{Frame, going, raising, Config, config, behind, returning, Now as NowData, Entry as EntryData, in_places}
+use Rattle.pi_meaning.specs.Built.{AreOfRules}
+use Rattle.pi_meaning.specs.Step.{deeper, first_now, goal_step, step}
+use Rattle.pi_meaning.specs.declared.happening.Budget.{Budget}
+use Rattle.pi_meaning.specs.declared.happening.Mode.{Mode}
+use Rattle.pi_meaning.proofs.CallFound.{term-comes-to}
 use Rattle.pi_stands.specs.Here.{Block, Holds, HoldsArguments, AreHeld, IsHere, last_here, NodeIsReadable, GoesOn}
 use Rattle.pi_stands.specs.Stands.{World, tables_in, steps_of, entries_of, now_here, StackStands, Stands, StandsGoing, GoingIs, going_now, raising_now}
 use Rattle.pi_stands.specs.Evaluates.{with_blocks, operand_trees, Writes}

@@ -20,9 +20,9 @@ use Rattle.pi_arenas.specs.declared.run.Now.{Now}
 use Rattle.pi_arenas.specs.Blocks.{BlocksView, KeepsBlocks}
 use Rattle.pi_arenas.specs.Arenas.{ArenasView, entry_at, LeavesLevel}
 use Rattle.pi_arenas.specs.declared.arenas.Entry.{Entry}
-use Rattle.pi_machine.specs.Configuration.{Frame, Entry as EntryData, Config, config, going, Strict, strict, value_level, Back as BackData}
-use Rattle.pi_machine.specs.Step.{strict_step}
-use Rattle.pi_machine.specs.Shape.{IsBalanced}
+use Rattle.pi_meaning.specs.Configuration.{Frame, Entry as EntryData, Config, config, going, Strict, strict, value_level, Back as BackData}
+use Rattle.pi_meaning.specs.Step.{strict_step}
+use Rattle.pi_meaning.specs.Shape.{IsBalanced}
 use Rattle.pi_stands.specs.Here.{Block, block_end, Holds}
 use Rattle.pi_stands.specs.Stands.{World, entries_of, back_here, now_here, block_at, agrees_from, Agrees, GoalStands, EntryIs, StackIs, StackStands, Stands}
 use Rattle.pi_arenas.specs.Frames.{slot_number}

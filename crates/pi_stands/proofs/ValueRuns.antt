@@ -22,9 +22,9 @@ use Rattle.pi_arenas.specs.declared.run.Now.{Now}
 use Rattle.pi_arenas.specs.Arenas.{ArenasView, entry_at}
 use Rattle.pi_arenas.specs.declared.arenas.Entry.{Entry}
 use Rattle.pi_code.specs.Code.{Tables, tables_of, operand_tree}
-use Rattle.pi_machine.specs.Configuration.{Frame, give, Entry as EntryData, Config, config, going, Now as NowData, Strict, strict, catch_level, Back as BackData}
-use Rattle.pi_machine.specs.Step.{Open, step, silently, frame_step, newest_open}
-use Rattle.pi_machine.specs.Shape.{IsBalanced, open_level}
+use Rattle.pi_meaning.specs.Configuration.{Frame, give, Entry as EntryData, Config, config, going, Now as NowData, Strict, strict, catch_level, Back as BackData}
+use Rattle.pi_meaning.specs.Step.{Open, step, silently, frame_step, newest_open}
+use Rattle.pi_meaning.specs.Shape.{IsBalanced, open_level}
 use Rattle.pi_stands.specs.Here.{Block, Here, with_value, Holds, IsReadable, GoesOn, answers, gives, returns_to_end, more_of_block, returns_to, valued}
 use Rattle.pi_stands.specs.Stands.{World, Loaded, tables_in, steps_of, entries_of, ends_of, entry_ends, level_ends, back_here, now_here, Agrees, KindIs, once_kind, not_kind, if_kind, guard_kind, apply_kind, collect_kind, count_kind, catch_kind, StackStands, NowIs, going_now, GoingIs}
 use Rattle.pi_arenas.specs.Frames.{slot_number}

@@ -8,7 +8,7 @@ use Rattle.pi_arenas.specs.declared.frames.Point.{Point}
 use Rattle.pi_arenas.specs.Blocks.{BlocksView}
 use Rattle.pi_arenas.specs.Arenas.{entry_at}
 use Rattle.pi_arenas.specs.declared.arenas.Entry.{Entry}
-use Rattle.pi_machine.specs.Configuration.{Frame, Entry as EntryData}
+use Rattle.pi_meaning.specs.Configuration.{Frame, Entry as EntryData}
 use Rattle.pi_stands.specs.Here.{Block, ends_base, GoesOn}
 use Rattle.pi_stands.specs.Stands.{tables_in, World, steps_of, entries_of, level_ends, now_here, back_here, Agrees, agrees_from, StackStands, GoingIs}
 use Rattle.pi_stands.specs.Evaluates.{with_blocks, Writes}

@@ -9,7 +9,7 @@ use Rattle.pi_terms.proofs.GetLemmas.{get_some}
 use Rattle.pi_code.specs.declared.code.Step.{Step}
 use Rattle.pi_arenas.specs.Blocks.{BlocksView}
 use Rattle.pi_arenas.specs.Arenas.{ArenasView}
-use Rattle.pi_machine.specs.Configuration.{Frame, Entry as EntryData}
+use Rattle.pi_meaning.specs.Configuration.{Frame, Entry as EntryData}
 use Rattle.pi_stands.specs.Here.{Here, Block, IsStepOf}
 use Rattle.pi_stands.specs.Stands.{World, tables_in, steps_of, now_here, block_at, Agrees, GoalStands, StackStands}
 use Rattle.pi_arenas.specs.Frames.{slot_number}

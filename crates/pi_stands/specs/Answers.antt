@@ -16,13 +16,13 @@ use Rattle.pi_core.specs.declared.answer.Answer.{Answer}
 use Rattle.pi_arenas.specs.declared.frames.Point.{Point}
 use Rattle.pi_arenas.specs.declared.run.Now.{Now}
 use Rattle.pi_arenas.specs.Arenas.{ArenasView}
-use Rattle.pi_machine.specs.Configuration.{Frame, Entry, config, going, failed, raising}
-use Rattle.pi_machine.specs.Step.{silently, answering, step}
+use Rattle.pi_meaning.specs.Configuration.{Frame, Entry, config, going, failed, raising}
+use Rattle.pi_meaning.specs.Step.{silently, answering, step}
 use Rattle.pi_stands.specs.Here.{Block}
 use Rattle.pi_stands.specs.Stands.{World, Stands, StandsGoing}
 use Rattle.pi_stands.specs.Evaluates.{Writes}
 use Rattle.pi_stands.specs.Makes.{SilentlyTo}
-use Rattle.pi_machine.specs.Next.{Tells}
+use Rattle.pi_meaning.specs.Next.{Tells}
 
 -- each name is that of one of so many slots
 unfoldable pub AreNames : ℕ → List NameSlot → Type 0

@@ -7,7 +7,7 @@ use Rattle.pi_arenas.specs.declared.arenas.Back.{Back}
 use Rattle.pi_arenas.specs.declared.arenas.Entry.{Entry}
 use Rattle.pi_arenas.specs.declared.run.Now.{Now}
 use Rattle.pi_arenas.specs.Arenas.{ArenasView, ReturnsToNewest}
-use Rattle.pi_machine.specs.Configuration.{Entry as EntryData, choice, strict, catch_level, left, Config}
+use Rattle.pi_meaning.specs.Configuration.{Entry as EntryData, choice, strict, catch_level, left, Config}
 use Rattle.pi_stands.specs.Stands.{World, entries_of, back_here, KindIs, StackStands, Stands}
 
 -- the machine as data goes on from this state where it comes back to the entry: the one in which it was made. The mark that a

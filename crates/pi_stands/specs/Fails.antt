@@ -7,8 +7,8 @@ use Rattle.pi_arenas.specs.declared.run.End.{End as RunEnd}
 use Rattle.pi_arenas.specs.declared.run.Now.{Now}
 use Rattle.pi_arenas.specs.Arenas.{entry_at, newest, slots_kept_by}
 use Rattle.pi_arenas.specs.declared.arenas.Entry.{Entry}
-use Rattle.pi_machine.specs.Configuration.{Entry as EntryData, choice, branches_left, Strict, strict, Back as BackData}
-use Rattle.pi_machine.specs.Step.{Outcome, silently, with_tick, quietly, deeper, writing, answering, ending, branch, end_step, fail_step}
+use Rattle.pi_meaning.specs.Configuration.{Entry as EntryData, choice, branches_left, Strict, strict, Back as BackData}
+use Rattle.pi_meaning.specs.Step.{Outcome, silently, with_tick, quietly, deeper, writing, answering, ending, branch, end_step, fail_step}
 use Rattle.pi_core.specs.GoalTree.{GoalTrees}
 use Rattle.pi_stands.specs.Stands.{World, tables_in, entries_of, now_here, back_here, IsCodeOf, EntryIs, StackIs, StackStands, Stands}
 use Rattle.pi_states.specs.Store.{Extend}

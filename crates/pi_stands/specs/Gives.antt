@@ -6,7 +6,7 @@ use Rattle.pi_arenas.specs.declared.arenas.Back.{Back}
 use Rattle.pi_code.specs.declared.code.Step.{Step}
 use Rattle.pi_arenas.specs.declared.frames.Point.{Point}
 use Rattle.pi_arenas.specs.declared.run.Now.{Now}
-use Rattle.pi_machine.specs.Configuration.{Config}
+use Rattle.pi_meaning.specs.Configuration.{Config}
 use Rattle.pi_stands.specs.Goes.{AtGoal}
 use Rattle.pi_stands.specs.Makes.{SilentlyTo}
 use Rattle.pi_stands.specs.Stands.{World, Stands}

@@ -4,19 +4,19 @@ use Rattle.pi_meaning.specs.Trace.{Done, Raise, Emitted}
 use Rattle.pi_meaning.specs.View.{View}
 use Rattle.pi_meaning.specs.Run.{Solution}
 use Rattle.pi_core.specs.declared.core_program.NameSlot.{NameSlot}
-use Rattle.pi_machine.specs.declared.happening.Budget.{Budget}
-use Rattle.pi_machine.specs.declared.happening.Mode.{Mode}
+use Rattle.pi_meaning.specs.declared.happening.Budget.{Budget}
+use Rattle.pi_meaning.specs.declared.happening.Mode.{Mode}
 use Rattle.pi_arenas.specs.declared.run.End.{End as RunEnd}
 use Rattle.pi_arenas.specs.declared.run.Now.{Now}
-use Rattle.pi_machine.specs.Budget.{AreStepsUsed, IsWorkUsed, IsInner}
-use Rattle.pi_machine.specs.Configuration.{Config}
-use Rattle.pi_machine.specs.Leads.{Leads, IsAtTick, IsAtEnd}
-use Rattle.pi_machine.specs.Next.{some_ticks}
-use Rattle.pi_machine.specs.Shape.{IsGood}
+use Rattle.pi_meaning.specs.Budget.{AreStepsUsed, IsWorkUsed, IsInner}
+use Rattle.pi_meaning.specs.Configuration.{Config}
+use Rattle.pi_meaning.specs.Leads.{Leads, IsAtTick, IsAtEnd}
+use Rattle.pi_meaning.specs.Next.{some_ticks}
+use Rattle.pi_meaning.specs.Shape.{IsGood}
 use Rattle.pi_code.specs.declared.code.Node.{Node}
 use Rattle.pi_code.specs.declared.code.Step.{Step}
 use Rattle.pi_arenas.specs.declared.frames.Point.{Point}
-use Rattle.pi_machine.specs.Built.{AreOfRules}
+use Rattle.pi_meaning.specs.Built.{AreOfRules}
 use Rattle.pi_stands.specs.Stands.{World, steps_of, Stands}
 use Rattle.pi_stands.specs.Views.{Fits}
 

@@ -17,7 +17,7 @@ use Rattle.pi_code.specs.Laid.{IsEffectOf}
 use Rattle.pi_meaning.specs.Names.{is_call}
 use Rattle.pi_code.specs.Code.{Tables, operand_tree, spelled_parts, StandsAt}
 use Rattle.pi_arenas.specs.Frames.{frame_at}
-use Rattle.pi_machine.specs.Configuration.{Frame, return, give, behind, in_places}
+use Rattle.pi_meaning.specs.Configuration.{Frame, return, give, behind, in_places}
 
 -- ---- slots
 

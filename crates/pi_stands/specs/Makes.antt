@@ -14,10 +14,10 @@ use Rattle.pi_code.specs.declared.code.Node.{Node}
 use Rattle.pi_arenas.specs.declared.arenas.Kind.{Kind}
 use Rattle.pi_arenas.specs.declared.arenas.Strict.{Strict}
 use Rattle.pi_arenas.specs.declared.run.Now.{Now}
-use Rattle.pi_machine.specs.Configuration.{Frame, Entry, Config, config, going, catch_level, behind}
-use Rattle.pi_machine.specs.Step.{Outcome, silently, with_tick, quietly, writing, answering, ending, goal_step, step, inside, back_to, deeper}
-use Rattle.pi_machine.specs.Shape.{IsBalanced}
-use Rattle.pi_machine.specs.declared.happening.Mode.{Mode}
+use Rattle.pi_meaning.specs.Configuration.{Frame, Entry, Config, config, going, catch_level, behind}
+use Rattle.pi_meaning.specs.Step.{Outcome, silently, with_tick, quietly, writing, answering, ending, goal_step, step, inside, back_to, deeper}
+use Rattle.pi_meaning.specs.Shape.{IsBalanced}
+use Rattle.pi_meaning.specs.declared.happening.Mode.{Mode}
 use Rattle.pi_stands.specs.Stands.{World, steps_of, Stands, StandsGoing}
 use Rattle.pi_stands.specs.Views.{Fits}
 

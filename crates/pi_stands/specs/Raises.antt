@@ -15,9 +15,9 @@ use Rattle.pi_code.specs.declared.code.Step.{Step}
 use Rattle.pi_arenas.specs.declared.run.Now.{Now}
 use Rattle.pi_arenas.specs.Arenas.{newest}
 use Rattle.pi_arenas.specs.declared.arenas.Entry.{Entry}
-use Rattle.pi_machine.specs.Configuration.{Frame, Entry as EntryData}
-use Rattle.pi_machine.specs.Step.{raise_step}
-use Rattle.pi_machine.specs.Shape.{IsBalanced}
+use Rattle.pi_meaning.specs.Configuration.{Frame, Entry as EntryData}
+use Rattle.pi_meaning.specs.Step.{raise_step}
+use Rattle.pi_meaning.specs.Shape.{IsBalanced}
 use Rattle.pi_stands.specs.Stands.{World, steps_of, entries_of, now_here, block_at, GoalStands, StackStands}
 use Rattle.pi_states.specs.Store.{Extend}
 use Rattle.pi_stands.specs.Evaluates.{Writes}

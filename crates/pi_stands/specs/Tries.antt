@@ -18,11 +18,11 @@ use Rattle.pi_code.specs.declared.code.Rule.{Rule}
 use Rattle.pi_arenas.specs.declared.run.Now.{Now}
 use Rattle.pi_arenas.specs.Arenas.{ArenasView, entry_at, newest, slots_kept_by, noted_by, with_kind, PushesEntry, DropsNewest}
 use Rattle.pi_arenas.specs.declared.arenas.Entry.{Entry}
-use Rattle.pi_machine.specs.Configuration.{Frame, Called, strict, guard_level, Entry as EntryData}
-use Rattle.pi_machine.specs.Shape.{open_level}
+use Rattle.pi_meaning.specs.Configuration.{Frame, Called, strict, guard_level, Entry as EntryData}
+use Rattle.pi_meaning.specs.Shape.{open_level}
 use Rattle.pi_stands.specs.Here.{Block, block_end, Here, Holds, HoldsArguments, GoesOn}
 use Rattle.pi_stands.specs.Stands.{Loaded, World, tables_in, steps_of, entries_of, back_here, now_here, Agrees, agrees_from, IsCodeOf, IsRuleOf, clause_block, rule_block, CallStands, EntryIs, StackIs, Stands}
-use Rattle.pi_machine.specs.Step.{taken, guarding, try_rules, try_facts, try_clauses, back_to}
+use Rattle.pi_meaning.specs.Step.{taken, guarding, try_rules, try_facts, try_clauses, back_to}
 
 -- the rules of a predicate from one on, with which a call goes on
 pub record RulesLeft (l : Loaded) (p r : ℕ) (called : Called) (cs : List ClauseTree) : Type 0 where

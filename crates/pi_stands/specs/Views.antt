@@ -2,7 +2,7 @@
 use Rattle.std.specs.Prelude.{◌≡◌, pos, negsuc}
 use Rattle.pi_meaning.specs.View.{View}
 use Rattle.pi_meaning.specs.Within.{a_query, a_body}
-use Rattle.pi_machine.specs.declared.happening.Mode.{Mode}
+use Rattle.pi_meaning.specs.declared.happening.Mode.{Mode}
 
 -- A Top machine runs a query, and an Inner one the body of a planner call with so much of its limit left. That is a number from 0;
 -- with a negative one no view fits.

@@ -10,7 +10,7 @@ use Rattle.pi_calls.specs.declared.predicates.Outcome.{Outcome}
 use Rattle.pi_calls.specs.Outcomes.{ShowsOutcome}
 use Rattle.pi_calls.specs.Runs.{IsRaised}
 use Rattle.pi_calls.proofs.RunLemmas.{step-raised}
-use Rattle.pi_machine.specs.declared.happening.Mode.{Mode}
+use Rattle.pi_meaning.specs.declared.happening.Mode.{Mode}
 use Rattle.pi_arenas.specs.declared.frames.Point.{Point}
 use Rattle.pi_arenas.specs.declared.run.Now.{Now}
 use Rattle.pi_stands.specs.Does.{ComesNext}

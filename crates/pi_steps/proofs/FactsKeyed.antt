@@ -13,7 +13,7 @@ use Rattle.pi_code.specs.LaidRules.{IsTestOf}
 use Rattle.pi_code.specs.declared.code.HeadTest.{HeadTest}
 use Rattle.pi_code.specs.declared.code.Predicate.{Predicate}
 use Rattle.pi_code.specs.declared.code.Rule.{Rule}
-use Rattle.pi_machine.specs.Configuration.{Frame, Called, Entry as EntryData}
+use Rattle.pi_meaning.specs.Configuration.{Frame, Called, Entry as EntryData}
 use Rattle.pi_facts.specs.Keyed.{IsShown, HasKey, HaveKeys}
 use Rattle.pi_stands.specs.Stands.{World, tables_in, AreTestsOf, IsRuleOf, IsPredicateOf}
 use Rattle.pi_stands.specs.Tries.{CallIs}

@@ -23,8 +23,8 @@ use Rattle.pi_arenas.specs.declared.arenas.Back.{Back}
 use Rattle.pi_arenas.specs.declared.arenas.Kind.{Kind}
 use Rattle.pi_arenas.specs.declared.arenas.Entry.{Entry}
 use Rattle.pi_arenas.specs.declared.run.Now.{Now}
-use Rattle.pi_machine.specs.Configuration.{Frame, Called, config, failed, choice, facts_left, in_places, Back as BackData, Entry as EntryData}
-use Rattle.pi_machine.specs.Step.{with_fact, from_unifying, silently, fail_step, try_facts, try_rules, try_clauses, back_to}
+use Rattle.pi_meaning.specs.Configuration.{Frame, Called, config, failed, choice, facts_left, in_places, Back as BackData, Entry as EntryData}
+use Rattle.pi_meaning.specs.Step.{with_fact, from_unifying, silently, fail_step, try_facts, try_rules, try_clauses, back_to}
 use Rattle.pi_facts.specs.Trying.{IsFirst, IsNext}
 use Rattle.pi_facts.proofs.TryingLemmas.{next-there}
 use Rattle.pi_stands.specs.Here.{Here, AreHeld, HoldsArguments}

@@ -22,8 +22,8 @@ use Rattle.pi_core.specs.declared.answer.NamedTerm.{NamedTerm}
 use Rattle.pi_core.specs.declared.answer.Answer.{Answer}
 use Rattle.pi_arenas.specs.declared.frames.Point.{Point}
 use Rattle.pi_arenas.specs.Arenas.{ArenasView, entry_at}
-use Rattle.pi_machine.specs.Configuration.{Frame, Entry as EntryData, config, going, raising}
-use Rattle.pi_machine.specs.Step.{silently, step, answer_step, told_step, fits, Open, none_open, strict_open, catch_open, newest_open}
+use Rattle.pi_meaning.specs.Configuration.{Frame, Entry as EntryData, config, going, raising}
+use Rattle.pi_meaning.specs.Step.{silently, step, answer_step, told_step, fits, Open, none_open, strict_open, catch_open, newest_open}
 use Rattle.pi_stands.specs.Here.{Block, Holds}
 use Rattle.pi_stands.specs.Stands.{World, entries_of, entry_ends, StandsGoing, failing_now}
 use Rattle.pi_arenas.specs.Frames.{slot_number}
@@ -31,11 +31,11 @@ use Rattle.pi_stands.specs.Evaluates.{Writes, Evaluates}
 use Rattle.pi_stands.specs.Makes.{SilentlyTo, IsRead}
 use Rattle.pi_unify.specs.Domains.{AreUnbound}
 use Rattle.pi_stands.specs.Answers.{AreNames, IsNamed, NamesValue, IsTold}
-use Rattle.pi_machine.proofs.LaterStates.{IsLaterState, later-same-state, later-new, value-past, value-new}
+use Rattle.pi_meaning.proofs.LaterStates.{IsLaterState, later-same-state, later-new, value-past, value-new}
 use Rattle.pi_steps.proofs.ToldStand.{slot-is, value_in, named-more, told-whole}
 use Rattle.pi_unify.specs.Domains.{occurring}
 use Rattle.pi_stands.proofs.StandsLemmas.{moved}
-use Rattle.pi_machine.proofs.StackLemmas.{number_of, newest-number}
+use Rattle.pi_meaning.proofs.StackLemmas.{number_of, newest-number}
 use Rattle.pi_terms.proofs.OptionLemmas.{none-some, same-some, not-less}
 use Rattle.pi_stands.proofs.CallLemmas.{evaluated-state}
 use Rattle.pi_stands.proofs.SlotsStand.{writes-none, writes-then}

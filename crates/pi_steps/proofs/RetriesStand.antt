@@ -13,8 +13,8 @@ use Rattle.pi_arenas.specs.declared.run.Now.{Now}
 use Rattle.pi_steps.specs.declared.rules.Call.{Call}
 use Rattle.pi_arenas.specs.Arenas.{entry_at, slots_kept_by}
 use Rattle.pi_arenas.specs.declared.arenas.Entry.{Entry}
-use Rattle.pi_machine.specs.Configuration.{Frame, Called, Entry as EntryData, choice, rules_left, Strict, strict, guard_level, Back as BackData}
-use Rattle.pi_machine.specs.Step.{silently, try_rules, back_to, end_step, fail_step}
+use Rattle.pi_meaning.specs.Configuration.{Frame, Called, Entry as EntryData, choice, rules_left, Strict, strict, guard_level, Back as BackData}
+use Rattle.pi_meaning.specs.Step.{silently, try_rules, back_to, end_step, fail_step}
 use Rattle.pi_stands.specs.Here.{Here, HoldsArguments, GoesOn}
 use Rattle.pi_stands.specs.Stands.{World, Loaded, tables_in, steps_of, entries_of, now_here, back_here, agrees_from, IsPredicateOf, IsCall, CallStands, KindIs, rules_kind, facts_kind, branches_kind, once_kind, not_kind, if_kind, guard_kind, apply_kind, collect_kind, count_kind, catch_kind, exit_kind, EntryIs, StackIs, Stands}
 use Rattle.pi_stands.specs.Tries.{own_entry, CallIs, TriesRules}

@@ -28,8 +28,8 @@ use Rattle.pi_arenas.specs.declared.run.Now.{Now}
 use Rattle.pi_arenas.specs.Blocks.{BlocksView, KeepsBlocks}
 use Rattle.pi_arenas.specs.Arenas.{ArenasView}
 use Rattle.pi_arenas.specs.Frames.{PushesBehind}
-use Rattle.pi_machine.specs.Configuration.{Frame, going, raising, behind, returning, Entry as EntryData, in_places}
-use Rattle.pi_machine.specs.Step.{goal_step, first_now, unknown_by, goal_called}
+use Rattle.pi_meaning.specs.Configuration.{Frame, going, raising, behind, returning, Entry as EntryData, in_places}
+use Rattle.pi_meaning.specs.Step.{goal_step, first_now, unknown_by, goal_called}
 use Rattle.pi_stands.specs.Stands.{World, steps_of, StackStands, StandsGoing}
 use Rattle.pi_stands.specs.Evaluates.{with_blocks, EvaluatesAll}
 use Rattle.pi_stands.specs.Makes.{StandsAfter}

@@ -18,7 +18,7 @@ use Rattle.pi_states.proofs.StateLemmas.{held_is, as_many}
 use Rattle.pi_terms.proofs.VariableLemmas.{Has, Has-append_cases, occurs_from_Has}
 use Rattle.pi_states.proofs.ValueLemmas.{value_has_none_bound}
 use Rattle.pi_unify.specs.Domains.{AreUnbound, occurring}
-use Rattle.pi_machine.proofs.LaterStates.{IsLaterState, later-same-state, later-new, new-variable, held-past, value-new}
+use Rattle.pi_meaning.proofs.LaterStates.{IsLaterState, later-same-state, later-new, new-variable, held-past, value-new}
 
 pub slot-is : (k : ℕ) (e : Places) (s : State) → evaluated (var k) e s ≡ slot_term (held e k) k e s
 unfolding evaluated

@@ -1,7 +1,7 @@
 -- What is next behind a built-in predicate, by what its call came to.
 use Rattle.std.specs.Prelude.{◌≡◌}
 use Rattle.pi_calls.specs.declared.predicates.Outcome.{Outcome}
-use Rattle.pi_machine.specs.declared.happening.Mode.{Mode}
+use Rattle.pi_meaning.specs.declared.happening.Mode.{Mode}
 use Rattle.pi_arenas.specs.declared.frames.Point.{Point}
 use Rattle.pi_arenas.specs.declared.run.Now.{Now}
 use Rattle.pi_stands.specs.Does.{IsTold}

@@ -10,8 +10,8 @@ use Rattle.pi_unify.specs.Answers.{Answers}
 use Rattle.pi_code.specs.declared.code.Predicate.{Predicate}
 use Rattle.pi_arenas.specs.declared.frames.Point.{Point}
 use Rattle.pi_arenas.specs.declared.run.Now.{Now}
-use Rattle.pi_machine.specs.Configuration.{Frame, Entry as EntryData}
-use Rattle.pi_machine.specs.Step.{with_fact, try_facts, back_to}
+use Rattle.pi_meaning.specs.Configuration.{Frame, Entry as EntryData}
+use Rattle.pi_meaning.specs.Step.{with_fact, try_facts, back_to}
 use Rattle.pi_stands.specs.Stands.{World, Stands}
 use Rattle.pi_stands.specs.Tries.{CallIs}
 

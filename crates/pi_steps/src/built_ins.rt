@@ -19,7 +19,7 @@ use pi_builtin::{Function, Predicate};
 use pi_calls::{Outcome, call_function, call_predicate};
 use pi_code::{Code, Step};
 use pi_effects::{Stop, ball_of};
-use pi_machine::Mode;
+use pi_meaning::Mode;
 use pi_states::StateStore;
 use pi_terms::{Term, Text};
 use std::alloc::{AllocError, Global};

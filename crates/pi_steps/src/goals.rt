@@ -1,7 +1,7 @@
 //! The first goal of a point, by its node.
 ghost use Rattle.std.specs.Prelude.{◌≡◌, Some, IfOk, IfErr, length};
 ghost use Rattle.pi_code.specs.declared.code.Node.TheVariants.{True};
-ghost use Rattle.pi_machine.specs.Budget.{Counts};
+ghost use Rattle.pi_meaning.specs.Budget.{Counts};
 ghost use Rattle.pi_arenas.specs.Arenas.{view_of};
 ghost use Rattle.pi_stands.specs.Stands.{Loaded, world};
 ghost use Rattle.pi_stands.specs.Makes.{RunsGoal, RunsGoalIn, level_kind};
@@ -17,7 +17,7 @@ use crate::terms::call_term;
 use crate::ticks::{tick, tick_call};
 use pi_arenas::{Kind, Now, Point, Run, Strict, behind};
 use pi_code::{Code, Node, Step};
-use pi_machine::{Budget, Mode};
+use pi_meaning::{Budget, Mode};
 use pi_states::StateStore;
 use std::alloc::AllocError;
 

@@ -1,9 +1,9 @@
 //! Ticks, as a machine counts them.
-ghost use Rattle.pi_machine.specs.Budget.{Counts};
+ghost use Rattle.pi_meaning.specs.Budget.{Counts};
 ghost use Rattle.pi_stands.specs.Goes.{Ticks, TicksUnless};
 
 use pi_arenas::{End, Now};
-use pi_machine::{Budget, Mode};
+use pi_meaning::{Budget, Mode};
 
 /// Counts the Tick of a call, unless it is a quiet one; false where the budget has none left, which ends the run.
 #[inline(always)]

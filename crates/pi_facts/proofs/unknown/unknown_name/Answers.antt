@@ -3,7 +3,7 @@ use Rattle.std.specs.Prelude.{codes}
 use Rattle.std.proofs.lemmas.Result.{IfOk-weaker}
 use Rattle.pi_core.specs.CoreTree.{PredTree, pred_tree}
 use Rattle.pi_meaning.specs.Names.{is_planner}
-use Rattle.pi_machine.specs.Step.{unknown_ball, is_defined}
+use Rattle.pi_meaning.specs.Step.{unknown_ball, is_defined}
 use Rattle.pi_facts.proofs.NameTests.{plain-unknown, planner-unknown}
 use Rattle.pi_facts.proofs.unknown.unknown_name.Goals as goal
 

@@ -1,7 +1,7 @@
 use Rattle.std.proofs.Common.{◌≡◌, ◌≤◌, [], ◌∷◌, ◌++◌, refl, ap, sym, subst, ◌∙◌, rules, arith}
 use Rattle.pi_core.specs.CoreTree.{program_tree, query_tree}
 use Rattle.pi_meaning.specs.View.{query_view}
-use Rattle.pi_machine.specs.Budget.{IsWithin}
+use Rattle.pi_meaning.specs.Budget.{IsWithin}
 use Rattle.pi_query.specs.declared.runs.QueryRun.{QueryRun}
 use Rattle.pi_core.specs.declared.log.Work.{Work}
 use Rattle.pi_outside.proofs.WriteRuns.{ByWrites-none, ByWrites-so}

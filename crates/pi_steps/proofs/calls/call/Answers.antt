@@ -8,14 +8,14 @@ use Rattle.pi_arenas.specs.Arenas.{view_of}
 use Rattle.pi_code.specs.Code.{tables_of}
 use Rattle.pi_stands.specs.Here.{Block, AreReadable}
 use Rattle.pi_stands.specs.Stands.{World, tables_in, world, Stands}
-use Rattle.pi_machine.specs.Step.{try_clauses, back_to}
+use Rattle.pi_meaning.specs.Step.{try_clauses, back_to}
 use Rattle.pi_stands.specs.Evaluates.{operand_trees, EvaluatesAll, with_blocks}
 use Rattle.pi_stands.proofs.FramesStand.{framed, arenas-framed, going-of}
 use Rattle.pi_stands.proofs.EqualStands.{block_of, first-slot-of, node-readable}
 use Rattle.pi_stands.proofs.CallRuns.{Calls, CallRuns, GivesBack, gives-cut, gives-whole, calls, call-runs}
 use Rattle.pi_stands.proofs.CallMade.{Made}
 use Rattle.pi_stands.proofs.RulesTried.{found-there}
-use Rattle.pi_machine.specs.Configuration.{Called}
+use Rattle.pi_meaning.specs.Configuration.{Called}
 use Rattle.pi_steps.proofs.FactsTried.{same-pred}
 use Rattle.pi_steps.proofs.calls.call.Goals as goal
 use Rattle.pi_steps.proofs.calls.call.Goals.{then-step, else-step}

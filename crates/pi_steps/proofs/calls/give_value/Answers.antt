@@ -6,7 +6,7 @@ use Rattle.pi_arenas.specs.declared.arenas.Kind.{Kind}
 use Rattle.pi_arenas.specs.declared.arenas.Strict.{Strict}
 use Rattle.pi_steps.specs.declared.calls.CallSite.{CallSite}
 use Rattle.pi_arenas.specs.Arenas.{view_of, LeavesLevel}
-use Rattle.pi_machine.specs.Configuration.{Config}
+use Rattle.pi_meaning.specs.Configuration.{Config}
 use Rattle.pi_arenas.specs.Frames.{slot_number}
 use Rattle.pi_stands.specs.Evaluates.{with_blocks}
 use Rattle.pi_stands.specs.Makes.{SilentlyTo}

@@ -3,7 +3,7 @@ use Rattle.pi_arenas.specs.declared.run.Now.{Now}
 use Rattle.pi_arenas.specs.declared.arenas.Kind.{Kind}
 use Rattle.pi_arenas.specs.Arenas.{view_of, pushed}
 use Rattle.pi_stands.specs.Stands.{World, world}
-use Rattle.pi_machine.specs.Step.{goal_step}
+use Rattle.pi_meaning.specs.Step.{goal_step}
 use Rattle.pi_stands.specs.Makes.{StandsAfter}
 use Rattle.pi_stands.proofs.FramesStand.{framed, arenas-framed}
 use Rattle.pi_stands.proofs.BranchesStand.{no-branches, one-branch, some-branches, branch-found, behind-found}

@@ -4,7 +4,7 @@ use Rattle.pi_arenas.specs.declared.frames.Point.{Point}
 use Rattle.pi_arenas.specs.Arenas.{view_of}
 use Rattle.pi_stands.specs.Stands.{world}
 use Rattle.pi_stands.specs.Makes.{StandsAfter}
-use Rattle.pi_machine.specs.Step.{goal_step}
+use Rattle.pi_meaning.specs.Step.{goal_step}
 use Rattle.pi_stands.proofs.FramesStand.{arenas-framed}
 use Rattle.pi_stands.proofs.SequenceStands.{sequence-step}
 use Rattle.pi_steps.proofs.choices.enter_sequence.Goals as goal

@@ -3,7 +3,7 @@ use Rattle.pi_arenas.specs.declared.run.Now.{Now}
 use Rattle.pi_arenas.specs.declared.arenas.Kind.{Kind}
 use Rattle.pi_arenas.specs.Arenas.{view_of}
 use Rattle.pi_stands.specs.Stands.{World, world, Stands}
-use Rattle.pi_machine.specs.Step.{branch}
+use Rattle.pi_meaning.specs.Step.{branch}
 use Rattle.pi_stands.proofs.BackStand.{drops-newest}
 use Rattle.pi_stands.proofs.CallEntries.{arenas-renamed}
 use Rattle.pi_stands.proofs.BranchesStand.{last-branch, more-branches}

@@ -5,7 +5,7 @@ use Rattle.std.proofs.lemmas.Result.{IfOk-weaker}
 use Rattle.pi_states.specs.State.{bindings}
 use Rattle.pi_meaning.specs.Facts.{fits_modes}
 use Rattle.pi_arenas.specs.Arenas.{view_of}
-use Rattle.pi_machine.specs.Step.{back_to, try_clauses}
+use Rattle.pi_meaning.specs.Step.{back_to, try_clauses}
 use Rattle.pi_stands.specs.Here.{HoldsArguments}
 use Rattle.pi_stands.specs.Stands.{World, world, Stands}
 use Rattle.pi_stands.specs.Tries.{TriesFacts}

@@ -2,7 +2,7 @@ use Rattle.std.proofs.Common.{◌≡◌, ◌∙◌, sym, ap, [], true, false, So
 use Rattle.std.specs.Prelude.{slice_get}
 use Rattle.std.proofs.lemmas.Result.{IfOk-weaker}
 use Rattle.pi_arenas.specs.Arenas.{view_of}
-use Rattle.pi_machine.specs.Step.{back_to}
+use Rattle.pi_meaning.specs.Step.{back_to}
 use Rattle.pi_stands.specs.Stands.{World, world}
 use Rattle.pi_steps.proofs.FactsTried.{there-of, by-rules}
 use Rattle.pi_steps.proofs.facts.try_clauses.Goals as goal

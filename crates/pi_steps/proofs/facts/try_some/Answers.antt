@@ -8,7 +8,7 @@ use Rattle.pi_core.specs.CoreTree.{clause_tree}
 use Rattle.pi_unify.proofs.KeepsLemmas.{stays_then}
 use Rattle.pi_arenas.specs.Arenas.{view_of}
 use Rattle.pi_arenas.specs.declared.run.Now.{Now}
-use Rattle.pi_machine.specs.Step.{from_unifying, try_facts, back_to}
+use Rattle.pi_meaning.specs.Step.{from_unifying, try_facts, back_to}
 use Rattle.pi_code.specs.declared.code.Code.{Code}
 use Rattle.pi_facts.specs.Keyed.{HaveKeys}
 use Rattle.pi_facts.specs.Trying.{IsFirst, IsNext}

@@ -2,7 +2,7 @@ use Rattle.std.proofs.Common.{sym, subst}
 use Rattle.pi_arenas.specs.declared.run.Now.{Now}
 use Rattle.pi_arenas.specs.Arenas.{view_of}
 use Rattle.pi_stands.specs.Stands.{world, Stands}
-use Rattle.pi_machine.specs.Step.{end_step}
+use Rattle.pi_meaning.specs.Step.{end_step}
 use Rattle.pi_stands.proofs.BackStand.{drops-newest}
 use Rattle.pi_stands.proofs.EndsStand.{not-ends}
 use Rattle.pi_steps.proofs.levels.end_not.Goals as goal

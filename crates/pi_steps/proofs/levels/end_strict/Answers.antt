@@ -2,7 +2,7 @@ use Rattle.std.proofs.Common.{◌∙◌, sym, ap, subst}
 use Rattle.std.proofs.lemmas.Result.{IfOk-weaker}
 use Rattle.pi_arenas.specs.declared.arenas.Kind.{Kind}
 use Rattle.pi_arenas.specs.Arenas.{view_of}
-use Rattle.pi_machine.specs.Configuration.{strict}
+use Rattle.pi_meaning.specs.Configuration.{strict}
 use Rattle.pi_stands.specs.Makes.{IsPassed}
 use Rattle.pi_stands.specs.Stands.{world}
 use Rattle.pi_stands.proofs.FailsStand.{passed-ends}

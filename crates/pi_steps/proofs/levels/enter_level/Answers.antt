@@ -4,12 +4,12 @@ use Rattle.pi_arenas.specs.declared.frames.Point.{Point}
 use Rattle.pi_arenas.specs.Arenas.{view_of, opened, pushed}
 use Rattle.pi_stands.specs.Stands.{world, Stands}
 use Rattle.pi_stands.specs.Makes.{StandsAfter}
-use Rattle.pi_machine.specs.Step.{goal_step, inside, back_to}
+use Rattle.pi_meaning.specs.Step.{goal_step, inside, back_to}
 use Rattle.pi_stands.proofs.FramesStand.{framed, arenas-framed}
 use Rattle.pi_states.specs.Evaluation.{evaluated}
 use Rattle.pi_core.specs.GoalTree.{catch}
 use Rattle.pi_arenas.specs.declared.arenas.Kind.{Kind}
-use Rattle.pi_machine.specs.Configuration.{catch_level, behind}
+use Rattle.pi_meaning.specs.Configuration.{catch_level, behind}
 use Rattle.pi_stands.proofs.LevelSteps.{level-step, first-point, first-point-of}
 use Rattle.pi_stands.proofs.CatchStands.{catch-step, catch-has-child}
 use Rattle.pi_stands.proofs.LevelStands.{arenas-opened}

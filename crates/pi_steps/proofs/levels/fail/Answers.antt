@@ -4,7 +4,7 @@ use Rattle.pi_arenas.specs.declared.run.End.{End as RunEnd}
 use Rattle.pi_arenas.specs.declared.run.Now.{Now}
 use Rattle.pi_arenas.specs.Arenas.{view_of, newest}
 use Rattle.pi_stands.specs.Stands.{World, world}
-use Rattle.pi_machine.specs.Step.{fail_step}
+use Rattle.pi_meaning.specs.Step.{fail_step}
 use Rattle.pi_stands.specs.Fails.{ComesTo}
 use Rattle.pi_stands.proofs.BackStand.{CameBack, came-back, nothing-there}
 use Rattle.pi_steps.proofs.RetriesStand.{rules-retried, tries-of}

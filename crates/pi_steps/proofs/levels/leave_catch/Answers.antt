@@ -4,7 +4,7 @@ use Rattle.pi_arenas.specs.Arenas.{ArenasView, view_of}
 use Rattle.pi_stands.specs.Stands.{world}
 use Rattle.pi_stands.proofs.OnceStand.{AnswersTo, LevelHere, level-here}
 use Rattle.pi_core.specs.GoalTree.{no_goals}
-use Rattle.pi_machine.specs.Configuration.{config, going}
+use Rattle.pi_meaning.specs.Configuration.{config, going}
 use Rattle.pi_stands.proofs.CatchAnswers.{Reaches, alone-answers, exit-answers, exited, LevelAt, level-at}
 use Rattle.pi_steps.proofs.levels.leave_catch.Goals as goal
 

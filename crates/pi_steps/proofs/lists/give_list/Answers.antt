@@ -7,7 +7,7 @@ use Rattle.pi_arenas.specs.Frames.{slot_number}
 use Rattle.pi_stands.specs.Evaluates.{with_blocks}
 use Rattle.pi_stands.specs.Lists.{PlacesValues, list_of}
 use Rattle.pi_stands.specs.Stands.{world, Stands, values_between}
-use Rattle.pi_machine.specs.Step.{end_step}
+use Rattle.pi_meaning.specs.Step.{end_step}
 use Rattle.pi_stands.proofs.BackStand.{drops-newest}
 use Rattle.pi_stands.proofs.ListsStand.{no-other-end, list-given}
 use Rattle.pi_steps.proofs.lists.give_list.Goals as goal

@@ -1,6 +1,6 @@
 use Rattle.std.proofs.Common.{◌∙◌, ◌-◌, take, sym, ap, subst}
 use Rattle.pi_arenas.specs.Arenas.{view_of, LeavesLevel, with_collected}
-use Rattle.pi_machine.specs.Step.{raise_step}
+use Rattle.pi_meaning.specs.Step.{raise_step}
 use Rattle.pi_stands.specs.Stands.{world}
 use Rattle.pi_stands.specs.Fails.{ComesTo}
 use Rattle.pi_stands.specs.Raises.{collected_below}

@@ -1,6 +1,6 @@
 use Rattle.std.proofs.Common.{sym, subst}
 use Rattle.pi_arenas.specs.Arenas.{view_of}
-use Rattle.pi_machine.specs.Step.{raise_step}
+use Rattle.pi_meaning.specs.Step.{raise_step}
 use Rattle.pi_stands.specs.Stands.{world}
 use Rattle.pi_stands.specs.Fails.{ComesTo}
 use Rattle.pi_stands.proofs.RaisesStand.{LeftCatch, left-found, left-there, left-passed}

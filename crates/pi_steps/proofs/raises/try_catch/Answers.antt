@@ -2,7 +2,7 @@ use Rattle.std.proofs.Common.{◌≡◌, ◌∙◌, sym, ap, subst}
 use Rattle.pi_arenas.specs.declared.run.Now.{Now}
 use Rattle.pi_arenas.specs.Arenas.{view_of, newest}
 use Rattle.pi_stands.specs.Stands.{world}
-use Rattle.pi_machine.specs.Step.{raise_step}
+use Rattle.pi_meaning.specs.Step.{raise_step}
 use Rattle.pi_stands.specs.Fails.{ComesTo}
 use Rattle.pi_stands.specs.Raises.{TellsCaught}
 use Rattle.pi_stands.proofs.BackStand.{CameBack, came-back, drops-newest}

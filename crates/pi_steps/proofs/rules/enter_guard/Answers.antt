@@ -2,7 +2,7 @@ use Rattle.std.proofs.Common.{◌+◌, [], ◌∷◌, subst, sym}
 use Rattle.pi_arenas.specs.declared.run.Now.{Now}
 use Rattle.pi_arenas.specs.declared.frames.Point.{Point}
 use Rattle.pi_arenas.specs.Arenas.{view_of}
-use Rattle.pi_machine.specs.Step.{guarding, back_to}
+use Rattle.pi_meaning.specs.Step.{guarding, back_to}
 use Rattle.pi_stands.specs.Stands.{World, world, Stands}
 use Rattle.pi_stands.proofs.LevelStands.{arenas-opened}
 use Rattle.pi_stands.proofs.RulesTaken.{arity-of, call-fits}

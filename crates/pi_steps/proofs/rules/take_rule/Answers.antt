@@ -1,7 +1,7 @@
 use Rattle.std.proofs.Common.{◌+◌, [], ◌∷◌, subst, sym}
 use Rattle.pi_arenas.specs.declared.run.Now.{Now}
 use Rattle.pi_arenas.specs.Arenas.{view_of}
-use Rattle.pi_machine.specs.Step.{taken, back_to}
+use Rattle.pi_meaning.specs.Step.{taken, back_to}
 use Rattle.pi_stands.specs.Stands.{World, world, Stands}
 use Rattle.pi_stands.proofs.RulesTaken.{rule-alone, rule-kept, arity-of, call-fits, entry-gone, entry-none}
 use Rattle.pi_steps.proofs.rules.take_rule.Goals.{in-Some+in_ok-keep, in_default+then-is_again, in_default+else-is_again}

@@ -3,7 +3,7 @@ use Rattle.std.specs.Prelude.{slice_get, option_copied}
 use Rattle.std.proofs.lemmas.Result.{IfOk-weaker}
 use Rattle.pi_arenas.specs.declared.run.Now.{Now}
 use Rattle.pi_arenas.specs.Arenas.{view_of}
-use Rattle.pi_machine.specs.Step.{try_rules, back_to}
+use Rattle.pi_meaning.specs.Step.{try_rules, back_to}
 use Rattle.pi_stands.specs.Stands.{World, world, Stands}
 use Rattle.pi_stands.specs.Tries.{MatchesHead}
 use Rattle.pi_stands.proofs.RulesTaken.{entry-gone, entry-none}

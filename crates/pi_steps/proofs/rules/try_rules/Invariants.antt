@@ -3,9 +3,9 @@ use Rattle.std.specs.Prelude.{slice_get}
 use Rattle.pi_core.specs.CoreTree.{ClauseTree}
 use Rattle.pi_states.specs.State.{State}
 use Rattle.pi_arenas.specs.Arenas.{view_of}
-use Rattle.pi_machine.specs.Configuration.{Called, Frame, Entry}
+use Rattle.pi_meaning.specs.Configuration.{Called, Frame, Entry}
 use Rattle.pi_stands.specs.Stands.{Loaded, world}
-use Rattle.pi_machine.specs.Step.{try_rules, back_to}
+use Rattle.pi_meaning.specs.Step.{try_rules, back_to}
 use Rattle.pi_stands.specs.Tries.{CallIs, HasArguments}
 use Rattle.pi_stands.proofs.RulesTried.{Trying}
 use Rattle.pi_steps.proofs.rules.try_rules.Given as goal

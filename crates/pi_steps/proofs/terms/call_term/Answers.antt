@@ -6,7 +6,7 @@ use Rattle.pi_states.specs.Evaluation.{evaluated_all}
 use Rattle.pi_core.specs.CoreTree.{pred_tree}
 use Rattle.pi_facts.specs.Called.{NamesAreDistinct}
 use Rattle.pi_arenas.specs.declared.run.Now.{Now}
-use Rattle.pi_machine.specs.Step.{unknown_by, goal_step}
+use Rattle.pi_meaning.specs.Step.{unknown_by, goal_step}
 use Rattle.pi_stands.specs.Makes.{StandsAfter}
 use Rattle.pi_states.specs.declared.store.Ref.{Ref}
 use Rattle.pi_code.specs.declared.code.Node.{Node}
