@@ -13,8 +13,8 @@ use Rattle.pi_meaning.specs.Given.{Setting}
 use Rattle.pi_meaning.specs.Meaning.{applying, failing, meaning}
 use Rattle.pi_meaning.specs.Environment.{Valued}
 use Rattle.pi_meaning.specs.Place.{Place}
-use Rattle.pi_names.specs.Assigning.{with_value}
-use Rattle.pi_names.specs.Control.{Value, assigning, with_assigned}
+use Rattle.pi_meaning.specs.Assigning.{with_value}
+use Rattle.pi_meaning.specs.ControlOverNames.{Value, assigning, with_assigned}
 use Rattle.pi_lowered.specs.Slots.{SlotNames, slot_for, slots_for}
 use Rattle.pi_lowered.specs.Values.{SlotValue}
 use Rattle.pi_lowered.specs.Goals.{put, assigned}

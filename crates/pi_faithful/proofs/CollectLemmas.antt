@@ -6,11 +6,11 @@ use Rattle.std.proofs.lemmas.Bool.{false≢true}
 use Rattle.pi_syntax.specs.ExpTree.{ExpTree, ExpTrees, no_exps, exp}
 use Rattle.pi_meaning.specs.Level.{Level}
 use Rattle.pi_meaning.specs.Given.{Setting}
-use Rattle.pi_names.specs.Texts.{Names, is_among, is_blank, behind, occurring_all, iterated, unit_places, begins_with_iterator, patterns_of, shared_names, names_inside, kept_names}
-use Rattle.pi_names.specs.Control.{Goal}
-use Rattle.pi_names.specs.Loops.{Finish, as_it_is, unit, iterating, turning, hidden}
-use Rattle.pi_names.specs.Goals.{goal_of, units_of, collection_of}
-use Rattle.pi_names.proofs.LoopNames.{among-append, Within, AreNamed, within-filter}
+use Rattle.pi_meaning.specs.Texts.{Names, is_among, is_blank, behind, occurring_all, iterated, unit_places, begins_with_iterator, patterns_of, shared_names, names_inside, kept_names}
+use Rattle.pi_meaning.specs.ControlOverNames.{Goal}
+use Rattle.pi_meaning.specs.Loops.{Finish, as_it_is, unit, iterating, turning, hidden}
+use Rattle.pi_meaning.specs.Goals.{goal_of, units_of, collection_of}
+use Rattle.pi_meaning.proofs.LoopNames.{among-append, Within, AreNamed, within-filter}
 use Rattle.pi_lowered.proofs.AgreeLemmas.{text_same}
 use Rattle.pi_faithful.proofs.HelperLemmas.{AreAmong}
 use Rattle.pi_faithful.proofs.ComprehensionLemmas.{LeavesNames}

@@ -7,9 +7,9 @@ use Rattle.std.proofs.lemmas.Bool.Decides.{Decides-ltb}
 use Rattle.pi_terms.specs.Tree.{Tree}
 use Rattle.pi_terms.specs.Places.{Places, held}
 use Rattle.pi_meaning.specs.Environment.{Environment, meant}
-use Rattle.pi_names.specs.Texts.{Names, is_among}
-use Rattle.pi_names.specs.Assigning.{narrowed}
-use Rattle.pi_names.proofs.OtherEnvironments.{meant-narrowed}
+use Rattle.pi_meaning.specs.Texts.{Names, is_among}
+use Rattle.pi_meaning.specs.Assigning.{narrowed}
+use Rattle.pi_meaning.proofs.OtherEnvironments.{meant-narrowed}
 use Rattle.pi_lowered.specs.Slots.{SlotNames, unnamed, slot_of}
 use Rattle.pi_lowered.specs.Iterators.{found_by, only}
 use Rattle.pi_lowered.proofs.FilledLemmas.{Extends}

@@ -20,12 +20,12 @@ use Rattle.pi_meaning.specs.Given.{Setting}
 use Rattle.pi_meaning.specs.Meaning.{meaning}
 use Rattle.pi_meaning.specs.Environment.{Environment, meant, Valued}
 use Rattle.pi_meaning.specs.Place.{Place}
-use Rattle.pi_names.specs.Texts.{Names, is_among}
-use Rattle.pi_names.specs.Assigning.{with_names, with_value}
-use Rattle.pi_names.specs.Control.{Goal}
-use Rattle.pi_names.specs.Loops.{hidden, now, comprehended}
-use Rattle.pi_names.proofs.OtherEnvironments.{meant-value}
-use Rattle.pi_names.proofs.LoopNames.{among-append}
+use Rattle.pi_meaning.specs.Texts.{Names, is_among}
+use Rattle.pi_meaning.specs.Assigning.{with_names, with_value}
+use Rattle.pi_meaning.specs.ControlOverNames.{Goal}
+use Rattle.pi_meaning.specs.Loops.{hidden, now, comprehended}
+use Rattle.pi_meaning.proofs.OtherEnvironments.{meant-value}
+use Rattle.pi_meaning.proofs.LoopNames.{among-append}
 use Rattle.pi_lowered.specs.Slots.{SlotNames, unnamed, slot_of}
 use Rattle.pi_lowered.specs.Forms.{Knows}
 use Rattle.pi_lowered.specs.Goals.{SlotGoals}

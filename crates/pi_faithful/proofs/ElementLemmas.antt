@@ -17,8 +17,8 @@ use Rattle.pi_meaning.specs.Given.{Setting}
 use Rattle.pi_meaning.specs.Meaning.{meaning}
 use Rattle.pi_meaning.specs.Environment.{Environment, meant}
 use Rattle.pi_meaning.specs.Place.{Place}
-use Rattle.pi_names.specs.Assigning.{carried, narrowed}
-use Rattle.pi_names.specs.Control.{Goal}
+use Rattle.pi_meaning.specs.Assigning.{carried, narrowed}
+use Rattle.pi_meaning.specs.ControlOverNames.{Goal}
 use Rattle.pi_lowered.specs.Slots.{SlotNames, unnamed, slot_of}
 use Rattle.pi_lowered.specs.Values.{SlotPattern}
 use Rattle.pi_lowered.specs.Forms.{Knows}

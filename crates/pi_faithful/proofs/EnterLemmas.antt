@@ -12,9 +12,9 @@ use Rattle.pi_states.specs.Evaluation.{Evaluated, slot_term, evaluated, evaluate
 use Rattle.pi_states.proofs.KeepsLemmas.{new-next}
 use Rattle.pi_meaning.specs.Environment.{Environment, meant, known, name_valued}
 use Rattle.pi_meaning.specs.Place.{Place}
-use Rattle.pi_names.specs.Texts.{Names, is_among}
-use Rattle.pi_names.specs.Assigning.{place_of, with_names, narrowed}
-use Rattle.pi_names.specs.Loops.{now}
+use Rattle.pi_meaning.specs.Texts.{Names, is_among}
+use Rattle.pi_meaning.specs.Assigning.{place_of, with_names, narrowed}
+use Rattle.pi_meaning.specs.Loops.{now}
 use Rattle.pi_lowered.specs.Slots.{SlotNames, unnamed, slot_of, slot_known, slot_or_next, slot_for, with_value}
 use Rattle.pi_lowered.specs.Loops.{slots_from, slots_for_names, with_values, Loop, loop_slots}
 use Rattle.pi_lowered.proofs.FilledLemmas.{Filled, in_slot, term_at, terms_at, in_front_of, filled-comes}

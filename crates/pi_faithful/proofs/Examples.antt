@@ -5,8 +5,8 @@ use Rattle.pi_terms.specs.Tree.{Tree}
 use Rattle.pi_syntax.specs.ExpTree.{ExpTree, var, int, list, call, ExpTrees, no_exps, exp}
 use Rattle.pi_syntax.specs.Signature.{exp_count}
 use Rattle.pi_core.specs.GoalTree.{GoalTree, goals_of}
-use Rattle.pi_names.specs.Forms.{form_of}
-use Rattle.pi_names.specs.Terms.{items_onto}
+use Rattle.pi_meaning.specs.Forms.{form_of}
+use Rattle.pi_meaning.specs.Terms.{items_onto}
 use Rattle.pi_terms.specs.ListCopies.{list_cell}
 use Rattle.pi_lowered.specs.Slots.{slot_of}
 use Rattle.pi_lowered.specs.Values.{slot_term, is_flat, is_below, evaluating}

@@ -21,10 +21,10 @@ use Rattle.pi_meaning.specs.Environment.{Environment, known, Valued, ValuedAll, 
 use Rattle.pi_meaning.specs.WrittenRules.{head_arguments}
 use Rattle.pi_meaning.specs.Facts as over_slots
 use Rattle.pi_meaning.specs.Facts.{with_name, in_front, fact_term, fact_terms, facts}
-use Rattle.pi_names.specs.Terms as over_names
-use Rattle.pi_names.specs.Terms.{items_onto, made, with_front, nothing_behind, list_made, written_term, written_terms}
-use Rattle.pi_names.specs.Rules as names_rules
-use Rattle.pi_names.specs.Rules.{facts_called}
+use Rattle.pi_meaning.specs.Terms as over_names
+use Rattle.pi_meaning.specs.Terms.{items_onto, made, with_front, nothing_behind, list_made, written_term, written_terms}
+use Rattle.pi_meaning.specs.RulesOverNames as names_rules
+use Rattle.pi_meaning.specs.RulesOverNames.{facts_called}
 use Rattle.pi_lowered.specs.Slots.{SlotNames, slot_for, slots_for}
 use Rattle.pi_lowered.specs.Values.{exact_term, cells_onto, slot_pattern, slot_patterns}
 use Rattle.pi_lowered.specs.Forms.{IsPattern, ArePatterns}

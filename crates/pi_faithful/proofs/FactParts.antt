@@ -9,8 +9,8 @@ use Rattle.pi_syntax.specs.Signature.{Signature, signature}
 use Rattle.pi_syntax.specs.declared.program.Mode.{Mode}
 use Rattle.pi_core.specs.CoreTree.{ClauseTree, index_of}
 use Rattle.pi_meaning.specs.WrittenRules.{is_signature, is_rule_of, rule_in, rules_of}
-use Rattle.pi_names.specs.Rules.{predicate_head, fact_head, is_head_of, is_head_in, rules_named, facts_named, heads_named, modes_before, first_modes, modes_named}
-use Rattle.pi_names.specs.Run.{is_some_head}
+use Rattle.pi_meaning.specs.RulesOverNames.{predicate_head, fact_head, is_head_of, is_head_in, rules_named, facts_named, heads_named, modes_before, first_modes, modes_named}
+use Rattle.pi_meaning.specs.RunOverNames.{is_some_head}
 use Rattle.pi_lowered.specs.Lowered.{lowered_fact, named_by, Lowering}
 use Rattle.pi_faithful.specs.Within.{declared_if, declared_before, BeginsWithModes}
 use Rattle.pi_faithful.proofs.FindLemmas.{matches, chosen, clauses, modes_in}

@@ -17,9 +17,9 @@ use Rattle.pi_syntax.specs.ExpTree.{ExpTree, var, int, atom, str, list, list_ont
 use Rattle.pi_syntax.specs.Signature.{exp_count}
 use Rattle.pi_core.specs.GoalTree as core
 use Rattle.pi_meaning.specs.Names.{is_call, is_later_predicate, is_given_predicate, is_given_function}
-use Rattle.pi_names.specs.Texts.{variable_first}
-use Rattle.pi_names.specs.Forms.{Form, negation, once, assignment, catch, by_term, membership, form_of, is_find_all, is_count_all}
-use Rattle.pi_names.specs.Terms.{items_onto}
+use Rattle.pi_meaning.specs.Texts.{variable_first}
+use Rattle.pi_meaning.specs.Forms.{Form, negation, once, assignment, catch, by_term, membership, form_of, is_find_all, is_count_all}
+use Rattle.pi_meaning.specs.Terms.{items_onto}
 use Rattle.pi_lowered.specs.Slots.{SlotNames}
 use Rattle.pi_lowered.specs.Values.{SlotValue, SlotValues, slot_term, slot_terms, is_flat, are_flat, as_it_stands, is_below, evaluating, filling, filled_before, last_value, value_before, value_by, no_values, before_values, applied}
 use Rattle.pi_lowered.specs.Goals as slots

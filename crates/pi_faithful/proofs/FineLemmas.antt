@@ -9,7 +9,7 @@ use Rattle.pi_states.proofs.KeepsLemmas.{TreesBelow, comp-below}
 use Rattle.pi_effects.specs.Inner.{itself_name}
 use Rattle.pi_core.specs.GoalTree.{GoalTree, truth, fail, tick, call, apply, seq, alternatives, if_else, not, once, collect, count, catch, GoalTrees, no_goals, goal, goals_of}
 use Rattle.pi_meaning.specs.Names.{is_given_predicate, is_given_function}
-use Rattle.pi_names.specs.Terms.{items_onto}
+use Rattle.pi_meaning.specs.Terms.{items_onto}
 use Rattle.pi_lowered.specs.Slots.{SlotNames, unnamed, slot_for, with_value}
 use Rattle.pi_lowered.specs.Values.{SlotValue, SlotValues, Slotted, no_values, before_values, value_of_parts, value_onto, applied, slotted}
 use Rattle.pi_lowered.specs.Goals.{SlotGoals, SlotBranches, SlotArrow, in_turn, either_of, just, never, goal_by, catching, joined, choosing, as_goals, branch_before, called, assigned, found_by, all_counted}

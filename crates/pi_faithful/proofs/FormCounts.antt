@@ -4,7 +4,7 @@ use Rattle.std.specs.Prelude.{◌==◌, ◌&&◌, Option, Some, None, codes}
 use Rattle.std.specs.Str.{bytes_eq}
 use Rattle.std.proofs.lemmas.Bool.{and_parts}
 use Rattle.pi_meaning.specs.Names.{is_catch, is_call}
-use Rattle.pi_names.specs.Forms.{Form, negation, once, assignment, catch, by_term, membership, form_of}
+use Rattle.pi_meaning.specs.Forms.{Form, negation, once, assignment, catch, by_term, membership, form_of}
 
 abbrev first_form : Bool → Bool → Bool → Bool → Bool → Bool → Option Form
 first_form a b c d e f = cond a (Some negation) (cond b (Some once) (cond c (Some assignment) (cond d (Some catch) (cond e (Some by_term) (cond f (Some membership) None)))))

@@ -12,11 +12,11 @@ use Rattle.pi_meaning.specs.Level.{Level}
 use Rattle.pi_meaning.specs.Builtins.{Builtins}
 use Rattle.pi_meaning.specs.Given.{Setting}
 use Rattle.pi_meaning.specs.Names.{is_catch, is_call, is_given_function}
-use Rattle.pi_names.specs.Texts.{Names, places, behind}
-use Rattle.pi_names.specs.Terms.{written_terms}
-use Rattle.pi_names.specs.Control.{Goal, Value, Values, nothing, in_front, applied_to, all_found, all_counted, called_with, calling_term, goal_at, value_at}
-use Rattle.pi_names.specs.Forms.{Form, negation, once, assignment, catch, by_term, membership, form_of, Reading, plain, readings, call_goal, indexed_by}
-use Rattle.pi_names.specs.Goals.{value_of, values_of}
+use Rattle.pi_meaning.specs.Texts.{Names, places, behind}
+use Rattle.pi_meaning.specs.Terms.{written_terms}
+use Rattle.pi_meaning.specs.ControlOverNames.{Goal, Value, Values, nothing, in_front, applied_to, all_found, all_counted, called_with, calling_term, goal_at, value_at}
+use Rattle.pi_meaning.specs.Forms.{Form, negation, once, assignment, catch, by_term, membership, form_of, Reading, plain, readings, call_goal, indexed_by}
+use Rattle.pi_meaning.specs.Goals.{value_of, values_of}
 use Rattle.pi_lowered.specs.Slots.{SlotNames}
 use Rattle.pi_lowered.specs.Values.{SlotValue, SlotValues, slot_term, slot_terms, is_flat, are_flat, as_it_stands, last_value, value_before, value_by, filled_before, no_values, before_values, applied}
 use Rattle.pi_lowered.specs.Goals as slots

@@ -19,7 +19,7 @@ use Rattle.pi_meaning.specs.Given.{Setting}
 use Rattle.pi_meaning.specs.Meaning.{draining, strictly, slot_value, copyable, collecting, counting, meaning}
 use Rattle.pi_meaning.specs.Environment.{Environment, Valued}
 use Rattle.pi_meaning.specs.Place.{Place}
-use Rattle.pi_names.specs.Control.{Goal, Value, all_found, all_counted, strictly as names_strictly}
+use Rattle.pi_meaning.specs.ControlOverNames.{Goal, Value, all_found, all_counted, strictly as names_strictly}
 use Rattle.pi_lowered.specs.Slots.{SlotNames, unnamed, with_value}
 use Rattle.pi_lowered.specs.Values.{SlotValue, slotted}
 use Rattle.pi_lowered.specs.Goals.{SlotGoals, in_turn, found_by, all_counted as slots_counted}

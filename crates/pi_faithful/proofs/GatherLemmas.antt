@@ -13,10 +13,10 @@ use Rattle.pi_meaning.specs.Builtins.{Builtins}
 use Rattle.pi_meaning.specs.Given.{Setting}
 use Rattle.pi_meaning.specs.Environment.{known, Valued, ValuedAll, name_valued}
 use Rattle.pi_meaning.specs.Place.{Place}
-use Rattle.pi_names.specs.Assigning.{place_of}
-use Rattle.pi_names.specs.Terms.{items_onto}
-use Rattle.pi_names.specs.Control.{Value, behind_all, nothing, in_front, made_onto}
-use Rattle.pi_names.specs.Loops.{hidden, so_far, adding}
+use Rattle.pi_meaning.specs.Assigning.{place_of}
+use Rattle.pi_meaning.specs.Terms.{items_onto}
+use Rattle.pi_meaning.specs.ControlOverNames.{Value, behind_all, nothing, in_front, made_onto}
+use Rattle.pi_meaning.specs.Loops.{hidden, so_far, adding}
 use Rattle.pi_lowered.specs.Slots.{SlotNames, slot_for, slots_for}
 use Rattle.pi_lowered.specs.Values.{SlotValue}
 use Rattle.pi_lowered.specs.Forms.{Knows}

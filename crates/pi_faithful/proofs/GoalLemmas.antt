@@ -13,11 +13,11 @@ use Rattle.pi_meaning.specs.Trace.{one}
 use Rattle.pi_meaning.specs.Level.{Level}
 use Rattle.pi_meaning.specs.Builtins.{Builtins}
 use Rattle.pi_meaning.specs.Given.{Setting}
-use Rattle.pi_names.specs.Texts.{Names, places, places_all, places_behind, places_caught, places_of_branches, with_one, behind, variable_first}
-use Rattle.pi_names.specs.Terms.{items_onto}
-use Rattle.pi_names.specs.Control.{Goal, nothing, in_front, applied_to, goal_at, value_at}
-use Rattle.pi_names.specs.Forms.{form_of, plain, call_value, operand_readings, range_value, indexed_by, atom_goal, is_find_all, is_count_all}
-use Rattle.pi_names.specs.Goals.{value_of, values_of, values_in, values_apart, goals_in, goal_of, all_of, any_of, arrow_in, branches_of}
+use Rattle.pi_meaning.specs.Texts.{Names, places, places_all, places_behind, places_caught, places_of_branches, with_one, behind, variable_first}
+use Rattle.pi_meaning.specs.Terms.{items_onto}
+use Rattle.pi_meaning.specs.ControlOverNames.{Goal, nothing, in_front, applied_to, goal_at, value_at}
+use Rattle.pi_meaning.specs.Forms.{form_of, plain, call_value, operand_readings, range_value, indexed_by, atom_goal, is_find_all, is_count_all}
+use Rattle.pi_meaning.specs.Goals.{value_of, values_of, values_in, values_apart, goals_in, goal_of, all_of, any_of, arrow_in, branches_of}
 use Rattle.pi_lowered.specs.Slots.{SlotNames}
 use Rattle.pi_lowered.specs.Values.{SlotValue, SlotValues, is_flat, are_flat, last_value, value_before, value_by, no_values, before_values}
 use Rattle.pi_lowered.specs.Goals as slots

@@ -22,7 +22,7 @@ use Rattle.pi_syntax.specs.PrintTerm.{array_name}
 use Rattle.pi_effects.specs.Items.{list_onto as list_before, list_of, cell_parts}
 use Rattle.pi_syntax.specs.ExpTree.{ExpTree, var, int, atom, str, list, list_onto, array, call, quote, range, range_by, at, ExpTrees, no_exps, exp}
 use Rattle.pi_meaning.specs.Environment.{Environment, known, with_name, name_matched}
-use Rattle.pi_names.specs.Heads.{Matching, compound_matched, one_before, no_more, cell_matched, atom_matched, characters_matched, pattern_matched, patterns_matched, items_matched}
+use Rattle.pi_meaning.specs.Heads.{Matching, compound_matched, one_before, no_more, cell_matched, atom_matched, characters_matched, pattern_matched, patterns_matched, items_matched}
 use Rattle.pi_lowered.specs.Slots.{SlotNames, slot_known, slot_or_next, slots_with, slot_for, slots_for}
 use Rattle.pi_lowered.specs.Values.{cells_onto, exact_term, slot_pattern, slot_patterns}
 use Rattle.pi_lowered.specs.Forms.{IsPattern, ArePatterns}

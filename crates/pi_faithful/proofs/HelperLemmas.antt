@@ -22,10 +22,10 @@ use Rattle.pi_meaning.specs.Meaning.{calling, meaning}
 use Rattle.pi_meaning.specs.Rules.{pred_run, rules, rule_before}
 use Rattle.pi_meaning.specs.Environment.{Environment}
 use Rattle.pi_meaning.specs.Place.{Place}
-use Rattle.pi_names.specs.Texts.{Names, is_among}
-use Rattle.pi_names.specs.Assigning.{with_value}
-use Rattle.pi_names.specs.Loops as over_names
-use Rattle.pi_names.specs.Loops.{Finish, now}
+use Rattle.pi_meaning.specs.Texts.{Names, is_among}
+use Rattle.pi_meaning.specs.Assigning.{with_value}
+use Rattle.pi_meaning.specs.Loops as over_names
+use Rattle.pi_meaning.specs.Loops.{Finish, now}
 use Rattle.pi_lowered.specs.Slots.{SlotNames, unnamed, slot_of, slot_or_next, slot_for}
 use Rattle.pi_lowered.specs.Forms.{Knows}
 use Rattle.pi_lowered.specs.Loops.{slots_from, slots_head, Ending, closing, closing_slots, clause_of, helper, Loop, loop_slots, again}

@@ -29,9 +29,9 @@ use Rattle.pi_meaning.specs.Given.{Setting}
 use Rattle.pi_meaning.specs.Meaning.{applying, meaning}
 use Rattle.pi_meaning.specs.Environment.{Environment, meant}
 use Rattle.pi_meaning.specs.Place.{Place}
-use Rattle.pi_names.specs.Assigning.{narrowed}
-use Rattle.pi_names.specs.Loops as over_names
-use Rattle.pi_names.proofs.OtherEnvironments.{meant-narrowed}
+use Rattle.pi_meaning.specs.Assigning.{narrowed}
+use Rattle.pi_meaning.specs.Loops as over_names
+use Rattle.pi_meaning.proofs.OtherEnvironments.{meant-narrowed}
 use Rattle.pi_lowered.specs.Forms.{Knows}
 use Rattle.pi_lowered.specs.Loops.{Loop}
 use Rattle.pi_lowered.proofs.SameLemmas.{SameBy, same_end}

@@ -24,12 +24,12 @@ use Rattle.pi_meaning.specs.Place.{at_state, beginning}
 use Rattle.pi_meaning.specs.Telling.{telling, place_told, told_trace, told_cut}
 use Rattle.pi_meaning.specs.Told.{solution_told}
 use Rattle.pi_meaning.proofs.ToldCuts.{cut-told, stop-told}
-use Rattle.pi_names.specs.Texts.{Names}
-use Rattle.pi_names.specs.Prelude.{prelude}
-use Rattle.pi_names.specs.Stages.{LaterStages}
-use Rattle.pi_names.specs.Goals.{goal_of}
-use Rattle.pi_names.specs.Rules.{heads_named, functions_named, modes_named}
-use Rattle.pi_names.specs.Run.{is_some_head, setting, program_level, answer_names, names_from, names_trace}
+use Rattle.pi_meaning.specs.Texts.{Names}
+use Rattle.pi_meaning.specs.Prelude.{prelude}
+use Rattle.pi_meaning.specs.Stages.{LaterStages}
+use Rattle.pi_meaning.specs.Goals.{goal_of}
+use Rattle.pi_meaning.specs.RulesOverNames.{heads_named, functions_named, modes_named}
+use Rattle.pi_meaning.specs.RunOverNames.{is_some_head, setting, program_level, answer_names, names_from, names_trace}
 use Rattle.pi_lowered.specs.Slots.{SlotNames, named_slots, slots_behind}
 use Rattle.pi_lowered.specs.Goals as over_slots
 use Rattle.pi_lowered.specs.Goals.{SlotGoals, in_turn}

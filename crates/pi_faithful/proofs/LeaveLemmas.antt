@@ -17,11 +17,11 @@ use Rattle.pi_meaning.specs.Settle.{settled_from}
 use Rattle.pi_meaning.specs.Level.{Level, calls_at}
 use Rattle.pi_meaning.specs.Environment.{Environment, meant, known, Valued, name_valued}
 use Rattle.pi_meaning.specs.Place.{Place}
-use Rattle.pi_names.specs.Texts.{Names, is_among}
-use Rattle.pi_names.specs.Assigning.{place_of, with_names, with_value, carried}
-use Rattle.pi_names.specs.Control.{Goal, Value}
-use Rattle.pi_names.specs.Loops.{Finish, now, closed, opened, framed, elements, if_numbered, items_then, iterating, turning, hidden}
-use Rattle.pi_names.proofs.OtherEnvironments.{meant-value}
+use Rattle.pi_meaning.specs.Texts.{Names, is_among}
+use Rattle.pi_meaning.specs.Assigning.{place_of, with_names, with_value, carried}
+use Rattle.pi_meaning.specs.ControlOverNames.{Goal, Value}
+use Rattle.pi_meaning.specs.Loops.{Finish, now, closed, opened, framed, elements, if_numbered, items_then, iterating, turning, hidden}
+use Rattle.pi_meaning.proofs.OtherEnvironments.{meant-value}
 use Rattle.pi_lowered.specs.Slots.{unnamed}
 use Rattle.pi_lowered.proofs.AgreeLemmas.{or_last, text_itself, text_same, meant-more}
 use Rattle.pi_faithful.proofs.EnterLemmas.{AllThere}

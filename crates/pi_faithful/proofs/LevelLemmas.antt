@@ -19,9 +19,9 @@ use Rattle.pi_meaning.specs.Rules.{pred_run, function_run, call_run, application
 use Rattle.pi_meaning.specs.Facts as over_slots
 use Rattle.pi_meaning.specs.Facts.{fits_modes}
 use Rattle.pi_meaning.specs.WrittenRules.{rule_in, rules_of, is_rule_of, head_arguments}
-use Rattle.pi_names.specs.Stages.{RulesSetting}
-use Rattle.pi_names.specs.Rules as over_names
-use Rattle.pi_names.specs.Rules.{function_in, fact_head, is_head_of, rules_named, facts_named, functions_named, modes_named, predicate_run, functions_called, calls_by, level_for}
+use Rattle.pi_meaning.specs.Stages.{RulesSetting}
+use Rattle.pi_meaning.specs.RulesOverNames as over_names
+use Rattle.pi_meaning.specs.RulesOverNames.{function_in, fact_head, is_head_of, rules_named, facts_named, functions_named, modes_named, predicate_run, functions_called, calls_by, level_for}
 use Rattle.pi_lowered.specs.Lowered.{lowered_rule, lowered_fact, lowered_function}
 use Rattle.pi_lowered.specs.Forms.{Knows, ArePatterns}
 use Rattle.pi_faithful.specs.Levels.{SameCalls, SameLevels}

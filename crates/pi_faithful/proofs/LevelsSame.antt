@@ -5,8 +5,8 @@ use Rattle.pi_syntax.specs.ProgramTree.{ProgramTree}
 use Rattle.pi_core.specs.CoreTree.{PredTree}
 use Rattle.pi_meaning.specs.Builtins.{Builtins}
 use Rattle.pi_meaning.specs.Rules.{quiet_level, level_at}
-use Rattle.pi_names.specs.Stages.{RulesSetting}
-use Rattle.pi_names.specs.Rules.{level_for}
+use Rattle.pi_meaning.specs.Stages.{RulesSetting}
+use Rattle.pi_meaning.specs.RulesOverNames.{level_for}
 use Rattle.pi_lowered.specs.Forms.{Knows}
 use Rattle.pi_lowered.proofs.RunLemmas.{Alike}
 use Rattle.pi_faithful.proofs.LevelLemmas.{Fixed, SameDepths, both_lowest, both_over, quiet-same, depths-same}

@@ -52,18 +52,18 @@ use Rattle.pi_meaning.specs.Instances.{whole}
 use Rattle.pi_meaning.specs.Meaning.{draining, strictly, calling, applying, collecting, counting, catching, meaning, meaning_of_all}
 use Rattle.pi_meaning.specs.Rules.{pred_run, function_run, calls_of, rules, quiet_level, level_at}
 use Rattle.pi_meaning.specs.Run.{told}
-use Rattle.pi_names.specs.Texts.{Names, places, places_all, places_caught, places_of_branches, occurring, occurring_all, occurring_in_branches, behind, patterns_of, assigned as assigned_names, assigned_all, assigned_in_branches}
-use Rattle.pi_names.specs.Stages.{no_stages}
-use Rattle.pi_names.specs.Assigning.{with_value, with_names}
-use Rattle.pi_names.specs.Terms.{items_onto, written_term, written_terms}
-use Rattle.pi_names.specs.Heads.{pattern_matched, patterns_matched, items_matched}
-use Rattle.pi_names.specs.Control.{draining as names_draining, strictly as names_strictly, applied_to, all_found, all_counted, called_with, calling_term, choosing, denying, taken_once, catching as names_catching, goal_at, value_at}
-use Rattle.pi_names.specs.Loops.{hidden, closed, elements, iterating, turning, while_turns, do_turns, comprehended}
-use Rattle.pi_names.specs.Forms.{form_of, atom_goal, readings, operand_readings, call_value, range_value, indexed_by}
-use Rattle.pi_names.specs.Goals.{value_of, values_of, values_in, values_apart, goals_in, goal_of, all_of, any_of, arrow_in, branches_of, units_of, collection_of}
-use Rattle.pi_names.specs.Rules.{modes_named, rules_called, facts_called, functions_called, calls_by, level_for}
-use Rattle.pi_names.specs.Prelude.{prelude, calls, exps, v, equal, all}
-use Rattle.pi_names.specs.Run.{names_from, names_trace, answer_names}
+use Rattle.pi_meaning.specs.Texts.{Names, places, places_all, places_caught, places_of_branches, occurring, occurring_all, occurring_in_branches, behind, patterns_of, assigned as assigned_names, assigned_all, assigned_in_branches}
+use Rattle.pi_meaning.specs.Stages.{no_stages}
+use Rattle.pi_meaning.specs.Assigning.{with_value, with_names}
+use Rattle.pi_meaning.specs.Terms.{items_onto, written_term, written_terms}
+use Rattle.pi_meaning.specs.Heads.{pattern_matched, patterns_matched, items_matched}
+use Rattle.pi_meaning.specs.ControlOverNames.{draining as names_draining, strictly as names_strictly, applied_to, all_found, all_counted, called_with, calling_term, choosing, denying, taken_once, catching as names_catching, goal_at, value_at}
+use Rattle.pi_meaning.specs.Loops.{hidden, closed, elements, iterating, turning, while_turns, do_turns, comprehended}
+use Rattle.pi_meaning.specs.Forms.{form_of, atom_goal, readings, operand_readings, call_value, range_value, indexed_by}
+use Rattle.pi_meaning.specs.Goals.{value_of, values_of, values_in, values_apart, goals_in, goal_of, all_of, any_of, arrow_in, branches_of, units_of, collection_of}
+use Rattle.pi_meaning.specs.RulesOverNames.{modes_named, rules_called, facts_called, functions_called, calls_by, level_for}
+use Rattle.pi_meaning.specs.Prelude.{prelude, calls, exps, v, equal, all}
+use Rattle.pi_meaning.specs.RunOverNames.{names_from, names_trace, answer_names}
 use Rattle.pi_lowered.specs.Slots.{SlotNames, slot_of, named_slots, slots_behind, slot_for}
 use Rattle.pi_lowered.specs.Values.{SlotValue, slot_term, is_flat, is_below, slot_pattern, as_it_stands, SlotValues}
 use Rattle.pi_lowered.specs.Goals as slots

@@ -4,8 +4,8 @@ use Rattle.std.specs.Prelude.{Option, Some, None, is_some, ◌||◌}
 use Rattle.std.specs.Str.{bytes_eq}
 use Rattle.std.proofs.lemmas.Bool.{true≢false}
 use Rattle.pi_syntax.specs.ExpTree.{ExpTree, var, list, list_onto, array, call, quote, range, range_by, at, ExpTrees, no_exps, exp}
-use Rattle.pi_names.specs.Texts.{Names, is_among, places, places_all, patterns_of, shared_names, names_inside, kept_names}
-use Rattle.pi_names.proofs.LoopNames.{among-append, Within, AreNamed, kept-is, kept-shared, kept-inside, shared-before, inside-before, inside-apart}
+use Rattle.pi_meaning.specs.Texts.{Names, is_among, places, places_all, patterns_of, shared_names, names_inside, kept_names}
+use Rattle.pi_meaning.proofs.LoopNames.{among-append, Within, AreNamed, kept-is, kept-shared, kept-inside, shared-before, inside-before, inside-apart}
 use Rattle.pi_lowered.specs.Slots.{SlotNames, slot_of, slot_known, slots_with, slots_for}
 use Rattle.pi_lowered.specs.Values.{slot_pattern, slot_patterns}
 use Rattle.pi_lowered.specs.Loops.{Loop}

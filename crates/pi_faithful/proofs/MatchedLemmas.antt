@@ -21,9 +21,9 @@ use Rattle.pi_meaning.specs.Meaning.{meaning}
 use Rattle.pi_meaning.specs.Rules.{pred_run, rules, rule_before}
 use Rattle.pi_meaning.specs.Environment.{Environment, meant}
 use Rattle.pi_meaning.specs.Place.{Place}
-use Rattle.pi_names.specs.Heads.{pattern_matched}
-use Rattle.pi_names.specs.Control.{Goal}
-use Rattle.pi_names.specs.Loops.{matched_turn}
+use Rattle.pi_meaning.specs.Heads.{pattern_matched}
+use Rattle.pi_meaning.specs.ControlOverNames.{Goal}
+use Rattle.pi_meaning.specs.Loops.{matched_turn}
 use Rattle.pi_lowered.specs.Slots.{SlotNames, unnamed, slot_of}
 use Rattle.pi_lowered.specs.Values.{SlotPattern, slot_pattern}
 use Rattle.pi_lowered.specs.Forms.{Knows, IsPattern}

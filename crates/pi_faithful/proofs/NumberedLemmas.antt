@@ -6,9 +6,9 @@ use Rattle.std.proofs.lemmas.Bool.{and_parts}
 use Rattle.pi_syntax.specs.ExpTree.{ExpTree, var, int, atom, str, list, list_onto, array, call, quote, index, range, range_by, at, collect, and, or, arrow, if_then, if_else, foreach, while_do, do_while, ExpTrees, no_exps, exp, ExpBranches, no_branches, branch}
 use Rattle.pi_syntax.specs.Signature.{exp_count}
 use Rattle.pi_core.specs.CoreTree.{PredTree}
-use Rattle.pi_names.specs.Texts.{Names, places, places_all, places_of_branches, iterated, begins_with_iterator, assigned, kept_names}
-use Rattle.pi_names.specs.Loops.{hidden}
-use Rattle.pi_names.specs.Forms.{Form, negation, once, assignment, catch, by_term, membership, form_of, is_find_all, is_count_all}
+use Rattle.pi_meaning.specs.Texts.{Names, places, places_all, places_of_branches, iterated, begins_with_iterator, assigned, kept_names}
+use Rattle.pi_meaning.specs.Loops.{hidden}
+use Rattle.pi_meaning.specs.Forms.{Form, negation, once, assignment, catch, by_term, membership, form_of, is_find_all, is_count_all}
 use Rattle.pi_lowered.specs.Slots.{SlotNames}
 use Rattle.pi_lowered.specs.Values.{last_value}
 use Rattle.pi_lowered.specs.Goals.{SlotGoals}

@@ -12,9 +12,9 @@ use Rattle.pi_meaning.specs.Builtins.{Builtins, predicate_by}
 use Rattle.pi_meaning.specs.Given.{Setting}
 use Rattle.pi_meaning.specs.Environment.{Environment}
 use Rattle.pi_meaning.specs.Place.{Place}
-use Rattle.pi_names.specs.Texts.{Names}
-use Rattle.pi_names.specs.Control.{Goal, choosing, strictly}
-use Rattle.pi_names.specs.Loops as over_names
+use Rattle.pi_meaning.specs.Texts.{Names}
+use Rattle.pi_meaning.specs.ControlOverNames.{Goal, choosing, strictly}
+use Rattle.pi_meaning.specs.Loops as over_names
 use Rattle.pi_lowered.specs.Slots.{SlotNames}
 use Rattle.pi_lowered.specs.Forms.{Knows}
 use Rattle.pi_lowered.specs.Goals.{SlotGoals}

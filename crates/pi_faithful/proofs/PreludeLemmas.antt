@@ -19,8 +19,8 @@ use Rattle.pi_effects.specs.Texts.{text_functions, writing_predicates}
 use Rattle.pi_effects.specs.Making.{making_functions}
 use Rattle.pi_effects.specs.BuiltIns.{reading_functions, tests, other_predicates, is_predicate, is_function}
 use Rattle.pi_meaning.specs.Names.{later_predicates, is_later_predicate, is_later_function, is_given_predicate, is_given_function}
-use Rattle.pi_names.specs.Forms.{form_of, readings}
-use Rattle.pi_names.specs.Prelude.{cell, prelude}
+use Rattle.pi_meaning.specs.Forms.{form_of, readings}
+use Rattle.pi_meaning.specs.Prelude.{cell, prelude}
 use Rattle.pi_lowered.specs.Forms.{Knows, IsPredicateCall, IsExpression, AreExpressions, IsExpressionAt, IsGoalAt, IsGoal, IsPattern}
 use Rattle.pi_faithful.specs.Within.{IsFree, IsPart}
 use Rattle.pi_faithful.specs.Laws.{known_of}

@@ -8,8 +8,8 @@ use Rattle.pi_syntax.specs.ProgramTree.{WrittenClause, rule, function, fact, Pro
 use Rattle.pi_syntax.specs.Signature.{Signature, signature}
 use Rattle.pi_core.specs.CoreTree.{ClauseTree, index_of}
 use Rattle.pi_meaning.specs.WrittenRules.{is_signature, is_rule_of, rule_in, rules_of}
-use Rattle.pi_names.specs.Rules.{fact_head, is_head_of, function_in, rules_named, facts_named, functions_named, heads_named, modes_named}
-use Rattle.pi_names.specs.Run.{is_some_head}
+use Rattle.pi_meaning.specs.RulesOverNames.{fact_head, is_head_of, function_in, rules_named, facts_named, functions_named, heads_named, modes_named}
+use Rattle.pi_meaning.specs.RunOverNames.{is_some_head}
 use Rattle.pi_lowered.specs.Lowered.{lowered_rule, lowered_function, named_by, Lowering, lowered_clause, lowerings, grouped_all}
 use Rattle.pi_lowered.specs.Forms.{Knows}
 use Rattle.pi_faithful.specs.Within.{IsClause, IsPart, Key, key_of, keys, StandTogether, IsIndexed}

@@ -3,8 +3,8 @@ use Rattle.std.proofs.Common.{ℕ, ◌+◌, List, length}
 use Rattle.pi_syntax.specs.ProgramTree.{ProgramTree}
 use Rattle.pi_core.specs.CoreTree.{PredTree}
 use Rattle.pi_meaning.specs.Builtins.{Builtins}
-use Rattle.pi_names.specs.Stages.{RulesSetting}
-use Rattle.pi_names.specs.Control.{Goal}
+use Rattle.pi_meaning.specs.Stages.{RulesSetting}
+use Rattle.pi_meaning.specs.ControlOverNames.{Goal}
 use Rattle.pi_lowered.specs.Slots.{SlotNames}
 use Rattle.pi_lowered.specs.Values.{SlotPattern}
 use Rattle.pi_lowered.specs.Forms.{Knows}

@@ -22,14 +22,14 @@ use Rattle.pi_meaning.specs.Place.{Place}
 use Rattle.pi_meaning.specs.WrittenRules.{head_arguments}
 use Rattle.pi_meaning.specs.Meaning.{draining, strictly, meaning, meaning_of_all}
 use Rattle.pi_meaning.specs.Rules.{guarded, chosen_rule, rule_before, rules, body_or_agent, value_at, value_run}
-use Rattle.pi_names.specs.Texts.{Names, behind, places}
-use Rattle.pi_names.specs.Stages.{RulesSetting}
-use Rattle.pi_names.specs.Control.{strictly as names_strictly}
-use Rattle.pi_names.specs.Forms.{plain}
-use Rattle.pi_names.specs.Goals.{goal_of, value_of}
-use Rattle.pi_names.specs.Heads.{patterns_matched}
-use Rattle.pi_names.specs.Rules as over_names
-use Rattle.pi_names.specs.Rules.{places_in, names_before, rule_or_later, rules_called, function_names, body_or_none, applied, function_or_later, functions_called}
+use Rattle.pi_meaning.specs.Texts.{Names, behind, places}
+use Rattle.pi_meaning.specs.Stages.{RulesSetting}
+use Rattle.pi_meaning.specs.ControlOverNames.{strictly as names_strictly}
+use Rattle.pi_meaning.specs.Forms.{plain}
+use Rattle.pi_meaning.specs.Goals.{goal_of, value_of}
+use Rattle.pi_meaning.specs.Heads.{patterns_matched}
+use Rattle.pi_meaning.specs.RulesOverNames as over_names
+use Rattle.pi_meaning.specs.RulesOverNames.{places_in, names_before, rule_or_later, rules_called, function_names, body_or_none, applied, function_or_later, functions_called}
 use Rattle.pi_lowered.specs.Slots.{SlotNames}
 use Rattle.pi_lowered.specs.Values.{SlotValue, last_value}
 use Rattle.pi_lowered.specs.Goals as over_slots

@@ -13,8 +13,8 @@ use Rattle.pi_core.specs.CoreTree.{ClauseTree, PredTree, index_of}
 use Rattle.pi_core.specs.declared.core_program.NameSlot.{NameSlot}
 use Rattle.pi_meaning.specs.WrittenRules.{head_arguments}
 use Rattle.pi_meaning.specs.Sound.{SlotsBelow, KeepsSlots}
-use Rattle.pi_names.specs.Texts.{Names}
-use Rattle.pi_names.specs.Run.{answer_names}
+use Rattle.pi_meaning.specs.Texts.{Names}
+use Rattle.pi_meaning.specs.RunOverNames.{answer_names}
 use Rattle.pi_lowered.specs.Slots.{SlotNames, slot_for, slots_for, named_slots, slots_behind}
 use Rattle.pi_lowered.specs.Values.{last_value}
 use Rattle.pi_lowered.specs.Goals as over_slots

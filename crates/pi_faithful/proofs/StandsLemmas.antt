@@ -5,10 +5,10 @@ use Rattle.pi_syntax.specs.ProgramTree.{ProgramTree}
 use Rattle.pi_core.specs.CoreTree.{PredTree}
 use Rattle.pi_meaning.specs.Level.{Level}
 use Rattle.pi_meaning.specs.Builtins.{Builtins}
-use Rattle.pi_names.specs.Stages.{RulesSetting}
-use Rattle.pi_names.specs.Rules.{level_for}
-use Rattle.pi_names.specs.Texts.{Names}
-use Rattle.pi_names.proofs.LoopNames.{AreNamed, behind-named}
+use Rattle.pi_meaning.specs.Stages.{RulesSetting}
+use Rattle.pi_meaning.specs.RulesOverNames.{level_for}
+use Rattle.pi_meaning.specs.Texts.{Names}
+use Rattle.pi_meaning.proofs.LoopNames.{AreNamed, behind-named}
 use Rattle.pi_lowered.specs.Forms.{Knows}
 use Rattle.pi_lowered.specs.Sites.{Site, behind_site}
 use Rattle.pi_lowered.proofs.RunLemmas.{Alike}

@@ -15,7 +15,7 @@ use Rattle.pi_meaning.specs.Place.{Place}
 use Rattle.pi_meaning.specs.Run.{Solution, told, answered_with}
 use Rattle.pi_meaning.specs.Telling.{told_values, if_tellable, telling, Told, place_told}
 use Rattle.pi_meaning.specs.Told.{named_values, solution_told}
-use Rattle.pi_names.specs.Texts.{Names}
+use Rattle.pi_meaning.specs.Texts.{Names}
 use Rattle.pi_lowered.specs.Slots.{SlotNames, slot_for, slots_for, named_slots, slots_behind}
 use Rattle.pi_lowered.proofs.SameLemmas.{SameBy, same_end, same-one}
 use Rattle.pi_lowered.proofs.AgreeLemmas.{Room, Grows, grows-none, grows-then, grows-length, grows-for, Agrees, agrees-more}

@@ -10,11 +10,11 @@ use Rattle.pi_meaning.specs.Trace.{one}
 use Rattle.pi_meaning.specs.Level.{Level}
 use Rattle.pi_meaning.specs.Builtins.{Builtins}
 use Rattle.pi_meaning.specs.Given.{Setting}
-use Rattle.pi_names.specs.Texts.{Names, places, places_all, places_behind, places_caught, with_one, behind}
-use Rattle.pi_names.specs.Control.{nothing, in_front, applied_to, all_found, all_counted, goal_at, value_at}
-use Rattle.pi_names.specs.Forms.{Form, negation, once, assignment, catch, by_term, membership, form_of, plain, is_find_all}
-use Rattle.pi_names.specs.Goals.{value_of, values_of, values_in, values_apart, goals_in, goal_of, arrow_in}
-use Rattle.pi_names.proofs.LoopNames.{AreNamed, behind-named}
+use Rattle.pi_meaning.specs.Texts.{Names, places, places_all, places_behind, places_caught, with_one, behind}
+use Rattle.pi_meaning.specs.ControlOverNames.{nothing, in_front, applied_to, all_found, all_counted, goal_at, value_at}
+use Rattle.pi_meaning.specs.Forms.{Form, negation, once, assignment, catch, by_term, membership, form_of, plain, is_find_all}
+use Rattle.pi_meaning.specs.Goals.{value_of, values_of, values_in, values_apart, goals_in, goal_of, arrow_in}
+use Rattle.pi_meaning.proofs.LoopNames.{AreNamed, behind-named}
 use Rattle.pi_lowered.specs.Slots.{SlotNames}
 use Rattle.pi_lowered.specs.Values.{SlotValue, is_flat, are_flat, slot_terms, last_value, value_by, no_values, applied}
 use Rattle.pi_lowered.specs.Goals as slots

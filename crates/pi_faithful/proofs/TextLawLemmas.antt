@@ -18,12 +18,12 @@ use Rattle.pi_meaning.specs.Rules.{level_at}
 use Rattle.pi_meaning.specs.Run.{answered_with}
 use Rattle.pi_meaning.specs.Telling.{telling, place_told}
 use Rattle.pi_meaning.specs.Told.{solution_told}
-use Rattle.pi_names.specs.Texts.{Names}
-use Rattle.pi_names.specs.Prelude.{prelude}
-use Rattle.pi_names.specs.Stages.{LaterStages, RulesSetting}
-use Rattle.pi_names.specs.Goals.{goal_of}
-use Rattle.pi_names.specs.Rules.{heads_named, functions_named, facts_named, rules_named, modes_named, level_for}
-use Rattle.pi_names.specs.Run.{is_some_head, setting, program_level, answer_names, names_from}
+use Rattle.pi_meaning.specs.Texts.{Names}
+use Rattle.pi_meaning.specs.Prelude.{prelude}
+use Rattle.pi_meaning.specs.Stages.{LaterStages, RulesSetting}
+use Rattle.pi_meaning.specs.Goals.{goal_of}
+use Rattle.pi_meaning.specs.RulesOverNames.{heads_named, functions_named, facts_named, rules_named, modes_named, level_for}
+use Rattle.pi_meaning.specs.RunOverNames.{is_some_head, setting, program_level, answer_names, names_from}
 use Rattle.pi_lowered.specs.Slots.{SlotNames, named_slots, slots_behind}
 use Rattle.pi_lowered.specs.Lowered.{lowered_fact, Lowering, grouped_all}
 use Rattle.pi_lowered.specs.Forms.{Knows}

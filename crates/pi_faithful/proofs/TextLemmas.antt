@@ -12,14 +12,14 @@ use Rattle.pi_syntax.specs.Signature.{exp_count}
 use Rattle.pi_core.specs.CoreTree.{PredTree}
 use Rattle.pi_core.specs.GoalTree.{GoalTree}
 use Rattle.pi_meaning.specs.Trace.{one}
-use Rattle.pi_names.specs.Texts.{Names, iterated, begins_with_iterator, occurring_all, places, places_all, places_behind, places_caught, places_of_branches, behind, variable_first, occurring, kept_names, assigned}
-use Rattle.pi_names.specs.Terms.{items_onto}
-use Rattle.pi_names.specs.Control.{Goal, nothing, in_front, applied_to, goal_at, value_at}
-use Rattle.pi_names.specs.Loops as over_names
-use Rattle.pi_names.specs.Loops.{hidden}
-use Rattle.pi_names.specs.Forms.{form_of, plain, call_value, operand_readings, range_value, indexed_by, atom_goal, is_find_all, is_count_all}
-use Rattle.pi_names.specs.Goals.{value_of, values_of, values_in, values_apart, goals_in, goal_of, all_of, any_of, arrow_in, branches_of, units_of}
-use Rattle.pi_names.proofs.LoopNames.{Within, AreNamed, behind-named, shared-before, assigned-occurs}
+use Rattle.pi_meaning.specs.Texts.{Names, iterated, begins_with_iterator, occurring_all, places, places_all, places_behind, places_caught, places_of_branches, behind, variable_first, occurring, kept_names, assigned}
+use Rattle.pi_meaning.specs.Terms.{items_onto}
+use Rattle.pi_meaning.specs.ControlOverNames.{Goal, nothing, in_front, applied_to, goal_at, value_at}
+use Rattle.pi_meaning.specs.Loops as over_names
+use Rattle.pi_meaning.specs.Loops.{hidden}
+use Rattle.pi_meaning.specs.Forms.{form_of, plain, call_value, operand_readings, range_value, indexed_by, atom_goal, is_find_all, is_count_all}
+use Rattle.pi_meaning.specs.Goals.{value_of, values_of, values_in, values_apart, goals_in, goal_of, all_of, any_of, arrow_in, branches_of, units_of}
+use Rattle.pi_meaning.proofs.LoopNames.{Within, AreNamed, behind-named, shared-before, assigned-occurs}
 use Rattle.pi_lowered.specs.Slots.{SlotNames}
 use Rattle.pi_lowered.specs.Values.{is_flat, last_value, value_before, value_by}
 use Rattle.pi_lowered.specs.Goals as slots

@@ -14,11 +14,11 @@ use Rattle.pi_meaning.specs.Level.{Level, Applied, calls_at, ticked}
 use Rattle.pi_meaning.specs.Builtins.{Builtins}
 use Rattle.pi_meaning.specs.Raise.{raised_with}
 use Rattle.pi_meaning.specs.Rules.{pred_run, function_run, call_run, application_run, level_at}
-use Rattle.pi_names.specs.Texts.{behind, places}
-use Rattle.pi_names.specs.Stages.{RulesSetting}
-use Rattle.pi_names.specs.Rules as over_names
-use Rattle.pi_names.specs.Rules.{places_in, names_before, function_names, rules_named, facts_named, functions_named, modes_named, predicate_run, functions_called, body_or_none, level_for}
-use Rattle.pi_names.proofs.LoopNames.{AreNamed, behind-named}
+use Rattle.pi_meaning.specs.Texts.{behind, places}
+use Rattle.pi_meaning.specs.Stages.{RulesSetting}
+use Rattle.pi_meaning.specs.RulesOverNames as over_names
+use Rattle.pi_meaning.specs.RulesOverNames.{places_in, names_before, function_names, rules_named, facts_named, functions_named, modes_named, predicate_run, functions_called, body_or_none, level_for}
+use Rattle.pi_meaning.proofs.LoopNames.{AreNamed, behind-named}
 use Rattle.pi_lowered.specs.Values.{last_value}
 use Rattle.pi_lowered.specs.Forms.{Knows}
 use Rattle.pi_lowered.specs.Sites.{Site}

@@ -8,7 +8,7 @@ use Rattle.pi_syntax.specs.ProgramTree.{RuleTree, FunctionTree, WrittenClause, r
 use Rattle.pi_syntax.specs.Signature.{Signature, signature}
 use Rattle.pi_core.specs.CoreTree.{ClauseTree, PredTree, index_of}
 use Rattle.pi_meaning.specs.WrittenRules.{is_signature, is_rule_of, rule_in, rules_of, head_arguments}
-use Rattle.pi_names.specs.Rules.{function_in, fact_head, is_head_of, rules_named, facts_named, functions_named}
+use Rattle.pi_meaning.specs.RulesOverNames.{function_in, fact_head, is_head_of, rules_named, facts_named, functions_named}
 use Rattle.pi_lowered.specs.Forms.{Knows, ArePatterns}
 use Rattle.pi_lowered.specs.Lowered.{named_by, Lowering}
 use Rattle.pi_lowered.specs.Helpers.{value_helpers, goal_helpers}

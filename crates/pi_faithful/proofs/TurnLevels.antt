@@ -9,8 +9,8 @@ use Rattle.pi_meaning.specs.Trace.{Trace}
 use Rattle.pi_meaning.specs.Level.{Level, lower, or_called}
 use Rattle.pi_meaning.specs.Builtins.{Builtins}
 use Rattle.pi_meaning.specs.Rules.{call_run, entered, pred_run, calls_of, quiet_level, level_at}
-use Rattle.pi_names.specs.Stages.{RulesSetting}
-use Rattle.pi_names.specs.Rules.{calls_by, level_for}
+use Rattle.pi_meaning.specs.Stages.{RulesSetting}
+use Rattle.pi_meaning.specs.RulesOverNames.{calls_by, level_for}
 use Rattle.pi_faithful.proofs.LevelLemmas.{core-drains}
 use Rattle.pi_faithful.proofs.HelperLemmas.{HelperCalled}
 use Rattle.pi_faithful.proofs.WhileLemmas.{Turns, last_turn, one_more}

@@ -3,11 +3,11 @@ use Rattle.std.proofs.Common.{◌≡◌, ℕ, ◌+◌, Bool, true, false, cond, 
 use Rattle.std.specs.Prelude.{Option, Some, None, ◌||◌, codes}
 use Rattle.pi_syntax.specs.ExpTree.{ExpTree, ExpTrees, exp}
 use Rattle.pi_core.specs.CoreTree.{PredTree}
-use Rattle.pi_names.specs.Texts.{Names, is_among, places, behind, occurring_all, iterated, unit_places, pattern_places, patterns_of, shared_names, names_inside, kept_names}
-use Rattle.pi_names.specs.Control.{Goal, strictly, Value, Values, applied_to}
-use Rattle.pi_names.specs.Loops as over_names
-use Rattle.pi_names.specs.Goals.{units_of, collection_of, goal_of}
-use Rattle.pi_names.proofs.LoopNames.{among-append, Within, AreNamed, behind-named, shared-before, inside-before}
+use Rattle.pi_meaning.specs.Texts.{Names, is_among, places, behind, occurring_all, iterated, unit_places, pattern_places, patterns_of, shared_names, names_inside, kept_names}
+use Rattle.pi_meaning.specs.ControlOverNames.{Goal, strictly, Value, Values, applied_to}
+use Rattle.pi_meaning.specs.Loops as over_names
+use Rattle.pi_meaning.specs.Goals.{units_of, collection_of, goal_of}
+use Rattle.pi_meaning.proofs.LoopNames.{among-append, Within, AreNamed, behind-named, shared-before, inside-before}
 use Rattle.pi_lowered.specs.Slots.{SlotNames}
 use Rattle.pi_lowered.specs.Values.{slot_pattern}
 use Rattle.pi_lowered.specs.Forms.{IsPattern}

@@ -18,9 +18,9 @@ use Rattle.pi_meaning.specs.Calls.{predicate_called, function_called, first_call
 use Rattle.pi_meaning.specs.Meaning.{calling, applying, meaning}
 use Rattle.pi_meaning.specs.Environment.{Environment, Valued, ValuedAll}
 use Rattle.pi_meaning.specs.Place.{Place}
-use Rattle.pi_names.specs.Assigning.{place_of}
-use Rattle.pi_names.specs.Terms.{items_onto, written_terms}
-use Rattle.pi_names.specs.Control.{Value, Values, nothing, behind_all, in_front, made_of, made_onto, applied_to, called_with, calling_term}
+use Rattle.pi_meaning.specs.Assigning.{place_of}
+use Rattle.pi_meaning.specs.Terms.{items_onto, written_terms}
+use Rattle.pi_meaning.specs.ControlOverNames.{Value, Values, nothing, behind_all, in_front, made_of, made_onto, applied_to, called_with, calling_term}
 use Rattle.pi_lowered.specs.Slots.{SlotNames, unnamed, with_value}
 use Rattle.pi_lowered.specs.Values.{SlotTerms, SlotValue, SlotValues, slot_terms, no_values, before_values, value_of_parts, value_onto, applied}
 use Rattle.pi_lowered.specs.Goals.{called}

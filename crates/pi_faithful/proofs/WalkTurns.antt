@@ -20,8 +20,8 @@ use Rattle.pi_meaning.specs.Builtins.{Builtins, predicate_by}
 use Rattle.pi_meaning.specs.Given.{Setting}
 use Rattle.pi_meaning.specs.Environment.{Environment}
 use Rattle.pi_meaning.specs.Place.{Place}
-use Rattle.pi_names.specs.Control.{Goal}
-use Rattle.pi_names.specs.Loops.{element, elements}
+use Rattle.pi_meaning.specs.ControlOverNames.{Goal}
+use Rattle.pi_meaning.specs.Loops.{element, elements}
 use Rattle.pi_lowered.specs.Slots.{SlotNames}
 use Rattle.pi_lowered.specs.Values.{slot_pattern}
 use Rattle.pi_lowered.specs.Forms.{Knows, IsPattern}

@@ -16,9 +16,9 @@ use Rattle.pi_meaning.specs.Given.{Setting}
 use Rattle.pi_meaning.specs.Meaning.{ticking, meaning, strictly}
 use Rattle.pi_meaning.specs.Environment.{Environment}
 use Rattle.pi_meaning.specs.Place.{Place}
-use Rattle.pi_names.specs.Assigning.{carried}
-use Rattle.pi_names.specs.Control.{Goal, choosing, draining as names_draining, strictly as names_strictly}
-use Rattle.pi_names.specs.Loops as over_names
+use Rattle.pi_meaning.specs.Assigning.{carried}
+use Rattle.pi_meaning.specs.ControlOverNames.{Goal, choosing, draining as names_draining, strictly as names_strictly}
+use Rattle.pi_meaning.specs.Loops as over_names
 use Rattle.pi_lowered.specs.Slots.{SlotNames}
 use Rattle.pi_lowered.specs.Forms.{Knows}
 use Rattle.pi_lowered.specs.Goals.{SlotGoals, in_turn}

@@ -17,10 +17,10 @@ use Rattle.pi_meaning.specs.Builtins.{Builtins}
 use Rattle.pi_meaning.specs.Given.{Setting}
 use Rattle.pi_meaning.specs.Environment.{Environment, Valued}
 use Rattle.pi_meaning.specs.Place.{Place}
-use Rattle.pi_names.specs.Texts.{Names}
-use Rattle.pi_names.specs.Assigning.{with_names, narrowed, carried}
-use Rattle.pi_names.specs.Control.{Goal, Value}
-use Rattle.pi_names.specs.Loops as over_names
+use Rattle.pi_meaning.specs.Texts.{Names}
+use Rattle.pi_meaning.specs.Assigning.{with_names, narrowed, carried}
+use Rattle.pi_meaning.specs.ControlOverNames.{Goal, Value}
+use Rattle.pi_meaning.specs.Loops as over_names
 use Rattle.pi_lowered.specs.Slots.{SlotNames, unnamed, with_value}
 use Rattle.pi_lowered.specs.Values.{SlotValue, slot_pattern}
 use Rattle.pi_lowered.specs.Forms.{Knows, IsPattern}

@@ -18,11 +18,11 @@ use Rattle.pi_meaning.specs.Given.{Setting}
 use Rattle.pi_meaning.specs.Meaning.{meaning}
 use Rattle.pi_meaning.specs.Environment.{Environment, meant}
 use Rattle.pi_meaning.specs.Place.{Place}
-use Rattle.pi_names.specs.Texts.{Names, is_among}
-use Rattle.pi_names.specs.Assigning.{with_names, narrowed}
-use Rattle.pi_names.specs.Control.{Goal}
-use Rattle.pi_names.specs.Loops as over_names
-use Rattle.pi_names.specs.Loops.{Finish}
+use Rattle.pi_meaning.specs.Texts.{Names, is_among}
+use Rattle.pi_meaning.specs.Assigning.{with_names, narrowed}
+use Rattle.pi_meaning.specs.ControlOverNames.{Goal}
+use Rattle.pi_meaning.specs.Loops as over_names
+use Rattle.pi_meaning.specs.Loops.{Finish}
 use Rattle.pi_lowered.specs.Slots.{SlotNames, unnamed, slot_of, slot_or_next, slot_for}
 use Rattle.pi_lowered.specs.Forms.{Knows}
 use Rattle.pi_lowered.specs.Goals.{SlotGoals}

@@ -24,10 +24,10 @@ use Rattle.pi_meaning.specs.Given.{Setting}
 use Rattle.pi_meaning.specs.Calls.{function_called}
 use Rattle.pi_meaning.specs.Environment.{Environment, Valued, ValuedAll}
 use Rattle.pi_meaning.specs.Place.{Place}
-use Rattle.pi_names.specs.Texts.{Names}
-use Rattle.pi_names.specs.Assigning.{with_names, narrowed, carried}
-use Rattle.pi_names.specs.Control.{Goal, Values, applied_to}
-use Rattle.pi_names.specs.Loops as over_names
+use Rattle.pi_meaning.specs.Texts.{Names}
+use Rattle.pi_meaning.specs.Assigning.{with_names, narrowed, carried}
+use Rattle.pi_meaning.specs.ControlOverNames.{Goal, Values, applied_to}
+use Rattle.pi_meaning.specs.Loops as over_names
 use Rattle.pi_lowered.specs.Slots.{SlotNames, unnamed, with_value}
 use Rattle.pi_lowered.specs.Values.{SlotValue, SlotValues, slot_pattern}
 use Rattle.pi_lowered.specs.Forms.{Knows, IsPattern}

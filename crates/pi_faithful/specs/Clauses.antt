@@ -4,7 +4,7 @@ use Rattle.pi_syntax.specs.ExpTree.{ExpTree}
 use Rattle.pi_syntax.specs.ProgramTree.{RuleTree, ProgramTree}
 use Rattle.pi_syntax.specs.declared.program.Mode.{Mode}
 use Rattle.pi_core.specs.CoreTree.{ClauseTree, PredTree, find_pred}
-use Rattle.pi_names.specs.Rules.{rules_named, facts_named, functions_named, modes_named}
+use Rattle.pi_meaning.specs.RulesOverNames.{rules_named, facts_named, functions_named, modes_named}
 use Rattle.pi_lowered.specs.Lowered.{lowered_rule, lowered_fact, lowered_function}
 
 -- a predicate or function of these clauses, where there are some, behind these mode lists

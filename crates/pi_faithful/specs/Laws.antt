@@ -18,9 +18,9 @@ use Rattle.pi_meaning.specs.Sound.{SlotsBelow, KeepsSlots}
 use Rattle.pi_meaning.specs.Place.{at_state, beginning}
 use Rattle.pi_meaning.specs.Telling.{place_told, told_trace, told_cut}
 use Rattle.pi_meaning.specs.Told.{solution_told}
-use Rattle.pi_names.specs.Prelude.{prelude}
-use Rattle.pi_names.specs.Stages.{LaterStages}
-use Rattle.pi_names.specs.Run.{program_level, answer_names, names_from, IsNamesRun}
+use Rattle.pi_meaning.specs.Prelude.{prelude}
+use Rattle.pi_meaning.specs.Stages.{LaterStages}
+use Rattle.pi_meaning.specs.RunOverNames.{program_level, answer_names, names_from, IsNamesRun}
 use Rattle.pi_lowered.specs.Forms.{Knows}
 use Rattle.pi_faithful.specs.Levels.{SameLevels, GoesByCalls}
 use Rattle.pi_faithful.specs.Roots.{LaterKeepsRoots}

@@ -6,8 +6,8 @@ use Rattle.pi_core.specs.CoreTree.{PredTree, find_pred}
 use Rattle.pi_meaning.specs.View.{View}
 use Rattle.pi_meaning.specs.Instances.{whole}
 use Rattle.pi_meaning.specs.Rules.{level_at}
-use Rattle.pi_names.specs.Stages.{LaterStages}
-use Rattle.pi_names.specs.Run.{program_level}
+use Rattle.pi_meaning.specs.Stages.{LaterStages}
+use Rattle.pi_meaning.specs.RunOverNames.{program_level}
 use Rattle.pi_faithful.specs.Levels.{SameLevels, GoesByCalls}
 use Rattle.pi_faithful.specs.Roots.{LaterKeepsRoots}
 use Rattle.pi_lowered.specs.Programs.{Naming, core_program, core_query}

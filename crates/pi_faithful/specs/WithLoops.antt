@@ -4,9 +4,9 @@ use Rattle.std.specs.Prelude.{◌≡◌, ◌≢◌, ℕ, zero, suc, false, Optio
 use Rattle.std.specs.Str.{bytes_eq}
 use Rattle.pi_syntax.specs.ExpTree.{ExpTree, var, int, atom, str, list, list_onto, array, call, quote, index, range, range_by, collect, and, or, arrow, if_then, if_else, foreach, while_do, do_while, ExpTrees, no_exps, exp, ExpBranches, no_branches, branch}
 use Rattle.pi_syntax.specs.Signature.{exp_count}
-use Rattle.pi_names.specs.Texts.{is_among, iterated, patterns_of}
-use Rattle.pi_names.specs.Loops.{hidden}
-use Rattle.pi_names.specs.Forms.{Form, assignment, form_of, is_find_all, is_count_all}
+use Rattle.pi_meaning.specs.Texts.{is_among, iterated, patterns_of}
+use Rattle.pi_meaning.specs.Loops.{hidden}
+use Rattle.pi_meaning.specs.Forms.{Form, assignment, form_of, is_find_all, is_count_all}
 use Rattle.pi_lowered.specs.Forms.{Knows, IsTerm, IsPattern, IsFunctionCall, IsPredicateCall, IsAtomGoal}
 
 -- an iterator, whose pattern is one of a head, or a test

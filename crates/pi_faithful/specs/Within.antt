@@ -8,9 +8,9 @@ use Rattle.pi_syntax.specs.declared.program.Mode.{Mode}
 use Rattle.pi_core.specs.CoreTree.{index_of}
 use Rattle.pi_meaning.specs.Names.{is_given_predicate, is_given_function}
 use Rattle.pi_meaning.specs.WrittenRules.{head_arguments}
-use Rattle.pi_names.specs.Rules.{fact_head, is_head_in, rules_named, facts_named, heads_named, functions_named}
-use Rattle.pi_names.specs.Prelude.{prelude}
-use Rattle.pi_names.specs.Run.{is_some_head}
+use Rattle.pi_meaning.specs.RulesOverNames.{fact_head, is_head_in, rules_named, facts_named, heads_named, functions_named}
+use Rattle.pi_meaning.specs.Prelude.{prelude}
+use Rattle.pi_meaning.specs.RunOverNames.{is_some_head}
 use Rattle.pi_lowered.specs.Forms.{Knows, IsExpression, IsGoal, ArePatterns}
 
 abbrev pub is_some_function : List FunctionTree → Bool

@@ -5,7 +5,7 @@ use Rattle.pi_syntax.specs.ProgramTree.{RuleTree, FunctionTree, WrittenClause, r
 use Rattle.pi_core.specs.CoreTree.{PredTree, index_of}
 use Rattle.pi_meaning.specs.Names.{is_given_predicate}
 use Rattle.pi_meaning.specs.WrittenRules.{head_arguments}
-use Rattle.pi_names.specs.Prelude.{prelude}
+use Rattle.pi_meaning.specs.Prelude.{prelude}
 use Rattle.pi_lowered.specs.Forms.{Knows, ArePatterns}
 use Rattle.pi_faithful.specs.WithLoops.{IsExpression, IsGoal}
 use Rattle.pi_faithful.specs.Within.{knows, IsFree, AreModes, keys, StandTogether, IsIndexed}

@@ -6,7 +6,7 @@ use Rattle.std.proofs.lemmas.List.{append-nil, drop_all}
 use Rattle.pi_terms.specs.Tree.{Tree}
 use Rattle.pi_core.specs.GoalTree.{GoalTree}
 use Rattle.pi_effects.specs.Inner.{itself_name, in_order_name}
-use Rattle.pi_names.specs.Texts.{Names}
+use Rattle.pi_meaning.specs.Texts.{Names}
 use Rattle.pi_slots.specs.Indexed.{names_in}
 use Rattle.pi_slots.proofs.FlatLemmas.{drop-next}
 use Rattle.pi_slots.proofs.SlotLemmas.{length_names}

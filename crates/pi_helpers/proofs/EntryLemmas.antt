@@ -5,7 +5,7 @@ use Rattle.std.proofs.lemmas.List.{append-nil, drop_all}
 use Rattle.pi_terms.specs.Tree.{Tree, comp, trees_of}
 use Rattle.pi_syntax.specs.PrintTerm.{array_name}
 use Rattle.pi_core.specs.GoalTree.{GoalTree}
-use Rattle.pi_names.specs.Texts.{Names}
+use Rattle.pi_meaning.specs.Texts.{Names}
 use Rattle.pi_slots.specs.Indexed.{names_in}
 use Rattle.pi_slots.proofs.FlatLemmas.{drop-next}
 use Rattle.pi_lowered.specs.Slots.{SlotNames, slot_for, slots_for}

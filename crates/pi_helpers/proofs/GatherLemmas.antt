@@ -7,7 +7,7 @@ use Rattle.pi_terms.specs.ListNames.{nil, cell_name}
 use Rattle.pi_terms.specs.ListCopies.{list_cell}
 use Rattle.pi_core.specs.GoalTree.{GoalTree}
 use Rattle.pi_effects.specs.Inner.{itself_name}
-use Rattle.pi_names.specs.Loops.{hidden}
+use Rattle.pi_meaning.specs.Loops.{hidden}
 use Rattle.pi_lowered.specs.Slots.{SlotNames, slot_for, slots_for}
 use Rattle.pi_lowered.specs.Iterators.{found_by}
 use Rattle.pi_lowered.specs.Comprehensions.{begun, adding}

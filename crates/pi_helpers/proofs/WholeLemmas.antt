@@ -4,7 +4,7 @@ use Rattle.pi_terms.specs.Tree.{Tree}
 use Rattle.pi_core.specs.GoalTree.{GoalTree}
 use Rattle.pi_core.specs.CoreTree.{PredTree}
 use Rattle.pi_syntax.specs.ExpTree.{ExpTree}
-use Rattle.pi_names.specs.Texts.{Names}
+use Rattle.pi_meaning.specs.Texts.{Names}
 use Rattle.pi_lowered.specs.Slots.{SlotNames}
 use Rattle.pi_lowered.specs.Values.{SlotValue, SlotValues, slot_pattern}
 use Rattle.pi_lowered.specs.Goals.{SlotGoals}

@@ -9,8 +9,8 @@ use Rattle.std.proofs.lemmas.Slice.Eq.{bytes_eq-Decides}
 use Rattle.pi_terms.specs.Tree.{Tree}
 use Rattle.pi_terms.specs.Places.{Places, held}
 use Rattle.pi_meaning.specs.Environment.{Environment, meant, known, with_name}
-use Rattle.pi_names.specs.Assigning as assigning
-use Rattle.pi_names.proofs.OtherEnvironments.{meant-value}
+use Rattle.pi_meaning.specs.Assigning as assigning
+use Rattle.pi_meaning.proofs.OtherEnvironments.{meant-value}
 use Rattle.pi_lowered.specs.Slots.{SlotNames, unnamed, slot_of, slot_known, slot_or_next, slots_with, slot_for, slots_for, with_value}
 
 pub text_itself : (a : List ℕ) → bytes_eq a a ≡ true

@@ -6,9 +6,9 @@ use Rattle.std.proofs.lemmas.List.{get_or_append_left, get_or-append-add, map-ap
 use Rattle.pi_terms.specs.Tree.{Tree}
 use Rattle.pi_terms.specs.Places.{Places, held}
 use Rattle.pi_meaning.specs.Environment.{Environment, meant}
-use Rattle.pi_names.specs.Texts.{Names}
-use Rattle.pi_names.specs.Assigning.{narrowed}
-use Rattle.pi_names.proofs.OtherEnvironments.{meant-narrowed}
+use Rattle.pi_meaning.specs.Texts.{Names}
+use Rattle.pi_meaning.specs.Assigning.{narrowed}
+use Rattle.pi_meaning.proofs.OtherEnvironments.{meant-narrowed}
 use Rattle.pi_lowered.specs.Slots.{SlotNames, unnamed, slot_of, with_value}
 use Rattle.pi_lowered.specs.Loops.{with_values, Loop, loop_slots}
 use Rattle.pi_lowered.proofs.AgreeLemmas.{Room, free_room, text_itself, Grows, or_last, finds, slot-among, slot-below, name_at, Agrees, holding, unnamed-still}

@@ -17,8 +17,8 @@ use Rattle.pi_meaning.specs.Handling.{handled_in, handling}
 use Rattle.pi_meaning.specs.Meaning.{Action, draining, strictly, failing, catching as core_catching, meaning, meaning_of_any}
 use Rattle.pi_meaning.specs.Environment.{Environment, Valued}
 use Rattle.pi_meaning.specs.Place.{Place, at_state}
-use Rattle.pi_names.specs.Assigning.{place_of}
-use Rattle.pi_names.specs.Control.{Goal, Value, no_goal, following, either, choosing, Arrow, branch_before, denying, taken_once, catching, strictly as names_strictly}
+use Rattle.pi_meaning.specs.Assigning.{place_of}
+use Rattle.pi_meaning.specs.ControlOverNames.{Goal, Value, no_goal, following, either, choosing, Arrow, branch_before, denying, taken_once, catching, strictly as names_strictly}
 use Rattle.pi_lowered.specs.Slots.{SlotNames}
 use Rattle.pi_lowered.specs.Values.{SlotValue}
 use Rattle.pi_lowered.specs.Goals.{SlotGoals, SlotBranches, SlotArrow, in_turn, either_of, just, never, goal_by, catching as slots_catching, joined, choosing as slots_choosing, as_goals, in_front, one_branch, branch_before as slots_branch_before}

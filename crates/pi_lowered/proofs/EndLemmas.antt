@@ -22,10 +22,10 @@ use Rattle.pi_meaning.specs.Given.{Setting}
 use Rattle.pi_meaning.specs.Meaning.{calling, applying, meaning}
 use Rattle.pi_meaning.specs.Environment.{Environment}
 use Rattle.pi_meaning.specs.Place.{Place}
-use Rattle.pi_names.specs.Texts.{Names}
-use Rattle.pi_names.specs.Assigning.{with_value}
-use Rattle.pi_names.specs.Loops as over_names
-use Rattle.pi_names.specs.Loops.{Finish, now}
+use Rattle.pi_meaning.specs.Texts.{Names}
+use Rattle.pi_meaning.specs.Assigning.{with_value}
+use Rattle.pi_meaning.specs.Loops as over_names
+use Rattle.pi_meaning.specs.Loops.{Finish, now}
 use Rattle.pi_lowered.specs.Slots.{SlotNames, slot_for}
 use Rattle.pi_lowered.specs.Forms.{Knows}
 use Rattle.pi_lowered.specs.Loops.{Ending, as_it_is, in_order, ended, closing, closing_slots}

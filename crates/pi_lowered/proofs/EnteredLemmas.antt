@@ -6,9 +6,9 @@ use Rattle.std.proofs.lemmas.Bool.Decides.{Decides-eqb}
 use Rattle.pi_terms.specs.Tree.{Tree}
 use Rattle.pi_terms.specs.Places.{Places, held}
 use Rattle.pi_meaning.specs.Environment.{Environment, meant}
-use Rattle.pi_names.specs.Texts.{Names, is_among}
-use Rattle.pi_names.specs.Assigning.{narrowed}
-use Rattle.pi_names.proofs.OtherEnvironments.{meant-narrowed}
+use Rattle.pi_meaning.specs.Texts.{Names, is_among}
+use Rattle.pi_meaning.specs.Assigning.{narrowed}
+use Rattle.pi_meaning.proofs.OtherEnvironments.{meant-narrowed}
 use Rattle.pi_lowered.specs.Slots.{SlotNames, unnamed, slot_of, with_value}
 use Rattle.pi_lowered.specs.Loops.{with_values, Loop, loop_slots}
 use Rattle.pi_lowered.proofs.AgreeLemmas.{Room, Fixed, Grows, by, grows-none, grows-then, or_last, finds, slot-among, slot-alone, slot-below, Agrees}

@@ -7,7 +7,7 @@ use Rattle.pi_terms.specs.Places.{Places, held}
 use Rattle.pi_states.specs.State.{State}
 use Rattle.pi_states.specs.Evaluation.{Evaluated, EvaluatedAll, slot_term, evaluated, evaluated_all}
 use Rattle.pi_effects.specs.Items.{list_onto, list_of}
-use Rattle.pi_names.specs.Terms.{items_onto}
+use Rattle.pi_meaning.specs.Terms.{items_onto}
 
 -- the slots of a term are filled, and with them it is this term
 mutual

@@ -11,12 +11,12 @@ use Rattle.pi_meaning.specs.Level.{Level}
 use Rattle.pi_meaning.specs.Given.{Setting}
 use Rattle.pi_meaning.specs.Environment.{Valued, ValuedAll}
 use Rattle.pi_meaning.specs.Place.{Place}
-use Rattle.pi_names.specs.Texts.{Names, behind, places, places_all}
-use Rattle.pi_names.specs.Assigning.{place_of}
-use Rattle.pi_names.specs.Terms.{items_onto, made, list_made, with_front, written_term, written_terms}
-use Rattle.pi_names.specs.Control.{behind_all}
-use Rattle.pi_names.specs.Forms.{plain}
-use Rattle.pi_names.specs.Goals.{term_value, value_of, values_of}
+use Rattle.pi_meaning.specs.Texts.{Names, behind, places, places_all}
+use Rattle.pi_meaning.specs.Assigning.{place_of}
+use Rattle.pi_meaning.specs.Terms.{items_onto, made, list_made, with_front, written_term, written_terms}
+use Rattle.pi_meaning.specs.ControlOverNames.{behind_all}
+use Rattle.pi_meaning.specs.Forms.{plain}
+use Rattle.pi_meaning.specs.Goals.{term_value, value_of, values_of}
 use Rattle.pi_lowered.specs.Values.{is_flat, are_flat}
 use Rattle.pi_lowered.specs.Forms.{Knows, IsTerm, AreTerms, IsExpression}
 use Rattle.pi_lowered.proofs.RunLemmas.{then-of-one}

@@ -16,10 +16,10 @@ use Rattle.pi_meaning.specs.Given.{Setting}
 use Rattle.pi_meaning.specs.Meaning.{meaning}
 use Rattle.pi_meaning.specs.Environment.{Environment, known, Valued, ValuedAll, name_valued}
 use Rattle.pi_meaning.specs.Place.{Place}
-use Rattle.pi_names.specs.Texts.{Names}
-use Rattle.pi_names.specs.Assigning.{place_of, with_names, with_value}
-use Rattle.pi_names.specs.Forms.{plain}
-use Rattle.pi_names.specs.Goals.{value_of, values_of}
+use Rattle.pi_meaning.specs.Texts.{Names}
+use Rattle.pi_meaning.specs.Assigning.{place_of, with_names, with_value}
+use Rattle.pi_meaning.specs.Forms.{plain}
+use Rattle.pi_meaning.specs.Goals.{value_of, values_of}
 use Rattle.pi_lowered.specs.Slots.{SlotNames, slot_known, slot_or_next, slots_with, slot_for, slots_for}
 use Rattle.pi_lowered.specs.Values.{is_flat, are_flat}
 use Rattle.pi_lowered.specs.Forms.{Knows, IsTerm, AreTerms}
@@ -47,9 +47,9 @@ unfolding value_of as_written written_values
 names-come set m before [] p = refl
 names-come set m before (name ∷ names) p =
     let x : Valued = name_valued (known name p.names) name p.names p.state in
-    then-of-one x (λ y. then (values_of set [] (Rattle.pi_names.specs.Texts.behind before (Rattle.pi_names.specs.Texts.places (Rattle.pi_syntax.specs.ExpTree.var name))) (as_written names) m (place_of y)) (λ all. one (record { trees = tree y.tree all.trees; names = all.names; state = all.state })))
+    then-of-one x (λ y. then (values_of set [] (Rattle.pi_meaning.specs.Texts.behind before (Rattle.pi_meaning.specs.Texts.places (Rattle.pi_syntax.specs.ExpTree.var name))) (as_written names) m (place_of y)) (λ all. one (record { trees = tree y.tree all.trees; names = all.names; state = all.state })))
     ∙ ap (λ (t : Trace ValuedAll). then t (λ all. one (record { trees = tree x.tree all.trees; names = all.names; state = all.state })))
-    (names-come set m (Rattle.pi_names.specs.Texts.behind before (Rattle.pi_names.specs.Texts.places (Rattle.pi_syntax.specs.ExpTree.var name))) names (place_of x))
+    (names-come set m (Rattle.pi_meaning.specs.Texts.behind before (Rattle.pi_meaning.specs.Texts.places (Rattle.pi_syntax.specs.ExpTree.var name))) names (place_of x))
     ∙ then-of-one (written_values names (place_of x)) (λ all. one (record { trees = tree x.tree all.trees; names = all.names; state = all.state }))
 
 abbrev behind_values : ValuedAll → Place

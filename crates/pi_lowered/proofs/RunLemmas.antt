@@ -15,7 +15,7 @@ use Rattle.pi_meaning.specs.Calls.{predicate_called, function_called, first_call
 use Rattle.pi_meaning.specs.Meaning.{Action, draining, strictly, succeeding, meaning, meaning_of_all}
 use Rattle.pi_meaning.specs.Environment.{Environment, Valued, ValuedAll}
 use Rattle.pi_meaning.specs.Place.{Place}
-use Rattle.pi_names.specs.Control.{Goal, Value, Values, draining as names_draining, strictly as names_strictly}
+use Rattle.pi_meaning.specs.ControlOverNames.{Goal, Value, Values, draining as names_draining, strictly as names_strictly}
 use Rattle.pi_lowered.specs.Slots.{SlotNames}
 use Rattle.pi_lowered.specs.Values.{SlotValue, SlotValues}
 use Rattle.pi_lowered.specs.Goals.{SlotGoals, in_turn}

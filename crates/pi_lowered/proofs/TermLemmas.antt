@@ -13,7 +13,7 @@ use Rattle.pi_syntax.specs.PrintTerm.{array_name}
 use Rattle.pi_effects.specs.Texts.{text_list}
 use Rattle.pi_syntax.specs.ExpTree.{ExpTree, var, int, atom, str, list, list_onto, array, call, quote, range, range_by, ExpTrees, no_exps, exp}
 use Rattle.pi_meaning.specs.Environment.{Environment, known, Valued, ValuedAll, name_valued}
-use Rattle.pi_names.specs.Terms.{items_onto, constant, made, with_front, nothing_behind, written_term, written_terms}
+use Rattle.pi_meaning.specs.Terms.{items_onto, constant, made, with_front, nothing_behind, written_term, written_terms}
 use Rattle.pi_lowered.specs.Slots.{SlotNames, slot_known, slot_or_next, slots_with, slot_for, slots_for}
 use Rattle.pi_lowered.specs.Values.{SlotTerm, SlotTerms, slot_term, slot_terms}
 use Rattle.pi_lowered.specs.Forms.{IsTerm, AreTerms}

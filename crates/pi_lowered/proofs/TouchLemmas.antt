@@ -19,10 +19,10 @@ use Rattle.pi_meaning.specs.Calls.{predicate_called}
 use Rattle.pi_meaning.specs.Handling.{handling}
 use Rattle.pi_meaning.specs.Meaning.{draining, strictly, succeeding, calling, catching, meaning}
 use Rattle.pi_meaning.specs.Environment.{Environment, Valued}
-use Rattle.pi_names.specs.Texts.{Names}
-use Rattle.pi_names.specs.Forms.{plain}
-use Rattle.pi_names.specs.Terms.{written_term}
-use Rattle.pi_names.specs.Goals.{term_value, value_of}
+use Rattle.pi_meaning.specs.Texts.{Names}
+use Rattle.pi_meaning.specs.Forms.{plain}
+use Rattle.pi_meaning.specs.Terms.{written_term}
+use Rattle.pi_meaning.specs.Goals.{term_value, value_of}
 use Rattle.pi_lowered.specs.Slots.{SlotNames}
 use Rattle.pi_lowered.specs.Values.{SlotTerm, slot_term, is_flat, as_it_stands, is_below, are_below, evaluating, filling, filled_before}
 use Rattle.pi_lowered.specs.Forms.{Knows, IsTerm}

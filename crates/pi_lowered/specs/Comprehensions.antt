@@ -6,8 +6,8 @@ use Rattle.pi_terms.specs.ListNames.{nil}
 use Rattle.pi_terms.specs.ListCopies.{list_cell}
 use Rattle.pi_effects.specs.Inner.{itself_name}
 use Rattle.pi_core.specs.GoalTree.{GoalTree}
-use Rattle.pi_names.specs.Texts.{Names}
-use Rattle.pi_names.specs.Loops.{hidden}
+use Rattle.pi_meaning.specs.Texts.{Names}
+use Rattle.pi_meaning.specs.Loops.{hidden}
 use Rattle.pi_lowered.specs.Slots.{SlotNames, slot_for, slots_for}
 use Rattle.pi_lowered.specs.Values.{SlotValue}
 use Rattle.pi_lowered.specs.Goals.{SlotGoals, put}

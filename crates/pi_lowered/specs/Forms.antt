@@ -5,7 +5,7 @@ use Rattle.std.specs.Str.{bytes_eq}
 use Rattle.pi_syntax.specs.ExpTree.{ExpTree, var, int, atom, str, list, list_onto, array, call, quote, index, range, range_by, at, and, or, arrow, if_then, if_else, ExpTrees, no_exps, exp, ExpBranches, no_branches, branch}
 use Rattle.pi_syntax.specs.Signature.{exp_count}
 use Rattle.pi_meaning.specs.Names.{is_given_predicate, is_given_function}
-use Rattle.pi_names.specs.Forms.{Form, negation, once, assignment, catch, by_term, membership, form_of, readings, is_find_all, is_count_all}
+use Rattle.pi_meaning.specs.Forms.{Form, negation, once, assignment, catch, by_term, membership, form_of, readings, is_find_all, is_count_all}
 
 -- the predicates and functions of a program, with the prelude
 pub record Knows : Type 0 where

@@ -10,9 +10,9 @@ use Rattle.pi_effects.specs.Inner.{itself_name}
 use Rattle.pi_syntax.specs.ExpTree.{ExpTree, var, int, atom, str, list, list_onto, array, call, quote, index, range, range_by, at, collect, and, or, arrow, if_then, if_else, foreach, while_do, do_while, ExpTrees, no_exps, exp, ExpBranches, no_branches, branch}
 use Rattle.pi_syntax.specs.Signature.{exp_count}
 use Rattle.pi_core.specs.GoalTree.{GoalTree, goals_of}
-use Rattle.pi_names.specs.Terms.{items_onto}
-use Rattle.pi_names.specs.Forms.{Form, negation, once, assignment, catch, by_term, membership, form_of, is_find_all, is_count_all}
-use Rattle.pi_names.specs.Texts.{variable_first}
+use Rattle.pi_meaning.specs.Terms.{items_onto}
+use Rattle.pi_meaning.specs.Forms.{Form, negation, once, assignment, catch, by_term, membership, form_of, is_find_all, is_count_all}
+use Rattle.pi_meaning.specs.Texts.{variable_first}
 use Rattle.pi_lowered.specs.Slots.{SlotNames, slot_for, slots_for, with_value}
 use Rattle.pi_lowered.specs.Values.{is_flat, are_flat, SlotValue, SlotValues, last_value, value_before, value_by, no_values, before_values, value_of_parts, value_onto, applied, Slotted, slotted}
 

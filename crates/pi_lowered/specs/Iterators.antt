@@ -7,7 +7,7 @@ use Rattle.pi_effects.specs.Indexing.{index_name}
 use Rattle.pi_syntax.specs.ExpTree.{ExpTree}
 use Rattle.pi_core.specs.GoalTree.{GoalTree}
 use Rattle.pi_core.specs.CoreTree.{ClauseTree, PredTree}
-use Rattle.pi_names.specs.Texts.{Names, is_among}
+use Rattle.pi_meaning.specs.Texts.{Names, is_among}
 use Rattle.pi_lowered.specs.Slots.{SlotNames, unnamed, with_value}
 use Rattle.pi_lowered.specs.Values.{SlotPattern, slot_pattern, SlotValue}
 use Rattle.pi_lowered.specs.Goals.{SlotGoals, in_turn, just, choosing}

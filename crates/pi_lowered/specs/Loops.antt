@@ -7,7 +7,7 @@ use Rattle.pi_effects.specs.Inner.{itself_name, in_order_name}
 use Rattle.pi_syntax.specs.ExpTree.{var, array, ExpTrees, no_exps, exp}
 use Rattle.pi_core.specs.GoalTree.{GoalTree}
 use Rattle.pi_core.specs.CoreTree.{ClauseTree, PredTree}
-use Rattle.pi_names.specs.Texts.{Names}
+use Rattle.pi_meaning.specs.Texts.{Names}
 use Rattle.pi_lowered.specs.Slots.{SlotNames, with_value, slot_for}
 use Rattle.pi_lowered.specs.Values.{SlotValue, slot_term, filled_before}
 use Rattle.pi_lowered.specs.Goals.{SlotGoals, in_turn}

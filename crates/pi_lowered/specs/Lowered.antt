@@ -7,9 +7,9 @@ use Rattle.pi_syntax.specs.declared.program.Mode.{Mode}
 use Rattle.pi_core.specs.GoalTree.{GoalTree, truth, seq, goals_of}
 use Rattle.pi_core.specs.CoreTree.{ClauseTree, PredTree, QueryTree, index_of}
 use Rattle.pi_meaning.specs.WrittenRules.{is_signature, head_arguments}
-use Rattle.pi_names.specs.Texts.{Names}
-use Rattle.pi_names.specs.Prelude.{prelude}
-use Rattle.pi_names.specs.Run.{answer_names}
+use Rattle.pi_meaning.specs.Texts.{Names}
+use Rattle.pi_meaning.specs.Prelude.{prelude}
+use Rattle.pi_meaning.specs.RunOverNames.{answer_names}
 use Rattle.pi_lowered.specs.Slots.{SlotNames, named_slots, slots_behind}
 use Rattle.pi_lowered.specs.Values.{SlotValue, SlotPatterns, slot_patterns, last_value}
 use Rattle.pi_lowered.specs.Goals.{SlotGoals, in_turn, made, goal_of}

@@ -6,10 +6,10 @@ use Rattle.pi_syntax.specs.ProgramTree.{RuleTree, FunctionTree, WrittenClause, r
 use Rattle.pi_syntax.specs.Signature.{signature}
 use Rattle.pi_syntax.specs.declared.program.Mode.{Mode}
 use Rattle.pi_core.specs.CoreTree.{ClauseTree, PredTree, QueryTree, index_of}
-use Rattle.pi_names.specs.Texts.{Names, places, behind}
-use Rattle.pi_names.specs.Rules.{places_in, names_before, function_names}
-use Rattle.pi_names.specs.Prelude.{prelude}
-use Rattle.pi_names.specs.Run.{answer_names}
+use Rattle.pi_meaning.specs.Texts.{Names, places, behind}
+use Rattle.pi_meaning.specs.RulesOverNames.{places_in, names_before, function_names}
+use Rattle.pi_meaning.specs.Prelude.{prelude}
+use Rattle.pi_meaning.specs.RunOverNames.{answer_names}
 use Rattle.pi_lowered.specs.Slots.{SlotNames, named_slots, slots_behind}
 use Rattle.pi_lowered.specs.Values.{last_value}
 use Rattle.pi_lowered.specs.Goals.{SlotGoals, in_turn}

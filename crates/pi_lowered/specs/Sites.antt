@@ -2,8 +2,8 @@
 -- of the loops in a loop come before its own. (Own.)
 use Rattle.std.specs.Prelude.{ℕ, zero, suc, ◌+◌, Bool, true, false, cond, List, Option, Some, None}
 use Rattle.pi_syntax.specs.ExpTree.{ExpTree, var, int, atom, str, list, list_onto, array, call, quote, index, range, range_by, at, collect, and, or, arrow, if_then, if_else, foreach, while_do, do_while, ExpTrees, no_exps, exp, ExpBranches, no_branches, branch}
-use Rattle.pi_names.specs.Texts.{Names, places, places_all, behind, iterated, begins_with_iterator}
-use Rattle.pi_names.specs.Forms.{Form, catch}
+use Rattle.pi_meaning.specs.Texts.{Names, places, places_all, behind, iterated, begins_with_iterator}
+use Rattle.pi_meaning.specs.Forms.{Form, catch}
 
 -- ---- how many helpers
 

@@ -2,7 +2,7 @@
 -- before it is used; no name finds these. (Own.)
 use Rattle.std.specs.Prelude.{ℕ, suc, cond, List, [], ◌∷◌, ◌++◌, length, option_map, Option, Some, None, codes}
 use Rattle.std.specs.Str.{bytes_eq}
-use Rattle.pi_names.specs.Texts.{Names}
+use Rattle.pi_meaning.specs.Texts.{Names}
 use Rattle.pi_core.specs.declared.core_program.NameSlot.{NameSlot}
 
 -- the name of each slot

@@ -1,4 +1,4 @@
--- Terms and patterns over slots, and what goals make of values before they are used. (Own; the order of evaluation is that of `pi_names`.)
+-- Terms and patterns over slots, and what goals make of values before they are used. (Own; the order of evaluation is that of `pi_meaning`.)
 use Rattle.std.specs.Prelude.{ℕ, nat_lt, Bool, true, false, ◌&&◌, cond, List, [], ◌∷◌, ◌++◌, length, codes}
 use Rattle.pi_terms.specs.Tree.{Tree, Trees, no_trees, tree, trees_of}
 use Rattle.pi_terms.specs.ListNames.{nil, cell_name}
@@ -8,7 +8,7 @@ use Rattle.pi_effects.specs.Texts.{text_list}
 use Rattle.pi_effects.specs.Inner.{itself_name}
 use Rattle.pi_syntax.specs.ExpTree.{ExpTree, var, int, atom, str, list, list_onto, array, call, quote, index, range, range_by, at, collect, and, or, arrow, if_then, if_else, foreach, while_do, do_while, ExpTrees, no_exps, exp}
 use Rattle.pi_core.specs.GoalTree.{GoalTree}
-use Rattle.pi_names.specs.Terms.{items_onto}
+use Rattle.pi_meaning.specs.Terms.{items_onto}
 use Rattle.pi_lowered.specs.Slots.{SlotNames, slot_for, slots_for, with_value}
 
 -- ---- terms

@@ -6,10 +6,10 @@ use Rattle.pi_syntax.specs.PrintTerm.{array_name}
 use Rattle.pi_syntax.specs.ExpTree.{ExpTree, var, int, atom, str, list, list_onto, array, call, quote, index, range, range_by, at, collect, and, or, arrow, if_then, if_else, foreach, while_do, do_while, ExpTrees, no_exps, exp, ExpBranches, no_branches, branch}
 use Rattle.pi_syntax.specs.Signature.{exp_count}
 use Rattle.pi_core.specs.GoalTree.{GoalTree}
-use Rattle.pi_names.specs.Terms.{items_onto}
-use Rattle.pi_names.specs.Forms.{form_of, is_find_all}
-use Rattle.pi_names.specs.Texts.{Names, places, places_all, places_of_branches, occurring, occurring_all, behind, iterated, begins_with_iterator, shared_names, names_inside, variable_first, assigned, kept_names}
-use Rattle.pi_names.specs.Loops.{hidden}
+use Rattle.pi_meaning.specs.Terms.{items_onto}
+use Rattle.pi_meaning.specs.Forms.{form_of, is_find_all}
+use Rattle.pi_meaning.specs.Texts.{Names, places, places_all, places_of_branches, occurring, occurring_all, behind, iterated, begins_with_iterator, shared_names, names_inside, variable_first, assigned, kept_names}
+use Rattle.pi_meaning.specs.Loops.{hidden}
 use Rattle.pi_lowered.specs.Slots.{SlotNames, unnamed}
 use Rattle.pi_lowered.specs.Values.{is_flat, are_flat, SlotValue, SlotValues, last_value, value_before, value_by, no_values, before_values, value_of_parts, value_onto, slot_pattern}
 use Rattle.pi_lowered.specs.Goals.{SlotGoals, SlotBranches, just, never, no_value, value_at, call_goals, call_value, atom_goals, indexed_by, begins_flat, range_of_two, range_of_three, joined, choosing, as_goals, SlotArrow, branch_before}

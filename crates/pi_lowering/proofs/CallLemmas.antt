@@ -10,8 +10,8 @@ use Rattle.pi_syntax.specs.ExpTree.{ExpTree, ExpTrees, no_exps, exp, exp_tree}
 use Rattle.pi_syntax.specs.ExpLists.{exps_of}
 use Rattle.pi_syntax.specs.Signature.{exp_count}
 use Rattle.pi_syntax.specs.declared.exp.Exp.{Exp}
-use Rattle.pi_names.specs.Forms.{Form, negation, once, assignment, catch, by_term, membership, form_of, is_find_all, is_count_all}
-use Rattle.pi_names.specs.Texts.{places, places_all, variable_first}
+use Rattle.pi_meaning.specs.Forms.{Form, negation, once, assignment, catch, by_term, membership, form_of, is_find_all, is_count_all}
+use Rattle.pi_meaning.specs.Texts.{places, places_all, variable_first}
 use Rattle.pi_lowered.specs.Slots.{SlotNames}
 use Rattle.pi_lowered.specs.Goals.{SlotParts, goal_by, goals_at, value_at, assigned, catching, called, never, found_by, all_counted}
 use Rattle.pi_lowered.specs.Values.{SlotValue, applied}

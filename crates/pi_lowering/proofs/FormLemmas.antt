@@ -4,7 +4,7 @@ use Rattle.std.proofs.lemmas.Bool.{cond-true, cond-false}
 use Rattle.std.specs.Prelude.{◌==◌, ◌&&◌, Option, codes}
 use Rattle.std.specs.Str.{bytes_eq}
 use Rattle.pi_meaning.specs.Names.{is_catch, is_call}
-use Rattle.pi_names.specs.Forms.{Form, negation, once, assignment, catch, by_term, membership, form_of, is_find_all, is_count_all}
+use Rattle.pi_meaning.specs.Forms.{Form, negation, once, assignment, catch, by_term, membership, form_of, is_find_all, is_count_all}
 use Rattle.pi_lowered.specs.Slots.{SlotNames}
 use Rattle.pi_lowered.specs.Values.{applied}
 use Rattle.pi_lowered.specs.Goals.{SlotParts, call_value, found_by, all_counted, goals_at, value_at}

@@ -9,11 +9,11 @@ use Rattle.pi_syntax.specs.ExpTree.{ExpTree, ExpTrees, ExpBranches, exp_tree}
 use Rattle.pi_syntax.specs.ExpLists.{exps_of}
 use Rattle.pi_syntax.specs.Signature.{exp_count}
 use Rattle.pi_syntax.specs.declared.exp.Exp.{Exp}
-use Rattle.pi_names.specs.Forms.{form_of}
+use Rattle.pi_meaning.specs.Forms.{form_of}
 use Rattle.pi_lowered.specs.Slots.{SlotNames}
 use Rattle.pi_lowered.specs.Values.{SlotValue, SlotValues}
 use Rattle.pi_lowered.specs.Goals.{SlotGoals, as_goals, atom_goals, just, never, either_of, in_turn, goal_by, called, catching}
-use Rattle.pi_names.specs.Texts.{places_of_branches}
+use Rattle.pi_meaning.specs.Texts.{places_of_branches}
 use Rattle.pi_lowered.specs.Sites.{Site, behind_site, behind_exp, helpers_in_branches}
 use Rattle.pi_lowered.specs.Written.{made, goal_of, all_of, branches_of}
 use Rattle.pi_lowered.specs.Helpers.{goal_helpers}

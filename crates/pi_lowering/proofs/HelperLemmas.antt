@@ -7,7 +7,7 @@ use Rattle.pi_core.specs.declared.core_program.CorePred.{CorePred}
 use Rattle.pi_syntax.specs.ExpTree.{ExpTree, ExpTrees, ExpBranches, no_exps, exp, exp_tree}
 use Rattle.pi_syntax.specs.ExpLists.{exps_of}
 use Rattle.pi_syntax.specs.declared.exp.Exp.{Exp}
-use Rattle.pi_names.specs.Texts.{places, places_all, places_of_branches}
+use Rattle.pi_meaning.specs.Texts.{places, places_all, places_of_branches}
 use Rattle.pi_lowered.specs.Values.{is_flat, are_flat}
 use Rattle.pi_lowered.specs.Sites.{Site, helpers_in, helpers_in_all, helpers_in_branches, behind_site, behind_exp}
 use Rattle.pi_lowered.specs.Helpers.{value_helpers, all_helpers, goal_helpers, conjunct_helpers, branch_helpers}

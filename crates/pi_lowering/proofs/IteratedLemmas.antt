@@ -5,8 +5,8 @@ use Rattle.pi_terms.specs.Tree.{Tree}
 use Rattle.pi_core.specs.GoalTree.{GoalTree}
 use Rattle.pi_core.specs.CoreTree.{PredTree}
 use Rattle.pi_syntax.specs.ExpTree.{ExpTree, ExpTrees}
-use Rattle.pi_names.specs.Texts.{Names, begins_with_iterator, assigned, kept_names, patterns_of}
-use Rattle.pi_names.specs.Loops.{hidden}
+use Rattle.pi_meaning.specs.Texts.{Names, begins_with_iterator, assigned, kept_names, patterns_of}
+use Rattle.pi_meaning.specs.Loops.{hidden}
 use Rattle.pi_lowered.specs.Slots.{SlotNames}
 use Rattle.pi_lowered.specs.Goals.{SlotGoals}
 use Rattle.pi_lowered.specs.Sites.{Site}

@@ -14,9 +14,9 @@ use Rattle.pi_syntax.specs.ExpLists.{exps_of}
 use Rattle.pi_syntax.specs.Signature.{exp_count}
 use Rattle.pi_syntax.specs.declared.exp.Exp as e
 use Rattle.pi_syntax.specs.declared.exp.Exp.{Exp}
-use Rattle.pi_names.specs.Terms.{items_onto}
-use Rattle.pi_names.specs.Texts.{places, places_all}
-use Rattle.pi_names.specs.Forms.{is_find_all, is_count_all}
+use Rattle.pi_meaning.specs.Terms.{items_onto}
+use Rattle.pi_meaning.specs.Texts.{places, places_all}
+use Rattle.pi_meaning.specs.Forms.{is_find_all, is_count_all}
 use Rattle.pi_lowered.specs.Slots.{SlotNames}
 use Rattle.pi_lowered.specs.Values.{is_flat, SlotValue, value_onto, applied, no_values, before_values}
 use Rattle.pi_lowered.specs.Goals.{no_value, found_by, indexed_by, begins_flat}

@@ -8,7 +8,7 @@ use Rattle.pi_core.specs.GoalTree.{GoalTree}
 use Rattle.pi_syntax.specs.ExpTree.{ExpTree, var, int, atom, str, list, list_onto, array, call, quote, index, range, range_by, at, collect, and, or, arrow, if_then, if_else, foreach, while_do, do_while, ExpTrees, exp, exp_tree}
 use Rattle.pi_syntax.specs.declared.exp.Exp as code
 use Rattle.pi_syntax.specs.declared.exp.Exp.{Exp}
-use Rattle.pi_names.specs.Texts.{Names, places}
+use Rattle.pi_meaning.specs.Texts.{Names, places}
 use Rattle.pi_lowered.specs.Slots.{SlotNames}
 use Rattle.pi_lowered.specs.Values.{SlotValue, SlotValues, is_flat, no_values, before_values}
 use Rattle.pi_lowered.specs.Goals.{value_at}

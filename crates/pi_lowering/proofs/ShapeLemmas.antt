@@ -10,7 +10,7 @@ use Rattle.pi_syntax.specs.ExpTree.{ExpTree, ExpTrees, range, range_by}
 use Rattle.pi_syntax.specs.declared.exp.Exp as e
 use Rattle.pi_syntax.specs.declared.exp.Exp.{Exp}
 use Rattle.pi_lowered.specs.Slots.{SlotNames}
-use Rattle.pi_names.specs.Texts.{assigned, kept_names}
+use Rattle.pi_meaning.specs.Texts.{assigned, kept_names}
 use Rattle.pi_lowered.specs.Sites.{Site}
 use Rattle.pi_lowered.specs.Loops.{as_it_is}
 use Rattle.pi_lowered.specs.Written.{inner_of}

@@ -10,8 +10,8 @@ use Rattle.pi_core.specs.declared.core_program.CorePred.{CorePred}
 use Rattle.pi_syntax.specs.ExpTree.{ExpTree, ExpTrees, exp_tree}
 use Rattle.pi_syntax.specs.ExpLists.{exps_of}
 use Rattle.pi_syntax.specs.declared.exp.Exp.{Exp}
-use Rattle.pi_names.specs.Texts.{Names, assigned, kept_names}
-use Rattle.pi_names.specs.Loops.{hidden}
+use Rattle.pi_meaning.specs.Texts.{Names, assigned, kept_names}
+use Rattle.pi_meaning.specs.Loops.{hidden}
 use Rattle.pi_lowered.specs.Slots.{SlotNames}
 use Rattle.pi_lowered.specs.Sites.{Site, behind_exp}
 use Rattle.pi_lowered.specs.Loops.{Ending, as_it_is, in_order}

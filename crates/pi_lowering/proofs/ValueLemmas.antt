@@ -4,7 +4,7 @@ use Rattle.std.proofs.lemmas.List.{append-nil}
 use Rattle.pi_terms.specs.Tree.{Tree, Trees, trees_of}
 use Rattle.pi_core.specs.GoalTree.{GoalTree}
 use Rattle.pi_syntax.specs.ExpTree.{ExpTree}
-use Rattle.pi_names.specs.Terms.{items_onto}
+use Rattle.pi_meaning.specs.Terms.{items_onto}
 use Rattle.pi_lowered.specs.Slots.{SlotNames, with_value}
 use Rattle.pi_lowered.specs.Values.{SlotValue, SlotValues, applied, slotted, Slotted, no_values, before_values, value_of_parts, value_onto}
 use Rattle.pi_effects.specs.Indexing.{index_name}

@@ -5,8 +5,8 @@ use Rattle.pi_terms.specs.Tree.{Tree}
 use Rattle.pi_core.specs.GoalTree.{GoalTree}
 use Rattle.pi_syntax.specs.ExpTree.{ExpTree, var}
 use Rattle.pi_meaning.specs.Names.{is_call}
-use Rattle.pi_names.specs.Texts.{places}
-use Rattle.pi_names.specs.Forms.{Form, negation, once, assignment, catch, by_term, membership}
+use Rattle.pi_meaning.specs.Texts.{places}
+use Rattle.pi_meaning.specs.Forms.{Form, negation, once, assignment, catch, by_term, membership}
 use Rattle.pi_lowered.specs.Slots.{SlotNames, with_value}
 use Rattle.pi_lowered.specs.Values.{SlotValue, slotted}
 use Rattle.pi_lowered.specs.Goals.{SlotGoals, all_found, assigned}

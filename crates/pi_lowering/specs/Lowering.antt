@@ -7,8 +7,8 @@ use Rattle.pi_core.specs.declared.core_program.CorePred.{CorePred}
 use Rattle.pi_syntax.specs.ExpTree.{ExpTree, ExpTrees}
 use Rattle.pi_syntax.specs.ExpLists.{exps_of}
 use Rattle.pi_syntax.specs.Signature.{exp_count}
-use Rattle.pi_names.specs.Texts.{variable_first}
-use Rattle.pi_names.specs.Forms.{Form, form_of, is_find_all}
+use Rattle.pi_meaning.specs.Texts.{variable_first}
+use Rattle.pi_meaning.specs.Forms.{Form, form_of, is_find_all}
 use Rattle.pi_syntax.specs.declared.exp.Exp.{Exp}
 use Rattle.pi_lowered.specs.Slots.{SlotNames}
 use Rattle.pi_lowered.specs.Values.{are_flat, SlotValue, SlotValues, slot_term, as_it_stands, filled_before, last_value, value_by}

@@ -4,8 +4,8 @@ use Rattle.pi_terms.specs.Tree.{Tree}
 use Rattle.pi_core.specs.GoalTree.{GoalTree}
 use Rattle.pi_core.specs.CoreTree.{PredTree}
 use Rattle.pi_syntax.specs.ExpTree.{ExpTree, ExpTrees, foreach, collect}
-use Rattle.pi_names.specs.Texts.{Names, assigned, kept_names}
-use Rattle.pi_names.specs.Loops.{hidden}
+use Rattle.pi_meaning.specs.Texts.{Names, assigned, kept_names}
+use Rattle.pi_meaning.specs.Loops.{hidden}
 use Rattle.pi_lowered.specs.Slots.{SlotNames}
 use Rattle.pi_lowered.specs.Goals.{SlotGoals}
 use Rattle.pi_lowered.specs.Sites.{Site}

@@ -4,7 +4,7 @@ ghost use Rattle.std.specs.Str.{bytes_eq};
 ghost use Rattle.pi_syntax.specs.ExpTree.{exp_tree};
 ghost use Rattle.pi_syntax.specs.ExpLists.{exps_of};
 ghost use Rattle.pi_meaning.specs.Names.{is_call};
-ghost use Rattle.pi_names.specs.Forms.{form_of, catch};
+ghost use Rattle.pi_meaning.specs.Forms.{form_of, catch};
 ghost use Rattle.pi_lowered.specs.Sites.{behind_exp};
 ghost use Rattle.pi_lowered.specs.Helpers.{value_helpers};
 ghost use Rattle.pi_sites.specs.SiteOf.{site_of};

@@ -2,7 +2,7 @@
 ghost use Rattle.std.specs.Prelude.{◌≡◌, ◌+◌, ◌++◌, map, IfOk};
 ghost use Rattle.pi_core.specs.CoreTree.{pred_tree};
 ghost use Rattle.pi_syntax.specs.ExpTree.{exp_tree, no_exps};
-ghost use Rattle.pi_names.specs.Texts.{occurring, assigned as assigned_of, shared_names, kept_names as kept_names_of};
+ghost use Rattle.pi_meaning.specs.Texts.{occurring, assigned as assigned_of, shared_names, kept_names as kept_names_of};
 ghost use Rattle.pi_lowered.specs.Loops.{as_it_is, while_turn, do_turn};
 ghost use Rattle.pi_lowered.specs.Sites.{helpers_in as helpers_of};
 ghost use Rattle.pi_lowered.specs.Written.{loop_at, while_loop as while_loop_of, do_loop as do_loop_of};

@@ -4,7 +4,7 @@ ghost use Rattle.std.specs.Prelude.{◌≡◌, map, IfOk};
 ghost use Rattle.pi_core.specs.CoreTree.{pred_tree};
 ghost use Rattle.pi_syntax.specs.ExpTree.{exp_tree};
 ghost use Rattle.pi_syntax.specs.ExpLists.{exps_of};
-ghost use Rattle.pi_names.specs.Texts.{assigned, kept_names};
+ghost use Rattle.pi_meaning.specs.Texts.{assigned, kept_names};
 ghost use Rattle.pi_lowered.specs.Loops.{as_it_is};
 ghost use Rattle.pi_lowered.specs.Written.{inner_of as inner_by};
 ghost use Rattle.pi_sites.specs.SiteOf.{site_of};

@@ -1,5 +1,5 @@
 -- What programs of the small language do, over their names, said once more and in short: no promise speaks of this. The proofs that lowering keeps the meaning go through
--- it: `pi_names` proves that on the small language it is the meaning over names. The trace of a goal goes by a view and by what calls do.
+-- it: `pi_meaning` proves that on the small language it is the meaning over names. The trace of a goal goes by a view and by what calls do.
 use Rattle.std.specs.Prelude.{ℕ, zero, suc, cond, List, [], ◌∷◌, ◌++◌, filter, Option, Some, None, codes}
 use Rattle.std.specs.Str.{bytes_eq}
 use Rattle.pi_terms.specs.Tree.{Trees, tree_count}

@@ -2,4 +2,5 @@
 
 pub mod machine;
 pub mod meaning;
+pub mod names;
 pub mod traces;

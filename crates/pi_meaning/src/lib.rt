@@ -1,5 +1,6 @@
 //! What programs mean: the trace of a goal, over slots and over names, and its run; and the goals by which `call` runs what a term names.
 //! The machine as plain data: configurations, steps, weights, runs, and their laws.
+//! What every program of the rule language means, over its names.
 #![tactic(auto)]
 
 mod happening;

@@ -18,14 +18,14 @@ use Rattle.pi_meaning.specs.Place.{Place, beginning}
 use Rattle.pi_meaning.specs.Telling.{telling}
 use Rattle.pi_meaning.specs.WrittenRules.{rules_of, is_rule_of, head_arguments}
 use Rattle.pi_meaning.specs.Given.{Setting}
-use Rattle.pi_names.specs.Stages.{Agent, RulesSetting}
-use Rattle.pi_names.specs.Texts.{Names, places, behind}
-use Rattle.pi_names.specs.Heads.{patterns_matched}
-use Rattle.pi_names.specs.Control.{strictly}
-use Rattle.pi_names.specs.Forms.{plain}
-use Rattle.pi_names.specs.Rules.{function_in, is_head_of, rules_named, functions_named, heads_named, modes_named, guarded, places_in, names_before, function_names, body_or_agent, leaves_later, rule_or_later, rules_called, predicate_run, body_or_none, applied, value_run, function_or_later, functions_called, function_run, calls_by, level_for}
-use Rattle.pi_names.specs.Prelude.{prelude}
-use Rattle.pi_names.specs.Run.{is_some_head, answer_names, names_from, names_trace}
+use Rattle.pi_meaning.specs.Stages.{Agent, RulesSetting}
+use Rattle.pi_meaning.specs.Texts.{Names, places, behind}
+use Rattle.pi_meaning.specs.Heads.{patterns_matched}
+use Rattle.pi_meaning.specs.ControlOverNames.{strictly}
+use Rattle.pi_meaning.specs.Forms.{plain}
+use Rattle.pi_meaning.specs.RulesOverNames.{function_in, is_head_of, rules_named, functions_named, heads_named, modes_named, guarded, places_in, names_before, function_names, body_or_agent, leaves_later, rule_or_later, rules_called, predicate_run, body_or_none, applied, value_run, function_or_later, functions_called, function_run, calls_by, level_for}
+use Rattle.pi_meaning.specs.Prelude.{prelude}
+use Rattle.pi_meaning.specs.RunOverNames.{is_some_head, answer_names, names_from, names_trace}
 use Rattle.pi_planner_calls.specs.Written.{AsksNone, AskNone, MayAskNone, PartAsksNone, ProgramAsksNone}
 use Rattle.pi_planner_calls.specs.NameRestLaws.{NamesIgnoreRests}
 use Rattle.pi_planner_calls.proofs.CallLemmas.{resting, called-alike, function-alike, first-alike}

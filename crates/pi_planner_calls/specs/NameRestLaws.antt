@@ -5,8 +5,8 @@ use Rattle.pi_syntax.specs.ProgramTree.{ProgramTree}
 use Rattle.pi_meaning.specs.Trace.{Call}
 use Rattle.pi_core.specs.declared.log.LogEntry.{LogEntry}
 use Rattle.pi_meaning.specs.View.{body_view}
-use Rattle.pi_names.specs.Stages.{LaterStages}
-use Rattle.pi_names.specs.Run.{names_trace}
+use Rattle.pi_meaning.specs.Stages.{LaterStages}
+use Rattle.pi_meaning.specs.RunOverNames.{names_trace}
 use Rattle.pi_planner_calls.specs.Rest.{IgnoresRests}
 use Rattle.pi_planner_calls.specs.Written.{AsksNone, ProgramAsksNone}
 

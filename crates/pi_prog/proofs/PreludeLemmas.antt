@@ -26,7 +26,7 @@ use Rattle.pi_lex.proofs.ReaderLemmas.{one_reading_lem}
 use Rattle.pi_prog.proofs.OneReadingLemmas.{one_reading}
 use Rattle.pi_prog.proofs.ProgramLemmas.{all_shown}
 use Rattle.pi_prog.specs.ReadsAs.{is_refused, ReadsAs}
-use Rattle.pi_names.specs.Prelude.{prelude}
+use Rattle.pi_meaning.specs.Prelude.{prelude}
 use Rattle.pi_prog.proofs.ExpressionLemmas.{exp_in, exp_from}
 use Rattle.pi_prog.proofs.PartLemmas.{both, rule_in, rules_in, rules-read}
 use Rattle.pi_prog.proofs.TokenLemmas.{some_is, tokens_in, tokens-read}

@@ -2,7 +2,7 @@
 ghost use Rattle.std.specs.Prelude.{◌≡◌, IfOk};
 ghost use Rattle.pi_lex.specs.declared.fault.LexFault.TheVariants.{Memory};
 ghost use Rattle.pi_syntax.specs.Prelude.{prelude_text};
-ghost use Rattle.pi_names.specs.Prelude.{prelude};
+ghost use Rattle.pi_meaning.specs.Prelude.{prelude};
 ghost use Rattle.pi_syntax.specs.ProgramTree.{source_tree};
 ghost use Rattle.pi_syntax.specs.Tokens.{HasTokens};
 

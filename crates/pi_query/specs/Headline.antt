@@ -8,8 +8,8 @@ use Rattle.pi_syntax.specs.ExpTree.{ExpTree}
 use Rattle.pi_syntax.specs.ProgramTree.{ProgramTree}
 use Rattle.pi_meaning.specs.View.{query_view}
 use Rattle.pi_meaning.specs.Telling.{Told, told_answer}
-use Rattle.pi_names.specs.Stages.{LaterStages}
-use Rattle.pi_names.specs.Run.{IsNamesRun}
+use Rattle.pi_meaning.specs.Stages.{LaterStages}
+use Rattle.pi_meaning.specs.RunOverNames.{IsNamesRun}
 use Rattle.pi_sound.specs.TermCalls.{Allows}
 use Rattle.pi_print.specs.PrintAnswer.{answer_lines}
 use Rattle.pi_core.specs.declared.log.LogEntry.{LogEntry}

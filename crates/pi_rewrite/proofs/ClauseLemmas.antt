@@ -12,9 +12,9 @@ use Rattle.pi_core.specs.declared.core_program.CoreClause.{CoreClause}
 use Rattle.pi_core.specs.declared.core_program.CoreQuery.{CoreQuery}
 use Rattle.pi_core.proofs.GoalPlaces.{nodes-children}
 use Rattle.pi_meaning.specs.WrittenRules.{head_arguments}
-use Rattle.pi_names.specs.Texts.{Names, places, behind}
-use Rattle.pi_names.specs.Rules.{places_in, names_before, function_names}
-use Rattle.pi_names.specs.Run.{answer_names}
+use Rattle.pi_meaning.specs.Texts.{Names, places, behind}
+use Rattle.pi_meaning.specs.RulesOverNames.{places_in, names_before, function_names}
+use Rattle.pi_meaning.specs.RunOverNames.{answer_names}
 use Rattle.pi_lowered.specs.Slots.{SlotNames, named_slots, slots_behind}
 use Rattle.pi_lowered.specs.Values.{slot_patterns, last_value}
 use Rattle.pi_lowered.specs.Goals.{in_turn}

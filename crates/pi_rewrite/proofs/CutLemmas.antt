@@ -11,8 +11,8 @@ use Rattle.pi_meaning.specs.Run.{query_trace}
 use Rattle.pi_meaning.specs.Telling.{place_told, told_trace, told_cut}
 use Rattle.pi_meaning.specs.Told.{solution_told}
 use Rattle.pi_meaning.proofs.ToldCuts.{cut-told, stop-told}
-use Rattle.pi_names.specs.Stages.{LaterStages}
-use Rattle.pi_names.specs.Run.{answer_names, names_trace}
+use Rattle.pi_meaning.specs.Stages.{LaterStages}
+use Rattle.pi_meaning.specs.RunOverNames.{answer_names, names_trace}
 use Rattle.pi_faithful.specs.Laws.{query_from}
 use Rattle.pi_sound.specs.TermCalls.{Allows}
 use Rattle.pi_rewrite.specs.Laws.{MeansTheSame, SameMeaningRunsTheSame}

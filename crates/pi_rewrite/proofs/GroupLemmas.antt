@@ -15,7 +15,7 @@ use Rattle.pi_syntax.specs.declared.program.Part.{Part}
 use Rattle.pi_syntax.specs.declared.program.Mode.{Mode}
 use Rattle.pi_core.specs.CoreTree.{ClauseTree, PredTree, index_of, pred_tree}
 use Rattle.pi_core.specs.declared.core_program.CorePred.{CorePred}
-use Rattle.pi_names.specs.Prelude.{prelude}
+use Rattle.pi_meaning.specs.Prelude.{prelude}
 use Rattle.pi_lowered.specs.Lowered.{Lowering, named_by, with_first, with_next, is_clause_of, grouped, grouped_all}
 use Rattle.pi_lowered.specs.Programs as programs
 use Rattle.pi_lowered.specs.Programs.{Naming, written_rule, written_function, clause_count, clause_helpers, clauses_of, helpers_of, core_program}

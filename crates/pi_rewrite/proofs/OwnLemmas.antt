@@ -19,10 +19,10 @@ use Rattle.pi_core.specs.CoreTree.{PredTree, is_pred, find_pred}
 use Rattle.pi_meaning.specs.Names.{later_predicates, is_later_predicate, is_call, is_given_predicate}
 use Rattle.pi_meaning.specs.WrittenRules.{is_signature}
 use Rattle.pi_meaning.specs.Instances.{is_called_by_name}
-use Rattle.pi_names.specs.Prelude.{prelude}
-use Rattle.pi_names.specs.Rules.{predicate_head, function_in, is_head_of, heads_named, functions_named}
-use Rattle.pi_names.specs.Run.{is_some_head}
-use Rattle.pi_names.proofs.TableLemmas.{Test, same-name, one-of, lines-hold, signatures-hold, each-line, body-holds, each-below, each-signed}
+use Rattle.pi_meaning.specs.Prelude.{prelude}
+use Rattle.pi_meaning.specs.RulesOverNames.{predicate_head, function_in, is_head_of, heads_named, functions_named}
+use Rattle.pi_meaning.specs.RunOverNames.{is_some_head}
+use Rattle.pi_meaning.proofs.TableLemmas.{Test, same-name, one-of, lines-hold, signatures-hold, each-line, body-holds, each-below, each-signed}
 use Rattle.pi_lowered.specs.Lowered.{named_by}
 use Rattle.pi_faithful.specs.Within.{is_some_function}
 use Rattle.pi_faithful.specs.Laws.{DefinesTheSame}

@@ -9,8 +9,8 @@ use Rattle.pi_meaning.specs.Level.{calls_at}
 use Rattle.pi_meaning.specs.Instances.{no_later, whole}
 use Rattle.pi_meaning.specs.Rules.{level_at}
 use Rattle.pi_meaning.specs.Defined.{ProgramCallsDefined, NamesAreFree}
-use Rattle.pi_names.specs.Stages.{LaterStages, no_stages}
-use Rattle.pi_names.specs.Run.{program_level}
+use Rattle.pi_meaning.specs.Stages.{LaterStages, no_stages}
+use Rattle.pi_meaning.specs.RunOverNames.{program_level}
 use Rattle.pi_lowered.specs.Forms.{Knows}
 use Rattle.pi_faithful.specs.Levels.{SameCalls, SameLevels, GoesByCalls}
 use Rattle.pi_faithful.specs.Laws.{known_of}

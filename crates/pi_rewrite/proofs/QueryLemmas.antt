@@ -7,8 +7,8 @@ use Rattle.pi_core.specs.CoreTree.{PredTree}
 use Rattle.pi_meaning.specs.View.{View}
 use Rattle.pi_meaning.specs.Place.{Place, at_state, beginning}
 use Rattle.pi_meaning.specs.Telling.{place_told, told_trace}
-use Rattle.pi_names.specs.Stages.{LaterStages, no_stages}
-use Rattle.pi_names.specs.Run.{answer_names, names_from}
+use Rattle.pi_meaning.specs.Stages.{LaterStages, no_stages}
+use Rattle.pi_meaning.specs.RunOverNames.{answer_names, names_from}
 use Rattle.pi_faithful.specs.Laws as over_whole
 use Rattle.pi_faithful.specs.Laws.{known_of}
 use Rattle.pi_lowered.specs.Programs.{Naming, core_query}

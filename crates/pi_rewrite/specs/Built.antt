@@ -6,7 +6,7 @@ use Rattle.pi_syntax.specs.ExpTree.{ExpTree}
 use Rattle.pi_syntax.specs.ProgramTree.{WrittenClause, ProgramTree}
 use Rattle.pi_syntax.specs.Signature.{Signature, signature}
 use Rattle.pi_meaning.specs.WrittenRules.{is_signature}
-use Rattle.pi_names.specs.Prelude.{prelude}
+use Rattle.pi_meaning.specs.Prelude.{prelude}
 use Rattle.pi_lowered.specs.Lowered.{Lowering, named_by, same_kind, grouped, grouped_all}
 
 -- predicates of which the last one may go on, and the clauses behind them

@@ -17,8 +17,8 @@ use Rattle.pi_meaning.specs.Defined.{ProgramCallsDefined, QueryCallsDefined, Nam
 use Rattle.pi_meaning.specs.Place.{at_state, beginning}
 use Rattle.pi_meaning.specs.Telling.{place_told, told_trace, told_cut}
 use Rattle.pi_meaning.specs.Told.{solution_told}
-use Rattle.pi_names.specs.Stages.{LaterStages}
-use Rattle.pi_names.specs.Run.{program_level, answer_names, names_from, IsNamesRun}
+use Rattle.pi_meaning.specs.Stages.{LaterStages}
+use Rattle.pi_meaning.specs.RunOverNames.{program_level, answer_names, names_from, IsNamesRun}
 use Rattle.pi_faithful.specs.WithinLoops.{IsAsked}
 use Rattle.pi_faithful.specs.Laws.{known_of, DefinesTheSame, query_from}
 use Rattle.pi_lowered.specs.Programs.{Naming, core_program}

@@ -3,7 +3,7 @@ ghost use Rattle.std.specs.Prelude.{◌≡◌, ◌++◌, [], length, map, option
 ghost use Rattle.pi_syntax.specs.ExpTree.{ExpTree, exp_tree};
 ghost use Rattle.pi_core.specs.CoreTree.{clause_tree, pattern_trees, pred_tree};
 ghost use Rattle.pi_meaning.specs.WrittenRules.{head_arguments};
-ghost use Rattle.pi_names.specs.Texts.{behind, places};
+ghost use Rattle.pi_meaning.specs.Texts.{behind, places};
 ghost use Rattle.pi_lowered.specs.Lowered.{guard_of, lowered_fact};
 ghost use Rattle.pi_lowered.specs.Programs.{behind_option, option_goals, option_helpers, written_rule, rule_helpers, written_function, function_helpers};
 ghost use Rattle.pi_lowered.specs.Values.{slot_patterns};

@@ -2,7 +2,7 @@
 ghost use Rattle.std.specs.Prelude.{◌≡◌, ◌+◌, [], option_map, IfOk};
 ghost use Rattle.pi_syntax.specs.ExpTree.{exp_tree};
 ghost use Rattle.pi_syntax.specs.ProgramTree.{part_tree};
-ghost use Rattle.pi_names.specs.Texts.{places, behind};
+ghost use Rattle.pi_meaning.specs.Texts.{places, behind};
 ghost use Rattle.pi_lowered.specs.Programs.{behind_option, option_count, clause_count};
 ghost use Rattle.pi_sites.specs.OwnNames.{own_name};
 ghost use Rattle.pi_sites.specs.SiteOf.{site_of};

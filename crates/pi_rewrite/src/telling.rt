@@ -2,7 +2,7 @@
 ghost use Rattle.std.specs.Prelude.{◌≡◌, [], IfOk};
 ghost use Rattle.pi_syntax.specs.ExpTree.{exp_tree};
 ghost use Rattle.pi_meaning.specs.Telling.{is_hidden as is_hidden_name, one_more, told_behind};
-ghost use Rattle.pi_names.specs.Run.{answer_names};
+ghost use Rattle.pi_meaning.specs.RunOverNames.{answer_names};
 ghost use Rattle.pi_slots.specs.Indexed.{names_in};
 
 use pi_sites::{is_among, push_names};

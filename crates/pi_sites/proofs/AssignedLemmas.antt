@@ -8,7 +8,7 @@ use Rattle.std.proofs.lemmas.List.{append-nil, drop_all}
 use Rattle.pi_syntax.specs.ExpTree.{ExpTree, ExpTrees, call, var, exp, one_exp, exp_tree}
 use Rattle.pi_syntax.specs.ExpLists.{exps_of}
 use Rattle.pi_syntax.specs.declared.exp.Exp.{Exp}
-use Rattle.pi_names.specs.Texts.{Names, assigned, assigned_all, assigned_in_branches, patterns_of, without, the_name, variable_first}
+use Rattle.pi_meaning.specs.Texts.{Names, assigned, assigned_all, assigned_in_branches, patterns_of, without, the_name, variable_first}
 use Rattle.pi_slots.specs.Branches.{branches_in}
 use Rattle.pi_slots.specs.Indexed.{names_in}
 use Rattle.pi_slots.proofs.FlatLemmas.{drop-next}

@@ -5,7 +5,7 @@ use Rattle.std.proofs.lemmas.Result.{IfOk-weaker}
 use Rattle.pi_syntax.specs.ExpTree.{exp_tree}
 use Rattle.pi_syntax.specs.ExpLists.{exps_of}
 use Rattle.pi_syntax.specs.declared.exp.Exp.{Exp}
-use Rattle.pi_names.specs.Texts.{iterated}
+use Rattle.pi_meaning.specs.Texts.{iterated}
 use Rattle.pi_lowered.specs.Sites.{helpers_in, helpers_in_all, helpers_in_branches, helpers_in_units, iterator_helpers}
 use Rattle.pi_slots.specs.Branches.{branches_in}
 use Rattle.pi_slots.proofs.FlatLemmas.{drop-next}

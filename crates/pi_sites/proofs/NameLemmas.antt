@@ -5,7 +5,7 @@ use Rattle.std.specs.Borrow.{Bor}
 use Rattle.std.specs.Str.{bytes_eq}
 use Rattle.std.proofs.lemmas.Bool.{cond-true, cond-false}
 use Rattle.std.proofs.lemmas.List.{append-nil, drop_all, drop_more, map-append}
-use Rattle.pi_names.specs.Texts.{Names, is_among, is_blank, with_one, behind, without}
+use Rattle.pi_meaning.specs.Texts.{Names, is_among, is_blank, with_one, behind, without}
 use Rattle.pi_slots.specs.Indexed.{names_in}
 use Rattle.pi_sites.specs.TextNames.{those}
 

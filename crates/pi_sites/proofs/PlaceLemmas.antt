@@ -4,7 +4,7 @@ use Rattle.std.proofs.lemmas.List.{append-nil, drop_all}
 use Rattle.pi_syntax.specs.ExpTree.{ExpTree, ExpTrees, ExpBranches, no_exps, exp, no_branches, branch, exp_tree}
 use Rattle.pi_syntax.specs.ExpLists.{exps_of}
 use Rattle.pi_syntax.specs.declared.exp.Exp.{Exp}
-use Rattle.pi_names.specs.Texts.{Names, places, occurring}
+use Rattle.pi_meaning.specs.Texts.{Names, places, occurring}
 use Rattle.pi_slots.specs.Branches.{branches_in}
 use Rattle.pi_slots.proofs.FlatLemmas.{drop-next}
 use Rattle.pi_sites.specs.TextNames.{names_of, names_of_all, names_of_branches}

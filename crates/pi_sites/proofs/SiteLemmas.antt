@@ -1,6 +1,6 @@
 -- Sites behind one part after the other.
 use Rattle.std.proofs.Common.{◌≡◌, ℕ, ◌+◌, [], ◌++◌, sym, ◌∙◌, ap, arith}
-use Rattle.pi_names.specs.Texts.{Names, behind}
+use Rattle.pi_meaning.specs.Texts.{Names, behind}
 use Rattle.pi_lowered.specs.Sites.{Site, behind_site}
 use Rattle.pi_sites.proofs.NameLemmas.{behind-append}
 

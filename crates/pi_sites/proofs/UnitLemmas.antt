@@ -7,7 +7,7 @@ use Rattle.std.proofs.lemmas.List.{append-nil, drop_all}
 use Rattle.pi_syntax.specs.ExpTree.{ExpTrees, call, no_exps, exp, exp_tree}
 use Rattle.pi_syntax.specs.ExpLists.{exps_of}
 use Rattle.pi_syntax.specs.declared.exp.Exp.{Exp}
-use Rattle.pi_names.specs.Texts.{Names, iterated, patterns_of, pattern_places}
+use Rattle.pi_meaning.specs.Texts.{Names, iterated, patterns_of, pattern_places}
 use Rattle.pi_slots.proofs.FlatLemmas.{drop-next}
 use Rattle.pi_sites.specs.TextNames.{first_in}
 

@@ -3,7 +3,7 @@ use Rattle.std.specs.Prelude.{Bool, true, false, filter, [], Option, Some, None}
 use Rattle.std.specs.Borrow.{Bor}
 use Rattle.pi_syntax.specs.ExpTree.{ExpTree, ExpTrees, no_exps, exp, ExpBranches, exp_tree}
 use Rattle.pi_syntax.specs.declared.exp.Exp.{Exp}
-use Rattle.pi_names.specs.Texts.{Names, is_among, without, behind, places, places_all, places_of_branches, occurring, occurring_all, occurring_in_branches}
+use Rattle.pi_meaning.specs.Texts.{Names, is_among, without, behind, places, places_all, places_of_branches, occurring, occurring_all, occurring_in_branches}
 
 -- the names of a text, those in loops among them or not
 unfoldable pub names_of : Bool → ExpTree → Names

@@ -2,7 +2,7 @@
 ghost use Rattle.std.specs.Prelude.{◌≡◌, ◌++◌, IfOk};
 ghost use Rattle.pi_syntax.specs.ExpTree.{exp_tree, call, one_exp};
 ghost use Rattle.pi_syntax.specs.ExpLists.{exps_of};
-ghost use Rattle.pi_names.specs.Texts.{assigned as assigned_of, assigned_all as assigned_of_all, assigned_in_branches as assigned_of_branches, patterns_of, without, the_name, variable_first};
+ghost use Rattle.pi_meaning.specs.Texts.{assigned as assigned_of, assigned_all as assigned_of_all, assigned_in_branches as assigned_of_branches, patterns_of, without, the_name, variable_first};
 ghost use Rattle.pi_slots.specs.Indexed.{names_in};
 ghost use Rattle.pi_slots.specs.Branches.{branches_in};
 
@@ -14,7 +14,7 @@ use std::alloc::{AllocError, Global};
 /// Puts the names that a goal assigns behind others, from the left: in conjunctions, branches and the bodies of loops. A
 /// name of a loop's pattern is another one. Errors: no memory.
 #[cycle(assigned)]
-#[tactic(auto, unfolding(pi_syntax::specs::ExpTree::exp_tree, pi_names::specs::Texts::assigned))]
+#[tactic(auto, unfolding(pi_syntax::specs::ExpTree::exp_tree, pi_meaning::specs::Texts::assigned))]
 pub fn push_assigned<'a>(
     alloc: Global,
     exp: &'a Exp,

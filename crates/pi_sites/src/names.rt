@@ -1,6 +1,6 @@
 //! Lists of names.
 ghost use Rattle.std.specs.Prelude.{◌≡◌, IfOk};
-ghost use Rattle.pi_names.specs.Texts.{is_among as is_among_names, behind as behind_of, with_one as with_one_of};
+ghost use Rattle.pi_meaning.specs.Texts.{is_among as is_among_names, behind as behind_of, with_one as with_one_of};
 ghost use Rattle.pi_slots.specs.Indexed.{names_in};
 ghost use Rattle.pi_sites.specs.TextNames.{those as those_of, kept_of};
 

@@ -13,7 +13,7 @@ use std::alloc::AllocError;
 /// Puts the names at all places of an expression behind others, from the left, `_` among them: those in loops and
 /// comprehensions too, or not. Errors: no memory.
 #[cycle(places)]
-#[tactic(auto, unfolding(pi_syntax::specs::ExpTree::exp_tree, pi_names::specs::Texts::places, pi_names::specs::Texts::occurring, crate::specs::TextNames::names_of))]
+#[tactic(auto, unfolding(pi_syntax::specs::ExpTree::exp_tree, pi_meaning::specs::Texts::places, pi_meaning::specs::Texts::occurring, crate::specs::TextNames::names_of))]
 pub fn push_names<'a>(
     in_loops: bool,
     exp: &'a Exp,

@@ -2,7 +2,7 @@
 ghost use Rattle.std.specs.Prelude.{◌≡◌, ◌+◌, IfOk};
 ghost use Rattle.pi_syntax.specs.ExpTree.{exp_tree};
 ghost use Rattle.pi_syntax.specs.ExpLists.{exps_of};
-ghost use Rattle.pi_names.specs.Texts.{places, places_all, places_of_branches};
+ghost use Rattle.pi_meaning.specs.Texts.{places, places_all, places_of_branches};
 ghost use Rattle.pi_slots.specs.Indexed.{names_in};
 ghost use Rattle.pi_slots.specs.Branches.{branches_in};
 ghost use Rattle.pi_lowered.specs.Sites.{helpers_in as helpers_of, helpers_in_all as helpers_of_all, helpers_in_branches as helpers_of_branches, behind_site, behind_exp, inside as inside_of};

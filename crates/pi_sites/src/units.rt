@@ -2,7 +2,7 @@
 ghost use Rattle.std.specs.Prelude.{◌≡◌, ◌++◌, IfOk};
 ghost use Rattle.pi_syntax.specs.ExpTree.{exp_tree, call};
 ghost use Rattle.pi_syntax.specs.ExpLists.{exps_of};
-ghost use Rattle.pi_names.specs.Texts.{iterated as iterated_of, begins_with_iterator as begins_of, patterns_of, pattern_places};
+ghost use Rattle.pi_meaning.specs.Texts.{iterated as iterated_of, begins_with_iterator as begins_of, patterns_of, pattern_places};
 ghost use Rattle.pi_slots.specs.Indexed.{names_in};
 ghost use Rattle.pi_sites.specs.TextNames.{tree_in, first_in};
 

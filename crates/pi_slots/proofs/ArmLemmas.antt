@@ -13,7 +13,7 @@ use Rattle.pi_syntax.specs.ExpTree.{exp_tree, held_tree}
 use Rattle.pi_syntax.specs.ExpLists.{exps_of}
 use Rattle.pi_syntax.specs.declared.exp.Exp as e
 use Rattle.pi_syntax.specs.declared.exp.Exp.{Exp}
-use Rattle.pi_names.specs.Terms.{items_onto}
+use Rattle.pi_meaning.specs.Terms.{items_onto}
 use Rattle.pi_lowered.specs.Slots.{SlotNames}
 use Rattle.pi_lowered.specs.Values.{SlotTerm, SlotTerms, slot_term, slot_terms, constant, made_of, made_onto, before_terms, no_terms}
 use Rattle.pi_slots.specs.ItemCells.{item_cells}

@@ -14,7 +14,7 @@ use Rattle.pi_terms.proofs.TermLemmas.{subterm_for_each_cell}
 use Rattle.pi_terms.proofs.GetLemmas.{take_more}
 use Rattle.pi_effects.specs.Texts.{text_list}
 use Rattle.pi_effects.specs.Items.{list_of, list_onto}
-use Rattle.pi_names.specs.Terms.{items_onto}
+use Rattle.pi_meaning.specs.Terms.{items_onto}
 use Rattle.pi_slots.specs.ItemCells.{item_cells, letter_atoms, cell_of}
 use Rattle.pi_slots.proofs.TermLemmas.{bare-cell, bare-items, bare-atom, items-push}
 

@@ -9,7 +9,7 @@ use Rattle.pi_terms.specs.declared.term.TermCell.{TermCell}
 use Rattle.pi_syntax.specs.ExpTree.{exp_tree}
 use Rattle.pi_syntax.specs.ExpLists.{exps_of}
 use Rattle.pi_syntax.specs.declared.exp.Exp.{Exp}
-use Rattle.pi_names.specs.Terms.{items_onto}
+use Rattle.pi_meaning.specs.Terms.{items_onto}
 use Rattle.pi_lowered.specs.Slots.{SlotNames}
 use Rattle.pi_lowered.specs.Values.{SlotTerm, SlotTerms, slot_term, slot_terms, before_terms}
 use Rattle.pi_slots.specs.ItemCells.{item_cells}

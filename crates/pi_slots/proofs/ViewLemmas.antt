@@ -5,7 +5,7 @@ use Rattle.std.specs.Borrow.{Bor}
 use Rattle.std.specs.Str.{bytes_eq}
 use Rattle.std.proofs.lemmas.Bool.{cond-true, cond-false}
 use Rattle.std.proofs.lemmas.List.{append-nil, map-append, drop_all, replicate-append-replicate}
-use Rattle.pi_names.specs.Texts.{is_among}
+use Rattle.pi_meaning.specs.Texts.{is_among}
 use Rattle.pi_lowered.specs.Slots.{SlotNames, unnamed, slot_of, slot_known, slot_or_next, slot_for}
 use Rattle.pi_lowered.specs.Loops.{with_values}
 use Rattle.pi_lowered.specs.Iterators.{behind_collection}

@@ -7,7 +7,7 @@ ghost use Rattle.pi_terms.specs.declared.term.TermCell.{TermCell};
 ghost use Rattle.pi_effects.specs.Texts.{text_list};
 ghost use Rattle.pi_syntax.specs.ExpTree.{exp_tree};
 ghost use Rattle.pi_syntax.specs.ExpLists.{exps_of};
-ghost use Rattle.pi_names.specs.Terms.{items_onto};
+ghost use Rattle.pi_meaning.specs.Terms.{items_onto};
 ghost use Rattle.pi_lowered.specs.Slots.{slot_for, slots_for};
 ghost use Rattle.pi_lowered.specs.Values.{slot_term as term_of, slot_terms as terms_of};
 ghost use Rattle.pi_slots.specs.ItemCells.{cell_of, item_cells, letter_atoms};

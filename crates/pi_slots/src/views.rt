@@ -1,7 +1,7 @@
 //! Names of slots, of which some find none.
 ghost use Rattle.std.specs.Prelude.{◌≡◌, ◌++◌, cond, not, replicate, IfOk};
 ghost use Rattle.std.specs.Str.{bytes_eq};
-ghost use Rattle.pi_names.specs.Texts.{is_among};
+ghost use Rattle.pi_meaning.specs.Texts.{is_among};
 ghost use Rattle.pi_lowered.specs.Slots.{unnamed};
 ghost use Rattle.pi_lowered.specs.Iterators.{found_by, only};
 ghost use Rattle.pi_slots.specs.Indexed.{names_in};

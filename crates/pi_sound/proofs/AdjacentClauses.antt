@@ -6,7 +6,7 @@ use Rattle.std.proofs.lemmas.Bool.{or_parts, or_from, cases_Bool, false≢true}
 use Rattle.std.proofs.lemmas.List.Elements.{Contains-append_cases, filter_map-append}
 use Rattle.pi_syntax.specs.Signature.{Signature, exp_count}
 use Rattle.pi_meaning.specs.WrittenRules.{is_signature}
-use Rattle.pi_names.specs.Prelude.{prelude}
+use Rattle.pi_meaning.specs.Prelude.{prelude}
 use Rattle.pi_clauses.specs.Calls.{Named}
 use Rattle.pi_clauses.specs.Verdict.{JudgedPart, all_defined, same_signature, stands_apart, first_apart, parts_of}
 use Rattle.pi_faithful.specs.Within.{Key, key_of, keys, GoesOn, StandTogether}

@@ -6,7 +6,7 @@ use Rattle.pi_syntax.specs.ExpLists.{exps_of}
 use Rattle.pi_syntax.specs.Signature.{exp_count}
 use Rattle.pi_syntax.specs.declared.exp.Exp.{Exp}
 use Rattle.pi_syntax.proofs.ExpListLemmas.{exp_count-exps_of}
-use Rattle.pi_names.specs.Forms.{form_of, is_find_all, is_count_all, Form}
+use Rattle.pi_meaning.specs.Forms.{form_of, is_find_all, is_count_all, Form}
 use Rattle.pi_sound.specs.declared.forms.Form as code
 use Rattle.pi_sound.specs.Shown.{form_shown}
 use Rattle.pi_sound.specs.Built.{is_built_function, are_some, is_built_form, is_built_value_call, is_built_value, are_built_values, is_built_value_at, is_built_goal, is_built_goal_at, is_assigned, is_named}

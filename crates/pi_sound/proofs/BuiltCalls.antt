@@ -8,9 +8,9 @@ use Rattle.pi_syntax.specs.Names.{kind_of}
 use Rattle.pi_meaning.specs.Names.{is_catch, is_call, is_later_predicate, is_given_predicate, is_later_function, is_resource, is_given_function}
 use Rattle.pi_syntax.specs.ExpTree.{ExpTree, var, ExpTrees, no_exps, exp}
 use Rattle.pi_syntax.specs.Signature.{exp_count}
-use Rattle.pi_names.specs.Texts.{iterated}
-use Rattle.pi_names.specs.Forms.{Form, negation, once, assignment, catch, by_term, membership, form_of, is_find_all, is_count_all}
-use Rattle.pi_names.proofs.TableLemmas.{same-name}
+use Rattle.pi_meaning.specs.Texts.{iterated}
+use Rattle.pi_meaning.specs.Forms.{Form, negation, once, assignment, catch, by_term, membership, form_of, is_find_all, is_count_all}
+use Rattle.pi_meaning.proofs.TableLemmas.{same-name}
 use Rattle.pi_clauses.specs.Calls.{Named, named, goal_calls, is_known}
 use Rattle.pi_clauses.specs.Operators.{is_goal_sign, is_membership, is_reified}
 use Rattle.pi_clauses.specs.Places.{asked, expression}

@@ -4,8 +4,8 @@ use Rattle.std.specs.Prelude.{◌&&◌, ◌≢◌, Option, Some, None}
 use Rattle.std.proofs.lemmas.Bool.{and_parts}
 use Rattle.pi_syntax.specs.ExpTree.{ExpTree, var, int, atom, str, list, list_onto, array, call, quote, index, range, range_by, collect, and, or, arrow, if_then, if_else, foreach, while_do, do_while, ExpTrees, no_exps, exp, ExpBranches, no_branches, branch}
 use Rattle.pi_syntax.specs.Signature.{exp_count}
-use Rattle.pi_names.specs.Texts.{iterated}
-use Rattle.pi_names.specs.Forms.{form_of}
+use Rattle.pi_meaning.specs.Texts.{iterated}
+use Rattle.pi_meaning.specs.Forms.{form_of}
 use Rattle.pi_clauses.specs.Calls.{Named, calls_of_goal}
 use Rattle.pi_clauses.specs.Places.{goal, asked, expression, iterator, placed, called, below, all_placed, arguments_placed, branches_placed}
 use Rattle.pi_sound.specs.Built.{are_some, is_built_value, are_built_values, is_built_value_at, is_built_goal_at, is_built_goal, are_built_goals, are_built_branches, is_built_branch, have_built_goals, is_built_pattern, is_built_form, is_assigned, is_built_unit, is_built_collection, are_built_units}

@@ -18,10 +18,10 @@ use Rattle.pi_syntax.specs.Names.{kind_of}
 use Rattle.pi_syntax.specs.declared.builtin.BuiltinKind.{BuiltinKind}
 use Rattle.pi_syntax.specs.declared.builtin.BuiltinKind.TheVariants.{Predicate, Function, Prelude}
 use Rattle.pi_meaning.specs.Names.{is_later_predicate, is_later_function}
-use Rattle.pi_names.specs.Forms.{is_find_all, is_count_all, is_operand_node, is_sum, is_connective, is_constraint}
-use Rattle.pi_names.specs.Kinds.{is_unwritten, means_function, means_predicate, means_prelude}
-use Rattle.pi_names.proofs.TableLemmas.{same-name}
-use Rattle.pi_names.proofs.BuiltInNames.{names-have-their-kinds}
+use Rattle.pi_meaning.specs.Forms.{is_find_all, is_count_all, is_operand_node, is_sum, is_connective, is_constraint}
+use Rattle.pi_meaning.specs.Kinds.{is_unwritten, means_function, means_predicate, means_prelude}
+use Rattle.pi_meaning.proofs.TableLemmas.{same-name}
+use Rattle.pi_meaning.proofs.BuiltInNames.{names-have-their-kinds}
 use Rattle.pi_sound.specs.Built.{is_own, is_prelude_kind, is_built_predicate, is_built_function}
 
 -- by which of two

@@ -21,11 +21,11 @@ use Rattle.pi_meaning.specs.Given.{Later, Setting}
 use Rattle.pi_meaning.specs.Builtin.{settled_effect, function_trace}
 use Rattle.pi_meaning.specs.Within.{resource_left}
 use Rattle.pi_meaning.specs.Calls.{given_later, predicate_given, predicate_called, function_later, function_given, function_called}
-use Rattle.pi_names.specs.Assigning.{place_of}
-use Rattle.pi_names.specs.Texts.{Names, places, behind}
-use Rattle.pi_names.specs.Control.{Value, Values, nothing, in_front, applied_to, called_with}
-use Rattle.pi_names.specs.Forms.{Reading, first_reading, later_readings}
-use Rattle.pi_names.specs.Goals.{value_of, values_of}
+use Rattle.pi_meaning.specs.Assigning.{place_of}
+use Rattle.pi_meaning.specs.Texts.{Names, places, behind}
+use Rattle.pi_meaning.specs.ControlOverNames.{Value, Values, nothing, in_front, applied_to, called_with}
+use Rattle.pi_meaning.specs.Forms.{Reading, first_reading, later_readings}
+use Rattle.pi_meaning.specs.Goals.{value_of, values_of}
 use Rattle.pi_sound.specs.Built.{is_built_predicate, is_built_function}
 use Rattle.pi_sound.proofs.BuiltNames.{predicate-by, function-by}
 

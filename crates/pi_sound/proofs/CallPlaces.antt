@@ -6,7 +6,7 @@ use Rattle.std.proofs.lemmas.Bool.{or_parts, or_from}
 use Rattle.pi_syntax.specs.ExpTree.{ExpTree, var, int, atom, str, list, list_onto, array, call, quote, index, range, range_by, at, collect, and, or, arrow, if_then, if_else, foreach, while_do, do_while, ExpTrees, no_exps, exp, ExpBranches, no_branches, branch}
 use Rattle.pi_syntax.specs.Signature.{exp_count}
 use Rattle.pi_meaning.specs.Names.{is_catch}
-use Rattle.pi_names.specs.Forms.{is_find_all, is_count_all}
+use Rattle.pi_meaning.specs.Forms.{is_find_all, is_count_all}
 use Rattle.pi_clauses.specs.Operators.{is_goal_sign, is_membership, is_reified}
 use Rattle.pi_clauses.specs.Places.{Place, goal, asked, expression, operand, iterator, term, pattern, inside, quoted, body, placed, is_asked, called, argument, below, all_placed, arguments_placed, branches_placed}
 use Rattle.pi_sound.proofs.PlainNames.{has_places}

@@ -11,9 +11,9 @@ use Rattle.pi_syntax.specs.ProgramTree.{RuleTree, FunctionTree}
 use Rattle.pi_syntax.specs.Signature.{Signature, signature, exp_count}
 use Rattle.pi_meaning.specs.WrittenRules.{head_arguments}
 use Rattle.pi_meaning.specs.Sound.{KeepsSlots, pattern_count}
-use Rattle.pi_names.specs.Texts.{places, behind}
-use Rattle.pi_names.specs.Rules.{places_in, names_before}
-use Rattle.pi_names.proofs.LoopNames.{AreNamed, behind-named}
+use Rattle.pi_meaning.specs.Texts.{places, behind}
+use Rattle.pi_meaning.specs.RulesOverNames.{places_in, names_before}
+use Rattle.pi_meaning.proofs.LoopNames.{AreNamed, behind-named}
 use Rattle.pi_lowered.specs.Slots.{SlotNames}
 use Rattle.pi_lowered.specs.Values.{SlotValue, last_value}
 use Rattle.pi_lowered.specs.Goals.{SlotGoals, in_turn}

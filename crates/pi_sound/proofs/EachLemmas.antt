@@ -4,7 +4,7 @@ use Rattle.std.proofs.lemmas.List.{drop_more, drop_all}
 use Rattle.pi_syntax.specs.ExpTree.{ExpTree, ExpTrees, exp_tree}
 use Rattle.pi_syntax.specs.ExpLists.{exps_of}
 use Rattle.pi_syntax.specs.declared.exp.Exp.{Exp}
-use Rattle.pi_names.specs.Texts.{iterated}
+use Rattle.pi_meaning.specs.Texts.{iterated}
 use Rattle.pi_slots.specs.Branches.{branches_in}
 use Rattle.pi_sound.specs.Built.{is_built_term, are_built_terms, is_built_pattern, are_built_patterns, is_built_value, are_built_values, is_built_goal, are_built_goals, is_built_branch, are_built_branches, have_built_goals, is_built_unit, is_built_collection, are_built_units}
 

@@ -5,7 +5,7 @@ use Rattle.std.proofs.lemmas.Bool.{or_parts}
 use Rattle.pi_syntax.specs.ExpTree.{ExpTree}
 use Rattle.pi_syntax.specs.ProgramTree.{ProgramTree}
 use Rattle.pi_syntax.specs.Tokens.{Token}
-use Rattle.pi_names.specs.Prelude.{prelude}
+use Rattle.pi_meaning.specs.Prelude.{prelude}
 use Rattle.pi_clauses.specs.Calls.{Named, calls_among, first_unknown}
 use Rattle.pi_clauses.specs.GoalVerdict.{defined_by_program, GoalVerdict, a_goal, goal_is_faulty, calls_unknown, unknown_goal, goal_verdict, JudgesGoal, goal_too_deep, no_goal, an_expression}
 use Rattle.pi_clauses.specs.Items.{misplaces, are_bad_nodes}

@@ -8,7 +8,7 @@ use Rattle.pi_syntax.specs.ProgramTree.{RuleTree, FunctionTree, WrittenClause, r
 use Rattle.pi_syntax.specs.declared.program.Decl.{Decl}
 use Rattle.pi_syntax.specs.declared.program.Mode.{Mode}
 use Rattle.pi_meaning.specs.WrittenRules.{head_arguments}
-use Rattle.pi_names.specs.Prelude.{prelude}
+use Rattle.pi_meaning.specs.Prelude.{prelude}
 use Rattle.pi_clauses.specs.Calls.{Named, calls_among, first_unknown}
 use Rattle.pi_clauses.specs.GoalVerdict.{defined_by_program}
 use Rattle.pi_clauses.specs.Places.{goal, expression, test, placed, placed_if, clause_placed}

@@ -8,9 +8,9 @@ use Rattle.pi_meaning.specs.Environment.{Valued}
 use Rattle.pi_meaning.specs.Place.{Place}
 use Rattle.pi_meaning.specs.Names.{is_call}
 use Rattle.pi_meaning.specs.Given.{Setting}
-use Rattle.pi_names.specs.Control.{Goal, Value, Values, nothing, made_of, applied_to, all_found, all_counted, called_with, assigning, denying, taken_once, catching, goal_at, value_at}
-use Rattle.pi_names.specs.Forms.{Form, negation, once, assignment, catch, by_term, membership, form_of, Parts, call_goal, atom_goal, Reading, plain, operand, boolean, ranged, is_operand_node, is_sum, is_connective, is_constraint, is_find_all, is_count_all, call_value, range_value}
-use Rattle.pi_names.proofs.FormNames.{by_term-named}
+use Rattle.pi_meaning.specs.ControlOverNames.{Goal, Value, Values, nothing, made_of, applied_to, all_found, all_counted, called_with, assigning, denying, taken_once, catching, goal_at, value_at}
+use Rattle.pi_meaning.specs.Forms.{Form, negation, once, assignment, catch, by_term, membership, form_of, Parts, call_goal, atom_goal, Reading, plain, operand, boolean, ranged, is_operand_node, is_sum, is_connective, is_constraint, is_find_all, is_count_all, call_value, range_value}
+use Rattle.pi_meaning.proofs.FormNames.{by_term-named}
 use Rattle.pi_sound.specs.Built.{is_built_predicate, is_built_function, is_built_value_call, is_built_form, is_built_atom}
 use Rattle.pi_sound.proofs.BuiltNames.{node-of_none, sign-of_none}
 use Rattle.pi_sound.proofs.CallLemmas.{CallsAlike, Counted, nothing-counted, called-alike, applied-alike}

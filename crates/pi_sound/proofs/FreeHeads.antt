@@ -11,10 +11,10 @@ use Rattle.pi_syntax.specs.declared.builtin.BuiltinKind.TheVariants.{Predicate, 
 use Rattle.pi_syntax.specs.ExpTree.{ExpTree, atom, call}
 use Rattle.pi_syntax.specs.Signature.{signature, exp_count}
 use Rattle.pi_meaning.specs.Names.{is_later_predicate, is_later_function, is_resource, is_catch, is_call, is_given_predicate, is_given_function}
-use Rattle.pi_names.specs.Forms.{is_find_all, is_count_all}
-use Rattle.pi_names.specs.Kinds.{is_unwritten, means_function, means_predicate, means_prelude}
-use Rattle.pi_names.proofs.TableLemmas.{same-name, one-of}
-use Rattle.pi_names.proofs.BuiltInNames.{names-have-their-kinds}
+use Rattle.pi_meaning.specs.Forms.{is_find_all, is_count_all}
+use Rattle.pi_meaning.specs.Kinds.{is_unwritten, means_function, means_predicate, means_prelude}
+use Rattle.pi_meaning.proofs.TableLemmas.{same-name, one-of}
+use Rattle.pi_meaning.proofs.BuiltInNames.{names-have-their-kinds}
 use Rattle.pi_clauses.specs.Items.{is_head}
 use Rattle.pi_clauses.specs.Operators.{is_goal_sign, is_assignment, is_relation, is_reified, is_membership, is_arithmetic, is_operator}
 use Rattle.pi_clauses.specs.Verdict.{is_built_in_signature}

@@ -11,12 +11,12 @@ use Rattle.pi_meaning.specs.Trace.{one}
 use Rattle.pi_meaning.specs.Environment.{Valued}
 use Rattle.pi_meaning.specs.Names.{is_call}
 use Rattle.pi_meaning.specs.Given.{Setting}
-use Rattle.pi_names.specs.Texts.{Names, places, places_all, places_behind, places_caught, places_of_branches, behind, variable_first, occurring, occurring_all, iterated, unit_places, begins_with_iterator, shared_names, names_inside, assigned, kept_names}
-use Rattle.pi_names.specs.Terms.{items_onto}
-use Rattle.pi_names.specs.Control.{Goal, Value, Values, draining, nothing, in_front, made_of, made_onto, applied_to, following, choosing, branch_before, goal_at, value_at}
-use Rattle.pi_names.specs.Forms.{form_of, Parts, Reading, plain, readings, first_reading, later_readings, operand_readings, indexed_by}
-use Rattle.pi_names.specs.Loops.{Finish, as_it_is, unit, iterating, turning, while_turns, do_turns, hidden, adding, in_order, comprehended}
-use Rattle.pi_names.specs.Goals.{started, value_of, values_of, values_in, values_apart, goals_in, goal_of, all_of, any_of, arrow_in, branches_of, units_of, collection_of}
+use Rattle.pi_meaning.specs.Texts.{Names, places, places_all, places_behind, places_caught, places_of_branches, behind, variable_first, occurring, occurring_all, iterated, unit_places, begins_with_iterator, shared_names, names_inside, assigned, kept_names}
+use Rattle.pi_meaning.specs.Terms.{items_onto}
+use Rattle.pi_meaning.specs.ControlOverNames.{Goal, Value, Values, draining, nothing, in_front, made_of, made_onto, applied_to, following, choosing, branch_before, goal_at, value_at}
+use Rattle.pi_meaning.specs.Forms.{form_of, Parts, Reading, plain, readings, first_reading, later_readings, operand_readings, indexed_by}
+use Rattle.pi_meaning.specs.Loops.{Finish, as_it_is, unit, iterating, turning, while_turns, do_turns, hidden, adding, in_order, comprehended}
+use Rattle.pi_meaning.specs.Goals.{started, value_of, values_of, values_in, values_apart, goals_in, goal_of, all_of, any_of, arrow_in, branches_of, units_of, collection_of}
 use Rattle.pi_sound.specs.Built.{is_built_pattern, is_built_form, is_assigned, is_built_unit, are_built_units, is_built_collection, are_some, is_built_value, are_built_values, is_built_value_at, is_built_goal_at, is_built_goal, are_built_goals, are_built_branches, is_built_branch, have_built_goals}
 use Rattle.pi_sound.specs.TermCalls.{calls_terms, some_call_terms, some_branch_calls_terms}
 use Rattle.pi_sound.proofs.BuiltNames.{ranges-built, index-built}

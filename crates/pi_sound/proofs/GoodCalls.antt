@@ -7,9 +7,9 @@ use Rattle.pi_core.specs.GoalTree.{truth, fail, call}
 use Rattle.pi_effects.specs.BuiltIns.{is_predicate, is_function}
 use Rattle.pi_meaning.specs.Names.{is_call, is_given_predicate, is_given_function}
 use Rattle.pi_meaning.specs.Defined.{is_machine_predicate}
-use Rattle.pi_names.specs.Texts.{places, places_all}
-use Rattle.pi_names.specs.Forms.{Form, negation, once, assignment, catch, by_term, membership}
-use Rattle.pi_names.proofs.LoopNames.{AreNamed, behind-named}
+use Rattle.pi_meaning.specs.Texts.{places, places_all}
+use Rattle.pi_meaning.specs.Forms.{Form, negation, once, assignment, catch, by_term, membership}
+use Rattle.pi_meaning.proofs.LoopNames.{AreNamed, behind-named}
 use Rattle.pi_lowered.specs.Slots.{SlotNames}
 use Rattle.pi_lowered.specs.Values.{applied}
 use Rattle.pi_lowered.specs.Goals.{SlotParts, just, goals_at, value_at, found_by, all_counted, call_goals}

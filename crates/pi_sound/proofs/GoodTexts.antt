@@ -13,11 +13,11 @@ use Rattle.pi_syntax.specs.Signature.{exp_count}
 use Rattle.pi_core.specs.GoalTree as core
 use Rattle.pi_core.specs.CoreTree.{PredTree}
 use Rattle.pi_meaning.proofs.MeaningLemmas.{count-of}
-use Rattle.pi_names.specs.Terms.{items_onto}
-use Rattle.pi_names.specs.Texts.{places, places_all, places_of_branches, occurring, occurring_all, iterated, begins_with_iterator, variable_first, assigned, kept_names}
-use Rattle.pi_names.specs.Loops.{hidden}
-use Rattle.pi_names.specs.Forms.{form_of, is_find_all, is_count_all}
-use Rattle.pi_names.proofs.LoopNames.{Within, AreNamed, behind-named, shared-before, assigned-occurs}
+use Rattle.pi_meaning.specs.Terms.{items_onto}
+use Rattle.pi_meaning.specs.Texts.{places, places_all, places_of_branches, occurring, occurring_all, iterated, begins_with_iterator, variable_first, assigned, kept_names}
+use Rattle.pi_meaning.specs.Loops.{hidden}
+use Rattle.pi_meaning.specs.Forms.{form_of, is_find_all, is_count_all}
+use Rattle.pi_meaning.proofs.LoopNames.{Within, AreNamed, behind-named, shared-before, assigned-occurs}
 use Rattle.pi_lowered.specs.Slots.{SlotNames}
 use Rattle.pi_lowered.specs.Values.{is_flat, are_flat, last_value, value_by}
 use Rattle.pi_lowered.specs.Goals as slots

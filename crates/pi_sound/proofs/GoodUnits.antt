@@ -12,9 +12,9 @@ use Rattle.pi_effects.specs.Inner.{itself_name}
 use Rattle.pi_syntax.specs.ExpTree.{ExpTree, array, ExpTrees, exp}
 use Rattle.pi_core.specs.GoalTree.{truth, apply}
 use Rattle.pi_core.specs.CoreTree.{PredTree}
-use Rattle.pi_names.specs.Texts.{Names, is_among, places, occurring_all, iterated, pattern_places, patterns_of, shared_names, names_inside}
-use Rattle.pi_names.specs.Loops.{hidden}
-use Rattle.pi_names.proofs.LoopNames.{among-append, Within, AreNamed, behind-named, shared-before, inside-before}
+use Rattle.pi_meaning.specs.Texts.{Names, is_among, places, occurring_all, iterated, pattern_places, patterns_of, shared_names, names_inside}
+use Rattle.pi_meaning.specs.Loops.{hidden}
+use Rattle.pi_meaning.proofs.LoopNames.{among-append, Within, AreNamed, behind-named, shared-before, inside-before}
 use Rattle.pi_lowered.specs.Slots.{SlotNames, slot_for, slots_for}
 use Rattle.pi_lowered.specs.Values.{SlotValue}
 use Rattle.pi_lowered.specs.Goals.{SlotGoals}

@@ -14,9 +14,9 @@ use Rattle.pi_syntax.specs.Signature.{Signature, signature, exp_count}
 use Rattle.pi_syntax.specs.declared.program.Mode.{Mode}
 use Rattle.pi_core.specs.CoreTree.{index_of}
 use Rattle.pi_meaning.specs.WrittenRules.{is_signature, is_rule_of, rule_in, rules_of, head_arguments}
-use Rattle.pi_names.specs.Rules.{fact_head, is_head_of, is_head_in, rules_named, facts_named}
-use Rattle.pi_names.specs.Prelude.{prelude}
-use Rattle.pi_names.proofs.TableLemmas.{same-name}
+use Rattle.pi_meaning.specs.RulesOverNames.{fact_head, is_head_of, is_head_in, rules_named, facts_named}
+use Rattle.pi_meaning.specs.Prelude.{prelude}
+use Rattle.pi_meaning.proofs.TableLemmas.{same-name}
 use Rattle.pi_clauses.specs.Calls.{Named, named}
 use Rattle.pi_clauses.specs.Items.{head_of, is_function, is_fact, is_head}
 use Rattle.pi_clauses.specs.Verdict.{JudgedClause, JudgedPart, refused, libraries, one_clause, as_list, named_of, defined_by, indexed_by, all_defined, all_indexed, is_of, holds, has_other_length, is_built_in_signature, is_kind_of_other, decl_of, parts_of}

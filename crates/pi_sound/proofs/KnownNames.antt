@@ -13,10 +13,10 @@ use Rattle.pi_syntax.specs.ExpTree.{ExpTree}
 use Rattle.pi_syntax.specs.ProgramTree.{FunctionTree, WrittenClause, rule, function, fact, PartTree, ProgramTree}
 use Rattle.pi_syntax.specs.Signature.{Signature, signature, exp_count}
 use Rattle.pi_meaning.specs.WrittenRules.{is_signature}
-use Rattle.pi_names.specs.Rules.{predicate_head, function_in, is_head_of}
-use Rattle.pi_names.specs.Prelude.{prelude}
-use Rattle.pi_names.specs.Run.{is_some_head}
-use Rattle.pi_names.proofs.TableLemmas.{same-name, each-from, each-row, rows-hold}
+use Rattle.pi_meaning.specs.RulesOverNames.{predicate_head, function_in, is_head_of}
+use Rattle.pi_meaning.specs.Prelude.{prelude}
+use Rattle.pi_meaning.specs.RunOverNames.{is_some_head}
+use Rattle.pi_meaning.proofs.TableLemmas.{same-name, each-from, each-row, rows-hold}
 use Rattle.pi_clauses.specs.Calls.{Named, named, is_kind, same_bool, same_named, is_known}
 use Rattle.pi_clauses.specs.GoalVerdict.{defined_by_clause, defined_by_program}
 use Rattle.pi_clauses.specs.Verdict.{as_list, named_of}

@@ -9,7 +9,7 @@ use Rattle.pi_effects.specs.Inner.{itself_name, in_order_name, range_count_name}
 use Rattle.pi_syntax.specs.ExpTree.{array}
 use Rattle.pi_core.specs.GoalTree.{GoalTree, call, apply}
 use Rattle.pi_core.specs.CoreTree.{PredTree}
-use Rattle.pi_names.specs.Texts.{Names}
+use Rattle.pi_meaning.specs.Texts.{Names}
 use Rattle.pi_lowered.specs.Forms.{Knows}
 use Rattle.pi_lowered.specs.Slots.{SlotNames, slot_for, with_value}
 use Rattle.pi_lowered.specs.Values.{SlotValue, SlotValues}

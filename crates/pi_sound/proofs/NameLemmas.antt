@@ -13,7 +13,7 @@ use Rattle.pi_syntax.specs.Tokens.{is_one_of}
 use Rattle.pi_meaning.specs.Names.{later_predicates, is_later_predicate, is_later_function, is_resource, is_call, is_planner, is_given_predicate, is_given_function}
 use Rattle.pi_meaning.specs.Defined.{is_machine_predicate}
 use Rattle.pi_syntax.specs.Names.{function_rows, predicate_rows, prelude_rows, kind_of}
-use Rattle.pi_names.proofs.TableLemmas.{same-name, one-of, each-spelled, spellings-hold, each-signed, signatures-hold}
+use Rattle.pi_meaning.proofs.TableLemmas.{same-name, one-of, each-spelled, spellings-hold, each-signed, signatures-hold}
 use Rattle.pi_sound.specs.Built.{is_own, is_prelude_kind, is_built_predicate, is_built_function}
 
 -- ---- predicates

@@ -5,8 +5,8 @@ use Rattle.std.specs.Str.{bytes_eq}
 use Rattle.std.proofs.lemmas.Bool.{and_parts, or_from}
 use Rattle.std.proofs.lemmas.List.Folds.{list_any-append}
 use Rattle.pi_syntax.specs.ExpTree.{ExpTree, var, int, atom, str, list, list_onto, array, call, quote, range, range_by, at, ExpTrees, no_exps, exp}
-use Rattle.pi_names.specs.Texts.{Names, is_among, places, places_all, iterated, pattern_places, patterns_of}
-use Rattle.pi_names.specs.Loops.{hidden}
+use Rattle.pi_meaning.specs.Texts.{Names, is_among, places, places_all, iterated, pattern_places, patterns_of}
+use Rattle.pi_meaning.specs.Loops.{hidden}
 use Rattle.pi_sound.specs.Built.{is_built_pattern, are_built_patterns, is_built_unit, is_built_collection, is_built_goal, are_built_units}
 
 joined : (xs ys : Names) → is_among xs hidden ≡ false → is_among ys hidden ≡ false → is_among (xs ++ ys) hidden ≡ false

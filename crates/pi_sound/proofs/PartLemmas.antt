@@ -18,9 +18,9 @@ use Rattle.pi_effects.specs.Making.{making_functions}
 use Rattle.pi_effects.specs.BuiltIns.{reading_functions, tests, other_predicates, is_predicate, is_function}
 use Rattle.pi_syntax.specs.Names.{function_rows, predicate_rows, prelude_rows, kind_of}
 use Rattle.pi_meaning.specs.WrittenRules.{rules_of}
-use Rattle.pi_names.specs.Forms.{form_of}
-use Rattle.pi_names.specs.Rules.{function_in}
-use Rattle.pi_names.specs.Prelude.{prelude}
+use Rattle.pi_meaning.specs.Forms.{form_of}
+use Rattle.pi_meaning.specs.RulesOverNames.{function_in}
+use Rattle.pi_meaning.specs.Prelude.{prelude}
 use Rattle.pi_sound.specs.Built.{is_built_pattern, are_built_patterns, is_built_value, are_built_values, is_built_value_at, is_built_goal_at, is_built_goal, are_built_goals, is_built_rule, is_built_function_rule, is_built, is_built_part, unbuilt_from}
 use Rattle.pi_sound.specs.TermCalls.{calls_terms, some_call_terms, rule_calls_terms, function_calls_terms, clause_calls_terms, program_calls_terms}
 

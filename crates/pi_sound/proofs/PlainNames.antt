@@ -20,8 +20,8 @@ use Rattle.pi_syntax.specs.Names.{function_rows, predicate_rows, prelude_rows, r
 use Rattle.pi_syntax.specs.declared.builtin.BuiltinKind.{BuiltinKind}
 use Rattle.pi_syntax.specs.Tokens.{is_one_of}
 use Rattle.pi_meaning.specs.Names.{is_catch, is_call}
-use Rattle.pi_names.specs.Forms.{Reading, is_constraint, is_connective, is_within, readings, is_find_all, is_count_all}
-use Rattle.pi_names.proofs.TableLemmas.{Test, same-name, one-of, each-spelled, spellings-hold, each-below, body-holds, each-line, lines-hold, each-from, each-row, rows-hold}
+use Rattle.pi_meaning.specs.Forms.{Reading, is_constraint, is_connective, is_within, readings, is_find_all, is_count_all}
+use Rattle.pi_meaning.proofs.TableLemmas.{Test, same-name, one-of, each-spelled, spellings-hold, each-below, body-holds, each-line, lines-hold, each-from, each-row, rows-hold}
 use Rattle.pi_clauses.specs.Operators.{is_goal_sign, is_relation, is_membership, is_reified, is_goal_call}
 use Rattle.pi_sound.specs.Built.{is_own, is_prelude_kind, is_built_predicate, is_built_function}
 

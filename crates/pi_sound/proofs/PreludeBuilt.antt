@@ -16,8 +16,8 @@ use Rattle.pi_effects.specs.BuiltIns.{reading_functions, tests, other_predicates
 use Rattle.pi_syntax.specs.ProgramTree.{ProgramTree}
 use Rattle.pi_syntax.specs.Signature.{exp_count}
 use Rattle.pi_syntax.specs.Names.{function_rows, predicate_rows, prelude_rows, kind_of}
-use Rattle.pi_names.specs.Forms.{form_of}
-use Rattle.pi_names.specs.Prelude.{prelude}
+use Rattle.pi_meaning.specs.Forms.{form_of}
+use Rattle.pi_meaning.specs.Prelude.{prelude}
 use Rattle.pi_sound.specs.Built.{is_built_pattern, is_built_value, is_built_part}
 
 abbrev pub AreBuilt : ProgramTree → Type 0

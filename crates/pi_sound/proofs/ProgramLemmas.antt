@@ -20,7 +20,7 @@ use Rattle.pi_meaning.specs.Sound.{IsSoundClause, IsAnother, IsSoundIndex, IsSou
 use Rattle.pi_meaning.specs.Defined.{ClauseCallsDefined, NamesAreFree, is_machine_predicate}
 use Rattle.pi_meaning.specs.Instances.{is_called_by_name}
 use Rattle.pi_meaning.proofs.DefinedLemmas.{found-pred}
-use Rattle.pi_names.specs.Prelude.{prelude}
+use Rattle.pi_meaning.specs.Prelude.{prelude}
 use Rattle.pi_lowered.specs.Forms.{Knows}
 use Rattle.pi_lowered.specs.Lowered.{named_by, Lowering, grouped_all}
 use Rattle.pi_lowered.specs.Programs.{Naming, written_rule, rule_count, rule_helpers, written_function, function_count, function_helpers, clause_count, written_clause, clause_helpers, clauses_of, helpers_of, core_program}

@@ -16,8 +16,8 @@ use Rattle.pi_meaning.specs.Sound.{CallsKnown, IsSoundClause, IsSoundIndex, IsSo
 use Rattle.pi_meaning.specs.Defined.{CallsDefined, ClauseCallsDefined, ProgramCallsDefined, NamesAreFree, is_machine_predicate}
 use Rattle.pi_meaning.specs.Instances.{is_called_by_name}
 use Rattle.pi_meaning.proofs.DefinedLemmas.{found-pred}
-use Rattle.pi_names.specs.Texts.{Names}
-use Rattle.pi_names.specs.Run.{answer_names}
+use Rattle.pi_meaning.specs.Texts.{Names}
+use Rattle.pi_meaning.specs.RunOverNames.{answer_names}
 use Rattle.pi_lowered.specs.Slots.{SlotNames, slot_for, slots_for, named_slots, slots_behind}
 use Rattle.pi_lowered.specs.Goals.{in_turn}
 use Rattle.pi_lowered.specs.Written.{goal_of}

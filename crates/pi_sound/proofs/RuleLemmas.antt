@@ -15,12 +15,12 @@ use Rattle.pi_meaning.specs.Rules.{chosen_rule}
 use Rattle.pi_meaning.specs.Environment.{Environment}
 use Rattle.pi_meaning.specs.Place.{Place}
 use Rattle.pi_meaning.specs.WrittenRules.{rules_of, is_rule_of, head_arguments}
-use Rattle.pi_names.specs.Stages.{RulesSetting}
-use Rattle.pi_names.specs.Texts.{Names, places, behind}
-use Rattle.pi_names.specs.Heads.{patterns_matched}
-use Rattle.pi_names.specs.Control.{strictly}
-use Rattle.pi_names.specs.Forms.{plain}
-use Rattle.pi_names.specs.Rules.{is_head_of, rules_named, functions_named, modes_named, guarded, places_in, names_before, function_names, body_or_agent, leaves_later, rule_or_later, rules_called, predicate_run, body_or_none, applied, value_run, function_or_later, functions_called, function_run, calls_by, level_for}
+use Rattle.pi_meaning.specs.Stages.{RulesSetting}
+use Rattle.pi_meaning.specs.Texts.{Names, places, behind}
+use Rattle.pi_meaning.specs.Heads.{patterns_matched}
+use Rattle.pi_meaning.specs.ControlOverNames.{strictly}
+use Rattle.pi_meaning.specs.Forms.{plain}
+use Rattle.pi_meaning.specs.RulesOverNames.{is_head_of, rules_named, functions_named, modes_named, guarded, places_in, names_before, function_names, body_or_agent, leaves_later, rule_or_later, rules_called, predicate_run, body_or_none, applied, value_run, function_or_later, functions_called, function_run, calls_by, level_for}
 use Rattle.pi_sound.specs.Built.{is_built_value, is_built_goal, are_built_patterns, is_built_goal_or_none, are_none, is_built_rule, is_built_function_rule}
 use Rattle.pi_sound.specs.TermCalls.{calls_terms, calls_terms_if, rule_calls_terms, function_calls_terms}
 use Rattle.pi_sound.proofs.CallLemmas.{CallsAlike}

@@ -9,11 +9,11 @@ use Rattle.pi_meaning.specs.View.{View}
 use Rattle.pi_meaning.specs.Level.{Level, lowest, over, Calls}
 use Rattle.pi_meaning.specs.Place.{Place, beginning}
 use Rattle.pi_meaning.specs.Telling.{telling, place_told, told_trace}
-use Rattle.pi_names.specs.Stages.{LaterStages}
-use Rattle.pi_names.specs.Control.{strictly}
-use Rattle.pi_names.specs.Rules.{heads_named}
-use Rattle.pi_names.specs.Prelude.{prelude}
-use Rattle.pi_names.specs.Run.{is_some_head, setting, program_level, answer_names, names_from, names_trace}
+use Rattle.pi_meaning.specs.Stages.{LaterStages}
+use Rattle.pi_meaning.specs.ControlOverNames.{strictly}
+use Rattle.pi_meaning.specs.RulesOverNames.{heads_named}
+use Rattle.pi_meaning.specs.Prelude.{prelude}
+use Rattle.pi_meaning.specs.RunOverNames.{is_some_head, setting, program_level, answer_names, names_from, names_trace}
 use Rattle.pi_lowered.specs.Forms.{Knows}
 use Rattle.pi_faithful.specs.Levels.{SameCalls, SameLevels}
 use Rattle.pi_faithful.specs.Laws.{known_of}

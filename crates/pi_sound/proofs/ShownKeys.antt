@@ -10,8 +10,8 @@ use Rattle.pi_syntax.specs.ExpTree.{ExpTree, atom, call}
 use Rattle.pi_syntax.specs.ProgramTree.{WrittenClause, rule, function, fact}
 use Rattle.pi_syntax.specs.Signature.{Signature, signature, exp_count}
 use Rattle.pi_meaning.specs.WrittenRules.{is_signature}
-use Rattle.pi_names.specs.Prelude.{prelude}
-use Rattle.pi_names.proofs.TableLemmas.{same-name, each-signed, signatures-hold}
+use Rattle.pi_meaning.specs.Prelude.{prelude}
+use Rattle.pi_meaning.proofs.TableLemmas.{same-name, each-signed, signatures-hold}
 use Rattle.pi_clauses.specs.Calls.{Named, named, same_bool}
 use Rattle.pi_clauses.specs.Items.{head_of, is_head}
 use Rattle.pi_clauses.specs.Verdict.{JudgedPart, refused, libraries, one_clause, as_list, named_of, definition, all_defined, is_built_in_signature, is_other_kind, holds_other_kind, same_signature, parts_of}

@@ -7,8 +7,8 @@ use Rattle.pi_terms.specs.Tree.{Tree, trees_of}
 use Rattle.pi_terms.specs.PatternTree.{HaveSlot}
 use Rattle.pi_states.proofs.KeepsLemmas.{TreesBelow}
 use Rattle.pi_meaning.specs.Sound.{pattern_count}
-use Rattle.pi_names.specs.Texts.{Names, is_among}
-use Rattle.pi_names.proofs.LoopNames.{among-append, Within}
+use Rattle.pi_meaning.specs.Texts.{Names, is_among}
+use Rattle.pi_meaning.proofs.LoopNames.{among-append, Within}
 use Rattle.pi_lowered.specs.Slots.{SlotNames, unnamed, slot_of, slot_known, slot_or_next, slots_with, slot_for, slots_for}
 use Rattle.pi_lowered.specs.Values.{slot_terms}
 use Rattle.pi_lowered.specs.Loops.{slots_for_names, slots_from, slots_head, with_values, as_written, started}

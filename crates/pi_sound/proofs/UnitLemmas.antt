@@ -5,7 +5,7 @@ use Rattle.std.specs.Str.{bytes_eq}
 use Rattle.pi_syntax.specs.ExpTree.{ExpTrees, call, exp_tree}
 use Rattle.pi_syntax.specs.ExpLists.{exps_of}
 use Rattle.pi_syntax.specs.declared.exp.Exp.{Exp}
-use Rattle.pi_names.specs.Texts.{iterated}
+use Rattle.pi_meaning.specs.Texts.{iterated}
 use Rattle.pi_sound.specs.Built.{is_built_unit, is_built_pattern, is_built_value_at, is_built_goal}
 use Rattle.pi_sound.proofs.EachLemmas.{both}
 

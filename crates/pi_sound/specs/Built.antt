@@ -12,8 +12,8 @@ use Rattle.pi_syntax.specs.ProgramTree.{RuleTree, FunctionTree, WrittenClause, r
 use Rattle.pi_syntax.specs.Signature.{exp_count}
 use Rattle.pi_syntax.specs.declared.program.Decl.{Decl}
 use Rattle.pi_meaning.specs.WrittenRules.{head_arguments}
-use Rattle.pi_names.specs.Texts.{iterated}
-use Rattle.pi_names.specs.Forms.{Form, negation, once, assignment, catch, by_term, membership, form_of, is_find_all, is_count_all}
+use Rattle.pi_meaning.specs.Texts.{iterated}
+use Rattle.pi_meaning.specs.Forms.{Form, negation, once, assignment, catch, by_term, membership, form_of, is_find_all, is_count_all}
 
 -- ---- names that may be called
 

@@ -6,8 +6,8 @@ use Rattle.pi_meaning.specs.Depth.{Cut}
 use Rattle.pi_meaning.specs.View.{View}
 use Rattle.pi_meaning.specs.Place.{Place}
 use Rattle.pi_meaning.specs.Telling.{Told}
-use Rattle.pi_names.specs.Stages.{LaterStages}
-use Rattle.pi_names.specs.Run.{program_level, names_from, IsNamesRun}
+use Rattle.pi_meaning.specs.Stages.{LaterStages}
+use Rattle.pi_meaning.specs.RunOverNames.{program_level, names_from, IsNamesRun}
 use Rattle.pi_faithful.specs.Levels.{SameLevels}
 use Rattle.pi_faithful.specs.Laws.{known_of}
 use Rattle.pi_sound.specs.Built.{is_built_goal, unbuilt_part}

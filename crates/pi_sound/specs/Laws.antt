@@ -8,7 +8,7 @@ use Rattle.pi_core.specs.CoreTree.{PredTree, find_pred}
 use Rattle.pi_meaning.specs.WrittenRules.{is_signature}
 use Rattle.pi_meaning.specs.Sound.{IsSound, IsSoundQuery}
 use Rattle.pi_meaning.specs.Defined.{ProgramCallsDefined, QueryCallsDefined, NamesAreFree}
-use Rattle.pi_names.specs.Prelude.{prelude}
+use Rattle.pi_meaning.specs.Prelude.{prelude}
 use Rattle.pi_lowered.specs.Lowered.{Lowering, same_kind}
 use Rattle.pi_lowered.specs.Programs.{Naming, clauses_of, helpers_of, core_program, core_query}
 use Rattle.pi_faithful.specs.WithinLoops.{IsAsked, AreOwn}

@@ -1,6 +1,6 @@
 -- A form of control that the code names, as the definition names it.
 use Rattle.std.specs.Prelude.{Option, Some, None}
-use Rattle.pi_names.specs.Forms as names
+use Rattle.pi_meaning.specs.Forms as names
 use Rattle.pi_sound.specs.declared.forms.Form.{Form}
 
 abbrev pub form_shown : Option Form → Option names.Form

@@ -5,7 +5,7 @@ use Rattle.pi_syntax.specs.ExpTree.{ExpTree, var, int, atom, str, list, list_ont
 use Rattle.pi_syntax.specs.ProgramTree.{RuleTree, FunctionTree, WrittenClause, rule, function, fact, ProgramTree}
 use Rattle.pi_syntax.specs.Signature.{exp_count}
 use Rattle.pi_meaning.specs.Names.{is_call}
-use Rattle.pi_names.specs.Stages.{LaterStages, no_stages}
+use Rattle.pi_meaning.specs.Stages.{LaterStages, no_stages}
 
 -- A call of `call` stands in it, at any depth. Behind `$` all is a term, which calls nothing where it stands.
 unfoldable mutual

@@ -1,7 +1,7 @@
 -- Which programs are lowered, loops among them: those of the forms of `WithinLoops`, where no name is with one number of arguments both a predicate's and a function's. (Own.)
 use Rattle.std.specs.Prelude.{◌≡◌, ◌++◌, Contains}
 use Rattle.pi_syntax.specs.ProgramTree.{ProgramTree}
-use Rattle.pi_names.specs.Prelude.{prelude}
+use Rattle.pi_meaning.specs.Prelude.{prelude}
 use Rattle.pi_faithful.specs.Within.{Key, keys}
 use Rattle.pi_faithful.specs.WithinLoops as forms
 

@@ -1,6 +1,6 @@
 //! Which calls are forms of control.
 ghost use Rattle.std.specs.Prelude.{◌≡◌};
-ghost use Rattle.pi_names.specs.Forms.{form_of as form_in_names, is_find_all as is_find_all_name, is_count_all as is_count_all_name};
+ghost use Rattle.pi_meaning.specs.Forms.{form_of as form_in_names, is_find_all as is_find_all_name, is_count_all as is_count_all_name};
 ghost use Rattle.pi_sound.specs.Shown.{form_shown};
 
 /// A call that is a form of control, and calls nothing itself.
@@ -14,7 +14,7 @@ pub(crate) enum Form {
 }
 
 /// Which form a call has; `None` where it is that of a predicate.
-#[tactic(auto, unfolding(pi_names::specs::Forms::form_of))]
+#[tactic(auto, unfolding(pi_meaning::specs::Forms::form_of))]
 pub(crate) fn form_of(name: &str, count: usize) -> Option<Form>
     ensures { form_shown result ≡ form_in_names name.now count }
 {

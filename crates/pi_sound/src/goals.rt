@@ -3,8 +3,8 @@ ghost use Rattle.std.specs.Prelude.{◌≡◌, ◌&&◌, Some};
 ghost use Rattle.pi_syntax.specs.ExpTree.{exp_tree, call};
 ghost use Rattle.pi_syntax.specs.ExpLists.{exps_of};
 ghost use Rattle.pi_syntax.specs.Signature.{exp_count};
-ghost use Rattle.pi_names.specs.Texts.{iterated};
-ghost use Rattle.pi_names.specs.Forms.{assignment, form_of as form_in_names};
+ghost use Rattle.pi_meaning.specs.Texts.{iterated};
+ghost use Rattle.pi_meaning.specs.Forms.{assignment, form_of as form_in_names};
 ghost use Rattle.pi_slots.specs.Branches.{branches_in};
 ghost use Rattle.pi_sound.specs.Built as spec;
 

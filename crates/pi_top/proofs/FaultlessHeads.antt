@@ -14,9 +14,9 @@ use Rattle.pi_clauses.specs.Calls.{Named}
 use Rattle.pi_clauses.specs.Items.{head_of, is_head}
 use Rattle.pi_clauses.specs.Operators.{is_goal_sign, is_relation, is_reified, is_membership, is_operator}
 use Rattle.pi_clauses.specs.Verdict.{a_program, JudgedPart, refused, libraries, one_clause, judged, is_built_in_signature, all_defined, parts_of, HasVerdict}
-use Rattle.pi_names.specs.NameLaws.{is_taken, HeadsAreFree}
-use Rattle.pi_names.proofs.TableLemmas.{same-name, one-of}
-use Rattle.pi_names.proofs.BuiltInNames.{other-names-are_free}
+use Rattle.pi_meaning.specs.NameLaws.{is_taken, HeadsAreFree}
+use Rattle.pi_meaning.proofs.TableLemmas.{same-name, one-of}
+use Rattle.pi_meaning.proofs.BuiltInNames.{other-names-are_free}
 use Rattle.pi_sound.proofs.FaultlessParts.{AreGood, IsFaultless, faultless}
 
 -- ---- forms are signs of the grammar

@@ -8,8 +8,8 @@ use Rattle.pi_meaning.specs.Trace.{Done, Raise, Emitted, noted, answered, count_
 use Rattle.pi_meaning.specs.Depth.{Cut, Stop, Ended, Spent}
 use Rattle.pi_meaning.specs.View.{query_view}
 use Rattle.pi_meaning.specs.Telling.{Told}
-use Rattle.pi_names.specs.Stages.{no_stages}
-use Rattle.pi_names.proofs.GrowRules.{no-stages-add, names-runs-are-one}
+use Rattle.pi_meaning.specs.Stages.{no_stages}
+use Rattle.pi_meaning.proofs.GrowRules.{no-stages-add, names-runs-are-one}
 use Rattle.pi_query.specs.declared.runs.QueryRun.{QueryRun}
 use Rattle.pi_query.specs.declared.manner.Manner.{Manner}
 use Rattle.pi_query.specs.FaultLines.{of_program}

@@ -4,7 +4,7 @@ ghost use Rattle.pi_syntax.specs.ExpTree.{ExpTree};
 ghost use Rattle.pi_syntax.specs.ProgramTree.{ProgramTree};
 ghost use Rattle.pi_syntax.specs.Tokens.{Token};
 ghost use Rattle.pi_clauses.specs.Verdict.{HasVerdict, a_program};
-ghost use Rattle.pi_names.specs.NameLaws.{HeadsAreFree};
+ghost use Rattle.pi_meaning.specs.NameLaws.{HeadsAreFree};
 ghost use Rattle.pi_core.specs.declared.log.LogEntry.{LogEntry};
 ghost use Rattle.pi_query.specs.declared.manner.Manner.{Manner};
 ghost use Rattle.pi_query.specs.declared.runs.QueryRun.{QueryRun};

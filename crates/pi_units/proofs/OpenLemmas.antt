@@ -7,7 +7,7 @@ use Rattle.pi_terms.specs.PatternTree.{PatternTree, pattern}
 use Rattle.pi_core.specs.GoalTree.{GoalTree}
 use Rattle.pi_core.specs.CoreTree.{PredTree}
 use Rattle.pi_syntax.specs.ExpTree.{ExpTree, ExpTrees, no_exps, exp}
-use Rattle.pi_names.specs.Texts.{iterated}
+use Rattle.pi_meaning.specs.Texts.{iterated}
 use Rattle.pi_lowered.specs.Slots.{SlotNames, unnamed}
 use Rattle.pi_lowered.specs.Values.{SlotPattern, slot_pattern}
 use Rattle.pi_lowered.specs.Goals.{SlotGoals, in_turn}

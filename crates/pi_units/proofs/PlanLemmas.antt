@@ -3,7 +3,7 @@ use Rattle.std.proofs.Common.{◌≡◌, ℕ, suc, ◌+◌, List, [], ◌++◌, 
 use Rattle.std.specs.Prelude.{replicate}
 use Rattle.std.proofs.lemmas.List.{length-append}
 use Rattle.pi_syntax.specs.ExpTree.{ExpTree, ExpTrees}
-use Rattle.pi_names.specs.Texts.{Names, places, iterated, occurring_all, pattern_places, patterns_of, without, shared_names}
+use Rattle.pi_meaning.specs.Texts.{Names, places, iterated, occurring_all, pattern_places, patterns_of, without, shared_names}
 use Rattle.pi_lowered.specs.Slots.{SlotNames, unnamed}
 use Rattle.pi_lowered.specs.Values.{SlotPattern, slot_pattern}
 use Rattle.pi_lowered.specs.Sites.{Site, helpers_in, helpers_in_units, behind_site, inside}

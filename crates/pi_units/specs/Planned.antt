@@ -2,7 +2,7 @@
 use Rattle.std.specs.Prelude.{◌≡◌, ℕ, Bool, true, false, List, [], ◌++◌, Option, Some, None}
 use Rattle.pi_core.specs.GoalTree.{GoalTree}
 use Rattle.pi_syntax.specs.ExpTree.{ExpTree, ExpTrees}
-use Rattle.pi_names.specs.Texts.{Names, iterated, occurring_all, patterns_of, without, shared_names}
+use Rattle.pi_meaning.specs.Texts.{Names, iterated, occurring_all, patterns_of, without, shared_names}
 use Rattle.pi_lowered.specs.Slots.{SlotNames}
 use Rattle.pi_lowered.specs.Values.{slot_pattern}
 use Rattle.pi_lowered.specs.Sites.{Site}

@@ -3,7 +3,7 @@ use Rattle.std.specs.Prelude.{◌≡◌, true, false, List, [], ◌∷◌, ◌++
 use Rattle.pi_core.specs.GoalTree.{GoalTree}
 use Rattle.pi_core.specs.CoreTree.{PredTree}
 use Rattle.pi_syntax.specs.ExpTree.{ExpTrees}
-use Rattle.pi_names.specs.Texts.{Names, begins_with_iterator}
+use Rattle.pi_meaning.specs.Texts.{Names, begins_with_iterator}
 use Rattle.pi_lowered.specs.Slots.{SlotNames}
 use Rattle.pi_lowered.specs.Sites.{Site}
 use Rattle.pi_lowered.specs.Loops.{Ending, as_it_is, loop_slots, loop_goals, only_turn}

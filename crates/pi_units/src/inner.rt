@@ -2,7 +2,7 @@
 ghost use Rattle.std.specs.Prelude.{◌≡◌, ◌+◌, ◌++◌, length, IfOk};
 ghost use Rattle.pi_syntax.specs.ExpTree.{exp_tree};
 ghost use Rattle.pi_syntax.specs.ExpLists.{exps_of};
-ghost use Rattle.pi_names.specs.Texts.{occurring_all, patterns_of};
+ghost use Rattle.pi_meaning.specs.Texts.{occurring_all, patterns_of};
 ghost use Rattle.pi_lowered.specs.Sites.{helpers_in as helpers_of, helpers_in_units as helpers_of_units, behind_site, inside};
 ghost use Rattle.pi_lowered.specs.Written.{inner_of as inner_by, gathering as gathering_by, start_loop as start_loop_of};
 ghost use Rattle.pi_slots.specs.Indexed.{names_in};

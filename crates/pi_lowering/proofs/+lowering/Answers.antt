@@ -7,9 +7,9 @@ use Rattle.pi_core.specs.CoreTree.{pred_tree}
 use Rattle.pi_syntax.specs.ExpTree.{exp_tree}
 use Rattle.pi_syntax.specs.ExpLists.{exps_of}
 use Rattle.pi_syntax.specs.declared.exp.Exp as e
-use Rattle.pi_names.specs.Texts.{places, places_all, places_of_branches}
+use Rattle.pi_meaning.specs.Texts.{places, places_all, places_of_branches}
 use Rattle.pi_lowered.specs.Values.{is_flat}
-use Rattle.pi_names.specs.Forms.{form_of}
+use Rattle.pi_meaning.specs.Forms.{form_of}
 use Rattle.pi_lowered.specs.Goals.{begins_flat, either_of, indexed_by}
 use Rattle.pi_lowered.specs.Sites.{helpers_in_all, helpers_in_branches, behind_site, behind_exp, inside}
 use Rattle.pi_lowered.specs.Written.{made, goal_of, all_of}

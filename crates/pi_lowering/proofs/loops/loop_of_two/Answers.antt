@@ -2,7 +2,7 @@
 use Rattle.std.proofs.Common.{◌+◌, [], ◌++◌, ◌∙◌, ap}
 use Rattle.std.specs.Prelude.{filter}
 use Rattle.pi_syntax.specs.ExpTree.{exp_tree, no_exps}
-use Rattle.pi_names.specs.Texts.{is_among, occurring, assigned, patterns_of, shared_names, kept_names}
+use Rattle.pi_meaning.specs.Texts.{is_among, occurring, assigned, patterns_of, shared_names, kept_names}
 use Rattle.pi_lowered.specs.Sites.{helpers_in}
 use Rattle.pi_slots.specs.Indexed.{names_in}
 use Rattle.pi_sites.specs.OwnNames.{own_name}

@@ -1,7 +1,7 @@
 -- A comprehension has begun.
 use Rattle.std.proofs.Common.{[], ◌∷◌, subst, ap}
 use Rattle.pi_syntax.specs.ExpLists.{exps_of}
-use Rattle.pi_names.specs.Texts.{Names}
+use Rattle.pi_meaning.specs.Texts.{Names}
 use Rattle.pi_lowered.specs.Loops.{started, in_order}
 use Rattle.pi_lowered.specs.Written.{Inner}
 use Rattle.pi_slots.specs.Indexed.{names_in}

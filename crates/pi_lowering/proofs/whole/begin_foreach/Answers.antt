@@ -2,7 +2,7 @@
 use Rattle.std.proofs.Common.{◌≡◌, [], refl, ◌∙◌, ap, subst}
 use Rattle.pi_syntax.specs.ExpTree.{exp_tree}
 use Rattle.pi_syntax.specs.ExpLists.{exps_of}
-use Rattle.pi_names.specs.Texts.{Names, assigned, kept_names}
+use Rattle.pi_meaning.specs.Texts.{Names, assigned, kept_names}
 use Rattle.pi_lowered.specs.Loops.{as_it_is}
 use Rattle.pi_lowered.specs.Written.{Inner, inner_of}
 use Rattle.pi_slots.specs.Indexed.{names_in}

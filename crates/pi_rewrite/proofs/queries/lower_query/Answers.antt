@@ -2,7 +2,7 @@
 use Rattle.std.proofs.Common.{ℕ, List, map, ◌∙◌, ap}
 use Rattle.pi_syntax.specs.ExpTree.{exp_tree}
 use Rattle.pi_core.specs.CoreTree.{pred_tree}
-use Rattle.pi_names.specs.Texts.{Names}
+use Rattle.pi_meaning.specs.Texts.{Names}
 use Rattle.pi_lowered.specs.Slots.{named_slots, slots_behind}
 use Rattle.pi_lowered.specs.Programs.{core_query}
 use Rattle.pi_slots.specs.Indexed.{names_in}

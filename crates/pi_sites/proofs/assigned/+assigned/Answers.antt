@@ -3,7 +3,7 @@ use Rattle.std.proofs.Common.{◌++◌, refl, sym, ◌∙◌, ap}
 use Rattle.std.proofs.lemmas.Result.{IfOk-weaker}
 use Rattle.pi_syntax.specs.ExpTree.{call, exp_tree}
 use Rattle.pi_syntax.specs.ExpLists.{exps_of}
-use Rattle.pi_names.specs.Texts.{assigned, assigned_all, assigned_in_branches, without, patterns_of}
+use Rattle.pi_meaning.specs.Texts.{assigned, assigned_all, assigned_in_branches, without, patterns_of}
 use Rattle.pi_slots.specs.Branches.{branches_in}
 use Rattle.pi_slots.specs.Indexed.{names_in}
 use Rattle.pi_sites.proofs.NowTrees.{call-now, and-now, or-now, arrow-now, if_then-now, if_else-now, foreach-now, while-now, do-now}

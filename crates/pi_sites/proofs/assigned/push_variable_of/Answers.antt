@@ -2,7 +2,7 @@
 use Rattle.std.proofs.Common.{sym, ◌∙◌, ap}
 use Rattle.pi_syntax.specs.ExpTree.{one_exp, exp_tree}
 use Rattle.pi_syntax.specs.ExpLists.{exps_of}
-use Rattle.pi_names.specs.Texts.{the_name, variable_first}
+use Rattle.pi_meaning.specs.Texts.{the_name, variable_first}
 use Rattle.pi_slots.specs.Indexed.{names_in}
 use Rattle.pi_sites.proofs.NameLemmas.{put-first, put-nothing}
 use Rattle.pi_sites.proofs.AssignedLemmas.{first-of, first-none}

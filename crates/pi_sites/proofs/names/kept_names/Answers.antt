@@ -1,7 +1,7 @@
 -- Each once, by first assignment.
 use Rattle.std.proofs.Common.{[], ◌∙◌, ap}
 use Rattle.std.specs.Prelude.{filter}
-use Rattle.pi_names.specs.Texts.{is_among, behind}
+use Rattle.pi_meaning.specs.Texts.{is_among, behind}
 use Rattle.pi_slots.specs.Indexed.{names_in}
 use Rattle.pi_sites.proofs.names.kept_names.Goals as goal
 

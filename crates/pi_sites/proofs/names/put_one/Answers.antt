@@ -1,6 +1,6 @@
 -- A name that is there, and one that isn't.
 use Rattle.std.proofs.Common.{refl, sym, ◌∙◌, ap}
-use Rattle.pi_names.specs.Texts.{is_among}
+use Rattle.pi_meaning.specs.Texts.{is_among}
 use Rattle.pi_slots.specs.Indexed.{names_in}
 use Rattle.pi_slots.proofs.SlotLemmas.{pushed}
 use Rattle.pi_sites.proofs.NameLemmas.{one-blank, one-there, one-new}

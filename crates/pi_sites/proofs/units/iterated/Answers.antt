@@ -2,7 +2,7 @@
 use Rattle.std.proofs.Common.{sym, ◌∙◌, ap}
 use Rattle.pi_syntax.specs.ExpTree.{call}
 use Rattle.pi_syntax.specs.ExpLists.{exps_of}
-use Rattle.pi_names.specs.Texts.{iterated as iterated_of}
+use Rattle.pi_meaning.specs.Texts.{iterated as iterated_of}
 use Rattle.pi_sites.proofs.NowTrees.{call-now}
 use Rattle.pi_sites.proofs.units.iterated.Goals as goal
 

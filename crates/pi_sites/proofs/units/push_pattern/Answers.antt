@@ -1,7 +1,7 @@
 -- The names of a pattern.
 use Rattle.std.proofs.Common.{sym, ap}
 use Rattle.pi_syntax.specs.ExpTree.{exp_tree}
-use Rattle.pi_names.specs.Texts.{places, pattern_places, iterated as iterated_of}
+use Rattle.pi_meaning.specs.Texts.{places, pattern_places, iterated as iterated_of}
 use Rattle.pi_slots.specs.Indexed.{names_in}
 use Rattle.pi_sites.specs.TextNames.{names_of}
 use Rattle.pi_sites.proofs.NameLemmas.{put-first}

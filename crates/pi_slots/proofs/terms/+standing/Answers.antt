@@ -7,7 +7,7 @@ use Rattle.pi_terms.specs.ListNames.{nil}
 use Rattle.pi_syntax.specs.PrintTerm.{array_name}
 use Rattle.pi_syntax.specs.ExpTree.{exp_tree}
 use Rattle.pi_syntax.specs.ExpLists.{exps_of}
-use Rattle.pi_names.specs.Terms.{items_onto}
+use Rattle.pi_meaning.specs.Terms.{items_onto}
 use Rattle.pi_lowered.specs.Values.{slot_term, slot_terms, made_of, made_onto}
 use Rattle.pi_slots.proofs.StepLemmas.{did}
 use Rattle.pi_slots.proofs.TermLemmas.{terms-none, terms-more, terms-end, items-none, items-more, items-end}

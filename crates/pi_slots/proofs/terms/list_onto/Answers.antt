@@ -1,5 +1,5 @@
 use Rattle.pi_terms.specs.Tree.{trees_of}
-use Rattle.pi_names.specs.Terms.{items_onto}
+use Rattle.pi_meaning.specs.Terms.{items_onto}
 use Rattle.pi_slots.proofs.CellLemmas.{copies-none, copies-more, copies-end}
 use Rattle.pi_slots.proofs.terms.list_onto.Goals as goal
 

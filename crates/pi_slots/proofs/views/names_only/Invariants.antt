@@ -1,5 +1,5 @@
 use Rattle.std.proofs.Common.{ℕ, List, cond}
-use Rattle.pi_names.specs.Texts.{is_among}
+use Rattle.pi_meaning.specs.Texts.{is_among}
 use Rattle.pi_lowered.specs.Slots.{unnamed}
 use Rattle.pi_slots.specs.Indexed.{names_in}
 use Rattle.pi_slots.proofs.ViewLemmas.{MappedTo}

@@ -2,7 +2,7 @@
 use Rattle.std.proofs.Common.{◌≡◌, false, List, [], ◌++◌, length, Some, ◌∙◌, ap}
 use Rattle.pi_syntax.specs.ExpTree.{exp_tree}
 use Rattle.pi_syntax.specs.ExpLists.{exps_of}
-use Rattle.pi_names.specs.Texts.{Names, places}
+use Rattle.pi_meaning.specs.Texts.{Names, places}
 use Rattle.pi_lowered.specs.Values.{slot_pattern}
 use Rattle.pi_slots.specs.Indexed.{names_in}
 use Rattle.pi_sites.specs.SiteOf.{site_of}

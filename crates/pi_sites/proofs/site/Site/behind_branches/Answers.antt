@@ -1,7 +1,7 @@
 -- One step from where it stands.
 use Rattle.std.proofs.Common.{ap}
 use Rattle.pi_slots.specs.Branches.{branches_in}
-use Rattle.pi_names.specs.Texts.{places_of_branches}
+use Rattle.pi_meaning.specs.Texts.{places_of_branches}
 use Rattle.pi_lowered.specs.Sites.{helpers_in_branches}
 use Rattle.pi_slots.specs.Indexed.{names_in}
 use Rattle.pi_sites.specs.TextNames.{names_of_branches}

@@ -1,7 +1,7 @@
 -- One step from where it stands.
 use Rattle.std.proofs.Common.{refl, ap}
 use Rattle.pi_syntax.specs.ExpTree.{exp_tree}
-use Rattle.pi_names.specs.Texts.{places}
+use Rattle.pi_meaning.specs.Texts.{places}
 use Rattle.pi_slots.specs.Indexed.{names_in}
 use Rattle.pi_sites.specs.TextNames.{names_of}
 use Rattle.pi_sites.specs.SiteOf.{site_of}

@@ -1,5 +1,0 @@
-use Rattle.pi_names.proofs.TextLemmas.{texts-match-as-lists}
-use Rattle.pi_names.proofs.laws.texts_match_as_lists.Goals as goal
-
-pub returns : goal.returns
-returns c = texts-match-as-lists
