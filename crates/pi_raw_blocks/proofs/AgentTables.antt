@@ -6,10 +6,10 @@ use Rattle.pi_states.specs.declared.event.Watch.{Watch}
 use Rattle.pi_trail.specs.Image.{Image, pushed}
 use Rattle.pi_trail.specs.declared.entry.Table.{Table}
 use Rattle.pi_trail.proofs.ChangeLemmas.{push_word}
-use Rattle.pi_raw_terms.specs.Form.{form_of}
-use Rattle.pi_raw_terms.specs.Heap.{Heap, Grows}
-use Rattle.pi_raw_terms.specs.Placed.{IsRefIn}
-use Rattle.pi_raw_terms.proofs.RefLemmas.{form_stays}
+use Rattle.pi_raw_blocks.specs.Form.{form_of}
+use Rattle.pi_raw_blocks.specs.Heap.{Heap, Grows}
+use Rattle.pi_raw_blocks.specs.Placed.{IsRefIn}
+use Rattle.pi_raw_blocks.proofs.RefLemmas.{form_stays}
 use Rattle.pi_raw_blocks.specs.Events.{watched, watch_words}
 use Rattle.pi_raw_blocks.specs.Agent.{call_at, rule_at, watches_at, call_words, agent_words, IsAgentAt}
 use Rattle.pi_raw_blocks.specs.AgentTable.{word_of, end_of, AreEventsIn, EndsAgent, IsAgentIn, AddsAgent}

@@ -8,9 +8,9 @@ use Rattle.pi_trail.specs.Back.{Advances, at_length}
 use Rattle.pi_trail.proofs.EntryLemmas.{value_of-data_of}
 use Rattle.pi_trail.proofs.BackLemmas.{region_back, restored}
 use Rattle.pi_trail.proofs.ChangeLemmas.{appended_advances}
-use Rattle.pi_raw_terms.specs.Form.{form_with, header_with}
-use Rattle.pi_raw_terms.specs.Heap.{Heap, Appends}
-use Rattle.pi_raw_terms.specs.Placed.{IsWordIn, IsWordOf, IsHeaderIn}
+use Rattle.pi_raw_blocks.specs.Form.{form_with, header_with}
+use Rattle.pi_raw_blocks.specs.Heap.{Heap, Appends}
+use Rattle.pi_raw_blocks.specs.Placed.{IsWordIn, IsWordOf, IsHeaderIn}
 use Rattle.pi_raw_blocks.specs.Block.{block_of, numbers_in, block_closed_at, block_at, IsBefore, Writes, BlocksReadBack, BlocksOutlast, BlocksComeBack, BlocksSayNothing}
 
 abbrev Numbers : Type 0

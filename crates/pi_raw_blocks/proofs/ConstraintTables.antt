@@ -1,8 +1,8 @@
 -- Constraints in their table are the same when there is more.
 use Rattle.std.proofs.Common.{◌≡◌, ℕ, ◌+◌, ◌≤◌, List, ◌++◌, length, take, refl, ap, ◌∙◌, arith, length-append}
-use Rattle.pi_raw_terms.specs.Heap.{Heap, Grows}
-use Rattle.pi_raw_terms.specs.Placed.{WritesRight}
-use Rattle.pi_raw_terms.proofs.WriteLemmas.{writes_by}
+use Rattle.pi_raw_blocks.specs.Heap.{Heap, Grows}
+use Rattle.pi_raw_blocks.specs.Placed.{WritesRight}
+use Rattle.pi_raw_blocks.proofs.WriteLemmas.{writes_by}
 use Rattle.pi_raw_blocks.specs.Block.{block_of}
 use Rattle.pi_raw_blocks.proofs.BlockLemmas.{in_more, say_nothing}
 use Rattle.pi_raw_blocks.specs.Constraint.{constraint_in}

@@ -13,3 +13,17 @@ pub mod RightLemmas
 pub mod AgentTables
 pub mod BlockLemmas
 pub mod NumberLemmas
+pub mod NameTables
+pub mod PastLemmas
+pub mod TermRightLemmas
+pub mod KeptLemmas
+pub mod BoundLemmas
+pub mod BuiltLemmas
+pub mod FormLemmas
+pub mod HeapLemmas
+pub mod PutLemmas
+pub mod LookLemmas
+pub mod PlacedLemmas
+pub mod RefLemmas
+pub mod WriteLemmas
+pub mod SpeakLemmas

@@ -7,9 +7,9 @@ use Rattle.pi_trail.specs.Image.{Image}
 use Rattle.pi_trail.specs.Back.{Advances, at_length}
 use Rattle.pi_trail.proofs.EntryLemmas.{value_of-data_of}
 use Rattle.pi_trail.proofs.BackLemmas.{region_back}
-use Rattle.pi_raw_terms.specs.Heap.{Heap}
-use Rattle.pi_raw_terms.specs.Placed.{IsWordIn, WritesRight}
-use Rattle.pi_raw_terms.proofs.WriteLemmas.{data_word, writes_by}
+use Rattle.pi_raw_blocks.specs.Heap.{Heap}
+use Rattle.pi_raw_blocks.specs.Placed.{IsWordIn, WritesRight}
+use Rattle.pi_raw_blocks.proofs.WriteLemmas.{data_word, writes_by}
 use Rattle.pi_raw_blocks.specs.Node.{node_of, node_at, list_within, IsListed, here, in_first, in_second, WritesNode}
 use Rattle.pi_raw_blocks.specs.ListLaws.{ListsReadBack, ListsOutlast, ListsComeBack, NodesSayNothing}
 

@@ -3,12 +3,12 @@ use Rattle.std.proofs.Common.{◌≡◌, ◌⊎◌, inl, inr, ⊎_elim, ℕ, zer
 use Rattle.pi_states.specs.declared.store.Ref.{Ref}
 use Rattle.pi_states.specs.declared.event.Watch.{Watch}
 use Rattle.pi_trail.specs.Entry.{data_of}
-use Rattle.pi_raw_terms.specs.Form.{form_of}
-use Rattle.pi_raw_terms.specs.Heap.{Heap}
-use Rattle.pi_raw_terms.specs.Placed.{IsRefIn, IsWordIn, WritesRight}
-use Rattle.pi_raw_terms.proofs.PutLemmas.{grown}
-use Rattle.pi_raw_terms.proofs.RefLemmas.{form_stays}
-use Rattle.pi_raw_terms.proofs.WriteLemmas.{word_by_ref, data_word, writes_by}
+use Rattle.pi_raw_blocks.specs.Form.{form_of}
+use Rattle.pi_raw_blocks.specs.Heap.{Heap}
+use Rattle.pi_raw_blocks.specs.Placed.{IsRefIn, IsWordIn, WritesRight}
+use Rattle.pi_raw_blocks.proofs.PutLemmas.{grown}
+use Rattle.pi_raw_blocks.proofs.RefLemmas.{form_stays}
+use Rattle.pi_raw_blocks.proofs.WriteLemmas.{word_by_ref, data_word, writes_by}
 use Rattle.pi_raw_blocks.specs.Numbers.{first_half, second_half}
 use Rattle.pi_raw_blocks.specs.Events.{watch_number, watch_words}
 use Rattle.pi_raw_blocks.specs.Agent.{call_words, agent_words}

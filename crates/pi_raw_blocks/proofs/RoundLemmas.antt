@@ -2,8 +2,8 @@
 use Rattle.std.proofs.Common.{◌≡◌, inl, inr, ◌^◌, ◌≤◌, ℤ, pos, negsuc, nat_abs, refl, ap, ◌∙◌, arith}
 use Rattle.pi_constraints.specs.declared.constraint.Constraint.{Constraint}
 use Rattle.pi_constraints.specs.declared.constraint.Rel.{Rel}
-use Rattle.pi_raw_terms.specs.Form.{wide_top, wide_mid, wide_low, wide_of}
-use Rattle.pi_raw_terms.proofs.FormLemmas.{wide_of-parts}
+use Rattle.pi_raw_blocks.specs.Form.{wide_top, wide_mid, wide_low, wide_of}
+use Rattle.pi_raw_blocks.proofs.FormLemmas.{wide_of-parts}
 use Rattle.pi_raw_blocks.specs.Items.{item_number, item_of, item_numbers, items_of}
 use Rattle.pi_raw_blocks.specs.Terms.{term_numbers, terms_of}
 use Rattle.pi_raw_blocks.specs.Head.{rel_number, rel_of}

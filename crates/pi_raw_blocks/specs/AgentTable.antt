@@ -5,9 +5,9 @@ use Rattle.pi_states.specs.declared.event.Watch.{Watch}
 use Rattle.pi_trail.specs.Image.{Image, pushed, replaced}
 use Rattle.pi_trail.specs.Back.{Advances}
 use Rattle.pi_trail.specs.declared.entry.Table.{Table}
-use Rattle.pi_raw_terms.specs.Form.{form_of}
-use Rattle.pi_raw_terms.specs.Heap.{Heap}
-use Rattle.pi_raw_terms.specs.Placed.{IsRefIn}
+use Rattle.pi_raw_blocks.specs.Form.{form_of}
+use Rattle.pi_raw_blocks.specs.Heap.{Heap}
+use Rattle.pi_raw_blocks.specs.Placed.{IsRefIn}
 use Rattle.pi_raw_blocks.specs.Events.{watched}
 use Rattle.pi_raw_blocks.specs.Agent.{WritesAgent, call_at, watches_at}
 

@@ -3,8 +3,8 @@ use Rattle.std.specs.Prelude.{◌≡◌, ℕ, zero, suc, ◌-◌, ◌<◌, ◌�
 use Rattle.pi_trail.specs.Entry.{data_of, value_of}
 use Rattle.pi_trail.specs.Image.{Image, appended}
 use Rattle.pi_trail.specs.Back.{Advances, at_length}
-use Rattle.pi_raw_terms.specs.Heap.{Heap}
-use Rattle.pi_raw_terms.specs.Placed.{IsWordIn}
+use Rattle.pi_raw_blocks.specs.Heap.{Heap}
+use Rattle.pi_raw_blocks.specs.Placed.{IsWordIn}
 
 -- the words of a block
 abbrev pub block_of : List ℕ → List ℕ

@@ -3,7 +3,7 @@ use Rattle.std.specs.Prelude.{◌≡◌, ℕ, zero, suc, ◌<◌, ◌^◌, ℤ, 
 use Rattle.pi_constraints.specs.Constraint.{SpeaksOf, IsWithinLimits}
 use Rattle.pi_constraints.specs.declared.constraint.Constraint.{Constraint}
 use Rattle.pi_constraints.specs.declared.constraint.Item.{Item}
-use Rattle.pi_raw_terms.specs.Form.{wide_of}
+use Rattle.pi_raw_blocks.specs.Form.{wide_of}
 use Rattle.pi_raw_blocks.specs.Items.{item_numbers, item_of, items_of}
 use Rattle.pi_raw_blocks.specs.Terms.{term_numbers, terms_of}
 use Rattle.pi_raw_blocks.specs.Head.{rel_of, head_of, head_numbers}

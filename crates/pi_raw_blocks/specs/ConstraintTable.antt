@@ -1,7 +1,7 @@
 -- Constraints in their table: the word of one is the place where its block ends.
 use Rattle.std.specs.Prelude.{ℕ, ◌≤◌, List, length}
 use Rattle.pi_constraints.specs.declared.constraint.Constraint.{Constraint}
-use Rattle.pi_raw_terms.specs.Heap.{Heap}
+use Rattle.pi_raw_blocks.specs.Heap.{Heap}
 use Rattle.pi_raw_blocks.specs.Block.{block_at}
 use Rattle.pi_raw_blocks.specs.Constraint.{constraint_in}
 

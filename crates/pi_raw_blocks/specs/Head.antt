@@ -2,7 +2,7 @@
 use Rattle.std.specs.Prelude.{ℕ, zero, suc, ◌<◌, ◌^◌, ℤ, List, [], ◌∷◌}
 use Rattle.pi_constraints.specs.declared.constraint.Constraint.{Constraint}
 use Rattle.pi_constraints.specs.declared.constraint.Rel.{Rel}
-use Rattle.pi_raw_terms.specs.Form.{wide_top, wide_mid, wide_low}
+use Rattle.pi_raw_blocks.specs.Form.{wide_top, wide_mid, wide_low}
 use Rattle.pi_raw_blocks.specs.declared.constraints.head.Head.{Head}
 use Rattle.pi_raw_blocks.specs.Items.{item_number}
 

@@ -11,3 +11,13 @@ pub mod Agent
 pub mod AgentTable
 pub mod Block
 pub mod Numbers
+pub mod NameTable
+pub mod Past
+pub mod Right
+pub mod Kept
+pub mod Bound
+pub mod Built
+pub mod Form
+pub mod Heap
+pub mod Look
+pub mod Placed

@@ -2,8 +2,8 @@
 use Rattle.std.specs.Prelude.{◌≡◌, ◌⊎◌, ◌↔◌, ℕ, ◌<◌, ◌≤◌, length, slice_index}
 use Rattle.pi_trail.specs.Image.{Image}
 use Rattle.pi_trail.specs.Back.{Advances, at_length}
-use Rattle.pi_raw_terms.specs.Heap.{Heap}
-use Rattle.pi_raw_terms.specs.Placed.{IsWordIn}
+use Rattle.pi_raw_blocks.specs.Heap.{Heap}
+use Rattle.pi_raw_blocks.specs.Placed.{IsWordIn}
 use Rattle.pi_raw_blocks.specs.Node.{node_of, IsListed, WritesNode}
 
 -- the list of a node that was written has its number, and what its two lists have

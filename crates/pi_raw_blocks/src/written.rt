@@ -2,7 +2,7 @@
 ghost use Rattle.std.specs.Prelude.{◌≡◌, ◌∷◌, [], ℕ, List, ◌<◌, ◌^◌, length, map, IfOk, OnErr};
 ghost use Rattle.pi_trail.specs.Entry.{data_of};
 ghost use Rattle.pi_trail.specs.Image.{Image, appended};
-ghost use Rattle.pi_raw_terms.specs.Heap.{Appends};
+ghost use Rattle.pi_raw_blocks.specs.Heap.{Appends};
 ghost use Rattle.pi_raw_blocks.specs.Block.{IsBefore, Writes};
 
 use pi_trail::{Trailed, data};

@@ -8,7 +8,7 @@ use Rattle.pi_trail.proofs.BackLemmas.{from_itself, through}
 use Rattle.pi_trail.proofs.ChangeLemmas.{push_word, pushed_advances, replaced_advances}
 use Rattle.pi_raw_blocks.specs.Node.{node_of, IsListed, WritesNode}
 use Rattle.pi_raw_blocks.proofs.ListLemmas.{read_back, second_written, node_right, outlast}
-use Rattle.pi_raw_terms.specs.NameTable.{NameTable}
+use Rattle.pi_raw_blocks.specs.NameTable.{NameTable}
 use Rattle.pi_raw_store.specs.Walk.{next_at}
 use Rattle.pi_raw_store.specs.Heads.{taken_in, list_end, Pads, none_more, one_more, SetsHead}
 use Rattle.pi_raw_store.specs.Lists.{Leads, at_once, by_next, IsOnList}

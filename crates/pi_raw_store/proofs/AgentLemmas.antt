@@ -11,15 +11,15 @@ use Rattle.pi_states.specs.declared.store.Ref.{Ref}
 use Rattle.pi_states.specs.declared.event.Watch.{Watch}
 use Rattle.pi_trail.specs.Entry.{value_of}
 use Rattle.pi_trail.specs.Image.{Image}
-use Rattle.pi_raw_terms.specs.Form.{form_of}
-use Rattle.pi_raw_terms.specs.Heap.{Heap, term_at, Grows}
-use Rattle.pi_raw_terms.specs.Placed.{IsRefIn}
-use Rattle.pi_raw_terms.proofs.HeapLemmas.{trees_stay}
+use Rattle.pi_raw_blocks.specs.Form.{form_of}
+use Rattle.pi_raw_blocks.specs.Heap.{Heap, term_at, Grows}
+use Rattle.pi_raw_blocks.specs.Placed.{IsRefIn}
+use Rattle.pi_raw_blocks.proofs.HeapLemmas.{trees_stay}
 use Rattle.pi_raw_blocks.specs.Events.{watched, watches_of}
 use Rattle.pi_raw_blocks.specs.Agent.{call_at, rule_at, watches_at}
 use Rattle.pi_raw_blocks.specs.AgentTable.{word_of, end_of, is_alive, AreEventsIn, EndsAgent, IsAgentIn}
 use Rattle.pi_raw_blocks.proofs.AgentTables.{in_grown, end_stays}
-use Rattle.pi_raw_terms.specs.NameTable.{NameTable}
+use Rattle.pi_raw_blocks.specs.NameTable.{NameTable}
 use Rattle.pi_raw_store.specs.Holding.{tree_of, heap_of, event_in, agent_at, agent_in, view_of}
 use Rattle.pi_raw_store.proofs.LookLemmas.{tree_is}
 use Rattle.pi_raw_store.proofs.TableLemmas.{get_mapped, mapped}

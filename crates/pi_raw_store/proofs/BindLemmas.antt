@@ -11,16 +11,16 @@ use Rattle.pi_states.specs.declared.store.Ref.{Ref}
 use Rattle.pi_trail.specs.Image.{Image, replaced}
 use Rattle.pi_trail.specs.Back.{Advances}
 use Rattle.pi_trail.specs.declared.entry.Table.{Table}
-use Rattle.pi_raw_terms.specs.declared.form.Form.{Form}
-use Rattle.pi_raw_terms.specs.Form.{form_of}
-use Rattle.pi_raw_terms.specs.Heap.{Heap, term_at, Grows}
-use Rattle.pi_raw_terms.specs.Placed.{IsRefIn}
-use Rattle.pi_raw_terms.proofs.HeapLemmas.{trees_stay}
-use Rattle.pi_raw_terms.proofs.RefLemmas.{form_stays}
+use Rattle.pi_raw_blocks.specs.declared.form.Form.{Form}
+use Rattle.pi_raw_blocks.specs.Form.{form_of}
+use Rattle.pi_raw_blocks.specs.Heap.{Heap, term_at, Grows}
+use Rattle.pi_raw_blocks.specs.Placed.{IsRefIn}
+use Rattle.pi_raw_blocks.proofs.HeapLemmas.{trees_stay}
+use Rattle.pi_raw_blocks.proofs.RefLemmas.{form_stays}
 use Rattle.pi_raw_blocks.specs.Node.{IsListed}
 use Rattle.pi_raw_blocks.proofs.ListLemmas.{nothing_listed}
-use Rattle.pi_raw_terms.proofs.BoundLemmas.{no_data}
-use Rattle.pi_raw_terms.specs.NameTable.{NameTable}
+use Rattle.pi_raw_blocks.proofs.BoundLemmas.{no_data}
+use Rattle.pi_raw_blocks.specs.NameTable.{NameTable}
 use Rattle.pi_raw_store.specs.Heads.{taken_in, list_end}
 use Rattle.pi_raw_store.specs.Walk.{bound_ref_by, variable_of, unless_bound_by, free_of_any, followed_at, free_at}
 use Rattle.pi_raw_store.specs.Holding.{tree_of, variable_by, variable_in, heap_of, view_of}

@@ -8,7 +8,7 @@ use Rattle.pi_constraints.specs.declared.constraint.Constraint.{Constraint}
 use Rattle.pi_trail.specs.Image.{Image, appended, pushed, replacing, replaced}
 use Rattle.pi_trail.specs.declared.entry.Table.{Table}
 use Rattle.pi_trail.proofs.ChangeLemmas.{push_word}
-use Rattle.pi_raw_terms.specs.Form.{form_of}
+use Rattle.pi_raw_blocks.specs.Form.{form_of}
 use Rattle.pi_raw_blocks.proofs.BlockLemmas.{in_more}
 use Rattle.pi_raw_blocks.specs.Node.{IsListed}
 use Rattle.pi_raw_blocks.proofs.ListLemmas as listed

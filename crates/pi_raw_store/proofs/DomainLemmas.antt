@@ -14,17 +14,17 @@ use Rattle.pi_trail.specs.Image.{Image, replacing}
 use Rattle.pi_trail.specs.Back.{at_length}
 use Rattle.pi_trail.specs.declared.entry.Table.{Table}
 use Rattle.pi_trail.proofs.BackLemmas.{len_back}
-use Rattle.pi_raw_terms.specs.declared.form.Form.{Form}
-use Rattle.pi_raw_terms.specs.Form.{form_of}
-use Rattle.pi_raw_terms.specs.Heap.{Heap, term_at}
-use Rattle.pi_raw_terms.proofs.LookLemmas.{shows_var}
-use Rattle.pi_raw_terms.specs.Bound.{IsBoundIn}
+use Rattle.pi_raw_blocks.specs.declared.form.Form.{Form}
+use Rattle.pi_raw_blocks.specs.Form.{form_of}
+use Rattle.pi_raw_blocks.specs.Heap.{Heap, term_at}
+use Rattle.pi_raw_blocks.proofs.LookLemmas.{shows_var}
+use Rattle.pi_raw_blocks.specs.Bound.{IsBoundIn}
 use Rattle.pi_raw_blocks.specs.Block.{block_of, block_at}
 use Rattle.pi_raw_blocks.proofs.BlockLemmas.{in_more, come_back, read_back}
 use Rattle.pi_raw_blocks.specs.Domain.{bounds_of, domain_in}
 use Rattle.pi_raw_blocks.proofs.DomainLemmas as domains
 use Rattle.pi_raw_blocks.proofs.ConstraintTables.{block_right}
-use Rattle.pi_raw_terms.specs.NameTable.{NameTable}
+use Rattle.pi_raw_blocks.specs.NameTable.{NameTable}
 use Rattle.pi_raw_store.specs.Heads.{taken_in}
 use Rattle.pi_raw_store.specs.Walk.{variable_of, followed_at, free_at}
 use Rattle.pi_raw_store.specs.Domains.{domain_at, domain_end, domain_by_end, domain_by, domain_of_any, domain_of, Confined}

@@ -15,17 +15,17 @@ use Rattle.pi_trail.specs.Back.{at_length, Advances}
 use Rattle.pi_trail.specs.declared.entry.Table.{Table}
 use Rattle.pi_trail.proofs.BackLemmas.{from_itself, two_parts, len_back}
 use Rattle.pi_trail.proofs.ChangeLemmas.{appended_advances}
-use Rattle.pi_raw_terms.specs.Heap.{Heap, term_at, Grows, Appends}
-use Rattle.pi_raw_terms.specs.Placed.{WritesRight}
-use Rattle.pi_raw_terms.proofs.HeapLemmas.{trees_stay}
-use Rattle.pi_raw_terms.proofs.PastLemmas.{now_is, before, heaps_grow}
+use Rattle.pi_raw_blocks.specs.Heap.{Heap, term_at, Grows, Appends}
+use Rattle.pi_raw_blocks.specs.Placed.{WritesRight}
+use Rattle.pi_raw_blocks.proofs.HeapLemmas.{trees_stay}
+use Rattle.pi_raw_blocks.proofs.PastLemmas.{now_is, before, heaps_grow}
 use Rattle.pi_raw_blocks.specs.Block.{block_at}
 use Rattle.pi_raw_blocks.proofs.BlockLemmas.{in_more}
 use Rattle.pi_raw_blocks.specs.Domain.{domain_in}
-use Rattle.pi_raw_terms.specs.Bound.{IsBoundIn}
+use Rattle.pi_raw_blocks.specs.Bound.{IsBoundIn}
 use Rattle.pi_raw_blocks.specs.ConstraintTable.{constraint_at, IsConstraintIn}
 use Rattle.pi_raw_blocks.proofs.ConstraintTables.{same_constraint}
-use Rattle.pi_raw_terms.specs.NameTable.{NameTable, names_of}
+use Rattle.pi_raw_blocks.specs.NameTable.{NameTable, names_of}
 use Rattle.pi_raw_store.specs.Heads.{taken_in}
 use Rattle.pi_raw_store.specs.declared.mark.RawMark.{RawMark}
 use Rattle.pi_raw_store.specs.Waiting.{activation_of, IsWaitingIn}

@@ -9,10 +9,10 @@ use Rattle.pi_states.specs.Value.{Bindings, IsAcyclic}
 use Rattle.pi_states.specs.State.{LeadsTo, is_it, through}
 use Rattle.pi_states.specs.declared.store.Ref.{Ref}
 use Rattle.pi_states.proofs.ValueLemmas.{Ranked, ranked}
-use Rattle.pi_raw_terms.specs.declared.form.Form.{Form}
-use Rattle.pi_raw_terms.specs.Form.{form_of}
-use Rattle.pi_raw_terms.specs.Heap.{Heap, term_at}
-use Rattle.pi_raw_terms.proofs.LookLemmas.{shows_var}
+use Rattle.pi_raw_blocks.specs.declared.form.Form.{Form}
+use Rattle.pi_raw_blocks.specs.Form.{form_of}
+use Rattle.pi_raw_blocks.specs.Heap.{Heap, term_at}
+use Rattle.pi_raw_blocks.proofs.LookLemmas.{shows_var}
 use Rattle.pi_raw_store.specs.Walk.{binding_at, variable_of, variable_at, variable_of_any, next_at, any_of, leads_for, leads_at}
 use Rattle.pi_raw_store.specs.Bindings.{HasBound, bound_in}
 use Rattle.pi_raw_store.proofs.LookLemmas.{tree_at_ref, held_is, binding_tree, length_bound, form_var}

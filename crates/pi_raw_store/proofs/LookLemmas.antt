@@ -10,14 +10,14 @@ use Rattle.pi_states.specs.Store.{ShowsCell}
 use Rattle.pi_states.specs.declared.store.Ref.{Ref}
 use Rattle.pi_states.specs.declared.store.Cell.{Cell}
 use Rattle.pi_trail.specs.Image.{Image}
-use Rattle.pi_raw_terms.specs.declared.form.Form.{Form}
-use Rattle.pi_raw_terms.specs.declared.header.Header.{Header}
-use Rattle.pi_raw_terms.specs.Form.{form_of, header_of}
-use Rattle.pi_raw_terms.specs.Heap.{Heap, Names, term_at, Shows}
-use Rattle.pi_raw_terms.specs.Look.{headed_cell}
-use Rattle.pi_raw_terms.proofs.LookLemmas.{shows_var, shows_int, shows_atom, shows_pair, shows_comp, no_data}
-use Rattle.pi_raw_terms.proofs.SpeakLemmas.{trees_speak_below}
-use Rattle.pi_raw_terms.specs.NameTable.{NameTable, names_of}
+use Rattle.pi_raw_blocks.specs.declared.form.Form.{Form}
+use Rattle.pi_raw_blocks.specs.declared.header.Header.{Header}
+use Rattle.pi_raw_blocks.specs.Form.{form_of, header_of}
+use Rattle.pi_raw_blocks.specs.Heap.{Heap, Names, term_at, Shows}
+use Rattle.pi_raw_blocks.specs.Look.{headed_cell}
+use Rattle.pi_raw_blocks.proofs.LookLemmas.{shows_var, shows_int, shows_atom, shows_pair, shows_comp, no_data}
+use Rattle.pi_raw_blocks.proofs.SpeakLemmas.{trees_speak_below}
+use Rattle.pi_raw_blocks.specs.NameTable.{NameTable, names_of}
 use Rattle.pi_raw_store.specs.Walk.{bound_ref_by, bound_ref, binding_at, variable_of, binding_of_any, step_at, steps_at, followed_at}
 use Rattle.pi_raw_store.specs.Holding.{tree_of, unbound_at, variable_by, variable_in, state_of, view_of}
 use Rattle.pi_raw_store.specs.Bindings.{HasBound, bound_in}

@@ -7,7 +7,7 @@ use Rattle.pi_trail.specs.declared.entry.Table.{Table}
 use Rattle.pi_trail.specs.declared.entry.Entry.{Entry}
 use Rattle.pi_trail.proofs.BackLemmas.{back_go, two_parts, len_back}
 use Rattle.pi_trail.proofs.ChangeLemmas.{Logs, logs_advance, appended_advances, pushed_logs, replaced_logs}
-use Rattle.pi_raw_terms.proofs.PastLemmas.{now_is, past_end, trail_within, before, then_appended}
+use Rattle.pi_raw_blocks.proofs.PastLemmas.{now_is, past_end, trail_within, before, then_appended}
 use Rattle.pi_raw_store.specs.Sound.{AtEach}
 
 module _ (Q : Image → Type 0) (i : Image) (low : i.trail ≤ length i.region) (b : AtEach Q i) where

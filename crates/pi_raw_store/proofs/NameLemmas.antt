@@ -2,10 +2,10 @@
 use Rattle.std.proofs.Common.{◌≡◌, ℕ, ◌≤◌, true, List, length, Some, None, cond, slice_get, refl, ap, ◌∙◌}
 use Rattle.std.proofs.Math.Path.{fun_ext}
 use Rattle.pi_trail.specs.Image.{Image}
-use Rattle.pi_raw_terms.specs.Heap.{Heap, Names}
-use Rattle.pi_raw_terms.specs.Past as past
-use Rattle.pi_raw_terms.specs.NameTable.{NameTable, is_given, names_of}
-use Rattle.pi_raw_terms.proofs.NameTables.{names_stay, given_by}
+use Rattle.pi_raw_blocks.specs.Heap.{Heap, Names}
+use Rattle.pi_raw_blocks.specs.Past as past
+use Rattle.pi_raw_blocks.specs.NameTable.{NameTable, is_given, names_of}
+use Rattle.pi_raw_blocks.proofs.NameTables.{names_stay, given_by}
 use Rattle.pi_raw_store.specs.Holding.{heap_of}
 use Rattle.pi_raw_store.specs.Changed.{KeepsNames}
 

@@ -3,7 +3,7 @@ use Rattle.std.proofs.Common.{◌≡◌, Result, Ok, Err, refl, sym, subst}
 use Rattle.std.specs.Result.{OnErr}
 use Rattle.pi_states.specs.Store.{Stays}
 use Rattle.pi_trail.specs.Image.{Image}
-use Rattle.pi_raw_terms.specs.NameTable.{NameTable}
+use Rattle.pi_raw_blocks.specs.NameTable.{NameTable}
 use Rattle.pi_raw_store.specs.Holding.{view_of}
 
 -- what stays as it is

@@ -7,7 +7,7 @@ use Rattle.pi_constraints.specs.declared.constraint.Constraint.{Constraint}
 use Rattle.pi_states.specs.State.{MayPost, with_constraint}
 use Rattle.pi_states.specs.Store.{Changes}
 use Rattle.pi_trail.specs.Image.{Image}
-use Rattle.pi_raw_terms.specs.Heap.{Heap}
+use Rattle.pi_raw_blocks.specs.Heap.{Heap}
 use Rattle.pi_trail.specs.Back.{Advances}
 use Rattle.pi_trail.specs.declared.entry.Table.{Table}
 use Rattle.pi_trail.proofs.BackLemmas.{from_itself, through}
@@ -18,7 +18,7 @@ use Rattle.pi_raw_blocks.specs.Constraint.{numbers_of, constraint_in}
 use Rattle.pi_raw_blocks.specs.ConstraintTable.{constraint_at}
 use Rattle.pi_raw_blocks.proofs.ConstraintTables.{block_right}
 use Rattle.pi_raw_blocks.proofs.RoundLemmas.{back}
-use Rattle.pi_raw_terms.specs.NameTable.{NameTable}
+use Rattle.pi_raw_blocks.specs.NameTable.{NameTable}
 use Rattle.pi_raw_store.specs.Heads.{taken_in}
 use Rattle.pi_raw_store.specs.Holding.{heap_of, state_of, view_of}
 use Rattle.pi_raw_store.specs.Lists.{Leads, IsOnList}

@@ -9,9 +9,9 @@ use Rattle.pi_constraints.specs.declared.constraint.Constraint.{Constraint}
 use Rattle.pi_states.specs.State.{LeadsTo}
 use Rattle.pi_states.specs.Store.{Lists, IsPostedOn}
 use Rattle.pi_trail.specs.Image.{Image}
-use Rattle.pi_raw_terms.specs.Heap.{Heap}
+use Rattle.pi_raw_blocks.specs.Heap.{Heap}
 use Rattle.pi_raw_blocks.specs.ConstraintTable.{constraint_at}
-use Rattle.pi_raw_terms.specs.NameTable.{NameTable}
+use Rattle.pi_raw_blocks.specs.NameTable.{NameTable}
 use Rattle.pi_raw_store.specs.Walk.{leads_at}
 use Rattle.pi_raw_store.specs.Posted.{item_leads, items_lead, sum_leads, constraint_leads, posted_at, ListsBelow}
 use Rattle.pi_raw_store.specs.Holding.{heap_of, view_of}

@@ -4,7 +4,7 @@ use Rattle.std.proofs.lemmas.List.{drop_all}
 use Rattle.pi_constraints.specs.Constraint.{HoldsVariable, HoldVariable, SumHasVariable}
 use Rattle.pi_constraints.specs.declared.constraint.Item.{Item}
 use Rattle.pi_trail.specs.Image.{Image}
-use Rattle.pi_raw_terms.specs.NameTable.{NameTable}
+use Rattle.pi_raw_blocks.specs.NameTable.{NameTable}
 use Rattle.pi_raw_store.specs.Lists.{Leads, IsOnList}
 use Rattle.pi_raw_store.specs.Sound.{IsSound}
 use Rattle.pi_raw_store.specs.Added.{AddsToLists, IsAddedAlong, IsPutOn}

@@ -18,9 +18,9 @@ use Rattle.pi_states.proofs.ValueLemmas.{value_goes_by_variables, unbound_is_its
 use Rattle.pi_states.proofs.FollowLemmas.{followed_value, followed_unbound}
 use Rattle.pi_states.proofs.RootLemmas.{with_values, value_int, value_atom, value_comp}
 use Rattle.pi_trail.specs.Image.{Image, numbers_of}
-use Rattle.pi_raw_terms.specs.Heap.{Heap, Names, all_trees, term_at, Shows}
-use Rattle.pi_raw_terms.proofs.HeapLemmas.{front_is, front_from}
-use Rattle.pi_raw_terms.specs.NameTable.{NameTable}
+use Rattle.pi_raw_blocks.specs.Heap.{Heap, Names, all_trees, term_at, Shows}
+use Rattle.pi_raw_blocks.proofs.HeapLemmas.{front_is, front_from}
+use Rattle.pi_raw_blocks.specs.NameTable.{NameTable}
 use Rattle.pi_raw_store.specs.Walk.{followed_at}
 use Rattle.pi_raw_store.specs.Holding.{tree_of, heap_of}
 use Rattle.pi_raw_store.specs.Read.{name_at, entered_cell, arity_of, turned, Pushes, read_cells, open_cells, HaveTrees, IsReadable, IsReading}

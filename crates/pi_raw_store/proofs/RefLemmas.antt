@@ -10,11 +10,11 @@ use Rattle.pi_states.specs.declared.store.Ref.{Ref}
 use Rattle.pi_trail.specs.Image.{Image, numbers_of}
 use Rattle.pi_trail.specs.Back.{Advances}
 use Rattle.pi_trail.proofs.BackLemmas.{through}
-use Rattle.pi_raw_terms.specs.Form.{form_of}
-use Rattle.pi_raw_terms.specs.Heap.{Heap, all_trees, term_at, Grows, Appends, Makes}
-use Rattle.pi_raw_terms.specs.Placed.{IsNamed, IsRefIn, AreRefsIn}
-use Rattle.pi_raw_terms.proofs.HeapLemmas.{TreeOf, front_is, front_from, all_more, trees_stay}
-use Rattle.pi_raw_terms.specs.NameTable.{NameTable, is_given, names_of}
+use Rattle.pi_raw_blocks.specs.Form.{form_of}
+use Rattle.pi_raw_blocks.specs.Heap.{Heap, all_trees, term_at, Grows, Appends, Makes}
+use Rattle.pi_raw_blocks.specs.Placed.{IsNamed, IsRefIn, AreRefsIn}
+use Rattle.pi_raw_blocks.proofs.HeapLemmas.{TreeOf, front_is, front_from, all_more, trees_stay}
+use Rattle.pi_raw_blocks.specs.NameTable.{NameTable, is_given, names_of}
 use Rattle.pi_raw_store.specs.Holding.{heap_of, view_of}
 use Rattle.pi_raw_store.specs.Sound.{IsSound}
 use Rattle.pi_raw_store.specs.Changed.{IsNumbered}

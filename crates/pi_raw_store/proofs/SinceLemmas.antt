@@ -9,8 +9,8 @@ use Rattle.pi_states.specs.Store.{AscendAbove, Lists, HasChanged}
 use Rattle.pi_trail.specs.Image.{Image}
 use Rattle.pi_trail.specs.Back.{at_length}
 use Rattle.pi_trail.specs.Changes.{noted, AscendFrom}
-use Rattle.pi_raw_terms.specs.Heap.{Heap}
-use Rattle.pi_raw_terms.specs.NameTable.{NameTable}
+use Rattle.pi_raw_blocks.specs.Heap.{Heap}
+use Rattle.pi_raw_blocks.specs.NameTable.{NameTable}
 use Rattle.pi_raw_store.specs.Walk.{bound_ref_by}
 use Rattle.pi_raw_store.specs.Domains.{domain_by}
 use Rattle.pi_raw_store.specs.Since.{IsChanged, Picks, AreSince}

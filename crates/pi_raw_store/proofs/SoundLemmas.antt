@@ -10,25 +10,25 @@ use Rattle.pi_trail.specs.Back.{cut, at_length}
 use Rattle.pi_trail.proofs.BackLemmas.{back_stop}
 use Rattle.pi_trail.proofs.ChangeLemmas.{push_word}
 use Rattle.pi_trail.specs.declared.entry.Table.{Table}
-use Rattle.pi_raw_terms.specs.Form.{form_with, form_of}
-use Rattle.pi_raw_terms.specs.Heap.{Heap, Grows, term_at}
-use Rattle.pi_raw_terms.specs.Placed.{IsRefIn, WritesRight}
-use Rattle.pi_raw_terms.proofs.RefLemmas.{form_stays}
-use Rattle.pi_raw_terms.proofs.WriteLemmas.{data_word}
-use Rattle.pi_raw_terms.specs.Right.{HasMoreNames}
-use Rattle.pi_raw_terms.specs.Past.{past_of}
-use Rattle.pi_raw_terms.specs.Bound.{IsBoundIn}
-use Rattle.pi_raw_terms.specs.Kept.{AreKept}
-use Rattle.pi_raw_terms.proofs.KeptLemmas as kept
-use Rattle.pi_raw_terms.proofs.RightLemmas as right
-use Rattle.pi_raw_terms.proofs.BoundLemmas as bound
+use Rattle.pi_raw_blocks.specs.Form.{form_with, form_of}
+use Rattle.pi_raw_blocks.specs.Heap.{Heap, Grows, term_at}
+use Rattle.pi_raw_blocks.specs.Placed.{IsRefIn, WritesRight}
+use Rattle.pi_raw_blocks.proofs.RefLemmas.{form_stays}
+use Rattle.pi_raw_blocks.proofs.WriteLemmas.{data_word}
+use Rattle.pi_raw_blocks.specs.Right.{HasMoreNames}
+use Rattle.pi_raw_blocks.specs.Past.{past_of}
+use Rattle.pi_raw_blocks.specs.Bound.{IsBoundIn}
+use Rattle.pi_raw_blocks.specs.Kept.{AreKept}
+use Rattle.pi_raw_blocks.proofs.KeptLemmas as kept
+use Rattle.pi_raw_blocks.proofs.TermRightLemmas as right
+use Rattle.pi_raw_blocks.proofs.BoundLemmas as bound
 use Rattle.pi_constraints.specs.Constraint.{SpeaksOf}
 use Rattle.pi_raw_blocks.specs.ConstraintTable.{constraint_at, IsConstraintIn}
 use Rattle.pi_raw_blocks.proofs.ConstraintTables.{constraint_stays}
 use Rattle.pi_raw_blocks.specs.AgentTable.{IsAgentIn}
 use Rattle.pi_raw_blocks.proofs.AgentTables.{agent_stays}
 use Rattle.pi_atoms.specs.Names.{HasDistinct}
-use Rattle.pi_raw_terms.specs.NameTable.{NameTable, names_of}
+use Rattle.pi_raw_blocks.specs.NameTable.{NameTable, names_of}
 use Rattle.pi_raw_store.specs.Holding.{heap_of}
 use Rattle.pi_raw_store.specs.Waiting.{IsWaitingIn}
 use Rattle.pi_raw_store.specs.Heads.{taken_in}

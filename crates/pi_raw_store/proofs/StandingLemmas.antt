@@ -9,7 +9,7 @@ use Rattle.pi_states.specs.State as state
 use Rattle.pi_trail.specs.Image.{Image}
 use Rattle.pi_raw_blocks.specs.Block.{block_at}
 use Rattle.pi_raw_blocks.proofs.DomainLemmas.{are_domains}
-use Rattle.pi_raw_terms.specs.NameTable.{NameTable}
+use Rattle.pi_raw_blocks.specs.NameTable.{NameTable}
 use Rattle.pi_raw_store.specs.Domains.{domain_at, domain_end, domain_by_end, domain_by}
 use Rattle.pi_raw_store.specs.Holding.{heap_of, state_of}
 use Rattle.pi_raw_store.proofs.DomainLemmas.{domain_is}

@@ -9,16 +9,16 @@ use Rattle.pi_states.specs.declared.store.Ref.{Ref}
 use Rattle.pi_states.specs.declared.event.Watch.{Watch}
 use Rattle.pi_trail.specs.Image.{Image}
 use Rattle.pi_trail.specs.Back.{Advances}
-use Rattle.pi_raw_terms.specs.Form.{form_of}
-use Rattle.pi_raw_terms.specs.Heap.{Heap, Grows}
-use Rattle.pi_raw_terms.specs.Placed.{IsRefIn}
-use Rattle.pi_raw_terms.proofs.HeapLemmas.{trees_stay}
-use Rattle.pi_raw_terms.proofs.RefLemmas.{form_stays}
+use Rattle.pi_raw_blocks.specs.Form.{form_of}
+use Rattle.pi_raw_blocks.specs.Heap.{Heap, Grows}
+use Rattle.pi_raw_blocks.specs.Placed.{IsRefIn}
+use Rattle.pi_raw_blocks.proofs.HeapLemmas.{trees_stay}
+use Rattle.pi_raw_blocks.proofs.RefLemmas.{form_stays}
 use Rattle.pi_raw_blocks.specs.Agent.{call_at, rule_at, watches_at, agent_words}
 use Rattle.pi_raw_blocks.specs.AgentTable.{word_of, is_alive, AreEventsIn, IsAgentIn, AddsAgent, with_ended_if, with_ended}
 use Rattle.pi_raw_blocks.proofs.RightLemmas.{agent_right}
 use Rattle.pi_raw_blocks.proofs.AgentTables.{events_stay, added_at, added_is, end_of_word}
-use Rattle.pi_raw_terms.specs.NameTable.{NameTable}
+use Rattle.pi_raw_blocks.specs.NameTable.{NameTable}
 use Rattle.pi_raw_store.specs.Heads.{taken_in}
 use Rattle.pi_raw_store.specs.Holding.{tree_of, heap_of, event_in, agent_in, state_of, view_of}
 use Rattle.pi_raw_store.specs.Sound.{IsSound}

@@ -13,14 +13,14 @@ use Rattle.pi_states.specs.declared.event.Activation.{Activation}
 use Rattle.pi_trail.specs.Image.{Image, pushed}
 use Rattle.pi_trail.specs.Back.{Advances}
 use Rattle.pi_trail.specs.declared.entry.Table.{Table}
-use Rattle.pi_raw_terms.specs.Form.{form_of}
-use Rattle.pi_raw_terms.specs.Heap.{Heap, Names, Grows, term_at, Shows}
-use Rattle.pi_raw_terms.specs.Placed.{IsRefIn}
-use Rattle.pi_raw_terms.proofs.HeapLemmas.{trees_stay}
-use Rattle.pi_raw_terms.proofs.LookLemmas.{shows_var}
-use Rattle.pi_raw_terms.proofs.RefLemmas.{form_stays}
-use Rattle.pi_raw_terms.specs.NameTable.{NameTable}
-use Rattle.pi_raw_terms.proofs.BuiltLemmas.{keeps_then}
+use Rattle.pi_raw_blocks.specs.Form.{form_of}
+use Rattle.pi_raw_blocks.specs.Heap.{Heap, Names, Grows, term_at, Shows}
+use Rattle.pi_raw_blocks.specs.Placed.{IsRefIn}
+use Rattle.pi_raw_blocks.proofs.HeapLemmas.{trees_stay}
+use Rattle.pi_raw_blocks.proofs.LookLemmas.{shows_var}
+use Rattle.pi_raw_blocks.proofs.RefLemmas.{form_stays}
+use Rattle.pi_raw_blocks.specs.NameTable.{NameTable}
+use Rattle.pi_raw_blocks.proofs.BuiltLemmas.{keeps_then}
 use Rattle.pi_raw_store.specs.declared.mark.RawMark.{RawMark}
 use Rattle.pi_raw_store.specs.Read.{arity_of}
 use Rattle.pi_raw_store.specs.Waiting.{number_tree, activation_tree, number_in, number_at, activation_of, number_shown, ShowsArgument, HasValueBelow, WaitsAt, IsWaitingIn}

@@ -5,12 +5,12 @@ use Rattle.pi_constraints.specs.declared.constraint.Constraint.{Constraint}
 use Rattle.pi_trail.specs.Image.{Image, pushed, replaced}
 use Rattle.pi_trail.specs.Back.{Advances}
 use Rattle.pi_trail.specs.declared.entry.Table.{Table}
-use Rattle.pi_raw_terms.specs.Form.{form_of}
+use Rattle.pi_raw_blocks.specs.Form.{form_of}
 use Rattle.pi_raw_blocks.specs.Block.{Writes}
 use Rattle.pi_raw_blocks.specs.Node.{IsListed}
 use Rattle.pi_raw_blocks.specs.Constraint.{numbers_of, constraint_in}
 use Rattle.pi_raw_blocks.specs.ConstraintTable.{constraint_at}
-use Rattle.pi_raw_terms.specs.NameTable.{NameTable}
+use Rattle.pi_raw_blocks.specs.NameTable.{NameTable}
 use Rattle.pi_raw_store.specs.Walk.{variable_of}
 use Rattle.pi_raw_store.specs.Heads.{taken_in}
 use Rattle.pi_raw_store.specs.Lists.{Leads, IsOnList}

@@ -4,7 +4,7 @@ use Rattle.pi_terms.specs.Tree.{Tree}
 use Rattle.pi_states.specs.Value.{Bindings}
 use Rattle.pi_states.specs.State.{binding}
 use Rattle.pi_states.specs.declared.store.Ref.{Ref}
-use Rattle.pi_raw_terms.specs.Heap.{Heap, term_at}
+use Rattle.pi_raw_blocks.specs.Heap.{Heap, term_at}
 use Rattle.pi_raw_store.specs.Walk.{binding_at}
 use Rattle.pi_raw_store.specs.Holding.{variable_in}
 

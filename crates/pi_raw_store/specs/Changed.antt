@@ -3,7 +3,7 @@ use Rattle.std.specs.Prelude.{◌≡◌, ◌⊎◌, ℕ, ◌≤◌, List, [], �
 use Rattle.pi_trail.specs.Entry.{data_of}
 use Rattle.pi_trail.specs.Image.{Image, appended}
 use Rattle.pi_atoms.specs.Names.{HasDistinct}
-use Rattle.pi_raw_terms.specs.NameTable.{NameTable, names_of}
+use Rattle.pi_raw_blocks.specs.NameTable.{NameTable, names_of}
 
 -- numbers keep their names, and terms of a region no longer than this may have just the names that they might have
 pub record KeepsNames (old new : NameTable) (len : ℕ) : Type 0 where

@@ -7,15 +7,15 @@ use Rattle.pi_states.specs.declared.event.Watch.{Watch}
 use Rattle.pi_states.specs.declared.event.Activation.{Activation}
 use Rattle.pi_trail.specs.Image.{Image}
 use Rattle.pi_trail.specs.Back.{at_length}
-use Rattle.pi_raw_terms.specs.Heap.{Heap, term_at}
-use Rattle.pi_raw_terms.specs.Past.{heap_at}
+use Rattle.pi_raw_blocks.specs.Heap.{Heap, term_at}
+use Rattle.pi_raw_blocks.specs.Past.{heap_at}
 use Rattle.pi_raw_blocks.specs.Agent.{call_at, rule_at, watches_at}
 use Rattle.pi_raw_blocks.specs.AgentTable.{end_of, is_alive}
 use Rattle.pi_raw_blocks.specs.ConstraintTable.{constraint_at}
 use Rattle.pi_raw_store.specs.Domains.{domain_at}
 use Rattle.pi_raw_store.specs.Waiting.{activation_of}
 use Rattle.pi_raw_store.specs.Heads.{taken_in}
-use Rattle.pi_raw_terms.specs.NameTable.{NameTable, names_of}
+use Rattle.pi_raw_blocks.specs.NameTable.{NameTable, names_of}
 use Rattle.pi_raw_store.specs.declared.mark.RawMark.{RawMark}
 
 -- the names of atoms, and the words

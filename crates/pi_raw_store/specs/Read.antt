@@ -9,8 +9,8 @@ use Rattle.pi_states.specs.declared.store.Ref.{Ref}
 use Rattle.pi_states.specs.declared.store.Cell.{Cell}
 use Rattle.pi_states.specs.declared.store.ReadStop.{ReadStop}
 use Rattle.pi_trail.specs.Image.{Image, numbers_of}
-use Rattle.pi_raw_terms.specs.Heap.{Heap, all_trees, term_at}
-use Rattle.pi_raw_terms.specs.NameTable.{NameTable}
+use Rattle.pi_raw_blocks.specs.Heap.{Heap, all_trees, term_at}
+use Rattle.pi_raw_blocks.specs.NameTable.{NameTable}
 use Rattle.pi_raw_store.specs.Holding.{tree_of, heap_of}
 use Rattle.pi_raw_store.specs.Bindings.{HasBound, bound_in}
 use Rattle.pi_raw_store.specs.declared.read.Reading.{Reading}

@@ -5,12 +5,12 @@ use Rattle.pi_trail.specs.Image.{Image}
 use Rattle.pi_trail.specs.Back.{at_length}
 use Rattle.pi_trail.specs.declared.entry.Table.{Table}
 use Rattle.pi_atoms.specs.Names.{HasDistinct}
-use Rattle.pi_raw_terms.specs.Right.{IsRight}
-use Rattle.pi_raw_terms.specs.Bound.{AreBound}
-use Rattle.pi_raw_terms.specs.Kept.{AreKept}
+use Rattle.pi_raw_blocks.specs.Right.{IsRight}
+use Rattle.pi_raw_blocks.specs.Bound.{AreBound}
+use Rattle.pi_raw_blocks.specs.Kept.{AreKept}
 use Rattle.pi_raw_blocks.specs.ConstraintTable.{IsConstraintIn}
 use Rattle.pi_raw_blocks.specs.AgentTable.{IsAgentIn}
-use Rattle.pi_raw_terms.specs.NameTable.{NameTable, names_of}
+use Rattle.pi_raw_blocks.specs.NameTable.{NameTable, names_of}
 use Rattle.pi_raw_store.specs.Waiting.{IsWaitingIn}
 use Rattle.pi_raw_store.specs.Heads.{taken_in}
 use Rattle.pi_raw_store.specs.Lists.{IsComplete}

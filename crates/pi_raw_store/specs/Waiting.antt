@@ -6,9 +6,9 @@ use Rattle.pi_states.specs.State.{SpeaksBelow}
 use Rattle.pi_states.specs.declared.store.Ref.{Ref}
 use Rattle.pi_states.specs.declared.store.Cell.{Cell}
 use Rattle.pi_states.specs.declared.event.Activation.{Activation}
-use Rattle.pi_raw_terms.specs.Form.{form_of}
-use Rattle.pi_raw_terms.specs.Heap.{Heap, term_at}
-use Rattle.pi_raw_terms.specs.Placed.{IsRefIn}
+use Rattle.pi_raw_blocks.specs.Form.{form_of}
+use Rattle.pi_raw_blocks.specs.Heap.{Heap, term_at}
+use Rattle.pi_raw_blocks.specs.Placed.{IsRefIn}
 
 abbrev pub number_tree : ℕ → Tree
 number_tree n = int (pos n)

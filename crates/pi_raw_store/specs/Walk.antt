@@ -1,8 +1,8 @@
 -- What variables lead to, by the words of the variables alone.
 use Rattle.std.specs.Prelude.{ℕ, zero, suc, ◌-◌, ◌%◌, ◌==◌, Bool, true, false, cond, List, length, Option, Some, None, unwrap_or, slice_index}
 use Rattle.pi_states.specs.declared.store.Ref.{Ref}
-use Rattle.pi_raw_terms.specs.Form.{form_of}
-use Rattle.pi_raw_terms.specs.declared.form.Form.{Form}
+use Rattle.pi_raw_blocks.specs.Form.{form_of}
+use Rattle.pi_raw_blocks.specs.declared.form.Form.{Form}
 
 -- what a variable with this word is bound to: nothing where it is a multiple of 8, and else the Ref before it
 abbrev pub bound_ref_by : Bool → ℕ → Option Ref

@@ -1,6 +1,6 @@
 //! Lists of constraints, one for each variable.
 ghost use Rattle.std.specs.Prelude.{ℕ, ◌≤◌, length, IfOk};
-ghost use Rattle.pi_raw_terms.specs.NameTable.{NameTable};
+ghost use Rattle.pi_raw_blocks.specs.NameTable.{NameTable};
 ghost use Rattle.pi_raw_store.specs.Sound.{IsSound};
 ghost use Rattle.pi_raw_store.specs.Added.{AddsToLists, IsAddedTo, IsAddedAlong};
 

@@ -1,9 +1,9 @@
 //! Names that terms of a store get.
 ghost use Rattle.std.specs.Prelude.{◌≡◌, Some, length, IfOk};
-ghost use Rattle.pi_raw_terms.specs.NameTable.{names_of};
+ghost use Rattle.pi_raw_blocks.specs.NameTable.{names_of};
 ghost use Rattle.pi_raw_store.specs.Changed.{IsNumbered};
 
-use pi_raw_terms::RawNames;
+use pi_raw_blocks::RawNames;
 use pi_trail::{Trailed, data};
 use std::alloc::{AllocError, Global};
 

@@ -10,8 +10,8 @@ ghost use Rattle.pi_raw_store.specs.Bindings.{bound_in};
 ghost use Rattle.pi_raw_store.specs.Read.{entered_cell, arity_of, followed_words, Pushes, IsReadable, StopsAt};
 
 use crate::walk::followed;
-use pi_raw_terms as terms;
-use pi_raw_terms::RawNames;
+use pi_raw_blocks as raw;
+use pi_raw_blocks::RawNames;
 use pi_states::{Cell, ReadStop, Ref};
 use pi_terms::{Term, TermCell, Text};
 use pi_trail::Trailed;
@@ -61,7 +61,7 @@ fn bare_cells(
     };
     while let Some(at) = stack.pop() {
         let last = root(words, reading, at);
-        let cell = terms::cell(words, last);
+        let cell = raw::cell(words, last);
         if arity(cell) > (MOST_CELLS - 1 - read.len() - stack.len()) as u64 {
             return Err(ReadStop::TooLarge);
         }
@@ -137,7 +137,7 @@ fn push_args(words: &Trailed, r: Ref, count: u64, stack: &mut Vec<Ref>) -> Resul
     ensures { IfOk result (λ _. Pushes words.now.region r count 0 stack.old.items stack.new.items) }
 {
     for k in 0..count {
-        stack.push(terms::arg(words, r, count - 1 - k))?;
+        stack.push(raw::arg(words, r, count - 1 - k))?;
     }
     Ok(())
 }

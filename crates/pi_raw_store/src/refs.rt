@@ -2,14 +2,13 @@
 ghost use Rattle.std.specs.Prelude.{◌≡◌, ◌↔◌, Some, IsTrue, slice_get};
 ghost use Rattle.pi_terms.specs.ListNames.{cell_name};
 ghost use Rattle.pi_trail.specs.Image.{numbers_of};
-ghost use Rattle.pi_raw_terms.specs.Form.{form_of};
-ghost use Rattle.pi_raw_terms.specs.Placed.{IsNamed, IsRefIn, AreRefsIn};
+ghost use Rattle.pi_raw_blocks.specs.Form.{form_of};
+ghost use Rattle.pi_raw_blocks.specs.Placed.{IsNamed, IsRefIn, AreRefsIn};
 ghost use Rattle.pi_raw_blocks.specs.AgentTable.{AreEventsIn};
-ghost use Rattle.pi_raw_terms.specs.NameTable.{names_of};
+ghost use Rattle.pi_raw_blocks.specs.NameTable.{names_of};
 ghost use Rattle.pi_raw_store.specs.Holding.{heap_of};
 
-use pi_raw_blocks::watched;
-use pi_raw_terms::{Form, RawNames, is_placed};
+use pi_raw_blocks::{Form, RawNames, is_placed, watched};
 use pi_states::{Ref, Watch};
 use pi_trail::{Table, Trailed};
 

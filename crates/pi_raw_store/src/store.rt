@@ -23,12 +23,11 @@ use crate::refs::{has, has_events, known};
 use crate::since::changed_since;
 use crate::walk;
 use pi_constraints::{Constraint, Domain, Span};
+use pi_raw_blocks as raw;
 use pi_raw_blocks::{
-    add_agent, agent_call, agent_end, agent_rule, end_agent, is_alive, numbered_constraint,
-    read_watches,
+    RawNames, add_agent, agent_call, agent_end, agent_rule, end_agent, is_alive,
+    numbered_constraint, read_watches,
 };
-use pi_raw_terms as terms;
-use pi_raw_terms::RawNames;
 use pi_states::{AgentView, Cell, Places, ReadStop, Ref, Watches};
 use pi_terms::Term;
 use pi_trail::{Table, Trailed, Words};
@@ -94,7 +93,7 @@ impl RawStore {
     {
         let number = self.words.count(Table::Variables) as u64;
         self.words.push(Table::Variables, 0)?;
-        Ok(terms::var_ref(number))
+        Ok(raw::var_ref(number))
     }
 
     /// An integer.
@@ -102,7 +101,7 @@ impl RawStore {
         ensures ok { IfOk result (λ made. Gives (seen self.old) (seen self.new) (seen self.old).now.state made (int n)) }
         ensures err { OnErr result (Stays (seen self.old) (seen self.new)) }
     {
-        let made = terms::put_int(&mut self.words, n)?;
+        let made = raw::put_int(&mut self.words, n)?;
         Ok(made)
     }
 
@@ -112,7 +111,7 @@ impl RawStore {
         ensures err { OnErr result (Stays (seen self.old) (seen self.new)) }
     {
         let number = numbered(&mut self.names, &mut self.words, self.alloc, name)?;
-        Ok(terms::put_atom(number))
+        Ok(raw::put_atom(number))
     }
 
     /// The compound with this name and these arguments.
@@ -122,7 +121,7 @@ impl RawStore {
     {
         let number = numbered(&mut self.names, &mut self.words, self.alloc, name)?;
         let args = known(&self.names, &self.words, args);
-        let made = terms::put_compound(&mut self.words, number, args)?;
+        let made = raw::put_compound(&mut self.words, number, args)?;
         Ok(made)
     }
 
@@ -131,7 +130,7 @@ impl RawStore {
         ensures { n < next (seen self.now).now.state → IsTerm (seen self.now) result (var n) }
     {
         let _count = self.words.count(Table::Variables);
-        terms::var_ref(n)
+        raw::var_ref(n)
     }
 
     /// What a term is at its root, with bindings followed. No name has two numbers, so two atoms are equal exactly where
@@ -142,7 +141,7 @@ impl RawStore {
         ensures distinct { (j k : ℕ) (name : List ℕ) → IsName (seen self.now) j name → IsName (seen self.now) k name → j ≡ k }
     {
         let last = walk::followed(&self.words, r);
-        terms::cell(&self.words, last)
+        raw::cell(&self.words, last)
     }
 
     /// An argument of a compound, counted from 0. It takes no memory.
@@ -150,7 +149,7 @@ impl RawStore {
         ensures { (t u : Tree) → IsTerm (seen self.now) r t → IsAcyclic (bindings (seen self.now).now.state) → arg_at (followed (bindings (seen self.now).now.state) t) i ≡ Some u → IsTerm (seen self.now) result u }
     {
         let last = walk::followed(&self.words, r);
-        terms::arg(&self.words, last, i)
+        raw::arg(&self.words, last, i)
     }
 
     /// The name of an atom. It takes no memory.
@@ -171,7 +170,7 @@ impl RawStore {
     pub fn is_ground(&self, r: Ref) -> bool
         ensures { (t : Tree) → IsTerm (seen self.now) r t → (IsTrue result ↔ IsGround t) }
     {
-        terms::is_ground(r)
+        raw::is_ground(r)
     }
 
     /// Whether a term is the variable with this number, or a variable that is bound to it directly or through others. It

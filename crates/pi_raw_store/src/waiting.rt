@@ -1,13 +1,13 @@
 //! Activations as terms of a store.
 ghost use Rattle.std.specs.Prelude.{◌≡◌, ℕ, Some, IfOk};
 ghost use Rattle.pi_terms.specs.Tree.{Tree, arg_at};
-ghost use Rattle.pi_raw_terms.specs.Heap.{Heap, term_at};
+ghost use Rattle.pi_raw_blocks.specs.Heap.{Heap, term_at};
 ghost use Rattle.pi_raw_store.specs.Waiting.{number_at, number_shown, ShowsArgument, WaitsAt};
 ghost use Rattle.pi_raw_store.specs.Holding.{heap_of, activation_in};
 
 use crate::read::{Reading, arity, read};
-use pi_raw_terms as terms;
-use pi_raw_terms::RawNames;
+use pi_raw_blocks as raw;
+use pi_raw_blocks::RawNames;
 use pi_states::{Activation, Cell, Ref};
 use pi_terms::Term;
 use pi_trail::Trailed;
@@ -66,7 +66,7 @@ fn number_at(words: &Trailed, made: Ref, i: u64) -> u64
     ensures { (h : Heap) (t : Tree) → h.words ≡ words.now.region → term_at h made.number ≡ Some t → result ≡ number_at (arg_at t i) }
 {
     match argument(words, made, i) {
-        Some(found) => number(terms::cell(words, found)),
+        Some(found) => number(raw::cell(words, found)),
         None => 0,
     }
 }
@@ -85,8 +85,8 @@ fn number(cell: Cell) -> u64
 fn argument(words: &Trailed, r: Ref, i: u64) -> Option<Ref>
     ensures { (h : Heap) (t : Tree) → h.words ≡ words.now.region → term_at h r.number ≡ Some t → ShowsArgument h (arg_at t i) result }
 {
-    if i < arity(terms::cell(words, r)) {
-        Some(terms::arg(words, r, i))
+    if i < arity(raw::cell(words, r)) {
+        Some(raw::arg(words, r, i))
     } else {
         None
     }

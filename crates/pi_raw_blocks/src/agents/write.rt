@@ -1,7 +1,7 @@
 //! Agents that are written.
 ghost use Rattle.std.specs.Prelude.{◌≡◌, ◌∷◌, [], length, take, IfOk, OnErr};
 ghost use Rattle.pi_trail.specs.Image.{appended};
-ghost use Rattle.pi_raw_terms.specs.Heap.{Appends};
+ghost use Rattle.pi_raw_blocks.specs.Heap.{Appends};
 ghost use Rattle.pi_raw_blocks.specs.Events.{watch_words, HaveSlots};
 ghost use Rattle.pi_raw_blocks.specs.Agent.{call_words, agent_words, WritesAgent};
 

@@ -2,12 +2,12 @@
 ghost use Rattle.std.specs.Prelude.{◌≡◌, ◌<◌, ◌^◌, map, IfOk, OnErr};
 ghost use Rattle.pi_trail.specs.Entry.{data_of};
 ghost use Rattle.pi_trail.specs.Image.{appended};
-ghost use Rattle.pi_raw_terms.specs.Heap.{Appends};
+ghost use Rattle.pi_raw_blocks.specs.Heap.{Appends};
 ghost use Rattle.pi_raw_blocks.specs.Head.{rel_number, rel_of, sum_head, item_head, head_of, head_numbers, IsSmallHead};
 
 use crate::constraints::items::item_number;
+use crate::wide::{low, mid, top};
 use pi_constraints::{Constraint, Rel};
-use pi_raw_terms::wide::{low, mid, top};
 use pi_trail::{Trailed, data};
 use std::alloc::AllocError;
 

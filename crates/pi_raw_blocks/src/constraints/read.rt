@@ -7,8 +7,8 @@ use crate::block::Block;
 use crate::constraints::head::rel_of;
 use crate::constraints::items::{item_of, read_items};
 use crate::constraints::terms::read_terms;
+use crate::wide::joined;
 use pi_constraints::Constraint;
-use pi_raw_terms::wide::joined;
 use pi_trail::Trailed;
 use std::alloc::{AllocError, Global};
 

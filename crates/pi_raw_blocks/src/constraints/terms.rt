@@ -2,7 +2,7 @@
 ghost use Rattle.std.specs.Prelude.{◌≡◌, ◌+◌, ◌*◌, ◌<◌, ◌^◌, ◌∷◌, [], map, drop, IfOk, OnErr};
 ghost use Rattle.pi_trail.specs.Entry.{data_of};
 ghost use Rattle.pi_trail.specs.Image.{appended};
-ghost use Rattle.pi_raw_terms.specs.Heap.{Appends};
+ghost use Rattle.pi_raw_blocks.specs.Heap.{Appends};
 ghost use Rattle.pi_raw_blocks.specs.Terms.{term_numbers, terms_of, term_at};
 
 use crate::block::Block;

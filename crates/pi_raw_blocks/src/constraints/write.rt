@@ -2,7 +2,7 @@
 ghost use Rattle.std.specs.Prelude.{◌≡◌, map, IfOk, OnErr};
 ghost use Rattle.pi_trail.specs.Entry.{data_of};
 ghost use Rattle.pi_trail.specs.Image.{appended};
-ghost use Rattle.pi_raw_terms.specs.Heap.{Appends};
+ghost use Rattle.pi_raw_blocks.specs.Heap.{Appends};
 ghost use Rattle.pi_raw_blocks.specs.Block.{Writes};
 ghost use Rattle.pi_raw_blocks.specs.Constraint.{tail_of, numbers_of};
 

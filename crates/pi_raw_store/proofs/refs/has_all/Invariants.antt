@@ -1,8 +1,8 @@
 use Rattle.std.proofs.Common.{◌≡◌, ℕ, ◌<◌, Some, slice_get, slice_index}
 use Rattle.pi_terms.specs.ListNames.{cell_name}
 use Rattle.pi_trail.specs.Image.{numbers_of}
-use Rattle.pi_raw_terms.specs.Form.{form_of}
-use Rattle.pi_raw_terms.specs.Placed.{IsRefIn}
+use Rattle.pi_raw_blocks.specs.Form.{form_of}
+use Rattle.pi_raw_blocks.specs.Placed.{IsRefIn}
 use Rattle.pi_raw_store.specs.Holding.{heap_of}
 use Rattle.pi_raw_store.proofs.refs.has_all.Given as goal
 

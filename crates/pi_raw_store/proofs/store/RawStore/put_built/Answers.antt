@@ -1,7 +1,7 @@
 use Rattle.std.proofs.Common.{List, sym, subst}
 use Rattle.pi_states.specs.Store.{AreTerms}
 use Rattle.pi_states.specs.declared.store.Ref.{Ref}
-use Rattle.pi_raw_terms.proofs.BuiltLemmas.{puts_compound}
+use Rattle.pi_raw_blocks.proofs.BuiltLemmas.{puts_compound}
 use Rattle.pi_raw_store.specs.Holding.{seen}
 use Rattle.pi_raw_store.proofs.store.RawStore.put_built.Goals as goal
 

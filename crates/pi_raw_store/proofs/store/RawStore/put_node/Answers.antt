@@ -1,8 +1,8 @@
 use Rattle.std.proofs.Common.{Some, refl, ap, ◌∙◌, subst, rules}
 use Rattle.pi_terms.specs.Tree.{var, int, atom, ShowsHead}
 use Rattle.pi_states.specs.Store.{IsTerm}
-use Rattle.pi_raw_terms.specs.Built.{count_of}
-use Rattle.pi_raw_terms.proofs.BuiltLemmas.{puts_leaf, puts_node, keeps_itself}
+use Rattle.pi_raw_blocks.specs.Built.{count_of}
+use Rattle.pi_raw_blocks.proofs.BuiltLemmas.{puts_leaf, puts_node, keeps_itself}
 use Rattle.pi_raw_store.specs.Holding.{seen}
 use Rattle.pi_raw_store.proofs.store.RawStore.put_node.Goals as goal
 

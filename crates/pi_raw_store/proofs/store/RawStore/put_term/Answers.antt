@@ -2,8 +2,8 @@ use Rattle.std.proofs.Common.{◌≡◌, ◌-◌, ℕ, suc, length, get_or, ap, 
 use Rattle.pi_terms.specs.Tree.{subterms}
 use Rattle.pi_states.specs.Store.{IsTerm}
 use Rattle.pi_states.specs.declared.store.Ref.{Ref}
-use Rattle.pi_raw_terms.specs.Built.{Putting}
-use Rattle.pi_raw_terms.proofs.BuiltLemmas.{NodeAt, node_at, none_put, one_put, one_left, all_put}
+use Rattle.pi_raw_blocks.specs.Built.{Putting}
+use Rattle.pi_raw_blocks.proofs.BuiltLemmas.{NodeAt, node_at, none_put, one_put, one_left, all_put}
 use Rattle.pi_raw_store.specs.Holding.{seen}
 use Rattle.pi_raw_store.proofs.store.RawStore.put_term.Goals as goal
 

@@ -1,4 +1,4 @@
-use Rattle.pi_raw_terms.specs.Built.{Putting}
+use Rattle.pi_raw_blocks.specs.Built.{Putting}
 use Rattle.pi_raw_store.specs.Holding.{seen}
 use Rattle.pi_raw_store.proofs.store.RawStore.put_term.Given as goal
 

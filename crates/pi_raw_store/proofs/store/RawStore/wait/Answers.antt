@@ -1,4 +1,4 @@
-use Rattle.pi_raw_terms.proofs.BuiltLemmas.{stays_then}
+use Rattle.pi_raw_blocks.proofs.BuiltLemmas.{stays_then}
 use Rattle.pi_raw_store.specs.Holding.{seen}
 use Rattle.pi_raw_store.specs.Waiting.{activation_tree}
 use Rattle.pi_raw_store.proofs.WaitLemmas.{waits_to, value_below}
