@@ -3,17 +3,17 @@ use Rattle.std.proofs.Common.{◌≡◌, ◌≢◌, ℕ, true, List, Option, inl
 use Rattle.pi_top.specs.Demo.{demo_program}
 use Rattle.pi_outside.specs.Held.{Holding}
 use Rattle.pi_core.specs.declared.log.LogEntry.{LogEntry}
-use Rattle.pi_query.specs.declared.runs.QueryRun.{QueryRun}
+use Rattle.pi_top.specs.declared.runs.QueryRun.{QueryRun}
 use Rattle.pi_words.specs.declared.run_mode.RunMode.{RunMode}
 use Rattle.pi_words.specs.declared.run_mode.RunMode.TheVariants.{Query, Run, Session, Print, Demo}
 use Rattle.pi_words.specs.declared.asked.Options.{Options}
 use Rattle.pi_top.specs.Completeness.{NothingFails, IsText, IsComplete, IsPrinted, CompletesIn, Completes}
 use Rattle.pi_top.specs.Ends.{Ends, all_written, write_failed, memory_wanted, reads_file}
-use Rattle.pi_query.specs.Faults.{FaultCount, Rises}
-use Rattle.pi_query.specs.Handing.{HandsAll}
-use Rattle.pi_query.specs.Manner.{manner_of, goal_of}
+use Rattle.pi_top.specs.Faults.{FaultCount, Rises}
+use Rattle.pi_top.specs.Handing.{HandsAll}
+use Rattle.pi_top.specs.Manner.{manner_of, goal_of}
 use Rattle.pi_top.specs.Statuses.{ComesText, refused, ran, ComesPrinted, faulty, printed, ComesOf, ComesFile, read_fault, was_read, ComesIn, ComesBy}
-use Rattle.pi_query.specs.Texts.{IsRead}
+use Rattle.pi_top.specs.Texts.{IsRead}
 use Rattle.pi_outside.specs.Reads.{FileRead}
 use Rattle.pi_outside.specs.Writes.{SinkWrite}
 

@@ -6,22 +6,22 @@ use Rattle.pi_outside.specs.Held.{Holding}
 use Rattle.pi_outside.specs.Reads.{FileRead}
 use Rattle.pi_outside.specs.Writes.{SinkWrite}
 use Rattle.pi_core.specs.declared.log.LogEntry.{LogEntry}
-use Rattle.pi_query.specs.declared.manner.Manner.{Manner}
-use Rattle.pi_query.specs.declared.runs.QueryRun.{QueryRun}
-use Rattle.pi_query.specs.declared.query.Stop.{Stop}
-use Rattle.pi_query.specs.declared.query.Stop.TheVariants.{Memory, Write}
+use Rattle.pi_top.specs.declared.manner.Manner.{Manner}
+use Rattle.pi_top.specs.declared.runs.QueryRun.{QueryRun}
+use Rattle.pi_top.specs.declared.query.Stop.{Stop}
+use Rattle.pi_top.specs.declared.query.Stop.TheVariants.{Memory, Write}
 use Rattle.pi_words.specs.declared.run_mode.RunMode.{RunMode}
 use Rattle.pi_words.specs.declared.run_mode.RunMode.TheVariants.{Query, Run, Session, Print, Demo}
 use Rattle.pi_words.specs.declared.asked.Options.{Options}
 use Rattle.pi_top.specs.CutOff.{CutFile, CutMade, CutLine, CutIn, CutBy}
 use Rattle.pi_top.specs.CutOff as cut
 use Rattle.pi_top.specs.Ends.{Ends, all_written, write_failed, memory_wanted, AnswersBy, GivesStatus}
-use Rattle.pi_query.specs.Stops.{WritesMemory, all_of_it, front_of_it, memory_line}
-use Rattle.pi_query.specs.Faults.{FaultCount, counted, Stands, Rises, TellsWrites}
-use Rattle.pi_query.specs.Handing.{HandsText}
+use Rattle.pi_top.specs.Stops.{WritesMemory, all_of_it, front_of_it, memory_line}
+use Rattle.pi_top.specs.Faults.{FaultCount, counted, Stands, Rises, TellsWrites}
+use Rattle.pi_top.specs.Handing.{HandsText}
 use Rattle.pi_top.specs.Demo.{demo_program}
-use Rattle.pi_query.specs.Manner.{manner_of, goal_of}
-use Rattle.pi_query.specs.QueryEnd.{QueryEnd, Stopped, NoMore, No, Exception, StepsSpent, status_of}
+use Rattle.pi_top.specs.Manner.{manner_of, goal_of}
+use Rattle.pi_top.specs.QueryEnd.{QueryEnd, Stopped, NoMore, No, Exception, StepsSpent, status_of}
 use Rattle.pi_top.specs.Statuses.{ComesText, ComesPrinted, ComesOf, ComesFile, ComesMade, ComesIn, ComesBy}
 use Rattle.pi_top.specs.Statuses as whole
 use Rattle.pi_words.specs.Words.{options}

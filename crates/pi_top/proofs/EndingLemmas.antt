@@ -3,7 +3,7 @@ use Rattle.std.proofs.Common.{◌≡◌, ℕ, List, refl, sym, ◌∙◌, ap, ar
 use Rattle.pi_terms.specs.Tree.{Tree}
 use Rattle.pi_meaning.specs.Trace.{Done, Raise, Emitted}
 use Rattle.pi_meaning.specs.Depth.{Cut, Stop, Ended, Spent}
-use Rattle.pi_query.specs.QueryEnd.{Stopped, NoMore, No, Exception, StepsSpent, EndsWithLast, IsWhole, EndingIsOne}
+use Rattle.pi_top.specs.QueryEnd.{Stopped, NoMore, No, Exception, StepsSpent, EndsWithLast, IsWhole, EndingIsOne}
 
 last-or-whole : {X A : Type 0} (asked : ℕ) (part : List (Emitted A)) (run : Cut A) (stop : Stop) → EndsWithLast asked part → IsWhole asked part run stop → X
 last-or-whole asked part run stop last whole = absurd (omega (arith, last.all, whole.fewer))

@@ -7,37 +7,37 @@ use Rattle.pi_core.specs.CoreTree.{PredTree, QueryTree}
 use Rattle.pi_syntax.specs.ExpTree.{ExpTree}
 use Rattle.pi_syntax.specs.ProgramTree.{ProgramTree}
 use Rattle.pi_canonical.specs.Canonical.{canonical_text}
-use Rattle.pi_query.specs.declared.manner.Manner.{Manner}
-use Rattle.pi_query.specs.declared.runs.QueryRun.{QueryRun}
-use Rattle.pi_query.specs.declared.query.Stop.{Stop}
-use Rattle.pi_query.specs.declared.query.Stop.TheVariants.{Memory, Write}
+use Rattle.pi_top.specs.declared.manner.Manner.{Manner}
+use Rattle.pi_top.specs.declared.runs.QueryRun.{QueryRun}
+use Rattle.pi_top.specs.declared.query.Stop.{Stop}
+use Rattle.pi_top.specs.declared.query.Stop.TheVariants.{Memory, Write}
 use Rattle.pi_words.specs.declared.run_mode.RunMode.{RunMode}
 use Rattle.pi_words.specs.declared.run_mode.RunMode.TheVariants.{Query, Run, Session, Print, Demo}
 use Rattle.pi_words.specs.declared.asked.Options.{Options}
-use Rattle.pi_query.specs.Stops.{status_of_stop}
+use Rattle.pi_top.specs.Stops.{status_of_stop}
 use Rattle.pi_top.specs.CutOff.{CutText, CutPrinted, CutFile, CutMade, CutLine, CutIn, CutBy, running, front_of}
 use Rattle.pi_top.specs.CutOff as cut
 use Rattle.pi_top.specs.Ends.{reads_file, ReadsNoFile, AnswersText, AnswersPrinted, AnswersOf, AnswersFile, AnswersMade, AnswersBy}
-use Rattle.pi_query.specs.Faults.{FaultCount, Stands, Rises}
-use Rattle.pi_query.specs.Handing.{HandsAll, Written}
-use Rattle.pi_query.specs.Headline.{Headline}
-use Rattle.pi_query.specs.FaultLines.{of_program}
-use Rattle.pi_query.specs.Judged.{Refused}
-use Rattle.pi_query.specs.JudgedCode.{IsAsked}
+use Rattle.pi_top.specs.Faults.{FaultCount, Stands, Rises}
+use Rattle.pi_top.specs.Handing.{HandsAll, Written}
+use Rattle.pi_top.specs.Headline.{Headline}
+use Rattle.pi_top.specs.FaultLines.{of_program}
+use Rattle.pi_top.specs.Judged.{Refused}
+use Rattle.pi_top.specs.JudgedCode.{IsAsked}
 use Rattle.pi_top.specs.PrintedCode.{IsCanonical, IsFaulty}
 use Rattle.pi_top.specs.Demo.{demo_program}
-use Rattle.pi_query.specs.Manner.{manner_of, goal_of}
-use Rattle.pi_query.specs.Reading.{ReadsText, FailsReading, StopsReading, nothing as nothing_read}
-use Rattle.pi_query.specs.Running.{HasRun, not_asked, was_asked}
-use Rattle.pi_query.specs.Runs.{HasRan, run_of}
+use Rattle.pi_top.specs.Manner.{manner_of, goal_of}
+use Rattle.pi_top.specs.Reading.{ReadsText, FailsReading, StopsReading, nothing as nothing_read}
+use Rattle.pi_top.specs.Running.{HasRun, not_asked, was_asked}
+use Rattle.pi_top.specs.Runs.{HasRan, run_of}
 use Rattle.pi_top.specs.Statuses as whole
-use Rattle.pi_query.specs.SoleLine.{read_fault_line}
+use Rattle.pi_top.specs.SoleLine.{read_fault_line}
 use Rattle.pi_top.specs.Statuses.{ComesIn, IsUnread, ran, usage_line, mode_line}
-use Rattle.pi_query.specs.Texts.{IsRead}
+use Rattle.pi_top.specs.Texts.{IsRead}
 use Rattle.pi_words.specs.Words.{options, places_of}
-use Rattle.pi_query.specs.Writing.{Writes}
-use Rattle.pi_query.proofs.OverNames.{ends-over-names, cut-over-names}
-use Rattle.pi_query.proofs.SoleLines.{line-all, line-front, is-nothing}
+use Rattle.pi_top.specs.Writing.{Writes}
+use Rattle.pi_top.proofs.OverNames.{ends-over-names, cut-over-names}
+use Rattle.pi_top.proofs.SoleLines.{line-all, line-front, is-nothing}
 
 -- what is written of a greater thing
 widens : {P Q : List (List ℕ) → Type 0} (writes : List SinkWrite) → ((texts : List (List ℕ)) → P texts → Q texts) → Written P writes → Written Q writes

@@ -6,8 +6,8 @@ use Rattle.pi_syntax.specs.ProgramTree.{ProgramTree}
 use Rattle.pi_syntax.specs.Tokens.{Token, Located, Fault, Lexes}
 use Rattle.pi_clauses.specs.GoalVerdict.{GoalVerdict, a_goal, goal_is_faulty, calls_unknown, HasGoalVerdict}
 use Rattle.pi_clauses.specs.Verdict.{Verdict, a_program, part_is_faulty, is_scattered, is_unknown, HasVerdict}
-use Rattle.pi_query.specs.FaultLines.{token_line, verdict_line, goal_verdict_line, of_program, of_goal}
-use Rattle.pi_query.specs.Judged.{unbuilt_line, OfTokens, IsTokenLine, IsProgramText, IsGoalText, HasVerdictLine, HasGoalVerdictLine, IsProgramLine, IsGoalLine, AreFaultless, Refused, program_fault, goal_fault, not_built, Asks}
+use Rattle.pi_top.specs.FaultLines.{token_line, verdict_line, goal_verdict_line, of_program, of_goal}
+use Rattle.pi_top.specs.Judged.{unbuilt_line, OfTokens, IsTokenLine, IsProgramText, IsGoalText, HasVerdictLine, HasGoalVerdictLine, IsProgramLine, IsGoalLine, AreFaultless, Refused, program_fault, goal_fault, not_built, Asks}
 
 -- what is one: the reading of a text, and the verdict on tokens
 pub record AreOne : Type 0 where

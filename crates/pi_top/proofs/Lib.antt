@@ -7,3 +7,15 @@ pub mod FaultlessHeads
 pub mod Judging
 pub mod Manners
 pub mod Refusing
+pub mod AskedTexts
+pub mod EventLemmas
+pub mod FileReads
+pub mod Fronts
+pub mod HandedTexts
+pub mod OverNames
+pub mod QueryRuns
+pub mod RunLists
+pub mod Runnable
+pub mod SoleLines
+pub mod TextWrites
+pub mod UnbuiltLines

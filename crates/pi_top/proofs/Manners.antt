@@ -3,7 +3,7 @@ use Rattle.std.proofs.Common.{◌≡◌, ◌<◌, ℕ, true, Option, None, Some,
 use Rattle.pi_words.specs.declared.asked.Options.{Options}
 use Rattle.pi_words.specs.declared.run_mode.RunMode.{RunMode}
 use Rattle.pi_words.specs.declared.run_mode.RunMode.TheVariants.{Query, Run, Session, Print, Demo}
-use Rattle.pi_query.specs.Manner.{manner_in, manner_of}
+use Rattle.pi_top.specs.Manner.{manner_in, manner_of}
 
 steps-in : (mode : RunMode) (asked : Options) → (manner_in mode asked).steps ≡ asked.steps
 steps-in Query asked = refl

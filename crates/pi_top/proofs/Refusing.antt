@@ -10,20 +10,20 @@ use Rattle.pi_meaning.specs.View.{query_view}
 use Rattle.pi_meaning.specs.Telling.{Told}
 use Rattle.pi_meaning.specs.Stages.{no_stages}
 use Rattle.pi_meaning.proofs.GrowRules.{no-stages-add, names-runs-are-one}
-use Rattle.pi_query.specs.declared.runs.QueryRun.{QueryRun}
-use Rattle.pi_query.specs.declared.manner.Manner.{Manner}
-use Rattle.pi_query.specs.FaultLines.{of_program}
-use Rattle.pi_query.specs.Headline.{Headline}
-use Rattle.pi_query.specs.Judged.{Refused, Asks}
-use Rattle.pi_query.specs.Prefix.{IsPrefix}
-use Rattle.pi_query.specs.Printing.{print}
-use Rattle.pi_query.specs.QueryEnd.{QueryEnd, Stopped, NoMore, No, Exception, StepsSpent, status_of, count_answers, EndsWithLast, IsWhole, Ends}
-use Rattle.pi_query.specs.Runs.{HasRan, run_of}
-use Rattle.pi_query.specs.SoleLine.{IsLine}
+use Rattle.pi_top.specs.declared.runs.QueryRun.{QueryRun}
+use Rattle.pi_top.specs.declared.manner.Manner.{Manner}
+use Rattle.pi_top.specs.FaultLines.{of_program}
+use Rattle.pi_top.specs.Headline.{Headline}
+use Rattle.pi_top.specs.Judged.{Refused, Asks}
+use Rattle.pi_top.specs.Prefix.{IsPrefix}
+use Rattle.pi_top.specs.Printing.{print}
+use Rattle.pi_top.specs.QueryEnd.{QueryEnd, Stopped, NoMore, No, Exception, StepsSpent, status_of, count_answers, EndsWithLast, IsWhole, Ends}
+use Rattle.pi_top.specs.Runs.{HasRan, run_of}
+use Rattle.pi_top.specs.SoleLine.{IsLine}
 use Rattle.pi_top.specs.Statuses.{ComesText, refused, ran, ComesPrinted, faulty, printed}
-use Rattle.pi_query.specs.ToldLines.{end_lines}
+use Rattle.pi_top.specs.ToldLines.{end_lines}
 use Rattle.pi_top.proofs.EndingLemmas.{ending-is-one}
-use Rattle.pi_query.proofs.EventLemmas.{answers-append}
+use Rattle.pi_top.proofs.EventLemmas.{answers-append}
 use Rattle.pi_top.proofs.Judging.{AreOne, one-line, not-both, one-asked, one-program, one-program-line, program-no-line}
 
 no-three : (ending : QueryEnd) → status_of ending ≢ 3

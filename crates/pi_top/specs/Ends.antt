@@ -4,18 +4,18 @@ use Rattle.pi_outside.specs.Held.{Holding}
 use Rattle.pi_outside.specs.Reads.{FileRead}
 use Rattle.pi_outside.specs.Writes.{SinkWrite}
 use Rattle.pi_core.specs.declared.log.LogEntry.{LogEntry}
-use Rattle.pi_query.specs.declared.runs.QueryRun.{QueryRun}
-use Rattle.pi_query.specs.declared.query.Stop.{Stop}
-use Rattle.pi_query.specs.declared.query.Stop.TheVariants.{Memory, Write}
+use Rattle.pi_top.specs.declared.runs.QueryRun.{QueryRun}
+use Rattle.pi_top.specs.declared.query.Stop.{Stop}
+use Rattle.pi_top.specs.declared.query.Stop.TheVariants.{Memory, Write}
 use Rattle.pi_words.specs.declared.run_mode.RunMode.{RunMode}
 use Rattle.pi_words.specs.declared.run_mode.RunMode.TheVariants.{Query, Run, Print}
 use Rattle.pi_words.specs.declared.asked.Options.{Options}
-use Rattle.pi_query.specs.declared.manner.Manner.{Manner}
+use Rattle.pi_top.specs.declared.manner.Manner.{Manner}
 use Rattle.pi_top.specs.CutOff.{CutText, CutPrinted, CutOf, CutFile, CutMade, CutBy}
-use Rattle.pi_query.specs.Faults.{FaultCount, Stands, Rises}
-use Rattle.pi_query.specs.Handing.{Written}
+use Rattle.pi_top.specs.Faults.{FaultCount, Stands, Rises}
+use Rattle.pi_top.specs.Handing.{Written}
 use Rattle.pi_top.specs.Statuses.{ComesText, ComesPrinted, ComesOf, ComesFile, ComesMade, ComesBy}
-use Rattle.pi_query.specs.Stops.{status_of_stop, WritesMemory}
+use Rattle.pi_top.specs.Stops.{status_of_stop, WritesMemory}
 use Rattle.pi_words.specs.Words.{options}
 
 -- By these reads and these writes, and no others, a run came to its end. All is written that there is to write, and no write failed; or one

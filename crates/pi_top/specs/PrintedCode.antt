@@ -4,8 +4,8 @@ use Rattle.std.specs.String.{string_bytes}
 use Rattle.pi_canonical.specs.Canonical.{canonical_text}
 use Rattle.pi_syntax.specs.ProgramTree.{ProgramTree}
 use Rattle.pi_top.specs.declared.printing.Printed.{Printed}
-use Rattle.pi_query.specs.FaultLines.{of_program}
-use Rattle.pi_query.specs.Judged.{IsProgramText, IsProgramLine}
+use Rattle.pi_top.specs.FaultLines.{of_program}
+use Rattle.pi_top.specs.Judged.{IsProgramText, IsProgramLine}
 
 -- a text is this program, whose canonical text this is
 pub record IsCanonical (text whole : List ℕ) : Type 0 where

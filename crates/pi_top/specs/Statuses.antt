@@ -7,21 +7,21 @@ use Rattle.pi_syntax.specs.ExpTree.{ExpTree}
 use Rattle.pi_syntax.specs.ProgramTree.{ProgramTree}
 use Rattle.pi_canonical.specs.Canonical.{canonical_text}
 use Rattle.pi_core.specs.declared.log.LogEntry.{LogEntry}
-use Rattle.pi_query.specs.declared.runs.QueryRun.{QueryRun}
+use Rattle.pi_top.specs.declared.runs.QueryRun.{QueryRun}
 use Rattle.pi_words.specs.declared.run_mode.RunMode.{RunMode}
 use Rattle.pi_words.specs.declared.run_mode.RunMode.TheVariants.{Query, Run, Print, Demo}
 use Rattle.pi_words.specs.declared.asked.Options.{Options}
 use Rattle.pi_words.specs.Words.{places_of}
 use Rattle.pi_top.specs.Demo.{demo_program}
-use Rattle.pi_query.specs.declared.manner.Manner.{Manner}
-use Rattle.pi_query.specs.Faults.{FaultCount, Stands, Rises}
-use Rattle.pi_query.specs.FaultLines.{of_program}
-use Rattle.pi_query.specs.Judged.{IsProgramLine, IsProgramText, Refused, Asks}
-use Rattle.pi_query.specs.Manner.{manner_of, goal_of}
-use Rattle.pi_query.specs.Reading.{ReadsText, FailsReading}
-use Rattle.pi_query.specs.Runs.{HasRan}
-use Rattle.pi_query.specs.Texts.{IsRead}
-use Rattle.pi_query.specs.SoleLine.{IsLine, read_fault_line}
+use Rattle.pi_top.specs.declared.manner.Manner.{Manner}
+use Rattle.pi_top.specs.Faults.{FaultCount, Stands, Rises}
+use Rattle.pi_top.specs.FaultLines.{of_program}
+use Rattle.pi_top.specs.Judged.{IsProgramLine, IsProgramText, Refused, Asks}
+use Rattle.pi_top.specs.Manner.{manner_of, goal_of}
+use Rattle.pi_top.specs.Reading.{ReadsText, FailsReading}
+use Rattle.pi_top.specs.Runs.{HasRan}
+use Rattle.pi_top.specs.Texts.{IsRead}
+use Rattle.pi_top.specs.SoleLine.{IsLine, read_fault_line}
 
 abbrev pub usage_line : List ℕ
 usage_line = codes "usage: picatq [--answers N] [--steps N] [--work N] [--mode query|run|session|print|demo] FILE [GOAL]\n"

@@ -6,11 +6,11 @@ ghost use Rattle.pi_syntax.specs.Tokens.{Token};
 ghost use Rattle.pi_clauses.specs.Verdict.{HasVerdict, a_program};
 ghost use Rattle.pi_meaning.specs.NameLaws.{HeadsAreFree};
 ghost use Rattle.pi_core.specs.declared.log.LogEntry.{LogEntry};
-ghost use Rattle.pi_query.specs.declared.manner.Manner.{Manner};
-ghost use Rattle.pi_query.specs.declared.runs.QueryRun.{QueryRun};
-ghost use Rattle.pi_query.specs.Judged.{Refused, Asks, AreFaultless};
-ghost use Rattle.pi_query.specs.QueryEnd.{EndingIsOne};
-ghost use Rattle.pi_query.specs.SoleLine.{IsLine};
+ghost use Rattle.pi_top.specs.declared.manner.Manner.{Manner};
+ghost use Rattle.pi_top.specs.declared.runs.QueryRun.{QueryRun};
+ghost use Rattle.pi_top.specs.Judged.{Refused, Asks, AreFaultless};
+ghost use Rattle.pi_top.specs.QueryEnd.{EndingIsOne};
+ghost use Rattle.pi_top.specs.SoleLine.{IsLine};
 ghost use Rattle.pi_top.specs.Statuses.{ComesText, ComesPrinted};
 
 use pi_lex::one_reading;

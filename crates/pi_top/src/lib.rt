@@ -1,15 +1,23 @@
 //! The top call of picatq: from the words of a command line to the bytes that are written and the status.
+//! A query: a program's text and a goal's are judged, the goal is asked, and its answers and its end are written as they come.
 #![tactic(auto)]
 
 mod demo;
+pub mod fault_lines;
+pub mod files;
+pub mod handed;
+pub mod judgement;
 pub mod laws;
 mod lines;
+pub mod manner;
 mod outcome;
 mod printing;
+pub mod query;
+pub mod runs;
 mod top;
 
 pub use demo::demo_text;
 pub use outcome::Outcome;
-pub use pi_query::runs::{Queries, QueryRun};
 pub use pi_words::{Options, RunMode, WordsFault, read_words};
+pub use runs::{Queries, QueryRun};
 pub use top::picatq;

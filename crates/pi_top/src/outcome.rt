@@ -1,6 +1,6 @@
 //! What a call of picatq answers.
+use crate::runs::Queries;
 use pi_core::{CallLog, EnteredCalls};
-use pi_query::runs::Queries;
 
 /// What a run of picatq comes to, beside the bytes that it wrote.
 #[derive(Drop)]

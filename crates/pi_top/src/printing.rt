@@ -3,15 +3,15 @@ ghost use Rattle.std.specs.Prelude.{◌≡◌, ◌<◌, [], List, IfOk};
 ghost use Rattle.pi_outside.specs.Writes.{ByWrites};
 ghost use Rattle.pi_core.specs.declared.log.LogEntry.{LogEntry};
 ghost use Rattle.pi_top.specs.Ends.{AnswersPrinted};
-ghost use Rattle.pi_query.specs.Faults.{TellsWrites};
+ghost use Rattle.pi_top.specs.Faults.{TellsWrites};
 ghost use Rattle.pi_top.specs.PrintedCode.{ShowsPrinted};
-ghost use Rattle.pi_query.specs.declared.runs.QueryRun.{QueryRun};
+ghost use Rattle.pi_top.specs.declared.runs.QueryRun.{QueryRun};
 
+use crate::fault_lines::of_program;
+use crate::judgement::{Refusal, program_of};
+use crate::query::{Stop, ended};
 use pi_canonical::program_text;
 use pi_outside::Sink;
-use pi_query::fault_lines::of_program;
-use pi_query::judgement::{Refusal, program_of};
-use pi_query::query::{Stop, ended};
 use pi_terms::Text;
 use std::alloc::{AllocError, Global};
 

@@ -1,8 +1,8 @@
 use Rattle.std.proofs.Common.{ap, ◌∙◌}
 use Rattle.std.specs.String.{string_bytes}
 use Rattle.pi_syntax.specs.ProgramTree.{source_tree}
-use Rattle.pi_query.specs.FaultLines.{of_program}
-use Rattle.pi_query.specs.Judged.{IsProgramLine}
+use Rattle.pi_top.specs.FaultLines.{of_program}
+use Rattle.pi_top.specs.Judged.{IsProgramLine}
 use Rattle.pi_top.proofs.printing.canonical_of.Goals as goal
 
 pub returns-in-Err-Line : goal.returns-in-Err-Line

@@ -2,9 +2,9 @@ use Rattle.std.proofs.Common.{◌≡◌, ℕ, List, [], ◌∷◌, subst}
 use Rattle.std.specs.String.{string_bytes}
 use Rattle.std.proofs.lemmas.Result.{err_from_is_err_and}
 use Rattle.pi_outside.proofs.WriteRuns.{ByWrites-none, ByWrites-so}
-use Rattle.pi_query.specs.declared.query.Stop.TheVariants.{Memory}
+use Rattle.pi_top.specs.declared.query.Stop.TheVariants.{Memory}
 use Rattle.pi_top.specs.PrintedCode.{IsCanonical, IsFaulty}
-use Rattle.pi_query.specs.Writing.{Writes}
+use Rattle.pi_top.specs.Writing.{Writes}
 use Rattle.pi_top.proofs.Endings.{printed-faulty, printed-nothing, printed-whole}
 use Rattle.pi_top.proofs.printing.print_text.Goals as goal
 

@@ -5,7 +5,7 @@ use Rattle.pi_outside.proofs.WriteRuns.{ByWrites-none, ByWrites-so}
 use Rattle.pi_words.specs.declared.run_mode.RunMode.TheVariants.{Query, Run, Session, Print}
 use Rattle.pi_words.specs.Words.{options}
 use Rattle.pi_words.proofs.AskedWords.{some-answer, demo-places}
-use Rattle.pi_query.specs.Faults.{counted}
+use Rattle.pi_top.specs.Faults.{counted}
 use Rattle.pi_top.proofs.Endings.{by-demo, by-file, by-mode, by-nothing, by-usage, no-unread}
 use Rattle.pi_top.proofs.top.answered.Goals as goal
 

@@ -3,7 +3,7 @@ use Rattle.std.proofs.lemmas.Result.{err_from_is_err_and}
 use Rattle.pi_outside.proofs.WriteRuns.{ByWrites-none, ByWrites-so}
 use Rattle.pi_words.specs.Words.{places_of}
 use Rattle.pi_top.specs.Demo.{demo_program}
-use Rattle.pi_query.specs.declared.query.Stop.TheVariants.{Memory}
+use Rattle.pi_top.specs.declared.query.Stop.TheVariants.{Memory}
 use Rattle.pi_top.proofs.Endings.{made-nothing, made-text}
 use Rattle.pi_top.proofs.Manners.{no-places}
 use Rattle.pi_top.proofs.top.asked_of_demo.Goals as goal

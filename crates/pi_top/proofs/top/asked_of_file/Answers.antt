@@ -1,6 +1,6 @@
 use Rattle.pi_outside.proofs.ReadRuns.{ByReads-so}
 use Rattle.pi_outside.proofs.WriteRuns.{ByWrites-none, ByWrites-so}
-use Rattle.pi_query.specs.Faults.{counted}
+use Rattle.pi_top.specs.Faults.{counted}
 use Rattle.pi_top.proofs.Endings.{file-fault, file-nothing, file-read, of-printed, of-text}
 use Rattle.pi_top.proofs.top.asked_of_file.Goals as goal
 

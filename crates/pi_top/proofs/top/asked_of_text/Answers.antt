@@ -3,16 +3,16 @@ use Rattle.std.specs.String.{string_bytes}
 use Rattle.std.proofs.lemmas.Result.{err_from_is_err_and}
 use Rattle.pi_core.specs.CoreTree.{program_tree, query_tree}
 use Rattle.pi_outside.proofs.WriteRuns.{ByWrites-none, ByWrites-so}
-use Rattle.pi_query.specs.declared.manner.Manner.{Manner}
-use Rattle.pi_query.specs.declared.query.Stop.TheVariants.{Memory}
-use Rattle.pi_query.specs.Manner.{goal_of, manner_of}
-use Rattle.pi_query.specs.JudgedCode.{IsAsked}
-use Rattle.pi_query.specs.Judged.{Refused}
-use Rattle.pi_query.specs.Runs.{AllWithin}
-use Rattle.pi_query.specs.Writing.{Writes}
+use Rattle.pi_top.specs.declared.manner.Manner.{Manner}
+use Rattle.pi_top.specs.declared.query.Stop.TheVariants.{Memory}
+use Rattle.pi_top.specs.Manner.{goal_of, manner_of}
+use Rattle.pi_top.specs.JudgedCode.{IsAsked}
+use Rattle.pi_top.specs.Judged.{Refused}
+use Rattle.pi_top.specs.Runs.{AllWithin}
+use Rattle.pi_top.specs.Writing.{Writes}
 use Rattle.pi_top.proofs.Endings.{text-nothing, text-ran, text-refused}
 use Rattle.pi_top.proofs.Manners.{manner-answers, manner-steps}
-use Rattle.pi_query.proofs.Runnable.{asked-runnable}
+use Rattle.pi_top.proofs.Runnable.{asked-runnable}
 use Rattle.pi_top.proofs.top.asked_of_text.Goals as goal
 
 pub returns-in_err-judged-clause-answers : goal.returns-in_err-judged-clause-answers

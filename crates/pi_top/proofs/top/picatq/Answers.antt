@@ -2,7 +2,7 @@ use Rattle.std.proofs.Common.{map}
 use Rattle.std.specs.String.{string_bytes}
 use Rattle.pi_outside.proofs.ReadRuns.{ByReads-so}
 use Rattle.pi_outside.proofs.WriteRuns.{ByWrites-so, ByWrites-then}
-use Rattle.pi_query.specs.Faults.{counted}
+use Rattle.pi_top.specs.Faults.{counted}
 use Rattle.pi_top.proofs.Completing.{complete}
 use Rattle.pi_top.proofs.EndStatuses.{CountsTell, status-given, status-most, counts-tell}
 use Rattle.pi_top.proofs.top.picatq.Goals as goal

@@ -1,7 +1,7 @@
 use Rattle.std.proofs.Common.{◌≡◌, refl}
 use Rattle.pi_outside.proofs.WriteRuns.{ByWrites-none, ByWrites-so}
-use Rattle.pi_query.specs.declared.query.Stop.TheVariants.{Memory, Write}
-use Rattle.pi_query.specs.Faults.{counted}
+use Rattle.pi_top.specs.declared.query.Stop.TheVariants.{Memory, Write}
+use Rattle.pi_top.specs.Faults.{counted}
 use Rattle.pi_top.proofs.EndStatuses.{memory-line, gives-write, gives-memory}
 use Rattle.pi_top.proofs.top.status_of.Goals as goal
 

@@ -1,0 +1,89 @@
+use Rattle.std.proofs.Common.{◌≡◌, [], ◌++◌, Err, refl, subst, ◌∙◌, arith, append_assoc}
+use Rattle.std.proofs.lemmas.List.{append-nil}
+use Rattle.std.proofs.lemmas.Result.{err_from_is_err_and}
+use Rattle.pi_outside.proofs.WriteRuns.{ByWrites-none, ByWrites-so, ByWrites-then}
+use Rattle.pi_meaning.specs.View.{query_view}
+use Rattle.pi_engine.specs.Seen.{machine_view}
+use Rattle.pi_top.specs.declared.query.Stop.TheVariants.{Write}
+use Rattle.pi_top.specs.Running.{IsSoFar, Called, NextComes}
+use Rattle.pi_top.proofs.HandedTexts.{hands-one, fails-one}
+use Rattle.pi_top.proofs.QueryRuns.{written-text, text-cut, memory-cut}
+use Rattle.pi_top.proofs.query.next_told.Goals as goal
+
+pub loop-turn-init : goal.loop-turn-init
+loop-turn-init g c = record {
+  steps = refl;
+  within = λ h. h;
+  work = λ top. refl;
+  mode = refl;
+  no_fault = refl;
+  so_far = ByWrites-none g.O.Sink.wrote g.O.Sink.taken c.args.out.now _ (λ lines first given program q so_far. rw (append-nil first) so_far);
+}
+
+pub loop-turn-preserved : goal.loop-turn-preserved
+loop-turn-preserved g c =
+    let l = c.loop-turn in
+    let next = c.in-Out.ensures in
+    let m = machine_view g.S.StateStore.seen g.S.StateStore.order l.machine in
+    let n = machine_view g.S.StateStore.seen g.S.StateStore.order c.next.new.self in
+    let called : Called m n l.budget c.next.new.budget = record { counts = next.counts; within = next.within; mode = next.mode } in
+    record {
+      steps = next.counts.steps ∙ l.invariant.steps;
+      within = λ h. next.within (l.invariant.within h);
+      work = λ top. next.counts.top (l.invariant.mode ∙ top) ∙ l.invariant.work top;
+      mode = next.mode ∙ l.invariant.mode;
+      no_fault = c.in_ok-write_text-in-Out.ensures.no_fault ∙ l.invariant.no_fault;
+      so_far = ByWrites-then l.invariant.so_far (rw c.as_str.ensures at c.in_ok-write_text-in-Out.ensures.hands) (λ before its earlier handed. λ lines first given program q start.
+          let w = earlier lines first given program q start in
+          subst (IsSoFar lines n c.next.new.budget given program q) (append_assoc first before its)
+          (written-text lines m n l.budget c.next.new.budget given program q c.in-Out.text (first ++ before) its
+          w called (next.ticks w.running (query_view []) program q w.events w.runs) next.lasts (hands-one c.in-Out.text its handed)));
+    }
+
+pub returns-in_err-write_text-in-Out-clause-comes : goal.returns-in_err-write_text-in-Out-clause-comes
+returns-in_err-write_text-in-Out-clause-comes g c =
+    let l = c.loop-turn in
+    let next = c.in-Out.ensures in
+    let m = machine_view g.S.StateStore.seen g.S.StateStore.order l.machine in
+    let n = machine_view g.S.StateStore.seen g.S.StateStore.order c.next.new.self in
+    let called : Called m n l.budget c.next.new.budget = record { counts = next.counts; within = next.within; mode = next.mode } in
+    let p = err_from_is_err_and c.from_residual.result c.from_residual.ensures.1 in
+    let write : p.0 ≡ Write = p.2 in
+    rw (p.1, write)
+    (ByWrites-then l.invariant.so_far (rw c.as_str.ensures at c.in_err-write_text-in-Out.ensures.hands) (λ before its earlier fails. λ lines first answers given program q start runnable less.
+    let w = earlier lines first given program q start in
+    subst (NextComes lines answers given program q n c.next.new.budget (Err Write)) (append_assoc first before its)
+    (text-cut lines m n l.budget c.next.new.budget answers given program q c.in-Out.text (first ++ before) its
+    runnable w called less (next.ticks w.running (query_view []) program q w.events w.runs) (fails-one c.in-Out.text its fails))))
+
+pub returns-in_default : goal.returns-in_default
+returns-in_default g c =
+    let l = c.loop-turn in
+    let next = c.next.ensures in
+    let m = machine_view g.S.StateStore.seen g.S.StateStore.order l.machine in
+    let n = machine_view g.S.StateStore.seen g.S.StateStore.order c.next.new.self in
+    record {
+      writes = record { no_fault = l.invariant.no_fault; write = tt; memory = tt; never_falls = omega (arith, l.invariant.no_fault) };
+      within = λ h. next.within (l.invariant.within h);
+      steps = next.counts.steps ∙ l.invariant.steps;
+      mode = next.mode ∙ l.invariant.mode;
+      work = λ top. next.counts.top (l.invariant.mode ∙ top) ∙ l.invariant.work top;
+      comes = ByWrites-so l.invariant.so_far (λ writes earlier. λ lines first answers given program q start runnable less.
+          let w = earlier lines first given program q start in
+          record {
+            before = m;
+            budget = l.budget;
+            so_far = w;
+            called = record { counts = next.counts; within = next.within; mode = next.mode };
+            happens = next.ticks w.running (query_view []) program q w.events w.runs;
+            no_text = λ text e. c.in_default.not-Out text e;
+            lasts = next.lasts;
+          });
+    }
+
+pub returns-clause-comes : goal.returns-clause-comes
+returns-clause-comes g c =
+    let l = c.loop-turn in
+    let m = machine_view g.S.StateStore.seen g.S.StateStore.order l.machine in
+    ByWrites-so l.invariant.so_far (λ writes earlier. λ lines first answers given program q start runnable less.
+    memory-cut lines m l.budget answers given program q (first ++ writes) runnable (earlier lines first given program q start) less)

@@ -1,0 +1,107 @@
+use Rattle.std.proofs.Common.{◌≡◌, ℕ, List, Ok, ◌++◌, refl, subst, ◌∙◌, arith}
+use Rattle.std.proofs.lemmas.Bool.Decides.{nat_tests}
+use Rattle.std.proofs.lemmas.Result.{err_from_is_err_and}
+use Rattle.pi_core.specs.CoreTree.{PredTree, QueryTree}
+use Rattle.pi_engine.specs.Seen.{machine_view}
+use Rattle.pi_outside.specs.Writes.{ByWrites}
+use Rattle.pi_outside.proofs.WriteRuns.{ByWrites-none, ByWrites-then}
+use Rattle.pi_top.specs.Stops.{status_of_stop}
+use Rattle.pi_top.specs.Running.{QueryIsCut, IsAtStart, IsWritten, NextComes}
+use Rattle.pi_top.proofs.QueryRuns.{written-start, written-answer, comes-stopped, comes-cut, comes-end}
+use Rattle.pi_top.proofs.query.write_answers.Goals as goal
+
+pub loop-given-init : goal.loop-given-init
+loop-given-init g c = record {
+  steps = refl;
+  within = λ h. h;
+  work = λ top. refl;
+  mode = refl;
+  no_fault = refl;
+  so_far = ByWrites-none g.O.Sink.wrote g.O.Sink.taken c.args.out.now _
+      (λ program q is. written-start c.args.manner.now.lines (machine_view g.S.StateStore.seen g.S.StateStore.order c.args.machine.now) c.args.budget.now c.args.manner.now.answers program q is);
+}
+
+-- the writing of a text is cut off, or memory is wanted behind one
+pub returns-in_err-end-clause-comes : goal.returns-in_err-end-clause-comes
+returns-in_err-end-clause-comes g c =
+    let l = c.loop-given in
+    let next = c.in_err-end.ensures in
+    let p = err_from_is_err_and c.from_residual.result c.from_residual.ensures.1 in
+    let same : p.0 ≡ c.in_err-end.field-0.0 = p.2 in
+    rw (p.1, same)
+    (ByWrites-then l.invariant.so_far next.comes (λ first second so_far comes. λ program q is.
+    subst (λ (steps : ℕ). QueryIsCut c.args.manner.now.lines c.args.manner.now.answers steps program q c.next_told.new.budget.ticks (status_of_stop c.in_err-end.field-0.0) (first ++ second)) (next.steps ∙ l.invariant.steps)
+    (comes c.args.manner.now.lines first c.args.manner.now.answers l.given program q (so_far program q is).so_far is.runnable c.loop-given-test.true)))
+
+pub returns-in_err-write_answer-in-Answer-clause-comes : goal.returns-in_err-write_answer-in-Answer-clause-comes
+returns-in_err-write_answer-in-Answer-clause-comes g c =
+    let l = c.loop-given in
+    let next = c.in_ok-end.ensures in
+    let n = machine_view g.S.StateStore.seen g.S.StateStore.order c.next_told.new.machine in
+    let asked : ByWrites g.O.Sink.wrote g.O.Sink.taken c.args.out.now c.next_told.new.out (λ writes. (program : List PredTree) (q : QueryTree) →
+    IsAtStart (machine_view g.S.StateStore.seen g.S.StateStore.order c.args.machine.now) c.args.budget.now c.args.manner.now.answers program q →
+    NextComes c.args.manner.now.lines c.args.manner.now.answers l.given program q n c.next_told.new.budget (Ok c.in_ok-end.end) writes) =
+    ByWrites-then l.invariant.so_far next.comes (λ first second so_far comes. λ program q is.
+    comes c.args.manner.now.lines first c.args.manner.now.answers l.given program q (so_far program q is).so_far is.runnable c.loop-given-test.true) in
+    let p = err_from_is_err_and c.from_residual-in_err-write_answer-in-Answer.result c.from_residual-in_err-write_answer-in-Answer.ensures.1 in
+    let same : p.0 ≡ c.in_err-write_answer-in-Answer.field-0.0 = p.2 in
+    rw (p.1, same)
+    (ByWrites-then asked c.in_err-write_answer-in-Answer.ensures.told (λ first second comes told. λ program q is.
+    let it = comes program q is in
+    comes-cut c.args.manner.now.lines it.before n it.budget c.next_told.new.budget c.args.manner.now.answers l.given c.args.budget.now.steps program q c.in-Answer.answer c.in_err-write_answer-in-Answer.field-0.0 first second
+    is.runnable it.so_far it.called c.loop-given-test.true (next.steps ∙ l.invariant.steps) (rw c.in-Answer.is at it.happens) told.cut))
+
+pub returns-in_default : goal.returns-in_default
+returns-in_default g c =
+    let l = c.loop-given in
+    let next = c.in_ok-end.ensures in
+    let n = machine_view g.S.StateStore.seen g.S.StateStore.order c.next_told.new.machine in
+    let asked : ByWrites g.O.Sink.wrote g.O.Sink.taken c.args.out.now c.next_told.new.out (λ writes. (program : List PredTree) (q : QueryTree) →
+    IsAtStart (machine_view g.S.StateStore.seen g.S.StateStore.order c.args.machine.now) c.args.budget.now c.args.manner.now.answers program q →
+    NextComes c.args.manner.now.lines c.args.manner.now.answers l.given program q n c.next_told.new.budget (Ok c.in_ok-end.end) writes) =
+    ByWrites-then l.invariant.so_far next.comes (λ first second so_far comes. λ program q is.
+    comes c.args.manner.now.lines first c.args.manner.now.answers l.given program q (so_far program q is).so_far is.runnable c.loop-given-test.true) in
+    record {
+      writes = rw (← l.invariant.no_fault, ← next.writes.no_fault) c.write_end.ensures.writes;
+      status = c.write_end.ensures.status;
+      within = λ h. next.within (l.invariant.within h);
+      steps = next.steps ∙ l.invariant.steps;
+      work = λ top. next.work (l.invariant.mode ∙ top) ∙ l.invariant.work top;
+      comes = ByWrites-then asked c.write_end.ensures.told (λ first second comes told. λ program q is.
+          let it = comes program q is in
+          comes-end c.args.manner.now.lines it.before n it.budget c.next_told.new.budget c.args.manner.now.answers l.given c.args.budget.now.steps program q c.in_ok-end.end _ c.write_end.result first second
+          is.runnable it.so_far it.called c.loop-given-test.true (next.steps ∙ l.invariant.steps)
+          (λ e. grind (arith, nat_tests, e)) (λ e. grind (arith, nat_tests, e)) (λ a e. c.in_default.not-Answer a e) it.no_text it.happens told);
+    }
+
+pub loop-given-preserved : goal.loop-given-preserved
+loop-given-preserved g c =
+    let l = c.loop-given in
+    let next = c.in_ok-end.ensures in
+    let n = machine_view g.S.StateStore.seen g.S.StateStore.order c.next_told.new.machine in
+    let asked : ByWrites g.O.Sink.wrote g.O.Sink.taken c.args.out.now c.next_told.new.out (λ writes. (program : List PredTree) (q : QueryTree) →
+    IsAtStart (machine_view g.S.StateStore.seen g.S.StateStore.order c.args.machine.now) c.args.budget.now c.args.manner.now.answers program q →
+    NextComes c.args.manner.now.lines c.args.manner.now.answers l.given program q n c.next_told.new.budget (Ok c.in_ok-end.end) writes) =
+    ByWrites-then l.invariant.so_far next.comes (λ first second so_far comes. λ program q is.
+    comes c.args.manner.now.lines first c.args.manner.now.answers l.given program q (so_far program q is).so_far is.runnable c.loop-given-test.true) in
+    record {
+      steps = next.steps ∙ l.invariant.steps;
+      within = λ h. next.within (l.invariant.within h);
+      work = λ top. next.work (l.invariant.mode ∙ top) ∙ l.invariant.work top;
+      mode = next.mode ∙ l.invariant.mode;
+      no_fault = c.in_ok-write_answer-in-Answer.ensures.writes.no_fault ∙ (next.writes.no_fault ∙ l.invariant.no_fault);
+      so_far = ByWrites-then asked c.in_ok-write_answer-in-Answer.ensures.told (λ first second comes told. λ program q is.
+          let it = comes program q is in
+          written-answer c.args.manner.now.lines it.before n it.budget c.next_told.new.budget l.given program q c.in-Answer.answer first second
+          it.so_far it.called (rw c.in-Answer.is at it.happens) (rw c.in-Answer.is at it.lasts) told.all);
+    }
+
+pub returns-clause-comes : goal.returns-clause-comes
+returns-clause-comes g c =
+    let l = c.loop-given in
+    let m = machine_view g.S.StateStore.seen g.S.StateStore.order l.machine in
+    let all : l.given ≡ c.args.manner.now.answers = omega (arith, c.loop-given-test.false, l.auto.given-end) in
+    ByWrites-then l.invariant.so_far c.ended_behind_answers.ensures.told (λ first second so_far told. λ program q is.
+    let w : IsWritten c.args.manner.now.lines m l.budget c.args.manner.now.answers program q first = subst (λ given. IsWritten c.args.manner.now.lines m l.budget given program q first) all (so_far program q is) in
+    comes-stopped c.args.manner.now.lines m l.budget c.args.manner.now.answers c.args.budget.now.steps program q c.ended_behind_answers.result first second is.runnable is.asked l.invariant.steps w c.ended_behind_answers.ensures.stops
+    (record { line = told; its_status = c.ended_behind_answers.ensures.status }))

@@ -1,0 +1,139 @@
+-- A query that is being run: what is written of it so far, and what it comes to. Here it is a query of the core language, whose run is
+-- that of the goal over its names.
+use Rattle.std.specs.Prelude.{◌≡◌, ◌<◌, ◌≤◌, ℕ, List, [], ◌∷◌, ◌++◌, Result, Ok, Err}
+use Rattle.pi_outside.specs.Writes.{SinkWrite}
+use Rattle.pi_core.specs.CoreTree.{PredTree, QueryTree}
+use Rattle.pi_core.specs.declared.core_program.NameSlot.{NameSlot}
+use Rattle.pi_meaning.specs.Trace.{Tick, Load, Out, Emitted, noted, answered, count_ticks}
+use Rattle.pi_meaning.specs.Depth.{Cut}
+use Rattle.pi_meaning.specs.View.{query_view}
+use Rattle.pi_meaning.specs.Run.{Solution, IsRun}
+use Rattle.pi_meaning.specs.Told.{answer_of}
+use Rattle.pi_print.specs.PrintAnswer.{answer_lines}
+use Rattle.pi_meaning.specs.declared.happening.Budget.{Budget}
+use Rattle.pi_meaning.specs.declared.happening.Happening.{Happening}
+use Rattle.pi_meaning.specs.declared.happening.Mode.{Mode}
+use Rattle.pi_meaning.specs.Budget.{Counts, IsWithin}
+use Rattle.pi_meaning.specs.Built.{IsRunnable}
+use Rattle.pi_engine.specs.Seen.{MachineView, mode_of, end_of, GoesOn}
+use Rattle.pi_engine.specs.Happens.{HappensByTicks, lasting}
+use Rattle.pi_engine.specs.Runs.{RunsTo}
+use Rattle.pi_top.specs.declared.manner.Lines.{Lines}
+use Rattle.pi_top.specs.declared.runs.QueryRun.{QueryRun}
+use Rattle.pi_top.specs.declared.query.Stop.{Stop}
+use Rattle.pi_top.specs.declared.query.Stop.TheVariants.{Memory}
+use Rattle.pi_top.specs.Stops.{status_of_stop}
+use Rattle.pi_top.specs.Handing.{HandsAll, FailsIn}
+use Rattle.pi_top.specs.Prefix.{IsPrefix}
+use Rattle.pi_top.specs.QueryEnd.{QueryEnd, status_of, count_answers, EndsWithLast, Ends}
+use Rattle.pi_top.specs.Runs.{no_work, run_of}
+use Rattle.pi_top.specs.ToldLines.{where_told, end_lines}
+
+-- ---- what is printed of a query's run
+
+unfoldable pub print_solutions : Lines → List NameSlot → List (Emitted Solution) → List (List ℕ)
+print_solutions lines names [] = []
+print_solutions lines names (noted Tick ∷ events) = print_solutions lines names events
+print_solutions lines names (noted (Load k) ∷ events) = print_solutions lines names events
+print_solutions lines names (noted (Out text) ∷ events) = text ∷ print_solutions lines names events
+print_solutions lines names (answered x ∷ events) = where_told lines (answer_lines (answer_of names x)) ++ print_solutions lines names events
+
+-- a part of the run of a query, cut before the Tick that is one more than it may take
+pub record IsQueryPart (program : List PredTree) (q : QueryTree) (steps : ℕ) (run : Cut Solution) (part : List (Emitted Solution)) : Type 0 where
+  pub is_run : IsRun program q [] steps run
+  pub begins : IsPrefix part run.events
+
+-- its end is written
+pub record QueryEnds (lines : Lines) (answers steps : ℕ) (program : List PredTree) (q : QueryTree) (ticks status : ℕ) (writes : List SinkWrite) : Type 0 where
+  pub run : Cut Solution
+  pub part : List (Emitted Solution)
+  pub is_part : IsQueryPart program q steps run part
+  pub ticks_in_it : ticks ≡ count_ticks part
+  pub ending : QueryEnd
+  pub ends : Ends answers part run ending
+  pub its_status : status ≡ status_of ending
+  pub written : HandsAll (print_solutions lines q.names part ++ end_lines lines ending) writes
+
+-- it is cut off
+pub data HowQueryIsCut (lines : Lines) (answers : ℕ) (q : QueryTree) (run : Cut Solution) (part : List (Emitted Solution)) (ticks status : ℕ) (writes : List SinkWrite) : Type 0 where
+  in_answer : status ≡ 8 → ticks ≡ count_ticks part → (earlier : List (Emitted Solution)) (x : Solution) → part ≡ earlier ++ answered x ∷ [] → count_answers part ≤ answers →
+      FailsIn (print_solutions lines q.names earlier) (where_told lines (answer_lines (answer_of q.names x))) writes → HowQueryIsCut lines answers q run part ticks status writes
+  in_text : status ≡ 8 → ticks ≡ count_ticks part → (earlier : List (Emitted Solution)) (text : List ℕ) → part ≡ earlier ++ noted (Out text) ∷ [] → count_answers part < answers →
+      FailsIn (print_solutions lines q.names earlier) (text ∷ []) writes → HowQueryIsCut lines answers q run part ticks status writes
+  in_line : status ≡ 8 → ticks ≡ count_ticks part → (ending : QueryEnd) → Ends answers part run ending → FailsIn (print_solutions lines q.names part) (end_lines lines ending) writes →
+      HowQueryIsCut lines answers q run part ticks status writes
+  at_memory : status ≡ 9 → ticks ≡ count_ticks part → count_answers part < answers → HandsAll (print_solutions lines q.names part) writes →
+      HowQueryIsCut lines answers q run part ticks status writes
+
+pub record QueryIsCut (lines : Lines) (answers steps : ℕ) (program : List PredTree) (q : QueryTree) (ticks status : ℕ) (writes : List SinkWrite) : Type 0 where
+  pub run : Cut Solution
+  pub part : List (Emitted Solution)
+  pub is_part : IsQueryPart program q steps run part
+  pub how : HowQueryIsCut lines answers q run part ticks status writes
+
+-- ---- while it runs
+
+-- a machine is about to run a query, of which an answer at least is asked for, and nothing is counted yet
+pub record IsAtStart {M : Type 0} (m : MachineView M) (b : Budget) (answers : ℕ) (program : List PredTree) (q : QueryTree) : Type 0 where
+  pub runnable : IsRunnable program q
+  pub runs : RunsTo (query_view []) m program q []
+  pub counts_ticks : mode_of m ≡ Mode.Top
+  pub running : GoesOn m
+  pub unspent : b.ticks ≡ 0
+  pub workless : b.work ≡ no_work
+  pub within : IsWithin b
+  pub asked : 0 < answers
+
+-- so many answers were written, and all that was run is printed
+pub record IsSoFar {M : Type 0} (lines : Lines) (m : MachineView M) (b : Budget) (given : ℕ) (program : List PredTree) (q : QueryTree) (writes : List SinkWrite) : Type 0 where
+  pub events : List (Emitted Solution)
+  pub runs : RunsTo (query_view []) m program q events
+  pub counts_ticks : mode_of m ≡ Mode.Top
+  pub running : GoesOn m
+  pub answers : count_answers events ≡ given
+  pub ticks : b.ticks ≡ count_ticks events
+  pub within : IsWithin b
+  pub written : HandsAll (print_solutions lines q.names events) writes
+
+-- the same, where nothing comes behind the last answer
+pub record IsWritten {M : Type 0} (lines : Lines) (m : MachineView M) (b : Budget) (given : ℕ) (program : List PredTree) (q : QueryTree) (writes : List SinkWrite) : Type 0 where
+  pub so_far : IsSoFar lines m b given program q writes
+  pub last : 0 < given → EndsWithLast given so_far.events
+
+-- the budget after a call of `next`, on a machine that counts Ticks
+pub record Called {M : Type 0} (m n : MachineView M) (b c : Budget) : Type 0 where
+  pub counts : Counts (mode_of m) b c
+  pub within : IsWithin b → IsWithin c
+  pub mode : mode_of n ≡ mode_of m
+
+-- what comes next that is no text, behind all texts that were written before it
+pub record IsNext {M : Type 0} (lines : Lines) (n : MachineView M) (c : Budget) (given : ℕ) (program : List PredTree) (q : QueryTree) (happening : Happening) (writes : List SinkWrite) : Type 0 where
+  pub before : MachineView M
+  pub budget : Budget
+  pub so_far : IsSoFar lines before budget given program q writes
+  pub called : Called before n budget c
+  pub happens : HappensByTicks (query_view []) program q so_far.events before n budget c happening
+  pub no_text : (text : List ℕ) → happening ≡ Happening.Out text → ⊥
+  pub lasts : end_of n ≡ lasting happening
+
+-- that, or the writing of a text is cut off
+abbrev pub NextComes : {M : Type 0} → Lines → ℕ → ℕ → List PredTree → QueryTree → MachineView M → Budget → Result Happening Stop → List SinkWrite → Type 0
+NextComes lines answers given program q n c (Ok happening) writes = IsNext lines n c given program q happening writes
+NextComes lines answers given program q n c (Err stop) writes = QueryIsCut lines answers c.steps program q c.ticks (status_of_stop stop) writes
+
+-- what it comes to, by what is answered
+abbrev pub ComesTo : Lines → ℕ → ℕ → List PredTree → QueryTree → ℕ → Result ℕ Stop → List SinkWrite → Type 0
+ComesTo lines answers steps program q ticks (Ok status) writes = QueryEnds lines answers steps program q ticks status writes
+ComesTo lines answers steps program q ticks (Err stop) writes = QueryIsCut lines answers steps program q ticks (status_of_stop stop) writes
+
+-- it is listed behind those that were run before, with its Ticks, and comes to this
+pub record IsListed (lines : Lines) (answers steps : ℕ) (program : List PredTree) (q : QueryTree) (old new : List QueryRun) (r : Result ℕ Stop) (writes : List SinkWrite) : Type 0 where
+  pub ticks : ℕ
+  pub listed : new ≡ old ++ run_of ticks ∷ []
+  pub within : ticks ≤ steps
+  pub comes : ComesTo lines answers steps program q ticks r writes
+
+-- or memory is wanted before it is asked, and nothing is listed or written
+pub data HasRun (lines : Lines) (answers steps : ℕ) (program : List PredTree) (q : QueryTree) (old new : List QueryRun) (r : Result ℕ Stop) (writes : List SinkWrite) : Type 0 where
+  not_asked : r ≡ Err Memory → new ≡ old → writes ≡ [] → HasRun lines answers steps program q old new r writes
+  was_asked : IsListed lines answers steps program q old new r writes → HasRun lines answers steps program q old new r writes
