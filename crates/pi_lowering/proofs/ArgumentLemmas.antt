@@ -15,7 +15,7 @@ use Rattle.pi_lowered.specs.Goals.{no_value, value_at}
 use Rattle.pi_lowered.specs.Sites.{Site}
 use Rattle.pi_lowered.specs.Written.{made, is_range, collection_of}
 use Rattle.pi_lowered.specs.Helpers.{value_helpers, helpers_at, collection_helpers}
-use Rattle.pi_units.specs.Planned.{IsCollectionOver}
+use Rattle.pi_lowering.specs.Planned.{IsCollectionOver}
 use Rattle.pi_lowering.proofs.ValueLemmas.{put-none}
 
 -- whether it is a call

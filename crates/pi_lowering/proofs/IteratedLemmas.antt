@@ -21,9 +21,9 @@ use Rattle.pi_helpers.specs.Helpers.{loop_of, lowered}
 use Rattle.pi_helpers.specs.declared.loops.Loop.{Loop}
 use Rattle.pi_helpers.proofs.WholeLemmas.{comprehension-whole}
 use Rattle.pi_lowering.specs.Lowering.{by_place}
-use Rattle.pi_units.specs.Opened.{onto, all_around, all_own, AreOpen}
-use Rattle.pi_units.specs.Started.{Begins, Ends}
-use Rattle.pi_units.specs.declared.units.Open.{Open}
+use Rattle.pi_lowering.specs.Opened.{onto, all_around, all_own, AreOpen}
+use Rattle.pi_lowering.specs.Started.{Begins, Ends}
+use Rattle.pi_lowering.specs.declared.opened.Open.{Open}
 use Rattle.pi_lowering.proofs.ValueLemmas.{value-as, goals-as}
 
 -- ---- what is open, with what stands in the loop

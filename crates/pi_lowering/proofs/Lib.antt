@@ -16,3 +16,6 @@ pub mod OverLemmas
 pub mod ArgumentLemmas
 pub mod IteratedLemmas
 pub mod UnitLemmas
+pub mod OpenLemmas
+pub mod PlanLemmas
+pub mod CloseLemmas

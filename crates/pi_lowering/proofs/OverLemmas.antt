@@ -23,7 +23,7 @@ use Rattle.pi_helpers.specs.Helpers.{range_between}
 use Rattle.pi_helpers.specs.declared.ranges.Bounds.{Bounds}
 use Rattle.pi_helpers.proofs.WholeLemmas.{iterator-whole, range-whole}
 use Rattle.pi_lowering.specs.Lowering.{by_place}
-use Rattle.pi_units.specs.Planned.{IsRangeOver, IsCollectionOver, IsGoneOver}
+use Rattle.pi_lowering.specs.Planned.{IsRangeOver, IsCollectionOver, IsGoneOver}
 use Rattle.pi_lowering.proofs.ValueLemmas.{value-as, goals-as, two-values, three-values}
 use Rattle.pi_lowering.proofs.HelperLemmas.{behind-both}
 

@@ -23,12 +23,12 @@ use Rattle.pi_helpers.specs.Parts.{AreGoals, IsAlone, IsValue}
 use Rattle.pi_helpers.specs.Helpers.{loop_of, ending_of, lowered}
 use Rattle.pi_helpers.specs.declared.loops.Loop.{Loop}
 use Rattle.pi_helpers.proofs.WholeLemmas.{adding-whole}
-use Rattle.pi_units.specs.Opened.{OpenTo, AreOpen, StepTo}
-use Rattle.pi_units.specs.Planned.{inner_in, IsPlanned, IsIterator, IsGoneOver}
-use Rattle.pi_units.specs.declared.inner.Planned.{Planned}
-use Rattle.pi_units.specs.declared.units.Open.{Open}
-use Rattle.pi_units.specs.declared.units.Open.TheVariants.{Test, Iterator}
-use Rattle.pi_units.proofs.OpenLemmas.{opened_by, open-more, all-open, step-test, step-iterator}
+use Rattle.pi_lowering.specs.Opened.{OpenTo, AreOpen, StepTo}
+use Rattle.pi_lowering.specs.Planned.{inner_in, IsPlanned, IsIterator, IsGoneOver}
+use Rattle.pi_lowering.specs.declared.inner.Planned.{Planned}
+use Rattle.pi_lowering.specs.declared.opened.Open.{Open}
+use Rattle.pi_lowering.specs.declared.opened.Open.TheVariants.{Test, Iterator}
+use Rattle.pi_lowering.proofs.OpenLemmas.{opened_by, open-more, all-open, step-test, step-iterator}
 use Rattle.pi_lowering.specs.Lowering.{With, by_place}
 use Rattle.pi_lowering.specs.Opening.{Iterates, OpensUnit, EndsLoop, Gathers, EndsGathering}
 use Rattle.pi_lowering.specs.declared.whole.Iterating.{Iterating}

@@ -5,3 +5,6 @@ pub mod Calls
 pub mod Opening
 pub mod Shapes
 pub mod Turning
+pub mod Planned
+pub mod Opened
+pub mod Started

@@ -17,11 +17,11 @@ use Rattle.pi_sites.specs.SiteOf.{site_of}
 use Rattle.pi_helpers.specs.Parts.{AreGoals, goals_before}
 use Rattle.pi_helpers.specs.Helpers.{ending_of, lowered}
 use Rattle.pi_helpers.specs.declared.loops.Loop.{Loop}
-use Rattle.pi_units.specs.Planned.{inner_in, IsPlanned}
-use Rattle.pi_units.specs.Opened.{all_around, all_own, StepTo}
-use Rattle.pi_units.specs.Started.{Begins, Ends}
-use Rattle.pi_units.specs.declared.inner.Planned.{Planned}
-use Rattle.pi_units.specs.declared.units.Open.{Open}
+use Rattle.pi_lowering.specs.Planned.{inner_in, IsPlanned}
+use Rattle.pi_lowering.specs.Opened.{all_around, all_own, StepTo}
+use Rattle.pi_lowering.specs.Started.{Begins, Ends}
+use Rattle.pi_lowering.specs.declared.inner.Planned.{Planned}
+use Rattle.pi_lowering.specs.declared.opened.Open.{Open}
 use Rattle.pi_lowering.specs.declared.whole.Iterating.{Iterating}
 use Rattle.pi_lowering.specs.declared.whole.Comprehension.{Comprehension}
 use Rattle.pi_lowering.specs.declared.whole.Around.{Around}

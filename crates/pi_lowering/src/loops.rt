@@ -10,12 +10,12 @@ ghost use Rattle.pi_sites.specs.SiteOf.{site_of};
 ghost use Rattle.pi_helpers.specs.Helpers.{loop_of, lowered};
 ghost use Rattle.pi_lowering.specs.Turning.{HasTurns, EndsTurns};
 
+use crate::turn_sites::turns_of;
 use pi_core::{CoreGoal, CorePred};
 use pi_helpers::{Ending, Loop, do_helper, loop_slots, push_loop, while_helper};
 use pi_sites::{Site, helpers_in, kept_names, push_assigned, push_names, those, together};
 use pi_slots::Slots;
 use pi_syntax::Exp;
-use pi_units::turns_of;
 use std::alloc::{AllocError, Global};
 use std::mem;
 

@@ -6,10 +6,11 @@ ghost use Rattle.pi_syntax.specs.ExpLists.{exps_of};
 ghost use Rattle.pi_lowered.specs.Helpers.{collection_helpers};
 ghost use Rattle.pi_sites.specs.SiteOf.{site_of};
 ghost use Rattle.pi_helpers.specs.Helpers.{loop_of};
-ghost use Rattle.pi_units.specs.Planned.{IsOver, IsGoneOver};
+ghost use Rattle.pi_lowering.specs.Planned.{IsOver, IsGoneOver};
 ghost use Rattle.pi_lowering.specs.Lowering.{With};
 ghost use Rattle.pi_lowering.specs.Shapes.{IsSpan, IsStepped};
 
+use crate::gone_over::Over;
 use crate::values::{no_value, value};
 use pi_core::{CoreGoal, CorePred};
 use pi_helpers::{Bounds, Loop, push_over, push_started, push_through};
@@ -17,7 +18,6 @@ use pi_sites::Site;
 use pi_slots::{Slots, is_flat};
 use pi_syntax::Exp;
 use pi_terms::Term;
-use pi_units::Over;
 use std::alloc::{AllocError, Global};
 
 /// Puts an iterator behind the goals where it stands, with what it goes over. Answers whether that is a range.

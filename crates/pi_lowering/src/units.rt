@@ -5,16 +5,17 @@ ghost use Rattle.pi_syntax.specs.ExpTree.{exp_tree};
 ghost use Rattle.pi_syntax.specs.ExpLists.{exps_of};
 ghost use Rattle.pi_sites.specs.SiteOf.{site_of};
 ghost use Rattle.pi_helpers.specs.Helpers.{ending_of};
-ghost use Rattle.pi_units.specs.Planned.{inner_in};
-ghost use Rattle.pi_units.specs.Opened.{AreOpen};
+ghost use Rattle.pi_lowering.specs.Planned.{inner_in};
+ghost use Rattle.pi_lowering.specs.Opened.{AreOpen};
 ghost use Rattle.pi_lowering.specs.Opening.{OpensUnit};
 
 use crate::goals::alone;
+use crate::inner::{Inner, Planned, plan_of};
+use crate::opened::{Inside, Iterated, Open};
 use crate::over::push_gone_over;
 use pi_core::CorePred;
 use pi_helpers::Ending;
 use pi_syntax::Exp;
-use pi_units::{Inner, Inside, Iterated, Open, Planned, plan_of};
 use std::alloc::{AllocError, Global};
 use std::mem;
 

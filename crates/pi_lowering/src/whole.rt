@@ -11,15 +11,15 @@ ghost use Rattle.pi_sites.specs.SiteOf.{site_of};
 ghost use Rattle.pi_helpers.specs.Helpers.{lowered};
 ghost use Rattle.pi_lowering.specs.Opening.{Iterates, EndsLoop, Gathers, EndsGathering};
 
+use crate::inner::{Inner, gathering, inner_of, kept_by};
+use crate::iterated::{Start, begin, finish, gathered_at};
+use crate::opened::{Inside, Open, close};
 use pi_core::{CoreGoal, CorePred};
 use pi_helpers::{Ending, Loop, begun, gathered, push_adding, push_started};
 use pi_sites::Site;
 use pi_slots::Slots;
 use pi_syntax::Exp;
 use pi_terms::Term;
-use pi_units::{
-    Inner, Inside, Open, Start, begin, close, finish, gathered_at, gathering, inner_of, kept_by,
-};
 use std::alloc::{AllocError, Global};
 
 /// A loop over iterators and tests that has begun: what stands in it, the loop that it is itself where it begins with a test,

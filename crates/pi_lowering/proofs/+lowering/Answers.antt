@@ -36,15 +36,15 @@ use Rattle.pi_lowering.proofs.NeverLemmas.{never-var, never-int, never-str, neve
 use Rattle.pi_lowering.proofs.AssignLemmas.{assigned-call, assigned-value}
 use Rattle.pi_lowering.proofs.BranchLemmas.{no-arrow, arrow-branch, goal-branch, branches-none, branches-more, branches-end, conditions-none, conditions-more, conditions-end}
 use Rattle.pi_lowering.proofs.MadeLemmas.{put-made_onto, put-made_list, put-made_array, made-call, put-made_index, put-made_range, put-made_range_by, flip-and, no_value-as, none-var, none-int, none-atom, none-str, none-quote, none-at, none-and, none-or, none-arrow, none-if, none-foreach, none-while, none-do_while, bare-var, bare-int, bare-atom, bare-str, bare-quote, bare-at, bare-and, bare-or, bare-arrow, bare-if, bare-foreach, bare-while, bare-do_while, put-call_found, put-call_counted, put-call_applied}
-use Rattle.pi_units.specs.Planned.{inner_in}
-use Rattle.pi_units.proofs.OpenLemmas.{none-open}
+use Rattle.pi_lowering.specs.Planned.{inner_in}
+use Rattle.pi_lowering.proofs.OpenLemmas.{none-open}
 use Rattle.pi_lowering.proofs.UnitLemmas.{opens-test, opens-iterator, units-more, units-end, foreach-whole, collect-whole}
 use Rattle.std.proofs.Common.{get_or, subst}
 use Rattle.pi_syntax.specs.ExpTree.{ExpTree, ExpTrees, call, exp}
 use Rattle.pi_lowered.specs.Helpers.{collection_helpers}
 use Rattle.pi_lowering.specs.Lowering.{With}
-use Rattle.pi_units.specs.Planned.{IsOver}
-use Rattle.pi_units.specs.declared.over.Over.{Over}
+use Rattle.pi_lowering.specs.Planned.{IsOver}
+use Rattle.pi_lowering.specs.declared.gone_over.Over.{Over}
 use Rattle.pi_lowering.proofs.OverLemmas.{not-range, over-collection, over-range, collection-found, two-found, three-found, collection-helped}
 use Rattle.pi_lowering.proofs.ArgumentLemmas.{GoesOverNone, none-found, no-call, not-call, few-arguments, two-first}
 use Rattle.pi_lowering.proofs.+lowering.Goals as goal

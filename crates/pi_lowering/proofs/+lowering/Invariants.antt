@@ -11,8 +11,8 @@ use Rattle.pi_slots.specs.Branches.{branches_in}
 use Rattle.pi_sites.specs.SiteOf.{site_of}
 use Rattle.pi_helpers.specs.Parts.{IsValue}
 use Rattle.pi_helpers.specs.Helpers.{ending_of}
-use Rattle.pi_units.specs.Planned.{inner_in}
-use Rattle.pi_units.specs.Opened.{OpenTo}
+use Rattle.pi_lowering.specs.Planned.{inner_in}
+use Rattle.pi_lowering.specs.Opened.{OpenTo}
 use Rattle.pi_lowering.specs.Lowering.{values_of}
 use Rattle.pi_lowering.proofs.PartLemmas.{places_in, ValuesTo, GoalsTo, IndexedTo}
 use Rattle.pi_lowering.proofs.HelperLemmas.{Going}

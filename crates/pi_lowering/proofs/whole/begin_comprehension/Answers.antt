@@ -8,7 +8,7 @@ use Rattle.pi_slots.specs.Indexed.{names_in}
 use Rattle.pi_sites.specs.SiteOf.{site_of}
 use Rattle.pi_helpers.specs.Parts.{AreGoals, goals_before}
 use Rattle.pi_helpers.specs.Helpers.{ending_of}
-use Rattle.pi_units.specs.Started.{Begins}
+use Rattle.pi_lowering.specs.Started.{Begins}
 use Rattle.pi_lowering.proofs.whole.begin_comprehension.Goals as goal
 
 pub returns : goal.returns

@@ -8,8 +8,8 @@ use Rattle.pi_lowered.specs.Written.{Inner, inner_of}
 use Rattle.pi_slots.specs.Indexed.{names_in}
 use Rattle.pi_sites.specs.SiteOf.{site_of}
 use Rattle.pi_helpers.specs.Helpers.{ending_of}
-use Rattle.pi_units.specs.Planned.{inner_in}
-use Rattle.pi_units.specs.Started.{Begins}
+use Rattle.pi_lowering.specs.Planned.{inner_in}
+use Rattle.pi_lowering.specs.Started.{Begins}
 use Rattle.pi_lowering.proofs.IteratedLemmas.{foreach-keeps}
 use Rattle.pi_lowering.proofs.whole.begin_foreach.Goals as goal
 

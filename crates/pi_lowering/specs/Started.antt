@@ -12,7 +12,7 @@ use Rattle.pi_sites.specs.SiteOf.{site_of}
 use Rattle.pi_helpers.specs.Parts.{AreGoals}
 use Rattle.pi_helpers.specs.Helpers.{loop_of, ending_of, lowered}
 use Rattle.pi_helpers.specs.declared.loops.Loop.{Loop}
-use Rattle.pi_units.specs.declared.iterated.Start.{Start}
+use Rattle.pi_lowering.specs.declared.iterated.Start.{Start}
 
 -- a loop begins with an iterator, which stands where the loop does
 pub record BeginsOpen (s : Site) (ending : Ending) (us : ExpTrees) (old : SlotNames) (t : Site) (now : Ending) (goals : List GoalTree) (ms : SlotNames) : Type 0 where

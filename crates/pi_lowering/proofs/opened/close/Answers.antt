@@ -3,8 +3,8 @@ use Rattle.std.proofs.Common.{sym, ◌∙◌}
 use Rattle.std.specs.Prelude.{map}
 use Rattle.pi_core.specs.CoreTree.{pred_tree}
 use Rattle.pi_helpers.specs.Helpers.{lowered}
-use Rattle.pi_units.proofs.CloseLemmas.{close-first, close-next, no-more, close-goals, close-helpers}
-use Rattle.pi_units.proofs.units.close.Goals as goal
+use Rattle.pi_lowering.proofs.CloseLemmas.{close-first, close-next, no-more, close-goals, close-helpers}
+use Rattle.pi_lowering.proofs.opened.close.Goals as goal
 
 pub loop-last-init : goal.loop-last-init
 loop-last-init c = close-first c.args.opened.now.items (lowered c.args.goals.now.items c.args.slots.now) (map pred_tree c.args.helpers.now.items)

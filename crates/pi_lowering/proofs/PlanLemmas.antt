@@ -12,7 +12,7 @@ use Rattle.pi_lowered.specs.Iterators.{walk_slots, turn_slots}
 use Rattle.pi_lowered.specs.Written.{Inner, loop_at, iterator_loop, turn_name, elements_of}
 use Rattle.pi_lowered.proofs.EnteredLemmas.{values-long}
 use Rattle.pi_sites.specs.TextNames.{kept_of}
-use Rattle.pi_units.specs.Planned.{loop_over}
+use Rattle.pi_lowering.specs.Planned.{loop_over}
 
 pub plan-loop : (s : Site) (ending : Ending) (i : Inner) (n : ℕ) (own : Names) (u e : ExpTree) (us : ExpTrees) → iterated u ≡ Some e → n ≡ helpers_in u + (helpers_in_units us + i.count) → own ≡ places e → loop_over s ending i n own us ≡ iterator_loop s ending i u us e
 unfolding patterns_of

@@ -9,7 +9,7 @@ ghost use Rattle.pi_slots.specs.Indexed.{names_in};
 ghost use Rattle.pi_sites.specs.SiteOf.{site_of};
 ghost use Rattle.pi_sites.specs.TextNames.{kept_of};
 ghost use Rattle.pi_helpers.specs.Helpers.{loop_of, ending_of};
-ghost use Rattle.pi_units.specs.Planned.{inner_in, loop_over, IsPlan, IsPlanned};
+ghost use Rattle.pi_lowering.specs.Planned.{inner_in, loop_over, IsPlan, IsPlanned};
 
 use pi_helpers::{Element, Ending, Loop, matching};
 use pi_sites::{

@@ -17,10 +17,10 @@ use Rattle.pi_helpers.specs.Parts.{AreGoals, IsValue, IsRange}
 use Rattle.pi_helpers.specs.Helpers.{loop_of, IsElement}
 use Rattle.pi_helpers.specs.declared.ranges.Bounds.{Bounds}
 use Rattle.pi_terms.specs.Tree.{Tree}
-use Rattle.pi_units.specs.declared.inner.Inner.{Inner}
-use Rattle.pi_units.specs.declared.inner.Planned.{Planned}
-use Rattle.pi_units.specs.declared.over.Over.{Over}
-use Rattle.pi_units.specs.declared.over.Over.TheVariants.{Range, Collection}
+use Rattle.pi_lowering.specs.declared.inner.Inner.{Inner}
+use Rattle.pi_lowering.specs.declared.inner.Planned.{Planned}
+use Rattle.pi_lowering.specs.declared.gone_over.Over.{Over}
+use Rattle.pi_lowering.specs.declared.gone_over.Over.TheVariants.{Range, Collection}
 
 -- what stands in a loop, as code has it
 abbrev pub inner_in : Inner → InnerTree

@@ -6,12 +6,12 @@ ghost use Rattle.pi_lowered.specs.Written.{gathered_at as gathered_by};
 ghost use Rattle.pi_slots.specs.Indexed.{names_in};
 ghost use Rattle.pi_sites.specs.SiteOf.{site_of};
 ghost use Rattle.pi_helpers.specs.Helpers.{ending_of};
-ghost use Rattle.pi_units.specs.Planned.{inner_in};
-ghost use Rattle.pi_units.specs.Started.{IsStart, Ends};
+ghost use Rattle.pi_lowering.specs.Planned.{inner_in};
+ghost use Rattle.pi_lowering.specs.Started.{IsStart, Ends};
 
 use crate::inner::{Inner, start_loop};
-use crate::loops::turns_of;
-use crate::units::Inside;
+use crate::opened::Inside;
+use crate::turn_sites::turns_of;
 use pi_core::{CoreGoal, CorePred};
 use pi_helpers::{Ending, Loop, loop_slots, only_turn_helper, push_loop};
 use pi_sites::{Site, begins_with_iterator};

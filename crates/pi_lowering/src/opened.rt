@@ -2,7 +2,7 @@
 ghost use Rattle.std.specs.Prelude.{◌≡◌, ◌++◌, map, IfOk};
 ghost use Rattle.pi_core.specs.CoreTree.{pred_tree};
 ghost use Rattle.pi_helpers.specs.Helpers.{lowered};
-ghost use Rattle.pi_units.specs.Opened.{around, own_of, all_around, all_own};
+ghost use Rattle.pi_lowering.specs.Opened.{around, own_of, all_around, all_own};
 
 use pi_core::{CoreGoal, CorePred};
 use pi_helpers::{Element, Loop, in_turn, push_own};

@@ -2,8 +2,8 @@ use Rattle.std.proofs.Common.{◌≡◌, vec_len}
 use Rattle.std.specs.Prelude.{map}
 use Rattle.pi_core.specs.CoreTree.{pred_tree}
 use Rattle.pi_helpers.specs.Helpers.{lowered}
-use Rattle.pi_units.proofs.CloseLemmas.{Closing}
-use Rattle.pi_units.proofs.units.close.Given as goal
+use Rattle.pi_lowering.proofs.CloseLemmas.{Closing}
+use Rattle.pi_lowering.proofs.opened.close.Given as goal
 
 -- those that are left are closed around what the others were closed to
 abbrev pub invariant-loop-last : goal.invariant-loop-last

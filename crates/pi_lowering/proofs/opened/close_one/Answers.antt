@@ -5,9 +5,9 @@ use Rattle.std.proofs.lemmas.List.{append-nil}
 use Rattle.pi_core.specs.CoreTree.{PredTree, pred_tree}
 use Rattle.pi_lowered.specs.Goals.{SlotGoals, in_turn}
 use Rattle.pi_helpers.specs.Helpers.{lowered, own_by, loop_of}
-use Rattle.pi_units.specs.Opened.{around, own_of, element_pattern}
-use Rattle.pi_units.proofs.CloseLemmas.{close-test, own-element}
-use Rattle.pi_units.proofs.units.close_one.Goals as goal
+use Rattle.pi_lowering.specs.Opened.{around, own_of, element_pattern}
+use Rattle.pi_lowering.proofs.CloseLemmas.{close-test, own-element}
+use Rattle.pi_lowering.proofs.opened.close_one.Goals as goal
 
 pub returns-in_ok-push-in-Test-clause-goals : goal.returns-in_ok-push-in-Test-clause-goals
 returns-in_ok-push-in-Test-clause-goals c =

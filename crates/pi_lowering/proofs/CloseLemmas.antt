@@ -9,10 +9,10 @@ use Rattle.pi_lowered.specs.Slots.{SlotNames, unnamed}
 use Rattle.pi_lowered.specs.Goals.{SlotGoals, in_turn}
 use Rattle.pi_helpers.specs.Helpers.{IsElement, lowered}
 use Rattle.pi_helpers.specs.declared.elements.Element.{Element}
-use Rattle.pi_units.specs.Opened.{element_pattern, around, own_of, all_around, all_own}
-use Rattle.pi_units.specs.declared.units.Open.{Open}
-use Rattle.pi_units.specs.declared.units.Open.TheVariants.{Test}
-use Rattle.pi_units.proofs.OpenLemmas.{around-push, own-push}
+use Rattle.pi_lowering.specs.Opened.{element_pattern, around, own_of, all_around, all_own}
+use Rattle.pi_lowering.specs.declared.opened.Open.{Open}
+use Rattle.pi_lowering.specs.declared.opened.Open.TheVariants.{Test}
+use Rattle.pi_lowering.proofs.OpenLemmas.{around-push, own-push}
 
 -- ---- one
 

@@ -21,12 +21,12 @@ use Rattle.pi_helpers.specs.Parts.{IsAlone}
 use Rattle.pi_helpers.specs.Helpers.{IsElement, loop_of, lowered, own_by}
 use Rattle.pi_sites.specs.SiteOf.{site_of}
 use Rattle.pi_helpers.specs.declared.elements.Element.{Element}
-use Rattle.pi_units.specs.Opened.{element_pattern, onto, around, own_of, all_around, all_own, AreOpen, OpenTo, StepTo}
-use Rattle.pi_units.specs.Planned.{IsIterator, IsGoneOver}
-use Rattle.pi_units.specs.declared.inner.Planned.{Planned}
-use Rattle.pi_units.specs.declared.units.Iterated.{Iterated}
-use Rattle.pi_units.specs.declared.units.Open.{Open}
-use Rattle.pi_units.specs.declared.units.Open.TheVariants.{Test, Iterator}
+use Rattle.pi_lowering.specs.Opened.{element_pattern, onto, around, own_of, all_around, all_own, AreOpen, OpenTo, StepTo}
+use Rattle.pi_lowering.specs.Planned.{IsIterator, IsGoneOver}
+use Rattle.pi_lowering.specs.declared.inner.Planned.{Planned}
+use Rattle.pi_lowering.specs.declared.opened.Iterated.{Iterated}
+use Rattle.pi_lowering.specs.declared.opened.Open.{Open}
+use Rattle.pi_lowering.specs.declared.opened.Open.TheVariants.{Test, Iterator}
 
 -- ---- one more behind those that are open
 

@@ -12,8 +12,8 @@ use Rattle.pi_lowered.specs.Written.{Inner, units}
 use Rattle.pi_lowered.specs.Helpers.{units_helpers}
 use Rattle.pi_helpers.specs.Helpers.{loop_of, own_by}
 use Rattle.pi_helpers.specs.declared.elements.Element.{Element}
-use Rattle.pi_units.specs.declared.units.Open.{Open}
-use Rattle.pi_units.specs.declared.units.Open.TheVariants.{Test, Iterator}
+use Rattle.pi_lowering.specs.declared.opened.Open.{Open}
+use Rattle.pi_lowering.specs.declared.opened.Open.TheVariants.{Test, Iterator}
 
 -- the pattern of elements, by how many slots it has
 abbrev pub element_pattern : Element → SlotPattern

@@ -9,9 +9,9 @@ use Rattle.pi_sites.specs.SiteOf.{site_of}
 use Rattle.pi_sites.specs.TextNames.{names_of}
 use Rattle.pi_helpers.specs.Helpers.{loop_of, ending_of}
 use Rattle.pi_lowered.specs.Iterators.{turn_slots}
-use Rattle.pi_units.specs.Planned.{inner_in}
-use Rattle.pi_units.proofs.PlanLemmas.{plan-loop, plan-turn, plan-site}
-use Rattle.pi_units.proofs.inner.plan.Goals as goal
+use Rattle.pi_lowering.specs.Planned.{inner_in}
+use Rattle.pi_lowering.proofs.PlanLemmas.{plan-loop, plan-turn, plan-site}
+use Rattle.pi_lowering.proofs.inner.plan.Goals as goal
 
 pub returns : goal.returns
 unfolding names_of

@@ -1,3 +1,0 @@
-pub mod OpenLemmas
-pub mod PlanLemmas
-pub mod CloseLemmas

@@ -1,3 +1,0 @@
-pub mod Planned
-pub mod Opened
-pub mod Started
