@@ -2,7 +2,7 @@
 use Rattle.std.specs.Prelude.{◌≡◌, ℕ, Bool, List, ◌++◌, Option, Some, None}
 use Rattle.std.proofs.Common.{sym, ◌∙◌, ap, append_assoc, append-nil}
 use Rattle.pi_constraints.specs.declared.domain.Span.{Span}
-use Rattle.pi_states.specs.declared.event.Event.{Event}
+use Rattle.pi_constraints.specs.declared.event.Event.{Event}
 use Rattle.pi_settling.specs.Events.{ins_events, bound_events, excluded_events, variable_events}
 
 pub without-old : (v : ℕ) (o n : Option (List Span)) (is_term : Bool) (events : List Event) → o ≡ None → events ≡ ins_events is_term v → events ≡ variable_events v o n is_term

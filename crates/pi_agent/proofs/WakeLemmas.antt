@@ -3,13 +3,13 @@ use Rattle.std.specs.Prelude.{◌≡◌, ◌↔◌, ℕ, ℤ, zero, suc, ◌+◌
 use Rattle.std.proofs.Common.{arith, sym, ◌∙◌, ap, subst, get_or, append_assoc, append-nil, drop}
 use Rattle.std.proofs.lemmas.Option.{slice_get-get_or}
 use Rattle.pi_terms.specs.Tree.{Tree, int}
-use Rattle.pi_states.specs.Value.{Bindings, IsAcyclic}
-use Rattle.pi_states.specs.State.{State, Agent, WatchTree, on_ins, on_bound, on_dom, on_dom_any, on_posted, bindings, LeadsTo}
-use Rattle.pi_states.specs.Store.{StoreView, IsTerm, IsWatch, AreWatches}
-use Rattle.pi_states.specs.declared.event.Watch.{Watch}
-use Rattle.pi_states.specs.declared.event.Event.{Event}
-use Rattle.pi_states.specs.declared.event.Activation.{Activation}
-use Rattle.pi_states.specs.declared.store.Ref.{Ref}
+use Rattle.pi_constraints.specs.Value.{Bindings, IsAcyclic}
+use Rattle.pi_constraints.specs.State.{State, Agent, WatchTree, on_ins, on_bound, on_dom, on_dom_any, on_posted, bindings, LeadsTo}
+use Rattle.pi_constraints.specs.Store.{StoreView, IsTerm, IsWatch, AreWatches}
+use Rattle.pi_constraints.specs.declared.event.Watch.{Watch}
+use Rattle.pi_constraints.specs.declared.event.Event.{Event}
+use Rattle.pi_constraints.specs.declared.event.Activation.{Activation}
+use Rattle.pi_constraints.specs.declared.store.Ref.{Ref}
 use Rattle.pi_settling.specs.Answers.{leads_to, given_if, answer_to, activation_or, first_answered, activations_from, activations}
 use Rattle.pi_settling.proofs.AnswerLemmas.{leads_are_followed}
 use Rattle.pi_agent.specs.Woken.{event_value}

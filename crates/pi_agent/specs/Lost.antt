@@ -2,7 +2,7 @@
 use Rattle.std.specs.Prelude.{◌≡◌, ℕ, ℤ, ◌≤ℤ◌, false, true, not, ◌&&◌, int_lt, List, map, filter, Option, Some, None}
 use Rattle.pi_constraints.specs.declared.domain.Span.{Span}
 use Rattle.pi_constraints.specs.Domain.{IsWithinBounds, has_value, numbers_from}
-use Rattle.pi_states.specs.declared.event.Event.{Event}
+use Rattle.pi_constraints.specs.declared.event.Event.{Event}
 
 -- the events of values that were lost, where inner ones lie strictly between these ends
 abbrev pub excluded : ℕ → Span → List ℤ → List Event

@@ -6,8 +6,7 @@ ghost use Rattle.pi_constraints.specs.Domain.{IsDomain, IsWithinBounds};
 ghost use Rattle.pi_settling.specs.Events.{lost_values};
 ghost use Rattle.pi_agent.specs.Lost.{excluded, lost_from, ShowsEnd};
 
-use pi_constraints::{Domain, Span};
-use pi_states::{Event, Events};
+use pi_constraints::{Domain, Event, Events, Span};
 use std::alloc::AllocError;
 
 /// Puts an event for each value that `old` has and `new` doesn't behind others, ascending. A value that lies strictly

@@ -5,8 +5,7 @@ ghost use Rattle.pi_filters.specs.Ends.{least_of, greatest_of};
 ghost use Rattle.pi_settling.specs.Events.{variable_events, domain_events, ins_events, bound_events, excluded_events, same_ends};
 
 use crate::losses::push_lost;
-use pi_constraints::{Domain, Span, size};
-use pi_states::{Event, Events};
+use pi_constraints::{Domain, Event, Events, Span, size};
 use std::alloc::{AllocError, Global};
 
 /// The most values of a domain whose lost values are told one by one. The number is own.

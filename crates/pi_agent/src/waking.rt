@@ -1,12 +1,12 @@
 //! The activations that events make.
 ghost use Rattle.std.specs.Prelude.{◌≡◌, ◌++◌, [], IfOk, Some, slice_get, cond, is_some};
-ghost use Rattle.pi_states.specs.Value.{IsAcyclic};
-ghost use Rattle.pi_states.specs.State.{Agent, WatchTree, bindings};
-ghost use Rattle.pi_states.specs.Store.{IsWatch, AreWatches};
+ghost use Rattle.pi_constraints.specs.Value.{IsAcyclic};
+ghost use Rattle.pi_constraints.specs.State.{Agent, WatchTree, bindings};
+ghost use Rattle.pi_constraints.specs.Store.{IsWatch, AreWatches};
 ghost use Rattle.pi_settling.specs.Answers.{activations as woken_by, activations_from, first_answered, answer_to};
 ghost use Rattle.pi_agent.specs.Woken.{event_value};
 
-use pi_states::{Activation, Activations, Event, Events, StateStore, Watch};
+use pi_constraints::{Activation, Activations, Event, Events, StateStore, Watch};
 use pi_terms::Term;
 use std::alloc::{AllocError, Global};
 

@@ -1,7 +1,7 @@
 -- What a mark of the blocks brings back, over writes, pushes and cuts.
 use Rattle.std.proofs.Common.{◌≡◌, ℕ, ◌+◌, ◌-◌, ◌≤◌, ◌<◌, List, [], ◌∷◌, ◌++◌, Option, Some, length, take, drop, set, get_or, min, refl, sym, ◌∙◌, ap, subst, map, replicate, append_assoc, arith}
 use Rattle.std.proofs.lemmas.List.{take-set-le, set-get_or, take-append-le, drop-append-le, take-append-drop, length-take, length-set, length-append, set_past, drop_all, map-append, take_more, append-nil, take_all}
-use Rattle.pi_states.specs.declared.store.Ref.{Ref}
+use Rattle.pi_constraints.specs.declared.store.Ref.{Ref}
 use Rattle.pi_arenas.specs.declared.blocks.Written.{Written}
 use Rattle.pi_arenas.specs.declared.blocks.BlocksMark.{BlocksMark}
 use Rattle.pi_terms.proofs.ListLemmas.{take-set, set-set, take-take}

@@ -2,7 +2,7 @@
 use Rattle.std.specs.Prelude.{◌≡◌, ◌-◌, ◌≤◌, max, take, [], ◌∷◌, ◌++◌, ℕ, zero, suc, List, Option, Some, None, slice_get, length}
 pub use Rattle.pi_arenas.specs.declared.arenas.Entry.{Entry}
 use Rattle.pi_terms.specs.Tree.{Tree}
-use Rattle.pi_states.specs.Store.{StoreView, Marks, IsGood, Returns}
+use Rattle.pi_constraints.specs.Store.{StoreView, Marks, IsGood, Returns}
 use Rattle.pi_arenas.specs.declared.arenas.Kind.{Kind}
 use Rattle.pi_arenas.specs.declared.arenas.Back.{Back}
 use Rattle.pi_arenas.specs.declared.arenas.Arenas.{Arenas}

@@ -1,6 +1,6 @@
 -- The slots of all calls that are under way, and what a mark of them brings back.
 use Rattle.std.specs.Prelude.{◌≡◌, ℕ, ◌≤◌, List, [], ◌∷◌, Option, length, take, drop, slice_set}
-use Rattle.pi_states.specs.declared.store.Ref.{Ref}
+use Rattle.pi_constraints.specs.declared.store.Ref.{Ref}
 use Rattle.pi_arenas.specs.declared.blocks.Written.{Written}
 use Rattle.pi_arenas.specs.declared.blocks.BlocksMark.{BlocksMark}
 

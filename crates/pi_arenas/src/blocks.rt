@@ -2,7 +2,7 @@
 ghost use Rattle.std.specs.Prelude.{◌≡◌, ℕ, ◌+◌, ◌-◌, ◌<◌, ◌++◌, ◌∷◌, [], ◌≤◌, Option, Some, None, false, cond, length, map, max, replicate, take, drop, slice_set, slice_index_or, slice_get, IfOk, OnErr};
 ghost use Rattle.pi_arenas.specs.Blocks.{KeepsBlocks, IsKept, IsOlder, brought_back, slots_before};
 
-use pi_states::Ref;
+use pi_constraints::Ref;
 use std::alloc::{AllocError, Global};
 use std::marker::Model;
 

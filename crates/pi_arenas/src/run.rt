@@ -10,7 +10,7 @@ ghost use Rattle.pi_arenas.specs.Arenas.{no_arenas};
 
 use crate::arenas::Arenas;
 use crate::frames::Point;
-use pi_states::{Ref, StateStore};
+use pi_constraints::{Ref, StateStore};
 use pi_terms::{Term, Text};
 use pi_unify::Slots;
 use std::alloc::Global;

@@ -9,10 +9,10 @@ use Rattle.std.proofs.lemmas.Bool.{cases_Bool, ltb-true, ltb-false}
 use Rattle.pi_terms.specs.Tree.{Tree, atom, comp, Trees, no_trees, tree, trees_of}
 use Rattle.pi_terms.specs.Order.{order}
 use Rattle.pi_terms.specs.ListCopies.{list_cell}
-use Rattle.pi_states.specs.Value.{value}
-use Rattle.pi_states.specs.State.{State, bindings}
-use Rattle.pi_states.specs.Store.{StoreView, IsTerm, AreTerms, Keeps, Stays}
-use Rattle.pi_states.specs.declared.store.Ref.{Ref}
+use Rattle.pi_constraints.specs.Value.{value}
+use Rattle.pi_constraints.specs.State.{State, bindings}
+use Rattle.pi_constraints.specs.Store.{StoreView, IsTerm, AreTerms, Keeps, Stays}
+use Rattle.pi_constraints.specs.declared.store.Ref.{Ref}
 use Rattle.pi_effects.specs.Comparing.{is_same}
 use Rattle.pi_effects.specs.Items.{list_onto, list_of, array_of}
 use Rattle.pi_effects.specs.Collections.{without, pair}

@@ -3,15 +3,15 @@ use Rattle.std.proofs.Common.{◌≡◌, ℕ, suc, ◌==◌, Bool, true, false, 
 use Rattle.std.specs.Prelude.{not, Ok}
 use Rattle.pi_terms.specs.Tree.{Tree, var, comp, Trees, no_trees, tree, args, arity, drop_trees}
 use Rattle.pi_terms.specs.Variables.{occurrences, occurrences_all, firsts, variables, IsGround}
-use Rattle.pi_states.specs.State.{bindings}
-use Rattle.pi_states.specs.Store.{StoreView, IsTerm, ShowsCell}
-use Rattle.pi_states.specs.declared.store.Ref.{Ref}
-use Rattle.pi_states.specs.declared.store.Cell.{Cell}
+use Rattle.pi_constraints.specs.State.{bindings}
+use Rattle.pi_constraints.specs.Store.{StoreView, IsTerm, ShowsCell}
+use Rattle.pi_constraints.specs.declared.store.Ref.{Ref}
+use Rattle.pi_constraints.specs.declared.store.Cell.{Cell}
 use Rattle.pi_unify.specs.Terms.{IsGiven, term_of, value_of}
 use Rattle.pi_unify.proofs.TermValues.{IsArgument, term_is}
 use Rattle.pi_effects.specs.Answer.{Answer}
 use Rattle.pi_unify.proofs.RefLemmas.{drop_all}
-use Rattle.pi_states.proofs.ValueLemmas.{ground_is_its_own_value}
+use Rattle.pi_constraints.proofs.ValueLemmas.{ground_is_its_own_value}
 use Rattle.pi_effects.specs.Kinds.{holds_no_variable}
 use Rattle.pi_builtin.specs.Closed.{AreGiven, is_closed, are_closed, Leaves}
 

@@ -6,10 +6,10 @@ use Rattle.std.specs.List.{last_or}
 use Rattle.pi_terms.specs.Tree.{Tree, var, int, atom, comp, Trees, no_trees, tree, tree_count, tree_at, args, arity, arg_at}
 use Rattle.pi_terms.specs.ListCopies.{list_cell}
 use Rattle.pi_terms.proofs.TermLemmas.{TreeAt, tree_at-below}
-use Rattle.pi_states.specs.Value.{IsAcyclic}
-use Rattle.pi_states.specs.State.{bindings, followed}
-use Rattle.pi_states.specs.Store.{StoreView, IsTerm}
-use Rattle.pi_states.specs.declared.store.Ref.{Ref}
+use Rattle.pi_constraints.specs.Value.{IsAcyclic}
+use Rattle.pi_constraints.specs.State.{bindings, followed}
+use Rattle.pi_constraints.specs.Store.{StoreView, IsTerm}
+use Rattle.pi_constraints.specs.declared.store.Ref.{Ref}
 use Rattle.pi_effects.specs.Items.{each_tree, is_nil, array_parts, structure_parts, cell_parts, list_items, collection_items, indexed_items}
 use Rattle.pi_effects.specs.Exception.{type_error, bad_index}
 use Rattle.pi_effects.specs.Answer.{Answer, found_or, or_raised}

@@ -4,8 +4,8 @@ use Rattle.std.specs.Prelude.{is_some, Some, None, cond}
 use Rattle.std.specs.Str.{bytes_eq}
 use Rattle.pi_terms.specs.Tree.{Tree, comp, Trees, no_trees, tree, tree_count, args}
 use Rattle.pi_terms.specs.ListNames.{cell_name}
-use Rattle.pi_states.specs.Store.{StoreView, IsName, ShowsCell}
-use Rattle.pi_states.specs.declared.store.Cell.{Cell}
+use Rattle.pi_constraints.specs.Store.{StoreView, IsName, ShowsCell}
+use Rattle.pi_constraints.specs.declared.store.Cell.{Cell}
 use Rattle.pi_effects.specs.Kinds.{is_cell}
 
 some-cond : {A : Type 0} (q : Bool) (x : A) → q ≡ is_some (cond q (Some x) None)

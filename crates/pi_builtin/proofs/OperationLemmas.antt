@@ -3,8 +3,8 @@ use Rattle.std.proofs.Common.{◌≡◌, ℤ, Ok, Err, sym, ◌∙◌, subst}
 use Rattle.pi_effects.specs.Range.{Outcome}
 use Rattle.pi_effects.specs.declared.arith_fault.ArithFault.{ArithFault}
 use Rattle.pi_terms.specs.Tree.{Tree}
-use Rattle.pi_states.specs.State.{State}
-use Rattle.pi_states.specs.Store.{StoreView}
+use Rattle.pi_constraints.specs.State.{State}
+use Rattle.pi_constraints.specs.Store.{StoreView}
 use Rattle.pi_effects.specs.Answer.{Answer, integer_then, integers_then}
 use Rattle.pi_effects.specs.Integers.{outcome_then}
 use Rattle.pi_effects.specs.Results.{Stops}

@@ -6,8 +6,8 @@ use Rattle.std.proofs.lemmas.Bool.{eqb-true}
 use Rattle.std.proofs.lemmas.Slice.Eq.{bytes_eq-Decides}
 use Rattle.pi_terms.specs.Tree.{Tree, int, comp, Trees, no_trees, tree, tree_count, args}
 use Rattle.pi_terms.specs.ListNames.{nil, cell_name}
-use Rattle.pi_states.specs.Store.{StoreView, IsName, ShowsCell}
-use Rattle.pi_states.specs.declared.store.Cell.{Cell}
+use Rattle.pi_constraints.specs.Store.{StoreView, IsName, ShowsCell}
+use Rattle.pi_constraints.specs.declared.store.Cell.{Cell}
 use Rattle.pi_syntax.specs.PrintTerm.{array_name}
 use Rattle.pi_effects.specs.Items.{each_tree, is_nil, cell_parts, array_parts, structure_parts}
 use Rattle.pi_builtin.specs.Items.{ShowsPart, ShowsSize}

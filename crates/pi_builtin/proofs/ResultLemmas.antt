@@ -2,7 +2,7 @@
 use Rattle.std.proofs.Common.{◌≡◌, ℤ, refl, sym, ap, ◌∙◌, subst}
 use Rattle.std.specs.Prelude.{Result, Ok, Err}
 use Rattle.std.specs.Result.{IsErrAnd}
-use Rattle.pi_states.specs.Store.{StoreView, Stays}
+use Rattle.pi_constraints.specs.Store.{StoreView, Stays}
 use Rattle.pi_effects.specs.Answer.{Answer}
 use Rattle.pi_effects.specs.Results.{Stops, Shows, ShowsSame}
 use Rattle.pi_effects.specs.declared.fault.Stop.{Stop}

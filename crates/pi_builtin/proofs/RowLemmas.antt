@@ -2,8 +2,8 @@
 use Rattle.std.proofs.Common.{◌≡◌, ℕ, zero, suc, ◌<◌, ◌≤◌, List, [], ◌∷◌, ◌++◌, length, take, drop, get_or, refl, sym, ap, subst, arith}
 use Rattle.std.specs.Prelude.{None, slice_get}
 use Rattle.pi_terms.specs.Tree.{Tree, trees_of}
-use Rattle.pi_states.specs.Store.{StoreView, IsTerm, AreTerms, Keeps}
-use Rattle.pi_states.specs.declared.store.Ref.{Ref}
+use Rattle.pi_constraints.specs.Store.{StoreView, IsTerm, AreTerms, Keeps}
+use Rattle.pi_constraints.specs.declared.store.Ref.{Ref}
 use Rattle.pi_builtin.specs.Items.{AreItems, ShowsItem}
 
 pub as-many : {M : Type 0} (v : StoreView M) (rs : List Ref) (ts : List Tree) → AreItems v rs ts → length ts ≡ length rs

@@ -6,10 +6,10 @@ use Rattle.std.specs.declared.alloc.Global.{Global}
 use Rattle.std.proofs.lemmas.List.{append-nil}
 use Rattle.pi_terms.specs.Tree.{Tree, tree_at, arg_at}
 use Rattle.pi_terms.specs.ListCopies.{list_cell}
-use Rattle.pi_states.specs.Value.{Bindings, IsAcyclic}
-use Rattle.pi_states.specs.State.{bindings, followed}
-use Rattle.pi_states.specs.Store.{StoreView, IsTerm}
-use Rattle.pi_states.specs.declared.store.Ref.{Ref}
+use Rattle.pi_constraints.specs.Value.{Bindings, IsAcyclic}
+use Rattle.pi_constraints.specs.State.{bindings, followed}
+use Rattle.pi_constraints.specs.Store.{StoreView, IsTerm}
+use Rattle.pi_constraints.specs.declared.store.Ref.{Ref}
 use Rattle.pi_effects.specs.Items.{is_nil, cell_parts, in_front_of, items_of_root, list_items}
 use Rattle.pi_effects.specs.Exception.{type_error}
 use Rattle.pi_effects.specs.Answer.{found_or}

@@ -1,8 +1,8 @@
 -- Terms that hold no unbound variable, and those that are left to be looked at, as the loop of `is_closed` keeps them. (Own.)
 use Rattle.std.specs.Prelude.{◌≡◌, Bool, true, false, ◌&&◌, List, [], ◌∷◌, ⊤}
-use Rattle.pi_states.specs.State.{bindings}
-use Rattle.pi_states.specs.Store.{StoreView}
-use Rattle.pi_states.specs.declared.store.Ref.{Ref}
+use Rattle.pi_constraints.specs.State.{bindings}
+use Rattle.pi_constraints.specs.Store.{StoreView}
+use Rattle.pi_constraints.specs.declared.store.Ref.{Ref}
 use Rattle.pi_unify.specs.Terms.{IsGiven, term_of}
 use Rattle.pi_effects.specs.Kinds.{holds_no_variable}
 

@@ -1,7 +1,7 @@
 -- The tests of the kind of a term, each by what it tests (A User's Guide to Picat, 'Data Types, Operators, and Built-ins').
 use Rattle.std.specs.Prelude.{Bool, true, false, not, ◌&&◌, ◌||◌, is_some}
 use Rattle.pi_terms.specs.Tree.{Tree}
-use Rattle.pi_states.specs.declared.store.Cell.{Cell}
+use Rattle.pi_constraints.specs.declared.store.Cell.{Cell}
 use Rattle.pi_effects.specs.Items.{is_nil, array_parts}
 use Rattle.pi_effects.specs.Kinds.{is_variable, is_integer, is_atom, is_compound, is_cell}
 use Rattle.pi_builtin.specs.declared.kinds.TermKind.{TermKind}

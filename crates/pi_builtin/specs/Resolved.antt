@@ -3,7 +3,7 @@ use Rattle.std.specs.Prelude.{◌≡◌, ℕ, true, cond, List, [], ◌∷◌, m
 use Rattle.std.specs.Str.{bytes_eq}
 use Rattle.std.specs.Borrow.{Bor}
 use Rattle.pi_terms.specs.Tree.{Trees, tree_count}
-use Rattle.pi_states.specs.State.{State}
+use Rattle.pi_constraints.specs.State.{State}
 use Rattle.pi_effects.specs.BuiltIns.{built_in_function, built_in_predicate, is_function, is_predicate}
 use Rattle.pi_builtin.specs.Names.{function_name, function_arity, predicate_name, takes}
 use Rattle.pi_builtin.specs.declared.functions.Function.{Function}

@@ -1,11 +1,11 @@
 //! Lists and arrays that are put into a store.
 ghost use Rattle.std.specs.Prelude.{List, IfOk};
 ghost use Rattle.pi_terms.specs.Tree.{Tree};
-ghost use Rattle.pi_states.specs.Store.{IsTerm, Stays};
+ghost use Rattle.pi_constraints.specs.Store.{IsTerm, Stays};
 ghost use Rattle.pi_effects.specs.Items.{list_of, list_onto, array_of};
 ghost use Rattle.pi_builtin.specs.Items.{AreItems};
 
-use pi_states::{Ref, StateStore};
+use pi_constraints::{Ref, StateStore};
 use std::alloc::AllocError;
 
 /// The list of these items. A User's Guide to Picat, 'Data Types, Operators, and Built-ins'; the names of a cell and of the

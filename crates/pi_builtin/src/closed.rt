@@ -1,16 +1,16 @@
 //! Whether a term holds no unbound variable.
 ghost use Rattle.std.specs.Prelude.{◌≡◌, ℕ, List, Ok, IfOk};
 ghost use Rattle.pi_terms.specs.Tree.{Tree, comp, args, arity};
-ghost use Rattle.pi_states.specs.Value.{IsAcyclic};
-ghost use Rattle.pi_states.specs.State.{bindings};
-ghost use Rattle.pi_states.specs.Store.{IsTerm};
+ghost use Rattle.pi_constraints.specs.Value.{IsAcyclic};
+ghost use Rattle.pi_constraints.specs.State.{bindings};
+ghost use Rattle.pi_constraints.specs.Store.{IsTerm};
 ghost use Rattle.pi_unify.specs.Terms.{HoldsNoCycle, IsGiven, value_of};
 ghost use Rattle.pi_effects.specs.Kinds.{holds_no_variable};
 ghost use Rattle.pi_effects.specs.Results.{ShowsSame};
 ghost use Rattle.pi_builtin.specs.Closed.{AreGiven, Leaves, IsLookedAt};
 
+use pi_constraints::{Cell, Ref, StateStore};
 use pi_effects::Stop;
-use pi_states::{Cell, Ref, StateStore};
 use std::alloc::{AllocError, Global};
 
 /// `ground`: whether no unbound variable is in the value of a term. What was made without variables is passed over. The stack lies on the heap,

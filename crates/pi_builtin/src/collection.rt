@@ -1,8 +1,8 @@
 //! Proper lists and compounds by their items.
 ghost use Rattle.std.specs.Prelude.{◌≡◌, List, IfOk, Ok, codes, length, slice_get};
 ghost use Rattle.pi_terms.specs.Tree.{Tree};
-ghost use Rattle.pi_states.specs.State.{bindings};
-ghost use Rattle.pi_states.specs.Store.{IsTerm};
+ghost use Rattle.pi_constraints.specs.State.{bindings};
+ghost use Rattle.pi_constraints.specs.Store.{IsTerm};
 ghost use Rattle.pi_effects.specs.Exception.{type_error};
 ghost use Rattle.pi_effects.specs.Answer.{found_or};
 ghost use Rattle.pi_effects.specs.Items.{indexed_items, list_items};
@@ -14,8 +14,8 @@ ghost use Rattle.pi_builtin.specs.Items.{HasItems, HoldsItems, ShowsItem};
 
 use crate::parts::{array_size, structure_size};
 use crate::walk::walk;
+use pi_constraints::{Ref, StateStore};
 use pi_effects::{Fault, Kind, Stop};
-use pi_states::{Ref, StateStore};
 use std::alloc::{AllocError, Global};
 
 /// The items of a proper list or of a compound. An item of a compound is found at once.

@@ -1,15 +1,15 @@
 //! Terms that are made equal, and terms that can't be. A User's Guide to Picat, 'Equality Testing, and Unification'.
 ghost use Rattle.std.specs.Prelude.{◌≡◌, Ok, is_none, IfOk, IfErr};
 ghost use Rattle.pi_terms.specs.Tree.{Tree};
-ghost use Rattle.pi_states.specs.State.{IsState};
-ghost use Rattle.pi_states.specs.Store.{IsTerm, Keeps, Stays};
-ghost use Rattle.pi_states.specs.Unify.{unified};
+ghost use Rattle.pi_constraints.specs.State.{IsState};
+ghost use Rattle.pi_constraints.specs.Store.{IsTerm, Keeps, Stays};
+ghost use Rattle.pi_constraints.specs.Unify.{unified};
 ghost use Rattle.pi_unify.specs.Answers.{Answers};
 ghost use Rattle.pi_effects.specs.Results.{ShowsSame};
 ghost use Rattle.pi_effects.specs.declared.fault.Stop.{Stop};
 
+use pi_constraints::{Ref, StateStore};
 use pi_effects::Stop;
-use pi_states::{Ref, StateStore};
 use pi_unify::unify;
 use std::alloc::Global;
 

@@ -1,7 +1,7 @@
 //! Functions that make lists and arrays of items.
 ghost use Rattle.std.specs.Prelude.{◌≡◌, List, Ok, IfOk, map, reverse as reversed_items, zip as zipped};
 ghost use Rattle.pi_terms.specs.Tree.{Tree};
-ghost use Rattle.pi_states.specs.Store.{IsTerm, Stays};
+ghost use Rattle.pi_constraints.specs.Store.{IsTerm, Stays};
 ghost use Rattle.pi_effects.specs.Items.{list_of, array_of};
 ghost use Rattle.pi_effects.specs.Collections.{list_then, collection_then, joined, without, pair};
 ghost use Rattle.pi_effects.specs.Inner.{in_order as items_in_order};
@@ -12,8 +12,8 @@ ghost use Rattle.pi_builtin.specs.Items.{AreItems};
 use crate::building::{put_array, put_list, put_onto};
 use crate::collection::collection_items;
 use crate::walk::{list_items, walk};
+use pi_constraints::{Ref, StateStore};
 use pi_effects::Stop;
-use pi_states::{Ref, StateStore};
 use pi_unify::compare;
 use std::alloc::{AllocError, Global};
 

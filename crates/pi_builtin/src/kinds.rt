@@ -1,14 +1,14 @@
 //! Tests of the kind of a term. A User's Guide to Picat, 'Data Types, Operators, and Built-ins'; that arrays are structures is own.
 ghost use Rattle.std.specs.Prelude.{◌≡◌};
 ghost use Rattle.pi_terms.specs.Tree.{Tree};
-ghost use Rattle.pi_states.specs.Value.{IsAcyclic};
-ghost use Rattle.pi_states.specs.State.{bindings, followed};
-ghost use Rattle.pi_states.specs.Store.{IsTerm, ShowsCell};
+ghost use Rattle.pi_constraints.specs.Value.{IsAcyclic};
+ghost use Rattle.pi_constraints.specs.State.{bindings, followed};
+ghost use Rattle.pi_constraints.specs.Store.{IsTerm, ShowsCell};
 ghost use Rattle.pi_effects.specs.Items.{is_nil};
 ghost use Rattle.pi_effects.specs.Kinds.{is_cell};
 ghost use Rattle.pi_builtin.specs.Kinds.{shows_variable, shows_integer, shows_atom, shows_compound, is_array, passes};
 
-use pi_states::{Cell, Ref, StateStore};
+use pi_constraints::{Cell, Ref, StateStore};
 
 /// A test of the kind of a term.
 #[derive(Clone, Copy)]

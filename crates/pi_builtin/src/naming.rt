@@ -1,16 +1,16 @@
 //! The name and the number of arguments of a term. A User's Guide to Picat, 'Data Types, Operators, and Built-ins'.
 ghost use Rattle.std.specs.Prelude.{◌≡◌, ℕ, List, codes, IfOk};
 ghost use Rattle.pi_terms.specs.Tree.{Tree, atom};
-ghost use Rattle.pi_states.specs.Value.{IsAcyclic};
-ghost use Rattle.pi_states.specs.State.{bindings, followed};
-ghost use Rattle.pi_states.specs.Store.{IsTerm, IsName, Stays};
+ghost use Rattle.pi_constraints.specs.Value.{IsAcyclic};
+ghost use Rattle.pi_constraints.specs.State.{bindings, followed};
+ghost use Rattle.pi_constraints.specs.Store.{IsTerm, IsName, Stays};
 ghost use Rattle.pi_effects.specs.Exception.{type_error};
 ghost use Rattle.pi_effects.specs.Answer.{or_raised};
 ghost use Rattle.pi_effects.specs.Naming.{name_at, arity_at};
 ghost use Rattle.pi_effects.specs.Results.{ShowsTerm};
 
+use pi_constraints::{Cell, Ref, StateStore};
 use pi_effects::{Fault, Kind, Stop};
-use pi_states::{Cell, Ref, StateStore};
 use pi_terms::Text;
 use std::alloc::{AllocError, Global};
 

@@ -3,15 +3,15 @@ ghost use Rattle.std.specs.Prelude.{pos};
 ghost use Rattle.std.specs.Int.{int_min, int_max};
 ghost use Rattle.pi_effects.specs.Value.{value_of};
 ghost use Rattle.pi_terms.specs.Tree.{Tree};
-ghost use Rattle.pi_states.specs.Value.{IsAcyclic};
-ghost use Rattle.pi_states.specs.State.{bindings};
-ghost use Rattle.pi_states.specs.Store.{IsTerm, Stays};
+ghost use Rattle.pi_constraints.specs.Value.{IsAcyclic};
+ghost use Rattle.pi_constraints.specs.State.{bindings};
+ghost use Rattle.pi_constraints.specs.Store.{IsTerm, Stays};
 ghost use Rattle.pi_effects.specs.Answer.{integer_then, integers_then};
 ghost use Rattle.pi_effects.specs.Integers.{outcome_then, number};
 ghost use Rattle.pi_effects.specs.Results.{ShowsTerm};
 
+use pi_constraints::{Ref, StateStore};
 use pi_effects::{Op, Stop, evaluate, integer};
-use pi_states::{Ref, StateStore};
 
 /// The value of an operation with one argument: `-`, `abs`, `sign` or `~`.
 pub fn evaluate_one<S: StateStore>(s: &mut S, op: Op, a: Ref) -> Result<Ref, Stop>

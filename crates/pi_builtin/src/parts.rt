@@ -3,14 +3,14 @@ ghost use Rattle.std.specs.Prelude.{◌≡◌, ◌==◌, ◌&&◌, List, ℕ};
 ghost use Rattle.std.specs.Str.{bytes_eq};
 ghost use Rattle.pi_terms.specs.Tree.{Tree};
 ghost use Rattle.pi_terms.specs.ListNames.{nil, cell_name};
-ghost use Rattle.pi_states.specs.State.{bindings, followed};
-ghost use Rattle.pi_states.specs.Store.{IsTerm, IsName};
+ghost use Rattle.pi_constraints.specs.State.{bindings, followed};
+ghost use Rattle.pi_constraints.specs.Store.{IsTerm, IsName};
 ghost use Rattle.pi_syntax.specs.PrintTerm.{array_name};
 ghost use Rattle.pi_effects.specs.Items.{array_parts, structure_parts};
 ghost use Rattle.pi_unify.specs.Terms.{HoldsNoCycle};
 ghost use Rattle.pi_builtin.specs.Items.{ShowsPart, ShowsSize};
 
-use pi_states::{Cell, Ref, StateStore};
+use pi_constraints::{Cell, Ref, StateStore};
 
 /// What a term is as a list.
 #[derive(Clone, Copy)]

@@ -3,7 +3,7 @@ ghost use Rattle.std.specs.Prelude.{◌≡◌, ◌<◌, List, Some, None, slice_
 ghost use Rattle.std.specs.List.{last_or};
 ghost use Rattle.pi_terms.specs.Tree.{Tree, arg_at};
 ghost use Rattle.pi_terms.specs.ListCopies.{list_cell};
-ghost use Rattle.pi_states.specs.Store.{IsTerm, Stays};
+ghost use Rattle.pi_constraints.specs.Store.{IsTerm, Stays};
 ghost use Rattle.pi_effects.specs.Collections.{collection_then, count, item_or_first_index, cell_part};
 ghost use Rattle.pi_effects.specs.Indexing.{indexed, item_at as item_with_number};
 ghost use Rattle.pi_effects.specs.Results.{ShowsTerm};
@@ -13,8 +13,8 @@ ghost use Rattle.pi_builtin.specs.Items.{HasItems, ShowsItem};
 use crate::collection::{Collection, read_collection, read_indexable};
 use crate::parts::{Part, part_at};
 use crate::walk::list_items;
+use pi_constraints::{Ref, StateStore};
 use pi_effects::{Fault, Kind, Stop, integer};
-use pi_states::{Ref, StateStore};
 use std::alloc::Global;
 
 /// `length/1` and `len/1`: how many items a proper list or an array has.

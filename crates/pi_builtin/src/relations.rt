@@ -1,15 +1,15 @@
 //! Comparisons of integers. A User's Guide to Picat, 'Arithmetic'.
 ghost use Rattle.std.specs.Prelude.{◌≡◌, Ok};
 ghost use Rattle.pi_terms.specs.Tree.{Tree};
-ghost use Rattle.pi_states.specs.Value.{IsAcyclic};
-ghost use Rattle.pi_states.specs.State.{bindings};
-ghost use Rattle.pi_states.specs.Store.{IsTerm};
+ghost use Rattle.pi_constraints.specs.Value.{IsAcyclic};
+ghost use Rattle.pi_constraints.specs.State.{bindings};
+ghost use Rattle.pi_constraints.specs.Store.{IsTerm};
 ghost use Rattle.pi_effects.specs.Answer.{integers_then};
 ghost use Rattle.pi_effects.specs.Results.{ShowsSame};
 ghost use Rattle.pi_builtin.specs.Relations.{holds};
 
+use pi_constraints::{Ref, StateStore};
 use pi_effects::{Stop, integer};
-use pi_states::{Ref, StateStore};
 
 /// A relation of two integers.
 #[derive(Clone, Copy)]

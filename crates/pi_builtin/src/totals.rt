@@ -1,7 +1,7 @@
 //! Sums and products of items.
 ghost use Rattle.std.specs.Prelude.{List, Ok, pos};
 ghost use Rattle.pi_terms.specs.Tree.{Tree};
-ghost use Rattle.pi_states.specs.Store.{IsTerm, Stays};
+ghost use Rattle.pi_constraints.specs.Store.{IsTerm, Stays};
 ghost use Rattle.pi_effects.specs.Value.{value_of};
 ghost use Rattle.pi_effects.specs.Collections.{collection_then, total as total_of};
 ghost use Rattle.pi_effects.specs.Answer.{integer_then};
@@ -11,8 +11,8 @@ ghost use Rattle.pi_unify.specs.Terms.{HoldsNoCycle};
 ghost use Rattle.pi_builtin.specs.Items.{AreItems, IsInteger};
 
 use crate::collection::collection_items;
+use pi_constraints::{Ref, StateStore};
 use pi_effects::{Op, Stop, evaluate, integer};
-use pi_states::{Ref, StateStore};
 use std::alloc::Global;
 
 /// `sum/1`: the integers of a proper list or an array, added from the left.

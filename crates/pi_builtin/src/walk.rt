@@ -1,8 +1,8 @@
 //! The walk of a proper list.
 ghost use Rattle.std.specs.Prelude.{IfOk, Ok};
 ghost use Rattle.pi_terms.specs.Tree.{Tree};
-ghost use Rattle.pi_states.specs.State.{bindings};
-ghost use Rattle.pi_states.specs.Store.{IsTerm};
+ghost use Rattle.pi_constraints.specs.State.{bindings};
+ghost use Rattle.pi_constraints.specs.Store.{IsTerm};
 ghost use Rattle.pi_effects.specs.Items.{list_items as items_in};
 ghost use Rattle.pi_effects.specs.Collections.{list_then};
 ghost use Rattle.pi_effects.specs.Results.{Shows};
@@ -10,8 +10,8 @@ ghost use Rattle.pi_unify.specs.Terms.{HoldsNoCycle};
 ghost use Rattle.pi_builtin.specs.Items.{HoldsItems, ShowsItems};
 
 use crate::parts::{Part, part_at};
+use pi_constraints::{Ref, StateStore};
 use pi_effects::{Fault, Kind, Stop};
-use pi_states::{Ref, StateStore};
 use std::alloc::{AllocError, Global};
 
 /// The items of a proper list; any other term is of a wrong kind.

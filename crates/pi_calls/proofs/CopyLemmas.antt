@@ -3,11 +3,11 @@ use Rattle.std.proofs.Common.{◌≡◌, cond, Ok, Err, refl, ap, sym, subst, lt
 use Rattle.pi_terms.specs.Tree.{Tree, cells, most_cells}
 use Rattle.pi_terms.specs.Copy.{copy, new_variables}
 use Rattle.pi_terms.proofs.OptionLemmas.{not-less}
-use Rattle.pi_states.specs.State.{next}
-use Rattle.pi_states.specs.Store.{StoreView}
-use Rattle.pi_states.specs.Evaluation.{with_new_variables}
-use Rattle.pi_states.specs.declared.store.Ref.{Ref}
-use Rattle.pi_states.specs.declared.store.ReadStop.{ReadStop}
+use Rattle.pi_constraints.specs.State.{next}
+use Rattle.pi_constraints.specs.Store.{StoreView}
+use Rattle.pi_constraints.specs.Evaluation.{with_new_variables}
+use Rattle.pi_constraints.specs.declared.store.Ref.{Ref}
+use Rattle.pi_constraints.specs.declared.store.ReadStop.{ReadStop}
 use Rattle.pi_unify.specs.Copying.{ShowsCopy}
 use Rattle.pi_effects.specs.Effect.{Gives, Refuses}
 use Rattle.pi_effects.specs.Exception.{term_too_large}

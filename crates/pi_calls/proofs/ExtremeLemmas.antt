@@ -3,9 +3,9 @@ use Rattle.std.proofs.Common.{◌≡◌, ℕ, zero, suc, ◌<◌, ◌≤◌, Boo
 use Rattle.std.specs.Prelude.{Option, Some, None}
 use Rattle.std.specs.List.{fold}
 use Rattle.pi_terms.specs.Tree.{Tree}
-use Rattle.pi_states.specs.State.{State}
-use Rattle.pi_states.specs.Store.{StoreView, IsTerm}
-use Rattle.pi_states.specs.declared.store.Ref.{Ref}
+use Rattle.pi_constraints.specs.State.{State}
+use Rattle.pi_constraints.specs.Store.{StoreView, IsTerm}
+use Rattle.pi_constraints.specs.declared.store.Ref.{Ref}
 use Rattle.pi_effects.specs.Sorting.{lesser, greater}
 use Rattle.pi_builtin.specs.Items.{AreItems, ShowsItem}
 use Rattle.pi_builtin.proofs.RowLemmas.{as-many, ItemAt, item-at, none-behind}

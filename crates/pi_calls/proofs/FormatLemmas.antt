@@ -4,11 +4,11 @@ use Rattle.std.specs.Prelude.{nat_lt, codes, slice_get}
 use Rattle.std.specs.Fmt.{signed_decimal}
 use Rattle.pi_terms.specs.Tree.{Tree, int, comp, Trees, no_trees, tree, cells, most_cells}
 use Rattle.pi_terms.specs.Copy.{copy}
-use Rattle.pi_states.specs.State.{State, bindings}
-use Rattle.pi_states.specs.Value.{value}
-use Rattle.pi_states.specs.Store.{StoreView, IsTerm, AreTerms, ShowsCell}
-use Rattle.pi_states.specs.declared.store.Ref.{Ref}
-use Rattle.pi_states.specs.declared.store.Cell.{Cell}
+use Rattle.pi_constraints.specs.State.{State, bindings}
+use Rattle.pi_constraints.specs.Value.{value}
+use Rattle.pi_constraints.specs.Store.{StoreView, IsTerm, AreTerms, ShowsCell}
+use Rattle.pi_constraints.specs.declared.store.Ref.{Ref}
+use Rattle.pi_constraints.specs.declared.store.Cell.{Cell}
 use Rattle.pi_syntax.specs.PrintTerm.{is_characters, characters}
 use Rattle.pi_effects.specs.Answer.{Answer, measured}
 use Rattle.pi_effects.specs.Exception.{term_too_large, exception_with, bad_format}

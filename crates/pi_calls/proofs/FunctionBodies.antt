@@ -6,10 +6,10 @@ use Rattle.std.specs.List.{last_or}
 use Rattle.pi_effects.specs.Value.{value_of}
 use Rattle.pi_effects.specs.declared.operation.Op.{Op}
 use Rattle.pi_terms.specs.Tree.{Tree, no_trees, tree}
-use Rattle.pi_states.specs.State.{State, bindings, followed}
-use Rattle.pi_states.specs.Value.{value}
-use Rattle.pi_states.specs.Store.{StoreView, Stays}
-use Rattle.pi_states.specs.declared.store.Ref.{Ref}
+use Rattle.pi_constraints.specs.State.{State, bindings, followed}
+use Rattle.pi_constraints.specs.Value.{value}
+use Rattle.pi_constraints.specs.Store.{StoreView, Stays}
+use Rattle.pi_constraints.specs.declared.store.Ref.{Ref}
 use Rattle.pi_effects.specs.Effect.{FunctionEffect}
 use Rattle.pi_effects.specs.Exception.{type_error}
 use Rattle.pi_effects.specs.Answer.{Answer, or_raised, integer_then, integers_then}

@@ -2,8 +2,8 @@
 use Rattle.std.proofs.Common.{◌≡◌, ℕ, suc, ◌==◌, true, arith, ◌∷◌, [], List, refl, subst}
 use Rattle.std.specs.Prelude.{Option, Some, Result, length}
 use Rattle.pi_terms.specs.Tree.{Tree, Trees, no_trees, tree}
-use Rattle.pi_states.specs.Store.{StoreView, IsTerm, AreTerms, Stays}
-use Rattle.pi_states.specs.declared.store.Ref.{Ref}
+use Rattle.pi_constraints.specs.Store.{StoreView, IsTerm, AreTerms, Stays}
+use Rattle.pi_constraints.specs.declared.store.Ref.{Ref}
 use Rattle.pi_effects.specs.Effect.{FunctionEffect}
 use Rattle.pi_effects.specs.Answer.{Answer}
 use Rattle.pi_effects.specs.BuiltIns.{answer_in}

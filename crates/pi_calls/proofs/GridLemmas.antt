@@ -2,10 +2,10 @@
 use Rattle.std.proofs.Common.{◌≡◌, ℕ, zero, suc, ◌+◌, ◌*◌, ◌<◌, ◌≤◌, List, [], ◌∷◌, ◌++◌, refl, ap, sym, ◌∙◌, subst, arith, add-one, min}
 use Rattle.std.specs.Prelude.{codes, Ok, Err}
 use Rattle.pi_terms.specs.Tree.{Tree, Trees, no_trees, comp, trees_of}
-use Rattle.pi_states.specs.State.{State, next}
-use Rattle.pi_states.specs.Store.{StoreView, IsTerm, AreTerms, Stays, Gives as GivesTerm}
-use Rattle.pi_states.specs.Evaluation.{with_new_variables}
-use Rattle.pi_states.specs.declared.store.Ref.{Ref}
+use Rattle.pi_constraints.specs.State.{State, next}
+use Rattle.pi_constraints.specs.Store.{StoreView, IsTerm, AreTerms, Stays, Gives as GivesTerm}
+use Rattle.pi_constraints.specs.Evaluation.{with_new_variables}
+use Rattle.pi_constraints.specs.declared.store.Ref.{Ref}
 use Rattle.pi_unify.specs.Copying.{with_variables, Makes}
 use Rattle.pi_effects.specs.Items.{array_of}
 use Rattle.pi_effects.specs.Ranges.{most_items}

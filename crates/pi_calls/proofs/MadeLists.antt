@@ -4,9 +4,9 @@ use Rattle.std.proofs.lemmas.List.FromFn.{map-range_with_len_more}
 use Rattle.pi_terms.specs.Tree.{Tree, Trees, var, atom, comp, trees_of}
 use Rattle.pi_terms.specs.ListNames.{nil, cell_name}
 use Rattle.pi_terms.specs.ListCopies.{list_cell}
-use Rattle.pi_states.specs.State.{next, with_new}
-use Rattle.pi_states.specs.Store.{StoreView, IsTerm, AreTerms, Changes, Stays, Gives}
-use Rattle.pi_states.specs.declared.store.Ref.{Ref}
+use Rattle.pi_constraints.specs.State.{next, with_new}
+use Rattle.pi_constraints.specs.Store.{StoreView, IsTerm, AreTerms, Changes, Stays, Gives}
+use Rattle.pi_constraints.specs.declared.store.Ref.{Ref}
 use Rattle.pi_print.specs.PrintTerm.{array_name}
 use Rattle.pi_unify.specs.Copying.{with_variables, Makes}
 use Rattle.pi_unify.proofs.KeepsLemmas.{stays_then, makes_one_more}

@@ -7,7 +7,7 @@ use Rattle.std.proofs.lemmas.Bool.Decides.{nat_tests}
 use Rattle.std.proofs.lemmas.List.{append-nil}
 use Rattle.std.proofs.lemmas.Str.{encode_ascii, char_from_byte, length-encode, len_utf8_bounds}
 use Rattle.pi_terms.specs.Tree.{Tree}
-use Rattle.pi_states.specs.State.{State}
+use Rattle.pi_constraints.specs.State.{State}
 use Rattle.pi_effects.specs.Answer.{Answer}
 use Rattle.pi_effects.specs.Format.{Piece, plain_byte, no_sign, sign, pieces, in_front, filled_in}
 

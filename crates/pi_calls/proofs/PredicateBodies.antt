@@ -3,9 +3,9 @@ use Rattle.std.proofs.Common.{◌≡◌, ℕ, Bool, true, false, List, [], refl,
 use Rattle.std.specs.Prelude.{Option, Some, None, Result, Ok, Err, IfOk, IfErr, is_none, cond, nat_lt, codes, option_map}
 use Rattle.std.specs.Option.{option_or}
 use Rattle.pi_terms.specs.Tree.{Tree, Trees, no_trees, tree, tree_count}
-use Rattle.pi_states.specs.State.{State, bindings, followed}
-use Rattle.pi_states.specs.Store.{StoreView, Stays}
-use Rattle.pi_states.specs.Unify.{unified}
+use Rattle.pi_constraints.specs.State.{State, bindings, followed}
+use Rattle.pi_constraints.specs.Store.{StoreView, Stays}
+use Rattle.pi_constraints.specs.Unify.{unified}
 use Rattle.pi_unify.specs.Answers.{Answers}
 use Rattle.pi_effects.specs.Effect.{Effect, Succeeds, Fails, Writes, Raises, succeeds_in}
 use Rattle.pi_effects.specs.Exception.{thrown}

@@ -9,9 +9,9 @@ use Rattle.pi_terms.specs.ListNames.{nil, cell_name}
 use Rattle.pi_terms.specs.ListCopies.{list_cell}
 use Rattle.pi_calls.proofs.StoreLemmas.{cell_put}
 use lib.IntN.{suc_ℤ-*ℤ, zero-*ℤ}
-use Rattle.pi_states.specs.State.{State, bindings, followed}
-use Rattle.pi_states.specs.Store.{StoreView, IsTerm, AreTerms, Keeps}
-use Rattle.pi_states.specs.declared.store.Ref.{Ref}
+use Rattle.pi_constraints.specs.State.{State, bindings, followed}
+use Rattle.pi_constraints.specs.Store.{StoreView, IsTerm, AreTerms, Keeps}
+use Rattle.pi_constraints.specs.declared.store.Ref.{Ref}
 use Rattle.pi_effects.specs.Items.{list_onto, list_of}
 use Rattle.pi_effects.specs.Range.{has_128_bits}
 use Rattle.pi_effects.specs.declared.arith_fault.ArithFault.TheVariants.{Overflow}

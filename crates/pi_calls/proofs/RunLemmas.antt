@@ -3,11 +3,11 @@ use Rattle.std.proofs.Common.{◌≡◌, ℕ, zero, suc, true, false, List, [], 
 use Rattle.std.specs.Prelude.{Option, Some, None, Ok, Err, IfSome, IfNone, is_some}
 use Rattle.pi_terms.specs.Tree.{Tree, Trees, no_trees, tree, tree_count, tree_at, args}
 use Rattle.pi_terms.specs.TermCells.{take_trees}
-use Rattle.pi_states.specs.State.{State, IsState, bindings}
-use Rattle.pi_states.specs.Value.{IsAcyclic}
-use Rattle.pi_states.specs.Store.{StoreView, IsTerm, IsName, ShowsCell, AreTerms, Stays}
-use Rattle.pi_states.specs.declared.store.Ref.{Ref}
-use Rattle.pi_states.specs.declared.store.Cell.{Cell}
+use Rattle.pi_constraints.specs.State.{State, IsState, bindings}
+use Rattle.pi_constraints.specs.Value.{IsAcyclic}
+use Rattle.pi_constraints.specs.Store.{StoreView, IsTerm, IsName, ShowsCell, AreTerms, Stays}
+use Rattle.pi_constraints.specs.declared.store.Ref.{Ref}
+use Rattle.pi_constraints.specs.declared.store.Cell.{Cell}
 use Rattle.pi_effects.specs.Effect.{Effect, Raises, FunctionEffect, Refuses}
 use Rattle.pi_effects.specs.BuiltIns.{built_in_function, built_in_predicate, is_predicate}
 use Rattle.pi_effects.proofs.BuiltInLemmas.{predicates-listed}

@@ -4,11 +4,11 @@ use Rattle.std.specs.Prelude.{Option, Result, ℤ, pos, negsuc, ◌<ℤ◌, ◌�
 use Rattle.std.proofs.lemmas.Int.{ints}
 use Rattle.pi_terms.specs.Tree.{Tree, int}
 use Rattle.pi_terms.proofs.OptionLemmas.{not-less}
-use Rattle.pi_states.specs.State.{State, bindings, next, followed}
-use Rattle.pi_states.specs.Store.{StoreView, IsTerm, ShowsCell, Gives as GivesTerm}
-use Rattle.pi_states.specs.declared.store.Cell.{Cell}
-use Rattle.pi_states.specs.Evaluation.{with_new_variables}
-use Rattle.pi_states.specs.declared.store.Ref.{Ref}
+use Rattle.pi_constraints.specs.State.{State, bindings, next, followed}
+use Rattle.pi_constraints.specs.Store.{StoreView, IsTerm, ShowsCell, Gives as GivesTerm}
+use Rattle.pi_constraints.specs.declared.store.Cell.{Cell}
+use Rattle.pi_constraints.specs.Evaluation.{with_new_variables}
+use Rattle.pi_constraints.specs.declared.store.Ref.{Ref}
 use Rattle.pi_unify.specs.Copying.{with_variables}
 use Rattle.pi_effects.specs.Effect.{FunctionEffect, Gives, Refuses}
 use Rattle.pi_effects.specs.Exception.{bad_index, range_too_long}

@@ -3,11 +3,11 @@ use Rattle.std.proofs.Common.{◌≡◌, ℕ, zero, suc, ◌+◌, List, [], ◌�
 use Rattle.pi_terms.specs.Tree.{Tree, Trees, no_trees, tree, trees_of, comp}
 use Rattle.pi_terms.specs.ListNames.{cell_name}
 use Rattle.pi_terms.specs.ListCopies.{list_cell}
-use Rattle.pi_states.specs.State.{State, next, with_new}
-use Rattle.pi_states.specs.Store.{StoreView, IsTerm, AreTerms, Keeps, Stays}
-use Rattle.pi_states.specs.Evaluation.{with_new_variables}
-use Rattle.pi_states.specs.declared.store.Ref.{Ref}
-use Rattle.pi_states.proofs.KeepsLemmas.{news-next}
+use Rattle.pi_constraints.specs.State.{State, next, with_new}
+use Rattle.pi_constraints.specs.Store.{StoreView, IsTerm, AreTerms, Keeps, Stays}
+use Rattle.pi_constraints.specs.Evaluation.{with_new_variables}
+use Rattle.pi_constraints.specs.declared.store.Ref.{Ref}
+use Rattle.pi_constraints.proofs.KeepsLemmas.{news-next}
 use Rattle.pi_unify.specs.Copying.{with_variables, Makes, MakesSome}
 use Rattle.pi_unify.proofs.KeepsLemmas.{keeps_then, keeps_none}
 

@@ -3,8 +3,8 @@ use Rattle.std.specs.Prelude.{nat_lt}
 use Rattle.std.proofs.Common.{◌≡◌, ℕ, ◌<◌, ◌≤◌, Bool, true, false, cond, List, Ok, Err, refl, ap, sym, ◌∙◌, subst, lt-ltb}
 use Rattle.pi_terms.specs.Tree.{Tree, cells, most_cells}
 use Rattle.pi_terms.proofs.OptionLemmas.{not-less}
-use Rattle.pi_states.specs.Store.{StoreView, ShowsRead}
-use Rattle.pi_states.specs.declared.store.ReadStop.{ReadStop}
+use Rattle.pi_constraints.specs.Store.{StoreView, ShowsRead}
+use Rattle.pi_constraints.specs.declared.store.ReadStop.{ReadStop}
 use Rattle.pi_syntax.specs.PrintTerm.{text_of}
 use Rattle.pi_effects.specs.Answer.{Answer, measured}
 use Rattle.pi_effects.specs.Exception.{term_too_large}

@@ -5,8 +5,8 @@ use Rattle.std.specs.Str.{chars}
 use Rattle.std.proofs.Math.Seq.{drop-cons}
 use Rattle.pi_terms.specs.Tree.{Tree, Trees, no_trees, tree, atom, comp}
 use Rattle.pi_terms.specs.ListNames.{nil, cell_name}
-use Rattle.pi_states.specs.Store.{StoreView, IsTerm, AreTerms}
-use Rattle.pi_states.specs.declared.store.Ref.{Ref}
+use Rattle.pi_constraints.specs.Store.{StoreView, IsTerm, AreTerms}
+use Rattle.pi_constraints.specs.declared.store.Ref.{Ref}
 use Rattle.pi_effects.specs.Items.{list_onto, list_of}
 use Rattle.pi_effects.specs.Texts.{text_list}
 

@@ -4,8 +4,8 @@ use Rattle.std.specs.Str.{chars}
 use Rattle.pi_terms.specs.Tree.{Tree, atom, cells}
 use Rattle.pi_terms.specs.ListNames.{nil}
 use Rattle.pi_terms.specs.ListCopies.{list_cell}
-use Rattle.pi_states.specs.Store.{StoreView, IsName}
-use Rattle.pi_states.specs.declared.store.Ref.{Ref}
+use Rattle.pi_constraints.specs.Store.{StoreView, IsName}
+use Rattle.pi_constraints.specs.declared.store.Ref.{Ref}
 use Rattle.pi_syntax.specs.PrintTerm.{is_characters, characters}
 use Rattle.pi_unify.specs.Terms.{IsGiven, value_of}
 use Rattle.pi_calls.specs.declared.characters.Characters.{Characters}

@@ -2,7 +2,7 @@
 use Rattle.std.specs.Prelude.{Bool, List, Option}
 use Rattle.std.specs.Ordering.{is_lt}
 use Rattle.pi_terms.specs.Tree.{Tree}
-use Rattle.pi_states.specs.State.{State}
+use Rattle.pi_constraints.specs.State.{State}
 use Rattle.pi_effects.specs.Comparing.{value_order}
 use Rattle.pi_effects.specs.Sorting.{least, greatest}
 use Rattle.pi_calls.specs.declared.extremes.End.{End}

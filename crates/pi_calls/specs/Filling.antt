@@ -1,8 +1,8 @@
 -- What the filling of a piece of a format writes, for the private functions of this crate.
 use Rattle.std.specs.Prelude.{◌≡◌, ℕ, List, [], ◌∷◌, ◌++◌, drop, Option, Some, None, Result, Ok, Err}
 use Rattle.pi_terms.specs.Tree.{Tree}
-use Rattle.pi_states.specs.Store.{StoreView, IsTerm}
-use Rattle.pi_states.specs.declared.store.Ref.{Ref}
+use Rattle.pi_constraints.specs.Store.{StoreView, IsTerm}
+use Rattle.pi_constraints.specs.declared.store.Ref.{Ref}
 use Rattle.pi_effects.specs.Format.{Piece, filled_in, in_front}
 use Rattle.pi_effects.specs.declared.fault.Stop.{Stop}
 use Rattle.pi_effects.specs.Results.{Stops}

@@ -2,7 +2,7 @@
 -- raised, in the state before. Want of memory says nothing. (Own.)
 use Rattle.std.specs.Prelude.{◌≡◌, ℕ, List, Bool, true, false, Result, Ok, Err, ⊤}
 use Rattle.pi_terms.specs.Tree.{Tree}
-use Rattle.pi_states.specs.Store.{StoreView, Stays}
+use Rattle.pi_constraints.specs.Store.{StoreView, Stays}
 use Rattle.pi_effects.specs.Effect.{Effect, Succeeds, Fails, Writes, Raises}
 use Rattle.pi_effects.specs.Balls.{IsBall}
 use Rattle.pi_effects.specs.declared.fault.Stop.{Stop}

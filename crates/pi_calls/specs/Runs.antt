@@ -1,13 +1,13 @@
 -- Calls by name, and what they come to, against what the built-in does. Want of memory says nothing. (Own.)
 use Rattle.std.specs.Prelude.{◌≡◌, ℕ, true, Option, Some, None, ⊤}
 use Rattle.pi_terms.specs.Tree.{Tree, var, int, atom, comp, Trees, no_trees}
-use Rattle.pi_states.specs.State.{State, bindings}
-use Rattle.pi_states.specs.Store.{StoreView, Stays, Gives as GivesTerm}
+use Rattle.pi_constraints.specs.State.{State, bindings}
+use Rattle.pi_constraints.specs.Store.{StoreView, Stays, Gives as GivesTerm}
 use Rattle.pi_effects.specs.Effect.{Effect, Succeeds, Fails, Writes, Raises, FunctionEffect, Gives, Refuses}
 use Rattle.pi_effects.specs.BuiltIns.{built_in_predicate}
 use Rattle.pi_builtin.specs.Names.{predicate_name, takes}
 use Rattle.pi_builtin.specs.declared.predicates.Predicate.{Predicate}
-use Rattle.pi_states.specs.Value.{IsAcyclic}
+use Rattle.pi_constraints.specs.Value.{IsAcyclic}
 use Rattle.pi_effects.specs.Balls.{IsBall}
 use Rattle.pi_effects.specs.declared.fault.Fault.{Fault}
 use Rattle.pi_effects.specs.declared.fault.Stop.{Stop}

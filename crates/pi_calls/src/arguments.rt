@@ -1,7 +1,7 @@
 //! Arguments, so many of them.
 ghost use Rattle.std.specs.Prelude.{◌≡◌, ◌≢◌, ◌∷◌, [], length, IfSome, IfNone};
 
-use pi_states::Ref;
+use pi_constraints::Ref;
 
 /// The only argument.
 pub fn one(args: &[Ref]) -> Option<Ref>

@@ -4,17 +4,17 @@ ghost use Rattle.std.specs.Str.{chars, bytes_eq};
 ghost use Rattle.pi_terms.specs.Tree.{Tree};
 ghost use Rattle.pi_terms.specs.ListNames.{nil, cell_name};
 ghost use Rattle.pi_terms.specs.ListCopies.{list_cell};
-ghost use Rattle.pi_states.specs.Value.{IsAcyclic, value};
-ghost use Rattle.pi_states.specs.State.{bindings};
-ghost use Rattle.pi_states.specs.Store.{IsTerm, IsName};
+ghost use Rattle.pi_constraints.specs.Value.{IsAcyclic, value};
+ghost use Rattle.pi_constraints.specs.State.{bindings};
+ghost use Rattle.pi_constraints.specs.Store.{IsTerm, IsName};
 ghost use Rattle.pi_unify.specs.Terms.{IsGiven, HoldsNoCycle, value_of};
 ghost use Rattle.pi_effects.specs.Exception.{bad_format};
 ghost use Rattle.pi_effects.specs.Format.{a_text, argument_text};
 ghost use Rattle.pi_effects.specs.Results.{ShowsSame};
 ghost use Rattle.pi_calls.specs.Characters.{ShowsCharacters, ShowsLink};
 
+use pi_constraints::{Cell, Ref, StateStore};
 use pi_effects::{Fault, Stop};
-use pi_states::{Cell, Ref, StateStore};
 use pi_terms::Text;
 use std::alloc::{AllocError, Global};
 

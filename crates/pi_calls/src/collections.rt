@@ -1,9 +1,9 @@
 //! Calls of functions of lists and arrays.
 ghost use Rattle.std.specs.Prelude.{◌≡◌, Some};
 ghost use Rattle.pi_terms.specs.Tree.{Tree, no_trees, tree};
-ghost use Rattle.pi_states.specs.Value.{IsAcyclic};
-ghost use Rattle.pi_states.specs.State.{bindings};
-ghost use Rattle.pi_states.specs.Store.{IsTerm, Stays};
+ghost use Rattle.pi_constraints.specs.Value.{IsAcyclic};
+ghost use Rattle.pi_constraints.specs.State.{bindings};
+ghost use Rattle.pi_constraints.specs.Store.{IsTerm, Stays};
 ghost use Rattle.pi_effects.specs.Effect.{FunctionEffect};
 ghost use Rattle.pi_effects.specs.BuiltIns.{built_in_function};
 ghost use Rattle.pi_effects.specs.Results.{ShowsEffect};
@@ -14,8 +14,8 @@ use crate::sorting::{remove_dups, sort, sort_remove_dups};
 use pi_builtin::{
     FunctionOfCollection, first, head, last, length, product, reverse, sum, tail, to_array, to_list,
 };
+use pi_constraints::{Ref, StateStore};
 use pi_effects::Stop;
-use pi_states::{Ref, StateStore};
 use std::alloc::Global;
 
 /// A call of a function of a list or an array.

@@ -1,14 +1,14 @@
 //! Copies of terms, as a function.
 ghost use Rattle.pi_terms.specs.Tree.{Tree};
-ghost use Rattle.pi_states.specs.Value.{IsAcyclic, value};
-ghost use Rattle.pi_states.specs.State.{bindings};
-ghost use Rattle.pi_states.specs.Store.{IsTerm};
+ghost use Rattle.pi_constraints.specs.Value.{IsAcyclic, value};
+ghost use Rattle.pi_constraints.specs.State.{bindings};
+ghost use Rattle.pi_constraints.specs.Store.{IsTerm};
 ghost use Rattle.pi_unify.specs.Copying.{MakesSome};
 ghost use Rattle.pi_effects.specs.Making.{copied};
 ghost use Rattle.pi_effects.specs.Results.{ShowsEffect};
 
+use pi_constraints::{Ref, StateStore};
 use pi_effects::Stop;
-use pi_states::{Ref, StateStore};
 use std::alloc::Global;
 
 /// `copy_term(T)`: the value of a term with new variables in place of its own. A value past 16,777,216 cells raises

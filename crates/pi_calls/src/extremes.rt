@@ -1,7 +1,7 @@
 //! The least and the greatest item of a list or an array. A User's Guide to Picat, 'Data Types, Operators, and Built-ins'; the order is own.
 ghost use Rattle.std.specs.Prelude.{◌≡◌, List, IfOk};
 ghost use Rattle.pi_terms.specs.Tree.{Tree};
-ghost use Rattle.pi_states.specs.Store.{IsTerm};
+ghost use Rattle.pi_constraints.specs.Store.{IsTerm};
 ghost use Rattle.pi_effects.specs.Collections.{collection_then, item_or_first_index};
 ghost use Rattle.pi_effects.specs.Sorting.{least as least_of, greatest as greatest_of};
 ghost use Rattle.pi_effects.specs.Results.{ShowsTerm};
@@ -10,8 +10,8 @@ ghost use Rattle.pi_builtin.specs.Items.{AreItems, ShowsItem};
 ghost use Rattle.pi_calls.specs.Extremes.{beats, extreme_of};
 
 use pi_builtin::collection_items;
+use pi_constraints::{Ref, StateStore};
 use pi_effects::{Fault, Stop};
-use pi_states::{Ref, StateStore};
 use pi_unify::compare;
 use std::alloc::{AllocError, Global};
 

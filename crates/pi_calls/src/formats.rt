@@ -2,9 +2,9 @@
 ghost use Rattle.std.specs.Prelude.{◌≡◌, ◌≢◌, ◌≤◌, ◌∷◌, List, false, option_copied, IfOk};
 ghost use Rattle.std.specs.String.{string_bytes};
 ghost use Rattle.pi_terms.specs.Tree.{Tree, Trees};
-ghost use Rattle.pi_states.specs.Value.{IsAcyclic, value};
-ghost use Rattle.pi_states.specs.State.{bindings};
-ghost use Rattle.pi_states.specs.Store.{IsTerm, AreTerms};
+ghost use Rattle.pi_constraints.specs.Value.{IsAcyclic, value};
+ghost use Rattle.pi_constraints.specs.State.{bindings};
+ghost use Rattle.pi_constraints.specs.Store.{IsTerm, AreTerms};
 ghost use Rattle.pi_effects.specs.Exception.{bad_format};
 ghost use Rattle.pi_effects.specs.Items.{each_tree};
 ghost use Rattle.pi_effects.specs.Format as spec;
@@ -15,8 +15,8 @@ ghost use Rattle.pi_calls.specs.Filling.{IsNext, how_many, FillsPiece};
 use crate::characters::text_argument;
 use crate::signs::{Form, Sign, sign_behind};
 use crate::texts::text_at;
+use pi_constraints::{Cell, Ref, StateStore};
 use pi_effects::{Fault, Stop};
-use pi_states::{Cell, Ref, StateStore};
 use pi_terms::Text;
 use std::alloc::Global;
 

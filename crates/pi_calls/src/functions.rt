@@ -1,9 +1,9 @@
 //! Calls of built-in functions.
 ghost use Rattle.std.specs.Prelude.{◌≡◌, Some, length};
 ghost use Rattle.pi_terms.specs.Tree.{Tree, Trees, no_trees, tree};
-ghost use Rattle.pi_states.specs.Value.{IsAcyclic};
-ghost use Rattle.pi_states.specs.State.{bindings};
-ghost use Rattle.pi_states.specs.Store.{IsTerm, AreTerms, Keeps};
+ghost use Rattle.pi_constraints.specs.Value.{IsAcyclic};
+ghost use Rattle.pi_constraints.specs.State.{bindings};
+ghost use Rattle.pi_constraints.specs.Store.{IsTerm, AreTerms, Keeps};
 ghost use Rattle.pi_effects.specs.Effect.{FunctionEffect};
 ghost use Rattle.pi_effects.specs.BuiltIns.{built_in_function};
 ghost use Rattle.pi_effects.specs.Results.{ShowsEffect};
@@ -20,8 +20,8 @@ use pi_builtin::{
     Function, FunctionOfOne, FunctionOfTwo, append, arity_of, delete_all, evaluate_one,
     evaluate_two, greatest, in_order, item_at, least, name_of, same_integer, zip,
 };
+use pi_constraints::{Ref, StateStore};
 use pi_effects::{Op, Stop};
-use pi_states::{Ref, StateStore};
 use std::alloc::Global;
 
 /// What a call of a function comes to: a term, with new variables where the function makes some, or what is raised. It is said where there are as many

@@ -1,9 +1,9 @@
 //! Arrays of arrays of new variables.
 ghost use Rattle.std.specs.Prelude.{◌*◌, IfOk};
 ghost use Rattle.pi_terms.specs.Tree.{Tree};
-ghost use Rattle.pi_states.specs.Value.{IsAcyclic};
-ghost use Rattle.pi_states.specs.State.{bindings, next};
-ghost use Rattle.pi_states.specs.Store.{IsTerm, Gives};
+ghost use Rattle.pi_constraints.specs.Value.{IsAcyclic};
+ghost use Rattle.pi_constraints.specs.State.{bindings, next};
+ghost use Rattle.pi_constraints.specs.Store.{IsTerm, Gives};
 ghost use Rattle.pi_unify.specs.Copying.{with_variables, MakesSome};
 ghost use Rattle.pi_effects.specs.Items.{array_of};
 ghost use Rattle.pi_effects.specs.Making.{new_rows, new_grid};
@@ -11,8 +11,8 @@ ghost use Rattle.pi_effects.specs.Results.{ShowsEffect};
 
 use crate::sizes::{MOST_ITEMS, allowed, size};
 use crate::variables::put_array;
+use pi_constraints::{Ref, StateStore};
 use pi_effects::Stop;
-use pi_states::{Ref, StateStore};
 use std::alloc::{AllocError, Global};
 
 /// `new_array(M,N)`: an array of M arrays, each of N new variables. A size that is no integer from 0 raises `bad_index`; more

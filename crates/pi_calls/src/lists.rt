@@ -3,15 +3,15 @@ ghost use Rattle.std.specs.Prelude.{◌≡◌, IfOk};
 ghost use Rattle.std.specs.Char.{encode_utf8};
 ghost use Rattle.std.specs.Str.{chars};
 ghost use Rattle.pi_terms.specs.Tree.{Tree, atom};
-ghost use Rattle.pi_states.specs.Value.{IsAcyclic};
-ghost use Rattle.pi_states.specs.State.{bindings};
-ghost use Rattle.pi_states.specs.Store.{IsTerm, Stays, Gives};
+ghost use Rattle.pi_constraints.specs.Value.{IsAcyclic};
+ghost use Rattle.pi_constraints.specs.State.{bindings};
+ghost use Rattle.pi_constraints.specs.Store.{IsTerm, Stays, Gives};
 ghost use Rattle.pi_effects.specs.Texts.{plain_text_list, text_list};
 ghost use Rattle.pi_effects.specs.Results.{ShowsTerm};
 
 use crate::texts::text_at;
+use pi_constraints::{Ref, StateStore};
 use pi_effects::Stop;
-use pi_states::{Ref, StateStore};
 use std::alloc::{AllocError, Global};
 
 /// `to_string(T)`: the plain text of a term's value as a list of its characters. A value past 16,777,216 cells raises

@@ -2,13 +2,13 @@
 ghost use Rattle.std.specs.Prelude.{◌≡◌, ◌==◌, ◌&&◌, List, ℕ, codes};
 ghost use Rattle.std.specs.Str.{bytes_eq};
 ghost use Rattle.pi_terms.specs.Tree.{Tree};
-ghost use Rattle.pi_states.specs.Value.{IsAcyclic};
-ghost use Rattle.pi_states.specs.State.{bindings, followed};
-ghost use Rattle.pi_states.specs.Store.{IsTerm, IsName};
+ghost use Rattle.pi_constraints.specs.Value.{IsAcyclic};
+ghost use Rattle.pi_constraints.specs.State.{bindings, followed};
+ghost use Rattle.pi_constraints.specs.Store.{IsTerm, IsName};
 ghost use Rattle.pi_effects.specs.Inner.{pair_parts};
 ghost use Rattle.pi_calls.specs.Pairs.{ShowsPair};
 
-use pi_states::{Cell, Ref, StateStore};
+use pi_constraints::{Cell, Ref, StateStore};
 
 /// The items of an array that has two; None exactly where the term is no such array. It takes no memory.
 pub fn pair_at<S: StateStore>(s: &S, term: Ref) -> Option<(Ref, Ref)>

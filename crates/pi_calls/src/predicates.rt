@@ -1,9 +1,9 @@
 //! Calls of built-in predicates.
 ghost use Rattle.std.specs.Prelude.{◌≡◌, true, false, Some, length};
 ghost use Rattle.pi_terms.specs.Tree.{Tree, Trees, no_trees, tree};
-ghost use Rattle.pi_states.specs.Value.{IsAcyclic};
-ghost use Rattle.pi_states.specs.State.{IsState, bindings};
-ghost use Rattle.pi_states.specs.Store.{IsTerm, AreTerms, Keeps, Stays};
+ghost use Rattle.pi_constraints.specs.Value.{IsAcyclic};
+ghost use Rattle.pi_constraints.specs.State.{IsState, bindings};
+ghost use Rattle.pi_constraints.specs.Store.{IsTerm, AreTerms, Keeps, Stays};
 ghost use Rattle.pi_effects.specs.Effect.{Effect};
 ghost use Rattle.pi_effects.specs.BuiltIns.{built_in_predicate};
 ghost use Rattle.pi_builtin.specs.Names.{none_name, test_name, pair_name, predicate_name, takes, may_bind};
@@ -16,8 +16,8 @@ use pi_builtin::{
     Predicate, PredicateOfNone, PredicateOfOne, PredicateOfTwo, are_ordered, are_related, differ,
     is_closed, is_of_kind, make_equal,
 };
+use pi_constraints::{Ref, StateStore};
 use pi_effects::{Fault, Stop};
-use pi_states::{Ref, StateStore};
 use pi_terms::Text;
 use std::alloc::Global;
 

@@ -2,9 +2,9 @@
 ghost use Rattle.std.specs.Prelude.{◌≡◌, ◌≢◌, ℕ, ◌<◌, ◌≤◌, pos, ◌+ℤ◌, ◌*ℤ◌, FitsSigned, IfOk, MatchOption};
 ghost use Rattle.std.specs.Int.{w128};
 ghost use Rattle.pi_terms.specs.Tree.{Tree, int};
-ghost use Rattle.pi_states.specs.Value.{IsAcyclic};
-ghost use Rattle.pi_states.specs.State.{bindings};
-ghost use Rattle.pi_states.specs.Store.{IsTerm, Stays};
+ghost use Rattle.pi_constraints.specs.Value.{IsAcyclic};
+ghost use Rattle.pi_constraints.specs.State.{bindings};
+ghost use Rattle.pi_constraints.specs.Store.{IsTerm, Stays};
 ghost use Rattle.pi_effects.specs.Answer.{integer_then, integers_then};
 ghost use Rattle.pi_effects.specs.Items.{list_of};
 ghost use Rattle.pi_effects.specs.Ranges as spec;
@@ -14,8 +14,8 @@ ghost use Rattle.pi_calls.specs.Steps.{value_after, AllFit};
 
 use crate::pairs::pair_at;
 use crate::sizes::MOST_ITEMS;
+use pi_constraints::{Ref, StateStore};
 use pi_effects::{Fault, Kind, Stop, integer};
-use pi_states::{Ref, StateStore};
 use std::alloc::AllocError;
 
 /// `L..H`: the integers from one to another. Arguments that are no integers raise `type_error`, the first one from the left;

@@ -1,9 +1,9 @@
 //! Calls by name.
 ghost use Rattle.std.specs.Prelude.{◌≡◌, Some, length, IfOk, IfSome};
 ghost use Rattle.pi_terms.specs.Tree.{Tree, Trees, args, arity};
-ghost use Rattle.pi_states.specs.Value.{IsAcyclic};
-ghost use Rattle.pi_states.specs.State.{IsState, bindings, followed};
-ghost use Rattle.pi_states.specs.Store.{IsTerm, AreTerms, Keeps};
+ghost use Rattle.pi_constraints.specs.Value.{IsAcyclic};
+ghost use Rattle.pi_constraints.specs.State.{IsState, bindings, followed};
+ghost use Rattle.pi_constraints.specs.Store.{IsTerm, AreTerms, Keeps};
 ghost use Rattle.pi_effects.specs.Effect.{Effect, FunctionEffect};
 ghost use Rattle.pi_effects.specs.BuiltIns.{built_in_function};
 ghost use Rattle.pi_calls.specs.Runs.{ShowsStep, ShowsValue, DoesCall, IsRaised, effect_of_call, step_of};
@@ -11,8 +11,8 @@ ghost use Rattle.pi_calls.specs.Runs.{ShowsStep, ShowsValue, DoesCall, IsRaised,
 use crate::functions::call_function;
 use crate::predicates::{Outcome, call_predicate};
 use pi_builtin::{Predicate, function_named, predicate_named};
+use pi_constraints::{Cell, Ref, StateStore};
 use pi_effects::{Stop, ball_of};
-use pi_states::{Cell, Ref, StateStore};
 use pi_terms::{Term, Text};
 use std::alloc::{AllocError, Global};
 

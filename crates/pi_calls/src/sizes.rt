@@ -1,9 +1,9 @@
 //! How many items are asked for.
 ghost use Rattle.std.specs.Prelude.{◌≡◌, ◌<◌, ◌≤◌, IfOk, IfErr};
 ghost use Rattle.pi_terms.specs.Tree.{Tree};
-ghost use Rattle.pi_states.specs.Value.{IsAcyclic};
-ghost use Rattle.pi_states.specs.State.{bindings, followed};
-ghost use Rattle.pi_states.specs.Store.{IsTerm};
+ghost use Rattle.pi_constraints.specs.Value.{IsAcyclic};
+ghost use Rattle.pi_constraints.specs.State.{bindings, followed};
+ghost use Rattle.pi_constraints.specs.Store.{IsTerm};
 ghost use Rattle.pi_effects.specs.Exception.{bad_index};
 ghost use Rattle.pi_effects.specs.Answer.{or_raised};
 ghost use Rattle.pi_effects.specs.Ranges.{most_items};
@@ -12,8 +12,8 @@ ghost use Rattle.pi_effects.specs.Results.{ShowsSame};
 ghost use Rattle.pi_effects.specs.declared.fault.Fault.{Fault};
 ghost use Rattle.pi_effects.specs.declared.fault.Stop.{Stop};
 
+use pi_constraints::{Cell, Ref, StateStore};
 use pi_effects::{Fault, Stop};
-use pi_states::{Cell, Ref, StateStore};
 
 /// The most items of a range, and of a list or an array of new variables. (Own.)
 pub const MOST_ITEMS: u128 = 16_777_216;

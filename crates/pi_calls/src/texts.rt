@@ -1,17 +1,17 @@
 //! Texts of terms of a store.
 ghost use Rattle.std.specs.Prelude.{[], ◌++◌, Ok};
 ghost use Rattle.pi_terms.specs.Tree.{Tree};
-ghost use Rattle.pi_states.specs.Value.{IsAcyclic, value};
-ghost use Rattle.pi_states.specs.State.{bindings};
-ghost use Rattle.pi_states.specs.Store.{IsTerm};
+ghost use Rattle.pi_constraints.specs.Value.{IsAcyclic, value};
+ghost use Rattle.pi_constraints.specs.State.{bindings};
+ghost use Rattle.pi_constraints.specs.Store.{IsTerm};
 ghost use Rattle.pi_syntax.specs.PrintTerm.{text_of};
 ghost use Rattle.pi_effects.specs.Answer.{measured};
 ghost use Rattle.pi_effects.specs.Texts as spec;
 ghost use Rattle.pi_effects.specs.Results.{ShowsSame};
 
+use pi_constraints::{Ref, StateStore};
 use pi_effects::Stop;
 use pi_print::term_text;
-use pi_states::{Ref, StateStore};
 use pi_terms::Text;
 use std::alloc::Global;
 

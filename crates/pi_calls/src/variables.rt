@@ -1,17 +1,17 @@
 //! Lists and arrays of new variables.
 ghost use Rattle.std.specs.Prelude.{◌≡◌, ℕ, ◌+◌, IfOk, OnErr};
 ghost use Rattle.pi_terms.specs.Tree.{Tree, trees_of};
-ghost use Rattle.pi_states.specs.Value.{IsAcyclic};
-ghost use Rattle.pi_states.specs.State.{bindings, next};
-ghost use Rattle.pi_states.specs.Store.{IsTerm, AreTerms, Gives, Stays};
+ghost use Rattle.pi_constraints.specs.Value.{IsAcyclic};
+ghost use Rattle.pi_constraints.specs.State.{bindings, next};
+ghost use Rattle.pi_constraints.specs.Store.{IsTerm, AreTerms, Gives, Stays};
 ghost use Rattle.pi_unify.specs.Copying.{with_variables, Makes, MakesSome};
 ghost use Rattle.pi_effects.specs.Items.{list_of, array_of};
 ghost use Rattle.pi_effects.specs.Making.{new_from, new_items};
 ghost use Rattle.pi_effects.specs.Results.{ShowsEffect};
 
 use crate::sizes::{allowed, size};
+use pi_constraints::{Ref, StateStore};
 use pi_effects::Stop;
-use pi_states::{Ref, StateStore};
 use std::alloc::{AllocError, Global};
 
 /// `new_list(N)`: the list of so many new variables. A size that is no integer from 0 raises `bad_index`, one above

@@ -8,10 +8,10 @@ use Rattle.std.proofs.lemmas.Slice.Eq.{bytes_eq-Decides}
 use Rattle.pi_terms.specs.Tree.{Tree, no_trees, tree, tree_count, var, atom, cells}
 use Rattle.pi_terms.specs.Variables.{occurrences}
 use Rattle.pi_terms.specs.Substitution.{instance}
-use Rattle.pi_states.specs.Value.{rounds, value}
-use Rattle.pi_states.specs.State.{State, free, bound, followed_for, followed}
-use Rattle.pi_states.specs.Store.{StoreView}
-use Rattle.pi_states.specs.Unify.{unified, assigned, outcome, unified_for, unbound_in, cells_of_pairs, most_pairs, all_unified}
+use Rattle.pi_constraints.specs.Value.{rounds, value}
+use Rattle.pi_constraints.specs.State.{State, free, bound, followed_for, followed}
+use Rattle.pi_constraints.specs.Store.{StoreView}
+use Rattle.pi_constraints.specs.Unify.{unified, assigned, outcome, unified_for, unbound_in, cells_of_pairs, most_pairs, all_unified}
 use Rattle.pi_effects.specs.Effect.{Effect, Succeeds, succeeds_in}
 use Rattle.pi_effects.specs.Answer.{Answer}
 use Rattle.pi_effects.specs.Rows.{done_by}

@@ -3,9 +3,9 @@ use Rattle.std.proofs.Common.{◌≡◌, ℕ, suc, ◌+◌, ◌<◌, ◌≤◌, 
 use Rattle.std.specs.Prelude.{slice_get}
 use Rattle.std.proofs.lemmas.List.{take_more, take_all, map-append, length-map}
 use Rattle.pi_terms.specs.Tree.{Tree}
-use Rattle.pi_states.specs.State.{bindings}
-use Rattle.pi_states.specs.Value.{IsAcyclic}
-use Rattle.pi_states.specs.Store.{StoreView}
+use Rattle.pi_constraints.specs.State.{bindings}
+use Rattle.pi_constraints.specs.Value.{IsAcyclic}
+use Rattle.pi_constraints.specs.Store.{StoreView}
 use Rattle.pi_core.specs.GoalTree.{GoalTree, nodes}
 use Rattle.pi_core.specs.CoreTree.{ClauseTree, PredTree, pred_tree, clause_tree, leaves_others}
 use Rattle.pi_core.specs.declared.core_program.CorePred.{CorePred}

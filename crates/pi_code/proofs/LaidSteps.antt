@@ -7,7 +7,7 @@ use Rattle.pi_core.specs.GoalTree.{GoalTree, child_count, child_goals, subgoals,
 use Rattle.pi_core.specs.GoalCells.{kind_of, kind_shown}
 use Rattle.pi_core.specs.declared.goal_node.GoalKind.{GoalKind}
 use Rattle.pi_core.specs.declared.goal_node.GoalNode.{GoalNode}
-use Rattle.pi_states.specs.Store.{StoreView}
+use Rattle.pi_constraints.specs.Store.{StoreView}
 use Rattle.pi_terms.proofs.GetLemmas.{get_append_last, get_append_cases}
 use Rattle.pi_unify.proofs.KeepsLemmas.{keeps_none}
 use Rattle.pi_core.specs.declared.core_program.CorePred.{CorePred}

@@ -5,10 +5,10 @@ use Rattle.std.proofs.lemmas.List.{take_more, take_all}
 use Rattle.std.proofs.lemmas.Option.{slice_get-get_or, slice_get_within, get_or_from_slice_get}
 use Rattle.pi_terms.specs.Tree.{Tree, var, int, atom, comp, Trees, no_trees, tree, cells, subterms, subterms_all, ShowsHead}
 use Rattle.pi_terms.specs.Variables.{IsGround, occurrences, occurrences_all, firsts}
-use Rattle.pi_states.specs.Store.{Terms, StoreView, Stays, Gives, Extend}
+use Rattle.pi_constraints.specs.Store.{Terms, StoreView, Stays, Gives, Extend}
 use Rattle.pi_terms.specs.Copy.{copy, new_variables}
 use Rattle.pi_terms.specs.declared.term.TermHead.{TermHead}
-use Rattle.pi_states.specs.declared.store.Ref.{Ref}
+use Rattle.pi_constraints.specs.declared.store.Ref.{Ref}
 use Rattle.pi_core.specs.declared.core_program.CorePred.{CorePred}
 use Rattle.pi_terms.proofs.GetLemmas.{get_append_last}
 use Rattle.pi_terms.proofs.CopyLemmas.{ground_is_its_own_copy}
@@ -19,7 +19,7 @@ use Rattle.pi_code.specs.declared.code.Part.{Part}
 use Rattle.pi_code.specs.declared.code.Code.{Code}
 use Rattle.pi_code.specs.Code.{Tables}
 use Rattle.pi_code.specs.Laid.{Longer, tables_for, Adds, AddsParts, IsPartOf, PartsAt, IsOperand, OperandsAt}
-use Rattle.pi_states.proofs.StateLemmas.{extends}
+use Rattle.pi_constraints.proofs.StateLemmas.{extends}
 use Rattle.pi_code.proofs.LaidTables.{adds-none, parts-then, longer-pushed}
 use Rattle.pi_terms.proofs.ListLemmas.{length-taken}
 

@@ -4,10 +4,10 @@ use Rattle.std.proofs.Common.{◌≡◌, ◌≢◌, ℕ, zero, suc, ◌+◌, ◌
 use Rattle.std.specs.Prelude.{slice_get}
 use Rattle.std.proofs.lemmas.List.{take_more, take_all}
 use Rattle.pi_terms.specs.Tree.{Tree, atom}
-use Rattle.pi_states.specs.State.{bindings, followed, followed_for}
-use Rattle.pi_states.specs.Value.{Bindings, IsAcyclic}
-use Rattle.pi_states.specs.Store.{StoreView, ShowsCell, IsName, Stays}
-use Rattle.pi_states.specs.declared.store.Cell.{Cell}
+use Rattle.pi_constraints.specs.State.{bindings, followed, followed_for}
+use Rattle.pi_constraints.specs.Value.{Bindings, IsAcyclic}
+use Rattle.pi_constraints.specs.Store.{StoreView, ShowsCell, IsName, Stays}
+use Rattle.pi_constraints.specs.declared.store.Cell.{Cell}
 use Rattle.pi_core.specs.GoalCells.{kind_of, kind_shown, subgoals-children}
 use Rattle.pi_core.specs.declared.goal_node.GoalKind.{GoalKind}
 use Rattle.pi_core.specs.declared.goal_node.GoalNode.{GoalNode}

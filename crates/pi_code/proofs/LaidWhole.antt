@@ -7,8 +7,8 @@ use Rattle.pi_code.specs.Callables.{AreCallable}
 use Rattle.pi_code.specs.declared.fact_keys.FactKeys.{FactKeys}
 use Rattle.pi_code.specs.Keyed.{AreKeyed}
 use Rattle.std.proofs.lemmas.List.{length-map, map-append}
-use Rattle.pi_states.specs.State.{bindings}
-use Rattle.pi_states.specs.Store.{StoreView}
+use Rattle.pi_constraints.specs.State.{bindings}
+use Rattle.pi_constraints.specs.Store.{StoreView}
 use Rattle.pi_core.specs.GoalTree.{GoalTree}
 use Rattle.pi_core.specs.CoreTree.{PredTree, pred_tree}
 use Rattle.pi_core.specs.declared.core_program.CorePred.{CorePred}
@@ -17,7 +17,7 @@ use Rattle.pi_code.specs.declared.code.Code.{Code}
 use Rattle.pi_code.specs.Code.{Tables}
 use Rattle.pi_code.specs.Laid.{Adds, AddsSteps, tables_for, IsLaid, AreResolved}
 use Rattle.pi_code.specs.LaidRules.{PredicatesAt, IsFilled}
-use Rattle.pi_states.specs.Value.{IsAcyclic}
+use Rattle.pi_constraints.specs.Value.{IsAcyclic}
 use Rattle.pi_unify.proofs.KeepsLemmas.{keeps_none}
 use Rattle.pi_code.specs.declared.build.numbers.Numbers.{Numbers}
 use Rattle.pi_code.specs.Numbers.{IsNumbering}

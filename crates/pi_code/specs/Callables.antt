@@ -1,7 +1,7 @@
 -- The goals by which names are called, laid out in tables: each name that is called by a goal has its place, by the number that the store has for the name.
 use Rattle.std.specs.Prelude.{◌≡◌, ℕ, ◌==◌, ◌&&◌, Bool, true, not, List, Option, Some, IsSome, map, filter, slice_get, AllPairs, Contains}
 use Rattle.std.specs.HashMap.{get_by}
-use Rattle.pi_states.specs.Store.{StoreView}
+use Rattle.pi_constraints.specs.Store.{StoreView}
 use Rattle.pi_core.specs.GoalTree.{GoalTree}
 use Rattle.pi_core.specs.CoreTree.{pred_tree}
 use Rattle.pi_core.specs.declared.core_program.CorePred.{CorePred}

@@ -5,7 +5,7 @@ use Rattle.pi_terms.specs.Tree.{Tree, Trees, no_trees, tree, var, atom, comp, dr
 use Rattle.pi_terms.specs.TermCells.{take_trees, first_tree}
 use Rattle.pi_core.specs.GoalTree.{GoalTree, nodes, nodes_all, take_goals, children}
 use Rattle.pi_core.specs.GoalCells.{flat}
-use Rattle.pi_states.specs.declared.store.Ref.{Ref}
+use Rattle.pi_constraints.specs.declared.store.Ref.{Ref}
 use Rattle.pi_core.specs.declared.goal_node.GoalKind.{GoalKind}
 use Rattle.pi_core.specs.declared.goal_node.GoalCell.{GoalCell}
 use Rattle.pi_core.specs.declared.core_program.CorePred.{CorePred}

@@ -3,7 +3,7 @@
 use Rattle.std.specs.Prelude.{◌≡◌, ◌⊎◌, ℕ, suc, ◌+◌, ◌-◌, ◌≤◌, ◌<◌, ℤ, Bool, true, false, List, [], ◌∷◌, ◌++◌, Some, length, map, slice_get, slice_index_or, codes, ⊤}
 use Rattle.pi_terms.specs.Tree.{Tree, var, int, atom, comp, cells, subterms, args, arity}
 use Rattle.pi_terms.specs.Variables.{IsGround}
-use Rattle.pi_states.specs.Store.{Terms, StoreView, Stays}
+use Rattle.pi_constraints.specs.Store.{Terms, StoreView, Stays}
 use Rattle.pi_core.specs.GoalTree.{GoalTree, truth, fail, tick, call, apply, seq, alternatives, if_else, not, once, collect, count, catch, GoalTrees, no_goals, goal, nodes, subgoal, child_count}
 use Rattle.pi_core.specs.GoalCells.{kind_of}
 use Rattle.pi_core.specs.declared.goal_node.GoalKind.{GoalKind}

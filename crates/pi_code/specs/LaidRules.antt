@@ -2,7 +2,7 @@
 use Rattle.pi_terms.specs.PatternTree.{PatternTree, slot, exact_int, exact_atom, PatternTrees, no_patterns, pattern}
 use Rattle.std.specs.Prelude.{◌≡◌, ◌≢◌, ℕ, suc, ◌+◌, Bool, false, List, [], ◌∷◌, Option, Some, None, length, map, is_none, is_some, slice_get, AllPairs, ⊤}
 use Rattle.pi_terms.specs.Tree.{Tree}
-use Rattle.pi_states.specs.Store.{StoreView}
+use Rattle.pi_constraints.specs.Store.{StoreView}
 use Rattle.pi_core.specs.GoalTree.{GoalTree, truth, nodes}
 use Rattle.pi_core.specs.CoreTree.{ClauseTree, PredTree, pred_tree, leaves_others}
 use Rattle.pi_core.specs.declared.core_program.CorePred.{CorePred}

@@ -1,8 +1,8 @@
 //! A program and a goal resolved into flat tables, once.
 ghost use Rattle.std.specs.Prelude.{◌≡◌, ◌++◌, [], IfOk};
-ghost use Rattle.pi_states.specs.State.{bindings};
-ghost use Rattle.pi_states.specs.Value.{IsAcyclic};
-ghost use Rattle.pi_states.specs.Store.{Keeps, Stays};
+ghost use Rattle.pi_constraints.specs.State.{bindings};
+ghost use Rattle.pi_constraints.specs.Value.{IsAcyclic};
+ghost use Rattle.pi_constraints.specs.Store.{Keeps, Stays};
 ghost use Rattle.pi_code.specs.Code.{preds_of, tables_of};
 ghost use Rattle.pi_code.specs.Laid.{tables_for, IsBlank, HasItsCore};
 ghost use Rattle.pi_code.specs.Numbers.{IsNumbering};
@@ -21,8 +21,8 @@ use crate::code::Code;
 use crate::fact_keys::FactKeys;
 use keys::fact_keys;
 use numbers::Numbers;
+use pi_constraints::StateStore;
 use pi_core::{CoreGoal, CorePred, CorePreds, CoreProgram};
-use pi_states::StateStore;
 use std::alloc::{AllocError, Global};
 
 /// A program and a goal, whose place is answered too: each call knows the number of its predicate, and each ground term is

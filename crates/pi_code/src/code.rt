@@ -10,8 +10,8 @@ ghost use Rattle.pi_code.specs.Code.{tables_of, preds_of, step_cell, StandsAt, c
 use crate::callables::Callables;
 use crate::fact_keys::FactKeys;
 use pi_builtin::{Function, Predicate as BuiltInPredicate};
+use pi_constraints::Ref;
 use pi_core::{CorePred, CorePreds, CoreProgram, Pattern};
-use pi_states::Ref;
 use pi_terms::Text;
 
 /// Where the term of a goal comes from.

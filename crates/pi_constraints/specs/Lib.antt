@@ -1,2 +1,12 @@
 pub mod Domain
 pub mod Constraint
+pub mod Stored
+pub mod Value
+pub mod Match
+pub mod State
+pub mod StateLaws
+pub mod Store
+pub mod Unify
+pub mod Evaluation
+pub mod HeadMatch
+pub mod ToldDomains

@@ -5,12 +5,12 @@ use Rattle.pi_terms.specs.Tree.{Tree, int, atom, comp, no_trees, tree, cells, mo
 use Rattle.pi_terms.specs.Copy.{copy}
 use Rattle.pi_terms.specs.Substitution.{instance}
 use Rattle.pi_terms.proofs.OptionLemmas.{not-less}
-use Rattle.pi_states.specs.State.{State, bindings, followed}
-use Rattle.pi_states.specs.Value.{value}
-use Rattle.pi_states.specs.Store.{StoreView, IsTerm, ShowsRead, ShowsCell}
-use Rattle.pi_states.specs.declared.store.Ref.{Ref}
-use Rattle.pi_states.specs.declared.store.Cell.{Cell}
-use Rattle.pi_states.proofs.RootLemmas.{value_int}
+use Rattle.pi_constraints.specs.State.{State, bindings, followed}
+use Rattle.pi_constraints.specs.Value.{value}
+use Rattle.pi_constraints.specs.Store.{StoreView, IsTerm, ShowsRead, ShowsCell}
+use Rattle.pi_constraints.specs.declared.store.Ref.{Ref}
+use Rattle.pi_constraints.specs.declared.store.Cell.{Cell}
+use Rattle.pi_constraints.proofs.RootLemmas.{value_int}
 use Rattle.pi_effects.specs.Exception.{raised_of, thrown, exception_with, type_error, bad_index, term_too_large}
 use Rattle.pi_effects.specs.Answer.{found_or, integer_at, integer_then}
 use Rattle.pi_effects.specs.Balls.{Tells}

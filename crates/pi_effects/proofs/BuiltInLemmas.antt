@@ -4,10 +4,10 @@ use Rattle.std.specs.Prelude.{◌||◌, ◌*◌, nat_lt, Option, Some, None, Ok,
 use Rattle.std.specs.Option.{option_or}
 use Rattle.pi_terms.specs.Tree.{Tree, tree_count, cells, most_cells}
 use Rattle.pi_terms.specs.Copy.{copy, new_variables}
-use Rattle.pi_states.specs.Value.{value}
-use Rattle.pi_states.specs.State.{State, bindings, next, followed}
-use Rattle.pi_states.specs.Unify.{unified}
-use Rattle.pi_states.specs.Evaluation.{with_new_variables}
+use Rattle.pi_constraints.specs.Value.{value}
+use Rattle.pi_constraints.specs.State.{State, bindings, next, followed}
+use Rattle.pi_constraints.specs.Unify.{unified}
+use Rattle.pi_constraints.specs.Evaluation.{with_new_variables}
 use Rattle.pi_effects.specs.Answer.{Answer}
 use Rattle.pi_effects.specs.Effect.{FunctionEffect, Gives, Refuses, succeeds_in}
 use Rattle.pi_effects.specs.Exception.{term_too_large, bad_index, range_too_long}

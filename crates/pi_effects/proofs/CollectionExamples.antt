@@ -2,7 +2,7 @@
 use Rattle.std.proofs.Common.{◌≡◌, [], ◌∷◌, refl}
 use Rattle.std.specs.Prelude.{ℕ, ◌^◌, ◌-◌, pos, negsuc, List, Some, codes, Ok, Err}
 use Rattle.pi_terms.specs.Tree.{Tree, var, int, atom}
-use Rattle.pi_states.specs.State.{State, free, bound, empty_state}
+use Rattle.pi_constraints.specs.State.{State, free, bound, empty_state}
 use Rattle.pi_effects.specs.Effect.{Gives, Refuses}
 use Rattle.pi_effects.specs.Items.{list_of, list_onto, array_of}
 use Rattle.pi_effects.specs.Ranges.{range, values_by}

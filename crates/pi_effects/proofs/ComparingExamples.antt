@@ -2,7 +2,7 @@
 use Rattle.std.proofs.Common.{◌≡◌, [], ◌∷◌, refl}
 use Rattle.std.specs.Prelude.{ℕ, List, Some, codes}
 use Rattle.pi_terms.specs.Tree.{Tree, var}
-use Rattle.pi_states.specs.State.{State, free, bound}
+use Rattle.pi_constraints.specs.State.{State, free, bound}
 use Rattle.pi_effects.specs.Effect.{Succeeds, Fails, Raises}
 use Rattle.pi_effects.proofs.Worked.{a_state, n, a, b, compound, raised_type, does}
 

@@ -4,9 +4,9 @@ use Rattle.std.specs.Prelude.{Result, Option, pos}
 use Rattle.pi_effects.specs.Range.{Outcome}
 use Rattle.pi_effects.specs.declared.arith_fault.ArithFault.{ArithFault}
 use Rattle.pi_terms.specs.Tree.{Tree, int}
-use Rattle.pi_states.specs.State.{State, bindings, followed}
-use Rattle.pi_states.specs.Store.{StoreView, Stays}
-use Rattle.pi_states.specs.declared.store.Ref.{Ref}
+use Rattle.pi_constraints.specs.State.{State, bindings, followed}
+use Rattle.pi_constraints.specs.Store.{StoreView, Stays}
+use Rattle.pi_constraints.specs.declared.store.Ref.{Ref}
 use Rattle.pi_effects.specs.Exception.{thrown, bad_index, bad_format, type_error}
 use Rattle.pi_effects.specs.Answer.{Answer, found_or, integer_at, integer_then, integers_then}
 use Rattle.pi_effects.specs.BuiltIns.{answer_in}

@@ -2,7 +2,7 @@
 use Rattle.std.proofs.Common.{◌≡◌, [], ◌∷◌, refl}
 use Rattle.std.specs.Prelude.{ℕ, ◌^◌, ◌-◌, ℤ, pos, negsuc, neg_ℤ, List, Some, None, codes}
 use Rattle.pi_terms.specs.Tree.{Tree, var, int, atom}
-use Rattle.pi_states.specs.State.{bound, empty_state}
+use Rattle.pi_constraints.specs.State.{bound, empty_state}
 use Rattle.pi_effects.specs.Effect.{Gives, Refuses}
 use Rattle.pi_effects.proofs.Worked.{a_state, n, a, raised_type, gives}
 

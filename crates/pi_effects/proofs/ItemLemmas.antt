@@ -7,11 +7,11 @@ use Rattle.pi_terms.specs.Tree.{Tree, var, int, atom, comp, no_trees, tree, cell
 use Rattle.pi_terms.specs.ListNames.{nil, cell_name}
 use Rattle.pi_terms.specs.Substitution.{instance}
 use Rattle.pi_terms.proofs.TermLemmas.{cells-positive}
-use Rattle.pi_states.specs.Value.{Bindings, value, IsAcyclic}
-use Rattle.pi_states.specs.State.{followed, followed_for}
-use Rattle.pi_states.proofs.ValueLemmas.{value_goes_by_variables, unbound_is_its_own_value}
-use Rattle.pi_states.proofs.FollowLemmas.{followed_unbound}
-use Rattle.pi_states.proofs.RootLemmas.{with_values, value_int, value_atom, value_comp, value_at_root}
+use Rattle.pi_constraints.specs.Value.{Bindings, value, IsAcyclic}
+use Rattle.pi_constraints.specs.State.{followed, followed_for}
+use Rattle.pi_constraints.proofs.ValueLemmas.{value_goes_by_variables, unbound_is_its_own_value}
+use Rattle.pi_constraints.proofs.FollowLemmas.{followed_unbound}
+use Rattle.pi_constraints.proofs.RootLemmas.{with_values, value_int, value_atom, value_comp, value_at_root}
 use Rattle.pi_effects.specs.Items.{in_front_of, items_of_root, items_for, list_items, ItemsGoByRoot, ItemsGoByValue}
 
 -- the value of the rest of a cell is smaller than that of the list

@@ -2,7 +2,7 @@
 use Rattle.std.proofs.Common.{◌≡◌, [], ◌∷◌, refl}
 use Rattle.std.specs.Prelude.{ℕ, Bool, true, false, List, Option, Some, None, codes, map}
 use Rattle.pi_terms.specs.Tree.{Tree, var}
-use Rattle.pi_states.specs.State.{State, free, bound}
+use Rattle.pi_constraints.specs.State.{State, free, bound}
 use Rattle.pi_effects.specs.Effect.{Effect, Succeeds, Fails}
 use Rattle.pi_effects.specs.Items.{list_of, array_of}
 use Rattle.pi_effects.proofs.Worked.{a_state, n, a, compound, does}

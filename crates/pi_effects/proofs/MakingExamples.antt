@@ -3,11 +3,11 @@ use Rattle.std.proofs.Common.{◌≡◌, [], ◌∷◌, refl}
 use Rattle.std.specs.Prelude.{ℕ, nat_lt, true, false, negsuc, List, Some, codes}
 use Rattle.pi_terms.specs.Tree.{Tree, var, int, atom, cells, most_cells}
 use Rattle.pi_terms.specs.Copy.{copy, new_variables}
-use Rattle.pi_states.specs.State.{followed, followed_for, State, free, bound}
+use Rattle.pi_constraints.specs.State.{followed, followed_for, State, free, bound}
 use Rattle.pi_effects.specs.Effect.{Gives, Refuses, Raises}
 use Rattle.pi_effects.specs.Items.{list_of, array_of}
 use Rattle.pi_effects.specs.Making.{new_items, new_from, copied}
-use Rattle.pi_states.specs.Evaluation.{with_new_variables}
+use Rattle.pi_constraints.specs.Evaluation.{with_new_variables}
 use Rattle.pi_effects.proofs.Worked.{a_state, n, a, b, compound, gives, does}
 
 abbrev one : State

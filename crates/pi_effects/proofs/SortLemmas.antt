@@ -9,8 +9,8 @@ use Rattle.std.proofs.lemmas.Cmp.{upto, on_total}
 use Rattle.std.proofs.lemmas.List.Sorted.{IsPermutation-refl, IsPermutation-cons, IsPermutation-trans, IsPermutation-middle}
 use Rattle.pi_terms.specs.Tree.{Tree}
 use Rattle.pi_terms.proofs.OrderLemmas.{order_total, same_from_order, equal_is_identity}
-use Rattle.pi_states.specs.Value.{value}
-use Rattle.pi_states.specs.State.{State, bindings}
+use Rattle.pi_constraints.specs.Value.{value}
+use Rattle.pi_constraints.specs.State.{State, bindings}
 use Rattle.pi_effects.specs.Comparing.{value_order}
 use Rattle.pi_effects.specs.Sorting.{inserted, sorted, SortingAscends, SortingKeepsItems, SortingIsStable}
 

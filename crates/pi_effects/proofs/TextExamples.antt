@@ -3,8 +3,8 @@ use Rattle.std.proofs.Common.{◌≡◌, [], ◌∷◌, refl}
 use Rattle.std.specs.Prelude.{ℕ, nat_lt, Bool, true, false, List, ◌++◌, map, replicate, Some, None, Ok, Err, codes}
 use Rattle.std.specs.List.{flat_map}
 use Rattle.pi_terms.specs.Tree.{Tree, var, atom, cells, most_cells}
-use Rattle.pi_states.specs.Value.{value}
-use Rattle.pi_states.specs.State.{State, free, bound, bindings}
+use Rattle.pi_constraints.specs.Value.{value}
+use Rattle.pi_constraints.specs.State.{State, free, bound, bindings}
 use Rattle.pi_syntax.specs.PrintTerm.{text_of}
 use Rattle.pi_effects.specs.Effect.{Gives, Writes, Raises}
 use Rattle.pi_effects.specs.Format.{any_term, argument_text}

@@ -1,7 +1,7 @@
 -- What comes of a built-in that leaves the state as it is: something, or a term that is raised in its place. (Own.)
 use Rattle.std.specs.Prelude.{ℤ, nat_lt, cond, codes, Option, Some, None, Result, Ok, Err}
 use Rattle.pi_terms.specs.Tree.{Tree, var, int, atom, comp, cells, most_cells}
-use Rattle.pi_states.specs.State.{State, bindings, followed}
+use Rattle.pi_constraints.specs.State.{State, bindings, followed}
 use Rattle.pi_effects.specs.Exception.{term_too_large, type_error}
 
 abbrev pub Answer : Type 0 → Type 0

@@ -2,9 +2,9 @@
 -- Guide to Picat, 'Exceptions'; which faults there are is own.)
 use Rattle.std.specs.Prelude.{◌≡◌, ℕ, pos, List, codes}
 use Rattle.pi_terms.specs.Tree.{Tree, int}
-use Rattle.pi_states.specs.State.{State}
-use Rattle.pi_states.specs.Store.{StoreView, IsTerm}
-use Rattle.pi_states.specs.declared.store.Ref.{Ref}
+use Rattle.pi_constraints.specs.State.{State}
+use Rattle.pi_constraints.specs.Store.{StoreView, IsTerm}
+use Rattle.pi_constraints.specs.declared.store.Ref.{Ref}
 use Rattle.pi_effects.specs.Exception.{thrown, type_error, bad_index, bad_format, bad_range, range_too_long, term_too_large}
 use Rattle.pi_effects.specs.Integers.{fault_term}
 use Rattle.pi_effects.specs.declared.fault.Kind.{Kind}

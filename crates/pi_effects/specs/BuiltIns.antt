@@ -4,9 +4,9 @@
 use Rattle.std.specs.Prelude.{◌≡◌, ◌⊎◌, ℕ, Bool, true, false, ◌||◌, List, [], ◌∷◌, ◌++◌, Option, Some, option_map, is_some, codes, Ok, Err}
 use Rattle.std.specs.Option.{option_or}
 use Rattle.pi_terms.specs.Tree.{Tree, Trees, tree_count}
-use Rattle.pi_states.specs.State.{State}
-use Rattle.pi_states.specs.Unify.{unified}
-use Rattle.pi_states.specs.Evaluation.{with_new_variables}
+use Rattle.pi_constraints.specs.State.{State}
+use Rattle.pi_constraints.specs.Unify.{unified}
+use Rattle.pi_constraints.specs.Evaluation.{with_new_variables}
 use Rattle.pi_effects.specs.Effect.{Effect, Succeeds, Fails, Writes, Raises, FunctionEffect, Gives, Refuses, succeeds_in}
 use Rattle.pi_effects.specs.Exception.{thrown}
 use Rattle.pi_effects.specs.Answer.{Answer}

@@ -3,7 +3,7 @@
 use Rattle.std.specs.Prelude.{ℕ, ℤ, pos, not, List, [], ◌∷◌, map, reverse, length, filter, zip, Option, None, option_map, codes, slice_get, Ok}
 use Rattle.std.specs.List.{last_or}
 use Rattle.pi_terms.specs.Tree.{Tree, int}
-use Rattle.pi_states.specs.State.{State, bindings, followed}
+use Rattle.pi_constraints.specs.State.{State, bindings, followed}
 use Rattle.pi_effects.specs.Value.{value_of}
 use Rattle.pi_effects.specs.declared.operation.Op.{Op}
 use Rattle.pi_effects.specs.declared.operation.Op.TheVariants.{Add, Mul}

@@ -5,9 +5,9 @@ use Rattle.std.specs.Ordering.{is_lt, is_le, is_gt, is_ge, int_eq}
 use Rattle.std.specs.declared.cmp.Ordering.{Ordering}
 use Rattle.pi_terms.specs.Tree.{Tree}
 use Rattle.pi_terms.specs.Order.{order, identical}
-use Rattle.pi_states.specs.Value.{value}
-use Rattle.pi_states.specs.State.{State, bindings}
-use Rattle.pi_states.specs.Unify.{unified}
+use Rattle.pi_constraints.specs.Value.{value}
+use Rattle.pi_constraints.specs.State.{State, bindings}
+use Rattle.pi_constraints.specs.Unify.{unified}
 use Rattle.pi_effects.specs.Answer.{Answer, integers_then}
 use Rattle.pi_effects.specs.Rows.{of_two, Row, line}
 

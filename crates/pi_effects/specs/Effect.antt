@@ -1,7 +1,7 @@
 -- What a built-in does, as a value: what comes of its arguments is said before any trace or machine. (Own.)
 use Rattle.std.specs.Prelude.{ℕ, List, Option, None, Some}
 use Rattle.pi_terms.specs.Tree.{Tree}
-use Rattle.pi_states.specs.State.{State}
+use Rattle.pi_constraints.specs.State.{State}
 
 -- a predicate has one answer, in a state; or none; or writes a text and has one answer in a state; or raises a term
 pub data Effect : Type 0 where

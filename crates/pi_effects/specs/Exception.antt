@@ -4,8 +4,8 @@
 use Rattle.std.specs.Prelude.{ℕ, nat_lt, cond, List, codes}
 use Rattle.pi_terms.specs.Tree.{Tree, atom, comp, no_trees, tree, cells, most_cells}
 use Rattle.pi_terms.specs.Copy.{copy}
-use Rattle.pi_states.specs.Value.{value}
-use Rattle.pi_states.specs.State.{State, bindings}
+use Rattle.pi_constraints.specs.Value.{value}
+use Rattle.pi_constraints.specs.State.{State, bindings}
 
 abbrev pub term_too_large : Tree
 term_too_large = atom (codes "term_too_large")

@@ -6,8 +6,8 @@ use Rattle.std.specs.Prelude.{ℕ, ◌==◌, cond, Bool, true, false, List, [], 
 use Rattle.std.specs.Fmt.{signed_decimal}
 use Rattle.std.specs.Str.{byte}
 use Rattle.pi_terms.specs.Tree.{Tree, var, int, atom, comp}
-use Rattle.pi_states.specs.Value.{value}
-use Rattle.pi_states.specs.State.{State, bindings}
+use Rattle.pi_constraints.specs.Value.{value}
+use Rattle.pi_constraints.specs.State.{State, bindings}
 use Rattle.pi_syntax.specs.PrintTerm.{is_characters, characters, text_of}
 use Rattle.pi_effects.specs.Exception.{bad_format}
 use Rattle.pi_effects.specs.Answer.{Answer, measured}

@@ -2,7 +2,7 @@
 -- arguments, or define (own).
 use Rattle.std.specs.Prelude.{ℕ, zero, suc, ℤ, pos, negsuc, List, [], ◌∷◌, Option, None, codes, slice_get}
 use Rattle.pi_terms.specs.Tree.{Tree}
-use Rattle.pi_states.specs.State.{State, bindings}
+use Rattle.pi_constraints.specs.State.{State, bindings}
 use Rattle.pi_effects.specs.Exception.{type_error, bad_index}
 use Rattle.pi_effects.specs.Answer.{Answer, found_or, or_raised, integer_then}
 use Rattle.pi_effects.specs.Items.{indexed_items}

@@ -2,7 +2,7 @@
 use Rattle.std.specs.Prelude.{ℕ, pos, cond, List, [], ◌∷◌, reverse, Option, Some, None, unwrap_or, codes, Ok}
 use Rattle.std.specs.Str.{bytes_eq}
 use Rattle.pi_terms.specs.Tree.{Tree, int, comp, no_trees, tree}
-use Rattle.pi_states.specs.State.{State, bindings, followed}
+use Rattle.pi_constraints.specs.State.{State, bindings, followed}
 use Rattle.pi_syntax.specs.PrintTerm.{array_name}
 use Rattle.pi_effects.specs.Exception.{type_error}
 use Rattle.pi_effects.specs.Answer.{Answer, found_or, integer_then, integers_then}

@@ -6,8 +6,8 @@ use Rattle.std.specs.Str.{bytes_eq}
 use Rattle.pi_terms.specs.Tree.{Tree, var, int, atom, comp, Trees, no_trees, tree, trees_of, cells}
 use Rattle.pi_terms.specs.ListNames.{nil, cell_name}
 use Rattle.pi_terms.specs.ListCopies.{list_cell}
-use Rattle.pi_states.specs.Value.{Bindings, value, IsAcyclic}
-use Rattle.pi_states.specs.State.{followed}
+use Rattle.pi_constraints.specs.Value.{Bindings, value, IsAcyclic}
+use Rattle.pi_constraints.specs.State.{followed}
 use Rattle.pi_syntax.specs.PrintTerm.{array_name}
 
 -- arguments, each by itself

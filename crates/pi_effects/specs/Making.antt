@@ -4,9 +4,9 @@ use Rattle.std.specs.Prelude.{ℕ, zero, suc, ◌+◌, ◌*◌, nat_lt, cond, po
 use Rattle.std.specs.List.{range_with_len}
 use Rattle.pi_terms.specs.Tree.{Tree, var, int, atom, comp, cells, most_cells}
 use Rattle.pi_terms.specs.Copy.{copy, new_variables}
-use Rattle.pi_states.specs.Value.{value}
-use Rattle.pi_states.specs.State.{State, bindings, next, followed}
-use Rattle.pi_states.specs.Evaluation.{with_new_variables}
+use Rattle.pi_constraints.specs.Value.{value}
+use Rattle.pi_constraints.specs.State.{State, bindings, next, followed}
+use Rattle.pi_constraints.specs.Evaluation.{with_new_variables}
 use Rattle.pi_effects.specs.Effect.{FunctionEffect, Gives, Refuses}
 use Rattle.pi_effects.specs.Exception.{term_too_large, bad_index, range_too_long}
 use Rattle.pi_effects.specs.Items.{list_of, array_of}

@@ -1,7 +1,7 @@
 -- The name and the number of arguments of a term (A User's Guide to Picat, 'Data Types, Operators, and Built-ins').
 use Rattle.std.specs.Prelude.{ℕ, pos, List, [], ◌∷◌, Option, Some, None, codes}
 use Rattle.pi_terms.specs.Tree.{Tree, var, int, atom, comp, tree_count}
-use Rattle.pi_states.specs.State.{bindings, followed}
+use Rattle.pi_constraints.specs.State.{bindings, followed}
 use Rattle.pi_effects.specs.Exception.{type_error}
 use Rattle.pi_effects.specs.Answer.{Answer, or_raised}
 use Rattle.pi_effects.specs.Rows.{of_one, Row, line}

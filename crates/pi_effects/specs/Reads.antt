@@ -2,7 +2,7 @@
 use Rattle.std.specs.Prelude.{◌≡◌, ◌<◌, ◌≤◌, Option, Some, None}
 use Rattle.pi_terms.specs.Tree.{Tree, cells, most_cells}
 use Rattle.pi_terms.specs.Copy.{copy}
-use Rattle.pi_states.specs.declared.store.ReadStop.{ReadStop}
+use Rattle.pi_constraints.specs.declared.store.ReadStop.{ReadStop}
 use Rattle.pi_effects.specs.declared.fault.Fault.{Fault}
 use Rattle.pi_effects.specs.declared.fault.Stop.{Stop}
 

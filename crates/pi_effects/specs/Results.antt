@@ -2,9 +2,9 @@
 -- nothing. (Own.)
 use Rattle.std.specs.Prelude.{◌≡◌, Result, Ok, Err, ⊤}
 use Rattle.pi_terms.specs.Tree.{Tree}
-use Rattle.pi_states.specs.State.{State}
-use Rattle.pi_states.specs.Store.{StoreView, IsTerm, Stays, Gives as GivesTerm}
-use Rattle.pi_states.specs.declared.store.Ref.{Ref}
+use Rattle.pi_constraints.specs.State.{State}
+use Rattle.pi_constraints.specs.Store.{StoreView, IsTerm, Stays, Gives as GivesTerm}
+use Rattle.pi_constraints.specs.declared.store.Ref.{Ref}
 use Rattle.pi_effects.specs.Effect.{FunctionEffect, Gives, Refuses}
 use Rattle.pi_effects.specs.Answer.{Answer}
 use Rattle.pi_effects.specs.Balls.{IsBall}

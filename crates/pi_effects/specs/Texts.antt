@@ -4,8 +4,8 @@ use Rattle.std.specs.Prelude.{ℕ, Bool, true, false, List, [], ◌∷◌, ◌++
 use Rattle.std.specs.Char.{encode_utf8}
 use Rattle.std.specs.Str.{chars}
 use Rattle.pi_terms.specs.Tree.{Tree, atom}
-use Rattle.pi_states.specs.Value.{value}
-use Rattle.pi_states.specs.State.{State, bindings}
+use Rattle.pi_constraints.specs.Value.{value}
+use Rattle.pi_constraints.specs.State.{State, bindings}
 use Rattle.pi_syntax.specs.PrintTerm.{text_of}
 use Rattle.pi_effects.specs.Answer.{Answer, measured}
 use Rattle.pi_effects.specs.Items.{list_of}

@@ -1,9 +1,9 @@
 //! The terms of faults.
 ghost use Rattle.std.specs.Prelude.{◌≡◌, pos, codes, IfOk};
 ghost use Rattle.pi_terms.specs.Tree.{Tree, atom, int, comp, no_trees, tree};
-ghost use Rattle.pi_states.specs.Value.{IsAcyclic, value};
-ghost use Rattle.pi_states.specs.State.{bindings};
-ghost use Rattle.pi_states.specs.Store.{IsTerm};
+ghost use Rattle.pi_constraints.specs.Value.{IsAcyclic, value};
+ghost use Rattle.pi_constraints.specs.State.{bindings};
+ghost use Rattle.pi_constraints.specs.Store.{IsTerm};
 ghost use Rattle.pi_effects.specs.Exception.{thrown, exception_with, type_error};
 ghost use Rattle.pi_effects.specs.Integers.{fault_term};
 ghost use Rattle.pi_effects.specs.Balls.{kind_name, IsBall};
@@ -11,7 +11,7 @@ ghost use Rattle.pi_effects.specs.Reads.{IsCopied};
 
 use crate::arith_fault::ArithFault;
 use crate::fault::{Fault, Kind};
-use pi_states::{ReadStop, Ref, StateStore};
+use pi_constraints::{ReadStop, Ref, StateStore};
 use pi_terms::Term;
 use std::alloc::{AllocError, Global};
 

@@ -5,7 +5,7 @@ ghost use Rattle.pi_effects.specs.declared.fault.Stop.TheVariants.{Raised, Memor
 ghost use Rattle.pi_effects.specs.declared.fault.Fault.TheVariants.{Arithmetic};
 
 use crate::arith_fault::ArithFault;
-use pi_states::{ReadStop, Ref};
+use pi_constraints::{ReadStop, Ref};
 use std::alloc::{AllocError, AllocFailed};
 
 /// What an argument has to be. A User's Guide to Picat, 'Exceptions'; the kinds are own.

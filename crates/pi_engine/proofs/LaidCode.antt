@@ -3,8 +3,8 @@ use Rattle.std.proofs.Common.{◌≡◌, ◌≢◌, ℕ, zero, suc, ◌+◌, Boo
 use Rattle.std.specs.Prelude.{slice_get, Contains}
 use Rattle.std.proofs.lemmas.Option.{slice_get_within, get_or_from_slice_get}
 use Rattle.pi_terms.specs.Tree.{Tree}
-use Rattle.pi_states.specs.State.{SpeaksBelow}
-use Rattle.pi_states.specs.Store.{Terms}
+use Rattle.pi_constraints.specs.State.{SpeaksBelow}
+use Rattle.pi_constraints.specs.Store.{Terms}
 use Rattle.pi_core.specs.GoalTree.{GoalTree, no_goals, goal, nodes}
 use Rattle.pi_terms.specs.PatternTree.{PatternTrees, no_patterns, pattern}
 use Rattle.pi_core.specs.CoreTree.{ClauseTree, PredTree, pred_tree}

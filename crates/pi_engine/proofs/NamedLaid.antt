@@ -5,9 +5,9 @@ use Rattle.std.specs.Str.{bytes_eq}
 use Rattle.std.proofs.lemmas.Bool.{and_parts}
 use Rattle.std.proofs.lemmas.List.Elements.{All-nil, All-cons, All-contains}
 use Rattle.pi_terms.specs.Tree.{Tree, var}
-use Rattle.pi_states.specs.State.{SpeaksBelow}
-use Rattle.pi_states.specs.Store.{Terms}
-use Rattle.pi_states.proofs.KeepsLemmas.{var-below}
+use Rattle.pi_constraints.specs.State.{SpeaksBelow}
+use Rattle.pi_constraints.specs.Store.{Terms}
+use Rattle.pi_constraints.proofs.KeepsLemmas.{var-below}
 use Rattle.pi_core.specs.GoalTree.{GoalTree, truth, fail, tick, call, apply, seq, alternatives, if_else, not, once, collect, count, catch, subgoals}
 use Rattle.pi_core.specs.CoreTree.{PredTree, pred_tree, find_pred}
 use Rattle.pi_effects.specs.BuiltIns.{is_predicate, is_function}

@@ -1,16 +1,16 @@
 -- A run that begins stands for the configuration that a query begins with.
 use Rattle.std.proofs.Common.{◌≡◌, ℕ, zero, suc, false, List, [], ◌++◌, Option, None, length, take, map, replicate, refl, sym, ◌∙◌, ap, subst, arith}
-use Rattle.pi_states.specs.State.{IsState, empty_state, bindings}
-use Rattle.pi_states.specs.Value.{IsAcyclic}
-use Rattle.pi_states.specs.Store.{Terms, Moment, StoreView, Keeps, Stays, Marks, Returns}
+use Rattle.pi_constraints.specs.State.{IsState, empty_state, bindings}
+use Rattle.pi_constraints.specs.Value.{IsAcyclic}
+use Rattle.pi_constraints.specs.Store.{Terms, Moment, StoreView, Keeps, Stays, Marks, Returns}
 use Rattle.pi_core.specs.GoalTree.{GoalTree, no_goals, goal}
 use Rattle.pi_core.specs.CoreTree.{pred_tree}
 use Rattle.pi_meaning.specs.Sound.{IsSound, IsSoundQuery}
 use Rattle.pi_meaning.specs.Defined.{CallsDefined, ProgramCallsDefined, QueryCallsDefined, NamesAreFree}
-use Rattle.pi_states.specs.declared.store.Ref.{Ref}
+use Rattle.pi_constraints.specs.declared.store.Ref.{Ref}
 use Rattle.pi_core.specs.declared.core_program.CorePred.{CorePred}
 use Rattle.pi_core.specs.declared.core_program.NameSlot.{NameSlot}
-use Rattle.pi_states.proofs.KeepsLemmas.{empty-is-state}
+use Rattle.pi_constraints.proofs.KeepsLemmas.{empty-is-state}
 use Rattle.std.proofs.lemmas.List.{map-append}
 use Rattle.pi_code.specs.declared.code.Code.{Code}
 use Rattle.pi_arenas.specs.declared.blocks.Written.{Written}

@@ -1,6 +1,6 @@
 -- How the run of a query begins.
 use Rattle.std.specs.Prelude.{ℕ, List, ◌++◌, map}
-use Rattle.pi_states.specs.Store.{StoreView}
+use Rattle.pi_constraints.specs.Store.{StoreView}
 use Rattle.pi_core.specs.GoalTree.{GoalTree}
 use Rattle.pi_core.specs.CoreTree.{PredTree, QueryTree, pred_tree}
 use Rattle.pi_core.specs.declared.core_program.CorePred.{CorePred}

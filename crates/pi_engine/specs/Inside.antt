@@ -1,6 +1,6 @@
 -- Where the run of a machine is, by what the machine has inside. Those that use it need none of this: they read `Seen` and `Runs`.
 use Rattle.std.specs.Prelude.{◌≡◌, List, ◌++◌, ⊤}
-use Rattle.pi_states.specs.Store.{Terms}
+use Rattle.pi_constraints.specs.Store.{Terms}
 use Rattle.pi_meaning.specs.Trace.{End, Done, Note, Tick, Emitted}
 use Rattle.pi_meaning.specs.View.{View}
 use Rattle.pi_meaning.specs.Run.{Solution}

@@ -1,6 +1,6 @@
 -- Planner calls that a machine waits for: what it says of its run then, and what it owes where the answer is handed in.
 use Rattle.std.specs.Prelude.{◌≡◌, List, ◌++◌}
-use Rattle.pi_states.specs.State.{State}
+use Rattle.pi_constraints.specs.State.{State}
 use Rattle.pi_meaning.specs.Trace.{Trace, end, Call, Miss, Emitted}
 use Rattle.pi_meaning.specs.View.{View, Wanted, reading}
 use Rattle.pi_meaning.specs.Run.{Solution}

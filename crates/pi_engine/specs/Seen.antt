@@ -1,6 +1,6 @@
 -- A machine, as those that use it see it: what they read of it, and how its run may end.
 use Rattle.std.specs.Prelude.{◌≡◌, ◌⊎◌, ℕ, List, length, Option, Some, None, ⊤}
-use Rattle.pi_states.specs.Store.{StoreView}
+use Rattle.pi_constraints.specs.Store.{StoreView}
 use Rattle.pi_terms.specs.Tree.{Tree}
 use Rattle.pi_meaning.specs.Trace.{End, Raise, Abort, Note, Tick, Load, Out}
 use Rattle.pi_core.specs.declared.core_program.NameSlot.{NameSlot}

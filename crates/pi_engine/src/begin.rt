@@ -1,7 +1,7 @@
 //! The beginning of a run.
 ghost use Rattle.std.specs.Prelude.{◌≡◌, ◌++◌, List, IfOk};
-ghost use Rattle.pi_states.specs.State.{empty_state};
-ghost use Rattle.pi_states.specs.Store.{Keeps};
+ghost use Rattle.pi_constraints.specs.State.{empty_state};
+ghost use Rattle.pi_constraints.specs.Store.{Keeps};
 ghost use Rattle.pi_core.specs.CoreTree.{program_tree};
 ghost use Rattle.pi_meaning.specs.Sound.{IsSoundQuery};
 ghost use Rattle.pi_meaning.specs.Defined.{QueryCallsDefined, NamesAreFree};
@@ -13,8 +13,8 @@ ghost use Rattle.pi_engine.specs.Turns.{IsRunning};
 
 use pi_arenas::Run;
 use pi_code::{Code, build_code};
+use pi_constraints::StateStore;
 use pi_core::{CoreGoal, CorePreds, CoreProgram};
-use pi_states::StateStore;
 use pi_steps::one_goal;
 use std::alloc::{AllocError, Global};
 

@@ -1,7 +1,7 @@
 //! The machine, as its callers see it.
 ghost use Rattle.std.specs.Prelude.{◌≡◌, [], ◌++◌, List, IfOk, IfErr};
-ghost use Rattle.pi_states.specs.State.{empty_state};
-ghost use Rattle.pi_states.specs.Store.{Stays};
+ghost use Rattle.pi_constraints.specs.State.{empty_state};
+ghost use Rattle.pi_constraints.specs.Store.{Stays};
 ghost use Rattle.pi_core.specs.CoreTree.{PredTree, QueryTree, program_tree, query_tree};
 ghost use Rattle.pi_meaning.specs.Run.{Solution};
 ghost use Rattle.pi_meaning.specs.Sound.{IsSoundQuery};
@@ -19,9 +19,9 @@ use crate::begin::begin;
 use crate::turns::next_happening;
 use pi_arenas::Run;
 use pi_code::Code;
+use pi_constraints::StateStore;
 use pi_core::{CoreProgram, CoreQuery, NameSlots};
 use pi_meaning::{Budget, Happening, Mode};
-use pi_states::StateStore;
 use std::alloc::{AllocError, Global};
 
 /// A run of a goal over a store. It borrows its program.

@@ -20,9 +20,9 @@ ghost use Rattle.pi_engine.specs.Turns.{StepIs, StepStops, stopped_run, NextCome
 
 use pi_arenas::{End, Now, Point, Run, Telling};
 use pi_code::Code;
+use pi_constraints::StateStore;
 use pi_core::{Answer, NameSlot};
 use pi_meaning::{Budget, Happening, Mode};
-use pi_states::StateStore;
 use pi_steps::{answer, answer_level, fail, run_goal, unwind};
 use pi_terms::Text;
 use std::alloc::{AllocError, Global};

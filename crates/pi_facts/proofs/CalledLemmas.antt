@@ -3,9 +3,9 @@ use Rattle.std.proofs.Common.{◌≡◌, inl, inr, ℕ, suc, ◌+◌, List, [], 
 use Rattle.std.specs.Prelude.{slice_get}
 use Rattle.pi_terms.specs.Tree.{Tree, Trees, no_trees, tree, trees_of, tree_count, tree_at, args}
 use Rattle.pi_terms.proofs.GetLemmas.{get_append_cases}
-use Rattle.pi_states.specs.Store.{StoreView, IsTerm, AreTerms, ShowsCell}
-use Rattle.pi_states.specs.declared.store.Ref.{Ref}
-use Rattle.pi_states.specs.declared.store.Cell.{Cell}
+use Rattle.pi_constraints.specs.Store.{StoreView, IsTerm, AreTerms, ShowsCell}
+use Rattle.pi_constraints.specs.declared.store.Ref.{Ref}
+use Rattle.pi_constraints.specs.declared.store.Cell.{Cell}
 use Rattle.pi_effects.specs.Items.{each_tree}
 use Rattle.pi_meaning.specs.Calls.{called_by}
 use Rattle.pi_facts.specs.Called.{IsCalled, IsRoot}

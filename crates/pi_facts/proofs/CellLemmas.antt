@@ -7,8 +7,8 @@ use Rattle.std.proofs.lemmas.Slice.Eq.{bytes_eq-Decides}
 use Rattle.std.proofs.lemmas.Bool.Decides.{Decides-eqb}
 use Rattle.pi_terms.specs.Tree.{Tree}
 use Rattle.pi_terms.specs.PatternTree.{PatternTree, exact_int, exact_atom, compound}
-use Rattle.pi_states.specs.Store.{StoreView, IsName, ShowsCell}
-use Rattle.pi_states.specs.declared.store.Cell.{Cell}
+use Rattle.pi_constraints.specs.Store.{StoreView, IsName, ShowsCell}
+use Rattle.pi_constraints.specs.declared.store.Cell.{Cell}
 use Rattle.pi_core.specs.CoreTree.{pattern_tree, pattern_trees}
 use Rattle.pi_core.specs.declared.core_program.Pattern.{Pattern, Int, Atom, Comp}
 use Rattle.pi_meaning.specs.Sound.{pattern_count}

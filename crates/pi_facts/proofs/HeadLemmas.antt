@@ -6,13 +6,13 @@ use Rattle.std.specs.declared.vec.Vec.{Vec}
 use Rattle.std.specs.declared.alloc.Global.{Global}
 use Rattle.pi_terms.specs.Tree.{Tree, Trees, no_trees, tree, var, int, atom, comp}
 use Rattle.pi_terms.specs.Places.{Places, held}
-use Rattle.pi_states.specs.State.{State, IsState, SpeaksBelow, next, with_new}
-use Rattle.pi_states.specs.Store.{StoreView, IsTerm, AreTerms, Keeps, Stays, Gives}
-use Rattle.pi_states.specs.Evaluation.{Evaluated, EvaluatedAll, slot_term}
-use Rattle.pi_states.specs.Unify.{unified}
-use Rattle.pi_states.specs.declared.store.Ref.{Ref}
-use Rattle.pi_states.proofs.KeepsLemmas.{new-next, new-keeps}
-use Rattle.pi_states.proofs.UnifyLemmas.{unified_grows}
+use Rattle.pi_constraints.specs.State.{State, IsState, SpeaksBelow, next, with_new}
+use Rattle.pi_constraints.specs.Store.{StoreView, IsTerm, AreTerms, Keeps, Stays, Gives}
+use Rattle.pi_constraints.specs.Evaluation.{Evaluated, EvaluatedAll, slot_term}
+use Rattle.pi_constraints.specs.Unify.{unified}
+use Rattle.pi_constraints.specs.declared.store.Ref.{Ref}
+use Rattle.pi_constraints.proofs.KeepsLemmas.{new-next, new-keeps}
+use Rattle.pi_constraints.proofs.UnifyLemmas.{unified_grows}
 use Rattle.pi_core.specs.CoreTree.{pattern_tree, pattern_trees}
 use Rattle.pi_core.specs.declared.core_program.Pattern.{Pattern, Slot, Int, Atom, Comp, Named}
 use Rattle.std.specs.declared.boxed.Box.{Box}

@@ -9,12 +9,12 @@ use Rattle.std.proofs.lemmas.Option.{slice_get_within}
 use Rattle.std.proofs.lemmas.List.Elements.{Contains-get_or}
 use Rattle.pi_terms.specs.Tree.{Tree, Trees, comp, tree_at, arg_at}
 use Rattle.pi_terms.specs.PatternTree.{PatternTree, exact_int, exact_atom}
-use Rattle.pi_states.specs.Value.{IsAcyclic}
-use Rattle.pi_states.specs.State.{State, bindings, next, followed, SpeaksBelow, IsState}
-use Rattle.pi_states.specs.Store.{StoreView, IsName, IsTerm, ShowsCell, Keeps}
-use Rattle.pi_states.specs.declared.store.Ref.{Ref}
-use Rattle.pi_states.specs.declared.store.Cell.{Cell}
-use Rattle.pi_states.proofs.KeepsLemmas.{args-below}
+use Rattle.pi_constraints.specs.Value.{IsAcyclic}
+use Rattle.pi_constraints.specs.State.{State, bindings, next, followed, SpeaksBelow, IsState}
+use Rattle.pi_constraints.specs.Store.{StoreView, IsName, IsTerm, ShowsCell, Keeps}
+use Rattle.pi_constraints.specs.declared.store.Ref.{Ref}
+use Rattle.pi_constraints.specs.declared.store.Cell.{Cell}
+use Rattle.pi_constraints.proofs.KeepsLemmas.{args-below}
 use Rattle.pi_core.specs.CoreTree.{clause_tree, pattern_tree}
 use Rattle.pi_core.specs.declared.core_program.CoreClause.{CoreClause}
 use Rattle.pi_meaning.specs.Step.{with_fact}

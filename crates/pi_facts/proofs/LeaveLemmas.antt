@@ -5,12 +5,12 @@ use Rattle.std.specs.Prelude.{List, Option, Some, None, option_map, option_and_t
 use Rattle.pi_terms.specs.Tree.{Tree}
 use Rattle.pi_terms.specs.Places.{Places, held}
 use Rattle.pi_terms.specs.PatternTree.{PatternTree, slot, exact_int, exact_atom, compound, named, PatternTrees, no_patterns, pattern}
-use Rattle.pi_states.specs.Value.{Bindings, Solves}
-use Rattle.pi_states.specs.State.{State, free, binding, bindings, next, with_new, SpeaksBelow, IsState, PlacesBelow}
-use Rattle.pi_states.specs.Unify.{unified, PairsBelow}
-use Rattle.pi_states.specs.Evaluation.{Evaluated, EvaluatedAll, slot_term}
-use Rattle.pi_states.proofs.KeepsLemmas.{EvaluatedBelow, AllBelow, Later, slot-below, speaks-more, comp-below, trees-below, no-trees-below, int-below, atom-below, unified-later}
-use Rattle.pi_states.proofs.UnifyLemmas.{Unifies, IsResult, result}
+use Rattle.pi_constraints.specs.Value.{Bindings, Solves}
+use Rattle.pi_constraints.specs.State.{State, free, binding, bindings, next, with_new, SpeaksBelow, IsState, PlacesBelow}
+use Rattle.pi_constraints.specs.Unify.{unified, PairsBelow}
+use Rattle.pi_constraints.specs.Evaluation.{Evaluated, EvaluatedAll, slot_term}
+use Rattle.pi_constraints.proofs.KeepsLemmas.{EvaluatedBelow, AllBelow, Later, slot-below, speaks-more, comp-below, trees-below, no-trees-below, int-below, atom-below, unified-later}
+use Rattle.pi_constraints.proofs.UnifyLemmas.{Unifies, IsResult, result}
 use Rattle.pi_meaning.specs.Facts.{also_named, with_name, in_front, fact_term, fact_terms}
 
 -- what a term comes to

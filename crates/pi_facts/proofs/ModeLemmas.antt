@@ -4,9 +4,9 @@ use Rattle.std.proofs.lemmas.List.{drop_all, drop_more}
 use Rattle.std.specs.List.{list_any}
 use Rattle.std.specs.Prelude.{slice_get, Ok}
 use Rattle.pi_terms.specs.Tree.{Tree, Trees, no_trees, tree, drop_trees}
-use Rattle.pi_states.specs.Value.{Bindings}
-use Rattle.pi_states.specs.Store.{StoreView, IsTerm, AreTerms}
-use Rattle.pi_states.specs.declared.store.Ref.{Ref}
+use Rattle.pi_constraints.specs.Value.{Bindings}
+use Rattle.pi_constraints.specs.Store.{StoreView, IsTerm, AreTerms}
+use Rattle.pi_constraints.specs.declared.store.Ref.{Ref}
 use Rattle.pi_effects.specs.Answer.{Answer}
 use Rattle.pi_effects.specs.Kinds.{holds_no_variable}
 use Rattle.pi_meaning.specs.Facts.{fits_modes}

@@ -5,18 +5,18 @@ use Rattle.pi_terms.specs.Tree.{Tree, var, int, atom, comp, Trees, no_trees, tre
 use Rattle.pi_terms.specs.Places.{Places, held}
 use Rattle.pi_terms.specs.PatternTree.{PatternTree, slot, exact_int, exact_atom, compound, named, PatternTrees, no_patterns, pattern}
 use Rattle.pi_terms.specs.Substitution.{instance, instances}
-use Rattle.pi_states.specs.Value.{Solves, value, IsAcyclic}
-use Rattle.pi_states.specs.State.{State, bindings, next, followed, SpeaksBelow, IsState}
-use Rattle.pi_states.specs.Store.{StoreView, IsTerm, ShowsCell}
-use Rattle.pi_states.specs.declared.store.Ref.{Ref}
-use Rattle.pi_states.specs.declared.store.Cell.{Cell}
-use Rattle.pi_states.specs.Unify.{PairsBelow}
-use Rattle.pi_states.specs.Evaluation.{Evaluated, EvaluatedAll, slot_term}
-use Rattle.pi_states.proofs.FollowLemmas.{followed_instance, followed_other}
-use Rattle.pi_states.proofs.ValueLemmas.{values_solve}
-use Rattle.pi_states.proofs.KeepsLemmas.{TreesBelow, args-below, comp-below, trees-more, places-empty}
-use Rattle.pi_states.proofs.UnifyOutcome.{AreOne}
-use Rattle.pi_states.proofs.UnifyLemmas.{Unifies, IsResult, result}
+use Rattle.pi_constraints.specs.Value.{Solves, value, IsAcyclic}
+use Rattle.pi_constraints.specs.State.{State, bindings, next, followed, SpeaksBelow, IsState}
+use Rattle.pi_constraints.specs.Store.{StoreView, IsTerm, ShowsCell}
+use Rattle.pi_constraints.specs.declared.store.Ref.{Ref}
+use Rattle.pi_constraints.specs.declared.store.Cell.{Cell}
+use Rattle.pi_constraints.specs.Unify.{PairsBelow}
+use Rattle.pi_constraints.specs.Evaluation.{Evaluated, EvaluatedAll, slot_term}
+use Rattle.pi_constraints.proofs.FollowLemmas.{followed_instance, followed_other}
+use Rattle.pi_constraints.proofs.ValueLemmas.{values_solve}
+use Rattle.pi_constraints.proofs.KeepsLemmas.{TreesBelow, args-below, comp-below, trees-more, places-empty}
+use Rattle.pi_constraints.proofs.UnifyOutcome.{AreOne}
+use Rattle.pi_constraints.proofs.UnifyLemmas.{Unifies, IsResult, result}
 use Rattle.pi_core.specs.CoreTree.{pattern_tree, pattern_trees}
 use Rattle.pi_core.specs.declared.core_program.Pattern.{Pattern}
 use Rattle.pi_meaning.specs.Sound.{pattern_count}

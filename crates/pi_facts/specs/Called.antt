@@ -1,8 +1,8 @@
 -- What a term calls, by the terms of a store. (Own.)
 use Rattle.std.specs.Prelude.{◌≡◌, ℕ, List, ◌++◌, Option, Some, None}
 use Rattle.pi_terms.specs.Tree.{Tree, Trees, trees_of}
-use Rattle.pi_states.specs.Store.{StoreView, IsName, AreTerms}
-use Rattle.pi_states.specs.declared.store.Ref.{Ref}
+use Rattle.pi_constraints.specs.Store.{StoreView, IsName, AreTerms}
+use Rattle.pi_constraints.specs.declared.store.Ref.{Ref}
 use Rattle.pi_effects.specs.Items.{each_tree}
 use Rattle.pi_meaning.specs.Calls.{Called, called_by}
 

@@ -2,10 +2,10 @@
 use Rattle.std.specs.Prelude.{◌≡◌, ◌<◌, ℕ, List, [], ◌∷◌, map, Option, Some, None, option_map, ⊤}
 use Rattle.pi_terms.specs.Tree.{var}
 use Rattle.pi_terms.specs.Places.{Places}
-use Rattle.pi_states.specs.State.{IsState, next}
-use Rattle.pi_states.specs.Store.{StoreView, IsTerm, AreTerms}
-use Rattle.pi_states.specs.Evaluation.{Evaluated, EvaluatedAll}
-use Rattle.pi_states.specs.declared.store.Ref.{Ref}
+use Rattle.pi_constraints.specs.State.{IsState, next}
+use Rattle.pi_constraints.specs.Store.{StoreView, IsTerm, AreTerms}
+use Rattle.pi_constraints.specs.Evaluation.{Evaluated, EvaluatedAll}
+use Rattle.pi_constraints.specs.declared.store.Ref.{Ref}
 use Rattle.std.specs.declared.vec.Vec.{Vec}
 use Rattle.std.specs.declared.alloc.Global.{Global}
 

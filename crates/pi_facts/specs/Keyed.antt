@@ -2,8 +2,8 @@
 use Rattle.std.specs.Prelude.{◌≡◌, ℕ, ◌+◌, ◌-◌, ◌≤◌, ◌<◌, List, Option, Some, None, slice_get, Contains, ⊤}
 use Rattle.pi_terms.specs.Tree.{Trees}
 use Rattle.pi_terms.specs.PatternTree.{PatternTree, exact_int, exact_atom}
-use Rattle.pi_states.specs.State.{State}
-use Rattle.pi_states.specs.declared.store.Cell.{Cell}
+use Rattle.pi_constraints.specs.State.{State}
+use Rattle.pi_constraints.specs.declared.store.Cell.{Cell}
 use Rattle.pi_core.specs.CoreTree.{clause_tree, pattern_tree}
 use Rattle.pi_core.specs.declared.core_program.CoreClause.{CoreClause}
 use Rattle.pi_core.specs.declared.core_program.Pattern.{Pattern}

@@ -1,7 +1,7 @@
 -- A place of a mode list and the arguments from one on.
 use Rattle.std.specs.Prelude.{Bool, true}
 use Rattle.pi_terms.specs.Tree.{Trees, no_trees, tree}
-use Rattle.pi_states.specs.Value.{Bindings}
+use Rattle.pi_constraints.specs.Value.{Bindings}
 use Rattle.pi_meaning.specs.Facts.{fits_mode}
 use Rattle.pi_syntax.specs.declared.program.Mode.{Mode}
 

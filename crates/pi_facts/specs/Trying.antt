@@ -1,7 +1,7 @@
 -- Facts that are tried one after the other.
 use Rattle.std.specs.Prelude.{◌≡◌, ℕ, ◌-◌, ◌≤◌, ◌<◌, List, [], ◌∷◌, Option, Some, None, drop}
 use Rattle.pi_terms.specs.Tree.{Trees}
-use Rattle.pi_states.specs.State.{State}
+use Rattle.pi_constraints.specs.State.{State}
 use Rattle.pi_core.specs.CoreTree.{ClauseTree}
 use Rattle.pi_meaning.specs.Step.{with_fact, from_unifying}
 

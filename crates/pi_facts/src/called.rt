@@ -1,14 +1,14 @@
 //! The name and the arguments of a term that is called.
 ghost use Rattle.std.specs.Prelude.{◌≡◌, [], ◌++◌, drop, IfOk, IsSome};
 ghost use Rattle.pi_terms.specs.Tree.{Tree, Trees, tree};
-ghost use Rattle.pi_states.specs.State.{bindings, followed};
-ghost use Rattle.pi_states.specs.Value.{IsAcyclic};
-ghost use Rattle.pi_states.specs.Store.{IsTerm, AreTerms};
+ghost use Rattle.pi_constraints.specs.State.{bindings, followed};
+ghost use Rattle.pi_constraints.specs.Value.{IsAcyclic};
+ghost use Rattle.pi_constraints.specs.Store.{IsTerm, AreTerms};
 ghost use Rattle.pi_effects.specs.Items.{each_tree};
 ghost use Rattle.pi_meaning.specs.Calls.{called_by};
 ghost use Rattle.pi_facts.specs.Called.{IsCalled, IsRoot, NamesAreDistinct};
 
-use pi_states::{Cell, Ref, StateStore};
+use pi_constraints::{Cell, Ref, StateStore};
 use std::alloc::AllocError;
 
 /// The number of the name that the first of these terms calls, and into the room for them its arguments: its own, and

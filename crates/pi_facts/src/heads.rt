@@ -2,16 +2,16 @@
 ghost use Rattle.std.specs.Prelude.{◌≡◌, ℕ, true, List, [], Option, None, Some, option_and_then, replicate, slice_index_or, slice_set, IfOk};
 ghost use Rattle.pi_terms.specs.Tree.{Trees, comp};
 ghost use Rattle.pi_terms.specs.Places.{held};
-ghost use Rattle.pi_states.specs.State.{IsState, next};
-ghost use Rattle.pi_states.specs.Store.{IsTerm, Keeps};
-ghost use Rattle.pi_states.specs.Evaluation.{Evaluated, slot_term};
+ghost use Rattle.pi_constraints.specs.State.{IsState, next};
+ghost use Rattle.pi_constraints.specs.Store.{IsTerm, Keeps};
+ghost use Rattle.pi_constraints.specs.Evaluation.{Evaluated, slot_term};
 ghost use Rattle.pi_core.specs.CoreTree.{pattern_tree, pattern_trees};
 ghost use Rattle.pi_unify.specs.Answers.{Answers};
 ghost use Rattle.pi_meaning.specs.Facts.{also_named, fact_term, fact_terms, unified_with};
 ghost use Rattle.pi_facts.specs.Heads.{AreMade, made_places, Puts, PutsHead, PutsHeads};
 
+use pi_constraints::{Ref, StateStore};
 use pi_core::Pattern;
-use pi_states::{Ref, StateStore};
 use pi_unify::unify;
 use std::alloc::{AllocError, Global};
 

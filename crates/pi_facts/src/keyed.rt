@@ -1,14 +1,14 @@
 //! The facts of a predicate that may unify with a call by what they show in places.
 ghost use Rattle.std.specs.Prelude.{◌≡◌, ◌+◌, ◌≤◌, ◌<◌, ℕ, [], length, Contains};
 ghost use Rattle.pi_terms.specs.Tree.{Trees, comp};
-ghost use Rattle.pi_states.specs.State.{IsState};
-ghost use Rattle.pi_states.specs.Store.{IsTerm};
+ghost use Rattle.pi_constraints.specs.State.{IsState};
+ghost use Rattle.pi_constraints.specs.Store.{IsTerm};
 ghost use Rattle.pi_code.specs.Keys.{Has, places_in};
 ghost use Rattle.pi_facts.specs.Keyed.{at_place, sought, HaveKeys, NoneBetween};
 
 use pi_code::{FactKeys, FactPlace, FactValue};
+use pi_constraints::{Cell, Ref, StateStore};
 use pi_core::CoreClause;
-use pi_states::{Cell, Ref, StateStore};
 
 /// The facts of a predicate, which have numbers from the first one on to before the end, and by what they are found.
 #[derive(Clone, Copy)]

@@ -2,16 +2,16 @@
 ghost use Rattle.std.specs.Prelude.{◌≡◌, List, Some, slice_get, IfOk};
 ghost use Rattle.std.specs.List.{list_any};
 ghost use Rattle.pi_terms.specs.Tree.{Trees, drop_trees};
-ghost use Rattle.pi_states.specs.Value.{IsAcyclic};
-ghost use Rattle.pi_states.specs.State.{bindings};
-ghost use Rattle.pi_states.specs.Store.{AreTerms};
+ghost use Rattle.pi_constraints.specs.Value.{IsAcyclic};
+ghost use Rattle.pi_constraints.specs.State.{bindings};
+ghost use Rattle.pi_constraints.specs.Store.{AreTerms};
 ghost use Rattle.pi_core.specs.CoreTree.{index_of};
 ghost use Rattle.pi_meaning.specs.Facts.{fits_modes};
 ghost use Rattle.pi_syntax.specs.declared.program.Mode.{Mode};
 ghost use Rattle.pi_facts.specs.Modes.{fits_first};
 
 use pi_builtin::is_closed;
-use pi_states::{Ref, StateStore};
+use pi_constraints::{Ref, StateStore};
 use pi_syntax::{Decl, Mode, Modes};
 use std::alloc::{AllocError, Global};
 

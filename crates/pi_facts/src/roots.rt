@@ -2,14 +2,14 @@
 ghost use Rattle.std.specs.Prelude.{◌≡◌, ℕ, true, [], None, replicate, option_and_then};
 ghost use Rattle.pi_terms.specs.Tree.{Tree, Trees, comp};
 ghost use Rattle.pi_terms.specs.PatternTree.{exact_int, exact_atom, compound};
-ghost use Rattle.pi_states.specs.State.{IsState};
-ghost use Rattle.pi_states.specs.Store.{IsTerm, ShowsCell};
+ghost use Rattle.pi_constraints.specs.State.{IsState};
+ghost use Rattle.pi_constraints.specs.Store.{IsTerm, ShowsCell};
 ghost use Rattle.pi_core.specs.CoreTree.{pattern_tree, pattern_trees};
 ghost use Rattle.pi_meaning.specs.Facts.{fact_terms, unified_with};
 ghost use Rattle.pi_facts.specs.Roots.{Differs};
 
+use pi_constraints::{Cell, Ref, StateStore};
 use pi_core::Pattern;
-use pi_states::{Cell, Ref, StateStore};
 
 /// Whether a fact with this head differs at a root from a call, whose arguments are those of a compound without a name: then
 /// it doesn't unify with the call. It takes no memory.

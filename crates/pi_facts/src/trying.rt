@@ -1,8 +1,8 @@
 //! Facts that are tried one after the other: the next one that unifies with a call.
 ghost use Rattle.std.specs.Prelude.{◌≡◌, ◌+◌, ◌≤◌, [], Some, map, is_some, length, slice_get, IfOk};
 ghost use Rattle.pi_terms.specs.Tree.{Trees, comp};
-ghost use Rattle.pi_states.specs.State.{IsState};
-ghost use Rattle.pi_states.specs.Store.{IsTerm, Stays};
+ghost use Rattle.pi_constraints.specs.State.{IsState};
+ghost use Rattle.pi_constraints.specs.Store.{IsTerm, Stays};
 ghost use Rattle.pi_core.specs.CoreTree.{clause_tree};
 ghost use Rattle.pi_core.specs.declared.core_program.CoreClause.{CoreClause as Clause};
 ghost use Rattle.pi_meaning.specs.Step.{with_fact};
@@ -12,8 +12,8 @@ ghost use Rattle.pi_facts.specs.Keyed.{HaveKeys};
 use crate::heads::unify_fact;
 use crate::keyed::{Facts, next_alike};
 use crate::roots::differs;
+use pi_constraints::{Ref, StateStore};
 use pi_core::CoreClause;
-use pi_states::{Ref, StateStore};
 use std::alloc::{AllocError, Global};
 
 /// Whether a fact unifies with a call, whose arguments are those of a compound without a name. The state stays.

@@ -3,7 +3,7 @@ use Rattle.std.proofs.Common.{ℕ, ◌≤◌, List, [], ◌∷◌, length, refl,
 use Rattle.std.specs.Prelude.{Option, Some, None, slice_set}
 use Rattle.pi_terms.specs.Tree.{Tree, no_trees, tree, trees_of, tree_count}
 use Rattle.pi_terms.specs.Places.{Places}
-use Rattle.pi_states.specs.Evaluation.{EvaluatedAll}
+use Rattle.pi_constraints.specs.Evaluation.{EvaluatedAll}
 use Rattle.pi_effects.specs.Inner.{itself_name}
 use Rattle.pi_core.specs.GoalTree.{GoalTree}
 use Rattle.pi_meaning.specs.Trace.{Trace, done, one, then}

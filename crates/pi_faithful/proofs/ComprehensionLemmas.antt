@@ -8,7 +8,7 @@ use Rattle.std.proofs.lemmas.List.{length-set, get_or-set_same}
 use Rattle.pi_terms.specs.Tree.{Tree, atom, no_trees, tree, tree_count}
 use Rattle.pi_terms.specs.ListNames.{nil}
 use Rattle.pi_terms.specs.Places.{Places, held}
-use Rattle.pi_states.specs.State.{State}
+use Rattle.pi_constraints.specs.State.{State}
 use Rattle.pi_effects.specs.Inner.{itself_name}
 use Rattle.pi_core.specs.GoalTree.{GoalTree}
 use Rattle.pi_meaning.specs.Trace.{Trace, one, then}

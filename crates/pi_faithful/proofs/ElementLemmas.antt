@@ -4,8 +4,8 @@ use Rattle.std.specs.Prelude.{Option, Some, None, option_and_then, option_map, I
 use Rattle.std.specs.Str.{bytes_eq}
 use Rattle.pi_terms.specs.Tree.{Tree, trees_of}
 use Rattle.pi_terms.specs.Places.{Places, held}
-use Rattle.pi_states.specs.State.{State}
-use Rattle.pi_states.specs.Evaluation.{evaluated_all}
+use Rattle.pi_constraints.specs.State.{State}
+use Rattle.pi_constraints.specs.Evaluation.{evaluated_all}
 use Rattle.pi_core.specs.GoalTree.{GoalTree}
 use Rattle.pi_meaning.specs.Trace.{Trace, one, then}
 use Rattle.pi_meaning.proofs.RelatedLemmas.{Same}

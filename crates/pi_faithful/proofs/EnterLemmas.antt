@@ -7,9 +7,9 @@ use Rattle.std.proofs.lemmas.Bool.Decides.{Decides-eqb}
 use Rattle.std.proofs.lemmas.List.{get_or-set_same}
 use Rattle.pi_terms.specs.Tree.{Tree, trees_of}
 use Rattle.pi_terms.specs.Places.{Places, held}
-use Rattle.pi_states.specs.State.{State, next, with_new}
-use Rattle.pi_states.specs.Evaluation.{Evaluated, slot_term, evaluated, evaluated_all, with_new_variables}
-use Rattle.pi_states.proofs.KeepsLemmas.{new-next}
+use Rattle.pi_constraints.specs.State.{State, next, with_new}
+use Rattle.pi_constraints.specs.Evaluation.{Evaluated, slot_term, evaluated, evaluated_all, with_new_variables}
+use Rattle.pi_constraints.proofs.KeepsLemmas.{new-next}
 use Rattle.pi_meaning.specs.Environment.{Environment, meant, known, name_valued}
 use Rattle.pi_meaning.specs.Place.{Place}
 use Rattle.pi_meaning.specs.Texts.{Names, is_among}

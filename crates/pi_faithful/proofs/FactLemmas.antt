@@ -8,9 +8,9 @@ use Rattle.pi_terms.specs.ListNames.{nil, cell_name}
 use Rattle.pi_terms.specs.ListCopies.{list_cell}
 use Rattle.pi_terms.specs.Places.{Places}
 use Rattle.pi_terms.specs.PatternTree.{PatternTree, exact_atom}
-use Rattle.pi_states.specs.State.{State}
-use Rattle.pi_states.specs.Unify.{unified}
-use Rattle.pi_states.specs.Evaluation.{Evaluated, EvaluatedAll, evaluated}
+use Rattle.pi_constraints.specs.State.{State}
+use Rattle.pi_constraints.specs.Unify.{unified}
+use Rattle.pi_constraints.specs.Evaluation.{Evaluated, EvaluatedAll, evaluated}
 use Rattle.pi_syntax.specs.PrintTerm.{array_name}
 use Rattle.pi_effects.specs.Items.{list_onto, list_of}
 use Rattle.pi_effects.specs.Texts.{text_list}

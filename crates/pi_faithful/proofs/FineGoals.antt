@@ -7,8 +7,8 @@ use Rattle.std.specs.Str.{chars}
 use Rattle.std.proofs.lemmas.Bool.{true≢false, false≢true}
 use Rattle.pi_terms.specs.Tree.{Tree, no_trees, trees_of, tree_count, comp}
 use Rattle.pi_terms.specs.ListNames.{nil, cell_name}
-use Rattle.pi_states.specs.State.{SpeaksBelow}
-use Rattle.pi_states.proofs.KeepsLemmas.{TreesBelow, comp-below, int-below}
+use Rattle.pi_constraints.specs.State.{SpeaksBelow}
+use Rattle.pi_constraints.proofs.KeepsLemmas.{TreesBelow, comp-below, int-below}
 use Rattle.pi_syntax.specs.PrintTerm.{array_name}
 use Rattle.pi_effects.specs.Indexing.{index_name}
 use Rattle.pi_effects.specs.Items.{list_onto as items_before, list_of}

@@ -4,8 +4,8 @@ use Rattle.pi_terms.specs.Tree.{Tree, comp, no_trees, tree}
 use Rattle.pi_terms.specs.ListNames.{cell_name}
 use Rattle.pi_terms.specs.ListCopies.{list_cell}
 use Rattle.pi_terms.specs.Places.{Places}
-use Rattle.pi_states.specs.State.{State}
-use Rattle.pi_states.specs.Evaluation.{Evaluated, EvaluatedAll, evaluated, evaluated_all}
+use Rattle.pi_constraints.specs.State.{State}
+use Rattle.pi_constraints.specs.Evaluation.{Evaluated, EvaluatedAll, evaluated, evaluated_all}
 use Rattle.pi_meaning.specs.Trace.{Trace, one, then}
 use Rattle.pi_meaning.proofs.TraceLemmas.{then-one, then-assoc}
 use Rattle.pi_meaning.specs.Level.{Level, Point}

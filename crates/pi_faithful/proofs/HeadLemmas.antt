@@ -14,10 +14,10 @@ use Rattle.pi_terms.specs.ListNames.{nil, cell_name}
 use Rattle.pi_terms.specs.Places.{Places, held}
 use Rattle.pi_terms.specs.Order.{name_order, identical}
 use Rattle.pi_terms.specs.PatternTree.{PatternTree, exact_atom, compound, PatternTrees, no_patterns, pattern}
-use Rattle.pi_states.specs.Value.{Bindings, value}
-use Rattle.pi_states.specs.State.{followed}
-use Rattle.pi_states.specs.HeadMatch.{taken_in, filled_in, compound_in, matched_in, matched_all_in}
-use Rattle.pi_states.proofs.MatchLemmas.{same_name, name_itself}
+use Rattle.pi_constraints.specs.Value.{Bindings, value}
+use Rattle.pi_constraints.specs.State.{followed}
+use Rattle.pi_constraints.specs.HeadMatch.{taken_in, filled_in, compound_in, matched_in, matched_all_in}
+use Rattle.pi_constraints.proofs.MatchLemmas.{same_name, name_itself}
 use Rattle.pi_syntax.specs.PrintTerm.{array_name}
 use Rattle.pi_effects.specs.Items.{list_onto as list_before, list_of, cell_parts}
 use Rattle.pi_syntax.specs.ExpTree.{ExpTree, var, int, atom, str, list, list_onto, array, call, quote, range, range_by, at, ExpTrees, no_exps, exp}

@@ -4,7 +4,7 @@ use Rattle.std.specs.Prelude.{Option, None, is_some, replicate}
 use Rattle.std.specs.List.{AllByRecursion}
 use Rattle.std.proofs.lemmas.List.{append-nil}
 use Rattle.std.proofs.lemmas.List.Elements.{recursion_from_All}
-use Rattle.pi_states.specs.State.{State, empty_state}
+use Rattle.pi_constraints.specs.State.{State, empty_state}
 use Rattle.pi_syntax.specs.ExpTree.{ExpTree}
 use Rattle.pi_syntax.specs.ProgramTree.{FunctionTree, ProgramTree}
 use Rattle.pi_syntax.specs.declared.program.Mode.{Mode}

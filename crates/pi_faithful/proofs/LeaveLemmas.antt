@@ -4,8 +4,8 @@ use Rattle.std.specs.Prelude.{Option, Some, None, IsSome, Ok, Err, ⊤, ◌||◌
 use Rattle.std.specs.Str.{bytes_eq}
 use Rattle.std.proofs.lemmas.Bool.{true≢false}
 use Rattle.pi_terms.specs.Tree.{Tree, var}
-use Rattle.pi_states.specs.State.{bindings, next}
-use Rattle.pi_states.specs.Unify.{unified}
+use Rattle.pi_constraints.specs.State.{bindings, next}
+use Rattle.pi_constraints.specs.Unify.{unified}
 use Rattle.pi_effects.specs.Range.{Outcome}
 use Rattle.pi_effects.specs.Value.{value_of}
 use Rattle.pi_effects.specs.declared.operation.Op.TheVariants.{Add}

@@ -4,7 +4,7 @@ use Rattle.std.specs.Prelude.{Option, Some, None, filter, filter_map, IsTrue, co
 use Rattle.std.specs.List.{AllByRecursion, cons_option, list_any}
 use Rattle.std.proofs.lemmas.Bool.{false≢true}
 use Rattle.pi_terms.specs.Tree.{Trees, comp, tree_count}
-use Rattle.pi_states.specs.State.{State, bindings}
+use Rattle.pi_constraints.specs.State.{State, bindings}
 use Rattle.pi_syntax.specs.ExpTree.{ExpTree}
 use Rattle.pi_syntax.specs.ProgramTree.{RuleTree, FunctionTree, WrittenClause, rule, function, fact, ProgramTree}
 use Rattle.pi_syntax.specs.declared.program.Mode.{Mode}

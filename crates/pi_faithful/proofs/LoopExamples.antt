@@ -7,11 +7,11 @@ use Rattle.pi_terms.specs.Variables.{occurrences, firsts}
 use Rattle.pi_terms.specs.Substitution.{instance}
 use Rattle.pi_terms.specs.Copy.{copy}
 use Rattle.pi_terms.specs.ListCopies.{list_of_copies, new_in_all}
-use Rattle.pi_states.specs.Value.{rounds, value}
-use Rattle.pi_states.specs.State.{empty_state, followed_for, followed}
-use Rattle.pi_states.specs.Unify.{in_pairs, assigned, joined, outcome, unified_for, unbound_in, cells_of_pairs, most_pairs, all_unified}
-use Rattle.pi_states.specs.Evaluation.{evaluated, evaluated_all, with_new_variables}
-use Rattle.pi_states.specs.HeadMatch.{matched_in, matched_all_in}
+use Rattle.pi_constraints.specs.Value.{rounds, value}
+use Rattle.pi_constraints.specs.State.{empty_state, followed_for, followed}
+use Rattle.pi_constraints.specs.Unify.{in_pairs, assigned, joined, outcome, unified_for, unbound_in, cells_of_pairs, most_pairs, all_unified}
+use Rattle.pi_constraints.specs.Evaluation.{evaluated, evaluated_all, with_new_variables}
+use Rattle.pi_constraints.specs.HeadMatch.{matched_in, matched_all_in}
 use Rattle.std.specs.Str.{chars}
 use Rattle.std.specs.Char.{encode_utf8}
 use Rattle.std.specs.Fmt.{digits}

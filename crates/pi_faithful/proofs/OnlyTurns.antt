@@ -1,7 +1,7 @@
 -- A loop that begins with a test: its helper has one turn, without a Tick. And a test that stands in a turn.
 use Rattle.std.proofs.Common.{◌≡◌, ℕ, ◌+◌, ◌-◌, ◌≤◌, List, ◌++◌, length, sym, ◌∙◌, ap, arith}
 use Rattle.pi_terms.specs.Tree.{Tree, trees_of}
-use Rattle.pi_states.specs.State.{State}
+use Rattle.pi_constraints.specs.State.{State}
 use Rattle.pi_core.specs.GoalTree.{GoalTree}
 use Rattle.pi_core.specs.CoreTree.{PredTree}
 use Rattle.pi_meaning.specs.Trace.{Trace, one, then}

@@ -8,7 +8,7 @@ use Rattle.std.proofs.lemmas.Bool.{false≢true}
 use Rattle.std.proofs.lemmas.Bool.Decides.{Decides-eqb}
 use Rattle.std.proofs.lemmas.Slice.Eq.{bytes_eq-Decides}
 use Rattle.pi_terms.specs.Tree.{Trees, tree_count}
-use Rattle.pi_states.specs.State.{State}
+use Rattle.pi_constraints.specs.State.{State}
 use Rattle.pi_effects.specs.BuiltIns.{is_predicate, built_in_predicate}
 use Rattle.pi_effects.proofs.BuiltInLemmas.{predicates-listed}
 use Rattle.pi_terms.specs.Order.{name_order}

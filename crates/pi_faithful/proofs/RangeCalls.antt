@@ -7,8 +7,8 @@ use Rattle.std.proofs.lemmas.Bool.{ltb-false}
 use lib.IntN.{suc_ℤ-*ℤ}
 use Rattle.std.proofs.lemmas.Bool.Decides.{Decides-ltb}
 use Rattle.pi_terms.specs.Tree.{Tree, comp, no_trees, tree}
-use Rattle.pi_states.specs.State.{State, bindings, followed}
-use Rattle.pi_states.proofs.FollowLemmas.{followed_other}
+use Rattle.pi_constraints.specs.State.{State, bindings, followed}
+use Rattle.pi_constraints.proofs.FollowLemmas.{followed_other}
 use Rattle.pi_syntax.specs.PrintTerm.{array_name}
 use Rattle.pi_effects.specs.Range.{has_128_bits, bounded}
 use Rattle.pi_effects.specs.Value.{value_of}

@@ -4,9 +4,9 @@ use Rattle.std.specs.Prelude.{ℤ, Some, None, Ok, Err, slice_set, pos, codes}
 use Rattle.std.proofs.lemmas.List.{length-set, get_or-set_same}
 use Rattle.pi_terms.specs.Tree.{Tree, comp, Trees, no_trees, tree, trees_of, tree_count}
 use Rattle.pi_terms.specs.Places.{Places, held}
-use Rattle.pi_states.specs.State.{State, bindings, followed}
-use Rattle.pi_states.specs.Evaluation.{Evaluated, EvaluatedAll, evaluated, evaluated_all}
-use Rattle.pi_states.proofs.FollowLemmas.{followed_other}
+use Rattle.pi_constraints.specs.State.{State, bindings, followed}
+use Rattle.pi_constraints.specs.Evaluation.{Evaluated, EvaluatedAll, evaluated, evaluated_all}
+use Rattle.pi_constraints.proofs.FollowLemmas.{followed_other}
 use Rattle.pi_effects.specs.Answer.{Answer}
 use Rattle.pi_effects.specs.Inner.{range_count_name}
 use Rattle.pi_effects.specs.BuiltIns.{answer_in}

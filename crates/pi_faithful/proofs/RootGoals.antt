@@ -6,9 +6,9 @@ use Rattle.pi_terms.specs.Tree.{Tree, var, int, atom, comp, Trees, no_trees, tre
 use Rattle.pi_terms.specs.Places.{Places, held}
 use Rattle.pi_terms.specs.ListCopies.{new_in_all}
 use Rattle.pi_terms.specs.Copy.{copy, new_variables}
-use Rattle.pi_states.specs.State.{State, next}
-use Rattle.pi_states.specs.Unify.{unified}
-use Rattle.pi_states.specs.Evaluation.{Evaluated, EvaluatedAll, slot_term, evaluated, evaluated_all, with_new_variables}
+use Rattle.pi_constraints.specs.State.{State, next}
+use Rattle.pi_constraints.specs.Unify.{unified}
+use Rattle.pi_constraints.specs.Evaluation.{Evaluated, EvaluatedAll, slot_term, evaluated, evaluated_all, with_new_variables}
 use Rattle.pi_core.specs.GoalTree.{GoalTree, truth, fail, tick, call, apply, seq, alternatives, if_else, not, once, collect, count, catch, GoalTrees, no_goals, goal}
 use Rattle.pi_meaning.specs.Trace.{Trace, end, note, ans, one, alt, then, first, answers}
 use Rattle.pi_meaning.specs.Control.{negated, chosen, caught}

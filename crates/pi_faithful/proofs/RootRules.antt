@@ -5,10 +5,10 @@ use Rattle.std.specs.List.{list_any}
 use Rattle.pi_terms.specs.Tree.{Tree, comp, Trees, trees_of, tree_count}
 use Rattle.pi_terms.specs.Places.{Places, held}
 use Rattle.pi_terms.specs.PatternTree.{PatternTree, slot, exact_int, exact_atom, compound, named, PatternTrees, no_patterns, pattern}
-use Rattle.pi_states.specs.State.{State, bindings}
-use Rattle.pi_states.specs.Unify.{unified}
-use Rattle.pi_states.specs.Evaluation.{Evaluated, EvaluatedAll, slot_term, evaluated_all, evaluated}
-use Rattle.pi_states.specs.HeadMatch.{matched_all_in}
+use Rattle.pi_constraints.specs.State.{State, bindings}
+use Rattle.pi_constraints.specs.Unify.{unified}
+use Rattle.pi_constraints.specs.Evaluation.{Evaluated, EvaluatedAll, slot_term, evaluated_all, evaluated}
+use Rattle.pi_constraints.specs.HeadMatch.{matched_all_in}
 use Rattle.pi_core.specs.GoalTree.{GoalTree, truth, goals_of}
 use Rattle.pi_core.specs.CoreTree.{ClauseTree, PredTree, backtracks, find_pred}
 use Rattle.pi_core.specs.declared.core_program.SlotWatch.{SlotWatch}

@@ -8,11 +8,11 @@ use Rattle.std.proofs.lemmas.List.{length-set}
 use Rattle.std.proofs.lemmas.Map.Steps.{length-le_from_distinct_below}
 use Rattle.pi_terms.specs.Tree.{Tree, var, int, atom, comp}
 use Rattle.pi_terms.specs.Places.{Places, held}
-use Rattle.pi_states.specs.Value.{Bindings}
+use Rattle.pi_constraints.specs.Value.{Bindings}
 use Rattle.pi_constraints.specs.Domain.{values_of, common}
 use Rattle.pi_constraints.specs.declared.domain.Span.{Span}
-use Rattle.pi_states.specs.State.{State, Variable, within, bound, binding, bindings, domain_of, followed_for, followed, with_variable, with_binding}
-use Rattle.pi_states.specs.Unify.{Pair, Outcome, clash, changed, parts, in_pairs, assigned, confined, joined_with, joined, outcome, go_on, unified_for, pairs_ahead, all_unified}
+use Rattle.pi_constraints.specs.State.{State, Variable, within, bound, binding, bindings, domain_of, followed_for, followed, with_variable, with_binding}
+use Rattle.pi_constraints.specs.Unify.{Pair, Outcome, clash, changed, parts, in_pairs, assigned, confined, joined_with, joined, outcome, go_on, unified_for, pairs_ahead, all_unified}
 use Rattle.pi_faithful.specs.Roots.{RootsStay}
 use Rattle.pi_faithful.proofs.ElementLemmas.{roots-stay-itself}
 use Rattle.pi_faithful.proofs.StayLemmas.{IsRooted, unbound-itself, roots-stay-then}

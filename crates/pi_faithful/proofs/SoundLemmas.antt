@@ -6,9 +6,9 @@ use Rattle.std.specs.Str.{chars}
 use Rattle.std.proofs.lemmas.List.Elements.{Contains-append_cases, Contains-push_cases}
 use Rattle.pi_terms.specs.Tree.{Tree, trees_of}
 use Rattle.pi_terms.specs.PatternTree.{PatternTree, exact_atom, PatternTrees, no_patterns, pattern, HasSlot, HaveSlot}
-use Rattle.pi_states.specs.State.{SpeaksBelow}
+use Rattle.pi_constraints.specs.State.{SpeaksBelow}
 use Rattle.pi_effects.specs.Items.{list_onto as list_before, list_of}
-use Rattle.pi_states.proofs.KeepsLemmas.{TreesBelow}
+use Rattle.pi_constraints.proofs.KeepsLemmas.{TreesBelow}
 use Rattle.pi_core.specs.GoalTree.{GoalTree, truth, fail, tick, call, apply, seq, alternatives, if_else, not, once, collect, count, catch, GoalTrees, no_goals, goal, subgoals, subgoals_all}
 use Rattle.pi_syntax.specs.ExpTree.{ExpTree, var, int, atom, str, list, list_onto, array, quote, range, range_by, at, ExpTrees, no_exps, exp}
 use Rattle.pi_syntax.specs.ExpTree as written

@@ -4,9 +4,9 @@ use Rattle.std.specs.Prelude.{Option, Some, None, ⊤, unwrap_or}
 use Rattle.std.proofs.lemmas.List.{length-append, map-append}
 use Rattle.pi_terms.specs.Tree.{Tree, var, int, atom, comp}
 use Rattle.pi_terms.specs.Places.{Places, held}
-use Rattle.pi_states.specs.Value.{Bindings}
-use Rattle.pi_states.specs.State.{State, free, binding, bindings, followed_for, followed, with_new}
-use Rattle.pi_states.specs.Evaluation.{with_new_variables}
+use Rattle.pi_constraints.specs.Value.{Bindings}
+use Rattle.pi_constraints.specs.State.{State, free, binding, bindings, followed_for, followed, with_new}
+use Rattle.pi_constraints.specs.Evaluation.{with_new_variables}
 use Rattle.pi_faithful.specs.Roots.{RootsStay}
 use Rattle.pi_faithful.proofs.ElementLemmas.{roots-stay-itself}
 

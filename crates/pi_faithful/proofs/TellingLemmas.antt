@@ -2,9 +2,9 @@
 use Rattle.std.proofs.Common.{◌≡◌, ℕ, ◌≤◌, Bool, true, false, cond, List, [], ◌∷◌, length, refl, sym, ◌∙◌, ap, subst, arith, nat_lt}
 use Rattle.pi_terms.specs.Tree.{Tree, most_cells, cells}
 use Rattle.pi_terms.specs.Places.{Places}
-use Rattle.pi_states.specs.Value.{value}
-use Rattle.pi_states.specs.State.{State, bindings}
-use Rattle.pi_states.specs.Evaluation.{Evaluated}
+use Rattle.pi_constraints.specs.Value.{value}
+use Rattle.pi_constraints.specs.State.{State, bindings}
+use Rattle.pi_constraints.specs.Evaluation.{Evaluated}
 use Rattle.pi_core.specs.declared.answer.NamedTerm.{NamedTerm}
 use Rattle.pi_meaning.specs.Trace.{Trace, end, one}
 use Rattle.pi_meaning.proofs.RelatedLemmas.{Same, same}

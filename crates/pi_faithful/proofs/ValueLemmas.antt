@@ -4,8 +4,8 @@ use Rattle.std.specs.Prelude.{Some, None, ◌||◌, IsTrue, slice_set}
 use Rattle.std.proofs.lemmas.List.{get_or-set_same}
 use Rattle.pi_terms.specs.Tree.{Tree, Trees, no_trees, tree, trees_of, tree_count}
 use Rattle.pi_terms.specs.Places.{Places}
-use Rattle.pi_states.specs.State.{State}
-use Rattle.pi_states.specs.Evaluation.{Evaluated, EvaluatedAll, evaluated, evaluated_all}
+use Rattle.pi_constraints.specs.State.{State}
+use Rattle.pi_constraints.specs.Evaluation.{Evaluated, EvaluatedAll, evaluated, evaluated_all}
 use Rattle.pi_syntax.specs.ExpTree.{ExpTrees}
 use Rattle.pi_core.specs.GoalTree.{GoalTree}
 use Rattle.pi_meaning.specs.Trace.{Trace, one, then}

@@ -3,8 +3,8 @@ use Rattle.std.proofs.Common.{◌≡◌, ℕ, suc, Bool, true, false, cond, List
 use Rattle.std.specs.Prelude.{ℤ, Option, Some, Ok, pos, codes, int_lt, ◌||◌, IsTrue, slice_get}
 use Rattle.std.specs.Option.{option_or}
 use Rattle.pi_terms.specs.Tree.{Tree, int, comp, Trees, no_trees, tree}
-use Rattle.pi_states.specs.State.{State, bindings, followed}
-use Rattle.pi_states.proofs.FollowLemmas.{followed_other}
+use Rattle.pi_constraints.specs.State.{State, bindings, followed}
+use Rattle.pi_constraints.proofs.FollowLemmas.{followed_other}
 use Rattle.pi_syntax.specs.PrintTerm.{array_name}
 use Rattle.pi_effects.specs.Value.{value_of}
 use Rattle.pi_effects.specs.declared.operation.Op.TheVariants.{Add}

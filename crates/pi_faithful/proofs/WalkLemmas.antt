@@ -6,10 +6,10 @@ use Rattle.pi_terms.specs.ListNames.{nil, cell_name}
 use Rattle.pi_terms.specs.Order.{order, identical}
 use Rattle.pi_terms.specs.Places.{Places}
 use Rattle.pi_terms.specs.PatternTree.{PatternTree, slot, exact_atom, compound, no_patterns, pattern}
-use Rattle.pi_states.specs.Value.{Bindings}
-use Rattle.pi_states.specs.State.{State, bindings, followed}
-use Rattle.pi_states.specs.HeadMatch.{compound_in, matched_in, matched_all_in}
-use Rattle.pi_states.proofs.MatchLemmas.{name_itself}
+use Rattle.pi_constraints.specs.Value.{Bindings}
+use Rattle.pi_constraints.specs.State.{State, bindings, followed}
+use Rattle.pi_constraints.specs.HeadMatch.{compound_in, matched_in, matched_all_in}
+use Rattle.pi_constraints.proofs.MatchLemmas.{name_itself}
 use Rattle.pi_syntax.specs.PrintTerm.{array_name}
 use Rattle.pi_core.specs.GoalTree.{GoalTree}
 use Rattle.pi_meaning.specs.Trace.{Trace, end, note, Deep, Tick, then, done}

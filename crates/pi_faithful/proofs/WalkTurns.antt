@@ -6,8 +6,8 @@ use Rattle.std.specs.Str.{bytes_eq}
 use Rattle.std.proofs.lemmas.Slice.Eq.{bytes_eq-Decides}
 use Rattle.pi_terms.specs.Tree.{Tree, comp, Trees, no_trees, tree, trees_of}
 use Rattle.pi_terms.specs.ListNames.{nil, cell_name}
-use Rattle.pi_states.specs.Value.{Bindings}
-use Rattle.pi_states.specs.State.{State, bindings, followed}
+use Rattle.pi_constraints.specs.Value.{Bindings}
+use Rattle.pi_constraints.specs.State.{State, bindings, followed}
 use Rattle.pi_syntax.specs.PrintTerm.{array_name}
 use Rattle.pi_effects.specs.Value.{value_of}
 use Rattle.pi_effects.specs.declared.operation.Op.TheVariants.{Add}

@@ -3,7 +3,7 @@ use Rattle.std.proofs.Common.{◌≡◌, ℕ, ◌+◌, ◌≤◌, List, [], ◌�
 use Rattle.std.specs.Prelude.{Option, Some, None, option_map}
 use Rattle.pi_terms.specs.Tree.{Tree, trees_of}
 use Rattle.pi_terms.specs.Places.{Places}
-use Rattle.pi_states.specs.State.{State}
+use Rattle.pi_constraints.specs.State.{State}
 use Rattle.pi_core.specs.GoalTree.{GoalTree}
 use Rattle.pi_core.specs.CoreTree.{PredTree}
 use Rattle.pi_meaning.specs.Trace.{Trace, end, note, Deep, Tick, one, then}

@@ -1,7 +1,7 @@
 -- What lowering keeps. A core program keeps the meaning of a program, and a query that of a goal: with all names of the language as built-ins, what they do is what is done over names,
 -- whatever the view is, and whatever later stages give that goes by calls and keeps what terms are followed to. Which core program and which query they are doesn't count.
 use Rattle.std.specs.Prelude.{◌≡◌, ◌<◌, ℕ, Contains, List, ◌++◌, is_some, true, false}
-use Rattle.pi_states.specs.State.{State}
+use Rattle.pi_constraints.specs.State.{State}
 use Rattle.pi_syntax.specs.ExpTree.{ExpTree}
 use Rattle.pi_syntax.specs.ProgramTree.{ProgramTree}
 use Rattle.pi_core.specs.CoreTree.{ClauseTree, PredTree, find_pred, QueryTree}

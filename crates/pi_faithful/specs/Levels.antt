@@ -1,7 +1,7 @@
 -- Levels at which calls of what a program has do the same, as those of a program and of what it is lowered to. (Own.)
 use Rattle.std.specs.Prelude.{◌≡◌, ℕ, List, IsTrue}
 use Rattle.pi_terms.specs.Tree.{Trees, tree_count}
-use Rattle.pi_states.specs.State.{State}
+use Rattle.pi_constraints.specs.State.{State}
 use Rattle.pi_meaning.specs.View.{View}
 use Rattle.pi_meaning.specs.Level.{Level, lowest, over, Calls}
 use Rattle.pi_meaning.specs.Given.{Later}

@@ -1,7 +1,7 @@
 -- What a term is followed to stays, where that is no variable, from a state to those behind it; and what later stages of the language owe of it. By this a loop walks a list in place. (Own.)
 use Rattle.std.specs.Prelude.{◌≡◌, ℕ, List, All}
 use Rattle.pi_terms.specs.Tree.{Tree, comp, Trees}
-use Rattle.pi_states.specs.State.{State, bindings, followed}
+use Rattle.pi_constraints.specs.State.{State, bindings, followed}
 use Rattle.pi_meaning.specs.Trace.{answers}
 use Rattle.pi_meaning.specs.View.{View}
 use Rattle.pi_meaning.specs.Level.{Level, lowest, over, Calls, Applied}

@@ -2,8 +2,8 @@
 use Rattle.std.specs.Prelude.{◌≡◌, ℕ, ◌^◌, ◌+◌, ◌-◌, true, false, pos, negsuc, neg_ℤ, List, [], ◌∷◌, Result, Ok, Err, Some, None, codes, refl}
 use Rattle.std.specs.Option.{option_or}
 use Rattle.pi_terms.specs.Tree.{Tree, var, int, atom, cells}
-use Rattle.pi_states.specs.Value.{value, rounds}
-use Rattle.pi_states.specs.State.{followed_for, followed}
+use Rattle.pi_constraints.specs.Value.{value, rounds}
+use Rattle.pi_constraints.specs.State.{followed_for, followed}
 use Rattle.pi_effects.specs.Items.{each_tree, list_onto, list_of, items_for, list_items}
 use Rattle.pi_constraints.specs.declared.constraint.Item.{Item}
 use Rattle.pi_constraints.specs.declared.constraint.Constraint.{Constraint}

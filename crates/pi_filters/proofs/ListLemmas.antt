@@ -11,8 +11,8 @@ use Rattle.pi_constraints.specs.declared.constraint.Item.{Item}
 use Rattle.pi_constraints.specs.declared.constraint.Constraint.{Constraint}
 use Rattle.pi_constraints.specs.Constraint.{HoldVariable}
 use Rattle.pi_filters.specs.Solutions.{value_of, values_of_items, AreDifferent, Holds}
-use Rattle.pi_states.specs.Value.{value}
-use Rattle.pi_states.specs.State.{SpeaksBelow, followed_for, followed}
+use Rattle.pi_constraints.specs.Value.{value}
+use Rattle.pi_constraints.specs.State.{SpeaksBelow, followed_for, followed}
 use Rattle.pi_effects.specs.Items.{each_tree, in_front_of, items_for, list_items, collection_items}
 use Rattle.pi_filters.specs.Steps.{Made, Known, gives, then, posting}
 use Rattle.pi_filters.specs.Lists.{read_item, read_each, items_or_refused, read_collection, posts_different, posts_distinct, posts_element}

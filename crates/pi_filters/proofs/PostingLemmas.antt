@@ -5,7 +5,7 @@ use Rattle.pi_terms.specs.Tree.{Tree, var, int, atom, comp}
 use Rattle.pi_terms.specs.Variables.{Occurs}
 use Rattle.pi_constraints.specs.Constraint.{SpeaksOf, IsWithinLimits}
 use Rattle.pi_filters.specs.Solutions.{AreDifferent}
-use Rattle.pi_states.specs.State.{SpeaksBelow}
+use Rattle.pi_constraints.specs.State.{SpeaksBelow}
 use Rattle.pi_effects.specs.Items.{collection_items}
 use Rattle.pi_filters.specs.Operands.{Goal, relates, is_so, all_different, all_distinct, element, no_constraint}
 use Rattle.pi_filters.specs.Terms.{operand_of, goal_of}

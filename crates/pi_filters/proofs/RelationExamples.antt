@@ -1,8 +1,8 @@
 -- Relations, `all_different` and `element`, worked through the definitions.
 use Rattle.std.specs.Prelude.{◌≡◌, pos, negsuc, [], ◌∷◌, Result, Ok, Err, codes, refl}
 use Rattle.pi_terms.specs.Tree.{Tree, var, int, atom, comp, trees_of, cells}
-use Rattle.pi_states.specs.Value.{value, rounds}
-use Rattle.pi_states.specs.State.{followed_for, followed}
+use Rattle.pi_constraints.specs.Value.{value, rounds}
+use Rattle.pi_constraints.specs.State.{followed_for, followed}
 use Rattle.pi_effects.specs.Items.{each_tree, list_onto, list_of, array_of, items_for, list_items}
 use Rattle.pi_constraints.specs.declared.constraint.Item.{Item}
 use Rattle.pi_constraints.specs.declared.constraint.Rel.{Rel}

@@ -7,7 +7,7 @@ use Rattle.pi_terms.specs.Tree.{Tree, var, int, atom, comp, Trees, no_trees, tre
 use Rattle.pi_terms.specs.ListNames.{nil, cell_name}
 use Rattle.pi_terms.specs.Variables.{Occurs, OccursInAny}
 use Rattle.pi_syntax.specs.PrintTerm.{array_name}
-use Rattle.pi_states.specs.State.{SpeaksBelow}
+use Rattle.pi_constraints.specs.State.{SpeaksBelow}
 use Rattle.pi_filters.specs.Operands.{Operand, plus, minus, times, positive, negative, absolute, no_operand, Operands, no_operands, operand, Comparison, Connective, Boolean, relation, negation, joined, no_boolean, Goal, relates, is_so, all_different, all_distinct, element, no_constraint}
 use Rattle.pi_filters.specs.Terms.{total_of, one_part, two_parts, operand_of, operands_of, operands_of_array, operands_of_list, comparison_named, connective_named, joined_by, related_by, boolean_of, goal_of_boolean, goal_of}
 use Rattle.pi_filters.proofs.OperandLemmas.{OperandBelow, OperandsBelow}

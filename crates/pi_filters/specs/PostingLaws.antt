@@ -3,7 +3,7 @@ use Rattle.std.specs.Prelude.{◌≡◌, ◌↔◌, ℕ, ◌+◌, ◌<◌, ℤ, 
 use Rattle.pi_terms.specs.Tree.{Tree}
 use Rattle.pi_constraints.specs.declared.constraint.Constraint.{Constraint}
 use Rattle.pi_constraints.specs.Constraint.{SpeaksOf, IsWithinLimits}
-use Rattle.pi_states.specs.State.{SpeaksBelow}
+use Rattle.pi_constraints.specs.State.{SpeaksBelow}
 use Rattle.pi_filters.specs.Terms.{operand_of, goal_of}
 use Rattle.pi_filters.specs.PostingSums.{Sum, added, scaled, sum_value, Ascend, coefficient}
 use Rattle.pi_filters.specs.Steps.{Known, read_operand}

@@ -1,8 +1,8 @@
 -- What a goal posts: new variables and constraints, or why it is refused. (A User's Guide to Picat, 'Constraints'; limits and exceptions are own.)
 use Rattle.std.specs.Prelude.{ℕ, ◌-◌, List, [], Option, Some, None, Result, Ok, Err, codes}
 use Rattle.pi_terms.specs.Tree.{Tree, atom}
-use Rattle.pi_states.specs.Value.{value}
-use Rattle.pi_states.specs.State.{State, bindings, next}
+use Rattle.pi_constraints.specs.Value.{value}
+use Rattle.pi_constraints.specs.State.{State, bindings, next}
 use Rattle.pi_effects.specs.Exception.{exception_with}
 use Rattle.pi_constraints.specs.declared.constraint.Constraint.{Constraint}
 use Rattle.pi_filters.specs.Operands.{Goal, relates, is_so, all_different, all_distinct, element, no_constraint}

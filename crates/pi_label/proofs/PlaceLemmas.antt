@@ -9,7 +9,7 @@ use Rattle.pi_constraints.specs.declared.constraint.Item.{Item}
 use Rattle.pi_constraints.specs.declared.domain.Span.{Span}
 use Rattle.pi_constraints.specs.Domain.{size_of}
 use Rattle.pi_constraints.proofs.DomainLemmas.{gap_is}
-use Rattle.pi_states.specs.State.{State}
+use Rattle.pi_constraints.specs.State.{State}
 use Rattle.pi_settling.specs.Roots.{root_item, given, only, domain_or_all}
 use Rattle.pi_settling.specs.Options.{VariableWord, forward, backward, ff}
 use Rattle.pi_settling.specs.Choices.{Pending, pending_with, pending_at, pending, smallest, picked}

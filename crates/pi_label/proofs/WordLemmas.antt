@@ -3,12 +3,12 @@ use Rattle.std.proofs.Common.{◌≡◌, ℕ, suc, ◌+◌, ◌<◌, ◌≤◌, 
 use Rattle.std.specs.Prelude.{nat_lt, Option, Some, None, option_map, codes, unwrap_or, Ok, Err, Result}
 use Rattle.std.specs.Str.{bytes_eq}
 use Rattle.pi_terms.specs.Tree.{Tree, Trees, no_trees, tree, tree_count, int, comp, args, arg_at, tree_at, cells, most_cells}
-use Rattle.pi_states.specs.Value.{IsAcyclic, value}
-use Rattle.pi_states.specs.State.{State, bindings, followed}
-use Rattle.pi_states.specs.Store.{StoreView, IsTerm, IsName, ShowsCell}
-use Rattle.pi_states.specs.declared.store.Cell.{Cell}
-use Rattle.pi_states.specs.declared.store.Ref.{Ref}
-use Rattle.pi_states.proofs.FollowLemmas.{followed_value}
+use Rattle.pi_constraints.specs.Value.{IsAcyclic, value}
+use Rattle.pi_constraints.specs.State.{State, bindings, followed}
+use Rattle.pi_constraints.specs.Store.{StoreView, IsTerm, IsName, ShowsCell}
+use Rattle.pi_constraints.specs.declared.store.Cell.{Cell}
+use Rattle.pi_constraints.specs.declared.store.Ref.{Ref}
+use Rattle.pi_constraints.proofs.FollowLemmas.{followed_value}
 use Rattle.pi_effects.specs.Answer.{found_or}
 use Rattle.pi_effects.specs.Exception.{term_too_large}
 use Rattle.pi_effects.specs.Items.{list_items}

@@ -1,8 +1,8 @@
 -- What a call of `solve` asks for, by the reading of its options.
 use Rattle.std.specs.Prelude.{◌≡◌, nat_lt, cond}
 use Rattle.pi_terms.specs.Tree.{Tree, cells, most_cells}
-use Rattle.pi_states.specs.Value.{value}
-use Rattle.pi_states.specs.State.{State, bindings}
+use Rattle.pi_constraints.specs.Value.{value}
+use Rattle.pi_constraints.specs.State.{State, bindings}
 use Rattle.pi_effects.specs.Exception.{term_too_large}
 use Rattle.pi_settling.specs.Asked.{raises, with_options, asked}
 use Rattle.pi_label.specs.Reads.{options_in}

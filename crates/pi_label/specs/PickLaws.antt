@@ -3,7 +3,7 @@ use Rattle.std.specs.Prelude.{◌≡◌, ◌<◌, pos, List, map, get_or, Contai
 use Rattle.pi_constraints.specs.declared.constraint.Item.{Item}
 use Rattle.pi_constraints.specs.declared.domain.Span.{Span}
 use Rattle.pi_constraints.specs.Domain.{size_of}
-use Rattle.pi_states.specs.State.{State, domain_of}
+use Rattle.pi_constraints.specs.State.{State, domain_of}
 use Rattle.pi_settling.specs.Roots.{root_item, given}
 use Rattle.pi_settling.specs.Options.{VariableWord}
 use Rattle.pi_settling.specs.Choices.{pending_at, pending, picked}

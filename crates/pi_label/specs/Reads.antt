@@ -2,10 +2,10 @@
 -- which term is told are own.)
 use Rattle.std.specs.Prelude.{◌≡◌, ℕ, ◌<◌, ◌≤◌, List, map, Option, Some, None, option_map, Result, Ok, Err, ⊤}
 use Rattle.pi_terms.specs.Tree.{Tree, cells, most_cells}
-use Rattle.pi_states.specs.Value.{Bindings, value}
-use Rattle.pi_states.specs.State.{bindings, followed}
-use Rattle.pi_states.specs.Store.{StoreView, IsTerm}
-use Rattle.pi_states.specs.declared.store.Ref.{Ref}
+use Rattle.pi_constraints.specs.Value.{Bindings, value}
+use Rattle.pi_constraints.specs.State.{bindings, followed}
+use Rattle.pi_constraints.specs.Store.{StoreView, IsTerm}
+use Rattle.pi_constraints.specs.declared.store.Ref.{Ref}
 use Rattle.pi_effects.specs.Items.{list_items}
 use Rattle.pi_effects.specs.declared.fault.Stop.{Stop}
 use Rattle.pi_settling.specs.Options.{Objective as Wanted, Options as Asked, Word as Meant, picks, tries, seeks, named_word, Chosen as Had, ReadOptions, options, bad_option, read_options}

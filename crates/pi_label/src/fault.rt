@@ -2,7 +2,7 @@
 ghost use Rattle.std.specs.Prelude.{◌≡◌};
 ghost use Rattle.pi_label.specs.declared.fault.OptFault.TheVariants.{Memory};
 
-use pi_states::Ref;
+use pi_constraints::Ref;
 use std::alloc::AllocError;
 
 /// Why there are no options.

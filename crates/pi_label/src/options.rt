@@ -1,5 +1,5 @@
 //! The options of a labelling.
-use pi_states::Ref;
+use pi_constraints::Ref;
 
 /// Which variable is picked: the first unbound one, the last, or the leftmost of those with the smallest domain. A User's
 /// Guide to Picat, 'Constraints'.

@@ -1,9 +1,9 @@
 //! The options of a call, read from its list.
 ghost use Rattle.std.specs.Prelude.{◌≡◌, List, map};
 ghost use Rattle.pi_terms.specs.Tree.{Tree};
-ghost use Rattle.pi_states.specs.Value.{value};
-ghost use Rattle.pi_states.specs.State.{bindings, followed};
-ghost use Rattle.pi_states.specs.Store.{IsTerm};
+ghost use Rattle.pi_constraints.specs.Value.{value};
+ghost use Rattle.pi_constraints.specs.State.{bindings, followed};
+ghost use Rattle.pi_constraints.specs.Store.{IsTerm};
 ghost use Rattle.pi_unify.specs.Terms.{HoldsNoCycle};
 ghost use Rattle.pi_builtin.specs.Items.{AreItems};
 ghost use Rattle.pi_settling.specs.Options.{Chosen as ChosenWords, read_options as words_of, with_word, word_of};
@@ -13,8 +13,8 @@ use crate::fault::OptFault;
 use crate::options::{Objective, Options, ValueWord, VariableWord};
 use crate::words::{Word, word_at};
 use pi_builtin::list_items;
+use pi_constraints::{ReadStop, Ref, StateStore};
 use pi_effects::Stop;
-use pi_states::{ReadStop, Ref, StateStore};
 use std::alloc::Global;
 
 /// What was chosen so far, of each group.

@@ -1,15 +1,15 @@
 //! The words of a list of options.
 ghost use Rattle.std.specs.Prelude.{◌≡◌, ℕ, List, option_map};
 ghost use Rattle.pi_terms.specs.Tree.{Tree};
-ghost use Rattle.pi_states.specs.State.{bindings, followed};
-ghost use Rattle.pi_states.specs.Store.{IsTerm, IsName};
+ghost use Rattle.pi_constraints.specs.State.{bindings, followed};
+ghost use Rattle.pi_constraints.specs.Store.{IsTerm, IsName};
 ghost use Rattle.pi_unify.specs.Terms.{HoldsNoCycle};
 ghost use Rattle.pi_settling.specs.Options.{word_of, objective_word};
 ghost use Rattle.pi_label.specs.Words.{variable_word, value_word, picking_word, trying_word};
 ghost use Rattle.pi_label.specs.Reads.{ShowsWord, ShowsPlain, ShowsObjective};
 
 use crate::options::{Objective, ValueWord, VariableWord};
-use pi_states::{Cell, Ref, StateStore};
+use pi_constraints::{Cell, Ref, StateStore};
 
 /// A word of a list of options, by its group.
 #[derive(Clone, Copy)]

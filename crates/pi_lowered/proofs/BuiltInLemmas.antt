@@ -5,10 +5,10 @@ use Rattle.std.proofs.lemmas.Bool.{cond-true, false≢true, ltb-false}
 use Rattle.std.proofs.lemmas.Bool.Decides.{Decides-eqb}
 use Rattle.pi_terms.specs.Tree.{Tree, var, int, atom, comp, Trees, no_trees, tree, cells, cells_all}
 use Rattle.pi_terms.specs.Places.{held}
-use Rattle.pi_states.specs.Value.{Bindings, value}
-use Rattle.pi_states.specs.State.{State, Variable, free, binding, bindings, next, with_new, followed}
-use Rattle.pi_states.specs.Unify.{unified, Pair, outcome, go_on, unified_for, unbound_in, cells_of_pairs, most_pairs, all_unified}
-use Rattle.pi_states.proofs.FollowLemmas.{followed_itself}
+use Rattle.pi_constraints.specs.Value.{Bindings, value}
+use Rattle.pi_constraints.specs.State.{State, Variable, free, binding, bindings, next, with_new, followed}
+use Rattle.pi_constraints.specs.Unify.{unified, Pair, outcome, go_on, unified_for, unbound_in, cells_of_pairs, most_pairs, all_unified}
+use Rattle.pi_constraints.proofs.FollowLemmas.{followed_itself}
 use Rattle.pi_effects.specs.Effect.{succeeds_in}
 use Rattle.pi_effects.specs.Rows.{done_by, has_line}
 use Rattle.pi_effects.specs.Integers.{integer_functions}

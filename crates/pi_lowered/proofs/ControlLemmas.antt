@@ -3,8 +3,8 @@ use Rattle.std.proofs.Common.{◌≡◌, ℕ, ◌≤◌, List, [], ◌∷◌, le
 use Rattle.std.specs.Prelude.{Option, Some, None}
 use Rattle.pi_terms.specs.Tree.{Tree}
 use Rattle.pi_terms.specs.Places.{Places}
-use Rattle.pi_states.specs.State.{State}
-use Rattle.pi_states.specs.Evaluation.{Evaluated}
+use Rattle.pi_constraints.specs.State.{State}
+use Rattle.pi_constraints.specs.Evaluation.{Evaluated}
 use Rattle.pi_core.specs.GoalTree.{GoalTree, goals_of}
 use Rattle.pi_meaning.specs.Trace.{Trace, done, one, first}
 use Rattle.pi_meaning.specs.Control.{negated, chosen, caught}

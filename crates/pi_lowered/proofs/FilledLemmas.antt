@@ -4,8 +4,8 @@ use Rattle.std.specs.Prelude.{Some, None, slice_set, map}
 use Rattle.pi_terms.specs.Tree.{Tree, var, int, atom, comp, Trees, no_trees, tree}
 use Rattle.pi_terms.specs.ListNames.{nil, cell_name}
 use Rattle.pi_terms.specs.Places.{Places, held}
-use Rattle.pi_states.specs.State.{State}
-use Rattle.pi_states.specs.Evaluation.{Evaluated, EvaluatedAll, slot_term, evaluated, evaluated_all}
+use Rattle.pi_constraints.specs.State.{State}
+use Rattle.pi_constraints.specs.Evaluation.{Evaluated, EvaluatedAll, slot_term, evaluated, evaluated_all}
 use Rattle.pi_effects.specs.Items.{list_onto, list_of}
 use Rattle.pi_meaning.specs.Terms.{items_onto}
 

@@ -7,10 +7,10 @@ use Rattle.std.proofs.Math.Seq.{get_or-append_seam}
 use Rattle.pi_terms.specs.Tree.{Tree, trees_of}
 use Rattle.pi_terms.specs.Places.{Places, held}
 use Rattle.pi_terms.specs.PatternTree.{slot}
-use Rattle.pi_states.specs.Value.{Bindings}
-use Rattle.pi_states.specs.State.{State}
-use Rattle.pi_states.specs.HeadMatch.{matched_in, matched_all_in, taken_in}
-use Rattle.pi_states.specs.Evaluation.{evaluated_all}
+use Rattle.pi_constraints.specs.Value.{Bindings}
+use Rattle.pi_constraints.specs.State.{State}
+use Rattle.pi_constraints.specs.HeadMatch.{matched_in, matched_all_in, taken_in}
+use Rattle.pi_constraints.specs.Evaluation.{evaluated_all}
 use Rattle.pi_lowered.specs.Loops.{slots_from, slots_head}
 use Rattle.pi_lowered.proofs.FilledLemmas.{in_slot, AllFilled, none_filled, one_filled, terms_at, all-filled-comes}
 

@@ -6,11 +6,11 @@ use Rattle.pi_terms.specs.Tree.{Tree, atom, no_trees, tree, cells}
 use Rattle.pi_terms.specs.ListNames.{nil, cell_name}
 use Rattle.pi_terms.specs.ListCopies.{list_cell}
 use Rattle.pi_terms.specs.Substitution.{instance}
-use Rattle.pi_states.specs.Value.{Bindings, value}
-use Rattle.pi_states.specs.State.{State, bindings}
-use Rattle.pi_states.proofs.FollowLemmas.{followed_other}
-use Rattle.pi_states.proofs.RootLemmas.{value_atom, value_comp}
-use Rattle.pi_states.proofs.ValueLemmas.{value_goes_by_variables}
+use Rattle.pi_constraints.specs.Value.{Bindings, value}
+use Rattle.pi_constraints.specs.State.{State, bindings}
+use Rattle.pi_constraints.proofs.FollowLemmas.{followed_other}
+use Rattle.pi_constraints.proofs.RootLemmas.{value_atom, value_comp}
+use Rattle.pi_constraints.proofs.ValueLemmas.{value_goes_by_variables}
 use Rattle.pi_effects.specs.Answer.{found_or}
 use Rattle.pi_effects.specs.Items.{list_onto, list_of, array_of, items_of_root, items_for, list_items, collection_items, array_parts}
 use Rattle.pi_effects.specs.Exception.{type_error}

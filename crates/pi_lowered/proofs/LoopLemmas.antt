@@ -4,7 +4,7 @@ use Rattle.std.specs.Prelude.{Option, Some, slice_set, ⊤}
 use Rattle.pi_terms.specs.Tree.{Tree, no_trees, tree, tree_count, comp}
 use Rattle.pi_terms.specs.Places.{Places, held}
 use Rattle.pi_syntax.specs.PrintTerm.{array_name}
-use Rattle.pi_states.specs.State.{State}
+use Rattle.pi_constraints.specs.State.{State}
 use Rattle.pi_effects.specs.Inner.{itself_name}
 use Rattle.pi_syntax.specs.ExpTree.{ExpTrees, array}
 use Rattle.pi_core.specs.GoalTree.{GoalTree}

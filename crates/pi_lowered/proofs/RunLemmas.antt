@@ -3,7 +3,7 @@ use Rattle.std.proofs.Common.{◌≡◌, ℕ, ◌≤◌, true, false, List, [], 
 use Rattle.std.specs.Prelude.{◌||◌, IsTrue}
 use Rattle.pi_terms.specs.Tree.{Tree, Trees, trees_of, tree_count}
 use Rattle.pi_terms.specs.Places.{Places}
-use Rattle.pi_states.specs.State.{State}
+use Rattle.pi_constraints.specs.State.{State}
 use Rattle.pi_core.specs.GoalTree.{GoalTree, goals_of}
 use Rattle.pi_meaning.specs.Trace.{Trace, one, then}
 use Rattle.pi_meaning.proofs.TraceLemmas.{alt-done, then-one, then-assoc}

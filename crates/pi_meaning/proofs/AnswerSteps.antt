@@ -4,7 +4,7 @@ use Rattle.std.proofs.Math.Path.{fun_ext}
 use Rattle.std.specs.Prelude.{Bool, true, false, cond, codes, pos, nat_lt, slice_set}
 use Rattle.pi_terms.specs.Tree.{Tree, int, atom, cells, most_cells}
 use Rattle.pi_terms.specs.Places.{Places, held}
-use Rattle.pi_states.specs.State.{State}
+use Rattle.pi_constraints.specs.State.{State}
 use Rattle.pi_core.specs.GoalTree.{GoalTree, no_goals}
 use Rattle.pi_meaning.specs.Trace.{Trace, end, ans, done, one, alt, then, first}
 use Rattle.pi_meaning.specs.Control.{negated, chosen, collected, counted, caught}

@@ -5,13 +5,13 @@ use Rattle.std.specs.Prelude.{nat_lt, Option, Some, None, Ok, Err, ⊤}
 use Rattle.std.specs.Str.{bytes_eq}
 use Rattle.pi_terms.specs.Tree.{Tree, Trees, no_trees, tree, tree_count}
 use Rattle.pi_effects.specs.Range.{Outcome}
-use Rattle.pi_states.specs.State.{State, bindings, next, followed, SpeaksBelow}
+use Rattle.pi_constraints.specs.State.{State, bindings, next, followed, SpeaksBelow}
 use Rattle.pi_effects.specs.Answer.{Answer, found_or, or_raised, integer_at, integer_then, integers_then}
 use Rattle.pi_effects.specs.Integers.{outcome_then, number}
 use Rattle.pi_effects.specs.Items.{each_tree}
 use Rattle.pi_effects.specs.Rows.{Body, of_none, of_one, of_two, of_three, of_many, Row, with_arguments, done_by_row, done_by}
 use Rattle.pi_effects.proofs.RowLemmas.{same_given, given-or}
-use Rattle.pi_states.proofs.KeepsLemmas.{TreesBelow, first-below, rest-below, int-below}
+use Rattle.pi_constraints.proofs.KeepsLemmas.{TreesBelow, first-below, rest-below, int-below}
 use Rattle.pi_meaning.proofs.ItemsBelow.{ItemsBelow, SomeBelow, SomeItemsBelow, each-below}
 
 -- the value, if there is one

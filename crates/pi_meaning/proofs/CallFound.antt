@@ -3,14 +3,14 @@ use Rattle.std.proofs.Common.{◌≡◌, ℕ, ◌||◌, Bool, true, false, List,
 use Rattle.std.specs.Prelude.{is_some}
 use Rattle.pi_terms.specs.Tree.{Tree, Trees, tree_count, trees_of}
 use Rattle.pi_terms.specs.Places.{Places}
-use Rattle.pi_states.specs.State.{State}
+use Rattle.pi_constraints.specs.State.{State}
 use Rattle.pi_meaning.specs.View.{View}
 use Rattle.pi_effects.specs.Effect.{Effect, FunctionEffect}
 use Rattle.pi_effects.specs.BuiltIns.{built_in_predicate, built_in_function, is_predicate, is_function}
 use Rattle.pi_effects.proofs.BuiltInLemmas.{predicates-listed, functions-listed}
 use Rattle.pi_core.specs.CoreTree.{PredTree, find_pred}
 use Rattle.pi_core.specs.GoalTree.{GoalTrees, call, apply}
-use Rattle.pi_states.specs.Evaluation.{EvaluatedAll, evaluated_all}
+use Rattle.pi_constraints.specs.Evaluation.{EvaluatedAll, evaluated_all}
 use Rattle.pi_meaning.specs.Names.{is_later_predicate, is_later_function, is_resource, is_call, is_given}
 use Rattle.pi_meaning.proofs.NamesApart.{predicate-no_call}
 use Rattle.pi_meaning.specs.Configuration.{Frame, Entry, config, behind, returning}

@@ -3,7 +3,7 @@ use Rattle.std.proofs.Common.{ℕ, Bool, true, false, cond, List, []}
 use Rattle.std.specs.Prelude.{Option, Some, None, codes, ⊤}
 use Rattle.std.specs.Option.{option_or}
 use Rattle.pi_terms.specs.Tree.{Tree, Trees, no_trees, tree, tree_count}
-use Rattle.pi_states.specs.State.{State, bindings, followed}
+use Rattle.pi_constraints.specs.State.{State, bindings, followed}
 use Rattle.pi_effects.specs.Items.{each_tree}
 use Rattle.pi_meaning.specs.Trace.{Trace, end, Deep, Tick, done}
 use Rattle.pi_meaning.specs.Depth.{Below, deeper, same_note}

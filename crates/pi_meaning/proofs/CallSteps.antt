@@ -4,7 +4,7 @@ use Rattle.std.specs.Prelude.{Bool, true, false, cond, Option, Some, None, codes
 use Rattle.std.specs.List.{list_any}
 use Rattle.pi_terms.specs.Tree.{Tree, Trees, comp, trees_of, tree_count}
 use Rattle.pi_terms.specs.Places.{Places, held}
-use Rattle.pi_states.specs.State.{State, bindings}
+use Rattle.pi_constraints.specs.State.{State, bindings}
 use Rattle.pi_core.specs.GoalTree.{tick, call, apply, GoalTrees, goal}
 use Rattle.pi_core.specs.CoreTree.{ClauseTree, PredTree, find_pred, leaves_others}
 use Rattle.pi_meaning.specs.Trace.{Trace, end, note, Done, Raise, Tick, done, one, alt, then}
@@ -14,7 +14,7 @@ use Rattle.pi_meaning.specs.Related.{BelowBy, end_by}
 use Rattle.pi_meaning.specs.View.{View}
 use Rattle.pi_meaning.specs.Builtins.{Builtins, BuiltinsOnlyAdd, predicate_by}
 use Rattle.pi_meaning.specs.Instances.{core_setting, no_later, whole}
-use Rattle.pi_states.specs.Evaluation.{Evaluated, evaluated, EvaluatedAll, evaluated_all}
+use Rattle.pi_constraints.specs.Evaluation.{Evaluated, evaluated, EvaluatedAll, evaluated_all}
 use Rattle.pi_meaning.specs.Raise.{raised_with}
 use Rattle.pi_meaning.specs.Level.{Level, Applied, Point, LevelBelow, PointBelow, same_but_level, calls_at, or_called, or_applied}
 use Rattle.pi_meaning.specs.Meaning.{Action, strictly, draining, ticking, calling, applying, meaning}

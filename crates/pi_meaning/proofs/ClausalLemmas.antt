@@ -4,7 +4,7 @@ use Rattle.std.proofs.Math.Path.{fun_ext}
 use Rattle.std.specs.Prelude.{cond, codes, Option, Some, None, filter, filter_map}
 use Rattle.std.specs.List.{cons_option, list_any}
 use Rattle.pi_terms.specs.Tree.{comp, Trees, tree_count}
-use Rattle.pi_states.specs.State.{State, bindings}
+use Rattle.pi_constraints.specs.State.{State, bindings}
 use Rattle.pi_syntax.specs.ExpTree.{ExpTree}
 use Rattle.pi_syntax.specs.ProgramTree.{RuleTree, FunctionTree, WrittenClause, ProgramTree}
 use Rattle.pi_syntax.specs.declared.program.Decl.{Decl}

@@ -6,9 +6,9 @@ use Rattle.pi_terms.specs.Order.{order}
 use Rattle.pi_terms.specs.Variables.{occurrences, firsts}
 use Rattle.pi_terms.specs.Substitution.{instance}
 use Rattle.pi_terms.specs.Copy.{copy}
-use Rattle.pi_states.specs.Value.{rounds, value}
-use Rattle.pi_states.specs.State.{State, Variable, free, bound, on_ins, empty_state, followed_for, followed}
-use Rattle.pi_states.specs.Unify.{in_pairs, assigned, joined, outcome, unified_for, unbound_in, cells_of_pairs, most_pairs, all_unified}
+use Rattle.pi_constraints.specs.Value.{rounds, value}
+use Rattle.pi_constraints.specs.State.{State, Variable, free, bound, on_ins, empty_state, followed_for, followed}
+use Rattle.pi_constraints.specs.Unify.{in_pairs, assigned, joined, outcome, unified_for, unbound_in, cells_of_pairs, most_pairs, all_unified}
 use Rattle.pi_terms.specs.PatternTree.{PatternTree, slot, exact_int, exact_atom, compound, named, no_patterns, pattern}
 use Rattle.pi_core.specs.GoalTree.{GoalTree, truth, fail, tick, call, apply, seq, alternatives, if_else, not, once, collect, count, catch, no_goals, goal}
 use Rattle.pi_meaning.specs.Trace.{Trace, end, note, ans, Done, Raise, Deep, Tick, noted, answered, alt, then, first}
@@ -16,8 +16,8 @@ use Rattle.pi_meaning.specs.Depth.{Spent, Ended, cut}
 use Rattle.pi_meaning.specs.Control.{negated, chosen, collected, counted, caught}
 use Rattle.pi_meaning.specs.Settle.{settled}
 use Rattle.pi_meaning.specs.Drain.{drained}
-use Rattle.pi_states.specs.Evaluation.{evaluated, evaluated_all, with_new_variables}
-use Rattle.pi_states.specs.HeadMatch.{matched_in, matched_all_in}
+use Rattle.pi_constraints.specs.Evaluation.{evaluated, evaluated_all, with_new_variables}
+use Rattle.pi_constraints.specs.HeadMatch.{matched_in, matched_all_in}
 use Rattle.pi_effects.specs.Exception.{thrown, exception_with}
 use Rattle.pi_effects.specs.Rows.{done_by}
 use Rattle.pi_effects.specs.Comparing.{comparing_tests}

@@ -6,7 +6,7 @@ use Rattle.std.specs.Ordering.{is_eq}
 use Rattle.std.proofs.lemmas.Bool.Decides.{Decides-eqb}
 use Rattle.std.proofs.lemmas.List.Elements.{Contains-append_left, Contains-append_right}
 use Rattle.pi_terms.specs.Order.{name_order}
-use Rattle.pi_states.proofs.MatchLemmas.{same_name}
+use Rattle.pi_constraints.proofs.MatchLemmas.{same_name}
 use Rattle.pi_core.specs.GoalTree.{GoalTree, truth, fail, tick, call, apply, seq, alternatives, if_else, not, once, collect, count, catch, GoalTrees, no_goals, goal, subgoals, subgoals_all}
 use Rattle.pi_core.specs.CoreTree.{ClauseTree, PredTree, is_pred, find_pred}
 use Rattle.pi_effects.specs.BuiltIns.{is_function}

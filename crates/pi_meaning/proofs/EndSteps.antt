@@ -3,14 +3,14 @@ use Rattle.std.proofs.Common.{◌≡◌, ℕ, zero, suc, List, [], ◌∷◌, �
 use Rattle.std.specs.Prelude.{Option, Some, None, codes, pos, slice_set}
 use Rattle.pi_terms.specs.Tree.{Tree, int}
 use Rattle.pi_terms.specs.Copy.{copy, new_variables}
-use Rattle.pi_states.specs.State.{State, next}
-use Rattle.pi_states.specs.Unify.{unified}
+use Rattle.pi_constraints.specs.State.{State, next}
+use Rattle.pi_constraints.specs.Unify.{unified}
 use Rattle.pi_core.specs.GoalTree.{GoalTree}
 use Rattle.pi_meaning.specs.Trace.{end, Raise, done, one, alt, then, first}
 use Rattle.pi_meaning.specs.Control.{negated, chosen, collected, counted, caught}
 use Rattle.pi_meaning.specs.Builtins.{Builtins}
 use Rattle.pi_meaning.specs.Settle.{settled}
-use Rattle.pi_states.specs.Evaluation.{with_new_variables}
+use Rattle.pi_constraints.specs.Evaluation.{with_new_variables}
 use Rattle.pi_effects.specs.Exception.{exception_with}
 use Rattle.pi_meaning.specs.Raise.{raised_with}
 use Rattle.pi_meaning.specs.Level.{Level, Point}

@@ -4,10 +4,10 @@ use Rattle.std.specs.Prelude.{Option, Some, None, slice_set}
 use Rattle.std.proofs.lemmas.List.{length-set, get_or-set_same}
 use Rattle.pi_terms.specs.Tree.{Tree, var, int, atom, comp, Trees, no_trees, tree}
 use Rattle.pi_terms.specs.Places.{Places, held}
-use Rattle.pi_states.specs.State.{State, next, SpeaksBelow}
+use Rattle.pi_constraints.specs.State.{State, next, SpeaksBelow}
 use Rattle.pi_terms.specs.Variables.{Occurs}
-use Rattle.pi_states.specs.Evaluation.{Evaluated, EvaluatedAll, slot_term, evaluated, evaluated_all}
-use Rattle.pi_states.proofs.KeepsLemmas.{TreesBelow, first-below, rest-below, args-below}
+use Rattle.pi_constraints.specs.Evaluation.{Evaluated, EvaluatedAll, slot_term, evaluated, evaluated_all}
+use Rattle.pi_constraints.proofs.KeepsLemmas.{TreesBelow, first-below, rest-below, args-below}
 
 -- the slots of a term are filled, and with them it is this term
 mutual

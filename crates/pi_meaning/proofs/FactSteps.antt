@@ -2,7 +2,7 @@
 use Rattle.std.proofs.Common.{◌≡◌, List, [], ◌∷◌, refl, ap, sym, ◌∙◌}
 use Rattle.std.specs.Prelude.{cond, Option, Some, None, is_some}
 use Rattle.pi_terms.specs.Tree.{Trees}
-use Rattle.pi_states.specs.State.{State}
+use Rattle.pi_constraints.specs.State.{State}
 use Rattle.pi_core.specs.CoreTree.{ClauseTree}
 use Rattle.pi_meaning.specs.Trace.{Trace, alt, then}
 use Rattle.pi_meaning.specs.Builtins.{Builtins}

@@ -8,7 +8,7 @@ use Rattle.pi_terms.specs.Tree.{Tree, var, int, atom, comp}
 use Rattle.pi_terms.specs.Order.{order, name_order}
 use Rattle.pi_core.specs.CoreTree.{PredTree, is_pred, find_pred}
 use Rattle.pi_meaning.specs.Sound.{IsAnother}
-use Rattle.pi_states.proofs.MatchLemmas.{same_from_identical, identical_from_same}
+use Rattle.pi_constraints.proofs.MatchLemmas.{same_from_identical, identical_from_same}
 
 name_of : Tree → List ℕ
 name_of (var n) = []

@@ -3,9 +3,9 @@ use Rattle.std.proofs.Common.{◌≡◌, ℕ, ◌+◌, ◌*◌, Bool, true, fals
 use Rattle.std.specs.Prelude.{nat_lt, Option, Some, None, option_map, Ok, Err, ⊤}
 use Rattle.pi_terms.specs.Tree.{Tree, Trees, cells, most_cells}
 use Rattle.pi_terms.specs.Copy.{copy, new_variables}
-use Rattle.pi_states.specs.Value.{value}
-use Rattle.pi_states.specs.State.{State, bindings, next, followed, SpeaksBelow, IsState}
-use Rattle.pi_states.specs.Evaluation.{with_new_variables}
+use Rattle.pi_constraints.specs.Value.{value}
+use Rattle.pi_constraints.specs.State.{State, bindings, next, followed, SpeaksBelow, IsState}
+use Rattle.pi_constraints.specs.Evaluation.{with_new_variables}
 use Rattle.pi_effects.specs.Answer.{Answer}
 use Rattle.pi_effects.specs.Effect.{FunctionEffect, Gives, Refuses}
 use Rattle.pi_effects.specs.Exception.{term_too_large, bad_index, range_too_long}
@@ -15,7 +15,7 @@ use Rattle.pi_effects.specs.Making.{size_at, size_or_raised, so_many, new_from, 
 use Rattle.pi_effects.specs.Rows.{done_by}
 use Rattle.pi_effects.specs.BuiltIns.{reading_functions, answer_in, built_in_function}
 use Rattle.pi_effects.proofs.RowLemmas.{same_given, given-or}
-use Rattle.pi_states.proofs.KeepsLemmas.{TreesBelow, Later, later-itself, news-next, news-later, copy-below}
+use Rattle.pi_constraints.proofs.KeepsLemmas.{TreesBelow, Later, later-itself, news-next, news-later, copy-below}
 use Rattle.pi_meaning.proofs.ItemsBelow.{ItemsBelow, array-below, list-below, new-below, rows-below}
 use Rattle.pi_meaning.proofs.AnswersBelow.{AnswerBelow, LinesKeep, ◌&◌, lines-keep}
 use Rattle.pi_meaning.proofs.TablesKeep.{reading-keeps}

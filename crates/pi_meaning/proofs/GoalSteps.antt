@@ -4,7 +4,7 @@ use Rattle.std.proofs.Math.Path.{fun_ext}
 use Rattle.std.specs.Prelude.{Bool, true, false, Option, Some, None, pos, replicate, slice_set}
 use Rattle.pi_terms.specs.Tree.{Tree, int}
 use Rattle.pi_terms.specs.Places.{Places}
-use Rattle.pi_states.specs.State.{State, bindings}
+use Rattle.pi_constraints.specs.State.{State, bindings}
 use Rattle.pi_core.specs.GoalTree.{GoalTree, truth, GoalTrees, no_goals, goal}
 use Rattle.pi_core.specs.CoreTree.{ClauseTree, PredTree, leaves_others}
 use Rattle.pi_meaning.specs.Trace.{Trace, note, Out, one, alt, then}
@@ -12,8 +12,8 @@ use Rattle.pi_meaning.specs.Control.{chosen, counted}
 use Rattle.pi_meaning.specs.View.{View}
 use Rattle.pi_meaning.specs.Builtins.{Builtins}
 use Rattle.pi_meaning.specs.Settle.{settled}
-use Rattle.pi_states.specs.Evaluation.{Evaluated, evaluated}
-use Rattle.pi_states.specs.HeadMatch.{matched_all_in}
+use Rattle.pi_constraints.specs.Evaluation.{Evaluated, evaluated}
+use Rattle.pi_constraints.specs.HeadMatch.{matched_all_in}
 use Rattle.pi_effects.specs.Effect.{Effect, Succeeds, Fails, Writes, Raises, FunctionEffect, Gives, Refuses}
 use Rattle.pi_meaning.specs.Level.{Level, Point}
 use Rattle.pi_meaning.specs.Within.{is_body}

@@ -2,7 +2,7 @@
 use Rattle.std.proofs.Common.{ℕ, suc, Bool, true, false, List, [], ◌∷◌}
 use Rattle.std.specs.Prelude.{Option, Some, None, length, pos, Ok, Err}
 use Rattle.pi_terms.specs.Tree.{Tree}
-use Rattle.pi_states.specs.State.{State, bindings, next}
+use Rattle.pi_constraints.specs.State.{State, bindings, next}
 use Rattle.pi_effects.specs.Range.{Outcome}
 use Rattle.pi_effects.specs.Value.{value_of}
 use Rattle.pi_effects.specs.declared.operation.Op.TheVariants.{Add}

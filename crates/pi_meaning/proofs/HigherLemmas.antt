@@ -3,9 +3,9 @@ use Rattle.std.proofs.Common.{ℕ, suc, ◌+◌, List, [], ◌∷◌, ◌++◌, 
 use Rattle.std.specs.Prelude.{Bool, true, false, Option, Some, None, codes, pos, replicate, slice_set, ⊤}
 use Rattle.pi_terms.specs.Tree.{Tree, Trees, int}
 use Rattle.pi_terms.specs.Places.{Places, held}
-use Rattle.pi_states.specs.State.{State, bindings, next}
+use Rattle.pi_constraints.specs.State.{State, bindings, next}
 use Rattle.pi_terms.specs.Copy.{copy, new_variables}
-use Rattle.pi_states.specs.Unify.{unified}
+use Rattle.pi_constraints.specs.Unify.{unified}
 use Rattle.pi_core.specs.GoalTree.{GoalTree, truth, GoalTrees}
 use Rattle.pi_core.specs.CoreTree.{ClauseTree, leaves_others}
 use Rattle.pi_meaning.specs.Trace.{Trace, Done, Raise, one, done, alt, then, first, Out}
@@ -14,8 +14,8 @@ use Rattle.pi_meaning.specs.Depth.{Below}
 use Rattle.pi_meaning.specs.Related.{BelowBy, end_by, note_by}
 use Rattle.pi_meaning.specs.Builtins.{Builtins, BuiltinsOnlyAdd}
 use Rattle.pi_meaning.specs.Settle.{settled}
-use Rattle.pi_states.specs.Evaluation.{Evaluated, evaluated, with_new_variables}
-use Rattle.pi_states.specs.HeadMatch.{matched_all_in}
+use Rattle.pi_constraints.specs.Evaluation.{Evaluated, evaluated, with_new_variables}
+use Rattle.pi_constraints.specs.HeadMatch.{matched_all_in}
 use Rattle.pi_meaning.specs.Raise.{raised_with}
 use Rattle.pi_meaning.specs.Level.{Level, Point, LevelBelow, PointBelow, same_but_level, calls_at}
 use Rattle.pi_meaning.specs.Meaning.{Action, draining, with_slot, slot_value, copyable, with_list, meaning, meaning_of_all, meaning_of_any}

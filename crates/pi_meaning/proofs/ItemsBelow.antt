@@ -10,16 +10,16 @@ use Rattle.std.proofs.lemmas.List.Sorted.{All-permutation}
 use Rattle.pi_terms.specs.Tree.{Tree, var, int, atom, comp, Trees, no_trees, tree, trees_of}
 use Rattle.pi_terms.specs.ListNames.{nil, cell_name}
 use Rattle.pi_terms.specs.ListCopies.{list_cell}
-use Rattle.pi_states.specs.Value.{Bindings}
-use Rattle.pi_states.specs.State.{SpeaksBelow, followed}
+use Rattle.pi_constraints.specs.Value.{Bindings}
+use Rattle.pi_constraints.specs.State.{SpeaksBelow, followed}
 use Rattle.pi_effects.specs.Items.{each_tree, list_onto, list_of, array_of, is_nil, cell_parts, array_parts, structure_parts, in_front_of, items_of_root, items_for, list_items, collection_items, indexed_items}
 use Rattle.pi_effects.specs.Collections.{pair}
 use Rattle.pi_effects.specs.Indexing.{item_at}
 use Rattle.pi_effects.specs.Ranges.{values_by}
 use Rattle.pi_effects.specs.Making.{new_from, new_rows}
 use Rattle.pi_effects.specs.Naming.{name_at, arity_at}
-use Rattle.pi_states.proofs.KeepsLemmas.{TreesBelow, BindingsBelow, speaks-more, var-below, no-trees-below, trees-below, first-below, rest-below, comp-below, args-below, int-below, atom-below}
-use Rattle.pi_states.proofs.FollowLemmas.{followed_below}
+use Rattle.pi_constraints.proofs.KeepsLemmas.{TreesBelow, BindingsBelow, speaks-more, var-below, no-trees-below, trees-below, first-below, rest-below, comp-below, args-below, int-below, atom-below}
+use Rattle.pi_constraints.proofs.FollowLemmas.{followed_below}
 
 -- items that speak of variables below n alone
 abbrev pub ItemsBelow : ℕ → List Tree → Type 0

@@ -5,15 +5,15 @@ use Rattle.std.specs.Prelude.{Option, Some, None, Ok, Err, option_map, pos, code
 use Rattle.pi_terms.specs.Tree.{Tree, int, Trees, no_trees, tree, trees_of}
 use Rattle.pi_terms.specs.Places.{Places}
 use Rattle.pi_terms.specs.Copy.{copy, new_variables}
-use Rattle.pi_states.specs.State.{State, next, SpeaksBelow, PlacesBelow, IsState}
-use Rattle.pi_states.specs.Unify.{unified}
+use Rattle.pi_constraints.specs.State.{State, next, SpeaksBelow, PlacesBelow, IsState}
+use Rattle.pi_constraints.specs.Unify.{unified}
 use Rattle.pi_core.specs.GoalTree.{GoalTree, truth, fail, tick, call, apply, seq, alternatives, if_else, not, once, collect, count, catch, GoalTrees, no_goals, goal}
 use Rattle.pi_meaning.specs.Trace.{Trace, one, alt, then, first}
 use Rattle.pi_meaning.specs.Control.{negated, chosen, caught}
 use Rattle.pi_meaning.specs.View.{View}
 use Rattle.pi_meaning.specs.Instances.{tabled}
 use Rattle.pi_meaning.specs.Settle.{settled}
-use Rattle.pi_states.specs.Evaluation.{Evaluated, evaluated, EvaluatedAll, evaluated_all, with_new_variables}
+use Rattle.pi_constraints.specs.Evaluation.{Evaluated, evaluated, EvaluatedAll, evaluated_all, with_new_variables}
 use Rattle.pi_meaning.specs.Level.{Level, lowest, over, Calls, Applied, Point, calls_at, or_called, or_applied}
 use Rattle.std.specs.Option.{option_or}
 use Rattle.std.specs.Str.{bytes_eq}
@@ -31,7 +31,7 @@ use Rattle.pi_meaning.specs.Builtins.{predicate_by, function_by}
 use Rattle.pi_meaning.specs.Meaning.{Action, in_state, with_slot, draining, strictly, succeeding, failing, ticking, calling, applying, after_arguments, after_term, slot_value, copyable, with_list, collecting, counting, catching, meaning, meaning_of_all, meaning_of_any}
 use Rattle.pi_terms.specs.ListCopies.{list_of_copies, new_in_all}
 use Rattle.pi_meaning.proofs.AnswerLemmas.{EachAnswer, each-map, each-one, each-alt, each-then, each-first, each-negated, each-chosen, each-collected, each-counted, each-caught}
-use Rattle.pi_states.proofs.KeepsLemmas.{TreesBelow, speaks-more, places-more, first-below, rest-below, int-below, places-set, Later, later-itself, later-further, news-next, news-later, EvaluatedBelow, AllBelow, evaluated-below, evaluated-all-below, unified-later, copy-below, copies-below}
+use Rattle.pi_constraints.proofs.KeepsLemmas.{TreesBelow, speaks-more, places-more, first-below, rest-below, int-below, places-set, Later, later-itself, later-further, news-next, news-later, EvaluatedBelow, AllBelow, evaluated-below, evaluated-all-below, unified-later, copy-below, copies-below}
 
 -- a state after a function call, and its value
 abbrev pub AppliedLater : State → Applied → Type 0

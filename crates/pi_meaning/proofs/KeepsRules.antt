@@ -1,12 +1,12 @@
 -- Rules and levels keep states, and so each answer of a query is one.
-use Rattle.pi_states.proofs.KeepsLemmas.{empty-is-state, TreesBelow, speaks-more, trees-more, comp-below, int-below, atom-below, no-trees-below, trees-below, first-below, rest-below, places-empty, Later, later-itself, later-further, EvaluatedBelow, AllBelow, slot-below, evaluated-below, evaluated-all-below, unified-later, SomePlacesBelow, matched-all-below, agent-keeps}
+use Rattle.pi_constraints.proofs.KeepsLemmas.{empty-is-state, TreesBelow, speaks-more, trees-more, comp-below, int-below, atom-below, no-trees-below, trees-below, first-below, rest-below, places-empty, Later, later-itself, later-further, EvaluatedBelow, AllBelow, slot-below, evaluated-below, evaluated-all-below, unified-later, SomePlacesBelow, matched-all-below, agent-keeps}
 use Rattle.std.proofs.Common.{◌≡◌, ℕ, zero, suc, ◌+◌, ◌≤◌, Bool, true, false, cond, List, [], ◌∷◌, ◌++◌, length, map, refl, arith}
 use Rattle.std.specs.Prelude.{Option, Some, None, replicate, codes, option_and_then, option_map, ⊤}
 use Rattle.std.specs.List.{list_any}
 use Rattle.pi_terms.specs.Tree.{Tree, var, comp, Trees, no_trees, tree, trees_of, tree_count}
 use Rattle.pi_terms.specs.Places.{Places, held}
-use Rattle.pi_states.specs.State.{State, WatchTree, Agent, bindings, next, SpeaksBelow, PlacesBelow, WatchBelow, IsState}
-use Rattle.pi_states.specs.Unify.{unified}
+use Rattle.pi_constraints.specs.State.{State, WatchTree, Agent, bindings, next, SpeaksBelow, PlacesBelow, WatchBelow, IsState}
+use Rattle.pi_constraints.specs.Unify.{unified}
 use Rattle.pi_terms.specs.PatternTree.{PatternTree, slot, exact_int, exact_atom, compound, named, PatternTrees, no_patterns, pattern}
 use Rattle.pi_core.specs.GoalTree.{GoalTree, truth}
 use Rattle.pi_meaning.specs.Trace.{Trace, end, one, done}
@@ -14,8 +14,8 @@ use Rattle.pi_meaning.specs.View.{View}
 use Rattle.pi_meaning.specs.Instances.{tabled}
 use Rattle.pi_meaning.specs.Settle.{settled_from}
 use Rattle.pi_meaning.specs.Drain.{drained}
-use Rattle.pi_states.specs.Evaluation.{Evaluated, evaluated, EvaluatedAll, evaluated_all, slot_term}
-use Rattle.pi_states.specs.HeadMatch.{matched_all_in}
+use Rattle.pi_constraints.specs.Evaluation.{Evaluated, evaluated, EvaluatedAll, evaluated_all, slot_term}
+use Rattle.pi_constraints.specs.HeadMatch.{matched_all_in}
 use Rattle.pi_meaning.specs.Raise.{raised_with}
 use Rattle.pi_meaning.specs.Level.{Level, level_of, Calls, Point}
 use Rattle.pi_core.specs.CoreTree.{ClauseTree, PredTree, QueryTree, backtracks, find_pred}
@@ -27,7 +27,7 @@ use Rattle.pi_meaning.specs.MeaningLaws.{RunsKeepStates}
 use Rattle.pi_core.specs.declared.core_program.SlotWatch.{SlotWatch}
 use Rattle.pi_core.specs.declared.core_program.NameSlot.{NameSlot}
 use Rattle.pi_syntax.specs.declared.program.Mode.{Mode}
-use Rattle.pi_states.proofs.StateLemmas.{bound_below}
+use Rattle.pi_constraints.proofs.StateLemmas.{bound_below}
 use Rattle.pi_meaning.proofs.AnswerLemmas.{EachAnswer, each-contained, each-one, each-alt, each-then, each-chosen}
 use Rattle.pi_meaning.proofs.KeepsGoals.{AppliedLater, CallsKeep, LevelKeeps, IsPlace, PlaceLater, Keeps, strictly-keeps, settled-later, goal-keeps}
 

@@ -5,8 +5,8 @@ use Rattle.std.specs.Ordering.{is_eq}
 use Rattle.std.proofs.lemmas.Bool.{and_parts, or_cases, eqb-true}
 use Rattle.pi_terms.specs.Tree.{Trees, tree_count}
 use Rattle.pi_terms.specs.Order.{name_order}
-use Rattle.pi_states.specs.State.{State}
-use Rattle.pi_states.proofs.MatchLemmas.{same_name}
+use Rattle.pi_constraints.specs.State.{State}
+use Rattle.pi_constraints.proofs.MatchLemmas.{same_name}
 use Rattle.pi_effects.specs.BuiltIns.{built_in_predicate, built_in_function, is_predicate, is_function}
 use Rattle.pi_effects.proofs.BuiltInLemmas.{predicates-listed, functions-listed}
 use Rattle.pi_effects.proofs.RowLemmas.{some-or, some-map}

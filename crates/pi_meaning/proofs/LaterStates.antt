@@ -3,11 +3,11 @@ use Rattle.std.proofs.Common.{◌≡◌, ℕ, zero, suc, ◌≤◌, List, [], �
 use Rattle.std.proofs.lemmas.List.{length-append, length-map, map-append}
 use Rattle.pi_terms.specs.Tree.{Tree, var}
 use Rattle.pi_terms.specs.Places.{Places, held}
-use Rattle.pi_states.specs.State.{State, Variable, bindings, binding, free, next, with_new}
-use Rattle.pi_states.specs.Value.{IsAcyclic, value}
-use Rattle.pi_states.proofs.StateLemmas.{variable}
-use Rattle.pi_states.proofs.ValueLemmas.{unbound_is_its_own_value}
-use Rattle.pi_states.proofs.BindingLemmas.{new_variable_changes_no_value, new_variable_stays_acyclic}
+use Rattle.pi_constraints.specs.State.{State, Variable, bindings, binding, free, next, with_new}
+use Rattle.pi_constraints.specs.Value.{IsAcyclic, value}
+use Rattle.pi_constraints.proofs.StateLemmas.{variable}
+use Rattle.pi_constraints.proofs.ValueLemmas.{unbound_is_its_own_value}
+use Rattle.pi_constraints.proofs.BindingLemmas.{new_variable_changes_no_value, new_variable_stays_acyclic}
 
 -- a later state has more variables, and those that it had are as they were; so it gives each term the value that it had
 pub record IsLaterState (s r : State) : Type 0 where

@@ -1,7 +1,7 @@
 -- Lemmas on runs of the machine.
 use Rattle.std.proofs.Common.{◌≡◌, ◌≢◌, ℕ, suc, ◌+◌, ◌<◌, List, [], ◌∷◌, ◌++◌, refl, ap, sym, subst, ◌∙◌, arith}
 use Rattle.std.specs.Prelude.{None, replicate}
-use Rattle.pi_states.specs.State.{empty_state}
+use Rattle.pi_constraints.specs.State.{empty_state}
 use Rattle.pi_core.specs.CoreTree.{PredTree, QueryTree}
 use Rattle.pi_meaning.specs.Trace.{Trace, end, note, ans, End, Deep, Note, Tick, Emitted, noted, answered, then, emit, end_of, events_of, Out}
 use Rattle.pi_meaning.specs.Depth.{Below, same_note, DepthOnlyAdds}

@@ -2,7 +2,7 @@
 use Rattle.std.proofs.Common.{◌≡◌, List, [], refl, ap}
 use Rattle.std.specs.Prelude.{Bool, true, false}
 use Rattle.pi_terms.specs.Places.{Places}
-use Rattle.pi_states.specs.State.{State}
+use Rattle.pi_constraints.specs.State.{State}
 use Rattle.pi_meaning.specs.Configuration.{Back, Called, Entry}
 use Rattle.pi_core.specs.CoreTree.{leaves_others}
 use Rattle.pi_meaning.specs.Step.{later_rules, strict_step}

@@ -6,17 +6,17 @@ use Rattle.pi_terms.specs.Order.{order}
 use Rattle.pi_terms.specs.Variables.{occurrences, firsts}
 use Rattle.pi_terms.specs.Substitution.{instance}
 use Rattle.pi_terms.specs.Copy.{copy}
-use Rattle.pi_states.specs.Value.{rounds, value}
-use Rattle.pi_states.specs.State.{Variable, bound, State, followed_for, followed}
-use Rattle.pi_states.specs.Unify.{in_pairs, assigned, joined, outcome, unified_for, unbound_in, cells_of_pairs, most_pairs, all_unified}
+use Rattle.pi_constraints.specs.Value.{rounds, value}
+use Rattle.pi_constraints.specs.State.{Variable, bound, State, followed_for, followed}
+use Rattle.pi_constraints.specs.Unify.{in_pairs, assigned, joined, outcome, unified_for, unbound_in, cells_of_pairs, most_pairs, all_unified}
 use Rattle.pi_terms.specs.PatternTree.{slot, exact_int, no_patterns, pattern}
 use Rattle.pi_core.specs.GoalTree.{GoalTree, truth, call, seq, alternatives, once, catch, no_goals, goal}
 use Rattle.pi_meaning.specs.Trace.{Tick, Emitted, noted, answered, alt, then, Out}
 use Rattle.pi_meaning.specs.Settle.{settled}
 use Rattle.pi_meaning.specs.Facts.{fits_modes, fact_term, fact_terms}
 use Rattle.pi_syntax.specs.declared.program.Mode.{Mode}
-use Rattle.pi_states.specs.Evaluation.{evaluated, evaluated_all, with_new_variables}
-use Rattle.pi_states.specs.HeadMatch.{matched_in, matched_all_in}
+use Rattle.pi_constraints.specs.Evaluation.{evaluated, evaluated_all, with_new_variables}
+use Rattle.pi_constraints.specs.HeadMatch.{matched_in, matched_all_in}
 use Rattle.pi_effects.specs.Exception.{thrown, type_error}
 use Rattle.pi_effects.specs.Items.{each_tree}
 use Rattle.pi_meaning.specs.Names.{is_later_predicate, later_predicates}

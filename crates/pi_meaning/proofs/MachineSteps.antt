@@ -3,9 +3,9 @@ use Rattle.std.proofs.Common.{◌≡◌, ℕ, zero, List, [], ◌∷◌, refl, a
 use Rattle.std.specs.Prelude.{Bool, true, false, Option, Some, None, slice_set}
 use Rattle.pi_terms.specs.Tree.{Tree, trees_of, tree_count}
 use Rattle.pi_terms.specs.Copy.{copy, new_variables}
-use Rattle.pi_states.specs.Unify.{unified}
+use Rattle.pi_constraints.specs.Unify.{unified}
 use Rattle.pi_terms.specs.Places.{Places}
-use Rattle.pi_states.specs.State.{State, next}
+use Rattle.pi_constraints.specs.State.{State, next}
 use Rattle.pi_core.specs.GoalTree.{GoalTree, truth, fail, tick, call, apply, seq, alternatives, if_else, not, once, collect, count, catch, GoalTrees, no_goals, goal}
 use Rattle.pi_core.specs.CoreTree.{PredTree, find_pred}
 use Rattle.pi_meaning.specs.Trace.{Trace, done, one, then, first, note, Out}
@@ -16,7 +16,7 @@ use Rattle.pi_meaning.specs.Instances.{core_setting, no_later, whole}
 use Rattle.pi_meaning.specs.Names.{is_later_predicate, is_later_function, is_resource, is_call}
 use Rattle.pi_meaning.specs.Calls.{unknown_name, function_given}
 use Rattle.pi_meaning.specs.Within.{Within, a_query, a_body, resource_left}
-use Rattle.pi_states.specs.Evaluation.{Evaluated, evaluated, EvaluatedAll, evaluated_all, with_new_variables}
+use Rattle.pi_constraints.specs.Evaluation.{Evaluated, evaluated, EvaluatedAll, evaluated_all, with_new_variables}
 use Rattle.pi_meaning.specs.Level.{Level, Applied, or_called, or_applied}
 use Rattle.pi_meaning.specs.Builtin.{settled_effect, function_trace}
 use Rattle.pi_meaning.specs.Meaning.{Action, draining, strictly, succeeding, failing, calling, applying, collecting, counting, catching, meaning, meaning_of_all, meaning_of_any}

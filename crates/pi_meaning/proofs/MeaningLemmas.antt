@@ -4,9 +4,9 @@ use Rattle.std.proofs.Common.{◌≡◌, ℕ, suc, Bool, true, false, List, [], 
 use Rattle.std.specs.Prelude.{Option, Some, None, pos, slice_set, ⊤}
 use Rattle.pi_terms.specs.Tree.{Tree, int, Trees, no_trees, tree, trees_of, tree_count}
 use Rattle.pi_terms.specs.Places.{Places}
-use Rattle.pi_states.specs.State.{State, next}
+use Rattle.pi_constraints.specs.State.{State, next}
 use Rattle.pi_terms.specs.Copy.{copy, new_variables}
-use Rattle.pi_states.specs.Unify.{unified}
+use Rattle.pi_constraints.specs.Unify.{unified}
 use Rattle.pi_core.specs.GoalTree.{GoalTree, truth, fail, tick, call, apply, seq, alternatives, if_else, not, once, collect, count, catch, GoalTrees, no_goals, goal}
 use Rattle.pi_meaning.specs.Trace.{Done, Raise, Tick, one, then, first}
 use Rattle.pi_meaning.specs.Control.{negated, chosen}
@@ -15,7 +15,7 @@ use Rattle.pi_meaning.specs.Related.{BelowBy, deeper_by, end_by, note_by}
 use Rattle.pi_meaning.specs.Builtins.{Builtins, predicate_by, function_by, BuiltinsOnlyAdd}
 use Rattle.pi_meaning.specs.Handling.{handled_in, handling}
 use Rattle.pi_meaning.specs.Settle.{settled}
-use Rattle.pi_states.specs.Evaluation.{Evaluated, evaluated, EvaluatedAll, evaluated_all, with_new_variables}
+use Rattle.pi_constraints.specs.Evaluation.{Evaluated, evaluated, EvaluatedAll, evaluated_all, with_new_variables}
 use Rattle.pi_meaning.specs.Level.{Level, lowest, over, Point, CallsBelow, LevelBelow, PointBelow, same_but_level, calls_at}
 use Rattle.pi_meaning.specs.Meaning.{Action, with_slot, draining, strictly, succeeding, failing, ticking, calling, applying, slot_value, copyable, with_list, collecting, counting, catching, meaning, meaning_of_all, meaning_of_any}
 use Rattle.pi_meaning.proofs.BelowLemmas.{below-refl}

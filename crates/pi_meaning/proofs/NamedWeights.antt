@@ -3,8 +3,8 @@ use Rattle.std.proofs.Common.{◌≡◌, ℕ, suc, ◌≤◌, Bool, true, false,
 use Rattle.std.specs.Prelude.{Option, Some, None}
 use Rattle.pi_terms.specs.Tree.{Tree, Trees, no_trees, tree, trees_of, tree_count}
 use Rattle.pi_terms.specs.Places.{Places}
-use Rattle.pi_states.specs.State.{State, bindings, followed}
-use Rattle.pi_states.specs.Evaluation.{evaluated_all}
+use Rattle.pi_constraints.specs.State.{State, bindings, followed}
+use Rattle.pi_constraints.specs.Evaluation.{evaluated_all}
 use Rattle.pi_core.specs.GoalTree.{GoalTree, call}
 use Rattle.pi_core.specs.CoreTree.{PredTree}
 use Rattle.pi_effects.specs.Items.{each_tree}

@@ -6,7 +6,7 @@ use Rattle.std.specs.Ordering.{is_eq}
 use Rattle.std.proofs.lemmas.Slice.Eq.{bytes_eq-Decides}
 use Rattle.std.proofs.lemmas.Bool.{and_parts, or_cases}
 use Rattle.pi_terms.specs.Order.{name_order}
-use Rattle.pi_states.proofs.MatchLemmas.{same_name}
+use Rattle.pi_constraints.proofs.MatchLemmas.{same_name}
 use Rattle.pi_effects.specs.BuiltIns.{is_predicate, tests, other_predicates}
 use Rattle.pi_effects.specs.Comparing.{comparing_tests}
 use Rattle.pi_effects.specs.Kinds.{kind_tests}

@@ -4,13 +4,13 @@ use Rattle.std.specs.Prelude.{Option, Some, None, Contains, replicate, codes, ‚ä
 use Rattle.pi_terms.specs.Tree.{Tree, comp, Trees, tree_count}
 use Rattle.pi_core.specs.GoalTree.{GoalTree, truth}
 use Rattle.pi_terms.specs.Places.{Places}
-use Rattle.pi_states.specs.State.{State, bindings}
+use Rattle.pi_constraints.specs.State.{State, bindings}
 use Rattle.pi_meaning.specs.Trace.{Trace, Done, one}
 use Rattle.pi_meaning.specs.Related.{BelowBy, deeper_by, end_by}
 use Rattle.pi_meaning.specs.View.{View}
 use Rattle.pi_meaning.specs.Instances.{tabled}
 use Rattle.pi_meaning.specs.Drain.{drained}
-use Rattle.pi_states.specs.HeadMatch.{matched_all_in}
+use Rattle.pi_constraints.specs.HeadMatch.{matched_all_in}
 use Rattle.pi_meaning.specs.Raise.{raised_with}
 use Rattle.pi_meaning.specs.Level.{Level, level_of, Calls, Applied, Point, ticked, unticked}
 use Rattle.pi_core.specs.CoreTree.{ClauseTree, PredTree, backtracks, find_pred}

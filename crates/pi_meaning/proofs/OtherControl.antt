@@ -2,9 +2,9 @@
 use Rattle.std.proofs.Common.{ℕ, zero, suc, List, [], ◌∷◌}
 use Rattle.std.specs.Prelude.{Option, Some, None, option_map, option_and_then}
 use Rattle.pi_terms.specs.Tree.{Tree, Trees, comp, atom}
-use Rattle.pi_states.specs.Value.{value}
-use Rattle.pi_states.specs.State.{State, bindings}
-use Rattle.pi_states.specs.Unify.{unified}
+use Rattle.pi_constraints.specs.Value.{value}
+use Rattle.pi_constraints.specs.State.{State, bindings}
+use Rattle.pi_constraints.specs.Unify.{unified}
 use Rattle.pi_syntax.specs.ExpTree.{ExpTree, var, int, atom as name_of, str, list, list_onto, array, call, quote, index, range, range_by, at, collect, and, or, arrow, if_then, if_else, foreach, while_do, do_while, ExpTrees, no_exps, exp}
 use Rattle.pi_meaning.specs.Trace.{Trace, Done, done, one, then}
 use Rattle.pi_meaning.specs.Related.{BelowBy, end_by}

@@ -4,7 +4,7 @@ use Rattle.std.specs.Prelude.{Option, Some, None, codes, not, ◌||◌}
 use Rattle.std.specs.Str.{bytes_eq}
 use Rattle.std.proofs.lemmas.Slice.Eq.{bytes_eq-Decides}
 use Rattle.pi_terms.specs.Tree.{Tree, Trees}
-use Rattle.pi_states.specs.State.{State, next, with_new}
+use Rattle.pi_constraints.specs.State.{State, next, with_new}
 use Rattle.pi_syntax.specs.ExpTree.{ExpTree, var, int, atom, str, list, list_onto, array, call, quote, index, range, range_by, at, collect, and, or, arrow, if_then, if_else, foreach, while_do, do_while, ExpTrees, no_exps, exp, ExpBranches, no_branches, branch}
 use Rattle.pi_meaning.specs.Environment.{Environment, meant, known, Valued, ValuedAll, name_valued}
 use Rattle.pi_meaning.specs.Place.{Place}

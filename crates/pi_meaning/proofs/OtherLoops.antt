@@ -3,8 +3,8 @@ use Rattle.std.proofs.Common.{◌≡◌, ℕ, suc, Bool, true, false, List, [], 
 use Rattle.std.specs.Prelude.{Option, Some, None, unwrap_or, length, pos, Ok, Err}
 use Rattle.pi_terms.specs.Tree.{Tree, atom, var as variable}
 use Rattle.pi_terms.specs.ListNames.{nil}
-use Rattle.pi_states.specs.State.{State, bindings, next}
-use Rattle.pi_states.specs.Unify.{unified}
+use Rattle.pi_constraints.specs.State.{State, bindings, next}
+use Rattle.pi_constraints.specs.Unify.{unified}
 use Rattle.pi_effects.specs.Range.{Outcome}
 use Rattle.pi_effects.specs.Value.{value_of as operation}
 use Rattle.pi_effects.specs.declared.operation.Op.TheVariants.{Add}

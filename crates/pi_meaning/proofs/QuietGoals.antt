@@ -4,15 +4,15 @@ use Rattle.std.specs.Prelude.{Option, Some, None, option_map, pos, nat_lt, codes
 use Rattle.pi_terms.specs.Tree.{Tree, int, atom, Trees, trees_of, tree_count, cells, most_cells}
 use Rattle.pi_terms.specs.Places.{Places}
 use Rattle.pi_terms.specs.Copy.{copy, new_variables}
-use Rattle.pi_states.specs.State.{State, next}
-use Rattle.pi_states.specs.Unify.{unified}
+use Rattle.pi_constraints.specs.State.{State, next}
+use Rattle.pi_constraints.specs.Unify.{unified}
 use Rattle.pi_core.specs.GoalTree.{GoalTree, truth, fail, tick, call, apply, seq, alternatives, if_else, not, once, collect, count, catch, GoalTrees, no_goals, goal}
 use Rattle.pi_meaning.specs.Trace.{Trace, end, one, alt, then, first}
 use Rattle.pi_meaning.specs.Control.{negated, chosen}
 use Rattle.pi_meaning.specs.View.{View}
 use Rattle.pi_meaning.specs.Instances.{is_called_by_name}
 use Rattle.pi_meaning.specs.Settle.{settled}
-use Rattle.pi_states.specs.Evaluation.{Evaluated, evaluated, EvaluatedAll, evaluated_all, with_new_variables}
+use Rattle.pi_constraints.specs.Evaluation.{Evaluated, evaluated, EvaluatedAll, evaluated_all, with_new_variables}
 use Rattle.pi_meaning.specs.Raise.{within_limit, too_large}
 use Rattle.pi_meaning.specs.Level.{Level, lowest, over, Calls, Applied, Point, calls_at, or_called, or_applied}
 use Rattle.pi_effects.specs.Effect.{Effect, Succeeds, Fails, Writes, Raises, FunctionEffect, Gives, Refuses}

@@ -6,7 +6,7 @@ use Rattle.std.specs.List.{list_any}
 use Rattle.pi_terms.specs.Tree.{Tree, comp, Trees, tree_count}
 use Rattle.pi_core.specs.GoalTree.{GoalTree, truth}
 use Rattle.pi_terms.specs.Places.{Places}
-use Rattle.pi_states.specs.State.{State, bindings}
+use Rattle.pi_constraints.specs.State.{State, bindings}
 use Rattle.pi_meaning.specs.Trace.{Trace, one, done, then}
 use Rattle.pi_meaning.specs.Depth.{Cut, cut, CutWithoutDeep}
 use Rattle.pi_meaning.specs.View.{View}
@@ -14,7 +14,7 @@ use Rattle.pi_meaning.specs.Builtins.{Builtins}
 use Rattle.pi_meaning.specs.Instances.{is_called_by_name, no_later, whole}
 use Rattle.pi_meaning.specs.Settle.{settled_from}
 use Rattle.pi_meaning.specs.Drain.{drained}
-use Rattle.pi_states.specs.HeadMatch.{matched_all_in}
+use Rattle.pi_constraints.specs.HeadMatch.{matched_all_in}
 use Rattle.pi_effects.specs.Exception.{exception_with}
 use Rattle.pi_meaning.specs.Raise.{raised_with}
 use Rattle.pi_meaning.specs.Level.{Level, lowest, over, level_of, Calls, Applied, Point, ticked}

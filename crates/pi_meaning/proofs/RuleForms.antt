@@ -4,11 +4,11 @@ use Rattle.std.proofs.Math.Path.{fun_ext}
 use Rattle.std.specs.Prelude.{Bool, true, false, Option, Some, None, cond, replicate, ⊤}
 use Rattle.pi_terms.specs.Tree.{Tree, Trees}
 use Rattle.pi_terms.specs.Places.{Places}
-use Rattle.pi_states.specs.State.{State, bindings}
+use Rattle.pi_constraints.specs.State.{State, bindings}
 use Rattle.pi_meaning.specs.Trace.{Trace, end, note, ans, Done, one, alt, then}
 use Rattle.pi_meaning.specs.Control.{chosen}
 use Rattle.pi_meaning.specs.Builtins.{Builtins}
-use Rattle.pi_states.specs.HeadMatch.{matched_all_in}
+use Rattle.pi_constraints.specs.HeadMatch.{matched_all_in}
 use Rattle.pi_meaning.specs.Level.{Level, Point}
 use Rattle.pi_core.specs.CoreTree.{ClauseTree, PredTree, find_pred, is_pred}
 use Rattle.pi_meaning.specs.Rules.{guarded, chosen_rule, rule_before, rules, body_run, body_or_agent}

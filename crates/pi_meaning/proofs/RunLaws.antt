@@ -2,7 +2,7 @@
 use Rattle.std.proofs.Common.{◌≡◌, ◌≢◌, ℕ, zero, suc, ◌+◌, ◌≤◌, ◌<◌, List, [], ◌∷◌, ◌++◌, refl, ap, sym, subst, ◌∙◌, arith}
 use Rattle.std.specs.Prelude.{Bool, true, false, Option, Some, None, ⊤}
 use Rattle.pi_terms.specs.Tree.{Tree, tree_count, trees_of}
-use Rattle.pi_states.specs.State.{State}
+use Rattle.pi_constraints.specs.State.{State}
 use Rattle.pi_terms.specs.Places.{Places}
 use Rattle.pi_core.specs.GoalTree.{GoalTree, truth, fail, tick, call, apply, seq, alternatives, if_else, not, once, collect, count, catch, GoalTrees, no_goals, goal}
 use Rattle.pi_core.specs.CoreTree.{PredTree, QueryTree, find_pred}
@@ -11,7 +11,7 @@ use Rattle.pi_meaning.specs.Depth.{Below, Cut, Ended, Spent, with_events, cut, C
 use Rattle.pi_meaning.specs.View.{View}
 use Rattle.pi_meaning.specs.Names.{is_later_predicate, is_later_function, is_resource, is_call}
 use Rattle.pi_meaning.specs.Instances.{no_later, whole}
-use Rattle.pi_states.specs.Evaluation.{EvaluatedAll, evaluated_all}
+use Rattle.pi_constraints.specs.Evaluation.{EvaluatedAll, evaluated_all}
 use Rattle.pi_meaning.specs.Quiet.{TicksBetween}
 use Rattle.pi_meaning.specs.Run.{Solution, query_trace, IsRunUnder}
 use Rattle.pi_core.specs.declared.core_program.NameSlot.{NameSlot}

@@ -2,7 +2,7 @@
 use Rattle.std.proofs.Common.{◌≡◌, ℕ, zero, suc, ◌+◌, List, [], ◌∷◌, length, refl, ap, ◌∙◌}
 use Rattle.std.specs.Prelude.{Option, Some, None}
 use Rattle.pi_terms.specs.Places.{Places}
-use Rattle.pi_states.specs.State.{State}
+use Rattle.pi_constraints.specs.State.{State}
 use Rattle.pi_core.specs.GoalTree.{GoalTree, GoalTrees, no_goals, goal}
 use Rattle.pi_core.specs.CoreTree.{PredTree}
 use Rattle.pi_meaning.specs.Trace.{Trace, one, then}

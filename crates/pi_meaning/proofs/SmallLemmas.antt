@@ -7,8 +7,8 @@ use Rattle.std.specs.Str.{bytes_eq}
 use Rattle.std.proofs.lemmas.Slice.Eq.{bytes_eq-Decides}
 use Rattle.std.proofs.lemmas.Bool.{false≢true}
 use Rattle.pi_terms.specs.Tree.{Trees, tree, no_trees, tree_count}
-use Rattle.pi_states.specs.Value.{Bindings}
-use Rattle.pi_states.specs.State.{State}
+use Rattle.pi_constraints.specs.Value.{Bindings}
+use Rattle.pi_constraints.specs.State.{State}
 use Rattle.pi_effects.specs.Effect.{Effect}
 use Rattle.pi_effects.specs.Rows.{has_line}
 use Rattle.pi_effects.specs.Comparing.{comparing_tests}

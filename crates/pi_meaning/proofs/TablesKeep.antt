@@ -8,8 +8,8 @@ use Rattle.std.specs.List.{last_or}
 use Rattle.std.specs.Ordering.{is_lt}
 use Rattle.std.proofs.lemmas.List.Sorted.{IsPermutation-reverse}
 use Rattle.pi_terms.specs.Tree.{Tree, int, atom, cells, most_cells}
-use Rattle.pi_states.specs.Value.{Bindings, value}
-use Rattle.pi_states.specs.State.{State, bindings, next, followed, SpeaksBelow, IsState}
+use Rattle.pi_constraints.specs.Value.{Bindings, value}
+use Rattle.pi_constraints.specs.State.{State, bindings, next, followed, SpeaksBelow, IsState}
 use Rattle.pi_effects.specs.Range.{has_128_bits}
 use Rattle.pi_effects.specs.Value.{value_of}
 use Rattle.pi_effects.specs.declared.arith_fault.ArithFault.TheVariants.{Overflow}
@@ -30,9 +30,9 @@ use Rattle.pi_effects.specs.Texts.{text_list, text_functions}
 use Rattle.pi_effects.specs.Rows.{Row}
 use Rattle.pi_effects.specs.BuiltIns.{reading_functions}
 use Rattle.pi_effects.proofs.SortLemmas.{sorting-keeps_items}
-use Rattle.pi_states.proofs.FollowLemmas.{followed_below}
-use Rattle.pi_states.proofs.StateLemmas.{bound_below}
-use Rattle.pi_states.proofs.KeepsLemmas.{BindingsBelow, atom-below}
+use Rattle.pi_constraints.proofs.FollowLemmas.{followed_below}
+use Rattle.pi_constraints.proofs.StateLemmas.{bound_below}
+use Rattle.pi_constraints.proofs.KeepsLemmas.{BindingsBelow, atom-below}
 use Rattle.pi_meaning.proofs.ItemsBelow.{ItemsBelow, PairBelow, SomeBelow, SomePairBelow, SomeItemsBelow, chosen-below, array-below, onto-below, list-below, parts-below, name-below, arity-below, list-items-below, collection-items-below, indexed-items-below, permuted-below, filtered-below, mapped-below, pairs-below, item-below, numbered-below, last-below, reduced-below, values-below}
 use Rattle.pi_meaning.proofs.AnswersBelow.{AnswerBelow, items-found-below, raised-below, unless-below, number-below, outcome-below, integer-below, integers-below, LinesKeep, ◌&◌, both-keep}
 

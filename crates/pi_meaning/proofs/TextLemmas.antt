@@ -4,8 +4,8 @@ use Rattle.std.specs.Char.{encode_utf8}
 use Rattle.std.specs.Str.{chars}
 use Rattle.std.proofs.Common.{ℕ}
 use Rattle.pi_terms.specs.Tree.{Tree}
-use Rattle.pi_states.specs.Value.{Bindings}
-use Rattle.pi_states.specs.State.{followed}
+use Rattle.pi_constraints.specs.Value.{Bindings}
+use Rattle.pi_constraints.specs.State.{followed}
 use Rattle.pi_terms.specs.ListNames.{nil}
 use Rattle.pi_effects.specs.Items.{cell_parts}
 use Rattle.pi_meaning.specs.Environment.{Environment}

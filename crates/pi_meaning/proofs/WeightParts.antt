@@ -4,13 +4,13 @@ use Rattle.std.specs.Prelude.{Bool, true, false, Option, Some, None, is_some, co
 use Rattle.std.specs.List.{list_any}
 use Rattle.pi_terms.specs.Tree.{Trees}
 use Rattle.pi_terms.specs.Places.{Places}
-use Rattle.pi_states.specs.State.{State, bindings}
+use Rattle.pi_constraints.specs.State.{State, bindings}
 use Rattle.pi_core.specs.GoalTree.{GoalTree, truth, GoalTrees, no_goals, goal}
 use Rattle.pi_core.specs.CoreTree.{ClauseTree, leaves_others}
 use Rattle.pi_meaning.specs.View.{View}
 use Rattle.pi_meaning.specs.Within.{is_body}
 use Rattle.pi_meaning.specs.Facts.{fits_modes}
-use Rattle.pi_states.specs.HeadMatch.{matched_all_in}
+use Rattle.pi_constraints.specs.HeadMatch.{matched_all_in}
 use Rattle.pi_syntax.specs.declared.program.Mode.{Mode}
 use Rattle.pi_effects.specs.Effect.{Effect, Succeeds, Fails, Writes, Raises, FunctionEffect, Gives, Refuses}
 use Rattle.pi_meaning.specs.Configuration.{Frame, more, return, give, Back, Called, Entry, going, failed, Config, config}

@@ -3,15 +3,15 @@ use Rattle.std.proofs.Common.{◌≡◌, ℕ, zero, suc, ◌+◌, ◌≤◌, ◌
 use Rattle.std.specs.Prelude.{Bool, true, false, Option, Some, None, is_some, cond, codes, nat_lt}
 use Rattle.pi_terms.specs.Tree.{Tree, atom, comp, cells, tree_count, trees_of, most_cells}
 use Rattle.pi_terms.specs.Places.{Places}
-use Rattle.pi_states.specs.State.{State, next}
+use Rattle.pi_constraints.specs.State.{State, next}
 use Rattle.pi_terms.specs.Copy.{copy, new_variables}
-use Rattle.pi_states.specs.Unify.{unified}
+use Rattle.pi_constraints.specs.Unify.{unified}
 use Rattle.pi_core.specs.GoalTree.{GoalTree, truth, fail, tick, call, apply, seq, alternatives, if_else, not, once, collect, count, catch, GoalTrees, no_goals, goal}
 use Rattle.pi_core.specs.CoreTree.{PredTree, find_pred}
 use Rattle.pi_meaning.specs.View.{View}
 use Rattle.pi_meaning.specs.Names.{is_later_predicate, is_later_function, is_resource, is_call, is_given}
 use Rattle.pi_meaning.specs.Quiet.{TicksBetween}
-use Rattle.pi_states.specs.Evaluation.{EvaluatedAll, evaluated_all, with_new_variables}
+use Rattle.pi_constraints.specs.Evaluation.{EvaluatedAll, evaluated_all, with_new_variables}
 use Rattle.pi_meaning.specs.Meaning.{slot_value}
 use Rattle.pi_meaning.specs.Run.{Solution}
 use Rattle.pi_core.specs.declared.core_program.NameSlot.{NameSlot}

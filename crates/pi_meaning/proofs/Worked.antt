@@ -6,10 +6,10 @@ use Rattle.pi_terms.specs.Variables.{occurrences, firsts}
 use Rattle.pi_terms.specs.Substitution.{instance}
 use Rattle.pi_terms.specs.Copy.{copy}
 use Rattle.pi_terms.specs.ListCopies.{list_of_copies, new_in_all}
-use Rattle.pi_states.specs.Value.{rounds, value}
-use Rattle.pi_states.specs.State.{followed_for, followed}
-use Rattle.pi_states.specs.Unify.{in_pairs, assigned, joined, outcome, unified_for, unbound_in, cells_of_pairs, most_pairs, all_unified}
-use Rattle.pi_states.specs.Evaluation.{with_new_variables}
+use Rattle.pi_constraints.specs.Value.{rounds, value}
+use Rattle.pi_constraints.specs.State.{followed_for, followed}
+use Rattle.pi_constraints.specs.Unify.{in_pairs, assigned, joined, outcome, unified_for, unbound_in, cells_of_pairs, most_pairs, all_unified}
+use Rattle.pi_constraints.specs.Evaluation.{with_new_variables}
 use Rattle.pi_effects.specs.Power.{power}
 use Rattle.pi_effects.specs.Value.{value_of as operation}
 use Rattle.pi_syntax.specs.ExpTree.{ExpTree}

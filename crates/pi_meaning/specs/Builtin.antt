@@ -1,7 +1,7 @@
 -- The traces of what built-in predicates and functions do. What they do is said without traces, in `pi_effects`.
 use Rattle.std.specs.Prelude.{ℕ, Bool, true, false, List, Option, option_map, codes}
 use Rattle.pi_terms.specs.Tree.{Trees, atom}
-use Rattle.pi_states.specs.State.{State}
+use Rattle.pi_constraints.specs.State.{State}
 use Rattle.pi_effects.specs.Effect.{Effect, Succeeds, Fails, Writes, Raises, FunctionEffect, Gives, Refuses}
 use Rattle.pi_effects.specs.BuiltIns.{built_in_predicate, built_in_function}
 use Rattle.pi_meaning.specs.Trace.{Trace, end, note, Raise, Out, done, one, then}

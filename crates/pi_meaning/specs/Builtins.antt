@@ -1,7 +1,7 @@
 -- What the core meaning is handed: what names do that are no predicates or functions of the program. (Own.)
 use Rattle.std.specs.Prelude.{ℕ, List, Option}
 use Rattle.pi_terms.specs.Tree.{Trees}
-use Rattle.pi_states.specs.State.{State}
+use Rattle.pi_constraints.specs.State.{State}
 use Rattle.pi_meaning.specs.Trace.{Trace}
 use Rattle.pi_meaning.specs.Depth.{Below}
 use Rattle.pi_meaning.specs.Level.{Level, Applied, LevelBelow, or_called, or_applied}

@@ -3,7 +3,7 @@
 use Rattle.std.specs.Prelude.{ℕ, pos, ◌||◌, Bool, cond, List, [], ◌++◌, Option, Some, None, codes, option_map}
 use Rattle.std.specs.Option.{option_or}
 use Rattle.pi_terms.specs.Tree.{Tree, var, int, atom, comp, Trees, no_trees, tree, trees_of, tree_count}
-use Rattle.pi_states.specs.State.{State, bindings, followed}
+use Rattle.pi_constraints.specs.State.{State, bindings, followed}
 use Rattle.pi_effects.specs.Exception.{type_error}
 use Rattle.pi_effects.specs.Items.{each_tree}
 use Rattle.pi_effects.specs.BuiltIns.{built_in_predicate, built_in_function, is_predicate}

@@ -3,7 +3,7 @@
 use Rattle.std.specs.Prelude.{ℕ, Bool, true, false, List, [], ◌∷◌, Option, Some}
 use Rattle.pi_terms.specs.Tree.{Tree, Trees, no_trees, tree}
 use Rattle.pi_terms.specs.Places.{Places}
-use Rattle.pi_states.specs.State.{State}
+use Rattle.pi_constraints.specs.State.{State}
 use Rattle.pi_core.specs.GoalTree.{GoalTree, GoalTrees, no_goals, goal}
 use Rattle.pi_core.specs.CoreTree.{ClauseTree}
 

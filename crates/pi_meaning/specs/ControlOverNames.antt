@@ -3,9 +3,9 @@
 use Rattle.std.specs.Prelude.{ℕ, zero, suc, pos, List, [], ◌∷◌, Option, Some, None}
 use Rattle.pi_terms.specs.Tree.{Tree, Trees, no_trees, tree}
 use Rattle.pi_terms.specs.ListCopies.{new_in_all, list_of_copies}
-use Rattle.pi_states.specs.Value.{value}
-use Rattle.pi_states.specs.State.{bindings, next}
-use Rattle.pi_states.specs.Evaluation.{with_new_variables}
+use Rattle.pi_constraints.specs.Value.{value}
+use Rattle.pi_constraints.specs.State.{bindings, next}
+use Rattle.pi_constraints.specs.Evaluation.{with_new_variables}
 use Rattle.pi_meaning.specs.Trace.{Trace, done, one, alt, then, first}
 use Rattle.pi_meaning.specs.Control.{negated, chosen, collected, counted, caught}
 use Rattle.pi_meaning.specs.Level.{Level, calls_at}

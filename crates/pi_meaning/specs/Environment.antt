@@ -5,8 +5,8 @@ use Rattle.std.specs.Prelude.{ℕ, cond, List, [], ◌∷◌, ◌++◌, Option, 
 use Rattle.std.specs.Str.{bytes_eq}
 use Rattle.pi_terms.specs.Tree.{Tree, Trees, no_trees, tree}
 use Rattle.pi_terms.specs.Order.{identical}
-use Rattle.pi_states.specs.Value.{Bindings, value}
-use Rattle.pi_states.specs.State.{State, next, with_new, followed}
+use Rattle.pi_constraints.specs.Value.{Bindings, value}
+use Rattle.pi_constraints.specs.State.{State, next, with_new, followed}
 use Rattle.pi_syntax.specs.ExpTree.{ExpTree, ExpTrees, no_exps, exp}
 
 -- a name with what it stands for

@@ -5,12 +5,12 @@ use Rattle.std.specs.List.{list_any}
 use Rattle.pi_terms.specs.Tree.{Tree, int, atom, comp, Trees, no_trees, tree}
 use Rattle.pi_terms.specs.Places.{Places, held}
 use Rattle.pi_terms.specs.PatternTree.{PatternTree, slot, exact_int, exact_atom, compound, named, PatternTrees, no_patterns, pattern}
-use Rattle.pi_states.specs.Value.{Bindings}
-use Rattle.pi_states.specs.State.{State, bindings}
-use Rattle.pi_states.specs.Unify.{unified}
+use Rattle.pi_constraints.specs.Value.{Bindings}
+use Rattle.pi_constraints.specs.State.{State, bindings}
+use Rattle.pi_constraints.specs.Unify.{unified}
 use Rattle.pi_meaning.specs.Trace.{Trace, done, alt}
 use Rattle.pi_effects.specs.Kinds.{holds_no_variable}
-use Rattle.pi_states.specs.Evaluation.{Evaluated, EvaluatedAll, slot_term}
+use Rattle.pi_constraints.specs.Evaluation.{Evaluated, EvaluatedAll, slot_term}
 use Rattle.pi_meaning.specs.Settle.{settled_from}
 use Rattle.pi_core.specs.CoreTree.{ClauseTree}
 use Rattle.pi_syntax.specs.declared.program.Mode.{Mode}

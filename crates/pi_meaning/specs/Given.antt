@@ -2,7 +2,7 @@
 -- level. (Own.)
 use Rattle.std.specs.Prelude.{ℕ, Bool, List}
 use Rattle.pi_terms.specs.Tree.{Trees}
-use Rattle.pi_states.specs.State.{State}
+use Rattle.pi_constraints.specs.State.{State}
 use Rattle.pi_meaning.specs.Trace.{Trace}
 use Rattle.pi_meaning.specs.Depth.{Below}
 use Rattle.pi_meaning.specs.View.{View}

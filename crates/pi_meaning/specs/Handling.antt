@@ -2,9 +2,9 @@
 use Rattle.std.specs.Prelude.{Option, Some, None}
 use Rattle.pi_terms.specs.Tree.{Tree}
 use Rattle.pi_terms.specs.Copy.{copy, new_variables}
-use Rattle.pi_states.specs.State.{State, next}
-use Rattle.pi_states.specs.Unify.{unified}
-use Rattle.pi_states.specs.Evaluation.{with_new_variables}
+use Rattle.pi_constraints.specs.State.{State, next}
+use Rattle.pi_constraints.specs.Unify.{unified}
+use Rattle.pi_constraints.specs.Evaluation.{with_new_variables}
 use Rattle.pi_meaning.specs.Trace.{Trace, end, Raise, then}
 use Rattle.pi_meaning.specs.Settle.{settled}
 

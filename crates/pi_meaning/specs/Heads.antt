@@ -6,8 +6,8 @@ use Rattle.std.specs.Str.{bytes_eq, chars}
 use Rattle.pi_terms.specs.Tree.{Tree, comp, Trees, no_trees, tree}
 use Rattle.pi_terms.specs.ListNames.{nil}
 use Rattle.pi_terms.specs.Order.{identical}
-use Rattle.pi_states.specs.Value.{Bindings}
-use Rattle.pi_states.specs.State.{followed}
+use Rattle.pi_constraints.specs.Value.{Bindings}
+use Rattle.pi_constraints.specs.State.{followed}
 use Rattle.pi_syntax.specs.PrintTerm.{array_name}
 use Rattle.pi_effects.specs.Items.{cell_parts}
 use Rattle.pi_syntax.specs.ExpTree.{ExpTree, var, int, atom, str, list, list_onto, array, call, quote, index, range, range_by, at, collect, and, or, arrow, if_then, if_else, foreach, while_do, do_while, ExpTrees, no_exps, exp}

@@ -2,7 +2,7 @@
 -- Guide to Picat, 'Appendix: Predicates and Functions'; which names are there is own.)
 use Rattle.std.specs.Prelude.{ℕ, Bool, false, not, cond, List, Option, Some, None}
 use Rattle.pi_terms.specs.Tree.{Trees, tree_count}
-use Rattle.pi_states.specs.State.{State}
+use Rattle.pi_constraints.specs.State.{State}
 use Rattle.pi_core.specs.CoreTree.{PredTree, find_pred}
 use Rattle.pi_meaning.specs.Trace.{Trace, done}
 use Rattle.pi_meaning.specs.View.{View}

@@ -4,7 +4,7 @@ use Rattle.std.specs.Prelude.{◌≡◌, ◌≢◌, ◌≤◌, ◌<◌, ℕ, ◌
 use Rattle.pi_core.specs.CoreTree.{PredTree, QueryTree}
 use Rattle.pi_meaning.specs.Trace.{Trace, end, note, End, Call, Deep, Note, Tick, Emitted, emit, count_ticks, then}
 use Rattle.pi_meaning.specs.Depth.{Below, DepthOnlyAdds, Cut, Ended, Spent, with_events, CutWithoutDeep}
-use Rattle.pi_states.specs.State.{State}
+use Rattle.pi_constraints.specs.State.{State}
 use Rattle.pi_meaning.specs.View.{View, Wanted, reading}
 use Rattle.pi_meaning.specs.Instances.{no_later, whole}
 use Rattle.pi_meaning.specs.Level.{Point}

@@ -5,7 +5,7 @@
 use Rattle.std.specs.Prelude.{ℕ, List, Option, Some, None}
 use Rattle.pi_terms.specs.Tree.{Tree, Trees}
 use Rattle.pi_terms.specs.Places.{Places}
-use Rattle.pi_states.specs.State.{State}
+use Rattle.pi_constraints.specs.State.{State}
 use Rattle.pi_meaning.specs.Trace.{Trace, end, note, Deep, Tick}
 use Rattle.pi_meaning.specs.Depth.{Below}
 

@@ -3,10 +3,10 @@
 use Rattle.std.specs.Prelude.{ℕ, suc, Bool, true, false, List, [], ◌∷◌, ◌++◌, length, reverse, Option, Some, None, unwrap_or, pos, codes, Ok, Err}
 use Rattle.pi_terms.specs.Tree.{Tree, var, atom}
 use Rattle.pi_terms.specs.ListNames.{nil}
-use Rattle.pi_states.specs.Value.{Bindings}
-use Rattle.pi_states.specs.State.{State, bindings, next}
-use Rattle.pi_states.specs.Unify.{unified}
-use Rattle.pi_states.specs.Evaluation.{with_new_variables}
+use Rattle.pi_constraints.specs.Value.{Bindings}
+use Rattle.pi_constraints.specs.State.{State, bindings, next}
+use Rattle.pi_constraints.specs.Unify.{unified}
+use Rattle.pi_constraints.specs.Evaluation.{with_new_variables}
 use Rattle.pi_effects.specs.Items.{list_of, array_of, list_items, collection_items}
 use Rattle.pi_effects.specs.Range.{Outcome}
 use Rattle.pi_effects.specs.Value.{value_of}

@@ -6,12 +6,12 @@ use Rattle.pi_terms.specs.ListCopies.{new_in_all, list_of_copies}
 use Rattle.std.specs.Prelude.{ℕ, pos, List, Some, slice_set}
 use Rattle.pi_terms.specs.Tree.{Tree, var, int, trees_of}
 use Rattle.pi_terms.specs.Places.{Places}
-use Rattle.pi_states.specs.Value.{value}
-use Rattle.pi_states.specs.State.{State, bindings, next}
+use Rattle.pi_constraints.specs.Value.{value}
+use Rattle.pi_constraints.specs.State.{State, bindings, next}
 use Rattle.pi_core.specs.GoalTree.{GoalTree, truth, fail, tick, call, apply, seq, alternatives, if_else, not, once, collect, count, catch, GoalTrees, no_goals, goal}
 use Rattle.pi_meaning.specs.Trace.{Trace, done, one, alt, then, first}
 use Rattle.pi_meaning.specs.Control.{negated, chosen, collected, counted, caught}
-use Rattle.pi_states.specs.Evaluation.{Evaluated, evaluated, EvaluatedAll, evaluated_all, with_new_variables}
+use Rattle.pi_constraints.specs.Evaluation.{Evaluated, evaluated, EvaluatedAll, evaluated_all, with_new_variables}
 use Rattle.pi_meaning.specs.Raise.{within_limit}
 use Rattle.pi_meaning.specs.Handling.{handling}
 use Rattle.pi_meaning.specs.Level.{calls_at, lower, ticked, Point}

@@ -3,7 +3,7 @@
 use Rattle.std.specs.Prelude.{◌≡◌, ℕ, suc, ◌+◌, true, false, List, ◌++◌, Option, Some, is_some, length, Contains}
 use Rattle.pi_terms.specs.Tree.{Trees, tree_count}
 use Rattle.pi_terms.specs.Places.{Places}
-use Rattle.pi_states.specs.State.{State, next, IsState, PlacesBelow}
+use Rattle.pi_constraints.specs.State.{State, next, IsState, PlacesBelow}
 use Rattle.pi_core.specs.GoalTree.{GoalTree}
 use Rattle.pi_effects.specs.BuiltIns.{is_predicate}
 use Rattle.pi_meaning.specs.Trace.{WithoutDeep, answers}

@@ -1,7 +1,7 @@
 -- Names that don't occur: what stands in an environment for a name that occurs neither in a goal nor before it changes nothing.
 use Rattle.std.specs.Prelude.{◌≡◌, ℕ, false, List, [], ◌∷◌, ⊤}
 use Rattle.std.specs.Str.{bytes_eq}
-use Rattle.pi_states.specs.State.{State}
+use Rattle.pi_constraints.specs.State.{State}
 use Rattle.pi_syntax.specs.ExpTree.{ExpTree, var, int, atom, str, list, list_onto, array, call, quote, index, range, range_by, at, collect, and, or, arrow, if_then, if_else, foreach, while_do, do_while, ExpTrees, no_exps, exp, ExpBranches, no_branches, branch}
 use Rattle.pi_meaning.specs.Related.{BelowBy}
 use Rattle.pi_meaning.specs.Level.{Level}

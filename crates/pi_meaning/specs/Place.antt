@@ -1,6 +1,6 @@
 -- Places in a run over names, and what a goal does from one. (Own.)
 use Rattle.std.specs.Prelude.{[]}
-use Rattle.pi_states.specs.State.{State, empty_state}
+use Rattle.pi_constraints.specs.State.{State, empty_state}
 use Rattle.pi_meaning.specs.Trace.{Trace}
 use Rattle.pi_meaning.specs.Environment.{Environment}
 

@@ -1,7 +1,7 @@
 -- Exceptions as the ends of traces: what is raised is a term of `pi_effects`.
 use Rattle.std.specs.Prelude.{ℕ, nat_lt, cond, List}
 use Rattle.pi_terms.specs.Tree.{Tree, cells, most_cells}
-use Rattle.pi_states.specs.State.{State}
+use Rattle.pi_constraints.specs.State.{State}
 use Rattle.pi_effects.specs.Exception.{term_too_large, exception_with}
 use Rattle.pi_meaning.specs.Trace.{Trace, end, End, Raise}
 

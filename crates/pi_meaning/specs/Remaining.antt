@@ -3,7 +3,7 @@
 use Rattle.std.specs.Prelude.{ℕ, ◌+◌, pos, List, [], ◌∷◌, ◌++◌, Some, codes, slice_set}
 use Rattle.pi_terms.specs.Tree.{Tree, Trees, int}
 use Rattle.pi_terms.specs.Places.{Places, held}
-use Rattle.pi_states.specs.State.{State}
+use Rattle.pi_constraints.specs.State.{State}
 use Rattle.pi_core.specs.GoalTree.{GoalTree, GoalTrees}
 use Rattle.pi_core.specs.CoreTree.{ClauseTree, PredTree, leaves_others}
 use Rattle.pi_meaning.specs.Trace.{Trace, end, note, Raise, Out, done, one, alt, then, first}

@@ -4,14 +4,14 @@ use Rattle.pi_core.specs.CoreTree.{backtracks, find_pred, ClauseTree, PredTree}
 use Rattle.std.specs.Prelude.{ℕ, zero, suc, ◌+◌, Bool, true, false, List, [], ◌∷◌, length, map, replicate, Option, Some, None, codes}
 use Rattle.pi_terms.specs.Tree.{Tree, var, comp, Trees, no_trees, tree, trees_of, tree_count}
 use Rattle.pi_terms.specs.Places.{Places}
-use Rattle.pi_states.specs.State.{State, bindings, WatchTree, on_ins, on_bound, on_dom, on_dom_any, on_posted, with_agent}
+use Rattle.pi_constraints.specs.State.{State, bindings, WatchTree, on_ins, on_bound, on_dom, on_dom_any, on_posted, with_agent}
 use Rattle.pi_meaning.specs.Trace.{Trace, done, one, alt, then}
 use Rattle.pi_meaning.specs.Control.{chosen}
 use Rattle.pi_core.specs.GoalTree.{GoalTree, truth}
 use Rattle.pi_meaning.specs.Builtins.{Builtins}
 use Rattle.pi_meaning.specs.Drain.{drained}
-use Rattle.pi_states.specs.Evaluation.{Evaluated, evaluated, EvaluatedAll, evaluated_all}
-use Rattle.pi_states.specs.HeadMatch.{matched_all_in}
+use Rattle.pi_constraints.specs.Evaluation.{Evaluated, evaluated, EvaluatedAll, evaluated_all}
+use Rattle.pi_constraints.specs.HeadMatch.{matched_all_in}
 use Rattle.pi_meaning.specs.Raise.{raised_with}
 use Rattle.pi_meaning.specs.Level.{Level, Applied, Calls, level_of, ticked, unticked, Point}
 use Rattle.pi_meaning.specs.Meaning.{Action, meaning, strictly}

@@ -3,8 +3,8 @@
 use Rattle.std.specs.Prelude.{ℕ, zero, suc, Bool, false, cond, List, [], ◌∷◌, filter, filter_map, Option, Some, None, option_and_then, codes}
 use Rattle.std.specs.List.{list_any}
 use Rattle.pi_terms.specs.Tree.{Tree, comp, Trees, tree_count}
-use Rattle.pi_states.specs.State.{State, bindings}
-use Rattle.pi_states.specs.Unify.{unified}
+use Rattle.pi_constraints.specs.State.{State, bindings}
+use Rattle.pi_constraints.specs.Unify.{unified}
 use Rattle.pi_syntax.specs.ExpTree.{ExpTree}
 use Rattle.pi_syntax.specs.ProgramTree.{RuleTree, FunctionTree, WrittenClause, rule, function, fact, PartTree, ProgramTree}
 use Rattle.pi_syntax.specs.declared.program.Mode.{Mode}

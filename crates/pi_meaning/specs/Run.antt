@@ -2,7 +2,7 @@
 -- such depths give the same cut.
 use Rattle.std.specs.Prelude.{◌≡◌, ℕ, List, [], ◌∷◌, ◌++◌, None, replicate}
 use Rattle.pi_terms.specs.Places.{Places}
-use Rattle.pi_states.specs.State.{State, empty_state}
+use Rattle.pi_constraints.specs.State.{State, empty_state}
 use Rattle.pi_meaning.specs.Trace.{Trace, then, one}
 use Rattle.pi_meaning.specs.Depth.{Cut, cut, CutWithoutDeep}
 use Rattle.pi_meaning.specs.View.{query_view}

@@ -2,7 +2,7 @@
 -- so far: no goal posts a constraint or gives a variable a domain, and with none of these there are no values to lose. No
 -- event is posted yet, so an agent that is made waits on.
 use Rattle.std.specs.Prelude.{Option, Some, None}
-use Rattle.pi_states.specs.State.{State}
+use Rattle.pi_constraints.specs.State.{State}
 use Rattle.pi_meaning.specs.Trace.{Trace, one, done}
 
 -- the second state settled, where the goal began in the first

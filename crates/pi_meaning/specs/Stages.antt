@@ -2,7 +2,7 @@
 -- the core meaning at once. (Own.)
 use Rattle.std.specs.Prelude.{ℕ, List}
 use Rattle.pi_terms.specs.Tree.{Tree}
-use Rattle.pi_states.specs.State.{State}
+use Rattle.pi_constraints.specs.State.{State}
 use Rattle.pi_syntax.specs.ExpTree.{ExpTree}
 use Rattle.pi_meaning.specs.Trace.{Trace, done}
 use Rattle.pi_meaning.specs.Given.{Later, Setting}

@@ -4,9 +4,9 @@ use Rattle.std.specs.List.{list_any}
 use Rattle.pi_terms.specs.Tree.{Tree, int, atom, comp, Trees, no_trees, tree, trees_of, tree_count, cells, most_cells}
 use Rattle.pi_terms.specs.Places.{Places, held}
 use Rattle.pi_terms.specs.Copy.{copy, new_variables}
-use Rattle.pi_states.specs.Value.{value}
-use Rattle.pi_states.specs.State.{State, bindings, next, empty_state, followed}
-use Rattle.pi_states.specs.Unify.{unified}
+use Rattle.pi_constraints.specs.Value.{value}
+use Rattle.pi_constraints.specs.State.{State, bindings, next, empty_state, followed}
+use Rattle.pi_constraints.specs.Unify.{unified}
 use Rattle.pi_core.specs.GoalTree.{GoalTree, truth, fail, tick, call, apply, seq, alternatives, if_else, not, once, collect, count, catch, GoalTrees, no_goals, goal}
 use Rattle.pi_core.specs.CoreTree.{ClauseTree, PredTree, QueryTree, find_pred, leaves_others}
 use Rattle.pi_meaning.specs.Trace.{End, Done, Raise}
@@ -20,8 +20,8 @@ use Rattle.pi_meaning.specs.Instances.{is_called_by_name}
 use Rattle.pi_meaning.specs.NamedGoals.{goal_by_name}
 use Rattle.pi_meaning.specs.Within.{Within, a_query, a_body, is_body}
 use Rattle.pi_meaning.specs.View.{View}
-use Rattle.pi_states.specs.Evaluation.{Evaluated, evaluated, EvaluatedAll, evaluated_all, with_new_variables}
-use Rattle.pi_states.specs.HeadMatch.{matched_all_in}
+use Rattle.pi_constraints.specs.Evaluation.{Evaluated, evaluated, EvaluatedAll, evaluated_all, with_new_variables}
+use Rattle.pi_constraints.specs.HeadMatch.{matched_all_in}
 use Rattle.pi_meaning.specs.Facts.{fact_terms, unified_with, fits_modes}
 use Rattle.pi_meaning.specs.Meaning.{slot_value}
 use Rattle.pi_syntax.specs.declared.program.Mode.{Mode}

@@ -2,7 +2,7 @@
 use Rattle.std.specs.Prelude.{◌≡◌, ℕ, suc, false, List, [], ⊤}
 use Rattle.pi_terms.specs.Tree.{Tree}
 use Rattle.pi_terms.specs.Places.{Places}
-use Rattle.pi_states.specs.State.{State}
+use Rattle.pi_constraints.specs.State.{State}
 use Rattle.pi_core.specs.GoalTree.{GoalTree, no_goals, goal}
 use Rattle.pi_core.specs.CoreTree.{ClauseTree, PredTree, leaves_others}
 use Rattle.pi_meaning.specs.Trace.{end, note, ans, Tick, Out}

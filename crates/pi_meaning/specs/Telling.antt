@@ -2,9 +2,9 @@
 use Rattle.std.specs.Prelude.{ℕ, ◌==◌, Bool, false, cond, List, [], ◌∷◌, ◌++◌, map}
 use Rattle.std.specs.Str.{bytes_eq}
 use Rattle.std.specs.List.{list_any}
-use Rattle.pi_states.specs.Value.{value}
-use Rattle.pi_states.specs.State.{State, bindings}
-use Rattle.pi_states.specs.ToldDomains.{told_domains}
+use Rattle.pi_constraints.specs.Value.{value}
+use Rattle.pi_constraints.specs.State.{State, bindings}
+use Rattle.pi_constraints.specs.ToldDomains.{told_domains}
 use Rattle.pi_syntax.specs.ExpTree.{ExpTree}
 use Rattle.pi_meaning.specs.Trace.{Trace, Emitted, noted, answered, one, then}
 use Rattle.pi_meaning.specs.Depth.{Cut}

@@ -3,10 +3,10 @@
 use Rattle.std.specs.Prelude.{List, [], ◌∷◌}
 use Rattle.pi_terms.specs.Tree.{var}
 use Rattle.pi_terms.specs.Places.{Places}
-use Rattle.pi_states.specs.Value.{value}
-use Rattle.pi_states.specs.State.{State, bindings}
-use Rattle.pi_states.specs.Evaluation.{Evaluated, evaluated}
-use Rattle.pi_states.specs.ToldDomains.{told_domains}
+use Rattle.pi_constraints.specs.Value.{value}
+use Rattle.pi_constraints.specs.State.{State, bindings}
+use Rattle.pi_constraints.specs.Evaluation.{Evaluated, evaluated}
+use Rattle.pi_constraints.specs.ToldDomains.{told_domains}
 use Rattle.pi_meaning.specs.Run.{Solution}
 use Rattle.pi_meaning.specs.Telling.{Told}
 use Rattle.pi_core.specs.AnswerVariables.{answer_variables}

@@ -5,8 +5,8 @@ use Rattle.std.specs.List.{list_any}
 use Rattle.pi_terms.specs.Tree.{Tree, var, int, comp, no_trees, tree}
 use Rattle.pi_terms.specs.Order.{identical}
 use Rattle.pi_terms.specs.Variables.{IsGround}
-use Rattle.pi_states.specs.State.{State}
-use Rattle.pi_states.specs.Unify.{unified}
+use Rattle.pi_constraints.specs.State.{State}
+use Rattle.pi_constraints.specs.Unify.{unified}
 use Rattle.pi_meaning.specs.Trace.{Trace, end, Call, Raise, Abort, Miss, done}
 use Rattle.pi_meaning.specs.Settle.{settled_from}
 use Rattle.pi_meaning.specs.Within.{Within, a_query, a_body, is_body}

@@ -2,7 +2,7 @@
 -- has a rest in this form is own.)
 use Rattle.std.specs.Prelude.{ℕ, pos, Bool, true, false, codes}
 use Rattle.pi_terms.specs.Tree.{int, atom}
-use Rattle.pi_states.specs.State.{State}
+use Rattle.pi_constraints.specs.State.{State}
 use Rattle.pi_meaning.specs.Trace.{Trace, end, Raise, one}
 use Rattle.pi_meaning.specs.Level.{Applied}
 

@@ -1,8 +1,8 @@
 -- The bodies of planner calls, and what planner calls come to, under each rest.
 use Rattle.std.specs.Prelude.{◌≡◌, ◌++◌, ℕ, Bool, false, cond, List, Option, Some, None, option_map, refl}
 use Rattle.pi_terms.specs.Tree.{tree_count}
-use Rattle.pi_states.specs.Value.{value}
-use Rattle.pi_states.specs.State.{State, bindings}
+use Rattle.pi_constraints.specs.Value.{value}
+use Rattle.pi_constraints.specs.State.{State, bindings}
 use Rattle.pi_core.specs.GoalTree.{GoalTree, subgoals}
 use Rattle.pi_core.specs.CoreTree.{PredTree, find_pred}
 use Rattle.pi_meaning.specs.Trace.{Call, one, then}

@@ -2,7 +2,7 @@
 use Rattle.std.specs.Prelude.{◌≡◌, ℕ, Bool, true, false, cond, List, Option, Some, None, option_map, refl}
 use Rattle.std.specs.Option.{option_or}
 use Rattle.pi_terms.specs.Tree.{Tree, Trees, no_trees, tree, tree_count}
-use Rattle.pi_states.specs.State.{State, bindings, followed}
+use Rattle.pi_constraints.specs.State.{State, bindings, followed}
 use Rattle.pi_effects.specs.Effect.{Effect, Succeeds, Fails, Writes, Raises}
 use Rattle.pi_effects.specs.Items.{each_tree}
 use Rattle.pi_effects.specs.BuiltIns.{built_in_predicate, built_in_function}

@@ -4,7 +4,7 @@ use Rattle.std.proofs.Common.{arith, subst, inl, inr}
 use Rattle.std.proofs.lemmas.Int.{ints}
 use Rattle.pi_terms.specs.Tree.{Tree, int}
 use Rattle.pi_meaning.specs.Trace.{Trace, Done, answers, end_of}
-use Rattle.pi_states.specs.State.{State}
+use Rattle.pi_constraints.specs.State.{State}
 use Rattle.pi_core.specs.declared.log.LogEntry.{LogEntry}
 use Rattle.pi_planner_calls.specs.Bodies.{Offer, Bodies, first_fault}
 use Rattle.pi_planner_calls.specs.Steps.{IsFinal, GoesOn, IsStep, Valid, Reached, at_start, by_step, IsClosed, number_of}

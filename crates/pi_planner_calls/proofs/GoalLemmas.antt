@@ -4,8 +4,8 @@ use Rattle.std.specs.List.{list_any}
 use Rattle.std.proofs.Common.{sym, ◌∙◌, arith}
 use Rattle.std.proofs.lemmas.List.Folds.{list_any-append}
 use Rattle.pi_terms.specs.Tree.{Tree, Trees, tree, trees_of, tree_count}
-use Rattle.pi_states.specs.State.{State}
-use Rattle.pi_states.specs.Evaluation.{Evaluated, evaluated, EvaluatedAll, evaluated_all}
+use Rattle.pi_constraints.specs.State.{State}
+use Rattle.pi_constraints.specs.Evaluation.{Evaluated, evaluated, EvaluatedAll, evaluated_all}
 use Rattle.pi_core.specs.GoalTree.{GoalTree, truth, fail, tick, call, apply, seq, alternatives, if_else, not, once, collect, count, catch, GoalTrees, no_goals, goal, subgoals, subgoals_all}
 use Rattle.pi_meaning.specs.Trace.{one, alt, then, first}
 use Rattle.pi_meaning.specs.Control.{negated, chosen}

@@ -2,7 +2,7 @@
 use Rattle.std.specs.Prelude.{◌≡◌, ◌++◌, ℕ, zero, suc, Bool, true, false, cond, List, [], ◌∷◌, filter, filter_map, Option, Some, None, codes, ⊤, refl}
 use Rattle.std.proofs.Common.{rules}
 use Rattle.pi_terms.specs.Tree.{Tree, comp, Trees, tree_count}
-use Rattle.pi_states.specs.State.{State, bindings}
+use Rattle.pi_constraints.specs.State.{State, bindings}
 use Rattle.pi_syntax.specs.ExpTree.{ExpTree}
 use Rattle.pi_syntax.specs.ProgramTree.{RuleTree, FunctionTree, WrittenClause, rule, function, fact, ProgramTree}
 use Rattle.pi_syntax.specs.declared.program.Decl.{Decl}

@@ -7,11 +7,11 @@ use Rattle.pi_terms.specs.Order.{order}
 use Rattle.pi_terms.specs.Variables.{occurrences}
 use Rattle.pi_terms.specs.Substitution.{instance}
 use Rattle.pi_terms.specs.PatternTree.{slot, exact_atom, no_patterns, pattern}
-use Rattle.pi_states.specs.Value.{rounds, value}
-use Rattle.pi_states.specs.State.{State, empty_state, followed_for, followed}
-use Rattle.pi_states.specs.Unify.{in_pairs, assigned, joined, outcome, unified_for, unbound_in, cells_of_pairs, most_pairs, all_unified}
-use Rattle.pi_states.specs.Evaluation.{evaluated, evaluated_all}
-use Rattle.pi_states.specs.HeadMatch.{matched_in, matched_all_in}
+use Rattle.pi_constraints.specs.Value.{rounds, value}
+use Rattle.pi_constraints.specs.State.{State, empty_state, followed_for, followed}
+use Rattle.pi_constraints.specs.Unify.{in_pairs, assigned, joined, outcome, unified_for, unbound_in, cells_of_pairs, most_pairs, all_unified}
+use Rattle.pi_constraints.specs.Evaluation.{evaluated, evaluated_all}
+use Rattle.pi_constraints.specs.HeadMatch.{matched_in, matched_all_in}
 use Rattle.pi_syntax.specs.ExpTree.{ExpTree, quote, no_exps, exp}
 use Rattle.pi_core.specs.GoalTree.{truth, call, apply, seq, no_goals, goal, subgoals}
 use Rattle.pi_core.specs.CoreTree.{ClauseTree, PredTree, find_pred}

@@ -3,8 +3,8 @@ use Rattle.std.specs.Prelude.{◌≡◌, ℕ, zero, suc, ◌+◌, Bool, true, fa
 use Rattle.std.specs.List.{list_any}
 use Rattle.pi_terms.specs.Tree.{Tree, comp, Trees, tree_count}
 use Rattle.pi_terms.specs.Places.{Places}
-use Rattle.pi_states.specs.State.{State, bindings}
-use Rattle.pi_states.specs.HeadMatch.{matched_all_in}
+use Rattle.pi_constraints.specs.State.{State, bindings}
+use Rattle.pi_constraints.specs.HeadMatch.{matched_all_in}
 use Rattle.pi_core.specs.GoalTree.{GoalTree, truth}
 use Rattle.pi_core.specs.CoreTree.{ClauseTree, PredTree, QueryTree, backtracks, is_pred, find_pred}
 use Rattle.pi_core.specs.declared.core_program.SlotWatch.{SlotWatch}

@@ -3,8 +3,8 @@ use Rattle.std.specs.Prelude.{ℕ, ℤ, pos, negsuc, Bool, List, [], ◌∷◌, 
 use Rattle.pi_terms.specs.Tree.{Tree, var, int, atom, comp, Trees, no_trees, tree}
 use Rattle.pi_terms.specs.Variables.{variables}
 use Rattle.pi_meaning.specs.Trace.{Trace, Call}
-use Rattle.pi_states.specs.Value.{Bindings, value}
-use Rattle.pi_states.specs.State.{State, bindings, followed}
+use Rattle.pi_constraints.specs.Value.{Bindings, value}
+use Rattle.pi_constraints.specs.State.{State, bindings, followed}
 use Rattle.pi_meaning.specs.View.{View, Wanted, reading}
 use Rattle.pi_meaning.specs.Raise.{within_limit, raised_with}
 

@@ -4,7 +4,7 @@ use Rattle.std.specs.Prelude.{◌≡◌, ◌≢◌, ℕ, List, [], ◌∷◌, Op
 use Rattle.pi_terms.specs.Tree.{Tree, var, int, atom, comp}
 use Rattle.pi_terms.specs.Variables.{variables}
 use Rattle.pi_meaning.specs.Trace.{Trace, End, answers, end_of}
-use Rattle.pi_states.specs.State.{State}
+use Rattle.pi_constraints.specs.State.{State}
 use Rattle.pi_meaning.specs.View.{View}
 
 -- an answer of `action`: the values of its three last arguments, with all bindings replaced. (Where one is past the limit of copies, the trace has that exception in

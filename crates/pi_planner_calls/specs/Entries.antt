@@ -4,7 +4,7 @@ use Rattle.std.specs.Prelude.{◌≡◌, ◌⊎◌, ℕ, ◌<◌, ◌≤◌, ℤ
 use Rattle.pi_terms.specs.Tree.{Tree}
 use Rattle.pi_terms.specs.Variables.{IsGround}
 use Rattle.pi_meaning.specs.Trace.{Call, Done, Raise, Abort, answers}
-use Rattle.pi_states.specs.State.{empty_state}
+use Rattle.pi_constraints.specs.State.{empty_state}
 use Rattle.pi_effects.specs.Exception.{exception_with}
 use Rattle.pi_effects.specs.Items.{list_of}
 use Rattle.pi_meaning.specs.View.{call_of, same_call, body_view}

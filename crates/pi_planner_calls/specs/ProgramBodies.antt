@@ -2,7 +2,7 @@
 -- (A User's Guide to Picat, 'Planning'; where a body begins, and that it is a run by itself, is own.)
 use Rattle.std.specs.Prelude.{ℕ, List, [], ◌∷◌, None, replicate, codes}
 use Rattle.pi_terms.specs.Tree.{Tree, var}
-use Rattle.pi_states.specs.State.{empty_state}
+use Rattle.pi_constraints.specs.State.{empty_state}
 use Rattle.pi_core.specs.GoalTree.{GoalTree, call}
 use Rattle.pi_core.specs.CoreTree.{PredTree}
 use Rattle.pi_meaning.specs.Trace.{Trace, one, then}

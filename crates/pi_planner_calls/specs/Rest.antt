@@ -1,7 +1,7 @@
 -- What later stages of the language owe: that what they give doesn't go by the number of the rest. (Own.)
 use Rattle.std.specs.Prelude.{◌≡◌, ℕ, List}
 use Rattle.pi_terms.specs.Tree.{Trees}
-use Rattle.pi_states.specs.State.{State}
+use Rattle.pi_constraints.specs.State.{State}
 use Rattle.pi_meaning.specs.Trace.{Call}
 use Rattle.pi_core.specs.declared.log.LogEntry.{LogEntry}
 use Rattle.pi_meaning.specs.View.{body_view}

@@ -1,7 +1,7 @@
 -- In a program that isn't by rests the rest counts for nothing: under views of a planner's bodies that differ in the number of the rest alone, all means the same.
 use Rattle.std.specs.Prelude.{◌≡◌, ◌++◌, ℕ, ℤ, pos, ◌≤ℤ◌, Bool, true, false, List}
 use Rattle.pi_terms.specs.Tree.{Tree, Trees}
-use Rattle.pi_states.specs.State.{State}
+use Rattle.pi_constraints.specs.State.{State}
 use Rattle.pi_core.specs.GoalTree.{GoalTree}
 use Rattle.pi_core.specs.CoreTree.{PredTree, QueryTree}
 use Rattle.pi_meaning.specs.Trace.{Call}

@@ -4,7 +4,7 @@ use Rattle.std.proofs.Common.{arith, sym, ◌∙◌, ap, subst, inl, inr}
 use Rattle.std.proofs.lemmas.Option.{slice_get_within}
 use Rattle.std.proofs.lemmas.List.Elements.{Contains-append_cases}
 use Rattle.pi_core.specs.declared.log.Work.{Work}
-use Rattle.pi_states.specs.State.{State, IsState}
+use Rattle.pi_constraints.specs.State.{State, IsState}
 use Rattle.pi_settling.specs.SettlingLaws.{MaySettle}
 use Rattle.pi_settling.specs.Stable.{IsStable, IsEmptied}
 use Rattle.pi_settling.specs.Load.{count_lost}

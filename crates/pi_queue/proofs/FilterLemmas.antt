@@ -7,8 +7,8 @@ use Rattle.pi_constraints.specs.declared.constraint.Constraint.{Constraint}
 use Rattle.pi_constraints.specs.declared.constraint.Item.{Item}
 use Rattle.pi_constraints.specs.declared.domain.Span.{Span}
 use Rattle.pi_filters.specs.Places.{places_of, domain_at}
-use Rattle.pi_states.specs.State.{State, bindings}
-use Rattle.pi_states.specs.Value.{IsAcyclic}
+use Rattle.pi_constraints.specs.State.{State, bindings}
+use Rattle.pi_constraints.specs.Value.{IsAcyclic}
 use Rattle.pi_settling.specs.Roots.{root_item, given, domain_or_all}
 use Rattle.pi_prop.specs.Left.{AreLeft}
 use Rattle.pi_queue.specs.Standing.{standing_at}

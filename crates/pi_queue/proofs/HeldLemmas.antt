@@ -14,7 +14,7 @@ use Rattle.pi_constraints.proofs.ExtremeLemmas.{AscendFrom-ends_rise}
 use Rattle.pi_filters.specs.Ends.{least_of, greatest_of}
 use Rattle.pi_filters.proofs.EndLemmas.{least-below, greatest-above}
 use Rattle.pi_places.specs.Reads.{HasValueBetween}
-use Rattle.pi_states.specs.State.{State}
+use Rattle.pi_constraints.specs.State.{State}
 use Rattle.pi_queue.specs.Standing.{IsStand, span_of, standing}
 use Rattle.pi_queue.specs.declared.stand.Stand.{Stand}
 

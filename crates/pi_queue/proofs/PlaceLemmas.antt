@@ -9,11 +9,11 @@ use Rattle.pi_constraints.specs.declared.constraint.Constraint.{Constraint}
 use Rattle.pi_constraints.specs.declared.constraint.Item.{Item}
 use Rattle.pi_constraints.specs.Constraint.{HoldsVariable, HoldVariable, SumHasVariable, SpeaksOf}
 use Rattle.pi_filters.specs.Places.{places_of, sum_places}
-use Rattle.pi_states.specs.Value.{Bindings, IsAcyclic, value}
-use Rattle.pi_states.specs.State.{State, Variable, binding, bindings, next, followed_for, followed, LeadsTo, is_it, through}
-use Rattle.pi_states.specs.Store.{IsPostedOn}
-use Rattle.pi_states.proofs.StateLemmas.{variable, held_is}
-use Rattle.pi_states.proofs.ValueLemmas.{unbound_is_its_own_value, bound_has_value_of_its_term}
+use Rattle.pi_constraints.specs.Value.{Bindings, IsAcyclic, value}
+use Rattle.pi_constraints.specs.State.{State, Variable, binding, bindings, next, followed_for, followed, LeadsTo, is_it, through}
+use Rattle.pi_constraints.specs.Store.{IsPostedOn}
+use Rattle.pi_constraints.proofs.StateLemmas.{variable, held_is}
+use Rattle.pi_constraints.proofs.ValueLemmas.{unbound_is_its_own_value, bound_has_value_of_its_term}
 use Rattle.pi_settling.specs.Roots.{item_of, root_item}
 use Rattle.pi_settling.proofs.RootLemmas.{root-by_value}
 use Rattle.pi_settling.proofs.TwiceLemmas.{past_free, less_or_not}

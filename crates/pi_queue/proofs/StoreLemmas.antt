@@ -7,14 +7,14 @@ use Rattle.pi_terms.specs.Variables.{Occurs}
 use Rattle.pi_constraints.specs.declared.constraint.Item.{Item}
 use Rattle.pi_constraints.specs.declared.domain.Span.{Span}
 use Rattle.pi_constraints.specs.Domain.{IsWithinBounds, size_of}
-use Rattle.pi_states.specs.Value.{Bindings, value, MayBind}
-use Rattle.pi_states.specs.State.{State, IsState, bindings, binding, next, domain_of, domain_at_root, followed, with_binding, with_domain}
-use Rattle.pi_states.specs.Store.{StoreView, IsTerm, ShowsCell, Keeps, Gives, Binds, Confines}
-use Rattle.pi_states.specs.declared.store.Ref.{Ref}
-use Rattle.pi_states.specs.declared.store.Cell.{Cell}
-use Rattle.pi_states.proofs.StateLemmas.{variable, as_many, domain_unbound}
-use Rattle.pi_states.proofs.RootLemmas.{value_int}
-use Rattle.pi_states.proofs.FollowLemmas.{followed_itself, followed_other}
+use Rattle.pi_constraints.specs.Value.{Bindings, value, MayBind}
+use Rattle.pi_constraints.specs.State.{State, IsState, bindings, binding, next, domain_of, domain_at_root, followed, with_binding, with_domain}
+use Rattle.pi_constraints.specs.Store.{StoreView, IsTerm, ShowsCell, Keeps, Gives, Binds, Confines}
+use Rattle.pi_constraints.specs.declared.store.Ref.{Ref}
+use Rattle.pi_constraints.specs.declared.store.Cell.{Cell}
+use Rattle.pi_constraints.proofs.StateLemmas.{variable, as_many, domain_unbound}
+use Rattle.pi_constraints.proofs.RootLemmas.{value_int}
+use Rattle.pi_constraints.proofs.FollowLemmas.{followed_itself, followed_other}
 use Rattle.pi_settling.specs.Roots.{item_of, root_item}
 use Rattle.pi_settling.proofs.TwiceLemmas.{past_free, less_or_not, unbound-root}
 use Rattle.pi_settling.proofs.UniqueLemmas.{domain_made}

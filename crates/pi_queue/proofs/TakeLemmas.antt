@@ -8,11 +8,11 @@ use Rattle.pi_constraints.specs.declared.domain.Span.{Span}
 use Rattle.pi_constraints.specs.Domain.{IsWithinBounds, AscendFrom, IsDomain, has_value, values_of, size_of}
 use Rattle.pi_constraints.proofs.DomainLemmas.{not_both, values_lie_in_spans}
 use Rattle.pi_constraints.proofs.CommonLemmas.{empty_if_none}
-use Rattle.pi_states.specs.State.{State, bindings, followed, domain_of, with_domain, with_binding}
-use Rattle.pi_states.specs.Store.{StoreView, ShowsCell}
-use Rattle.pi_states.specs.declared.store.Cell.{Cell}
-use Rattle.pi_states.proofs.StateLemmas.{domain_unbound}
-use Rattle.pi_states.proofs.FollowLemmas.{followed_itself}
+use Rattle.pi_constraints.specs.State.{State, bindings, followed, domain_of, with_domain, with_binding}
+use Rattle.pi_constraints.specs.Store.{StoreView, ShowsCell}
+use Rattle.pi_constraints.specs.declared.store.Cell.{Cell}
+use Rattle.pi_constraints.proofs.StateLemmas.{domain_unbound}
+use Rattle.pi_constraints.proofs.FollowLemmas.{followed_itself}
 use Rattle.pi_settling.specs.Roots.{item_of, root_item, only, given}
 use Rattle.pi_settling.proofs.StableLemmas.{only-domain, has-only, empty-has}
 use Rattle.pi_settling.proofs.TwiceLemmas.{has_in}

@@ -7,8 +7,8 @@ use Rattle.pi_constraints.specs.declared.constraint.Constraint.{Constraint}
 use Rattle.pi_constraints.specs.declared.constraint.Item.{Item}
 use Rattle.pi_constraints.specs.declared.domain.Span.{Span}
 use Rattle.pi_filters.specs.Places.{places_of}
-use Rattle.pi_states.specs.State.{State, bindings, next, domain_in, domain_of, IsState}
-use Rattle.pi_states.proofs.StateLemmas.{variable, domain_unbound}
+use Rattle.pi_constraints.specs.State.{State, bindings, next, domain_in, domain_of, IsState}
+use Rattle.pi_constraints.proofs.StateLemmas.{variable, domain_unbound}
 use Rattle.pi_settling.specs.Roots.{root_item, given}
 use Rattle.pi_settling.specs.SettlingLaws.{MaySettle}
 use Rattle.pi_settling.proofs.TwiceLemmas.{has_in}
@@ -18,7 +18,7 @@ use Rattle.pi_settling.specs.Runs.{IsWoken, AreMadeDue}
 use Rattle.pi_settling.proofs.NarrowLemmas.{narrow-state, Comes, to_variable, to_integer, comes, unbound-domain}
 use Rattle.pi_settling.proofs.RunLemmas.{contained}
 use Rattle.pi_queue.specs.Waiting.{AreAdded, IsOnSome}
-use Rattle.pi_states.specs.Value.{IsAcyclic}
+use Rattle.pi_constraints.specs.Value.{IsAcyclic}
 use Rattle.pi_queue.specs.Leaving.{HasLeft, IsNarrower, MayNarrow, LeavesAll}
 use Rattle.pi_queue.specs.Turn.{MayTurn, IsTurn, IsFailure}
 use Rattle.pi_queue.proofs.PlaceLemmas.{posted-has, has-posted}

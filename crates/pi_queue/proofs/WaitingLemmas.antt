@@ -3,8 +3,8 @@ use Rattle.std.specs.Prelude.{◌≡◌, ◌≢◌, ◌⊎◌, ℕ, zero, suc, �
 use Rattle.std.proofs.Common.{arith, sym, ◌∙◌, ap, subst, inl, inr, get_or, take, append_assoc, length-append, add-one}
 use Rattle.std.proofs.lemmas.List.{append-nil, take_all, take_more, get_or-take, length-take, get_or_default}
 use Rattle.std.proofs.lemmas.List.Elements.{Contains-append_left, Contains-append_right, Contains-append_cases, Contains-push, Contains-push_cases, Contains-get_or}
-use Rattle.pi_states.specs.Store.{Lists}
-use Rattle.pi_states.proofs.StateLemmas.{same_or_not}
+use Rattle.pi_constraints.specs.Store.{Lists}
+use Rattle.pi_constraints.proofs.StateLemmas.{same_or_not}
 use Rattle.pi_settling.proofs.SizeLemmas.{in-front, behind, front-or-behind, none-there}
 use Rattle.std.specs.declared.cmp.Ordering.{Ordering}
 use Rattle.std.specs.declared.cmp.Ordering.TheVariants.{Less, Equal, Greater}

@@ -1,7 +1,7 @@
 -- How a propagation ends, by the runs that lead there. (Own.)
 use Rattle.std.specs.Prelude.{◌≡◌, ◌⊎◌, ℕ, zero, suc, ◌≤◌, Bool, true, false, List, [], ◌∷◌, ◌++◌, Result, Ok, Err, ⊤}
 use Rattle.pi_core.specs.declared.log.Work.{Work}
-use Rattle.pi_states.specs.State.{State}
+use Rattle.pi_constraints.specs.State.{State}
 use Rattle.pi_settling.specs.Runs.{Runs, HasRun, work_of}
 use Rattle.pi_settling.specs.declared.stop.PropStop.{PropStop}
 use Rattle.pi_queue.specs.Leaving.{IsNarrower}

@@ -7,7 +7,7 @@ use Rattle.pi_constraints.specs.declared.domain.Span.{Span}
 use Rattle.pi_constraints.specs.Domain.{IsDomain, has_value, size_of}
 use Rattle.pi_filters.specs.Places.{places_of}
 use Rattle.pi_filters.specs.Filter.{Leaves}
-use Rattle.pi_states.specs.State.{State, IsState, free, domain_of, with_domain, with_binding}
+use Rattle.pi_constraints.specs.State.{State, IsState, free, domain_of, with_domain, with_binding}
 use Rattle.pi_settling.specs.Roots.{root_item, given}
 use Rattle.pi_settling.specs.SettlingLaws.{MaySettle}
 use Rattle.pi_settling.specs.Narrowed.{IsNarrowed}

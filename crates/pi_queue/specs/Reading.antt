@@ -3,7 +3,7 @@ use Rattle.std.specs.Prelude.{◌≡◌, List, Some, Contains}
 use Rattle.pi_constraints.specs.declared.constraint.Item.{Item}
 use Rattle.pi_constraints.specs.declared.domain.Span.{Span}
 use Rattle.pi_constraints.specs.Domain.{IsWithinBounds}
-use Rattle.pi_states.specs.State.{State, domain_of}
+use Rattle.pi_constraints.specs.State.{State, domain_of}
 use Rattle.pi_settling.specs.Roots.{root_item}
 
 -- an item whose bindings are followed: a variable with a domain, or an integer that a domain can have

@@ -3,8 +3,8 @@ use Rattle.std.specs.Prelude.{ℤ, List, [], ◌∷◌, ⊤}
 use Rattle.pi_constraints.specs.declared.constraint.Item.{Item}
 use Rattle.pi_constraints.specs.declared.domain.Span.{Span}
 use Rattle.pi_constraints.specs.Domain.{IsWithinBounds}
-use Rattle.pi_states.specs.State.{State}
-use Rattle.pi_states.specs.Stored.{stored}
+use Rattle.pi_constraints.specs.State.{State}
+use Rattle.pi_constraints.specs.Stored.{stored}
 use Rattle.pi_queue.specs.declared.stand.Stand.{Stand}
 
 -- the one span of an integer

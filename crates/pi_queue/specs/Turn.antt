@@ -1,7 +1,7 @@
 -- One turn of a propagation. (Own.)
 use Rattle.std.specs.Prelude.{◌≡◌, ℕ, ◌<◌, Bool, true, false, List, ◌++◌, length, Some, slice_get}
 use Rattle.pi_constraints.specs.declared.constraint.Constraint.{Constraint}
-use Rattle.pi_states.specs.State.{State, IsState}
+use Rattle.pi_constraints.specs.State.{State, IsState}
 use Rattle.pi_settling.specs.SettlingLaws.{MaySettle}
 use Rattle.pi_settling.specs.Run.{IsRun, Fails}
 use Rattle.pi_settling.specs.Runs.{AreMadeDue}

@@ -1,7 +1,7 @@
 -- Numbers that wait, the one that waits longest first. (Own.)
 use Rattle.std.specs.Prelude.{◌≡◌, ◌≢◌, ◌↔◌, ℕ, Bool, IsTrue, List, ◌++◌, AllPairs, Contains}
-use Rattle.pi_states.specs.State.{State}
-use Rattle.pi_states.specs.Store.{IsPostedOn}
+use Rattle.pi_constraints.specs.State.{State}
+use Rattle.pi_constraints.specs.Store.{IsPostedOn}
 
 -- no number waits twice, and a set has just those that wait
 pub record IsKept (queue : List ℕ) (has : ℕ → Bool) : Type 0 where

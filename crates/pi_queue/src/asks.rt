@@ -6,8 +6,7 @@ ghost use Rattle.pi_filters.specs.Rules.{ShareAValue};
 ghost use Rattle.pi_places.specs.Reads.{HasValueBetween};
 
 use crate::held::Held;
-use pi_constraints::Span;
-use pi_states::StoredDomains;
+use pi_constraints::{Span, StoredDomains};
 
 /// How many spans end below `n`. It looks at no more of them than their number has binary digits.
 fn count_below<S: StoredDomains>(held: &Held<S>, n: i128) -> usize

@@ -7,8 +7,7 @@ ghost use Rattle.pi_queue.specs.Changes.{AreTold};
 use crate::asks::are_same;
 use crate::held::Held;
 use crate::held_places::HeldPlaces;
-use pi_constraints::{Domain, Item};
-use pi_states::StoredDomains;
+use pi_constraints::{Domain, Item, StoredDomains};
 use std::alloc::{AllocError, Global};
 
 /// The domain that is left at each place; None where it has the spans that stand in the store. It wants memory for what changed,

@@ -5,8 +5,7 @@ ghost use Rattle.pi_constraints.specs.Domain.{has_value};
 
 use crate::asks::{has_value_between, lies_within};
 use crate::held::Held;
-use pi_constraints::Domain;
-use pi_states::StoredDomains;
+use pi_constraints::{Domain, StoredDomains};
 use std::alloc::{AllocError, Global};
 
 impl<'a, S: StoredDomains> Held<'a, S> {

@@ -7,9 +7,8 @@ ghost use Rattle.pi_queue.specs.Filtering.{IsFiltered};
 
 use crate::changes::changed;
 use crate::held_places::HeldPlaces;
-use pi_constraints::{Constraint, Domain, Item};
+use pi_constraints::{Constraint, Domain, Item, StoredDomains};
 use pi_prop::narrow;
-use pi_states::StoredDomains;
 use std::alloc::{AllocError, Global};
 
 /// The domain that the filter of a constraint leaves at each place; None where it leaves what stands in the store.

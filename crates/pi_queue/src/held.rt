@@ -6,9 +6,8 @@ ghost use Rattle.pi_filters.specs.Ends.{least_of, greatest_of};
 ghost use Rattle.pi_queue.specs.Standing.{standing_at};
 
 use crate::stand::{Stand, stand_of, standing_count, standing_span};
-use pi_constraints::{Domain, Item, Span};
+use pi_constraints::{Domain, Item, Span, StoredDomains};
 use pi_places::Narrowed;
-use pi_states::StoredDomains;
 use std::alloc::{AllocError, Global};
 use std::marker::Model;
 use std::mem;

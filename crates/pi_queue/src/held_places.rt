@@ -5,9 +5,8 @@ ghost use Rattle.pi_queue.specs.Standing.{standing_at};
 
 use crate::asks::{has_value_between, share};
 use crate::held::Held;
-use pi_constraints::{Domain, Item, Span};
+use pi_constraints::{Domain, Item, Span, StoredDomains};
 use pi_places::Places;
-use pi_states::StoredDomains;
 use std::alloc::{AllocError, Global};
 
 /// The places of a constraint. Their values stand in a store, and are copied where the first of them goes. (By the store, named

@@ -6,13 +6,12 @@ ghost use Rattle.pi_constraints.specs.declared.constraint.Constraint.{Constraint
 ghost use Rattle.pi_constraints.specs.declared.domain.Span.{Span};
 ghost use Rattle.pi_constraints.specs.Domain.{IsDomain, size_of};
 ghost use Rattle.pi_settling.specs.Roots.{root_item};
-ghost use Rattle.pi_states.specs.Store.{Keeps};
-ghost use Rattle.pi_states.specs.State.{IsState, domain_of, with_binding, with_domain};
+ghost use Rattle.pi_constraints.specs.Store.{Keeps};
+ghost use Rattle.pi_constraints.specs.State.{IsState, domain_of, with_binding, with_domain};
 ghost use Rattle.pi_queue.specs.Changes.{AreTold};
 ghost use Rattle.pi_queue.specs.Leaving.{IsWithin, IsLater, MayTake, Takes, MayLeave, LeavesAll, IsNarrower};
 
-use pi_constraints::{Domain, Item, contains, meet, min, size};
-use pi_states::{Cell, StateStore};
+use pi_constraints::{Cell, Domain, Item, StateStore, contains, meet, min, size};
 use std::alloc::{AllocError, Global};
 
 /// Leaves each item what is left at its place, where something is told of it, one after the other, and tells which variables

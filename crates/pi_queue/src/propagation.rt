@@ -1,7 +1,7 @@
 //! Propagation: constraints that are due run until none is due, one fails, or the budget is spent.
 ghost use Rattle.std.specs.Prelude.{◌≡◌, ◌+◌, ◌<◌, ◌≤◌, ◌↔◌, ◌^◌, IfOk, IsTrue, MatchBool, length, sum_by};
-ghost use Rattle.pi_states.specs.State.{IsState};
-ghost use Rattle.pi_states.specs.Store.{Keeps};
+ghost use Rattle.pi_constraints.specs.State.{IsState};
+ghost use Rattle.pi_constraints.specs.Store.{Keeps};
 ghost use Rattle.pi_settling.specs.Stable.{IsStable, IsEmptied};
 ghost use Rattle.pi_settling.specs.SettlingLaws.{MaySettle};
 ghost use Rattle.pi_settling.specs.Load.{count_lost};
@@ -11,9 +11,9 @@ ghost use Rattle.pi_queue.specs.Ends.{numbers_below, Ends, IsUnderWay, KeepsWith
 use crate::due::Due;
 use crate::turn::turn;
 use crate::waking::add_all;
+use pi_constraints::{Places, StoredDomains};
 use pi_core::Work;
 use pi_settling::PropStop;
-use pi_states::{Places, StoredDomains};
 use std::alloc::Global;
 
 /// Runs these constraints and those that become due by it, the one that waits longest first, until none is due (true), one leaves

@@ -3,12 +3,11 @@ ghost use Rattle.std.specs.Prelude.{◌≡◌, IfOk, length, map};
 ghost use Rattle.pi_constraints.specs.declared.constraint.Item.{Item};
 ghost use Rattle.pi_constraints.specs.Domain.{IsWithinBounds};
 ghost use Rattle.pi_settling.specs.Roots.{root_item};
-ghost use Rattle.pi_states.specs.Value.{IsAcyclic};
-ghost use Rattle.pi_states.specs.State.{bindings};
+ghost use Rattle.pi_constraints.specs.Value.{IsAcyclic};
+ghost use Rattle.pi_constraints.specs.State.{bindings};
 ghost use Rattle.pi_queue.specs.Reading.{IsRoot, AreRead};
 
-use pi_constraints::{Item, MAX_VALUE};
-use pi_states::{Cell, StateStore};
+use pi_constraints::{Cell, Item, MAX_VALUE, StateStore};
 use std::alloc::{AllocError, Global};
 
 /// What items come to.

@@ -2,11 +2,10 @@
 ghost use Rattle.std.specs.Prelude.{◌≡◌, ◌<◌, Some, length, slice_get};
 ghost use Rattle.pi_constraints.specs.Constraint.{IsItem};
 ghost use Rattle.pi_constraints.specs.Domain.{IsDomain, IsWithinBounds};
-ghost use Rattle.pi_states.specs.State.{State};
+ghost use Rattle.pi_constraints.specs.State.{State};
 ghost use Rattle.pi_queue.specs.Standing.{IsStand, span_of, standing, standing_at};
 
-use pi_constraints::{Item, MAX_VALUE, Span};
-use pi_states::StoredDomains;
+use pi_constraints::{Item, MAX_VALUE, Span, StoredDomains};
 
 /// Where spans stand: nowhere, as the one of an integer, or as those of a variable in a store.
 #[derive(Clone, Copy)]

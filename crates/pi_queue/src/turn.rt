@@ -1,7 +1,7 @@
 //! One turn of a propagation: a constraint is run, and those that it wakes are put behind the others.
 ghost use Rattle.std.specs.Prelude.{◌≡◌, IfOk, Some, List, ℕ, [], slice_get};
 ghost use Rattle.pi_constraints.specs.declared.constraint.Constraint.{Constraint};
-ghost use Rattle.pi_states.specs.Store.{Keeps};
+ghost use Rattle.pi_constraints.specs.Store.{Keeps};
 ghost use Rattle.pi_queue.specs.Leaving.{MayNarrow, LeavesAll, IsNarrower};
 ghost use Rattle.pi_queue.specs.Turn.{MayTurn, Turns};
 
@@ -11,9 +11,8 @@ use crate::leaving::leave_all;
 use crate::places::places;
 use crate::reading::roots;
 use crate::waking::wake;
-use pi_constraints::Constraint;
+use pi_constraints::{Constraint, StoredDomains};
 use pi_prop::is_within_limits;
-use pi_states::StoredDomains;
 use std::alloc::{AllocError, Global};
 
 /// Runs the constraint with a number, and puts those that it wakes behind the others. False where the run fails.

@@ -1,12 +1,12 @@
 //! The constraints of variables that lost a value are put behind those that wait.
 ghost use Rattle.std.specs.Prelude.{◌≡◌, ◌≢◌, [], ℕ, ◌<◌, IfOk, AllPairs, Contains};
-ghost use Rattle.pi_states.specs.Value.{IsAcyclic};
-ghost use Rattle.pi_states.specs.State.{bindings, next};
-ghost use Rattle.pi_states.specs.Store.{IsPostedOn};
+ghost use Rattle.pi_constraints.specs.Value.{IsAcyclic};
+ghost use Rattle.pi_constraints.specs.State.{bindings, next};
+ghost use Rattle.pi_constraints.specs.Store.{IsPostedOn};
 ghost use Rattle.pi_queue.specs.Waiting.{AreAdded, IsOnSome};
 
 use crate::due::Due;
-use pi_states::StateStore;
+use pi_constraints::StateStore;
 use std::alloc::{AllocError, Global};
 
 /// Puts the constraints of variables behind those that wait, each that doesn't wait yet, once.

@@ -8,9 +8,9 @@ use Rattle.pi_terms.specs.TermCells.{take_trees, append_trees, take_trees-append
 use Rattle.pi_terms.specs.Variables.{Occurs, OccursInAny}
 use Rattle.pi_terms.specs.declared.term.TermHead.{TermHead}
 use Rattle.pi_terms.proofs.TermLemmas.{subterm_for_each_cell}
-use Rattle.pi_states.specs.State.{State, next, SpeaksBelow}
-use Rattle.pi_states.specs.Store.{StoreView, IsTerm, AreTerms, Keeps, Stays}
-use Rattle.pi_states.specs.declared.store.Ref.{Ref}
+use Rattle.pi_constraints.specs.State.{State, next, SpeaksBelow}
+use Rattle.pi_constraints.specs.Store.{StoreView, IsTerm, AreTerms, Keeps, Stays}
+use Rattle.pi_constraints.specs.declared.store.Ref.{Ref}
 use Rattle.pi_raw_blocks.specs.Built.{with_node, built_from, AreBuilt, NodeBelow, count_of, PutsNode, PutsCompound, Putting}
 
 -- The nodes of a term

@@ -3,8 +3,8 @@ use Rattle.std.proofs.Common.{◌≡◌, ℕ, ◌+◌, ◌*◌, ◌/◌, ◌%◌
 use Rattle.std.specs.Prelude.{slice_index}
 use Rattle.std.proofs.Math.ListN.{get_or}
 use Rattle.std.proofs.lemmas.List.{take_more, length-drop, get_or-take}
-use Rattle.pi_states.specs.declared.store.Ref.{Ref}
-use Rattle.pi_states.specs.declared.event.Watch.{Watch}
+use Rattle.pi_constraints.specs.declared.store.Ref.{Ref}
+use Rattle.pi_constraints.specs.declared.event.Watch.{Watch}
 use Rattle.pi_trail.specs.Entry.{data_of, value_of}
 use Rattle.pi_trail.specs.Image.{Image, appended}
 use Rattle.pi_trail.proofs.EntryLemmas.{value_of-data_of}

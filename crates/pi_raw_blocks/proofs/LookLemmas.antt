@@ -6,7 +6,7 @@ use Rattle.std.proofs.lemmas.Option.{cond_some}
 use Rattle.std.proofs.lemmas.List.{append-nil, length-drop, length-take-le, get_or-take, get_or-drop}
 use Rattle.pi_terms.specs.Tree.{Tree, var, int, atom, comp, Trees, no_trees, tree, tree_count, tree_at, args, arity, arg_at}
 use Rattle.pi_terms.specs.Variables.{IsGround, occurrences, occurrences_all, firsts}
-use Rattle.pi_states.specs.declared.store.Cell.{Cell}
+use Rattle.pi_constraints.specs.declared.store.Cell.{Cell}
 use Rattle.pi_raw_blocks.specs.Form.{form_of, is_ground_form, all_ground, header_of}
 use Rattle.pi_raw_blocks.specs.Heap.{Heap, all_trees, compound_at, wide_at, headed, is_same, block, is_block, tree_with, tree_for, term_at, Grows, Shows}
 use Rattle.pi_raw_blocks.specs.Look.{headed_cell, headed_arg}

@@ -9,7 +9,7 @@ use Rattle.pi_raw_blocks.specs.Heap.{Heap, Names, Makes, all_trees, compound_at,
 use Rattle.pi_trail.specs.Entry.{data_of, value_of}
 use Rattle.pi_trail.proofs.EntryLemmas.{value_of-data_of}
 use Rattle.pi_raw_blocks.specs.declared.form.Form.{Form}
-use Rattle.pi_states.specs.declared.store.Ref.{Ref}
+use Rattle.pi_constraints.specs.declared.store.Ref.{Ref}
 use Rattle.pi_trail.specs.Image.{numbers_of}
 use Rattle.pi_raw_blocks.proofs.FormLemmas.{form_of-number_of, header_of-comp_word, header_of-wide_word}
 use Rattle.pi_raw_blocks.proofs.HeapLemmas.{compound_from, guarded_from, block_from, all_more, tree_more, tree_by}

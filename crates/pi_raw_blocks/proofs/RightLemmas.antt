@@ -1,7 +1,7 @@
 -- What an agent writes is right where its call and the terms of its events are Refs.
 use Rattle.std.proofs.Common.{◌≡◌, ◌⊎◌, inl, inr, ⊎_elim, ℕ, zero, suc, ◌<◌, List, [], ◌∷◌, ◌++◌, length, take, slice_index, refl, sym, subst, arith}
-use Rattle.pi_states.specs.declared.store.Ref.{Ref}
-use Rattle.pi_states.specs.declared.event.Watch.{Watch}
+use Rattle.pi_constraints.specs.declared.store.Ref.{Ref}
+use Rattle.pi_constraints.specs.declared.event.Watch.{Watch}
 use Rattle.pi_trail.specs.Entry.{data_of}
 use Rattle.pi_raw_blocks.specs.Form.{form_of}
 use Rattle.pi_raw_blocks.specs.Heap.{Heap}

@@ -1,8 +1,8 @@
 -- An agent as words of a region: the events that it waits for, and behind them its call, the number of its rule in two halves, and how
 -- many events stand below. The call and the terms of the events are Refs, as terms of a compound are; the other words say nothing.
 use Rattle.std.specs.Prelude.{◌≡◌, ℕ, ◌-◌, ◌*◌, ◌^◌, ◌<◌, ◌≤◌, min, List, [], ◌∷◌, ◌++◌, length, take, drop, slice_index}
-use Rattle.pi_states.specs.declared.store.Ref.{Ref}
-use Rattle.pi_states.specs.declared.event.Watch.{Watch}
+use Rattle.pi_constraints.specs.declared.store.Ref.{Ref}
+use Rattle.pi_constraints.specs.declared.event.Watch.{Watch}
 use Rattle.pi_trail.specs.Entry.{data_of, value_of}
 use Rattle.pi_trail.specs.Image.{Image, appended}
 use Rattle.pi_trail.specs.Back.{Advances}

@@ -3,9 +3,9 @@ use Rattle.std.specs.Prelude.{◌≡◌, ℕ, ◌-◌, ◌<◌, ◌≤◌, List,
 use Rattle.pi_terms.specs.Tree.{Tree, var, int, atom, comp, Trees, no_trees, tree, tree_count, drop_trees, cells, subterms, ShowsHead}
 use Rattle.pi_terms.specs.TermCells.{take_trees}
 use Rattle.pi_terms.specs.declared.term.TermHead.{TermHead}
-use Rattle.pi_states.specs.State.{next, SpeaksBelow}
-use Rattle.pi_states.specs.Store.{StoreView, AreTerms, Stays}
-use Rattle.pi_states.specs.declared.store.Ref.{Ref}
+use Rattle.pi_constraints.specs.State.{next, SpeaksBelow}
+use Rattle.pi_constraints.specs.Store.{StoreView, AreTerms, Stays}
+use Rattle.pi_constraints.specs.declared.store.Ref.{Ref}
 
 -- a node in front of the trees of those behind it: a compound takes the first of them as its arguments
 abbrev pub with_node : Tree → Trees → Trees

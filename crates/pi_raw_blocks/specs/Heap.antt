@@ -3,7 +3,7 @@ use Rattle.std.specs.Prelude.{◌≡◌, ℕ, zero, suc, ◌+◌, ◌-◌, ◌<�
 use Rattle.pi_terms.specs.Tree.{Tree, var, int, atom, comp, Trees, no_trees, tree, args, arity}
 use Rattle.pi_terms.specs.Variables.{Occurs}
 use Rattle.pi_trail.specs.Image.{Image, appended}
-use Rattle.pi_states.specs.declared.store.Cell.{Cell}
+use Rattle.pi_constraints.specs.declared.store.Cell.{Cell}
 use Rattle.pi_trail.specs.Entry.{value_of}
 use Rattle.pi_raw_blocks.specs.declared.form.Form.{Form}
 use Rattle.pi_raw_blocks.specs.declared.header.Header.{Header}

@@ -1,6 +1,6 @@
 -- What is read at a header.
 use Rattle.std.specs.Prelude.{ℕ, ◌+◌, ◌-◌, List, slice_index}
-use Rattle.pi_states.specs.declared.store.Cell.{Cell}
+use Rattle.pi_constraints.specs.declared.store.Cell.{Cell}
 use Rattle.pi_trail.specs.Entry.{value_of}
 use Rattle.pi_raw_blocks.specs.declared.header.Header.{Header}
 use Rattle.pi_raw_blocks.specs.Form.{wide_of}

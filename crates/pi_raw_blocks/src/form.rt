@@ -2,7 +2,7 @@
 ghost use Rattle.std.specs.Prelude.{◌≡◌, ◌<◌, ◌^◌, ℕ, ℤ, pos, negsuc, neg_ℤ, ◌+ℤ◌, ◌-ℤ◌, ◌≤ℤ◌, ◌<ℤ◌, IsTrue, ◌↔◌};
 ghost use Rattle.pi_raw_blocks.specs.Form.{form_of, number_of, is_ground_form, is_ref, IsFitting, IsSmall, small_of, small_number};
 
-use pi_states::Ref;
+use pi_constraints::Ref;
 
 /// How far the numbers of small integers are moved up, so that none is below 0.
 const BIAS: i64 = 1_152_921_504_606_846_976;

@@ -9,7 +9,7 @@ ghost use Rattle.pi_raw_blocks.specs.Look.{headed_cell, headed_arg};
 use crate::form::Form;
 use crate::header::Header;
 use crate::wide::joined;
-use pi_states::{Cell, Ref};
+use pi_constraints::{Cell, Ref};
 use pi_trail::{Trailed, value};
 
 /// What a term is at its root. It takes no memory.

@@ -7,7 +7,7 @@ ghost use Rattle.pi_raw_blocks.specs.Heap.{is_same};
 use crate::form::{Form, is_ref};
 use crate::header::Header;
 use crate::put::are_both_ground;
-use pi_states::Ref;
+use pi_constraints::Ref;
 use pi_trail::Trailed;
 
 /// Whether what a Ref points to is there, in constant time. A variable and an atom point to nothing in the region. It

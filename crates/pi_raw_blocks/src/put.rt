@@ -9,7 +9,7 @@ ghost use Rattle.pi_raw_blocks.specs.Placed.{IsNamed, AreRefsIn, WritesRight};
 use crate::form::{Form, is_small};
 use crate::header::{comp, wide};
 use crate::wide::{low, mid, top};
-use pi_states::Ref;
+use pi_constraints::Ref;
 use pi_trail::{Trailed, data};
 use std::alloc::AllocError;
 

@@ -1,7 +1,7 @@
 //! The stack of what was put so far.
 ghost use Rattle.std.specs.Prelude.{◌≡◌, ◌≤◌, ◌-◌, IfOk, OnErr, length, reverse, drop, take};
 
-use pi_states::Ref;
+use pi_constraints::Ref;
 use std::alloc::{AllocError, Global};
 
 /// Takes so many Refs off the end, or all where there are fewer, and answers them with the last one first.

@@ -5,10 +5,10 @@ use Rattle.std.proofs.lemmas.Bool.Decides.{nat_tests}
 use Rattle.std.proofs.lemmas.Option.{get_or_from_slice_get}
 use Rattle.pi_terms.specs.Tree.{Tree}
 use Rattle.pi_terms.proofs.GetLemmas.{map_same, map_set}
-use Rattle.pi_states.specs.State.{WatchTree, on_ins, on_bound, on_dom, on_dom_any, on_posted, Agent, ended, end_agent}
-use Rattle.pi_states.specs.Store.{AreWatches, IsWatch, ShowsAgent}
-use Rattle.pi_states.specs.declared.store.Ref.{Ref}
-use Rattle.pi_states.specs.declared.event.Watch.{Watch}
+use Rattle.pi_constraints.specs.State.{WatchTree, on_ins, on_bound, on_dom, on_dom_any, on_posted, Agent, ended, end_agent}
+use Rattle.pi_constraints.specs.Store.{AreWatches, IsWatch, ShowsAgent}
+use Rattle.pi_constraints.specs.declared.store.Ref.{Ref}
+use Rattle.pi_constraints.specs.declared.event.Watch.{Watch}
 use Rattle.pi_trail.specs.Entry.{value_of}
 use Rattle.pi_trail.specs.Image.{Image}
 use Rattle.pi_raw_blocks.specs.Form.{form_of}

@@ -5,9 +5,9 @@ use Rattle.std.proofs.lemmas.Bool.Decides.{nat_tests}
 use Rattle.pi_terms.specs.Tree.{Tree, var}
 use Rattle.pi_terms.specs.Places.{held}
 use Rattle.pi_terms.proofs.GetLemmas.{map_set}
-use Rattle.pi_states.specs.State.{followed, bound}
-use Rattle.pi_states.specs.Store.{Binds}
-use Rattle.pi_states.specs.declared.store.Ref.{Ref}
+use Rattle.pi_constraints.specs.State.{followed, bound}
+use Rattle.pi_constraints.specs.Store.{Binds}
+use Rattle.pi_constraints.specs.declared.store.Ref.{Ref}
 use Rattle.pi_trail.specs.Image.{Image, replaced}
 use Rattle.pi_trail.specs.Back.{Advances}
 use Rattle.pi_trail.specs.declared.entry.Table.{Table}

@@ -5,10 +5,10 @@ use Rattle.std.proofs.lemmas.Bool.Decides.{nat_tests}
 use Rattle.pi_terms.specs.Tree.{Tree, var, int, atom, comp}
 use Rattle.pi_terms.proofs.GetLemmas.{map_set}
 use Rattle.pi_constraints.specs.declared.domain.Span.{Span}
-use Rattle.pi_states.specs.State.{Variable, free, within, followed, bindings, domain_at_root}
-use Rattle.pi_states.specs.State as state
-use Rattle.pi_states.specs.Store.{IsTerm, Confines}
-use Rattle.pi_states.specs.declared.store.Ref.{Ref}
+use Rattle.pi_constraints.specs.State.{Variable, free, within, followed, bindings, domain_at_root}
+use Rattle.pi_constraints.specs.State as state
+use Rattle.pi_constraints.specs.Store.{IsTerm, Confines}
+use Rattle.pi_constraints.specs.declared.store.Ref.{Ref}
 use Rattle.pi_trail.specs.Entry.{data_of}
 use Rattle.pi_trail.specs.Image.{Image, replacing}
 use Rattle.pi_trail.specs.Back.{at_length}

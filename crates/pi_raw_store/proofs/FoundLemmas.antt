@@ -4,7 +4,7 @@ use Rattle.std.proofs.lemmas.Bool.{cases_lt}
 use Rattle.std.proofs.lemmas.Bool.Decides.{nat_tests}
 use Rattle.std.specs.Prelude.{nat_lt, IsTrue, ◌↔◌, Contains}
 use Rattle.std.proofs.lemmas.List.Elements.{Contains-append_left, Contains-append_right, Contains-append_cases}
-use Rattle.pi_states.specs.Store.{AscendAbove, Lists}
+use Rattle.pi_constraints.specs.Store.{AscendAbove, Lists}
 use Rattle.pi_raw_store.specs.Posted.{ListsBelow}
 
 pub lists_none : (P : ℕ → Type 0) → ListsBelow P 0 []

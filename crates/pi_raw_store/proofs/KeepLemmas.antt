@@ -6,9 +6,9 @@ use Rattle.std.proofs.lemmas.List.{map-append, length-map}
 use Rattle.std.proofs.lemmas.Option.{get_or_from_slice_get}
 use Rattle.pi_terms.specs.Tree.{Tree, var}
 use Rattle.pi_terms.proofs.GetLemmas.{map_same}
-use Rattle.pi_states.specs.State.{State, free, within, bound, with_new, next}
-use Rattle.pi_states.specs.Store.{Moment, Keeps, Stays, Gives, Marks, Returns, IsGood}
-use Rattle.pi_states.specs.declared.store.Ref.{Ref}
+use Rattle.pi_constraints.specs.State.{State, free, within, bound, with_new, next}
+use Rattle.pi_constraints.specs.Store.{Moment, Keeps, Stays, Gives, Marks, Returns, IsGood}
+use Rattle.pi_constraints.specs.declared.store.Ref.{Ref}
 use Rattle.pi_trail.specs.Entry.{data_of}
 use Rattle.pi_trail.specs.Image.{Image, pushed}
 use Rattle.pi_trail.specs.Back.{at_length, Advances}

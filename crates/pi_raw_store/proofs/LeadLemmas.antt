@@ -5,10 +5,10 @@ use Rattle.std.proofs.lemmas.Bool.Decides.{Decides-eqb}
 use Rattle.pi_terms.specs.Tree.{Tree, var}
 use Rattle.pi_terms.specs.Variables.{Occurs}
 use Rattle.pi_terms.specs.Places.{held}
-use Rattle.pi_states.specs.Value.{Bindings, IsAcyclic}
-use Rattle.pi_states.specs.State.{LeadsTo, is_it, through}
-use Rattle.pi_states.specs.declared.store.Ref.{Ref}
-use Rattle.pi_states.proofs.ValueLemmas.{Ranked, ranked}
+use Rattle.pi_constraints.specs.Value.{Bindings, IsAcyclic}
+use Rattle.pi_constraints.specs.State.{LeadsTo, is_it, through}
+use Rattle.pi_constraints.specs.declared.store.Ref.{Ref}
+use Rattle.pi_constraints.proofs.ValueLemmas.{Ranked, ranked}
 use Rattle.pi_raw_blocks.specs.declared.form.Form.{Form}
 use Rattle.pi_raw_blocks.specs.Form.{form_of}
 use Rattle.pi_raw_blocks.specs.Heap.{Heap, term_at}

@@ -4,11 +4,11 @@ use Rattle.std.specs.Prelude.{unwrap_or, option_map}
 use Rattle.std.proofs.lemmas.List.{length-map}
 use Rattle.pi_terms.specs.Tree.{Tree, var, int, atom, comp, Trees, args}
 use Rattle.pi_terms.specs.Places.{held}
-use Rattle.pi_states.specs.Value.{Bindings}
-use Rattle.pi_states.specs.State.{SpeaksBelow, binding, next, followed, followed_for}
-use Rattle.pi_states.specs.Store.{ShowsCell}
-use Rattle.pi_states.specs.declared.store.Ref.{Ref}
-use Rattle.pi_states.specs.declared.store.Cell.{Cell}
+use Rattle.pi_constraints.specs.Value.{Bindings}
+use Rattle.pi_constraints.specs.State.{SpeaksBelow, binding, next, followed, followed_for}
+use Rattle.pi_constraints.specs.Store.{ShowsCell}
+use Rattle.pi_constraints.specs.declared.store.Ref.{Ref}
+use Rattle.pi_constraints.specs.declared.store.Cell.{Cell}
 use Rattle.pi_trail.specs.Image.{Image}
 use Rattle.pi_raw_blocks.specs.declared.form.Form.{Form}
 use Rattle.pi_raw_blocks.specs.declared.header.Header.{Header}

@@ -4,8 +4,8 @@ use Rattle.std.specs.Prelude.{slice_get, slice_index, IsTrue, IsFalse}
 use Rattle.std.proofs.lemmas.List.{map-append}
 use Rattle.pi_constraints.specs.Constraint.{SpeaksOf}
 use Rattle.pi_constraints.specs.declared.constraint.Constraint.{Constraint}
-use Rattle.pi_states.specs.State.{MayPost, with_constraint}
-use Rattle.pi_states.specs.Store.{Changes}
+use Rattle.pi_constraints.specs.State.{MayPost, with_constraint}
+use Rattle.pi_constraints.specs.Store.{Changes}
 use Rattle.pi_trail.specs.Image.{Image}
 use Rattle.pi_raw_blocks.specs.Heap.{Heap}
 use Rattle.pi_trail.specs.Back.{Advances}

@@ -2,12 +2,12 @@
 use Rattle.std.proofs.Common.{◌≡◌, ℕ, ◌<◌, Bool, true, false, List, [], ◌∷◌, length, refl, ap, sym, subst, ◌∙◌, ◌⊎◌, inl, inr, cond}
 use Rattle.std.specs.Prelude.{slice_index, IsTrue, ◌↔◌, ℤ}
 use Rattle.pi_terms.specs.Tree.{var}
-use Rattle.pi_states.specs.Value.{IsAcyclic}
+use Rattle.pi_constraints.specs.Value.{IsAcyclic}
 use Rattle.pi_constraints.specs.Constraint.{HoldsVariable, HoldVariable, SumHasVariable, SpeaksOf}
 use Rattle.pi_constraints.specs.declared.constraint.Item.{Item}
 use Rattle.pi_constraints.specs.declared.constraint.Constraint.{Constraint}
-use Rattle.pi_states.specs.State.{LeadsTo}
-use Rattle.pi_states.specs.Store.{Lists, IsPostedOn}
+use Rattle.pi_constraints.specs.State.{LeadsTo}
+use Rattle.pi_constraints.specs.Store.{Lists, IsPostedOn}
 use Rattle.pi_trail.specs.Image.{Image}
 use Rattle.pi_raw_blocks.specs.Heap.{Heap}
 use Rattle.pi_raw_blocks.specs.ConstraintTable.{constraint_at}

@@ -10,13 +10,13 @@ use Rattle.pi_terms.specs.Places.{held}
 use Rattle.pi_terms.specs.declared.term.TermCell.{TermCell}
 use Rattle.pi_terms.specs.declared.term.TermCell.TheVariants.{Var, Int, Atom, Comp}
 use Rattle.pi_terms.proofs.TermLemmas.{length_flat, cells-positive, TreeAt, tree_at-below}
-use Rattle.pi_states.specs.Value.{Bindings, IsAcyclic, value, rounds}
-use Rattle.pi_states.specs.State.{followed}
-use Rattle.pi_states.specs.declared.store.Ref.{Ref}
-use Rattle.pi_states.specs.declared.store.Cell.{Cell}
-use Rattle.pi_states.proofs.ValueLemmas.{value_goes_by_variables, unbound_is_its_own_value}
-use Rattle.pi_states.proofs.FollowLemmas.{followed_value, followed_unbound}
-use Rattle.pi_states.proofs.RootLemmas.{with_values, value_int, value_atom, value_comp}
+use Rattle.pi_constraints.specs.Value.{Bindings, IsAcyclic, value, rounds}
+use Rattle.pi_constraints.specs.State.{followed}
+use Rattle.pi_constraints.specs.declared.store.Ref.{Ref}
+use Rattle.pi_constraints.specs.declared.store.Cell.{Cell}
+use Rattle.pi_constraints.proofs.ValueLemmas.{value_goes_by_variables, unbound_is_its_own_value}
+use Rattle.pi_constraints.proofs.FollowLemmas.{followed_value, followed_unbound}
+use Rattle.pi_constraints.proofs.RootLemmas.{with_values, value_int, value_atom, value_comp}
 use Rattle.pi_trail.specs.Image.{Image, numbers_of}
 use Rattle.pi_raw_blocks.specs.Heap.{Heap, Names, all_trees, term_at, Shows}
 use Rattle.pi_raw_blocks.proofs.HeapLemmas.{front_is, front_from}

@@ -5,8 +5,8 @@ use Rattle.std.proofs.lemmas.Bool.{cases_lt}
 use Rattle.std.proofs.lemmas.List.{append-nil, length-map}
 use Rattle.pi_terms.specs.Tree.{Tree, comp, Trees, no_trees, tree}
 use Rattle.pi_terms.proofs.GetLemmas.{get_some}
-use Rattle.pi_states.specs.Store.{Stays, AreTerms}
-use Rattle.pi_states.specs.declared.store.Ref.{Ref}
+use Rattle.pi_constraints.specs.Store.{Stays, AreTerms}
+use Rattle.pi_constraints.specs.declared.store.Ref.{Ref}
 use Rattle.pi_trail.specs.Image.{Image, numbers_of}
 use Rattle.pi_trail.specs.Back.{Advances}
 use Rattle.pi_trail.proofs.BackLemmas.{through}

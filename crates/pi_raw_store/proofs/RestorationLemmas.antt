@@ -1,7 +1,7 @@
 -- A return to a mark restores what the store held, whatever calls stood between.
 use Rattle.std.proofs.Common.{◌≡◌, ◌≤◌, min, length, refl, ap, ◌∙◌, arith}
 use Rattle.std.proofs.lemmas.Bool.{leb-true, le-leb}
-use Rattle.pi_states.specs.Store.{Moment, IsGood, Marks, Returns}
+use Rattle.pi_constraints.specs.Store.{Moment, IsGood, Marks, Returns}
 use Rattle.pi_raw_store.specs.declared.mark.RawMark.{RawMark}
 use Rattle.pi_raw_store.specs.Holding.{Holding, seen, order}
 use Rattle.pi_raw_store.specs.Restoration.{Follows, at_once, by_call, by_return, Restoration}

@@ -4,8 +4,8 @@ use Rattle.std.specs.Prelude.{IsTrue, ◌↔◌, Contains, option_map}
 use Rattle.std.proofs.lemmas.List.{length-map}
 use Rattle.std.proofs.lemmas.List.Elements.{Contains-append_left, Contains-append_right, Contains-append_cases}
 use Rattle.pi_terms.specs.Places.{held}
-use Rattle.pi_states.specs.State as state
-use Rattle.pi_states.specs.Store.{AscendAbove, Lists, HasChanged}
+use Rattle.pi_constraints.specs.State as state
+use Rattle.pi_constraints.specs.Store.{AscendAbove, Lists, HasChanged}
 use Rattle.pi_trail.specs.Image.{Image}
 use Rattle.pi_trail.specs.Back.{at_length}
 use Rattle.pi_trail.specs.Changes.{noted, AscendFrom}

@@ -38,7 +38,7 @@ use Rattle.pi_raw_store.specs.Changed.{KeepsNames, IsNumbered}
 use Rattle.pi_raw_store.proofs.NameLemmas.{stay}
 use Rattle.pi_raw_store.proofs.MomentLemmas as each
 use Rattle.pi_raw_store.proofs.CompleteLemmas.{complete_words, complete_variable, complete_domain, complete_agent, complete_agent_for, complete_waiting, complete_pad, complete_posted, complete_none, read_zero}
-use Rattle.pi_states.specs.declared.store.Ref.{Ref}
+use Rattle.pi_constraints.specs.declared.store.Ref.{Ref}
 use Rattle.pi_raw_store.specs.Walk.{bound_ref_by}
 use Rattle.pi_raw_store.specs.Bindings.{HasBound}
 

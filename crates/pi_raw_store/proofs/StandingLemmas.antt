@@ -3,9 +3,9 @@ use Rattle.std.proofs.Common.{◌≡◌, ℕ, zero, suc, ◌<◌, List, [], leng
 use Rattle.std.specs.Prelude.{slice_get, unwrap_or}
 use Rattle.pi_constraints.specs.declared.domain.Span.{Span}
 use Rattle.pi_constraints.specs.Domain.{AscendFrom, IsDomain}
-use Rattle.pi_states.specs.Stored.{stored}
-use Rattle.pi_states.specs.State.{State}
-use Rattle.pi_states.specs.State as state
+use Rattle.pi_constraints.specs.Stored.{stored}
+use Rattle.pi_constraints.specs.State.{State}
+use Rattle.pi_constraints.specs.State as state
 use Rattle.pi_trail.specs.Image.{Image}
 use Rattle.pi_raw_blocks.specs.Block.{block_at}
 use Rattle.pi_raw_blocks.proofs.DomainLemmas.{are_domains}

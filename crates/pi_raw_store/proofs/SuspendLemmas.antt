@@ -2,11 +2,11 @@
 use Rattle.std.proofs.Common.{◌≡◌, ℕ, ◌-◌, ◌<◌, Bool, true, false, List, [], ◌∷◌, ◌++◌, length, map, slice_index, refl, ap, sym, subst, ◌∙◌, arith}
 use Rattle.std.proofs.lemmas.List.{map-append, length-map}
 use Rattle.pi_terms.specs.Tree.{Tree}
-use Rattle.pi_states.specs.State.{WatchTree, Agent, end_agent}
-use Rattle.pi_states.specs.State as state
-use Rattle.pi_states.specs.Store.{AreWatches, IsTerm, Changes, Suspends}
-use Rattle.pi_states.specs.declared.store.Ref.{Ref}
-use Rattle.pi_states.specs.declared.event.Watch.{Watch}
+use Rattle.pi_constraints.specs.State.{WatchTree, Agent, end_agent}
+use Rattle.pi_constraints.specs.State as state
+use Rattle.pi_constraints.specs.Store.{AreWatches, IsTerm, Changes, Suspends}
+use Rattle.pi_constraints.specs.declared.store.Ref.{Ref}
+use Rattle.pi_constraints.specs.declared.event.Watch.{Watch}
 use Rattle.pi_trail.specs.Image.{Image}
 use Rattle.pi_trail.specs.Back.{Advances}
 use Rattle.pi_raw_blocks.specs.Form.{form_of}

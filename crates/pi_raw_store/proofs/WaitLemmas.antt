@@ -4,12 +4,12 @@ use Rattle.std.proofs.lemmas.Bool.{lt-ltb}
 use Rattle.std.proofs.lemmas.List.{map-append, length-map, drop_all, drop-append-le}
 use Rattle.pi_terms.specs.Tree.{Tree, var, Trees, no_trees, tree, tree_count, tree_at, args, arity, arg_at}
 use Rattle.pi_terms.proofs.TermLemmas.{tree_at-below}
-use Rattle.pi_states.specs.Value.{value}
-use Rattle.pi_states.specs.State.{State, SpeaksBelow, next, IsActivation, with_waiting}
-use Rattle.pi_states.specs.Store.{StoreView, IsTerm, AreTerms, Stays, Changes, TakesFirst}
-use Rattle.pi_states.specs.declared.store.Ref.{Ref}
-use Rattle.pi_states.specs.declared.store.Cell.{Cell}
-use Rattle.pi_states.specs.declared.event.Activation.{Activation}
+use Rattle.pi_constraints.specs.Value.{value}
+use Rattle.pi_constraints.specs.State.{State, SpeaksBelow, next, IsActivation, with_waiting}
+use Rattle.pi_constraints.specs.Store.{StoreView, IsTerm, AreTerms, Stays, Changes, TakesFirst}
+use Rattle.pi_constraints.specs.declared.store.Ref.{Ref}
+use Rattle.pi_constraints.specs.declared.store.Cell.{Cell}
+use Rattle.pi_constraints.specs.declared.event.Activation.{Activation}
 use Rattle.pi_trail.specs.Image.{Image, pushed}
 use Rattle.pi_trail.specs.Back.{Advances}
 use Rattle.pi_trail.specs.declared.entry.Table.{Table}

@@ -1,9 +1,9 @@
 -- What variables are bound to, by their words.
 use Rattle.std.specs.Prelude.{◌≡◌, ℕ, List, map, Some}
 use Rattle.pi_terms.specs.Tree.{Tree}
-use Rattle.pi_states.specs.Value.{Bindings}
-use Rattle.pi_states.specs.State.{binding}
-use Rattle.pi_states.specs.declared.store.Ref.{Ref}
+use Rattle.pi_constraints.specs.Value.{Bindings}
+use Rattle.pi_constraints.specs.State.{binding}
+use Rattle.pi_constraints.specs.declared.store.Ref.{Ref}
 use Rattle.pi_raw_blocks.specs.Heap.{Heap, term_at}
 use Rattle.pi_raw_store.specs.Walk.{binding_at}
 use Rattle.pi_raw_store.specs.Holding.{variable_in}

@@ -1,10 +1,10 @@
 -- What a store over raw words holds, and what the trait of stores sees of it.
 use Rattle.std.specs.Prelude.{ℕ, zero, suc, ◌-◌, ◌/◌, ◌%◌, ◌==◌, nat_le, Bool, true, false, List, [], length, map, drop, None, unwrap_or, pos}
 use Rattle.pi_terms.specs.Tree.{Tree, int}
-use Rattle.pi_states.specs.State.{Variable, free, within, bound, WatchTree, on_ins, on_bound, on_dom, on_dom_any, on_posted, Agent, State}
-use Rattle.pi_states.specs.Store.{Moment, StoreView}
-use Rattle.pi_states.specs.declared.event.Watch.{Watch}
-use Rattle.pi_states.specs.declared.event.Activation.{Activation}
+use Rattle.pi_constraints.specs.State.{Variable, free, within, bound, WatchTree, on_ins, on_bound, on_dom, on_dom_any, on_posted, Agent, State}
+use Rattle.pi_constraints.specs.Store.{Moment, StoreView}
+use Rattle.pi_constraints.specs.declared.event.Watch.{Watch}
+use Rattle.pi_constraints.specs.declared.event.Activation.{Activation}
 use Rattle.pi_trail.specs.Image.{Image}
 use Rattle.pi_trail.specs.Back.{at_length}
 use Rattle.pi_raw_blocks.specs.Heap.{Heap, term_at}

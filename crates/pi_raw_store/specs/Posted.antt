@@ -2,7 +2,7 @@
 use Rattle.std.specs.Prelude.{◌≡◌, ◌⊎◌, ℕ, ◌+◌, ◌<◌, ◌≤◌, Bool, true, false, cond, List, [], ◌∷◌, ◌++◌, ℤ, length, slice_index}
 use Rattle.pi_constraints.specs.declared.constraint.Item.{Item}
 use Rattle.pi_constraints.specs.declared.constraint.Constraint.{Constraint}
-use Rattle.pi_states.specs.Store.{Lists}
+use Rattle.pi_constraints.specs.Store.{Lists}
 use Rattle.pi_trail.specs.Image.{Image}
 use Rattle.pi_raw_blocks.specs.ConstraintTable.{constraint_at}
 use Rattle.pi_raw_store.specs.Walk.{leads_at}

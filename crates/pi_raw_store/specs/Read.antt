@@ -4,10 +4,10 @@ use Rattle.pi_terms.specs.Tree.{Tree, Trees, tree_count, args, arity, drop_trees
 use Rattle.pi_terms.specs.BareCells.{bare, bare_all}
 use Rattle.pi_terms.specs.declared.term.TermCell.{TermCell}
 use Rattle.pi_terms.specs.declared.term.TermCell.TheVariants.{Var, Int, Atom, Comp}
-use Rattle.pi_states.specs.Value.{Bindings, IsAcyclic, value}
-use Rattle.pi_states.specs.declared.store.Ref.{Ref}
-use Rattle.pi_states.specs.declared.store.Cell.{Cell}
-use Rattle.pi_states.specs.declared.store.ReadStop.{ReadStop}
+use Rattle.pi_constraints.specs.Value.{Bindings, IsAcyclic, value}
+use Rattle.pi_constraints.specs.declared.store.Ref.{Ref}
+use Rattle.pi_constraints.specs.declared.store.Cell.{Cell}
+use Rattle.pi_constraints.specs.declared.store.ReadStop.{ReadStop}
 use Rattle.pi_trail.specs.Image.{Image, numbers_of}
 use Rattle.pi_raw_blocks.specs.Heap.{Heap, all_trees, term_at}
 use Rattle.pi_raw_blocks.specs.NameTable.{NameTable}

@@ -1,6 +1,6 @@
 -- What a return to a mark restores, whatever calls stood between.
 use Rattle.std.specs.Prelude.{◌≡◌, ◌≤◌, length, min}
-use Rattle.pi_states.specs.Store.{IsGood, Keeps, Marks, Returns}
+use Rattle.pi_constraints.specs.Store.{IsGood, Keeps, Marks, Returns}
 use Rattle.pi_raw_store.specs.Holding.{Holding, seen, order}
 use Rattle.pi_raw_store.specs.declared.mark.RawMark.{RawMark}
 

@@ -1,6 +1,6 @@
 -- What variables lead to, by the words of the variables alone.
 use Rattle.std.specs.Prelude.{ℕ, zero, suc, ◌-◌, ◌%◌, ◌==◌, Bool, true, false, cond, List, length, Option, Some, None, unwrap_or, slice_index}
-use Rattle.pi_states.specs.declared.store.Ref.{Ref}
+use Rattle.pi_constraints.specs.declared.store.Ref.{Ref}
 use Rattle.pi_raw_blocks.specs.Form.{form_of}
 use Rattle.pi_raw_blocks.specs.declared.form.Form.{Form}
 

@@ -6,8 +6,8 @@ ghost use Rattle.pi_raw_store.specs.Added.{AddsToLists, IsJoinedTo, BindsTo};
 use crate::heads::{give_back, list_end};
 use crate::lists::add_along;
 use crate::walk::variable;
+use pi_constraints::Ref;
 use pi_raw_blocks::Node;
-use pi_states::Ref;
 use pi_trail::{Table, Trailed};
 use std::alloc::AllocError;
 

@@ -4,9 +4,8 @@ ghost use Rattle.pi_constraints.specs.Domain.{IsDomain};
 ghost use Rattle.pi_raw_store.specs.Domains.{domain_end, domain_by, domain_of, Confined};
 
 use crate::walk::{followed, variable};
-use pi_constraints::{Domain, Span};
+use pi_constraints::{Domain, Ref, Span};
 use pi_raw_blocks::{give_up, read_domain, span, span_count, write_domain};
-use pi_states::Ref;
 use pi_trail::{Table, Trailed};
 use std::alloc::{AllocError, Global};
 

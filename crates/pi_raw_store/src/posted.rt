@@ -6,9 +6,8 @@ ghost use Rattle.pi_raw_store.specs.Lists.{IsOnList, IsComplete};
 
 use crate::heads::list_end;
 use crate::walk::variable_leads_to;
-use pi_constraints::{Constraint, Item, Items, LinTerms};
+use pi_constraints::{Constraint, Item, Items, LinTerms, Places};
 use pi_raw_blocks::{listed, numbered_constraint};
-use pi_states::Places;
 use pi_terms::Series;
 use pi_trail::{Table, Trailed};
 use std::alloc::{AllocError, Global};

@@ -2,17 +2,17 @@
 ghost use Rattle.std.specs.Prelude.{◌≡◌, ◌≤◌, ◌++◌, ◌∷◌, [], IfOk, MatchResult};
 ghost use Rattle.pi_terms.specs.Tree.{Tree, cells, most_cells};
 ghost use Rattle.pi_terms.specs.BareCells.{bare};
-ghost use Rattle.pi_states.specs.Value.{value};
-ghost use Rattle.pi_states.specs.Store.{ShowsRead};
+ghost use Rattle.pi_constraints.specs.Value.{value};
+ghost use Rattle.pi_constraints.specs.Store.{ShowsRead};
 ghost use Rattle.pi_raw_store.specs.Walk.{followed_at};
 ghost use Rattle.pi_raw_store.specs.Holding.{heap_of};
 ghost use Rattle.pi_raw_store.specs.Bindings.{bound_in};
 ghost use Rattle.pi_raw_store.specs.Read.{entered_cell, arity_of, followed_words, Pushes, IsReadable, StopsAt};
 
 use crate::walk::followed;
+use pi_constraints::{Cell, ReadStop, Ref};
 use pi_raw_blocks as raw;
 use pi_raw_blocks::RawNames;
-use pi_states::{Cell, ReadStop, Ref};
 use pi_terms::{Term, TermCell, Text};
 use pi_trail::Trailed;
 use std::alloc::{AllocError, Global};

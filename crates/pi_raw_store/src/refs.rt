@@ -8,8 +8,8 @@ ghost use Rattle.pi_raw_blocks.specs.AgentTable.{AreEventsIn};
 ghost use Rattle.pi_raw_blocks.specs.NameTable.{names_of};
 ghost use Rattle.pi_raw_store.specs.Holding.{heap_of};
 
+use pi_constraints::{Ref, Watch};
 use pi_raw_blocks::{Form, RawNames, is_placed, watched};
-use pi_states::{Ref, Watch};
 use pi_trail::{Table, Trailed};
 
 /// Whether a term may have the name with this number. It takes no memory.

@@ -5,8 +5,7 @@ ghost use Rattle.pi_raw_store.specs.Since.{IsChanged, AreSince};
 
 use crate::domains::domain_by;
 use crate::posted::push_if;
-use pi_constraints::Domain;
-use pi_states::Places;
+use pi_constraints::{Domain, Places};
 use pi_terms::Series;
 use pi_trail::{Table, Trailed};
 use std::alloc::{AllocError, Global};

@@ -3,8 +3,9 @@ ghost use Rattle.pi_raw_store.specs.Holding.{view_of};
 
 use crate::mark::RawMark;
 use crate::store::RawStore;
-use pi_constraints::{Constraint, Domain};
-use pi_states::{Activation, AgentView, Cell, Places, ReadStop, Ref, StateStore, Watches};
+use pi_constraints::{
+    Activation, AgentView, Cell, Constraint, Domain, Places, ReadStop, Ref, StateStore, Watches,
+};
 use pi_terms::Term;
 use std::alloc::{AllocError, Global};
 

@@ -2,11 +2,11 @@
 ghost use Rattle.std.specs.Prelude.{◌≡◌, ◌↔◌, ℕ, ◌<◌, List, [], Some, length, min, slice_get, IfOk, OnErr, IsTrue};
 ghost use Rattle.pi_terms.specs.Tree.{Tree, Trees, var, int, atom, comp, arg_at};
 ghost use Rattle.pi_terms.specs.Variables.{IsGround};
-ghost use Rattle.pi_states.specs.Value.{IsAcyclic, value};
-ghost use Rattle.pi_states.specs.State.{Agent, SpeaksBelow, MayPost, empty_state, bindings, next, followed, LeadsTo, domain_at_root, with_new, with_constraint, with_ended};
-ghost use Rattle.pi_states.specs.State.{domain_of as state_domain};
-ghost use Rattle.pi_states.specs.Store.{IsGood, IsTerm, AreTerms, AreWatches, IsName, ShowsCell, ShowsAgent, Keeps, Stays, Changes, Gives, Binds, Confines, Suspends, Marks, Returns, Lists, IsPostedOn, HasChanged, ShowsRead};
-ghost use Rattle.pi_states.specs.Stored.{stored};
+ghost use Rattle.pi_constraints.specs.Value.{IsAcyclic, value};
+ghost use Rattle.pi_constraints.specs.State.{Agent, SpeaksBelow, MayPost, empty_state, bindings, next, followed, LeadsTo, domain_at_root, with_new, with_constraint, with_ended};
+ghost use Rattle.pi_constraints.specs.State.{domain_of as state_domain};
+ghost use Rattle.pi_constraints.specs.Store.{IsGood, IsTerm, AreTerms, AreWatches, IsName, ShowsCell, ShowsAgent, Keeps, Stays, Changes, Gives, Binds, Confines, Suspends, Marks, Returns, Lists, IsPostedOn, HasChanged, ShowsRead};
+ghost use Rattle.pi_constraints.specs.Stored.{stored};
 ghost use Rattle.pi_constraints.specs.Domain.{IsDomain};
 ghost use Rattle.pi_raw_store.specs.Holding.{seen, order};
 
@@ -22,13 +22,12 @@ use crate::read::{Reading, read};
 use crate::refs::{has, has_events, known};
 use crate::since::changed_since;
 use crate::walk;
-use pi_constraints::{Constraint, Domain, Span};
+use pi_constraints::{AgentView, Cell, Constraint, Domain, Places, ReadStop, Ref, Span, Watches};
 use pi_raw_blocks as raw;
 use pi_raw_blocks::{
     RawNames, add_agent, agent_call, agent_end, agent_rule, end_agent, is_alive,
     numbered_constraint, read_watches,
 };
-use pi_states::{AgentView, Cell, Places, ReadStop, Ref, Watches};
 use pi_terms::Term;
 use pi_trail::{Table, Trailed, Words};
 use std::alloc::{AllocError, Global};

@@ -1,7 +1,6 @@
 //! The store over raw words as one whose domains are read where they stand.
 use crate::store::RawStore;
-use pi_constraints::Span;
-use pi_states::StoredDomains;
+use pi_constraints::{Span, StoredDomains};
 
 impl StoredDomains for RawStore {
     fn span_count(&self, n: u64) -> usize {

@@ -6,9 +6,9 @@ ghost use Rattle.pi_raw_store.specs.Waiting.{number_at, number_shown, ShowsArgum
 ghost use Rattle.pi_raw_store.specs.Holding.{heap_of, activation_in};
 
 use crate::read::{Reading, arity, read};
+use pi_constraints::{Activation, Cell, Ref};
 use pi_raw_blocks as raw;
 use pi_raw_blocks::RawNames;
-use pi_states::{Activation, Cell, Ref};
 use pi_terms::Term;
 use pi_trail::Trailed;
 use std::alloc::{AllocError, Global};

@@ -2,8 +2,8 @@
 ghost use Rattle.std.specs.Prelude.{◌≡◌, slice_index};
 ghost use Rattle.pi_raw_store.specs.Walk.{binding_at, variable_at, bound_to, followed_at, unless_bound, free_at, next_at, leads_at, any_of};
 
+use pi_constraints::Ref;
 use pi_raw_blocks::Form;
-use pi_states::Ref;
 use pi_trail::{Table, Trailed};
 
 /// What a variable is bound to directly. It takes no memory.

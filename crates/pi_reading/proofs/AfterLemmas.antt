@@ -2,8 +2,8 @@
 use Rattle.std.specs.Prelude.{◌≡◌, List, [], ◌∷◌, ◌++◌, Result, Ok, Err, refl}
 use Rattle.std.proofs.Common.{◌∙◌, ap, sym, append_assoc}
 use Rattle.std.proofs.lemmas.List.{append-nil}
-use Rattle.pi_states.specs.Store.{Moment}
-use Rattle.pi_states.specs.declared.store.Ref.{Ref}
+use Rattle.pi_constraints.specs.Store.{Moment}
+use Rattle.pi_constraints.specs.declared.store.Ref.{Ref}
 use Rattle.pi_filters.specs.PostingSums.{Sum, added}
 use Rattle.pi_filters.specs.Steps.{Refusal, Made, Known, Reading, gives, after, then, step, read_operand, read_items}
 use Rattle.pi_reading.specs.declared.operands.node.Binary.{Binary}

@@ -8,14 +8,14 @@ use Rattle.pi_terms.specs.Tree.{Tree, var, int, atom, comp, Trees, no_trees, tre
 use Rattle.pi_terms.specs.ListNames.{nil, cell_name}
 use Rattle.pi_terms.specs.Substitution.{instance}
 use Rattle.pi_syntax.specs.PrintTerm.{array_name}
-use Rattle.pi_states.specs.Value.{Bindings, IsAcyclic, value}
-use Rattle.pi_states.specs.State.{followed, followed_for}
-use Rattle.pi_states.specs.Store.{Moment, StoreView, IsTerm}
-use Rattle.pi_states.specs.declared.store.Ref.{Ref}
-use Rattle.pi_states.specs.State.{bindings}
-use Rattle.pi_states.proofs.ValueLemmas.{value_goes_by_variables, unbound_is_its_own_value}
-use Rattle.pi_states.proofs.FollowLemmas.{followed_unbound}
-use Rattle.pi_states.proofs.RootLemmas.{with_values, value_int, value_atom, value_comp, value_at_root}
+use Rattle.pi_constraints.specs.Value.{Bindings, IsAcyclic, value}
+use Rattle.pi_constraints.specs.State.{followed, followed_for}
+use Rattle.pi_constraints.specs.Store.{Moment, StoreView, IsTerm}
+use Rattle.pi_constraints.specs.declared.store.Ref.{Ref}
+use Rattle.pi_constraints.specs.State.{bindings}
+use Rattle.pi_constraints.proofs.ValueLemmas.{value_goes_by_variables, unbound_is_its_own_value}
+use Rattle.pi_constraints.proofs.FollowLemmas.{followed_unbound}
+use Rattle.pi_constraints.proofs.RootLemmas.{with_values, value_int, value_atom, value_comp, value_at_root}
 use Rattle.pi_effects.specs.Items.{each_tree, in_front_of, items_of_root, array_parts, list_items, collection_items}
 use Rattle.pi_effects.proofs.ItemLemmas.{items-by_root, items-by_value}
 use Rattle.pi_filters.specs.Operands.{Operand, total, no_operand, Operands, no_operands, operand}

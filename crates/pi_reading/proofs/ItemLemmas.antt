@@ -7,12 +7,12 @@ use Rattle.std.proofs.Math.Seq.{drop-cons}
 use Rattle.std.proofs.lemmas.List.{append-nil}
 use Rattle.pi_terms.specs.Tree.{Tree, atom, comp, Trees, args}
 use Rattle.pi_constraints.specs.declared.constraint.Item.{Item}
-use Rattle.pi_states.specs.Value.{IsAcyclic, value}
-use Rattle.pi_states.specs.State.{IsState, bindings}
-use Rattle.pi_states.specs.Store.{Moment, StoreView, IsTerm, ShowsCell}
-use Rattle.pi_states.specs.declared.store.Ref.{Ref}
-use Rattle.pi_states.specs.declared.store.Cell.{Cell}
-use Rattle.pi_states.proofs.RootLemmas.{with_values}
+use Rattle.pi_constraints.specs.Value.{IsAcyclic, value}
+use Rattle.pi_constraints.specs.State.{IsState, bindings}
+use Rattle.pi_constraints.specs.Store.{Moment, StoreView, IsTerm, ShowsCell}
+use Rattle.pi_constraints.specs.declared.store.Ref.{Ref}
+use Rattle.pi_constraints.specs.declared.store.Cell.{Cell}
+use Rattle.pi_constraints.proofs.RootLemmas.{with_values}
 use Rattle.pi_effects.specs.Answer.{found_or}
 use Rattle.pi_effects.specs.Items.{collection_items as items_of}
 use Rattle.pi_filters.specs.Steps.{Refusal, not_a_constraint, Made, Known, gives, after, then}

@@ -5,10 +5,10 @@ use Rattle.std.proofs.Common.{arith, tests, eqb-true, ◌∙◌, ap, sym, subst,
 use Rattle.std.proofs.Math.Seq.{drop-cons}
 use Rattle.std.proofs.lemmas.List.{append-nil}
 use Rattle.pi_terms.specs.Tree.{Tree}
-use Rattle.pi_states.specs.Value.{IsAcyclic}
-use Rattle.pi_states.specs.State.{next, bindings}
-use Rattle.pi_states.specs.Store.{Moment, StoreView}
-use Rattle.pi_states.specs.declared.store.Ref.{Ref}
+use Rattle.pi_constraints.specs.Value.{IsAcyclic}
+use Rattle.pi_constraints.specs.State.{next, bindings}
+use Rattle.pi_constraints.specs.Store.{Moment, StoreView}
+use Rattle.pi_constraints.specs.declared.store.Ref.{Ref}
 use Rattle.pi_effects.specs.Answer.{found_or}
 use Rattle.pi_effects.specs.Exception.{type_error}
 use Rattle.pi_effects.specs.Items.{collection_items}

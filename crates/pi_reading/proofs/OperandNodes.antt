@@ -5,12 +5,12 @@ use Rattle.std.specs.Str.{bytes_eq}
 use Rattle.std.proofs.Common.{arith, tests, eqb-true, ◌∙◌, ap, sym, subst}
 use Rattle.pi_terms.specs.Tree.{Tree, var, int, atom, comp, Trees, no_trees, tree, tree_count, args}
 use Rattle.pi_terms.specs.Substitution.{instance}
-use Rattle.pi_states.specs.Value.{Bindings, IsAcyclic}
-use Rattle.pi_states.specs.State.{IsState, SpeaksBelow, bindings, next}
-use Rattle.pi_states.specs.Store.{Moment, StoreView, IsTerm, ShowsCell}
-use Rattle.pi_states.specs.declared.store.Ref.{Ref}
-use Rattle.pi_states.specs.declared.store.Cell.{Cell}
-use Rattle.pi_states.proofs.RootLemmas.{with_values}
+use Rattle.pi_constraints.specs.Value.{Bindings, IsAcyclic}
+use Rattle.pi_constraints.specs.State.{IsState, SpeaksBelow, bindings, next}
+use Rattle.pi_constraints.specs.Store.{Moment, StoreView, IsTerm, ShowsCell}
+use Rattle.pi_constraints.specs.declared.store.Ref.{Ref}
+use Rattle.pi_constraints.specs.declared.store.Cell.{Cell}
+use Rattle.pi_constraints.proofs.RootLemmas.{with_values}
 use Rattle.pi_filters.specs.Operands.{Operand, no_operand, Operands}
 use Rattle.pi_filters.specs.Terms.{one_part, two_parts, operand_of, operands_of_array, operands_of_list}
 use Rattle.pi_reading.specs.declared.operands.node.Binary.{Binary}

@@ -1,9 +1,9 @@
 -- A relation, by its sides.
 use Rattle.std.specs.Prelude.{◌≡◌, ◌≤◌, Bool, true, false, cond, Result, Ok, Err, refl}
 use Rattle.std.proofs.Common.{◌∙◌, ap, sym}
-use Rattle.pi_states.specs.State.{next}
-use Rattle.pi_states.specs.Store.{Moment}
-use Rattle.pi_states.specs.declared.store.Ref.{Ref}
+use Rattle.pi_constraints.specs.State.{next}
+use Rattle.pi_constraints.specs.Store.{Moment}
+use Rattle.pi_constraints.specs.declared.store.Ref.{Ref}
 use Rattle.pi_filters.specs.Operands.{Operand, Comparison as ComparisonOf}
 use Rattle.pi_filters.specs.PostingSums.{Sum}
 use Rattle.pi_filters.specs.Steps.{Refusal, wide_coefficient, Made, Known, Reading, gives, refuses, after, then, step, read_operand}

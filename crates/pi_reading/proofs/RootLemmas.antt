@@ -4,15 +4,15 @@ use Rattle.std.proofs.Common.{arith, tests, eqb-true, ◌∙◌, ap, sym, subst}
 use Rattle.pi_terms.specs.Tree.{Tree, var, int, atom, comp, Trees, no_trees, tree, tree_count, tree_at, args, arity, arg_at}
 use Rattle.pi_terms.specs.Substitution.{instance}
 use Rattle.pi_terms.specs.Variables.{Occurs}
-use Rattle.pi_states.specs.Value.{Bindings, IsAcyclic, value}
-use Rattle.pi_states.specs.State.{IsState, SpeaksBelow, bindings, next, followed}
-use Rattle.pi_states.specs.Store.{Moment, StoreView, IsTerm, IsName, ShowsCell}
-use Rattle.pi_states.specs.declared.store.Ref.{Ref}
-use Rattle.pi_states.specs.declared.store.Cell.{Cell}
-use Rattle.pi_states.proofs.ValueLemmas.{value_goes_by_variables, unbound_is_its_own_value}
-use Rattle.pi_states.proofs.FollowLemmas.{followed_unbound, followed_below}
-use Rattle.pi_states.proofs.RootLemmas.{with_values, value_int, value_atom, value_comp, value_at_root}
-use Rattle.pi_states.proofs.StateLemmas.{bound_below}
+use Rattle.pi_constraints.specs.Value.{Bindings, IsAcyclic, value}
+use Rattle.pi_constraints.specs.State.{IsState, SpeaksBelow, bindings, next, followed}
+use Rattle.pi_constraints.specs.Store.{Moment, StoreView, IsTerm, IsName, ShowsCell}
+use Rattle.pi_constraints.specs.declared.store.Ref.{Ref}
+use Rattle.pi_constraints.specs.declared.store.Cell.{Cell}
+use Rattle.pi_constraints.proofs.ValueLemmas.{value_goes_by_variables, unbound_is_its_own_value}
+use Rattle.pi_constraints.proofs.FollowLemmas.{followed_unbound, followed_below}
+use Rattle.pi_constraints.proofs.RootLemmas.{with_values, value_int, value_atom, value_comp, value_at_root}
+use Rattle.pi_constraints.proofs.StateLemmas.{bound_below}
 use Rattle.pi_reading.specs.Refs.{tree_of, IsThere, value_at}
 
 -- what the root of a Ref's term is, and what `arg` and `name` of a store answer

@@ -4,12 +4,12 @@ use Rattle.std.specs.Str.{bytes_eq}
 use Rattle.std.proofs.Common.{arith, tests, eqb-true, ◌∙◌, ap, sym, subst}
 use Rattle.pi_terms.specs.Tree.{Tree, var, int, atom, comp, Trees, no_trees, tree, tree_count, args}
 use Rattle.pi_terms.specs.Substitution.{instance}
-use Rattle.pi_states.specs.Value.{Bindings}
-use Rattle.pi_states.specs.State.{IsState, bindings}
-use Rattle.pi_states.specs.Store.{Moment, StoreView, ShowsCell}
-use Rattle.pi_states.specs.declared.store.Ref.{Ref}
-use Rattle.pi_states.specs.declared.store.Cell.{Cell}
-use Rattle.pi_states.proofs.RootLemmas.{with_values}
+use Rattle.pi_constraints.specs.Value.{Bindings}
+use Rattle.pi_constraints.specs.State.{IsState, bindings}
+use Rattle.pi_constraints.specs.Store.{Moment, StoreView, ShowsCell}
+use Rattle.pi_constraints.specs.declared.store.Ref.{Ref}
+use Rattle.pi_constraints.specs.declared.store.Cell.{Cell}
+use Rattle.pi_constraints.proofs.RootLemmas.{with_values}
 use Rattle.pi_filters.specs.Operands.{Boolean, no_boolean, Comparison as ComparisonOf, Connective as ConnectiveOf}
 use Rattle.pi_filters.specs.Terms.{joined_by, related_by, comparison_named, connective_named, boolean_of}
 use Rattle.pi_reading.specs.Refs.{IsThere, value_at, operand_at}

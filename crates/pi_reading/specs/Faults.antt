@@ -3,7 +3,7 @@ use Rattle.std.specs.Prelude.{◌≡◌, ⊤, ◌<◌, ◌≤◌, Result, Ok, Er
 use Rattle.pi_terms.specs.Tree.{Tree, cells, most_cells}
 use Rattle.pi_filters.specs.Steps.{Refusal, not_a_constraint, too_many_terms, wide_coefficient}
 use Rattle.pi_filters.specs.Postings.{Posting as PostingOf}
-use Rattle.pi_states.specs.Store.{Moment}
+use Rattle.pi_constraints.specs.Store.{Moment}
 use Rattle.pi_reading.specs.declared.operands.stop.OperandStop.{OperandStop}
 use Rattle.pi_reading.specs.Refs.{IsThere, value_at}
 use Rattle.pi_finished.specs.declared.posting.Posting.{Posting}

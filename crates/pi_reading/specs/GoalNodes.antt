@@ -1,8 +1,8 @@
 -- What a term is as a goal of constraints, at its root. (Own.)
 use Rattle.std.specs.Prelude.{◌≡◌, ⊤, ℕ, cond, List, codes}
 use Rattle.std.specs.Str.{bytes_eq}
-use Rattle.pi_states.specs.Store.{Moment}
-use Rattle.pi_states.specs.declared.store.Ref.{Ref}
+use Rattle.pi_constraints.specs.Store.{Moment}
+use Rattle.pi_constraints.specs.declared.store.Ref.{Ref}
 use Rattle.pi_filters.specs.Operands.{Goal, relates, is_so, all_different, all_distinct, element, no_constraint}
 use Rattle.pi_filters.specs.Terms.{goal_of, goal_of_boolean}
 use Rattle.pi_reading.specs.Refs.{IsThere, value_at, operand_at}

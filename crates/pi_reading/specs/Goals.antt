@@ -1,6 +1,6 @@
 -- What the reading of a goal answers. (Own.)
 use Rattle.std.specs.Prelude.{Result, Ok, Err}
-use Rattle.pi_states.specs.Store.{Moment}
+use Rattle.pi_constraints.specs.Store.{Moment}
 use Rattle.pi_filters.specs.Steps.{Made, Reading}
 use Rattle.pi_finished.specs.declared.making.Making.{Making}
 use Rattle.pi_finished.specs.Making.{Reads}

@@ -3,8 +3,8 @@ use Rattle.std.specs.Prelude.{◌≡◌, List, map, Option, Result, Ok, Err, Vec
 use Rattle.std.specs.declared.alloc.Global.{Global}
 use Rattle.pi_terms.specs.Tree.{Tree}
 use Rattle.pi_constraints.specs.declared.constraint.Item.{Item}
-use Rattle.pi_states.specs.Store.{Moment}
-use Rattle.pi_states.specs.declared.store.Ref.{Ref}
+use Rattle.pi_constraints.specs.Store.{Moment}
+use Rattle.pi_constraints.specs.declared.store.Ref.{Ref}
 use Rattle.pi_filters.specs.Steps.{Refusal, Made, Known, Reading, then}
 use Rattle.pi_filters.specs.Lists.{read_collection, read_each}
 use Rattle.pi_finished.specs.declared.items.JudgedItems.{JudgedItems}

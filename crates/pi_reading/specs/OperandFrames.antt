@@ -1,8 +1,8 @@
 -- What is still to be done, as readings, and what the code's turns show of them. (Own.)
 use Rattle.std.specs.Prelude.{◌≡◌, ⊤, ℕ, ◌≤◌, List, [], ◌∷◌, ◌++◌, Result, Ok, Err}
-use Rattle.pi_states.specs.State.{next}
-use Rattle.pi_states.specs.Store.{Moment}
-use Rattle.pi_states.specs.declared.store.Ref.{Ref}
+use Rattle.pi_constraints.specs.State.{next}
+use Rattle.pi_constraints.specs.Store.{Moment}
+use Rattle.pi_constraints.specs.declared.store.Ref.{Ref}
 use Rattle.pi_filters.specs.PostingSums.{Sum, added, opposite, difference}
 use Rattle.pi_filters.specs.Steps.{Refusal, not_a_constraint, wide_coefficient, Made, Known, Reading, gives, after, then, step, product, absolute_sum, read_operand}
 use Rattle.pi_finished.specs.declared.stop.SumStop.{SumStop}

@@ -2,9 +2,9 @@
 use Rattle.std.specs.Prelude.{◌≡◌, ◌<◌, ⊤, ℕ, cond, List, codes}
 use Rattle.std.specs.Option.{option_or}
 use Rattle.std.specs.Str.{bytes_eq}
-use Rattle.pi_states.specs.State.{next}
-use Rattle.pi_states.specs.Store.{Moment}
-use Rattle.pi_states.specs.declared.store.Ref.{Ref}
+use Rattle.pi_constraints.specs.State.{next}
+use Rattle.pi_constraints.specs.Store.{Moment}
+use Rattle.pi_constraints.specs.declared.store.Ref.{Ref}
 use Rattle.pi_filters.specs.Operands.{Operand, number, variable, plus, minus, times, positive, negative, absolute, no_operand}
 use Rattle.pi_filters.specs.Terms.{total_of, operands_of_array, operands_of_list}
 use Rattle.pi_reading.specs.declared.operands.node.Binary.{Binary}

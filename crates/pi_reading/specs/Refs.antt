@@ -1,10 +1,10 @@
 -- The terms of Refs at one moment of a store, and the operands that their values are. (Own.)
 use Rattle.std.specs.Prelude.{◌≡◌, List, [], ◌∷◌, Option, Some, None, unwrap_or}
 use Rattle.pi_terms.specs.Tree.{Tree, atom}
-use Rattle.pi_states.specs.Value.{value}
-use Rattle.pi_states.specs.State.{bindings}
-use Rattle.pi_states.specs.Store.{Moment}
-use Rattle.pi_states.specs.declared.store.Ref.{Ref}
+use Rattle.pi_constraints.specs.Value.{value}
+use Rattle.pi_constraints.specs.State.{bindings}
+use Rattle.pi_constraints.specs.Store.{Moment}
+use Rattle.pi_constraints.specs.declared.store.Ref.{Ref}
 use Rattle.pi_filters.specs.Operands.{Operand, Operands, no_operands, operand}
 use Rattle.pi_filters.specs.Terms.{operand_of}
 

@@ -1,7 +1,7 @@
 -- What the reading of a relation answers. (Own.)
 use Rattle.std.specs.Prelude.{◌≡◌, ℕ, ◌≤◌, Result, Ok, Err}
-use Rattle.pi_states.specs.State.{next}
-use Rattle.pi_states.specs.Store.{Moment}
+use Rattle.pi_constraints.specs.State.{next}
+use Rattle.pi_constraints.specs.Store.{Moment}
 use Rattle.pi_filters.specs.Operands.{Comparison as ComparisonOf, equal, unequal, less, at_most, greater, at_least}
 use Rattle.pi_filters.specs.PostingSums.{Sum}
 use Rattle.pi_filters.specs.Steps.{Refusal, Made, Known}

@@ -1,9 +1,9 @@
 -- What is still to be done with truths, as readings, and what the code's turns show of them. (Own.)
 use Rattle.std.specs.Prelude.{◌≡◌, ◌≢◌, ◌⊎◌, ⊤, ◌≤◌, ℤ, pos, List, [], ◌∷◌, ◌++◌, Option, Some, None, Result, Ok, Err}
 use Rattle.pi_constraints.specs.declared.constraint.Item.{Item}
-use Rattle.pi_states.specs.State.{next}
-use Rattle.pi_states.specs.Store.{Moment}
-use Rattle.pi_states.specs.declared.store.Ref.{Ref}
+use Rattle.pi_constraints.specs.State.{next}
+use Rattle.pi_constraints.specs.Store.{Moment}
+use Rattle.pi_constraints.specs.declared.store.Ref.{Ref}
 use Rattle.pi_filters.specs.Steps.{Refusal, Made, Known, Reading, gives, after, then}
 use Rattle.pi_filters.specs.Truths.{truth_of_negation, truth_of_joined, read_truth}
 use Rattle.pi_finished.specs.declared.making.Making.{Making}

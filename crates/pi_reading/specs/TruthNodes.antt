@@ -2,8 +2,8 @@
 use Rattle.std.specs.Prelude.{◌≡◌, ⊤, ℕ, cond, List, Some, None, codes}
 use Rattle.std.specs.Str.{bytes_eq}
 use Rattle.pi_terms.specs.Tree.{int}
-use Rattle.pi_states.specs.Store.{Moment}
-use Rattle.pi_states.specs.declared.store.Ref.{Ref}
+use Rattle.pi_constraints.specs.Store.{Moment}
+use Rattle.pi_constraints.specs.declared.store.Ref.{Ref}
 use Rattle.pi_filters.specs.Operands.{Boolean, truth_variable, truth_number, relation, negation, joined, no_boolean, Connective as ConnectiveOf, and, or, either, implies, equivalent}
 use Rattle.pi_filters.specs.Terms.{boolean_of, comparison_named, connective_named}
 use Rattle.pi_reading.specs.Refs.{IsThere, value_at, operand_at}

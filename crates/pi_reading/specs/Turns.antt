@@ -1,7 +1,7 @@
 -- What a step is as what comes next, and how `sum` begins. (Own.)
 use Rattle.std.specs.Prelude.{◌≡◌, ⊤, List, [], ◌∷◌, ◌++◌, Result, Ok, Err}
-use Rattle.pi_states.specs.Store.{Moment}
-use Rattle.pi_states.specs.declared.store.Ref.{Ref}
+use Rattle.pi_constraints.specs.Store.{Moment}
+use Rattle.pi_constraints.specs.declared.store.Ref.{Ref}
 use Rattle.pi_filters.specs.PostingSums.{Sum}
 use Rattle.pi_filters.specs.Steps.{Refusal, Known, read_operand}
 use Rattle.pi_finished.specs.declared.stop.SumStop.{SumStop}

@@ -1,6 +1,6 @@
 //! What goals of constraints make.
 ghost use Rattle.std.specs.Prelude.{◌≤◌};
-ghost use Rattle.pi_states.specs.State.{IsState, next};
+ghost use Rattle.pi_constraints.specs.State.{IsState, next};
 ghost use Rattle.pi_filters.specs.Steps.{Made};
 ghost use Rattle.pi_filters.specs.Relations.{posts_relation};
 ghost use Rattle.pi_filters.specs.Truths.{posts_truth};
@@ -19,8 +19,8 @@ use crate::nodes::{GoalNode, goal_node_at};
 use crate::operands::OperandStop;
 use crate::relations::{Comparison, read_relation};
 use crate::truths::{post_so, read_truth};
+use pi_constraints::{Ref, StateStore};
 use pi_finished::{JudgedItems, Making};
-use pi_states::{Ref, StateStore};
 use std::alloc::Global;
 
 /// What a goal makes: new variables, and constraints in the order of their making. A User's Guide to Picat, 'Constraints'.

@@ -1,5 +1,5 @@
 //! Items of constraints: integers and variables.
-ghost use Rattle.pi_states.specs.State.{IsState};
+ghost use Rattle.pi_constraints.specs.State.{IsState};
 ghost use Rattle.pi_filters.specs.Steps.{Made};
 ghost use Rattle.pi_filters.specs.Lists.{read_item, read_each, read_collection};
 ghost use Rattle.pi_reading.specs.Refs.{IsThere, value_at};
@@ -8,10 +8,9 @@ ghost use Rattle.pi_reading.specs.Items.{values_at, ShowsItem, ShowsEach, ShowsC
 
 use crate::operands::OperandStop;
 use pi_builtin::collection_items;
-use pi_constraints::Item;
+use pi_constraints::{Cell, Item, Ref, StateStore};
 use pi_effects::Stop;
 use pi_finished::{JudgedItems, integer_item};
-use pi_states::{Cell, Ref, StateStore};
 use std::alloc::Global;
 
 /// The item that a term is, None for an integer that no domain can have. Any other term can't stand here.

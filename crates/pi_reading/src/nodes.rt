@@ -1,12 +1,12 @@
 //! What a term of a store is as a goal of constraints.
 ghost use Rattle.std.specs.Prelude.{◌≡◌};
-ghost use Rattle.pi_states.specs.State.{IsState};
+ghost use Rattle.pi_constraints.specs.State.{IsState};
 ghost use Rattle.pi_reading.specs.Refs.{IsThere};
 ghost use Rattle.pi_reading.specs.GoalNodes.{one_named, three_named, ShowsGoalNode, ShowsListGoal};
 
 use crate::relations::Comparison;
 use crate::truths::{TruthNode, truth_node_at};
-use pi_states::{Cell, Ref, StateStore};
+use pi_constraints::{Cell, Ref, StateStore};
 
 /// A goal over the items of a list or an array.
 #[derive(Clone, Copy)]

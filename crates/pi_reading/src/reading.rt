@@ -1,16 +1,16 @@
 //! The posting of a term.
 ghost use Rattle.std.specs.Prelude.{Result};
 ghost use Rattle.pi_terms.specs.Tree.{Tree};
-ghost use Rattle.pi_states.specs.State.{IsState};
-ghost use Rattle.pi_states.specs.Store.{IsTerm};
+ghost use Rattle.pi_constraints.specs.State.{IsState};
+ghost use Rattle.pi_constraints.specs.Store.{IsTerm};
 ghost use Rattle.pi_filters.specs.Steps.{Refusal};
 ghost use Rattle.pi_filters.specs.Postings.{Posting as PostingOf, posting_in};
 ghost use Rattle.pi_reading.specs.Faults.{ShowsFault, ShowsPosting, Stops};
 
 use crate::goals::read_goal;
 use crate::operands::OperandStop;
+use pi_constraints::{ReadStop, Ref, StateStore};
 use pi_finished::{Limit, Making, Posting};
-use pi_states::{ReadStop, Ref, StateStore};
 use pi_terms::Term;
 use std::alloc::Global;
 

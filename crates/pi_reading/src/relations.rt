@@ -1,6 +1,6 @@
 //! Relations between operands.
 ghost use Rattle.std.specs.Prelude.{◌≡◌, ◌≤◌};
-ghost use Rattle.pi_states.specs.State.{IsState, next};
+ghost use Rattle.pi_constraints.specs.State.{IsState, next};
 ghost use Rattle.pi_filters.specs.Steps.{Made};
 ghost use Rattle.pi_filters.specs.Relations.{sides_apart, read_relation};
 ghost use Rattle.pi_finished.specs.Steps.{ShowsStep};
@@ -9,8 +9,8 @@ ghost use Rattle.pi_reading.specs.Refs.{IsThere, operand_at};
 ghost use Rattle.pi_reading.specs.Relations.{comparison_of, Means, ShowsRelation};
 
 use crate::operands::{OperandStop, read_operand};
+use pi_constraints::{Ref, StateStore};
 use pi_finished::{JoinedSum, Making, SumStop, ToZero};
-use pi_states::{Ref, StateStore};
 use std::alloc::Global;
 
 /// How two operands are compared. A User's Guide to Picat, 'Constraints'.

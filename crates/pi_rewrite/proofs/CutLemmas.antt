@@ -4,7 +4,7 @@ use Rattle.pi_syntax.specs.ExpTree.{ExpTree}
 use Rattle.pi_syntax.specs.ProgramTree.{ProgramTree}
 use Rattle.pi_core.specs.CoreTree.{PredTree, QueryTree}
 use Rattle.pi_meaning.specs.Depth.{cut}
-use Rattle.pi_states.specs.State.{empty_state}
+use Rattle.pi_constraints.specs.State.{empty_state}
 use Rattle.pi_meaning.specs.View.{View}
 use Rattle.pi_meaning.specs.Instances.{no_later, whole}
 use Rattle.pi_meaning.specs.Run.{query_trace}

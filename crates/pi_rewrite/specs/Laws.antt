@@ -2,7 +2,7 @@
 -- done over names, with the prelude in front, whatever later stages give (`Allows` says where one of them calls terms). What they are stands in `Programs` of `pi_lowered`.
 use Rattle.std.specs.Prelude.{◌≡◌, ℕ, true, List, ◌++◌, None, All, IsTrue}
 use Rattle.pi_terms.specs.Tree.{Trees, tree_count}
-use Rattle.pi_states.specs.State.{State}
+use Rattle.pi_constraints.specs.State.{State}
 use Rattle.pi_syntax.specs.ExpTree.{ExpTree}
 use Rattle.pi_syntax.specs.ProgramTree.{ProgramTree}
 use Rattle.pi_core.specs.CoreTree.{PredTree, QueryTree}

@@ -5,9 +5,9 @@ use Rattle.pi_terms.specs.Tree.{Tree, var, int, cells, most_cells}
 use Rattle.pi_terms.specs.Substitution.{instance}
 use Rattle.pi_meaning.specs.Trace.{Trace, end, note, Raise, Deep, Tick, Load, Out, done, one, alt, then}
 use Rattle.pi_meaning.specs.Control.{chosen}
-use Rattle.pi_states.specs.Value.{rounds, value}
-use Rattle.pi_states.specs.State.{State, Agent, free, bound, on_ins, on_dom, on_dom_any, on_posted, bindings, followed_for, followed, end_agent}
-use Rattle.pi_states.specs.declared.event.Activation.{Activation}
+use Rattle.pi_constraints.specs.Value.{rounds, value}
+use Rattle.pi_constraints.specs.State.{State, Agent, free, bound, on_ins, on_dom, on_dom_any, on_posted, bindings, followed_for, followed, end_agent}
+use Rattle.pi_constraints.specs.declared.event.Activation.{Activation}
 use Rattle.pi_effects.specs.Exception.{term_too_large}
 use Rattle.pi_settling.specs.Answers.{leads_for, first_answered, activations_from, activations}
 use Rattle.pi_settling.specs.Fire.{SlotValue, Rules, decided, event_value, fired}

@@ -5,11 +5,11 @@ use Rattle.std.proofs.lemmas.Bool.{or_cases, eqb-true}
 use Rattle.pi_terms.specs.Tree.{Tree, var, int, atom, comp}
 use Rattle.pi_terms.specs.Places.{held}
 use Rattle.pi_terms.specs.Variables.{Occurs}
-use Rattle.pi_states.specs.Value.{Bindings}
-use Rattle.pi_states.specs.State.{WatchTree, LeadsTo, is_it, through}
-use Rattle.pi_states.specs.declared.event.Event.{Event}
-use Rattle.pi_states.specs.declared.event.Activation.{Activation}
-use Rattle.pi_states.proofs.ValueLemmas.{Ranked, ranked}
+use Rattle.pi_constraints.specs.Value.{Bindings}
+use Rattle.pi_constraints.specs.State.{WatchTree, LeadsTo, is_it, through}
+use Rattle.pi_constraints.specs.declared.event.Event.{Event}
+use Rattle.pi_constraints.specs.declared.event.Activation.{Activation}
+use Rattle.pi_constraints.proofs.ValueLemmas.{Ranked, ranked}
 use Rattle.pi_settling.specs.Answers.{leads_on, leads_for, answer_to, activation_or, first_answered}
 use Rattle.pi_settling.specs.SettlingLaws.{LeadsAreFollowed, ByFirst, AgentsAreWokenOnce}
 

@@ -5,9 +5,9 @@ use Rattle.pi_terms.specs.Tree.{var}
 use Rattle.pi_terms.specs.Places.{held}
 use Rattle.pi_constraints.specs.declared.constraint.Item.{Item}
 use Rattle.pi_constraints.specs.declared.domain.Span.{Span}
-use Rattle.pi_states.specs.Value.{Bindings}
-use Rattle.pi_states.specs.State.{State, Variable, free, within, bound, binding, domain_in, bindings, next, domain_of, followed}
-use Rattle.pi_states.proofs.StateLemmas.{variable, held_is, changed_next, same_or_not, domain_here, domain_elsewhere, domain_bindings}
+use Rattle.pi_constraints.specs.Value.{Bindings}
+use Rattle.pi_constraints.specs.State.{State, Variable, free, within, bound, binding, domain_in, bindings, next, domain_of, followed}
+use Rattle.pi_constraints.proofs.StateLemmas.{variable, held_is, changed_next, same_or_not, domain_here, domain_elsewhere, domain_bindings}
 use Rattle.pi_settling.specs.Roots.{item_of, root_item, all_values}
 use Rattle.pi_settling.specs.Confined.{with_default, confined_at, confined}
 use Rattle.pi_settling.specs.LabelLaws.{ConfinedHaveDomains, ConfiningBindsNothing}

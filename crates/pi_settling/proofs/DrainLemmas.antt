@@ -7,8 +7,8 @@ use Rattle.pi_meaning.specs.Depth.{Below, deeper, same_note}
 use Rattle.pi_meaning.specs.Related.{BelowBy}
 use Rattle.pi_meaning.proofs.BelowLemmas.{below-refl, below-then}
 use Rattle.pi_meaning.proofs.RelatedLemmas.{Same, by-below, below-by, by-chosen}
-use Rattle.pi_states.specs.State.{State, Agent, with_waiting, with_ended}
-use Rattle.pi_states.specs.declared.event.Activation.{Activation}
+use Rattle.pi_constraints.specs.State.{State, Agent, with_waiting, with_ended}
+use Rattle.pi_constraints.specs.declared.event.Activation.{Activation}
 use Rattle.pi_settling.specs.Fire.{Rules, decided, event_value, fired}
 use Rattle.pi_settling.specs.Drain.{Lower, living, woken, drained_from}
 use Rattle.pi_settling.specs.AgentLaws.{DrainingNothing, EndedArePassedOver, FirstInFirstOut, RulesDoMore, LowerDoesMore, DrainingDoesMoreBy}

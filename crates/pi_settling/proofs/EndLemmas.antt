@@ -15,8 +15,8 @@ use Rattle.pi_constraints.proofs.CommonLemmas.{two_values}
 use Rattle.pi_filters.specs.Ends.{least_of, greatest_of}
 use Rattle.pi_filters.proofs.EndLemmas.{least-has, greatest-has, least-below, greatest-above}
 use Rattle.pi_meaning.specs.Trace.{Trace, end, note, ans, Done, done, one, alt, then, end_of}
-use Rattle.pi_states.specs.State.{State, Variable, free, within, bound, domain_in, domain_of, IsState}
-use Rattle.pi_states.proofs.StateLemmas.{variable, domain_good}
+use Rattle.pi_constraints.specs.State.{State, Variable, free, within, bound, domain_in, domain_of, IsState}
+use Rattle.pi_constraints.proofs.StateLemmas.{variable, domain_good}
 use Rattle.pi_settling.specs.Roots.{domain_or_all, given}
 use Rattle.pi_settling.specs.Stable.{Stays, Narrows, stays_free, stays_bound, some_stay, one_stays, IsStable}
 use Rattle.pi_settling.specs.Load.{load, load_of_failure}

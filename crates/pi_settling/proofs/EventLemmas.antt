@@ -8,10 +8,10 @@ use Rattle.pi_constraints.specs.declared.domain.Span.{Span}
 use Rattle.pi_constraints.specs.Domain.{IsDomain, has_value, values_of, size_of}
 use Rattle.pi_constraints.proofs.DomainLemmas.{values_lie_in_spans}
 use Rattle.pi_filters.specs.Ends.{least_of, greatest_of}
-use Rattle.pi_states.specs.State.{State, Variable, free, within, bound, binding, bindings, next, domain_in, domain_of, followed, IsVariable, IsState}
-use Rattle.pi_states.proofs.FollowLemmas.{followed_itself}
-use Rattle.pi_states.proofs.StateLemmas.{variable, held_is, state_variable}
-use Rattle.pi_states.specs.declared.event.Event.{Event}
+use Rattle.pi_constraints.specs.State.{State, Variable, free, within, bound, binding, bindings, next, domain_in, domain_of, followed, IsVariable, IsState}
+use Rattle.pi_constraints.proofs.FollowLemmas.{followed_itself}
+use Rattle.pi_constraints.proofs.StateLemmas.{variable, held_is, state_variable}
+use Rattle.pi_constraints.specs.declared.event.Event.{Event}
 use Rattle.pi_settling.specs.Events.{most_told, is_inner, same_ends, lost_values, excluded_events, variable_events, events_since, events_from}
 use Rattle.pi_settling.specs.SettlingLaws.{NoChangeNoEvents}
 

@@ -6,7 +6,7 @@ use Rattle.std.proofs.lemmas.List.{length-map}
 use Rattle.pi_constraints.specs.declared.constraint.Item.{Item}
 use Rattle.pi_filters.specs.Solutions.{value_of}
 use Rattle.pi_meaning.specs.Trace.{Trace}
-use Rattle.pi_states.specs.State.{State}
+use Rattle.pi_constraints.specs.State.{State}
 use Rattle.pi_settling.specs.Settled.{IsSettled}
 use Rattle.pi_settling.proofs.UniqueLemmas.{settled_is_one}
 use Rattle.pi_settling.specs.Confined.{confined}

@@ -9,9 +9,9 @@ use Rattle.pi_constraints.specs.declared.constraint.Constraint.{Constraint}
 use Rattle.pi_constraints.specs.declared.constraint.Item.{Item}
 use Rattle.pi_constraints.specs.declared.domain.Span.{Span}
 use Rattle.pi_constraints.specs.Domain.{IsWithinBounds}
-use Rattle.pi_states.specs.State.{State, Agent, Variable, free, binding, bindings, next, domain_in, domain_of, SpeaksBelow, WatchBelow, IsVariable, MayPost, IsActivation, IsState}
-use Rattle.pi_states.specs.declared.event.Activation.{Activation}
-use Rattle.pi_states.proofs.StateLemmas.{variable, held_is, state_variable}
+use Rattle.pi_constraints.specs.State.{State, Agent, Variable, free, binding, bindings, next, domain_in, domain_of, SpeaksBelow, WatchBelow, IsVariable, MayPost, IsActivation, IsState}
+use Rattle.pi_constraints.specs.declared.event.Activation.{Activation}
+use Rattle.pi_constraints.proofs.StateLemmas.{variable, held_is, state_variable}
 use Rattle.pi_settling.specs.Roots.{root_item}
 use Rattle.pi_settling.specs.Stable.{Narrows, stays_free, stays_bound, some_stay, one_stays, IsStable}
 use Rattle.pi_settling.specs.SettlingLaws.{StableIsAState, StableMaySettle}

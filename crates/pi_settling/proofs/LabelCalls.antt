@@ -7,8 +7,8 @@ use Rattle.pi_terms.specs.Copy.{copy}
 use Rattle.pi_terms.specs.ListNames.{nil}
 use Rattle.pi_terms.specs.ListCopies.{list_cell}
 use Rattle.pi_constraints.specs.declared.constraint.Item.{Item}
-use Rattle.pi_states.specs.Value.{rounds, value}
-use Rattle.pi_states.specs.State.{State, Variable, free, bound, followed_for, followed}
+use Rattle.pi_constraints.specs.Value.{rounds, value}
+use Rattle.pi_constraints.specs.State.{State, Variable, free, bound, followed_for, followed}
 use Rattle.pi_effects.specs.Exception.{exception_with, type_error}
 use Rattle.pi_effects.specs.Items.{each_tree, list_onto, list_of, array_of, items_for, list_items}
 use Rattle.pi_settling.specs.Options.{forward, up, down, words_read}

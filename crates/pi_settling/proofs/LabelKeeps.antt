@@ -9,11 +9,11 @@ use Rattle.pi_constraints.specs.Domain.{IsDomain, has_value, values_of, size_of}
 use Rattle.pi_constraints.proofs.CommonLemmas.{first_value, two_values}
 use Rattle.pi_meaning.specs.Trace.{Trace, end, note, ans, Done, Raise, Load, done, one, alt, then, answers, end_of}
 use Rattle.pi_meaning.proofs.TraceLemmas.{alt-done}
-use Rattle.pi_states.specs.Value.{IsAcyclic}
-use Rattle.pi_states.specs.State.{State, Agent, within, bound, bindings, domain_of, with_waiting, with_domain, IsState}
-use Rattle.pi_states.specs.declared.event.Event.{Event}
-use Rattle.pi_states.specs.declared.event.Activation.{Activation}
-use Rattle.pi_states.proofs.StateLemmas.{same_or_not, domain_here, domain_elsewhere, domain_bindings, domain_unbound, domain_good, IsState-changed}
+use Rattle.pi_constraints.specs.Value.{IsAcyclic}
+use Rattle.pi_constraints.specs.State.{State, Agent, within, bound, bindings, domain_of, with_waiting, with_domain, IsState}
+use Rattle.pi_constraints.specs.declared.event.Event.{Event}
+use Rattle.pi_constraints.specs.declared.event.Activation.{Activation}
+use Rattle.pi_constraints.proofs.StateLemmas.{same_or_not, domain_here, domain_elsewhere, domain_bindings, domain_unbound, domain_good, IsState-changed}
 use Rattle.pi_settling.specs.Roots.{root_item, domain_or_all, given, by_domain}
 use Rattle.pi_settling.specs.Stable.{IsEmptied, IsStable}
 use Rattle.pi_settling.specs.Events.{events_between}

@@ -15,10 +15,10 @@ use Rattle.pi_constraints.proofs.SpanLemmas.{AscendFrom-lower}
 use Rattle.pi_constraints.proofs.DomainLemmas.{values_are_within_bounds}
 use Rattle.pi_constraints.proofs.CommonLemmas.{no_value, first_value, one_value}
 use Rattle.pi_filters.specs.Solutions.{value_of}
-use Rattle.pi_states.specs.State.{State, Variable, within, bound, binding, bindings, next, domain_of, with_variable, with_binding, with_domain, IsState}
-use Rattle.pi_states.proofs.StateLemmas.{held_is, changed_here, same_or_not, domain_here, domain_elsewhere, domain_bindings, domain_unbound, domain_good, held_here, held_elsewhere}
-use Rattle.pi_states.proofs.RootLemmas.{value_int}
-use Rattle.pi_states.proofs.UnifyBindings.{bound_state}
+use Rattle.pi_constraints.specs.State.{State, Variable, within, bound, binding, bindings, next, domain_of, with_variable, with_binding, with_domain, IsState}
+use Rattle.pi_constraints.proofs.StateLemmas.{held_is, changed_here, same_or_not, domain_here, domain_elsewhere, domain_bindings, domain_unbound, domain_good, held_here, held_elsewhere}
+use Rattle.pi_constraints.proofs.RootLemmas.{value_int}
+use Rattle.pi_constraints.proofs.UnifyBindings.{bound_state}
 use Rattle.pi_settling.specs.Roots.{root_item, domain_or_all, given, Counts, by_domain, by_place}
 use Rattle.pi_settling.specs.Solves.{Solves}
 use Rattle.pi_settling.specs.SettlingLaws.{MaySettle}

@@ -9,7 +9,7 @@ use Rattle.pi_constraints.specs.Domain.{IsDomain, has_value}
 use Rattle.pi_filters.specs.Places.{places_of, domain_at}
 use Rattle.pi_filters.specs.Solutions.{value_of, value_at}
 use Rattle.pi_filters.specs.Laws.{AreDomainsOf}
-use Rattle.pi_states.specs.State.{State}
+use Rattle.pi_constraints.specs.State.{State}
 use Rattle.pi_settling.specs.Roots.{root_item, Counts, by_place}
 use Rattle.pi_settling.specs.Stable.{Domains, at_places}
 

@@ -7,9 +7,9 @@ use Rattle.pi_constraints.specs.declared.constraint.Item.{Item}
 use Rattle.pi_constraints.specs.declared.constraint.Rel.{Rel}
 use Rattle.pi_constraints.specs.declared.constraint.Constraint.{Constraint}
 use Rattle.pi_filters.specs.Places.{sum_places}
-use Rattle.pi_states.specs.Value.{value, rounds}
-use Rattle.pi_states.specs.State.{State, Variable, free, within, bound, followed_for, followed}
-use Rattle.pi_states.specs.Evaluation.{with_new_variables}
+use Rattle.pi_constraints.specs.Value.{value, rounds}
+use Rattle.pi_constraints.specs.State.{State, Variable, free, within, bound, followed_for, followed}
+use Rattle.pi_constraints.specs.Evaluation.{with_new_variables}
 use Rattle.pi_effects.specs.Effect.{Succeeds, Raises}
 use Rattle.pi_effects.specs.Exception.{exception_with}
 use Rattle.pi_settling.specs.Roots.{all_values}

@@ -5,11 +5,11 @@ use Rattle.pi_terms.specs.Tree.{Tree, var, int, atom, comp}
 use Rattle.pi_terms.specs.Places.{held}
 use Rattle.pi_terms.specs.Substitution.{instance}
 use Rattle.pi_constraints.specs.declared.constraint.Item.{Item}
-use Rattle.pi_states.specs.Value.{Bindings, IsAcyclic, value}
-use Rattle.pi_states.specs.State.{State, bindings, followed}
-use Rattle.pi_states.proofs.ValueLemmas.{values_solve, value_has_same_instances, unbound_is_its_own_value}
-use Rattle.pi_states.proofs.FollowLemmas.{followed_value, followed_unbound}
-use Rattle.pi_states.proofs.RootLemmas.{value_int, value_atom, value_comp, with_values}
+use Rattle.pi_constraints.specs.Value.{Bindings, IsAcyclic, value}
+use Rattle.pi_constraints.specs.State.{State, bindings, followed}
+use Rattle.pi_constraints.proofs.ValueLemmas.{values_solve, value_has_same_instances, unbound_is_its_own_value}
+use Rattle.pi_constraints.proofs.FollowLemmas.{followed_value, followed_unbound}
+use Rattle.pi_constraints.proofs.RootLemmas.{value_int, value_atom, value_comp, with_values}
 use Rattle.pi_settling.specs.Roots.{item_of, root_item}
 
 -- an item goes by the value of its variable

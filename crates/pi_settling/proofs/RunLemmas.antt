@@ -10,8 +10,8 @@ use Rattle.pi_filters.specs.Places.{places_of}
 use Rattle.pi_filters.specs.Filter.{Leaves}
 use Rattle.pi_filters.specs.Laws.{AreDomainsOf}
 use Rattle.pi_filters.proofs.FilterLemmas.{filters_are_monotone}
-use Rattle.pi_states.specs.State.{State, Variable, free, within, bound, binding, next, domain_in, domain_of, IsState}
-use Rattle.pi_states.proofs.StateLemmas.{variable, domain_good}
+use Rattle.pi_constraints.specs.State.{State, Variable, free, within, bound, binding, next, domain_in, domain_of, IsState}
+use Rattle.pi_constraints.proofs.StateLemmas.{variable, domain_good}
 use Rattle.pi_settling.specs.Roots.{root_item, only, domain_or_all, given, Counts, by_domain, by_place}
 use Rattle.pi_settling.specs.Stable.{at_places, Stays, IsEmptied}
 use Rattle.pi_settling.specs.SettlingLaws.{MaySettle}

@@ -8,9 +8,9 @@ use Rattle.pi_constraints.specs.declared.domain.Span.{Span}
 use Rattle.pi_constraints.specs.Domain.{has_value, numbers_from, values_of}
 use Rattle.pi_filters.specs.Ends.{greatest_of}
 use Rattle.pi_filters.specs.Places.{sum_places}
-use Rattle.pi_states.specs.State.{State, Agent, Variable, free, within, bound, on_ins, on_dom, followed_for, followed, with_waiting}
-use Rattle.pi_states.specs.declared.event.Event.{Event}
-use Rattle.pi_states.specs.declared.event.Activation.{Activation}
+use Rattle.pi_constraints.specs.State.{State, Agent, Variable, free, within, bound, on_ins, on_dom, followed_for, followed, with_waiting}
+use Rattle.pi_constraints.specs.declared.event.Event.{Event}
+use Rattle.pi_constraints.specs.declared.event.Activation.{Activation}
 use Rattle.pi_settling.specs.Events.{variable_events, events_from, events_between}
 use Rattle.pi_settling.specs.Answers.{leads_for, first_answered, activations_from, activations}
 use Rattle.pi_settling.specs.Load.{same_domain, count_due, roots_of, load, load_of_failure}

@@ -10,11 +10,11 @@ use Rattle.pi_constraints.specs.declared.domain.Span.{Span}
 use Rattle.pi_constraints.specs.Domain.{IsWithinBounds, has_value}
 use Rattle.pi_constraints.proofs.DomainLemmas.{values_are_within_bounds}
 use Rattle.pi_filters.specs.Solutions.{value_of}
-use Rattle.pi_states.specs.Value.{value, IsAcyclic}
-use Rattle.pi_states.specs.State.{State, Variable, within, binding, bindings, next, domain_in, followed, IsState}
-use Rattle.pi_states.proofs.FollowLemmas.{followed_value, followed_unbound}
-use Rattle.pi_states.proofs.StateLemmas.{variable, held_is, domain_good}
-use Rattle.pi_states.proofs.RootLemmas.{with_values, value_atom, value_comp}
+use Rattle.pi_constraints.specs.Value.{value, IsAcyclic}
+use Rattle.pi_constraints.specs.State.{State, Variable, within, binding, bindings, next, domain_in, followed, IsState}
+use Rattle.pi_constraints.proofs.FollowLemmas.{followed_value, followed_unbound}
+use Rattle.pi_constraints.proofs.StateLemmas.{variable, held_is, domain_good}
+use Rattle.pi_constraints.proofs.RootLemmas.{with_values, value_atom, value_comp}
 use Rattle.pi_settling.specs.Roots.{root_item, item_of, only, domain_or_all, given, Counts, by_domain, by_place}
 use Rattle.pi_settling.specs.Stable.{Stays, Narrows, stays_free, stays_bound, some_stay, one_stays, IsStable}
 use Rattle.pi_settling.specs.Solves.{Solves}

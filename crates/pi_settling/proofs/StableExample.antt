@@ -10,7 +10,7 @@ use Rattle.pi_filters.specs.Places.{sum_places, places_of, domain_at}
 use Rattle.pi_filters.specs.Sums.{least_of_all, least_of_others}
 use Rattle.pi_filters.specs.Filter.{PlaceKeeps, Leaves}
 use Rattle.pi_meaning.specs.Trace.{note, Load, one}
-use Rattle.pi_states.specs.State.{State, free, followed_for, followed}
+use Rattle.pi_constraints.specs.State.{State, free, followed_for, followed}
 use Rattle.pi_settling.specs.Roots.{root_item, given, Counts, by_domain, by_place}
 use Rattle.pi_settling.specs.Stable.{Domains, at_places, NoFilterChanges, Stays, Narrows, some_stay, IsStable}
 use Rattle.pi_settling.specs.Load.{same_domain, count_due, roots_of}

@@ -13,7 +13,7 @@ use Rattle.pi_filters.specs.Filter.{Leaves}
 use Rattle.pi_filters.specs.Solutions.{value_of, value_at}
 use Rattle.pi_filters.specs.Laws.{AreWithin}
 use Rattle.pi_filters.proofs.FilterLemmas.{filters_are_monotone, filters_keep_solutions}
-use Rattle.pi_states.specs.State.{State}
+use Rattle.pi_constraints.specs.State.{State}
 use Rattle.pi_settling.specs.Roots.{root_item, only, given, Counts}
 use Rattle.pi_settling.specs.Stable.{Domains, at_places, LieBelow, NoFilterChanges, Stays}
 use Rattle.pi_settling.specs.Solves.{Solves}

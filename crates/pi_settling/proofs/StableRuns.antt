@@ -10,8 +10,8 @@ use Rattle.pi_constraints.specs.Domain.{IsWithinBounds, AscendFrom, IsDomain, ha
 use Rattle.pi_constraints.proofs.DomainLemmas.{values_are_within_bounds, IsLeastValue-first}
 use Rattle.pi_filters.specs.Places.{places_of, domain_at}
 use Rattle.pi_filters.specs.Filter.{Leaves}
-use Rattle.pi_states.specs.State.{State, Variable, free, within, bound, domain_in, domain_of, IsState}
-use Rattle.pi_states.proofs.StateLemmas.{variable, domain_good}
+use Rattle.pi_constraints.specs.State.{State, Variable, free, within, bound, domain_in, domain_of, IsState}
+use Rattle.pi_constraints.proofs.StateLemmas.{variable, domain_good}
 use Rattle.pi_settling.specs.Roots.{root_item, only, all_values, domain_or_all, given, by_domain}
 use Rattle.pi_settling.specs.Stable.{at_places, LieBelow, NoFilterChanges, Stays, Narrows, stays_free, stays_bound, some_stay, one_stays, IsStable}
 use Rattle.pi_settling.specs.SettlingLaws.{MaySettle}

@@ -12,12 +12,12 @@ use Rattle.pi_constraints.specs.Domain.{IsWithinBounds, AscendFrom, IsDomain, ha
 use Rattle.pi_constraints.proofs.DomainLemmas.{values_are_within_bounds}
 use Rattle.pi_filters.specs.Places.{places_of, domain_at}
 use Rattle.pi_filters.specs.Filter.{Leaves}
-use Rattle.pi_states.specs.Value.{Bindings, IsAcyclic, value}
-use Rattle.pi_states.specs.State.{State, Variable, free, within, bound, binding, bindings, next, domain_in, domain_of, IsState}
-use Rattle.pi_states.proofs.FollowLemmas.{followed_itself}
-use Rattle.pi_states.proofs.StateLemmas.{variable, held_is}
-use Rattle.pi_states.proofs.ValueLemmas.{unbound_is_its_own_value, bound_has_value_of_its_term}
-use Rattle.pi_states.proofs.RootLemmas.{value_int}
+use Rattle.pi_constraints.specs.Value.{Bindings, IsAcyclic, value}
+use Rattle.pi_constraints.specs.State.{State, Variable, free, within, bound, binding, bindings, next, domain_in, domain_of, IsState}
+use Rattle.pi_constraints.proofs.FollowLemmas.{followed_itself}
+use Rattle.pi_constraints.proofs.StateLemmas.{variable, held_is}
+use Rattle.pi_constraints.proofs.ValueLemmas.{unbound_is_its_own_value, bound_has_value_of_its_term}
+use Rattle.pi_constraints.proofs.RootLemmas.{value_int}
 use Rattle.pi_settling.specs.Roots.{root_item, item_of, only, all_values, domain_or_all, given, Counts, by_domain, by_place}
 use Rattle.pi_settling.specs.Stable.{Domains, at_places, LieBelow, NoFilterChanges, Stays, Narrows, stays_free, stays_bound, some_stay, one_stays, IsStable}
 use Rattle.pi_settling.specs.SettlingLaws.{MaySettle, StableStaysStable}

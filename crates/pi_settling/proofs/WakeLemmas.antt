@@ -10,8 +10,8 @@ use Rattle.pi_constraints.specs.declared.domain.Span.{Span}
 use Rattle.pi_constraints.specs.Domain.{has_value}
 use Rattle.pi_filters.specs.Places.{places_of, domain_at}
 use Rattle.pi_filters.specs.Filter.{Leaves}
-use Rattle.pi_states.specs.State.{State, domain_of, IsState}
-use Rattle.pi_states.proofs.StateLemmas.{domain_good, same_or_not}
+use Rattle.pi_constraints.specs.State.{State, domain_of, IsState}
+use Rattle.pi_constraints.proofs.StateLemmas.{domain_good, same_or_not}
 use Rattle.pi_settling.specs.Roots.{root_item, given}
 use Rattle.pi_settling.specs.SettlingLaws.{MaySettle}
 use Rattle.pi_settling.proofs.PlaceLemmas.{place_at, place-domain, count-places, at_place}

@@ -4,8 +4,8 @@ use Rattle.pi_terms.specs.Tree.{Tree, var, int, atom, comp, trees_of, cells}
 use Rattle.pi_terms.specs.Substitution.{instance}
 use Rattle.pi_constraints.specs.declared.domain.Span.{Span}
 use Rattle.pi_constraints.specs.Domain.{has_value, numbers_from, values_of, overlap, shared, common}
-use Rattle.pi_states.specs.Value.{value, rounds}
-use Rattle.pi_states.specs.State.{State, Variable, free, within, bound, followed_for, followed}
+use Rattle.pi_constraints.specs.Value.{value, rounds}
+use Rattle.pi_constraints.specs.State.{State, Variable, free, within, bound, followed_for, followed}
 use Rattle.pi_effects.specs.Effect.{Effect, Succeeds, Fails, Raises}
 use Rattle.pi_effects.specs.Exception.{type_error, bad_range, range_too_long}
 use Rattle.pi_effects.specs.Items.{each_tree, list_onto, list_of, array_of, items_for, list_items}

@@ -4,8 +4,8 @@ use Rattle.pi_terms.specs.Tree.{Tree}
 use Rattle.pi_meaning.specs.Trace.{note, Tick, one, then}
 use Rattle.pi_meaning.specs.Depth.{Below}
 use Rattle.pi_meaning.specs.Related.{BelowBy}
-use Rattle.pi_states.specs.State.{State, Agent, with_waiting}
-use Rattle.pi_states.specs.declared.event.Activation.{Activation}
+use Rattle.pi_constraints.specs.State.{State, Agent, with_waiting}
+use Rattle.pi_constraints.specs.declared.event.Activation.{Activation}
 use Rattle.pi_settling.specs.Fire.{SlotValue, Rules, fired}
 use Rattle.pi_settling.specs.Drain.{Lower, living, drained}
 

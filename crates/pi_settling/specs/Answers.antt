@@ -4,10 +4,10 @@
 use Rattle.std.specs.Prelude.{◌==◌, ℕ, zero, suc, Bool, false, cond, ◌&&◌, ◌||◌, List, [], ◌∷◌, ◌++◌, length, Option, Some, None}
 use Rattle.pi_terms.specs.Tree.{Tree, var, int, atom, comp}
 use Rattle.pi_terms.specs.Places.{held}
-use Rattle.pi_states.specs.Value.{Bindings}
-use Rattle.pi_states.specs.State.{State, Agent, WatchTree, on_ins, on_bound, on_dom, on_dom_any, on_posted, bindings}
-use Rattle.pi_states.specs.declared.event.Event.{Event}
-use Rattle.pi_states.specs.declared.event.Activation.{Activation}
+use Rattle.pi_constraints.specs.Value.{Bindings}
+use Rattle.pi_constraints.specs.State.{State, Agent, WatchTree, on_ins, on_bound, on_dom, on_dom_any, on_posted, bindings}
+use Rattle.pi_constraints.specs.declared.event.Event.{Event}
+use Rattle.pi_constraints.specs.declared.event.Activation.{Activation}
 
 abbrev pub leads_on : (Tree → Bool) → Option Tree → Bool
 leads_on test None = false

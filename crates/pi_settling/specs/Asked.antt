@@ -4,8 +4,8 @@ use Rattle.std.specs.Prelude.{ℕ, zero, suc, nat_lt, cond, List, [], ◌∷◌,
 use Rattle.pi_terms.specs.Tree.{Tree, var, int, atom, comp, cells, most_cells}
 use Rattle.pi_terms.specs.ListNames.{nil}
 use Rattle.pi_constraints.specs.declared.constraint.Item.{Item}
-use Rattle.pi_states.specs.Value.{Bindings, value}
-use Rattle.pi_states.specs.State.{State, bindings, followed}
+use Rattle.pi_constraints.specs.Value.{Bindings, value}
+use Rattle.pi_constraints.specs.State.{State, bindings, followed}
 use Rattle.pi_effects.specs.Exception.{term_too_large, exception_with, type_error}
 use Rattle.pi_effects.specs.Items.{list_items, collection_items}
 use Rattle.pi_settling.specs.Options.{Options, ReadOptions, options, bad_option, read_options}

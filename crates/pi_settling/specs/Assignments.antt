@@ -4,7 +4,7 @@ use Rattle.pi_terms.specs.Tree.{int}
 use Rattle.pi_constraints.specs.declared.constraint.Item.{Item}
 use Rattle.pi_filters.specs.Solutions.{value_of}
 use Rattle.pi_meaning.specs.Trace.{Trace, end, note, ans, Tick, Load, Out, done}
-use Rattle.pi_states.specs.State.{State, with_binding}
+use Rattle.pi_constraints.specs.State.{State, with_binding}
 use Rattle.pi_settling.specs.Roots.{root_item}
 use Rattle.pi_settling.specs.Settled.{loaded, IsSettled}
 use Rattle.pi_settling.specs.Solves.{Solves}

@@ -1,7 +1,7 @@
 -- The default domain: a variable of a labelling that has none gets all values that a domain can have. (A User's Guide to Picat, 'Constraints'; the bounds are own.)
 use Rattle.std.specs.Prelude.{ℕ, List, [], ◌∷◌, slice_index_or}
 use Rattle.pi_constraints.specs.declared.constraint.Item.{Item}
-use Rattle.pi_states.specs.State.{State, Variable, free, within, bound, with_domain}
+use Rattle.pi_constraints.specs.State.{State, Variable, free, within, bound, with_domain}
 use Rattle.pi_settling.specs.Roots.{root_item, all_values}
 
 -- a variable that is this in the state

@@ -3,8 +3,8 @@
 -- order are own.)
 use Rattle.std.specs.Prelude.{ℕ, cond, List, [], ◌∷◌, Option, Some, None, slice_get}
 use Rattle.pi_meaning.specs.Trace.{Trace, end, note, Deep, Tick, one, then}
-use Rattle.pi_states.specs.State.{State, Agent, with_waiting}
-use Rattle.pi_states.specs.declared.event.Activation.{Activation}
+use Rattle.pi_constraints.specs.State.{State, Agent, with_waiting}
+use Rattle.pi_constraints.specs.declared.event.Activation.{Activation}
 use Rattle.pi_settling.specs.Fire.{Rules, fired}
 
 -- what the next lower depth does: an activation's Tick takes one from the depth

@@ -5,8 +5,8 @@ use Rattle.std.specs.Prelude.{ℕ, zero, suc, Option, Some, None, slice_get}
 use Rattle.pi_terms.specs.Tree.{Tree}
 use Rattle.pi_meaning.specs.Trace.{Trace}
 use Rattle.pi_meaning.specs.Control.{chosen}
-use Rattle.pi_states.specs.State.{State, Agent, WatchTree, on_dom, on_dom_any, on_posted, with_ended}
-use Rattle.pi_states.specs.declared.event.Activation.{Activation}
+use Rattle.pi_constraints.specs.State.{State, Agent, WatchTree, on_dom, on_dom_any, on_posted, with_ended}
+use Rattle.pi_constraints.specs.declared.event.Activation.{Activation}
 
 -- a slot and the value that an event gives it
 pub record SlotValue : Type 0 where

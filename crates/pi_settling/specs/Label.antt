@@ -4,7 +4,7 @@
 use Rattle.std.specs.Prelude.{ℕ, zero, suc, List, [], ◌∷◌, Option, Some, None}
 use Rattle.pi_constraints.specs.declared.constraint.Item.{Item}
 use Rattle.pi_meaning.specs.Trace.{Trace, end, note, Deep, Tick, done, one, alt, then}
-use Rattle.pi_states.specs.State.{State}
+use Rattle.pi_constraints.specs.State.{State}
 use Rattle.pi_settling.specs.Options.{Options}
 use Rattle.pi_settling.specs.Confined.{confined}
 use Rattle.pi_settling.specs.Choices.{Pending, pending, picked, Alternative, alternatives, left_by, narrowed_to}

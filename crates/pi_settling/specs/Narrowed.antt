@@ -4,7 +4,7 @@ use Rattle.std.specs.Prelude.{◌≡◌, ◌↔◌, ℕ, ◌<◌, ◌≤◌, ℤ
 use Rattle.pi_terms.specs.Tree.{Tree, int}
 use Rattle.pi_constraints.specs.declared.domain.Span.{Span}
 use Rattle.pi_constraints.specs.Domain.{IsDomain, has_value, size_of}
-use Rattle.pi_states.specs.State.{State, Variable, free, within, bound, next}
+use Rattle.pi_constraints.specs.State.{State, Variable, free, within, bound, next}
 
 -- What a variable is that is left the values that are kept: one with a domain has those of its values, and is bound where there is one alone. All others are
 -- as they were.

@@ -5,8 +5,8 @@ use Rattle.pi_terms.specs.Tree.{Tree}
 use Rattle.pi_constraints.specs.declared.constraint.Constraint.{Constraint}
 use Rattle.pi_constraints.specs.declared.constraint.Item.{Item}
 use Rattle.pi_filters.specs.Places.{places_of}
-use Rattle.pi_states.specs.State.{State, with_constraint}
-use Rattle.pi_states.specs.Evaluation.{with_new_variables}
+use Rattle.pi_constraints.specs.State.{State, with_constraint}
+use Rattle.pi_constraints.specs.Evaluation.{with_new_variables}
 use Rattle.pi_effects.specs.Effect.{Effect, Succeeds, Raises}
 use Rattle.pi_settling.specs.Confined.{confined}
 use Rattle.pi_filters.specs.Steps.{Refusal}

@@ -3,9 +3,9 @@
 use Rattle.std.specs.Prelude.{nat_lt, cond, List, [], ◌∷◌, ◌++◌}
 use Rattle.pi_terms.specs.Tree.{Tree, var, int, atom, comp, cells, most_cells}
 use Rattle.pi_meaning.specs.Trace.{Trace, end, Raise, one}
-use Rattle.pi_states.specs.Value.{value}
-use Rattle.pi_states.specs.State.{State, bindings, followed, with_waiting}
-use Rattle.pi_states.specs.declared.event.Event.{Event}
+use Rattle.pi_constraints.specs.Value.{value}
+use Rattle.pi_constraints.specs.State.{State, bindings, followed, with_waiting}
+use Rattle.pi_constraints.specs.declared.event.Event.{Event}
 use Rattle.pi_effects.specs.Exception.{term_too_large}
 use Rattle.pi_settling.specs.Answers.{activations}
 

@@ -1,7 +1,7 @@
 -- The laws of propagation.
 use Rattle.std.specs.Prelude.{◌≡◌, ℕ, ◌+◌, ◌≤◌, List, [], ◌∷◌, length, Some, slice_get, sum_by}
 use Rattle.pi_constraints.specs.declared.constraint.Constraint.{Constraint}
-use Rattle.pi_states.specs.State.{State, IsState}
+use Rattle.pi_constraints.specs.State.{State, IsState}
 use Rattle.pi_settling.specs.Stable.{IsStable, IsEmptied}
 use Rattle.pi_settling.specs.SettlingLaws.{MaySettle}
 use Rattle.pi_settling.specs.Load.{count_lost}

@@ -2,8 +2,8 @@
 -- Picat, 'Constraints'.)
 use Rattle.std.specs.Prelude.{ℕ, List, Result, Ok, Err}
 use Rattle.pi_terms.specs.Tree.{Tree, comp, no_trees, tree}
-use Rattle.pi_states.specs.Value.{value}
-use Rattle.pi_states.specs.State.{State, bindings, next}
+use Rattle.pi_constraints.specs.Value.{value}
+use Rattle.pi_constraints.specs.State.{State, bindings, next}
 use Rattle.pi_meaning.specs.Trace.{Trace, end, Raise, one}
 use Rattle.pi_settling.specs.Reading.{Reading, Operand, reads, refuses}
 use Rattle.pi_filters.specs.Terms.{operand_of}

@@ -7,8 +7,8 @@ use Rattle.pi_terms.specs.Tree.{Tree, atom, comp, no_trees, tree}
 use Rattle.pi_constraints.specs.declared.domain.Span.{Span}
 use Rattle.pi_constraints.specs.declared.domain.TheConstants.{MAX_VALUE}
 use Rattle.pi_constraints.specs.Domain.{overlap}
-use Rattle.pi_states.specs.Value.{value}
-use Rattle.pi_states.specs.State.{State, bindings}
+use Rattle.pi_constraints.specs.Value.{value}
+use Rattle.pi_constraints.specs.State.{State, bindings}
 use Rattle.pi_effects.specs.Exception.{type_error, bad_range, range_too_long}
 use Rattle.pi_effects.specs.Answer.{Answer, integer_at}
 use Rattle.pi_effects.specs.Items.{list_items}

@@ -5,7 +5,7 @@ use Rattle.std.specs.Prelude.{ℕ, zero, suc, ℤ, Bool, true, false, List, Opti
 use Rattle.pi_terms.specs.Tree.{int}
 use Rattle.pi_meaning.specs.Trace.{Trace, end, Raise, Deep, done, one, then}
 use Rattle.pi_meaning.specs.Control.{chosen}
-use Rattle.pi_states.specs.State.{State}
+use Rattle.pi_constraints.specs.State.{State}
 use Rattle.pi_effects.specs.Exception.{type_error}
 use Rattle.pi_settling.specs.Options.{Objective}
 use Rattle.pi_settling.specs.Label.{Settling, labelling}

@@ -3,7 +3,7 @@
 use Rattle.std.specs.Prelude.{◌≡◌, ◌≢◌, ◌↔◌, ℕ, suc, ◌+◌, ◌<◌, List, ◌∷◌, ◌++◌, length, AllPairs, Contains, Some, slice_get}
 use Rattle.pi_constraints.specs.declared.constraint.Constraint.{Constraint}
 use Rattle.pi_core.specs.declared.log.Work.{Work}
-use Rattle.pi_states.specs.State.{State, IsState}
+use Rattle.pi_constraints.specs.State.{State, IsState}
 use Rattle.pi_settling.specs.SettlingLaws.{MaySettle}
 use Rattle.pi_settling.specs.Run.{HasVariable, LosesValue, IsRun, ChangesNothing}
 

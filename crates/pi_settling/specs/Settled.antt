@@ -3,7 +3,7 @@
 -- is made of.)
 use Rattle.std.specs.Prelude.{◌≡◌, ◌⊎◌, ℕ, zero, suc, ◌++◌}
 use Rattle.pi_meaning.specs.Trace.{Trace, note, Load, one, done}
-use Rattle.pi_states.specs.State.{State, with_waiting}
+use Rattle.pi_constraints.specs.State.{State, with_waiting}
 use Rattle.pi_settling.specs.Stable.{IsEmptied, IsStable}
 use Rattle.pi_settling.specs.Events.{events_between}
 use Rattle.pi_settling.specs.Answers.{activations}

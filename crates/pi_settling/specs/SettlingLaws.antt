@@ -9,10 +9,10 @@ use Rattle.pi_constraints.specs.Domain.{IsWithinBounds, has_value}
 use Rattle.pi_filters.specs.Places.{places_of}
 use Rattle.pi_filters.specs.Solutions.{value_of}
 use Rattle.pi_meaning.specs.Trace.{Trace, one}
-use Rattle.pi_states.specs.Value.{Bindings, IsAcyclic}
-use Rattle.pi_states.specs.State.{State, WatchTree, IsState, bindings, domain_of, LeadsTo}
-use Rattle.pi_states.specs.declared.event.Event.{Event}
-use Rattle.pi_states.specs.declared.event.Activation.{Activation}
+use Rattle.pi_constraints.specs.Value.{Bindings, IsAcyclic}
+use Rattle.pi_constraints.specs.State.{State, WatchTree, IsState, bindings, domain_of, LeadsTo}
+use Rattle.pi_constraints.specs.declared.event.Event.{Event}
+use Rattle.pi_constraints.specs.declared.event.Activation.{Activation}
 use Rattle.pi_settling.specs.Roots.{root_item, Counts}
 use Rattle.pi_settling.specs.Stable.{Domains, LieBelow, NoFilterChanges, Stays, IsStable}
 use Rattle.pi_settling.specs.Events.{events_between}

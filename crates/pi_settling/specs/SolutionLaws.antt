@@ -7,7 +7,7 @@ use Rattle.pi_constraints.specs.declared.constraint.Item.{Item}
 use Rattle.pi_constraints.specs.declared.constraint.Constraint.{Constraint}
 use Rattle.pi_filters.specs.Places.{places_of, sum_places}
 use Rattle.pi_meaning.specs.Trace.{Trace, Done, one, answers, end_of}
-use Rattle.pi_states.specs.State.{State, bindings, next, SpeaksBelow, IsState}
+use Rattle.pi_constraints.specs.State.{State, bindings, next, SpeaksBelow, IsState}
 use Rattle.pi_settling.specs.Roots.{root_item}
 use Rattle.pi_settling.specs.Stable.{IsStable}
 use Rattle.pi_settling.specs.SettlingLaws.{MaySettle, Settles}

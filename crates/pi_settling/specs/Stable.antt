@@ -9,7 +9,7 @@ use Rattle.pi_constraints.specs.declared.domain.Span.{Span}
 use Rattle.pi_constraints.specs.Domain.{IsDomain, has_value, size_of}
 use Rattle.pi_filters.specs.Places.{places_of, domain_at}
 use Rattle.pi_filters.specs.Filter.{Leaves}
-use Rattle.pi_states.specs.State.{State, Variable, free, within, bound, next}
+use Rattle.pi_constraints.specs.State.{State, Variable, free, within, bound, next}
 use Rattle.pi_settling.specs.Roots.{root_item, given, Counts}
 
 -- a domain for each item whose bindings are followed

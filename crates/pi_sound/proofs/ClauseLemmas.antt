@@ -3,7 +3,7 @@ use Rattle.std.proofs.Common.{◌≡◌, ◌++◌, ℕ, Bool, true, false, cond,
 use Rattle.std.proofs.lemmas.Bool.{false≢true, and_parts}
 use Rattle.std.specs.Prelude.{Option, Some, None, ◌↔◌, IsSome, IsTrue, ◌&&◌}
 use Rattle.pi_terms.specs.Tree.{Tree}
-use Rattle.pi_states.specs.State.{SpeaksBelow}
+use Rattle.pi_constraints.specs.State.{SpeaksBelow}
 use Rattle.pi_core.specs.GoalTree.{truth, seq, goals_of}
 use Rattle.pi_core.specs.CoreTree.{ClauseTree, PredTree}
 use Rattle.pi_syntax.specs.ExpTree.{ExpTree}

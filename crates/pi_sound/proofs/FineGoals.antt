@@ -4,8 +4,8 @@ use Rattle.std.specs.Prelude.{Contains, IsTrue, ⊤}
 use Rattle.std.proofs.lemmas.Bool.{false≢true}
 use Rattle.std.proofs.lemmas.List.Elements.{Contains-append_cases}
 use Rattle.pi_terms.specs.Tree.{Tree, trees_of}
-use Rattle.pi_states.specs.State.{SpeaksBelow}
-use Rattle.pi_states.proofs.KeepsLemmas.{TreesBelow}
+use Rattle.pi_constraints.specs.State.{SpeaksBelow}
+use Rattle.pi_constraints.proofs.KeepsLemmas.{TreesBelow}
 use Rattle.pi_core.specs.GoalTree.{GoalTree, truth, fail, tick, call, apply, seq, alternatives, if_else, not, once, collect, count, catch, GoalTrees, no_goals, goal, goals_of, subgoals, subgoals_all}
 use Rattle.pi_meaning.specs.Quiet.{Callee, Passes, Reaches, ReachesInAll, ReachesInAny}
 use Rattle.pi_meaning.specs.Sound.{NamesBelow, SlotsBelow}

@@ -6,7 +6,7 @@ use Rattle.std.proofs.lemmas.Bool.{false≢true, and_parts}
 use Rattle.std.proofs.lemmas.List.{append-nil}
 use Rattle.pi_terms.specs.Tree.{Tree, comp}
 use Rattle.pi_terms.specs.ListNames.{nil}
-use Rattle.pi_states.proofs.KeepsLemmas.{comp-below}
+use Rattle.pi_constraints.proofs.KeepsLemmas.{comp-below}
 use Rattle.pi_syntax.specs.PrintTerm.{array_name}
 use Rattle.pi_syntax.specs.ExpTree.{ExpTree, var, int, atom, str, list, list_onto, array, call, quote, index, range, range_by, collect, and, or, arrow, if_then, if_else, foreach, while_do, do_while, ExpTrees, no_exps, exp, ExpBranches, no_branches, branch}
 use Rattle.pi_syntax.specs.Signature.{exp_count}

@@ -7,7 +7,7 @@ use Rattle.std.proofs.lemmas.List.{append-nil}
 use Rattle.pi_terms.specs.Tree.{Tree, no_trees}
 use Rattle.pi_terms.specs.ListNames.{nil, cell_name}
 use Rattle.pi_terms.specs.ListCopies.{list_cell}
-use Rattle.pi_states.proofs.KeepsLemmas.{comp-below}
+use Rattle.pi_constraints.proofs.KeepsLemmas.{comp-below}
 use Rattle.pi_effects.specs.Inner.{itself_name}
 use Rattle.pi_syntax.specs.ExpTree.{ExpTree, array, ExpTrees, exp}
 use Rattle.pi_core.specs.GoalTree.{truth, apply}

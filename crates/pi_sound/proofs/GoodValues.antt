@@ -3,8 +3,8 @@ use Rattle.std.proofs.Common.{◌≡◌, ℕ, ◌+◌, ◌≤◌, ◌<◌, Bool,
 use Rattle.std.specs.Prelude.{Option, Some, None, codes, IsTrue}
 use Rattle.std.proofs.lemmas.List.{append-nil}
 use Rattle.pi_terms.specs.Tree.{Tree, Trees, no_trees, trees_of, comp}
-use Rattle.pi_states.specs.State.{SpeaksBelow}
-use Rattle.pi_states.proofs.KeepsLemmas.{TreesBelow}
+use Rattle.pi_constraints.specs.State.{SpeaksBelow}
+use Rattle.pi_constraints.proofs.KeepsLemmas.{TreesBelow}
 use Rattle.pi_effects.specs.BuiltIns.{is_function}
 use Rattle.pi_effects.specs.Indexing.{index_name}
 use Rattle.pi_effects.specs.Inner.{itself_name}

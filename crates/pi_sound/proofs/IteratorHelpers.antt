@@ -4,8 +4,8 @@ use Rattle.std.specs.Prelude.{IsTrue, codes, pos, replicate}
 use Rattle.pi_terms.specs.Tree.{Tree, no_trees, trees_of}
 use Rattle.pi_terms.specs.ListNames.{nil, cell_name}
 use Rattle.pi_terms.specs.PatternTree.{PatternTree, slot, exact_atom, compound, no_patterns, pattern, HaveSlot}
-use Rattle.pi_states.specs.State.{SpeaksBelow}
-use Rattle.pi_states.proofs.KeepsLemmas.{TreesBelow, int-below}
+use Rattle.pi_constraints.specs.State.{SpeaksBelow}
+use Rattle.pi_constraints.proofs.KeepsLemmas.{TreesBelow, int-below}
 use Rattle.pi_effects.specs.Indexing.{index_name}
 use Rattle.pi_syntax.specs.ExpTree.{ExpTree}
 use Rattle.pi_core.specs.GoalTree.{GoalTree, tick, if_else, call, apply}

@@ -2,8 +2,8 @@
 use Rattle.std.proofs.Common.{◌≡◌, ℕ, suc, ◌+◌, ◌-◌, ◌≤◌, ◌<◌, List, [], ◌∷◌, ◌++◌, length, sym, ◌∙◌, subst, arith, length-append}
 use Rattle.std.specs.Prelude.{codes, IsTrue, pos, false, true}
 use Rattle.pi_terms.specs.Tree.{Tree, no_trees, trees_of, comp}
-use Rattle.pi_states.specs.State.{SpeaksBelow}
-use Rattle.pi_states.proofs.KeepsLemmas.{TreesBelow, comp-below, int-below}
+use Rattle.pi_constraints.specs.State.{SpeaksBelow}
+use Rattle.pi_constraints.proofs.KeepsLemmas.{TreesBelow, comp-below, int-below}
 use Rattle.pi_syntax.specs.PrintTerm.{array_name}
 use Rattle.pi_effects.specs.Inner.{itself_name, in_order_name, range_count_name}
 use Rattle.pi_syntax.specs.ExpTree.{array}

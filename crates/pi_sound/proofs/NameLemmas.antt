@@ -3,7 +3,7 @@ use Rattle.std.proofs.Common.{◌≡◌, ◌⊎◌, inl, inr, ℕ, Bool, true, f
 use Rattle.std.proofs.lemmas.Bool.{false≢true, and_parts, or_left, eqb-true}
 use Rattle.std.specs.Prelude.{not, codes, IsTrue, ◌==◌, ◌||◌}
 use Rattle.std.specs.Str.{bytes_eq}
-use Rattle.pi_states.proofs.MatchLemmas.{same_name}
+use Rattle.pi_constraints.proofs.MatchLemmas.{same_name}
 use Rattle.pi_effects.specs.Rows.{has_line}
 use Rattle.pi_effects.specs.Comparing.{comparing_tests}
 use Rattle.pi_effects.specs.Kinds.{kind_tests}

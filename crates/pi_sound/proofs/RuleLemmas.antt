@@ -2,7 +2,7 @@
 use Rattle.std.specs.Prelude.{◌≡◌, ◌&&◌, ◌||◌, ℕ, zero, suc, true, false, List, [], ◌∷◌, Option, Some, None, codes, refl}
 use Rattle.std.proofs.lemmas.Bool.{and_parts, or_parts}
 use Rattle.pi_terms.specs.Tree.{Tree, comp, Trees, tree_count}
-use Rattle.pi_states.specs.State.{State, bindings}
+use Rattle.pi_constraints.specs.State.{State, bindings}
 use Rattle.pi_syntax.specs.ExpTree.{ExpTree}
 use Rattle.pi_syntax.specs.ProgramTree.{RuleTree, FunctionTree, ProgramTree}
 use Rattle.pi_syntax.specs.declared.program.Mode.{Mode}

@@ -5,7 +5,7 @@ use Rattle.std.specs.Str.{bytes_eq}
 use Rattle.std.proofs.lemmas.Bool.{true≢false}
 use Rattle.pi_terms.specs.Tree.{Tree, trees_of}
 use Rattle.pi_terms.specs.PatternTree.{HaveSlot}
-use Rattle.pi_states.proofs.KeepsLemmas.{TreesBelow}
+use Rattle.pi_constraints.proofs.KeepsLemmas.{TreesBelow}
 use Rattle.pi_meaning.specs.Sound.{pattern_count}
 use Rattle.pi_meaning.specs.Texts.{Names, is_among}
 use Rattle.pi_meaning.proofs.LoopNames.{among-append, Within}

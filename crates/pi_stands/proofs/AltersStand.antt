@@ -3,7 +3,7 @@ use Rattle.std.proofs.Common.{◌≡◌, ◌≢◌, ◌⊎◌, inl, inr, ℕ, ze
 use Rattle.std.specs.Prelude.{slice_get, slice_set}
 use Rattle.std.proofs.lemmas.List.{take-set, take_all, length-set, length-append}
 use Rattle.pi_terms.specs.Tree.{Tree}
-use Rattle.pi_states.specs.State.{State}
+use Rattle.pi_constraints.specs.State.{State}
 use Rattle.pi_core.specs.GoalTree.{GoalTree}
 use Rattle.pi_arenas.specs.declared.arenas.Kind.{Kind}
 use Rattle.pi_arenas.specs.Blocks.{brought_back}
@@ -13,7 +13,7 @@ use Rattle.pi_meaning.specs.Configuration.{Entry as EntryData, choice, strict, c
 use Rattle.pi_meaning.specs.Shape.{open_level}
 use Rattle.pi_stands.specs.Here.{Here}
 use Rattle.pi_stands.specs.Stands.{World, Loaded, entries_of, ends_of, entry_ends, back_here, agrees_from, Agrees, KindIs, rules_kind, facts_kind, branches_kind, once_kind, not_kind, if_kind, guard_kind, apply_kind, collect_kind, count_kind, catch_kind, exit_kind, EntryIs, IsAbove, StackIs, entry_above, StackStands}
-use Rattle.pi_states.specs.Store.{Extend}
+use Rattle.pi_constraints.specs.Store.{Extend}
 use Rattle.pi_meaning.proofs.StackLemmas.{IsClosed}
 use Rattle.pi_terms.proofs.OptionLemmas.{one-some}
 use Rattle.pi_stands.proofs.StandsLemmas.{moved, here_of, stack-moves, kind-order}

@@ -5,15 +5,15 @@ use Rattle.std.proofs.lemmas.List.{length-append}
 use Rattle.pi_terms.proofs.GetLemmas.{get_append_last}
 use Rattle.pi_terms.specs.Tree.{Tree, Trees, comp, trees_of, tree_count}
 use Rattle.pi_terms.specs.Places.{Places}
-use Rattle.pi_states.specs.Store.{StoreView, Marks, Extend}
-use Rattle.pi_states.specs.State.{IsState}
+use Rattle.pi_constraints.specs.Store.{StoreView, Marks, Extend}
+use Rattle.pi_constraints.specs.State.{IsState}
 use Rattle.pi_meaning.specs.View.{View}
 use Rattle.pi_meaning.specs.Names.{is_given}
 use Rattle.pi_core.specs.CoreTree.{find_pred, PredTree}
-use Rattle.pi_states.specs.Evaluation.{EvaluatedAll, evaluated_all}
+use Rattle.pi_constraints.specs.Evaluation.{EvaluatedAll, evaluated_all}
 use Rattle.pi_effects.specs.BuiltIns.{is_function}
 use Rattle.pi_core.specs.GoalTree.{GoalTree, GoalTrees, apply, goal, nodes}
-use Rattle.pi_states.specs.declared.store.Ref.{Ref}
+use Rattle.pi_constraints.specs.declared.store.Ref.{Ref}
 use Rattle.pi_arenas.specs.declared.frames.Point.{Point}
 use Rattle.pi_code.specs.declared.code.Node.{Node}
 use Rattle.pi_code.specs.declared.code.Step.{Step}

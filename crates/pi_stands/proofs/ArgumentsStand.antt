@@ -5,10 +5,10 @@ use Rattle.std.proofs.lemmas.List.{map-append}
 use Rattle.pi_terms.specs.Tree.{Tree, Trees, no_trees, tree, trees_of}
 use Rattle.pi_terms.specs.TermCells.{append_trees}
 use Rattle.pi_terms.specs.Places.{Places}
-use Rattle.pi_states.specs.State.{State}
-use Rattle.pi_states.specs.Store.{StoreView, IsTerm, AreTerms}
-use Rattle.pi_states.specs.Evaluation.{Evaluated, EvaluatedAll, evaluated, evaluated_all}
-use Rattle.pi_states.specs.declared.store.Ref.{Ref}
+use Rattle.pi_constraints.specs.State.{State}
+use Rattle.pi_constraints.specs.Store.{StoreView, IsTerm, AreTerms}
+use Rattle.pi_constraints.specs.Evaluation.{Evaluated, EvaluatedAll, evaluated, evaluated_all}
+use Rattle.pi_constraints.specs.declared.store.Ref.{Ref}
 use Rattle.pi_terms.proofs.GetLemmas.{take_more}
 use Rattle.pi_unify.proofs.KeepsLemmas.{terms_kept}
 use Rattle.pi_code.specs.declared.code.Operand.{Operand}

@@ -3,8 +3,8 @@ use Rattle.std.proofs.Common.{◌≡◌, ℕ, zero, suc, ◌-◌, ◌≤◌, min
 use Rattle.std.specs.Prelude.{slice_get}
 use Rattle.std.proofs.lemmas.List.{length-take, take_all}
 use Rattle.pi_terms.specs.Tree.{Tree}
-use Rattle.pi_states.specs.State.{IsState}
-use Rattle.pi_states.specs.Store.{StoreView, IsGood, Returns, Extend}
+use Rattle.pi_constraints.specs.State.{IsState}
+use Rattle.pi_constraints.specs.Store.{StoreView, IsGood, Returns, Extend}
 use Rattle.pi_arenas.specs.declared.arenas.Back.{Back}
 use Rattle.pi_arenas.specs.declared.blocks.BlocksMark.{BlocksMark}
 use Rattle.pi_arenas.specs.Blocks.{IsKept, brought_back}

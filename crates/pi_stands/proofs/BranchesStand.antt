@@ -4,8 +4,8 @@ use Rattle.std.specs.Prelude.{slice_get, slice_set}
 use Rattle.std.proofs.lemmas.List.{length-append, length-set}
 use Rattle.pi_terms.specs.Tree.{Tree}
 use Rattle.pi_terms.specs.Places.{Places}
-use Rattle.pi_states.specs.State.{IsState}
-use Rattle.pi_states.specs.Store.{StoreView, Marks}
+use Rattle.pi_constraints.specs.State.{IsState}
+use Rattle.pi_constraints.specs.Store.{StoreView, Marks}
 use Rattle.pi_meaning.specs.View.{View}
 use Rattle.pi_core.specs.GoalTree.{GoalTree, GoalTrees, no_goals, goal, alternatives, count_goals, children, child_count, nodes, nodes_all}
 use Rattle.pi_core.specs.GoalCells.{flat_all}

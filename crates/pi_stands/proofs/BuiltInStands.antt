@@ -3,11 +3,11 @@ use Rattle.std.proofs.Common.{◌≡◌, ℕ, ◌+◌, ◌≤◌, ◌<◌, true,
 use Rattle.std.specs.Prelude.{slice_get, slice_set, slice_index_or, pos, negsuc}
 use Rattle.pi_terms.specs.Tree.{Tree, trees_of, tree_count}
 use Rattle.pi_terms.specs.Places.{Places}
-use Rattle.pi_states.specs.State.{State, IsState}
-use Rattle.pi_states.specs.Store.{StoreView, Stays, Gives as GivesTerm}
-use Rattle.pi_states.specs.Evaluation.{EvaluatedAll, evaluated_all}
-use Rattle.pi_states.specs.declared.store.Ref.{Ref}
-use Rattle.pi_states.proofs.KeepsLemmas.{news-keep}
+use Rattle.pi_constraints.specs.State.{State, IsState}
+use Rattle.pi_constraints.specs.Store.{StoreView, Stays, Gives as GivesTerm}
+use Rattle.pi_constraints.specs.Evaluation.{EvaluatedAll, evaluated_all}
+use Rattle.pi_constraints.specs.declared.store.Ref.{Ref}
+use Rattle.pi_constraints.proofs.KeepsLemmas.{news-keep}
 use Rattle.pi_effects.specs.Effect.{Effect, Succeeds, Fails, Writes as WritesText, Raises, FunctionEffect, Gives, Refuses}
 use Rattle.pi_effects.specs.BuiltIns.{built_in_predicate, built_in_function, is_predicate, is_function, OnlyMakesVariables}
 use Rattle.pi_effects.proofs.BuiltInLemmas.{predicates-listed, functions-listed, functions-make}

@@ -5,10 +5,10 @@ use Rattle.std.proofs.lemmas.List.{reverse-append, reverse-reverse}
 use Rattle.pi_terms.specs.Tree.{Tree, Trees, no_trees, tree, comp, drop_trees}
 use Rattle.pi_terms.specs.TermCells.{take_trees}
 use Rattle.pi_terms.specs.Places.{Places, held}
-use Rattle.pi_states.specs.State.{State}
-use Rattle.pi_states.specs.Store.{StoreView, IsTerm, AreTerms, Stays, Extend}
-use Rattle.pi_states.specs.Evaluation.{evaluated, evaluated_all, slot_term}
-use Rattle.pi_states.specs.declared.store.Ref.{Ref}
+use Rattle.pi_constraints.specs.State.{State}
+use Rattle.pi_constraints.specs.Store.{StoreView, IsTerm, AreTerms, Stays, Extend}
+use Rattle.pi_constraints.specs.Evaluation.{evaluated, evaluated_all, slot_term}
+use Rattle.pi_constraints.specs.declared.store.Ref.{Ref}
 use Rattle.pi_unify.specs.Copying.{AreBuilt}
 use Rattle.pi_unify.proofs.KeepsLemmas.{terms_kept}
 use Rattle.pi_code.specs.declared.code.Part.{Part}
@@ -17,7 +17,7 @@ use Rattle.pi_code.specs.Code.{Tables, term_at, with_part, spelled_parts}
 use Rattle.pi_stands.specs.Here.{Block, Holds, IsReadablePart}
 use Rattle.pi_stands.specs.Evaluates.{Writes, Evaluates, part_on, IsFilledPart, parts_between, AreReadableParts, AreFilledParts}
 use Rattle.pi_stands.proofs.HereLemmas.{holds-extends}
-use Rattle.pi_states.proofs.StateLemmas.{extends}
+use Rattle.pi_constraints.proofs.StateLemmas.{extends}
 use Rattle.pi_stands.proofs.SlotsStand.{writes-none, writes-then}
 use Rattle.pi_stands.proofs.PartsStand.{known-is, parts-first, part-evaluated}
 use Rattle.pi_stands.proofs.FillLemmas.{part-here, readable-here}

@@ -3,7 +3,7 @@ use Rattle.std.proofs.Common.{◌≡◌, ℕ, zero, suc, ◌-◌, ◌≤◌, ◌
 use Rattle.std.specs.Prelude.{slice_get, slice_set}
 use Rattle.std.proofs.lemmas.List.{take-set, length-take-le}
 use Rattle.pi_terms.proofs.ListLemmas.{take-take}
-use Rattle.pi_states.specs.Store.{StoreView, Stays}
+use Rattle.pi_constraints.specs.Store.{StoreView, Stays}
 use Rattle.pi_arenas.specs.declared.arenas.Kind.{Kind}
 use Rattle.pi_arenas.specs.declared.blocks.BlocksMark.{BlocksMark}
 use Rattle.pi_arenas.specs.Blocks.{IsKept, brought_back}

@@ -2,8 +2,8 @@
 use Rattle.std.proofs.Common.{◌≡◌, ℕ, zero, suc, ◌+◌, ◌-◌, ◌≤◌, Bool, List, [], ◌∷◌, ◌++◌, Option, Some, length, take, refl, sym, ◌∙◌, ap, subst, arith}
 use Rattle.std.specs.Prelude.{slice_get, slice_set}
 use Rattle.std.proofs.lemmas.List.{length-set, length-append, length-take-le, take_all}
-use Rattle.pi_states.specs.Store.{StoreView, Marks, Extend}
-use Rattle.pi_states.specs.State.{State}
+use Rattle.pi_constraints.specs.Store.{StoreView, Marks, Extend}
+use Rattle.pi_constraints.specs.State.{State}
 use Rattle.pi_core.specs.CoreTree.{ClauseTree, PredTree}
 use Rattle.pi_terms.proofs.GetLemmas.{get_append_last}
 use Rattle.pi_arenas.specs.declared.arenas.Kind.{Kind}

@@ -3,9 +3,9 @@ use Rattle.std.proofs.Common.{◌≡◌, ℕ, List, [], ◌∷◌, Option, Some,
 use Rattle.std.specs.Prelude.{codes}
 use Rattle.pi_terms.specs.Tree.{Tree, Trees, no_trees, tree, tree_count, var, int, atom, comp}
 use Rattle.pi_terms.specs.Places.{Places, held}
-use Rattle.pi_states.specs.State.{State, IsState, bindings}
+use Rattle.pi_constraints.specs.State.{State, IsState, bindings}
 use Rattle.pi_meaning.specs.View.{View}
-use Rattle.pi_states.specs.Unify.{unified}
+use Rattle.pi_constraints.specs.Unify.{unified}
 use Rattle.pi_effects.specs.Effect.{succeeds_in}
 use Rattle.pi_effects.specs.Exception.{thrown}
 use Rattle.pi_effects.specs.Rows.{done_by}
@@ -13,13 +13,13 @@ use Rattle.pi_effects.specs.Comparing.{comparing_tests}
 use Rattle.pi_effects.specs.Kinds.{kind_tests}
 use Rattle.pi_effects.specs.Texts.{writing_predicates}
 use Rattle.pi_effects.specs.BuiltIns.{tests, other_predicates, built_in_predicate}
-use Rattle.pi_states.specs.Evaluation.{Evaluated, slot_term, evaluated, evaluated_all}
+use Rattle.pi_constraints.specs.Evaluation.{Evaluated, slot_term, evaluated, evaluated_all}
 use Rattle.pi_core.specs.CoreTree.{PredTree}
 use Rattle.pi_core.specs.GoalTree.{GoalTree, truth, fail, tick, call, apply, seq, alternatives, if_else, not, once, collect, count, catch, GoalTrees}
 use Rattle.pi_core.specs.GoalCells.{kind_of}
 use Rattle.pi_core.specs.declared.goal_node.GoalKind.{GoalKind}
-use Rattle.pi_states.proofs.KeepsLemmas.{new-keeps}
-use Rattle.pi_states.specs.Value.{value}
+use Rattle.pi_constraints.proofs.KeepsLemmas.{new-keeps}
+use Rattle.pi_constraints.specs.Value.{value}
 use Rattle.pi_stands.specs.Makes.{raised_for}
 use Rattle.pi_meaning.specs.Configuration.{Frame, Entry, Now, going, failed, raising, config}
 use Rattle.pi_meaning.specs.Step.{silently, done_now, goal_step}

@@ -5,10 +5,10 @@ use Rattle.std.proofs.lemmas.List.{length-take-le, length-append, take-append-le
 use Rattle.std.proofs.Math.Seq.{drop-append_seam, take-length}
 use Rattle.pi_terms.specs.Tree.{Tree, Trees, no_trees, tree, tree_count}
 use Rattle.pi_terms.specs.Places.{Places}
-use Rattle.pi_states.specs.Store.{StoreView, AreTerms}
+use Rattle.pi_constraints.specs.Store.{StoreView, AreTerms}
 use Rattle.pi_core.specs.CoreTree.{ClauseTree, PredTree}
 use Rattle.pi_core.specs.GoalTree.{GoalTrees}
-use Rattle.pi_states.specs.declared.store.Ref.{Ref}
+use Rattle.pi_constraints.specs.declared.store.Ref.{Ref}
 use Rattle.pi_code.specs.declared.code.Step.{Step}
 use Rattle.pi_code.specs.declared.code.Predicate.{Predicate}
 use Rattle.pi_code.specs.Code.{Tables}

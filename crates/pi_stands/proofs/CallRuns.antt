@@ -5,15 +5,15 @@ use Rattle.std.proofs.lemmas.List.{length-take-le, length-drop}
 use Rattle.std.proofs.lemmas.Option.{slice_get_within, get_or_from_slice_get}
 use Rattle.pi_terms.specs.Tree.{Tree, Trees, no_trees, tree, trees_of, tree_count}
 use Rattle.pi_terms.specs.Places.{Places}
-use Rattle.pi_states.specs.Store.{StoreView}
-use Rattle.pi_states.specs.State.{State, IsState}
+use Rattle.pi_constraints.specs.Store.{StoreView}
+use Rattle.pi_constraints.specs.State.{State, IsState}
 use Rattle.pi_meaning.specs.View.{View}
 use Rattle.pi_meaning.specs.Names.{is_given}
 use Rattle.pi_core.specs.CoreTree.{find_pred, PredTree, pred_tree}
-use Rattle.pi_states.specs.Evaluation.{evaluated, EvaluatedAll, evaluated_all}
+use Rattle.pi_constraints.specs.Evaluation.{evaluated, EvaluatedAll, evaluated_all}
 use Rattle.pi_core.specs.GoalTree.{GoalTree, GoalTrees, call, goal, nodes}
 use Rattle.pi_core.specs.declared.core_program.CorePred.{CorePred}
-use Rattle.pi_states.specs.declared.store.Ref.{Ref}
+use Rattle.pi_constraints.specs.declared.store.Ref.{Ref}
 use Rattle.pi_arenas.specs.declared.frames.Point.{Point}
 use Rattle.pi_code.specs.declared.code.Node.{Node}
 use Rattle.pi_code.specs.declared.code.Step.{Step}

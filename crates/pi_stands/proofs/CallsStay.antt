@@ -1,8 +1,8 @@
 -- A call, where the store has more terms, in the state that it had.
 use Rattle.std.proofs.Common.{◌≡◌, ℕ, zero, suc, ◌+◌, ◌≤◌, Bool, true, List, ◌∷◌, Option, Some, length, take, refl, sym, ◌∙◌, ap, subst, arith}
 use Rattle.std.specs.Prelude.{slice_get}
-use Rattle.pi_states.specs.State.{State, IsState}
-use Rattle.pi_states.specs.Store.{StoreView, Keeps, Stays, Extend}
+use Rattle.pi_constraints.specs.State.{State, IsState}
+use Rattle.pi_constraints.specs.Store.{StoreView, Keeps, Stays, Extend}
 use Rattle.pi_core.specs.CoreTree.{ClauseTree}
 use Rattle.pi_arenas.specs.Arenas.{entry_at}
 use Rattle.pi_arenas.specs.declared.arenas.Entry.{Entry}

@@ -1,7 +1,7 @@
 -- A call whose rules are tried one after the other.
 use Rattle.std.proofs.Common.{◌≡◌, ℕ, zero, suc, ◌+◌, ◌≤◌, Bool, true, List, ◌∷◌, Option, Some, length, take, refl, sym, ◌∙◌, ap, subst, arith}
 use Rattle.std.specs.Prelude.{slice_get}
-use Rattle.pi_states.specs.State.{State}
+use Rattle.pi_constraints.specs.State.{State}
 use Rattle.pi_core.specs.CoreTree.{ClauseTree, PredTree}
 use Rattle.pi_arenas.specs.declared.run.Now.{Now}
 use Rattle.pi_arenas.specs.Frames.{frame_at}
@@ -10,7 +10,7 @@ use Rattle.pi_arenas.specs.declared.arenas.Entry.{Entry}
 use Rattle.pi_meaning.specs.Configuration.{Frame, Called, config, failed, Entry as EntryData}
 use Rattle.pi_stands.specs.Here.{Here}
 use Rattle.pi_stands.specs.Stands.{World, tables_in, steps_of, entries_of, entry_ends, level_ends, now_here, back_here, agrees_from, CallStands, EntryIs, StackIs, entry_above, Stands, failing_now}
-use Rattle.pi_states.specs.Store.{Extend}
+use Rattle.pi_constraints.specs.Store.{Extend}
 use Rattle.pi_stands.specs.Tries.{RulesLeft, OwnEntry, HasEntry, no_entry, own_entry, CallIs, KeepsBelow}
 use Rattle.pi_stands.proofs.HereLemmas.{Moves, goes_on-moves}
 use Rattle.pi_stands.proofs.StandsLemmas.{moved, Leaves, EntryFacts, entry-facts, back-stays, entry-moves, stack-moves, stack-length, open_level-within, agrees-moves}

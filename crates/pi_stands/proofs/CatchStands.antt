@@ -4,11 +4,11 @@ use Rattle.std.specs.Prelude.{slice_get}
 use Rattle.pi_terms.specs.Tree.{Tree}
 use Rattle.pi_terms.specs.Places.{Places}
 use Rattle.pi_meaning.specs.View.{View}
-use Rattle.pi_states.specs.State.{IsState, SpeaksBelow}
-use Rattle.pi_states.specs.Store.{StoreView, Marks}
-use Rattle.pi_states.specs.Evaluation.{Evaluated, evaluated}
+use Rattle.pi_constraints.specs.State.{IsState, SpeaksBelow}
+use Rattle.pi_constraints.specs.Store.{StoreView, Marks}
+use Rattle.pi_constraints.specs.Evaluation.{Evaluated, evaluated}
 use Rattle.pi_core.specs.GoalTree.{GoalTree, GoalTrees, no_goals, goal, catch, children, child_count, count_goals}
-use Rattle.pi_states.specs.declared.store.Ref.{Ref}
+use Rattle.pi_constraints.specs.declared.store.Ref.{Ref}
 use Rattle.pi_arenas.specs.declared.frames.Point.{Point}
 use Rattle.pi_arenas.specs.declared.arenas.Kind.{Kind}
 use Rattle.pi_code.specs.declared.code.Step.{Step}

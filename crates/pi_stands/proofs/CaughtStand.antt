@@ -4,13 +4,13 @@ use Rattle.std.specs.Prelude.{slice_get, if◌then◌else◌}
 use Rattle.pi_terms.specs.Tree.{Tree}
 use Rattle.pi_terms.specs.Places.{Places}
 use Rattle.pi_terms.specs.Copy.{copy, new_variables}
-use Rattle.pi_states.specs.State.{State, IsState, SpeaksBelow, next, with_new}
-use Rattle.pi_states.specs.declared.store.Ref.{Ref}
-use Rattle.pi_states.proofs.KeepsLemmas.{news-keep}
+use Rattle.pi_constraints.specs.State.{State, IsState, SpeaksBelow, next, with_new}
+use Rattle.pi_constraints.specs.declared.store.Ref.{Ref}
+use Rattle.pi_constraints.proofs.KeepsLemmas.{news-keep}
 use Rattle.pi_unify.proofs.KeepsLemmas.{keeps_then}
-use Rattle.pi_states.specs.Store.{StoreView, Keeps, Gives, IsTerm}
-use Rattle.pi_states.specs.Unify.{unified}
-use Rattle.pi_states.specs.Evaluation.{Evaluated, evaluated, with_new_variables}
+use Rattle.pi_constraints.specs.Store.{StoreView, Keeps, Gives, IsTerm}
+use Rattle.pi_constraints.specs.Unify.{unified}
+use Rattle.pi_constraints.specs.Evaluation.{Evaluated, evaluated, with_new_variables}
 use Rattle.pi_core.specs.GoalTree.{GoalTree, no_goals, goal, goal_at, catch, children, child, child_count, count_goals, nodes}
 use Rattle.pi_core.specs.GoalCells.{kind_of}
 use Rattle.pi_unify.specs.Answers.{Answers}

@@ -5,15 +5,15 @@ use Rattle.std.proofs.lemmas.Bool.{lt-ltb}
 use Rattle.std.proofs.lemmas.List.{take_all, length-append, length-drop, drop-append-le, take-append-le}
 use Rattle.pi_terms.specs.Tree.{Tree, var, atom, cells, most_cells}
 use Rattle.pi_terms.specs.Places.{Places, held}
-use Rattle.pi_states.specs.State.{State, IsState, bindings}
-use Rattle.pi_states.specs.Value.{value as value_of, IsAcyclic}
-use Rattle.pi_states.specs.Store.{StoreView, IsTerm}
+use Rattle.pi_constraints.specs.State.{State, IsState, bindings}
+use Rattle.pi_constraints.specs.Value.{value as value_of, IsAcyclic}
+use Rattle.pi_constraints.specs.Store.{StoreView, IsTerm}
 use Rattle.pi_meaning.specs.View.{View}
-use Rattle.pi_states.specs.Evaluation.{Evaluated, evaluated, slot_term}
+use Rattle.pi_constraints.specs.Evaluation.{Evaluated, evaluated, slot_term}
 use Rattle.pi_meaning.specs.Meaning.{slot_value}
 use Rattle.pi_core.specs.GoalTree.{GoalTree, no_goals, collect}
 use Rattle.pi_core.specs.GoalCells.{kind_of}
-use Rattle.pi_states.specs.declared.store.Ref.{Ref}
+use Rattle.pi_constraints.specs.declared.store.Ref.{Ref}
 use Rattle.pi_core.specs.declared.core_program.NameSlot.{NameSlot}
 use Rattle.pi_arenas.specs.declared.arenas.Kind.{Kind}
 use Rattle.pi_arenas.specs.declared.arenas.Strict.{Strict as StrictKind}

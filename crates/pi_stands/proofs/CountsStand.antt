@@ -4,7 +4,7 @@ use Rattle.std.specs.Prelude.{slice_get, slice_set}
 use Rattle.std.proofs.lemmas.List.{take_all, length-append}
 use Rattle.pi_terms.specs.Tree.{Tree}
 use Rattle.pi_terms.specs.Places.{Places}
-use Rattle.pi_states.specs.State.{State}
+use Rattle.pi_constraints.specs.State.{State}
 use Rattle.pi_meaning.specs.View.{View}
 use Rattle.pi_core.specs.GoalTree.{no_goals}
 use Rattle.pi_core.specs.declared.core_program.NameSlot.{NameSlot}

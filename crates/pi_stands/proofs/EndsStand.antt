@@ -3,7 +3,7 @@ use Rattle.std.proofs.Common.{◌≡◌, ℕ, ◌+◌, ◌<◌, Bool, false, Lis
 use Rattle.std.specs.Prelude.{slice_get}
 use Rattle.pi_terms.specs.Tree.{Tree}
 use Rattle.pi_terms.specs.Places.{Places}
-use Rattle.pi_states.specs.State.{State}
+use Rattle.pi_constraints.specs.State.{State}
 use Rattle.pi_core.specs.GoalTree.{GoalTree, no_goals, goal, goal_at, take_goals, count_goals, if_else, children, child, child_count, nodes, nodes_all}
 use Rattle.pi_core.proofs.GoalPlaces.{nodes-children}
 use Rattle.pi_arenas.specs.declared.arenas.Back.{Back}

@@ -2,8 +2,8 @@
 use Rattle.std.proofs.Common.{◌≡◌, ℕ, zero, suc, ◌≤◌, List, [], ◌∷◌, ◌++◌, Option, Some, None, length, take, drop, refl, sym, ◌∙◌, ap, subst, arith}
 use Rattle.std.specs.Prelude.{slice_get}
 use Rattle.std.proofs.lemmas.List.{take-append-le, length-take, drop_all, take_all}
-use Rattle.pi_states.specs.Store.{StoreView, Marks, Keeps, Extend}
-use Rattle.pi_states.specs.State.{IsState}
+use Rattle.pi_constraints.specs.Store.{StoreView, Marks, Keeps, Extend}
+use Rattle.pi_constraints.specs.State.{IsState}
 use Rattle.pi_terms.proofs.GetLemmas.{get_append_last}
 use Rattle.pi_arenas.specs.declared.arenas.Kind.{Kind}
 use Rattle.pi_arenas.specs.Blocks.{brought_back, slots_before}

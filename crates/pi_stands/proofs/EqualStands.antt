@@ -4,14 +4,14 @@ use Rattle.std.specs.Prelude.{slice_get, codes, if◌then◌else◌}
 use Rattle.pi_terms.specs.Tree.{Tree}
 use Rattle.pi_terms.specs.Places.{Places}
 use Rattle.pi_meaning.specs.View.{View}
-use Rattle.pi_states.specs.State.{State, IsState, bindings}
-use Rattle.pi_states.specs.Value.{value}
-use Rattle.pi_states.specs.Store.{StoreView, Keeps}
-use Rattle.pi_states.specs.Unify.{unified}
-use Rattle.pi_states.specs.Evaluation.{Evaluated, evaluated}
+use Rattle.pi_constraints.specs.State.{State, IsState, bindings}
+use Rattle.pi_constraints.specs.Value.{value}
+use Rattle.pi_constraints.specs.Store.{StoreView, Keeps}
+use Rattle.pi_constraints.specs.Unify.{unified}
+use Rattle.pi_constraints.specs.Evaluation.{Evaluated, evaluated}
 use Rattle.pi_core.specs.GoalTree.{GoalTree, GoalTrees, goal, call, nodes}
 use Rattle.pi_core.specs.GoalCells.{kind_of}
-use Rattle.pi_states.specs.declared.store.Ref.{Ref}
+use Rattle.pi_constraints.specs.declared.store.Ref.{Ref}
 use Rattle.pi_core.proofs.GoalPlaces.{nodes-children}
 use Rattle.pi_unify.specs.Answers.{Answers}
 use Rattle.pi_arenas.specs.declared.frames.Point.{Point}
@@ -33,7 +33,7 @@ use Rattle.pi_stands.proofs.PointLemmas.{FirstOf, first-of}
 use Rattle.pi_stands.proofs.FramesStand.{going-of, going-size}
 use Rattle.pi_stands.proofs.NodeLemmas.{kind-here}
 use Rattle.pi_stands.proofs.StandsLemmas.{moved}
-use Rattle.pi_states.proofs.StateLemmas.{extends}
+use Rattle.pi_constraints.proofs.StateLemmas.{extends}
 use Rattle.pi_stands.proofs.SlotsStand.{writes-none, writes-then}
 use Rattle.pi_stands.proofs.WritesStand.{WritesTo, stack-written, going-written}
 use Rattle.pi_stands.proofs.CallLemmas.{call-of, after_equal, equal-comes-to, throw-comes-to}

@@ -4,8 +4,8 @@ use Rattle.std.specs.Prelude.{slice_get, cond, is_some, if◌then◌else◌}
 use Rattle.std.specs.List.{list_any}
 use Rattle.std.proofs.lemmas.List.{length-drop, take_all, drop-drop}
 use Rattle.pi_terms.specs.Tree.{Tree, Trees, comp}
-use Rattle.pi_states.specs.State.{State, IsState, bindings}
-use Rattle.pi_states.specs.Store.{StoreView, IsTerm, Keeps, Stays}
+use Rattle.pi_constraints.specs.State.{State, IsState, bindings}
+use Rattle.pi_constraints.specs.Store.{StoreView, IsTerm, Keeps, Stays}
 use Rattle.pi_core.specs.GoalTree.{no_goals}
 use Rattle.pi_core.specs.CoreTree.{ClauseTree, PredTree, clause_tree, pred_tree}
 use Rattle.pi_core.specs.declared.core_program.CorePred.{CorePred}

@@ -1,7 +1,7 @@
 -- Goals that have no further answer: what the newest entry makes of it, whichever it is.
 use Rattle.std.proofs.Common.{◌≡◌, ℕ, List, [], ◌∷◌, refl, sym, ap, subst, length}
 use Rattle.pi_terms.specs.Tree.{Tree}
-use Rattle.pi_states.specs.State.{State}
+use Rattle.pi_constraints.specs.State.{State}
 use Rattle.pi_core.specs.GoalTree.{GoalTrees}
 use Rattle.pi_arenas.specs.declared.arenas.Back.{Back}
 use Rattle.pi_arenas.specs.declared.arenas.Kind.{Kind}

@@ -4,7 +4,7 @@ use Rattle.std.specs.Prelude.{slice_get}
 use Rattle.std.proofs.lemmas.List.{length-take}
 use Rattle.pi_terms.specs.Tree.{Tree}
 use Rattle.pi_terms.specs.Places.{Places}
-use Rattle.pi_states.specs.State.{State}
+use Rattle.pi_constraints.specs.State.{State}
 use Rattle.pi_meaning.specs.View.{View}
 use Rattle.pi_core.specs.CoreTree.{PredTree}
 use Rattle.pi_core.specs.GoalTree.{GoalTrees, no_goals, goal}
@@ -20,7 +20,7 @@ use Rattle.pi_meaning.specs.Configuration.{Frame, behind, Entry as EntryData, Co
 use Rattle.pi_meaning.specs.Step.{step, frame_step}
 use Rattle.pi_stands.specs.Here.{Block, AreHere, none_here, value_here, Holds, valued, GoesOn, answers, gives, returns_to_end, more_of_block, returns_to}
 use Rattle.pi_stands.specs.Stands.{tables_in, World, steps_of, entries_of, entry_ends, level_ends, now_here, back_here, Agrees, agrees_from, StackIs, StackStands, Stands, GoingIs, NowIs, going_now, StandsGoing}
-use Rattle.pi_states.specs.Store.{Extend}
+use Rattle.pi_constraints.specs.Store.{Extend}
 use Rattle.pi_stands.specs.Makes.{SilentlyTo, already, one_more}
 use Rattle.pi_terms.proofs.ListLemmas.{take-take}
 use Rattle.pi_stands.proofs.HereLemmas.{FramesStay, Moves, goes_on-moves, holds-moves}

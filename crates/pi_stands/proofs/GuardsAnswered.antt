@@ -3,7 +3,7 @@ use Rattle.std.proofs.Common.{◌≡◌, ℕ, zero, suc, ◌+◌, ◌-◌, ◌�
 use Rattle.std.specs.Prelude.{slice_get}
 use Rattle.std.proofs.lemmas.List.{length-take}
 use Rattle.pi_terms.specs.Tree.{Tree}
-use Rattle.pi_states.specs.State.{State}
+use Rattle.pi_constraints.specs.State.{State}
 use Rattle.pi_core.specs.CoreTree.{ClauseTree}
 use Rattle.pi_arenas.specs.declared.arenas.Kind.{Kind}
 use Rattle.pi_arenas.specs.declared.arenas.Strict.{Strict}
@@ -15,7 +15,7 @@ use Rattle.pi_meaning.specs.Configuration.{Frame, Called, strict, guard_level, E
 use Rattle.pi_meaning.specs.Step.{back_to}
 use Rattle.pi_stands.specs.Here.{Here}
 use Rattle.pi_stands.specs.Stands.{World, Loaded, tables_in, entries_of, now_here, back_here, agrees_from, Agrees, IsCodeOf, IsPredicateOf, IsRuleOf, rule_block, clause_block, CallStands, KindIs, guard_kind, EntryIs, StackIs, entry_above}
-use Rattle.pi_states.specs.Store.{Extend}
+use Rattle.pi_constraints.specs.Store.{Extend}
 use Rattle.pi_stands.specs.Tries.{RulesLeft, ReturnsTo}
 use Rattle.pi_terms.proofs.ListLemmas.{take-take}
 use Rattle.pi_stands.proofs.HereLemmas.{take-agrees}

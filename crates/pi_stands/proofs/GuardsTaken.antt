@@ -3,7 +3,7 @@ use Rattle.std.proofs.Common.{◌≡◌, ℕ, zero, suc, ◌+◌, ◌≤◌, max
 use Rattle.std.specs.Prelude.{slice_get}
 use Rattle.std.proofs.lemmas.List.{length-take, length-take-le, take_all}
 use Rattle.pi_terms.specs.Places.{Places}
-use Rattle.pi_states.specs.State.{State, IsState}
+use Rattle.pi_constraints.specs.State.{State, IsState}
 use Rattle.pi_core.specs.CoreTree.{ClauseTree}
 use Rattle.pi_arenas.specs.declared.arenas.Back.{Back}
 use Rattle.pi_arenas.specs.declared.blocks.BlocksMark.{BlocksMark}
@@ -17,7 +17,7 @@ use Rattle.pi_meaning.specs.Configuration.{Frame, Called, strict, guard_level, E
 use Rattle.pi_meaning.specs.Step.{back_to}
 use Rattle.pi_stands.specs.Here.{Holds}
 use Rattle.pi_stands.specs.Stands.{World, tables_in, steps_of, entries_of, now_here, back_here, level_ends, Agrees, IsCodeOf, rule_block, clause_block}
-use Rattle.pi_states.specs.Store.{Extend}
+use Rattle.pi_constraints.specs.Store.{Extend}
 use Rattle.pi_stands.specs.Tries.{RulesLeft, own_entry, Applies, ReturnsTo, GuardAnswers}
 use Rattle.pi_terms.proofs.ListLemmas.{take-take}
 use Rattle.pi_arenas.proofs.BlocksLemmas.{brought_back-is, length-slots_before}

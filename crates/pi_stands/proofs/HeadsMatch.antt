@@ -8,18 +8,18 @@ use Rattle.std.proofs.lemmas.List.{take-set-le, take-append-le, length-set, leng
 use Rattle.std.proofs.Math.Seq.{drop-append_seam, take-length}
 use Rattle.std.proofs.lemmas.Option.{get_or_from_slice_get, slice_get_within, slice_get-get_or}
 use Rattle.std.proofs.lemmas.Bool.{cases_Bool, eqb-false, le-ltb}
-use Rattle.pi_states.proofs.MatchLemmas.{identical_from_same, differs}
+use Rattle.pi_constraints.proofs.MatchLemmas.{identical_from_same, differs}
 use Rattle.pi_terms.specs.Tree.{Tree, var, int, atom, comp, Trees, no_trees, tree}
 use Rattle.pi_terms.specs.Places.{Places, held}
 use Rattle.pi_terms.specs.Order.{order, identical}
 use Rattle.pi_terms.specs.PatternTree.{PatternTree, slot, exact_int, PatternTrees, no_patterns, pattern}
-use Rattle.pi_states.specs.HeadMatch.{taken_in, filled_in, matched_in, matched_all_in}
+use Rattle.pi_constraints.specs.HeadMatch.{taken_in, filled_in, matched_in, matched_all_in}
 use Rattle.pi_meaning.specs.Sound.{pattern_count}
-use Rattle.pi_states.specs.Value.{Bindings, value}
-use Rattle.pi_states.specs.State.{bindings, followed}
-use Rattle.pi_states.specs.Store.{Terms, StoreView, IsTerm, IsName, ShowsCell}
-use Rattle.pi_states.specs.declared.store.Ref.{Ref}
-use Rattle.pi_states.specs.declared.store.Cell.{Cell}
+use Rattle.pi_constraints.specs.Value.{Bindings, value}
+use Rattle.pi_constraints.specs.State.{bindings, followed}
+use Rattle.pi_constraints.specs.Store.{Terms, StoreView, IsTerm, IsName, ShowsCell}
+use Rattle.pi_constraints.specs.declared.store.Ref.{Ref}
+use Rattle.pi_constraints.specs.declared.store.Cell.{Cell}
 use Rattle.pi_core.specs.CoreTree.{pattern_tree, pattern_trees}
 use Rattle.pi_core.specs.declared.core_program.Pattern.{Pattern}
 use Rattle.pi_unify.specs.Terms.{IsGiven}

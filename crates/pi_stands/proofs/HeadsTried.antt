@@ -4,12 +4,12 @@ use Rattle.std.specs.Prelude.{slice_get, replicate, max, map}
 use Rattle.std.proofs.lemmas.List.{length-take-le, length-drop, length-append, length-replicate, take-append-le}
 use Rattle.std.proofs.Math.Seq.{drop-append_seam, take-length}
 use Rattle.pi_terms.specs.PatternTree.{PatternTrees, no_patterns, pattern}
-use Rattle.pi_states.specs.HeadMatch.{matched_all_in}
+use Rattle.pi_constraints.specs.HeadMatch.{matched_all_in}
 use Rattle.pi_core.specs.CoreTree.{ClauseTree, PredTree, pattern_trees, pred_tree}
 use Rattle.pi_meaning.specs.Sound.{pattern_count}
-use Rattle.pi_states.specs.State.{State, IsState, bindings}
-use Rattle.pi_states.specs.Store.{StoreView, Terms}
-use Rattle.pi_states.specs.declared.store.Ref.{Ref}
+use Rattle.pi_constraints.specs.State.{State, IsState, bindings}
+use Rattle.pi_constraints.specs.Store.{StoreView, Terms}
+use Rattle.pi_constraints.specs.declared.store.Ref.{Ref}
 use Rattle.pi_core.specs.declared.core_program.Pattern.{Pattern}
 use Rattle.pi_code.specs.declared.code.HeadTest.{HeadTest}
 use Rattle.pi_code.specs.declared.code.Rule.{Rule}

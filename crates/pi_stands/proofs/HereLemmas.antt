@@ -2,8 +2,8 @@
 use Rattle.std.proofs.Common.{◌≡◌, ℕ, ◌+◌, ◌≤◌, Bool, List, [], ◌∷◌, Option, Some, None, length, take, drop, sym, ◌∙◌, ap, subst, arith}
 use Rattle.std.proofs.lemmas.List.{drop-take}
 use Rattle.pi_terms.specs.Places.{Places}
-use Rattle.pi_states.specs.Store.{Terms, Extend}
-use Rattle.pi_states.specs.declared.store.Ref.{Ref}
+use Rattle.pi_constraints.specs.Store.{Terms, Extend}
+use Rattle.pi_constraints.specs.declared.store.Ref.{Ref}
 use Rattle.pi_terms.proofs.ListLemmas.{take-take}
 use Rattle.pi_arenas.specs.declared.frames.Point.{Point}
 use Rattle.pi_code.specs.declared.code.Step.{Step}

@@ -11,7 +11,7 @@ use Rattle.pi_effects.specs.BuiltIns.{is_predicate, is_function}
 use Rattle.pi_meaning.specs.Names.{is_call}
 use Rattle.pi_meaning.specs.Defined.{is_machine_predicate, CallsDefined}
 use Rattle.pi_core.specs.declared.core_program.CorePred.{CorePred}
-use Rattle.pi_states.proofs.MatchLemmas.{same_name}
+use Rattle.pi_constraints.proofs.MatchLemmas.{same_name}
 use Rattle.pi_code.specs.Laid.{IsNamed, IsUnnamed, IsNotBuiltIn, IsUnknown}
 use Rattle.pi_code.proofs.NumbersLemmas.{both}
 

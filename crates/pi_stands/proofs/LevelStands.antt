@@ -3,8 +3,8 @@ use Rattle.std.proofs.Common.{◌≡◌, ℕ, zero, suc, ◌+◌, ◌^◌, ◌�
 use Rattle.std.specs.Prelude.{slice_get}
 use Rattle.std.proofs.lemmas.List.{take_all, length-append}
 use Rattle.pi_terms.specs.Places.{Places}
-use Rattle.pi_states.specs.Store.{StoreView, Marks, Extend}
-use Rattle.pi_states.specs.State.{IsState}
+use Rattle.pi_constraints.specs.Store.{StoreView, Marks, Extend}
+use Rattle.pi_constraints.specs.State.{IsState}
 use Rattle.pi_core.specs.GoalTree.{GoalTree, GoalTrees, goal, children, nodes, nodes_all}
 use Rattle.pi_core.specs.GoalCells.{flat_all}
 use Rattle.pi_terms.proofs.GetLemmas.{get_append_last}

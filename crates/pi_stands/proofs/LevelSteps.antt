@@ -4,7 +4,7 @@ use Rattle.std.specs.Prelude.{slice_get}
 use Rattle.pi_terms.specs.Tree.{Tree}
 use Rattle.pi_terms.specs.Places.{Places}
 use Rattle.pi_meaning.specs.View.{View}
-use Rattle.pi_states.specs.Store.{StoreView, Marks}
+use Rattle.pi_constraints.specs.Store.{StoreView, Marks}
 use Rattle.pi_core.specs.GoalTree.{GoalTree, GoalTrees, no_goals, goal, if_else, not, once, collect, count, children, child_count, count_goals, nodes}
 use Rattle.pi_core.specs.GoalCells.{kind_of}
 use Rattle.pi_arenas.specs.declared.frames.Point.{Point}

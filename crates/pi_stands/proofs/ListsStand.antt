@@ -6,14 +6,14 @@ use Rattle.pi_terms.specs.Tree.{Tree, atom, comp, Trees, no_trees, tree, drop_tr
 use Rattle.pi_terms.specs.TermCells.{append_trees}
 use Rattle.pi_terms.specs.Copy.{copy, new_variables}
 use Rattle.pi_terms.specs.Places.{Places}
-use Rattle.pi_states.specs.State.{State, next, with_new}
-use Rattle.pi_states.specs.Store.{StoreView, Keeps, Stays, Gives, IsTerm, AreTerms}
-use Rattle.pi_states.specs.Evaluation.{with_new_variables}
+use Rattle.pi_constraints.specs.State.{State, next, with_new}
+use Rattle.pi_constraints.specs.Store.{StoreView, Keeps, Stays, Gives, IsTerm, AreTerms}
+use Rattle.pi_constraints.specs.Evaluation.{with_new_variables}
 use Rattle.pi_terms.specs.ListCopies.{list_cell, list_of_copies, new_in_all}
 use Rattle.pi_core.specs.GoalTree.{no_goals, collect}
-use Rattle.pi_states.specs.declared.store.Ref.{Ref}
+use Rattle.pi_constraints.specs.declared.store.Ref.{Ref}
 use Rattle.pi_terms.proofs.GetLemmas.{get_some, take_more}
-use Rattle.pi_states.proofs.KeepsLemmas.{news-next, news-keep}
+use Rattle.pi_constraints.proofs.KeepsLemmas.{news-next, news-keep}
 use Rattle.pi_unify.specs.Copying.{with_variables}
 use Rattle.pi_unify.proofs.KeepsLemmas.{keeps_none, keeps_then}
 use Rattle.pi_arenas.specs.declared.arenas.Back.{Back}

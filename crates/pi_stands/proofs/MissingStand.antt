@@ -5,14 +5,14 @@ use Rattle.std.proofs.lemmas.List.{length-map, map-append, length-take-le, lengt
 use Rattle.std.proofs.lemmas.Option.{slice_get-get_or}
 use Rattle.pi_terms.specs.Tree.{Tree, Trees, no_trees, tree, comp}
 use Rattle.pi_terms.specs.Places.{Places}
-use Rattle.pi_states.specs.State.{State, IsState, bindings}
-use Rattle.pi_states.specs.Value.{value as value_of, IsAcyclic}
-use Rattle.pi_states.specs.Store.{StoreView, Terms, Stays, IsTerm, AreTerms}
+use Rattle.pi_constraints.specs.State.{State, IsState, bindings}
+use Rattle.pi_constraints.specs.Value.{value as value_of, IsAcyclic}
+use Rattle.pi_constraints.specs.Store.{StoreView, Terms, Stays, IsTerm, AreTerms}
 use Rattle.pi_core.specs.GoalTree.{GoalTree, apply}
 use Rattle.pi_core.specs.GoalCells.{kind_of}
 use Rattle.pi_core.specs.CoreTree.{PredTree, pred_tree}
 use Rattle.pi_core.specs.declared.core_program.CorePred.{CorePred}
-use Rattle.pi_states.specs.declared.store.Ref.{Ref}
+use Rattle.pi_constraints.specs.declared.store.Ref.{Ref}
 use Rattle.pi_terms.proofs.GetLemmas.{take_more}
 use Rattle.pi_arenas.specs.declared.arenas.Back.{Back}
 use Rattle.pi_arenas.specs.declared.arenas.Kind.{Kind}

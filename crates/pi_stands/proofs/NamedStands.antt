@@ -2,7 +2,7 @@
 use Rattle.std.proofs.Common.{◌≡◌, ℕ, ◌||◌, Bool, true, false, cond, List, Option, Some, None, refl, sym, ◌∙◌, ap}
 use Rattle.std.specs.Prelude.{slice_get, codes}
 use Rattle.pi_terms.specs.Tree.{Tree, Trees, tree, tree_count}
-use Rattle.pi_states.specs.State.{State, bindings, followed}
+use Rattle.pi_constraints.specs.State.{State, bindings, followed}
 use Rattle.pi_core.specs.GoalTree.{GoalTree, no_goals, goal}
 use Rattle.pi_core.specs.CoreTree.{PredTree, find_pred}
 use Rattle.pi_effects.specs.BuiltIns.{is_predicate}

@@ -5,8 +5,8 @@ use Rattle.std.proofs.lemmas.Option.{slice_get_within}
 use Rattle.pi_core.specs.CoreTree.{PredTree}
 use Rattle.pi_terms.specs.Tree.{Tree}
 use Rattle.pi_terms.specs.Places.{Places}
-use Rattle.pi_states.specs.State.{State}
-use Rattle.pi_states.specs.Store.{StoreView}
+use Rattle.pi_constraints.specs.State.{State}
+use Rattle.pi_constraints.specs.Store.{StoreView}
 use Rattle.pi_meaning.specs.View.{View}
 use Rattle.pi_core.specs.GoalTree.{GoalTree, no_goals, goal, once, not, if_else, child_count}
 use Rattle.pi_core.specs.declared.core_program.NameSlot.{NameSlot}

@@ -5,13 +5,13 @@ use Rattle.pi_terms.specs.Tree.{Tree, var, int, atom, comp, Trees, no_trees, tre
 use Rattle.pi_terms.specs.TermCells.{take_trees}
 use Rattle.pi_terms.specs.Places.{Places, held}
 use Rattle.pi_terms.specs.Variables.{IsGround, Occurs, OccursInAny}
-use Rattle.pi_states.specs.declared.store.Ref.{Ref}
+use Rattle.pi_constraints.specs.declared.store.Ref.{Ref}
 use Rattle.pi_terms.proofs.VariableLemmas.{ground_has_no_variable}
 use Rattle.std.proofs.lemmas.List.{get_or-set_same}
-use Rattle.pi_states.specs.State.{State, next, SpeaksBelow}
-use Rattle.pi_states.specs.Store.{Terms}
-use Rattle.pi_states.specs.Evaluation.{Evaluated, EvaluatedAll, slot_term, evaluated, evaluated_all}
-use Rattle.pi_states.proofs.KeepsLemmas.{TreesBelow, first-below, rest-below, comp-below, no-trees-below}
+use Rattle.pi_constraints.specs.State.{State, next, SpeaksBelow}
+use Rattle.pi_constraints.specs.Store.{Terms}
+use Rattle.pi_constraints.specs.Evaluation.{Evaluated, EvaluatedAll, slot_term, evaluated, evaluated_all}
+use Rattle.pi_constraints.proofs.KeepsLemmas.{TreesBelow, first-below, rest-below, comp-below, no-trees-below}
 use Rattle.pi_code.specs.declared.code.Part.{Part}
 use Rattle.pi_code.specs.Code.{Tables, term_at, with_part, spelled_parts}
 use Rattle.pi_stands.specs.Here.{Block, IsReadablePart}

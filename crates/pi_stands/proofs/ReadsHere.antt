@@ -5,7 +5,7 @@ use Rattle.std.proofs.lemmas.List.{append-nil, map-append}
 use Rattle.std.proofs.lemmas.Option.{slice_get_within, get_or_from_slice_get}
 use Rattle.pi_terms.specs.Tree.{Tree, var, int, atom, comp, Trees, no_trees, tree, cells, subterms, subterms_all, args, arity, tree_count, cells_all, drop_trees}
 use Rattle.pi_terms.specs.Variables.{IsGround, Occurs, OccursInAny, occurrences, firsts}
-use Rattle.pi_states.specs.State.{SpeaksBelow}
+use Rattle.pi_constraints.specs.State.{SpeaksBelow}
 use Rattle.pi_terms.specs.TermCells.{flat, flat_all, spelled, spelled-flat, with_cell, first_tree, take_trees}
 use Rattle.pi_terms.specs.declared.term.TermCell.{TermCell}
 use Rattle.pi_terms.specs.declared.term.TermCell.TheVariants.{Var, Int, Atom, Comp}

@@ -3,8 +3,8 @@ use Rattle.std.proofs.Common.{◌≡◌, ◌⊎◌, inl, inr, ℕ, ◌+◌, ◌-
 use Rattle.std.specs.Prelude.{slice_get}
 use Rattle.std.proofs.lemmas.List.{length-drop, drop-drop, length-take-le}
 use Rattle.pi_terms.specs.Places.{Places}
-use Rattle.pi_states.specs.Store.{StoreView}
-use Rattle.pi_states.specs.State.{State, IsState}
+use Rattle.pi_constraints.specs.Store.{StoreView}
+use Rattle.pi_constraints.specs.State.{State, IsState}
 use Rattle.pi_core.specs.GoalTree.{no_goals, goal}
 use Rattle.pi_core.specs.CoreTree.{ClauseTree, leaves_others}
 use Rattle.pi_arenas.specs.declared.arenas.Kind.{Kind}

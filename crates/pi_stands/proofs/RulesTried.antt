@@ -3,10 +3,10 @@ use Rattle.std.proofs.Common.{◌≡◌, ℕ, ◌+◌, ◌-◌, ◌≤◌, ◌<�
 use Rattle.std.specs.Prelude.{slice_get, replicate}
 use Rattle.std.proofs.lemmas.List.{length-drop}
 use Rattle.pi_terms.specs.Places.{Places}
-use Rattle.pi_states.specs.State.{State, bindings}
-use Rattle.pi_states.specs.HeadMatch.{matched_all_in}
-use Rattle.pi_states.specs.Store.{StoreView, Terms}
-use Rattle.pi_states.specs.declared.store.Ref.{Ref}
+use Rattle.pi_constraints.specs.State.{State, bindings}
+use Rattle.pi_constraints.specs.HeadMatch.{matched_all_in}
+use Rattle.pi_constraints.specs.Store.{StoreView, Terms}
+use Rattle.pi_constraints.specs.declared.store.Ref.{Ref}
 use Rattle.pi_core.specs.GoalTree.{GoalTree, truth}
 use Rattle.pi_core.specs.CoreTree.{ClauseTree}
 use Rattle.pi_code.specs.declared.code.Rule.{Rule}

@@ -3,7 +3,7 @@ use Rattle.std.proofs.Common.{◌≡◌, ℕ, List, [], ◌∷◌, refl, sym, �
 use Rattle.std.specs.Prelude.{slice_index_or, codes}
 use Rattle.pi_terms.specs.Tree.{Tree}
 use Rattle.pi_terms.specs.Places.{Places}
-use Rattle.pi_states.specs.State.{State}
+use Rattle.pi_constraints.specs.State.{State}
 use Rattle.pi_meaning.specs.View.{View}
 use Rattle.pi_core.specs.CoreTree.{PredTree}
 use Rattle.pi_core.specs.GoalTree.{GoalTree, GoalTrees, truth, fail, tick, call, apply, seq, alternatives, if_else, not, once, collect, count, catch}

@@ -4,10 +4,10 @@ use Rattle.std.specs.Prelude.{slice_get, slice_set}
 use Rattle.std.proofs.lemmas.List.{take-set-le, drop-set-lt, length-set}
 use Rattle.pi_terms.specs.Tree.{Tree}
 use Rattle.pi_terms.specs.Places.{Places}
-use Rattle.pi_states.specs.State.{State, IsState}
-use Rattle.pi_states.specs.Store.{StoreView, Keeps, IsTerm}
+use Rattle.pi_constraints.specs.State.{State, IsState}
+use Rattle.pi_constraints.specs.Store.{StoreView, Keeps, IsTerm}
 use Rattle.pi_core.specs.GoalTree.{GoalTree, no_goals}
-use Rattle.pi_states.specs.declared.store.Ref.{Ref}
+use Rattle.pi_constraints.specs.declared.store.Ref.{Ref}
 use Rattle.pi_code.specs.declared.code.Step.{Step}
 use Rattle.pi_arenas.specs.declared.run.Now.{Now}
 use Rattle.pi_arenas.specs.Blocks.{BlocksView, KeepsBlocks}
@@ -18,7 +18,7 @@ use Rattle.pi_stands.specs.Stands.{World, now_here, steps_of, block_at, Agrees, 
 use Rattle.pi_arenas.specs.Frames.{slot_number}
 use Rattle.pi_stands.specs.Evaluates.{with_blocks, Writes}
 use Rattle.pi_stands.proofs.HereLemmas.{holds-extends}
-use Rattle.pi_states.proofs.StateLemmas.{extends}
+use Rattle.pi_constraints.proofs.StateLemmas.{extends}
 use Rattle.pi_stands.proofs.SlotsStand.{holds-set, slot-is}
 use Rattle.pi_stands.proofs.StandsLemmas.{moved}
 use Rattle.pi_stands.proofs.EqualStands.{stack-moved}

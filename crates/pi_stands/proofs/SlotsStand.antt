@@ -1,14 +1,14 @@
 -- A slot of a block that is read, and filled where it is empty.
-use Rattle.pi_states.proofs.StateLemmas.{extends}
+use Rattle.pi_constraints.proofs.StateLemmas.{extends}
 use Rattle.std.proofs.Common.{◌≡◌, ℕ, zero, suc, ◌+◌, ◌≤◌, ◌<◌, List, [], ◌∷◌, Option, Some, None, length, take, drop, set, get_or, refl, sym, ◌∙◌, ap, subst, arith}
 use Rattle.std.specs.Prelude.{⊤}
 use Rattle.std.proofs.lemmas.List.{take-set-le, drop-set-lt, drop-set-add, get_or-take, get_or-drop, length-set}
 use Rattle.pi_terms.specs.Tree.{Tree, var}
 use Rattle.pi_terms.specs.Places.{Places, held}
-use Rattle.pi_states.specs.State.{State, with_new, next}
-use Rattle.pi_states.specs.Store.{Terms, StoreView, Gives}
-use Rattle.pi_states.specs.Evaluation.{slot_term}
-use Rattle.pi_states.specs.declared.store.Ref.{Ref}
+use Rattle.pi_constraints.specs.State.{State, with_new, next}
+use Rattle.pi_constraints.specs.Store.{Terms, StoreView, Gives}
+use Rattle.pi_constraints.specs.Evaluation.{slot_term}
+use Rattle.pi_constraints.specs.declared.store.Ref.{Ref}
 use Rattle.pi_unify.proofs.KeepsLemmas.{keeps_none, keeps_then}
 use Rattle.pi_arenas.specs.Blocks.{BlocksView, KeepsBlocks}
 use Rattle.pi_arenas.specs.Arenas.{ArenasView}

@@ -4,12 +4,12 @@ use Rattle.std.specs.Prelude.{slice_get, slice_set}
 use Rattle.std.proofs.lemmas.Option.{slice_get_within}
 use Rattle.pi_terms.specs.Tree.{Tree, comp}
 use Rattle.pi_terms.specs.Places.{Places}
-use Rattle.pi_states.specs.State.{State}
-use Rattle.pi_states.specs.Store.{IsTerm}
+use Rattle.pi_constraints.specs.State.{State}
+use Rattle.pi_constraints.specs.Store.{IsTerm}
 use Rattle.pi_meaning.specs.View.{View}
 use Rattle.pi_core.specs.GoalTree.{GoalTree, no_goals, apply}
 use Rattle.pi_core.specs.declared.core_program.NameSlot.{NameSlot}
-use Rattle.pi_states.specs.declared.store.Ref.{Ref}
+use Rattle.pi_constraints.specs.declared.store.Ref.{Ref}
 use Rattle.pi_unify.proofs.KeepsLemmas.{keeps_none}
 use Rattle.pi_code.specs.declared.code.Code.{Code}
 use Rattle.pi_code.specs.declared.code.Node.{Node}

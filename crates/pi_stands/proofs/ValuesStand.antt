@@ -6,11 +6,11 @@ use Rattle.std.proofs.lemmas.Option.{slice_get_within}
 use Rattle.pi_terms.specs.Tree.{Tree, tree, no_trees}
 use Rattle.pi_terms.specs.TermCells.{first_tree}
 use Rattle.pi_terms.specs.Places.{Places, held}
-use Rattle.pi_states.specs.State.{State, SpeaksBelow}
-use Rattle.pi_states.proofs.KeepsLemmas.{TreesBelow, first-below}
-use Rattle.pi_states.specs.Store.{Terms, StoreView, Extend}
-use Rattle.pi_states.specs.Evaluation.{evaluated, slot_term}
-use Rattle.pi_states.specs.declared.store.Ref.{Ref}
+use Rattle.pi_constraints.specs.State.{State, SpeaksBelow}
+use Rattle.pi_constraints.proofs.KeepsLemmas.{TreesBelow, first-below}
+use Rattle.pi_constraints.specs.Store.{Terms, StoreView, Extend}
+use Rattle.pi_constraints.specs.Evaluation.{evaluated, slot_term}
+use Rattle.pi_constraints.specs.declared.store.Ref.{Ref}
 use Rattle.pi_code.specs.declared.code.Part.{Part}
 use Rattle.pi_code.specs.declared.code.Operand.{Operand}
 use Rattle.pi_arenas.specs.Arenas.{ArenasView}

@@ -1,8 +1,8 @@
 -- What a run stands for where slots of the present block are written and the store has more.
 use Rattle.std.proofs.Common.{◌≡◌, ℕ, zero, ◌+◌, ◌≤◌, Bool, List, Option, Some, None, length, take, refl, sym, ◌∙◌, subst, arith}
 use Rattle.pi_terms.specs.Places.{Places}
-use Rattle.pi_states.specs.State.{State, IsState}
-use Rattle.pi_states.specs.Store.{StoreView, Extend}
+use Rattle.pi_constraints.specs.State.{State, IsState}
+use Rattle.pi_constraints.specs.Store.{StoreView, Extend}
 use Rattle.pi_core.specs.GoalTree.{GoalTrees}
 use Rattle.pi_arenas.specs.declared.frames.Point.{Point}
 use Rattle.pi_arenas.specs.Blocks.{BlocksView}
@@ -16,7 +16,7 @@ use Rattle.pi_stands.proofs.HereLemmas.{take-agrees, goes_on-moves}
 use Rattle.pi_stands.proofs.PointLemmas.{goes_on-within}
 use Rattle.pi_stands.proofs.ProgramStands.{code-keeps}
 use Rattle.pi_stands.proofs.StandsLemmas.{moved, Leaves, stack-moves, stack-length, open_level-within, entry-below}
-use Rattle.pi_states.proofs.StateLemmas.{extends}
+use Rattle.pi_constraints.proofs.StateLemmas.{extends}
 use Rattle.pi_stands.proofs.BasesStand.{block-above, level-begins}
 
 -- ---- a block that is written

@@ -1,8 +1,8 @@
 -- What entries keep: one mark each, which brings back the state in which the entry was made, and its place in the program. And what is there
 -- when an entry was come back to.
 use Rattle.std.specs.Prelude.{◌≡◌, ℕ, List, ◌∷◌, ◌++◌, Some, length, slice_get, ⊤}
-use Rattle.pi_states.specs.State.{State}
-use Rattle.pi_states.specs.Store.{StoreView, IsGood}
+use Rattle.pi_constraints.specs.State.{State}
+use Rattle.pi_constraints.specs.Store.{StoreView, IsGood}
 use Rattle.pi_arenas.specs.declared.arenas.Back.{Back}
 use Rattle.pi_arenas.specs.declared.arenas.Entry.{Entry}
 use Rattle.pi_arenas.specs.declared.run.Now.{Now}

@@ -3,10 +3,10 @@ use Rattle.std.specs.Prelude.{◌≡◌, ℕ, ◌+◌, List, [], ◌∷◌, Some
 use Rattle.pi_terms.specs.Tree.{Tree, Trees, tree, comp, drop_trees}
 use Rattle.pi_terms.specs.TermCells.{take_trees}
 use Rattle.pi_terms.specs.Places.{Places, held}
-use Rattle.pi_states.specs.State.{State}
-use Rattle.pi_states.specs.Store.{StoreView, IsTerm, AreTerms, Keeps}
-use Rattle.pi_states.specs.Evaluation.{Evaluated, EvaluatedAll, slot_term}
-use Rattle.pi_states.specs.declared.store.Ref.{Ref}
+use Rattle.pi_constraints.specs.State.{State}
+use Rattle.pi_constraints.specs.Store.{StoreView, IsTerm, AreTerms, Keeps}
+use Rattle.pi_constraints.specs.Evaluation.{Evaluated, EvaluatedAll, slot_term}
+use Rattle.pi_constraints.specs.declared.store.Ref.{Ref}
 use Rattle.pi_code.specs.declared.code.Part.{Part}
 use Rattle.pi_code.specs.Code.{Tables, term_at}
 pub use Rattle.pi_code.specs.Code.{operand_trees}

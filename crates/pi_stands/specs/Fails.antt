@@ -1,6 +1,6 @@
 -- Goals that have no further answer: the newest entry is come back to, and says what is next.
 use Rattle.std.specs.Prelude.{◌≡◌, ℕ, suc, List, ◌∷◌, Some, length, slice_get}
-use Rattle.pi_states.specs.State.{IsState}
+use Rattle.pi_constraints.specs.State.{IsState}
 use Rattle.pi_meaning.specs.Trace.{End, Done, Raise}
 use Rattle.pi_arenas.specs.declared.arenas.Back.{Back}
 use Rattle.pi_arenas.specs.declared.run.End.{End as RunEnd}
@@ -11,7 +11,7 @@ use Rattle.pi_meaning.specs.Configuration.{Entry as EntryData, choice, branches_
 use Rattle.pi_meaning.specs.Step.{Outcome, silently, with_tick, quietly, deeper, writing, answering, ending, branch, end_step, fail_step}
 use Rattle.pi_core.specs.GoalTree.{GoalTrees}
 use Rattle.pi_stands.specs.Stands.{World, tables_in, entries_of, now_here, back_here, IsCodeOf, EntryIs, StackIs, StackStands, Stands}
-use Rattle.pi_states.specs.Store.{Extend}
+use Rattle.pi_constraints.specs.Store.{Extend}
 
 -- a run is at its end
 abbrev pub IsEnded : Now → End → Type 0

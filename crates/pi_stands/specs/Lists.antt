@@ -2,11 +2,11 @@
 use Rattle.std.specs.Prelude.{◌≡◌, ℕ, ◌+◌, List, [], ◌∷◌, codes}
 use Rattle.pi_terms.specs.Tree.{Tree, atom, Trees, no_trees, tree}
 use Rattle.pi_terms.specs.Copy.{copy, new_variables}
-use Rattle.pi_states.specs.State.{next}
-use Rattle.pi_states.specs.Store.{StoreView, AreTerms, Keeps}
-use Rattle.pi_states.specs.Evaluation.{with_new_variables}
+use Rattle.pi_constraints.specs.State.{next}
+use Rattle.pi_constraints.specs.Store.{StoreView, AreTerms, Keeps}
+use Rattle.pi_constraints.specs.Evaluation.{with_new_variables}
 use Rattle.pi_terms.specs.ListCopies.{list_cell, new_in_all}
-use Rattle.pi_states.specs.declared.store.Ref.{Ref}
+use Rattle.pi_constraints.specs.declared.store.Ref.{Ref}
 
 -- copies of values, each with variables of its own, from a number on
 unfoldable pub copies : ℕ → List Tree → Trees

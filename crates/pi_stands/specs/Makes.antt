@@ -4,7 +4,7 @@ use Rattle.pi_terms.specs.Places.{Places}
 use Rattle.pi_core.specs.GoalTree.{GoalTree, GoalTrees, no_goals, goal, catch}
 use Rattle.pi_terms.specs.Tree.{Tree, atom, comp, no_trees, tree, cells, most_cells}
 use Rattle.pi_terms.specs.Copy.{copy}
-use Rattle.pi_states.specs.Evaluation.{evaluated}
+use Rattle.pi_constraints.specs.Evaluation.{evaluated}
 use Rattle.pi_meaning.specs.View.{View}
 use Rattle.pi_core.specs.CoreTree.{PredTree}
 use Rattle.pi_core.specs.declared.core_program.NameSlot.{NameSlot}

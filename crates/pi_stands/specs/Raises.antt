@@ -3,10 +3,10 @@ use Rattle.std.specs.Prelude.{◌≡◌, ℕ, zero, Bool, List, Some, slice_get,
 use Rattle.pi_terms.specs.Tree.{Tree}
 use Rattle.pi_terms.specs.Places.{Places}
 use Rattle.pi_terms.specs.Copy.{copy, new_variables}
-use Rattle.pi_states.specs.State.{IsState, next}
-use Rattle.pi_states.specs.Unify.{unified}
+use Rattle.pi_constraints.specs.State.{IsState, next}
+use Rattle.pi_constraints.specs.Unify.{unified}
 use Rattle.pi_core.specs.GoalTree.{GoalTree, catch}
-use Rattle.pi_states.specs.Evaluation.{evaluated, with_new_variables}
+use Rattle.pi_constraints.specs.Evaluation.{evaluated, with_new_variables}
 use Rattle.pi_unify.specs.Answers.{Answers}
 use Rattle.pi_arenas.specs.declared.arenas.Back.{Back}
 use Rattle.pi_arenas.specs.declared.arenas.Kind.{Kind}
@@ -19,7 +19,7 @@ use Rattle.pi_meaning.specs.Configuration.{Frame, Entry as EntryData}
 use Rattle.pi_meaning.specs.Step.{raise_step}
 use Rattle.pi_meaning.specs.Shape.{IsBalanced}
 use Rattle.pi_stands.specs.Stands.{World, steps_of, entries_of, now_here, block_at, GoalStands, StackStands}
-use Rattle.pi_states.specs.Store.{Extend}
+use Rattle.pi_constraints.specs.Store.{Extend}
 use Rattle.pi_stands.specs.Evaluates.{Writes}
 use Rattle.pi_stands.specs.Fails.{ComesTo}
 

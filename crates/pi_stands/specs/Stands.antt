@@ -1,15 +1,15 @@
 -- What a run stands for: which configuration its store and its arenas are.
-use Rattle.pi_states.specs.Store.{Extend, Terms, StoreView, IsGood}
+use Rattle.pi_constraints.specs.Store.{Extend, Terms, StoreView, IsGood}
 use Rattle.pi_code.specs.Laid.{IsNotBuiltIn}
 use Rattle.pi_code.specs.LaidRules.{IsTestOf}
 use Rattle.std.specs.Prelude.{◌≡◌, ◌≢◌, ◌↔◌, ℕ, zero, suc, ◌+◌, ◌-◌, ◌≤◌, Bool, true, false, List, [], ◌∷◌, Option, Some, None, length, map, take, drop, slice_get, AllPairs, IsTrue, IsSome, is_some, ⊤}
 use Rattle.pi_terms.specs.Tree.{Tree, Trees, comp}
 use Rattle.pi_terms.specs.Places.{Places}
-use Rattle.pi_states.specs.State.{State, IsState}
+use Rattle.pi_constraints.specs.State.{State, IsState}
 use Rattle.pi_core.specs.GoalTree.{GoalTree, GoalTrees, count_goals, truth, apply, if_else, not, once, collect, count, catch, goal, no_goals}
 use Rattle.pi_terms.specs.PatternTree.{PatternTrees, no_patterns, pattern}
 use Rattle.pi_core.specs.CoreTree.{ClauseTree, PredTree, pred_tree, leaves_others}
-use Rattle.pi_states.specs.Evaluation.{evaluated}
+use Rattle.pi_constraints.specs.Evaluation.{evaluated}
 use Rattle.pi_meaning.specs.Sound.{IsAnother, pattern_count}
 use Rattle.pi_meaning.specs.Defined.{NamesAreFree}
 use Rattle.pi_meaning.specs.NamedGoals.{goal_by_name}

@@ -2,11 +2,11 @@
 use Rattle.std.specs.Prelude.{◌≡◌, ℕ, suc, ◌+◌, ◌-◌, ◌≤◌, ◌==◌, ◌≢◌, Bool, true, false, List, [], ◌∷◌, Option, Some, None, length, take, drop, max, slice_get, slice_set, replicate, ⊤}
 use Rattle.pi_terms.specs.Tree.{Trees}
 use Rattle.pi_terms.specs.Places.{Places}
-use Rattle.pi_states.specs.State.{State, IsState, bindings}
-use Rattle.pi_states.specs.HeadMatch.{matched_all_in}
-use Rattle.pi_states.specs.declared.store.Ref.{Ref}
-use Rattle.pi_states.specs.declared.store.Cell.{Cell}
-use Rattle.pi_states.specs.Store.{StoreView, Terms, Extend}
+use Rattle.pi_constraints.specs.State.{State, IsState, bindings}
+use Rattle.pi_constraints.specs.HeadMatch.{matched_all_in}
+use Rattle.pi_constraints.specs.declared.store.Ref.{Ref}
+use Rattle.pi_constraints.specs.declared.store.Cell.{Cell}
+use Rattle.pi_constraints.specs.Store.{StoreView, Terms, Extend}
 use Rattle.pi_core.specs.CoreTree.{ClauseTree, PredTree}
 use Rattle.pi_arenas.specs.declared.arenas.Kind.{Kind}
 use Rattle.pi_arenas.specs.declared.arenas.Strict.{Strict}

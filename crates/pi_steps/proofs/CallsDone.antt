@@ -2,8 +2,8 @@
 use Rattle.std.proofs.Common.{Result, Ok, Err, refl, sym, subst}
 use Rattle.std.specs.Prelude.{IfOk}
 use Rattle.pi_terms.specs.Tree.{Tree}
-use Rattle.pi_states.specs.State.{IsState}
-use Rattle.pi_states.specs.Store.{StoreView}
+use Rattle.pi_constraints.specs.State.{IsState}
+use Rattle.pi_constraints.specs.Store.{StoreView}
 use Rattle.pi_effects.specs.Effect.{Effect}
 use Rattle.pi_effects.specs.declared.fault.Stop.{Stop}
 use Rattle.pi_calls.specs.declared.predicates.Outcome.{Outcome}

@@ -4,9 +4,9 @@ use Rattle.std.specs.Prelude.{slice_get, is_some, cond, if◌then◌else◌}
 use Rattle.std.specs.List.{list_any}
 use Rattle.std.proofs.lemmas.List.{length-map, length-drop}
 use Rattle.pi_terms.specs.Tree.{Tree, Trees, no_trees, tree, comp}
-use Rattle.pi_states.specs.State.{State, IsState, bindings}
-use Rattle.pi_states.specs.Store.{StoreView, IsTerm, AreTerms, Keeps, Stays, Terms}
-use Rattle.pi_states.specs.declared.store.Ref.{Ref}
+use Rattle.pi_constraints.specs.State.{State, IsState, bindings}
+use Rattle.pi_constraints.specs.Store.{StoreView, IsTerm, AreTerms, Keeps, Stays, Terms}
+use Rattle.pi_constraints.specs.declared.store.Ref.{Ref}
 use Rattle.pi_core.specs.CoreTree.{ClauseTree, PredTree, clause_tree, pred_tree}
 use Rattle.pi_core.specs.declared.core_program.CoreClause.{CoreClause}
 use Rattle.pi_core.specs.declared.core_program.CorePred.{CorePred}
@@ -17,7 +17,7 @@ use Rattle.pi_syntax.specs.declared.program.Mode.{Mode}
 use Rattle.pi_code.specs.Code.{preds_of}
 use Rattle.pi_code.specs.declared.code.Predicate.{Predicate}
 use Rattle.pi_code.specs.declared.code.Code.{Code}
-use Rattle.pi_states.specs.Value.{IsAcyclic}
+use Rattle.pi_constraints.specs.Value.{IsAcyclic}
 use Rattle.pi_arenas.specs.Arenas.{ArenasView, DropsNewest}
 use Rattle.pi_arenas.specs.declared.arenas.Back.{Back}
 use Rattle.pi_arenas.specs.declared.arenas.Kind.{Kind}

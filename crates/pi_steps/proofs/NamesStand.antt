@@ -5,18 +5,18 @@ use Rattle.std.proofs.lemmas.Bool.{lt-ltb}
 use Rattle.std.proofs.lemmas.List.{append_assoc, append-nil, drop_all}
 use Rattle.pi_terms.specs.Tree.{Tree, var, atom, cells, most_cells}
 use Rattle.pi_terms.specs.Places.{Places, held}
-use Rattle.pi_states.specs.State.{State, IsState, bindings, next}
-use Rattle.pi_states.specs.Value.{IsAcyclic, value}
-use Rattle.pi_states.specs.Store.{StoreView, IsTerm}
+use Rattle.pi_constraints.specs.State.{State, IsState, bindings, next}
+use Rattle.pi_constraints.specs.Value.{IsAcyclic, value}
+use Rattle.pi_constraints.specs.Store.{StoreView, IsTerm}
 use Rattle.pi_meaning.specs.View.{View}
-use Rattle.pi_states.specs.Evaluation.{Evaluated, evaluated, slot_term}
+use Rattle.pi_constraints.specs.Evaluation.{Evaluated, evaluated, slot_term}
 use Rattle.pi_meaning.specs.Meaning.{slot_value}
 use Rattle.pi_core.specs.GoalTree.{no_goals}
 use Rattle.pi_meaning.specs.Run.{Solution}
 use Rattle.pi_core.specs.AnswerVariables.{answer_variables}
 use Rattle.pi_meaning.specs.Told.{named_values}
-use Rattle.pi_states.specs.ToldDomains.{told_domains}
-use Rattle.pi_states.specs.declared.store.Ref.{Ref}
+use Rattle.pi_constraints.specs.ToldDomains.{told_domains}
+use Rattle.pi_constraints.specs.declared.store.Ref.{Ref}
 use Rattle.pi_core.specs.declared.core_program.NameSlot.{NameSlot}
 use Rattle.pi_core.specs.declared.answer.NamedTerm.{NamedTerm}
 use Rattle.pi_core.specs.declared.answer.Answer.{Answer}

@@ -3,11 +3,11 @@ use Rattle.std.proofs.Common.{◌≡◌, ℕ, ◌<◌, List, [], ◌∷◌, ◌+
 use Rattle.std.specs.Prelude.{slice_get, codes}
 use Rattle.pi_terms.specs.Tree.{Tree, Trees, no_trees, tree, tree_count}
 use Rattle.pi_terms.specs.Places.{Places}
-use Rattle.pi_states.specs.Value.{IsAcyclic}
-use Rattle.pi_states.specs.State.{IsState, bindings, followed}
-use Rattle.pi_states.specs.Store.{StoreView, IsTerm, IsName, AreTerms}
-use Rattle.pi_states.specs.Evaluation.{EvaluatedAll}
-use Rattle.pi_states.specs.declared.store.Ref.{Ref}
+use Rattle.pi_constraints.specs.Value.{IsAcyclic}
+use Rattle.pi_constraints.specs.State.{IsState, bindings, followed}
+use Rattle.pi_constraints.specs.Store.{StoreView, IsTerm, IsName, AreTerms}
+use Rattle.pi_constraints.specs.Evaluation.{EvaluatedAll}
+use Rattle.pi_constraints.specs.declared.store.Ref.{Ref}
 use Rattle.pi_core.specs.GoalTree.{GoalTree, GoalTrees, goal, no_goals}
 use Rattle.pi_core.specs.CoreTree.{pred_tree}
 use Rattle.pi_effects.specs.Exception.{type_error}

@@ -3,20 +3,20 @@ use Rattle.std.proofs.Common.{◌≡◌, inl, inr, ℕ, List, [], ◌∷◌, ◌
 use Rattle.pi_terms.specs.Tree.{Tree, var}
 use Rattle.pi_terms.specs.Variables.{occurrences}
 use Rattle.pi_terms.specs.Places.{Places, held}
-use Rattle.pi_states.specs.Value.{IsAcyclic, value}
-use Rattle.pi_states.specs.State.{State, bindings, binding, domain_in, domain_of, next, with_new}
-use Rattle.pi_states.specs.Evaluation.{Evaluated, evaluated, slot_term}
+use Rattle.pi_constraints.specs.Value.{IsAcyclic, value}
+use Rattle.pi_constraints.specs.State.{State, bindings, binding, domain_in, domain_of, next, with_new}
+use Rattle.pi_constraints.specs.Evaluation.{Evaluated, evaluated, slot_term}
 use Rattle.pi_meaning.specs.Run.{Solution}
 use Rattle.pi_core.specs.AnswerVariables.{answer_variables}
 use Rattle.pi_meaning.specs.Told.{named_values, answer_of}
-use Rattle.pi_states.specs.ToldDomains.{told_domain, told_domains}
+use Rattle.pi_constraints.specs.ToldDomains.{told_domain, told_domains}
 use Rattle.pi_core.specs.declared.core_program.NameSlot.{NameSlot}
 use Rattle.pi_core.specs.declared.answer.NamedTerm.{NamedTerm}
 use Rattle.pi_constraints.specs.declared.var_domain.VarDomain.{VarDomain}
 use Rattle.pi_core.specs.declared.answer.Answer.{Answer}
-use Rattle.pi_states.proofs.StateLemmas.{held_is, as_many}
+use Rattle.pi_constraints.proofs.StateLemmas.{held_is, as_many}
 use Rattle.pi_terms.proofs.VariableLemmas.{Has, Has-append_cases, occurs_from_Has}
-use Rattle.pi_states.proofs.ValueLemmas.{value_has_none_bound}
+use Rattle.pi_constraints.proofs.ValueLemmas.{value_has_none_bound}
 use Rattle.pi_unify.specs.Domains.{AreUnbound, occurring}
 use Rattle.pi_meaning.proofs.LaterStates.{IsLaterState, later-same-state, later-new, new-variable, held-past, value-new}
 

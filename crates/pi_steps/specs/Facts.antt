@@ -1,9 +1,9 @@
 -- What the functions that try the facts of a call owe.
 use Rattle.std.specs.Prelude.{◌≡◌, ℕ, Bool, true, false, List, [], Some, map, slice_get, if◌then◌else◌}
 use Rattle.pi_terms.specs.Tree.{Trees, comp}
-use Rattle.pi_states.specs.State.{State, IsState}
-use Rattle.pi_states.specs.Store.{StoreView, IsTerm, Keeps}
-use Rattle.pi_states.specs.declared.store.Ref.{Ref}
+use Rattle.pi_constraints.specs.State.{State, IsState}
+use Rattle.pi_constraints.specs.Store.{StoreView, IsTerm, Keeps}
+use Rattle.pi_constraints.specs.declared.store.Ref.{Ref}
 use Rattle.pi_core.specs.CoreTree.{ClauseTree, PredTree, clause_tree}
 use Rattle.pi_core.specs.declared.core_program.CoreClause.{CoreClause}
 use Rattle.pi_unify.specs.Answers.{Answers}

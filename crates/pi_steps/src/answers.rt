@@ -1,9 +1,9 @@
 //! The answers of a query.
 ghost use Rattle.std.specs.Prelude.{◌≡◌, ◌<◌, Some, IfOk};
 ghost use Rattle.pi_terms.specs.Places.{Places};
-ghost use Rattle.pi_states.specs.State.{IsState};
+ghost use Rattle.pi_constraints.specs.State.{IsState};
 ghost use Rattle.pi_terms.specs.Tree.{var};
-ghost use Rattle.pi_states.specs.Evaluation.{evaluated};
+ghost use Rattle.pi_constraints.specs.Evaluation.{evaluated};
 ghost use Rattle.pi_arenas.specs.Arenas.{view_of};
 ghost use Rattle.pi_stands.specs.Here.{Block, Holds};
 ghost use Rattle.pi_stands.specs.Stands.{Loaded, world};
@@ -13,8 +13,8 @@ use crate::lists::read_value;
 use crate::raises::too_large;
 use crate::values::{slot_at, slot_value};
 use pi_arenas::Run;
+use pi_constraints::StateStore;
 use pi_core::{Answer, NameSlot, NamedTerm};
-use pi_states::StateStore;
 use pi_terms::{Series, Term};
 use pi_unify::domains_in;
 use std::alloc::AllocError;

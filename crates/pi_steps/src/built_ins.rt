@@ -1,7 +1,7 @@
 //! Calls of built-in predicates and functions.
 ghost use Rattle.std.specs.Prelude.{◌≡◌, ℕ, IfOk};
-ghost use Rattle.pi_states.specs.State.{IsState};
-ghost use Rattle.pi_states.specs.Store.{StoreView};
+ghost use Rattle.pi_constraints.specs.State.{IsState};
+ghost use Rattle.pi_constraints.specs.Store.{StoreView};
 ghost use Rattle.pi_effects.specs.Effect.{Effect};
 ghost use Rattle.pi_code.specs.declared.code.Node.{Node};
 ghost use Rattle.pi_calls.specs.Outcomes.{ShowsOutcome};
@@ -18,9 +18,9 @@ use pi_arenas::{Now, Point, Run, Telling, behind};
 use pi_builtin::{Function, Predicate};
 use pi_calls::{Outcome, call_function, call_predicate};
 use pi_code::{Code, Step};
+use pi_constraints::StateStore;
 use pi_effects::{Stop, ball_of};
 use pi_meaning::Mode;
-use pi_states::StateStore;
 use pi_terms::{Term, Text};
 use std::alloc::{AllocError, Global};
 

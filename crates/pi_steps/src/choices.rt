@@ -11,7 +11,7 @@ ghost use Rattle.pi_stands.specs.Fails.{GoesOnWithBranch};
 
 use pi_arenas::{Back, Kind, Now, Point, Run};
 use pi_code::{Code, Step};
-use pi_states::StateStore;
+use pi_constraints::StateStore;
 use std::alloc::AllocError;
 
 /// Enters a sequence of so many goals.

@@ -2,9 +2,9 @@
 ghost use Rattle.std.specs.Prelude.{◌≡◌, ◌+◌, ◌≤◌, ◌<◌, true, false, [], List, Some, IfOk, if◌then◌else◌, length, map, slice_get};
 ghost use Rattle.std.specs.List.{list_any};
 ghost use Rattle.pi_terms.specs.Tree.{Trees, comp};
-ghost use Rattle.pi_states.specs.State.{IsState, bindings};
-ghost use Rattle.pi_states.specs.Value.{IsAcyclic};
-ghost use Rattle.pi_states.specs.Store.{IsTerm, Stays};
+ghost use Rattle.pi_constraints.specs.State.{IsState, bindings};
+ghost use Rattle.pi_constraints.specs.Value.{IsAcyclic};
+ghost use Rattle.pi_constraints.specs.Store.{IsTerm, Stays};
 ghost use Rattle.pi_core.specs.CoreTree.{PredTree, clause_tree, pred_tree};
 ghost use Rattle.pi_core.specs.declared.core_program.CoreClause.{CoreClause as Clause};
 ghost use Rattle.pi_syntax.specs.declared.program.Mode.{Mode};
@@ -23,9 +23,9 @@ use crate::raises::take_block;
 use crate::rules::{Call, call_of, keep, try_rules};
 use pi_arenas::{Back, Kind, Now, Point, Run};
 use pi_code::{Code, Predicate};
+use pi_constraints::{Ref, StateStore};
 use pi_core::CoreClause;
 use pi_facts::{fits_call, next_unifying, unify_fact};
-use pi_states::{Ref, StateStore};
 use std::alloc::AllocError;
 
 /// Goes on with the clauses of a call that was made just now: with rules, or with facts.

@@ -17,8 +17,8 @@ use crate::terms::call_term;
 use crate::ticks::{tick, tick_call};
 use pi_arenas::{Kind, Now, Point, Run, Strict, behind};
 use pi_code::{Code, Node, Step};
+use pi_constraints::StateStore;
 use pi_meaning::{Budget, Mode};
-use pi_states::StateStore;
 use std::alloc::AllocError;
 
 /// Runs the first goal of a point, which has one, or the value behind a function's body.

@@ -15,7 +15,7 @@ use crate::rules::{call_of, retry, take_guarded};
 use crate::values::slot_at;
 use pi_arenas::{Back, End, Kind, Now, Point, Run, Strict, behind_level};
 use pi_code::{Code, Node, Step};
-use pi_states::StateStore;
+use pi_constraints::StateStore;
 use std::alloc::AllocError;
 
 /// Enters a level: its first child goal is run, behind which no frame says what follows.

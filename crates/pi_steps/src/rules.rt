@@ -8,7 +8,7 @@ use crate::choices::{one_goal, push_entry_at};
 use crate::heads::matches;
 use pi_arenas::{Back, Blocks, Kind, Now, Point, Run, Strict};
 use pi_code::{Code, Predicate, Rule};
-use pi_states::StateStore;
+use pi_constraints::StateStore;
 use std::alloc::AllocError;
 
 /// A call that is made: its predicate, where its block begins, and the frame to go on with.

@@ -3,15 +3,15 @@ ghost use Rattle.std.specs.Prelude.{◌≡◌, Some, IfOk, slice_get};
 ghost use Rattle.pi_code.specs.declared.code.Node.{Node};
 ghost use Rattle.pi_arenas.specs.Arenas.{view_of};
 ghost use Rattle.pi_stands.specs.Stands.{Loaded, world};
-ghost use Rattle.pi_states.specs.declared.store.Ref.{Ref};
+ghost use Rattle.pi_constraints.specs.declared.store.Ref.{Ref};
 ghost use Rattle.pi_stands.specs.Makes.{RunsGoal};
 
 use crate::calls::take_arguments;
 use pi_arenas::{Now, Point, Run};
 use pi_code::{Code, Step};
+use pi_constraints::{Ref, StateStore};
 use pi_effects::{Fault, Kind, ball_of};
 use pi_facts::{take_called, unknown_name};
-use pi_states::{Ref, StateStore};
 use std::alloc::AllocError;
 
 /// Calls a term. It is the first of so many operands from one on, and the others are arguments behind its own. A last call gives the

@@ -2,19 +2,19 @@
 ghost use Rattle.std.specs.Prelude.{◌≡◌, ◌<◌, ◌≤◌, ◌-◌, ℕ, IfOk, length, take, drop, reverse};
 ghost use Rattle.pi_terms.specs.Tree.{Tree, Trees, tree, no_trees};
 ghost use Rattle.pi_terms.specs.Places.{Places, held};
-ghost use Rattle.pi_states.specs.Store.{Terms};
-ghost use Rattle.pi_states.specs.Evaluation.{slot_term, evaluated};
+ghost use Rattle.pi_constraints.specs.Store.{Terms};
+ghost use Rattle.pi_constraints.specs.Evaluation.{slot_term, evaluated};
 ghost use Rattle.pi_unify.specs.Copying.{AreBuilt};
 ghost use Rattle.pi_arenas.specs.Arenas.{view_of};
 ghost use Rattle.pi_code.specs.Code.{tables_of, operand_tree, spelled_parts};
 ghost use Rattle.pi_stands.specs.Here.{Block, Holds, IsReadable, IsReadablePart};
-ghost use Rattle.pi_states.specs.Store.{Extend};
+ghost use Rattle.pi_constraints.specs.Store.{Extend};
 ghost use Rattle.pi_arenas.specs.Frames.{slot_number};
 ghost use Rattle.pi_stands.specs.Evaluates.{Evaluates, Writes, filled_one, filled_by, part_on, parts_between, IsFilledPart, AreReadableParts, AreFilledParts};
 
 use pi_arenas::Run;
 use pi_code::{Code, Operand, Part};
-use pi_states::{Ref, StateStore};
+use pi_constraints::{Ref, StateStore};
 use std::alloc::AllocError;
 
 /// What an operand is where the slots of the clause begin at `first`. A slot that is empty takes a new variable at its

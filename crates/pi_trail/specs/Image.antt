@@ -1,6 +1,6 @@
 -- What a region with its tables and its trail holds.
 use Rattle.std.specs.Prelude.{ℕ, zero, suc, ◌/◌, ◌%◌, List, [], ◌∷◌, ◌++◌, length, map, slice_index, slice_set}
-use Rattle.pi_states.specs.declared.store.Ref.{Ref}
+use Rattle.pi_constraints.specs.declared.store.Ref.{Ref}
 use Rattle.pi_trail.specs.declared.entry.Table.{Table}
 use Rattle.pi_trail.specs.declared.entry.Change.{Change}
 use Rattle.pi_trail.specs.Entry.{data_of, word_of}

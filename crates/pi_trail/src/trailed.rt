@@ -7,7 +7,7 @@ ghost use Rattle.pi_trail.specs.Back.{Advances, newest, newest_place, newest_old
 use crate::entry::{Change, Entry, Table, data, value};
 use crate::word_list::WordList;
 use crate::words::Words;
-use pi_states::Ref;
+use pi_constraints::Ref;
 use std::alloc::{AllocError, Global};
 use std::cmp::min;
 use std::marker::Model;

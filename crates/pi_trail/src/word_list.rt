@@ -3,7 +3,7 @@ ghost use Rattle.std.specs.Prelude.{◌≡◌, ◌<◌, ◌^◌, ◌-◌, [], �
 ghost use Rattle.pi_trail.specs.Image.{numbers_of};
 
 use crate::words::Words;
-use pi_states::Ref;
+use pi_constraints::Ref;
 use std::alloc::{AllocError, Global};
 use std::marker::Model;
 

@@ -3,7 +3,7 @@ use Rattle.std.proofs.Common.{◌≡◌, ℕ, zero, suc, ◌+◌, ◌<◌, ◌�
 use Rattle.std.proofs.lemmas.Bool.Decides.{nat_tests}
 use Rattle.std.specs.Prelude.{nat_lt, IsTrue, ◌↔◌, Contains}
 use Rattle.std.proofs.lemmas.List.Elements.{Contains-append_left, Contains-append_right, Contains-append_cases}
-use Rattle.pi_states.specs.Store.{AscendAbove, Lists}
+use Rattle.pi_constraints.specs.Store.{AscendAbove, Lists}
 use Rattle.pi_types.specs.TreeStoreWalks.{ListsBelow}
 
 pub lists_none : (P : ℕ → Type 0) → ListsBelow P 0 []

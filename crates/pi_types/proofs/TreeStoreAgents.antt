@@ -4,13 +4,13 @@ use Rattle.std.specs.Prelude.{slice_get, option_map}
 use Rattle.std.proofs.lemmas.List.{length-map, map-append}
 use Rattle.std.proofs.lemmas.Option.{slice_get_within, slice_get-map}
 use Rattle.pi_terms.specs.Tree.{Tree}
-use Rattle.pi_states.specs.State.{Agent, WatchTree, on_ins, on_bound, on_dom, on_dom_any, on_posted}
-use Rattle.pi_states.specs.Store.{IsWatch, AreWatches, ShowsAgent, Suspends}
+use Rattle.pi_constraints.specs.State.{Agent, WatchTree, on_ins, on_bound, on_dom, on_dom_any, on_posted}
+use Rattle.pi_constraints.specs.Store.{IsWatch, AreWatches, ShowsAgent, Suspends}
 use Rattle.pi_types.specs.TreeStore.{tree_in, trees_of, variable_of, watch_of, agent_of, store_view}
 use Rattle.pi_types.specs.TreeStoreWalks.{AllWatchedBelow, watched_ref, changed}
 use Rattle.pi_types.specs.TreeStoreSound.{IsSoundState, IsAdvanced}
-use Rattle.pi_states.specs.declared.store.Ref.{Ref}
-use Rattle.pi_states.specs.declared.event.Watch.{Watch}
+use Rattle.pi_constraints.specs.declared.store.Ref.{Ref}
+use Rattle.pi_constraints.specs.declared.event.Watch.{Watch}
 use Rattle.pi_types.specs.declared.tree_store.state.StoredAgent.{StoredAgent}
 use Rattle.pi_types.specs.declared.tree_store.state.TreeState.{TreeState}
 use Rattle.pi_types.specs.declared.tree_store.state.Change.{Change}

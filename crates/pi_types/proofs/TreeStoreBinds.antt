@@ -4,15 +4,15 @@ use Rattle.std.specs.Prelude.{slice_get, slice_index_or, option_map}
 use Rattle.std.proofs.lemmas.List.{length-map}
 use Rattle.std.proofs.lemmas.Option.{slice_get_within}
 use Rattle.pi_terms.specs.Tree.{Tree, var}
-use Rattle.pi_states.specs.State.{free, within, bound, bindings, next, followed, IsUnbound, with_variable, domain_of, domain_in, domain_at_root}
-use Rattle.pi_states.proofs.StateLemmas.{as_many}
-use Rattle.pi_states.specs.Store.{Changes, Binds, Confines, ShowsCell}
+use Rattle.pi_constraints.specs.State.{free, within, bound, bindings, next, followed, IsUnbound, with_variable, domain_of, domain_in, domain_at_root}
+use Rattle.pi_constraints.proofs.StateLemmas.{as_many}
+use Rattle.pi_constraints.specs.Store.{Changes, Binds, Confines, ShowsCell}
 use Rattle.pi_types.specs.TreeStore.{tree_in, term_tree, trees_of, known_of, variable_of, agent_of, state_of, store_view}
 use Rattle.pi_types.specs.TreeStoreWalks.{bound_ref, bound_ref_of, binding_in, cell_at, cell_in, followed_in, term_of, unless_bound, unbound_of, unbound_cell, unbound_in, changed, known_domain, known_domain_of, known_domain_in}
 use Rattle.pi_types.specs.TreeStoreSound.{IsSoundState, IsSoundVariable, IsKnownBelow, IsAdvanced}
 use Rattle.pi_constraints.specs.declared.domain.Span.{Span}
-use Rattle.pi_states.specs.declared.store.Ref.{Ref}
-use Rattle.pi_states.specs.declared.store.Cell.{Cell}
+use Rattle.pi_constraints.specs.declared.store.Ref.{Ref}
+use Rattle.pi_constraints.specs.declared.store.Cell.{Cell}
 use Rattle.pi_types.specs.declared.tree_store.state.StoredTerm.{StoredTerm}
 use Rattle.pi_types.specs.declared.tree_store.state.Known.{Known}
 use Rattle.pi_types.specs.declared.tree_store.state.StoredVariable.{StoredVariable}

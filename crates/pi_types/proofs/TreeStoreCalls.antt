@@ -3,13 +3,13 @@ use Rattle.std.proofs.Common.{◌≡◌, ℕ, zero, suc, ◌≤◌, Bool, false,
 use Rattle.std.specs.Prelude.{slice_get, slice_set}
 use Rattle.std.proofs.lemmas.List.{length-map, map-append}
 use Rattle.pi_terms.specs.Tree.{Tree, var}
-use Rattle.pi_states.specs.State.{Agent, with_new, with_ended, ended, end_agent, next}
-use Rattle.pi_states.specs.Store.{Changes, Stays, Gives, TakesFirst}
+use Rattle.pi_constraints.specs.State.{Agent, with_new, with_ended, ended, end_agent, next}
+use Rattle.pi_constraints.specs.Store.{Changes, Stays, Gives, TakesFirst}
 use Rattle.pi_types.specs.TreeStore.{term_tree, trees_of, variable_of, agent_of, state_of, store_view}
 use Rattle.pi_types.specs.TreeStoreWalks.{changed}
 use Rattle.pi_types.specs.TreeStoreSound.{IsSound, IsSoundState, IsSoundAgent, IsAdvanced, IsSame}
-use Rattle.pi_states.specs.declared.store.Ref.{Ref}
-use Rattle.pi_states.specs.declared.event.Activation.{Activation}
+use Rattle.pi_constraints.specs.declared.store.Ref.{Ref}
+use Rattle.pi_constraints.specs.declared.event.Activation.{Activation}
 use Rattle.pi_types.specs.declared.tree_store.state.StoredTerm.{StoredTerm}
 use Rattle.pi_types.specs.declared.tree_store.state.StoredAgent.{StoredAgent}
 use Rattle.pi_types.specs.declared.tree_store.state.TreeState.{TreeState}

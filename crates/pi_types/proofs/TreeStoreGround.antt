@@ -5,11 +5,11 @@ use Rattle.std.specs.Prelude.{nat_lt, slice_get, IsTrue, ◌↔◌}
 use Rattle.std.proofs.lemmas.Option.{slice_get_within, get_or_from_slice_get}
 use Rattle.pi_terms.specs.Tree.{Tree, comp, Trees, no_trees, tree}
 use Rattle.pi_terms.specs.Variables.{IsGround, occurrences, occurrences_all, firsts}
-use Rattle.pi_states.specs.Store.{AreTerms}
+use Rattle.pi_constraints.specs.Store.{AreTerms}
 use Rattle.pi_types.specs.TreeStore.{tree_in, trees_in, term_tree, trees_of, store_view, name_at}
 use Rattle.pi_types.specs.TreeStoreWalks.{AllBelow, ground_flag, is_ground_in, all_ground_in}
 use Rattle.pi_types.specs.TreeStoreSound.{IsMadeBelow, IsSoundState, IsSoundTerm}
-use Rattle.pi_states.specs.declared.store.Ref.{Ref}
+use Rattle.pi_constraints.specs.declared.store.Ref.{Ref}
 use Rattle.pi_types.specs.declared.tree_store.state.StoredTerm.{StoredTerm}
 use Rattle.pi_types.specs.declared.tree_store.state.TreeState.{TreeState}
 use Rattle.pi_terms.proofs.GetLemmas.{get_some}

@@ -3,13 +3,13 @@ use Rattle.std.proofs.Common.{◌≡◌, ℕ, zero, suc, ◌+◌, ◌<◌, ◌�
 use Rattle.std.specs.Prelude.{slice_get, slice_index_or, nat_lt}
 use Rattle.std.proofs.lemmas.Bool.Decides.{nat_tests}
 use Rattle.pi_terms.specs.Tree.{Tree}
-use Rattle.pi_states.specs.State.{State, bound, on_ins, on_bound, on_dom, on_dom_any, on_posted}
-use Rattle.pi_states.specs.Store.{StoreView, Keeps, Changes, Stays, Gives}
+use Rattle.pi_constraints.specs.State.{State, bound, on_ins, on_bound, on_dom, on_dom_any, on_posted}
+use Rattle.pi_constraints.specs.Store.{StoreView, Keeps, Changes, Stays, Gives}
 use Rattle.pi_types.specs.TreeStore.{tree_in, term_tree, grown, trees_of, known_of, variable_of, watch_of, agent_of, state_of, moment, moment_over, kept_count, store_view}
 use Rattle.pi_types.specs.TreeStoreWalks.{AllWatchedBelow, watched_ref, changed}
 use Rattle.pi_types.specs.TreeStoreSound.{IsSound, IsSoundState, IsKnownBelow, with_kept, IsAdvanced, IsSame}
-use Rattle.pi_states.specs.declared.store.Ref.{Ref}
-use Rattle.pi_states.specs.declared.event.Watch.{Watch}
+use Rattle.pi_constraints.specs.declared.store.Ref.{Ref}
+use Rattle.pi_constraints.specs.declared.event.Watch.{Watch}
 use Rattle.pi_types.specs.declared.tree_store.state.StoredTerm.{StoredTerm}
 use Rattle.pi_types.specs.declared.tree_store.state.Known.{Known}
 use Rattle.pi_types.specs.declared.tree_store.state.StoredAgent.{StoredAgent}

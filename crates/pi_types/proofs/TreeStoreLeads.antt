@@ -6,18 +6,18 @@ use Rattle.std.proofs.lemmas.Bool.Decides.{Decides-eqb}
 use Rattle.pi_terms.specs.Tree.{Tree, var}
 use Rattle.pi_terms.specs.Variables.{Occurs}
 use Rattle.pi_terms.specs.Places.{held}
-use Rattle.pi_states.specs.Value.{Bindings, IsAcyclic}
-use Rattle.pi_states.specs.State.{binding, LeadsTo, is_it, through}
+use Rattle.pi_constraints.specs.Value.{Bindings, IsAcyclic}
+use Rattle.pi_constraints.specs.State.{binding, LeadsTo, is_it, through}
 use Rattle.pi_types.specs.TreeStore.{tree_in, term_tree, trees_of, variable_of}
 use Rattle.pi_types.specs.TreeStoreWalks.{binding_in, variable_at, variable_in, variable_of_any, any_in, leads_for, leads_in}
 use Rattle.pi_types.specs.TreeStoreSound.{IsSoundState}
-use Rattle.pi_states.specs.declared.store.Ref.{Ref}
+use Rattle.pi_constraints.specs.declared.store.Ref.{Ref}
 use Rattle.pi_types.specs.declared.tree_store.state.StoredTerm.{StoredTerm}
 use Rattle.pi_types.specs.declared.tree_store.state.TreeState.{TreeState}
 use Rattle.pi_types.proofs.TreeStoreTrees.{Names, IsTermOf, term_at, tree_in_is}
 use Rattle.pi_types.proofs.TreeStoreGround.{valid_tree}
 use Rattle.pi_types.proofs.TreeStoreLooks.{bound_in, held_is, binding_below, own_tree}
-use Rattle.pi_states.proofs.ValueLemmas.{Ranked, ranked}
+use Rattle.pi_constraints.proofs.ValueLemmas.{Ranked, ranked}
 
 -- One step of a chain, by numbers and by terms
 

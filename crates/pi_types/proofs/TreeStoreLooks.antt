@@ -5,14 +5,14 @@ use Rattle.std.proofs.lemmas.List.{length-map}
 use Rattle.std.proofs.lemmas.Option.{slice_get_within, slice_get-get_or}
 use Rattle.pi_terms.specs.Tree.{Tree, var, int, atom, comp, Trees, tree_count, tree_at, args, arg_at}
 use Rattle.pi_terms.specs.Places.{held}
-use Rattle.pi_states.specs.Value.{Bindings}
-use Rattle.pi_states.specs.State.{binding, bindings, followed, followed_for, next}
-use Rattle.pi_states.specs.Store.{ShowsCell}
+use Rattle.pi_constraints.specs.Value.{Bindings}
+use Rattle.pi_constraints.specs.State.{binding, bindings, followed, followed_for, next}
+use Rattle.pi_constraints.specs.Store.{ShowsCell}
 use Rattle.pi_types.specs.TreeStore.{tree_in, trees_in, term_tree, trees_of, known_of, variable_of, state_of, store_view, name_at}
 use Rattle.pi_types.specs.TreeStoreWalks.{AllBelow, bound_ref, bound_ref_of, binding_in, variable_at, variable_in, binding_of_any, step_in, steps_in, followed_in, cell_at, cell_in, arg_of, arg_in, term_of}
 use Rattle.pi_types.specs.TreeStoreSound.{IsSoundState, IsSoundTerm, IsKnownBelow}
-use Rattle.pi_states.specs.declared.store.Ref.{Ref}
-use Rattle.pi_states.specs.declared.store.Cell.{Cell}
+use Rattle.pi_constraints.specs.declared.store.Ref.{Ref}
+use Rattle.pi_constraints.specs.declared.store.Cell.{Cell}
 use Rattle.pi_types.specs.declared.tree_store.state.StoredTerm.{StoredTerm}
 use Rattle.pi_types.specs.declared.tree_store.state.Known.{Known}
 use Rattle.pi_types.specs.declared.tree_store.state.StoredVariable.{StoredVariable}

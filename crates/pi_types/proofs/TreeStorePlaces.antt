@@ -6,16 +6,16 @@ use Rattle.std.proofs.lemmas.List.{length-map}
 use Rattle.std.proofs.lemmas.Option.{slice_get_within}
 use Rattle.pi_terms.specs.Tree.{Tree, var}
 use Rattle.pi_terms.specs.Places.{held}
-use Rattle.pi_states.specs.Value.{IsAcyclic}
+use Rattle.pi_constraints.specs.Value.{IsAcyclic}
 use Rattle.pi_constraints.specs.Constraint.{HoldsVariable, HoldVariable, SumHasVariable, SpeaksOf}
-use Rattle.pi_states.specs.State.{bindings, LeadsTo}
-use Rattle.pi_states.specs.Store.{Lists, IsPostedOn, HasChanged}
+use Rattle.pi_constraints.specs.State.{bindings, LeadsTo}
+use Rattle.pi_constraints.specs.Store.{Lists, IsPostedOn, HasChanged}
 use Rattle.pi_types.specs.TreeStore.{tree_in, trees_of, variable_of, state_of}
 use Rattle.pi_types.specs.TreeStoreWalks.{bound_ref, bound_ref_of, binding_in, leads_in, item_leads, items_lead, sum_leads, constraint_leads, posted_of, posted_in, HasChangedIn, ListsBelow, unbound_of, unless_bound, is_unbound_in}
 use Rattle.pi_types.specs.TreeStoreSound.{IsSoundState}
 use Rattle.pi_constraints.specs.declared.constraint.Item.{Item}
 use Rattle.pi_constraints.specs.declared.constraint.Constraint.{Constraint}
-use Rattle.pi_states.specs.declared.store.Ref.{Ref}
+use Rattle.pi_constraints.specs.declared.store.Ref.{Ref}
 use Rattle.pi_types.specs.declared.tree_store.state.StoredVariable.{StoredVariable}
 use Rattle.pi_types.specs.declared.tree_store.state.TreeState.{TreeState}
 use Rattle.pi_terms.proofs.GetLemmas.{get_some}

@@ -9,13 +9,13 @@ use Rattle.pi_terms.specs.BareCells.{bare, bare_all, with_size}
 use Rattle.pi_terms.specs.Variables.{Occurs}
 use Rattle.pi_terms.specs.Substitution.{instance, instances}
 use Rattle.pi_terms.specs.Places.{held}
-use Rattle.pi_states.specs.Value.{Bindings, IsAcyclic, value}
-use Rattle.pi_states.specs.State.{followed, followed_for}
+use Rattle.pi_constraints.specs.Value.{Bindings, IsAcyclic, value}
+use Rattle.pi_constraints.specs.State.{followed, followed_for}
 use Rattle.pi_types.specs.TreeStore.{tree_in, trees_in, term_tree, trees_of, name_at}
 use Rattle.pi_types.specs.TreeStoreWalks.{AllBelow, followed_in}
 use Rattle.pi_types.specs.TreeStoreSound.{IsSoundState}
 use Rattle.pi_types.specs.TreeStoreRead.{entered_cell, entered_args, turned, read_cells, open_cells, IsReadable, IsReading}
-use Rattle.pi_states.specs.declared.store.Ref.{Ref}
+use Rattle.pi_constraints.specs.declared.store.Ref.{Ref}
 use Rattle.pi_terms.specs.declared.term.TermCell.{TermCell}
 use Rattle.pi_terms.specs.declared.term.TermCell.TheVariants.{Comp}
 use Rattle.pi_types.specs.declared.tree_store.state.StoredTerm.{StoredTerm}
@@ -24,7 +24,7 @@ use Rattle.pi_terms.proofs.TermLemmas.{length_flat, cells-positive}
 use Rattle.pi_types.proofs.TreeStoreTrees.{Names, IsTermOf, term_at, tree_in_is, length_trees}
 use Rattle.pi_types.proofs.TreeStoreGround.{valid_tree}
 use Rattle.pi_types.proofs.TreeStoreLooks.{bound_in, followed_is}
-use Rattle.pi_states.proofs.ValueLemmas.{Ranked, ranked, value_goes_by_variables, unbound_is_its_own_value, bound_has_value_of_its_term}
+use Rattle.pi_constraints.proofs.ValueLemmas.{Ranked, ranked, value_goes_by_variables, unbound_is_its_own_value, bound_has_value_of_its_term}
 
 -- Values
 

@@ -8,8 +8,8 @@ use Rattle.pi_types.specs.TreeStore.{trees_in, term_tree, grown, trees_of, name_
 use Rattle.pi_atoms.specs.Names.{HasDistinct}
 use Rattle.pi_types.specs.TreeStoreWalks.{AllWatchedBelow, watched_ref, variable_at, changed}
 use Rattle.pi_types.specs.TreeStoreSound.{IsSoundTerm, IsSoundState, IsSoundVariable, IsSoundAgent, IsKnownBelow, IsMadeBelow, IsSound}
-use Rattle.pi_states.specs.declared.event.Watch.{Watch}
-use Rattle.pi_states.specs.declared.event.Activation.{Activation}
+use Rattle.pi_constraints.specs.declared.event.Watch.{Watch}
+use Rattle.pi_constraints.specs.declared.event.Activation.{Activation}
 use Rattle.pi_constraints.specs.declared.constraint.Constraint.{Constraint}
 use Rattle.pi_types.specs.declared.tree_store.state.StoredTerm.{StoredTerm}
 use Rattle.pi_types.specs.declared.tree_store.state.Known.{Known}

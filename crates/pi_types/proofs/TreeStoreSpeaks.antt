@@ -4,10 +4,10 @@ use Rattle.std.specs.Prelude.{slice_get, slice_index_or, pos}
 use Rattle.std.proofs.lemmas.List.{length-map}
 use Rattle.pi_terms.specs.Tree.{Tree, int}
 use Rattle.pi_terms.specs.Variables.{Occurs, OccursInAny}
-use Rattle.pi_states.specs.State.{SpeaksBelow, next}
+use Rattle.pi_constraints.specs.State.{SpeaksBelow, next}
 use Rattle.pi_types.specs.TreeStore.{trees_in, term_tree, grown, trees_of, variable_of, state_of}
 use Rattle.pi_types.specs.TreeStoreSound.{IsMadeBelow, IsSoundState}
-use Rattle.pi_states.specs.declared.store.Ref.{Ref}
+use Rattle.pi_constraints.specs.declared.store.Ref.{Ref}
 use Rattle.pi_types.specs.declared.tree_store.state.StoredTerm.{StoredTerm}
 use Rattle.pi_types.specs.declared.tree_store.state.TreeState.{TreeState}
 use Rattle.pi_terms.proofs.GetLemmas.{get_append_cases}

@@ -7,7 +7,7 @@ use Rattle.pi_terms.specs.Tree.{Tree, int, atom, comp, tree}
 use Rattle.pi_types.specs.TreeStore.{tree_in, trees_in, term_tree, grown, trees_of, name_at}
 use Rattle.pi_types.specs.TreeStoreWalks.{AllBelow}
 use Rattle.pi_types.specs.TreeStoreSound.{IsSoundTerm, IsSoundState}
-use Rattle.pi_states.specs.declared.store.Ref.{Ref}
+use Rattle.pi_constraints.specs.declared.store.Ref.{Ref}
 use Rattle.pi_types.specs.declared.tree_store.state.StoredTerm.{StoredTerm}
 use Rattle.pi_types.specs.declared.tree_store.state.TreeState.{TreeState}
 use Rattle.pi_terms.proofs.GetLemmas.{get_append_seam, get_some}

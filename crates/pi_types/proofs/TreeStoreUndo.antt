@@ -1,7 +1,7 @@
 -- A return to a mark of a copying store.
 use Rattle.std.proofs.Common.{◌≡◌, ℕ, zero, suc, ◌+◌, ◌-◌, ◌<◌, ◌≤◌, Bool, true, List, [], ◌∷◌, length, take, Option, Some, None, refl, ap, sym, subst, ◌∙◌, arith, add-one}
 use Rattle.std.specs.Prelude.{slice_get, slice_index_or}
-use Rattle.pi_states.specs.Store.{Returns}
+use Rattle.pi_constraints.specs.Store.{Returns}
 use Rattle.pi_types.specs.TreeStore.{moment, store_view}
 use Rattle.pi_types.specs.TreeStoreSound.{IsSound}
 use Rattle.pi_types.specs.declared.tree_store.state.TreeState.{TreeState}

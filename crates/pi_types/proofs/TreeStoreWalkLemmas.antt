@@ -3,7 +3,7 @@ use Rattle.std.proofs.Common.{◌≡◌, ℕ, zero, suc, ◌+◌, ◌-◌, ◌<�
 use Rattle.std.proofs.lemmas.Bool.Decides.{nat_tests}
 use Rattle.std.specs.Prelude.{unwrap_or, ◌==◌}
 use Rattle.pi_types.specs.TreeStoreWalks.{steps_in, step_in, binding_of_any, variable_in, variable_of_any, binding_in, leads_for, any_in}
-use Rattle.pi_states.specs.declared.store.Ref.{Ref}
+use Rattle.pi_constraints.specs.declared.store.Ref.{Ref}
 use Rattle.pi_types.specs.declared.tree_store.state.TreeState.{TreeState}
 
 step_stays : (s : TreeState) (r : Ref) → binding_of_any s (variable_in s r) ≡ None → step_in s r ≡ r

@@ -1,10 +1,10 @@
 -- What a store of whole states holds: the trees of a state's terms, the state that the trait speaks of, and the marks.
 use Rattle.std.specs.Prelude.{ℕ, ◌+◌, Bool, nat_lt, pos, List, [], ◌∷◌, ◌++◌, length, map, slice_get, slice_index_or, if◌then◌else◌}
 use Rattle.pi_terms.specs.Tree.{Tree, var, int, atom, comp, Trees, no_trees, tree}
-use Rattle.pi_states.specs.State.{State, Variable, free, within, bound, Agent, WatchTree, on_ins, on_bound, on_dom, on_dom_any, on_posted}
-use Rattle.pi_states.specs.Store.{Moment, StoreView}
-use Rattle.pi_states.specs.declared.store.Ref.{Ref}
-use Rattle.pi_states.specs.declared.event.Watch.{Watch}
+use Rattle.pi_constraints.specs.State.{State, Variable, free, within, bound, Agent, WatchTree, on_ins, on_bound, on_dom, on_dom_any, on_posted}
+use Rattle.pi_constraints.specs.Store.{Moment, StoreView}
+use Rattle.pi_constraints.specs.declared.store.Ref.{Ref}
+use Rattle.pi_constraints.specs.declared.event.Watch.{Watch}
 use Rattle.pi_types.specs.declared.tree_store.state.StoredTerm.{StoredTerm}
 use Rattle.pi_types.specs.declared.tree_store.state.Known.{Known}
 use Rattle.pi_types.specs.declared.tree_store.state.StoredVariable.{StoredVariable}

@@ -6,8 +6,8 @@ use Rattle.pi_terms.specs.Tree.{Tree}
 use Rattle.pi_atoms.specs.Names.{HasDistinct}
 use Rattle.pi_types.specs.TreeStoreWalks.{AllBelow, AllWatchedBelow}
 use Rattle.pi_types.specs.TreeStoreSound.{IsSoundCompound, IsSoundTerm, IsKnownBelow, IsMadeBelow, IsSoundVariable, IsSoundAgent, IsSoundState, IsSound}
-use Rattle.pi_states.specs.declared.store.Ref.{Ref}
-use Rattle.pi_states.specs.declared.event.Watch.{Watch}
+use Rattle.pi_constraints.specs.declared.store.Ref.{Ref}
+use Rattle.pi_constraints.specs.declared.event.Watch.{Watch}
 use Rattle.pi_types.specs.declared.tree_store.state.StoredTerm.{StoredTerm}
 use Rattle.pi_types.specs.declared.tree_store.state.Known.{Known}
 use Rattle.pi_types.specs.declared.tree_store.state.StoredVariable.{StoredVariable}

@@ -1,14 +1,14 @@
 -- How a term of a copying store is read: its cell, and its arguments to be read next.
 use Rattle.std.specs.Prelude.{◌≡◌, ℕ, ◌+◌, ◌≤◌, ◌<◌, List, [], ◌∷◌, ◌++◌, length, Option, Some, None, slice_get, ⊤}
 use Rattle.pi_terms.specs.Tree.{Tree, Trees, tree_count, cells, most_cells}
-use Rattle.pi_states.specs.Value.{Bindings, IsAcyclic, value}
-use Rattle.pi_states.specs.State.{bindings}
+use Rattle.pi_constraints.specs.Value.{Bindings, IsAcyclic, value}
+use Rattle.pi_constraints.specs.State.{bindings}
 use Rattle.pi_types.specs.TreeStore.{tree_in, trees_of, state_of, name_at}
 use Rattle.pi_types.specs.TreeStoreWalks.{AllBelow}
 use Rattle.pi_types.specs.TreeStoreSound.{IsSoundState}
 use Rattle.pi_terms.specs.BareCells.{bare, bare_all}
-use Rattle.pi_states.specs.declared.store.Ref.{Ref}
-use Rattle.pi_states.specs.declared.store.ReadStop.{ReadStop}
+use Rattle.pi_constraints.specs.declared.store.Ref.{Ref}
+use Rattle.pi_constraints.specs.declared.store.ReadStop.{ReadStop}
 use Rattle.pi_terms.specs.declared.term.TermCell.{TermCell}
 use Rattle.pi_terms.specs.declared.term.TermCell.TheVariants.{Var, Int, Atom, Comp}
 use Rattle.pi_types.specs.declared.tree_store.state.StoredTerm.{StoredTerm}

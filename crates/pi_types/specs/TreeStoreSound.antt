@@ -6,7 +6,7 @@ use Rattle.pi_terms.specs.Variables.{IsGround}
 use Rattle.pi_types.specs.TreeStore.{trees_of, trees_in, name_at}
 use Rattle.pi_atoms.specs.Names.{HasDistinct}
 use Rattle.pi_types.specs.TreeStoreWalks.{AllBelow, AllWatchedBelow, variable_at}
-use Rattle.pi_states.specs.declared.store.Ref.{Ref}
+use Rattle.pi_constraints.specs.declared.store.Ref.{Ref}
 use Rattle.pi_types.specs.declared.tree_store.state.StoredTerm.{StoredTerm}
 use Rattle.pi_types.specs.declared.tree_store.state.Known.{Known}
 use Rattle.pi_types.specs.declared.tree_store.state.StoredVariable.{StoredVariable}

@@ -1,11 +1,11 @@
 -- What the copying store's own walks answer, by the numbers of terms and variables alone; and the changes of a state.
-use Rattle.pi_states.specs.Store.{AscendAbove}
+use Rattle.pi_constraints.specs.Store.{AscendAbove}
 use Rattle.std.specs.Prelude.{◌≢◌, ◌⊎◌, ◌↔◌, IsTrue, Contains, ℕ, zero, suc, ◌<◌, ◌==◌, Bool, true, false, List, [], ◌∷◌, ◌++◌, length, Option, Some, None, slice_get, slice_set, unwrap_or, drop, cond, ⊤, ℤ}
 use Rattle.std.specs.Option.{is_some}
 use Rattle.pi_constraints.specs.declared.domain.Span.{Span}
-use Rattle.pi_states.specs.declared.store.Ref.{Ref}
-use Rattle.pi_states.specs.declared.store.Cell.{Cell}
-use Rattle.pi_states.specs.declared.event.Watch.{Watch}
+use Rattle.pi_constraints.specs.declared.store.Ref.{Ref}
+use Rattle.pi_constraints.specs.declared.store.Cell.{Cell}
+use Rattle.pi_constraints.specs.declared.event.Watch.{Watch}
 use Rattle.pi_constraints.specs.declared.constraint.Item.{Item}
 use Rattle.pi_constraints.specs.declared.constraint.Constraint.{Constraint}
 use Rattle.pi_types.specs.declared.tree_store.state.StoredTerm.{StoredTerm}

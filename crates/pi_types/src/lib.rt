@@ -6,17 +6,14 @@ pub mod laws;
 mod tree_store;
 
 pub use pi_constraints::{
-    Constraint, Constraints, Domain, Domains, Item, Items, LinTerm, LinTerms, MAX_VALUE, Rel, Span,
-    VarDomain, VarDomains,
+    Activation, Activations, AgentView, Cell, Constraint, Constraints, Domain, Domains, Event,
+    Events, Item, Items, LinTerm, LinTerms, MAX_VALUE, Places, ReadStop, Ref, Rel, Span,
+    StateStore, VarDomain, VarDomains, Watch, Watches,
 };
 pub use pi_core::{
     Answer, CallLog, CoreClause, CoreClauses, CoreGoal, CorePred, CorePreds, CoreProgram,
     CoreQuery, Entered, EnteredCalls, GoalNode, LogEntry, NameSlot, NameSlots, NamedTerm,
     NamedTerms, Pattern, Patterns, PlanResult, SlotWatch, SlotWatches, Work,
-};
-pub use pi_states::{
-    Activation, Activations, AgentView, Cell, Event, Events, Places, ReadStop, Ref, StateStore,
-    Watch, Watches,
 };
 pub use pi_syntax::{
     Branches, Clause, Decl, Exp, Exps, Goal, Mode, ModeLists, Modes, Names, Part, Parts, Program,

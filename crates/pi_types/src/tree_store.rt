@@ -1,7 +1,7 @@
 //! A store that keeps whole states for its marks.
 ghost use Rattle.std.specs.Prelude.{◌≡◌, ℕ, Some, length, IfOk, OnErr, slice_index_or};
-ghost use Rattle.pi_states.specs.Store.{Keeps, Changes, Stays};
-ghost use Rattle.pi_states.specs.State.{empty_state, with_variable};
+ghost use Rattle.pi_constraints.specs.Store.{Keeps, Changes, Stays};
+ghost use Rattle.pi_constraints.specs.State.{empty_state, with_variable};
 ghost use Rattle.pi_types.specs.TreeStore.{store_view, trees_of, state_of, known_of};
 ghost use Rattle.pi_types.specs.TreeStoreWalks.{changed, unbound_in};
 ghost use Rattle.pi_types.specs.TreeStoreProps.{sound_prop};
@@ -18,8 +18,9 @@ mod terms;
 use crate::tree_store::copied::Copied;
 use crate::tree_store::state::{Change, Known, StoredAgent, StoredTerm, StoredVariable, TreeState};
 use pi_atoms::Atoms;
-use pi_constraints::{Constraint, Domain};
-use pi_states::{Activation, AgentView, Cell, Places, ReadStop, Ref, StateStore, Watches};
+use pi_constraints::{
+    Activation, AgentView, Cell, Constraint, Domain, Places, ReadStop, Ref, StateStore, Watches,
+};
 use pi_terms::{Series, Term};
 use std::alloc::{AllocError, Global};
 use std::mem;

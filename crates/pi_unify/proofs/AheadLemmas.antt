@@ -1,11 +1,11 @@
 -- What a stack leaves, when a compound is put on it and when an argument is taken off it.
 use Rattle.std.proofs.Common.{◌≡◌, ℕ, suc, ◌+◌, ◌<◌, ◌≤◌, List, [], ◌∷◌, ◌++◌, Some, refl, ap, sym, ◌∙◌, subst, inl, inr, add-one, arith}
 use Rattle.pi_terms.specs.Tree.{Tree, Trees, no_trees, tree, args, arity, arg_at, tree_at}
-use Rattle.pi_states.specs.Value.{IsAcyclic}
-use Rattle.pi_states.specs.State.{bindings, followed, IsState}
-use Rattle.pi_states.specs.Store.{StoreView, IsTerm}
-use Rattle.pi_states.specs.Unify.{Pair, in_pairs}
-use Rattle.pi_states.specs.declared.store.Ref.{Ref}
+use Rattle.pi_constraints.specs.Value.{IsAcyclic}
+use Rattle.pi_constraints.specs.State.{bindings, followed, IsState}
+use Rattle.pi_constraints.specs.Store.{StoreView, IsTerm}
+use Rattle.pi_constraints.specs.Unify.{Pair, in_pairs}
+use Rattle.pi_constraints.specs.declared.store.Ref.{Ref}
 use Rattle.pi_unify.specs.Refs.{IsRef, term_of, root_of, args_from}
 use Rattle.pi_unify.specs.Ahead.{pairs_in, pairs_on, IsPairs, ArePairs, pair_and, IsNextPair, in_list, args_on, IsArgs, AreArgs, term_and}
 use Rattle.pi_unify.specs.declared.ahead.Rest.{Rest}

@@ -4,13 +4,13 @@ use Rattle.std.specs.Option.{option_and_then}
 use Rattle.pi_terms.specs.Tree.{Tree, Trees, args, drop_trees}
 use Rattle.pi_terms.specs.Places.{Places}
 use Rattle.pi_terms.specs.PatternTree.{PatternTree, PatternTrees, compound}
-use Rattle.pi_states.specs.Value.{Bindings}
-use Rattle.pi_states.specs.State.{bindings, followed}
-use Rattle.pi_states.specs.Store.{StoreView}
-use Rattle.pi_states.specs.HeadMatch.{matched_in, matched_all_in}
+use Rattle.pi_constraints.specs.Value.{Bindings}
+use Rattle.pi_constraints.specs.State.{bindings, followed}
+use Rattle.pi_constraints.specs.Store.{StoreView}
+use Rattle.pi_constraints.specs.HeadMatch.{matched_in, matched_all_in}
 use Rattle.pi_core.specs.CoreTree.{pattern_tree, pattern_trees}
 use Rattle.pi_core.specs.declared.core_program.Pattern.{Pattern}
-use Rattle.pi_states.specs.declared.store.Ref.{Ref}
+use Rattle.pi_constraints.specs.declared.store.Ref.{Ref}
 use Rattle.pi_unify.specs.Terms.{term_of}
 use Rattle.pi_unify.specs.Matching.{root_match, FitsRoot, pending_match, slot_terms, HoldAllGiven, TellsMatch, HasAsMany, arguments_match, is_compound_of, pattern_count}
 use Rattle.pi_unify.specs.declared.matching.Pending.{Pending}

@@ -5,18 +5,18 @@ use Rattle.pi_terms.specs.Tree.{Tree, var, int}
 use Rattle.pi_terms.specs.Places.{held}
 use Rattle.pi_terms.specs.Variables.{Occurs}
 use Rattle.pi_constraints.specs.Domain.{IsDomain, has_value, values_of, size_of, common}
-use Rattle.pi_states.specs.Value.{value, Bindings}
-use Rattle.pi_states.proofs.RootLemmas.{value_int}
-use Rattle.pi_states.specs.State.{State, bindings, followed, domain_of, IsState, with_binding, with_domain}
-use Rattle.pi_states.specs.Store.{StoreView, IsTerm, Keeps, Gives, Binds, Confines}
-use Rattle.pi_states.specs.Unify.{clash, changed, does_occur, admits, assigned, confined, joined_with, joined, Grows}
-use Rattle.pi_states.specs.declared.store.Ref.{Ref}
+use Rattle.pi_constraints.specs.Value.{value, Bindings}
+use Rattle.pi_constraints.proofs.RootLemmas.{value_int}
+use Rattle.pi_constraints.specs.State.{State, bindings, followed, domain_of, IsState, with_binding, with_domain}
+use Rattle.pi_constraints.specs.Store.{StoreView, IsTerm, Keeps, Gives, Binds, Confines}
+use Rattle.pi_constraints.specs.Unify.{clash, changed, does_occur, admits, assigned, confined, joined_with, joined, Grows}
+use Rattle.pi_constraints.specs.declared.store.Ref.{Ref}
 use Rattle.pi_constraints.specs.declared.domain.Span.{Span}
 use Rattle.pi_constraints.proofs.CommonLemmas.{empty_if_none, one_value, IsDomain-common}
-use Rattle.pi_states.proofs.StateLemmas.{domain_good}
-use Rattle.pi_states.proofs.FollowLemmas.{followed_other, followed_value}
-use Rattle.pi_states.proofs.UnifyBindings.{grows-refl}
-use Rattle.pi_states.proofs.UnifyJoined.{tied}
+use Rattle.pi_constraints.proofs.StateLemmas.{domain_good}
+use Rattle.pi_constraints.proofs.FollowLemmas.{followed_other, followed_value}
+use Rattle.pi_constraints.proofs.UnifyBindings.{grows-refl}
+use Rattle.pi_constraints.proofs.UnifyJoined.{tied}
 use Rattle.pi_unify.specs.declared.variables.Variable.{Variable}
 use Rattle.pi_unify.specs.Refs.{IsRef, term_of, root_of, IsVariable, IsNoVariable}
 use Rattle.pi_unify.specs.Answers.{Makes}

@@ -8,9 +8,9 @@ use Rattle.pi_terms.specs.TermCells.{take_trees, append_trees, take_trees-append
 use Rattle.pi_terms.specs.Variables.{occurrences, occurrences_all, firsts, variables}
 use Rattle.pi_terms.specs.Substitution.{instance, instances}
 use Rattle.pi_terms.specs.Copy.{renamed}
-use Rattle.pi_states.specs.State.{State}
-use Rattle.pi_states.specs.Store.{StoreView, IsTerm, AreTerms, Keeps, Stays}
-use Rattle.pi_states.specs.declared.store.Ref.{Ref}
+use Rattle.pi_constraints.specs.State.{State}
+use Rattle.pi_constraints.specs.Store.{StoreView, IsTerm, AreTerms, Keeps, Stays}
+use Rattle.pi_constraints.specs.declared.store.Ref.{Ref}
 use Rattle.pi_terms.specs.declared.term.TermHead.{TermHead}
 use Rattle.pi_terms.proofs.TermLemmas.{subterm_for_each_cell}
 use Rattle.pi_terms.proofs.VariableLemmas.{tree_count-instances, Has, Has-append_right, occurs_from_Has, variables_are_those_that_occur}

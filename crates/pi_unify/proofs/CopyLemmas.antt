@@ -3,12 +3,12 @@ use Rattle.std.proofs.Common.{◌≡◌, ℕ, zero, suc, List, [], ◌∷◌, �
 use Rattle.std.proofs.lemmas.List.{map-append}
 use Rattle.pi_terms.specs.Tree.{Tree, no_trees, tree, subterms}
 use Rattle.pi_terms.specs.Variables.{firsts}
-use Rattle.pi_states.specs.Value.{IsAcyclic, value}
+use Rattle.pi_constraints.specs.Value.{IsAcyclic, value}
 use Rattle.pi_terms.specs.Copy.{renamed}
-use Rattle.pi_states.specs.State.{State, free, binding, bindings, with_new}
-use Rattle.pi_states.specs.Store.{StoreView, IsTerm, Keeps, Stays}
-use Rattle.pi_states.specs.declared.store.Ref.{Ref}
-use Rattle.pi_states.proofs.BindingLemmas.{new_variable_stays_acyclic, new_variable_changes_no_value}
+use Rattle.pi_constraints.specs.State.{State, free, binding, bindings, with_new}
+use Rattle.pi_constraints.specs.Store.{StoreView, IsTerm, Keeps, Stays}
+use Rattle.pi_constraints.specs.declared.store.Ref.{Ref}
+use Rattle.pi_constraints.proofs.BindingLemmas.{new_variable_stays_acyclic, new_variable_changes_no_value}
 use Rattle.pi_unify.specs.Terms.{HoldsNoCycle, term_of, value_of}
 use Rattle.pi_unify.specs.Copying.{with_variables, Makes, renumbered, AreGiven, values_of, ListsNodes, ShowsCopy, forest, Nested, root_variables, AreListed}
 use Rattle.pi_unify.specs.declared.copying.Nodes.{Nodes}

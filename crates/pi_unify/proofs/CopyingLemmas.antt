@@ -10,16 +10,16 @@ use Rattle.pi_terms.specs.Tree.{Tree, var, int, atom, comp, Trees, no_trees, tre
 use Rattle.pi_terms.specs.TermCells.{take_trees}
 use Rattle.pi_terms.specs.Variables.{firsts, IsGround}
 use Rattle.pi_terms.specs.Substitution.{instance, instances}
-use Rattle.pi_states.specs.Value.{IsAcyclic, value}
+use Rattle.pi_constraints.specs.Value.{IsAcyclic, value}
 use Rattle.pi_terms.specs.Copy.{renamed}
-use Rattle.pi_states.specs.State.{State, next, bindings}
-use Rattle.pi_states.specs.Store.{StoreView, IsTerm, AreTerms, Keeps, Stays}
-use Rattle.pi_states.specs.declared.store.Ref.{Ref}
+use Rattle.pi_constraints.specs.State.{State, next, bindings}
+use Rattle.pi_constraints.specs.Store.{StoreView, IsTerm, AreTerms, Keeps, Stays}
+use Rattle.pi_constraints.specs.declared.store.Ref.{Ref}
 use Rattle.pi_terms.proofs.VariableLemmas.{Has, ground_stays, tree_count-instances}
 use Rattle.pi_terms.specs.Numbers.{noted}
 use Rattle.pi_terms.proofs.NumberLemmas.{noted-firsts, contains_from}
 use Rattle.pi_terms.proofs.CopyLemmas.{firsts-known}
-use Rattle.pi_states.proofs.ValueLemmas.{ground_is_its_own_value}
+use Rattle.pi_constraints.proofs.ValueLemmas.{ground_is_its_own_value}
 use Rattle.pi_unify.specs.Terms.{IsGiven, HoldsNoCycle, term_of, value_of}
 use Rattle.pi_unify.specs.Copying.{renumbered, AreBuilt, AreGiven, values_of, forest, Nested, root_variables, IsReadyFor, AreListed, MayCopy, PutsCopy}
 use Rattle.pi_unify.proofs.TermValues.{given_term, term_given, term_is}

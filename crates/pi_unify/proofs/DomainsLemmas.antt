@@ -10,16 +10,16 @@ use Rattle.pi_terms.specs.Tree.{Tree, var, cells, subterms, ShowsHead}
 use Rattle.pi_terms.specs.Variables.{occurrences, firsts}
 use Rattle.pi_terms.specs.Numbers.{noted}
 use Rattle.pi_terms.specs.Places.{held}
-use Rattle.pi_states.specs.Value.{IsAcyclic}
-use Rattle.pi_states.specs.State.{State, bindings, domain_in, domain_of, domain_at_root, followed, free, next}
-use Rattle.pi_states.specs.Store.{StoreView, IsTerm}
-use Rattle.pi_states.specs.ToldDomains.{told_domain, told_domains}
+use Rattle.pi_constraints.specs.Value.{IsAcyclic}
+use Rattle.pi_constraints.specs.State.{State, bindings, domain_in, domain_of, domain_at_root, followed, free, next}
+use Rattle.pi_constraints.specs.Store.{StoreView, IsTerm}
+use Rattle.pi_constraints.specs.ToldDomains.{told_domain, told_domains}
 use Rattle.pi_constraints.specs.declared.domain.Span.{Span}
-use Rattle.pi_states.specs.declared.store.Ref.{Ref}
+use Rattle.pi_constraints.specs.declared.store.Ref.{Ref}
 use Rattle.pi_core.specs.declared.answer.NamedTerm.{NamedTerm}
 use Rattle.pi_terms.specs.declared.term.TermHead.{TermHead}
 use Rattle.pi_constraints.specs.declared.var_domain.VarDomain.{VarDomain}
-use Rattle.pi_states.proofs.FollowLemmas.{followed_itself}
+use Rattle.pi_constraints.proofs.FollowLemmas.{followed_itself}
 use Rattle.pi_terms.proofs.NumberLemmas.{noted-firsts}
 use Rattle.pi_terms.proofs.TermLemmas.{subterm_for_each_cell}
 use Rattle.pi_unify.specs.Copying.{root_variables}

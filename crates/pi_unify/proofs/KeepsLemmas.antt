@@ -1,9 +1,9 @@
 -- Calls of a store one after another.
 use Rattle.std.proofs.Common.{ℕ, suc, List, [], ◌∷◌, refl, ap, ◌∙◌}
 use Rattle.pi_terms.specs.Tree.{Trees, no_trees, tree}
-use Rattle.pi_states.specs.State.{State, with_new}
-use Rattle.pi_states.specs.Store.{StoreView, AreTerms, Keeps, Changes, Stays}
-use Rattle.pi_states.specs.declared.store.Ref.{Ref}
+use Rattle.pi_constraints.specs.State.{State, with_new}
+use Rattle.pi_constraints.specs.Store.{StoreView, AreTerms, Keeps, Changes, Stays}
+use Rattle.pi_constraints.specs.declared.store.Ref.{Ref}
 use Rattle.pi_unify.specs.Copying.{with_variables, Makes, MakesSome}
 
 pub keeps_none : {M : Type 0} (v : StoreView M) → Keeps v v

@@ -3,9 +3,9 @@ use Rattle.std.proofs.Common.{◌≡◌, ℕ, zero, suc, ◌+◌, ◌<◌, ◌�
 use Rattle.std.proofs.lemmas.List.{map-append, append-nil}
 use Rattle.pi_terms.specs.Tree.{Tree, var, int, atom, comp, Trees, no_trees, tree, tree_count, args, arity, drop_trees, cells, subterms, subterms_all}
 use Rattle.pi_terms.specs.Variables.{firsts, variables}
-use Rattle.pi_states.specs.Store.{StoreView, ShowsCell}
-use Rattle.pi_states.specs.declared.store.Ref.{Ref}
-use Rattle.pi_states.specs.declared.store.Cell.{Cell}
+use Rattle.pi_constraints.specs.Store.{StoreView, ShowsCell}
+use Rattle.pi_constraints.specs.declared.store.Ref.{Ref}
+use Rattle.pi_constraints.specs.declared.store.Cell.{Cell}
 use Rattle.pi_terms.proofs.TermLemmas.{subterm_for_each_cell}
 use Rattle.pi_unify.specs.Terms.{IsGiven, HoldsNoCycle, value_of}
 use Rattle.pi_unify.specs.Comparison.{cell_arity}

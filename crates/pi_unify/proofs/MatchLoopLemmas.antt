@@ -4,14 +4,14 @@ use Rattle.std.specs.Option.{option_map}
 use Rattle.pi_terms.specs.Tree.{Tree}
 use Rattle.pi_terms.specs.Places.{Places}
 use Rattle.pi_terms.specs.PatternTree.{PatternTree}
-use Rattle.pi_states.specs.Value.{Bindings, IsAcyclic, value}
-use Rattle.pi_states.specs.State.{bindings}
-use Rattle.pi_states.specs.Store.{StoreView, IsTerm}
-use Rattle.pi_states.specs.Match.{matched}
-use Rattle.pi_states.specs.HeadMatch.{matched_in, slot_values}
+use Rattle.pi_constraints.specs.Value.{Bindings, IsAcyclic, value}
+use Rattle.pi_constraints.specs.State.{bindings}
+use Rattle.pi_constraints.specs.Store.{StoreView, IsTerm}
+use Rattle.pi_constraints.specs.Match.{matched}
+use Rattle.pi_constraints.specs.HeadMatch.{matched_in, slot_values}
 use Rattle.pi_core.specs.CoreTree.{pattern_tree}
-use Rattle.pi_states.specs.declared.store.Ref.{Ref}
-use Rattle.pi_states.proofs.HeadMatchLemmas.{matches-by_value}
+use Rattle.pi_constraints.specs.declared.store.Ref.{Ref}
+use Rattle.pi_constraints.proofs.HeadMatchLemmas.{matches-by_value}
 use Rattle.pi_unify.specs.Terms.{IsGiven, term_of}
 use Rattle.pi_unify.specs.Matching.{root_match, FitsRoot, AreLeft, match_with, pending_match, GoesBehind, EndsBehind, slot_terms, HoldAllGiven, TellsMatch}
 use Rattle.pi_unify.specs.declared.matching.Pending.{Pending}

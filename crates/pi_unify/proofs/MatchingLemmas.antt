@@ -8,12 +8,12 @@ use Rattle.pi_terms.specs.Tree.{Tree, var, int, atom, comp, Trees, no_trees, tre
 use Rattle.pi_terms.specs.Places.{Places}
 use Rattle.pi_terms.specs.Order.{name_order}
 use Rattle.pi_terms.specs.PatternTree.{PatternTree, slot, exact_int, exact_atom, compound, named, PatternTrees, no_patterns, pattern}
-use Rattle.pi_states.specs.Value.{Bindings, IsAcyclic}
-use Rattle.pi_states.specs.State.{bindings, followed}
-use Rattle.pi_states.specs.Store.{StoreView, IsTerm}
-use Rattle.pi_states.specs.HeadMatch.{compound_in, matched_in, matched_all_in}
+use Rattle.pi_constraints.specs.Value.{Bindings, IsAcyclic}
+use Rattle.pi_constraints.specs.State.{bindings, followed}
+use Rattle.pi_constraints.specs.Store.{StoreView, IsTerm}
+use Rattle.pi_constraints.specs.HeadMatch.{compound_in, matched_in, matched_all_in}
 use Rattle.pi_core.specs.CoreTree.{pattern_tree, pattern_trees}
-use Rattle.pi_states.specs.declared.store.Ref.{Ref}
+use Rattle.pi_constraints.specs.declared.store.Ref.{Ref}
 use Rattle.pi_core.specs.declared.core_program.Pattern.{Pattern, Slot, Int, Atom}
 use Rattle.pi_terms.proofs.TermLemmas.{TreeAt, tree_at-below}
 use Rattle.pi_unify.specs.Terms.{IsGiven, HoldsNoCycle, term_of}

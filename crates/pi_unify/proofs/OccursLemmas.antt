@@ -6,15 +6,15 @@ use Rattle.std.proofs.lemmas.List.Folds.{list_any-append}
 use Rattle.pi_terms.specs.Tree.{Tree, var, int, atom, comp, Trees, no_trees, tree, cells, cells_all, args, arg_at, arity, tree_count, tree_at, drop_trees}
 use Rattle.pi_terms.specs.Variables.{occurrences, occurrences_all, IsGround, firsts}
 use Rattle.pi_terms.specs.Substitution.{instance, instances}
-use Rattle.pi_states.specs.Value.{Bindings, IsAcyclic, value}
-use Rattle.pi_states.specs.State.{bindings, followed, IsState}
-use Rattle.pi_states.specs.Store.{StoreView, IsTerm, ShowsCell}
-use Rattle.pi_states.specs.Unify.{does_occur}
-use Rattle.pi_states.specs.declared.store.Ref.{Ref}
-use Rattle.pi_states.specs.declared.store.Cell.{Cell}
-use Rattle.pi_states.proofs.ValueLemmas.{value_goes_by_variables, unbound_is_its_own_value, ground_is_its_own_value}
-use Rattle.pi_states.proofs.FollowLemmas.{followed_value}
-use Rattle.pi_states.proofs.UnifyCells.{some_cells}
+use Rattle.pi_constraints.specs.Value.{Bindings, IsAcyclic, value}
+use Rattle.pi_constraints.specs.State.{bindings, followed, IsState}
+use Rattle.pi_constraints.specs.Store.{StoreView, IsTerm, ShowsCell}
+use Rattle.pi_constraints.specs.Unify.{does_occur}
+use Rattle.pi_constraints.specs.declared.store.Ref.{Ref}
+use Rattle.pi_constraints.specs.declared.store.Cell.{Cell}
+use Rattle.pi_constraints.proofs.ValueLemmas.{value_goes_by_variables, unbound_is_its_own_value, ground_is_its_own_value}
+use Rattle.pi_constraints.proofs.FollowLemmas.{followed_value}
+use Rattle.pi_constraints.proofs.UnifyCells.{some_cells}
 use Rattle.pi_unify.specs.Refs.{IsRef, term_of, root_of, args_from}
 use Rattle.pi_unify.specs.Ahead.{in_list, args_on, IsArgs, AreArgs, term_and, some_hold, cells_of_values, HoldsNot}
 use Rattle.pi_unify.specs.Answers.{TakesArg, LooksFor}

@@ -5,9 +5,9 @@ use Rattle.pi_terms.specs.Tree.{Tree, var, int, atom, comp, Trees, tree_count, a
 use Rattle.pi_terms.specs.TermCells.{take_trees}
 use Rattle.pi_terms.specs.Variables.{variables}
 use Rattle.pi_terms.specs.Copy.{place_in, renamed, copy, new_variables}
-use Rattle.pi_states.specs.State.{State, free, next, with_new}
-use Rattle.pi_states.specs.Store.{StoreView, IsTerm, Keeps, Changes, Gives, Stays}
-use Rattle.pi_states.specs.declared.store.Ref.{Ref}
+use Rattle.pi_constraints.specs.State.{State, free, next, with_new}
+use Rattle.pi_constraints.specs.Store.{StoreView, IsTerm, Keeps, Changes, Gives, Stays}
+use Rattle.pi_constraints.specs.declared.store.Ref.{Ref}
 use Rattle.pi_terms.specs.declared.term.TermHead.{TermHead}
 use Rattle.pi_terms.proofs.VariableLemmas.{only_its_variables_count}
 use Rattle.pi_unify.specs.Copying.{with_variables, Makes, renumbered, AreBuilt, PutsNode}

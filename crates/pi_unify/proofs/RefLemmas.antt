@@ -5,20 +5,20 @@ use Rattle.std.specs.Option.{unwrap_or}
 use Rattle.pi_terms.specs.Tree.{Tree, var, int, atom, comp, Trees, no_trees, tree, arg_at, tree_at, tree_count, drop_trees}
 use Rattle.pi_terms.specs.Places.{held}
 use Rattle.pi_terms.specs.Variables.{Occurs, OccursInAny}
-use Rattle.pi_states.specs.Value.{IsAcyclic, MayBind, value}
+use Rattle.pi_constraints.specs.Value.{IsAcyclic, MayBind, value}
 use Rattle.pi_constraints.specs.Domain.{size_of}
-use Rattle.pi_states.specs.State.{State, next, bindings, domain_of, domain_at_root, followed, IsUnbound, SpeaksBelow, IsState, with_binding, with_domain}
-use Rattle.pi_states.specs.Store.{StoreView, IsTerm, Keeps, Changes, Binds, Confines}
-use Rattle.pi_states.specs.Unify.{Grows}
-use Rattle.pi_states.specs.declared.store.Ref.{Ref}
+use Rattle.pi_constraints.specs.State.{State, next, bindings, domain_of, domain_at_root, followed, IsUnbound, SpeaksBelow, IsState, with_binding, with_domain}
+use Rattle.pi_constraints.specs.Store.{StoreView, IsTerm, Keeps, Changes, Binds, Confines}
+use Rattle.pi_constraints.specs.Unify.{Grows}
+use Rattle.pi_constraints.specs.declared.store.Ref.{Ref}
 use Rattle.pi_constraints.specs.declared.domain.Span.{Span}
-use Rattle.pi_states.proofs.FollowLemmas.{followed_later, followed_value}
-use Rattle.pi_states.proofs.ValueLemmas.{unbound_is_its_own_value}
-use Rattle.pi_states.proofs.StateLemmas.{as_many}
-use Rattle.pi_states.proofs.UnifyOutcome.{IsRoot}
-use Rattle.pi_states.proofs.UnifyBindings.{bound_grows, bound_state}
-use Rattle.pi_states.proofs.UnifyTurns.{root}
-use Rattle.pi_states.proofs.UnifyJoined.{AreTwo, tied, may_tie, tied_unbound}
+use Rattle.pi_constraints.proofs.FollowLemmas.{followed_later, followed_value}
+use Rattle.pi_constraints.proofs.ValueLemmas.{unbound_is_its_own_value}
+use Rattle.pi_constraints.proofs.StateLemmas.{as_many}
+use Rattle.pi_constraints.proofs.UnifyOutcome.{IsRoot}
+use Rattle.pi_constraints.proofs.UnifyBindings.{bound_grows, bound_state}
+use Rattle.pi_constraints.proofs.UnifyTurns.{root}
+use Rattle.pi_constraints.proofs.UnifyJoined.{AreTwo, tied, may_tie, tied_unbound}
 use Rattle.pi_unify.specs.declared.variables.Variable.{Variable}
 use Rattle.pi_unify.specs.Refs.{IsRef, term_of, root_of, IsVariable}
 

@@ -6,11 +6,11 @@ use Rattle.std.proofs.lemmas.Bool.{cases_Bool, eqb-true}
 use Rattle.std.proofs.lemmas.Bool.Decides.{nat_tests}
 use Rattle.pi_terms.specs.Tree.{Tree, var, int, atom, comp, Trees, no_trees, tree, args, arity, tree_count}
 use Rattle.pi_terms.specs.Order.{name_order, order}
-use Rattle.pi_states.specs.State.{State}
-use Rattle.pi_states.specs.Store.{StoreView, ShowsCell, IsName}
-use Rattle.pi_states.specs.Unify.{in_pairs, Outcome, clash, changed, parts, assigned, joined, outcome}
-use Rattle.pi_states.specs.declared.store.Cell.{Cell}
-use Rattle.pi_states.proofs.MatchLemmas.{same_name, name_itself, same_from_identical, identical_from_same}
+use Rattle.pi_constraints.specs.State.{State}
+use Rattle.pi_constraints.specs.Store.{StoreView, ShowsCell, IsName}
+use Rattle.pi_constraints.specs.Unify.{in_pairs, Outcome, clash, changed, parts, assigned, joined, outcome}
+use Rattle.pi_constraints.specs.declared.store.Cell.{Cell}
+use Rattle.pi_constraints.proofs.MatchLemmas.{same_name, name_itself, same_from_identical, identical_from_same}
 use Rattle.pi_unify.specs.Refs.{IsNoVariable}
 use Rattle.pi_unify.specs.Answers.{Makes, Meets, Compares, args_of_cell}
 use Rattle.pi_unify.specs.declared.roots.Roots.{Roots}

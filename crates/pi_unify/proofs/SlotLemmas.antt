@@ -7,15 +7,15 @@ use Rattle.std.proofs.lemmas.Bool.{cases_Bool, ltb-false}
 use Rattle.pi_terms.specs.Tree.{Tree, int, atom}
 use Rattle.pi_terms.specs.Places.{Places, held}
 use Rattle.pi_terms.specs.Order.{order, name_order, identical}
-use Rattle.pi_states.specs.Value.{Bindings, value}
-use Rattle.pi_states.specs.State.{bindings}
-use Rattle.pi_states.specs.Store.{StoreView, IsTerm, IsName, ShowsCell}
-use Rattle.pi_states.specs.HeadMatch.{taken_in, filled_in}
-use Rattle.pi_states.specs.declared.store.Ref.{Ref}
-use Rattle.pi_states.specs.declared.store.Cell.{Cell}
+use Rattle.pi_constraints.specs.Value.{Bindings, value}
+use Rattle.pi_constraints.specs.State.{bindings}
+use Rattle.pi_constraints.specs.Store.{StoreView, IsTerm, IsName, ShowsCell}
+use Rattle.pi_constraints.specs.HeadMatch.{taken_in, filled_in}
+use Rattle.pi_constraints.specs.declared.store.Ref.{Ref}
+use Rattle.pi_constraints.specs.declared.store.Cell.{Cell}
 use Rattle.std.specs.Str.{bytes_eq}
 use Rattle.std.proofs.lemmas.Slice.Eq.{bytes_eq-Decides}
-use Rattle.pi_states.proofs.MatchLemmas.{same_from_identical, identical_from_same, same_name, name_itself}
+use Rattle.pi_constraints.proofs.MatchLemmas.{same_from_identical, identical_from_same, same_name, name_itself}
 use Rattle.pi_unify.specs.Terms.{IsGiven, term_of}
 use Rattle.pi_unify.specs.Matching.{slot_term, slot_terms, HoldsGiven, HoldAllGiven, FillsEmpty, TellsMatch, is_int_in}
 use Rattle.pi_unify.proofs.TermValues.{given_term}

@@ -2,14 +2,14 @@
 use Rattle.std.proofs.Common.{◌≡◌, ℕ, zero, suc, ◌<◌, Bool, false, List, [], ◌∷◌, ◌++◌, Option, Some, refl, ap, sym, ◌∙◌, subst, inr, arith}
 use Rattle.pi_terms.specs.Tree.{Tree, var, int, atom, comp, Trees, no_trees, tree, args, arity, tree_count, drop_trees}
 use Rattle.pi_terms.specs.Variables.{Occurs, OccursInAny}
-use Rattle.pi_states.specs.State.{State, next, IsState, SpeaksBelow}
-use Rattle.pi_states.specs.Store.{StoreView, IsTerm, Keeps}
-use Rattle.pi_states.specs.Unify.{Pair, in_pairs, Outcome, clash, changed, parts, outcome, go_on, all_unified, unified, pairs_ahead, PairsBelow, Grows}
-use Rattle.pi_states.specs.declared.store.Ref.{Ref}
-use Rattle.pi_states.proofs.UnifyBindings.{grows-refl}
-use Rattle.pi_states.proofs.UnifyOutcome.{IsOutcome, Joins, Parts}
-use Rattle.pi_states.proofs.UnifyParts.{pairs_below}
-use Rattle.pi_states.proofs.UnifyTurns.{first_good, ahead_changed, ahead_parts, pairs_below-append, no_pairs, first_pair}
+use Rattle.pi_constraints.specs.State.{State, next, IsState, SpeaksBelow}
+use Rattle.pi_constraints.specs.Store.{StoreView, IsTerm, Keeps}
+use Rattle.pi_constraints.specs.Unify.{Pair, in_pairs, Outcome, clash, changed, parts, outcome, go_on, all_unified, unified, pairs_ahead, PairsBelow, Grows}
+use Rattle.pi_constraints.specs.declared.store.Ref.{Ref}
+use Rattle.pi_constraints.proofs.UnifyBindings.{grows-refl}
+use Rattle.pi_constraints.proofs.UnifyOutcome.{IsOutcome, Joins, Parts}
+use Rattle.pi_constraints.proofs.UnifyParts.{pairs_below}
+use Rattle.pi_constraints.proofs.UnifyTurns.{first_good, ahead_changed, ahead_parts, pairs_below-append, no_pairs, first_pair}
 use Rattle.pi_unify.specs.Refs.{IsRef, term_of, root_of, args_from, AreTerms}
 use Rattle.pi_unify.specs.Ahead.{pairs_in, pairs_on, IsPairs, ArePairs, pair_and, IsNextPair}
 use Rattle.pi_unify.specs.Answers.{Answers, Meets, GoesOn, Steps}

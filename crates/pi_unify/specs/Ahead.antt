@@ -2,11 +2,11 @@
 use Rattle.std.specs.Prelude.{◌≡◌, ℕ, ◌+◌, ◌<◌, Bool, false, List, [], ◌∷◌, ◌++◌, ⊤}
 use Rattle.std.specs.List.{list_any}
 use Rattle.pi_terms.specs.Tree.{Tree, cells, Trees, no_trees, tree, arity}
-use Rattle.pi_states.specs.Value.{Bindings, value}
-use Rattle.pi_states.specs.State.{bindings}
-use Rattle.pi_states.specs.Store.{StoreView}
-use Rattle.pi_states.specs.Unify.{Pair, in_pairs, does_occur}
-use Rattle.pi_states.specs.declared.store.Ref.{Ref}
+use Rattle.pi_constraints.specs.Value.{Bindings, value}
+use Rattle.pi_constraints.specs.State.{bindings}
+use Rattle.pi_constraints.specs.Store.{StoreView}
+use Rattle.pi_constraints.specs.Unify.{Pair, in_pairs, does_occur}
+use Rattle.pi_constraints.specs.declared.store.Ref.{Ref}
 use Rattle.pi_unify.specs.Refs.{IsRef, term_of, root_of, args_from}
 use Rattle.pi_unify.specs.declared.ahead.Rest.{Rest}
 use Rattle.pi_unify.specs.declared.ahead.RefPair.{RefPair}

@@ -3,14 +3,14 @@ use Rattle.std.specs.Prelude.{◌≡◌, ◌≢◌, ℕ, ◌<◌, Bool, true, fa
 use Rattle.pi_terms.specs.Tree.{Tree, args, arity}
 use Rattle.pi_constraints.specs.Domain.{has_value}
 use Rattle.pi_constraints.specs.declared.domain.Span.{Span}
-use Rattle.pi_states.specs.declared.store.Cell.{Cell}
-use Rattle.pi_states.specs.State.{State, bindings, IsState}
-use Rattle.pi_states.specs.Store.{StoreView}
-use Rattle.pi_states.specs.Unify.{Pair, in_pairs, Outcome, clash, changed, parts, all_unified, pairs_ahead}
+use Rattle.pi_constraints.specs.declared.store.Cell.{Cell}
+use Rattle.pi_constraints.specs.State.{State, bindings, IsState}
+use Rattle.pi_constraints.specs.Store.{StoreView}
+use Rattle.pi_constraints.specs.Unify.{Pair, in_pairs, Outcome, clash, changed, parts, all_unified, pairs_ahead}
 use Rattle.pi_unify.specs.Refs.{IsRef}
 use Rattle.pi_unify.specs.Ahead.{pairs_on, IsNextPair, pair_and, AreArgs, args_on, term_and, some_hold, cells_of_values}
 use Rattle.pi_unify.specs.declared.roots.Roots.{Roots}
-use Rattle.pi_states.specs.declared.store.Ref.{Ref}
+use Rattle.pi_constraints.specs.declared.store.Ref.{Ref}
 use Rattle.pi_unify.specs.declared.ahead.Rest.{Rest}
 use Rattle.pi_unify.specs.declared.ahead.RefPair.{RefPair}
 use Rattle.pi_unify.specs.declared.unifier.Step.{Step}

@@ -5,8 +5,8 @@ use Rattle.std.specs.declared.cmp.Ordering.{Ordering}
 use Rattle.std.specs.declared.cmp.Ordering.TheVariants.{Equal}
 use Rattle.pi_terms.specs.Tree.{Tree, args, arity, drop_trees}
 use Rattle.pi_terms.specs.Order.{order, order_all}
-use Rattle.pi_states.specs.Store.{StoreView, ShowsCell}
-use Rattle.pi_states.specs.declared.store.Cell.{Cell}
+use Rattle.pi_constraints.specs.Store.{StoreView, ShowsCell}
+use Rattle.pi_constraints.specs.declared.store.Cell.{Cell}
 use Rattle.pi_unify.specs.Terms.{IsGiven, value_of}
 use Rattle.pi_unify.specs.declared.ahead.Rest.{Rest}
 use Rattle.pi_unify.specs.declared.ahead.RefPair.{RefPair}

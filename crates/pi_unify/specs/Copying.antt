@@ -5,11 +5,11 @@ use Rattle.pi_terms.specs.TermCells.{take_trees}
 use Rattle.pi_terms.specs.Variables.{firsts, variables}
 use Rattle.pi_terms.specs.Copy.{place_in, renamed, copy, new_variables}
 use Rattle.pi_terms.specs.Numbers.{noted}
-use Rattle.pi_states.specs.State.{State, with_new, next}
-use Rattle.pi_states.specs.Store.{StoreView, IsTerm, AreTerms, Changes, Gives, Stays}
-use Rattle.pi_states.specs.declared.store.Ref.{Ref}
-use Rattle.pi_states.specs.declared.store.Cell.{Cell}
-use Rattle.pi_states.specs.declared.store.ReadStop.{ReadStop}
+use Rattle.pi_constraints.specs.State.{State, with_new, next}
+use Rattle.pi_constraints.specs.Store.{StoreView, IsTerm, AreTerms, Changes, Gives, Stays}
+use Rattle.pi_constraints.specs.declared.store.Ref.{Ref}
+use Rattle.pi_constraints.specs.declared.store.Cell.{Cell}
+use Rattle.pi_constraints.specs.declared.store.ReadStop.{ReadStop}
 use Rattle.pi_terms.specs.declared.term.TermHead.{TermHead}
 use Rattle.pi_unify.specs.Terms.{IsGiven, HoldsNoCycle, value_of}
 use Rattle.pi_unify.specs.declared.copying.Nodes.{Nodes}

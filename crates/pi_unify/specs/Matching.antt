@@ -5,13 +5,13 @@ use Rattle.pi_terms.specs.Tree.{Tree, var, int, atom, comp, tree_count, args, ar
 use Rattle.pi_terms.specs.Places.{Places}
 use Rattle.pi_terms.specs.Order.{name_order, identical}
 use Rattle.pi_terms.specs.PatternTree.{PatternTree, slot, exact_int, exact_atom, compound, named, PatternTrees, no_patterns, pattern}
-use Rattle.pi_states.specs.Value.{Bindings}
-use Rattle.pi_states.specs.State.{bindings, followed}
-use Rattle.pi_states.specs.Store.{StoreView}
-use Rattle.pi_states.specs.HeadMatch.{filled_in, matched_in, matched_all_in}
+use Rattle.pi_constraints.specs.Value.{Bindings}
+use Rattle.pi_constraints.specs.State.{bindings, followed}
+use Rattle.pi_constraints.specs.Store.{StoreView}
+use Rattle.pi_constraints.specs.HeadMatch.{filled_in, matched_in, matched_all_in}
 use Rattle.pi_core.specs.CoreTree.{pattern_tree, pattern_trees}
-use Rattle.pi_states.specs.declared.store.Ref.{Ref}
-use Rattle.pi_states.specs.declared.store.Cell.{Cell}
+use Rattle.pi_constraints.specs.declared.store.Ref.{Ref}
+use Rattle.pi_constraints.specs.declared.store.Cell.{Cell}
 use Rattle.pi_core.specs.declared.core_program.Pattern.{Pattern}
 use Rattle.pi_unify.specs.Terms.{IsGiven, term_of}
 use Rattle.pi_unify.specs.declared.matching.Pending.{Pending}

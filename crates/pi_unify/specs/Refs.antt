@@ -1,9 +1,9 @@
 -- Refs of a store: what a caller may hand to a call that walks terms.
 use Rattle.std.specs.Prelude.{◌≡◌, ℕ, ◌<◌, pos, unwrap_or}
 use Rattle.pi_terms.specs.Tree.{Tree, var, int, Trees, args, drop_trees}
-use Rattle.pi_states.specs.State.{next, bindings, followed, SpeaksBelow, IsState}
-use Rattle.pi_states.specs.Store.{StoreView, IsTerm}
-use Rattle.pi_states.specs.declared.store.Ref.{Ref}
+use Rattle.pi_constraints.specs.State.{next, bindings, followed, SpeaksBelow, IsState}
+use Rattle.pi_constraints.specs.Store.{StoreView, IsTerm}
+use Rattle.pi_constraints.specs.declared.store.Ref.{Ref}
 use Rattle.pi_unify.specs.declared.variables.Variable.{Variable}
 
 -- the term of a Ref, and an integer for a number that names no term

@@ -1,10 +1,10 @@
 -- What a Ref of a store stands for: its term as it was made, and that term's value under the present bindings.
 use Rattle.std.specs.Prelude.{[], IsSome, unwrap_or}
 use Rattle.pi_terms.specs.Tree.{Tree, atom}
-use Rattle.pi_states.specs.Value.{IsAcyclic, value}
-use Rattle.pi_states.specs.State.{bindings}
-use Rattle.pi_states.specs.Store.{StoreView}
-use Rattle.pi_states.specs.declared.store.Ref.{Ref}
+use Rattle.pi_constraints.specs.Value.{IsAcyclic, value}
+use Rattle.pi_constraints.specs.State.{bindings}
+use Rattle.pi_constraints.specs.Store.{StoreView}
+use Rattle.pi_constraints.specs.declared.store.Ref.{Ref}
 
 -- the store gave it, and has not taken it back
 abbrev pub IsGiven : {M : Type 0} → StoreView M → Ref → Type 0

@@ -3,7 +3,7 @@
 //! The stack of a walk lies on the heap, its newest rest stands last, and the last argument of a compound leaves nothing
 //! on it. The walk of a pattern keeps a stack of its own, since what bounds it are the pattern's nodes.
 ghost use Rattle.std.specs.Prelude.{◌≡◌, IfOk};
-ghost use Rattle.pi_states.specs.State.{IsState};
+ghost use Rattle.pi_constraints.specs.State.{IsState};
 ghost use Rattle.pi_unify.specs.Terms.{HoldsNoCycle};
 ghost use Rattle.pi_unify.specs.Rests.{with_after, with_all, TakesRest};
 ghost use Rattle.pi_unify.specs.Ahead.{AreArgs, ArePairs};
@@ -11,7 +11,7 @@ ghost use Rattle.pi_unify.specs.Answers.{GivesArg, GivesPair};
 ghost use Rattle.pi_unify.specs.Comparison.{AreRests, TakesPair};
 ghost use Rattle.pi_unify.specs.Copying.{AreWalks, EntersNext};
 
-use pi_states::{Ref, StateStore};
+use pi_constraints::{Ref, StateStore};
 use std::alloc::AllocError;
 
 /// The arguments of a compound, or of two that have as many, from one number on. At least one is left.

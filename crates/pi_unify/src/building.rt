@@ -2,10 +2,10 @@
 ghost use Rattle.std.specs.Prelude.{◌≡◌, ◌≤◌, IfOk, length, reverse, drop};
 ghost use Rattle.pi_terms.specs.Tree.{Trees, comp, drop_trees};
 ghost use Rattle.pi_terms.specs.TermCells.{take_trees};
-ghost use Rattle.pi_states.specs.Store.{IsTerm, Stays};
+ghost use Rattle.pi_constraints.specs.Store.{IsTerm, Stays};
 ghost use Rattle.pi_unify.specs.Copying.{AreBuilt};
 
-use pi_states::{Ref, StateStore};
+use pi_constraints::{Ref, StateStore};
 use std::alloc::{AllocError, Global};
 
 /// Puts a compound whose arguments were put last, the first one last of all. It takes them off.

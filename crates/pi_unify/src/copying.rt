@@ -2,10 +2,10 @@
 ghost use Rattle.std.specs.Prelude.{◌≡◌, ◌<◌, ◌+◌, ℕ, List, true, IfOk, length};
 ghost use Rattle.pi_terms.specs.Tree.{Tree, Trees, atom, comp, args, arity, tree, no_trees, drop_trees};
 ghost use Rattle.pi_terms.specs.TermCells.{take_trees};
-ghost use Rattle.pi_states.specs.Value.{value};
+ghost use Rattle.pi_constraints.specs.Value.{value};
 ghost use Rattle.pi_terms.specs.Copy.{renamed};
-ghost use Rattle.pi_states.specs.State.{bindings};
-ghost use Rattle.pi_states.specs.Store.{IsTerm, IsName, Stays};
+ghost use Rattle.pi_constraints.specs.State.{bindings};
+ghost use Rattle.pi_constraints.specs.Store.{IsTerm, IsName, Stays};
 ghost use Rattle.pi_unify.specs.Terms.{IsGiven, HoldsNoCycle, value_of};
 ghost use Rattle.pi_unify.specs.Copying.{HasNone, ShowsNodes, Listing, GoesOnListing, noted_cell, MakesSome, ShowsCopy, values_of, forest, renumbered, AreListed, MayCopy, PutsCopy, AreBuilt};
 
@@ -13,7 +13,7 @@ use crate::ahead::{Rest, leave_all, next_term};
 use crate::building::put_compound;
 use crate::numbers::{make_variables, new_variable};
 use crate::order::argument_count;
-use pi_states::{Cell, ReadStop, Ref, StateStore};
+use pi_constraints::{Cell, ReadStop, Ref, StateStore};
 use pi_terms::{Numbers, Text};
 use std::alloc::{AllocError, Global};
 

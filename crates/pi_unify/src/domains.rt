@@ -3,15 +3,14 @@ ghost use Rattle.std.specs.Prelude.{◌≡◌, ◌++◌, ◌∷◌, [], ℕ, Lis
 ghost use Rattle.std.specs.List.{flat_map};
 ghost use Rattle.pi_terms.specs.Variables.{occurrences};
 ghost use Rattle.pi_terms.specs.Places.{held};
-ghost use Rattle.pi_states.specs.Value.{IsAcyclic};
-ghost use Rattle.pi_states.specs.State.{bindings, domain_of as domain_in_state};
+ghost use Rattle.pi_constraints.specs.Value.{IsAcyclic};
+ghost use Rattle.pi_constraints.specs.State.{bindings, domain_of as domain_in_state};
 ghost use Rattle.pi_core.specs.AnswerVariables.{answer_variables};
-ghost use Rattle.pi_states.specs.ToldDomains.{told_domains};
+ghost use Rattle.pi_constraints.specs.ToldDomains.{told_domains};
 ghost use Rattle.pi_unify.specs.Domains.{AreUnbound, HasMet};
 
-use pi_constraints::{Domain, VarDomain, VarDomains};
+use pi_constraints::{Domain, StateStore, VarDomain, VarDomains};
 use pi_core::NamedTerm;
-use pi_states::StateStore;
 use pi_terms::{Numbers, Series, Term, TermHead};
 use std::alloc::{AllocError, Global};
 

@@ -3,18 +3,18 @@ ghost use Rattle.std.specs.Prelude.{◌≡◌, ◌<◌, ◌≤◌, ◌+◌, Matc
 ghost use Rattle.std.specs.Ordering.{is_eq};
 ghost use Rattle.pi_terms.specs.Tree.{Tree, atom};
 ghost use Rattle.pi_terms.specs.Order.{identical, name_order};
-ghost use Rattle.pi_states.specs.Value.{value};
-ghost use Rattle.pi_states.specs.State.{bindings};
-ghost use Rattle.pi_states.specs.Store.{IsTerm, IsName, ShowsCell};
-ghost use Rattle.pi_states.specs.Match.{matched};
-ghost use Rattle.pi_states.specs.HeadMatch.{matched_in, filled_in, slot_values};
+ghost use Rattle.pi_constraints.specs.Value.{value};
+ghost use Rattle.pi_constraints.specs.State.{bindings};
+ghost use Rattle.pi_constraints.specs.Store.{IsTerm, IsName, ShowsCell};
+ghost use Rattle.pi_constraints.specs.Match.{matched};
+ghost use Rattle.pi_constraints.specs.HeadMatch.{matched_in, filled_in, slot_values};
 ghost use Rattle.pi_core.specs.CoreTree.{pattern_tree};
 ghost use Rattle.pi_unify.specs.Terms.{IsGiven, HoldsNoCycle, term_of};
 ghost use Rattle.pi_unify.specs.Matching.{slot_terms, HoldAllGiven, FillsEmpty, TellsMatch, root_match, is_compound_of, AreWithin, AreLeft, nodes, nodes_left, LeavesNodes, LeavesFewer, TakesPending, ComesBehind, Pushes, FitsRoot, is_int_in, HasAsMany, arguments_match};
 
 use crate::order::compare;
+use pi_constraints::{Cell, Ref, StateStore};
 use pi_core::Pattern;
-use pi_states::{Cell, Ref, StateStore};
 use std::alloc::{AllocError, Global};
 
 /// The slots of a clause by their numbers: what each holds, or nothing.

@@ -1,11 +1,11 @@
 //! New variables in place of those of a term.
 ghost use Rattle.std.specs.Prelude.{◌≤◌, length, IfOk, OnErr, Contains};
 ghost use Rattle.pi_terms.specs.Tree.{var};
-ghost use Rattle.pi_states.specs.State.{next};
-ghost use Rattle.pi_states.specs.Store.{IsTerm};
+ghost use Rattle.pi_constraints.specs.State.{next};
+ghost use Rattle.pi_constraints.specs.Store.{IsTerm};
 ghost use Rattle.pi_unify.specs.Copying.{Makes, MakesSome, renumbered};
 
-use pi_states::{Ref, StateStore};
+use pi_constraints::{Ref, StateStore};
 use pi_terms::Numbers;
 use std::alloc::AllocError;
 

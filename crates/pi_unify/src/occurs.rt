@@ -1,15 +1,15 @@
 //! Whether a variable occurs in a term.
 ghost use Rattle.std.specs.Prelude.{◌≡◌, ℕ, ◌∷◌, true, false, IfOk};
 ghost use Rattle.pi_terms.specs.Tree.{args, arity};
-ghost use Rattle.pi_states.specs.Value.{value};
-ghost use Rattle.pi_states.specs.State.{bindings, IsState};
-ghost use Rattle.pi_states.specs.Unify.{does_occur};
+ghost use Rattle.pi_constraints.specs.Value.{value};
+ghost use Rattle.pi_constraints.specs.State.{bindings, IsState};
+ghost use Rattle.pi_constraints.specs.Unify.{does_occur};
 ghost use Rattle.pi_unify.specs.Refs.{IsRef, term_of, root_of};
 ghost use Rattle.pi_unify.specs.Ahead.{AreArgs, term_and, in_list, some_hold, HoldsNot};
 ghost use Rattle.pi_unify.specs.Answers.{LooksFor, TakesArg};
 
 use crate::ahead::{Rest, leave_all, next_term};
-use pi_states::{Cell, Ref, StateStore};
+use pi_constraints::{Cell, Ref, StateStore};
 use std::alloc::{AllocError, Global};
 
 /// What a look at a term comes to.

@@ -3,13 +3,13 @@ ghost use Rattle.std.specs.Prelude.{◌≡◌, ◌≤◌, IfOk, OnErr, length};
 ghost use Rattle.pi_terms.specs.Tree.{Tree, Trees, ShowsHead};
 ghost use Rattle.pi_terms.specs.Variables.{variables};
 ghost use Rattle.pi_terms.specs.Copy.{copy, renamed, new_variables};
-ghost use Rattle.pi_states.specs.State.{next};
-ghost use Rattle.pi_states.specs.Store.{Gives, IsTerm, Stays};
+ghost use Rattle.pi_constraints.specs.State.{next};
+ghost use Rattle.pi_constraints.specs.Store.{Gives, IsTerm, Stays};
 ghost use Rattle.pi_unify.specs.Copying.{with_variables, MakesSome, AreBuilt, IsReady, PutsNode, renumbered};
 
 use crate::building::put_compound;
 use crate::numbers::{make_variables, new_variable};
-use pi_states::{Ref, StateStore};
+use pi_constraints::{Ref, StateStore};
 use pi_terms::{Numbers, Term, TermHead};
 use std::alloc::{AllocError, Global};
 

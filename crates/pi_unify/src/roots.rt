@@ -1,13 +1,13 @@
 //! Unification of two terms as far as their roots go.
 ghost use Rattle.std.specs.Prelude.{◌≡◌, ℕ, IfOk, if◌then◌else◌};
-ghost use Rattle.pi_states.specs.State.{IsState, followed, bindings};
-ghost use Rattle.pi_states.specs.Store.{StoreView, Keeps, ShowsCell, IsName};
-ghost use Rattle.pi_states.specs.Unify.{outcome};
+ghost use Rattle.pi_constraints.specs.State.{IsState, followed, bindings};
+ghost use Rattle.pi_constraints.specs.Store.{StoreView, Keeps, ShowsCell, IsName};
+ghost use Rattle.pi_constraints.specs.Unify.{outcome};
 ghost use Rattle.pi_unify.specs.Refs.{root_of, IsVariable, AreTerms};
 ghost use Rattle.pi_unify.specs.Answers.{Meets, Compares};
 
 use crate::variables::{Variable, assign, join};
-use pi_states::{Cell, Ref, StateStore};
+use pi_constraints::{Cell, Ref, StateStore};
 use std::alloc::{AllocError, Global};
 
 /// What a pair of terms comes to.

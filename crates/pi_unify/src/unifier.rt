@@ -1,15 +1,15 @@
 //! Unification of two terms.
 ghost use Rattle.std.specs.Prelude.{◌≡◌, ℕ, ◌∷◌, [], IfOk};
 ghost use Rattle.pi_terms.specs.Tree.{Tree};
-ghost use Rattle.pi_states.specs.State.{IsState, SpeaksBelow, next};
-ghost use Rattle.pi_states.specs.Store.{StoreView, IsTerm, Keeps};
-ghost use Rattle.pi_states.specs.Unify.{unified, all_unified, pairs_ahead};
+ghost use Rattle.pi_constraints.specs.State.{IsState, SpeaksBelow, next};
+ghost use Rattle.pi_constraints.specs.Store.{StoreView, IsTerm, Keeps};
+ghost use Rattle.pi_constraints.specs.Unify.{unified, all_unified, pairs_ahead};
 ghost use Rattle.pi_unify.specs.Ahead.{ArePairs, IsNextPair, pairs_on, pair_and};
 ghost use Rattle.pi_unify.specs.Answers.{Answers, Steps, GoesOn};
 
 use crate::ahead::{RefPair, Rest, leave_all, next_pair};
 use crate::roots::{Roots, unify_roots};
-use pi_states::{Ref, StateStore};
+use pi_constraints::{Ref, StateStore};
 use std::alloc::{AllocError, Global};
 
 /// What a pair leaves: the answer, or the pair that comes next.

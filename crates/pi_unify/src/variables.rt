@@ -1,16 +1,15 @@
 //! Unification of a variable with a term or with another variable.
 ghost use Rattle.std.specs.Prelude.{◌≡◌, false, ℕ, ◌<◌, ◌≤◌, IfOk, OnOk, List};
 ghost use Rattle.pi_terms.specs.Tree.{int, var};
-ghost use Rattle.pi_states.specs.State.{domain_of, with_binding, with_domain};
+ghost use Rattle.pi_constraints.specs.State.{domain_of, with_binding, with_domain};
 ghost use Rattle.pi_constraints.specs.Domain.{IsDomain, values_of, size_of};
-ghost use Rattle.pi_states.specs.Store.{Keeps, ShowsCell};
-ghost use Rattle.pi_states.specs.Unify.{admits, assigned, joined, joined_with, confined};
+ghost use Rattle.pi_constraints.specs.Store.{Keeps, ShowsCell};
+ghost use Rattle.pi_constraints.specs.Unify.{admits, assigned, joined, joined_with, confined};
 ghost use Rattle.pi_unify.specs.Refs.{root_of, AreVariables, IsAssigned};
 ghost use Rattle.pi_unify.specs.Answers.{Makes, has_cell};
 
 use crate::occurs::occurs;
-use pi_constraints::{Domain, contains, meet, min, size};
-use pi_states::{Cell, Ref, StateStore};
+use pi_constraints::{Cell, Domain, Ref, StateStore, contains, meet, min, size};
 use std::alloc::{AllocError, Global};
 
 /// An unbound variable.

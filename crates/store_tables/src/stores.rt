@@ -16,7 +16,7 @@ mod terms;
 use crate::bench::{Bench, Reading};
 use crate::kinds::raw_store;
 use pi_cases::Case;
-use pi_states::StoredDomains;
+use pi_constraints::StoredDomains;
 use pi_types::TreeStore;
 
 /// Tells what the steps of a case show, taken on a `TreeStore`, and where the same steps on a `RawStore` show something else, that too.

@@ -6,7 +6,7 @@ use crate::kinds::raw_store;
 use crate::stores::take_steps;
 use pi_arenas::Run;
 use pi_cases::{Case, Given, take_given, tell_domains};
-use pi_states::StoredDomains;
+use pi_constraints::StoredDomains;
 use pi_steps::answer as answer_of;
 use pi_types::{NameSlot, NameSlots, TreeStore};
 

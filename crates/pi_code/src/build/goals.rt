@@ -2,7 +2,7 @@
 ghost use Rattle.std.specs.Prelude.{◌≡◌, ◌+◌, ◌-◌, ◌++◌, ◌∷◌, [], ℕ, List, false, true, replicate, IfOk, length};
 ghost use Rattle.pi_core.specs.GoalTree.{nodes, child_goals};
 ghost use Rattle.pi_core.specs.GoalCells.{kind_shown};
-ghost use Rattle.pi_states.specs.Store.{Keeps};
+ghost use Rattle.pi_constraints.specs.Store.{Keeps};
 ghost use Rattle.pi_core.specs.declared.core_program.CorePred.{CorePred};
 ghost use Rattle.pi_core.specs.declared.goal_node.GoalKind.TheVariants.{Call as CallKind, Apply as ApplyKind};
 ghost use Rattle.pi_code.specs.Numbers.{IsNumbering};
@@ -13,9 +13,9 @@ use super::terms::operand_of;
 use super::{Builder, Shape, short};
 use crate::code::{Code, Node, Step};
 use pi_builtin::{function_named, predicate_named};
+use pi_constraints::StateStore;
 use pi_core::{CoreGoal, GoalNode};
 use pi_meaning::is_call;
-use pi_states::StateStore;
 use pi_terms::{Args, Term, Text};
 use std::alloc::AllocError;
 

@@ -1,8 +1,8 @@
 //! The goals by which names are called, laid out behind all others.
 ghost use Rattle.std.specs.Prelude.{◌≡◌, ◌++◌, ℕ, List, Some, AllPairs, IfOk, map};
-ghost use Rattle.pi_states.specs.State.{bindings};
-ghost use Rattle.pi_states.specs.Value.{IsAcyclic};
-ghost use Rattle.pi_states.specs.Store.{IsName, Keeps, Stays};
+ghost use Rattle.pi_constraints.specs.State.{bindings};
+ghost use Rattle.pi_constraints.specs.Value.{IsAcyclic};
+ghost use Rattle.pi_constraints.specs.Store.{IsName, Keeps, Stays};
 ghost use Rattle.pi_core.specs.CoreTree.{pred_tree};
 ghost use Rattle.pi_core.specs.declared.core_program.CorePred.{CorePred as Pred};
 ghost use Rattle.pi_meaning.specs.Sound.{IsAnother};
@@ -15,9 +15,9 @@ use super::{Builder, Shape};
 use crate::callables::Callables;
 use crate::code::Code;
 use pi_builtin::predicate_names;
+use pi_constraints::{Cell, StateStore};
 use pi_core::CorePred;
 use pi_meaning::goal_by_name;
-use pi_states::{Cell, StateStore};
 use std::alloc::{AllocError, Global};
 
 impl Builder<'_> {

@@ -1,8 +1,8 @@
 //! Predicates and their rules in tables.
 ghost use Rattle.std.specs.Prelude.{◌≡◌, ◌≢◌, ◌+◌, List, false, length, map, is_none, is_some, IfOk};
-ghost use Rattle.pi_states.specs.State.{bindings};
-ghost use Rattle.pi_states.specs.Value.{IsAcyclic};
-ghost use Rattle.pi_states.specs.Store.{Keeps, Stays};
+ghost use Rattle.pi_constraints.specs.State.{bindings};
+ghost use Rattle.pi_constraints.specs.Value.{IsAcyclic};
+ghost use Rattle.pi_constraints.specs.Store.{Keeps, Stays};
 ghost use Rattle.pi_core.specs.GoalTree.{nodes};
 ghost use Rattle.pi_core.specs.CoreTree.{index_of, pattern_tree, pattern_trees, clause_tree, pred_tree};
 ghost use Rattle.pi_core.specs.declared.core_program.CorePred.{CorePred as Pred};
@@ -15,8 +15,8 @@ ghost use Rattle.pi_code.specs.LaidRules.{AddsRule, AddsRules, TestsAt, IsGuardL
 
 use super::{Builder, Shape, short};
 use crate::code::{Code, HeadTest, Predicate, Rule};
+use pi_constraints::{Cell, StateStore};
 use pi_core::{CoreClause, CoreGoal, CorePred, GoalNode, Pattern};
-use pi_states::{Cell, StateStore};
 use pi_syntax::Decl;
 use std::alloc::AllocError;
 

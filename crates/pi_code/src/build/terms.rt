@@ -2,13 +2,13 @@
 ghost use Rattle.std.specs.Prelude.{◌≡◌, ◌+◌, List, IfOk, IsTrue, length};
 ghost use Rattle.pi_terms.specs.Tree.{Tree, cells, subterms, ShowsHead};
 ghost use Rattle.pi_terms.specs.Variables.{IsGround};
-ghost use Rattle.pi_states.specs.Store.{Keeps, Stays};
+ghost use Rattle.pi_constraints.specs.Store.{Keeps, Stays};
 ghost use Rattle.pi_core.specs.declared.core_program.CorePred.{CorePred};
 ghost use Rattle.pi_code.specs.Laid.{Longer, tables_for, AddsParts, IsPartOf, PartsAt, IsOperand};
 
 use super::short;
 use crate::code::{Code, Operand, Part};
-use pi_states::StateStore;
+use pi_constraints::StateStore;
 use pi_terms::{Term, TermHead, Text};
 use pi_unify::place;
 use std::alloc::{AllocError, Global};

@@ -2,7 +2,7 @@
 ghost use Rattle.std.specs.Prelude.{◌≡◌, ◌<◌, ◌^◌};
 ghost use Rattle.pi_raw_blocks.specs.Events.{watched, watch_number, watch_of, HasSlot};
 
-use pi_states::{Ref, Watch};
+use pi_constraints::{Ref, Watch};
 
 /// The term in it.
 pub fn watched(watch: Watch) -> Ref

@@ -6,7 +6,7 @@ ghost use Rattle.pi_raw_blocks.specs.Agent.{call_at, rule_at, watches_at};
 
 use crate::agents::events::watch_of;
 use crate::numbers::whole;
-use pi_states::{Ref, Watch, Watches};
+use pi_constraints::{Ref, Watch, Watches};
 use pi_terms::Series;
 use pi_trail::{Trailed, value};
 use std::alloc::{AllocError, Global};

@@ -5,7 +5,7 @@ ghost use Rattle.pi_raw_blocks.specs.AgentTable.{end_of, is_alive, AddsAgent, wi
 
 use crate::agents::write::write_agent;
 use crate::written::give_up;
-use pi_states::{Ref, Watches};
+use pi_constraints::{Ref, Watches};
 use pi_trail::{Table, Trailed};
 use std::alloc::AllocError;
 

@@ -8,7 +8,7 @@ ghost use Rattle.pi_raw_blocks.specs.Agent.{call_words, agent_words, WritesAgent
 use crate::agents::events::{watch_number, watched};
 use crate::numbers::{first_half, second_half};
 use crate::written::give_up;
-use pi_states::{Ref, Watch, Watches};
+use pi_constraints::{Ref, Watch, Watches};
 use pi_trail::{Trailed, data};
 use std::alloc::AllocError;
 

@@ -1,8 +1,8 @@
 //! What waits in a store.
 ghost use Rattle.std.specs.Prelude.{◌≡◌, ◌<◌, ◌^◌, [], ◌∷◌, ◌++◌, length, IfOk, OnErr};
 ghost use Rattle.pi_terms.specs.Tree.{Tree};
-ghost use Rattle.pi_states.specs.State.{IsActivation, SpeaksBelow, next, with_waiting};
-ghost use Rattle.pi_states.specs.Store.{IsTerm, Keeps, Stays, Changes, TakesFirst};
+ghost use Rattle.pi_constraints.specs.State.{IsActivation, SpeaksBelow, next, with_waiting};
+ghost use Rattle.pi_constraints.specs.Store.{IsTerm, Keeps, Stays, Changes, TakesFirst};
 ghost use Rattle.pi_raw_blocks.specs.Built.{PutsNode, PutsCompound};
 ghost use Rattle.pi_raw_store.specs.Holding.{seen};
 ghost use Rattle.pi_raw_store.specs.Waiting.{activation_of, activation_tree, HasValueBelow};
@@ -11,8 +11,8 @@ use crate::heads::{count_taken, taken_in};
 use crate::refs::has;
 use crate::store::RawStore;
 use crate::waiting::activation;
+use pi_constraints::{Activation, Ref};
 use pi_raw_blocks::take_last;
-use pi_states::{Activation, Ref};
 use pi_terms::{Term, TermHead};
 use pi_trail::Table;
 use std::alloc::{AllocError, Global};

@@ -1,8 +1,8 @@
 //! What is still to be done with the sum of an operand, and the turns of a reading.
 
 use crate::operands::node::{Binary, Unary};
+use pi_constraints::Ref;
 use pi_finished::JoinedSum;
-use pi_states::Ref;
 
 /// What is to be done with a sum once it comes: it is the left side, and the right one is to be read; it is the right side; it
 /// is changed.

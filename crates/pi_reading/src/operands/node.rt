@@ -1,6 +1,6 @@
 //! What a term is as an operand, at its root.
 
-use pi_states::Ref;
+use pi_constraints::Ref;
 
 /// What joins two operands.
 #[derive(Clone, Copy)]

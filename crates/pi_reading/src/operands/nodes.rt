@@ -1,11 +1,11 @@
 //! What a term of a store is as an operand.
 ghost use Rattle.std.specs.Prelude.{◌≡◌};
-ghost use Rattle.pi_states.specs.State.{IsState};
+ghost use Rattle.pi_constraints.specs.State.{IsState};
 ghost use Rattle.pi_reading.specs.Refs.{IsThere};
 ghost use Rattle.pi_reading.specs.OperandNodes.{node_of_one, node_of_two, ShowsNode};
 
 use crate::operands::{Binary, Node, Unary};
-use pi_states::{Cell, Ref, StateStore};
+use pi_constraints::{Cell, Ref, StateStore};
 
 /// What a term is as an operand, at its root. It takes no memory. A User's Guide to Picat, 'Constraints'.
 pub(crate) fn node_at<S: StateStore>(s: &S, term: Ref) -> Node

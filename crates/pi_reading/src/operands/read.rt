@@ -1,6 +1,6 @@
 //! Operands of constraints.
 ghost use Rattle.std.specs.Prelude.{◌≤◌};
-ghost use Rattle.pi_states.specs.State.{IsState, next};
+ghost use Rattle.pi_constraints.specs.State.{IsState, next};
 ghost use Rattle.pi_filters.specs.Steps.{Made, read_operand};
 ghost use Rattle.pi_finished.specs.Making.{Shows};
 ghost use Rattle.pi_reading.specs.Refs.{IsThere, operand_at};
@@ -8,8 +8,8 @@ ghost use Rattle.pi_reading.specs.OperandFrames.{ShowsOperand};
 
 use crate::operands::turns::take_turn;
 use crate::operands::{Next, OperandStop, Turn};
+use pi_constraints::{Ref, StateStore};
 use pi_finished::{JoinedSum, Making};
-use pi_states::{Ref, StateStore};
 use std::alloc::Global;
 
 /// The sum that an operand is, with the new variables and the constraints of its products and absolute values. It is read

@@ -1,6 +1,6 @@
 //! Why an operand isn't read.
 
-use pi_states::Ref;
+use pi_constraints::Ref;
 
 /// Why an operand isn't read.
 #[derive(Clone, Copy)]

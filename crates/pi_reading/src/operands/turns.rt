@@ -1,7 +1,7 @@
 //! The turns of a reading: an operand is begun, or a sum comes to what waits for it.
 ghost use Rattle.std.specs.Prelude.{◌≡◌, ◌++◌, List, Result, IfOk};
-ghost use Rattle.pi_states.specs.State.{IsState};
-ghost use Rattle.pi_states.specs.Store.{Moment};
+ghost use Rattle.pi_constraints.specs.State.{IsState};
+ghost use Rattle.pi_constraints.specs.Store.{Moment};
 ghost use Rattle.pi_filters.specs.PostingSums.{Sum};
 ghost use Rattle.pi_filters.specs.Steps.{Refusal, Made, Known};
 ghost use Rattle.pi_finished.specs.declared.making.Making.{Making};
@@ -13,9 +13,9 @@ ghost use Rattle.pi_reading.specs.Turns.{next_turn, next_of, ShowsWait, BeginsSu
 use crate::operands::nodes::node_at;
 use crate::operands::{Binary, Frame, Next, Node, OperandStop, Turn, Unary};
 use pi_builtin::collection_items;
+use pi_constraints::{Ref, StateStore};
 use pi_effects::Stop;
 use pi_finished::{JoinedSum, Making, SumStop};
-use pi_states::{Ref, StateStore};
 use std::alloc::{AllocError, Global};
 
 /// What comes of a turn.

@@ -1,8 +1,7 @@
 //! What is still to be done with the truth of an expression, and the turns of a reading.
 
 use crate::truths::nodes::Connective;
-use pi_constraints::Item;
-use pi_states::Ref;
+use pi_constraints::{Item, Ref};
 
 /// What is to be done with a truth once it comes: it is the left one, and the right one is to be read; it is the right one; it
 /// is that of the expression behind `#~`.

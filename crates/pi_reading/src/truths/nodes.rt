@@ -1,14 +1,14 @@
 //! What a term of a store is as a Boolean expression.
 ghost use Rattle.std.specs.Prelude.{◌≡◌};
 ghost use Rattle.std.specs.Option.{option_map};
-ghost use Rattle.pi_states.specs.State.{IsState};
+ghost use Rattle.pi_constraints.specs.State.{IsState};
 ghost use Rattle.pi_filters.specs.Terms.{comparison_named, connective_named};
 ghost use Rattle.pi_reading.specs.Refs.{IsThere};
 ghost use Rattle.pi_reading.specs.Relations.{comparison_of};
 ghost use Rattle.pi_reading.specs.TruthNodes.{connective_of, node_of_one, IsTwo, ShowsTruthNode};
 
 use crate::relations::Comparison;
-use pi_states::{Cell, Ref, StateStore};
+use pi_constraints::{Cell, Ref, StateStore};
 
 /// What joins two Boolean expressions. A User's Guide to Picat, 'Constraints'.
 #[derive(Clone, Copy)]

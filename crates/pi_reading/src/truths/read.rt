@@ -1,7 +1,7 @@
 //! Boolean expressions of constraints.
 ghost use Rattle.std.specs.Prelude.{◌≤◌, pos, IfOk};
 ghost use Rattle.pi_constraints.specs.declared.constraint.Rel.{Rel};
-ghost use Rattle.pi_states.specs.State.{IsState, next};
+ghost use Rattle.pi_constraints.specs.State.{IsState, next};
 ghost use Rattle.pi_filters.specs.PostingSums.{of_number, of_item, difference};
 ghost use Rattle.pi_filters.specs.Steps.{Made};
 ghost use Rattle.pi_filters.specs.Relations.{posts_standing};
@@ -15,9 +15,8 @@ use crate::operands::OperandStop;
 use crate::truths::frames::{TruthNext, TruthTurn};
 use crate::truths::sums::less_one;
 use crate::truths::turns::take_turn;
-use pi_constraints::Item;
+use pi_constraints::{Item, Ref, StateStore};
 use pi_finished::{Making, ToZero};
-use pi_states::{Ref, StateStore};
 use std::alloc::{AllocError, Global};
 
 /// The truth of a Boolean expression: an item that is 1 where it is so and 0 where it isn't, with the new variables and the

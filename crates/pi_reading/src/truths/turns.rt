@@ -1,8 +1,8 @@
 //! The turns of a reading: an expression is begun, or a truth comes to what waits for it.
 ghost use Rattle.std.specs.Prelude.{◌≡◌, ◌≤◌, Result};
 ghost use Rattle.pi_constraints.specs.declared.constraint.Item.{Item};
-ghost use Rattle.pi_states.specs.State.{IsState, next};
-ghost use Rattle.pi_states.specs.Store.{Moment};
+ghost use Rattle.pi_constraints.specs.State.{IsState, next};
+ghost use Rattle.pi_constraints.specs.Store.{Moment};
 ghost use Rattle.pi_filters.specs.Operands.{relation};
 ghost use Rattle.pi_filters.specs.Steps.{Refusal, Made, Known};
 ghost use Rattle.pi_filters.specs.Truths.{read_truth};
@@ -17,9 +17,8 @@ use crate::relations::{Comparison, read_relation};
 use crate::truths::frames::{TruthFrame, TruthNext, TruthTurn};
 use crate::truths::joined::{truth_of_joined, truth_of_negation};
 use crate::truths::nodes::{TruthNode, truth_node_at};
-use pi_constraints::Item;
+use pi_constraints::{Item, Ref, StateStore};
 use pi_finished::Making;
-use pi_states::{Ref, StateStore};
 use std::alloc::Global;
 
 /// What comes of a turn.

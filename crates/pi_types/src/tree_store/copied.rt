@@ -2,8 +2,7 @@
 ghost use Rattle.std.specs.Prelude.{◌≡◌, IfOk};
 
 use crate::tree_store::queue::Queue;
-use pi_constraints::Constraint;
-use pi_states::Activation;
+use pi_constraints::{Activation, Constraint};
 use pi_terms::Series;
 use std::alloc::{AllocError, Global};
 

@@ -4,8 +4,7 @@ ghost use Rattle.pi_constraints.specs.Domain.{IsDomain};
 ghost use Rattle.pi_types.specs.TreeStoreWalks.{known_domain_in, is_unbound_in, item_leads, items_lead, sum_leads, constraint_leads, posted_in, HasChangedIn, ListsBelow};
 
 use crate::tree_store::state::{Known, TreeState};
-use pi_constraints::{Constraint, Domain, Item, Items, LinTerms, Span};
-use pi_states::Places;
+use pi_constraints::{Constraint, Domain, Item, Items, LinTerms, Places, Span};
 use pi_terms::Series;
 use std::alloc::{AllocError, Global};
 

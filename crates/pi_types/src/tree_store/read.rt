@@ -1,16 +1,16 @@
 //! Terms that are read out of a stored state.
 ghost use Rattle.std.specs.Prelude.{◌≡◌, ◌≤◌, ◌++◌, ◌∷◌, [], length, slice_get, IfOk, MatchResult};
 ghost use Rattle.pi_terms.specs.Tree.{Tree, cells, most_cells};
-ghost use Rattle.pi_states.specs.Value.{value};
-ghost use Rattle.pi_states.specs.State.{bindings};
-ghost use Rattle.pi_states.specs.Store.{ShowsRead};
+ghost use Rattle.pi_constraints.specs.Value.{value};
+ghost use Rattle.pi_constraints.specs.State.{bindings};
+ghost use Rattle.pi_constraints.specs.Store.{ShowsRead};
 ghost use Rattle.pi_types.specs.TreeStore.{trees_of, state_of};
 ghost use Rattle.pi_terms.specs.BareCells.{bare};
 ghost use Rattle.pi_types.specs.TreeStoreRead.{entered_cell, entered_args, turned, IsReadable, StopsAt};
 
 use crate::tree_store::state::{StoredTerm, TreeState};
 use pi_atoms::Atoms;
-use pi_states::{ReadStop, Ref};
+use pi_constraints::{ReadStop, Ref};
 use pi_terms::{Term, TermCell, Text};
 use std::alloc::{AllocError, Global};
 

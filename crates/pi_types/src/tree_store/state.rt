@@ -4,8 +4,7 @@ ghost use Rattle.pi_types.specs.TreeStoreWalks.{changed};
 
 use crate::tree_store::copied::{Copied, copied_all, copied_queue};
 use crate::tree_store::queue::Queue;
-use pi_constraints::{Constraint, Domain};
-use pi_states::{Activation, AgentView, Ref, Watches};
+use pi_constraints::{Activation, AgentView, Constraint, Domain, Ref, Watches};
 use pi_terms::Series;
 use std::alloc::{AllocError, Global};
 

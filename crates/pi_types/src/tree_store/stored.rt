@@ -1,7 +1,6 @@
 //! The copying store as one whose domains are read where they stand.
 use crate::tree_store::TreeStore;
-use pi_constraints::Span;
-use pi_states::StoredDomains;
+use pi_constraints::{Span, StoredDomains};
 
 impl StoredDomains for TreeStore {
     fn span_count(&self, n: u64) -> usize {

@@ -3,7 +3,7 @@ ghost use Rattle.std.specs.Prelude.{◌≡◌, ◌↔◌, ◌<◌, [], length, I
 ghost use Rattle.pi_types.specs.TreeStoreWalks.{AllBelow, AllWatchedBelow, is_ground_in, all_ground_in, term_of, binding_in, followed_in, cell_in, arg_in, unbound_in, unbound_of, leads_in, any_in, variable_in, variable_of_any, binding_of_any, watched_ref};
 
 use crate::tree_store::state::{Known, StoredTerm, TreeState};
-use pi_states::{Cell, Ref, Watch, Watches};
+use pi_constraints::{Cell, Ref, Watch, Watches};
 use pi_terms::Series;
 use std::alloc::{AllocError, Global};
 

@@ -4,9 +4,9 @@
 use crate::bench::Bench;
 use crate::stores::showing::show;
 use pi_cases::{Case, Problem};
+use pi_constraints::StoredDomains;
 use pi_queue::{propagate, propagate_from};
 use pi_settling::PropStop;
-use pi_states::StoredDomains;
 use pi_types::{Places, Work};
 
 /// Takes a step that propagates, and tells whether it is one.

@@ -1,6 +1,6 @@
 use Rattle.std.specs.Prelude.{◌&&◌}
 use Rattle.std.proofs.Common.{sym, ◌∙◌, ap}
-use Rattle.pi_states.specs.State.{bindings}
+use Rattle.pi_constraints.specs.State.{bindings}
 use Rattle.pi_agent.proofs.WakeLemmas.{ins-answers, bound-answers, dom-answers, any-answers, posted-answers}
 use Rattle.pi_agent.proofs.waking.answers.Goals as goal
 

@@ -1,9 +1,9 @@
 use Rattle.std.proofs.Common.{sym, ◌∙◌, ap, subst, List, ◌++◌, ◌∷◌, []}
 use Rattle.std.proofs.lemmas.Option.{slice_get-get_or}
-use Rattle.pi_states.specs.Store.{AreWatches}
-use Rattle.pi_states.specs.declared.event.Watch.{Watch}
-use Rattle.pi_states.specs.declared.event.Activation.{Activation}
-use Rattle.pi_states.specs.State.{bindings}
+use Rattle.pi_constraints.specs.Store.{AreWatches}
+use Rattle.pi_constraints.specs.declared.event.Watch.{Watch}
+use Rattle.pi_constraints.specs.declared.event.Activation.{Activation}
+use Rattle.pi_constraints.specs.State.{bindings}
 use Rattle.pi_agent.proofs.WakeLemmas.{found-turn, passed-turn, none-turn}
 use Rattle.pi_agent.proofs.waking.wake.Goals as goal
 

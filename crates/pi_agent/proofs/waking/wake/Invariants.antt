@@ -1,6 +1,6 @@
 use Rattle.std.proofs.Common.{◌≡◌, Some, slice_get, drop}
-use Rattle.pi_states.specs.Value.{IsAcyclic}
-use Rattle.pi_states.specs.State.{Agent, bindings}
+use Rattle.pi_constraints.specs.Value.{IsAcyclic}
+use Rattle.pi_constraints.specs.State.{Agent, bindings}
 use Rattle.pi_settling.specs.Answers.{first_answered}
 use Rattle.pi_agent.proofs.waking.wake.Given as goal
 

@@ -1,4 +1,4 @@
-use Rattle.pi_states.specs.State.{bindings}
+use Rattle.pi_constraints.specs.State.{bindings}
 use Rattle.pi_agent.proofs.WakeLemmas.{ended-turn}
 use Rattle.pi_agent.proofs.waking.wake_agent.Goals as goal
 

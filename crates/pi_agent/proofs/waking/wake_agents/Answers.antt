@@ -1,5 +1,5 @@
 use Rattle.std.proofs.Common.{arith, ◌<◌, ◌≤◌, length}
-use Rattle.pi_states.specs.State.{bindings}
+use Rattle.pi_constraints.specs.State.{bindings}
 use Rattle.pi_agent.proofs.WakeLemmas.{agent-turn, agent-at, agents-done}
 use Rattle.pi_agent.proofs.waking.wake_agents.Goals as goal
 

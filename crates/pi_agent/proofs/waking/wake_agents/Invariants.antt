@@ -1,6 +1,6 @@
 use Rattle.std.proofs.Common.{◌≡◌, ◌++◌, drop}
-use Rattle.pi_states.specs.Value.{IsAcyclic}
-use Rattle.pi_states.specs.State.{bindings}
+use Rattle.pi_constraints.specs.Value.{IsAcyclic}
+use Rattle.pi_constraints.specs.State.{bindings}
 use Rattle.pi_settling.specs.Answers.{activations_from}
 use Rattle.pi_agent.proofs.waking.wake_agents.Given as goal
 

@@ -1,6 +1,6 @@
 use Rattle.std.proofs.Common.{List, drop}
 use Rattle.pi_terms.specs.Tree.{Tree}
-use Rattle.pi_states.specs.Store.{IsTerm, Stays}
+use Rattle.pi_constraints.specs.Store.{IsTerm, Stays}
 use Rattle.pi_effects.specs.Items.{list_onto}
 use Rattle.pi_builtin.specs.Items.{AreItems}
 use Rattle.pi_builtin.proofs.building.put_onto.Given as goal

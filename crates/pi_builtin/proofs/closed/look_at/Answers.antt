@@ -1,4 +1,4 @@
-use Rattle.pi_states.specs.declared.store.Cell.{Cell}
+use Rattle.pi_constraints.specs.declared.store.Cell.{Cell}
 use Rattle.pi_unify.specs.Terms.{term_of}
 use Rattle.pi_unify.proofs.TermValues.{given_term}
 use Rattle.pi_unify.proofs.ComparisonLemmas.{shown}

@@ -3,7 +3,7 @@ use Rattle.pi_effects.specs.Items.{list_onto}
 use Rattle.pi_effects.specs.Collections.{list_then}
 use Rattle.pi_builtin.specs.Items.{AreItems}
 use Rattle.pi_builtin.proofs.CollectionLemmas.{list-is, list-stops}
-use Rattle.pi_states.specs.Store.{IsTerm}
+use Rattle.pi_constraints.specs.Store.{IsTerm}
 use Rattle.pi_effects.specs.declared.fault.Stop.{Stop}
 use Rattle.pi_builtin.proofs.ResultLemmas.{stays-none, stopped-shows}
 use Rattle.pi_builtin.proofs.joining.append.Goals as goal

@@ -1,10 +1,10 @@
 use Rattle.std.proofs.Common.{◌≡◌, [], None, Ok, reverse, ap, subst}
 use Rattle.std.specs.Prelude.{unwrap_or}
-use Rattle.pi_states.specs.State.{bindings}
+use Rattle.pi_constraints.specs.State.{bindings}
 use Rattle.pi_effects.specs.Items.{list_of, list_items}
 use Rattle.pi_builtin.specs.Items.{ShowsItems}
 use Rattle.pi_builtin.proofs.BuildLemmas.{reversed-none}
-use Rattle.pi_states.specs.Store.{IsTerm}
+use Rattle.pi_constraints.specs.Store.{IsTerm}
 use Rattle.pi_effects.specs.declared.fault.Stop.{Stop}
 use Rattle.pi_builtin.proofs.ResultLemmas.{stays-none, stopped-shows}
 use Rattle.pi_builtin.proofs.joining.in_order.Goals as goal

@@ -1,9 +1,9 @@
 use Rattle.std.proofs.Common.{◌≡◌, ◌<◌, ◌-◌, suc, length, drop, get_or, sym, ◌∙◌, subst, arith}
 use Rattle.std.proofs.lemmas.List.{get_or_default}
-use Rattle.pi_states.specs.Value.{IsAcyclic}
-use Rattle.pi_states.specs.State.{State, bindings}
-use Rattle.pi_states.specs.Store.{IsTerm}
-use Rattle.pi_states.specs.declared.store.Ref.{Ref}
+use Rattle.pi_constraints.specs.Value.{IsAcyclic}
+use Rattle.pi_constraints.specs.State.{State, bindings}
+use Rattle.pi_constraints.specs.Store.{IsTerm}
+use Rattle.pi_constraints.specs.declared.store.Ref.{Ref}
 use Rattle.pi_effects.specs.Items.{list_of}
 use Rattle.pi_effects.specs.Collections.{without}
 use Rattle.pi_unify.proofs.KeepsLemmas.{stays_then}

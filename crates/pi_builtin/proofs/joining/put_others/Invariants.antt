@@ -1,6 +1,6 @@
 use Rattle.std.proofs.Common.{List, drop}
 use Rattle.pi_terms.specs.Tree.{Tree}
-use Rattle.pi_states.specs.Store.{IsTerm, Stays}
+use Rattle.pi_constraints.specs.Store.{IsTerm, Stays}
 use Rattle.pi_effects.specs.Items.{list_of}
 use Rattle.pi_effects.specs.Collections.{without}
 use Rattle.pi_unify.specs.Terms.{HoldsNoCycle}

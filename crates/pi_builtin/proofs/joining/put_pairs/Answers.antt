@@ -1,7 +1,7 @@
 use Rattle.std.proofs.Common.{◌≡◌, ◌<◌, ◌-◌, suc, length, get_or, subst, arith}
 use Rattle.std.proofs.lemmas.List.{get_or_default}
-use Rattle.pi_states.specs.Store.{IsTerm, Stays}
-use Rattle.pi_states.specs.declared.store.Ref.{Ref}
+use Rattle.pi_constraints.specs.Store.{IsTerm, Stays}
+use Rattle.pi_constraints.specs.declared.store.Ref.{Ref}
 use Rattle.pi_effects.specs.Items.{list_of}
 use Rattle.pi_unify.proofs.KeepsLemmas.{stays_then}
 use Rattle.pi_builtin.proofs.BuildLemmas.{pairs_from, pairs-none, pairs-more}

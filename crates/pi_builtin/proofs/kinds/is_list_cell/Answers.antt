@@ -1,7 +1,7 @@
 use Rattle.std.proofs.Common.{◌≡◌, ◌∙◌, ◌==◌, ◌&&◌, ap, subst, rules}
 use Rattle.std.specs.Str.{bytes_eq}
 use Rattle.pi_terms.specs.ListNames.{cell_name}
-use Rattle.pi_states.specs.Store.{ShowsCell}
+use Rattle.pi_constraints.specs.Store.{ShowsCell}
 use Rattle.pi_builtin.proofs.KindLemmas.{cell-shown}
 use Rattle.pi_builtin.proofs.kinds.is_list_cell.Goals as goal
 

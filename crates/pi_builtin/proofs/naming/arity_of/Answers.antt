@@ -1,7 +1,7 @@
 use Rattle.std.proofs.Common.{pos, ap, subst, codes}
 use Rattle.pi_terms.specs.Tree.{int}
-use Rattle.pi_states.specs.State.{bindings, followed}
-use Rattle.pi_states.specs.Store.{IsTerm, ShowsCell}
+use Rattle.pi_constraints.specs.State.{bindings, followed}
+use Rattle.pi_constraints.specs.Store.{IsTerm, ShowsCell}
 use Rattle.pi_effects.specs.Exception.{type_error}
 use Rattle.pi_effects.specs.Answer.{or_raised}
 use Rattle.pi_effects.specs.Naming.{arity_at}

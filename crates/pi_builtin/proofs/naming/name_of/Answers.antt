@@ -1,5 +1,5 @@
 use Rattle.pi_builtin.proofs.NamingLemmas.{not-callable}
-use Rattle.pi_states.specs.Store.{IsTerm}
+use Rattle.pi_constraints.specs.Store.{IsTerm}
 use Rattle.pi_effects.specs.declared.fault.Stop.{Stop}
 use Rattle.pi_builtin.proofs.ResultLemmas.{stays-none, stopped-shows}
 use Rattle.pi_builtin.proofs.naming.name_of.Goals as goal

@@ -2,7 +2,7 @@ use Rattle.std.proofs.Common.{◌≡◌, pos, Some, ap, rules, ◌∙◌, to_z, 
 use Rattle.std.specs.Int.{w128}
 use Rattle.pi_terms.specs.Tree.{int}
 use Rattle.pi_effects.specs.Value.{value_of}
-use Rattle.pi_states.specs.Store.{IsTerm}
+use Rattle.pi_constraints.specs.Store.{IsTerm}
 use Rattle.pi_effects.specs.Answer.{integer_then}
 use Rattle.pi_effects.specs.Integers.{number, outcome_then}
 use Rattle.pi_effects.specs.declared.fault.Stop.{Stop}

@@ -1,7 +1,7 @@
 use Rattle.std.proofs.Common.{Some, ap, rules, ◌∙◌, to_z, of_z}
 use Rattle.std.specs.Int.{w128, int_max}
 use Rattle.pi_terms.specs.Tree.{int}
-use Rattle.pi_states.specs.Store.{IsTerm}
+use Rattle.pi_constraints.specs.Store.{IsTerm}
 use Rattle.pi_effects.specs.Answer.{integer_then}
 use Rattle.pi_effects.specs.Integers.{number}
 use Rattle.pi_effects.specs.declared.fault.Stop.{Stop}

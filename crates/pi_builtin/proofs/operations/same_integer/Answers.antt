@@ -1,6 +1,6 @@
 use Rattle.std.proofs.Common.{Some, ap, rules, ◌∙◌}
 use Rattle.pi_terms.specs.Tree.{int}
-use Rattle.pi_states.specs.Store.{IsTerm}
+use Rattle.pi_constraints.specs.Store.{IsTerm}
 use Rattle.pi_effects.specs.Integers.{number}
 use Rattle.pi_effects.specs.declared.fault.Stop.{Stop}
 use Rattle.pi_effects.proofs.FaultLemmas.{integer-stops, integer-is}

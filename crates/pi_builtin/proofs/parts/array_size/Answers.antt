@@ -1,4 +1,4 @@
-use Rattle.pi_states.specs.State.{bindings, followed}
+use Rattle.pi_constraints.specs.State.{bindings, followed}
 use Rattle.pi_builtin.proofs.PartLemmas.{array-size, no-array}
 use Rattle.pi_builtin.proofs.parts.array_size.Goals as goal
 

@@ -1,4 +1,4 @@
-use Rattle.pi_states.specs.State.{bindings, followed}
+use Rattle.pi_constraints.specs.State.{bindings, followed}
 use Rattle.pi_builtin.proofs.PartLemmas.{cell-part, compound-part}
 use Rattle.pi_builtin.proofs.parts.part_at.Goals as goal
 

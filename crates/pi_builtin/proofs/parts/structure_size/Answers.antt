@@ -1,4 +1,4 @@
-use Rattle.pi_states.specs.State.{bindings, followed}
+use Rattle.pi_constraints.specs.State.{bindings, followed}
 use Rattle.pi_builtin.proofs.PartLemmas.{no-structure, structure-size}
 use Rattle.pi_builtin.proofs.parts.structure_size.Goals as goal
 

@@ -1,7 +1,7 @@
 use Rattle.std.proofs.Common.{refl, sym, subst}
 use Rattle.std.specs.Prelude.{pos, slice_get}
 use Rattle.pi_terms.specs.Tree.{int}
-use Rattle.pi_states.specs.Store.{IsTerm}
+use Rattle.pi_constraints.specs.Store.{IsTerm}
 use Rattle.pi_effects.specs.Exception.{bad_index}
 use Rattle.pi_effects.specs.Answer.{or_raised}
 use Rattle.pi_effects.specs.Collections.{item_or_first_index}

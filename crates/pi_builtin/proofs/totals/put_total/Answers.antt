@@ -1,4 +1,4 @@
-use Rattle.pi_states.specs.Store.{IsTerm}
+use Rattle.pi_constraints.specs.Store.{IsTerm}
 use Rattle.pi_effects.specs.declared.fault.Stop.{Stop}
 use Rattle.pi_builtin.proofs.CollectionLemmas.{collection-stops}
 use Rattle.pi_builtin.proofs.ResultLemmas.{stays-none, stopped-shows}

@@ -1,5 +1,5 @@
 use Rattle.std.proofs.Common.{subst}
-use Rattle.pi_states.specs.State.{bindings}
+use Rattle.pi_constraints.specs.State.{bindings}
 use Rattle.pi_effects.specs.Items.{list_items}
 use Rattle.pi_effects.specs.declared.fault.Kind.{Kind}
 use Rattle.pi_builtin.specs.Items.{ShowsItems}

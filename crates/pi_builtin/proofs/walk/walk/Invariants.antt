@@ -1,5 +1,5 @@
 use Rattle.pi_terms.specs.Tree.{Tree}
-use Rattle.pi_states.specs.Store.{IsTerm}
+use Rattle.pi_constraints.specs.Store.{IsTerm}
 use Rattle.pi_unify.specs.Terms.{HoldsNoCycle}
 use Rattle.pi_builtin.specs.Items.{IsWalked}
 use Rattle.pi_builtin.proofs.walk.walk.Given as goal

@@ -1,8 +1,8 @@
 use Rattle.std.proofs.Common.{◌≡◌, ◌==◌, false, length, ap, sym, ◌∙◌}
 use Rattle.std.specs.Str.{chars}
 use Rattle.pi_terms.specs.ListCopies.{list_cell}
-use Rattle.pi_states.specs.Store.{ShowsCell}
-use Rattle.pi_states.specs.declared.store.Cell.{Cell}
+use Rattle.pi_constraints.specs.Store.{ShowsCell}
+use Rattle.pi_constraints.specs.declared.store.Cell.{Cell}
 use Rattle.pi_unify.specs.Terms.{value_of}
 use Rattle.pi_unify.proofs.ComparisonLemmas.{shown}
 use Rattle.pi_calls.proofs.WalkLemmas.{no_item, long_item}

@@ -1,5 +1,5 @@
-use Rattle.pi_states.specs.Store.{ShowsCell}
-use Rattle.pi_states.specs.declared.store.Cell.{Cell}
+use Rattle.pi_constraints.specs.Store.{ShowsCell}
+use Rattle.pi_constraints.specs.declared.store.Cell.{Cell}
 use Rattle.pi_unify.specs.Terms.{value_of}
 use Rattle.pi_unify.proofs.ComparisonLemmas.{shown}
 use Rattle.pi_calls.proofs.WalkLemmas.{IsCell, cell_shown, no_cell, link_of_cell, nil_shown, no_nil, no_list}

@@ -1,6 +1,6 @@
 use Rattle.std.proofs.Common.{◌≡◌, false, ap, sym, ◌∙◌, subst}
-use Rattle.pi_states.specs.State.{bindings}
-use Rattle.pi_states.specs.Value.{value}
+use Rattle.pi_constraints.specs.State.{bindings}
+use Rattle.pi_constraints.specs.Value.{value}
 use Rattle.pi_syntax.specs.PrintTerm.{is_characters}
 use Rattle.pi_effects.specs.Exception.{bad_format}
 use Rattle.pi_effects.specs.Format.{a_text, argument_text}

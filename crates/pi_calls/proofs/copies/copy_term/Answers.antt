@@ -1,6 +1,6 @@
 use Rattle.std.proofs.lemmas.Result.{err_from_is_err_and}
-use Rattle.pi_states.specs.Value.{value}
-use Rattle.pi_states.specs.State.{bindings}
+use Rattle.pi_constraints.specs.Value.{value}
+use Rattle.pi_constraints.specs.State.{bindings}
 use Rattle.pi_calls.proofs.CopyLemmas.{copy_given, copy_refused}
 use Rattle.pi_calls.proofs.copies.copy_term.Goals as goal
 

@@ -1,6 +1,6 @@
 use Rattle.std.proofs.Common.{◌≡◌, ◌<◌, suc, length, get_or, sym, subst, arith, add-one}
 use Rattle.std.proofs.lemmas.List.{get_or_default}
-use Rattle.pi_states.specs.declared.store.Ref.{Ref}
+use Rattle.pi_constraints.specs.declared.store.Ref.{Ref}
 use Rattle.pi_calls.proofs.LoopLemmas.{not-empty}
 use Rattle.pi_calls.proofs.ExtremeLemmas.{IsBest, none-best, first-best, better-next, best-stays, best-shown}
 use Rattle.pi_calls.proofs.extremes.extreme.Goals as goal

@@ -3,7 +3,7 @@ use Rattle.std.specs.Prelude.{slice_get, option_copied, Option, Ok}
 use Rattle.std.specs.String.{string_bytes}
 use Rattle.std.proofs.lemmas.Result.{err_from_is_err_and}
 use Rattle.pi_terms.specs.Tree.{Tree}
-use Rattle.pi_states.specs.declared.store.Ref.{Ref}
+use Rattle.pi_constraints.specs.declared.store.Ref.{Ref}
 use Rattle.pi_effects.specs.Exception.{bad_format}
 use Rattle.pi_effects.specs.Items.{each_tree}
 use Rattle.pi_effects.specs.Format.{Piece, filled_in, pieces}

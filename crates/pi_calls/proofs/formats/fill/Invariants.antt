@@ -3,9 +3,9 @@ use Rattle.std.specs.String.{string_bytes}
 use denote.Shadow.{shadow}
 use denote.Text.{Utf8}
 use Rattle.pi_terms.specs.Tree.{Tree, Trees}
-use Rattle.pi_states.specs.Value.{IsAcyclic}
-use Rattle.pi_states.specs.State.{bindings}
-use Rattle.pi_states.specs.Store.{IsTerm, AreTerms}
+use Rattle.pi_constraints.specs.Value.{IsAcyclic}
+use Rattle.pi_constraints.specs.State.{bindings}
+use Rattle.pi_constraints.specs.Store.{IsTerm, AreTerms}
 use Rattle.pi_effects.specs.Exception.{bad_format}
 use Rattle.pi_effects.specs.Items.{each_tree}
 use Rattle.pi_effects.specs.Format.{filled_in, pieces}

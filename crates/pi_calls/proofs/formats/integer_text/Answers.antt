@@ -1,9 +1,9 @@
 use Rattle.std.proofs.Common.{◌≡◌, rules}
 use Rattle.std.specs.Fmt.{signed_decimal}
-use Rattle.pi_states.specs.State.{bindings}
-use Rattle.pi_states.specs.Value.{value}
-use Rattle.pi_states.specs.Store.{ShowsCell}
-use Rattle.pi_states.specs.declared.store.Cell.{Cell}
+use Rattle.pi_constraints.specs.State.{bindings}
+use Rattle.pi_constraints.specs.Value.{value}
+use Rattle.pi_constraints.specs.Store.{ShowsCell}
+use Rattle.pi_constraints.specs.declared.store.Cell.{Cell}
 use Rattle.pi_effects.specs.Exception.{bad_format}
 use Rattle.pi_effects.specs.Format.{an_integer, argument_text}
 use Rattle.pi_unify.proofs.TermValues.{shows_value}

@@ -3,9 +3,9 @@ use Rattle.std.specs.Borrow.{Bor}
 use Rattle.std.specs.String.{string_bytes}
 use Rattle.std.specs.Prelude.{option_copied}
 use Rattle.std.proofs.lemmas.Result.{err_from_is_err_and}
-use Rattle.pi_states.specs.State.{bindings}
-use Rattle.pi_states.specs.Value.{value}
-use Rattle.pi_states.specs.declared.store.Ref.{Ref}
+use Rattle.pi_constraints.specs.State.{bindings}
+use Rattle.pi_constraints.specs.Value.{value}
+use Rattle.pi_constraints.specs.declared.store.Ref.{Ref}
 use Rattle.pi_effects.specs.Exception.{bad_format}
 use Rattle.pi_effects.specs.Format.{argument, argument_text, filled_in}
 use Rattle.pi_effects.proofs.FaultLemmas.{stops-whole}

@@ -1,6 +1,6 @@
 use Rattle.std.proofs.Common.{Ok, refl}
 use Rattle.pi_unify.proofs.KeepsLemmas.{keeps_none}
-use Rattle.pi_states.specs.Store.{Stays}
+use Rattle.pi_constraints.specs.Store.{Stays}
 use Rattle.pi_builtin.specs.declared.functions.FunctionOfOne.{FunctionOfOne}
 use Rattle.pi_calls.proofs.FunctionBodies.{one-shown, one-made}
 use Rattle.pi_calls.proofs.functions.call_of_one.Goals as goal

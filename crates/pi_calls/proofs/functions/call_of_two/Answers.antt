@@ -1,6 +1,6 @@
 use Rattle.std.proofs.Common.{refl}
 use Rattle.pi_unify.proofs.KeepsLemmas.{keeps_none}
-use Rattle.pi_states.specs.Store.{Stays}
+use Rattle.pi_constraints.specs.Store.{Stays}
 use Rattle.pi_builtin.specs.declared.functions.FunctionOfTwo.{FunctionOfTwo}
 use Rattle.pi_calls.proofs.FunctionBodies.{two-shown, two-made}
 use Rattle.pi_calls.proofs.functions.call_of_two.Goals as goal

@@ -1,7 +1,7 @@
 use Rattle.std.proofs.Common.{◌*◌}
 use Rattle.pi_terms.specs.Tree.{trees_of}
-use Rattle.pi_states.specs.State.{next}
-use Rattle.pi_states.specs.Store.{AreTerms}
+use Rattle.pi_constraints.specs.State.{next}
+use Rattle.pi_constraints.specs.Store.{AreTerms}
 use Rattle.pi_unify.specs.Copying.{Makes}
 use Rattle.pi_effects.specs.Making.{new_rows}
 use Rattle.pi_calls.proofs.grids.put_rows.Given as goal

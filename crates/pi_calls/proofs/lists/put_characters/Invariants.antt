@@ -1,5 +1,5 @@
 use Rattle.std.proofs.Common.{drop}
-use Rattle.pi_states.specs.Store.{IsTerm, Stays}
+use Rattle.pi_constraints.specs.Store.{IsTerm, Stays}
 use Rattle.pi_calls.proofs.TextLists.{list_for}
 use Rattle.pi_calls.proofs.lists.put_characters.Given as goal
 

@@ -1,4 +1,4 @@
-use Rattle.pi_states.specs.State.{bindings, followed}
+use Rattle.pi_constraints.specs.State.{bindings, followed}
 use Rattle.pi_calls.proofs.PairLemmas.{pair_is, other_compound}
 use Rattle.pi_calls.proofs.pairs.pair_at.Goals as goal
 

@@ -1,7 +1,7 @@
 use Rattle.std.proofs.Common.{Ok, Err, [], refl, ap, sym}
-use Rattle.pi_states.specs.State.{bindings, followed}
+use Rattle.pi_constraints.specs.State.{bindings, followed}
 use Rattle.pi_unify.proofs.KeepsLemmas.{keeps_none}
-use Rattle.pi_states.specs.Store.{Stays}
+use Rattle.pi_constraints.specs.Store.{Stays}
 use Rattle.pi_effects.specs.Exception.{thrown}
 use Rattle.pi_effects.specs.Kinds.{holds_no_variable}
 use Rattle.pi_effects.specs.Texts.{text_before, line_feed, plain, quoted}

@@ -1,9 +1,9 @@
 use Rattle.std.proofs.Common.{Ok, refl}
 use Rattle.std.specs.Prelude.{is_none}
-use Rattle.pi_states.specs.Unify.{unified}
+use Rattle.pi_constraints.specs.Unify.{unified}
 use Rattle.pi_unify.proofs.KeepsLemmas.{keeps_none}
 use Rattle.pi_unify.proofs.BindLemmas.{if_ok}
-use Rattle.pi_states.specs.Store.{Stays}
+use Rattle.pi_constraints.specs.Store.{Stays}
 use Rattle.pi_effects.specs.Answer.{integers_then}
 use Rattle.pi_effects.specs.Comparing.{value_order}
 use Rattle.pi_builtin.specs.Relations.{holds}

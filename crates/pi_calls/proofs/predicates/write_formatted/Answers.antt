@@ -1,6 +1,6 @@
 use Rattle.std.proofs.Common.{◌≡◌, Some, refl, codes}
 use Rattle.pi_unify.proofs.KeepsLemmas.{keeps_none}
-use Rattle.pi_states.specs.Store.{Stays}
+use Rattle.pi_constraints.specs.Store.{Stays}
 use Rattle.pi_effects.specs.BuiltIns.{built_in_predicate}
 use Rattle.pi_effects.specs.Format.{formatted}
 use Rattle.pi_effects.specs.Items.{each_tree}

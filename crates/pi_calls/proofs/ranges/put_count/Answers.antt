@@ -1,7 +1,7 @@
 use Rattle.std.proofs.Common.{◌≡◌, ℕ, ◌<◌, subst, refl, to_z, of_z}
 use Rattle.std.specs.Int.{w128}
 use Rattle.std.proofs.lemmas.Int.{to_z-of_z}
-use Rattle.pi_states.specs.Store.{IsTerm}
+use Rattle.pi_constraints.specs.Store.{IsTerm}
 use Rattle.pi_effects.specs.Exception.{range_too_long}
 use Rattle.pi_effects.specs.Ranges.{most_items, count_by}
 use Rattle.pi_calls.proofs.RangeLemmas.{number_of, counted_too_long}

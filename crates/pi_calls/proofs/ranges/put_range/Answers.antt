@@ -2,7 +2,7 @@ use Rattle.std.proofs.Common.{◌≡◌, ℕ, ◌<◌, ap, ◌∙◌, subst, ref
 use Rattle.std.specs.Int.{w128}
 use Rattle.std.proofs.lemmas.Int.{to_z-of_z}
 use Rattle.pi_terms.specs.Tree.{Tree}
-use Rattle.pi_states.specs.Store.{IsTerm}
+use Rattle.pi_constraints.specs.Store.{IsTerm}
 use Rattle.pi_effects.specs.Exception.{range_too_long}
 use Rattle.pi_effects.specs.Items.{list_of}
 use Rattle.pi_effects.specs.Ranges.{most_items, count_by, values_by}

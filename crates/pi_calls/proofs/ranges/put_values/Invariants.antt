@@ -1,5 +1,5 @@
 use Rattle.std.proofs.Common.{◌-◌}
-use Rattle.pi_states.specs.Store.{IsTerm, Stays}
+use Rattle.pi_constraints.specs.Store.{IsTerm, Stays}
 use Rattle.pi_effects.specs.Items.{list_of}
 use Rattle.pi_effects.specs.Ranges.{values_by}
 use Rattle.pi_calls.specs.Steps.{value_after}

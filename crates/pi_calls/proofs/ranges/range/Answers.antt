@@ -1,5 +1,5 @@
 use Rattle.std.specs.Prelude.{pos}
-use Rattle.pi_states.specs.Store.{IsTerm}
+use Rattle.pi_constraints.specs.Store.{IsTerm}
 use Rattle.pi_effects.specs.Answer.{integer_then}
 use Rattle.pi_effects.specs.Ranges.{range}
 use Rattle.pi_effects.proofs.FaultLemmas.{integer-stops, integers-stop}

@@ -3,7 +3,7 @@ use Rattle.std.specs.Int.{w128}
 use Rattle.pi_effects.specs.Answer.{integer_then, integers_then}
 use Rattle.pi_effects.specs.Items.{list_of}
 use Rattle.pi_effects.specs.Ranges.{values_by, range, range_by}
-use Rattle.pi_states.specs.Store.{IsTerm}
+use Rattle.pi_constraints.specs.Store.{IsTerm}
 use Rattle.pi_effects.specs.Results.{Stops, ShowsTerm}
 use Rattle.pi_effects.proofs.FaultLemmas.{integer-is, integer-stops, integers-stop}
 use Rattle.pi_calls.proofs.RangeLemmas.{step_counts}

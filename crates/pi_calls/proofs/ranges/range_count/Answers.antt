@@ -4,7 +4,7 @@ use Rattle.pi_effects.specs.Exception.{type_error}
 use Rattle.pi_effects.specs.Ranges.{counted, counted_by}
 use Rattle.pi_effects.specs.Inner.{range_count}
 use Rattle.pi_effects.specs.Answer.{integer_then, integers_then}
-use Rattle.pi_states.specs.Store.{IsTerm}
+use Rattle.pi_constraints.specs.Store.{IsTerm}
 use Rattle.pi_effects.specs.Results.{Stops, ShowsTerm}
 use Rattle.pi_effects.proofs.FaultLemmas.{integer-is, integer-stops, integers-are, integers-stop}
 use Rattle.pi_calls.proofs.RangeLemmas.{number_of, step_counts, pair_counted, pair_then}

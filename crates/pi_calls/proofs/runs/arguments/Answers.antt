@@ -2,8 +2,8 @@ use Rattle.std.proofs.Common.{◌<◌, suc, sym, subst, add-one, arith}
 use Rattle.pi_terms.specs.Tree.{args, tree_count}
 use Rattle.pi_terms.specs.TermCells.{take_trees}
 use Rattle.pi_terms.proofs.TermLemmas.{TreeAt, tree_at-below}
-use Rattle.pi_states.specs.State.{bindings, followed}
-use Rattle.pi_states.specs.Store.{AreTerms}
+use Rattle.pi_constraints.specs.State.{bindings, followed}
+use Rattle.pi_constraints.specs.Store.{AreTerms}
 use Rattle.pi_calls.proofs.RunLemmas.{terms-none, terms-more, terms-all}
 use Rattle.pi_calls.proofs.runs.arguments.Goals as goal
 

@@ -1,9 +1,9 @@
 use Rattle.std.proofs.Common.{◌≡◌}
 use Rattle.pi_terms.specs.Tree.{Tree, args, arity}
 use Rattle.pi_terms.specs.TermCells.{take_trees}
-use Rattle.pi_states.specs.Value.{IsAcyclic}
-use Rattle.pi_states.specs.State.{bindings, followed}
-use Rattle.pi_states.specs.Store.{IsTerm, AreTerms}
+use Rattle.pi_constraints.specs.Value.{IsAcyclic}
+use Rattle.pi_constraints.specs.State.{bindings, followed}
+use Rattle.pi_constraints.specs.Store.{IsTerm, AreTerms}
 use Rattle.pi_calls.proofs.runs.arguments.Given as goal
 
 -- the first arguments are found

@@ -1,8 +1,8 @@
 use Rattle.std.proofs.Common.{◌≡◌, ◌∙◌, length, sym, ap, subst, rules}
 use Rattle.pi_terms.specs.Tree.{args, tree_count, no_trees}
-use Rattle.pi_states.specs.State.{bindings, followed}
-use Rattle.pi_states.specs.Store.{AreTerms, ShowsCell}
-use Rattle.pi_states.specs.declared.store.Cell.{Cell}
+use Rattle.pi_constraints.specs.State.{bindings, followed}
+use Rattle.pi_constraints.specs.Store.{AreTerms, ShowsCell}
+use Rattle.pi_constraints.specs.declared.store.Cell.{Cell}
 use Rattle.pi_calls.specs.Runs.{DoesCall}
 use Rattle.pi_calls.proofs.FunctionCalls.{terms-nothing}
 use Rattle.pi_calls.proofs.RunLemmas.{atom-call, comp-call, terms-count}

@@ -1,7 +1,7 @@
 use Rattle.std.proofs.Common.{◌≡◌, ◌+◌, ◌-◌, ap, sym, ◌∙◌, arith}
 use Rattle.pi_terms.specs.Tree.{var}
-use Rattle.pi_states.specs.State.{next}
-use Rattle.pi_states.specs.Store.{IsTerm}
+use Rattle.pi_constraints.specs.State.{next}
+use Rattle.pi_constraints.specs.Store.{IsTerm}
 use Rattle.pi_unify.proofs.KeepsLemmas.{stays_then}
 use Rattle.pi_calls.proofs.MadeLists.{none_listed, one_listed, all_listed}
 use Rattle.pi_calls.proofs.variables.list_newest.Goals as goal

@@ -1,6 +1,6 @@
 use Rattle.std.proofs.Common.{◌≡◌, ℕ, ◌+◌, ◌-◌}
-use Rattle.pi_states.specs.State.{next}
-use Rattle.pi_states.specs.Store.{IsTerm, Stays}
+use Rattle.pi_constraints.specs.State.{next}
+use Rattle.pi_constraints.specs.Store.{IsTerm, Stays}
 use Rattle.pi_effects.specs.Items.{list_of}
 use Rattle.pi_effects.specs.Making.{new_from}
 use Rattle.pi_calls.proofs.variables.list_newest.Given as goal

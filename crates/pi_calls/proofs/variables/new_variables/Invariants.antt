@@ -1,6 +1,6 @@
 use Rattle.pi_terms.specs.Tree.{trees_of}
-use Rattle.pi_states.specs.State.{next}
-use Rattle.pi_states.specs.Store.{AreTerms}
+use Rattle.pi_constraints.specs.State.{next}
+use Rattle.pi_constraints.specs.Store.{AreTerms}
 use Rattle.pi_unify.specs.Copying.{Makes}
 use Rattle.pi_effects.specs.Making.{new_from}
 use Rattle.pi_calls.proofs.variables.new_variables.Given as goal

@@ -1,6 +1,6 @@
 use Rattle.std.proofs.Common.{subst}
-use Rattle.pi_states.specs.State.{bindings}
-use Rattle.pi_states.specs.Value.{value}
+use Rattle.pi_constraints.specs.State.{bindings}
+use Rattle.pi_constraints.specs.Value.{value}
 use Rattle.pi_effects.specs.Reads.{IsCopied}
 use Rattle.pi_effects.proofs.BallLemmas.{thrown-copy, thrown-large}
 use Rattle.pi_effects.proofs.ball.thrown_term.Goals as goal

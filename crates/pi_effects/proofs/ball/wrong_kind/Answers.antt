@@ -1,7 +1,7 @@
 use Rattle.std.proofs.Common.{◌∙◌, ap, subst, codes}
 use Rattle.pi_terms.specs.Tree.{atom, comp, no_trees, tree}
-use Rattle.pi_states.specs.State.{bindings}
-use Rattle.pi_states.specs.Value.{value}
+use Rattle.pi_constraints.specs.State.{bindings}
+use Rattle.pi_constraints.specs.Value.{value}
 use Rattle.pi_effects.specs.Balls.{kind_name}
 use Rattle.pi_effects.specs.Reads.{IsCopied}
 use Rattle.pi_effects.proofs.BallLemmas.{kind-copy, kind-large}

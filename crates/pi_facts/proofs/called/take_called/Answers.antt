@@ -1,5 +1,5 @@
 use Rattle.std.proofs.Common.{rules}
-use Rattle.pi_states.specs.State.{bindings, followed}
+use Rattle.pi_constraints.specs.State.{bindings, followed}
 use Rattle.pi_facts.proofs.CalledLemmas.{none-there, first-there, root-called}
 use Rattle.pi_facts.proofs.called.take_called.Goals as goal
 

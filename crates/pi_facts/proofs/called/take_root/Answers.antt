@@ -1,6 +1,6 @@
 use Rattle.std.proofs.Common.{◌≡◌, subst, arith}
 use Rattle.pi_terms.specs.Tree.{Tree, args}
-use Rattle.pi_states.specs.State.{bindings, followed}
+use Rattle.pi_constraints.specs.State.{bindings, followed}
 use Rattle.pi_facts.proofs.CalledLemmas.{AreFirst, root-atom, root-comp}
 use Rattle.pi_facts.proofs.called.take_root.Goals as goal
 

@@ -1,8 +1,8 @@
 use Rattle.std.proofs.Common.{◌≡◌, []}
 use Rattle.pi_terms.specs.Tree.{Tree, args}
-use Rattle.pi_states.specs.State.{bindings, followed}
-use Rattle.pi_states.specs.Value.{IsAcyclic}
-use Rattle.pi_states.specs.Store.{IsTerm}
+use Rattle.pi_constraints.specs.State.{bindings, followed}
+use Rattle.pi_constraints.specs.Value.{IsAcyclic}
+use Rattle.pi_constraints.specs.Store.{IsTerm}
 use Rattle.pi_facts.proofs.CalledLemmas.{AreFirst}
 use Rattle.pi_facts.proofs.called.take_root.Given as goal
 

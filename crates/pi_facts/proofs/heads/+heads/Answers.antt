@@ -1,6 +1,6 @@
 use Rattle.std.proofs.Common.{subst, rules, None, Some}
 use Rattle.pi_unify.proofs.KeepsLemmas.{keeps_then}
-use Rattle.pi_states.specs.Store.{Gives}
+use Rattle.pi_constraints.specs.Store.{Gives}
 use Rattle.pi_terms.specs.Tree.{atom}
 use Rattle.pi_core.specs.CoreTree.{pattern_tree, pattern_trees}
 use Rattle.pi_meaning.specs.Facts.{fact_term, fact_terms}

@@ -1,5 +1,5 @@
 use Rattle.std.proofs.Common.{subst, refl}
-use Rattle.pi_states.specs.Unify.{unified}
+use Rattle.pi_constraints.specs.Unify.{unified}
 use Rattle.pi_unify.specs.Answers.{Answers}
 use Rattle.pi_facts.proofs.HeadLemmas.{named-found, named-none}
 use Rattle.pi_facts.proofs.heads.make_named.Goals as goal

@@ -2,7 +2,7 @@ use Rattle.std.proofs.Common.{◌≡◌, subst, rules, sym, None, Some}
 use Rattle.pi_core.specs.CoreTree.{pattern_trees}
 use Rattle.pi_meaning.specs.Facts.{fact_terms}
 use Rattle.std.specs.Prelude.{replicate}
-use Rattle.pi_states.specs.State.{next}
+use Rattle.pi_constraints.specs.State.{next}
 use Rattle.pi_facts.specs.Heads.{made_places, AreMade, PutsHeads}
 use Rattle.pi_facts.proofs.HeadLemmas.{heads-are, comp-same, none-made, no-head, head-unifies, head-state}
 use Rattle.pi_facts.proofs.heads.unify_fact.Goals as goal

@@ -1,6 +1,6 @@
 use Rattle.std.proofs.Common.{arith, sym, ◌∙◌, ap}
 use Rattle.pi_terms.specs.Tree.{arg_at}
-use Rattle.pi_states.specs.State.{bindings, followed}
+use Rattle.pi_constraints.specs.State.{bindings, followed}
 use Rattle.pi_facts.proofs.KeyedLemmas.{none-between, both-passed}
 use Rattle.pi_facts.proofs.keyed.alike_at.Goals as goal
 

@@ -1,5 +1,5 @@
 use Rattle.std.proofs.Common.{◌∙◌, sym}
-use Rattle.pi_states.specs.State.{bindings}
+use Rattle.pi_constraints.specs.State.{bindings}
 use Rattle.pi_facts.proofs.ModeLemmas.{fits-none, fits-more, fits-not, fits-all}
 use Rattle.pi_facts.proofs.modes.fits.Goals as goal
 

@@ -1,5 +1,5 @@
 use Rattle.std.proofs.Common.{◌∙◌, sym}
-use Rattle.pi_states.specs.State.{bindings}
+use Rattle.pi_constraints.specs.State.{bindings}
 use Rattle.pi_terms.specs.Tree.{drop_trees}
 use Rattle.pi_facts.proofs.ModeLemmas.{place-past, place-none, place-any, place-closed, ok-same}
 use Rattle.pi_facts.proofs.modes.fits_at.Goals as goal

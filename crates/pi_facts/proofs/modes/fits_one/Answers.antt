@@ -1,5 +1,5 @@
 use Rattle.std.proofs.Common.{◌∙◌, sym, ap, rules}
-use Rattle.pi_states.specs.State.{bindings}
+use Rattle.pi_constraints.specs.State.{bindings}
 use Rattle.pi_meaning.specs.Facts.{fits_modes}
 use Rattle.pi_facts.proofs.ModeLemmas.{no-list, list-fits, list-not, no-list_fits}
 use Rattle.pi_facts.proofs.modes.fits_one.Goals as goal

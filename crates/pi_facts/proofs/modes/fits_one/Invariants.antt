@@ -1,7 +1,7 @@
 use Rattle.pi_terms.specs.Tree.{Trees}
-use Rattle.pi_states.specs.Value.{IsAcyclic}
-use Rattle.pi_states.specs.State.{bindings}
-use Rattle.pi_states.specs.Store.{AreTerms}
+use Rattle.pi_constraints.specs.Value.{IsAcyclic}
+use Rattle.pi_constraints.specs.State.{bindings}
+use Rattle.pi_constraints.specs.Store.{AreTerms}
 use Rattle.pi_meaning.specs.Facts.{fits_modes}
 use Rattle.pi_facts.proofs.ModeLemmas.{NoneFits}
 use Rattle.pi_facts.proofs.modes.fits_one.Given as goal

@@ -1,6 +1,6 @@
 use Rattle.std.proofs.Common.{◌+◌, ◌∙◌, subst, sym, arith, []}
 use Rattle.pi_terms.specs.Tree.{comp}
-use Rattle.pi_states.specs.State.{IsState}
+use Rattle.pi_constraints.specs.State.{IsState}
 use Rattle.pi_unify.proofs.KeepsLemmas.{stays_then}
 use Rattle.pi_facts.specs.Keyed.{HaveKeys}
 use Rattle.pi_facts.proofs.KeyedLemmas.{keys-kept}

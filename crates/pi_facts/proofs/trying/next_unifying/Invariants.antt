@@ -1,7 +1,7 @@
 use Rattle.std.proofs.Common.{[], ◌-◌}
 use Rattle.pi_terms.specs.Tree.{Trees, comp}
-use Rattle.pi_states.specs.State.{IsState}
-use Rattle.pi_states.specs.Store.{IsTerm}
+use Rattle.pi_constraints.specs.State.{IsState}
+use Rattle.pi_constraints.specs.Store.{IsTerm}
 use Rattle.pi_facts.specs.Keyed.{HaveKeys}
 use Rattle.pi_facts.proofs.TryingLemmas.{Tried}
 use Rattle.pi_facts.proofs.trying.next_unifying.Given as goal

@@ -4,7 +4,7 @@ use Rattle.pi_core.specs.CoreTree.{clause_tree, pattern_trees}
 use Rattle.pi_core.specs.declared.core_program.Pattern.{Pattern}
 use Rattle.pi_meaning.specs.Facts.{fact_terms, unified_with}
 use Rattle.pi_meaning.specs.Step.{with_fact}
-use Rattle.pi_states.specs.State.{IsState}
+use Rattle.pi_constraints.specs.State.{IsState}
 use Rattle.pi_unify.specs.Answers.{Answers}
 use Rattle.pi_unify.proofs.KeepsLemmas.{keeps_none}
 use Rattle.pi_facts.proofs.TryingLemmas.{returned, answers-tell}

@@ -1,6 +1,6 @@
 use Rattle.std.proofs.Common.{subst}
 use Rattle.std.specs.Prelude.{Some}
-use Rattle.pi_states.specs.State.{bindings, followed}
+use Rattle.pi_constraints.specs.State.{bindings, followed}
 use Rattle.pi_settling.specs.Options.{word_of}
 use Rattle.pi_label.specs.Reads.{ShowsWord}
 use Rattle.pi_label.specs.declared.words.Word.{Word}

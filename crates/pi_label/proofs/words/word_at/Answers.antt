@@ -1,6 +1,6 @@
 use Rattle.std.proofs.Common.{◌≡◌, arith}
 use Rattle.std.specs.Prelude.{Some, None}
-use Rattle.pi_states.specs.State.{bindings, followed}
+use Rattle.pi_constraints.specs.State.{bindings, followed}
 use Rattle.pi_label.proofs.WordLemmas.{one-word, other-word}
 use Rattle.pi_label.proofs.words.word_at.Goals as goal
 

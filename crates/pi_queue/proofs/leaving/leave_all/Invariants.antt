@@ -2,7 +2,7 @@ use Rattle.pi_constraints.specs.declared.constraint.Constraint.{Constraint}
 use Rattle.pi_constraints.specs.declared.domain.Span.{Span}
 use Rattle.std.proofs.Common.{List}
 use Rattle.pi_queue.specs.Changes.{AreTold}
-use Rattle.pi_states.specs.Store.{Keeps}
+use Rattle.pi_constraints.specs.Store.{Keeps}
 use Rattle.pi_queue.specs.Leaving.{MayLeave, HasLeft}
 use Rattle.pi_queue.proofs.leaving.leave_all.Given as goal
 

@@ -1,5 +1,5 @@
 use Rattle.std.proofs.Common.{◌-◌}
-use Rattle.pi_states.specs.Store.{Keeps}
+use Rattle.pi_constraints.specs.Store.{Keeps}
 use Rattle.pi_settling.specs.Runs.{MayPropagate, work_of}
 use Rattle.pi_queue.specs.Ends.{KeepsWithin}
 use Rattle.pi_queue.proofs.EndLemmas.{IsBetweenTurns}

@@ -1,7 +1,7 @@
 use Rattle.std.proofs.Common.{◌≡◌, length, take}
 use Rattle.std.specs.Prelude.{map}
-use Rattle.pi_states.specs.Value.{IsAcyclic}
-use Rattle.pi_states.specs.State.{bindings}
+use Rattle.pi_constraints.specs.Value.{IsAcyclic}
+use Rattle.pi_constraints.specs.State.{bindings}
 use Rattle.pi_settling.specs.Roots.{root_item}
 use Rattle.pi_queue.specs.Reading.{AreRead}
 use Rattle.pi_queue.proofs.reading.roots.Given as goal

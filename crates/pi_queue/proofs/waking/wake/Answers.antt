@@ -1,6 +1,6 @@
 use Rattle.std.proofs.Common.{get_or}
 use Rattle.std.proofs.lemmas.List.Elements.{Contains-get_or}
-use Rattle.pi_states.specs.Store.{IsPostedOn}
+use Rattle.pi_constraints.specs.Store.{IsPostedOn}
 use Rattle.pi_queue.proofs.WaitingLemmas.{added-start, added-more, added-all}
 use Rattle.pi_queue.proofs.waking.wake.Goals as goal
 

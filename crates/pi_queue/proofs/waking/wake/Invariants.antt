@@ -1,8 +1,8 @@
 use Rattle.std.proofs.Common.{ℕ, ◌<◌, take}
 use Rattle.std.specs.Prelude.{Contains}
-use Rattle.pi_states.specs.Value.{IsAcyclic}
-use Rattle.pi_states.specs.State.{bindings, next}
-use Rattle.pi_states.specs.Store.{IsPostedOn}
+use Rattle.pi_constraints.specs.Value.{IsAcyclic}
+use Rattle.pi_constraints.specs.State.{bindings, next}
+use Rattle.pi_constraints.specs.Store.{IsPostedOn}
 use Rattle.pi_queue.specs.Waiting.{AreAdded}
 use Rattle.pi_queue.proofs.WaitingLemmas.{OnSome}
 use Rattle.pi_queue.proofs.waking.wake.Given as goal

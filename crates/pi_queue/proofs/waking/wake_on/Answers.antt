@@ -1,4 +1,4 @@
-use Rattle.pi_states.specs.Store.{IsPostedOn}
+use Rattle.pi_constraints.specs.Store.{IsPostedOn}
 use Rattle.pi_queue.proofs.WaitingLemmas.{added-listed}
 use Rattle.pi_queue.proofs.waking.wake_on.Goals as goal
 

@@ -1,5 +1,5 @@
 use Rattle.std.proofs.Common.{◌<◌, length, refl, sym, subst, arith}
-use Rattle.pi_states.specs.declared.store.Ref.{Ref}
+use Rattle.pi_constraints.specs.declared.store.Ref.{Ref}
 use Rattle.pi_raw_blocks.specs.Form.{form_of}
 use Rattle.pi_raw_blocks.specs.Placed.{IsRefIn}
 use Rattle.pi_raw_blocks.proofs.AgentTables.{event_at, events_from}

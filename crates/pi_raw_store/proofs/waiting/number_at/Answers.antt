@@ -1,6 +1,6 @@
 use Rattle.std.proofs.Common.{◌∙◌, Option, Some, subst}
 use Rattle.pi_terms.specs.Tree.{arg_at}
-use Rattle.pi_states.specs.declared.store.Ref.{Ref}
+use Rattle.pi_constraints.specs.declared.store.Ref.{Ref}
 use Rattle.pi_raw_store.specs.Waiting.{ShowsArgument}
 use Rattle.pi_raw_store.proofs.WaitLemmas.{number_found, number_none}
 use Rattle.pi_raw_store.proofs.waiting.number_at.Goals as goal

@@ -1,6 +1,6 @@
 -- Item by item, from the left.
 use Rattle.std.proofs.Common.{◌≡◌, ◌<◌, ◌∷◌, ◌+◌, length, drop, get_or, arith, subst}
-use Rattle.pi_states.specs.declared.store.Ref.{Ref}
+use Rattle.pi_constraints.specs.declared.store.Ref.{Ref}
 use Rattle.pi_filters.specs.Lists.{read_each}
 use Rattle.pi_reading.specs.OperandFrames.{AreThere}
 use Rattle.pi_reading.specs.Items.{values_at}

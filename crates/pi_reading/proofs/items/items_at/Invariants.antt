@@ -1,5 +1,5 @@
 use Rattle.std.proofs.Common.{drop}
-use Rattle.pi_states.specs.State.{IsState}
+use Rattle.pi_constraints.specs.State.{IsState}
 use Rattle.pi_filters.specs.Steps.{Made}
 use Rattle.pi_filters.specs.Lists.{read_each}
 use Rattle.pi_reading.specs.OperandFrames.{AreThere}

@@ -1,12 +1,12 @@
 use Rattle.std.proofs.Common.{◌≡◌, Some, length, subst, arith, refl}
 use Rattle.std.specs.Prelude.{slice_get}
 use Rattle.std.proofs.lemmas.Option.{slice_get_read}
-use Rattle.pi_states.specs.Evaluation.{evaluated}
+use Rattle.pi_constraints.specs.Evaluation.{evaluated}
 use Rattle.pi_terms.specs.Tree.{var}
-use Rattle.pi_states.specs.State.{bindings}
-use Rattle.pi_states.specs.Value.{IsAcyclic}
+use Rattle.pi_constraints.specs.State.{bindings}
+use Rattle.pi_constraints.specs.Value.{IsAcyclic}
 use Rattle.pi_core.specs.AnswerVariables.{answer_variables}
-use Rattle.pi_states.specs.ToldDomains.{told_domains}
+use Rattle.pi_constraints.specs.ToldDomains.{told_domains}
 use Rattle.pi_arenas.specs.Arenas.{view_of}
 use Rattle.pi_stands.specs.Stands.{world}
 use Rattle.pi_stands.specs.Answers.{NamesValue}

@@ -1,9 +1,9 @@
 use Rattle.std.proofs.Common.{◌≡◌, ◌∙◌, ◌^◌, ◌+◌, ◌<◌, Some, Ok, Err, sym, ap, subst, length, arith}
 use Rattle.std.specs.Prelude.{slice_index_or}
 use Rattle.pi_terms.specs.Tree.{trees_of}
-use Rattle.pi_states.specs.Evaluation.{evaluated_all}
-use Rattle.pi_states.specs.State.{IsState}
-use Rattle.pi_states.specs.Store.{AreTerms}
+use Rattle.pi_constraints.specs.Evaluation.{evaluated_all}
+use Rattle.pi_constraints.specs.State.{IsState}
+use Rattle.pi_constraints.specs.Store.{AreTerms}
 use Rattle.pi_effects.specs.BuiltIns.{built_in_function}
 use Rattle.pi_effects.specs.Results.{ShowsEffect}
 use Rattle.pi_builtin.specs.Names.{function_name, function_arity}

@@ -1,9 +1,9 @@
 use Rattle.std.proofs.Common.{◌≡◌, ◌∙◌, ◌^◌, ◌+◌, ◌<◌, sym, ap, subst, length, arith}
 use Rattle.std.specs.Prelude.{slice_index_or}
 use Rattle.pi_terms.specs.Tree.{trees_of}
-use Rattle.pi_states.specs.Evaluation.{evaluated_all}
-use Rattle.pi_states.specs.State.{IsState}
-use Rattle.pi_states.specs.Store.{AreTerms, Stays}
+use Rattle.pi_constraints.specs.Evaluation.{evaluated_all}
+use Rattle.pi_constraints.specs.State.{IsState}
+use Rattle.pi_constraints.specs.Store.{AreTerms, Stays}
 use Rattle.pi_effects.specs.BuiltIns.{built_in_predicate}
 use Rattle.pi_builtin.specs.Names.{takes, predicate_name}
 use Rattle.pi_code.specs.declared.code.Node.{Node}

@@ -2,7 +2,7 @@ use Rattle.std.proofs.Common.{◌≡◌, ◌++◌, ◌∙◌, sym, ap, subst, re
 use Rattle.std.specs.Prelude.{slice_get}
 use Rattle.std.proofs.lemmas.Result.{IfOk-weaker}
 use Rattle.pi_terms.specs.Tree.{trees_of}
-use Rattle.pi_states.specs.Evaluation.{evaluated_all}
+use Rattle.pi_constraints.specs.Evaluation.{evaluated_all}
 use Rattle.pi_code.specs.declared.code.Node.{Node}
 use Rattle.pi_arenas.specs.Arenas.{view_of}
 use Rattle.pi_code.specs.Code.{tables_of}

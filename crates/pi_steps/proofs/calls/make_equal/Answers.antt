@@ -1,9 +1,9 @@
 use Rattle.std.proofs.Common.{◌≡◌, ◌+◌, ◌^◌, ◌<◌, ◌∙◌, sym, ap, subst, arith}
 use Rattle.std.specs.Prelude.{if◌then◌else◌}
-use Rattle.pi_states.specs.Evaluation.{evaluated}
-use Rattle.pi_states.specs.State.{IsState}
-use Rattle.pi_states.specs.Store.{IsTerm}
-use Rattle.pi_states.specs.Unify.{unified}
+use Rattle.pi_constraints.specs.Evaluation.{evaluated}
+use Rattle.pi_constraints.specs.State.{IsState}
+use Rattle.pi_constraints.specs.Store.{IsTerm}
+use Rattle.pi_constraints.specs.Unify.{unified}
 use Rattle.pi_unify.specs.Answers.{Answers}
 use Rattle.pi_code.specs.declared.code.Node.{Node}
 use Rattle.pi_arenas.specs.declared.run.Now.{Now}
@@ -14,7 +14,7 @@ use Rattle.pi_stands.specs.Here.{IsReadable}
 use Rattle.pi_stands.specs.Stands.{tables_in, world}
 use Rattle.pi_stands.specs.Evaluates.{Evaluates}
 use Rattle.pi_stands.proofs.FramesStand.{going-of, going-size}
-use Rattle.pi_states.proofs.StateLemmas.{extends}
+use Rattle.pi_constraints.proofs.StateLemmas.{extends}
 use Rattle.pi_stands.proofs.CallLemmas.{evaluated-state}
 use Rattle.pi_stands.proofs.EqualStands.{first-slot-of, node-readable, both-evaluated, equal-step, goes-on, fails}
 use Rattle.pi_steps.proofs.calls.make_equal.Goals as goal

@@ -1,11 +1,11 @@
 use Rattle.std.proofs.Common.{◌≡◌, ◌+◌, ◌++◌, ◌∷◌, [], ◌∙◌, sym, ap, subst, arith, Some}
 use Rattle.std.specs.Prelude.{slice_get}
 use Rattle.pi_terms.specs.Tree.{trees_of}
-use Rattle.pi_states.specs.Evaluation.{evaluated_all}
+use Rattle.pi_constraints.specs.Evaluation.{evaluated_all}
 use Rattle.pi_arenas.specs.Arenas.{view_of}
 use Rattle.pi_code.specs.Code.{tables_of}
 use Rattle.pi_stands.specs.Evaluates.{operand_trees}
-use Rattle.pi_states.proofs.StateLemmas.{extends}
+use Rattle.pi_constraints.proofs.StateLemmas.{extends}
 use Rattle.pi_stands.proofs.ArgumentsStand.{EvaluatesFirst, evaluates-none, evaluates-more, operand-there}
 use Rattle.pi_steps.proofs.calls.take_arguments.Goals as goal
 use Rattle.pi_steps.proofs.calls.take_arguments.Goals.{in-Some+in_ok-term+in_ok-push, in_default}

@@ -1,6 +1,6 @@
 use Rattle.std.proofs.Common.{◌≡◌}
 use Rattle.pi_terms.specs.Places.{Places}
-use Rattle.pi_states.specs.Store.{Terms, Extend}
+use Rattle.pi_constraints.specs.Store.{Terms, Extend}
 use Rattle.pi_arenas.specs.Arenas.{view_of}
 use Rattle.pi_code.specs.Code.{tables_of}
 use Rattle.pi_stands.specs.Here.{Block, Holds, AreReadable}

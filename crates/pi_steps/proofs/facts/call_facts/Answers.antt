@@ -2,7 +2,7 @@ use Rattle.std.proofs.Common.{◌≡◌, ◌∙◌, sym, ap, subst, [], true, fa
 use Rattle.std.specs.Prelude.{slice_get, is_some}
 use Rattle.std.specs.List.{list_any}
 use Rattle.std.proofs.lemmas.Result.{IfOk-weaker}
-use Rattle.pi_states.specs.State.{bindings}
+use Rattle.pi_constraints.specs.State.{bindings}
 use Rattle.pi_meaning.specs.Facts.{fits_modes}
 use Rattle.pi_arenas.specs.Arenas.{view_of}
 use Rattle.pi_meaning.specs.Step.{back_to, try_clauses}

@@ -2,7 +2,7 @@ use Rattle.std.proofs.Common.{◌≡◌, ◌∙◌, sym, ap, subst, Some}
 use Rattle.std.specs.Prelude.{slice_get, option_copied}
 use Rattle.std.proofs.lemmas.Result.{IfOk-weaker}
 use Rattle.pi_code.specs.Code.{preds_of}
-use Rattle.pi_states.specs.Store.{AreTerms}
+use Rattle.pi_constraints.specs.Store.{AreTerms}
 use Rattle.pi_steps.proofs.FactsTried.{terms-held, source-pred}
 use Rattle.pi_steps.proofs.facts.fits.Goals as goal
 

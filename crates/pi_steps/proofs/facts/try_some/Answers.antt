@@ -2,8 +2,8 @@ use Rattle.std.proofs.Common.{◌≡◌, ◌+◌, ◌-◌, ◌≤◌, ◌∙◌,
 use Rattle.std.specs.Prelude.{slice_get}
 use Rattle.std.proofs.lemmas.Result.{IfOk-weaker}
 use Rattle.pi_terms.specs.Tree.{comp}
-use Rattle.pi_states.specs.State.{IsState}
-use Rattle.pi_states.specs.Store.{Stays, IsTerm}
+use Rattle.pi_constraints.specs.State.{IsState}
+use Rattle.pi_constraints.specs.Store.{Stays, IsTerm}
 use Rattle.pi_core.specs.CoreTree.{clause_tree}
 use Rattle.pi_unify.proofs.KeepsLemmas.{stays_then}
 use Rattle.pi_arenas.specs.Arenas.{view_of}

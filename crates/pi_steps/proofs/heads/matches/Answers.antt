@@ -2,8 +2,8 @@ use Rattle.std.proofs.Common.{◌≡◌, ◌+◌, ◌≤◌, ◌∷◌, length, 
 use Rattle.std.specs.Prelude.{replicate}
 use Rattle.std.proofs.lemmas.Result.{IfOk-weaker}
 use Rattle.pi_core.specs.CoreTree.{pattern_trees}
-use Rattle.pi_states.specs.HeadMatch.{matched_all_in}
-use Rattle.pi_states.specs.State.{bindings}
+use Rattle.pi_constraints.specs.HeadMatch.{matched_all_in}
+use Rattle.pi_constraints.specs.State.{bindings}
 use Rattle.pi_arenas.specs.Arenas.{view_of}
 use Rattle.pi_stands.specs.Here.{Block}
 use Rattle.pi_stands.specs.Stands.{World, world, NoneIsDeep, IsRuleOf, clause_block, tables_in}

@@ -2,8 +2,8 @@ use Rattle.std.proofs.Common.{length, drop, None}
 use Rattle.std.specs.Prelude.{replicate}
 use Rattle.pi_terms.specs.Tree.{Trees}
 use Rattle.pi_core.specs.CoreTree.{pattern_trees}
-use Rattle.pi_states.specs.HeadMatch.{matched_all_in}
-use Rattle.pi_states.specs.State.{IsState, bindings}
+use Rattle.pi_constraints.specs.HeadMatch.{matched_all_in}
+use Rattle.pi_constraints.specs.State.{IsState, bindings}
 use Rattle.pi_stands.specs.Here.{HoldsArguments}
 use Rattle.pi_stands.proofs.HeadsMatch.{PatternsLeft}
 use Rattle.pi_steps.proofs.heads.matches_patterns.Given as goal

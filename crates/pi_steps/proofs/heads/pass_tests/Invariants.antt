@@ -2,9 +2,9 @@ use Rattle.std.proofs.Common.{◌≡◌, ◌+◌, ◌≤◌, length, drop}
 use Rattle.pi_terms.specs.Tree.{Trees}
 use Rattle.pi_terms.specs.Places.{Places}
 use Rattle.pi_terms.specs.PatternTree.{PatternTrees}
-use Rattle.pi_states.specs.HeadMatch.{matched_all_in}
+use Rattle.pi_constraints.specs.HeadMatch.{matched_all_in}
 use Rattle.pi_meaning.specs.Sound.{pattern_count}
-use Rattle.pi_states.specs.State.{bindings}
+use Rattle.pi_constraints.specs.State.{bindings}
 use Rattle.pi_stands.specs.Here.{Block, HoldsArguments}
 use Rattle.pi_stands.specs.Stands.{AreTestsOf, NoneIsDeep}
 use Rattle.pi_stands.specs.Tries.{RuleSlots}

@@ -6,7 +6,7 @@ use Rattle.pi_stands.specs.Stands.{world, Stands}
 use Rattle.pi_stands.specs.Makes.{StandsAfter}
 use Rattle.pi_meaning.specs.Step.{goal_step, inside, back_to}
 use Rattle.pi_stands.proofs.FramesStand.{framed, arenas-framed}
-use Rattle.pi_states.specs.Evaluation.{evaluated}
+use Rattle.pi_constraints.specs.Evaluation.{evaluated}
 use Rattle.pi_core.specs.GoalTree.{catch}
 use Rattle.pi_arenas.specs.declared.arenas.Kind.{Kind}
 use Rattle.pi_meaning.specs.Configuration.{catch_level, behind}

@@ -1,7 +1,7 @@
 use Rattle.std.proofs.Common.{rules, ◌∙◌, sym, ap, subst}
 use Rattle.std.specs.Prelude.{pos}
 use Rattle.pi_terms.specs.Tree.{int}
-use Rattle.pi_states.specs.Store.{Gives}
+use Rattle.pi_constraints.specs.Store.{Gives}
 use Rattle.pi_arenas.specs.declared.run.Now.{Now}
 use Rattle.pi_arenas.specs.Arenas.{view_of}
 use Rattle.pi_arenas.specs.Frames.{slot_number}

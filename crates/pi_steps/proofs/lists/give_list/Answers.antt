@@ -1,6 +1,6 @@
 use Rattle.std.proofs.Common.{◌∙◌, ◌≤◌, length, sym, ap, subst}
 use Rattle.pi_terms.specs.Tree.{Trees}
-use Rattle.pi_states.specs.Store.{AreTerms, Stays, IsTerm}
+use Rattle.pi_constraints.specs.Store.{AreTerms, Stays, IsTerm}
 use Rattle.pi_arenas.specs.declared.run.Now.{Now}
 use Rattle.pi_arenas.specs.Arenas.{view_of, with_collected}
 use Rattle.pi_arenas.specs.Frames.{slot_number}

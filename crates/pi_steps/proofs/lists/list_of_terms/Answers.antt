@@ -1,7 +1,7 @@
 use Rattle.std.proofs.Common.{◌≡◌, ◌∙◌, ◌-◌, suc, Some, sym, subst, arith}
 use Rattle.std.specs.Prelude.{slice_get}
 use Rattle.pi_terms.specs.Tree.{drop_trees}
-use Rattle.pi_states.specs.Store.{IsTerm}
+use Rattle.pi_constraints.specs.Store.{IsTerm}
 use Rattle.pi_stands.specs.Lists.{list_of}
 use Rattle.pi_stands.proofs.ListsStand.{nothing-behind, list-more, there-is}
 use Rattle.pi_steps.proofs.lists.list_of_terms.Goals as goal

@@ -1,5 +1,5 @@
 use Rattle.pi_terms.specs.Tree.{Trees, drop_trees}
-use Rattle.pi_states.specs.Store.{Stays, IsTerm, AreTerms}
+use Rattle.pi_constraints.specs.Store.{Stays, IsTerm, AreTerms}
 use Rattle.pi_stands.specs.Lists.{list_of}
 use Rattle.pi_steps.proofs.lists.list_of_terms.Given as goal
 

@@ -1,6 +1,6 @@
 use Rattle.std.proofs.Common.{◌≡◌, refl, sym, ap, subst}
 use Rattle.std.proofs.lemmas.Result.{IfOk-weaker}
-use Rattle.pi_states.specs.Evaluation.{evaluated}
+use Rattle.pi_constraints.specs.Evaluation.{evaluated}
 use Rattle.pi_code.specs.declared.code.Node.{Node}
 use Rattle.pi_arenas.specs.Arenas.{view_of}
 use Rattle.pi_code.specs.Code.{tables_of, operand_tree}

@@ -1,5 +1,5 @@
 use Rattle.std.proofs.Common.{◌≡◌, ◌∙◌, sym, ap, subst}
-use Rattle.pi_states.specs.Evaluation.{evaluated}
+use Rattle.pi_constraints.specs.Evaluation.{evaluated}
 use Rattle.pi_arenas.specs.Arenas.{view_of}
 use Rattle.pi_code.specs.Code.{tables_of, operand_tree}
 use Rattle.pi_stands.specs.Here.{IsReadable, NodeIsReadable}

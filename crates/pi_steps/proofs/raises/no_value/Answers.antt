@@ -1,7 +1,7 @@
 use Rattle.std.proofs.Common.{◌≡◌, ◌∙◌, Some, sym, ap, subst}
 use Rattle.std.specs.Prelude.{slice_get, option_copied}
 use Rattle.pi_terms.specs.Tree.{Trees, comp}
-use Rattle.pi_states.specs.Store.{AreTerms, IsTerm}
+use Rattle.pi_constraints.specs.Store.{AreTerms, IsTerm}
 use Rattle.pi_code.specs.declared.code.Predicate.{Predicate}
 use Rattle.pi_code.specs.Code.{preds_of}
 use Rattle.pi_arenas.specs.Arenas.{view_of}

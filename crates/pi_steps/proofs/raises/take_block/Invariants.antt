@@ -1,5 +1,5 @@
 use Rattle.std.proofs.Common.{◌≡◌, Some, map, take, drop}
-use Rattle.pi_states.specs.Store.{Terms}
+use Rattle.pi_constraints.specs.Store.{Terms}
 use Rattle.pi_terms.specs.Tree.{Trees}
 use Rattle.pi_stands.specs.Here.{HoldsArguments}
 use Rattle.pi_steps.proofs.raises.take_block.Given as goal

@@ -1,7 +1,7 @@
 use Rattle.std.proofs.Common.{◌≡◌, sym, ap, subst}
-use Rattle.pi_states.specs.Evaluation.{evaluated}
-use Rattle.pi_states.specs.State.{IsState, bindings}
-use Rattle.pi_states.specs.Value.{value}
+use Rattle.pi_constraints.specs.Evaluation.{evaluated}
+use Rattle.pi_constraints.specs.State.{IsState, bindings}
+use Rattle.pi_constraints.specs.Value.{value}
 use Rattle.pi_code.specs.declared.code.Node.{Node}
 use Rattle.pi_arenas.specs.Arenas.{view_of}
 use Rattle.pi_code.specs.Code.{tables_of, operand_tree}

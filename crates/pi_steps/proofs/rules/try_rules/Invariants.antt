@@ -1,7 +1,7 @@
 use Rattle.std.proofs.Common.{◌≡◌, List, [], Some}
 use Rattle.std.specs.Prelude.{slice_get}
 use Rattle.pi_core.specs.CoreTree.{ClauseTree}
-use Rattle.pi_states.specs.State.{State}
+use Rattle.pi_constraints.specs.State.{State}
 use Rattle.pi_arenas.specs.Arenas.{view_of}
 use Rattle.pi_meaning.specs.Configuration.{Called, Frame, Entry}
 use Rattle.pi_stands.specs.Stands.{Loaded, world}

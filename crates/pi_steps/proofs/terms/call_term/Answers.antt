@@ -1,14 +1,14 @@
 use Rattle.std.proofs.Common.{◌≡◌, ◌∙◌, ℕ, List, Some, None, sym, ap, subst, refl, rules, length, map, ◌++◌}
 use Rattle.std.specs.Prelude.{slice_get, IsSome}
 use Rattle.pi_terms.specs.Tree.{trees_of}
-use Rattle.pi_states.specs.Store.{IsName}
-use Rattle.pi_states.specs.Evaluation.{evaluated_all}
+use Rattle.pi_constraints.specs.Store.{IsName}
+use Rattle.pi_constraints.specs.Evaluation.{evaluated_all}
 use Rattle.pi_core.specs.CoreTree.{pred_tree}
 use Rattle.pi_facts.specs.Called.{NamesAreDistinct}
 use Rattle.pi_arenas.specs.declared.run.Now.{Now}
 use Rattle.pi_meaning.specs.Step.{unknown_by, goal_step}
 use Rattle.pi_stands.specs.Makes.{StandsAfter}
-use Rattle.pi_states.specs.declared.store.Ref.{Ref}
+use Rattle.pi_constraints.specs.declared.store.Ref.{Ref}
 use Rattle.pi_code.specs.declared.code.Node.{Node}
 use Rattle.pi_code.specs.Code.{tables_of, operand_trees, preds_of}
 use Rattle.pi_code.specs.Callables.{place_in}

@@ -1,7 +1,7 @@
 use Rattle.std.proofs.Common.{◌<◌, List, ◌++◌, ◌∷◌, [], ◌∙◌, sym, ap, subst}
 use Rattle.pi_terms.specs.Tree.{comp}
-use Rattle.pi_states.specs.Store.{AreTerms, IsTerm}
-use Rattle.pi_states.specs.declared.store.Ref.{Ref}
+use Rattle.pi_constraints.specs.Store.{AreTerms, IsTerm}
+use Rattle.pi_constraints.specs.declared.store.Ref.{Ref}
 use Rattle.pi_unify.specs.Copying.{AreBuilt}
 use Rattle.pi_code.specs.declared.code.Part.{Part}
 use Rattle.pi_arenas.specs.Arenas.{view_of}

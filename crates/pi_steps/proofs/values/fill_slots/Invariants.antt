@@ -1,6 +1,6 @@
 use Rattle.std.proofs.Common.{◌≡◌, ◌≤◌, length}
 use Rattle.pi_terms.specs.Places.{Places}
-use Rattle.pi_states.specs.Store.{Terms}
+use Rattle.pi_constraints.specs.Store.{Terms}
 use Rattle.pi_arenas.specs.Arenas.{view_of}
 use Rattle.pi_code.specs.Code.{tables_of}
 use Rattle.pi_stands.specs.Here.{Block, Holds}

@@ -6,7 +6,7 @@ use Rattle.pi_code.specs.Code.{tables_of}
 use Rattle.pi_stands.specs.Here.{IsReadablePart}
 use Rattle.pi_stands.specs.Evaluates.{IsFilledPart}
 use Rattle.pi_stands.proofs.SlotsStand.{writes-none}
-use Rattle.pi_states.proofs.StateLemmas.{extends}
+use Rattle.pi_constraints.proofs.StateLemmas.{extends}
 use Rattle.pi_stands.proofs.FillLemmas.{readable-here, part-here, part-there}
 use Rattle.pi_stands.proofs.BuiltLemmas.{built_from, nothing-built, one-built, all-built}
 use Rattle.pi_steps.proofs.values.put_together.Goals as goal

@@ -6,7 +6,7 @@ use Rattle.pi_code.specs.Code.{tables_of}
 use Rattle.pi_stands.specs.Here.{IsReadable}
 use Rattle.pi_arenas.specs.Frames.{slot_number}
 use Rattle.pi_stands.specs.Evaluates.{filled_by, parts_between, AreReadableParts}
-use Rattle.pi_states.proofs.StateLemmas.{extends}
+use Rattle.pi_constraints.proofs.StateLemmas.{extends}
 use Rattle.pi_stands.proofs.ValuesStand.{known-value, slot-operand, readable-parts, slots-of, made-filled, made-value}
 use Rattle.pi_steps.proofs.values.value.Goals as goal
 

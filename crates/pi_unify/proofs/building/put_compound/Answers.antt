@@ -1,7 +1,7 @@
 use Rattle.std.proofs.Common.{◌≡◌, List, drop, reverse, ap, sym, ◌∙◌, subst, arith}
 use Rattle.pi_terms.specs.TermCells.{take_trees}
-use Rattle.pi_states.specs.Store.{AreTerms}
-use Rattle.pi_states.specs.declared.store.Ref.{Ref}
+use Rattle.pi_constraints.specs.Store.{AreTerms}
+use Rattle.pi_constraints.specs.declared.store.Ref.{Ref}
 use Rattle.pi_unify.proofs.BuildLemmas.{TakesLast, taken_last, last_args, last_left}
 use Rattle.pi_unify.proofs.building.put_compound.Goals as goal
 

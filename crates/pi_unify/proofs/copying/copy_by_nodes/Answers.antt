@@ -1,7 +1,7 @@
 use Rattle.std.proofs.Common.{◌≡◌, Ok, ap, sym, ◌∙◌, subst, true, rules}
 use Rattle.pi_terms.specs.Tree.{Tree, tree, no_trees}
 use Rattle.pi_terms.specs.Copy.{renamed}
-use Rattle.pi_states.specs.Store.{IsTerm}
+use Rattle.pi_constraints.specs.Store.{IsTerm}
 use Rattle.pi_unify.specs.Terms.{value_of}
 use Rattle.pi_unify.specs.Copying.{ListsNodes, ShowsNodes, ShowsCopy, Makes, AreListed, values_of, forest, renumbered}
 use Rattle.pi_unify.proofs.TermValues.{term_given, value_is}

@@ -2,7 +2,7 @@ use Rattle.std.proofs.Common.{◌≡◌, List, ℕ, ◌∙◌, subst}
 use Rattle.std.proofs.lemmas.Result.{IfOk-weaker}
 use Rattle.pi_terms.specs.Tree.{comp, drop_trees}
 use Rattle.pi_terms.specs.TermCells.{take_trees}
-use Rattle.pi_states.specs.Store.{IsTerm}
+use Rattle.pi_constraints.specs.Store.{IsTerm}
 use Rattle.pi_unify.specs.Copying.{AreBuilt}
 use Rattle.pi_unify.proofs.copying.copy_compound.Goals as goal
 

@@ -1,4 +1,4 @@
-use Rattle.pi_states.specs.declared.store.Ref.{Ref}
+use Rattle.pi_constraints.specs.declared.store.Ref.{Ref}
 use Rattle.pi_unify.specs.Terms.{HoldsNoCycle}
 use Rattle.pi_unify.specs.Copying.{AreWalks, EntersNext, Listing, GoesOnListing}
 use Rattle.pi_unify.proofs.BindLemmas.{if_ok}

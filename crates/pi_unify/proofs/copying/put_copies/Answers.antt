@@ -1,8 +1,8 @@
 use Rattle.std.proofs.Common.{◌≡◌, ◌-◌, ◌<◌, ℕ, suc, List, [], ◌∷◌, length, get_or, ap, sym, ◌∙◌, refl, subst, arith, length-append}
 use Rattle.std.proofs.lemmas.List.{get_or_default}
 use Rattle.pi_terms.specs.Copy.{renamed}
-use Rattle.pi_states.specs.Store.{IsTerm}
-use Rattle.pi_states.specs.declared.store.Ref.{Ref}
+use Rattle.pi_constraints.specs.Store.{IsTerm}
+use Rattle.pi_constraints.specs.declared.store.Ref.{Ref}
 use Rattle.pi_unify.specs.Copying.{renumbered, AreListed, MayCopy}
 use Rattle.pi_unify.proofs.KeepsLemmas.{keeps_none, stays_then}
 use Rattle.pi_unify.proofs.CopyingLemmas.{Copying, PutsNext, none_copied, may_copy, one_copied, all_copied}

@@ -1,5 +1,5 @@
 use Rattle.std.proofs.Common.{◌≡◌, ◌<◌, ◌≤◌, length}
-use Rattle.pi_states.specs.Store.{Stays}
+use Rattle.pi_constraints.specs.Store.{Stays}
 use Rattle.pi_unify.specs.Copying.{AreListed}
 use Rattle.pi_unify.proofs.CopyingLemmas.{Copying}
 use Rattle.pi_unify.proofs.copying.put_copies.Given as goal

@@ -3,9 +3,9 @@ use Rattle.std.specs.Prelude.{Contains}
 use Rattle.std.proofs.lemmas.Result.{IfOk-weaker}
 use Rattle.pi_terms.specs.Tree.{var, int, arity}
 use Rattle.pi_terms.specs.Variables.{IsGround}
-use Rattle.pi_states.specs.State.{next}
-use Rattle.pi_states.specs.Store.{IsTerm, ShowsCell}
-use Rattle.pi_states.specs.declared.store.Cell.{Cell}
+use Rattle.pi_constraints.specs.State.{next}
+use Rattle.pi_constraints.specs.Store.{IsTerm, ShowsCell}
+use Rattle.pi_constraints.specs.declared.store.Cell.{Cell}
 use Rattle.pi_unify.specs.Terms.{value_of, term_of}
 use Rattle.pi_unify.specs.Copying.{renumbered}
 use Rattle.pi_unify.proofs.TermValues.{given_term}

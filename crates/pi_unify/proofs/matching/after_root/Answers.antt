@@ -1,5 +1,5 @@
 use Rattle.std.proofs.Common.{◌≡◌, ◌+◌, List, ap, sym, ◌∙◌, refl, subst}
-use Rattle.pi_states.specs.State.{bindings}
+use Rattle.pi_constraints.specs.State.{bindings}
 use Rattle.pi_terms.specs.PatternTree.{PatternTree, compound}
 use Rattle.pi_core.specs.CoreTree.{pattern_tree, pattern_trees}
 use Rattle.pi_unify.specs.Terms.{IsGiven, HoldsNoCycle, term_of}

@@ -1,5 +1,5 @@
 use Rattle.pi_core.specs.CoreTree.{pattern_tree}
-use Rattle.pi_states.specs.State.{bindings}
+use Rattle.pi_constraints.specs.State.{bindings}
 use Rattle.pi_unify.specs.Matching.{slot_terms}
 use Rattle.pi_unify.proofs.MatchingLemmas.{if_ok}
 use Rattle.pi_unify.proofs.MatchLoopLemmas.{values_told}

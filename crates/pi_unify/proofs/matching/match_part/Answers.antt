@@ -1,4 +1,4 @@
-use Rattle.pi_states.specs.State.{bindings}
+use Rattle.pi_constraints.specs.State.{bindings}
 use Rattle.pi_unify.specs.Terms.{term_of}
 use Rattle.pi_unify.specs.Matching.{slot_terms}
 use Rattle.pi_unify.proofs.TermValues.{term_given}

@@ -1,7 +1,7 @@
 use Rattle.std.proofs.Common.{◌≡◌, ap, sym, ◌∙◌, subst, rules}
 use Rattle.pi_terms.specs.Tree.{int}
-use Rattle.pi_states.specs.State.{bindings, followed}
-use Rattle.pi_states.specs.Store.{ShowsCell}
+use Rattle.pi_constraints.specs.State.{bindings, followed}
+use Rattle.pi_constraints.specs.Store.{ShowsCell}
 use Rattle.pi_terms.specs.Order.{identical}
 use Rattle.pi_terms.specs.PatternTree.{PatternTree, exact_atom}
 use Rattle.pi_core.specs.CoreTree.{pattern_tree, pattern_trees}

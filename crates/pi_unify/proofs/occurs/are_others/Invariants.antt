@@ -1,6 +1,6 @@
 use Rattle.std.proofs.Common.{◌≡◌}
 use Rattle.pi_terms.specs.Tree.{args, arity}
-use Rattle.pi_states.specs.State.{bindings, IsState}
+use Rattle.pi_constraints.specs.State.{bindings, IsState}
 use Rattle.pi_unify.specs.Refs.{IsRef, root_of, args_from}
 use Rattle.pi_unify.specs.Ahead.{some_hold, in_list}
 use Rattle.pi_unify.proofs.occurs.are_others.Given as goal

@@ -1,4 +1,4 @@
-use Rattle.pi_states.specs.State.{bindings}
+use Rattle.pi_constraints.specs.State.{bindings}
 use Rattle.pi_unify.specs.Refs.{term_of}
 use Rattle.pi_unify.proofs.OccursLemmas.{ground_holds_none, variable_not_found}
 use Rattle.pi_unify.proofs.occurs.is_another.Goals as goal

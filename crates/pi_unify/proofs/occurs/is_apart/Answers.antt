@@ -1,6 +1,6 @@
 use Rattle.std.proofs.Common.{sym}
 use Rattle.pi_terms.specs.Tree.{args}
-use Rattle.pi_states.specs.State.{bindings}
+use Rattle.pi_constraints.specs.State.{bindings}
 use Rattle.pi_unify.specs.Refs.{term_of, root_of}
 use Rattle.pi_unify.proofs.OccursLemmas.{apart_by_args, compound_root, ground_holds_none}
 use Rattle.pi_unify.proofs.occurs.is_apart.Goals as goal

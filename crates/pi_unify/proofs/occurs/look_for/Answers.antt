@@ -1,6 +1,6 @@
 use Rattle.std.proofs.Common.{sym, []}
 use Rattle.pi_terms.specs.Tree.{args}
-use Rattle.pi_states.specs.State.{bindings, IsState}
+use Rattle.pi_constraints.specs.State.{bindings, IsState}
 use Rattle.pi_unify.specs.Refs.{IsRef, term_of, root_of}
 use Rattle.pi_unify.specs.Ahead.{term_and, args_on, AreArgs}
 use Rattle.pi_unify.specs.Answers.{TakesArg, LooksFor}

@@ -1,7 +1,7 @@
 use Rattle.std.proofs.Common.{Option, subst}
 use Rattle.pi_unify.proofs.BindLemmas.{if_err}
 use Rattle.pi_unify.specs.Answers.{GivesArg}
-use Rattle.pi_states.specs.declared.store.Ref.{Ref}
+use Rattle.pi_constraints.specs.declared.store.Ref.{Ref}
 use Rattle.pi_unify.proofs.occurs.next_arg.Goals as goal
 
 pub returns-in_err-next : goal.returns-in_err-next

@@ -1,4 +1,4 @@
-use Rattle.pi_states.specs.State.{IsState}
+use Rattle.pi_constraints.specs.State.{IsState}
 use Rattle.pi_unify.specs.Refs.{IsRef}
 use Rattle.pi_unify.proofs.OccursLemmas.{Looking}
 use Rattle.pi_unify.proofs.occurs.occurs.Given as goal

@@ -1,6 +1,6 @@
 use Rattle.std.proofs.Common.{◌≡◌, ◌∙◌, ap, refl, arith, rules}
 use Rattle.std.specs.Ordering.{ordering_then, nat_cmp, int_cmp}
-use Rattle.pi_states.specs.declared.store.Cell.{Cell}
+use Rattle.pi_constraints.specs.declared.store.Cell.{Cell}
 use Rattle.pi_unify.proofs.ComparisonLemmas.{kind, begins_as, begins_before, begins_after, begins_variables, begins_integers, begins_atoms, begins_compounds, above_variables, above_integers, below_atoms, below_compounds}
 use Rattle.pi_unify.proofs.order.order_at_root.Goals as goal
 

@@ -1,6 +1,6 @@
 use Rattle.pi_terms.specs.Copy.{renamed, copy, new_variables}
-use Rattle.pi_states.specs.State.{next}
-use Rattle.pi_states.specs.Store.{IsTerm, Gives}
+use Rattle.pi_constraints.specs.State.{next}
+use Rattle.pi_constraints.specs.Store.{IsTerm, Gives}
 use Rattle.pi_unify.specs.Copying.{with_variables, MakesSome, renumbered}
 use Rattle.pi_unify.proofs.KeepsLemmas.{some_made}
 use Rattle.pi_unify.proofs.MatchingLemmas.{if_ok}

@@ -1,7 +1,7 @@
 use Rattle.std.proofs.Common.{◌≡◌, ap, ◌∙◌, subst, Some, rules, refl}
 use Rattle.std.proofs.lemmas.Result.{IfOk-weaker}
 use Rattle.pi_terms.specs.Tree.{int, atom, ShowsHead}
-use Rattle.pi_states.specs.Store.{IsTerm}
+use Rattle.pi_constraints.specs.Store.{IsTerm}
 use Rattle.pi_unify.specs.Copying.{renumbered}
 use Rattle.pi_unify.proofs.PlaceLemmas.{puts_variable, puts_integer, puts_atom}
 use Rattle.pi_unify.proofs.KeepsLemmas.{keeps_none}

@@ -1,13 +1,13 @@
 use Rattle.std.proofs.Common.{◌≡◌, ◌-◌, ℕ, suc, [], ◌∷◌, length, get_or, ap, sym, ◌∙◌, subst, arith, ◌≤◌}
 use Rattle.pi_terms.specs.Tree.{subterms}
 use Rattle.pi_terms.specs.Copy.{renamed}
-use Rattle.pi_states.specs.Store.{IsTerm}
-use Rattle.pi_states.specs.declared.store.Ref.{Ref}
+use Rattle.pi_constraints.specs.Store.{IsTerm}
+use Rattle.pi_constraints.specs.declared.store.Ref.{Ref}
 use Rattle.pi_unify.specs.Copying.{renumbered}
 use Rattle.pi_unify.proofs.BuildLemmas.{Putting, NodeAt, node_at, none_put, ready, one_put, all_put}
 use Rattle.pi_unify.proofs.KeepsLemmas.{stays_then}
 use Rattle.pi_unify.proofs.BindLemmas.{if_err}
-use Rattle.pi_states.specs.State.{State, next}
+use Rattle.pi_constraints.specs.State.{State, next}
 use Rattle.pi_unify.proofs.placing.put_nodes.Goals as goal
 
 pub loop-i-init : goal.loop-i-init

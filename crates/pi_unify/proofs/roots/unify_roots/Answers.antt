@@ -1,4 +1,4 @@
-use Rattle.pi_states.specs.Unify.{assigned, outcome}
+use Rattle.pi_constraints.specs.Unify.{assigned, outcome}
 use Rattle.pi_unify.specs.Refs.{term_of, root_of}
 use Rattle.pi_unify.proofs.RootLemmas.{meets_made, meets_compared, outcome_left, outcome_right, shown_other, refused_at_clash}
 use Rattle.std.proofs.Common.{refl}

@@ -1,4 +1,4 @@
-use Rattle.pi_states.specs.Unify.{joined, outcome}
+use Rattle.pi_constraints.specs.Unify.{joined, outcome}
 use Rattle.pi_unify.specs.Refs.{root_of}
 use Rattle.pi_unify.proofs.RootLemmas.{less_if, meets_made, meets_same, outcome_less, outcome_more, outcome_same, refused_at_clash}
 use Rattle.pi_unify.proofs.KeepsLemmas.{keeps_none}

@@ -1,6 +1,6 @@
 use Rattle.std.proofs.Common.{refl, subst, [], sym}
-use Rattle.pi_states.specs.State.{IsState}
-use Rattle.pi_states.specs.Unify.{outcome}
+use Rattle.pi_constraints.specs.State.{IsState}
+use Rattle.pi_constraints.specs.Unify.{outcome}
 use Rattle.pi_unify.specs.Refs.{root_of}
 use Rattle.pi_unify.specs.Ahead.{ArePairs, pairs_on, pair_and, IsNextPair}
 use Rattle.pi_unify.specs.Answers.{Meets, GoesOn, Steps}

@@ -1,4 +1,4 @@
-use Rattle.pi_states.specs.Store.{Keeps}
+use Rattle.pi_constraints.specs.Store.{Keeps}
 use Rattle.pi_unify.specs.Refs.{AreTerms}
 use Rattle.pi_unify.proofs.StepLemmas.{Unifying}
 use Rattle.pi_unify.proofs.unifier.unify.Given as goal

@@ -1,5 +1,5 @@
 use Rattle.std.proofs.Common.{◌≡◌, rules, sym, ◌∙◌, true, false, refl, true≢false}
-use Rattle.pi_states.proofs.UnifyOutcome.{does_occur_not}
+use Rattle.pi_constraints.proofs.UnifyOutcome.{does_occur_not}
 use Rattle.pi_unify.proofs.RefLemmas.{bind_is}
 use Rattle.pi_unify.proofs.BindLemmas.{assigned_occurs, assigned_refused, assigned_bound, if_err}
 use Rattle.pi_unify.proofs.KeepsLemmas.{keeps_none}

@@ -1,5 +1,5 @@
 use Rattle.std.proofs.Common.{rules}
-use Rattle.pi_states.specs.Store.{Binds}
+use Rattle.pi_constraints.specs.Store.{Binds}
 use Rattle.pi_unify.proofs.BindLemmas.{on_ok, fix_is, if_err}
 use Rattle.pi_unify.proofs.KeepsLemmas.{keeps_then}
 use Rattle.pi_unify.proofs.variables.fix.Goals as goal

@@ -1,9 +1,9 @@
 use Rattle.std.proofs.Common.{◌∙◌, Bool}
-use Rattle.pi_states.specs.Unify.{confined, joined}
+use Rattle.pi_constraints.specs.Unify.{confined, joined}
 use Rattle.pi_constraints.specs.Domain.{IsDomain, values_of}
 use Rattle.pi_unify.specs.Answers.{Makes}
 use Rattle.pi_unify.specs.Refs.{AreVariables}
-use Rattle.pi_states.proofs.StateLemmas.{domain_good}
+use Rattle.pi_constraints.proofs.StateLemmas.{domain_good}
 use Rattle.pi_unify.proofs.RefLemmas.{domain_of_variable, tie_is}
 use Rattle.pi_unify.proofs.BindLemmas.{joined_free, joined_high, joined_common, common_good, if_ok, if_err}
 use Rattle.pi_unify.proofs.KeepsLemmas.{keeps_none}

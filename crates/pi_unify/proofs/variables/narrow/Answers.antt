@@ -1,4 +1,4 @@
-use Rattle.pi_states.specs.Store.{Confines}
+use Rattle.pi_constraints.specs.Store.{Confines}
 use Rattle.pi_unify.proofs.BindLemmas.{on_ok, narrow_is, if_err}
 use Rattle.pi_unify.proofs.KeepsLemmas.{keeps_then}
 use Rattle.pi_unify.proofs.variables.narrow.Goals as goal

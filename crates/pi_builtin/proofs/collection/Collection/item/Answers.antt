@@ -1,6 +1,6 @@
 use Rattle.std.proofs.Common.{ap, sym, ◌∙◌, subst}
 use Rattle.std.specs.Prelude.{Option, slice_get}
-use Rattle.pi_states.specs.declared.store.Ref.{Ref}
+use Rattle.pi_constraints.specs.declared.store.Ref.{Ref}
 use Rattle.pi_builtin.specs.Items.{HasItems, ShowsItem}
 use Rattle.pi_builtin.proofs.RowLemmas.{item-shown}
 use Rattle.pi_builtin.proofs.CollectionLemmas.{argument-shown, argument-past}

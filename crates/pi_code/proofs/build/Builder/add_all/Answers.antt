@@ -1,6 +1,6 @@
 use Rattle.std.proofs.Common.{◌∙◌}
-use Rattle.pi_states.specs.State.{bindings}
-use Rattle.pi_states.specs.Value.{IsAcyclic}
+use Rattle.pi_constraints.specs.State.{bindings}
+use Rattle.pi_constraints.specs.Value.{IsAcyclic}
 use Rattle.pi_unify.proofs.KeepsLemmas.{keeps_then, stays_then}
 use Rattle.pi_code.proofs.LaidTests.{acyclic-stays}
 use Rattle.pi_code.proofs.LaidWhole.{filled-all}

@@ -1,5 +1,5 @@
 use Rattle.std.proofs.Common.{◌≡◌, ℕ, Some, sym, subst, map, rules}
-use Rattle.pi_states.specs.Store.{IsName}
+use Rattle.pi_constraints.specs.Store.{IsName}
 use Rattle.pi_core.specs.CoreTree.{pred_tree}
 use Rattle.pi_code.specs.declared.callables.Callables.{Callables}
 use Rattle.pi_code.proofs.LaidNames.{Updated, one-number, place-added, has-added}

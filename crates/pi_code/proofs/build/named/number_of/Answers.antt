@@ -1,6 +1,6 @@
 use Rattle.std.proofs.Common.{refl}
 use Rattle.pi_terms.specs.Tree.{atom}
-use Rattle.pi_states.specs.State.{bindings}
+use Rattle.pi_constraints.specs.State.{bindings}
 use Rattle.pi_code.proofs.LaidTests.{acyclic-stays, number-shown, atom-shown}
 use Rattle.pi_code.proofs.build.named.number_of.Goals as goal
 

@@ -1,5 +1,5 @@
 use Rattle.pi_terms.specs.Tree.{atom}
-use Rattle.pi_states.specs.State.{bindings}
+use Rattle.pi_constraints.specs.State.{bindings}
 use Rattle.pi_code.proofs.LaidTests.{atom-test, acyclic-stays}
 use Rattle.pi_code.proofs.build.rules.test_of.Goals as goal
 

@@ -1,7 +1,7 @@
 use Rattle.std.proofs.Common.{◌≡◌, Some}
-use Rattle.pi_states.specs.State.{next}
+use Rattle.pi_constraints.specs.State.{next}
 use Rattle.pi_terms.specs.Variables.{IsGround}
-use Rattle.pi_states.specs.Store.{Stays}
+use Rattle.pi_constraints.specs.Store.{Stays}
 use Rattle.pi_code.proofs.LaidTerms.{placed-ground, placed-parts}
 use Rattle.pi_code.proofs.build.terms.operand_of.Goals as goal
 

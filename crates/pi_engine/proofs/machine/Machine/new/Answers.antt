@@ -2,7 +2,7 @@ use Rattle.std.proofs.Common.{refl, sym, ◌∙◌, ap, subst}
 use Rattle.pi_core.specs.CoreTree.{program_tree, query_tree}
 use Rattle.pi_arenas.specs.Arenas.{view_of}
 use Rattle.pi_engine.proofs.RunsTold.{goes-on-in, new-runs}
-use Rattle.pi_states.specs.Store.{Stays}
+use Rattle.pi_constraints.specs.Store.{Stays}
 use Rattle.pi_engine.proofs.RunBegins.{undone-stays}
 use Rattle.pi_engine.proofs.machine.Machine.new.Goals as goal
 

@@ -1,6 +1,6 @@
 use Rattle.std.proofs.Common.{IsTrue, ◌∷◌, [], ◌++◌, false, length, refl}
-use Rattle.pi_states.specs.State.{with_waiting}
-use Rattle.pi_states.specs.Store.{Changes}
+use Rattle.pi_constraints.specs.State.{with_waiting}
+use Rattle.pi_constraints.specs.Store.{Changes}
 use Rattle.pi_raw_store.specs.Waiting.{activation_of}
 use Rattle.pi_raw_store.specs.Holding.{view_of}
 use Rattle.pi_raw_store.proofs.NameLemmas.{keeps_itself}

@@ -1,5 +1,5 @@
 use Rattle.std.proofs.Common.{refl}
-use Rattle.pi_states.specs.State.{followed}
+use Rattle.pi_constraints.specs.State.{followed}
 use Rattle.pi_raw_store.specs.Holding.{heap_of}
 use Rattle.pi_raw_store.specs.Bindings.{bound_in}
 use Rattle.pi_raw_store.proofs.LookLemmas.{followed_to, shows_cell, speaks_below}

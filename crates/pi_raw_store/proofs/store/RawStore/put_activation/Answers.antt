@@ -1,7 +1,7 @@
 use Rattle.std.proofs.Common.{◌≡◌, Option, Some, None, ap, sym, subst, ◌∙◌, rules}
 use Rattle.pi_terms.specs.Tree.{Tree, int, no_trees, tree}
-use Rattle.pi_states.specs.State.{State, next, SpeaksBelow}
-use Rattle.pi_states.specs.Store.{IsTerm}
+use Rattle.pi_constraints.specs.State.{State, next, SpeaksBelow}
+use Rattle.pi_constraints.specs.Store.{IsTerm}
 use Rattle.pi_raw_blocks.proofs.BuiltLemmas.{stays_then}
 use Rattle.pi_raw_store.specs.Holding.{seen}
 use Rattle.pi_raw_store.specs.Waiting.{number_tree, activation_tree, HasValueBelow}

@@ -1,6 +1,6 @@
 use Rattle.std.proofs.Common.{List, sym, subst}
-use Rattle.pi_states.specs.Store.{AreTerms}
-use Rattle.pi_states.specs.declared.store.Ref.{Ref}
+use Rattle.pi_constraints.specs.Store.{AreTerms}
+use Rattle.pi_constraints.specs.declared.store.Ref.{Ref}
 use Rattle.pi_raw_blocks.proofs.BuiltLemmas.{puts_compound}
 use Rattle.pi_raw_store.specs.Holding.{seen}
 use Rattle.pi_raw_store.proofs.store.RawStore.put_built.Goals as goal

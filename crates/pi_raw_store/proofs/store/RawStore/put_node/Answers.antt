@@ -1,6 +1,6 @@
 use Rattle.std.proofs.Common.{Some, refl, ap, ◌∙◌, subst, rules}
 use Rattle.pi_terms.specs.Tree.{var, int, atom, ShowsHead}
-use Rattle.pi_states.specs.Store.{IsTerm}
+use Rattle.pi_constraints.specs.Store.{IsTerm}
 use Rattle.pi_raw_blocks.specs.Built.{count_of}
 use Rattle.pi_raw_blocks.proofs.BuiltLemmas.{puts_leaf, puts_node, keeps_itself}
 use Rattle.pi_raw_store.specs.Holding.{seen}

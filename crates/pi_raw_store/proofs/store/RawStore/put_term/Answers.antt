@@ -1,7 +1,7 @@
 use Rattle.std.proofs.Common.{◌≡◌, ◌-◌, ℕ, suc, length, get_or, ap, sym, ◌∙◌, subst, arith}
 use Rattle.pi_terms.specs.Tree.{subterms}
-use Rattle.pi_states.specs.Store.{IsTerm}
-use Rattle.pi_states.specs.declared.store.Ref.{Ref}
+use Rattle.pi_constraints.specs.Store.{IsTerm}
+use Rattle.pi_constraints.specs.declared.store.Ref.{Ref}
 use Rattle.pi_raw_blocks.specs.Built.{Putting}
 use Rattle.pi_raw_blocks.proofs.BuiltLemmas.{NodeAt, node_at, none_put, one_put, one_left, all_put}
 use Rattle.pi_raw_store.specs.Holding.{seen}

@@ -1,5 +1,5 @@
 use Rattle.std.proofs.Common.{◌<◌, ◌+◌, ◌≡◌, IfOk, OnErr, length, slice_index, ap, sym, subst, ◌∙◌, arith}
-use Rattle.pi_states.specs.Store.{TakesFirst, Stays}
+use Rattle.pi_constraints.specs.Store.{TakesFirst, Stays}
 use Rattle.pi_raw_store.specs.Waiting.{WaitsAt}
 use Rattle.pi_raw_store.specs.Heads.{taken_in, SetsHead}
 use Rattle.pi_raw_store.specs.Sound.{IsSound}

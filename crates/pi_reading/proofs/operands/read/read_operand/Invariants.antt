@@ -1,5 +1,5 @@
 use Rattle.std.specs.Prelude.{◌≤◌}
-use Rattle.pi_states.specs.State.{IsState, next}
+use Rattle.pi_constraints.specs.State.{IsState, next}
 use Rattle.pi_filters.specs.Steps.{Made, read_operand}
 use Rattle.pi_finished.specs.Making.{Shows}
 use Rattle.pi_reading.specs.Refs.{IsThere, operand_at}

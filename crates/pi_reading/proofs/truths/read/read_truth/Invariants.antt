@@ -1,5 +1,5 @@
 use Rattle.std.specs.Prelude.{◌≤◌}
-use Rattle.pi_states.specs.State.{IsState, next}
+use Rattle.pi_constraints.specs.State.{IsState, next}
 use Rattle.pi_filters.specs.Steps.{Made}
 use Rattle.pi_filters.specs.Truths.{read_truth}
 use Rattle.pi_finished.specs.Making.{Shows}

@@ -1,6 +1,6 @@
 use Rattle.std.proofs.Common.{◌≡◌, List, ℕ, [], ◌∷◌, ◌++◌, ◌∙◌, take, ap, arith, append_assoc}
 use Rattle.std.proofs.lemmas.List.{take_all}
-use Rattle.pi_states.specs.declared.store.Ref.{Ref}
+use Rattle.pi_constraints.specs.declared.store.Ref.{Ref}
 use Rattle.pi_trail.specs.Image.{numbers_of}
 use Rattle.pi_trail.proofs.word_list.WordList.push_refs.Goals as goal
 

@@ -1,5 +1,5 @@
 use Rattle.std.proofs.Common.{sym, ap, ◌∙◌}
-use Rattle.pi_states.specs.State.{domain_of}
+use Rattle.pi_constraints.specs.State.{domain_of}
 use Rattle.pi_types.specs.TreeStore.{moment, trees_of}
 use Rattle.pi_types.proofs.TreeStoreBinds.{domain_is}
 use Rattle.pi_types.proofs.tree_store.TreeStoreStateStore.domain_at.Goals as goal

@@ -1,8 +1,0 @@
-use Rattle.pi_states.proofs.ValueLemmas.{values_solve, value_has_same_instances}
-use Rattle.pi_states.proofs.laws.value.values_are_most_general.Goals as goal
-
-pub returns-clause-solve : goal.returns-clause-solve
-returns-clause-solve c = values_solve
-
-pub returns-clause-instances : goal.returns-clause-instances
-returns-clause-instances c = value_has_same_instances
