@@ -7,7 +7,7 @@ use Rattle.pi_terms.specs.ListCopies.{list_cell}
 use Rattle.pi_constraints.specs.State.{next, with_new}
 use Rattle.pi_constraints.specs.Store.{StoreView, IsTerm, AreTerms, Changes, Stays, Gives}
 use Rattle.pi_constraints.specs.declared.store.Ref.{Ref}
-use Rattle.pi_print.specs.PrintTerm.{array_name}
+use Rattle.pi_syntax.specs.PrintTerm.{array_name}
 use Rattle.pi_unify.specs.Copying.{with_variables, Makes}
 use Rattle.pi_unify.proofs.KeepsLemmas.{stays_then, makes_one_more}
 use Rattle.pi_effects.specs.Items.{list_onto, list_of, array_of}
