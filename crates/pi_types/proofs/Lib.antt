@@ -1,5 +1,6 @@
 pub mod TreeStoreWalkLemmas
 pub mod TreeStoreTrees
+pub mod CopyLemmas
 pub mod TreeStoreSoundLemmas
 pub mod TreeStoreSpeaks
 pub mod TreeStoreKeeps

@@ -1,4 +1,7 @@
 use Rattle.std.proofs.Common.{refl, false, IsTrue}
+use Rattle.pi_terms.proofs.GetLemmas.{on_err}
+use Rattle.pi_types.proofs.TreeStoreCalls.{same_terms}
+use Rattle.pi_types.proofs.TreeStoreKeeps.{changes_by, stays_by}
 use Rattle.pi_types.proofs.TreeStoreAgents.{suspends_by, suspends_none}
 use Rattle.pi_types.proofs.TreeStoreSoundLemmas.{sound_suspend}
 use Rattle.pi_types.proofs.tree_store.TreeStoreStateStore.suspend.Goals as goal
@@ -14,3 +17,12 @@ change-requires c = sound_suspend _ _ _ c.args.self.now.sound.present_is (record
 
 pub returns-clause-ok : goal.returns-clause-ok
 returns-clause-ok c = suspends_by _ _ _ _ _ _ _ _ c.args.call c.args.rule c.args.watches.now c.in_ok-watches.watches c.len-number.result c.in_ok-change.ensures.ok c.in_ok-watches.ensures.ok c.len-number.ensures
+
+pub returns-in_err-change-clause-keeps : goal.returns-in_err-change-clause-keeps
+returns-in_err-change-clause-keeps c = (stays_by _ _ _ _ _ _ _ _ c.in_err-change.ensures.err).keeps
+
+pub returns-in_err-change-clause-err : goal.returns-in_err-change-clause-err
+returns-in_err-change-clause-err c = on_err c.from_residual-in_err-change.result (stays_by _ _ _ _ _ _ _ _ c.in_err-change.ensures.err)
+
+pub returns-clause-keeps : goal.returns-clause-keeps
+returns-clause-keeps c = (changes_by _ _ _ _ _ _ _ _ _ _ c.in_ok-change.ensures.ok (same_terms c.args.self.now.atoms c.args.self.now.present) refl).keeps

@@ -1,12 +1,6 @@
-use Rattle.std.proofs.Common.{◌≡◌, Some, rules}
-use Rattle.std.specs.Prelude.{slice_get}
-use Rattle.pi_terms.proofs.GetLemmas.{take_more}
+use Rattle.std.proofs.Common.{sym}
+use Rattle.pi_types.proofs.CopyLemmas.{one_queued}
 use Rattle.pi_types.proofs.tree_store.copied.copied_queue.Goals as goal
 
 pub loop-i-preserved : goal.loop-i-preserved
-loop-i-preserved g c =
-    let e : slice_get c.args.values.now c.loop-i.i ≡ Some c.in-Some.value.now = search rules in
-    let t = take_more c.args.values.now c.loop-i.i c.in-Some.value.now e in
-    let p = c.in_ok-push.ensures.ok in
-    let q = c.in_ok-copied.ensures.ok in
-    cc
+loop-i-preserved g c = one_queued c.args.values.now _ _ c.loop-i.i _ _ (sym c.in-Some.ensures) c.loop-i.invariant c.in_ok-copied.ensures.ok c.in_ok-push.ensures.ok
