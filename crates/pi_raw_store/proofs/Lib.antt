@@ -1,5 +1,6 @@
 pub mod WalkLemmas
 pub mod NameLemmas
+pub mod NumberedLemmas
 pub mod TableLemmas
 pub mod LookLemmas
 pub mod MomentLemmas
