@@ -3,9 +3,9 @@ use Rattle.std.proofs.Common.{◌≡◌, inl, inr, ℕ, ◌+◌, ◌<◌, true, 
 use Rattle.std.proofs.lemmas.Option.{slice_get_within}
 use Rattle.pi_trail.specs.Entry.{data_of}
 use Rattle.pi_trail.specs.Image.{Image, appended}
-use Rattle.pi_terms.specs.Names.{HasDistinct, Gains}
+use Rattle.pi_atoms.specs.Names.{HasDistinct, Gains}
 use Rattle.pi_terms.proofs.GetLemmas.{get_append_left}
-use Rattle.pi_raw_terms.specs.NameTable.{NameTable, is_given, names_of}
+use Rattle.pi_raw_blocks.specs.NameTable.{NameTable, is_given, names_of}
 use Rattle.pi_raw_store.specs.Changed.{IsNumbered}
 use Rattle.pi_raw_store.proofs.NameLemmas.{given_text}
 
