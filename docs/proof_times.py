@@ -1,12 +1,12 @@
 #!/usr/bin/env python3
 """Where the time of a crate's proof goes.
 
-    cd crates/NAME && rm -rf out && date +%s > /tmp/begun && rt check --jobs 1
-    python3 ../../docs/proof_times.py . $(cat /tmp/begun)
+    cd crates/NAME && rm -rf out && begun=$(date +%s) && rt check --jobs 1
+    python3 ../../docs/proof_times.py . $begun 1.0
 
 A check with one job writes the files of out/incremental one after the other, so the time between two of them is what the later
 one took. Told are the seconds by kind of file, and by function those of the search for goals without an answer (`Proof`), of the
-answers (`Answers`) and of the ways through the body (`Lts`) with its size.
+answers (`Answers`) and of the ways through the body (`Lts`) with its size, of functions that took at least so many seconds.
 """
 
 import collections
