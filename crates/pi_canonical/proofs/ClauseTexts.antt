@@ -119,7 +119,7 @@ quiet_end (Str text) quiet = refl
 quiet_end (Sign spelling) quiet = refl
 quiet_end End quiet = absurd (false≢true (sym quiet))
 
-endless_quiet : (ts : List Token) → list_any breaks ts ≡ false → list_any is_end ts ≡ false
+pub endless_quiet : (ts : List Token) → list_any breaks ts ≡ false → list_any is_end ts ≡ false
 endless_quiet [] quiet = refl
 endless_quiet (t ∷ ts) quiet =
     let (here, rest) = neither (breaks t) (list_any breaks ts) quiet in

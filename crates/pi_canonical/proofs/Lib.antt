@@ -25,6 +25,11 @@ pub mod Tree
 pub mod Trees
 pub mod Writes
 pub mod WrittenTrees
+pub mod BehindIndex
+pub mod ImportTexts
+pub mod IndexTexts
+pub mod Stretches
+pub mod Verdicts
 pub mod PartedLemmas
 pub mod ExpTrees
 pub mod ExpTexts

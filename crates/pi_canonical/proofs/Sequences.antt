@@ -23,7 +23,7 @@ pub reads_exp : {e : ExpTree} (w : Writes e) (us : List Token) → Reads exp (ma
 reads_exp w us = exp_unit (unit_post (w.as_post us))
 
 -- the parting text in front of those that are left
-each_behind-parted : (parting t : List ℕ) (ts : List (List ℕ)) → each_behind parting (t ∷ ts) ≡ parting ++ parted parting (t ∷ ts)
+pub each_behind-parted : (parting t : List ℕ) (ts : List (List ℕ)) → each_behind parting (t ∷ ts) ≡ parting ++ parted parting (t ∷ ts)
 unfolding each_behind parted
 each_behind-parted parting t ts = refl
 
