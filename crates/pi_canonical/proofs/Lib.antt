@@ -28,6 +28,8 @@ pub mod WrittenTrees
 pub mod BehindIndex
 pub mod ImportTexts
 pub mod IndexTexts
+pub mod PartTexts
+pub mod ProgramLaw
 pub mod Stretches
 pub mod Verdicts
 pub mod PartedLemmas
