@@ -11,10 +11,10 @@ use Rattle.pi_canonical.proofs.Calls.{neither}
 use Rattle.pi_canonical.specs.Patterns.{is_index}
 use Rattle.pi_canonical.specs.Patterns.{Fine, AllFine, BranchesFine}
 
-split : (test' : Placed → Bool) (xs ys : List Placed) → list_any test' (xs ++ ys) ≡ false → (list_any test' xs ≡ false) × (list_any test' ys ≡ false)
+pub split : (test' : Placed → Bool) (xs ys : List Placed) → list_any test' (xs ++ ys) ≡ false → (list_any test' xs ≡ false) × (list_any test' ys ≡ false)
 split test' xs ys none = neither (list_any test' xs) (list_any test' ys) (sym (list_any-append test' xs ys) ∙ none)
 
-wrong : {P : Type 0} → ◌≡◌ {A = Bool} true false → P
+pub wrong : {P : Type 0} → ◌≡◌ {A = Bool} true false → P
 wrong e = absurd (false≢true (sym e))
 
 no_index : (is_quoted : Bool) (e : ExpTree) → not (is_pattern_node is_quoted e) ≡ false → is_index e ≡ false

@@ -1,18 +1,19 @@
 -- Tokens of a text whose atoms spell no sign are terminals as trees are made of.
-use Rattle.std.proofs.Common.{◌≡◌, ℕ, ◌==◌, Bool, true, false, ◌&&◌, ◌||◌, List, [], ◌∷◌, map, Option, Some, None, unwrap_or, refl, sym, subst, ◌∙◌, codes, inl, inr, if◌then◌else◌}
-use Rattle.std.proofs.lemmas.Bool.{cases_Bool, and_parts, false≢true}
+use Rattle.std.proofs.Common.{◌≡◌, ℕ, ◌==◌, Bool, true, false, ◌&&◌, ◌||◌, List, [], ◌∷◌, map, refl, sym, ◌∙◌}
+use Rattle.std.proofs.lemmas.Bool.{and_parts, false≢true}
 use Rattle.std.specs.List.{list_any}
 use Rattle.std.specs.Str.{bytes_eq}
-use Rattle.pi_canonical.specs.Signs.{is_two_place, is_prefix_word, is_prefix_sign, is_sign, two_place_signs, prefix_words, prefix_signs}
+use Rattle.pi_canonical.specs.Signs.{is_two_place, is_prefix_word, is_prefix_sign, two_place_signs, prefix_words, prefix_signs}
 use Rattle.pi_lex.specs.Forms as lex
 use Rattle.pi_terms.specs.ListNames.{nil}
-use Rattle.pi_syntax.specs.Terminals.{Terminal, terminal, Row, found_in, foreign, sign_terminal, word_terminal, constraint_rows, arithmetic_rows, relation_rows, constraint_relation_rows, punctuation_rows, operator_word_rows, block_word_rows}
+use Rattle.pi_syntax.specs.Terminals.{terminal, Row, sign_terminal, word_terminal, constraint_rows, arithmetic_rows, relation_rows, constraint_relation_rows, punctuation_rows, operator_word_rows, block_word_rows}
 use Rattle.pi_syntax.specs.Tokens.{Token, Var, Atom, Word, Int, Str, Sign, End, is_one_of, reserved_words}
 use Rattle.pi_canonical.specs.Reread.{is_spelling, spells_other}
-use Rattle.pi_canonical.proofs.SignForms.{EachName, each_name}
+use Rattle.pi_canonical.proofs.SignForms.{each_name}
 use Rattle.pi_canonical.proofs.Calls.{neither}
 use Rattle.pi_canonical.proofs.Fine.{IsPlainName, IsGood, AreGood}
 use Rattle.pi_canonical.proofs.GoodTokens.{IsGoodToken, AreGoodTokens}
+use Rattle.pi_canonical.proofs.TableRows.{EachRow, each_sign, each_word}
 
 -- ---- names
 
@@ -61,23 +62,7 @@ plain_name name good plain = record {
 -- ---- the tables
 
 abbrev AreGoodRows : List Row → Type 0
-AreGoodRows [] = Unit {0}
-AreGoodRows (row ∷ rows) = IsGood row.1 × AreGoodRows rows
-
-found_good : (rows : List Row) (spelling : List ℕ) (t : Terminal) → AreGoodRows rows → found_in rows spelling ≡ Some t → IsGood t
-found_good [] spelling t good found = absurd (none_some found)
-  where
-    none_some : ◌≡◌ {A = Option Terminal} None (Some t) → ⊥
-    none_some e = cc
-found_good (row ∷ rows) spelling t good found =
-    elim (cases_Bool (bytes_eq spelling row.0)) [
-      | inl here ↦ let same : ◌≡◌ {A = Option Terminal} (Some row.1) (Some t) = rw here at found in let e : row.1 ≡ t = cc in subst IsGood e good.0
-      | inr other ↦ found_good rows spelling t good.1 (rw other at found)
-    ]
-
-unwrapped : (o : Option Terminal) (d : Terminal) → ((t : Terminal) → o ≡ Some t → IsGood t) → IsGood d → IsGood (unwrap_or o d)
-unwrapped None d found good = good
-unwrapped (Some t) d found good = found t refl
+AreGoodRows rows = EachRow IsGood rows
 
 arithmetic_good : AreGoodRows arithmetic_rows
 unfolding is_two_place
@@ -106,19 +91,10 @@ block_words_good : AreGoodRows block_word_rows
 block_words_good = (tt, (tt, (tt, (tt, (tt, (tt, (tt, (tt, tt))))))))
 
 sign_terminal_good : (sign : List ℕ) → IsGood (sign_terminal sign)
-unfolding sign_terminal
-sign_terminal_good sign =
-    unwrapped (found_in punctuation_rows sign) _ (λ t found. found_good punctuation_rows sign t punctuation_good found)
-    (unwrapped (found_in arithmetic_rows sign) _ (λ t found. found_good arithmetic_rows sign t arithmetic_good found)
-    (unwrapped (found_in relation_rows sign) _ (λ t found. found_good relation_rows sign t relations_good found)
-    (unwrapped (found_in constraint_rows sign) _ (λ t found. found_good constraint_rows sign t constraints_good found)
-    (unwrapped (found_in constraint_relation_rows sign) foreign (λ t found. found_good constraint_relation_rows sign t constraint_relations_good found) tt))))
+sign_terminal_good sign = each_sign IsGood sign punctuation_good arithmetic_good relations_good constraints_good constraint_relations_good tt
 
 word_terminal_good : (word : List ℕ) → IsGood (word_terminal word)
-unfolding word_terminal
-word_terminal_good word =
-    unwrapped (found_in operator_word_rows word) _ (λ t found. found_good operator_word_rows word t operator_words_good found)
-    (unwrapped (found_in block_word_rows word) foreign (λ t found. found_good block_word_rows word t block_words_good found) tt)
+word_terminal_good word = each_word IsGood word operator_words_good block_words_good tt
 
 -- ---- tokens
 

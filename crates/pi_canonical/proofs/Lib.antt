@@ -1,6 +1,10 @@
 pub mod Blocks
 pub mod Bracketed
 pub mod Calls
+pub mod ClauseAgain
+pub mod ClauseFine
+pub mod ClauseLaw
+pub mod ClauseNames
 pub mod ClauseTexts
 pub mod Climb
 pub mod ExpLaw
@@ -10,6 +14,7 @@ pub mod Forms
 pub mod GoalSigns
 pub mod GoodTerminals
 pub mod GoodTokens
+pub mod Heads
 pub mod IntegerTokens
 pub mod NameTexts
 pub mod NameTokens
@@ -21,8 +26,11 @@ pub mod Sequences
 pub mod Sides
 pub mod SignForms
 pub mod SignTexts
+pub mod TableRows
 pub mod Tree
 pub mod Trees
+pub mod UnitTexts
+pub mod Units
 pub mod Writes
 pub mod WrittenTrees
 pub mod BehindIndex

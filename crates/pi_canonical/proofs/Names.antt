@@ -78,7 +78,7 @@ leads_as same l = record { front = l.front; same = l.same; are = l.are ∙ same 
 
 -- ---- trees that are put together
 
-conjunction_names : (es : ExpTrees) → all_names es ≡ names_of (conjunction es)
+pub conjunction_names : (es : ExpTrees) → all_names es ≡ names_of (conjunction es)
 unfolding names_of all_names
 conjunction_names no_exps = refl
 conjunction_names (exp_before e no_exps) = append-nil (names_of e)
