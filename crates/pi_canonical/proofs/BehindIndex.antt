@@ -1,5 +1,5 @@
 -- The tokens of a clause are those of its part behind the `index`, in which no variable stands.
-use Rattle.std.proofs.Common.{◌≡◌, ℕ, true, List, [], ◌∷◌, codes, Option, Some, None, refl, ◌∙◌}
+use Rattle.std.proofs.Common.{◌≡◌, ℕ, true, List, ◌∷◌, codes, Option, Some, refl, ◌∙◌}
 use Rattle.std.specs.List.{list_any}
 use Rattle.pi_clauses.specs.Declaration.{Opening, indexing, is_sign, mode_of, Modes, last_mode, more_modes, ModeList, mode_list, ModeLists, no_more, one_more, Declares, indexes, Opens, declaration}
 use Rattle.pi_clauses.specs.Reading.{variable_names, ClauseOf, whole, behind_index}

@@ -1,15 +1,14 @@
 -- The canonical texts of conjunctions, disjunctions, choices and loops.
-use Rattle.std.proofs.Common.{◌≡◌, ℕ, Bool, true, false, List, [], ◌∷◌, ◌++◌, map, refl, codes}
-use Rattle.pi_canonical.specs.CanonicalExp.{exp_text, exp_texts}
-use Rattle.pi_canonical.specs.Texts.{each_behind, parted}
-use Rattle.pi_syntax.specs.ExpTree.{ExpTree, and, or, if_then, if_else, foreach, while_do, do_while, ExpTrees, no_exps, exp, ExpBranches, one_exp}
-use Rattle.pi_syntax.specs.Terminals.{Terminal, terminal, sign_terminal, word_terminal}
-use Rattle.pi_syntax.specs.Grammar.{Reads, prim, branches, conjuncts, last_branch, in_parens as parenthesized_exp, an_if, an_if_else, a_foreach, a_while, a_do_while}
-use Rattle.pi_syntax.specs.Tokens.{Token, Sign, Word}
-use Rattle.pi_canonical.proofs.Says.{Says, says-then, Any, Stops, Begins}
+use Rattle.std.proofs.Common.{◌∷◌, ◌++◌, refl, codes}
+use Rattle.pi_canonical.specs.CanonicalExp.{exp_text}
+use Rattle.pi_syntax.specs.ExpTree.{ExpTree, and, or, if_then, if_else, foreach, while_do, do_while, ExpTrees, exp, ExpBranches}
+use Rattle.pi_syntax.specs.Terminals.{sign_terminal, word_terminal}
+use Rattle.pi_syntax.specs.Grammar.{branches, conjuncts, last_branch, in_parens as parenthesized_exp, an_if, an_if_else, a_foreach, a_while, a_do_while}
+use Rattle.pi_syntax.specs.Tokens.{Sign, Word}
+use Rattle.pi_canonical.proofs.Says.{Says, says-then, Stops}
 use Rattle.pi_canonical.proofs.Punctuation.{stop_blank, stop_close_paren, says-stops, close_paren, if_blank, else_blank, end_blank, foreach_paren, paren_blank, while_paren, while_behind, do_blank}
 use Rattle.pi_canonical.proofs.Writes.{Writes, plain_writes}
-use Rattle.pi_canonical.proofs.Sequences.{reads_exp, Items, Sequence, sequence, Disjuncts, Conditions, ChoiceText, choice_text}
+use Rattle.pi_canonical.proofs.Sequences.{reads_exp, Items, Sequence, sequence, Disjuncts, Conditions, choice_text}
 use Rattle.pi_canonical.proofs.Forms.{parens, begins_paren}
 
 -- ---- conjunctions and disjunctions

@@ -1,16 +1,16 @@
 -- The canonical texts of lists, arrays, comprehensions and ranges.
-use Rattle.std.proofs.Common.{◌≡◌, ℕ, Bool, true, false, List, [], ◌∷◌, ◌++◌, map, refl, codes}
+use Rattle.std.proofs.Common.{true, false, ◌∷◌, ◌++◌, refl, codes}
 use Rattle.pi_canonical.specs.CanonicalExp.{exp_text, exp_texts}
-use Rattle.pi_canonical.specs.Texts.{each_behind, parted}
-use Rattle.pi_syntax.specs.ExpTree.{ExpTree, list, list_onto, array, range, range_by, collect, ExpTrees, no_exps, exp, one_exp}
-use Rattle.pi_syntax.specs.Terminals.{Terminal, terminal, sign_terminal}
-use Rattle.pi_syntax.specs.Grammar.{Reads, prim, no_list, a_list, a_list_onto, a_list_of, no_array, an_array, an_array_of, in_parens as parenthesized_exp}
-use Rattle.pi_syntax.specs.Tokens.{Token, Sign}
-use Rattle.pi_canonical.proofs.Says.{Says, says-nothing, says-then, Any, Stops, Begins}
+use Rattle.pi_canonical.specs.Texts.{parted}
+use Rattle.pi_syntax.specs.ExpTree.{ExpTree, list, list_onto, array, range, range_by, collect, ExpTrees, no_exps}
+use Rattle.pi_syntax.specs.Terminals.{sign_terminal}
+use Rattle.pi_syntax.specs.Grammar.{no_list, a_list, a_list_onto, a_list_of, no_array, an_array, an_array_of, in_parens as parenthesized_exp}
+use Rattle.pi_syntax.specs.Tokens.{Sign}
+use Rattle.pi_canonical.proofs.Says.{Says, says-nothing, says-then, Stops}
 use Rattle.pi_canonical.proofs.Climb.{exp_unit, range_unit, stepped_unit}
 use Rattle.pi_canonical.proofs.Punctuation.{stop_blank, stop_close_bracket, says-stops, open_bracket, close_bracket, bar_blank, colon_blank, dots_blank}
 use Rattle.pi_canonical.proofs.Writes.{Writes, plain_writes}
-use Rattle.pi_canonical.proofs.Sequences.{reads_unit, Items, Sequence, sequence, Each, none, some}
+use Rattle.pi_canonical.proofs.Sequences.{reads_unit, Items, Sequence, sequence}
 use Rattle.pi_canonical.proofs.Forms.{parens, brackets, braces, begins_paren, begins_bracket, begins_brace}
 
 -- ---- lists and arrays

@@ -1,22 +1,20 @@
 -- The canonical texts of calls and signs, of terms behind `$`, and of indexes.
-use Rattle.std.proofs.Common.{◌≡◌, ℕ, suc, ◌==◌, Bool, true, false, not, ◌&&◌, ◌||◌, List, [], ◌∷◌, ◌++◌, map, Option, Some, None, refl, sym, ap, subst, codes, inl, inr, if◌then◌else◌}
+use Rattle.std.proofs.Common.{◌≡◌, ℕ, Bool, true, false, ◌||◌, List, [], ◌∷◌, ◌++◌, map, Option, Some, None, refl, sym, codes, inl, inr}
 use Rattle.std.proofs.lemmas.Bool.{cases_Bool, false≢true}
 use Rattle.pi_canonical.specs.CanonicalExp.{exp_text, exp_texts, is_structure}
 use Rattle.pi_canonical.specs.Signs.{is_two_place, is_prefix_word, is_prefix_sign, is_sign, two_place_signs, prefix_words, prefix_signs}
-use Rattle.pi_canonical.specs.Texts.{each_behind, parted, in_parens as in_parens_text, name_text, comma as comma_text}
-use Rattle.pi_syntax.specs.ExpTree.{ExpTree, call, quote, index, ExpTrees, no_exps, exp, one_exp}
+use Rattle.pi_canonical.specs.Texts.{each_behind, parted, in_parens as in_parens_text, comma as comma_text}
+use Rattle.pi_syntax.specs.ExpTree.{ExpTree, call, quote, index, ExpTrees, exp, one_exp}
 use Rattle.pi_syntax.specs.Signature.{exp_count}
-use Rattle.pi_syntax.specs.Terminals.{Terminal, terminal, sign_terminal}
-use Rattle.pi_syntax.specs.Grammar.{Reads, prim, post, call_one, call_two, no_postfix, an_index, postfixes, a_call, in_parens as parenthesized_exp, a_structure, a_term, last_unit}
+use Rattle.pi_syntax.specs.Terminals.{terminal, sign_terminal}
+use Rattle.pi_syntax.specs.Grammar.{Reads, post, call_one, call_two, no_postfix, an_index, postfixes, a_call, in_parens as parenthesized_exp, a_structure, a_term, last_unit}
 use Rattle.pi_syntax.specs.Tokens.{Token, Sign, Atom, is_one_of}
-use Rattle.pi_canonical.specs.Patterns.{is_index}
-use Rattle.pi_canonical.proofs.Says.{Says, says-at, says-nothing, says-then, Any, Stops, Begins, spaced, parenthesized}
+use Rattle.pi_canonical.proofs.Says.{Says, says-at, says-nothing, says-then, Stops, spaced, parenthesized}
 use Rattle.pi_canonical.proofs.Climb.{post_prim, exp_unit}
-use Rattle.pi_canonical.proofs.SignForms.{TwoPlace, PrefixWord, PrefixSign}
 use Rattle.pi_canonical.proofs.SignTexts.{two_place, prefix_word, prefix_sign}
-use Rattle.pi_canonical.proofs.Punctuation.{stop_blank, stop_open_paren, stop_open_bracket, stop_close_bracket, blank, dollar}
+use Rattle.pi_canonical.proofs.Punctuation.{stop_blank, stop_open_paren, stop_open_bracket, blank, dollar}
 use Rattle.pi_canonical.proofs.NameTexts.{IsAtomName, atom_token_text}
-use Rattle.pi_canonical.proofs.Writes.{Writes, plain_writes, takes_places, name_of, name_first}
+use Rattle.pi_canonical.proofs.Writes.{Writes, plain_writes, takes_places, name_first}
 use Rattle.pi_canonical.proofs.Sequences.{reads_unit, reads_exp, Each, in_parens_of}
 use Rattle.pi_canonical.proofs.Forms.{parens, brackets, begins_paren, begins_dollar}
 

@@ -1,17 +1,14 @@
 -- The texts of clauses, as tokens of the shape that they are read as.
-use Rattle.std.proofs.Common.{◌≡◌, ℕ, suc, ◌==◌, Bool, true, false, not, ◌&&◌, ◌||◌, List, [], ◌∷◌, ◌++◌, map, length, Option, Some, None, option_map, is_some, refl, sym, ap, subst, ◌∙◌, codes, append_assoc, append-nil, encode_utf8_all}
+use Rattle.std.proofs.Common.{◌≡◌, ℕ, Bool, true, false, List, [], ◌∷◌, ◌++◌, Option, Some, None, is_some, refl, sym, ap, subst, ◌∙◌, codes, append_assoc, encode_utf8_all}
 use Rattle.std.proofs.lemmas.Bool.{false≢true}
 use Rattle.std.proofs.lemmas.List.Folds.{list_any-append}
 use Rattle.std.specs.List.{list_any}
 use lib.Utf8.{scalars, encode}
 use Rattle.pi_canonical.specs.Canonical.{arrow_text}
-use Rattle.pi_clauses.specs.Declaration.{declared, ModeList}
-use Rattle.pi_clauses.specs.Shape.{Shape, bare, ruled, arrow_of, Sides, with_left, sides_by, sides, HasShape, without_arrow, with_arrow}
+use Rattle.pi_clauses.specs.Shape.{Shape, bare, ruled, arrow_of, Sides, sides, HasShape, without_arrow, with_arrow}
 use Rattle.pi_syntax.specs.ExpTree.{ExpTree}
-use Rattle.pi_syntax.specs.Grammar.{HasExp}
-use Rattle.pi_syntax.specs.declared.program.Mode.{Mode}
-use Rattle.pi_syntax.specs.Tokens.{Token, Lexeme, Var, Atom, Word, Int, Str, Sign, End, item_at, sign, is_end_point, is_white, first}
-use Rattle.pi_canonical.proofs.Says.{Says, Read, read-token, item_some, scalars-append, Stops, Dark, breaks}
+use Rattle.pi_syntax.specs.Tokens.{Token, Var, Atom, Word, Int, Str, Sign, End, sign, is_end_point}
+use Rattle.pi_canonical.proofs.Says.{Read, read-token, item_some, scalars-append, Stops, Dark, breaks}
 use Rattle.pi_canonical.proofs.Punctuation.{stop_blank, blank}
 use Rattle.pi_canonical.proofs.Sides.{StartsClause, Side, AnyTokens}
 use Rattle.pi_canonical.proofs.Calls.{neither}

@@ -1,8 +1,8 @@
 -- What stands between signs, read as a line of the grammar that is looser, up to a unit.
-use Rattle.std.proofs.Common.{◌≡◌, ℕ, List, [], ◌∷◌, codes, refl}
+use Rattle.std.proofs.Common.{ℕ, List, ◌∷◌, codes}
 use Rattle.pi_syntax.specs.ExpTree.{ExpTree}
 use Rattle.pi_syntax.specs.Terminals.{Line, equivalence, implication, constraint_or, constraint_xor, constraint_and, bit_or, bit_xor, bit_and, shift, sum, product, Terminal, relation, dots, power, plus, minus, complement, constraint_not, goal_sign, open_paren}
-use Rattle.pi_syntax.specs.Grammar.{Phrase, exp, conj, unit, line, negation, relating, range, unary, pow, post, prim, operand, Joins, call_one, call_two, Reads, branches, conjuncts, signed_goal, plain_unit, joined, negative, positive, unrelated, related, no_range, a_range, a_stepped_range, with_plus, with_minus, with_complement, unsigned, no_power, a_power, postfixes, last_branch, last_unit, no_more, join, no_postfix}
+use Rattle.pi_syntax.specs.Grammar.{exp, conj, unit, line, negation, relating, range, unary, pow, post, prim, operand, Joins, call_one, call_two, Reads, branches, conjuncts, signed_goal, plain_unit, joined, negative, positive, unrelated, related, no_range, a_range, a_stepped_range, with_plus, with_minus, with_complement, unsigned, no_power, a_power, postfixes, last_branch, last_unit, no_more, join, no_postfix}
 use Rattle.pi_syntax.specs.ExpTree.{range as range_of, range_by}
 
 module _ {ts rest : List Terminal} {e : ExpTree} where

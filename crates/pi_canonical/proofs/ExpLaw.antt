@@ -1,12 +1,12 @@
 -- The canonical text of an expression that was read is read as that expression.
-use Rattle.std.proofs.Common.{◌≡◌, ℕ, ◌≤◌, true, List, [], ◌∷◌, ◌++◌, length, map, None, refl, sym, ap, subst, ◌∙◌, append-nil, encode_utf8_all, chars, IsUtf8}
+use Rattle.std.proofs.Common.{◌≡◌, ℕ, ◌≤◌, true, List, [], length, map, None, refl, sym, ap, subst, ◌∙◌, append-nil, encode_utf8_all, chars, IsUtf8}
 use Rattle.std.proofs.lemmas.Str.{chars-encodes}
 use lib.Utf8.{scalars}
 use Rattle.pi_canonical.specs.CanonicalExp.{exp_text}
 use Rattle.pi_lex.specs.Kinds.{kinds}
 use Rattle.pi_syntax.specs.ExpTree.{ExpTree}
 use Rattle.pi_syntax.specs.Grammar.{HasExp, Reads, exp}
-use Rattle.pi_syntax.specs.Terminals.{Terminal, terminal}
+use Rattle.pi_syntax.specs.Terminals.{terminal}
 use Rattle.pi_syntax.specs.Tokens as tokens
 use Rattle.pi_syntax.specs.Tokens.{Token, Located, HasTokens, utf8, ended, item_at, most_bytes}
 use Rattle.pi_canonical.specs.Patterns.{Fine}

@@ -1,10 +1,10 @@
 -- Lemmas on expressions in which no index stands behind `@`; and terminals as tokens of a text make them.
-use Rattle.std.proofs.Common.{◌≡◌, ℕ, ◌^◌, ◌<◌, Bool, true, false, ℤ, pos, List, [], ◌∷◌, IsUtf8}
+use Rattle.std.proofs.Common.{◌≡◌, ℕ, ◌^◌, ◌<◌, true, false, ℤ, pos, List, [], ◌∷◌, IsUtf8}
 use Rattle.pi_canonical.specs.Signs.{is_two_place, is_prefix_word, is_sign}
 use Rattle.pi_syntax.specs.ExpTree.{ExpTree, index, ExpTrees, no_exps, exp, one_exp}
 use Rattle.pi_syntax.specs.Grammar.{conjunction, disjunction, indexed}
 use Rattle.pi_syntax.specs.Terminals.{Terminal, variable, atom as atom_terminal, integer, text as text_terminal, joint, relation, goal_sign}
-use Rattle.pi_canonical.specs.Patterns.{Fine, AllFine, BranchesFine}
+use Rattle.pi_canonical.specs.Patterns.{Fine, AllFine}
 use Rattle.pi_canonical.proofs.NameTexts.{IsVariableName, IsAtomName}
 
 pub fine_conjunction : (es : ExpTrees) → Fine (conjunction es) → AllFine es

@@ -1,26 +1,21 @@
 -- The canonical text of each form of expression, where its parts have theirs: names, numbers, calls, what stands in parentheses, and lists.
-use Rattle.std.proofs.Common.{◌≡◌, ℕ, suc, ◌+◌, ◌^◌, ◌<◌, ◌==◌, Bool, true, false, not, ◌&&◌, ◌||◌, ℤ, pos, negsuc, int_lt, ◌-ℤ◌, List, [], ◌∷◌, ◌++◌, map, Option, Some, None, length, refl, sym, ap, subst, codes, arith, IsUtf8, inl, inr, if◌then◌else◌, rules}
-use Rattle.std.proofs.lemmas.Bool.{cases_Bool, false≢true}
+use Rattle.std.proofs.Common.{◌≡◌, ℕ, suc, ◌^◌, ◌<◌, ◌==◌, Bool, true, false, ℤ, pos, negsuc, int_lt, ◌-ℤ◌, List, ◌∷◌, ◌++◌, map, Option, Some, None, length, refl, subst, codes, arith, IsUtf8, if◌then◌else◌, rules}
+use Rattle.std.proofs.lemmas.Bool.{false≢true}
 use Rattle.std.proofs.lemmas.Bool.Decides.{nat_tests}
 use Rattle.std.specs.Fmt.{decimal}
-use Rattle.pi_canonical.specs.CanonicalExp.{exp_text, exp_texts, is_structure}
-use Rattle.pi_canonical.specs.Signs.{is_two_place, is_prefix_word, is_prefix_sign, is_sign}
-use Rattle.pi_canonical.specs.Texts.{between, in_parens, each_behind, parted, integer_text}
-use Rattle.pi_syntax.specs.ExpTree.{ExpTree, var, int, atom, str, list, list_onto, array, call, quote, index, range, range_by, at, collect, ExpTrees, no_exps, exp, one_exp}
-use Rattle.pi_syntax.specs.Signature.{exp_count}
-use Rattle.pi_syntax.specs.Terminals.{Terminal, terminal, sign_terminal, word_terminal, open_paren as open_paren_terminal, close_paren as close_paren_terminal, integer, minus}
-use Rattle.pi_syntax.specs.Grammar.{Reads, prim, unary, post, negated, call_one, call_two, indexed, Postfixes, no_postfix, an_index, postfixes, a_variable, a_pattern, an_integer, an_atom, a_call, a_text, no_list, a_list, a_list_onto, a_list_of, no_array, an_array, an_array_of, in_parens as parenthesized_exp, a_structure, a_term, last_unit, with_minus}
-use Rattle.pi_syntax.specs.Tokens.{Token, Sign, Var, Int, Atom, Str}
+use Rattle.pi_canonical.specs.CanonicalExp.{exp_text}
+use Rattle.pi_canonical.specs.Texts.{between, in_parens, integer_text}
+use Rattle.pi_syntax.specs.ExpTree.{ExpTree, var, int, atom, str, at}
+use Rattle.pi_syntax.specs.Terminals.{Terminal, terminal, sign_terminal, open_paren as open_paren_terminal, close_paren as close_paren_terminal, integer, minus}
+use Rattle.pi_syntax.specs.Grammar.{Reads, prim, unary, negated, postfixes, a_variable, a_pattern, an_integer, an_atom, a_text, in_parens as parenthesized_exp, with_minus}
+use Rattle.pi_syntax.specs.Tokens.{Token, Sign, Var, Int, Atom}
 use Rattle.pi_canonical.specs.Patterns.{is_index}
-use Rattle.pi_canonical.proofs.Says.{Says, says-at, says-nothing, says-then, Any, Stops, Begins, Dark, spaced, parenthesized}
-use Rattle.pi_canonical.proofs.Climb.{post_prim, unary_post, unary_up, unit_post, exp_unit, range_unit, stepped_unit}
-use Rattle.pi_canonical.proofs.SignForms.{TwoPlace, PrefixWord, PrefixSign}
-use Rattle.pi_canonical.proofs.SignTexts.{two_place, prefix_word, prefix_sign}
-use Rattle.pi_canonical.proofs.Punctuation.{stop_blank, stop_comma, stop_close_paren, stop_close_bracket, stop_close_brace, stop_open_paren, stop_open_bracket, stop_at, says-stops, blank, open_paren, close_paren, open_bracket, close_bracket, open_brace, close_brace, dollar, at_sign, minus_sign, bar_blank, colon_blank, dots_blank}
+use Rattle.pi_canonical.proofs.Says.{Says, says-at, says-then, Stops, Begins}
+use Rattle.pi_canonical.proofs.Climb.{post_prim, unary_post, unary_up, exp_unit}
+use Rattle.pi_canonical.proofs.Punctuation.{stop_close_paren, stop_close_bracket, stop_close_brace, stop_at, says-stops, open_paren, close_paren, open_bracket, close_bracket, open_brace, close_brace, at_sign, minus_sign}
 use Rattle.pi_canonical.proofs.IntegerTokens.{says-natural, decimal_begins}
-use Rattle.pi_canonical.proofs.NameTexts.{IsVariableName, IsAtomName, OneToken, variable_text, atom_token_text, string_token_text}
-use Rattle.pi_canonical.proofs.Writes.{Writes, plain_writes, takes_places, name_of}
-use Rattle.pi_canonical.proofs.Sequences.{reads_unit, reads_exp, Items, last_item, more_items, Sequence, sequence, Each, none, some, InParens, in_parens_of}
+use Rattle.pi_canonical.proofs.NameTexts.{IsVariableName, IsAtomName, variable_text, atom_token_text, string_token_text}
+use Rattle.pi_canonical.proofs.Writes.{Writes, plain_writes}
 
 -- ---- what stands between brackets
 

@@ -1,6 +1,6 @@
 -- The names, integers and texts of the tokens of a text are as tokens can be.
-use Rattle.std.proofs.Common.{◌≡◌, ℕ, zero, suc, ◌+◌, ◌-◌, ◌^◌, ◌<◌, ◌≤◌, ◌==◌, Bool, true, false, not, ◌&&◌, ◌||◌, nat_le, ℤ, pos, List, [], ◌∷◌, ◌++◌, take, drop, length, map, Option, Some, None, unwrap_or, refl, sym, ap, subst, ◌∙◌, codes, arith, encode_utf8_all, chars, IsUtf8, if◌then◌else◌, inl, inr}
-use Rattle.std.proofs.lemmas.Bool.{cases_Bool, and_parts, false≢true, eqb-true}
+use Rattle.std.proofs.Common.{◌≡◌, ℕ, zero, suc, ◌+◌, ◌-◌, ◌^◌, ◌<◌, ◌==◌, Bool, true, false, not, ◌||◌, nat_le, pos, List, [], ◌∷◌, take, drop, Option, Some, None, unwrap_or, refl, sym, subst, arith, encode_utf8_all, chars, IsUtf8, if◌then◌else◌, inl, inr}
+use Rattle.std.proofs.lemmas.Bool.{cases_Bool, and_parts}
 use Rattle.std.proofs.lemmas.Bool.Decides.{nat_tests}
 use Rattle.std.proofs.lemmas.Str.{chars-encodes, scalars-chars}
 use Rattle.std.specs.Char.{is_ascii_digit}

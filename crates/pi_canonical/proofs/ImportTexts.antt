@@ -1,9 +1,9 @@
 -- The text of an import: its tokens, and what they import.
-use Rattle.std.proofs.Common.{◌≡◌, ℕ, ◌==◌, Bool, true, false, ◌&&◌, List, [], ◌∷◌, ◌++◌, map, option_map, Option, Some, None, refl, sym, ap, subst, ◌∙◌, codes, if◌then◌else◌}
+use Rattle.std.proofs.Common.{◌≡◌, ℕ, Bool, true, false, ◌&&◌, List, [], ◌∷◌, ◌++◌, map, option_map, Option, Some, None, refl, subst, codes, if◌then◌else◌}
 use Rattle.std.proofs.lemmas.Bool.{and_parts}
-use lib.Utf8.{scalars, encode}
+use lib.Utf8.{encode}
 use Rattle.pi_canonical.specs.Texts.{each_behind, parted, comma as comma_text, name_text}
-use Rattle.pi_clauses.specs.Declaration.{Opening, importing, libraries, is_sign, imported, Declares, imports, Opens, declaration}
+use Rattle.pi_clauses.specs.Declaration.{importing, libraries, is_sign, imported, Declares, imports, Opens, declaration}
 use Rattle.pi_syntax.specs.Tokens.{Token, Var, Atom, Word, Int, Str, Sign, End, is_reserved, is_one_of}
 use Rattle.pi_canonical.proofs.Says.{Says, says-at, says-nothing, says-then, says-token, Stops, Begins, Dark}
 use Rattle.pi_canonical.proofs.NameTokens.{name_token}

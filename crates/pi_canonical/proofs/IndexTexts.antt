@@ -1,9 +1,9 @@
 -- The text of an `index`: its tokens, and the mode lists that they declare.
-use Rattle.std.proofs.Common.{◌≡◌, ℕ, List, [], ◌∷◌, ◌++◌, map, Option, Some, None, refl, sym, ap, ◌∙◌, codes, append_assoc}
-use lib.Utf8.{scalars, encode}
+use Rattle.std.proofs.Common.{◌≡◌, ℕ, List, [], ◌∷◌, ◌++◌, map, Some, refl, ap, ◌∙◌, codes, append_assoc}
+use lib.Utf8.{encode}
 use Rattle.pi_canonical.specs.Canonical.{mode_text, modes_text, declaration_text}
 use Rattle.pi_canonical.specs.Texts.{each_behind, parted}
-use Rattle.pi_clauses.specs.Declaration.{Opening, indexing, mode_of, Modes, last_mode, more_modes, ModeList, mode_list, ModeLists, no_more, one_more, Declares, indexes, Opens, declaration}
+use Rattle.pi_clauses.specs.Declaration.{indexing, mode_of, Modes, last_mode, more_modes, ModeList, mode_list, ModeLists, no_more, one_more, Declares, indexes, Opens, declaration}
 use Rattle.pi_clauses.specs.Reading.{variable_names}
 use Rattle.pi_syntax.specs.Tokens.{Token, Lexeme, Atom, Sign, item_at, sign, is_end_point, is_reserved}
 use Rattle.pi_syntax.specs.declared.program.Decl.TheVariants.{Index}

@@ -1,19 +1,18 @@
 -- The tokens of decimal numbers.
-use Rattle.std.proofs.Common.{◌≡◌, ◌≢◌, ℕ, zero, suc, ◌+◌, ◌-◌, ◌*◌, ◌/◌, ◌%◌, ◌^◌, ◌<◌, ◌≤◌, ◌==◌, Bool, true, false, cond, not, nat_le, ◌&&◌, List, [], ◌∷◌, ◌++◌, drop, take, length, pos, refl, sym, ap, subst, ◌∙◌, arith, pow-suc, encode_utf8_all, filter, if◌then◌else◌, ◌⊎◌, inl, inr}
-use Rattle.std.proofs.lemmas.Bool.{cases_Bool, and_parts, eqb-true, eqb-false, lt-ltb}
+use Rattle.std.proofs.Common.{◌≡◌, ℕ, zero, suc, ◌+◌, ◌-◌, ◌*◌, ◌/◌, ◌%◌, ◌^◌, ◌<◌, ◌≤◌, ◌==◌, Bool, true, false, cond, not, nat_le, List, [], ◌∷◌, ◌++◌, drop, take, length, pos, refl, sym, ap, ◌∙◌, arith, pow-suc, encode_utf8_all, filter, if◌then◌else◌, ◌⊎◌, inl, inr}
+use Rattle.std.proofs.lemmas.Bool.{cases_Bool, eqb-true, eqb-false, lt-ltb}
 use Rattle.std.proofs.lemmas.Bool.Decides.{nat_tests}
 use Rattle.std.proofs.lemmas.List.{take_at}
 use Rattle.std.specs.Char.{is_digit, is_ascii_digit, digit_value}
 use Rattle.std.specs.Fmt.{digit_glyph, digits_onto, digits, decimal}
-use Rattle.std.specs.List.{list_all}
 use Rattle.std.specs.Prelude.{slice_index}
 use Rattle.std.specs.Str.Parse.{digits_value, digits_value_after}
 use Rattle.std.proofs.lemmas.Str.{encode_ascii}
-use lib.Utf8.{scalar, scalars, encode, low_scalar}
+use lib.Utf8.{scalars, encode, low_scalar}
 use Rattle.pi_lex.specs.Forms.{IsDigits, last, digit}
 use Rattle.pi_lex.proofs.FormsLemmas.{digits_end-digits}
-use Rattle.pi_syntax.specs.Tokens.{Token, Item, Lexeme, Wide, Bad, item_at, Int, integer, integer_between, radix_of, digits_end, number_of, largest, is_letter, first, letter_x, letter_o, letter_b, is_white, starts_comment, is_variable_start, is_atom_start}
-use Rattle.pi_canonical.proofs.Says.{Says, item_some, says-token, Stops, Begins, breaks}
+use Rattle.pi_syntax.specs.Tokens.{Item, Lexeme, item_at, Int, integer, integer_between, radix_of, digits_end, largest, is_letter, first, letter_x, letter_o, letter_b, is_white, is_variable_start, is_atom_start}
+use Rattle.pi_canonical.proofs.Says.{Says, item_some, says-token, Stops, Begins}
 
 -- a digit
 abbrev is_ten : ℕ → Bool

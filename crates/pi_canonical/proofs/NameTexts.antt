@@ -1,14 +1,14 @@
 -- The texts of variables and of names, and their tokens.
-use Rattle.std.proofs.Common.{◌≡◌, ℕ, ◌+◌, ◌==◌, Bool, true, false, not, ◌||◌, ◌&&◌, List, [], ◌∷◌, ◌++◌, length, refl, sym, ap, subst, ◌∙◌, codes, arith, encode_utf8_all, chars, IsUtf8, if◌then◌else◌, inl, inr, flat_map}
+use Rattle.std.proofs.Common.{◌≡◌, ℕ, Bool, true, false, not, ◌&&◌, List, [], ◌∷◌, ◌++◌, length, refl, sym, subst, arith, encode_utf8_all, chars, IsUtf8, inl, inr, flat_map}
 use Rattle.std.proofs.lemmas.Bool.{cases_Bool, and_parts, false≢true}
 use Rattle.std.proofs.lemmas.Bool.Decides.{nat_tests}
 use Rattle.std.proofs.lemmas.Str.{encodes-chars, scalars-chars}
 use Rattle.std.specs.List.{list_all}
 use Rattle.std.specs.Str.{bytes_eq}
-use lib.Utf8.{scalars, encode}
+use lib.Utf8.{scalars}
 use Rattle.pi_syntax.specs.PrintAtom.{nil, is_unquoted_atom, stands_bare, atom_text, in_quotes}
 use Rattle.pi_canonical.specs.Texts.{name_text, string_text, in_double_quotes}
-use Rattle.pi_syntax.specs.Tokens.{Token, Lexeme, item_at, Var, Atom, Str, Word, first, is_name_part, is_variable_start, is_atom_start, is_reserved}
+use Rattle.pi_syntax.specs.Tokens.{Token, Lexeme, item_at, Var, Atom, Str, first, is_name_part, is_variable_start, is_atom_start, is_reserved}
 use Rattle.pi_canonical.proofs.Says.{Says, says-token, Stops, Begins}
 use Rattle.pi_canonical.proofs.NameTokens.{variable_token, name_token}
 use Rattle.pi_canonical.proofs.QuotedTokens.{says-quoted, says-text, between}

@@ -1,13 +1,11 @@
 -- The tokens of names, words and punctuation.
-use Rattle.std.proofs.Common.{◌≡◌, ℕ, ◌+◌, ◌==◌, Bool, true, false, ◌||◌, ◌&&◌, List, [], ◌∷◌, ◌++◌, drop, take, length, refl, sym, ap, subst, ◌∙◌, codes, arith, encode_utf8_all, cond, if◌then◌else◌}
-use Rattle.std.proofs.lemmas.Bool.{and_parts, false≢true}
+use Rattle.std.proofs.Common.{◌≡◌, ℕ, ◌==◌, true, false, List, [], ◌∷◌, ◌++◌, length, refl, ◌∙◌, arith, encode_utf8_all, if◌then◌else◌}
+use Rattle.std.proofs.lemmas.Bool.{and_parts}
 use Rattle.std.proofs.lemmas.Bool.Decides.{nat_tests}
 use Rattle.std.proofs.lemmas.List.{take_at}
 use Rattle.std.specs.List.{list_all, prefix_len}
-use Rattle.std.specs.Char.{is_ascii_uppercase, is_ascii_lowercase}
-use lib.Utf8.{scalars, encode}
-use Rattle.pi_syntax.specs.Tokens.{Token, Item, Lexeme, item_at, sign, is_end_point, Sign, Var, Atom, Word, first, is_white, is_name_part, is_variable_start, is_atom_start, is_reserved, name_len, variable, atom_or_word, spelled, starts_comment}
-use Rattle.pi_canonical.proofs.Says.{Says, item_some, says-then, says-token, Any, Stops, Begins, Spaced, spaced, Parenthesized, parenthesized}
+use Rattle.pi_syntax.specs.Tokens.{Lexeme, item_at, Var, Atom, Word, first, is_white, is_name_part, is_variable_start, is_atom_start, is_reserved, variable, atom_or_word}
+use Rattle.pi_canonical.proofs.Says.{item_some, Stops}
 
 -- the name goes on up to what ends it
 prefix_len-name : (cs more : List ℕ) → list_all is_name_part cs ≡ true → is_name_part (first more) ≡ false → prefix_len is_name_part (cs ++ more) ≡ length cs

@@ -1,24 +1,22 @@
 -- The text of a part that has no fault is read as that part, with its end point.
-use Rattle.std.proofs.Common.{◌≡◌, ℕ, ◌==◌, Bool, true, false, ◌||◌, List, [], ◌∷◌, ◌++◌, map, flat_map, length, Option, Some, None, refl, sym, ap, subst, ◌∙◌, codes, arith, append_assoc, append-nil, encode_utf8_all}
+use Rattle.std.proofs.Common.{◌≡◌, ℕ, ◌==◌, Bool, true, false, List, [], ◌∷◌, ◌++◌, map, flat_map, length, Option, Some, None, refl, sym, ap, subst, ◌∙◌, codes, arith, append_assoc, append-nil, encode_utf8_all}
 use Rattle.std.proofs.lemmas.Bool.Decides.{nat_tests}
 use Rattle.std.proofs.lemmas.List.Folds.{list_any-append}
 use Rattle.std.specs.List.{list_any}
 use lib.Utf8.{scalars, encode}
 use Rattle.pi_canonical.specs.Canonical.{clause_text, declaration_text, part_text}
-use Rattle.pi_canonical.specs.Texts.{parted, comma as comma_text, name_text}
-use Rattle.pi_clauses.specs.Declaration.{Opening, undeclared, importing, indexing, Opens, clause_alone}
+use Rattle.pi_clauses.specs.Declaration.{Opening, Opens, clause_alone}
 use Rattle.pi_clauses.specs.Reading.{Reading, imports_part, written, variable_names, IsDeepShape, ClauseOf, whole, behind_index, Reads, crowded, no_declaration, not_ended, an_import, without_form, too_many_levels, a_clause}
 use Rattle.pi_clauses.specs.Shape.{Shape, clause_of, HasShape}
 use Rattle.pi_clauses.specs.Stretch.{Stretch, stretch}
-use Rattle.pi_clauses.specs.Verdict.{JudgedPart, libraries, one_clause, judged, has_bad_form, has_too_many_names, decl_of, part_of}
+use Rattle.pi_clauses.specs.Verdict.{JudgedPart, libraries, one_clause, judged, has_too_many_names, decl_of, part_of}
 use Rattle.pi_syntax.specs.Crowding.{IsCrowded}
 use Rattle.pi_syntax.specs.ProgramTree.{WrittenClause}
 use Rattle.pi_syntax.specs.Terminals.{terminal}
 use Rattle.pi_syntax.specs.Tokens.{Token, Lexeme, End, item_at, is_end_point}
-use Rattle.pi_syntax.specs.declared.program.Decl.{Decl}
 use Rattle.pi_syntax.specs.declared.program.Decl.TheVariants.{Import, Index}
 use Rattle.pi_syntax.specs.declared.program.Mode.{Mode}
-use Rattle.pi_canonical.proofs.Says.{Says, says-nothing, says-then, Read, read-token, item_some, Stops, Dark}
+use Rattle.pi_canonical.proofs.Says.{Says, says-nothing, Read, read-token, item_some, Stops, Dark}
 use Rattle.pi_canonical.proofs.Fine.{AreGood}
 use Rattle.pi_canonical.proofs.Punctuation.{stop_point}
 use Rattle.pi_canonical.proofs.GoodTerminals.{terminals_good}
@@ -157,7 +155,7 @@ unfolding part_text unended_clause
 indexed_part {ts} {s} {mss} i c names =
     let starts = subst StartsClause (append-nil c.text.tokens) (c.text.starts []) in
     part_text_at (sym (append_assoc (declaration_text (Index mss)) (clause_text (clause_of s)) (codes ".\n")))
-        (ended (unended_clause i.says c.text (λ more. i.begins _)) (λ few. reads_clause (i.opens c.text.tokens starts.no_modes) behind_index c refl (i.names c.text.tokens ∙ (c.names ∙ names)) few))
+    (ended (unended_clause i.says c.text (λ more. i.begins _)) (λ few. reads_clause (i.opens c.text.tokens starts.no_modes) behind_index c refl (i.names c.text.tokens ∙ (c.names ∙ names)) few))
 
 declared_part : {all ts : List Token} {o : Opening} {modes : Option (List (List Mode))} {s : Shape} {names : List (List ℕ)} → Opens all o → ClauseOf all o modes ts → ClauseAgain ts s → variable_names ts ≡ names
     → PartText (part_with modes s) (judged_as modes s names)

@@ -1,5 +1,5 @@
 -- The canonical text of a program that was read is read as that program.
-use Rattle.std.proofs.Common.{◌≡◌, ℕ, ◌≤◌, true, List, [], ◌∷◌, ◌++◌, length, map, flat_map, refl, sym, ap, subst, ◌∙◌, append-nil, encode_utf8_all, All}
+use Rattle.std.proofs.Common.{◌≡◌, ℕ, ◌≤◌, true, List, [], ◌∷◌, ◌++◌, length, map, refl, sym, ap, subst, ◌∙◌, encode_utf8_all, All}
 use Rattle.std.proofs.lemmas.List.Concat.{flat_map-append}
 use Rattle.std.proofs.lemmas.List.Elements.{All-head, All-tail}
 use lib.Utf8.{scalars}
@@ -8,7 +8,7 @@ use Rattle.pi_canonical.specs.Reread.{HasFewInParts, ReadsAs, CanonicalIsReread}
 use Rattle.pi_clauses.specs.Reading as reading
 use Rattle.pi_clauses.specs.Reading.{Reading, ReadAll}
 use Rattle.pi_clauses.specs.Stretch.{Stretch, stretch, stretches}
-use Rattle.pi_clauses.specs.Verdict.{JudgedPart, judged, part_of, parts_of, a_program, verdict, HasVerdict}
+use Rattle.pi_clauses.specs.Verdict.{JudgedPart, judged, part_of, parts_of, a_program, verdict}
 use Rattle.pi_lex.specs.Kinds.{kinds}
 use Rattle.pi_syntax.specs.Crowding.{IsCrowded}
 use Rattle.pi_syntax.specs.ProgramTree.{ProgramTree}
@@ -16,7 +16,7 @@ use Rattle.pi_syntax.specs.Tokens.{Token, Located, End, HasTokens, most_bytes}
 use Rattle.pi_canonical.proofs.Says.{Read, Dark}
 use Rattle.pi_canonical.proofs.ExpLaw.{read_end, has_tokens}
 use Rattle.pi_canonical.proofs.GoodTokens.{good_tokens}
-use Rattle.pi_canonical.proofs.Stretches.{stretches_split, stretches_none, AreUsual, EachUsual, usual_stretches}
+use Rattle.pi_canonical.proofs.Stretches.{stretches_split, stretches_none, EachUsual, usual_stretches}
 use Rattle.pi_canonical.proofs.Verdicts.{AreSound, parts_judged}
 use Rattle.pi_canonical.proofs.PartTexts.{ReadsAgain, PartText, part_again}
 

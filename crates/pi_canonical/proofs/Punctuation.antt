@@ -1,8 +1,8 @@
 -- The tokens of brackets, of what parts things, and of the words of blocks.
-use Rattle.std.proofs.Common.{◌≡◌, ℕ, Bool, true, false, List, [], ◌∷◌, ◌++◌, length, refl, codes, ◌∙◌, ◌==◌, arith}
+use Rattle.std.proofs.Common.{◌≡◌, ℕ, false, List, [], ◌∷◌, ◌++◌, length, refl, codes, ◌∙◌, ◌==◌, arith}
 use Rattle.std.proofs.lemmas.Bool.Decides.{nat_tests}
-use lib.Utf8.{scalars, encode}
-use Rattle.pi_syntax.specs.Tokens.{Token, Item, Lexeme, item_at, sign, is_end_point, is_reserved, Sign, Word}
+use lib.Utf8.{encode}
+use Rattle.pi_syntax.specs.Tokens.{Token, Lexeme, item_at, sign, is_end_point, is_reserved, Sign, Word}
 use Rattle.pi_canonical.proofs.Says.{Says, says-token, item_some, says-blank, says-then, Any, Stops, Begins, Dark, Spaced, spaced}
 use Rattle.pi_canonical.proofs.NameTokens.{name_token}
 

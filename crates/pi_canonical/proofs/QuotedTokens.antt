@@ -1,5 +1,5 @@
 -- The tokens of quoted atoms and of texts, with the escapes that the canonical text has.
-use Rattle.std.proofs.Common.{◌≡◌, ◌≢◌, ℕ, suc, ◌+◌, ◌-◌, ◌==◌, Bool, true, false, ◌&&◌, List, [], ◌∷◌, ◌++◌, drop, take, length, Some, refl, sym, ap, subst, ◌∙◌, codes, arith, append_assoc, encode_utf8_all, flat_map, if◌then◌else◌, inl, inr, length-append, append-nil}
+use Rattle.std.proofs.Common.{◌≡◌, ◌≢◌, ℕ, ◌+◌, ◌-◌, ◌==◌, true, false, List, [], ◌∷◌, ◌++◌, take, length, Some, refl, sym, ap, subst, ◌∙◌, arith, append_assoc, encode_utf8_all, flat_map, if◌then◌else◌, inl, inr, length-append, append-nil}
 use Rattle.std.proofs.lemmas.Bool.{cases_Bool, and_parts, eqb-true}
 use Rattle.std.proofs.lemmas.Bool.Decides.{nat_tests}
 use Rattle.std.proofs.lemmas.List.{take_at}
@@ -9,7 +9,7 @@ use Rattle.pi_lex.specs.Forms.{Spells, nothing, plain, escape}
 use Rattle.pi_lex.proofs.FormsLemmas.{closing_place-spelled, unescaped-spelled}
 use Rattle.pi_syntax.specs.PrintAtom.{in_quotes}
 use Rattle.pi_canonical.specs.Texts.{in_double_quotes}
-use Rattle.pi_syntax.specs.Tokens.{Token, Item, Lexeme, if_some, item_at, Atom, Str, quoted, closing_place, unescaped, meant, between_quotes, escaped, backslash, line_feed}
+use Rattle.pi_syntax.specs.Tokens.{Token, Lexeme, item_at, Atom, Str, quoted, closing_place, unescaped, meant, escaped, backslash}
 use Rattle.pi_canonical.proofs.Says.{Says, item_some, says-token, scalars-append, Any}
 
 -- a character between quotes of this kind

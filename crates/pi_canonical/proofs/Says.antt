@@ -1,6 +1,6 @@
 -- Texts that are read as tokens, whatever stands behind them as long as it ends the last of these. They are put together from the front: what
 -- a text is and what its tokens are stand as functions of what follows.
-use Rattle.std.proofs.Common.{◌≡◌, ℕ, ◌+◌, ◌==◌, Bool, true, false, ◌||◌, List, [], ◌∷◌, ◌++◌, drop, take, length, None, if◌then◌else◌, arith, refl, sym, ap, subst, ◌∙◌, codes, append_assoc, append-nil, is_some, encode_utf8_all}
+use Rattle.std.proofs.Common.{◌≡◌, ℕ, ◌+◌, ◌==◌, Bool, true, false, List, [], ◌∷◌, ◌++◌, drop, take, length, None, if◌then◌else◌, arith, refl, sym, ap, subst, ◌∙◌, append_assoc, is_some, encode_utf8_all}
 use Rattle.std.proofs.lemmas.List.{drop_at}
 use Rattle.std.proofs.lemmas.Bool.{and_parts}
 use Rattle.std.proofs.lemmas.Bool.Decides.{nat_tests}

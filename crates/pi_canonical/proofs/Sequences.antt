@@ -1,14 +1,14 @@
 -- Expressions with a text between each two: items and arguments, branches of a disjunction, and conditions with what stands behind them.
-use Rattle.std.proofs.Common.{◌≡◌, ℕ, List, [], ◌∷◌, ◌++◌, map, refl, sym, subst, codes, append-nil}
+use Rattle.std.proofs.Common.{◌≡◌, ℕ, List, [], ◌∷◌, ◌++◌, map, refl, codes}
 use Rattle.pi_canonical.specs.CanonicalExp.{exp_text, exp_texts, choice_texts}
-use Rattle.pi_canonical.specs.Texts.{between, in_parens, each_behind, parted, comma as comma_text}
+use Rattle.pi_canonical.specs.Texts.{in_parens, each_behind, parted, comma as comma_text}
 use Rattle.pi_syntax.specs.ExpTree.{ExpTree, arrow as arrow_of, ExpTrees, no_exps, exp as exp_before, ExpBranches, no_branches, branch as branch_before, one_exp}
-use Rattle.pi_syntax.specs.Terminals.{Terminal, terminal, sign_terminal, word_terminal, open_paren as open_paren_terminal}
-use Rattle.pi_syntax.specs.Grammar.{Reads, exp, branch, conj, unit, post, no_arrow, an_arrow, Branches, last_branch, more_branches, Units, last_unit, more_units, Arguments, no_arguments, arguments, Choices, last_choice, more_choices}
+use Rattle.pi_syntax.specs.Terminals.{terminal, sign_terminal, word_terminal, open_paren as open_paren_terminal}
+use Rattle.pi_syntax.specs.Grammar.{Reads, exp, branch, conj, unit, no_arrow, an_arrow, Branches, last_branch, more_branches, Units, last_unit, more_units, Arguments, no_arguments, arguments, Choices, last_choice, more_choices}
 use Rattle.pi_syntax.specs.Tokens.{Token, Sign, Word}
 use Rattle.pi_canonical.proofs.Says.{Says, says-nothing, says-then, Any, Stops, Begins}
 use Rattle.pi_canonical.proofs.Climb.{unit_post, conj_unit, exp_unit}
-use Rattle.pi_canonical.proofs.Punctuation.{stop_blank, stop_comma, stop_close_paren, stop_open_paren, says-stops, open_paren, close_paren, comma_blank, semicolon_blank, arrow_blank, then_blank, elseif_blank}
+use Rattle.pi_canonical.proofs.Punctuation.{stop_blank, stop_comma, stop_close_paren, says-stops, open_paren, close_paren, comma_blank, semicolon_blank, arrow_blank, then_blank, elseif_blank}
 use Rattle.pi_canonical.proofs.Writes.{Writes}
 
 -- ---- what an expression is read as

@@ -1,18 +1,17 @@
 -- The two sides of a clause: a head, alone or with a value, units behind it, and what stands behind an arrow, where conjuncts stand as they are.
-use Rattle.std.proofs.Common.{◌≡◌, ℕ, Bool, true, false, not, ◌&&◌, List, [], ◌∷◌, ◌++◌, map, Option, Some, None, refl, sym, ap, subst, ◌∙◌, codes, append-nil, inl, inr, if◌then◌else◌}
-use Rattle.std.proofs.lemmas.Bool.{cases_Bool, false≢true}
+use Rattle.std.proofs.Common.{◌≡◌, ℕ, Bool, true, false, List, ◌∷◌, ◌++◌, map, Option, Some, None, refl, sym, subst, codes, if◌then◌else◌}
+use Rattle.std.proofs.lemmas.Bool.{false≢true}
 use Rattle.pi_canonical.specs.Canonical.{head_text, begins_declaration}
 use Rattle.pi_clauses.specs.Declaration.{declaration_words, declared, ModeList, mode_list, Modes, last_mode, more_modes}
 use Rattle.pi_canonical.specs.CanonicalExp.{exp_text, exp_texts, top_text}
 use Rattle.pi_canonical.specs.Texts.{each_behind, parted, in_parens as in_parens_text, comma as comma_text}
-use Rattle.pi_syntax.specs.ExpTree.{ExpTree, var, and, call, ExpTrees, no_exps, exp as exp_before, one_exp}
+use Rattle.pi_syntax.specs.ExpTree.{ExpTree, and, ExpTrees, exp as exp_before}
 use Rattle.pi_syntax.specs.Grammar.{Reads, exp, unit, post, call_two, conjunction, branches, last_branch, conjuncts, more_units, in_parens}
-use Rattle.pi_syntax.specs.Terminals.{Terminal, terminal, sign_terminal}
+use Rattle.pi_syntax.specs.Terminals.{terminal, sign_terminal}
 use Rattle.pi_syntax.specs.Tokens.{Token, Sign, Atom, is_one_of}
 use Rattle.pi_syntax.specs.declared.program.Mode.{Mode}
 use Rattle.pi_canonical.proofs.Says.{Says, says-at, says-nothing, says-then, Stops, Begins, spaced}
 use Rattle.pi_canonical.proofs.Climb.{post_prim, unit_post, exp_unit}
-use Rattle.pi_canonical.proofs.SignForms.{TwoPlace}
 use Rattle.pi_canonical.proofs.SignTexts.{two_place}
 use Rattle.pi_canonical.proofs.Punctuation.{stop_blank, stop_comma, blank, comma_blank}
 use Rattle.pi_canonical.proofs.Writes.{Writes, name_of}

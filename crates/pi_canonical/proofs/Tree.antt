@@ -1,6 +1,6 @@
 -- Trees as they are read: two conjuncts and branches at least, an arrow in a disjunction alone and not last, one place an index, which stands behind
 -- what takes one, an item before a bar, and names that a text can have.
-use Rattle.std.proofs.Common.{◌≡◌, ℕ, ◌^◌, ◌<◌, Bool, true, false, ℤ, pos, ◌-ℤ◌, List, [], ◌∷◌, IsUtf8, refl}
+use Rattle.std.proofs.Common.{◌≡◌, ℕ, ◌^◌, ◌<◌, true, false, ℤ, pos, ◌-ℤ◌, List, IsUtf8, refl}
 use Rattle.pi_canonical.specs.Signs.{is_two_place, is_prefix_word, is_prefix_sign, is_sign}
 use Rattle.pi_syntax.specs.ExpTree.{ExpTree, var, int, atom, str, list, list_onto, array, call, quote, index, range, range_by, at, collect, and, or, arrow, if_then, if_else, foreach, while_do, do_while, ExpTrees, no_exps, exp, ExpBranches, no_branches, branch, one_exp}
 use Rattle.pi_syntax.specs.Grammar.{call_one, call_two, conjunction, disjunction, indexed}

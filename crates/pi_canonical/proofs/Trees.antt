@@ -1,11 +1,11 @@
 -- What terminals are read as is such a tree, where no index stands behind `@`.
-use Rattle.std.proofs.Common.{◌≡◌, ℕ, zero, suc, ◌==◌, Bool, true, false, not, ◌||◌, ℤ, pos, ◌-ℤ◌, ◌^◌, ◌<◌, List, [], ◌∷◌, length, map, Option, Some, None, refl, ap, subst, codes, inl, inr, if◌then◌else◌}
-use Rattle.std.proofs.lemmas.Bool.{cases_Bool, false≢true}
-use Rattle.pi_canonical.specs.Signs.{is_two_place, is_prefix_word, is_prefix_sign}
-use Rattle.pi_syntax.specs.ExpTree.{ExpTree, int, ExpTrees, no_exps, exp as exp_before, ExpBranches, one_exp}
+use Rattle.std.proofs.Common.{◌≡◌, ℕ, ◌==◌, Bool, true, false, ℤ, pos, ◌-ℤ◌, List, [], ◌∷◌, length, Option, Some, None, refl, ap, subst, codes, if◌then◌else◌}
+use Rattle.std.proofs.lemmas.Bool.{false≢true}
+use Rattle.pi_canonical.specs.Signs.{is_two_place, is_prefix_sign}
+use Rattle.pi_syntax.specs.ExpTree.{ExpTree, ExpTrees, exp as exp_before, ExpBranches, one_exp}
 use Rattle.pi_syntax.specs.Signature.{exp_count}
 use Rattle.pi_syntax.specs.Terminals.{Line, equivalence, implication, constraint_or, constraint_xor, constraint_and, bit_or, bit_xor, bit_and, shift, sum, product, Terminal, integer, open_paren, open_bracket}
-use Rattle.pi_syntax.specs.Grammar.{Phrase, exp, branch, line, prim, operand, Joins, a_joint, a_plus, a_minus, call_one, call_two, negated, integer_alone, indexed, takes_index, Reads, branches, no_arrow, an_arrow, conjuncts, signed_goal, plain_unit, joined, negative, positive, unrelated, related, no_range, a_range, a_stepped_range, with_plus, with_minus, with_complement, unsigned, no_power, a_power, postfixes, a_variable, a_pattern, an_integer, an_atom, a_call, a_text, no_list, a_list, a_list_onto, a_list_of, no_array, an_array, an_array_of, in_parens, a_structure, a_term, an_if, an_if_else, a_foreach, a_while, a_do_while, Branches, last_branch, more_branches, Units, last_unit, more_units, Joined, no_more, join, Postfixes, no_postfix, an_index, a_dot, a_dot_call, Arguments, no_arguments, arguments, Choices, last_choice, more_choices}
+use Rattle.pi_syntax.specs.Grammar.{Phrase, branch, prim, operand, Joins, a_joint, a_plus, a_minus, negated, integer_alone, takes_index, Reads, branches, no_arrow, an_arrow, conjuncts, signed_goal, plain_unit, joined, negative, positive, unrelated, related, no_range, a_range, a_stepped_range, with_plus, with_minus, with_complement, unsigned, no_power, a_power, postfixes, a_variable, a_pattern, an_integer, an_atom, a_call, a_text, no_list, a_list, a_list_onto, a_list_of, no_array, an_array, an_array_of, in_parens, a_structure, a_term, an_if, an_if_else, a_foreach, a_while, a_do_while, Branches, last_branch, more_branches, Units, last_unit, more_units, Joined, no_more, join, Postfixes, no_postfix, an_index, a_dot, a_dot_call, Arguments, no_arguments, arguments, Choices, last_choice, more_choices}
 use Rattle.pi_canonical.proofs.Writes.{takes_places}
 use Rattle.pi_canonical.proofs.Tree.{Tree, TreeItems, Trees, TreeBranch, TreeBranches, TreeChoices, tree_conjunction, tree_disjunction, tree_indexed, takes_indexed, one_before}
 use Rattle.pi_canonical.proofs.Tree as t

@@ -2,7 +2,7 @@
 use Rattle.std.proofs.Common.{◌≡◌, ℕ, ◌+◌, Bool, true, false, ◌||◌, List, [], ◌∷◌, ◌++◌, length, Option, Some, None, refl, if◌then◌else◌}
 use Rattle.pi_clauses.specs.Calls.{Named}
 use Rattle.pi_clauses.specs.Items.{is_fact}
-use Rattle.pi_clauses.specs.Verdict.{PartFault, JudgedClause, JudgedPart, refused, libraries, one_clause, all_defined, all_indexed, declares_badly, names_badly, is_kind_of_other, is_indexed, is_bad_clause, BadDeclaration, BadClause, TooManyVariables, part_fault, Faulty, faulty_or, first_faulty, Unknown, first_apart, first_unknown_in, parts_of, Verdict, a_program, verdict_by, verdict}
+use Rattle.pi_clauses.specs.Verdict.{PartFault, JudgedPart, refused, libraries, one_clause, all_defined, all_indexed, declares_badly, names_badly, is_kind_of_other, is_indexed, is_bad_clause, BadDeclaration, BadClause, TooManyVariables, part_fault, Faulty, faulty_or, first_faulty, Unknown, first_apart, first_unknown_in, parts_of, a_program, verdict_by, verdict}
 use Rattle.pi_syntax.specs.ProgramTree.{ProgramTree}
 use Rattle.pi_canonical.proofs.Calls.{neither}
 

@@ -1,8 +1,8 @@
 -- What the canonical text of an expression is: its characters, its tokens, and how they are read.
-use Rattle.std.proofs.Common.{◌≡◌, ℕ, Bool, true, false, not, ◌&&◌, List, [], ◌∷◌, ◌++◌, map, Option, Some, None, refl, codes, if◌then◌else◌}
+use Rattle.std.proofs.Common.{◌≡◌, ℕ, Bool, true, false, not, List, ◌∷◌, map, Option, Some, None, codes, if◌then◌else◌}
 use Rattle.pi_canonical.specs.CanonicalExp.{exp_text, is_structure}
 use Rattle.pi_canonical.specs.Signs.{is_sign}
-use Rattle.pi_syntax.specs.ExpTree.{ExpTree, var, int, atom, str, list, list_onto, array, call, quote, index, range, range_by, at, collect, and, or, arrow, if_then, if_else, foreach, while_do, do_while}
+use Rattle.pi_syntax.specs.ExpTree.{ExpTree, var, atom, call, quote, index}
 use Rattle.pi_syntax.specs.Signature.{exp_count}
 use Rattle.pi_syntax.specs.Terminals.{Terminal, terminal, dollar}
 use Rattle.pi_syntax.specs.Grammar.{Reads, Postfixes, post, prim}

@@ -1,5 +1,5 @@
 -- Each tree as it is read has its canonical text, which is read as that tree.
-use Rattle.std.proofs.Common.{◌≡◌, ℕ, zero, suc, ◌^◌, ◌<◌, ℤ, pos, ◌-ℤ◌, refl, sym, subst}
+use Rattle.std.proofs.Common.{ℕ, zero, suc, ◌^◌, ◌<◌, ℤ, pos, ◌-ℤ◌, sym, subst}
 use Rattle.pi_syntax.specs.ExpTree.{ExpTree, int, ExpTrees, ExpBranches}
 use Rattle.pi_canonical.proofs.Writes.{Writes}
 use Rattle.pi_canonical.proofs.Sequences.{Items, last_item, more_items, Each, none, some, sequence, disjuncts, WritesBranch, plain_branch, arrow_branch, Alternatives, last_alternative, more_alternatives, Conditions, last_condition, more_conditions}
