@@ -43,9 +43,9 @@ no-query-served seen order manner program core present runs writes none hands = 
   keeps = refl;
 }
 
-pub no-query-cut : {S M : Type 0} (seen : S → StoreView M) (order : M → ℕ) (manner : Manner) (program : ProgramTree) (core : List PredTree) (present : Present) (runs : List QueryRun) (writes : List SinkWrite) →
-    Keeps {S = S} seen order manner program core None present runs → Fails no_query_line writes → CutServing manner program [] present another runs runs 8 writes
-no-query-cut seen order manner program core present runs writes none fails =
+pub no-query-cut : (manner : Manner) (program : ProgramTree) (present : Present) (runs : List QueryRun) (writes : List SinkWrite) → present ≡ no_query → Fails no_query_line writes →
+    CutServing manner program [] present another runs runs 8 writes
+no-query-cut manner program present runs writes none fails =
     subst (λ p. CutServing manner program [] p another runs runs 8 writes) (sym none) (line-cut manner program no_query another no_query_line runs writes ServesLine.has_no_query fails)
 
 -- and there is one

@@ -51,15 +51,14 @@ pub fn answer<'p, S: StateStore, O: Sink>(
     } = present;
     let next = write_next(alloc, &mut machine, &mut budget, given, manner, out);
     queries.set_last(run_of(&budget));
-    match next {
-        Ok(Some(given)) => Ok(Some(Present {
-            machine,
-            budget,
-            given,
-        })),
-        Ok(None) => Ok(None),
-        Err(stop) => Err(stop),
-    }
+    let Some(given) = next? else {
+        return Ok(None);
+    };
+    Ok(Some(Present {
+        machine,
+        budget,
+        given,
+    }))
 }
 
 /// Writes the next answer of a machine or the line of its end, where so many answers were written before. Where it may be asked for more,

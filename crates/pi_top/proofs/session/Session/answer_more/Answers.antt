@@ -26,7 +26,7 @@ returns-in_err-write_text-in-None-clause-comes g c =
     let p = err_from_is_err_and c.from_residual.result c.from_residual.ensures.1 in
     let write : p.0 ≡ Write = p.2 in
     rw (p.1, write) (ByWrites-so c.in_err-write_text-in-None.ensures.hands (λ writes fails. λ query keeps.
-    no-query-cut _ _ session.manner (source_tree session.program.now) (program_tree session.core.now) query c.args.queries.now writes (rw c.in-None.is at keeps) fails))
+    no-query-cut session.manner (source_tree session.program.now) query c.args.queries.now writes (rw c.in-None.is at keeps) fails))
 
 pub returns-in_ok-write_text-in-None-clause-comes : goal.returns-in_ok-write_text-in-None-clause-comes
 returns-in_ok-write_text-in-None-clause-comes g c =

@@ -50,8 +50,8 @@ returns-in_err-present-in-Asks-clause-comes g c =
     let same : p.0 ≡ c.in_err-present-in-Asks.field-0.0 = p.2 in
     rw (p.1, same, begun.memory, begun.unlisted) (ByWrites-none g.O.Sink.wrote g.O.Sink.taken c.args.out.now _ (λ query may some. CutServing.undone query (a_goal c.args.text.now) c.args.queries.now))
 
-pub returns-in-Asks-clause-comes : goal.returns-in-Asks-clause-comes
-returns-in-Asks-clause-comes g c =
+pub returns-in_ok-present-in-Asks-clause-comes : goal.returns-in_ok-present-in-Asks-clause-comes
+returns-in_ok-present-in-Asks-clause-comes g c =
     let session = c.args.self.now in
     let program = source_tree session.program.now in
     let core = program_tree session.core.now in
@@ -66,11 +66,11 @@ returns-in-Asks-clause-comes g c =
 pub returns-in_err-present-in-Asks-clause-ran : goal.returns-in_err-present-in-Asks-clause-ran
 returns-in_err-present-in-Asks-clause-ran g c = λ all. rw c.in_err-present-in-Asks.ensures.unlisted all
 
-pub returns-in-Asks-clause-ran : goal.returns-in-Asks-clause-ran
-returns-in-Asks-clause-ran g c =
+pub returns-in_ok-present-in-Asks-clause-ran : goal.returns-in_ok-present-in-Asks-clause-ran
+returns-in_ok-present-in-Asks-clause-ran g c =
     let steps = c.args.self.now.manner.steps in
     let begun = c.in_ok-present-in-Asks.ensures in
     λ all. c.answer.ensures.ran begun.bounded (rw begun.listed (AllWithin-push steps c.args.queries.now (run_of 0) (omega arith) all))
 
-pub returns-in-Asks-clause-bounded : goal.returns-in-Asks-clause-bounded
-returns-in-Asks-clause-bounded g c = c.answer.ensures.bounded c.in_ok-present-in-Asks.ensures.bounded
+pub returns-in_ok-present-in-Asks-clause-bounded : goal.returns-in_ok-present-in-Asks-clause-bounded
+returns-in_ok-present-in-Asks-clause-bounded g c = c.answer.ensures.bounded c.in_ok-present-in-Asks.ensures.bounded

@@ -41,7 +41,7 @@ loop-turn-preserved g c =
     let l = c.loop-turn in
     let session = c.args.self.now in
     let found = c.in-Ok-Line.ensures in
-    let served = c.in_ok-serve-in-Ok-Line.ensures in
+    let served = c.in_ok-present-in-Ok-Line.ensures in
     record {
       no_write_fails = served.writes.no_fault ∙ l.invariant.no_write_fails;
       no_read_fails = found.no_fault ∙ l.invariant.no_read_fails;
@@ -49,18 +49,18 @@ loop-turn-preserved g c =
       ran = λ all. served.ran l.invariant.bounded (l.invariant.ran all);
       so_far = ByInput-then l.invariant.so_far (rw c.in-Ok-Line.field-0-is at found.found) (λ first second so of. ByWrites-then so served.comes (λ before its s serves. λ may some none.
           let is = s may some none in
-          served-more raw.seen-value.it raw.order-value.it session.manner (source_tree session.program.now) (program_tree session.core.now) c.args.most l.present c.in_ok-serve-in-Ok-Line.field-0 l.reader c.next.new.self l.queries c.serve.new.queries
+          served-more raw.seen-value.it raw.order-value.it session.manner (source_tree session.program.now) (program_tree session.core.now) c.args.most l.present c.in_ok-present-in-Ok-Line.present l.reader c.next.new.self l.queries c.serve.new.queries
           first second before its c.in-Ok-Line.line.items is of (rw c.as_slice.ensures.value at (serves is.present may some is.keeps))));
     }
 
-pub returns-in_err-serve-in-Ok-Line-clause-comes : goal.returns-in_err-serve-in-Ok-Line-clause-comes
-returns-in_err-serve-in-Ok-Line-clause-comes g c =
+pub returns-in_err-present-in-Ok-Line-clause-comes : goal.returns-in_err-present-in-Ok-Line-clause-comes
+returns-in_err-present-in-Ok-Line-clause-comes g c =
     let l = c.loop-turn in
     let session = c.args.self.now in
     let found = c.in-Ok-Line.ensures in
-    let served = c.in_err-serve-in-Ok-Line.ensures in
-    let stop = c.in_err-serve-in-Ok-Line.field-0.0 in
-    let p = err_from_is_err_and c.from_residual-in_err-serve-in-Ok-Line.result c.from_residual-in_err-serve-in-Ok-Line.ensures.1 in
+    let served = c.in_err-present-in-Ok-Line.ensures in
+    let stop = c.in_err-present-in-Ok-Line.field-0.0 in
+    let p = err_from_is_err_and c.from_residual-in_err-present-in-Ok-Line.result c.from_residual-in_err-present-in-Ok-Line.ensures.1 in
     let same : p.0 ≡ stop = p.2 in
     rw (p.1, same)
     (ByInput-then l.invariant.so_far (rw c.in-Ok-Line.field-0-is at found.found) (λ first second so of. ByWrites-then so served.comes (λ before its s serves. λ may some none.
