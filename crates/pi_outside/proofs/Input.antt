@@ -10,7 +10,7 @@ use Rattle.pi_outside.proofs.InputRuns.{given_in-append}
 use Rattle.pi_outside.specs.Lines.{line_feed, Split, in_front, first_line, joined, lines_of}
 use Rattle.pi_outside.specs.Ahead.{Ahead, with_piece, at_start}
 use Rattle.pi_outside.specs.Finding.{read_of, ReadsOn, nothing, piece, FindsLine}
-use Rattle.pi_outside.specs.Order.{FoundSoFar, at_first, one_more, EndsWithItsLines, PassesWithFirstLines}
+use Rattle.pi_outside.specs.Order.{FoundSoFar, at_first, one_more, EndsWithItsLines, PassesWithFirstLines, FailsWithLinesSoFar}
 
 -- ---- one line
 
@@ -173,13 +173,16 @@ stands-so-far most lines reads ahead (one_more earlier line before its at after 
 
 -- ---- the laws
 
+stands-behind : (most : ℕ) (lines : List (List ℕ)) (reads earlier : List SourceRead) (ahead at : Ahead) → FoundSoFar most lines reads ahead → ReadsOn ahead at earlier → Stands most (given_in (reads ++ earlier)) lines at
+stands-behind most lines reads earlier ahead at so_far on =
+    subst (λ (t : List ℕ). Stands most t lines at) (sym (given_in-append reads earlier))
+    (stands-on most (given_in reads) lines ahead at earlier on (stands-so-far most lines reads ahead so_far))
+
 pub ends-with-its-lines : EndsWithItsLines
 ends-with-its-lines most lines last reads its ahead so_far ends =
     let at : Ahead = ends.at in
     let whole : List ℕ = given_in (reads ++ ends.earlier) in
-    let here : Stands most whole lines at =
-    subst (λ (t : List ℕ). Stands most t lines at) (sym (given_in-append reads ends.earlier))
-    (stands-on most (given_in reads) lines ahead at ends.earlier ends.on (stands-so-far most lines reads ahead so_far)) in
+    let here : Stands most whole lines at = stands-behind most lines reads ends.earlier ahead at so_far ends.on in
     let within : length whole ≤ most = within-of most (length whole) at.is_over ends.wants.may_read here.over in
     let same : given_in (reads ++ its) ≡ whole =
     given_in-append reads its ∙ ap (λ (l : List SourceRead). given_in reads ++ given_in l) ends.all ∙ ap (λ l. given_in reads ++ l) (given-one ends.earlier [] ends.room ∙ append-nil (given_in ends.earlier))
@@ -193,12 +196,27 @@ ends-with-its-lines most lines last reads its ahead so_far ends =
 pub passes-with-first-lines : PassesWithFirstLines
 passes-with-first-lines most lines reads its ahead so_far passes =
     let at : Ahead = passes.at in
-    let here : Stands most (given_in (reads ++ its)) lines at =
-    subst (λ (t : List ℕ). Stands most t lines at) (sym (given_in-append reads its))
-    (stands-on most (given_in reads) lines ahead at its passes.on (stands-so-far most lines reads ahead so_far)) in
+    let here : Stands most (given_in (reads ++ its)) lines at = stands-behind most lines reads its ahead at so_far passes.on in
     let long : nat_lt most (length (given_in (reads ++ its))) ≡ true = sym here.over ∙ passes.over in
     record {
       more = grind (arith, nat_tests);
       rest = at.bytes;
       are = ap lines_of here.split ∙ lines_of-unlined lines at.bytes here.without ∙ ap (λ l. lines ++ l) (lines_of-whole at.bytes passes.no_line);
     }
+
+pub fails-with-lines-so-far : FailsWithLinesSoFar
+fails-with-lines-so-far most lines reads its ahead so_far fails =
+    let at : Ahead = fails.at in
+    let whole : List ℕ = given_in (reads ++ fails.earlier) in
+    let here : Stands most whole lines at = stands-behind most lines reads fails.earlier ahead at so_far fails.on in
+    let within : length whole ≤ most = within-of most (length whole) at.is_over fails.wants.may_read here.over in
+    let none : given_in (fails.earlier ++ read_of fails.room None ∷ []) ≡ given_in fails.earlier =
+    given_in-append fails.earlier (read_of fails.room None ∷ []) ∙ append-nil (given_in fails.earlier) in
+    let same : given_in (reads ++ its) ≡ whole =
+    given_in-append reads its ∙ ap (λ (l : List SourceRead). given_in reads ++ given_in l) fails.all ∙ ap (λ l. given_in reads ++ l) none ∙ sym (given_in-append reads fails.earlier) in
+    let split : whole ≡ unlined lines ++ at.bytes = sym (take_all most whole within) ∙ here.split in
+    rw same (record {
+      within = within;
+      rest = at.bytes;
+      are = ap lines_of split ∙ lines_of-unlined lines at.bytes here.without ∙ ap (λ l. lines ++ l) (lines_of-whole at.bytes fails.wants.no_line);
+    })

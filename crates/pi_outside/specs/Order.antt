@@ -3,7 +3,7 @@ use Rattle.std.specs.Prelude.{◌≡◌, ◌<◌, ◌≤◌, ℕ, List, [], ◌�
 use Rattle.pi_outside.specs.Inputs.{SourceRead, given_in}
 use Rattle.pi_outside.specs.Lines.{lines_of}
 use Rattle.pi_outside.specs.Ahead.{Ahead, at_start}
-use Rattle.pi_outside.specs.Finding.{FindsLine, MeetsEnd, PassesLimit}
+use Rattle.pi_outside.specs.Finding.{FindsLine, MeetsEnd, PassesLimit, FailsReading}
 
 -- these lines were found by these reads, in an input of which so many bytes may be read, and then the reader stands here
 pub data FoundSoFar (most : ℕ) : List (List ℕ) → List SourceRead → Ahead → Type 0 where
@@ -29,3 +29,13 @@ pub record AreFirstLines (most : ℕ) (text : List ℕ) (lines : List (List ℕ)
 abbrev pub PassesWithFirstLines : Type 0
 PassesWithFirstLines = (most : ℕ) (lines : List (List ℕ)) (reads its : List SourceRead) (ahead : Ahead) → FoundSoFar most lines reads ahead → PassesLimit ahead its →
     AreFirstLines most (given_in (reads ++ its)) lines
+
+-- where a read fails they are the lines whose line feeds were given before it
+pub record AreLinesSoFar (most : ℕ) (text : List ℕ) (lines : List (List ℕ)) : Type 0 where
+  pub within : length text ≤ most
+  pub rest : List ℕ
+  pub are : lines_of text ≡ lines ++ rest ∷ []
+
+abbrev pub FailsWithLinesSoFar : Type 0
+FailsWithLinesSoFar = (most : ℕ) (lines : List (List ℕ)) (reads its : List SourceRead) (ahead : Ahead) → FoundSoFar most lines reads ahead → FailsReading ahead its →
+    AreLinesSoFar most (given_in (reads ++ its)) lines

@@ -8,7 +8,7 @@ use Rattle.pi_words.specs.declared.run_mode.RunMode.{RunMode}
 use Rattle.pi_words.specs.declared.run_mode.RunMode.TheVariants.{Query, Run, Session, Print, Demo}
 use Rattle.pi_words.specs.declared.asked.Options.{Options}
 use Rattle.pi_top.specs.Completeness.{NothingFails, IsText, IsComplete, IsPrinted, CompletesIn, Completes}
-use Rattle.pi_top.specs.Ends.{Ends, all_written, write_failed, memory_wanted, reads_file}
+use Rattle.pi_top.specs.Ends.{Ends, all_written, write_failed, memory_wanted}
 use Rattle.pi_top.specs.Faults.{FaultCount, Rises}
 use Rattle.pi_top.specs.Handing.{HandsAll}
 use Rattle.pi_top.specs.Manner.{manner_of, goal_of}
@@ -16,6 +16,7 @@ use Rattle.pi_top.specs.Statuses.{ComesText, refused, ran, ComesPrinted, faulty,
 use Rattle.pi_top.specs.Texts.{IsRead}
 use Rattle.pi_outside.specs.Reads.{FileRead}
 use Rattle.pi_outside.specs.Writes.{SinkWrite}
+use Rattle.pi_top.proofs.Endings.{asks_of_file}
 
 text-complete : (asked : Options) (held : Option Holding) (text : List ℕ) (queries : List QueryRun) (log : List LogEntry) (status : ℕ) (texts : List (List ℕ)) (writes : List SinkWrite) → status ≢ 3 →
     IsText asked.mode asked held text → HandsAll texts writes → ComesText (manner_of asked) text (goal_of asked) queries log status texts → IsComplete asked held queries log status writes
@@ -42,7 +43,7 @@ printed-complete asked held text queries status texts writes sound is_text hande
 
 -- what a mode with a file makes of a text
 of-complete : (mode : RunMode) (asked : Options) (held : Option Holding) (text : List ℕ) (queries : List QueryRun) (log : List LogEntry) (status : ℕ) (texts : List (List ℕ)) (writes : List SinkWrite) → asked.mode ≡ mode →
-    status ≢ 3 → reads_file mode ≡ true → IsRead held asked.file text → HandsAll texts writes → ComesOf mode asked text queries log status texts → CompletesIn mode asked held queries log status writes
+    status ≢ 3 → asks_of_file mode ≡ true → IsRead held asked.file text → HandsAll texts writes → ComesOf mode asked text queries log status texts → CompletesIn mode asked held queries log status writes
 of-complete Query asked held text queries log status texts writes is sound reads_one read handed comes = text-complete asked held text queries log status texts writes sound (rw is read) handed comes
 of-complete Run asked held text queries log status texts writes is sound reads_one read handed comes = text-complete asked held text queries log status texts writes sound (rw is read) handed comes
 of-complete Print asked held text queries log status texts writes is sound reads_one read handed comes = printed-complete asked held text queries status texts writes sound read handed comes
@@ -50,7 +51,7 @@ of-complete Session asked held text queries log status texts writes is sound rea
 of-complete Demo asked held text queries log status texts writes is sound reads_one read handed comes = absurd cc
 
 file-complete : (mode : RunMode) (asked : Options) (held : Option Holding) (files : FaultCount) (reads : List FileRead) (queries : List QueryRun) (log : List LogEntry) (status : ℕ) (texts : List (List ℕ)) (writes : List SinkWrite) → asked.mode ≡ mode → status ≢ 3 →
-    (Rises files → ⊥) → reads_file mode ≡ true → HandsAll texts writes → ComesFile asked held files reads queries log status texts → CompletesIn mode asked held queries log status writes
+    (Rises files → ⊥) → asks_of_file mode ≡ true → HandsAll texts writes → ComesFile asked held files reads queries log status texts → CompletesIn mode asked held queries log status writes
 file-complete mode asked held files reads queries log status texts writes is sound whole reads_one handed (read_fault rose fails line) = absurd (whole rose)
 file-complete mode asked held files reads queries log status texts writes is sound whole reads_one handed (was_read stands text all_read is_read comes) =
     of-complete mode asked held text queries log status texts writes is sound reads_one is_read handed (subst (λ m. ComesOf m asked text queries log status texts) is comes)
@@ -62,7 +63,7 @@ in-complete Query asked held files reads queries log status texts writes is soun
     file-complete Query asked held files reads queries log status texts writes is sound whole refl handed comes
 in-complete Run asked held files reads queries log status texts writes is sound whole handed comes =
     file-complete Run asked held files reads queries log status texts writes is sound whole refl handed comes
-in-complete Session asked held files reads queries log status texts writes is sound whole handed line = absurd (sound line.is.is_its)
+in-complete Session asked held files reads queries log status texts writes is sound whole handed comes = absurd comes
 in-complete Print asked held files reads queries log status texts writes is sound whole handed comes =
     file-complete Print asked held files reads queries log status texts writes is sound whole refl handed comes
 in-complete Demo asked held files reads queries log status texts writes is sound whole handed comes =

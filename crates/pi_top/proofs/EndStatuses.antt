@@ -116,7 +116,7 @@ in-reads : (mode : RunMode) (asked : Options) (held : Option Holding) (files : F
     ComesIn mode asked held files reads queries log status texts → ReadsTell files status
 in-reads Query asked held files reads queries log status texts comes = file-reads asked held files reads queries log status texts comes
 in-reads Run asked held files reads queries log status texts comes = file-reads asked held files reads queries log status texts comes
-in-reads Session asked held files reads queries log status texts line = line-reads whole.mode_line 3 files reads queries status texts (omega arith) line
+in-reads Session asked held files reads queries log status texts comes = absurd comes
 in-reads Print asked held files reads queries log status texts comes = file-reads asked held files reads queries log status texts comes
 in-reads Demo asked held files reads queries log status texts comes = made-reads asked files reads queries log status texts comes
 
@@ -145,7 +145,7 @@ cut-in-reads : (mode : RunMode) (asked : Options) (held : Option Holding) (files
     CutIn mode asked held files reads queries log status writes → Stands files
 cut-in-reads Query asked held files reads queries log status writes other is = cut-reads asked held files reads queries log status writes other is
 cut-in-reads Run asked held files reads queries log status writes other is = cut-reads asked held files reads queries log status writes other is
-cut-in-reads Session asked held files reads queries log status writes other is = cut-line-reads whole.mode_line files reads queries status writes is
+cut-in-reads Session asked held files reads queries log status writes other is = absurd is
 cut-in-reads Print asked held files reads queries log status writes other is = cut-reads asked held files reads queries log status writes other is
 cut-in-reads Demo asked held files reads queries log status writes other is = cut-made-reads asked files reads queries log status writes is
 

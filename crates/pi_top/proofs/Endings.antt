@@ -1,5 +1,5 @@
 -- How a run ends, from what its parts wrote and answered.
-use Rattle.std.proofs.Common.{◌≡◌, ℕ, true, false, List, [], ◌∷◌, Option, None, Some, Result, Ok, Err, IfOk, IfErr, refl, sym, ap, subst, ◌∙◌, true≢false}
+use Rattle.std.proofs.Common.{◌≡◌, ℕ, true, false, List, [], ◌∷◌, Option, None, Some, Result, Ok, Err, IfOk, IfErr, refl, sym, ap, subst, ◌∙◌, true≢false, Bool}
 use Rattle.pi_outside.specs.Held.{Holding}
 use Rattle.pi_outside.specs.Reads.{FileRead}
 use Rattle.pi_outside.specs.Writes.{SinkWrite}
@@ -17,7 +17,7 @@ use Rattle.pi_words.specs.declared.asked.Options.{Options}
 use Rattle.pi_top.specs.Stops.{status_of_stop}
 use Rattle.pi_top.specs.CutOff.{CutText, CutPrinted, CutFile, CutMade, CutLine, CutIn, CutBy, running, front_of}
 use Rattle.pi_top.specs.CutOff as cut
-use Rattle.pi_top.specs.Ends.{reads_file, ReadsNoFile, AnswersText, AnswersPrinted, AnswersOf, AnswersFile, AnswersMade, AnswersBy}
+use Rattle.pi_top.specs.Ends.{is_session, AsksNoSession, reads_file, ReadsNoFile, AnswersText, AnswersPrinted, AnswersOf, AnswersFile, AnswersMade, AnswersBy}
 use Rattle.pi_top.specs.Faults.{FaultCount, Stands, Rises}
 use Rattle.pi_top.specs.Handing.{HandsAll, Written}
 use Rattle.pi_top.specs.Headline.{Headline}
@@ -32,7 +32,7 @@ use Rattle.pi_top.specs.Running.{HasRun, not_asked, was_asked}
 use Rattle.pi_top.specs.Runs.{HasRan, run_of}
 use Rattle.pi_top.specs.Statuses as whole
 use Rattle.pi_top.specs.SoleLine.{read_fault_line}
-use Rattle.pi_top.specs.Statuses.{ComesIn, IsUnread, ran, usage_line, mode_line}
+use Rattle.pi_top.specs.Statuses.{ComesIn, IsUnread, ran, usage_line}
 use Rattle.pi_top.specs.Texts.{IsRead}
 use Rattle.pi_words.specs.Words.{options, places_of}
 use Rattle.pi_top.specs.Writing.{Writes}
@@ -160,8 +160,15 @@ made-text asked files places text queries (Err stop) writes stands number made e
 
 -- ---- by the words
 
+-- a goal is asked of the program in a file, or that is printed
+abbrev pub asks_of_file : RunMode → Bool
+asks_of_file Query = true
+asks_of_file Run = true
+asks_of_file Print = true
+asks_of_file other = false
+
 file-in : (mode : RunMode) (asked : Options) (held : Option Holding) (files : FaultCount) (queries : List QueryRun) (r : Result ℕ Stop) (reads : List FileRead) (writes : List SinkWrite) →
-    asked.mode ≡ mode → reads_file mode ≡ true → AnswersFile asked held files queries [] r reads writes → AnswersBy (Some asked) held files queries [] r reads writes
+    asked.mode ≡ mode → asks_of_file mode ≡ true → AnswersFile asked held files queries [] r reads writes → AnswersBy (Some asked) held files queries [] r reads writes
 file-in Query asked held files queries (Ok status) reads writes is reads_one ends = subst (λ m. Written (λ texts. ComesIn m asked held files reads queries [] status texts) writes) (sym is) ends
 file-in Query asked held files queries (Err stop) reads writes is reads_one ends = subst (λ m. CutIn m asked held files reads queries [] (status_of_stop stop) writes) (sym is) ends
 file-in Run asked held files queries (Ok status) reads writes is reads_one ends = subst (λ m. Written (λ texts. ComesIn m asked held files reads queries [] status texts) writes) (sym is) ends
@@ -172,7 +179,7 @@ file-in Print asked held files queries (Err stop) reads writes is reads_one ends
 file-in Demo asked held files queries r reads writes is reads_one ends = absurd cc
 
 pub by-file : (words : List (List ℕ)) (asked : Options) (held : Option Holding) (files : FaultCount) (queries : List QueryRun) (r : Result ℕ Stop) (reads : List FileRead) (writes : List SinkWrite) →
-    options words ≡ Some asked → (mode : RunMode) → asked.mode ≡ mode → reads_file mode ≡ true → AnswersFile asked held files queries [] r reads writes →
+    options words ≡ Some asked → (mode : RunMode) → asked.mode ≡ mode → asks_of_file mode ≡ true → AnswersFile asked held files queries [] r reads writes →
     AnswersBy (options words) held files queries [] r reads writes
 by-file words asked held files queries r reads writes is mode in_mode reads_one ends =
     subst (λ o. AnswersBy o held files queries [] r reads writes) (sym is) (file-in mode asked held files queries r reads writes in_mode reads_one ends)
@@ -199,27 +206,6 @@ line-unread : (line : List ℕ) (its status : ℕ) (files : FaultCount) (queries
 line-unread line its status files queries writes stands none is handed =
     widens writes (λ texts comes. record { unread = no-read files stands; is = comes }) (line-all line its status queries writes none is handed)
 
--- the mode isn't built
-abbrev pub IsUnbuilt : RunMode → Type 0
-IsUnbuilt Session = Unit {0}
-IsUnbuilt other = ⊥
-
-line-in : (mode : RunMode) (asked : Options) (held : Option Holding) (files : FaultCount) (queries : List QueryRun) (r : Result ℕ Stop) (writes : List SinkWrite) →
-    asked.mode ≡ mode → IsUnbuilt mode → Stands files → queries ≡ [] → IfOk r (λ given. given ≡ 3) → IfErr r (λ stop. stop ≡ Write) → Writes (mode_line ∷ []) r writes →
-    AnswersBy (Some asked) held files queries [] r [] writes
-line-in Query asked held files queries r writes is unbuilt stands none three stops written = absurd unbuilt
-line-in Run asked held files queries r writes is unbuilt stands none three stops written = absurd unbuilt
-line-in Demo asked held files queries r writes is unbuilt stands none three stops written = absurd unbuilt
-line-in Print asked held files queries r writes is unbuilt stands none three stops written = absurd unbuilt
-line-in Session asked held files queries (Ok status) writes is unbuilt stands none three stops written = rw is (line-unread mode_line 3 status files queries writes stands none three written.all)
-line-in Session asked held files queries (Err stop) writes is unbuilt stands none three stops written = rw is (front_of (no-read files stands) (line-front mode_line stop queries writes none stops written.cut))
-
-pub by-mode : (words : List (List ℕ)) (asked : Options) (mode : RunMode) (held : Option Holding) (files : FaultCount) (queries : List QueryRun) (r : Result ℕ Stop) (writes : List SinkWrite) →
-    options words ≡ Some asked → asked.mode ≡ mode → IsUnbuilt mode → Stands files → queries ≡ [] → IfOk r (λ given. given ≡ 3) → IfErr r (λ stop. stop ≡ Write) → Writes (mode_line ∷ []) r writes →
-    AnswersBy (options words) held files queries [] r [] writes
-by-mode words asked mode held files queries r writes is in_mode unbuilt stands none three stops written =
-    subst (λ o. AnswersBy o held files queries [] r [] writes) (sym is) (line-in mode asked held files queries r writes in_mode unbuilt stands none three stops written)
-
 pub by-usage : (words : List (List ℕ)) (held : Option Holding) (files : FaultCount) (queries : List QueryRun) (r : Result ℕ Stop) (writes : List SinkWrite) → options words ≡ None →
     Stands files → queries ≡ [] → IfOk r (λ given. given ≡ 2) → IfErr r (λ stop. stop ≡ Write) → Writes (usage_line ∷ []) r writes → AnswersBy (options words) held files queries [] r [] writes
 by-usage words held files queries (Ok status) writes is stands none two stops written =
@@ -227,13 +213,13 @@ by-usage words held files queries (Ok status) writes is stands none two stops wr
 by-usage words held files queries (Err stop) writes is stands none two stops written =
     subst (λ o. CutBy o held files [] queries [] (status_of_stop stop) writes) (sym is) (front_of (no-read files stands) (line-front usage_line stop queries writes none stops written.cut))
 
-nothing-in : (mode : RunMode) (asked : Options) (held : Option Holding) (files : FaultCount) (queries : List QueryRun) → Stands files → queries ≡ [] → CutIn mode asked held files [] queries [] 9 []
-nothing-in Query asked held files queries stands none = file-nothing asked held files queries [] stands (record { text = []; read = nothing_read }) none
-nothing-in Run asked held files queries stands none = file-nothing asked held files queries [] stands (record { text = []; read = nothing_read }) none
-nothing-in Print asked held files queries stands none = file-nothing asked held files queries [] stands (record { text = []; read = nothing_read }) none
-nothing-in Demo asked held files queries stands none = made-nothing asked files queries stands none
-nothing-in Session asked held files queries stands none = CutLine.nothing (no-read files stands) (is-nothing queries none)
+nothing-in : (mode : RunMode) (asked : Options) (held : Option Holding) (files : FaultCount) (queries : List QueryRun) → is_session mode ≡ false → Stands files → queries ≡ [] → CutIn mode asked held files [] queries [] 9 []
+nothing-in Query asked held files queries no_session stands none = file-nothing asked held files queries [] stands (record { text = []; read = nothing_read }) none
+nothing-in Run asked held files queries no_session stands none = file-nothing asked held files queries [] stands (record { text = []; read = nothing_read }) none
+nothing-in Print asked held files queries no_session stands none = file-nothing asked held files queries [] stands (record { text = []; read = nothing_read }) none
+nothing-in Demo asked held files queries no_session stands none = made-nothing asked files queries stands none
+nothing-in Session asked held files queries no_session stands none = absurd cc
 
-pub by-nothing : (o : Option Options) (held : Option Holding) (files : FaultCount) (queries : List QueryRun) → Stands files → queries ≡ [] → CutBy o held files [] queries [] 9 []
-by-nothing None held files queries stands none = CutLine.nothing (no-read files stands) (is-nothing queries none)
-by-nothing (Some asked) held files queries stands none = nothing-in asked.mode asked held files queries stands none
+pub by-nothing : (o : Option Options) (held : Option Holding) (files : FaultCount) (queries : List QueryRun) → AsksNoSession o → Stands files → queries ≡ [] → CutBy o held files [] queries [] 9 []
+by-nothing None held files queries no_session stands none = CutLine.nothing (no-read files stands) (is-nothing queries none)
+by-nothing (Some asked) held files queries no_session stands none = nothing-in asked.mode asked held files queries no_session stands none

@@ -90,7 +90,7 @@ one-program-line o text line other (inr a) (inr b) =
 
 -- ---- a goal that is asked of a program
 
-one-goal : (o : AreOne) (text : List ℕ) (p : ProgramTree) (e f : ExpTree) → IsGoalText text p e → IsGoalText text p f → e ≡ f
+pub one-goal : (o : AreOne) (text : List ℕ) (p : ProgramTree) (e f : ExpTree) → IsGoalText text p e → IsGoalText text p f → e ≡ f
 one-goal o text p e f a b =
     let P : List Token → Type 0 = λ ts. HasGoalVerdict ts p (a_goal e) in
     let Q : List Token → Type 0 = λ ts. HasGoalVerdict ts p (a_goal f) in
@@ -99,7 +99,7 @@ one-goal o text p e f a b =
 goal-no-verdict-line : (o : AreOne) (ts : List Token) (p : ProgramTree) (e : ExpTree) (line : List ℕ) → HasGoalVerdict ts p (a_goal e) → HasGoalVerdictLine p ts line → ⊥
 goal-no-verdict-line o ts p e line a b = none-some line (ap goal_verdict_line (o.goal ts p (a_goal e) b.verdict a b.has) ∙ b.is)
 
-goal-no-line : (o : AreOne) (text line : List ℕ) (p : ProgramTree) (e : ExpTree) → IsGoalText text p e → IsGoalLine text p line → ⊥
+pub goal-no-line : (o : AreOne) (text line : List ℕ) (p : ProgramTree) (e : ExpTree) → IsGoalText text p e → IsGoalLine text p line → ⊥
 goal-no-line o text line p e a (inl b) = tokens-no-line o text line (λ ts. HasGoalVerdict ts p (a_goal e)) a b
 goal-no-line o text line p e a (inr b) =
     let P : List Token → Type 0 = λ ts. HasGoalVerdict ts p (a_goal e) in
@@ -109,7 +109,7 @@ goal-no-line o text line p e a (inr b) =
 one-goal-verdict-line : (o : AreOne) (ts : List Token) (p : ProgramTree) (line other : List ℕ) → HasGoalVerdictLine p ts line → HasGoalVerdictLine p ts other → line ≡ other
 one-goal-verdict-line o ts p line other a b = some-in line other (sym a.is ∙ ap goal_verdict_line (o.goal ts p a.verdict b.verdict a.has b.has) ∙ b.is)
 
-one-goal-line : (o : AreOne) (text line other : List ℕ) (p : ProgramTree) → IsGoalLine text p line → IsGoalLine text p other → line ≡ other
+pub one-goal-line : (o : AreOne) (text line other : List ℕ) (p : ProgramTree) → IsGoalLine text p line → IsGoalLine text p other → line ≡ other
 one-goal-line o text line other p (inl a) (inl b) = one-token-line o text line other a b
 one-goal-line o text line other p (inl a) (inr b) = absurd (tokens-no-line o text line (λ ts. HasGoalVerdictLine p ts other) b a)
 one-goal-line o text line other p (inr a) (inl b) = absurd (tokens-no-line o text other (λ ts. HasGoalVerdictLine p ts line) a b)

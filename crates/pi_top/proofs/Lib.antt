@@ -19,3 +19,14 @@ pub mod Runnable
 pub mod SoleLines
 pub mod TextWrites
 pub mod UnbuiltLines
+pub mod AnswerRuns
+pub mod AskedGoals
+pub mod RequestNames
+pub mod ServedLines
+pub mod ServedTurns
+pub mod SessionEndings
+pub mod SessionRuns
+pub mod SessionStatuses
+pub mod TurnRuns
+pub mod AskedOnce
+pub mod ServedInput

@@ -1,4 +1,4 @@
--- Completeness: where nothing fails, a goal that is asked is run to an end of its own, a program that is printed is printed whole, or memory is wanted.
+-- Completeness: where nothing fails, a goal that is asked is run to an end of its own, a program that is printed is printed whole, a session's input is read to its end, or memory is wanted.
 use Rattle.std.specs.Prelude.{◌≡◌, ◌≢◌, ◌⊎◌, ℕ, List, Option, Some}
 use Rattle.pi_outside.specs.Held.{Holding}
 use Rattle.pi_outside.specs.Writes.{SinkWrite}
@@ -18,6 +18,7 @@ use Rattle.pi_top.specs.SoleLine.{IsLine}
 use Rattle.pi_top.specs.Handing.{Written}
 use Rattle.pi_top.specs.Texts.{IsRead}
 use Rattle.pi_words.specs.Words.{options, places_of}
+use Rattle.pi_top.specs.Ends.{AsksSession}
 use Rattle.pi_top.specs.Demo.{demo_program}
 
 -- the words are those of a command line, neither text has a fault, and neither count of faults rose: that of the files, and that of the sink
@@ -56,3 +57,11 @@ CompletesIn other asked held queries log status writes = IsComplete asked held q
 
 abbrev pub Completes : Options → Option Holding → List QueryRun → List LogEntry → ℕ → List SinkWrite → Type 0
 Completes asked held queries log status writes = (status ≡ 9) ⊎ CompletesIn asked.mode asked held queries log status writes
+
+-- the words ask a session, the program has no fault and the input isn't too long, and no count of faults rose: that of the files, of the input, and of the sink
+pub record NothingFailsInSession (words : List (List ℕ)) (asked : Options) (status : ℕ) (files input sink : FaultCount) : Type 0 where
+  pub asks : AsksSession (options words) asked
+  pub no_fault : status ≢ 3
+  pub no_read_fails : Rises files → ⊥
+  pub no_input_fails : Rises input → ⊥
+  pub no_write_fails : Rises sink → ⊥

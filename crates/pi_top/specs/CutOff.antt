@@ -20,7 +20,7 @@ use Rattle.pi_top.specs.Judged.{IsProgramLine, IsProgramText, Refused, Asks}
 use Rattle.pi_top.specs.Manner.{manner_of, goal_of}
 use Rattle.pi_top.specs.Reading.{ReadsText, FailsReading, StopsReading}
 use Rattle.pi_top.specs.Runs.{WasCutOff}
-use Rattle.pi_top.specs.Statuses.{IsUnread, usage_line, mode_line}
+use Rattle.pi_top.specs.Statuses.{IsUnread, usage_line}
 use Rattle.pi_top.specs.SoleLine.{read_fault_line}
 use Rattle.pi_top.specs.Texts.{IsRead}
 use Rattle.pi_top.specs.Stops.{IsNothing, IsFront}
@@ -61,13 +61,13 @@ pub data CutLine (line : List ℕ) (files : FaultCount) (reads : List FileRead) 
   nothing : IsUnread files reads → IsNothing queries status writes → CutLine line files reads queries status writes
   front_of : IsUnread files reads → IsFront line queries status writes → CutLine line files reads queries status writes
 
--- in a mode
+-- in a mode; of a session it is told by `SessionEnds`
 abbrev pub CutIn : RunMode → Options → Option Holding → FaultCount → List FileRead → List QueryRun → List LogEntry → ℕ → List SinkWrite → Type 0
 CutIn Query asked held files reads queries log status writes = CutFile asked held files reads queries log status writes
 CutIn Run asked held files reads queries log status writes = CutFile asked held files reads queries log status writes
 CutIn Print asked held files reads queries log status writes = CutFile asked held files reads queries log status writes
 CutIn Demo asked held files reads queries log status writes = CutMade asked files reads queries log status writes
-CutIn other asked held files reads queries log status writes = CutLine mode_line files reads queries status writes
+CutIn other asked held files reads queries log status writes = ⊥
 
 -- by what the words ask
 abbrev pub CutBy : Option Options → Option Holding → FaultCount → List FileRead → List QueryRun → List LogEntry → ℕ → List SinkWrite → Type 0

@@ -1,4 +1,4 @@
--- How a run ends, by its words.
+-- How a run ends, by its words, where they ask no session.
 use Rattle.std.specs.Prelude.{◌≡◌, ℕ, Bool, true, false, List, [], ◌++◌, Option, None, Some, Result, Ok, Err}
 use Rattle.pi_outside.specs.Held.{Holding}
 use Rattle.pi_outside.specs.Reads.{FileRead}
@@ -8,7 +8,7 @@ use Rattle.pi_top.specs.declared.runs.QueryRun.{QueryRun}
 use Rattle.pi_top.specs.declared.query.Stop.{Stop}
 use Rattle.pi_top.specs.declared.query.Stop.TheVariants.{Memory, Write}
 use Rattle.pi_words.specs.declared.run_mode.RunMode.{RunMode}
-use Rattle.pi_words.specs.declared.run_mode.RunMode.TheVariants.{Query, Run, Print}
+use Rattle.pi_words.specs.declared.run_mode.RunMode.TheVariants.{Query, Run, Session, Print}
 use Rattle.pi_words.specs.declared.asked.Options.{Options}
 use Rattle.pi_top.specs.declared.manner.Manner.{Manner}
 use Rattle.pi_top.specs.CutOff.{CutText, CutPrinted, CutOf, CutFile, CutMade, CutBy}
@@ -27,11 +27,26 @@ pub data Ends (words : List (List ℕ)) (held : Option Holding) (queries : List 
   memory_wanted : status ≡ 9 → (earlier line : List SinkWrite) → writes ≡ earlier ++ line → CutBy (options words) held files reads queries log status earlier → WritesMemory sink line →
       Ends words held queries log status files sink reads writes
 
+-- the words ask no session
+abbrev pub is_session : RunMode → Bool
+is_session Session = true
+is_session other = false
+
+abbrev pub AsksNoSession : Option Options → Type 0
+AsksNoSession None = Unit {0}
+AsksNoSession (Some asked) = is_session asked.mode ≡ false
+
+-- they ask this one
+pub record AsksSession (words : Option Options) (asked : Options) : Type 0 where
+  pub asks : words ≡ Some asked
+  pub in_mode : asked.mode ≡ Session
+
 -- the program is in a file
 abbrev pub reads_file : RunMode → Bool
 reads_file Query = true
 reads_file Run = true
 reads_file Print = true
+reads_file Session = true
 reads_file other = false
 
 -- what the words ask reads no file

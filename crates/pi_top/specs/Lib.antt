@@ -23,3 +23,12 @@ pub mod Stops
 pub mod Texts
 pub mod ToldLines
 pub mod Writing
+pub mod Asking
+pub mod AskingCode
+pub mod PresentCode
+pub mod Serving
+pub mod ServingCode
+pub mod Session
+pub mod SessionCode
+pub mod SessionEnds
+pub mod Turn

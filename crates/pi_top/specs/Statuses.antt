@@ -26,9 +26,6 @@ use Rattle.pi_top.specs.SoleLine.{IsLine, read_fault_line}
 abbrev pub usage_line : List ℕ
 usage_line = codes "usage: picatq [--answers N] [--steps N] [--work N] [--mode query|run|session|print|demo] FILE [GOAL]\n"
 
-abbrev pub mode_line : List ℕ
-mode_line = codes "mode: NotBuilt\n"
-
 -- with a program's text and a goal's: the line that says why nothing is run, or the goal was run
 pub data ComesText (manner : Manner) (text goal : List ℕ) (queries : List QueryRun) (log : List LogEntry) (status : ℕ) (texts : List (List ℕ)) : Type 0 where
   refused : (line : List ℕ) → Refused text goal line → IsLine line 3 status queries texts → ComesText manner text goal queries log status texts
@@ -68,13 +65,13 @@ pub record IsLineUnread (line : List ℕ) (its : ℕ) (files : FaultCount) (read
   pub unread : IsUnread files reads
   pub is : IsLine line its status queries texts
 
--- in a mode; `session` isn't built
+-- in a mode; of a session it is told by `SessionEnds`
 abbrev pub ComesIn : RunMode → Options → Option Holding → FaultCount → List FileRead → List QueryRun → List LogEntry → ℕ → List (List ℕ) → Type 0
 ComesIn Query asked held files reads queries log status texts = ComesFile asked held files reads queries log status texts
 ComesIn Run asked held files reads queries log status texts = ComesFile asked held files reads queries log status texts
 ComesIn Print asked held files reads queries log status texts = ComesFile asked held files reads queries log status texts
 ComesIn Demo asked held files reads queries log status texts = ComesMade asked files reads queries log status texts
-ComesIn other asked held files reads queries log status texts = IsLineUnread mode_line 3 files reads queries status texts
+ComesIn other asked held files reads queries log status texts = ⊥
 
 -- by what the words ask: the usage line exactly where that is nothing
 abbrev pub ComesBy : Option Options → Option Holding → FaultCount → List FileRead → List QueryRun → List LogEntry → ℕ → List (List ℕ) → Type 0

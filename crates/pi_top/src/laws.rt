@@ -10,6 +10,8 @@ ghost use Rattle.pi_top.specs.declared.manner.Manner.{Manner};
 ghost use Rattle.pi_top.specs.declared.runs.QueryRun.{QueryRun};
 ghost use Rattle.pi_top.specs.Judged.{Refused, Asks, AreFaultless};
 ghost use Rattle.pi_top.specs.QueryEnd.{EndingIsOne};
+ghost use Rattle.pi_top.specs.Asking.{IsReady, IsUnready, AsksOf, RefusesOf};
+ghost use Rattle.pi_top.specs.Session.{ServesItsLines};
 ghost use Rattle.pi_top.specs.SoleLine.{IsLine};
 ghost use Rattle.pi_top.specs.Statuses.{ComesText, ComesPrinted};
 
@@ -22,6 +24,21 @@ pub fn judgements_are_one()
     ensures not_both { (text goal line : List ℕ) (program : ProgramTree) (asked : ExpTree) → Refused text goal line → Asks text goal program asked → ⊥ }
     ensures program { (text goal : List ℕ) (program other : ProgramTree) (asked another : ExpTree) → AreFaultless text goal program asked
         → AreFaultless text goal other another → (program ≡ other) × (asked ≡ another) }
+{
+    one_reading();
+    one_verdict();
+}
+
+/// A program's text is ready for the goals of a session, or a line says why none is asked, and never both, each in one way; so it is with a
+/// goal's text that is asked of a program then. And the lines that a session served are those that were found in its input.
+pub fn requests_are_one()
+    ensures program { (text : List ℕ) (program other : ProgramTree) → IsReady text program → IsReady text other → program ≡ other }
+    ensures program_line { (text line other : List ℕ) → IsUnready text line → IsUnready text other → line ≡ other }
+    ensures program_or_line { (text line : List ℕ) (program : ProgramTree) → IsReady text program → IsUnready text line → ⊥ }
+    ensures goal { (program : ProgramTree) (text : List ℕ) (goal other : ExpTree) → AsksOf program text goal → AsksOf program text other → goal ≡ other }
+    ensures goal_line { (program : ProgramTree) (text line other : List ℕ) → RefusesOf program text line → RefusesOf program text other → line ≡ other }
+    ensures goal_or_line { (program : ProgramTree) (text line : List ℕ) (goal : ExpTree) → AsksOf program text goal → RefusesOf program text line → ⊥ }
+    ensures lines { ServesItsLines }
 {
     one_reading();
     one_verdict();

@@ -2,6 +2,7 @@
 //! A query: a program's text and a goal's are judged, the goal is asked, and its answers and its end are written as they come.
 #![tactic(auto)]
 
+pub mod asking;
 mod demo;
 pub mod fault_lines;
 pub mod files;
@@ -11,13 +12,16 @@ pub mod laws;
 mod lines;
 pub mod manner;
 mod outcome;
+pub mod present;
 mod printing;
 pub mod query;
 pub mod runs;
+pub mod session;
+pub mod session_file;
 mod top;
 
 pub use demo::demo_text;
 pub use outcome::Outcome;
 pub use pi_words::{Options, RunMode, WordsFault, read_words};
 pub use runs::{Queries, QueryRun};
-pub use top::picatq;
+pub use top::{picatq, picatq_limited};

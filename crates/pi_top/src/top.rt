@@ -1,11 +1,14 @@
 //! The top call.
-ghost use Rattle.std.specs.Prelude.{◌≡◌, ◌≢◌, ◌<◌, ◌≤◌, [], map, is_some, true, IfOk, IfErr, Some};
+ghost use Rattle.std.specs.Prelude.{◌≡◌, ◌≢◌, ◌<◌, ◌≤◌, ◌⊎◌, [], map, is_some, true, IfOk, IfErr, Some};
 ghost use Rattle.std.specs.String.{string_bytes};
 ghost use Rattle.pi_outside.specs.Faults.{NeverFalls, Rose};
+ghost use Rattle.pi_outside.specs.Given.{IsSpent};
+ghost use Rattle.pi_outside.specs.Inputs.{ByInput};
 ghost use Rattle.pi_outside.specs.Reads.{ByReads};
 ghost use Rattle.pi_outside.specs.Writes.{ByWrites};
-ghost use Rattle.pi_top.specs.Completeness.{NothingFails, Completes};
-ghost use Rattle.pi_top.specs.Ends.{Ends, ReadsNoFile, AnswersText, AnswersFile, AnswersMade, AnswersBy, GivesStatus};
+ghost use Rattle.pi_top.specs.Completeness.{NothingFails, NothingFailsInSession, Completes};
+ghost use Rattle.pi_top.specs.SessionEnds.{SessionEnds, AnswersSessionFile, most_input};
+ghost use Rattle.pi_top.specs.Ends.{Ends, AsksNoSession, AsksSession, ReadsNoFile, AnswersText, AnswersFile, AnswersMade, AnswersBy, GivesStatus};
 ghost use Rattle.pi_top.specs.Faults.{FaultCount, Stands, counted, TellsWrites};
 ghost use Rattle.pi_top.specs.Manner.{goal_of, manner_of};
 ghost use Rattle.pi_top.specs.Runs.{AllWithin};
@@ -17,19 +20,23 @@ use crate::demo::demo_text;
 use crate::files::{FileStop, read_file};
 use crate::handed::{READ_FAULT, write_text};
 use crate::judgement::{Judged, judge};
-use crate::lines::{MEMORY, MODE_NOT_BUILT, USAGE};
+use crate::lines::{MEMORY, USAGE};
 use crate::manner::{Manner, goal_of};
 use crate::outcome::Outcome;
 use crate::printing::print_text;
 use crate::query::{Stop, ended, run_query};
 use crate::runs::Queries;
+use crate::session_file::session_of_file;
 use pi_outside::{Files, Sink, Source};
 use pi_terms::Series;
 use pi_words::{Options, RunMode, WordsFault, read_words};
 use std::alloc::Global;
 
-/// Runs picatq on the words behind the program's name: reads the program from `files`, asks its goal, and writes what
-/// there is to say to `out`, each line as it comes.
+/// The most bytes of a session's input.
+const MOST_INPUT: u64 = 1_073_741_824;
+
+/// Runs picatq on the words behind the program's name: reads the program from `files`, asks its goal, or those of the lines
+/// of `input`, and writes what there is to say to `out`, each line as it comes.
 pub fn picatq<F: Files, I: Source, O: Sink>(
     alloc: Global,
     words: &[String],
@@ -38,25 +45,65 @@ pub fn picatq<F: Files, I: Source, O: Sink>(
     out: &mut O,
 ) -> Outcome
     ensures statuses { result.status ≤ 9 }
-    ensures ends { ByReads F.has_read files.old files.new (λ reads. ByWrites O.wrote O.taken out.old out.new (λ writes.
-        Ends (map string_bytes words.now) (F.held files.new) result.queries result.log result.status (counted (F.faults files.old) (F.faults files.new)) (counted (O.faults out.old) (O.faults out.new)) reads writes)) }
-    ensures complete { ByWrites O.wrote O.taken out.old out.new (λ writes. (asked : Options)
+    ensures ends { ByReads F.has_read files.old files.new (λ reads. ByWrites O.wrote O.taken out.old out.new (λ writes. AsksNoSession (options (map string_bytes words.now))
+        → Ends (map string_bytes words.now) (F.held files.new) result.queries result.log result.status (counted (F.faults files.old) (F.faults files.new)) (counted (O.faults out.old) (O.faults out.new)) reads writes)) }
+    ensures session { ByReads F.has_read files.old files.new (λ reads. ByInput I.has_read I.rest input.old input.new (λ inputs. ByWrites O.wrote O.taken out.old out.new (λ writes. (asked : Options)
+        → AsksSession (options (map string_bytes words.now)) asked
+        → SessionEnds asked (F.held files.new) most_input result.queries result.log result.status (counted (F.faults files.old) (F.faults files.new)) (counted (I.faults input.old) (I.faults input.new)) (counted (O.faults out.old) (O.faults out.new)) reads inputs writes))) }
+    ensures complete { ByWrites O.wrote O.taken out.old out.new (λ writes. (asked : Options) → AsksNoSession (options (map string_bytes words.now))
         → NothingFails (map string_bytes words.now) asked result.status (counted (F.faults files.old) (F.faults files.new)) (counted (O.faults out.old) (O.faults out.new))
         → Completes asked (F.held files.new) result.queries result.log result.status writes) }
-    ensures read_fault { result.status ≡ 7 → Rose (F.faults files.old) (F.faults files.new) }
-    ensures reads_well { result.status ≢ 7 → result.status ≢ 8 → F.faults files.new ≡ F.faults files.old }
+    ensures complete_session { (asked : Options) → NothingFailsInSession (map string_bytes words.now) asked result.status (counted (F.faults files.old) (F.faults files.new)) (counted (I.faults input.old) (I.faults input.new)) (counted (O.faults out.old) (O.faults out.new))
+        → (result.status ≡ 0) ⊎ (result.status ≡ 9) }
+    ensures spent { (asked : Options) → AsksSession (options (map string_bytes words.now)) asked → result.status ≡ 0 → IsSpent (I.rest input.new) }
+    ensures read_fault { result.status ≡ 7 → Rose (F.faults files.old) (F.faults files.new) ⊎ Rose (I.faults input.old) (I.faults input.new) }
+    ensures reads_well { result.status ≢ 7 → result.status ≢ 8 → (F.faults files.new ≡ F.faults files.old) × (I.faults input.new ≡ I.faults input.old) }
     ensures write_fault { result.status ≡ 8 → Rose (O.faults out.old) (O.faults out.new) }
     ensures writes_well { result.status ≢ 8 → result.status ≢ 9 → O.faults out.new ≡ O.faults out.old }
     ensures never_falls { NeverFalls (O.faults out.old) (O.faults out.new) }
     ensures unread { ReadsNoFile (options (map string_bytes words.now)) → files.new ≡ files.old }
-    ensures no_input { input.new ≡ input.old }
+    ensures no_input { AsksNoSession (options (map string_bytes words.now)) → input.new ≡ input.old }
     ensures no_log { result.log ≡ [] }
     ensures none_entered { result.entered ≡ [] }
     ensures ran { (asked : Options) → options (map string_bytes words.now) ≡ Some asked → AllWithin asked.steps result.queries }
 {
-    let _ = &*input;
+    picatq_limited(alloc, words, files, input, out, MOST_INPUT)
+}
+
+/// The same with a session's input of so many bytes at most.
+pub fn picatq_limited<F: Files, I: Source, O: Sink>(
+    alloc: Global,
+    words: &[String],
+    files: &mut F,
+    input: &mut I,
+    out: &mut O,
+    most: u64,
+) -> Outcome
+    ensures statuses { result.status ≤ 9 }
+    ensures ends { ByReads F.has_read files.old files.new (λ reads. ByWrites O.wrote O.taken out.old out.new (λ writes. AsksNoSession (options (map string_bytes words.now))
+        → Ends (map string_bytes words.now) (F.held files.new) result.queries result.log result.status (counted (F.faults files.old) (F.faults files.new)) (counted (O.faults out.old) (O.faults out.new)) reads writes)) }
+    ensures session { ByReads F.has_read files.old files.new (λ reads. ByInput I.has_read I.rest input.old input.new (λ inputs. ByWrites O.wrote O.taken out.old out.new (λ writes. (asked : Options)
+        → AsksSession (options (map string_bytes words.now)) asked
+        → SessionEnds asked (F.held files.new) most result.queries result.log result.status (counted (F.faults files.old) (F.faults files.new)) (counted (I.faults input.old) (I.faults input.new)) (counted (O.faults out.old) (O.faults out.new)) reads inputs writes))) }
+    ensures complete { ByWrites O.wrote O.taken out.old out.new (λ writes. (asked : Options) → AsksNoSession (options (map string_bytes words.now))
+        → NothingFails (map string_bytes words.now) asked result.status (counted (F.faults files.old) (F.faults files.new)) (counted (O.faults out.old) (O.faults out.new))
+        → Completes asked (F.held files.new) result.queries result.log result.status writes) }
+    ensures complete_session { (asked : Options) → NothingFailsInSession (map string_bytes words.now) asked result.status (counted (F.faults files.old) (F.faults files.new)) (counted (I.faults input.old) (I.faults input.new)) (counted (O.faults out.old) (O.faults out.new))
+        → (result.status ≡ 0) ⊎ (result.status ≡ 9) }
+    ensures spent { (asked : Options) → AsksSession (options (map string_bytes words.now)) asked → result.status ≡ 0 → IsSpent (I.rest input.new) }
+    ensures read_fault { result.status ≡ 7 → Rose (F.faults files.old) (F.faults files.new) ⊎ Rose (I.faults input.old) (I.faults input.new) }
+    ensures reads_well { result.status ≢ 7 → result.status ≢ 8 → (F.faults files.new ≡ F.faults files.old) × (I.faults input.new ≡ I.faults input.old) }
+    ensures write_fault { result.status ≡ 8 → Rose (O.faults out.old) (O.faults out.new) }
+    ensures writes_well { result.status ≢ 8 → result.status ≢ 9 → O.faults out.new ≡ O.faults out.old }
+    ensures never_falls { NeverFalls (O.faults out.old) (O.faults out.new) }
+    ensures unread { ReadsNoFile (options (map string_bytes words.now)) → files.new ≡ files.old }
+    ensures no_input { AsksNoSession (options (map string_bytes words.now)) → input.new ≡ input.old }
+    ensures no_log { result.log ≡ [] }
+    ensures none_entered { result.entered ≡ [] }
+    ensures ran { (asked : Options) → options (map string_bytes words.now) ≡ Some asked → AllWithin asked.steps result.queries }
+{
     let mut queries = Series::new(alloc);
-    let answer = answered(alloc, words, files, out, &mut queries);
+    let answer = answered(alloc, words, files, input, most, out, &mut queries);
     let status = status_of(answer, out);
     let log = Series::new(alloc);
     let entered = Series::new(alloc);
@@ -83,19 +130,24 @@ fn status_of<O: Sink>(answer: Result<u8, Stop>, out: &mut O) -> u8
     }
 }
 
-fn answered<F: Files, O: Sink>(
+fn answered<F: Files, I: Source, O: Sink>(
     alloc: Global,
     words: &[String],
     files: &mut F,
+    input: &mut I,
+    most: u64,
     out: &mut O,
     queries: &mut Queries,
 ) -> Result<u8, Stop>
     ensures writes { TellsWrites (O.faults out.old) (O.faults out.new) result }
-    ensures reads { IfOk result (λ status. status ≡ 7 → Rose (F.faults files.old) (F.faults files.new)) }
     ensures status { IfOk result (λ status. status < 8) }
     ensures unread { ReadsNoFile (options (map string_bytes words.now)) → files.new ≡ files.old }
-    ensures answers { ByReads F.has_read files.old files.new (λ reads. ByWrites O.wrote O.taken out.old out.new (λ writes. queries.old ≡ []
+    ensures no_input { AsksNoSession (options (map string_bytes words.now)) → input.new ≡ input.old }
+    ensures spent { (asked : Options) → AsksSession (options (map string_bytes words.now)) asked → IfOk result (λ status. status ≡ 0 → IsSpent (I.rest input.new)) }
+    ensures answers { ByReads F.has_read files.old files.new (λ reads. ByWrites O.wrote O.taken out.old out.new (λ writes. queries.old ≡ [] → AsksNoSession (options (map string_bytes words.now))
         → AnswersBy (options (map string_bytes words.now)) (F.held files.new) (counted (F.faults files.old) (F.faults files.new)) queries.new [] result reads writes)) }
+    ensures session { ByReads F.has_read files.old files.new (λ reads. ByInput I.has_read I.rest input.old input.new (λ inputs. ByWrites O.wrote O.taken out.old out.new (λ writes. queries.old ≡ [] → (asked : Options)
+        → AsksSession (options (map string_bytes words.now)) asked → AnswersSessionFile asked (F.held files.new) most (counted (F.faults files.old) (F.faults files.new)) (counted (I.faults input.old) (I.faults input.new)) queries.new [] result reads inputs writes))) }
     ensures ran { (asked : Options) → options (map string_bytes words.now) ≡ Some asked → AllWithin asked.steps queries.old → AllWithin asked.steps queries.new }
 {
     let asked = match read_words(alloc, words) {
@@ -108,7 +160,7 @@ fn answered<F: Files, O: Sink>(
         RunMode::Run => asked_of_file(alloc, &asked, files, out, queries),
         RunMode::Print => asked_of_file(alloc, &asked, files, out, queries),
         RunMode::Demo => asked_of_demo(alloc, &asked, out, queries),
-        RunMode::Session => ended(out, MODE_NOT_BUILT, 3),
+        RunMode::Session => session_of_file(alloc, &asked, files, input, most, out, queries),
     }
 }
 

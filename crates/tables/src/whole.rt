@@ -1,6 +1,7 @@
 //! Cases of runs of the whole program, over files, input and output in memory.
 mod command;
 mod runs;
+mod sessions;
 
 use crate::whole::runs::Failing;
 use pi_cases::Case;
@@ -11,6 +12,7 @@ pub fn answer_text(subject: &str, text: &str, line: &str, case: &Case) -> bool {
         "whole" => runs::answer(case, text, line),
         "failing_reads" => runs::answer_failing(case, text, line, Failing::Read),
         "failing_writes" => runs::answer_failing(case, text, line, Failing::Write),
+        "sessions" => sessions::answer(case, text, line),
         _ => return false,
     }
     true

@@ -38,7 +38,7 @@ pub(crate) fn words_of(case: &Case, front: &str, last: Option<&str>) -> Vec<Stri
 }
 
 /// Appends a word as it is meant.
-fn push_word(case: &Case, written: &str, words: &mut Vec<String>) {
+pub(crate) fn push_word(case: &Case, written: &str, words: &mut Vec<String>) {
     match String::from_utf8(bytes_of(case, written)) {
         Ok(word) => case.keep(Some(word), words),
         Err(_) => case.lacks("words that are texts"),

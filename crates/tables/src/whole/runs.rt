@@ -3,11 +3,11 @@
 use crate::whole::command::{ASKED, HOLDS, files_of, parts, words_of};
 use pi_cases::Case;
 use pi_outside::{MemoryFiles, MemorySink, SureSource};
-use pi_top::picatq;
+use pi_top::{Outcome, picatq};
 use std::str;
 
 /// How many bytes a run writes at most.
-const ROOM: usize = 4_000;
+pub(crate) const ROOM: usize = 4_000;
 
 /// A call that fails.
 #[derive(Clone, Copy)]
@@ -62,9 +62,14 @@ fn run_into(case: &Case, words: &[String], files: &mut MemoryFiles, out: &mut Me
     let input = SureSource::new(case.alloc, b"", 1);
     if let Some(mut input) = case.made(input) {
         let outcome = picatq(case.alloc, words, files, &mut input, out);
-        case.tell_number(u64::from(outcome.status));
-        tell_written(case, out.bytes());
+        tell_outcome(case, &outcome, out);
     }
+}
+
+/// Tells a run's status, and what it wrote.
+pub(crate) fn tell_outcome(case: &Case, outcome: &Outcome, out: &MemorySink) {
+    case.tell_number(u64::from(outcome.status));
+    tell_written(case, out.bytes());
 }
 
 /// Tells what was written, if anything.

@@ -1,0 +1,54 @@
+-- What a request of a session's query comes to, over the names of its goal.
+use Rattle.std.proofs.Common.{◌<◌, ◌≤◌, ℕ, List, [], sym, ◌∙◌, arith}
+use Rattle.pi_outside.specs.Writes.{SinkWrite}
+use Rattle.pi_core.specs.CoreTree.{PredTree, QueryTree}
+use Rattle.pi_syntax.specs.ExpTree.{ExpTree}
+use Rattle.pi_syntax.specs.ProgramTree.{ProgramTree}
+use Rattle.pi_meaning.specs.Trace.{count_ticks}
+use Rattle.pi_meaning.specs.Told.{solution_told}
+use Rattle.pi_meaning.specs.Telling.{told_cut}
+use Rattle.pi_meaning.specs.declared.happening.Budget.{Budget}
+use Rattle.pi_engine.specs.Seen.{MachineView}
+use Rattle.pi_rewrite.specs.Laws.{RunsTheSame}
+use Rattle.pi_top.specs.declared.manner.Manner.{Manner}
+use Rattle.pi_top.specs.Serving.{QuerySoFar, QueryEnded, QueryCutOff, requested}
+use Rattle.pi_top.specs.PresentCode.{CanAnswer}
+use Rattle.pi_top.specs.Turn.{EndsAt, IsCutAt}
+use Rattle.pi_top.proofs.OverNames.{told, told-prints, told-ticks, told-last, told-ends, part-over-names, cut-over-names}
+use Rattle.pi_top.proofs.QueryRuns.{HasPart, has-part}
+
+pub so-far-over-names : {M : Type 0} (manner : Manner) (program : ProgramTree) (goal : ExpTree) (preds : List PredTree) (q : QueryTree) (m : MachineView M) (b : Budget) (given : ℕ) (writes : List SinkWrite) →
+    RunsTheSame program goal preds q → CanAnswer manner preds q m b given writes → 0 < given → QuerySoFar manner program goal [] given b.ticks writes
+so-far-over-names manner program goal preds q m b given writes is can some =
+    let w = can.written.so_far in
+    let few : count_ticks w.events ≤ manner.steps = omega (arith, w.ticks, w.within.ticks, can.its_steps) in
+    let has : HasPart preds q manner.steps w.events = has-part m preds q w.events manner.steps can.runnable w.runs few in
+    record {
+      run = told_cut (solution_told q.names) has.run;
+      part = told q.names w.events;
+      is_part = part-over-names program goal preds q manner.steps has.run w.events is has.is_part;
+      ticks_in_it = w.ticks ∙ sym (told-ticks q.names w.events);
+      last = told-last q.names given w.events (can.written.last some);
+      fewer = can.fewer;
+      written = rw (told-prints manner.lines q.names w.events) w.written;
+    }
+
+pub ended-over-names : (manner : Manner) (program : ProgramTree) (goal : ExpTree) (preds : List PredTree) (q : QueryTree) (requests ticks : ℕ) (writes : List SinkWrite) →
+    RunsTheSame program goal preds q → EndsAt manner.lines manner.answers requests manner.steps preds q ticks writes → QueryEnded manner program goal [] requests ticks writes
+ended-over-names manner program goal preds q requests ticks writes is has = record {
+  run = told_cut (solution_told q.names) has.run;
+  part = told q.names has.part;
+  is_part = part-over-names program goal preds q manner.steps has.run has.part is has.is_part;
+  ticks_in_it = has.ticks_in_it ∙ sym (told-ticks q.names has.part);
+  ending = has.ending;
+  ends = told-ends q.names requests has.part has.run has.ending has.ends;
+  at_limit = has.at_limit;
+  written = rw (told-prints manner.lines q.names has.part) has.written;
+}
+
+pub cut-off-over-names : (manner : Manner) (program : ProgramTree) (goal : ExpTree) (preds : List PredTree) (q : QueryTree) (requests ticks status : ℕ) (writes : List SinkWrite) →
+    RunsTheSame program goal preds q → IsCutAt manner.lines manner.answers requests manner.steps preds q ticks status writes → QueryCutOff manner program goal [] requests ticks status writes
+cut-off-over-names manner program goal preds q requests ticks status writes is has = record {
+  cut = cut-over-names (requested manner requests) program goal preds q ticks status writes is has.cut;
+  in_all = cut-over-names manner program goal preds q ticks status writes is has.in_all;
+}

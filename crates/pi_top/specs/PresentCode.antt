@@ -1,0 +1,64 @@
+-- What a request of the present query comes to, by what the code answers, and how the query is listed then.
+use Rattle.std.specs.Prelude.{◌≡◌, ◌<◌, ℕ, ◌+◌, List, [], ◌∷◌, ◌++◌, Option, None, Some, Result, Ok, Err}
+use Rattle.pi_outside.specs.Writes.{SinkWrite}
+use Rattle.pi_core.specs.CoreTree.{PredTree, QueryTree}
+use Rattle.pi_constraints.specs.Store.{StoreView}
+use Rattle.pi_meaning.specs.declared.happening.Budget.{Budget}
+use Rattle.pi_meaning.specs.Budget.{IsWithin}
+use Rattle.pi_meaning.specs.Built.{IsRunnable}
+use Rattle.pi_engine.specs.Seen.{MachineView, machine_view}
+use Rattle.pi_top.specs.declared.manner.Manner.{Manner}
+use Rattle.pi_top.specs.declared.runs.QueryRun.{QueryRun}
+use Rattle.pi_top.specs.declared.present.Present.{Present as PresentRun}
+use Rattle.pi_top.specs.declared.query.Stop.{Stop}
+use Rattle.pi_top.specs.Stops.{status_of_stop}
+use Rattle.pi_top.specs.Running.{IsWritten}
+use Rattle.pi_top.specs.Runs.{no_work, run_of}
+use Rattle.pi_top.specs.Turn.{EndsAt, IsCutAt}
+
+-- a query may be asked for more answers, with what it has used so far
+pub record IsInBudget (steps : ℕ) (budget : Budget) : Type 0 where
+  pub within : IsWithin budget
+  pub its_steps : budget.steps ≡ steps
+
+-- where there is one
+abbrev pub IsBounded : {S M : Type 0} → ℕ → Option (PresentRun S M) → Type 0
+IsBounded steps None = Unit {0}
+IsBounded steps (Some present) = IsInBudget steps present.budget
+
+-- so many of its answers were written, by these writes, and more of them are asked for
+pub record CanAnswer {M : Type 0} (manner : Manner) (program : List PredTree) (q : QueryTree) (m : MachineView M) (budget : Budget) (given : ℕ) (first : List SinkWrite) : Type 0 where
+  pub written : IsWritten manner.lines m budget given program q first
+  pub runnable : IsRunnable program q
+  pub fewer : given < manner.answers
+  pub its_steps : budget.steps ≡ manner.steps
+  pub workless : budget.work ≡ no_work
+
+-- it is listed last, with its Ticks
+pub record IsListedLast (earlier : List QueryRun) (ticks : ℕ) (queries : List QueryRun) : Type 0 where
+  pub listed : queries ≡ earlier ++ run_of ticks ∷ []
+
+-- one answer more was written, and more of them may be asked for
+pub record AnswersMore {M : Type 0} (manner : Manner) (program : List PredTree) (q : QueryTree) (m : MachineView M) (budget : Budget) (given more : ℕ) (earlier queries : List QueryRun) (writes : List SinkWrite) : Type 0 where
+  pub one_more : more ≡ given + 1
+  pub can : CanAnswer manner program q m budget more writes
+  pub last : IsListedLast earlier budget.ticks queries
+
+-- its end was written
+pub record AnswersEnd (manner : Manner) (program : List PredTree) (q : QueryTree) (given : ℕ) (earlier queries : List QueryRun) (writes : List SinkWrite) : Type 0 where
+  pub ticks : ℕ
+  pub ends : EndsAt manner.lines manner.answers (given + 1) manner.steps program q ticks writes
+  pub last : IsListedLast earlier ticks queries
+
+-- it was cut off
+pub record AnswersCut (manner : Manner) (program : List PredTree) (q : QueryTree) (given : ℕ) (earlier queries : List QueryRun) (status : ℕ) (writes : List SinkWrite) : Type 0 where
+  pub ticks : ℕ
+  pub cut : IsCutAt manner.lines manner.answers (given + 1) manner.steps program q ticks status writes
+  pub last : IsListedLast earlier ticks queries
+
+-- what a request of it comes to, by what is answered
+abbrev pub AnswerComes : {S M : Type 0} → (S → StoreView M) → (M → ℕ) → Manner → List PredTree → QueryTree → ℕ → List QueryRun → Result (Option (PresentRun S M)) Stop → List QueryRun → List SinkWrite → Type 0
+AnswerComes seen order manner program q given earlier (Ok (Some present)) queries writes =
+    AnswersMore manner program q (machine_view seen order present.machine) present.budget given present.given earlier queries writes
+AnswerComes seen order manner program q given earlier (Ok None) queries writes = AnswersEnd manner program q given earlier queries writes
+AnswerComes seen order manner program q given earlier (Err stop) queries writes = AnswersCut manner program q given earlier queries (status_of_stop stop) writes

@@ -1,0 +1,99 @@
+-- How one line of a session is served: what it asks is done, by these writes, and then another query is the present one, or none.
+use Rattle.std.specs.Prelude.{◌≡◌, ◌<◌, ℕ, suc, List, [], ◌∷◌, ◌++◌}
+use lib.Chars.{codes}
+use Rattle.pi_outside.specs.Writes.{SinkWrite}
+use Rattle.pi_syntax.specs.ExpTree.{ExpTree}
+use Rattle.pi_syntax.specs.ProgramTree.{ProgramTree}
+use Rattle.pi_meaning.specs.Trace.{Emitted, count_ticks}
+use Rattle.pi_meaning.specs.Depth.{Cut}
+use Rattle.pi_meaning.specs.Telling.{Told}
+use Rattle.pi_core.specs.declared.log.LogEntry.{LogEntry}
+use Rattle.pi_outside.specs.Requests.{Asked, nothing, another, too_long, a_goal}
+use Rattle.pi_top.specs.declared.manner.Manner.{Manner}
+use Rattle.pi_top.specs.declared.runs.QueryRun.{QueryRun}
+use Rattle.pi_top.specs.Asking.{AsksOf, RefusesOf}
+use Rattle.pi_top.specs.Handing.{Hands, HandsAll, FailsIn}
+use Rattle.pi_top.specs.Headline.{IsPart, IsCutOff}
+use Rattle.pi_top.specs.Printing.{print}
+use Rattle.pi_top.specs.QueryEnd.{QueryEnd, Stopped, EndsWithLast, Ends}
+use Rattle.pi_top.specs.Runs.{run_of}
+use Rattle.pi_top.specs.ToldLines.{end_lines}
+
+abbrev pub no_query_line : List ℕ
+no_query_line = codes "no query\n"
+
+abbrev pub line_too_long : List ℕ
+line_too_long = codes "goal: TooLong\n"
+
+abbrev pub input_too_long_line : List ℕ
+input_too_long_line = codes "input too long\n"
+
+-- The present query of a session: its goal, how many requests it has had, which are its own line and each `;` since, and the writes for these; or there is none.
+pub data Present : Type 0 where
+  no_query : Present
+  query : ExpTree → ℕ → List SinkWrite → Present
+
+-- Each of a query's requests was answered, and fewer answers were written than are asked for: a part of its run ends with the answer to the last request, and its writes hand over what this part prints.
+pub record QuerySoFar (manner : Manner) (program : ProgramTree) (goal : ExpTree) (log : List LogEntry) (requests ticks : ℕ) (writes : List SinkWrite) : Type 0 where
+  pub run : Cut Told
+  pub part : List (Emitted Told)
+  pub is_part : IsPart program goal log manner.steps run part
+  pub ticks_in_it : ticks ≡ count_ticks part
+  pub last : EndsWithLast requests part
+  pub fewer : requests < manner.answers
+  pub written : HandsAll (print manner.lines part) writes
+
+-- At its last request a query ended, and the line of its end is written. It is stopped where as many answers were written as are asked for.
+pub record QueryEnded (manner : Manner) (program : ProgramTree) (goal : ExpTree) (log : List LogEntry) (requests ticks : ℕ) (writes : List SinkWrite) : Type 0 where
+  pub run : Cut Told
+  pub part : List (Emitted Told)
+  pub is_part : IsPart program goal log manner.steps run part
+  pub ticks_in_it : ticks ≡ count_ticks part
+  pub ending : QueryEnd
+  pub ends : Ends requests part run ending
+  pub at_limit : ending ≡ Stopped → requests ≡ manner.answers
+  pub written : HandsAll (print manner.lines part ++ end_lines manner.lines ending) writes
+
+-- of so many requests of a query
+abbrev pub requested : Manner → ℕ → Manner
+requested manner requests = record manner { answers = requests }
+
+-- A query was cut off within the last of so many requests. With all answers that are asked for in place of these requests it holds too, so the line whose write failed is no `stopped` that comes too early.
+pub record QueryCutOff (manner : Manner) (program : ProgramTree) (goal : ExpTree) (log : List LogEntry) (requests ticks status : ℕ) (writes : List SinkWrite) : Type 0 where
+  pub cut : IsCutOff (requested manner requests) program goal log ticks status writes
+  pub in_all : IsCutOff manner program goal log ticks status writes
+
+-- A line is served. A query is listed with the Ticks that it has taken so far, from its first request on.
+pub data Serves (manner : Manner) (program : ProgramTree) (log : List LogEntry) : Present → Asked → Present → List QueryRun → List QueryRun → List SinkWrite → Type 0 where
+  passed_over : (present : Present) (runs : List QueryRun) → Serves manner program log present nothing present runs runs []
+  has_no_query : (runs : List QueryRun) (writes : List SinkWrite) → Hands no_query_line writes → Serves manner program log no_query another no_query runs runs writes
+  is_too_long : (present : Present) (runs : List QueryRun) (writes : List SinkWrite) → Hands line_too_long writes → Serves manner program log present too_long no_query runs runs writes
+  refused : (present : Present) (text line : List ℕ) (runs : List QueryRun) (writes : List SinkWrite) → RefusesOf program text line → Hands line writes →
+      Serves manner program log present (a_goal text) no_query runs runs writes
+  answered : (present : Present) (text : List ℕ) (goal : ExpTree) (ticks : ℕ) (runs : List QueryRun) (writes : List SinkWrite) → AsksOf program text goal →
+      QuerySoFar manner program goal log 1 ticks writes → Serves manner program log present (a_goal text) (query goal 1 writes) runs (runs ++ run_of ticks ∷ []) writes
+  ended : (present : Present) (text : List ℕ) (goal : ExpTree) (ticks : ℕ) (runs : List QueryRun) (writes : List SinkWrite) → AsksOf program text goal →
+      QueryEnded manner program goal log 1 ticks writes → Serves manner program log present (a_goal text) no_query runs (runs ++ run_of ticks ∷ []) writes
+  answered_more : (goal : ExpTree) (requests before ticks : ℕ) (earlier : List SinkWrite) (runs : List QueryRun) (writes : List SinkWrite) →
+      QuerySoFar manner program goal log (suc requests) ticks (earlier ++ writes) →
+      Serves manner program log (query goal requests earlier) another (query goal (suc requests) (earlier ++ writes)) (runs ++ run_of before ∷ []) (runs ++ run_of ticks ∷ []) writes
+  ended_later : (goal : ExpTree) (requests before ticks : ℕ) (earlier : List SinkWrite) (runs : List QueryRun) (writes : List SinkWrite) →
+      QueryEnded manner program goal log (suc requests) ticks (earlier ++ writes) →
+      Serves manner program log (query goal requests earlier) another no_query (runs ++ run_of before ∷ []) (runs ++ run_of ticks ∷ []) writes
+
+-- a line that is written where nothing is run
+pub data ServesLine (program : ProgramTree) : Present → Asked → List ℕ → Type 0 where
+  has_no_query : ServesLine program no_query another no_query_line
+  is_too_long : (present : Present) → ServesLine program present too_long line_too_long
+  refused : (present : Present) (text line : List ℕ) → RefusesOf program text line → ServesLine program present (a_goal text) line
+
+-- Where a line's serving is cut off: memory is wanted before anything is done; the write of its line fails; or the run of a query is cut off.
+pub data CutServing (manner : Manner) (program : ProgramTree) (log : List LogEntry) : Present → Asked → List QueryRun → List QueryRun → ℕ → List SinkWrite → Type 0 where
+  undone : (present : Present) (asked : Asked) (runs : List QueryRun) → CutServing manner program log present asked runs runs 9 []
+  in_line : (present : Present) (asked : Asked) (line : List ℕ) (runs : List QueryRun) (writes : List SinkWrite) → ServesLine program present asked line → FailsIn [] (line ∷ []) writes →
+      CutServing manner program log present asked runs runs 8 writes
+  in_run : (present : Present) (text : List ℕ) (goal : ExpTree) (ticks status : ℕ) (runs : List QueryRun) (writes : List SinkWrite) → AsksOf program text goal →
+      QueryCutOff manner program goal log 1 ticks status writes → CutServing manner program log present (a_goal text) runs (runs ++ run_of ticks ∷ []) status writes
+  in_run_later : (goal : ExpTree) (requests before ticks status : ℕ) (earlier : List SinkWrite) (runs : List QueryRun) (writes : List SinkWrite) →
+      QueryCutOff manner program goal log (suc requests) ticks status (earlier ++ writes) →
+      CutServing manner program log (query goal requests earlier) another (runs ++ run_of before ∷ []) (runs ++ run_of ticks ∷ []) status writes
