@@ -1,7 +1,7 @@
 pub mod Faults
 pub mod Given
 pub mod Held
-mod Input
+pub mod Input
 pub mod InputRuns
 pub mod Kept
 mod LineLemmas

@@ -7,7 +7,7 @@ use Rattle.pi_outside.specs.Writes.{SinkWrite, taken_by, ByWrites}
 use Rattle.pi_outside.proofs.Taken.{Takes-none, Takes-then}
 use Rattle.pi_outside.proofs.Went.{Went-then}
 
-taken_by-append : (first second : List SinkWrite) → taken_by (first ++ second) ≡ taken_by first ++ taken_by second
+pub taken_by-append : (first second : List SinkWrite) → taken_by (first ++ second) ≡ taken_by first ++ taken_by second
 taken_by-append [] second = refl
 taken_by-append (write ∷ writes) second =
     let bytes : List ℕ = take (unwrap_or write.took 0) write.piece in

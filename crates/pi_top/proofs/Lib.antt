@@ -30,3 +30,4 @@ pub mod SessionStatuses
 pub mod TurnRuns
 pub mod AskedOnce
 pub mod ServedInput
+pub mod SessionsOne

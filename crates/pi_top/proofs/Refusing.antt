@@ -82,7 +82,7 @@ same-lasts n (answered k ∷ front) (z ∷ other) rest more x y a b e =
     let here : count_answers (other ++ answered y ∷ []) ≡ count_answers (front ++ answered x ∷ []) = omega (arith, a, counts) in
     rw (← head) (ap (λ l. answered k ∷ l) (same-lasts (count_answers (front ++ answered x ∷ [])) front other rest more x y refl here tail))
 
-one-last : (asked : ℕ) (part other all : List (Emitted Told)) → IsPrefix part all → IsPrefix other all → EndsWithLast asked part → EndsWithLast asked other → part ≡ other
+pub one-last : (asked : ℕ) (part other all : List (Emitted Told)) → IsPrefix part all → IsPrefix other all → EndsWithLast asked part → EndsWithLast asked other → part ≡ other
 one-last asked part other all a b last lasts =
     let whole : (last.front ++ answered last.last ∷ []) ++ a.rest ≡ (lasts.front ++ answered lasts.last ∷ []) ++ b.rest =
     ap (λ l. l ++ a.rest) (sym last.is) ∙ sym a.whole_is ∙ b.whole_is ∙ ap (λ l. l ++ b.rest) lasts.is in
@@ -94,25 +94,25 @@ one-whole : (asked : ℕ) (part other : List (Emitted Told)) (run : Cut Told) (a
 one-whole asked part other run a b first second = sym first.whole ∙ second.whole
 
 -- a front that has all answers that are asked for doesn't begin a run with fewer
-last-no-whole : {X : Type 0} (asked : ℕ) (part other : List (Emitted Told)) (run : Cut Told) (stop : Stop) → IsPrefix part run.events → EndsWithLast asked part → IsWhole asked other run stop → X
+pub last-no-whole : {X : Type 0} (asked : ℕ) (part other : List (Emitted Told)) (run : Cut Told) (stop : Stop) → IsPrefix part run.events → EndsWithLast asked part → IsWhole asked other run stop → X
 last-no-whole asked part other run stop begins last whole =
     let all : count_answers run.events ≡ count_answers part + count_answers begins.rest = ap count_answers begins.whole_is ∙ answers-append part begins.rest in
     let same : count_answers run.events ≡ count_answers other = ap count_answers whole.whole in
     absurd (omega (arith, all, same, last.all, whole.fewer))
 
 -- how an end stands to its part: it ends with the last answer, or it is the whole of the run
-data Stands (asked : ℕ) (part : List (Emitted Told)) (run : Cut Told) : Type 0 where
+pub data Stands (asked : ℕ) (part : List (Emitted Told)) (run : Cut Told) : Type 0 where
   with_last : EndsWithLast asked part → Stands asked part run
   is_whole : (stop : Stop) → IsWhole asked part run stop → Stands asked part run
 
-stands : (asked : ℕ) (part : List (Emitted Told)) (run : Cut Told) (ending : QueryEnd) → Ends asked part run ending → Stands asked part run
+pub stands : (asked : ℕ) (part : List (Emitted Told)) (run : Cut Told) (ending : QueryEnd) → Ends asked part run ending → Stands asked part run
 stands asked part run Stopped is = with_last is
 stands asked part run NoMore is = is_whole (Ended Done) is.0
 stands asked part run No is = is_whole (Ended Done) is.0
 stands asked part run (Exception ball) is = is_whole (Ended (Raise ball)) is
 stands asked part run StepsSpent is = is_whole Spent is
 
-one-part : (asked : ℕ) (part other : List (Emitted Told)) (run : Cut Told) → IsPrefix part run.events → IsPrefix other run.events → Stands asked part run → Stands asked other run → part ≡ other
+pub one-part : (asked : ℕ) (part other : List (Emitted Told)) (run : Cut Told) → IsPrefix part run.events → IsPrefix other run.events → Stands asked part run → Stands asked other run → part ≡ other
 one-part asked part other run a b (with_last last) (with_last lasts) = one-last asked part other run.events a b last lasts
 one-part asked part other run a b (with_last last) (is_whole stop whole) = last-no-whole asked part other run stop a last whole
 one-part asked part other run a b (is_whole stop whole) (with_last lasts) = last-no-whole asked other part run stop b lasts whole

@@ -1,7 +1,7 @@
 -- A session: the lines of its input are served one after the other, each by its reads and then its writes. That a line is served before the input is read again shows where a write of it fails: the reads end with that line.
-use Rattle.std.specs.Prelude.{◌≡◌, ℕ, List, [], ◌∷◌, ◌++◌}
-use Rattle.pi_outside.specs.Inputs.{SourceRead}
-use Rattle.pi_outside.specs.Writes.{SinkWrite}
+use Rattle.std.specs.Prelude.{◌≡◌, ℕ, suc, List, [], ◌∷◌, ◌++◌, take}
+use Rattle.pi_outside.specs.Inputs.{SourceRead, given_in}
+use Rattle.pi_outside.specs.Writes.{SinkWrite, taken_by}
 use Rattle.pi_syntax.specs.ProgramTree.{ProgramTree}
 use Rattle.pi_core.specs.declared.log.LogEntry.{LogEntry}
 use Rattle.pi_outside.specs.Ahead.{Ahead, at_start}
@@ -63,3 +63,9 @@ pub data SessionCut (manner : Manner) (program : ProgramTree) (log : List LogEnt
 abbrev pub ServesItsLines : Type 0
 ServesItsLines = (manner : Manner) (program : ProgramTree) (log : List LogEntry) (most : ℕ) (lines : List (List ℕ)) (present : Present) (runs : List QueryRun) (ahead : Ahead) (reads : List SourceRead) (writes : List SinkWrite) →
     ServedSoFar manner program log most lines present runs ahead reads writes → FoundSoFar most lines reads ahead
+
+-- Where no read of it fails, and the input gave the same, up to one byte more than it may have, a session comes to one thing, whatever the pieces: its status, the goals that were run with their Ticks, and the bytes that were written.
+abbrev pub SessionsAreOne : Type 0
+SessionsAreOne = (manner : Manner) (program : ProgramTree) (log : List LogEntry) (most : ℕ) (input other : FaultCount) (queries runs : List QueryRun) (status its : ℕ) (reads more : List SourceRead) (writes others : List SinkWrite) →
+    (Rises input → ⊥) → (Rises other → ⊥) → take (suc most) (given_in reads) ≡ take (suc most) (given_in more) → SessionComes manner program log most input queries status reads writes →
+    SessionComes manner program log most other runs its more others → (status ≡ its) × (queries ≡ runs) × (taken_by writes ≡ taken_by others)

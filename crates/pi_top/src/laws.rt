@@ -11,7 +11,7 @@ ghost use Rattle.pi_top.specs.declared.runs.QueryRun.{QueryRun};
 ghost use Rattle.pi_top.specs.Judged.{Refused, Asks, AreFaultless};
 ghost use Rattle.pi_top.specs.QueryEnd.{EndingIsOne};
 ghost use Rattle.pi_top.specs.Asking.{IsReady, IsUnready, AsksOf, RefusesOf};
-ghost use Rattle.pi_top.specs.Session.{ServesItsLines};
+ghost use Rattle.pi_top.specs.Session.{ServesItsLines, SessionsAreOne};
 ghost use Rattle.pi_top.specs.SoleLine.{IsLine};
 ghost use Rattle.pi_top.specs.Statuses.{ComesText, ComesPrinted};
 
@@ -30,8 +30,9 @@ pub fn judgements_are_one()
 }
 
 /// A program's text is ready for the goals of a session, or a line says why none is asked, and never both, each in one way; so it is with a
-/// goal's text that is asked of a program then. And the lines that a session served are those that were found in its input.
-pub fn requests_are_one()
+/// goal's text that is asked of a program then. The lines that a session served are those that were found in its input. And where no read of
+/// the input fails, program, manner, log and input decide its status, the goals that were run with their Ticks, and the bytes that are written.
+pub fn sessions_are_one()
     ensures program { (text : List ℕ) (program other : ProgramTree) → IsReady text program → IsReady text other → program ≡ other }
     ensures program_line { (text line other : List ℕ) → IsUnready text line → IsUnready text other → line ≡ other }
     ensures program_or_line { (text line : List ℕ) (program : ProgramTree) → IsReady text program → IsUnready text line → ⊥ }
@@ -39,6 +40,7 @@ pub fn requests_are_one()
     ensures goal_line { (program : ProgramTree) (text line other : List ℕ) → RefusesOf program text line → RefusesOf program text other → line ≡ other }
     ensures goal_or_line { (program : ProgramTree) (text line : List ℕ) (goal : ExpTree) → AsksOf program text goal → RefusesOf program text line → ⊥ }
     ensures lines { ServesItsLines }
+    ensures session { SessionsAreOne }
 {
     one_reading();
     one_verdict();

@@ -1,7 +1,8 @@
 use Rattle.pi_top.proofs.AskedOnce.{one-ready, one-unready, ready-or-not, one-asks, one-refuses, asks-or-not}
 use Rattle.pi_top.proofs.Judging.{AreOne}
 use Rattle.pi_top.proofs.ServedInput.{serves-its-lines}
-use Rattle.pi_top.proofs.laws.requests_are_one.Goals as goal
+use Rattle.pi_top.proofs.SessionsOne.{sessions-are-one}
+use Rattle.pi_top.proofs.laws.sessions_are_one.Goals as goal
 
 pub returns : goal.returns
 returns c =
@@ -14,4 +15,5 @@ returns c =
       goal_line = one-refuses o;
       goal_or_line = asks-or-not o;
       lines = serves-its-lines;
+      session = sessions-are-one o;
     }

@@ -1,0 +1,402 @@
+-- What a session comes to is one: its status, the goals that were run with their Ticks, and the bytes that were written.
+use Rattle.std.proofs.Common.{◌≡◌, ◌≤◌, ◌<◌, ℕ, suc, List, [], ◌∷◌, ◌++◌, length, take, drop, inr, refl, sym, ap, subst, ◌∙◌, arith, take-append-drop, take-take, length-take-le}
+use Rattle.std.proofs.lemmas.List.{append_cancel_left, same_from_push, take_all}
+use Rattle.pi_outside.specs.Ahead.{Ahead}
+use Rattle.pi_outside.specs.Finding.{MeetsEnd, PassesLimit}
+use Rattle.pi_outside.specs.Inputs.{SourceRead, given_in}
+use Rattle.pi_outside.specs.Lines.{lines_of}
+use Rattle.pi_outside.specs.Order.{AreItsLines, AreFirstLines}
+use Rattle.pi_outside.specs.Requests.{Asked, nothing, another, too_long, a_goal, request_of}
+use Rattle.pi_outside.specs.Writes.{SinkWrite, taken_by}
+use Rattle.pi_outside.proofs.Input.{ends-with-its-lines, passes-with-first-lines}
+use Rattle.pi_outside.proofs.WriteRuns.{taken_by-append}
+use Rattle.pi_syntax.specs.ExpTree.{ExpTree}
+use Rattle.pi_syntax.specs.ProgramTree.{ProgramTree}
+use Rattle.pi_core.specs.declared.log.LogEntry.{LogEntry}
+use Rattle.pi_meaning.specs.Trace.{Done, Raise, Emitted, count_ticks}
+use Rattle.pi_meaning.specs.Depth.{Cut, Ended, Spent}
+use Rattle.pi_meaning.specs.View.{query_view}
+use Rattle.pi_meaning.specs.Telling.{Told}
+use Rattle.pi_meaning.specs.Stages.{no_stages}
+use Rattle.pi_meaning.proofs.GrowRules.{no-stages-add, names-runs-are-one}
+use Rattle.pi_top.specs.declared.manner.Manner.{Manner}
+use Rattle.pi_top.specs.declared.runs.QueryRun.{QueryRun}
+use Rattle.pi_top.specs.Asking.{AsksOf, RefusesOf}
+use Rattle.pi_top.specs.Faults.{FaultCount, Rises}
+use Rattle.pi_top.specs.Handing.{Hands, all_taken, took, HandsAll, none, one_more}
+use Rattle.pi_top.specs.Headline.{IsPart}
+use Rattle.pi_top.specs.Prefix.{IsPrefix}
+use Rattle.pi_top.specs.Printing.{print}
+use Rattle.pi_top.specs.QueryEnd.{QueryEnd, Stopped, NoMore, No, Exception, StepsSpent, EndsWithLast, Ends}
+use Rattle.pi_top.specs.Runs.{run_of}
+use Rattle.pi_top.specs.Serving.{Present, no_query, query, no_query_line, line_too_long, input_too_long_line, QuerySoFar, QueryEnded, Serves}
+use Rattle.pi_top.specs.Session.{ServedSoFar, Served, SessionComes, SessionsAreOne, ServesItsLines}
+use Rattle.pi_top.specs.ToldLines.{end_lines}
+use Rattle.pi_top.proofs.AskedOnce.{one-asks, asks-or-not, one-refuses}
+use Rattle.pi_top.proofs.EndingLemmas.{ending-is-one}
+use Rattle.pi_top.proofs.Judging.{AreOne}
+use Rattle.pi_top.proofs.Refusing.{one-last, one-part, last-no-whole, stands}
+use Rattle.pi_top.proofs.ServedInput.{serves-its-lines}
+
+-- ---- the bytes of texts that were handed over
+
+hands-bytes : (text : List ℕ) (writes : List SinkWrite) → Hands text writes → taken_by writes ≡ text
+hands-bytes text writes all_taken = refl
+hands-bytes text writes (took whole count more some within rest) = ap (λ l. take count text ++ l) (hands-bytes (drop count text) more rest) ∙ take-append-drop count text
+
+flat : List (List ℕ) → List ℕ
+flat [] = []
+flat (text ∷ texts) = text ++ flat texts
+
+handed-bytes : (texts : List (List ℕ)) (writes : List SinkWrite) → HandsAll texts writes → taken_by writes ≡ flat texts
+unfolding flat
+handed-bytes texts writes none = refl
+handed-bytes texts writes (one_more text rest its more hands all) =
+    taken_by-append its more ∙ ap (λ l. l ++ taken_by more) (hands-bytes text its hands) ∙ ap (λ l. text ++ l) (handed-bytes rest more all)
+
+same-handed : (texts others : List (List ℕ)) (first second : List SinkWrite) → texts ≡ others → HandsAll texts first → HandsAll others second → taken_by first ≡ taken_by second
+same-handed texts others first second same a b = handed-bytes texts first a ∙ ap flat same ∙ sym (handed-bytes others second b)
+
+same-hands : (text : List ℕ) (first second : List SinkWrite) → Hands text first → Hands text second → taken_by first ≡ taken_by second
+same-hands text first second a b = hands-bytes text first a ∙ sym (hands-bytes text second b)
+
+-- ---- the requests of a query
+
+one-run : (program : ProgramTree) (goal : ExpTree) (log : List LogEntry) (steps : ℕ) (run other : Cut Told) (part its : List (Emitted Told)) → IsPart program goal log steps run part → IsPart program goal log steps other its → run ≡ other
+one-run program goal log steps run other part its a b =
+    names-runs-are-one (query_view log) no_stages no-stages-add program goal steps run other (a.is_run no_stages (inr refl)) (b.is_run no_stages (inr refl))
+
+-- what two turns of one query have in common
+record AreSame (ticks others : ℕ) (writes more : List SinkWrite) : Type 0 where
+  pub same_ticks : ticks ≡ others
+  pub same_bytes : taken_by writes ≡ taken_by more
+
+so-far-one : (manner : Manner) (program : ProgramTree) (goal : ExpTree) (log : List LogEntry) (requests ticks others : ℕ) (writes more : List SinkWrite) → QuerySoFar manner program goal log requests ticks writes →
+    QuerySoFar manner program goal log requests others more → AreSame ticks others writes more
+so-far-one manner program goal log requests ticks others writes more a b =
+    let run : a.run ≡ b.run = one-run program goal log manner.steps a.run b.run a.part b.part a.is_part b.is_part in
+    let begins : IsPrefix b.part a.run.events = rw (← run) at b.is_part.begins in
+    let part : a.part ≡ b.part = one-last requests a.part b.part a.run.events a.is_part.begins begins a.last b.last in
+    record {
+      same_ticks = a.ticks_in_it ∙ ap count_ticks part ∙ sym b.ticks_in_it;
+      same_bytes = same-handed (print manner.lines a.part) (print manner.lines b.part) writes more (ap (print manner.lines) part) a.written b.written;
+    }
+
+ended-one : (manner : Manner) (program : ProgramTree) (goal : ExpTree) (log : List LogEntry) (requests ticks others : ℕ) (writes more : List SinkWrite) → QueryEnded manner program goal log requests ticks writes →
+    QueryEnded manner program goal log requests others more → AreSame ticks others writes more
+ended-one manner program goal log requests ticks others writes more a b =
+    let run : a.run ≡ b.run = one-run program goal log manner.steps a.run b.run a.part b.part a.is_part b.is_part in
+    let begins : IsPrefix b.part a.run.events = rw (← run) at b.is_part.begins in
+    let ends : Ends requests b.part a.run b.ending = rw (← run) at b.ends in
+    let part : a.part ≡ b.part =
+    one-part requests a.part b.part a.run a.is_part.begins begins (stands requests a.part a.run a.ending a.ends) (stands requests b.part a.run b.ending ends) in
+    let ending : a.ending ≡ b.ending = ending-is-one requests a.part a.run a.ending b.ending a.ends (subst (λ p. Ends requests p a.run b.ending) (sym part) ends) in
+    record {
+      same_ticks = a.ticks_in_it ∙ ap count_ticks part ∙ sym b.ticks_in_it;
+      same_bytes = same-handed (print manner.lines a.part ++ end_lines manner.lines a.ending) (print manner.lines b.part ++ end_lines manner.lines b.ending) writes more
+          (ap (λ p. print manner.lines p ++ end_lines manner.lines a.ending) part ∙ ap (λ e. print manner.lines b.part ++ end_lines manner.lines e) ending) a.written b.written;
+    }
+
+no-end-yet : {X : Type 0} (answers requests : ℕ) (part other : List (Emitted Told)) (run : Cut Told) (ending : QueryEnd) → requests < answers → IsPrefix part run.events → EndsWithLast requests part →
+    (ending ≡ Stopped → requests ≡ answers) → Ends requests other run ending → X
+no-end-yet answers requests part other run Stopped fewer begins last limit is = let all : requests ≡ answers = limit refl in absurd (omega (arith, all, fewer))
+no-end-yet answers requests part other run NoMore fewer begins last limit is = last-no-whole requests part other run (Ended Done) begins last is.0
+no-end-yet answers requests part other run No fewer begins last limit is = last-no-whole requests part other run (Ended Done) begins last is.0
+no-end-yet answers requests part other run (Exception ball) fewer begins last limit is = last-no-whole requests part other run (Ended (Raise ball)) begins last is
+no-end-yet answers requests part other run StepsSpent fewer begins last limit is = last-no-whole requests part other run Spent begins last is
+
+-- a query that goes on hasn't ended
+so-far-no-end : {X : Type 0} (manner : Manner) (program : ProgramTree) (goal : ExpTree) (log : List LogEntry) (requests ticks others : ℕ) (writes more : List SinkWrite) → QuerySoFar manner program goal log requests ticks writes →
+    QueryEnded manner program goal log requests others more → X
+so-far-no-end manner program goal log requests ticks others writes more a b =
+    let run : a.run ≡ b.run = one-run program goal log manner.steps a.run b.run a.part b.part a.is_part b.is_part in
+    no-end-yet manner.answers requests a.part b.part a.run b.ending a.fewer a.is_part.begins a.last b.at_limit (rw (← run) at b.ends)
+
+-- ---- a line
+
+-- two present queries that were asked and answered alike
+SamePresent : Present → Present → Type 0
+SamePresent no_query no_query = Unit {0}
+SamePresent no_query (query goal requests writes) = ⊥
+SamePresent (query goal requests writes) no_query = ⊥
+SamePresent (query goal requests writes) (query other its more) = (goal ≡ other) × (requests ≡ its) × (taken_by writes ≡ taken_by more)
+
+record SameServed (present other : Present) (runs more : List QueryRun) (writes others : List SinkWrite) : Type 0 where
+  pub presents : SamePresent present other
+  pub runs_are : runs ≡ more
+  pub bytes : taken_by writes ≡ taken_by others
+
+-- what a request for the next answer comes to
+data ServedMore (manner : Manner) (program : ProgramTree) (log : List LogEntry) (present next : Present) (old new : List QueryRun) (writes : List SinkWrite) : Type 0 where
+  nothing_there : present ≡ no_query → next ≡ no_query → new ≡ old → Hands no_query_line writes → ServedMore manner program log present next old new writes
+  goes_on : (goal : ExpTree) (requests before ticks : ℕ) (earlier : List SinkWrite) (runs : List QueryRun) → present ≡ query goal requests earlier → next ≡ query goal (suc requests) (earlier ++ writes) → old ≡ runs ++ run_of before ∷ [] →
+      new ≡ runs ++ run_of ticks ∷ [] → QuerySoFar manner program goal log (suc requests) ticks (earlier ++ writes) → ServedMore manner program log present next old new writes
+  ends : (goal : ExpTree) (requests before ticks : ℕ) (earlier : List SinkWrite) (runs : List QueryRun) → present ≡ query goal requests earlier → next ≡ no_query → old ≡ runs ++ run_of before ∷ [] →
+      new ≡ runs ++ run_of ticks ∷ [] → QueryEnded manner program goal log (suc requests) ticks (earlier ++ writes) → ServedMore manner program log present next old new writes
+
+-- what a goal comes to
+data ServedGoal (manner : Manner) (program : ProgramTree) (log : List LogEntry) (text : List ℕ) (next : Present) (old new : List QueryRun) (writes : List SinkWrite) : Type 0 where
+  is_refused : (line : List ℕ) → RefusesOf program text line → next ≡ no_query → new ≡ old → Hands line writes → ServedGoal manner program log text next old new writes
+  goes_on : (goal : ExpTree) (ticks : ℕ) → AsksOf program text goal → next ≡ query goal 1 writes → new ≡ old ++ run_of ticks ∷ [] → QuerySoFar manner program goal log 1 ticks writes →
+      ServedGoal manner program log text next old new writes
+  ends : (goal : ExpTree) (ticks : ℕ) → AsksOf program text goal → next ≡ no_query → new ≡ old ++ run_of ticks ∷ [] → QueryEnded manner program goal log 1 ticks writes →
+      ServedGoal manner program log text next old new writes
+
+ServedBy : Manner → ProgramTree → List LogEntry → Present → Asked → Present → List QueryRun → List QueryRun → List SinkWrite → Type 0
+ServedBy manner program log present nothing next old new writes = (next ≡ present) × (new ≡ old) × (writes ≡ [])
+ServedBy manner program log present another next old new writes = ServedMore manner program log present next old new writes
+ServedBy manner program log present too_long next old new writes = (next ≡ no_query) × (new ≡ old) × Hands line_too_long writes
+ServedBy manner program log present (a_goal text) next old new writes = ServedGoal manner program log text next old new writes
+
+served-by : (manner : Manner) (program : ProgramTree) (log : List LogEntry) (present : Present) (asked : Asked) (next : Present) (old new : List QueryRun) (writes : List SinkWrite) →
+    Serves manner program log present asked next old new writes → ServedBy manner program log present asked next old new writes
+unfolding ServedBy
+served-by manner program log present asked next old new writes (Serves.passed_over its runs) = (refl, refl, refl)
+served-by manner program log present asked next old new writes (Serves.has_no_query runs its hands) = ServedMore.nothing_there refl refl refl hands
+served-by manner program log present asked next old new writes (Serves.is_too_long before runs its hands) = (refl, refl, hands)
+served-by manner program log present asked next old new writes (Serves.refused before text line runs its is hands) = ServedGoal.is_refused line is refl refl hands
+served-by manner program log present asked next old new writes (Serves.answered before text goal ticks runs its asks so_far) = ServedGoal.goes_on goal ticks asks refl refl so_far
+served-by manner program log present asked next old new writes (Serves.ended before text goal ticks runs its asks end) = ServedGoal.ends goal ticks asks refl refl end
+served-by manner program log present asked next old new writes (Serves.answered_more goal requests before ticks earlier runs its so_far) = ServedMore.goes_on goal requests before ticks earlier runs refl refl refl refl so_far
+served-by manner program log present asked next old new writes (Serves.ended_later goal requests before ticks earlier runs its end) = ServedMore.ends goal requests before ticks earlier runs refl refl refl refl end
+
+none-some : {X : Type 0} (present other : Present) (goal : ExpTree) (requests : ℕ) (writes : List SinkWrite) → SamePresent present other → present ≡ no_query → other ≡ query goal requests writes → X
+unfolding SamePresent
+none-some present other goal requests writes same a b = absurd (rw (a, b) at same)
+
+some-none : {X : Type 0} (present other : Present) (goal : ExpTree) (requests : ℕ) (writes : List SinkWrite) → SamePresent present other → present ≡ query goal requests writes → other ≡ no_query → X
+unfolding SamePresent
+some-none present other goal requests writes same a b = absurd (rw (a, b) at same)
+
+same-none : (present other : Present) → present ≡ no_query → other ≡ no_query → SamePresent present other
+unfolding SamePresent
+same-none present other a b = rw (a, b) tt
+
+same-some : (present other : Present) (goal its : ExpTree) (requests their : ℕ) (writes more : List SinkWrite) → present ≡ query goal requests writes → other ≡ query its their more → goal ≡ its → requests ≡ their →
+    taken_by writes ≡ taken_by more → SamePresent present other
+unfolding SamePresent
+same-some present other goal its requests their writes more a b goals counts bytes = rw (a, b) (goals, counts, bytes)
+
+both-some : (present other : Present) (goal its : ExpTree) (requests their : ℕ) (writes more : List SinkWrite) → SamePresent present other → present ≡ query goal requests writes → other ≡ query its their more →
+    (goal ≡ its) × (requests ≡ their) × (taken_by writes ≡ taken_by more)
+unfolding SamePresent
+both-some present other goal its requests their writes more same a b = rw (a, b) at same
+
+-- behind the same bytes
+behind-same : (earlier writes before more : List SinkWrite) → taken_by earlier ≡ taken_by before → taken_by (earlier ++ writes) ≡ taken_by (before ++ more) → taken_by writes ≡ taken_by more
+behind-same earlier writes before more front all =
+    append_cancel_left (taken_by earlier) (taken_by writes) (taken_by more)
+    (sym (taken_by-append earlier writes) ∙ all ∙ taken_by-append before more ∙ ap (λ l. l ++ taken_by more) (sym front))
+
+runs-one : (old new more runs others : List QueryRun) (before its ticks their : ℕ) → old ≡ runs ++ run_of before ∷ [] → old ≡ others ++ run_of its ∷ [] → new ≡ runs ++ run_of ticks ∷ [] → more ≡ others ++ run_of their ∷ [] →
+    ticks ≡ their → new ≡ more
+runs-one old new more runs others before its ticks their a b c d same =
+    let front : runs ≡ others = (same_from_push runs others (run_of before) (run_of its) (sym a ∙ b)).0 in
+    c ∙ ap (λ (r : List QueryRun). r ++ run_of ticks ∷ []) front ∙ ap (λ n. others ++ run_of n ∷ []) same ∙ sym d
+
+more-one : (manner : Manner) (program : ProgramTree) (log : List LogEntry) (present other next after : Present) (old new more : List QueryRun) (writes others : List SinkWrite) → SamePresent present other →
+    ServedMore manner program log present next old new writes → ServedMore manner program log other after old more others → SameServed next after new more writes others
+more-one manner program log present other next after old new more writes others same (ServedMore.nothing_there a b c d) (ServedMore.nothing_there e f g h) =
+    record { presents = same-none next after b f; runs_are = c ∙ sym g; bytes = same-hands no_query_line writes others d h }
+more-one manner program log present other next after old new more writes others same (ServedMore.nothing_there a b c d) (ServedMore.goes_on goal requests before ticks earlier runs e f g h so_far) =
+    none-some present other goal requests earlier same a e
+more-one manner program log present other next after old new more writes others same (ServedMore.nothing_there a b c d) (ServedMore.ends goal requests before ticks earlier runs e f g h end) =
+    none-some present other goal requests earlier same a e
+more-one manner program log present other next after old new more writes others same (ServedMore.goes_on goal requests before ticks earlier runs a b c d so_far) (ServedMore.nothing_there e f g h) =
+    some-none present other goal requests earlier same a e
+more-one manner program log present other next after old new more writes others same (ServedMore.ends goal requests before ticks earlier runs a b c d end) (ServedMore.nothing_there e f g h) =
+    some-none present other goal requests earlier same a e
+more-one manner program log present other next after old new more writes others same (ServedMore.goes_on goal requests before ticks earlier runs a b c d so_far)
+    (ServedMore.goes_on goal' requests' before' ticks' earlier' runs' e f g h so_far') =
+    let is = both-some present other goal goal' requests requests' earlier earlier' same a e in
+    let its : QuerySoFar manner program goal log (suc requests) ticks' (earlier' ++ others) = rw (← is.0, ← is.1) at so_far' in
+    let turn = so-far-one manner program goal log (suc requests) ticks ticks' (earlier ++ writes) (earlier' ++ others) so_far its in
+    record {
+      presents = same-some next after goal goal' (suc requests) (suc requests') (earlier ++ writes) (earlier' ++ others) b f is.0 (ap suc is.1) turn.same_bytes;
+      runs_are = runs-one old new more runs runs' before before' ticks ticks' c g d h turn.same_ticks;
+      bytes = behind-same earlier writes earlier' others is.2 turn.same_bytes;
+    }
+more-one manner program log present other next after old new more writes others same (ServedMore.goes_on goal requests before ticks earlier runs a b c d so_far)
+    (ServedMore.ends goal' requests' before' ticks' earlier' runs' e f g h end) =
+    let is = both-some present other goal goal' requests requests' earlier earlier' same a e in
+    so-far-no-end manner program goal log (suc requests) ticks ticks' (earlier ++ writes) (earlier' ++ others) so_far (rw (← is.0, ← is.1) at end)
+more-one manner program log present other next after old new more writes others same (ServedMore.ends goal requests before ticks earlier runs a b c d end)
+    (ServedMore.goes_on goal' requests' before' ticks' earlier' runs' e f g h so_far) =
+    let is = both-some present other goal goal' requests requests' earlier earlier' same a e in
+    so-far-no-end manner program goal log (suc requests) ticks' ticks (earlier' ++ others) (earlier ++ writes) (rw (← is.0, ← is.1) at so_far) end
+more-one manner program log present other next after old new more writes others same (ServedMore.ends goal requests before ticks earlier runs a b c d end)
+    (ServedMore.ends goal' requests' before' ticks' earlier' runs' e f g h end') =
+    let is = both-some present other goal goal' requests requests' earlier earlier' same a e in
+    let its : QueryEnded manner program goal log (suc requests) ticks' (earlier' ++ others) = rw (← is.0, ← is.1) at end' in
+    let turn = ended-one manner program goal log (suc requests) ticks ticks' (earlier ++ writes) (earlier' ++ others) end its in
+    record {
+      presents = same-none next after b f;
+      runs_are = runs-one old new more runs runs' before before' ticks ticks' c g d h turn.same_ticks;
+      bytes = behind-same earlier writes earlier' others is.2 turn.same_bytes;
+    }
+
+goal-one : (o : AreOne) (manner : Manner) (program : ProgramTree) (log : List LogEntry) (text : List ℕ) (next after : Present) (old new more : List QueryRun) (writes others : List SinkWrite) →
+    ServedGoal manner program log text next old new writes → ServedGoal manner program log text after old more others → SameServed next after new more writes others
+goal-one o manner program log text next after old new more writes others (ServedGoal.is_refused line is a b hands) (ServedGoal.is_refused line' is' c d hands') =
+    record { presents = same-none next after a c; runs_are = b ∙ sym d; bytes = same-hands line writes others hands (rw (← one-refuses o program text line line' is is') at hands') }
+goal-one o manner program log text next after old new more writes others (ServedGoal.is_refused line is a b hands) (ServedGoal.goes_on goal ticks asks c d so_far) = absurd (asks-or-not o program text line goal asks is)
+goal-one o manner program log text next after old new more writes others (ServedGoal.is_refused line is a b hands) (ServedGoal.ends goal ticks asks c d end) = absurd (asks-or-not o program text line goal asks is)
+goal-one o manner program log text next after old new more writes others (ServedGoal.goes_on goal ticks asks a b so_far) (ServedGoal.is_refused line is c d hands) = absurd (asks-or-not o program text line goal asks is)
+goal-one o manner program log text next after old new more writes others (ServedGoal.ends goal ticks asks a b end) (ServedGoal.is_refused line is c d hands) = absurd (asks-or-not o program text line goal asks is)
+goal-one o manner program log text next after old new more writes others (ServedGoal.goes_on goal ticks asks a b so_far) (ServedGoal.goes_on goal' ticks' asks' c d so_far') =
+    let same : goal ≡ goal' = one-asks o program text goal goal' asks asks' in
+    let turn = so-far-one manner program goal log 1 ticks ticks' writes others so_far (rw (← same) at so_far') in
+    record {
+      presents = same-some next after goal goal' 1 1 writes others a c same refl turn.same_bytes;
+      runs_are = b ∙ ap (λ n. old ++ run_of n ∷ []) turn.same_ticks ∙ sym d;
+      bytes = turn.same_bytes;
+    }
+goal-one o manner program log text next after old new more writes others (ServedGoal.goes_on goal ticks asks a b so_far) (ServedGoal.ends goal' ticks' asks' c d end) =
+    let same : goal ≡ goal' = one-asks o program text goal goal' asks asks' in
+    so-far-no-end manner program goal log 1 ticks ticks' writes others so_far (rw (← same) at end)
+goal-one o manner program log text next after old new more writes others (ServedGoal.ends goal ticks asks a b end) (ServedGoal.goes_on goal' ticks' asks' c d so_far) =
+    let same : goal ≡ goal' = one-asks o program text goal goal' asks asks' in
+    so-far-no-end manner program goal log 1 ticks' ticks others writes (rw (← same) at so_far) end
+goal-one o manner program log text next after old new more writes others (ServedGoal.ends goal ticks asks a b end) (ServedGoal.ends goal' ticks' asks' c d end') =
+    let same : goal ≡ goal' = one-asks o program text goal goal' asks asks' in
+    let turn = ended-one manner program goal log 1 ticks ticks' writes others end (rw (← same) at end') in
+    record {
+      presents = same-none next after a c;
+      runs_are = b ∙ ap (λ n. old ++ run_of n ∷ []) turn.same_ticks ∙ sym d;
+      bytes = turn.same_bytes;
+    }
+
+by-one : (o : AreOne) (manner : Manner) (program : ProgramTree) (log : List LogEntry) (asked : Asked) (present other next after : Present) (old new more : List QueryRun) (writes others : List SinkWrite) → SamePresent present other →
+    ServedBy manner program log present asked next old new writes → ServedBy manner program log other asked after old more others → SameServed next after new more writes others
+unfolding ServedBy
+by-one o manner program log nothing present other next after old new more writes others same a b =
+    record { presents = rw (a.0, b.0) same; runs_are = a.1 ∙ sym b.1; bytes = ap taken_by (a.2 ∙ sym b.2) }
+by-one o manner program log another present other next after old new more writes others same a b = more-one manner program log present other next after old new more writes others same a b
+by-one o manner program log too_long present other next after old new more writes others same a b =
+    record { presents = same-none next after a.0 b.0; runs_are = a.1 ∙ sym b.1; bytes = same-hands line_too_long writes others a.2 b.2 }
+by-one o manner program log (a_goal text) present other next after old new more writes others same a b = goal-one o manner program log text next after old new more writes others a b
+
+line-one : (o : AreOne) (manner : Manner) (program : ProgramTree) (log : List LogEntry) (asked its : Asked) (present other next after : Present) (old runs new more : List QueryRun) (writes others : List SinkWrite) → SamePresent present other →
+    asked ≡ its → old ≡ runs → Serves manner program log present asked next old new writes → Serves manner program log other its after runs more others → SameServed next after new more writes others
+line-one o manner program log asked its present other next after old runs new more writes others same asks lists a b =
+    by-one o manner program log asked present other next after old new more writes others same (served-by manner program log present asked next old new writes a)
+    (served-by manner program log other asked after old more others (rw (← asks, ← lists) at b))
+
+-- ---- all lines that were found
+
+no-push : (lines : List (List ℕ)) (line : List ℕ) → [] ≡ lines ++ line ∷ [] → ⊥
+no-push [] line e = cc
+no-push (first ∷ lines) line e = cc
+
+so-far-of-lines : (o : AreOne) (manner : Manner) (program : ProgramTree) (log : List LogEntry) (most : ℕ) (lines others : List (List ℕ)) (present other : Present) (runs more : List QueryRun) (ahead at : Ahead) (reads its : List SourceRead) (writes their : List SinkWrite) →
+    lines ≡ others → ServedSoFar manner program log most lines present runs ahead reads writes → ServedSoFar manner program log most others other more at its their → SameServed present other runs more writes their
+so-far-of-lines o manner program log most lines others present other runs more ahead at reads its writes their same ServedSoFar.at_first ServedSoFar.at_first =
+    record { presents = same-none no_query no_query refl refl; runs_are = refl; bytes = refl }
+so-far-of-lines o manner program log most lines others present other runs more ahead at reads its writes their same ServedSoFar.at_first
+    (ServedSoFar.one_more earlier before next old new here after first second third fourth line so_far finds serves) = absurd (no-push earlier line same)
+so-far-of-lines o manner program log most lines others present other runs more ahead at reads its writes their same
+    (ServedSoFar.one_more earlier before next old new here after first second third fourth line so_far finds serves) ServedSoFar.at_first = absurd (no-push earlier line (sym same))
+so-far-of-lines o manner program log most lines others present other runs more ahead at reads its writes their same
+    (ServedSoFar.one_more earlier before next old new here after first second third fourth line so_far finds serves)
+    (ServedSoFar.one_more earlier' before' next' old' new' here' after' first' second' third' fourth' line' so_far' finds' serves') =
+    let split : (earlier ≡ earlier') × (line ≡ line') = same_from_push earlier earlier' line line' same in
+    let front = so-far-of-lines o manner program log most earlier earlier' before before' old old' here here' first first' third third' split.0 so_far so_far' in
+    let turn = line-one o manner program log (request_of line) (request_of line') before before' next next' old old' new new' fourth fourth' front.presents (ap request_of split.1) front.runs_are serves serves' in
+    record {
+      presents = turn.presents;
+      runs_are = turn.runs_are;
+      bytes = taken_by-append third fourth ∙ ap (λ l. l ++ taken_by fourth) front.bytes ∙ ap (λ l. taken_by third' ++ l) turn.bytes ∙ sym (taken_by-append third' fourth');
+    }
+
+-- ---- the whole
+
+-- what two ends of a session have in common
+record AreOneEnd (status its : ℕ) (queries runs : List QueryRun) (writes others : List SinkWrite) : Type 0 where
+  pub same_status : status ≡ its
+  pub same_queries : queries ≡ runs
+  pub same_bytes : taken_by writes ≡ taken_by others
+
+within-given : (most : ℕ) (text other : List ℕ) → length text ≤ most → length other ≤ most → take (suc most) text ≡ take (suc most) other → text ≡ other
+within-given most text other a b same = sym (take_all (suc most) text (omega (arith, a))) ∙ same ∙ take_all (suc most) other (omega (arith, b))
+
+past-given : (most : ℕ) (text other : List ℕ) → take (suc most) text ≡ take (suc most) other → take most text ≡ take most other
+past-given most text other same =
+    let less : most ≤ suc most = omega arith in
+    sym (take-take most (suc most) text less) ∙ ap (take most) same ∙ take-take most (suc most) other less
+
+no-more-given : {X : Type 0} (most : ℕ) (text other : List ℕ) → length text ≤ most → most < length other → take (suc most) text ≡ take (suc most) other → X
+no-more-given most text other within more same =
+    let whole : length (take (suc most) text) ≡ length text = ap length (take_all (suc most) text (omega (arith, within))) in
+    let cut : length (take (suc most) other) ≡ suc most = length-take-le (suc most) other (omega (arith, more)) in
+    let equal : length (take (suc most) text) ≡ length (take (suc most) other) = ap length same in
+    absurd (omega (arith, whole, cut, equal, within))
+
+-- what stands behind what was served before
+all-bytes : (writes earlier its others before their : List SinkWrite) → writes ≡ earlier ++ its → others ≡ before ++ their → taken_by earlier ≡ taken_by before → taken_by its ≡ taken_by their → taken_by writes ≡ taken_by others
+all-bytes writes earlier its others before their a b front last =
+    ap taken_by a ∙ taken_by-append earlier its ∙ ap (λ l. l ++ taken_by its) front ∙ ap (λ l. taken_by before ++ l) last ∙ sym (taken_by-append before their) ∙ sym (ap taken_by b)
+
+its-lines : (manner : Manner) (program : ProgramTree) (log : List LogEntry) (most : ℕ) (reads its : List SourceRead) (writes its_writes : List SinkWrite) (served : Served manner program log most reads its writes its_writes) (line : List ℕ) →
+    MeetsEnd served.ahead its line → AreItsLines most (given_in reads) served.lines line
+its-lines manner program log most reads its writes its_writes served line meets =
+    subst (λ (r : List SourceRead). AreItsLines most (given_in r) served.lines line) (sym served.reads_are)
+    (ends-with-its-lines most served.lines line served.earlier its served.ahead
+    (serves-its-lines manner program log most served.lines served.present served.runs served.ahead served.earlier served.earlier_writes served.so_far) meets)
+
+first-lines : (manner : Manner) (program : ProgramTree) (log : List LogEntry) (most : ℕ) (reads its : List SourceRead) (writes its_writes : List SinkWrite) (served : Served manner program log most reads its writes its_writes) →
+    PassesLimit served.ahead its → AreFirstLines most (given_in reads) served.lines
+first-lines manner program log most reads its writes its_writes served passes =
+    subst (λ (r : List SourceRead). AreFirstLines most (given_in r) served.lines) (sym served.reads_are)
+    (passes-with-first-lines most served.lines served.earlier its served.ahead
+    (serves-its-lines manner program log most served.lines served.present served.runs served.ahead served.earlier served.earlier_writes served.so_far) passes)
+
+end-one : (o : AreOne) (manner : Manner) (program : ProgramTree) (log : List LogEntry) (most : ℕ) (input other : FaultCount) (queries runs : List QueryRun) (status its : ℕ) (reads more : List SourceRead) (writes others : List SinkWrite) →
+    (Rises input → ⊥) → (Rises other → ⊥) → take (suc most) (given_in reads) ≡ take (suc most) (given_in more) → SessionComes manner program log most input queries status reads writes →
+    SessionComes manner program log most other runs its more others → AreOneEnd status its queries runs writes others
+end-one o manner program log most input other queries runs status its reads more writes others stands stood same
+    (SessionComes.to_its_end a b first first_writes served line next meets serves) (SessionComes.to_its_end c d second second_writes served' line' next' meets' serves') =
+    let x = its-lines manner program log most reads first writes first_writes served line meets in
+    let y = its-lines manner program log most more second others second_writes served' line' meets' in
+    let text : given_in reads ≡ given_in more = within-given most (given_in reads) (given_in more) x.within y.within same in
+    let split : (served.lines ≡ served'.lines) × (line ≡ line') = same_from_push served.lines served'.lines line line' (sym x.are ∙ ap lines_of text ∙ y.are) in
+    let front = so-far-of-lines o manner program log most served.lines served'.lines served.present served'.present served.runs served'.runs served.ahead served'.ahead served.earlier served'.earlier served.earlier_writes served'.earlier_writes
+    split.0 served.so_far served'.so_far in
+    let turn = line-one o manner program log (request_of line) (request_of line') served.present served'.present next next' served.runs served'.runs queries runs first_writes second_writes front.presents (ap request_of split.1) front.runs_are serves serves' in
+    record {
+      same_status = a ∙ sym c;
+      same_queries = turn.runs_are;
+      same_bytes = all-bytes writes served.earlier_writes first_writes others served'.earlier_writes second_writes served.writes_are served'.writes_are front.bytes turn.bytes;
+    }
+end-one o manner program log most input other queries runs status its reads more writes others stands stood same
+    (SessionComes.to_its_end a b first first_writes served line next meets serves) (SessionComes.past_limit c d second second_writes served' passes e f) =
+    let x = its-lines manner program log most reads first writes first_writes served line meets in
+    let y = first-lines manner program log most more second others second_writes served' passes in
+    no-more-given most (given_in reads) (given_in more) x.within y.more same
+end-one o manner program log most input other queries runs status its reads more writes others stands stood same
+    (SessionComes.past_limit a b first first_writes served passes c d) (SessionComes.to_its_end e f second second_writes served' line next meets serves) =
+    let x = first-lines manner program log most reads first writes first_writes served passes in
+    let y = its-lines manner program log most more second others second_writes served' line meets in
+    no-more-given most (given_in more) (given_in reads) y.within x.more (sym same)
+end-one o manner program log most input other queries runs status its reads more writes others stands stood same
+    (SessionComes.past_limit a b first first_writes served passes c d) (SessionComes.past_limit e f second second_writes served' passes' g h) =
+    let x = first-lines manner program log most reads first writes first_writes served passes in
+    let y = first-lines manner program log most more second others second_writes served' passes' in
+    let split = same_from_push served.lines served'.lines x.rest y.rest (sym x.are ∙ ap lines_of (past-given most (given_in reads) (given_in more) same) ∙ y.are) in
+    let front = so-far-of-lines o manner program log most served.lines served'.lines served.present served'.present served.runs served'.runs served.ahead served'.ahead served.earlier served'.earlier served.earlier_writes served'.earlier_writes
+    split.0 served.so_far served'.so_far in
+    record {
+      same_status = a ∙ sym e;
+      same_queries = c ∙ front.runs_are ∙ sym g;
+      same_bytes = all-bytes writes served.earlier_writes first_writes others served'.earlier_writes second_writes served.writes_are served'.writes_are front.bytes
+          (same-handed (input_too_long_line ∷ []) (input_too_long_line ∷ []) first_writes second_writes refl d h);
+    }
+end-one o manner program log most input other queries runs status its reads more writes others stands stood same (SessionComes.read_fault a rises first first_writes served fails c d) b = absurd (stands rises)
+end-one o manner program log most input other queries runs status its reads more writes others stands stood same (SessionComes.to_its_end a b first first_writes served line next meets serves)
+    (SessionComes.read_fault e rises second second_writes served' fails g h) = absurd (stood rises)
+end-one o manner program log most input other queries runs status its reads more writes others stands stood same (SessionComes.past_limit a b first first_writes served passes c d)
+    (SessionComes.read_fault e rises second second_writes served' fails g h) = absurd (stood rises)
+
+pub sessions-are-one : AreOne → SessionsAreOne
+sessions-are-one o manner program log most input other queries runs status its reads more writes others stands stood same a b =
+    let is = end-one o manner program log most input other queries runs status its reads more writes others stands stood same a b in
+    (is.same_status, is.same_queries, is.same_bytes)
