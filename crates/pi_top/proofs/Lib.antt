@@ -13,6 +13,7 @@ pub mod FileReads
 pub mod Fronts
 pub mod HandedTexts
 pub mod OverNames
+pub mod QueryEndings
 pub mod QueryRuns
 pub mod RunLists
 pub mod Runnable

@@ -82,7 +82,7 @@ told-ends names asked part run No is = (told-whole names asked part run (Ended D
 told-ends names asked part run (Exception ball) is = told-whole names asked part run (Ended (Raise ball)) is
 told-ends names asked part run StepsSpent is = told-whole names asked part run Spent is
 
-told-cut : (manner : Manner) (q : QueryTree) (run : Cut Solution) (part : List (Emitted Solution)) (ticks status : ℕ) (writes : List SinkWrite) →
+pub told-cut : (manner : Manner) (q : QueryTree) (run : Cut Solution) (part : List (Emitted Solution)) (ticks status : ℕ) (writes : List SinkWrite) →
     HowQueryIsCut manner.lines manner.answers q run part ticks status writes → HowCut manner (told_cut (solution_told q.names) run) (told q.names part) ticks status writes
 unfolding answer_of
 told-cut manner q run part ticks status writes (HowQueryIsCut.in_answer eight count earlier x is few takes) =

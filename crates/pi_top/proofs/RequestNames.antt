@@ -14,7 +14,7 @@ use Rattle.pi_top.specs.declared.manner.Manner.{Manner}
 use Rattle.pi_top.specs.Serving.{QuerySoFar, QueryEnded, QueryCutOff, requested}
 use Rattle.pi_top.specs.PresentCode.{CanAnswer}
 use Rattle.pi_top.specs.Turn.{EndsAt, IsCutAt}
-use Rattle.pi_top.proofs.OverNames.{told, told-prints, told-ticks, told-last, told-ends, part-over-names, cut-over-names}
+use Rattle.pi_top.proofs.OverNames.{told, told-prints, told-ticks, told-last, told-ends, told-cut, part-over-names}
 use Rattle.pi_top.proofs.QueryRuns.{HasPart, has-part}
 
 pub so-far-over-names : {M : Type 0} (manner : Manner) (program : ProgramTree) (goal : ExpTree) (preds : List PredTree) (q : QueryTree) (m : MachineView M) (b : Budget) (given : ℕ) (writes : List SinkWrite) →
@@ -49,6 +49,9 @@ ended-over-names manner program goal preds q requests ticks writes is has = reco
 pub cut-off-over-names : (manner : Manner) (program : ProgramTree) (goal : ExpTree) (preds : List PredTree) (q : QueryTree) (requests ticks status : ℕ) (writes : List SinkWrite) →
     RunsTheSame program goal preds q → IsCutAt manner.lines manner.answers requests manner.steps preds q ticks status writes → QueryCutOff manner program goal [] requests ticks status writes
 cut-off-over-names manner program goal preds q requests ticks status writes is has = record {
-  cut = cut-over-names (requested manner requests) program goal preds q ticks status writes is has.cut;
-  in_all = cut-over-names manner program goal preds q ticks status writes is has.in_all;
+  run = told_cut (solution_told q.names) has.run;
+  part = told q.names has.part;
+  is_part = part-over-names program goal preds q manner.steps has.run has.part is has.is_part;
+  at_request = told-cut (requested manner requests) q has.run has.part ticks status writes has.at_request;
+  in_all = told-cut manner q has.run has.part ticks status writes has.in_all;
 }

@@ -1,14 +1,5 @@
 -- The lines that were served are those that were found.
-use Rattle.std.proofs.Common.{ℕ, List}
-use Rattle.pi_outside.specs.Ahead.{Ahead}
-use Rattle.pi_outside.specs.Inputs.{SourceRead}
 use Rattle.pi_outside.specs.Order.{FoundSoFar}
-use Rattle.pi_outside.specs.Writes.{SinkWrite}
-use Rattle.pi_syntax.specs.ProgramTree.{ProgramTree}
-use Rattle.pi_core.specs.declared.log.LogEntry.{LogEntry}
-use Rattle.pi_top.specs.declared.manner.Manner.{Manner}
-use Rattle.pi_top.specs.declared.runs.QueryRun.{QueryRun}
-use Rattle.pi_top.specs.Serving.{Present}
 use Rattle.pi_top.specs.Session.{ServedSoFar, ServesItsLines}
 
 pub serves-its-lines : ServesItsLines

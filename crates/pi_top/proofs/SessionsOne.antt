@@ -30,7 +30,7 @@ use Rattle.pi_top.specs.Printing.{print}
 use Rattle.pi_top.specs.QueryEnd.{QueryEnd, Stopped, NoMore, No, Exception, StepsSpent, EndsWithLast, Ends}
 use Rattle.pi_top.specs.Runs.{run_of}
 use Rattle.pi_top.specs.Serving.{Present, no_query, query, no_query_line, line_too_long, input_too_long_line, QuerySoFar, QueryEnded, Serves}
-use Rattle.pi_top.specs.Session.{ServedSoFar, Served, SessionComes, SessionsAreOne, ServesItsLines}
+use Rattle.pi_top.specs.Session.{ServedSoFar, Served, SessionComes, SessionsAreOne}
 use Rattle.pi_top.specs.ToldLines.{end_lines}
 use Rattle.pi_top.proofs.AskedOnce.{one-asks, asks-or-not, one-refuses}
 use Rattle.pi_top.proofs.EndingLemmas.{ending-is-one}

@@ -71,6 +71,13 @@ pub record QueryIsCut (lines : Lines) (answers steps : ℕ) (program : List Pred
   pub is_part : IsQueryPart program q steps run part
   pub how : HowQueryIsCut lines answers q run part ticks status writes
 
+-- it is cut off behind so many answers: in one part of its run, alike for each number of answers above these that is asked for
+pub record IsCutBehind (lines : Lines) (given steps : ℕ) (program : List PredTree) (q : QueryTree) (ticks status : ℕ) (writes : List SinkWrite) : Type 0 where
+  pub run : Cut Solution
+  pub part : List (Emitted Solution)
+  pub is_part : IsQueryPart program q steps run part
+  pub how : (asked : ℕ) → given < asked → HowQueryIsCut lines asked q run part ticks status writes
+
 -- ---- while it runs
 
 -- a machine is about to run a query, of which an answer at least is asked for, and nothing is counted yet
@@ -117,9 +124,9 @@ pub record IsNext {M : Type 0} (lines : Lines) (n : MachineView M) (c : Budget) 
   pub lasts : end_of n ≡ lasting happening
 
 -- that, or the writing of a text is cut off
-abbrev pub NextComes : {M : Type 0} → Lines → ℕ → ℕ → List PredTree → QueryTree → MachineView M → Budget → Result Happening Stop → List SinkWrite → Type 0
-NextComes lines answers given program q n c (Ok happening) writes = IsNext lines n c given program q happening writes
-NextComes lines answers given program q n c (Err stop) writes = QueryIsCut lines answers c.steps program q c.ticks (status_of_stop stop) writes
+abbrev pub NextComes : {M : Type 0} → Lines → ℕ → List PredTree → QueryTree → MachineView M → Budget → Result Happening Stop → List SinkWrite → Type 0
+NextComes lines given program q n c (Ok happening) writes = IsNext lines n c given program q happening writes
+NextComes lines given program q n c (Err stop) writes = IsCutBehind lines given c.steps program q c.ticks (status_of_stop stop) writes
 
 -- what it comes to, by what is answered
 abbrev pub ComesTo : Lines → ℕ → ℕ → List PredTree → QueryTree → ℕ → Result ℕ Stop → List SinkWrite → Type 0

@@ -13,7 +13,7 @@ use Rattle.pi_top.specs.declared.manner.Manner.{Manner}
 use Rattle.pi_top.specs.declared.runs.QueryRun.{QueryRun}
 use Rattle.pi_top.specs.Asking.{AsksOf, RefusesOf}
 use Rattle.pi_top.specs.Handing.{Hands, HandsAll, FailsIn}
-use Rattle.pi_top.specs.Headline.{IsPart, IsCutOff}
+use Rattle.pi_top.specs.Headline.{IsPart, HowCut}
 use Rattle.pi_top.specs.Printing.{print}
 use Rattle.pi_top.specs.QueryEnd.{QueryEnd, Stopped, EndsWithLast, Ends}
 use Rattle.pi_top.specs.Runs.{run_of}
@@ -58,10 +58,13 @@ pub record QueryEnded (manner : Manner) (program : ProgramTree) (goal : ExpTree)
 abbrev pub requested : Manner → ℕ → Manner
 requested manner requests = record manner { answers = requests }
 
--- A query was cut off within the last of so many requests. With all answers that are asked for in place of these requests it holds too, so the line whose write failed is no `stopped` that comes too early.
+-- A query was cut off within the last of so many requests, and so it was with all answers that are asked for in place of these requests. One part of its run for both, so the line whose write failed is no `stopped` that comes too early.
 pub record QueryCutOff (manner : Manner) (program : ProgramTree) (goal : ExpTree) (log : List LogEntry) (requests ticks status : ℕ) (writes : List SinkWrite) : Type 0 where
-  pub cut : IsCutOff (requested manner requests) program goal log ticks status writes
-  pub in_all : IsCutOff manner program goal log ticks status writes
+  pub run : Cut Told
+  pub part : List (Emitted Told)
+  pub is_part : IsPart program goal log manner.steps run part
+  pub at_request : HowCut (requested manner requests) run part ticks status writes
+  pub in_all : HowCut manner run part ticks status writes
 
 -- A line is served. A query is listed with the Ticks that it has taken so far, from its first request on.
 pub data Serves (manner : Manner) (program : ProgramTree) (log : List LogEntry) : Present → Asked → Present → List QueryRun → List QueryRun → List SinkWrite → Type 0 where

@@ -12,7 +12,7 @@ use Rattle.pi_top.specs.declared.query.Stop.{Stop}
 use Rattle.pi_top.specs.Stops.{status_of_stop}
 use Rattle.pi_top.specs.Handing.{HandsAll}
 use Rattle.pi_top.specs.QueryEnd.{QueryEnd, Stopped, Ends}
-use Rattle.pi_top.specs.Running.{print_solutions, IsQueryPart, QueryIsCut, IsWritten}
+use Rattle.pi_top.specs.Running.{print_solutions, IsQueryPart, HowQueryIsCut, IsWritten}
 use Rattle.pi_top.specs.ToldLines.{end_lines}
 
 -- at the last of so many requests its end is written; it is stopped where as many answers were written as are asked for
@@ -31,10 +31,13 @@ pub record GoesOnAt {M : Type 0} (lines : Lines) (answers requests : ℕ) (progr
   pub written : IsWritten lines n c requests program q writes
   pub fewer : requests < answers
 
--- it is cut off within the last of so many requests; with all answers that are asked for in place of these it holds too, so the line whose write failed is no `stopped` that comes too early
+-- it is cut off within the last of so many requests, and so it is with all answers that are asked for in place of these; one part of its run for both, so the line whose write failed is no `stopped` that comes too early
 pub record IsCutAt (lines : Lines) (answers requests steps : ℕ) (program : List PredTree) (q : QueryTree) (ticks status : ℕ) (writes : List SinkWrite) : Type 0 where
-  pub cut : QueryIsCut lines requests steps program q ticks status writes
-  pub in_all : QueryIsCut lines answers steps program q ticks status writes
+  pub run : Cut Solution
+  pub part : List (Emitted Solution)
+  pub is_part : IsQueryPart program q steps run part
+  pub at_request : HowQueryIsCut lines requests q run part ticks status writes
+  pub in_all : HowQueryIsCut lines answers q run part ticks status writes
 
 -- by what is answered, where so many answers were written before
 abbrev pub TurnComes : {M : Type 0} → Lines → ℕ → ℕ → ℕ → List PredTree → QueryTree → MachineView M → Budget → Result (Option ℕ) Stop → List SinkWrite → Type 0

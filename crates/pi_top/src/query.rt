@@ -142,8 +142,8 @@ pub fn next_told<S: StateStore, O: Sink>(
     ensures steps { budget.new.steps ≡ budget.old.steps }
     ensures mode { mode_of (machine_view S.seen S.order machine.new) ≡ mode_of (machine_view S.seen S.order machine.old) }
     ensures work { mode_of (machine_view S.seen S.order machine.old) ≡ Mode.Top → budget.new.work ≡ budget.old.work }
-    ensures comes { ByWrites O.wrote O.taken out.old out.new (λ writes. (lines : Lines) (first : List SinkWrite) (answers given : ℕ) (program : List PredTree) (q : QueryTree) → IsSoFar lines (machine_view S.seen S.order machine.old) budget.old given program q first
-        → IsRunnable program q → given < answers → NextComes lines answers given program q (machine_view S.seen S.order machine.new) budget.new result (first ++ writes)) }
+    ensures comes { ByWrites O.wrote O.taken out.old out.new (λ writes. (lines : Lines) (first : List SinkWrite) (given : ℕ) (program : List PredTree) (q : QueryTree) → IsSoFar lines (machine_view S.seen S.order machine.old) budget.old given program q first
+        → IsRunnable program q → NextComes lines given program q (machine_view S.seen S.order machine.new) budget.new result (first ++ writes)) }
 {
     for _turn in 0..u64::MAX {
         match machine.next(budget) {

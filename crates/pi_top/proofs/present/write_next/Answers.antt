@@ -8,7 +8,7 @@ use Rattle.pi_meaning.specs.Built.{IsRunnable}
 use Rattle.pi_engine.specs.Seen.{machine_view}
 use Rattle.pi_top.specs.Running.{IsWritten}
 use Rattle.pi_top.specs.Stops.{status_of_stop}
-use Rattle.pi_top.proofs.QueryRuns.{comes-stopped, comes-cut, comes-end}
+use Rattle.pi_top.proofs.QueryEndings.{comes-stopped, comes-cut, comes-end}
 use Rattle.pi_top.specs.Turn.{EndsAt, IsCutAt}
 use Rattle.pi_top.proofs.TurnRuns.{next-answer, ends-at, ends-at-limit, cut-at, cut-at-limit}
 use Rattle.pi_top.proofs.present.write_next.Goals as goal
@@ -24,7 +24,7 @@ returns-in_err-end-clause-comes g c =
     rw (p.1, same)
     (ByWrites-so next.comes (λ writes comes. λ first program q w runnable less.
     cut-at lines c.args.manner.now.answers c.args.given c.args.budget.now.steps after.steps program q after.ticks (status_of_stop c.in_err-end.field-0.0) (first ++ writes) next.steps less
-    (λ more fewer. comes lines first more c.args.given program q w.so_far runnable fewer)))
+    (comes lines first c.args.given program q w.so_far runnable)))
 
 -- an answer's lines
 pub returns-in_err-write_answer-in-Answer-clause-comes : goal.returns-in_err-write_answer-in-Answer-clause-comes
@@ -39,11 +39,11 @@ returns-in_err-write_answer-in-Answer-clause-comes g c =
     let same : p.0 ≡ stop = p.2 in
     rw (p.1, same)
     (ByWrites-then next.comes c.in_err-write_answer-in-Answer.ensures.told (λ before its comes told. λ first program q w runnable less.
-    let it = comes lines first c.args.manner.now.answers c.args.given program q w.so_far runnable less in
+    let it = comes lines first c.args.given program q w.so_far runnable in
     subst (λ (all : List SinkWrite). IsCutAt lines c.args.manner.now.answers (c.args.given + 1) steps program q after.ticks (status_of_stop stop) all) (append_assoc first before its)
     (cut-at lines c.args.manner.now.answers c.args.given steps steps program q after.ticks (status_of_stop stop) ((first ++ before) ++ its) refl less
-    (λ more fewer. comes-cut lines it.before n it.budget after more c.args.given steps program q c.in-Answer.answer stop (first ++ before) its
-    runnable it.so_far it.called fewer next.steps (rw c.in-Answer.is at it.happens) told.cut))))
+    (comes-cut lines it.before n it.budget after c.args.given steps program q c.in-Answer.answer stop (first ++ before) its
+    runnable it.so_far it.called next.steps (rw c.in-Answer.is at it.happens) told.cut))))
 
 -- the line of an end
 pub returns-in_err-write_end-in_default-clause-comes : goal.returns-in_err-write_end-in_default-clause-comes
@@ -58,11 +58,11 @@ returns-in_err-write_end-in_default-clause-comes g c =
     let same : p.0 ≡ stop = p.2 in
     rw (p.1, same)
     (ByWrites-then next.comes c.in_err-write_end-in_default.ensures.told (λ before its comes told. λ first program q w runnable less.
-    let it = comes lines first c.args.manner.now.answers c.args.given program q w.so_far runnable less in
+    let it = comes lines first c.args.given program q w.so_far runnable in
     subst (λ (all : List SinkWrite). IsCutAt lines c.args.manner.now.answers (c.args.given + 1) steps program q after.ticks (status_of_stop stop) all) (append_assoc first before its)
     (cut-at lines c.args.manner.now.answers c.args.given steps steps program q after.ticks (status_of_stop stop) ((first ++ before) ++ its) refl less
-    (λ more fewer. comes-end lines it.before n it.budget after more c.args.given steps program q c.in_ok-end.end _ (Err stop) (first ++ before) its
-    runnable it.so_far it.called fewer next.steps (λ e. grind (arith, nat_tests, e)) (λ e. grind (arith, nat_tests, e)) (λ a e. c.in_default.not-Answer a e) it.no_text it.happens told))))
+    (comes-end lines it.before n it.budget after c.args.given steps program q c.in_ok-end.end _ (Err stop) (first ++ before) its
+    runnable it.so_far it.called next.steps (λ e. grind (arith, nat_tests, e)) (λ e. grind (arith, nat_tests, e)) (λ a e. c.in_default.not-Answer a e) it.no_text it.happens told))))
 
 pub returns-in_default-clause-comes : goal.returns-in_default-clause-comes
 returns-in_default-clause-comes g c =
@@ -72,10 +72,11 @@ returns-in_default-clause-comes g c =
     let after = c.next_told.new.budget in
     let steps = c.args.budget.now.steps in
     ByWrites-then next.comes c.in_ok-write_end-in_default.ensures.told (λ before its comes told. λ first program q w runnable less.
-    let it = comes lines first c.args.manner.now.answers c.args.given program q w.so_far runnable less in
+    let it = comes lines first c.args.given program q w.so_far runnable in
     subst (λ (all : List SinkWrite). EndsAt lines c.args.manner.now.answers (c.args.given + 1) steps program q after.ticks all) (append_assoc first before its)
-    (ends-at lines it.before n it.budget after c.args.manner.now.answers c.args.given steps program q c.in_ok-end.end _ c.in_ok-write_end-in_default.field-0 (first ++ before) its
-    it.so_far it.called next.steps (λ e. grind (arith, nat_tests, e)) (λ e. grind (arith, nat_tests, e)) (λ a e. c.in_default.not-Answer a e) it.no_text it.happens told))
+    (ends-at lines c.args.manner.now.answers c.args.given steps program q after.ticks c.in_ok-write_end-in_default.field-0 ((first ++ before) ++ its)
+    (comes-end lines it.before n it.budget after c.args.given steps program q c.in_ok-end.end _ (Ok c.in_ok-write_end-in_default.field-0) (first ++ before) its
+    runnable it.so_far it.called next.steps (λ e. grind (arith, nat_tests, e)) (λ e. grind (arith, nat_tests, e)) (λ a e. c.in_default.not-Answer a e) it.no_text it.happens told)))
 
 -- one answer more was written
 pub returns-then-given-last-clause-comes : goal.returns-then-given-last-clause-comes
@@ -85,7 +86,7 @@ returns-then-given-last-clause-comes g c =
     let n = machine_view g.S.StateStore.seen g.S.StateStore.order c.next_told.new.machine in
     let after = c.next_told.new.budget in
     ByWrites-then next.comes c.in_ok-write_answer-in-Answer.ensures.told (λ before its comes told. λ first program q w runnable less.
-    let it = comes lines first c.args.manner.now.answers c.args.given program q w.so_far runnable less in
+    let it = comes lines first c.args.given program q w.so_far runnable in
     let written = next-answer lines n after c.args.given program q c.in_ok-end.end c.in-Answer.answer (first ++ before) its c.in-Answer.is it told.all in
     (refl, record { written = subst (λ (all : List SinkWrite). IsWritten lines n after (c.args.given + 1) program q all) (append_assoc first before its) written; fewer = omega (arith, c.if-given-last.true, c.saturating_sub-last.ensures) }))
 
@@ -106,7 +107,7 @@ returns-in_err-ended_behind_answers-clause-comes g c =
     IsWritten lines n after (c.args.given + 1) program q (first ++ writes)) =
     ByWrites-then next.comes c.in_ok-write_answer-in-Answer.ensures.told (λ before its comes told. λ first program q w runnable less.
     subst (λ (all : List SinkWrite). IsWritten lines n after (c.args.given + 1) program q all) (append_assoc first before its)
-    (next-answer lines n after c.args.given program q c.in_ok-end.end c.in-Answer.answer (first ++ before) its c.in-Answer.is (comes lines first c.args.manner.now.answers c.args.given program q w.so_far runnable less) told.all)) in
+    (next-answer lines n after c.args.given program q c.in_ok-end.end c.in-Answer.answer (first ++ before) its c.in-Answer.is (comes lines first c.args.given program q w.so_far runnable) told.all)) in
     rw (p.1, same)
     (ByWrites-then written ended.told (λ earlier last so_far told. λ first program q w runnable less.
     subst (λ (all : List SinkWrite). IsCutAt lines c.args.manner.now.answers (c.args.given + 1) steps program q after.ticks (status_of_stop stop) all) (append_assoc first earlier last)
@@ -128,7 +129,7 @@ returns-clause-comes g c =
     IsWritten lines n after (c.args.given + 1) program q (first ++ writes)) =
     ByWrites-then next.comes c.in_ok-write_answer-in-Answer.ensures.told (λ before its comes told. λ first program q w runnable less.
     subst (λ (all : List SinkWrite). IsWritten lines n after (c.args.given + 1) program q all) (append_assoc first before its)
-    (next-answer lines n after c.args.given program q c.in_ok-end.end c.in-Answer.answer (first ++ before) its c.in-Answer.is (comes lines first c.args.manner.now.answers c.args.given program q w.so_far runnable less) told.all)) in
+    (next-answer lines n after c.args.given program q c.in_ok-end.end c.in-Answer.answer (first ++ before) its c.in-Answer.is (comes lines first c.args.given program q w.so_far runnable) told.all)) in
     ByWrites-then written ended.told (λ earlier last so_far told. λ first program q w runnable less.
     subst (λ (all : List SinkWrite). EndsAt lines c.args.manner.now.answers (c.args.given + 1) steps program q after.ticks all) (append_assoc first earlier last)
     (ends-at-limit lines c.args.manner.now.answers (c.args.given + 1) steps program q after.ticks c.in_ok-ended_behind_answers.field-0 ((first ++ earlier) ++ last) (omega (arith, less, c.if-given-last.false, c.saturating_sub-last.ensures))

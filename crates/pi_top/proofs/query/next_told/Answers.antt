@@ -7,7 +7,8 @@ use Rattle.pi_engine.specs.Seen.{machine_view}
 use Rattle.pi_top.specs.declared.query.Stop.TheVariants.{Write}
 use Rattle.pi_top.specs.Running.{IsSoFar, Called, NextComes}
 use Rattle.pi_top.proofs.HandedTexts.{hands-one, fails-one}
-use Rattle.pi_top.proofs.QueryRuns.{written-text, text-cut, memory-cut}
+use Rattle.pi_top.proofs.QueryRuns.{written-text}
+use Rattle.pi_top.proofs.QueryEndings.{text-cut, memory-cut}
 use Rattle.pi_top.proofs.query.next_told.Goals as goal
 
 pub loop-turn-init : goal.loop-turn-init
@@ -50,11 +51,11 @@ returns-in_err-write_text-in-Out-clause-comes g c =
     let p = err_from_is_err_and c.from_residual.result c.from_residual.ensures.1 in
     let write : p.0 ≡ Write = p.2 in
     rw (p.1, write)
-    (ByWrites-then l.invariant.so_far (rw c.as_str.ensures at c.in_err-write_text-in-Out.ensures.hands) (λ before its earlier fails. λ lines first answers given program q start runnable less.
+    (ByWrites-then l.invariant.so_far (rw c.as_str.ensures at c.in_err-write_text-in-Out.ensures.hands) (λ before its earlier fails. λ lines first given program q start runnable.
     let w = earlier lines first given program q start in
-    subst (NextComes lines answers given program q n c.next.new.budget (Err Write)) (append_assoc first before its)
-    (text-cut lines m n l.budget c.next.new.budget answers given program q c.in-Out.text (first ++ before) its
-    runnable w called less (next.ticks w.running (query_view []) program q w.events w.runs) (fails-one c.in-Out.text its fails))))
+    subst (NextComes lines given program q n c.next.new.budget (Err Write)) (append_assoc first before its)
+    (text-cut lines m n l.budget c.next.new.budget given program q c.in-Out.text (first ++ before) its
+    runnable w called (next.ticks w.running (query_view []) program q w.events w.runs) (fails-one c.in-Out.text its fails))))
 
 pub returns-in_default : goal.returns-in_default
 returns-in_default g c =
@@ -68,7 +69,7 @@ returns-in_default g c =
       steps = next.counts.steps ∙ l.invariant.steps;
       mode = next.mode ∙ l.invariant.mode;
       work = λ top. next.counts.top (l.invariant.mode ∙ top) ∙ l.invariant.work top;
-      comes = ByWrites-so l.invariant.so_far (λ writes earlier. λ lines first answers given program q start runnable less.
+      comes = ByWrites-so l.invariant.so_far (λ writes earlier. λ lines first given program q start runnable.
           let w = earlier lines first given program q start in
           record {
             before = m;
@@ -85,5 +86,5 @@ pub returns-clause-comes : goal.returns-clause-comes
 returns-clause-comes g c =
     let l = c.loop-turn in
     let m = machine_view g.S.StateStore.seen g.S.StateStore.order l.machine in
-    ByWrites-so l.invariant.so_far (λ writes earlier. λ lines first answers given program q start runnable less.
-    memory-cut lines m l.budget answers given program q (first ++ writes) runnable (earlier lines first given program q start) less)
+    ByWrites-so l.invariant.so_far (λ writes earlier. λ lines first given program q start runnable.
+    memory-cut lines m l.budget given program q (first ++ writes) runnable (earlier lines first given program q start))

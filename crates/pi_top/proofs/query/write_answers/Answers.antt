@@ -7,7 +7,8 @@ use Rattle.pi_outside.specs.Writes.{ByWrites}
 use Rattle.pi_outside.proofs.WriteRuns.{ByWrites-none, ByWrites-then}
 use Rattle.pi_top.specs.Stops.{status_of_stop}
 use Rattle.pi_top.specs.Running.{QueryIsCut, IsAtStart, IsWritten, NextComes}
-use Rattle.pi_top.proofs.QueryRuns.{written-start, written-answer, comes-stopped, comes-cut, comes-end}
+use Rattle.pi_top.proofs.QueryRuns.{written-start, written-answer}
+use Rattle.pi_top.proofs.QueryEndings.{cut-with, comes-with, comes-stopped, comes-cut, comes-end}
 use Rattle.pi_top.proofs.query.write_answers.Goals as goal
 
 pub loop-given-init : goal.loop-given-init
@@ -31,7 +32,8 @@ returns-in_err-end-clause-comes g c =
     rw (p.1, same)
     (ByWrites-then l.invariant.so_far next.comes (λ first second so_far comes. λ program q is.
     subst (λ (steps : ℕ). QueryIsCut c.args.manner.now.lines c.args.manner.now.answers steps program q c.next_told.new.budget.ticks (status_of_stop c.in_err-end.field-0.0) (first ++ second)) (next.steps ∙ l.invariant.steps)
-    (comes c.args.manner.now.lines first c.args.manner.now.answers l.given program q (so_far program q is).so_far is.runnable c.loop-given-test.true)))
+    (cut-with c.args.manner.now.lines c.args.manner.now.answers l.given c.next_told.new.budget.steps program q c.next_told.new.budget.ticks (status_of_stop c.in_err-end.field-0.0) (first ++ second) c.loop-given-test.true
+    (comes c.args.manner.now.lines first l.given program q (so_far program q is).so_far is.runnable))))
 
 pub returns-in_err-write_answer-in-Answer-clause-comes : goal.returns-in_err-write_answer-in-Answer-clause-comes
 returns-in_err-write_answer-in-Answer-clause-comes g c =
@@ -40,16 +42,17 @@ returns-in_err-write_answer-in-Answer-clause-comes g c =
     let n = machine_view g.S.StateStore.seen g.S.StateStore.order c.next_told.new.machine in
     let asked : ByWrites g.O.Sink.wrote g.O.Sink.taken c.args.out.now c.next_told.new.out (λ writes. (program : List PredTree) (q : QueryTree) →
     IsAtStart (machine_view g.S.StateStore.seen g.S.StateStore.order c.args.machine.now) c.args.budget.now c.args.manner.now.answers program q →
-    NextComes c.args.manner.now.lines c.args.manner.now.answers l.given program q n c.next_told.new.budget (Ok c.in_ok-end.end) writes) =
+    NextComes c.args.manner.now.lines l.given program q n c.next_told.new.budget (Ok c.in_ok-end.end) writes) =
     ByWrites-then l.invariant.so_far next.comes (λ first second so_far comes. λ program q is.
-    comes c.args.manner.now.lines first c.args.manner.now.answers l.given program q (so_far program q is).so_far is.runnable c.loop-given-test.true) in
+    comes c.args.manner.now.lines first l.given program q (so_far program q is).so_far is.runnable) in
     let p = err_from_is_err_and c.from_residual-in_err-write_answer-in-Answer.result c.from_residual-in_err-write_answer-in-Answer.ensures.1 in
     let same : p.0 ≡ c.in_err-write_answer-in-Answer.field-0.0 = p.2 in
     rw (p.1, same)
     (ByWrites-then asked c.in_err-write_answer-in-Answer.ensures.told (λ first second comes told. λ program q is.
     let it = comes program q is in
-    comes-cut c.args.manner.now.lines it.before n it.budget c.next_told.new.budget c.args.manner.now.answers l.given c.args.budget.now.steps program q c.in-Answer.answer c.in_err-write_answer-in-Answer.field-0.0 first second
-    is.runnable it.so_far it.called c.loop-given-test.true (next.steps ∙ l.invariant.steps) (rw c.in-Answer.is at it.happens) told.cut))
+    cut-with c.args.manner.now.lines c.args.manner.now.answers l.given c.args.budget.now.steps program q c.next_told.new.budget.ticks (status_of_stop c.in_err-write_answer-in-Answer.field-0.0) (first ++ second) c.loop-given-test.true
+    (comes-cut c.args.manner.now.lines it.before n it.budget c.next_told.new.budget l.given c.args.budget.now.steps program q c.in-Answer.answer c.in_err-write_answer-in-Answer.field-0.0 first second
+    is.runnable it.so_far it.called (next.steps ∙ l.invariant.steps) (rw c.in-Answer.is at it.happens) told.cut)))
 
 pub returns-in_default : goal.returns-in_default
 returns-in_default g c =
@@ -58,9 +61,9 @@ returns-in_default g c =
     let n = machine_view g.S.StateStore.seen g.S.StateStore.order c.next_told.new.machine in
     let asked : ByWrites g.O.Sink.wrote g.O.Sink.taken c.args.out.now c.next_told.new.out (λ writes. (program : List PredTree) (q : QueryTree) →
     IsAtStart (machine_view g.S.StateStore.seen g.S.StateStore.order c.args.machine.now) c.args.budget.now c.args.manner.now.answers program q →
-    NextComes c.args.manner.now.lines c.args.manner.now.answers l.given program q n c.next_told.new.budget (Ok c.in_ok-end.end) writes) =
+    NextComes c.args.manner.now.lines l.given program q n c.next_told.new.budget (Ok c.in_ok-end.end) writes) =
     ByWrites-then l.invariant.so_far next.comes (λ first second so_far comes. λ program q is.
-    comes c.args.manner.now.lines first c.args.manner.now.answers l.given program q (so_far program q is).so_far is.runnable c.loop-given-test.true) in
+    comes c.args.manner.now.lines first l.given program q (so_far program q is).so_far is.runnable) in
     record {
       writes = rw (← l.invariant.no_fault, ← next.writes.no_fault) c.write_end.ensures.writes;
       status = c.write_end.ensures.status;
@@ -69,9 +72,10 @@ returns-in_default g c =
       work = λ top. next.work (l.invariant.mode ∙ top) ∙ l.invariant.work top;
       comes = ByWrites-then asked c.write_end.ensures.told (λ first second comes told. λ program q is.
           let it = comes program q is in
-          comes-end c.args.manner.now.lines it.before n it.budget c.next_told.new.budget c.args.manner.now.answers l.given c.args.budget.now.steps program q c.in_ok-end.end _ c.write_end.result first second
-          is.runnable it.so_far it.called c.loop-given-test.true (next.steps ∙ l.invariant.steps)
-          (λ e. grind (arith, nat_tests, e)) (λ e. grind (arith, nat_tests, e)) (λ a e. c.in_default.not-Answer a e) it.no_text it.happens told);
+          comes-with c.args.manner.now.lines c.args.manner.now.answers l.given c.args.budget.now.steps program q c.next_told.new.budget.ticks c.write_end.result (first ++ second) c.loop-given-test.true
+          (comes-end c.args.manner.now.lines it.before n it.budget c.next_told.new.budget l.given c.args.budget.now.steps program q c.in_ok-end.end _ c.write_end.result first second
+          is.runnable it.so_far it.called (next.steps ∙ l.invariant.steps)
+          (λ e. grind (arith, nat_tests, e)) (λ e. grind (arith, nat_tests, e)) (λ a e. c.in_default.not-Answer a e) it.no_text it.happens told));
     }
 
 pub loop-given-preserved : goal.loop-given-preserved
@@ -81,9 +85,9 @@ loop-given-preserved g c =
     let n = machine_view g.S.StateStore.seen g.S.StateStore.order c.next_told.new.machine in
     let asked : ByWrites g.O.Sink.wrote g.O.Sink.taken c.args.out.now c.next_told.new.out (λ writes. (program : List PredTree) (q : QueryTree) →
     IsAtStart (machine_view g.S.StateStore.seen g.S.StateStore.order c.args.machine.now) c.args.budget.now c.args.manner.now.answers program q →
-    NextComes c.args.manner.now.lines c.args.manner.now.answers l.given program q n c.next_told.new.budget (Ok c.in_ok-end.end) writes) =
+    NextComes c.args.manner.now.lines l.given program q n c.next_told.new.budget (Ok c.in_ok-end.end) writes) =
     ByWrites-then l.invariant.so_far next.comes (λ first second so_far comes. λ program q is.
-    comes c.args.manner.now.lines first c.args.manner.now.answers l.given program q (so_far program q is).so_far is.runnable c.loop-given-test.true) in
+    comes c.args.manner.now.lines first l.given program q (so_far program q is).so_far is.runnable) in
     record {
       steps = next.steps ∙ l.invariant.steps;
       within = λ h. next.within (l.invariant.within h);
