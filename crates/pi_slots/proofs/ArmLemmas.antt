@@ -6,6 +6,7 @@ use Rattle.std.specs.declared.alloc.Global.{Global}
 use Rattle.std.specs.declared.boxed.Box.{Box}
 use Rattle.pi_terms.specs.Tree.{Tree, no_trees, tree, trees_of, tree_count}
 use Rattle.pi_terms.specs.ListNames.{nil}
+use Rattle.pi_terms.specs.TermCells.{flat}
 use Rattle.pi_terms.specs.BareCells.{bare, bare_all}
 use Rattle.pi_terms.specs.declared.term.TermCell.{TermCell}
 use Rattle.pi_syntax.specs.PrintTerm.{array_name}
@@ -13,8 +14,9 @@ use Rattle.pi_syntax.specs.ExpTree.{exp_tree, held_tree}
 use Rattle.pi_syntax.specs.ExpLists.{exps_of}
 use Rattle.pi_syntax.specs.declared.exp.Exp as e
 use Rattle.pi_syntax.specs.declared.exp.Exp.{Exp}
+use Rattle.pi_effects.specs.Texts.{text_list}
 use Rattle.pi_meaning.specs.Terms.{items_onto}
-use Rattle.pi_lowered.specs.Slots.{SlotNames}
+use Rattle.pi_lowered.specs.Slots.{SlotNames, slot_for, slots_for}
 use Rattle.pi_lowered.specs.Values.{SlotTerm, SlotTerms, slot_term, slot_terms, constant, made_of, made_onto, before_terms, no_terms}
 use Rattle.pi_slots.specs.ItemCells.{item_cells}
 use Rattle.pi_slots.proofs.ExpTrees.{list-is, list_onto-is, array-is, call-is, range-is, range_by-is}
@@ -126,6 +128,32 @@ cells-three t a b d name old zero one two new is named put first second third =
     ∙ (ap (λ (n : List ℕ). old ++ TermCell.Comp n 3 0 ∷ (bare a.tree ++ (bare b.tree ++ bare d.tree))) named
     ∙ (ap (λ cs. old ++ TermCell.Comp (codes "..") 3 0 ∷ cs) (sym all)
     ∙ (ap (λ cs. old ++ cs) (sym (bare-comp (codes "..") (tree a.tree (tree b.tree (tree d.tree no_trees))) 3 refl)) ∙ ap (λ u. old ++ bare u.tree) (sym is))))))))
+
+-- ---- what has no parts
+
+pub cells-var : (x : Exp) (name label : List ℕ) (ns : SlotNames) (old new : List TermCell) → x ≡ e.Var name → label ≡ name → new ≡ old ++ TermCell.Var (slot_for label ns) ∷ [] → new ≡ old ++ bare (slot_term (exp_tree x) ns).tree
+unfolding slot_term exp_tree flat
+cells-var x name label ns old new is same put = put ∙ (ap (λ (n : List ℕ). old ++ TermCell.Var (slot_for n ns) ∷ []) same ∙ sym (ap (λ y. old ++ bare (slot_term (exp_tree y) ns).tree) is))
+
+pub names-var : (x : Exp) (name label : List ℕ) (ns m : SlotNames) → x ≡ e.Var name → label ≡ name → m ≡ slots_for label ns → m ≡ (slot_term (exp_tree x) ns).names
+unfolding slot_term exp_tree
+names-var x name label ns m is same put = put ∙ (ap (λ (n : List ℕ). slots_for n ns) same ∙ sym (ap (λ y. (slot_term (exp_tree y) ns).names) is))
+
+pub cells-atom : (x : Exp) (name label : List ℕ) (ns : SlotNames) (old new : List TermCell) → x ≡ e.Atom name → label ≡ name → new ≡ old ++ TermCell.Atom label ∷ [] → new ≡ old ++ bare (slot_term (exp_tree x) ns).tree
+unfolding slot_term exp_tree flat
+cells-atom x name label ns old new is same put = put ∙ (ap (λ (n : List ℕ). old ++ TermCell.Atom n ∷ []) same ∙ sym (ap (λ y. old ++ bare (slot_term (exp_tree y) ns).tree) is))
+
+pub names-atom : (x : Exp) (name : List ℕ) (ns : SlotNames) → x ≡ e.Atom name → ns ≡ (slot_term (exp_tree x) ns).names
+unfolding slot_term exp_tree
+names-atom x name ns is = sym (ap (λ y. (slot_term (exp_tree y) ns).names) is)
+
+pub cells-str : (x : Exp) (text label : List ℕ) (ns : SlotNames) (old new : List TermCell) → x ≡ e.Str text → label ≡ text → new ≡ old ++ bare (text_list label) → new ≡ old ++ bare (slot_term (exp_tree x) ns).tree
+unfolding slot_term exp_tree
+cells-str x text label ns old new is same put = put ∙ (ap (λ (n : List ℕ). old ++ bare (text_list n)) same ∙ sym (ap (λ y. old ++ bare (slot_term (exp_tree y) ns).tree) is))
+
+pub names-str : (x : Exp) (text : List ℕ) (ns : SlotNames) → x ≡ e.Str text → ns ≡ (slot_term (exp_tree x) ns).names
+unfolding slot_term exp_tree
+names-str x text ns is = sym (ap (λ y. (slot_term (exp_tree y) ns).names) is)
 
 -- ---- what is no term
 

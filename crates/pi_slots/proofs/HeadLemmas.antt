@@ -5,7 +5,8 @@ use Rattle.std.specs.Prelude.{Vec, Option, codes}
 use Rattle.std.specs.declared.alloc.Global.{Global}
 use Rattle.std.specs.declared.boxed.Box.{Box}
 use Rattle.pi_terms.specs.ListNames.{nil}
-use Rattle.pi_terms.specs.PatternTree.{PatternTree, compound, exact_atom, PatternTrees, no_patterns, pattern}
+use Rattle.pi_terms.specs.PatternTree.{PatternTree, slot, compound, exact_atom, PatternTrees, no_patterns, pattern}
+use Rattle.pi_effects.specs.Texts.{text_list}
 use Rattle.pi_syntax.specs.PrintTerm.{array_name}
 use Rattle.pi_core.specs.CoreTree.{pattern_tree, pattern_trees}
 use Rattle.pi_core.specs.declared.core_program.Pattern.{Pattern}
@@ -13,8 +14,8 @@ use Rattle.pi_syntax.specs.ExpTree.{exp_tree, held_tree}
 use Rattle.pi_syntax.specs.ExpLists.{exps_of}
 use Rattle.pi_syntax.specs.declared.exp.Exp as e
 use Rattle.pi_syntax.specs.declared.exp.Exp.{Exp}
-use Rattle.pi_lowered.specs.Slots.{SlotNames}
-use Rattle.pi_lowered.specs.Values.{SlotPattern, SlotPatterns, exact, slot_pattern, slot_patterns, structure, before_forms, no_forms, cells_onto}
+use Rattle.pi_lowered.specs.Slots.{SlotNames, slot_for, slots_for}
+use Rattle.pi_lowered.specs.Values.{SlotPattern, SlotPatterns, exact, exact_term, slot_pattern, slot_patterns, structure, before_forms, no_forms, cells_onto}
 use Rattle.pi_slots.proofs.ExpTrees.{list-is, list_onto-is, array-is, call-is, range-is, range_by-is}
 
 abbrev pub onto_pattern : SlotPatterns → SlotPattern → SlotPattern
@@ -111,6 +112,32 @@ names-as p q m is e = e ∙ sym (ap (λ r. r.names) is)
 
 pub form-same : (p q : SlotPattern) (made : PatternTree) → p ≡ q → made ≡ q.form → made ≡ p.form
 form-same p q made is e = e ∙ sym (ap (λ r. r.form) is)
+
+-- ---- what has no parts
+
+pub form-var : (x : Exp) (name label : List ℕ) (ns : SlotNames) (k : ℕ) → x ≡ e.Var name → label ≡ name → k ≡ slot_for label ns → pattern_tree (Pattern.Slot k) ≡ (slot_pattern (exp_tree x) ns).form
+unfolding slot_pattern exp_tree pattern_tree
+form-var x name label ns k is same put = ap slot put ∙ (ap (λ (n : List ℕ). slot (slot_for n ns)) same ∙ sym (ap (λ y. (slot_pattern (exp_tree y) ns).form) is))
+
+pub names-var : (x : Exp) (name label : List ℕ) (ns m : SlotNames) → x ≡ e.Var name → label ≡ name → m ≡ slots_for label ns → m ≡ (slot_pattern (exp_tree x) ns).names
+unfolding slot_pattern exp_tree
+names-var x name label ns m is same put = put ∙ (ap (λ (n : List ℕ). slots_for n ns) same ∙ sym (ap (λ y. (slot_pattern (exp_tree y) ns).names) is))
+
+pub form-atom : (x : Exp) (name label : List ℕ) (ns : SlotNames) (made : PatternTree) → x ≡ e.Atom name → label ≡ name → made ≡ exact_atom label → made ≡ (slot_pattern (exp_tree x) ns).form
+unfolding slot_pattern exp_tree
+form-atom x name label ns made is same put = put ∙ (ap exact_atom same ∙ sym (ap (λ y. (slot_pattern (exp_tree y) ns).form) is))
+
+pub names-atom : (x : Exp) (name : List ℕ) (ns : SlotNames) → x ≡ e.Atom name → ns ≡ (slot_pattern (exp_tree x) ns).names
+unfolding slot_pattern exp_tree
+names-atom x name ns is = sym (ap (λ y. (slot_pattern (exp_tree y) ns).names) is)
+
+pub form-str : (x : Exp) (text label : List ℕ) (ns : SlotNames) (made : PatternTree) → x ≡ e.Str text → label ≡ text → made ≡ exact_term (text_list label) → made ≡ (slot_pattern (exp_tree x) ns).form
+unfolding slot_pattern exp_tree
+form-str x text label ns made is same put = put ∙ (ap (λ (n : List ℕ). exact_term (text_list n)) same ∙ sym (ap (λ y. (slot_pattern (exp_tree y) ns).form) is))
+
+pub names-str : (x : Exp) (text : List ℕ) (ns : SlotNames) → x ≡ e.Str text → ns ≡ (slot_pattern (exp_tree x) ns).names
+unfolding slot_pattern exp_tree
+names-str x text ns is = sym (ap (λ y. (slot_pattern (exp_tree y) ns).names) is)
 
 -- ---- what is no pattern
 

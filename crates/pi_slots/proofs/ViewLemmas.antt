@@ -4,7 +4,7 @@ use Rattle.std.specs.Prelude.{is_some, replicate}
 use Rattle.std.specs.Borrow.{Bor}
 use Rattle.std.specs.Str.{bytes_eq}
 use Rattle.std.proofs.lemmas.Bool.{cond-true, cond-false}
-use Rattle.std.proofs.lemmas.List.{append-nil, map-append, drop_all, replicate-append-replicate}
+use Rattle.std.proofs.lemmas.List.{append-nil, map-append, drop_all, drop_more, replicate-append-replicate}
 use Rattle.pi_meaning.specs.Texts.{is_among}
 use Rattle.pi_lowered.specs.Slots.{SlotNames, unnamed, slot_of, slot_known, slot_or_next, slot_for}
 use Rattle.pi_lowered.specs.Loops.{with_values}
@@ -13,7 +13,6 @@ use Rattle.pi_lowered.proofs.EnteredLemmas.{among-slot}
 use Rattle.pi_lowered.proofs.CarriedLemmas.{values-are}
 use Rattle.pi_slots.specs.Indexed.{names_in}
 use Rattle.pi_slots.proofs.SlotLemmas.{length_names}
-use Rattle.pi_slots.proofs.FlatLemmas.{drop-next}
 
 -- ---- the slot of an occurrence
 
@@ -64,12 +63,12 @@ pub record MappedTo (f : List ℕ → List ℕ) (names : List (Bor (List ℕ))) 
 pub mapped-none : (f : List ℕ → List ℕ) (names made : List (Bor (List ℕ))) → made ≡ [] → MappedTo f names 0 made
 mapped-none f names made empty = record { is = ap (λ xs. names_in xs ++ map f (names_in names)) empty }
 
-pub mapped-more : (f : List ℕ → List ℕ) (names made new : List (Bor (List ℕ))) (k : ℕ) (x y : Bor (List ℕ)) → k < length names → x ≡ get_or names k x → new ≡ made ++ y ∷ [] → y.now ≡ f x.now → MappedTo f names k made → MappedTo f names (k + 1) new
-mapped-more f names made new k x y less item put same so =
+pub mapped-more : (f : List ℕ → List ℕ) (names made new : List (Bor (List ℕ))) (k : ℕ) (d y : Bor (List ℕ)) → k < length names → new ≡ made ++ y ∷ [] → y.now ≡ f (get_or names k d).now → MappedTo f names k made → MappedTo f names (k + 1) new
+mapped-more f names made new k d y less put same so =
     let rest : List (List ℕ) = map f (names_in (drop (k + 1) names)) in
     record {
-      is = ap (λ ns. ns ++ rest) (names-behind made new (y ∷ []) put) ∙ (ap (λ (n : List ℕ). (names_in made ++ n ∷ []) ++ rest) same ∙ (append_assoc (names_in made) (f x.now ∷ []) rest
-          ∙ (ap (λ xs. names_in made ++ map f (names_in xs)) (sym (drop-next names k x less item)) ∙ so.is)));
+      is = ap (λ ns. ns ++ rest) (names-behind made new (y ∷ []) put) ∙ (ap (λ (n : List ℕ). (names_in made ++ n ∷ []) ++ rest) same ∙ (append_assoc (names_in made) (f (get_or names k d).now ∷ []) rest
+          ∙ (ap (λ xs. names_in made ++ map f (names_in xs)) (sym (drop_more names k d less)) ∙ so.is)));
     }
 
 pub mapped-all : (f : List ℕ → List ℕ) (names made : List (Bor (List ℕ))) (k : ℕ) → length names ≤ k → MappedTo f names k made → names_in made ≡ map f (names_in names)

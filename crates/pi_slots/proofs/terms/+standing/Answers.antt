@@ -1,5 +1,5 @@
 -- Each kind of expression by its lemma.
-use Rattle.std.proofs.Common.{◌≡◌, length, refl, rules}
+use Rattle.std.proofs.Common.{◌≡◌, [], length, refl, rules}
 use Rattle.std.specs.Prelude.{codes}
 use Rattle.std.proofs.lemmas.Result.{IfOk-weaker}
 use Rattle.pi_terms.specs.Tree.{Tree}
@@ -8,10 +8,10 @@ use Rattle.pi_syntax.specs.PrintTerm.{array_name}
 use Rattle.pi_syntax.specs.ExpTree.{exp_tree}
 use Rattle.pi_syntax.specs.ExpLists.{exps_of}
 use Rattle.pi_meaning.specs.Terms.{items_onto}
-use Rattle.pi_lowered.specs.Values.{slot_term, slot_terms, made_of, made_onto}
+use Rattle.pi_lowered.specs.Values.{slot_term, slot_terms, constant, made_of, made_onto}
 use Rattle.pi_slots.proofs.StepLemmas.{did}
 use Rattle.pi_slots.proofs.TermLemmas.{terms-none, terms-more, terms-end, items-none, items-more, items-end}
-use Rattle.pi_slots.proofs.ArmLemmas.{term-list, term-onto, term-array, term-call, term-quote, term-range, term-range_by, two_terms, three_terms, cells-list, cells-onto, cells-comp, cells-same, cells-two, cells-three, names-as}
+use Rattle.pi_slots.proofs.ArmLemmas.{term-list, term-onto, term-array, term-call, term-quote, term-range, term-range_by, two_terms, three_terms, cells-list, cells-onto, cells-comp, cells-same, cells-two, cells-three, names-as, nameless-index, nameless-at, nameless-collect, nameless-and, nameless-or, nameless-arrow, nameless-if, nameless-foreach, nameless-while, nameless-do_while, cells-nameless, cells-var, names-var, cells-atom, names-atom, cells-str, names-str}
 use Rattle.pi_slots.proofs.terms.+standing.Goals as goal
 
 pub push_terms-loop-exp-init : goal.push_terms-loop-exp-init
@@ -99,3 +99,81 @@ push_term-returns-in-None-step-clause-cells t c =
 pub push_term-returns-in-None-step-clause-slots : goal.push_term-returns-in-None-step-clause-slots
 push_term-returns-in-None-step-clause-slots t c =
     IfOk-weaker c.both-in-None-step-2.result _ _ (λ _ w. let v = did c.both-in-None-step.result _ w.0 c.both-in-None-step.ensures in names-as (slot_term (exp_tree c.args.exp.now) c.args.slots.now) (two_terms (slot_term (exp_tree c.deref-in-None-step.result.now) c.args.slots.now) (slot_term (exp_tree c.deref-in-None-step-2.result.now) c.push_term-in-None-step.new.slots)) c.push_term-in-None-step-2.new.slots (term-range c.args.exp.now c.in-Range.first c.in-Range.step c.in-Range.last c.deref-in-None-step.result.now c.deref-in-None-step-2.result.now c.args.slots.now c.push_term-in-None-step.new.slots c.in-Range.is c.in-None-step.is c.deref-in-None-step.ensures c.deref-in-None-step-2.ensures (did c.push_term-in-None-step.result _ v.1 c.push_term-in-None-step.ensures.slots)) (did c.push_term-in-None-step-2.result _ w.1 c.push_term-in-None-step-2.ensures.slots)) c.both-in-None-step-2.ensures
+
+pub push_term-returns-in-Var-clause-cells : goal.push_term-returns-in-Var-clause-cells
+push_term-returns-in-Var-clause-cells t c = IfOk-weaker c.push_slot.result _ _ (λ _ so. cells-var c.args.exp.now c.in-Var.name c.as_str.result.now c.args.slots.now c.args.cells.now.items c.push_slot.new.cells.items c.in-Var.is c.as_str.ensures so) c.push_slot.ensures.cells
+
+pub push_term-returns-in-Var-clause-slots : goal.push_term-returns-in-Var-clause-slots
+push_term-returns-in-Var-clause-slots t c = IfOk-weaker c.push_slot.result _ _ (λ _ so. names-var c.args.exp.now c.in-Var.name c.as_str.result.now c.args.slots.now c.push_slot.new.slots c.in-Var.is c.as_str.ensures so) c.push_slot.ensures.slots
+
+pub push_term-returns-in-Atom-clause-cells : goal.push_term-returns-in-Atom-clause-cells
+push_term-returns-in-Atom-clause-cells t c = IfOk-weaker c.push_atom.result _ _ (λ _ so. cells-atom c.args.exp.now c.in-Atom.name c.as_str-in-Atom.result.now c.args.slots.now c.args.cells.now.items c.push_atom.new.cells.items c.in-Atom.is c.as_str-in-Atom.ensures so) c.push_atom.ensures
+
+pub push_term-returns-in-Atom-clause-slots : goal.push_term-returns-in-Atom-clause-slots
+push_term-returns-in-Atom-clause-slots t c = IfOk-weaker c.push_atom.result _ _ (λ _ _. names-atom c.args.exp.now c.in-Atom.name c.args.slots.now c.in-Atom.is) c.push_atom.ensures
+
+pub push_term-returns-in-Str-clause-cells : goal.push_term-returns-in-Str-clause-cells
+push_term-returns-in-Str-clause-cells t c = IfOk-weaker c.push_text.result _ _ (λ _ so. cells-str c.args.exp.now c.in-Str.text c.as_str-in-Str.result.now c.args.slots.now c.args.cells.now.items c.push_text.new.cells.items c.in-Str.is c.as_str-in-Str.ensures so) c.push_text.ensures
+
+pub push_term-returns-in-Str-clause-slots : goal.push_term-returns-in-Str-clause-slots
+push_term-returns-in-Str-clause-slots t c = IfOk-weaker c.push_text.result _ _ (λ _ _. names-str c.args.exp.now c.in-Str.text c.args.slots.now c.in-Str.is) c.push_text.ensures
+
+pub push_term-returns-in-Index-clause-cells : goal.push_term-returns-in-Index-clause-cells
+push_term-returns-in-Index-clause-cells t c = IfOk-weaker c.push_nameless.result _ _ (λ _ so. cells-nameless (slot_term (exp_tree c.args.exp.now) c.args.slots.now) c.args.slots.now c.args.cells.now.items c.push_nameless.new.cells.items (nameless-index c.args.exp.now _ _ c.args.slots.now c.in-Index.is) so) c.push_nameless.ensures
+
+pub push_term-returns-in-Index-clause-slots : goal.push_term-returns-in-Index-clause-slots
+push_term-returns-in-Index-clause-slots t c = IfOk-weaker c.push_nameless.result _ _ (λ _ _. names-as (slot_term (exp_tree c.args.exp.now) c.args.slots.now) (constant (Tree.atom []) c.args.slots.now) c.args.slots.now (nameless-index c.args.exp.now _ _ c.args.slots.now c.in-Index.is) refl) c.push_nameless.ensures
+
+pub push_term-returns-in-At-clause-cells : goal.push_term-returns-in-At-clause-cells
+push_term-returns-in-At-clause-cells t c = IfOk-weaker c.push_nameless-in-At.result _ _ (λ _ so. cells-nameless (slot_term (exp_tree c.args.exp.now) c.args.slots.now) c.args.slots.now c.args.cells.now.items c.push_nameless-in-At.new.cells.items (nameless-at c.args.exp.now _ _ c.args.slots.now c.in-At.is) so) c.push_nameless-in-At.ensures
+
+pub push_term-returns-in-At-clause-slots : goal.push_term-returns-in-At-clause-slots
+push_term-returns-in-At-clause-slots t c = IfOk-weaker c.push_nameless-in-At.result _ _ (λ _ _. names-as (slot_term (exp_tree c.args.exp.now) c.args.slots.now) (constant (Tree.atom []) c.args.slots.now) c.args.slots.now (nameless-at c.args.exp.now _ _ c.args.slots.now c.in-At.is) refl) c.push_nameless-in-At.ensures
+
+pub push_term-returns-in-Collect-clause-cells : goal.push_term-returns-in-Collect-clause-cells
+push_term-returns-in-Collect-clause-cells t c = IfOk-weaker c.push_nameless-in-Collect.result _ _ (λ _ so. cells-nameless (slot_term (exp_tree c.args.exp.now) c.args.slots.now) c.args.slots.now c.args.cells.now.items c.push_nameless-in-Collect.new.cells.items (nameless-collect c.args.exp.now _ _ _ c.args.slots.now c.in-Collect.is) so) c.push_nameless-in-Collect.ensures
+
+pub push_term-returns-in-Collect-clause-slots : goal.push_term-returns-in-Collect-clause-slots
+push_term-returns-in-Collect-clause-slots t c = IfOk-weaker c.push_nameless-in-Collect.result _ _ (λ _ _. names-as (slot_term (exp_tree c.args.exp.now) c.args.slots.now) (constant (Tree.atom []) c.args.slots.now) c.args.slots.now (nameless-collect c.args.exp.now _ _ _ c.args.slots.now c.in-Collect.is) refl) c.push_nameless-in-Collect.ensures
+
+pub push_term-returns-in-And-clause-cells : goal.push_term-returns-in-And-clause-cells
+push_term-returns-in-And-clause-cells t c = IfOk-weaker c.push_nameless-in-And.result _ _ (λ _ so. cells-nameless (slot_term (exp_tree c.args.exp.now) c.args.slots.now) c.args.slots.now c.args.cells.now.items c.push_nameless-in-And.new.cells.items (nameless-and c.args.exp.now _ c.args.slots.now c.in-And.is) so) c.push_nameless-in-And.ensures
+
+pub push_term-returns-in-And-clause-slots : goal.push_term-returns-in-And-clause-slots
+push_term-returns-in-And-clause-slots t c = IfOk-weaker c.push_nameless-in-And.result _ _ (λ _ _. names-as (slot_term (exp_tree c.args.exp.now) c.args.slots.now) (constant (Tree.atom []) c.args.slots.now) c.args.slots.now (nameless-and c.args.exp.now _ c.args.slots.now c.in-And.is) refl) c.push_nameless-in-And.ensures
+
+pub push_term-returns-in-Or-clause-cells : goal.push_term-returns-in-Or-clause-cells
+push_term-returns-in-Or-clause-cells t c = IfOk-weaker c.push_nameless-in-Or.result _ _ (λ _ so. cells-nameless (slot_term (exp_tree c.args.exp.now) c.args.slots.now) c.args.slots.now c.args.cells.now.items c.push_nameless-in-Or.new.cells.items (nameless-or c.args.exp.now _ c.args.slots.now c.in-Or.is) so) c.push_nameless-in-Or.ensures
+
+pub push_term-returns-in-Or-clause-slots : goal.push_term-returns-in-Or-clause-slots
+push_term-returns-in-Or-clause-slots t c = IfOk-weaker c.push_nameless-in-Or.result _ _ (λ _ _. names-as (slot_term (exp_tree c.args.exp.now) c.args.slots.now) (constant (Tree.atom []) c.args.slots.now) c.args.slots.now (nameless-or c.args.exp.now _ c.args.slots.now c.in-Or.is) refl) c.push_nameless-in-Or.ensures
+
+pub push_term-returns-in-Arrow-clause-cells : goal.push_term-returns-in-Arrow-clause-cells
+push_term-returns-in-Arrow-clause-cells t c = IfOk-weaker c.push_nameless-in-Arrow.result _ _ (λ _ so. cells-nameless (slot_term (exp_tree c.args.exp.now) c.args.slots.now) c.args.slots.now c.args.cells.now.items c.push_nameless-in-Arrow.new.cells.items (nameless-arrow c.args.exp.now _ _ c.args.slots.now c.in-Arrow.is) so) c.push_nameless-in-Arrow.ensures
+
+pub push_term-returns-in-Arrow-clause-slots : goal.push_term-returns-in-Arrow-clause-slots
+push_term-returns-in-Arrow-clause-slots t c = IfOk-weaker c.push_nameless-in-Arrow.result _ _ (λ _ _. names-as (slot_term (exp_tree c.args.exp.now) c.args.slots.now) (constant (Tree.atom []) c.args.slots.now) c.args.slots.now (nameless-arrow c.args.exp.now _ _ c.args.slots.now c.in-Arrow.is) refl) c.push_nameless-in-Arrow.ensures
+
+pub push_term-returns-in-If-clause-cells : goal.push_term-returns-in-If-clause-cells
+push_term-returns-in-If-clause-cells t c = IfOk-weaker c.push_nameless-in-If.result _ _ (λ _ so. cells-nameless (slot_term (exp_tree c.args.exp.now) c.args.slots.now) c.args.slots.now c.args.cells.now.items c.push_nameless-in-If.new.cells.items (nameless-if c.args.exp.now _ _ c.args.slots.now c.in-If.is) so) c.push_nameless-in-If.ensures
+
+pub push_term-returns-in-If-clause-slots : goal.push_term-returns-in-If-clause-slots
+push_term-returns-in-If-clause-slots t c = IfOk-weaker c.push_nameless-in-If.result _ _ (λ _ _. names-as (slot_term (exp_tree c.args.exp.now) c.args.slots.now) (constant (Tree.atom []) c.args.slots.now) c.args.slots.now (nameless-if c.args.exp.now _ _ c.args.slots.now c.in-If.is) refl) c.push_nameless-in-If.ensures
+
+pub push_term-returns-in-Foreach-clause-cells : goal.push_term-returns-in-Foreach-clause-cells
+push_term-returns-in-Foreach-clause-cells t c = IfOk-weaker c.push_nameless-in-Foreach.result _ _ (λ _ so. cells-nameless (slot_term (exp_tree c.args.exp.now) c.args.slots.now) c.args.slots.now c.args.cells.now.items c.push_nameless-in-Foreach.new.cells.items (nameless-foreach c.args.exp.now _ _ c.args.slots.now c.in-Foreach.is) so) c.push_nameless-in-Foreach.ensures
+
+pub push_term-returns-in-Foreach-clause-slots : goal.push_term-returns-in-Foreach-clause-slots
+push_term-returns-in-Foreach-clause-slots t c = IfOk-weaker c.push_nameless-in-Foreach.result _ _ (λ _ _. names-as (slot_term (exp_tree c.args.exp.now) c.args.slots.now) (constant (Tree.atom []) c.args.slots.now) c.args.slots.now (nameless-foreach c.args.exp.now _ _ c.args.slots.now c.in-Foreach.is) refl) c.push_nameless-in-Foreach.ensures
+
+pub push_term-returns-in-While-clause-cells : goal.push_term-returns-in-While-clause-cells
+push_term-returns-in-While-clause-cells t c = IfOk-weaker c.push_nameless-in-While.result _ _ (λ _ so. cells-nameless (slot_term (exp_tree c.args.exp.now) c.args.slots.now) c.args.slots.now c.args.cells.now.items c.push_nameless-in-While.new.cells.items (nameless-while c.args.exp.now _ _ c.args.slots.now c.in-While.is) so) c.push_nameless-in-While.ensures
+
+pub push_term-returns-in-While-clause-slots : goal.push_term-returns-in-While-clause-slots
+push_term-returns-in-While-clause-slots t c = IfOk-weaker c.push_nameless-in-While.result _ _ (λ _ _. names-as (slot_term (exp_tree c.args.exp.now) c.args.slots.now) (constant (Tree.atom []) c.args.slots.now) c.args.slots.now (nameless-while c.args.exp.now _ _ c.args.slots.now c.in-While.is) refl) c.push_nameless-in-While.ensures
+
+pub push_term-returns-in-DoWhile-clause-cells : goal.push_term-returns-in-DoWhile-clause-cells
+push_term-returns-in-DoWhile-clause-cells t c = IfOk-weaker c.push_nameless-in-DoWhile.result _ _ (λ _ so. cells-nameless (slot_term (exp_tree c.args.exp.now) c.args.slots.now) c.args.slots.now c.args.cells.now.items c.push_nameless-in-DoWhile.new.cells.items (nameless-do_while c.args.exp.now _ _ c.args.slots.now c.in-DoWhile.is) so) c.push_nameless-in-DoWhile.ensures
+
+pub push_term-returns-in-DoWhile-clause-slots : goal.push_term-returns-in-DoWhile-clause-slots
+push_term-returns-in-DoWhile-clause-slots t c = IfOk-weaker c.push_nameless-in-DoWhile.result _ _ (λ _ _. names-as (slot_term (exp_tree c.args.exp.now) c.args.slots.now) (constant (Tree.atom []) c.args.slots.now) c.args.slots.now (nameless-do_while c.args.exp.now _ _ c.args.slots.now c.in-DoWhile.is) refl) c.push_nameless-in-DoWhile.ensures
