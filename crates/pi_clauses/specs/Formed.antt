@@ -55,7 +55,7 @@ pub record IsSplit (s : SplitUnits) (es : ExpTrees) : Type 0 where
 
 -- the events of a rule
 abbrev pub ShowsEvents : Clause → Option ExpTrees → Type 0
-ShowsEvents (Clause.Rule head cond events back body) (Some es) = exps_of events.items ≡ es
+ShowsEvents (Clause.Rule boxed) (Some es) = exps_of boxed.value.events.items ≡ es
 ShowsEvents c es = Unit {0}
 
 -- the clause of a shape

@@ -37,12 +37,12 @@ fn has_bad_arrow(alloc: Global, formed: &FormedClause) -> Result<bool, AllocErro
     ensures { IfOk result (λ b. (s : Shape) → IsFormed formed.now s → b ≡ (items.is_function_with_choice_or_events s || (items.is_open_action_rule s || items.has_bad_events s))) }
 {
     match &formed.clause {
-        Clause::Function { .. } => Ok(formed.is_open | formed.has_events),
+        Clause::Function(_) => Ok(formed.is_open | formed.has_events),
         Clause::Fact { .. } => Ok(false),
-        Clause::Rule { head, events, .. } => has_bad_action(
+        Clause::Rule(rule) => has_bad_action(
             alloc,
-            head,
-            events.as_slice(),
+            &rule.head,
+            rule.events.as_slice(),
             formed.is_open,
             formed.has_events,
         ),
@@ -72,8 +72,8 @@ fn head_of(clause: &Clause) -> &Exp
     ensures { exp_tree result.now ≡ items.head_of (written_clause clause.now) }
 {
     match clause {
-        Clause::Rule { head, .. } => head,
-        Clause::Function { head, .. } => head,
+        Clause::Rule(rule) => &rule.head,
+        Clause::Function(function) => &function.head,
         Clause::Fact { head } => head,
     }
 }

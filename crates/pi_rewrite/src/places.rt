@@ -55,23 +55,16 @@ pub(crate) fn behind_part(before: u64, part: &Part) -> Result<u64, AllocError>
     ensures { IfOk result (λ all. all ≡ before + clause_count (part_tree part.now).clause) }
 {
     match &part.clause {
-        Some(Clause::Rule { cond, body, .. }) => {
-            let some = helpers_in_option(cond)?;
-            let more = helpers_in(body)?;
+        Some(Clause::Rule(rule)) => {
+            let some = helpers_in_option(&rule.cond)?;
+            let more = helpers_in(&rule.body)?;
             let all = together(some, more)?;
             together(before, all)
         }
-        Some(
-            Clause::Function {
-                value,
-                cond,
-                body,
-                ..
-            },
-        ) => {
-            let some = helpers_in_option(cond)?;
-            let more = helpers_in_option(body)?;
-            let last = helpers_in(value)?;
+        Some(Clause::Function(function)) => {
+            let some = helpers_in_option(&function.cond)?;
+            let more = helpers_in_option(&function.body)?;
+            let last = helpers_in(&function.value)?;
             let rest = together(more, last)?;
             let all = together(some, rest)?;
             together(before, all)

@@ -90,30 +90,25 @@ fn lower_part(
     ensures helpers { IfOk result (λ _. map pred_tree helpers.new.items ≡ map pred_tree helpers.old.items ++ clause_helpers (own_name from.entry.naming.now.prefix) from.entry.count (part_tree part.now).clause) }
 {
     match &part.clause {
-        Some(
-            Clause::Rule {
-                head,
-                cond,
-                back,
-                body,
-                ..
-            },
-        ) => {
-            let named = signature(head, false)?;
-            let clause = lower_rule(alloc, from, head, cond, *back, body, helpers)?;
+        Some(Clause::Rule(rule)) => {
+            let named = signature(&rule.head, false)?;
+            let clause = lower_rule(
+                alloc, from, &rule.head, &rule.cond, rule.back, &rule.body, helpers,
+            )?;
             add_clause(alloc, preds, named, None, clause)?;
             Ok(())
         }
-        Some(
-            Clause::Function {
-                head,
-                value,
-                cond,
-                body,
-            },
-        ) => {
-            let named = signature(head, true)?;
-            let clause = lower_function(alloc, from, head, value, cond, body, helpers)?;
+        Some(Clause::Function(function)) => {
+            let named = signature(&function.head, true)?;
+            let clause = lower_function(
+                alloc,
+                from,
+                &function.head,
+                &function.value,
+                &function.cond,
+                &function.body,
+                helpers,
+            )?;
             add_clause(alloc, preds, named, None, clause)?;
             Ok(())
         }

@@ -44,25 +44,15 @@ fn is_built_clause(clause: &Clause) -> bool
     ensures { result ≡ spec.is_built_clause (written_clause clause.now) }
 {
     match clause {
-        Clause::Rule {
-            head,
-            cond,
-            events,
-            body,
-            ..
-        } => {
-            events.is_empty()
-                & (is_built_head(head) & (is_built_goal_or_none(cond) & is_built_goal(body)))
+        Clause::Rule(rule) => {
+            rule.events.is_empty()
+                & (is_built_head(&rule.head)
+                    & (is_built_goal_or_none(&rule.cond) & is_built_goal(&rule.body)))
         }
-        Clause::Function {
-            head,
-            value,
-            cond,
-            body,
-        } => {
-            is_built_head(head)
-                & (is_built_goal_or_none(cond)
-                    & (is_built_goal_or_none(body) & is_built_value(value)))
+        Clause::Function(function) => {
+            is_built_head(&function.head)
+                & (is_built_goal_or_none(&function.cond)
+                    & (is_built_goal_or_none(&function.body) & is_built_value(&function.value)))
         }
         Clause::Fact { head } => is_built_head(head),
     }

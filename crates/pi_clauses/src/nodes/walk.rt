@@ -82,18 +82,13 @@ impl<'a> Walk<'a> {
         ensures { OnOk result (nodes_ahead self.new ≡ clause_placed (written_clause clause.now) ++ nodes_ahead self.old) }
     {
         match clause {
-            Clause::Rule { cond, body, .. } => self
-                .push(Place::Goal { assigns: true }, body)
-                .and(self.push_optional(TEST, cond)),
-            Clause::Function {
-                value,
-                cond,
-                body,
-                ..
-            } => self
-                .push_optional(Place::Goal { assigns: true }, body)
-                .and(self.push_optional(TEST, cond))
-                .and(self.push(Place::Expression, value)),
+            Clause::Rule(rule) => self
+                .push(Place::Goal { assigns: true }, &rule.body)
+                .and(self.push_optional(TEST, &rule.cond)),
+            Clause::Function(function) => self
+                .push_optional(Place::Goal { assigns: true }, &function.body)
+                .and(self.push_optional(TEST, &function.cond))
+                .and(self.push(Place::Expression, &function.value)),
             Clause::Fact { .. } => Ok(()),
         }
     }
