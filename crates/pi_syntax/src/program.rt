@@ -15,9 +15,7 @@ pub enum Clause {
     /// A function's rule or fact.
     Function(Box<FunctionClause>),
     /// A fact of a predicate behind its `index`.
-    Fact {
-        head: Exp,
-    },
+    Fact { head: Exp },
 }
 
 // By hand, so that letting one go is a call and not its parts at each way out.
