@@ -2,13 +2,14 @@
 ghost use Rattle.std.specs.Prelude.{◌≡◌, ◌++◌, map, IfOk, option_map};
 ghost use Rattle.std.specs.String.{string_bytes};
 ghost use Rattle.pi_syntax.specs.ExpTree.{exp_tree};
-ghost use Rattle.pi_syntax.specs.ProgramTree.{written_clause, part_tree};
+ghost use Rattle.pi_syntax.specs.ProgramTree.{written_clause, rule_tree, function_tree, part_tree};
+ghost use Rattle.pi_syntax.specs.ProgramTree as tree;
 ghost use Rattle.pi_canonical.specs.Canonical as spec;
 
 use crate::declarations::write_declaration;
 use crate::expressions::{write_exp, write_exps, write_top};
 use crate::signs::is_declaration_word;
-use pi_syntax::{Clause, Exp, Part};
+use pi_syntax::{Clause, Exp, FunctionClause, Part, RuleClause};
 use std::alloc::{AllocError, Global};
 
 /// Writes the lines of a part.
@@ -32,33 +33,34 @@ fn write_clause(alloc: Global, clause: &Clause, out: &mut String) -> Result<(), 
     ensures { IfOk result (λ _. string_bytes out.new ≡ string_bytes out.old ++ spec.clause_text (written_clause clause.now)) }
 {
     match clause {
-        Clause::Rule {
-            head,
-            cond,
-            events,
-            back,
-            body,
-        } => {
-            write_head(alloc, head, out)?;
-            write_condition(alloc, cond, out)?;
-            write_events(alloc, events.as_slice(), out)?;
-            out.push_str(arrow(*back))?;
-            write_top(alloc, body, out)
-        }
-        Clause::Function {
-            head,
-            value,
-            cond,
-            body,
-        } => {
-            write_head(alloc, head, out)?;
-            out.push_str(" = ")?;
-            write_exp(alloc, value, out)?;
-            write_condition(alloc, cond, out)?;
-            write_body(alloc, body, out)
-        }
+        Clause::Rule(rule) => write_rule(alloc, rule, out),
+        Clause::Function(function) => write_function(alloc, function, out),
         Clause::Fact { head } => write_head(alloc, head, out),
     }
+}
+
+fn write_rule(alloc: Global, rule: &RuleClause, out: &mut String) -> Result<(), AllocError>
+    ensures { IfOk result (λ _. string_bytes out.new ≡ string_bytes out.old ++ spec.clause_text (tree.rule (rule_tree rule.now))) }
+{
+    write_head(alloc, &rule.head, out)?;
+    write_condition(alloc, &rule.cond, out)?;
+    write_events(alloc, rule.events.as_slice(), out)?;
+    out.push_str(arrow(rule.back))?;
+    write_top(alloc, &rule.body, out)
+}
+
+fn write_function(
+    alloc: Global,
+    function: &FunctionClause,
+    out: &mut String,
+) -> Result<(), AllocError>
+    ensures { IfOk result (λ _. string_bytes out.new ≡ string_bytes out.old ++ spec.clause_text (tree.function (function_tree function.now))) }
+{
+    write_head(alloc, &function.head, out)?;
+    out.push_str(" = ")?;
+    write_exp(alloc, &function.value, out)?;
+    write_condition(alloc, &function.cond, out)?;
+    write_body(alloc, &function.body, out)
 }
 
 /// Writes a head, which stands in parentheses where its name would begin a declaration.

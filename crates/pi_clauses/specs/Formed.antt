@@ -1,5 +1,5 @@
 -- What the code's clause and its parts show.
-use Rattle.std.specs.Prelude.{◌≡◌, ◌<◌, ◌≤◌, ◌+◌, ◌≢◌, if◌then◌else◌, ℕ, Bool, true, false, List, [], ◌∷◌, Option, Some, None, is_some, codes, length}
+use Rattle.std.specs.Prelude.{◌≡◌, if◌then◌else◌, Bool, true, false, List, [], ◌∷◌, Option, Some, None, is_some}
 use Rattle.pi_syntax.specs.ExpLists.{exps_of}
 use Rattle.pi_syntax.specs.ExpTree.{ExpTree, array, call, and, ExpTrees, no_exps, exp, exp_tree}
 use Rattle.pi_syntax.specs.ProgramTree.{written_clause}
@@ -55,7 +55,7 @@ pub record IsSplit (s : SplitUnits) (es : ExpTrees) : Type 0 where
 
 -- the events of a rule
 abbrev pub ShowsEvents : Clause → Option ExpTrees → Type 0
-ShowsEvents (Clause.Rule head cond events back body) (Some es) = exps_of events.items ≡ es
+ShowsEvents (Clause.Rule boxed) (Some es) = exps_of boxed.value.events.items ≡ es
 ShowsEvents c es = Unit {0}
 
 -- the clause of a shape

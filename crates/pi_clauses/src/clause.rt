@@ -10,7 +10,7 @@ ghost use Rattle.pi_clauses.specs.Formed.{ShowsHeaded, IsFormed, IsUnits, IsSpli
 mod apart;
 
 use crate::clause::apart::take_apart;
-use pi_syntax::{Apart, Clause, Exp, Exps};
+use pi_syntax::{Apart, Clause, Exp, Exps, FunctionClause, RuleClause};
 use pi_terms::Text;
 use std::alloc::{AllocError, Global};
 
@@ -47,22 +47,31 @@ pub(crate) struct SplitUnits {
 }
 
 /// The clause of an expression alone.
-pub fn bare_clause(exp: Exp) -> FormedClause
-    ensures { IsFormed result (spec.bare (exp_tree exp)) }
+pub fn bare_clause(alloc: Global, exp: Exp) -> Result<FormedClause, AllocError>
+    ensures { IfOk result (λ formed. IsFormed formed (spec.bare (exp_tree exp))) }
 {
-    let clause = match read_headed(exp) {
-        Headed::Equation(head, value) => Clause::Function {
-            head,
-            value,
-            cond: None,
-            body: None,
-        },
-        Headed::Alone(head) => Clause::Fact { head },
-    };
-    FormedClause {
-        clause,
-        is_open: false,
-        has_events: false,
+    match read_headed(exp) {
+        Headed::Equation(head, value) => {
+            let function = Box::new(
+                alloc,
+                FunctionClause {
+                    head,
+                    value,
+                    cond: None,
+                    body: None,
+                },
+            )?;
+            Ok(FormedClause {
+                clause: Clause::Function(function),
+                is_open: false,
+                has_events: false,
+            })
+        }
+        Headed::Alone(head) => Ok(FormedClause {
+            clause: Clause::Fact { head },
+            is_open: false,
+            has_events: false,
+        }),
     }
 }
 
@@ -77,7 +86,7 @@ pub fn ruled_clause(
 {
     let units = units_in(alloc, left);
     match split(alloc, units.others) {
-        Ok(split) => Ok(rule_of(units.first, split, back, right)),
+        Ok(split) => rule_of(alloc, units.first, split, back, right),
         Err(error) => {
             drop(units.first);
             drop(right);
@@ -87,30 +96,53 @@ pub fn ruled_clause(
 }
 
 /// The rule of a head and the units behind it.
-fn rule_of(first: Exp, split: SplitUnits, back: bool, body: Exp) -> FormedClause
-    ensures { (left : tree.ExpTree) → exp_tree first ≡ spec.first_unit (spec.units left) → IsSplit split (spec.other_units (spec.units left)) → IsFormed result (spec.ruled left back (exp_tree body)) }
+fn rule_of(
+    alloc: Global,
+    first: Exp,
+    split: SplitUnits,
+    back: bool,
+    body: Exp,
+) -> Result<FormedClause, AllocError>
+    ensures { IfOk result (λ formed. (left : tree.ExpTree) → exp_tree first ≡ spec.first_unit (spec.units left) → IsSplit split (spec.other_units (spec.units left)) → IsFormed formed (spec.ruled left back (exp_tree body))) }
 {
     let cond = condition(split.conditions);
     let events = split.events;
-    let clause = match read_headed(first) {
-        Headed::Equation(head, value) => Clause::Function {
-            head,
-            value,
-            cond,
-            body: Some(body),
-        },
-        Headed::Alone(head) => Clause::Rule {
-            head,
-            cond,
-            events,
-            back,
-            body,
-        },
-    };
-    FormedClause {
-        clause,
-        is_open: back,
-        has_events: split.has_events,
+    let has_events = split.has_events;
+    match read_headed(first) {
+        Headed::Equation(head, value) => {
+            drop(events);
+            let function = Box::new(
+                alloc,
+                FunctionClause {
+                    head,
+                    value,
+                    cond,
+                    body: Some(body),
+                },
+            )?;
+            Ok(FormedClause {
+                clause: Clause::Function(function),
+                is_open: back,
+                has_events,
+            })
+        }
+        Headed::Alone(head) => {
+            let rule = Box::new(
+                alloc,
+                RuleClause {
+                    head,
+                    cond,
+                    events,
+                    back,
+                    body,
+                },
+            )?;
+            Ok(FormedClause {
+                clause: Clause::Rule(rule),
+                is_open: back,
+                has_events,
+            })
+        }
     }
 }
 

@@ -21,8 +21,8 @@ pub(crate) fn definition(clause: &Clause) -> Option<Called<'_>>
     ensures { option_map named_by result ≡ definition (written_clause clause.now) }
 {
     match clause {
-        Clause::Rule { head, .. } => named(head, false),
-        Clause::Function { head, .. } => named(head, true),
+        Clause::Rule(rule) => named(&rule.head, false),
+        Clause::Function(function) => named(&function.head, true),
         Clause::Fact { head } => named(head, false),
     }
 }

@@ -16,7 +16,7 @@ mod heads;
 use crate::clause::FormedClause;
 use crate::restrictions::bad_nodes::has_bad_nodes;
 use crate::restrictions::heads::{has_bad_events, has_bad_head};
-use pi_syntax::{Clause, Exp};
+use pi_syntax::{Clause, Exp, RuleClause};
 use std::alloc::{AllocError, Global};
 
 /// Whether a clause has a form that is forbidden.
@@ -37,27 +37,20 @@ fn has_bad_arrow(alloc: Global, formed: &FormedClause) -> Result<bool, AllocErro
     ensures { IfOk result (λ b. (s : Shape) → IsFormed formed.now s → b ≡ (items.is_function_with_choice_or_events s || (items.is_open_action_rule s || items.has_bad_events s))) }
 {
     match &formed.clause {
-        Clause::Function { .. } => Ok(formed.is_open | formed.has_events),
+        Clause::Function(_) => Ok(formed.is_open | formed.has_events),
         Clause::Fact { .. } => Ok(false),
-        Clause::Rule { head, events, .. } => has_bad_action(
-            alloc,
-            head,
-            events.as_slice(),
-            formed.is_open,
-            formed.has_events,
-        ),
+        Clause::Rule(rule) => has_bad_action(alloc, rule, formed.is_open, formed.has_events),
     }
 }
 
 /// Whether a rule that may have events has the arrow `?=>` beside them, or events that are none.
 fn has_bad_action(
     alloc: Global,
-    head: &Exp,
-    events: &[Exp],
+    rule: &RuleClause,
     is_open: bool,
     has_events: bool,
 ) -> Result<bool, AllocError>
-    ensures { IfOk result (λ b. b ≡ (has_events && (is_open || items.are_bad_events (exp_tree head.now) (Some (exps_of events.now))))) }
+    ensures { IfOk result (λ b. b ≡ (has_events && (is_open || items.are_bad_events (exp_tree rule.now.head) (Some (exps_of rule.now.events.items))))) }
 {
     if !has_events {
         return Ok(false);
@@ -65,15 +58,15 @@ fn has_bad_action(
     if is_open {
         return Ok(true);
     }
-    has_bad_events(alloc, head, events)
+    has_bad_events(alloc, &rule.head, rule.events.as_slice())
 }
 
 fn head_of(clause: &Clause) -> &Exp
     ensures { exp_tree result.now ≡ items.head_of (written_clause clause.now) }
 {
     match clause {
-        Clause::Rule { head, .. } => head,
-        Clause::Function { head, .. } => head,
+        Clause::Rule(rule) => &rule.head,
+        Clause::Function(function) => &function.head,
         Clause::Fact { head } => head,
     }
 }

@@ -168,7 +168,10 @@ fn read_formed(
 {
     let shape = read_shape(alloc, tokens, from, to)?;
     match shape {
-        ReadShape::Bare(exp) => Ok(bare_clause(exp)),
+        ReadShape::Bare(exp) => {
+            let formed = bare_clause(alloc, exp)?;
+            Ok(formed)
+        }
         ReadShape::Ruled(left, back, right) => {
             let formed = ruled_clause(alloc, left, back, right)?;
             Ok(formed)

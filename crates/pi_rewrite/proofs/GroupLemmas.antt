@@ -1,24 +1,22 @@
 -- Clauses, and the predicates and functions that they are added to.
-use Rattle.std.proofs.Common.{◌≡◌, ℕ, ◌+◌, ◌<◌, ◌≤◌, Bool, true, false, List, [], ◌∷◌, ◌++◌, length, get_or, drop, map, refl, sym, ◌∙◌, ap, append_assoc}
+use Rattle.std.proofs.Common.{◌≡◌, ℕ, ◌+◌, ◌<◌, ◌≤◌, true, false, List, [], ◌∷◌, ◌++◌, length, get_or, drop, map, refl, sym, ◌∙◌, ap, append_assoc}
 use Rattle.std.specs.Prelude.{Option, Some, None, option_map}
 use Rattle.std.specs.List.{cons_option}
 use Rattle.std.proofs.lemmas.Bool.{cond-true, cond-false}
 use Rattle.std.proofs.lemmas.List.{append-nil, drop_more, drop_all, map-append}
-use Rattle.std.specs.Prelude.{Vec}
 use Rattle.std.specs.declared.alloc.Global.{Global}
-use Rattle.pi_syntax.specs.ExpTree.{exp_tree}
-use Rattle.pi_syntax.specs.ProgramTree.{ProgramTree, written_clause, part_tree}
-use Rattle.pi_syntax.specs.Signature.{Signature, signature}
-use Rattle.pi_syntax.specs.declared.exp.Exp.{Exp}
+use Rattle.std.specs.declared.boxed.Box.{Box}
+use Rattle.pi_syntax.specs.ProgramTree.{ProgramTree, WrittenClause, rule, function, rule_tree, function_tree, written_clause, part_tree}
 use Rattle.pi_syntax.specs.declared.program.Clause.{Clause}
+use Rattle.pi_syntax.specs.declared.program.FunctionClause.{FunctionClause}
+use Rattle.pi_syntax.specs.declared.program.RuleClause.{RuleClause}
 use Rattle.pi_syntax.specs.declared.program.Part.{Part}
-use Rattle.pi_syntax.specs.declared.program.Mode.{Mode}
-use Rattle.pi_core.specs.CoreTree.{ClauseTree, PredTree, index_of, pred_tree}
+use Rattle.pi_core.specs.CoreTree.{PredTree, index_of, pred_tree}
 use Rattle.pi_core.specs.declared.core_program.CorePred.{CorePred}
 use Rattle.pi_meaning.specs.Prelude.{prelude}
-use Rattle.pi_lowered.specs.Lowered.{Lowering, named_by, with_first, with_next, is_clause_of, grouped, grouped_all}
+use Rattle.pi_lowered.specs.Lowered.{Lowering, with_first, with_next, is_clause_of, grouped, grouped_all}
 use Rattle.pi_lowered.specs.Programs as programs
-use Rattle.pi_lowered.specs.Programs.{Naming, written_rule, written_function, clause_count, clause_helpers, clauses_of, helpers_of, core_program}
+use Rattle.pi_lowered.specs.Programs.{Naming, written_rule, written_function, clause_count, rule_helpers, function_helpers, clause_helpers, clauses_of, helpers_of, core_program}
 use Rattle.pi_rewrite.specs.Built.{lowered_behind}
 
 -- ---- a clause
@@ -80,36 +78,37 @@ adds-other c last front before again after test old back put rest =
 
 -- ---- a part
 
-abbrev Modes : Type 0
-Modes = Option (List (List Mode))
-
-abbrev lowering : Bool → Signature → Modes → ClauseTree → Lowering
-lowering function s m c = record { is_function = function; head = s; modes = m; clause = c }
-
-same-lowering : (function other : Bool) (s t : Signature) (m n : Modes) (c d : ClauseTree) → function ≡ other → s ≡ t → m ≡ n → c ≡ d → lowering function s m c ≡ lowering other t n d
-same-lowering function other s t m n c d p q o r = cc
-
-part-adds : (o : Option Lowering) (l m : Lowering) (before after : List PredTree) → o ≡ Some l → l ≡ m → ((rest : List Lowering) → lowered_behind before (m ∷ rest) ≡ lowered_behind after rest) →
-    (rest : List Lowering) → lowered_behind before (cons_option o rest) ≡ lowered_behind after rest
-part-adds o l m before after is same adds rest = ap (λ x. lowered_behind before (cons_option x rest)) is ∙ (ap (λ x. lowered_behind before (x ∷ rest)) same ∙ adds rest)
-
 -- a part's clause, behind so many helpers
 abbrev lowered_of : Naming → ℕ → Part → Option Lowering
 lowered_of called n p = programs.written_clause called n (index_of p.decl) (part_tree p).clause
 
-pub rule-adds : (called : Naming) (n : ℕ) (p : Part) (head : Exp) (cond : Option Exp) (events : Vec Exp Global) (back : Bool) (body : Exp) (function : Bool) (s : Signature) (modes : Modes) (made : ClauseTree) (before after : List PredTree) →
-    p.clause ≡ Some (Clause.Rule head cond events back body) → named_by (signature (exp_tree head)) ≡ s → function ≡ false → modes ≡ None →
-    made ≡ written_rule called n (record { head = exp_tree head; cond = option_map exp_tree cond; events = map exp_tree events.items; back = back; body = exp_tree body }) →
-    ((rest : List Lowering) → lowered_behind before (lowering function s modes made ∷ rest) ≡ lowered_behind after rest) →
+-- by its rule
+abbrev pub Adds : Naming → ℕ → List PredTree → List PredTree → WrittenClause → Type 0
+Adds called n before after w = (rest : List Lowering) → lowered_behind before (cons_option (programs.written_clause called n None (Some w)) rest) ≡ lowered_behind after rest
+
+pub rule-adds : (called : Naming) (n : ℕ) (p : Part) (boxed : Box RuleClause Global) (r : RuleClause) (before after : List PredTree) → p.clause ≡ Some (Clause.Rule boxed) → r ≡ boxed.value → Adds called n before after (rule (rule_tree r)) →
     (rest : List Lowering) → lowered_behind before (cons_option (lowered_of called n p) rest) ≡ lowered_behind after rest
-rule-adds called n p head cond events back body function s modes made before after is named kind none lowers adds =
-    part-adds (lowered_of called n p) _ _ before after (ap (λ o. programs.written_clause called n (index_of p.decl) (option_map written_clause o)) is)
-    (sym (same-lowering function false s _ modes None made _ kind (sym named) none lowers)) adds
+rule-adds called n p boxed r before after is same adds rest =
+    ap (λ o. lowered_behind before (cons_option (programs.written_clause called n (index_of p.decl) (option_map written_clause o)) rest)) is
+    ∙ (ap (λ x. lowered_behind before (cons_option (programs.written_clause called n None (Some (rule (rule_tree x)))) rest)) (sym same) ∙ adds rest)
+
+pub function-adds : (called : Naming) (n : ℕ) (p : Part) (boxed : Box FunctionClause Global) (f : FunctionClause) (before after : List PredTree) → p.clause ≡ Some (Clause.Function boxed) → f ≡ boxed.value → Adds called n before after (function (function_tree f)) →
+    (rest : List Lowering) → lowered_behind before (cons_option (lowered_of called n p) rest) ≡ lowered_behind after rest
+function-adds called n p boxed f before after is same adds rest =
+    ap (λ o. lowered_behind before (cons_option (programs.written_clause called n (index_of p.decl) (option_map written_clause o)) rest)) is
+    ∙ (ap (λ x. lowered_behind before (cons_option (programs.written_clause called n None (Some (function (function_tree x)))) rest)) (sym same) ∙ adds rest)
 
 -- what a part's clause has of helpers
-pub clause-helps : (called : Naming) (n : ℕ) (p : Part) (c : Option Clause) (before after helpers : List PredTree) → p.clause ≡ c → helpers ≡ clause_helpers called n (option_map written_clause c) → after ≡ before ++ helpers →
+abbrev helps : Naming → ℕ → Option Clause → List PredTree
+helps called n o = clause_helpers called n (option_map written_clause o)
+
+pub rule-helps : (called : Naming) (n : ℕ) (p : Part) (boxed : Box RuleClause Global) (r : RuleClause) (before after : List PredTree) → p.clause ≡ Some (Clause.Rule boxed) → r ≡ boxed.value → after ≡ before ++ rule_helpers called n (rule_tree r) →
     after ≡ before ++ clause_helpers called n (part_tree p).clause
-clause-helps called n p c before after helpers is same put = put ∙ ap (λ xs. before ++ xs) (same ∙ ap (λ o. clause_helpers called n (option_map written_clause o)) (sym is))
+rule-helps called n p boxed r before after is same put = put ∙ ap (λ xs. before ++ xs) (ap (λ x. rule_helpers called n (rule_tree x)) same ∙ ap (helps called n) (sym is))
+
+pub function-helps : (called : Naming) (n : ℕ) (p : Part) (boxed : Box FunctionClause Global) (f : FunctionClause) (before after : List PredTree) → p.clause ≡ Some (Clause.Function boxed) → f ≡ boxed.value → after ≡ before ++ function_helpers called n (function_tree f) →
+    after ≡ before ++ clause_helpers called n (part_tree p).clause
+function-helps called n p boxed f before after is same put = put ∙ ap (λ xs. before ++ xs) (ap (λ x. function_helpers called n (function_tree x)) same ∙ ap (helps called n) (sym is))
 
 -- ---- mode lists
 

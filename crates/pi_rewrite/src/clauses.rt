@@ -1,6 +1,7 @@
 //! Rules and facts as clauses, of predicates and of functions.
-ghost use Rattle.std.specs.Prelude.{◌≡◌, ◌++◌, [], length, map, option_map, List, IfOk};
-ghost use Rattle.pi_syntax.specs.ExpTree.{ExpTree, exp_tree};
+ghost use Rattle.std.specs.Prelude.{◌≡◌, ◌++◌, [], length, map, option_map, IfOk};
+ghost use Rattle.pi_syntax.specs.ExpTree.{exp_tree};
+ghost use Rattle.pi_syntax.specs.ProgramTree.{rule_tree, function_tree};
 ghost use Rattle.pi_core.specs.CoreTree.{clause_tree, pattern_trees, pred_tree};
 ghost use Rattle.pi_meaning.specs.WrittenRules.{head_arguments};
 ghost use Rattle.pi_meaning.specs.Texts.{behind, places};
@@ -16,7 +17,7 @@ use pi_core::{CoreClause, CoreGoal, CorePred, Patterns, SlotWatches};
 use pi_lowering::{in_turn, lower_value};
 use pi_sites::{Naming, Site};
 use pi_slots::Slots;
-use pi_syntax::Exp;
+use pi_syntax::{Exp, FunctionClause, RuleClause};
 use std::alloc::{AllocError, Global};
 
 /// Names for helpers, and how many of them there are so far.
@@ -37,24 +38,21 @@ struct Begun<'a> {
 pub(crate) fn lower_rule<'a>(
     alloc: Global,
     from: Numbered<'a>,
-    head: &'a Exp,
-    cond: &'a Option<Exp>,
-    back: bool,
-    body: &'a Exp,
+    rule: &'a RuleClause,
     helpers: &mut Vec<CorePred>,
 ) -> Result<CoreClause, AllocError>
-    ensures is { IfOk result (λ clause. (events : List ExpTree) → clause_tree clause ≡ written_rule (own_name from.entry.naming.now.prefix) from.entry.count (record { head = exp_tree head.now; cond = option_map exp_tree cond.now; events = events; back = back; body = exp_tree body.now })) }
-    ensures helpers { IfOk result (λ _. (events : List ExpTree) → map pred_tree helpers.new.items ≡ map pred_tree helpers.old.items ++ rule_helpers (own_name from.entry.naming.now.prefix) from.entry.count (record { head = exp_tree head.now; cond = option_map exp_tree cond.now; events = events; back = back; body = exp_tree body.now })) }
+    ensures is { IfOk result (λ clause. clause_tree clause ≡ written_rule (own_name from.entry.naming.now.prefix) from.entry.count (rule_tree rule.now)) }
+    ensures helpers { IfOk result (λ _. map pred_tree helpers.new.items ≡ map pred_tree helpers.old.items ++ rule_helpers (own_name from.entry.naming.now.prefix) from.entry.count (rule_tree rule.now)) }
 {
     let mut slots = Slots::new(alloc);
-    let mut begun = begin(alloc, from, head, &mut slots)?;
-    let guard = guarded(alloc, &mut begun.site, cond, &mut slots, helpers)?;
-    let body = lower_body(alloc, &begun.site, body, &mut slots, helpers)?;
+    let mut begun = begin(alloc, from, &rule.head, &mut slots)?;
+    let guard = guarded(alloc, &mut begun.site, &rule.cond, &mut slots, helpers)?;
+    let body = lower_body(alloc, &begun.site, &rule.body, &mut slots, helpers)?;
     let count = slots.count()?;
     Ok(CoreClause {
         head: begun.patterns,
         guard,
-        back,
+        back: rule.back,
         watches: SlotWatches::new(alloc),
         body,
         value: None,
@@ -121,25 +119,36 @@ pub(crate) fn lower_fact(alloc: Global, head: &Exp) -> Result<CoreClause, AllocE
 pub(crate) fn lower_function<'a>(
     alloc: Global,
     from: Numbered<'a>,
-    head: &'a Exp,
-    value: &'a Exp,
-    cond: &'a Option<Exp>,
-    body: &'a Option<Exp>,
+    function: &'a FunctionClause,
     helpers: &mut Vec<CorePred>,
 ) -> Result<CoreClause, AllocError>
-    ensures is { IfOk result (λ clause. clause_tree clause ≡ written_function (own_name from.entry.naming.now.prefix) from.entry.count (record { head = exp_tree head.now; value = exp_tree value.now; cond = option_map exp_tree cond.now; body = option_map exp_tree body.now })) }
-    ensures helpers { IfOk result (λ _. map pred_tree helpers.new.items ≡ map pred_tree helpers.old.items ++ function_helpers (own_name from.entry.naming.now.prefix) from.entry.count (record { head = exp_tree head.now; value = exp_tree value.now; cond = option_map exp_tree cond.now; body = option_map exp_tree body.now })) }
+    ensures is { IfOk result (λ clause. clause_tree clause ≡ written_function (own_name from.entry.naming.now.prefix) from.entry.count (function_tree function.now)) }
+    ensures helpers { IfOk result (λ _. map pred_tree helpers.new.items ≡ map pred_tree helpers.old.items ++ function_helpers (own_name from.entry.naming.now.prefix) from.entry.count (function_tree function.now)) }
 {
     let mut slots = Slots::new(alloc);
-    let mut begun = begin(alloc, from, head, &mut slots)?;
-    let mut site = begun.site.behind_names(alloc, value)?;
-    let guard = guarded(alloc, &mut site, cond, &mut slots, helpers)?;
+    let mut begun = begin(alloc, from, &function.head, &mut slots)?;
+    let mut site = begun.site.behind_names(alloc, &function.value)?;
+    let guard = guarded(alloc, &mut site, &function.cond, &mut slots, helpers)?;
     let mut goals = Vec::new(alloc);
-    lower_goal_or_none(alloc, &site, body, &mut slots, &mut goals, helpers)?;
+    lower_goal_or_none(
+        alloc,
+        &site,
+        &function.body,
+        &mut slots,
+        &mut goals,
+        helpers,
+    )?;
     drop(site);
-    pass_option(alloc, &mut begun.site, cond)?;
-    pass_option(alloc, &mut begun.site, body)?;
-    let value = lower_value(alloc, &begun.site, value, &mut slots, &mut goals, helpers)?;
+    pass_option(alloc, &mut begun.site, &function.cond)?;
+    pass_option(alloc, &mut begun.site, &function.body)?;
+    let value = lower_value(
+        alloc,
+        &begun.site,
+        &function.value,
+        &mut slots,
+        &mut goals,
+        helpers,
+    )?;
     let body = in_turn(alloc, goals)?;
     let count = slots.count()?;
     Ok(CoreClause {

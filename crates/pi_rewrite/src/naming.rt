@@ -64,8 +64,8 @@ fn head_length(clause: &Option<Clause>) -> usize
     ensures { result ≡ spec.head_length (option_map written_clause clause.now) }
 {
     match clause {
-        Some(Clause::Rule { head, .. }) => name_length(head),
-        Some(Clause::Function { head, .. }) => name_length(head),
+        Some(Clause::Rule(rule)) => name_length(&rule.head),
+        Some(Clause::Function(function)) => name_length(&function.head),
         Some(Clause::Fact { head }) => name_length(head),
         None => 0,
     }

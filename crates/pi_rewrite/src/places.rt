@@ -1,14 +1,14 @@
 //! Where the parts of a clause stand, and how many helpers they have.
 ghost use Rattle.std.specs.Prelude.{◌≡◌, ◌+◌, [], option_map, IfOk};
 ghost use Rattle.pi_syntax.specs.ExpTree.{exp_tree};
-ghost use Rattle.pi_syntax.specs.ProgramTree.{part_tree};
+ghost use Rattle.pi_syntax.specs.ProgramTree.{part_tree, rule_tree, function_tree};
 ghost use Rattle.pi_meaning.specs.Texts.{places, behind};
-ghost use Rattle.pi_lowered.specs.Programs.{behind_option, option_count, clause_count};
+ghost use Rattle.pi_lowered.specs.Programs.{behind_option, option_count, rule_count, function_count, clause_count};
 ghost use Rattle.pi_sites.specs.OwnNames.{own_name};
 ghost use Rattle.pi_sites.specs.SiteOf.{site_of};
 
 use pi_sites::{Naming, Site, helpers_in, push_names, together};
-use pi_syntax::{Clause, Exp, Part};
+use pi_syntax::{Clause, Exp, FunctionClause, Part, RuleClause};
 use std::alloc::{AllocError, Global};
 
 /// Behind the head of a clause, which fills so many slots, where there are so many helpers before. Errors: no memory.
@@ -55,30 +55,35 @@ pub(crate) fn behind_part(before: u64, part: &Part) -> Result<u64, AllocError>
     ensures { IfOk result (λ all. all ≡ before + clause_count (part_tree part.now).clause) }
 {
     match &part.clause {
-        Some(Clause::Rule { cond, body, .. }) => {
-            let some = helpers_in_option(cond)?;
-            let more = helpers_in(body)?;
-            let all = together(some, more)?;
+        Some(Clause::Rule(rule)) => {
+            let all = helpers_in_rule(rule)?;
             together(before, all)
         }
-        Some(
-            Clause::Function {
-                value,
-                cond,
-                body,
-                ..
-            },
-        ) => {
-            let some = helpers_in_option(cond)?;
-            let more = helpers_in_option(body)?;
-            let last = helpers_in(value)?;
-            let rest = together(more, last)?;
-            let all = together(some, rest)?;
+        Some(Clause::Function(function)) => {
+            let all = helpers_in_function(function)?;
             together(before, all)
         }
         Some(Clause::Fact { .. }) => Ok(before),
         None => Ok(before),
     }
+}
+
+fn helpers_in_rule(rule: &RuleClause) -> Result<u64, AllocError>
+    ensures { IfOk result (λ count. count ≡ rule_count (rule_tree rule.now)) }
+{
+    let some = helpers_in_option(&rule.cond)?;
+    let more = helpers_in(&rule.body)?;
+    together(some, more)
+}
+
+fn helpers_in_function(function: &FunctionClause) -> Result<u64, AllocError>
+    ensures { IfOk result (λ count. count ≡ function_count (function_tree function.now)) }
+{
+    let some = helpers_in_option(&function.cond)?;
+    let more = helpers_in_option(&function.body)?;
+    let last = helpers_in(&function.value)?;
+    let rest = together(more, last)?;
+    together(some, rest)
 }
 
 fn helpers_in_option(exp: &Option<Exp>) -> Result<u64, AllocError>

@@ -1,12 +1,13 @@
 //! Parts, and the predicates and functions that their clauses make.
-ghost use Rattle.std.specs.Prelude.{◌≡◌, ◌∷◌, ◌++◌, [], map, List, None, IfOk, option_copied};
+ghost use Rattle.std.specs.Prelude.{◌≡◌, ◌∷◌, ◌++◌, [], map, List, Some, None, IfOk, option_copied};
 ghost use Rattle.std.specs.List.{cons_option};
 ghost use Rattle.pi_syntax.specs.ExpTree.{exp_tree};
+ghost use Rattle.pi_syntax.specs.ProgramTree as tree;
 ghost use Rattle.pi_syntax.specs.ProgramTree.{ProgramTree, part_tree, source_tree};
 ghost use Rattle.pi_syntax.specs.Signature.{signature as signature_of};
 ghost use Rattle.pi_core.specs.CoreTree.{clause_tree, pred_tree, index_of};
 ghost use Rattle.pi_lowered.specs.Lowered.{Lowering, named_by, with_first, with_next, is_clause_of};
-ghost use Rattle.pi_lowered.specs.Programs.{written_clause, clause_helpers, clauses_of, helpers_of, core_program};
+ghost use Rattle.pi_lowered.specs.Programs.{written_clause, rule_helpers, function_helpers, clause_helpers, clauses_of, helpers_of, core_program};
 ghost use Rattle.pi_sites.specs.OwnNames.{own_name};
 ghost use Rattle.pi_rewrite.specs.Built.{lowered_behind, is_clause_named, program_prefix};
 
@@ -16,7 +17,7 @@ use crate::places::behind_part;
 use pi_core::{CoreClause, CoreClauses, CorePred, CorePreds};
 use pi_prog::read_prelude;
 use pi_sites::Naming;
-use pi_syntax::{Clause, Decl, Exp, ModeLists, Modes, Part, Program};
+use pi_syntax::{Clause, Decl, Exp, FunctionClause, ModeLists, Modes, Part, Program, RuleClause};
 use pi_terms::Text;
 use std::alloc::{AllocError, Global};
 
@@ -90,33 +91,8 @@ fn lower_part(
     ensures helpers { IfOk result (λ _. map pred_tree helpers.new.items ≡ map pred_tree helpers.old.items ++ clause_helpers (own_name from.entry.naming.now.prefix) from.entry.count (part_tree part.now).clause) }
 {
     match &part.clause {
-        Some(
-            Clause::Rule {
-                head,
-                cond,
-                back,
-                body,
-                ..
-            },
-        ) => {
-            let named = signature(head, false)?;
-            let clause = lower_rule(alloc, from, head, cond, *back, body, helpers)?;
-            add_clause(alloc, preds, named, None, clause)?;
-            Ok(())
-        }
-        Some(
-            Clause::Function {
-                head,
-                value,
-                cond,
-                body,
-            },
-        ) => {
-            let named = signature(head, true)?;
-            let clause = lower_function(alloc, from, head, value, cond, body, helpers)?;
-            add_clause(alloc, preds, named, None, clause)?;
-            Ok(())
-        }
+        Some(Clause::Rule(rule)) => add_rule(alloc, from, rule, preds, helpers),
+        Some(Clause::Function(function)) => add_function(alloc, from, function, preds, helpers),
         Some(Clause::Fact { head }) => {
             let named = signature(head, false)?;
             let clause = lower_fact(alloc, head)?;
@@ -126,6 +102,40 @@ fn lower_part(
         }
         None => Ok(()),
     }
+}
+
+/// Adds a predicate's rule and the helpers of its loops.
+fn add_rule(
+    alloc: Global,
+    from: Numbered<'_>,
+    rule: &RuleClause,
+    preds: &mut Vec<CorePred>,
+    helpers: &mut Vec<CorePred>,
+) -> Result<(), AllocError>
+    ensures preds { IfOk result (λ _. (rest : List Lowering) → lowered_behind (map pred_tree preds.old.items) (cons_option (written_clause (own_name from.entry.naming.now.prefix) from.entry.count None (Some (tree.rule (tree.rule_tree rule.now)))) rest) ≡ lowered_behind (map pred_tree preds.new.items) rest) }
+    ensures helpers { IfOk result (λ _. map pred_tree helpers.new.items ≡ map pred_tree helpers.old.items ++ rule_helpers (own_name from.entry.naming.now.prefix) from.entry.count (tree.rule_tree rule.now)) }
+{
+    let named = signature(&rule.head, false)?;
+    let clause = lower_rule(alloc, from, rule, helpers)?;
+    add_clause(alloc, preds, named, None, clause)?;
+    Ok(())
+}
+
+/// Adds a function's rule and the helpers of its loops.
+fn add_function(
+    alloc: Global,
+    from: Numbered<'_>,
+    function: &FunctionClause,
+    preds: &mut Vec<CorePred>,
+    helpers: &mut Vec<CorePred>,
+) -> Result<(), AllocError>
+    ensures preds { IfOk result (λ _. (rest : List Lowering) → lowered_behind (map pred_tree preds.old.items) (cons_option (written_clause (own_name from.entry.naming.now.prefix) from.entry.count None (Some (tree.function (tree.function_tree function.now)))) rest) ≡ lowered_behind (map pred_tree preds.new.items) rest) }
+    ensures helpers { IfOk result (λ _. map pred_tree helpers.new.items ≡ map pred_tree helpers.old.items ++ function_helpers (own_name from.entry.naming.now.prefix) from.entry.count (tree.function_tree function.now)) }
+{
+    let named = signature(&function.head, true)?;
+    let clause = lower_function(alloc, from, function, helpers)?;
+    add_clause(alloc, preds, named, None, clause)?;
+    Ok(())
 }
 
 /// The mode lists that a part declares.

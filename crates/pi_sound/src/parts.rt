@@ -1,12 +1,12 @@
 //! Which parts of a program are built.
 ghost use Rattle.std.specs.Prelude.{◌≡◌, option_map};
 ghost use Rattle.pi_syntax.specs.ExpTree.{exp_tree};
-ghost use Rattle.pi_syntax.specs.ProgramTree.{part_tree, source_tree, written_clause};
+ghost use Rattle.pi_syntax.specs.ProgramTree.{part_tree, source_tree, written_clause, rule_tree, function_tree};
 ghost use Rattle.pi_sound.specs.Built as spec;
 
 use crate::goals::{is_built_goal, is_built_value};
 use crate::patterns::is_built_head;
-use pi_syntax::{Clause, Decl, Exp, Part, Program};
+use pi_syntax::{Clause, Decl, Exp, FunctionClause, Part, Program, RuleClause};
 
 /// The number of a program's first part that isn't built, counted from 1; `None` exactly where all are.
 pub fn unbuilt(program: &Program) -> Option<usize>
@@ -44,28 +44,26 @@ fn is_built_clause(clause: &Clause) -> bool
     ensures { result ≡ spec.is_built_clause (written_clause clause.now) }
 {
     match clause {
-        Clause::Rule {
-            head,
-            cond,
-            events,
-            body,
-            ..
-        } => {
-            events.is_empty()
-                & (is_built_head(head) & (is_built_goal_or_none(cond) & is_built_goal(body)))
-        }
-        Clause::Function {
-            head,
-            value,
-            cond,
-            body,
-        } => {
-            is_built_head(head)
-                & (is_built_goal_or_none(cond)
-                    & (is_built_goal_or_none(body) & is_built_value(value)))
-        }
+        Clause::Rule(rule) => is_built_rule(rule),
+        Clause::Function(function) => is_built_function_rule(function),
         Clause::Fact { head } => is_built_head(head),
     }
+}
+
+fn is_built_rule(rule: &RuleClause) -> bool
+    ensures { result ≡ spec.is_built_rule (rule_tree rule.now) }
+{
+    rule.events.is_empty()
+        & (is_built_head(&rule.head)
+            & (is_built_goal_or_none(&rule.cond) & is_built_goal(&rule.body)))
+}
+
+fn is_built_function_rule(function: &FunctionClause) -> bool
+    ensures { result ≡ spec.is_built_function_rule (function_tree function.now) }
+{
+    is_built_head(&function.head)
+        & (is_built_goal_or_none(&function.cond)
+            & (is_built_goal_or_none(&function.body) & is_built_value(&function.value)))
 }
 
 fn is_built_goal_or_none(goal: &Option<Exp>) -> bool

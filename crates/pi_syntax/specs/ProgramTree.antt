@@ -3,6 +3,8 @@
 use Rattle.std.specs.Prelude.{Bool, List, map, Option, option_map}
 use Rattle.pi_syntax.specs.ExpTree.{ExpTree, exp_tree}
 use Rattle.pi_syntax.specs.declared.program.Clause.{Clause}
+use Rattle.pi_syntax.specs.declared.program.RuleClause.{RuleClause}
+use Rattle.pi_syntax.specs.declared.program.FunctionClause.{FunctionClause}
 use Rattle.pi_syntax.specs.declared.program.Decl.{Decl}
 use Rattle.pi_syntax.specs.declared.program.Part.{Part}
 use Rattle.pi_syntax.specs.declared.program.Program.{Program}
@@ -38,11 +40,15 @@ pub record PartTree : Type 0 where
 abbrev pub ProgramTree : Type 0
 ProgramTree = List PartTree
 
+abbrev pub rule_tree : RuleClause → RuleTree
+rule_tree r = record { head = exp_tree r.head; cond = option_map exp_tree r.cond; events = map exp_tree r.events.items; back = r.back; body = exp_tree r.body }
+
+abbrev pub function_tree : FunctionClause → FunctionTree
+function_tree f = record { head = exp_tree f.head; value = exp_tree f.value; cond = option_map exp_tree f.cond; body = option_map exp_tree f.body }
+
 abbrev pub written_clause : Clause → WrittenClause
-written_clause (Clause.Rule head cond events back body) =
-    rule (record { head = exp_tree head; cond = option_map exp_tree cond; events = map exp_tree events.items; back = back; body = exp_tree body })
-written_clause (Clause.Function head value cond body) =
-    function (record { head = exp_tree head; value = exp_tree value; cond = option_map exp_tree cond; body = option_map exp_tree body })
+written_clause (Clause.Rule boxed) = rule (rule_tree boxed.value)
+written_clause (Clause.Function boxed) = function (function_tree boxed.value)
 written_clause (Clause.Fact head) = fact (exp_tree head)
 
 abbrev pub part_tree : Part → PartTree

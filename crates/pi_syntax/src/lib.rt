@@ -14,5 +14,8 @@ pub use builtin::{BuiltinKind, is_builtin, kind_of};
 pub use builtin_laws::tables_are_disjoint;
 pub use exp::{Apart, Branches, Exp, Exps};
 pub use forms::is_form;
-pub use program::{Clause, Decl, Goal, Mode, ModeLists, Modes, Names, Part, Parts, Program};
+pub use program::{
+    Clause, Decl, FunctionClause, Goal, Mode, ModeLists, Modes, Names, Part, Parts, Program,
+    RuleClause,
+};
 pub use rules::prelude;

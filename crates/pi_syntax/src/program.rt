@@ -7,47 +7,67 @@ pub type Names = Series<Text>;
 
 /// A clause of a program as it is written. A User's Guide to Picat, 'Predicates and Functions', and for events 'Action
 /// Rules'.
+///
+/// Rules are boxed, so that a fact, of which programs have the most, takes the room of its head alone.
 pub enum Clause {
-    /// A predicate's rule, committed (`=>`) or, where `back` is true, backtrackable (`?=>`).
-    Rule {
-        head: Exp,
-        cond: Option<Exp>,
-        events: Exps,
-        back: bool,
-        body: Exp,
-    },
-    /// A function's rule or, without condition and body, its fact.
-    Function {
-        head: Exp,
-        value: Exp,
-        cond: Option<Exp>,
-        body: Option<Exp>,
-    },
+    /// A predicate's rule.
+    Rule(Box<RuleClause>),
+    /// A function's rule or fact.
+    Function(Box<FunctionClause>),
     /// A fact of a predicate behind its `index`.
-    Fact {
-        head: Exp,
-    },
+    Fact { head: Exp },
 }
 
 // By hand, so that letting one go is a call and not its parts at each way out.
 impl Drop for Clause {
     fn drop(self) {
         match self {
-            Clause::Rule {
-                head: _,
-                cond: _,
-                events: _,
-                back: _,
-                body: _,
-            } => {}
-            Clause::Function {
-                head: _,
-                value: _,
-                cond: _,
-                body: _,
-            } => {}
+            Clause::Rule(_) => {}
+            Clause::Function(_) => {}
             Clause::Fact { head: _ } => {}
         }
+    }
+}
+
+/// A predicate's rule, committed (`=>`) or, where `back` is true, backtrackable (`?=>`).
+pub struct RuleClause {
+    pub head: Exp,
+    pub cond: Option<Exp>,
+    pub events: Exps,
+    pub back: bool,
+    pub body: Exp,
+}
+
+// By hand, so that letting one go is a call and not its parts at each way out.
+impl Drop for RuleClause {
+    fn drop(self) {
+        let RuleClause {
+            head: _,
+            cond: _,
+            events: _,
+            back: _,
+            body: _,
+        } = self;
+    }
+}
+
+/// A function's rule or, without condition and body, its fact.
+pub struct FunctionClause {
+    pub head: Exp,
+    pub value: Exp,
+    pub cond: Option<Exp>,
+    pub body: Option<Exp>,
+}
+
+// By hand, so that letting one go is a call and not its parts at each way out.
+impl Drop for FunctionClause {
+    fn drop(self) {
+        let FunctionClause {
+            head: _,
+            value: _,
+            cond: _,
+            body: _,
+        } = self;
     }
 }
 

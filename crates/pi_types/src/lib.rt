@@ -17,6 +17,7 @@ pub use pi_core::{
 };
 pub use pi_syntax::{
     Branches, Clause, Decl, Exp, Exps, Goal, Mode, ModeLists, Modes, Names, Part, Parts, Program,
+    RuleClause,
 };
 pub use pi_terms::{Args, Numbers, Series, Term, TermHead, Text};
 pub use tree_store::TreeStore;

@@ -8,7 +8,7 @@ use pi_cases::{Case, Problem, tell_flat};
 use pi_rewrite::{LowerFault, lower, lower_goal};
 use pi_types::{
     Clause, CoreClause, CorePred, CorePreds, CoreProgram, CoreQuery, Decl, Goal, Mode, ModeLists,
-    Part, Parts, Program,
+    Part, Parts, Program, RuleClause,
 };
 
 /// Tells what a program or a goal is in the core language.
@@ -91,15 +91,18 @@ fn take_rule(case: &Case) -> Option<Part> {
         drop(head);
         return None;
     };
-    let clause = Clause::Rule {
-        head,
-        cond: None,
-        events: Vec::new(case.alloc),
-        back,
-        body,
-    };
+    let rule = Box::new(
+        case.alloc,
+        RuleClause {
+            head,
+            cond: None,
+            events: Vec::new(case.alloc),
+            back,
+            body,
+        },
+    );
     Some(Part {
-        clause: Some(clause),
+        clause: Some(Clause::Rule(case.made(rule)?)),
         decl: Decl::Plain,
     })
 }

@@ -4,10 +4,11 @@ use Rattle.std.specs.Prelude.{Vec, option_map, is_some, if◌then◌else◌, map
 use Rattle.std.specs.List.{remove}
 use Rattle.std.specs.Str.{bytes_eq}
 use Rattle.std.specs.declared.alloc.Global.{Global}
+use Rattle.std.specs.declared.boxed.Box.{Box}
 use Rattle.std.proofs.lemmas.Bool.Decides.{Decides-eqb}
 use Rattle.pi_syntax.specs.ExpLists.{exps_of}
 use Rattle.pi_syntax.specs.ExpTree.{ExpTree, array, call, and, ExpTrees, no_exps, exp, one_exp, exp_tree, exp_trees, held_tree}
-use Rattle.pi_syntax.specs.ProgramTree.{WrittenClause, rule, function, written_clause}
+use Rattle.pi_syntax.specs.ProgramTree.{WrittenClause, rule, function, rule_tree, function_tree, written_clause}
 use Rattle.pi_syntax.specs.Apart.{IsApart}
 use Rattle.pi_syntax.specs.declared.exp.Apart.{Apart}
 use Rattle.pi_syntax.specs.declared.exp.Apart.TheVariants as apart
@@ -16,6 +17,8 @@ use Rattle.pi_syntax.specs.declared.exp.Exp.{Exp}
 use Rattle.pi_syntax.specs.declared.exp.Exp.TheOpen as layer
 use Rattle.pi_syntax.specs.declared.exp.Exp.TheViews.{out-Exp, roll-Exp, roll-out-Exp, rolls-Var, rolls-Int, rolls-Atom, rolls-Str, rolls-List, rolls-Array, rolls-Call, rolls-Quote, rolls-Index, rolls-Range, rolls-At, rolls-Collect, rolls-And, rolls-Or, rolls-Arrow, rolls-If, rolls-Foreach, rolls-While, rolls-DoWhile}
 use Rattle.pi_syntax.specs.declared.program.Clause.{Clause}
+use Rattle.pi_syntax.specs.declared.program.FunctionClause.{FunctionClause}
+use Rattle.pi_syntax.specs.declared.program.RuleClause.{RuleClause}
 use Rattle.pi_syntax.proofs.ExpListLemmas.{call-tree, and-tree}
 use Rattle.pi_clauses.specs.Formed.{ShowsApart, ShowsHeaded, ShowsEvents, IsFormed, IsUnits, IsSplit, is_braces, is_other, exps_of_before}
 use Rattle.pi_clauses.specs.Shape.{ruled, units, first_unit, other_units, events_in, conditions, condition, listed, listed_or_none, Equation, equation, ruled_clause}
@@ -325,19 +328,18 @@ has_shown : (b : Bool) (es : ExpTrees) → is_some (if b then Some es else None)
 has_shown true es = refl
 has_shown false es = refl
 
-events_shown : (c : Clause) (head : Exp) (cond : Option Exp) (events : Vec Exp Global) (back : Bool) (body : Exp) (es : Option ExpTrees) (b : Bool) → c ≡ Clause.Rule head cond events back body
-    → es ≡ (if b then Some (exps_of events.items) else None) → ShowsEvents c es
-events_shown c head cond events back body es true is shown = subst (λ o. ShowsEvents c o) (sym shown) (subst (λ k. ShowsEvents k (Some (exps_of events.items))) (sym is) refl)
-events_shown c head cond events back body es false is shown = subst (λ o. ShowsEvents c o) (sym shown) (no_events c)
+events_shown : (c : Clause) (boxed : Box RuleClause Global) (es : Option ExpTrees) (b : Bool) → c ≡ Clause.Rule boxed → es ≡ (if b then Some (exps_of boxed.value.events.items) else None) → ShowsEvents c es
+events_shown c boxed es true is shown = subst (λ o. ShowsEvents c o) (sym shown) (subst (λ k. ShowsEvents k (Some (exps_of boxed.value.events.items))) (sym is) refl)
+events_shown c boxed es false is shown = subst (λ o. ShowsEvents c o) (sym shown) (no_events c)
   where
     no_events : (c : Clause) → ShowsEvents c None
-    no_events (Clause.Rule head cond events back body) = tt
-    no_events (Clause.Function head value cond body) = tt
+    no_events (Clause.Rule boxed) = tt
+    no_events (Clause.Function boxed) = tt
     no_events (Clause.Fact head) = tt
 
-function_events : (head value : Exp) (cond body : Option Exp) (es : Option ExpTrees) → ShowsEvents (Clause.Function head value cond body) es
-function_events head value cond body None = tt
-function_events head value cond body (Some es) = tt
+function_events : (boxed : Box FunctionClause Global) (es : Option ExpTrees) → ShowsEvents (Clause.Function boxed) es
+function_events boxed None = tt
+function_events boxed (Some es) = tt
 
 abbrev rule_with : Bool → Exp → ExpTree → Option ExpTree → List ExpTree → WrittenClause
 rule_with back body h c es = rule (record { head = h; cond = c; events = es; back = back; body = exp_tree body })
@@ -345,34 +347,36 @@ rule_with back body h c es = rule (record { head = h; cond = c; events = es; bac
 abbrev function_with : Exp → Exp → Exp → Option ExpTree → WrittenClause
 function_with head value body c = function (record { head = exp_tree head; value = exp_tree value; cond = c; body = Some (exp_tree body) })
 
-pub rule_formed : (f : FormedClause) (left : ExpTree) (first head body : Exp) (cond : Option Exp) (split : SplitUnits) (back : Bool)
+pub rule_formed : (f : FormedClause) (left : ExpTree) (first head body : Exp) (cond : Option Exp) (split : SplitUnits) (back : Bool) (boxed : Box RuleClause Global)
     → exp_tree first ≡ first_unit (units left) → IsSplit split (other_units (units left)) → option_map exp_tree cond ≡ condition (exps_of split.conditions.items)
-    → ShowsHeaded (headed.Alone head) (exp_tree first) → f.clause ≡ Clause.Rule head cond split.events back body → f.is_open ≡ back → f.has_events ≡ split.has_events
-    → IsFormed f (ruled left back (exp_tree body))
-rule_formed f left first head body cond split back is_first is_split is_cond (is_head, none) is_clause is_open has =
+    → ShowsHeaded (headed.Alone head) (exp_tree first) → f.clause ≡ Clause.Rule boxed → boxed.value ≡ record { head = head; cond = cond; events = split.events; back = back; body = body }
+    → f.is_open ≡ back → f.has_events ≡ split.has_events → IsFormed f (ruled left back (exp_tree body))
+rule_formed f left first head body cond split back boxed is_first is_split is_cond (is_head, none) is_clause is_rule is_open has =
     let others : ExpTrees = other_units (units left) in
     record {
       clause = ap written_clause is_clause
+          ∙ ap (λ r. rule (rule_tree r)) is_rule
           ∙ ap (λ h. rule_with back body h (option_map exp_tree cond) (map exp_tree split.events.items)) (is_head ∙ is_first)
           ∙ ap (λ c. rule_with back body (first_unit (units left)) c (map exp_tree split.events.items)) (is_cond ∙ ap condition is_split.conditions)
           ∙ ap (rule_with back body (first_unit (units left)) (condition (conditions others))) (events_listed split others split.has_events refl is_split)
           ∙ sym (ap (λ q. ruled_clause q (first_unit (units left)) others back (exp_tree body)) (ap equation (sym is_first) ∙ none));
       open_arrow = is_open;
       has_events = has ∙ sym (ap is_some is_split.events ∙ has_shown split.has_events (exps_of split.events.items));
-      events = events_shown f.clause head cond split.events back body (events_in others) split.has_events is_clause is_split.events;
+      events = events_shown f.clause boxed (events_in others) split.has_events is_clause (is_split.events ∙ ap (λ r. if split.has_events then Some (exps_of r.events.items) else None) (sym is_rule));
     }
 
-pub function_formed : (f : FormedClause) (left : ExpTree) (first head value body : Exp) (cond : Option Exp) (split : SplitUnits) (back : Bool)
+pub function_formed : (f : FormedClause) (left : ExpTree) (first head value body : Exp) (cond : Option Exp) (split : SplitUnits) (back : Bool) (boxed : Box FunctionClause Global)
     → exp_tree first ≡ first_unit (units left) → IsSplit split (other_units (units left)) → option_map exp_tree cond ≡ condition (exps_of split.conditions.items)
-    → ShowsHeaded (headed.Equation head value) (exp_tree first) → f.clause ≡ Clause.Function head value cond (Some body) → f.is_open ≡ back → f.has_events ≡ split.has_events
-    → IsFormed f (ruled left back (exp_tree body))
-function_formed f left first head value body cond split back is_first is_split is_cond is_head is_clause is_open has =
+    → ShowsHeaded (headed.Equation head value) (exp_tree first) → f.clause ≡ Clause.Function boxed → boxed.value ≡ record { head = head; value = value; cond = cond; body = Some body }
+    → f.is_open ≡ back → f.has_events ≡ split.has_events → IsFormed f (ruled left back (exp_tree body))
+function_formed f left first head value body cond split back boxed is_first is_split is_cond is_head is_clause is_function is_open has =
     let others : ExpTrees = other_units (units left) in
     record {
       clause = ap written_clause is_clause
+          ∙ ap (λ r. function (function_tree r)) is_function
           ∙ ap (function_with head value body) (is_cond ∙ ap condition is_split.conditions)
           ∙ sym (ap (λ q. ruled_clause q (first_unit (units left)) others back (exp_tree body)) (ap equation (sym is_first) ∙ is_head));
       open_arrow = is_open;
       has_events = has ∙ sym (ap is_some is_split.events ∙ has_shown split.has_events (exps_of split.events.items));
-      events = subst (λ c. ShowsEvents c (events_in others)) (sym is_clause) (function_events head value cond (Some body) (events_in others));
+      events = subst (λ c. ShowsEvents c (events_in others)) (sym is_clause) (function_events boxed (events_in others));
     }

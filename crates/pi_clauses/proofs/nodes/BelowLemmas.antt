@@ -7,11 +7,13 @@ use Rattle.std.specs.declared.alloc.Global.{Global}
 use Rattle.std.specs.declared.boxed.Box.{Box}
 use Rattle.pi_syntax.specs.ExpTree.{ExpTree, var, int, atom, str, list_before, range_with, if_with, array, call, quote, index, at, collect, and, or, arrow, foreach, while_do, do_while, ExpTrees, ExpBranches, exp_tree}
 use Rattle.pi_syntax.specs.ExpLists.{exps_of}
-use Rattle.pi_syntax.specs.ProgramTree.{written_clause}
+use Rattle.pi_syntax.specs.ProgramTree.{rule, function, rule_tree, function_tree, written_clause}
 use Rattle.pi_syntax.specs.Signature.{exp_count}
 use Rattle.pi_syntax.specs.declared.exp.Exp as e
 use Rattle.pi_syntax.specs.declared.exp.Exp.{Exp}
 use Rattle.pi_syntax.specs.declared.program.Clause.{Clause}
+use Rattle.pi_syntax.specs.declared.program.FunctionClause.{FunctionClause}
+use Rattle.pi_syntax.specs.declared.program.RuleClause.{RuleClause}
 use Rattle.pi_syntax.proofs.ExpListLemmas.{exp_count-exps_of}
 use Rattle.pi_clauses.specs.Places.{Place, goal, expression, iterator, pattern, inside, quoted, body, test, argument, Placed, placed, below, all_placed, arguments_placed, branches_placed, placed_if, clause_placed, head_placed}
 use Rattle.pi_clauses.specs.Form.{form_of, calling, shown_form}
@@ -226,18 +228,16 @@ held-some p exp b old new is h = h ∙ ap (λ o. placed_if p (held_exp o) ++ old
 
 -- ---- of a clause
 
-pub clause-rule : (c : Clause) (head : Exp) (cond : Option Exp) (events : Vec Exp Global) (back : Bool) (end : Exp) (old mid new : List Placed) → c ≡ Clause.Rule head cond events back end
-    → mid ≡ placed (goal true) (exp_tree end) ++ old → new ≡ placed_if test (option_map exp_tree cond) ++ mid → new ≡ clause_placed (written_clause c) ++ old
-clause-rule c head cond events back end old mid new is h k =
-    join (placed_if test (option_map exp_tree cond)) (placed (goal true) (exp_tree end)) old mid new h k ∙ ap (λ w. clause_placed (written_clause w) ++ old) (sym is)
+pub clause-rule : (r : RuleClause) (old mid new : List Placed) → mid ≡ placed (goal true) (exp_tree r.body) ++ old → new ≡ placed_if test (option_map exp_tree r.cond) ++ mid
+    → new ≡ clause_placed (rule (rule_tree r)) ++ old
+clause-rule r old mid new h k = join (placed_if test (option_map exp_tree r.cond)) (placed (goal true) (exp_tree r.body)) old mid new h k
 
-pub clause-function : (c : Clause) (head value : Exp) (cond end : Option Exp) (old mid later new : List Placed) → c ≡ Clause.Function head value cond end
-    → mid ≡ placed_if (goal true) (option_map exp_tree end) ++ old → later ≡ placed_if test (option_map exp_tree cond) ++ mid → new ≡ placed expression (exp_tree value) ++ later
-    → new ≡ clause_placed (written_clause c) ++ old
-clause-function c head value cond end old mid later new is h k l =
-    join (placed expression (exp_tree value)) (placed_if test (option_map exp_tree cond) ++ placed_if (goal true) (option_map exp_tree end)) old later new
-    (join (placed_if test (option_map exp_tree cond)) (placed_if (goal true) (option_map exp_tree end)) old mid later h k) l
-    ∙ ap (λ w. clause_placed (written_clause w) ++ old) (sym is)
+pub clause-function : (f : FunctionClause) (old mid later new : List Placed) → mid ≡ placed_if (goal true) (option_map exp_tree f.body) ++ old → later ≡ placed_if test (option_map exp_tree f.cond) ++ mid
+    → new ≡ placed expression (exp_tree f.value) ++ later → new ≡ clause_placed (function (function_tree f)) ++ old
+clause-function f old mid later new h k l =
+    let cond : List Placed = placed_if test (option_map exp_tree f.cond) in
+    let end : List Placed = placed_if (goal true) (option_map exp_tree f.body) in
+    join (placed expression (exp_tree f.value)) (cond ++ end) old later new (join cond end old mid later h k) l
 
 pub clause-fact : (c : Clause) (head : Exp) (ps : List Placed) → c ≡ Clause.Fact head → ps ≡ clause_placed (written_clause c) ++ ps
 clause-fact c head ps is = ap (λ w. clause_placed (written_clause w) ++ ps) (sym is)

@@ -7,7 +7,7 @@ use Rattle.pi_syntax.specs.declared.program.Clause.{Clause}
 use Rattle.pi_syntax.specs.declared.program.Decl.{Decl}
 use Rattle.pi_syntax.specs.declared.program.Part.{Part}
 use Rattle.pi_clauses.specs.Seen.{seen}
-use Rattle.pi_clauses.specs.Verdict.{JudgedPart, decl_of, part_of, parts_of}
+use Rattle.pi_clauses.specs.Verdict.{decl_of, part_of, parts_of}
 use Rattle.pi_clauses.specs.declared.parts.PartReading.{PartReading}
 use Rattle.pi_clauses.specs.declared.parts.PartReading.TheVariants as part
 use Rattle.pi_clauses.specs.declared.parts.WrittenPart.{WrittenPart}

@@ -1,13 +1,16 @@
 -- Arrows and events that don't fit the kind of their clause.
 use Rattle.std.proofs.Common.{◌≡◌, Bool, true, false, ◌&&◌, ◌||◌, not, List, Option, Some, None, refl, ap, sym, subst, ◌∙◌}
-use Rattle.std.specs.Prelude.{Vec, is_some}
+use Rattle.std.specs.Prelude.{is_some}
 use Rattle.std.specs.List.{list_any}
 use Rattle.std.specs.declared.alloc.Global.{Global}
+use Rattle.std.specs.declared.boxed.Box.{Box}
 use Rattle.pi_syntax.specs.ExpLists.{exps_of}
 use Rattle.pi_syntax.specs.ExpTree.{ExpTree, ExpTrees, exp_tree}
 use Rattle.pi_syntax.specs.ProgramTree.{WrittenClause, fact, written_clause}
 use Rattle.pi_syntax.specs.declared.exp.Exp.{Exp}
 use Rattle.pi_syntax.specs.declared.program.Clause.{Clause}
+use Rattle.pi_syntax.specs.declared.program.FunctionClause.{FunctionClause}
+use Rattle.pi_syntax.specs.declared.program.RuleClause.{RuleClause}
 use Rattle.pi_clauses.specs.Items.{head_of, is_function, is_function_with_choice_or_events, is_open_action_rule, has_bad_events, are_bad_events, has_bad_head, is_head, breaks_pattern, are_bad_nodes}
 use Rattle.pi_clauses.specs.Formed.{ShowsEvents, IsFormed}
 use Rattle.pi_clauses.specs.Places.{head_placed, clause_placed}
@@ -40,9 +43,9 @@ of_rule : (head : ExpTree) (o : Bool) (es : ExpTrees) → (o || are_bad_events h
 of_rule head true es = refl
 of_rule head false es = refl
 
-pub function_arrow : (f : FormedClause) (h v : Exp) (c b : Option Exp) → f.clause ≡ Clause.Function h v c b → (s : Shape) → IsFormed f s → (f.is_open || f.has_events) ≡ bad_arrow s
-function_arrow f h v c b is s formed =
-    let clause : clause_of s ≡ written_clause (Clause.Function h v c b) = sym formed.clause ∙ ap written_clause is in
+pub function_arrow : (f : FormedClause) (boxed : Box FunctionClause Global) → f.clause ≡ Clause.Function boxed → (s : Shape) → IsFormed f s → (f.is_open || f.has_events) ≡ bad_arrow s
+function_arrow f boxed is s formed =
+    let clause : clause_of s ≡ written_clause (Clause.Function boxed) = sym formed.clause ∙ ap written_clause is in
     ap (λ x. x || f.has_events) formed.open_arrow ∙ ap (λ x. is_open s || x) formed.has_events
     ∙ of_function (head_of (clause_of s)) (is_open s) (shape_events s)
     ∙ ap (λ x. arrow_by x (head_of (clause_of s)) (is_open s) (shape_events s)) (sym (ap is_function clause))
@@ -71,11 +74,11 @@ rule_by c head events o false None is shown = refl
 rule_by c head events o true (Some es) is shown = ap (λ x. o || are_bad_events head x) (sym (shown refl)) ∙ of_rule head o es
 rule_by c head events o false (Some es) is shown = absurd (cc)
 
-rule_events : (c : Clause) (h : Exp) (cond : Option Exp) (events : Vec Exp Global) (back : Bool) (body : Exp) (es : Option ExpTrees) (has : Bool) → c ≡ Clause.Rule h cond events back body → has ≡ is_some es
-    → ShowsEvents c es → has ≡ true → es ≡ Some (exps_of events.items)
-rule_events c h cond events back body None has is some shows holds = absurd (cc)
-rule_events c h cond events back body (Some es) has is some shows holds =
-    let same : exps_of events.items ≡ es = subst (λ x. ShowsEvents x (Some es)) is shows in ap (λ x. Some x) (sym same)
+rule_events : (c : Clause) (boxed : Box RuleClause Global) (es : Option ExpTrees) (has : Bool) → c ≡ Clause.Rule boxed → has ≡ is_some es
+    → ShowsEvents c es → has ≡ true → es ≡ Some (exps_of boxed.value.events.items)
+rule_events c boxed None has is some shows holds = absurd (cc)
+rule_events c boxed (Some es) has is some shows holds =
+    let same : exps_of boxed.value.events.items ≡ es = subst (λ x. ShowsEvents x (Some es)) is shows in ap (λ x. Some x) (sym same)
 
 -- events beside the arrow `=>`
 pub action_events : (has back bad : Bool) → has ≡ true → back ≡ false → bad ≡ (has && (back || bad))
@@ -83,13 +86,14 @@ action_events true false bad h k = refl
 action_events true true bad h k = absurd (cc)
 action_events false back bad h k = absurd (cc)
 
-pub rule_arrow : (f : FormedClause) (h : Exp) (cond : Option Exp) (events : Vec Exp Global) (back : Bool) (body : Exp) (given : List Exp) (bad : Bool) → f.clause ≡ Clause.Rule h cond events back body → given ≡ events.items
-    → bad ≡ (f.has_events && (f.is_open || are_bad_events (exp_tree h) (Some (exps_of given)))) → (s : Shape) → IsFormed f s → bad ≡ bad_arrow s
-rule_arrow f h cond events back body given bad is items answer s formed =
-    let clause : clause_of s ≡ written_clause (Clause.Rule h cond events back body) = sym formed.clause ∙ ap written_clause is in
-    answer ∙ ap (λ xs. f.has_events && (f.is_open || are_bad_events (exp_tree h) (Some (exps_of xs)))) items
-    ∙ rule_by f.clause (exp_tree h) events.items f.is_open f.has_events (shape_events s) formed.has_events (rule_events f.clause h cond events back body (shape_events s) f.has_events is formed.has_events formed.events)
-    ∙ ap (λ x. arrow_by false (exp_tree h) x (shape_events s)) formed.open_arrow
+pub rule_arrow : (f : FormedClause) (boxed : Box RuleClause Global) (r : RuleClause) (bad : Bool) → f.clause ≡ Clause.Rule boxed → r ≡ boxed.value
+    → bad ≡ (f.has_events && (f.is_open || are_bad_events (exp_tree r.head) (Some (exps_of r.events.items)))) → (s : Shape) → IsFormed f s → bad ≡ bad_arrow s
+rule_arrow f boxed r bad is rule_is answer s formed =
+    let clause : clause_of s ≡ written_clause (Clause.Rule boxed) = sym formed.clause ∙ ap written_clause is in
+    let head : ExpTree = exp_tree boxed.value.head in
+    answer ∙ ap (λ (x : RuleClause). f.has_events && (f.is_open || are_bad_events (exp_tree x.head) (Some (exps_of x.events.items)))) rule_is
+    ∙ rule_by f.clause head boxed.value.events.items f.is_open f.has_events (shape_events s) formed.has_events (rule_events f.clause boxed (shape_events s) f.has_events is formed.has_events formed.events)
+    ∙ ap (λ x. arrow_by false head x (shape_events s)) formed.open_arrow
     ∙ ap (λ x. arrow_by false x (is_open s) (shape_events s)) (sym (ap head_of clause))
     ∙ ap (λ x. arrow_by x (head_of (clause_of s)) (is_open s) (shape_events s)) (sym (ap is_function clause))
     ∙ sym (bad_arrow_by s)

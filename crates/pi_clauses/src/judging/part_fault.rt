@@ -143,8 +143,8 @@ fn is_fact(clause: &Clause) -> bool
     ensures { result ≡ is_fact (written_clause clause.now) }
 {
     match clause {
-        Clause::Rule { .. } => false,
-        Clause::Function { .. } => false,
+        Clause::Rule(_) => false,
+        Clause::Function(_) => false,
         Clause::Fact { .. } => true,
     }
 }

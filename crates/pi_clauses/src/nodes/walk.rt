@@ -1,6 +1,7 @@
 //! The nodes of a clause's expressions with the places at which they stand, in the order of the text.
 ghost use Rattle.std.specs.Prelude.{◌≡◌, ◌∷◌, ◌++◌, [], true, IfOk, OnOk, MatchOption, length, option_map};
 ghost use Rattle.pi_syntax.specs.ExpTree.{exp_tree};
+ghost use Rattle.pi_syntax.specs.ProgramTree as tree;
 ghost use Rattle.pi_syntax.specs.ProgramTree.{written_clause};
 ghost use Rattle.pi_syntax.specs.ExpLists.{exps_of};
 ghost use Rattle.pi_clauses.specs.Places.{goal, pattern, placed, below, all_placed, arguments_placed, branches_placed, placed_if, clause_placed, head_placed};
@@ -8,7 +9,7 @@ ghost use Rattle.pi_clauses.specs.Walk.{shown_place, shown_node, nodes_ahead, he
 
 use crate::nodes::form::Form;
 use crate::nodes::place::{Place, TEST};
-use pi_syntax::{Clause, Exp};
+use pi_syntax::{Clause, Exp, FunctionClause, RuleClause};
 use std::alloc::{AllocError, Global};
 
 /// A node, and where it stands.
@@ -82,20 +83,25 @@ impl<'a> Walk<'a> {
         ensures { OnOk result (nodes_ahead self.new ≡ clause_placed (written_clause clause.now) ++ nodes_ahead self.old) }
     {
         match clause {
-            Clause::Rule { cond, body, .. } => self
-                .push(Place::Goal { assigns: true }, body)
-                .and(self.push_optional(TEST, cond)),
-            Clause::Function {
-                value,
-                cond,
-                body,
-                ..
-            } => self
-                .push_optional(Place::Goal { assigns: true }, body)
-                .and(self.push_optional(TEST, cond))
-                .and(self.push(Place::Expression, value)),
+            Clause::Rule(rule) => self.push_rule(rule),
+            Clause::Function(function) => self.push_function(function),
             Clause::Fact { .. } => Ok(()),
         }
+    }
+
+    fn push_rule(&mut self, rule: &'a RuleClause) -> Result<(), AllocError>
+        ensures { OnOk result (nodes_ahead self.new ≡ clause_placed (tree.rule (tree.rule_tree rule.now)) ++ nodes_ahead self.old) }
+    {
+        self.push(Place::Goal { assigns: true }, &rule.body)
+            .and(self.push_optional(TEST, &rule.cond))
+    }
+
+    fn push_function(&mut self, function: &'a FunctionClause) -> Result<(), AllocError>
+        ensures { OnOk result (nodes_ahead self.new ≡ clause_placed (tree.function (tree.function_tree function.now)) ++ nodes_ahead self.old) }
+    {
+        self.push_optional(Place::Goal { assigns: true }, &function.body)
+            .and(self.push_optional(TEST, &function.cond))
+            .and(self.push(Place::Expression, &function.value))
     }
 
     /// Puts an expression before the nodes ahead.

@@ -91,8 +91,8 @@ pub fn tell_kinds(parts: &[Part], case: &Case) {
 fn kind(part: &Part) -> &'static str {
     match (&part.decl, &part.clause) {
         (Decl::Import(_), _) => "import",
-        (_, Some(Clause::Rule { .. })) => "rule",
-        (_, Some(Clause::Function { .. })) => "function",
+        (_, Some(Clause::Rule(_))) => "rule",
+        (_, Some(Clause::Function(_))) => "function",
         (_, Some(Clause::Fact { .. })) => "fact",
         (_, None) => "none",
     }

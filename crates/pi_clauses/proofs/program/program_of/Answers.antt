@@ -1,6 +1,5 @@
 use Rattle.std.proofs.Common.{◌∷◌, [], ◌++◌, ap, ◌∙◌, sym}
 use Rattle.std.specs.Prelude.{map}
-use Rattle.pi_syntax.specs.ProgramTree.{part_tree}
 use Rattle.pi_clauses.specs.Seen.{seen}
 use Rattle.pi_clauses.specs.Verdict.{parts_of}
 use Rattle.pi_clauses.proofs.program.OnePartMore.{none_yet, parts_next, none_left}

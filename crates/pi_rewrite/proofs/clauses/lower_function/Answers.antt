@@ -1,8 +1,6 @@
 -- The slots of the head are those before the condition; then come the body and the value behind it. The names of the value stand before the condition and the body too.
 use Rattle.std.proofs.Common.{◌≡◌, ◌++◌, List, [], length, map, refl, false, Some, ap, ◌∙◌}
-use Rattle.std.specs.Prelude.{option_map}
-use Rattle.pi_syntax.specs.ExpTree.{exp_tree}
-use Rattle.pi_syntax.specs.ProgramTree.{FunctionTree}
+use Rattle.pi_syntax.specs.ProgramTree.{FunctionTree, function_tree}
 use Rattle.pi_core.specs.CoreTree.{PredTree, pred_tree}
 use Rattle.pi_meaning.specs.WrittenRules.{head_arguments}
 use Rattle.pi_lowered.specs.Values.{slot_patterns}
@@ -16,7 +14,7 @@ use Rattle.pi_rewrite.proofs.clauses.lower_function.Goals as goal
 
 pub returns-clause-is : goal.returns-clause-is
 returns-clause-is c =
-    let f : FunctionTree = record { head = exp_tree c.args.head.now; value = exp_tree c.args.value.now; cond = option_map exp_tree c.args.cond.now; body = option_map exp_tree c.args.body.now } in
+    let f : FunctionTree = function_tree c.args.function.now in
     let begun = c.in_ok-begun.begun in
     let slots : c.begin.new.slots ≡ (slot_patterns (head_arguments f.head) []).names = c.in_ok-begun.ensures.slots ∙ ap (λ ns. (slot_patterns (head_arguments f.head) ns).names) c.new-slots.ensures in
     function-is (record { head = begun.patterns; guard = c.in_ok-guard.guard; back = false; watches = c.new.result; body = c.in_ok-body.body; value = Some c.in_ok-value.value; slots = c.in_ok-count.count }) f
@@ -30,7 +28,7 @@ returns-clause-is c =
 
 pub returns-clause-helpers : goal.returns-clause-helpers
 returns-clause-helpers c =
-    let f : FunctionTree = record { head = exp_tree c.args.head.now; value = exp_tree c.args.value.now; cond = option_map exp_tree c.args.cond.now; body = option_map exp_tree c.args.body.now } in
+    let f : FunctionTree = function_tree c.args.function.now in
     let begun = c.in_ok-begun.begun in
     let slots : c.begin.new.slots ≡ (slot_patterns (head_arguments f.head) []).names = c.in_ok-begun.ensures.slots ∙ ap (λ ns. (slot_patterns (head_arguments f.head) ns).names) c.new-slots.ensures in
     let here : site_of c.in_ok-site.site ≡ function_site (own_name c.args.from.naming.now.prefix) c.args.from.count f =
