@@ -5,15 +5,7 @@ use Rattle.pi_syntax.specs.ProgramTree.{ProgramTree}
 use Rattle.pi_sound.specs.Built.{unbuilt_part, is_built_goal}
 use Rattle.pi_top.specs.Asking.{IsReady, IsUnready, AsksOf, RefusesOf}
 use Rattle.pi_top.specs.FaultLines.{not_built_line, of_program, of_goal}
-use Rattle.pi_top.proofs.Judging.{AreOne, one-program, program-no-line, one-program-line, one-goal, goal-no-line, one-goal-line}
-
-abbrev IsNone : {T : Type 0} → Option T → Type 0
-IsNone None = Unit {0}
-IsNone (Some x) = ⊥
-
-abbrev number_or : ℕ → Option ℕ → ℕ
-number_or n None = n
-number_or n (Some m) = m
+use Rattle.pi_top.proofs.Judging.{AreOne, none-some, some-in, one-program, program-no-line, one-program-line, one-goal, goal-no-line, one-goal-line}
 
 -- ---- programs
 
@@ -24,7 +16,7 @@ pub ready-or-not : (o : AreOne) (text line : List ℕ) (p : ProgramTree) → IsR
 ready-or-not o text line p a (IsUnready.faulty fault has is) = program-no-line o text fault p a.is_program has
 ready-or-not o text line p a (IsUnready.not_built q number is_program part is) =
     let same : q ≡ p = one-program o text q p is_program a.is_program in
-    subst IsNone (sym a.built ∙ ap unbuilt_part (sym same) ∙ part) tt
+    none-some number (sym a.built ∙ ap unbuilt_part (sym same) ∙ part)
 
 pub one-unready : (o : AreOne) (text line other : List ℕ) → IsUnready text line → IsUnready text other → line ≡ other
 one-unready o text line other (IsUnready.faulty x has is) (IsUnready.faulty y has' is') = is ∙ ap of_program (one-program-line o text x y has has') ∙ sym is'
@@ -32,7 +24,7 @@ one-unready o text line other (IsUnready.faulty x has is) (IsUnready.not_built q
 one-unready o text line other (IsUnready.not_built p number is_program part is) (IsUnready.faulty y has is') = absurd (program-no-line o text y p is_program has)
 one-unready o text line other (IsUnready.not_built p n is_program part is) (IsUnready.not_built q m is_program' part' is') =
     let same : p ≡ q = one-program o text p q is_program is_program' in
-    let number : n ≡ m = ap (number_or n) (sym part ∙ ap unbuilt_part same ∙ part') in
+    let number : n ≡ m = some-in n m (sym part ∙ ap unbuilt_part same ∙ part') in
     is ∙ ap (λ (k : ℕ). of_program (not_built_line k)) number ∙ sym is'
 
 -- ---- goals

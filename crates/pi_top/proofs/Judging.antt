@@ -21,14 +21,14 @@ abbrev IsNone : {T : Type 0} → Option T → Type 0
 IsNone None = Unit {0}
 IsNone (Some x) = ⊥
 
-none-some : {T : Type 0} (x : T) → None ≡ Some x → ⊥
+pub none-some : {T : Type 0} (x : T) → None ≡ Some x → ⊥
 none-some x e = subst IsNone e tt
 
 abbrev or_else : {T : Type 0} → T → Option T → T
 or_else x None = x
 or_else x (Some y) = y
 
-some-in : {T : Type 0} (x y : T) → Some x ≡ Some y → x ≡ y
+pub some-in : {T : Type 0} (x y : T) → Some x ≡ Some y → x ≡ y
 some-in x y e = ap (or_else x) e
 
 abbrev program_or : ProgramTree → Verdict → ProgramTree
