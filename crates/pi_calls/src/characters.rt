@@ -73,7 +73,7 @@ fn characters_at<S: StateStore>(
                 at = rest;
             }
             Link::End => {
-                let text = Text::from_string(text);
+                let text = Text::from_string(alloc, text)?;
                 return Ok(Some(Characters { text, count }));
             }
             Link::Other => return Ok(None),

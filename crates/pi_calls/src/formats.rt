@@ -55,7 +55,8 @@ fn fill<S: StateStore>(
         return Err(Stop::Raised(Fault::BadFormat(format)));
     }
     out.push_str(rest)?;
-    Ok(Text::from_string(out))
+    let made = Text::from_string(alloc, out)?;
+    Ok(made)
 }
 
 /// Writes what a sign stands for, and answers how many arguments it takes.
@@ -123,5 +124,6 @@ fn integer_text<S: StateStore>(
     };
     let mut text = String::new(alloc);
     write!(text, "{n}")?;
-    Ok(Text::from_string(text))
+    let made = Text::from_string(alloc, text)?;
+    Ok(made)
 }

@@ -30,7 +30,8 @@ pub fn text_before<S: StateStore>(
     let text = text_at(alloc, s, term, quoted)?;
     let mut line = String::from_str(alloc, text.as_str())?;
     line.push_str(behind)?;
-    Ok(Text::from_string(line))
+    let made = Text::from_string(alloc, line)?;
+    Ok(made)
 }
 
 /// The text of a term's value.

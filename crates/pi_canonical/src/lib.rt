@@ -25,5 +25,6 @@ pub fn program_text(alloc: Global, program: &Program) -> Result<Text, AllocError
     for part in program.parts.as_slice() {
         write_part(alloc, part, &mut out)?;
     }
-    Ok(Text::from_string(out))
+    let text = Text::from_string(alloc, out)?;
+    Ok(text)
 }

@@ -42,7 +42,7 @@ impl Case {
         let made = Text::new(self.alloc, text);
         match self.made(made) {
             Some(text) => text,
-            None => Text::from_string(String::new(self.alloc)),
+            None => Text::empty(),
         }
     }
 }

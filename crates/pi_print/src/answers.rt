@@ -67,7 +67,7 @@ fn value_line(printer: &Printer, named: &NamedTerm) -> Result<Text, AllocError>
     line.push_str(" = ")?;
     printer.term(&named.value, &mut line)?;
     line.push('\n')?;
-    Ok(Text::from_string(line))
+    Text::from_string(printer.alloc, line)
 }
 
 fn write_domains(
@@ -119,7 +119,7 @@ fn domain_line(printer: &Printer, var: u64, domain: &Domain) -> Result<Text, All
     line.push_str(" :: ")?;
     write_spans(domain.spans(), &mut line)?;
     line.push('\n')?;
-    Ok(Text::from_string(line))
+    Text::from_string(printer.alloc, line)
 }
 
 fn write_spans(spans: &[Span], line: &mut String) -> Result<(), AllocError>

@@ -34,5 +34,6 @@ pub fn term_text(alloc: Global, t: &Term, quoted: bool) -> Result<Text, AllocErr
     };
     let mut out = String::new(alloc);
     printer.term(t, &mut out)?;
-    Ok(Text::from_string(out))
+    let text = Text::from_string(alloc, out)?;
+    Ok(text)
 }

@@ -43,9 +43,8 @@ fn longer_than(alloc: Global, count: usize) -> Result<Naming, AllocError>
     for _i in 0..count {
         prefix.push_str("~")?;
     }
-    Ok(Naming {
-        prefix: Text::from_string(prefix),
-    })
+    let made = Text::from_string(alloc, prefix)?;
+    Ok(Naming { prefix: made })
 }
 
 /// The most bytes that a head's name has in these parts, or so many where none has more.

@@ -18,6 +18,7 @@ impl Naming {
     {
         let prefix = self.prefix.as_str();
         let name = format!(in alloc; "{prefix}{number}")?;
-        Ok(Text::from_string(name))
+        let made = Text::from_string(alloc, name)?;
+        Ok(made)
     }
 }

@@ -11,4 +11,5 @@ pub mod RenamedCells
 pub mod Substitution
 pub mod TermCells
 pub mod Tree
+pub mod Texts
 pub mod Variables

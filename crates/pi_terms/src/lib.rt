@@ -5,6 +5,7 @@ mod args;
 pub mod laws;
 mod numbers;
 mod series;
+mod short;
 mod term;
 mod text;
 

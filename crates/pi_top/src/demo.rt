@@ -16,7 +16,8 @@ pub fn demo_text(alloc: Global, places: u32) -> Result<Text, AllocError>
     for place in 0..places {
         push_edges(&mut text, places, place)?;
     }
-    Ok(Text::from_string(text))
+    let made = Text::from_string(alloc, text)?;
+    Ok(made)
 }
 
 /// The rules, with the number of the last place.

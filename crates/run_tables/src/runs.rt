@@ -7,9 +7,7 @@ use pi_cases::{Case, Problem, tell_domains};
 use pi_engine::{Budget, Happening, Kept, Machine, Mode};
 use pi_raw_store::RawStore;
 use pi_trail::Words;
-use pi_types::{
-    Answer, CorePreds, CoreProgram, CoreQuery, NameSlot, NameSlots, StateStore, Text, Work,
-};
+use pi_types::{Answer, CorePreds, CoreProgram, CoreQuery, NameSlot, NameSlots, StateStore, Work};
 
 /// How many slots each query has.
 const SLOTS: u32 = 5;
@@ -54,7 +52,7 @@ fn names(case: &Case, count: u32) -> NameSlots {
     for slot in 0..count {
         let name = format!(in case.alloc; "V{slot}");
         if let Some(name) = case.made(name) {
-            let name = Text::from_string(name);
+            let name = case.text(name.as_str());
             let added = names.push(NameSlot { name, slot });
             case.done(added);
         }

@@ -13,6 +13,6 @@ loop-part-preserved c =
 pub returns : goal.returns
 unfolding canonical_text
 returns c = record {
-  ok = c.from_string.ensures ∙ (program-end c.as_slice-part-items.result.now c.loop-part.part-index (string_bytes c.loop-part.out) _ c.loop-part-test.false c.loop-part.invariant
+  ok = c.in_ok-text.ensures.ok ∙ (program-end c.as_slice-part-items.result.now c.loop-part.part-index (string_bytes c.loop-part.out) _ c.loop-part-test.false c.loop-part.invariant
       ∙ ap (λ ps. canonical_text (map part_tree ps)) c.as_slice-part-items.ensures);
 }

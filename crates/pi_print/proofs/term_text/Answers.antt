@@ -8,7 +8,7 @@ use Rattle.pi_print.proofs.term_text.Goals as goal
 pub returns : goal.returns
 returns c = record {
   ok =
-      c.from_string.ensures
+      c.in_ok-text.ensures.ok
       ∙ (c.in_ok-term.ensures.ok
       ∙ (ap (λ r. r ++ written c.args.quoted c.meet_term.new.numbers c.args.t.now) c.new-out.ensures.bytes
       ∙ ap (λ vs. written c.args.quoted vs c.args.t.now) (c.in_ok-meet_term.ensures.ok

@@ -17,7 +17,7 @@ pub returns-in-End : goal.returns-in-End
 returns-in-End g c = λ given a.
     let v = g.S.StateStore.seen c.args.s.now in
     let w = c.loop-count.invariant given a in
-    walk_ends v c.args.term c.loop-count.at (string_bytes c.loop-count.text) c.loop-count.count _ w (c.in-End.ensures w.given a) c.from_string-text.ensures refl
+    walk_ends v c.args.term c.loop-count.at (string_bytes c.loop-count.text) c.loop-count.count _ w (c.in-End.ensures w.given a) c.in_ok-text-in-End.ensures.ok refl
 
 pub returns-in-Other : goal.returns-in-Other
 returns-in-Other g c = λ given a.

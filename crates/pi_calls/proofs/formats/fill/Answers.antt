@@ -95,5 +95,5 @@ returns g c = λ t ts a is are.
     let whole = filled_in s bad (pieces c.args.text.now false) (each_tree ts) in
     let free = split_none l.rest.now c.split_once.result c.split_once.ensures.cases c.in_default.is in
     let none = none_left v c.args.args.now ts l.taken are c.if-taken-args.false in
-    let text : c.from_string.result ≡ string_bytes c.push_str-2.new.self = c.from_string.ensures in
+    let text : c.in_ok-made.made ≡ string_bytes c.push_str-2.new.self = c.in_ok-made.ensures.ok in
     all_filled s bad whole (string_bytes l.out) (string_bytes c.push_str-2.new.self) l.rest.now (drop l.taken (each_tree ts)) (l.invariant.goes t ts a is are) free none c.in_ok-push_str-2.ensures.bytes ∙ ap Ok (sym text)

@@ -23,5 +23,5 @@ returns g c = λ t u a first second.
     let v = g.S.StateStore.seen c.args.s.now in
     let x = value (bindings v.now.state) t in
     let shows : ShowsCell v x (Cell.Int c.in-Int.n) = shows_value v t (Cell.Int c.in-Int.n) a (c.in-Int.ensures.shows t first a) in
-    let text : c.from_string.result ≡ signed_decimal c.in-Int.n = search rules in
-    integer_given (bad_format u v.now.state) x c.in-Int.n c.from_string.result shows text
+    let text : c.in_ok-made.made ≡ signed_decimal c.in-Int.n = search rules in
+    integer_given (bad_format u v.now.state) x c.in-Int.n c.in_ok-made.made shows text

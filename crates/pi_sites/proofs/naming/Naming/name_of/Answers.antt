@@ -6,5 +6,5 @@ use Rattle.pi_sites.proofs.naming.Naming.name_of.Goals as goal
 
 pub returns : goal.returns
 returns c =
-    let written : c.from_string.result ≡ c.args.self.now.prefix ++ decimal c.args.number = search rules in
+    let written : c.in_ok-made.made ≡ c.args.self.now.prefix ++ decimal c.args.number = search rules in
     written ∙ ap (λ ds. c.args.self.now.prefix ++ ds) (written-digits c.args.number (omega arith))
