@@ -67,11 +67,14 @@ pub fn bare_clause(alloc: Global, exp: Exp) -> Result<FormedClause, AllocError>
                 has_events: false,
             })
         }
-        Headed::Alone(head) => Ok(FormedClause {
-            clause: Clause::Fact { head },
-            is_open: false,
-            has_events: false,
-        }),
+        Headed::Alone(head) => {
+            let head = Box::new(alloc, head)?;
+            Ok(FormedClause {
+                clause: Clause::Fact { head },
+                is_open: false,
+                has_events: false,
+            })
+        }
     }
 }
 

@@ -1,5 +1,6 @@
 //! What the parts of a program are, each by itself.
-use pi_syntax::{Clause, ModeLists, Names};
+use crate::given_modes::GivenModes;
+use pi_syntax::{Clause, Names};
 
 /// A part of a program by itself. (A User's Guide to Picat, 'Predicates and Functions'; the limits are own.)
 ///
@@ -20,7 +21,7 @@ pub enum PartReading {
 /// A clause with the mode lists of the `index` before it.
 #[derive(Drop)]
 pub struct WrittenPart {
-    pub modes: Option<ModeLists>,
+    pub modes: GivenModes,
     pub clause: Clause,
     /// The clause has a form that is forbidden, whatever the other parts are.
     pub has_bad_form: bool,

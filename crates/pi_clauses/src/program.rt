@@ -2,24 +2,27 @@
 ghost use Rattle.std.specs.Prelude.{◌≡◌, ◌++◌, ◌∷◌, [], IfOk, OnOk, map, vec_len};
 ghost use Rattle.pi_syntax.specs.ProgramTree.{source_tree, part_tree};
 ghost use Rattle.pi_clauses.specs.Seen.{seen, all_seen};
-ghost use Rattle.pi_clauses.specs.Verdict.{parts_of, part_of, decl_of};
+ghost use Rattle.pi_clauses.specs.Verdict.{parts_of, part_of};
 
 use crate::parts::PartReading;
-use pi_syntax::{Decl, ModeLists, Part, Parts, Program};
+use pi_syntax::{Decl, Part, Parts, Program};
 use std::alloc::{AllocError, Global};
 
 /// The program of parts without a fault.
 pub fn program_of(alloc: Global, readings: Vec<PartReading>) -> Result<Program, AllocError>
     ensures { IfOk result (λ program. source_tree program ≡ parts_of (all_seen readings.items)) }
 {
-    let mut parts = Parts::new(alloc);
+    // All at once: while a vector grows, its old block stands beside the new one.
+    let mut parts = Vec::with_capacity(alloc, readings.len())?;
     let mut left = readings;
     left.reverse();
     while let Some(reading) = left.pop() {
         add_part(&mut parts, reading)?;
         give_back(&mut left);
     }
-    Ok(Program { parts })
+    Ok(Program {
+        parts: Parts::from_vec(parts),
+    })
 }
 
 /// Gives back the memory behind the readings that are left, at each thousandth or so: so readings and parts aren't both
@@ -34,8 +37,8 @@ fn give_back(left: &mut Vec<PartReading>)
 }
 
 /// Adds the part that a reading is, where it has no fault.
-fn add_part(parts: &mut Parts, reading: PartReading) -> Result<(), AllocError>
-    ensures { IfOk result (λ _. map part_tree parts.new ≡ map part_tree parts.old ++ part_of (seen reading)) }
+fn add_part(parts: &mut Vec<Part>, reading: PartReading) -> Result<(), AllocError>
+    ensures { IfOk result (λ _. map part_tree parts.new.items ≡ map part_tree parts.old.items ++ part_of (seen reading)) }
 {
     match reading {
         PartReading::Import(names) => push_part(
@@ -48,7 +51,7 @@ fn add_part(parts: &mut Parts, reading: PartReading) -> Result<(), AllocError>
         PartReading::Written(written) => push_part(
             parts,
             Part {
-                decl: declaration(written.modes),
+                decl: written.modes.declaration(),
                 clause: Some(written.clause),
             },
         ),
@@ -59,18 +62,9 @@ fn add_part(parts: &mut Parts, reading: PartReading) -> Result<(), AllocError>
     }
 }
 
-fn push_part(parts: &mut Parts, part: Part) -> Result<(), AllocError>
-    ensures { OnOk result (parts.new ≡ parts.old ++ part ∷ []) }
+fn push_part(parts: &mut Vec<Part>, part: Part) -> Result<(), AllocError>
+    ensures { OnOk result (parts.new.items ≡ parts.old.items ++ part ∷ []) }
 {
     parts.push(part)?;
     Ok(())
-}
-
-fn declaration(modes: Option<ModeLists>) -> Decl
-    ensures { result ≡ decl_of modes }
-{
-    match modes {
-        None => Decl::Plain,
-        Some(lists) => Decl::Index(lists),
-    }
 }

@@ -22,10 +22,12 @@ use crate::reading::declaration::{PartOpening, opening};
 use crate::reading::shape::{ReadShape, read_shape};
 use crate::reading::stretch::is_end;
 use crate::reading::variables::has_too_many_names;
-use pi_clauses::{FormedClause, PartReading, WrittenPart, bare_clause, has_bad_form, ruled_clause};
+use pi_clauses::{
+    FormedClause, GivenModes, PartReading, WrittenPart, bare_clause, has_bad_form, ruled_clause,
+};
 use pi_expr::{ExpFault, is_crowded};
 use pi_lex::Tokens;
-use pi_syntax::{Clause, ModeLists, Names};
+use pi_syntax::{Clause, Names};
 use std::alloc::{AllocError, Global};
 
 /// What is to be told of a clause by itself.
@@ -104,12 +106,14 @@ fn read_part(
     match opening {
         PartOpening::Misdeclared => Ok(PartReading::BadDeclaration),
         PartOpening::Importing(names) => Ok(import_part(names, ended)),
-        PartOpening::Indexing(modes, start) => {
-            let part = read_behind(alloc, tokens, from, start, to, Some(modes), ended)?;
+        PartOpening::Indexing(lists, start) => {
+            let modes = GivenModes::of(alloc, lists)?;
+            let part = read_behind(alloc, tokens, from, start, to, modes, ended)?;
             Ok(part)
         }
         PartOpening::Undeclared => {
-            let part = read_behind(alloc, tokens, from, from, to, None, ended)?;
+            let modes = GivenModes::none();
+            let part = read_behind(alloc, tokens, from, from, to, modes, ended)?;
             Ok(part)
         }
     }
@@ -122,7 +126,7 @@ fn read_behind(
     from: usize,
     start: usize,
     to: usize,
-    modes: Option<ModeLists>,
+    modes: GivenModes,
     ended: bool,
 ) -> Result<PartReading, AllocError>
     requires behind { from ≤ start }
@@ -227,7 +231,7 @@ fn marks_of(
 }
 
 /// The part with these mode lists before its clause.
-fn with_modes(modes: Option<ModeLists>, marked: MarkedClause) -> WrittenPart
+fn with_modes(modes: GivenModes, marked: MarkedClause) -> WrittenPart
     ensures { (part ts : List Token) (o : Opening) → IsClauseOf part o modes ts → IsMarkedOf part ts marked → ShowsPart (stretches.stretch part true) (PartReading.Written result) }
 {
     WrittenPart {

@@ -2,7 +2,7 @@
 use Rattle.std.proofs.Common.{◌≡◌, ℕ, List, [], ◌∷◌, length, refl, ap, ◌∙◌, suc}
 use Rattle.std.specs.Prelude.{Vec}
 use Rattle.std.specs.declared.alloc.Global.{Global}
-use Rattle.pi_syntax.specs.ExpTree.{ExpTree, call, and, ExpTrees, no_exps, exp, exp_tree, exp_trees}
+use Rattle.pi_syntax.specs.ExpTree.{call, and, exp, exp_tree, exp_trees}
 use Rattle.pi_syntax.specs.ExpLists.{exps_of}
 use Rattle.pi_syntax.specs.Signature.{exp_count}
 use Rattle.pi_syntax.specs.declared.exp.Exp as e

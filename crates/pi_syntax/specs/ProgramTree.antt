@@ -49,7 +49,7 @@ function_tree f = record { head = exp_tree f.head; value = exp_tree f.value; con
 abbrev pub written_clause : Clause → WrittenClause
 written_clause (Clause.Rule boxed) = rule (rule_tree boxed.value)
 written_clause (Clause.Function boxed) = function (function_tree boxed.value)
-written_clause (Clause.Fact head) = fact (exp_tree head)
+written_clause (Clause.Fact head) = fact (exp_tree head.value)
 
 abbrev pub part_tree : Part → PartTree
 part_tree p = record { decl = p.decl; clause = option_map written_clause p.clause }

@@ -1,6 +1,6 @@
 -- What an expression says of the predicate or function that it is of, as a head or a call: a name with a number of arguments.
 use Rattle.std.specs.Prelude.{ℕ, suc, List, Option, Some, None}
-use Rattle.pi_syntax.specs.ExpTree.{ExpTree, var, int, atom, call, ExpTrees, no_exps, exp}
+use Rattle.pi_syntax.specs.ExpTree.{ExpTree, atom, call, ExpTrees, no_exps, exp}
 
 -- how many expressions they are
 unfoldable pub exp_count : ExpTrees → ℕ

@@ -8,14 +8,14 @@ pub type Names = Series<Text>;
 /// A clause of a program as it is written. A User's Guide to Picat, 'Predicates and Functions', and for events 'Action
 /// Rules'.
 ///
-/// Rules are boxed, so that a fact, of which programs have the most, takes the room of its head alone.
+/// What a clause holds is boxed, so that a part of a program is small whatever its clause is.
 pub enum Clause {
     /// A predicate's rule.
     Rule(Box<RuleClause>),
     /// A function's rule or fact.
     Function(Box<FunctionClause>),
     /// A fact of a predicate behind its `index`.
-    Fact { head: Exp },
+    Fact { head: Box<Exp> },
 }
 
 // By hand, so that letting one go is a call and not its parts at each way out.

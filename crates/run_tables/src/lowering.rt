@@ -76,6 +76,7 @@ fn decl_of(case: &Case, words: &[String]) -> Decl {
 fn take_fact(case: &Case) -> Option<Part> {
     let modes = case.take_until(":");
     let head = expression_of(case, case.take_rest())?;
+    let head = case.made(Box::new(case.alloc, head))?;
     Some(Part {
         clause: Some(Clause::Fact { head }),
         decl: decl_of(case, modes),

@@ -239,7 +239,7 @@ clause-function f old mid later new h k l =
     let end : List Placed = placed_if (goal true) (option_map exp_tree f.body) in
     join (placed expression (exp_tree f.value)) (cond ++ end) old later new (join cond end old mid later h k) l
 
-pub clause-fact : (c : Clause) (head : Exp) (ps : List Placed) → c ≡ Clause.Fact head → ps ≡ clause_placed (written_clause c) ++ ps
+pub clause-fact : (c : Clause) (head : Box Exp Global) (ps : List Placed) → c ≡ Clause.Fact head → ps ≡ clause_placed (written_clause c) ++ ps
 clause-fact c head ps is = ap (λ w. clause_placed (written_clause w) ++ ps) (sym is)
 
 -- ---- of a head

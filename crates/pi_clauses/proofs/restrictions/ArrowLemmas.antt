@@ -59,11 +59,11 @@ fact_events : (s : Shape) (t : ExpTree) → fact t ≡ clause_of s → shape_eve
 fact_events (bare e) t h = refl
 fact_events (ruled l back r) t h = absurd (no_fact (equation (first_unit (units l))) (first_unit (units l)) t r (other_units (units l)) back h)
 
-pub fact_arrow : (f : FormedClause) (h : Exp) → f.clause ≡ Clause.Fact h → (s : Shape) → IsFormed f s → false ≡ bad_arrow s
+pub fact_arrow : (f : FormedClause) (h : Box Exp Global) → f.clause ≡ Clause.Fact h → (s : Shape) → IsFormed f s → false ≡ bad_arrow s
 fact_arrow f h is s formed =
-    let clause : clause_of s ≡ fact (exp_tree h) = sym formed.clause ∙ ap written_clause is in
+    let clause : clause_of s ≡ fact (exp_tree h.value) = sym formed.clause ∙ ap written_clause is in
     of_none (head_of (clause_of s)) (is_open s)
-    ∙ ap (arrow_by false (head_of (clause_of s)) (is_open s)) (sym (fact_events s (exp_tree h) (sym clause)))
+    ∙ ap (arrow_by false (head_of (clause_of s)) (is_open s)) (sym (fact_events s (exp_tree h.value) (sym clause)))
     ∙ ap (λ x. arrow_by x (head_of (clause_of s)) (is_open s) (shape_events s)) (sym (ap is_function clause))
     ∙ sym (bad_arrow_by s)
 

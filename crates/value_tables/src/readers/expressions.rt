@@ -19,6 +19,7 @@ pub fn tell_canonical(case: &Case, line: &str) {
 
 /// The program of one fact.
 fn fact(alloc: Global, head: Exp) -> Result<Program, AllocError> {
+    let head = Box::new(alloc, head)?;
     let mut parts = Parts::new(alloc);
     parts.push(Part {
         decl: Decl::Plain,
