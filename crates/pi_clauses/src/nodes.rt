@@ -3,4 +3,5 @@
 pub(crate) mod form;
 pub(crate) mod operators;
 pub(crate) mod place;
+pub(crate) mod row;
 pub(crate) mod walk;

@@ -5,10 +5,11 @@ ghost use Rattle.pi_syntax.specs.ProgramTree as tree;
 ghost use Rattle.pi_syntax.specs.ProgramTree.{written_clause};
 ghost use Rattle.pi_syntax.specs.ExpLists.{exps_of};
 ghost use Rattle.pi_clauses.specs.Places.{goal, pattern, placed, below, all_placed, arguments_placed, branches_placed, placed_if, clause_placed, head_placed};
-ghost use Rattle.pi_clauses.specs.Walk.{shown_place, shown_node, nodes_ahead, held_exp, branches_of};
+ghost use Rattle.pi_clauses.specs.Walk.{shown_place, shown_node, side_placed, nodes_ahead, held_exp, branches_of};
 
 use crate::nodes::form::Form;
 use crate::nodes::place::{Place, TEST};
+use crate::nodes::row::{Row, Side};
 use pi_syntax::{Clause, Exp, FunctionClause, RuleClause};
 use std::alloc::{AllocError, Global};
 
@@ -22,7 +23,7 @@ pub(crate) struct Node<'a> {
 /// A walk through nodes: a node comes before what stands in it. The last of the stack comes first.
 #[derive(Drop)]
 pub(crate) struct Walk<'a> {
-    stack: Vec<Node<'a>>,
+    stack: Vec<Row<'a>>,
 }
 
 impl<'a> Walk<'a> {
@@ -71,11 +72,16 @@ impl<'a> Walk<'a> {
     pub(crate) fn next(&mut self) -> Result<Option<Node<'a>>, AllocError>
         ensures { IfOk result (λ next. MatchOption next (nodes_ahead self.old ≡ []) (λ node. nodes_ahead self.old ≡ shown_node node ∷ nodes_ahead self.new)) }
     {
-        let Some(node) = self.stack.pop() else {
+        let Some(row) = self.stack.pop() else {
             return Ok(None);
         };
-        self.push_below(node.place, node.exp)?;
-        Ok(Some(node))
+        let place = row.place();
+        self.push_row(row.side, row.others)?;
+        self.push_below(place, row.first)?;
+        Ok(Some(Node {
+            place,
+            exp: row.first,
+        }))
     }
 
     /// Puts what a clause evaluates before the nodes ahead. Where memory runs out the rest is tried all the same.
@@ -108,7 +114,26 @@ impl<'a> Walk<'a> {
     fn push(&mut self, place: Place, exp: &'a Exp) -> Result<(), AllocError>
         ensures { OnOk result (nodes_ahead self.new ≡ placed (shown_place place) (exp_tree exp.now) ++ nodes_ahead self.old) }
     {
-        self.stack.push(Node { place, exp })?;
+        self.stack.push(Row {
+            side: Side::Alike(place),
+            first: exp,
+            others: &[],
+        })?;
+        Ok(())
+    }
+
+    /// Puts expressions that stand side by side before the nodes ahead.
+    fn push_row(&mut self, side: Side<'a>, exps: &'a [Exp]) -> Result<(), AllocError>
+        ensures { OnOk result (nodes_ahead self.new ≡ side_placed side.entry (exps_of exps.now) ++ nodes_ahead self.old) }
+    {
+        let Some((first, others)) = exps.split_first() else {
+            return Ok(());
+        };
+        self.stack.push(Row {
+            side,
+            first,
+            others,
+        })?;
         Ok(())
     }
 
@@ -133,24 +158,20 @@ impl<'a> Walk<'a> {
     fn push_all(&mut self, place: Place, exps: &'a [Exp]) -> Result<(), AllocError>
         ensures { OnOk result (nodes_ahead self.new ≡ all_placed (shown_place place) (exps_of exps.now) ++ nodes_ahead self.old) }
     {
-        for i in (0..exps.len()).rev() {
-            self.push(place, &exps[i])?;
-        }
-        Ok(())
+        self.push_row(Side::Alike(place), exps)
     }
 
     fn push_arguments(
         &mut self,
         place: Place,
-        name: &str,
+        name: &'a str,
         args: &'a [Exp],
     ) -> Result<(), AllocError>
         ensures { OnOk result (nodes_ahead self.new ≡ arguments_placed (shown_place place) name.now (length args.now) 0 (exps_of args.now) ++ nodes_ahead self.old) }
     {
-        for i in (0..args.len()).rev() {
-            self.push(place.argument(name, args.len(), i), &args[i])?;
-        }
-        Ok(())
+        let arity = args.len();
+        let side = Side::Arguments { place, name, arity };
+        self.push_row(side, args)
     }
 
     fn push_branches(&mut self, place: Place, branches: &'a [(Exp, Exp)]) -> Result<(), AllocError>
