@@ -7,3 +7,4 @@ pub mod TotalLemmas
 pub mod NaturalLemmas
 pub mod ItemLemmas
 pub mod KeepLemmas
+pub mod LineLemmas

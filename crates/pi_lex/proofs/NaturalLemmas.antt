@@ -1,5 +1,5 @@
 -- No integer token is negative.
-use Rattle.std.proofs.Common.{◌≡◌, ℕ, Bool, true, false, ℤ, pos, ◌≤ℤ◌, List, [], ◌∷◌, Option, None, Some, slice_get, zero, suc, refl, ap, subst, ◌+◌, if◌then◌else◌, rules, not, nat_le, take, drop, ◌-◌, length, ◌==◌}
+use Rattle.std.proofs.Common.{◌≡◌, ℕ, Bool, true, false, pos, ◌≤ℤ◌, List, [], ◌∷◌, Option, None, Some, slice_get, zero, suc, ap, subst, ◌+◌, if◌then◌else◌, rules, not, nat_le, take, drop, ◌-◌, length, ◌==◌}
 use Rattle.std.specs.Char.{is_ascii_digit}
 use Rattle.std.specs.Prelude.{slice_index}
 use Rattle.pi_lex.specs.Kinds.{kinds, IsNatural, AreNatural}

@@ -1,5 +1,5 @@
 -- What a `TokenKind` and a `LexFault` say.
-use Rattle.std.specs.Prelude.{ℕ, ℤ, pos, ◌≤ℤ◌, List, [], ◌∷◌, map, Option, Some, None}
+use Rattle.std.specs.Prelude.{ℕ, pos, ◌≤ℤ◌, List, [], ◌∷◌, map, Option, Some, None}
 use Rattle.pi_lex.specs.declared.token_list.TokenKind.{TokenKind}
 use Rattle.pi_lex.specs.declared.token_list.TokenKind.TheVariants as kind
 use Rattle.pi_lex.specs.declared.fault.LexFault.{LexFault}

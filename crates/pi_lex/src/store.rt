@@ -1,42 +1,52 @@
-//! The tokens as they are kept: spans into one buffer.
-ghost use Rattle.std.specs.Prelude.{◌≡◌, ◌+◌, ◌*◌, ◌<◌, ◌≤◌, ◌^◌, false, ◌++◌, length, string_bytes, string_len, encode_utf8_all, OnOk, IfOk};
+//! The tokens as they are kept: eight bytes each, most with a span of one buffer, and their lines beside them.
+ghost use Rattle.std.specs.Prelude.{◌≡◌, ◌+◌, ◌*◌, ◌<◌, ◌≤◌, ◌^◌, ◌++◌, length, string_bytes, string_len, vec_len, encode_utf8_all, OnOk, IfOk};
 ghost use Rattle.pi_lex.specs.Spans.{spanned, IsSpan};
-ghost use Rattle.pi_syntax.specs.Tokens.{unescaped};
+ghost use Rattle.pi_lex.specs.Store.{Extends, Refers};
 
 use crate::item::Item;
 use crate::quoted::push_unescaped;
 use crate::token_list::TokenKind;
 use std::alloc::{AllocError, Global};
 
-/// The bytes of a name, a text or a sign in the buffer.
+/// What differs among the tokens that the buffer spells.
+#[derive(Clone, Copy)]
+pub(crate) enum Kind {
+    Variable,
+    Atom,
+    Word,
+    Text,
+    Sign,
+}
+
+/// Bytes of the buffer.
 #[derive(Clone, Copy)]
 pub(crate) struct Span {
     from: u32,
-    to: u32,
+    len: u32,
 }
 
+/// A token in eight bytes.
 #[derive(Clone, Copy)]
 pub(crate) enum Form {
-    Variable(Span),
-    Atom(Span),
-    Word(Span),
-    /// The place among the numbers.
-    Integer(u32),
-    Text(Span),
-    Sign(Span),
+    /// At most 65,535 bytes of the buffer, from a place on.
+    Short { kind: Kind, len: u16, from: u32 },
+    /// More bytes of the buffer: the place among the long spans.
+    Long { kind: Kind, place: u32 },
+    /// An integer of 32 bits.
+    Small(u32),
+    /// Any other integer: the place among the numbers.
+    Large(u32),
     EndPoint,
 }
 
-#[derive(Clone, Copy)]
-pub(crate) struct Lexeme {
-    form: Form,
-    line: u32,
-}
-
+/// The tokens' forms, and what they refer to. `feeds` has for each line feed that is passed how many tokens stand
+/// before it, so no token holds its line.
 pub(crate) struct Store {
     buffer: String,
+    longs: Vec<Span>,
     numbers: Vec<i128>,
-    lexemes: Vec<Lexeme>,
+    forms: Vec<Form>,
+    feeds: Vec<u32>,
 }
 
 // By hand, so that letting one go is a call and not its parts at each way out.
@@ -44,43 +54,52 @@ impl Drop for Store {
     fn drop(self) {
         let Store {
             buffer: _,
+            longs: _,
             numbers: _,
-            lexemes: _,
+            forms: _,
+            feeds: _,
         } = self;
     }
 }
 
 impl Store {
-    ghost use Rattle.std.specs.Prelude.{◌≡◌, [], ◌++◌, ◌<◌, length, slice_get, Some, string_bytes, string_len, vec_len, OnOk, IfOk};
+    ghost use Rattle.std.specs.Prelude.{◌≡◌, [], ◌++◌, ◌<◌, false, length, encode_utf8_all, slice_get, Some, string_bytes, OnOk, IfOk};
     ghost use Rattle.pi_lex.specs.Kinds.{token_shown, kinds, lines};
     ghost use Rattle.pi_lex.specs.Items.{seen, FitsIn, item_len, tokens_from};
-    ghost use Rattle.pi_lex.specs.Store.{listed, token_of, IsForm, IsSound, Keeps, GrowsBy, HasRoom, Holds};
+    ghost use Rattle.pi_lex.specs.Store.{listed, said, token_of, IsForm, IsSound, IsKept, IsTaken, GrowsBy, HasRoom, StandsBefore};
+    ghost use Rattle.pi_syntax.specs.Tokens.{Int, unescaped, most_bytes};
 
     /// A store of no tokens.
     pub(crate) fn new(alloc: Global) -> Self
         ensures listed { listed result ≡ [] }
         ensures sound { IsSound result }
-        ensures no_bytes { string_len result.buffer ≡ 0 }
-        ensures no_numbers { vec_len result.numbers ≡ 0 }
+        ensures room { HasRoom result most_bytes }
+        ensures before { StandsBefore result 1 }
     {
         Store {
             buffer: String::new(alloc),
+            longs: Vec::new(alloc),
             numbers: Vec::new(alloc),
-            lexemes: Vec::new(alloc),
+            forms: Vec::new(alloc),
+            feeds: Vec::new(alloc),
         }
     }
 
-    /// Adds the token that stands at the front of the text, if one does.
+    /// Adds the token that stands at the front of the text, if one does. No token may be on a later line.
     pub(crate) fn push(&mut self, item: Item, text: &[char], line: u32) -> Result<(), AllocError>
         requires sound { IsSound self.old }
         requires fits { FitsIn text.now item }
         requires room { HasRoom self.old (length text.now) }
+        requires before { StandsBefore self.old line }
         ensures listed { OnOk result (listed self.new ≡ listed self.old ++ tokens_from (seen text.now item) line) }
         ensures sound { OnOk result (IsSound self.new) }
         ensures grows { OnOk result (GrowsBy self.old self.new (item_len (seen text.now item))) }
+        ensures before { OnOk result (StandsBefore self.new line) }
     {
         if let Some(form) = self.keep(item, text)? {
-            self.lexemes.push(Lexeme { form, line })?;
+            let here = self.forms.len() as u32;
+            self.feeds.resize(line as usize - 1, here)?;
+            self.forms.push(form)?;
         }
         Ok(())
     }
@@ -89,15 +108,16 @@ impl Store {
     pub(crate) fn len(&self) -> usize
         ensures { result ≡ length (listed self.now) }
     {
-        self.lexemes.len()
+        self.forms.len()
     }
 
-    /// The line of a token.
-    pub(crate) fn line(&self, index: usize) -> u32
-        requires { index < length (listed self.now) }
+    /// The line of a token: one more than the line feeds before it.
+    pub(crate) fn line(&self, index: usize) -> u64
+        requires sound { IsSound self.now }
+        requires within { index < length (listed self.now) }
         ensures { slice_get (lines (listed self.now)) index ≡ Some result }
     {
-        self.lexemes[index].line
+        self.feeds.partition_point(|feed| *feed as usize <= index) as u64 + 1
     }
 
     /// What a token says.
@@ -106,21 +126,36 @@ impl Store {
         requires within { index < length (listed self.now) }
         ensures { slice_get (kinds (listed self.now)) index ≡ Some (token_shown result) }
     {
-        self.show(self.lexemes[index].form)
+        self.show(self.forms[index])
     }
 
     fn show(&self, form: Form) -> TokenKind<'_>
-        requires { IsForm (string_bytes self.now.buffer) self.now.numbers.items form }
-        ensures { token_shown result ≡ token_of (string_bytes self.now.buffer) self.now.numbers.items form }
+        requires { IsForm self.now form }
+        ensures { token_shown result ≡ token_of self.now form }
     {
         match form {
-            Form::Variable(span) => TokenKind::Var(self.bytes(span)),
-            Form::Atom(span) => TokenKind::Atom(self.bytes(span)),
-            Form::Word(span) => TokenKind::Word(self.bytes(span)),
-            Form::Integer(index) => TokenKind::Int(self.numbers[index as usize]),
-            Form::Text(span) => TokenKind::Str(self.bytes(span)),
-            Form::Sign(span) => TokenKind::Sign(self.bytes(span)),
+            Form::Short { kind, len, from } => {
+                let len = u32::from(len);
+                self.say(kind, Span { from, len })
+            }
+            Form::Long { kind, place } => self.say(kind, self.longs[place as usize]),
+            Form::Small(value) => TokenKind::Int(i128::from(value)),
+            Form::Large(place) => TokenKind::Int(self.numbers[place as usize]),
             Form::EndPoint => TokenKind::End,
+        }
+    }
+
+    fn say(&self, kind: Kind, span: Span) -> TokenKind<'_>
+        requires { IsSpan (string_bytes self.now.buffer) span }
+        ensures { token_shown result ≡ said kind (spanned (string_bytes self.now.buffer) span) }
+    {
+        let bytes = self.bytes(span);
+        match kind {
+            Kind::Variable => TokenKind::Var(bytes),
+            Kind::Atom => TokenKind::Atom(bytes),
+            Kind::Word => TokenKind::Word(bytes),
+            Kind::Text => TokenKind::Str(bytes),
+            Kind::Sign => TokenKind::Sign(bytes),
         }
     }
 
@@ -128,67 +163,82 @@ impl Store {
         requires { IsSpan (string_bytes self.now.buffer) span }
         ensures { result.now ≡ spanned (string_bytes self.now.buffer) span }
     {
-        &self.buffer.as_str()[span.from as usize..span.to as usize]
+        let from = span.from as usize;
+        &self.buffer.as_str()[from..from + span.len as usize]
     }
 
     /// Keeps what the token at the front of the text says.
     fn keep(&mut self, item: Item, text: &[char]) -> Result<Option<Form>, AllocError>
         requires fits { FitsIn text.now item }
         requires room { HasRoom self.old (length text.now) }
-        ensures form { IfOk result (λ form. Holds (string_bytes self.new.buffer) self.new.numbers.items form (seen text.now item)) }
-        ensures keeps { OnOk result (Keeps self.old self.new) }
-        ensures grows { OnOk result (GrowsBy self.old self.new (item_len (seen text.now item))) }
+        ensures { IfOk result (λ form. IsTaken self.old self.new form (seen text.now item)) }
     {
         match item {
-            Item::Variable(len) => Ok(Some(Form::Variable(spell(&mut self.buffer, &text[..len])?))),
-            Item::Atom(len) => Ok(Some(Form::Atom(spell(&mut self.buffer, &text[..len])?))),
-            Item::Word(len) => Ok(Some(Form::Word(spell(&mut self.buffer, &text[..len])?))),
-            Item::Sign(len) => Ok(Some(Form::Sign(spell(&mut self.buffer, &text[..len])?))),
-            Item::QuotedAtom(place) => {
-                Ok(Some(Form::Atom(unescape(&mut self.buffer, &text[1..place])?)))
-            }
-            Item::Text(place) => Ok(Some(Form::Text(unescape(&mut self.buffer, &text[1..place])?))),
-            Item::Integer(value, _) => {
-                let index = self.numbers.len() as u32;
-                self.numbers.push(value)?;
-                Ok(Some(Form::Integer(index)))
-            }
+            Item::Variable(len) => Ok(Some(self.spell(Kind::Variable, &text[..len])?)),
+            Item::Atom(len) => Ok(Some(self.spell(Kind::Atom, &text[..len])?)),
+            Item::Word(len) => Ok(Some(self.spell(Kind::Word, &text[..len])?)),
+            Item::Sign(len) => Ok(Some(self.spell(Kind::Sign, &text[..len])?)),
+            Item::QuotedAtom(place) => Ok(Some(self.unescape(Kind::Atom, &text[1..place])?)),
+            Item::Text(place) => Ok(Some(self.unescape(Kind::Text, &text[1..place])?)),
+            Item::Integer(value, _) => Ok(Some(self.number(value)?)),
             Item::EndPoint => Ok(Some(Form::EndPoint)),
             Item::Blank(_) | Item::Wide | Item::Bad => Ok(None),
         }
     }
+
+    /// Keeps the characters as they are.
+    fn spell(&mut self, kind: Kind, spelling: &[char]) -> Result<Form, AllocError>
+        requires { HasRoom self.old (length spelling.now) }
+        ensures { IfOk result (λ form. IsKept self.old self.new form (said kind (encode_utf8_all spelling.now)) (length spelling.now)) }
+    {
+        let from = self.buffer.len();
+        push_all(&mut self.buffer, spelling)?;
+        let len = self.buffer.len() - from;
+        refer(&mut self.longs, kind, from, len)
+    }
+
+    /// Keeps what the characters between two quotes stand for.
+    fn unescape(&mut self, kind: Kind, inside: &[char]) -> Result<Form, AllocError>
+        requires { HasRoom self.old (length inside.now) }
+        ensures { IfOk result (λ form. IsKept self.old self.new form (said kind (encode_utf8_all (unescaped false inside.now))) (length inside.now)) }
+    {
+        let from = self.buffer.len();
+        push_unescaped(&mut self.buffer, inside)?;
+        let len = self.buffer.len() - from;
+        refer(&mut self.longs, kind, from, len)
+    }
+
+    fn number(&mut self, value: i128) -> Result<Form, AllocError>
+        requires { HasRoom self.old 0 }
+        ensures { IfOk result (λ form. IsKept self.old self.new form (Int value) 0) }
+    {
+        if let Ok(small) = u32::try_from(value) {
+            return Ok(Form::Small(small));
+        }
+        let place = self.numbers.len() as u32;
+        self.numbers.push(value)?;
+        Ok(Form::Large(place))
+    }
 }
 
-/// Appends the characters as they are.
-fn spell(buffer: &mut String, spelling: &[char]) -> Result<Span, AllocError>
-    requires { string_len buffer.old + 4 * length spelling.now < 2 ^ 32 }
-    ensures bytes { OnOk result (string_bytes buffer.new ≡ string_bytes buffer.old ++ encode_utf8_all spelling.now) }
-    ensures span { IfOk result (λ span. IsSpan (string_bytes buffer.new) span) }
-    ensures spanned { IfOk result (λ span. spanned (string_bytes buffer.new) span ≡ encode_utf8_all spelling.now) }
-    ensures grows { OnOk result (string_len buffer.new ≤ string_len buffer.old + 4 * length spelling.now) }
+/// The form of a span: a short one stands in it, a long one behind the others.
+fn refer(longs: &mut Vec<Span>, kind: Kind, from: usize, len: usize) -> Result<Form, AllocError>
+    requires span { from + len < 2 ^ 32 }
+    requires room { vec_len longs.old < 2 ^ 32 }
+    ensures refers { IfOk result (λ form. Refers longs.new.items form kind from len) }
+    ensures keeps { OnOk result (Extends longs.old.items longs.new.items) }
+    ensures grows { OnOk result (vec_len longs.new ≤ vec_len longs.old + 1) }
 {
-    let from = buffer.len() as u32;
-    push_all(buffer, spelling)?;
-    Ok(Span {
-        from,
-        to: buffer.len() as u32,
-    })
-}
-
-/// Appends what the characters between two quotes stand for.
-fn unescape(buffer: &mut String, inside: &[char]) -> Result<Span, AllocError>
-    requires { string_len buffer.old + 4 * length inside.now < 2 ^ 32 }
-    ensures bytes { OnOk result (string_bytes buffer.new ≡ string_bytes buffer.old ++ encode_utf8_all (unescaped false inside.now)) }
-    ensures span { IfOk result (λ span. IsSpan (string_bytes buffer.new) span) }
-    ensures spanned { IfOk result (λ span. spanned (string_bytes buffer.new) span ≡ encode_utf8_all (unescaped false inside.now)) }
-    ensures grows { OnOk result (string_len buffer.new ≤ string_len buffer.old + 4 * length inside.now) }
-{
-    let from = buffer.len() as u32;
-    push_unescaped(buffer, inside)?;
-    Ok(Span {
-        from,
-        to: buffer.len() as u32,
-    })
+    if let Ok(len) = u16::try_from(len) {
+        let from = from as u32;
+        return Ok(Form::Short { kind, len, from });
+    }
+    let place = longs.len() as u32;
+    longs.push(Span {
+        from: from as u32,
+        len: len as u32,
+    })?;
+    Ok(Form::Long { kind, place })
 }
 
 #[tactic(auto, using(crate::proofs::StoreLemmas::encode_short))]

@@ -91,6 +91,6 @@ impl Tokens {
         requires { i < length self.now }
         ensures { slice_get (lines self.now) i ≡ Some result }
     {
-        u64::from(self.store.line(i))
+        self.store.line(i)
     }
 }

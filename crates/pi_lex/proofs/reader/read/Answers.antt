@@ -1,6 +1,7 @@
 use Rattle.std.proofs.Common.{sym, ap, ◌+◌, refl, arith, length-drop, length-take}
 use Rattle.std.proofs.lemmas.Result.{err_from_is_err_and}
 use Rattle.std.proofs.lemmas.Bool.Decides.{nat_tests}
+use Rattle.pi_lex.proofs.KeepLemmas.{HasRoom-fewer, HasRoom-left}
 use Rattle.pi_lex.proofs.ReaderLemmas.{HasRead-item, HasRead-end, HasRead-fault}
 use Rattle.pi_lex.proofs.reader.read.Goals as goal
 
@@ -8,8 +9,8 @@ pub items-init : goal.items-init
 items-init c = record {
   sound = c.new-store.ensures.sound;
   reads = λ tokens fault read. rw c.new-store.ensures.listed read;
-  buffer = omega arith;
-  numbers = omega arith;
+  room = HasRoom-fewer _ _ _ c.new-store.ensures.room c.requires;
+  before = c.new-store.ensures.before;
   lines = omega arith;
 }
 
@@ -27,8 +28,9 @@ items-preserved c =
     record {
       sound = c.in_ok-push.ensures.sound;
       reads = HasRead-item _ _ _ _ _ _ _ _ c.in_ok-len.len c.items.invariant.reads (sym c.item_at-item.ensures.value) c.in_ok-len.ensures.goes_on size (ap (λ k. c.items.line + k) c.line_feeds-line.ensures.value) refl c.in_ok-push.ensures.listed;
-      buffer = omega (arith, grows.buffer, size, front, length-drop c.in_ok-len.len rest);
-      numbers = omega (arith, grows.numbers, size, front, length-drop c.in_ok-len.len rest);
+      room = HasRoom-fewer _ _ _ (HasRoom-left _ _ _ _ c.items.invariant.room grows (omega (arith, size, front)) (omega (arith, size, front)))
+          (omega (arith, size, front, length-drop c.in_ok-len.len rest));
+      before = omega (arith, c.in_ok-push.ensures.before);
       lines = omega (arith, front, c.line_feeds-line.ensures.within, length-drop c.in_ok-len.len rest, length-take c.in_ok-len.len rest);
     }
 

@@ -1,5 +1,5 @@
-use Rattle.std.proofs.Common.{◌+◌, ◌*◌, ◌≤◌, length, string_len, vec_len}
-use Rattle.pi_lex.specs.Store.{listed, IsSound}
+use Rattle.std.proofs.Common.{◌+◌, ◌≤◌, length}
+use Rattle.pi_lex.specs.Store.{listed, IsSound, HasRoom, StandsBefore}
 use Rattle.pi_lex.proofs.ReaderLemmas.{HasRead}
 use Rattle.pi_lex.proofs.reader.read.Given as goal
 
@@ -7,8 +7,8 @@ abbrev pub invariant-items : goal.invariant-items
 invariant-items l = record {
   sound : IsSound l.store;
   reads : HasRead l.chars (listed l.store) l.line l.rest;
-  buffer : string_len l.store.buffer + 4 * length l.rest ≤ 4 * length l.chars;
-  numbers : vec_len l.store.numbers + length l.rest ≤ length l.chars;
+  room : HasRoom l.store (length l.rest);
+  before : StandsBefore l.store l.line;
   lines : l.line + length l.rest ≤ length l.chars + 1;
 }
 
