@@ -1,26 +1,13 @@
 -- A stretch of tokens, and what a walk over it finds.
-use Rattle.std.proofs.Common.{◌≡◌, ℕ, ◌+◌, ◌-◌, ◌<◌, ◌≤◌, ◌↔◌, inl, inr, zero, suc, Bool, true, false, cond, nat_lt, List, [], ◌∷◌, take, drop, slice_get, Some, refl, ap, sym, ◌∙◌, arith, drop-cons, lit≤}
+use Rattle.std.proofs.Common.{◌≡◌, ℕ, ◌+◌, ◌<◌, ◌≤◌, ◌↔◌, inl, inr, zero, suc, Bool, true, false, cond, nat_lt, List, [], ◌∷◌, take, refl, sym, arith, lit≤}
 use Rattle.std.specs.Prelude.{count_by}
 use Rattle.std.proofs.lemmas.Bool.{cases_Bool, false≢true}
 use Rattle.std.proofs.lemmas.Bool.Decides.{nat_tests}
-use Rattle.std.proofs.lemmas.Option.{slice_get_within, get_or_from_slice_get}
 use Rattle.std.proofs.lemmas.List.Sums.{sum_by-cons}
 use Rattle.pi_syntax.specs.Tokens.{Token}
 use Rattle.pi_syntax.specs.Crowding.{most_open, most_block_words, is_opening, is_closing, is_block_word, IsCrowded}
 use Rattle.pi_expr.specs.Crowds.{one_if, is_too_open}
-use Rattle.pi_expr.specs.Faults.{stretch}
-
-pub stretch_step : (ts : List Token) (i j to : ℕ) (t : Token) → j ≡ i + 1 → slice_get ts i ≡ Some t → i < to
-    → stretch ts i to ≡ t ∷ stretch ts j to
-stretch_step ts i j to t q p h =
-    let within = slice_get_within ts i t p in
-    let here : drop i ts ≡ t ∷ drop (suc i) ts = drop-cons ts i t within ∙ ap (λ x. x ∷ drop (suc i) ts) (get_or_from_slice_get ts i t t p) in
-    let count : to - i ≡ suc (to - suc i) = omega (arith, h) in
-    let next : suc i ≡ j = omega (arith, q) in
-    ap (λ xs. take (to - i) xs) here ∙ ap (λ k. take k (t ∷ drop (suc i) ts)) count ∙ ap (λ k. t ∷ stretch ts k to) next
-
-pub stretch_none : (ts : List Token) (i to : ℕ) → to ≤ i → stretch ts i to ≡ []
-stretch_none ts i to h = let none : to - i ≡ 0 = omega (arith, h) in ap (λ k. take k (drop i ts)) none
+pub use Rattle.pi_phrases.proofs.StretchLemmas.{stretch_step, stretch_none}
 
 count_step : (p : Token → Bool) (t : Token) (ts : List Token) → count_by p (t ∷ ts) ≡ one_if (p t) + count_by p ts
 count_step p t ts = sum_by-cons (λ x. cond (p x) 1 0) t ts

@@ -5,7 +5,6 @@ pub mod ExpLemmas
 pub mod Lift
 pub mod OperandLemmas
 pub mod ReaderLemmas
-pub mod RowLemmas
 pub mod SizeLemmas
 pub mod Sound
 pub mod SoundSteps

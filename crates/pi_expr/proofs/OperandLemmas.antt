@@ -1,11 +1,10 @@
 -- An integer that stands alone, and conjunctions and disjunctions with one more.
-use Rattle.std.proofs.Common.{◌≡◌, Bool, true, List, ◌∷◌, None, refl}
+use Rattle.std.proofs.Common.{◌≡◌, List, ◌∷◌, None, refl}
 use Rattle.pi_syntax.specs.ExpTree.{ExpTree, ExpTrees, no_exps, exp as exp_before, and, or}
 use Rattle.pi_syntax.specs.Grammar as g
 use Rattle.pi_syntax.specs.Terminals as t
 use Rattle.pi_phrases.specs.Machine as m
-use Rattle.pi_phrases.specs.Shown.{mark_shown, terminal_shown}
-use Rattle.pi_phrases.specs.declared.terminal.Mark.{Mark}
+use Rattle.pi_phrases.specs.Shown.{terminal_shown}
 use Rattle.pi_phrases.specs.declared.terminal.Mark.TheVariants as mark
 use Rattle.pi_phrases.specs.declared.terminal.Terminal.{Terminal}
 use Rattle.pi_phrases.specs.declared.terminal.Terminal.TheVariants as terminal

@@ -1,6 +1,9 @@
 -- The loop of the reader against the steps of the machine.
-use Rattle.std.proofs.Common.{◌≡◌, ℕ, ◌+◌, ◌*◌, ◌<◌, suc, List, [], ◌∷◌, ◌++◌, length, refl, ap, subst, sym, ◌∙◌, arith}
+use Rattle.std.proofs.Common.{◌≡◌, ◌==◌, Bool, true, false, ℕ, ◌+◌, ◌*◌, ◌<◌, suc, List, [], ◌∷◌, ◌++◌, length, refl, ap, subst, sym, ◌∙◌, arith}
+use Rattle.std.proofs.lemmas.Bool.{eqb-true, false≢true}
+use Rattle.std.proofs.lemmas.List.{nil_from_length}
 use Rattle.pi_syntax.specs.ExpTree.{ExpTree}
+use Rattle.pi_syntax.specs.Terminals as t
 use Rattle.pi_phrases.specs.Machine as m
 use Rattle.pi_phrases.specs.Machine.{Runs, stop, go, step}
 use Rattle.pi_phrases.specs.Shown.{terminals}
@@ -8,7 +11,6 @@ use Rattle.pi_expr.specs.Sizes.{size}
 use Rattle.pi_phrases.specs.Turns.{ShowsFrame}
 use Rattle.pi_expr.specs.States.{ShowsStack, ShowsState}
 use Rattle.pi_phrases.specs.declared.frame.Frame.{Frame}
-use Rattle.pi_phrases.specs.declared.terminal.Terminal as code
 use Rattle.pi_expr.specs.declared.reader.State.{State}
 use Rattle.pi_expr.specs.declared.reader.State.TheVariants as state
 use Rattle.pi_expr.proofs.SizeLemmas.{next_down}
@@ -91,21 +93,26 @@ pub length_stack : (xs : List Frame) (fs : List m.Frame) → ShowsStack xs fs �
 length_stack xs [] h = ap (λ (ys : List Frame). length ys) h
 length_stack xs (f ∷ fs) (older, (x, (q, (h, i)))) = let more = length_stack older fs i in omega (arith, ap (λ (ys : List Frame). length ys) q, more_frames older x)
 
-length_shown : (ts : List code.Terminal) → length (terminals ts) ≡ length ts
-length_shown [] = refl
-length_shown (first ∷ ts) = ap suc (length_shown ts)
-
 -- what is left to read
 abbrev pub left : State → ℕ
-left (state.Operand ts) = length ts.now
-left (state.Value k b x ts) = length ts.now
+left (state.Operand ts) = length (terminals ts)
+left (state.Value k b x ts) = length (terminals ts)
 
 pub size_shown : (stack : List Frame) (st : State) (s : m.State) → ShowsState stack st s → 2 * left st + length stack ≡ size s
 size_shown stack (state.Operand ts) s (fs, (p, h)) =
-    rw p (omega (arith, length_stack stack fs h, length_shown ts.now))
+    rw p (omega (arith, length_stack stack fs h))
 size_shown stack (state.Value k b x ts) s (fs, (e, (p, (h, i)))) =
-    rw p (omega (arith, length_stack stack fs i, length_shown ts.now))
+    rw p (omega (arith, length_stack stack fs i))
 
 pub steps_smaller : (old new : List Frame) (a b : State) (s n : m.State) → ShowsState old a s → step s ≡ m.next n → ShowsState new b n
     → 2 * left b + length new < 2 * left a + length old
 steps_smaller old new a b s n h p i = omega (arith, size_shown old a s h, size_shown new b n i, next_down s n p)
+
+-- the end
+
+pub finish_read : (e : ExpTree) (ts : List t.Terminal) (b : Bool) → b ≡ (length ts == 0) → b ≡ true → m.finish e ts ≡ m.done e
+finish_read e ts b p q = rw (nil_from_length ts (eqb-true (length ts) 0 (sym p ∙ q))) refl
+
+pub finish_not : (e : ExpTree) (ts : List t.Terminal) (b : Bool) → b ≡ (length ts == 0) → b ≡ false → m.finish e ts ≡ m.fail
+finish_not e [] b p q = absurd (false≢true (sym q ∙ p))
+finish_not e (first ∷ ts) b p q = refl

@@ -1,6 +1,6 @@
 -- Steps that the machine doesn't take.
-use Rattle.std.proofs.Common.{◌≡◌, Bool, true, List, ◌∷◌, None, refl}
-use Rattle.pi_syntax.specs.ExpTree.{ExpTree, ExpTrees, no_exps, exp as exp_before, and, or}
+use Rattle.std.proofs.Common.{◌≡◌, Bool, true, List, ◌∷◌, refl}
+use Rattle.pi_syntax.specs.ExpTree.{ExpTree}
 use Rattle.pi_syntax.specs.Grammar as g
 use Rattle.pi_syntax.specs.Terminals as t
 use Rattle.pi_phrases.specs.Machine as m

@@ -1,13 +1,10 @@
 -- What the faults of a reader say of its tokens.
-use Rattle.std.specs.Prelude.{ℕ, ◌-◌, List, take, drop}
+use Rattle.std.specs.Prelude.{List}
+pub use Rattle.pi_phrases.specs.Stretch.{stretch}
 use Rattle.pi_syntax.specs.Tokens.{Token}
 use Rattle.pi_syntax.specs.Crowding.{IsTooDeep, HasNoExp}
 use Rattle.pi_expr.specs.declared.fault.ExpFault.{ExpFault}
 use Rattle.pi_expr.specs.declared.fault.ExpFault.TheVariants as fault
-
--- the tokens from one place up to another
-abbrev pub stretch : List Token → ℕ → ℕ → List Token
-stretch tokens from to = take (to - from) (drop from tokens)
 
 -- want of memory says nothing of the tokens
 abbrev pub IsFault : List Token → ExpFault → Type 0

@@ -2,4 +2,3 @@ pub mod Faults
 pub mod Sizes
 pub mod States
 pub mod Crowds
-pub mod Rows

@@ -22,9 +22,9 @@ ShowsStack stack [] = stack ≡ []
 ShowsStack stack (f ∷ fs) = (older : List Frame) × ((x : Frame) × ((stack ≡ older ++ x ∷ []) × (ShowsFrame x f × ShowsStack older fs)))
 
 abbrev pub ShowsState : List Frame → State → m.State → Type 0
-ShowsState stack (state.Operand ts) s = (fs : List m.Frame) × ((s ≡ m.operand fs (terminals ts.now)) × ShowsStack stack fs)
+ShowsState stack (state.Operand ts) s = (fs : List m.Frame) × ((s ≡ m.operand fs (terminals ts)) × ShowsStack stack fs)
 ShowsState stack (state.Value k indexable built ts) s =
-    (fs : List m.Frame) × ((e : ExpTree) × ((s ≡ m.value fs (phrase_shown k) indexable e (terminals ts.now)) × (Shows built e × ShowsStack stack fs)))
+    (fs : List m.Frame) × ((e : ExpTree) × ((s ≡ m.value fs (phrase_shown k) indexable e (terminals ts)) × (Shows built e × ShowsStack stack fs)))
 
 abbrev pub ShowsOutcome : List Frame → Outcome → m.Outcome → Type 0
 ShowsOutcome stack (outcome.Next state) o = (s : m.State) × ((o ≡ m.next s) × ShowsState stack state s)

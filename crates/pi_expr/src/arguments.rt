@@ -5,7 +5,7 @@ ghost use Rattle.pi_phrases.specs.Machine as machine;
 ghost use Rattle.pi_phrases.specs.Shown.{terminals};
 ghost use Rattle.pi_phrases.specs.Turns.{ShowsUnits, ShowsStep};
 
-use pi_phrases::{Closing, Frame, Items, Mark, Terminal, Turn, behind, closed};
+use pi_phrases::{Closing, Frame, Items, Mark, Terminals, Turn, behind, closed};
 use std::alloc::{AllocError, Global};
 
 /// Behind `(`: units in parentheses, or none.
@@ -13,9 +13,9 @@ pub(crate) fn arguments<'a>(
     alloc: Global,
     closing: Closing<'a>,
     items: Items,
-    ts: &'a [Terminal<'a>],
+    ts: Terminals<'a>,
 ) -> Result<Turn<'a>, AllocError>
-    ensures { (fs : List machine.Frame) (c : machine.Closing) → ShowsUnits closing.entry items c no_exps → ShowsStep result fs (machine.arguments c fs (terminals ts.now)) }
+    ensures { (fs : List machine.Frame) (c : machine.Closing) → ShowsUnits closing.entry items c no_exps → ShowsStep result fs (machine.arguments c fs (terminals ts.entry)) }
 {
     match behind(Mark::CloseParen, ts) {
         Some(rest) => closed(alloc, closing, items, rest),

@@ -7,7 +7,7 @@ ghost use Rattle.pi_phrases.specs.Shown.{terminals};
 ghost use Rattle.pi_phrases.specs.Trees.{Shows, ShowsItems};
 ghost use Rattle.pi_phrases.specs.Turns.{ShowsUnits, ShowsTurn, ShowsStep};
 
-use pi_phrases::{Built, Closing, Frame, Items, Mark, Terminal, Turn, behind, closed};
+use pi_phrases::{Built, Closing, Frame, Items, Mark, Terminals, Turn, behind, closed};
 use std::alloc::{AllocError, Global};
 
 /// The step behind one of the units.
@@ -16,9 +16,9 @@ pub(crate) fn resume_items<'a>(
     closing: Closing<'a>,
     items: Items,
     built: Built,
-    ts: &'a [Terminal<'a>],
+    ts: Terminals<'a>,
 ) -> Result<Turn<'a>, AllocError>
-    ensures { (fs : List machine.Frame) (c : machine.Closing) (es : ExpTrees) (e : ExpTree) → ShowsUnits closing.entry items c es → Shows built e → ShowsStep result fs (machine.resume (machine.items c es) fs e (terminals ts.now)) }
+    ensures { (fs : List machine.Frame) (c : machine.Closing) (es : ExpTrees) (e : ExpTree) → ShowsUnits closing.entry items c es → Shows built e → ShowsStep result fs (machine.resume (machine.items c es) fs e (terminals ts.entry)) }
 {
     match behind(Mark::Comma, ts) {
         Some(rest) => match items.with(built) {
@@ -37,9 +37,9 @@ fn close_items<'a>(
     closing: Closing<'a>,
     items: Items,
     built: Built,
-    ts: &'a [Terminal<'a>],
+    ts: Terminals<'a>,
 ) -> Result<Turn<'a>, AllocError>
-    ensures { (fs : List machine.Frame) (c : machine.Closing) (es : ExpTrees) (e : ExpTree) → ShowsUnits closing.entry items c es → Shows built e → ShowsStep result fs (machine.close_items c es fs e (terminals ts.now)) }
+    ensures { (fs : List machine.Frame) (c : machine.Closing) (es : ExpTrees) (e : ExpTree) → ShowsUnits closing.entry items c es → Shows built e → ShowsStep result fs (machine.close_items c es fs e (terminals ts.entry)) }
 {
     match closing {
         Closing::List => close_list(alloc, items, built, ts),
@@ -58,9 +58,9 @@ fn close_list<'a>(
     alloc: Global,
     items: Items,
     built: Built,
-    ts: &'a [Terminal<'a>],
+    ts: Terminals<'a>,
 ) -> Result<Turn<'a>, AllocError>
-    ensures { (fs : List machine.Frame) (es : ExpTrees) (e : ExpTree) → ShowsItems items es → Shows built e → ShowsStep result fs (machine.close_items machine.of_list es fs e (terminals ts.now)) }
+    ensures { (fs : List machine.Frame) (es : ExpTrees) (e : ExpTree) → ShowsItems items es → Shows built e → ShowsStep result fs (machine.close_items machine.of_list es fs e (terminals ts.entry)) }
 {
     match behind(Mark::Bar, ts) {
         Some(rest) => {
@@ -75,9 +75,9 @@ fn close_plain_list<'a>(
     alloc: Global,
     items: Items,
     built: Built,
-    ts: &'a [Terminal<'a>],
+    ts: Terminals<'a>,
 ) -> Result<Turn<'a>, AllocError>
-    ensures { (fs : List machine.Frame) (es : ExpTrees) (e : ExpTree) → ShowsItems items es → Shows built e → ShowsStep result fs (machine.choose t.colon (terminals ts.now) (machine.collect_by false es fs e) (machine.choose t.close_bracket (terminals ts.now) (machine.closed fs machine.of_list (machine.with_exp es e)) machine.fail)) }
+    ensures { (fs : List machine.Frame) (es : ExpTrees) (e : ExpTree) → ShowsItems items es → Shows built e → ShowsStep result fs (machine.choose t.colon (terminals ts.entry) (machine.collect_by false es fs e) (machine.choose t.close_bracket (terminals ts.entry) (machine.closed fs machine.of_list (machine.with_exp es e)) machine.fail)) }
 {
     match behind(Mark::Colon, ts) {
         Some(rest) => Ok(collect_by(alloc, false, items, built, rest)),
@@ -89,9 +89,9 @@ fn close_array<'a>(
     alloc: Global,
     items: Items,
     built: Built,
-    ts: &'a [Terminal<'a>],
+    ts: Terminals<'a>,
 ) -> Result<Turn<'a>, AllocError>
-    ensures { (fs : List machine.Frame) (es : ExpTrees) (e : ExpTree) → ShowsItems items es → Shows built e → ShowsStep result fs (machine.close_items machine.of_array es fs e (terminals ts.now)) }
+    ensures { (fs : List machine.Frame) (es : ExpTrees) (e : ExpTree) → ShowsItems items es → Shows built e → ShowsStep result fs (machine.close_items machine.of_array es fs e (terminals ts.entry)) }
 {
     match behind(Mark::Colon, ts) {
         Some(rest) => Ok(collect_by(alloc, true, items, built, rest)),
@@ -105,9 +105,9 @@ fn collect_by<'a>(
     is_array: bool,
     items: Items,
     built: Built,
-    rest: &'a [Terminal<'a>],
+    rest: Terminals<'a>,
 ) -> Turn<'a>
-    ensures { (fs : List machine.Frame) (es : ExpTrees) (e : ExpTree) → ShowsItems items es → Shows built e → ShowsTurn result fs (machine.collect_by is_array es fs e (terminals rest.now)) }
+    ensures { (fs : List machine.Frame) (es : ExpTrees) (e : ExpTree) → ShowsItems items es → Shows built e → ShowsTurn result fs (machine.collect_by is_array es fs e (terminals rest.entry)) }
 {
     if items.is_empty() {
         let closing = Closing::Collect(is_array, built);
@@ -125,9 +125,9 @@ fn close_by<'a>(
     closing: Closing<'a>,
     items: Items,
     built: Built,
-    ts: &'a [Terminal<'a>],
+    ts: Terminals<'a>,
 ) -> Result<Turn<'a>, AllocError>
-    ensures { (fs : List machine.Frame) (c : machine.Closing) (es : ExpTrees) (e : ExpTree) → ShowsUnits closing.entry items c es → Shows built e → ShowsStep result fs (machine.choose (machine.closer c) (terminals ts.now) (machine.closed fs c (machine.with_exp es e)) machine.fail) }
+    ensures { (fs : List machine.Frame) (c : machine.Closing) (es : ExpTrees) (e : ExpTree) → ShowsUnits closing.entry items c es → Shows built e → ShowsStep result fs (machine.choose (machine.closer c) (terminals ts.entry) (machine.closed fs c (machine.with_exp es e)) machine.fail) }
 {
     let closer = closing.closer();
     match behind(closer, ts) {

@@ -7,14 +7,14 @@ ghost use Rattle.pi_phrases.specs.Turns.{ShowsTurn, ShowsStep};
 
 use crate::arguments::arguments;
 use pi_phrases::{
-    Ahead, Choices, Closing, Frame, Items, Mark, Phrase, Terminal, Turn, behind, built, found,
-    front, open_behind, open_when,
+    Ahead, Choices, Closing, Frame, Items, Mark, Phrase, Terminal, Terminals, Turn, behind, built,
+    found, front, open_behind, open_when,
 };
 use std::alloc::{AllocError, Global};
 
 /// The step before an operand of this rank or a higher one.
-pub fn enter<'a>(alloc: Global, wanted: u8, ts: &'a [Terminal<'a>]) -> Result<Turn<'a>, AllocError>
-    ensures { (fs : List machine.Frame) → machine.wanted fs ≡ wanted → ShowsStep result fs (machine.enter fs (terminals ts.now)) }
+pub fn enter<'a>(alloc: Global, wanted: u8, ts: Terminals<'a>) -> Result<Turn<'a>, AllocError>
+    ensures { (fs : List machine.Frame) → machine.wanted fs ≡ wanted → ShowsStep result fs (machine.enter fs (terminals ts.entry)) }
 {
     match front(ts) {
         Ahead::Next(first, rest) => enter_by(alloc, wanted, first, rest),
@@ -26,9 +26,9 @@ fn enter_by<'a>(
     alloc: Global,
     wanted: u8,
     first: Terminal<'a>,
-    rest: &'a [Terminal<'a>],
+    rest: Terminals<'a>,
 ) -> Result<Turn<'a>, AllocError>
-    ensures { (fs : List machine.Frame) → machine.wanted fs ≡ wanted → ShowsStep result fs (machine.enter fs (terminal_shown first.entry ∷ terminals rest.now)) }
+    ensures { (fs : List machine.Frame) → machine.wanted fs ≡ wanted → ShowsStep result fs (machine.enter fs (terminal_shown first.entry ∷ terminals rest.entry)) }
 {
     match first {
         Terminal::Variable(name) => variable(alloc, name, rest),
@@ -49,9 +49,9 @@ fn enter_mark<'a>(
     alloc: Global,
     wanted: u8,
     mark: Mark,
-    rest: &'a [Terminal<'a>],
+    rest: Terminals<'a>,
 ) -> Result<Turn<'a>, AllocError>
-    ensures { (fs : List machine.Frame) → machine.wanted fs ≡ wanted → ShowsStep result fs (machine.enter fs (mark_shown mark ∷ terminals rest.now)) }
+    ensures { (fs : List machine.Frame) → machine.wanted fs ≡ wanted → ShowsStep result fs (machine.enter fs (mark_shown mark ∷ terminals rest.entry)) }
 {
     match mark {
         Mark::ConstraintNot => Ok(sign(wanted, Phrase::Negation, "#~", rest)),
@@ -71,19 +71,15 @@ fn enter_mark<'a>(
 }
 
 /// A sign before an operand, where a phrase of its rank is looked for.
-fn sign<'a>(wanted: u8, phrase: Phrase, name: &'a str, rest: &'a [Terminal<'a>]) -> Turn<'a>
-    ensures { (fs : List machine.Frame) → machine.wanted fs ≡ wanted → ShowsTurn result fs (machine.enter_sign (phrase_shown phrase) name.now fs (terminals rest.now)) }
+fn sign<'a>(wanted: u8, phrase: Phrase, name: &'a str, rest: Terminals<'a>) -> Turn<'a>
+    ensures { (fs : List machine.Frame) → machine.wanted fs ≡ wanted → ShowsTurn result fs (machine.enter_sign (phrase_shown phrase) name.now fs (terminals rest.entry)) }
 {
     let rank = phrase.rank();
     open_when(wanted <= rank, Frame::Signed(phrase, name), rest)
 }
 
-fn variable<'a>(
-    alloc: Global,
-    name: &'a str,
-    ts: &'a [Terminal<'a>],
-) -> Result<Turn<'a>, AllocError>
-    ensures { (fs : List machine.Frame) → ShowsStep result fs (machine.enter fs (t.variable name.now ∷ terminals ts.now)) }
+fn variable<'a>(alloc: Global, name: &'a str, ts: Terminals<'a>) -> Result<Turn<'a>, AllocError>
+    ensures { (fs : List machine.Frame) → ShowsStep result fs (machine.enter fs (t.variable name.now ∷ terminals ts.entry)) }
 {
     match behind(Mark::At, ts) {
         Some(rest) => Ok(Turn::Open(Frame::Pattern(name), rest)),
@@ -94,8 +90,8 @@ fn variable<'a>(
     }
 }
 
-fn atom<'a>(alloc: Global, name: &'a str, ts: &'a [Terminal<'a>]) -> Result<Turn<'a>, AllocError>
-    ensures { (fs : List machine.Frame) → ShowsStep result fs (machine.enter fs (t.atom name.now ∷ terminals ts.now)) }
+fn atom<'a>(alloc: Global, name: &'a str, ts: Terminals<'a>) -> Result<Turn<'a>, AllocError>
+    ensures { (fs : List machine.Frame) → ShowsStep result fs (machine.enter fs (t.atom name.now ∷ terminals ts.entry)) }
 {
     match behind(Mark::OpenParen, ts) {
         Some(rest) => arguments(alloc, Closing::Call(name), Items::new(alloc), rest),
@@ -106,8 +102,8 @@ fn atom<'a>(alloc: Global, name: &'a str, ts: &'a [Terminal<'a>]) -> Result<Turn
     }
 }
 
-fn list<'a>(alloc: Global, ts: &'a [Terminal<'a>]) -> Turn<'a>
-    ensures { (fs : List machine.Frame) → ShowsTurn result fs (machine.enter fs (t.open_bracket ∷ terminals ts.now)) }
+fn list<'a>(alloc: Global, ts: Terminals<'a>) -> Turn<'a>
+    ensures { (fs : List machine.Frame) → ShowsTurn result fs (machine.enter fs (t.open_bracket ∷ terminals ts.entry)) }
 {
     let items = Items::new(alloc);
     match behind(Mark::CloseBracket, ts) {
@@ -116,8 +112,8 @@ fn list<'a>(alloc: Global, ts: &'a [Terminal<'a>]) -> Turn<'a>
     }
 }
 
-fn array<'a>(alloc: Global, ts: &'a [Terminal<'a>]) -> Turn<'a>
-    ensures { (fs : List machine.Frame) → ShowsTurn result fs (machine.enter fs (t.open_brace ∷ terminals ts.now)) }
+fn array<'a>(alloc: Global, ts: Terminals<'a>) -> Turn<'a>
+    ensures { (fs : List machine.Frame) → ShowsTurn result fs (machine.enter fs (t.open_brace ∷ terminals ts.entry)) }
 {
     let items = Items::new(alloc);
     match behind(Mark::CloseBrace, ts) {
@@ -127,8 +123,8 @@ fn array<'a>(alloc: Global, ts: &'a [Terminal<'a>]) -> Turn<'a>
 }
 
 /// Behind `$`.
-fn term<'a>(alloc: Global, ts: &'a [Terminal<'a>]) -> Result<Turn<'a>, AllocError>
-    ensures { (fs : List machine.Frame) → ShowsStep result fs (machine.enter_term fs (terminals ts.now)) }
+fn term<'a>(alloc: Global, ts: Terminals<'a>) -> Result<Turn<'a>, AllocError>
+    ensures { (fs : List machine.Frame) → ShowsStep result fs (machine.enter_term fs (terminals ts.entry)) }
 {
     match front(ts) {
         Ahead::Next(first, rest) => match first {
@@ -140,12 +136,8 @@ fn term<'a>(alloc: Global, ts: &'a [Terminal<'a>]) -> Result<Turn<'a>, AllocErro
 }
 
 /// Behind `$` and an atom.
-fn structure<'a>(
-    alloc: Global,
-    name: &'a str,
-    ts: &'a [Terminal<'a>],
-) -> Result<Turn<'a>, AllocError>
-    ensures { (fs : List machine.Frame) → ShowsStep result fs (machine.enter_term fs (t.atom name.now ∷ terminals ts.now)) }
+fn structure<'a>(alloc: Global, name: &'a str, ts: Terminals<'a>) -> Result<Turn<'a>, AllocError>
+    ensures { (fs : List machine.Frame) → ShowsStep result fs (machine.enter_term fs (t.atom name.now ∷ terminals ts.entry)) }
 {
     match behind(Mark::OpenParen, ts) {
         Some(rest) => arguments(alloc, Closing::Quote(name), Items::new(alloc), rest),
@@ -153,8 +145,8 @@ fn structure<'a>(
     }
 }
 
-fn foreach<'a>(alloc: Global, ts: &'a [Terminal<'a>]) -> Turn<'a>
-    ensures { (fs : List machine.Frame) → ShowsTurn result fs (machine.enter fs (t.word_foreach ∷ terminals ts.now)) }
+fn foreach<'a>(alloc: Global, ts: Terminals<'a>) -> Turn<'a>
+    ensures { (fs : List machine.Frame) → ShowsTurn result fs (machine.enter fs (t.word_foreach ∷ terminals ts.entry)) }
 {
     let items = Frame::Items(Closing::Foreach, Items::new(alloc));
     open_behind(Mark::OpenParen, items, ts)

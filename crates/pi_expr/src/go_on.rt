@@ -10,8 +10,8 @@ ghost use Rattle.pi_phrases.specs.Turns.{ShowsTurn, ShowsStep};
 
 use crate::arguments::arguments;
 use pi_phrases::{
-    Ahead, Built, Closing, Frame, Items, Line, Mark, Phrase, Terminal, Turn, behind, built, front,
-    open_when,
+    Ahead, Built, Closing, Frame, Items, Line, Mark, Phrase, Terminal, Terminals, Turn, behind,
+    built, front, open_when,
 };
 use std::alloc::{AllocError, Global};
 
@@ -21,9 +21,9 @@ pub fn go_on<'a>(
     phrase: Phrase,
     indexable: bool,
     built: Built,
-    ts: &'a [Terminal<'a>],
+    ts: Terminals<'a>,
 ) -> Result<Turn<'a>, AllocError>
-    ensures { (fs : List machine.Frame) (e : ExpTree) → Shows built e → ShowsStep result fs (machine.continue fs (phrase_shown phrase) indexable e (terminals ts.now)) }
+    ensures { (fs : List machine.Frame) (e : ExpTree) → Shows built e → ShowsStep result fs (machine.continue fs (phrase_shown phrase) indexable e (terminals ts.entry)) }
 {
     match front(ts) {
         Ahead::Next(first, rest) => go_on_by(alloc, phrase, indexable, built, first, rest),
@@ -37,9 +37,9 @@ fn go_on_by<'a>(
     indexable: bool,
     built: Built,
     first: Terminal<'a>,
-    rest: &'a [Terminal<'a>],
+    rest: Terminals<'a>,
 ) -> Result<Turn<'a>, AllocError>
-    ensures { (fs : List machine.Frame) (e : ExpTree) → Shows built e → ShowsStep result fs (machine.continue fs (phrase_shown phrase) indexable e (terminal_shown first.entry ∷ terminals rest.now)) }
+    ensures { (fs : List machine.Frame) (e : ExpTree) → Shows built e → ShowsStep result fs (machine.continue fs (phrase_shown phrase) indexable e (terminal_shown first.entry ∷ terminals rest.entry)) }
 {
     match first {
         Terminal::Joint(line, name) => Ok(join(phrase, line, name, built, rest)),
@@ -59,9 +59,9 @@ fn go_on_mark<'a>(
     indexable: bool,
     built: Built,
     mark: Mark,
-    rest: &'a [Terminal<'a>],
+    rest: Terminals<'a>,
 ) -> Result<Turn<'a>, AllocError>
-    ensures { (fs : List machine.Frame) (e : ExpTree) → Shows built e → ShowsStep result fs (machine.continue fs (phrase_shown phrase) indexable e (mark_shown mark ∷ terminals rest.now)) }
+    ensures { (fs : List machine.Frame) (e : ExpTree) → Shows built e → ShowsStep result fs (machine.continue fs (phrase_shown phrase) indexable e (mark_shown mark ∷ terminals rest.entry)) }
 {
     let rank = phrase.rank();
     match mark {
@@ -89,24 +89,24 @@ fn join<'a>(
     line: Line,
     name: &'a str,
     built: Built,
-    rest: &'a [Terminal<'a>],
+    rest: Terminals<'a>,
 ) -> Turn<'a>
-    ensures { (fs : List machine.Frame) (e : ExpTree) → Shows built e → ShowsTurn result fs (machine.join_line (line_shown line) name.now fs (phrase_shown phrase) e (terminals rest.now)) }
+    ensures { (fs : List machine.Frame) (e : ExpTree) → Shows built e → ShowsTurn result fs (machine.join_line (line_shown line) name.now fs (phrase_shown phrase) e (terminals rest.entry)) }
 {
     let loose = line.rank();
     let rank = phrase.rank();
     open_when(loose <= rank, Frame::Joining(line, name, built), rest)
 }
 
-fn relation<'a>(phrase: Phrase, name: &'a str, built: Built, rest: &'a [Terminal<'a>]) -> Turn<'a>
-    ensures { (fs : List machine.Frame) (e : ExpTree) (b : Bool) → Shows built e → ShowsTurn result fs (machine.continue fs (phrase_shown phrase) b e (t.relation name.now ∷ terminals rest.now)) }
+fn relation<'a>(phrase: Phrase, name: &'a str, built: Built, rest: Terminals<'a>) -> Turn<'a>
+    ensures { (fs : List machine.Frame) (e : ExpTree) (b : Bool) → Shows built e → ShowsTurn result fs (machine.continue fs (phrase_shown phrase) b e (t.relation name.now ∷ terminals rest.entry)) }
 {
     let rank = phrase.rank();
     open_when(12 <= rank, Frame::Relation(name, built), rest)
 }
 
-fn index<'a>(rank: u8, indexable: bool, built: Built, rest: &'a [Terminal<'a>]) -> Turn<'a>
-    ensures { (fs : List machine.Frame) (e : ExpTree) → Shows built e → ShowsTurn result fs (machine.when (nat_le 21 rank && indexable) (machine.opened (machine.indexing e) fs (terminals rest.now))) }
+fn index<'a>(rank: u8, indexable: bool, built: Built, rest: Terminals<'a>) -> Turn<'a>
+    ensures { (fs : List machine.Frame) (e : ExpTree) → Shows built e → ShowsTurn result fs (machine.when (nat_le 21 rank && indexable) (machine.opened (machine.indexing e) fs (terminals rest.entry))) }
 {
     if 21 <= rank {
         open_when(indexable, Frame::Indexing(built), rest)
@@ -119,9 +119,9 @@ fn dot<'a>(
     alloc: Global,
     rank: u8,
     built: Built,
-    rest: &'a [Terminal<'a>],
+    rest: Terminals<'a>,
 ) -> Result<Turn<'a>, AllocError>
-    ensures { (fs : List machine.Frame) (e : ExpTree) → Shows built e → ShowsStep result fs (machine.when (nat_le 21 rank && not (is_atom e)) (machine.enter_dot fs e (terminals rest.now))) }
+    ensures { (fs : List machine.Frame) (e : ExpTree) → Shows built e → ShowsStep result fs (machine.when (nat_le 21 rank && not (is_atom e)) (machine.enter_dot fs e (terminals rest.entry))) }
 {
     if 21 <= rank {
         if built.is_atom() {
@@ -135,12 +135,8 @@ fn dot<'a>(
 }
 
 /// Behind a dot.
-fn enter_dot<'a>(
-    alloc: Global,
-    built: Built,
-    ts: &'a [Terminal<'a>],
-) -> Result<Turn<'a>, AllocError>
-    ensures { (fs : List machine.Frame) (e : ExpTree) → Shows built e → ShowsStep result fs (machine.enter_dot fs e (terminals ts.now)) }
+fn enter_dot<'a>(alloc: Global, built: Built, ts: Terminals<'a>) -> Result<Turn<'a>, AllocError>
+    ensures { (fs : List machine.Frame) (e : ExpTree) → Shows built e → ShowsStep result fs (machine.enter_dot fs e (terminals ts.entry)) }
 {
     match front(ts) {
         Ahead::Next(first, rest) => match first {
@@ -156,9 +152,9 @@ fn method<'a>(
     alloc: Global,
     name: &'a str,
     built: Built,
-    ts: &'a [Terminal<'a>],
+    ts: Terminals<'a>,
 ) -> Result<Turn<'a>, AllocError>
-    ensures { (fs : List machine.Frame) (e : ExpTree) → Shows built e → ShowsStep result fs (machine.enter_dot fs e (t.atom name.now ∷ terminals ts.now)) }
+    ensures { (fs : List machine.Frame) (e : ExpTree) → Shows built e → ShowsStep result fs (machine.enter_dot fs e (t.atom name.now ∷ terminals ts.entry)) }
 {
     let items = Items::one(alloc, built)?;
     match behind(Mark::OpenParen, ts) {

@@ -12,7 +12,6 @@ mod laws;
 mod made;
 mod reader;
 pub mod resume;
-mod signs;
 
 pub use crowding::is_crowded;
 pub use fault::ExpFault;

@@ -6,16 +6,16 @@ ghost use Rattle.pi_phrases.specs.Shown.{mark_shown, phrase_shown, terminals};
 ghost use Rattle.pi_phrases.specs.Trees.{Shows};
 ghost use Rattle.pi_phrases.specs.Turns.{ShowsStep};
 
-use pi_phrases::{Built, Mark, Phrase, Terminal, Turn, found_behind};
+use pi_phrases::{Built, Mark, Phrase, Terminals, Turn, found_behind};
 use std::alloc::AllocError;
 
 /// A phrase that can't be indexed, of the tree that was made.
 pub(crate) fn read_as<'a>(
     phrase: Phrase,
     made: Result<Built, AllocError>,
-    ts: &'a [Terminal<'a>],
+    ts: Terminals<'a>,
 ) -> Result<Turn<'a>, AllocError>
-    ensures { (fs : List machine.Frame) (e : ExpTree) → IfOk made (λ built. Shows built e) → ShowsStep result fs (machine.next (machine.value fs (phrase_shown phrase) false e (terminals ts.now))) }
+    ensures { (fs : List machine.Frame) (e : ExpTree) → IfOk made (λ built. Shows built e) → ShowsStep result fs (machine.next (machine.value fs (phrase_shown phrase) false e (terminals ts.entry))) }
 {
     match made {
         Ok(built) => Ok(Turn::Found(phrase, false, built, ts)),
@@ -27,9 +27,9 @@ pub(crate) fn read_as<'a>(
 pub(crate) fn read_before<'a>(
     mark: Mark,
     made: Result<Built, AllocError>,
-    ts: &'a [Terminal<'a>],
+    ts: Terminals<'a>,
 ) -> Result<Turn<'a>, AllocError>
-    ensures { (fs : List machine.Frame) (e : ExpTree) → IfOk made (λ built. Shows built e) → ShowsStep result fs (machine.choose (mark_shown mark) (terminals ts.now) (machine.found fs e) machine.fail) }
+    ensures { (fs : List machine.Frame) (e : ExpTree) → IfOk made (λ built. Shows built e) → ShowsStep result fs (machine.choose (mark_shown mark) (terminals ts.entry) (machine.found fs e) machine.fail) }
 {
     match made {
         Ok(built) => Ok(found_behind(mark, built, ts)),

@@ -16,9 +16,8 @@ use crate::enter::enter;
 use crate::fault::ExpFault;
 use crate::go_on::go_on;
 use crate::resume::resume;
-use crate::signs::terminals;
 use pi_lex::Tokens;
-use pi_phrases::{Built, Frame, Phrase, Terminal, Turn, reach};
+use pi_phrases::{Built, Frame, Phrase, Terminals, Turn, reach};
 use pi_syntax::Exp;
 use std::alloc::{AllocError, Global};
 
@@ -49,17 +48,16 @@ pub fn read_uncrowded(
     ensures read { IfOk result (λ exp. IsRead (stretch (kinds tokens.now) from to) (exp_tree exp)) }
     ensures fault { IfErr result (λ fault. IsFault (stretch (kinds tokens.now) from to) fault) }
 {
-    let ts = terminals(alloc, tokens, from, to)?;
-    read(alloc, ts.as_slice())
+    read(alloc, Terminals::new(tokens, from, to))
 }
 
 /// Where a reader stands, with the terminals that are left.
 #[derive(Drop)]
 enum State<'a> {
     /// Before an operand.
-    Operand(&'a [Terminal<'a>]),
+    Operand(Terminals<'a>),
     /// Behind a phrase, which may be indexed or not.
-    Value(Phrase, bool, Built, &'a [Terminal<'a>]),
+    Value(Phrase, bool, Built, Terminals<'a>),
 }
 
 /// What comes of a step.
@@ -71,8 +69,8 @@ enum Outcome<'a> {
 }
 
 /// The expression that the terminals are.
-fn read<'a>(alloc: Global, ts: &'a [Terminal<'a>]) -> Result<Exp, ExpFault>
-    ensures { EndsAs result (machine.begin (terminals ts.now)) }
+fn read<'a>(alloc: Global, ts: Terminals<'a>) -> Result<Exp, ExpFault>
+    ensures { EndsAs result (machine.begin (terminals ts.entry)) }
 {
     let mut stack = Vec::new(alloc);
     let mut state = State::Operand(ts);
@@ -115,9 +113,9 @@ fn step<'a>(
 fn before_operand<'a>(
     alloc: Global,
     stack: &mut Vec<Frame<'a>>,
-    ts: &'a [Terminal<'a>],
+    ts: Terminals<'a>,
 ) -> Result<Outcome<'a>, AllocError>
-    ensures { (fs : List machine.Frame) → ShowsStack stack.old.items fs → ShowsResult stack.new.items result (machine.enter fs (terminals ts.now)) }
+    ensures { (fs : List machine.Frame) → ShowsStack stack.old.items fs → ShowsResult stack.new.items result (machine.enter fs (terminals ts.entry)) }
 {
     let wanted = wanted(stack);
     let turn = enter(alloc, wanted, ts)?;
@@ -130,9 +128,9 @@ fn behind_phrase<'a>(
     phrase: Phrase,
     indexable: bool,
     built: Built,
-    ts: &'a [Terminal<'a>],
+    ts: Terminals<'a>,
 ) -> Result<Outcome<'a>, AllocError>
-    ensures { (fs : List machine.Frame) (e : ExpTree) → ShowsStack stack.old.items fs → Shows built e → ShowsResult stack.new.items result (machine.step (machine.value fs (phrase_shown phrase) indexable e (terminals ts.now))) }
+    ensures { (fs : List machine.Frame) (e : ExpTree) → ShowsStack stack.old.items fs → Shows built e → ShowsResult stack.new.items result (machine.step (machine.value fs (phrase_shown phrase) indexable e (terminals ts.entry))) }
 {
     let wanted = wanted(stack);
     let reach = reach(ts);
@@ -149,9 +147,9 @@ fn extend_phrase<'a>(
     phrase: Phrase,
     indexable: bool,
     built: Built,
-    ts: &'a [Terminal<'a>],
+    ts: Terminals<'a>,
 ) -> Result<Outcome<'a>, AllocError>
-    ensures { (fs : List machine.Frame) (e : ExpTree) → ShowsStack stack.old.items fs → Shows built e → ShowsResult stack.new.items result (machine.continue fs (phrase_shown phrase) indexable e (terminals ts.now)) }
+    ensures { (fs : List machine.Frame) (e : ExpTree) → ShowsStack stack.old.items fs → Shows built e → ShowsResult stack.new.items result (machine.continue fs (phrase_shown phrase) indexable e (terminals ts.entry)) }
 {
     let turn = go_on(alloc, phrase, indexable, built, ts)?;
     take(stack, turn)
@@ -161,9 +159,9 @@ fn close_phrase<'a>(
     alloc: Global,
     stack: &mut Vec<Frame<'a>>,
     built: Built,
-    ts: &'a [Terminal<'a>],
+    ts: Terminals<'a>,
 ) -> Result<Outcome<'a>, AllocError>
-    ensures { (fs : List machine.Frame) (e : ExpTree) → ShowsStack stack.old.items fs → Shows built e → ShowsResult stack.new.items result (machine.resume_last fs e (terminals ts.now)) }
+    ensures { (fs : List machine.Frame) (e : ExpTree) → ShowsStack stack.old.items fs → Shows built e → ShowsResult stack.new.items result (machine.resume_last fs e (terminals ts.entry)) }
 {
     match stack.pop() {
         Some(frame) => {
@@ -175,8 +173,8 @@ fn close_phrase<'a>(
 }
 
 /// Where nothing is open, the whole is read if nothing is left.
-fn finish<'a>(built: Built, ts: &'a [Terminal<'a>]) -> Outcome<'a>
-    ensures { (stack : List Frame) (e : ExpTree) → Shows built e → ShowsOutcome stack result (machine.finish e (terminals ts.now)) }
+fn finish<'a>(built: Built, ts: Terminals<'a>) -> Outcome<'a>
+    ensures { (stack : List Frame) (e : ExpTree) → Shows built e → ShowsOutcome stack result (machine.finish e (terminals ts.entry)) }
 {
     if ts.is_empty() {
         Outcome::Done(built)

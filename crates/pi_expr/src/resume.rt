@@ -15,7 +15,7 @@ use crate::close::resume_items;
 use crate::resume::brackets::{indexing, list_tail, parens, pattern};
 use crate::resume::operators::{joining, minus, power, range_from, range_step, relation, signed};
 use crate::resume::units::{arrow, branches, conjuncts};
-use pi_phrases::{Built, Frame, Items, Terminal, Turn};
+use pi_phrases::{Built, Frame, Items, Terminals, Turn};
 use std::alloc::{AllocError, Global};
 
 /// The step behind the operand of an open phrase.
@@ -23,9 +23,9 @@ pub fn resume<'a>(
     alloc: Global,
     frame: Frame<'a>,
     built: Built,
-    ts: &'a [Terminal<'a>],
+    ts: Terminals<'a>,
 ) -> Result<Turn<'a>, AllocError>
-    ensures { (fs : List machine.Frame) (f : machine.Frame) (e : ExpTree) → ShowsFrame frame.entry f → Shows built e → ShowsStep result fs (machine.resume f fs e (terminals ts.now)) }
+    ensures { (fs : List machine.Frame) (f : machine.Frame) (e : ExpTree) → ShowsFrame frame.entry f → Shows built e → ShowsStep result fs (machine.resume f fs e (terminals ts.entry)) }
 {
     match frame {
         Frame::Signed(phrase, name) => signed(alloc, phrase, name, built, ts),

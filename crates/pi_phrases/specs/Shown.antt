@@ -1,5 +1,6 @@
 -- What the reader's terminals and phrases show.
 use Rattle.std.specs.Prelude.{◌≡◌, List, [], ◌∷◌, map}
+use Rattle.pi_lex.specs.Kinds.{kinds}
 use Rattle.pi_syntax.specs.Terminals as t
 use Rattle.pi_syntax.specs.Grammar as g
 use Rattle.pi_phrases.specs.declared.phrase.Line.{Line}
@@ -10,8 +11,10 @@ use Rattle.pi_phrases.specs.declared.terminal.Mark.{Mark}
 use Rattle.pi_phrases.specs.declared.terminal.Mark.TheVariants as mark
 use Rattle.pi_phrases.specs.declared.terminal.Terminal.{Terminal}
 use Rattle.pi_phrases.specs.declared.terminal.Terminal.TheVariants as terminal
-use Rattle.pi_phrases.specs.declared.terminal.Ahead.{Ahead}
-use Rattle.pi_phrases.specs.declared.terminal.Ahead.TheVariants as ahead
+use Rattle.pi_phrases.specs.declared.terminals.Ahead.{Ahead}
+use Rattle.pi_phrases.specs.declared.terminals.Ahead.TheVariants as ahead
+use Rattle.pi_phrases.specs.declared.terminals.Terminals.{Terminals}
+use Rattle.pi_phrases.specs.Stretch.{stretch}
 
 abbrev pub line_shown : Line → t.Line
 line_shown line.Equivalence = t.equivalence
@@ -81,10 +84,11 @@ terminal_shown (terminal.Relation name) = t.relation name.now
 terminal_shown (terminal.GoalSign name) = t.goal_sign name.now
 terminal_shown (terminal.Mark m) = mark_shown m
 
-abbrev pub terminals : List Terminal → List t.Terminal
-terminals ts = map terminal_shown ts
+-- the terminals of the stretch of tokens that is left
+unfoldable pub terminals : Terminals → List t.Terminal
+terminals ts = map t.terminal (stretch (kinds ts.tokens.now) ts.from ts.to)
 
 -- the first terminal and the rest, or none
 abbrev pub ShowsAhead : Ahead → List t.Terminal → Type 0
-ShowsAhead (ahead.Next first rest) ts = ts ≡ terminal_shown first ∷ terminals rest.now
+ShowsAhead (ahead.Next first rest) ts = ts ≡ terminal_shown first ∷ terminals rest
 ShowsAhead ahead.End ts = ts ≡ []

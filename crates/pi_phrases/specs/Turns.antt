@@ -26,7 +26,7 @@ ShowsUnits closing.Foreach items c es = (c ≡ m.of_foreach) × ShowsItems items
 
 abbrev pub ShowsFrame : Frame → m.Frame → Type 0
 ShowsFrame (frame.Signed k name) f = f ≡ m.signed (phrase_shown k) name.now
-ShowsFrame (frame.Minus ts) f = f ≡ m.minus (terminals ts.now)
+ShowsFrame (frame.Minus ts) f = f ≡ m.minus (terminals ts)
 ShowsFrame (frame.Joining l name built) f = (a : ExpTree) × ((f ≡ m.joining (line_shown l) name.now a) × Shows built a)
 ShowsFrame (frame.Relation name built) f = (a : ExpTree) × ((f ≡ m.relation name.now a) × Shows built a)
 ShowsFrame (frame.RangeFrom built) f = (a : ExpTree) × ((f ≡ m.range_from a) × Shows built a)
@@ -56,9 +56,9 @@ ShowsFrame (frame.IfLast choices) f = (bs : ExpBranches) × ((f ≡ m.if_last bs
 -- a step over these open phrases, with this outcome
 abbrev pub ShowsTurn : Turn → List m.Frame → m.Outcome → Type 0
 ShowsTurn (turn.Open opened rest) fs o =
-    (f : m.Frame) × ((o ≡ m.next (m.operand (f ∷ fs) (terminals rest.now))) × ShowsFrame opened f)
+    (f : m.Frame) × ((o ≡ m.next (m.operand (f ∷ fs) (terminals rest))) × ShowsFrame opened f)
 ShowsTurn (turn.Found k indexable built rest) fs o =
-    (e : ExpTree) × ((o ≡ m.next (m.value fs (phrase_shown k) indexable e (terminals rest.now))) × Shows built e)
+    (e : ExpTree) × ((o ≡ m.next (m.value fs (phrase_shown k) indexable e (terminals rest))) × Shows built e)
 ShowsTurn turn.Fail fs o = o ≡ m.fail
 
 -- the same, where memory didn't run out

@@ -10,7 +10,8 @@ use crate::built;
 use crate::frame::{Closing, Frame, Turn, found};
 use crate::items::Items;
 use crate::phrase::Phrase;
-use crate::terminal::{Mark, Terminal};
+use crate::terminal::Mark;
+use crate::terminals::Terminals;
 use std::alloc::{AllocError, Global};
 
 /// Units that their bracket closes, before the rest.
@@ -18,9 +19,9 @@ pub fn closed<'a>(
     alloc: Global,
     closing: Closing<'a>,
     items: Items,
-    rest: &'a [Terminal<'a>],
+    rest: Terminals<'a>,
 ) -> Result<Turn<'a>, AllocError>
-    ensures { (fs : List machine.Frame) (c : machine.Closing) (es : ExpTrees) → ShowsUnits closing.entry items c es → ShowsStep result fs (machine.closed fs c es (terminals rest.now)) }
+    ensures { (fs : List machine.Frame) (c : machine.Closing) (es : ExpTrees) → ShowsUnits closing.entry items c es → ShowsStep result fs (machine.closed fs c es (terminals rest.entry)) }
 {
     match closing {
         Closing::Call(name) => {

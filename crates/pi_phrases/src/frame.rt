@@ -10,7 +10,8 @@ use crate::built::Built;
 use crate::choices::Choices;
 use crate::items::Items;
 use crate::phrase::{Line, Phrase};
-use crate::terminal::{Mark, Terminal, behind};
+use crate::terminal::Mark;
+use crate::terminals::{Terminals, behind};
 
 /// What units between brackets are for.
 #[derive(Drop)]
@@ -31,7 +32,7 @@ pub enum Closing<'a> {
 pub enum Frame<'a> {
     Signed(Phrase, &'a str),
     /// `-`, with the terminals behind it.
-    Minus(&'a [Terminal<'a>]),
+    Minus(Terminals<'a>),
     Joining(Line, &'a str, Built),
     Relation(&'a str, Built),
     RangeFrom(Built),
@@ -95,23 +96,23 @@ impl Frame<'_> {
 #[derive(Drop)]
 pub enum Turn<'a> {
     /// A phrase opens, and its operand comes next.
-    Open(Frame<'a>, &'a [Terminal<'a>]),
+    Open(Frame<'a>, Terminals<'a>),
     /// A phrase is read, which may be indexed or not.
-    Found(Phrase, bool, Built, &'a [Terminal<'a>]),
+    Found(Phrase, bool, Built, Terminals<'a>),
     /// There is no expression.
     Fail,
 }
 
 /// A primary that isn't indexed.
-pub fn found<'a>(built: Built, rest: &'a [Terminal<'a>]) -> Turn<'a>
-    ensures { (fs : List machine.Frame) (e : ExpTree) → Shows built e → ShowsTurn result fs (machine.found fs e (terminals rest.now)) }
+pub fn found<'a>(built: Built, rest: Terminals<'a>) -> Turn<'a>
+    ensures { (fs : List machine.Frame) (e : ExpTree) → Shows built e → ShowsTurn result fs (machine.found fs e (terminals rest.entry)) }
 {
     Turn::Found(Phrase::Prim, false, built, rest)
 }
 
 /// A phrase that opens where that holds.
-pub fn open_when<'a>(holds: bool, frame: Frame<'a>, rest: &'a [Terminal<'a>]) -> Turn<'a>
-    ensures { (fs : List machine.Frame) (f : machine.Frame) → ShowsFrame frame.entry f → ShowsTurn result fs (machine.when holds (machine.opened f fs (terminals rest.now))) }
+pub fn open_when<'a>(holds: bool, frame: Frame<'a>, rest: Terminals<'a>) -> Turn<'a>
+    ensures { (fs : List machine.Frame) (f : machine.Frame) → ShowsFrame frame.entry f → ShowsTurn result fs (machine.when holds (machine.opened f fs (terminals rest.entry))) }
 {
     if holds {
         Turn::Open(frame, rest)
@@ -122,8 +123,8 @@ pub fn open_when<'a>(holds: bool, frame: Frame<'a>, rest: &'a [Terminal<'a>]) ->
 }
 
 /// A phrase that opens behind the mark, where that comes next.
-pub fn open_behind<'a>(mark: Mark, frame: Frame<'a>, ts: &'a [Terminal<'a>]) -> Turn<'a>
-    ensures { (fs : List machine.Frame) (f : machine.Frame) → ShowsFrame frame.entry f → ShowsTurn result fs (machine.choose (mark_shown mark) (terminals ts.now) (machine.opened f fs) machine.fail) }
+pub fn open_behind<'a>(mark: Mark, frame: Frame<'a>, ts: Terminals<'a>) -> Turn<'a>
+    ensures { (fs : List machine.Frame) (f : machine.Frame) → ShowsFrame frame.entry f → ShowsTurn result fs (machine.choose (mark_shown mark) (terminals ts.entry) (machine.opened f fs) machine.fail) }
 {
     match behind(mark, ts) {
         Some(rest) => Turn::Open(frame, rest),
@@ -135,8 +136,8 @@ pub fn open_behind<'a>(mark: Mark, frame: Frame<'a>, ts: &'a [Terminal<'a>]) -> 
 }
 
 /// A primary that isn't indexed, where the mark that closes it comes next.
-pub fn found_behind<'a>(mark: Mark, built: Built, ts: &'a [Terminal<'a>]) -> Turn<'a>
-    ensures { (fs : List machine.Frame) (e : ExpTree) → Shows built e → ShowsTurn result fs (machine.choose (mark_shown mark) (terminals ts.now) (machine.found fs e) machine.fail) }
+pub fn found_behind<'a>(mark: Mark, built: Built, ts: Terminals<'a>) -> Turn<'a>
+    ensures { (fs : List machine.Frame) (e : ExpTree) → Shows built e → ShowsTurn result fs (machine.choose (mark_shown mark) (terminals ts.entry) (machine.found fs e) machine.fail) }
 {
     match behind(mark, ts) {
         Some(rest) => found(built, rest),

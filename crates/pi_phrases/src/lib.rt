@@ -8,7 +8,9 @@ mod frame;
 mod items;
 mod natural;
 mod phrase;
+mod signs;
 mod terminal;
+mod terminals;
 
 pub use built::Built;
 pub use choices::Choices;
@@ -17,4 +19,5 @@ pub use frame::{Closing, Frame, Turn, found, found_behind, open_behind, open_whe
 pub use items::Items;
 pub use natural::Natural;
 pub use phrase::{Line, Phrase};
-pub use terminal::{Ahead, Mark, Terminal, behind, front, reach, starts_with};
+pub use terminal::{Mark, Terminal};
+pub use terminals::{Ahead, Terminals, behind, front, reach, starts_with};

@@ -1,8 +1,8 @@
 //! The terminals of the grammar.
-ghost use Rattle.std.specs.Prelude.{◌≡◌, [], ◌∷◌, true, false, MatchOption};
+ghost use Rattle.std.specs.Prelude.{◌≡◌};
 ghost use Rattle.pi_syntax.specs.Ranks as ranks;
 ghost use Rattle.pi_phrases.specs.Machine as machine;
-ghost use Rattle.pi_phrases.specs.Shown.{mark_shown, terminal_shown, terminals, ShowsAhead};
+ghost use Rattle.pi_phrases.specs.Shown.{mark_shown, terminal_shown};
 
 use crate::natural::Natural;
 use crate::phrase::Line;
@@ -44,7 +44,7 @@ pub enum Mark {
 
 impl Mark {
     /// A number of its own for each, from 1 on.
-    fn number(self) -> u8
+    pub(crate) fn number(self) -> u8
         ensures { result ≡ machine.number (mark_shown self) }
     {
         match self {
@@ -115,7 +115,7 @@ pub enum Terminal<'a> {
 
 impl Terminal<'_> {
     /// The number of its mark, or 0.
-    fn number(self) -> u8
+    pub(crate) fn number(self) -> u8
         ensures { result ≡ machine.number (terminal_shown self.entry) }
     {
         match self {
@@ -124,7 +124,8 @@ impl Terminal<'_> {
         }
     }
 
-    fn reach(self) -> u8
+    /// The highest rank of the phrases that it goes on with, or 0.
+    pub(crate) fn reach(self) -> u8
         ensures { result ≡ ranks.reach (terminal_shown self.entry) }
     {
         match self {
@@ -134,52 +135,4 @@ impl Terminal<'_> {
             _ => 0,
         }
     }
-}
-
-/// The first terminal and those behind it, or that there is none.
-#[derive(Clone, Copy)]
-pub enum Ahead<'a> {
-    Next(Terminal<'a>, &'a [Terminal<'a>]),
-    End,
-}
-
-/// The first terminal, and those behind it.
-pub fn front<'a>(ts: &'a [Terminal<'a>]) -> Ahead<'a>
-    ensures { ShowsAhead result (terminals ts.now) }
-{
-    if ts.is_empty() {
-        return Ahead::End;
-    }
-    Ahead::Next(ts[0], &ts[1..])
-}
-
-/// What stands behind the mark, where it comes first.
-pub fn behind<'a>(mark: Mark, ts: &'a [Terminal<'a>]) -> Option<&'a [Terminal<'a>]>
-    ensures { MatchOption result (machine.headed (mark_shown mark) (terminals ts.now) ≡ false) (λ rest. (machine.headed (mark_shown mark) (terminals ts.now) ≡ true) × (machine.tail (terminals ts.now) ≡ terminals rest.now)) }
-{
-    if starts_with(mark, ts) {
-        Some(&ts[1..])
-    } else {
-        None
-    }
-}
-
-/// Whether the mark comes first.
-pub fn starts_with(mark: Mark, ts: &[Terminal<'_>]) -> bool
-    ensures { result ≡ machine.headed (mark_shown mark) (terminals ts.now) }
-{
-    if ts.is_empty() {
-        return false;
-    }
-    ts[0].number() == mark.number()
-}
-
-/// The highest rank of the phrases that the first terminal goes on with, or 0.
-pub fn reach(ts: &[Terminal<'_>]) -> u8
-    ensures { result ≡ ranks.reach_of (terminals ts.now) }
-{
-    if ts.is_empty() {
-        return 0;
-    }
-    ts[0].reach()
 }

@@ -10,16 +10,16 @@ ghost use Rattle.pi_phrases.specs.Trees.{Shows, ShowsItems};
 ghost use Rattle.pi_phrases.specs.Turns.{ShowsTurn, ShowsStep};
 
 use crate::made::{read_as, read_before};
-use pi_phrases::{Built, Frame, Items, Mark, Phrase, Terminal, Turn, behind, built};
+use pi_phrases::{Built, Frame, Items, Mark, Phrase, Terminals, Turn, behind, built};
 use std::alloc::{AllocError, Global};
 
 pub(crate) fn pattern<'a>(
     alloc: Global,
     name: &'a str,
     built: Built,
-    ts: &'a [Terminal<'a>],
+    ts: Terminals<'a>,
 ) -> Result<Turn<'a>, AllocError>
-    ensures { (fs : List machine.Frame) (e : ExpTree) → Shows built e → ShowsStep result fs (machine.resume (machine.pattern name.now) fs e (terminals ts.now)) }
+    ensures { (fs : List machine.Frame) (e : ExpTree) → Shows built e → ShowsStep result fs (machine.resume (machine.pattern name.now) fs e (terminals ts.entry)) }
 {
     read_as(Phrase::Prim, built::at(alloc, name, built), ts)
 }
@@ -28,9 +28,9 @@ pub(crate) fn parens<'a>(
     alloc: Global,
     quoted: bool,
     built: Built,
-    ts: &'a [Terminal<'a>],
+    ts: Terminals<'a>,
 ) -> Result<Turn<'a>, AllocError>
-    ensures { (fs : List machine.Frame) (e : ExpTree) → Shows built e → ShowsStep result fs (machine.resume (machine.parens quoted) fs e (terminals ts.now)) }
+    ensures { (fs : List machine.Frame) (e : ExpTree) → Shows built e → ShowsStep result fs (machine.resume (machine.parens quoted) fs e (terminals ts.entry)) }
 {
     read_before(Mark::CloseParen, in_parens(alloc, quoted, built), ts)
 }
@@ -50,9 +50,9 @@ pub(crate) fn list_tail<'a>(
     alloc: Global,
     items: Items,
     built: Built,
-    ts: &'a [Terminal<'a>],
+    ts: Terminals<'a>,
 ) -> Result<Turn<'a>, AllocError>
-    ensures { (fs : List machine.Frame) (es : ExpTrees) (e : ExpTree) → ShowsItems items es → Shows built e → ShowsStep result fs (machine.resume (machine.list_tail es) fs e (terminals ts.now)) }
+    ensures { (fs : List machine.Frame) (es : ExpTrees) (e : ExpTree) → ShowsItems items es → Shows built e → ShowsStep result fs (machine.resume (machine.list_tail es) fs e (terminals ts.entry)) }
 {
     read_before(
         Mark::CloseBracket,
@@ -66,9 +66,9 @@ pub(crate) fn indexing<'a>(
     alloc: Global,
     of: Built,
     built: Built,
-    ts: &'a [Terminal<'a>],
+    ts: Terminals<'a>,
 ) -> Result<Turn<'a>, AllocError>
-    ensures { (fs : List machine.Frame) (a : ExpTree) (e : ExpTree) → Shows of a → Shows built e → ShowsStep result fs (machine.resume (machine.indexing a) fs e (terminals ts.now)) }
+    ensures { (fs : List machine.Frame) (a : ExpTree) (e : ExpTree) → Shows of a → Shows built e → ShowsStep result fs (machine.resume (machine.indexing a) fs e (terminals ts.entry)) }
 {
     let index = built::index(alloc, of, built)?;
     match behind(Mark::Comma, ts) {
@@ -77,8 +77,8 @@ pub(crate) fn indexing<'a>(
     }
 }
 
-fn close_index<'a>(index: Built, ts: &'a [Terminal<'a>]) -> Turn<'a>
-    ensures { (fs : List machine.Frame) (e : ExpTree) → Shows index e → ShowsTurn result fs (machine.choose t.close_bracket (terminals ts.now) (λ rest. machine.next (machine.value fs post true e rest)) machine.fail) }
+fn close_index<'a>(index: Built, ts: Terminals<'a>) -> Turn<'a>
+    ensures { (fs : List machine.Frame) (e : ExpTree) → Shows index e → ShowsTurn result fs (machine.choose t.close_bracket (terminals ts.entry) (λ rest. machine.next (machine.value fs post true e rest)) machine.fail) }
 {
     match behind(Mark::CloseBracket, ts) {
         Some(rest) => Turn::Found(Phrase::Post, true, index, rest),

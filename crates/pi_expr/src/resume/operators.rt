@@ -10,7 +10,8 @@ ghost use Rattle.pi_phrases.specs.Turns.{ShowsStep};
 
 use crate::made::read_as;
 use pi_phrases::{
-    Ahead, Built, Frame, Line, Mark, Natural, Phrase, Terminal, Turn, behind, built, front,
+    Ahead, Built, Frame, Line, Mark, Natural, Phrase, Terminal, Terminals, Turn, behind, built,
+    front,
 };
 use std::alloc::{AllocError, Global};
 
@@ -19,20 +20,20 @@ pub(crate) fn signed<'a>(
     phrase: Phrase,
     name: &'a str,
     built: Built,
-    ts: &'a [Terminal<'a>],
+    ts: Terminals<'a>,
 ) -> Result<Turn<'a>, AllocError>
-    ensures { (fs : List machine.Frame) (e : ExpTree) → Shows built e → ShowsStep result fs (machine.resume (machine.signed (phrase_shown phrase) name.now) fs e (terminals ts.now)) }
+    ensures { (fs : List machine.Frame) (e : ExpTree) → Shows built e → ShowsStep result fs (machine.resume (machine.signed (phrase_shown phrase) name.now) fs e (terminals ts.entry)) }
 {
     read_as(phrase, built::call_of_one(alloc, name, built), ts)
 }
 
 pub(crate) fn minus<'a>(
     alloc: Global,
-    start: &'a [Terminal<'a>],
+    start: Terminals<'a>,
     built: Built,
-    ts: &'a [Terminal<'a>],
+    ts: Terminals<'a>,
 ) -> Result<Turn<'a>, AllocError>
-    ensures { (fs : List machine.Frame) (e : ExpTree) → Shows built e → ShowsStep result fs (machine.resume (machine.minus (terminals start.now)) fs e (terminals ts.now)) }
+    ensures { (fs : List machine.Frame) (e : ExpTree) → Shows built e → ShowsStep result fs (machine.resume (machine.minus (terminals start.entry)) fs e (terminals ts.entry)) }
 {
     read_as(Phrase::Unary, negated(alloc, start, built, ts), ts)
 }
@@ -40,11 +41,11 @@ pub(crate) fn minus<'a>(
 /// `-` before an operand: a negative integer where the operand is an integer alone.
 fn negated<'a>(
     alloc: Global,
-    start: &'a [Terminal<'a>],
+    start: Terminals<'a>,
     built: Built,
-    ts: &'a [Terminal<'a>],
+    ts: Terminals<'a>,
 ) -> Result<Built, AllocError>
-    ensures { IfOk result (λ made. (e : ExpTree) → Shows built e → Shows made (negated (integer_alone (terminals start.now) (terminals ts.now)) e)) }
+    ensures { IfOk result (λ made. (e : ExpTree) → Shows built e → Shows made (negated (integer_alone (terminals start.entry) (terminals ts.entry)) e)) }
 {
     match integer_alone(start, ts) {
         Some(natural) => {
@@ -56,8 +57,8 @@ fn negated<'a>(
 }
 
 /// The integer that is all that stands before the rest.
-fn integer_alone<'a>(start: &'a [Terminal<'a>], ts: &'a [Terminal<'a>]) -> Option<Natural>
-    ensures { MatchOption result (integer_alone (terminals start.now) (terminals ts.now) ≡ None) (λ n. integer_alone (terminals start.now) (terminals ts.now) ≡ Some n.value) }
+fn integer_alone<'a>(start: Terminals<'a>, ts: Terminals<'a>) -> Option<Natural>
+    ensures { MatchOption result (integer_alone (terminals start.entry) (terminals ts.entry) ≡ None) (λ n. integer_alone (terminals start.entry) (terminals ts.entry) ≡ Some n.value) }
 {
     match front(start) {
         Ahead::Next(first, rest) => match first {
@@ -69,12 +70,8 @@ fn integer_alone<'a>(start: &'a [Terminal<'a>], ts: &'a [Terminal<'a>]) -> Optio
 }
 
 /// The integer, where nothing stands between it and the rest.
-fn alone<'a>(
-    natural: Natural,
-    behind: &'a [Terminal<'a>],
-    ts: &'a [Terminal<'a>],
-) -> Option<Natural>
-    ensures { MatchOption result (integer_alone (integer natural.value ∷ terminals behind.now) (terminals ts.now) ≡ None) (λ n. integer_alone (integer natural.value ∷ terminals behind.now) (terminals ts.now) ≡ Some n.value) }
+fn alone<'a>(natural: Natural, behind: Terminals<'a>, ts: Terminals<'a>) -> Option<Natural>
+    ensures { MatchOption result (integer_alone (integer natural.value ∷ terminals behind.entry) (terminals ts.entry) ≡ None) (λ n. integer_alone (integer natural.value ∷ terminals behind.entry) (terminals ts.entry) ≡ Some n.value) }
 {
     if behind.len() == ts.len() {
         Some(natural)
@@ -89,9 +86,9 @@ pub(crate) fn joining<'a>(
     name: &'a str,
     left: Built,
     built: Built,
-    ts: &'a [Terminal<'a>],
+    ts: Terminals<'a>,
 ) -> Result<Turn<'a>, AllocError>
-    ensures { (fs : List machine.Frame) (a : ExpTree) (e : ExpTree) → Shows left a → Shows built e → ShowsStep result fs (machine.resume (machine.joining (line_shown line) name.now a) fs e (terminals ts.now)) }
+    ensures { (fs : List machine.Frame) (a : ExpTree) (e : ExpTree) → Shows left a → Shows built e → ShowsStep result fs (machine.resume (machine.joining (line_shown line) name.now a) fs e (terminals ts.entry)) }
 {
     read_as(
         Phrase::Line(line),
@@ -105,9 +102,9 @@ pub(crate) fn relation<'a>(
     name: &'a str,
     left: Built,
     built: Built,
-    ts: &'a [Terminal<'a>],
+    ts: Terminals<'a>,
 ) -> Result<Turn<'a>, AllocError>
-    ensures { (fs : List machine.Frame) (a : ExpTree) (e : ExpTree) → Shows left a → Shows built e → ShowsStep result fs (machine.resume (machine.relation name.now a) fs e (terminals ts.now)) }
+    ensures { (fs : List machine.Frame) (a : ExpTree) (e : ExpTree) → Shows left a → Shows built e → ShowsStep result fs (machine.resume (machine.relation name.now a) fs e (terminals ts.entry)) }
 {
     read_as(
         Phrase::Relating,
@@ -120,9 +117,9 @@ pub(crate) fn range_from<'a>(
     alloc: Global,
     first: Built,
     built: Built,
-    ts: &'a [Terminal<'a>],
+    ts: Terminals<'a>,
 ) -> Result<Turn<'a>, AllocError>
-    ensures { (fs : List machine.Frame) (a : ExpTree) (e : ExpTree) → Shows first a → Shows built e → ShowsStep result fs (machine.resume (machine.range_from a) fs e (terminals ts.now)) }
+    ensures { (fs : List machine.Frame) (a : ExpTree) (e : ExpTree) → Shows first a → Shows built e → ShowsStep result fs (machine.resume (machine.range_from a) fs e (terminals ts.entry)) }
 {
     match behind(Mark::Dots, ts) {
         Some(rest) => Ok(Turn::Open(Frame::RangeStep(first, built), rest)),
@@ -135,9 +132,9 @@ pub(crate) fn range_step<'a>(
     first: Built,
     step: Built,
     built: Built,
-    ts: &'a [Terminal<'a>],
+    ts: Terminals<'a>,
 ) -> Result<Turn<'a>, AllocError>
-    ensures { (fs : List machine.Frame) (a : ExpTree) (b : ExpTree) (e : ExpTree) → Shows first a → Shows step b → Shows built e → ShowsStep result fs (machine.resume (machine.range_step a b) fs e (terminals ts.now)) }
+    ensures { (fs : List machine.Frame) (a : ExpTree) (b : ExpTree) (e : ExpTree) → Shows first a → Shows step b → Shows built e → ShowsStep result fs (machine.resume (machine.range_step a b) fs e (terminals ts.entry)) }
 {
     read_as(
         Phrase::Range,
@@ -150,9 +147,9 @@ pub(crate) fn power<'a>(
     alloc: Global,
     base: Built,
     built: Built,
-    ts: &'a [Terminal<'a>],
+    ts: Terminals<'a>,
 ) -> Result<Turn<'a>, AllocError>
-    ensures { (fs : List machine.Frame) (a : ExpTree) (e : ExpTree) → Shows base a → Shows built e → ShowsStep result fs (machine.resume (machine.power a) fs e (terminals ts.now)) }
+    ensures { (fs : List machine.Frame) (a : ExpTree) (e : ExpTree) → Shows base a → Shows built e → ShowsStep result fs (machine.resume (machine.power a) fs e (terminals ts.entry)) }
 {
     read_as(
         Phrase::Pow,

@@ -9,15 +9,15 @@ ghost use Rattle.pi_phrases.specs.Shown.{terminals};
 ghost use Rattle.pi_phrases.specs.Trees.{Shows, ShowsItems};
 ghost use Rattle.pi_phrases.specs.Turns.{ShowsTurn, ShowsStep};
 
-use pi_phrases::{Built, Frame, Items, Mark, Phrase, Terminal, Turn, behind, built, starts_with};
+use pi_phrases::{Built, Frame, Items, Mark, Phrase, Terminals, Turn, behind, built, starts_with};
 use std::alloc::{AllocError, Global};
 
 pub(crate) fn conjuncts<'a>(
     items: Items,
     built: Built,
-    ts: &'a [Terminal<'a>],
+    ts: Terminals<'a>,
 ) -> Result<Turn<'a>, AllocError>
-    ensures { (fs : List machine.Frame) (a : ExpTree) (es : ExpTrees) (e : ExpTree) → ShowsItems items (tree.exp a es) → Shows built e → ShowsStep result fs (machine.resume (machine.conjuncts (tree.exp a es)) fs e (terminals ts.now)) }
+    ensures { (fs : List machine.Frame) (a : ExpTree) (es : ExpTrees) (e : ExpTree) → ShowsItems items (tree.exp a es) → Shows built e → ShowsStep result fs (machine.resume (machine.conjuncts (tree.exp a es)) fs e (terminals ts.entry)) }
 {
     let more = items.with(built)?;
     match behind(Mark::Comma, ts) {
@@ -29,9 +29,9 @@ pub(crate) fn conjuncts<'a>(
 pub(crate) fn branches<'a>(
     items: Items,
     built: Built,
-    ts: &'a [Terminal<'a>],
+    ts: Terminals<'a>,
 ) -> Result<Turn<'a>, AllocError>
-    ensures { (fs : List machine.Frame) (a : ExpTree) (es : ExpTrees) (e : ExpTree) → ShowsItems items (tree.exp a es) → Shows built e → ShowsStep result fs (machine.resume (machine.branches (tree.exp a es)) fs e (terminals ts.now)) }
+    ensures { (fs : List machine.Frame) (a : ExpTree) (es : ExpTrees) (e : ExpTree) → ShowsItems items (tree.exp a es) → Shows built e → ShowsStep result fs (machine.resume (machine.branches (tree.exp a es)) fs e (terminals ts.entry)) }
 {
     let more = items.with(built)?;
     match behind(Mark::Semicolon, ts) {
@@ -44,17 +44,17 @@ pub(crate) fn arrow<'a>(
     alloc: Global,
     condition: Built,
     built: Built,
-    ts: &'a [Terminal<'a>],
+    ts: Terminals<'a>,
 ) -> Result<Turn<'a>, AllocError>
-    ensures { (fs : List machine.Frame) (a : ExpTree) (e : ExpTree) → Shows condition a → Shows built e → ShowsStep result fs (machine.resume (machine.arrow a) fs e (terminals ts.now)) }
+    ensures { (fs : List machine.Frame) (a : ExpTree) (e : ExpTree) → Shows condition a → Shows built e → ShowsStep result fs (machine.resume (machine.arrow a) fs e (terminals ts.entry)) }
 {
     let arrow = built::arrow(alloc, condition, built)?;
     Ok(before_semicolon(arrow, ts))
 }
 
 /// An arrow, which stands only before another branch.
-fn before_semicolon<'a>(arrow: Built, ts: &'a [Terminal<'a>]) -> Turn<'a>
-    ensures { (fs : List machine.Frame) (e : ExpTree) → Shows arrow e → ShowsTurn result fs (machine.when (machine.headed t.semicolon (terminals ts.now)) (machine.next (machine.value fs branch false e (terminals ts.now)))) }
+fn before_semicolon<'a>(arrow: Built, ts: Terminals<'a>) -> Turn<'a>
+    ensures { (fs : List machine.Frame) (e : ExpTree) → Shows arrow e → ShowsTurn result fs (machine.when (machine.headed t.semicolon (terminals ts.entry)) (machine.next (machine.value fs branch false e (terminals ts.entry)))) }
 {
     if starts_with(Mark::Semicolon, ts) {
         Turn::Found(Phrase::Branch, false, arrow, ts)

@@ -1,5 +1,4 @@
 use Rattle.std.proofs.Common.{sym, subst, ℤ, rules}
-use Rattle.std.proofs.lemmas.Result.{IfOk-weaker}
 use Rattle.pi_syntax.specs.ExpTree.{int}
 use Rattle.pi_phrases.specs.Trees.{Shows}
 use Rattle.pi_expr.proofs.resume.operators.negated.Goals as goal

@@ -1,14 +1,14 @@
 //! Which terminal a token is.
-ghost use Rattle.std.specs.Prelude.{◌≡◌, ◌≤◌, length, map, unwrap_or, IfOk};
-ghost use Rattle.pi_lex.specs.Kinds.{kinds, token_shown, IsNatural};
+ghost use Rattle.std.specs.Prelude.{◌≡◌, [], ◌∷◌, unwrap_or};
+ghost use Rattle.pi_lex.specs.Kinds.{token_shown, IsNatural};
 ghost use Rattle.pi_syntax.specs.Terminals as t;
-ghost use Rattle.pi_expr.specs.Faults.{stretch};
-ghost use Rattle.pi_phrases.specs.Shown.{terminal_shown, terminals};
-ghost use Rattle.pi_expr.specs.Rows.{rows_shown, found_shown};
+ghost use Rattle.pi_phrases.specs.Rows.{rows_shown, found_shown};
+ghost use Rattle.pi_phrases.specs.Shown.{terminal_shown};
 
-use pi_lex::{TokenKind, Tokens};
-use pi_phrases::{Line, Mark, Natural, Terminal};
-use std::alloc::{AllocError, Global};
+use crate::natural::Natural;
+use crate::phrase::Line;
+use crate::terminal::{Mark, Terminal};
+use pi_lex::TokenKind;
 
 /// A spelling and its terminal.
 type Row = (&'static str, Terminal<'static>);
@@ -120,8 +120,75 @@ fn found_in(rows: &[Row], spelling: &str) -> Option<Terminal<'static>>
     None
 }
 
-#[tactic(auto, unfolding(pi_syntax::specs::Terminals::sign_terminal))]
+/// Nearly all signs have one byte or two, and by these they are found sooner than in the tables.
 fn sign_terminal(sign: &str) -> Terminal<'static>
+    ensures { terminal_shown result ≡ t.sign_terminal sign.now }
+{
+    let bytes = sign.as_bytes();
+    match bytes.len() {
+        1 => short_terminal(sign, bytes[0]),
+        2 => double_terminal(sign, bytes[0], bytes[1]),
+        _ => any_terminal(sign),
+    }
+}
+
+#[tactic(auto, unfolding(pi_syntax::specs::Terminals::sign_terminal))]
+fn short_terminal(sign: &str, byte: u8) -> Terminal<'static>
+    requires { sign.now ≡ byte ∷ [] }
+    ensures { terminal_shown result ≡ t.sign_terminal sign.now }
+{
+    match byte {
+        b'(' => Terminal::Mark(Mark::OpenParen),
+        b')' => Terminal::Mark(Mark::CloseParen),
+        b'[' => Terminal::Mark(Mark::OpenBracket),
+        b']' => Terminal::Mark(Mark::CloseBracket),
+        b'{' => Terminal::Mark(Mark::OpenBrace),
+        b'}' => Terminal::Mark(Mark::CloseBrace),
+        b',' => Terminal::Mark(Mark::Comma),
+        b';' => Terminal::Mark(Mark::Semicolon),
+        b'|' => Terminal::Mark(Mark::Bar),
+        b':' => Terminal::Mark(Mark::Colon),
+        b'.' => Terminal::Mark(Mark::Dot),
+        b'$' => Terminal::Mark(Mark::Dollar),
+        b'@' => Terminal::Mark(Mark::At),
+        b'+' => Terminal::Mark(Mark::Plus),
+        b'-' => Terminal::Mark(Mark::Minus),
+        b'*' => Terminal::Joint(Line::Product, "*"),
+        b'=' => Terminal::Relation("="),
+        b'<' => Terminal::Relation("<"),
+        b'>' => Terminal::Relation(">"),
+        _ => any_terminal(sign),
+    }
+}
+
+#[tactic(auto, unfolding(pi_syntax::specs::Terminals::sign_terminal))]
+fn double_terminal(sign: &str, first: u8, second: u8) -> Terminal<'static>
+    requires { sign.now ≡ first ∷ second ∷ [] }
+    ensures { terminal_shown result ≡ t.sign_terminal sign.now }
+{
+    match (first, second) {
+        (b'-', b'>') => Terminal::Mark(Mark::Arrow),
+        (b'.', b'.') => Terminal::Mark(Mark::Dots),
+        (b'*', b'*') => Terminal::Mark(Mark::Power),
+        (b'+', b'+') => Terminal::Joint(Line::Sum, "++"),
+        (b'/', b'/') => Terminal::Joint(Line::Product, "//"),
+        (b'!', b'=') => Terminal::Relation("!="),
+        (b'=', b'=') => Terminal::Relation("=="),
+        (b'=', b'<') => Terminal::Relation("=<"),
+        (b'<', b'=') => Terminal::Relation("=<"),
+        (b'>', b'=') => Terminal::Relation(">="),
+        (b':', b'=') => Terminal::Relation(":="),
+        (b':', b':') => Terminal::Relation("::"),
+        (b'#', b'=') => Terminal::Relation("#="),
+        (b'#', b'<') => Terminal::Relation("#<"),
+        (b'#', b'>') => Terminal::Relation("#>"),
+        _ => any_terminal(sign),
+    }
+}
+
+/// The terminal of a sign by the tables.
+#[tactic(auto, unfolding(pi_syntax::specs::Terminals::sign_terminal))]
+fn any_terminal(sign: &str) -> Terminal<'static>
     ensures { terminal_shown result ≡ t.sign_terminal sign.now }
 {
     match found_in(&PUNCTUATION, sign) {
@@ -178,7 +245,7 @@ fn word_terminal(word: &str) -> Terminal<'static>
 }
 
 /// What a token is in the grammar.
-fn terminal(token: TokenKind<'_>) -> Terminal<'_>
+pub(crate) fn terminal(token: TokenKind<'_>) -> Terminal<'_>
     requires { IsNatural (token_shown token) }
     ensures { terminal_shown result ≡ t.terminal (token_shown token.entry) }
 {
@@ -191,23 +258,4 @@ fn terminal(token: TokenKind<'_>) -> Terminal<'_>
         TokenKind::Sign(sign) => sign_terminal(sign),
         TokenKind::End => Terminal::Mark(Mark::Foreign),
     }
-}
-
-/// The terminals of the tokens from one place up to another.
-pub(crate) fn terminals(
-    alloc: Global,
-    tokens: &Tokens,
-    from: usize,
-    to: usize,
-) -> Result<Vec<Terminal<'_>>, AllocError>
-    requires ordered { from ≤ to }
-    requires within { to ≤ length tokens.now }
-    ensures { IfOk result (λ found. terminals found.items ≡ map t.terminal (stretch (kinds tokens.now) from to)) }
-{
-    let mut found = Vec::new(alloc);
-    for i in from..to {
-        let token = tokens.kind(i);
-        found.push(terminal(token))?;
-    }
-    Ok(found)
 }
