@@ -1,5 +1,5 @@
 //! Parts of a program.
-ghost use Rattle.std.specs.Prelude.{◌≡◌, ◌++◌, map, IfOk, option_map};
+ghost use Rattle.std.specs.Prelude.{◌≡◌, ◌++◌, map, IfOk, option_map, option_copied};
 ghost use Rattle.std.specs.String.{string_bytes};
 ghost use Rattle.pi_syntax.specs.ExpTree.{exp_tree};
 ghost use Rattle.pi_syntax.specs.ProgramTree.{written_clause, rule_tree, function_tree, part_tree};
@@ -43,8 +43,8 @@ fn write_rule(alloc: Global, rule: &RuleClause, out: &mut String) -> Result<(), 
     ensures { IfOk result (λ _. string_bytes out.new ≡ string_bytes out.old ++ spec.clause_text (tree.rule (rule_tree rule.now))) }
 {
     write_head(alloc, &rule.head, out)?;
-    write_condition(alloc, &rule.cond, out)?;
-    write_events(alloc, rule.events.as_slice(), out)?;
+    write_condition(alloc, rule.cond(), out)?;
+    write_events(alloc, rule.events(), out)?;
     out.push_str(arrow(rule.back))?;
     write_top(alloc, &rule.body, out)
 }
@@ -59,8 +59,8 @@ fn write_function(
     write_head(alloc, &function.head, out)?;
     out.push_str(" = ")?;
     write_exp(alloc, &function.value, out)?;
-    write_condition(alloc, &function.cond, out)?;
-    write_body(alloc, &function.body, out)
+    write_condition(alloc, function.cond(), out)?;
+    write_body(alloc, function.body(), out)
 }
 
 /// Writes a head, which stands in parentheses where its name would begin a declaration.
@@ -87,8 +87,8 @@ fn begins_declaration(head: &Exp) -> bool
     }
 }
 
-fn write_condition(alloc: Global, cond: &Option<Exp>, out: &mut String) -> Result<(), AllocError>
-    ensures { IfOk result (λ _. string_bytes out.new ≡ string_bytes out.old ++ spec.condition_text (option_map exp_tree cond.now)) }
+fn write_condition(alloc: Global, cond: Option<&Exp>, out: &mut String) -> Result<(), AllocError>
+    ensures { IfOk result (λ _. string_bytes out.new ≡ string_bytes out.old ++ spec.condition_text (option_map exp_tree (option_copied cond.entry))) }
 {
     match cond {
         Some(cond) => {
@@ -112,8 +112,8 @@ fn write_events(alloc: Global, events: &[Exp], out: &mut String) -> Result<(), A
 }
 
 /// Writes the body of a function's rule, where there is one.
-fn write_body(alloc: Global, body: &Option<Exp>, out: &mut String) -> Result<(), AllocError>
-    ensures { IfOk result (λ _. string_bytes out.new ≡ string_bytes out.old ++ spec.body_text (option_map exp_tree body.now)) }
+fn write_body(alloc: Global, body: Option<&Exp>, out: &mut String) -> Result<(), AllocError>
+    ensures { IfOk result (λ _. string_bytes out.new ≡ string_bytes out.old ++ spec.body_text (option_map exp_tree (option_copied body.entry))) }
 {
     match body {
         Some(body) => {

@@ -2,7 +2,7 @@
 use Rattle.std.specs.Prelude.{◌≡◌, if◌then◌else◌, Bool, true, false, List, [], ◌∷◌, Option, Some, None, is_some}
 use Rattle.pi_syntax.specs.ExpLists.{exps_of}
 use Rattle.pi_syntax.specs.ExpTree.{ExpTree, array, call, and, ExpTrees, no_exps, exp, exp_tree}
-use Rattle.pi_syntax.specs.ProgramTree.{written_clause}
+use Rattle.pi_syntax.specs.ProgramTree.{written_clause, events_between}
 use Rattle.pi_syntax.specs.declared.exp.Exp.{Exp}
 use Rattle.pi_syntax.specs.declared.program.Clause.{Clause}
 use Rattle.pi_clauses.specs.Shape.{Shape, equation, clause_of, shape_events, is_open, events_in, conditions, first_unit, other_units}
@@ -55,7 +55,7 @@ pub record IsSplit (s : SplitUnits) (es : ExpTrees) : Type 0 where
 
 -- the events of a rule
 abbrev pub ShowsEvents : Clause → Option ExpTrees → Type 0
-ShowsEvents (Clause.Rule boxed) (Some es) = exps_of boxed.value.events.items ≡ es
+ShowsEvents (Clause.Rule boxed) (Some es) = exps_of (events_between boxed.value.between) ≡ es
 ShowsEvents c es = Unit {0}
 
 -- the clause of a shape

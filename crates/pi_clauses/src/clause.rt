@@ -4,13 +4,14 @@ ghost use Rattle.std.specs.Str.{bytes_eq};
 ghost use Rattle.pi_syntax.specs.ExpLists.{exps_of};
 ghost use Rattle.pi_syntax.specs.ExpTree.{exp_tree};
 ghost use Rattle.pi_syntax.specs.ExpTree as tree;
+ghost use Rattle.pi_syntax.specs.ProgramTree.{cond_between, events_between};
 ghost use Rattle.pi_clauses.specs.Shape as spec;
 ghost use Rattle.pi_clauses.specs.Formed.{ShowsHeaded, IsFormed, IsUnits, IsSplit, is_braces, exps_of_before};
 
 mod apart;
 
 use crate::clause::apart::take_apart;
-use pi_syntax::{Apart, Clause, Exp, Exps, FunctionClause, RuleClause};
+use pi_syntax::{Apart, Between, Clause, Exp, Exps, FunctionBody, FunctionClause, RuleClause};
 use pi_terms::Text;
 use std::alloc::{AllocError, Global};
 
@@ -57,8 +58,7 @@ pub fn bare_clause(alloc: Global, exp: Exp) -> Result<FormedClause, AllocError>
                 FunctionClause {
                     head,
                     value,
-                    cond: None,
-                    body: None,
+                    behind: None,
                 },
             )?;
             Ok(FormedClause {
@@ -114,13 +114,13 @@ fn rule_of(
     match read_headed(first) {
         Headed::Equation(head, value) => {
             drop(events);
+            let behind = Box::new(alloc, FunctionBody { cond, body })?;
             let function = Box::new(
                 alloc,
                 FunctionClause {
                     head,
                     value,
-                    cond,
-                    body: Some(body),
+                    behind: Some(behind),
                 },
             )?;
             Ok(FormedClause {
@@ -130,12 +130,12 @@ fn rule_of(
             })
         }
         Headed::Alone(head) => {
+            let between = between_of(alloc, cond, events)?;
             let rule = Box::new(
                 alloc,
                 RuleClause {
                     head,
-                    cond,
-                    events,
+                    between,
                     back,
                     body,
                 },
@@ -147,6 +147,22 @@ fn rule_of(
             })
         }
     }
+}
+
+/// What stands between a head and its arrow, where anything does.
+fn between_of(
+    alloc: Global,
+    cond: Option<Exp>,
+    events: Exps,
+) -> Result<Option<Box<Between>>, AllocError>
+    ensures cond { IfOk result (λ made. cond_between made ≡ cond) }
+    ensures events { IfOk result (λ made. events_between made ≡ events.items) }
+{
+    if cond.is_none() & events.is_empty() {
+        return Ok(None);
+    }
+    let between = Box::new(alloc, Between { cond, events })?;
+    Ok(Some(between))
 }
 
 /// Head and value, where the expression is an equation.

@@ -2,7 +2,7 @@
 ghost use Rattle.std.specs.Prelude.{◌≡◌, ◌&&◌, ◌||◌, Some, IfOk};
 ghost use Rattle.pi_syntax.specs.ExpLists.{exps_of};
 ghost use Rattle.pi_syntax.specs.ExpTree.{exp_tree};
-ghost use Rattle.pi_syntax.specs.ProgramTree.{written_clause};
+ghost use Rattle.pi_syntax.specs.ProgramTree.{written_clause, events_between};
 ghost use Rattle.pi_clauses.specs.Items as items;
 ghost use Rattle.pi_clauses.specs.Reading as reading;
 ghost use Rattle.pi_clauses.specs.Formed.{IsFormed};
@@ -50,7 +50,7 @@ fn has_bad_action(
     is_open: bool,
     has_events: bool,
 ) -> Result<bool, AllocError>
-    ensures { IfOk result (λ b. b ≡ (has_events && (is_open || items.are_bad_events (exp_tree rule.now.head) (Some (exps_of rule.now.events.items))))) }
+    ensures { IfOk result (λ b. b ≡ (has_events && (is_open || items.are_bad_events (exp_tree rule.now.head) (Some (exps_of (events_between rule.now.between)))))) }
 {
     if !has_events {
         return Ok(false);
@@ -58,7 +58,7 @@ fn has_bad_action(
     if is_open {
         return Ok(true);
     }
-    has_bad_events(alloc, &rule.head, rule.events.as_slice())
+    has_bad_events(alloc, &rule.head, rule.events())
 }
 
 fn head_of(clause: &Clause) -> &Exp

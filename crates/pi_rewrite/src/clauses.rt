@@ -1,5 +1,5 @@
 //! Rules and facts as clauses, of predicates and of functions.
-ghost use Rattle.std.specs.Prelude.{◌≡◌, ◌++◌, [], length, map, option_map, IfOk};
+ghost use Rattle.std.specs.Prelude.{◌≡◌, ◌++◌, [], length, map, option_map, option_copied, IfOk};
 ghost use Rattle.pi_syntax.specs.ExpTree.{exp_tree};
 ghost use Rattle.pi_syntax.specs.ProgramTree.{rule_tree, function_tree};
 ghost use Rattle.pi_core.specs.CoreTree.{clause_tree, pattern_trees, pred_tree};
@@ -46,7 +46,7 @@ pub(crate) fn lower_rule<'a>(
 {
     let mut slots = Slots::new(alloc);
     let mut begun = begin(alloc, from, &rule.head, &mut slots)?;
-    let guard = guarded(alloc, &mut begun.site, &rule.cond, &mut slots, helpers)?;
+    let guard = guarded(alloc, &mut begun.site, rule.cond(), &mut slots, helpers)?;
     let body = lower_body(alloc, &begun.site, &rule.body, &mut slots, helpers)?;
     let count = slots.count()?;
     Ok(CoreClause {
@@ -81,14 +81,14 @@ fn begin<'a>(
 fn guarded<'a>(
     alloc: Global,
     site: &mut Site<'a>,
-    cond: &'a Option<Exp>,
+    cond: Option<&'a Exp>,
     slots: &mut Slots<'a>,
     helpers: &mut Vec<CorePred>,
 ) -> Result<CoreGoal, AllocError>
-    ensures is { IfOk result (λ made. made ≡ guard_of (option_map exp_tree cond.now) (option_goals (site_of site.old) (option_map exp_tree cond.now) slots.old)) }
-    ensures slots { IfOk result (λ _. slots.new ≡ (option_goals (site_of site.old) (option_map exp_tree cond.now) slots.old).names) }
-    ensures helpers { IfOk result (λ _. map pred_tree helpers.new.items ≡ map pred_tree helpers.old.items ++ option_helpers (site_of site.old) (option_map exp_tree cond.now)) }
-    ensures site { IfOk result (λ _. site_of site.new ≡ behind_option (site_of site.old) (option_map exp_tree cond.now)) }
+    ensures is { IfOk result (λ made. made ≡ guard_of (option_map exp_tree (option_copied cond.entry)) (option_goals (site_of site.old) (option_map exp_tree (option_copied cond.entry)) slots.old)) }
+    ensures slots { IfOk result (λ _. slots.new ≡ (option_goals (site_of site.old) (option_map exp_tree (option_copied cond.entry)) slots.old).names) }
+    ensures helpers { IfOk result (λ _. map pred_tree helpers.new.items ≡ map pred_tree helpers.old.items ++ option_helpers (site_of site.old) (option_map exp_tree (option_copied cond.entry))) }
+    ensures site { IfOk result (λ _. site_of site.new ≡ behind_option (site_of site.old) (option_map exp_tree (option_copied cond.entry))) }
 {
     let guard = lower_guard(alloc, site, cond, slots, helpers)?;
     pass_option(alloc, site, cond)?;
@@ -128,19 +128,19 @@ pub(crate) fn lower_function<'a>(
     let mut slots = Slots::new(alloc);
     let mut begun = begin(alloc, from, &function.head, &mut slots)?;
     let mut site = begun.site.behind_names(alloc, &function.value)?;
-    let guard = guarded(alloc, &mut site, &function.cond, &mut slots, helpers)?;
+    let guard = guarded(alloc, &mut site, function.cond(), &mut slots, helpers)?;
     let mut goals = Vec::new(alloc);
     lower_goal_or_none(
         alloc,
         &site,
-        &function.body,
+        function.body(),
         &mut slots,
         &mut goals,
         helpers,
     )?;
     drop(site);
-    pass_option(alloc, &mut begun.site, &function.cond)?;
-    pass_option(alloc, &mut begun.site, &function.body)?;
+    pass_option(alloc, &mut begun.site, function.cond())?;
+    pass_option(alloc, &mut begun.site, function.body())?;
     let value = lower_value(
         alloc,
         &begun.site,

@@ -1,5 +1,5 @@
 //! Bodies, conditions and heads: what clauses are made of.
-ghost use Rattle.std.specs.Prelude.{◌≡◌, ◌++◌, map, option_map, IfOk};
+ghost use Rattle.std.specs.Prelude.{◌≡◌, ◌++◌, map, option_map, option_copied, IfOk};
 ghost use Rattle.pi_syntax.specs.ExpTree.{exp_tree};
 ghost use Rattle.pi_core.specs.CoreTree.{pattern_trees, pred_tree};
 ghost use Rattle.pi_meaning.specs.WrittenRules.{head_arguments};
@@ -60,13 +60,13 @@ pub(crate) fn lower_body<'a>(
 pub(crate) fn lower_guard<'a>(
     alloc: Global,
     site: &Site<'a>,
-    cond: &'a Option<Exp>,
+    cond: Option<&'a Exp>,
     slots: &mut Slots<'a>,
     helpers: &mut Vec<CorePred>,
 ) -> Result<CoreGoal, AllocError>
-    ensures is { IfOk result (λ made. made ≡ guard_of (option_map exp_tree cond.now) (option_goals (site_of site.now) (option_map exp_tree cond.now) slots.old)) }
-    ensures slots { IfOk result (λ _. slots.new ≡ (option_goals (site_of site.now) (option_map exp_tree cond.now) slots.old).names) }
-    ensures helpers { IfOk result (λ _. map pred_tree helpers.new.items ≡ map pred_tree helpers.old.items ++ option_helpers (site_of site.now) (option_map exp_tree cond.now)) }
+    ensures is { IfOk result (λ made. made ≡ guard_of (option_map exp_tree (option_copied cond.entry)) (option_goals (site_of site.now) (option_map exp_tree (option_copied cond.entry)) slots.old)) }
+    ensures slots { IfOk result (λ _. slots.new ≡ (option_goals (site_of site.now) (option_map exp_tree (option_copied cond.entry)) slots.old).names) }
+    ensures helpers { IfOk result (λ _. map pred_tree helpers.new.items ≡ map pred_tree helpers.old.items ++ option_helpers (site_of site.now) (option_map exp_tree (option_copied cond.entry))) }
 {
     match cond {
         None => {
@@ -111,14 +111,14 @@ fn is_true_node(node: GoalNode<'_>) -> bool
 pub(crate) fn lower_goal_or_none<'a>(
     alloc: Global,
     site: &Site<'a>,
-    body: &'a Option<Exp>,
+    body: Option<&'a Exp>,
     slots: &mut Slots<'a>,
     goals: &mut Vec<CoreGoal>,
     helpers: &mut Vec<CorePred>,
 ) -> Result<(), AllocError>
-    ensures goals { IfOk result (λ _. goals.new.items ≡ goals.old.items ++ (option_goals (site_of site.now) (option_map exp_tree body.now) slots.old).goals) }
-    ensures slots { IfOk result (λ _. slots.new ≡ (option_goals (site_of site.now) (option_map exp_tree body.now) slots.old).names) }
-    ensures helpers { IfOk result (λ _. map pred_tree helpers.new.items ≡ map pred_tree helpers.old.items ++ option_helpers (site_of site.now) (option_map exp_tree body.now)) }
+    ensures goals { IfOk result (λ _. goals.new.items ≡ goals.old.items ++ (option_goals (site_of site.now) (option_map exp_tree (option_copied body.entry)) slots.old).goals) }
+    ensures slots { IfOk result (λ _. slots.new ≡ (option_goals (site_of site.now) (option_map exp_tree (option_copied body.entry)) slots.old).names) }
+    ensures helpers { IfOk result (λ _. map pred_tree helpers.new.items ≡ map pred_tree helpers.old.items ++ option_helpers (site_of site.now) (option_map exp_tree (option_copied body.entry))) }
 {
     match body {
         None => Ok(()),

@@ -1,5 +1,5 @@
 //! Where the parts of a clause stand, and how many helpers they have.
-ghost use Rattle.std.specs.Prelude.{◌≡◌, ◌+◌, [], option_map, IfOk};
+ghost use Rattle.std.specs.Prelude.{◌≡◌, ◌+◌, [], option_map, option_copied, IfOk};
 ghost use Rattle.pi_syntax.specs.ExpTree.{exp_tree};
 ghost use Rattle.pi_syntax.specs.ProgramTree.{part_tree, rule_tree, function_tree};
 ghost use Rattle.pi_meaning.specs.Texts.{places, behind};
@@ -37,9 +37,9 @@ pub(crate) fn clause_site<'a>(
 pub(crate) fn pass_option<'a>(
     alloc: Global,
     site: &mut Site<'a>,
-    exp: &'a Option<Exp>,
+    exp: Option<&'a Exp>,
 ) -> Result<(), AllocError>
-    ensures { IfOk result (λ _. site_of site.new ≡ behind_option (site_of site.old) (option_map exp_tree exp.now)) }
+    ensures { IfOk result (λ _. site_of site.new ≡ behind_option (site_of site.old) (option_map exp_tree (option_copied exp.entry))) }
 {
     match exp {
         None => Ok(()),
@@ -71,7 +71,7 @@ pub(crate) fn behind_part(before: u64, part: &Part) -> Result<u64, AllocError>
 fn helpers_in_rule(rule: &RuleClause) -> Result<u64, AllocError>
     ensures { IfOk result (λ count. count ≡ rule_count (rule_tree rule.now)) }
 {
-    let some = helpers_in_option(&rule.cond)?;
+    let some = helpers_in_option(rule.cond())?;
     let more = helpers_in(&rule.body)?;
     together(some, more)
 }
@@ -79,15 +79,15 @@ fn helpers_in_rule(rule: &RuleClause) -> Result<u64, AllocError>
 fn helpers_in_function(function: &FunctionClause) -> Result<u64, AllocError>
     ensures { IfOk result (λ count. count ≡ function_count (function_tree function.now)) }
 {
-    let some = helpers_in_option(&function.cond)?;
-    let more = helpers_in_option(&function.body)?;
+    let some = helpers_in_option(function.cond())?;
+    let more = helpers_in_option(function.body())?;
     let last = helpers_in(&function.value)?;
     let rest = together(more, last)?;
     together(some, rest)
 }
 
-fn helpers_in_option(exp: &Option<Exp>) -> Result<u64, AllocError>
-    ensures { IfOk result (λ count. count ≡ option_count (option_map exp_tree exp.now)) }
+fn helpers_in_option(exp: Option<&Exp>) -> Result<u64, AllocError>
+    ensures { IfOk result (λ count. count ≡ option_count (option_map exp_tree (option_copied exp.entry))) }
 {
     match exp {
         None => Ok(0),

@@ -1,5 +1,5 @@
 //! Which parts of a program are built.
-ghost use Rattle.std.specs.Prelude.{◌≡◌, option_map};
+ghost use Rattle.std.specs.Prelude.{◌≡◌, option_map, option_copied};
 ghost use Rattle.pi_syntax.specs.ExpTree.{exp_tree};
 ghost use Rattle.pi_syntax.specs.ProgramTree.{part_tree, source_tree, written_clause, rule_tree, function_tree};
 ghost use Rattle.pi_sound.specs.Built as spec;
@@ -53,21 +53,21 @@ fn is_built_clause(clause: &Clause) -> bool
 fn is_built_rule(rule: &RuleClause) -> bool
     ensures { result ≡ spec.is_built_rule (rule_tree rule.now) }
 {
-    rule.events.is_empty()
+    rule.events().is_empty()
         & (is_built_head(&rule.head)
-            & (is_built_goal_or_none(&rule.cond) & is_built_goal(&rule.body)))
+            & (is_built_goal_or_none(rule.cond()) & is_built_goal(&rule.body)))
 }
 
 fn is_built_function_rule(function: &FunctionClause) -> bool
     ensures { result ≡ spec.is_built_function_rule (function_tree function.now) }
 {
     is_built_head(&function.head)
-        & (is_built_goal_or_none(&function.cond)
-            & (is_built_goal_or_none(&function.body) & is_built_value(&function.value)))
+        & (is_built_goal_or_none(function.cond())
+            & (is_built_goal_or_none(function.body()) & is_built_value(&function.value)))
 }
 
-fn is_built_goal_or_none(goal: &Option<Exp>) -> bool
-    ensures { result ≡ spec.is_built_goal_or_none (option_map exp_tree goal.now) }
+fn is_built_goal_or_none(goal: Option<&Exp>) -> bool
+    ensures { result ≡ spec.is_built_goal_or_none (option_map exp_tree (option_copied goal.entry)) }
 {
     match goal {
         Some(goal) => is_built_goal(goal),

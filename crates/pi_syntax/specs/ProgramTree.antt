@@ -1,10 +1,15 @@
 -- Programs and goals as they are written, as trees: parts in the order of the text, over the trees of their expressions (A
 -- User's Guide to Picat, 'Predicates and Functions', and for events 'Action Rules').
-use Rattle.std.specs.Prelude.{Bool, List, map, Option, option_map}
+use Rattle.std.specs.Prelude.{Bool, List, [], map, Option, None, Some, option_map}
+use Rattle.std.specs.declared.alloc.Global.{Global}
+use Rattle.std.specs.declared.boxed.Box.{Box}
 use Rattle.pi_syntax.specs.ExpTree.{ExpTree, exp_tree}
+use Rattle.pi_syntax.specs.declared.exp.Exp.{Exp}
 use Rattle.pi_syntax.specs.declared.program.Clause.{Clause}
 use Rattle.pi_syntax.specs.declared.program.RuleClause.{RuleClause}
+use Rattle.pi_syntax.specs.declared.program.Between.{Between}
 use Rattle.pi_syntax.specs.declared.program.FunctionClause.{FunctionClause}
+use Rattle.pi_syntax.specs.declared.program.FunctionBody.{FunctionBody}
 use Rattle.pi_syntax.specs.declared.program.Decl.{Decl}
 use Rattle.pi_syntax.specs.declared.program.Part.{Part}
 use Rattle.pi_syntax.specs.declared.program.Program.{Program}
@@ -40,11 +45,29 @@ pub record PartTree : Type 0 where
 abbrev pub ProgramTree : Type 0
 ProgramTree = List PartTree
 
+-- the condition between a rule's head and its arrow, and the events there
+abbrev pub cond_between : Option (Box Between Global) → Option Exp
+cond_between None = None
+cond_between (Some between) = between.value.cond
+
+abbrev pub events_between : Option (Box Between Global) → List Exp
+events_between None = []
+events_between (Some between) = between.value.events.items
+
 abbrev pub rule_tree : RuleClause → RuleTree
-rule_tree r = record { head = exp_tree r.head; cond = option_map exp_tree r.cond; events = map exp_tree r.events.items; back = r.back; body = exp_tree r.body }
+rule_tree r = record { head = exp_tree r.head; cond = option_map exp_tree (cond_between r.between); events = map exp_tree (events_between r.between); back = r.back; body = exp_tree r.body }
+
+-- the condition behind a function's value, and the body there
+abbrev pub cond_behind : Option (Box FunctionBody Global) → Option Exp
+cond_behind None = None
+cond_behind (Some behind) = behind.value.cond
+
+abbrev pub body_behind : Option (Box FunctionBody Global) → Option Exp
+body_behind None = None
+body_behind (Some behind) = Some behind.value.body
 
 abbrev pub function_tree : FunctionClause → FunctionTree
-function_tree f = record { head = exp_tree f.head; value = exp_tree f.value; cond = option_map exp_tree f.cond; body = option_map exp_tree f.body }
+function_tree f = record { head = exp_tree f.head; value = exp_tree f.value; cond = option_map exp_tree (cond_behind f.behind); body = option_map exp_tree (body_behind f.behind) }
 
 abbrev pub written_clause : Clause → WrittenClause
 written_clause (Clause.Rule boxed) = rule (rule_tree boxed.value)

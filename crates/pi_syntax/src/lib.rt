@@ -15,7 +15,7 @@ pub use builtin_laws::tables_are_disjoint;
 pub use exp::{Apart, Branches, Exp, Exps};
 pub use forms::is_form;
 pub use program::{
-    Clause, Decl, FunctionClause, Goal, Mode, ModeLists, Modes, Names, Part, Parts, Program,
-    RuleClause,
+    Between, Clause, Decl, FunctionBody, FunctionClause, Goal, Mode, ModeLists, Modes, Names, Part,
+    Parts, Program, RuleClause,
 };
 pub use rules::prelude;

@@ -30,10 +30,11 @@ impl Drop for Clause {
 }
 
 /// A predicate's rule, committed (`=>`) or, where `back` is true, backtrackable (`?=>`).
+///
+/// Most rules have nothing between the head and the arrow, so what stands there is boxed.
 pub struct RuleClause {
     pub head: Exp,
-    pub cond: Option<Exp>,
-    pub events: Exps,
+    pub between: Option<Box<Between>>,
     pub back: bool,
     pub body: Exp,
 }
@@ -43,20 +44,56 @@ impl Drop for RuleClause {
     fn drop(self) {
         let RuleClause {
             head: _,
-            cond: _,
-            events: _,
+            between: _,
             back: _,
             body: _,
         } = self;
     }
 }
 
-/// A function's rule or, without condition and body, its fact.
+impl RuleClause {
+    ghost use Rattle.std.specs.Prelude.{◌≡◌, option_copied};
+    ghost use Rattle.pi_syntax.specs.ProgramTree.{cond_between, events_between};
+
+    /// The condition, where there is one.
+    pub fn cond(&self) -> Option<&Exp>
+        ensures { option_copied result ≡ cond_between self.now.between }
+    {
+        match &self.between {
+            Some(between) => between.cond.as_ref(),
+            None => None,
+        }
+    }
+
+    /// The events, of which there are none but in an action rule.
+    pub fn events(&self) -> &[Exp]
+        ensures { result.now ≡ events_between self.now.between }
+    {
+        match &self.between {
+            Some(between) => between.events.as_slice(),
+            None => &[],
+        }
+    }
+}
+
+/// What stands between a rule's head and its arrow.
+pub struct Between {
+    pub cond: Option<Exp>,
+    pub events: Exps,
+}
+
+// By hand, so that letting one go is a call and not its parts at each way out.
+impl Drop for Between {
+    fn drop(self) {
+        let Between { cond: _, events: _ } = self;
+    }
+}
+
+/// A function's rule or, with nothing behind the value, its fact.
 pub struct FunctionClause {
     pub head: Exp,
     pub value: Exp,
-    pub cond: Option<Exp>,
-    pub body: Option<Exp>,
+    pub behind: Option<Box<FunctionBody>>,
 }
 
 // By hand, so that letting one go is a call and not its parts at each way out.
@@ -65,9 +102,46 @@ impl Drop for FunctionClause {
         let FunctionClause {
             head: _,
             value: _,
-            cond: _,
-            body: _,
+            behind: _,
         } = self;
+    }
+}
+
+impl FunctionClause {
+    ghost use Rattle.std.specs.Prelude.{◌≡◌, option_copied};
+    ghost use Rattle.pi_syntax.specs.ProgramTree.{cond_behind, body_behind};
+
+    /// The condition, where there is one.
+    pub fn cond(&self) -> Option<&Exp>
+        ensures { option_copied result ≡ cond_behind self.now.behind }
+    {
+        match &self.behind {
+            Some(behind) => behind.cond.as_ref(),
+            None => None,
+        }
+    }
+
+    /// The body, which a fact lacks.
+    pub fn body(&self) -> Option<&Exp>
+        ensures { option_copied result ≡ body_behind self.now.behind }
+    {
+        match &self.behind {
+            Some(behind) => Some(&behind.body),
+            None => None,
+        }
+    }
+}
+
+/// What stands behind the value of a function's rule.
+pub struct FunctionBody {
+    pub cond: Option<Exp>,
+    pub body: Exp,
+}
+
+// By hand, so that letting one go is a call and not its parts at each way out.
+impl Drop for FunctionBody {
+    fn drop(self) {
+        let FunctionBody { cond: _, body: _ } = self;
     }
 }
 

@@ -96,8 +96,7 @@ fn take_rule(case: &Case) -> Option<Part> {
         case.alloc,
         RuleClause {
             head,
-            cond: None,
-            events: Vec::new(case.alloc),
+            between: None,
             back,
             body,
         },

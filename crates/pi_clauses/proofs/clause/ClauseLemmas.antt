@@ -8,7 +8,7 @@ use Rattle.std.specs.declared.boxed.Box.{Box}
 use Rattle.std.proofs.lemmas.Bool.Decides.{Decides-eqb}
 use Rattle.pi_syntax.specs.ExpLists.{exps_of}
 use Rattle.pi_syntax.specs.ExpTree.{ExpTree, array, call, and, ExpTrees, no_exps, exp, one_exp, exp_tree, exp_trees, held_tree}
-use Rattle.pi_syntax.specs.ProgramTree.{WrittenClause, rule, function, rule_tree, function_tree, written_clause}
+use Rattle.pi_syntax.specs.ProgramTree.{WrittenClause, rule, function, cond_between, events_between, rule_tree, function_tree, written_clause}
 use Rattle.pi_syntax.specs.Apart.{IsApart}
 use Rattle.pi_syntax.specs.declared.exp.Apart.{Apart}
 use Rattle.pi_syntax.specs.declared.exp.Apart.TheVariants as apart
@@ -18,6 +18,8 @@ use Rattle.pi_syntax.specs.declared.exp.Exp.TheOpen as layer
 use Rattle.pi_syntax.specs.declared.exp.Exp.TheViews.{out-Exp, roll-Exp, roll-out-Exp, rolls-Var, rolls-Int, rolls-Atom, rolls-Str, rolls-List, rolls-Array, rolls-Call, rolls-Quote, rolls-Index, rolls-Range, rolls-At, rolls-Collect, rolls-And, rolls-Or, rolls-Arrow, rolls-If, rolls-Foreach, rolls-While, rolls-DoWhile}
 use Rattle.pi_syntax.specs.declared.program.Clause.{Clause}
 use Rattle.pi_syntax.specs.declared.program.FunctionClause.{FunctionClause}
+use Rattle.pi_syntax.specs.declared.program.FunctionBody.{FunctionBody}
+use Rattle.pi_syntax.specs.declared.program.Between.{Between}
 use Rattle.pi_syntax.specs.declared.program.RuleClause.{RuleClause}
 use Rattle.pi_syntax.proofs.ExpListLemmas.{call-tree, and-tree}
 use Rattle.pi_clauses.specs.Formed.{ShowsApart, ShowsHeaded, ShowsEvents, IsFormed, IsUnits, IsSplit, is_braces, is_other, exps_of_before}
@@ -328,8 +330,8 @@ has_shown : (b : Bool) (es : ExpTrees) → is_some (if b then Some es else None)
 has_shown true es = refl
 has_shown false es = refl
 
-events_shown : (c : Clause) (boxed : Box RuleClause Global) (es : Option ExpTrees) (b : Bool) → c ≡ Clause.Rule boxed → es ≡ (if b then Some (exps_of boxed.value.events.items) else None) → ShowsEvents c es
-events_shown c boxed es true is shown = subst (λ o. ShowsEvents c o) (sym shown) (subst (λ k. ShowsEvents k (Some (exps_of boxed.value.events.items))) (sym is) refl)
+events_shown : (c : Clause) (boxed : Box RuleClause Global) (es : Option ExpTrees) (b : Bool) → c ≡ Clause.Rule boxed → es ≡ (if b then Some (exps_of (events_between boxed.value.between)) else None) → ShowsEvents c es
+events_shown c boxed es true is shown = subst (λ o. ShowsEvents c o) (sym shown) (subst (λ k. ShowsEvents k (Some (exps_of (events_between boxed.value.between)))) (sym is) refl)
 events_shown c boxed es false is shown = subst (λ o. ShowsEvents c o) (sym shown) (no_events c)
   where
     no_events : (c : Clause) → ShowsEvents c None
@@ -347,33 +349,40 @@ rule_with back body h c es = rule (record { head = h; cond = c; events = es; bac
 abbrev function_with : Exp → Exp → Exp → Option ExpTree → WrittenClause
 function_with head value body c = function (record { head = exp_tree head; value = exp_tree value; cond = c; body = Some (exp_tree body) })
 
-pub rule_formed : (f : FormedClause) (left : ExpTree) (first head body : Exp) (cond : Option Exp) (split : SplitUnits) (back : Bool) (boxed : Box RuleClause Global)
+pub rule_formed : (f : FormedClause) (left : ExpTree) (first head body : Exp) (cond : Option Exp) (split : SplitUnits) (back : Bool) (between : Option (Box Between Global)) (boxed : Box RuleClause Global)
     → exp_tree first ≡ first_unit (units left) → IsSplit split (other_units (units left)) → option_map exp_tree cond ≡ condition (exps_of split.conditions.items)
-    → ShowsHeaded (headed.Alone head) (exp_tree first) → f.clause ≡ Clause.Rule boxed → boxed.value ≡ record { head = head; cond = cond; events = split.events; back = back; body = body }
+    → ShowsHeaded (headed.Alone head) (exp_tree first) → cond_between between ≡ cond → events_between between ≡ split.events.items
+    → f.clause ≡ Clause.Rule boxed → boxed.value ≡ record { head = head; between = between; back = back; body = body }
     → f.is_open ≡ back → f.has_events ≡ split.has_events → IsFormed f (ruled left back (exp_tree body))
-rule_formed f left first head body cond split back boxed is_first is_split is_cond (is_head, none) is_clause is_rule is_open has =
+rule_formed f left first head body cond split back between boxed is_first is_split is_cond (is_head, none) kept_cond kept_events is_clause is_rule is_open has =
     let others : ExpTrees = other_units (units left) in
     record {
       clause = ap written_clause is_clause
           ∙ ap (λ r. rule (rule_tree r)) is_rule
+          ∙ ap (λ c. rule_with back body (exp_tree head) (option_map exp_tree c) (map exp_tree (events_between between))) kept_cond
+          ∙ ap (λ es. rule_with back body (exp_tree head) (option_map exp_tree cond) (map exp_tree es)) kept_events
           ∙ ap (λ h. rule_with back body h (option_map exp_tree cond) (map exp_tree split.events.items)) (is_head ∙ is_first)
           ∙ ap (λ c. rule_with back body (first_unit (units left)) c (map exp_tree split.events.items)) (is_cond ∙ ap condition is_split.conditions)
           ∙ ap (rule_with back body (first_unit (units left)) (condition (conditions others))) (events_listed split others split.has_events refl is_split)
           ∙ sym (ap (λ q. ruled_clause q (first_unit (units left)) others back (exp_tree body)) (ap equation (sym is_first) ∙ none));
       open_arrow = is_open;
       has_events = has ∙ sym (ap is_some is_split.events ∙ has_shown split.has_events (exps_of split.events.items));
-      events = events_shown f.clause boxed (events_in others) split.has_events is_clause (is_split.events ∙ ap (λ r. if split.has_events then Some (exps_of r.events.items) else None) (sym is_rule));
+      events = events_shown f.clause boxed (events_in others) split.has_events is_clause (is_split.events
+          ∙ ap (λ es. if split.has_events then Some (exps_of es) else None) (sym kept_events)
+          ∙ ap (λ (r : RuleClause). if split.has_events then Some (exps_of (events_between r.between)) else None) (sym is_rule));
     }
 
-pub function_formed : (f : FormedClause) (left : ExpTree) (first head value body : Exp) (cond : Option Exp) (split : SplitUnits) (back : Bool) (boxed : Box FunctionClause Global)
+pub function_formed : (f : FormedClause) (left : ExpTree) (first head value body : Exp) (cond : Option Exp) (split : SplitUnits) (back : Bool) (behind : Box FunctionBody Global) (boxed : Box FunctionClause Global)
     → exp_tree first ≡ first_unit (units left) → IsSplit split (other_units (units left)) → option_map exp_tree cond ≡ condition (exps_of split.conditions.items)
-    → ShowsHeaded (headed.Equation head value) (exp_tree first) → f.clause ≡ Clause.Function boxed → boxed.value ≡ record { head = head; value = value; cond = cond; body = Some body }
+    → ShowsHeaded (headed.Equation head value) (exp_tree first) → behind.value ≡ record { cond = cond; body = body }
+    → f.clause ≡ Clause.Function boxed → boxed.value ≡ record { head = head; value = value; behind = Some behind }
     → f.is_open ≡ back → f.has_events ≡ split.has_events → IsFormed f (ruled left back (exp_tree body))
-function_formed f left first head value body cond split back boxed is_first is_split is_cond is_head is_clause is_function is_open has =
+function_formed f left first head value body cond split back behind boxed is_first is_split is_cond is_head is_behind is_clause is_function is_open has =
     let others : ExpTrees = other_units (units left) in
     record {
       clause = ap written_clause is_clause
           ∙ ap (λ r. function (function_tree r)) is_function
+          ∙ ap (λ (r : FunctionBody). function_with head value r.body (option_map exp_tree r.cond)) is_behind
           ∙ ap (function_with head value body) (is_cond ∙ ap condition is_split.conditions)
           ∙ sym (ap (λ q. ruled_clause q (first_unit (units left)) others back (exp_tree body)) (ap equation (sym is_first) ∙ is_head));
       open_arrow = is_open;

@@ -7,7 +7,7 @@ use Rattle.std.specs.declared.alloc.Global.{Global}
 use Rattle.std.specs.declared.boxed.Box.{Box}
 use Rattle.pi_syntax.specs.ExpTree.{ExpTree, var, int, atom, str, list_before, range_with, if_with, array, call, quote, index, at, collect, and, or, arrow, foreach, while_do, do_while, ExpTrees, ExpBranches, exp_tree}
 use Rattle.pi_syntax.specs.ExpLists.{exps_of}
-use Rattle.pi_syntax.specs.ProgramTree.{rule, function, rule_tree, function_tree, written_clause}
+use Rattle.pi_syntax.specs.ProgramTree.{rule, function, rule_tree, function_tree, cond_between, cond_behind, body_behind, written_clause}
 use Rattle.pi_syntax.specs.Signature.{exp_count}
 use Rattle.pi_syntax.specs.declared.exp.Exp as e
 use Rattle.pi_syntax.specs.declared.exp.Exp.{Exp}
@@ -228,15 +228,15 @@ held-some p exp b old new is h = h ∙ ap (λ o. placed_if p (held_exp o) ++ old
 
 -- ---- of a clause
 
-pub clause-rule : (r : RuleClause) (old mid new : List Placed) → mid ≡ placed (goal true) (exp_tree r.body) ++ old → new ≡ placed_if test (option_map exp_tree r.cond) ++ mid
+pub clause-rule : (r : RuleClause) (old mid new : List Placed) → mid ≡ placed (goal true) (exp_tree r.body) ++ old → new ≡ placed_if test (option_map exp_tree (cond_between r.between)) ++ mid
     → new ≡ clause_placed (rule (rule_tree r)) ++ old
-clause-rule r old mid new h k = join (placed_if test (option_map exp_tree r.cond)) (placed (goal true) (exp_tree r.body)) old mid new h k
+clause-rule r old mid new h k = join (placed_if test (option_map exp_tree (cond_between r.between))) (placed (goal true) (exp_tree r.body)) old mid new h k
 
-pub clause-function : (f : FunctionClause) (old mid later new : List Placed) → mid ≡ placed_if (goal true) (option_map exp_tree f.body) ++ old → later ≡ placed_if test (option_map exp_tree f.cond) ++ mid
+pub clause-function : (f : FunctionClause) (old mid later new : List Placed) → mid ≡ placed_if (goal true) (option_map exp_tree (body_behind f.behind)) ++ old → later ≡ placed_if test (option_map exp_tree (cond_behind f.behind)) ++ mid
     → new ≡ placed expression (exp_tree f.value) ++ later → new ≡ clause_placed (function (function_tree f)) ++ old
 clause-function f old mid later new h k l =
-    let cond : List Placed = placed_if test (option_map exp_tree f.cond) in
-    let end : List Placed = placed_if (goal true) (option_map exp_tree f.body) in
+    let cond : List Placed = placed_if test (option_map exp_tree (cond_behind f.behind)) in
+    let end : List Placed = placed_if (goal true) (option_map exp_tree (body_behind f.behind)) in
     join (placed expression (exp_tree f.value)) (cond ++ end) old later new (join cond end old mid later h k) l
 
 pub clause-fact : (c : Clause) (head : Box Exp Global) (ps : List Placed) → c ≡ Clause.Fact head → ps ≡ clause_placed (written_clause c) ++ ps

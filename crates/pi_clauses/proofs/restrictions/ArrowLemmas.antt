@@ -6,7 +6,7 @@ use Rattle.std.specs.declared.alloc.Global.{Global}
 use Rattle.std.specs.declared.boxed.Box.{Box}
 use Rattle.pi_syntax.specs.ExpLists.{exps_of}
 use Rattle.pi_syntax.specs.ExpTree.{ExpTree, ExpTrees, exp_tree}
-use Rattle.pi_syntax.specs.ProgramTree.{WrittenClause, fact, written_clause}
+use Rattle.pi_syntax.specs.ProgramTree.{WrittenClause, fact, events_between, written_clause}
 use Rattle.pi_syntax.specs.declared.exp.Exp.{Exp}
 use Rattle.pi_syntax.specs.declared.program.Clause.{Clause}
 use Rattle.pi_syntax.specs.declared.program.FunctionClause.{FunctionClause}
@@ -75,10 +75,10 @@ rule_by c head events o true (Some es) is shown = ap (λ x. o || are_bad_events 
 rule_by c head events o false (Some es) is shown = absurd (cc)
 
 rule_events : (c : Clause) (boxed : Box RuleClause Global) (es : Option ExpTrees) (has : Bool) → c ≡ Clause.Rule boxed → has ≡ is_some es
-    → ShowsEvents c es → has ≡ true → es ≡ Some (exps_of boxed.value.events.items)
+    → ShowsEvents c es → has ≡ true → es ≡ Some (exps_of (events_between boxed.value.between))
 rule_events c boxed None has is some shows holds = absurd (cc)
 rule_events c boxed (Some es) has is some shows holds =
-    let same : exps_of boxed.value.events.items ≡ es = subst (λ x. ShowsEvents x (Some es)) is shows in ap (λ x. Some x) (sym same)
+    let same : exps_of (events_between boxed.value.between) ≡ es = subst (λ x. ShowsEvents x (Some es)) is shows in ap (λ x. Some x) (sym same)
 
 -- events beside the arrow `=>`
 pub action_events : (has back bad : Bool) → has ≡ true → back ≡ false → bad ≡ (has && (back || bad))
@@ -87,12 +87,12 @@ action_events true true bad h k = absurd (cc)
 action_events false back bad h k = absurd (cc)
 
 pub rule_arrow : (f : FormedClause) (boxed : Box RuleClause Global) (r : RuleClause) (bad : Bool) → f.clause ≡ Clause.Rule boxed → r ≡ boxed.value
-    → bad ≡ (f.has_events && (f.is_open || are_bad_events (exp_tree r.head) (Some (exps_of r.events.items)))) → (s : Shape) → IsFormed f s → bad ≡ bad_arrow s
+    → bad ≡ (f.has_events && (f.is_open || are_bad_events (exp_tree r.head) (Some (exps_of (events_between r.between))))) → (s : Shape) → IsFormed f s → bad ≡ bad_arrow s
 rule_arrow f boxed r bad is rule_is answer s formed =
     let clause : clause_of s ≡ written_clause (Clause.Rule boxed) = sym formed.clause ∙ ap written_clause is in
     let head : ExpTree = exp_tree boxed.value.head in
-    answer ∙ ap (λ (x : RuleClause). f.has_events && (f.is_open || are_bad_events (exp_tree x.head) (Some (exps_of x.events.items)))) rule_is
-    ∙ rule_by f.clause head boxed.value.events.items f.is_open f.has_events (shape_events s) formed.has_events (rule_events f.clause boxed (shape_events s) f.has_events is formed.has_events formed.events)
+    answer ∙ ap (λ (x : RuleClause). f.has_events && (f.is_open || are_bad_events (exp_tree x.head) (Some (exps_of (events_between x.between))))) rule_is
+    ∙ rule_by f.clause head (events_between boxed.value.between) f.is_open f.has_events (shape_events s) formed.has_events (rule_events f.clause boxed (shape_events s) f.has_events is formed.has_events formed.events)
     ∙ ap (λ x. arrow_by false head x (shape_events s)) formed.open_arrow
     ∙ ap (λ x. arrow_by false x (is_open s) (shape_events s)) (sym (ap head_of clause))
     ∙ ap (λ x. arrow_by x (head_of (clause_of s)) (is_open s) (shape_events s)) (sym (ap is_function clause))

@@ -1,5 +1,5 @@
 //! The nodes of a clause's expressions with the places at which they stand, in the order of the text.
-ghost use Rattle.std.specs.Prelude.{◌≡◌, ◌∷◌, ◌++◌, [], true, IfOk, OnOk, MatchOption, length, option_map};
+ghost use Rattle.std.specs.Prelude.{◌≡◌, ◌∷◌, ◌++◌, [], true, IfOk, OnOk, MatchOption, length, option_map, option_copied};
 ghost use Rattle.pi_syntax.specs.ExpTree.{exp_tree};
 ghost use Rattle.pi_syntax.specs.ProgramTree as tree;
 ghost use Rattle.pi_syntax.specs.ProgramTree.{written_clause};
@@ -99,14 +99,14 @@ impl<'a> Walk<'a> {
         ensures { OnOk result (nodes_ahead self.new ≡ clause_placed (tree.rule (tree.rule_tree rule.now)) ++ nodes_ahead self.old) }
     {
         self.push(Place::Goal { assigns: true }, &rule.body)
-            .and(self.push_optional(TEST, &rule.cond))
+            .and(self.push_optional(TEST, rule.cond()))
     }
 
     fn push_function(&mut self, function: &'a FunctionClause) -> Result<(), AllocError>
         ensures { OnOk result (nodes_ahead self.new ≡ clause_placed (tree.function (tree.function_tree function.now)) ++ nodes_ahead self.old) }
     {
-        self.push_optional(Place::Goal { assigns: true }, &function.body)
-            .and(self.push_optional(TEST, &function.cond))
+        self.push_optional(Place::Goal { assigns: true }, function.body())
+            .and(self.push_optional(TEST, function.cond()))
             .and(self.push(Place::Expression, &function.value))
     }
 
@@ -137,8 +137,8 @@ impl<'a> Walk<'a> {
         Ok(())
     }
 
-    fn push_optional(&mut self, place: Place, exp: &'a Option<Exp>) -> Result<(), AllocError>
-        ensures { OnOk result (nodes_ahead self.new ≡ placed_if (shown_place place) (option_map exp_tree exp.now) ++ nodes_ahead self.old) }
+    fn push_optional(&mut self, place: Place, exp: Option<&'a Exp>) -> Result<(), AllocError>
+        ensures { OnOk result (nodes_ahead self.new ≡ placed_if (shown_place place) (option_map exp_tree (option_copied exp.entry)) ++ nodes_ahead self.old) }
     {
         match exp {
             Some(exp) => self.push(place, exp),

@@ -9,4 +9,4 @@ use Rattle.pi_clauses.proofs.restrictions.has_bad_action.Goals as goal
 pub returns : goal.returns
 returns c =
     IfOk-weaker c.has_bad_events.result _ _
-    (λ made so. so ∙ ap (λ xs. are_bad_events (exp_tree c.args.rule.now.head) (Some (exps_of xs))) c.as_slice.ensures.value ∙ action_events _ _ _ c.if-not-has_events.false c.if-is_open.false) c.has_bad_events.ensures
+    (λ made so. so ∙ ap (λ xs. are_bad_events (exp_tree c.args.rule.now.head) (Some (exps_of xs))) c.events.ensures ∙ action_events _ _ _ c.if-not-has_events.false c.if-is_open.false) c.has_bad_events.ensures

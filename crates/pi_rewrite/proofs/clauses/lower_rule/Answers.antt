@@ -20,7 +20,7 @@ returns-clause-is c =
     c.new-slots.result c.begin.new.slots c.guarded.new.slots c.lower_body.new.slots (site_of begun.site) (site_of c.guarded.new.site) c.new-slots.ensures c.in_ok-begun.ensures.patterns c.in_ok-begun.ensures.slots
     (rule-site-is r (own_name c.args.from.naming.now.prefix) c.args.from.count (length c.begin.new.slots) c.begin.new.slots (site_of begun.site)
     (c.in_ok-begun.ensures.slots ∙ ap (λ ns. (slot_patterns (head_arguments r.head) ns).names) c.new-slots.ensures) refl c.in_ok-begun.ensures.site)
-    c.in_ok-guard.ensures.is c.in_ok-guard.ensures.slots c.in_ok-guard.ensures.site refl c.new.ensures c.in_ok-body.ensures.is c.in_ok-body.ensures.slots refl c.in_ok-count.ensures
+    (rw c.cond.ensures at c.in_ok-guard.ensures.is) (rw c.cond.ensures at c.in_ok-guard.ensures.slots) (rw c.cond.ensures at c.in_ok-guard.ensures.site) refl c.new.ensures c.in_ok-body.ensures.is c.in_ok-body.ensures.slots refl c.in_ok-count.ensures
 
 pub returns-clause-helpers : goal.returns-clause-helpers
 returns-clause-helpers c =
@@ -30,5 +30,5 @@ returns-clause-helpers c =
     rule-site-is r (own_name c.args.from.naming.now.prefix) c.args.from.count (length c.begin.new.slots) c.begin.new.slots (site_of begun.site)
     (c.in_ok-begun.ensures.slots ∙ ap (λ ns. (slot_patterns (head_arguments r.head) ns).names) c.new-slots.ensures) refl c.in_ok-begun.ensures.site in
     two-behind (map pred_tree c.args.helpers.now.items) (map pred_tree c.guarded.new.helpers.items) (map pred_tree c.lower_body.new.helpers.items) _ _
-    (option_helpers (site_of begun.site) r.cond) (goal_helpers (site_of c.guarded.new.site) r.body) c.in_ok-guard.ensures.helpers c.in_ok-body.ensures.helpers
-    (ap (λ (s : Site). option_helpers s r.cond) here) (ap (λ (s : Site). goal_helpers s r.body) (c.in_ok-guard.ensures.site ∙ ap (λ (s : Site). behind_option s r.cond) here))
+    (option_helpers (site_of begun.site) r.cond) (goal_helpers (site_of c.guarded.new.site) r.body) (rw c.cond.ensures at c.in_ok-guard.ensures.helpers) c.in_ok-body.ensures.helpers
+    (ap (λ (s : Site). option_helpers s r.cond) here) (ap (λ (s : Site). goal_helpers s r.body) ((rw c.cond.ensures at c.in_ok-guard.ensures.site) ∙ ap (λ (s : Site). behind_option s r.cond) here))
