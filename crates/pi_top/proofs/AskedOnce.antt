@@ -1,5 +1,5 @@
 -- A program's text is asked goals or a line says why not, and so is a goal's text, each in one way.
-use Rattle.std.proofs.Common.{◌≡◌, ℕ, List, Option, None, Some, sym, ap, subst, ◌∙◌, true≢false}
+use Rattle.std.proofs.Common.{◌≡◌, ℕ, List, sym, ap, ◌∙◌, true≢false}
 use Rattle.pi_syntax.specs.ExpTree.{ExpTree}
 use Rattle.pi_syntax.specs.ProgramTree.{ProgramTree}
 use Rattle.pi_sound.specs.Built.{unbuilt_part, is_built_goal}

@@ -1,5 +1,5 @@
 -- What a request of a session's query comes to, over the names of its goal.
-use Rattle.std.proofs.Common.{◌<◌, ◌≤◌, ℕ, List, [], sym, ◌∙◌, arith}
+use Rattle.std.proofs.Common.{◌<◌, ◌≤◌, ℕ, List, [], ◌++◌, refl, sym, ◌∙◌, arith}
 use Rattle.pi_outside.specs.Writes.{SinkWrite}
 use Rattle.pi_core.specs.CoreTree.{PredTree, QueryTree}
 use Rattle.pi_syntax.specs.ExpTree.{ExpTree}
@@ -13,6 +13,9 @@ use Rattle.pi_rewrite.specs.Laws.{RunsTheSame}
 use Rattle.pi_top.specs.declared.manner.Manner.{Manner}
 use Rattle.pi_top.specs.Serving.{QuerySoFar, QueryEnded, QueryCutOff, requested}
 use Rattle.pi_top.specs.PresentCode.{CanAnswer}
+use Rattle.pi_top.specs.Printing.{print}
+use Rattle.pi_top.specs.QueryEnd.{status_of}
+use Rattle.pi_top.specs.ToldLines.{end_lines}
 use Rattle.pi_top.specs.Turn.{EndsAt, IsCutAt}
 use Rattle.pi_top.proofs.OverNames.{told, told-prints, told-ticks, told-last, told-ends, told-cut, part-over-names}
 use Rattle.pi_top.proofs.QueryRuns.{HasPart, has-part}
@@ -36,12 +39,18 @@ so-far-over-names manner program goal preds q m b given writes is can some =
 pub ended-over-names : (manner : Manner) (program : ProgramTree) (goal : ExpTree) (preds : List PredTree) (q : QueryTree) (requests ticks : ℕ) (writes : List SinkWrite) →
     RunsTheSame program goal preds q → EndsAt manner.lines manner.answers requests manner.steps preds q ticks writes → QueryEnded manner program goal [] requests ticks writes
 ended-over-names manner program goal preds q requests ticks writes is has = record {
-  run = told_cut (solution_told q.names) has.run;
-  part = told q.names has.part;
-  is_part = part-over-names program goal preds q manner.steps has.run has.part is has.is_part;
-  ticks_in_it = has.ticks_in_it ∙ sym (told-ticks q.names has.part);
-  ending = has.ending;
-  ends = told-ends q.names requests has.part has.run has.ending has.ends;
+  status = status_of has.ending;
+  texts = print manner.lines (told q.names has.part) ++ end_lines manner.lines has.ending;
+  headline = record {
+    run = told_cut (solution_told q.names) has.run;
+    part = told q.names has.part;
+    is_part = part-over-names program goal preds q manner.steps has.run has.part is has.is_part;
+    ticks_in_it = has.ticks_in_it ∙ sym (told-ticks q.names has.part);
+    ending = has.ending;
+    ends = told-ends q.names requests has.part has.run has.ending has.ends;
+    its_status = refl;
+    written = refl;
+  };
   at_limit = has.at_limit;
   written = rw (told-prints manner.lines q.names has.part) has.written;
 }

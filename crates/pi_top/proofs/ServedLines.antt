@@ -95,13 +95,6 @@ pub goal-served : {S M : Type 0} (seen : S → StoreView M) (order : M → ℕ) 
 goal-served seen order manner program core q present text r old new writes is comes =
     serves-first seen order manner program core q present text is.goal r old new writes is.asks is.lowered.runs comes
 
--- that was begun without an answer
-pub goal-begun : {S M : Type 0} (seen : S → StoreView M) (order : M → ℕ) (manner : Manner) (program : ProgramTree) (core : List PredTree) (q : QueryTree) (present : Present) (text : List ℕ) (given : ℕ)
-    (r : Result (Option (PresentRun S M)) Stop) (old new : List QueryRun) (writes : List SinkWrite) → IsAskedOf program core text q → given ≡ 0 → AnswerComes seen order manner core q given old r new writes →
-    ServesTo seen order manner program core present (a_goal text) r old new writes
-goal-begun seen order manner program core q present text given r old new writes is none comes =
-    goal-served seen order manner program core q present text r old new writes is (subst (λ n. AnswerComes seen order manner core q n old r new writes) none comes)
-
 -- what a line asks was served
 pub asked-served : {S M : Type 0} (seen : S → StoreView M) (order : M → ℕ) (manner : Manner) (program : ProgramTree) (core : List PredTree) (present : Present) (asked it : Asked) (r : Result (Option (PresentRun S M)) Stop)
     (old new : List QueryRun) (writes : List SinkWrite) → asked ≡ it → ServesTo seen order manner program core present it r old new writes → ServesTo seen order manner program core present asked r old new writes

@@ -84,7 +84,9 @@ so-far-one manner program goal log requests ticks others writes more a b =
 
 ended-one : (manner : Manner) (program : ProgramTree) (goal : ExpTree) (log : List LogEntry) (requests ticks others : ℕ) (writes more : List SinkWrite) → QueryEnded manner program goal log requests ticks writes →
     QueryEnded manner program goal log requests others more → AreSame ticks others writes more
-ended-one manner program goal log requests ticks others writes more a b =
+ended-one manner program goal log requests ticks others writes more x y =
+    let a = x.headline in
+    let b = y.headline in
     let run : a.run ≡ b.run = one-run program goal log manner.steps a.run b.run a.part b.part a.is_part b.is_part in
     let begins : IsPrefix b.part a.run.events = rw (← run) at b.is_part.begins in
     let ends : Ends requests b.part a.run b.ending = rw (← run) at b.ends in
@@ -93,8 +95,8 @@ ended-one manner program goal log requests ticks others writes more a b =
     let ending : a.ending ≡ b.ending = ending-is-one requests a.part a.run a.ending b.ending a.ends (subst (λ p. Ends requests p a.run b.ending) (sym part) ends) in
     record {
       same_ticks = a.ticks_in_it ∙ ap count_ticks part ∙ sym b.ticks_in_it;
-      same_bytes = same-handed (print manner.lines a.part ++ end_lines manner.lines a.ending) (print manner.lines b.part ++ end_lines manner.lines b.ending) writes more
-          (ap (λ p. print manner.lines p ++ end_lines manner.lines a.ending) part ∙ ap (λ e. print manner.lines b.part ++ end_lines manner.lines e) ending) a.written b.written;
+      same_bytes = same-handed x.texts y.texts writes more
+          (a.written ∙ ap (λ p. print manner.lines p ++ end_lines manner.lines a.ending) part ∙ ap (λ e. print manner.lines b.part ++ end_lines manner.lines e) ending ∙ sym b.written) x.written y.written;
     }
 
 no-end-yet : {X : Type 0} (answers requests : ℕ) (part other : List (Emitted Told)) (run : Cut Told) (ending : QueryEnd) → requests < answers → IsPrefix part run.events → EndsWithLast requests part →
@@ -108,9 +110,10 @@ no-end-yet answers requests part other run StepsSpent fewer begins last limit is
 -- a query that goes on hasn't ended
 so-far-no-end : {X : Type 0} (manner : Manner) (program : ProgramTree) (goal : ExpTree) (log : List LogEntry) (requests ticks others : ℕ) (writes more : List SinkWrite) → QuerySoFar manner program goal log requests ticks writes →
     QueryEnded manner program goal log requests others more → X
-so-far-no-end manner program goal log requests ticks others writes more a b =
+so-far-no-end manner program goal log requests ticks others writes more a y =
+    let b = y.headline in
     let run : a.run ≡ b.run = one-run program goal log manner.steps a.run b.run a.part b.part a.is_part b.is_part in
-    no-end-yet manner.answers requests a.part b.part a.run b.ending a.fewer a.is_part.begins a.last b.at_limit (rw (← run) at b.ends)
+    no-end-yet manner.answers requests a.part b.part a.run b.ending a.fewer a.is_part.begins a.last y.at_limit (rw (← run) at b.ends)
 
 -- ---- a line
 

@@ -1,5 +1,5 @@
 -- A request of a session's query: what it comes to at its end, and where as many answers were written as are asked for.
-use Rattle.std.proofs.Common.{◌≡◌, ◌<◌, ℕ, ◌+◌, List, ◌++◌, Ok, subst, arith}
+use Rattle.std.proofs.Common.{◌≡◌, ◌<◌, ℕ, ◌+◌, List, [], ◌++◌, Ok, subst, arith}
 use Rattle.pi_outside.specs.Writes.{SinkWrite}
 use Rattle.pi_core.specs.CoreTree.{PredTree, QueryTree}
 use Rattle.pi_print.specs.PrintAnswer.{answer_lines}
@@ -8,13 +8,25 @@ use Rattle.pi_meaning.specs.declared.happening.Budget.{Budget}
 use Rattle.pi_meaning.specs.declared.happening.Happening.{Happening}
 use Rattle.pi_engine.specs.Seen.{MachineView}
 use Rattle.pi_top.specs.declared.manner.Lines.{Lines}
+use Rattle.pi_top.specs.declared.manner.Manner.{Manner}
 use Rattle.pi_top.specs.Handing.{HandsAll}
 use Rattle.pi_top.specs.QueryEnd.{QueryEnd, EndsWithLast, Ends}
-use Rattle.pi_top.specs.Running.{IsQueryPart, HowQueryIsCut, QueryIsCut, IsCutBehind, IsWritten, IsNext, ComesTo}
+use Rattle.pi_top.specs.PresentCode.{CanAnswer}
+use Rattle.pi_top.specs.Running.{IsQueryPart, HowQueryIsCut, QueryIsCut, IsCutBehind, IsAtStart, IsWritten, IsNext, ComesTo}
 use Rattle.pi_top.specs.ToldLines.{where_told}
 use Rattle.pi_top.specs.Turn.{EndsAt, IsCutAt}
-use Rattle.pi_top.proofs.QueryRuns.{written-answer}
+use Rattle.pi_top.proofs.QueryRuns.{written-start, written-answer}
 use Rattle.pi_top.proofs.QueryEndings.{EndsBehind}
+
+-- a query that begins may be asked for its first answer
+pub can-start : {M : Type 0} (manner : Manner) (m : MachineView M) (b : Budget) (program : List PredTree) (q : QueryTree) → IsAtStart m b manner.answers program q → b.steps ≡ manner.steps → CanAnswer manner program q m b 0 []
+can-start manner m b program q start its_steps = record {
+  written = written-start manner.lines m b manner.answers program q start;
+  runnable = start.runnable;
+  fewer = start.asked;
+  its_steps = its_steps;
+  workless = start.workless;
+}
 
 -- what comes next is an answer, and its lines were written
 pub next-answer : {M : Type 0} (lines : Lines) (n : MachineView M) (c : Budget) (given : ℕ) (program : List PredTree) (q : QueryTree) (happening : Happening) (a : Answer) (before its : List SinkWrite) →

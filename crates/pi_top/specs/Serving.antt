@@ -13,11 +13,10 @@ use Rattle.pi_top.specs.declared.manner.Manner.{Manner}
 use Rattle.pi_top.specs.declared.runs.QueryRun.{QueryRun}
 use Rattle.pi_top.specs.Asking.{AsksOf, RefusesOf}
 use Rattle.pi_top.specs.Handing.{Hands, HandsAll, FailsIn}
-use Rattle.pi_top.specs.Headline.{IsPart, HowCut}
+use Rattle.pi_top.specs.Headline.{IsPart, Headline, HowCut}
 use Rattle.pi_top.specs.Printing.{print}
-use Rattle.pi_top.specs.QueryEnd.{QueryEnd, Stopped, EndsWithLast, Ends}
+use Rattle.pi_top.specs.QueryEnd.{Stopped, EndsWithLast}
 use Rattle.pi_top.specs.Runs.{run_of}
-use Rattle.pi_top.specs.ToldLines.{end_lines}
 
 abbrev pub no_query_line : List ℕ
 no_query_line = codes "no query\n"
@@ -43,20 +42,17 @@ pub record QuerySoFar (manner : Manner) (program : ProgramTree) (goal : ExpTree)
   pub fewer : requests < manner.answers
   pub written : HandsAll (print manner.lines part) writes
 
--- At its last request a query ended, and the line of its end is written. It is stopped where as many answers were written as are asked for.
-pub record QueryEnded (manner : Manner) (program : ProgramTree) (goal : ExpTree) (log : List LogEntry) (requests ticks : ℕ) (writes : List SinkWrite) : Type 0 where
-  pub run : Cut Told
-  pub part : List (Emitted Told)
-  pub is_part : IsPart program goal log manner.steps run part
-  pub ticks_in_it : ticks ≡ count_ticks part
-  pub ending : QueryEnd
-  pub ends : Ends requests part run ending
-  pub at_limit : ending ≡ Stopped → requests ≡ manner.answers
-  pub written : HandsAll (print manner.lines part ++ end_lines manner.lines ending) writes
-
 -- of so many requests of a query
 abbrev pub requested : Manner → ℕ → Manner
 requested manner requests = record manner { answers = requests }
+
+-- At its last request a query ended: what was said of a goal that is asked holds with its requests in place of all answers that are asked for, and its writes hand over these texts. It is stopped where as many answers were written as are asked for.
+pub record QueryEnded (manner : Manner) (program : ProgramTree) (goal : ExpTree) (log : List LogEntry) (requests ticks : ℕ) (writes : List SinkWrite) : Type 0 where
+  pub status : ℕ
+  pub texts : List (List ℕ)
+  pub headline : Headline (requested manner requests) program goal log ticks status texts
+  pub at_limit : headline.ending ≡ Stopped → requests ≡ manner.answers
+  pub written : HandsAll texts writes
 
 -- A query was cut off within the last of so many requests, and so it was with all answers that are asked for in place of these requests. One part of its run for both, so the line whose write failed is no `stopped` that comes too early.
 pub record QueryCutOff (manner : Manner) (program : ProgramTree) (goal : ExpTree) (log : List LogEntry) (requests ticks status : ℕ) (writes : List SinkWrite) : Type 0 where

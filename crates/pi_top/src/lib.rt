@@ -18,6 +18,7 @@ pub mod query;
 pub mod runs;
 pub mod session;
 pub mod session_file;
+pub mod starting;
 mod top;
 
 pub use demo::demo_text;

@@ -21,9 +21,10 @@ ghost use Rattle.pi_top.specs.Writing.{Writes, WritesEnd};
 use crate::handed::write_text;
 use crate::manner::{Lines, Manner};
 use crate::runs::{Queries, QueryRun};
+use crate::starting::{Begun, begin};
 use pi_constraints::StateStore;
-use pi_core::{Answer, CoreProgram, CoreQuery, Work};
-use pi_engine::{Budget, Happening, Machine, Mode};
+use pi_core::{Answer, CoreProgram, CoreQuery};
+use pi_engine::{Budget, Happening, Machine};
 use pi_outside::{Failed, Sink};
 use pi_print::{answer_text, term_text};
 use pi_raw_store::RawStore;
@@ -89,18 +90,11 @@ fn run_over<S: StateStore, O: Sink>(
     ensures comes { ByWrites O.wrote O.taken out.old out.new (λ writes. (S.seen store).now.state ≡ empty_state → IsRunnable (program_tree core.now) (query_tree query) → 0 < manner.now.answers
         → HasRun manner.now.lines manner.now.answers manner.now.steps (program_tree core.now) (query_tree query) queries.old queries.new result writes) }
 {
-    let Ok(mut machine) = Machine::new(alloc, core, query, store, Mode::Top) else {
-        return Err(Stop::Memory);
-    };
-    let mut budget = Budget {
-        ticks: 0,
-        steps: manner.steps,
-        work: Work::NONE,
-        limit: manner.work,
-    };
-    let Ok(()) = queries.push(run_of(&budget)) else {
-        return Err(Stop::Memory);
-    };
+    let begun = begin(alloc, core, query, store, manner, queries)?;
+    let Begun {
+        mut machine,
+        mut budget,
+    } = begun;
     let status = write_answers(alloc, &mut machine, &mut budget, manner, out);
     queries.set_last(run_of(&budget));
     status

@@ -1,21 +1,17 @@
 //! The mode `session`: the lines of an input are served one after the other.
-ghost use Rattle.std.specs.Prelude.{◌≡◌, ◌<◌, [], ◌∷◌, ◌++◌, IfOk, IfErr, OnOk, OnErr};
-ghost use Rattle.pi_core.specs.CoreTree.{program_tree, query_tree};
+ghost use Rattle.std.specs.Prelude.{◌≡◌, ◌<◌, [], IfOk};
+ghost use Rattle.pi_core.specs.CoreTree.{program_tree};
 ghost use Rattle.pi_outside.specs.Faults.{Rose};
 ghost use Rattle.pi_outside.specs.Given.{IsSpent};
 ghost use Rattle.pi_outside.specs.Inputs.{ByInput};
 ghost use Rattle.pi_outside.specs.Writes.{ByWrites};
 ghost use Rattle.pi_syntax.specs.ProgramTree.{source_tree};
-ghost use Rattle.pi_constraints.specs.State.{empty_state};
-ghost use Rattle.pi_meaning.specs.Built.{IsRunnable};
-ghost use Rattle.pi_engine.specs.Seen.{machine_view};
 ghost use Rattle.pi_outside.specs.Requests.{request_of as asked_by_line, another, a_goal};
-ghost use Rattle.pi_top.specs.declared.query.Stop.TheVariants.{Memory};
 ghost use Rattle.pi_top.specs.Faults.{TellsWrites, counted};
-ghost use Rattle.pi_top.specs.Runs.{AllWithin, run_of as run_of_ticks};
+ghost use Rattle.pi_top.specs.Runs.{AllWithin};
 ghost use Rattle.pi_top.specs.Serving.{Present as PresentQuery};
 ghost use Rattle.pi_top.specs.AskingCode.{MayBeAsked};
-ghost use Rattle.pi_top.specs.PresentCode.{IsInBudget, IsBounded, CanAnswer};
+ghost use Rattle.pi_top.specs.PresentCode.{IsBounded};
 ghost use Rattle.pi_top.specs.ServingCode.{Keeps, ServesTo};
 ghost use Rattle.pi_top.specs.SessionCode.{AnswersSession};
 
@@ -24,11 +20,11 @@ use crate::handed::{READ_FAULT, write_text};
 use crate::lines::{INPUT_TOO_LONG, LINE_TOO_LONG, NO_QUERY};
 use crate::manner::Manner;
 use crate::present::{Present, answer};
-use crate::query::{Stop, ended, run_of};
+use crate::query::{Stop, ended};
 use crate::runs::Queries;
+use crate::starting::begin;
 use pi_constraints::StateStore;
-use pi_core::{CoreProgram, CoreQuery, Work};
-use pi_engine::{Budget, Machine, Mode};
+use pi_core::CoreProgram;
 use pi_outside::{Found, KEPT_LINE, LineReader, LineStop, Request, Sink, Source, request_of};
 use pi_raw_store::RawStore;
 use pi_syntax::Program;
@@ -167,43 +163,14 @@ impl<'p> Session<'p> {
             }
             GoalJudged::Asks(query) => {
                 let store = RawStore::new(self.alloc, Words::new(self.alloc));
-                let present = self.begin(query, store, queries)?;
+                let begun = begin(self.alloc, self.core, query, store, &self.manner, queries)?;
+                let present = Present {
+                    machine: begun.machine,
+                    budget: begun.budget,
+                    given: 0,
+                };
                 answer(self.alloc, present, &self.manner, out, queries)
             }
         }
-    }
-
-    /// A query that is asked over a store, and listed. No answer of it was written.
-    fn begin<S: StateStore>(
-        &self,
-        query: CoreQuery,
-        store: S,
-        queries: &mut Queries,
-    ) -> Result<Present<'p, S>, Stop>
-        ensures begins { IfOk result (λ present. (S.seen store).now.state ≡ empty_state → IsRunnable (program_tree self.now.core.now) (query_tree query) → 0 < self.now.manner.answers
-            → CanAnswer self.now.manner (program_tree self.now.core.now) (query_tree query) (machine_view S.seen S.order present.machine) present.budget present.given []) }
-        ensures none_given { IfOk result (λ present. present.given ≡ 0) }
-        ensures bounded { IfOk result (λ present. IsInBudget self.now.manner.steps present.budget) }
-        ensures listed { OnOk result (queries.new ≡ queries.old ++ run_of_ticks 0 ∷ []) }
-        ensures unlisted { OnErr result (queries.new ≡ queries.old) }
-        ensures memory { IfErr result (λ stop. stop ≡ Memory) }
-    {
-        let Ok(machine) = Machine::new(self.alloc, self.core, query, store, Mode::Top) else {
-            return Err(Stop::Memory);
-        };
-        let budget = Budget {
-            ticks: 0,
-            steps: self.manner.steps,
-            work: Work::NONE,
-            limit: self.manner.work,
-        };
-        let Ok(()) = queries.push(run_of(&budget)) else {
-            return Err(Stop::Memory);
-        };
-        Ok(Present {
-            machine,
-            budget,
-            given: 0,
-        })
     }
 }

@@ -13,7 +13,8 @@ use Rattle.pi_top.proofs.Runnable.{lowered-runnable}
 use Rattle.pi_top.specs.Asking.{RefusesOf}
 use Rattle.pi_top.specs.AskingCode.{IsAskedOf}
 use Rattle.pi_top.specs.Serving.{CutServing}
-use Rattle.pi_top.proofs.ServedLines.{refusal-served, refusal-cut, goal-begun}
+use Rattle.pi_top.proofs.ServedLines.{refusal-served, refusal-cut, goal-served}
+use Rattle.pi_top.proofs.TurnRuns.{can-start}
 use Rattle.pi_top.proofs.session.Session.ask.Goals as goal
 
 pub returns-in_err-judged-clause-comes : goal.returns-in_err-judged-clause-comes
@@ -42,35 +43,35 @@ returns-in_ok-write_text-in-Refused-clause-comes g c =
     let is : RefusesOf program c.args.text.now line = rw c.in-Refused.is at (c.in_ok-judged.ensures may) in
     refusal-served _ _ session.manner program (program_tree session.core.now) query c.args.text.now line c.args.queries.now writes is (subst (λ (l : List ℕ). Hands l writes) c.as_str.ensures.value hands))
 
-pub returns-in_err-present-in-Asks-clause-comes : goal.returns-in_err-present-in-Asks-clause-comes
-returns-in_err-present-in-Asks-clause-comes g c =
+pub returns-in_err-begun-in-Asks-clause-comes : goal.returns-in_err-begun-in-Asks-clause-comes
+returns-in_err-begun-in-Asks-clause-comes g c =
     let session = c.args.self.now in
-    let begun = c.in_err-present-in-Asks.ensures in
-    let p = err_from_is_err_and c.from_residual-in_err-present-in-Asks.result c.from_residual-in_err-present-in-Asks.ensures.1 in
-    let same : p.0 ≡ c.in_err-present-in-Asks.field-0.0 = p.2 in
+    let begun = c.in_err-begun-in-Asks.ensures in
+    let p = err_from_is_err_and c.from_residual-in_err-begun-in-Asks.result c.from_residual-in_err-begun-in-Asks.ensures.1 in
+    let same : p.0 ≡ c.in_err-begun-in-Asks.field-0.0 = p.2 in
     rw (p.1, same, begun.memory, begun.unlisted) (ByWrites-none g.O.Sink.wrote g.O.Sink.taken c.args.out.now _ (λ query may some. CutServing.undone query (a_goal c.args.text.now) c.args.queries.now))
 
-pub returns-in_ok-present-in-Asks-clause-comes : goal.returns-in_ok-present-in-Asks-clause-comes
-returns-in_ok-present-in-Asks-clause-comes g c =
+pub returns-in_ok-begun-in-Asks-clause-comes : goal.returns-in_ok-begun-in-Asks-clause-comes
+returns-in_ok-begun-in-Asks-clause-comes g c =
     let session = c.args.self.now in
     let program = source_tree session.program.now in
     let core = program_tree session.core.now in
     let q = query_tree c.in-Asks.query in
     let old = c.args.queries.now in
-    let begun = c.in_ok-present-in-Asks.ensures in
+    let begun = c.in_ok-begun-in-Asks.ensures in
     ByWrites-so c.answer.ensures.comes (λ writes comes. λ query may some.
     let is : IsAskedOf program core c.args.text.now q = rw c.in-Asks.is at (c.in_ok-judged.ensures may) in
-    goal-begun _ _ session.manner program core q query c.args.text.now c.in_ok-present-in-Asks.present.given c.answer.result old c.answer.new.queries writes is begun.none_given
-    (comes [] core q old (run_of 0) begun.listed (begun.begins c.new-store.ensures (lowered-runnable program is.goal core q is.lowered) some)))
+    goal-served _ _ session.manner program core q query c.args.text.now c.answer.result old c.answer.new.queries writes is
+    (comes [] core q old (run_of 0) begun.listed (can-start session.manner _ _ core q (begun.starts c.new-store.ensures (lowered-runnable program is.goal core q is.lowered) some) begun.bounded.its_steps)))
 
-pub returns-in_err-present-in-Asks-clause-ran : goal.returns-in_err-present-in-Asks-clause-ran
-returns-in_err-present-in-Asks-clause-ran g c = λ all. rw c.in_err-present-in-Asks.ensures.unlisted all
+pub returns-in_err-begun-in-Asks-clause-ran : goal.returns-in_err-begun-in-Asks-clause-ran
+returns-in_err-begun-in-Asks-clause-ran g c = λ all. rw c.in_err-begun-in-Asks.ensures.unlisted all
 
-pub returns-in_ok-present-in-Asks-clause-ran : goal.returns-in_ok-present-in-Asks-clause-ran
-returns-in_ok-present-in-Asks-clause-ran g c =
+pub returns-in_ok-begun-in-Asks-clause-ran : goal.returns-in_ok-begun-in-Asks-clause-ran
+returns-in_ok-begun-in-Asks-clause-ran g c =
     let steps = c.args.self.now.manner.steps in
-    let begun = c.in_ok-present-in-Asks.ensures in
+    let begun = c.in_ok-begun-in-Asks.ensures in
     λ all. c.answer.ensures.ran begun.bounded (rw begun.listed (AllWithin-push steps c.args.queries.now (run_of 0) (omega arith) all))
 
-pub returns-in_ok-present-in-Asks-clause-bounded : goal.returns-in_ok-present-in-Asks-clause-bounded
-returns-in_ok-present-in-Asks-clause-bounded g c = c.answer.ensures.bounded c.in_ok-present-in-Asks.ensures.bounded
+pub returns-in_ok-begun-in-Asks-clause-bounded : goal.returns-in_ok-begun-in-Asks-clause-bounded
+returns-in_ok-begun-in-Asks-clause-bounded g c = c.answer.ensures.bounded c.in_ok-begun-in-Asks.ensures.bounded
