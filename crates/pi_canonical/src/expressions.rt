@@ -43,7 +43,7 @@ pub(crate) fn write_exp(alloc: Global, exp: &Exp, out: &mut String) -> Result<()
             out.push_str(name.as_str())?;
             Ok(())
         }
-        Exp::Int(n) => write_integer(*n, out),
+        Exp::Int(n) => write_integer(n.value(), out),
         Exp::Atom(name) => write_name(alloc, name.as_str(), out),
         Exp::Str(text) => write_string(alloc, text.as_str(), out),
         Exp::List(items, tail) => match tail {

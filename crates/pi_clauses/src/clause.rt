@@ -11,7 +11,9 @@ ghost use Rattle.pi_clauses.specs.Formed.{ShowsHeaded, IsFormed, IsUnits, IsSpli
 mod apart;
 
 use crate::clause::apart::take_apart;
-use pi_syntax::{Apart, Between, Clause, Exp, Exps, FunctionBody, FunctionClause, RuleClause};
+use pi_syntax::{
+    Apart, Between, Clause, Exp, Exps, FunctionBody, FunctionClause, RuleClause, Triggers,
+};
 use pi_terms::Text;
 use std::alloc::{AllocError, Global};
 
@@ -149,20 +151,19 @@ fn rule_of(
     }
 }
 
-/// What stands between a head and its arrow, where anything does.
-fn between_of(
-    alloc: Global,
-    cond: Option<Exp>,
-    events: Exps,
-) -> Result<Option<Box<Between>>, AllocError>
+/// What stands between a head and its arrow.
+fn between_of(alloc: Global, cond: Option<Exp>, events: Exps) -> Result<Between, AllocError>
     ensures cond { IfOk result (λ made. cond_between made ≡ cond) }
     ensures events { IfOk result (λ made. events_between made ≡ events.items) }
 {
-    if cond.is_none() & events.is_empty() {
-        return Ok(None);
+    if !events.is_empty() {
+        let triggers = Box::new(alloc, Triggers { cond, events })?;
+        return Ok(Between::Triggers(triggers));
     }
-    let between = Box::new(alloc, Between { cond, events })?;
-    Ok(Some(between))
+    match cond {
+        Some(cond) => Ok(Between::Condition(Box::new(alloc, cond)?)),
+        None => Ok(Between::Nothing),
+    }
 }
 
 /// Head and value, where the expression is an equation.

@@ -2,7 +2,6 @@
 #![tactic(auto)]
 
 mod clause;
-mod given_modes;
 mod goal_names;
 mod judging;
 mod names;
@@ -13,7 +12,6 @@ mod program;
 mod restrictions;
 
 pub use clause::{FormedClause, bare_clause, ruled_clause};
-pub use given_modes::GivenModes;
 pub use goal_names::first_unknown_of_goal;
 pub use judging::first_faults::UnknownCall;
 pub use judging::{judge_parts, unknown_name};

@@ -1,6 +1,5 @@
 //! What the parts of a program are, each by itself.
-use crate::given_modes::GivenModes;
-use pi_syntax::{Clause, Names};
+use pi_syntax::{Clause, ModeLists, Names};
 
 /// A part of a program by itself. (A User's Guide to Picat, 'Predicates and Functions'; the limits are own.)
 ///
@@ -21,7 +20,7 @@ pub enum PartReading {
 /// A clause with the mode lists of the `index` before it.
 #[derive(Drop)]
 pub struct WrittenPart {
-    pub modes: GivenModes,
+    pub modes: Option<ModeLists>,
     pub clause: Clause,
     /// The clause has a form that is forbidden, whatever the other parts are.
     pub has_bad_form: bool,

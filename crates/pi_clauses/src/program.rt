@@ -2,10 +2,10 @@
 ghost use Rattle.std.specs.Prelude.{◌≡◌, ◌++◌, ◌∷◌, [], IfOk, OnOk, map, vec_len};
 ghost use Rattle.pi_syntax.specs.ProgramTree.{source_tree, part_tree};
 ghost use Rattle.pi_clauses.specs.Seen.{seen, all_seen};
-ghost use Rattle.pi_clauses.specs.Verdict.{parts_of, part_of};
+ghost use Rattle.pi_clauses.specs.Verdict.{parts_of, part_of, decl_of};
 
 use crate::parts::PartReading;
-use pi_syntax::{Decl, Part, Parts, Program};
+use pi_syntax::{Decl, ModeLists, Part, Parts, Program};
 use std::alloc::{AllocError, Global};
 
 /// The program of parts without a fault.
@@ -51,7 +51,7 @@ fn add_part(parts: &mut Vec<Part>, reading: PartReading) -> Result<(), AllocErro
         PartReading::Written(written) => push_part(
             parts,
             Part {
-                decl: written.modes.declaration(),
+                decl: declaration(written.modes),
                 clause: Some(written.clause),
             },
         ),
@@ -59,6 +59,16 @@ fn add_part(parts: &mut Vec<Part>, reading: PartReading) -> Result<(), AllocErro
             drop(reading);
             Ok(())
         }
+    }
+}
+
+/// What stands before a clause, of which these are the mode lists.
+fn declaration(modes: Option<ModeLists>) -> Decl
+    ensures { result ≡ decl_of modes }
+{
+    match modes {
+        Some(lists) => Decl::Index(lists),
+        None => Decl::Plain,
     }
 }
 

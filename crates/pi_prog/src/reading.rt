@@ -22,12 +22,10 @@ use crate::reading::declaration::{PartOpening, opening};
 use crate::reading::shape::{ReadShape, read_shape};
 use crate::reading::stretch::is_end;
 use crate::reading::variables::has_too_many_names;
-use pi_clauses::{
-    FormedClause, GivenModes, PartReading, WrittenPart, bare_clause, has_bad_form, ruled_clause,
-};
+use pi_clauses::{FormedClause, PartReading, WrittenPart, bare_clause, has_bad_form, ruled_clause};
 use pi_expr::{ExpFault, is_crowded};
 use pi_lex::Tokens;
-use pi_syntax::{Clause, Names};
+use pi_syntax::{Clause, ModeLists, Names};
 use std::alloc::{AllocError, Global};
 
 /// What is to be told of a clause by itself.
@@ -107,13 +105,11 @@ fn read_part(
         PartOpening::Misdeclared => Ok(PartReading::BadDeclaration),
         PartOpening::Importing(names) => Ok(import_part(names, ended)),
         PartOpening::Indexing(lists, start) => {
-            let modes = GivenModes::of(alloc, lists)?;
-            let part = read_behind(alloc, tokens, from, start, to, modes, ended)?;
+            let part = read_behind(alloc, tokens, from, start, to, Some(lists), ended)?;
             Ok(part)
         }
         PartOpening::Undeclared => {
-            let modes = GivenModes::none();
-            let part = read_behind(alloc, tokens, from, from, to, modes, ended)?;
+            let part = read_behind(alloc, tokens, from, from, to, None, ended)?;
             Ok(part)
         }
     }
@@ -126,7 +122,7 @@ fn read_behind(
     from: usize,
     start: usize,
     to: usize,
-    modes: GivenModes,
+    modes: Option<ModeLists>,
     ended: bool,
 ) -> Result<PartReading, AllocError>
     requires behind { from ≤ start }
@@ -231,7 +227,7 @@ fn marks_of(
 }
 
 /// The part with these mode lists before its clause.
-fn with_modes(modes: GivenModes, marked: MarkedClause) -> WrittenPart
+fn with_modes(modes: Option<ModeLists>, marked: MarkedClause) -> WrittenPart
     ensures { (part ts : List Token) (o : Opening) → IsClauseOf part o modes ts → IsMarkedOf part ts marked → ShowsPart (stretches.stretch part true) (PartReading.Written result) }
 {
     WrittenPart {

@@ -239,7 +239,7 @@ fn declared(alloc: Global, modes: Option<&ModeLists>) -> Result<Decl, AllocError
 fn copied(alloc: Global, lists: &[Modes]) -> Result<ModeLists, AllocError>
     ensures { IfOk result (λ made. made ≡ lists.now) }
 {
-    let mut made = ModeLists::new(alloc);
+    let mut made = ModeLists::new(alloc)?;
     for modes in lists {
         let copy = modes.copy(alloc)?;
         made.push(copy)?;

@@ -49,7 +49,7 @@ pub fn slot_pattern<'a>(
             let slot = slots.slot_for(name.as_str())?;
             Ok(Pattern::Slot(slot))
         }
-        Exp::Int(value) => Ok(Pattern::Int(*value)),
+        Exp::Int(value) => Ok(Pattern::Int(value.value())),
         Exp::Atom(name) => exact_atom(alloc, name.as_str()),
         Exp::Str(text) => exact_text(alloc, text.as_str()),
         Exp::List(items, tail) => match tail {

@@ -56,7 +56,7 @@ fn push_term<'a>(
 {
     match exp {
         Exp::Var(name) => push_slot(cells, name.as_str(), slots),
-        Exp::Int(value) => push_int(cells, *value),
+        Exp::Int(value) => push_int(cells, value.value()),
         Exp::Atom(name) => push_atom(cells, alloc, name.as_str()),
         Exp::Str(text) => push_text(cells, alloc, text.as_str()),
         Exp::List(items, tail) => match tail {

@@ -8,6 +8,7 @@ use Rattle.pi_syntax.specs.declared.exp.Exp.{Exp}
 use Rattle.pi_syntax.specs.declared.program.Clause.{Clause}
 use Rattle.pi_syntax.specs.declared.program.RuleClause.{RuleClause}
 use Rattle.pi_syntax.specs.declared.program.Between.{Between}
+use Rattle.pi_syntax.specs.declared.program.Between.TheVariants as between
 use Rattle.pi_syntax.specs.declared.program.FunctionClause.{FunctionClause}
 use Rattle.pi_syntax.specs.declared.program.FunctionBody.{FunctionBody}
 use Rattle.pi_syntax.specs.declared.program.Decl.{Decl}
@@ -46,13 +47,15 @@ abbrev pub ProgramTree : Type 0
 ProgramTree = List PartTree
 
 -- the condition between a rule's head and its arrow, and the events there
-abbrev pub cond_between : Option (Box Between Global) → Option Exp
-cond_between None = None
-cond_between (Some between) = between.value.cond
+abbrev pub cond_between : Between → Option Exp
+cond_between between.Nothing = None
+cond_between (between.Condition boxed) = Some boxed.value
+cond_between (between.Triggers boxed) = boxed.value.cond
 
-abbrev pub events_between : Option (Box Between Global) → List Exp
-events_between None = []
-events_between (Some between) = between.value.events.items
+abbrev pub events_between : Between → List Exp
+events_between between.Nothing = []
+events_between (between.Condition boxed) = []
+events_between (between.Triggers boxed) = boxed.value.events.items
 
 abbrev pub rule_tree : RuleClause → RuleTree
 rule_tree r = record { head = exp_tree r.head; cond = option_map exp_tree (cond_between r.between); events = map exp_tree (events_between r.between); back = r.back; body = exp_tree r.body }

@@ -1,11 +1,12 @@
 //! Expressions as they are written.
+use crate::integer::Integer;
 use pi_terms::Text;
 
 /// An expression as it is written: a term, a call or a goal. Operators, `not` and `once` are a `Call` with their sign as
 /// name. A User's Guide to Picat, 'Appendix: Formats' and 'Predicates and Functions'.
 pub enum Exp {
     Var(Text),
-    Int(i128),
+    Int(Integer),
     Atom(Text),
     Str(Text),
     /// Items, and what follows the bar where there is one.

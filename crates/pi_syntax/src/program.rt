@@ -1,9 +1,9 @@
 //! Programs and goals as they are written.
 use crate::exp::{Exp, Exps};
-use pi_terms::{Series, Text};
+use pi_terms::{BoxedSeries, Series, Text};
 
-/// Names, in order.
-pub type Names = Series<Text>;
+/// Names, in order. They are boxed, since most parts have none.
+pub type Names = BoxedSeries<Text>;
 
 /// A clause of a program as it is written. A User's Guide to Picat, 'Predicates and Functions', and for events 'Action
 /// Rules'.
@@ -30,11 +30,9 @@ impl Drop for Clause {
 }
 
 /// A predicate's rule, committed (`=>`) or, where `back` is true, backtrackable (`?=>`).
-///
-/// Most rules have nothing between the head and the arrow, so what stands there is boxed.
 pub struct RuleClause {
     pub head: Exp,
-    pub between: Option<Box<Between>>,
+    pub between: Between,
     pub back: bool,
     pub body: Exp,
 }
@@ -60,8 +58,9 @@ impl RuleClause {
         ensures { option_copied result ≡ cond_between self.now.between }
     {
         match &self.between {
-            Some(between) => between.cond.as_ref(),
-            None => None,
+            Between::Nothing => None,
+            Between::Condition(cond) => Some(cond),
+            Between::Triggers(triggers) => triggers.cond.as_ref(),
         }
     }
 
@@ -70,22 +69,42 @@ impl RuleClause {
         ensures { result.now ≡ events_between self.now.between }
     {
         match &self.between {
-            Some(between) => between.events.as_slice(),
-            None => &[],
+            Between::Nothing => &[],
+            Between::Condition(_) => &[],
+            Between::Triggers(triggers) => triggers.events.as_slice(),
         }
     }
 }
 
-/// What stands between a rule's head and its arrow.
-pub struct Between {
-    pub cond: Option<Exp>,
-    pub events: Exps,
+/// What stands between a rule's head and its arrow, each kind in no more than it takes: most rules have nothing there, and
+/// most others a condition alone.
+pub enum Between {
+    Nothing,
+    Condition(Box<Exp>),
+    Triggers(Box<Triggers>),
 }
 
 // By hand, so that letting one go is a call and not its parts at each way out.
 impl Drop for Between {
     fn drop(self) {
-        let Between { cond: _, events: _ } = self;
+        match self {
+            Between::Nothing => {}
+            Between::Condition(_) => {}
+            Between::Triggers(_) => {}
+        }
+    }
+}
+
+/// The events of an action rule, and the condition before them, where there is one.
+pub struct Triggers {
+    pub cond: Option<Exp>,
+    pub events: Exps,
+}
+
+// By hand, so that letting one go is a call and not its parts at each way out.
+impl Drop for Triggers {
+    fn drop(self) {
+        let Triggers { cond: _, events: _ } = self;
     }
 }
 
@@ -155,8 +174,8 @@ pub enum Mode {
 /// A mode list, from the left.
 pub type Modes = Series<Mode>;
 
-/// Mode lists, in order.
-pub type ModeLists = Series<Modes>;
+/// Mode lists, in order. They are boxed, since most clauses have none.
+pub type ModeLists = BoxedSeries<Modes>;
 
 /// What stands before a part's clause.
 #[derive(Drop)]

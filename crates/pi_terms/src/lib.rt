@@ -11,6 +11,6 @@ mod text;
 
 pub use args::Args;
 pub use numbers::Numbers;
-pub use series::Series;
+pub use series::{BoxedSeries, Series};
 pub use term::{Term, TermCell, TermHead};
 pub use text::Text;

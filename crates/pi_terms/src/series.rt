@@ -121,3 +121,59 @@ impl<T> Series<T> {
         self.items.as_slice()
     }
 }
+
+/// Values in order behind one pointer, for what most holders have none of: it takes eight bytes where a `Series` takes 24. A
+/// contract sees the list of them.
+pub struct BoxedSeries<T> {
+    series: Box<Series<T>>,
+}
+
+// By hand, so that letting one go is a call and not its parts at each way out.
+impl<T: Drop> Drop for BoxedSeries<T> {
+    fn drop(self) {
+        let BoxedSeries { series: _ } = self;
+    }
+}
+
+impl<T> Model for BoxedSeries<T> {
+    ghost use Rattle.std.specs.Prelude.{List};
+
+    ghost Value = { List T };
+
+    ghost view = { λ a. a.series.value };
+}
+
+impl<T> BoxedSeries<T> {
+    /// No values.
+    pub fn new(alloc: Global) -> Result<BoxedSeries<T>, AllocError>
+    where
+        T: Drop,
+        ensures { IfOk result (λ made. made ≡ []) }
+    {
+        let series = Box::new(alloc, Series::new(alloc))?;
+        Ok(BoxedSeries { series })
+    }
+
+    /// One more value at the end.
+    pub fn push(&mut self, value: T) -> Result<(), AllocFailed<T>>
+        ensures ok { IfOk result (λ _. self.new ≡ self.old ++ value ∷ []) }
+        ensures err { OnErr result (self.new ≡ self.old) }
+        ensures returned { IfErr result (λ refused. refused.value ≡ value) }
+    {
+        self.series.push(value)
+    }
+
+    /// How many values there are.
+    pub fn len(&self) -> usize
+        ensures { result ≡ length self.now }
+    {
+        self.series.len()
+    }
+
+    /// The values, from the first.
+    pub fn as_slice(&self) -> &[T]
+        ensures { result.now ≡ self.now }
+    {
+        self.series.as_slice()
+    }
+}

@@ -26,8 +26,8 @@ pub enum GoalJudged {
 }
 
 /// What a program's text comes to before any goal is asked of it.
-pub fn judge_program(alloc: Global, text: &[u8]) -> Result<ProgramJudged, AllocError>
-    ensures { IfOk result (ShowsProgramJudged text.now) }
+pub fn judge_program(alloc: Global, text: Vec<u8>) -> Result<ProgramJudged, AllocError>
+    ensures { IfOk result (ShowsProgramJudged text.items) }
 {
     let program = match program_of(alloc, text) {
         Ok(program) => program,

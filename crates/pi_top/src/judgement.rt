@@ -36,8 +36,8 @@ impl From<AllocError> for Refusal {
 }
 
 /// What a program's text and a goal's come to.
-pub fn judge(alloc: Global, text: &[u8], goal: &[u8]) -> Result<Judged, AllocError>
-    ensures { IfOk result (ShowsJudged text.now goal.now) }
+pub fn judge(alloc: Global, text: Vec<u8>, goal: &[u8]) -> Result<Judged, AllocError>
+    ensures { IfOk result (ShowsJudged text.items goal.now) }
 {
     let program = match program_of(alloc, text) {
         Ok(program) => program,
@@ -76,12 +76,14 @@ fn lowered(alloc: Global, program: &Program, goal: &Goal) -> Result<Judged, Allo
     }
 }
 
-/// The program that a text is.
-pub fn program_of(alloc: Global, text: &[u8]) -> Result<Program, Refusal>
-    ensures program { IfOk result (λ program. IsProgramText text.now (source_tree program)) }
-    ensures line { IfErr result (ShowsProgramLine text.now) }
+/// The program that a text is. The text goes as soon as its tokens are there.
+pub fn program_of(alloc: Global, text: Vec<u8>) -> Result<Program, Refusal>
+    ensures program { IfOk result (λ program. IsProgramText text.items (source_tree program)) }
+    ensures line { IfErr result (ShowsProgramLine text.items) }
 {
-    let tokens = match tokens(alloc, text) {
+    let found = tokens(alloc, text.as_slice());
+    drop(text);
+    let tokens = match found {
         Ok(tokens) => tokens,
         Err(fault) => return Err(Refusal::Line(token_line(alloc, fault)?)),
     };

@@ -23,10 +23,10 @@ pub(crate) enum Printed {
 }
 
 /// Writes the canonical text of the program that a text is, or the line of the text's fault.
-pub(crate) fn print_text<O: Sink>(alloc: Global, text: &[u8], out: &mut O) -> Result<u8, Stop>
+pub(crate) fn print_text<O: Sink>(alloc: Global, text: Vec<u8>, out: &mut O) -> Result<u8, Stop>
     ensures writes { TellsWrites (O.faults out.old) (O.faults out.new) result }
     ensures no_read { IfOk result (λ status. status < 7) }
-    ensures answers { ByWrites O.wrote O.taken out.old out.new (λ writes. (queries : List QueryRun) → queries ≡ [] → AnswersPrinted text.now queries result writes) }
+    ensures answers { ByWrites O.wrote O.taken out.old out.new (λ writes. (queries : List QueryRun) → queries ≡ [] → AnswersPrinted text.items queries result writes) }
 {
     let printed = canonical_of(alloc, text)?;
     match printed {
@@ -36,8 +36,8 @@ pub(crate) fn print_text<O: Sink>(alloc: Global, text: &[u8], out: &mut O) -> Re
 }
 
 /// What a program's text is printed as.
-fn canonical_of(alloc: Global, text: &[u8]) -> Result<Printed, AllocError>
-    ensures { IfOk result (ShowsPrinted text.now) }
+fn canonical_of(alloc: Global, text: Vec<u8>) -> Result<Printed, AllocError>
+    ensures { IfOk result (ShowsPrinted text.items) }
 {
     let program = match program_of(alloc, text) {
         Ok(program) => program,

@@ -43,13 +43,13 @@ pub fn session_of_file<F: Files, I: Source, O: Sink>(
         Err(FileStop::Fault) => return ended(out, READ_FAULT, 7),
         Err(FileStop::Memory) => return Err(Stop::Memory),
     };
-    session_of_text(alloc, text.as_slice(), asked, input, most, out, queries)
+    session_of_text(alloc, text, asked, input, most, out, queries)
 }
 
 /// Serves the lines of an input, asked of the program that a text is, where it has no fault and all of it is built.
 fn session_of_text<I: Source, O: Sink>(
     alloc: Global,
-    text: &[u8],
+    text: Vec<u8>,
     asked: &Options,
     input: &mut I,
     most: u64,
@@ -61,7 +61,7 @@ fn session_of_text<I: Source, O: Sink>(
     ensures status { IfOk result (λ status. status < 8) }
     ensures spent { IfOk result (λ status. status ≡ 0 → IsSpent (I.rest input.new)) }
     ensures answers { ByInput I.has_read I.rest input.old input.new (λ inputs. ByWrites O.wrote O.taken out.old out.new (λ writes. 0 < asked.now.answers → queries.old ≡ []
-        → AnswersSessionText asked.now text.now most (counted (I.faults input.old) (I.faults input.new)) queries.new [] result inputs writes)) }
+        → AnswersSessionText asked.now text.items most (counted (I.faults input.old) (I.faults input.new)) queries.new [] result inputs writes)) }
     ensures ran { AllWithin asked.now.steps queries.old → AllWithin asked.now.steps queries.new }
 {
     let judged = judge_program(alloc, text)?;

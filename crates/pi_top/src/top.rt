@@ -185,8 +185,8 @@ fn asked_of_file<F: Files, O: Sink>(
         Err(FileStop::Memory) => return Err(Stop::Memory),
     };
     match asked.mode {
-        RunMode::Print => print_text(alloc, text.as_slice(), out),
-        _ => asked_of_text(alloc, text.as_slice(), asked, out, queries),
+        RunMode::Print => print_text(alloc, text, out),
+        _ => asked_of_text(alloc, text, asked, out, queries),
     }
 }
 
@@ -207,13 +207,14 @@ fn asked_of_demo<O: Sink>(
         return ended(out, USAGE, 2);
     };
     let text = demo_text(alloc, places)?;
-    asked_of_text(alloc, text.as_str().as_bytes(), asked, out, queries)
+    let bytes = Vec::from_slice(alloc, text.as_str().as_bytes())?;
+    asked_of_text(alloc, bytes, asked, out, queries)
 }
 
 /// Asks a goal of the program that a text is, where neither has a fault and all of both is built.
 fn asked_of_text<O: Sink>(
     alloc: Global,
-    text: &[u8],
+    text: Vec<u8>,
     asked: &Options,
     out: &mut O,
     queries: &mut Queries,
@@ -221,7 +222,7 @@ fn asked_of_text<O: Sink>(
     ensures writes { TellsWrites (O.faults out.old) (O.faults out.new) result }
     ensures no_read { IfOk result (λ status. status < 7) }
     ensures answers { ByWrites O.wrote O.taken out.old out.new (λ writes. 0 < asked.now.answers → queries.old ≡ []
-        → AnswersText (manner_of asked.now) text.now (goal_of asked.now) queries.new [] result writes) }
+        → AnswersText (manner_of asked.now) text.items (goal_of asked.now) queries.new [] result writes) }
     ensures ran { AllWithin asked.now.steps queries.old → AllWithin asked.now.steps queries.new }
 {
     let goal = goal_of(asked);

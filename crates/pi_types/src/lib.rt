@@ -16,8 +16,8 @@ pub use pi_core::{
     NamedTerms, Pattern, Patterns, PlanResult, SlotWatch, SlotWatches, Work,
 };
 pub use pi_syntax::{
-    Between, Branches, Clause, Decl, Exp, Exps, FunctionBody, FunctionClause, Goal, Mode,
-    ModeLists, Modes, Names, Part, Parts, Program, RuleClause,
+    Between, Branches, Clause, Decl, Exp, Exps, FunctionBody, FunctionClause, Goal, Integer, Mode,
+    ModeLists, Modes, Names, Part, Parts, Program, RuleClause, Triggers,
 };
-pub use pi_terms::{Args, Numbers, Series, Term, TermHead, Text};
+pub use pi_terms::{Args, BoxedSeries, Numbers, Series, Term, TermHead, Text};
 pub use tree_store::TreeStore;

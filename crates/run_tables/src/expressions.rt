@@ -2,7 +2,7 @@
 //! `,/2` puts goals one after another.
 
 use pi_cases::{Case, Node, node_of};
-use pi_types::Exp;
+use pi_types::{Exp, Integer};
 
 /// The expression that words are.
 pub fn expression_of(case: &Case, words: &[String]) -> Option<Exp> {
@@ -24,7 +24,7 @@ fn expression_over(case: &Case, word: &str, built: &mut Vec<Exp>) -> Option<Exp>
         return Some(Exp::Var(case.name_of(word)));
     }
     match node_of(word) {
-        Node::Int(n) => Some(Exp::Int(n)),
+        Node::Int(n) => Some(Exp::Int(Integer::new(n))),
         Node::Atom(name) => Some(Exp::Atom(case.name_of(name))),
         Node::Comp(",", count) => Some(Exp::And(case.several(built, count))),
         Node::Comp(name, count) => Some(Exp::Call(case.name_of(name), case.several(built, count))),

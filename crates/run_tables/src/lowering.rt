@@ -64,7 +64,9 @@ fn decl_of(case: &Case, words: &[String]) -> Decl {
     if words.is_empty() {
         return Decl::Plain;
     }
-    let mut lists = ModeLists::new(case.alloc);
+    let Some(mut lists) = case.made(ModeLists::new(case.alloc)) else {
+        return Decl::Plain;
+    };
     for word in words {
         let added = lists.push(modes_of(case, word.as_str()));
         case.done(added);

@@ -8,7 +8,6 @@ use pi_types::{
     CoreClause, CoreClauses, CoreGoal, CorePred, CorePreds, CoreProgram, Decl, Mode, ModeLists,
     Modes, SlotWatches, Term,
 };
-use std::alloc::Global;
 use std::mem;
 
 /// What a line begins.
@@ -103,7 +102,9 @@ impl Preds {
             return line.lacks("a predicate before its modes");
         };
         let modes = modes_of(line, line.take_word());
-        let mut lists = lists_of(line.alloc, mem::replace(&mut pred.decl, Decl::Plain));
+        let Some(mut lists) = lists_of(line, mem::replace(&mut pred.decl, Decl::Plain)) else {
+            return;
+        };
         let added = lists.push(modes);
         line.done(added);
         pred.decl = Decl::Index(lists);
@@ -122,10 +123,10 @@ pub(crate) fn modes_of(case: &Case, word: &str) -> Modes {
 }
 
 /// The mode lists of a predicate so far.
-fn lists_of(alloc: Global, decl: Decl) -> ModeLists {
+fn lists_of(line: &Case, decl: Decl) -> Option<ModeLists> {
     match decl {
-        Decl::Index(lists) => lists,
-        _ => ModeLists::new(alloc),
+        Decl::Index(lists) => Some(lists),
+        _ => line.made(ModeLists::new(line.alloc)),
     }
 }
 

@@ -349,7 +349,7 @@ rule_with back body h c es = rule (record { head = h; cond = c; events = es; bac
 abbrev function_with : Exp → Exp → Exp → Option ExpTree → WrittenClause
 function_with head value body c = function (record { head = exp_tree head; value = exp_tree value; cond = c; body = Some (exp_tree body) })
 
-pub rule_formed : (f : FormedClause) (left : ExpTree) (first head body : Exp) (cond : Option Exp) (split : SplitUnits) (back : Bool) (between : Option (Box Between Global)) (boxed : Box RuleClause Global)
+pub rule_formed : (f : FormedClause) (left : ExpTree) (first head body : Exp) (cond : Option Exp) (split : SplitUnits) (back : Bool) (between : Between) (boxed : Box RuleClause Global)
     → exp_tree first ≡ first_unit (units left) → IsSplit split (other_units (units left)) → option_map exp_tree cond ≡ condition (exps_of split.conditions.items)
     → ShowsHeaded (headed.Alone head) (exp_tree first) → cond_between between ≡ cond → events_between between ≡ split.events.items
     → f.clause ≡ Clause.Rule boxed → boxed.value ≡ record { head = head; between = between; back = back; body = body }

@@ -55,7 +55,7 @@ impl<'a> Before<'a> {
             return Ok(());
         };
         self.defined.insert(name)?;
-        if written.modes.are_there() {
+        if written.modes.is_some() {
             self.indexed.insert(Called {
                 name: name.name,
                 arity: name.arity,
@@ -106,7 +106,7 @@ fn clause_fault<'a>(
 fn declares_badly<'a>(part: &'a WrittenPart, defined: &Definitions<'a>) -> bool
     ensures { (names : List Named) → IsSetOf defined.now names → result ≡ declares_badly names (seen_clause part.now) }
 {
-    let Some(lists) = part.modes.lists() else {
+    let Some(lists) = &part.modes else {
         return false;
     };
     let Some(name) = definition(&part.clause) else {
@@ -153,7 +153,7 @@ fn is_fact(clause: &Clause) -> bool
 fn is_indexed<'a>(part: &'a WrittenPart, indexed: &Definitions<'a>) -> bool
     ensures { (names : List Named) → IsSetOf indexed.now names → result ≡ is_indexed names (seen_clause part.now) }
 {
-    if part.modes.are_there() {
+    if part.modes.is_some() {
         return true;
     }
     match definition(&part.clause) {

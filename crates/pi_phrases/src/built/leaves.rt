@@ -4,7 +4,7 @@ ghost use Rattle.pi_syntax.specs.ExpTree as tree;
 ghost use Rattle.pi_phrases.specs.Trees.{Shows};
 
 use crate::built::Built;
-use pi_syntax::Exp;
+use pi_syntax::{Exp, Integer};
 use pi_terms::Text;
 use std::alloc::{AllocError, Global};
 
@@ -36,5 +36,5 @@ pub fn text(alloc: Global, text: &str) -> Result<Built, AllocError>
 pub fn integer(value: i128) -> Built
     ensures { Shows result (tree.int value) }
 {
-    Built::Tree(Exp::Int(value), 1)
+    Built::Tree(Exp::Int(Integer::new(value)), 1)
 }

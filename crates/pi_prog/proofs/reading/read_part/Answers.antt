@@ -1,6 +1,6 @@
 use Rattle.pi_expr.proofs.CrowdLemmas.{few_by}
 use Rattle.pi_prog.proofs.reading.declaration.ModesLemmas.{opens_few}
-use Rattle.pi_prog.proofs.reading.ReadingLemmas.{clause_by, part_crowded, part_misdeclared, clause_plain, clause_indexed}
+use Rattle.pi_prog.proofs.reading.ReadingLemmas.{part_crowded, part_misdeclared, clause_plain, clause_indexed}
 use Rattle.pi_prog.proofs.reading.read_part.Goals as goal
 
 pub returns-then-is_crowded : goal.returns-then-is_crowded
@@ -24,9 +24,9 @@ read_behind-requires-clause-uncrowded c =
 pub returns-in_ok-part-in-Indexing : goal.returns-in_ok-part-in-Indexing
 returns-in_ok-part-in-Indexing c =
     let opens = rw c.in-Indexing.is at c.in_ok-opening.ensures in
-    c.in_ok-part-in-Indexing.ensures _ (clause_by _ _ _ _ _ c.in_ok-modes-in-Indexing.ensures (clause_indexed _ _ _ (few_by _ _ c.is_crowded.ensures c.if-is_crowded.false) opens.2))
+    c.in_ok-part-in-Indexing.ensures _ (clause_indexed _ _ _ (few_by _ _ c.is_crowded.ensures c.if-is_crowded.false) opens.2)
 
 pub returns-in_ok-part-in-Undeclared : goal.returns-in_ok-part-in-Undeclared
 returns-in_ok-part-in-Undeclared c =
     let opens = rw c.in-Undeclared.is at c.in_ok-opening.ensures in
-    c.in_ok-part-in-Undeclared.ensures _ (clause_by _ _ _ _ _ c.none-modes.ensures (clause_plain _ (few_by _ _ c.is_crowded.ensures c.if-is_crowded.false) opens))
+    c.in_ok-part-in-Undeclared.ensures _ (clause_plain _ (few_by _ _ c.is_crowded.ensures c.if-is_crowded.false) opens)

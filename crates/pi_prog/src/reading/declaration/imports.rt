@@ -45,7 +45,7 @@ pub(crate) fn imported(
     requires within { to ≤ length tokens.now }
     ensures { IfOk result (λ names. names ≡ declaration.imported (stretch (kinds tokens.now) from to)) }
 {
-    let mut names = Names::new(alloc);
+    let mut names = Names::new(alloc)?;
     let mut at = from;
     'names: while at < to {
         let Some(name) = library(tokens.kind(at)) else {

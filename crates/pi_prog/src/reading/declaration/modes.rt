@@ -109,7 +109,7 @@ pub(crate) fn mode_lists(
     requires within { to ≤ length tokens.now }
     ensures { IfOk result (λ found. IsListed (kinds tokens.now) from to found) }
 {
-    let mut lists = ModeLists::new(alloc);
+    let mut lists = ModeLists::new(alloc)?;
     let mut end = from;
     'lists: loop {
         let found = mode_list(alloc, tokens, end, to)?;

@@ -8,7 +8,7 @@ use Rattle.pi_top.proofs.judgement.judge.Goals as goal
 pub returns-in-Err-Line : goal.returns-in-Err-Line
 returns-in-Err-Line c =
     let line = string_bytes c.in-Err-Line.line in
-    let is : IsProgramLine c.args.text.now line = rw c.in-Err-Line.field-0-is at c.in-Err-Line.ensures.line in
+    let is : IsProgramLine c.args.text.items line = rw c.in-Err-Line.field-0-is at c.in-Err-Line.ensures.line in
     program_fault line is (c.in_ok-of_program-in-Err-Line.ensures ∙ ap of_program c.as_str.ensures.value)
 
 pub returns-in-Err-Line-goal_of : goal.returns-in-Err-Line-goal_of

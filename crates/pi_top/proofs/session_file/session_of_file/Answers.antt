@@ -24,8 +24,8 @@ pub returns-clause-answers : goal.returns-clause-answers
 returns-clause-answers g c =
     let file = c.in-Ok.ensures in
     ByReads-so file.reads (λ reads all_read. ByInput-so c.session_of_text.ensures.answers (λ inputs by. ByWrites-so by (λ writes answers. λ some none.
-    file-read c.args.asked.now (g.F.Files.held c.read_file.new.files) c.args.most _ _ c.as_slice.result.now c.session_of_text.new.queries c.session_of_text.result reads inputs writes file.no_fault
-    (rw (c.as_slice.ensures.value, ← c.as_str.ensures) all_read) (rw (c.as_slice.ensures.value, ← c.as_str.ensures) file.read) (answers some none))))
+    file-read c.args.asked.now (g.F.Files.held c.read_file.new.files) c.args.most _ _ c.in-Ok.text.items c.session_of_text.new.queries c.session_of_text.result reads inputs writes file.no_fault
+    (rw (← c.as_str.ensures) all_read) (rw (← c.as_str.ensures) file.read) (answers some none))))
 
 pub returns-in-Err-Fault-clause-reads : goal.returns-in-Err-Fault-clause-reads
 returns-in-Err-Fault-clause-reads g c =

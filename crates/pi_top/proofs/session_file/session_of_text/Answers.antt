@@ -22,27 +22,27 @@ returns-in_err-judged-clause-answers g c =
     let p = err_from_is_err_and c.from_residual.result c.from_residual.ensures.1 in
     let memory : p.0 ≡ Memory = p.2 in
     rw (p.1, memory) (ByInput-none g.I.Source.has_read g.I.Source.rest c.args.input.now _ (ByWrites-none g.O.Sink.wrote g.O.Sink.taken c.args.out.now _ (λ some none.
-    text-nothing c.args.asked.now c.args.text.now c.args.most _ c.args.queries.now refl none)))
+    text-nothing c.args.asked.now c.args.text.items c.args.most _ c.args.queries.now refl none)))
 
 pub returns-in-Refused-clause-answers : goal.returns-in-Refused-clause-answers
 returns-in-Refused-clause-answers g c =
     let line = string_bytes c.in-Refused.line in
-    let is : IsUnready c.args.text.now line = rw c.in-Refused.is at c.in_ok-judged.ensures in
+    let is : IsUnready c.args.text.items line = rw c.in-Refused.is at c.in_ok-judged.ensures in
     let ended = c.ended.ensures in
     ByInput-none g.I.Source.has_read g.I.Source.rest c.args.input.now _ (ByWrites-so ended.told (λ writes told. λ some none.
-    text-unready c.args.asked.now c.args.text.now line c.args.most _ c.args.queries.now c.ended.result writes is refl none ended.status ended.stops
+    text-unready c.args.asked.now c.args.text.items line c.args.most _ c.args.queries.now c.ended.result writes is refl none ended.status ended.stops
     (subst (λ (l : List ℕ). Writes (l ∷ []) c.ended.result writes) c.as_str.ensures.value told)))
 
 pub returns-in-Ready-clause-answers : goal.returns-in-Ready-clause-answers
 returns-in-Ready-clause-answers g c =
     let program = source_tree c.in-Ready.program in
     let core = program_tree c.in-Ready.core in
-    let is : IsReadied c.args.text.now program core = rw c.in-Ready.is at c.in_ok-judged.ensures in
+    let is : IsReadied c.args.text.items program core = rw c.in-Ready.is at c.in_ok-judged.ensures in
     let input = counted (g.I.Source.faults c.args.input.now) (g.I.Source.faults c.serve_all.new.input) in
     ByInput-so c.serve_all.ensures.comes (λ inputs by. ByWrites-so by (λ writes comes. λ some none.
-    text-served c.args.asked.now c.args.text.now c.args.most input c.serve_all.new.queries program c.serve_all.result inputs writes is.is_ready
+    text-served c.args.asked.now c.args.text.items c.args.most input c.serve_all.new.queries program c.serve_all.result inputs writes is.is_ready
     (subst (λ (m : Manner). AnswersSession m program c.args.most input c.serve_all.new.queries c.serve_all.result inputs writes) c.as_asked.ensures
-    (comes (may-be-asked c.args.text.now program core is) (subst (λ (m : Manner). 0 < m.answers) (sym c.as_asked.ensures) some) none))))
+    (comes (may-be-asked c.args.text.items program core is) (subst (λ (m : Manner). 0 < m.answers) (sym c.as_asked.ensures) some) none))))
 
 pub returns-in-Ready-clause-ran : goal.returns-in-Ready-clause-ran
 returns-in-Ready-clause-ran g c =

@@ -25,16 +25,16 @@ returns-in-Print-clause-answers g c =
     let file = c.in-Ok.ensures in
     let files = counted (g.F.Files.faults c.args.files.now) (g.F.Files.faults c.read_file.new.files) in
     ByReads-so file.reads (λ reads all_read. ByWrites-so c.print_text.ensures.answers (λ writes answers. λ some none.
-    file-read c.args.asked.now (g.F.Files.held c.read_file.new.files) files c.as_slice.result.now c.args.queries.now c.print_text.result reads writes file.no_fault
-    (rw (c.as_slice.ensures.value, ← c.as_str.ensures) all_read) (rw (c.as_slice.ensures.value, ← c.as_str.ensures) file.read)
-    (of-printed c.args.asked.now c.as_slice.result.now c.args.queries.now c.print_text.result writes c.in-Print.is (answers c.args.queries.now none))))
+    file-read c.args.asked.now (g.F.Files.held c.read_file.new.files) files c.in-Ok.text.items c.args.queries.now c.print_text.result reads writes file.no_fault
+    (rw (← c.as_str.ensures) all_read) (rw (← c.as_str.ensures) file.read)
+    (of-printed c.args.asked.now c.in-Ok.text.items c.args.queries.now c.print_text.result writes c.in-Print.is (answers c.args.queries.now none))))
 
 pub returns-clause-answers : goal.returns-clause-answers
 returns-clause-answers g c =
     let file = c.in-Ok.ensures in
     let files = counted (g.F.Files.faults c.args.files.now) (g.F.Files.faults c.read_file.new.files) in
-    let text = c.as_slice-in_default.result.now in
+    let text = c.in-Ok.text.items in
     ByReads-so file.reads (λ reads all_read. ByWrites-so c.asked_of_text.ensures.answers (λ writes answers. λ some none.
     file-read c.args.asked.now (g.F.Files.held c.read_file.new.files) files text c.asked_of_text.new.queries c.asked_of_text.result reads writes file.no_fault
-    (rw (c.as_slice-in_default.ensures.value, ← c.as_str.ensures) all_read) (rw (c.as_slice-in_default.ensures.value, ← c.as_str.ensures) file.read)
+    (rw (← c.as_str.ensures) all_read) (rw (← c.as_str.ensures) file.read)
     (of-text c.args.asked.now text c.asked_of_text.new.queries c.asked_of_text.result writes c.in_default.not-Print (answers some none))))

@@ -20,12 +20,12 @@ returns-in_err-judged-clause-answers g c =
     let p = err_from_is_err_and c.from_residual.result c.from_residual.ensures.1 in
     let memory : p.0 ≡ Memory = p.2 in
     let asked = c.args.asked.now in
-    rw (p.1, memory) (ByWrites-none g.O.Sink.wrote g.O.Sink.taken c.args.out.now _ (λ some none. text-nothing (manner_of asked) c.args.text.now (goal_of asked) c.args.queries.now none))
+    rw (p.1, memory) (ByWrites-none g.O.Sink.wrote g.O.Sink.taken c.args.out.now _ (λ some none. text-nothing (manner_of asked) c.args.text.items (goal_of asked) c.args.queries.now none))
 
 pub returns-in-Refused-clause-answers : goal.returns-in-Refused-clause-answers
 returns-in-Refused-clause-answers g c =
     let asked = c.args.asked.now in
-    let text = c.args.text.now in
+    let text = c.args.text.items in
     let line = string_bytes c.in-Refused.line in
     let shown : Refused text c.as_bytes.result.now line = rw c.in-Refused.is at c.in_ok-judged.ensures in
     let is : Refused text (goal_of asked) line = subst (λ (of_goal : List ℕ). Refused text of_goal line) (c.as_bytes.ensures.value ∙ c.goal_of-goal.ensures) shown in
@@ -36,7 +36,7 @@ returns-in-Refused-clause-answers g c =
 pub returns-in-Asks-clause-answers : goal.returns-in-Asks-clause-answers
 returns-in-Asks-clause-answers g c =
     let asked = c.args.asked.now in
-    let text = c.args.text.now in
+    let text = c.args.text.items in
     let core = program_tree c.in-Asks.core in
     let query = query_tree c.in-Asks.query in
     let shown : IsAsked text c.as_bytes.result.now core query = rw c.in-Asks.is at c.in_ok-judged.ensures in

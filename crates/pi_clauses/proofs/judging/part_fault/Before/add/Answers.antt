@@ -16,10 +16,10 @@ returns-in_default-definition c = λ before is.
 
 pub returns-in_ok-insert-2 : goal.returns-in_ok-insert-2
 returns-in_ok-insert-2 c = λ before is.
-    two_more _ _ before c.args.part.now c.in-Written.written (named_by c.in-Some.name) c.in-Written.is c.in-Some.ensures (sym c.are_there.ensures ∙ c.if-are_there.true)
+    two_more _ _ before c.args.part.now c.in-Written.written (named_by c.in-Some.name) c.in-Written.is c.in-Some.ensures (sym c.is_some.ensures ∙ c.if-is_some.true)
     (c.in_ok-insert.ensures.behind _ is.defined) (c.in_ok-insert-2.ensures.behind _ is.indexed)
 
-pub returns-else-are_there : goal.returns-else-are_there
-returns-else-are_there c = λ before is.
-    one_more c.args.self.now _ before c.args.part.now c.in-Written.written (named_by c.in-Some.name) c.in-Written.is c.in-Some.ensures (sym c.are_there.ensures ∙ c.if-are_there.false)
+pub returns-else-is_some : goal.returns-else-is_some
+returns-else-is_some c = λ before is.
+    one_more c.args.self.now _ before c.args.part.now c.in-Written.written (named_by c.in-Some.name) c.in-Written.is c.in-Some.ensures (sym c.is_some.ensures ∙ c.if-is_some.false)
     is (c.in_ok-insert.ensures.behind _ is.defined)
