@@ -1,18 +1,15 @@
 -- What is kept of one token.
-use Rattle.std.proofs.Common.{◌≡◌, ℕ, ◌+◌, ◌-◌, ◌*◌, ◌<◌, ◌≤◌, List, [], ◌∷◌, ◌++◌, refl, sym, ◌∙◌, ap, subst, arith, String, Vec, string_bytes, string_len, vec_len, Option, Some, IfSome, Result, Ok, Err, IfOk, OnOk}
-use Rattle.std.proofs.lemmas.List.{append-nil}
-use Rattle.std.proofs.lemmas.Option.{get_or_from_slice_get, slice_get_within}
+use Rattle.std.proofs.Common.{◌≡◌, ℕ, ◌+◌, ◌-◌, ◌*◌, ◌<◌, ◌≤◌, List, [], ◌∷◌, ◌++◌, sym, ◌∙◌, ap, subst, arith, String, string_bytes, string_len, Option, Some, IfSome, Result, Ok, Err, IfOk}
+use Rattle.std.proofs.lemmas.List.{append-nil, append_assoc}
 use Rattle.std.proofs.lemmas.Str.{IsUtf8-string_bytes}
 use Rattle.std.specs.declared.alloc.AllocError.{AllocError}
 use Rattle.std.specs.declared.alloc.Global.{Global}
 use Rattle.pi_lex.specs.declared.store.Form.{Form}
-use Rattle.pi_lex.specs.declared.store.Form.TheVariants as form
 use Rattle.pi_lex.specs.declared.store.Kind.{Kind}
-use Rattle.pi_lex.specs.declared.store.Span.{Span}
 use Rattle.pi_lex.specs.declared.store.Store.{Store}
 use Rattle.pi_lex.specs.Items.{item_len, tokens_from}
-use Rattle.pi_lex.specs.Spans.{spanned, IsSpan}
-use Rattle.pi_lex.specs.Store.{said, span, long_at, token_of, IsForm, Refers, Extends, Keeps, GrowsBy, HasRoom, IsKept, IsTaken}
+use Rattle.pi_lex.specs.Spans.{span, spanned, IsSpan}
+use Rattle.pi_lex.specs.Store.{said, token_of, IsForm, Extends, Keeps, GrowsBy, HasRoom, IsKept, IsTaken}
 use Rattle.pi_lex.proofs.StoreLemmas.{string_len-bytes, IsSpan-appended, spanned-appended}
 use Rattle.pi_syntax.specs.Tokens.{Item, Ended, Blank, Lexeme, Wide, Bad}
 
@@ -37,45 +34,38 @@ HasRoom-left old new n m room grows some within = record {
 pub Extends-none : {X : Type 0} (xs : List X) → Extends xs xs
 Extends-none xs = ([], sym (append-nil xs))
 
--- the form of a span is what the span is
-pub said_there : (store : Store) (f : Form) (k : Kind) (from len : ℕ) → Refers store.longs.items f k from len → IsSpan (string_bytes store.buffer) (span from len)
-    → IsForm store f × (token_of store f ≡ said k (spanned (string_bytes store.buffer) (span from len)))
-said_there store (form.Short k' short start) k from len refers is = rw (refers.0, refers.1, refers.2) (is, refl)
-said_there store (form.Long k' place) k from len refers is =
-    let there : long_at store.longs.items place ≡ span from len = get_or_from_slice_get store.longs.items place (span from len) (span 0 0) refers.1 in
-    rw (refers.0, there) ((slice_get_within store.longs.items place (span from len) refers.1, is), refl)
-said_there store (form.Small value) k from len refers is = absurd refers
-said_there store (form.Large place) k from len refers is = absurd refers
-said_there store form.EndPoint k from len refers is = absurd refers
+Extends-then : {X : Type 0} (xs ys zs : List X) → Extends xs ys → Extends ys zs → Extends xs zs
+Extends-then xs ys zs first then = (first.0 ++ then.0, then.1 ∙ (ap (λ l. l ++ then.0) first.1 ∙ append_assoc xs first.0 then.0))
 
--- the form of what was appended to the buffer
-pub kept_appended : (old : Store) (buffer : String Global) (longs : Vec Span Global) (more : List ℕ) (f : Form) (k : Kind) (from len n : ℕ)
-    → string_bytes buffer ≡ string_bytes old.buffer ++ more → from ≡ string_len old.buffer → len ≡ string_len buffer - from
-    → string_len buffer ≤ string_len old.buffer + 4 * n → Refers longs.items f k from len → Extends old.longs.items longs.items
-    → vec_len longs ≤ vec_len old.longs + 1
-    → IsKept old (record { buffer = buffer; longs = longs; numbers = old.numbers; forms = old.forms; feeds = old.feeds }) f (said k more) n
-kept_appended old buffer longs more f k from len n grown starts stops short refers longer longs_grow =
-    let new : Store = record { buffer = buffer; longs = longs; numbers = old.numbers; forms = old.forms; feeds = old.feeds } in
+-- what the buffer came to hold was kept by `refer`
+pub kept_referred : (old new : Store) (buffer : String Global) (seats : List ℕ) (w : List ℕ) (found : Result Form AllocError) (k : Kind) (from n : ℕ)
+    → string_bytes buffer ≡ string_bytes old.buffer ++ w → from ≡ string_len old.buffer → string_len buffer ≤ string_len old.buffer + 4 * n
+    → IfOk found (λ f. IsKept (record { buffer = buffer; longs = old.longs; numbers = old.numbers; forms = old.forms; feeds = old.feeds; seats = seats }) new f
+    (said k (spanned (string_bytes buffer) (span from (string_len buffer - from)))) 0)
+    → IfOk found (λ f. IsKept old new f (said k w) n)
+kept_referred old new buffer seats w (Ok f) k from n grown starts short kept =
     let start = starts ∙ string_len-bytes old.buffer in
-    let stop = stops ∙ ap (λ l. l - from) (string_len-bytes buffer) in
-    let is = IsSpan-appended (string_bytes old.buffer) (string_bytes buffer) more from len grown start stop (IsUtf8-string_bytes old.buffer) (IsUtf8-string_bytes buffer) in
-    let there = said_there new f k from len refers is in
+    let stop = ap (λ l. l - from) (string_len-bytes buffer) in
     record {
-      lies = there.0;
-      says = there.1 ∙ ap (said k) (spanned-appended (string_bytes old.buffer) (string_bytes buffer) more from len grown start stop);
-      keeps = record { forms = refl; feeds = refl; buffer = (more, grown); longs = longer; numbers = Extends-none old.numbers.items };
-      grows = record { buffer = short; longs = longs_grow; numbers = omega arith; forms = omega arith };
+      lies = kept.lies;
+      says = kept.says ∙ ap (said k) (spanned-appended (string_bytes old.buffer) (string_bytes buffer) w from (string_len buffer - from) grown start stop);
+      keeps = record {
+        forms = kept.keeps.forms;
+        feeds = kept.keeps.feeds;
+        buffer = Extends-then (string_bytes old.buffer) (string_bytes buffer) (string_bytes new.buffer) (w, grown) kept.keeps.buffer;
+        longs = kept.keeps.longs;
+        numbers = kept.keeps.numbers;
+      };
+      grows = record { buffer = omega (arith, kept.grows.buffer, short); longs = kept.grows.longs; numbers = kept.grows.numbers; forms = kept.grows.forms };
     }
+kept_referred old new buffer seats w (Err e) k from n grown starts short kept = tt
 
--- the same where `refer` answered
-pub kept_referred : (old : Store) (buffer : String Global) (longs : Vec Span Global) (more : List ℕ) (found : Result Form AllocError) (k : Kind) (from len n : ℕ)
-    → string_bytes buffer ≡ string_bytes old.buffer ++ more → from ≡ string_len old.buffer → len ≡ string_len buffer - from
-    → string_len buffer ≤ string_len old.buffer + 4 * n → IfOk found (λ f. Refers longs.items f k from len) → OnOk found (Extends old.longs.items longs.items)
-    → OnOk found (vec_len longs ≤ vec_len old.longs + 1)
-    → IfOk found (λ f. IsKept old (record { buffer = buffer; longs = longs; numbers = old.numbers; forms = old.forms; feeds = old.feeds }) f (said k more) n)
-kept_referred old buffer longs more (Ok f) k from len n grown starts stops short refers longer longs_grow =
-    kept_appended old buffer longs more f k from len n grown starts stops short refers longer longs_grow
-kept_referred old buffer longs more (Err e) k from len n grown starts stops short refers longer longs_grow = tt
+-- what was appended to the buffer can be referred to
+pub span_appended : (old buffer : String Global) (w : List ℕ) (from : ℕ) → string_bytes buffer ≡ string_bytes old ++ w → from ≡ string_len old
+    → IsSpan (string_bytes buffer) (span from (string_len buffer - from))
+span_appended old buffer w from grown starts =
+    IsSpan-appended (string_bytes old) (string_bytes buffer) w from (string_len buffer - from) grown (starts ∙ string_len-bytes old)
+    (ap (λ l. l - from) (string_len-bytes buffer)) (IsUtf8-string_bytes old) (IsUtf8-string_bytes buffer)
 
 -- a form that was found is the item's token
 pub taken_some : (old new : Store) (found : Option Form) (f : Form) (item : Item) (line : ℕ) → IsTaken old new found item → found ≡ Some f

@@ -112,7 +112,7 @@ passed_more old new line here before passed = passed ∙ ap (λ front. front ++ 
 
 -- what a store is with one token more, which stands behind the line feeds that are passed
 abbrev pub pushed : Store → Vec Form Global → Vec ℕ Global → Store
-pushed mid forms feeds = record { buffer = mid.buffer; longs = mid.longs; numbers = mid.numbers; forms = forms; feeds = feeds }
+pushed mid forms feeds = record { buffer = mid.buffer; longs = mid.longs; numbers = mid.numbers; forms = forms; feeds = feeds; seats = mid.seats }
 
 pub listed_pushed : (old mid : Store) (forms : Vec Form Global) (feeds : Vec ℕ Global) (f : Form) (n here line : ℕ) → IsSound old → Keeps old mid
     → forms.items ≡ mid.forms.items ++ f ∷ [] → feeds.items ≡ mid.feeds.items ++ replicate n here → here ≡ length mid.forms.items

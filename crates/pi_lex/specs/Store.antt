@@ -1,14 +1,15 @@
 -- What a store of tokens holds.
-use Rattle.std.specs.Prelude.{◌≡◌, ℕ, ◌+◌, ◌*◌, ◌^◌, ◌<◌, ◌≤◌, pos, nat_le, List, [], ◌∷◌, ◌++◌, length, slice_get, slice_index_or, string_bytes, string_len, vec_len, Option, Some, None, IfSome, IsSome}
+use Rattle.std.specs.Prelude.{◌≡◌, ℕ, ◌+◌, ◌*◌, ◌^◌, ◌<◌, ◌≤◌, pos, nat_le, List, [], ◌∷◌, ◌++◌, length, slice_index_or, string_bytes, string_len, vec_len, Option, None, IfSome, IsSome}
 use Rattle.std.specs.List.{All, count_by}
 use Rattle.std.specs.List.Sorted.{IsNonDecreasing}
 use Rattle.pi_lex.specs.declared.store.Kind.{Kind}
 use Rattle.pi_lex.specs.declared.store.Kind.TheVariants as kind
-use Rattle.pi_lex.specs.declared.store.Span.{Span}
+use Rattle.pi_lex.specs.declared.store.Long.{Long}
+use Rattle.pi_lex.specs.declared.store.FormKind.{FormKind}
+use Rattle.pi_lex.specs.declared.store.FormKind.TheVariants as form
 use Rattle.pi_lex.specs.declared.store.Form.{Form}
-use Rattle.pi_lex.specs.declared.store.Form.TheVariants as form
 use Rattle.pi_lex.specs.declared.store.Store.{Store}
-use Rattle.pi_lex.specs.Spans.{spanned, IsSpan}
+use Rattle.pi_lex.specs.Spans.{span, spanned, IsSpan, spelled_at, IsCounted}
 use Rattle.pi_syntax.specs.Tokens.{Token, Item, Ended, Blank, Lexeme, Wide, Bad, Var, Atom, Word, Int, Str, Sign, End, Located}
 
 -- the token that these bytes are
@@ -19,19 +20,36 @@ said kind.Word bytes = Word bytes
 said kind.Text bytes = Str bytes
 said kind.Sign bytes = Sign bytes
 
-abbrev pub span : ℕ → ℕ → Span
-span from len = record { from = from; len = len }
+-- what the form of a counted spelling is
+abbrev pub counted_kind : Kind → FormKind
+counted_kind kind.Variable = form.Variable
+counted_kind kind.Atom = form.Atom
+counted_kind kind.Word = form.Word
+counted_kind kind.Text = form.Text
+counted_kind kind.Sign = form.Sign
 
--- the long span at a place
-abbrev pub long_at : List Span → ℕ → Span
-long_at longs place = slice_index_or longs place (span 0 0)
+-- the number of a form
+abbrev pub number_of : Form → ℕ
+number_of f = f.high * 65536 + f.low
+
+-- the long one at a place
+abbrev pub long_at : List Long → ℕ → Long
+long_at longs place = slice_index_or longs place (record { kind = kind.Variable; span = span 0 0 })
+
+-- the token that a form of this kind and number tells
+abbrev pub told : Store → FormKind → ℕ → Token
+told store form.Variable place = Var (spelled_at (string_bytes store.buffer) place)
+told store form.Atom place = Atom (spelled_at (string_bytes store.buffer) place)
+told store form.Word place = Word (spelled_at (string_bytes store.buffer) place)
+told store form.Text place = Str (spelled_at (string_bytes store.buffer) place)
+told store form.Sign place = Sign (spelled_at (string_bytes store.buffer) place)
+told store form.Long place = said (long_at store.longs.items place).kind (spanned (string_bytes store.buffer) (long_at store.longs.items place).span)
+told store form.Small value = Int (pos value)
+told store form.Large place = Int (slice_index_or store.numbers.items place (pos 0))
+told store form.EndPoint place = End
 
 abbrev pub token_of : Store → Form → Token
-token_of store (form.Short k len from) = said k (spanned (string_bytes store.buffer) (span from len))
-token_of store (form.Long k place) = said k (spanned (string_bytes store.buffer) (long_at store.longs.items place))
-token_of store (form.Small value) = Int (pos value)
-token_of store (form.Large place) = Int (slice_index_or store.numbers.items place (pos 0))
-token_of store form.EndPoint = End
+token_of store f = told store f.kind (number_of f)
 
 -- the line of the token at a place, where so many tokens stand before each line feed
 abbrev pub line_at : List ℕ → ℕ → ℕ
@@ -46,12 +64,20 @@ located_from store place (f ∷ forms) = (token_of store f, line_at store.feeds.
 abbrev pub listed : Store → List Located
 listed store = located_from store 0 store.forms.items
 
+-- the store holds what a form of this kind and number tells
+abbrev pub Lies : Store → FormKind → ℕ → Type 0
+Lies store form.Variable place = IsCounted (string_bytes store.buffer) place
+Lies store form.Atom place = IsCounted (string_bytes store.buffer) place
+Lies store form.Word place = IsCounted (string_bytes store.buffer) place
+Lies store form.Text place = IsCounted (string_bytes store.buffer) place
+Lies store form.Sign place = IsCounted (string_bytes store.buffer) place
+Lies store form.Long place = (place < length store.longs.items) × IsSpan (string_bytes store.buffer) (long_at store.longs.items place).span
+Lies store form.Small value = Unit {0}
+Lies store form.Large place = place < length store.numbers.items
+Lies store form.EndPoint place = Unit {0}
+
 abbrev pub IsForm : Store → Form → Type 0
-IsForm store (form.Short k len from) = IsSpan (string_bytes store.buffer) (span from len)
-IsForm store (form.Long k place) = (place < length store.longs.items) × IsSpan (string_bytes store.buffer) (long_at store.longs.items place)
-IsForm store (form.Small value) = Unit {0}
-IsForm store (form.Large place) = place < length store.numbers.items
-IsForm store form.EndPoint = Unit {0}
+IsForm store f = Lies store f.kind (number_of f)
 
 -- each token lies in the store, and line feeds stand in order, before or behind tokens that there are
 pub record IsSound (store : Store) : Type 0 where
@@ -67,15 +93,7 @@ StandsBefore store line = length store.feeds.items < line
 abbrev pub Extends : {X : Type 0} → List X → List X → Type 0
 Extends {X} xs ys = (more : List X) × (ys ≡ xs ++ more)
 
--- the form tells this span
-abbrev pub Refers : List Span → Form → Kind → ℕ → ℕ → Type 0
-Refers longs (form.Short k short start) wanted from len = (k ≡ wanted) × (start ≡ from) × (short ≡ len)
-Refers longs (form.Long k place) wanted from len = (k ≡ wanted) × (slice_get longs place ≡ Some (span from len))
-Refers longs (form.Small value) wanted from len = ⊥
-Refers longs (form.Large place) wanted from len = ⊥
-Refers longs form.EndPoint wanted from len = ⊥
-
--- what the store holds of its tokens stays, and more may stand behind what they refer to
+-- what the store holds of its tokens stays, and more may stand behind what they refer to; the seats are free
 pub record Keeps (old new : Store) : Type 0 where
   pub forms : new.forms.items ≡ old.forms.items
   pub feeds : new.feeds.items ≡ old.feeds.items
@@ -85,16 +103,16 @@ pub record Keeps (old new : Store) : Type 0 where
 
 -- the store grew by at most what a token of so many characters needs
 pub record GrowsBy (old new : Store) (n : ℕ) : Type 0 where
-  pub buffer : string_len new.buffer ≤ string_len old.buffer + 4 * n
+  pub buffer : string_len new.buffer ≤ string_len old.buffer + 4 * n + 1
   pub longs : vec_len new.longs ≤ vec_len old.longs + 1
   pub numbers : vec_len new.numbers ≤ vec_len old.numbers + 1
   pub forms : vec_len new.forms ≤ vec_len old.forms + 1
 
 -- there is room for so many characters
 pub record HasRoom (store : Store) (n : ℕ) : Type 0 where
-  pub buffer : string_len store.buffer + 4 * n < 2 ^ 32
-  pub longs : vec_len store.longs + n < 2 ^ 32
-  pub numbers : vec_len store.numbers + n < 2 ^ 32
+  pub buffer : string_len store.buffer + 5 * n < 2 ^ 32
+  pub longs : vec_len store.longs + n ≤ 2 ^ 24
+  pub numbers : vec_len store.numbers + n ≤ 2 ^ 24
   pub forms : vec_len store.forms + n < 2 ^ 32
 
 -- the store came to hold what the form tells, this token of so many characters

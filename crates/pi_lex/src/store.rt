@@ -1,12 +1,18 @@
-//! The tokens as they are kept: eight bytes each, most with a span of one buffer, and their lines beside them.
-ghost use Rattle.std.specs.Prelude.{◌≡◌, ◌+◌, ◌*◌, ◌<◌, ◌≤◌, ◌^◌, ◌++◌, length, string_bytes, string_len, vec_len, encode_utf8_all, OnOk, IfOk};
-ghost use Rattle.pi_lex.specs.Spans.{spanned, IsSpan};
-ghost use Rattle.pi_lex.specs.Store.{Extends, Refers};
+//! The tokens as they are kept: four bytes each, most with a place in one buffer, and their lines beside them.
+ghost use Rattle.std.specs.Prelude.{◌≡◌, ◌+◌, ◌-◌, ◌*◌, ◌<◌, ◌≤◌, ◌^◌, ◌++◌, length, string_bytes, string_len, vec_len, encode_utf8_all, IsTrue, IfSome, OnOk, IfOk};
+ghost use Rattle.pi_lex.specs.Spans.{span, spanned, IsSpan, spelled_at, IsCounted};
+ghost use Rattle.pi_lex.specs.Store.{number_of, counted_kind};
 
 use crate::item::Item;
 use crate::quoted::push_unescaped;
 use crate::token_list::TokenKind;
 use std::alloc::{AllocError, Global};
+
+/// The numbers of forms are below this one.
+const NUMBERS: usize = 16_777_216;
+
+/// From so many bytes on a spelling is a long one, since its count is kept as a character of ASCII.
+const LONG_FROM: usize = 128;
 
 /// What differs among the tokens that the buffer spells.
 #[derive(Clone, Copy)]
@@ -25,28 +31,69 @@ pub(crate) struct Span {
     len: u32,
 }
 
-/// A token in eight bytes.
+/// A token whose spelling is too long to be counted, or whose count would stand at a place past the numbers of forms.
 #[derive(Clone, Copy)]
-pub(crate) enum Form {
-    /// At most 65,535 bytes of the buffer, from a place on.
-    Short { kind: Kind, len: u16, from: u32 },
-    /// More bytes of the buffer: the place among the long spans.
-    Long { kind: Kind, place: u32 },
-    /// An integer of 32 bits.
-    Small(u32),
-    /// Any other integer: the place among the numbers.
-    Large(u32),
+pub(crate) struct Long {
+    kind: Kind,
+    span: Span,
+}
+
+/// What a form is, and what its number is. Of the first five it is the place of the count in the buffer, and the
+/// spelling, of so many bytes, stands in front of that.
+#[derive(Clone, Copy)]
+pub(crate) enum FormKind {
+    Variable,
+    Atom,
+    Word,
+    Text,
+    Sign,
+    /// The number is the place among the long ones.
+    Long,
+    /// The number is the integer.
+    Small,
+    /// The number is the place among the numbers.
+    Large,
     EndPoint,
 }
 
+/// A token in four bytes: what it is, and a number below 2^24.
+#[derive(Clone, Copy)]
+pub(crate) struct Form {
+    kind: FormKind,
+    high: u8,
+    low: u16,
+}
+
+impl Form {
+    fn new(kind: FormKind, number: usize) -> Self
+        requires { number < 2 ^ 24 }
+        ensures kind { result.kind ≡ kind }
+        ensures number { number_of result ≡ number }
+    {
+        Form {
+            kind,
+            high: (number / 65_536) as u8,
+            low: (number % 65_536) as u16,
+        }
+    }
+
+    fn number(self) -> u32
+        ensures { result ≡ number_of self }
+    {
+        u32::from(self.high) * 65_536 + u32::from(self.low)
+    }
+}
+
 /// The tokens' forms, and what they refer to. `feeds` has for each line feed that is passed how many tokens stand
-/// before it, so no token holds its line.
+/// before it, so no token holds its line. `seats` has places where counts may stand; each is only a guess, of which
+/// nothing is known until the buffer is looked at.
 pub(crate) struct Store {
     buffer: String,
-    longs: Vec<Span>,
+    longs: Vec<Long>,
     numbers: Vec<i128>,
     forms: Vec<Form>,
     feeds: Vec<u32>,
+    seats: [u32; 256],
 }
 
 // By hand, so that letting one go is a call and not its parts at each way out.
@@ -58,12 +105,13 @@ impl Drop for Store {
             numbers: _,
             forms: _,
             feeds: _,
+            seats: _,
         } = self;
     }
 }
 
 impl Store {
-    ghost use Rattle.std.specs.Prelude.{◌≡◌, [], ◌++◌, ◌<◌, false, length, encode_utf8_all, slice_get, Some, string_bytes, OnOk, IfOk};
+    ghost use Rattle.std.specs.Prelude.{◌≡◌, [], ◌++◌, ◌+◌, ◌-◌, ◌^◌, ◌<◌, false, length, encode_utf8_all, slice_get, Some, string_bytes, string_len, vec_len, OnOk, IfOk};
     ghost use Rattle.pi_lex.specs.Kinds.{token_shown, kinds, lines};
     ghost use Rattle.pi_lex.specs.Items.{seen, FitsIn, item_len, tokens_from};
     ghost use Rattle.pi_lex.specs.Store.{listed, said, token_of, IsForm, IsSound, IsKept, IsTaken, GrowsBy, HasRoom, StandsBefore};
@@ -82,6 +130,7 @@ impl Store {
             numbers: Vec::new(alloc),
             forms: Vec::new(alloc),
             feeds: Vec::new(alloc),
+            seats: [0; 256],
         }
     }
 
@@ -133,30 +182,42 @@ impl Store {
         requires { IsForm self.now form }
         ensures { token_shown result ≡ token_of self.now form }
     {
-        match form {
-            Form::Short { kind, len, from } => {
-                let len = u32::from(len);
-                self.say(kind, Span { from, len })
-            }
-            Form::Long { kind, place } => self.say(kind, self.longs[place as usize]),
-            Form::Small(value) => TokenKind::Int(i128::from(value)),
-            Form::Large(place) => TokenKind::Int(self.numbers[place as usize]),
-            Form::EndPoint => TokenKind::End,
+        let number = form.number() as usize;
+        match form.kind {
+            FormKind::Variable => TokenKind::Var(self.spelled(number)),
+            FormKind::Atom => TokenKind::Atom(self.spelled(number)),
+            FormKind::Word => TokenKind::Word(self.spelled(number)),
+            FormKind::Text => TokenKind::Str(self.spelled(number)),
+            FormKind::Sign => TokenKind::Sign(self.spelled(number)),
+            FormKind::Long => self.show_long(self.longs[number]),
+            FormKind::Small => TokenKind::Int(i128::from(form.number())),
+            FormKind::Large => TokenKind::Int(self.numbers[number]),
+            FormKind::EndPoint => TokenKind::End,
         }
     }
 
-    fn say(&self, kind: Kind, span: Span) -> TokenKind<'_>
-        requires { IsSpan (string_bytes self.now.buffer) span }
-        ensures { token_shown result ≡ said kind (spanned (string_bytes self.now.buffer) span) }
+    fn show_long(&self, long: Long) -> TokenKind<'_>
+        requires { IsSpan (string_bytes self.now.buffer) long.span }
+        ensures { token_shown result ≡ said long.kind (spanned (string_bytes self.now.buffer) long.span) }
     {
-        let bytes = self.bytes(span);
-        match kind {
+        let bytes = self.bytes(long.span);
+        match long.kind {
             Kind::Variable => TokenKind::Var(bytes),
             Kind::Atom => TokenKind::Atom(bytes),
             Kind::Word => TokenKind::Word(bytes),
             Kind::Text => TokenKind::Str(bytes),
             Kind::Sign => TokenKind::Sign(bytes),
         }
+    }
+
+    /// The spelling in front of its count.
+    fn spelled(&self, place: usize) -> &str
+        requires { IsCounted (string_bytes self.now.buffer) place }
+        ensures { result.now ≡ spelled_at (string_bytes self.now.buffer) place }
+    {
+        let buffer = self.buffer.as_str();
+        let len = usize::from(buffer.as_bytes()[place]);
+        &buffer[place - len..place]
     }
 
     fn bytes(&self, span: Span) -> &str
@@ -181,64 +242,144 @@ impl Store {
             Item::QuotedAtom(place) => Ok(Some(self.unescape(Kind::Atom, &text[1..place])?)),
             Item::Text(place) => Ok(Some(self.unescape(Kind::Text, &text[1..place])?)),
             Item::Integer(value, _) => Ok(Some(self.number(value)?)),
-            Item::EndPoint => Ok(Some(Form::EndPoint)),
+            Item::EndPoint => Ok(Some(Form::new(FormKind::EndPoint, 0))),
             Item::Blank(_) | Item::Wide | Item::Bad => Ok(None),
         }
     }
 
-    /// Keeps the characters as they are.
+    /// Keeps the characters as they are, where they don't stand at their seat already.
     fn spell(&mut self, kind: Kind, spelling: &[char]) -> Result<Form, AllocError>
-        requires { HasRoom self.old (length spelling.now) }
+        requires some { 0 < length spelling.now }
+        requires room { HasRoom self.old (length spelling.now) }
         ensures { IfOk result (λ form. IsKept self.old self.new form (said kind (encode_utf8_all spelling.now)) (length spelling.now)) }
     {
+        let seat = seat_of(spelling);
+        let guess = self.seats[seat] as usize;
+        if guess < NUMBERS && stands_at(self.buffer.as_str(), guess, spelling) {
+            return Ok(Form::new(counted_kind(kind), guess));
+        }
         let from = self.buffer.len();
         push_all(&mut self.buffer, spelling)?;
-        let len = self.buffer.len() - from;
-        refer(&mut self.longs, kind, from, len)
+        self.seats[seat] = self.buffer.len() as u32;
+        self.refer(kind, from)
     }
 
     /// Keeps what the characters between two quotes stand for.
     fn unescape(&mut self, kind: Kind, inside: &[char]) -> Result<Form, AllocError>
-        requires { HasRoom self.old (length inside.now) }
+        requires { HasRoom self.old (length inside.now + 1) }
         ensures { IfOk result (λ form. IsKept self.old self.new form (said kind (encode_utf8_all (unescaped false inside.now))) (length inside.now)) }
     {
         let from = self.buffer.len();
         push_unescaped(&mut self.buffer, inside)?;
-        let len = self.buffer.len() - from;
-        refer(&mut self.longs, kind, from, len)
+        self.refer(kind, from)
+    }
+
+    /// The form of what the buffer holds from a place on. A count is pushed behind it, or it is a long one.
+    fn refer(&mut self, kind: Kind, from: usize) -> Result<Form, AllocError>
+        requires span { IsSpan (string_bytes self.old.buffer) (span from (string_len self.old.buffer - from)) }
+        requires buffer { string_len self.old.buffer < 2 ^ 32 }
+        requires longs { vec_len self.old.longs < 2 ^ 24 }
+        ensures { IfOk result (λ form. IsKept self.old self.new form (said kind (spanned (string_bytes self.old.buffer) (span from (string_len self.old.buffer - from)))) 0) }
+    {
+        let place = self.buffer.len();
+        let len = place - from;
+        if len < LONG_FROM && place < NUMBERS {
+            self.buffer.push(char::from(len as u8))?;
+            return Ok(Form::new(counted_kind(kind), place));
+        }
+        let number = self.longs.len();
+        let span = Span {
+            from: from as u32,
+            len: len as u32,
+        };
+        self.longs.push(Long { kind, span })?;
+        Ok(Form::new(FormKind::Long, number))
     }
 
     fn number(&mut self, value: i128) -> Result<Form, AllocError>
-        requires { HasRoom self.old 0 }
+        requires { HasRoom self.old 1 }
         ensures { IfOk result (λ form. IsKept self.old self.new form (Int value) 0) }
     {
         if let Ok(small) = u32::try_from(value) {
-            return Ok(Form::Small(small));
+            let small = small as usize;
+            if small < NUMBERS {
+                return Ok(Form::new(FormKind::Small, small));
+            }
         }
-        let place = self.numbers.len() as u32;
+        let place = self.numbers.len();
         self.numbers.push(value)?;
-        Ok(Form::Large(place))
+        Ok(Form::new(FormKind::Large, place))
     }
 }
 
-/// The form of a span: a short one stands in it, a long one behind the others.
-fn refer(longs: &mut Vec<Span>, kind: Kind, from: usize, len: usize) -> Result<Form, AllocError>
-    requires span { from + len < 2 ^ 32 }
-    requires room { vec_len longs.old < 2 ^ 32 }
-    ensures refers { IfOk result (λ form. Refers longs.new.items form kind from len) }
-    ensures keeps { OnOk result (Extends longs.old.items longs.new.items) }
-    ensures grows { OnOk result (vec_len longs.new ≤ vec_len longs.old + 1) }
+/// What the form of a counted spelling is.
+fn counted_kind(kind: Kind) -> FormKind
+    ensures { result ≡ counted_kind kind }
 {
-    if let Ok(len) = u16::try_from(len) {
-        let from = from as u32;
-        return Ok(Form::Short { kind, len, from });
+    match kind {
+        Kind::Variable => FormKind::Variable,
+        Kind::Atom => FormKind::Atom,
+        Kind::Word => FormKind::Word,
+        Kind::Text => FormKind::Text,
+        Kind::Sign => FormKind::Sign,
     }
-    let place = longs.len() as u32;
-    longs.push(Span {
-        from: from as u32,
-        len: len as u32,
-    })?;
-    Ok(Form::Long { kind, place })
+}
+
+/// The seat of a spelling, by its ends and its length.
+fn seat_of(spelling: &[char]) -> usize
+    requires { 0 < length spelling.now }
+    ensures { result < 256 }
+{
+    let len = spelling.len();
+    let first = spelling[0] as usize;
+    let last = spelling[len - 1] as usize;
+    (first % 256 * 7 + last % 256 * 46 + len % 256 * 113) % 256
+}
+
+/// Whether the spelling stands in front of a count at this place.
+fn stands_at(buffer: &str, place: usize, spelling: &[char]) -> bool
+    ensures counted { IsTrue result → IsCounted buffer.now place }
+    ensures spelled { IsTrue result → spelled_at buffer.now place ≡ encode_utf8_all spelling.now }
+{
+    match counted_at(buffer, place) {
+        Some(found) => is_spelled(found, spelling),
+        None => false,
+    }
+}
+
+/// What stands in front of a count at this place, if this is one.
+fn counted_at(buffer: &str, place: usize) -> Option<&str>
+    ensures { IfSome result (λ found. IsCounted buffer.now place × (found.now ≡ spelled_at buffer.now place)) }
+{
+    if place >= buffer.len() {
+        return None;
+    }
+    let len = usize::from(buffer.as_bytes()[place]);
+    if len > place {
+        return None;
+    }
+    let from = place - len;
+    if buffer.is_char_boundary(from) && buffer.is_char_boundary(place) {
+        Some(&buffer[from..place])
+    } else {
+        None
+    }
+}
+
+/// Whether these are the characters of the text.
+fn is_spelled(text: &str, spelling: &[char]) -> bool
+    ensures { IsTrue result → text.now ≡ encode_utf8_all spelling.now }
+{
+    let mut rest = text.chars();
+    for c in spelling {
+        let Some(found) = rest.next() else {
+            return false;
+        };
+        if found != *c {
+            return false;
+        }
+    }
+    rest.next().is_none()
 }
 
 #[tactic(auto, using(crate::proofs::StoreLemmas::encode_short))]
