@@ -33,6 +33,22 @@ impl Items {
         Ok(made)
     }
 
+    /// The first of so many trees, with room for all.
+    pub fn first_of(alloc: Global, count: usize, first: Built) -> Result<Items, AllocError>
+        ensures { IfOk result (λ made. (e : ExpTree) → Shows first e → ShowsItems made (one_exp e)) }
+    {
+        match Vec::with_capacity(alloc, count) {
+            Ok(exps) => {
+                let made = Items::Kept(exps, 0).with(first)?;
+                Ok(made)
+            }
+            Err(error) => {
+                drop(first);
+                Err(error)
+            }
+        }
+    }
+
     /// These and one more at the end.
     pub fn with(self, last: Built) -> Result<Items, AllocError>
         ensures { IfOk result (λ made. (es : ExpTrees) (e : ExpTree) → ShowsItems self es → Shows last e → ShowsItems made (with_exp es e)) }

@@ -42,7 +42,7 @@ pub fn call_of_two(
 ) -> Result<Built, AllocError>
     ensures { IfOk result (λ made. (a b : ExpTree) → Shows left a → Shows right b → Shows made (call_two name.now a b)) }
 {
-    match Items::one(alloc, left) {
+    match Items::first_of(alloc, 2, left) {
         Ok(first) => {
             let items = first.with(right)?;
             let call = call(alloc, name, items)?;
