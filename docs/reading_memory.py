@@ -26,6 +26,14 @@ def in_a_list(piece):
     return f'p(X) => Y = [{repeated(piece)}1], Y = X.\n'
 
 
+PUZZLE = '''puzzle(Digits) =>
+    Digits = [S,E,N,D,M,O,R,Y],
+    Digits :: 0..9,
+    all_different(Digits), S > 0, M > 0,
+    1000*S+100*E+10*N+D + 1000*M+100*O+10*R+E #= 10000*M+1000*O+100*N+10*E+Y,
+    solve([ff], Digits).
+'''
+
 TEXTS = {
     'examples': lambda: repeated('\n'.join(path.read_text() for path in sorted(EXAMPLES.glob('*.pi')))),
     'rules of their own': rules_of_their_own,
@@ -45,7 +53,10 @@ TEXTS = {
     'a list of digits': lambda: in_a_list('1,'),
     'a list of letters': lambda: in_a_list('a,'),
     'a list of lists': lambda: in_a_list('[1],'),
+    'rules of arithmetic': lambda: repeated('f(X)=X*X+2*X+1.\n'),
+    'a puzzle': lambda: repeated(PUZZLE),
     'a list of -X': lambda: in_a_list('-X,'),
+    'sums of 500 digits': lambda: in_a_list('1+' * 499 + '1,'),
     'runs of 500 signs': lambda: in_a_list('-' * 500 + 'X,'),
     'a conjunction': lambda: f'p => {repeated("p,")}p.\n',
     'a call': lambda: f'p => X = $f({repeated("1,")}1), X = X.\n',

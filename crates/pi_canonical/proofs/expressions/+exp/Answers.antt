@@ -107,7 +107,8 @@ write_exp-returns-in_ok-push_str-in-Var t c = var-text c.args.exp.now c.in-Var.n
 
 pub write_exp-returns-in-Int : goal.write_exp-returns-in-Int
 write_exp-returns-in-Int t c =
-    let same : to_z w128 (of_z w128 c.in-Int.n) ≡ c.in-Int.n = search rules in
+    let held : to_z w128 (of_z w128 c.value.result) ≡ c.value.result = search rules in
+    let same : to_z w128 (of_z w128 c.value.result) ≡ c.in-Int.n = held ∙ c.value.ensures in
     wrote-as c.write_integer.result (string_bytes c.args.out.now) (string_bytes c.write_integer.new.out) _ (exp_text (exp_tree c.args.exp.now))
     (ap integer_text same ∙ int-text c.args.exp.now c.in-Int.n c.in-Int.is)
     c.write_integer.ensures.ok
