@@ -4,8 +4,8 @@ use Rattle.std.proofs.lemmas.List.{append-nil, append_assoc}
 use Rattle.std.proofs.lemmas.Str.{IsUtf8-string_bytes}
 use Rattle.std.specs.declared.alloc.AllocError.{AllocError}
 use Rattle.std.specs.declared.alloc.Global.{Global}
-use Rattle.pi_lex.specs.declared.store.Form.{Form}
-use Rattle.pi_lex.specs.declared.store.Kind.{Kind}
+use Rattle.pi_lex.specs.declared.form.Form.{Form}
+use Rattle.pi_lex.specs.declared.form.Kind.{Kind}
 use Rattle.pi_lex.specs.declared.store.Store.{Store}
 use Rattle.pi_lex.specs.Items.{item_len, tokens_from}
 use Rattle.pi_lex.specs.Spans.{span, spanned, IsSpan}

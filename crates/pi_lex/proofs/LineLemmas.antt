@@ -9,7 +9,7 @@ use Rattle.std.proofs.lemmas.List.Folds.{sum_by-replicate}
 use Rattle.std.specs.declared.alloc.Global.{Global}
 use Rattle.std.specs.List.{All, count_by}
 use Rattle.std.specs.List.Sorted.{IsNonDecreasing, IsPartitionPoint}
-use Rattle.pi_lex.specs.declared.store.Form.{Form}
+use Rattle.pi_lex.specs.declared.form.Form.{Form}
 use Rattle.pi_lex.specs.declared.store.Store.{Store}
 use Rattle.pi_lex.specs.Kinds.{kinds, lines}
 use Rattle.pi_lex.specs.Store.{token_of, line_at, located_from, listed, IsForm, IsSound, Keeps}

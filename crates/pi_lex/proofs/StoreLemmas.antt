@@ -5,9 +5,9 @@ use Rattle.std.proofs.lemmas.Str.{length-encode, len_utf8_bounds, IsCharBoundary
 use Rattle.std.specs.declared.alloc.Global.{Global}
 use Rattle.std.specs.Char.{encode_utf8}
 use Rattle.std.specs.Str.{IsUtf8, IsCharBoundary}
-use Rattle.pi_lex.specs.declared.store.Form.{Form}
-use Rattle.pi_lex.specs.declared.store.FormKind.{FormKind}
-use Rattle.pi_lex.specs.declared.store.FormKind.TheVariants as form
+use Rattle.pi_lex.specs.declared.form.Form.{Form}
+use Rattle.pi_lex.specs.declared.form.FormKind.{FormKind}
+use Rattle.pi_lex.specs.declared.form.FormKind.TheVariants as form
 use Rattle.pi_lex.specs.declared.store.Span.{Span}
 use Rattle.pi_lex.specs.declared.store.Store.{Store}
 use Rattle.pi_lex.specs.Spans.{span, spanned, IsSpan, counted, spelled_at, IsCounted}

@@ -2,12 +2,12 @@
 use Rattle.std.specs.Prelude.{◌≡◌, ℕ, ◌+◌, ◌*◌, ◌^◌, ◌<◌, ◌≤◌, pos, nat_le, List, [], ◌∷◌, ◌++◌, length, slice_index_or, string_bytes, string_len, vec_len, Option, None, IfSome, IsSome}
 use Rattle.std.specs.List.{All, count_by}
 use Rattle.std.specs.List.Sorted.{IsNonDecreasing}
-use Rattle.pi_lex.specs.declared.store.Kind.{Kind}
-use Rattle.pi_lex.specs.declared.store.Kind.TheVariants as kind
+use Rattle.pi_lex.specs.declared.form.Kind.{Kind}
+use Rattle.pi_lex.specs.declared.form.Kind.TheVariants as kind
 use Rattle.pi_lex.specs.declared.store.Long.{Long}
-use Rattle.pi_lex.specs.declared.store.FormKind.{FormKind}
-use Rattle.pi_lex.specs.declared.store.FormKind.TheVariants as form
-use Rattle.pi_lex.specs.declared.store.Form.{Form}
+use Rattle.pi_lex.specs.declared.form.FormKind.{FormKind}
+use Rattle.pi_lex.specs.declared.form.FormKind.TheVariants as form
+use Rattle.pi_lex.specs.declared.form.Form.{Form}
 use Rattle.pi_lex.specs.declared.store.Store.{Store}
 use Rattle.pi_lex.specs.Spans.{span, spanned, IsSpan, spelled_at, IsCounted}
 use Rattle.pi_syntax.specs.Tokens.{Token, Item, Ended, Blank, Lexeme, Wide, Bad, Var, Atom, Word, Int, Str, Sign, End, Located}

@@ -3,6 +3,7 @@
 
 mod blanks;
 mod fault;
+mod form;
 mod integers;
 mod item;
 mod laws;
@@ -10,6 +11,7 @@ mod names;
 mod quoted;
 mod reader;
 mod signs;
+mod spelling;
 mod store;
 mod token_list;
 

@@ -1,28 +1,13 @@
 //! The tokens as they are kept: four bytes each, most with a place in one buffer, and their lines beside them.
-ghost use Rattle.std.specs.Prelude.{◌≡◌, ◌+◌, ◌-◌, ◌*◌, ◌<◌, ◌≤◌, ◌^◌, ◌++◌, length, string_bytes, string_len, vec_len, encode_utf8_all, IsTrue, IfSome, OnOk, IfOk};
-ghost use Rattle.pi_lex.specs.Spans.{span, spanned, IsSpan, spelled_at, IsCounted};
-ghost use Rattle.pi_lex.specs.Store.{number_of, counted_kind};
-
+use crate::form::{Form, FormKind, Kind, NUMBERS, counted_kind};
 use crate::item::Item;
 use crate::quoted::push_unescaped;
+use crate::spelling::{push_all, seat_of, stands_at};
 use crate::token_list::TokenKind;
 use std::alloc::{AllocError, Global};
 
-/// The numbers of forms are below this one.
-const NUMBERS: usize = 16_777_216;
-
 /// From so many bytes on a spelling is a long one, since its count is kept as a character of ASCII.
 const LONG_FROM: usize = 128;
-
-/// What differs among the tokens that the buffer spells.
-#[derive(Clone, Copy)]
-pub(crate) enum Kind {
-    Variable,
-    Atom,
-    Word,
-    Text,
-    Sign,
-}
 
 /// Bytes of the buffer.
 #[derive(Clone, Copy)]
@@ -36,52 +21,6 @@ pub(crate) struct Span {
 pub(crate) struct Long {
     kind: Kind,
     span: Span,
-}
-
-/// What a form is, and what its number is. Of the first five it is the place of the count in the buffer, and the
-/// spelling, of so many bytes, stands in front of that.
-#[derive(Clone, Copy)]
-pub(crate) enum FormKind {
-    Variable,
-    Atom,
-    Word,
-    Text,
-    Sign,
-    /// The number is the place among the long ones.
-    Long,
-    /// The number is the integer.
-    Small,
-    /// The number is the place among the numbers.
-    Large,
-    EndPoint,
-}
-
-/// A token in four bytes: what it is, and a number below 2^24.
-#[derive(Clone, Copy)]
-pub(crate) struct Form {
-    kind: FormKind,
-    high: u8,
-    low: u16,
-}
-
-impl Form {
-    fn new(kind: FormKind, number: usize) -> Self
-        requires { number < 2 ^ 24 }
-        ensures kind { result.kind ≡ kind }
-        ensures number { number_of result ≡ number }
-    {
-        Form {
-            kind,
-            high: (number / 65_536) as u8,
-            low: (number % 65_536) as u16,
-        }
-    }
-
-    fn number(self) -> u32
-        ensures { result ≡ number_of self }
-    {
-        u32::from(self.high) * 65_536 + u32::from(self.low)
-    }
 }
 
 /// The tokens' forms, and what they refer to. `feeds` has for each line feed that is passed how many tokens stand
@@ -112,6 +51,7 @@ impl Drop for Store {
 
 impl Store {
     ghost use Rattle.std.specs.Prelude.{◌≡◌, [], ◌++◌, ◌+◌, ◌-◌, ◌^◌, ◌<◌, false, length, encode_utf8_all, slice_get, Some, string_bytes, string_len, vec_len, OnOk, IfOk};
+    ghost use Rattle.pi_lex.specs.Spans.{span, spanned, IsSpan, spelled_at, IsCounted};
     ghost use Rattle.pi_lex.specs.Kinds.{token_shown, kinds, lines};
     ghost use Rattle.pi_lex.specs.Items.{seen, FitsIn, item_len, tokens_from};
     ghost use Rattle.pi_lex.specs.Store.{listed, said, token_of, IsForm, IsSound, IsKept, IsTaken, GrowsBy, HasRoom, StandsBefore};
@@ -310,85 +250,4 @@ impl Store {
         self.numbers.push(value)?;
         Ok(Form::new(FormKind::Large, place))
     }
-}
-
-/// What the form of a counted spelling is.
-fn counted_kind(kind: Kind) -> FormKind
-    ensures { result ≡ counted_kind kind }
-{
-    match kind {
-        Kind::Variable => FormKind::Variable,
-        Kind::Atom => FormKind::Atom,
-        Kind::Word => FormKind::Word,
-        Kind::Text => FormKind::Text,
-        Kind::Sign => FormKind::Sign,
-    }
-}
-
-/// The seat of a spelling, by its ends and its length.
-fn seat_of(spelling: &[char]) -> usize
-    requires { 0 < length spelling.now }
-    ensures { result < 256 }
-{
-    let len = spelling.len();
-    let first = spelling[0] as usize;
-    let last = spelling[len - 1] as usize;
-    (first % 256 * 7 + last % 256 * 46 + len % 256 * 113) % 256
-}
-
-/// Whether the spelling stands in front of a count at this place.
-fn stands_at(buffer: &str, place: usize, spelling: &[char]) -> bool
-    ensures counted { IsTrue result → IsCounted buffer.now place }
-    ensures spelled { IsTrue result → spelled_at buffer.now place ≡ encode_utf8_all spelling.now }
-{
-    match counted_at(buffer, place) {
-        Some(found) => is_spelled(found, spelling),
-        None => false,
-    }
-}
-
-/// What stands in front of a count at this place, if this is one.
-fn counted_at(buffer: &str, place: usize) -> Option<&str>
-    ensures { IfSome result (λ found. IsCounted buffer.now place × (found.now ≡ spelled_at buffer.now place)) }
-{
-    if place >= buffer.len() {
-        return None;
-    }
-    let len = usize::from(buffer.as_bytes()[place]);
-    if len > place {
-        return None;
-    }
-    let from = place - len;
-    if buffer.is_char_boundary(from) && buffer.is_char_boundary(place) {
-        Some(&buffer[from..place])
-    } else {
-        None
-    }
-}
-
-/// Whether these are the characters of the text.
-fn is_spelled(text: &str, spelling: &[char]) -> bool
-    ensures { IsTrue result → text.now ≡ encode_utf8_all spelling.now }
-{
-    let mut rest = text.chars();
-    for c in spelling {
-        let Some(found) = rest.next() else {
-            return false;
-        };
-        if found != *c {
-            return false;
-        }
-    }
-    rest.next().is_none()
-}
-
-#[tactic(auto, using(crate::proofs::StoreLemmas::encode_short))]
-fn push_all(buffer: &mut String, spelling: &[char]) -> Result<(), AllocError>
-    ensures bytes { OnOk result (string_bytes buffer.new ≡ string_bytes buffer.old ++ encode_utf8_all spelling.now) }
-    ensures grows { OnOk result (string_len buffer.new ≤ string_len buffer.old + 4 * length spelling.now) }
-{
-    for c in spelling {
-        buffer.push(*c)?;
-    }
-    Ok(())
 }

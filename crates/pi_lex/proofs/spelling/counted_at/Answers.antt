@@ -1,6 +1,6 @@
 use Rattle.std.proofs.Common.{rules, ◌≡◌, ◌∙◌, ap, slice_index}
 use Rattle.pi_lex.proofs.StoreLemmas.{counted_between}
-use Rattle.pi_lex.proofs.store.counted_at.Goals as goal
+use Rattle.pi_lex.proofs.spelling.counted_at.Goals as goal
 
 pub returns-then-is_char_boundary-2 : goal.returns-then-is_char_boundary-2
 returns-then-is_char_boundary-2 c =

@@ -1,6 +1,6 @@
 use Rattle.std.proofs.Common.{◌≡◌, drop, ◌++◌, string_bytes, string_len, ◌+◌, ◌*◌, ◌≤◌}
 use Rattle.std.specs.Str.{encode_utf8_all}
-use Rattle.pi_lex.proofs.store.push_all.Given as goal
+use Rattle.pi_lex.proofs.spelling.push_all.Given as goal
 
 abbrev pub invariant-loop-c : goal.invariant-loop-c
 invariant-loop-c l =
