@@ -25,6 +25,7 @@ impl Model for Integer {
 }
 
 impl Integer {
+    /// The integer with this value.
     pub fn new(value: i128) -> Integer
         ensures { result ≡ value }
     {
@@ -35,6 +36,7 @@ impl Integer {
         }
     }
 
+    /// Its value.
     pub fn value(&self) -> i128
         ensures { result ≡ self.now }
     {
