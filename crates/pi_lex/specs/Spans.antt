@@ -24,7 +24,7 @@ counted bytes place = span (place - slice_index bytes place) (slice_index bytes 
 abbrev pub spelled_at : List ℕ → ℕ → List ℕ
 spelled_at bytes place = spanned bytes (counted bytes place)
 
--- a count stands at this place, and so many bytes of whole characters in front of it
+-- the byte at this place, read as a count, counts bytes of whole characters in front of it, whether or not it was pushed as one
 pub record IsCounted (bytes : List ℕ) (place : ℕ) : Type 0 where
   pub within : place < length bytes
   pub fits : slice_index bytes place ≤ place

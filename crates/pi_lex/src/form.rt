@@ -2,8 +2,8 @@
 ghost use Rattle.std.specs.Prelude.{◌≡◌, ◌<◌, ◌^◌};
 ghost use Rattle.pi_lex.specs.Store.{number_of, counted_kind};
 
-/// The numbers of forms are below this one.
-pub(crate) const NUMBERS: usize = 16_777_216;
+/// No number of a form is this or more.
+pub(crate) const NUMBERS_END: usize = 16_777_216;
 
 /// What differs among the tokens that the buffer spells.
 #[derive(Clone, Copy)]
@@ -16,7 +16,7 @@ pub(crate) enum Kind {
 }
 
 /// What a form is, and what its number is. Of the first five it is the place of the count in the buffer, and the
-/// spelling, of so many bytes, stands in front of that.
+/// spelling, of so many bytes, stands in front of that. They are spelled out, so that a kind takes one byte.
 #[derive(Clone, Copy)]
 pub(crate) enum FormKind {
     Variable,
@@ -42,6 +42,7 @@ pub(crate) struct Form {
 }
 
 impl Form {
+    /// The form of this kind with this number.
     pub(crate) fn new(kind: FormKind, number: usize) -> Self
         requires { number < 2 ^ 24 }
         ensures kind { result.kind ≡ kind }
@@ -54,6 +55,7 @@ impl Form {
         }
     }
 
+    /// Its number.
     pub(crate) fn number(self) -> u32
         ensures { result ≡ number_of self }
     {

@@ -4,7 +4,10 @@ ghost use Rattle.pi_lex.specs.Spans.{spelled_at, IsCounted};
 
 use std::alloc::AllocError;
 
-/// The seat of a spelling, by its ends and its length.
+/// How many seats there are for places of spellings.
+pub(crate) const SEATS: usize = 256;
+
+/// The seat of a spelling, by its ends and its length. With these factors no two characters of ASCII share one.
 pub(crate) fn seat_of(spelling: &[char]) -> usize
     requires { 0 < length spelling.now }
     ensures { result < 256 }
@@ -12,10 +15,10 @@ pub(crate) fn seat_of(spelling: &[char]) -> usize
     let len = spelling.len();
     let first = spelling[0] as usize;
     let last = spelling[len - 1] as usize;
-    (first % 256 * 7 + last % 256 * 46 + len % 256 * 113) % 256
+    (first % 256 * 7 + last % 256 * 46 + len % 256 * 113) % SEATS
 }
 
-/// Whether the spelling stands in front of a count at this place.
+/// Whether the byte at this place counts the bytes of this spelling in front of it.
 pub(crate) fn stands_at(buffer: &str, place: usize, spelling: &[char]) -> bool
     ensures counted { IsTrue result → IsCounted buffer.now place }
     ensures spelled { IsTrue result → spelled_at buffer.now place ≡ encode_utf8_all spelling.now }
@@ -26,7 +29,7 @@ pub(crate) fn stands_at(buffer: &str, place: usize, spelling: &[char]) -> bool
     }
 }
 
-/// What stands in front of a count at this place, if this is one.
+/// So many bytes in front of this place as the byte there says, where these are whole characters.
 fn counted_at(buffer: &str, place: usize) -> Option<&str>
     ensures { IfSome result (λ found. IsCounted buffer.now place × (found.now ≡ spelled_at buffer.now place)) }
 {
@@ -61,6 +64,7 @@ fn is_spelled(text: &str, spelling: &[char]) -> bool
     rest.next().is_none()
 }
 
+/// Appends the characters.
 #[tactic(auto, using(crate::proofs::StoreLemmas::encode_short))]
 pub(crate) fn push_all(buffer: &mut String, spelling: &[char]) -> Result<(), AllocError>
     ensures bytes { OnOk result (string_bytes buffer.new ≡ string_bytes buffer.old ++ encode_utf8_all spelling.now) }

@@ -1,8 +1,9 @@
 //! The tokens as they are kept: four bytes each, most with a place in one buffer, and their lines beside them.
-use crate::form::{Form, FormKind, Kind, NUMBERS, counted_kind};
+
+use crate::form::{Form, FormKind, Kind, NUMBERS_END, counted_kind};
 use crate::item::Item;
 use crate::quoted::push_unescaped;
-use crate::spelling::{push_all, seat_of, stands_at};
+use crate::spelling::{SEATS, push_all, seat_of, stands_at};
 use crate::token_list::TokenKind;
 use std::alloc::{AllocError, Global};
 
@@ -32,7 +33,7 @@ pub(crate) struct Store {
     numbers: Vec<i128>,
     forms: Vec<Form>,
     feeds: Vec<u32>,
-    seats: [u32; 256],
+    seats: [u32; SEATS],
 }
 
 // By hand, so that letting one go is a call and not its parts at each way out.
@@ -70,7 +71,7 @@ impl Store {
             numbers: Vec::new(alloc),
             forms: Vec::new(alloc),
             feeds: Vec::new(alloc),
-            seats: [0; 256],
+            seats: [0; SEATS],
         }
     }
 
@@ -195,7 +196,7 @@ impl Store {
     {
         let seat = seat_of(spelling);
         let guess = self.seats[seat] as usize;
-        if guess < NUMBERS && stands_at(self.buffer.as_str(), guess, spelling) {
+        if guess < NUMBERS_END && stands_at(self.buffer.as_str(), guess, spelling) {
             return Ok(Form::new(counted_kind(kind), guess));
         }
         let from = self.buffer.len();
@@ -223,7 +224,7 @@ impl Store {
     {
         let place = self.buffer.len();
         let len = place - from;
-        if len < LONG_FROM && place < NUMBERS {
+        if len < LONG_FROM && place < NUMBERS_END {
             self.buffer.push(char::from(len as u8))?;
             return Ok(Form::new(counted_kind(kind), place));
         }
@@ -242,7 +243,7 @@ impl Store {
     {
         if let Ok(small) = u32::try_from(value) {
             let small = small as usize;
-            if small < NUMBERS {
+            if small < NUMBERS_END {
                 return Ok(Form::new(FormKind::Small, small));
             }
         }

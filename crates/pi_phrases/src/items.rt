@@ -29,7 +29,7 @@ impl Items {
     pub fn one(alloc: Global, first: Built) -> Result<Items, AllocError>
         ensures { IfOk result (λ made. (e : ExpTree) → Shows first e → ShowsItems made (one_exp e)) }
     {
-        let made = Items::new(alloc).with(first)?;
+        let made = Items::first_of(alloc, 1, first)?;
         Ok(made)
     }
 

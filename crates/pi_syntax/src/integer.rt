@@ -8,7 +8,7 @@ const UPPER: u128 = 18_446_744_073_709_551_616;
 
 /// An integer from -2^127 to 2^127 - 1. A contract sees the number.
 ///
-/// It stands at each address that is a multiple of eight, so what holds it is no larger than its parts.
+/// It may stand at any address that is a multiple of eight, an `i128` only at one of 16: so what holds it isn't rounded up.
 #[derive(Drop)]
 pub struct Integer {
     upper: u64,

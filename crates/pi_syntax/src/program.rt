@@ -2,7 +2,7 @@
 use crate::exp::{Exp, Exps};
 use pi_terms::{BoxedSeries, Series, Text};
 
-/// Names, in order. They are boxed, since most parts have none.
+/// Names, in order, behind one pointer, so that a declaration is small: most parts have none.
 pub type Names = BoxedSeries<Text>;
 
 /// A clause of a program as it is written. A User's Guide to Picat, 'Predicates and Functions', and for events 'Action
@@ -174,7 +174,7 @@ pub enum Mode {
 /// A mode list, from the left.
 pub type Modes = Series<Mode>;
 
-/// Mode lists, in order. They are boxed, since most clauses have none.
+/// Mode lists, in order, behind one pointer, so that a declaration is small: most clauses have none.
 pub type ModeLists = BoxedSeries<Modes>;
 
 /// What stands before a part's clause.

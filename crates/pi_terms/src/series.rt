@@ -1,5 +1,5 @@
 //! Values in order, as callers hold and change them.
-ghost use Rattle.std.specs.Prelude.{◌≡◌, ◌+◌, ◌-◌, ◌∷◌, [], ◌++◌, List, length, IfOk, IfErr, OnErr, slice_get, slice_set, take, option_copied, if◌then◌else◌, is_ok};
+ghost use Rattle.std.specs.Prelude.{◌≡◌, ◌-◌, ◌∷◌, [], ◌++◌, List, length, IfOk, IfErr, OnErr, slice_get, slice_set, take, option_copied};
 
 use std::alloc::{AllocError, AllocFailed, Global};
 use std::marker::Model;
@@ -122,8 +122,8 @@ impl<T> Series<T> {
     }
 }
 
-/// Values in order behind one pointer, for what most holders have none of: it takes eight bytes where a `Series` takes 24. A
-/// contract sees the list of them.
+/// Values in order behind one pointer: it takes eight bytes where a `Series` takes 24, and one of no values has its box too.
+/// A contract sees the list of them.
 pub struct BoxedSeries<T> {
     series: Box<Series<T>>,
 }

@@ -208,6 +208,7 @@ fn asked_of_demo<O: Sink>(
     };
     let text = demo_text(alloc, places)?;
     let bytes = Vec::from_slice(alloc, text.as_str().as_bytes())?;
+    drop(text);
     asked_of_text(alloc, bytes, asked, out, queries)
 }
 

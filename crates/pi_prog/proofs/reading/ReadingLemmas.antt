@@ -52,10 +52,6 @@ part_without p ts o modes of none = (spec.no_clause, spec.without_form of.few of
 pub clause_plain : (ts : List Token) → ¬ IsCrowded ts → Opens ts undeclared → IsClauseOf ts undeclared None ts
 clause_plain ts few opens = record { few = few; opens = opens; declared = plain_sound; clause = whole }
 
--- the same lists of modes under another name
-pub clause_by : (p ts : List Token) (o : Opening) (m n : Option (List (List Mode))) → n ≡ m → IsClauseOf p o m ts → IsClauseOf p o n ts
-clause_by p ts o m n is of = subst (λ (k : Option (List (List Mode))). IsClauseOf p o k ts) (sym is) of
-
 pub clause_indexed : (ts rest : List Token) (modes : List (List Mode)) → ¬ IsCrowded ts → Opens ts (indexing modes rest) → IsClauseOf ts (indexing modes rest) (Some modes) rest
 clause_indexed ts rest modes few opens = record { few = few; opens = opens; declared = index_sound modes rest; clause = behind_index }
 

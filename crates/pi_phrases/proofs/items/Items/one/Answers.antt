@@ -1,5 +1,4 @@
-use Rattle.pi_syntax.specs.ExpTree.{no_exps}
 use Rattle.pi_phrases.proofs.items.Items.one.Goals as goal
 
 pub returns : goal.returns
-returns c = λ e h. c.in_ok-made.ensures no_exps e c.new.ensures h
+returns c = λ e h. c.in_ok-made.ensures e h
