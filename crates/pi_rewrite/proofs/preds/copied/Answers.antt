@@ -4,7 +4,7 @@ use Rattle.pi_rewrite.proofs.GroupLemmas.{copied-more, copied-all}
 use Rattle.pi_rewrite.proofs.preds.copied.Goals as goal
 
 pub loop-modes-init : goal.loop-modes-init
-loop-modes-init c = ap (λ xs. xs ++ c.args.lists.now) c.new-made.ensures
+loop-modes-init c = ap (λ xs. xs ++ c.args.lists.now) c.in_ok-made.ensures
 
 pub loop-modes-preserved : goal.loop-modes-preserved
 loop-modes-preserved c =
