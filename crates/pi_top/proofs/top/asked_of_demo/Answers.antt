@@ -21,14 +21,14 @@ returns-in_err-text-clause-answers g c =
 
 pub returns-in_err-bytes-clause-answers : goal.returns-in_err-bytes-clause-answers
 returns-in_err-bytes-clause-answers g c =
-    let p = err_from_is_err_and c.from_residual-2.result c.from_residual-2.ensures.1 in
+    let p = err_from_is_err_and c.from_residual-in_err-bytes.result c.from_residual-in_err-bytes.ensures.1 in
     let memory : p.0 ≡ Memory = p.2 in
     rw (p.1, memory) (ByWrites-none g.O.Sink.wrote g.O.Sink.taken c.args.out.now _ (λ some has none files stands. made-nothing c.args.asked.now files c.args.queries.now stands none))
 
 pub returns-clause-answers : goal.returns-clause-answers
 returns-clause-answers g c =
     let asked = c.args.asked.now in
-    let text : c.in_ok-bytes.bytes.items ≡ demo_program c.in-Some.places = c.in_ok-bytes.ensures.ok ∙ (c.as_bytes.ensures.value ∙ (c.as_str.ensures ∙ c.in_ok-text.ensures.ok)) in
+    let text : c.in_ok-bytes.bytes.items ≡ demo_program c.in-Some.places = c.in_ok-bytes.ensures.items ∙ (c.as_bytes.ensures.value ∙ (c.as_str.ensures ∙ c.in_ok-text.ensures.ok)) in
     let number : places_of asked ≡ Some c.in-Some.places = sym c.places.ensures.number ∙ c.in-Some.is in
     ByWrites-so c.asked_of_text.ensures.answers (λ writes answers. λ some has none files stands.
     made-text asked files c.in-Some.places c.in_ok-bytes.bytes.items c.asked_of_text.new.queries c.asked_of_text.result writes stands number text (answers some none))

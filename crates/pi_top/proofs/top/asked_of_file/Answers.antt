@@ -29,8 +29,8 @@ returns-in-Print-clause-answers g c =
     (rw (← c.as_str.ensures) all_read) (rw (← c.as_str.ensures) file.read)
     (of-printed c.args.asked.now c.in-Ok.text.items c.args.queries.now c.print_text.result writes c.in-Print.is (answers c.args.queries.now none))))
 
-pub returns-clause-answers : goal.returns-clause-answers
-returns-clause-answers g c =
+pub returns-in_default-clause-answers : goal.returns-in_default-clause-answers
+returns-in_default-clause-answers g c =
     let file = c.in-Ok.ensures in
     let files = counted (g.F.Files.faults c.args.files.now) (g.F.Files.faults c.read_file.new.files) in
     let text = c.in-Ok.text.items in
