@@ -7,8 +7,8 @@ use crate::programs::modes_of;
 use pi_cases::{Case, Problem, tell_flat};
 use pi_rewrite::{LowerFault, lower, lower_goal};
 use pi_types::{
-    Clause, CoreClause, CorePred, CorePreds, CoreProgram, CoreQuery, Decl, Goal, Mode, ModeLists,
-    Part, Parts, Program, RuleClause,
+    Between, Clause, CoreClause, CorePred, CorePreds, CoreProgram, CoreQuery, Decl, Goal, Mode,
+    ModeLists, Part, Parts, Program, RuleClause,
 };
 
 /// Tells what a program or a goal is in the core language.
@@ -98,7 +98,7 @@ fn take_rule(case: &Case) -> Option<Part> {
         case.alloc,
         RuleClause {
             head,
-            between: None,
+            between: Between::Nothing,
             back,
             body,
         },
